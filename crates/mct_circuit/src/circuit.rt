@@ -1,0 +1,151 @@
+// A circuit: a number of lines and a list of gates on them.
+ghost use Rattle.std.specs.Prelude.{◌≡◌, ◌+◌, ◌<◌, ◌≤◌, ◌↔◌, ◌++◌, ◌∷◌, [], length, reverse, take, slice_get, Some, OnOk, OnErr, IfOk, IsErrOf, ◌==◌};
+ghost use Rattle.std.specs.List.{AllByRecursion};
+ghost use Rattle.mct_circuit.specs.declared.circuit.GateFault.TheVariants.{Memory};
+ghost use Rattle.mct_circuit.specs.Gates.{AreGatesOn, lines_of};
+
+use crate::Gate;
+use std::alloc::{AllocError, AllocFailed, Global};
+use std::marker::Model;
+
+/// Why gates were not appended: the circuit would pass its limit of gates, or memory was refused.
+#[derive(Clone, Copy, Debug, PartialEq, Eq)]
+pub enum GateFault {
+    Full,
+    Memory,
+}
+
+impl From<revc_base::Memory> for GateFault {
+    ghost from_gives = { λ _ e. e ≡ Memory };
+
+    fn from(_: revc_base::Memory) -> GateFault {
+        GateFault::Memory
+    }
+}
+
+impl From<AllocError> for GateFault {
+    ghost from_gives = { λ _ e. e ≡ Memory };
+
+    fn from(_: AllocError) -> GateFault {
+        GateFault::Memory
+    }
+}
+
+impl<T: Drop> From<AllocFailed<T>> for GateFault {
+    ghost from_gives = { λ _ e. e ≡ Memory };
+
+    fn from(_: AllocFailed<T>) -> GateFault {
+        GateFault::Memory
+    }
+}
+
+/// A circuit on lines 0 to `lines - 1`, with at most `limit` gates, each on lines of the circuit.
+/// Contracts see it as its number of lines, its limit and its list of gates.
+#[derive(Debug, Drop)]
+pub struct Circuit {
+    lines: u32,
+    limit: u64,
+    gates: Vec<Gate>,
+}
+
+impl Model for Circuit {
+    ghost use Rattle.std.specs.Prelude.{◌≤◌, length};
+    ghost use Rattle.mct_circuit.specs.Gates.{CircuitView, AreGatesOn};
+
+    ghost Value = { CircuitView };
+
+    ghost view = { λ c. record { lines = c.lines; limit = c.limit; gates = c.gates.items } };
+
+    ghost invariant = { λ c. (AreGatesOn c.lines c.gates.items) × (length c.gates.items ≤ c.limit) };
+}
+
+impl Circuit {
+    /// The circuit of no gates. It takes no memory.
+    pub fn new(alloc: Global, lines: u32, limit: u64) -> Circuit
+        ensures { result ≡ record { lines = lines; limit = limit; gates = [] } }
+    {
+        Circuit {
+            lines,
+            limit,
+            gates: Vec::new(alloc),
+        }
+    }
+
+    /// Appends a gate on lines of the circuit. `Full` comes exactly where the circuit holds `limit` gates.
+    /// After a refusal the circuit is unchanged.
+    pub fn push(&mut self, gate: Gate) -> Result<(), GateFault>
+        requires { AllByRecursion (λ line. line < self.old.lines) (lines_of gate) }
+        ensures ok { OnOk result (self.new ≡ record self.old { gates = self.old.gates ++ gate ∷ [] }) }
+        ensures full { IsErrOf result GateFault.Full ↔ (length self.old.gates ≡ self.old.limit) }
+        ensures err { OnErr result (self.new ≡ self.old) }
+    {
+        // This call says that the gate's lines are different.
+        let _ = gate.op();
+        if self.len() == self.limit {
+            return Err(GateFault::Full);
+        }
+        self.gates.push(gate)?;
+        Ok(())
+    }
+
+    /// Appends copies of the first `count` gates in reversed order. `Full` comes exactly where the circuit
+    /// would hold more than `limit` gates. After a refusal the circuit is unchanged.
+    pub fn append_reversed(&mut self, count: u64) -> Result<(), GateFault>
+        requires { count ≤ length self.old.gates }
+        ensures ok { OnOk result (self.new ≡ record self.old { gates = self.old.gates ++ reverse (take count self.old.gates) }) }
+        ensures full { IsErrOf result GateFault.Full ↔ (self.old.limit < length self.old.gates + count) }
+        ensures err { OnErr result (self.new ≡ self.old) }
+    {
+        if self.limit - self.len() < count {
+            return Err(GateFault::Full);
+        }
+        let alloc = *self.gates.allocator();
+        let mut mirrored = reversed_copies(alloc, &self.gates[..count as usize])?;
+        self.gates.append(&mut mirrored)?;
+        Ok(())
+    }
+
+    /// The number of lines. It takes no memory.
+    pub fn lines(&self) -> u32
+        ensures lines { result ≡ self.now.lines }
+        ensures gates { AreGatesOn self.now.lines self.now.gates }
+    {
+        self.lines
+    }
+
+    /// The number of gates. It takes no memory.
+    pub fn len(&self) -> u64
+        ensures len { result ≡ length self.now.gates }
+        ensures limited { length self.now.gates ≤ self.now.limit }
+    {
+        self.gates.len() as u64
+    }
+
+    /// Whether there is no gate.
+    pub fn is_empty(&self) -> bool
+        ensures { result ≡ (length self.now.gates == 0) }
+    {
+        self.gates.is_empty()
+    }
+
+    /// The gate at place `i`, counted from 0. It takes no memory.
+    pub fn gate(&self, i: u64) -> &Gate
+        requires { i < length self.now.gates }
+        ensures { slice_get self.now.gates i ≡ Some result.now }
+    {
+        &self.gates[i as usize]
+    }
+}
+
+// Copies of the gates, the last one first.
+fn reversed_copies(alloc: Global, gates: &[Gate]) -> Result<Vec<Gate>, GateFault>
+    ensures gates { IfOk result (λ copies. copies.items ≡ reverse gates.now) }
+    ensures cause { IsErrOf result GateFault.Full → ⊥ }
+{
+    let mut copies = Vec::with_capacity(alloc, gates.len())?;
+    for gate in gates {
+        copies.push(gate.copy()?)?;
+    }
+    copies.reverse();
+    Ok(copies)
+}
