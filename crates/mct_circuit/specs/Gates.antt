@@ -1,5 +1,5 @@
 -- Gates, and the map of bits that a list of gates makes. The bits of the lines are a list, line 0 first.
-use Rattle.std.specs.Prelude.{◌≡◌, ◌≢◌, ℕ, ◌<◌, Bool, true, false, not, if◌then◌else◌, List, [], ◌∷◌, ◌++◌, length, map, reverse, swap, slice_set, slice_index_or, ⊤}
+use Rattle.std.specs.Prelude.{◌≡◌, ◌≢◌, ℕ, ◌<◌, ◌≤◌, Bool, true, false, not, if◌then◌else◌, List, [], ◌∷◌, ◌++◌, length, map, reverse, swap, slice_set, slice_index_or, ⊤}
 use Rattle.std.specs.List.{AllByRecursion, list_all}
 use Rattle.mct_circuit.specs.declared.gate.Control.{Control}
 use Rattle.mct_circuit.specs.declared.gate.Op.{Op}
@@ -75,6 +75,16 @@ positive line = record { line = line; positive = true }
 -- the flip of a line where all the controlling lines are 1
 abbrev pub flip_of : List ℕ → ℕ → GateView
 flip_of controls target = record { controls = map positive controls; op = Flip target }
+
+-- a flip with at most two controls, all positive
+pub record IsNarrow (gate : GateView) : Type 0 where
+  pub controls : List ℕ
+  pub target : ℕ
+  pub few : length controls ≤ 2
+  pub is_flip : gate ≡ flip_of controls target
+
+abbrev pub AreNarrow : List GateView → Type 0
+AreNarrow gates = AllByRecursion IsNarrow gates
 
 -- ---- the law of reversal
 
