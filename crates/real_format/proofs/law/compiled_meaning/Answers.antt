@@ -1,0 +1,5 @@
+use Rattle.real_format.proofs.Meaning.{compiled_has_meaning}
+use Rattle.real_format.proofs.law.compiled_meaning.Goals as goal
+
+pub returns : goal.returns
+returns c = compiled_has_meaning

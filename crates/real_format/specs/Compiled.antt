@@ -1,0 +1,79 @@
+-- The file of a compiled circuit: its names and marks by the roles of its lines, and its text.
+use Rattle.std.specs.Prelude.{◌≡◌, ℕ, suc, ◌+◌, ◌-◌, ◌≤◌, Bool, false, if◌then◌else◌, nat_lt, List, [], ◌∷◌, ◌++◌, length, map, replicate, codes}
+use Rattle.std.specs.List.{flat_map, range_with_len}
+use Rattle.std.specs.Fmt.{decimal}
+use Rattle.real_format.specs.declared.file.Mark.{Mark}
+use Rattle.real_format.specs.declared.file.Mark.TheVariants.{Free, Zero}
+use Rattle.real_format.specs.declared.compiled.Roles.{Roles}
+use Rattle.mct_circuit.specs.Gates.{GateView, lines_of, AreGatesOn, AreNarrow}
+use Rattle.real_format.specs.Real.{RealView, RealMeaning, constant_byte, garbage_byte}
+
+-- ---- roles
+
+abbrev pub lines_in : Roles → ℕ
+lines_in roles = roles.inputs + roles.outputs + roles.work + roles.borrowed
+
+-- the letter of a line's role, and the number of lines before the first one of that role
+abbrev pub name_of_line : Roles → ℕ → List ℕ
+name_of_line roles line =
+    if nat_lt line roles.inputs then 120 ∷ decimal line
+    else (if nat_lt line (roles.inputs + roles.outputs) then 121 ∷ decimal (line - roles.inputs)
+    else (if nat_lt line (roles.inputs + roles.outputs + roles.work) then 119 ∷ decimal (line - (roles.inputs + roles.outputs))
+    else 98 ∷ decimal (line - (roles.inputs + roles.outputs + roles.work))))
+
+-- output and work lines start at 0, input and borrowed lines hold anything
+abbrev pub constants_of : Roles → List Mark
+constants_of roles = replicate roles.inputs Free ++ (replicate (roles.outputs + roles.work) Zero ++ replicate roles.borrowed Free)
+
+abbrev pub names_of : Roles → List (List ℕ)
+names_of roles = map (name_of_line roles) (range_with_len 0 (lines_in roles))
+
+-- the lines of a file have these roles: x, y, w and b lines in this order, each numbered from 0, with their constants,
+-- and no line's last bit is of no use
+pub record HasRoles (file : RealView) (roles : Roles) : Type 0 where
+  pub names : file.names ≡ names_of roles
+  pub constants : file.constants ≡ constants_of roles
+  pub garbage : file.garbage ≡ replicate (lines_in roles) false
+
+-- ---- the text
+
+-- words parted by one space, and a line feed
+abbrev pub line_text : List (List ℕ) → List ℕ
+line_text [] = 10 ∷ []
+line_text (word ∷ words) = word ++ (flat_map (λ w. 32 ∷ w) words ++ 10 ∷ [])
+
+-- `t1`, `t2` or `t3`, and the names of the controls and the target
+abbrev pub gate_words : Roles → GateView → List (List ℕ)
+gate_words roles gate = (116 ∷ decimal (length (lines_of gate))) ∷ map (name_of_line roles) (lines_of gate)
+
+abbrev pub header_lines : Roles → List (List (List ℕ))
+header_lines roles =
+    (codes ".version" ∷ codes "2.0" ∷ [])
+    ∷ (codes ".numvars" ∷ decimal (lines_in roles) ∷ [])
+    ∷ (codes ".variables" ∷ names_of roles)
+    ∷ (codes ".inputs" ∷ names_of roles)
+    ∷ (codes ".outputs" ∷ names_of roles)
+    ∷ (codes ".constants" ∷ map constant_byte (constants_of roles) ∷ [])
+    ∷ (codes ".garbage" ∷ map garbage_byte (replicate (lines_in roles) false) ∷ [])
+    ∷ (codes ".begin" ∷ [])
+    ∷ []
+
+abbrev pub compiled_lines : Roles → List GateView → List (List (List ℕ))
+compiled_lines roles gates = header_lines roles ++ (map (gate_words roles) gates ++ (codes ".end" ∷ []) ∷ [])
+
+abbrev pub compiled_text : Roles → List GateView → List ℕ
+compiled_text roles gates = flat_map line_text (compiled_lines roles gates)
+
+-- ---- what the text means
+
+-- the text means a file of these gates, whose lines have these roles
+pub record MeansCompiled (text : List ℕ) (roles : Roles) (gates : List GateView) : Type 0 where
+  pub file : RealView
+  pub meaning : RealMeaning text file
+  pub roles_are : HasRoles file roles
+  pub gates_are : file.gates ≡ gates
+
+abbrev pub CompiledHasMeaning : Type 0
+CompiledHasMeaning =
+    (roles : Roles) (gates : List GateView) → 1 ≤ lines_in roles → lines_in roles ≤ 16384 → AreGatesOn (lines_in roles) gates → AreNarrow gates
+    → MeansCompiled (compiled_text roles gates) roles gates

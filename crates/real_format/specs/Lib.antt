@@ -1,0 +1,4 @@
+pub mod Words
+pub mod Real
+pub mod Compiled
+pub use Rattle.mct_circuit.specs.Gates
