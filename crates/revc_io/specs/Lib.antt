@@ -1,0 +1,4 @@
+pub mod Faults
+pub mod Passing
+pub mod Reading
+pub mod Memory

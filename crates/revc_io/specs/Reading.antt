@@ -1,0 +1,16 @@
+-- What reading a whole text does to the bytes that a source still has to give, where it tells them.
+use Rattle.std.specs.Prelude.{◌≡◌, ℕ, ◌+◌, ◌≤◌, List, length, Option}
+use Rattle.std.specs.Io.KnownBytes.{Consumes}
+use Rattle.revc_io.specs.declared.reading.ReadFault.{ReadFault}
+use Rattle.revc_io.specs.declared.reading.ReadFault.TheVariants.{Failed, TooLong, Memory}
+
+-- some bytes were taken from the front of the rest, and their number has this property
+abbrev pub TakesCount : Option (List ℕ) → Option (List ℕ) → (ℕ → Type 0) → Type 0
+TakesCount old new P = (taken : List ℕ) × Consumes old new taken × P (length taken)
+
+-- this number of bytes is taken where a text over the limit is refused so: one more than the limit where the text was too
+-- long, and at most the limit at each other refusal
+abbrev pub TakenAt : ReadFault → ℕ → ℕ → Type 0
+TakenAt TooLong limit count = count ≡ limit + 1
+TakenAt Failed limit count = count ≤ limit
+TakenAt Memory limit count = count ≤ limit

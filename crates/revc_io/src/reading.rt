@@ -1,0 +1,58 @@
+ghost use Rattle.std.specs.Prelude.{◌≡◌, ◌<◌, ◌≤◌, length, vec_len, IfErr, IfOk, IfSome, IsErrOf, OnOk};
+ghost use Rattle.std.specs.Io.KnownBytes.{Consumes, IsAtEnd};
+ghost use Rattle.revc_io.specs.Faults.{Rose};
+ghost use Rattle.revc_io.specs.Reading.{TakenAt, TakesCount};
+
+use crate::Source;
+use std::alloc::Global;
+
+/// Why a whole text was not read: the source failed, the text is longer than the limit, or memory was refused.
+#[derive(Clone, Copy, Debug, PartialEq, Eq)]
+pub enum ReadFault {
+    Failed,
+    TooLong,
+    Memory,
+}
+
+// How many bytes are read at a time, at most.
+const CHUNK: usize = 4096;
+
+/// Reads a source to its end and answers all its bytes, which are at most `limit`. It answers `TooLong` exactly where
+/// `limit + 1` bytes were taken, and never takes more. Each call of the source takes at least one byte, or is the last.
+pub fn read_up_to<S: Source>(
+    alloc: Global,
+    source: &mut S,
+    limit: usize,
+) -> Result<Vec<u8>, ReadFault>
+    requires { limit < usize.MAX }
+
+    // The whole rest, read to its end.
+    ensures taken { IfOk result (λ all. Consumes (S.rest source.old) (S.rest source.new) all.items) }
+    ensures end { OnOk result (IsAtEnd (S.rest source.new)) }
+    ensures text { IfOk result (λ all. IfSome (S.rest source.old) (λ rest. all.items ≡ rest)) }
+    ensures fits { IfOk result (λ all. vec_len all ≤ limit) }
+
+    // Each refusal.
+    ensures refused { IfErr result (λ fault. TakesCount (S.rest source.old) (S.rest source.new) (TakenAt fault limit)) }
+    ensures too_long { IsErrOf result ReadFault.TooLong → IfSome (S.rest source.old) (λ rest. limit < length rest) }
+    ensures failed { IsErrOf result ReadFault.Failed → Rose (S.faults source.old) (S.faults source.new) }
+    ensures later { S.faults source.old ≤ S.faults source.new }
+{
+    let mut all = Vec::new(alloc);
+    let mut chunk = [0; CHUNK];
+    loop {
+        let most = CHUNK.min(limit + 1 - all.len());
+        let Ok(count) = source.read(&mut chunk[..most]) else {
+            return Err(ReadFault::Failed);
+        };
+        if count == 0 {
+            return Ok(all);
+        }
+        if count > limit - all.len() {
+            return Err(ReadFault::TooLong);
+        }
+        let Ok(()) = all.extend_from_slice(&chunk[..count]) else {
+            return Err(ReadFault::Memory);
+        };
+    }
+}
