@@ -1,3 +1,5 @@
 pub mod Reading
 pub mod Naming
 pub mod Meaning
+pub mod Loops
+pub mod Texts

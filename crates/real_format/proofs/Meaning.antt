@@ -10,7 +10,7 @@ use Rattle.mct_circuit.proofs.Undoing.{lines_of-flip_of}
 use Rattle.real_format.specs.Words.{is_word_byte}
 use Rattle.real_format.specs.declared.file.Mark.{Mark}
 use Rattle.real_format.specs.declared.file.Mark.TheVariants.{Free, Zero, One}
-use Rattle.real_format.specs.declared.compiled.Roles.{Roles}
+use Rattle.real_format.specs.declared.roles.Roles.{Roles}
 use Rattle.real_format.specs.Real.{RealView, RealMeaning, IsName, IsNumber, ReadsFlip, constant_byte, garbage_byte}
 use Rattle.real_format.specs.Compiled.{lines_in, name_of_line, names_of, constants_of, header_lines, gate_words, compiled_lines, compiled_text, HasRoles, MeansCompiled, CompiledHasMeaning}
 use Rattle.real_format.proofs.Reading.{IsWord, words_of_lines, true-and}
@@ -55,24 +55,38 @@ header_is_words : (roles : Roles) → 1 ≤ lines_in roles → lines_in roles �
 header_is_words roles some few =
     let names = names_are_words roles few in
     let constants : IsWord (map constant_byte (constants_of roles)) = record { some = omega (arith, length-map (constants_of roles) constant_byte, length-constants_of roles); solid = solid-constants (constants_of roles) } in
-    let garbage : IsWord (map garbage_byte (replicate (lines_in roles) false)) = record { some = omega (arith, length-map (replicate (lines_in roles) false) garbage_byte, length-replicate (lines_in roles) false); solid = solid-garbage (replicate (lines_in roles) false) } in
-    ((literal _ (omega arith) refl, (literal _ (omega arith) refl, tt)),
-    ((literal _ (omega arith) refl, (IsWord-decimal (lines_in roles) (omega arith), tt)),
-    ((literal _ (omega arith) refl, names),
-    ((literal _ (omega arith) refl, names),
-    ((literal _ (omega arith) refl, names),
-    ((literal _ (omega arith) refl, (constants, tt)),
-    ((literal _ (omega arith) refl, (garbage, tt)),
-    ((literal _ (omega arith) refl, tt), tt))))))))
+    let garbage : IsWord (map garbage_byte (replicate (lines_in roles) false)) = record { some = omega (arith, length-map (replicate (lines_in roles) false) garbage_byte, length-replicate (lines_in roles) false); solid = solid-garbage (replicate (lines_in roles) false) } in (
+      (literal _ (omega arith) refl, (literal _ (omega arith) refl, tt)),
+      (
+        (literal _ (omega arith) refl, (IsWord-decimal (lines_in roles) (omega arith), tt)),
+        (
+          (literal _ (omega arith) refl, names),
+          (
+            (literal _ (omega arith) refl, names),
+            (
+              (literal _ (omega arith) refl, names),
+              (
+                (literal _ (omega arith) refl, (constants, tt)),
+                (
+                  (literal _ (omega arith) refl, (garbage, tt)),
+                  ((literal _ (omega arith) refl, tt), tt),
+                ),
+              ),
+            ),
+          ),
+        ),
+      ),
+    )
 
 -- ---- gates
 
 gate_is_words : (roles : Roles) (gate : GateView) → lines_in roles ≤ 16384 → IsGateOn (lines_in roles) gate → length (lines_of gate) ≤ 3 → AllByRecursion IsWord (gate_words roles gate)
 gate_is_words roles gate few on short =
-    let digits = IsWord-decimal (length (lines_of gate)) (omega arith) in
-    (record { some = omega arith; solid = digits.solid },
-    AllByRecursion-map IsWord (name_of_line roles) (lines_of gate)
-    (AllByRecursion-weaker (λ line. line < lines_in roles) (λ line. IsWord (name_of_line roles line)) (λ line h. IsWord-from_name _ (IsName-name_of_line roles line (omega arith))) (lines_of gate) on.in_range))
+    let digits = IsWord-decimal (length (lines_of gate)) (omega arith) in (
+      record { some = omega arith; solid = digits.solid },
+      AllByRecursion-map IsWord (name_of_line roles) (lines_of gate)
+          (AllByRecursion-weaker (λ line. line < lines_in roles) (λ line. IsWord (name_of_line roles line)) (λ line h. IsWord-from_name _ (IsName-name_of_line roles line (omega arith))) (lines_of gate) on.in_range),
+    )
 
 length-narrow : (gate : GateView) → IsNarrow gate → length (lines_of gate) ≤ 3
 length-narrow gate narrow =
@@ -106,7 +120,7 @@ reads_flip roles gate on narrow =
       named = subst (λ ls. AllZip (λ name line. slice_get (names_of roles) line ≡ Some name) (map (name_of_line roles) (lines_of gate)) ls) lines (named_lines roles (lines_of gate) on.in_range);
       few_controls = narrow.few;
       different = subst AreDifferent lines on.different;
-      gate_is = narrow.is_flip
+      gate_is = narrow.is_flip;
     }
 
 reads_flips : (roles : Roles) (gates : List GateView) → AreGatesOn (lines_in roles) gates → AreNarrow gates → AllZip (ReadsFlip (names_of roles)) (map (gate_words roles) gates) gates
@@ -118,8 +132,8 @@ reads_flips roles (g ∷ gs) on narrow = (reads_flip roles g on.0 narrow.0, read
 abbrev file_of : Roles → List GateView → RealView
 file_of roles gates = record { names = names_of roles; constants = constants_of roles; garbage = replicate (lines_in roles) false; gates = gates }
 
-meaning : (roles : Roles) (gates : List GateView) → 1 ≤ lines_in roles → lines_in roles ≤ 16384 → AreGatesOn (lines_in roles) gates → AreNarrow gates → RealMeaning (compiled_text roles gates) (file_of roles gates)
-meaning roles gates some few on narrow =
+meaning : (roles : Roles) (gates : List GateView) → 1 ≤ lines_in roles → lines_in roles ≤ 16384 → length gates ≤ 4000000 → AreGatesOn (lines_in roles) gates → AreNarrow gates → RealMeaning (compiled_text roles gates) (file_of roles gates)
+meaning roles gates some few few_gates on narrow =
     let number = decimal_is_IsNumeral (lines_in roles) (omega arith) in
     let long = length-names_of roles in
     record {
@@ -133,17 +147,18 @@ meaning roles gates some few on narrow =
       counted = record { digits = number.0; value = number.1 ∙ sym long };
       some = omega arith;
       few = omega arith;
+      few_gates = few_gates;
       named = names_are_names roles few;
       different = names_are_different roles few;
       constants_fit = length-constants_of roles ∙ sym long;
       garbage_fits = length-replicate (lines_in roles) false ∙ sym long;
-      gates = reads_flips roles gates on narrow
+      gates = reads_flips roles gates on narrow;
     }
 
 pub compiled_has_meaning : CompiledHasMeaning
-compiled_has_meaning roles gates some few on narrow = record {
+compiled_has_meaning roles gates some few few_gates on narrow = record {
   file = file_of roles gates;
-  meaning = meaning roles gates some few on narrow;
+  meaning = meaning roles gates some few few_gates on narrow;
   roles_are = record { names = refl; constants = refl; garbage = refl };
-  gates_are = refl
+  gates_are = refl;
 }

@@ -9,7 +9,7 @@ use Rattle.std.proofs.lemmas.Bool.{cases_lt, lt-ltb, ne_eqb}
 use Rattle.std.proofs.lemmas.Bool.Decides.{nat_tests}
 use Rattle.real_format.specs.Words.{is_word_byte}
 use Rattle.real_format.specs.Real.{IsName, IsBarred}
-use Rattle.real_format.specs.declared.compiled.Roles.{Roles}
+use Rattle.real_format.specs.declared.roles.Roles.{Roles}
 use Rattle.real_format.specs.Compiled.{lines_in, name_of_line, names_of}
 use Rattle.real_format.proofs.Reading.{true-and, IsWord}
 
@@ -56,12 +56,15 @@ ltb-above a b h = grind (arith, nat_tests)
 
 named : (roles : Roles) (line : ℕ) → IsNamed roles line
 named roles line = elim (cases_lt line roles.inputs) [
-    inl p ↦ record { letter = 120; first = 0; name = rw (lt-ltb line roles.inputs p) (ap (λ k. 120 ∷ decimal k) (omega arith)); from = omega arith; above = omega arith; by_letter = refl }
+  | inl p ↦ record { letter = 120; first = 0; name = rw (lt-ltb line roles.inputs p) (ap (λ k. 120 ∷ decimal k) (omega arith)); from = omega arith; above = omega arith; by_letter = refl }
   | inr p ↦ elim (cases_lt line (roles.inputs + roles.outputs)) [
-      inl q ↦ record { letter = 121; first = roles.inputs; name = rw (ltb-above line roles.inputs p, lt-ltb line (roles.inputs + roles.outputs) q) refl; from = p; above = omega arith; by_letter = refl }
+    | inl q ↦ record { letter = 121; first = roles.inputs; name = rw (ltb-above line roles.inputs p, lt-ltb line (roles.inputs + roles.outputs) q) refl; from = p; above = omega arith; by_letter = refl }
     | inr q ↦ elim (cases_lt line (roles.inputs + roles.outputs + roles.work)) [
-        inl r ↦ record { letter = 119; first = roles.inputs + roles.outputs; name = rw (ltb-above line roles.inputs p, ltb-above line (roles.inputs + roles.outputs) q, lt-ltb line (roles.inputs + roles.outputs + roles.work) r) refl; from = q; above = omega arith; by_letter = refl }
-      | inr r ↦ record { letter = 98; first = roles.inputs + roles.outputs + roles.work; name = rw (ltb-above line roles.inputs p, ltb-above line (roles.inputs + roles.outputs) q, ltb-above line (roles.inputs + roles.outputs + roles.work) r) refl; from = r; above = omega arith; by_letter = refl } ] ] ]
+      | inl r ↦ record { letter = 119; first = roles.inputs + roles.outputs; name = rw (ltb-above line roles.inputs p, ltb-above line (roles.inputs + roles.outputs) q, lt-ltb line (roles.inputs + roles.outputs + roles.work) r) refl; from = q; above = omega arith; by_letter = refl }
+      | inr r ↦ record { letter = 98; first = roles.inputs + roles.outputs + roles.work; name = rw (ltb-above line roles.inputs p, ltb-above line (roles.inputs + roles.outputs) q, ltb-above line (roles.inputs + roles.outputs + roles.work) r) refl; from = r; above = omega arith; by_letter = refl }
+    ]
+  ]
+]
 
 -- different lines have different names
 name_of_line-injective : (roles : Roles) (i j : ℕ) → i < 2 ^ 64 → j < 2 ^ 64 → name_of_line roles i ≡ name_of_line roles j → i ≡ j
@@ -87,7 +90,7 @@ IsName-name_of_line roles line h =
       some = omega arith;
       few = omega arith;
       solid = true-and _ _ (is_word_byte-above a.letter (omega arith)) (solid-decimal (line - a.first) low);
-      begins = λ barred. elim barred [ inl e ↦ omega arith | inr e ↦ omega arith ]
+      begins = λ barred. elim barred [ inl e ↦ omega arith | inr e ↦ omega arith ];
     })
 
 pub IsWord-from_name : (word : List ℕ) → IsName word → IsWord word

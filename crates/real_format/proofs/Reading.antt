@@ -111,5 +111,5 @@ pub words_of_lines : (lines : List (List (List ℕ))) → AllByRecursion (AllByR
 words_of_lines [] h = refl
 words_of_lines (l ∷ ls) h =
     let front : lines_of_text (line_text l ++ flat_map line_text ls) ≡ body_of l ∷ lines_of_text (flat_map line_text ls)
-        = ap lines_of_text (line_text-body l (flat_map line_text ls)) ∙ lines_of-line (body_of l) (flat_map line_text ls) (no_feed-body_of l h.0) in
+    = ap lines_of_text (line_text-body l (flat_map line_text ls)) ∙ lines_of-line (body_of l) (flat_map line_text ls) (no_feed-body_of l h.0) in
     rw (front, words_of-body_of l h.0, words_of_lines ls h.1) refl

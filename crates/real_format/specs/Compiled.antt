@@ -4,7 +4,7 @@ use Rattle.std.specs.List.{flat_map, range_with_len}
 use Rattle.std.specs.Fmt.{decimal}
 use Rattle.real_format.specs.declared.file.Mark.{Mark}
 use Rattle.real_format.specs.declared.file.Mark.TheVariants.{Free, Zero}
-use Rattle.real_format.specs.declared.compiled.Roles.{Roles}
+use Rattle.real_format.specs.declared.roles.Roles.{Roles}
 use Rattle.mct_circuit.specs.Gates.{GateView, lines_of, AreGatesOn, AreNarrow}
 use Rattle.real_format.specs.Real.{RealView, RealMeaning, constant_byte, garbage_byte}
 
@@ -75,5 +75,5 @@ pub record MeansCompiled (text : List ℕ) (roles : Roles) (gates : List GateVie
 
 abbrev pub CompiledHasMeaning : Type 0
 CompiledHasMeaning =
-    (roles : Roles) (gates : List GateView) → 1 ≤ lines_in roles → lines_in roles ≤ 16384 → AreGatesOn (lines_in roles) gates → AreNarrow gates
+    (roles : Roles) (gates : List GateView) → 1 ≤ lines_in roles → lines_in roles ≤ 16384 → length gates ≤ 4000000 → AreGatesOn (lines_in roles) gates → AreNarrow gates
     → MeansCompiled (compiled_text roles gates) roles gates

@@ -74,6 +74,7 @@ pub record RealMeaning (text : List ℕ) (file : RealView) : Type 0 where
   pub counted : IsNumber number (length file.names)
   pub some : 1 ≤ length file.names
   pub few : length file.names ≤ 16384
+  pub few_gates : length file.gates ≤ 4000000
   pub named : AllByRecursion IsName file.names
   pub different : AllPairs (λ a b. a ≢ b) file.names
   pub constants_fit : length file.constants ≡ length file.names

@@ -5,5 +5,4 @@ ghost use Rattle.real_format.specs.Compiled.{CompiledHasMeaning};
 /// is the law.
 pub fn compiled_meaning()
     ensures { CompiledHasMeaning }
-{
-}
+{}

@@ -1,10 +1,15 @@
 //! The RevLib `.real` format: the text of a compiled circuit, and what such a text means.
 #![tactic(auto)]
 
-mod compiled;
 mod file;
 mod law;
+mod roles;
+mod writer;
 
-pub use compiled::Roles;
 pub use file::Mark;
 pub use law::compiled_meaning;
+pub use roles::Roles;
+pub use writer::write;
+
+#[cfg(test)]
+mod tests;

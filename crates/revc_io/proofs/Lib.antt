@@ -1,1 +1,2 @@
 pub mod OnTheWay
+pub mod Loops

@@ -26,26 +26,30 @@ started old whole = record { front = []; parts = refl; grown = Appends-nil old }
 pub begun : (old : Option (List ℕ)) (waiting piece : List ℕ) → Underway old old waiting (waiting ++ piece) piece
 begun old waiting piece = record { front = []; parts = refl; grown = Appends-nil old }
 
--- a piece was gathered
-pub step : {old now new : Option (List ℕ)} {waiting waiting_new whole : List ℕ} (piece left : List ℕ) → Underway old now waiting whole (piece ++ left)
-    → Gathered now new waiting waiting_new piece → Underway old new waiting_new whole left
-step {old} {now} {new} {waiting} {waiting_new} {whole} piece left so_far put = record {
+-- a piece was gathered, and more is left
+pub step : {old now new : Option (List ℕ)} {waiting waiting_new whole : List ℕ} (piece left : List ℕ) → Gathered now new waiting waiting_new piece
+    → Underway old now waiting whole (piece ++ left) → Underway old new waiting_new whole left
+step {old} {now} {new} {waiting} {waiting_new} {whole} piece left put so_far = record {
   front = so_far.front ++ put.front;
   parts = so_far.parts ∙ moved so_far.front waiting piece left put.front waiting_new put.parts;
   grown = Appends-trans old now new so_far.front put.front so_far.grown put.grown;
 }
 
 -- the last piece was gathered
-pub last : {old now new : Option (List ℕ)} {waiting waiting_new whole : List ℕ} (piece : List ℕ) → Underway old now waiting whole piece
-    → Gathered now new waiting waiting_new piece → Underway old new waiting_new whole []
-last {waiting} piece so_far put =
-    let padded : Underway _ _ _ _ (piece ++ []) = record { front = so_far.front; parts = so_far.parts ∙ ap (λ (l : List ℕ). so_far.front ++ (waiting ++ l)) (sym (append-nil piece)); grown = so_far.grown } in
-    step piece [] padded put
+pub last : {old now new : Option (List ℕ)} {waiting waiting_new whole piece : List ℕ} → Gathered now new waiting waiting_new piece
+    → Underway old now waiting whole piece → Underway old new waiting_new whole []
+last {waiting} {piece = piece} put so_far =
+    let padded : Underway _ _ waiting _ (piece ++ []) = record {
+      front = so_far.front;
+      parts = so_far.parts ∙ ap (λ (l : List ℕ). so_far.front ++ (waiting ++ l)) (sym (append-nil piece));
+      grown = so_far.grown;
+    } in
+    step piece [] put padded
 
 -- a call failed within a piece
-pub failed : {old now new : Option (List ℕ)} {waiting whole : List ℕ} (piece left : List ℕ) → Underway old now waiting whole (piece ++ left)
-    → AppendsFront now new (waiting ++ piece) → AppendsFront old new whole
-failed {old} {now} {new} {waiting} piece left so_far put = record {
+pub failed : {old now new : Option (List ℕ)} {waiting whole : List ℕ} (piece left : List ℕ) → AppendsFront now new (waiting ++ piece)
+    → Underway old now waiting whole (piece ++ left) → AppendsFront old new whole
+failed {old} {now} {new} {waiting} piece left put so_far = record {
   front = so_far.front ++ put.front;
   behind = put.behind ++ left;
   parts = so_far.parts ∙ moved so_far.front waiting piece left put.front put.behind put.parts;
@@ -53,9 +57,9 @@ failed {old} {now} {new} {waiting} piece left so_far put = record {
 }
 
 -- a call failed within the last piece
-pub last_failed : {old now new : Option (List ℕ)} {waiting whole : List ℕ} (piece : List ℕ) → Underway old now waiting whole piece
-    → AppendsFront now new (waiting ++ piece) → AppendsFront old new whole
-last_failed {old} {now} {new} {waiting} piece so_far put = record {
+pub last_failed : {old now new : Option (List ℕ)} {waiting whole : List ℕ} (piece : List ℕ) → AppendsFront now new (waiting ++ piece)
+    → Underway old now waiting whole piece → AppendsFront old new whole
+last_failed {old} {now} {new} {waiting} piece put so_far = record {
   front = so_far.front ++ put.front;
   behind = put.behind;
   parts = so_far.parts ∙ ap (λ (l : List ℕ). so_far.front ++ l) put.parts ∙ sym (append_assoc so_far.front put.front put.behind);
@@ -70,17 +74,35 @@ gathered {old} {now} {waiting} {waiting_new} so_far = record {
   grown = so_far.grown;
 }
 
+-- a part of a text is a whole text where nothing waited before it
+pub whole_gathered : {old now : Option (List ℕ)} {waiting_new whole : List ℕ} → Gathered old now [] waiting_new whole → Underway old now waiting_new whole []
+whole_gathered {old} {now} {waiting_new} put = last put (started old _)
+
 -- what waited went on, and the text is written
-pub finished : {old now : Option (List ℕ)} {waiting whole : List ℕ} (new : Option (List ℕ)) → Underway old now waiting whole [] → Appends now new waiting → Appends old new whole
-finished {old} {now} {waiting} {whole} new so_far rest =
+pub finished : {old now : Option (List ℕ)} {waiting whole : List ℕ} (new : Option (List ℕ)) → Appends now new waiting → Underway old now waiting whole [] → Appends old new whole
+finished {old} {now} {waiting} {whole} new rest so_far =
     let e : so_far.front ++ waiting ≡ whole = ap (λ (l : List ℕ). so_far.front ++ l) (sym (append-nil waiting)) ∙ sym so_far.parts in
     subst (Appends old new) e (Appends-trans old now new so_far.front waiting so_far.grown rest)
 
 -- the finish failed
-pub finish_failed : {old now new : Option (List ℕ)} {waiting whole : List ℕ} → Underway old now waiting whole [] → AppendsFront now new waiting → AppendsFront old new whole
-finish_failed {old} {now} {new} {waiting} so_far rest =
+pub finish_failed : {old now new : Option (List ℕ)} {waiting whole : List ℕ} → AppendsFront now new waiting → Underway old now waiting whole [] → AppendsFront old new whole
+finish_failed {old} {now} {new} {waiting} rest so_far =
     let padded : AppendsFront now new (waiting ++ []) = record { front = rest.front; behind = rest.behind; parts = append-nil waiting ∙ rest.parts; grown = rest.grown } in
-    last_failed [] so_far padded
+    last_failed [] padded so_far
+
+-- ---- a call of a writer whose result is returned as it is
+
+-- the last piece of a part of a text
+pub last_call : {T E : Type 0} {old now : Option (List ℕ)} {waiting piece : List ℕ} (first whole waiting_new : List ℕ) (new : Option (List ℕ)) (result : Result T E)
+    → Gathers result now new waiting waiting_new piece → Underway old now waiting (first ++ whole) piece → Gathers result old new first waiting_new whole
+last_call first whole waiting_new new (Ok x) put so_far = gathered (last put so_far)
+last_call {piece = piece} first whole waiting_new new (Err e) put so_far = (last_failed piece put.0 so_far, put.1)
+
+-- the finish
+pub finish_call : {T E : Type 0} {old now : Option (List ℕ)} {waiting whole : List ℕ} (new : Option (List ℕ)) (result : Result T E)
+    → Writes result now new waiting → Underway old now waiting whole [] → Writes result old new whole
+finish_call new (Ok x) put so_far = finished new put so_far
+finish_call new (Err e) put so_far = finish_failed put so_far
 
 -- ---- a text past the buffer
 
@@ -117,7 +139,7 @@ passed_on {waiting_new} {rest} waiting piece new (Ok x) none so_far put = record
   parts = sym (append-nil (waiting ++ piece)) ∙ ap (λ (l : List ℕ). waiting ++ piece ++ l) (sym none);
   grown = arrived_with new rest so_far put;
 }
-passed_on {rest} waiting piece new (Err e) none so_far put = (last_failed rest so_far put, none)
+passed_on {rest} waiting piece new (Err e) none so_far put = (last_failed rest put so_far, none)
 
 -- the first part of a piece is behind what waited, and the rest of the piece is left
 pub halfway : {old now : Option (List ℕ)} {rest piece sent : List ℕ} (waiting first : List ℕ) → sent ≡ waiting ++ first → piece ≡ first ++ rest → Appends old now sent → Underway old now [] (waiting ++ piece) rest
@@ -149,4 +171,12 @@ pub writes_fault : {T E : Type 0} {old new : Option (List ℕ)} {bytes : List �
 writes_fault Q (Ok x) h put = absurd h
 writes_fault Q (Err e) h put = put
 
+-- a call failed within a piece of a part of a text
+pub failed_call : {T E : Type 0} {old now new : Option (List ℕ)} {waiting waiting_new : List ℕ} (first whole piece left : List ℕ) (Q : E → Type 0) (result : Result T E)
+    → IsErrAnd result Q → AppendsFront now new (waiting ++ piece) × (waiting_new ≡ []) → Underway old now waiting (first ++ whole) (piece ++ left)
+    → Gathers result old new first waiting_new whole
+failed_call first whole piece left Q result h put so_far = gathers_fault first whole Q result h (failed piece left put.0 so_far) put.1
+
 pub ruleset writing = (started, went_on, arrived, stopped)
+
+pub ruleset gathering = (begun, step, failed, last_failed, last_call, failed_call, whole_gathered, finish_call)
