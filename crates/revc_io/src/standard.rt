@@ -4,7 +4,8 @@ ghost use Rattle.std.specs.Prelude.{◌≡◌};
 use crate::{Failed, Sink, Source};
 use std::io::{Read, Write};
 
-/// A source over any reader of the standard library. It raises its count of faults at each error of the reader.
+/// A source over any reader of the standard library. It raises its count of faults at each error of the reader, and
+/// tells its bytes where the reader does: a reader in memory does, and a file, a pipe or a terminal does not.
 #[derive(Drop)]
 pub struct StdSource<R> {
     inner: R,
@@ -14,8 +15,8 @@ pub struct StdSource<R> {
 impl<R: Read> StdSource<R> {
     /// A source over this reader, with no fault so far.
     pub fn new(inner: R) -> StdSource<R>
-        ensures inner { result.inner ≡ inner }
-        ensures faults { result.faults ≡ 0 }
+        ensures rest { ⟦<StdSource<R> as Source>⟧.rest result ≡ R.remaining inner }
+        ensures faults { ⟦<StdSource<R> as Source>⟧.faults result ≡ 0 }
     {
         StdSource { inner, faults: 0 }
     }
@@ -38,7 +39,7 @@ impl<R: Read> Source for StdSource<R> {
 }
 
 /// A sink over any writer of the standard library. It raises its count of faults at each error of the writer, and
-/// where the writer took nothing.
+/// where the writer took nothing of a piece that is not empty. It tells its bytes where the writer does.
 #[derive(Drop)]
 pub struct StdSink<W> {
     inner: W,
@@ -48,8 +49,8 @@ pub struct StdSink<W> {
 impl<W: Write> StdSink<W> {
     /// A sink over this writer, with no fault so far.
     pub fn new(inner: W) -> StdSink<W>
-        ensures inner { result.inner ≡ inner }
-        ensures faults { result.faults ≡ 0 }
+        ensures held { ⟦<StdSink<W> as Sink>⟧.held result ≡ W.contents inner }
+        ensures faults { ⟦<StdSink<W> as Sink>⟧.faults result ≡ 0 }
     {
         StdSink { inner, faults: 0 }
     }

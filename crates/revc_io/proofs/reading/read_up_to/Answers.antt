@@ -1,4 +1,4 @@
-use Rattle.std.proofs.Common.{◌≡◌, ℕ, ◌+◌, ◌-◌, ◌<◌, ◌≤◌, ◌++◌, List, length, take, vec_len, arith, length-append, length-take}
+use Rattle.std.proofs.Common.{◌++◌, take, arith, length-append, length-take}
 use Rattle.std.proofs.KnownBytes.{Consumes-trans}
 use Rattle.revc_io.proofs.reading.read_up_to.Goals as goal
 

@@ -1,4 +1,4 @@
-use Rattle.std.proofs.Common.{ℕ, ◌≤◌, [], length}
+use Rattle.std.proofs.Common.{◌≤◌, [], length}
 use Rattle.revc_io.specs.Passing.{Underway}
 use Rattle.revc_io.proofs.transfer.put_all.Given as goal
 

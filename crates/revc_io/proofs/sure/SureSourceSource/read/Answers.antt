@@ -1,4 +1,4 @@
-use Rattle.std.proofs.Common.{◌≡◌, ℕ, ◌+◌, ◌-◌, ◌<◌, min, List, [], ◌++◌, length, take, drop, refl, sym, ap, ◌∙◌, arith, length-take, length-append, length-drop}
+use Rattle.std.proofs.Common.{◌≡◌, ℕ, ◌<◌, min, List, [], ◌++◌, length, take, drop, sym, ap, ◌∙◌, arith, length-take, length-append, length-drop}
 use Rattle.std.proofs.lemmas.List.{take_rest, take_at, take-append-drop, drop-drop, drop_all}
 use Rattle.revc_io.proofs.sure.SureSourceSource.read.Goals as goal
 

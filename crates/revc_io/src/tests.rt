@@ -1,0 +1,165 @@
+ghost use Rattle.std.specs.Prelude.{◌++◌, codes};
+ghost use Rattle.std.specs.Fmt.{decimal};
+ghost use Rattle.revc_io.specs.Faults.{HasCause};
+ghost use Rattle.revc_io.specs.Passing.{Gathers, Writes};
+
+use super::*;
+use std::io;
+use std::io::{Cursor, Error, ErrorKind, Read};
+use std::test::Fail;
+
+// A part of a text: a name, an equals sign and a number.
+#[tactic(auto, using(crate::proofs::OnTheWay::gathering))]
+fn put_row<K: Sink>(
+    buffer: &mut Buffer,
+    out: &mut K,
+    name: &[u8],
+    number: u64,
+) -> Result<(), Failed>
+    ensures bytes { Gathers result (K.held out.old) (K.held out.new) buffer.old buffer.new
+        (name.now ++ (codes "=" ++ decimal number)) }
+    ensures cause { HasCause (K.faults out.old) (K.faults out.new) result }
+{
+    buffer.put(out, name)?;
+    buffer.put(out, b"=")?;
+    put_decimal(buffer, out, number)
+}
+
+// A whole text of one row.
+#[tactic(auto, using(crate::proofs::OnTheWay::gathering))]
+fn write_row<K: Sink>(out: &mut K, name: &[u8], number: u64) -> Result<(), Failed>
+    ensures bytes { Writes result (K.held out.old) (K.held out.new)
+        (name.now ++ (codes "=" ++ decimal number)) }
+    ensures cause { HasCause (K.faults out.old) (K.faults out.new) result }
+{
+    let mut buffer = Buffer::new();
+    put_row(&mut buffer, out, name, number)?;
+    buffer.finish(out)
+}
+
+// A reader that fails at its first call, and is at its end after that.
+#[derive(Drop)]
+struct FailsOnce {
+    failed: bool,
+}
+
+impl Read for FailsOnce {
+    fn read(&mut self, _buf: &mut [u8]) -> io::Result<usize> {
+        if self.failed {
+            return Ok(0);
+        }
+        self.failed = true;
+        Err(Error::from(ErrorKind::Other))
+    }
+}
+
+// A text of exactly the limit is read, and one byte more is refused.
+#[test]
+fn texts_are_read_up_to_a_limit(rt: HostRuntime) -> Result<(), Fail> {
+    let alloc = rt.alloc();
+    for (limit, fits) in [
+        (5000u16, true),
+        (4999, false),
+        (0, false),
+        (4096, false),
+        (9000, true),
+    ] {
+        let text = vec![in alloc; b'a'; 5000]?;
+        let mut source = SureSource::new(text);
+        match read_up_to(alloc, &mut source, usize::from(limit)) {
+            Ok(all) => {
+                assert!(rt; fits, "at {limit}");
+                assert_eq!(rt; all.len(), 5000);
+            }
+            Err(fault) => {
+                assert!(rt; !fits, "at {limit}");
+                assert_eq!(rt; fault, ReadFault::TooLong);
+            }
+        }
+    }
+    Ok(())
+}
+
+// Room, failing call and most bytes a call, and then what `put_all` and a flush answer, and what the sink holds.
+#[test]
+fn sinks_fail_where_they_are_told(rt: HostRuntime) -> Result<(), Fail> {
+    let alloc = rt.alloc();
+    let rows = [
+        (9, 0, 9, true, true, b"version".as_slice()),
+        (9, 0, 1, true, true, b"version"),
+        (9, 1, 9, false, true, b""),
+        (9, 2, 9, true, false, b"version"),
+        (9, 3, 1, false, true, b"ve"),
+        (9, 8, 1, true, false, b"version"),
+        (5, 0, 2, false, true, b"versi"),
+    ];
+    for (room, failing, most, writes, flushes, held) in rows {
+        let failing = vec![in alloc; failing; 1]?;
+        let mut sink = MemorySink::new(alloc, room, failing, most)?;
+        assert_eq!(rt; put_all(&mut sink, b"version").is_ok(), writes);
+        assert_eq!(rt; sink.flush().is_ok(), flushes);
+        assert_eq!(rt; sink.bytes(), held);
+    }
+    Ok(())
+}
+
+// Three pieces that pass the buffer's size, one of them on its own, reach the sink in order, with one flush at the end.
+#[test]
+fn pieces_are_gathered(rt: HostRuntime) -> Result<(), Fail> {
+    let alloc = rt.alloc();
+    for (failing, written) in [(0, true), (4, false), (5, true)] {
+        let long = vec![in alloc; b'b'; 9000]?;
+        let mut sink = MemorySink::new(alloc, 20000, vec![in alloc; failing; 1]?, 20000)?;
+        let mut buffer = Buffer::new();
+        buffer.put(&mut sink, b"first")?;
+        buffer.put(&mut sink, &long)?;
+        buffer.put(&mut sink, b"last")?;
+        assert_eq!(rt; buffer.finish(&mut sink).is_ok(), written, "at {failing}");
+        assert_eq!(rt; sink.bytes().len(), 9009);
+        assert!(rt; sink.bytes().starts_with(b"firstbbb"));
+        assert!(rt; sink.bytes().ends_with(b"bbblast"));
+    }
+    Ok(())
+}
+
+// Written with 0, 1, 2 and 20 digits after the first.
+#[test]
+fn rows_are_written(rt: HostRuntime) -> Result<(), Fail> {
+    let alloc = rt.alloc();
+    let rows = [
+        (0, b"x=0".as_slice()),
+        (10, b"x=10"),
+        (409, b"x=409"),
+        (u64::MAX, b"x=18446744073709551615"),
+    ];
+    for (number, text) in rows {
+        let mut sink = MemorySink::new(alloc, 100, Vec::new(alloc), 1)?;
+        assert_eq!(rt; write_row(&mut sink, b"x", number), Ok(()));
+        assert_eq!(rt; sink.bytes(), text);
+    }
+    Ok(())
+}
+
+// Over readers and writers of the standard library: bytes pass through, an error is a fault, and so is a written 0.
+#[test]
+fn standard_ends_pass_bytes_and_count_faults(rt: HostRuntime) -> Result<(), Fail> {
+    let alloc = rt.alloc();
+    let mut source = StdSource::new(b"input".as_slice());
+    assert_eq!(rt;
+        read_up_to(alloc, &mut source, 9)?.as_slice(),
+        b"input".as_slice()
+    );
+    let mut broken = StdSource::new(FailsOnce { failed: false });
+    let refused = read_up_to(alloc, &mut broken, 9);
+    assert!(rt; matches!(refused, Err(ReadFault::Failed)));
+    assert_eq!(rt; read_up_to(alloc, &mut broken, 9)?.len(), 0);
+
+    let mut written = Vec::new(alloc);
+    let mut sink = StdSink::new(&mut written);
+    assert_eq!(rt; put_all(&mut sink, b"output"), Ok(()));
+    assert_eq!(rt; sink.flush(), Ok(()));
+    assert_eq!(rt; written.as_slice(), b"output".as_slice());
+    let mut full = StdSink::new(Cursor::new([0; 3]));
+    assert_eq!(rt; put_all(&mut full, b"output"), Err(Failed));
+    Ok(())
+}
