@@ -1,11 +1,11 @@
 -- A gate undoes itself, and a list of gates in reversed order undoes the list.
-use Rattle.std.proofs.Common.{◌≡◌, ◌≢◌, ℕ, zero, suc, ◌<◌, Bool, true, false, not, cond, List, [], ◌∷◌, ◌++◌, length, map, take, reverse, swap, set, refl, sym, ap, ◌∙◌, subst, arith}
+use Rattle.std.proofs.Common.{◌≡◌, ◌≢◌, ℕ, zero, suc, ◌<◌, ◌≤◌, Bool, true, false, not, cond, List, [], ◌∷◌, ◌++◌, length, map, take, reverse, swap, set, refl, sym, ap, ◌∙◌, subst, arith}
 use Rattle.std.specs.List.{AllByRecursion, list_all}
 use Rattle.std.proofs.lemmas.List.{length-set, get_or-set_same, get_or-set_other, set-set, set_comm, set-get_or, get_or_default, reverse-append, reverse-reverse}
 use Rattle.mct_circuit.specs.declared.gate.Control.{Control}
 use Rattle.mct_circuit.specs.declared.gate.Op.{Op}
 use Rattle.mct_circuit.specs.declared.gate.Op.TheVariants.{Flip, Swap}
-use Rattle.mct_circuit.specs.Gates.{GateView, bit_of, is_met, after_op, after_gate, line_map, AreDifferent, targets_of, lines_of, HasDifferentLines, IsGateOn, AreGatesOn, ReversedUndoes, flip_of}
+use Rattle.mct_circuit.specs.Gates.{GateView, bit_of, is_met, after_op, after_gate, line_map, AreDifferent, targets_of, lines_of, HasDifferentLines, IsGateOn, AreGatesOn, ReversedUndoes, flip_of, IsNarrow, AreNarrow}
 
 -- ---- lists
 
@@ -148,3 +148,7 @@ AreGatesOn-push n gates gate g d r = AllByRecursion-append (IsGateOn n) gates (g
 pub AreGatesOn-mirror : (n count : ℕ) (gates : List GateView) → AreGatesOn n gates → AreGatesOn n (gates ++ reverse (take count gates))
 AreGatesOn-mirror n count gates g =
     AllByRecursion-append (IsGateOn n) gates (reverse (take count gates)) g (AllByRecursion-reverse (IsGateOn n) (take count gates) (AllByRecursion-take (IsGateOn n) count gates g))
+
+pub AreNarrow-push : (gates : List GateView) (controls : List ℕ) (target : ℕ) → length controls ≤ 2 → AreNarrow gates → AreNarrow (gates ++ flip_of controls target ∷ [])
+AreNarrow-push gates controls target few n =
+    AllByRecursion-append IsNarrow gates (flip_of controls target ∷ []) n (record { controls = controls; target = target; few = few; is_flip = refl }, tt)

@@ -1,8 +1,8 @@
 // A circuit: a number of lines and a list of gates on them.
-ghost use Rattle.std.specs.Prelude.{◌≡◌, ◌+◌, ◌<◌, ◌≤◌, ◌↔◌, ◌++◌, ◌∷◌, [], length, reverse, take, slice_get, Some, OnOk, OnErr, IfOk, IsErrOf, ◌==◌};
+ghost use Rattle.std.specs.Prelude.{◌≡◌, ◌+◌, ◌<◌, ◌≤◌, ◌↔◌, ◌++◌, ◌∷◌, [], length, reverse, take, slice_get, Some, OnOk, OnErr, IfOk, IsErrOf, IsTrue, false, ◌==◌};
 ghost use Rattle.std.specs.List.{AllByRecursion};
 ghost use Rattle.mct_circuit.specs.declared.circuit.GateFault.TheVariants.{Memory};
-ghost use Rattle.mct_circuit.specs.Gates.{AreGatesOn, lines_of};
+ghost use Rattle.mct_circuit.specs.Gates.{AreGatesOn, AreNarrow, AreDifferent, lines_of, flip_of};
 
 use crate::Gate;
 use std::alloc::{AllocError, AllocFailed, Global};
@@ -81,11 +81,28 @@ impl Circuit {
     {
         // This call says that the gate's lines are different.
         let _ = gate.op();
-        if self.len() == self.limit {
+        if self.is_full() {
             return Err(GateFault::Full);
         }
         self.gates.push(gate)?;
         Ok(())
+    }
+
+    /// Appends the flip of `target` where all lines of `controls` are 1, as `push` does.
+    pub fn push_flip(&mut self, controls: &[u32], target: u32) -> Result<(), GateFault>
+        requires different { AreDifferent (controls.now ++ target ∷ []) }
+        requires in_range { AllByRecursion (λ line. line < self.old.lines) (controls.now ++ target ∷ []) }
+        ensures ok { OnOk result (self.new ≡ record self.old { gates = self.old.gates ++ flip_of controls.now target ∷ [] }) }
+        ensures full { IsErrOf result GateFault.Full ↔ (length self.old.gates ≡ self.old.limit) }
+        ensures err { OnErr result (self.new ≡ self.old) }
+        ensures narrow { length controls.now ≤ 2 → AreNarrow self.old.gates → AreNarrow self.new.gates }
+    {
+        if self.is_full() {
+            return Err(GateFault::Full);
+        }
+        let alloc = *self.gates.allocator();
+        let gate = Gate::flip(alloc, controls, target)?;
+        self.push(gate)
     }
 
     /// Appends copies of the first `count` gates in reversed order. `Full` comes exactly where the circuit
@@ -126,6 +143,14 @@ impl Circuit {
         ensures { result ≡ (length self.now.gates == 0) }
     {
         self.gates.is_empty()
+    }
+
+    /// Whether the circuit holds as many gates as its limit allows.
+    pub fn is_full(&self) -> bool
+        ensures full { IsTrue result ↔ (length self.now.gates ≡ self.now.limit) }
+        ensures room { result ≡ false → length self.now.gates < self.now.limit }
+    {
+        self.len() == self.limit
     }
 
     /// The gate at place `i`, counted from 0. It takes no memory.

@@ -1,5 +1,5 @@
 use super::*;
-use mct_circuit::{Circuit, Gate};
+use mct_circuit::Circuit;
 use revc_io::MemorySink;
 use std::test::Fail;
 
@@ -17,9 +17,9 @@ fn a_circuit_is_written(rt: HostRuntime) -> Result<(), Fail> {
         borrowed: 1,
     };
     let mut circuit = Circuit::new(alloc, 5, 10);
-    circuit.push(Gate::flip(alloc, &[0, 4], 3)?)?;
-    circuit.push(Gate::flip(alloc, &[3], 2)?)?;
-    circuit.push(Gate::flip(alloc, &[], 1)?)?;
+    circuit.push_flip(&[0, 4], 3)?;
+    circuit.push_flip(&[3], 2)?;
+    circuit.push_flip(&[], 1)?;
     for (room, written) in [(1000, true), (100, false)] {
         let mut sink = MemorySink::new(alloc, room, Vec::new(alloc), 7)?;
         assert_eq!(rt; write(&circuit, roles, &mut sink).is_ok(), written);
