@@ -1,0 +1,5 @@
+use Rattle.revs_lexer.proofs.Cuts.{one_way}
+use Rattle.revs_lexer.proofs.lexer.one_outcome.Goals as goal
+
+pub returns : goal.returns
+returns c = one_way

@@ -1,0 +1,90 @@
+-- The tokens of a program text: a relation between the text and the pieces that it is cut into.
+use Rattle.std.specs.Prelude.{◌≡◌, ◌≢◌, ℕ, ◌+◌, ◌<◌, ◌≤◌, not, List, [], ◌∷◌, ◌++◌, length, if◌then◌else◌, IsTrue, codes, fold}
+use Rattle.std.specs.List.{list_all}
+use Rattle.revc_base.specs.declared.place.Place.{Place}
+use Rattle.revs_lexer.specs.Bytes.{is_blank, is_line_feed}
+use Rattle.revs_lexer.specs.Spelling.{Spells, IsWithinLimits}
+use Rattle.revs_lexer.specs.declared.token.Tok.{Tok}
+use Rattle.revs_lexer.specs.declared.token.Tok.TheVariants as toks
+use Rattle.revs_lexer.specs.declared.token.Token.{Token}
+use Rattle.revs_lexer.specs.declared.token.LexFault.{LexFault}
+use Rattle.revs_lexer.specs.declared.token.LexFault.TheVariants as faults
+
+-- the place of a text's first byte
+abbrev pub start : Place
+start = record { line = 1; column = 1 }
+
+-- the place behind a byte: a line feed ends its line
+abbrev pub place_behind : Place → ℕ → Place
+place_behind at b =
+    if is_line_feed b then record { line = at.line + 1; column = 1 } else record { line = at.line; column = at.column + 1 }
+
+-- the place behind bytes that begin at a place
+abbrev pub place_after : Place → List ℕ → Place
+place_after at bytes = fold place_behind at bytes
+
+-- nothing, or a line feed first
+abbrev pub IsLineEnd : List ℕ → Type 0
+IsLineEnd [] = Unit {0}
+IsLineEnd (b ∷ _) = IsTrue (is_line_feed b)
+
+-- What separates tokens and is dropped, with what may follow it.
+pub data IsGap : List ℕ → List ℕ → Type 0 where
+  blank : {b : ℕ} {rest : List ℕ} → IsTrue (is_blank b) → IsGap (b ∷ []) rest
+  comment : {body rest : List ℕ} → IsTrue (list_all (λ b. not (is_line_feed b)) body) → IsLineEnd rest → IsGap (codes "//" ++ body) rest
+
+-- Neither a blank nor a comment stands at the front of the text.
+abbrev pub HasNoGap : List ℕ → Type 0
+HasNoGap text = (gap rest : List ℕ) → text ≡ gap ++ rest → ¬ IsGap gap rest
+
+-- No front of the text spells a token.
+abbrev pub HasNoToken : List ℕ → Type 0
+HasNoToken text = (front rest : List ℕ) (tok : Tok) → text ≡ front ++ rest → ¬ Spells front tok
+
+-- The longest token at the front of a text: no longer front of the text spells one.
+pub record IsLongest (text piece rest : List ℕ) (tok : Tok) : Type 0 where
+  pub cut : text ≡ piece ++ rest
+  pub spelled : Spells piece tok
+  pub longest : (front behind : List ℕ) (other : Tok) → text ≡ front ++ behind → Spells front other → length front ≤ length piece
+
+-- Why a text that stands at a place is refused there.
+pub data Refuses : Place → List ℕ → LexFault → Type 0 where
+  -- its first byte begins no blank or comment and no token
+  bad_byte : {at : Place} {b : ℕ} {bytes : List ℕ} → HasNoGap (b ∷ bytes) → HasNoToken (b ∷ bytes) → Refuses at (b ∷ bytes) (faults.BadByte at)
+  long_name : {at : Place} {text : List ℕ} (run rest : List ℕ) → IsLongest text run rest (toks.Name run) → 64 < length run → Refuses at text (faults.LongName at)
+  long_number : {at : Place} {text : List ℕ} (run rest : List ℕ) (n : ℕ) → IsLongest text run rest (toks.Number n) → 4 < length run → Refuses at text (faults.LongNumber at)
+
+-- Where the cutting of a text ends: at its end, or at the first refusal.
+pub data Stop : Type 0 where
+  whole : Stop
+  refused : LexFault → Stop
+
+-- The text that stands at a place is cut into gaps and these tokens, and ends so.
+pub data IsCut : Place → List ℕ → List Token → Stop → Type 0 where
+  done : {at : Place} → IsCut at [] [] whole
+  gap : {at : Place} {text : List ℕ} {ts : List Token} {stop : Stop} (piece rest : List ℕ) → text ≡ piece ++ rest → IsGap piece rest → IsCut (place_after at piece) rest ts stop → IsCut at text ts stop
+  token : {at : Place} {text : List ℕ} {ts : List Token} {stop : Stop} (piece rest : List ℕ) (tok : Tok) → IsLongest text piece rest tok → IsWithinLimits piece tok → IsCut (place_after at piece) rest ts stop → IsCut at text (record { tok = tok; at = at } ∷ ts) stop
+  refusal : {at : Place} {text : List ℕ} (fault : LexFault) → Refuses at text fault → IsCut at text [] (refused fault)
+
+-- These are the tokens of the text, without `End`.
+abbrev pub IsTokens : List ℕ → List Token → Type 0
+IsTokens text ts = IsCut start text ts whole
+
+-- This is the first refusal in the text.
+abbrev pub IsRefused : List ℕ → LexFault → Type 0
+IsRefused text fault = (ts : List Token) × IsCut start text ts (refused fault)
+
+-- The tokens of a text with `End` behind them, at the place after the last byte.
+abbrev pub closed : List ℕ → List Token → List Token
+closed text ts = ts ++ record { tok = toks.End; at = place_after start text } ∷ []
+
+-- The last token is `End`, and no other is.
+abbrev pub IsEnded : List Token → Type 0
+IsEnded [] = ⊥
+IsEnded (t ∷ []) = t.tok ≡ toks.End
+IsEnded (t ∷ u ∷ ts) = (t.tok ≢ toks.End) × IsEnded (u ∷ ts)
+
+-- A text is cut in one way only, so it has one list of tokens or one first refusal, and not both.
+abbrev pub OneOutcome : Type 0
+OneOutcome =
+    (text : List ℕ) (ts us : List Token) (stop other : Stop) → IsCut start text ts stop → IsCut start text us other → (ts ≡ us) × (stop ≡ other)

@@ -1,0 +1,232 @@
+// One pass over the bytes of a text, piece by piece.
+ghost use Rattle.std.specs.Prelude.{◌≡◌, ◌≢◌, ◌⊎◌, ℕ, ◌+◌, ◌<◌, ◌≤◌, ◌^◌, List, ◌++◌, take, drop, length, IfOk, IfErr, IsErrOf, MatchResult, IsTrue, nat_eq, OnErr, not};
+ghost use Rattle.std.specs.Char.{is_ascii_digit};
+ghost use Rattle.std.specs.List.{find, prefix_len, starts_with};
+ghost use Rattle.std.specs.Str.{bytes_eq};
+ghost use Rattle.std.specs.Str.Parse.{AllDigits, digits_value};
+ghost use Rattle.revs_lexer.specs.Bytes.{is_blank, is_line_feed, is_letter, is_name_byte};
+ghost use Rattle.revs_lexer.specs.Pieces.{Takes};
+ghost use Rattle.revs_lexer.specs.Spelling.{word_text, sign_text, is_identifier, Spells, IsWithinLimits};
+ghost use Rattle.revs_lexer.specs.Tokens.{place_after, IsGap, HasNoGap, IsLongest, Refuses, IsTokens, IsRefused, closed, IsEnded, OneOutcome};
+ghost use Rattle.revs_lexer.specs.declared.sign.Sign.{Sign};
+ghost use Rattle.revs_lexer.specs.declared.token.LexFault.{LexFault};
+ghost use Rattle.revs_lexer.specs.declared.token.Token.{Token};
+ghost use Rattle.revs_lexer.specs.declared.word.Word.{Word};
+
+use crate::{LexFault, Sign, Tok, Token, Word};
+use revc_base::{Memory, Place, Text};
+use std::alloc::Global;
+
+/// The most digits that a number has.
+const MOST_DIGITS: usize = 4;
+
+fn is_blank(byte: u8) -> bool
+    ensures { result ≡ is_blank byte }
+{
+    matches!(byte, b' ' | b'\t' | b'\r' | b'\n')
+}
+
+fn is_letter(byte: u8) -> bool
+    ensures { result ≡ is_letter byte }
+{
+    byte.is_ascii_alphabetic() || byte == b'_'
+}
+
+fn is_name_byte(byte: u8) -> bool
+    ensures { result ≡ is_name_byte byte }
+{
+    is_letter(byte) || byte.is_ascii_digit()
+}
+
+// The word that the bytes spell.
+fn word_of(bytes: &[u8]) -> Option<Word>
+    ensures { result ≡ find (λ word. bytes_eq (word_text word) bytes.now) Word.ALL }
+{
+    Word::ALL.iter().copied().find(|word| word.text() == bytes)
+}
+
+// The longest sign at the front of the text, which is the first in the table.
+fn sign_at(text: &[u8]) -> Option<Sign>
+    ensures { result ≡ find (λ sign. starts_with nat_eq text.now (sign_text sign)) Sign.ALL }
+{
+    Sign::ALL
+        .iter()
+        .copied()
+        .find(|sign| text.starts_with(sign.text()))
+}
+
+// How many bytes the blank or the comment at the front of the text has: 0 where there is none.
+fn gap_len(text: &[u8]) -> usize
+    requires { 0 < length text.now }
+    ensures in_range { result ≤ length text.now }
+    ensures found { 0 < result → IsGap (take result text.now) (drop result text.now) }
+    ensures none { result ≡ 0 → HasNoGap text.now }
+{
+    if is_blank(text[0]) {
+        return 1;
+    }
+    if text.starts_with(b"//") {
+        return line_len(text);
+    }
+    0
+}
+
+fn line_len(text: &[u8]) -> usize
+    ensures { result ≡ prefix_len (λ b. not (is_line_feed b)) text.now }
+{
+    text.iter().take_while(|byte| **byte != b'\n').count()
+}
+
+fn name_len(text: &[u8]) -> usize
+    ensures { result ≡ prefix_len is_name_byte text.now }
+{
+    text.iter().take_while(|byte| is_name_byte(**byte)).count()
+}
+
+fn number_len(text: &[u8]) -> usize
+    ensures { result ≡ prefix_len is_ascii_digit text.now }
+{
+    text.iter().take_while(|byte| byte.is_ascii_digit()).count()
+}
+
+// The word or the name that the bytes spell.
+fn name(alloc: Global, bytes: &[u8]) -> Result<Tok, Memory>
+    requires identifier { IsTrue (is_identifier bytes.now) }
+    requires few { length bytes.now ≤ 64 }
+    ensures spelled { IfOk result (Spells bytes.now) }
+    ensures within { IfOk result (IsWithinLimits bytes.now) }
+{
+    match word_of(bytes) {
+        Some(word) => Ok(Tok::Word(word)),
+        None => Ok(Tok::Name(Text::new(alloc, bytes)?)),
+    }
+}
+
+// The value of at most 4 digits.
+fn number(digits: &[u8]) -> u32
+    requires digits { AllDigits 10 digits.now }
+    requires few { length digits.now ≤ 4 }
+    ensures { result ≡ digits_value 10 digits.now }
+{
+    let mut value = 0;
+    for digit in digits {
+        value = 10 * value + u32::from(*digit - b'0');
+    }
+    value
+}
+
+// The longest token at the front of the text, and how many bytes it has.
+fn token(alloc: Global, text: &[u8], at: Place) -> Result<(Tok, usize), LexFault>
+    requires some { 0 < length text.now }
+    requires no_gap { HasNoGap text.now }
+    ensures in_range { IfOk result (λ found. (0 < found.1) × (found.1 ≤ length text.now)) }
+    ensures longest { IfOk result (λ found. IsLongest text.now (take found.1 text.now) (drop found.1 text.now) found.0) }
+    ensures within { IfOk result (λ found. IsWithinLimits (take found.1 text.now) found.0) }
+    ensures refused { IfErr result (λ fault. fault ≢ LexFault.Memory → Refuses at text.now fault) }
+{
+    if is_letter(text[0]) {
+        let len = name_len(text);
+        if len > Text::MOST {
+            return Err(LexFault::LongName(at));
+        }
+        return Ok((name(alloc, &text[..len])?, len));
+    }
+    if text[0].is_ascii_digit() {
+        let len = number_len(text);
+        if len > MOST_DIGITS {
+            return Err(LexFault::LongNumber(at));
+        }
+        return Ok((Tok::Number(number(&text[..len])), len));
+    }
+    match sign_at(text) {
+        Some(sign) => Ok((Tok::Sign(sign), sign.text().len())),
+        None => Err(LexFault::BadByte(at)),
+    }
+}
+
+// Takes the piece at the front of the text, and keeps it where it is a token. The result is its length.
+fn take_piece(tokens: &mut Vec<Token>, text: &[u8], at: Place) -> Result<usize, LexFault>
+    requires { 0 < length text.now }
+    ensures in_range { IfOk result (λ len. (0 < len) × (len ≤ length text.now)) }
+    ensures taken { IfOk result (λ len. Takes at text.now len tokens.old.items tokens.new.items) }
+    ensures refused { IfErr result (λ fault. fault ≢ LexFault.Memory → Refuses at text.now fault) }
+    ensures kept { OnErr result (tokens.new.items ≡ tokens.old.items) }
+{
+    let gap = gap_len(text);
+    if gap > 0 {
+        return Ok(gap);
+    }
+    let alloc = *tokens.allocator();
+    let (tok, len) = token(alloc, text, at)?;
+    tokens.push(Token { tok, at })?;
+    Ok(len)
+}
+
+// The place behind bytes that begin at a place.
+fn place_after(mut at: Place, bytes: &[u8]) -> Place
+    requires line { 1 ≤ at.line }
+    requires column { 1 ≤ at.column }
+    requires room { at.line + at.column + length bytes.now ≤ 2 ^ 32 }
+    ensures place { result ≡ place_after at bytes.now }
+    ensures line { 1 ≤ result.line }
+    ensures column { 1 ≤ result.column }
+    ensures room { result.line + result.column ≤ at.line + at.column + length bytes.now }
+{
+    for byte in bytes {
+        if *byte == b'\n' {
+            at.line += 1;
+            at.column = 1;
+        } else {
+            at.column += 1;
+        }
+    }
+    at
+}
+
+// The tokens or the first refusal.
+fn cut(alloc: Global, text: &[u8]) -> Result<Vec<Token>, LexFault>
+    requires { length text.now + 1 < 2 ^ 32 }
+    ensures tokens { IfOk result (λ all. (ts : List Token) × IsTokens text.now ts × (all.items ≡ closed text.now ts)) }
+    ensures refused { IfErr result (λ fault. fault ≢ LexFault.Memory → IsRefused text.now fault) }
+{
+    let mut tokens = Vec::new(alloc);
+    let mut at = Place { line: 1, column: 1 };
+    let mut rest = text;
+    while !rest.is_empty() {
+        let len = take_piece(&mut tokens, rest, at)?;
+        let (piece, left) = rest.split_at(len);
+        at = place_after(at, piece);
+        rest = left;
+    }
+    tokens.push(Token { tok: Tok::End, at })?;
+    Ok(tokens)
+}
+
+/// The tokens of the text, each with the place of its first byte, and then `End` at the place after the last byte.
+///
+/// Lines and columns are counted from 1, a column in bytes; a line feed ends a line. The longest token is taken at each
+/// place. The first place at which the text cannot be cut so is refused.
+pub fn tokens(alloc: Global, text: &[u8]) -> Result<Vec<Token>, LexFault>
+    requires { length text.now + 1 < 2 ^ 32 }
+
+    // The tokens of the text and no others.
+    ensures tokens { IfOk result (λ all. (ts : List Token) × IsTokens text.now ts × (all.items ≡ closed text.now ts)) }
+    ensures only_tokens { (ts : List Token) → IsTokens text.now ts →
+        MatchResult result (λ all. all.items ≡ closed text.now ts) (λ fault. fault ≡ LexFault.Memory) }
+
+    // The first refusal of the text and no other.
+    ensures refused { IfErr result (λ fault. fault ≢ LexFault.Memory → IsRefused text.now fault) }
+    ensures only_refusal { (fault : LexFault) → IsRefused text.now fault →
+        IsErrOf result fault ⊎ IsErrOf result LexFault.Memory }
+
+    // The last token is `End`, and no other is.
+    ensures ended { IfOk result (λ all. IsEnded all.items) }
+    ensures few { IfOk result (λ all. length all.items ≤ length text.now + 1) }
+{
+    cut(alloc, text)
+}
+
+/// A text is cut in one way only: it has one list of tokens or one first refusal, and not both.
+pub fn one_outcome()
+    ensures { OneOutcome }
+{}

@@ -1,0 +1,18 @@
+//! The tokens of a program text, each with its place.
+//!
+//! A text is any bytes. It is cut from the front into blanks, comments and longest tokens; what cannot be cut further is
+//! refused at its place.
+#![tactic(auto)]
+
+mod lexer;
+mod sign;
+mod token;
+mod word;
+
+pub use lexer::{one_outcome, tokens};
+pub use sign::Sign;
+pub use token::{LexFault, Tok, Token};
+pub use word::Word;
+
+#[cfg(test)]
+mod tests;

@@ -1,0 +1,58 @@
+use crate::{Sign, Word};
+use revc_base::{Memory, Place, Text};
+use std::alloc::AllocFailed;
+
+/// What a token is.
+#[derive(Debug, PartialEq, Eq, Drop)]
+pub enum Tok {
+    /// A letter or `_`, then letters, digits and `_`, and no word: 1 to 64 bytes.
+    Name(Text),
+    /// The decimal value of 1 to 4 digits.
+    Number(u32),
+    Word(Word),
+    Sign(Sign),
+    /// The end of the text.
+    End,
+}
+
+/// A token, and the place of its first byte.
+#[derive(Debug, PartialEq, Eq, Drop)]
+pub struct Token {
+    pub tok: Tok,
+    pub at: Place,
+}
+
+/// Why a text has no tokens.
+#[derive(Clone, Copy, Debug, PartialEq, Eq)]
+pub enum LexFault {
+    /// The byte at this place begins no token, blank or comment.
+    BadByte(Place),
+    /// The name that begins at this place has more than 64 bytes.
+    LongName(Place),
+    /// The number that begins at this place has more than 4 digits.
+    LongNumber(Place),
+    /// There was no memory left.
+    Memory,
+}
+
+impl From<Memory> for LexFault {
+    ghost use Rattle.std.specs.Prelude.{◌≡◌};
+    ghost use Rattle.revs_lexer.specs.declared.token.LexFault.TheVariants as faults;
+
+    ghost from_gives = { λ _ e. e ≡ faults.Memory };
+
+    fn from(_: Memory) -> LexFault {
+        LexFault::Memory
+    }
+}
+
+impl<T: Drop> From<AllocFailed<T>> for LexFault {
+    ghost use Rattle.std.specs.Prelude.{◌≡◌};
+    ghost use Rattle.revs_lexer.specs.declared.token.LexFault.TheVariants as faults;
+
+    ghost from_gives = { λ _ e. e ≡ faults.Memory };
+
+    fn from(_: AllocFailed<T>) -> LexFault {
+        LexFault::Memory
+    }
+}
