@@ -1,0 +1,5 @@
+pub mod SentencePieces
+pub mod ReadingSteps
+pub mod ReadingRuns
+pub mod ReadingCases
+pub mod TapeSteps
