@@ -3,3 +3,4 @@ pub mod ReadingSteps
 pub mod ReadingRuns
 pub mod ReadingCases
 pub mod TapeSteps
+pub mod PlanSteps

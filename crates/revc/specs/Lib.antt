@@ -1,3 +1,4 @@
 pub mod Program
 pub mod Reading
 pub mod Tape
+pub mod Plan

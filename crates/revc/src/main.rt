@@ -1,6 +1,7 @@
 //! A compiler of Revs programs to clean reversible circuits.
 #![tactic(auto)]
 
+mod plan;
 mod program;
 mod reader;
 mod tape;
