@@ -90,6 +90,22 @@ finish_failed {old} {now} {new} {waiting} rest so_far =
     let padded : AppendsFront now new (waiting ++ []) = record { front = rest.front; behind = rest.behind; parts = append-nil waiting ∙ rest.parts; grown = rest.grown } in
     last_failed [] padded so_far
 
+-- ---- in a loop: what is left begins with a piece, by an equation
+
+pub step_at : {old now new : Option (List ℕ)} {waiting waiting_new whole left : List ℕ} (piece left_new : List ℕ) → left ≡ piece ++ left_new
+    → Gathered now new waiting waiting_new piece → Underway old now waiting whole left → Underway old new waiting_new whole left_new
+step_at {old} {now} {waiting = waiting} {whole = whole} piece left_new e put so_far =
+    step piece left_new put (subst (λ (l : List ℕ). Underway old now waiting whole l) e so_far)
+
+pub failed_at : {old now new : Option (List ℕ)} {waiting whole left : List ℕ} (piece left_new : List ℕ) → left ≡ piece ++ left_new
+    → AppendsFront now new (waiting ++ piece) → Underway old now waiting whole left → AppendsFront old new whole
+failed_at {old} {now} {waiting = waiting} {whole = whole} piece left_new e put so_far =
+    failed piece left_new put (subst (λ (l : List ℕ). Underway old now waiting whole l) e so_far)
+
+-- nothing is left
+pub ended : {old now : Option (List ℕ)} {waiting whole left : List ℕ} → left ≡ [] → Underway old now waiting whole left → Underway old now waiting whole []
+ended {old} {now} {waiting} {whole} e so_far = subst (λ (l : List ℕ). Underway old now waiting whole l) e so_far
+
 -- ---- a call of a writer whose result is returned as it is
 
 -- the last piece of a part of a text

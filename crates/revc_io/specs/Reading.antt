@@ -8,8 +8,7 @@ use Rattle.revc_io.specs.declared.reading.ReadFault.TheVariants.{Failed, TooLong
 abbrev pub TakesCount : Option (List ℕ) → Option (List ℕ) → (ℕ → Type 0) → Type 0
 TakesCount old new P = (taken : List ℕ) × Consumes old new taken × P (length taken)
 
--- this number of bytes is taken where a text over the limit is refused so: one more than the limit where the text was too
--- long, and at most the limit at each other refusal
+-- how many bytes were taken at each refusal: one more than the limit at `TooLong`, at most the limit at each other
 abbrev pub TakenAt : ReadFault → ℕ → ℕ → Type 0
 TakenAt TooLong limit count = count ≡ limit + 1
 TakenAt Failed limit count = count ≤ limit

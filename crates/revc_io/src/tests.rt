@@ -1,5 +1,6 @@
 ghost use Rattle.std.specs.Prelude.{◌++◌, codes};
 ghost use Rattle.std.specs.Fmt.{decimal};
+ghost use Rattle.std.specs.List.{flat_map};
 ghost use Rattle.revc_io.specs.Faults.{HasCause};
 ghost use Rattle.revc_io.specs.Passing.{Gathers, Writes};
 
@@ -25,15 +26,17 @@ fn put_row<K: Sink>(
     put_decimal(buffer, out, number)
 }
 
-// A whole text of one row.
+// A whole text, with a row for each number.
 #[tactic(auto, using(crate::proofs::OnTheWay::gathering))]
-fn write_row<K: Sink>(out: &mut K, name: &[u8], number: u64) -> Result<(), Failed>
+fn write_rows<K: Sink>(out: &mut K, name: &[u8], numbers: &[u64]) -> Result<(), Failed>
     ensures bytes { Writes result (K.held out.old) (K.held out.new)
-        (name.now ++ (codes "=" ++ decimal number)) }
+        (flat_map (λ number. name.now ++ (codes "=" ++ decimal number)) numbers.now) }
     ensures cause { HasCause (K.faults out.old) (K.faults out.new) result }
 {
     let mut buffer = Buffer::new();
-    put_row(&mut buffer, out, name, number)?;
+    for number in numbers {
+        put_row(&mut buffer, out, name, *number)?;
+    }
     buffer.finish(out)
 }
 
@@ -122,21 +125,17 @@ fn pieces_are_gathered(rt: HostRuntime) -> Result<(), Fail> {
     Ok(())
 }
 
-// Written with 0, 1, 2 and 20 digits after the first.
+// Numbers of 1, 2, 3 and 20 digits, to a sink that takes one byte a call.
 #[test]
 fn rows_are_written(rt: HostRuntime) -> Result<(), Fail> {
     let alloc = rt.alloc();
-    let rows = [
-        (0, b"x=0".as_slice()),
-        (10, b"x=10"),
-        (409, b"x=409"),
-        (u64::MAX, b"x=18446744073709551615"),
-    ];
-    for (number, text) in rows {
-        let mut sink = MemorySink::new(alloc, 100, Vec::new(alloc), 1)?;
-        assert_eq!(rt; write_row(&mut sink, b"x", number), Ok(()));
-        assert_eq!(rt; sink.bytes(), text);
-    }
+    let mut sink = MemorySink::new(alloc, 100, Vec::new(alloc), 1)?;
+    let numbers = [0, 10, 409, u64::MAX];
+    assert_eq!(rt; write_rows(&mut sink, b"x", &numbers), Ok(()));
+    assert_eq!(rt;
+        sink.bytes(),
+        b"x=0x=10x=409x=18446744073709551615".as_slice()
+    );
     Ok(())
 }
 
