@@ -4,3 +4,4 @@ pub mod ReadingRuns
 pub mod ReadingCases
 pub mod TapeSteps
 pub mod PlanSteps
+pub mod Compiling

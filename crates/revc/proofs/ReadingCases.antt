@@ -10,11 +10,11 @@ use Rattle.revs_lexer.specs.declared.sign.Sign.TheVariants as signs
 use Rattle.revs_lexer.specs.declared.token.Tok.{Tok}
 use Rattle.revs_lexer.specs.declared.token.Tok.TheVariants as toks
 use Rattle.revs_lexer.specs.declared.token.Token.{Token}
-use Rattle.revc.specs.Program.{ProgramView, IsSentence}
+use Rattle.revc.specs.Program.{toks_of, ProgramView, IsSentence}
 use Rattle.revc.specs.declared.reader.Body.{Body}
 use Rattle.revc.specs.declared.reader.Reader.{Reader}
 use Rattle.revc.specs.declared.reader.Reader.TheVariants as readers
-use Rattle.revc.specs.Reading.{BodyView, Reading, at_main, at_param, at_name, at_colon, at_bool, at_close, at_factor, at_operator, body_of, reading_of, spelled, toks_of, IsGood, Leads, IsStuck}
+use Rattle.revc.specs.Reading.{BodyView, Reading, at_main, at_param, at_name, at_colon, at_bool, at_close, at_factor, at_operator, body_of, reading_of, spelled, IsGood, Leads, IsStuck}
 use Rattle.revc.proofs.ReadingSteps.{step_of, finish_of, number_of, leads}
 use Rattle.revc.proofs.ReadingRuns.{stuck, ends, endless}
 

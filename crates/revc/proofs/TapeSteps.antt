@@ -56,7 +56,7 @@ Stands-more old new count ref value grown stands =
     let longer : length new.entries ≡ length old.entries + length grown.more = ap length grown.parts ∙ length-append old.entries grown.more in
     record {
       known = subst (λ n. IsKnown n (length new.entries) ref) (sym grown.inputs) (IsKnown-more old.inputs (length old.entries) (length new.entries) ref (omega arith) stands.known);
-      bit = λ input. ap (λ es. bit_at input (written_by input [] es) ref) grown.parts ∙ bit_at-more old.inputs input old.entries grown.more ref stands.known ∙ stands.bit input
+      bit = λ input. ap (λ es. bit_at input (written_by input [] es) ref) grown.parts ∙ bit_at-more old.inputs input old.entries grown.more ref stands.known ∙ stands.bit input;
     }
 
 Stands-made : (tape new : TapeView) (entry : Entry) (value : List Bool → Bool) → new ≡ record tape { entries = tape.entries ++ entry ∷ [] }
@@ -70,7 +70,7 @@ Stands-made tape new entry value e bits =
           ap (λ es. bit_of (written_by input [] es) (length tape.entries)) entries
           ∙ ap (λ w. bit_of w (length tape.entries)) (written_by-append input [] tape.entries (entry ∷ []))
           ∙ get_or_at (written_by input [] tape.entries) (entry_bit input (written_by input [] tape.entries) entry) [] false (length tape.entries) (at_end input)
-          ∙ bits input
+          ∙ bits input;
     }
   where
     at_end : (input : List Bool) → length (written_by input [] tape.entries) ≡ length tape.entries
@@ -102,7 +102,7 @@ Extends-push old tape new count entry e grown =
       inputs = ap (λ (t : TapeView). t.inputs) e ∙ grown.inputs;
       more = grown.more ++ entry ∷ [];
       parts = ap (λ (t : TapeView). t.entries) e ∙ ap (λ es. es ++ entry ∷ []) grown.parts ∙ append_assoc old.entries grown.more (entry ∷ []);
-      counted = omega arith
+      counted = omega arith;
     }
 
 -- writes were added, and a reference stands for a function
@@ -117,7 +117,7 @@ IsGrowing-and {old} {tape} {new} {made} {made_new} {count} {f} i g e m h same so
     let stands : Stands new (Write (length tape.entries)) (λ input. f input && bit_of input i) = Stands-and tape new made (Input i) f (λ input. bit_of input i) e so_far.stands (Stands-input tape i h) in
     record {
       extends = Extends-push old tape new count (entries.And made (Input i)) e so_far.extends;
-      stands = record { known = rw m stands.known; bit = λ input. rw m (stands.bit input ∙ sym (same input)) }
+      stands = record { known = rw m stands.known; bit = λ input. rw m (stands.bit input ∙ sym (same input)) };
     }
 
 -- ---- sums of products
@@ -143,5 +143,5 @@ IsSumming-xor {inputs} {tape} {mid} {new} {sum} {factor} {made} {f} product whol
     record {
       same = pushed.inputs ∙ so_far.same;
       stands = record { known = rw m both.known; bit = λ input. rw m (both.bit input ∙ sym (same input)) };
-      room = omega arith
+      room = omega arith;
     }

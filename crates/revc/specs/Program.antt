@@ -5,6 +5,7 @@ use Rattle.revs_lexer.specs.declared.word.Word.TheVariants as words
 use Rattle.revs_lexer.specs.declared.sign.Sign.TheVariants as signs
 use Rattle.revs_lexer.specs.declared.token.Tok.{Tok}
 use Rattle.revs_lexer.specs.declared.token.Tok.TheVariants as toks
+use Rattle.revs_lexer.specs.declared.token.Token.{Token}
 use Rattle.mct_circuit.specs.Gates.{bit_of}
 
 -- a program: the names of its parameters, and its body, a sum of products of parameters, each by its number from 0
@@ -35,6 +36,10 @@ body_tokens params products = parted_by (toks.Sign signs.Xor) (map (product_toke
 -- program = main param { param } = expr
 abbrev pub sentence_of : ProgramView → List Tok
 sentence_of p = toks.Word words.Main ∷ (flat_map param_tokens p.params ++ (toks.Sign signs.Equal ∷ body_tokens p.params p.products))
+
+-- what the tokens are, without their places
+abbrev pub toks_of : List Token → List Tok
+toks_of tokens = map (λ (token : Token). token.tok) tokens
 
 -- ---- limits and scope
 

@@ -5,15 +5,10 @@ use Rattle.revs_lexer.specs.declared.word.Word.TheVariants as words
 use Rattle.revs_lexer.specs.declared.sign.Sign.TheVariants as signs
 use Rattle.revs_lexer.specs.declared.token.Tok.{Tok}
 use Rattle.revs_lexer.specs.declared.token.Tok.TheVariants as toks
-use Rattle.revs_lexer.specs.declared.token.Token.{Token}
 use Rattle.revc.specs.Program.{ProgramView, param_tokens, product_tokens, sentence_of, IsSmall}
 use Rattle.revc.specs.declared.reader.Body.{Body}
 use Rattle.revc.specs.declared.reader.Reader.{Reader}
 use Rattle.revc.specs.declared.reader.Reader.TheVariants as readers
-
--- what the tokens are, without their places
-abbrev pub toks_of : List Token → List Tok
-toks_of tokens = map (λ (token : Token). token.tok) tokens
 
 -- the parameters, the products that `<>` stands behind, the factors of the product that is being read, and how many
 -- names the body has so far

@@ -3,7 +3,7 @@
 ghost use Rattle.std.specs.Prelude.{◌≡◌, ◌+◌, ◌*◌, ◌<◌, ◌≤◌, ◌∷◌, [], ◌++◌, length, reverse, take, OnOk, IfOk};
 ghost use Rattle.std.specs.List.{AllByRecursion};
 ghost use Rattle.mct_circuit.specs.Gates.{AreDifferent, AreNarrow, flip_of};
-ghost use Rattle.revc.specs.Tape.{IsKnown, IsKnownEntry, bit_at, written_by};
+ghost use Rattle.revc.specs.Tape.{AreKnown, IsKnown, IsKnownEntry, bit_at, written_by};
 ghost use Rattle.revc.specs.Plan.{line_of, toggle_of, toggles_of, plain_gates, MapsCleanly};
 
 use crate::tape::{Entry, Ref, Tape};
@@ -25,14 +25,28 @@ pub fn plan(alloc: Global, tape: &Tape, output: Ref) -> Result<Circuit, Memory>
     ensures clean { IfOk result (λ circuit. MapsCleanly tape.now.inputs (length tape.now.entries) circuit.gates
         (λ input. bit_at input (written_by input [] tape.now.entries) output)) }
 {
+    let circuit = build(alloc, tape, output)?;
+    // This call says that the gates are on the circuit's lines.
+    let _ = circuit.lines();
+    Ok(circuit)
+}
+
+// The gates of the plan.
+fn build(alloc: Global, tape: &Tape, output: Ref) -> Result<Circuit, Memory>
+    requires known { IsKnown tape.now.inputs (length tape.now.entries) output }
+    requires few { tape.now.inputs ≤ 1024 }
+    ensures lines { IfOk result (λ circuit. circuit.lines ≡ tape.now.inputs + 1 + length tape.now.entries) }
+    ensures gates { IfOk result (λ circuit. circuit.gates ≡ plain_gates tape.now output) }
+    ensures few_gates { IfOk result (λ circuit. length circuit.gates ≤ 4000000) }
+    ensures narrow { IfOk result (λ circuit. AreNarrow circuit.gates) }
+    ensures known_writes { AreKnown tape.now.inputs 0 tape.now.entries }
+{
     let inputs = tape.inputs();
     let mut circuit = Circuit::new(alloc, inputs + 1 + tape.len(), MOST_GATES);
     toggle_all(&mut circuit, tape)?;
     let forward = circuit.len();
     push(&mut circuit, &[line_of(inputs, output)], inputs)?;
     mirror(&mut circuit, forward)?;
-    // This call says that the gates are on the circuit's lines.
-    let _ = circuit.lines();
     Ok(circuit)
 }
 

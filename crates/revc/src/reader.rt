@@ -2,8 +2,8 @@
 ghost use Rattle.std.specs.Prelude.{◌≡◌, ◌≤◌, length, position, bytes_eq, IfOk, IsErrOf};
 ghost use Rattle.revs_lexer.specs.declared.sign.Sign.TheVariants as signs;
 ghost use Rattle.revs_lexer.specs.declared.token.Tok.TheVariants as toks;
-ghost use Rattle.revc.specs.Program.{ProgramView, IsSentence};
-ghost use Rattle.revc.specs.Reading.{IsGood, IsStuck, Leads, at_close, at_factor, at_operator, at_param, body_of, reading_of, spelled, toks_of};
+ghost use Rattle.revc.specs.Program.{ProgramView, IsSentence, toks_of};
+ghost use Rattle.revc.specs.Reading.{IsGood, IsStuck, Leads, at_close, at_factor, at_operator, at_param, body_of, reading_of, spelled};
 
 use crate::program::{Product, Program};
 use revc_base::{Memory, Text};

@@ -10,6 +10,7 @@ use Rattle.revs_lexer.specs.declared.sign.Sign.TheVariants as signs
 use Rattle.revs_lexer.specs.declared.token.Tok.{Tok}
 use Rattle.revs_lexer.specs.declared.token.Tok.TheVariants as toks
 
+-- the words, and how each is spelled
 abbrev pub word_text : Word → List ℕ
 word_text words.Main = codes "main"
 word_text words.Let = codes "let"
@@ -27,6 +28,7 @@ word_text words.In = codes "in"
 word_text words.Do = codes "do"
 word_text words.Revs = codes "revs"
 
+-- the signs, and how each is spelled
 abbrev pub sign_text : Sign → List ℕ
 sign_text signs.OpenRound = codes "("
 sign_text signs.CloseRound = codes ")"
@@ -51,7 +53,7 @@ abbrev pub is_identifier : List ℕ → Bool
 is_identifier [] = false
 is_identifier (b ∷ bs) = is_letter b && list_all is_name_byte bs
 
--- Which bytes spell a token, however long they are.
+-- Which bytes spell a token, however long they are: an identifier is a word, or else a name, and digits are their value.
 abbrev pub Spells : List ℕ → Tok → Type 0
 Spells bytes (toks.Name name) = IsTrue (is_identifier bytes) × ((w : Word) → bytes ≢ word_text w) × (name ≡ bytes)
 Spells bytes (toks.Number n) = IsNumeral 10 bytes × (n ≡ digits_value 10 bytes)

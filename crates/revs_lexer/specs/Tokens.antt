@@ -31,6 +31,7 @@ IsLineEnd (b ∷ _) = IsTrue (is_line_feed b)
 -- What separates tokens and is dropped, with what may follow it.
 pub data IsGap : List ℕ → List ℕ → Type 0 where
   blank : {b : ℕ} {rest : List ℕ} → IsTrue (is_blank b) → IsGap (b ∷ []) rest
+  -- `//` and everything before the next line feed or the end of the text
   comment : {body rest : List ℕ} → IsTrue (list_all (λ b. not (is_line_feed b)) body) → IsLineEnd rest → IsGap (codes "//" ++ body) rest
 
 -- Neither a blank nor a comment stands at the front of the text.
@@ -45,25 +46,39 @@ HasNoToken text = (front rest : List ℕ) (tok : Tok) → text ≡ front ++ rest
 pub record IsLongest (text piece rest : List ℕ) (tok : Tok) : Type 0 where
   pub cut : text ≡ piece ++ rest
   pub spelled : Spells piece tok
-  pub longest : (front behind : List ℕ) (other : Tok) → text ≡ front ++ behind → Spells front other → length front ≤ length piece
+  pub longest : (front behind : List ℕ) (other : Tok)
+      → text ≡ front ++ behind → Spells front other → length front ≤ length piece
 
 -- Why a text that stands at a place is refused there.
 pub data Refuses : Place → List ℕ → LexFault → Type 0 where
   -- its first byte begins no blank or comment and no token
-  bad_byte : {at : Place} {b : ℕ} {bytes : List ℕ} → HasNoGap (b ∷ bytes) → HasNoToken (b ∷ bytes) → Refuses at (b ∷ bytes) (faults.BadByte at)
-  long_name : {at : Place} {text : List ℕ} (run rest : List ℕ) → IsLongest text run rest (toks.Name run) → 64 < length run → Refuses at text (faults.LongName at)
-  long_number : {at : Place} {text : List ℕ} (run rest : List ℕ) (n : ℕ) → IsLongest text run rest (toks.Number n) → 4 < length run → Refuses at text (faults.LongNumber at)
+  bad_byte : {at : Place} {b : ℕ} {bytes : List ℕ}
+      → HasNoGap (b ∷ bytes) → HasNoToken (b ∷ bytes) → Refuses at (b ∷ bytes) (faults.BadByte at)
+  -- its longest token is a name of more than 64 bytes
+  long_name : {at : Place} {text : List ℕ} (run rest : List ℕ)
+      → IsLongest text run rest (toks.Name run) → 64 < length run → Refuses at text (faults.LongName at)
+  -- its longest token is a number of more than 4 digits
+  long_number : {at : Place} {text : List ℕ} (run rest : List ℕ) (n : ℕ)
+      → IsLongest text run rest (toks.Number n) → 4 < length run → Refuses at text (faults.LongNumber at)
 
 -- Where the cutting of a text ends: at its end, or at the first refusal.
 pub data Stop : Type 0 where
   whole : Stop
   refused : LexFault → Stop
 
--- The text that stands at a place is cut into gaps and these tokens, and ends so.
+-- The text that stands at a place is cut from its front into gaps and these tokens, and ends so.
 pub data IsCut : Place → List ℕ → List Token → Stop → Type 0 where
+  -- nothing is left
   done : {at : Place} → IsCut at [] [] whole
-  gap : {at : Place} {text : List ℕ} {ts : List Token} {stop : Stop} (piece rest : List ℕ) → text ≡ piece ++ rest → IsGap piece rest → IsCut (place_after at piece) rest ts stop → IsCut at text ts stop
-  token : {at : Place} {text : List ℕ} {ts : List Token} {stop : Stop} (piece rest : List ℕ) (tok : Tok) → IsLongest text piece rest tok → IsWithinLimits piece tok → IsCut (place_after at piece) rest ts stop → IsCut at text (record { tok = tok; at = at } ∷ ts) stop
+  -- a gap is dropped
+  gap : {at : Place} {text : List ℕ} {ts : List Token} {stop : Stop} (piece rest : List ℕ)
+      → text ≡ piece ++ rest → IsGap piece rest
+      → IsCut (place_after at piece) rest ts stop → IsCut at text ts stop
+  -- the longest token is taken
+  token : {at : Place} {text : List ℕ} {ts : List Token} {stop : Stop} (piece rest : List ℕ) (tok : Tok)
+      → IsLongest text piece rest tok → IsWithinLimits piece tok
+      → IsCut (place_after at piece) rest ts stop → IsCut at text (record { tok = tok; at = at } ∷ ts) stop
+  -- what is left is refused
   refusal : {at : Place} {text : List ℕ} (fault : LexFault) → Refuses at text fault → IsCut at text [] (refused fault)
 
 -- These are the tokens of the text, without `End`.
@@ -87,4 +102,5 @@ IsEnded (t ∷ u ∷ ts) = (t.tok ≢ toks.End) × IsEnded (u ∷ ts)
 -- A text is cut in one way only, so it has one list of tokens or one first refusal, and not both.
 abbrev pub OneOutcome : Type 0
 OneOutcome =
-    (text : List ℕ) (ts us : List Token) (stop other : Stop) → IsCut start text ts stop → IsCut start text us other → (ts ≡ us) × (stop ≡ other)
+    (text : List ℕ) (ts us : List Token) (stop other : Stop)
+    → IsCut start text ts stop → IsCut start text us other → (ts ≡ us) × (stop ≡ other)

@@ -1,5 +1,6 @@
 use Rattle.std.proofs.Common.{◌≡◌, take}
-use Rattle.revc.specs.Reading.{IsGood, reading_of, spelled, toks_of}
+use Rattle.revc.specs.Reading.{IsGood, reading_of, spelled}
+use Rattle.revc.specs.Program.{toks_of}
 use Rattle.revc.proofs.reader.read_program.Given as goal
 
 -- the tokens so far are spelled at the state

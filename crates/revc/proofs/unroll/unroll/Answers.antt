@@ -19,6 +19,6 @@ loop-product-preserved c =
     IsSumming-xor c.product-item.result _ _ _ c.in_ok-factor.ensures.extends c.in_ok-factor.ensures.stands c.in_ok-sum-2.ensures.pushed c.in_ok-sum-2.ensures.ok some
     (drop_more (drop 1 products) c.loop-product.product-index [] here ∙ ap (λ p. p ∷ drop (c.loop-product.product-index + 1) (drop 1 products)) (sym item))
     (λ input.
-      fold_more (λ a product. xor a (product_of input product)) (product_of input (get_or products 0 [])) (drop 1 products) c.loop-product.product-index [] here
-      ∙ ap (λ p. xor (fold (λ a product. xor a (product_of input product)) (product_of input (get_or products 0 [])) (take c.loop-product.product-index (drop 1 products))) (product_of input p)) (sym item))
+    fold_more (λ a product. xor a (product_of input product)) (product_of input (get_or products 0 [])) (drop 1 products) c.loop-product.product-index [] here
+    ∙ ap (λ p. xor (fold (λ a product. xor a (product_of input product)) (product_of input (get_or products 0 [])) (take c.loop-product.product-index (drop 1 products))) (product_of input p)) (sym item))
     c.loop-product.invariant

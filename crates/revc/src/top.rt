@@ -1,0 +1,124 @@
+// The top call: all that the program does.
+ghost use Rattle.std.specs.Prelude.{◌≡◌, ◌≢◌, ◌↔◌, ◌≤◌, ◌⊎◌, length, map, string_bytes, IsTrue, IfSome, IfOk, OnOk, OnErr, IsErrOf, ◌<◌};
+ghost use Rattle.std.specs.Io.KnownBytes.{IsAtEnd, Keeps};
+ghost use Rattle.revc_io.specs.Faults.{Rose, HasCause};
+ghost use Rattle.revc.specs.Clean.{IsNoSmallText};
+ghost use Rattle.revc.specs.Top.{IsOrder, Compiles, BeginsToCompile, IsStatus, status_of, message_of, Receives};
+
+use crate::compile::compile;
+use crate::fault::Fault;
+use real_format::write;
+use revc_io::{ReadFault, Sink, Source, put_all, read_up_to};
+use std::alloc::Global;
+
+/// The most bytes of a program text.
+const MOST_BYTES: usize = 1_048_576;
+
+/// Does what the words of the command line say, without the program's own name, and answers the status.
+/// `compile` reads a program from the source and writes the file of its clean circuit.
+pub fn revc<S: Source, K: Sink, E: Sink>(
+    alloc: Global,
+    words: &[String],
+    source: &mut S,
+    out: &mut K,
+    err: &mut E,
+) -> u8
+    // The headline: what was written is a clean file for the one program of the text.
+    ensures compiles { result ≡ 0 → IfSome (S.rest source.old) (λ text. Compiles text (K.held out.old) (K.held out.new)) }
+
+    // Each other status has its cause, and there is no other.
+    ensures statuses { IsStatus result }
+    ensures usage { (result ≡ 2) ↔ ¬ IsOrder (map string_bytes words.now) }
+    ensures refused { result ≡ 3 → IfSome (S.rest source.old) IsNoSmallText }
+    ensures read_fault { result ≡ 9 → Rose (S.faults source.old) (S.faults source.new) }
+    ensures write_fault { result ≡ 10 → Rose (K.faults out.old) (K.faults out.new) }
+
+    // What is read and written.
+    ensures untouched { result ≡ 2 → source.new ≡ source.old }
+    ensures read_whole { (result ≡ 0) ⊎ (result ≡ 10) → IsAtEnd (S.rest source.new) }
+    ensures read_refused { result ≡ 3 → IfSome (S.rest source.old) (λ text. length text ≤ 1048576 → IsAtEnd (S.rest source.new)) }
+    ensures begins { result ≡ 10 → IfSome (S.rest source.old) (λ text. BeginsToCompile text (K.held out.old) (K.held out.new)) }
+    ensures silent { result ≢ 0 → result ≢ 10 → out.new ≡ out.old }
+    ensures quiet { result ≡ 0 → err.new ≡ err.old }
+    ensures message { result ≢ 0 → Receives (E.held err.old) (E.held err.new) (E.faults err.old) (E.faults err.new) (message_of result) }
+{
+    match run(alloc, words, source, out) {
+        Ok(()) => 0,
+        Err(fault) => {
+            // A fault of standard error changes nothing.
+            let _ = put_all(err, fault.line());
+            fault.status()
+        }
+    }
+}
+
+fn run<S: Source, K: Sink>(
+    alloc: Global,
+    words: &[String],
+    source: &mut S,
+    out: &mut K,
+) -> Result<(), Fault>
+    ensures compiles { OnOk result (IfSome (S.rest source.old) (λ text. Compiles text (K.held out.old) (K.held out.new))) }
+    ensures usage { IsErrOf result Fault.Usage ↔ ¬ IsOrder (map string_bytes words.now) }
+    ensures refused { IsErrOf result Fault.Refused → IfSome (S.rest source.old) IsNoSmallText }
+    ensures read_fault { IsErrOf result Fault.Read → Rose (S.faults source.old) (S.faults source.new) }
+    ensures write_fault { IsErrOf result Fault.Write → Rose (K.faults out.old) (K.faults out.new) }
+    ensures untouched { IsErrOf result Fault.Usage → source.new ≡ source.old }
+    ensures read_whole { OnOk result (IsAtEnd (S.rest source.new)) }
+    ensures read_whole_at_write { IsErrOf result Fault.Write → IsAtEnd (S.rest source.new) }
+    ensures read_refused { IsErrOf result Fault.Refused → IfSome (S.rest source.old) (λ text. length text ≤ 1048576 → IsAtEnd (S.rest source.new)) }
+    ensures begins { IsErrOf result Fault.Write → IfSome (S.rest source.old) (λ text. BeginsToCompile text (K.held out.old) (K.held out.new)) }
+    ensures silent { OnErr result ((IsErrOf result Fault.Write → ⊥) → out.new ≡ out.old) }
+{
+    if !is_order(words) {
+        return Err(Fault::Usage);
+    }
+    let text = read(alloc, source)?;
+    translate(alloc, &text, out)
+}
+
+// Whether the words give the one order that there is.
+fn is_order(words: &[String]) -> bool
+    ensures { IsTrue result ↔ IsOrder (map string_bytes words.now) }
+{
+    match words {
+        [word] => word.as_str() == "compile",
+        _ => false,
+    }
+}
+
+// Reads the whole text of a program.
+fn read<S: Source>(alloc: Global, source: &mut S) -> Result<Vec<u8>, Fault>
+    ensures text { IfOk result (λ text. IfSome (S.rest source.old) (λ rest. text.items ≡ rest)) }
+    ensures fits { IfOk result (λ text. length text.items ≤ 1048576) }
+    ensures read_whole { OnOk result (IsAtEnd (S.rest source.new)) }
+    ensures refused { IsErrOf result Fault.Refused → IfSome (S.rest source.old) (λ rest. 1048576 < length rest) }
+    ensures read_fault { IsErrOf result Fault.Read → Rose (S.faults source.old) (S.faults source.new) }
+    ensures no_usage { IsErrOf result Fault.Usage → ⊥ }
+    ensures no_write { IsErrOf result Fault.Write → ⊥ }
+{
+    match read_up_to(alloc, source, MOST_BYTES) {
+        Ok(text) => Ok(text),
+        Err(ReadFault::Failed) => Err(Fault::Read),
+        Err(ReadFault::TooLong) => Err(Fault::Refused),
+        Err(ReadFault::Memory) => Err(Fault::Memory),
+    }
+}
+
+// Writes the file of the clean circuit of a text's program.
+fn translate<K: Sink>(alloc: Global, text: &[u8], out: &mut K) -> Result<(), Fault>
+    requires { length text.now ≤ 1048576 }
+    ensures compiles { OnOk result (Compiles text.now (K.held out.old) (K.held out.new)) }
+    ensures refused { IsErrOf result Fault.Refused → IsNoSmallText text.now }
+    ensures write_fault { IsErrOf result Fault.Write → Rose (K.faults out.old) (K.faults out.new) }
+    ensures begins { IsErrOf result Fault.Write → BeginsToCompile text.now (K.held out.old) (K.held out.new) }
+    ensures silent { OnErr result ((IsErrOf result Fault.Write → ⊥) → out.new ≡ out.old) }
+    ensures no_usage { IsErrOf result Fault.Usage → ⊥ }
+    ensures no_read { IsErrOf result Fault.Read → ⊥ }
+{
+    let compiled = compile(alloc, text)?;
+    match write(&compiled.circuit, compiled.roles, out) {
+        Ok(()) => Ok(()),
+        Err(_) => Err(Fault::Write),
+    }
+}
