@@ -8,6 +8,8 @@ mod plan;
 mod program;
 mod reader;
 mod tape;
+#[cfg(test)]
+mod tests;
 mod top;
 mod unroll;
 
