@@ -1,0 +1,12 @@
+use Rattle.decision_diagram.proofs.Values.{function-agree}
+use Rattle.decision_diagram.proofs.Distinct.{distinct_functions}
+use Rattle.decision_diagram.proofs.Restrictions.{inner_varies, holds_all}
+use Rattle.decision_diagram.proofs.diagram.canonical.Goals as goal
+
+pub returns : goal.returns
+returns c = record {
+  distinct = λ d canonical m n known_m known_n same. distinct_functions d.vars d.nodes canonical.ordered m n known_m known_n same;
+  inner = λ d canonical n inner known. inner_varies d.vars d.nodes canonical.ordered n inner known;
+  asks = λ d canonical n known a b agree. function-agree d.vars d.nodes canonical.ordered n known a b (λ i from below. agree i below);
+  held = λ d canonical n known. holds_all d.vars d.nodes canonical.ordered n known;
+}

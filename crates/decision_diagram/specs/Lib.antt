@@ -1,0 +1,4 @@
+pub mod Functions
+pub mod Diagrams
+pub mod Growth
+pub mod Steps

@@ -1,0 +1,16 @@
+//! Canonical decision diagrams with an exact limit on their inner nodes.
+//!
+//! A diagram stands for functions of Boolean variables under one order of these variables. Each function has
+//! one number, so two functions are equal exactly where their numbers are: the reduced ordered binary decision
+//! diagrams of R. E. Bryant, "Graph-Based Algorithms for Boolean Function Manipulation", IEEE Transactions on
+//! Computers C-35(8), 1986. This body keeps the nodes in a plain vector and searches it from the start.
+#![tactic(auto)]
+
+mod diagram;
+mod node;
+
+pub use diagram::{Diagram, canonical};
+pub use node::{Dd, DdFault};
+
+#[cfg(test)]
+mod tests;
