@@ -5,3 +5,4 @@ pub mod ReadingCases
 pub mod TapeSteps
 pub mod PlanSteps
 pub mod Compiling
+pub mod Statuses

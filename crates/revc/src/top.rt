@@ -2,7 +2,8 @@
 ghost use Rattle.std.specs.Prelude.{◌≡◌, ◌≢◌, ◌↔◌, ◌≤◌, ◌⊎◌, length, map, string_bytes, IsTrue, IfSome, IfOk, OnOk, OnErr, IsErrOf, ◌<◌};
 ghost use Rattle.std.specs.Io.KnownBytes.{IsAtEnd, Keeps};
 ghost use Rattle.revc_io.specs.Faults.{Rose, HasCause};
-ghost use Rattle.revc.specs.Clean.{IsNoSmallText};
+ghost use Rattle.revc.specs.Clean.{IsNoSmallText, IsSmallText};
+ghost use Rattle.revc.specs.Program.{ProgramView};
 ghost use Rattle.revc.specs.Top.{IsOrder, Compiles, BeginsToCompile, IsStatus, status_of, message_of, Receives};
 
 use crate::compile::compile;
@@ -32,6 +33,11 @@ pub fn revc<S: Source, K: Sink, E: Sink>(
     ensures refused { result ≡ 3 → IfSome (S.rest source.old) IsNoSmallText }
     ensures read_fault { result ≡ 9 → Rose (S.faults source.old) (S.faults source.new) }
     ensures write_fault { result ≡ 10 → Rose (K.faults out.old) (K.faults out.new) }
+
+    // So it answers 0 or 11 wherever no cause holds, and never 0 or 10 where the text has no program.
+    ensures completes { IsOrder (map string_bytes words.now) → ¬ Rose (S.faults source.old) (S.faults source.new) → ¬ Rose (K.faults out.old) (K.faults out.new)
+        → IfSome (S.rest source.old) (λ text. (p : ProgramView) → IsSmallText text p → (result ≡ 0) ⊎ (result ≡ 11)) }
+    ensures refuses { IfSome (S.rest source.old) (λ text. IsNoSmallText text → (result ≢ 0) × (result ≢ 10)) }
 
     // What is read and written.
     ensures untouched { result ≡ 2 → source.new ≡ source.old }
