@@ -2,7 +2,7 @@
 ghost use Rattle.std.specs.Prelude.{◌≡◌, ◌+◌, ◌<◌, ◌≤◌, ◌↔◌, ◌++◌, ◌∷◌, [], length, reverse, take, slice_get, Some, OnOk, OnErr, IfOk, IsErrOf, IsTrue, false, ◌==◌};
 ghost use Rattle.std.specs.List.{AllByRecursion};
 ghost use Rattle.mct_circuit.specs.declared.circuit.GateFault.TheVariants.{Memory};
-ghost use Rattle.mct_circuit.specs.Gates.{AreGatesOn, AreNarrow, AreDifferent, lines_of, flip_of};
+ghost use Rattle.mct_circuit.specs.Gates.{AreGatesOn, AreNarrow, AreDifferent, lines_of, flip_of, line_map};
 
 use crate::Gate;
 use std::alloc::{AllocError, AllocFailed, Global};
@@ -120,6 +120,16 @@ impl Circuit {
         let mut mirrored = reversed_copies(alloc, &self.gates[..count as usize])?;
         self.gates.append(&mut mirrored)?;
         Ok(())
+    }
+
+    /// Changes the bits of the lines as the gates do, one gate after another. It takes no memory.
+    pub fn apply(&self, lines: &mut [bool])
+        requires { length lines.old ≡ self.now.lines }
+        ensures { lines.new ≡ line_map self.now.gates lines.old }
+    {
+        for gate in &self.gates {
+            gate.apply(lines);
+        }
     }
 
     /// The number of lines. It takes no memory.

@@ -1,6 +1,7 @@
 // The gates: a flip of one line or a swap of two, under positive and negative controls.
-ghost use Rattle.std.specs.Prelude.{◌≡◌, ◌∷◌, [], ◌++◌, map, IfOk};
-ghost use Rattle.mct_circuit.specs.Gates.{AreDifferent, HasDifferentLines, flip_of, positive};
+ghost use Rattle.std.specs.Prelude.{◌≡◌, ◌<◌, ◌∷◌, [], ◌++◌, length, map, IfOk};
+ghost use Rattle.std.specs.List.{AllByRecursion, list_all};
+ghost use Rattle.mct_circuit.specs.Gates.{AreDifferent, HasDifferentLines, flip_of, positive, lines_of, is_met, after_gate};
 
 use revc_base::Memory;
 use std::alloc::{AllocError, Global};
@@ -74,6 +75,20 @@ impl Gate {
         self.op
     }
 
+    /// Changes the bits of the lines as the gate does, line 0 first. It takes no memory.
+    pub fn apply(&self, lines: &mut [bool])
+        requires { AllByRecursion (λ line. line < length lines.old) (lines_of self.now) }
+        ensures { lines.new ≡ after_gate self.now lines.old }
+    {
+        if !are_met(&self.controls, lines) {
+            return;
+        }
+        match self.op {
+            Op::Flip(target) => lines[target as usize] = !lines[target as usize],
+            Op::Swap(first, second) => lines.swap(first as usize, second as usize),
+        }
+    }
+
     /// The same gate once more, on the allocator of this one.
     pub fn copy(&self) -> Result<Gate, Memory>
         ensures { IfOk result (λ gate. gate ≡ self.now) }
@@ -85,6 +100,18 @@ impl Gate {
             op: self.op,
         })
     }
+}
+
+fn are_met(controls: &[Control], lines: &[bool]) -> bool
+    requires { AllByRecursion (λ control. control.line < length lines.now) controls.now }
+    ensures { result ≡ list_all (is_met lines.now) controls.now }
+{
+    for control in controls {
+        if lines[control.line as usize] != control.positive {
+            return false;
+        }
+    }
+    true
 }
 
 fn positive_controls(alloc: Global, lines: &[u32]) -> Result<Vec<Control>, AllocError>
