@@ -1,2 +1,4 @@
 pub mod Applying
+pub mod Depths
 pub mod Undoing
+pub mod Weights

@@ -2,9 +2,11 @@
 ghost use Rattle.std.specs.Prelude.{◌≡◌, ◌+◌, ◌<◌, ◌≤◌, ◌↔◌, ◌++◌, ◌∷◌, [], length, reverse, take, slice_get, Some, OnOk, OnErr, IfOk, IsErrOf, IsTrue, false, ◌==◌};
 ghost use Rattle.std.specs.List.{AllByRecursion};
 ghost use Rattle.mct_circuit.specs.declared.circuit.GateFault.TheVariants.{Memory};
+ghost use Rattle.mct_circuit.specs.Sizes.{depth_of};
 ghost use Rattle.mct_circuit.specs.Gates.{AreGatesOn, AreNarrow, AreDifferent, lines_of, flip_of, line_map};
 
 use crate::Gate;
+use crate::depth::{greatest_on, set_all};
 use std::alloc::{AllocError, AllocFailed, Global};
 use std::marker::Model;
 
@@ -132,6 +134,23 @@ impl Circuit {
         }
     }
 
+    /// The depth: a gate's depth is one more than the greatest depth of an earlier gate that shares a line
+    /// with it, and the circuit's is the greatest of them, or 0. It takes time and memory linear in the gates
+    /// and lines.
+    pub fn depth(&self) -> Result<u64, revc_base::Memory>
+        ensures { IfOk result (λ depth. depth ≡ depth_of self.now.gates) }
+    {
+        // For each line the greatest depth of a gate on it so far.
+        let mut depths = vec![in *self.gates.allocator(); 0; self.lines as usize]?;
+        let mut greatest = 0;
+        for gate in &self.gates {
+            let depth = 1 + greatest_on(gate, &depths);
+            set_all(gate, &mut depths, depth);
+            greatest = depth.max(greatest);
+        }
+        Ok(greatest)
+    }
+
     /// The number of lines. It takes no memory.
     pub fn lines(&self) -> u32
         ensures lines { result ≡ self.now.lines }
@@ -161,6 +180,14 @@ impl Circuit {
         ensures room { result ≡ false → length self.now.gates < self.now.limit }
     {
         self.len() == self.limit
+    }
+
+    /// The gates, in order. It takes no memory.
+    pub fn gates(&self) -> &[Gate]
+        ensures gates { result.now ≡ self.now.gates }
+        ensures placed { AreGatesOn self.now.lines self.now.gates }
+    {
+        &self.gates
     }
 
     /// The gate at place `i`, counted from 0. It takes no memory.

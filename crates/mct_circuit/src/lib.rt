@@ -2,12 +2,15 @@
 #![tactic(auto)]
 
 mod circuit;
+mod depth;
 mod gate;
 mod law;
+mod size;
 
 pub use circuit::{Circuit, GateFault};
 pub use gate::{Control, Gate, Op};
 pub use law::reversal;
+pub use size::Counts;
 
 #[cfg(test)]
 mod tests;

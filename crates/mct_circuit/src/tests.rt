@@ -71,3 +71,50 @@ fn gates_change_bits(rt: HostRuntime) -> Result<(), Fail> {
     }
     Ok(())
 }
+
+// A circuit of 4 lines that has each kind of gate: by hand, lines 0 and 1 reach depth 3 by their gates 1, 3
+// and 4, and the wide flip of line 3 comes after them. The swap weighs as a CCX
+// between two X, and two CX; the wide flip as 4 CCX between two X.
+#[test]
+fn sizes_are_counted(rt: HostRuntime) -> Result<(), Fail> {
+    let alloc = rt.alloc();
+    let mut circuit = Circuit::new(alloc, 4, 5);
+    circuit.push_flip(&[], 0)?;
+    circuit.push_flip(&[3], 2)?;
+    circuit.push_flip(&[0, 2], 1)?;
+    let controls = vec![in alloc;
+        Control {
+            line: 2,
+            positive: false
+        },
+    ]?;
+    circuit.push(Gate::new(controls, Op::Swap(0, 1)))?;
+    let controls = vec![in alloc;
+        Control {
+            line: 0,
+            positive: false
+        },
+        Control {
+            line: 1,
+            positive: true
+        },
+        Control {
+            line: 2,
+            positive: true
+        },
+    ]?;
+    circuit.push(Gate::new(controls, Op::Flip(3)))?;
+    let counts = Counts {
+        x: 1,
+        cx: 1,
+        ccx: 1,
+        wide: 1,
+        swap: 1,
+    };
+    assert_eq!(rt; circuit.counts(), counts);
+    assert_eq!(rt; circuit.depth()?, 4);
+    for (gate, weight) in circuit.gates().iter().zip([1, 1, 1, 5, 6]) {
+        assert_eq!(rt; gate.weight(), weight);
+    }
+    Ok(())
+}

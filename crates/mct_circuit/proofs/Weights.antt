@@ -1,0 +1,58 @@
+-- A gate has at most as many controls as there are lines.
+use Rattle.std.proofs.Common.{◌≡◌, ◌≢◌, ℕ, ◌<◌, ◌≤◌, ◌^◌, ◌+◌, Bool, eqb, true, false, ◌||◌, List, [], ◌∷◌, ◌++◌, length, get_or, take, map, arith, sym, refl, subst, inl, inr}
+use mir.Val.{bool_byte}
+use Rattle.std.specs.List.{AllByRecursion, list_any, IsDistinct, count_by}
+use Rattle.std.proofs.lemmas.List.{length-map, take_more}
+use Rattle.std.proofs.lemmas.List.Sums.{count_by_more_yes, count_by_more_no}
+use Rattle.std.proofs.lemmas.Bool.{ne_eqb}
+use Rattle.std.proofs.lemmas.Bool.Decides.{eqb_tells}
+use Rattle.std.proofs.lemmas.Map.Steps.{length-le_from_distinct_below}
+use Rattle.mct_circuit.specs.declared.gate.Control.{Control}
+use Rattle.mct_circuit.specs.Gates.{GateView, AreDifferent, HasDifferentLines, targets_of}
+use Rattle.mct_circuit.proofs.Undoing.{AllByRecursion-append, AllByRecursion-left}
+
+unequal : (x : ℕ) (ys : List ℕ) → AllByRecursion (λ y. x ≢ y) ys → AllByRecursion (λ y. eqb x y ≡ false) ys
+unequal x [] d = tt
+unequal x (y ∷ ys) d = (ne_eqb x y d.0, unequal x ys d.1)
+
+distinct : (xs : List ℕ) → AreDifferent xs → IsDistinct eqb xs
+unfolding IsDistinct
+distinct [] d = tt
+distinct (x ∷ xs) d = (unequal x xs d.0, distinct xs d.1)
+
+pub AreDifferent-left : (xs ys : List ℕ) → AreDifferent (xs ++ ys) → AreDifferent xs
+AreDifferent-left [] ys d = tt
+AreDifferent-left (x ∷ xs) ys d = (AllByRecursion-left (λ y. x ≢ y) xs ys d.0, AreDifferent-left xs ys d.1)
+
+or_cases : (a b : Bool) → (a || b) ≡ true → a ≡ false → b ≡ true
+or_cases true b e n = absurd (cc)
+or_cases false b e n = e
+
+member_below : (n : ℕ) (xs : List ℕ) → AllByRecursion (λ x. x < n) xs → (q : ℕ) → list_any (eqb q) xs ≡ true → q < n
+member_below n [] b q e = absurd (cc)
+member_below n (x ∷ xs) b q e =
+    elim (eqb_tells q x) [ inl s ↦ subst (λ k. k < n) (sym s.1) b.0 | inr s ↦ member_below n xs b.1 q (or_cases (eqb q x) (list_any (eqb q) xs) e s.0) ]
+
+AllByRecursion-lines : (n : ℕ) (controls : List Control) → AllByRecursion (λ (control : Control). control.line < n) controls → AllByRecursion (λ line. line < n) (map (λ (control : Control). control.line) controls)
+AllByRecursion-lines n [] p = tt
+AllByRecursion-lines n (x ∷ xs) p = (p.0, AllByRecursion-lines n xs p.1)
+
+pub few_controls : (gate : GateView) → HasDifferentLines gate → AllByRecursion (λ (control : Control). control.line < 2 ^ 32) gate.controls → length gate.controls ≤ 2 ^ 32
+few_controls gate d b =
+    let lines = map (λ (control : Control). control.line) gate.controls in
+    let few : length lines ≤ 2 ^ 32 = length-le_from_distinct_below lines (2 ^ 32) (distinct lines (AreDifferent-left lines (targets_of gate.op) d)) (member_below (2 ^ 32) lines (AllByRecursion-lines (2 ^ 32) gate.controls b)) in
+    rw (length-map gate.controls (λ (control : Control). control.line)) at few
+
+pub AllByRecursion_more : {X : Type 0} (P : X → Type 0) (xs : List X) (i : ℕ) (d : X) → i < length xs → P (get_or xs i d) → AllByRecursion P (take i xs) → AllByRecursion P (take (i + 1) xs)
+AllByRecursion_more P xs i d h p all = rw (take_more xs i d h) (AllByRecursion-append P (take i xs) (get_or xs i d ∷ []) all (p, tt))
+
+counted_by : {X : Type 0} (p : X → Bool) (xs : List X) (i : ℕ) (d : X) (b : Bool) → i < length xs → p (get_or xs i d) ≡ b → count_by p (take i xs) + bool_byte b ≡ count_by p (take (i + 1) xs)
+counted_by p xs i d true h e = sym (count_by_more_yes p xs i d h e)
+counted_by p xs i d false h e = let same = count_by_more_no p xs i d h e in omega arith
+
+pub counted : {X : Type 0} (p : X → Bool) (xs : List X) (i : ℕ) (d : X) (n : ℕ) → i < length xs → n ≡ count_by p (take i xs) → n + bool_byte (p (get_or xs i d)) ≡ count_by p (take (i + 1) xs)
+counted p xs i d n h e = rw e (counted_by p xs i d (p (get_or xs i d)) h refl)
+
+pub at_most_one : (b : Bool) → bool_byte b ≤ 1
+at_most_one true = omega arith
+at_most_one false = omega arith

@@ -1,0 +1,73 @@
+-- The weights of gates, and the counts and the depth of a list of gates.
+use Rattle.std.specs.Prelude.{ℕ, ◌+◌, ◌-◌, ◌*◌, Bool, true, false, not, ◌&&◌, ◌==◌, nat_le, slice_index, max, if◌then◌else◌, List, [], ◌∷◌, length, reverse, count_by}
+use Rattle.std.specs.List.{list_any}
+use Rattle.mct_circuit.specs.declared.gate.Control.{Control}
+use Rattle.mct_circuit.specs.declared.gate.Op.{Op}
+use Rattle.mct_circuit.specs.declared.gate.Op.TheVariants.{Flip, Swap}
+use Rattle.mct_circuit.specs.declared.size.Counts.{Counts}
+use Rattle.mct_circuit.specs.Gates.{GateView, lines_of}
+
+-- ---- weights
+
+-- how many flips under at most two positive controls stand for a flip under n positive ones
+abbrev pub flip_weight : ℕ → ℕ
+flip_weight n = if nat_le n 2 then 1 else 4 * (n - 2)
+
+-- a swap is three flips, of which one has a control more
+abbrev pub op_weight : Op → ℕ → ℕ
+op_weight (Flip target) n = flip_weight n
+op_weight (Swap first second) n = 2 + flip_weight (n + 1)
+
+abbrev pub negative_controls : List Control → ℕ
+negative_controls controls = count_by (λ (control : Control). not control.positive) controls
+
+-- a negative control is a positive one between two flips of its line
+abbrev pub weight_of : GateView → ℕ
+weight_of gate = op_weight gate.op (length gate.controls) + 2 * negative_controls gate.controls
+
+-- ---- counts
+
+abbrev pub is_swap : Op → Bool
+is_swap (Flip target) = false
+is_swap (Swap first second) = true
+
+abbrev pub is_flip_under : ℕ → GateView → Bool
+is_flip_under n gate = not (is_swap gate.op) && (length gate.controls == n)
+
+abbrev pub is_wide_flip : GateView → Bool
+is_wide_flip gate = not (is_swap gate.op) && nat_le 3 (length gate.controls)
+
+abbrev pub counts_of : List GateView → Counts
+counts_of gates = record {
+  x = count_by (is_flip_under 0) gates;
+  cx = count_by (is_flip_under 1) gates;
+  ccx = count_by (is_flip_under 2) gates;
+  wide = count_by is_wide_flip gates;
+  swap = count_by (λ (gate : GateView). is_swap gate.op) gates;
+}
+
+-- ---- depth, over gates whose latest comes first
+
+abbrev pub has_line : ℕ → List ℕ → Bool
+has_line line lines = list_any (λ other. line == other) lines
+
+abbrev pub share_a_line : List ℕ → List ℕ → Bool
+share_a_line these those = list_any (λ line. has_line line those) these
+
+-- the greatest depth of a gate on one of the lines, or 0; a gate's own depth is one more than that of the earlier gates on its lines
+abbrev pub depth_on : List ℕ → List GateView → ℕ
+depth_on lines [] = 0
+depth_on lines (gate ∷ earlier) = max (if share_a_line lines (lines_of gate) then 1 + depth_on (lines_of gate) earlier else 0) (depth_on lines earlier)
+
+abbrev pub greatest_depth : List GateView → ℕ
+greatest_depth [] = 0
+greatest_depth (gate ∷ earlier) = max (1 + depth_on (lines_of gate) earlier) (greatest_depth earlier)
+
+-- the greatest depth of a gate, or 0
+abbrev pub depth_of : List GateView → ℕ
+depth_of gates = greatest_depth (reverse gates)
+
+-- the greatest number at one of the lines, or 0
+abbrev pub greatest_at : List ℕ → List ℕ → ℕ
+greatest_at numbers [] = 0
+greatest_at numbers (line ∷ lines) = max (slice_index numbers line) (greatest_at numbers lines)
