@@ -1,0 +1,2 @@
+pub mod OutLines
+pub mod FreeLines
