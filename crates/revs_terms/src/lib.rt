@@ -1,0 +1,14 @@
+//! The terms of a program: what the parser makes of a sentence, with the places in the text.
+//!
+//! A chain of one operator, of arguments or of parts is one term with a vector, so a term is no deeper than its
+//! brackets nest, and can be dropped and walked at any length.
+#![tactic(auto)]
+
+mod program;
+mod term;
+
+pub use program::{Param, Program};
+pub use term::{Item, Lambda, Name, Part, Term};
+
+#[cfg(test)]
+mod tests;

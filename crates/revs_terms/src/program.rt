@@ -1,0 +1,25 @@
+// Programs, as the grammar gives them.
+ghost use Rattle.revs_terms.specs.Programs.{AreParams, IsBody, HasFewNames};
+
+use crate::{Name, Term};
+
+/// A parameter of a program: a bit, or a register of `width` bits.
+#[derive(Debug, Drop)]
+pub struct Param {
+    pub name: Name,
+    pub width: Option<u32>,
+}
+
+/// A program: its parameters and its body.
+///
+/// It keeps what a sentence within limits gives: widths of at least 1 that add up to at most 1,024, a body of well-formed
+/// terms with at most 100 levels, and fewer than 2^32 names.
+#[derive(Debug, Drop)]
+pub struct Program {
+    pub params: Vec<Param>,
+    pub body: Term,
+
+    ghost inputs: { AreParams params.items },
+    ghost formed: { IsBody body },
+    ghost few_names: { HasFewNames params.items body },
+}
