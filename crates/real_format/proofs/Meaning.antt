@@ -1,20 +1,19 @@
 -- The text of a compiled circuit means its file.
-use Rattle.std.proofs.Common.{◌≡◌, ◌≢◌, ℕ, zero, suc, ◌+◌, ◌<◌, ◌≤◌, ◌^◌, Bool, true, false, List, [], ◌∷◌, ◌++◌, length, map, replicate, refl, sym, ap, ◌∙◌, subst, arith, Some, slice_get, codes}
-use Rattle.std.specs.List.{AllByRecursion, AllZip, AllPairs, list_all, range_with_len}
+use Rattle.std.proofs.Common.{◌≡◌, ℕ, ◌+◌, ◌<◌, ◌≤◌, Bool, true, false, List, [], ◌∷◌, ◌++◌, length, map, replicate, refl, sym, ap, ◌∙◌, subst, arith, Some, slice_get}
+use Rattle.std.specs.List.{AllByRecursion, AllZip, list_all}
 use Rattle.std.specs.Fmt.{decimal}
 use Rattle.std.proofs.lemmas.Fmt.{decimal_is_IsNumeral, length-decimal-le}
 use Rattle.std.proofs.lemmas.List.{length-map, length-append, length-replicate}
-use Rattle.std.proofs.lemmas.List.Folds.{list_all-append}
-use Rattle.mct_circuit.specs.Gates.{GateView, lines_of, flip_of, IsGateOn, AreGatesOn, IsNarrow, AreNarrow, AreDifferent}
+use Rattle.mct_circuit.specs.Gates.{GateView, lines_of, IsGateOn, AreGatesOn, IsNarrow, AreNarrow, AreDifferent}
 use Rattle.mct_circuit.proofs.Undoing.{lines_of-flip_of}
 use Rattle.real_format.specs.Words.{is_word_byte}
 use Rattle.real_format.specs.declared.file.Mark.{Mark}
 use Rattle.real_format.specs.declared.file.Mark.TheVariants.{Free, Zero, One}
 use Rattle.real_format.specs.declared.roles.Roles.{Roles}
-use Rattle.real_format.specs.Real.{RealView, RealMeaning, IsName, IsNumber, ReadsFlip, constant_byte, garbage_byte}
-use Rattle.real_format.specs.Compiled.{lines_in, name_of_line, names_of, constants_of, header_lines, gate_words, compiled_lines, compiled_text, HasRoles, MeansCompiled, CompiledHasMeaning}
-use Rattle.real_format.proofs.Reading.{IsWord, words_of_lines, true-and}
-use Rattle.real_format.proofs.Naming.{IsWord-from_name, IsWord-decimal, IsName-name_of_line, AllByRecursion-range, length-names_of, names_are_different, names_are_names, name_at}
+use Rattle.real_format.specs.Real.{RealView, RealMeaning, IsName, ReadsFlip, constant_byte, garbage_byte}
+use Rattle.real_format.specs.Compiled.{lines_in, name_of_line, names_of, constants_of, header_lines, gate_words, compiled_lines, compiled_text, CompiledHasMeaning}
+use Rattle.real_format.proofs.Reading.{IsWord, words_of_lines}
+use Rattle.real_format.proofs.Naming.{IsWord-from_name, IsWord-decimal, IsName-name_of_line, length-names_of, names_are_different, names_are_names, name_at}
 
 AllByRecursion-append : {X : Type 0} (P : X → Type 0) (xs ys : List X) → AllByRecursion P xs → AllByRecursion P ys → AllByRecursion P (xs ++ ys)
 AllByRecursion-append P [] ys p q = q

@@ -1,6 +1,6 @@
 -- The names of a compiled circuit's lines.
-use Rattle.std.proofs.Common.{◌≡◌, ◌≢◌, ℕ, zero, suc, ◌+◌, ◌-◌, ◌<◌, ◌≤◌, ◌^◌, ◌%◌, ltb, eqb, Bool, true, false, not, cond, List, [], ◌∷◌, ◌++◌, length, get_or, map, refl, sym, ap, ◌∙◌, subst, arith, inl, inr, ◌⊎◌, Some, slice_get, add-suc}
-use Rattle.std.specs.List.{AllByRecursion, AllZip, AllPairs, list_all, range_with_len}
+use Rattle.std.proofs.Common.{◌≡◌, ◌≢◌, ℕ, zero, suc, ◌+◌, ◌-◌, ◌<◌, ◌≤◌, ◌^◌, ◌%◌, ltb, eqb, true, false, cond, List, [], ◌∷◌, length, map, refl, sym, ap, ◌∙◌, arith, inl, inr, Some, slice_get}
+use Rattle.std.specs.List.{AllByRecursion, AllPairs, list_all, range_with_len}
 use Rattle.std.specs.Fmt.{decimal}
 use Rattle.std.proofs.lemmas.Fmt.{decimal_by_steps, decimal_injective, decimal_nonempty, length-decimal-le}
 use Rattle.std.proofs.lemmas.List.FromFn.{get_or-map-range_with_len, length-map-range_with_len}
@@ -8,7 +8,7 @@ use Rattle.std.proofs.lemmas.List.Folds.{list_all-append}
 use Rattle.std.proofs.lemmas.Bool.{cases_lt, lt-ltb, ne_eqb}
 use Rattle.std.proofs.lemmas.Bool.Decides.{nat_tests}
 use Rattle.real_format.specs.Words.{is_word_byte}
-use Rattle.real_format.specs.Real.{IsName, IsBarred}
+use Rattle.real_format.specs.Real.{IsName}
 use Rattle.real_format.specs.declared.roles.Roles.{Roles}
 use Rattle.real_format.specs.Compiled.{lines_in, name_of_line, names_of}
 use Rattle.real_format.proofs.Reading.{true-and, IsWord}

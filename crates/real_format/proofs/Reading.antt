@@ -1,8 +1,8 @@
 -- The words of a text that was made of lines of words.
-use Rattle.std.proofs.Common.{◌≡◌, ◌≢◌, ℕ, ◌<◌, ◌==◌, eqb, Bool, true, false, not, ◌||◌, ◌&&◌, cond, List, [], ◌∷◌, ◌++◌, length, map, refl, sym, ap, ◌∙◌, subst, arith, append_assoc, append-nil}
+use Rattle.std.proofs.Common.{◌≡◌, ℕ, ◌<◌, eqb, Bool, true, false, not, ◌||◌, ◌&&◌, List, [], ◌∷◌, ◌++◌, length, map, refl, sym, ap, ◌∙◌, arith, append_assoc}
 use Rattle.std.specs.List.{AllByRecursion, list_all, flat_map}
 use Rattle.std.proofs.lemmas.List.Folds.{list_all-append}
-use Rattle.real_format.specs.Words.{onto_first, lines_of_text, is_blank, is_word_byte, begins_word, words_of_line}
+use Rattle.real_format.specs.Words.{lines_of_text, is_blank, is_word_byte, begins_word, words_of_line}
 use Rattle.real_format.specs.Compiled.{line_text}
 
 -- ---- tests

@@ -1,18 +1,16 @@
 -- The parts that the writer puts are the text of the compiled file.
-use Rattle.std.proofs.Common.{◌≡◌, ℕ, zero, suc, ◌+◌, ◌<◌, List, [], ◌∷◌, ◌++◌, length, map, replicate, codes, refl, sym, ap, ◌∙◌, append_assoc, append-nil, Bool, false}
+use Rattle.std.proofs.Common.{◌≡◌, ℕ, zero, suc, ◌+◌, ◌<◌, List, [], ◌∷◌, ◌++◌, length, map, replicate, codes, refl, sym, ap, ◌∙◌, append_assoc, append-nil, false}
 use Rattle.std.specs.List.{flat_map, AllByRecursion}
 use Rattle.std.specs.Fmt.{decimal}
 use Rattle.std.proofs.lemmas.List.{map-append, length-append, length-map}
 use Rattle.std.proofs.lemmas.List.Concat.{flat_map-append}
 use Rattle.mct_circuit.specs.declared.gate.Control.{Control}
-use Rattle.mct_circuit.specs.declared.gate.Op.{Op}
 use Rattle.mct_circuit.specs.declared.gate.Op.TheVariants.{Flip}
 use Rattle.mct_circuit.specs.Gates.{GateView, lines_of, targets_of}
-use Rattle.real_format.specs.declared.file.Mark.TheVariants.{Free, Zero}
 use Rattle.real_format.specs.declared.roles.Roles.{Roles}
 use Rattle.real_format.specs.Real.{constant_byte, garbage_byte}
-use Rattle.real_format.specs.Compiled.{lines_in, name_of_line, names_of, constants_of, line_text, header_lines, gate_words, compiled_lines, compiled_text}
-use Rattle.real_format.specs.Parts.{size_text, names_text, constants_text, garbage_text, header_text, flip_text}
+use Rattle.real_format.specs.Compiled.{lines_in, name_of_line, names_of, constants_of, line_text, header_lines, gate_words, compiled_text}
+use Rattle.real_format.specs.Parts.{size_text, names_text, header_text, flip_text}
 
 map-replicate : {X Y : Type 0} (f : X → Y) (n : ℕ) (x : X) → map f (replicate n x) ≡ replicate n (f x)
 map-replicate f zero x = refl

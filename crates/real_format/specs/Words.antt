@@ -1,5 +1,5 @@
 -- The lines of a text, and the words of a line.
-use Rattle.std.specs.Prelude.{◌==◌, ℕ, Bool, true, false, not, ◌||◌, if◌then◌else◌, List, [], ◌∷◌}
+use Rattle.std.specs.Prelude.{◌==◌, ℕ, Bool, false, not, ◌||◌, if◌then◌else◌, List, [], ◌∷◌}
 
 -- a byte before the first of some pieces
 abbrev pub onto_first : ℕ → List (List ℕ) → List (List ℕ)

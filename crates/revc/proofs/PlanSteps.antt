@@ -1,10 +1,9 @@
 -- What the gates of the plain plan do to the bits of the lines.
-use Rattle.std.proofs.Common.{◌≡◌, ◌≢◌, inl, inr, ℕ, zero, suc, ◌+◌, ◌-◌, ◌*◌, ◌<◌, ◌≤◌, Bool, true, false, not, ◌&&◌, cond, eqb, List, [], ◌∷◌, ◌++◌, length, get_or, set, map, take, drop, reverse, replicate, refl, sym, ap, ◌∙◌, subst, arith, append_assoc, append-nil, zero-add, slice_get, Some}
-use Rattle.std.specs.List.{AllByRecursion, list_all}
-use Rattle.std.proofs.lemmas.List.{get_or_append_left, get_or_at, get_or-append-add, set_at, length-append, length-replicate, take_at}
-use Rattle.std.proofs.lemmas.Bool.{cases_Bool}
+use Rattle.std.proofs.Common.{◌≡◌, inl, inr, ℕ, zero, suc, ◌+◌, ◌*◌, ◌≤◌, Bool, true, false, not, ◌&&◌, cond, List, [], ◌∷◌, ◌++◌, length, set, map, drop, reverse, replicate, refl, sym, ap, ◌∙◌, subst, arith, append_assoc, append-nil, zero-add, slice_get, Some}
+use Rattle.std.specs.List.{list_all}
+use Rattle.std.proofs.lemmas.List.{get_or_append_left, get_or_at, get_or-append-add, set_at, length-append, length-replicate}
 use Rattle.std.proofs.lemmas.Bool.Decides.{eqb_tells}
-use Rattle.mct_circuit.specs.Gates.{GateView, CircuitView, bit_of, is_met, after_gate, line_map, flip_of, positive, AreGatesOn, AreNarrow}
+use Rattle.mct_circuit.specs.Gates.{CircuitView, bit_of, is_met, after_gate, line_map, flip_of, positive, AreGatesOn, AreNarrow}
 use Rattle.mct_circuit.proofs.Undoing.{line_map-append, reversed_behind, AllByRecursion-left}
 use Rattle.revc.specs.declared.tape.Ref.{Ref}
 use Rattle.revc.specs.declared.tape.Ref.TheVariants.{Input, Write}

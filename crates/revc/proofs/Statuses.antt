@@ -1,5 +1,5 @@
 -- The statuses of the top call, from the causes of its faults.
-use Rattle.std.proofs.Common.{◌≡◌, ◌≢◌, ℕ, ◌⊎◌, inl, inr, List, Result, Ok, Err, None, Some, refl, sym, ◌∙◌, arith}
+use Rattle.std.proofs.Common.{◌≡◌, ◌≢◌, ℕ, ◌⊎◌, inl, inr, List, Err, None, Some, refl, arith}
 use Rattle.std.specs.Prelude.{Option, IfSome, IsErrOf}
 use Rattle.revc.specs.declared.fault.Fault.{Fault}
 use Rattle.revc.specs.declared.fault.Fault.TheVariants.{Usage, Refused, Read, Write, Memory}

@@ -1,5 +1,5 @@
 -- What the compiler promises of a program text and the file that it writes for it.
-use Rattle.std.specs.Prelude.{◌≡◌, ℕ, ◌≤◌, Bool, false, List, [], ◌∷◌, ◌++◌, length, replicate}
+use Rattle.std.specs.Prelude.{◌≡◌, ℕ, ◌≤◌, Bool, false, List, ◌++◌, length, replicate}
 use Rattle.mct_circuit.specs.Gates.{line_map, AreNarrow}
 use Rattle.real_format.specs.Real.{RealView, RealMeaning}
 use Rattle.real_format.specs.Compiled.{HasRoles}

@@ -1,5 +1,5 @@
 -- A circuit that may be written as a clean file.
-use Rattle.std.specs.Prelude.{◌≡◌, ℕ, ◌≤◌, length}
+use Rattle.std.specs.Prelude.{◌≡◌, ◌≤◌, length}
 use Rattle.mct_circuit.specs.Gates.{AreNarrow}
 use Rattle.real_format.specs.Compiled.{lines_in}
 use Rattle.revc.specs.declared.compile.Compiled.{Compiled}

@@ -1,8 +1,6 @@
 -- What the top call answers, and what it leaves on its source and sinks.
-use Rattle.std.specs.Prelude.{◌≡◌, ◌==◌, ℕ, Option, List, [], ◌∷◌, map, codes, string_bytes, ◌⊎◌, if◌then◌else◌}
-use Rattle.std.specs.Io.KnownBytes.{Appends, Keeps}
-use Rattle.std.specs.declared.string.String.{String}
-use Rattle.std.specs.declared.alloc.Global.{Global}
+use Rattle.std.specs.Prelude.{◌≡◌, ◌==◌, ℕ, Option, List, [], ◌∷◌, codes, ◌⊎◌, if◌then◌else◌}
+use Rattle.std.specs.Io.KnownBytes.{Appends}
 use Rattle.revc_io.specs.Faults.{Rose}
 use Rattle.revc_io.specs.Passing.{AppendsFront}
 use Rattle.revc.specs.declared.fault.Fault.{Fault}

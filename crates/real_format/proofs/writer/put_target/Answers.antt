@@ -1,10 +1,6 @@
-use Rattle.std.proofs.Common.{◌+◌, ◌∷◌, [], ◌++◌, length, map, replicate, codes}
-use Rattle.std.specs.List.{flat_map}
-use Rattle.std.specs.Fmt.{decimal}
-use Rattle.mct_circuit.specs.declared.gate.Control.{Control}
+use Rattle.std.proofs.Common.{◌∷◌, codes}
 use Rattle.revc_io.proofs.OnTheWay.{begun, step, failed_call, last_call}
-use Rattle.real_format.specs.Compiled.{lines_in, name_of_line, names_of, line_text, gate_words}
-use Rattle.real_format.specs.Parts.{size_text, names_text, constants_text, garbage_text, header_text}
+use Rattle.real_format.specs.Compiled.{name_of_line}
 use Rattle.real_format.proofs.writer.put_target.Goals as goal
 
 pub returns-in_err-put_spaced_name-clause-bytes : goal.returns-in_err-put_spaced_name-clause-bytes

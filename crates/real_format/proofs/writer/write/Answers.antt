@@ -1,4 +1,4 @@
-use Rattle.std.proofs.Common.{◌≤◌, ◌≡◌, sym, subst, arith}
+use Rattle.std.proofs.Common.{◌≡◌, sym, subst, arith}
 use Rattle.mct_circuit.specs.Gates.{AreGatesOn}
 use Rattle.real_format.specs.Compiled.{lines_in}
 use Rattle.real_format.proofs.Meaning.{compiled_has_meaning}

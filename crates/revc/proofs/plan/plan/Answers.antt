@@ -1,7 +1,7 @@
 use Rattle.std.proofs.Common.{◌+◌, [], length, sym, subst}
 use Rattle.mct_circuit.specs.Gates.{AreGatesOn}
 use Rattle.revc.specs.Tape.{bit_at, written_by}
-use Rattle.revc.specs.Plan.{plain_gates, MapsCleanly}
+use Rattle.revc.specs.Plan.{MapsCleanly}
 use Rattle.revc.proofs.PlanSteps.{maps_cleanly}
 use Rattle.revc.proofs.plan.plan.Goals as goal
 

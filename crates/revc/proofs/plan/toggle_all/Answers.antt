@@ -1,6 +1,5 @@
-use Rattle.std.proofs.Common.{◌≡◌, ◌+◌, refl, sym, subst, zero-add}
+use Rattle.std.proofs.Common.{subst, zero-add}
 use Rattle.revc.specs.Tape.{IsKnownEntry}
-use Rattle.revc.specs.Plan.{toggle_of}
 use Rattle.revc.proofs.PlanSteps.{AreKnown-at, IsToggling-step}
 use Rattle.revc.proofs.plan.toggle_all.Goals as goal
 

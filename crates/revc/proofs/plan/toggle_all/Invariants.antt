@@ -1,4 +1,3 @@
-use Rattle.std.proofs.Common.{drop}
 use Rattle.revc.proofs.PlanSteps.{IsToggling}
 use Rattle.revc.proofs.plan.toggle_all.Given as goal
 

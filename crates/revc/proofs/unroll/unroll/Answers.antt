@@ -1,4 +1,4 @@
-use Rattle.std.proofs.Common.{◌≡◌, ◌+◌, ◌∷◌, ◌<◌, ◌≤◌, List, ℕ, [], fold, get_or, take, drop, length, ap, sym, subst, ◌∙◌, arith}
+use Rattle.std.proofs.Common.{◌≡◌, ◌+◌, ◌∷◌, ◌<◌, ◌≤◌, [], fold, get_or, take, drop, length, ap, sym, subst, ◌∙◌, arith}
 use Rattle.std.proofs.lemmas.List.{drop_more, length-drop, get_or-drop, get_or_read}
 use Rattle.std.proofs.lemmas.List.Sums.{fold_more}
 use Rattle.revc.specs.Program.{xor, product_of}

@@ -1,4 +1,4 @@
-use Rattle.std.proofs.Common.{List, ℕ, [], fold, get_or, take, drop, length}
+use Rattle.std.proofs.Common.{[], fold, get_or, take, drop, length}
 use Rattle.revc.specs.Program.{xor, product_of}
 use Rattle.revc.proofs.TapeSteps.{IsSumming}
 use Rattle.revc.proofs.unroll.unroll.Given as goal

@@ -1,6 +1,5 @@
-use Rattle.std.proofs.Common.{◌&&◌, ◌-◌, fold, take, slice_index, drop}
+use Rattle.std.proofs.Common.{◌&&◌, fold, take, slice_index, drop}
 use Rattle.mct_circuit.specs.Gates.{bit_of}
-use Rattle.revc.specs.Tape.{Extends, Stands}
 use Rattle.revc.proofs.TapeSteps.{IsGrowing}
 use Rattle.revc.proofs.unroll.write_product.Given as goal
 
