@@ -5,7 +5,7 @@ use Rattle.std.specs.Fmt.{decimal}
 use Rattle.std.proofs.lemmas.Fmt.{decimal_is_IsNumeral, length-decimal-le}
 use Rattle.std.proofs.lemmas.List.{length-map, length-append, length-replicate}
 use Rattle.mct_circuit.specs.Gates.{GateView, lines_of, IsGateOn, AreGatesOn, IsNarrow, AreNarrow, AreDifferent}
-use Rattle.mct_circuit.proofs.Undoing.{lines_of-flip_of}
+use Rattle.mct_circuit.proofs.Undoing.{AllByRecursion-append, lines_of-flip_of}
 use Rattle.real_format.specs.Words.{is_word_byte}
 use Rattle.real_format.specs.declared.file.Mark.{Mark}
 use Rattle.real_format.specs.declared.file.Mark.TheVariants.{Free, Zero, One}
@@ -14,10 +14,6 @@ use Rattle.real_format.specs.Real.{RealView, RealMeaning, IsName, ReadsFlip, con
 use Rattle.real_format.specs.Compiled.{lines_in, name_of_line, names_of, constants_of, header_lines, gate_words, compiled_lines, compiled_text, CompiledHasMeaning}
 use Rattle.real_format.proofs.Reading.{IsWord, words_of_lines}
 use Rattle.real_format.proofs.Naming.{IsWord-from_name, IsWord-decimal, IsName-name_of_line, length-names_of, names_are_different, names_are_names, name_at}
-
-AllByRecursion-append : {X : Type 0} (P : X → Type 0) (xs ys : List X) → AllByRecursion P xs → AllByRecursion P ys → AllByRecursion P (xs ++ ys)
-AllByRecursion-append P [] ys p q = q
-AllByRecursion-append P (x ∷ xs) ys p q = (p.0, AllByRecursion-append P xs ys p.1 q)
 
 AllByRecursion-map : {X Y : Type 0} (P : Y → Type 0) (f : X → Y) (xs : List X) → AllByRecursion (λ x. P (f x)) xs → AllByRecursion P (map f xs)
 AllByRecursion-map P f [] p = tt

@@ -13,7 +13,7 @@ use Rattle.real_format.specs.Real.{RealView, RealMeaning, constant_byte, garbage
 abbrev pub lines_in : Roles → ℕ
 lines_in roles = roles.inputs + roles.outputs + roles.work + roles.borrowed
 
--- the letter of a line's role, and the number of lines before the first one of that role
+-- the name of a line: the letter of its role, and its number among the lines of that role
 abbrev pub name_of_line : Roles → ℕ → List ℕ
 name_of_line roles line =
     if nat_lt line roles.inputs then 120 ∷ decimal line
