@@ -1,0 +1,5 @@
+pub mod Alignment
+pub mod CubeSteps
+pub mod MergeSteps
+pub mod OnePolynomial
+pub mod SumSteps

@@ -1,0 +1,184 @@
+-- What merging keeps: the exclusive or of the cubes, their inputs, and that they do not grow in number.
+use Rattle.std.proofs.Common.{◌≡◌, ℕ, zero, suc, ◌+◌, ◌<◌, ◌≤◌, Bool, true, false, List, [], ◌∷◌, ◌++◌, length, map, get_or, refl, sym, ap, ◌∙◌, subst, inl, inr, arith}
+use Rattle.std.specs.List.{AllByRecursion, remove}
+use Rattle.std.proofs.lemmas.List.{length-append, get_or_default}
+use Rattle.std.proofs.lemmas.List.Edits.{length-remove, get_or-remove_below}
+use Rattle.exclusive_sums.specs.declared.cube.Literal.{Literal}
+use Rattle.exclusive_sums.specs.Polynomials.{xor, value_of_monomial, value_of_polynomial, IsRising}
+use Rattle.exclusive_sums.specs.Cubes.{value_of_cube, value_of_cubes, IsCube, distance_of, IsJoined, cube_at, distance_at, AreApart, IsFirstClosePair, without_pair, Merges, done, cancelled, joined, positive, cubes_of, IsIn, IsInputOf, IsExclusiveSumOf}
+use Rattle.exclusive_sums.specs.Steps.{IsStep}
+use Rattle.exclusive_sums.proofs.Alignment.{All-weaken}
+use Rattle.exclusive_sums.proofs.SumSteps.{xor_left, xor_right}
+use Rattle.exclusive_sums.proofs.CubeSteps.{IsCube-positive, same_if_no_distance, value-joined, inputs-joined}
+
+-- ---- taking cubes out
+
+value-remove : (x : ℕ → Bool) (cubes : List (List Literal)) (j : ℕ) → j < length cubes → value_of_cubes x cubes ≡ xor (value_of_cube x (cube_at cubes j)) (value_of_cubes x (remove cubes j))
+value-remove x [] j h = absurd (omega arith)
+value-remove x (c ∷ cs) zero h = refl
+value-remove x (c ∷ cs) (suc j) h =
+    rw (value-remove x cs j (omega arith)) (xor_right (value_of_cube x c) (value_of_cube x (cube_at cs j)) (value_of_cubes x (remove cs j)))
+
+pub All-remove : (P : List Literal → Type 0) (cubes : List (List Literal)) (j : ℕ) → AllByRecursion P cubes → AllByRecursion P (remove cubes j)
+All-remove P [] zero h = tt
+All-remove P [] (suc j) h = tt
+All-remove P (c ∷ cs) zero h = h.1
+All-remove P (c ∷ cs) (suc j) h = (h.0, All-remove P cs j h.1)
+
+pub All-at : (P : List Literal → Type 0) (cubes : List (List Literal)) (j : ℕ) → j < length cubes → AllByRecursion P cubes → P (cube_at cubes j)
+All-at P [] j l h = absurd (omega arith)
+All-at P (c ∷ cs) zero l h = h.0
+All-at P (c ∷ cs) (suc j) l h = All-at P cs j (omega arith) h.1
+
+All-push : (P : List Literal → Type 0) (cubes : List (List Literal)) (c : List Literal) → AllByRecursion P cubes → P c → AllByRecursion P (cubes ++ c ∷ [])
+All-push P [] c h p = (p, tt)
+All-push P (d ∷ ds) c h p = (h.0, All-push P ds c h.1 p)
+
+value-push : (x : ℕ → Bool) (cubes : List (List Literal)) (c : List Literal) → value_of_cubes x (cubes ++ c ∷ []) ≡ xor (value_of_cube x c) (value_of_cubes x cubes)
+value-push x [] c = refl
+value-push x (d ∷ ds) c = rw (value-push x ds c) (xor_right (value_of_cube x d) (value_of_cube x c) (value_of_cubes x ds))
+
+value-without_pair : (x : ℕ → Bool) (cubes : List (List Literal)) (i j : ℕ) → i < j → j < length cubes
+    → value_of_cubes x cubes ≡ xor (xor (value_of_cube x (cube_at cubes i)) (value_of_cube x (cube_at cubes j))) (value_of_cubes x (without_pair cubes i j))
+value-without_pair x cubes i j l h =
+    let shorter = length-remove cubes j h in
+    let same : cube_at (remove cubes j) i ≡ cube_at cubes i = get_or-remove_below cubes j [] i l h in
+    value-remove x cubes j h
+    ∙ rw (value-remove x (remove cubes j) i (omega arith), same)
+    (xor_right (value_of_cube x (cube_at cubes j)) (value_of_cube x (cube_at cubes i)) (value_of_cubes x (without_pair cubes i j))
+    ∙ xor_left (value_of_cube x (cube_at cubes i)) (value_of_cube x (cube_at cubes j)) (value_of_cubes x (without_pair cubes i j)))
+
+length-without_pair : (cubes : List (List Literal)) (i j : ℕ) → i < j → j < length cubes → length (without_pair cubes i j) + 2 ≡ length cubes
+length-without_pair cubes i j l h =
+    let shorter = length-remove cubes j h in
+    let last = length-remove (remove cubes j) i (omega arith) in
+    omega arith
+
+-- ---- one step
+
+-- the cubes at two places as the code took them out
+pub record HasRemoved (cubes rest last : List (List Literal)) (i j : ℕ) (left right : List Literal) : Type 0 where
+  pub pair : IsFirstClosePair cubes i j
+  pub right_is : right ≡ get_or cubes j right
+  pub without_right : rest ≡ remove cubes j
+  pub left_is : left ≡ get_or rest i left
+  pub without_left : last ≡ remove rest i
+
+module _ (cubes rest last : List (List Literal)) (i j : ℕ) (left right : List Literal) (r : HasRemoved cubes rest last i j left right) where
+  right_at : right ≡ cube_at cubes j
+  right_at = r.right_is ∙ get_or_default cubes j right [] r.pair.in_range
+
+  left_at : left ≡ cube_at cubes i
+  left_at =
+      let shorter = length-remove cubes j r.pair.in_range in
+      let order = r.pair.ordered in
+      let same : get_or rest i left ≡ get_or (remove cubes j) i left = ap (λ cs. get_or cs i left) r.without_right in
+      r.left_is ∙ same ∙ get_or-remove_below cubes j left i r.pair.ordered r.pair.in_range ∙ get_or_default cubes i left [] (omega (arith, r.pair.in_range))
+
+  distance_is : distance_of left right ≡ distance_at cubes i j
+  distance_is = ap (λ c. distance_of c right) left_at ∙ ap (λ d. distance_of (cube_at cubes i) d) right_at
+
+  last_is : last ≡ without_pair cubes i j
+  last_is = r.without_left ∙ ap (λ cs. remove cs i) r.without_right
+
+  pub cancels : distance_of left right ≡ 0 → IsStep cubes last
+  cancels h = record {
+    merges = λ end m. cancelled cubes end i j r.pair (sym distance_is ∙ h) (subst (λ cs. Merges cs end) last_is m);
+    fewer = omega (arith, ap length last_is, length-without_pair cubes i j r.pair.ordered r.pair.in_range);
+  }
+
+  pub joins : (distance_of left right ≡ 0 → ⊥) → (cube : List Literal) → IsJoined left right cube → IsStep cubes (last ++ cube ∷ [])
+  joins h cube k =
+      let one : distance_at cubes i j ≡ 1 = let close = r.pair.close in let apart : distance_at cubes i j ≡ 0 → ⊥ = λ e. h (distance_is ∙ e) in omega arith in
+      let here : IsJoined (cube_at cubes i) (cube_at cubes j) cube = subst (λ c. IsJoined c (cube_at cubes j) cube) left_at (subst (λ d. IsJoined left d cube) right_at k) in
+      record {
+        merges = λ end m. joined cubes end i j cube r.pair one here (subst (λ cs. Merges (cs ++ cube ∷ []) end) last_is m);
+        fewer = omega (arith, length-append last (cube ∷ []), ap length last_is, length-without_pair cubes i j r.pair.ordered r.pair.in_range);
+      }
+
+-- ---- all steps
+
+-- what the end of merging is to its beginning
+record IsMergedFrom (P : ℕ → Type 0) (cubes last : List (List Literal)) : Type 0 where
+  values : (x : ℕ → Bool) → value_of_cubes x last ≡ value_of_cubes x cubes
+  few : length last ≤ length cubes
+  are_cubes : AllByRecursion IsCube last
+  over_inputs : AllByRecursion (λ (cube : List Literal). AllByRecursion (λ (l : Literal). P l.input) cube) last
+  apart : AreApart last
+
+xor_itself : (b c : Bool) → xor (xor b b) c ≡ c
+xor_itself true c = refl
+xor_itself false c = refl
+
+merged : (P : ℕ → Type 0) (cubes last : List (List Literal)) → Merges cubes last → AllByRecursion IsCube cubes
+    → AllByRecursion (λ (cube : List Literal). AllByRecursion (λ (l : Literal). P l.input) cube) cubes → IsMergedFrom P cubes last
+merged P cubes last (done cs a) k p = record { values = λ x. refl; few = omega arith; are_cubes = k; over_inputs = p; apart = a }
+merged P cubes last (cancelled cs end i j f h m) k p =
+    let low : i < length cs = omega (arith, f.ordered, f.in_range) in
+    let rest = merged P (without_pair cs i j) end m (All-remove IsCube (remove cs j) i (All-remove IsCube cs j k))
+    (All-remove (λ (cube : List Literal). AllByRecursion (λ (l : Literal). P l.input) cube) (remove cs j) i (All-remove (λ (cube : List Literal). AllByRecursion (λ (l : Literal). P l.input) cube) cs j p)) in
+    let same : cube_at cs i ≡ cube_at cs j = same_if_no_distance (cube_at cs i) (cube_at cs j) (All-at IsCube cs i low k) (All-at IsCube cs j f.in_range k) h in
+    record {
+      values = λ x. rest.values x ∙ sym (value-without_pair x cs i j f.ordered f.in_range ∙ rw same (xor_itself (value_of_cube x (cube_at cs j)) (value_of_cubes x (without_pair cs i j))));
+      few = omega (arith, rest.few, length-without_pair cs i j f.ordered f.in_range);
+      are_cubes = rest.are_cubes;
+      over_inputs = rest.over_inputs;
+      apart = rest.apart;
+    }
+merged P cubes last (joined cs end i j cube f h g m) k p =
+    let low : i < length cs = omega (arith, f.ordered, f.in_range) in
+    let Over : List Literal → Type 0 = λ (c : List Literal). AllByRecursion (λ (l : Literal). P l.input) c in
+    let left = All-at IsCube cs i low k in
+    let right = All-at IsCube cs j f.in_range k in
+    let inside = inputs-joined P (cube_at cs i) (cube_at cs j) cube left right g (All-at Over cs i low p) (All-at Over cs j f.in_range p) in
+    let rest = merged P (without_pair cs i j ++ cube ∷ []) end m
+    (All-push IsCube (without_pair cs i j) cube (All-remove IsCube (remove cs j) i (All-remove IsCube cs j k)) g.is_cube)
+    (All-push Over (without_pair cs i j) cube (All-remove Over (remove cs j) i (All-remove Over cs j p)) inside) in
+    record {
+      values = λ x. rest.values x ∙ value-push x (without_pair cs i j) cube ∙ rw (value-joined x (cube_at cs i) (cube_at cs j) cube left right h g) (sym (value-without_pair x cs i j f.ordered f.in_range));
+      few = omega (arith, rest.few, length-without_pair cs i j f.ordered f.in_range, length-append (without_pair cs i j) (cube ∷ []));
+      are_cubes = rest.are_cubes;
+      over_inputs = rest.over_inputs;
+      apart = rest.apart;
+    }
+
+-- ---- from the monomials
+
+value-positive : (x : ℕ → Bool) (m : List ℕ) → value_of_cube x (map positive m) ≡ value_of_monomial x m
+value-positive x [] = refl
+value-positive x (i ∷ is) = rw (value-positive x is) refl
+
+value-cubes_of : (x : ℕ → Bool) (ms : List (List ℕ)) → value_of_cubes x (cubes_of ms) ≡ value_of_polynomial x ms
+value-cubes_of x [] = refl
+value-cubes_of x (m ∷ ms) = rw (value-positive x m, value-cubes_of x ms) refl
+
+are_cubes-cubes_of : (ms : List (List ℕ)) → AllByRecursion IsRising ms → AllByRecursion IsCube (cubes_of ms)
+are_cubes-cubes_of [] h = tt
+are_cubes-cubes_of (m ∷ ms) h = (IsCube-positive m h.0, are_cubes-cubes_of ms h.1)
+
+inputs-positive : (P : ℕ → Type 0) (m : List ℕ) → AllByRecursion P m → AllByRecursion (λ (l : Literal). P l.input) (map positive m)
+inputs-positive P [] h = tt
+inputs-positive P (i ∷ is) h = (h.0, inputs-positive P is h.1)
+
+all_in : (m : List ℕ) → AllByRecursion (IsIn m) m
+all_in [] = tt
+all_in (i ∷ is) = (inl refl, All-weaken (IsIn is) (IsIn (i ∷ is)) is (λ j k. inr k) (all_in is))
+
+inputs-cubes_of : (P : ℕ → Type 0) (ms : List (List ℕ)) → ((i : ℕ) → IsInputOf ms i → P i) → AllByRecursion (λ (cube : List Literal). AllByRecursion (λ (l : Literal). P l.input) cube) (cubes_of ms)
+inputs-cubes_of P [] f = tt
+inputs-cubes_of P (m ∷ ms) f = (inputs-positive P m (All-weaken (IsIn m) P m (λ i k. f i (inl k)) (all_in m)), inputs-cubes_of P ms (λ i k. f i (inr k)))
+
+length-cubes_of : (ms : List (List ℕ)) → length (cubes_of ms) ≡ length ms
+length-cubes_of [] = refl
+length-cubes_of (m ∷ ms) = omega (arith, length-cubes_of ms)
+
+pub sum_from_merges : (ms : List (List ℕ)) (last : List (List Literal)) → AllByRecursion IsRising ms → Merges (cubes_of ms) last → IsExclusiveSumOf ms last
+sum_from_merges ms last h m =
+    let end = merged (IsInputOf ms) (cubes_of ms) last m (are_cubes-cubes_of ms h) (inputs-cubes_of (IsInputOf ms) ms (λ i k. k)) in
+    record {
+      values = λ x. end.values x ∙ value-cubes_of x ms;
+      few = omega (arith, end.few, length-cubes_of ms);
+      are_cubes = end.are_cubes;
+      over_inputs = end.over_inputs;
+      apart = end.apart;
+    }

@@ -1,0 +1,260 @@
+-- Sums and products of monomials: their values, their order and how many monomials they have.
+use Rattle.std.proofs.Common.{◌≡◌, ◌⊎◌, ℕ, ◌+◌, ◌<◌, ◌≤◌, Bool, true, false, ◌&&◌, cond, leb, List, [], ◌∷◌, ◌++◌, length, map, drop, get_or, Option, Some, None, refl, sym, ap, ◌∙◌, subst, inl, inr, arith}
+use Rattle.std.specs.List.{AllByRecursion, list_all}
+use Rattle.std.specs.Ordering.{nat_cmp, MatchOrdering, ordering_then}
+use Rattle.std.specs.Cmp.Lexicographic.{slice_cmp}
+use Rattle.std.specs.declared.cmp.Ordering.{Ordering}
+use Rattle.std.specs.declared.cmp.Ordering.TheVariants.{Less, Equal, Greater}
+use Rattle.std.proofs.lemmas.Bool.{lt-ltb}
+use Rattle.std.proofs.lemmas.Cmp.{ranked, nat_cmp_total, nat_list_cmp_total}
+use Rattle.std.proofs.lemmas.List.{length-append}
+use Rattle.std.proofs.Math.ListN.{drop_of_length-le}
+use Rattle.std.proofs.Math.Nat.{add-mul, mul-add}
+use Rattle.exclusive_sums.specs.Aligned.{Pair, left, right, both, aligned, key_of, alone}
+use Rattle.exclusive_sums.specs.Polynomials.{xor, value_of_monomial, value_of_polynomial, IsRising, IsInOrder, IsPolynomial, IsPolynomialUpTo}
+use Rattle.exclusive_sums.specs.Steps.{union_of, exclusive_sum_of, IsProduct}
+use Rattle.exclusive_sums.proofs.Alignment.{lefts, rights, lefts-aligned, rights-aligned, IsTied, tied-aligned, by_key, All-weaken, in_order-aligned}
+
+-- ---- exclusive or
+
+pub xor_left : (v l r : Bool) → xor v (xor l r) ≡ xor (xor v l) r
+xor_left true true true = refl
+xor_left true true false = refl
+xor_left true false r = refl
+xor_left false l r = refl
+
+pub xor_right : (v l r : Bool) → xor v (xor l r) ≡ xor l (xor v r)
+xor_right true true r = refl
+xor_right true false r = refl
+xor_right false l r = refl
+
+pub xor_both : (v l r : Bool) → xor l r ≡ xor (xor v l) (xor v r)
+xor_both true true true = refl
+xor_both true true false = refl
+xor_both true false true = refl
+xor_both true false false = refl
+xor_both false l r = refl
+
+pub xor_nothing : (v : Bool) → xor v false ≡ v
+xor_nothing true = refl
+xor_nothing false = refl
+
+and_nothing : (v : Bool) → (v && false) ≡ false
+and_nothing true = refl
+and_nothing false = refl
+
+and_left_in : (v l r : Bool) → (v && (l && r)) ≡ ((v && l) && r)
+and_left_in true l r = refl
+and_left_in false l r = refl
+
+and_right_in : (v l r : Bool) → (v && (l && r)) ≡ (l && (v && r))
+and_right_in true l r = refl
+and_right_in false l r = sym (and_nothing l)
+
+and_both : (v l r : Bool) → (v && (l && r)) ≡ ((v && l) && (v && r))
+and_both true l r = refl
+and_both false l r = refl
+
+xor-and_left : (a b c : Bool) → xor (a && c) (b && c) ≡ (xor a b && c)
+xor-and_left true true true = refl
+xor-and_left true true false = refl
+xor-and_left true false true = refl
+xor-and_left true false false = refl
+xor-and_left false b c = refl
+
+xor-and_right : (a b c : Bool) → xor (c && a) (c && b) ≡ (c && xor a b)
+xor-and_right a b true = refl
+xor-and_right a b false = refl
+
+-- ---- order
+
+pub less_from_lt : (x y : ℕ) → x < y → nat_cmp x y ≡ Less
+less_from_lt x y h = rw (lt-ltb x y h) refl
+
+pub lt_from_less : (x y : ℕ) → nat_cmp x y ≡ Less → x < y
+lt_from_less x y e = subst (λ (o : Ordering). MatchOrdering o (x < y) (x ≡ y) (y < x)) e (ranked x y (nat_cmp x y) refl)
+
+pub eq_from_equal : (x y : ℕ) → nat_cmp x y ≡ Equal → x ≡ y
+eq_from_equal x y e = subst (λ (o : Ordering). MatchOrdering o (x < y) (x ≡ y) (y < x)) e (ranked x y (nat_cmp x y) refl)
+
+pub in_order_from_rising : (xs : List ℕ) → IsRising xs → IsInOrder nat_cmp xs
+in_order_from_rising [] h = tt
+in_order_from_rising (x ∷ xs) h = (All-weaken (λ y. x < y) (λ y. nat_cmp x y ≡ Less) xs (less_from_lt x) h.0, in_order_from_rising xs h.1)
+
+pub rising_from_in_order : (xs : List ℕ) → IsInOrder nat_cmp xs → IsRising xs
+rising_from_in_order [] h = tt
+rising_from_in_order (x ∷ xs) h = (All-weaken (λ y. nat_cmp x y ≡ Less) (λ y. x < y) xs (lt_from_less x) h.0, rising_from_in_order xs h.1)
+
+then_equal : (o p : Ordering) → ordering_then o p ≡ Equal → (o ≡ Equal) × (p ≡ Equal)
+then_equal Less p h = cc
+then_equal Equal p h = (refl, h)
+then_equal Greater p h = cc
+
+pub same_from_equal : (m n : List ℕ) → slice_cmp nat_cmp m n ≡ Equal → m ≡ n
+same_from_equal [] [] h = refl
+same_from_equal [] (y ∷ ys) h = cc
+same_from_equal (x ∷ xs) [] h = cc
+same_from_equal (x ∷ xs) (y ∷ ys) h =
+    let parts = then_equal (nat_cmp x y) (slice_cmp nat_cmp xs ys) h in
+    let first : x ≡ y = eq_from_equal x y parts.0 in
+    let rest : xs ≡ ys = same_from_equal xs ys parts.1 in
+    rw (first, rest) refl
+
+-- ---- sums
+
+value-alone : (x : ℕ → Bool) (ps : List (Pair (List ℕ))) → AllByRecursion (IsTied (slice_cmp nat_cmp)) ps
+    → value_of_polynomial x (alone ps) ≡ xor (value_of_polynomial x (lefts ps)) (value_of_polynomial x (rights ps))
+value-alone x [] t = refl
+value-alone x (left m ∷ ps) t = rw (value-alone x ps t.1) (xor_left (value_of_monomial x m) (value_of_polynomial x (lefts ps)) (value_of_polynomial x (rights ps)))
+value-alone x (right n ∷ ps) t = rw (value-alone x ps t.1) (xor_right (value_of_monomial x n) (value_of_polynomial x (lefts ps)) (value_of_polynomial x (rights ps)))
+value-alone x (both m n ∷ ps) t =
+    let same : m ≡ n = same_from_equal m n t.0 in
+    rw (value-alone x ps t.1, same) (xor_both (value_of_monomial x n) (value_of_polynomial x (lefts ps)) (value_of_polynomial x (rights ps)))
+
+pub value-exclusive_sum_of : (x : ℕ → Bool) (p q : List (List ℕ)) → value_of_polynomial x (exclusive_sum_of p q) ≡ xor (value_of_polynomial x p) (value_of_polynomial x q)
+value-exclusive_sum_of x p q =
+    let ps = aligned (slice_cmp nat_cmp) p q in
+    value-alone x ps (tied-aligned (slice_cmp nat_cmp) p q)
+    ∙ rw (lefts-aligned (slice_cmp nat_cmp) p q, rights-aligned (slice_cmp nat_cmp) p q) refl
+
+above-alone : (m : List ℕ) (ps : List (Pair (List ℕ))) → AllByRecursion (λ (p : Pair (List ℕ)). slice_cmp nat_cmp m (key_of p) ≡ Less) ps → AllByRecursion (λ n. slice_cmp nat_cmp m n ≡ Less) (alone ps)
+above-alone m [] h = tt
+above-alone m (left n ∷ ps) h = (h.0, above-alone m ps h.1)
+above-alone m (right n ∷ ps) h = (h.0, above-alone m ps h.1)
+above-alone m (both n k ∷ ps) h = above-alone m ps h.1
+
+in_order-alone : (ps : List (Pair (List ℕ))) → IsInOrder (by_key (slice_cmp nat_cmp)) ps → IsInOrder (slice_cmp nat_cmp) (alone ps)
+in_order-alone [] h = tt
+in_order-alone (left m ∷ ps) h = (above-alone m ps h.0, in_order-alone ps h.1)
+in_order-alone (right n ∷ ps) h = (above-alone n ps h.0, in_order-alone ps h.1)
+in_order-alone (both m n ∷ ps) h = in_order-alone ps h.1
+
+All-alone : {A : Type 0} (P : A → Type 0) (ps : List (Pair A)) → AllByRecursion P (lefts ps) → AllByRecursion P (rights ps) → AllByRecursion P (alone ps)
+All-alone P [] a b = tt
+All-alone P (left m ∷ ps) a b = (a.0, All-alone P ps a.1 b)
+All-alone P (right n ∷ ps) a b = (b.0, All-alone P ps a b.1)
+All-alone P (both m n ∷ ps) a b = All-alone P ps a.1 b.1
+
+length-alone : {A : Type 0} (ps : List (Pair A)) → length (alone ps) ≤ length (lefts ps) + length (rights ps)
+length-alone [] = omega arith
+length-alone (left m ∷ ps) = omega (arith, length-alone ps)
+length-alone (right n ∷ ps) = omega (arith, length-alone ps)
+length-alone (both m n ∷ ps) = omega (arith, length-alone ps)
+
+pub IsPolynomial-exclusive_sum_of : (p q : List (List ℕ)) → IsPolynomial p → IsPolynomial q → IsPolynomial (exclusive_sum_of p q)
+IsPolynomial-exclusive_sum_of p q a b = record {
+  rising = All-alone IsRising (aligned (slice_cmp nat_cmp) p q)
+      (subst (AllByRecursion IsRising) (sym (lefts-aligned (slice_cmp nat_cmp) p q)) a.rising)
+      (subst (AllByRecursion IsRising) (sym (rights-aligned (slice_cmp nat_cmp) p q)) b.rising);
+  in_order = in_order-alone (aligned (slice_cmp nat_cmp) p q) (in_order-aligned (slice_cmp nat_cmp) nat_list_cmp_total p q a.in_order b.in_order);
+}
+
+pub length-exclusive_sum_of : (p q : List (List ℕ)) → length (exclusive_sum_of p q) ≤ length p + length q
+length-exclusive_sum_of p q =
+    let few = length-alone (aligned (slice_cmp nat_cmp) p q) in
+    rw (lefts-aligned (slice_cmp nat_cmp) p q, rights-aligned (slice_cmp nat_cmp) p q) at few
+
+-- ---- products of two monomials
+
+value-keys : (x : ℕ → Bool) (ps : List (Pair ℕ)) → AllByRecursion (IsTied nat_cmp) ps → list_all x (map key_of ps) ≡ (list_all x (lefts ps) && list_all x (rights ps))
+value-keys x [] t = refl
+value-keys x (left i ∷ ps) t = rw (value-keys x ps t.1) (and_left_in (x i) (list_all x (lefts ps)) (list_all x (rights ps)))
+value-keys x (right j ∷ ps) t = rw (value-keys x ps t.1) (and_right_in (x j) (list_all x (lefts ps)) (list_all x (rights ps)))
+value-keys x (both i j ∷ ps) t =
+    let same : i ≡ j = eq_from_equal i j t.0 in
+    rw (value-keys x ps t.1, same) (and_both (x j) (list_all x (lefts ps)) (list_all x (rights ps)))
+
+pub value-union_of : (x : ℕ → Bool) (m n : List ℕ) → value_of_monomial x (union_of m n) ≡ (value_of_monomial x m && value_of_monomial x n)
+value-union_of x m n = value-keys x (aligned nat_cmp m n) (tied-aligned nat_cmp m n) ∙ rw (lefts-aligned nat_cmp m n, rights-aligned nat_cmp m n) refl
+
+above-keys : (i : ℕ) (ps : List (Pair ℕ)) → AllByRecursion (λ (p : Pair ℕ). nat_cmp i (key_of p) ≡ Less) ps → AllByRecursion (λ j. nat_cmp i j ≡ Less) (map key_of ps)
+above-keys i [] h = tt
+above-keys i (p ∷ ps) h = (h.0, above-keys i ps h.1)
+
+in_order-keys : (ps : List (Pair ℕ)) → IsInOrder (by_key nat_cmp) ps → IsInOrder nat_cmp (map key_of ps)
+in_order-keys [] h = tt
+in_order-keys (p ∷ ps) h = (above-keys (key_of p) ps h.0, in_order-keys ps h.1)
+
+pub IsRising-union_of : (m n : List ℕ) → IsRising m → IsRising n → IsRising (union_of m n)
+IsRising-union_of m n a b =
+    rising_from_in_order (union_of m n) (in_order-keys (aligned nat_cmp m n) (in_order-aligned nat_cmp nat_cmp_total m n (in_order_from_rising m a) (in_order_from_rising n b)))
+
+-- ---- what is left of a monomial at the end of the other
+
+keys-rights_only : (n : List ℕ) → map key_of (map right n) ≡ n
+keys-rights_only [] = refl
+keys-rights_only (j ∷ js) = ap (λ ks. j ∷ ks) (keys-rights_only js)
+
+keys-lefts_only : (m : List ℕ) → map key_of (aligned nat_cmp m []) ≡ m
+keys-lefts_only [] = refl
+keys-lefts_only (i ∷ is) = ap (λ ks. i ∷ ks) (keys-lefts_only is)
+
+append-nil : (xs : List ℕ) → xs ++ [] ≡ xs
+append-nil [] = refl
+append-nil (x ∷ xs) = ap (λ ys. x ∷ ys) (append-nil xs)
+
+pub union_left_over : (m n : List ℕ) (i j : ℕ) → (length m ≤ i) ⊎ (length n ≤ j) → union_of (drop i m) (drop j n) ≡ drop i m ++ drop j n
+union_left_over m n i j (inl h) = rw (drop_of_length-le m h) (keys-rights_only (drop j n))
+union_left_over m n i j (inr h) = rw (drop_of_length-le n h) (keys-lefts_only (drop i m) ∙ sym (append-nil (drop i m)))
+
+-- ---- products of sums
+
+pub single : {A : Type 0} (xs : List A) (x : A) → length xs ≡ 1 → x ≡ get_or xs 0 x → xs ≡ x ∷ []
+single [] x h e = absurd (omega arith)
+single (y ∷ []) x h e = ap (λ z. z ∷ []) (sym e)
+single (y ∷ z ∷ zs) x h e = absurd (omega arith)
+
+pub IsProduct-left_empty : (q : List (List ℕ)) → IsProduct [] q []
+IsProduct-left_empty q = record { is_polynomial = record { rising = tt; in_order = tt }; values = λ x. refl; few = omega arith }
+
+pub IsProduct-right_empty : (p : List (List ℕ)) → IsProduct p [] []
+IsProduct-right_empty p = record { is_polynomial = record { rising = tt; in_order = tt }; values = λ x. sym (and_nothing (value_of_polynomial x p)); few = omega arith }
+
+pub IsProduct-single : (m n : List ℕ) → IsRising m → IsRising n → IsProduct (m ∷ []) (n ∷ []) (union_of m n ∷ [])
+IsProduct-single m n a b = record {
+  is_polynomial = record { rising = (IsRising-union_of m n a b, tt); in_order = (tt, tt) };
+  values = λ x. xor_nothing (value_of_monomial x (union_of m n)) ∙ value-union_of x m n
+      ∙ sym (rw (xor_nothing (value_of_monomial x m), xor_nothing (value_of_monomial x n)) refl);
+  few = omega arith;
+}
+
+value-append : (x : ℕ → Bool) (p q : List (List ℕ)) → value_of_polynomial x (p ++ q) ≡ xor (value_of_polynomial x p) (value_of_polynomial x q)
+value-append x [] q = refl
+value-append x (m ∷ ms) q = rw (value-append x ms q) (xor_left (value_of_monomial x m) (value_of_polynomial x ms) (value_of_polynomial x q))
+
+pub IsProduct-left_halves : (p low high q a b : List (List ℕ)) → low ++ high ≡ p → IsProduct low q a → IsProduct high q b → IsProduct p q (exclusive_sum_of a b)
+IsProduct-left_halves p low high q a b e h k =
+    subst (λ r. IsProduct r q (exclusive_sum_of a b)) e (record {
+      is_polynomial = IsPolynomial-exclusive_sum_of a b h.is_polynomial k.is_polynomial;
+      values = λ x. value-exclusive_sum_of x a b ∙ rw (h.values x, k.values x, value-append x low high)
+          (xor-and_left (value_of_polynomial x low) (value_of_polynomial x high) (value_of_polynomial x q));
+      few = rw (length-append low high, add-mul (length low) (length high) (length q)) (omega (arith, length-exclusive_sum_of a b, h.few, k.few));
+    })
+
+pub IsProduct-right_halves : (p q low high a b : List (List ℕ)) → low ++ high ≡ q → IsProduct p low a → IsProduct p high b → IsProduct p q (exclusive_sum_of a b)
+IsProduct-right_halves p q low high a b e h k =
+    subst (λ r. IsProduct p r (exclusive_sum_of a b)) e (record {
+      is_polynomial = IsPolynomial-exclusive_sum_of a b h.is_polynomial k.is_polynomial;
+      values = λ x. value-exclusive_sum_of x a b ∙ rw (h.values x, k.values x, value-append x low high)
+          (xor-and_right (value_of_polynomial x low) (value_of_polynomial x high) (value_of_polynomial x p));
+      few = rw (length-append low high, mul-add (length p) (length low) (length high)) (omega (arith, length-exclusive_sum_of a b, h.few, k.few));
+    })
+
+-- ---- public answers
+
+pub IsPolynomial-one : IsPolynomial ([] ∷ [])
+IsPolynomial-one = record { rising = (tt, tt); in_order = (tt, tt) }
+
+pub up_to_from_sum : (most : ℕ) (p q : List (List ℕ)) (answer : Option (List (List ℕ))) → IsPolynomial p → IsPolynomial q
+    → answer ≡ cond (leb (length (exclusive_sum_of p q)) most) (Some (exclusive_sum_of p q)) None
+    → IsPolynomialUpTo most (λ x. xor (value_of_polynomial x p) (value_of_polynomial x q)) answer
+up_to_from_sum most p q answer a b e = record {
+  monomials = exclusive_sum_of p q;
+  is_of = record { is_polynomial = IsPolynomial-exclusive_sum_of p q a b; values = λ x. value-exclusive_sum_of x p q };
+  answers = e;
+}
+
+pub up_to_from_product : (most : ℕ) (p q r : List (List ℕ)) (answer : Option (List (List ℕ))) → IsProduct p q r
+    → answer ≡ cond (leb (length r) most) (Some r) None
+    → IsPolynomialUpTo most (λ x. value_of_polynomial x p && value_of_polynomial x q) answer
+up_to_from_product most p q r answer h e = record { monomials = r; is_of = record { is_polynomial = h.is_polynomial; values = h.values }; answers = e }

@@ -1,0 +1,17 @@
+use Rattle.std.proofs.Common.{◌≡◌, sym, subst}
+use Rattle.exclusive_sums.specs.Polynomials.{IsPolynomial}
+use Rattle.exclusive_sums.specs.Steps.{exclusive_sum_of}
+use Rattle.exclusive_sums.proofs.SumSteps.{IsPolynomial-exclusive_sum_of, up_to_from_sum}
+use Rattle.exclusive_sums.proofs.poly.Poly.xor.Goals as goal
+
+pub limited-requires : goal.limited-requires
+limited-requires c =
+    let sum : c.in_ok-sum.sum.items ≡ exclusive_sum_of c.args.self.now c.args.other.now = cc (c.in_ok-sum.ensures, c.in_ok-left.ensures, c.in_ok-right.ensures) in
+    subst IsPolynomial (sym sum)
+    (IsPolynomial-exclusive_sum_of _ _ (subst IsPolynomial c.self.view_is c.self.invariant.0) (subst IsPolynomial c.other.view_is c.other.invariant.0))
+
+pub returns : goal.returns
+returns c =
+    let sum : c.in_ok-sum.sum.items ≡ exclusive_sum_of c.args.self.now c.args.other.now = cc (c.in_ok-sum.ensures, c.in_ok-left.ensures, c.in_ok-right.ensures) in
+    up_to_from_sum _ c.args.self.now c.args.other.now _ (subst IsPolynomial c.self.view_is c.self.invariant.0) (subst IsPolynomial c.other.view_is c.other.invariant.0)
+    (rw sum at c.limited.ensures)

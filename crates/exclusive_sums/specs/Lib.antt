@@ -1,0 +1,4 @@
+pub mod Aligned
+pub mod Cubes
+pub mod Polynomials
+pub mod Steps

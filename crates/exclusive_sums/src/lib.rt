@@ -1,0 +1,16 @@
+//! Exclusive sums: polynomials over the field of two elements, and their merging into few cubes.
+#![tactic(auto)]
+
+mod cube;
+mod law;
+mod merging;
+mod monomial;
+mod poly;
+
+pub use cube::{Cube, Literal};
+pub use law::uniqueness;
+pub use merging::merge;
+pub use poly::Poly;
+
+#[cfg(test)]
+mod tests;

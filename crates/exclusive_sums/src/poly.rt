@@ -1,0 +1,111 @@
+// Polynomials of at most 64 monomials.
+ghost use Rattle.std.specs.Prelude.{◌≡◌, ◌≤◌, ◌==◌, ◌&&◌, not, [], ◌∷◌, length, IfOk, if◌then◌else◌, nat_le, Some, None};
+ghost use Rattle.exclusive_sums.specs.Polynomials.{IsPolynomial, IsPolynomialOf, IsPolynomialUpTo, value_of_polynomial, xor};
+
+use crate::monomial::{Monomial, copies, exclusive_sum, product};
+use revc_base::Memory;
+use std::alloc::Global;
+use std::marker::Model;
+
+/// A polynomial over the field of two elements (the algebraic normal form, or Zhegalkin polynomial, of a
+/// Boolean function): the exclusive or of at most 64 monomials, each the product of some inputs. Inputs are
+/// counted from 0. Contracts see it as the set of its monomials, each a set of inputs: a list in the
+/// dictionary's order of rising lists.
+#[derive(Debug, Drop)]
+pub struct Poly {
+    monomials: Vec<Monomial>,
+}
+
+impl Model for Poly {
+    ghost use Rattle.std.specs.Prelude.{List, ℕ, ◌≤◌, length};
+    ghost use Rattle.exclusive_sums.specs.Polynomials.{IsPolynomial};
+
+    ghost Value = { List (List ℕ) };
+
+    ghost view = { λ p. p.monomials.items };
+
+    ghost invariant = { λ p. IsPolynomial p.monomials.items × (length p.monomials.items ≤ 64) };
+}
+
+impl Poly {
+    /// The most monomials that a polynomial has.
+    pub const MOST: usize = 64;
+
+    /// The polynomial of one input.
+    pub fn input(alloc: Global, input: u32) -> Result<Poly, Memory>
+        ensures monomials { IfOk result (λ poly. poly ≡ (input ∷ []) ∷ []) }
+        ensures function { IfOk result (IsPolynomialOf (λ assignment. assignment input)) }
+    {
+        let monomial = Monomial::input(alloc, input)?;
+        Ok(Poly {
+            monomials: Vec::from_array(alloc, [monomial])?,
+        })
+    }
+
+    /// The polynomial of the negation. `None` comes exactly where it has more than 64 monomials.
+    pub fn not(&self) -> Result<Option<Poly>, Memory>
+        ensures { IfOk result (IsPolynomialUpTo Self.MOST (λ assignment. not (value_of_polynomial assignment self.now))) }
+    {
+        let alloc = *self.monomials.allocator();
+        let one = Vec::from_array(alloc, [Monomial::one(alloc)])?;
+        let sum = exclusive_sum(alloc, one, copies(alloc, &self.monomials)?)?;
+        Ok(limited(sum))
+    }
+
+    /// The polynomial of the exclusive or of both. `None` comes exactly where it has more than 64 monomials.
+    pub fn xor(&self, other: &Poly) -> Result<Option<Poly>, Memory>
+        ensures { IfOk result (IsPolynomialUpTo Self.MOST (λ assignment. xor (value_of_polynomial assignment self.now) (value_of_polynomial assignment other.now))) }
+    {
+        let alloc = *self.monomials.allocator();
+        let left = copies(alloc, &self.monomials)?;
+        let right = copies(alloc, &other.monomials)?;
+        let sum = exclusive_sum(alloc, left, right)?;
+        Ok(limited(sum))
+    }
+
+    /// The polynomial of the conjunction of both: their product, multiplied out with cancellation. `None` comes
+    /// exactly where it has more than 64 monomials.
+    pub fn and(&self, other: &Poly) -> Result<Option<Poly>, Memory>
+        ensures { IfOk result (IsPolynomialUpTo Self.MOST (λ assignment. value_of_polynomial assignment self.now && value_of_polynomial assignment other.now)) }
+    {
+        let alloc = *self.monomials.allocator();
+        let product = product(alloc, &self.monomials, &other.monomials)?;
+        Ok(limited(product))
+    }
+
+    /// The number of monomials. It takes no memory.
+    pub fn len(&self) -> u32
+        ensures len { result ≡ length self.now }
+        ensures few { result ≤ Self.MOST }
+        ensures polynomial { IsPolynomial self.now }
+    {
+        self.monomials.len() as u32
+    }
+
+    /// Whether there is no monomial, which is the constant 0.
+    pub fn is_empty(&self) -> bool
+        ensures { result ≡ (length self.now == 0) }
+    {
+        self.monomials.is_empty()
+    }
+
+    // The monomials, in order.
+    pub(crate) fn monomials(&self) -> &[Monomial]
+        ensures monomials { result.now ≡ self.now }
+        ensures polynomial { IsPolynomial self.now }
+    {
+        &self.monomials
+    }
+}
+
+// The polynomial of these monomials, if they are few enough.
+fn limited(monomials: Vec<Monomial>) -> Option<Poly>
+    requires { IsPolynomial monomials.items }
+    ensures { result ≡ (if nat_le (length monomials.items) Poly.MOST then Some monomials.items else None) }
+{
+    if monomials.len() <= Poly::MOST {
+        Some(Poly { monomials })
+    } else {
+        None
+    }
+}
