@@ -2,6 +2,7 @@
 use Rattle.std.proofs.Common.{◌≡◌, ℕ, zero, suc, ◌+◌, ◌<◌, ◌≤◌, Bool, true, false, List, [], ◌∷◌, ◌++◌, length, map, get_or, refl, sym, ap, ◌∙◌, subst, inl, inr, arith}
 use Rattle.std.specs.List.{AllByRecursion, remove}
 use Rattle.std.proofs.lemmas.List.{length-append, get_or_default}
+use Rattle.std.proofs.lemmas.Bool.{cases_order}
 use Rattle.std.proofs.lemmas.List.Edits.{length-remove, get_or-remove_below}
 use Rattle.exclusive_sums.specs.declared.cube.Literal.{Literal}
 use Rattle.exclusive_sums.specs.Polynomials.{xor, value_of_monomial, value_of_polynomial, IsRising}
@@ -9,7 +10,7 @@ use Rattle.exclusive_sums.specs.Cubes.{value_of_cube, value_of_cubes, IsCube, di
 use Rattle.exclusive_sums.specs.Steps.{IsStep}
 use Rattle.exclusive_sums.proofs.Alignment.{All-weaken}
 use Rattle.exclusive_sums.proofs.SumSteps.{xor_left, xor_right}
-use Rattle.exclusive_sums.proofs.CubeSteps.{IsCube-positive, same_if_no_distance, value-joined, inputs-joined}
+use Rattle.exclusive_sums.proofs.CubeSteps.{IsCube-positive, same_if_no_distance, same_states_same, value-joined, inputs-joined}
 
 -- ---- taking cubes out
 
@@ -182,3 +183,64 @@ sum_from_merges ms last h m =
       over_inputs = end.over_inputs;
       apart = end.apart;
     }
+
+-- ---- merging has one end
+
+pair_is_one : (cubes : List (List Literal)) (i j k l : ℕ) → IsFirstClosePair cubes i j → IsFirstClosePair cubes k l → (i ≡ k) × (j ≡ l)
+pair_is_one cubes i j k l p q =
+    let first : i ≡ k = elim (cases_order i k) [
+      | inl e ↦ e
+      | inr o ↦ elim o [
+        | inl a ↦ absurd (omega (arith, p.close, q.first i j a p.ordered p.in_range))
+        | inr a ↦ absurd (omega (arith, q.close, p.first k l a q.ordered q.in_range))
+      ]
+    ] in
+    let second : j ≡ l = elim (cases_order j l) [
+      | inl e ↦ e
+      | inr o ↦ elim o [
+        | inl a ↦ let before : 1 < distance_at cubes k j = q.second j (subst (λ n. n < j) first p.ordered) a in
+            let close : distance_at cubes k j ≤ 1 = subst (λ n. distance_at cubes n j ≤ 1) first p.close in absurd (omega arith)
+        | inr a ↦ let before : 1 < distance_at cubes i l = p.second l (subst (λ n. n < l) (sym first) q.ordered) a in
+            let close : distance_at cubes i l ≤ 1 = subst (λ n. distance_at cubes n l ≤ 1) (sym first) q.close in absurd (omega arith)
+      ]
+    ] in
+    (first, second)
+
+not_done : (cubes : List (List Literal)) (i j : ℕ) → AreApart cubes → IsFirstClosePair cubes i j → ⊥
+not_done cubes i j a p = absurd (omega (arith, p.close, a i j p.ordered p.in_range))
+
+done_is_it : (cubes b : List (List Literal)) → AreApart cubes → Merges cubes b → cubes ≡ b
+done_is_it cubes b apart (done cs other) = refl
+done_is_it cubes b apart (cancelled cs end i j f h m) = absurd (not_done cs i j apart f)
+done_is_it cubes b apart (joined cs end i j cube f h g m) = absurd (not_done cs i j apart f)
+
+cancelled_is_it : (cubes a b : List (List Literal)) (i j : ℕ) → IsFirstClosePair cubes i j → distance_at cubes i j ≡ 0
+    → ((c : List (List Literal)) → Merges (without_pair cubes i j) c → a ≡ c) → Merges cubes b → a ≡ b
+cancelled_is_it cubes a b i j f h rest (done cs apart) = absurd (not_done cs i j apart f)
+cancelled_is_it cubes a b i j f h rest (cancelled cs end k l p e m) =
+    let one = pair_is_one cs i j k l f p in
+    rest end (subst (λ n. Merges (without_pair cs n j) end) (sym one.0) (subst (λ n. Merges (without_pair cs k n) end) (sym one.1) m))
+cancelled_is_it cubes a b i j f h rest (joined cs end k l cube p e g m) =
+    let one = pair_is_one cs i j k l f p in
+    let same : distance_at cs i j ≡ distance_at cs k l = ap (λ n. distance_at cs n j) one.0 ∙ ap (λ n. distance_at cs k n) one.1 in
+    absurd (omega arith)
+
+joined_is_it : (cubes a b : List (List Literal)) (i j : ℕ) (cube : List Literal) → IsFirstClosePair cubes i j → distance_at cubes i j ≡ 1
+    → IsJoined (cube_at cubes i) (cube_at cubes j) cube
+    → ((c : List (List Literal)) → Merges (without_pair cubes i j ++ cube ∷ []) c → a ≡ c) → Merges cubes b → a ≡ b
+joined_is_it cubes a b i j cube f h g rest (done cs apart) = absurd (not_done cs i j apart f)
+joined_is_it cubes a b i j cube f h g rest (cancelled cs end k l p e m) =
+    let one = pair_is_one cs i j k l f p in
+    let same : distance_at cs i j ≡ distance_at cs k l = ap (λ n. distance_at cs n j) one.0 ∙ ap (λ n. distance_at cs k n) one.1 in
+    absurd (omega arith)
+joined_is_it cubes a b i j cube f h g rest (joined cs end k l other p e o m) =
+    let one = pair_is_one cs i j k l f p in
+    let there : IsJoined (cube_at cs i) (cube_at cs j) other = subst (λ n. IsJoined (cube_at cs n) (cube_at cs j) other) (sym one.0) (subst (λ n. IsJoined (cube_at cs k) (cube_at cs n) other) (sym one.1) o) in
+    let cubes_same : other ≡ cube = same_states_same other cube there.is_cube g.is_cube (λ i. there.states i ∙ sym (g.states i)) in
+    rest end (subst (λ (c : List Literal). Merges (without_pair cs i j ++ c ∷ []) end) cubes_same
+    (subst (λ n. Merges (without_pair cs n j ++ other ∷ []) end) (sym one.0) (subst (λ n. Merges (without_pair cs k n ++ other ∷ []) end) (sym one.1) m)))
+
+pub merging_is_determined : (cubes a b : List (List Literal)) → Merges cubes a → Merges cubes b → a ≡ b
+merging_is_determined cubes a b (done cs apart) m = done_is_it cs b apart m
+merging_is_determined cubes a b (cancelled cs end i j f h m) n = cancelled_is_it cs end b i j f h (λ c n. merging_is_determined (without_pair cs i j) end c m n) n
+merging_is_determined cubes a b (joined cs end i j cube f h g m) n = joined_is_it cs end b i j cube f h g (λ c n. merging_is_determined (without_pair cs i j ++ cube ∷ []) end c m n) n

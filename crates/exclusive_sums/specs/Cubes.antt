@@ -93,6 +93,10 @@ pub data Merges : List (List Literal) → List (List Literal) → Type 0 where
   joined : (cubes last : List (List Literal)) (i j : ℕ) (cube : List Literal) → IsFirstClosePair cubes i j → distance_at cubes i j ≡ 1
       → IsJoined (cube_at cubes i) (cube_at cubes j) cube → Merges (without_pair cubes i j ++ cube ∷ []) last → Merges cubes last
 
+-- merging has one end
+abbrev pub MergingIsDetermined : Type 0
+MergingIsDetermined = (cubes a b : List (List Literal)) → Merges cubes a → Merges cubes b → a ≡ b
+
 -- a monomial as a cube: its inputs as positive literals
 abbrev pub positive : ℕ → Literal
 positive input = record { input = input; positive = true }

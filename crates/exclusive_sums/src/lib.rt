@@ -8,7 +8,7 @@ mod monomial;
 mod poly;
 
 pub use cube::{Cube, Literal};
-pub use law::uniqueness;
+pub use law::{determinacy, uniqueness};
 pub use merging::merge;
 pub use poly::Poly;
 

@@ -15,8 +15,9 @@ use std::alloc::Global;
 /// literals positive. As long as there are two cubes at distance 0 or 1 (the number of inputs that are absent,
 /// positive or negative otherwise in the one than in the other), the first such pair is taken out, by the least
 /// first place and then the least second place. At distance 0 nothing comes in its place; at distance 1 a cube
-/// is put at the end, with the third state for the input that differs. This is the exclusive sum-of-products
-/// simplification by cubes at distance 0 and 1 that exorcism programs begin with.
+/// is put at the end, with the third state for the input that differs. This is the
+/// simplification of exclusive sums of products by cubes at distance 0 and 1, as in EXORCISM (Mishchenko and
+/// Perkowski, 2001).
 pub fn merge(alloc: Global, poly: &Poly) -> Result<Vec<Cube>, Memory>
     ensures recipe { IfOk result (λ cubes. Merges (cubes_of poly.now) cubes.items) }
     ensures sum { IfOk result (λ cubes. IsExclusiveSumOf poly.now cubes.items) }

@@ -1,0 +1,5 @@
+use Rattle.exclusive_sums.proofs.MergeSteps.{merging_is_determined}
+use Rattle.exclusive_sums.proofs.law.determinacy.Goals as goal
+
+pub returns : goal.returns
+returns c = merging_is_determined
