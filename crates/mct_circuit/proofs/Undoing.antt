@@ -37,7 +37,7 @@ AreDifferent-parts (x ∷ xs) ys d = let rest = AreDifferent-parts xs ys d.1 in 
 
 -- ---- one operation
 
-swap_is : (bits : List Bool) (a b : ℕ) → a < length bits → b < length bits → swap bits a b ≡ set (set bits a (bit_of bits b)) b (bit_of bits a)
+pub swap_is : (bits : List Bool) (a b : ℕ) → a < length bits → b < length bits → swap bits a b ≡ set (set bits a (bit_of bits b)) b (bit_of bits a)
 swap_is [] a b p q = refl
 swap_is (d ∷ ys) a b p q = rw (get_or_default (d ∷ ys) a d false p, get_or_default (d ∷ ys) b d false q)
 

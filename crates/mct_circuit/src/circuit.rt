@@ -124,6 +124,22 @@ impl Circuit {
         Ok(())
     }
 
+    /// Appends all gates, and leaves `gates` empty. `Full` comes exactly where the circuit would hold more
+    /// than `limit` gates. After a refusal the circuit is unchanged.
+    pub fn append(&mut self, gates: &mut Vec<Gate>) -> Result<(), GateFault>
+        requires { AreGatesOn self.old.lines gates.old.items }
+        ensures ok { OnOk result (self.new ≡ record self.old { gates = self.old.gates ++ gates.old.items }) }
+        ensures emptied { OnOk result (gates.new.items ≡ []) }
+        ensures full { IsErrOf result GateFault.Full ↔ (self.old.limit < length self.old.gates + length gates.old.items) }
+        ensures err { OnErr result (self.new ≡ self.old) }
+    {
+        if self.limit - self.len() < gates.len() as u64 {
+            return Err(GateFault::Full);
+        }
+        self.gates.append(gates)?;
+        Ok(())
+    }
+
     /// Changes the bits of the lines as the gates do, one gate after another. It takes no memory.
     pub fn apply(&self, lines: &mut [bool])
         requires { length lines.old ≡ self.now.lines }

@@ -1,0 +1,9 @@
+pub mod Building
+pub mod Costs
+pub mod Flips
+pub mod Ladders
+pub mod Lines
+pub mod Negatives
+pub mod Pieces
+pub mod Steps
+pub mod Walking

@@ -1,0 +1,166 @@
+-- What the calls of the code need, and what their answers make.
+use Rattle.std.proofs.Common.{◌≡◌, ◌≢◌, ℕ, zero, suc, ◌+◌, ◌-◌, ◌<◌, ◌≤◌, leb, cond, List, [], ◌∷◌, ◌++◌, length, get_or, take, drop, reverse, Option, Some, None, refl, sym, ap, ◌∙◌, subst, inl, inr, arith}
+use Rattle.std.specs.List.{AllByRecursion}
+use Rattle.std.proofs.lemmas.List.{append_assoc, length-append, length-take, length-take-le, length-drop, take-append-drop, take-take}
+use Rattle.std.proofs.lemmas.Bool.Decides.{leb_tells}
+use Rattle.mct_circuit.specs.declared.gate.Op.TheVariants.{Swap}
+use Rattle.mct_circuit.specs.Gates.{GateView, flip_of, positive, HasDifferentLines, IsGateOn}
+use Rattle.mct_circuit.proofs.Undoing.{AllByRecursion-left, AllByRecursion-right, AreDifferent-parts}
+use Rattle.mct_circuit.proofs.Weights.{AreDifferent-left}
+use Rattle.gate_split.specs.Idle.{Avoids, Serves}
+use Rattle.gate_split.specs.Split.{idle_lines, in_falling_order, ladder, over_idle_lines, with_enough_idle, first_half, first_flips, second_flips, in_halves, over_few_lines, split_positive, split_flip, split_op, split_gate, between, behind}
+use Rattle.gate_split.proofs.Ladders.{fits_gates}
+use Rattle.gate_split.proofs.Lines.{length-in_falling_order}
+use Rattle.gate_split.proofs.Pieces.{imply, different_of, below_of, serves_fits, serves_take, idle_serves, Halves}
+
+pub rungs_differ : (n : ℕ) (controls : List ℕ) (target : ℕ) (idle : List ℕ) → Serves n controls target idle → length controls ≡ length idle + 2 → AllByRecursion HasDifferentLines (ladder target (reverse controls) (reverse idle))
+rungs_differ n controls target idle s e =
+    imply (IsGateOn n) HasDifferentLines (ladder target (reverse controls) (reverse idle)) (λ g p. p.different) (fits_gates n target (reverse controls) (reverse idle) (serves_fits n controls target idle s e))
+
+pub cut_differ : (n : ℕ) (controls : List ℕ) (target : ℕ) (idle : List ℕ) → Serves n controls target idle → 2 < length controls → length controls ≤ length idle + 2
+    → AllByRecursion HasDifferentLines (ladder target (reverse controls) (reverse (take (length controls - 2) idle)))
+cut_differ n controls target idle s h enough =
+    let cut : length (take (length controls - 2) idle) ≡ length controls - 2 = length-take-le (length controls - 2) idle (omega arith) in
+    rungs_differ n controls target (take (length controls - 2) idle) (serves_take n controls target (length controls - 2) idle s) (omega arith)
+
+-- ---- halves
+
+pub halves_of : (n : ℕ) (controls : List ℕ) (target idle : ℕ) → IsGateOn n (flip_of controls target) → idle < n → Avoids idle (controls ++ target ∷ []) → Halves n (take (first_half controls) controls) (drop (first_half controls) controls) target idle
+halves_of n controls target idle g low off =
+    let h = first_half controls in
+    let grouped : take h controls ++ (drop h controls ++ target ∷ []) ≡ controls ++ target ∷ [] = sym (append_assoc (take h controls) (drop h controls) (target ∷ [])) ∙ ap (λ c. c ++ target ∷ []) (take-append-drop h controls) in
+    record {
+      different = rw grouped (different_of n controls target g);
+      below = rw grouped (below_of n controls target g);
+      low = low;
+      apart = rw grouped off;
+    }
+
+at_most : (k : ℕ) (ls : List ℕ) → k ≤ length ls + 2 → k ≤ length (take k ls) + 2
+at_most k ls h = let cut = length-take k ls in omega arith
+
+cut_le : (k : ℕ) (ls : List ℕ) → length (take k ls) ≡ k → k ≤ length ls
+cut_le k ls e = let cut = length-take k ls in omega arith
+
+pub second_length : (n : ℕ) (controls : List ℕ) (target idle : ℕ) → Halves n (take (first_half controls) controls) (drop (first_half controls) controls) target idle → 4 ≤ length controls
+    → length (drop (first_half controls) controls ++ idle ∷ []) ≤ length (in_falling_order n (take (first_half controls) controls)) + 2
+second_length n controls target idle s four =
+    let h = first_half controls in
+    let first = take h controls in
+    let second = drop h controls in
+    let first_is = length-in_falling_order n first (AreDifferent-left first (second ++ target ∷ []) s.different) (AllByRecursion-left (λ x. x < n) first (second ++ target ∷ []) s.below) in
+    let long_first : length first ≡ h = length-take-le h controls (omega arith) in
+    let long_second : length second ≡ length controls - h = length-drop h controls in
+    let long = length-append second (idle ∷ []) in
+    omega arith
+
+pub second_enough : (n : ℕ) (controls : List ℕ) (target idle : ℕ) → Halves n (take (first_half controls) controls) (drop (first_half controls) controls) target idle → 4 ≤ length controls
+    → length (drop (first_half controls) controls ++ idle ∷ []) ≤ length (take (length (drop (first_half controls) controls ++ idle ∷ [])) (in_falling_order n (take (first_half controls) controls))) + 2
+second_enough n controls target idle s four = at_most (length (drop (first_half controls) controls ++ idle ∷ [])) (in_falling_order n (take (first_half controls) controls)) (second_length n controls target idle s four)
+
+pub first_length : (n : ℕ) (controls : List ℕ) (target idle : ℕ) → Halves n (take (first_half controls) controls) (drop (first_half controls) controls) target idle → 4 ≤ length controls
+    → length (take (first_half controls) controls) ≤ length (in_falling_order n (drop (first_half controls) controls ++ target ∷ [])) + 2
+first_length n controls target idle s four =
+    let h = first_half controls in
+    let first = take h controls in
+    let second = drop h controls in
+    let parts = AreDifferent-parts first (second ++ target ∷ []) s.different in
+    let rest_is = length-in_falling_order n (second ++ target ∷ []) parts.1 (AllByRecursion-right (λ x. x < n) first (second ++ target ∷ []) s.below) in
+    let long_first : length first ≡ h = length-take-le h controls (omega arith) in
+    let long_second : length second ≡ length controls - h = length-drop h controls in
+    let long = length-append second (target ∷ []) in
+    omega arith
+
+pub first_enough : (n : ℕ) (controls : List ℕ) (target idle : ℕ) → Halves n (take (first_half controls) controls) (drop (first_half controls) controls) target idle → 4 ≤ length controls
+    → length (take (first_half controls) controls) ≤ length (take (length (take (first_half controls) controls)) (in_falling_order n (drop (first_half controls) controls ++ target ∷ []))) + 2
+first_enough n controls target idle s four = at_most (length (take (first_half controls) controls)) (in_falling_order n (drop (first_half controls) controls ++ target ∷ [])) (first_length n controls target idle s four)
+
+pub same_cut : (controls : List ℕ) (target : ℕ) (idle : List ℕ) → with_enough_idle controls target (take (length controls) idle) ≡ with_enough_idle controls target idle
+same_cut controls target idle = ap (λ ls. cond (leb (length controls) 2) (flip_of controls target ∷ []) (over_idle_lines controls target ls)) (take-take (length controls - 2) (length controls) idle (omega arith))
+
+-- the list of both halves, twice
+pub halves_made : (n : ℕ) (controls : List ℕ) (target idle : ℕ) (done once second first : List GateView)
+    → second ≡ with_enough_idle (drop (first_half controls) controls ++ idle ∷ []) target (take (length (drop (first_half controls) controls ++ idle ∷ [])) (in_falling_order n (take (first_half controls) controls)))
+    → first ≡ with_enough_idle (take (first_half controls) controls) idle (take (length (take (first_half controls) controls)) (in_falling_order n (drop (first_half controls) controls ++ target ∷ [])))
+    → once ≡ second ++ first → (done ++ once) ++ once ≡ done ++ in_halves n controls target idle
+halves_made n controls target idle done once second first es ef e =
+    let both : once ≡ second_flips n controls target idle ++ first_flips n controls target idle =
+    e ∙ ap (λ s. s ++ first) (es ∙ same_cut (drop (first_half controls) controls ++ idle ∷ []) target (in_falling_order n (take (first_half controls) controls)))
+    ∙ ap (λ f. second_flips n controls target idle ++ f) (ef ∙ same_cut (take (first_half controls) controls) idle (in_falling_order n (drop (first_half controls) controls ++ target ∷ []))) in
+    append_assoc done once once ∙ ap (λ o. done ++ (o ++ o)) both
+
+-- ---- which list
+
+pub positive_over : (n : ℕ) (controls : List ℕ) (target : ℕ) (idle : List ℕ) → 2 < length controls → idle ≡ take (length controls - 2) (idle_lines n (controls ++ target ∷ [])) → length idle ≡ length controls - 2
+    → split_positive n controls target ≡ Some (over_idle_lines controls target idle)
+positive_over n controls target idle h e long =
+    let all = idle_lines n (controls ++ target ∷ []) in
+    let enough : length controls - 2 ≤ length all = cut_le (length controls - 2) all (sym (ap length e) ∙ long) in
+    elim (leb_tells (length controls) 2) [
+      | inl t ↦ absurd (omega (arith, t.1))
+      | inr t ↦ elim (leb_tells (length controls - 2) (length all)) [
+        | inl u ↦ rw (t.0, u.0) (ap (λ ls. Some (over_idle_lines controls target ls)) (sym e))
+        | inr u ↦ absurd (omega (arith, u.1))
+      ]
+    ]
+
+pub positive_few : (n : ℕ) (controls : List ℕ) (target : ℕ) (idle : List ℕ) → 2 < length controls → idle ≡ take (length controls - 2) (idle_lines n (controls ++ target ∷ [])) → length idle ≢ length controls - 2
+    → split_positive n controls target ≡ over_few_lines n controls target (idle_lines n (controls ++ target ∷ []))
+positive_few n controls target idle h e short =
+    let all = idle_lines n (controls ++ target ∷ []) in
+    elim (leb_tells (length controls) 2) [
+      | inl t ↦ absurd (omega (arith, t.1))
+      | inr t ↦ elim (leb_tells (length controls - 2) (length all)) [
+        | inl u ↦ absurd (short (ap length e ∙ length-take-le (length controls - 2) all u.1))
+        | inr u ↦ rw (t.0, u.0) refl
+      ]
+    ]
+
+few_none : (n : ℕ) (controls : List ℕ) (target m : ℕ) (all : List ℕ) → 0 < m → take m all ≡ [] → over_few_lines n controls target all ≡ None
+few_none n controls target m [] h e = refl
+few_none n controls target zero (a ∷ ls) h e = absurd (omega arith)
+few_none n controls target (suc m) (a ∷ ls) h e = absurd (cc)
+
+few_some : (n : ℕ) (controls : List ℕ) (target m : ℕ) (all : List ℕ) (a : ℕ) (ls : List ℕ) → take m all ≡ a ∷ ls → over_few_lines n controls target all ≡ Some (in_halves n controls target a)
+few_some n controls target zero all a ls e = absurd (cc)
+few_some n controls target (suc m) [] a ls e = absurd (cc)
+few_some n controls target (suc m) (b ∷ bs) a ls e = let same : b ≡ a = cc in ap (λ x. Some (in_halves n controls target x)) same
+
+pub positive_none : (n : ℕ) (controls : List ℕ) (target : ℕ) (idle : List ℕ) → 2 < length controls → idle ≡ take (length controls - 2) (idle_lines n (controls ++ target ∷ [])) → idle ≡ [] → split_positive n controls target ≡ None
+positive_none n controls target idle h e none =
+    let zero_long : length idle ≡ 0 = ap length none in
+    positive_few n controls target idle h e (λ q. absurd (omega arith)) ∙ few_none n controls target (length controls - 2) (idle_lines n (controls ++ target ∷ [])) (omega arith) (sym e ∙ none)
+
+pub positive_halves : (n : ℕ) (controls : List ℕ) (target : ℕ) (idle : List ℕ) (a : ℕ) (ls : List ℕ) → 2 < length controls → idle ≡ take (length controls - 2) (idle_lines n (controls ++ target ∷ [])) → length idle ≢ length controls - 2 → idle ≡ a ∷ ls
+    → split_positive n controls target ≡ Some (in_halves n controls target a)
+positive_halves n controls target idle a ls h e short some =
+    positive_few n controls target idle h e short ∙ few_some n controls target (length controls - 2) (idle_lines n (controls ++ target ∷ [])) a ls (sym e ∙ some)
+
+-- the first idle line of a gate
+pub first_idle : (n : ℕ) (controls : List ℕ) (target : ℕ) (idle : List ℕ) (a : ℕ) (ls : List ℕ) → IsGateOn n (flip_of controls target) → idle ≡ take (length controls - 2) (idle_lines n (controls ++ target ∷ [])) → idle ≡ a ∷ ls → (a < n) × Avoids a (controls ++ target ∷ [])
+first_idle n controls target idle a ls g e some =
+    let s : Serves n controls target (a ∷ ls) = subst (Serves n controls target) (sym e ∙ some) (serves_take n controls target (length controls - 2) (idle_lines n (controls ++ target ∷ [])) (idle_serves n controls target g)) in
+    (s.below.0, s.apart.0)
+
+pub first_is : (xs : List ℕ) → 1 ≤ length xs → xs ≡ get_or xs 0 0 ∷ drop 1 xs
+first_is [] h = absurd (omega arith)
+first_is (x ∷ xs) h = refl
+
+-- ---- swaps
+
+behind_between : (done outer : List GateView) (o : Option (List GateView)) (now : List GateView) → behind (done ++ outer) o ≡ Some now → behind done (between outer o) ≡ Some (now ++ outer)
+behind_between done outer None now e = absurd (cc)
+behind_between done outer (Some inner) now e =
+    let is : (done ++ outer) ++ inner ≡ now = cc in
+    ap Some (sym (append_assoc done (outer ++ inner) outer) ∙ ap (λ l. l ++ outer) (sym (append_assoc done outer inner) ∙ is))
+
+pub swap_made : (n : ℕ) (gate : GateView) (a b : ℕ) (done begun now : List GateView) → gate.op ≡ Swap a b → begun ≡ done ++ flip_of (b ∷ []) a ∷ [] → behind begun (split_flip n (gate.controls ++ positive a ∷ []) b) ≡ Some now
+    → behind done (split_gate n gate) ≡ Some (now ++ flip_of (b ∷ []) a ∷ [])
+swap_made n gate a b done begun now o e f =
+    ap (λ op. behind done (split_op n gate.controls op)) o ∙ behind_between done (flip_of (b ∷ []) a ∷ []) (split_flip n (gate.controls ++ positive a ∷ []) b) now (rw e at f)
+
+-- ---- the walk
+
+pub nothing_behind : (o : Option (List GateView)) (piece : List GateView) → behind [] o ≡ Some piece → o ≡ Some piece
+nothing_behind None piece e = absurd (cc)
+nothing_behind (Some gates) piece e = e

@@ -1,0 +1,5 @@
+use Rattle.gate_split.proofs.Costs.{costs}
+use Rattle.gate_split.proofs.law.split_costs.Goals as goal
+
+pub returns : goal.returns
+returns c = costs

@@ -1,0 +1,32 @@
+-- Budgets and plans as contracts see them, and what a split costs.
+use Rattle.std.specs.Prelude.{◌≡◌, ℕ, ◌-◌, ◌*◌, ◌<◌, ◌≤◌, ◌==◌, if◌then◌else◌, Some, List, [], ◌∷◌, ◌++◌, length}
+use Rattle.mct_circuit.specs.Gates.{GateView, CircuitView, IsGateOn, flip_of}
+use Rattle.gate_split.specs.Split.{idle_lines, split_positive}
+
+pub record BudgetView : Type 0 where
+  pub lines : ℕ
+  pub gates : ℕ
+  pub borrow : ℕ
+
+pub record PlannedView : Type 0 where
+  pub circuit : CircuitView
+  pub inputs : ℕ
+  pub outputs : ℕ
+  pub work : ℕ
+
+pub record LaidView : Type 0 where
+  pub circuit : CircuitView
+  pub inputs : ℕ
+  pub outputs : ℕ
+  pub work : ℕ
+  pub borrowed : ℕ
+
+-- the gates in place of a flip of k positive controls, at least 3: 4(k - 2) where k - 2 lines are idle,
+-- and otherwise 10 for k = 4 and 8(k - 3) for more; so never more than 8k
+pub record HasCost (n : ℕ) (controls : List ℕ) (target : ℕ) (gates : List GateView) : Type 0 where
+  pub with_enough : length controls - 2 ≤ length (idle_lines n (controls ++ target ∷ [])) → length gates ≡ 4 * (length controls - 2)
+  pub with_few : length (idle_lines n (controls ++ target ∷ [])) < length controls - 2 → length gates ≡ (if length controls == 4 then 10 else 8 * (length controls - 3))
+  pub at_most : length gates ≤ 8 * length controls
+
+abbrev pub SplitCosts : Type 0
+SplitCosts = (n : ℕ) (controls : List ℕ) (target : ℕ) (gates : List GateView) → IsGateOn n (flip_of controls target) → 3 ≤ length controls → split_positive n controls target ≡ Some gates → HasCost n controls target gates

@@ -1,0 +1,63 @@
+// Why a circuit was not split.
+ghost use Rattle.std.specs.Prelude.{◌≡◌};
+ghost use Rattle.gate_split.specs.declared.fault.Refusal.TheVariants as refusal;
+ghost use Rattle.gate_split.specs.declared.fault.SplitFault.TheVariants.{Memory};
+
+use std::alloc::{AllocError, AllocFailed};
+
+/// Why a circuit was not split: a wide gate uses every line, there are more gates than the limit allows, or
+/// memory was refused.
+#[derive(Clone, Copy, Debug, PartialEq, Eq)]
+pub enum SplitFault {
+    /// The gate at this place, counted from 0, is the first that uses every line and wants an idle one.
+    NoIdle { gate: u64 },
+    Gates,
+    Memory,
+}
+
+impl From<AllocError> for SplitFault {
+    ghost from_gives = { λ _ e. e ≡ Memory };
+
+    fn from(_: AllocError) -> SplitFault {
+        SplitFault::Memory
+    }
+}
+
+impl<T: Drop> From<AllocFailed<T>> for SplitFault {
+    ghost from_gives = { λ _ e. e ≡ Memory };
+
+    fn from(_: AllocFailed<T>) -> SplitFault {
+        SplitFault::Memory
+    }
+}
+
+// Why one gate was not split.
+#[derive(Clone, Copy, Debug, PartialEq, Eq)]
+pub enum Refusal {
+    NoIdle,
+    Memory,
+}
+
+impl From<revc_base::Memory> for Refusal {
+    ghost from_gives = { λ _ e. e ≡ refusal.Memory };
+
+    fn from(_: revc_base::Memory) -> Refusal {
+        Refusal::Memory
+    }
+}
+
+impl From<AllocError> for Refusal {
+    ghost from_gives = { λ _ e. e ≡ refusal.Memory };
+
+    fn from(_: AllocError) -> Refusal {
+        Refusal::Memory
+    }
+}
+
+impl<T: Drop> From<AllocFailed<T>> for Refusal {
+    ghost from_gives = { λ _ e. e ≡ refusal.Memory };
+
+    fn from(_: AllocFailed<T>) -> Refusal {
+        Refusal::Memory
+    }
+}

@@ -1,0 +1,20 @@
+//! Circuits of narrow gates: a circuit of multiply controlled flips and swaps is split into flips with at
+//! most two controls, all positive, over lines that may hold anything (Barenco and others, 1995); and the
+//! types that plans share.
+#![tactic(auto)]
+
+mod fault;
+mod idle;
+mod law;
+mod piece;
+mod plan;
+mod walk;
+mod wide;
+
+pub use fault::SplitFault;
+pub use law::split_costs;
+pub use plan::{Budget, Laid, PlanFault, Planned};
+pub use walk::{Narrow, split};
+
+#[cfg(test)]
+mod tests;

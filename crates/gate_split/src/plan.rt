@@ -1,0 +1,241 @@
+// What plans share: a budget, a plan before its gates are split, and after.
+ghost use Rattle.std.specs.Prelude.{◌≡◌, ◌+◌, ◌≤◌};
+ghost use Rattle.gate_split.specs.declared.plan.PlanFault.TheVariants.{Memory};
+ghost use Rattle.mct_circuit.specs.Gates.{AreNarrow};
+
+use crate::Narrow;
+use mct_circuit::Circuit;
+use std::alloc::{AllocError, AllocFailed};
+use std::marker::Model;
+
+/// What a plan may use: at most 16,384 lines and 4,000,000 gates, and how many of the lines are borrowed, at
+/// most 64.
+#[derive(Debug, Drop)]
+pub struct Budget {
+    lines: u32,
+    gates: u64,
+    borrow: u32,
+}
+
+impl Model for Budget {
+    ghost use Rattle.std.specs.Prelude.{◌≤◌};
+    ghost use Rattle.gate_split.specs.Plans.{BudgetView};
+
+    ghost Value = { BudgetView };
+
+    ghost view = { λ b. record { lines = b.lines; gates = b.gates; borrow = b.borrow } };
+
+    ghost invariant = { λ b. (b.lines ≤ 16384) × (b.gates ≤ 4000000) × (b.borrow ≤ 64) };
+}
+
+impl Budget {
+    /// The budget of these numbers.
+    pub fn new(lines: u32, gates: u64, borrow: u32) -> Budget
+        requires lines { lines ≤ 16384 }
+        requires gates { gates ≤ 4000000 }
+        requires borrow { borrow ≤ 64 }
+        ensures { result ≡ record { lines = lines; gates = gates; borrow = borrow } }
+    {
+        Budget {
+            lines,
+            gates,
+            borrow,
+        }
+    }
+
+    /// The number of lines, the borrowed ones among them.
+    pub fn lines(&self) -> u32
+        ensures lines { result ≡ self.now.lines }
+        ensures limit { self.now.lines ≤ 16384 }
+    {
+        self.lines
+    }
+
+    /// The number of gates.
+    pub fn gates(&self) -> u64
+        ensures gates { result ≡ self.now.gates }
+        ensures limit { self.now.gates ≤ 4000000 }
+    {
+        self.gates
+    }
+
+    /// The number of borrowed lines.
+    pub fn borrow(&self) -> u32
+        ensures borrow { result ≡ self.now.borrow }
+        ensures limit { self.now.borrow ≤ 64 }
+    {
+        self.borrow
+    }
+}
+
+/// A plan whose gates are not split yet: its lines are those of the inputs, then those of the outputs, then
+/// the work lines.
+#[derive(Debug, Drop)]
+pub struct Planned {
+    circuit: Circuit,
+    inputs: u32,
+    outputs: u32,
+    work: u32,
+}
+
+impl Model for Planned {
+    ghost use Rattle.std.specs.Prelude.{◌≡◌, ◌+◌};
+    ghost use Rattle.gate_split.specs.Plans.{PlannedView};
+
+    ghost Value = { PlannedView };
+
+    ghost view = { λ p. record { circuit = p.circuit; inputs = p.inputs; outputs = p.outputs; work = p.work } };
+
+    ghost invariant = { λ p. p.inputs + p.outputs + p.work ≡ p.circuit.lines };
+}
+
+impl Planned {
+    /// The plan of these parts.
+    pub fn new(circuit: Circuit, inputs: u32, outputs: u32, work: u32) -> Planned
+        requires { inputs + outputs + work ≡ circuit.lines }
+        ensures { result ≡ record { circuit = circuit; inputs = inputs; outputs = outputs; work = work } }
+    {
+        Planned {
+            circuit,
+            inputs,
+            outputs,
+            work,
+        }
+    }
+
+    /// The circuit.
+    pub fn circuit(&self) -> &Circuit
+        ensures circuit { result.now ≡ self.now.circuit }
+        ensures lines { self.now.inputs + self.now.outputs + self.now.work ≡ self.now.circuit.lines }
+    {
+        &self.circuit
+    }
+
+    /// The number of input lines.
+    pub fn inputs(&self) -> u32
+        ensures { result ≡ self.now.inputs }
+    {
+        self.inputs
+    }
+
+    /// The number of output lines.
+    pub fn outputs(&self) -> u32
+        ensures { result ≡ self.now.outputs }
+    {
+        self.outputs
+    }
+
+    /// The number of work lines.
+    pub fn work(&self) -> u32
+        ensures { result ≡ self.now.work }
+    {
+        self.work
+    }
+}
+
+/// A plan of narrow gates: its lines are those of the inputs, then those of the outputs, then the work lines,
+/// then the borrowed ones.
+#[derive(Debug, Drop)]
+pub struct Laid {
+    circuit: Narrow,
+    inputs: u32,
+    outputs: u32,
+    work: u32,
+    borrowed: u32,
+}
+
+impl Model for Laid {
+    ghost use Rattle.std.specs.Prelude.{◌≡◌, ◌+◌};
+    ghost use Rattle.gate_split.specs.Plans.{LaidView};
+
+    ghost Value = { LaidView };
+
+    ghost view = { λ l. record { circuit = l.circuit; inputs = l.inputs; outputs = l.outputs; work = l.work; borrowed = l.borrowed } };
+
+    ghost invariant = { λ l. l.inputs + l.outputs + l.work + l.borrowed ≡ l.circuit.lines };
+}
+
+impl Laid {
+    /// The plan of these parts.
+    pub fn new(circuit: Narrow, inputs: u32, outputs: u32, work: u32, borrowed: u32) -> Laid
+        requires { inputs + outputs + work + borrowed ≡ circuit.lines }
+        ensures { result ≡ record { circuit = circuit; inputs = inputs; outputs = outputs; work = work; borrowed = borrowed } }
+    {
+        Laid {
+            circuit,
+            inputs,
+            outputs,
+            work,
+            borrowed,
+        }
+    }
+
+    /// The circuit.
+    pub fn circuit(&self) -> &Circuit
+        ensures circuit { result.now ≡ self.now.circuit }
+        ensures narrow { AreNarrow self.now.circuit.gates }
+        ensures lines { self.now.inputs + self.now.outputs + self.now.work + self.now.borrowed ≡ self.now.circuit.lines }
+    {
+        self.circuit.circuit()
+    }
+
+    /// The number of input lines.
+    pub fn inputs(&self) -> u32
+        ensures { result ≡ self.now.inputs }
+    {
+        self.inputs
+    }
+
+    /// The number of output lines.
+    pub fn outputs(&self) -> u32
+        ensures { result ≡ self.now.outputs }
+    {
+        self.outputs
+    }
+
+    /// The number of work lines.
+    pub fn work(&self) -> u32
+        ensures { result ≡ self.now.work }
+    {
+        self.work
+    }
+
+    /// The number of borrowed lines.
+    pub fn borrowed(&self) -> u32
+        ensures { result ≡ self.now.borrowed }
+    {
+        self.borrowed
+    }
+}
+
+/// Why there is no plan: so many lines are needed, or more gates than the budget has, or memory was refused.
+#[derive(Clone, Copy, Debug, PartialEq, Eq)]
+pub enum PlanFault {
+    Lines { need: u32 },
+    Gates,
+    Memory,
+}
+
+impl From<revc_base::Memory> for PlanFault {
+    ghost from_gives = { λ _ e. e ≡ Memory };
+
+    fn from(_: revc_base::Memory) -> PlanFault {
+        PlanFault::Memory
+    }
+}
+
+impl From<AllocError> for PlanFault {
+    ghost from_gives = { λ _ e. e ≡ Memory };
+
+    fn from(_: AllocError) -> PlanFault {
+        PlanFault::Memory
+    }
+}
+
+impl<T: Drop> From<AllocFailed<T>> for PlanFault {
+    ghost from_gives = { λ _ e. e ≡ Memory };
+
+    fn from(_: AllocFailed<T>) -> PlanFault {
+        PlanFault::Memory
+    }
+}

@@ -1,0 +1,164 @@
+// Flips under positive controls, split over idle lines (Barenco and others 1995, Lemmas 7.2 and 7.3).
+ghost use Rattle.std.specs.Prelude.{◌≡◌, ℕ, ◌+◌, ◌<◌, ◌≤◌, ◌∷◌, [], ◌++◌, length, reverse, take, Some, None, IfOk, OnOk, IsErrOf};
+ghost use Rattle.std.specs.List.{AllByRecursion};
+ghost use Rattle.mct_circuit.specs.Gates.{HasDifferentLines, IsGateOn, flip_of};
+ghost use Rattle.gate_split.specs.Idle.{Avoids, Serves};
+ghost use Rattle.gate_split.specs.Split.{ladder, there_and_back, over_idle_lines, with_enough_idle, in_halves, split_positive, behind};
+
+use crate::fault::Refusal;
+use crate::idle::falling_lines;
+use mct_circuit::Gate;
+use revc_base::Memory;
+use std::alloc::Global;
+
+// Appends the gates in place of a flip under positive controls, on `n` lines.
+pub fn push_positive(
+    alloc: Global,
+    gates: &mut Vec<Gate>,
+    controls: &[u32],
+    target: u32,
+    n: u32,
+) -> Result<(), Refusal>
+    requires { IsGateOn n (flip_of controls.now target) }
+    ensures split { OnOk result (behind gates.old.items (split_positive n controls.now target) ≡ Some gates.new.items) }
+    ensures refused { IsErrOf result Refusal.NoIdle → split_positive n controls.now target ≡ None }
+{
+    if controls.len() <= 2 {
+        gates.push(Gate::flip(alloc, controls, target)?)?;
+        return Ok(());
+    }
+    let wanted = controls.len() - 2;
+    let used = with_line(alloc, controls, target)?;
+    let idle = falling_lines(alloc, &used, false, n, wanted)?;
+    if idle.len() == wanted {
+        push_over_idle(alloc, gates, controls, target, &idle)?;
+        return Ok(());
+    }
+    match idle.as_slice() {
+        [] => Err(Refusal::NoIdle),
+        [line, ..] => {
+            push_halves(alloc, gates, controls, target, n, *line)?;
+            Ok(())
+        }
+    }
+}
+
+// Appends a flip of four or more controls over one idle line: the flip of the target by the second half and
+// the idle line, the flip of the idle line by the first half, and both again, each among the gate's own lines.
+fn push_halves(
+    alloc: Global,
+    gates: &mut Vec<Gate>,
+    controls: &[u32],
+    target: u32,
+    n: u32,
+    idle: u32,
+) -> Result<(), Memory>
+    requires gate { IsGateOn n (flip_of controls.now target) }
+    requires four { 4 ≤ length controls.now }
+    requires below { idle < n }
+    requires apart { Avoids idle (controls.now ++ target ∷ []) }
+    ensures { OnOk result (gates.new.items ≡ gates.old.items ++ in_halves n controls.now target idle) }
+{
+    let (first, second) = controls.split_at(controls.len() - controls.len() / 2);
+    let with_target = with_line(alloc, second, target)?;
+    let with_idle = with_line(alloc, second, idle)?;
+    let first_idle = falling_lines(alloc, &with_target, true, n, first.len())?;
+    let second_idle = falling_lines(alloc, first, true, n, second.len() + 1)?;
+    let mut once = Vec::new(alloc);
+    push_enough(alloc, &mut once, &with_idle, target, &second_idle)?;
+    push_enough(alloc, &mut once, first, idle, &first_idle)?;
+    push_copies(gates, &once)?;
+    gates.append(&mut once)?;
+    Ok(())
+}
+
+// Appends a flip that has two idle lines less than controls, or more.
+fn push_enough(
+    alloc: Global,
+    gates: &mut Vec<Gate>,
+    controls: &[u32],
+    target: u32,
+    idle: &[u32],
+) -> Result<(), Memory>
+    requires serves { (n : ℕ) × Serves n controls.now target idle.now }
+    requires enough { length controls.now ≤ length idle.now + 2 }
+    ensures { OnOk result (gates.new.items ≡ gates.old.items ++ with_enough_idle controls.now target idle.now) }
+{
+    if controls.len() <= 2 {
+        gates.push(Gate::flip(alloc, controls, target)?)?;
+        return Ok(());
+    }
+    push_over_idle(alloc, gates, controls, target, &idle[..controls.len() - 2])
+}
+
+// Appends a flip that has two idle lines less than controls.
+fn push_over_idle(
+    alloc: Global,
+    gates: &mut Vec<Gate>,
+    controls: &[u32],
+    target: u32,
+    idle: &[u32],
+) -> Result<(), Memory>
+    requires long { length controls.now ≡ length idle.now + 2 }
+    requires different { AllByRecursion HasDifferentLines (ladder target (reverse controls.now) (reverse idle.now)) }
+    ensures { OnOk result (gates.new.items ≡ gates.old.items ++ over_idle_lines controls.now target idle.now) }
+{
+    let rungs = rungs(alloc, controls, target, idle)?;
+    let (_, lower) = rungs.split_at(1);
+    push_there_and_back(gates, &rungs)?;
+    push_there_and_back(gates, lower)
+}
+
+// The flips from the target down to the first idle line.
+fn rungs(alloc: Global, controls: &[u32], target: u32, idle: &[u32]) -> Result<Vec<Gate>, Memory>
+    requires long { length controls.now ≡ length idle.now + 2 }
+    requires different { AllByRecursion HasDifferentLines (ladder target (reverse controls.now) (reverse idle.now)) }
+    ensures { IfOk result (λ rungs. rungs.items ≡ ladder target (reverse controls.now) (reverse idle.now)) }
+{
+    let mut rungs = Vec::with_capacity(alloc, idle.len())?;
+    let mut top = target;
+    let mut i = idle.len();
+    while i > 0 {
+        i -= 1;
+        let gate = Gate::flip(alloc, &[controls[i + 2], idle[i]], top)?;
+        rungs.push(gate)?;
+        top = idle[i];
+    }
+    let last = Gate::flip(alloc, &controls[..2], top)?;
+    rungs.push(last)?;
+    Ok(rungs)
+}
+
+// Appends the gates, and then all but the last one once more, backwards.
+fn push_there_and_back(gates: &mut Vec<Gate>, rungs: &[Gate]) -> Result<(), Memory>
+    ensures { OnOk result (gates.new.items ≡ gates.old.items ++ there_and_back rungs.now) }
+{
+    push_copies(gates, rungs)?;
+    let mut i = rungs.len();
+    while i > 1 {
+        i -= 1;
+        let copy = rungs[i - 1].copy()?;
+        gates.push(copy)?;
+    }
+    Ok(())
+}
+
+fn push_copies(gates: &mut Vec<Gate>, copied: &[Gate]) -> Result<(), Memory>
+    ensures { OnOk result (gates.new.items ≡ gates.old.items ++ copied.now) }
+{
+    for gate in copied {
+        let copy = gate.copy()?;
+        gates.push(copy)?;
+    }
+    Ok(())
+}
+
+// The lines and one more behind them.
+fn with_line(alloc: Global, lines: &[u32], line: u32) -> Result<Vec<u32>, Memory>
+    ensures { IfOk result (λ all. all.items ≡ lines.now ++ line ∷ []) }
+{
+    let mut all = Vec::with_capacity(alloc, lines.len())?;
+    all.extend_from_slice(lines)?;
+    all.push(line)?;
+    Ok(all)
+}
