@@ -1,12 +1,12 @@
 -- The laws of the machine over whole sentences.
 use Rattle.std.proofs.Common.{◌≡◌, ℕ, Bool, true, Option, Some, None, List, [], ◌∷◌, ◌++◌, refl, sym, subst, arith}
 use Rattle.revs_lexer.specs.declared.token.Tok.{Tok}
-use Rattle.revs_parser.specs.Grammar.{Form, HasForms, IsSentence, Begins}
-use Rattle.revs_parser.specs.Grammar as g
-use Rattle.revs_parser.specs.Machine.{form, Stack, run, accepts}
-use Rattle.revs_parser.proofs.Complete as machine
-use Rattle.revs_parser.proofs.Complete.{accepts_all, next_accepts}
-use Rattle.revs_parser.proofs.Sound.{Means, none, same, Meets, step_sound, run_sound, done_sound, completed}
+use Rattle.revs_grammar.specs.Grammar.{Form, HasForms, IsSentence, Begins}
+use Rattle.revs_grammar.specs.Grammar as g
+use Rattle.revs_grammar.specs.Machine.{form, Stack, run, accepts}
+use Rattle.revs_grammar.proofs.Complete as machine
+use Rattle.revs_grammar.proofs.Complete.{accepts_all, next_accepts}
+use Rattle.revs_grammar.proofs.Sound.{Means, none, same, Meets, step_sound, run_sound, done_sound, completed}
 
 -- what the machine expects of a whole program
 abbrev pub at_start : Stack

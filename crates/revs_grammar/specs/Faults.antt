@@ -5,7 +5,7 @@ use Rattle.revs_lexer.specs.declared.token.Tok.{Tok}
 use Rattle.revs_lexer.specs.declared.token.Tok.TheVariants as toks
 use Rattle.revs_lexer.specs.declared.token.Token.{Token}
 use Rattle.revs_lexer.specs.Tokens.{IsEnded}
-use Rattle.revs_parser.specs.Grammar.{IsSentence, Begins, any_level, few_levels}
+use Rattle.revs_grammar.specs.Grammar.{IsSentence, Begins, any_level, few_levels}
 
 -- the tokens without their places
 abbrev pub toks_of : List Token → List Tok

@@ -6,8 +6,8 @@ use Rattle.revs_lexer.specs.declared.word.Word.TheVariants as words
 use Rattle.revs_lexer.specs.declared.token.Tok.{Tok}
 use Rattle.revs_lexer.specs.declared.token.Tok.TheVariants as toks
 use Rattle.revs_lexer.specs.declared.token.Token.{Token}
-use Rattle.revs_parser.specs.Grammar.{Form, any_level, few_levels}
-use Rattle.revs_parser.specs.Grammar as g
+use Rattle.revs_grammar.specs.Grammar.{Form, any_level, few_levels}
+use Rattle.revs_grammar.specs.Grammar as g
 
 -- What the machine expects: a form of the grammar, or what is left of two alternatives that begin alike.
 pub data Expected : Type 0 where

@@ -6,13 +6,13 @@ use Rattle.revs_lexer.specs.declared.token.Tok.{Tok}
 use Rattle.revs_lexer.specs.declared.token.Tok.TheVariants as toks
 use Rattle.revs_lexer.specs.declared.token.Token.{Token}
 use Rattle.revs_lexer.specs.Tokens.{IsEnded}
-use Rattle.revs_parser.specs.Grammar.{Form, IsSentence, Begins, any_level, few_levels}
-use Rattle.revs_parser.specs.Grammar as g
-use Rattle.revs_parser.specs.Faults.{toks_of, IsWithinLimits, CannotStand}
-use Rattle.revs_parser.specs.Machine.{form, parameter_end, part_end, body, body_end, Stack, step, run, accepts, is_done, at_level, base_on, application_on, sum_on, expression_on, body_on, parameter_on, names_on, part_on, assigned_on, sums_on, products_on, elements_on, Outcome, accepted, no_syntax, too_deep, is_end, at_token, outcome}
-use Rattle.revs_parser.proofs.Complete.{accepts_next, next_accepts}
-use Rattle.revs_parser.proofs.Sound.{run_next}
-use Rattle.revs_parser.proofs.Laws.{at_start, sentence_accepted, accepted_sentence, run_begins, begins_runs}
+use Rattle.revs_grammar.specs.Grammar.{Form, IsSentence, Begins, any_level, few_levels}
+use Rattle.revs_grammar.specs.Grammar as g
+use Rattle.revs_grammar.specs.Faults.{toks_of, IsWithinLimits, CannotStand}
+use Rattle.revs_grammar.specs.Machine.{form, parameter_end, part_end, body, body_end, Stack, step, run, accepts, is_done, at_level, base_on, application_on, sum_on, expression_on, body_on, parameter_on, names_on, part_on, assigned_on, sums_on, products_on, elements_on, Outcome, accepted, no_syntax, too_deep, is_end, at_token, outcome}
+use Rattle.revs_grammar.proofs.Complete.{accepts_next, next_accepts}
+use Rattle.revs_grammar.proofs.Sound.{run_next}
+use Rattle.revs_grammar.proofs.Laws.{at_start, sentence_accepted, accepted_sentence, run_begins, begins_runs}
 
 -- What the machine does where only few levels are allowed, it does where any are.
 level_any : (ok : Bool) (p x : Stack) → at_level ok p ≡ Some x → Some p ≡ Some x

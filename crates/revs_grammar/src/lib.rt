@@ -4,7 +4,7 @@
 //! is refused: the first that cannot stand there, or the first that opens level 101.
 #![tactic(auto)]
 
-ghost use Rattle.revs_parser.specs.Faults.{SomeVerdict, OneVerdict};
+ghost use Rattle.revs_grammar.specs.Faults.{SomeVerdict, OneVerdict};
 
 /// Each list of tokens that ends with `End`, and holds no other, has one verdict: it is a sentence with no level above 100,
 /// or there is one token that no sentence can hold there, or one that is the first to open level 101.

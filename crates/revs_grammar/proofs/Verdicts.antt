@@ -4,13 +4,13 @@ use Rattle.revc_base.specs.declared.place.Place.{Place}
 use Rattle.revs_lexer.specs.declared.token.Tok.{Tok}
 use Rattle.revs_lexer.specs.declared.token.Tok.TheVariants as toks
 use Rattle.revs_lexer.specs.declared.token.Token.{Token}
-use Rattle.revs_parser.specs.Grammar.{Form, IsSentence, Begins, any_level, few_levels}
-use Rattle.revs_parser.specs.Grammar as g
-use Rattle.revs_parser.specs.Faults.{toks_of, IsWithinLimits, CannotStand, IsSyntax, IsNesting, Verdict, within_limits, syntax, nesting, IsVerdict, SomeVerdict, OneVerdict}
-use Rattle.revs_parser.specs.Machine.{form, parameter_end, part_end, body, body_end, Stack, step, run, is_done, Outcome, accepted, no_syntax, too_deep, is_end, at_token, outcome}
-use Rattle.revs_parser.proofs.Sound.{run_next}
-use Rattle.revs_parser.proofs.Laws.{at_start, sentence_accepted, accepted_sentence, run_begins, begins_runs}
-use Rattle.revs_parser.proofs.Outcomes.{run_more, run_end, run_done, done_run, run_any, step_any, Says, outcome_says}
+use Rattle.revs_grammar.specs.Grammar.{Form, IsSentence, Begins, any_level, few_levels}
+use Rattle.revs_grammar.specs.Grammar as g
+use Rattle.revs_grammar.specs.Faults.{toks_of, IsWithinLimits, CannotStand, IsSyntax, IsNesting, Verdict, within_limits, syntax, nesting, IsVerdict, SomeVerdict, OneVerdict}
+use Rattle.revs_grammar.specs.Machine.{form, parameter_end, part_end, body, body_end, Stack, step, run, is_done, Outcome, accepted, no_syntax, too_deep, is_end, at_token, outcome}
+use Rattle.revs_grammar.proofs.Sound.{run_next}
+use Rattle.revs_grammar.proofs.Laws.{at_start, sentence_accepted, accepted_sentence, run_begins, begins_runs}
+use Rattle.revs_grammar.proofs.Outcomes.{run_more, run_end, run_done, done_run, run_any, step_any, Says, outcome_says}
 
 -- The machine takes no `End`.
 step_end : (a : ℕ → Bool) (ms : Stack) → step a ms toks.End ≡ None

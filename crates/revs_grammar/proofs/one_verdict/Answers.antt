@@ -1,0 +1,5 @@
+use Rattle.revs_grammar.proofs.Verdicts.{some_verdict, one_verdict}
+use Rattle.revs_grammar.proofs.one_verdict.Goals as goal
+
+pub returns : goal.returns
+returns c = record { some = some_verdict; one = one_verdict }
