@@ -3,7 +3,7 @@ use Rattle.std.specs.Prelude.{ℕ, ◌+◌, ◌<◌, ◌≤◌, ◌^◌, leb, Op
 use Rattle.std.specs.List.{list_all}
 use Rattle.revs_terms.specs.Terms.{is_formed, levels_of, names_of}
 use Rattle.revs_terms.specs.declared.program.Param.{Param}
-use Rattle.revs_terms.specs.declared.term.Term.{Term}
+use Rattle.revs_terms.specs.Trees.{Tree}
 
 -- how many bits a parameter has
 abbrev pub width_of : Option ℕ → ℕ
@@ -19,10 +19,10 @@ pub record AreParams (params : List Param) : Type 0 where
   pub inputs : sum (widths_of params) ≤ 1024
 
 -- What the body of a program keeps.
-pub record IsBody (body : Term) : Type 0 where
+pub record IsBody (body : Tree) : Type 0 where
   pub formed : IsTrue (is_formed body)
   pub nesting : levels_of body ≤ 100
 
 -- A program holds fewer than 2^32 names.
-abbrev pub HasFewNames : List Param → Term → Type 0
+abbrev pub HasFewNames : List Param → Tree → Type 0
 HasFewNames params body = length params + names_of body < 2 ^ 32

@@ -1,95 +1,99 @@
 -- What holds of a term: its place, its shape and its nesting.
-use Rattle.std.specs.Prelude.{ℕ, ◌+◌, leb, max, Bool, true, ◌&&◌, List, [], ◌∷◌, length, if◌then◌else◌, sum as sum_of}
-use Rattle.std.specs.List.{list_all}
+use Rattle.std.specs.Prelude.{IsTrue, ℕ, ◌+◌, leb, max, Bool, true, false, ◌&&◌, List, [], ◌∷◌, length, if◌then◌else◌}
 use Rattle.revc_base.specs.declared.place.Place.{Place}
-use Rattle.revs_terms.specs.declared.term.Term.{Term}
-use Rattle.revs_terms.specs.declared.term.Item.TheOpen.{Item-F, Term-F, Lambda-F}
-use Rattle.revs_terms.specs.declared.term.Item.TheOpen as layer
-use Rattle.revs_terms.specs.declared.term.Item.TheFolds.{fold-Term}
-
--- the first of these places
-abbrev pub first_of : List Place → Place
-first_of [] = record { line = 0; column = 0 }
-first_of (p ∷ _) = p
-
--- One layer of a term, with the place of each inner term in its stead.
-abbrev pub place_step : Term-F (Unit {0}) Place (Unit {0}) → Place
-place_step (layer.Name name) = name.at
-place_step (layer.Bool value at) = at
-place_step (layer.Reg elements at) = at
-place_step (layer.Block items last at) = at
-place_step (layer.Fun function at) = at
-place_step (layer.At base parts) = base.value
-place_step (layer.Apply head arguments) = head.value
-place_step (layer.Append first second at) = at
-place_step (layer.Rotate by operand at) = at
-place_step (layer.Clean operand at) = at
-place_step (layer.Assert operand at) = at
-place_step (layer.And terms) = first_of terms.items
-place_step (layer.Xor terms) = first_of terms.items
-place_step (layer.Assign left right) = left.value
+use Rattle.revs_terms.specs.Trees.{Tree, Trees, ItemTree, ItemTrees, used, bool, reg, block, function, parts, apply, append, rotate, clean, assert, ands, xors, assign, nil, cons, bind, run, no_items, item, list_of}
 
 -- the place of a term: that of its first token, or of the first token inside where the term stood in brackets
-abbrev pub place_of : Term → Place
-place_of = fold-Term (Unit {0}) Place (Unit {0}) (λ _. tt) place_step (λ _. tt)
+abbrev mutual
+  pub place_of : Tree → Place
+  place_of (used name) = name.at
+  place_of (bool value at) = at
+  place_of (reg elements at) = at
+  place_of (block items last at) = at
+  place_of (function names body at) = at
+  place_of (parts inner inside) = place_of inner
+  place_of (apply head arguments) = place_of head
+  place_of (append first second at) = at
+  place_of (rotate by operand at) = at
+  place_of (clean operand at) = at
+  place_of (assert operand at) = at
+  place_of (ands terms) = place_of_first terms
+  place_of (xors terms) = place_of_first terms
+  place_of (assign left right) = place_of left
 
--- at least n of these, and each is true
-abbrev pub has_true : ℕ → List Bool → Bool
-has_true n tests = leb n (length tests) && list_all (λ t. t) tests
+  pub place_of_first : Trees → Place
+  place_of_first nil = record { line = 0; column = 0 }
+  place_of_first (cons t ts) = place_of t
 
-abbrev pub parts_in_item : Item-F Bool Bool Bool → Bool
-parts_in_item (layer.Let name value) = value
-parts_in_item (layer.Do term) = term
+-- whether a list has an element, and whether it has two
+abbrev pub has_one : {A : Type 0} → List A → Bool
+has_one [] = false
+has_one (x ∷ xs) = true
 
--- One layer of a term, with the answer of each inner term in its stead.
-abbrev pub parts_step : Term-F Bool Bool Bool → Bool
-parts_step (layer.Name name) = true
-parts_step (layer.Bool value at) = true
-parts_step (layer.Reg elements at) = list_all (λ t. t) elements.items
-parts_step (layer.Block items last at) = list_all (λ t. t) items.items && last.value
-parts_step (layer.Fun function at) = function.value
-parts_step (layer.At base parts) = base.value
-parts_step (layer.Apply head arguments) = head.value && list_all (λ t. t) arguments.items
-parts_step (layer.Append first second at) = first.value && second.value
-parts_step (layer.Rotate by operand at) = operand.value
-parts_step (layer.Clean operand at) = operand.value
-parts_step (layer.Assert operand at) = operand.value
-parts_step (layer.And terms) = has_true 1 terms.items
-parts_step (layer.Xor terms) = has_true 1 terms.items
-parts_step (layer.Assign left right) = left.value && right.value
+abbrev pub has_two : {A : Type 0} → List A → Bool
+has_two [] = false
+has_two (x ∷ xs) = has_one xs
 
 -- whether each `And` and `Xor` in a term has a part
-abbrev pub has_parts : Term → Bool
-has_parts = fold-Term Bool Bool Bool parts_in_item parts_step (λ function. function.body)
+abbrev mutual
+  pub has_parts : Tree → Bool
+  has_parts (used name) = true
+  has_parts (bool value at) = true
+  has_parts (reg elements at) = have_parts elements
+  has_parts (block items last at) = items_have_parts items && has_parts last
+  has_parts (function names body at) = has_parts body
+  has_parts (parts inner inside) = has_parts inner
+  has_parts (apply head arguments) = has_parts head && have_parts arguments
+  has_parts (append first second at) = has_parts first && has_parts second
+  has_parts (rotate by operand at) = has_parts operand
+  has_parts (clean operand at) = has_parts operand
+  has_parts (assert operand at) = has_parts operand
+  has_parts (ands terms) = has_one (list_of terms) && have_parts terms
+  has_parts (xors terms) = has_one (list_of terms) && have_parts terms
+  has_parts (assign left right) = has_parts left && has_parts right
 
-abbrev pub formed_in_item : Item-F Bool Bool Bool → Bool
-formed_in_item (layer.Let name value) = value
-formed_in_item (layer.Do term) = term
+  pub have_parts : Trees → Bool
+  have_parts nil = true
+  have_parts (cons t ts) = has_parts t && have_parts ts
 
--- One layer of a term, with the answer of each inner term in its stead.
-abbrev pub formed_step : Term-F Bool Bool Bool → Bool
-formed_step (layer.Name name) = true
-formed_step (layer.Bool value at) = true
-formed_step (layer.Reg elements at) = has_true 1 elements.items
-formed_step (layer.Block items last at) = list_all (λ t. t) items.items && last.value
-formed_step (layer.Fun function at) = function.value
-formed_step (layer.At base parts) = base.value && leb 1 (length parts.items)
-formed_step (layer.Apply head arguments) = head.value && has_true 1 arguments.items
-formed_step (layer.Append first second at) = first.value && second.value
-formed_step (layer.Rotate by operand at) = operand.value
-formed_step (layer.Clean operand at) = operand.value
-formed_step (layer.Assert operand at) = operand.value
-formed_step (layer.And terms) = has_true 2 terms.items
-formed_step (layer.Xor terms) = has_true 2 terms.items
-formed_step (layer.Assign left right) = left.value && right.value
+  pub item_has_parts : ItemTree → Bool
+  item_has_parts (bind name value) = has_parts value
+  item_has_parts (run term) = has_parts term
 
-abbrev pub formed_function : Lambda-F Bool Bool Bool → Bool
-formed_function function = leb 1 (length function.names.items) && function.body
+  pub items_have_parts : ItemTrees → Bool
+  items_have_parts no_items = true
+  items_have_parts (item i is) = item_has_parts i && items_have_parts is
 
 -- whether each `And` and `Xor` in a term has two parts at least, each `Reg` an element, each `Apply` an argument, each `At` a
 -- part and each function a name
-abbrev pub is_formed : Term → Bool
-is_formed = fold-Term Bool Bool Bool formed_in_item formed_step formed_function
+abbrev mutual
+  pub is_formed : Tree → Bool
+  is_formed (used name) = true
+  is_formed (bool value at) = true
+  is_formed (reg elements at) = has_one (list_of elements) && are_formed elements
+  is_formed (block items last at) = items_are_formed items && is_formed last
+  is_formed (function names body at) = has_one names && is_formed body
+  is_formed (parts inner inside) = has_one inside && is_formed inner
+  is_formed (apply head arguments) = is_formed head && (has_one (list_of arguments) && are_formed arguments)
+  is_formed (append first second at) = is_formed first && is_formed second
+  is_formed (rotate by operand at) = is_formed operand
+  is_formed (clean operand at) = is_formed operand
+  is_formed (assert operand at) = is_formed operand
+  is_formed (ands terms) = has_two (list_of terms) && are_formed terms
+  is_formed (xors terms) = has_two (list_of terms) && are_formed terms
+  is_formed (assign left right) = is_formed left && is_formed right
+
+  pub are_formed : Trees → Bool
+  are_formed nil = true
+  are_formed (cons t ts) = is_formed t && are_formed ts
+
+  pub item_is_formed : ItemTree → Bool
+  item_is_formed (bind name value) = is_formed value
+  item_is_formed (run term) = is_formed term
+
+  pub items_are_formed : ItemTrees → Bool
+  items_are_formed no_items = true
+  items_are_formed (item i is) = item_is_formed i && items_are_formed is
 
 -- The forms that an expression has, the tightest first: a base, an atom, an application, a product, a sum, an expression.
 abbrev pub base : ℕ
@@ -110,77 +114,90 @@ sum = 4
 abbrev pub expression : ℕ
 expression = 5
 
--- How a term stands in a text: its form, and how many levels its shortest text has, where it stands at the first.
-pub record Standing : Type 0 where
-  pub form : ℕ
-  pub levels : ℕ
+-- the form in which a term stands in a text
+abbrev pub form_of : Tree → ℕ
+form_of (used name) = base
+form_of (bool value at) = base
+form_of (reg elements at) = base
+form_of (block items last at) = base
+form_of (function names body at) = expression
+form_of (parts inner inside) = atom
+form_of (apply head arguments) = application
+form_of (append first second at) = application
+form_of (rotate by operand at) = application
+form_of (clean operand at) = application
+form_of (assert operand at) = application
+form_of (ands terms) = product
+form_of (xors terms) = sum
+form_of (assign left right) = expression
 
 -- the levels of a term in a place for one form: a looser one stands in brackets, which open a level
-abbrev pub levels_as : ℕ → Standing → ℕ
-levels_as form term = if leb term.form form then term.levels else term.levels + 1
+abbrev pub levels_as : ℕ → Tree → ℕ → ℕ
+levels_as form term levels = if leb (form_of term) form then levels else levels + 1
 
--- the most levels of terms in places for one form
-abbrev pub levels_of_all : ℕ → List Standing → ℕ
-levels_of_all form [] = 1
-levels_of_all form (t ∷ ts) = max (levels_as form t) (levels_of_all form ts)
+-- how many levels the shortest text of a term has, where it stands at the first
+abbrev mutual
+  pub levels_of : Tree → ℕ
+  levels_of (used name) = 1
+  levels_of (bool value at) = 1
+  levels_of (reg elements at) = levels_of_all expression elements + 1
+  levels_of (block items last at) = max (levels_of_items items) (levels_of last) + 1
+  levels_of (function names body at) = levels_of body + 1
+  levels_of (parts inner inside) = levels_as base inner (levels_of inner)
+  levels_of (apply head arguments) = max (levels_as atom head (levels_of head)) (levels_of_all atom arguments)
+  levels_of (append first second at) = max (levels_as atom first (levels_of first)) (levels_as atom second (levels_of second))
+  levels_of (rotate by operand at) = levels_as atom operand (levels_of operand)
+  levels_of (clean operand at) = levels_as atom operand (levels_of operand)
+  levels_of (assert operand at) = levels_as atom operand (levels_of operand)
+  levels_of (ands terms) = levels_of_all application terms
+  levels_of (xors terms) = levels_of_all product terms
+  levels_of (assign left right) = max (levels_as sum left (levels_of left)) (levels_as sum right (levels_of right))
 
--- An item of a block, and a function's body, stand one level below it.
-abbrev pub standing_of_item : Item-F Standing Standing Standing → Standing
-standing_of_item (layer.Let name value) = value
-standing_of_item (layer.Do term) = term
+  -- the most levels of terms in places for one form
+  pub levels_of_all : ℕ → Trees → ℕ
+  levels_of_all form nil = 1
+  levels_of_all form (cons t ts) = max (levels_as form t (levels_of t)) (levels_of_all form ts)
 
--- One layer of a term, with the standing of each inner term in its stead.
-abbrev pub standing_step : Term-F Standing Standing Standing → Standing
-standing_step (layer.Name name) = record { form = base; levels = 1 }
-standing_step (layer.Bool value at) = record { form = base; levels = 1 }
-standing_step (layer.Reg elements at) = record { form = base; levels = levels_of_all expression elements.items + 1 }
-standing_step (layer.Block items last at) =
-    record { form = base; levels = max (levels_of_all expression items.items) last.value.levels + 1 }
-standing_step (layer.Fun function at) = record { form = expression; levels = function.value.levels + 1 }
-standing_step (layer.At inner parts) = record { form = atom; levels = levels_as base inner.value }
-standing_step (layer.Apply head arguments) =
-    record { form = application; levels = max (levels_as atom head.value) (levels_of_all atom arguments.items) }
-standing_step (layer.Append first second at) =
-    record { form = application; levels = max (levels_as atom first.value) (levels_as atom second.value) }
-standing_step (layer.Rotate by operand at) = record { form = application; levels = levels_as atom operand.value }
-standing_step (layer.Clean operand at) = record { form = application; levels = levels_as atom operand.value }
-standing_step (layer.Assert operand at) = record { form = application; levels = levels_as atom operand.value }
-standing_step (layer.And terms) = record { form = product; levels = levels_of_all application terms.items }
-standing_step (layer.Xor terms) = record { form = sum; levels = levels_of_all product terms.items }
-standing_step (layer.Assign left right) =
-    record { form = expression; levels = max (levels_as sum left.value) (levels_as sum right.value) }
+  -- A `let` can have a function's names behind its own, and then its function opens no level.
+  pub levels_of_item : ItemTree → ℕ
+  levels_of_item (bind name (function names body at)) = levels_of body
+  levels_of_item (bind name value) = levels_of value
+  levels_of_item (run term) = levels_of term
 
-abbrev pub standing_of : Term → Standing
-standing_of = fold-Term Standing Standing Standing standing_of_item standing_step (λ function. function.body)
-
--- how many levels the shortest text of a term has
-abbrev pub levels_of : Term → ℕ
-levels_of term = (standing_of term).levels
-
-abbrev pub names_in_item : Item-F ℕ ℕ ℕ → ℕ
-names_in_item (layer.Let name value) = value + 1
-names_in_item (layer.Do term) = term
-
--- One layer of a term, with the number of names of each inner term in its stead.
-abbrev pub names_step : Term-F ℕ ℕ ℕ → ℕ
-names_step (layer.Name name) = 1
-names_step (layer.Bool value at) = 0
-names_step (layer.Reg elements at) = sum_of elements.items
-names_step (layer.Block items last at) = sum_of items.items + last.value
-names_step (layer.Fun function at) = function.value
-names_step (layer.At inner parts) = inner.value
-names_step (layer.Apply head arguments) = head.value + sum_of arguments.items
-names_step (layer.Append first second at) = first.value + second.value
-names_step (layer.Rotate by operand at) = operand.value
-names_step (layer.Clean operand at) = operand.value
-names_step (layer.Assert operand at) = operand.value
-names_step (layer.And terms) = sum_of terms.items
-names_step (layer.Xor terms) = sum_of terms.items
-names_step (layer.Assign left right) = left.value + right.value
-
-abbrev pub names_in_function : Lambda-F ℕ ℕ ℕ → ℕ
-names_in_function function = length function.names.items + function.body
+  pub levels_of_items : ItemTrees → ℕ
+  levels_of_items no_items = 1
+  levels_of_items (item i is) = max (levels_of_item i) (levels_of_items is)
 
 -- how many names stand in a term, used or bound
-abbrev pub names_of : Term → ℕ
-names_of = fold-Term ℕ ℕ ℕ names_in_item names_step names_in_function
+abbrev mutual
+  pub names_of : Tree → ℕ
+  names_of (used name) = 1
+  names_of (bool value at) = 0
+  names_of (reg elements at) = names_of_all elements
+  names_of (block items last at) = names_of_items items + names_of last
+  names_of (function names body at) = length names + names_of body
+  names_of (parts inner inside) = names_of inner
+  names_of (apply head arguments) = names_of head + names_of_all arguments
+  names_of (append first second at) = names_of first + names_of second
+  names_of (rotate by operand at) = names_of operand
+  names_of (clean operand at) = names_of operand
+  names_of (assert operand at) = names_of operand
+  names_of (ands terms) = names_of_all terms
+  names_of (xors terms) = names_of_all terms
+  names_of (assign left right) = names_of left + names_of right
+
+  pub names_of_all : Trees → ℕ
+  names_of_all nil = 0
+  names_of_all (cons t ts) = names_of t + names_of_all ts
+
+  pub names_of_item : ItemTree → ℕ
+  names_of_item (bind name value) = names_of value + 1
+  names_of_item (run term) = names_of term
+
+  pub names_of_items : ItemTrees → ℕ
+  names_of_items no_items = 0
+  names_of_items (item i is) = names_of_item i + names_of_items is
+
+-- A formed term has parts.
+abbrev pub FormedHasParts : Type 0
+FormedHasParts = (term : Tree) → IsTrue (is_formed term) → IsTrue (has_parts term)

@@ -1,5 +1,5 @@
 -- Terms as contracts see them: trees, with lists in place of vectors.
-use Rattle.std.specs.Prelude.{ℕ, Bool, List, [], ◌∷◌, map}
+use Rattle.std.specs.Prelude.{ℕ, Bool, List, [], ◌∷◌}
 use Rattle.revc_base.specs.declared.place.Place.{Place}
 use Rattle.revs_terms.specs.declared.term.Name.{Name}
 use Rattle.revs_terms.specs.declared.term.Part.{Part}

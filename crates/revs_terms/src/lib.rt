@@ -8,7 +8,7 @@ mod program;
 mod term;
 
 pub use program::{Param, Program};
-pub use term::{Item, Lambda, Name, Part, Term};
+pub use term::{Item, Lambda, Name, Part, Term, formed_has_parts};
 
 #[cfg(test)]
 mod tests;

@@ -1,5 +1,6 @@
 // Programs, as the grammar gives them.
 ghost use Rattle.revs_terms.specs.Programs.{AreParams, IsBody, HasFewNames};
+ghost use Rattle.revs_terms.specs.Trees.{tree_of};
 
 use crate::{Name, Term};
 
@@ -20,6 +21,6 @@ pub struct Program {
     pub body: Term,
 
     ghost inputs: { AreParams params.items },
-    ghost formed: { IsBody body },
-    ghost few_names: { HasFewNames params.items body },
+    ghost formed: { IsBody (tree_of body) },
+    ghost few_names: { HasFewNames params.items (tree_of body) },
 }

@@ -1,6 +1,7 @@
 // Terms, as the grammar gives them.
 ghost use Rattle.std.specs.Prelude.{◌≡◌, IsTrue};
-ghost use Rattle.revs_terms.specs.Terms.{place_of, has_parts};
+ghost use Rattle.revs_terms.specs.Terms.{place_of, has_parts, FormedHasParts};
+ghost use Rattle.revs_terms.specs.Trees.{tree_of};
 
 use revc_base::{Place, Text};
 
@@ -59,8 +60,8 @@ pub enum Term {
 impl Term {
     /// The place of the term's first token. A bracketed term has the place of the term inside. It takes no memory.
     pub fn place(&self) -> Place
-        requires { IsTrue (has_parts self.now) }
-        ensures { result ≡ place_of self.now }
+        requires { IsTrue (has_parts (tree_of self.now)) }
+        ensures { result ≡ place_of (tree_of self.now) }
     {
         match self {
             Term::Name(name) => name.at,
@@ -72,3 +73,8 @@ impl Term {
         }
     }
 }
+
+/// A formed term has parts: so the body of a program meets what [`Term::place`] requires.
+pub fn formed_has_parts()
+    ensures { FormedHasParts }
+{}

@@ -1,5 +1,6 @@
 ghost use Rattle.std.specs.Prelude.{IfOk, IsTrue};
 ghost use Rattle.revs_terms.specs.Terms.{has_parts};
+ghost use Rattle.revs_terms.specs.Trees.{tree_of};
 
 use super::*;
 use revc_base::{Place, Text};
@@ -11,7 +12,7 @@ fn at(column: u32) -> Place {
 }
 
 fn name(alloc: Global, column: u32) -> Result<Term, Fail>
-    ensures { IfOk result (λ term. IsTrue (has_parts term)) }
+    ensures { IfOk result (λ term. IsTrue (has_parts (tree_of term))) }
 {
     Ok(Term::Name(Name {
         text: Text::new(alloc, b"x")?,
