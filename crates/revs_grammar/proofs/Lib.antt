@@ -1,6 +1,9 @@
+pub mod Grammar
+pub mod Bridge
 pub mod Order
 pub mod Complete
 pub mod Sound
+pub mod Inputs
 pub mod Laws
 pub mod Outcomes
 pub mod Verdicts

@@ -6,8 +6,8 @@ use Rattle.revs_lexer.specs.declared.sign.Sign.TheVariants as signs
 use Rattle.revs_lexer.specs.declared.word.Word.TheVariants as words
 use Rattle.revs_lexer.specs.declared.token.Tok.{Tok}
 use Rattle.revs_lexer.specs.declared.token.Tok.TheVariants as toks
-use Rattle.revs_grammar.specs.Grammar.{Form}
-use Rattle.revs_grammar.specs.Grammar as g
+use Rattle.revs_grammar.proofs.Grammar.{Form}
+use Rattle.revs_grammar.proofs.Grammar as g
 use Rattle.revs_grammar.specs.Machine.{Expected, form, parameter_end, part_end, body, body_end, Stack, sign_code, same_sign, step, base_on, application_on, sum_on, expression_on, body_on, sign_on, bool_on, name_on, parameter_on, names_on, assigned_on, sums_on, products_on, elements_on, body_end_on}
 
 -- How early a sign may stand behind an operand: each optional form begins with one kind, and what stands behind it is later.

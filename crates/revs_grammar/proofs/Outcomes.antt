@@ -6,9 +6,10 @@ use Rattle.revs_lexer.specs.declared.token.Tok.{Tok}
 use Rattle.revs_lexer.specs.declared.token.Tok.TheVariants as toks
 use Rattle.revs_lexer.specs.declared.token.Token.{Token}
 use Rattle.revs_lexer.specs.Tokens.{IsEnded}
-use Rattle.revs_grammar.specs.Grammar.{Form, IsSentence, Begins, any_level, few_levels}
-use Rattle.revs_grammar.specs.Grammar as g
-use Rattle.revs_grammar.specs.Faults.{toks_of, IsWithinLimits, CannotStand}
+use Rattle.revs_grammar.specs.Sentences.{IsSentence, Begins, any_level, few_levels}
+use Rattle.revs_grammar.proofs.Grammar.{toks_of}
+use Rattle.revs_grammar.proofs.Grammar as g
+use Rattle.revs_grammar.specs.Faults.{CannotStandAs, CannotStand}
 use Rattle.revs_grammar.specs.Machine.{form, parameter_end, part_end, body, body_end, Stack, step, run, accepts, is_done, at_level, base_on, application_on, sum_on, expression_on, body_on, parameter_on, names_on, part_on, assigned_on, sums_on, products_on, elements_on, Outcome, accepted, no_syntax, too_deep, is_end, at_token, outcome}
 use Rattle.revs_grammar.proofs.Complete.{accepts_next, next_accepts}
 use Rattle.revs_grammar.proofs.Sound.{run_next}
@@ -151,23 +152,31 @@ run_any (t ∷ front) ms x e =
     first_step any_level t front ms n.0 x (step_any ms t n.0 n.1.0) (run_any front n.0 x n.1.1)
 
 -- The reading stops at the token in front of which so many tokens were read.
-pub record StopsAt (tokens : List Token) (left : ℕ) (Why : List Tok → Tok → Type 0) : Type 0 where
+pub record StopsAt (tokens : List Token) (left : ℕ) (Why : List Token → Token → Type 0) : Type 0 where
   pub front : List Token
   pub named : Token
   pub rest : List Token
   pub cut : tokens ≡ front ++ named ∷ rest
   pub count : length rest + 1 ≡ left
-  pub why : Why (toks_of front) named.tok
+  pub why : Why front named
 
-abbrev pub Refuses : List Tok → Tok → Type 0
-Refuses front tok = Begins few_levels front × CannotStand front tok
+abbrev pub Refuses : List Token → Token → Type 0
+Refuses front named = Begins few_levels front × CannotStand front named
 
-abbrev pub Deepens : List Tok → Tok → Type 0
-Deepens front tok = Begins few_levels front × ((¬ Begins few_levels (front ++ tok ∷ [])) × Begins any_level (front ++ tok ∷ []))
+abbrev pub Deepens : List Token → Token → Type 0
+Deepens front named = Begins few_levels front × ((¬ Begins few_levels (front ++ named ∷ [])) × Begins any_level (front ++ named ∷ []))
+
+-- The tokens are a sentence with no level above 100, and `End`.
+pub record IsSentenceAndEnd (tokens : List Token) : Type 0 where
+  pub sentence : List Token
+  pub end : Token
+  pub cut : tokens ≡ sentence ++ end ∷ []
+  pub ended : end.tok ≡ toks.End
+  pub is_sentence : IsSentence few_levels sentence
 
 -- what an outcome says of the tokens
 abbrev pub Says : List Token → Outcome → Type 0
-Says tokens accepted = IsWithinLimits tokens
+Says tokens accepted = IsSentenceAndEnd tokens
 Says tokens (no_syntax left) = StopsAt tokens left Refuses
 Says tokens (too_deep left) = StopsAt tokens left Deepens
 
@@ -176,23 +185,34 @@ not_end toks.End h = absurd (h refl)
 not_end (toks.Name text) h = refl
 not_end _ h = refl
 
-cannot : (front : List Tok) (t : Tok) → t ≢ toks.End → (¬ Begins any_level (front ++ t ∷ [])) → CannotStand front t
-cannot front toks.End h b = absurd (h refl)
-cannot front (toks.Name text) h b = b
-cannot front _ h b = b
+cannot : (front : List Token) (t : Token) (k : Tok) → k ≢ toks.End → (¬ Begins any_level (front ++ t ∷ [])) → CannotStandAs k front t
+cannot front t toks.End h b = absurd (h refl)
+cannot front t (toks.Name text) h b = b
+cannot front t _ h b = b
 
-cannot_end : (front : List Tok) (t : Tok) → t ≡ toks.End → (¬ IsSentence any_level front) → CannotStand front t
-cannot_end front t e b = subst (λ (z : Tok). CannotStand front z) (sym e) b
+cannot_end : (front : List Token) (t : Token) → t.tok ≡ toks.End → (¬ IsSentence any_level front) → CannotStand front t
+cannot_end front t e b = subst (λ (z : Tok). CannotStandAs z front t) (sym e) b
 
 toks_behind : (front : List Token) (t : Token) → toks_of (front ++ t ∷ []) ≡ toks_of front ++ t.tok ∷ []
 toks_behind [] t = refl
 toks_behind (u ∷ front) t = ap (λ (z : List Tok). u.tok ∷ z) (toks_behind front t)
 
-never : (a : ℕ → Bool) (front : List Tok) (t : Tok) (ms : Stack)
-    → run a front at_start ≡ Some ms → step a ms t ≡ None → ¬ Begins a (front ++ t ∷ [])
+-- how the machine reads one more token
+pub run_one : (a : ℕ → Bool) (front : List Token) (t : Token) (ms y x : Stack)
+    → run a (toks_of front) ms ≡ Some y → step a y t.tok ≡ Some x → run a (toks_of (front ++ t ∷ [])) ms ≡ Some x
+run_one a front t ms y x r is =
+    subst (λ (z : List Tok). run a z ms ≡ Some x) (sym (toks_behind front t)) (run_more a (toks_of front) t.tok ms y x r is)
+
+pub one_run : (a : ℕ → Bool) (front : List Token) (t : Token) (ms y x : Stack)
+    → run a (toks_of front) ms ≡ Some y → run a (toks_of (front ++ t ∷ [])) ms ≡ Some x → step a y t.tok ≡ Some x
+one_run a front t ms y x r is =
+    run_end a (toks_of front) t.tok ms y x r (subst (λ (z : List Tok). run a z ms ≡ Some x) (toks_behind front t) is)
+
+never : (a : ℕ → Bool) (front : List Token) (t : Token) (ms : Stack)
+    → run a (toks_of front) at_start ≡ Some ms → step a ms t.tok ≡ None → ¬ Begins a (front ++ t ∷ [])
 never a front t ms r stuck b =
     let n = begins_runs a (front ++ t ∷ []) b in
-    let some : step a ms t ≡ Some n.0 = run_end a front t at_start ms n.0 r n.1 in
+    let some : step a ms t.tok ≡ Some n.0 = one_run a front t at_start ms n.0 r n.1 in
     let wrong : None ≡ Some n.0 = sym stuck ∙ some in cc
 
 says : (front : List Token) (t : Token) (ms : Stack) → run few_levels (toks_of front) at_start ≡ Some ms → t.tok ≡ toks.End
@@ -205,7 +225,7 @@ says front t ms r e = go (is_done ms) refl
       end = t;
       cut = refl;
       ended = e;
-      is_sentence = accepted_sentence few_levels (toks_of front) (run_done few_levels (toks_of front) at_start ms r d);
+      is_sentence = accepted_sentence few_levels front (run_done few_levels (toks_of front) at_start ms r d);
     }
     go false d = record {
       front = front;
@@ -214,9 +234,9 @@ says front t ms r e = go (is_done ms) refl
       cut = refl;
       count = omega arith;
       why = (
-        run_begins few_levels (toks_of front) ms r,
-        cannot_end (toks_of front) t.tok e (λ s.
-            let all = done_run any_level (toks_of front) at_start ms (run_any (toks_of front) at_start ms r) (sentence_accepted any_level (toks_of front) s) in
+        run_begins few_levels front ms r,
+        cannot_end front t e (λ s.
+            let all = done_run any_level (toks_of front) at_start ms (run_any (toks_of front) at_start ms r) (sentence_accepted any_level front s) in
             let wrong : false ≡ true = sym d ∙ all in cc),
       );
     }
@@ -232,8 +252,7 @@ says_behind (t ∷ u ∷ ts) front ms r e =
     let go_on : (next : Stack) → step few_levels ms t.tok ≡ Some next → Says (front ++ t ∷ u ∷ ts) (outcome (u ∷ ts) next) = λ next is.
     subst (λ (z : List Token). Says z (outcome (u ∷ ts) next)) (append_assoc front (t ∷ []) (u ∷ ts))
     (says_behind (u ∷ ts) (front ++ t ∷ []) next
-    (subst (λ (z : List Tok). run few_levels z at_start ≡ Some next) (sym (toks_behind front t))
-    (run_more few_levels (toks_of front) t.tok at_start ms next r is)) e.1) in
+    (run_one few_levels front t at_start ms next r is) e.1) in
     subst (λ (b : Bool). Says (front ++ t ∷ u ∷ ts) (cond b (cond (is_done ms) accepted (no_syntax (length (u ∷ ts) + 1)))
     (at_token (step few_levels ms t.tok) (step any_level ms t.tok) (length (u ∷ ts) + 1) (outcome (u ∷ ts))))) (sym (not_end t.tok e.0))
     (cases go_on (step few_levels ms t.tok) (step any_level ms t.tok) refl refl)
@@ -249,11 +268,11 @@ says_behind (t ∷ u ∷ ts) front ms r e =
       cut = refl;
       count = refl;
       why = (
-        run_begins few_levels (toks_of front) ms r,
+        run_begins few_levels front ms r,
         (
-          never few_levels (toks_of front) t.tok ms r is,
-          run_begins any_level (toks_of front ++ t.tok ∷ []) next
-              (run_more any_level (toks_of front) t.tok at_start ms next (run_any (toks_of front) at_start ms r) other),
+          never few_levels front t ms r is,
+          run_begins any_level (front ++ t ∷ []) next
+              (run_one any_level front t at_start ms next (run_any (toks_of front) at_start ms r) other),
         ),
       );
     }
@@ -264,8 +283,8 @@ says_behind (t ∷ u ∷ ts) front ms r e =
       cut = refl;
       count = refl;
       why = (
-        run_begins few_levels (toks_of front) ms r,
-        cannot (toks_of front) t.tok e.0 (never any_level (toks_of front) t.tok ms (run_any (toks_of front) at_start ms r) other),
+        run_begins few_levels front ms r,
+        cannot front t t.tok e.0 (never any_level front t ms (run_any (toks_of front) at_start ms r) other),
       );
     }
 

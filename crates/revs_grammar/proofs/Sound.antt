@@ -5,8 +5,8 @@ use Rattle.revs_lexer.specs.declared.sign.Sign.TheVariants as signs
 use Rattle.revs_lexer.specs.declared.word.Word.TheVariants as words
 use Rattle.revs_lexer.specs.declared.token.Tok.{Tok}
 use Rattle.revs_lexer.specs.declared.token.Tok.TheVariants as toks
-use Rattle.revs_grammar.specs.Grammar.{Form, HasForms}
-use Rattle.revs_grammar.specs.Grammar as g
+use Rattle.revs_grammar.proofs.Grammar.{Form, HasForms}
+use Rattle.revs_grammar.proofs.Grammar as g
 use Rattle.revs_grammar.specs.Machine.{Expected, form, parameter_end, part_end, body, body_end, Stack, step, run, is_done, same_sign, base_on, atom_on, application_on, product_on, sum_on, expression_on, body_on, sign_on, bool_on, name_on, number_on, program_on, parameter_on, parameter_end_on, names_on, part_on, part_end_on, assigned_on, sums_on, products_on, elements_on, body_end_on, at_level}
 use Rattle.revs_grammar.proofs.Order.{same_sign_is}
 

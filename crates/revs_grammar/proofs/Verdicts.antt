@@ -1,16 +1,22 @@
 -- Each list of tokens has one verdict.
-use Rattle.std.proofs.Common.{◌≡◌, ℕ, suc, ◌+◌, Bool, true, false, cond, Option, Some, None, List, [], ◌∷◌, ◌++◌, refl, sym, ◌∙◌, ap, subst, length, length-append, arith}
+use Rattle.std.proofs.Common.{◌≡◌, ℕ, suc, ◌+◌, Bool, true, false, cond, Option, Some, None, List, [], ◌∷◌, ◌++◌, ◌⊎◌, inl, inr, refl, sym, ◌∙◌, ap, subst, length, length-append, arith}
 use Rattle.revc_base.specs.declared.place.Place.{Place}
 use Rattle.revs_lexer.specs.declared.token.Tok.{Tok}
 use Rattle.revs_lexer.specs.declared.token.Tok.TheVariants as toks
 use Rattle.revs_lexer.specs.declared.token.Token.{Token}
-use Rattle.revs_grammar.specs.Grammar.{Form, IsSentence, Begins, any_level, few_levels}
-use Rattle.revs_grammar.specs.Grammar as g
-use Rattle.revs_grammar.specs.Faults.{toks_of, IsWithinLimits, CannotStand, IsSyntax, IsNesting, Verdict, within_limits, syntax, nesting, IsVerdict, SomeVerdict, OneVerdict}
+use Rattle.revs_terms.specs.declared.program.Param.{Param}
+use Rattle.revs_terms.specs.Programs.{AreParams}
+use Rattle.revs_terms.specs.Trees.{Tree}
+use Rattle.revs_grammar.specs.Sentences.{IsSentence, Begins, any_level, few_levels}
+use Rattle.revs_grammar.specs.Answers.{HasSentence, IsInputs}
+use Rattle.revs_grammar.proofs.Grammar.{toks_of}
+use Rattle.revs_grammar.proofs.Grammar as g
+use Rattle.revs_grammar.specs.Faults.{IsWithinLimits, CannotStandAs, IsSyntax, IsNesting, Verdict, within_limits, syntax, nesting, inputs, IsVerdict, SomeVerdict, OneVerdict}
 use Rattle.revs_grammar.specs.Machine.{form, parameter_end, part_end, body, body_end, Stack, step, run, is_done, Outcome, accepted, no_syntax, too_deep, is_end, at_token, outcome}
 use Rattle.revs_grammar.proofs.Sound.{run_next}
 use Rattle.revs_grammar.proofs.Laws.{at_start, sentence_accepted, accepted_sentence, run_begins, begins_runs}
-use Rattle.revs_grammar.proofs.Outcomes.{run_more, run_end, run_done, done_run, run_any, step_any, Says, outcome_says}
+use Rattle.revs_grammar.proofs.Outcomes.{run_one, one_run, run_done, done_run, run_any, step_any, Says, outcome_says}
+use Rattle.revs_grammar.proofs.Inputs.{AreParams-none, Passes, all_pass, one_passes, none_passes, same_params}
 
 -- The machine takes no `End`.
 step_end : (a : ℕ → Bool) (ms : Stack) → step a ms toks.End ≡ None
@@ -79,52 +85,59 @@ is_false : (b : Bool) → (b ≡ true → ⊥) → b ≡ false
 is_false false h = refl
 is_false true h = absurd (h refl)
 
-within_outcome : (tokens : List Token) → IsWithinLimits tokens → outcome tokens at_start ≡ accepted
-within_outcome tokens w =
-    let sentence = toks_of w.sentence in
-    let runs = begins_runs few_levels sentence ([], subst (λ (z : List Tok). IsSentence few_levels z) (sym (append_nil sentence)) w.is_sentence) in
-    let done = done_run few_levels sentence at_start runs.0 runs.1 (sentence_accepted few_levels sentence w.is_sentence) in
-    subst (λ (z : List Token). outcome z at_start ≡ accepted) (sym w.cut)
-    (outcome_run w.sentence (w.end ∷ []) at_start runs.0 runs.1 ∙ outcome_at_end w.end [] runs.0 true w.ended done)
+-- The outcome at a sentence with no level above 100.
+pub sentence_outcome : (tokens : List Token) (params : List Param) (term : Tree) → HasSentence tokens params term → outcome tokens at_start ≡ accepted
+sentence_outcome tokens params term h =
+    let is : IsSentence few_levels h.sentence = record { params = params; body = term; spelled = h.spelled } in
+    let whole : IsSentence few_levels (h.sentence ++ []) = subst (λ (z : List Token). IsSentence few_levels z) (sym (append_nil h.sentence)) is in
+    let runs = begins_runs few_levels h.sentence (record { rest = []; sentence = whole }) in
+    let done = done_run few_levels (toks_of h.sentence) at_start runs.0 runs.1 (sentence_accepted few_levels h.sentence is) in
+    subst (λ (z : List Token). outcome z at_start ≡ accepted) (sym h.cut)
+    (outcome_run h.sentence (h.end ∷ []) at_start runs.0 runs.1 ∙ outcome_at_end h.end [] runs.0 true h.ended done)
   where
-    append_nil : (ts : List Tok) → ts ++ [] ≡ ts
+    append_nil : (ts : List Token) → ts ++ [] ≡ ts
     append_nil [] = refl
-    append_nil (t ∷ ts) = ap (λ (z : List Tok). t ∷ z) (append_nil ts)
+    append_nil (t ∷ ts) = ap (λ (z : List Token). t ∷ z) (append_nil ts)
 
-stuck : (named : Token) (rest : List Token) (front : List Tok) (x : Stack) (k : Tok) → named.tok ≡ k
-    → run few_levels front at_start ≡ Some x → (¬ Begins any_level (front ++ k ∷ [])) → is_end k ≡ false → outcome (named ∷ rest) x ≡ no_syntax (length rest + 1)
-stuck named rest front x k e r c n =
-    let far : (y : Stack) → step any_level x k ≡ Some y → ⊥ = λ y is.
-    c (run_begins any_level (front ++ k ∷ []) y (run_more any_level front k at_start x y (run_any front at_start x r) is)) in
-    outcome_at named rest x None None (ap is_end e ∙ n)
-    (ap (step few_levels x) e ∙ is_none (step few_levels x k) (λ y is. far y (step_any x k y is)))
-    (ap (step any_level x) e ∙ is_none (step any_level x k) far)
+within_outcome : (tokens : List Token) → IsWithinLimits tokens → outcome tokens at_start ≡ accepted
+within_outcome tokens w = sentence_outcome tokens w.params w.body w.program.sentence
+
+inputs_outcome : (tokens : List Token) (at : Place) → IsInputs tokens at → outcome tokens at_start ≡ accepted
+inputs_outcome tokens at i = sentence_outcome tokens i.params i.body i.sentence
+
+stuck : (named : Token) (rest : List Token) (front : List Token) (x : Stack)
+    → run few_levels (toks_of front) at_start ≡ Some x → (¬ Begins any_level (front ++ named ∷ [])) → is_end named.tok ≡ false → outcome (named ∷ rest) x ≡ no_syntax (length rest + 1)
+stuck named rest front x r c n =
+    let far : (y : Stack) → step any_level x named.tok ≡ Some y → ⊥ = λ y is.
+    c (run_begins any_level (front ++ named ∷ []) y (run_one any_level front named at_start x y (run_any (toks_of front) at_start x r) is)) in
+    outcome_at named rest x None None n
+    (is_none (step few_levels x named.tok) (λ y is. far y (step_any x named.tok y is)))
+    (is_none (step any_level x named.tok) far)
 
 -- what a token that cannot stand does to the machine
-stuck_outcome : (named : Token) (rest : List Token) (front : List Tok) (x : Stack) (k : Tok) → named.tok ≡ k
-    → run few_levels front at_start ≡ Some x → CannotStand front k → outcome (named ∷ rest) x ≡ no_syntax (length rest + 1)
+stuck_outcome : (named : Token) (rest : List Token) (front : List Token) (x : Stack) (k : Tok) → named.tok ≡ k
+    → run few_levels (toks_of front) at_start ≡ Some x → CannotStandAs k front named → outcome (named ∷ rest) x ≡ no_syntax (length rest + 1)
 stuck_outcome named rest front x toks.End e r c =
     outcome_at_end named rest x false e (is_false (is_done x) (λ d.
-    c (accepted_sentence any_level front (run_done any_level front at_start x (run_any front at_start x r) d))))
-stuck_outcome named rest front x (toks.Name text) e r c = stuck named rest front x (toks.Name text) e r c refl
-stuck_outcome named rest front x k e r c = stuck named rest front x k e r c refl
+    c (accepted_sentence any_level front (run_done any_level (toks_of front) at_start x (run_any (toks_of front) at_start x r) d))))
+stuck_outcome named rest front x (toks.Name text) e r c = stuck named rest front x r c (ap is_end e)
+stuck_outcome named rest front x k e r c = stuck named rest front x r c (ap is_end e)
 
 syntax_outcome : (tokens : List Token) (number : ℕ) (at : Place) → (f : IsSyntax tokens number at) → outcome tokens at_start ≡ no_syntax (length f.rest + 1)
 syntax_outcome tokens number at f =
-    let runs = begins_runs few_levels (toks_of f.front) f.begins in
+    let runs = begins_runs few_levels f.front f.begins in
     subst (λ (z : List Token). outcome z at_start ≡ no_syntax (length f.rest + 1)) (sym f.cut)
     (outcome_run f.front (f.named ∷ f.rest) at_start runs.0 runs.1
-    ∙ stuck_outcome f.named f.rest (toks_of f.front) runs.0 f.named.tok refl runs.1 f.refused)
+    ∙ stuck_outcome f.named f.rest f.front runs.0 f.named.tok refl runs.1 f.refused)
 
 nesting_outcome : (tokens : List Token) (at : Place) → (f : IsNesting tokens at) → outcome tokens at_start ≡ too_deep (length f.rest + 1)
 nesting_outcome tokens at f =
-    let front = toks_of f.front in
     let k = f.named.tok in
-    let runs = begins_runs few_levels front f.begins in
-    let far = begins_runs any_level (front ++ k ∷ []) f.goes_on in
-    let is : step any_level runs.0 k ≡ Some far.0 = run_end any_level front k at_start runs.0 far.0 (run_any front at_start runs.0 runs.1) far.1 in
+    let runs = begins_runs few_levels f.front f.begins in
+    let far = begins_runs any_level (f.front ++ f.named ∷ []) f.goes_on in
+    let is : step any_level runs.0 k ≡ Some far.0 = one_run any_level f.front f.named at_start runs.0 far.0 (run_any (toks_of f.front) at_start runs.0 runs.1) far.1 in
     let not : step few_levels runs.0 k ≡ None = is_none (step few_levels runs.0 k) (λ y now.
-    f.opens (run_begins few_levels (front ++ k ∷ []) y (run_more few_levels front k at_start runs.0 y runs.1 now))) in
+    f.opens (run_begins few_levels (f.front ++ f.named ∷ []) y (run_one few_levels f.front f.named at_start runs.0 y runs.1 now))) in
     subst (λ (z : List Token). outcome z at_start ≡ too_deep (length f.rest + 1)) (sym f.cut)
     (outcome_run f.front (f.named ∷ f.rest) at_start runs.0 runs.1
     ∙ outcome_at f.named f.rest runs.0 None (Some far.0) (taken_is_no_end any_level runs.0 k far.0 is) not is)
@@ -157,19 +170,60 @@ one_nesting tokens at by f h =
     let same = same_cut f.front h.front f.named h.named f.rest h.rest (sym f.cut ∙ h.cut) (omega (arith, sums)) in
     let places : at ≡ by = sym f.place ∙ ap (λ (t : Token). t.at) same.0 ∙ h.place in cc
 
+program_not_inputs : (tokens : List Token) (at : Place) → IsWithinLimits tokens → IsInputs tokens at → ⊥
+program_not_inputs tokens at w i =
+    let same = same_params tokens w.params i.params w.body i.body w.program.sentence i.sentence in
+    i.passed (none_passes i.before i.named i.behind (subst (λ (z : List Param). AreParams z) (same ∙ i.cut) w.program.inputs))
+
+one_inputs : (tokens : List Token) (at by : Place) → IsInputs tokens at → IsInputs tokens by → inputs at ≡ inputs by
+one_inputs tokens at by i k =
+    let same = same_params tokens i.params k.params i.body k.body i.sentence k.sentence in
+    let named = one_passes i.before k.before i.named k.named i.behind k.behind (sym i.cut ∙ same ∙ k.cut) i.fine i.passed k.fine k.passed in
+    let places : at ≡ by = sym i.place ∙ ap (λ (p : Param). p.name.at) named ∙ k.place in cc
+
 pub one_verdict : OneVerdict
 one_verdict tokens within_limits within_limits v w = refl
 one_verdict tokens within_limits (syntax j by) v w = let a = within_outcome tokens v in let b = syntax_outcome tokens j by w in cc
 one_verdict tokens within_limits (nesting by) v w = let a = within_outcome tokens v in let b = nesting_outcome tokens by w in cc
+one_verdict tokens within_limits (inputs by) v w = absurd (program_not_inputs tokens by v w)
 one_verdict tokens (syntax k at) within_limits v w = let a = within_outcome tokens w in let b = syntax_outcome tokens k at v in cc
 one_verdict tokens (syntax k at) (syntax j by) v w = one_syntax tokens k j at by v w
 one_verdict tokens (syntax k at) (nesting by) v w = let a = syntax_outcome tokens k at v in let b = nesting_outcome tokens by w in cc
+one_verdict tokens (syntax k at) (inputs by) v w = let a = syntax_outcome tokens k at v in let b = inputs_outcome tokens by w in cc
 one_verdict tokens (nesting at) within_limits v w = let a = within_outcome tokens w in let b = nesting_outcome tokens at v in cc
 one_verdict tokens (nesting at) (syntax j by) v w = let a = nesting_outcome tokens at v in let b = syntax_outcome tokens j by w in cc
 one_verdict tokens (nesting at) (nesting by) v w = one_nesting tokens at by v w
+one_verdict tokens (nesting at) (inputs by) v w = let a = nesting_outcome tokens at v in let b = inputs_outcome tokens by w in cc
+one_verdict tokens (inputs at) within_limits v w = absurd (program_not_inputs tokens at w v)
+one_verdict tokens (inputs at) (syntax j by) v w = let a = inputs_outcome tokens at v in let b = syntax_outcome tokens j by w in cc
+one_verdict tokens (inputs at) (nesting by) v w = let a = inputs_outcome tokens at v in let b = nesting_outcome tokens by w in cc
+one_verdict tokens (inputs at) (inputs by) v w = one_inputs tokens at by v w
+
+-- what a sentence with no level above 100 is found to be
+pub limits_of : (tokens : List Token) (params : List Param) (term : Tree) → HasSentence tokens params term → (verdict : Verdict) × IsVerdict tokens verdict
+limits_of tokens params term h = go (all_pass [] params AreParams-none)
+  where
+    go : AreParams params ⊎ Passes [] params → (verdict : Verdict) × IsVerdict tokens verdict
+    go (inl k) = (within_limits, record { params = params; body = term; program = record { sentence = h; inputs = k } })
+    go (inr k) = (
+      inputs k.named.name.at,
+      record {
+        params = params;
+        body = term;
+        sentence = h;
+        before = k.fine;
+        named = k.named;
+        behind = k.behind;
+        cut = k.cut;
+        place = refl;
+        fine = k.keep;
+        passed = k.passed;
+      },
+    )
 
 pub verdict_of : (tokens : List Token) (o : Outcome) → Says tokens o → (verdict : Verdict) × IsVerdict tokens verdict
-verdict_of tokens accepted s = (within_limits, s)
+verdict_of tokens accepted s =
+    limits_of tokens s.is_sentence.params s.is_sentence.body (record { sentence = s.sentence; end = s.end; cut = s.cut; ended = s.ended; spelled = s.is_sentence.spelled })
 verdict_of tokens (no_syntax left) s = (
   syntax (length s.front) s.named.at,
   record {

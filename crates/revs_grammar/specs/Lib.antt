@@ -1,5 +1,5 @@
 pub mod Answers
 pub mod Faults
-pub mod Grammar
+pub mod Forms
 pub mod Machine
 pub mod Sentences

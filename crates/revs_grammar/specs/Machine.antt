@@ -1,4 +1,4 @@
--- A deterministic machine that reads a sentence token by token, with a stack of what it expects.
+-- A deterministic machine that reads a sentence token by token, with a stack of what it expects: a device of proofs.
 use Rattle.std.specs.Prelude.{ℕ, ◌+◌, ◌==◌, Bool, true, false, cond, Option, Some, None, List, [], ◌∷◌, length}
 use Rattle.revs_lexer.specs.declared.sign.Sign.{Sign}
 use Rattle.revs_lexer.specs.declared.sign.Sign.TheVariants as signs
@@ -6,8 +6,9 @@ use Rattle.revs_lexer.specs.declared.word.Word.TheVariants as words
 use Rattle.revs_lexer.specs.declared.token.Tok.{Tok}
 use Rattle.revs_lexer.specs.declared.token.Tok.TheVariants as toks
 use Rattle.revs_lexer.specs.declared.token.Token.{Token}
-use Rattle.revs_grammar.specs.Grammar.{Form, any_level, few_levels}
-use Rattle.revs_grammar.specs.Grammar as g
+use Rattle.revs_grammar.specs.Forms.{Form}
+use Rattle.revs_grammar.specs.Forms as g
+use Rattle.revs_grammar.specs.Sentences.{any_level, few_levels}
 
 -- What the machine expects: a form of the grammar, or what is left of two alternatives that begin alike.
 pub data Expected : Type 0 where

@@ -1,5 +1,5 @@
 -- The grammar of the language, a case for each of its lines: the tokens, and the terms that they spell.
-use Rattle.std.specs.Prelude.{◌≡◌, ℕ, ◌+◌, leb, Bool, true, false, Some, None, List, [], ◌∷◌, ◌++◌}
+use Rattle.std.specs.Prelude.{◌≡◌, ℕ, ◌+◌, leb, Bool, true, false, Option, Some, None, List, [], ◌∷◌, ◌++◌}
 use Rattle.revc_base.specs.declared.place.Place.{Place}
 use Rattle.revs_lexer.specs.declared.sign.Sign.{Sign}
 use Rattle.revs_lexer.specs.declared.sign.Sign.TheVariants as signs
@@ -25,6 +25,10 @@ abbrev pub name_of : List ℕ → Place → Name
 name_of text at = record { text = text; at = at; back = 0 }
 
 -- ---- chains: one operand alone is that operand, and more are one term
+
+abbrev pub assign_of : Tree → Option Tree → Tree
+assign_of left None = left
+assign_of left (Some right) = assign left right
 
 abbrev pub xor_of : Tree → List Tree → Tree
 xor_of first [] = first
@@ -64,7 +68,7 @@ pub data Phrase : Type 0 where
   names : List Name → Phrase
   -- an expression, and what stands behind the sum with which it begins: [ <- sum ]
   expression : ℕ → Tree → Phrase
-  assigned : ℕ → Tree → Tree → Phrase
+  assigned : ℕ → Option Tree → Phrase
   -- a sum and { <> product }
   sum : ℕ → Tree → Phrase
   sums : ℕ → List Tree → Phrase
@@ -129,15 +133,15 @@ pub data Spells (allowed : ℕ → Bool) : List Phrase → List Token → Type 0
   a_function : {l : ℕ} {first : Name} {more : List Name} {body : Tree} {at : Place} {behind : List Phrase} {ts : List Token} → allowed (l + 1) ≡ true
       → Spells allowed (name first ∷ names more ∷ sign signs.Arrow ∷ expression (l + 1) body ∷ behind) ts
       → Spells allowed (expression l (function (first ∷ more) body at) ∷ behind) (token (toks.Word words.Fun) at ∷ ts)
-  an_expression : {l : ℕ} {left term : Tree} {behind : List Phrase} {ts : List Token}
-      → Spells allowed (sum l left ∷ assigned l left term ∷ behind) ts
-      → Spells allowed (expression l term ∷ behind) ts
-  not_assigned : {l : ℕ} {left : Tree} {behind : List Phrase} {ts : List Token}
+  an_expression : {l : ℕ} {left : Tree} {right : Option Tree} {behind : List Phrase} {ts : List Token}
+      → Spells allowed (sum l left ∷ assigned l right ∷ behind) ts
+      → Spells allowed (expression l (assign_of left right) ∷ behind) ts
+  not_assigned : {l : ℕ} {behind : List Phrase} {ts : List Token}
       → Spells allowed behind ts
-      → Spells allowed (assigned l left left ∷ behind) ts
-  is_assigned : {l : ℕ} {left right : Tree} {at : Place} {behind : List Phrase} {ts : List Token}
+      → Spells allowed (assigned l None ∷ behind) ts
+  is_assigned : {l : ℕ} {right : Tree} {at : Place} {behind : List Phrase} {ts : List Token}
       → Spells allowed (sum l right ∷ behind) ts
-      → Spells allowed (assigned l left (assign left right) ∷ behind) (sign_at signs.Assign at ∷ ts)
+      → Spells allowed (assigned l (Some right) ∷ behind) (sign_at signs.Assign at ∷ ts)
   -- sum = product { <> product }
   a_sum : {l : ℕ} {first : Tree} {more : List Tree} {behind : List Phrase} {ts : List Token}
       → Spells allowed (product l first ∷ sums l more ∷ behind) ts

@@ -1,13 +1,15 @@
 //! The sentences of the language.
 //!
-//! A sentence is a list of tokens that the grammar derives. Each list of tokens that is none has one token at which it
-//! is refused: the first that cannot stand there, or the first that opens level 101.
+//! The grammar is a relation between lists of tokens, with their places, and the terms that they spell. A list of tokens is
+//! the sentence of a program within limits, or it is refused for one cause at one place: at the first token that cannot
+//! stand where it stands, at the first that opens level 101, or at the first parameter at which the inputs are too many.
 #![tactic(auto)]
 
 ghost use Rattle.revs_grammar.specs.Faults.{SomeVerdict, OneVerdict};
 
-/// Each list of tokens that ends with `End`, and holds no other, has one verdict: it is a sentence with no level above 100,
-/// or there is one token that no sentence can hold there, or one that is the first to open level 101.
+/// Each list of tokens that ends with `End`, and holds no other, has one verdict: it is the sentence of a program within
+/// limits; or there is one token that no sentence can hold there; or one that is the first to open level 101; or it is a
+/// sentence of few levels and there is one parameter at which the limits of the inputs are passed.
 ///
 /// The second of these is known once the token was read: some sentence begins with the tokens before it, and none with the
 /// tokens through it.

@@ -1,46 +1,16 @@
--- The grammar of the language, a case for each of its lines, over lists of tokens.
-use Rattle.std.specs.Prelude.{◌≡◌, ℕ, ◌+◌, leb, Bool, true, List, [], ◌∷◌, ◌++◌}
+-- The grammar without what the tokens stand for: which forms tokens have.
+use Rattle.std.specs.Prelude.{◌≡◌, ℕ, ◌+◌, Bool, true, List, [], ◌∷◌, ◌++◌, map}
 use Rattle.revs_lexer.specs.declared.sign.Sign.{Sign}
 use Rattle.revs_lexer.specs.declared.sign.Sign.TheVariants as signs
 use Rattle.revs_lexer.specs.declared.word.Word.TheVariants as words
 use Rattle.revs_lexer.specs.declared.token.Tok.{Tok}
 use Rattle.revs_lexer.specs.declared.token.Tok.TheVariants as toks
+use Rattle.revs_lexer.specs.declared.token.Token.{Token}
+pub use Rattle.revs_grammar.specs.Forms.{Form, sign, bool_word, name, number, program, parameter, parameters, names, expression, assigned, sum, sums, product, products, application, atom, atoms, part, parts, base, elements, items, item}
 
--- The forms of the grammar. What repeats or is optional is a form of its own, and the level of an expression stands with it.
-pub data Form : Type 0 where
-  -- one token
-  sign : Sign → Form
-  bool_word : Form
-  name : Form
-  number : Form
-  -- a program, a parameter and { param }
-  program : Form
-  parameter : Form
-  parameters : Form
-  -- { name }
-  names : Form
-  -- an expression and [ <- sum ]
-  expression : ℕ → Form
-  assigned : ℕ → Form
-  -- a sum and { <> product }
-  sum : ℕ → Form
-  sums : ℕ → Form
-  -- a product and { && application }
-  product : ℕ → Form
-  products : ℕ → Form
-  application : ℕ → Form
-  -- an atom and { atom }
-  atom : ℕ → Form
-  atoms : ℕ → Form
-  -- a part and { part }
-  part : Form
-  parts : Form
-  base : ℕ → Form
-  -- { ; expr } in a register
-  elements : ℕ → Form
-  -- { item } in a block, and an item
-  items : ℕ → Form
-  item : ℕ → Form
+-- the tokens without their places
+abbrev pub toks_of : List Token → List Tok
+toks_of ts = map (λ t. t.tok) ts
 
 -- The tokens have these forms, one form behind the other, and each level that they open is one of the allowed.
 pub data HasForms (allowed : ℕ → Bool) : List Form → List Tok → Type 0 where
@@ -162,14 +132,6 @@ pub data HasForms (allowed : ℕ → Bool) : List Form → List Tok → Type 0 w
       → HasForms allowed (item l ∷ behind) (toks.Word words.Let ∷ ts)
   a_do : {l : ℕ} {behind : List Form} {ts : List Tok}
       → HasForms allowed (expression l ∷ sign signs.Semi ∷ behind) ts → HasForms allowed (item l ∷ behind) ts
-
--- any levels at all
-abbrev pub any_level : ℕ → Bool
-any_level _ = true
-
--- no level above 100
-abbrev pub few_levels : ℕ → Bool
-few_levels level = leb level 100
 
 -- The tokens are a sentence, and the levels that it opens are among the allowed.
 abbrev pub IsSentence : (ℕ → Bool) → List Tok → Type 0
