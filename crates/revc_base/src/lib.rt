@@ -1,12 +1,19 @@
-//! What every crate of the compiler shares: want of memory, short texts and places in a source text.
+//! What every crate of the compiler shares: want of memory, short texts, places in a source text, bit words, and the
+//! tape of a program's run.
 #![tactic(auto)]
 
+mod bits;
 mod memory;
 mod place;
+mod running;
+mod tape;
 mod text;
 
+pub use bits::{Bits, BitsFault};
 pub use memory::Memory;
 pub use place::Place;
+pub use running::TapeEnd;
+pub use tape::{Claim, Entry, Kind, Ref, Tape};
 pub use text::Text;
 
 #[cfg(test)]
