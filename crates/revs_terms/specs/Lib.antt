@@ -1,3 +1,6 @@
+pub mod Runs
+pub mod Scopes
+pub mod Running
 pub mod Trees
 pub mod Terms
 pub mod Programs
