@@ -2,4 +2,5 @@ pub mod Alignment
 pub mod CubeSteps
 pub mod MergeSteps
 pub mod OnePolynomial
+pub mod ProductSteps
 pub mod SumSteps

@@ -1,5 +1,5 @@
 -- Sums and products of monomials: their values, their order and how many monomials they have.
-use Rattle.std.proofs.Common.{◌≡◌, ◌⊎◌, ℕ, ◌+◌, ◌<◌, ◌≤◌, Bool, true, false, ◌&&◌, cond, leb, List, [], ◌∷◌, ◌++◌, length, map, drop, get_or, Option, Some, None, refl, sym, ap, ◌∙◌, subst, inl, inr, arith}
+use Rattle.std.proofs.Common.{◌≡◌, ◌⊎◌, ℕ, ◌<◌, ◌≤◌, Bool, true, false, ◌&&◌, cond, leb, List, [], ◌∷◌, ◌++◌, length, map, drop, Option, Some, None, refl, sym, ap, ◌∙◌, subst, inl, inr}
 use Rattle.std.specs.List.{AllByRecursion, list_all}
 use Rattle.std.specs.Ordering.{nat_cmp, MatchOrdering, ordering_then}
 use Rattle.std.specs.Cmp.Lexicographic.{slice_cmp}
@@ -7,12 +7,10 @@ use Rattle.std.specs.declared.cmp.Ordering.{Ordering}
 use Rattle.std.specs.declared.cmp.Ordering.TheVariants.{Less, Equal, Greater}
 use Rattle.std.proofs.lemmas.Bool.{lt-ltb}
 use Rattle.std.proofs.lemmas.Cmp.{ranked, nat_cmp_total, nat_list_cmp_total}
-use Rattle.std.proofs.lemmas.List.{length-append}
 use Rattle.std.proofs.Math.ListN.{drop_of_length-le}
-use Rattle.std.proofs.Math.Nat.{add-mul, mul-add}
 use Rattle.exclusive_sums.specs.Aligned.{Pair, left, right, both, aligned, key_of, alone}
 use Rattle.exclusive_sums.specs.Polynomials.{xor, value_of_monomial, value_of_polynomial, IsRising, IsInOrder, IsPolynomial, IsPolynomialUpTo}
-use Rattle.exclusive_sums.specs.Steps.{union_of, exclusive_sum_of, IsProduct}
+use Rattle.exclusive_sums.specs.Steps.{union_of, exclusive_sum_of}
 use Rattle.exclusive_sums.proofs.Alignment.{lefts, rights, lefts-aligned, rights-aligned, IsTied, tied-aligned, by_key, All-weaken, in_order-aligned}
 
 -- ---- exclusive or
@@ -39,7 +37,7 @@ pub xor_nothing : (v : Bool) → xor v false ≡ v
 xor_nothing true = refl
 xor_nothing false = refl
 
-and_nothing : (v : Bool) → (v && false) ≡ false
+pub and_nothing : (v : Bool) → (v && false) ≡ false
 and_nothing true = refl
 and_nothing false = refl
 
@@ -55,16 +53,20 @@ and_both : (v l r : Bool) → (v && (l && r)) ≡ ((v && l) && (v && r))
 and_both true l r = refl
 and_both false l r = refl
 
-xor-and_left : (a b c : Bool) → xor (a && c) (b && c) ≡ (xor a b && c)
+pub xor-and_left : (a b c : Bool) → xor (a && c) (b && c) ≡ (xor a b && c)
 xor-and_left true true true = refl
 xor-and_left true true false = refl
 xor-and_left true false true = refl
 xor-and_left true false false = refl
 xor-and_left false b c = refl
 
-xor-and_right : (a b c : Bool) → xor (c && a) (c && b) ≡ (c && xor a b)
+pub xor-and_right : (a b c : Bool) → xor (c && a) (c && b) ≡ (c && xor a b)
 xor-and_right a b true = refl
 xor-and_right a b false = refl
+
+pub value-append : (x : ℕ → Bool) (p q : List (List ℕ)) → value_of_polynomial x (p ++ q) ≡ xor (value_of_polynomial x p) (value_of_polynomial x q)
+value-append x [] q = refl
+value-append x (m ∷ ms) q = rw (value-append x ms q) (xor_left (value_of_monomial x m) (value_of_polynomial x ms) (value_of_polynomial x q))
 
 -- ---- order
 
@@ -135,24 +137,17 @@ All-alone P (left m ∷ ps) a b = (a.0, All-alone P ps a.1 b)
 All-alone P (right n ∷ ps) a b = (b.0, All-alone P ps a b.1)
 All-alone P (both m n ∷ ps) a b = All-alone P ps a.1 b.1
 
-length-alone : {A : Type 0} (ps : List (Pair A)) → length (alone ps) ≤ length (lefts ps) + length (rights ps)
-length-alone [] = omega arith
-length-alone (left m ∷ ps) = omega (arith, length-alone ps)
-length-alone (right n ∷ ps) = omega (arith, length-alone ps)
-length-alone (both m n ∷ ps) = omega (arith, length-alone ps)
+pub All-exclusive_sum_of : (P : List ℕ → Type 0) (p q : List (List ℕ)) → AllByRecursion P p → AllByRecursion P q → AllByRecursion P (exclusive_sum_of p q)
+All-exclusive_sum_of P p q a b =
+    All-alone P (aligned (slice_cmp nat_cmp) p q)
+    (subst (AllByRecursion P) (sym (lefts-aligned (slice_cmp nat_cmp) p q)) a)
+    (subst (AllByRecursion P) (sym (rights-aligned (slice_cmp nat_cmp) p q)) b)
 
 pub IsPolynomial-exclusive_sum_of : (p q : List (List ℕ)) → IsPolynomial p → IsPolynomial q → IsPolynomial (exclusive_sum_of p q)
 IsPolynomial-exclusive_sum_of p q a b = record {
-  rising = All-alone IsRising (aligned (slice_cmp nat_cmp) p q)
-      (subst (AllByRecursion IsRising) (sym (lefts-aligned (slice_cmp nat_cmp) p q)) a.rising)
-      (subst (AllByRecursion IsRising) (sym (rights-aligned (slice_cmp nat_cmp) p q)) b.rising);
+  rising = All-exclusive_sum_of IsRising p q a.rising b.rising;
   in_order = in_order-alone (aligned (slice_cmp nat_cmp) p q) (in_order-aligned (slice_cmp nat_cmp) nat_list_cmp_total p q a.in_order b.in_order);
 }
-
-pub length-exclusive_sum_of : (p q : List (List ℕ)) → length (exclusive_sum_of p q) ≤ length p + length q
-length-exclusive_sum_of p q =
-    let few = length-alone (aligned (slice_cmp nat_cmp) p q) in
-    rw (lefts-aligned (slice_cmp nat_cmp) p q, rights-aligned (slice_cmp nat_cmp) p q) at few
 
 -- ---- products of two monomials
 
@@ -197,49 +192,6 @@ pub union_left_over : (m n : List ℕ) (i j : ℕ) → (length m ≤ i) ⊎ (len
 union_left_over m n i j (inl h) = rw (drop_of_length-le m h) (keys-rights_only (drop j n))
 union_left_over m n i j (inr h) = rw (drop_of_length-le n h) (keys-lefts_only (drop i m) ∙ sym (append-nil (drop i m)))
 
--- ---- products of sums
-
-pub single : {A : Type 0} (xs : List A) (x : A) → length xs ≡ 1 → x ≡ get_or xs 0 x → xs ≡ x ∷ []
-single [] x h e = absurd (omega arith)
-single (y ∷ []) x h e = ap (λ z. z ∷ []) (sym e)
-single (y ∷ z ∷ zs) x h e = absurd (omega arith)
-
-pub IsProduct-left_empty : (q : List (List ℕ)) → IsProduct [] q []
-IsProduct-left_empty q = record { is_polynomial = record { rising = tt; in_order = tt }; values = λ x. refl; few = omega arith }
-
-pub IsProduct-right_empty : (p : List (List ℕ)) → IsProduct p [] []
-IsProduct-right_empty p = record { is_polynomial = record { rising = tt; in_order = tt }; values = λ x. sym (and_nothing (value_of_polynomial x p)); few = omega arith }
-
-pub IsProduct-single : (m n : List ℕ) → IsRising m → IsRising n → IsProduct (m ∷ []) (n ∷ []) (union_of m n ∷ [])
-IsProduct-single m n a b = record {
-  is_polynomial = record { rising = (IsRising-union_of m n a b, tt); in_order = (tt, tt) };
-  values = λ x. xor_nothing (value_of_monomial x (union_of m n)) ∙ value-union_of x m n
-      ∙ sym (rw (xor_nothing (value_of_monomial x m), xor_nothing (value_of_monomial x n)) refl);
-  few = omega arith;
-}
-
-value-append : (x : ℕ → Bool) (p q : List (List ℕ)) → value_of_polynomial x (p ++ q) ≡ xor (value_of_polynomial x p) (value_of_polynomial x q)
-value-append x [] q = refl
-value-append x (m ∷ ms) q = rw (value-append x ms q) (xor_left (value_of_monomial x m) (value_of_polynomial x ms) (value_of_polynomial x q))
-
-pub IsProduct-left_halves : (p low high q a b : List (List ℕ)) → low ++ high ≡ p → IsProduct low q a → IsProduct high q b → IsProduct p q (exclusive_sum_of a b)
-IsProduct-left_halves p low high q a b e h k =
-    subst (λ r. IsProduct r q (exclusive_sum_of a b)) e (record {
-      is_polynomial = IsPolynomial-exclusive_sum_of a b h.is_polynomial k.is_polynomial;
-      values = λ x. value-exclusive_sum_of x a b ∙ rw (h.values x, k.values x, value-append x low high)
-          (xor-and_left (value_of_polynomial x low) (value_of_polynomial x high) (value_of_polynomial x q));
-      few = rw (length-append low high, add-mul (length low) (length high) (length q)) (omega (arith, length-exclusive_sum_of a b, h.few, k.few));
-    })
-
-pub IsProduct-right_halves : (p q low high a b : List (List ℕ)) → low ++ high ≡ q → IsProduct p low a → IsProduct p high b → IsProduct p q (exclusive_sum_of a b)
-IsProduct-right_halves p q low high a b e h k =
-    subst (λ r. IsProduct p r (exclusive_sum_of a b)) e (record {
-      is_polynomial = IsPolynomial-exclusive_sum_of a b h.is_polynomial k.is_polynomial;
-      values = λ x. value-exclusive_sum_of x a b ∙ rw (h.values x, k.values x, value-append x low high)
-          (xor-and_right (value_of_polynomial x low) (value_of_polynomial x high) (value_of_polynomial x p));
-      few = rw (length-append low high, mul-add (length p) (length low) (length high)) (omega (arith, length-exclusive_sum_of a b, h.few, k.few));
-    })
-
 -- ---- public answers
 
 pub IsPolynomial-one : IsPolynomial ([] ∷ [])
@@ -253,8 +205,3 @@ up_to_from_sum most p q answer a b e = record {
   is_of = record { is_polynomial = IsPolynomial-exclusive_sum_of p q a b; values = λ x. value-exclusive_sum_of x p q };
   answers = e;
 }
-
-pub up_to_from_product : (most : ℕ) (p q r : List (List ℕ)) (answer : Option (List (List ℕ))) → IsProduct p q r
-    → answer ≡ cond (leb (length r) most) (Some r) None
-    → IsPolynomialUpTo most (λ x. value_of_polynomial x p && value_of_polynomial x q) answer
-up_to_from_product most p q r answer h e = record { monomials = r; is_of = record { is_polynomial = h.is_polynomial; values = h.values }; answers = e }

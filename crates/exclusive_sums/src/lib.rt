@@ -6,6 +6,7 @@ mod law;
 mod merging;
 mod monomial;
 mod poly;
+mod products;
 
 pub use cube::{Cube, Literal};
 pub use law::{determinacy, uniqueness};

@@ -1,15 +1,14 @@
 // Monomials, products of inputs, and sums of monomials in the dictionary's order.
 ghost use Rattle.std.specs.Prelude.{◌≡◌, ◌+◌, ◌<◌, [], ◌∷◌, ◌++◌, length, Some, IfOk, OnOk};
-ghost use Rattle.std.specs.List.{AllByRecursion};
 ghost use Rattle.std.specs.Ordering.{nat_cmp};
 ghost use Rattle.std.specs.Cmp.Lexicographic.{slice_cmp};
-ghost use Rattle.exclusive_sums.specs.Polynomials.{IsRising};
-ghost use Rattle.exclusive_sums.specs.Steps.{IsProduct, MovesFront, exclusive_sum_of, order_of_fronts as fronts, union_of};
+ghost use Rattle.exclusive_sums.specs.Steps.{MovesFront, exclusive_sum_of, order_of_fronts as fronts, union_of};
 
 use revc_base::Memory;
 use std::alloc::Global;
 use std::cmp::Ordering;
 use std::collections::VecDeque;
+use std::hash::{Hash, Hasher};
 use std::marker::Model;
 
 // A product of inputs, which rise. Contracts see it as the list of its inputs.
@@ -60,14 +59,14 @@ impl Monomial {
     }
 
     // By the dictionary's order.
-    fn order(&self, other: &Monomial) -> Ordering
+    pub fn order(&self, other: &Monomial) -> Ordering
         ensures { result ≡ slice_cmp nat_cmp self.now other.now }
     {
         self.inputs().cmp(other.inputs())
     }
 
     // The product of both: the inputs of one or the other.
-    fn union(&self, other: &Monomial) -> Result<Monomial, Memory>
+    pub fn union(&self, other: &Monomial) -> Result<Monomial, Memory>
         ensures { IfOk result (λ m. m ≡ union_of self.now other.now) }
     {
         let alloc = *self.inputs.allocator();
@@ -83,6 +82,43 @@ impl Monomial {
         inputs.extend_from_slice(&left[i..])?;
         inputs.extend_from_slice(&right[j..])?;
         Ok(Monomial { inputs })
+    }
+}
+
+impl PartialEq for Monomial {
+    ghost use Rattle.std.specs.Prelude.{◌==◌};
+    ghost use Rattle.std.specs.Cmp.Lexicographic.{pointwise};
+    ghost use Rattle.std.specs.Cmp.Rules.{comparing};
+    ghost use Rattle.std.proofs.Common.{rules};
+
+    ghost eq = { pointwise ◌==◌ };
+
+    ghost laws = { Prim.search (comparing, rules) };
+
+    fn eq(&self, other: &Monomial) -> bool {
+        self.inputs() == other.inputs()
+    }
+}
+
+impl Eq for Monomial {
+    ghost use Rattle.std.specs.Cmp.Rules.{comparing};
+    ghost use Rattle.std.proofs.Common.{rules};
+
+    ghost laws = { Prim.search (comparing, rules) };
+}
+
+// A monomial feeds a hasher what its inputs feed it.
+impl Hash for Monomial {
+    ghost use Rattle.std.specs.Hash.{slice, u32};
+    ghost use Rattle.std.specs.Cmp.Rules.{hashing};
+    ghost use Rattle.std.proofs.Common.{rules};
+
+    ghost hash_input = { slice u32 };
+
+    ghost respects_eq = { Prim.search (hashing, rules) };
+
+    fn hash<H: Hasher>(&self, state: &mut H) {
+        self.inputs().hash(state);
     }
 }
 
@@ -155,30 +191,4 @@ fn move_front(from: &mut VecDeque<Monomial>, to: &mut Vec<Monomial>) -> Result<(
         return Ok(());
     }
     Ok(())
-}
-
-// The product of two sums, multiplied out by halves, each half's sum added with cancellation.
-pub fn product(
-    alloc: Global,
-    left: &[Monomial],
-    right: &[Monomial],
-) -> Result<Vec<Monomial>, Memory>
-    requires left { AllByRecursion IsRising left.now }
-    requires right { AllByRecursion IsRising right.now }
-    ensures { IfOk result (λ product. IsProduct left.now right.now product.items) }
-{
-    match (left, right) {
-        ([], _) | (_, []) => Ok(Vec::new(alloc)),
-        ([x], [y]) => Ok(Vec::from_array(alloc, [x.union(y)?])?),
-        ([_], _) => {
-            let (low, high) = right.split_at(right.len() / 2);
-            let low = product(alloc, left, low)?;
-            exclusive_sum(alloc, low, product(alloc, left, high)?)
-        }
-        _ => {
-            let (low, high) = left.split_at(left.len() / 2);
-            let low = product(alloc, low, right)?;
-            exclusive_sum(alloc, low, product(alloc, high, right)?)
-        }
-    }
 }

@@ -1,8 +1,11 @@
 // Polynomials of at most 64 monomials.
-ghost use Rattle.std.specs.Prelude.{◌≡◌, ◌≤◌, ◌==◌, ◌&&◌, not, [], ◌∷◌, length, IfOk, if◌then◌else◌, nat_le, Some, None};
+ghost use Rattle.std.specs.Prelude.{◌≡◌, ◌*◌, ◌≤◌, ◌==◌, ◌&&◌, not, [], ◌∷◌, length, IfOk, if◌then◌else◌, nat_le, Some, None};
 ghost use Rattle.exclusive_sums.specs.Polynomials.{IsPolynomial, IsPolynomialOf, IsPolynomialUpTo, value_of_polynomial, xor};
+ghost use Rattle.exclusive_sums.specs.Steps.{IsProduct};
 
-use crate::monomial::{Monomial, copies, exclusive_sum, product};
+use crate::monomial::{Monomial, copies, exclusive_sum};
+use crate::products::{in_order, product};
+use indexmap::IndexSet;
 use revc_base::Memory;
 use std::alloc::Global;
 use std::marker::Model;
@@ -68,9 +71,24 @@ impl Poly {
     pub fn and(&self, other: &Poly) -> Result<Option<Poly>, Memory>
         ensures { IfOk result (IsPolynomialUpTo Self.MOST (λ assignment. value_of_polynomial assignment self.now && value_of_polynomial assignment other.now)) }
     {
-        let alloc = *self.monomials.allocator();
-        let product = product(alloc, &self.monomials, &other.monomials)?;
-        Ok(limited(product))
+        let product = self.multiplied(other)?;
+        if product.len() > Poly::MOST {
+            return Ok(None);
+        }
+        let monomials = in_order(*self.monomials.allocator(), product)?;
+        Ok(Some(Poly { monomials }))
+    }
+
+    // The monomials of the product, in any order.
+    fn multiplied(&self, other: &Poly) -> Result<IndexSet<Monomial>, Memory>
+        ensures product { IfOk result (λ product. IsProduct self.now other.now product.keys) }
+        ensures few { IfOk result (λ product. length product.keys ≤ Self.MOST * Self.MOST) }
+    {
+        product(
+            *self.monomials.allocator(),
+            &self.monomials,
+            &other.monomials,
+        )
     }
 
     /// The number of monomials. It takes no memory.

@@ -1,6 +1,7 @@
 use super::*;
 use revc_base::Memory;
 use std::alloc::Global;
+use std::process::Abort;
 use std::test::Fail;
 
 fn input(alloc: Global, i: u32) -> Result<Poly, Memory> {
@@ -61,17 +62,26 @@ fn merges_by_hand(rt: HostRuntime) -> Result<(), Fail> {
     Ok(())
 }
 
-// The product of six sums of two inputs each has 64 monomials, and one more is too many.
+// The product of the six sums of two inputs each, from an input on.
+fn six_sums(rt: &impl Abort, alloc: Global, first: u8) -> Result<Poly, Fail> {
+    let zero = input(alloc, 0)?.xor(&input(alloc, 0)?)?.expect(rt, "none");
+    let mut product = zero.not()?.expect(rt, "the constant 1");
+    for k in 0..6u32 {
+        let i = u32::from(first) + 2 * k;
+        let sum = input(alloc, i)?
+            .xor(&input(alloc, i + 1)?)?
+            .expect(rt, "two");
+        product = product.and(&sum)?.expect(rt, "few");
+    }
+    Ok(product)
+}
+
+// The product of six sums of two inputs each has 64 monomials, and one more is too many. The largest product
+// has 4,096.
 #[test]
 fn holds_64_monomials(rt: HostRuntime) -> Result<(), Fail> {
     let alloc = rt.alloc();
-    let mut product = input(alloc, 0)?.xor(&input(alloc, 1)?)?.expect(&rt, "two");
-    for i in 1..6u32 {
-        let sum = input(alloc, 2 * i)?
-            .xor(&input(alloc, 2 * i + 1)?)?
-            .expect(&rt, "two");
-        product = product.and(&sum)?.expect(&rt, "few");
-    }
+    let product = six_sums(&rt, alloc, 0)?;
     assert_eq!(rt; product.len(), 64);
     let thirteenth = input(alloc, 12)?;
     assert!(rt; product.xor(&thirteenth)?.is_none());
@@ -83,5 +93,6 @@ fn holds_64_monomials(rt: HostRuntime) -> Result<(), Fail> {
     );
     assert_eq!(rt; product.and(&product)?.expect(&rt, "idempotent").len(), 64);
     assert_eq!(rt; product.and(&thirteenth)?.expect(&rt, "64").len(), 64);
+    assert!(rt; product.and(&six_sums(&rt, alloc, 12)?)?.is_none());
     Ok(())
 }
