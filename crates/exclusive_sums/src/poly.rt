@@ -67,7 +67,8 @@ impl Poly {
     }
 
     /// The polynomial of the conjunction of both: their product, multiplied out with cancellation. `None` comes
-    /// exactly where it has more than 64 monomials.
+    /// exactly where it has more than 64 monomials. It multiplies at most 64 x 64 pairs of monomials, each in
+    /// expected time linear in their lengths.
     pub fn and(&self, other: &Poly) -> Result<Option<Poly>, Memory>
         ensures { IfOk result (IsPolynomialUpTo Self.MOST (λ assignment. value_of_polynomial assignment self.now && value_of_polynomial assignment other.now)) }
     {
@@ -79,7 +80,7 @@ impl Poly {
         Ok(Some(Poly { monomials }))
     }
 
-    // The monomials of the product, in any order.
+    // The monomials of the product, in any order. There are never more on the way to it than pairs.
     fn multiplied(&self, other: &Poly) -> Result<IndexSet<Monomial>, Memory>
         ensures product { IfOk result (λ product. IsProduct self.now other.now product.keys) }
         ensures few { IfOk result (λ product. length product.keys ≤ Self.MOST * Self.MOST) }
