@@ -7,3 +7,4 @@ pub mod Inputs
 pub mod Laws
 pub mod Outcomes
 pub mod Verdicts
+pub mod Spelled
