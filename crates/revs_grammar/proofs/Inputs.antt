@@ -1,19 +1,13 @@
--- Which parameters pass the limits, and that a sentence has one list of parameters.
+-- Which parameters pass the limits.
 use Rattle.std.proofs.Common.{◌≡◌, ℕ, ◌+◌, Bool, true, false, ◌&&◌, leb, List, [], ◌∷◌, ◌++◌, sum, refl, sym, ◌∙◌, ap, subst, ◌⊎◌, inl, inr, append_assoc, arith}
 use Rattle.std.proofs.lemmas.Bool.Decides.{nat_tests}
 use Rattle.std.proofs.lemmas.List.{map-append}
 use Rattle.std.proofs.lemmas.List.Sums.{sum_by-append}
 use Rattle.std.proofs.lemmas.List.Folds.{list_all-append}
 use Rattle.std.specs.List.{list_all}
-use Rattle.revs_lexer.specs.declared.sign.Sign.TheVariants as signs
-use Rattle.revs_lexer.specs.declared.token.Token.{Token}
 use Rattle.revs_terms.specs.declared.program.Param.{Param}
 use Rattle.revs_terms.specs.Programs.{AreParams, width_of, widths_of}
 use Rattle.revs_terms.proofs.Parts.{both}
-use Rattle.revs_terms.specs.Trees.{Tree}
-use Rattle.revs_grammar.specs.Sentences.{Phrase, Spells, IsSentenceOf, few_levels}
-use Rattle.revs_grammar.specs.Answers.{HasSentence}
-use Rattle.revs_grammar.specs.Sentences as s
 
 -- ---- tests of the limits
 
@@ -130,45 +124,3 @@ one_passes f h n m r q e kf pf kh ph = go (cuts f h n m r q e)
 
 pub none_passes : (f : List Param) (n : Param) (r : List Param) → AreParams (f ++ n ∷ r) → AreParams (f ++ n ∷ [])
 none_passes f n r k = AreParams-front (f ++ n ∷ []) r (subst (λ (z : List Param). AreParams z) (sym (append_assoc f (n ∷ []) r)) k)
-
--- ---- a sentence has one list of parameters
-
-pub same_parameters : {a b : ℕ → Bool} {ps qs : List Param} {B C : List Phrase} {ts : List Token}
-    → Spells a (s.parameters ps ∷ s.sign signs.Equal ∷ B) ts → Spells b (s.parameters qs ∷ s.sign signs.Equal ∷ C) ts → ps ≡ qs
-same_parameters (s.last_parameter (s.a_sign d)) (s.last_parameter (s.a_sign e)) = refl
-same_parameters (s.last_parameter (s.a_sign d)) (s.next_parameter x) = elim x [ ]
-same_parameters (s.next_parameter {p = p} (s.bit (s.a_name (s.a_sign (s.a_bool (s.a_sign d)))))) (s.next_parameter (s.bit (s.a_name (s.a_sign (s.a_bool (s.a_sign e)))))) =
-    ap (λ (z : List Param). p ∷ z) (same_parameters d e)
-same_parameters (s.next_parameter (s.bit (s.a_name (s.a_sign (s.a_bool (s.a_sign d)))))) (s.next_parameter (s.register (s.a_name (s.a_sign (s.a_bool x))))) = elim x [ ]
-same_parameters (s.next_parameter (s.bit (s.a_name (s.a_sign (s.a_bool (s.a_sign d)))))) (s.last_parameter x) = elim x [ ]
-same_parameters (s.next_parameter {p = p} (s.register (s.a_name (s.a_sign (s.a_bool (s.a_sign (s.a_number (s.a_sign (s.a_sign d)))))))))
-    (s.next_parameter (s.register (s.a_name (s.a_sign (s.a_bool (s.a_sign (s.a_number (s.a_sign (s.a_sign e))))))))) =
-    ap (λ (z : List Param). p ∷ z) (same_parameters d e)
-same_parameters (s.next_parameter (s.register (s.a_name (s.a_sign (s.a_bool (s.a_sign (s.a_number (s.a_sign (s.a_sign d)))))))))
-    (s.next_parameter (s.bit (s.a_name (s.a_sign (s.a_bool x))))) = elim x [ ]
-same_parameters (s.next_parameter (s.register (s.a_name (s.a_sign (s.a_bool (s.a_sign (s.a_number (s.a_sign (s.a_sign d)))))))))
-    (s.last_parameter x) = elim x [ ]
-
-same_front : (ts us : List Token) (x y : Token) → ts ++ x ∷ [] ≡ us ++ y ∷ [] → ts ≡ us
-same_front [] [] x y e = refl
-same_front [] (u ∷ []) x y e = cc
-same_front [] (u ∷ v ∷ us) x y e = cc
-same_front (t ∷ []) [] x y e = cc
-same_front (t ∷ v ∷ ts) [] x y e = cc
-same_front (t ∷ ts) (u ∷ us) x y e =
-    let tail : ts ++ x ∷ [] ≡ us ++ y ∷ [] = cc in
-    let same = same_front ts us x y tail in
-    let head : t ≡ u = cc in cc
-
-of_sentences : {a b : ℕ → Bool} {ps qs : List Param} {f g : Tree} {ts : List Token} → IsSentenceOf a ts ps f → IsSentenceOf b ts qs g → ps ≡ qs
-of_sentences (s.a_program d) (s.a_program e) = same_parameters (s.next_parameter d) (s.next_parameter e)
-
--- The sentence in front of `End`.
-pub same_sentence : (tokens : List Token) (ps qs : List Param) (f g : Tree)
-    → (h : HasSentence tokens ps f) → (k : HasSentence tokens qs g) → h.sentence ≡ k.sentence
-same_sentence tokens ps qs f g h k = same_front h.sentence k.sentence h.end k.end (sym h.cut ∙ k.cut)
-
--- Two programs of one list of tokens have the same parameters.
-pub same_params : (tokens : List Token) (ps qs : List Param) (f g : Tree) → HasSentence tokens ps f → HasSentence tokens qs g → ps ≡ qs
-same_params tokens ps qs f g h k =
-    of_sentences (subst (λ (z : List Token). IsSentenceOf few_levels z ps f) (same_sentence tokens ps qs f g h k) h.spelled) k.spelled

@@ -4,6 +4,7 @@ pub mod Order
 pub mod Complete
 pub mod Sound
 pub mod Inputs
+pub mod OneSentence
 pub mod Laws
 pub mod Outcomes
 pub mod Verdicts

@@ -16,7 +16,8 @@ use Rattle.revs_grammar.specs.Machine.{form, parameter_end, part_end, body, body
 use Rattle.revs_grammar.proofs.Sound.{run_next}
 use Rattle.revs_grammar.proofs.Laws.{at_start, sentence_accepted, accepted_sentence, run_begins, begins_runs}
 use Rattle.revs_grammar.proofs.Outcomes.{run_one, one_run, run_done, done_run, run_any, step_any, Says, outcome_says}
-use Rattle.revs_grammar.proofs.Inputs.{AreParams-none, Passes, all_pass, one_passes, none_passes, same_params}
+use Rattle.revs_grammar.proofs.Inputs.{AreParams-none, Passes, all_pass, one_passes, none_passes}
+use Rattle.revs_grammar.proofs.OneSentence.{same_program}
 
 -- The machine takes no `End`.
 step_end : (a : ℕ → Bool) (ms : Stack) → step a ms toks.End ≡ None
@@ -172,13 +173,13 @@ one_nesting tokens at by f h =
 
 program_not_inputs : (tokens : List Token) (at : Place) → IsWithinLimits tokens → IsInputs tokens at → ⊥
 program_not_inputs tokens at w i =
-    let same = same_params tokens w.params i.params w.body i.body w.program.sentence i.sentence in
-    i.passed (none_passes i.before i.named i.behind (subst (λ (z : List Param). AreParams z) (same ∙ i.cut) w.program.inputs))
+    let same = same_program tokens w.params i.params w.body i.body w.program.sentence i.sentence in
+    i.passed (none_passes i.before i.named i.behind (subst (λ (z : List Param). AreParams z) (same.0 ∙ i.cut) w.program.inputs))
 
 one_inputs : (tokens : List Token) (at by : Place) → IsInputs tokens at → IsInputs tokens by → inputs at ≡ inputs by
 one_inputs tokens at by i k =
-    let same = same_params tokens i.params k.params i.body k.body i.sentence k.sentence in
-    let named = one_passes i.before k.before i.named k.named i.behind k.behind (sym i.cut ∙ same ∙ k.cut) i.fine i.passed k.fine k.passed in
+    let same = same_program tokens i.params k.params i.body k.body i.sentence k.sentence in
+    let named = one_passes i.before k.before i.named k.named i.behind k.behind (sym i.cut ∙ same.0 ∙ k.cut) i.fine i.passed k.fine k.passed in
     let places : at ≡ by = sym i.place ∙ ap (λ (p : Param). p.name.at) named ∙ k.place in cc
 
 pub one_verdict : OneVerdict

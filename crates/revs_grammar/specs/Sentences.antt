@@ -263,3 +263,9 @@ pub record IsSentence (allowed : ℕ → Bool) (ts : List Token) : Type 0 where
 pub record Begins (allowed : ℕ → Bool) (front : List Token) : Type 0 where
   pub rest : List Token
   pub sentence : IsSentence allowed (front ++ rest)
+
+-- A list of tokens is the sentence of one program.
+abbrev pub OneProgram : Type 0
+OneProgram =
+    (allowed others : ℕ → Bool) (ts : List Token) (params more : List Param) (body term : Tree)
+    → IsSentenceOf allowed ts params body → IsSentenceOf others ts more term → (params ≡ more) × (body ≡ term)

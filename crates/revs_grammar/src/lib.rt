@@ -6,6 +6,7 @@
 #![tactic(auto)]
 
 ghost use Rattle.revs_grammar.specs.Faults.{SomeVerdict, OneVerdict};
+ghost use Rattle.revs_grammar.specs.Sentences.{OneProgram};
 
 /// Each list of tokens that ends with `End`, and holds no other, has one verdict: it is the sentence of a program within
 /// limits; or there is one token that no sentence can hold there; or one that is the first to open level 101; or it is a
@@ -16,4 +17,9 @@ ghost use Rattle.revs_grammar.specs.Faults.{SomeVerdict, OneVerdict};
 pub fn one_verdict()
     ensures some { SomeVerdict }
     ensures one { OneVerdict }
+{}
+
+/// A list of tokens is the sentence of one program: with the same tokens come the same parameters and the same body.
+pub fn one_program()
+    ensures { OneProgram }
 {}

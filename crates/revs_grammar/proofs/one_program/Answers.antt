@@ -1,0 +1,5 @@
+use Rattle.revs_grammar.proofs.OneSentence.{one_program}
+use Rattle.revs_grammar.proofs.one_program.Goals as goal
+
+pub returns : goal.returns
+returns c = one_program
