@@ -100,7 +100,8 @@ pub data Fills : List Form → List Phrase → Type 0 where
   is_bool_word : {fs : List Form} {ps : List Phrase} → Fills fs ps → Fills (g.bool_word ∷ fs) (s.bool_word ∷ ps)
   is_name : {n : Name} {fs : List Form} {ps : List Phrase} → Fills fs ps → Fills (g.name ∷ fs) (s.name n ∷ ps)
   is_number : {n : ℕ} {fs : List Form} {ps : List Phrase} → Fills fs ps → Fills (g.number ∷ fs) (s.number n ∷ ps)
-  is_program : {params : List Param} {body : Tree} {fs : List Form} {ps : List Phrase} → Fills fs ps → Fills (g.program ∷ fs) (s.program params body ∷ ps)
+  is_program : {params : List Param} {body : Tree} {fs : List Form} {ps : List Phrase} → Fills fs ps
+      → Fills (g.program ∷ fs) (s.program params body ∷ ps)
   is_parameter : {p : Param} {fs : List Form} {ps : List Phrase} → Fills fs ps → Fills (g.parameter ∷ fs) (s.parameter p ∷ ps)
   is_parameters : {more : List Param} {fs : List Form} {ps : List Phrase} → Fills fs ps → Fills (g.parameters ∷ fs) (s.parameters more ∷ ps)
   is_names : {all : List Name} {fs : List Form} {ps : List Phrase} → Fills fs ps → Fills (g.names ∷ fs) (s.names all ∷ ps)
@@ -139,324 +140,244 @@ module _ (a : ℕ → Bool) where
   met : {fs : List Form} {ps : List Phrase} {ts : List Token} → Fills fs ps → Spells a ps ts → Filled a fs ts
   met {ps = ps} f d = record { phrases = ps; fills = f; spelled = d }
 
-  fill_a_sign0 : {s : Sign} {at : Place} {fs : List Form} {ps : List Phrase} {ts : List Token} → Fills fs ps → Spells a ps ts → Filled a (g.sign s ∷ fs) (sign_at s at ∷ ts)
-  fill_a_sign0 f d = met (is_sign f) (s.a_sign d)
-
-  fill_a_sign : {fs : List Form} {ts : List Token} {s : Sign} {at : Place} → Filled a fs ts → Filled a (g.sign s ∷ fs) (sign_at s at ∷ ts)
-  fill_a_sign r = fill_a_sign0 r.fills r.spelled
-
-  fill_a_bool0 : {at : Place} {fs : List Form} {ps : List Phrase} {ts : List Token} → Fills fs ps → Spells a ps ts → Filled a (g.bool_word ∷ fs) (token (toks.Word words.Bool) at ∷ ts)
-  fill_a_bool0 f d = met (is_bool_word f) (s.a_bool d)
-
-  fill_a_bool : {fs : List Form} {ts : List Token} {at : Place} → Filled a fs ts → Filled a (g.bool_word ∷ fs) (token (toks.Word words.Bool) at ∷ ts)
-  fill_a_bool r = fill_a_bool0 r.fills r.spelled
-
-  fill_a_name0 : {text : List ℕ} {at : Place} {fs : List Form} {ps : List Phrase} {ts : List Token} → Fills fs ps → Spells a ps ts → Filled a (g.name ∷ fs) (token (toks.Name text) at ∷ ts)
-  fill_a_name0 f d = met (is_name f) (s.a_name d)
-
-  fill_a_name : {fs : List Form} {ts : List Token} {text : List ℕ} {at : Place} → Filled a fs ts → Filled a (g.name ∷ fs) (token (toks.Name text) at ∷ ts)
-  fill_a_name r = fill_a_name0 r.fills r.spelled
-
-  fill_a_number0 : {n : ℕ} {at : Place} {fs : List Form} {ps : List Phrase} {ts : List Token} → Fills fs ps → Spells a ps ts → Filled a (g.number ∷ fs) (token (toks.Number n) at ∷ ts)
-  fill_a_number0 f d = met (is_number f) (s.a_number d)
-
-  fill_a_number : {fs : List Form} {ts : List Token} {n : ℕ} {at : Place} → Filled a fs ts → Filled a (g.number ∷ fs) (token (toks.Number n) at ∷ ts)
-  fill_a_number r = fill_a_number0 r.fills r.spelled
-
-  fill_a_program0 : {at : Place} {fs : List Form} {ps : List Phrase} {ts : List Token} → Fills (g.parameter ∷ g.parameters ∷ g.sign signs.Equal ∷ g.expression 1 ∷ fs) ps → Spells a ps ts → Filled a (g.program ∷ fs) (token (toks.Word words.Main) at ∷ ts)
-  fill_a_program0 (is_parameter (is_parameters (is_sign (is_expression f)))) d = met (is_program f) (s.a_program d)
-
-  fill_a_program : {fs : List Form} {ts : List Token} {at : Place} → Filled a (g.parameter ∷ g.parameters ∷ g.sign signs.Equal ∷ g.expression 1 ∷ fs) ts → Filled a (g.program ∷ fs) (token (toks.Word words.Main) at ∷ ts)
-  fill_a_program r = fill_a_program0 r.fills r.spelled
-
-  fill_last_parameter0 : {fs : List Form} {ps : List Phrase} {ts : List Token} → Fills fs ps → Spells a ps ts → Filled a (g.parameters ∷ fs) ts
-  fill_last_parameter0 f d = met (is_parameters f) (s.last_parameter d)
-
-  fill_last_parameter : {fs : List Form} {ts : List Token} → Filled a fs ts → Filled a (g.parameters ∷ fs) ts
-  fill_last_parameter r = fill_last_parameter0 r.fills r.spelled
-
-  fill_next_parameter0 : {fs : List Form} {ps : List Phrase} {ts : List Token} → Fills (g.parameter ∷ g.parameters ∷ fs) ps → Spells a ps ts → Filled a (g.parameters ∷ fs) ts
-  fill_next_parameter0 (is_parameter (is_parameters f)) d = met (is_parameters f) (s.next_parameter d)
-
-  fill_next_parameter : {fs : List Form} {ts : List Token} → Filled a (g.parameter ∷ g.parameters ∷ fs) ts → Filled a (g.parameters ∷ fs) ts
-  fill_next_parameter r = fill_next_parameter0 r.fills r.spelled
-
-  fill_bit0 : {at : Place} {fs : List Form} {ps : List Phrase} {ts : List Token} → Fills (g.name ∷ g.sign signs.Colon ∷ g.bool_word ∷ g.sign signs.CloseRound ∷ fs) ps → Spells a ps ts → Filled a (g.parameter ∷ fs) (sign_at signs.OpenRound at ∷ ts)
-  fill_bit0 (is_name (is_sign (is_bool_word (is_sign f)))) d = met (is_parameter f) (s.bit d)
-
-  fill_bit : {fs : List Form} {ts : List Token} {at : Place} → Filled a (g.name ∷ g.sign signs.Colon ∷ g.bool_word ∷ g.sign signs.CloseRound ∷ fs) ts → Filled a (g.parameter ∷ fs) (sign_at signs.OpenRound at ∷ ts)
-  fill_bit r = fill_bit0 r.fills r.spelled
-
-  fill_register0 : {at : Place} {fs : List Form} {ps : List Phrase} {ts : List Token} → Fills (g.name ∷ g.sign signs.Colon ∷ g.bool_word ∷ g.sign signs.OpenSquare ∷ g.number ∷ g.sign signs.CloseSquare ∷ g.sign signs.CloseRound ∷ fs) ps → Spells a ps ts → Filled a (g.parameter ∷ fs) (sign_at signs.OpenRound at ∷ ts)
-  fill_register0 (is_name (is_sign (is_bool_word (is_sign (is_number (is_sign (is_sign f))))))) d = met (is_parameter f) (s.register d)
-
-  fill_register : {fs : List Form} {ts : List Token} {at : Place} → Filled a (g.name ∷ g.sign signs.Colon ∷ g.bool_word ∷ g.sign signs.OpenSquare ∷ g.number ∷ g.sign signs.CloseSquare ∷ g.sign signs.CloseRound ∷ fs) ts → Filled a (g.parameter ∷ fs) (sign_at signs.OpenRound at ∷ ts)
-  fill_register r = fill_register0 r.fills r.spelled
-
-  fill_last_name0 : {fs : List Form} {ps : List Phrase} {ts : List Token} → Fills fs ps → Spells a ps ts → Filled a (g.names ∷ fs) ts
-  fill_last_name0 f d = met (is_names f) (s.last_name d)
-
-  fill_last_name : {fs : List Form} {ts : List Token} → Filled a fs ts → Filled a (g.names ∷ fs) ts
-  fill_last_name r = fill_last_name0 r.fills r.spelled
-
-  fill_next_name0 : {fs : List Form} {ps : List Phrase} {ts : List Token} → Fills (g.name ∷ g.names ∷ fs) ps → Spells a ps ts → Filled a (g.names ∷ fs) ts
-  fill_next_name0 (is_name (is_names f)) d = met (is_names f) (s.next_name d)
-
-  fill_next_name : {fs : List Form} {ts : List Token} → Filled a (g.name ∷ g.names ∷ fs) ts → Filled a (g.names ∷ fs) ts
-  fill_next_name r = fill_next_name0 r.fills r.spelled
-
-  fill_a_function0 : {l : ℕ} {at : Place} {fs : List Form} {ps : List Phrase} {ts : List Token} → a (l + 1) ≡ true → Fills (g.name ∷ g.names ∷ g.sign signs.Arrow ∷ g.expression (l + 1) ∷ fs) ps → Spells a ps ts → Filled a (g.expression l ∷ fs) (token (toks.Word words.Fun) at ∷ ts)
-  fill_a_function0 ok (is_name (is_names (is_sign (is_expression f)))) d = met (is_expression f) (s.a_function ok d)
-
-  fill_a_function : {fs : List Form} {ts : List Token} {l : ℕ} {at : Place} → a (l + 1) ≡ true → Filled a (g.name ∷ g.names ∷ g.sign signs.Arrow ∷ g.expression (l + 1) ∷ fs) ts → Filled a (g.expression l ∷ fs) (token (toks.Word words.Fun) at ∷ ts)
-  fill_a_function ok r = fill_a_function0 ok r.fills r.spelled
-
-  fill_an_expression0 : {l : ℕ} {fs : List Form} {ps : List Phrase} {ts : List Token} → Fills (g.sum l ∷ g.assigned l ∷ fs) ps → Spells a ps ts → Filled a (g.expression l ∷ fs) ts
-  fill_an_expression0 (is_sum (is_assigned f)) d = met (is_expression f) (s.an_expression d)
-
-  fill_an_expression : {fs : List Form} {ts : List Token} {l : ℕ} → Filled a (g.sum l ∷ g.assigned l ∷ fs) ts → Filled a (g.expression l ∷ fs) ts
-  fill_an_expression r = fill_an_expression0 r.fills r.spelled
-
-  fill_not_assigned0 : {l : ℕ} {fs : List Form} {ps : List Phrase} {ts : List Token} → Fills fs ps → Spells a ps ts → Filled a (g.assigned l ∷ fs) ts
-  fill_not_assigned0 f d = met (is_assigned f) (s.not_assigned d)
-
-  fill_not_assigned : {fs : List Form} {ts : List Token} {l : ℕ} → Filled a fs ts → Filled a (g.assigned l ∷ fs) ts
-  fill_not_assigned r = fill_not_assigned0 r.fills r.spelled
-
-  fill_is_assigned0 : {l : ℕ} {at : Place} {fs : List Form} {ps : List Phrase} {ts : List Token} → Fills (g.sum l ∷ fs) ps → Spells a ps ts → Filled a (g.assigned l ∷ fs) (sign_at signs.Assign at ∷ ts)
-  fill_is_assigned0 (is_sum f) d = met (is_assigned f) (s.is_assigned d)
-
-  fill_is_assigned : {fs : List Form} {ts : List Token} {l : ℕ} {at : Place} → Filled a (g.sum l ∷ fs) ts → Filled a (g.assigned l ∷ fs) (sign_at signs.Assign at ∷ ts)
-  fill_is_assigned r = fill_is_assigned0 r.fills r.spelled
-
-  fill_a_sum0 : {l : ℕ} {fs : List Form} {ps : List Phrase} {ts : List Token} → Fills (g.product l ∷ g.sums l ∷ fs) ps → Spells a ps ts → Filled a (g.sum l ∷ fs) ts
-  fill_a_sum0 (is_product (is_sums f)) d = met (is_sum f) (s.a_sum d)
-
-  fill_a_sum : {fs : List Form} {ts : List Token} {l : ℕ} → Filled a (g.product l ∷ g.sums l ∷ fs) ts → Filled a (g.sum l ∷ fs) ts
-  fill_a_sum r = fill_a_sum0 r.fills r.spelled
-
-  fill_last_product0 : {l : ℕ} {fs : List Form} {ps : List Phrase} {ts : List Token} → Fills fs ps → Spells a ps ts → Filled a (g.sums l ∷ fs) ts
-  fill_last_product0 f d = met (is_sums f) (s.last_product d)
-
-  fill_last_product : {fs : List Form} {ts : List Token} {l : ℕ} → Filled a fs ts → Filled a (g.sums l ∷ fs) ts
-  fill_last_product r = fill_last_product0 r.fills r.spelled
-
-  fill_next_product0 : {l : ℕ} {at : Place} {fs : List Form} {ps : List Phrase} {ts : List Token} → Fills (g.product l ∷ g.sums l ∷ fs) ps → Spells a ps ts → Filled a (g.sums l ∷ fs) (sign_at signs.Xor at ∷ ts)
-  fill_next_product0 (is_product (is_sums f)) d = met (is_sums f) (s.next_product d)
-
-  fill_next_product : {fs : List Form} {ts : List Token} {l : ℕ} {at : Place} → Filled a (g.product l ∷ g.sums l ∷ fs) ts → Filled a (g.sums l ∷ fs) (sign_at signs.Xor at ∷ ts)
-  fill_next_product r = fill_next_product0 r.fills r.spelled
-
-  fill_a_product0 : {l : ℕ} {fs : List Form} {ps : List Phrase} {ts : List Token} → Fills (g.application l ∷ g.products l ∷ fs) ps → Spells a ps ts → Filled a (g.product l ∷ fs) ts
-  fill_a_product0 (is_application (is_products f)) d = met (is_product f) (s.a_product d)
-
-  fill_a_product : {fs : List Form} {ts : List Token} {l : ℕ} → Filled a (g.application l ∷ g.products l ∷ fs) ts → Filled a (g.product l ∷ fs) ts
-  fill_a_product r = fill_a_product0 r.fills r.spelled
-
-  fill_last_application0 : {l : ℕ} {fs : List Form} {ps : List Phrase} {ts : List Token} → Fills fs ps → Spells a ps ts → Filled a (g.products l ∷ fs) ts
-  fill_last_application0 f d = met (is_products f) (s.last_application d)
-
-  fill_last_application : {fs : List Form} {ts : List Token} {l : ℕ} → Filled a fs ts → Filled a (g.products l ∷ fs) ts
-  fill_last_application r = fill_last_application0 r.fills r.spelled
-
-  fill_next_application0 : {l : ℕ} {at : Place} {fs : List Form} {ps : List Phrase} {ts : List Token} → Fills (g.application l ∷ g.products l ∷ fs) ps → Spells a ps ts → Filled a (g.products l ∷ fs) (sign_at signs.And at ∷ ts)
-  fill_next_application0 (is_application (is_products f)) d = met (is_products f) (s.next_application d)
-
-  fill_next_application : {fs : List Form} {ts : List Token} {l : ℕ} {at : Place} → Filled a (g.application l ∷ g.products l ∷ fs) ts → Filled a (g.products l ∷ fs) (sign_at signs.And at ∷ ts)
-  fill_next_application r = fill_next_application0 r.fills r.spelled
-
-  fill_a_clean0 : {l : ℕ} {at : Place} {fs : List Form} {ps : List Phrase} {ts : List Token} → Fills (g.atom l ∷ fs) ps → Spells a ps ts → Filled a (g.application l ∷ fs) (token (toks.Word words.Clean) at ∷ ts)
-  fill_a_clean0 (is_atom f) d = met (is_application f) (s.a_clean d)
-
-  fill_a_clean : {fs : List Form} {ts : List Token} {l : ℕ} {at : Place} → Filled a (g.atom l ∷ fs) ts → Filled a (g.application l ∷ fs) (token (toks.Word words.Clean) at ∷ ts)
-  fill_a_clean r = fill_a_clean0 r.fills r.spelled
-
-  fill_an_assert0 : {l : ℕ} {at : Place} {fs : List Form} {ps : List Phrase} {ts : List Token} → Fills (g.atom l ∷ fs) ps → Spells a ps ts → Filled a (g.application l ∷ fs) (token (toks.Word words.Assert) at ∷ ts)
-  fill_an_assert0 (is_atom f) d = met (is_application f) (s.an_assert d)
-
-  fill_an_assert : {fs : List Form} {ts : List Token} {l : ℕ} {at : Place} → Filled a (g.atom l ∷ fs) ts → Filled a (g.application l ∷ fs) (token (toks.Word words.Assert) at ∷ ts)
-  fill_an_assert r = fill_an_assert0 r.fills r.spelled
-
-  fill_an_append0 : {l : ℕ} {at : Place} {fs : List Form} {ps : List Phrase} {ts : List Token} → Fills (g.atom l ∷ g.atom l ∷ fs) ps → Spells a ps ts → Filled a (g.application l ∷ fs) (token (toks.Word words.Append) at ∷ ts)
-  fill_an_append0 (is_atom (is_atom f)) d = met (is_application f) (s.an_append d)
-
-  fill_an_append : {fs : List Form} {ts : List Token} {l : ℕ} {at : Place} → Filled a (g.atom l ∷ g.atom l ∷ fs) ts → Filled a (g.application l ∷ fs) (token (toks.Word words.Append) at ∷ ts)
-  fill_an_append r = fill_an_append0 r.fills r.spelled
-
-  fill_a_rotate0 : {l : ℕ} {at : Place} {fs : List Form} {ps : List Phrase} {ts : List Token} → Fills (g.number ∷ g.atom l ∷ fs) ps → Spells a ps ts → Filled a (g.application l ∷ fs) (token (toks.Word words.Rotate) at ∷ ts)
-  fill_a_rotate0 (is_number (is_atom f)) d = met (is_application f) (s.a_rotate d)
-
-  fill_a_rotate : {fs : List Form} {ts : List Token} {l : ℕ} {at : Place} → Filled a (g.number ∷ g.atom l ∷ fs) ts → Filled a (g.application l ∷ fs) (token (toks.Word words.Rotate) at ∷ ts)
-  fill_a_rotate r = fill_a_rotate0 r.fills r.spelled
-
-  fill_an_application0 : {l : ℕ} {fs : List Form} {ps : List Phrase} {ts : List Token} → Fills (g.atom l ∷ g.atoms l ∷ fs) ps → Spells a ps ts → Filled a (g.application l ∷ fs) ts
-  fill_an_application0 (is_atom (is_atoms f)) d = met (is_application f) (s.an_application d)
-
-  fill_an_application : {fs : List Form} {ts : List Token} {l : ℕ} → Filled a (g.atom l ∷ g.atoms l ∷ fs) ts → Filled a (g.application l ∷ fs) ts
-  fill_an_application r = fill_an_application0 r.fills r.spelled
-
-  fill_last_atom0 : {l : ℕ} {fs : List Form} {ps : List Phrase} {ts : List Token} → Fills fs ps → Spells a ps ts → Filled a (g.atoms l ∷ fs) ts
-  fill_last_atom0 f d = met (is_atoms f) (s.last_atom d)
-
-  fill_last_atom : {fs : List Form} {ts : List Token} {l : ℕ} → Filled a fs ts → Filled a (g.atoms l ∷ fs) ts
-  fill_last_atom r = fill_last_atom0 r.fills r.spelled
-
-  fill_next_atom0 : {l : ℕ} {fs : List Form} {ps : List Phrase} {ts : List Token} → Fills (g.atom l ∷ g.atoms l ∷ fs) ps → Spells a ps ts → Filled a (g.atoms l ∷ fs) ts
-  fill_next_atom0 (is_atom (is_atoms f)) d = met (is_atoms f) (s.next_atom d)
-
-  fill_next_atom : {fs : List Form} {ts : List Token} {l : ℕ} → Filled a (g.atom l ∷ g.atoms l ∷ fs) ts → Filled a (g.atoms l ∷ fs) ts
-  fill_next_atom r = fill_next_atom0 r.fills r.spelled
-
-  fill_an_atom0 : {l : ℕ} {fs : List Form} {ps : List Phrase} {ts : List Token} → Fills (g.base l ∷ g.parts ∷ fs) ps → Spells a ps ts → Filled a (g.atom l ∷ fs) ts
-  fill_an_atom0 (is_base (is_all_parts f)) d = met (is_atom f) (s.an_atom d)
-
-  fill_an_atom : {fs : List Form} {ts : List Token} {l : ℕ} → Filled a (g.base l ∷ g.parts ∷ fs) ts → Filled a (g.atom l ∷ fs) ts
-  fill_an_atom r = fill_an_atom0 r.fills r.spelled
-
-  fill_last_part0 : {fs : List Form} {ps : List Phrase} {ts : List Token} → Fills fs ps → Spells a ps ts → Filled a (g.parts ∷ fs) ts
-  fill_last_part0 f d = met (is_all_parts f) (s.last_part d)
-
-  fill_last_part : {fs : List Form} {ts : List Token} → Filled a fs ts → Filled a (g.parts ∷ fs) ts
-  fill_last_part r = fill_last_part0 r.fills r.spelled
-
-  fill_next_part0 : {fs : List Form} {ps : List Phrase} {ts : List Token} → Fills (g.part ∷ g.parts ∷ fs) ps → Spells a ps ts → Filled a (g.parts ∷ fs) ts
-  fill_next_part0 (is_part (is_all_parts f)) d = met (is_all_parts f) (s.next_part d)
-
-  fill_next_part : {fs : List Form} {ts : List Token} → Filled a (g.part ∷ g.parts ∷ fs) ts → Filled a (g.parts ∷ fs) ts
-  fill_next_part r = fill_next_part0 r.fills r.spelled
-
-  fill_an_index0 : {at : Place} {fs : List Form} {ps : List Phrase} {ts : List Token} → Fills (g.sign signs.OpenSquare ∷ g.number ∷ g.sign signs.CloseSquare ∷ fs) ps → Spells a ps ts → Filled a (g.part ∷ fs) (sign_at signs.Dot at ∷ ts)
-  fill_an_index0 (is_sign (is_number (is_sign f))) d = met (is_part f) (s.an_index d)
-
-  fill_an_index : {fs : List Form} {ts : List Token} {at : Place} → Filled a (g.sign signs.OpenSquare ∷ g.number ∷ g.sign signs.CloseSquare ∷ fs) ts → Filled a (g.part ∷ fs) (sign_at signs.Dot at ∷ ts)
-  fill_an_index r = fill_an_index0 r.fills r.spelled
-
-  fill_a_slice0 : {at : Place} {fs : List Form} {ps : List Phrase} {ts : List Token} → Fills (g.sign signs.OpenSquare ∷ g.number ∷ g.sign signs.DotDot ∷ g.number ∷ g.sign signs.CloseSquare ∷ fs) ps → Spells a ps ts → Filled a (g.part ∷ fs) (sign_at signs.Dot at ∷ ts)
-  fill_a_slice0 (is_sign (is_number (is_sign (is_number (is_sign f))))) d = met (is_part f) (s.a_slice d)
-
-  fill_a_slice : {fs : List Form} {ts : List Token} {at : Place} → Filled a (g.sign signs.OpenSquare ∷ g.number ∷ g.sign signs.DotDot ∷ g.number ∷ g.sign signs.CloseSquare ∷ fs) ts → Filled a (g.part ∷ fs) (sign_at signs.Dot at ∷ ts)
-  fill_a_slice r = fill_a_slice0 r.fills r.spelled
-
-  fill_a_use0 : {l : ℕ} {text : List ℕ} {at : Place} {fs : List Form} {ps : List Phrase} {ts : List Token} → Fills fs ps → Spells a ps ts → Filled a (g.base l ∷ fs) (token (toks.Name text) at ∷ ts)
-  fill_a_use0 f d = met (is_base f) (s.a_use d)
-
-  fill_a_use : {fs : List Form} {ts : List Token} {l : ℕ} {text : List ℕ} {at : Place} → Filled a fs ts → Filled a (g.base l ∷ fs) (token (toks.Name text) at ∷ ts)
-  fill_a_use r = fill_a_use0 r.fills r.spelled
-
-  fill_a_true0 : {l : ℕ} {at : Place} {fs : List Form} {ps : List Phrase} {ts : List Token} → Fills fs ps → Spells a ps ts → Filled a (g.base l ∷ fs) (token (toks.Word words.True) at ∷ ts)
-  fill_a_true0 f d = met (is_base f) (s.a_true d)
-
-  fill_a_true : {fs : List Form} {ts : List Token} {l : ℕ} {at : Place} → Filled a fs ts → Filled a (g.base l ∷ fs) (token (toks.Word words.True) at ∷ ts)
-  fill_a_true r = fill_a_true0 r.fills r.spelled
-
-  fill_a_false0 : {l : ℕ} {at : Place} {fs : List Form} {ps : List Phrase} {ts : List Token} → Fills fs ps → Spells a ps ts → Filled a (g.base l ∷ fs) (token (toks.Word words.False) at ∷ ts)
-  fill_a_false0 f d = met (is_base f) (s.a_false d)
-
-  fill_a_false : {fs : List Form} {ts : List Token} {l : ℕ} {at : Place} → Filled a fs ts → Filled a (g.base l ∷ fs) (token (toks.Word words.False) at ∷ ts)
-  fill_a_false r = fill_a_false0 r.fills r.spelled
-
-  fill_a_register0 : {l : ℕ} {at : Place} {fs : List Form} {ps : List Phrase} {ts : List Token} → a (l + 1) ≡ true → Fills (g.sign signs.OpenSquare ∷ g.expression (l + 1) ∷ g.elements (l + 1) ∷ g.sign signs.CloseSquare ∷ fs) ps → Spells a ps ts → Filled a (g.base l ∷ fs) (token (toks.Word words.Reg) at ∷ ts)
-  fill_a_register0 ok (is_sign (is_expression (is_elements (is_sign f)))) d = met (is_base f) (s.a_register ok d)
-
-  fill_a_register : {fs : List Form} {ts : List Token} {l : ℕ} {at : Place} → a (l + 1) ≡ true → Filled a (g.sign signs.OpenSquare ∷ g.expression (l + 1) ∷ g.elements (l + 1) ∷ g.sign signs.CloseSquare ∷ fs) ts → Filled a (g.base l ∷ fs) (token (toks.Word words.Reg) at ∷ ts)
-  fill_a_register ok r = fill_a_register0 ok r.fills r.spelled
-
-  fill_last_element0 : {l : ℕ} {fs : List Form} {ps : List Phrase} {ts : List Token} → Fills fs ps → Spells a ps ts → Filled a (g.elements l ∷ fs) ts
-  fill_last_element0 f d = met (is_elements f) (s.last_element d)
-
-  fill_last_element : {fs : List Form} {ts : List Token} {l : ℕ} → Filled a fs ts → Filled a (g.elements l ∷ fs) ts
-  fill_last_element r = fill_last_element0 r.fills r.spelled
-
-  fill_next_element0 : {l : ℕ} {at : Place} {fs : List Form} {ps : List Phrase} {ts : List Token} → Fills (g.expression l ∷ g.elements l ∷ fs) ps → Spells a ps ts → Filled a (g.elements l ∷ fs) (sign_at signs.Semi at ∷ ts)
-  fill_next_element0 (is_expression (is_elements f)) d = met (is_elements f) (s.next_element d)
-
-  fill_next_element : {fs : List Form} {ts : List Token} {l : ℕ} {at : Place} → Filled a (g.expression l ∷ g.elements l ∷ fs) ts → Filled a (g.elements l ∷ fs) (sign_at signs.Semi at ∷ ts)
-  fill_next_element r = fill_next_element0 r.fills r.spelled
-
-  fill_a_bracket0 : {l : ℕ} {at : Place} {fs : List Form} {ps : List Phrase} {ts : List Token} → a (l + 1) ≡ true → Fills (g.expression (l + 1) ∷ g.sign signs.CloseRound ∷ fs) ps → Spells a ps ts → Filled a (g.base l ∷ fs) (sign_at signs.OpenRound at ∷ ts)
-  fill_a_bracket0 ok (is_expression (is_sign f)) d = met (is_base f) (s.a_bracket ok d)
-
-  fill_a_bracket : {fs : List Form} {ts : List Token} {l : ℕ} {at : Place} → a (l + 1) ≡ true → Filled a (g.expression (l + 1) ∷ g.sign signs.CloseRound ∷ fs) ts → Filled a (g.base l ∷ fs) (sign_at signs.OpenRound at ∷ ts)
-  fill_a_bracket ok r = fill_a_bracket0 ok r.fills r.spelled
-
-  fill_a_block0 : {l : ℕ} {at : Place} {fs : List Form} {ps : List Phrase} {ts : List Token} → a (l + 1) ≡ true → Fills (g.items (l + 1) ∷ g.expression (l + 1) ∷ g.sign signs.CloseCurly ∷ fs) ps → Spells a ps ts → Filled a (g.base l ∷ fs) (sign_at signs.OpenCurly at ∷ ts)
-  fill_a_block0 ok (is_items (is_expression (is_sign f))) d = met (is_base f) (s.a_block ok d)
-
-  fill_a_block : {fs : List Form} {ts : List Token} {l : ℕ} {at : Place} → a (l + 1) ≡ true → Filled a (g.items (l + 1) ∷ g.expression (l + 1) ∷ g.sign signs.CloseCurly ∷ fs) ts → Filled a (g.base l ∷ fs) (sign_at signs.OpenCurly at ∷ ts)
-  fill_a_block ok r = fill_a_block0 ok r.fills r.spelled
-
-  fill_last_item0 : {l : ℕ} {fs : List Form} {ps : List Phrase} {ts : List Token} → Fills fs ps → Spells a ps ts → Filled a (g.items l ∷ fs) ts
-  fill_last_item0 f d = met (is_items f) (s.last_item d)
-
-  fill_last_item : {fs : List Form} {ts : List Token} {l : ℕ} → Filled a fs ts → Filled a (g.items l ∷ fs) ts
-  fill_last_item r = fill_last_item0 r.fills r.spelled
-
-  fill_next_item0 : {l : ℕ} {fs : List Form} {ps : List Phrase} {ts : List Token} → Fills (g.item l ∷ g.items l ∷ fs) ps → Spells a ps ts → Filled a (g.items l ∷ fs) ts
-  fill_next_item0 (is_item (is_items f)) d = met (is_items f) (s.next_item d)
-
-  fill_next_item : {fs : List Form} {ts : List Token} {l : ℕ} → Filled a (g.item l ∷ g.items l ∷ fs) ts → Filled a (g.items l ∷ fs) ts
-  fill_next_item r = fill_next_item0 r.fills r.spelled
-
-  fill_a_let0 : {l : ℕ} {at : Place} {fs : List Form} {ps : List Phrase} {ts : List Token} → Fills (g.name ∷ g.names ∷ g.sign signs.Equal ∷ g.expression l ∷ g.sign signs.Semi ∷ fs) ps → Spells a ps ts → Filled a (g.item l ∷ fs) (token (toks.Word words.Let) at ∷ ts)
-  fill_a_let0 (is_name (is_names (is_sign (is_expression (is_sign f))))) d = met (is_item f) (s.a_let d)
-
-  fill_a_let : {fs : List Form} {ts : List Token} {l : ℕ} {at : Place} → Filled a (g.name ∷ g.names ∷ g.sign signs.Equal ∷ g.expression l ∷ g.sign signs.Semi ∷ fs) ts → Filled a (g.item l ∷ fs) (token (toks.Word words.Let) at ∷ ts)
-  fill_a_let r = fill_a_let0 r.fills r.spelled
-
-  fill_a_do0 : {l : ℕ} {fs : List Form} {ps : List Phrase} {ts : List Token} → Fills (g.expression l ∷ g.sign signs.Semi ∷ fs) ps → Spells a ps ts → Filled a (g.item l ∷ fs) ts
-  fill_a_do0 (is_expression (is_sign f)) d = met (is_item f) (s.a_do d)
-
-  fill_a_do : {fs : List Form} {ts : List Token} {l : ℕ} → Filled a (g.expression l ∷ g.sign signs.Semi ∷ fs) ts → Filled a (g.item l ∷ fs) ts
-  fill_a_do r = fill_a_do0 r.fills r.spelled
+  fill_a_sign : {s : Sign} {at : Place} {fs : List Form} {ps : List Phrase} {ts : List Token}
+      → Fills fs ps → Spells a ps ts → Filled a (g.sign s ∷ fs) (sign_at s at ∷ ts)
+  fill_a_sign f d = met (is_sign f) (s.a_sign d)
+
+  fill_a_bool : {at : Place} {fs : List Form} {ps : List Phrase} {ts : List Token}
+      → Fills fs ps → Spells a ps ts → Filled a (g.bool_word ∷ fs) (token (toks.Word words.Bool) at ∷ ts)
+  fill_a_bool f d = met (is_bool_word f) (s.a_bool d)
+
+  fill_a_name : {text : List ℕ} {at : Place} {fs : List Form} {ps : List Phrase} {ts : List Token}
+      → Fills fs ps → Spells a ps ts → Filled a (g.name ∷ fs) (token (toks.Name text) at ∷ ts)
+  fill_a_name f d = met (is_name f) (s.a_name d)
+
+  fill_a_number : {n : ℕ} {at : Place} {fs : List Form} {ps : List Phrase} {ts : List Token}
+      → Fills fs ps → Spells a ps ts → Filled a (g.number ∷ fs) (token (toks.Number n) at ∷ ts)
+  fill_a_number f d = met (is_number f) (s.a_number d)
+
+  fill_a_program : {at : Place} {fs : List Form} {ps : List Phrase} {ts : List Token}
+      → Fills (g.parameter ∷ g.parameters ∷ g.sign signs.Equal ∷ g.expression 1 ∷ fs) ps → Spells a ps ts
+      → Filled a (g.program ∷ fs) (token (toks.Word words.Main) at ∷ ts)
+  fill_a_program (is_parameter (is_parameters (is_sign (is_expression f)))) d = met (is_program f) (s.a_program d)
+
+  fill_last_parameter : {fs : List Form} {ps : List Phrase} {ts : List Token}
+      → Fills fs ps → Spells a ps ts → Filled a (g.parameters ∷ fs) ts
+  fill_last_parameter f d = met (is_parameters f) (s.last_parameter d)
+
+  fill_next_parameter : {fs : List Form} {ps : List Phrase} {ts : List Token}
+      → Fills (g.parameter ∷ g.parameters ∷ fs) ps → Spells a ps ts → Filled a (g.parameters ∷ fs) ts
+  fill_next_parameter (is_parameter (is_parameters f)) d = met (is_parameters f) (s.next_parameter d)
+
+  fill_bit : {at : Place} {fs : List Form} {ps : List Phrase} {ts : List Token}
+      → Fills (g.name ∷ g.sign signs.Colon ∷ g.bool_word ∷ g.sign signs.CloseRound ∷ fs) ps → Spells a ps ts
+      → Filled a (g.parameter ∷ fs) (sign_at signs.OpenRound at ∷ ts)
+  fill_bit (is_name (is_sign (is_bool_word (is_sign f)))) d = met (is_parameter f) (s.bit d)
+
+  fill_register : {at : Place} {fs : List Form} {ps : List Phrase} {ts : List Token}
+      → Fills (g.name ∷ g.sign signs.Colon ∷ g.bool_word ∷ g.sign signs.OpenSquare ∷ g.number ∷ g.sign signs.CloseSquare ∷ g.sign signs.CloseRound ∷ fs) ps
+      → Spells a ps ts → Filled a (g.parameter ∷ fs) (sign_at signs.OpenRound at ∷ ts)
+  fill_register (is_name (is_sign (is_bool_word (is_sign (is_number (is_sign (is_sign f))))))) d = met (is_parameter f) (s.register d)
+
+  fill_last_name : {fs : List Form} {ps : List Phrase} {ts : List Token}
+      → Fills fs ps → Spells a ps ts → Filled a (g.names ∷ fs) ts
+  fill_last_name f d = met (is_names f) (s.last_name d)
+
+  fill_next_name : {fs : List Form} {ps : List Phrase} {ts : List Token}
+      → Fills (g.name ∷ g.names ∷ fs) ps → Spells a ps ts → Filled a (g.names ∷ fs) ts
+  fill_next_name (is_name (is_names f)) d = met (is_names f) (s.next_name d)
+
+  fill_a_function : {l : ℕ} {at : Place} {fs : List Form} {ps : List Phrase} {ts : List Token}
+      → a (l + 1) ≡ true → Fills (g.name ∷ g.names ∷ g.sign signs.Arrow ∷ g.expression (l + 1) ∷ fs) ps → Spells a ps ts
+      → Filled a (g.expression l ∷ fs) (token (toks.Word words.Fun) at ∷ ts)
+  fill_a_function ok (is_name (is_names (is_sign (is_expression f)))) d = met (is_expression f) (s.a_function ok d)
+
+  fill_an_expression : {l : ℕ} {fs : List Form} {ps : List Phrase} {ts : List Token}
+      → Fills (g.sum l ∷ g.assigned l ∷ fs) ps → Spells a ps ts → Filled a (g.expression l ∷ fs) ts
+  fill_an_expression (is_sum (is_assigned f)) d = met (is_expression f) (s.an_expression d)
+
+  fill_not_assigned : {l : ℕ} {fs : List Form} {ps : List Phrase} {ts : List Token}
+      → Fills fs ps → Spells a ps ts → Filled a (g.assigned l ∷ fs) ts
+  fill_not_assigned f d = met (is_assigned f) (s.not_assigned d)
+
+  fill_is_assigned : {l : ℕ} {at : Place} {fs : List Form} {ps : List Phrase} {ts : List Token}
+      → Fills (g.sum l ∷ fs) ps → Spells a ps ts → Filled a (g.assigned l ∷ fs) (sign_at signs.Assign at ∷ ts)
+  fill_is_assigned (is_sum f) d = met (is_assigned f) (s.is_assigned d)
+
+  fill_a_sum : {l : ℕ} {fs : List Form} {ps : List Phrase} {ts : List Token}
+      → Fills (g.product l ∷ g.sums l ∷ fs) ps → Spells a ps ts → Filled a (g.sum l ∷ fs) ts
+  fill_a_sum (is_product (is_sums f)) d = met (is_sum f) (s.a_sum d)
+
+  fill_last_product : {l : ℕ} {fs : List Form} {ps : List Phrase} {ts : List Token}
+      → Fills fs ps → Spells a ps ts → Filled a (g.sums l ∷ fs) ts
+  fill_last_product f d = met (is_sums f) (s.last_product d)
+
+  fill_next_product : {l : ℕ} {at : Place} {fs : List Form} {ps : List Phrase} {ts : List Token}
+      → Fills (g.product l ∷ g.sums l ∷ fs) ps → Spells a ps ts → Filled a (g.sums l ∷ fs) (sign_at signs.Xor at ∷ ts)
+  fill_next_product (is_product (is_sums f)) d = met (is_sums f) (s.next_product d)
+
+  fill_a_product : {l : ℕ} {fs : List Form} {ps : List Phrase} {ts : List Token}
+      → Fills (g.application l ∷ g.products l ∷ fs) ps → Spells a ps ts → Filled a (g.product l ∷ fs) ts
+  fill_a_product (is_application (is_products f)) d = met (is_product f) (s.a_product d)
+
+  fill_last_application : {l : ℕ} {fs : List Form} {ps : List Phrase} {ts : List Token}
+      → Fills fs ps → Spells a ps ts → Filled a (g.products l ∷ fs) ts
+  fill_last_application f d = met (is_products f) (s.last_application d)
+
+  fill_next_application : {l : ℕ} {at : Place} {fs : List Form} {ps : List Phrase} {ts : List Token}
+      → Fills (g.application l ∷ g.products l ∷ fs) ps → Spells a ps ts → Filled a (g.products l ∷ fs) (sign_at signs.And at ∷ ts)
+  fill_next_application (is_application (is_products f)) d = met (is_products f) (s.next_application d)
+
+  fill_a_clean : {l : ℕ} {at : Place} {fs : List Form} {ps : List Phrase} {ts : List Token}
+      → Fills (g.atom l ∷ fs) ps → Spells a ps ts → Filled a (g.application l ∷ fs) (token (toks.Word words.Clean) at ∷ ts)
+  fill_a_clean (is_atom f) d = met (is_application f) (s.a_clean d)
+
+  fill_an_assert : {l : ℕ} {at : Place} {fs : List Form} {ps : List Phrase} {ts : List Token}
+      → Fills (g.atom l ∷ fs) ps → Spells a ps ts → Filled a (g.application l ∷ fs) (token (toks.Word words.Assert) at ∷ ts)
+  fill_an_assert (is_atom f) d = met (is_application f) (s.an_assert d)
+
+  fill_an_append : {l : ℕ} {at : Place} {fs : List Form} {ps : List Phrase} {ts : List Token}
+      → Fills (g.atom l ∷ g.atom l ∷ fs) ps → Spells a ps ts → Filled a (g.application l ∷ fs) (token (toks.Word words.Append) at ∷ ts)
+  fill_an_append (is_atom (is_atom f)) d = met (is_application f) (s.an_append d)
+
+  fill_a_rotate : {l : ℕ} {at : Place} {fs : List Form} {ps : List Phrase} {ts : List Token}
+      → Fills (g.number ∷ g.atom l ∷ fs) ps → Spells a ps ts → Filled a (g.application l ∷ fs) (token (toks.Word words.Rotate) at ∷ ts)
+  fill_a_rotate (is_number (is_atom f)) d = met (is_application f) (s.a_rotate d)
+
+  fill_an_application : {l : ℕ} {fs : List Form} {ps : List Phrase} {ts : List Token}
+      → Fills (g.atom l ∷ g.atoms l ∷ fs) ps → Spells a ps ts → Filled a (g.application l ∷ fs) ts
+  fill_an_application (is_atom (is_atoms f)) d = met (is_application f) (s.an_application d)
+
+  fill_last_atom : {l : ℕ} {fs : List Form} {ps : List Phrase} {ts : List Token}
+      → Fills fs ps → Spells a ps ts → Filled a (g.atoms l ∷ fs) ts
+  fill_last_atom f d = met (is_atoms f) (s.last_atom d)
+
+  fill_next_atom : {l : ℕ} {fs : List Form} {ps : List Phrase} {ts : List Token}
+      → Fills (g.atom l ∷ g.atoms l ∷ fs) ps → Spells a ps ts → Filled a (g.atoms l ∷ fs) ts
+  fill_next_atom (is_atom (is_atoms f)) d = met (is_atoms f) (s.next_atom d)
+
+  fill_an_atom : {l : ℕ} {fs : List Form} {ps : List Phrase} {ts : List Token}
+      → Fills (g.base l ∷ g.parts ∷ fs) ps → Spells a ps ts → Filled a (g.atom l ∷ fs) ts
+  fill_an_atom (is_base (is_all_parts f)) d = met (is_atom f) (s.an_atom d)
+
+  fill_last_part : {fs : List Form} {ps : List Phrase} {ts : List Token}
+      → Fills fs ps → Spells a ps ts → Filled a (g.parts ∷ fs) ts
+  fill_last_part f d = met (is_all_parts f) (s.last_part d)
+
+  fill_next_part : {fs : List Form} {ps : List Phrase} {ts : List Token}
+      → Fills (g.part ∷ g.parts ∷ fs) ps → Spells a ps ts → Filled a (g.parts ∷ fs) ts
+  fill_next_part (is_part (is_all_parts f)) d = met (is_all_parts f) (s.next_part d)
+
+  fill_an_index : {at : Place} {fs : List Form} {ps : List Phrase} {ts : List Token}
+      → Fills (g.sign signs.OpenSquare ∷ g.number ∷ g.sign signs.CloseSquare ∷ fs) ps → Spells a ps ts
+      → Filled a (g.part ∷ fs) (sign_at signs.Dot at ∷ ts)
+  fill_an_index (is_sign (is_number (is_sign f))) d = met (is_part f) (s.an_index d)
+
+  fill_a_slice : {at : Place} {fs : List Form} {ps : List Phrase} {ts : List Token}
+      → Fills (g.sign signs.OpenSquare ∷ g.number ∷ g.sign signs.DotDot ∷ g.number ∷ g.sign signs.CloseSquare ∷ fs) ps → Spells a ps ts
+      → Filled a (g.part ∷ fs) (sign_at signs.Dot at ∷ ts)
+  fill_a_slice (is_sign (is_number (is_sign (is_number (is_sign f))))) d = met (is_part f) (s.a_slice d)
+
+  fill_a_use : {l : ℕ} {text : List ℕ} {at : Place} {fs : List Form} {ps : List Phrase} {ts : List Token}
+      → Fills fs ps → Spells a ps ts → Filled a (g.base l ∷ fs) (token (toks.Name text) at ∷ ts)
+  fill_a_use f d = met (is_base f) (s.a_use d)
+
+  fill_a_true : {l : ℕ} {at : Place} {fs : List Form} {ps : List Phrase} {ts : List Token}
+      → Fills fs ps → Spells a ps ts → Filled a (g.base l ∷ fs) (token (toks.Word words.True) at ∷ ts)
+  fill_a_true f d = met (is_base f) (s.a_true d)
+
+  fill_a_false : {l : ℕ} {at : Place} {fs : List Form} {ps : List Phrase} {ts : List Token}
+      → Fills fs ps → Spells a ps ts → Filled a (g.base l ∷ fs) (token (toks.Word words.False) at ∷ ts)
+  fill_a_false f d = met (is_base f) (s.a_false d)
+
+  fill_a_register : {l : ℕ} {at : Place} {fs : List Form} {ps : List Phrase} {ts : List Token}
+      → a (l + 1) ≡ true → Fills (g.sign signs.OpenSquare ∷ g.expression (l + 1) ∷ g.elements (l + 1) ∷ g.sign signs.CloseSquare ∷ fs) ps
+      → Spells a ps ts → Filled a (g.base l ∷ fs) (token (toks.Word words.Reg) at ∷ ts)
+  fill_a_register ok (is_sign (is_expression (is_elements (is_sign f)))) d = met (is_base f) (s.a_register ok d)
+
+  fill_last_element : {l : ℕ} {fs : List Form} {ps : List Phrase} {ts : List Token}
+      → Fills fs ps → Spells a ps ts → Filled a (g.elements l ∷ fs) ts
+  fill_last_element f d = met (is_elements f) (s.last_element d)
+
+  fill_next_element : {l : ℕ} {at : Place} {fs : List Form} {ps : List Phrase} {ts : List Token}
+      → Fills (g.expression l ∷ g.elements l ∷ fs) ps → Spells a ps ts → Filled a (g.elements l ∷ fs) (sign_at signs.Semi at ∷ ts)
+  fill_next_element (is_expression (is_elements f)) d = met (is_elements f) (s.next_element d)
+
+  fill_a_bracket : {l : ℕ} {at : Place} {fs : List Form} {ps : List Phrase} {ts : List Token}
+      → a (l + 1) ≡ true → Fills (g.expression (l + 1) ∷ g.sign signs.CloseRound ∷ fs) ps → Spells a ps ts
+      → Filled a (g.base l ∷ fs) (sign_at signs.OpenRound at ∷ ts)
+  fill_a_bracket ok (is_expression (is_sign f)) d = met (is_base f) (s.a_bracket ok d)
+
+  fill_a_block : {l : ℕ} {at : Place} {fs : List Form} {ps : List Phrase} {ts : List Token}
+      → a (l + 1) ≡ true → Fills (g.items (l + 1) ∷ g.expression (l + 1) ∷ g.sign signs.CloseCurly ∷ fs) ps → Spells a ps ts
+      → Filled a (g.base l ∷ fs) (sign_at signs.OpenCurly at ∷ ts)
+  fill_a_block ok (is_items (is_expression (is_sign f))) d = met (is_base f) (s.a_block ok d)
+
+  fill_last_item : {l : ℕ} {fs : List Form} {ps : List Phrase} {ts : List Token}
+      → Fills fs ps → Spells a ps ts → Filled a (g.items l ∷ fs) ts
+  fill_last_item f d = met (is_items f) (s.last_item d)
+
+  fill_next_item : {l : ℕ} {fs : List Form} {ps : List Phrase} {ts : List Token}
+      → Fills (g.item l ∷ g.items l ∷ fs) ps → Spells a ps ts → Filled a (g.items l ∷ fs) ts
+  fill_next_item (is_item (is_items f)) d = met (is_items f) (s.next_item d)
+
+  fill_a_let : {l : ℕ} {at : Place} {fs : List Form} {ps : List Phrase} {ts : List Token}
+      → Fills (g.name ∷ g.names ∷ g.sign signs.Equal ∷ g.expression l ∷ g.sign signs.Semi ∷ fs) ps → Spells a ps ts
+      → Filled a (g.item l ∷ fs) (token (toks.Word words.Let) at ∷ ts)
+  fill_a_let (is_name (is_names (is_sign (is_expression (is_sign f))))) d = met (is_item f) (s.a_let d)
+
+  fill_a_do : {l : ℕ} {fs : List Form} {ps : List Phrase} {ts : List Token}
+      → Fills (g.expression l ∷ g.sign signs.Semi ∷ fs) ps → Spells a ps ts → Filled a (g.item l ∷ fs) ts
+  fill_a_do (is_expression (is_sign f)) d = met (is_item f) (s.a_do d)
 
   -- Tokens of these forms spell phrases of these forms.
   pub filled : {fs : List Form} {ks : List Tok} {ts : List Token} → HasForms a fs ks → AreOf ks ts → Filled a fs ts
   filled g.nothing none = met is_end s.nothing
-  filled (g.a_sign d) (one k) = fill_a_sign (filled d k)
-  filled (g.a_bool d) (one k) = fill_a_bool (filled d k)
-  filled (g.a_name d) (one k) = fill_a_name (filled d k)
-  filled (g.a_number d) (one k) = fill_a_number (filled d k)
-  filled (g.a_program d) (one k) = fill_a_program (filled d k)
-  filled (g.last_parameter d) k = fill_last_parameter (filled d k)
-  filled (g.next_parameter d) k = fill_next_parameter (filled d k)
-  filled (g.bit d) (one k) = fill_bit (filled d k)
-  filled (g.register d) (one k) = fill_register (filled d k)
-  filled (g.last_name d) k = fill_last_name (filled d k)
-  filled (g.next_name d) k = fill_next_name (filled d k)
-  filled (g.a_function ok d) (one k) = fill_a_function ok (filled d k)
-  filled (g.an_expression d) k = fill_an_expression (filled d k)
-  filled (g.not_assigned d) k = fill_not_assigned (filled d k)
-  filled (g.is_assigned d) (one k) = fill_is_assigned (filled d k)
-  filled (g.a_sum d) k = fill_a_sum (filled d k)
-  filled (g.last_product d) k = fill_last_product (filled d k)
-  filled (g.next_product d) (one k) = fill_next_product (filled d k)
-  filled (g.a_product d) k = fill_a_product (filled d k)
-  filled (g.last_application d) k = fill_last_application (filled d k)
-  filled (g.next_application d) (one k) = fill_next_application (filled d k)
-  filled (g.a_clean d) (one k) = fill_a_clean (filled d k)
-  filled (g.an_assert d) (one k) = fill_an_assert (filled d k)
-  filled (g.an_append d) (one k) = fill_an_append (filled d k)
-  filled (g.a_rotate d) (one k) = fill_a_rotate (filled d k)
-  filled (g.an_application d) k = fill_an_application (filled d k)
-  filled (g.last_atom d) k = fill_last_atom (filled d k)
-  filled (g.next_atom d) k = fill_next_atom (filled d k)
-  filled (g.an_atom d) k = fill_an_atom (filled d k)
-  filled (g.last_part d) k = fill_last_part (filled d k)
-  filled (g.next_part d) k = fill_next_part (filled d k)
-  filled (g.an_index d) (one k) = fill_an_index (filled d k)
-  filled (g.a_slice d) (one k) = fill_a_slice (filled d k)
-  filled (g.a_use d) (one k) = fill_a_use (filled d k)
-  filled (g.a_true d) (one k) = fill_a_true (filled d k)
-  filled (g.a_false d) (one k) = fill_a_false (filled d k)
-  filled (g.a_register ok d) (one k) = fill_a_register ok (filled d k)
-  filled (g.last_element d) k = fill_last_element (filled d k)
-  filled (g.next_element d) (one k) = fill_next_element (filled d k)
-  filled (g.a_bracket ok d) (one k) = fill_a_bracket ok (filled d k)
-  filled (g.a_block ok d) (one k) = fill_a_block ok (filled d k)
-  filled (g.last_item d) k = fill_last_item (filled d k)
-  filled (g.next_item d) k = fill_next_item (filled d k)
-  filled (g.a_let d) (one k) = fill_a_let (filled d k)
-  filled (g.a_do d) k = fill_a_do (filled d k)
+  filled (g.a_sign d) (one k) = let r = filled d k in fill_a_sign r.fills r.spelled
+  filled (g.a_bool d) (one k) = let r = filled d k in fill_a_bool r.fills r.spelled
+  filled (g.a_name d) (one k) = let r = filled d k in fill_a_name r.fills r.spelled
+  filled (g.a_number d) (one k) = let r = filled d k in fill_a_number r.fills r.spelled
+  filled (g.a_program d) (one k) = let r = filled d k in fill_a_program r.fills r.spelled
+  filled (g.last_parameter d) k = let r = filled d k in fill_last_parameter r.fills r.spelled
+  filled (g.next_parameter d) k = let r = filled d k in fill_next_parameter r.fills r.spelled
+  filled (g.bit d) (one k) = let r = filled d k in fill_bit r.fills r.spelled
+  filled (g.register d) (one k) = let r = filled d k in fill_register r.fills r.spelled
+  filled (g.last_name d) k = let r = filled d k in fill_last_name r.fills r.spelled
+  filled (g.next_name d) k = let r = filled d k in fill_next_name r.fills r.spelled
+  filled (g.a_function ok d) (one k) = let r = filled d k in fill_a_function ok r.fills r.spelled
+  filled (g.an_expression d) k = let r = filled d k in fill_an_expression r.fills r.spelled
+  filled (g.not_assigned d) k = let r = filled d k in fill_not_assigned r.fills r.spelled
+  filled (g.is_assigned d) (one k) = let r = filled d k in fill_is_assigned r.fills r.spelled
+  filled (g.a_sum d) k = let r = filled d k in fill_a_sum r.fills r.spelled
+  filled (g.last_product d) k = let r = filled d k in fill_last_product r.fills r.spelled
+  filled (g.next_product d) (one k) = let r = filled d k in fill_next_product r.fills r.spelled
+  filled (g.a_product d) k = let r = filled d k in fill_a_product r.fills r.spelled
+  filled (g.last_application d) k = let r = filled d k in fill_last_application r.fills r.spelled
+  filled (g.next_application d) (one k) = let r = filled d k in fill_next_application r.fills r.spelled
+  filled (g.a_clean d) (one k) = let r = filled d k in fill_a_clean r.fills r.spelled
+  filled (g.an_assert d) (one k) = let r = filled d k in fill_an_assert r.fills r.spelled
+  filled (g.an_append d) (one k) = let r = filled d k in fill_an_append r.fills r.spelled
+  filled (g.a_rotate d) (one k) = let r = filled d k in fill_a_rotate r.fills r.spelled
+  filled (g.an_application d) k = let r = filled d k in fill_an_application r.fills r.spelled
+  filled (g.last_atom d) k = let r = filled d k in fill_last_atom r.fills r.spelled
+  filled (g.next_atom d) k = let r = filled d k in fill_next_atom r.fills r.spelled
+  filled (g.an_atom d) k = let r = filled d k in fill_an_atom r.fills r.spelled
+  filled (g.last_part d) k = let r = filled d k in fill_last_part r.fills r.spelled
+  filled (g.next_part d) k = let r = filled d k in fill_next_part r.fills r.spelled
+  filled (g.an_index d) (one k) = let r = filled d k in fill_an_index r.fills r.spelled
+  filled (g.a_slice d) (one k) = let r = filled d k in fill_a_slice r.fills r.spelled
+  filled (g.a_use d) (one k) = let r = filled d k in fill_a_use r.fills r.spelled
+  filled (g.a_true d) (one k) = let r = filled d k in fill_a_true r.fills r.spelled
+  filled (g.a_false d) (one k) = let r = filled d k in fill_a_false r.fills r.spelled
+  filled (g.a_register ok d) (one k) = let r = filled d k in fill_a_register ok r.fills r.spelled
+  filled (g.last_element d) k = let r = filled d k in fill_last_element r.fills r.spelled
+  filled (g.next_element d) (one k) = let r = filled d k in fill_next_element r.fills r.spelled
+  filled (g.a_bracket ok d) (one k) = let r = filled d k in fill_a_bracket ok r.fills r.spelled
+  filled (g.a_block ok d) (one k) = let r = filled d k in fill_a_block ok r.fills r.spelled
+  filled (g.last_item d) k = let r = filled d k in fill_last_item r.fills r.spelled
+  filled (g.next_item d) k = let r = filled d k in fill_next_item r.fills r.spelled
+  filled (g.a_let d) (one k) = let r = filled d k in fill_a_let r.fills r.spelled
+  filled (g.a_do d) k = let r = filled d k in fill_a_do r.fills r.spelled
 
 -- ---- sentences and what they begin with, over tokens and over their kinds
 

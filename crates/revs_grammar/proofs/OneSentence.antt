@@ -1,5 +1,5 @@
 -- A list of tokens is a sentence in one way: phrases of the same forms that the same tokens spell are the same.
-use Rattle.std.proofs.Common.{◌≡◌, ℕ, ◌+◌, ◌<◌, ◌≤◌, Bool, true, false, Option, Some, None, List, [], ◌∷◌, ◌++◌, refl, sym, ◌∙◌, ap, subst, arith}
+use Rattle.std.proofs.Common.{◌≡◌, ℕ, ◌<◌, ◌≤◌, Bool, true, false, Option, None, List, [], ◌∷◌, ◌++◌, refl, sym, ◌∙◌, ap, subst, arith}
 use Rattle.revc_base.specs.declared.place.Place.{Place}
 use Rattle.revs_lexer.specs.declared.sign.Sign.{Sign}
 use Rattle.revs_lexer.specs.declared.sign.Sign.TheVariants as signs
@@ -8,7 +8,6 @@ use Rattle.revs_lexer.specs.declared.token.Tok.TheVariants as toks
 use Rattle.revs_lexer.specs.declared.token.Token.{Token}
 use Rattle.revs_terms.specs.declared.term.Name.{Name}
 use Rattle.revs_terms.specs.declared.term.Part.{Part}
-use Rattle.revs_terms.specs.declared.term.Part.TheVariants as part_of
 use Rattle.revs_terms.specs.declared.program.Param.{Param}
 use Rattle.revs_terms.specs.Trees.{Tree, ItemTree, trees, item_trees}
 use Rattle.revs_terms.specs.Trees as t
@@ -94,27 +93,48 @@ pub record Starts (a : ℕ → Bool) (n : ℕ) (behind : List Phrase) : Type 0 w
 -- Phrases of these forms, in front of those behind, and the whole list. The items of a block stand with what ends it.
 pub data Fronts (behind : List Phrase) : List Form → List Phrase → List Phrase → Type 0 where
   is_end : Fronts behind [] [] behind
-  is_sign : {sg : Sign} {fs : List Form} {front ps : List Phrase} → Fronts behind fs front ps → Fronts behind (g.sign sg ∷ fs) (s.sign sg ∷ front) (s.sign sg ∷ ps)
-  is_bool_word : {fs : List Form} {front ps : List Phrase} → Fronts behind fs front ps → Fronts behind (g.bool_word ∷ fs) (s.bool_word ∷ front) (s.bool_word ∷ ps)
-  is_name : {n : Name} {fs : List Form} {front ps : List Phrase} → Fronts behind fs front ps → Fronts behind (g.name ∷ fs) (s.name n ∷ front) (s.name n ∷ ps)
-  is_number : {n : ℕ} {fs : List Form} {front ps : List Phrase} → Fronts behind fs front ps → Fronts behind (g.number ∷ fs) (s.number n ∷ front) (s.number n ∷ ps)
-  is_program : {params : List Param} {body : Tree} {fs : List Form} {front ps : List Phrase} → Fronts behind fs front ps → Fronts behind (g.program ∷ fs) (s.program params body ∷ front) (s.program params body ∷ ps)
-  is_parameter : {p : Param} {fs : List Form} {front ps : List Phrase} → Fronts behind fs front ps → Fronts behind (g.parameter ∷ fs) (s.parameter p ∷ front) (s.parameter p ∷ ps)
-  is_parameters : {more : List Param} {fs : List Form} {front ps : List Phrase} → Fronts behind fs front ps → Fronts behind (g.parameters ∷ fs) (s.parameters more ∷ front) (s.parameters more ∷ ps)
-  is_names : {all : List Name} {fs : List Form} {front ps : List Phrase} → Fronts behind fs front ps → Fronts behind (g.names ∷ fs) (s.names all ∷ front) (s.names all ∷ ps)
-  is_expression : {l : ℕ} {x : Tree} {fs : List Form} {front ps : List Phrase} → Fronts behind fs front ps → Fronts behind (g.expression l ∷ fs) (s.expression l x ∷ front) (s.expression l x ∷ ps)
-  is_assigned : {l : ℕ} {x : Option Tree} {fs : List Form} {front ps : List Phrase} → Fronts behind fs front ps → Fronts behind (g.assigned l ∷ fs) (s.assigned l x ∷ front) (s.assigned l x ∷ ps)
-  is_sum : {l : ℕ} {x : Tree} {fs : List Form} {front ps : List Phrase} → Fronts behind fs front ps → Fronts behind (g.sum l ∷ fs) (s.sum l x ∷ front) (s.sum l x ∷ ps)
-  is_sums : {l : ℕ} {x : List Tree} {fs : List Form} {front ps : List Phrase} → Fronts behind fs front ps → Fronts behind (g.sums l ∷ fs) (s.sums l x ∷ front) (s.sums l x ∷ ps)
-  is_product : {l : ℕ} {x : Tree} {fs : List Form} {front ps : List Phrase} → Fronts behind fs front ps → Fronts behind (g.product l ∷ fs) (s.product l x ∷ front) (s.product l x ∷ ps)
-  is_products : {l : ℕ} {x : List Tree} {fs : List Form} {front ps : List Phrase} → Fronts behind fs front ps → Fronts behind (g.products l ∷ fs) (s.products l x ∷ front) (s.products l x ∷ ps)
-  is_application : {l : ℕ} {x : Tree} {fs : List Form} {front ps : List Phrase} → Fronts behind fs front ps → Fronts behind (g.application l ∷ fs) (s.application l x ∷ front) (s.application l x ∷ ps)
-  is_atom : {l : ℕ} {x : Tree} {fs : List Form} {front ps : List Phrase} → Fronts behind fs front ps → Fronts behind (g.atom l ∷ fs) (s.atom l x ∷ front) (s.atom l x ∷ ps)
-  is_atoms : {l : ℕ} {x : List Tree} {fs : List Form} {front ps : List Phrase} → Fronts behind fs front ps → Fronts behind (g.atoms l ∷ fs) (s.atoms l x ∷ front) (s.atoms l x ∷ ps)
-  is_part : {p : Part} {fs : List Form} {front ps : List Phrase} → Fronts behind fs front ps → Fronts behind (g.part ∷ fs) (s.part p ∷ front) (s.part p ∷ ps)
-  is_all_parts : {more : List Part} {fs : List Form} {front ps : List Phrase} → Fronts behind fs front ps → Fronts behind (g.parts ∷ fs) (s.all_parts more ∷ front) (s.all_parts more ∷ ps)
-  is_base : {l : ℕ} {x : Tree} {fs : List Form} {front ps : List Phrase} → Fronts behind fs front ps → Fronts behind (g.base l ∷ fs) (s.base l x ∷ front) (s.base l x ∷ ps)
-  is_elements : {l : ℕ} {x : List Tree} {fs : List Form} {front ps : List Phrase} → Fronts behind fs front ps → Fronts behind (g.elements l ∷ fs) (s.elements l x ∷ front) (s.elements l x ∷ ps)
+  is_sign : {sg : Sign} {fs : List Form} {front ps : List Phrase} → Fronts behind fs front ps
+      → Fronts behind (g.sign sg ∷ fs) (s.sign sg ∷ front) (s.sign sg ∷ ps)
+  is_bool_word : {fs : List Form} {front ps : List Phrase} → Fronts behind fs front ps
+      → Fronts behind (g.bool_word ∷ fs) (s.bool_word ∷ front) (s.bool_word ∷ ps)
+  is_name : {n : Name} {fs : List Form} {front ps : List Phrase} → Fronts behind fs front ps
+      → Fronts behind (g.name ∷ fs) (s.name n ∷ front) (s.name n ∷ ps)
+  is_number : {n : ℕ} {fs : List Form} {front ps : List Phrase} → Fronts behind fs front ps
+      → Fronts behind (g.number ∷ fs) (s.number n ∷ front) (s.number n ∷ ps)
+  is_program : {params : List Param} {body : Tree} {fs : List Form} {front ps : List Phrase} → Fronts behind fs front ps
+      → Fronts behind (g.program ∷ fs) (s.program params body ∷ front) (s.program params body ∷ ps)
+  is_parameter : {p : Param} {fs : List Form} {front ps : List Phrase} → Fronts behind fs front ps
+      → Fronts behind (g.parameter ∷ fs) (s.parameter p ∷ front) (s.parameter p ∷ ps)
+  is_parameters : {more : List Param} {fs : List Form} {front ps : List Phrase} → Fronts behind fs front ps
+      → Fronts behind (g.parameters ∷ fs) (s.parameters more ∷ front) (s.parameters more ∷ ps)
+  is_names : {all : List Name} {fs : List Form} {front ps : List Phrase} → Fronts behind fs front ps
+      → Fronts behind (g.names ∷ fs) (s.names all ∷ front) (s.names all ∷ ps)
+  is_expression : {l : ℕ} {x : Tree} {fs : List Form} {front ps : List Phrase} → Fronts behind fs front ps
+      → Fronts behind (g.expression l ∷ fs) (s.expression l x ∷ front) (s.expression l x ∷ ps)
+  is_assigned : {l : ℕ} {x : Option Tree} {fs : List Form} {front ps : List Phrase} → Fronts behind fs front ps
+      → Fronts behind (g.assigned l ∷ fs) (s.assigned l x ∷ front) (s.assigned l x ∷ ps)
+  is_sum : {l : ℕ} {x : Tree} {fs : List Form} {front ps : List Phrase} → Fronts behind fs front ps
+      → Fronts behind (g.sum l ∷ fs) (s.sum l x ∷ front) (s.sum l x ∷ ps)
+  is_sums : {l : ℕ} {x : List Tree} {fs : List Form} {front ps : List Phrase} → Fronts behind fs front ps
+      → Fronts behind (g.sums l ∷ fs) (s.sums l x ∷ front) (s.sums l x ∷ ps)
+  is_product : {l : ℕ} {x : Tree} {fs : List Form} {front ps : List Phrase} → Fronts behind fs front ps
+      → Fronts behind (g.product l ∷ fs) (s.product l x ∷ front) (s.product l x ∷ ps)
+  is_products : {l : ℕ} {x : List Tree} {fs : List Form} {front ps : List Phrase} → Fronts behind fs front ps
+      → Fronts behind (g.products l ∷ fs) (s.products l x ∷ front) (s.products l x ∷ ps)
+  is_application : {l : ℕ} {x : Tree} {fs : List Form} {front ps : List Phrase} → Fronts behind fs front ps
+      → Fronts behind (g.application l ∷ fs) (s.application l x ∷ front) (s.application l x ∷ ps)
+  is_atom : {l : ℕ} {x : Tree} {fs : List Form} {front ps : List Phrase} → Fronts behind fs front ps
+      → Fronts behind (g.atom l ∷ fs) (s.atom l x ∷ front) (s.atom l x ∷ ps)
+  is_atoms : {l : ℕ} {x : List Tree} {fs : List Form} {front ps : List Phrase} → Fronts behind fs front ps
+      → Fronts behind (g.atoms l ∷ fs) (s.atoms l x ∷ front) (s.atoms l x ∷ ps)
+  is_part : {p : Part} {fs : List Form} {front ps : List Phrase} → Fronts behind fs front ps
+      → Fronts behind (g.part ∷ fs) (s.part p ∷ front) (s.part p ∷ ps)
+  is_all_parts : {more : List Part} {fs : List Form} {front ps : List Phrase} → Fronts behind fs front ps
+      → Fronts behind (g.parts ∷ fs) (s.all_parts more ∷ front) (s.all_parts more ∷ ps)
+  is_base : {l : ℕ} {x : Tree} {fs : List Form} {front ps : List Phrase} → Fronts behind fs front ps
+      → Fronts behind (g.base l ∷ fs) (s.base l x ∷ front) (s.base l x ∷ ps)
+  is_elements : {l : ℕ} {x : List Tree} {fs : List Form} {front ps : List Phrase} → Fronts behind fs front ps
+      → Fronts behind (g.elements l ∷ fs) (s.elements l x ∷ front) (s.elements l x ∷ ps)
   is_body : {l k : ℕ} {x : List ItemTree} {y : Tree} {fs : List Form} {front ps : List Phrase} → k ≡ l → Fronts behind fs front ps
       → Fronts behind (g.items l ∷ g.expression k ∷ g.sign signs.CloseCurly ∷ fs) (s.items l x ∷ s.expression k y ∷ s.sign signs.CloseCurly ∷ front)
       (s.items l x ∷ s.expression k y ∷ s.sign signs.CloseCurly ∷ ps)
@@ -170,22 +190,28 @@ first_of st (is_body w f) (s.next_item (s.a_do d)) o = first_of st (is_expressio
 
 -- ---- tokens that a form does not begin with
 
-no_fun : {a : ℕ → Bool} {l : ℕ} {x : Tree} {ps : List Phrase} {at : Place} {ts : List Token} → Spells a (s.sum l x ∷ ps) (token (toks.Word words.Fun) at ∷ ts) → ⊥
+no_fun : {a : ℕ → Bool} {l : ℕ} {x : Tree} {ps : List Phrase} {at : Place} {ts : List Token}
+    → Spells a (s.sum l x ∷ ps) (token (toks.Word words.Fun) at ∷ ts) → ⊥
 no_fun (s.a_sum (s.a_product (s.an_application (s.an_atom x)))) = elim x [ ]
 
-no_let : {a : ℕ → Bool} {l : ℕ} {x : Tree} {ps : List Phrase} {at : Place} {ts : List Token} → Spells a (s.expression l x ∷ ps) (token (toks.Word words.Let) at ∷ ts) → ⊥
+no_let : {a : ℕ → Bool} {l : ℕ} {x : Tree} {ps : List Phrase} {at : Place} {ts : List Token}
+    → Spells a (s.expression l x ∷ ps) (token (toks.Word words.Let) at ∷ ts) → ⊥
 no_let (s.an_expression (s.a_sum (s.a_product (s.an_application (s.an_atom x))))) = elim x [ ]
 
-no_clean : {a : ℕ → Bool} {l : ℕ} {x : Tree} {ps : List Phrase} {at : Place} {ts : List Token} → Spells a (s.atom l x ∷ ps) (token (toks.Word words.Clean) at ∷ ts) → ⊥
+no_clean : {a : ℕ → Bool} {l : ℕ} {x : Tree} {ps : List Phrase} {at : Place} {ts : List Token}
+    → Spells a (s.atom l x ∷ ps) (token (toks.Word words.Clean) at ∷ ts) → ⊥
 no_clean (s.an_atom x) = elim x [ ]
 
-no_assert : {a : ℕ → Bool} {l : ℕ} {x : Tree} {ps : List Phrase} {at : Place} {ts : List Token} → Spells a (s.atom l x ∷ ps) (token (toks.Word words.Assert) at ∷ ts) → ⊥
+no_assert : {a : ℕ → Bool} {l : ℕ} {x : Tree} {ps : List Phrase} {at : Place} {ts : List Token}
+    → Spells a (s.atom l x ∷ ps) (token (toks.Word words.Assert) at ∷ ts) → ⊥
 no_assert (s.an_atom x) = elim x [ ]
 
-no_append : {a : ℕ → Bool} {l : ℕ} {x : Tree} {ps : List Phrase} {at : Place} {ts : List Token} → Spells a (s.atom l x ∷ ps) (token (toks.Word words.Append) at ∷ ts) → ⊥
+no_append : {a : ℕ → Bool} {l : ℕ} {x : Tree} {ps : List Phrase} {at : Place} {ts : List Token}
+    → Spells a (s.atom l x ∷ ps) (token (toks.Word words.Append) at ∷ ts) → ⊥
 no_append (s.an_atom x) = elim x [ ]
 
-no_rotate : {a : ℕ → Bool} {l : ℕ} {x : Tree} {ps : List Phrase} {at : Place} {ts : List Token} → Spells a (s.atom l x ∷ ps) (token (toks.Word words.Rotate) at ∷ ts) → ⊥
+no_rotate : {a : ℕ → Bool} {l : ℕ} {x : Tree} {ps : List Phrase} {at : Place} {ts : List Token}
+    → Spells a (s.atom l x ∷ ps) (token (toks.Word words.Rotate) at ∷ ts) → ⊥
 no_rotate (s.an_atom x) = elim x [ ]
 
 -- An index ends where a slice goes on, and so do a bit and a register.
@@ -258,135 +284,58 @@ parts_same {y = y} {xs = xs} e f = ap (λ (z : Tree). parts_of z xs) e ∙ ap (�
 bound_same : {xs ys : List Name} {x y : Tree} → xs ≡ ys → x ≡ y → bound_of xs x ≡ bound_of ys y
 bound_same {ys = ys} {x = x} e f = ap (λ (z : List Name). bound_of z x) e ∙ ap (λ (z : Tree). bound_of ys z) f
 
-make_a_program : {first first2 : Param} {more more2 : List Param} {body body2 : Tree} {fs gs : List Phrase}
-    → s.parameter first ∷ s.parameters more ∷ s.sign signs.Equal ∷ s.expression 1 body ∷ fs ≡ s.parameter first2 ∷ s.parameters more2 ∷ s.sign signs.Equal ∷ s.expression 1 body2 ∷ gs → s.program (first ∷ more) body ∷ fs ≡ s.program (first2 ∷ more2) body2 ∷ gs
-make_a_program e = cc
-
-make_next_parameter : {p p2 : Param} {more more2 : List Param} {fs gs : List Phrase}
-    → s.parameter p ∷ s.parameters more ∷ fs ≡ s.parameter p2 ∷ s.parameters more2 ∷ gs → s.parameters (p ∷ more) ∷ fs ≡ s.parameters (p2 ∷ more2) ∷ gs
-make_next_parameter e = cc
-
-make_bit : {n n2 : Name} {fs gs : List Phrase}
-    → s.name n ∷ s.sign signs.Colon ∷ s.bool_word ∷ s.sign signs.CloseRound ∷ fs ≡ s.name n2 ∷ s.sign signs.Colon ∷ s.bool_word ∷ s.sign signs.CloseRound ∷ gs → s.parameter (record { name = n; width = None }) ∷ fs ≡ s.parameter (record { name = n2; width = None }) ∷ gs
-make_bit e = cc
-
-make_register : {n n2 : Name} {width width2 : ℕ} {fs gs : List Phrase}
-    → s.name n ∷ s.sign signs.Colon ∷ s.bool_word ∷ s.sign signs.OpenSquare ∷ s.number width ∷ s.sign signs.CloseSquare ∷ s.sign signs.CloseRound ∷ fs ≡ s.name n2 ∷ s.sign signs.Colon ∷ s.bool_word ∷ s.sign signs.OpenSquare ∷ s.number width2 ∷ s.sign signs.CloseSquare ∷ s.sign signs.CloseRound ∷ gs → s.parameter (record { name = n; width = Some width }) ∷ fs ≡ s.parameter (record { name = n2; width = Some width2 }) ∷ gs
-make_register e = cc
-
-make_next_name : {n n2 : Name} {more more2 : List Name} {fs gs : List Phrase}
-    → s.name n ∷ s.names more ∷ fs ≡ s.name n2 ∷ s.names more2 ∷ gs → s.names (n ∷ more) ∷ fs ≡ s.names (n2 ∷ more2) ∷ gs
-make_next_name e = cc
-
-make_a_function : {l : ℕ} {at : Place} {first first2 : Name} {more more2 : List Name} {body body2 : Tree} {fs gs : List Phrase}
-    → s.name first ∷ s.names more ∷ s.sign signs.Arrow ∷ s.expression (l + 1) body ∷ fs ≡ s.name first2 ∷ s.names more2 ∷ s.sign signs.Arrow ∷ s.expression (l + 1) body2 ∷ gs → s.expression l (t.function (first ∷ more) body at) ∷ fs ≡ s.expression l (t.function (first2 ∷ more2) body2 at) ∷ gs
-make_a_function e = cc
-
 make_an_expression : {l : ℕ} {left left2 : Tree} {right right2 : Option Tree} {fs gs : List Phrase}
-    → s.sum l left ∷ s.assigned l right ∷ fs ≡ s.sum l left2 ∷ s.assigned l right2 ∷ gs → s.expression l (assign_of left right) ∷ fs ≡ s.expression l (assign_of left2 right2) ∷ gs
+    → s.sum l left ∷ s.assigned l right ∷ fs ≡ s.sum l left2 ∷ s.assigned l right2 ∷ gs
+    → s.expression l (assign_of left right) ∷ fs ≡ s.expression l (assign_of left2 right2) ∷ gs
 make_an_expression {left = left} {left2 = left2} {right = right} {right2 = right2} e =
     let left_same : left ≡ left2 = cc in
     let right_same : right ≡ right2 = cc in
     let made = assign_same left_same right_same in cc
 
-make_is_assigned : {l : ℕ} {right right2 : Tree} {fs gs : List Phrase}
-    → s.sum l right ∷ fs ≡ s.sum l right2 ∷ gs → s.assigned l (Some right) ∷ fs ≡ s.assigned l (Some right2) ∷ gs
-make_is_assigned e = cc
-
 make_a_sum : {l : ℕ} {first first2 : Tree} {more more2 : List Tree} {fs gs : List Phrase}
-    → s.product l first ∷ s.sums l more ∷ fs ≡ s.product l first2 ∷ s.sums l more2 ∷ gs → s.sum l (xor_of first more) ∷ fs ≡ s.sum l (xor_of first2 more2) ∷ gs
+    → s.product l first ∷ s.sums l more ∷ fs ≡ s.product l first2 ∷ s.sums l more2 ∷ gs
+    → s.sum l (xor_of first more) ∷ fs ≡ s.sum l (xor_of first2 more2) ∷ gs
 make_a_sum {first = first} {first2 = first2} {more = more} {more2 = more2} e =
     let left_same : first ≡ first2 = cc in
     let right_same : more ≡ more2 = cc in
     let made = xor_same left_same right_same in cc
 
-make_next_product : {l : ℕ} {next next2 : Tree} {more more2 : List Tree} {fs gs : List Phrase}
-    → s.product l next ∷ s.sums l more ∷ fs ≡ s.product l next2 ∷ s.sums l more2 ∷ gs → s.sums l (next ∷ more) ∷ fs ≡ s.sums l (next2 ∷ more2) ∷ gs
-make_next_product e = cc
-
 make_a_product : {l : ℕ} {first first2 : Tree} {more more2 : List Tree} {fs gs : List Phrase}
-    → s.application l first ∷ s.products l more ∷ fs ≡ s.application l first2 ∷ s.products l more2 ∷ gs → s.product l (and_of first more) ∷ fs ≡ s.product l (and_of first2 more2) ∷ gs
+    → s.application l first ∷ s.products l more ∷ fs ≡ s.application l first2 ∷ s.products l more2 ∷ gs
+    → s.product l (and_of first more) ∷ fs ≡ s.product l (and_of first2 more2) ∷ gs
 make_a_product {first = first} {first2 = first2} {more = more} {more2 = more2} e =
     let left_same : first ≡ first2 = cc in
     let right_same : more ≡ more2 = cc in
     let made = and_same left_same right_same in cc
 
-make_next_application : {l : ℕ} {next next2 : Tree} {more more2 : List Tree} {fs gs : List Phrase}
-    → s.application l next ∷ s.products l more ∷ fs ≡ s.application l next2 ∷ s.products l more2 ∷ gs → s.products l (next ∷ more) ∷ fs ≡ s.products l (next2 ∷ more2) ∷ gs
-make_next_application e = cc
-
-make_a_clean : {l : ℕ} {at : Place} {operand operand2 : Tree} {fs gs : List Phrase}
-    → s.atom l operand ∷ fs ≡ s.atom l operand2 ∷ gs → s.application l (t.clean operand at) ∷ fs ≡ s.application l (t.clean operand2 at) ∷ gs
-make_a_clean e = cc
-
-make_an_assert : {l : ℕ} {at : Place} {operand operand2 : Tree} {fs gs : List Phrase}
-    → s.atom l operand ∷ fs ≡ s.atom l operand2 ∷ gs → s.application l (t.assert operand at) ∷ fs ≡ s.application l (t.assert operand2 at) ∷ gs
-make_an_assert e = cc
-
-make_an_append : {l : ℕ} {at : Place} {first first2 : Tree} {second second2 : Tree} {fs gs : List Phrase}
-    → s.atom l first ∷ s.atom l second ∷ fs ≡ s.atom l first2 ∷ s.atom l second2 ∷ gs → s.application l (t.append first second at) ∷ fs ≡ s.application l (t.append first2 second2 at) ∷ gs
-make_an_append e = cc
-
-make_a_rotate : {l : ℕ} {at : Place} {by by2 : ℕ} {operand operand2 : Tree} {fs gs : List Phrase}
-    → s.number by ∷ s.atom l operand ∷ fs ≡ s.number by2 ∷ s.atom l operand2 ∷ gs → s.application l (t.rotate by operand at) ∷ fs ≡ s.application l (t.rotate by2 operand2 at) ∷ gs
-make_a_rotate e = cc
-
 make_an_application : {l : ℕ} {head head2 : Tree} {arguments arguments2 : List Tree} {fs gs : List Phrase}
-    → s.atom l head ∷ s.atoms l arguments ∷ fs ≡ s.atom l head2 ∷ s.atoms l arguments2 ∷ gs → s.application l (apply_of head arguments) ∷ fs ≡ s.application l (apply_of head2 arguments2) ∷ gs
+    → s.atom l head ∷ s.atoms l arguments ∷ fs ≡ s.atom l head2 ∷ s.atoms l arguments2 ∷ gs
+    → s.application l (apply_of head arguments) ∷ fs ≡ s.application l (apply_of head2 arguments2) ∷ gs
 make_an_application {head = head} {head2 = head2} {arguments = arguments} {arguments2 = arguments2} e =
     let left_same : head ≡ head2 = cc in
     let right_same : arguments ≡ arguments2 = cc in
     let made = apply_same left_same right_same in cc
 
-make_next_atom : {l : ℕ} {next next2 : Tree} {more more2 : List Tree} {fs gs : List Phrase}
-    → s.atom l next ∷ s.atoms l more ∷ fs ≡ s.atom l next2 ∷ s.atoms l more2 ∷ gs → s.atoms l (next ∷ more) ∷ fs ≡ s.atoms l (next2 ∷ more2) ∷ gs
-make_next_atom e = cc
-
 make_an_atom : {l : ℕ} {inner inner2 : Tree} {inside inside2 : List Part} {fs gs : List Phrase}
-    → s.base l inner ∷ s.all_parts inside ∷ fs ≡ s.base l inner2 ∷ s.all_parts inside2 ∷ gs → s.atom l (parts_of inner inside) ∷ fs ≡ s.atom l (parts_of inner2 inside2) ∷ gs
+    → s.base l inner ∷ s.all_parts inside ∷ fs ≡ s.base l inner2 ∷ s.all_parts inside2 ∷ gs
+    → s.atom l (parts_of inner inside) ∷ fs ≡ s.atom l (parts_of inner2 inside2) ∷ gs
 make_an_atom {inner = inner} {inner2 = inner2} {inside = inside} {inside2 = inside2} e =
     let left_same : inner ≡ inner2 = cc in
     let right_same : inside ≡ inside2 = cc in
     let made = parts_same left_same right_same in cc
 
-make_next_part : {next next2 : Part} {more more2 : List Part} {fs gs : List Phrase}
-    → s.part next ∷ s.all_parts more ∷ fs ≡ s.part next2 ∷ s.all_parts more2 ∷ gs → s.all_parts (next ∷ more) ∷ fs ≡ s.all_parts (next2 ∷ more2) ∷ gs
-make_next_part e = cc
-
-make_an_index : {at : Place} {i i2 : ℕ} {fs gs : List Phrase}
-    → s.sign signs.OpenSquare ∷ s.number i ∷ s.sign signs.CloseSquare ∷ fs ≡ s.sign signs.OpenSquare ∷ s.number i2 ∷ s.sign signs.CloseSquare ∷ gs → s.part (part_of.Index i at) ∷ fs ≡ s.part (part_of.Index i2 at) ∷ gs
-make_an_index e = cc
-
-make_a_slice : {at : Place} {i i2 : ℕ} {j j2 : ℕ} {fs gs : List Phrase}
-    → s.sign signs.OpenSquare ∷ s.number i ∷ s.sign signs.DotDot ∷ s.number j ∷ s.sign signs.CloseSquare ∷ fs ≡ s.sign signs.OpenSquare ∷ s.number i2 ∷ s.sign signs.DotDot ∷ s.number j2 ∷ s.sign signs.CloseSquare ∷ gs → s.part (part_of.Slice i j at) ∷ fs ≡ s.part (part_of.Slice i2 j2 at) ∷ gs
-make_a_slice e = cc
-
-make_a_register : {l : ℕ} {at : Place} {first first2 : Tree} {more more2 : List Tree} {fs gs : List Phrase}
-    → s.sign signs.OpenSquare ∷ s.expression (l + 1) first ∷ s.elements (l + 1) more ∷ s.sign signs.CloseSquare ∷ fs ≡ s.sign signs.OpenSquare ∷ s.expression (l + 1) first2 ∷ s.elements (l + 1) more2 ∷ s.sign signs.CloseSquare ∷ gs → s.base l (t.reg (trees (first ∷ more)) at) ∷ fs ≡ s.base l (t.reg (trees (first2 ∷ more2)) at) ∷ gs
-make_a_register e = cc
-
-make_next_element : {l : ℕ} {next next2 : Tree} {more more2 : List Tree} {fs gs : List Phrase}
-    → s.expression l next ∷ s.elements l more ∷ fs ≡ s.expression l next2 ∷ s.elements l more2 ∷ gs → s.elements l (next ∷ more) ∷ fs ≡ s.elements l (next2 ∷ more2) ∷ gs
-make_next_element e = cc
-
-make_a_bracket : {l : ℕ} {inner inner2 : Tree} {fs gs : List Phrase}
-    → s.expression (l + 1) inner ∷ s.sign signs.CloseRound ∷ fs ≡ s.expression (l + 1) inner2 ∷ s.sign signs.CloseRound ∷ gs → s.base l inner ∷ fs ≡ s.base l inner2 ∷ gs
-make_a_bracket e = cc
-
-make_a_block : {l : ℕ} {at : Place} {inside inside2 : List ItemTree} {last last2 : Tree} {fs gs : List Phrase}
-    → s.items (l + 1) inside ∷ s.expression (l + 1) last ∷ s.sign signs.CloseCurly ∷ fs ≡ s.items (l + 1) inside2 ∷ s.expression (l + 1) last2 ∷ s.sign signs.CloseCurly ∷ gs → s.base l (t.block (item_trees inside) last at) ∷ fs ≡ s.base l (t.block (item_trees inside2) last2 at) ∷ gs
-make_a_block e = cc
-
-make_a_let : {l : ℕ} {k : ℕ} {bound bound2 : Name} {more more2 : List Name} {body body2 : Tree} {rest rest2 : List ItemTree} {last last2 : Tree} {fs gs : List Phrase}
-    → s.name bound ∷ s.names more ∷ s.sign signs.Equal ∷ s.expression l body ∷ s.sign signs.Semi ∷ s.items l rest ∷ s.expression k last ∷ s.sign signs.CloseCurly ∷ fs ≡ s.name bound2 ∷ s.names more2 ∷ s.sign signs.Equal ∷ s.expression l body2 ∷ s.sign signs.Semi ∷ s.items l rest2 ∷ s.expression k last2 ∷ s.sign signs.CloseCurly ∷ gs → s.items l ((t.bind bound (bound_of more body)) ∷ rest) ∷ s.expression k last ∷ s.sign signs.CloseCurly ∷ fs ≡ s.items l ((t.bind bound2 (bound_of more2 body2)) ∷ rest2) ∷ s.expression k last2 ∷ s.sign signs.CloseCurly ∷ gs
+make_a_let : {l k : ℕ} {bound bound2 : Name} {more more2 : List Name} {body body2 : Tree}
+    {rest rest2 : List ItemTree} {last last2 : Tree} {fs gs : List Phrase}
+    → s.name bound ∷ s.names more ∷ s.sign signs.Equal ∷ s.expression l body ∷ s.sign signs.Semi
+    ∷ s.items l rest ∷ s.expression k last ∷ s.sign signs.CloseCurly ∷ fs
+    ≡ s.name bound2 ∷ s.names more2 ∷ s.sign signs.Equal ∷ s.expression l body2 ∷ s.sign signs.Semi
+    ∷ s.items l rest2 ∷ s.expression k last2 ∷ s.sign signs.CloseCurly ∷ gs
+    → s.items l (t.bind bound (bound_of more body) ∷ rest) ∷ s.expression k last ∷ s.sign signs.CloseCurly ∷ fs
+    ≡ s.items l (t.bind bound2 (bound_of more2 body2) ∷ rest2) ∷ s.expression k last2 ∷ s.sign signs.CloseCurly ∷ gs
 make_a_let {bound = bound} {bound2 = bound2} {more = more} {more2 = more2} {body = body} {body2 = body2} {rest = rest} {rest2 = rest2} {last = last} {last2 = last2} e =
     let left_same : more ≡ more2 = cc in
     let right_same : body ≡ body2 = cc in
     let made = bound_same left_same right_same in cc
-
-make_a_do : {l : ℕ} {k : ℕ} {term term2 : Tree} {rest rest2 : List ItemTree} {last last2 : Tree} {fs gs : List Phrase}
-    → s.expression l term ∷ s.sign signs.Semi ∷ s.items l rest ∷ s.expression k last ∷ s.sign signs.CloseCurly ∷ fs ≡ s.expression l term2 ∷ s.sign signs.Semi ∷ s.items l rest2 ∷ s.expression k last2 ∷ s.sign signs.CloseCurly ∷ gs → s.items l ((t.run term) ∷ rest) ∷ s.expression k last ∷ s.sign signs.CloseCurly ∷ fs ≡ s.items l ((t.run term2) ∷ rest2) ∷ s.expression k last2 ∷ s.sign signs.CloseCurly ∷ gs
-make_a_do e = cc
 
 -- Two readings of the tokens in front: they read the same, and leave the same.
 pub record Same (a b : ℕ → Bool) (front other behind beyond : List Phrase) : Type 0 where
@@ -395,7 +344,8 @@ pub record Same (a b : ℕ → Bool) (front other behind beyond : List Phrase) :
   pub left : Spells a behind rest
   pub right : Spells b beyond rest
 
-onto : {a b : ℕ → Bool} {front other fs gs behind beyond : List Phrase} → (front ≡ other → fs ≡ gs) → Same a b front other behind beyond → Same a b fs gs behind beyond
+onto : {a b : ℕ → Bool} {front other fs gs behind beyond : List Phrase} → (front ≡ other → fs ≡ gs) → Same a b front other behind beyond
+    → Same a b fs gs behind beyond
 onto f r = record { equal = f r.equal; rest = r.rest; left = r.left; right = r.right }
 
 cons_same : (p : Phrase) {fs gs : List Phrase} → fs ≡ gs → p ∷ fs ≡ p ∷ gs
@@ -411,13 +361,15 @@ record Behind (b : ℕ → Bool) (sg : Sign) (qs : List Phrase) (us : List Token
 behind_sign : {b : ℕ → Bool} {sg : Sign} {qs : List Phrase} {us : List Token} → Spells b (s.sign sg ∷ qs) us → Behind b sg qs us
 behind_sign (s.a_sign {at = at} {ts = ts} e) = record { at = at; ts = ts; cut = refl; spelled = e }
 
-behind_it : {b : ℕ → Bool} {sg : Sign} {qs : List Phrase} {at : Place} {ts : List Token} → Spells b (s.sign sg ∷ qs) (s.sign_at sg at ∷ ts) → Spells b qs ts
+behind_it : {b : ℕ → Bool} {sg : Sign} {qs : List Phrase} {at : Place} {ts : List Token} → Spells b (s.sign sg ∷ qs) (s.sign_at sg at ∷ ts)
+    → Spells b qs ts
 behind_it {b = b} {sg = sg} {qs = qs} {at = at} {ts = ts} e =
     let r = behind_sign e in
     let cut = r.cut in
     let same : r.ts ≡ ts = cc in subst (λ (z : List Token). Spells b qs z) same r.spelled
 
-at_level : {b : ℕ → Bool} {k l : ℕ} {x : Tree} {qs : List Phrase} {us : List Token} → k ≡ l → Spells b (s.expression k x ∷ qs) us → Spells b (s.expression l x ∷ qs) us
+at_level : {b : ℕ → Bool} {k l : ℕ} {x : Tree} {qs : List Phrase} {us : List Token} → k ≡ l → Spells b (s.expression k x ∷ qs) us
+    → Spells b (s.expression l x ∷ qs) us
 at_level {b = b} {x = x} {qs = qs} {us = us} w e = subst (λ (z : ℕ). Spells b (s.expression z x ∷ qs) us) w e
 
 -- Phrases of the same forms that the same tokens spell are the same, if no token that begins an optional form may stand behind it.
@@ -430,25 +382,25 @@ same st su (is_bool_word f) (is_bool_word g) (s.a_bool d) (s.a_bool e) o = onto 
 same st su (is_name f) (is_name g) (s.a_name {text = text} {at = at} d) (s.a_name e) o = onto (cons_same (s.name (s.name_of text at))) (same st su f g d e o.1)
 same st su (is_number f) (is_number g) (s.a_number {n = m} d) (s.a_number e) o = onto (cons_same (s.number m)) (same st su f g d e o.1)
 same st su (is_program f) (is_program g) (s.a_program d) (s.a_program e) o =
-    onto make_a_program (same st su (is_parameter (is_parameters (is_sign (is_expression f)))) (is_parameter (is_parameters (is_sign (is_expression g)))) d e (omega arith, (omega arith, (omega arith, (omega arith, o.1)))))
+    onto (λ e. cc) (same st su (is_parameter (is_parameters (is_sign (is_expression f)))) (is_parameter (is_parameters (is_sign (is_expression g)))) d e (omega arith, (omega arith, (omega arith, (omega arith, o.1)))))
 same st su (is_parameters f) (is_parameters g) (s.last_parameter d) (s.last_parameter e) o = onto (cons_same (s.parameters [])) (same st su f g d e o.1)
 same {ts = ts} {n = n} st su (is_parameters {fs = fs} f) (is_parameters g) (s.last_parameter d) (s.next_parameter e) o = absurd (clash (low_of n fs) 1 ts (first_of st f d o.1) (parameter_rank e) (omega arith))
 same {ts = ts} {n = n} st su (is_parameters {fs = fs} f) (is_parameters g) (s.next_parameter d) (s.last_parameter e) o = absurd (clash (low_of n fs) 1 ts (first_of su g e o.1) (parameter_rank d) (omega arith))
 same st su (is_parameters f) (is_parameters g) (s.next_parameter d) (s.next_parameter e) o =
-    onto make_next_parameter (same st su (is_parameter (is_parameters f)) (is_parameter (is_parameters g)) d e (omega arith, (omega arith, o.1)))
+    onto (λ e. cc) (same st su (is_parameter (is_parameters f)) (is_parameter (is_parameters g)) d e (omega arith, (omega arith, o.1)))
 same st su (is_parameter f) (is_parameter g) (s.bit d) (s.bit e) o =
-    onto make_bit (same st su (is_name (is_sign (is_bool_word (is_sign f)))) (is_name (is_sign (is_bool_word (is_sign g)))) d e (omega arith, (omega arith, (omega arith, (omega arith, o.1)))))
+    onto (λ e. cc) (same st su (is_name (is_sign (is_bool_word (is_sign f)))) (is_name (is_sign (is_bool_word (is_sign g)))) d e (omega arith, (omega arith, (omega arith, (omega arith, o.1)))))
 same st su (is_parameter f) (is_parameter g) (s.bit d) (s.register e) o = absurd (bit_or_register d e)
 same st su (is_parameter f) (is_parameter g) (s.register d) (s.bit e) o = absurd (bit_or_register e d)
 same st su (is_parameter f) (is_parameter g) (s.register d) (s.register e) o =
-    onto make_register (same st su (is_name (is_sign (is_bool_word (is_sign (is_number (is_sign (is_sign f))))))) (is_name (is_sign (is_bool_word (is_sign (is_number (is_sign (is_sign g))))))) d e (omega arith, (omega arith, (omega arith, (omega arith, (omega arith, (omega arith, (omega arith, o.1))))))))
+    onto (λ e. cc) (same st su (is_name (is_sign (is_bool_word (is_sign (is_number (is_sign (is_sign f))))))) (is_name (is_sign (is_bool_word (is_sign (is_number (is_sign (is_sign g))))))) d e (omega arith, (omega arith, (omega arith, (omega arith, (omega arith, (omega arith, (omega arith, o.1))))))))
 same st su (is_names f) (is_names g) (s.last_name d) (s.last_name e) o = onto (cons_same (s.names [])) (same st su f g d e o.1)
 same {ts = ts} {n = n} st su (is_names {fs = fs} f) (is_names g) (s.last_name d) (s.next_name e) o = absurd (clash (low_of n fs) 1 ts (first_of st f d o.1) (name_rank e) (omega arith))
 same {ts = ts} {n = n} st su (is_names {fs = fs} f) (is_names g) (s.next_name d) (s.last_name e) o = absurd (clash (low_of n fs) 1 ts (first_of su g e o.1) (name_rank d) (omega arith))
 same st su (is_names f) (is_names g) (s.next_name d) (s.next_name e) o =
-    onto make_next_name (same st su (is_name (is_names f)) (is_name (is_names g)) d e (omega arith, (omega arith, o.1)))
+    onto (λ e. cc) (same st su (is_name (is_names f)) (is_name (is_names g)) d e (omega arith, (omega arith, o.1)))
 same st su (is_expression f) (is_expression g) (s.a_function ok d) (s.a_function ok2 e) o =
-    onto make_a_function (same st su (is_name (is_names (is_sign (is_expression f)))) (is_name (is_names (is_sign (is_expression g)))) d e (omega arith, (omega arith, (omega arith, (omega arith, o.1)))))
+    onto (λ e. cc) (same st su (is_name (is_names (is_sign (is_expression f)))) (is_name (is_names (is_sign (is_expression g)))) d e (omega arith, (omega arith, (omega arith, (omega arith, o.1)))))
 same st su (is_expression f) (is_expression g) (s.a_function ok d) (s.an_expression e) o = absurd (no_fun e)
 same st su (is_expression f) (is_expression g) (s.an_expression d) (s.a_function ok e) o = absurd (no_fun d)
 same st su (is_expression f) (is_expression g) (s.an_expression d) (s.an_expression e) o =
@@ -457,35 +409,35 @@ same st su (is_assigned f) (is_assigned g) (s.not_assigned {l = l} d) (s.not_ass
 same {n = n} st su (is_assigned {fs = fs} f) (is_assigned g) (s.not_assigned d) (s.is_assigned e) o = let h : low_of n fs ≤ 4 = first_of st f d o.1 in absurd (omega arith)
 same {n = n} st su (is_assigned {fs = fs} f) (is_assigned g) (s.is_assigned d) (s.not_assigned e) o = let h : low_of n fs ≤ 4 = first_of su g e o.1 in absurd (omega arith)
 same st su (is_assigned f) (is_assigned g) (s.is_assigned d) (s.is_assigned e) o =
-    onto make_is_assigned (same st su (is_sum f) (is_sum g) d e (omega arith, o.1))
+    onto (λ e. cc) (same st su (is_sum f) (is_sum g) d e (omega arith, o.1))
 same st su (is_sum f) (is_sum g) (s.a_sum d) (s.a_sum e) o =
     onto make_a_sum (same st su (is_product (is_sums f)) (is_product (is_sums g)) d e (omega arith, (omega arith, o.1)))
 same st su (is_sums f) (is_sums g) (s.last_product {l = l} d) (s.last_product e) o = onto (cons_same (s.sums l [])) (same st su f g d e o.1)
 same {n = n} st su (is_sums {fs = fs} f) (is_sums g) (s.last_product d) (s.next_product e) o = let h : low_of n fs ≤ 3 = first_of st f d o.1 in absurd (omega arith)
 same {n = n} st su (is_sums {fs = fs} f) (is_sums g) (s.next_product d) (s.last_product e) o = let h : low_of n fs ≤ 3 = first_of su g e o.1 in absurd (omega arith)
 same st su (is_sums f) (is_sums g) (s.next_product d) (s.next_product e) o =
-    onto make_next_product (same st su (is_product (is_sums f)) (is_product (is_sums g)) d e (omega arith, (omega arith, o.1)))
+    onto (λ e. cc) (same st su (is_product (is_sums f)) (is_product (is_sums g)) d e (omega arith, (omega arith, o.1)))
 same st su (is_product f) (is_product g) (s.a_product d) (s.a_product e) o =
     onto make_a_product (same st su (is_application (is_products f)) (is_application (is_products g)) d e (omega arith, (omega arith, o.1)))
 same st su (is_products f) (is_products g) (s.last_application {l = l} d) (s.last_application e) o = onto (cons_same (s.products l [])) (same st su f g d e o.1)
 same {n = n} st su (is_products {fs = fs} f) (is_products g) (s.last_application d) (s.next_application e) o = let h : low_of n fs ≤ 2 = first_of st f d o.1 in absurd (omega arith)
 same {n = n} st su (is_products {fs = fs} f) (is_products g) (s.next_application d) (s.last_application e) o = let h : low_of n fs ≤ 2 = first_of su g e o.1 in absurd (omega arith)
 same st su (is_products f) (is_products g) (s.next_application d) (s.next_application e) o =
-    onto make_next_application (same st su (is_application (is_products f)) (is_application (is_products g)) d e (omega arith, (omega arith, o.1)))
+    onto (λ e. cc) (same st su (is_application (is_products f)) (is_application (is_products g)) d e (omega arith, (omega arith, o.1)))
 same st su (is_application f) (is_application g) (s.a_clean d) (s.a_clean e) o =
-    onto make_a_clean (same st su (is_atom f) (is_atom g) d e (omega arith, o.1))
+    onto (λ e. cc) (same st su (is_atom f) (is_atom g) d e (omega arith, o.1))
 same st su (is_application f) (is_application g) (s.a_clean d) (s.an_application e) o = absurd (no_clean e)
 same st su (is_application f) (is_application g) (s.an_application d) (s.a_clean e) o = absurd (no_clean d)
 same st su (is_application f) (is_application g) (s.an_assert d) (s.an_assert e) o =
-    onto make_an_assert (same st su (is_atom f) (is_atom g) d e (omega arith, o.1))
+    onto (λ e. cc) (same st su (is_atom f) (is_atom g) d e (omega arith, o.1))
 same st su (is_application f) (is_application g) (s.an_assert d) (s.an_application e) o = absurd (no_assert e)
 same st su (is_application f) (is_application g) (s.an_application d) (s.an_assert e) o = absurd (no_assert d)
 same st su (is_application f) (is_application g) (s.an_append d) (s.an_append e) o =
-    onto make_an_append (same st su (is_atom (is_atom f)) (is_atom (is_atom g)) d e (omega arith, (omega arith, o.1)))
+    onto (λ e. cc) (same st su (is_atom (is_atom f)) (is_atom (is_atom g)) d e (omega arith, (omega arith, o.1)))
 same st su (is_application f) (is_application g) (s.an_append d) (s.an_application e) o = absurd (no_append e)
 same st su (is_application f) (is_application g) (s.an_application d) (s.an_append e) o = absurd (no_append d)
 same st su (is_application f) (is_application g) (s.a_rotate d) (s.a_rotate e) o =
-    onto make_a_rotate (same st su (is_number (is_atom f)) (is_number (is_atom g)) d e (omega arith, (omega arith, o.1)))
+    onto (λ e. cc) (same st su (is_number (is_atom f)) (is_number (is_atom g)) d e (omega arith, (omega arith, o.1)))
 same st su (is_application f) (is_application g) (s.a_rotate d) (s.an_application e) o = absurd (no_rotate e)
 same st su (is_application f) (is_application g) (s.an_application d) (s.a_rotate e) o = absurd (no_rotate d)
 same st su (is_application f) (is_application g) (s.an_application d) (s.an_application e) o =
@@ -494,40 +446,40 @@ same st su (is_atoms f) (is_atoms g) (s.last_atom {l = l} d) (s.last_atom e) o =
 same {ts = ts} {n = n} st su (is_atoms {fs = fs} f) (is_atoms g) (s.last_atom d) (s.next_atom e) o = absurd (clash (low_of n fs) 1 ts (first_of st f d o.1) (atom_rank e) (omega arith))
 same {ts = ts} {n = n} st su (is_atoms {fs = fs} f) (is_atoms g) (s.next_atom d) (s.last_atom e) o = absurd (clash (low_of n fs) 1 ts (first_of su g e o.1) (atom_rank d) (omega arith))
 same st su (is_atoms f) (is_atoms g) (s.next_atom d) (s.next_atom e) o =
-    onto make_next_atom (same st su (is_atom (is_atoms f)) (is_atom (is_atoms g)) d e (omega arith, (omega arith, o.1)))
+    onto (λ e. cc) (same st su (is_atom (is_atoms f)) (is_atom (is_atoms g)) d e (omega arith, (omega arith, o.1)))
 same st su (is_atom f) (is_atom g) (s.an_atom d) (s.an_atom e) o =
     onto make_an_atom (same st su (is_base (is_all_parts f)) (is_base (is_all_parts g)) d e (omega arith, (omega arith, o.1)))
 same st su (is_all_parts f) (is_all_parts g) (s.last_part d) (s.last_part e) o = onto (cons_same (s.all_parts [])) (same st su f g d e o.1)
 same {ts = ts} {n = n} st su (is_all_parts {fs = fs} f) (is_all_parts g) (s.last_part d) (s.next_part e) o = absurd (clash (low_of n fs) 0 ts (first_of st f d o.1) (part_rank e) (omega arith))
 same {ts = ts} {n = n} st su (is_all_parts {fs = fs} f) (is_all_parts g) (s.next_part d) (s.last_part e) o = absurd (clash (low_of n fs) 0 ts (first_of su g e o.1) (part_rank d) (omega arith))
 same st su (is_all_parts f) (is_all_parts g) (s.next_part d) (s.next_part e) o =
-    onto make_next_part (same st su (is_part (is_all_parts f)) (is_part (is_all_parts g)) d e (omega arith, (omega arith, o.1)))
+    onto (λ e. cc) (same st su (is_part (is_all_parts f)) (is_part (is_all_parts g)) d e (omega arith, (omega arith, o.1)))
 same st su (is_part f) (is_part g) (s.an_index d) (s.an_index e) o =
-    onto make_an_index (same st su (is_sign (is_number (is_sign f))) (is_sign (is_number (is_sign g))) d e (omega arith, (omega arith, (omega arith, o.1))))
+    onto (λ e. cc) (same st su (is_sign (is_number (is_sign f))) (is_sign (is_number (is_sign g))) d e (omega arith, (omega arith, (omega arith, o.1))))
 same st su (is_part f) (is_part g) (s.an_index d) (s.a_slice e) o = absurd (index_or_slice d e)
 same st su (is_part f) (is_part g) (s.a_slice d) (s.an_index e) o = absurd (index_or_slice e d)
 same st su (is_part f) (is_part g) (s.a_slice d) (s.a_slice e) o =
-    onto make_a_slice (same st su (is_sign (is_number (is_sign (is_number (is_sign f))))) (is_sign (is_number (is_sign (is_number (is_sign g))))) d e (omega arith, (omega arith, (omega arith, (omega arith, (omega arith, o.1))))))
+    onto (λ e. cc) (same st su (is_sign (is_number (is_sign (is_number (is_sign f))))) (is_sign (is_number (is_sign (is_number (is_sign g))))) d e (omega arith, (omega arith, (omega arith, (omega arith, (omega arith, o.1))))))
 same st su (is_base f) (is_base g) (s.a_use {l = l} {text = text} {at = at} d) (s.a_use e) o = onto (cons_same (s.base l (t.used (s.name_of text at)))) (same st su f g d e o.1)
 same st su (is_base f) (is_base g) (s.a_true {l = l} {at = at} d) (s.a_true e) o = onto (cons_same (s.base l (t.bool true at))) (same st su f g d e o.1)
 same st su (is_base f) (is_base g) (s.a_false {l = l} {at = at} d) (s.a_false e) o = onto (cons_same (s.base l (t.bool false at))) (same st su f g d e o.1)
 same st su (is_base f) (is_base g) (s.a_register ok d) (s.a_register ok2 e) o =
-    onto make_a_register (same st su (is_sign (is_expression (is_elements (is_sign f)))) (is_sign (is_expression (is_elements (is_sign g)))) d e (omega arith, (omega arith, (omega arith, (omega arith, o.1)))))
+    onto (λ e. cc) (same st su (is_sign (is_expression (is_elements (is_sign f)))) (is_sign (is_expression (is_elements (is_sign g)))) d e (omega arith, (omega arith, (omega arith, (omega arith, o.1)))))
 same st su (is_elements f) (is_elements g) (s.last_element {l = l} d) (s.last_element e) o = onto (cons_same (s.elements l [])) (same st su f g d e o.1)
 same {n = n} st su (is_elements {fs = fs} f) (is_elements g) (s.last_element d) (s.next_element e) o = let h : low_of n fs ≤ 5 = first_of st f d o.1 in absurd (omega arith)
 same {n = n} st su (is_elements {fs = fs} f) (is_elements g) (s.next_element d) (s.last_element e) o = let h : low_of n fs ≤ 5 = first_of su g e o.1 in absurd (omega arith)
 same st su (is_elements f) (is_elements g) (s.next_element d) (s.next_element e) o =
-    onto make_next_element (same st su (is_expression (is_elements f)) (is_expression (is_elements g)) d e (omega arith, (omega arith, o.1)))
+    onto (λ e. cc) (same st su (is_expression (is_elements f)) (is_expression (is_elements g)) d e (omega arith, (omega arith, o.1)))
 same st su (is_base f) (is_base g) (s.a_bracket ok d) (s.a_bracket ok2 e) o =
-    onto make_a_bracket (same st su (is_expression (is_sign f)) (is_expression (is_sign g)) d e (omega arith, (omega arith, o.1)))
+    onto (λ e. cc) (same st su (is_expression (is_sign f)) (is_expression (is_sign g)) d e (omega arith, (omega arith, o.1)))
 same st su (is_base f) (is_base g) (s.a_block ok d) (s.a_block ok2 e) o =
-    onto make_a_block (same st su (is_body refl f) (is_body refl g) d e (omega arith, (omega arith, (omega arith, o.1))))
+    onto (λ e. cc) (same st su (is_body refl f) (is_body refl g) d e (omega arith, (omega arith, (omega arith, o.1))))
 same st su (is_body {l = l} w f) (is_body v g) (s.last_item d) (s.last_item e) o =
     onto (cons_same (s.items l [])) (same st su (is_expression (is_sign f)) (is_expression (is_sign g)) d e o.1)
 same st su (is_body w f) (is_body v g) (s.next_item (s.a_let d)) (s.next_item (s.a_let e)) o =
     onto make_a_let (same st su (is_name (is_names (is_sign (is_expression (is_sign (is_body w f)))))) (is_name (is_names (is_sign (is_expression (is_sign (is_body v g)))))) d e (omega arith, (omega arith, (omega arith, (omega arith, (omega arith, o))))))
 same st su (is_body w f) (is_body v g) (s.next_item (s.a_do d)) (s.next_item (s.a_do e)) o =
-    onto make_a_do (same st su (is_expression (is_sign (is_body w f))) (is_expression (is_sign (is_body v g))) d e (omega arith, (omega arith, o)))
+    onto (λ e. cc) (same st su (is_expression (is_sign (is_body w f))) (is_expression (is_sign (is_body v g))) d e (omega arith, (omega arith, o)))
 same st su (is_body w f) (is_body v g) (s.next_item (s.a_let d)) (s.next_item (s.a_do e)) o = absurd (no_let e)
 same st su (is_body w f) (is_body v g) (s.next_item (s.a_do d)) (s.next_item (s.a_let e)) o = absurd (no_let d)
 same st su (is_body w f) (is_body v g) (s.last_item d) (s.next_item (s.a_let e)) o = absurd (no_let d)
