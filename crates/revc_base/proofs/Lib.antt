@@ -1,2 +1,5 @@
 pub mod BitSteps
+pub mod Counting
+pub mod MemberSteps
 pub mod TapeKeeps
+pub mod WidthSteps

@@ -3,13 +3,16 @@
 #![tactic(auto)]
 
 mod bits;
+mod law;
 mod memory;
 mod place;
 mod running;
 mod tape;
 mod text;
+mod width;
 
 pub use bits::{Bits, BitsFault};
+pub use law::claim_functions;
 pub use memory::Memory;
 pub use place::Place;
 pub use running::TapeEnd;

@@ -1,0 +1,5 @@
+use Rattle.revc_base.proofs.MemberSteps.{members_are_counted}
+use Rattle.revc_base.proofs.law.claim_functions.Goals as goal
+
+pub returns : goal.returns
+returns c = members_are_counted

@@ -1,0 +1,31 @@
+use Rattle.std.proofs.Common.{rules, ◌≡◌, ℕ, ◌<◌, ◌+◌, ◌-◌, suc, List, [], Bool, false, ◌∷◌, ◌++◌, length, take, drop, slice_index_or, subst, sym, arith}
+use Rattle.std.proofs.lemmas.Grind.{common_steps}
+use Rattle.revc_base.specs.declared.tape.Entry.TheVariants as entries
+use Rattle.revc_base.specs.Marks.{marked}
+use Rattle.revc_base.proofs.WidthSteps.{IsCounted, counted_begin, counted_again, cut_where, written_back}
+use Rattle.revc_base.proofs.tape.Tape.width.Goals as goal
+
+pub loop-is_needed-init : goal.loop-is_needed-init
+loop-is_needed-init c =
+    let marks = c.in_ok-marks.marks.items in
+    let count : c.count_marks-live.result ≡ marked marks = search rules in
+    subst (λ (n : ℕ). IsCounted c.args.self.now marks n n) (sym count) (counted_begin c.args.self.now marks c.in_ok-marks.ensures)
+
+pub loop-is_needed-preserved : goal.loop-is_needed-preserved
+loop-is_needed-preserved c =
+    let t = c.args.self.now in
+    let front = c.pop.new.self.items in
+    let more = c.mark_operands-live.new.marks in
+    let cut : c.loop-is_needed.marks.items ≡ front ++ c.in-Some.is_needed ∷ [] = c.in-Some.ensures.items in
+    let size : length c.loop-is_needed.marks.items ≡ suc (length front) = grind (arith, common_steps, cut) in
+    let inside : length front < length t.entries = omega (arith, size, c.loop-is_needed.invariant.short) in
+    let place : c.len.result ≡ length front = search rules in
+    let whole : take c.pop.new.self.len (more ++ drop (length more) front) ≡ more =
+    written_back more (drop (length more) front) c.pop.new.self.len (search rules) in
+    let next = cut_where t.entries c.entries.result.now (length front) c.len.result (entries.Const false) (search rules) place inside in
+    subst (λ (z : List Bool). IsCounted t z (c.loop-is_needed.live - c.from-live.result + c.mark_operands-live.result) c.max-width.result) (sym whole)
+    (counted_again t c.loop-is_needed.marks.items front c.deref_mut.result.now more c.in-Some.is_needed
+    (slice_index_or c.entries.result.now c.len.result (entries.Const false))
+    c.loop-is_needed.live c.loop-is_needed.width c.from-live.result c.mark_operands-live.result c.max-width.result
+    c.loop-is_needed.invariant cut c.deref_mut.ensures.value c.mark_operands-live.ensures.marks c.mark_operands-live.ensures.added
+    next (search rules) c.max-width.ensures)

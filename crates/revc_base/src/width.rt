@@ -1,0 +1,70 @@
+// How many writes of a tape are needed at one time.
+ghost use Rattle.std.specs.Prelude.{◌≡◌, ◌+◌, length, IfOk, false, replicate};
+ghost use Rattle.revc_base.specs.Marks.{marked, with_mark, with_marks, with_operands};
+ghost use Rattle.revc_base.specs.Measures.{IsWidth};
+
+use crate::{Entry, Memory, Ref, Tape};
+
+// Marks a write, and answers how many marks that adds.
+fn mark(marks: &mut [bool], made: Ref) -> u64
+    ensures marks { marks.new ≡ with_mark marks.old made }
+    ensures added { marked marks.old + result ≡ marked marks.new }
+{
+    let Ref::Write(place) = made else {
+        return 0;
+    };
+    let place = place as usize;
+    if place >= marks.len() || marks[place] {
+        return 0;
+    }
+    marks[place] = true;
+    1
+}
+
+// Marks the operands of a write, and answers how many marks that adds.
+fn mark_operands(marks: &mut [bool], entry: Entry) -> u64
+    ensures marks { marks.new ≡ with_operands marks.old entry }
+    ensures added { marked marks.old + result ≡ marked marks.new }
+{
+    match entry {
+        Entry::Const(_) => 0,
+        Entry::Xor(a, b) | Entry::And(a, b) => mark(marks, a) + mark(marks, b),
+    }
+}
+
+fn count_marks(marks: &[bool]) -> u64
+    ensures { result ≡ marked marks.now }
+{
+    marks.iter().filter(|mark| **mark).count() as u64
+}
+
+impl Tape {
+    // A mark for each write, set at the outputs.
+    fn output_marks(&self) -> Result<Vec<bool>, Memory>
+        ensures { IfOk result (λ marks. marks.items ≡ with_marks (replicate (length self.now.entries) false) self.now.outputs) }
+    {
+        let mut marks = vec![in *self.allocator(); false; self.entries().len()]?;
+        for output in self.outputs() {
+            mark(&mut marks, *output);
+        }
+        Ok(marks)
+    }
+
+    /// The width of the tape: the greatest number, over j from 0 to the number of writes, of writes below j that are an
+    /// output or an operand of a write at or above j.
+    pub fn width(&self) -> Result<u64, Memory>
+        ensures { IfOk result (λ width. IsWidth self.now width) }
+    {
+        // From the last place down: what is marked is needed at the place or later, and stands below it.
+        let mut marks = self.output_marks()?;
+        let mut live = count_marks(&marks);
+        let mut width = live;
+        while let Some(is_needed) = marks.pop() {
+            live -= u64::from(is_needed);
+            let entry = self.entries()[marks.len()];
+            live += mark_operands(&mut marks, entry);
+            width = width.max(live);
+        }
+        Ok(width)
+    }
+}
