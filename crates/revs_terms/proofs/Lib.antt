@@ -1,2 +1,6 @@
 pub mod Shapes
 pub mod Parts
+pub mod Pairs
+pub mod GrowingLog
+pub mod SideBySide
+pub mod BothEnds

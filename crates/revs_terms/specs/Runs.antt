@@ -3,9 +3,9 @@ use Rattle.std.specs.Prelude.{◌≡◌, ℕ, zero, suc, ◌+◌, leb, Bool, ◌
 use Rattle.std.specs.Bool.{xor}
 use Rattle.revc_base.specs.declared.place.Place.{Place}
 use Rattle.revc_base.specs.declared.tape.Ref.TheVariants as refs
-use Rattle.revc_base.specs.Tapes.{TapeView, bit_on}
+use Rattle.revc_base.specs.Tapes.{TapeView, IsTape, bit_on}
 use Rattle.revs_terms.specs.declared.program.Param.{Param}
-use Rattle.revs_terms.specs.Programs.{width_of, widths_of}
+use Rattle.revs_terms.specs.Programs.{width_of, widths_of, AreParams}
 use Rattle.revs_terms.specs.Terms.{place_of}
 use Rattle.revs_terms.specs.Trees.{Tree}
 use Rattle.revs_terms.specs.Running.{Value, bit, register, Environment, nothing, bound, Refusal, too_many_outputs, no_output, Bits, Stamped, State, Outcome, stuck, went, after, provided, read, run_of}
@@ -114,3 +114,9 @@ SameForAll =
     (params : List Param) (body : Tree)
     → ((why : Refusal) (at : Place) → run_without_bits params body ≡ stuck why at → (input : List Bool) → IsInput params input → IsStuck params body input why at)
     × ((outputs : List (Stamped (Unit {0}))) (s : State (Unit {0})) → run_without_bits params body ≡ went outputs s → IsTapeOf params body (tape_of params outputs s))
+
+-- What a run without bits leaves is a tape: its references are earlier, and the limits hold.
+abbrev pub LeavesTape : Type 0
+LeavesTape =
+    (params : List Param) (body : Tree) (outputs : List (Stamped (Unit {0}))) (s : State (Unit {0}))
+    → AreParams params → run_without_bits params body ≡ went outputs s → IsTape (tape_of params outputs s)

@@ -1,5 +1,6 @@
 // Programs, as the grammar gives them.
 ghost use Rattle.revs_terms.specs.Programs.{AreParams, IsBody, HasFewNames};
+ghost use Rattle.revs_terms.specs.Runs.{SameForAll, LeavesTape};
 ghost use Rattle.revs_terms.specs.Trees.{tree_of};
 
 use crate::{Name, Term};
@@ -24,3 +25,14 @@ pub struct Program {
     ghost formed: { IsBody (tree_of body) },
     ghost few_names: { HasFewNames params.items (tree_of body) },
 }
+
+/// The run of a program is the same for every input but for its bits: it is stuck for all at the same place and for the
+/// same reason, or it leaves one tape, whose references have on each input the bits that the run met there.
+pub fn same_for_all()
+    ensures { SameForAll }
+{}
+
+/// What a run without bits leaves is a tape: each reference is an input or an earlier write, and the limits of a tape hold.
+pub fn leaves_tape()
+    ensures { LeavesTape }
+{}

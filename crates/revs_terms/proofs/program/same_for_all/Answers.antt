@@ -1,0 +1,5 @@
+use Rattle.revs_terms.proofs.BothEnds.{same_for_all}
+use Rattle.revs_terms.proofs.program.same_for_all.Goals as goal
+
+pub returns : goal.returns
+returns c = same_for_all
