@@ -3,7 +3,9 @@ pub mod Costs
 pub mod Flips
 pub mod Ladders
 pub mod Lines
+pub mod Marks
 pub mod Negatives
+pub mod PieceSteps
 pub mod Pieces
 pub mod Steps
 pub mod Walking

@@ -1,14 +1,13 @@
 -- What the calls of the code need, and what their answers make.
 use Rattle.std.proofs.Common.{◌≡◌, ◌≢◌, ℕ, zero, suc, ◌+◌, ◌-◌, ◌<◌, ◌≤◌, leb, cond, List, [], ◌∷◌, ◌++◌, length, get_or, take, drop, reverse, Option, Some, None, refl, sym, ap, ◌∙◌, subst, inl, inr, arith}
 use Rattle.std.specs.List.{AllByRecursion}
-use Rattle.std.proofs.lemmas.List.{append_assoc, length-append, length-take, length-take-le, length-drop, take-append-drop, take-take}
+use Rattle.std.proofs.lemmas.List.{append_assoc, append-nil, length-append, length-take, length-take-le, length-drop, take-append-drop, take-take}
 use Rattle.std.proofs.lemmas.Bool.Decides.{leb_tells}
-use Rattle.mct_circuit.specs.declared.gate.Op.TheVariants.{Swap}
-use Rattle.mct_circuit.specs.Gates.{GateView, flip_of, positive, HasDifferentLines, IsGateOn}
+use Rattle.mct_circuit.specs.Gates.{GateView, flip_of, HasDifferentLines, IsGateOn}
 use Rattle.mct_circuit.proofs.Undoing.{AllByRecursion-left, AllByRecursion-right, AreDifferent-parts}
 use Rattle.mct_circuit.proofs.Weights.{AreDifferent-left}
 use Rattle.gate_split.specs.Idle.{Avoids, Serves}
-use Rattle.gate_split.specs.Split.{idle_lines, in_falling_order, ladder, over_idle_lines, with_enough_idle, first_half, first_flips, second_flips, in_halves, over_few_lines, split_positive, split_flip, split_op, split_gate, between, behind}
+use Rattle.gate_split.specs.Split.{idle_lines, in_falling_order, ladder, over_idle_lines, with_enough_idle, first_half, first_flips, second_flips, in_halves, over_few_lines, split_positive, behind}
 use Rattle.gate_split.proofs.Ladders.{fits_gates}
 use Rattle.gate_split.proofs.Lines.{length-in_falling_order}
 use Rattle.gate_split.proofs.Pieces.{imply, different_of, below_of, serves_fits, serves_take, idle_serves, Halves}
@@ -89,6 +88,26 @@ halves_made n controls target idle done once second first es ef e =
     ∙ ap (λ f. second_flips n controls target idle ++ f) (ef ∙ same_cut (take (first_half controls) controls) idle (in_falling_order n (drop (first_half controls) controls ++ target ∷ []))) in
     append_assoc done once once ∙ ap (λ o. done ++ (o ++ o)) both
 
+-- the lines of a half, as the code finds them
+pub second_found : (n m : ℕ) (controls front back found : List ℕ) (idle : ℕ) → front ≡ take (first_half controls) controls → back ≡ drop (first_half controls) controls → m ≡ n → found ≡ take (length back + 1) (in_falling_order m (front ++ []))
+    → found ≡ take (length (drop (first_half controls) controls ++ idle ∷ [])) (in_falling_order n (take (first_half controls) controls))
+second_found n m controls front back found idle f b s e =
+    let first = take (first_half controls) controls in
+    let second = drop (first_half controls) controls in
+    let count : length back + 1 ≡ length (second ++ idle ∷ []) = ap (λ (l : List ℕ). length l + 1) b ∙ sym (length-append second (idle ∷ [])) in
+    e ∙ ap (λ l. take (length back + 1) (in_falling_order m l)) (append-nil front ∙ f) ∙ ap (λ k. take (length back + 1) (in_falling_order k first)) s ∙ ap (λ k. take k (in_falling_order n first)) count
+
+pub first_found : (n : ℕ) (controls front back found : List ℕ) (target : ℕ) → front ≡ take (first_half controls) controls → back ≡ drop (first_half controls) controls → found ≡ take (length front) (in_falling_order n (back ++ target ∷ []))
+    → found ≡ take (length (take (first_half controls) controls)) (in_falling_order n (drop (first_half controls) controls ++ target ∷ []))
+first_found n controls front back found target f b e =
+    e ∙ ap (λ (l : List ℕ). take (length l) (in_falling_order n (back ++ target ∷ []))) f ∙ ap (λ l. take (length (take (first_half controls) controls)) (in_falling_order n (l ++ target ∷ []))) b
+
+pub back_below : (n : ℕ) (first second back : List ℕ) (target idle : ℕ) → Halves n first second target idle → back ≡ second → AllByRecursion (λ x. x < n) (back ++ target ∷ [])
+back_below n first second back target idle s b = rw b (AllByRecursion-right (λ x. x < n) first (second ++ target ∷ []) s.below)
+
+pub front_below : (n m : ℕ) (first second front : List ℕ) (target idle : ℕ) → Halves n first second target idle → front ≡ first → m ≡ n → AllByRecursion (λ x. x < m) (front ++ [])
+front_below n m first second front target idle s f e = rw (append-nil front, f, e) (AllByRecursion-left (λ x. x < n) first (second ++ target ∷ []) s.below)
+
 -- ---- which list
 
 pub positive_over : (n : ℕ) (controls : List ℕ) (target : ℕ) (idle : List ℕ) → 2 < length controls → idle ≡ take (length controls - 2) (idle_lines n (controls ++ target ∷ [])) → length idle ≡ length controls - 2
@@ -145,19 +164,6 @@ first_idle n controls target idle a ls g e some =
 pub first_is : (xs : List ℕ) → 1 ≤ length xs → xs ≡ get_or xs 0 0 ∷ drop 1 xs
 first_is [] h = absurd (omega arith)
 first_is (x ∷ xs) h = refl
-
--- ---- swaps
-
-behind_between : (done outer : List GateView) (o : Option (List GateView)) (now : List GateView) → behind (done ++ outer) o ≡ Some now → behind done (between outer o) ≡ Some (now ++ outer)
-behind_between done outer None now e = absurd (cc)
-behind_between done outer (Some inner) now e =
-    let is : (done ++ outer) ++ inner ≡ now = cc in
-    ap Some (sym (append_assoc done (outer ++ inner) outer) ∙ ap (λ l. l ++ outer) (sym (append_assoc done outer inner) ∙ is))
-
-pub swap_made : (n : ℕ) (gate : GateView) (a b : ℕ) (done begun now : List GateView) → gate.op ≡ Swap a b → begun ≡ done ++ flip_of (b ∷ []) a ∷ [] → behind begun (split_flip n (gate.controls ++ positive a ∷ []) b) ≡ Some now
-    → behind done (split_gate n gate) ≡ Some (now ++ flip_of (b ∷ []) a ∷ [])
-swap_made n gate a b done begun now o e f =
-    ap (λ op. behind done (split_op n gate.controls op)) o ∙ behind_between done (flip_of (b ∷ []) a ∷ []) (split_flip n (gate.controls ++ positive a ∷ []) b) now (rw e at f)
 
 -- ---- the walk
 

@@ -2,7 +2,9 @@
 ghost use Rattle.std.specs.Prelude.{◌≡◌};
 ghost use Rattle.gate_split.specs.declared.fault.Refusal.TheVariants as refusal;
 ghost use Rattle.gate_split.specs.declared.fault.SplitFault.TheVariants.{Memory};
+ghost use Rattle.gate_split.specs.Steps.{refusal_of};
 
+use mct_circuit::GateFault;
 use std::alloc::{AllocError, AllocFailed};
 
 /// Why a circuit was not split: a wide gate uses every line, there are more gates than the limit allows, or
@@ -13,6 +15,14 @@ pub enum SplitFault {
     NoIdle { gate: u64 },
     Gates,
     Memory,
+}
+
+impl From<revc_base::Memory> for SplitFault {
+    ghost from_gives = { λ _ e. e ≡ Memory };
+
+    fn from(_: revc_base::Memory) -> SplitFault {
+        SplitFault::Memory
+    }
 }
 
 impl From<AllocError> for SplitFault {
@@ -31,11 +41,23 @@ impl<T: Drop> From<AllocFailed<T>> for SplitFault {
     }
 }
 
-// Why one gate was not split.
+// Why the gates in place of one gate were not appended.
 #[derive(Clone, Copy, Debug, PartialEq, Eq)]
 pub enum Refusal {
     NoIdle,
+    Full,
     Memory,
+}
+
+impl From<GateFault> for Refusal {
+    ghost from_gives = { λ fault e. e ≡ refusal_of fault };
+
+    fn from(fault: GateFault) -> Refusal {
+        match fault {
+            GateFault::Full => Refusal::Full,
+            GateFault::Memory => Refusal::Memory,
+        }
+    }
 }
 
 impl From<revc_base::Memory> for Refusal {

@@ -1,48 +1,60 @@
 // The gates in place of one: swaps and negative controls.
-ghost use Rattle.std.specs.Prelude.{◌≡◌, ◌++◌, ◌∷◌, [], map, Some, None, IfOk, OnOk, IsErrOf};
-ghost use Rattle.mct_circuit.specs.declared.gate.Op.TheVariants.{Flip};
-ghost use Rattle.mct_circuit.specs.Gates.{IsGateOn, positive};
-ghost use Rattle.gate_split.specs.Split.{flips_of_negatives, split_flip, split_gate, behind};
+ghost use Rattle.std.specs.Prelude.{◌≡◌, ◌++◌, map, Some, IfOk, OnOk, IsErrOf};
+ghost use Rattle.mct_circuit.specs.Gates.{IsGateOn, flip_of};
+ghost use Rattle.gate_split.specs.Split.{flips_of_negatives, split_positive, split_gate, between, behind};
 
 use crate::fault::Refusal;
+use crate::idle::LineMarks;
 use crate::wide::push_positive;
 use mct_circuit::{Control, Gate, Op};
 use revc_base::Memory;
 use std::alloc::Global;
 
-// Appends the gates in place of a gate on `n` lines.
-pub fn push_piece(alloc: Global, gates: &mut Vec<Gate>, gate: &Gate, n: u32) -> Result<(), Refusal>
-    requires { IsGateOn n gate.now }
-    ensures split { OnOk result (behind gates.old.items (split_gate n gate.now) ≡ Some gates.new.items) }
-    ensures refused { IsErrOf result Refusal.NoIdle → split_gate n gate.now ≡ None }
+// Appends the gates in place of a gate.
+pub fn push_piece(
+    alloc: Global,
+    gates: &mut Vec<Gate>,
+    gate: &Gate,
+    marks: &mut LineMarks,
+) -> Result<(), Refusal>
+    requires { IsGateOn marks.old gate.now }
+    ensures split { OnOk result (behind gates.old.items (split_gate marks.old gate.now) ≡ Some gates.new.items) }
+    ensures same { marks.new ≡ marks.old }
+    ensures refused { IsErrOf result Refusal.NoIdle → split_gate marks.old gate.now ≡ None }
+    ensures cause { IsErrOf result Refusal.Full → ⊥ }
 {
+    let controls = gate.controls();
+    let mut lines = lines_of(alloc, controls)?;
     match gate.op() {
-        Op::Flip(target) => push_flip(alloc, gates, gate.controls(), target, n),
+        Op::Flip(target) => push_flip(alloc, gates, controls, &lines, target, marks),
         Op::Swap(first, second) => {
-            let controls = with_control(alloc, gate.controls(), first)?;
+            lines.push(first)?;
             gates.push(Gate::flip(alloc, &[second], first)?)?;
-            push_flip(alloc, gates, &controls, second, n)?;
+            push_flip(alloc, gates, controls, &lines, second, marks)?;
             gates.push(Gate::flip(alloc, &[second], first)?)?;
             Ok(())
         }
     }
 }
 
-// Appends the gates in place of a flip under any controls.
+// Appends the gates in place of a flip where all lines of `lines` are 1, between flips of the lines of negative
+// controls.
 fn push_flip(
     alloc: Global,
     gates: &mut Vec<Gate>,
     controls: &[Control],
+    lines: &[u32],
     target: u32,
-    n: u32,
+    marks: &mut LineMarks,
 ) -> Result<(), Refusal>
-    requires { IsGateOn n (record { controls = controls.now; op = Flip target }) }
-    ensures split { OnOk result (behind gates.old.items (split_flip n controls.now target) ≡ Some gates.new.items) }
-    ensures refused { IsErrOf result Refusal.NoIdle → split_flip n controls.now target ≡ None }
+    requires { IsGateOn marks.old (flip_of lines.now target) }
+    ensures split { OnOk result (behind gates.old.items (between (flips_of_negatives controls.now) (split_positive marks.old lines.now target)) ≡ Some gates.new.items) }
+    ensures same { marks.new ≡ marks.old }
+    ensures refused { IsErrOf result Refusal.NoIdle → split_positive marks.old lines.now target ≡ None }
+    ensures cause { IsErrOf result Refusal.Full → ⊥ }
 {
-    let lines = lines_of(alloc, controls)?;
     push_negatives(alloc, gates, controls)?;
-    push_positive(alloc, gates, &lines, target, n)?;
+    push_positive(alloc, gates, lines, target, marks)?;
     push_negatives(alloc, gates, controls)?;
     Ok(())
 }
@@ -65,17 +77,4 @@ fn lines_of(alloc: Global, controls: &[Control]) -> Result<Vec<u32>, Memory>
     ensures { IfOk result (λ lines. lines.items ≡ map (λ control. control.line) controls.now) }
 {
     Ok(controls.iter().map(|control| control.line).collect(alloc)?)
-}
-
-// The controls, and the line as a positive one behind them.
-fn with_control(alloc: Global, controls: &[Control], line: u32) -> Result<Vec<Control>, Memory>
-    ensures { IfOk result (λ all. all.items ≡ controls.now ++ positive line ∷ []) }
-{
-    let mut all = Vec::with_capacity(alloc, controls.len())?;
-    all.extend_from_slice(controls)?;
-    all.push(Control {
-        line,
-        positive: true,
-    })?;
-    Ok(all)
 }

@@ -1,12 +1,15 @@
 // The walk over the gates of a circuit.
-ghost use Rattle.std.specs.Prelude.{◌≡◌, ℕ, ◌≤◌, List, Bool, length, Ok, Err, IfOk, IsErrOf};
+ghost use Rattle.std.specs.Prelude.{◌≡◌, ℕ, ◌≤◌, List, [], Bool, length, Ok, Err, Some, None, IfOk, OnOk, IsErrOf, IsTrue};
+ghost use Rattle.std.specs.List.{list_all};
 ghost use Rattle.gate_split.specs.declared.fault.SplitFault.TheVariants.{NoIdle, Gates};
-ghost use Rattle.mct_circuit.specs.Gates.{AreNarrow, line_map};
-ghost use Rattle.gate_split.specs.Split.{split_list};
+ghost use Rattle.mct_circuit.specs.Gates.{IsGateOn, IsNarrow, AreNarrow, line_map};
+ghost use Rattle.gate_split.specs.Split.{split_gate, split_list, behind};
+ghost use Rattle.gate_split.specs.Steps.{IsOver};
 
 use crate::fault::{Refusal, SplitFault};
+use crate::idle::LineMarks;
 use crate::piece::push_piece;
-use mct_circuit::{Circuit, GateFault};
+use mct_circuit::{Circuit, Control, Gate, Op};
 use std::alloc::Global;
 use std::marker::Model;
 
@@ -51,20 +54,63 @@ pub fn split(alloc: Global, circuit: &Circuit, lines: u32, limit: u64) -> Result
     ensures over { IsErrOf result SplitFault.Gates → split_list lines limit circuit.now.gates ≡ Err Gates }
 {
     let mut narrow = Circuit::new(alloc, lines, limit);
+    let mut marks = LineMarks::new(alloc, lines)?;
     let mut piece = Vec::new(alloc);
     let mut place = 0;
     for gate in circuit.gates() {
-        match push_piece(alloc, &mut piece, gate, lines) {
+        match append_split(alloc, &mut narrow, &mut piece, &mut marks, gate) {
             Ok(()) => {}
             Err(Refusal::NoIdle) => return Err(SplitFault::NoIdle { gate: place }),
+            Err(Refusal::Full) => return Err(SplitFault::Gates),
             Err(Refusal::Memory) => return Err(SplitFault::Memory),
-        }
-        match narrow.append(&mut piece) {
-            Ok(()) => {}
-            Err(GateFault::Full) => return Err(SplitFault::Gates),
-            Err(GateFault::Memory) => return Err(SplitFault::Memory),
         }
         place += 1;
     }
     Ok(Narrow { circuit: narrow })
+}
+
+// Appends the gates in place of one, by way of the empty `piece`. A narrow gate is copied once and at once.
+fn append_split(
+    alloc: Global,
+    narrow: &mut Circuit,
+    piece: &mut Vec<Gate>,
+    marks: &mut LineMarks,
+    gate: &Gate,
+) -> Result<(), Refusal>
+    requires lines { marks.old ≡ narrow.old.lines }
+    requires gate { IsGateOn marks.old gate.now }
+    requires empty { piece.old.items ≡ [] }
+    ensures split { OnOk result (behind narrow.old.gates (split_gate marks.old gate.now) ≡ Some narrow.new.gates) }
+    ensures rest { OnOk result (narrow.new ≡ record narrow.old { gates = narrow.new.gates }) }
+    ensures within { OnOk result (length narrow.new.gates ≤ narrow.old.limit) }
+    ensures emptied { OnOk result (piece.new.items ≡ []) }
+    ensures same { marks.new ≡ marks.old }
+    ensures no_idle { IsErrOf result Refusal.NoIdle → split_gate marks.old gate.now ≡ None }
+    ensures full { IsErrOf result Refusal.Full → IsOver narrow.old.limit narrow.old.gates (split_gate marks.old gate.now) }
+{
+    if is_narrow(gate) {
+        // This call says that the gates are within their limit.
+        let _ = narrow.len();
+        narrow.push(gate.copy()?)?;
+        return Ok(());
+    }
+    push_piece(alloc, piece, gate, marks)?;
+    narrow.append(piece)?;
+    Ok(())
+}
+
+// Whether the gate is a flip with at most two controls, all positive.
+fn is_narrow(gate: &Gate) -> bool
+    ensures { IsTrue result → IsNarrow gate.now }
+{
+    match gate.op() {
+        Op::Flip(_) => gate.controls().len() <= 2 && are_positive(gate.controls()),
+        Op::Swap(..) => false,
+    }
+}
+
+fn are_positive(controls: &[Control]) -> bool
+    ensures { result ≡ list_all (λ control. control.positive) controls.now }
+{
+    controls.iter().all(|control| control.positive)
 }

@@ -6,30 +6,31 @@ ghost use Rattle.gate_split.specs.Idle.{Avoids, Serves};
 ghost use Rattle.gate_split.specs.Split.{ladder, there_and_back, over_idle_lines, with_enough_idle, in_halves, split_positive, behind};
 
 use crate::fault::Refusal;
-use crate::idle::falling_lines;
+use crate::idle::LineMarks;
 use mct_circuit::Gate;
 use revc_base::Memory;
 use std::alloc::Global;
 
-// Appends the gates in place of a flip under positive controls, on `n` lines.
+// Appends the gates in place of a flip under positive controls.
 pub fn push_positive(
     alloc: Global,
     gates: &mut Vec<Gate>,
     controls: &[u32],
     target: u32,
-    n: u32,
+    marks: &mut LineMarks,
 ) -> Result<(), Refusal>
-    requires { IsGateOn n (flip_of controls.now target) }
-    ensures split { OnOk result (behind gates.old.items (split_positive n controls.now target) ≡ Some gates.new.items) }
-    ensures refused { IsErrOf result Refusal.NoIdle → split_positive n controls.now target ≡ None }
+    requires { IsGateOn marks.old (flip_of controls.now target) }
+    ensures split { OnOk result (behind gates.old.items (split_positive marks.old controls.now target) ≡ Some gates.new.items) }
+    ensures same { marks.new ≡ marks.old }
+    ensures refused { IsErrOf result Refusal.NoIdle → split_positive marks.old controls.now target ≡ None }
+    ensures cause { IsErrOf result Refusal.Full → ⊥ }
 {
     if controls.len() <= 2 {
         gates.push(Gate::flip(alloc, controls, target)?)?;
         return Ok(());
     }
     let wanted = controls.len() - 2;
-    let used = with_line(alloc, controls, target)?;
-    let idle = falling_lines(alloc, &used, false, n, wanted)?;
+    let idle = marks.falling_lines(controls, &[target], false, wanted)?;
     if idle.len() == wanted {
         push_over_idle(alloc, gates, controls, target, &idle)?;
         return Ok(());
@@ -37,7 +38,7 @@ pub fn push_positive(
     match idle.as_slice() {
         [] => Err(Refusal::NoIdle),
         [line, ..] => {
-            push_halves(alloc, gates, controls, target, n, *line)?;
+            push_halves(alloc, gates, controls, target, *line, marks)?;
             Ok(())
         }
     }
@@ -50,20 +51,20 @@ fn push_halves(
     gates: &mut Vec<Gate>,
     controls: &[u32],
     target: u32,
-    n: u32,
     idle: u32,
+    marks: &mut LineMarks,
 ) -> Result<(), Memory>
-    requires gate { IsGateOn n (flip_of controls.now target) }
+    requires gate { IsGateOn marks.old (flip_of controls.now target) }
     requires four { 4 ≤ length controls.now }
-    requires below { idle < n }
+    requires below { idle < marks.old }
     requires apart { Avoids idle (controls.now ++ target ∷ []) }
-    ensures { OnOk result (gates.new.items ≡ gates.old.items ++ in_halves n controls.now target idle) }
+    ensures made { OnOk result (gates.new.items ≡ gates.old.items ++ in_halves marks.old controls.now target idle) }
+    ensures same { marks.new ≡ marks.old }
 {
     let (first, second) = controls.split_at(controls.len() - controls.len() / 2);
-    let with_target = with_line(alloc, second, target)?;
+    let first_idle = marks.falling_lines(second, &[target], true, first.len())?;
+    let second_idle = marks.falling_lines(first, &[], true, second.len() + 1)?;
     let with_idle = with_line(alloc, second, idle)?;
-    let first_idle = falling_lines(alloc, &with_target, true, n, first.len())?;
-    let second_idle = falling_lines(alloc, first, true, n, second.len() + 1)?;
     let mut once = Vec::new(alloc);
     push_enough(alloc, &mut once, &with_idle, target, &second_idle)?;
     push_enough(alloc, &mut once, first, idle, &first_idle)?;

@@ -2,55 +2,58 @@ use Rattle.std.proofs.Common.{◌≡◌, ◌≢◌, ◌-◌, ◌≤◌, [], ◌�
 use Rattle.std.proofs.lemmas.List.{nil_from_length}
 use Rattle.gate_split.specs.Idle.{Serves}
 use Rattle.gate_split.specs.Split.{idle_lines, over_idle_lines, behind}
-use Rattle.gate_split.proofs.Pieces.{different_of, idle_serves, serves_take}
+use Rattle.gate_split.proofs.Pieces.{different_of, below_of, idle_serves, serves_take}
 use Rattle.gate_split.proofs.Steps.{rungs_differ, positive_over, positive_none, positive_halves, first_idle, first_is}
 use Rattle.gate_split.proofs.wide.push_positive.Goals as goal
 
 pub flip-requires : goal.flip-requires
-flip-requires c = different_of c.args.n c.args.controls.now c.args.target c.requires
+flip-requires c = different_of c.args.marks.now c.args.controls.now c.args.target c.requires
+
+pub falling_lines-requires : goal.falling_lines-requires
+falling_lines-requires c = below_of c.args.marks.now c.args.controls.now c.args.target c.requires
 
 pub push_over_idle-requires-clause-different : goal.push_over_idle-requires-clause-different
 push_over_idle-requires-clause-different c =
     let k = length c.args.controls.now - 2 in
-    let idle : c.in_ok-idle.idle.items ≡ take k (idle_lines c.args.n (c.args.controls.now ++ c.args.target ∷ [])) = c.in_ok-idle.ensures ∙ ap (λ l. take k (idle_lines c.args.n l)) (c.deref.ensures.value ∙ c.in_ok-used.ensures) in
+    let idle : c.in_ok-idle.idle.items ≡ take k (idle_lines c.args.marks.now (c.args.controls.now ++ c.args.target ∷ [])) = c.in_ok-idle.ensures.found in
     let long : length c.in_ok-idle.idle.items ≡ k = omega (arith, c.len.ensures, c.if-len-wanted.true) in
-    let s : Serves c.args.n c.args.controls.now c.args.target c.in_ok-idle.idle.items = rw idle (serves_take c.args.n c.args.controls.now c.args.target k (idle_lines c.args.n (c.args.controls.now ++ c.args.target ∷ [])) (idle_serves c.args.n c.args.controls.now c.args.target c.requires)) in
-    rw c.deref-then-len-wanted.ensures.value (rungs_differ c.args.n c.args.controls.now c.args.target c.in_ok-idle.idle.items s (omega arith))
+    let s : Serves c.args.marks.now c.args.controls.now c.args.target c.in_ok-idle.idle.items = rw idle (serves_take c.args.marks.now c.args.controls.now c.args.target k (idle_lines c.args.marks.now (c.args.controls.now ++ c.args.target ∷ [])) (idle_serves c.args.marks.now c.args.controls.now c.args.target c.requires)) in
+    rw c.deref.ensures.value (rungs_differ c.args.marks.now c.args.controls.now c.args.target c.in_ok-idle.idle.items s (omega arith))
 
 pub returns-then-len-wanted-clause-split : goal.returns-then-len-wanted-clause-split
 returns-then-len-wanted-clause-split c =
     let k = length c.args.controls.now - 2 in
-    let idle : c.in_ok-idle.idle.items ≡ take k (idle_lines c.args.n (c.args.controls.now ++ c.args.target ∷ [])) = c.in_ok-idle.ensures ∙ ap (λ l. take k (idle_lines c.args.n l)) (c.deref.ensures.value ∙ c.in_ok-used.ensures) in
+    let idle : c.in_ok-idle.idle.items ≡ take k (idle_lines c.args.marks.now (c.args.controls.now ++ c.args.target ∷ [])) = c.in_ok-idle.ensures.found in
     let long : length c.in_ok-idle.idle.items ≡ k = omega (arith, c.len.ensures, c.if-len-wanted.true) in
-    ap (behind c.args.gates.now.items) (positive_over c.args.n c.args.controls.now c.args.target c.in_ok-idle.idle.items (omega arith) idle long)
-    ∙ ap Some (sym (c.in_ok-push_over_idle.ensures ∙ ap (λ l. c.args.gates.now.items ++ over_idle_lines c.args.controls.now c.args.target l) c.deref-then-len-wanted.ensures.value))
+    ap (behind c.args.gates.now.items) (positive_over c.args.marks.now c.args.controls.now c.args.target c.in_ok-idle.idle.items (omega arith) idle long)
+    ∙ ap Some (sym (c.in_ok-push_over_idle.ensures ∙ ap (λ l. c.args.gates.now.items ++ over_idle_lines c.args.controls.now c.args.target l) c.deref.ensures.value))
 
 pub returns-in-empty-clause-refused : goal.returns-in-empty-clause-refused
 returns-in-empty-clause-refused c =
     let k = length c.args.controls.now - 2 in
-    let idle : c.in_ok-idle.idle.items ≡ take k (idle_lines c.args.n (c.args.controls.now ++ c.args.target ∷ [])) = c.in_ok-idle.ensures ∙ ap (λ l. take k (idle_lines c.args.n l)) (c.deref.ensures.value ∙ c.in_ok-used.ensures) in
+    let idle : c.in_ok-idle.idle.items ≡ take k (idle_lines c.args.marks.now (c.args.controls.now ++ c.args.target ∷ [])) = c.in_ok-idle.ensures.found in
     let zero_long : length c.as_slice.result.now ≡ 0 = omega arith in
-    λ r. positive_none c.args.n c.args.controls.now c.args.target c.in_ok-idle.idle.items (omega arith) idle (sym c.as_slice.ensures.value ∙ nil_from_length c.as_slice.result.now zero_long)
+    λ r. positive_none c.args.marks.now c.args.controls.now c.args.target c.in_ok-idle.idle.items (omega arith) idle (sym c.as_slice.ensures.value ∙ nil_from_length c.as_slice.result.now zero_long)
 
 pub push_halves-requires-clause-below : goal.push_halves-requires-clause-below
 push_halves-requires-clause-below c =
     let k = length c.args.controls.now - 2 in
-    let idle : c.in_ok-idle.idle.items ≡ take k (idle_lines c.args.n (c.args.controls.now ++ c.args.target ∷ [])) = c.in_ok-idle.ensures ∙ ap (λ l. take k (idle_lines c.args.n l)) (c.deref.ensures.value ∙ c.in_ok-used.ensures) in
+    let idle : c.in_ok-idle.idle.items ≡ take k (idle_lines c.args.marks.now (c.args.controls.now ++ c.args.target ∷ [])) = c.in_ok-idle.ensures.found in
     let some : 1 ≤ length c.as_slice.result.now = omega arith in
-    (first_idle c.args.n c.args.controls.now c.args.target c.in_ok-idle.idle.items (get_or c.as_slice.result.now 0 0) (drop 1 c.as_slice.result.now) c.requires idle (sym c.as_slice.ensures.value ∙ first_is c.as_slice.result.now some)).0
+    rw c.falling_lines.ensures.same (first_idle c.args.marks.now c.args.controls.now c.args.target c.in_ok-idle.idle.items (get_or c.as_slice.result.now 0 0) (drop 1 c.as_slice.result.now) c.requires idle (sym c.as_slice.ensures.value ∙ first_is c.as_slice.result.now some)).0
 
 pub push_halves-requires-clause-apart : goal.push_halves-requires-clause-apart
 push_halves-requires-clause-apart c =
     let k = length c.args.controls.now - 2 in
-    let idle : c.in_ok-idle.idle.items ≡ take k (idle_lines c.args.n (c.args.controls.now ++ c.args.target ∷ [])) = c.in_ok-idle.ensures ∙ ap (λ l. take k (idle_lines c.args.n l)) (c.deref.ensures.value ∙ c.in_ok-used.ensures) in
+    let idle : c.in_ok-idle.idle.items ≡ take k (idle_lines c.args.marks.now (c.args.controls.now ++ c.args.target ∷ [])) = c.in_ok-idle.ensures.found in
     let some : 1 ≤ length c.as_slice.result.now = omega arith in
-    (first_idle c.args.n c.args.controls.now c.args.target c.in_ok-idle.idle.items (get_or c.as_slice.result.now 0 0) (drop 1 c.as_slice.result.now) c.requires idle (sym c.as_slice.ensures.value ∙ first_is c.as_slice.result.now some)).1
+    (first_idle c.args.marks.now c.args.controls.now c.args.target c.in_ok-idle.idle.items (get_or c.as_slice.result.now 0 0) (drop 1 c.as_slice.result.now) c.requires idle (sym c.as_slice.ensures.value ∙ first_is c.as_slice.result.now some)).1
 
 pub returns-clause-split : goal.returns-clause-split
 returns-clause-split c =
     let k = length c.args.controls.now - 2 in
-    let idle : c.in_ok-idle.idle.items ≡ take k (idle_lines c.args.n (c.args.controls.now ++ c.args.target ∷ [])) = c.in_ok-idle.ensures ∙ ap (λ l. take k (idle_lines c.args.n l)) (c.deref.ensures.value ∙ c.in_ok-used.ensures) in
+    let idle : c.in_ok-idle.idle.items ≡ take k (idle_lines c.args.marks.now (c.args.controls.now ++ c.args.target ∷ [])) = c.in_ok-idle.ensures.found in
     let some : 1 ≤ length c.as_slice.result.now = omega arith in
     let short : length c.in_ok-idle.idle.items ≢ k = λ e. c.if-len-wanted.false (omega (arith, c.len.ensures, e)) in
-    ap (behind c.args.gates.now.items) (positive_halves c.args.n c.args.controls.now c.args.target c.in_ok-idle.idle.items (get_or c.as_slice.result.now 0 0) (drop 1 c.as_slice.result.now) (omega arith) idle short (sym c.as_slice.ensures.value ∙ first_is c.as_slice.result.now some))
-    ∙ ap Some (sym c.in_ok-push_halves-in-len1-up.ensures)
+    ap (behind c.args.gates.now.items) (positive_halves c.args.marks.now c.args.controls.now c.args.target c.in_ok-idle.idle.items (get_or c.as_slice.result.now 0 0) (drop 1 c.as_slice.result.now) (omega arith) idle short (sym c.as_slice.ensures.value ∙ first_is c.as_slice.result.now some))
+    ∙ ap Some (sym (rw c.falling_lines.ensures.same at c.in_ok-push_halves-in-len1-up.ensures.made))
