@@ -1,5 +1,11 @@
+ghost use Rattle.std.specs.Prelude.{◌≡◌, ◌<◌, ◌≤◌, ◌+◌, ◌∷◌, [], ◌++◌, length, IfOk};
+ghost use Rattle.std.specs.List.{AllByRecursion};
+ghost use Rattle.mct_circuit.specs.Gates.{AreDifferent};
+
 use super::*;
 use mct_circuit::{Circuit, Control, Gate, Op};
+use std::alloc::{AllocError, Global};
+use std::process::Abort;
 use std::test::Fail;
 
 // The first gate and the number of gates that a flip of line 5 by lines 0 to 4 becomes.
@@ -22,7 +28,7 @@ fn wide_flip_is_split(rt: HostRuntime) -> Result<(), Fail> {
     Ok(())
 }
 
-// A flip under a negative control and a swap become three flips each.
+// A flip of line 1 under a negative line 0, and a swap of the two, become these flips.
 #[test]
 fn negative_controls_and_swaps_are_split(rt: HostRuntime) -> Result<(), Fail> {
     let alloc = rt.alloc();
@@ -34,40 +40,77 @@ fn negative_controls_and_swaps_are_split(rt: HostRuntime) -> Result<(), Fail> {
     circuit.push(Gate::new(vec![in alloc; negative]?, Op::Flip(1)))?;
     circuit.push(Gate::new(Vec::new(alloc), Op::Swap(0, 1)))?;
     let narrow = split(alloc, &circuit, 2, 6)?;
-    let targets = [0, 1, 0, 0, 1, 0];
     assert_eq!(rt; narrow.circuit().len(), 6);
-    for (gate, target) in narrow.circuit().gates().iter().zip(targets) {
+    let flips: [(&[Control], u32); 6] = [
+        (&[], 0),
+        (&[positive(0)], 1),
+        (&[], 0),
+        (&[positive(1)], 0),
+        (&[positive(0)], 1),
+        (&[positive(1)], 0),
+    ];
+    for (gate, (controls, target)) in narrow.circuit().gates().iter().zip(flips) {
         assert_eq!(rt; gate.op(), Op::Flip(target));
-    }
-    for (gate, controls) in narrow.circuit().gates().iter().zip([0, 1, 0, 1, 1, 1]) {
-        assert_eq!(rt; gate.controls().len(), controls);
+        assert_eq!(rt; gate.controls(), controls);
     }
     Ok(())
 }
 
-// A flip of 6 controls on 8 to 11 lines, on each content of them, beside the rule of a flip.
+// Flips of 3 to 12 controls, which use the lowest lines, on each number of lines from one idle line on up to 14.
 #[test]
 fn split_flips_keep_the_line_map(rt: HostRuntime) -> Result<(), Fail> {
     let alloc = rt.alloc();
-    let mut wide = Circuit::new(alloc, 7, 1);
-    wide.push_flip(&[0, 2, 1, 4, 3, 6], 5)?;
-    for lines in [8, 9, 10, 11] {
+    expect_line_map(&rt, alloc, &[3, 0, 2], 1)?;
+    expect_line_map(&rt, alloc, &[0, 4, 1, 2], 3)?;
+    expect_line_map(&rt, alloc, &[5, 0, 1, 4, 3], 2)?;
+    expect_line_map(&rt, alloc, &[0, 2, 1, 4, 3, 6], 5)?;
+    expect_line_map(&rt, alloc, &[7, 6, 5, 4, 3, 2, 1], 0)?;
+    expect_line_map(&rt, alloc, &[4, 0, 1, 8, 3, 6, 5, 2], 7)?;
+    expect_line_map(&rt, alloc, &[9, 0, 1, 8, 2, 7, 3, 6, 5], 4)?;
+    expect_line_map(&rt, alloc, &[0, 1, 2, 3, 4, 5, 6, 7, 8, 9], 10)?;
+    expect_line_map(&rt, alloc, &[5, 11, 0, 1, 10, 2, 3, 9, 4, 6, 8], 7)?;
+    expect_line_map(&rt, alloc, &[12, 0, 1, 11, 2, 3, 10, 4, 5, 9, 6, 8], 7)
+}
+
+// The splits of a flip do to each content of the lines what the flip does, whose controls are the lowest lines
+// but the target.
+fn expect_line_map(
+    rt: &impl Abort,
+    alloc: Global,
+    controls: &[u32],
+    target: u32,
+) -> Result<(), Fail>
+    requires different { AreDifferent (controls.now ++ target ∷ []) }
+    requires below { AllByRecursion (λ line. line < length controls.now + 1) (controls.now ++ target ∷ []) }
+    requires few { length controls.now ≤ 12 }
+    requires low { target < 13 }
+{
+    let used = controls.len() as u32 + 1;
+    let mut wide = Circuit::new(alloc, used, 1);
+    wide.push_flip(controls, target)?;
+    let mask = ((1_u32 << used) - 1) ^ (1 << target);
+    let most = (2 * used).min(14);
+    for lines in used + 1..most + 1 {
         let narrow = split(alloc, &wide, lines, 100)?;
-        for content in 0..2048_u32 {
-            let mut bits = vec![in alloc; false; lines as usize]?;
-            for (line, bit) in bits.iter_mut().enumerate() {
-                *bit = content >> line & 1 == 1;
-            }
-            let mut changed = bits.clone()?;
-            narrow.circuit().apply(&mut changed);
-            assert!(rt; bits.len() > 5);
-            if content & 0b101_1111 == 0b101_1111 {
-                bits[5] = !bits[5];
-            }
-            assert!(rt; changed == bits, "{content} on {lines} lines");
+        for content in 0..1_u32 << lines {
+            let mut bits = bits_of(alloc, content, lines)?;
+            narrow.circuit().apply(&mut bits);
+            let flip = u32::from(content & mask == mask) << target;
+            let expected = bits_of(alloc, content ^ flip, lines)?;
+            assert!(rt; bits == expected, "{content} on {lines} lines");
         }
     }
     Ok(())
+}
+
+// The bits of a number, the least one first.
+fn bits_of(alloc: Global, number: u32, count: u32) -> Result<Vec<bool>, AllocError>
+    requires { count ≤ 14 }
+    ensures { IfOk result (λ bits. length bits.items ≡ count) }
+{
+    (0..count)
+        .map(|place| number >> place & 1 == 1)
+        .collect(alloc)
 }
 
 #[test]
