@@ -1,6 +1,6 @@
-ghost use Rattle.std.specs.Prelude.{◌≡◌, ◌<◌, ◌≤◌, ◌+◌, ◌∷◌, [], ◌++◌, length, IfOk};
+ghost use Rattle.std.specs.Prelude.{◌≡◌, ◌<◌, ◌≤◌, ◌+◌, List, Bool, ◌∷◌, [], ◌++◌, length, IfOk};
 ghost use Rattle.std.specs.List.{AllByRecursion};
-ghost use Rattle.mct_circuit.specs.Gates.{AreDifferent};
+ghost use Rattle.mct_circuit.specs.Gates.{AreDifferent, line_map};
 
 use super::*;
 use mct_circuit::{Circuit, Control, Gate, Op};
@@ -124,20 +124,31 @@ fn plans_keep_their_counts(rt: HostRuntime) -> Result<(), Fail> {
     let mut circuit = Circuit::new(alloc, 3, 1);
     circuit.push_flip(&[0], 1)?;
     let planned = Planned::new(circuit, 1, 1, 1);
-    let narrow = split(alloc, planned.circuit(), 4, 1)?;
-    let laid = Laid::new(
-        narrow,
-        planned.inputs(),
-        planned.outputs(),
-        planned.work(),
-        1,
-    );
+    let laid = with_one_borrowed(alloc, &planned)?;
     assert_eq!(rt; laid.circuit().len(), 1);
     assert_eq!(rt;
         (laid.inputs(), laid.outputs(), laid.work(), laid.borrowed()),
         (1, 1, 1, 1)
     );
     Ok(())
+}
+
+// The plan on one line more, which does what its circuit does.
+fn with_one_borrowed(alloc: Global, planned: &Planned) -> Result<Laid, SplitFault>
+    requires { planned.now.circuit.lines < 16384 }
+    ensures lines { IfOk result (λ laid. laid.circuit.lines ≡ planned.now.circuit.lines + 1) }
+    ensures gates { IfOk result (λ laid. length laid.circuit.gates ≤ 4000000) }
+    ensures map { IfOk result (λ laid. (bits : List Bool) → length bits ≡ planned.now.circuit.lines + 1 → line_map laid.circuit.gates bits ≡ line_map planned.now.circuit.gates bits) }
+{
+    let circuit = planned.circuit();
+    let narrow = split(alloc, circuit, circuit.lines() + 1, 4_000_000)?;
+    Ok(Laid::new(
+        narrow,
+        planned.inputs(),
+        planned.outputs(),
+        planned.work(),
+        1,
+    ))
 }
 
 fn positive(line: u32) -> Control {

@@ -49,6 +49,7 @@ pub fn split(alloc: Global, circuit: &Circuit, lines: u32, limit: u64) -> Result
     requires { circuit.now.lines ≤ lines }
     ensures gates { IfOk result (λ narrow. split_list lines limit circuit.now.gates ≡ Ok narrow.gates) }
     ensures size { IfOk result (λ narrow. narrow ≡ record { lines = lines; limit = limit; gates = narrow.gates }) }
+    ensures within { IfOk result (λ narrow. length narrow.gates ≤ limit) }
     ensures map { IfOk result (λ narrow. (bits : List Bool) → length bits ≡ lines → line_map narrow.gates bits ≡ line_map circuit.now.gates bits) }
     ensures no_idle { (gate : ℕ) → IsErrOf result (SplitFault.NoIdle gate) → split_list lines limit circuit.now.gates ≡ Err (NoIdle gate) }
     ensures over { IsErrOf result SplitFault.Gates → split_list lines limit circuit.now.gates ≡ Err Gates }
