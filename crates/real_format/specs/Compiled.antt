@@ -5,6 +5,7 @@ use Rattle.std.specs.Fmt.{decimal}
 use Rattle.real_format.specs.declared.file.Mark.{Mark}
 use Rattle.real_format.specs.declared.file.Mark.TheVariants.{Free, Zero}
 use Rattle.real_format.specs.declared.roles.Roles.{Roles}
+use Rattle.gate_split.specs.Plans.{LaidView}
 use Rattle.mct_circuit.specs.Gates.{GateView, lines_of, AreGatesOn, AreNarrow}
 use Rattle.real_format.specs.Real.{RealView, RealMeaning, constant_byte, garbage_byte}
 
@@ -12,6 +13,10 @@ use Rattle.real_format.specs.Real.{RealView, RealMeaning, constant_byte, garbage
 
 abbrev pub lines_in : Roles → ℕ
 lines_in roles = roles.inputs + roles.outputs + roles.work + roles.borrowed
+
+-- the roles of a plan's lines
+abbrev pub roles_of : LaidView → Roles
+roles_of laid = record { inputs = laid.inputs; outputs = laid.outputs; work = laid.work; borrowed = laid.borrowed }
 
 -- the name of a line: the letter of its role, and its number among the lines of that role
 abbrev pub name_of_line : Roles → ℕ → List ℕ

@@ -8,7 +8,6 @@ mod writer;
 
 pub use file::Mark;
 pub use law::compiled_meaning;
-pub use roles::Roles;
 pub use writer::write;
 
 #[cfg(test)]

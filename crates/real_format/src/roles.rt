@@ -1,9 +1,11 @@
 ghost use Rattle.std.specs.Prelude.{◌≡◌, ◌<◌, ◌≤◌, ◌∷◌};
 ghost use Rattle.std.specs.Fmt.{decimal};
 
-/// How many lines of a compiled circuit have each role. The input lines x come first, then the output
-/// lines y, the work lines w, which start at 0 and are left at 0, and the borrowed lines b, which hold
-/// any bits and are left unchanged.
+use gate_split::Laid;
+
+// How many lines of a compiled circuit have each role. The input lines x come first, then the output
+// lines y, the work lines w, which start at 0 and are left at 0, and the borrowed lines b, which hold
+// any bits and are left unchanged.
 #[derive(Clone, Copy, Debug, PartialEq, Eq)]
 pub struct Roles {
     pub inputs: u32,
@@ -13,7 +15,19 @@ pub struct Roles {
 }
 
 impl Roles {
-    ghost use Rattle.real_format.specs.Compiled.{lines_in, name_of_line};
+    ghost use Rattle.real_format.specs.Compiled.{lines_in, roles_of, name_of_line};
+
+    // The roles of a plan's lines.
+    pub(crate) fn of(laid: &Laid) -> Roles
+        ensures { result ≡ roles_of laid.now }
+    {
+        Roles {
+            inputs: laid.inputs(),
+            outputs: laid.outputs(),
+            work: laid.work(),
+            borrowed: laid.borrowed(),
+        }
+    }
 
     // The number of lines.
     pub(crate) fn lines(self) -> u32

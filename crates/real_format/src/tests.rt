@@ -1,4 +1,5 @@
 use super::*;
+use gate_split::{Laid, split};
 use mct_circuit::Circuit;
 use revc_io::MemorySink;
 use std::test::Fail;
@@ -10,19 +11,14 @@ const TEXT: &[u8] = b".version 2.0\n.numvars 5\n.variables x0 x1 y0 w0 b0\n.inpu
 #[test]
 fn a_circuit_is_written(rt: HostRuntime) -> Result<(), Fail> {
     let alloc = rt.alloc();
-    let roles = Roles {
-        inputs: 2,
-        outputs: 1,
-        work: 1,
-        borrowed: 1,
-    };
     let mut circuit = Circuit::new(alloc, 5, 10);
     circuit.push_flip(&[0, 4], 3)?;
     circuit.push_flip(&[3], 2)?;
     circuit.push_flip(&[], 1)?;
+    let laid = Laid::new(split(alloc, &circuit, 5, 10)?, 2, 1, 1, 1);
     for (room, written) in [(1000, true), (100, false)] {
         let mut sink = MemorySink::new(alloc, room, Vec::new(alloc), 7)?;
-        assert_eq!(rt; write(&circuit, roles, &mut sink).is_ok(), written);
+        assert_eq!(rt; write(&laid, &mut sink).is_ok(), written);
         let held = &TEXT[..TEXT.len().min(room)];
         assert_eq!(rt; sink.bytes(), held);
     }

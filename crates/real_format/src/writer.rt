@@ -5,29 +5,29 @@ ghost use Rattle.std.specs.Fmt.{decimal};
 ghost use Rattle.mct_circuit.specs.Gates.{AreNarrow, IsNarrow, lines_of};
 ghost use Rattle.revc_io.specs.Faults.{HasCause};
 ghost use Rattle.revc_io.specs.Passing.{Gathers, Writes};
-ghost use Rattle.real_format.specs.Compiled.{lines_in, name_of_line, names_of, line_text, gate_words, compiled_text, MeansCompiled};
+ghost use Rattle.real_format.specs.Compiled.{lines_in, name_of_line, names_of, line_text, gate_words, compiled_text, roles_of, MeansCompiled};
 ghost use Rattle.real_format.specs.Parts.{size_text, names_text, constants_text, garbage_text, header_text, flip_text};
 
-use crate::Roles;
+use crate::roles::Roles;
+use gate_split::Laid;
 use mct_circuit::{Circuit, Control, Gate, Op};
 use revc_io::{Buffer, Failed, Sink, put_decimal};
 
-/// Writes the file of a compiled circuit, whose lines have these roles. Where it fails, the sink took a
-/// front of the text. It takes no memory. The format is that of RevLib (Wille, Grosse, Teuber, Dueck,
+/// Writes the file of a compiled circuit, whose lines have the roles that the plan gives them. Where it fails, the
+/// sink took a front of the text. It takes no memory. The format is that of RevLib (Wille, Grosse, Teuber, Dueck,
 /// Drechsler: RevLib, an online resource for reversible functions and reversible circuits, ISMVL 2008).
-pub fn write<K: Sink>(circuit: &Circuit, roles: Roles, out: &mut K) -> Result<(), Failed>
-    requires fits { lines_in roles ≡ circuit.now.lines }
-    requires some { 1 ≤ circuit.now.lines }
-    requires few { circuit.now.lines ≤ 16384 }
-    requires few_gates { length circuit.now.gates ≤ 4000000 }
-    requires narrow { AreNarrow circuit.now.gates }
-    ensures bytes { Writes result (K.held out.old) (K.held out.new) (compiled_text roles circuit.now.gates) }
-    ensures meaning { MeansCompiled (compiled_text roles circuit.now.gates) roles circuit.now.gates }
+pub fn write<K: Sink>(laid: &Laid, out: &mut K) -> Result<(), Failed>
+    requires some { 1 ≤ laid.now.circuit.lines }
+    requires few { laid.now.circuit.lines ≤ 16384 }
+    requires few_gates { length laid.now.circuit.gates ≤ 4000000 }
+    ensures bytes { Writes result (K.held out.old) (K.held out.new) (compiled_text (roles_of laid.now) laid.now.circuit.gates) }
+    ensures meaning { MeansCompiled (compiled_text (roles_of laid.now) laid.now.circuit.gates) (roles_of laid.now) laid.now.circuit.gates }
     ensures cause { HasCause (K.faults out.old) (K.faults out.new) result }
 {
+    let circuit = laid.circuit();
     // This call says that the gates are on the circuit's lines.
     let _ = circuit.lines();
-    write_text(circuit, roles, out)
+    write_text(circuit, Roles::of(laid), out)
 }
 
 fn write_text<K: Sink>(circuit: &Circuit, roles: Roles, out: &mut K) -> Result<(), Failed>

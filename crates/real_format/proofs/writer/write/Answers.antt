@@ -1,11 +1,13 @@
 use Rattle.std.proofs.Common.{◌≡◌, sym, subst, arith}
-use Rattle.mct_circuit.specs.Gates.{AreGatesOn}
-use Rattle.real_format.specs.Compiled.{lines_in}
+use Rattle.mct_circuit.specs.Gates.{CircuitView, AreGatesOn}
+use Rattle.real_format.specs.Compiled.{lines_in, roles_of}
 use Rattle.real_format.proofs.Meaning.{compiled_has_meaning}
 use Rattle.real_format.proofs.writer.write.Goals as goal
 
 pub returns-clause-meaning : goal.returns-clause-meaning
 returns-clause-meaning g c =
-    let fits : lines_in c.args.roles ≡ c.args.circuit.now.lines = c.requires.fits in
-    let on = subst (λ n. AreGatesOn n c.args.circuit.now.gates) (sym fits) c.lines.ensures.gates in
-    compiled_has_meaning c.args.roles c.args.circuit.now.gates (omega arith) (omega arith) c.requires.few_gates on c.requires.narrow
+    let laid = c.args.laid.now in
+    let fits : lines_in (roles_of laid) ≡ laid.circuit.lines = c.circuit-circuit.ensures.lines in
+    let placed : AreGatesOn laid.circuit.lines laid.circuit.gates = subst (λ (v : CircuitView). AreGatesOn v.lines v.gates) c.circuit-circuit.ensures.circuit c.lines.ensures.gates in
+    let on : AreGatesOn (lines_in (roles_of laid)) laid.circuit.gates = subst (λ n. AreGatesOn n laid.circuit.gates) (sym fits) placed in
+    compiled_has_meaning (roles_of laid) laid.circuit.gates (omega arith) (omega arith) c.requires.few_gates on c.circuit-circuit.ensures.narrow
