@@ -1,7 +1,7 @@
--- Budgets and plans as contracts see them, and what a split costs.
-use Rattle.std.specs.Prelude.{◌≡◌, ℕ, ◌-◌, ◌*◌, ◌<◌, ◌≤◌, ◌==◌, if◌then◌else◌, Some, List, [], ◌∷◌, ◌++◌, length}
-use Rattle.mct_circuit.specs.Gates.{GateView, CircuitView, IsGateOn, flip_of}
-use Rattle.gate_split.specs.Split.{idle_lines, split_positive}
+-- Budgets and plans as contracts see them, what a split costs, and what it leaves as it is.
+use Rattle.std.specs.Prelude.{◌≡◌, ℕ, ◌-◌, ◌*◌, ◌<◌, ◌≤◌, ◌==◌, if◌then◌else◌, Some, Ok, List, [], ◌∷◌, ◌++◌, length}
+use Rattle.mct_circuit.specs.Gates.{GateView, CircuitView, IsGateOn, AreNarrow, flip_of}
+use Rattle.gate_split.specs.Split.{idle_lines, split_positive, split_list}
 
 pub record BudgetView : Type 0 where
   pub lines : ℕ
@@ -30,3 +30,7 @@ pub record HasCost (n : ℕ) (controls : List ℕ) (target : ℕ) (gates : List 
 
 abbrev pub SplitCosts : Type 0
 SplitCosts = (n : ℕ) (controls : List ℕ) (target : ℕ) (gates : List GateView) → IsGateOn n (flip_of controls target) → 3 ≤ length controls → split_positive n controls target ≡ Some gates → HasCost n controls target gates
+
+-- narrow gates stay, where they are within the limit
+abbrev pub NarrowStay : Type 0
+NarrowStay = (n limit : ℕ) (gates : List GateView) → AreNarrow gates → length gates ≤ limit → split_list n limit gates ≡ Ok gates

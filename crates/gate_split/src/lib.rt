@@ -12,7 +12,7 @@ mod walk;
 mod wide;
 
 pub use fault::SplitFault;
-pub use law::split_costs;
+pub use law::{narrow_stay, split_costs};
 pub use plan::{Budget, Laid, PlanFault, Planned};
 pub use walk::{Narrow, split};
 

@@ -1,0 +1,5 @@
+use Rattle.gate_split.proofs.PieceSteps.{stay}
+use Rattle.gate_split.proofs.law.narrow_stay.Goals as goal
+
+pub returns : goal.returns
+returns c = stay
