@@ -87,6 +87,19 @@ narrow_is gate t o few e = record {
   is_flip = whole gate.controls gate.op (Flip t) (map positive (lines gate.controls)) o (sym (all_positive gate.controls e));
 }
 
+pub narrow_flips : (gate : GateView) (s : IsNarrow gate) → gate.op ≡ Flip s.target
+narrow_flips gate s = ap (λ g. g.op) s.is_flip
+
+pub narrow_is_short : (gate : GateView) → IsNarrow gate → length gate.controls ≤ 2
+narrow_is_short gate s = let long = ap (λ g. length g.controls) s.is_flip ∙ length-map s.controls positive in let few = s.few in omega arith
+
+positive_all : (ls : List ℕ) → list_all (λ (control : Control). control.positive) (map positive ls) ≡ true
+positive_all [] = refl
+positive_all (l ∷ ls) = positive_all ls
+
+pub narrow_is_positive : (gate : GateView) → IsNarrow gate → list_all (λ (control : Control). control.positive) gate.controls ≡ true
+narrow_is_positive gate s = ap (λ g. list_all (λ (control : Control). control.positive) g.controls) s.is_flip ∙ positive_all s.controls
+
 no_negatives : (ls : List ℕ) → flips_of_negatives (map positive ls) ≡ []
 no_negatives [] = refl
 no_negatives (l ∷ ls) = no_negatives ls

@@ -1,5 +1,5 @@
 // The walk over the gates of a circuit.
-ghost use Rattle.std.specs.Prelude.{◌≡◌, ℕ, ◌≤◌, List, [], Bool, length, Ok, Err, Some, None, IfOk, OnOk, IsErrOf, IsTrue};
+ghost use Rattle.std.specs.Prelude.{◌≡◌, ◌↔◌, ℕ, ◌≤◌, List, [], Bool, length, Ok, Err, Some, None, IfOk, OnOk, IsErrOf, IsTrue};
 ghost use Rattle.std.specs.List.{list_all};
 ghost use Rattle.gate_split.specs.declared.fault.SplitFault.TheVariants.{NoIdle, Gates};
 ghost use Rattle.mct_circuit.specs.Gates.{IsGateOn, IsNarrow, AreNarrow, line_map};
@@ -102,7 +102,7 @@ fn append_split(
 
 // Whether the gate is a flip with at most two controls, all positive.
 fn is_narrow(gate: &Gate) -> bool
-    ensures { IsTrue result → IsNarrow gate.now }
+    ensures { IsTrue result ↔ IsNarrow gate.now }
 {
     match gate.op() {
         Op::Flip(_) => gate.controls().len() <= 2 && are_positive(gate.controls()),
