@@ -4,3 +4,4 @@ pub mod Pairs
 pub mod GrowingLog
 pub mod SideBySide
 pub mod BothEnds
+pub mod FullValues

@@ -1,12 +1,12 @@
 -- The run of a program on an input, and the tape that it leaves.
-use Rattle.std.specs.Prelude.{◌≡◌, ℕ, zero, suc, ◌+◌, leb, Bool, ◌&&◌, Option, Some, None, List, [], ◌∷◌, length, map, sum}
+use Rattle.std.specs.Prelude.{◌≡◌, ℕ, zero, suc, ◌+◌, ◌≤◌, leb, IsTrue, Bool, ◌&&◌, Option, Some, None, List, [], ◌∷◌, length, map, sum}
 use Rattle.std.specs.Bool.{xor}
 use Rattle.revc_base.specs.declared.place.Place.{Place}
 use Rattle.revc_base.specs.declared.tape.Ref.TheVariants as refs
 use Rattle.revc_base.specs.Tapes.{TapeView, IsTape, bit_on}
 use Rattle.revs_terms.specs.declared.program.Param.{Param}
 use Rattle.revs_terms.specs.Programs.{width_of, widths_of, AreParams}
-use Rattle.revs_terms.specs.Terms.{place_of}
+use Rattle.revs_terms.specs.Terms.{place_of, is_formed}
 use Rattle.revs_terms.specs.Trees.{Tree}
 use Rattle.revs_terms.specs.Running.{Value, bit, register, Environment, nothing, bound, Refusal, too_many_outputs, no_output, Bits, Stamped, State, Outcome, stuck, went, after, provided, read, run_of}
 
@@ -120,3 +120,9 @@ abbrev pub LeavesTape : Type 0
 LeavesTape =
     (params : List Param) (body : Tree) (outputs : List (Stamped (Unit {0}))) (s : State (Unit {0}))
     → AreParams params → run_without_bits params body ≡ went outputs s → IsTape (tape_of params outputs s)
+
+-- A program whose run ends has an output: no register is empty.
+abbrev pub HasOutputs : Type 0
+HasOutputs =
+    (params : List Param) (body : Tree) (outputs : List (Stamped (Unit {0}))) (s : State (Unit {0}))
+    → AreParams params → IsTrue (is_formed body) → run_without_bits params body ≡ went outputs s → 1 ≤ length outputs

@@ -1,6 +1,6 @@
 // Programs, as the grammar gives them.
 ghost use Rattle.revs_terms.specs.Programs.{AreParams, IsBody, HasFewNames};
-ghost use Rattle.revs_terms.specs.Runs.{SameForAll, LeavesTape};
+ghost use Rattle.revs_terms.specs.Runs.{SameForAll, LeavesTape, HasOutputs};
 ghost use Rattle.revs_terms.specs.Trees.{tree_of};
 
 use crate::{Name, Term};
@@ -35,4 +35,9 @@ pub fn same_for_all()
 /// What a run without bits leaves is a tape: each reference is an input or an earlier write, and the limits of a tape hold.
 pub fn leaves_tape()
     ensures { LeavesTape }
+{}
+
+/// A program whose run ends has an output: no register of a run is empty.
+pub fn has_outputs()
+    ensures { HasOutputs }
 {}
