@@ -1,0 +1,17 @@
+use Rattle.revs_parser.proofs.Steps.{stops_so}
+use Rattle.std.proofs.Common.{sym, ◌∙◌}
+use Rattle.revs_parser.proofs.Readings.{names_more, names_done, names_halt}
+use Rattle.revs_parser.proofs.expression.more_names.Goals as goal
+
+pub returns-in_err-next-clause-halts : goal.returns-in_err-next-clause-halts
+returns-in_err-next-clause-halts c =
+    stops_so _ c.from_residual.result c.from_residual.ensures.1
+    (names_halt c.loop-rest.invariant.read (sym c.begins_name.ensures ∙ c.loop-rest-test.true) c.in_err-next.ensures.halts)
+
+pub loop-rest-preserved : goal.loop-rest-preserved
+loop-rest-preserved c = record {
+  read = names_more c.loop-rest.invariant.read (sym c.begins_name.ensures ∙ c.loop-rest-test.true) c.in_ok-next.ensures.ok c.in_ok-push.ensures.items;
+}
+
+pub returns-clause-ok : goal.returns-clause-ok
+returns-clause-ok c = names_done c.loop-rest.invariant.read (sym c.begins_name.ensures ∙ c.loop-rest-test.false)

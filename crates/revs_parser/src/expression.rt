@@ -1,0 +1,386 @@
+// Expressions.
+
+ghost use Rattle.std.specs.Prelude.{◌≡◌, ◌+◌, ◌<◌, ◌≤◌, true, false, length, [], ◌∷◌, IfOk, IfErr};
+ghost use Rattle.revs_grammar.specs.Grammar as g;
+ghost use Rattle.revs_grammar.specs.Grammar.{few_levels};
+ghost use Rattle.revs_grammar.specs.Machine.{form, part_end, body};
+ghost use Rattle.revs_grammar.specs.Sentences as s;
+ghost use Rattle.revs_lexer.specs.declared.sign.Sign.TheVariants as signs;
+ghost use Rattle.revs_parser.specs.Reading.{Reads, Skips, Halts, base_first, name_first};
+ghost use Rattle.revs_parser.specs.Forms.{ReadsNames, ReadsPart, ReadsFunction, ReadsRegister, ReadsBlock, ReadsPiece, ReadsBinding};
+ghost use Rattle.revs_parser.specs.declared.stop.Stop.{Stop};
+ghost use Rattle.revs_terms.specs.Trees.{tree_of, item_tree_of};
+
+use crate::leaf::{after, after_word, expect, name, number};
+use crate::stop::Stop;
+use revc_base::Place;
+use revs_lexer::{Sign, Tok, Token, Word};
+use revs_terms::{Item, Lambda, Name, Part, Term};
+use std::alloc::Global;
+
+/// The most levels that a sentence opens.
+const MOST_LEVELS: u32 = 100;
+
+// Whether a name stands first.
+fn begins_name(tokens: &[Token]) -> bool
+    ensures { result ≡ name_first tokens.now }
+{
+    match tokens.split_first() {
+        Some((first, _)) => matches!(first.tok, Tok::Name(_)),
+        None => false,
+    }
+}
+
+// { name } behind the names so far.
+fn more_names(mut names: Vec<Name>, tokens: &[Token]) -> Result<(Vec<Name>, &[Token]), Stop>
+    ensures ok { IfOk result (λ read. ReadsNames names.items read.0.items tokens.now read.1.now) }
+    ensures halts { IfErr result (λ stop. Halts (form g.names ∷ []) tokens.now stop) }
+{
+    let mut rest = tokens;
+    while begins_name(rest) {
+        let (next, behind) = name(rest)?;
+        names.push(next)?;
+        rest = behind;
+    }
+    Ok((names, rest))
+}
+
+// A part behind its dot, which has this place.
+fn part(tokens: &[Token], at: Place) -> Result<(Part, &[Token]), Stop>
+    ensures ok { IfOk result (λ read. ReadsPart at read.0 tokens.now read.1.now) }
+    ensures halts { IfErr result (λ stop. Halts (form (g.sign signs.OpenSquare) ∷ form g.number ∷ part_end ∷ []) tokens.now stop) }
+{
+    let rest = expect(tokens, Sign::OpenSquare)?;
+    let (i, rest) = number(rest)?;
+    let Some((_, behind)) = after(rest, Sign::DotDot) else {
+        let rest = expect(rest, Sign::CloseSquare)?;
+        return Ok((Part::Index { i, at }, rest));
+    };
+    let (j, rest) = number(behind)?;
+    let rest = expect(rest, Sign::CloseSquare)?;
+    Ok((Part::Slice { i, j, at }, rest))
+}
+
+// { part }
+fn all_parts(alloc: Global, tokens: &[Token]) -> Result<(Vec<Part>, &[Token]), Stop>
+    ensures ok { IfOk result (λ read. Skips (form g.parts ∷ []) (s.all_parts read.0.items ∷ []) tokens.now read.1.now) }
+    ensures halts { IfErr result (λ stop. Halts (form g.parts ∷ []) tokens.now stop) }
+{
+    let mut parts = Vec::new(alloc);
+    let mut rest = tokens;
+    while let Some((at, behind)) = after(rest, Sign::Dot) {
+        let (next, left) = part(behind, at)?;
+        parts.push(next)?;
+        rest = left;
+    }
+    Ok((parts, rest))
+}
+
+// The level inside, where it is at most 100; the tokens begin with the one that opens it.
+fn open(level: u32, tokens: &[Token]) -> Result<u32, Stop>
+    requires { level ≤ 100 }
+    ensures inner { IfOk result (λ inner. inner ≡ level + 1) }
+    ensures within { IfOk result (λ inner. few_levels (level + 1) ≡ true) }
+    ensures stops { IfErr result (λ stop. stop ≡ Stop.Nesting (length tokens.now)) }
+    ensures deep { IfErr result (λ stop. few_levels (level + 1) ≡ false) }
+{
+    if level < MOST_LEVELS {
+        Ok(level + 1)
+    } else {
+        Err(Stop::Nesting(tokens.len()))
+    }
+}
+
+/// The expression at this level that stands first, and the tokens behind it.
+#[cycle(read)]
+pub fn expression(alloc: Global, tokens: &[Token], level: u32) -> Result<(Term, &[Token]), Stop>
+    requires { level ≤ 100 }
+    ensures ok { IfOk result (λ read. Reads (form (g.expression level) ∷ []) (s.expression level (tree_of read.0) ∷ []) tokens.now read.1.now) }
+    ensures halts { IfErr result (λ stop. Halts (form (g.expression level) ∷ []) tokens.now stop) }
+{
+    if let Some((at, behind)) = after_word(tokens, Word::Fun) {
+        let inner = open(level, tokens)?;
+        return function(alloc, behind, inner, at);
+    }
+    let (left, rest) = sum(alloc, tokens, level)?;
+    let Some((_, behind)) = after(rest, Sign::Assign) else {
+        return Ok((left, rest));
+    };
+    let (right, rest) = sum(alloc, behind, level)?;
+    let term = Term::Assign(Box::new(alloc, left)?, Box::new(alloc, right)?);
+    Ok((term, rest))
+}
+
+// The names and the body of a function behind its `fun`, at the level of the body.
+#[cycle(read)]
+fn function(
+    alloc: Global,
+    tokens: &[Token],
+    level: u32,
+    at: Place,
+) -> Result<(Term, &[Token]), Stop>
+    requires { level ≤ 100 }
+    ensures ok { IfOk result (λ read. ReadsFunction level at (tree_of read.0) tokens.now read.1.now) }
+    ensures halts { IfErr result (λ stop. Halts (form g.name ∷ form g.names ∷ form (g.sign signs.Arrow) ∷ form (g.expression level) ∷ []) tokens.now stop) }
+{
+    let (first, rest) = name(tokens)?;
+    let mut names = Vec::new(alloc);
+    names.push(first)?;
+    let (names, rest) = more_names(names, rest)?;
+    let rest = expect(rest, Sign::Arrow)?;
+    let (body, rest) = expression(alloc, rest, level)?;
+    let function = Box::new(alloc, Lambda { names, body })?;
+    Ok((Term::Fun(function, at), rest))
+}
+
+#[cycle(read)]
+fn sum(alloc: Global, tokens: &[Token], level: u32) -> Result<(Term, &[Token]), Stop>
+    requires { level ≤ 100 }
+    ensures ok { IfOk result (λ read. Reads (form (g.sum level) ∷ []) (s.sum level (tree_of read.0) ∷ []) tokens.now read.1.now) }
+    ensures halts { IfErr result (λ stop. Halts (form (g.sum level) ∷ []) tokens.now stop) }
+{
+    let (first, rest) = product(alloc, tokens, level)?;
+    let Some((_, mut behind)) = after(rest, Sign::Xor) else {
+        return Ok((first, rest));
+    };
+    let mut terms = Vec::new(alloc);
+    terms.push(first)?;
+    'products: loop {
+        let (next, rest) = product(alloc, behind, level)?;
+        terms.push(next)?;
+        let Some((_, more)) = after(rest, Sign::Xor) else {
+            return Ok((Term::Xor(terms), rest));
+        };
+        behind = more;
+    }
+}
+
+#[cycle(read)]
+fn product(alloc: Global, tokens: &[Token], level: u32) -> Result<(Term, &[Token]), Stop>
+    requires { level ≤ 100 }
+    ensures ok { IfOk result (λ read. Reads (form (g.product level) ∷ []) (s.product level (tree_of read.0) ∷ []) tokens.now read.1.now) }
+    ensures halts { IfErr result (λ stop. Halts (form (g.product level) ∷ []) tokens.now stop) }
+{
+    let (first, rest) = application(alloc, tokens, level)?;
+    let Some((_, mut behind)) = after(rest, Sign::And) else {
+        return Ok((first, rest));
+    };
+    let mut terms = Vec::new(alloc);
+    terms.push(first)?;
+    'applications: loop {
+        let (next, rest) = application(alloc, behind, level)?;
+        terms.push(next)?;
+        let Some((_, more)) = after(rest, Sign::And) else {
+            return Ok((Term::And(terms), rest));
+        };
+        behind = more;
+    }
+}
+
+#[cycle(read)]
+fn application(alloc: Global, tokens: &[Token], level: u32) -> Result<(Term, &[Token]), Stop>
+    requires { level ≤ 100 }
+    ensures ok { IfOk result (λ read. Reads (form (g.application level) ∷ []) (s.application level (tree_of read.0) ∷ []) tokens.now read.1.now) }
+    ensures halts { IfErr result (λ stop. Halts (form (g.application level) ∷ []) tokens.now stop) }
+{
+    if let Some((at, behind)) = after_word(tokens, Word::Clean) {
+        let (operand, rest) = atom(alloc, behind, level)?;
+        return Ok((Term::Clean(Box::new(alloc, operand)?, at), rest));
+    }
+    if let Some((at, behind)) = after_word(tokens, Word::Assert) {
+        let (operand, rest) = atom(alloc, behind, level)?;
+        return Ok((Term::Assert(Box::new(alloc, operand)?, at), rest));
+    }
+    if let Some((at, behind)) = after_word(tokens, Word::Append) {
+        let (first, rest) = atom(alloc, behind, level)?;
+        let (second, rest) = atom(alloc, rest, level)?;
+        let term = Term::Append(Box::new(alloc, first)?, Box::new(alloc, second)?, at);
+        return Ok((term, rest));
+    }
+    if let Some((at, behind)) = after_word(tokens, Word::Rotate) {
+        let (by, rest) = number(behind)?;
+        let (operand, rest) = atom(alloc, rest, level)?;
+        return Ok((Term::Rotate(by, Box::new(alloc, operand)?, at), rest));
+    }
+    atoms(alloc, tokens, level)
+}
+
+// Whether the first token begins a base.
+fn begins_base(tokens: &[Token]) -> bool
+    ensures { result ≡ base_first tokens.now }
+{
+    let Some((first, _)) = tokens.split_first() else {
+        return false;
+    };
+    match &first.tok {
+        Tok::Name(_) => true,
+        Tok::Word(word) => matches!(word, Word::True | Word::False | Word::Reg),
+        Tok::Sign(sign) => matches!(sign, Sign::OpenRound | Sign::OpenCurly),
+        _ => false,
+    }
+}
+
+// An atom, and its arguments.
+#[cycle(read)]
+fn atoms(alloc: Global, tokens: &[Token], level: u32) -> Result<(Term, &[Token]), Stop>
+    requires { level ≤ 100 }
+    ensures ok { IfOk result (λ read. Reads (form (g.atom level) ∷ form (g.atoms level) ∷ []) (s.application level (tree_of read.0) ∷ []) tokens.now read.1.now) }
+    ensures halts { IfErr result (λ stop. Halts (form (g.atom level) ∷ form (g.atoms level) ∷ []) tokens.now stop) }
+{
+    let (head, mut rest) = atom(alloc, tokens, level)?;
+    if !begins_base(rest) {
+        return Ok((head, rest));
+    }
+    let head = Box::new(alloc, head)?;
+    let mut arguments = Vec::new(alloc);
+    'arguments: loop {
+        let (next, left) = atom(alloc, rest, level)?;
+        arguments.push(next)?;
+        rest = left;
+        if !begins_base(rest) {
+            return Ok((Term::Apply(head, arguments), rest));
+        }
+    }
+}
+
+#[cycle(read)]
+fn atom(alloc: Global, tokens: &[Token], level: u32) -> Result<(Term, &[Token]), Stop>
+    requires { level ≤ 100 }
+    ensures ok { IfOk result (λ read. Reads (form (g.atom level) ∷ []) (s.atom level (tree_of read.0) ∷ []) tokens.now read.1.now) }
+    ensures halts { IfErr result (λ stop. Halts (form (g.atom level) ∷ []) tokens.now stop) }
+{
+    let (inner, rest) = base(alloc, tokens, level)?;
+    let (parts, rest) = all_parts(alloc, rest)?;
+    if parts.is_empty() {
+        return Ok((inner, rest));
+    }
+    Ok((Term::At(Box::new(alloc, inner)?, parts), rest))
+}
+
+#[cycle(read)]
+fn base(alloc: Global, tokens: &[Token], level: u32) -> Result<(Term, &[Token]), Stop>
+    requires { level ≤ 100 }
+    ensures ok { IfOk result (λ read. Reads (form (g.base level) ∷ []) (s.base level (tree_of read.0) ∷ []) tokens.now read.1.now) }
+    ensures halts { IfErr result (λ stop. Halts (form (g.base level) ∷ []) tokens.now stop) }
+{
+    if let Some((at, behind)) = after_word(tokens, Word::True) {
+        return Ok((Term::Bool(true, at), behind));
+    }
+    if let Some((at, behind)) = after_word(tokens, Word::False) {
+        return Ok((Term::Bool(false, at), behind));
+    }
+    if let Some((at, behind)) = after_word(tokens, Word::Reg) {
+        let inner = open(level, tokens)?;
+        return register(alloc, behind, inner, at);
+    }
+    if let Some((_, behind)) = after(tokens, Sign::OpenRound) {
+        let inner = open(level, tokens)?;
+        let (term, rest) = expression(alloc, behind, inner)?;
+        let rest = expect(rest, Sign::CloseRound)?;
+        return Ok((term, rest));
+    }
+    if let Some((at, behind)) = after(tokens, Sign::OpenCurly) {
+        let inner = open(level, tokens)?;
+        return block(alloc, behind, inner, at);
+    }
+    let (used, rest) = name(tokens)?;
+    Ok((Term::Name(used), rest))
+}
+
+// The elements of a register behind its `reg`.
+#[cycle(read)]
+fn register(
+    alloc: Global,
+    tokens: &[Token],
+    level: u32,
+    at: Place,
+) -> Result<(Term, &[Token]), Stop>
+    requires { level ≤ 100 }
+    ensures ok { IfOk result (λ read. ReadsRegister level at (tree_of read.0) tokens.now read.1.now) }
+    ensures halts { IfErr result (λ stop. Halts (form (g.sign signs.OpenSquare) ∷ form (g.expression level) ∷ form (g.elements level) ∷ form (g.sign signs.CloseSquare) ∷ []) tokens.now stop) }
+{
+    let mut behind = expect(tokens, Sign::OpenSquare)?;
+    let mut elements = Vec::new(alloc);
+    'elements: loop {
+        let (next, rest) = expression(alloc, behind, level)?;
+        elements.push(next)?;
+        let Some((_, more)) = after(rest, Sign::Semi) else {
+            let rest = expect(rest, Sign::CloseSquare)?;
+            return Ok((Term::Reg(elements, at), rest));
+        };
+        behind = more;
+    }
+}
+
+// An item of a block, or its last expression.
+enum Piece {
+    Item(Item),
+    Last(Term),
+}
+
+// The items and the last expression of a block behind its `{`.
+#[cycle(read)]
+fn block(alloc: Global, tokens: &[Token], level: u32, at: Place) -> Result<(Term, &[Token]), Stop>
+    requires { level ≤ 100 }
+    ensures ok { IfOk result (λ read. ReadsBlock level at (tree_of read.0) tokens.now read.1.now) }
+    ensures halts { IfErr result (λ stop. Halts (body level ∷ []) tokens.now stop) }
+{
+    let mut items = Vec::new(alloc);
+    let mut rest = tokens;
+    'items: loop {
+        let (next, left) = item_or_last(alloc, rest, level)?;
+        rest = left;
+        match next {
+            Piece::Item(item) => items.push(item)?,
+            Piece::Last(last) => {
+                return Ok((Term::Block(items, Box::new(alloc, last)?, at), rest));
+            }
+        }
+    }
+}
+
+#[cycle(read)]
+fn item_or_last(alloc: Global, tokens: &[Token], level: u32) -> Result<(Piece, &[Token]), Stop>
+    requires { level ≤ 100 }
+    ensures ok { IfOk result (λ read. ReadsPiece level read.0 tokens.now read.1.now) }
+    ensures halts { IfErr result (λ stop. Halts (body level ∷ []) tokens.now stop) }
+{
+    if let Some((_, behind)) = after_word(tokens, Word::Let) {
+        let (item, rest) = binding(alloc, behind, level)?;
+        return Ok((Piece::Item(item), rest));
+    }
+    let (term, rest) = expression(alloc, tokens, level)?;
+    if let Some((_, behind)) = after(rest, Sign::Semi) {
+        return Ok((Piece::Item(Item::Do(term)), behind));
+    }
+    let rest = expect(rest, Sign::CloseCurly)?;
+    Ok((Piece::Last(term), rest))
+}
+
+// What a `let` binds, behind the word.
+#[cycle(read)]
+fn binding(alloc: Global, tokens: &[Token], level: u32) -> Result<(Item, &[Token]), Stop>
+    requires { level ≤ 100 }
+    ensures ok { IfOk result (λ read. ReadsBinding level (item_tree_of read.0) tokens.now read.1.now) }
+    ensures halts { IfErr result (λ stop. Halts (form g.name ∷ form g.names ∷ form (g.sign signs.Equal) ∷ form (g.expression level) ∷ form (g.sign signs.Semi) ∷ []) tokens.now stop) }
+{
+    let (bound, rest) = name(tokens)?;
+    let (names, rest) = more_names(Vec::new(alloc), rest)?;
+    let rest = expect(rest, Sign::Equal)?;
+    let (body, rest) = expression(alloc, rest, level)?;
+    let rest = expect(rest, Sign::Semi)?;
+    let value = bound_value(alloc, names, body)?;
+    Ok((Item::Let { name: bound, value }, rest))
+}
+
+// The value that a `let` binds: the body, or with names the function of these names, which stands at the first of them.
+fn bound_value(alloc: Global, names: Vec<Name>, body: Term) -> Result<Term, Stop>
+    ensures ok { IfOk result (λ value. tree_of value ≡ s.bound_of names.items (tree_of body)) }
+    ensures memory { IfErr result (λ stop. stop ≡ Stop.Memory) }
+{
+    let Some(first) = names.first() else {
+        return Ok(body);
+    };
+    let at = first.at;
+    Ok(Term::Fun(Box::new(alloc, Lambda { names, body })?, at))
+}

@@ -1,0 +1,110 @@
+// Single tokens.
+
+ghost use Rattle.std.specs.Prelude.{[], ◌∷◌, IfOk, IfErr, IfSome, IfNone};
+ghost use Rattle.revs_parser.specs.Reading.{Heads, NotFirst, Reads, Halts};
+ghost use Rattle.revs_grammar.specs.Machine.{form};
+ghost use Rattle.revs_grammar.specs.Grammar as g;
+ghost use Rattle.revs_grammar.specs.Sentences as s;
+ghost use Rattle.revs_lexer.specs.declared.token.Tok.TheVariants as toks;
+
+use crate::stop::Stop;
+use revc_base::Place;
+use revs_lexer::{Sign, Tok, Token, Word};
+use revs_terms::Name;
+
+/// The place of a sign and the tokens behind it, where it stands first.
+pub fn after(tokens: &[Token], sign: Sign) -> Option<(Place, &[Token])>
+    ensures found { IfSome result (λ found. Heads (toks.Sign sign) found.0 tokens.now found.1.now) }
+    ensures none { IfNone result (NotFirst (toks.Sign sign) tokens.now) }
+{
+    match tokens.split_first() {
+        Some(
+            (
+                Token {
+                    tok: Tok::Sign(first),
+                    at,
+                },
+                rest,
+            ),
+        ) => { if *first == sign { Some((*at, rest)) } else { None } }
+        _ => None,
+    }
+}
+
+/// The place of a word and the tokens behind it, where it stands first.
+pub fn after_word(tokens: &[Token], word: Word) -> Option<(Place, &[Token])>
+    ensures found { IfSome result (λ found. Heads (toks.Word word) found.0 tokens.now found.1.now) }
+    ensures none { IfNone result (NotFirst (toks.Word word) tokens.now) }
+{
+    match tokens.split_first() {
+        Some(
+            (
+                Token {
+                    tok: Tok::Word(first),
+                    at,
+                },
+                rest,
+            ),
+        ) => {
+            if *first == word {
+                Some((*at, rest))
+            } else {
+                None
+            }
+        }
+        _ => None,
+    }
+}
+
+/// The tokens behind a sign, which has to stand first.
+pub fn expect(tokens: &[Token], sign: Sign) -> Result<&[Token], Stop>
+    ensures ok { IfOk result (λ rest. Reads (form (g.sign sign) ∷ []) (s.sign sign ∷ []) tokens.now rest.now) }
+    ensures halts { IfErr result (λ stop. Halts (form (g.sign sign) ∷ []) tokens.now stop) }
+{
+    match after(tokens, sign) {
+        Some((_, rest)) => Ok(rest),
+        None => Err(Stop::Syntax(tokens.len())),
+    }
+}
+
+/// The name that stands first, and the tokens behind it.
+pub fn name(tokens: &[Token]) -> Result<(Name, &[Token]), Stop>
+    ensures ok { IfOk result (λ read. Reads (form g.name ∷ []) (s.name read.0 ∷ []) tokens.now read.1.now) }
+    ensures halts { IfErr result (λ stop. Halts (form g.name ∷ []) tokens.now stop) }
+{
+    match tokens.split_first() {
+        Some(
+            (
+                Token {
+                    tok: Tok::Name(text),
+                    at,
+                },
+                rest,
+            ),
+        ) => {
+            let at = *at;
+            let text = text.copy()?;
+            Ok((Name { text, at, back: 0 }, rest))
+        }
+        _ => Err(Stop::Syntax(tokens.len())),
+    }
+}
+
+/// The number that stands first, and the tokens behind it.
+pub fn number(tokens: &[Token]) -> Result<(u32, &[Token]), Stop>
+    ensures ok { IfOk result (λ read. Reads (form g.number ∷ []) (s.number read.0 ∷ []) tokens.now read.1.now) }
+    ensures halts { IfErr result (λ stop. Halts (form g.number ∷ []) tokens.now stop) }
+{
+    match tokens.split_first() {
+        Some(
+            (
+                Token {
+                    tok: Tok::Number(n),
+                    ..
+                },
+                rest,
+            ),
+        ) => Ok((*n, rest)),
+        _ => Err(Stop::Syntax(tokens.len())),
+    }
+}
