@@ -7,8 +7,8 @@ use Rattle.revs_lexer.specs.declared.word.Word.TheVariants as words
 use Rattle.revs_lexer.specs.declared.token.Tok.{Tok}
 use Rattle.revs_lexer.specs.declared.token.Tok.TheVariants as toks
 use Rattle.revs_lexer.specs.declared.token.Token.{Token}
-use Rattle.revs_grammar.specs.Grammar.{few_levels}
-use Rattle.revs_grammar.specs.Grammar as g
+use Rattle.revs_grammar.specs.Sentences.{few_levels}
+use Rattle.revs_grammar.specs.Forms as g
 use Rattle.revs_grammar.specs.Machine.{Expected, form, parameter_end, part_end, body, body_end, Stack, no_syntax, too_deep, outcome, same_sign}
 use Rattle.revs_grammar.specs.Sentences.{Phrase, Spells, name_of, bound_of, parts_of}
 use Rattle.revs_grammar.specs.Sentences as s
@@ -20,10 +20,10 @@ use Rattle.revs_terms.specs.declared.term.Item.{Item}
 use Rattle.revs_terms.specs.declared.term.Term.{Term}
 use Rattle.revs_parser.specs.declared.stop.Stop.{Stop}
 use Rattle.revs_parser.specs.declared.stop.Stop.TheVariants as stops
-use Rattle.revs_parser.specs.Reading.{GoesOn, Spelled, Reads, Skips, IsHalt, Halts, Heads, NotFirst, begins_base, base_first, is_name, name_first}
+use Rattle.revs_parser.specs.Reading.{GoesOn, InFront, Spelled, Reads, Skips, IsHalt, Halts, Heads, NotFirst, begins_base, base_first, is_name, name_first}
 use Rattle.revs_parser.specs.Forms.{ReadsNames, ReadsPart, ReadsFunction, ReadsRegister, ReadsBlock, ReadsItem, ReadsBinding}
 use Rattle.revs_parser.proofs.Steps as m
-use Rattle.revs_parser.proofs.Steps.{and_then, and_maybe, as_form, with_first, one_token, no_memory, halts_first, halts_there, halts_behind, headed}
+use Rattle.revs_parser.proofs.Steps.{and_then, and_maybe, as_form, with_first, one_token, no_memory, halts_first, halts_there, halts_behind, headed, here, token_first, joined, mapped, fed, after_token, before_token}
 
 append_nil : {A : Type 0} (xs : List A) → xs ++ [] ≡ xs
 append_nil [] = refl
@@ -73,7 +73,7 @@ pub expression_sum : (l : ℕ) {left : Tree} {ts rest : List Token} → NotFirst
     → NotFirst (toks.Sign signs.Assign) rest → Reads (form (g.expression l) ∷ []) (s.expression l left ∷ []) ts rest
 expression_sum l {left} {ts} {rest} h r k =
     as_form (form (g.expression l)) (s.expression l left) (m.as_expression l ts h) (λ behind us d. s.an_expression d)
-    (and_maybe r (m.left_out (form (g.assigned l)) (s.assigned l left left) (m.no_assigned l rest k) (λ behind us d. s.not_assigned d)))
+    (and_maybe r (m.left_out (form (g.assigned l)) (s.assigned l None) (m.no_assigned l rest k) (λ behind us d. s.not_assigned d)))
 
 pub expression_in_assigned : (l : ℕ) {left : Tree} {at : Place} {ts mid behind : List Token} {stop : Stop} → NotFirst (toks.Word words.Fun) ts
     → Reads (form (g.sum l) ∷ []) (s.sum l left ∷ []) ts mid → Heads (toks.Sign signs.Assign) at mid behind → Halts (form (g.sum l) ∷ []) behind stop → Halts (form (g.expression l) ∷ []) ts stop
@@ -87,26 +87,28 @@ pub expression_assign : (l : ℕ) {left right whole : Tree} {at : Place} {ts mid
 expression_assign l {left} {right} {whole} {at} {ts} {mid} {behind} {rest} h r k q w =
     subst (λ (z : Tree). Reads (form (g.expression l) ∷ []) (s.expression l z ∷ []) ts rest) (sym w)
     (as_form (form (g.expression l)) (s.expression l (assign left right)) (m.as_expression l ts h) (λ bs us d. s.an_expression d)
-    (and_then r (with_first (form (g.assigned l)) (s.assigned l left (assign left right)) k (m.more_assigned l k) (λ bs us d. s.is_assigned d) q)))
+    (and_then r (with_first (form (g.assigned l)) (s.assigned l (Some right)) k (m.more_assigned l k) (λ bs us d. s.is_assigned d) q)))
 
 -- ---- a form and what repeats behind it
 
 -- { name } and { part }: what was read so far stands in front of what more comes.
 pub record Repeats {A : Type 0} (e : Expected) (all : List A → Phrase) (read : List A) (ts rest : List Token) : Type 0 where
   pub goes_on : GoesOn (e ∷ []) (e ∷ []) ts rest
-  pub spells : (more : List A) (behind : List Phrase) → Spells few_levels (all more ∷ behind) rest → Spells few_levels (all (read ++ more) ∷ behind) ts
+  pub spells : (more : List A) (behind : List Phrase) → InFront (Spells few_levels (all more ∷ behind)) (Spells few_levels (all (read ++ more) ∷ behind)) ts rest
   pub no_longer : length rest ≤ length ts
 
 pub repeats_begun : {A : Type 0} (e : Expected) (all : List A → Phrase) (ts : List Token) → Repeats e all [] ts ts
-repeats_begun e all ts = record { goes_on = record { same = λ ms. refl }; spells = λ more behind d. d; no_longer = omega arith }
+repeats_begun e all ts = record { goes_on = record { same = λ ms. refl }; spells = λ more behind. here (λ us d. d); no_longer = omega arith }
 
 -- One element more was read.
 pub repeats_more : {A : Type 0} {e : Expected} {all : List A → Phrase} {read : List A} {ts mid rest : List Token} (next : A) → Repeats e all read ts mid
-    → GoesOn (e ∷ []) (e ∷ []) mid rest → ((more : List A) (behind : List Phrase) → Spells few_levels (all more ∷ behind) rest → Spells few_levels (all (next ∷ more) ∷ behind) mid)
+    → GoesOn (e ∷ []) (e ∷ []) mid rest → ((more : List A) (behind : List Phrase) → InFront (Spells few_levels (all more ∷ behind)) (Spells few_levels (all (next ∷ more) ∷ behind)) mid rest)
     → length rest ≤ length mid → Repeats e all (read ++ next ∷ []) ts rest
 repeats_more {A} {e} {all} {read} {ts} {mid} {rest} next r g d n = record {
   goes_on = record { same = λ ms. r.goes_on.same ms ∙ g.same ms };
-  spells = λ more behind s. subst (λ (z : List A). Spells few_levels (all z ∷ behind) ts) (sym (append_assoc read (next ∷ []) more)) (r.spells (next ∷ more) behind (d more behind s));
+  spells = λ more behind.
+      subst (λ (z : List A). InFront (Spells few_levels (all more ∷ behind)) (Spells few_levels (all z ∷ behind)) ts rest) (sym (append_assoc read (next ∷ []) more))
+      (joined (d more behind) (r.spells (next ∷ more) behind));
   no_longer = let k = r.no_longer in omega (arith, k, n)
 }
 
@@ -116,7 +118,9 @@ pub repeats_done : {A : Type 0} {e : Expected} {all : List A → Phrase} {read :
     → Skips (e ∷ []) (all read ∷ []) ts rest
 repeats_done {A} {e} {all} {read} {ts} {rest} r m d = record {
   goes_on = record { same = λ ms. r.goes_on.same ms ∙ m ms };
-  spelled = record { spells = λ behind s. subst (λ (z : List A). Spells few_levels (all z ∷ behind) ts) (append_nil read) (r.spells [] behind (d behind rest s)) };
+  spelled = record {
+    spells = λ behind. subst (λ (z : List A). InFront (Spells few_levels behind) (Spells few_levels (all z ∷ behind)) ts rest) (append_nil read) (fed (r.spells [] behind) (d behind))
+  };
   no_longer = r.no_longer
 }
 
@@ -140,7 +144,7 @@ names_more {before} {all} {new} {next} {ts} {mid} {rest} n f r e = record {
   all_names = e ∙ ap (λ (z : List Name). z ++ next ∷ []) n.all_names ∙ append_assoc before n.read (next ∷ []);
   repeats = repeats_more next n.repeats
       (record { same = λ ms. m.more_names mid f ms ∙ r.goes_on.same (form g.names ∷ ms) })
-      (λ more behind d. s.next_name (r.spelled.spells (s.names more ∷ behind) d))
+      (λ more behind. mapped (r.spelled.spells (s.names more ∷ behind)) (λ us d. s.next_name d))
       (let k = r.shorter in omega (arith, k))
 }
 
@@ -155,10 +159,8 @@ names_halt {before} {all} {ts} {mid} n f h =
 
 one_part : {at : Place} {p : Part} {ps : List Phrase} {ts rest : List Token} → Spelled ps ts rest
     → ((behind : List Phrase) (us : List Token) → Spells few_levels (ps ++ behind) us → Spells few_levels (s.part p ∷ behind) (record { tok = toks.Sign signs.Dot; at = at } ∷ us))
-    → (dotted : List Token) → dotted ≡ record { tok = toks.Sign signs.Dot; at = at } ∷ ts → Spelled (s.part p ∷ []) dotted rest
-one_part {at} {p} {ps} {ts} a d dotted e = record {
-  spells = λ behind k. subst (Spells few_levels (s.part p ∷ behind)) (sym e) (d behind ts (a.spells behind k))
-}
+    → (dotted : List Token) → Heads (toks.Sign signs.Dot) at dotted ts → Spelled (s.part p ∷ []) dotted rest
+one_part {at} {p} {ps} {ts} a d dotted h = record { spells = λ behind. after_token h (a.spells behind) (d behind) }
 
 pub part_index : (at : Place) {i : ℕ} {ts a b rest : List Token} → Reads (form (g.sign signs.OpenSquare) ∷ []) (s.sign signs.OpenSquare ∷ []) ts a
     → Reads (form g.number ∷ []) (s.number i ∷ []) a b → NotFirst (toks.Sign signs.DotDot) b → Reads (form (g.sign signs.CloseSquare) ∷ []) (s.sign signs.CloseSquare ∷ []) b rest
@@ -190,7 +192,7 @@ parts_more {items} {new} {next} {at} {ts} {mid} {behind} {rest} r h p e =
     subst (λ (z : List Part). Repeats (form g.parts) s.all_parts z ts rest) (sym e)
     (repeats_more next r
     (record { same = λ ms. m.more_parts h ms ∙ p.goes_on.same (form g.parts ∷ ms) })
-    (λ more bs d. s.next_part ((p.spelled mid h.cut).spells (s.all_parts more ∷ bs) d))
+    (λ more bs. mapped ((p.spelled mid h).spells (s.all_parts more ∷ bs)) (λ us d. s.next_part d))
     (let x = p.shorter in let y = ap length h.cut in omega (arith, x, y)))
 
 pub parts_halt : {items : List Part} {at : Place} {ts mid behind : List Token} {stop : Stop} → Repeats (form g.parts) s.all_parts items ts mid
@@ -209,8 +211,8 @@ parts_done {items} {ts} {rest} r k = repeats_done r (m.no_parts rest k) (λ behi
 pub record Chain {A : Type 0} (es : Stack) (one more : Expected) (end : Stack) (element : A → Phrase) (elements : List A → Phrase) (last : List Phrase)
     (whole : List A → List Phrase) (read : List A) (ts behind : List Token) : Type 0 where
   pub goes_on : GoesOn es (one ∷ more ∷ end) ts behind
-  pub spells : (next : A) (others : List A) (bs : List Phrase) → Spells few_levels (element next ∷ elements others ∷ (last ++ bs)) behind
-      → Spells few_levels (whole (read ++ next ∷ others) ++ bs) ts
+  pub spells : (next : A) (others : List A) (bs : List Phrase)
+      → InFront (Spells few_levels (element next ∷ elements others ∷ (last ++ bs))) (Spells few_levels (whole (read ++ next ∷ others) ++ bs)) ts behind
   pub no_longer : length behind ≤ length ts
 
 module _ {A : Type 0} {es : Stack} {one more : Expected} {end : Stack} {element : A → Phrase} {elements : List A → Phrase} {last : List Phrase}
@@ -219,14 +221,15 @@ module _ {A : Type 0} {es : Stack} {one more : Expected} {end : Stack} {element 
   pub chain_more : {next : A} {rest mid : List Token} → Chain es one more end element elements last whole read ts behind
       → Reads (one ∷ []) (element next ∷ []) behind rest
       → ((ms : Stack) → outcome rest (more ∷ ms) ≡ outcome mid (one ∷ more ∷ ms))
-      → ((following : A) (others : List A) (bs : List Phrase) → Spells few_levels (element following ∷ elements others ∷ bs) mid → Spells few_levels (elements (following ∷ others) ∷ bs) rest)
+      → ((following : A) (others : List A) (bs : List Phrase) → InFront (Spells few_levels (element following ∷ elements others ∷ bs)) (Spells few_levels (elements (following ∷ others) ∷ bs)) rest mid)
       → length mid ≤ length rest
       → Chain es one more end element elements last whole (read ++ next ∷ []) ts mid
   chain_more {next} {rest} {mid} c r g d n = record {
     goes_on = record { same = λ ms. c.goes_on.same ms ∙ r.goes_on.same (more ∷ (end ++ ms)) ∙ g (end ++ ms) };
-    spells = λ following others bs k.
-        subst (λ (z : List A). Spells few_levels (whole z ++ bs) ts) (sym (append_assoc read (next ∷ []) (following ∷ others)))
-        (c.spells next (following ∷ others) bs (r.spelled.spells (elements (following ∷ others) ∷ (last ++ bs)) (d following others (last ++ bs) k)));
+    spells = λ following others bs.
+        subst (λ (z : List A). InFront (Spells few_levels (element following ∷ elements others ∷ (last ++ bs))) (Spells few_levels (whole z ++ bs)) ts mid)
+        (sym (append_assoc read (next ∷ []) (following ∷ others)))
+        (joined (joined (d following others (last ++ bs)) (r.spelled.spells (elements (following ∷ others) ∷ (last ++ bs)))) (c.spells next (following ∷ others) bs));
     no_longer = let x = c.no_longer in let y = r.shorter in omega (arith, x, y, n)
   }
 
@@ -239,7 +242,7 @@ module _ {A : Type 0} {es : Stack} {one more : Expected} {end : Stack} {element 
       → Reads es (whole (read ++ next ∷ [])) ts final
   chain_done {next} {rest} {final} c r g d q = record {
     goes_on = record { same = λ ms. c.goes_on.same ms ∙ r.goes_on.same (more ∷ (end ++ ms)) ∙ g (end ++ ms) ∙ q.goes_on.same ms };
-    spelled = record { spells = λ bs k. c.spells next [] bs (r.spelled.spells (elements [] ∷ (last ++ bs)) (d (last ++ bs) rest (q.spelled.spells bs k))) };
+    spelled = record { spells = λ bs. joined (joined (mapped (q.spelled.spells bs) (d (last ++ bs))) (r.spelled.spells (elements [] ∷ (last ++ bs)))) (c.spells next [] bs) };
     shorter = let x = c.no_longer in let y = r.shorter in let z = q.no_longer in omega (arith, x, y, z)
   }
 
@@ -255,7 +258,7 @@ module _ {A : Type 0} {es : Stack} {one more : Expected} {end : Stack} {element 
 
 -- Nothing is left to be read.
 pub stays : (ts : List Token) → Skips [] [] ts ts
-stays ts = record { goes_on = record { same = λ ms. refl }; spelled = record { spells = λ bs d. d }; no_longer = omega arith }
+stays ts = record { goes_on = record { same = λ ms. refl }; spelled = record { spells = λ bs. here (λ us d. d) }; no_longer = omega arith }
 
 pub skips : {es : Stack} {ps : List Phrase} {ts rest : List Token} → Reads es ps ts rest → Skips es ps ts rest
 skips r = record { goes_on = r.goes_on; spelled = r.spelled; no_longer = let x = r.shorter in omega (arith, x) }
@@ -280,7 +283,7 @@ pub sum_begun : (l : ℕ) {t : Term} {items : List Term} {at : Place} {ts rest b
 sum_begun l {t} {items} {at} {ts} {rest} {behind} r h e =
     subst (λ (z : List Term). InSum l (map tree_of z) ts behind) (sym e) (record {
     goes_on = record { same = λ ms. m.as_sum l ts ms ∙ r.goes_on.same (form (g.sums l) ∷ ms) ∙ m.more_sums l h ms };
-    spells = λ next others bs d. s.a_sum (r.spelled.spells (s.sums l (next ∷ others) ∷ bs) (subst (Spells few_levels (s.sums l (next ∷ others) ∷ bs)) (sym h.cut) (s.next_product d)));
+    spells = λ next others bs. mapped (before_token (r.spelled.spells (s.sums l (next ∷ others) ∷ bs)) h (λ us d. s.next_product d)) (λ us d. s.a_sum d);
     no_longer = let x = r.shorter in let y = ap length h.cut in omega (arith, x, y)
     })
 
@@ -288,7 +291,7 @@ pub sum_more : (l : ℕ) (items : List Term) (t : Term) {new : List Term} {at : 
     → Reads (form (g.product l) ∷ []) (s.product l (tree_of t) ∷ []) behind rest → Heads (toks.Sign signs.Xor) at rest mid → new ≡ items ++ t ∷ [] → InSum l (map tree_of new) ts mid
 sum_more l items t {new} {at} {ts} {behind} {rest} {mid} c r h e =
     subst (λ (z : List Tree). InSum l z ts mid) (sym (pushed items t e))
-    (chain_more c r (m.more_sums l h) (λ following others bs d. subst (Spells few_levels (s.sums l (following ∷ others) ∷ bs)) (sym h.cut) (s.next_product d))
+    (chain_more c r (m.more_sums l h) (λ following others bs. token_first h (λ us d. s.next_product d))
     (let y = ap length h.cut in omega (arith, y)))
 
 pub sum_done : (l : ℕ) (items : List Term) (t : Term) {new : List Term} {whole : Tree} {ts behind rest : List Token} → InSum l (map tree_of items) ts behind
@@ -317,7 +320,7 @@ pub product_begun : (l : ℕ) {t : Term} {items : List Term} {at : Place} {ts re
 product_begun l {t} {items} {at} {ts} {rest} {behind} r h e =
     subst (λ (z : List Term). InProduct l (map tree_of z) ts behind) (sym e) (record {
     goes_on = record { same = λ ms. m.as_product l ts ms ∙ r.goes_on.same (form (g.products l) ∷ ms) ∙ m.more_products l h ms };
-    spells = λ next others bs d. s.a_product (r.spelled.spells (s.products l (next ∷ others) ∷ bs) (subst (Spells few_levels (s.products l (next ∷ others) ∷ bs)) (sym h.cut) (s.next_application d)));
+    spells = λ next others bs. mapped (before_token (r.spelled.spells (s.products l (next ∷ others) ∷ bs)) h (λ us d. s.next_application d)) (λ us d. s.a_product d);
     no_longer = let x = r.shorter in let y = ap length h.cut in omega (arith, x, y)
     })
 
@@ -325,7 +328,7 @@ pub product_more : (l : ℕ) (items : List Term) (t : Term) {new : List Term} {a
     → Reads (form (g.application l) ∷ []) (s.application l (tree_of t) ∷ []) behind rest → Heads (toks.Sign signs.And) at rest mid → new ≡ items ++ t ∷ [] → InProduct l (map tree_of new) ts mid
 product_more l items t {new} {at} {ts} {behind} {rest} {mid} c r h e =
     subst (λ (z : List Tree). InProduct l z ts mid) (sym (pushed items t e))
-    (chain_more c r (m.more_products l h) (λ following others bs d. subst (Spells few_levels (s.products l (following ∷ others) ∷ bs)) (sym h.cut) (s.next_application d))
+    (chain_more c r (m.more_products l h) (λ following others bs. token_first h (λ us d. s.next_application d))
     (let y = ap length h.cut in omega (arith, y)))
 
 pub product_done : (l : ℕ) (items : List Term) (t : Term) {new : List Term} {whole : Tree} {ts behind rest : List Token} → InProduct l (map tree_of items) ts behind
@@ -356,7 +359,7 @@ arguments_begun l head held {items} {ts} {rest} r h e w =
     subst (λ (z : List Term). InArguments l (tree_of held) (map tree_of z) ts rest) (sym e)
     (subst (λ (z : Term). InArguments l (tree_of z) [] ts rest) (sym w) (record {
     goes_on = record { same = λ ms. r.goes_on.same (form (g.atoms l) ∷ ms) ∙ m.more_atoms l rest h ms };
-    spells = λ next others bs d. s.an_application (r.spelled.spells (s.atoms l (next ∷ others) ∷ bs) (s.next_atom d));
+    spells = λ next others bs. mapped (fed (r.spelled.spells (s.atoms l (next ∷ others) ∷ bs)) (λ us d. s.next_atom d)) (λ us d. s.an_application d);
     no_longer = let x = r.shorter in omega (arith, x)
     }))
 
@@ -364,7 +367,7 @@ pub arguments_more : (l : ℕ) (head : Tree) (items : List Term) (t : Term) {new
     → Reads (form (g.atom l) ∷ []) (s.atom l (tree_of t) ∷ []) behind rest → base_first rest ≡ true → new ≡ items ++ t ∷ [] → InArguments l head (map tree_of new) ts rest
 arguments_more l head items t {new} {ts} {behind} {rest} c r h e =
     subst (λ (z : List Tree). InArguments l head z ts rest) (sym (pushed items t e))
-    (chain_more c r (m.more_atoms l rest h) (λ following others bs d. s.next_atom d) (omega arith))
+    (chain_more c r (m.more_atoms l rest h) (λ following others bs. here (λ us d. s.next_atom d)) (omega arith))
 
 pub arguments_done : (l : ℕ) (head : Tree) (items : List Term) (t : Term) {new : List Term} {whole : Tree} {ts behind rest : List Token} → InArguments l head (map tree_of items) ts behind
     → Reads (form (g.atom l) ∷ []) (s.atom l (tree_of t) ∷ []) behind rest → base_first rest ≡ false → new ≡ items ++ t ∷ []
@@ -379,7 +382,7 @@ pub atom_alone : (l : ℕ) {t : Tree} {ts rest : List Token} → Reads (form (g.
 atom_alone l {t} {ts} {rest} r k =
     let a : Reads (form (g.atom l) ∷ form (g.atoms l) ∷ []) (s.atom l t ∷ s.atoms l [] ∷ []) ts rest =
     and_maybe r (m.left_out (form (g.atoms l)) (s.atoms l []) (m.no_atoms l rest k) (λ bs us d. s.last_atom d)) in
-    record { goes_on = a.goes_on; spelled = record { spells = λ bs d. s.an_application (a.spelled.spells bs d) }; shorter = a.shorter }
+    record { goes_on = a.goes_on; spelled = record { spells = λ bs. mapped (a.spelled.spells bs) (λ us d. s.an_application d) }; shorter = a.shorter }
 
 -- ---- the elements of a register
 
@@ -398,7 +401,7 @@ pub register_begun : (l : ℕ) {items : List Term} {ts rest : List Token} → Re
 register_begun l {items} {ts} {rest} r e =
     subst (λ (z : List Term). InRegister l (map tree_of z) ts rest) (sym e) (record {
     goes_on = record { same = λ ms. r.goes_on.same (form (g.expression l) ∷ form (g.elements l) ∷ form (g.sign signs.CloseSquare) ∷ ms) };
-    spells = λ next others bs d. r.spelled.spells (s.expression l next ∷ s.elements l others ∷ s.sign signs.CloseSquare ∷ bs) d;
+    spells = λ next others bs. r.spelled.spells (s.expression l next ∷ s.elements l others ∷ s.sign signs.CloseSquare ∷ bs);
     no_longer = let x = r.shorter in omega (arith, x)
     })
 
@@ -406,7 +409,7 @@ pub register_more : (l : ℕ) (items : List Term) (t : Term) {new : List Term} {
     → Reads (form (g.expression l) ∷ []) (s.expression l (tree_of t) ∷ []) behind rest → Heads (toks.Sign signs.Semi) at rest mid → new ≡ items ++ t ∷ [] → InRegister l (map tree_of new) ts mid
 register_more l items t {new} {at} {ts} {behind} {rest} {mid} c r h e =
     subst (λ (z : List Tree). InRegister l z ts mid) (sym (pushed items t e))
-    (chain_more c r (m.more_elements l h) (λ following others bs d. subst (Spells few_levels (s.elements l (following ∷ others) ∷ bs)) (sym h.cut) (s.next_element d))
+    (chain_more c r (m.more_elements l h) (λ following others bs. token_first h (λ us d. s.next_element d))
     (let y = ap length h.cut in omega (arith, y)))
 
 read_register : (l : ℕ) (at : Place) (read : List Tree) (t whole : Tree) (ts rest : List Token) → whole ≡ reg (trees (read ++ t ∷ [])) at
@@ -441,7 +444,7 @@ pub block_more : (l : ℕ) (items : List Item) (item : Item) {new : List Item} {
     → ReadsItem l (item_tree_of item) mid rest → new ≡ items ++ item ∷ [] → InBlock l (map item_tree_of new) ts rest
 block_more l items item {new} {ts} {mid} {rest} b r e =
     subst (λ (z : List ItemTree). InBlock l z ts rest) (sym (ap (map item_tree_of) e ∙ map_push item_tree_of items item))
-    (record { repeats = repeats_more (item_tree_of item) b.repeats r.goes_on (λ more bs d. s.next_item (r.spelled.spells (s.items l more ∷ bs) d)) (let x = r.shorter in omega (arith, x)) })
+    (record { repeats = repeats_more (item_tree_of item) b.repeats r.goes_on (λ more bs. mapped (r.spelled.spells (s.items l more ∷ bs)) (λ us d. s.next_item d)) (let x = r.shorter in omega (arith, x)) })
 
 pub block_done : (l : ℕ) (at : Place) {read : List ItemTree} {last whole : Tree} {ts mid rest : List Token} → InBlock l read ts mid
     → Reads (body l ∷ []) (s.expression l last ∷ s.sign signs.CloseCurly ∷ []) mid rest → whole ≡ block (item_trees read) last at → ReadsBlock l at whole ts rest
@@ -452,9 +455,9 @@ block_done l at {read} {last} {whole} {ts} {mid} {rest} b r w = record {
   reads = record {
     goes_on = record { same = λ ms. b.repeats.goes_on.same ms ∙ r.goes_on.same ms };
     spelled = record {
-      spells = λ bs d.
-          subst (λ (z : List ItemTree). Spells few_levels (s.items l z ∷ s.expression l last ∷ s.sign signs.CloseCurly ∷ bs) ts) (append_nil read)
-          (b.repeats.spells [] (s.expression l last ∷ s.sign signs.CloseCurly ∷ bs) (s.last_item (r.spelled.spells bs d)))
+      spells = λ bs.
+          subst (λ (z : List ItemTree). InFront (Spells few_levels bs) (Spells few_levels (s.items l z ∷ s.expression l last ∷ s.sign signs.CloseCurly ∷ bs)) ts rest) (append_nil read)
+          (joined (mapped (r.spelled.spells bs) (λ us d. s.last_item d)) (b.repeats.spells [] (s.expression l last ∷ s.sign signs.CloseCurly ∷ bs)))
     };
     shorter = let x = b.repeats.no_longer in let y = r.shorter in omega (arith, x, y)
   }
@@ -707,7 +710,7 @@ pub item_let : (l : ℕ) {item : ItemTree} {at : Place} {ts mid rest : List Toke
 item_let l {item} {at} {ts} {mid} {rest} h r =
     subst (λ (z : ItemTree). ReadsItem l z ts rest) (sym r.is) (record {
     goes_on = record { same = λ ms. m.more_binding l h ms ∙ r.reads.goes_on.same (body l ∷ ms) };
-    spelled = record { spells = λ bs d. subst (Spells few_levels (s.item l (bind r.bound (bound_of r.more r.inner)) ∷ bs)) (sym h.cut) (s.a_let (r.reads.spelled.spells bs d)) };
+    spelled = record { spells = λ bs. after_token h (r.reads.spelled.spells bs) (λ us d. s.a_let d) };
     shorter = let x = r.reads.shorter in let y = ap length h.cut in omega (arith, x, y)
     })
 
@@ -716,7 +719,7 @@ pub item_do : (l : ℕ) {item : ItemTree} {t : Tree} {at : Place} {ts mid rest :
 item_do l {item} {t} {at} {ts} {mid} {rest} k r h w =
     subst (λ (z : ItemTree). ReadsItem l z ts rest) (sym w) (record {
     goes_on = record { same = λ ms. m.as_body l ts k ms ∙ r.goes_on.same (body_end l ∷ ms) ∙ m.more_item l h ms };
-    spelled = record { spells = λ bs d. s.a_do (r.spelled.spells (s.sign signs.Semi ∷ bs) ((a_sign h).spelled.spells bs d)) };
+    spelled = record { spells = λ bs. mapped (joined ((a_sign h).spelled.spells bs) (r.spelled.spells (s.sign signs.Semi ∷ bs))) (λ us d. s.a_do d) };
     shorter = let x = r.shorter in let y = ap length h.cut in omega (arith, x, y)
     })
 

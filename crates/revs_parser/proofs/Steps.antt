@@ -9,13 +9,13 @@ use Rattle.revs_lexer.specs.declared.word.Word.TheVariants as words
 use Rattle.revs_lexer.specs.declared.token.Tok.{Tok}
 use Rattle.revs_lexer.specs.declared.token.Tok.TheVariants as toks
 use Rattle.revs_lexer.specs.declared.token.Token.{Token}
-use Rattle.revs_grammar.specs.Grammar.{any_level, few_levels}
-use Rattle.revs_grammar.specs.Grammar as g
+use Rattle.revs_grammar.specs.Sentences.{any_level, few_levels}
+use Rattle.revs_grammar.specs.Forms as g
 use Rattle.revs_grammar.specs.Machine.{Expected, form, parameter_end, part_end, body, body_end, Stack, step, is_done, Outcome, accepted, no_syntax, too_deep, is_end, at_token, outcome, at_level, same_sign}
 use Rattle.revs_grammar.specs.Sentences.{Phrase, Spells}
 use Rattle.revs_parser.specs.declared.stop.Stop.{Stop}
 use Rattle.revs_parser.specs.declared.stop.Stop.TheVariants as stops
-use Rattle.revs_parser.specs.Reading.{GoesOn, Spelled, Reads, Skips, IsHalt, Halts, Heads, NotFirst, begins_base, base_first, is_name, name_first}
+use Rattle.revs_parser.specs.Reading.{GoesOn, InFront, Spelled, Reads, Skips, IsHalt, Halts, Heads, NotFirst, begins_base, base_first, is_name, name_first}
 
 -- ---- results that are passed on
 
@@ -31,6 +31,36 @@ on_err (Err e) f h = f e h
 pub only : {A : Type 0} (old : List A) (x : A) {items : List A} → items ≡ old ++ x ∷ [] → old ≡ [] → items ≡ x ∷ []
 only old x e h = e ∙ ap (λ z. z ++ x ∷ []) h
 
+-- ---- tokens in front of others
+
+pub here : {F G : List Token → Type 0} {ts : List Token} → ((us : List Token) → F us → G us) → InFront F G ts ts
+here f = record { front = []; cut = refl; turn = f }
+
+pub token_first : {F G : List Token → Type 0} {k : Tok} {at : Place} {ts rest : List Token} → Heads k at ts rest
+    → ((us : List Token) → F us → G (record { tok = k; at = at } ∷ us)) → InFront F G ts rest
+token_first {F} {G} {k} {at} h f = record { front = record { tok = k; at = at } ∷ []; cut = h.cut; turn = f }
+
+pub joined : {F G H : List Token → Type 0} {ts mid rest : List Token} → InFront F G mid rest → InFront G H ts mid → InFront F H ts rest
+joined {F} {G} {H} {ts} {mid} {rest} a b = record {
+  front = b.front ++ a.front;
+  cut = b.cut ∙ ap (λ (z : List Token). b.front ++ z) a.cut ∙ sym (append_assoc b.front a.front rest);
+  turn = λ us d. subst H (sym (append_assoc b.front a.front us)) (b.turn (a.front ++ us) (a.turn us d))
+}
+
+pub mapped : {F G H : List Token → Type 0} {ts rest : List Token} → InFront F G ts rest → ((us : List Token) → G us → H us) → InFront F H ts rest
+mapped a f = record { front = a.front; cut = a.cut; turn = λ us d. f (a.front ++ us) (a.turn us d) }
+
+pub fed : {F G H : List Token → Type 0} {ts rest : List Token} → InFront G H ts rest → ((us : List Token) → F us → G us) → InFront F H ts rest
+fed a f = record { front = a.front; cut = a.cut; turn = λ us d. a.turn us (f us d) }
+
+pub after_token : {F G H : List Token → Type 0} {k : Tok} {at : Place} {ts mid rest : List Token} → Heads k at ts mid → InFront F G mid rest
+    → ((us : List Token) → G us → H (record { tok = k; at = at } ∷ us)) → InFront F H ts rest
+after_token h a f = joined a (token_first h f)
+
+pub before_token : {F G H : List Token → Type 0} {k : Tok} {at : Place} {ts mid rest : List Token} → InFront G H ts mid → Heads k at mid rest
+    → ((us : List Token) → F us → G (record { tok = k; at = at } ∷ us)) → InFront F H ts rest
+before_token a h f = joined (token_first h f) a
+
 -- ---- putting readings together
 
 pub smaller_behind : {k : Tok} {at : Place} {es : Stack} {ps : List Phrase} {ts mid rest : List Token} → Reads es ps ts mid → Heads k at mid rest → length rest < length ts
@@ -42,8 +72,8 @@ then_goes {es} {fs} {ts} {mid} {rest} a b = record {
 }
 
 pub then_spelled : {ps qs : List Phrase} {ts mid rest : List Token} → Spelled ps ts mid → Spelled qs mid rest → Spelled (ps ++ qs) ts rest
-then_spelled {ps} {qs} {ts} a b = record {
-  spells = λ behind d. subst (λ (z : List Phrase). Spells few_levels z ts) (sym (append_assoc ps qs behind)) (a.spells (qs ++ behind) (b.spells behind d))
+then_spelled {ps} {qs} {ts} {mid} {rest} a b = record {
+  spells = λ behind. subst (λ (z : List Phrase). InFront (Spells few_levels behind) (Spells few_levels z) ts rest) (sym (append_assoc ps qs behind)) (joined (b.spells behind) (a.spells (qs ++ behind)))
 }
 
 -- One reading behind the other.
@@ -57,7 +87,7 @@ and_maybe a b = record { goes_on = then_goes a.goes_on b.goes_on; spelled = then
 -- An optional form that is left out.
 pub left_out : {rest : List Token} (e : Expected) (p : Phrase) → ((ms : Stack) → outcome rest (e ∷ ms) ≡ outcome rest ms)
     → ((behind : List Phrase) (us : List Token) → Spells few_levels behind us → Spells few_levels (p ∷ behind) us) → Skips (e ∷ []) (p ∷ []) rest rest
-left_out {rest} e p m d = record { goes_on = record { same = m }; spelled = record { spells = λ behind s. d behind rest s }; no_longer = omega arith }
+left_out {rest} e p m d = record { goes_on = record { same = m }; spelled = record { spells = λ behind. here (d behind) }; no_longer = omega arith }
 
 -- A form that is read as what it consists of.
 pub as_form : {es : Stack} {ps : List Phrase} {ts rest : List Token} (e : Expected) (p : Phrase)
@@ -66,7 +96,7 @@ pub as_form : {es : Stack} {ps : List Phrase} {ts rest : List Token} (e : Expect
     → Reads es ps ts rest → Reads (e ∷ []) (p ∷ []) ts rest
 as_form {es} {ps} {ts} {rest} e p m d r = record {
   goes_on = record { same = λ ms. m ms ∙ r.goes_on.same ms };
-  spelled = record { spells = λ behind s. d behind ts (r.spelled.spells behind s) };
+  spelled = record { spells = λ behind. mapped (r.spelled.spells behind) (d behind) };
   shorter = r.shorter
 }
 
@@ -78,7 +108,7 @@ pub with_first : {k : Tok} {at : Place} {es : Stack} {ps : List Phrase} {ts mid 
     → Reads es ps mid rest → Reads (e ∷ []) (p ∷ []) ts rest
 with_first {k} {at} {es} {ps} {ts} {mid} {rest} e p h m d r = record {
   goes_on = record { same = λ ms. m ms ∙ r.goes_on.same ms };
-  spelled = record { spells = λ behind s. subst (Spells few_levels (p ∷ behind)) (sym h.cut) (d behind mid (r.spelled.spells behind s)) };
+  spelled = record { spells = λ behind. after_token h (r.spelled.spells behind) (d behind) };
   shorter = let l = ap length h.cut in let k = r.shorter in omega (arith, l, k)
 }
 
@@ -90,7 +120,7 @@ pub one_token : {k : Tok} {at : Place} {ts rest : List Token} (e : Expected) (p 
     → Reads (e ∷ []) (p ∷ []) ts rest
 one_token {k} {at} {ts} {rest} e p h m d = record {
   goes_on = record { same = m };
-  spelled = record { spells = λ behind s. subst (Spells few_levels (p ∷ behind)) (sym h.cut) (d behind rest s) };
+  spelled = record { spells = λ behind. token_first h (d behind) };
   shorter = let l = ap length h.cut in omega (arith, l)
 }
 

@@ -4,14 +4,14 @@ use Rattle.revc_base.specs.declared.place.Place.{Place}
 use Rattle.revs_lexer.specs.declared.sign.Sign.TheVariants as signs
 use Rattle.revs_lexer.specs.declared.token.Token.{Token}
 use Rattle.revs_lexer.specs.declared.token.Tok.TheVariants as toks
-use Rattle.revs_grammar.specs.Grammar as g
+use Rattle.revs_grammar.specs.Forms as g
 use Rattle.revs_grammar.specs.Machine.{form, body, part_end}
-use Rattle.revs_grammar.specs.Sentences.{Spells, few_levels, token, bound_of}
+use Rattle.revs_grammar.specs.Sentences.{bound_of}
 use Rattle.revs_grammar.specs.Sentences as s
 use Rattle.revs_terms.specs.Trees.{Tree, ItemTree, trees, item_trees, reg, block, function, bind, tree_of, item_tree_of}
 use Rattle.revs_terms.specs.declared.term.Name.{Name}
 use Rattle.revs_terms.specs.declared.term.Part.{Part}
-use Rattle.revs_parser.specs.Reading.{GoesOn, Spelled, Reads, Skips}
+use Rattle.revs_parser.specs.Reading.{GoesOn, Spelled, Reads, Skips, Heads}
 use Rattle.revs_parser.specs.declared.expression.Piece.{Piece}
 use Rattle.revs_parser.specs.declared.expression.Piece.TheVariants as pieces
 
@@ -24,7 +24,7 @@ pub record ReadsNames (before all : List Name) (ts rest : List Token) : Type 0 w
 -- A part was read, behind its dot at this place.
 pub record ReadsPart (at : Place) (part : Part) (ts rest : List Token) : Type 0 where
   pub goes_on : GoesOn (form (g.sign signs.OpenSquare) ∷ form g.number ∷ part_end ∷ []) [] ts rest
-  pub spelled : (dotted : List Token) → dotted ≡ token (toks.Sign signs.Dot) at ∷ ts → Spelled (s.part part ∷ []) dotted rest
+  pub spelled : (dotted : List Token) → Heads (toks.Sign signs.Dot) at dotted ts → Spelled (s.part part ∷ []) dotted rest
   pub shorter : length rest < length ts
 
 -- The names and the body of a function were read behind `fun`, which has this place.

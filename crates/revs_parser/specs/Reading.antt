@@ -15,9 +15,15 @@ use Rattle.revs_parser.specs.declared.stop.Stop.TheVariants as stops
 pub record GoesOn (es fs : Stack) (ts rest : List Token) : Type 0 where
   pub same : (ms : Stack) → outcome ts (es ++ ms) ≡ outcome rest (fs ++ ms)
 
+-- The tokens in front of the rest, put in front of any tokens of which the first holds, make tokens of which the second holds.
+pub record InFront (F G : List Token → Type 0) (ts rest : List Token) : Type 0 where
+  pub front : List Token
+  pub cut : ts ≡ front ++ rest
+  pub turn : (us : List Token) → F us → G (front ++ us)
+
 -- The tokens in front of the rest spell these phrases.
 pub record Spelled (ps : List Phrase) (ts rest : List Token) : Type 0 where
-  pub spells : (behind : List Phrase) → Spells few_levels behind rest → Spells few_levels (ps ++ behind) ts
+  pub spells : (behind : List Phrase) → InFront (Spells few_levels behind) (Spells few_levels (ps ++ behind)) ts rest
 
 -- The machine that expects these things comes over them, and the tokens in front of the rest, one at least, spell these phrases.
 pub record Reads (es : Stack) (ps : List Phrase) (ts rest : List Token) : Type 0 where

@@ -1,10 +1,10 @@
 // Expressions.
 
 ghost use Rattle.std.specs.Prelude.{◌≡◌, ◌+◌, ◌<◌, ◌≤◌, true, false, length, [], ◌∷◌, IfOk, IfErr};
-ghost use Rattle.revs_grammar.specs.Grammar as g;
-ghost use Rattle.revs_grammar.specs.Grammar.{few_levels};
+ghost use Rattle.revs_grammar.specs.Forms as g;
 ghost use Rattle.revs_grammar.specs.Machine.{form, part_end, body};
 ghost use Rattle.revs_grammar.specs.Sentences as s;
+ghost use Rattle.revs_grammar.specs.Sentences.{few_levels};
 ghost use Rattle.revs_lexer.specs.declared.sign.Sign.TheVariants as signs;
 ghost use Rattle.revs_parser.specs.Reading.{Reads, Skips, Halts, base_first, name_first};
 ghost use Rattle.revs_parser.specs.Forms.{ReadsNames, ReadsPart, ReadsFunction, ReadsRegister, ReadsBlock, ReadsPiece, ReadsBinding};

@@ -3,7 +3,7 @@
 ghost use Rattle.std.specs.Prelude.{[], ◌∷◌, IfOk, IfErr, IfSome, IfNone};
 ghost use Rattle.revs_parser.specs.Reading.{Heads, NotFirst, Reads, Halts};
 ghost use Rattle.revs_grammar.specs.Machine.{form};
-ghost use Rattle.revs_grammar.specs.Grammar as g;
+ghost use Rattle.revs_grammar.specs.Forms as g;
 ghost use Rattle.revs_grammar.specs.Sentences as s;
 ghost use Rattle.revs_lexer.specs.declared.token.Tok.TheVariants as toks;
 

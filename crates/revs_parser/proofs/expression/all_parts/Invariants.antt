@@ -1,5 +1,5 @@
 use Rattle.std.proofs.Common.{length}
-use Rattle.revs_grammar.specs.Grammar as g
+use Rattle.revs_grammar.specs.Forms as g
 use Rattle.revs_grammar.specs.Machine.{form}
 use Rattle.revs_grammar.specs.Sentences as s
 use Rattle.revs_parser.proofs.Readings.{Repeats}
