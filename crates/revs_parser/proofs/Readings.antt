@@ -43,6 +43,9 @@ a_sign {k} {at} {ts} {rest} h = one_token (form (g.sign k)) (s.sign k) h
 pub a_number : {n : ℕ} {at : Place} {ts rest : List Token} → Heads (toks.Number n) at ts rest → Reads (form g.number ∷ []) (s.number n ∷ []) ts rest
 a_number {n} h = one_token (form g.number) (s.number n) h (λ ms. headed h (form g.number ∷ ms)) (λ behind us d. s.a_number d)
 
+pub a_bool : {at : Place} {ts rest : List Token} → Heads (toks.Word words.Bool) at ts rest → Reads (form g.bool_word ∷ []) (s.bool_word ∷ []) ts rest
+a_bool h = one_token (form g.bool_word) s.bool_word h (λ ms. headed h (form g.bool_word ∷ ms)) (λ behind us d. s.a_bool d)
+
 pub a_name : {text : List ℕ} {at : Place} {ts rest : List Token} → Heads (toks.Name text) at ts rest → Reads (form g.name ∷ []) (s.name (name_of text at) ∷ []) ts rest
 a_name {text} {at} h = one_token (form g.name) (s.name (name_of text at)) h (λ ms. headed h (form g.name ∷ ms)) (λ behind us d. s.a_name d)
 

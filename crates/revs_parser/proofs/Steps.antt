@@ -159,7 +159,7 @@ too_deep_there {k} {at} {ts} {rest} h e m =
 -- ---- single steps of the machine
 
 -- Two stacks that take the next token in the same way have the same outcome.
-alike : (t : Token) (rest : List Token) (ms ns : Stack) → step few_levels ms t.tok ≡ step few_levels ns t.tok
+pub alike : (t : Token) (rest : List Token) (ms ns : Stack) → step few_levels ms t.tok ≡ step few_levels ns t.tok
     → step any_level ms t.tok ≡ step any_level ns t.tok → is_done ms ≡ is_done ns → outcome (t ∷ rest) ms ≡ outcome (t ∷ rest) ns
 alike t rest ms ns e f h =
     ap (λ (z : Option Stack). cond (is_end t.tok) (cond (is_done ms) accepted (no_syntax (length rest + 1))) (at_token z (step any_level ms t.tok) (length rest + 1) (outcome rest))) e

@@ -6,7 +6,7 @@ use Rattle.revs_lexer.specs.declared.word.Word.TheVariants as words
 use Rattle.revs_lexer.specs.declared.token.Tok.{Tok}
 use Rattle.revs_lexer.specs.declared.token.Tok.TheVariants as toks
 use Rattle.revs_lexer.specs.declared.token.Token.{Token}
-use Rattle.revs_grammar.specs.Machine.{Stack, Outcome, no_syntax, too_deep, outcome}
+use Rattle.revs_grammar.specs.Machine.{Stack, Outcome, no_syntax, too_deep, is_end, outcome}
 use Rattle.revs_grammar.specs.Sentences.{Phrase, Spells, token, few_levels}
 use Rattle.revs_parser.specs.declared.stop.Stop.{Stop}
 use Rattle.revs_parser.specs.declared.stop.Stop.TheVariants as stops
@@ -78,3 +78,8 @@ is_name _ = false
 abbrev pub name_first : List Token → Bool
 name_first [] = false
 name_first (t ∷ ts) = is_name t.tok
+
+-- whether the end stands first
+abbrev pub end_first : List Token → Bool
+end_first [] = false
+end_first (t ∷ ts) = is_end t.tok

@@ -108,3 +108,14 @@ pub fn number(tokens: &[Token]) -> Result<(u32, &[Token]), Stop>
         _ => Err(Stop::Syntax(tokens.len())),
     }
 }
+
+/// The tokens behind the word `bool`, which has to stand first.
+pub fn bool_word(tokens: &[Token]) -> Result<&[Token], Stop>
+    ensures ok { IfOk result (λ rest. Reads (form g.bool_word ∷ []) (s.bool_word ∷ []) tokens.now rest.now) }
+    ensures halts { IfErr result (λ stop. Halts (form g.bool_word ∷ []) tokens.now stop) }
+{
+    match after_word(tokens, Word::Bool) {
+        Some((_, rest)) => Ok(rest),
+        None => Err(Stop::Syntax(tokens.len())),
+    }
+}

@@ -1,9 +1,12 @@
 //! The parser: it makes a program of a list of tokens.
 //!
-//! Recursive descent with one token of look-ahead. A list of tokens that is no sentence is refused at the first token that
-//! cannot stand where it stands, or at the first that opens level 101.
+//! Recursive descent with one token of look-ahead, linear in the tokens. A list of tokens that is no sentence is refused at
+//! the first token that cannot stand where it stands, or at the first that opens level 101.
 #![tactic(auto)]
 
 mod expression;
 mod leaf;
+mod program;
 mod stop;
+
+pub use program::{ParseFault, parse};

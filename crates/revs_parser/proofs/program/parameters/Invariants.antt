@@ -1,0 +1,9 @@
+use Rattle.std.proofs.Common.{length}
+use Rattle.revs_parser.proofs.Programs.{Parameters}
+use Rattle.revs_parser.proofs.program.parameters.Given as goal
+
+abbrev pub invariant-loop-params : goal.invariant-loop-params
+invariant-loop-params l = record { read : Parameters l.fn.params.items l.params.items l.fn.tokens l.rest }
+
+abbrev pub decreases-loop-params : goal.decreases-loop-params
+decreases-loop-params l = length l.rest

@@ -1,0 +1,15 @@
+use Rattle.std.proofs.Common.{sym, ◌∙◌}
+use Rattle.revs_parser.proofs.Steps.{stops_so}
+use Rattle.revs_parser.proofs.Programs.{ended, not_at_end, halt_is_right}
+use Rattle.revs_parser.proofs.program.whole.Goals as goal
+
+pub returns-in_err-params-clause-refused : goal.returns-in_err-params-clause-refused
+returns-in_err-params-clause-refused c =
+    stops_so _ c.from_residual.result c.from_residual.ensures.1 (halt_is_right c.args.tokens.now c.in_err-params.field-0.0 c.requires c.in_err-params.ensures.halts)
+
+pub returns-then-not-ends-clause-refused : goal.returns-then-not-ends-clause-refused
+returns-then-not-ends-clause-refused c =
+    not_at_end c.args.tokens.now c.in_ok-params.rest.now c.requires c.in_ok-params.ensures.ok (sym c.ends.ensures ∙ c.if-not-ends.true)
+
+pub returns-clause-ok : goal.returns-clause-ok
+returns-clause-ok c = ended c.args.tokens.now c.in_ok-params.rest.now c.requires c.in_ok-params.ensures.ok (sym c.ends.ensures ∙ c.if-not-ends.false)

@@ -1,0 +1,192 @@
+// Programs, and why a list of tokens is none.
+
+ghost use Rattle.std.specs.Prelude.{◌≡◌, ◌<◌, ◌^◌, length, [], ◌∷◌, ℕ, IfOk, IfErr, IfSome, IfNone, IsErrOf};
+ghost use Rattle.revc_base.specs.declared.place.Place.{Place};
+ghost use Rattle.revs_lexer.specs.Tokens.{IsEnded};
+ghost use Rattle.revs_grammar.specs.Forms as g;
+ghost use Rattle.revs_grammar.specs.Machine.{form, parameter_end};
+ghost use Rattle.revs_grammar.specs.Sentences as s;
+ghost use Rattle.revs_grammar.specs.Answers.{HasSentence, IsProgramOf, IsInputs};
+ghost use Rattle.revs_grammar.specs.Faults.{IsSyntax, IsNesting, Verdict, IsVerdict};
+ghost use Rattle.revs_terms.specs.Programs.{AreParams, width_of};
+ghost use Rattle.revs_terms.specs.Trees.{tree_of};
+ghost use Rattle.revs_parser.specs.Reading.{Reads, Halts, end_first};
+ghost use Rattle.revs_parser.specs.Forms.{ReadsWidth, ReadsParameters, PassesAt, IsRefusal};
+ghost use Rattle.revs_parser.specs.Results.{IsRefused, IsAnswer};
+ghost use Rattle.revs_parser.specs.declared.program.ParseFault.{ParseFault};
+ghost use Rattle.revs_parser.specs.declared.program.ParseFault.TheVariants as faults;
+
+use crate::expression::expression;
+use crate::leaf::{after, after_word, bool_word, expect, name, number};
+use crate::stop::Stop;
+use revc_base::Place;
+use revs_lexer::{Sign, Tok, Token, Word};
+use revs_terms::{Param, Program, Term};
+use std::alloc::Global;
+
+/// The most inputs that a program has, in bits.
+const MOST_INPUTS: u32 = 1024;
+
+/// Why a list of tokens is no program.
+#[derive(Clone, Copy, Debug, PartialEq, Eq)]
+pub enum ParseFault {
+    /// This token, counted from 0, cannot stand at this place.
+    Syntax { token: u32, at: Place },
+    /// The token at this place is the first that opens level 101.
+    Nesting(Place),
+    /// At the name of this parameter a width is 0, or the widths so far add up to more than 1,024.
+    Inputs(Place),
+    /// There was no memory left.
+    Memory,
+}
+
+// The width of a parameter and its `)`.
+fn width(tokens: &[Token]) -> Result<(Option<u32>, &[Token]), Stop>
+    ensures ok { IfOk result (λ read. ReadsWidth read.0 tokens.now read.1.now) }
+    ensures halts { IfErr result (λ stop. Halts (parameter_end ∷ []) tokens.now stop) }
+{
+    let Some((_, behind)) = after(tokens, Sign::OpenSquare) else {
+        let rest = expect(tokens, Sign::CloseRound)?;
+        return Ok((None, rest));
+    };
+    let (bits, rest) = number(behind)?;
+    let rest = expect(rest, Sign::CloseSquare)?;
+    let rest = expect(rest, Sign::CloseRound)?;
+    Ok((Some(bits), rest))
+}
+
+fn parameter(tokens: &[Token]) -> Result<(Param, &[Token]), Stop>
+    ensures ok { IfOk result (λ read. Reads (form g.parameter ∷ []) (s.parameter read.0 ∷ []) tokens.now read.1.now) }
+    ensures halts { IfErr result (λ stop. Halts (form g.parameter ∷ []) tokens.now stop) }
+{
+    let Some((_, behind)) = after(tokens, Sign::OpenRound) else {
+        return Err(Stop::Syntax(tokens.len()));
+    };
+    let (name, rest) = name(behind)?;
+    let rest = expect(rest, Sign::Colon)?;
+    let rest = bool_word(rest)?;
+    let (width, rest) = width(rest)?;
+    Ok((Param { name, width }, rest))
+}
+
+// { param } behind the parameters so far.
+fn parameters(mut params: Vec<Param>, tokens: &[Token]) -> Result<(Vec<Param>, &[Token]), Stop>
+    ensures ok { IfOk result (λ read. ReadsParameters params.items read.0.items tokens.now read.1.now) }
+    ensures halts { IfErr result (λ stop. Halts (form g.parameters ∷ []) tokens.now stop) }
+{
+    let mut rest = tokens;
+    while let Some((_, _)) = after(rest, Sign::OpenRound) {
+        let (next, left) = parameter(rest)?;
+        params.push(next)?;
+        rest = left;
+    }
+    Ok((params, rest))
+}
+
+// A whole sentence.
+fn sentence(alloc: Global, tokens: &[Token]) -> Result<(Vec<Param>, Term, &[Token]), Stop>
+    ensures ok { IfOk result (λ read. Reads (form g.program ∷ []) (s.program read.0.items (tree_of read.1) ∷ []) tokens.now read.2.now) }
+    ensures halts { IfErr result (λ stop. Halts (form g.program ∷ []) tokens.now stop) }
+{
+    let Some((_, behind)) = after_word(tokens, Word::Main) else {
+        return Err(Stop::Syntax(tokens.len()));
+    };
+    let (first, rest) = parameter(behind)?;
+    let mut params = Vec::new(alloc);
+    params.push(first)?;
+    let (params, rest) = parameters(params, rest)?;
+    let rest = expect(rest, Sign::Equal)?;
+    let (body, rest) = expression(alloc, rest, 1)?;
+    Ok((params, body, rest))
+}
+
+// Whether the end stands first.
+fn ends(tokens: &[Token]) -> bool
+    ensures { result ≡ end_first tokens.now }
+{
+    match tokens.split_first() {
+        Some((first, _)) => matches!(first.tok, Tok::End),
+        None => false,
+    }
+}
+
+// The parameters and the body of the sentence before the end.
+fn whole(alloc: Global, tokens: &[Token]) -> Result<(Vec<Param>, Term), Stop>
+    requires { IsEnded tokens.now }
+    ensures ok { IfOk result (λ read. HasSentence tokens.now read.0.items (tree_of read.1)) }
+    ensures refused { IfErr result (λ stop. IsRefusal tokens.now stop) }
+{
+    let (params, body, rest) = sentence(alloc, tokens)?;
+    if !ends(rest) {
+        return Err(Stop::Syntax(rest.len()));
+    }
+    Ok((params, body))
+}
+
+fn bits_of(param: &Param) -> u32
+    ensures { result ≡ width_of param.now.width }
+{
+    match param.width {
+        None => 1,
+        Some(bits) => bits,
+    }
+}
+
+// The name's place of the first parameter at which the limits are passed.
+fn passed_at(params: &[Param]) -> Option<Place>
+    ensures none { IfNone result (AreParams params.now) }
+    ensures found { IfSome result (λ at. PassesAt params.now at) }
+{
+    let mut inputs: u32 = 0;
+    let mut rest = params;
+    while let Some((param, behind)) = rest.split_first() {
+        let bits = bits_of(param);
+        if bits == 0 || MOST_INPUTS - inputs < bits {
+            return Some(param.name.at);
+        }
+        inputs += bits;
+        rest = behind;
+    }
+    None
+}
+
+// The fault for this halt.
+fn refusal(tokens: &[Token], stop: Stop) -> ParseFault
+    requires few { length tokens.now < 2 ^ 32 }
+    requires refused { IsRefusal tokens.now stop }
+    ensures { IsRefused tokens.now result }
+{
+    match stop {
+        Stop::Syntax(left) => {
+            let token = tokens.len() - left;
+            ParseFault::Syntax {
+                token: token as u32,
+                at: tokens[token].at,
+            }
+        }
+        Stop::Nesting(left) => ParseFault::Nesting(tokens[tokens.len() - left].at),
+        Stop::Memory => ParseFault::Memory,
+    }
+}
+
+/// The program of which the tokens before `End` are the sentence, with every `back` 0.
+///
+/// Each refusal names the first token or parameter at which it is due; the limits on widths count only for a whole sentence.
+/// A list of tokens with no program and no such refusal does not exist, so `Memory` is the only other answer.
+pub fn parse(alloc: Global, tokens: &[Token]) -> Result<Program, ParseFault>
+    requires ended { IsEnded tokens.now }
+    requires few { length tokens.now < 2 ^ 32 }
+    ensures program { IfOk result (λ p. IsProgramOf tokens.now p.params.items (tree_of p.body)) }
+    ensures syntax { (number : ℕ) (at : Place) → IsErrOf result (faults.Syntax number at) → IsSyntax tokens.now number at }
+    ensures nesting { (at : Place) → IsErrOf result (faults.Nesting at) → IsNesting tokens.now at }
+    ensures inputs { (at : Place) → IsErrOf result (faults.Inputs at) → IsInputs tokens.now at }
+    ensures exact { (verdict : Verdict) → IsVerdict tokens.now verdict → IsAnswer verdict result }
+{
+    match whole(alloc, tokens) {
+        Ok((params, body)) => match passed_at(&params) {
+            Some(at) => Err(ParseFault::Inputs(at)),
+            None => Ok(Program { params, body }),
+        },
+        Err(stop) => Err(refusal(tokens, stop)),
+    }
+}
