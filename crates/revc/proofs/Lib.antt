@@ -1,8 +1,7 @@
-pub mod SentencePieces
-pub mod ReadingSteps
-pub mod ReadingRuns
-pub mod ReadingCases
 pub mod TapeSteps
 pub mod PlanSteps
+pub mod UnrollSteps
+pub mod Names
+pub mod Outcomes
 pub mod Compiling
 pub mod Statuses

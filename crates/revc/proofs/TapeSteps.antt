@@ -1,13 +1,12 @@
 -- What stands on a tape as it grows.
-use Rattle.std.proofs.Common.{◌≡◌, ℕ, suc, ◌+◌, ◌-◌, ◌<◌, ◌≤◌, Bool, false, ◌&&◌, List, [], ◌∷◌, ◌++◌, length, sum_by, refl, sym, ap, ◌∙◌, subst, arith, append_assoc, append-nil}
-use Rattle.std.proofs.lemmas.List.Sums.{sum_by-cons}
+use Rattle.std.proofs.Common.{◌≡◌, ℕ, suc, ◌+◌, ◌<◌, ◌≤◌, Bool, false, ◌&&◌, List, [], ◌∷◌, ◌++◌, length, refl, sym, ap, ◌∙◌, subst, arith, append_assoc, append-nil}
 use Rattle.std.proofs.lemmas.List.{get_or_append_left, get_or_at, length-append}
 use Rattle.mct_circuit.specs.Gates.{bit_of}
 use Rattle.revc.specs.declared.tape.Ref.{Ref}
 use Rattle.revc.specs.declared.tape.Ref.TheVariants.{Input, Write}
 use Rattle.revc.specs.declared.tape.Entry.{Entry}
 use Rattle.revc.specs.declared.tape.Entry.TheVariants as entries
-use Rattle.revc.specs.Program.{xor, product_of}
+use Rattle.revc.specs.Program.{xor}
 use Rattle.revc.specs.Tape.{TapeView, bit_at, entry_bit, written_by, IsKnown, IsKnownEntry, AreKnown, Stands, Extends}
 
 -- ---- known references
@@ -105,43 +104,14 @@ Extends-push old tape new count entry e grown =
       counted = omega arith;
     }
 
--- writes were added, and a reference stands for a function
-pub record IsGrowing (old tape : TapeView) (ref : Ref) (count : ℕ) (value : List Bool → Bool) : Type 0 where
-  pub extends : Extends old tape count
-  pub stands : Stands tape ref value
-
-pub IsGrowing-and : {old tape new : TapeView} {made made_new : Ref} {count : ℕ} {f : List Bool → Bool} (i : ℕ) (g : List Bool → Bool)
-    → new ≡ record tape { entries = tape.entries ++ entries.And made (Input i) ∷ [] } → made_new ≡ Write (length tape.entries) → i < tape.inputs → ((input : List Bool) → g input ≡ (f input && bit_of input i))
-    → IsGrowing old tape made count f → IsGrowing old new made_new (count + 1) g
-IsGrowing-and {old} {tape} {new} {made} {made_new} {count} {f} i g e m h same so_far =
-    let stands : Stands new (Write (length tape.entries)) (λ input. f input && bit_of input i) = Stands-and tape new made (Input i) f (λ input. bit_of input i) e so_far.stands (Stands-input tape i h) in
+pub Extends-both : (old tape new : TapeView) (count more : ℕ) → Extends old tape count → Extends tape new more → Extends old new (count + more)
+Extends-both old tape new count more a b =
+    let first = a.counted in
+    let second = b.counted in
+    let both : length (a.more ++ b.more) ≡ length a.more + length b.more = length-append a.more b.more in
     record {
-      extends = Extends-push old tape new count (entries.And made (Input i)) e so_far.extends;
-      stands = record { known = rw m stands.known; bit = λ input. rw m (stands.bit input ∙ sym (same input)) };
-    }
-
--- ---- sums of products
-
--- a sum of products so far: what stands for it, and room for the products that are left
-pub record IsSumming (inputs : ℕ) (tape : TapeView) (sum : Ref) (value : List Bool → Bool) (left : List (List ℕ)) : Type 0 where
-  pub same : tape.inputs ≡ inputs
-  pub stands : Stands tape sum value
-  pub room : length tape.entries + 1 + sum_by length left ≤ 1001
-
-pub IsSumming-xor : {inputs : ℕ} {tape mid new : TapeView} {sum factor made : Ref} {f : List Bool → Bool} (product : List ℕ) (whole left : List (List ℕ)) (g : List Bool → Bool)
-    → Extends tape mid (length product - 1) → Stands mid factor (λ input. product_of input product) → new ≡ record mid { entries = mid.entries ++ entries.Xor sum factor ∷ [] }
-    → made ≡ Write (length mid.entries) → 1 ≤ length product → whole ≡ product ∷ left → ((input : List Bool) → g input ≡ xor (f input) (product_of input product))
-    → IsSumming inputs tape sum f whole → IsSumming inputs new made g left
-IsSumming-xor {inputs} {tape} {mid} {new} {sum} {factor} {made} {f} product whole left g grown stands e m some cut same so_far =
-    let pushed = Extends-push tape mid new (length product - 1) (entries.Xor sum factor) e grown in
-    let old : Stands mid sum f = Stands-more tape mid (length product - 1) sum f grown so_far.stands in
-    let both : Stands new (Write (length mid.entries)) (λ input. xor (f input) (product_of input product)) = Stands-xor mid new sum factor f (λ input. product_of input product) e old stands in
-    let long : length new.entries ≡ length tape.entries + length pushed.more = ap length pushed.parts ∙ length-append tape.entries pushed.more in
-    let counted = pushed.counted in
-    let rest : sum_by length whole ≡ length product + sum_by length left = ap (sum_by length) cut ∙ sum_by-cons length product left in
-    let room = so_far.room in
-    record {
-      same = pushed.inputs ∙ so_far.same;
-      stands = record { known = rw m both.known; bit = λ input. rw m (both.bit input ∙ sym (same input)) };
-      room = omega arith;
+      inputs = b.inputs ∙ a.inputs;
+      more = a.more ++ b.more;
+      parts = b.parts ∙ ap (λ es. es ++ b.more) a.parts ∙ append_assoc old.entries a.more b.more;
+      counted = omega arith;
     }

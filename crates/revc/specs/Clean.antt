@@ -4,15 +4,21 @@ use Rattle.mct_circuit.specs.Gates.{line_map, AreNarrow}
 use Rattle.real_format.specs.Real.{RealView, RealMeaning}
 use Rattle.real_format.specs.Compiled.{HasRoles}
 use Rattle.revs_lexer.specs.declared.token.Token.{Token}
-use Rattle.revs_lexer.specs.Tokens.{IsTokens}
-use Rattle.revc.specs.Program.{ProgramView, IsSentence, toks_of, output_of}
+use Rattle.revs_lexer.specs.Tokens.{IsTokens, closed}
+use Rattle.revs_grammar.specs.Answers.{IsProgramOf}
+use Rattle.revc.specs.Program.{ProgramView, IsSmall, output_of}
 
--- the text is that of this small program: at most 1,048,576 bytes, whose tokens are the program's sentence
-pub record IsSmallText (text : List ℕ) (p : ProgramView) : Type 0 where
+-- the text is that of this program: at most 1,048,576 bytes, whose tokens are the program's sentence within limits, and `End`
+pub record IsProgramText (text : List ℕ) (p : ProgramView) : Type 0 where
   pub short : length text ≤ 1048576
   pub tokens : List Token
   pub cut : IsTokens text tokens
-  pub sentence : IsSentence (toks_of tokens) p
+  pub sentence : IsProgramOf (closed text tokens) p.params p.body
+
+-- the text is that of this small program
+pub record IsSmallText (text : List ℕ) (p : ProgramView) : Type 0 where
+  pub program : IsProgramText text p
+  pub small : IsSmall p
 
 -- the text is that of no small program
 pub record IsNoSmallText (text : List ℕ) : Type 0 where
@@ -34,5 +40,5 @@ pub record IsClean (text : List ℕ) (p : ProgramView) (borrowed : ℕ) : Type 0
 pub record IsCompiled (text file : List ℕ) : Type 0 where
   pub program : ProgramView
   pub small : IsSmallText text program
-  pub only : (p : ProgramView) → IsSmallText text p → p ≡ program
+  pub only : (p : ProgramView) → IsProgramText text p → p ≡ program
   pub clean : IsClean file program 0

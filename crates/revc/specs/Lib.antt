@@ -1,7 +1,8 @@
 pub mod Program
-pub mod Reading
 pub mod Tape
+pub mod Unrolling
 pub mod Plan
 pub mod Clean
+pub mod Refusals
 pub mod Top
 pub mod Compiled

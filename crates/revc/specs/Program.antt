@@ -1,67 +1,55 @@
--- Small programs: what they are, how they are written, and what they compute.
-use Rattle.std.specs.Prelude.{◌≡◌, ◌≢◌, ℕ, ◌-◌, ◌<◌, ◌≤◌, Bool, true, false, not, ◌&&◌, List, [], ◌∷◌, ◌++◌, length, map, fold, sum_by, slice_index_or}
-use Rattle.std.specs.List.{All, AllPairs, flat_map}
-use Rattle.revs_lexer.specs.declared.word.Word.TheVariants as words
-use Rattle.revs_lexer.specs.declared.sign.Sign.TheVariants as signs
-use Rattle.revs_lexer.specs.declared.token.Tok.{Tok}
-use Rattle.revs_lexer.specs.declared.token.Tok.TheVariants as toks
-use Rattle.revs_lexer.specs.declared.token.Token.{Token}
+-- Small programs: what they are, and what they compute.
+use Rattle.std.specs.Prelude.{◌≡◌, ◌≢◌, ℕ, ◌+◌, ◌-◌, ◌≤◌, Bool, true, false, not, ◌&&◌, Option, None, List, [], ◌∷◌, fold, position, unwrap_or}
+use Rattle.std.specs.List.{All, AllPairs}
+use Rattle.std.specs.Option.{is_some}
+use Rattle.std.specs.Str.{bytes_eq}
 use Rattle.mct_circuit.specs.Gates.{bit_of}
+use Rattle.revs_terms.specs.declared.program.Param.{Param}
+use Rattle.revs_terms.specs.declared.program.Program.{Program}
+use Rattle.revs_terms.specs.Terms.{has_one}
+use Rattle.revs_terms.specs.Trees.{Tree, Trees, used, ands, xors, nil, cons, list_of, tree_of}
 
--- a program: the names of its parameters, and its body, a sum of products of parameters, each by its number from 0
+-- a program as contracts see it: its parameters, and its body as a tree
 pub record ProgramView : Type 0 where
-  pub params : List (List ℕ)
-  pub products : List (List ℕ)
+  pub params : List Param
+  pub body : Tree
 
--- ---- the grammar, a definition for each line
+abbrev pub view_of : Program → ProgramView
+view_of p = record { params = p.params.items; body = tree_of p.body }
 
--- pieces with a sign between each two
-abbrev pub parted_by : Tok → List (List Tok) → List Tok
-parted_by sign [] = []
-parted_by sign (piece ∷ []) = piece
-parted_by sign (piece ∷ next ∷ pieces) = piece ++ (sign ∷ parted_by sign (next ∷ pieces))
+-- the number of the parameter with this name, counted from 0
+abbrev pub number_of : List Param → List ℕ → Option ℕ
+number_of params name = position (λ (p : Param). bytes_eq p.name.text name) params
 
--- param = ( name : bool )
-abbrev pub param_tokens : List ℕ → List Tok
-param_tokens name = toks.Sign signs.OpenRound ∷ toks.Name name ∷ toks.Sign signs.Colon ∷ toks.Word words.Bool ∷ toks.Sign signs.CloseRound ∷ []
+-- Whether a term is made of names of parameters, `&&` and `<>` alone, and whether all of these terms are.
+unfoldable mutual
+  pub is_plain : List Param → Tree → Bool
+  is_plain params (used name) = is_some (number_of params name.text)
+  is_plain params (ands parts) = has_one (list_of parts) && are_plain params parts
+  is_plain params (xors parts) = has_one (list_of parts) && are_plain params parts
+  is_plain params _ = false
 
--- product = name { && name }
-abbrev pub product_tokens : List (List ℕ) → List ℕ → List Tok
-product_tokens params product = parted_by (toks.Sign signs.And) (map (λ i. toks.Name (slice_index_or params i []) ∷ []) product)
+  pub are_plain : List Param → Trees → Bool
+  are_plain params nil = true
+  are_plain params (cons part parts) = is_plain params part && are_plain params parts
 
--- expr = product { <> product }
-abbrev pub body_tokens : List (List ℕ) → List (List ℕ) → List Tok
-body_tokens params products = parted_by (toks.Sign signs.Xor) (map (product_tokens params) products)
+-- How many operators a term has: in a chain one stands behind each part but the last.
+unfoldable mutual
+  pub operators_of : Tree → ℕ
+  operators_of (ands parts) = operators_behind parts - 1
+  operators_of (xors parts) = operators_behind parts - 1
+  operators_of _ = 0
 
--- program = main param { param } = expr
-abbrev pub sentence_of : ProgramView → List Tok
-sentence_of p = toks.Word words.Main ∷ (flat_map param_tokens p.params ++ (toks.Sign signs.Equal ∷ body_tokens p.params p.products))
+  pub operators_behind : Trees → ℕ
+  operators_behind nil = 0
+  operators_behind (cons part parts) = operators_of part + 1 + operators_behind parts
 
--- what the tokens are, without their places
-abbrev pub toks_of : List Token → List Tok
-toks_of tokens = map (λ (token : Token). token.tok) tokens
-
--- ---- limits and scope
-
--- every name but the first of the body stands behind one operator
-abbrev pub operators_of : ProgramView → ℕ
-operators_of p = sum_by length p.products - 1
-
--- 1 to 1,024 parameters of different names, and a sum of one product or more, each of one parameter or more, with at most
--- 1,000 operators
+-- a program with these parameters, all of one bit and with different names, and a body of at most 1,000 operators
 pub record IsSmall (p : ProgramView) : Type 0 where
-  pub some_params : 1 ≤ length p.params
-  pub few_params : length p.params ≤ 1024
-  pub different : AllPairs (λ a b. a ≢ b) p.params
-  pub some_products : 1 ≤ length p.products
-  pub some_factors : All (λ product. 1 ≤ length product) p.products
-  pub bound : All (λ product. All (λ i. i < length p.params) product) p.products
-  pub few_operators : operators_of p ≤ 1000
-
--- the tokens are the sentence of this small program
-pub record IsSentence (ts : List Tok) (p : ProgramView) : Type 0 where
-  pub spelled : ts ≡ sentence_of p
-  pub small : IsSmall p
+  pub bits : All (λ param. param.width ≡ None) p.params
+  pub different : AllPairs (λ param other. param.name.text ≢ other.name.text) p.params
+  pub plain : is_plain p.params p.body ≡ true
+  pub few_operators : operators_of p.body ≤ 1000
 
 -- ---- what a program computes
 
@@ -69,14 +57,18 @@ abbrev pub xor : Bool → Bool → Bool
 xor true b = not b
 xor false b = b
 
--- the AND of the bits of these inputs, from left to right
-abbrev pub product_of : List Bool → List ℕ → Bool
-product_of input product = fold (λ a i. a && bit_of input i) true product
+-- The bit of a term on an input: a name is the bit of its parameter, and a chain computes from left to right.
+unfoldable mutual
+  pub value_of : List Param → List Bool → Tree → Bool
+  value_of params input (used name) = bit_of input (unwrap_or (number_of params name.text) 0)
+  value_of params input (ands parts) = fold ◌&&◌ true (values_of params input parts)
+  value_of params input (xors parts) = fold xor false (values_of params input parts)
+  value_of params input _ = false
 
--- the XOR of the products, from left to right
-abbrev pub sum_of : List Bool → List (List ℕ) → Bool
-sum_of input products = fold (λ a product. xor a (product_of input product)) false products
+  pub values_of : List Param → List Bool → Trees → List Bool
+  values_of params input nil = []
+  values_of params input (cons part parts) = value_of params input part ∷ values_of params input parts
 
 -- the output of a program has one bit
 abbrev pub output_of : ProgramView → List Bool → List Bool
-output_of p input = sum_of input p.products ∷ []
+output_of p input = value_of p.params input p.body ∷ []

@@ -5,7 +5,7 @@ use Rattle.revc.specs.declared.tape.Ref.{Ref}
 use Rattle.revc.specs.declared.tape.Ref.TheVariants.{Input, Write}
 use Rattle.revc.specs.declared.tape.Entry.{Entry}
 use Rattle.revc.specs.declared.tape.Entry.TheVariants as entries
-use Rattle.revc.specs.Program.{ProgramView, xor, sum_of}
+use Rattle.revc.specs.Program.{ProgramView, xor, value_of}
 
 pub record TapeView : Type 0 where
   pub inputs : ℕ
@@ -54,4 +54,4 @@ pub record Extends (old new : TapeView) (count : ℕ) : Type 0 where
 -- the tape of a program's run: the reference stands for the program's output
 pub record IsTapeOf (p : ProgramView) (tape : TapeView) (output : Ref) : Type 0 where
   pub inputs : tape.inputs ≡ length p.params
-  pub stands : Stands tape output (λ input. sum_of input p.products)
+  pub stands : Stands tape output (λ input. value_of p.params input p.body)

@@ -1,21 +1,39 @@
 ghost use Rattle.std.specs.Prelude.{◌≡◌};
-ghost use Rattle.revc.specs.Top.{status_of, message_of};
+ghost use Rattle.revc.specs.Refusals.{kind_text};
+ghost use Rattle.revc.specs.Top.{status_of};
 
-use thiserror::Error;
+use revc_base::Place;
 
 /// Why a command did not end well. Each fault has a status and a line of its own.
-#[derive(Clone, Copy, Debug, PartialEq, Eq, Error)]
+#[derive(Clone, Copy, Debug, PartialEq, Eq)]
 pub enum Fault {
-    #[error("bad command line")]
     Usage,
-    #[error("program refused")]
-    Refused,
-    #[error("read fault")]
+    Refused(Refusal),
     Read,
-    #[error("write fault")]
     Write,
-    #[error("out of memory")]
     Memory,
+}
+
+/// Why a program text is refused.
+#[derive(Clone, Copy, Debug, PartialEq, Eq)]
+pub enum Refusal {
+    /// It has more than 1,048,576 bytes.
+    TooLong,
+    /// The lexer or the parser stops at this place.
+    At(Kind, Place),
+    /// Its program is not small.
+    Program,
+}
+
+/// What is wrong at a place.
+#[derive(Clone, Copy, Debug, PartialEq, Eq)]
+pub enum Kind {
+    BadByte,
+    LongName,
+    LongNumber,
+    Syntax,
+    Nesting,
+    Inputs,
 }
 
 impl Fault {
@@ -25,23 +43,26 @@ impl Fault {
     {
         match self {
             Fault::Usage => 2,
-            Fault::Refused => 3,
+            Fault::Refused(_) => 3,
             Fault::Read => 9,
             Fault::Write => 10,
             Fault::Memory => 11,
         }
     }
+}
 
-    /// The line for standard error. It takes no memory.
-    pub fn line(self) -> &'static [u8]
-        ensures { result.now ≡ message_of (status_of self) }
+impl Kind {
+    /// The word for the kind in a line of standard error.
+    pub fn text(self) -> &'static [u8]
+        ensures { result.now ≡ kind_text self }
     {
         match self {
-            Fault::Usage => b"revc: bad command line\n",
-            Fault::Refused => b"revc: program refused\n",
-            Fault::Read => b"revc: read fault\n",
-            Fault::Write => b"revc: write fault\n",
-            Fault::Memory => b"revc: out of memory\n",
+            Kind::BadByte => b"BadByte",
+            Kind::LongName => b"LongName",
+            Kind::LongNumber => b"LongNumber",
+            Kind::Syntax => b"Syntax",
+            Kind::Nesting => b"Nesting",
+            Kind::Inputs => b"Inputs",
         }
     }
 }

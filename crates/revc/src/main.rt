@@ -5,8 +5,7 @@
 mod compile;
 mod fault;
 mod plan;
-mod program;
-mod reader;
+mod report;
 mod tape;
 #[cfg(test)]
 mod tests;

@@ -3,7 +3,6 @@ ghost use Rattle.std.specs.Prelude.{◌≡◌, ◌+◌, ◌<◌, ◌≤◌, ◌�
 ghost use Rattle.std.specs.List.{All};
 ghost use Rattle.revc.specs.Tape.{IsKnown, IsKnownEntry, AreKnown};
 
-use crate::program::{Product, Program};
 use revc_base::Memory;
 use std::alloc::Global;
 use std::marker::Model;

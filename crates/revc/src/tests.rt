@@ -21,41 +21,95 @@ t2 w1 y0\nt2 w0 w1\nt2 x0 w1\nt3 x1 x0 w0\n.end\n";
 const SQUARE_FILE: &[u8] = b".version 2.0\n.numvars 3\n.variables x0 y0 w0\n.inputs x0 y0 w0
 .outputs x0 y0 w0\n.constants -00\n.garbage ---\n.begin\nt2 x0 w0\nt2 w0 y0\nt2 x0 w0\n.end\n";
 
+const BRACKETS_FILE: &[u8] =
+    b".version 2.0\n.numvars 6\n.variables x0 x1 y0 w0 w1 w2\n.inputs x0 x1 y0 w0 w1 w2
+.outputs x0 x1 y0 w0 w1 w2\n.constants --0000\n.garbage ------\n.begin\nt2 x0 w0\nt2 x1 w0\nt2 x1 w1\nt2 x0 w1
+t3 w0 w1 w2\nt2 w2 y0\nt3 w0 w1 w2\nt2 x0 w1\nt2 x1 w1\nt2 x1 w0\nt2 x0 w0\n.end\n";
+
 const USAGE: &[u8] = b"revc: bad command line\n";
 
 const REFUSED: &[u8] = b"revc: program refused\n";
 
-// Words and a program text, and then the status and the text on standard output or standard error.
-const CASES: &[(&[&str], &[u8], u8, &[u8])] = &[
-    (&["compile"], PRODUCT, 0, PRODUCT_FILE),
-    (&["compile"], b"main (a : bool) = a", 0, NAME_FILE),
+// Words that are no order.
+const NO_ORDERS: &[&[&str]] = &[
+    &[],
+    &["check"],
+    &["Compile"],
+    &["compile", "x"],
+    &["compile", "--lines", "3"],
+    &["--help"],
+];
+
+// A program text in pieces that are repeated, and then the status and the text on standard output or standard error.
+const CASES: &[(&[(&[u8], usize)], u8, &[u8])] = &[
+    (&[(PRODUCT, 1)], 0, PRODUCT_FILE),
+    (&[(b"main (a : bool) = a", 1)], 0, NAME_FILE),
+    (&[(b"// \xff\nmain(a:bool)=\r\n\ta//", 1)], 0, NAME_FILE),
     (
-        &["compile"],
-        b"// \xff\nmain(a:bool)=\r\n\ta//",
+        &[
+            (b"main (a : bool) = ", 1),
+            (b"(", 99),
+            (b"a", 1),
+            (b")", 99),
+        ],
         0,
         NAME_FILE,
     ),
     (
-        &["compile"],
-        b"main (a : bool) (b : bool) = a <> b && a",
+        &[(b"main (a : bool) (b : bool) = a <> b && a", 1)],
         0,
         CHAIN_FILE,
     ),
-    (&["compile"], b"main (a : bool) = a && a", 0, SQUARE_FILE),
-    (&["compile"], b"main (a : bool) = true", 3, REFUSED),
-    (&["compile"], b"", 3, REFUSED),
-    (&["compile"], b"main = a", 3, REFUSED),
-    (&["compile"], b"main (a : bool) = b", 3, REFUSED),
-    (&["compile"], b"main (a : bool) (a : bool) = a", 3, REFUSED),
-    (&["compile"], b"main (a : bool) = (a)", 3, REFUSED),
-    (&["compile"], b"main (a : bool) = a &&", 3, REFUSED),
-    (&["compile"], b"main (a : bool) = a & a", 3, REFUSED),
-    (&[], PRODUCT, 2, USAGE),
-    (&["check"], PRODUCT, 2, USAGE),
-    (&["Compile"], PRODUCT, 2, USAGE),
-    (&["compile", "x"], PRODUCT, 2, USAGE),
-    (&["compile", "--lines", "3"], PRODUCT, 2, USAGE),
-    (&["--help"], PRODUCT, 2, USAGE),
+    (
+        &[(b"main (a : bool) (b : bool) = (a <> b) && (b <> (a))", 1)],
+        0,
+        BRACKETS_FILE,
+    ),
+    (&[(b"main (a : bool) = a && a", 1)], 0, SQUARE_FILE),
+    (&[(b" ", 1_048_541), (PRODUCT, 1)], 0, PRODUCT_FILE),
+    (
+        &[(b" ", 1_048_577)],
+        3,
+        b"revc: source over 1048576 bytes\n",
+    ),
+    (
+        &[(b"main (a : bool) = a & a", 1)],
+        3,
+        b"revc: 1:21 BadByte\n",
+    ),
+    (
+        &[(b"main (a : bool) = ", 1), (b"z", 65)],
+        3,
+        b"revc: 1:19 LongName\n",
+    ),
+    (
+        &[(b"main (a : bool[00000]) = a", 1)],
+        3,
+        b"revc: 1:16 LongNumber\n",
+    ),
+    (&[], 3, b"revc: 1:1 Syntax\n"),
+    (
+        &[(b"main (a : bool) = a a <>", 1)],
+        3,
+        b"revc: 1:25 Syntax\n",
+    ),
+    (&[(b"\n", 99), (b"main = a", 1)], 3, b"revc: 100:6 Syntax\n"),
+    (
+        &[(b"main (a : bool) = ", 1), (b"(", 100)],
+        3,
+        b"revc: 1:118 Nesting\n",
+    ),
+    (
+        &[(b"main (a : bool[1025]) = a.[0]", 1)],
+        3,
+        b"revc: 1:7 Inputs\n",
+    ),
+    (&[(b"main (a : bool) = true", 1)], 3, REFUSED),
+    (&[(b"main (a : bool) = fun x -> x", 1)], 3, REFUSED),
+    (&[(b"main (a : bool[1]) = a", 1)], 3, REFUSED),
+    (&[(b"main (a : bool) = z", 1)], 3, REFUSED),
+    (&[(b"main (a : bool) (a : bool) = a", 1)], 3, REFUSED),
+    (&[(b"main (a : bool) = a", 1), (b" <> a", 1001)], 3, REFUSED),
 ];
 
 fn words_of(alloc: Global, words: &[&str]) -> Result<Vec<String>, AllocError> {
@@ -66,12 +120,22 @@ fn words_of(alloc: Global, words: &[&str]) -> Result<Vec<String>, AllocError> {
     Ok(all)
 }
 
+fn text_of(alloc: Global, pieces: &[(&[u8], usize)]) -> Result<Vec<u8>, AllocError> {
+    let mut text = Vec::new(alloc);
+    for (piece, count) in pieces {
+        for _ in 0..*count {
+            text.extend_from_slice(piece)?;
+        }
+    }
+    Ok(text)
+}
+
 #[test]
-fn commands_end_as_they_should(rt: HostRuntime) -> Result<(), Fail> {
+fn texts_are_compiled_or_refused(rt: HostRuntime) -> Result<(), Fail> {
     let alloc = rt.alloc();
-    for (words, text, status, written) in CASES {
-        let words = words_of(alloc, words)?;
-        let mut source = SureSource::new(text.to_vec(alloc)?);
+    let words = words_of(alloc, &["compile"])?;
+    for (pieces, status, written) in CASES {
+        let mut source = SureSource::new(text_of(alloc, pieces)?);
         let mut out = MemorySink::new(alloc, 1000, Vec::new(alloc), 100)?;
         let mut err = MemorySink::new(alloc, 100, Vec::new(alloc), 100)?;
         assert_eq!(rt;
@@ -89,21 +153,17 @@ fn commands_end_as_they_should(rt: HostRuntime) -> Result<(), Fail> {
     Ok(())
 }
 
-// A text of the most bytes is read, and one of a byte more is refused.
 #[test]
-fn long_texts_are_refused(rt: HostRuntime) -> Result<(), Fail> {
+fn other_words_are_no_order(rt: HostRuntime) -> Result<(), Fail> {
     let alloc = rt.alloc();
-    for (len, status) in [(1_048_576, 0), (1_048_577, 3)] {
-        let mut text = vec![in alloc; b' '; len - PRODUCT.len()]?;
-        text.extend_from_slice(PRODUCT)?;
-        let mut source = SureSource::new(text);
+    for words in NO_ORDERS {
+        let words = words_of(alloc, words)?;
+        let mut source = SureSource::new(PRODUCT.to_vec(alloc)?);
         let mut out = MemorySink::new(alloc, 1000, Vec::new(alloc), 100)?;
         let mut err = MemorySink::new(alloc, 100, Vec::new(alloc), 100)?;
-        let words = words_of(alloc, &["compile"])?;
-        assert_eq!(rt;
-            revc(alloc, &words, &mut source, &mut out, &mut err),
-            status
-        );
+        assert_eq!(rt; revc(alloc, &words, &mut source, &mut out, &mut err), 2);
+        assert_eq!(rt; out.bytes(), b"".as_slice());
+        assert_eq!(rt; err.bytes(), USAGE);
     }
     Ok(())
 }

@@ -1,15 +1,18 @@
 // The top call: all that the program does.
-ghost use Rattle.std.specs.Prelude.{◌≡◌, ◌≢◌, ◌↔◌, ◌≤◌, ◌⊎◌, length, map, string_bytes, IsTrue, IfSome, IfOk, OnOk, OnErr, IsErrOf, ◌<◌};
+ghost use Rattle.std.specs.Prelude.{◌≡◌, ◌≢◌, ◌↔◌, ◌≤◌, ◌⊎◌, length, map, string_bytes, IsTrue, IfSome, IfOk, OnOk, OnErr, IfErr, IsErrOf, ◌<◌};
 ghost use Rattle.std.specs.Io.KnownBytes.{IsAtEnd, Keeps};
 ghost use Rattle.revc_io.specs.Faults.{Rose, HasCause};
 ghost use Rattle.revc.specs.Clean.{IsNoSmallText, IsSmallText};
 ghost use Rattle.revc.specs.Program.{ProgramView};
-ghost use Rattle.revc.specs.Top.{IsOrder, Compiles, BeginsToCompile, IsStatus, status_of, message_of, Receives};
+ghost use Rattle.revc.specs.Refusals.{IsRefusal};
+ghost use Rattle.revc.specs.declared.fault.Refusal.{Refusal};
+ghost use Rattle.revc.specs.Top.{IsOrder, Compiles, BeginsToCompile, IsStatus, status_of, RefusesWell, Refuses, Reports};
 
 use crate::compile::compile;
-use crate::fault::Fault;
+use crate::fault::{Fault, Refusal};
+use crate::report::report;
 use real_format::write;
-use revc_io::{ReadFault, Sink, Source, put_all, read_up_to};
+use revc_io::{ReadFault, Sink, Source, read_up_to};
 use std::alloc::Global;
 
 /// The most bytes of a program text.
@@ -30,7 +33,7 @@ pub fn revc<S: Source, K: Sink, E: Sink>(
     // Each other status has its cause, and there is no other.
     ensures statuses { IsStatus result }
     ensures usage { (result ≡ 2) ↔ ¬ IsOrder (map string_bytes words.now) }
-    ensures refused { result ≡ 3 → IfSome (S.rest source.old) IsNoSmallText }
+    ensures refused { result ≡ 3 → IfSome (S.rest source.old) (λ text. Refuses text (E.held err.old) (E.held err.new) (E.faults err.old) (E.faults err.new)) }
     ensures read_fault { result ≡ 9 → Rose (S.faults source.old) (S.faults source.new) }
     ensures write_fault { result ≡ 10 → Rose (K.faults out.old) (K.faults out.new) }
 
@@ -38,6 +41,7 @@ pub fn revc<S: Source, K: Sink, E: Sink>(
     ensures completes { IsOrder (map string_bytes words.now) → ¬ Rose (S.faults source.old) (S.faults source.new) → ¬ Rose (K.faults out.old) (K.faults out.new)
         → IfSome (S.rest source.old) (λ text. (p : ProgramView) → IsSmallText text p → (result ≡ 0) ⊎ (result ≡ 11)) }
     ensures refuses { IfSome (S.rest source.old) (λ text. IsNoSmallText text → (result ≢ 0) × (result ≢ 10)) }
+    ensures refuses_all { result ≢ 2 → result ≢ 9 → result ≢ 11 → IfSome (S.rest source.old) (λ text. (refusal : Refusal) → IsRefusal text refusal → result ≡ 3) }
 
     // What is read and written.
     ensures untouched { result ≡ 2 → source.new ≡ source.old }
@@ -46,13 +50,12 @@ pub fn revc<S: Source, K: Sink, E: Sink>(
     ensures begins { result ≡ 10 → IfSome (S.rest source.old) (λ text. BeginsToCompile text (K.held out.old) (K.held out.new)) }
     ensures silent { result ≢ 0 → result ≢ 10 → out.new ≡ out.old }
     ensures quiet { result ≡ 0 → err.new ≡ err.old }
-    ensures message { result ≢ 0 → Receives (E.held err.old) (E.held err.new) (E.faults err.old) (E.faults err.new) (message_of result) }
+    ensures message { result ≢ 0 → Reports result (E.held err.old) (E.held err.new) (E.faults err.old) (E.faults err.new) }
 {
     match run(alloc, words, source, out) {
         Ok(()) => 0,
         Err(fault) => {
-            // A fault of standard error changes nothing.
-            let _ = put_all(err, fault.line());
+            report(err, fault);
             fault.status()
         }
     }
@@ -66,13 +69,13 @@ fn run<S: Source, K: Sink>(
 ) -> Result<(), Fault>
     ensures compiles { OnOk result (IfSome (S.rest source.old) (λ text. Compiles text (K.held out.old) (K.held out.new))) }
     ensures usage { IsErrOf result Fault.Usage ↔ ¬ IsOrder (map string_bytes words.now) }
-    ensures refused { IsErrOf result Fault.Refused → IfSome (S.rest source.old) IsNoSmallText }
+    ensures refused { IfErr result (λ fault. IfSome (S.rest source.old) (λ text. RefusesWell text fault)) }
     ensures read_fault { IsErrOf result Fault.Read → Rose (S.faults source.old) (S.faults source.new) }
     ensures write_fault { IsErrOf result Fault.Write → Rose (K.faults out.old) (K.faults out.new) }
     ensures untouched { IsErrOf result Fault.Usage → source.new ≡ source.old }
     ensures read_whole { OnOk result (IsAtEnd (S.rest source.new)) }
     ensures read_whole_at_write { IsErrOf result Fault.Write → IsAtEnd (S.rest source.new) }
-    ensures read_refused { IsErrOf result Fault.Refused → IfSome (S.rest source.old) (λ text. length text ≤ 1048576 → IsAtEnd (S.rest source.new)) }
+    ensures read_refused { IfErr result (λ fault. status_of fault ≡ 3 → IfSome (S.rest source.old) (λ text. length text ≤ 1048576 → IsAtEnd (S.rest source.new))) }
     ensures begins { IsErrOf result Fault.Write → IfSome (S.rest source.old) (λ text. BeginsToCompile text (K.held out.old) (K.held out.new)) }
     ensures silent { OnErr result ((IsErrOf result Fault.Write → ⊥) → out.new ≡ out.old) }
 {
@@ -98,7 +101,8 @@ fn read<S: Source>(alloc: Global, source: &mut S) -> Result<Vec<u8>, Fault>
     ensures text { IfOk result (λ text. IfSome (S.rest source.old) (λ rest. text.items ≡ rest)) }
     ensures fits { IfOk result (λ text. length text.items ≤ 1048576) }
     ensures read_whole { OnOk result (IsAtEnd (S.rest source.new)) }
-    ensures refused { IsErrOf result Fault.Refused → IfSome (S.rest source.old) (λ rest. 1048576 < length rest) }
+    ensures refused { IfErr result (λ fault. IfSome (S.rest source.old) (λ rest. RefusesWell rest fault)) }
+    ensures too_long { IfErr result (λ fault. status_of fault ≡ 3 → IfSome (S.rest source.old) (λ rest. 1048576 < length rest)) }
     ensures read_fault { IsErrOf result Fault.Read → Rose (S.faults source.old) (S.faults source.new) }
     ensures no_usage { IsErrOf result Fault.Usage → ⊥ }
     ensures no_write { IsErrOf result Fault.Write → ⊥ }
@@ -106,7 +110,7 @@ fn read<S: Source>(alloc: Global, source: &mut S) -> Result<Vec<u8>, Fault>
     match read_up_to(alloc, source, MOST_BYTES) {
         Ok(text) => Ok(text),
         Err(ReadFault::Failed) => Err(Fault::Read),
-        Err(ReadFault::TooLong) => Err(Fault::Refused),
+        Err(ReadFault::TooLong) => Err(Fault::Refused(Refusal::TooLong)),
         Err(ReadFault::Memory) => Err(Fault::Memory),
     }
 }
@@ -115,15 +119,15 @@ fn read<S: Source>(alloc: Global, source: &mut S) -> Result<Vec<u8>, Fault>
 fn translate<K: Sink>(alloc: Global, text: &[u8], out: &mut K) -> Result<(), Fault>
     requires { length text.now ≤ 1048576 }
     ensures compiles { OnOk result (Compiles text.now (K.held out.old) (K.held out.new)) }
-    ensures refused { IsErrOf result Fault.Refused → IsNoSmallText text.now }
+    ensures refused { IfErr result (RefusesWell text.now) }
     ensures write_fault { IsErrOf result Fault.Write → Rose (K.faults out.old) (K.faults out.new) }
     ensures begins { IsErrOf result Fault.Write → BeginsToCompile text.now (K.held out.old) (K.held out.new) }
     ensures silent { OnErr result ((IsErrOf result Fault.Write → ⊥) → out.new ≡ out.old) }
     ensures no_usage { IsErrOf result Fault.Usage → ⊥ }
     ensures no_read { IsErrOf result Fault.Read → ⊥ }
 {
-    let compiled = compile(alloc, text)?;
-    match write(&compiled.circuit, compiled.roles, out) {
+    let laid = compile(alloc, text)?;
+    match write(&laid, out) {
         Ok(()) => Ok(()),
         Err(_) => Err(Fault::Write),
     }

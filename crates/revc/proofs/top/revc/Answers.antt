@@ -1,7 +1,7 @@
 use Rattle.std.proofs.Common.{map, string_bytes}
 use Rattle.revc_io.specs.Faults.{Rose}
 use Rattle.revc.specs.Top.{IsOrder}
-use Rattle.revc.proofs.Statuses.{ends_after, stops_well, stops_after}
+use Rattle.revc.proofs.Statuses.{ends_after, stops_well, stops_after, refuses_well, refuses_after}
 use Rattle.revc.proofs.top.revc.Goals as goal
 
 pub returns-in-Ok-clause-refuses : goal.returns-in-Ok-clause-refuses
@@ -15,3 +15,9 @@ returns-in-Err-clause-completes g c =
 
 pub returns-in-Err-clause-refuses : goal.returns-in-Err-clause-refuses
 returns-in-Err-clause-refuses g c = stops_after c.in-Err.fault c.status.result _ _ _ c.in-Err.ensures.begins c.status.ensures
+
+pub returns-in-Ok-clause-refuses_all : goal.returns-in-Ok-clause-refuses_all
+returns-in-Ok-clause-refuses_all g c = λ _ _ _. refuses_well _ _ _ c.in-Ok.ensures.compiles
+
+pub returns-in-Err-clause-refuses_all : goal.returns-in-Err-clause-refuses_all
+returns-in-Err-clause-refuses_all g c = refuses_after c.in-Err.fault c.status.result _ _ _ c.in-Err.ensures.begins c.status.ensures
