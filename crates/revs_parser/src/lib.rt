@@ -10,3 +10,6 @@ mod program;
 mod stop;
 
 pub use program::{ParseFault, parse};
+
+#[cfg(test)]
+mod tests;
