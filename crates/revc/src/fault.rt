@@ -3,14 +3,20 @@ ghost use Rattle.revc.specs.Refusals.{kind_text};
 ghost use Rattle.revc.specs.Top.{status_of};
 
 use revc_base::Place;
+use thiserror::Error;
 
-/// Why a command did not end well. Each fault has a status and a line of its own.
-#[derive(Clone, Copy, Debug, PartialEq, Eq)]
+/// Why a command did not end well. Each fault has a status and a line of its own, which `report` writes.
+#[derive(Clone, Copy, Debug, PartialEq, Eq, Error)]
 pub enum Fault {
+    #[error("bad command line")]
     Usage,
+    #[error("program refused")]
     Refused(Refusal),
+    #[error("read fault")]
     Read,
+    #[error("write fault")]
     Write,
+    #[error("out of memory")]
     Memory,
 }
 

@@ -64,7 +64,7 @@ no_parameter a _ ms h = refl
 pub parameter_missing : (ts : List Token) → NotFirst (toks.Sign signs.OpenRound) ts → Halts (form g.parameter ∷ []) ts (stops.Syntax (length ts))
 parameter_missing [] h = record { halt = λ ms. refl }
 parameter_missing (t ∷ ts) h = record {
-  halt = λ ms. stuck t ts (form g.parameter ∷ ms) (no_parameter few_levels t.tok ms h) (no_parameter any_level t.tok ms h) refl ∙ ap no_syntax (omega arith)
+  halt = λ ms. stuck t ts (form g.parameter ∷ ms) (no_parameter few_levels t.tok ms h) (no_parameter any_level t.tok ms h) refl ∙ ap no_syntax (omega arith);
 }
 
 no_program : (a : ℕ → Bool) (t : Tok) (ms : Stack) → ¬ (t ≡ toks.Word words.Main) → step a (form g.program ∷ ms) t ≡ None
@@ -74,7 +74,7 @@ no_program a _ ms h = refl
 pub main_missing : (ts : List Token) → NotFirst (toks.Word words.Main) ts → Halts (form g.program ∷ []) ts (stops.Syntax (length ts))
 main_missing [] h = record { halt = λ ms. refl }
 main_missing (t ∷ ts) h = record {
-  halt = λ ms. stuck t ts (form g.program ∷ ms) (no_program few_levels t.tok ms h) (no_program any_level t.tok ms h) refl ∙ ap no_syntax (omega arith)
+  halt = λ ms. stuck t ts (form g.program ∷ ms) (no_program few_levels t.tok ms h) (no_program any_level t.tok ms h) refl ∙ ap no_syntax (omega arith);
 }
 
 -- ---- parameters
@@ -145,14 +145,14 @@ parameters_more {before} {all} {new} {next} {at} {ts} {mid} {a} {rest} n h q e =
   repeats = r.repeats_more next n.repeats
       (record { same = λ ms. another h ms ∙ q.goes_on.same (form g.parameters ∷ ms) })
       (λ more behind. mapped (q.spelled.spells (s.parameters more ∷ behind)) (λ us d. s.next_parameter d))
-      (let k = q.shorter in omega (arith, k))
+      (let k = q.shorter in omega (arith, k));
 }
 
 pub parameters_done : {before all : List Param} {ts rest : List Token} → Parameters before all ts rest → NotFirst (toks.Sign signs.OpenRound) rest → ReadsParameters before all ts rest
 parameters_done {before} {all} {ts} {rest} n k = record {
   more = n.read;
   all_params = n.all_params;
-  skips = r.repeats_done n.repeats (m.no_parameters rest k) (λ behind us d. s.last_parameter d)
+  skips = r.repeats_done n.repeats (m.no_parameters rest k) (λ behind us d. s.last_parameter d);
 }
 
 pub parameters_halt : {before all : List Param} {at : Place} {ts mid a : List Token} {stop : Stop} → Parameters before all ts mid → Heads (toks.Sign signs.OpenRound) at mid a
@@ -212,11 +212,11 @@ ended {params} {body} tokens (t ∷ more) e q h =
     let at_end : t.tok ≡ toks.End = end_is t.tok h in
     let none : more ≡ [] = end_is_last f.front t more (subst IsEnded f.cut e) at_end in
     record {
-    sentence = f.front;
-    end = t;
-    cut = f.cut ∙ ap (λ (z : List Token). f.front ++ t ∷ z) none;
-    ended = at_end;
-    spelled = subst (Spells few_levels (s.program params body ∷ [])) (append_nil f.front) (f.turn [] s.nothing)
+      sentence = f.front;
+      end = t;
+      cut = f.cut ∙ ap (λ (z : List Token). f.front ++ t ∷ z) none;
+      ended = at_end;
+      spelled = subst (Spells few_levels (s.program params body ∷ [])) (append_nil f.front) (f.turn [] s.nothing);
     }
 
 not_ended : (rest : List Token) → end_first rest ≡ false → outcome rest [] ≡ no_syntax (length rest)
@@ -226,21 +226,21 @@ not_ended (t ∷ ts) h = ap (λ (b : Bool). cond b accepted (no_syntax (length t
 refused : (tokens : List Token) (stop : Stop) (o : Outcome) → IsHalt stop o → Says tokens o → IsRefusal tokens stop
 refused tokens (stops.Syntax left) o e k =
     let f = subst (Says tokens) e k in record {
-    front = f.front;
-    named = f.named;
-    rest = f.rest;
-    cut = f.cut;
-    count = f.count;
-    why = record { front = f.front; named = f.named; rest = f.rest; cut = f.cut; count = refl; place = refl; begins = f.why.0; refused = f.why.1 };
+      front = f.front;
+      named = f.named;
+      rest = f.rest;
+      cut = f.cut;
+      count = f.count;
+      why = record { front = f.front; named = f.named; rest = f.rest; cut = f.cut; count = refl; place = refl; begins = f.why.0; refused = f.why.1 };
     }
 refused tokens (stops.Nesting left) o e k =
     let f = subst (Says tokens) e k in record {
-    front = f.front;
-    named = f.named;
-    rest = f.rest;
-    cut = f.cut;
-    count = f.count;
-    why = record { front = f.front; named = f.named; rest = f.rest; cut = f.cut; place = refl; begins = f.why.0; opens = f.why.1.0; goes_on = f.why.1.1 };
+      front = f.front;
+      named = f.named;
+      rest = f.rest;
+      cut = f.cut;
+      count = f.count;
+      why = record { front = f.front; named = f.named; rest = f.rest; cut = f.cut; place = refl; begins = f.why.0; opens = f.why.1.0; goes_on = f.why.1.1 };
     }
 refused tokens stops.Memory o e k = tt
 
@@ -289,13 +289,13 @@ pub limits_more : {params rest : List Param} {total : ℕ} (p : Param) (behind :
 limits_more {params} {rest} {total} p behind new h e some few w =
     let t = h.total in
     let pushed = sum-push h.before p in record {
-    before = h.before ++ p ∷ [];
-    cut = h.cut ∙ ap (λ (z : List Param). h.before ++ z) e ∙ sym (append_assoc h.before (p ∷ []) behind);
-    fine = record {
-      bits = bits-push h.before p ∙ m_and (list_all (λ width. leb 1 width) (widths_of h.before)) (list_all (λ width. leb 1 width) (width_of p.width ∷ [])) h.fine.bits (one_bit (width_of p.width) some);
-      inputs = omega (arith, pushed, t, few)
-    };
-    total = pushed ∙ ap (λ (z : ℕ). z + width_of p.width) t ∙ sym w
+      before = h.before ++ p ∷ [];
+      cut = h.cut ∙ ap (λ (z : List Param). h.before ++ z) e ∙ sym (append_assoc h.before (p ∷ []) behind);
+      fine = record {
+        bits = bits-push h.before p ∙ m_and (list_all (λ width. leb 1 width) (widths_of h.before)) (list_all (λ width. leb 1 width) (width_of p.width ∷ [])) h.fine.bits (one_bit (width_of p.width) some);
+        inputs = omega (arith, pushed, t, few);
+      };
+      total = pushed ∙ ap (λ (z : ℕ). z + width_of p.width) t ∙ sym w;
     }
   where
     m_and : (a b : Bool) → a ≡ true → b ≡ true → a && b ≡ true
@@ -311,7 +311,7 @@ limits_passed {params} {rest} {total} p behind h e why = record {
   cut = h.cut ∙ ap (λ (z : List Param). h.before ++ z) e;
   place = refl;
   fine = h.fine;
-  passed = λ k. too_much why k
+  passed = λ k. too_much why k;
 }
   where
     too_much : (width_of p.width ≡ 0) ⊎ (1024 < total + width_of p.width) → AreParams (h.before ++ p ∷ []) → ⊥
@@ -369,5 +369,5 @@ inputs_at {tokens} {params} {body} h k = record {
   cut = k.cut;
   place = k.place;
   fine = k.fine;
-  passed = k.passed
+  passed = k.passed;
 }

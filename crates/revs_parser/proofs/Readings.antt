@@ -112,7 +112,7 @@ repeats_more {A} {e} {all} {read} {ts} {mid} {rest} next r g d n = record {
   spells = λ more behind.
       subst (λ (z : List A). InFront (Spells few_levels (all more ∷ behind)) (Spells few_levels (all z ∷ behind)) ts rest) (sym (append_assoc read (next ∷ []) more))
       (joined (d more behind) (r.spells (next ∷ more) behind));
-  no_longer = let k = r.no_longer in omega (arith, k, n)
+  no_longer = let k = r.no_longer in omega (arith, k, n);
 }
 
 -- No element comes any more.
@@ -122,9 +122,9 @@ pub repeats_done : {A : Type 0} {e : Expected} {all : List A → Phrase} {read :
 repeats_done {A} {e} {all} {read} {ts} {rest} r m d = record {
   goes_on = record { same = λ ms. r.goes_on.same ms ∙ m ms };
   spelled = record {
-    spells = λ behind. subst (λ (z : List A). InFront (Spells few_levels behind) (Spells few_levels (all z ∷ behind)) ts rest) (append_nil read) (fed (r.spells [] behind) (d behind))
+    spells = λ behind. subst (λ (z : List A). InFront (Spells few_levels behind) (Spells few_levels (all z ∷ behind)) ts rest) (append_nil read) (fed (r.spells [] behind) (d behind));
   };
-  no_longer = r.no_longer
+  no_longer = r.no_longer;
 }
 
 pub repeats_halts : {A : Type 0} {e : Expected} {all : List A → Phrase} {read : List A} {ts mid : List Token} {stop : Stop} → Repeats e all read ts mid
@@ -148,7 +148,7 @@ names_more {before} {all} {new} {next} {ts} {mid} {rest} n f r e = record {
   repeats = repeats_more next n.repeats
       (record { same = λ ms. m.more_names mid f ms ∙ r.goes_on.same (form g.names ∷ ms) })
       (λ more behind. mapped (r.spelled.spells (s.names more ∷ behind)) (λ us d. s.next_name d))
-      (let k = r.shorter in omega (arith, k))
+      (let k = r.shorter in omega (arith, k));
 }
 
 pub names_done : {before all : List Name} {ts rest : List Token} → Names before all ts rest → name_first rest ≡ false → ReadsNames before all ts rest
@@ -171,7 +171,7 @@ pub part_index : (at : Place) {i : ℕ} {ts a b rest : List Token} → Reads (fo
 part_index at {i} {ts} {a} {b} {rest} r n k q = record {
   goes_on = m.then_goes (m.then_goes r.goes_on n.goes_on) (record { same = λ ms. m.as_part_end b k ms ∙ q.goes_on.same ms });
   spelled = one_part (m.then_spelled (m.then_spelled r.spelled n.spelled) q.spelled) (λ behind us d. s.an_index d);
-  shorter = let x = r.shorter in let y = n.shorter in let z = q.shorter in omega (arith, x, y, z)
+  shorter = let x = r.shorter in let y = n.shorter in let z = q.shorter in omega (arith, x, y, z);
 }
 
 pub part_slice : (at : Place) {by : Place} {i j : ℕ} {ts a b c d rest : List Token} → Reads (form (g.sign signs.OpenSquare) ∷ []) (s.sign signs.OpenSquare ∷ []) ts a
@@ -180,7 +180,7 @@ pub part_slice : (at : Place) {by : Place} {i j : ℕ} {ts a b c d rest : List T
 part_slice at {by} {i} {j} {ts} {a} {b} {c} {d} {rest} r n k o q = record {
   goes_on = m.then_goes (m.then_goes r.goes_on n.goes_on) (record { same = λ ms. m.more_slice k ms ∙ (m.then_goes o.goes_on q.goes_on).same ms });
   spelled = one_part (m.then_spelled (m.then_spelled (m.then_spelled (m.then_spelled r.spelled n.spelled) (a_sign k).spelled) o.spelled) q.spelled) (λ behind us d. s.a_slice d);
-  shorter = let x = r.shorter in let y = n.shorter in let z = q.shorter in let w = o.shorter in let v = (a_sign k).shorter in omega (arith, x, y, z, w, v)
+  shorter = let x = r.shorter in let y = n.shorter in let z = q.shorter in let w = o.shorter in let v = (a_sign k).shorter in omega (arith, x, y, z, w, v);
 }
 
 pub part_unclosed : {i : ℕ} {ts a b : List Token} {stop : Stop} → Reads (form (g.sign signs.OpenSquare) ∷ []) (s.sign signs.OpenSquare ∷ []) ts a
@@ -233,7 +233,7 @@ module _ {A : Type 0} {es : Stack} {one more : Expected} {end : Stack} {element 
         subst (λ (z : List A). InFront (Spells few_levels (element following ∷ elements others ∷ (last ++ bs))) (Spells few_levels (whole z ++ bs)) ts mid)
         (sym (append_assoc read (next ∷ []) (following ∷ others)))
         (joined (joined (d following others (last ++ bs)) (r.spelled.spells (elements (following ∷ others) ∷ (last ++ bs)))) (c.spells next (following ∷ others) bs));
-    no_longer = let x = c.no_longer in let y = r.shorter in omega (arith, x, y, n)
+    no_longer = let x = c.no_longer in let y = r.shorter in omega (arith, x, y, n);
   }
 
   -- No element comes any more, and the end was read.
@@ -246,7 +246,7 @@ module _ {A : Type 0} {es : Stack} {one more : Expected} {end : Stack} {element 
   chain_done {next} {rest} {final} c r g d q = record {
     goes_on = record { same = λ ms. c.goes_on.same ms ∙ r.goes_on.same (more ∷ (end ++ ms)) ∙ g (end ++ ms) ∙ q.goes_on.same ms };
     spelled = record { spells = λ bs. joined (joined (mapped (q.spelled.spells bs) (d (last ++ bs))) (r.spelled.spells (elements [] ∷ (last ++ bs)))) (c.spells next [] bs) };
-    shorter = let x = c.no_longer in let y = r.shorter in let z = q.no_longer in omega (arith, x, y, z)
+    shorter = let x = c.no_longer in let y = r.shorter in let z = q.no_longer in omega (arith, x, y, z);
   }
 
   pub chain_halts : {stop : Stop} → Chain es one more end element elements last whole read ts behind → Halts (one ∷ []) behind stop → Halts es ts stop
@@ -285,9 +285,9 @@ pub sum_begun : (l : ℕ) {t : Term} {items : List Term} {at : Place} {ts rest b
     → Heads (toks.Sign signs.Xor) at rest behind → items ≡ t ∷ [] → InSum l (map tree_of items) ts behind
 sum_begun l {t} {items} {at} {ts} {rest} {behind} r h e =
     subst (λ (z : List Term). InSum l (map tree_of z) ts behind) (sym e) (record {
-    goes_on = record { same = λ ms. m.as_sum l ts ms ∙ r.goes_on.same (form (g.sums l) ∷ ms) ∙ m.more_sums l h ms };
-    spells = λ next others bs. mapped (before_token (r.spelled.spells (s.sums l (next ∷ others) ∷ bs)) h (λ us d. s.next_product d)) (λ us d. s.a_sum d);
-    no_longer = let x = r.shorter in let y = ap length h.cut in omega (arith, x, y)
+      goes_on = record { same = λ ms. m.as_sum l ts ms ∙ r.goes_on.same (form (g.sums l) ∷ ms) ∙ m.more_sums l h ms };
+      spells = λ next others bs. mapped (before_token (r.spelled.spells (s.sums l (next ∷ others) ∷ bs)) h (λ us d. s.next_product d)) (λ us d. s.a_sum d);
+      no_longer = let x = r.shorter in let y = ap length h.cut in omega (arith, x, y);
     })
 
 pub sum_more : (l : ℕ) (items : List Term) (t : Term) {new : List Term} {at : Place} {ts behind rest mid : List Token} → InSum l (map tree_of items) ts behind
@@ -322,9 +322,9 @@ pub product_begun : (l : ℕ) {t : Term} {items : List Term} {at : Place} {ts re
     → Heads (toks.Sign signs.And) at rest behind → items ≡ t ∷ [] → InProduct l (map tree_of items) ts behind
 product_begun l {t} {items} {at} {ts} {rest} {behind} r h e =
     subst (λ (z : List Term). InProduct l (map tree_of z) ts behind) (sym e) (record {
-    goes_on = record { same = λ ms. m.as_product l ts ms ∙ r.goes_on.same (form (g.products l) ∷ ms) ∙ m.more_products l h ms };
-    spells = λ next others bs. mapped (before_token (r.spelled.spells (s.products l (next ∷ others) ∷ bs)) h (λ us d. s.next_application d)) (λ us d. s.a_product d);
-    no_longer = let x = r.shorter in let y = ap length h.cut in omega (arith, x, y)
+      goes_on = record { same = λ ms. m.as_product l ts ms ∙ r.goes_on.same (form (g.products l) ∷ ms) ∙ m.more_products l h ms };
+      spells = λ next others bs. mapped (before_token (r.spelled.spells (s.products l (next ∷ others) ∷ bs)) h (λ us d. s.next_application d)) (λ us d. s.a_product d);
+      no_longer = let x = r.shorter in let y = ap length h.cut in omega (arith, x, y);
     })
 
 pub product_more : (l : ℕ) (items : List Term) (t : Term) {new : List Term} {at : Place} {ts behind rest mid : List Token} → InProduct l (map tree_of items) ts behind
@@ -361,9 +361,9 @@ pub arguments_begun : (l : ℕ) (head held : Term) {items : List Term} {ts rest 
 arguments_begun l head held {items} {ts} {rest} r h e w =
     subst (λ (z : List Term). InArguments l (tree_of held) (map tree_of z) ts rest) (sym e)
     (subst (λ (z : Term). InArguments l (tree_of z) [] ts rest) (sym w) (record {
-    goes_on = record { same = λ ms. r.goes_on.same (form (g.atoms l) ∷ ms) ∙ m.more_atoms l rest h ms };
-    spells = λ next others bs. mapped (fed (r.spelled.spells (s.atoms l (next ∷ others) ∷ bs)) (λ us d. s.next_atom d)) (λ us d. s.an_application d);
-    no_longer = let x = r.shorter in omega (arith, x)
+      goes_on = record { same = λ ms. r.goes_on.same (form (g.atoms l) ∷ ms) ∙ m.more_atoms l rest h ms };
+      spells = λ next others bs. mapped (fed (r.spelled.spells (s.atoms l (next ∷ others) ∷ bs)) (λ us d. s.next_atom d)) (λ us d. s.an_application d);
+      no_longer = let x = r.shorter in omega (arith, x);
     }))
 
 pub arguments_more : (l : ℕ) (head : Tree) (items : List Term) (t : Term) {new : List Term} {ts behind rest : List Token} → InArguments l head (map tree_of items) ts behind
@@ -403,9 +403,9 @@ pub register_begun : (l : ℕ) {items : List Term} {ts rest : List Token} → Re
     → items ≡ [] → InRegister l (map tree_of items) ts rest
 register_begun l {items} {ts} {rest} r e =
     subst (λ (z : List Term). InRegister l (map tree_of z) ts rest) (sym e) (record {
-    goes_on = record { same = λ ms. r.goes_on.same (form (g.expression l) ∷ form (g.elements l) ∷ form (g.sign signs.CloseSquare) ∷ ms) };
-    spells = λ next others bs. r.spelled.spells (s.expression l next ∷ s.elements l others ∷ s.sign signs.CloseSquare ∷ bs);
-    no_longer = let x = r.shorter in omega (arith, x)
+      goes_on = record { same = λ ms. r.goes_on.same (form (g.expression l) ∷ form (g.elements l) ∷ form (g.sign signs.CloseSquare) ∷ ms) };
+      spells = λ next others bs. r.spelled.spells (s.expression l next ∷ s.elements l others ∷ s.sign signs.CloseSquare ∷ bs);
+      no_longer = let x = r.shorter in omega (arith, x);
     })
 
 pub register_more : (l : ℕ) (items : List Term) (t : Term) {new : List Term} {at : Place} {ts behind rest mid : List Token} → InRegister l (map tree_of items) ts behind
@@ -460,10 +460,10 @@ block_done l at {read} {last} {whole} {ts} {mid} {rest} b r w = record {
     spelled = record {
       spells = λ bs.
           subst (λ (z : List ItemTree). InFront (Spells few_levels bs) (Spells few_levels (s.items l z ∷ s.expression l last ∷ s.sign signs.CloseCurly ∷ bs)) ts rest) (append_nil read)
-          (joined (mapped (r.spelled.spells bs) (λ us d. s.last_item d)) (b.repeats.spells [] (s.expression l last ∷ s.sign signs.CloseCurly ∷ bs)))
+          (joined (mapped (r.spelled.spells bs) (λ us d. s.last_item d)) (b.repeats.spells [] (s.expression l last ∷ s.sign signs.CloseCurly ∷ bs)));
     };
-    shorter = let x = b.repeats.no_longer in let y = r.shorter in omega (arith, x, y)
-  }
+    shorter = let x = b.repeats.no_longer in let y = r.shorter in omega (arith, x, y);
+  };
 }
 
 pub block_halts : (l : ℕ) {read : List ItemTree} {ts mid : List Token} {stop : Stop} → InBlock l read ts mid → Halts (body l ∷ []) mid stop → Halts (body l ∷ []) ts stop
@@ -485,11 +485,11 @@ pub function_reads : (l : ℕ) (at : Place) {t : Tree} {first : Name} {before al
     → t ≡ function all inner at → ReadsFunction l at t ts rest
 function_reads l at {t} {first} {before} {all} {inner} r e n k q w =
     let f = function_named r n e in record {
-    first = first;
-    more = f.0;
-    inner = inner;
-    is = w ∙ ap (λ (z : List Name). function z inner at) f.1;
-    reads = and_then (and_then f.2.reads k) q
+      first = first;
+      more = f.0;
+      inner = inner;
+      is = w ∙ ap (λ (z : List Name). function z inner at) f.1;
+      reads = and_then (and_then f.2.reads k) q;
     }
 
 pub function_in_names : (l : ℕ) {first : Name} {ts a : List Token} {stop : Stop} → Reads (form g.name ∷ []) (s.name first ∷ []) ts a → Halts (form g.names ∷ []) a stop
@@ -514,7 +514,7 @@ binding_reads l {item} {bound} {before} {all} {inner} r e n k q z w = record {
   more = n.more;
   inner = inner;
   is = w ∙ ap (λ (x : List Name). bind bound (bound_of x inner)) (n.all_names ∙ ap (λ (x : List Name). x ++ n.more) e);
-  reads = and_then (and_then (and_then (and_maybe r n.skips) k) q) z
+  reads = and_then (and_then (and_then (and_maybe r n.skips) k) q) z;
 }
 
 pub binding_in_names : (l : ℕ) {bound : Name} {ts a : List Token} {stop : Stop} → Reads (form g.name ∷ []) (s.name bound ∷ []) ts a → Halts (form g.names ∷ []) a stop
@@ -712,18 +712,18 @@ in_block_halts l inner e {at} {ts} {mid} {stop} h ok k =
 pub item_let : (l : ℕ) {item : ItemTree} {at : Place} {ts mid rest : List Token} → Heads (toks.Word words.Let) at ts mid → ReadsBinding l item mid rest → ReadsItem l item ts rest
 item_let l {item} {at} {ts} {mid} {rest} h r =
     subst (λ (z : ItemTree). ReadsItem l z ts rest) (sym r.is) (record {
-    goes_on = record { same = λ ms. m.more_binding l h ms ∙ r.reads.goes_on.same (body l ∷ ms) };
-    spelled = record { spells = λ bs. after_token h (r.reads.spelled.spells bs) (λ us d. s.a_let d) };
-    shorter = let x = r.reads.shorter in let y = ap length h.cut in omega (arith, x, y)
+      goes_on = record { same = λ ms. m.more_binding l h ms ∙ r.reads.goes_on.same (body l ∷ ms) };
+      spelled = record { spells = λ bs. after_token h (r.reads.spelled.spells bs) (λ us d. s.a_let d) };
+      shorter = let x = r.reads.shorter in let y = ap length h.cut in omega (arith, x, y);
     })
 
 pub item_do : (l : ℕ) {item : ItemTree} {t : Tree} {at : Place} {ts mid rest : List Token} → NotFirst (toks.Word words.Let) ts → Reads (form (g.expression l) ∷ []) (s.expression l t ∷ []) ts mid
     → Heads (toks.Sign signs.Semi) at mid rest → item ≡ run t → ReadsItem l item ts rest
 item_do l {item} {t} {at} {ts} {mid} {rest} k r h w =
     subst (λ (z : ItemTree). ReadsItem l z ts rest) (sym w) (record {
-    goes_on = record { same = λ ms. m.as_body l ts k ms ∙ r.goes_on.same (body_end l ∷ ms) ∙ m.more_item l h ms };
-    spelled = record { spells = λ bs. mapped (joined ((a_sign h).spelled.spells bs) (r.spelled.spells (s.sign signs.Semi ∷ bs))) (λ us d. s.a_do d) };
-    shorter = let x = r.shorter in let y = ap length h.cut in omega (arith, x, y)
+      goes_on = record { same = λ ms. m.as_body l ts k ms ∙ r.goes_on.same (body_end l ∷ ms) ∙ m.more_item l h ms };
+      spelled = record { spells = λ bs. mapped (joined ((a_sign h).spelled.spells bs) (r.spelled.spells (s.sign signs.Semi ∷ bs))) (λ us d. s.a_do d) };
+      shorter = let x = r.shorter in let y = ap length h.cut in omega (arith, x, y);
     })
 
 pub last_reads : (l : ℕ) {t : Tree} {ts mid rest : List Token} → NotFirst (toks.Word words.Let) ts → Reads (form (g.expression l) ∷ []) (s.expression l t ∷ []) ts mid
@@ -732,7 +732,7 @@ pub last_reads : (l : ℕ) {t : Tree} {ts mid rest : List Token} → NotFirst (t
 last_reads l {t} {ts} {mid} {rest} k r n q = record {
   goes_on = record { same = λ ms. m.as_body l ts k ms ∙ r.goes_on.same (body_end l ∷ ms) ∙ m.as_body_end l mid n ms ∙ q.goes_on.same ms };
   spelled = m.then_spelled r.spelled q.spelled;
-  shorter = let x = r.shorter in let y = q.shorter in omega (arith, x, y)
+  shorter = let x = r.shorter in let y = q.shorter in omega (arith, x, y);
 }
 
 pub let_halts : (l : ℕ) {at : Place} {ts mid : List Token} {stop : Stop} → Heads (toks.Word words.Let) at ts mid

@@ -44,7 +44,7 @@ pub joined : {F G H : List Token → Type 0} {ts mid rest : List Token} → InFr
 joined {F} {G} {H} {ts} {mid} {rest} a b = record {
   front = b.front ++ a.front;
   cut = b.cut ∙ ap (λ (z : List Token). b.front ++ z) a.cut ∙ sym (append_assoc b.front a.front rest);
-  turn = λ us d. subst H (sym (append_assoc b.front a.front us)) (b.turn (a.front ++ us) (a.turn us d))
+  turn = λ us d. subst H (sym (append_assoc b.front a.front us)) (b.turn (a.front ++ us) (a.turn us d));
 }
 
 pub mapped : {F G H : List Token → Type 0} {ts rest : List Token} → InFront F G ts rest → ((us : List Token) → G us → H us) → InFront F H ts rest
@@ -68,12 +68,12 @@ smaller_behind r h = let x = r.shorter in let y = ap length h.cut in omega (arit
 
 pub then_goes : {es fs : Stack} {ts mid rest : List Token} → GoesOn es [] ts mid → GoesOn fs [] mid rest → GoesOn (es ++ fs) [] ts rest
 then_goes {es} {fs} {ts} {mid} {rest} a b = record {
-  same = λ ms. ap (outcome ts) (append_assoc es fs ms) ∙ a.same (fs ++ ms) ∙ b.same ms
+  same = λ ms. ap (outcome ts) (append_assoc es fs ms) ∙ a.same (fs ++ ms) ∙ b.same ms;
 }
 
 pub then_spelled : {ps qs : List Phrase} {ts mid rest : List Token} → Spelled ps ts mid → Spelled qs mid rest → Spelled (ps ++ qs) ts rest
 then_spelled {ps} {qs} {ts} {mid} {rest} a b = record {
-  spells = λ behind. subst (λ (z : List Phrase). InFront (Spells few_levels behind) (Spells few_levels z) ts rest) (sym (append_assoc ps qs behind)) (joined (b.spells behind) (a.spells (qs ++ behind)))
+  spells = λ behind. subst (λ (z : List Phrase). InFront (Spells few_levels behind) (Spells few_levels z) ts rest) (sym (append_assoc ps qs behind)) (joined (b.spells behind) (a.spells (qs ++ behind)));
 }
 
 -- One reading behind the other.
@@ -97,7 +97,7 @@ pub as_form : {es : Stack} {ps : List Phrase} {ts rest : List Token} (e : Expect
 as_form {es} {ps} {ts} {rest} e p m d r = record {
   goes_on = record { same = λ ms. m ms ∙ r.goes_on.same ms };
   spelled = record { spells = λ behind. mapped (r.spelled.spells behind) (d behind) };
-  shorter = r.shorter
+  shorter = r.shorter;
 }
 
 -- A form that begins with a token of its own.
@@ -109,7 +109,7 @@ pub with_first : {k : Tok} {at : Place} {es : Stack} {ps : List Phrase} {ts mid 
 with_first {k} {at} {es} {ps} {ts} {mid} {rest} e p h m d r = record {
   goes_on = record { same = λ ms. m ms ∙ r.goes_on.same ms };
   spelled = record { spells = λ behind. after_token h (r.spelled.spells behind) (d behind) };
-  shorter = let l = ap length h.cut in let k = r.shorter in omega (arith, l, k)
+  shorter = let l = ap length h.cut in let k = r.shorter in omega (arith, l, k);
 }
 
 -- A form that is one token.
@@ -121,7 +121,7 @@ pub one_token : {k : Tok} {at : Place} {ts rest : List Token} (e : Expected) (p 
 one_token {k} {at} {ts} {rest} e p h m d = record {
   goes_on = record { same = m };
   spelled = record { spells = λ behind. token_first h (d behind) };
-  shorter = let l = ap length h.cut in omega (arith, l)
+  shorter = let l = ap length h.cut in omega (arith, l);
 }
 
 -- ---- where reading stops
@@ -135,7 +135,7 @@ no_memory es ts = record { halt = λ ms. tt }
 
 pub halts_first : {es : Stack} {ts : List Token} {stop : Stop} (fs : Stack) → Halts es ts stop → Halts (es ++ fs) ts stop
 halts_first {es} {ts} {stop} fs h = record {
-  halt = λ ms. subst (λ (z : Stack). IsHalt stop (outcome ts z)) (sym (append_assoc es fs ms)) (h.halt (fs ++ ms))
+  halt = λ ms. subst (λ (z : Stack). IsHalt stop (outcome ts z)) (sym (append_assoc es fs ms)) (h.halt (fs ++ ms));
 }
 
 -- The machine comes to where it halts.
@@ -145,7 +145,7 @@ halts_there {ts} {mid} {stop} es fs m h = record { halt = λ ms. subst (IsHalt s
 
 pub halts_behind : {es : Stack} {ps : List Phrase} {ts mid : List Token} {stop : Stop} (fs : Stack) → Reads es ps ts mid → Halts fs mid stop → Halts (es ++ fs) ts stop
 halts_behind {es} {ps} {ts} {mid} {stop} fs r h = record {
-  halt = λ ms. subst (IsHalt stop) (sym (ap (outcome ts) (append_assoc es fs ms) ∙ r.goes_on.same (fs ++ ms))) (h.halt ms)
+  halt = λ ms. subst (IsHalt stop) (sym (ap (outcome ts) (append_assoc es fs ms) ∙ r.goes_on.same (fs ++ ms))) (h.halt ms);
 }
 
 -- The machine stops at the first token, which opens a level too many.

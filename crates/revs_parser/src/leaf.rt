@@ -26,7 +26,13 @@ pub fn after(tokens: &[Token], sign: Sign) -> Option<(Place, &[Token])>
                 },
                 rest,
             ),
-        ) => { if *first == sign { Some((*at, rest)) } else { None } }
+        ) => {
+            if *first == sign {
+                Some((*at, rest))
+            } else {
+                None
+            }
+        }
         _ => None,
     }
 }

@@ -168,15 +168,42 @@ fn sentences_have_their_terms(rt: HostRuntime) -> Result<(), Fail> {
     let rows: [(&[u8], &str); 12] = [
         (b"main (a : bool) (b : bool[3]) = a", "a7 b18[3] = a33"),
         (b"main (a : bool[1024]) = a", "a7[1024] = a25"),
-        (b"main (a : bool) = fun x y -> x <- y <> x", "a7 = (fun19 x23 y25 -> (assign x30 (xor y35 x40)))"),
-        (b"main (a : bool) = a && b <> c && d && e <> f", "a7 = (xor (and a19 b24) (and c29 d34 e39) f44)"),
-        (b"main (a : bool) = (a <> b) && c", "a7 = (and (xor a20 b25) c31)"),
-        (b"main (a : bool) = clean a <> assert b", "a7 = (xor (clean19 a25) (assert30 b37))"),
-        (b"main (a : bool) = append a b && rotate 2 c", "a7 = (and (append19 a26 b28) (rotate33 2 c42))"),
-        (b"main (a : bool) = f a (b) true false.[1]", "a7 = (apply f19 a21 b24 true27 (at false32 .37[1]))"),
-        (b"main (a : bool) = a.[0].[1 .. 2]", "a7 = (at a19 .20[0] .24[1..2])"),
-        (b"main (a : bool) = reg [a; b <> c]", "a7 = (reg19 a24 (xor b27 c32))"),
-        (b"main (a : bool) = { let x = a; let f y z = y; x <- a; f }", "a7 = (block19 x25 = a29; f36 = (fun38 y38 z40 -> y44); (assign x47 a52); f55)"),
+        (
+            b"main (a : bool) = fun x y -> x <- y <> x",
+            "a7 = (fun19 x23 y25 -> (assign x30 (xor y35 x40)))",
+        ),
+        (
+            b"main (a : bool) = a && b <> c && d && e <> f",
+            "a7 = (xor (and a19 b24) (and c29 d34 e39) f44)",
+        ),
+        (
+            b"main (a : bool) = (a <> b) && c",
+            "a7 = (and (xor a20 b25) c31)",
+        ),
+        (
+            b"main (a : bool) = clean a <> assert b",
+            "a7 = (xor (clean19 a25) (assert30 b37))",
+        ),
+        (
+            b"main (a : bool) = append a b && rotate 2 c",
+            "a7 = (and (append19 a26 b28) (rotate33 2 c42))",
+        ),
+        (
+            b"main (a : bool) = f a (b) true false.[1]",
+            "a7 = (apply f19 a21 b24 true27 (at false32 .37[1]))",
+        ),
+        (
+            b"main (a : bool) = a.[0].[1 .. 2]",
+            "a7 = (at a19 .20[0] .24[1..2])",
+        ),
+        (
+            b"main (a : bool) = reg [a; b <> c]",
+            "a7 = (reg19 a24 (xor b27 c32))",
+        ),
+        (
+            b"main (a : bool) = { let x = a; let f y z = y; x <- a; f }",
+            "a7 = (block19 x25 = a29; f36 = (fun38 y38 z40 -> y44); (assign x47 a52); f55)",
+        ),
         (b"main (a : bool) = { a }", "a7 = (block19 a21)"),
     ];
     for (text, expected) in rows {
@@ -221,7 +248,10 @@ fn texts_are_refused_at_their_tokens(rt: HostRuntime) -> Result<(), Fail> {
         (b"main (a : bool[0]) = a &&", syntax(12, 26)),
         (b"main (a : bool[0]) = a", ParseFault::Inputs(at(7))),
         (b"main (a : bool[1025]) = a.[0]", ParseFault::Inputs(at(7))),
-        (b"main (a : bool[1023]) (b : bool) (c : bool) = a", ParseFault::Inputs(at(35))),
+        (
+            b"main (a : bool[1023]) (b : bool) (c : bool) = a",
+            ParseFault::Inputs(at(35)),
+        ),
     ];
     for (text, expected) in rows {
         assert_eq!(rt; parsed(alloc, text)?.err(), Some(expected));
@@ -246,6 +276,9 @@ fn brackets(alloc: Global, levels: usize) -> Result<Vec<u8>, Fail> {
 fn levels_end_at_100(rt: HostRuntime) -> Result<(), Fail> {
     let alloc = rt.alloc();
     assert_eq!(rt; parsed(alloc, &brackets(alloc, 99)?)?.err(), None);
-    assert_eq!(rt; parsed(alloc, &brackets(alloc, 100)?)?.err(), Some(ParseFault::Nesting(at(118))));
+    assert_eq!(rt;
+        parsed(alloc, &brackets(alloc, 100)?)?.err(),
+        Some(ParseFault::Nesting(at(118)))
+    );
     Ok(())
 }

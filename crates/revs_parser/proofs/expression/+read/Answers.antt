@@ -17,7 +17,7 @@ use Rattle.revs_parser.proofs.expression.+read.Goals as goal
 -- ---- expressions
 
 pub expression-returns-in_err-inner-clause-halts : goal.expression-returns-in_err-inner-clause-halts
-expression-returns-in_err-inner-clause-halts t c = 
+expression-returns-in_err-inner-clause-halts t c =
     stops_so _ c.from_residual.result c.from_residual.ensures.1
     (r.expression_no_level c.args.level c.in-Some.ensures.found c.in_err-inner.ensures.deep _ c.in_err-inner.ensures.stops)
 
@@ -28,7 +28,7 @@ pub expression-returns-in-Some-clause-halts : goal.expression-returns-in-Some-cl
 expression-returns-in-Some-clause-halts t c = on_err c.function.result (λ x. r.expression_in_function c.args.level c.in_ok-inner.inner c.in_ok-inner.ensures.inner c.in-Some.ensures.found c.in_ok-inner.ensures.within) c.function.ensures.halts
 
 pub expression-returns-in_err-left-clause-halts : goal.expression-returns-in_err-left-clause-halts
-expression-returns-in_err-left-clause-halts t c = 
+expression-returns-in_err-left-clause-halts t c =
     stops_so _ c.from_residual-in_err-left.result c.from_residual-in_err-left.ensures.1
     (r.expression_in_sum c.args.level c.in_default.ensures.none c.in_err-left.ensures.halts)
 
@@ -36,7 +36,7 @@ pub expression-returns-in_default-after-clause-ok : goal.expression-returns-in_d
 expression-returns-in_default-after-clause-ok t c = r.expression_sum c.args.level c.in_default.ensures.none c.in_ok-left.ensures.ok c.in_default-after.ensures.none
 
 pub expression-returns-in_err-right-clause-halts : goal.expression-returns-in_err-right-clause-halts
-expression-returns-in_err-right-clause-halts t c = 
+expression-returns-in_err-right-clause-halts t c =
     stops_so _ c.from_residual-in_err-right.result c.from_residual-in_err-right.ensures.1
     (r.expression_in_assigned c.args.level c.in_default.ensures.none c.in_ok-left.ensures.ok c.in-Some-after.ensures.found c.in_err-right.ensures.halts)
 
@@ -48,22 +48,22 @@ expression-returns-clause-ok t c = r.expression_assign c.args.level c.in_default
 -- ---- functions
 
 pub function-returns-in_err-first-clause-halts : goal.function-returns-in_err-first-clause-halts
-function-returns-in_err-first-clause-halts t c = 
+function-returns-in_err-first-clause-halts t c =
     stops_so _ c.from_residual.result c.from_residual.ensures.1
     (halts_first (r.function_rest c.args.level) c.in_err-first.ensures.halts)
 
 pub function-returns-in_err-names-clause-halts : goal.function-returns-in_err-names-clause-halts
-function-returns-in_err-names-clause-halts t c = 
+function-returns-in_err-names-clause-halts t c =
     stops_so _ c.from_residual-in_err-names.result c.from_residual-in_err-names.ensures.1
     (r.function_in_names c.args.level c.in_ok-first.ensures.ok c.in_err-names.ensures.halts)
 
 pub function-returns-in_err-rest-clause-halts : goal.function-returns-in_err-rest-clause-halts
-function-returns-in_err-rest-clause-halts t c = 
+function-returns-in_err-rest-clause-halts t c =
     stops_so _ c.from_residual-in_err-rest.result c.from_residual-in_err-rest.ensures.1
     (r.function_no_arrow c.args.level c.in_ok-first.ensures.ok c.in_ok-names.ensures.ok c.in_err-rest.ensures.halts)
 
 pub function-returns-in_err-body-clause-halts : goal.function-returns-in_err-body-clause-halts
-function-returns-in_err-body-clause-halts t c = 
+function-returns-in_err-body-clause-halts t c =
     stops_so _ c.from_residual-in_err-body.result c.from_residual-in_err-body.ensures.1
     (r.function_in_body c.args.level c.in_ok-first.ensures.ok c.in_ok-names.ensures.ok c.in_ok-rest.ensures.ok c.in_err-body.ensures.halts)
 
@@ -75,7 +75,7 @@ function-returns-clause-ok t c = r.function_reads c.args.level c.args.at c.in_ok
 -- ---- sums
 
 pub sum-returns-in_err-first-clause-halts : goal.sum-returns-in_err-first-clause-halts
-sum-returns-in_err-first-clause-halts t c = 
+sum-returns-in_err-first-clause-halts t c =
     stops_so _ c.from_residual.result c.from_residual.ensures.1
     (r.sum_no_first c.args.level c.in_err-first.ensures.halts)
 
@@ -88,7 +88,7 @@ sum-products-init t c = record {
 }
 
 pub sum-returns-in_err-next-clause-halts : goal.sum-returns-in_err-next-clause-halts
-sum-returns-in_err-next-clause-halts t c = 
+sum-returns-in_err-next-clause-halts t c =
     stops_so _ c.from_residual-in_err-next.result c.from_residual-in_err-next.ensures.1
     (r.chain_halts c.products.invariant.read c.in_err-next.ensures.halts)
 
@@ -107,7 +107,7 @@ sum-products-smaller t c = smaller_behind c.in_ok-next.ensures.ok c.in-Some-afte
 -- ---- products
 
 pub product-returns-in_err-first-clause-halts : goal.product-returns-in_err-first-clause-halts
-product-returns-in_err-first-clause-halts t c = 
+product-returns-in_err-first-clause-halts t c =
     stops_so _ c.from_residual.result c.from_residual.ensures.1
     (r.product_no_first c.args.level c.in_err-first.ensures.halts)
 
@@ -120,7 +120,7 @@ product-applications-init t c = record {
 }
 
 pub product-returns-in_err-next-clause-halts : goal.product-returns-in_err-next-clause-halts
-product-returns-in_err-next-clause-halts t c = 
+product-returns-in_err-next-clause-halts t c =
     stops_so _ c.from_residual-in_err-next.result c.from_residual-in_err-next.ensures.1
     (r.chain_halts c.applications.invariant.read c.in_err-next.ensures.halts)
 
@@ -139,7 +139,7 @@ product-applications-smaller t c = smaller_behind c.in_ok-next.ensures.ok c.in-S
 -- ---- applications
 
 pub application-returns-in_err-operand-clause-halts : goal.application-returns-in_err-operand-clause-halts
-application-returns-in_err-operand-clause-halts t c = 
+application-returns-in_err-operand-clause-halts t c =
     stops_so _ c.from_residual.result c.from_residual.ensures.1
     (r.clean_halts c.args.level c.in-Some.ensures.found c.in_err-operand.ensures.halts)
 
@@ -148,7 +148,7 @@ application-returns-in-Some-clause-ok t c = r.application_clean c.args.level c.i
     (tree_of-Clean c.in_ok-new.field-0 c.in-Some.at ∙ ap (λ (z : Term). clean (tree_of z) c.in-Some.at) c.in_ok-new.ensures.ok)
 
 pub application-returns-in_err-operand-2-clause-halts : goal.application-returns-in_err-operand-2-clause-halts
-application-returns-in_err-operand-2-clause-halts t c = 
+application-returns-in_err-operand-2-clause-halts t c =
     stops_so _ c.from_residual-in_err-operand-2.result c.from_residual-in_err-operand-2.ensures.1
     (r.assert_halts c.args.level c.in-Some-after_word.ensures.found c.in_err-operand-2.ensures.halts)
 
@@ -157,12 +157,12 @@ application-returns-in-Some-after_word-clause-ok t c = r.application_assert c.ar
     (tree_of-Assert c.in_ok-new-2.field-0 c.in-Some-after_word.at ∙ ap (λ (z : Term). assert (tree_of z) c.in-Some-after_word.at) c.in_ok-new-2.ensures.ok)
 
 pub application-returns-in_err-first-clause-halts : goal.application-returns-in_err-first-clause-halts
-application-returns-in_err-first-clause-halts t c = 
+application-returns-in_err-first-clause-halts t c =
     stops_so _ c.from_residual-in_err-first.result c.from_residual-in_err-first.ensures.1
     (r.append_halts c.args.level c.in-Some-after_word-2.ensures.found c.in_err-first.ensures.halts)
 
 pub application-returns-in_err-second-clause-halts : goal.application-returns-in_err-second-clause-halts
-application-returns-in_err-second-clause-halts t c = 
+application-returns-in_err-second-clause-halts t c =
     stops_so _ c.from_residual-in_err-second.result c.from_residual-in_err-second.ensures.1
     (r.append_halts_second c.args.level c.in-Some-after_word-2.ensures.found c.in_ok-first.ensures.ok c.in_err-second.ensures.halts)
 
@@ -173,12 +173,12 @@ application-returns-in-Some-after_word-2-clause-ok t c = r.application_append c.
     ∙ ap (λ (z : Term). append (tree_of c.in_ok-first.first) (tree_of z) c.in-Some-after_word-2.at) c.in_ok-new-4.ensures.ok)
 
 pub application-returns-in_err-by-clause-halts : goal.application-returns-in_err-by-clause-halts
-application-returns-in_err-by-clause-halts t c = 
+application-returns-in_err-by-clause-halts t c =
     stops_so _ c.from_residual-in_err-by.result c.from_residual-in_err-by.ensures.1
     (r.rotate_halts c.args.level c.in-Some-after_word-3.ensures.found c.in_err-by.ensures.halts)
 
 pub application-returns-in_err-operand-3-clause-halts : goal.application-returns-in_err-operand-3-clause-halts
-application-returns-in_err-operand-3-clause-halts t c = 
+application-returns-in_err-operand-3-clause-halts t c =
     stops_so _ c.from_residual-in_err-operand-3.result c.from_residual-in_err-operand-3.ensures.1
     (r.rotate_halts_second c.args.level c.in-Some-after_word-3.ensures.found c.in_ok-by.ensures.ok c.in_err-operand-3.ensures.halts)
 
@@ -195,7 +195,7 @@ application-returns-clause-halts t c = on_err c.atoms.result (λ x. r.plain_halt
 -- ---- an atom and its arguments
 
 pub atoms-returns-in_err-head-clause-halts : goal.atoms-returns-in_err-head-clause-halts
-atoms-returns-in_err-head-clause-halts t c = 
+atoms-returns-in_err-head-clause-halts t c =
     stops_so _ c.from_residual.result c.from_residual.ensures.1
     (r.atoms_halt c.args.level c.in_err-head.ensures.halts)
 
@@ -208,7 +208,7 @@ atoms-arguments-init t c = record {
 }
 
 pub atoms-returns-in_err-next-clause-halts : goal.atoms-returns-in_err-next-clause-halts
-atoms-returns-in_err-next-clause-halts t c = 
+atoms-returns-in_err-next-clause-halts t c =
     stops_so _ c.from_residual-in_err-next.result c.from_residual-in_err-next.ensures.1
     (r.chain_halts c.arguments.invariant.read c.in_err-next.ensures.halts)
 
@@ -227,12 +227,12 @@ atoms-arguments-smaller t c = c.in_ok-next.ensures.ok.shorter
 -- ---- atoms
 
 pub atom-returns-in_err-inner-clause-halts : goal.atom-returns-in_err-inner-clause-halts
-atom-returns-in_err-inner-clause-halts t c = 
+atom-returns-in_err-inner-clause-halts t c =
     stops_so _ c.from_residual.result c.from_residual.ensures.1
     (r.atom_in_base c.args.level c.in_err-inner.ensures.halts)
 
 pub atom-returns-in_err-parts-clause-halts : goal.atom-returns-in_err-parts-clause-halts
-atom-returns-in_err-parts-clause-halts t c = 
+atom-returns-in_err-parts-clause-halts t c =
     stops_so _ c.from_residual-in_err-parts.result c.from_residual-in_err-parts.ensures.1
     (r.atom_in_parts c.args.level c.in_ok-inner.ensures.ok c.in_err-parts.ensures.halts)
 
@@ -259,7 +259,7 @@ pub base-returns-in-Some-after_word-clause-ok : goal.base-returns-in-Some-after_
 base-returns-in-Some-after_word-clause-ok t c = r.base_false c.args.level c.in-Some-after_word.ensures.found (tree_of-Bool _ c.in-Some-after_word.at)
 
 pub base-returns-in_err-inner-clause-halts : goal.base-returns-in_err-inner-clause-halts
-base-returns-in_err-inner-clause-halts t c = 
+base-returns-in_err-inner-clause-halts t c =
     stops_so _ c.from_residual.result c.from_residual.ensures.1
     (r.register_no_level c.args.level c.in-Some-after_word-2.ensures.found c.in_err-inner.ensures.deep _ c.in_err-inner.ensures.stops)
 
@@ -270,17 +270,17 @@ pub base-returns-in-Some-after_word-2-clause-halts : goal.base-returns-in-Some-a
 base-returns-in-Some-after_word-2-clause-halts t c = on_err c.register.result (λ x. r.in_register_halts c.args.level c.in_ok-inner.inner c.in_ok-inner.ensures.inner c.in-Some-after_word-2.ensures.found c.in_ok-inner.ensures.within) c.register.ensures.halts
 
 pub base-returns-in_err-inner-2-clause-halts : goal.base-returns-in_err-inner-2-clause-halts
-base-returns-in_err-inner-2-clause-halts t c = 
+base-returns-in_err-inner-2-clause-halts t c =
     stops_so _ c.from_residual-in_err-inner-2.result c.from_residual-in_err-inner-2.ensures.1
     (r.bracket_no_level c.args.level c.in-Some-after.ensures.found c.in_err-inner-2.ensures.deep _ c.in_err-inner-2.ensures.stops)
 
 pub base-returns-in_err-term-clause-halts : goal.base-returns-in_err-term-clause-halts
-base-returns-in_err-term-clause-halts t c = 
+base-returns-in_err-term-clause-halts t c =
     stops_so _ c.from_residual-in_err-term.result c.from_residual-in_err-term.ensures.1
     (r.in_bracket_halts c.args.level c.in_ok-inner-2.inner c.in_ok-inner-2.ensures.inner c.in-Some-after.ensures.found c.in_ok-inner-2.ensures.within c.in_err-term.ensures.halts)
 
 pub base-returns-in_err-rest-clause-halts : goal.base-returns-in_err-rest-clause-halts
-base-returns-in_err-rest-clause-halts t c = 
+base-returns-in_err-rest-clause-halts t c =
     stops_so _ c.from_residual-in_err-rest.result c.from_residual-in_err-rest.ensures.1
     (r.bracket_unclosed c.args.level c.in_ok-inner-2.inner c.in_ok-inner-2.ensures.inner c.in-Some-after.ensures.found c.in_ok-inner-2.ensures.within c.in_ok-term.ensures.ok c.in_err-rest.ensures.halts)
 
@@ -288,7 +288,7 @@ pub base-returns-in-Some-after-clause-ok : goal.base-returns-in-Some-after-claus
 base-returns-in-Some-after-clause-ok t c = r.base_bracket c.args.level c.in_ok-inner-2.inner c.in_ok-inner-2.ensures.inner c.in-Some-after.ensures.found c.in_ok-inner-2.ensures.within c.in_ok-term.ensures.ok c.in_ok-rest.ensures.ok
 
 pub base-returns-in_err-inner-3-clause-halts : goal.base-returns-in_err-inner-3-clause-halts
-base-returns-in_err-inner-3-clause-halts t c = 
+base-returns-in_err-inner-3-clause-halts t c =
     stops_so _ c.from_residual-in_err-inner-3.result c.from_residual-in_err-inner-3.ensures.1
     (r.block_no_level c.args.level c.in-Some-after-2.ensures.found c.in_err-inner-3.ensures.deep _ c.in_err-inner-3.ensures.stops)
 
@@ -299,7 +299,7 @@ pub base-returns-in-Some-after-2-clause-halts : goal.base-returns-in-Some-after-
 base-returns-in-Some-after-2-clause-halts t c = on_err c.block.result (λ x. r.in_block_halts c.args.level c.in_ok-inner-3.inner c.in_ok-inner-3.ensures.inner c.in-Some-after-2.ensures.found c.in_ok-inner-3.ensures.within) c.block.ensures.halts
 
 pub base-returns-in_err-used-clause-halts : goal.base-returns-in_err-used-clause-halts
-base-returns-in_err-used-clause-halts t c = 
+base-returns-in_err-used-clause-halts t c =
     stops_so _ c.from_residual-in_err-used.result c.from_residual-in_err-used.ensures.1
     (r.base_no_use c.args.level (record { no_true = c.in_default.ensures.none; no_false = c.in_default-after_word.ensures.none; no_reg = c.in_default-after_word-2.ensures.none; no_round = c.in_default-after.ensures.none; no_curly = c.in_default-after-2.ensures.none }) c.in_err-used.ensures.halts)
 
@@ -309,7 +309,7 @@ base-returns-clause-ok t c = r.base_use c.args.level (record { no_true = c.in_de
 -- ---- registers
 
 pub register-returns-in_err-behind-clause-halts : goal.register-returns-in_err-behind-clause-halts
-register-returns-in_err-behind-clause-halts t c = 
+register-returns-in_err-behind-clause-halts t c =
     stops_so _ c.from_residual.result c.from_residual.ensures.1
     (halts_first (r.register_rest c.args.level) c.in_err-behind.ensures.halts)
 
@@ -317,12 +317,12 @@ pub register-elements-init : goal.register-elements-init
 register-elements-init t c = record { read = r.register_begun c.args.level c.in_ok-behind.ensures.ok c.new-elements.ensures.items }
 
 pub register-returns-in_err-next-clause-halts : goal.register-returns-in_err-next-clause-halts
-register-returns-in_err-next-clause-halts t c = 
+register-returns-in_err-next-clause-halts t c =
     stops_so _ c.from_residual-in_err-next.result c.from_residual-in_err-next.ensures.1
     (r.chain_halts c.elements.invariant.read c.in_err-next.ensures.halts)
 
 pub register-returns-in_err-rest-clause-halts : goal.register-returns-in_err-rest-clause-halts
-register-returns-in_err-rest-clause-halts t c = 
+register-returns-in_err-rest-clause-halts t c =
     stops_so _ c.from_residual-in_err-rest.result c.from_residual-in_err-rest.ensures.1
     (r.register_unclosed c.args.level c.elements.invariant.read c.in_ok-next.ensures.ok c.in_default.ensures.none c.in_err-rest.ensures.halts)
 
@@ -342,7 +342,7 @@ pub block-items-init : goal.block-items-init
 block-items-init t c = record { read = r.block_begun c.args.level c.args.tokens.now c.new-items.ensures.items }
 
 pub block-returns-in_err-next-clause-halts : goal.block-returns-in_err-next-clause-halts
-block-returns-in_err-next-clause-halts t c = 
+block-returns-in_err-next-clause-halts t c =
     stops_so _ c.from_residual.result c.from_residual.ensures.1
     (r.block_halts c.args.level c.items.invariant.read c.in_err-next.ensures.halts)
 
@@ -368,7 +368,7 @@ block-returns-in-Last-clause-ok t c =
 -- ---- items
 
 pub item_or_last-returns-in_err-item-clause-halts : goal.item_or_last-returns-in_err-item-clause-halts
-item_or_last-returns-in_err-item-clause-halts t c = 
+item_or_last-returns-in_err-item-clause-halts t c =
     stops_so _ c.from_residual.result c.from_residual.ensures.1
     (r.let_halts c.args.level c.in-Some.ensures.found c.in_err-item.ensures.halts)
 
@@ -376,7 +376,7 @@ pub item_or_last-returns-in-Some-clause-ok : goal.item_or_last-returns-in-Some-c
 item_or_last-returns-in-Some-clause-ok t c = r.item_let c.args.level c.in-Some.ensures.found c.in_ok-item.ensures.ok
 
 pub item_or_last-returns-in_err-term-clause-halts : goal.item_or_last-returns-in_err-term-clause-halts
-item_or_last-returns-in_err-term-clause-halts t c = 
+item_or_last-returns-in_err-term-clause-halts t c =
     stops_so _ c.from_residual-in_err-term.result c.from_residual-in_err-term.ensures.1
     (r.do_halts c.args.level c.in_default.ensures.none c.in_err-term.ensures.halts)
 
@@ -384,7 +384,7 @@ pub item_or_last-returns-in-Some-after-clause-ok : goal.item_or_last-returns-in-
 item_or_last-returns-in-Some-after-clause-ok t c = r.item_do c.args.level c.in_default.ensures.none c.in_ok-term.ensures.ok c.in-Some-after.ensures.found (item_tree_of-Do c.in_ok-term.term)
 
 pub item_or_last-returns-in_err-rest-clause-halts : goal.item_or_last-returns-in_err-rest-clause-halts
-item_or_last-returns-in_err-rest-clause-halts t c = 
+item_or_last-returns-in_err-rest-clause-halts t c =
     stops_so _ c.from_residual-in_err-rest.result c.from_residual-in_err-rest.ensures.1
     (r.last_unclosed c.args.level c.in_default.ensures.none c.in_ok-term.ensures.ok c.in_default-after.ensures.none c.in_err-rest.ensures.halts)
 
@@ -394,27 +394,27 @@ item_or_last-returns-clause-ok t c = r.last_reads c.args.level c.in_default.ensu
 -- ---- bindings
 
 pub binding-returns-in_err-bound-clause-halts : goal.binding-returns-in_err-bound-clause-halts
-binding-returns-in_err-bound-clause-halts t c = 
+binding-returns-in_err-bound-clause-halts t c =
     stops_so _ c.from_residual.result c.from_residual.ensures.1
     (halts_first (r.binding_rest c.args.level) c.in_err-bound.ensures.halts)
 
 pub binding-returns-in_err-names-clause-halts : goal.binding-returns-in_err-names-clause-halts
-binding-returns-in_err-names-clause-halts t c = 
+binding-returns-in_err-names-clause-halts t c =
     stops_so _ c.from_residual-in_err-names.result c.from_residual-in_err-names.ensures.1
     (r.binding_in_names c.args.level c.in_ok-bound.ensures.ok c.in_err-names.ensures.halts)
 
 pub binding-returns-in_err-rest-clause-halts : goal.binding-returns-in_err-rest-clause-halts
-binding-returns-in_err-rest-clause-halts t c = 
+binding-returns-in_err-rest-clause-halts t c =
     stops_so _ c.from_residual-in_err-rest.result c.from_residual-in_err-rest.ensures.1
     (r.binding_no_equal c.args.level c.in_ok-bound.ensures.ok c.in_ok-names.ensures.ok c.in_err-rest.ensures.halts)
 
 pub binding-returns-in_err-body-clause-halts : goal.binding-returns-in_err-body-clause-halts
-binding-returns-in_err-body-clause-halts t c = 
+binding-returns-in_err-body-clause-halts t c =
     stops_so _ c.from_residual-in_err-body.result c.from_residual-in_err-body.ensures.1
     (r.binding_in_value c.args.level c.in_ok-bound.ensures.ok c.in_ok-names.ensures.ok c.in_ok-rest.ensures.ok c.in_err-body.ensures.halts)
 
 pub binding-returns-in_err-rest-2-clause-halts : goal.binding-returns-in_err-rest-2-clause-halts
-binding-returns-in_err-rest-2-clause-halts t c = 
+binding-returns-in_err-rest-2-clause-halts t c =
     stops_so _ c.from_residual-in_err-rest-2.result c.from_residual-in_err-rest-2.ensures.1
     (r.binding_no_semi c.args.level c.in_ok-bound.ensures.ok c.in_ok-names.ensures.ok c.in_ok-rest.ensures.ok c.in_ok-body.ensures.ok c.in_err-rest-2.ensures.halts)
 
