@@ -1,6 +1,6 @@
 -- Whole programs: their parameters, their end, and their limits.
-use Rattle.std.proofs.Common.{◌≡◌, ℕ, ◌+◌, ◌-◌, ◌<◌, ◌≤◌, Bool, true, false, ◌&&◌, cond, leb, Option, Some, None, List, [], ◌∷◌, ◌++◌, refl, sym, ◌∙◌, ap, subst, length, append_assoc, map, sum, get_or, ◌⊎◌, inl, inr, arith, length-append}
-use Rattle.std.specs.Prelude.{Result, Ok, Err, IfErr, IsErrOf, IsTrue}
+use Rattle.std.proofs.Common.{◌≡◌, ℕ, ◌+◌, ◌≤◌, Bool, true, false, ◌&&◌, cond, leb, Option, Some, None, List, [], ◌∷◌, ◌++◌, refl, sym, ◌∙◌, ap, subst, length, append_assoc, sum, inl, inr, arith}
+use Rattle.std.specs.Prelude.{Result, Ok, Err}
 use Rattle.std.specs.List.{list_all}
 use Rattle.std.proofs.lemmas.List.{map-append}
 use Rattle.std.proofs.lemmas.List.Sums.{sum_by-append}
@@ -14,11 +14,11 @@ use Rattle.revs_lexer.specs.declared.token.Tok.TheVariants as toks
 use Rattle.revs_lexer.specs.declared.token.Token.{Token}
 use Rattle.revs_lexer.specs.Tokens.{IsEnded}
 use Rattle.revs_grammar.specs.Forms as g
-use Rattle.revs_grammar.specs.Machine.{Expected, form, parameter_end, Stack, step, is_done, Outcome, accepted, no_syntax, too_deep, is_end, at_token, outcome}
+use Rattle.revs_grammar.specs.Machine.{form, parameter_end, Stack, step, is_done, Outcome, accepted, no_syntax, is_end, at_token, outcome}
 use Rattle.revs_grammar.specs.Sentences.{Phrase, Spells, any_level, few_levels}
 use Rattle.revs_grammar.specs.Sentences as s
 use Rattle.revs_grammar.specs.Answers.{HasSentence, IsProgramOf, IsInputs}
-use Rattle.revs_grammar.specs.Faults.{IsSyntax, IsNesting, Verdict, IsVerdict, within_limits, syntax, nesting, inputs}
+use Rattle.revs_grammar.specs.Faults.{Verdict, IsVerdict, within_limits, syntax, nesting, inputs}
 use Rattle.revs_grammar.proofs.Outcomes.{outcome_says, Says}
 use Rattle.revs_grammar.proofs.Verdicts.{one_verdict}
 use Rattle.revs_terms.specs.declared.term.Name.{Name}
@@ -26,22 +26,17 @@ use Rattle.revs_terms.specs.declared.program.Param.{Param}
 use Rattle.revs_terms.specs.declared.program.Program.{Program}
 use Rattle.revs_terms.specs.Programs.{AreParams, width_of, widths_of}
 use Rattle.revs_terms.specs.Trees.{Tree}
-use Rattle.revs_terms.proofs.Parts.{both}
 use Rattle.revs_parser.specs.declared.stop.Stop.{Stop}
 use Rattle.revs_parser.specs.declared.stop.Stop.TheVariants as stops
 use Rattle.revs_parser.specs.declared.program.ParseFault.{ParseFault}
 use Rattle.revs_parser.specs.declared.program.ParseFault.TheVariants as faults
-use Rattle.revs_parser.specs.Reading.{GoesOn, InFront, Spelled, Reads, Skips, IsHalt, Halts, Heads, NotFirst, end_first}
-use Rattle.revs_parser.specs.Forms.{ReadsWidth, ReadsParameters, PassesAt, Left, IsRefusal, after_bool}
-use Rattle.revs_parser.specs.Results.{Answers, IsAnswer, IsRefused}
+use Rattle.revs_parser.specs.Reading.{Reads, IsHalt, Halts, Heads, NotFirst, end_first}
+use Rattle.revs_parser.specs.Forms.{ReadsWidth, ReadsParameters, PassesAt, IsRefusal}
+use Rattle.revs_parser.specs.Results.{IsAnswer, IsRefused}
 use Rattle.revs_parser.proofs.Steps as m
 use Rattle.revs_parser.proofs.Steps.{and_then, and_maybe, as_form, with_first, one_token, halts_first, halts_there, halts_behind, headed, here, token_first, joined, mapped}
 use Rattle.revs_parser.proofs.Readings as r
-use Rattle.revs_parser.proofs.Readings.{Repeats, a_sign}
-
-append_nil : {A : Type 0} (xs : List A) → xs ++ [] ≡ xs
-append_nil [] = refl
-append_nil (x ∷ xs) = ap (λ z. x ∷ z) (append_nil xs)
+use Rattle.revs_parser.proofs.Readings.{Repeats, a_sign, append_nil}
 
 -- ---- where a form cannot begin
 
@@ -105,12 +100,6 @@ some_width {w} {at} {ts} {a} {b} {c} {rest} h n k q =
 pub width_unclosed : {ts : List Token} {stop : Stop} → NotFirst (toks.Sign signs.OpenSquare) ts → Halts (form (g.sign signs.CloseRound) ∷ []) ts stop → Halts (parameter_end ∷ []) ts stop
 width_unclosed {ts} h k = halts_there (parameter_end ∷ []) (form (g.sign signs.CloseRound) ∷ []) (as_round ts h) k
 
-abbrev pub after_width : Stack
-after_width = form g.number ∷ form (g.sign signs.CloseSquare) ∷ form (g.sign signs.CloseRound) ∷ []
-
-pub width_halts : {at : Place} {ts a : List Token} {stop : Stop} → Heads (toks.Sign signs.OpenSquare) at ts a → Halts after_width a stop → Halts (parameter_end ∷ []) ts stop
-width_halts h k = halts_there (parameter_end ∷ []) after_width (m.more_width h) k
-
 pub one_parameter : (w : Option ℕ) {n : Name} {at : Place} {ts a b c d rest : List Token} → Heads (toks.Sign signs.OpenRound) at ts a → Reads (form g.name ∷ []) (s.name n ∷ []) a b
     → Reads (form (g.sign signs.Colon) ∷ []) (s.sign signs.Colon ∷ []) b c → Reads (form g.bool_word ∷ []) (s.bool_word ∷ []) c d → ReadsWidth w d rest
     → Reads (form g.parameter ∷ []) (s.parameter (record { name = n; width = w }) ∷ []) ts rest
@@ -119,20 +108,11 @@ one_parameter None {n} {at} h q k b w =
 one_parameter (Some width) {n} {at} h q k b w =
     with_first (form g.parameter) (s.parameter (record { name = n; width = Some width })) h (m.more_parameter h) (λ bs us x. s.register x) (and_then (and_then (and_then q k) b) w.reads)
 
-abbrev pub after_round : Stack
-after_round = form g.name ∷ form (g.sign signs.Colon) ∷ form g.bool_word ∷ parameter_end ∷ []
-
-pub parameter_halts : {at : Place} {ts a : List Token} {stop : Stop} → Heads (toks.Sign signs.OpenRound) at ts a → Halts after_round a stop → Halts (form g.parameter ∷ []) ts stop
-parameter_halts h k = halts_there (form g.parameter ∷ []) after_round (m.more_parameter h) k
-
 -- The parameters so far, behind those before.
 pub record Parameters (before all : List Param) (ts rest : List Token) : Type 0 where
   pub read : List Param
   pub all_params : all ≡ before ++ read
   pub repeats : Repeats (form g.parameters) s.parameters read ts rest
-
-pub parameters_begun : (before : List Param) (ts : List Token) → Parameters before before ts ts
-parameters_begun before ts = record { read = []; all_params = sym (append_nil before); repeats = r.repeats_begun (form g.parameters) s.parameters ts }
 
 another : {at : Place} {ts a : List Token} → Heads (toks.Sign signs.OpenRound) at ts a → (ms : Stack) → outcome ts (form g.parameters ∷ ms) ≡ outcome ts (form g.parameter ∷ form g.parameters ∷ ms)
 another h ms = m.more_parameters h ms ∙ sym (m.more_parameter h (form g.parameters ∷ ms))
@@ -275,14 +255,8 @@ sum-push ps p =
         alone : (w : ℕ) → sum (w ∷ []) ≡ w
         alone w = omega arith
 
-pub limits_begun : (params : List Param) → WithinLimits params params 0
-limits_begun params = record { before = []; cut = refl; fine = record { bits = refl; inputs = omega arith }; total = refl }
-
 one_bit : (w : ℕ) → ¬ (w ≡ 0) → list_all (λ width. leb 1 width) (w ∷ []) ≡ true
 one_bit w h = grind (arith, nat_tests)
-
-no_bit : (w : ℕ) → w ≡ 0 → list_all (λ width. leb 1 width) (w ∷ []) ≡ true → ⊥
-no_bit w e h = let f : list_all (λ width. leb 1 width) (0 ∷ []) ≡ true = subst (λ (z : ℕ). list_all (λ width. leb 1 width) (z ∷ []) ≡ true) e h in cc
 
 pub limits_more : {params rest : List Param} {total : ℕ} (p : Param) (behind : List Param) (new : ℕ) → WithinLimits params rest total → rest ≡ p ∷ behind
     → ¬ (width_of p.width ≡ 0) → total + width_of p.width ≤ 1024 → new ≡ total + width_of p.width → WithinLimits params behind new
@@ -302,44 +276,7 @@ limits_more {params} {rest} {total} p behind new h e some few w =
     m_and true b e f = f
     m_and false b e f = cc
 
-pub limits_passed : {params rest : List Param} {total : ℕ} (p : Param) (behind : List Param) → WithinLimits params rest total → rest ≡ p ∷ behind
-    → (width_of p.width ≡ 0) ⊎ (1024 < total + width_of p.width) → PassesAt params p.name.at
-limits_passed {params} {rest} {total} p behind h e why = record {
-  before = h.before;
-  named = p;
-  behind = behind;
-  cut = h.cut ∙ ap (λ (z : List Param). h.before ++ z) e;
-  place = refl;
-  fine = h.fine;
-  passed = λ k. too_much why k;
-}
-  where
-    too_much : (width_of p.width ≡ 0) ⊎ (1024 < total + width_of p.width) → AreParams (h.before ++ p ∷ []) → ⊥
-    too_much (inl zero) k =
-        no_bit (width_of p.width) zero
-        (both (list_all (λ width. leb 1 width) (widths_of h.before)) (list_all (λ width. leb 1 width) (width_of p.width ∷ [])) (sym (bits-push h.before p) ∙ k.bits)).1
-    too_much (inr more) k = let pushed = sum-push h.before p in let few = k.inputs in let t = h.total in omega (arith, pushed, few, t, more)
-
-pub limits_done : {params rest : List Param} {total : ℕ} → WithinLimits params rest total → rest ≡ [] → AreParams params
-limits_done {params} {rest} {total} h e = subst AreParams (sym (h.cut ∙ ap (λ (z : List Param). h.before ++ z) e ∙ append_nil h.before)) h.fine
-
 -- ---- the answer
-
--- the first of the tokens that are left
-pub left_token : {tokens : List Token} {left : ℕ} {Why : ℕ → Place → Type 0} (number : ℕ) (at : Token) → (f : Left tokens left Why) → number + left ≡ length tokens
-    → at ≡ get_or tokens number at → Why number at.at
-left_token {tokens} {left} {Why} number at f n e =
-    let counted : number ≡ length f.front = omega (arith, n, f.count, ap length f.cut, length-append f.front (f.named ∷ f.rest)) in
-    let named : at ≡ f.named = e ∙ ap (λ (z : List Token). get_or z number at) f.cut ∙ ap (λ (z : ℕ). get_or (f.front ++ f.named ∷ f.rest) z at) counted ∙ found f.front f.named f.rest at in
-    subst (λ (z : Token). Why number z.at) (sym named) (subst (λ (z : ℕ). Why z f.named.at) (sym counted) f.why)
-  where
-    found : (front : List Token) (t : Token) (rest : List Token) (d : Token) → get_or (front ++ t ∷ rest) (length front) d ≡ t
-    found [] t rest d = refl
-    found (x ∷ front) t rest d = found front t rest d
-
-pub some_left : {tokens : List Token} {left : ℕ} {Why : ℕ → Place → Type 0} → Left tokens left Why → (0 < left) × (left ≤ length tokens)
-some_left {tokens} {left} f =
-    let c = f.count in let l = ap length f.cut in let k = length-append f.front (f.named ∷ f.rest) in (omega (arith, c), omega (arith, c, l, k))
 
 exactly : (tokens : List Token) (given : Verdict) (answer : Result Program ParseFault) → IsVerdict tokens given → IsAnswer given answer
     → (verdict : Verdict) → IsVerdict tokens verdict → IsAnswer verdict answer

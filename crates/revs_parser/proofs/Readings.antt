@@ -1,15 +1,14 @@
 -- What each way through a function reads, and where it halts.
-use Rattle.std.proofs.Common.{◌≡◌, ℕ, ◌+◌, ◌<◌, ◌≤◌, Bool, true, false, Option, Some, None, List, [], ◌∷◌, ◌++◌, refl, sym, ◌∙◌, ap, subst, length, append_assoc, map, arith}
+use Rattle.std.proofs.Common.{◌≡◌, ℕ, ◌+◌, ◌≤◌, true, false, Some, None, List, [], ◌∷◌, ◌++◌, refl, sym, ◌∙◌, ap, subst, length, append_assoc, map, arith}
 use Rattle.revc_base.specs.declared.place.Place.{Place}
 use Rattle.revs_lexer.specs.declared.sign.Sign.{Sign}
 use Rattle.revs_lexer.specs.declared.sign.Sign.TheVariants as signs
 use Rattle.revs_lexer.specs.declared.word.Word.TheVariants as words
-use Rattle.revs_lexer.specs.declared.token.Tok.{Tok}
 use Rattle.revs_lexer.specs.declared.token.Tok.TheVariants as toks
 use Rattle.revs_lexer.specs.declared.token.Token.{Token}
 use Rattle.revs_grammar.specs.Sentences.{few_levels}
 use Rattle.revs_grammar.specs.Forms as g
-use Rattle.revs_grammar.specs.Machine.{Expected, form, parameter_end, part_end, body, body_end, Stack, no_syntax, too_deep, outcome, same_sign}
+use Rattle.revs_grammar.specs.Machine.{Expected, form, part_end, body, body_end, Stack, outcome}
 use Rattle.revs_grammar.specs.Sentences.{Phrase, Spells, name_of, bound_of, parts_of}
 use Rattle.revs_grammar.specs.Sentences as s
 use Rattle.revs_terms.specs.Trees.{Tree, ItemTree, trees, item_trees, used, bool, reg, block, function, parts, apply, append, rotate, clean, assert, ands, xors, assign, bind, run, tree_of, item_tree_of}
@@ -20,12 +19,12 @@ use Rattle.revs_terms.specs.declared.term.Item.{Item}
 use Rattle.revs_terms.specs.declared.term.Term.{Term}
 use Rattle.revs_parser.specs.declared.stop.Stop.{Stop}
 use Rattle.revs_parser.specs.declared.stop.Stop.TheVariants as stops
-use Rattle.revs_parser.specs.Reading.{GoesOn, InFront, Spelled, Reads, Skips, IsHalt, Halts, Heads, NotFirst, begins_base, base_first, is_name, name_first}
+use Rattle.revs_parser.specs.Reading.{GoesOn, InFront, Spelled, Reads, Skips, Halts, Heads, NotFirst, base_first, name_first}
 use Rattle.revs_parser.specs.Forms.{ReadsNames, ReadsPart, ReadsFunction, ReadsRegister, ReadsBlock, ReadsItem, ReadsBinding}
 use Rattle.revs_parser.proofs.Steps as m
 use Rattle.revs_parser.proofs.Steps.{and_then, and_maybe, as_form, with_first, one_token, no_memory, halts_first, halts_there, halts_behind, headed, here, token_first, joined, mapped, fed, after_token, before_token}
 
-append_nil : {A : Type 0} (xs : List A) → xs ++ [] ≡ xs
+pub append_nil : {A : Type 0} (xs : List A) → xs ++ [] ≡ xs
 append_nil [] = refl
 append_nil (x ∷ xs) = ap (λ z. x ∷ z) (append_nil xs)
 
@@ -137,9 +136,6 @@ pub record Names (before all : List Name) (ts rest : List Token) : Type 0 where
   pub all_names : all ≡ before ++ read
   pub repeats : Repeats (form g.names) s.names read ts rest
 
-pub names_begun : (before : List Name) (ts : List Token) → Names before before ts ts
-names_begun before ts = record { read = []; all_names = sym (append_nil before); repeats = repeats_begun (form g.names) s.names ts }
-
 pub names_more : {before all new : List Name} {next : Name} {ts mid rest : List Token} → Names before all ts mid → name_first mid ≡ true
     → Reads (form g.name ∷ []) (s.name next ∷ []) mid rest → new ≡ all ++ next ∷ [] → Names before new ts rest
 names_more {before} {all} {new} {next} {ts} {mid} {rest} n f r e = record {
@@ -197,11 +193,6 @@ parts_more {items} {new} {next} {at} {ts} {mid} {behind} {rest} r h p e =
     (record { same = λ ms. m.more_parts h ms ∙ p.goes_on.same (form g.parts ∷ ms) })
     (λ more bs. mapped ((p.spelled mid h).spells (s.all_parts more ∷ bs)) (λ us d. s.next_part d))
     (let x = p.shorter in let y = ap length h.cut in omega (arith, x, y)))
-
-pub parts_halt : {items : List Part} {at : Place} {ts mid behind : List Token} {stop : Stop} → Repeats (form g.parts) s.all_parts items ts mid
-    → Heads (toks.Sign signs.Dot) at mid behind → Halts (form (g.sign signs.OpenSquare) ∷ form g.number ∷ part_end ∷ []) behind stop → Halts (form g.parts ∷ []) ts stop
-parts_halt r h p =
-    repeats_halts r (halts_there (form g.parts ∷ []) (form (g.sign signs.OpenSquare) ∷ form g.number ∷ part_end ∷ form g.parts ∷ []) (m.more_parts h) (halts_first (form g.parts ∷ []) p))
 
 pub parts_done : {items : List Part} {ts rest : List Token} → Repeats (form g.parts) s.all_parts items ts rest → NotFirst (toks.Sign signs.Dot) rest
     → Skips (form g.parts ∷ []) (s.all_parts items ∷ []) ts rest

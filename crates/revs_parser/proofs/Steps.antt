@@ -1,9 +1,8 @@
 -- What the machine does over the tokens that each function reads.
-use Rattle.std.proofs.Common.{◌≡◌, ℕ, ◌+◌, ◌<◌, ◌≤◌, Bool, true, false, cond, Option, Some, None, List, [], ◌∷◌, ◌++◌, refl, sym, ◌∙◌, ap, subst, length, append_assoc, arith}
+use Rattle.std.proofs.Common.{◌≡◌, ℕ, ◌+◌, ◌<◌, Bool, true, false, cond, Option, Some, List, [], ◌∷◌, ◌++◌, refl, sym, ◌∙◌, ap, subst, length, append_assoc, arith}
 use Rattle.std.specs.Prelude.{Result, Ok, Err, IfOk, IfErr, IsErrAnd}
 use Rattle.std.proofs.lemmas.Result.{err_from_is_err_and}
 use Rattle.revc_base.specs.declared.place.Place.{Place}
-use Rattle.revs_lexer.specs.declared.sign.Sign.{Sign}
 use Rattle.revs_lexer.specs.declared.sign.Sign.TheVariants as signs
 use Rattle.revs_lexer.specs.declared.word.Word.TheVariants as words
 use Rattle.revs_lexer.specs.declared.token.Tok.{Tok}
@@ -11,7 +10,7 @@ use Rattle.revs_lexer.specs.declared.token.Tok.TheVariants as toks
 use Rattle.revs_lexer.specs.declared.token.Token.{Token}
 use Rattle.revs_grammar.specs.Sentences.{any_level, few_levels}
 use Rattle.revs_grammar.specs.Forms as g
-use Rattle.revs_grammar.specs.Machine.{Expected, form, parameter_end, part_end, body, body_end, Stack, step, is_done, Outcome, accepted, no_syntax, too_deep, is_end, at_token, outcome, at_level, same_sign}
+use Rattle.revs_grammar.specs.Machine.{Expected, form, parameter_end, part_end, body, body_end, Stack, step, is_done, accepted, no_syntax, too_deep, is_end, at_token, outcome, at_level}
 use Rattle.revs_grammar.specs.Sentences.{Phrase, Spells}
 use Rattle.revs_parser.specs.declared.stop.Stop.{Stop}
 use Rattle.revs_parser.specs.declared.stop.Stop.TheVariants as stops

@@ -1,5 +1,5 @@
 -- What a parser answers.
-use Rattle.std.specs.Prelude.{◌≡◌, ℕ, List, Result, Ok, Err, IsOk, IsErrOf, ◌⊎◌}
+use Rattle.std.specs.Prelude.{List, Result, IsOk, IsErrOf, ◌⊎◌}
 use Rattle.revs_lexer.specs.declared.token.Token.{Token}
 use Rattle.revs_terms.specs.declared.program.Program.{Program}
 use Rattle.revs_grammar.specs.Faults.{IsSyntax, IsNesting, Verdict, within_limits, syntax, nesting, inputs}

@@ -171,8 +171,10 @@ fn refusal(tokens: &[Token], stop: Stop) -> ParseFault
 
 /// The program of which the tokens before `End` are the sentence, with every `back` 0.
 ///
-/// Each refusal names the first token or parameter at which it is due; the limits on widths count only for a whole sentence.
-/// A list of tokens with no program and no such refusal does not exist, so `Memory` is the only other answer.
+/// The list ends with `End` and holds no other. Recursive descent with one token of look-ahead, linear in the tokens.
+/// A refusal names the first token at which no program can go on (`Syntax`), the first that opens level 101 (`Nesting`), or,
+/// in a whole sentence, the first parameter at which the widths pass their limits (`Inputs`). Each list of tokens has one of
+/// these answers, and beside it only `Memory`.
 pub fn parse(alloc: Global, tokens: &[Token]) -> Result<Program, ParseFault>
     requires ended { IsEnded tokens.now }
     requires few { length tokens.now < 2 ^ 32 }

@@ -2,7 +2,7 @@ use revc_base::Memory;
 use std::alloc::{AllocError, AllocFailed};
 
 // Why the reading stops, with the number of tokens that are left then; the refused token is the first of them.
-#[derive(Clone, Copy, Debug, PartialEq, Eq)]
+#[derive(Clone, Copy)]
 pub enum Stop {
     Syntax(usize),
     Nesting(usize),

@@ -1,11 +1,8 @@
-use Rattle.std.proofs.Common.{◌≡◌, ℕ, List, [], ◌∷◌, sym, ◌∙◌, ap, subst, map, arith, length}
-use Rattle.revs_lexer.specs.declared.token.Token.{Token}
-use Rattle.revs_terms.specs.Trees.{Tree, function, parts, apply, append, rotate, clean, assert, ands, xors, assign, reg, block, bind, trees, item_trees, tree_of, item_tree_of}
+use Rattle.std.proofs.Common.{◌≡◌, sym, ◌∙◌, ap, subst, map, arith, length}
+use Rattle.revs_terms.specs.Trees.{function, parts, append, rotate, clean, assert, assign, block, bind, item_trees, tree_of, item_tree_of}
 use Rattle.revs_terms.specs.declared.term.Lambda.{Lambda}
-use Rattle.revs_terms.specs.declared.term.Item.{Item}
 use Rattle.revs_terms.specs.declared.term.Term.{Term}
 use Rattle.revs_terms.proofs.Shapes.{tree_of-Name, tree_of-Bool, tree_of-Reg, tree_of-Block, tree_of-Fun, tree_of-At, tree_of-Apply, tree_of-Append, tree_of-Rotate, tree_of-Clean, tree_of-Assert, tree_of-And, tree_of-Xor, tree_of-Assign, item_tree_of-Let, item_tree_of-Do}
-use Rattle.revs_grammar.specs.Sentences.{bound_of}
 use Rattle.revs_parser.specs.declared.expression.Piece.{Piece}
 use Rattle.revs_parser.specs.declared.expression.Piece.TheVariants as pieces
 use Rattle.std.proofs.lemmas.Bool.{eqb-true, eqb-false}
@@ -350,7 +347,7 @@ pub block-items-preserved : goal.block-items-preserved
 block-items-preserved t c =
     let item : ReadsPiece c.args.level (pieces.Item c.in-Item.item) c.items.rest.now c.in_ok-next.left.now =
     subst (λ (z : Piece). ReadsPiece c.args.level z c.items.rest.now c.in_ok-next.left.now) c.in-Item.is c.in_ok-next.ensures.ok in
-    record { read = r.block_more c.args.level c.items.items.items c.in-Item.item c.items.invariant.read item c.in_ok-push-in-Item.ensures.items }
+    record { read = r.block_more c.args.level c.items.items.items c.in-Item.item {new = c.push.new.self.items} c.items.invariant.read item c.in_ok-push-in-Item.ensures.items }
 
 pub block-items-smaller : goal.block-items-smaller
 block-items-smaller t c =

@@ -1,4 +1,4 @@
-use Rattle.std.proofs.Common.{ℕ, ◌+◌, ◌-◌, ◌*◌, ◌≤◌, length, map}
+use Rattle.std.proofs.Common.{◌+◌, ◌-◌, ◌*◌, length, map}
 use Rattle.revs_terms.specs.Trees.{tree_of, item_tree_of}
 use Rattle.revs_parser.proofs.Readings.{InSum, InProduct, InArguments, InRegister, InBlock}
 use Rattle.revs_parser.proofs.expression.+read.Given as goal

@@ -1,5 +1,5 @@
 use Rattle.revs_parser.proofs.Steps.{stops_so}
-use Rattle.revs_parser.proofs.Programs.{no_width, some_width, width_unclosed}
+use Rattle.revs_parser.proofs.Programs.{some_width, width_unclosed}
 use Rattle.revs_parser.proofs.program.width.Goals as goal
 
 pub returns-in_err-rest-clause-halts : goal.returns-in_err-rest-clause-halts
