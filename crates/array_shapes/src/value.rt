@@ -1,0 +1,58 @@
+// Values of a run.
+ghost use Rattle.std.specs.Prelude.{◌≡◌, IfOk, option_map};
+ghost use Rattle.array_shapes.specs.Values.{seen, bit_of, register_of};
+
+use revc_base::Memory;
+use revs_terms::Lambda;
+
+/// A value of a run. A location is a number, and stands for the bit in it. A function has the number of the environment
+/// that it was made in, how many of its names are taken, and its names and body.
+#[derive(Debug, Drop)]
+pub enum Value<'t> {
+    Unit,
+    Bit(u32),
+    Reg(Vec<u32>),
+    Fun {
+        env: u32,
+        taken: u32,
+        of: &'t Lambda,
+    },
+}
+
+impl<'t> Value<'t> {
+    /// The same value.
+    pub fn copy(&self) -> Result<Value<'t>, Memory>
+        ensures { IfOk result (λ value. seen value ≡ seen self.now) }
+    {
+        Ok(match self {
+            Value::Unit => Value::Unit,
+            Value::Bit(location) => Value::Bit(*location),
+            Value::Reg(locations) => Value::Reg(locations.clone()?),
+            Value::Fun { env, taken, of } => Value::Fun {
+                env: *env,
+                taken: *taken,
+                of,
+            },
+        })
+    }
+}
+
+/// The location of a bit, and `None` at any other value. It takes no memory.
+pub fn bit(value: &Value) -> Option<u32>
+    ensures { result ≡ bit_of (seen value.now) }
+{
+    match value {
+        Value::Bit(location) => Some(*location),
+        _ => None,
+    }
+}
+
+/// The locations of a register, and `None` at any other value. It takes no memory.
+pub fn register<'a, 't>(value: &'a Value<'t>) -> Option<&'a [u32]>
+    ensures { option_map (λ r. r.now) result ≡ register_of (seen value.now) }
+{
+    match value {
+        Value::Reg(locations) => Some(locations),
+        _ => None,
+    }
+}
