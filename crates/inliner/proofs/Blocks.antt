@@ -1,0 +1,282 @@
+-- Blocks, parts and functions, as the machine takes them.
+use Rattle.std.proofs.Common.{◌≡◌, ℕ, zero, suc, ◌+◌, ◌-◌, ◌≤◌, ◌<◌, List, [], ◌∷◌, ◌++◌, length, drop, map, get_or, refl, sym, ap, ◌∙◌, subst, arith}
+use Rattle.std.specs.Prelude.{Result, IsErrAnd, IfErr}
+use Rattle.std.proofs.lemmas.Result.{err_from_is_err_and}
+use Rattle.revc_base.specs.declared.place.Place.{Place}
+use Rattle.revs_terms.specs.declared.term.Name.{Name}
+use Rattle.revs_terms.specs.declared.term.Lambda.{Lambda}
+use Rattle.revs_terms.specs.declared.term.Part.{Part}
+use Rattle.revs_terms.specs.declared.term.Part.TheVariants as part
+use Rattle.revs_terms.specs.Terms.{place_of}
+use Rattle.revs_terms.specs.Trees.{Tree, tree_of, trees, list_of, ItemTree, item_trees, items_of, bind, run, block, parts, apply, append, rotate}
+use Rattle.revs_terms.specs.Running as runs
+use Rattle.revs_terms.specs.Running.{Environment, bound, bound_length, State, Outcome, stuck, went, after, run_of, term_of, block_of, part_of, parts_of, apply_all, apply_to, worked, not_function}
+use Rattle.revs_terms.specs.Runs.{no_bits}
+use Rattle.array_shapes.specs.declared.value.Value.{Value}
+use Rattle.array_shapes.specs.declared.value.Value.TheVariants as variants
+use Rattle.inliner.specs.declared.fault.RunFault.{RunFault}
+use Rattle.inliner.specs.declared.fault.RunFault.TheVariants as faults
+use Rattle.inliner.specs.declared.machine.Machine.{Machine}
+use Rattle.inliner.specs.Faults.{Says}
+use Rattle.inliner.specs.Machines.{env_in, value_in, envs_of, state_of, IsMachine, IsValue, Grows, Does, Goes, Binds}
+use Rattle.inliner.specs.Steps.{Going, part_step, parts_step, append_step, rotate_step, bind_step, item_step, argument_step}
+use Rattle.inliner.proofs.After.{said_first, said_same}
+use Rattle.inliner.proofs.Growth.{grown_env, grown_value, grown_length}
+use Rattle.inliner.proofs.Through.{Through, begun, step, same_rest, ends, ends_here, ends_goes, said, goes_in, says_in, regroup, same_next, list_of-trees, items_of-item_trees}
+
+-- ---- loops and exits
+
+pub mapped_at : {X Y : Type 0} (f : X → Y) (xs : List X) (i : ℕ) (x : X) → i < length xs → x ≡ get_or xs i x → drop i (map f xs) ≡ f x ∷ drop (i + 1) (map f xs)
+mapped_at f [] i x h e = absurd (omega arith)
+mapped_at f (y ∷ ys) zero x h e = ap (λ z. f z ∷ map f ys) (sym e)
+mapped_at f (y ∷ ys) (suc i) x h e =
+    let next : suc i + 1 ≡ suc (i + 1) = omega arith in
+    rw next (mapped_at f ys i x (omega arith) e)
+
+pub mapped_end : {X Y : Type 0} (f : X → Y) (xs : List X) (i : ℕ) → length xs ≤ i → drop i (map f xs) ≡ []
+mapped_end f [] zero h = refl
+mapped_end f [] (suc i) h = refl
+mapped_end f (y ∷ ys) zero h = absurd (omega arith)
+mapped_end f (y ∷ ys) (suc i) h = mapped_end f ys i (omega arith)
+
+-- What a called function's fault says, the fault that is passed on says.
+pub passes_on : {T : Type 0} {fault : RunFault} (Q : RunFault → Type 0) (r : Result T RunFault) → IsErrAnd r (λ e. e ≡ fault) → Q fault → IfErr r Q
+passes_on {T} {fault} Q r e q = let p = err_from_is_err_and r e in rw (p.1, p.2) q
+
+-- ---- a value of a part, later
+
+pub value_behind : (old mid : Machine) (left env : ℕ) (t : Tree) (v : Value) (next : runs.Value → State (Unit {0}) → Going runs.Value) → IsMachine old
+    → Goes old mid (run_of no_bits left (env_in (envs_of old) env) t (state_of old)) v
+    → Through old mid (after (run_of no_bits left (env_in (envs_of old) env) t (state_of old)) next) (next (value_in (envs_of mid) v) (state_of mid))
+value_behind old mid left env t v next is g = step next (begun old _ _ refl is) g.does
+
+-- ---- blocks
+
+block_next : (left : ℕ) (e : Environment) (i : ItemTree) (is : List ItemTree) (last : Tree) (s : State (Unit {0}))
+    → block_of no_bits (run_of no_bits left) e (i ∷ is) last s ≡ after (item_step (run_of no_bits left) e i s) (λ f s. block_of no_bits (run_of no_bits left) f is last s)
+block_next left e (bind name t) is last s =
+    let k : Environment → State (Unit {0}) → Going runs.Value = λ f s. block_of no_bits (run_of no_bits left) f is last s in
+    sym (regroup (run_of no_bits left e t s) (λ value s. bind_step value e (place_of t) s) k
+      ∙ same_next (run_of no_bits left e t s) _ _ (λ value s. regroup (worked no_bits (bound_length value) (place_of t) s) (λ _ s. went (bound value e) s) k))
+block_next left e (run t) is last s =
+    sym (regroup (run_of no_bits left e t s) (λ _ s. went e s) (λ f s. block_of no_bits (run_of no_bits left) f is last s))
+
+pub record InBlock (old now : Machine) (left inner : ℕ) (is : List ItemTree) (last : Tree) (whole : Going runs.Value) : Type 0 where
+  pub through : Through old now whole (block_of no_bits (run_of no_bits left) (env_in (envs_of now) inner) is last (state_of now))
+  pub made : inner ≤ length now.bindings.items
+
+pub block_more : (old now later : Machine) (left inner behind : ℕ) (i : ItemTree) (is js : List ItemTree) (last : Tree) (whole : Going runs.Value) → js ≡ i ∷ is
+    → InBlock old now left inner js last whole
+    → Binds now later (item_step (run_of no_bits left) (env_in (envs_of now) inner) i (state_of now)) behind
+    → InBlock old later left behind is last whole
+block_more old now later left inner behind i is js last whole cut w b = record {
+  through = step (λ f s. block_of no_bits (run_of no_bits left) f is last s)
+      (same_rest _ (ap (λ (x : List ItemTree). block_of no_bits (run_of no_bits left) (env_in (envs_of now) inner) x last (state_of now)) cut ∙ block_next left (env_in (envs_of now) inner) i is last (state_of now)) w.through) b.does;
+  made = b.made;
+}
+
+pub block_stuck : (old now : Machine) (left inner : ℕ) (i : ItemTree) (is js : List ItemTree) (last : Tree) (whole : Going runs.Value) (fault : RunFault) → js ≡ i ∷ is
+    → InBlock old now left inner js last whole
+    → Says fault (item_step (run_of no_bits left) (env_in (envs_of now) inner) i (state_of now)) → Says fault whole
+block_stuck old now left inner i is js last whole fault cut w s =
+    said fault (same_rest _ (ap (λ (x : List ItemTree). block_of no_bits (run_of no_bits left) (env_in (envs_of now) inner) x last (state_of now)) cut ∙ block_next left (env_in (envs_of now) inner) i is last (state_of now)) w.through)
+      (said_first fault _ (λ f s. block_of no_bits (run_of no_bits left) f is last s) s)
+
+pub block_last : (old now : Machine) (left inner : ℕ) (js : List ItemTree) (last : Tree) (whole : Going runs.Value) → js ≡ []
+    → InBlock old now left inner js last whole
+    → Through old now whole (run_of no_bits left (env_in (envs_of now) inner) last (state_of now))
+block_last old now left inner js last whole none w =
+    same_rest _ (ap (λ (x : List ItemTree). block_of no_bits (run_of no_bits left) (env_in (envs_of now) inner) x last (state_of now)) none) w.through
+
+pub block_is : (left : ℕ) (e : Environment) (is : List ItemTree) (last : Tree) (at : Place) (s : State (Unit {0}))
+    → term_of no_bits (run_of no_bits left) e (block (item_trees is) last at) s ≡ block_of no_bits (run_of no_bits left) e is last s
+block_is left e is last at s = ap (λ (x : List ItemTree). block_of no_bits (run_of no_bits left) e x last s) (items_of-item_trees is)
+
+-- ---- parts
+
+part_is : (left : ℕ) (whole : Place) (p : Part) (v : runs.Value) (s : State (Unit {0})) → part_of no_bits (run_of no_bits left) whole p v s ≡ part_step whole p v s
+part_is left whole (part.Index i at) v s = refl
+part_is left whole (part.Slice i j at) v s = refl
+
+pub parts_are : (left : ℕ) (whole : Place) (ps : List Part) (v : runs.Value) (s : State (Unit {0})) → parts_of no_bits (run_of no_bits left) whole ps v s ≡ parts_step whole ps v s
+parts_are left whole [] v s = refl
+parts_are left whole (p ∷ ps) v s =
+    ap (λ (x : Going runs.Value). after x (parts_of no_bits (run_of no_bits left) whole ps)) (part_is left whole p v s)
+    ∙ same_next (part_step whole p v s) _ _ (λ w s. parts_are left whole ps w s)
+
+pub at_begun : (old mid : Machine) (left env : ℕ) (t : Tree) (ps : List Part) (v : Value) (at : Place) → at ≡ place_of t → IsMachine old
+    → Goes old mid (run_of no_bits left (env_in (envs_of old) env) t (state_of old)) v
+    → Through old mid (term_of no_bits (run_of no_bits left) (env_in (envs_of old) env) (parts t ps) (state_of old)) (parts_step at ps (value_in (envs_of mid) v) (state_of mid))
+at_begun old mid left env t ps v at e is g =
+    same_rest _ (ap (λ (x : Place). parts_step x ps (value_in (envs_of mid) v) (state_of mid)) (sym e)) (same_rest _ (parts_are left (place_of t) ps (value_in (envs_of mid) v) (state_of mid)) (value_behind old mid left env t v (parts_of no_bits (run_of no_bits left) (place_of t) ps) is g))
+
+-- ---- append
+
+pub append_first : (old mid : Machine) (left env : ℕ) (a b : Tree) (at : Place) (x : Value) → IsMachine old
+    → Goes old mid (run_of no_bits left (env_in (envs_of old) env) a (state_of old)) x
+    → Through old mid (term_of no_bits (run_of no_bits left) (env_in (envs_of old) env) (append a b at) (state_of old))
+        (after (run_of no_bits left (env_in (envs_of old) env) b (state_of mid)) (λ y s. append_step (place_of a) (place_of b) at (value_in (envs_of mid) x) y s))
+append_first old mid left env a b at x is g =
+    value_behind old mid left env a x (λ x s. after (run_of no_bits left (env_in (envs_of old) env) b s) (λ y s. append_step (place_of a) (place_of b) at x y s)) is g
+
+pub append_second : (old mid later : Machine) (left env : ℕ) (a b : Tree) (at : Place) (x y : Value) → IsMachine old → env ≤ length old.bindings.items
+    → Goes old mid (run_of no_bits left (env_in (envs_of old) env) a (state_of old)) x
+    → Goes mid later (run_of no_bits left (env_in (envs_of mid) env) b (state_of mid)) y
+    → Through old later (term_of no_bits (run_of no_bits left) (env_in (envs_of old) env) (append a b at) (state_of old))
+        (append_step (place_of a) (place_of b) at (value_in (envs_of later) x) (value_in (envs_of later) y) (state_of later))
+append_second old mid later left env a b at x y is h g k =
+    let k2 : Goes mid later (run_of no_bits left (env_in (envs_of old) env) b (state_of mid)) y = goes_in (λ e. run_of no_bits left e b (state_of mid)) old mid later env y g.does.grows h k in
+    same_rest _ (ap (λ (v : runs.Value). append_step (place_of a) (place_of b) at v (value_in (envs_of later) y) (state_of later)) (sym (grown_value mid later x k.does.grows g.made)))
+      (step (λ y s. append_step (place_of a) (place_of b) at (value_in (envs_of mid) x) y s) (append_first old mid left env a b at x is g) k2.does)
+
+pub append_stuck : (old mid : Machine) (left env : ℕ) (a b : Tree) (at : Place) (x : Value) (fault : RunFault) → IsMachine old → env ≤ length old.bindings.items
+    → Goes old mid (run_of no_bits left (env_in (envs_of old) env) a (state_of old)) x
+    → Says fault (run_of no_bits left (env_in (envs_of mid) env) b (state_of mid))
+    → Says fault (term_of no_bits (run_of no_bits left) (env_in (envs_of old) env) (append a b at) (state_of old))
+append_stuck old mid left env a b at x fault is h g s =
+    said fault (append_first old mid left env a b at x is g)
+      (said_first fault (run_of no_bits left (env_in (envs_of old) env) b (state_of mid)) (λ y s. append_step (place_of a) (place_of b) at (value_in (envs_of mid) x) y s)
+        (says_in (λ e. run_of no_bits left e b (state_of mid)) old mid env fault g.does.grows h s))
+
+-- ---- functions
+
+pub record InApply (old now : Machine) (left : ℕ) (e : Environment) (ts : List Tree) (v : Value) (whole : Going runs.Value) : Type 0 where
+  pub through : Through old now whole (apply_all no_bits (run_of no_bits left) e ts (value_in (envs_of now) v) (state_of now))
+  pub made : IsValue (length now.bindings.items) v
+
+pub apply_begun : (old mid : Machine) (left env : ℕ) (t : Tree) (ts : List Tree) (v : Value) → IsMachine old
+    → Goes old mid (run_of no_bits left (env_in (envs_of old) env) t (state_of old)) v
+    → InApply old mid left (env_in (envs_of old) env) ts v (term_of no_bits (run_of no_bits left) (env_in (envs_of old) env) (apply t (trees ts)) (state_of old))
+apply_begun old mid left env t ts v is g = record {
+  through = same_rest _ (ap (λ (x : List Tree). apply_all no_bits (run_of no_bits left) (env_in (envs_of old) env) x (value_in (envs_of mid) v) (state_of mid)) (list_of-trees ts))
+      (value_behind old mid left env t v (apply_all no_bits (run_of no_bits left) (env_in (envs_of old) env) (list_of (trees ts))) is g);
+  made = g.made;
+}
+
+apply_next : (left : ℕ) (e : Environment) (t : Tree) (ts : List Tree) (v : runs.Value) (s : State (Unit {0}))
+    → apply_all no_bits (run_of no_bits left) e (t ∷ ts) v s ≡ after (argument_step (run_of no_bits left) e v t s) (apply_all no_bits (run_of no_bits left) e ts)
+apply_next left e t ts v s = sym (regroup (run_of no_bits left e t s) (λ argument s. apply_to no_bits (run_of no_bits left) (place_of t) v argument s) (apply_all no_bits (run_of no_bits left) e ts))
+
+pub apply_more : (old now later : Machine) (left env : ℕ) (t : Tree) (ts us : List Tree) (v w : Value) (whole : Going runs.Value) → env ≤ length old.bindings.items → us ≡ t ∷ ts
+    → InApply old now left (env_in (envs_of old) env) us v whole
+    → Goes now later (argument_step (run_of no_bits left) (env_in (envs_of now) env) (value_in (envs_of now) v) t (state_of now)) w
+    → InApply old later left (env_in (envs_of old) env) ts w whole
+apply_more old now later left env t ts us v w whole h cut i g = record {
+  through = step (apply_all no_bits (run_of no_bits left) (env_in (envs_of old) env) ts)
+      (same_rest _ (ap (λ (x : List Tree). apply_all no_bits (run_of no_bits left) (env_in (envs_of old) env) x (value_in (envs_of now) v) (state_of now)) cut ∙ apply_next left (env_in (envs_of old) env) t ts (value_in (envs_of now) v) (state_of now)) i.through)
+      (goes_in (λ e. argument_step (run_of no_bits left) e (value_in (envs_of now) v) t (state_of now)) old now later env w i.through.grows h g).does;
+  made = g.made;
+}
+
+pub apply_stuck : (old now : Machine) (left env : ℕ) (t : Tree) (ts us : List Tree) (v : Value) (whole : Going runs.Value) (fault : RunFault) → env ≤ length old.bindings.items → us ≡ t ∷ ts
+    → InApply old now left (env_in (envs_of old) env) us v whole
+    → Says fault (argument_step (run_of no_bits left) (env_in (envs_of now) env) (value_in (envs_of now) v) t (state_of now)) → Says fault whole
+apply_stuck old now left env t ts us v whole fault h cut i s =
+    said fault (same_rest _ (ap (λ (x : List Tree). apply_all no_bits (run_of no_bits left) (env_in (envs_of old) env) x (value_in (envs_of now) v) (state_of now)) cut ∙ apply_next left (env_in (envs_of old) env) t ts (value_in (envs_of now) v) (state_of now)) i.through)
+      (said_first fault _ (apply_all no_bits (run_of no_bits left) (env_in (envs_of old) env) ts) (says_in (λ e. argument_step (run_of no_bits left) e (value_in (envs_of now) v) t (state_of now)) old now env fault i.through.grows h s))
+
+pub apply_done : (old now : Machine) (left : ℕ) (e : Environment) (us : List Tree) (v : Value) (whole : Going runs.Value) → us ≡ [] → InApply old now left e us v whole → Goes old now whole v
+apply_done old now left e us v whole none i = record {
+  does = ends_here (value_in (envs_of now) v) i.through (ap (λ (x : List Tree). apply_all no_bits (run_of no_bits left) e x (value_in (envs_of now) v) (state_of now)) none);
+  made = i.made;
+}
+
+pub argument_run : (old mid : Machine) (left env : ℕ) (t : Tree) (v x : Value) → IsMachine old → IsValue (length old.bindings.items) v
+    → Goes old mid (run_of no_bits left (env_in (envs_of old) env) t (state_of old)) x
+    → Through old mid (argument_step (run_of no_bits left) (env_in (envs_of old) env) (value_in (envs_of old) v) t (state_of old))
+        (apply_to no_bits (run_of no_bits left) (place_of t) (value_in (envs_of mid) v) (value_in (envs_of mid) x) (state_of mid))
+argument_run old mid left env t v x is made g =
+    same_rest _ (ap (λ (w : runs.Value). apply_to no_bits (run_of no_bits left) (place_of t) w (value_in (envs_of mid) x) (state_of mid)) (sym (grown_value old mid v g.does.grows made)))
+      (value_behind old mid left env t x (λ argument s. apply_to no_bits (run_of no_bits left) (place_of t) (value_in (envs_of old) v) argument s) is g)
+
+-- ---- names of a function
+
+no_name : (left : ℕ) (at : Place) (ns : List Name) (body : Tree) (e : Environment) (v : runs.Value) (s : State (Unit {0})) → length ns ≡ 0
+    → apply_to no_bits (run_of no_bits left) at (runs.closure ns body e) v s ≡ stuck not_function at
+no_name left at [] body e v s h = refl
+no_name left at (n ∷ ns) body e v s h = absurd (omega arith)
+
+last_name : (left : ℕ) (at : Place) (ns : List Name) (body : Tree) (e : Environment) (v : runs.Value) (s : State (Unit {0})) → length ns ≡ 1
+    → apply_to no_bits (run_of no_bits left) at (runs.closure ns body e) v s ≡ after (bind_step v e at s) (λ f s. run_of no_bits left f body s)
+last_name left at [] body e v s h = absurd (omega arith)
+last_name left at (n ∷ []) body e v s h = sym (regroup (worked no_bits (bound_length v) at s) (λ _ s. went (bound v e) s) (λ f s. run_of no_bits left f body s))
+last_name left at (n ∷ m ∷ ns) body e v s h = absurd (omega arith)
+
+next_name : (left : ℕ) (at : Place) (ns : List Name) (body : Tree) (e : Environment) (v : runs.Value) (s : State (Unit {0})) → 1 < length ns
+    → apply_to no_bits (run_of no_bits left) at (runs.closure ns body e) v s ≡ after (bind_step v e at s) (λ f s. went (runs.closure (drop 1 ns) body f) s)
+next_name left at [] body e v s h = absurd (omega arith)
+next_name left at (n ∷ []) body e v s h = absurd (omega arith)
+next_name left at (n ∷ m ∷ ns) body e v s h = sym (regroup (worked no_bits (bound_length v) at s) (λ _ s. went (bound v e) s) (λ f s. went (runs.closure (m ∷ ns) body f) s))
+
+drop_more : {A : Type 0} (xs : List A) (k : ℕ) → drop 1 (drop k xs) ≡ drop (k + 1) xs
+drop_more [] zero = refl
+drop_more [] (suc k) = let e : suc k + 1 ≡ suc (k + 1) = omega arith in ap (λ (n : ℕ). drop n []) (sym e)
+drop_more (x ∷ xs) zero = refl
+drop_more (x ∷ xs) (suc k) = let e : suc k + 1 ≡ suc (k + 1) = omega arith in drop_more xs k ∙ ap (λ (n : ℕ). drop n (x ∷ xs)) (sym e)
+
+drop_length : {A : Type 0} (xs : List A) (k : ℕ) → length (drop k xs) ≡ length xs - k
+drop_length [] zero = refl
+drop_length [] (suc k) = omega arith
+drop_length (x ∷ xs) zero = omega arith
+drop_length (x ∷ xs) (suc k) = drop_length xs k ∙ omega arith
+
+-- ---- calls
+
+pub call_none : (left : ℕ) (at : Place) (names : List Name) (taken : ℕ) (body : Tree) (e : Environment) (v : runs.Value) (s : State (Unit {0})) → length names ≤ taken
+    → apply_to no_bits (run_of no_bits left) at (runs.closure (drop taken names) body e) v s ≡ stuck not_function at
+call_none left at names taken body e v s h = no_name left at (drop taken names) body e v s (drop_length names taken ∙ omega arith)
+
+bind_first : (left : ℕ) (at : Place) (ns : List Name) (body : Tree) (e : Environment) (v : runs.Value) (s : State (Unit {0})) (fault : RunFault) → 0 < length ns
+    → Says fault (bind_step v e at s) → Says fault (apply_to no_bits (run_of no_bits left) at (runs.closure ns body e) v s)
+bind_first left at [] body e v s fault h says = absurd (omega arith)
+bind_first left at (n ∷ []) body e v s fault h says = said_same fault _ _ (last_name left at (n ∷ []) body e v s refl) (said_first fault (bind_step v e at s) (λ f s. run_of no_bits left f body s) says)
+bind_first left at (n ∷ m ∷ ns) body e v s fault h says =
+    said_same fault _ _ (next_name left at (n ∷ m ∷ ns) body e v s (omega arith)) (said_first fault (bind_step v e at s) (λ f s. went (runs.closure (m ∷ ns) body f) s) says)
+
+pub call_stuck : (left : ℕ) (at : Place) (names : List Name) (taken : ℕ) (body : Tree) (e : Environment) (v : runs.Value) (s : State (Unit {0})) (fault : RunFault) → taken < length names
+    → Says fault (bind_step v e at s) → Says fault (apply_to no_bits (run_of no_bits left) at (runs.closure (drop taken names) body e) v s)
+call_stuck left at names taken body e v s fault h says = bind_first left at (drop taken names) body e v s fault (omega (arith, drop_length names taken)) says
+
+pub call_last : (old mid : Machine) (left inner : ℕ) (at : Place) (names : List Name) (taken : ℕ) (body : Tree) (e : Environment) (v : runs.Value) → IsMachine old → length names ≡ taken + 1
+    → Binds old mid (bind_step v e at (state_of old)) inner
+    → Through old mid (apply_to no_bits (run_of no_bits left) at (runs.closure (drop taken names) body e) v (state_of old)) (run_of no_bits left (env_in (envs_of mid) inner) body (state_of mid))
+call_last old mid left inner at names taken body e v is h b =
+    step (λ f s. run_of no_bits left f body s) (begun old _ _ (last_name left at (drop taken names) body e v (state_of old) (drop_length names taken ∙ omega arith)) is) b.does
+
+pub call_next : (old mid : Machine) (left inner : ℕ) (at : Place) (names : List Name) (taken : ℕ) (body : Tree) (e : Environment) (v : runs.Value) → IsMachine old → taken + 1 < length names
+    → Binds old mid (bind_step v e at (state_of old)) inner
+    → Does old mid (apply_to no_bits (run_of no_bits left) at (runs.closure (drop taken names) body e) v (state_of old)) (runs.closure (drop (taken + 1) names) body (env_in (envs_of mid) inner))
+call_next old mid left inner at names taken body e v is h b =
+    ends_here _ (step (λ f s. went (runs.closure (drop 1 (drop taken names)) body f) s) (begun old _ _ (next_name left at (drop taken names) body e v (state_of old) (omega (arith, drop_length names taken))) is) b.does)
+      (ap (λ (ns : List Name). went (runs.closure ns body (env_in (envs_of mid) inner)) (state_of mid)) (drop_more names taken))
+
+-- ---- items
+
+pub item_bound : (old mid later : Machine) (left env made : ℕ) (name : Name) (t : Tree) (v : Value) → IsMachine old → env ≤ length old.bindings.items
+    → Goes old mid (run_of no_bits left (env_in (envs_of old) env) t (state_of old)) v
+    → Binds mid later (bind_step (value_in (envs_of mid) v) (env_in (envs_of mid) env) (place_of t) (state_of mid)) made
+    → Binds old later (item_step (run_of no_bits left) (env_in (envs_of old) env) (bind name t) (state_of old)) made
+item_bound old mid later left env made name t v is h g b =
+    let b2 : Binds mid later (bind_step (value_in (envs_of mid) v) (env_in (envs_of old) env) (place_of t) (state_of mid)) made =
+        subst (λ (e : Environment). Binds mid later (bind_step (value_in (envs_of mid) v) e (place_of t) (state_of mid)) made) (grown_env old mid env g.does.grows h) b in
+    record {
+      does = ends (step (λ value s. bind_step value (env_in (envs_of old) env) (place_of t) s) (begun old _ _ refl is) g.does) b2.does;
+      made = b.made;
+    }
+
+pub item_run : (old mid : Machine) (left env : ℕ) (t : Tree) (v : Value) → IsMachine old → env ≤ length old.bindings.items
+    → Goes old mid (run_of no_bits left (env_in (envs_of old) env) t (state_of old)) v
+    → Binds old mid (item_step (run_of no_bits left) (env_in (envs_of old) env) (run t) (state_of old)) env
+item_run old mid left env t v is h g = record {
+  does = ends_here (env_in (envs_of mid) env) (step (λ _ s. went (env_in (envs_of old) env) s) (begun old (item_step (run_of no_bits left) (env_in (envs_of old) env) (run t) (state_of old)) _ refl is) g.does)
+      (ap (λ (e : Environment). went e (state_of mid)) (sym (grown_env old mid env g.does.grows h)));
+  made = omega (arith, grown_length old mid g.does.grows);
+}
+
+-- ---- a block's term
+
+pub block_term : (left : ℕ) (e : Environment) (is js : List ItemTree) (last end : Tree) (at : Place) (s : State (Unit {0})) (t : Tree) → t ≡ block (item_trees is) last at → js ≡ is → end ≡ last
+    → term_of no_bits (run_of no_bits left) e t s ≡ block_of no_bits (run_of no_bits left) e js end s
+block_term left e is js last end at s t cut i l =
+    ap (λ (x : Tree). term_of no_bits (run_of no_bits left) e x s) cut ∙ block_is left e is last at s
+    ∙ ap (λ (x : List ItemTree). block_of no_bits (run_of no_bits left) e x last s) (sym i) ∙ ap (λ (x : Tree). block_of no_bits (run_of no_bits left) e js x s) (sym l)

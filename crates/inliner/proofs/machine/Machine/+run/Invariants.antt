@@ -1,0 +1,82 @@
+use Rattle.std.proofs.Common.{◌+◌, ◌*◌, map, drop}
+use Rattle.revs_terms.specs.Running.{run_of, term_of, bits_of, block_of}
+use Rattle.revs_terms.specs.Runs.{no_bits}
+use Rattle.revs_terms.specs.Terms.{place_of}
+use Rattle.revs_terms.specs.Trees.{tree_of, item_tree_of, trees, apply}
+use Rattle.inliner.specs.Machines.{envs_of, env_in, state_of}
+use Rattle.inliner.specs.Steps.{chain_tree}
+use Rattle.inliner.proofs.Through.{Through}
+use Rattle.inliner.proofs.Blocks.{InBlock, InApply}
+use Rattle.inliner.proofs.Forms.{rest_of_bits, rest_of_chain}
+use Rattle.inliner.proofs.machine.Machine.+run.Given as goal
+
+abbrev pub decreases-run : goal.decreases-run
+decreases-run l = l.left * 8
+
+abbrev pub decreases-term : goal.decreases-term
+decreases-term l = l.left * 8 + 7
+
+abbrev pub decreases-reg : goal.decreases-reg
+decreases-reg l = l.left * 8 + 6
+
+abbrev pub decreases-claimed : goal.decreases-claimed
+decreases-claimed l = l.left * 8 + 6
+
+abbrev pub decreases-assignment : goal.decreases-assignment
+decreases-assignment l = l.left * 8 + 6
+
+abbrev pub decreases-chain : goal.decreases-chain
+decreases-chain l = l.left * 8 + 6
+
+abbrev pub decreases-bits : goal.decreases-bits
+decreases-bits l = l.left * 8 + 5
+
+abbrev pub decreases-link : goal.decreases-link
+decreases-link l = l.left * 8 + 5
+
+abbrev pub decreases-bit : goal.decreases-bit
+decreases-bit l = l.left * 8 + 1
+
+abbrev pub invariant-bits-loop-term : goal.invariant-bits-loop-term
+invariant-bits-loop-term l =
+    Through l.fn.self l.self (bits_of no_bits (run_of no_bits l.left) (env_in (envs_of l.fn.self) l.env) (map tree_of l.terms) (state_of l.fn.self))
+      (rest_of_bits l.left (env_in (envs_of l.fn.self) l.env) (drop l.term-index (map tree_of l.terms)) l.locations.items (state_of l.self))
+
+abbrev pub invariant-chain-loop-term : goal.invariant-chain-loop-term
+invariant-chain-loop-term l =
+    Through l.fn.self l.self (term_of no_bits (run_of no_bits l.left) (env_in (envs_of l.fn.self) l.env) (chain_tree l.op (map tree_of l.terms)) (state_of l.fn.self))
+      (rest_of_chain l.left l.op (env_in (envs_of l.fn.self) l.env) (place_of (tree_of l.first)) l.so_far (drop l.term-index (map tree_of l.rest)) (state_of l.self))
+
+abbrev pub decreases-block : goal.decreases-block
+decreases-block l = l.left * 8 + 6
+
+abbrev pub decreases-item : goal.decreases-item
+decreases-item l = l.left * 8 + 5
+
+abbrev pub decreases-at : goal.decreases-at
+decreases-at l = l.left * 8 + 6
+
+abbrev pub decreases-rotation : goal.decreases-rotation
+decreases-rotation l = l.left * 8 + 6
+
+abbrev pub decreases-append : goal.decreases-append
+decreases-append l = l.left * 8 + 6
+
+abbrev pub decreases-apply : goal.decreases-apply
+decreases-apply l = l.left * 8 + 6
+
+abbrev pub decreases-argument : goal.decreases-argument
+decreases-argument l = l.left * 8 + 5
+
+abbrev pub decreases-call : goal.decreases-call
+decreases-call l = l.left * 8 + 4
+
+abbrev pub invariant-block-loop-item : goal.invariant-block-loop-item
+invariant-block-loop-item l =
+    InBlock l.fn.self l.self l.left l.inner (drop l.item-index (map item_tree_of l.items)) (tree_of l.last)
+      (block_of no_bits (run_of no_bits l.left) (env_in (envs_of l.fn.self) l.env) (map item_tree_of l.items) (tree_of l.last) (state_of l.fn.self))
+
+abbrev pub invariant-apply-loop-term : goal.invariant-apply-loop-term
+invariant-apply-loop-term l =
+    InApply l.fn.self l.self l.left (env_in (envs_of l.fn.self) l.env) (drop l.term-index (map tree_of l.terms)) l.value
+      (term_of no_bits (run_of no_bits l.left) (env_in (envs_of l.fn.self) l.env) (apply (tree_of l.fn.head) (trees (map tree_of l.terms))) (state_of l.fn.self))

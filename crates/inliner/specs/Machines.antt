@@ -1,0 +1,110 @@
+-- The machine that runs a program without bits: its environments in one list, in the order in which they were made.
+use Rattle.std.specs.Prelude.{◌≡◌, ℕ, zero, suc, ◌+◌, ◌≤◌, ◌<◌, Option, Some, None, List, [], ◌∷◌, ◌++◌, length, drop, map, sum, option_map, slice_index_or, ⊤}
+use Rattle.std.specs.List.{AllByRecursion}
+use Rattle.revc_base.specs.declared.tape.Ref.{Ref}
+use Rattle.revc_base.specs.declared.tape.Claim.{Claim}
+use Rattle.revc_base.specs.Tapes.{TapeView, IsKnown}
+use Rattle.revs_terms.specs.declared.term.Lambda.{Lambda}
+use Rattle.revs_terms.specs.Trees.{tree_of}
+use Rattle.revs_terms.specs.Running as runs
+use Rattle.revs_terms.specs.Running.{Environment, nothing, bound, Stamped, Met, State, Outcome, went}
+use Rattle.array_shapes.specs.declared.value.Value.{Value}
+use Rattle.array_shapes.specs.Values as values
+use Rattle.array_shapes.specs.Values.{ValueView, seen}
+use Rattle.inliner.specs.declared.machine.Binding.{Binding}
+use Rattle.inliner.specs.declared.machine.Machine.{Machine}
+
+-- ---- values and environments, by number
+
+-- the environment with a number: 0 is the empty one, and k + 1 the one in place k
+abbrev pub env_in : List Environment → ℕ → Environment
+env_in envs zero = nothing
+env_in envs (suc k) = slice_index_or envs k nothing
+
+abbrev pub spec_value : List Environment → ValueView → runs.Value
+spec_value envs values.unit = runs.unit
+spec_value envs (values.bit location) = runs.bit location
+spec_value envs (values.register locations) = runs.register locations
+spec_value envs (values.function env taken of) = runs.closure (drop taken of.names.items) (tree_of of.body) (env_in envs env)
+
+-- the length that a value counts where it is bound
+abbrev pub view_length : ValueView → ℕ
+view_length (values.register locations) = length locations
+view_length _ = 0
+
+-- the value that a value of the machine stands for
+abbrev pub value_in : List Environment → Value → runs.Value
+value_in envs value = spec_value envs (seen value)
+
+-- one more binding, on the environments so far
+abbrev pub bound_in : List Environment → Binding → Environment
+bound_in envs b = bound (value_in envs b.value) (env_in envs b.parent)
+
+-- the environments so far, and those of these bindings
+abbrev pub envs_from : List Environment → List Binding → List Environment
+envs_from envs [] = envs
+envs_from envs (b ∷ bs) = envs_from (envs ++ bound_in envs b ∷ []) bs
+
+-- a value whose environment is one of the first n
+abbrev pub IsValueView : ℕ → ValueView → Type 0
+IsValueView n (values.function env taken of) = env ≤ n
+IsValueView n _ = ⊤
+
+pub record IsValue (n : ℕ) (value : Value) : Type 0 where
+  pub made : IsValueView n (seen value)
+
+-- each binding from the n-th on is made of earlier ones
+abbrev pub AreBindings : ℕ → List Binding → Type 0
+AreBindings n [] = ⊤
+AreBindings n (b ∷ bs) = (b.parent ≤ n) × (IsValueView n (seen b.value) × AreBindings (n + 1) bs)
+
+-- ---- the state of a run without bits
+
+abbrev pub held_by : Option Ref → Option (Stamped (Unit {0}))
+held_by held = option_map (λ r. record { bit = tt; stamp = r }) held
+
+abbrev pub met_by : Claim → Met (Unit {0})
+met_by claim = record { claim = claim; bit = tt }
+
+-- the environments of the machine, in the order in which they were made
+abbrev pub envs_of : Machine → List Environment
+envs_of m = envs_from [] m.bindings.items
+
+-- the state of the run
+abbrev pub state_of : Machine → State (Unit {0})
+state_of m = record { store = map held_by m.store.items; log = m.tape.entries; claims = map met_by m.tape.claims; work = m.work }
+
+abbrev pub IsKnownIn : TapeView → Option Ref → Type 0
+IsKnownIn tape None = ⊤
+IsKnownIn tape (Some r) = IsKnown (sum tape.params) (length tape.entries) r
+
+-- What the machine keeps.
+pub record IsMachine (m : Machine) : Type 0 where
+  pub made : AreBindings 0 m.bindings.items
+  pub known : AllByRecursion (IsKnownIn m.tape) m.store.items
+  pub few : length m.store.items ≤ 1024 + length m.tape.entries
+  pub within : m.work ≤ 16777216
+
+-- ---- what a call of the machine does
+
+-- Bindings were only added.
+pub record Grows (old now : Machine) : Type 0 where
+  pub more : List Binding
+  pub bindings : now.bindings.items ≡ old.bindings.items ++ more
+  pub params : now.tape.params ≡ old.tape.params
+
+-- The run goes on with this answer.
+pub record Does {A : Type 0} (old now : Machine) (outcome : Outcome (Unit {0}) A) (answer : A) : Type 0 where
+  pub goes : outcome ≡ went answer (state_of now)
+  pub grows : Grows old now
+  pub kept : IsMachine now
+
+-- The run goes on with a value of the machine.
+pub record Goes (old now : Machine) (outcome : Outcome (Unit {0}) runs.Value) (value : Value) : Type 0 where
+  pub does : Does old now outcome (value_in (envs_of now) value)
+  pub made : IsValue (length now.bindings.items) value
+
+-- The run goes on with an environment of the machine.
+pub record Binds (old now : Machine) (outcome : Outcome (Unit {0}) Environment) (env : ℕ) : Type 0 where
+  pub does : Does old now outcome (env_in (envs_of now) env)
+  pub made : env ≤ length now.bindings.items

@@ -1,0 +1,11 @@
+//! The run of a program, once for all inputs: no bit is ever asked for, so the writes, the claims and every refusal are
+//! the same for all of them, and the run leaves one tape.
+#![tactic(auto)]
+
+mod fault;
+mod machine;
+mod places;
+mod registers;
+mod terms;
+
+pub use fault::RunFault;
