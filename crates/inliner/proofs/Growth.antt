@@ -82,14 +82,15 @@ grown_length old now g = rw g.bindings (omega (arith, length-append old.bindings
 pub grown_made : (old now : Machine) (v : Value) → Grows old now → IsValue (length old.bindings.items) v → IsValue (length now.bindings.items) v
 grown_made old now v g h = record { made = IsValueView-later _ _ (seen v) (grown_length old now g) h.made }
 
-pub grows_same : (old now : Machine) → now.bindings.items ≡ old.bindings.items → now.tape.params ≡ old.tape.params → Grows old now
-grows_same old now e p = record { more = []; bindings = e ∙ sym (append-nil old.bindings.items); params = p }
+pub grows_same : (old now : Machine) → now.bindings.items ≡ old.bindings.items → now.tape.params ≡ old.tape.params → now.tape.outputs ≡ old.tape.outputs → Grows old now
+grows_same old now e p o = record { more = []; bindings = e ∙ sym (append-nil old.bindings.items); params = p; outputs = o }
 
 pub grows_trans : (a b c : Machine) → Grows a b → Grows b c → Grows a c
 grows_trans a b c g h = record {
   more = g.more ++ h.more;
   bindings = h.bindings ∙ ap (λ (xs : List Binding). xs ++ h.more) g.bindings ∙ append_assoc a.bindings.items g.more h.more;
   params = h.params ∙ g.params;
+  outputs = h.outputs ∙ g.outputs;
 }
 
 -- ---- one more binding
@@ -98,13 +99,17 @@ at_end : (d : List Environment) (e : Environment) → slice_index_or (d ++ e ∷
 at_end [] e = refl
 at_end (f ∷ d) e = at_end d e
 
+-- the environment of the last binding
+pub pushed_at : (bs : List Binding) (b : Binding) → env_in (envs_from [] (bs ++ b ∷ [])) (length bs + 1) ≡ bound_in (envs_from [] bs) b
+pushed_at bs b =
+    let place : length bs + 1 ≡ suc (length (envs_from [] bs)) = omega (arith, envs_from-length [] bs) in
+    ap (λ (k : ℕ). env_in (envs_from [] (bs ++ b ∷ [])) k) place
+    ∙ ap (λ (d : List Environment). slice_index_or d (length (envs_from [] bs)) nothing) (envs_from-append [] bs (b ∷ []))
+    ∙ at_end (envs_from [] bs) (bound_in (envs_from [] bs) b)
+
 pub pushed_env : (old now : Machine) (b : Binding) → now.bindings.items ≡ old.bindings.items ++ b ∷ []
     → env_in (envs_of now) (length old.bindings.items + 1) ≡ bound_in (envs_of old) b
-pushed_env old now b e =
-    let grown : envs_of now ≡ envs_of old ++ bound_in (envs_of old) b ∷ [] = ap (envs_from []) e ∙ envs_from-append [] old.bindings.items (b ∷ []) in
-    let place : length old.bindings.items + 1 ≡ suc (length (envs_of old)) = omega (arith, envs_of-length old) in
-    ap (λ (k : ℕ). env_in (envs_of now) k) place ∙ ap (λ (d : List Environment). slice_index_or d (length (envs_of old)) nothing) grown
-    ∙ at_end (envs_of old) (bound_in (envs_of old) b)
+pushed_env old now b e = ap (λ (bs : List Binding). env_in (envs_from [] bs) (length old.bindings.items + 1)) e ∙ pushed_at old.bindings.items b
 
 AreBindings-push : (n : ℕ) (bs : List Binding) (b : Binding) → AreBindings n bs → b.parent ≤ n + length bs → IsValueView (n + length bs) (seen b.value)
     → AreBindings n (bs ++ b ∷ [])
@@ -181,7 +186,7 @@ bound_done old mid now value env made at there p count n w b s t k m h v =
     record {
       does = record {
         goes = rw (← p, counted) (goes_on _ _ _ _ _ w.goes (rw (last, state) refl));
-        grows = grows_trans old mid now w.grows (record { more = record { value = value; parent = env } ∷ []; bindings = b; params = ap (λ (x : TapeView). x.params) t });
+        grows = grows_trans old mid now w.grows (record { more = record { value = value; parent = env } ∷ []; bindings = b; params = ap (λ (x : TapeView). x.params) t; outputs = ap (λ (x : TapeView). x.outputs) t });
         kept = record {
           made = rw b (bindings_pushed mid.bindings.items (record { value = value; parent = env }) w.kept.made h2 v2.made);
           known = rw (s, t) w.kept.known;

@@ -5,3 +5,5 @@ pub mod Through
 pub mod Forms
 pub mod Parts
 pub mod Blocks
+pub mod Starts
+pub mod Ends

@@ -1,3 +1,4 @@
 pub mod Faults
 pub mod Machines
+pub mod Starting
 pub mod Steps

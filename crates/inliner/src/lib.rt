@@ -5,7 +5,10 @@
 mod fault;
 mod machine;
 mod places;
+mod program;
 mod registers;
+mod start;
 mod terms;
 
 pub use fault::RunFault;
+pub use program::unroll;

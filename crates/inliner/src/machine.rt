@@ -63,6 +63,17 @@ impl<'t> Machine<'t> {
         *self.store.allocator()
     }
 
+    /// The number of the environment that was made last.
+    pub fn last_environment(&self) -> Result<u32, RunFault>
+        ensures ok { IfOk result (λ env. env ≡ length self.now.bindings.items) }
+        ensures err { IfErr result (λ fault. fault ≡ RunFault.Memory) }
+    {
+        match u32::try_from(self.bindings.len()) {
+            Ok(env) => Ok(env),
+            Err(_) => Err(RunFault::Memory),
+        }
+    }
+
     /// Enters a term, which counts one unit of work.
     pub fn enter(&mut self, term: &Term) -> Result<(), RunFault>
         requires { IsMachine self.old }
@@ -219,10 +230,7 @@ impl<'t> Machine<'t> {
     {
         self.work(bound_length(&value), place_of(term))?;
         self.bindings.push(Binding { value, parent: env })?;
-        match u32::try_from(self.bindings.len()) {
-            Ok(bound) => Ok(bound),
-            Err(_) => Err(RunFault::Memory),
-        }
+        self.last_environment()
     }
 
     /// The value of a name, so many bindings back; it is unit where there is no such binding.

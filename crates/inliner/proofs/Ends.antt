@@ -1,0 +1,146 @@
+-- The end of a program.
+use Rattle.std.proofs.Common.{◌≡◌, ℕ, zero, suc, ◌+◌, ◌≤◌, ◌<◌, List, [], ◌∷◌, ◌++◌, length, map, refl, sym, ap, ◌∙◌, subst, arith, length-append, append_assoc, sum, drop, get_or}
+use Rattle.std.specs.List.{AllByRecursion}
+use Rattle.std.proofs.lemmas.List.{append-nil, map-append, length-map}
+use Rattle.revc_base.specs.declared.place.Place.{Place}
+use Rattle.revc_base.specs.declared.tape.Ref.{Ref}
+use Rattle.revc_base.specs.declared.tape.Claim.{Claim}
+use Rattle.revc_base.specs.Tapes.{TapeView, IsKnown}
+use Rattle.revc_base.proofs.TapeKeeps.{All-push}
+use Rattle.revs_terms.specs.declared.program.Param.{Param}
+use Rattle.revs_terms.specs.Programs.{widths_of}
+use Rattle.revs_terms.specs.Terms.{place_of}
+use Rattle.revs_terms.specs.Trees.{Tree}
+use Rattle.revs_terms.specs.Running as runs
+use Rattle.revs_terms.specs.Running.{Environment, nothing, Stamped, State, Outcome, went, after, read, run_of}
+use Rattle.revs_terms.specs.Runs.{start, nothings, params_in, no_bits, read_all, tape_of, run_without_bits}
+use Rattle.array_shapes.specs.declared.value.Value.{Value}
+use Rattle.inliner.specs.declared.fault.RunFault.{RunFault}
+use Rattle.inliner.specs.declared.fault.RunFault.TheVariants as faults
+use Rattle.inliner.specs.declared.machine.Machine.{Machine}
+use Rattle.inliner.specs.Faults.{Says, Leaves}
+use Rattle.inliner.specs.Machines.{met_by, env_in, value_in, envs_of, state_of, IsMachine, Grows, Does, Goes}
+use Rattle.inliner.specs.Starting.{stamped, Reads, Outputs, outputs_step, IsStart}
+use Rattle.inliner.specs.Steps.{Going}
+use Rattle.inliner.proofs.After.{said_first, said_same}
+use Rattle.inliner.proofs.Through.{regroup, same_next, after_went}
+
+-- ---- outputs are read one after another
+
+abbrev pub left_to_read : Place → List ℕ → List Ref → State (Unit {0}) → Going (List (Stamped (Unit {0})))
+left_to_read at ls made s = after (read_all no_bits at ls s) (λ more s. went (map stamped made ++ more) s)
+
+pub record InReads (m : Machine) (at : Place) (made : List Ref) (rest all : List ℕ) : Type 0 where
+  pub left : read_all no_bits at all (state_of m) ≡ left_to_read at rest made (state_of m)
+  pub known : AllByRecursion (IsKnown (sum m.tape.params) (length m.tape.entries)) made
+  pub count : length made + length rest ≡ length all
+
+pub reads_begun : (m : Machine) (at : Place) (made : List Ref) (all : List ℕ) → made ≡ [] → InReads m at made all all
+reads_begun m at made all none = record {
+  left = after_went _ ∙ ap (λ (x : List Ref). left_to_read at all x (state_of m)) (sym none);
+  known = subst (AllByRecursion (IsKnown (sum m.tape.params) (length m.tape.entries))) (sym none) tt;
+  count = ap (λ (x : List Ref). length x + length all) none ∙ omega arith;
+}
+
+pub reads_more : (m : Machine) (at : Place) (made now : List Ref) (l : ℕ) (r : Ref) (ls rest all : List ℕ) → rest ≡ l ∷ ls → now ≡ made ++ r ∷ []
+    → read no_bits l at (state_of m) ≡ went (stamped r) (state_of m) → IsKnown (sum m.tape.params) (length m.tape.entries) r
+    → InReads m at made rest all → InReads m at now ls all
+reads_more m at made now l r ls rest all cut pushed got known i = record {
+  left = i.left ∙ ap (λ (x : List ℕ). left_to_read at x made (state_of m)) cut
+      ∙ regroup (read no_bits l at (state_of m)) (λ first s. after (read_all no_bits at ls s) (λ more s. went (first ∷ more) s)) (λ more s. went (map stamped made ++ more) s)
+      ∙ ap (λ (o : Going (Stamped (Unit {0}))). after o (λ first s. after (after (read_all no_bits at ls s) (λ more s. went (first ∷ more) s)) (λ more s. went (map stamped made ++ more) s))) got
+      ∙ regroup (read_all no_bits at ls (state_of m)) (λ more s. went (stamped r ∷ more) s) (λ more s. went (map stamped made ++ more) s)
+      ∙ same_next (read_all no_bits at ls (state_of m)) (λ more s. went (map stamped made ++ stamped r ∷ more) s) (λ more s. went (map stamped now ++ more) s)
+          (λ more s. ap (λ (x : List (Stamped (Unit {0}))). went x s)
+            (sym (append_assoc (map stamped made) (stamped r ∷ []) more) ∙ ap (λ (x : List (Stamped (Unit {0}))). x ++ more) (sym (map-append stamped made (r ∷ [])) ∙ ap (map stamped) (sym pushed))));
+  known = subst (AllByRecursion (IsKnown (sum m.tape.params) (length m.tape.entries))) (sym pushed) (All-push (IsKnown (sum m.tape.params) (length m.tape.entries)) made r i.known known);
+  count = omega (arith, ap length pushed ∙ length-append made (r ∷ []), ap length cut, i.count);
+}
+
+pub reads_stuck : (m : Machine) (at : Place) (made : List Ref) (l : ℕ) (ls rest all : List ℕ) (fault : RunFault) → rest ≡ l ∷ ls
+    → InReads m at made rest all → Says fault (read no_bits l at (state_of m)) → Says fault (read_all no_bits at all (state_of m))
+reads_stuck m at made l ls rest all fault cut i s =
+    said_same fault _ _ (i.left ∙ ap (λ (x : List ℕ). left_to_read at x made (state_of m)) cut)
+      (said_first fault _ (λ more s. went (map stamped made ++ more) s)
+        (said_first fault (read no_bits l at (state_of m)) (λ first s. after (read_all no_bits at ls s) (λ more s. went (first ∷ more) s)) s))
+
+pub reads_done : (m : Machine) (at : Place) (made : List Ref) (rest all : List ℕ) → rest ≡ [] → InReads m at made rest all → Reads m all at made
+reads_done m at made rest all none i = record {
+  read = i.left ∙ ap (λ (x : List ℕ). left_to_read at x made (state_of m)) none ∙ ap (λ (x : List (Stamped (Unit {0}))). went x (state_of m)) (append-nil (map stamped made));
+  known = i.known;
+  count = omega (arith, ap length none, i.count);
+}
+
+-- ---- the whole run
+
+claims_back : (cs : List Claim) → map (λ m. m.claim) (map met_by cs) ≡ cs
+claims_back [] = refl
+claims_back (c ∷ cs) = ap (λ (x : List Claim). c ∷ x) (claims_back cs)
+
+stamps_back : (rs : List Ref) → map (λ o. o.stamp) (map stamped rs) ≡ rs
+stamps_back [] = refl
+stamps_back (r ∷ rs) = ap (λ (x : List Ref). r ∷ x) (stamps_back rs)
+
+-- the run of a program with so many levels of depth
+abbrev pub run_within : ℕ → List Param → Tree → Going (List (Stamped (Unit {0})))
+run_within left params body =
+    after (run_of no_bits left (params_in 0 params nothing) body (start (nothings (sum (widths_of params))))) (λ value s. outputs_step (place_of body) value s)
+
+at_start : (left : ℕ) (params : List Param) (body : Tree) (m : Machine) (env : ℕ) → IsStart params m → env ≡ length m.bindings.items
+    → run_within left params body ≡ after (run_of no_bits left (env_in (envs_of m) env) body (state_of m)) (λ value s. outputs_step (place_of body) value s)
+at_start left params body m env s e =
+    sym (ap (λ (x : Environment). after (run_of no_bits left x body (state_of m)) (λ value s. outputs_step (place_of body) value s)) (ap (env_in (envs_of m)) e ∙ s.env)
+      ∙ ap (λ (x : State (Unit {0})). after (run_of no_bits left (params_in 0 params nothing) body x) (λ value s. outputs_step (place_of body) value s)) s.state)
+
+pub body_stuck : (left : ℕ) (params : List Param) (body : Tree) (m : Machine) (env : ℕ) (fault : RunFault) → IsStart params m → env ≡ length m.bindings.items
+    → Says fault (run_of no_bits left (env_in (envs_of m) env) body (state_of m)) → Says fault (run_within left params body)
+body_stuck left params body m env fault s e says =
+    said_same fault _ _ (at_start left params body m env s e) (said_first fault (run_of no_bits left (env_in (envs_of m) env) body (state_of m)) (λ value s. outputs_step (place_of body) value s) says)
+
+body_run : (left : ℕ) (params : List Param) (body : Tree) (m now : Machine) (env : ℕ) (v : Value) → IsStart params m → env ≡ length m.bindings.items
+    → Goes m now (run_of no_bits left (env_in (envs_of m) env) body (state_of m)) v
+    → run_within left params body ≡ outputs_step (place_of body) (value_in (envs_of now) v) (state_of now)
+body_run left params body m now env v s e g =
+    at_start left params body m env s e ∙ ap (λ (o : Going runs.Value). after o (λ value s. outputs_step (place_of body) value s)) g.does.goes
+
+pub outputs_stuck : (left : ℕ) (params : List Param) (body : Tree) (m now : Machine) (env : ℕ) (v : Value) (fault : RunFault) → IsStart params m → env ≡ length m.bindings.items
+    → Goes m now (run_of no_bits left (env_in (envs_of m) env) body (state_of m)) v
+    → Says fault (outputs_step (place_of body) (value_in (envs_of now) v) (state_of now)) → Says fault (run_within left params body)
+outputs_stuck left params body m now env v fault s e g says = said_same fault _ _ (body_run left params body m now env v s e g) says
+
+pub program_leaves : (left : ℕ) (params : List Param) (body : Tree) (m now : Machine) (env : ℕ) (v : Value) (made : List Ref) (tape : TapeView) → IsStart params m → env ≡ length m.bindings.items
+    → Goes m now (run_of no_bits left (env_in (envs_of m) env) body (state_of m)) v
+    → Outputs now (value_in (envs_of now) v) (place_of body) made → tape ≡ record now.tape { outputs = made }
+    → (run_within left params body ≡ went (map stamped made) (state_of now)) × (tape ≡ tape_of params (map stamped made) (state_of now))
+program_leaves left params body m now env v made tape s e g o t =
+    let p : now.tape.params ≡ widths_of params = g.does.grows.params ∙ s.widths in
+    let c = claims_back now.tape.claims in
+    let r = stamps_back made in
+    (body_run left params body m now env v s e g ∙ o.read,
+      t ∙ (rw (p, c, r) refl))
+
+-- ---- what is left of a list
+
+pub at_index : {X : Type 0} (xs : List X) (i : ℕ) (x : X) → i < length xs → x ≡ get_or xs i x → drop i xs ≡ x ∷ drop (i + 1) xs
+at_index [] i x h e = absurd (omega arith)
+at_index (y ∷ ys) zero x h e = ap (λ z. z ∷ ys) (sym e)
+at_index (y ∷ ys) (suc i) x h e =
+    let next : suc i + 1 ≡ suc (i + 1) = omega arith in
+    rw next (at_index ys i x (omega arith) e)
+
+pub at_last : {X : Type 0} (xs : List X) (i : ℕ) → length xs ≤ i → drop i xs ≡ []
+at_last [] zero h = refl
+at_last [] (suc i) h = refl
+at_last (y ∷ ys) zero h = absurd (omega arith)
+at_last (y ∷ ys) (suc i) h = at_last ys i (omega arith)
+
+pub at_default : {X : Type 0} (xs : List X) (i : ℕ) (d : X) → i < length xs → drop i xs ≡ get_or xs i d ∷ drop (i + 1) xs
+at_default [] i d h = absurd (omega arith)
+at_default (y ∷ ys) zero d h = refl
+at_default (y ∷ ys) (suc i) d h =
+    let next : suc i + 1 ≡ suc (i + 1) = omega arith in
+    rw next (at_default ys i d (omega arith))
+
+-- Want of memory says nothing of the run.
+pub memory_says : {A : Type 0} (fault : RunFault) (o : Going A) → fault ≡ faults.Memory → Says fault o
+memory_says fault o e = subst (λ (f : RunFault). Says f o) (sym e) (record { cause = tt })

@@ -1,0 +1,16 @@
+use Rattle.std.proofs.Common.{arith, rules, ◌≡◌, ◌-◌, ◌+◌, ap, sym, ◌∙◌, List, ◌++◌, ◌∷◌, [], ℕ}
+use Rattle.std.specs.List.{range_with_len}
+use Rattle.inliner.proofs.Starts.{range_more}
+use Rattle.inliner.proofs.start.numbers.Goals as goal
+
+pub loop-number-init : goal.loop-number-init
+loop-number-init c = let n : c.args.from - c.args.from ≡ 0 = omega arith in c.new-numbers.ensures.items ∙ sym (ap (range_with_len c.args.from) n)
+
+pub loop-number-preserved : goal.loop-number-preserved
+loop-number-preserved c =
+    let n : c.loop-number.number + 1 - c.args.from ≡ c.loop-number.number - c.args.from + 1 = omega arith in
+    c.in_ok-push.ensures.items ∙ ap (λ (x : List ℕ). x ++ c.loop-number.number ∷ []) c.loop-number.invariant
+    ∙ sym (ap (range_with_len c.args.from) n ∙ range_more c.args.from (c.loop-number.number - c.args.from) c.loop-number.number (omega arith))
+
+pub returns-clause-ok : goal.returns-clause-ok
+returns-clause-ok c = c.loop-number.invariant ∙ ap (range_with_len c.args.from) (omega arith)

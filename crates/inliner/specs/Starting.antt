@@ -1,0 +1,66 @@
+-- The machine before a program's body is run, and its end.
+use Rattle.std.specs.Prelude.{◌≡◌, ℕ, ◌≤◌, Option, Some, None, List, [], length, map, sum, ⊤}
+use Rattle.std.specs.List.{AllByRecursion}
+use Rattle.revc_base.specs.declared.tape.Ref.{Ref}
+use Rattle.revc_base.specs.Tapes.{IsKnown}
+use Rattle.revs_terms.specs.declared.program.Param.{Param}
+use Rattle.revs_terms.specs.Programs.{widths_of}
+use Rattle.revc_base.specs.declared.place.Place.{Place}
+use Rattle.revs_terms.specs.Running.{Value, Environment, nothing, Stamped, State, Outcome, went, after}
+use Rattle.revs_terms.specs.Runs.{start, inputs_from, nothings, from, params_in, no_bits, locations_of, read_all}
+use Rattle.array_shapes.specs.Values as values
+use Rattle.array_shapes.specs.Values.{ValueView}
+use Rattle.inliner.specs.declared.machine.Binding.{Binding}
+use Rattle.inliner.specs.declared.machine.Machine.{Machine}
+use Rattle.inliner.specs.Machines.{held_by, IsMachine, AreBindings, envs_from, envs_of, env_in, state_of}
+
+-- the value of a parameter whose first input is this one
+abbrev pub param_view : ℕ → Option ℕ → ValueView
+param_view first None = values.bit first
+param_view first (Some width) = values.register (from first width)
+
+abbrev pub IsInputBelow : ℕ → Option Ref → Type 0
+IsInputBelow n None = ⊤
+IsInputBelow n (Some r) = IsKnown n 0 r
+
+-- the inputs stand in the first locations
+pub record AreInputs (n : ℕ) (store : List (Option Ref)) : Type 0 where
+  pub held : map held_by store ≡ inputs_from 0 (nothings n)
+  pub known : AllByRecursion (IsInputBelow n) store
+  pub count : length store ≡ n
+
+-- The parameters are bound, the last one nearest.
+pub record AreBound (params : List Param) (bs : List Binding) : Type 0 where
+  pub are : AreBindings 0 bs
+  pub env : env_in (envs_from [] bs) (length bs) ≡ params_in 0 params nothing
+  pub count : length bs ≡ length params
+
+-- The machine is at the start of a program.
+pub record IsStart (params : List Param) (m : Machine) : Type 0 where
+  pub kept : IsMachine m
+  pub state : state_of m ≡ start (nothings (sum (widths_of params)))
+  pub env : env_in (envs_of m) (length m.bindings.items) ≡ params_in 0 params nothing
+  pub widths : m.tape.params ≡ widths_of params
+  pub outputs : m.tape.outputs ≡ []
+
+-- a bit that says nothing, with what made it
+abbrev pub stamped : Ref → Stamped (Unit {0})
+stamped r = record { bit = tt; stamp = r }
+
+-- ---- the end
+
+-- the outputs of a program's value
+abbrev pub outputs_step : Place → Value → State (Unit {0}) → Outcome (Unit {0}) (List (Stamped (Unit {0})))
+outputs_step at value s = after (locations_of at value s) (read_all no_bits at)
+
+-- These made the bits in the locations.
+pub record Reads (m : Machine) (locations : List ℕ) (at : Place) (made : List Ref) : Type 0 where
+  pub read : read_all no_bits at locations (state_of m) ≡ went (map stamped made) (state_of m)
+  pub known : AllByRecursion (IsKnown (sum m.tape.params) (length m.tape.entries)) made
+  pub count : length made ≡ length locations
+
+-- These made the outputs.
+pub record Outputs (m : Machine) (value : Value) (at : Place) (made : List Ref) : Type 0 where
+  pub read : outputs_step at value (state_of m) ≡ went (map stamped made) (state_of m)
+  pub known : AllByRecursion (IsKnown (sum m.tape.params) (length m.tape.entries)) made
+  pub few : length made ≤ 1024

@@ -1,0 +1,91 @@
+// The run of a program.
+ghost use Rattle.std.specs.Prelude.{◌≡◌, ◌≤◌, [], length, sum, IfOk, IfErr};
+ghost use Rattle.std.specs.List.{AllByRecursion};
+ghost use Rattle.revc_base.specs.Tapes.{IsKnown};
+ghost use Rattle.revs_terms.specs.Runs.{no_bits, read_all, run_without_bits};
+ghost use Rattle.revs_terms.specs.Terms.{place_of};
+ghost use Rattle.revs_terms.specs.Trees.{tree_of};
+ghost use Rattle.inliner.specs.Faults.{Says, Leaves};
+ghost use Rattle.inliner.specs.Machines.{IsMachine, envs_of, state_of, value_in};
+ghost use Rattle.inliner.specs.Starting.{Outputs, Reads, outputs_step};
+
+use crate::RunFault;
+use crate::machine::Machine;
+use crate::places::place_of;
+use crate::start::start;
+use array_shapes::Value;
+use revc_base::{Ref, Tape};
+use revs_terms::{Program, Term};
+use std::alloc::Global;
+
+/// How deep terms are run.
+const MOST_DEPTH: u32 = 400;
+
+/// The most outputs of a program.
+const MOST_OUTPUTS: usize = 1_024;
+
+/// Runs a program once for all inputs, to the tape that its run leaves on each of them.
+///
+/// A fault comes exactly where the run is stuck, with that cause and place; want of memory may come anywhere.
+pub fn unroll(alloc: Global, program: &Program) -> Result<Tape, RunFault>
+    ensures ok { IfOk result (λ tape. Leaves program.now.params.items (tree_of program.now.body) tape) }
+    ensures err { IfErr result (λ fault. Says fault (run_without_bits program.now.params.items (tree_of program.now.body))) }
+{
+    let mut machine = start(alloc, &program.params)?;
+    let env = machine.last_environment()?;
+    let value = machine.run(env, &program.body, MOST_DEPTH)?;
+    let outputs = outputs(&machine, &value, &program.body)?;
+    Ok(finished(machine, outputs))
+}
+
+// The outputs of a program: what made the bits of its value.
+fn outputs<'t>(machine: &Machine<'t>, value: &Value<'t>, body: &Term) -> Result<Vec<Ref>, RunFault>
+    requires { IsMachine machine.now }
+    ensures ok { IfOk result (λ made. Outputs machine.now (value_in (envs_of machine.now) value.now) (place_of (tree_of body.now)) made.items) }
+    ensures err { IfErr result (λ fault. Says fault (outputs_step (place_of (tree_of body.now)) (value_in (envs_of machine.now) value.now) (state_of machine.now))) }
+{
+    match value {
+        Value::Bit(location) => read(machine, &[*location], body),
+        Value::Reg(locations) => {
+            if locations.len() > MOST_OUTPUTS {
+                return Err(RunFault::Outputs(place_of(body)));
+            }
+            read(machine, locations, body)
+        }
+        Value::Unit | Value::Fun { .. } => Err(RunFault::NoOutput(place_of(body))),
+    }
+}
+
+// What made the bits in these locations.
+fn read<'t>(machine: &Machine<'t>, locations: &[u32], body: &Term) -> Result<Vec<Ref>, RunFault>
+    requires { IsMachine machine.now }
+    ensures ok { IfOk result (λ made. Reads machine.now locations.now (place_of (tree_of body.now)) made.items) }
+    ensures err { IfErr result (λ fault. Says fault (read_all no_bits (place_of (tree_of body.now)) locations.now (state_of machine.now))) }
+{
+    let mut made = Vec::new(machine.allocator());
+    for location in locations {
+        let stamp = machine.read(*location, body)?;
+        made.push(stamp)?;
+    }
+    Ok(made)
+}
+
+// The tape of a machine, with these outputs.
+fn finished(machine: Machine, outputs: Vec<Ref>) -> Tape
+    requires known { AllByRecursion (IsKnown (sum machine.tape.params) (length machine.tape.entries)) outputs.items }
+    requires few { length outputs.items ≤ 1024 }
+    requires unset { machine.tape.outputs ≡ [] }
+    ensures { result ≡ record machine.entry.tape { outputs = outputs.items } }
+{
+    let Machine {
+        bindings: _,
+        store: _,
+        mut tape,
+        work: _,
+    } = machine;
+    if outputs.is_empty() {
+        return tape;
+    }
+    tape.set_outputs(outputs);
+    tape
+}

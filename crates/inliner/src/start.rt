@@ -1,0 +1,102 @@
+// The machine before a program's body is run.
+ghost use Rattle.std.specs.Prelude.{◌≡◌, ◌+◌, ◌-◌, ◌≤◌, map, Some, IfOk, IfErr};
+ghost use Rattle.std.specs.List.{range_with_len};
+ghost use Rattle.revs_terms.specs.Programs.{AreParams, width_of, widths_of};
+ghost use Rattle.array_shapes.specs.Values.{seen};
+ghost use Rattle.inliner.specs.Starting.{param_view, AreBound, IsStart};
+
+use crate::RunFault;
+use crate::machine::{Binding, Machine};
+use array_shapes::Value;
+use revc_base::{Ref, Tape};
+use revs_terms::Param;
+use std::alloc::Global;
+
+// How many inputs a parameter has.
+fn width(param: &Param) -> u32
+    ensures { result ≡ width_of param.now.width }
+{
+    match param.width {
+        Some(width) => width,
+        None => 1,
+    }
+}
+
+fn widths(alloc: Global, params: &[Param]) -> Result<Vec<u32>, RunFault>
+    ensures ok { IfOk result (λ widths. widths.items ≡ widths_of params.now) }
+    ensures err { IfErr result (λ fault. fault ≡ RunFault.Memory) }
+{
+    Ok(params.iter().map(|param| width(param)).collect(alloc)?)
+}
+
+// The numbers from one on, before another.
+fn numbers(alloc: Global, from: u32, to: u32) -> Result<Vec<u32>, RunFault>
+    requires { from ≤ to }
+    ensures ok { IfOk result (λ numbers. numbers.items ≡ range_with_len from (to - from)) }
+    ensures err { IfErr result (λ fault. fault ≡ RunFault.Memory) }
+{
+    let mut numbers = Vec::new(alloc);
+    for number in from..to {
+        numbers.push(number)?;
+    }
+    Ok(numbers)
+}
+
+// The inputs, each in its location.
+fn inputs(alloc: Global, count: u32) -> Result<Vec<Option<Ref>>, RunFault>
+    ensures ok { IfOk result (λ store. store.items ≡ map (λ input. Some (Ref.Input input)) (range_with_len 0 count)) }
+    ensures err { IfErr result (λ fault. fault ≡ RunFault.Memory) }
+{
+    let numbers = numbers(alloc, 0, count)?;
+    Ok(numbers.iter().map(|input| Some(Ref::Input(*input))).collect(alloc)?)
+}
+
+// The value of a parameter whose first input is this one.
+fn param_value<'t>(
+    alloc: Global,
+    first: u32,
+    width: Option<u32>,
+) -> Result<Value<'t>, RunFault>
+    requires { first + width_of width ≤ 1024 }
+    ensures ok { IfOk result (λ value. seen value ≡ param_view first width) }
+    ensures err { IfErr result (λ fault. fault ≡ RunFault.Memory) }
+{
+    match width {
+        Some(width) => Ok(Value::Reg(numbers(alloc, first, first + width)?)),
+        None => Ok(Value::Bit(first)),
+    }
+}
+
+// The parameters, bound one in the other.
+fn bound<'t>(alloc: Global, params: &[Param]) -> Result<Vec<Binding<'t>>, RunFault>
+    requires { AreParams params.now }
+    ensures ok { IfOk result (λ bindings. AreBound params.now bindings.items) }
+    ensures err { IfErr result (λ fault. fault ≡ RunFault.Memory) }
+{
+    let mut bindings = Vec::new(alloc);
+    let mut first = 0;
+    for param in params {
+        let value = param_value(alloc, first, param.width)?;
+        let parent = bindings.len() as u32;
+        bindings.push(Binding { value, parent })?;
+        first += width(param);
+    }
+    Ok(bindings)
+}
+
+/// The machine at the start of a program with these parameters. Its last environment is that of the body.
+pub fn start<'t>(alloc: Global, params: &[Param]) -> Result<Machine<'t>, RunFault>
+    requires { AreParams params.now }
+    ensures ok { IfOk result (λ machine. IsStart params.now machine) }
+    ensures err { IfErr result (λ fault. fault ≡ RunFault.Memory) }
+{
+    let tape = Tape::new(alloc, widths(alloc, params)?);
+    let store = inputs(alloc, tape.inputs())?;
+    let bindings = bound(alloc, params)?;
+    Ok(Machine {
+        bindings,
+        store,
+        tape,
+        work: 0,
+    })
+}
