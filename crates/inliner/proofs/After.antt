@@ -1,7 +1,7 @@
 -- A run goes on from step to step, or is stuck at the first that is stuck.
-use Rattle.std.proofs.Common.{◌≡◌, Option, Some, None, refl, sym, ap, ◌∙◌, subst}
+use Rattle.std.proofs.Common.{◌≡◌, Option, Some, None, sym, ap, ◌∙◌, subst}
 use Rattle.revc_base.specs.declared.place.Place.{Place}
-use Rattle.revs_terms.specs.Running.{Refusal, State, Outcome, stuck, went, after}
+use Rattle.revs_terms.specs.Running.{Refusal, State, Outcome, went, after}
 use Rattle.inliner.specs.declared.fault.RunFault.{RunFault}
 use Rattle.inliner.specs.Faults.{cause_of, IsStuckAs, Says}
 

@@ -1,28 +1,25 @@
 -- Blocks, parts and functions, as the machine takes them.
-use Rattle.std.proofs.Common.{◌≡◌, ℕ, zero, suc, ◌+◌, ◌-◌, ◌≤◌, ◌<◌, List, [], ◌∷◌, ◌++◌, length, drop, map, get_or, refl, sym, ap, ◌∙◌, subst, arith}
+use Rattle.std.proofs.Common.{◌≡◌, ℕ, zero, suc, ◌+◌, ◌-◌, ◌≤◌, ◌<◌, List, [], ◌∷◌, length, drop, map, get_or, refl, sym, ap, ◌∙◌, subst, arith}
 use Rattle.std.specs.Prelude.{Result, IsErrAnd, IfErr}
 use Rattle.std.proofs.lemmas.Result.{err_from_is_err_and}
 use Rattle.revc_base.specs.declared.place.Place.{Place}
 use Rattle.revs_terms.specs.declared.term.Name.{Name}
-use Rattle.revs_terms.specs.declared.term.Lambda.{Lambda}
 use Rattle.revs_terms.specs.declared.term.Part.{Part}
 use Rattle.revs_terms.specs.declared.term.Part.TheVariants as part
 use Rattle.revs_terms.specs.Terms.{place_of}
-use Rattle.revs_terms.specs.Trees.{Tree, tree_of, trees, list_of, ItemTree, item_trees, items_of, bind, run, block, parts, apply, append, rotate}
+use Rattle.revs_terms.specs.Trees.{Tree, trees, list_of, ItemTree, item_trees, bind, run, block, parts, apply, append}
 use Rattle.revs_terms.specs.Running as runs
 use Rattle.revs_terms.specs.Running.{Environment, bound, bound_length, State, Outcome, stuck, went, after, run_of, term_of, block_of, part_of, parts_of, apply_all, apply_to, worked, not_function}
 use Rattle.revs_terms.specs.Runs.{no_bits}
 use Rattle.array_shapes.specs.declared.value.Value.{Value}
-use Rattle.array_shapes.specs.declared.value.Value.TheVariants as variants
 use Rattle.inliner.specs.declared.fault.RunFault.{RunFault}
-use Rattle.inliner.specs.declared.fault.RunFault.TheVariants as faults
 use Rattle.inliner.specs.declared.machine.Machine.{Machine}
 use Rattle.inliner.specs.Faults.{Says}
-use Rattle.inliner.specs.Machines.{env_in, value_in, envs_of, state_of, IsMachine, IsValue, Grows, Does, Goes, Binds}
-use Rattle.inliner.specs.Steps.{Going, part_step, parts_step, append_step, rotate_step, bind_step, item_step, argument_step}
+use Rattle.inliner.specs.Machines.{env_in, value_in, envs_of, state_of, IsMachine, IsValue, Does, Goes, Binds}
+use Rattle.inliner.specs.Steps.{Going, part_step, parts_step, append_step, bind_step, item_step, argument_step}
 use Rattle.inliner.proofs.After.{said_first, said_same}
 use Rattle.inliner.proofs.Growth.{grown_env, grown_value, grown_length}
-use Rattle.inliner.proofs.Through.{Through, begun, step, same_rest, ends, ends_here, ends_goes, said, goes_in, says_in, regroup, same_next, list_of-trees, items_of-item_trees}
+use Rattle.inliner.proofs.Through.{Through, begun, step, same_rest, ends, ends_here, said, goes_in, says_in, regroup, same_next, list_of-trees, items_of-item_trees}
 
 -- ---- loops and exits
 
@@ -57,7 +54,7 @@ block_next : (left : ℕ) (e : Environment) (i : ItemTree) (is : List ItemTree) 
 block_next left e (bind name t) is last s =
     let k : Environment → State (Unit {0}) → Going runs.Value = λ f s. block_of no_bits (run_of no_bits left) f is last s in
     sym (regroup (run_of no_bits left e t s) (λ value s. bind_step value e (place_of t) s) k
-      ∙ same_next (run_of no_bits left e t s) _ _ (λ value s. regroup (worked no_bits (bound_length value) (place_of t) s) (λ _ s. went (bound value e) s) k))
+    ∙ same_next (run_of no_bits left e t s) _ _ (λ value s. regroup (worked no_bits (bound_length value) (place_of t) s) (λ _ s. went (bound value e) s) k))
 block_next left e (run t) is last s =
     sym (regroup (run_of no_bits left e t s) (λ _ s. went e s) (λ f s. block_of no_bits (run_of no_bits left) f is last s))
 
@@ -80,7 +77,7 @@ pub block_stuck : (old now : Machine) (left inner : ℕ) (i : ItemTree) (is js :
     → Says fault (item_step (run_of no_bits left) (env_in (envs_of now) inner) i (state_of now)) → Says fault whole
 block_stuck old now left inner i is js last whole fault cut w s =
     said fault (same_rest _ (ap (λ (x : List ItemTree). block_of no_bits (run_of no_bits left) (env_in (envs_of now) inner) x last (state_of now)) cut ∙ block_next left (env_in (envs_of now) inner) i is last (state_of now)) w.through)
-      (said_first fault _ (λ f s. block_of no_bits (run_of no_bits left) f is last s) s)
+    (said_first fault _ (λ f s. block_of no_bits (run_of no_bits left) f is last s) s)
 
 pub block_last : (old now : Machine) (left inner : ℕ) (js : List ItemTree) (last : Tree) (whole : Going runs.Value) → js ≡ []
     → InBlock old now left inner js last whole
@@ -115,7 +112,7 @@ at_begun old mid left env t ps v at e is g =
 pub append_first : (old mid : Machine) (left env : ℕ) (a b : Tree) (at : Place) (x : Value) → IsMachine old
     → Goes old mid (run_of no_bits left (env_in (envs_of old) env) a (state_of old)) x
     → Through old mid (term_of no_bits (run_of no_bits left) (env_in (envs_of old) env) (append a b at) (state_of old))
-        (after (run_of no_bits left (env_in (envs_of old) env) b (state_of mid)) (λ y s. append_step (place_of a) (place_of b) at (value_in (envs_of mid) x) y s))
+    (after (run_of no_bits left (env_in (envs_of old) env) b (state_of mid)) (λ y s. append_step (place_of a) (place_of b) at (value_in (envs_of mid) x) y s))
 append_first old mid left env a b at x is g =
     value_behind old mid left env a x (λ x s. after (run_of no_bits left (env_in (envs_of old) env) b s) (λ y s. append_step (place_of a) (place_of b) at x y s)) is g
 
@@ -123,11 +120,11 @@ pub append_second : (old mid later : Machine) (left env : ℕ) (a b : Tree) (at 
     → Goes old mid (run_of no_bits left (env_in (envs_of old) env) a (state_of old)) x
     → Goes mid later (run_of no_bits left (env_in (envs_of mid) env) b (state_of mid)) y
     → Through old later (term_of no_bits (run_of no_bits left) (env_in (envs_of old) env) (append a b at) (state_of old))
-        (append_step (place_of a) (place_of b) at (value_in (envs_of later) x) (value_in (envs_of later) y) (state_of later))
+    (append_step (place_of a) (place_of b) at (value_in (envs_of later) x) (value_in (envs_of later) y) (state_of later))
 append_second old mid later left env a b at x y is h g k =
     let k2 : Goes mid later (run_of no_bits left (env_in (envs_of old) env) b (state_of mid)) y = goes_in (λ e. run_of no_bits left e b (state_of mid)) old mid later env y g.does.grows h k in
     same_rest _ (ap (λ (v : runs.Value). append_step (place_of a) (place_of b) at v (value_in (envs_of later) y) (state_of later)) (sym (grown_value mid later x k.does.grows g.made)))
-      (step (λ y s. append_step (place_of a) (place_of b) at (value_in (envs_of mid) x) y s) (append_first old mid left env a b at x is g) k2.does)
+    (step (λ y s. append_step (place_of a) (place_of b) at (value_in (envs_of mid) x) y s) (append_first old mid left env a b at x is g) k2.does)
 
 pub append_stuck : (old mid : Machine) (left env : ℕ) (a b : Tree) (at : Place) (x : Value) (fault : RunFault) → IsMachine old → env ≤ length old.bindings.items
     → Goes old mid (run_of no_bits left (env_in (envs_of old) env) a (state_of old)) x
@@ -135,8 +132,8 @@ pub append_stuck : (old mid : Machine) (left env : ℕ) (a b : Tree) (at : Place
     → Says fault (term_of no_bits (run_of no_bits left) (env_in (envs_of old) env) (append a b at) (state_of old))
 append_stuck old mid left env a b at x fault is h g s =
     said fault (append_first old mid left env a b at x is g)
-      (said_first fault (run_of no_bits left (env_in (envs_of old) env) b (state_of mid)) (λ y s. append_step (place_of a) (place_of b) at (value_in (envs_of mid) x) y s)
-        (says_in (λ e. run_of no_bits left e b (state_of mid)) old mid env fault g.does.grows h s))
+    (said_first fault (run_of no_bits left (env_in (envs_of old) env) b (state_of mid)) (λ y s. append_step (place_of a) (place_of b) at (value_in (envs_of mid) x) y s)
+    (says_in (λ e. run_of no_bits left e b (state_of mid)) old mid env fault g.does.grows h s))
 
 -- ---- functions
 
@@ -173,7 +170,7 @@ pub apply_stuck : (old now : Machine) (left env : ℕ) (t : Tree) (ts us : List 
     → Says fault (argument_step (run_of no_bits left) (env_in (envs_of now) env) (value_in (envs_of now) v) t (state_of now)) → Says fault whole
 apply_stuck old now left env t ts us v whole fault h cut i s =
     said fault (same_rest _ (ap (λ (x : List Tree). apply_all no_bits (run_of no_bits left) (env_in (envs_of old) env) x (value_in (envs_of now) v) (state_of now)) cut ∙ apply_next left (env_in (envs_of old) env) t ts (value_in (envs_of now) v) (state_of now)) i.through)
-      (said_first fault _ (apply_all no_bits (run_of no_bits left) (env_in (envs_of old) env) ts) (says_in (λ e. argument_step (run_of no_bits left) e (value_in (envs_of now) v) t (state_of now)) old now env fault i.through.grows h s))
+    (said_first fault _ (apply_all no_bits (run_of no_bits left) (env_in (envs_of old) env) ts) (says_in (λ e. argument_step (run_of no_bits left) e (value_in (envs_of now) v) t (state_of now)) old now env fault i.through.grows h s))
 
 pub apply_done : (old now : Machine) (left : ℕ) (e : Environment) (us : List Tree) (v : Value) (whole : Going runs.Value) → us ≡ [] → InApply old now left e us v whole → Goes old now whole v
 apply_done old now left e us v whole none i = record {
@@ -184,10 +181,10 @@ apply_done old now left e us v whole none i = record {
 pub argument_run : (old mid : Machine) (left env : ℕ) (t : Tree) (v x : Value) → IsMachine old → IsValue (length old.bindings.items) v
     → Goes old mid (run_of no_bits left (env_in (envs_of old) env) t (state_of old)) x
     → Through old mid (argument_step (run_of no_bits left) (env_in (envs_of old) env) (value_in (envs_of old) v) t (state_of old))
-        (apply_to no_bits (run_of no_bits left) (place_of t) (value_in (envs_of mid) v) (value_in (envs_of mid) x) (state_of mid))
+    (apply_to no_bits (run_of no_bits left) (place_of t) (value_in (envs_of mid) v) (value_in (envs_of mid) x) (state_of mid))
 argument_run old mid left env t v x is made g =
     same_rest _ (ap (λ (w : runs.Value). apply_to no_bits (run_of no_bits left) (place_of t) w (value_in (envs_of mid) x) (state_of mid)) (sym (grown_value old mid v g.does.grows made)))
-      (value_behind old mid left env t x (λ argument s. apply_to no_bits (run_of no_bits left) (place_of t) (value_in (envs_of old) v) argument s) is g)
+    (value_behind old mid left env t x (λ argument s. apply_to no_bits (run_of no_bits left) (place_of t) (value_in (envs_of old) v) argument s) is g)
 
 -- ---- names of a function
 
@@ -248,7 +245,7 @@ pub call_next : (old mid : Machine) (left inner : ℕ) (at : Place) (names : Lis
     → Does old mid (apply_to no_bits (run_of no_bits left) at (runs.closure (drop taken names) body e) v (state_of old)) (runs.closure (drop (taken + 1) names) body (env_in (envs_of mid) inner))
 call_next old mid left inner at names taken body e v is h b =
     ends_here _ (step (λ f s. went (runs.closure (drop 1 (drop taken names)) body f) s) (begun old _ _ (next_name left at (drop taken names) body e v (state_of old) (omega (arith, drop_length names taken))) is) b.does)
-      (ap (λ (ns : List Name). went (runs.closure ns body (env_in (envs_of mid) inner)) (state_of mid)) (drop_more names taken))
+    (ap (λ (ns : List Name). went (runs.closure ns body (env_in (envs_of mid) inner)) (state_of mid)) (drop_more names taken))
 
 -- ---- items
 
@@ -258,7 +255,7 @@ pub item_bound : (old mid later : Machine) (left env made : ℕ) (name : Name) (
     → Binds old later (item_step (run_of no_bits left) (env_in (envs_of old) env) (bind name t) (state_of old)) made
 item_bound old mid later left env made name t v is h g b =
     let b2 : Binds mid later (bind_step (value_in (envs_of mid) v) (env_in (envs_of old) env) (place_of t) (state_of mid)) made =
-        subst (λ (e : Environment). Binds mid later (bind_step (value_in (envs_of mid) v) e (place_of t) (state_of mid)) made) (grown_env old mid env g.does.grows h) b in
+    subst (λ (e : Environment). Binds mid later (bind_step (value_in (envs_of mid) v) e (place_of t) (state_of mid)) made) (grown_env old mid env g.does.grows h) b in
     record {
       does = ends (step (λ value s. bind_step value (env_in (envs_of old) env) (place_of t) s) (begun old _ _ refl is) g.does) b2.does;
       made = b.made;

@@ -1,5 +1,5 @@
 -- What each write to the machine does to the state of the run.
-use Rattle.std.proofs.Common.{◌≡◌, ℕ, zero, suc, ◌+◌, ◌≤◌, ◌<◌, leb, Bool, true, false, Option, Some, None, List, [], ◌∷◌, ◌++◌, length, map, sum, slice_set, slice_get, option_map, length-append, arith, refl, sym, ap, ◌∙◌, subst}
+use Rattle.std.proofs.Common.{◌≡◌, ℕ, zero, suc, ◌+◌, ◌≤◌, ◌<◌, leb, true, Option, Some, None, List, [], ◌∷◌, ◌++◌, length, map, sum, slice_set, length-append, arith, refl, sym, ap, ◌∙◌, subst}
 use Rattle.std.specs.List.{AllByRecursion}
 use Rattle.std.proofs.lemmas.List.{map-set, length-set, map-append, length-map}
 use Rattle.std.proofs.lemmas.Bool.Decides.{nat_tests}
@@ -12,11 +12,11 @@ use Rattle.revc_base.specs.declared.tape.Kind.TheVariants as kinds
 use Rattle.revc_base.specs.declared.tape.Claim.{Claim}
 use Rattle.revc_base.specs.Tapes.{TapeView, IsKnown}
 use Rattle.revc_base.proofs.TapeKeeps.{IsKnown-later, All-map, All-push}
-use Rattle.revs_terms.specs.Running.{Stamped, Met, State, Outcome, went, after, read, unit, left_by, written}
+use Rattle.revs_terms.specs.Running.{Stamped, Met, went, read, unit, left_by, written}
 use Rattle.revs_terms.specs.Runs.{no_bits}
 use Rattle.array_shapes.specs.declared.value.Value.TheVariants as variants
 use Rattle.inliner.specs.declared.machine.Machine.{Machine}
-use Rattle.inliner.specs.Machines.{held_by, met_by, state_of, AreBindings, IsKnownIn, IsMachine, Grows, Does, Goes}
+use Rattle.inliner.specs.Machines.{held_by, met_by, state_of, AreBindings, IsKnownIn, IsMachine, Does, Goes}
 use Rattle.inliner.specs.Steps.{claim_step, assign_step}
 use Rattle.inliner.proofs.After.{goes_on}
 use Rattle.inliner.proofs.Growth.{grows_same}
@@ -41,7 +41,7 @@ pub assigned : (old now : Machine) (to from : ℕ) (left right : Place) (was mad
     → Goes old now (assign_step to from left right (state_of old)) variants.Unit
 assigned old now to from left right was made b s t w first second known is =
     let state : state_of now ≡ record (state_of old) { store = slice_set (map held_by old.store.items) to (held_by (Some made)) } =
-        state_is now _ _ _ _ (ap (map held_by) s ∙ map-set held_by old.store.items to (Some made)) (ap (λ (x : TapeView). x.entries) t) (ap (λ (x : TapeView). map met_by x.claims) t) w in
+    state_is now _ _ _ _ (ap (map held_by) s ∙ map-set held_by old.store.items to (Some made)) (ap (λ (x : TapeView). x.entries) t) (ap (λ (x : TapeView). map met_by x.claims) t) w in
     record {
       does = record {
         goes = goes_on _ _ _ _ _ first (goes_on _ _ _ _ _ second (ap (went unit) (sym state)));
@@ -67,7 +67,7 @@ claimed_state : (old now : Machine) (kind : Kind) (location : ℕ) (operand at :
 claimed_state old now kind location operand at of store b s t w left first room =
     let few : leb (length (map met_by old.tape.claims) + 1) 4096 ≡ true = grind (arith, length-map, nat_tests) in
     goes_on _ _ _ _ _ first (rw few (ap (went unit) (sym (state_is now _ _ _ _ (ap (map held_by) s ∙ sym left) (ap (λ (x : TapeView). x.entries) t)
-        (ap (λ (x : TapeView). map met_by x.claims) t ∙ map-append met_by old.tape.claims (record { kind = kind; of = of; at = at } ∷ [])) w))))
+    (ap (λ (x : TapeView). map met_by x.claims) t ∙ map-append met_by old.tape.claims (record { kind = kind; of = of; at = at } ∷ [])) w))))
 
 -- the machine where a claim was noted
 claimed_kept : (old now : Machine) (store : List (Option Ref)) (claims : List Claim)

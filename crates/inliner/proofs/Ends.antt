@@ -1,7 +1,7 @@
 -- The end of a program.
 use Rattle.std.proofs.Common.{◌≡◌, ℕ, zero, suc, ◌+◌, ◌≤◌, ◌<◌, List, [], ◌∷◌, ◌++◌, length, map, refl, sym, ap, ◌∙◌, subst, arith, length-append, append_assoc, sum, drop, get_or}
 use Rattle.std.specs.List.{AllByRecursion}
-use Rattle.std.proofs.lemmas.List.{append-nil, map-append, length-map}
+use Rattle.std.proofs.lemmas.List.{append-nil, map-append}
 use Rattle.revc_base.specs.declared.place.Place.{Place}
 use Rattle.revc_base.specs.declared.tape.Ref.{Ref}
 use Rattle.revc_base.specs.declared.tape.Claim.{Claim}
@@ -13,13 +13,13 @@ use Rattle.revs_terms.specs.Terms.{place_of}
 use Rattle.revs_terms.specs.Trees.{Tree}
 use Rattle.revs_terms.specs.Running as runs
 use Rattle.revs_terms.specs.Running.{Environment, nothing, Stamped, State, Outcome, went, after, read, run_of}
-use Rattle.revs_terms.specs.Runs.{start, nothings, params_in, no_bits, read_all, tape_of, run_without_bits}
+use Rattle.revs_terms.specs.Runs.{start, nothings, params_in, no_bits, read_all, tape_of}
 use Rattle.array_shapes.specs.declared.value.Value.{Value}
 use Rattle.inliner.specs.declared.fault.RunFault.{RunFault}
 use Rattle.inliner.specs.declared.fault.RunFault.TheVariants as faults
 use Rattle.inliner.specs.declared.machine.Machine.{Machine}
-use Rattle.inliner.specs.Faults.{Says, Leaves}
-use Rattle.inliner.specs.Machines.{met_by, env_in, value_in, envs_of, state_of, IsMachine, Grows, Does, Goes}
+use Rattle.inliner.specs.Faults.{Says}
+use Rattle.inliner.specs.Machines.{met_by, env_in, value_in, envs_of, state_of, Goes}
 use Rattle.inliner.specs.Starting.{stamped, Reads, Outputs, outputs_step, IsStart}
 use Rattle.inliner.specs.Steps.{Going}
 use Rattle.inliner.proofs.After.{said_first, said_same}
@@ -51,8 +51,8 @@ reads_more m at made now l r ls rest all cut pushed got known i = record {
       ∙ ap (λ (o : Going (Stamped (Unit {0}))). after o (λ first s. after (after (read_all no_bits at ls s) (λ more s. went (first ∷ more) s)) (λ more s. went (map stamped made ++ more) s))) got
       ∙ regroup (read_all no_bits at ls (state_of m)) (λ more s. went (stamped r ∷ more) s) (λ more s. went (map stamped made ++ more) s)
       ∙ same_next (read_all no_bits at ls (state_of m)) (λ more s. went (map stamped made ++ stamped r ∷ more) s) (λ more s. went (map stamped now ++ more) s)
-          (λ more s. ap (λ (x : List (Stamped (Unit {0}))). went x s)
-            (sym (append_assoc (map stamped made) (stamped r ∷ []) more) ∙ ap (λ (x : List (Stamped (Unit {0}))). x ++ more) (sym (map-append stamped made (r ∷ [])) ∙ ap (map stamped) (sym pushed))));
+      (λ more s. ap (λ (x : List (Stamped (Unit {0}))). went x s)
+      (sym (append_assoc (map stamped made) (stamped r ∷ []) more) ∙ ap (λ (x : List (Stamped (Unit {0}))). x ++ more) (sym (map-append stamped made (r ∷ [])) ∙ ap (map stamped) (sym pushed))));
   known = subst (AllByRecursion (IsKnown (sum m.tape.params) (length m.tape.entries))) (sym pushed) (All-push (IsKnown (sum m.tape.params) (length m.tape.entries)) made r i.known known);
   count = omega (arith, ap length pushed ∙ length-append made (r ∷ []), ap length cut, i.count);
 }
@@ -61,8 +61,8 @@ pub reads_stuck : (m : Machine) (at : Place) (made : List Ref) (l : ℕ) (ls res
     → InReads m at made rest all → Says fault (read no_bits l at (state_of m)) → Says fault (read_all no_bits at all (state_of m))
 reads_stuck m at made l ls rest all fault cut i s =
     said_same fault _ _ (i.left ∙ ap (λ (x : List ℕ). left_to_read at x made (state_of m)) cut)
-      (said_first fault _ (λ more s. went (map stamped made ++ more) s)
-        (said_first fault (read no_bits l at (state_of m)) (λ first s. after (read_all no_bits at ls s) (λ more s. went (first ∷ more) s)) s))
+    (said_first fault _ (λ more s. went (map stamped made ++ more) s)
+    (said_first fault (read no_bits l at (state_of m)) (λ first s. after (read_all no_bits at ls s) (λ more s. went (first ∷ more) s)) s))
 
 pub reads_done : (m : Machine) (at : Place) (made : List Ref) (rest all : List ℕ) → rest ≡ [] → InReads m at made rest all → Reads m all at made
 reads_done m at made rest all none i = record {
@@ -90,7 +90,7 @@ at_start : (left : ℕ) (params : List Param) (body : Tree) (m : Machine) (env :
     → run_within left params body ≡ after (run_of no_bits left (env_in (envs_of m) env) body (state_of m)) (λ value s. outputs_step (place_of body) value s)
 at_start left params body m env s e =
     sym (ap (λ (x : Environment). after (run_of no_bits left x body (state_of m)) (λ value s. outputs_step (place_of body) value s)) (ap (env_in (envs_of m)) e ∙ s.env)
-      ∙ ap (λ (x : State (Unit {0})). after (run_of no_bits left (params_in 0 params nothing) body x) (λ value s. outputs_step (place_of body) value s)) s.state)
+    ∙ ap (λ (x : State (Unit {0})). after (run_of no_bits left (params_in 0 params nothing) body x) (λ value s. outputs_step (place_of body) value s)) s.state)
 
 pub body_stuck : (left : ℕ) (params : List Param) (body : Tree) (m : Machine) (env : ℕ) (fault : RunFault) → IsStart params m → env ≡ length m.bindings.items
     → Says fault (run_of no_bits left (env_in (envs_of m) env) body (state_of m)) → Says fault (run_within left params body)
@@ -115,9 +115,10 @@ pub program_leaves : (left : ℕ) (params : List Param) (body : Tree) (m now : M
 program_leaves left params body m now env v made tape s e g o t =
     let p : now.tape.params ≡ widths_of params = g.does.grows.params ∙ s.widths in
     let c = claims_back now.tape.claims in
-    let r = stamps_back made in
-    (body_run left params body m now env v s e g ∙ o.read,
-      t ∙ (rw (p, c, r) refl))
+    let r = stamps_back made in (
+      body_run left params body m now env v s e g ∙ o.read,
+      t ∙ (rw (p, c, r) refl),
+    )
 
 -- ---- what is left of a list
 

@@ -1,25 +1,22 @@
 -- The forms of terms, as the machine takes them.
-use Rattle.std.proofs.Common.{◌≡◌, ℕ, zero, suc, ◌+◌, ◌-◌, ◌≤◌, ◌<◌, List, [], ◌∷◌, ◌++◌, length, drop, map, refl, sym, ap, ◌∙◌, subst, arith, append_assoc}
+use Rattle.std.proofs.Common.{◌≡◌, ℕ, suc, ◌-◌, ◌≤◌, ◌<◌, List, [], ◌∷◌, ◌++◌, length, refl, sym, ap, ◌∙◌, subst, arith, append_assoc}
 use Rattle.std.proofs.lemmas.List.{append-nil}
 use Rattle.revc_base.specs.declared.place.Place.{Place}
-use Rattle.revc_base.specs.declared.tape.Ref.{Ref}
 use Rattle.revs_terms.specs.Terms.{place_of}
-use Rattle.revs_terms.specs.Trees.{Tree, trees, list_of, assign, reg, ands, xors}
+use Rattle.revs_terms.specs.Trees.{Tree, trees, assign, reg}
 use Rattle.revs_terms.specs.Running as runs
 use Rattle.revs_terms.specs.Running.{Environment, State, Outcome, stuck, went, after, provided, run_of, term_of, bit_of, bits_of, chain, chain_of, worked, written, read, Stamped}
 use Rattle.revs_terms.specs.Runs.{no_bits}
-use Rattle.array_shapes.specs.declared.value.Value.{Value}
 use Rattle.array_shapes.specs.declared.value.Value.TheVariants as variants
 use Rattle.inliner.specs.declared.fault.RunFault.{RunFault}
 use Rattle.inliner.specs.declared.machine.Machine.{Machine}
 use Rattle.inliner.specs.declared.machine.Operator.{Operator}
 use Rattle.inliner.specs.declared.machine.Operator.TheVariants as operators
 use Rattle.inliner.specs.Faults.{Says}
-use Rattle.inliner.specs.Machines.{env_in, value_in, envs_of, state_of, IsMachine, Grows, Does, Goes, Binds}
+use Rattle.inliner.specs.Machines.{env_in, envs_of, state_of, IsMachine, Does, Goes}
 use Rattle.inliner.specs.Steps.{Going, reg_step, assign_step, join_step, link_step, chain_tree, entry_of}
 use Rattle.inliner.proofs.After.{said_first, said_same}
-use Rattle.inliner.proofs.Growth.{grows_same, grows_trans, grown_env, grown_length}
-use Rattle.inliner.proofs.Through.{Through, begun, step, same_rest, ends, ends_here, ends_goes, said, does_in, goes_in, says_in, regroup, same_next, after_went, list_of-trees}
+use Rattle.inliner.proofs.Through.{Through, begun, step, same_rest, ends_here, said, does_in, says_in, regroup, same_next, after_went, list_of-trees}
 
 -- ---- a term is entered
 
@@ -45,7 +42,7 @@ pub assigns_from : (old mid later : Machine) (left env to from : ℕ) (l r : Tre
     → Through old later (term_of no_bits (run_of no_bits left) (env_in (envs_of old) env) (assign l r) (state_of old)) (assign_step to from (place_of l) (place_of r) (state_of later))
 assigns_from old mid later left env to from l r is h d f =
     step (λ from s. assign_step to from (place_of l) (place_of r) s) (assigns_to old mid left to (env_in (envs_of old) env) l r is d)
-      (does_in (λ e. bit_of no_bits (run_of no_bits left) e r (state_of mid)) old mid later env from d.grows h f)
+    (does_in (λ e. bit_of no_bits (run_of no_bits left) e r (state_of mid)) old mid later env from d.grows h f)
 
 pub assigns_stuck : (old mid : Machine) (left env to : ℕ) (l r : Tree) (fault : RunFault) → IsMachine old → env ≤ length old.bindings.items
     → Does old mid (bit_of no_bits (run_of no_bits left) (env_in (envs_of old) env) l (state_of old)) to
@@ -53,8 +50,8 @@ pub assigns_stuck : (old mid : Machine) (left env to : ℕ) (l r : Tree) (fault 
     → Says fault (term_of no_bits (run_of no_bits left) (env_in (envs_of old) env) (assign l r) (state_of old))
 assigns_stuck old mid left env to l r fault is h d f =
     said fault (assigns_to old mid left to (env_in (envs_of old) env) l r is d)
-      (said_first fault (bit_of no_bits (run_of no_bits left) (env_in (envs_of old) env) r (state_of mid)) (λ from s. assign_step to from (place_of l) (place_of r) s)
-        (says_in (λ e. bit_of no_bits (run_of no_bits left) e r (state_of mid)) old mid env fault d.grows h f))
+    (said_first fault (bit_of no_bits (run_of no_bits left) (env_in (envs_of old) env) r (state_of mid)) (λ from s. assign_step to from (place_of l) (place_of r) s)
+    (says_in (λ e. bit_of no_bits (run_of no_bits left) e r (state_of mid)) old mid env fault d.grows h f))
 
 -- ---- bits, one after another
 
@@ -73,10 +70,10 @@ bits_more old now later left env l t ts us made made2 whole h cut e v d =
     let w : Through old now whole (rest_of_bits left (env_in (envs_of old) env) (t ∷ ts) made (state_of now)) = same_rest _ (ap (λ (x : List Tree). rest_of_bits left (env_in (envs_of old) env) x made (state_of now)) cut) v in
     let r : Outcome (Unit {0}) (List ℕ) = bits_of no_bits (run_of no_bits left) (env_in (envs_of old) env) ts (state_of later) in
     same_rest _ (regroup r (λ more s. went (l ∷ more) s) (λ more s. went (made ++ more) s)
-        ∙ same_next r (λ more s. went (made ++ l ∷ more) s) (λ more s. went (made2 ++ more) s) (λ more s. ap (λ (x : List ℕ). went x s) (sym (append_assoc made (l ∷ []) more) ∙ ap (λ (x : List ℕ). x ++ more) (sym e))))
-      (step (λ first s. after (after (bits_of no_bits (run_of no_bits left) (env_in (envs_of old) env) ts s) (λ more s. went (first ∷ more) s)) (λ more s. went (made ++ more) s))
-        (same_rest _ (regroup (bit_of no_bits (run_of no_bits left) (env_in (envs_of old) env) t (state_of now)) (λ first s. after (bits_of no_bits (run_of no_bits left) (env_in (envs_of old) env) ts s) (λ more s. went (first ∷ more) s)) (λ more s. went (made ++ more) s)) w)
-        (does_in (λ e. bit_of no_bits (run_of no_bits left) e t (state_of now)) old now later env l w.grows h d))
+    ∙ same_next r (λ more s. went (made ++ l ∷ more) s) (λ more s. went (made2 ++ more) s) (λ more s. ap (λ (x : List ℕ). went x s) (sym (append_assoc made (l ∷ []) more) ∙ ap (λ (x : List ℕ). x ++ more) (sym e))))
+    (step (λ first s. after (after (bits_of no_bits (run_of no_bits left) (env_in (envs_of old) env) ts s) (λ more s. went (first ∷ more) s)) (λ more s. went (made ++ more) s))
+    (same_rest _ (regroup (bit_of no_bits (run_of no_bits left) (env_in (envs_of old) env) t (state_of now)) (λ first s. after (bits_of no_bits (run_of no_bits left) (env_in (envs_of old) env) ts s) (λ more s. went (first ∷ more) s)) (λ more s. went (made ++ more) s)) w)
+    (does_in (λ e. bit_of no_bits (run_of no_bits left) e t (state_of now)) old now later env l w.grows h d))
 
 pub bits_stuck : (old now : Machine) (left env : ℕ) (t : Tree) (ts us : List Tree) (made : List ℕ) (whole : Going (List ℕ)) (fault : RunFault) → env ≤ length old.bindings.items → us ≡ t ∷ ts
     → Through old now whole (rest_of_bits left (env_in (envs_of old) env) us made (state_of now))
@@ -85,8 +82,8 @@ pub bits_stuck : (old now : Machine) (left env : ℕ) (t : Tree) (ts us : List T
 bits_stuck old now left env t ts us made whole fault h cut v s =
     let w : Through old now whole (rest_of_bits left (env_in (envs_of old) env) (t ∷ ts) made (state_of now)) = same_rest _ (ap (λ (x : List Tree). rest_of_bits left (env_in (envs_of old) env) x made (state_of now)) cut) v in
     said fault w (said_first fault _ (λ more s. went (made ++ more) s) (said_first fault (bit_of no_bits (run_of no_bits left) (env_in (envs_of old) env) t (state_of now))
-      (λ first s. after (bits_of no_bits (run_of no_bits left) (env_in (envs_of old) env) ts s) (λ more s. went (first ∷ more) s))
-      (says_in (λ e. bit_of no_bits (run_of no_bits left) e t (state_of now)) old now env fault w.grows h s)))
+    (λ first s. after (bits_of no_bits (run_of no_bits left) (env_in (envs_of old) env) ts s) (λ more s. went (first ∷ more) s))
+    (says_in (λ e. bit_of no_bits (run_of no_bits left) e t (state_of now)) old now env fault w.grows h s)))
 
 pub bits_done : (old now : Machine) (left : ℕ) (e : Environment) (ts : List Tree) (made : List ℕ) (whole : Going (List ℕ)) → ts ≡ []
     → Through old now whole (rest_of_bits left e ts made (state_of now)) → Does old now whole made
@@ -106,7 +103,7 @@ pub reg_stuck : (old : Machine) (left : ℕ) (e : Environment) (ts : List Tree) 
     → Says fault (term_of no_bits (run_of no_bits left) e (reg (trees ts) at) (state_of old))
 reg_stuck old left e ts at fault is s =
     said_same fault _ _ (ap (λ (x : List Tree). after (bits_of no_bits (run_of no_bits left) e x (state_of old)) (λ made s. reg_step made at s)) (list_of-trees ts))
-      (said_first fault (bits_of no_bits (run_of no_bits left) e ts (state_of old)) (λ made s. reg_step made at s) s)
+    (said_first fault (bits_of no_bits (run_of no_bits left) e ts (state_of old)) (λ made s. reg_step made at s) s)
 
 -- ---- chains
 
@@ -124,7 +121,7 @@ chain_none old left op e ts none = chain_is left op e ts (state_of old) ∙ ap (
 
 chain_first : (m : Machine) (left : ℕ) (op : Operator) (e : Environment) (ts : List Tree) (t : Tree) (rest : List Tree) → ts ≡ t ∷ rest
     → term_of no_bits (run_of no_bits left) e (chain_tree op ts) (state_of m)
-      ≡ after (bit_of no_bits (run_of no_bits left) e t (state_of m)) (λ first s. rest_of_chain left op e (place_of t) first rest s)
+    ≡ after (bit_of no_bits (run_of no_bits left) e t (state_of m)) (λ first s. rest_of_chain left op e (place_of t) first rest s)
 chain_first m left op e ts t rest cut = chain_is left op e ts (state_of m) ∙ ap (λ (x : List Tree). chain no_bits (run_of no_bits left) (entry_of op) (λ a b. tt) e x (state_of m)) cut
 
 pub chain_begun : (old mid : Machine) (left : ℕ) (op : Operator) (e : Environment) (ts : List Tree) (t : Tree) (rest : List Tree) (l : ℕ) → IsMachine old → ts ≡ t ∷ rest
@@ -143,9 +140,9 @@ chain_next : (left : ℕ) (op : Operator) (e : Environment) (first : Place) (so_
 chain_next left op e first so_far t ts s =
     let k : ℕ → State (Unit {0}) → Going runs.Value = λ made s. rest_of_chain left op e first made ts s in
     sym (regroup (bit_of no_bits (run_of no_bits left) e t s) (λ next s. join_step op so_far next first (place_of t) s) k
-      ∙ same_next (bit_of no_bits (run_of no_bits left) e t s) _ _ (λ next s.
-          regroup (read no_bits so_far first s) (λ a s. after (read no_bits next (place_of t) s) (λ b s. written no_bits (entry_of op a.stamp b.stamp) tt (place_of t) s)) k
-          ∙ same_next (read no_bits so_far first s) _ _ (λ a s. regroup (read no_bits next (place_of t) s) (λ b s. written no_bits (entry_of op a.stamp b.stamp) tt (place_of t) s) k)))
+    ∙ same_next (bit_of no_bits (run_of no_bits left) e t s) _ _ (λ next s.
+    regroup (read no_bits so_far first s) (λ a s. after (read no_bits next (place_of t) s) (λ b s. written no_bits (entry_of op a.stamp b.stamp) tt (place_of t) s)) k
+    ∙ same_next (read no_bits so_far first s) _ _ (λ a s. regroup (read no_bits next (place_of t) s) (λ b s. written no_bits (entry_of op a.stamp b.stamp) tt (place_of t) s) k)))
 
 pub chain_more : (old now later : Machine) (left env so_far made : ℕ) (op : Operator) (first : Place) (t : Tree) (ts us : List Tree) (whole : Going runs.Value) → env ≤ length old.bindings.items → us ≡ t ∷ ts
     → Through old now whole (rest_of_chain left op (env_in (envs_of old) env) first so_far us (state_of now))
@@ -154,7 +151,7 @@ pub chain_more : (old now later : Machine) (left env so_far made : ℕ) (op : Op
 chain_more old now later left env so_far made op first t ts us whole h cut v d =
     let w : Through old now whole (rest_of_chain left op (env_in (envs_of old) env) first so_far (t ∷ ts) (state_of now)) = same_rest _ (ap (λ (x : List Tree). rest_of_chain left op (env_in (envs_of old) env) first so_far x (state_of now)) cut) v in
     step (λ made s. rest_of_chain left op (env_in (envs_of old) env) first made ts s) (same_rest _ (chain_next left op (env_in (envs_of old) env) first so_far t ts (state_of now)) w)
-      (does_in (λ e. link_step (run_of no_bits left) op e first so_far t (state_of now)) old now later env made w.grows h d)
+    (does_in (λ e. link_step (run_of no_bits left) op e first so_far t (state_of now)) old now later env made w.grows h d)
 
 pub chain_stuck : (old now : Machine) (left env so_far : ℕ) (op : Operator) (first : Place) (t : Tree) (ts us : List Tree) (whole : Going runs.Value) (fault : RunFault) → env ≤ length old.bindings.items → us ≡ t ∷ ts
     → Through old now whole (rest_of_chain left op (env_in (envs_of old) env) first so_far us (state_of now))
@@ -163,8 +160,8 @@ pub chain_stuck : (old now : Machine) (left env so_far : ℕ) (op : Operator) (f
 chain_stuck old now left env so_far op first t ts us whole fault h cut v s =
     let w : Through old now whole (rest_of_chain left op (env_in (envs_of old) env) first so_far (t ∷ ts) (state_of now)) = same_rest _ (ap (λ (x : List Tree). rest_of_chain left op (env_in (envs_of old) env) first so_far x (state_of now)) cut) v in
     said fault (same_rest _ (chain_next left op (env_in (envs_of old) env) first so_far t ts (state_of now)) w)
-      (said_first fault _ (λ made s. rest_of_chain left op (env_in (envs_of old) env) first made ts s)
-        (says_in (λ e. link_step (run_of no_bits left) op e first so_far t (state_of now)) old now env fault w.grows h s))
+    (said_first fault _ (λ made s. rest_of_chain left op (env_in (envs_of old) env) first made ts s)
+    (says_in (λ e. link_step (run_of no_bits left) op e first so_far t (state_of now)) old now env fault w.grows h s))
 
 pub chain_done : (old now : Machine) (left : ℕ) (op : Operator) (e : Environment) (first : Place) (so_far : ℕ) (ts : List Tree) (whole : Going runs.Value) → ts ≡ []
     → Through old now whole (rest_of_chain left op e first so_far ts (state_of now)) → Goes old now whole (variants.Bit so_far)

@@ -1,5 +1,5 @@
 -- Environments by their numbers, as bindings are added.
-use Rattle.std.proofs.Common.{◌≡◌, ℕ, zero, suc, ◌+◌, ◌-◌, ◌≤◌, ◌<◌, Option, Some, None, List, [], ◌∷◌, ◌++◌, length, drop, slice_index_or, slice_get, get_or, sum, length-append, append_assoc, arith, refl, sym, ap, ◌∙◌, subst}
+use Rattle.std.proofs.Common.{◌≡◌, ℕ, zero, suc, ◌+◌, ◌-◌, ◌≤◌, ◌<◌, Some, List, [], ◌∷◌, ◌++◌, length, slice_index_or, slice_get, get_or, length-append, append_assoc, arith, refl, sym, ap, ◌∙◌, subst}
 use Rattle.std.proofs.lemmas.List.{append-nil}
 use Rattle.revs_terms.specs.Running as runs
 use Rattle.revs_terms.specs.Running.{Environment, nothing, bound, value_at, State, Outcome, went, worked}
@@ -13,7 +13,7 @@ use Rattle.revc_base.specs.declared.place.Place.{Place}
 use Rattle.revs_terms.specs.Runs.{no_bits}
 use Rattle.inliner.specs.Steps.{bind_step}
 use Rattle.inliner.proofs.After.{goes_on}
-use Rattle.inliner.specs.Machines.{view_length, env_in, spec_value, value_in, bound_in, envs_from, IsValueView, IsValue, AreBindings, envs_of, state_of, IsMachine, Grows, Does, Goes, Binds}
+use Rattle.inliner.specs.Machines.{view_length, env_in, spec_value, value_in, bound_in, envs_from, IsValueView, IsValue, AreBindings, envs_of, state_of, IsMachine, Grows, Does, Binds}
 
 -- ---- what stands in front stays
 
@@ -139,7 +139,7 @@ placed_here d bs b p v =
     let whole : envs_from e bs ≡ e ++ r = envs_from-front e bs in
     let longer : length e ≡ length d + 1 = length-append d (bound_in d b ∷ []) in
     rw whole (env_in-front e r (suc (length d)) (omega arith) ∙ at_end d (bound_in d b)
-      ∙ sym (bound_in-front e r b (omega arith) (IsValueView-later (length d) (length e) (seen b.value) (omega arith) v) ∙ bound_in-front d (bound_in d b ∷ []) b p v))
+    ∙ sym (bound_in-front e r b (omega arith) (IsValueView-later (length d) (length e) (seen b.value) (omega arith) v) ∙ bound_in-front d (bound_in d b ∷ []) b p v))
 
 pub at_place : (d : List Environment) (bs : List Binding) (k : ℕ) (b : Binding) → AreBindings (length d) bs → slice_get bs k ≡ Some b → IsPlaced (envs_from d bs) (length d + k) b
 at_place d [] k b are e = absurd cc
@@ -153,7 +153,7 @@ at_place d (c ∷ cs) zero b are e =
 at_place d (c ∷ cs) (suc k) b are e =
     let longer : length (d ++ bound_in d c ∷ []) ≡ length d + 1 = length-append d (bound_in d c ∷ []) in
     subst (λ (n : ℕ). IsPlaced (envs_from d (c ∷ cs)) n b) (omega arith)
-      (at_place (d ++ bound_in d c ∷ []) cs k b (subst (λ (n : ℕ). AreBindings n cs) (sym longer) are.1.1) e)
+    (at_place (d ++ bound_in d c ∷ []) cs k b (subst (λ (n : ℕ). AreBindings n cs) (sym longer) are.1.1) e)
 
 -- the binding of an environment of the machine
 pub placed : (m : Machine) (k : ℕ) (b : Binding) → IsMachine m → slice_get m.bindings.items k ≡ Some b → IsPlaced (envs_of m) k b
@@ -180,9 +180,9 @@ bound_done old mid now value env made at there p count n w b s t k m h v =
     let state : state_of mid ≡ state_of now = cc in
     let counted : runs.bound_length (value_in (envs_of old) value) ≡ count = bound_length-view (envs_of old) (seen value) ∙ sym n in
     let last : env_in (envs_of now) made ≡ bound (value_in (envs_of old) value) (env_in (envs_of old) env) =
-        ap (env_in (envs_of now)) (m ∙ longer) ∙ pushed_env mid now (record { value = value; parent = env }) b
-        ∙ ap (λ (x : runs.Value). bound x (env_in (envs_of mid) env)) (grown_value old mid value w.grows v)
-        ∙ ap (bound (value_in (envs_of old) value)) (grown_env old mid env w.grows h) in
+    ap (env_in (envs_of now)) (m ∙ longer) ∙ pushed_env mid now (record { value = value; parent = env }) b
+    ∙ ap (λ (x : runs.Value). bound x (env_in (envs_of mid) env)) (grown_value old mid value w.grows v)
+    ∙ ap (bound (value_in (envs_of old) value)) (grown_env old mid env w.grows h) in
     record {
       does = record {
         goes = rw (← p, counted) (goes_on _ _ _ _ _ w.goes (rw (last, state) refl));

@@ -1,5 +1,5 @@
 -- The parts of a value, one after another.
-use Rattle.std.proofs.Common.{◌≡◌, ℕ, zero, suc, ◌+◌, ◌≤◌, ◌<◌, List, [], ◌∷◌, length, drop, get_or, refl, sym, ap, ◌∙◌, arith}
+use Rattle.std.proofs.Common.{◌≡◌, List, [], ◌∷◌, length, refl, ap}
 use Rattle.revc_base.specs.declared.place.Place.{Place}
 use Rattle.revs_terms.specs.declared.term.Part.{Part}
 use Rattle.revs_terms.specs.Running as runs
@@ -32,7 +32,7 @@ pub parts_stuck : (old now : Machine) (whole : Place) (p : Part) (ps qs : List P
     → InParts old now whole qs v run → Says fault (part_step whole p (value_in (envs_of now) v) (state_of now)) → Says fault run
 parts_stuck old now whole p ps qs v run fault cut i s =
     said fault (same_rest _ (ap (λ (x : List Part). parts_step whole x (value_in (envs_of now) v) (state_of now)) cut) i.through)
-      (said_first fault (part_step whole p (value_in (envs_of now) v) (state_of now)) (parts_step whole ps) s)
+    (said_first fault (part_step whole p (value_in (envs_of now) v) (state_of now)) (parts_step whole ps) s)
 
 pub parts_done : (old now : Machine) (whole : Place) (qs : List Part) (v : Value) (run : Going runs.Value) → qs ≡ [] → InParts old now whole qs v run → Goes old now run v
 parts_done old now whole qs v run none i = record {

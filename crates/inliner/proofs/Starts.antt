@@ -1,10 +1,10 @@
 -- The start of a program.
-use Rattle.std.proofs.Common.{◌≡◌, ℕ, zero, suc, ◌+◌, ◌-◌, ◌≤◌, ◌<◌, leb, Bool, true, false, Option, Some, None, List, [], ◌∷◌, ◌++◌, length, drop, map, sum, refl, sym, ap, ◌∙◌, subst, arith, length-append}
+use Rattle.std.proofs.Common.{◌≡◌, ℕ, zero, suc, ◌+◌, ◌-◌, ◌≤◌, leb, true, Option, Some, None, List, [], ◌∷◌, ◌++◌, length, map, sum, refl, sym, ap, ◌∙◌, subst, arith, length-append}
 use Rattle.std.specs.List.{AllByRecursion, list_all, range_with_len, fold}
 use Rattle.std.proofs.lemmas.List.FromFn.{length-map-range_with_len}
 use Rattle.revc_base.specs.declared.tape.Ref.{Ref}
 use Rattle.revc_base.specs.declared.tape.Ref.TheVariants as refs
-use Rattle.revc_base.specs.Tapes.{AreWidths, IsKnown}
+use Rattle.revc_base.specs.Tapes.{AreWidths}
 use Rattle.revs_terms.specs.declared.program.Param.{Param}
 use Rattle.revs_terms.specs.Programs.{AreParams, width_of, widths_of}
 use Rattle.std.proofs.lemmas.Bool.Decides.{nat_tests}
@@ -20,7 +20,7 @@ use Rattle.revc_base.specs.Tapes.{TapeView}
 use Rattle.revc_base.proofs.TapeKeeps.{All-map}
 use Rattle.inliner.specs.declared.machine.Machine.{Machine}
 use Rattle.inliner.proofs.Effects.{state_is}
-use Rattle.inliner.specs.Machines.{held_by, met_by, IsKnownIn, IsMachine, env_in, spec_value, value_in, bound_in, envs_from, AreBindings, IsValueView}
+use Rattle.inliner.specs.Machines.{held_by, met_by, IsKnownIn, env_in, spec_value, envs_from, AreBindings, IsValueView}
 use Rattle.inliner.specs.Starting.{param_view, IsInputBelow, AreInputs, AreBound, IsStart}
 use Rattle.inliner.proofs.Growth.{pushed_at, bindings_pushed}
 
@@ -105,10 +105,10 @@ bound_more bs cs first next parent p ps rest params v cut s at n pushed i =
     let total : first + (width_of p.width + sum (widths_of ps)) ≤ 1024 = omega (arith, whole, fold_more (0 + width_of p.width) (widths_of ps)) in
     let wide : AllByRecursion (λ w. 1 ≤ w) (widths_of (p ∷ ps)) = subst (λ (x : List Param). AllByRecursion (λ w. 1 ≤ w) (widths_of x)) cut i.wide in
     let last : env_in (envs_from [] cs) (length cs) ≡ bound (param_value first p.width) (env_in (envs_from [] bs) (length bs)) =
-        ap (env_in (envs_from [] cs)) longer ∙ ap (λ (x : List Binding). env_in (envs_from [] x) (length bs + 1)) pushed ∙ pushed_at bs b
-        ∙ ap (λ (x : ValueView). bound (spec_value (envs_from [] bs) x) (env_in (envs_from [] bs) parent)) s
-        ∙ ap (λ (x : runs.Value). bound x (env_in (envs_from [] bs) parent)) (spec_param (envs_from [] bs) first p.width)
-        ∙ ap (λ (x : ℕ). bound (param_value first p.width) (env_in (envs_from [] bs) x)) at in
+    ap (env_in (envs_from [] cs)) longer ∙ ap (λ (x : List Binding). env_in (envs_from [] x) (length bs + 1)) pushed ∙ pushed_at bs b
+    ∙ ap (λ (x : ValueView). bound (spec_value (envs_from [] bs) x) (env_in (envs_from [] bs) parent)) s
+    ∙ ap (λ (x : runs.Value). bound x (env_in (envs_from [] bs) parent)) (spec_param (envs_from [] bs) first p.width)
+    ∙ ap (λ (x : ℕ). bound (param_value first p.width) (env_in (envs_from [] bs) x)) at in
     record {
       are = rw pushed (bindings_pushed bs b i.are (omega (arith, at)) (subst (λ (x : ValueView). IsValueView (length bs) x) (sym s) (view_param (length bs) first p.width)));
       env = ap (params_in next ps) last ∙ ap (λ (x : ℕ). params_in x ps (bound (param_value first p.width) (env_in (envs_from [] bs) (length bs)))) n

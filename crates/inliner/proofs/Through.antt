@@ -1,24 +1,16 @@
 -- A run on its way: what is left of it.
-use Rattle.std.proofs.Common.{◌≡◌, ℕ, zero, suc, ◌+◌, ◌-◌, ◌≤◌, ◌<◌, List, [], ◌∷◌, ◌++◌, length, drop, map, refl, sym, ap, ◌∙◌, subst, arith, append_assoc}
+use Rattle.std.proofs.Common.{◌≡◌, ℕ, ◌≤◌, List, [], ◌∷◌, length, refl, ap, ◌∙◌, subst}
 use Rattle.std.specs.Prelude.{Result, Ok, Err, IfOk, IfErr}
-use Rattle.std.proofs.lemmas.List.{append-nil}
-use Rattle.revc_base.specs.declared.place.Place.{Place}
-use Rattle.revs_terms.specs.Terms.{place_of}
-use Rattle.revs_terms.specs.Trees.{Tree, Trees, trees, list_of, ItemTree, ItemTrees, item_trees, items_of, nil, cons, assign, reg}
+use Rattle.revs_terms.specs.Trees.{Tree, trees, list_of, ItemTree, item_trees, items_of}
 use Rattle.revs_terms.specs.Running as runs
 use Rattle.revs_terms.specs.Running.{Environment, State, Outcome, stuck, went, after, run_of, term_of, bit_of, bits_of, chain_of, worked}
-use Rattle.revs_terms.specs.Runs.{no_bits}
 use Rattle.array_shapes.specs.declared.value.Value.{Value}
-use Rattle.array_shapes.specs.declared.value.Value.TheVariants as variants
 use Rattle.inliner.specs.declared.fault.RunFault.{RunFault}
 use Rattle.inliner.specs.declared.machine.Machine.{Machine}
-use Rattle.inliner.specs.declared.machine.Operator.{Operator}
-use Rattle.inliner.specs.declared.machine.Operator.TheVariants as operators
 use Rattle.inliner.specs.Faults.{Says}
-use Rattle.inliner.specs.Machines.{env_in, value_in, envs_of, state_of, IsMachine, Grows, Does, Goes, Binds}
-use Rattle.inliner.specs.Steps.{Going, reg_step, assign_step, join_step, link_step, chain_tree, entry_of}
-use Rattle.inliner.proofs.After.{said_first, said_same}
-use Rattle.inliner.proofs.Growth.{grows_same, grows_trans, grown_env, grown_length}
+use Rattle.inliner.specs.Machines.{env_in, envs_of, state_of, IsMachine, Grows, Does, Goes}
+use Rattle.inliner.proofs.After.{said_same}
+use Rattle.inliner.proofs.Growth.{grows_same, grows_trans, grown_env}
 
 -- ---- results that are passed on
 

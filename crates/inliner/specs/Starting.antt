@@ -6,7 +6,7 @@ use Rattle.revc_base.specs.Tapes.{IsKnown}
 use Rattle.revs_terms.specs.declared.program.Param.{Param}
 use Rattle.revs_terms.specs.Programs.{widths_of}
 use Rattle.revc_base.specs.declared.place.Place.{Place}
-use Rattle.revs_terms.specs.Running.{Value, Environment, nothing, Stamped, State, Outcome, went, after}
+use Rattle.revs_terms.specs.Running.{Value, nothing, Stamped, State, Outcome, went, after}
 use Rattle.revs_terms.specs.Runs.{start, inputs_from, nothings, from, params_in, no_bits, locations_of, read_all}
 use Rattle.array_shapes.specs.Values as values
 use Rattle.array_shapes.specs.Values.{ValueView}

@@ -1,5 +1,5 @@
 -- The steps of the run, as the machine takes them.
-use Rattle.std.specs.Prelude.{◌≡◌, ℕ, ◌+◌, ◌-◌, leb, Bool, ◌&&◌, Option, Some, None, List, [], ◌∷◌, ◌++◌, length, take, drop, slice_get, slice_set}
+use Rattle.std.specs.Prelude.{◌≡◌, ℕ, ◌+◌, ◌-◌, leb, Bool, ◌&&◌, Some, None, List, [], ◌∷◌, ◌++◌, length, take, drop, slice_get, slice_set}
 use Rattle.revc_base.specs.declared.place.Place.{Place}
 use Rattle.revc_base.specs.declared.tape.Ref.{Ref}
 use Rattle.revc_base.specs.declared.tape.Entry.{Entry}

@@ -6,8 +6,8 @@ ghost use Rattle.revs_terms.specs.Terms.{place_of};
 ghost use Rattle.revs_terms.specs.Trees.{tree_of};
 
 use crate::RunFault;
-use crate::places::place_of;
 use crate::machine::Machine;
+use crate::places::place_of;
 use array_shapes::{ShapeFault, Value, append, bit, index, register, rotate, slice};
 use revc_base::Place;
 use revs_terms::{Part, Term};
@@ -95,12 +95,7 @@ impl<'t> Machine<'t> {
     }
 
     // One part of a register.
-    fn part(
-        &mut self,
-        whole: Place,
-        part: Part,
-        value: &Value<'t>,
-    ) -> Result<Value<'t>, RunFault>
+    fn part(&mut self, whole: Place, part: Part, value: &Value<'t>) -> Result<Value<'t>, RunFault>
         requires { IsMachine self.old }
         ensures ok { IfOk result (λ made. Goes self.old self.new (part_step whole part (value_in (envs_of self.old) value.now) (state_of self.old)) made) }
         ensures err { IfErr result (λ fault. Says fault (part_step whole part (value_in (envs_of self.old) value.now) (state_of self.old))) }

@@ -48,15 +48,16 @@ fn inputs(alloc: Global, count: u32) -> Result<Vec<Option<Ref>>, RunFault>
     ensures err { IfErr result (λ fault. fault ≡ RunFault.Memory) }
 {
     let numbers = numbers(alloc, 0, count)?;
-    Ok(numbers.iter().map(|input| Some(Ref::Input(*input))).collect(alloc)?)
+    Ok(
+        numbers
+            .iter()
+            .map(|input| Some(Ref::Input(*input)))
+            .collect(alloc)?,
+    )
 }
 
 // The value of a parameter whose first input is this one.
-fn param_value<'t>(
-    alloc: Global,
-    first: u32,
-    width: Option<u32>,
-) -> Result<Value<'t>, RunFault>
+fn param_value<'t>(alloc: Global, first: u32, width: Option<u32>) -> Result<Value<'t>, RunFault>
     requires { first + width_of width ≤ 1024 }
     ensures ok { IfOk result (λ value. seen value ≡ param_view first width) }
     ensures err { IfErr result (λ fault. fault ≡ RunFault.Memory) }

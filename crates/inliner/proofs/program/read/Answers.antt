@@ -1,4 +1,4 @@
-use Rattle.std.proofs.Common.{arith, refl, get_or}
+use Rattle.std.proofs.Common.{arith, get_or}
 use Rattle.revs_terms.specs.Terms.{place_of}
 use Rattle.revs_terms.specs.Trees.{tree_of}
 use Rattle.inliner.proofs.Blocks.{passes_on}

@@ -1,4 +1,4 @@
-use Rattle.std.proofs.Common.{refl, ap, sym, ◌∙◌, subst, ℕ, List, map}
+use Rattle.std.proofs.Common.{subst, List, map}
 use Rattle.revs_terms.specs.declared.program.Param.{Param}
 use Rattle.revs_terms.specs.Trees.{tree_of}
 use Rattle.inliner.specs.Machines.{state_of}
@@ -18,18 +18,18 @@ returns-in_err-value-clause-err c =
     let m = c.in_ok-machine.machine in
     passes_on _ c.from_residual-in_err-value.result c.from_residual-in_err-value.ensures.1
     (body_stuck 400 c.args.program.now.params.items (tree_of c.args.program.now.body) m c.in_ok-env.env c.in_err-value.field-0.0
-      (subst (λ (ps : List Param). IsStart ps m) c.deref.ensures.value c.in_ok-machine.ensures.ok) c.in_ok-env.ensures.ok c.in_err-value.ensures.err)
+    (subst (λ (ps : List Param). IsStart ps m) c.deref.ensures.value c.in_ok-machine.ensures.ok) c.in_ok-env.ensures.ok c.in_err-value.ensures.err)
 
 pub returns-in_err-outputs-clause-err : goal.returns-in_err-outputs-clause-err
 returns-in_err-outputs-clause-err c =
     let m = c.in_ok-machine.machine in
     passes_on _ c.from_residual-in_err-outputs.result c.from_residual-in_err-outputs.ensures.1
     (outputs_stuck 400 c.args.program.now.params.items (tree_of c.args.program.now.body) m c.run.new.self c.in_ok-env.env c.in_ok-value.value c.in_err-outputs.field-0.0
-      (subst (λ (ps : List Param). IsStart ps m) c.deref.ensures.value c.in_ok-machine.ensures.ok) c.in_ok-env.ensures.ok c.in_ok-value.ensures.ok c.in_err-outputs.ensures.err)
+    (subst (λ (ps : List Param). IsStart ps m) c.deref.ensures.value c.in_ok-machine.ensures.ok) c.in_ok-env.ensures.ok c.in_ok-value.ensures.ok c.in_err-outputs.ensures.err)
 
 pub returns-clause-ok : goal.returns-clause-ok
 returns-clause-ok c =
     let m = c.in_ok-machine.machine in
     let p = program_leaves 400 c.args.program.now.params.items (tree_of c.args.program.now.body) m c.run.new.self c.in_ok-env.env c.in_ok-value.value c.in_ok-outputs.outputs.items c.finished.result
-      (subst (λ (ps : List Param). IsStart ps m) c.deref.ensures.value c.in_ok-machine.ensures.ok) c.in_ok-env.ensures.ok c.in_ok-value.ensures.ok c.in_ok-outputs.ensures.ok c.finished.ensures in
+    (subst (λ (ps : List Param). IsStart ps m) c.deref.ensures.value c.in_ok-machine.ensures.ok) c.in_ok-env.ensures.ok c.in_ok-value.ensures.ok c.in_ok-outputs.ensures.ok c.finished.ensures in
     record { outputs = map stamped c.in_ok-outputs.outputs.items; state = state_of c.run.new.self; ends = p.0; left = p.1 }

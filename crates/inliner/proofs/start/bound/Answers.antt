@@ -1,4 +1,4 @@
-use Rattle.std.proofs.Common.{arith, rules, refl, ◌≡◌, length}
+use Rattle.std.proofs.Common.{arith, rules, ◌≡◌, length}
 use Rattle.inliner.proofs.Starts.{bound_begun, bound_more, bound_done}
 use Rattle.inliner.proofs.Ends.{at_index, at_last}
 use Rattle.inliner.proofs.start.bound.Goals as goal
@@ -10,7 +10,7 @@ pub loop-param-preserved : goal.loop-param-preserved
 loop-param-preserved c =
     let e : c.len-parent.result ≡ length c.loop-param.bindings.items = search rules in
     bound_more c.loop-param.bindings.items c.push.new.self.items c.loop-param.first _ c.len-parent.result c.param-item.result _ _ c.args.params.now c.in_ok-value.value
-      (at_index c.args.params.now c.loop-param.param-index c.param-item.result (omega arith) c.param-item.is) c.in_ok-value.ensures.ok e (omega (arith, c.width-first.ensures)) c.in_ok-push.ensures.items c.loop-param.invariant
+    (at_index c.args.params.now c.loop-param.param-index c.param-item.result (omega arith) c.param-item.is) c.in_ok-value.ensures.ok e (omega (arith, c.width-first.ensures)) c.in_ok-push.ensures.items c.loop-param.invariant
 
 pub returns-clause-ok : goal.returns-clause-ok
 returns-clause-ok c = bound_done c.loop-param.bindings.items c.loop-param.first _ c.args.params.now (at_last c.args.params.now c.loop-param.param-index (omega arith)) c.loop-param.invariant

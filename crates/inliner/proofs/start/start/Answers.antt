@@ -1,4 +1,4 @@
-use Rattle.std.proofs.Common.{refl, ap, sym, ◌∙◌, subst, ℕ, List, [], sum, ◌≡◌}
+use Rattle.std.proofs.Common.{refl, ap, ◌∙◌, subst, ℕ, List, [], sum, ◌≡◌}
 use Rattle.revc_base.specs.Tapes.{TapeView}
 use Rattle.revs_terms.specs.Programs.{widths_of}
 use Rattle.inliner.specs.Starting.{AreInputs}
@@ -11,7 +11,7 @@ new-tape-requires c = are_widths c.args.params.now c.in_ok-widths.field-0.items 
 pub returns-clause-ok : goal.returns-clause-ok
 returns-clause-ok c =
     let t : c.new-tape.result ≡ record { params = widths_of c.args.params.now; entries = []; claims = []; outputs = [] } =
-        c.new-tape.ensures ∙ ap (λ (ws : List ℕ). record { params = ws; entries = []; claims = []; outputs = [] }) c.in_ok-widths.ensures.ok in
+    c.new-tape.ensures ∙ ap (λ (ws : List ℕ). record { params = ws; entries = []; claims = []; outputs = [] }) c.in_ok-widths.ensures.ok in
     let n : c.inputs.result ≡ sum (widths_of c.args.params.now) = c.inputs.ensures.inputs ∙ ap (λ (x : TapeView). sum x.params) t in
     started c.args.params.now _ refl t (subst (λ (k : ℕ). AreInputs k c.in_ok-store.store.items) n (are_inputs c.inputs.result c.in_ok-store.store.items c.in_ok-store.ensures.ok))
-      c.in_ok-bindings.ensures.ok c.requires
+    c.in_ok-bindings.ensures.ok c.requires

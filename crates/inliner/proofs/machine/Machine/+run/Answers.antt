@@ -1,4 +1,4 @@
-use Rattle.std.proofs.Common.{◌≡◌, ℕ, ◌-◌, ◌+◌, List, [], ◌∷◌, drop, length, map, sym, ap, ◌∙◌, subst, rules, arith}
+use Rattle.std.proofs.Common.{◌≡◌, ℕ, ◌-◌, ◌+◌, drop, map, sym, ap, ◌∙◌, subst, rules, arith}
 use Rattle.revs_terms.specs.Terms.{place_of}
 use Rattle.revs_terms.specs.Trees.{ItemTree, tree_of, item_tree_of}
 use Rattle.revs_terms.specs.Running as runs
@@ -9,8 +9,8 @@ use Rattle.inliner.specs.Faults.{Says}
 use Rattle.inliner.specs.Steps.{item_step}
 use Rattle.revs_terms.specs.Runs.{no_bits}
 use Rattle.inliner.specs.Machines.{envs_of, env_in, value_in, state_of, Does, Goes, Binds}
-use Rattle.inliner.proofs.Through.{on_ok, on_err, ends, ends_goes, said, goes_in, says_in}
-use Rattle.inliner.proofs.Forms.{entered, assigns_to, assigns_from, assigns_stuck, reg_made, reg_stuck, bits_begun, bits_more, bits_stuck, bits_done, chain_begun, chain_more, chain_stuck, chain_done}
+use Rattle.inliner.proofs.Through.{on_ok, on_err, ends_goes, said, goes_in, says_in}
+use Rattle.inliner.proofs.Forms.{entered, assigns_from, assigns_stuck, reg_made, reg_stuck, bits_begun, bits_more, bits_stuck, bits_done, chain_begun, chain_more, chain_stuck, chain_done}
 use Rattle.inliner.proofs.Blocks.{mapped_at, mapped_end, passes_on, block_more, block_stuck, at_begun, append_second, append_stuck, apply_begun, apply_more, apply_stuck, argument_run, call_stuck, call_last, call_next, item_bound, item_run, block_term}
 use Rattle.inliner.proofs.machine.Machine.+run.Goals as goal
 
@@ -18,23 +18,23 @@ pub run-returns-clause-ok : goal.run-returns-clause-ok
 run-returns-clause-ok t c =
     let old = c.args.self.now in
     on_ok c.term.result (λ v g. ends_goes (entered old c.enter.new.self c.args.left (env_in (envs_of old) c.args.env) (tree_of c.args.term.now) c.requires.machine (omega arith) c.in_ok-enter.ensures.ok)
-      (goes_in (λ e. term_of no_bits (run_of no_bits (c.args.left - 1)) e (tree_of c.args.term.now) (state_of c.enter.new.self)) old c.enter.new.self _ c.args.env v c.in_ok-enter.ensures.ok.grows c.requires.env g)) c.term.ensures.ok
+    (goes_in (λ e. term_of no_bits (run_of no_bits (c.args.left - 1)) e (tree_of c.args.term.now) (state_of c.enter.new.self)) old c.enter.new.self _ c.args.env v c.in_ok-enter.ensures.ok.grows c.requires.env g)) c.term.ensures.ok
 
 pub run-returns-clause-err : goal.run-returns-clause-err
 run-returns-clause-err t c =
     let old = c.args.self.now in
     on_err c.term.result (λ f s. said f (entered old c.enter.new.self c.args.left (env_in (envs_of old) c.args.env) (tree_of c.args.term.now) c.requires.machine (omega arith) c.in_ok-enter.ensures.ok)
-      (says_in (λ e. term_of no_bits (run_of no_bits (c.args.left - 1)) e (tree_of c.args.term.now) (state_of c.enter.new.self)) old c.enter.new.self c.args.env f c.in_ok-enter.ensures.ok.grows c.requires.env s)) c.term.ensures.err
+    (says_in (λ e. term_of no_bits (run_of no_bits (c.args.left - 1)) e (tree_of c.args.term.now) (state_of c.enter.new.self)) old c.enter.new.self c.args.env f c.in_ok-enter.ensures.ok.grows c.requires.env s)) c.term.ensures.err
 
 pub assignment-returns-clause-ok : goal.assignment-returns-clause-ok
 assignment-returns-clause-ok t c =
     on_ok c.assign.result (λ v g. ends_goes (assigns_from c.args.self.now c.bit.new.self c.bit-2.new.self c.args.left c.args.env c.in_ok-to.to c.in_ok-from.from
-      (tree_of c.args.left_term.now) (tree_of c.args.right_term.now) c.requires.machine c.requires.env c.in_ok-to.ensures.ok c.in_ok-from.ensures.ok) g) c.assign.ensures.ok
+    (tree_of c.args.left_term.now) (tree_of c.args.right_term.now) c.requires.machine c.requires.env c.in_ok-to.ensures.ok c.in_ok-from.ensures.ok) g) c.assign.ensures.ok
 
 pub assignment-returns-clause-err : goal.assignment-returns-clause-err
 assignment-returns-clause-err t c =
     on_err c.assign.result (λ f s. said f (assigns_from c.args.self.now c.bit.new.self c.bit-2.new.self c.args.left c.args.env c.in_ok-to.to c.in_ok-from.from
-      (tree_of c.args.left_term.now) (tree_of c.args.right_term.now) c.requires.machine c.requires.env c.in_ok-to.ensures.ok c.in_ok-from.ensures.ok) s) c.assign.ensures.err
+    (tree_of c.args.left_term.now) (tree_of c.args.right_term.now) c.requires.machine c.requires.env c.in_ok-to.ensures.ok c.in_ok-from.ensures.ok) s) c.assign.ensures.err
 
 pub reg-returns-clause-ok : goal.reg-returns-clause-ok
 reg-returns-clause-ok t c =
@@ -58,27 +58,27 @@ bits-loop-term-init t c = bits_begun c.args.self.now c.args.left (env_in (envs_o
 pub bits-returns-in_err-location-clause-err : goal.bits-returns-in_err-location-clause-err
 bits-returns-in_err-location-clause-err t c = passes_on _ c.from_residual.result c.from_residual.ensures.1
     (bits_stuck c.args.self.now c.loop-term.self c.args.left c.args.env (tree_of c.term-item.result) _ _ c.loop-term.locations.items _ c.in_err-location.field-0.0 c.requires.env
-      (mapped_at tree_of c.args.terms.now c.loop-term.term-index c.term-item.result (omega arith) c.term-item.is) c.loop-term.invariant c.in_err-location.ensures.err)
+    (mapped_at tree_of c.args.terms.now c.loop-term.term-index c.term-item.result (omega arith) c.term-item.is) c.loop-term.invariant c.in_err-location.ensures.err)
 
 pub bits-loop-term-preserved : goal.bits-loop-term-preserved
 bits-loop-term-preserved t c = bits_more c.args.self.now c.loop-term.self c.bit.new.self c.args.left c.args.env c.in_ok-location.location (tree_of c.term-item.result) _ _ c.loop-term.locations.items c.push.new.self.items _ c.requires.env
-      (mapped_at tree_of c.args.terms.now c.loop-term.term-index c.term-item.result (omega arith) c.term-item.is) c.in_ok-push.ensures.items c.loop-term.invariant c.in_ok-location.ensures.ok
+    (mapped_at tree_of c.args.terms.now c.loop-term.term-index c.term-item.result (omega arith) c.term-item.is) c.in_ok-push.ensures.items c.loop-term.invariant c.in_ok-location.ensures.ok
 
 pub bits-returns-clause-ok : goal.bits-returns-clause-ok
 bits-returns-clause-ok t c = bits_done c.args.self.now c.loop-term.self c.args.left (env_in (envs_of c.args.self.now) c.args.env) _ c.loop-term.locations.items _ (mapped_end tree_of c.args.terms.now c.loop-term.term-index (omega arith)) c.loop-term.invariant
 
 pub chain-loop-term-init : goal.chain-loop-term-init
 chain-loop-term-init t c = chain_begun c.args.self.now c.bit.new.self c.args.left c.args.op (env_in (envs_of c.args.self.now) c.args.env) (map tree_of c.args.terms.now) (tree_of c.in-Some.first.now) (map tree_of c.in-Some.rest.now) c.in_ok-so_far.so_far c.requires.machine
-      (ap (map tree_of) c.in-Some.ensures.cases.0) c.in_ok-so_far.ensures.ok
+    (ap (map tree_of) c.in-Some.ensures.cases.0) c.in_ok-so_far.ensures.ok
 
 pub chain-returns-in_err-so_far-2-clause-err : goal.chain-returns-in_err-so_far-2-clause-err
 chain-returns-in_err-so_far-2-clause-err t c = passes_on _ c.from_residual-in_err-so_far-2.result c.from_residual-in_err-so_far-2.ensures.1
     (chain_stuck c.args.self.now c.loop-term.self c.args.left c.args.env c.loop-term.so_far c.args.op (place_of (tree_of c.in-Some.first.now)) (tree_of c.term-item.result) _ _ _ c.in_err-so_far-2.field-0.0 c.requires.env
-      (mapped_at tree_of c.in-Some.rest.now c.loop-term.term-index c.term-item.result (omega arith) c.term-item.is) c.loop-term.invariant c.in_err-so_far-2.ensures.err)
+    (mapped_at tree_of c.in-Some.rest.now c.loop-term.term-index c.term-item.result (omega arith) c.term-item.is) c.loop-term.invariant c.in_err-so_far-2.ensures.err)
 
 pub chain-loop-term-preserved : goal.chain-loop-term-preserved
 chain-loop-term-preserved t c = chain_more c.args.self.now c.loop-term.self c.link.new.self c.args.left c.args.env c.loop-term.so_far c.in_ok-so_far-2.so_far c.args.op (place_of (tree_of c.in-Some.first.now)) (tree_of c.term-item.result) _ _ _ c.requires.env
-      (mapped_at tree_of c.in-Some.rest.now c.loop-term.term-index c.term-item.result (omega arith) c.term-item.is) c.loop-term.invariant c.in_ok-so_far-2.ensures.ok
+    (mapped_at tree_of c.in-Some.rest.now c.loop-term.term-index c.term-item.result (omega arith) c.term-item.is) c.loop-term.invariant c.in_ok-so_far-2.ensures.ok
 
 pub chain-returns-clause-ok : goal.chain-returns-clause-ok
 chain-returns-clause-ok t c = chain_done c.args.self.now c.loop-term.self c.args.left c.args.op (env_in (envs_of c.args.self.now) c.args.env) (place_of (tree_of c.in-Some.first.now)) c.loop-term.so_far _ _ (mapped_end tree_of c.in-Some.rest.now c.loop-term.term-index (omega arith)) c.loop-term.invariant
@@ -99,11 +99,11 @@ apply-loop-term-init t c = apply_begun c.args.self.now c.run.new.self c.args.lef
 pub apply-returns-in_err-value-2-clause-err : goal.apply-returns-in_err-value-2-clause-err
 apply-returns-in_err-value-2-clause-err t c = passes_on _ c.from_residual-in_err-value-2.result c.from_residual-in_err-value-2.ensures.1
     (apply_stuck c.args.self.now c.loop-term.self c.args.left c.args.env (tree_of c.term-item.result) _ _ c.loop-term.value _ c.in_err-value-2.field-0.0 c.requires.env
-      (mapped_at tree_of c.args.terms.now c.loop-term.term-index c.term-item.result (omega arith) c.term-item.is) c.loop-term.invariant c.in_err-value-2.ensures.err)
+    (mapped_at tree_of c.args.terms.now c.loop-term.term-index c.term-item.result (omega arith) c.term-item.is) c.loop-term.invariant c.in_err-value-2.ensures.err)
 
 pub apply-loop-term-preserved : goal.apply-loop-term-preserved
 apply-loop-term-preserved t c = apply_more c.args.self.now c.loop-term.self c.argument.new.self c.args.left c.args.env (tree_of c.term-item.result) _ _ c.loop-term.value c.in_ok-value-2.value _ c.requires.env
-      (mapped_at tree_of c.args.terms.now c.loop-term.term-index c.term-item.result (omega arith) c.term-item.is) c.loop-term.invariant c.in_ok-value-2.ensures.ok
+    (mapped_at tree_of c.args.terms.now c.loop-term.term-index c.term-item.result (omega arith) c.term-item.is) c.loop-term.invariant c.in_ok-value-2.ensures.ok
 
 pub argument-returns-clause-ok : goal.argument-returns-clause-ok
 argument-returns-clause-ok t c = on_ok c.call.result (λ v g. ends_goes (argument_run c.args.self.now c.run.new.self c.args.left c.args.env (tree_of c.args.term.now) c.args.callee c.in_ok-argument.argument c.requires.machine c.requires.made c.in_ok-argument.ensures.ok) g) c.call.ensures.ok
@@ -120,16 +120,16 @@ at-returns-clause-err t c = on_err c.parts.result (λ f s. said f (at_begun c.ar
 pub block-returns-in_err-inner-clause-err : goal.block-returns-in_err-inner-clause-err
 block-returns-in_err-inner-clause-err t c = passes_on _ c.from_residual.result c.from_residual.ensures.1
     (block_stuck c.args.self.now c.loop-item.self c.args.left c.loop-item.inner (item_tree_of c.item-item.result) _ _ (tree_of c.args.last.now) _ c.in_err-inner.field-0.0
-      (mapped_at item_tree_of c.args.items.now c.loop-item.item-index c.item-item.result (omega arith) c.item-item.is) c.loop-item.invariant c.in_err-inner.ensures.err)
+    (mapped_at item_tree_of c.args.items.now c.loop-item.item-index c.item-item.result (omega arith) c.item-item.is) c.loop-item.invariant c.in_err-inner.ensures.err)
 
 pub block-loop-item-preserved : goal.block-loop-item-preserved
 block-loop-item-preserved t c = block_more c.args.self.now c.loop-item.self c.item.new.self c.args.left c.loop-item.inner c.in_ok-inner.inner (item_tree_of c.item-item.result) _ _ (tree_of c.args.last.now) _
-      (mapped_at item_tree_of c.args.items.now c.loop-item.item-index c.item-item.result (omega arith) c.item-item.is) c.loop-item.invariant c.in_ok-inner.ensures.ok
+    (mapped_at item_tree_of c.args.items.now c.loop-item.item-index c.item-item.result (omega arith) c.item-item.is) c.loop-item.invariant c.in_ok-inner.ensures.ok
 
 pub call-returns-in_err-inner-clause-err : goal.call-returns-in_err-inner-clause-err
 call-returns-in_err-inner-clause-err t c = passes_on _ c.from_residual.result c.from_residual.ensures.1
     (subst (λ (w : Value). Says c.in_err-inner.field-0.0 (apply_to no_bits (run_of no_bits c.args.left) (place_of (tree_of c.args.term.now)) (value_in (envs_of c.args.self.now) w) (value_in (envs_of c.args.self.now) c.args.argument) (state_of c.args.self.now))) (sym c.in-Fun.is)
-      (call_stuck c.args.left (place_of (tree_of c.args.term.now)) c.in-Fun.of.now.names.items c.in-Fun.taken (tree_of c.in-Fun.of.now.body) (env_in (envs_of c.args.self.now) c.in-Fun.env) (value_in (envs_of c.args.self.now) c.args.argument) (state_of c.args.self.now) c.in_err-inner.field-0.0 (omega (arith, c.in-Fun.of.now.names.ok.0)) c.in_err-inner.ensures.err))
+    (call_stuck c.args.left (place_of (tree_of c.args.term.now)) c.in-Fun.of.now.names.items c.in-Fun.taken (tree_of c.in-Fun.of.now.body) (env_in (envs_of c.args.self.now) c.in-Fun.env) (value_in (envs_of c.args.self.now) c.args.argument) (state_of c.args.self.now) c.in_err-inner.field-0.0 (omega (arith, c.in-Fun.of.now.names.ok.0)) c.in_err-inner.ensures.err))
 
 pub call-returns-then-len-taken-2-clause-ok : goal.call-returns-then-len-taken-2-clause-ok
 call-returns-then-len-taken-2-clause-ok t c = on_ok c.run.result (λ v g. subst (λ (w : Value). Goes c.args.self.now c.run.new.self (apply_to no_bits (run_of no_bits c.args.left) (place_of (tree_of c.args.term.now)) (value_in (envs_of c.args.self.now) w) (value_in (envs_of c.args.self.now) c.args.argument) (state_of c.args.self.now)) v) (sym c.in-Fun.is) (ends_goes (call_last c.args.self.now c.bind.new.self c.args.left c.in_ok-inner.inner (place_of (tree_of c.args.term.now)) c.in-Fun.of.now.names.items c.in-Fun.taken (tree_of c.in-Fun.of.now.body) (env_in (envs_of c.args.self.now) c.in-Fun.env) (value_in (envs_of c.args.self.now) c.args.argument) c.requires.machine (omega (arith, c.in-Fun.of.now.names.ok.0)) c.in_ok-inner.ensures.ok) g)) c.run.ensures.ok
@@ -138,29 +138,28 @@ pub call-returns-then-len-taken-2-clause-err : goal.call-returns-then-len-taken-
 call-returns-then-len-taken-2-clause-err t c = on_err c.run.result (λ f s. subst (λ (w : Value). Says f (apply_to no_bits (run_of no_bits c.args.left) (place_of (tree_of c.args.term.now)) (value_in (envs_of c.args.self.now) w) (value_in (envs_of c.args.self.now) c.args.argument) (state_of c.args.self.now))) (sym c.in-Fun.is) (said f (call_last c.args.self.now c.bind.new.self c.args.left c.in_ok-inner.inner (place_of (tree_of c.args.term.now)) c.in-Fun.of.now.names.items c.in-Fun.taken (tree_of c.in-Fun.of.now.body) (env_in (envs_of c.args.self.now) c.in-Fun.env) (value_in (envs_of c.args.self.now) c.args.argument) c.requires.machine (omega (arith, c.in-Fun.of.now.names.ok.0)) c.in_ok-inner.ensures.ok) s)) c.run.ensures.err
 
 pub call-returns-in-Some-clause-ok : goal.call-returns-in-Some-clause-ok
-call-returns-in-Some-clause-ok t c = 
+call-returns-in-Some-clause-ok t c =
     let e : c.in-Some.taken ≡ c.in-Fun.taken + 1 = first_of (search rules, omega (arith, c.in-Some.ensures)) in
     record {
       does = subst (λ (n : ℕ). Does c.args.self.now c.bind.new.self (apply_to no_bits (run_of no_bits c.args.left) (place_of (tree_of c.args.term.now)) (value_in (envs_of c.args.self.now) c.args.callee) (value_in (envs_of c.args.self.now) c.args.argument) (state_of c.args.self.now))
           (closure (drop n c.in-Fun.of.now.names.items) (tree_of c.in-Fun.of.now.body) (env_in (envs_of c.bind.new.self) c.in_ok-inner.inner))) (sym e)
-        (subst (λ (w : Value). Does c.args.self.now c.bind.new.self (apply_to no_bits (run_of no_bits c.args.left) (place_of (tree_of c.args.term.now)) (value_in (envs_of c.args.self.now) w) (value_in (envs_of c.args.self.now) c.args.argument) (state_of c.args.self.now)) (closure (drop (c.in-Fun.taken + 1) c.in-Fun.of.now.names.items) (tree_of c.in-Fun.of.now.body) (env_in (envs_of c.bind.new.self) c.in_ok-inner.inner))) (sym c.in-Fun.is)
+          (subst (λ (w : Value). Does c.args.self.now c.bind.new.self (apply_to no_bits (run_of no_bits c.args.left) (place_of (tree_of c.args.term.now)) (value_in (envs_of c.args.self.now) w) (value_in (envs_of c.args.self.now) c.args.argument) (state_of c.args.self.now)) (closure (drop (c.in-Fun.taken + 1) c.in-Fun.of.now.names.items) (tree_of c.in-Fun.of.now.body) (env_in (envs_of c.bind.new.self) c.in_ok-inner.inner))) (sym c.in-Fun.is)
           (call_next c.args.self.now c.bind.new.self c.args.left c.in_ok-inner.inner (place_of (tree_of c.args.term.now)) c.in-Fun.of.now.names.items c.in-Fun.taken (tree_of c.in-Fun.of.now.body) (env_in (envs_of c.args.self.now) c.in-Fun.env) (value_in (envs_of c.args.self.now) c.args.argument) c.requires.machine (omega (arith, c.in-Fun.of.now.names.ok.0)) c.in_ok-inner.ensures.ok));
       made = record { made = c.in_ok-inner.ensures.ok.made };
     }
 
 pub item-returns-in_ok-bound-in-Let-clause-ok : goal.item-returns-in_ok-bound-in-Let-clause-ok
 item-returns-in_ok-bound-in-Let-clause-ok t c = on_ok c.bind.result (λ b g. subst (λ (i : ItemTree). Binds c.args.self.now c.bind.new.self (item_step (run_of no_bits c.args.left) (env_in (envs_of c.args.self.now) c.args.env) i (state_of c.args.self.now)) b) (sym (ap item_tree_of c.in-Let.is ∙ item_tree_of-Let c.in-Let.name c.in-Let.value))
-      (item_bound c.args.self.now c.run.new.self c.bind.new.self c.args.left c.args.env b c.in-Let.name (tree_of c.in-Let.value) c.in_ok-bound-in-Let.bound c.requires.machine c.requires.env c.in_ok-bound-in-Let.ensures.ok g)) c.bind.ensures.ok
+    (item_bound c.args.self.now c.run.new.self c.bind.new.self c.args.left c.args.env b c.in-Let.name (tree_of c.in-Let.value) c.in_ok-bound-in-Let.bound c.requires.machine c.requires.env c.in_ok-bound-in-Let.ensures.ok g)) c.bind.ensures.ok
 
 pub item-returns-in_ok-run-in-Do-clause-ok : goal.item-returns-in_ok-run-in-Do-clause-ok
 item-returns-in_ok-run-in-Do-clause-ok t c = subst (λ (i : ItemTree). Binds c.args.self.now c.run-in-Do.new.self (item_step (run_of no_bits c.args.left) (env_in (envs_of c.args.self.now) c.args.env) i (state_of c.args.self.now)) c.args.env) (sym (ap item_tree_of c.in-Do.is ∙ item_tree_of-Do c.in-Do.term))
-      (item_run c.args.self.now c.run-in-Do.new.self c.args.left c.args.env (tree_of c.in-Do.term) c.in_ok-run-in-Do.field-0 c.requires.machine c.requires.env c.in_ok-run-in-Do.ensures.ok)
+    (item_run c.args.self.now c.run-in-Do.new.self c.args.left c.args.env (tree_of c.in-Do.term) c.in_ok-run-in-Do.field-0 c.requires.machine c.requires.env c.in_ok-run-in-Do.ensures.ok)
 
 pub term-returns-in-Block-clause-ok : goal.term-returns-in-Block-clause-ok
 term-returns-in-Block-clause-ok t c = on_ok c.block.result (λ v g. subst (λ (o : Outcome (Unit {0}) runs.Value). Goes c.args.self.now c.block.new.self o v) (sym (block_term c.args.left (env_in (envs_of c.args.self.now) c.args.env) (map item_tree_of c.in-Block.items.items) (map item_tree_of c.deref-in-Block.result.now) (tree_of c.in-Block.last.value) (tree_of c.deref-in-Block-2.result.now) c.in-Block.field-2 (state_of c.args.self.now) (tree_of c.args.term.now)
-      (ap tree_of c.in-Block.is ∙ tree_of-Block c.in-Block.items c.in-Block.last c.in-Block.field-2) (ap (map item_tree_of) c.deref-in-Block.ensures.value) (ap tree_of c.deref-in-Block-2.ensures))) g) c.block.ensures.ok
+    (ap tree_of c.in-Block.is ∙ tree_of-Block c.in-Block.items c.in-Block.last c.in-Block.field-2) (ap (map item_tree_of) c.deref-in-Block.ensures.value) (ap tree_of c.deref-in-Block-2.ensures))) g) c.block.ensures.ok
 
 pub term-returns-in-Block-clause-err : goal.term-returns-in-Block-clause-err
 term-returns-in-Block-clause-err t c = on_err c.block.result (λ f g. subst (λ (o : Outcome (Unit {0}) runs.Value). Says f o) (sym (block_term c.args.left (env_in (envs_of c.args.self.now) c.args.env) (map item_tree_of c.in-Block.items.items) (map item_tree_of c.deref-in-Block.result.now) (tree_of c.in-Block.last.value) (tree_of c.deref-in-Block-2.result.now) c.in-Block.field-2 (state_of c.args.self.now) (tree_of c.args.term.now)
-      (ap tree_of c.in-Block.is ∙ tree_of-Block c.in-Block.items c.in-Block.last c.in-Block.field-2) (ap (map item_tree_of) c.deref-in-Block.ensures.value) (ap tree_of c.deref-in-Block-2.ensures))) g) c.block.ensures.err
-
+    (ap tree_of c.in-Block.is ∙ tree_of-Block c.in-Block.items c.in-Block.last c.in-Block.field-2) (ap (map item_tree_of) c.deref-in-Block.ensures.value) (ap tree_of c.deref-in-Block-2.ensures))) g) c.block.ensures.err

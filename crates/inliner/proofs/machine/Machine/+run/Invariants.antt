@@ -40,12 +40,12 @@ decreases-bit l = l.left * 8 + 1
 abbrev pub invariant-bits-loop-term : goal.invariant-bits-loop-term
 invariant-bits-loop-term l =
     Through l.fn.self l.self (bits_of no_bits (run_of no_bits l.left) (env_in (envs_of l.fn.self) l.env) (map tree_of l.terms) (state_of l.fn.self))
-      (rest_of_bits l.left (env_in (envs_of l.fn.self) l.env) (drop l.term-index (map tree_of l.terms)) l.locations.items (state_of l.self))
+    (rest_of_bits l.left (env_in (envs_of l.fn.self) l.env) (drop l.term-index (map tree_of l.terms)) l.locations.items (state_of l.self))
 
 abbrev pub invariant-chain-loop-term : goal.invariant-chain-loop-term
 invariant-chain-loop-term l =
     Through l.fn.self l.self (term_of no_bits (run_of no_bits l.left) (env_in (envs_of l.fn.self) l.env) (chain_tree l.op (map tree_of l.terms)) (state_of l.fn.self))
-      (rest_of_chain l.left l.op (env_in (envs_of l.fn.self) l.env) (place_of (tree_of l.first)) l.so_far (drop l.term-index (map tree_of l.rest)) (state_of l.self))
+    (rest_of_chain l.left l.op (env_in (envs_of l.fn.self) l.env) (place_of (tree_of l.first)) l.so_far (drop l.term-index (map tree_of l.rest)) (state_of l.self))
 
 abbrev pub decreases-block : goal.decreases-block
 decreases-block l = l.left * 8 + 6
@@ -74,9 +74,9 @@ decreases-call l = l.left * 8 + 4
 abbrev pub invariant-block-loop-item : goal.invariant-block-loop-item
 invariant-block-loop-item l =
     InBlock l.fn.self l.self l.left l.inner (drop l.item-index (map item_tree_of l.items)) (tree_of l.last)
-      (block_of no_bits (run_of no_bits l.left) (env_in (envs_of l.fn.self) l.env) (map item_tree_of l.items) (tree_of l.last) (state_of l.fn.self))
+    (block_of no_bits (run_of no_bits l.left) (env_in (envs_of l.fn.self) l.env) (map item_tree_of l.items) (tree_of l.last) (state_of l.fn.self))
 
 abbrev pub invariant-apply-loop-term : goal.invariant-apply-loop-term
 invariant-apply-loop-term l =
     InApply l.fn.self l.self l.left (env_in (envs_of l.fn.self) l.env) (drop l.term-index (map tree_of l.terms)) l.value
-      (term_of no_bits (run_of no_bits l.left) (env_in (envs_of l.fn.self) l.env) (apply (tree_of l.fn.head) (trees (map tree_of l.terms))) (state_of l.fn.self))
+    (term_of no_bits (run_of no_bits l.left) (env_in (envs_of l.fn.self) l.env) (apply (tree_of l.fn.head) (trees (map tree_of l.terms))) (state_of l.fn.self))

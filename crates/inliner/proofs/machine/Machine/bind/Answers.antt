@@ -1,4 +1,4 @@
-use Rattle.std.proofs.Common.{refl, rules, arith, ap, length}
+use Rattle.std.proofs.Common.{refl}
 use Rattle.inliner.proofs.Growth.{bound_done}
 use Rattle.inliner.proofs.Through.{on_ok}
 use Rattle.inliner.proofs.machine.Machine.bind.Goals as goal

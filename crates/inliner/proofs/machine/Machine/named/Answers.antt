@@ -1,7 +1,7 @@
-use Rattle.std.proofs.Common.{rules, arith, ◌≡◌, ◌-◌, ◌+◌, length, sym, ap, ◌∙◌, subst}
+use Rattle.std.proofs.Common.{arith, ◌-◌, length, sym, ap, ◌∙◌, subst}
 use Rattle.revs_terms.specs.Running.{value_at}
-use Rattle.array_shapes.specs.Values.{ValueView, seen}
-use Rattle.inliner.specs.Machines.{envs_of, env_in, value_in, spec_value, IsValueView}
+use Rattle.array_shapes.specs.Values.{ValueView}
+use Rattle.inliner.specs.Machines.{envs_of, env_in, spec_value, IsValueView}
 use Rattle.inliner.proofs.Growth.{none_bound, one_back, nearest}
 use Rattle.inliner.proofs.machine.Machine.named.Goals as goal
 

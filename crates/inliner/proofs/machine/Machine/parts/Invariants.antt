@@ -1,7 +1,6 @@
-use Rattle.std.proofs.Common.{drop, length}
+use Rattle.std.proofs.Common.{drop}
 use Rattle.inliner.specs.Machines.{envs_of, state_of, value_in}
 use Rattle.inliner.specs.Steps.{parts_step}
-use Rattle.inliner.proofs.Through.{Through}
 use Rattle.inliner.proofs.Parts.{InParts}
 use Rattle.inliner.proofs.machine.Machine.parts.Given as goal
 
