@@ -45,7 +45,7 @@ assigned old now to from left right was made b s t w first second known is =
     record {
       does = record {
         goes = goes_on _ _ _ _ _ first (goes_on _ _ _ _ _ second (ap (went unit) (sym state)));
-        grows = grows_same old now b (ap (λ (x : TapeView). x.params) t) (ap (λ (x : TapeView). x.outputs) t);
+        grows = grows_same old now b (ap (λ (x : TapeView). x.params) t);
         kept = record {
           made = subst (AreBindings 0) (sym b) is.made;
           known = rw (s, t) (All-set (IsKnownIn old.tape) old.store.items to (Some made) is.known known);
@@ -90,7 +90,7 @@ asserted old now kinds.Clean location operand at of h b s t w first room is = ab
 asserted old now kinds.Assert location operand at of h b s t w first room is = record {
   does = record {
     goes = claimed_state old now kinds.Assert location operand at of old.store.items b s t w refl first room;
-    grows = grows_same old now b (ap (λ (x : TapeView). x.params) t) (ap (λ (x : TapeView). x.outputs) t);
+    grows = grows_same old now b (ap (λ (x : TapeView). x.params) t);
     kept = claimed_kept old now old.store.items _ b s t w refl is.known is;
   };
   made = record { made = tt };
@@ -106,7 +106,7 @@ cleaned old now kinds.Assert location operand at of h b s t w first room is = cc
 cleaned old now kinds.Clean location operand at of h b s t w first room is = record {
   does = record {
     goes = claimed_state old now kinds.Clean location operand at of (slice_set old.store.items location None) b s t w (sym (map-set held_by old.store.items location None)) first room;
-    grows = grows_same old now b (ap (λ (x : TapeView). x.params) t) (ap (λ (x : TapeView). x.outputs) t);
+    grows = grows_same old now b (ap (λ (x : TapeView). x.params) t);
     kept = claimed_kept old now (slice_set old.store.items location None) _ b s t w (length-set old.store.items location None) (All-set (IsKnownIn old.tape) old.store.items location None is.known tt) is;
   };
   made = record { made = tt };
@@ -132,7 +132,7 @@ wrote old now entry at made m b s t w room is =
       goes = rw (few, m) (rw (length-map old.store.items held_by) (ap (went (length old.store.items)) (sym (state_is now _ _ _ _
           (ap (map held_by) s ∙ map-append held_by old.store.items (Some (refs.Write (length old.tape.entries)) ∷ [])) entries
           (ap (λ (x : TapeView). map met_by x.claims) t) w))));
-      grows = grows_same old now b params (ap (λ (x : TapeView). x.outputs) t);
+      grows = grows_same old now b params;
       kept = record {
         made = subst (AreBindings 0) (sym b) is.made;
         known = rw s (All-push (IsKnownIn now.tape) old.store.items (Some (refs.Write (length old.tape.entries)))

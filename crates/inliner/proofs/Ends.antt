@@ -13,12 +13,19 @@ use Rattle.revs_terms.specs.Terms.{place_of}
 use Rattle.revs_terms.specs.Trees.{Tree}
 use Rattle.revs_terms.specs.Running as runs
 use Rattle.revs_terms.specs.Running.{Environment, nothing, Stamped, State, Outcome, went, after, read, run_of}
-use Rattle.revs_terms.specs.Runs.{start, nothings, params_in, no_bits, read_all, tape_of}
+use Rattle.revs_terms.specs.Runs.{start, nothings, params_in, no_bits, read_all, tape_of, run_without_bits, IsTapeOf}
 use Rattle.array_shapes.specs.declared.value.Value.{Value}
 use Rattle.inliner.specs.declared.fault.RunFault.{RunFault}
 use Rattle.inliner.specs.declared.fault.RunFault.TheVariants as faults
 use Rattle.inliner.specs.declared.machine.Machine.{Machine}
-use Rattle.inliner.specs.Faults.{Says}
+use Rattle.inliner.specs.Faults.{cause_of, IsStuckAs, Says, Leaves, IsStuckOnAll, IsRefused}
+use Rattle.revs_terms.specs.Terms.{is_formed}
+use Rattle.revs_terms.specs.Programs.{AreParams}
+use Rattle.revs_terms.proofs.BothEnds.{same_for_all}
+use Rattle.revs_terms.proofs.FullValues.{has_outputs}
+use Rattle.std.specs.Prelude.{IsTrue, Option, Some, None}
+use Rattle.std.proofs.lemmas.List.{length-map}
+use Rattle.revs_terms.specs.Running.{Refusal}
 use Rattle.inliner.specs.Machines.{met_by, env_in, value_in, envs_of, state_of, Goes}
 use Rattle.inliner.specs.Starting.{stamped, Reads, Outputs, outputs_step, IsStart}
 use Rattle.inliner.specs.Steps.{Going}
@@ -145,3 +152,23 @@ at_default (y ∷ ys) (suc i) d h =
 -- Want of memory says nothing of the run.
 pub memory_says : {A : Type 0} (fault : RunFault) (o : Going A) → fault ≡ faults.Memory → Says fault o
 memory_says fault o e = subst (λ (f : RunFault). Says f o) (sym e) (record { cause = tt })
+
+-- ---- every input
+
+stuck_on_all : (params : List Param) (body : Tree) (cause : Option (Refusal × Place)) → IsStuckAs cause (run_without_bits params body) → IsStuckOnAll params body cause
+stuck_on_all params body None e = tt
+stuck_on_all params body (Some cause) e = (same_for_all params body).0 cause.0 cause.1 e
+
+pub refused : (params : List Param) (body : Tree) (fault : RunFault) → Says fault (run_without_bits params body) → IsRefused params body fault
+refused params body fault s = record { stuck = stuck_on_all params body (cause_of fault) s.cause }
+
+pub left_on_all : (params : List Param) (body : Tree) (tape : TapeView) → Leaves params body tape → IsTapeOf params body tape
+left_on_all params body tape l = subst (IsTapeOf params body) (sym l.left) ((same_for_all params body).1 l.outputs l.state l.ends)
+
+-- a program has an output
+pub some_made : (left : ℕ) (params : List Param) (body : Tree) (m now : Machine) (env : ℕ) (v : Value) (made : List Ref) → run_within left params body ≡ run_without_bits params body
+    → AreParams params → IsTrue (is_formed body) → IsStart params m → env ≡ length m.bindings.items
+    → Goes m now (run_of no_bits left (env_in (envs_of m) env) body (state_of m)) v → Outputs now (value_in (envs_of now) v) (place_of body) made → 1 ≤ length made
+some_made left params body m now env v made same are formed s e g o =
+    let some : 1 ≤ length (map stamped made) = has_outputs params body (map stamped made) (state_of now) are formed (sym same ∙ body_run left params body m now env v s e g ∙ o.read) in
+    omega (arith, some, length-map made stamped)

@@ -82,15 +82,14 @@ grown_length old now g = rw g.bindings (omega (arith, length-append old.bindings
 pub grown_made : (old now : Machine) (v : Value) → Grows old now → IsValue (length old.bindings.items) v → IsValue (length now.bindings.items) v
 grown_made old now v g h = record { made = IsValueView-later _ _ (seen v) (grown_length old now g) h.made }
 
-pub grows_same : (old now : Machine) → now.bindings.items ≡ old.bindings.items → now.tape.params ≡ old.tape.params → now.tape.outputs ≡ old.tape.outputs → Grows old now
-grows_same old now e p o = record { more = []; bindings = e ∙ sym (append-nil old.bindings.items); params = p; outputs = o }
+pub grows_same : (old now : Machine) → now.bindings.items ≡ old.bindings.items → now.tape.params ≡ old.tape.params → Grows old now
+grows_same old now e p = record { more = []; bindings = e ∙ sym (append-nil old.bindings.items); params = p }
 
 pub grows_trans : (a b c : Machine) → Grows a b → Grows b c → Grows a c
 grows_trans a b c g h = record {
   more = g.more ++ h.more;
   bindings = h.bindings ∙ ap (λ (xs : List Binding). xs ++ h.more) g.bindings ∙ append_assoc a.bindings.items g.more h.more;
   params = h.params ∙ g.params;
-  outputs = h.outputs ∙ g.outputs;
 }
 
 -- ---- one more binding
@@ -186,7 +185,7 @@ bound_done old mid now value env made at there p count n w b s t k m h v =
     record {
       does = record {
         goes = rw (← p, counted) (goes_on _ _ _ _ _ w.goes (rw (last, state) refl));
-        grows = grows_trans old mid now w.grows (record { more = record { value = value; parent = env } ∷ []; bindings = b; params = ap (λ (x : TapeView). x.params) t; outputs = ap (λ (x : TapeView). x.outputs) t });
+        grows = grows_trans old mid now w.grows (record { more = record { value = value; parent = env } ∷ []; bindings = b; params = ap (λ (x : TapeView). x.params) t });
         kept = record {
           made = rw b (bindings_pushed mid.bindings.items (record { value = value; parent = env }) w.kept.made h2 v2.made);
           known = rw (s, t) w.kept.known;

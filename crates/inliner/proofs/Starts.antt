@@ -152,5 +152,4 @@ started params m w t i b are =
       state = state_is m _ _ _ _ i.held e (ap (λ (x : TapeView). map met_by x.claims) t) w;
       env = b.env;
       widths = p;
-      outputs = ap (λ (x : TapeView). x.outputs) t;
     }

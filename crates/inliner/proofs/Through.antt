@@ -31,7 +31,7 @@ pub record Through {A : Type 0} (old now : Machine) (whole rest : Outcome (Unit 
   pub kept : IsMachine now
 
 pub begun : {A : Type 0} (m : Machine) (whole rest : Outcome (Unit {0}) A) → whole ≡ rest → IsMachine m → Through m m whole rest
-begun m whole rest e is = record { same = e; grows = grows_same m m refl refl refl; kept = is }
+begun m whole rest e is = record { same = e; grows = grows_same m m refl refl; kept = is }
 
 pub step : {A C : Type 0} (next : A → State (Unit {0}) → Outcome (Unit {0}) C) {old now later : Machine} {whole : Outcome (Unit {0}) C} {o : Outcome (Unit {0}) A} {a : A}
     → Through old now whole (after o next) → Does now later o a → Through old later whole (next a (state_of later))

@@ -1,11 +1,11 @@
 -- Why a program is refused, and where.
-use Rattle.std.specs.Prelude.{◌≡◌, Option, Some, None, List}
+use Rattle.std.specs.Prelude.{◌≡◌, Bool, Option, Some, None, List}
 use Rattle.revc_base.specs.declared.place.Place.{Place}
 use Rattle.revc_base.specs.Tapes.{TapeView}
 use Rattle.revs_terms.specs.declared.program.Param.{Param}
 use Rattle.revs_terms.specs.Trees.{Tree}
 use Rattle.revs_terms.specs.Running.{Refusal, not_bit, not_register, not_function, no_index, no_slice, no_rotation, too_long, gone, no_output, too_deep, too_much_work, too_many_writes, too_many_claims, too_many_outputs, Stamped, State, Outcome, stuck, went}
-use Rattle.revs_terms.specs.Runs.{run_without_bits, tape_of}
+use Rattle.revs_terms.specs.Runs.{run_without_bits, tape_of, IsInput, IsStuck}
 use Rattle.inliner.specs.declared.fault.RunFault.{RunFault}
 use Rattle.inliner.specs.declared.fault.RunFault.TheVariants as faults
 
@@ -34,6 +34,14 @@ IsStuckAs (Some cause) outcome = outcome ≡ stuck cause.0 cause.1
 -- The run is stuck as the fault says; want of memory says nothing of the run.
 pub record Says {A : Type 0} (fault : RunFault) (outcome : Outcome (Unit {0}) A) : Type 0 where
   pub cause : IsStuckAs (cause_of fault) outcome
+
+abbrev pub IsStuckOnAll : List Param → Tree → Option (Refusal × Place) → Type 0
+IsStuckOnAll params body None = Unit {0}
+IsStuckOnAll params body (Some cause) = (input : List Bool) → IsInput params input → IsStuck params body input cause.0 cause.1
+
+-- The run of a program is stuck as the fault says, on every input; want of memory says nothing of the run.
+pub record IsRefused (params : List Param) (body : Tree) (fault : RunFault) : Type 0 where
+  pub stuck : IsStuckOnAll params body (cause_of fault)
 
 -- The run of a program without bits leaves this tape.
 pub record Leaves (params : List Param) (body : Tree) (tape : TapeView) : Type 0 where

@@ -86,12 +86,11 @@ pub record IsMachine (m : Machine) : Type 0 where
 
 -- ---- what a call of the machine does
 
--- Bindings were only added, and the outputs are not set yet.
+-- Bindings were only added.
 pub record Grows (old now : Machine) : Type 0 where
   pub more : List Binding
   pub bindings : now.bindings.items ≡ old.bindings.items ++ more
   pub params : now.tape.params ≡ old.tape.params
-  pub outputs : now.tape.outputs ≡ old.tape.outputs
 
 -- The run goes on with this answer.
 pub record Does {A : Type 0} (old now : Machine) (outcome : Outcome (Unit {0}) A) (answer : A) : Type 0 where

@@ -41,7 +41,6 @@ pub record IsStart (params : List Param) (m : Machine) : Type 0 where
   pub state : state_of m ≡ start (nothings (sum (widths_of params)))
   pub env : env_in (envs_of m) (length m.bindings.items) ≡ params_in 0 params nothing
   pub widths : m.tape.params ≡ widths_of params
-  pub outputs : m.tape.outputs ≡ []
 
 -- a bit that says nothing, with what made it
 abbrev pub stamped : Ref → Stamped (Unit {0})

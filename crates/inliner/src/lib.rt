@@ -12,3 +12,6 @@ mod terms;
 
 pub use fault::RunFault;
 pub use program::unroll;
+
+#[cfg(test)]
+mod tests;

@@ -1,11 +1,11 @@
 // The run of a program.
-ghost use Rattle.std.specs.Prelude.{◌≡◌, ◌≤◌, [], length, sum, IfOk, IfErr};
+ghost use Rattle.std.specs.Prelude.{◌≡◌, ◌≤◌, length, sum, IfOk, IfErr};
 ghost use Rattle.std.specs.List.{AllByRecursion};
 ghost use Rattle.revc_base.specs.Tapes.{IsKnown};
-ghost use Rattle.revs_terms.specs.Runs.{no_bits, read_all, run_without_bits};
+ghost use Rattle.revs_terms.specs.Runs.{no_bits, read_all, run_without_bits, IsTapeOf};
 ghost use Rattle.revs_terms.specs.Terms.{place_of};
 ghost use Rattle.revs_terms.specs.Trees.{tree_of};
-ghost use Rattle.inliner.specs.Faults.{Says, Leaves};
+ghost use Rattle.inliner.specs.Faults.{Says, Leaves, IsRefused};
 ghost use Rattle.inliner.specs.Machines.{IsMachine, envs_of, state_of, value_in};
 ghost use Rattle.inliner.specs.Starting.{Outputs, Reads, outputs_step};
 
@@ -26,8 +26,17 @@ const MOST_OUTPUTS: usize = 1_024;
 
 /// Runs a program once for all inputs, to the tape that its run leaves on each of them.
 ///
-/// A fault comes exactly where the run is stuck, with that cause and place; want of memory may come anywhere.
+/// A fault comes exactly where the run is stuck, with that cause and place, on every input; want of memory may come
+/// anywhere.
 pub fn unroll(alloc: Global, program: &Program) -> Result<Tape, RunFault>
+    ensures ok { IfOk result (λ tape. IsTapeOf program.now.params.items (tree_of program.now.body) tape) }
+    ensures err { IfErr result (λ fault. IsRefused program.now.params.items (tree_of program.now.body) fault) }
+{
+    run(alloc, program)
+}
+
+// The run without bits.
+fn run(alloc: Global, program: &Program) -> Result<Tape, RunFault>
     ensures ok { IfOk result (λ tape. Leaves program.now.params.items (tree_of program.now.body) tape) }
     ensures err { IfErr result (λ fault. Says fault (run_without_bits program.now.params.items (tree_of program.now.body))) }
 {
@@ -74,7 +83,7 @@ fn read<'t>(machine: &Machine<'t>, locations: &[u32], body: &Term) -> Result<Vec
 fn finished(machine: Machine, outputs: Vec<Ref>) -> Tape
     requires known { AllByRecursion (IsKnown (sum machine.tape.params) (length machine.tape.entries)) outputs.items }
     requires few { length outputs.items ≤ 1024 }
-    requires unset { machine.tape.outputs ≡ [] }
+    requires some { 1 ≤ length outputs.items }
     ensures { result ≡ record machine.entry.tape { outputs = outputs.items } }
 {
     let Machine {
@@ -83,9 +92,6 @@ fn finished(machine: Machine, outputs: Vec<Ref>) -> Tape
         mut tape,
         work: _,
     } = machine;
-    if outputs.is_empty() {
-        return tape;
-    }
     tape.set_outputs(outputs);
     tape
 }
