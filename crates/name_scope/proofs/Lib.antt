@@ -1,0 +1,6 @@
+pub mod Steps
+pub mod Behind
+pub mod Loops
+pub mod Nearer
+pub mod Keeps
+pub mod Table

@@ -1,0 +1,22 @@
+use Rattle.std.proofs.Common.{arith}
+use Rattle.revs_terms.specs.Trees.{tree_of}
+use Rattle.name_scope.proofs.Nearer.{params-length}
+use Rattle.name_scope.proofs.Keeps.{keeps}
+use Rattle.name_scope.proofs.binding.scope.Goals as goal
+
+pub bind_term-requires : goal.bind_term-requires
+bind_term-requires c =
+    let e = rw c.deref.ensures.value at (rw c.new-names.ensures at (c.in_ok-bind_params.ensures {u = tt}).names) in
+    rw e (omega (arith, params-length c.args.program.params.items, c.args.program.few_names))
+
+pub invariant_of-new : goal.invariant_of-new
+invariant_of-new c =
+    let k = keeps c.bind_params.new.names (tree_of c.args.program.body) _ (c.in_ok-bind_term.ensures {u = tt}).term in
+    record { inputs = c.args.program.inputs; formed = record { formed = rw k.formed c.args.program.formed.formed; nesting = rw k.levels c.args.program.formed.nesting }; few_names = rw k.names c.args.program.few_names }
+
+pub new-requires : goal.new-requires
+new-requires c =
+    let e = rw c.deref.ensures.value at (rw c.new-names.ensures at (c.in_ok-bind_params.ensures {u = tt}).names) in
+    let k = keeps c.bind_params.new.names (tree_of c.args.program.body) _ (c.in_ok-bind_term.ensures {u = tt}).term in
+    let b = rw e at k.bound in
+    rw (params-length c.args.program.params.items) at b

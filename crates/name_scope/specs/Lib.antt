@@ -1,0 +1,4 @@
+pub mod Faults
+pub mod Bound
+pub mod Answers
+pub mod Bindings

@@ -1,0 +1,114 @@
+// The names in scope.
+ghost use Rattle.std.specs.Prelude.{◌≡◌, ◌≤◌, ◌∷◌, ◌-◌, List, [], drop, length, position, bytes_eq, OnOk};
+ghost use Rattle.indexmap.specs.IndexMap.{get};
+ghost use Rattle.revs_terms.specs.Scopes.{nearer};
+ghost use Rattle.name_scope.specs.Bindings.{held};
+
+use crate::binding_of::Bound;
+use indexmap::IndexMap;
+use revc_base::{Memory, Text};
+use revs_terms::Name;
+use std::alloc::Global;
+use std::marker::Model;
+
+/// The names in scope, with their nesting. Contracts see them as a list, the nearest first.
+///
+/// A table holds the depth at which each name was bound nearest, so that a look-up takes the same time at any depth.
+#[derive(Drop)]
+pub struct Names {
+    bound: Vec<Bound>,
+    nearest: IndexMap<Text, Option<usize>>,
+}
+
+impl Model for Names {
+    ghost use Rattle.std.specs.Prelude.{◌≡◌, ℕ, List, map, reverse, bytes_eq};
+    ghost use Rattle.indexmap.specs.IndexMap.{get};
+    ghost use Rattle.name_scope.specs.Bindings.{depth_of, held, Hide};
+
+    ghost Value = { List (List ℕ) };
+
+    ghost view = { λ names. map (λ b. b.name) (reverse names.bound.items) };
+
+    ghost invariant = { λ names. Hide (reverse names.bound.items)
+        × ((name : List ℕ) → held (get bytes_eq names.nearest name) ≡ depth_of name (reverse names.bound.items)) };
+}
+
+/// The depth of the nearest binding of a name.
+fn nearest_depth(nearest: &IndexMap<Text, Option<usize>>, name: &Text) -> Option<usize>
+    ensures { result ≡ held (get bytes_eq nearest.now name.now) }
+{
+    *nearest.get(name)?
+}
+
+impl Names {
+    /// No names.
+    pub fn new(alloc: Global) -> Names
+        ensures { result ≡ [] }
+    {
+        Names {
+            bound: Vec::new(alloc),
+            nearest: IndexMap::new(alloc),
+        }
+    }
+
+    /// How many names are in scope.
+    pub fn depth(&self) -> usize
+        ensures { result ≡ length self.now }
+    {
+        self.bound.len()
+    }
+
+    /// The number of names that were bound after the nearest one of this name. It takes no memory.
+    pub fn back(&self, name: &Text) -> Option<usize>
+        ensures { result ≡ position (bytes_eq name.now) self.now }
+    {
+        let depth = nearest_depth(&self.nearest, name)?;
+        Some(self.bound.len() - 1 - depth)
+    }
+
+    /// A name is bound, nearer than all others.
+    pub fn bind(&mut self, name: &Text) -> Result<(), Memory>
+        ensures { OnOk result (self.new ≡ name.now ∷ self.old) }
+    {
+        let depth = self.bound.len();
+        let hidden = nearest_depth(&self.nearest, name);
+        let key = name.copy()?;
+        let name = name.copy()?;
+        self.bound.push(Bound { name, hidden })?;
+        if self.nearest.insert(key, Some(depth)).is_err() {
+            let _ = self.bound.pop();
+            return Err(Memory);
+        }
+        Ok(())
+    }
+
+    /// Names are bound, each nearer than those before it.
+    pub fn bind_all(&mut self, names: &[Name]) -> Result<(), Memory>
+        ensures { OnOk result (self.new ≡ nearer names.now self.old) }
+    {
+        for name in names {
+            self.bind(&name.text)?;
+        }
+        Ok(())
+    }
+
+    /// The nearest name goes out of scope.
+    fn unbind(&mut self)
+        ensures { self.new ≡ drop 1 self.old }
+    {
+        if let Some(Bound { name, hidden }) = self.bound.pop() {
+            // The name is there, so this takes no memory.
+            let _ = self.nearest.insert(name, hidden);
+        }
+    }
+
+    /// All but the `depth` farthest names go out of scope.
+    pub fn leave(&mut self, depth: usize)
+        requires { depth ≤ length self.old }
+        ensures { self.new ≡ drop (length self.old - depth) self.old }
+    {
+        for _ in depth..self.bound.len() {
+            self.unbind();
+        }
+    }
+}

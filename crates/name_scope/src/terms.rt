@@ -1,0 +1,104 @@
+// The names of terms are bound.
+ghost use Rattle.std.specs.Prelude.{◌≡◌, ◌<◌, ◌+◌, ◌^◌, length, map, OnOk};
+ghost use Rattle.revs_terms.specs.Scopes.{scoped_tree, scoped_trees, scoped_items};
+ghost use Rattle.revs_terms.specs.Terms.{names_of, names_of_all, names_of_item, names_of_items};
+ghost use Rattle.revs_terms.specs.Trees.{tree_of, trees, item_tree_of, item_trees, no_items};
+ghost use Rattle.revs_terms.specs.Trees as shape;
+ghost use Rattle.name_scope.specs.Faults.{Binds};
+
+use crate::ScopeFault;
+use crate::name::bind_name;
+use crate::names::Names;
+use revs_terms::{Item, Term};
+
+/// Binds the names of a term among those in scope.
+#[cycle(bind)]
+#[tactic(auto, using(revs_terms::proofs::Shapes::shapes))]
+pub fn bind_term(names: &mut Names, term: &mut Term) -> Result<(), ScopeFault>
+    requires { length names.old + names_of (tree_of term.old) < 2 ^ 32 }
+    ensures term { Binds result (scoped_tree names.old (tree_of term.old)) (tree_of term.new) }
+    ensures names { OnOk result (names.new ≡ names.old) }
+{
+    match term {
+        Term::Name(name) => bind_name(names, name),
+        Term::Bool(_, _) => Ok(()),
+        Term::Reg(elements, _) => bind_terms(names, elements),
+        Term::Block(items, last, _) => {
+            let depth = names.depth();
+            bind_items(names, items)?;
+            bind_term(names, last)?;
+            names.leave(depth);
+            Ok(())
+        }
+        Term::Fun(function, _) => {
+            let depth = names.depth();
+            names.bind_all(&function.names)?;
+            bind_term(names, &mut function.body)?;
+            names.leave(depth);
+            Ok(())
+        }
+        Term::At(inner, _) => bind_term(names, inner),
+        Term::Apply(head, arguments) => {
+            bind_term(names, head)?;
+            bind_terms(names, arguments)
+        }
+        Term::Append(first, second, _) => {
+            bind_term(names, first)?;
+            bind_term(names, second)
+        }
+        Term::Rotate(_, operand, _) => bind_term(names, operand),
+        Term::Clean(operand, _) => bind_term(names, operand),
+        Term::Assert(operand, _) => bind_term(names, operand),
+        Term::And(operands) => bind_terms(names, operands),
+        Term::Xor(operands) => bind_terms(names, operands),
+        Term::Assign(left, right) => {
+            bind_term(names, left)?;
+            bind_term(names, right)
+        }
+    }
+}
+
+/// Binds the names of terms among those in scope.
+#[cycle(bind)]
+fn bind_terms(names: &mut Names, terms: &mut [Term]) -> Result<(), ScopeFault>
+    requires { length names.old + names_of_all (trees (map tree_of terms.old)) < 2 ^ 32 }
+    ensures terms { Binds result (scoped_trees names.old (trees (map tree_of terms.old))) (trees (map tree_of terms.new)) }
+    ensures names { OnOk result (names.new ≡ names.old) }
+{
+    for i in 0..terms.len() {
+        bind_term(names, &mut terms[i])?;
+    }
+    Ok(())
+}
+
+/// Binds the names of a block's items, one after another. The names that they bind stay in scope.
+#[cycle(bind)]
+fn bind_items(names: &mut Names, items: &mut [Item]) -> Result<(), ScopeFault>
+    requires { length names.old + names_of_items (item_trees (map item_tree_of items.old)) < 2 ^ 32 }
+    ensures { Binds result
+        (scoped_items names.old (item_trees (map item_tree_of items.old)))
+        (item_trees (map item_tree_of items.new), names.new) }
+{
+    for i in 0..items.len() {
+        bind_item(names, &mut items[i])?;
+    }
+    Ok(())
+}
+
+/// Binds the names of an item. The name that it binds stays in scope.
+#[cycle(bind)]
+fn bind_item(names: &mut Names, item: &mut Item) -> Result<(), ScopeFault>
+    requires { length names.old + names_of_item (item_tree_of item.old) < 2 ^ 32 }
+    ensures { Binds result
+        (scoped_items names.old (shape.item (item_tree_of item.old) no_items))
+        (shape.item (item_tree_of item.new) no_items, names.new) }
+{
+    match item {
+        Item::Let { name, value } => {
+            bind_term(names, value)?;
+            names.bind(&name.text)?;
+            Ok(())
+        }
+        Item::Do(term) => bind_term(names, term),
+    }
+}
