@@ -13,3 +13,6 @@ mod terms;
 pub use binding::scope;
 pub use fault::ScopeFault;
 pub use program::Scoped;
+
+#[cfg(test)]
+mod tests;
