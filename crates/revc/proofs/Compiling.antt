@@ -39,6 +39,6 @@ pub compiled_file : (text : List ℕ) (laid : LaidView) (p : ProgramView) → Is
 compiled_file text laid p small clean means = record {
   program = p;
   small = small;
-  only = λ q is. one_program text q p is small.program;
+  only = λ q is. one_program text q p is small.formed.program;
   clean = clean_file laid p clean means;
 }

@@ -3,5 +3,7 @@ pub mod PlanSteps
 pub mod UnrollSteps
 pub mod Names
 pub mod Outcomes
+pub mod Evaluating
+pub mod TextFaults
 pub mod Compiling
 pub mod Statuses

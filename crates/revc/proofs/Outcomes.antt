@@ -1,5 +1,6 @@
 -- Each text has one refusal at most, and none where its program is small.
-use Rattle.std.proofs.Common.{◌≡◌, ℕ, ◌<◌, ◌≤◌, List, length, refl, sym, ap, ◌∙◌, subst, arith}
+use Rattle.std.proofs.Common.{◌≡◌, ℕ, Bool, false, ◌<◌, ◌≤◌, List, length, map, sum, replicate, refl, sym, ap, ◌∙◌, subst, arith}
+use Rattle.std.proofs.lemmas.List.{length-replicate}
 use Rattle.revs_lexer.specs.declared.token.LexFault.{LexFault}
 use Rattle.revs_lexer.specs.declared.token.LexFault.TheVariants as lexer
 use Rattle.revs_lexer.specs.declared.token.Token.{Token}
@@ -15,11 +16,21 @@ use Rattle.revc.specs.declared.fault.Kind.TheVariants as kinds
 use Rattle.revc.specs.declared.fault.Refusal.{Refusal}
 use Rattle.revc.specs.declared.fault.Refusal.TheVariants as refusals
 use Rattle.revc.specs.Program.{ProgramView, IsSmall}
-use Rattle.revc.specs.Clean.{IsProgramText, IsSmallText}
-use Rattle.revc.specs.Refusals.{OfTokens, IsRefusal}
+use Rattle.revs_terms.specs.Programs.{widths_of}
+use Rattle.revs_terms.specs.Running.{Refusal as Why, Stamped, Outcome, stuck, went, not_bit, not_register, not_function, no_index, no_slice, no_rotation, too_long, gone, no_output, too_deep, too_much_work, too_many_writes, too_many_claims, too_many_outputs}
+use Rattle.revs_terms.specs.Runs.{IsInput, IsStuck, IsTapeOf, LeavesOn, run_of_program}
+use Rattle.revs_terms.specs.Scopes.{ScopeVerdict, scope_verdict, bound_as, two_params, unbound_name}
+use Rattle.revc_base.specs.declared.place.Place.{Place}
+use Rattle.revc_base.specs.Tapes.{TapeView}
+use Rattle.revc_base.specs.declared.tape.Ref.{Ref}
+use Rattle.revc_base.specs.declared.tape.Entry.{Entry}
+use Rattle.revc_base.specs.declared.tape.Claim.{Claim}
+use Rattle.revc.specs.declared.fault.Kind.{Kind}
+use Rattle.revc.specs.Clean.{IsProgramText, HasTape, IsWellFormed, IsSmallText}
+use Rattle.revc.specs.Refusals.{OfTokens, IsStuckFor, IsRefusal}
 use Rattle.revc.specs.declared.fault.Fault.{Fault}
 use Rattle.revc.specs.declared.fault.Fault.TheVariants as faults
-use Rattle.revc.specs.Compiled.{IsCompileFault}
+use Rattle.revc.specs.Compiled.{IsCompileFault, IsTextFault}
 use Rattle.revc.specs.Top.{IsOnlyRefusal, RefusesWell}
 
 -- ---- a text's program
@@ -34,30 +45,116 @@ one_program text p q a b =
         → (let view : ProgramView = record { params = params; body = body } in view) ≡ (let view : ProgramView = record { params = others; body = other } in view)
     same_views params others body other e f = cc
 
+-- ---- how a program ends: its run is looked at on the input of zeros
+
+data ProgramEnd : Type 0 where
+  two_names : Place → ProgramEnd
+  no_binding : Place → ProgramEnd
+  stuck_at : Why → Place → ProgramEnd
+  leaves : TapeView → ProgramEnd
+
+end_of_run : List Param → Outcome Bool (List (Stamped Bool)) → ProgramEnd
+end_of_run params (stuck why at) = stuck_at why at
+end_of_run params (went outputs s) =
+    leaves (record { params = widths_of params; entries = s.log; claims = map (λ m. m.claim) s.claims; outputs = map (λ o. o.stamp) outputs })
+
+zeros : List Param → List Bool
+zeros params = replicate (sum (widths_of params)) false
+
+zeros_are_input : (params : List Param) → IsInput params (zeros params)
+unfolding zeros
+zeros_are_input params = length-replicate (sum (widths_of params)) false
+
+end_in : List Param → ScopeVerdict → ProgramEnd
+end_in params (two_params at) = two_names at
+end_in params (unbound_name at) = no_binding at
+end_in params (bound_as tree) = end_of_run params (run_of_program params tree (zeros params))
+
+end_of : ProgramView → ProgramEnd
+end_of p = end_in p.params (scope_verdict p.params p.body)
+
+ends_two : (p : ProgramView) (at : Place) → scope_verdict p.params p.body ≡ two_params at → end_of p ≡ two_names at
+unfolding end_of end_in
+ends_two p at e = ap (end_in p.params) e
+
+ends_unbound : (p : ProgramView) (at : Place) → scope_verdict p.params p.body ≡ unbound_name at → end_of p ≡ no_binding at
+unfolding end_of end_in
+ends_unbound p at e = ap (end_in p.params) e
+
+ends_stuck : (p : ProgramView) (why : Why) (at : Place) → IsStuckFor why at p → end_of p ≡ stuck_at why at
+unfolding end_of end_in end_of_run
+ends_stuck p why at h = ap (end_in p.params) h.1 ∙ ap (end_of_run p.params) (h.2 (zeros p.params) (zeros_are_input p.params))
+
+ends_left : (p : ProgramView) (tape : TapeView) → HasTape p tape → end_of p ≡ leaves tape
+unfolding end_of end_in end_of_run
+ends_left p tape h =
+    let l = h.run.left (zeros p.params) (zeros_are_input p.params) in
+    ap (end_in p.params) h.bound ∙ ap (end_of_run p.params) l.ends ∙ ap (λ (t : TapeView). leaves t) (same_tape (widths_of p.params) _ _ _ tape (sym h.run.widths) l.entries l.claims l.stamps)
+  where
+    same_tape : (params : List ℕ) (entries : List Entry) (claims : List Claim) (outputs : List Ref) (tape : TapeView) → params ≡ tape.params → entries ≡ tape.entries → claims ≡ tape.claims → outputs ≡ tape.outputs
+        → (let t : TapeView = record { params = params; entries = entries; claims = claims; outputs = outputs } in t) ≡ tape
+    same_tape params entries claims outputs tape a b c d =
+        ap (λ x. let t : TapeView = record { params = x; entries = entries; claims = claims; outputs = outputs } in t) a
+        ∙ ap (λ x. let t : TapeView = record { params = tape.params; entries = x; claims = claims; outputs = outputs } in t) b
+        ∙ ap (λ x. let t : TapeView = record { params = tape.params; entries = tape.entries; claims = x; outputs = outputs } in t) c
+        ∙ ap (λ x. let t : TapeView = record { params = tape.params; entries = tape.entries; claims = tape.claims; outputs = x } in t) d
+
 -- ---- what a text is found to be
 
 data Found : Type 0 where
   long : Found
   lexed : LexFault → Found
   judged : Verdict → Found
+  ended : ProgramEnd → Found
 
 abbrev IsFound : List ℕ → Found → Type 0
 IsFound text long = 1048576 < length text
 IsFound text (lexed fault) = (length text ≤ 1048576) × IsRefused text fault
-IsFound text (judged verdict) = (length text ≤ 1048576) × OfTokens text (λ tokens. IsVerdict tokens verdict)
+IsFound text (judged verdict) = (length text ≤ 1048576) × (verdict ≡ within_limits → ⊥) × OfTokens text (λ tokens. IsVerdict tokens verdict)
+IsFound text (ended end) = (p : ProgramView) × IsProgramText text p × (end_of p ≡ end)
+
+not_judged : (text : List ℕ) (verdict : Verdict) (p : ProgramView) → OfTokens text (λ tokens. IsVerdict tokens verdict) → IsProgramText text p → verdict ≡ within_limits
+not_judged text verdict p h is =
+    let same : h.0 ≡ is.tokens = IsTokens-same text h.0 is.tokens h.1 is.cut in
+    one_verdict (closed text is.tokens) verdict within_limits (subst (λ (ts : List Token). IsVerdict (closed text ts) verdict) same h.2) (record { params = p.params; body = p.body; program = is.sentence })
 
 one_found : (text : List ℕ) (f g : Found) → IsFound text f → IsFound text g → f ≡ g
 one_found text long long a b = refl
 one_found text long (lexed fault) a b = absurd (omega arith)
 one_found text long (judged verdict) a b = absurd (omega arith)
+one_found text long (ended end) a b = let short = b.1.short in absurd (omega arith)
 one_found text (lexed fault) long a b = absurd (omega arith)
 one_found text (lexed fault) (lexed other) a b = ap (λ (f : LexFault). lexed f) (IsRefused-same text fault other a.1 b.1)
-one_found text (lexed fault) (judged verdict) a b = absurd (refused_has_no_tokens text fault b.1.0 a.1 b.1.1)
+one_found text (lexed fault) (judged verdict) a b = absurd (refused_has_no_tokens text fault b.2.0 a.1 b.2.1)
+one_found text (lexed fault) (ended end) a b = absurd (refused_has_no_tokens text fault b.1.tokens a.1 b.1.cut)
 one_found text (judged verdict) long a b = absurd (omega arith)
-one_found text (judged verdict) (lexed fault) a b = absurd (refused_has_no_tokens text fault a.1.0 b.1 a.1.1)
+one_found text (judged verdict) (lexed fault) a b = absurd (refused_has_no_tokens text fault a.2.0 b.1 a.2.1)
 one_found text (judged verdict) (judged other) a b =
-    let same : a.1.0 ≡ b.1.0 = IsTokens-same text a.1.0 b.1.0 a.1.1 b.1.1 in
-    ap (λ (v : Verdict). judged v) (one_verdict (closed text b.1.0) verdict other (subst (λ (ts : List Token). IsVerdict (closed text ts) verdict) same a.1.2) b.1.2)
+    let v = a.2 in
+    let w = b.2 in
+    let same : v.0 ≡ w.0 = IsTokens-same text v.0 w.0 v.1 w.1 in
+    ap (λ (v : Verdict). judged v) (one_verdict (closed text w.0) verdict other (subst (λ (ts : List Token). IsVerdict (closed text ts) verdict) same v.2) w.2)
+one_found text (judged verdict) (ended end) a b = absurd (a.1 (not_judged text verdict b.0 a.2 b.1))
+one_found text (ended end) long a b = let short = a.1.short in absurd (omega arith)
+one_found text (ended end) (lexed fault) a b = absurd (refused_has_no_tokens text fault a.1.tokens b.1 a.1.cut)
+one_found text (ended end) (judged verdict) a b = absurd (b.1 (not_judged text verdict a.0 b.2 a.1))
+one_found text (ended end) (ended other) a b = ap (λ (e : ProgramEnd). ended e) (sym a.2 ∙ ap end_of (one_program text a.0 b.0 a.1 b.1) ∙ b.2)
+
+kind_of : Why → Kind
+kind_of not_bit = kinds.NotBit
+kind_of not_register = kinds.NotRegister
+kind_of not_function = kinds.NotFunction
+kind_of no_index = kinds.Index
+kind_of no_slice = kinds.Slice
+kind_of no_rotation = kinds.Rotate
+kind_of too_long = kinds.Length
+kind_of gone = kinds.Gone
+kind_of no_output = kinds.NoOutput
+kind_of too_deep = kinds.Depth
+kind_of too_much_work = kinds.Work
+kind_of too_many_writes = kinds.Writes
+kind_of too_many_claims = kinds.Claims
+kind_of too_many_outputs = kinds.Outputs
 
 -- the refusal of what was found
 refusal_of : Found → Refusal
@@ -66,50 +163,90 @@ refusal_of (lexed (lexer.BadByte at)) = refusals.At kinds.BadByte at
 refusal_of (lexed (lexer.LongName at)) = refusals.At kinds.LongName at
 refusal_of (lexed (lexer.LongNumber at)) = refusals.At kinds.LongNumber at
 refusal_of (lexed lexer.Memory) = refusals.TooLong
-refusal_of (judged within_limits) = refusals.Program
+refusal_of (judged within_limits) = refusals.TooLong
 refusal_of (judged (syntax number at)) = refusals.At kinds.Syntax at
 refusal_of (judged (nesting at)) = refusals.At kinds.Nesting at
 refusal_of (judged (inputs at)) = refusals.At kinds.Inputs at
+refusal_of (ended (two_names at)) = refusals.At kinds.TwoParams at
+refusal_of (ended (no_binding at)) = refusals.At kinds.Unbound at
+refusal_of (ended (stuck_at why at)) = refusals.At (kind_of why) at
+refusal_of (ended (leaves tape)) = refusals.Program
 
 record IsFoundFor (text : List ℕ) (refusal : Refusal) : Type 0 where
   found : Found
   is : IsFound text found
   same : refusal_of found ≡ refusal
 
-program_found : (text : List ℕ) (p : ProgramView) → IsProgramText text p → IsFound text (judged within_limits)
-program_found text p is = (is.short, (is.tokens, is.cut, record { params = p.params; body = p.body; program = is.sentence }))
+no_syntax : (number : ℕ) (at : Place) → syntax number at ≡ within_limits → ⊥
+no_syntax number at e = absurd cc
+
+no_nesting : (at : Place) → nesting at ≡ within_limits → ⊥
+no_nesting at e = absurd cc
+
+no_inputs : (at : Place) → inputs at ≡ within_limits → ⊥
+no_inputs at e = absurd cc
+
+stuck_found : (text : List ℕ) (why : Why) (at : Place) (h : (p : ProgramView) × IsProgramText text p × IsStuckFor why at p) → IsFoundFor text (refusals.At (kind_of why) at)
+unfolding refusal_of
+stuck_found text why at h = record { found = ended (stuck_at why at); is = (h.0, h.1, ends_stuck h.0 why at h.2); same = refl }
 
 found_for : (text : List ℕ) (refusal : Refusal) → IsRefusal text refusal → IsFoundFor text refusal
-unfolding refusal_of
+unfolding refusal_of kind_of
 found_for text refusals.TooLong h = record { found = long; is = h; same = refl }
 found_for text (refusals.At kinds.BadByte at) h = record { found = lexed (lexer.BadByte at); is = h; same = refl }
 found_for text (refusals.At kinds.LongName at) h = record { found = lexed (lexer.LongName at); is = h; same = refl }
 found_for text (refusals.At kinds.LongNumber at) h = record { found = lexed (lexer.LongNumber at); is = h; same = refl }
-found_for text (refusals.At kinds.Syntax at) h = record { found = judged (syntax h.1.2.0 at); is = (h.0, (h.1.0, h.1.1, h.1.2.1)); same = refl }
-found_for text (refusals.At kinds.Nesting at) h = record { found = judged (nesting at); is = h; same = refl }
-found_for text (refusals.At kinds.Inputs at) h = record { found = judged (inputs at); is = h; same = refl }
-found_for text refusals.Program h = record { found = judged within_limits; is = program_found text h.0 h.1; same = refl }
+found_for text (refusals.At kinds.Syntax at) h = record { found = judged (syntax h.1.2.0 at); is = (h.0, no_syntax h.1.2.0 at, (h.1.0, h.1.1, h.1.2.1)); same = refl }
+found_for text (refusals.At kinds.Nesting at) h = record { found = judged (nesting at); is = (h.0, no_nesting at, h.1); same = refl }
+found_for text (refusals.At kinds.Inputs at) h = record { found = judged (inputs at); is = (h.0, no_inputs at, h.1); same = refl }
+found_for text (refusals.At kinds.TwoParams at) h = record { found = ended (two_names at); is = (h.1.0, h.1.1, ends_two h.1.0 at h.1.2); same = refl }
+found_for text (refusals.At kinds.Unbound at) h = record { found = ended (no_binding at); is = (h.1.0, h.1.1, ends_unbound h.1.0 at h.1.2); same = refl }
+found_for text (refusals.At kinds.NotBit at) h = stuck_found text not_bit at h.1
+found_for text (refusals.At kinds.NotRegister at) h = stuck_found text not_register at h.1
+found_for text (refusals.At kinds.NotFunction at) h = stuck_found text not_function at h.1
+found_for text (refusals.At kinds.Index at) h = stuck_found text no_index at h.1
+found_for text (refusals.At kinds.Slice at) h = stuck_found text no_slice at h.1
+found_for text (refusals.At kinds.Rotate at) h = stuck_found text no_rotation at h.1
+found_for text (refusals.At kinds.Length at) h = stuck_found text too_long at h.1
+found_for text (refusals.At kinds.Gone at) h = stuck_found text gone at h.1
+found_for text (refusals.At kinds.NoOutput at) h = stuck_found text no_output at h.1
+found_for text (refusals.At kinds.Depth at) h = stuck_found text too_deep at h.1
+found_for text (refusals.At kinds.Work at) h = stuck_found text too_much_work at h.1
+found_for text (refusals.At kinds.Writes at) h = stuck_found text too_many_writes at h.1
+found_for text (refusals.At kinds.Claims at) h = stuck_found text too_many_claims at h.1
+found_for text (refusals.At kinds.Outputs at) h = stuck_found text too_many_outputs at h.1
+found_for text refusals.Program h = record { found = ended (leaves h.1); is = (h.0, h.2.program, ends_left h.0 h.1 h.2.run); same = refl }
 
-one_refusal : (text : List ℕ) (refusal other : Refusal) → IsRefusal text refusal → IsRefusal text other → refusal ≡ other
+pub one_refusal : (text : List ℕ) (refusal other : Refusal) → IsRefusal text refusal → IsRefusal text other → refusal ≡ other
 one_refusal text refusal other a b =
     let f = found_for text refusal a in
     let g = found_for text other b in
     sym f.same ∙ ap refusal_of (one_found text f.found g.found f.is g.is) ∙ g.same
 
--- a text with a program has no refusal but that its program is not small
-program_refusal : (text : List ℕ) (p : ProgramView) (refusal : Refusal) → IsProgramText text p → IsRefusal text refusal → refusal ≡ refusals.Program
+formed_found : (text : List ℕ) (p : ProgramView) (tape : TapeView) → IsWellFormed text p tape → IsFound text (ended (leaves tape))
+formed_found text p tape w = (p, w.program, ends_left p tape w.run)
+
+-- a well-formed text has no refusal but that its program is not small
+pub formed_refusal : (text : List ℕ) (p : ProgramView) (tape : TapeView) (refusal : Refusal) → IsWellFormed text p tape → IsRefusal text refusal → refusal ≡ refusals.Program
 unfolding refusal_of
-program_refusal text p refusal is h =
+formed_refusal text p tape refusal w h =
     let f = found_for text refusal h in
-    sym f.same ∙ ap refusal_of (one_found text f.found (judged within_limits) f.is (program_found text p is))
+    sym f.same ∙ ap refusal_of (one_found text f.found (ended (leaves tape)) f.is (formed_found text p tape w))
+
+-- a well-formed text has one tape
+pub one_tape : (text : List ℕ) (p q : ProgramView) (tape other : TapeView) → IsWellFormed text p tape → IsWellFormed text q other → tape ≡ other
+one_tape text p q tape other v w = same tape other (one_found text (ended (leaves tape)) (ended (leaves other)) (formed_found text p tape v) (formed_found text q other w))
+  where
+    same : (tape other : TapeView) → ended (leaves tape) ≡ ended (leaves other) → tape ≡ other
+    same tape other e = cc
 
 pub never_small : (text : List ℕ) (p : ProgramView) (refusal : Refusal) → IsRefusal text refusal → IsSmallText text p → ⊥
-never_small text p refusals.TooLong h small = let short = small.program.short in omega arith
-never_small text p (refusals.At kind at) h small = apart (program_refusal text p (refusals.At kind at) small.program h)
+never_small text p refusals.TooLong h small = let short = small.formed.program.short in omega arith
+never_small text p (refusals.At kind at) h small = apart (formed_refusal text p small.tape (refusals.At kind at) small.formed h)
   where
     apart : refusals.At kind at ≡ refusals.Program → ⊥
     apart e = absurd cc
-never_small text p refusals.Program h small = h.2 (subst IsSmall (one_program text p h.0 small.program h.1) small.small)
+never_small text p refusals.Program h small = h.3 (subst IsSmall (one_program text p h.0 small.formed.program h.2.program) small.small)
 
 pub only_refusal : (text : List ℕ) (refusal : Refusal) → IsRefusal text refusal → IsOnlyRefusal text refusal
 only_refusal text refusal h = record {
@@ -125,6 +262,20 @@ refuses_well text faults.Memory h = tt
 refuses_well text faults.Usage h = absurd h
 refuses_well text faults.Read h = absurd h
 refuses_well text faults.Write h = absurd h
+refuses_well text (faults.Claim number at) h = absurd h
+refuses_well text faults.BadBits h = absurd h
+
+-- a text's fault is one of the compiler
+pub text_fault : (text : List ℕ) (fault : Fault) → IsTextFault text fault → IsCompileFault text fault
+text_fault text (faults.Refused (refusals.At kind at)) h = h
+text_fault text (faults.Refused refusals.TooLong) h = absurd h
+text_fault text (faults.Refused refusals.Program) h = absurd h
+text_fault text faults.Memory h = tt
+text_fault text faults.Usage h = absurd h
+text_fault text faults.Read h = absurd h
+text_fault text faults.Write h = absurd h
+text_fault text (faults.Claim number at) h = absurd h
+text_fault text faults.BadBits h = absurd h
 
 -- what holds of the lexer's tokens
 pub of_tokens : (text : List ℕ) (all : List Token) (P : List Token → Type 0) → (tokens : List Token) × IsTokens text tokens × (all ≡ closed text tokens) → P all → OfTokens text P

@@ -6,6 +6,10 @@ use Rattle.real_format.specs.Compiled.{HasRoles}
 use Rattle.revs_lexer.specs.declared.token.Token.{Token}
 use Rattle.revs_lexer.specs.Tokens.{IsTokens, closed}
 use Rattle.revs_grammar.specs.Answers.{IsProgramOf}
+use Rattle.revs_terms.specs.Runs.{IsTapeOf}
+use Rattle.revs_terms.specs.Scopes.{scope_verdict, bound_as}
+use Rattle.revs_terms.specs.Trees.{Tree}
+use Rattle.revc_base.specs.Tapes.{TapeView}
 use Rattle.revc.specs.Program.{ProgramView, IsSmall, output_of}
 
 -- the text is that of this program: at most 1,048,576 bytes, whose tokens are the program's sentence within limits, and `End`
@@ -15,9 +19,21 @@ pub record IsProgramText (text : List ℕ) (p : ProgramView) : Type 0 where
   pub cut : IsTokens text tokens
   pub sentence : IsProgramOf (closed text tokens) p.params p.body
 
--- the text is that of this small program
-pub record IsSmallText (text : List ℕ) (p : ProgramView) : Type 0 where
+-- the names of the program are bound, and its run leaves this tape on every input
+pub record HasTape (p : ProgramView) (tape : TapeView) : Type 0 where
+  pub tree : Tree
+  pub bound : scope_verdict p.params p.body ≡ bound_as tree
+  pub run : IsTapeOf p.params tree tape
+
+-- a well-formed text: that of this program, whose run leaves this tape
+pub record IsWellFormed (text : List ℕ) (p : ProgramView) (tape : TapeView) : Type 0 where
   pub program : IsProgramText text p
+  pub run : HasTape p tape
+
+-- the text is well formed, and that of this small program
+pub record IsSmallText (text : List ℕ) (p : ProgramView) : Type 0 where
+  pub tape : TapeView
+  pub formed : IsWellFormed text p tape
   pub small : IsSmall p
 
 -- the text is that of no small program

@@ -4,5 +4,6 @@ pub mod Unrolling
 pub mod Plan
 pub mod Clean
 pub mod Refusals
+pub mod Evaluation
 pub mod Top
 pub mod Compiled

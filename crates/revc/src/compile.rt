@@ -1,20 +1,17 @@
 // From a program text to a clean circuit.
 ghost use Rattle.std.specs.Prelude.{◌≡◌, ◌+◌, ◌≤◌, length, IfOk, IfErr};
 ghost use Rattle.mct_circuit.specs.Gates.{AreNarrow};
-ghost use Rattle.revc.specs.Program.{ProgramView, view_of};
-ghost use Rattle.revc.specs.Clean.{IsProgramText, IsSmallText};
-ghost use Rattle.revc.specs.Refusals.{IsRefusal};
+ghost use Rattle.revc.specs.Program.{ProgramView};
+ghost use Rattle.revc.specs.Clean.{IsSmallText};
 ghost use Rattle.revc.specs.Compiled.{IsCleanPlan, IsCompileFault};
 
-use crate::fault::{Fault, Kind, Refusal};
+use crate::fault::{Fault, Refusal};
+use crate::front::{read_program, tape_of};
 use crate::plan::plan;
 use crate::unroll::{UnrollFault, unroll};
 use gate_split::{Laid, SplitFault, narrow_stay, split};
 use mct_circuit::Circuit;
-use revc_base::{Memory, Place};
-use revs_lexer::{LexFault, tokens};
-use revs_parser::{ParseFault, parse};
-use revs_terms::Program;
+use revc_base::Memory;
 use std::alloc::Global;
 
 /// The most gates of a circuit.
@@ -28,41 +25,15 @@ pub fn compile(alloc: Global, text: &[u8]) -> Result<Laid, Fault>
     ensures err { IfErr result (IsCompileFault text.now) }
 {
     let program = read_program(alloc, text)?;
-    let (tape, output) = match unroll(alloc, &program) {
+    let small = unroll(alloc, &program);
+    let _ = tape_of(alloc, program)?;
+    let (tape, output) = match small {
         Ok(run) => run,
         Err(UnrollFault::Refused) => return Err(Fault::Refused(Refusal::Program)),
         Err(UnrollFault::Memory) => return Err(Fault::Memory),
     };
     let circuit = plan(alloc, &tape, output)?;
     Ok(lay(alloc, &circuit, tape.inputs(), tape.len())?)
-}
-
-// The program of a text.
-fn read_program(alloc: Global, text: &[u8]) -> Result<Program, Fault>
-    requires { length text.now ≤ 1048576 }
-    ensures ok { IfOk result (λ program. IsProgramText text.now (view_of program)) }
-    ensures err { IfErr result (IsCompileFault text.now) }
-{
-    let tokens = match tokens(alloc, text) {
-        Ok(tokens) => tokens,
-        Err(LexFault::BadByte(at)) => return Err(refused(Kind::BadByte, at)),
-        Err(LexFault::LongName(at)) => return Err(refused(Kind::LongName, at)),
-        Err(LexFault::LongNumber(at)) => return Err(refused(Kind::LongNumber, at)),
-        Err(LexFault::Memory) => return Err(Fault::Memory),
-    };
-    match parse(alloc, &tokens) {
-        Ok(program) => Ok(program),
-        Err(ParseFault::Syntax { at, .. }) => Err(refused(Kind::Syntax, at)),
-        Err(ParseFault::Nesting(at)) => Err(refused(Kind::Nesting, at)),
-        Err(ParseFault::Inputs(at)) => Err(refused(Kind::Inputs, at)),
-        Err(ParseFault::Memory) => Err(Fault::Memory),
-    }
-}
-
-fn refused(kind: Kind, at: Place) -> Fault
-    ensures { result ≡ Fault.Refused (Refusal.At kind at) }
-{
-    Fault::Refused(Refusal::At(kind, at))
 }
 
 // The plan of a circuit of narrow gates, which has one output line. A split leaves such gates as they are.

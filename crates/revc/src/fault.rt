@@ -12,6 +12,11 @@ pub enum Fault {
     Usage,
     #[error("program refused")]
     Refused(Refusal),
+    /// The claim with this number, counted from 1, fails on the given bits. Its term is at the place.
+    #[error("claim fails")]
+    Claim { number: u32, at: Place },
+    #[error("bad bits in word 1")]
+    BadBits,
     #[error("read fault")]
     Read,
     #[error("write fault")]
@@ -25,9 +30,9 @@ pub enum Fault {
 pub enum Refusal {
     /// It has more than 1,048,576 bytes.
     TooLong,
-    /// The lexer or the parser stops at this place.
+    /// It is refused at this place.
     At(Kind, Place),
-    /// Its program is not small.
+    /// It is well formed, and its program is not small.
     Program,
 }
 
@@ -40,6 +45,22 @@ pub enum Kind {
     Syntax,
     Nesting,
     Inputs,
+    Unbound,
+    TwoParams,
+    NotBit,
+    NotRegister,
+    NotFunction,
+    Index,
+    Slice,
+    Rotate,
+    Length,
+    Gone,
+    NoOutput,
+    Depth,
+    Work,
+    Writes,
+    Claims,
+    Outputs,
 }
 
 impl Fault {
@@ -50,9 +71,11 @@ impl Fault {
         match self {
             Fault::Usage => 2,
             Fault::Refused(_) => 3,
+            Fault::Claim { .. } => 4,
             Fault::Read => 9,
             Fault::Write => 10,
             Fault::Memory => 11,
+            Fault::BadBits => 12,
         }
     }
 }
@@ -69,6 +92,22 @@ impl Kind {
             Kind::Syntax => b"Syntax",
             Kind::Nesting => b"Nesting",
             Kind::Inputs => b"Inputs",
+            Kind::Unbound => b"Unbound",
+            Kind::TwoParams => b"TwoParams",
+            Kind::NotBit => b"NotBit",
+            Kind::NotRegister => b"NotRegister",
+            Kind::NotFunction => b"NotFunction",
+            Kind::Index => b"Index",
+            Kind::Slice => b"Slice",
+            Kind::Rotate => b"Rotate",
+            Kind::Length => b"Length",
+            Kind::Gone => b"Gone",
+            Kind::NoOutput => b"NoOutput",
+            Kind::Depth => b"Depth",
+            Kind::Work => b"Work",
+            Kind::Writes => b"Writes",
+            Kind::Claims => b"Claims",
+            Kind::Outputs => b"Outputs",
         }
     }
 }

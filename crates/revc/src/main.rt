@@ -3,7 +3,9 @@
 #![tactic(auto)]
 
 mod compile;
+mod evaluate;
 mod fault;
+mod front;
 mod plan;
 mod report;
 mod tape;

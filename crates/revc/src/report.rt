@@ -1,7 +1,9 @@
 // The lines for standard error. They take no memory.
 ghost use Rattle.std.specs.Prelude.{◌≡◌, ◌++◌, codes};
+ghost use Rattle.std.specs.Fmt.{decimal};
 ghost use Rattle.revc_io.specs.Faults.{HasCause};
 ghost use Rattle.revc_io.specs.Passing.{Gathers, Writes};
+ghost use Rattle.revc.specs.Evaluation.{claim_line};
 ghost use Rattle.revc.specs.Refusals.{kind_text, line_of, place_text};
 ghost use Rattle.revc.specs.Top.{message_of, Receives};
 
@@ -9,29 +11,36 @@ use crate::fault::{Fault, Kind, Refusal};
 use revc_base::Place;
 use revc_io::{Buffer, Failed, Sink, put_decimal};
 
-/// Writes the line of a fault. A fault of the sink changes nothing.
-pub fn report<E: Sink>(err: &mut E, fault: Fault)
-    ensures { Receives (E.held err.old) (E.held err.new) (E.faults err.old) (E.faults err.new) (message_of fault) }
+/// Writes the line of a fault; that of a claim shows the word. A fault of the sink changes nothing.
+pub fn report<E: Sink>(err: &mut E, fault: Fault, word: &str)
+    ensures { Receives (E.held err.old) (E.held err.new) (E.faults err.old) (E.faults err.new) (message_of word.now fault) }
 {
-    let _ = write_line(err, fault);
+    let _ = write_line(err, fault, word);
 }
 
-fn write_line<E: Sink>(err: &mut E, fault: Fault) -> Result<(), Failed>
-    ensures bytes { Writes result (E.held err.old) (E.held err.new) (message_of fault) }
+fn write_line<E: Sink>(err: &mut E, fault: Fault, word: &str) -> Result<(), Failed>
+    ensures bytes { Writes result (E.held err.old) (E.held err.new) (message_of word.now fault) }
     ensures cause { HasCause (E.faults err.old) (E.faults err.new) result }
 {
     let mut buffer = Buffer::new();
-    put_line(&mut buffer, err, fault)?;
+    put_line(&mut buffer, err, fault, word)?;
     buffer.finish(err)
 }
 
-fn put_line<E: Sink>(buffer: &mut Buffer, err: &mut E, fault: Fault) -> Result<(), Failed>
-    ensures bytes { Gathers result (E.held err.old) (E.held err.new) buffer.old buffer.new (message_of fault) }
+fn put_line<E: Sink>(
+    buffer: &mut Buffer,
+    err: &mut E,
+    fault: Fault,
+    word: &str,
+) -> Result<(), Failed>
+    ensures bytes { Gathers result (E.held err.old) (E.held err.new) buffer.old buffer.new (message_of word.now fault) }
     ensures cause { HasCause (E.faults err.old) (E.faults err.new) result }
 {
     match fault {
         Fault::Usage => buffer.put(err, b"revc: bad command line\n"),
         Fault::Refused(refusal) => put_refusal(buffer, err, refusal),
+        Fault::Claim { number, at } => put_claim(buffer, err, number, at, word),
+        Fault::BadBits => buffer.put(err, b"revc: bad bits in word 1\n"),
         Fault::Read => buffer.put(err, b"revc: read fault\n"),
         Fault::Write => buffer.put(err, b"revc: write fault\n"),
         Fault::Memory => buffer.put(err, b"revc: out of memory\n"),
@@ -75,5 +84,45 @@ fn put_kind<E: Sink>(buffer: &mut Buffer, err: &mut E, kind: Kind) -> Result<(),
 {
     buffer.put(err, b" ")?;
     buffer.put(err, kind.text())?;
+    buffer.put(err, b"\n")
+}
+
+fn put_claim<E: Sink>(
+    buffer: &mut Buffer,
+    err: &mut E,
+    number: u32,
+    at: Place,
+    word: &str,
+) -> Result<(), Failed>
+    ensures bytes { Gathers result (E.held err.old) (E.held err.new) buffer.old buffer.new (claim_line number at word.now) }
+    ensures cause { HasCause (E.faults err.old) (E.faults err.new) result }
+{
+    buffer.put(err, b"revc: claim ")?;
+    put_decimal(buffer, err, number as u64)?;
+    put_claim_place(buffer, err, at, word)
+}
+
+fn put_claim_place<E: Sink>(
+    buffer: &mut Buffer,
+    err: &mut E,
+    at: Place,
+    word: &str,
+) -> Result<(), Failed>
+    ensures bytes { Gathers result (E.held err.old) (E.held err.new) buffer.old buffer.new
+        (codes " at " ++ (place_text at ++ (codes " fails on " ++ (word.now ++ codes "\n")))) }
+    ensures cause { HasCause (E.faults err.old) (E.faults err.new) result }
+{
+    buffer.put(err, b" at ")?;
+    put_place(buffer, err, at)?;
+    put_failing(buffer, err, word)
+}
+
+fn put_failing<E: Sink>(buffer: &mut Buffer, err: &mut E, word: &str) -> Result<(), Failed>
+    ensures bytes { Gathers result (E.held err.old) (E.held err.new) buffer.old buffer.new
+        (codes " fails on " ++ (word.now ++ codes "\n")) }
+    ensures cause { HasCause (E.faults err.old) (E.faults err.new) result }
+{
+    buffer.put(err, b" fails on ")?;
+    buffer.put(err, word.as_bytes())?;
     buffer.put(err, b"\n")
 }

@@ -38,6 +38,10 @@ const NO_ORDERS: &[&[&str]] = &[
     &["compile", "x"],
     &["compile", "--lines", "3"],
     &["--help"],
+    &["eval"],
+    &["eval", "-1"],
+    &["eval", "0", "1"],
+    &["run", "01"],
 ];
 
 // A program text in pieces that are repeated, and then the status and the text on standard output or standard error.
@@ -105,11 +109,74 @@ const CASES: &[(&[(&[u8], usize)], u8, &[u8])] = &[
         b"revc: 1:7 Inputs\n",
     ),
     (&[(b"main (a : bool) = true", 1)], 3, REFUSED),
-    (&[(b"main (a : bool) = fun x -> x", 1)], 3, REFUSED),
+    (
+        &[(b"main (a : bool) = fun x -> x", 1)],
+        3,
+        b"revc: 1:19 NoOutput\n",
+    ),
     (&[(b"main (a : bool[1]) = a", 1)], 3, REFUSED),
-    (&[(b"main (a : bool) = z", 1)], 3, REFUSED),
-    (&[(b"main (a : bool) (a : bool) = a", 1)], 3, REFUSED),
+    (&[(b"main (a : bool) = z", 1)], 3, b"revc: 1:19 Unbound\n"),
+    (
+        &[(b"main (a : bool) (a : bool) = a", 1)],
+        3,
+        b"revc: 1:18 TwoParams\n",
+    ),
+    (
+        &[(b"main (a : bool) = { let t = false; clean t; t }", 1)],
+        3,
+        b"revc: 1:19 Gone\n",
+    ),
+    (
+        &[(b"main (a : bool) = (fun x -> x x) (fun x -> x x)", 1)],
+        3,
+        b"revc: 1:44 Depth\n",
+    ),
     (&[(b"main (a : bool) = a", 1), (b" <> a", 1001)], 3, REFUSED),
+];
+
+const ASSIGNED: &[u8] = b"main (a : bool) (b : bool) = { let r = reg [a; b]; r.[0] <- b; a }";
+
+const CLAIMED: &[u8] = b"main (a : bool) (b : bool) = { let t = a && b; clean t; a }";
+
+// A program text, a bit word, and then the status and the text on standard output or standard error.
+const VALUES: &[(&[u8], &str, u8, &[u8])] = &[
+    (ASSIGNED, "01", 0, b"1\n"),
+    (ASSIGNED, "10", 0, b"0\n"),
+    (CLAIMED, "10", 0, b"1\n"),
+    (CLAIMED, "11", 4, b"revc: claim 1 at 1:48 fails on 11\n"),
+    (ASSIGNED, "2", 12, BAD_BITS),
+    (ASSIGNED, "02", 12, BAD_BITS),
+    (ASSIGNED, "1", 12, BAD_BITS),
+    (ASSIGNED, "", 12, BAD_BITS),
+    (
+        b"main (r : bool[3]) = rotate 3 r",
+        "000",
+        3,
+        b"revc: 1:22 Rotate\n",
+    ),
+    (
+        b"main (r : bool[3]) = append (rotate 1 r) r.[0..1]",
+        "100",
+        0,
+        b"00110\n",
+    ),
+    (b"main (a : bool) = true && a", "1", 0, b"1\n"),
+    (b"main (a : bool) = z", "", 3, b"revc: 1:19 Unbound\n"),
+];
+
+const BAD_BITS: &[u8] = b"revc: bad bits in word 1\n";
+
+// A body behind a bit `a` and a register `r` of three bits, and its refusal.
+const REFUSALS: &[(&[u8], &[u8])] = &[
+    (b"r && a", b"revc: 1:33 NotBit\n"),
+    (b"a && r", b"revc: 1:38 NotBit\n"),
+    (b"a.[0]", b"revc: 1:34 NotRegister\n"),
+    (b"append r a", b"revc: 1:42 NotRegister\n"),
+    (b"r.[3]", b"revc: 1:34 Index\n"),
+    (b"r.[2..1]", b"revc: 1:34 Slice\n"),
+    (b"a a", b"revc: 1:35 NotFunction\n"),
+    (b"{ clean a; a <> a }", b"revc: 1:44 Gone\n"),
+    (b"{ a <- r.[0] }", b"revc: 1:33 NoOutput\n"),
 ];
 
 fn words_of(alloc: Global, words: &[&str]) -> Result<Vec<String>, AllocError> {
@@ -149,6 +216,48 @@ fn texts_are_compiled_or_refused(rt: HostRuntime) -> Result<(), Fail> {
         };
         assert_eq!(rt; full.bytes(), *written);
         assert_eq!(rt; empty.bytes(), b"".as_slice());
+    }
+    Ok(())
+}
+
+#[test]
+fn texts_are_evaluated_or_refused(rt: HostRuntime) -> Result<(), Fail> {
+    let alloc = rt.alloc();
+    for (text, word, status, written) in VALUES {
+        let words = words_of(alloc, &["eval", word])?;
+        let mut source = SureSource::new(text.to_vec(alloc)?);
+        let mut out = MemorySink::new(alloc, 1000, Vec::new(alloc), 100)?;
+        let mut err = MemorySink::new(alloc, 100, Vec::new(alloc), 100)?;
+        assert_eq!(rt;
+            revc(alloc, &words, &mut source, &mut out, &mut err),
+            *status
+        );
+        let (full, empty) = if *status == 0 {
+            (&out, &err)
+        } else {
+            (&err, &out)
+        };
+        assert_eq!(rt; full.bytes(), *written);
+        assert_eq!(rt; empty.bytes(), b"".as_slice());
+    }
+    Ok(())
+}
+
+#[test]
+fn stuck_runs_are_refused(rt: HostRuntime) -> Result<(), Fail> {
+    let alloc = rt.alloc();
+    let words = words_of(alloc, &["eval", "0000"])?;
+    for (body, line) in REFUSALS {
+        let text = text_of(
+            alloc,
+            &[(b"main (a : bool) (r : bool[3]) = ", 1), (body, 1)],
+        )?;
+        let mut source = SureSource::new(text);
+        let mut out = MemorySink::new(alloc, 1000, Vec::new(alloc), 100)?;
+        let mut err = MemorySink::new(alloc, 100, Vec::new(alloc), 100)?;
+        assert_eq!(rt; revc(alloc, &words, &mut source, &mut out, &mut err), 3);
+        assert_eq!(rt; err.bytes(), *line);
+        assert_eq!(rt; out.bytes(), b"".as_slice());
     }
     Ok(())
 }

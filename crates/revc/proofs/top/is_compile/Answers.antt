@@ -2,7 +2,8 @@ use Rattle.std.proofs.Common.{◌≡◌, ℕ, ◌<◌, ◌≤◌, Bool, List, []
 use Rattle.std.specs.declared.string.String.{String}
 use Rattle.std.specs.Str.{bytes_eq}
 use Rattle.std.proofs.lemmas.Slice.Eq.{bytes_eq-Decides}
-use Rattle.revc.proofs.top.is_order.Goals as goal
+use Rattle.revc.specs.Top.{second_of}
+use Rattle.revc.proofs.top.is_compile.Goals as goal
 
 same_first : (a b : List ℕ) (xs ys : List (List ℕ)) → a ∷ xs ≡ b ∷ ys → a ≡ b
 same_first a b xs ys e = cc
@@ -17,8 +18,18 @@ one_word (w ∷ []) word passes text some few first d = (
   λ e. d.1 (ap string_bytes first ∙ same_first _ _ _ _ e),
 )
 
-pub returns-in-len1 : goal.returns-in-len1
-returns-in-len1 c =
+not_two : (words : List (List ℕ)) (a b d : List ℕ) → words ≡ a ∷ [] → words ≡ b ∷ d ∷ [] → ⊥
+not_two words a b d e f = absurd cc
+
+pub returns-in-len1-clause-alone : goal.returns-in-len1-clause-alone
+returns-in-len1-clause-alone c = λ passes both.
+    let same : c.eq.result ≡ bytes_eq (string_bytes c.word-item.result) (codes "compile") = rw c.as_str.ensures.value at c.eq.ensures in
+    let one = one_word c.args.words.now c.word-item.result c.eq.result (codes "compile") c.in-len1.len_at_least c.in-len1.len_below c.word-item.is
+    (subst (λ b. Decides b (string_bytes c.word-item.result ≡ codes "compile")) (sym same) (bytes_eq-Decides (string_bytes c.word-item.result) (codes "compile"))) in
+    not_two (map string_bytes c.args.words.now) (codes "compile") (codes "eval") (second_of (map string_bytes c.args.words.now)) (one.0 passes) both.0
+
+pub returns-in-len1-clause-yes : goal.returns-in-len1-clause-yes
+returns-in-len1-clause-yes c =
     let same : c.eq.result ≡ bytes_eq (string_bytes c.word-item.result) (codes "compile") = rw c.as_str.ensures.value at c.eq.ensures in
     one_word c.args.words.now c.word-item.result c.eq.result (codes "compile") c.in-len1.len_at_least c.in-len1.len_below c.word-item.is
     (subst (λ b. Decides b (string_bytes c.word-item.result ≡ codes "compile")) (sym same) (bytes_eq-Decides (string_bytes c.word-item.result) (codes "compile")))

@@ -1,0 +1,176 @@
+-- A text and a word have one value, or one reason that they have none.
+use Rattle.std.proofs.Common.{◌≡◌, ◌≢◌, ℕ, suc, ◌+◌, ◌<◌, Bool, List, [], ◌∷◌, ◌++◌, length, sum, refl, sym, ap, ◌∙◌, subst, arith}
+use Rattle.std.specs.List.{AllByRecursion}
+use Rattle.revc_base.specs.Bits.{IsDigit, IsFirstOther}
+use Rattle.revc_base.specs.declared.place.Place.{Place}
+use Rattle.revc_base.specs.declared.tape.Claim.{Claim}
+use Rattle.revc_base.specs.declared.running.TapeEnd.{TapeEnd}
+use Rattle.revc_base.specs.declared.running.TapeEnd.TheVariants as ends
+use Rattle.revc_base.specs.Tapes.{TapeView, IsEndOf, IsMet, IsFirstFailing, IsFirstBroken, Holds}
+use Rattle.revc.specs.declared.fault.Fault.{Fault}
+use Rattle.revc.specs.declared.fault.Kind.{Kind}
+use Rattle.revc.specs.declared.fault.Fault.TheVariants as faults
+use Rattle.revc.specs.declared.fault.Refusal.{Refusal}
+use Rattle.revc.specs.declared.fault.Refusal.TheVariants as refusals
+use Rattle.std.specs.Prelude.{slice_index_or}
+use Rattle.revc.specs.Clean.{IsProgramText, HasTape}
+use Rattle.revc.specs.Program.{ProgramView}
+use Rattle.revc.specs.Compiled.{IsTextFault, IsEvalFault}
+use Rattle.revc.specs.Evaluation.{IsInputWord, IsValueOf, IsBadWord, IsBroken, Stops, bits_of}
+use Rattle.revc.specs.Refusals.{IsRefusal}
+use Rattle.revc.specs.Top.{IsOnlyStop, StopsWell}
+use Rattle.revc.proofs.Outcomes.{one_refusal, formed_refusal, one_tape}
+
+all_at : {A : Type 0} (P : A → Type 0) (before : List A) (x : A) (behind : List A) → AllByRecursion P (before ++ x ∷ behind) → P x
+all_at P [] x behind h = h.0
+all_at P (b ∷ before) x behind h = all_at P before x behind h.1
+
+pub no_digits : (word : List ℕ) (at : ℕ) → IsFirstOther word at → AllByRecursion IsDigit word → ⊥
+no_digits word at other h = other.no_digit (all_at IsDigit other.before other.other other.behind (subst (AllByRecursion IsDigit) other.cut h))
+
+-- what stands before the first that has not the property, and that one itself
+record SameFirst {A : Type 0} (before after : List A) (x y : A) : Type 0 where
+  count : length before ≡ length after
+  named : x ≡ y
+
+more_same : {A : Type 0} (b c : A) (before after : List A) (x y : A) → SameFirst before after x y → SameFirst (b ∷ before) (c ∷ after) x y
+more_same b c before after x y s = record { count = ap suc s.count; named = s.named }
+
+first_same : {A : Type 0} (P : A → Type 0) (before after : List A) (x y : A) (behind rest : List A) → before ++ x ∷ behind ≡ after ++ y ∷ rest
+    → AllByRecursion P before → AllByRecursion P after → ¬ P x → ¬ P y → SameFirst before after x y
+first_same P [] [] x y behind rest e h k n m = record { count = refl; named = cc }
+first_same P [] (c ∷ after) x y behind rest e h k n m =
+    let same : c ≡ x = cc in
+    absurd (n (subst P same k.0))
+first_same P (b ∷ before) [] x y behind rest e h k n m =
+    let same : b ≡ y = cc in
+    absurd (m (subst P same h.0))
+first_same P (b ∷ before) (c ∷ after) x y behind rest e h k n m =
+    let tails : before ++ x ∷ behind ≡ after ++ y ∷ rest = cc in
+    more_same b c before after x y (first_same P before after x y behind rest tails h.1 k.1 n m)
+
+one_claim : (text word : List ℕ) (number other : ℕ) (at there : Place) → IsBroken text word number at → IsBroken text word other there → faults.Claim number at ≡ faults.Claim other there
+one_claim text word number other at there a b =
+    let same : a.tape ≡ b.tape = one_tape text a.program b.program a.tape b.tape a.formed b.formed in
+    let claims : a.tape.claims ≡ b.tape.claims = ap (λ (t : TapeView). t.claims) same in
+    let one = first_same (Holds b.tape (bits_of word)) a.first.before b.first.before a.first.named b.first.named a.first.behind b.first.behind (sym a.first.cut ∙ claims ∙ b.first.cut)
+    (subst (λ (t : TapeView). AllByRecursion (Holds t (bits_of word)) a.first.before) same a.first.met) b.first.met
+    (subst (λ (t : TapeView). ¬ Holds t (bits_of word) a.first.named) same a.first.fails) b.first.fails in
+    let size = one.count in
+    let first = a.first.count in
+    let second = b.first.count in
+    let up = a.count in
+    let down = b.count in
+    both number other at there (omega arith) (a.place ∙ ap (λ (c : Claim). c.at) one.named ∙ sym b.place)
+  where
+    both : (number other : ℕ) (at there : Place) → number ≡ other → at ≡ there → faults.Claim number at ≡ faults.Claim other there
+    both number other at there e f = cc
+
+value_or_claim : (text word : List ℕ) (value : List Bool) (number : ℕ) (at : Place) → IsValueOf text word value → IsBroken text word number at → ⊥
+value_or_claim text word value number at v b =
+    let same : v.tape ≡ b.tape = one_tape text v.program b.program v.tape b.tape v.formed b.formed in
+    let all : AllByRecursion (Holds b.tape (bits_of word)) b.tape.claims = subst (λ (t : TapeView). AllByRecursion (Holds t (bits_of word)) t.claims) same v.hold in
+    b.first.fails (all_at (Holds b.tape (bits_of word)) b.first.before b.first.named b.first.behind (subst (AllByRecursion (Holds b.tape (bits_of word))) b.first.cut all))
+
+value_or_bad : (text word : List ℕ) (value : List Bool) → IsValueOf text word value → IsBadWord text word → ⊥
+value_or_bad text word value v b = b.unfit (subst (λ (t : TapeView). IsInputWord (sum t.params) word) (one_tape text v.program b.program v.tape b.tape v.formed b.formed) v.fits)
+
+claim_or_bad : (text word : List ℕ) (number : ℕ) (at : Place) → IsBroken text word number at → IsBadWord text word → ⊥
+claim_or_bad text word number at v b = b.unfit (subst (λ (t : TapeView). IsInputWord (sum t.params) word) (one_tape text v.program b.program v.tape b.tape v.formed b.formed) v.fits)
+
+pub no_value : (text word : List ℕ) (value : List Bool) (fault : Fault) → IsValueOf text word value → Stops text word fault → ⊥
+no_value text word value (faults.Refused refusal) v s = s.1 (formed_refusal text v.program v.tape refusal v.formed s.0)
+no_value text word value (faults.Claim number at) v s = value_or_claim text word value number at v s
+no_value text word value faults.BadBits v s = value_or_bad text word value v s
+no_value text word value faults.Usage v s = s
+no_value text word value faults.Read v s = s
+no_value text word value faults.Write v s = s
+no_value text word value faults.Memory v s = s
+
+pub one_stop : (text word : List ℕ) (fault other : Fault) → Stops text word fault → Stops text word other → fault ≡ other
+one_stop text word (faults.Refused refusal) (faults.Refused other) a b = ap (λ (r : Refusal). faults.Refused r) (one_refusal text refusal other a.0 b.0)
+one_stop text word (faults.Refused refusal) (faults.Claim number at) a b = absurd (a.1 (formed_refusal text b.program b.tape refusal b.formed a.0))
+one_stop text word (faults.Refused refusal) faults.BadBits a b = absurd (a.1 (formed_refusal text b.program b.tape refusal b.formed a.0))
+one_stop text word (faults.Claim number at) (faults.Refused refusal) a b = absurd (b.1 (formed_refusal text a.program a.tape refusal a.formed b.0))
+one_stop text word (faults.Claim number at) (faults.Claim other there) a b = one_claim text word number other at there a b
+one_stop text word (faults.Claim number at) faults.BadBits a b = absurd (claim_or_bad text word number at a b)
+one_stop text word faults.BadBits (faults.Refused refusal) a b = absurd (b.1 (formed_refusal text a.program a.tape refusal a.formed b.0))
+one_stop text word faults.BadBits (faults.Claim number at) a b = absurd (claim_or_bad text word number at b a)
+one_stop text word faults.BadBits faults.BadBits a b = refl
+one_stop text word (faults.Refused refusal) faults.Usage a b = absurd b
+one_stop text word (faults.Refused refusal) faults.Read a b = absurd b
+one_stop text word (faults.Refused refusal) faults.Write a b = absurd b
+one_stop text word (faults.Refused refusal) faults.Memory a b = absurd b
+one_stop text word (faults.Claim number at) faults.Usage a b = absurd b
+one_stop text word (faults.Claim number at) faults.Read a b = absurd b
+one_stop text word (faults.Claim number at) faults.Write a b = absurd b
+one_stop text word (faults.Claim number at) faults.Memory a b = absurd b
+one_stop text word faults.BadBits faults.Usage a b = absurd b
+one_stop text word faults.BadBits faults.Read a b = absurd b
+one_stop text word faults.BadBits faults.Write a b = absurd b
+one_stop text word faults.BadBits faults.Memory a b = absurd b
+one_stop text word faults.Usage other a b = absurd a
+one_stop text word faults.Read other a b = absurd a
+one_stop text word faults.Write other a b = absurd a
+one_stop text word faults.Memory other a b = absurd a
+
+pub only_stop : (text word : List ℕ) (fault : Fault) → Stops text word fault → IsOnlyStop text word fault
+only_stop text word fault s = record { holds = s; only = λ other k. one_stop text word other fault k s; none = λ value v. no_value text word value fault v s }
+
+-- a fault of an evaluation stops it well
+pub stops_well : (text word : List ℕ) (fault : Fault) → IsEvalFault text word fault → StopsWell text word fault
+stops_well text word (faults.Refused refusal) h = only_stop text word (faults.Refused refusal) h
+stops_well text word (faults.Claim number at) h = only_stop text word (faults.Claim number at) h
+stops_well text word faults.BadBits h = only_stop text word faults.BadBits h
+stops_well text word faults.Memory h = tt
+stops_well text word faults.Usage h = tt
+stops_well text word faults.Read h = tt
+stops_well text word faults.Write h = tt
+
+-- a text's fault is one of an evaluation
+pub text_stops : (text word : List ℕ) (fault : Fault) → IsTextFault text fault → IsEvalFault text word fault
+text_stops text word (faults.Refused (refusals.At kind at)) h = (h, λ e. apart kind at e)
+  where
+    apart : (kind : Kind) (at : Place) → refusals.At kind at ≡ refusals.Program → ⊥
+    apart kind at e = absurd cc
+text_stops text word (faults.Refused refusals.TooLong) h = absurd h
+text_stops text word (faults.Refused refusals.Program) h = absurd h
+text_stops text word faults.Memory h = tt
+text_stops text word faults.Usage h = absurd h
+text_stops text word faults.Read h = absurd h
+text_stops text word faults.Write h = absurd h
+text_stops text word (faults.Claim number at) h = absurd h
+text_stops text word faults.BadBits h = absurd h
+
+-- a text that is too long stops every evaluation
+pub long_stops : (text word : List ℕ) → 1048576 < length text → IsOnlyStop text word (faults.Refused refusals.TooLong)
+long_stops text word h = only_stop text word (faults.Refused refusals.TooLong) (h, apart)
+  where
+    apart : refusals.TooLong ≡ refusals.Program → ⊥
+    apart e = absurd cc
+
+-- ---- the claim that fails
+
+named_in : {A : Type 0} (before behind : List A) (named d : A) → slice_index_or (before ++ named ∷ behind) (length before) d ≡ named
+named_in [] behind named d = refl
+named_in (b ∷ before) behind named d = named_in before behind named d
+
+named_at : {A : Type 0} (all before behind : List A) (named d : A) (number : ℕ) → all ≡ before ++ named ∷ behind → length before ≡ number → slice_index_or all number d ≡ named
+named_at all before behind named d number cut count =
+    ap (λ xs. slice_index_or xs number d) cut ∙ ap (λ n. slice_index_or (before ++ named ∷ behind) n d) (sym count) ∙ named_in before behind named d
+
+pub broken_at : (text word : List ℕ) (p : ProgramView) (tape : TapeView) (input : List Bool) (claims : List Claim) (end : TapeEnd) (number : ℕ) (d : Claim) → IsProgramText text p → HasTape p tape
+    → IsInputWord (sum tape.params) word → input ≡ bits_of word → IsEndOf tape input end → end ≡ ends.Broken number → claims ≡ tape.claims
+    → IsBroken text word (number + 1) (slice_index_or claims number d).at
+broken_at text word p tape input claims end number d is has fits bits ended which same =
+    let first : IsFirstBroken tape (bits_of word) number = subst (λ (i : List Bool). IsFirstBroken tape i number) bits (subst (IsEndOf tape input) which ended) in
+    record {
+      program = p;
+      tape = tape;
+      formed = record { program = is; run = has };
+      fits = fits;
+      before = number;
+      first = first;
+      count = refl;
+      place = ap (λ (c : Claim). c.at) (named_at claims first.before first.behind first.named d number (same ∙ first.cut) first.count);
+    }

@@ -1,0 +1,65 @@
+-- What a program computes from a bit word, and why a text and a word give no value.
+use Rattle.std.specs.Prelude.{◌≡◌, ◌≢◌, ℕ, ◌+◌, ◌==◌, if◌then◌else◌, Bool, List, ◌++◌, length, map, sum, codes}
+use Rattle.std.specs.Fmt.{decimal}
+use Rattle.std.specs.List.{AllByRecursion}
+use Rattle.revc_base.specs.Bits.{IsDigit}
+use Rattle.revc_base.specs.Tapes.{TapeView, Holds, IsFirstBroken, outputs_on}
+use Rattle.revc_base.specs.declared.place.Place.{Place}
+use Rattle.revc.specs.Clean.{IsWellFormed}
+use Rattle.revc.specs.Program.{ProgramView}
+use Rattle.revc.specs.Refusals.{IsRefusal, place_text}
+use Rattle.revc.specs.declared.fault.Fault.{Fault}
+use Rattle.revc.specs.declared.fault.Fault.TheVariants.{Refused, Claim, BadBits}
+use Rattle.revc.specs.declared.fault.Refusal.TheVariants.{Program}
+
+-- a word of so many digits 0 and 1
+pub record IsInputWord (inputs : ℕ) (word : List ℕ) : Type 0 where
+  pub digits : AllByRecursion IsDigit word
+  pub size : length word ≡ inputs
+
+-- the bits of a word: true for 1
+abbrev pub bits_of : List ℕ → List Bool
+bits_of word = map (λ byte. byte == 49) word
+
+-- bits as digits
+abbrev pub digits_of : List Bool → List ℕ
+digits_of bits = map (λ bit. if bit then 49 else 48) bits
+
+-- the text is well formed, the word is an input of its program, every claim holds on it, and these are the output bits
+pub record IsValueOf (text word : List ℕ) (value : List Bool) : Type 0 where
+  pub program : ProgramView
+  pub tape : TapeView
+  pub formed : IsWellFormed text program tape
+  pub fits : IsInputWord (sum tape.params) word
+  pub hold : AllByRecursion (Holds tape (bits_of word)) tape.claims
+  pub outputs : value ≡ outputs_on tape (bits_of word)
+
+-- the text is well formed, and the word is no input of its program
+pub record IsBadWord (text word : List ℕ) : Type 0 where
+  pub program : ProgramView
+  pub tape : TapeView
+  pub formed : IsWellFormed text program tape
+  pub unfit : ¬ IsInputWord (sum tape.params) word
+
+-- the text is well formed, the word is an input of its program, and the claim with this number, counted from 1, is the first that
+-- fails on it; its term is at this place
+pub record IsBroken (text word : List ℕ) (number : ℕ) (at : Place) : Type 0 where
+  pub program : ProgramView
+  pub tape : TapeView
+  pub formed : IsWellFormed text program tape
+  pub fits : IsInputWord (sum tape.params) word
+  pub before : ℕ
+  pub first : IsFirstBroken tape (bits_of word) before
+  pub count : number ≡ before + 1
+  pub place : at ≡ first.named.at
+
+-- why `eval` gives no value; that a program is not small is no reason
+abbrev pub Stops : List ℕ → List ℕ → Fault → Type 0
+Stops text word (Refused refusal) = IsRefusal text refusal × (refusal ≢ Program)
+Stops text word (Claim number at) = IsBroken text word number at
+Stops text word BadBits = IsBadWord text word
+Stops text word _ = ⊥
+
+-- the line of a claim that fails on the bits of a word
+abbrev pub claim_line : ℕ → Place → List ℕ → List ℕ
+claim_line number at word = codes "revc: claim " ++ (decimal number ++ (codes " at " ++ (place_text at ++ (codes " fails on " ++ (word ++ codes "\n")))))
