@@ -1,23 +1,20 @@
 -- A text and a word have one value, or one reason that they have none.
-use Rattle.std.proofs.Common.{◌≡◌, ◌≢◌, ℕ, suc, ◌+◌, ◌<◌, Bool, List, [], ◌∷◌, ◌++◌, length, sum, refl, sym, ap, ◌∙◌, subst, arith}
+use Rattle.std.proofs.Common.{◌≡◌, ℕ, suc, ◌+◌, Bool, List, [], ◌∷◌, ◌++◌, length, sum, refl, sym, ap, ◌∙◌, subst, arith}
 use Rattle.std.specs.List.{AllByRecursion}
 use Rattle.revc_base.specs.Bits.{IsDigit, IsFirstOther}
 use Rattle.revc_base.specs.declared.place.Place.{Place}
 use Rattle.revc_base.specs.declared.tape.Claim.{Claim}
 use Rattle.revc_base.specs.declared.running.TapeEnd.{TapeEnd}
 use Rattle.revc_base.specs.declared.running.TapeEnd.TheVariants as ends
-use Rattle.revc_base.specs.Tapes.{TapeView, IsEndOf, IsMet, IsFirstFailing, IsFirstBroken, Holds}
+use Rattle.revc_base.specs.Tapes.{TapeView, IsEndOf, IsFirstBroken, Holds}
 use Rattle.revc.specs.declared.fault.Fault.{Fault}
-use Rattle.revc.specs.declared.fault.Kind.{Kind}
 use Rattle.revc.specs.declared.fault.Fault.TheVariants as faults
 use Rattle.revc.specs.declared.fault.Refusal.{Refusal}
-use Rattle.revc.specs.declared.fault.Refusal.TheVariants as refusals
 use Rattle.std.specs.Prelude.{slice_index_or}
 use Rattle.revc.specs.Clean.{IsProgramText, HasTape}
 use Rattle.revc.specs.Program.{ProgramView}
-use Rattle.revc.specs.Compiled.{IsTextFault, IsEvalFault}
+use Rattle.revc.specs.Compiled.{IsEvalFault}
 use Rattle.revc.specs.Evaluation.{IsInputWord, IsValueOf, IsBadWord, IsBroken, Stops, bits_of}
-use Rattle.revc.specs.Refusals.{IsRefusal}
 use Rattle.revc.specs.Top.{IsOnlyStop, StopsWell}
 use Rattle.revc.proofs.Outcomes.{one_refusal, formed_refusal, one_tape}
 
@@ -126,28 +123,6 @@ stops_well text word faults.Memory h = tt
 stops_well text word faults.Usage h = tt
 stops_well text word faults.Read h = tt
 stops_well text word faults.Write h = tt
-
--- a text's fault is one of an evaluation
-pub text_stops : (text word : List ℕ) (fault : Fault) → IsTextFault text fault → IsEvalFault text word fault
-text_stops text word (faults.Refused (refusals.At kind at)) h = (h, λ e. apart kind at e)
-  where
-    apart : (kind : Kind) (at : Place) → refusals.At kind at ≡ refusals.Program → ⊥
-    apart kind at e = absurd cc
-text_stops text word (faults.Refused refusals.TooLong) h = absurd h
-text_stops text word (faults.Refused refusals.Program) h = absurd h
-text_stops text word faults.Memory h = tt
-text_stops text word faults.Usage h = absurd h
-text_stops text word faults.Read h = absurd h
-text_stops text word faults.Write h = absurd h
-text_stops text word (faults.Claim number at) h = absurd h
-text_stops text word faults.BadBits h = absurd h
-
--- a text that is too long stops every evaluation
-pub long_stops : (text word : List ℕ) → 1048576 < length text → IsOnlyStop text word (faults.Refused refusals.TooLong)
-long_stops text word h = only_stop text word (faults.Refused refusals.TooLong) (h, apart)
-  where
-    apart : refusals.TooLong ≡ refusals.Program → ⊥
-    apart e = absurd cc
 
 -- ---- the claim that fails
 

@@ -18,7 +18,7 @@ use Rattle.revc.specs.declared.fault.Refusal.TheVariants as refusals
 use Rattle.revc.specs.Program.{ProgramView, IsSmall}
 use Rattle.revs_terms.specs.Programs.{widths_of}
 use Rattle.revs_terms.specs.Running.{Refusal as Why, Stamped, Outcome, stuck, went, not_bit, not_register, not_function, no_index, no_slice, no_rotation, too_long, gone, no_output, too_deep, too_much_work, too_many_writes, too_many_claims, too_many_outputs}
-use Rattle.revs_terms.specs.Runs.{IsInput, IsStuck, IsTapeOf, LeavesOn, run_of_program}
+use Rattle.revs_terms.specs.Runs.{IsInput, run_of_program}
 use Rattle.revs_terms.specs.Scopes.{ScopeVerdict, scope_verdict, bound_as, two_params, unbound_name}
 use Rattle.revc_base.specs.declared.place.Place.{Place}
 use Rattle.revc_base.specs.Tapes.{TapeView}
@@ -30,7 +30,7 @@ use Rattle.revc.specs.Clean.{IsProgramText, HasTape, IsWellFormed, IsSmallText}
 use Rattle.revc.specs.Refusals.{OfTokens, IsStuckFor, IsRefusal}
 use Rattle.revc.specs.declared.fault.Fault.{Fault}
 use Rattle.revc.specs.declared.fault.Fault.TheVariants as faults
-use Rattle.revc.specs.Compiled.{IsCompileFault, IsTextFault}
+use Rattle.revc.specs.Compiled.{IsCompileFault}
 use Rattle.revc.specs.Top.{IsOnlyRefusal, RefusesWell}
 
 -- ---- a text's program
@@ -264,18 +264,6 @@ refuses_well text faults.Read h = absurd h
 refuses_well text faults.Write h = absurd h
 refuses_well text (faults.Claim number at) h = absurd h
 refuses_well text faults.BadBits h = absurd h
-
--- a text's fault is one of the compiler
-pub text_fault : (text : List ℕ) (fault : Fault) → IsTextFault text fault → IsCompileFault text fault
-text_fault text (faults.Refused (refusals.At kind at)) h = h
-text_fault text (faults.Refused refusals.TooLong) h = absurd h
-text_fault text (faults.Refused refusals.Program) h = absurd h
-text_fault text faults.Memory h = tt
-text_fault text faults.Usage h = absurd h
-text_fault text faults.Read h = absurd h
-text_fault text faults.Write h = absurd h
-text_fault text (faults.Claim number at) h = absurd h
-text_fault text faults.BadBits h = absurd h
 
 -- what holds of the lexer's tokens
 pub of_tokens : (text : List ℕ) (all : List Token) (P : List Token → Type 0) → (tokens : List Token) × IsTokens text tokens × (all ≡ closed text tokens) → P all → OfTokens text P

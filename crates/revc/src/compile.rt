@@ -26,6 +26,7 @@ pub fn compile(alloc: Global, text: &[u8]) -> Result<Laid, Fault>
 {
     let program = read_program(alloc, text)?;
     let small = unroll(alloc, &program);
+    // For its refusals alone: they come before that of a program which is not small.
     let _ = tape_of(alloc, program)?;
     let (tape, output) = match small {
         Ok(run) => run,

@@ -1,4 +1,4 @@
-use Rattle.std.proofs.Common.{Bool, false, List, drop, ap, refl, arith}
+use Rattle.std.proofs.Common.{false, ap, refl, arith}
 use Rattle.std.proofs.lemmas.List.{drop_more, drop_all}
 use Rattle.revc.specs.Evaluation.{digits_of}
 use Rattle.revc_io.proofs.Loops.{writing_begun, writing_more, writing_done, writing_failed, fault_later, no_fault}

@@ -1,6 +1,5 @@
 use Rattle.std.proofs.Common.{◌≡◌, ℕ, ◌<◌, ◌≤◌, Bool, true, false, not, List, [], ◌∷◌, length, get_or, map, string_bytes, refl, sym, ap, ◌∙◌, subst, arith, codes, IsTrue, Decides, Global}
 use Rattle.std.specs.declared.string.String.{String}
-use Rattle.std.specs.Prelude.{◌↔◌}
 use Rattle.std.specs.Str.{bytes_eq}
 use Rattle.std.proofs.lemmas.Slice.Eq.{bytes_eq-Decides}
 use Rattle.revc.specs.Top.{IsOption, second_of}
