@@ -1,5 +1,12 @@
+pub mod Alignment
 pub mod BitSteps
 pub mod Counting
+pub mod ExclusiveOr
+pub mod LevelSteps
 pub mod MemberSteps
+pub mod MonomialSteps
+pub mod OnePolynomial
+pub mod Products
+pub mod SumSteps
 pub mod TapeKeeps
 pub mod WidthSteps

@@ -1,6 +1,10 @@
+pub mod Aligned
 pub mod Bits
 pub mod ClaimFunctions
 pub mod Claims
 pub mod Marks
 pub mod Measures
+pub mod Monomials
+pub mod Polynomials
+pub mod Sums
 pub mod Tapes

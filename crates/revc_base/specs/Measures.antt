@@ -1,11 +1,27 @@
 -- Measures of a tape.
-use Rattle.std.specs.Prelude.{◌≡◌, ℕ, zero, suc, ◌≤◌, ◌==◌, Bool, false, ◌||◌, List, [], ◌∷◌, ◌++◌, length, drop, filter}
+use Rattle.std.specs.Prelude.{◌≡◌, ℕ, zero, suc, ◌≤◌, ◌==◌, ◌^◌, Bool, false, ◌||◌, List, [], ◌∷◌, ◌++◌, length, drop, filter, sum}
 use Rattle.std.specs.List.{list_any}
 use Rattle.revc_base.specs.declared.tape.Ref.{Ref}
 use Rattle.revc_base.specs.declared.tape.Ref.TheVariants as refs
 use Rattle.revc_base.specs.declared.tape.Entry.{Entry}
 use Rattle.revc_base.specs.declared.tape.Entry.TheVariants as entries
 use Rattle.revc_base.specs.Tapes.{TapeView}
+
+-- ---- counts
+
+-- the number of inputs, one for each place of each parameter
+abbrev pub inputs_of : TapeView → ℕ
+inputs_of t = sum t.params
+
+-- the number of outputs
+abbrev pub outputs_of : TapeView → ℕ
+outputs_of t = length t.outputs
+
+-- the number of writes
+abbrev pub writes_of : TapeView → ℕ
+writes_of t = length t.entries
+
+-- ---- width
 
 -- whether a reference is to the write at place i
 abbrev pub is_write : ℕ → Ref → Bool
@@ -37,3 +53,20 @@ pub record IsWidth (t : TapeView) (width : ℕ) : Type 0 where
   pub at : ℕ
   pub inside : at ≤ length t.entries
   pub reached : length (cut_at t at) ≡ width
+
+-- ---- levels
+
+-- The number of levels of so many writes: the least number whose power of two is at least theirs; 0 for none.
+pub record IsLevels (writes levels : ℕ) : Type 0 where
+  pub enough : writes ≤ 2 ^ levels
+  pub least : (other : ℕ) → writes ≤ 2 ^ other → levels ≤ other
+
+-- So many writes have one number of levels, and no other.
+pub record HasOneNumberOfLevels (writes : ℕ) : Type 0 where
+  pub levels : ℕ
+  pub are : IsLevels writes levels
+  pub only : (other : ℕ) → IsLevels writes other → other ≡ levels
+
+-- The law: each number of writes has one number of levels.
+abbrev pub LevelsAreDetermined : Type 0
+LevelsAreDetermined = (writes : ℕ) → HasOneNumberOfLevels writes

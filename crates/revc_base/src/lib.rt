@@ -12,7 +12,7 @@ mod text;
 mod width;
 
 pub use bits::{Bits, BitsFault};
-pub use law::claim_functions;
+pub use law::{claim_functions, one_number_of_levels, one_polynomial, one_set_of_monomials};
 pub use memory::Memory;
 pub use place::Place;
 pub use running::TapeEnd;

@@ -1,0 +1,5 @@
+use Rattle.revc_base.proofs.OnePolynomial.{polynomials_are_unique}
+use Rattle.revc_base.proofs.law.one_polynomial.Goals as goal
+
+pub returns : goal.returns
+returns c = polynomials_are_unique
