@@ -1,5 +1,5 @@
 -- Each bit of a tape has one set of monomials: it is built along the writes, and no other has its values.
-use Rattle.std.proofs.Common.{◌≡◌, ℕ, zero, suc, ◌+◌, ◌<◌, Bool, true, false, ◌&&◌, List, [], ◌∷◌, ◌++◌, length, map, slice_index_or, refl, sym, ap, ◌∙◌, arith}
+use Rattle.std.proofs.Common.{◌≡◌, ℕ, zero, suc, ◌+◌, ◌<◌, Bool, true, false, List, [], ◌∷◌, ◌++◌, length, map, slice_index_or, refl, sym, ap, ◌∙◌, arith}
 use Rattle.std.specs.List.{AllByRecursion}
 use Rattle.std.proofs.lemmas.List.{map-append}
 use Rattle.revc_base.specs.declared.tape.Ref.{Ref}
@@ -14,7 +14,7 @@ use Rattle.revc_base.specs.Tapes.{TapeView, IsKnown, IsKnownEntry, AreKnown, bit
 use Rattle.revc_base.proofs.ExclusiveOr.{xor_nothing}
 use Rattle.revc_base.proofs.OnePolynomial.{polynomials_are_unique}
 use Rattle.revc_base.proofs.Products.{IsPolynomial-none, product_of, value-product_of, IsPolynomial-product_of, All-product_of}
-use Rattle.revc_base.proofs.SumSteps.{value-exclusive_sum_of, All-exclusive_sum_of, IsPolynomial-exclusive_sum_of, IsPolynomial-one}
+use Rattle.revc_base.proofs.SumSteps.{value-exclusive_sum_of, All-exclusive_sum_of, IsPolynomial-exclusive_sum_of, IsPolynomial-one, IsPolynomial-input, value-input}
 use Rattle.revc_base.proofs.TapeKeeps.{All-push}
 
 -- ---- the polynomials of the writes, one after another
@@ -41,17 +41,13 @@ made_by made (entry ∷ rest) = made_by (made ++ entry_polynomial made entry ∷
 abbrev values_of : List Bool → List (List (List ℕ)) → List Bool
 values_of input made = map (value_of_polynomial (bit_of input)) made
 
-and_true : (b : Bool) → (b && true) ≡ b
-and_true true = refl
-and_true false = refl
-
 value-index : (x : ℕ → Bool) (made : List (List (List ℕ))) (j : ℕ) → value_of_polynomial x (slice_index_or made j []) ≡ slice_index_or (map (value_of_polynomial x) made) j false
 value-index x [] j = refl
 value-index x (p ∷ ps) zero = refl
 value-index x (p ∷ ps) (suc j) = value-index x ps j
 
 value-at : (input : List Bool) (made : List (List (List ℕ))) (ref : Ref) → value_of_polynomial (bit_of input) (polynomial_at made ref) ≡ bit_at input (values_of input made) ref
-value-at input made (refs.Input i) = xor_nothing (bit_of input i && true) ∙ and_true (bit_of input i)
+value-at input made (refs.Input i) = value-input (bit_of input) i
 value-at input made (refs.Write j) = value-index (bit_of input) made j
 
 value-constant : (x : ℕ → Bool) (bit : Bool) → value_of_polynomial x (constant bit) ≡ bit
@@ -83,7 +79,7 @@ over-index n (p ∷ ps) zero all = all.0
 over-index n (p ∷ ps) (suc j) all = over-index n ps j all.1
 
 over-at : (n k : ℕ) (made : List (List (List ℕ))) (ref : Ref) → AllByRecursion (IsOver n) made → IsKnown n k ref → IsOver n (polynomial_at made ref)
-over-at n k made (refs.Input i) all known = record { is_polynomial = record { rising = ((tt, tt), tt); in_order = (tt, tt) }; over_inputs = ((known, tt), tt) }
+over-at n k made (refs.Input i) all known = record { is_polynomial = IsPolynomial-input i; over_inputs = ((known, tt), tt) }
 over-at n k made (refs.Write j) all known = over-index n made j all
 
 over-constant : (n : ℕ) (bit : Bool) → IsOver n (constant bit)

@@ -12,7 +12,7 @@ use Rattle.revc_base.specs.Aligned.{Pair, left, right, both, aligned, key_of, al
 use Rattle.revc_base.specs.Polynomials.{value_of_monomial, value_of_polynomial, IsRising, IsInOrder, IsPolynomial}
 use Rattle.revc_base.specs.Sums.{union_of, exclusive_sum_of}
 use Rattle.revc_base.proofs.Alignment.{lefts, rights, lefts-aligned, rights-aligned, IsTied, tied-aligned, by_key, in_order-aligned}
-use Rattle.revc_base.proofs.ExclusiveOr.{xor_none, xor_left, xor_right, xor_both, and_nothing}
+use Rattle.revc_base.proofs.ExclusiveOr.{xor_none, xor_nothing, xor_left, xor_right, xor_both, and_nothing}
 use Rattle.revc_base.proofs.TapeKeeps.{All-map}
 
 -- ---- values
@@ -139,7 +139,17 @@ pub IsRising-union_of : (m n : List ℕ) → IsRising m → IsRising n → IsRis
 IsRising-union_of m n a b =
     rising_from_in_order (union_of m n) (in_order-keys (aligned nat_cmp m n) (in_order-aligned nat_cmp nat_cmp_total m n (in_order_from_rising m a) (in_order_from_rising n b)))
 
--- ---- the constant 1
+-- ---- the constant 1 and inputs
 
 pub IsPolynomial-one : IsPolynomial ([] ∷ [])
 IsPolynomial-one = record { rising = (tt, tt); in_order = (tt, tt) }
+
+pub IsPolynomial-input : (i : ℕ) → IsPolynomial ((i ∷ []) ∷ [])
+IsPolynomial-input i = record { rising = ((tt, tt), tt); in_order = (tt, tt) }
+
+and_true : (b : Bool) → (b && true) ≡ b
+and_true true = refl
+and_true false = refl
+
+pub value-input : (x : ℕ → Bool) (i : ℕ) → value_of_polynomial x ((i ∷ []) ∷ []) ≡ x i
+value-input x i = xor_nothing (x i && true) ∙ and_true (x i)
