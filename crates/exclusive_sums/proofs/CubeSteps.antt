@@ -1,19 +1,23 @@
 -- Two cubes gone through side by side: their distance, and the cube with the third states.
 use Rattle.std.proofs.Common.{◌≡◌, ◌⊎◌, ℕ, ◌+◌, ◌<◌, ◌≤◌, Bool, true, false, not, ◌&&◌, cond, eqb, List, [], ◌∷◌, ◌++◌, length, map, drop, Option, Some, None, refl, sym, ap, ◌∙◌, subst, inl, inr, arith}
+use Rattle.std.specs.Bool.{xor}
 use Rattle.std.specs.List.{AllByRecursion, count_by}
 use Rattle.std.specs.Option.{is_none}
 use Rattle.std.specs.declared.cmp.Ordering.TheVariants.{Less}
 use Rattle.std.proofs.lemmas.Bool.{cases_Bool, cases_lt, eqb-true, eqb-false, eq-eqb, ne_eqb}
 use Rattle.std.proofs.lemmas.Cmp.{nat_cmp_total, on_total}
+use Rattle.std.proofs.lemmas.List.{append-nil}
 use Rattle.std.proofs.lemmas.List.Sums.{sum_by-cons}
 use Rattle.std.proofs.Math.ListN.{drop_of_length-le}
 use Rattle.exclusive_sums.specs.declared.cube.Literal.{Literal}
-use Rattle.exclusive_sums.specs.Aligned.{Pair, left, right, both, aligned, key_of}
-use Rattle.exclusive_sums.specs.Polynomials.{xor, IsRising, IsInOrder}
+use Rattle.revc_base.specs.Aligned.{Pair, left, right, both, aligned, key_of}
+use Rattle.revc_base.specs.Polynomials.{IsRising, IsInOrder}
 use Rattle.exclusive_sums.specs.Cubes.{value_of_literal, value_of_cube, input_of, IsCube, state_of, same_sign, same_state, distance_of, third_state, IsJoined, positive}
 use Rattle.exclusive_sums.specs.Steps.{by_input, differences, flipped, thirds}
-use Rattle.exclusive_sums.proofs.Alignment.{lefts, rights, lefts-aligned, rights-aligned, IsTied, tied-aligned, by_key, All-weaken, in_order-aligned}
-use Rattle.exclusive_sums.proofs.SumSteps.{eq_from_equal, less_from_lt, lt_from_less}
+use Rattle.revc_base.proofs.Alignment.{lefts, rights, lefts-aligned, rights-aligned, IsTied, tied-aligned, by_key, in_order-aligned}
+use Rattle.revc_base.proofs.ExclusiveOr.{xor-and_right}
+use Rattle.revc_base.proofs.SumSteps.{eq_from_equal, less_from_lt, lt_from_less}
+use Rattle.revc_base.proofs.TapeKeeps.{All-map}
 
 -- ---- what going through two cubes gives
 
@@ -37,8 +41,7 @@ pub record AreSteps (ps : List (Pair Literal)) : Type 0 where
 rising_pairs : (ps : List (Pair Literal)) → IsInOrder (by_key by_input) ps → AreRising ps
 rising_pairs [] h = tt
 rising_pairs (p ∷ ps) h = (
-  All-weaken (λ (q : Pair Literal). by_input (key_of p) (key_of q) ≡ Less) (λ (q : Pair Literal). (key_of p).input < (key_of q).input) ps
-      (λ q l. lt_from_less (key_of p).input (key_of q).input l) h.0,
+  All-map (λ (q : Pair Literal). by_input (key_of p) (key_of q) ≡ Less) (λ (q : Pair Literal). (key_of p).input < (key_of q).input) (λ q l. lt_from_less (key_of p).input (key_of q).input l) ps h.0,
   rising_pairs ps h.1,
 )
 
@@ -58,7 +61,7 @@ in_order_cube (l ∷ ls) h = (below l ls h.0, in_order_cube ls h.1)
 pub steps_of : (c d : List Literal) → IsCube c → IsCube d → AreSteps (aligned by_input c d)
 steps_of c d a b = record {
   rising = rising_pairs (aligned by_input c d) (in_order-aligned by_input (on_total (λ (l : Literal). l.input) nat_cmp_total) c d (in_order_cube c a) (in_order_cube d b));
-  tied = All-weaken (IsTied by_input) HaveOneInput (aligned by_input c d) one_input (tied-aligned by_input c d);
+  tied = All-map (IsTied by_input) HaveOneInput one_input (aligned by_input c d) (tied-aligned by_input c d);
 }
 
 -- ---- states above an input
@@ -106,10 +109,10 @@ skip : (l : Literal) (c : List Literal) (i : ℕ) → l.input < i → state_of (
 skip l c i h = rw (ne_eqb l.input i (λ e. absurd (omega arith))) refl
 
 other_above : (m : Literal) (d c : List Literal) → AllByRecursion (λ (l : Literal). m.input < l.input) c → count_by (other (m ∷ d)) c ≡ count_by (other d) c
-other_above m d c h = count_same (other (m ∷ d)) (other d) c (All-weaken (λ (l : Literal). m.input < l.input) (λ l. other (m ∷ d) l ≡ other d l) c (λ l k. rw (skip m d l.input k) refl) h)
+other_above m d c h = count_same (other (m ∷ d)) (other d) c (All-map (λ (l : Literal). m.input < l.input) (λ l. other (m ∷ d) l ≡ other d l) (λ l k. rw (skip m d l.input k) refl) c h)
 
 only_above : (l : Literal) (c d : List Literal) → AllByRecursion (λ (m : Literal). l.input < m.input) d → count_by (only (l ∷ c)) d ≡ count_by (only c) d
-only_above l c d h = count_same (only (l ∷ c)) (only c) d (All-weaken (λ (m : Literal). l.input < m.input) (λ m. only (l ∷ c) m ≡ only c m) d (λ m k. rw (skip l c m.input k) refl) h)
+only_above l c d h = count_same (only (l ∷ c)) (only c) d (All-map (λ (m : Literal). l.input < m.input) (λ m. only (l ∷ c) m ≡ only c m) (λ m k. rw (skip l c m.input k) refl) d h)
 
 count_both : (a b : Bool) → ◌≡◌ {A = ℕ} (cond (not (same_sign a b)) 1 0) (cond (same_sign a b) 0 1)
 count_both true true = refl
@@ -218,10 +221,6 @@ thirds-lefts_only : (c : List Literal) → thirds (aligned by_input c []) ≡ ma
 thirds-lefts_only [] = refl
 thirds-lefts_only (l ∷ ls) = ap (λ ms. flipped l ∷ ms) (thirds-lefts_only ls)
 
-append-nil : {A : Type 0} (xs : List A) → xs ++ [] ≡ xs
-append-nil [] = refl
-append-nil (x ∷ xs) = ap (λ ys. x ∷ ys) (append-nil xs)
-
 pub thirds_left_over : (c d : List Literal) (i j : ℕ) → (length c ≤ i) ⊎ (length d ≤ j) → thirds (aligned by_input (drop i c) (drop j d)) ≡ map flipped (drop i c) ++ map flipped (drop j d)
 thirds_left_over c d i j (inl h) = rw (drop_of_length-le c h) (thirds-rights_only (drop j d))
 thirds_left_over c d i j (inr h) = rw (drop_of_length-le d h) (thirds-lefts_only (drop i c) ∙ sym (append-nil (map flipped (drop i c))))
@@ -279,24 +278,25 @@ value_of_flipped : (x : ℕ → Bool) (l : Literal) → value_of_literal x (flip
 value_of_flipped x l = flipped_sign (x l.input) l.positive
 
 flip_one : (v w : Bool) → xor (v && w) w ≡ (not v && w)
+unfolding mathlib.Core.Bool.xor
 flip_one true true = refl
 flip_one true false = refl
-flip_one false w = refl
+flip_one false true = refl
+flip_one false false = refl
 
 flip_other : (v w : Bool) → xor w (v && w) ≡ (not v && w)
+unfolding mathlib.Core.Bool.xor
 flip_other true true = refl
 flip_other true false = refl
 flip_other false true = refl
 flip_other false false = refl
 
-and_apart : (v a b : Bool) → xor (v && a) (v && b) ≡ (v && xor a b)
-and_apart true a b = refl
-and_apart false a b = refl
-
 opposite : (v w : Bool) → xor (v && w) (not v && w) ≡ w
+unfolding mathlib.Core.Bool.xor
 opposite true true = refl
 opposite true false = refl
-opposite false w = refl
+opposite false true = refl
+opposite false false = refl
 
 opposite_sign : (a b : Bool) → same_sign a b ≡ false → b ≡ not a
 opposite_sign true true h = h
@@ -319,7 +319,7 @@ value-thirds x (both l m ∷ ps) t h =
       | inl e ↦
           let more = rw e at h in
           let same : l ≡ m = literal_same l m t.0 (same_sign_same l.positive m.positive e) in
-          rw e (rw same (and_apart (value_of_literal x m) (value_of_cube x (lefts ps)) (value_of_cube x (rights ps))
+          rw e (rw same (xor-and_right (value_of_cube x (lefts ps)) (value_of_cube x (rights ps)) (value_of_literal x m)
           ∙ ap (λ b. value_of_literal x m && b) (value-thirds x ps t.1 (omega arith))))
       | inr e ↦
           let more = rw e at h in
@@ -343,7 +343,7 @@ first_no_later : (l m : Literal) (c d : List Literal) → IsCube (m ∷ d) → (
 first_no_later l m c d b h =
     elim (cases_lt l.input m.input) [
       | inl k ↦
-          let up : AllByRecursion (λ (n : Literal). l.input < n.input) (m ∷ d) = (k, All-weaken (λ (n : Literal). m.input < n.input) (λ (n : Literal). l.input < n.input) d (λ n j. omega arith) (literals_above m.input d b.0)) in
+          let up : AllByRecursion (λ (n : Literal). l.input < n.input) (m ∷ d) = (k, All-map (λ (n : Literal). m.input < n.input) (λ (n : Literal). l.input < n.input) (λ n j. omega arith) d (literals_above m.input d b.0)) in
           let clash : Some l.positive ≡ None = sym (state_of_first l c) ∙ h l.input ∙ absent l.input (m ∷ d) up in cc
       | inr g ↦ g
     ]

@@ -1,6 +1,4 @@
-pub mod Alignment
 pub mod CubeSteps
 pub mod MergeSteps
-pub mod OnePolynomial
+pub mod PolySteps
 pub mod ProductSteps
-pub mod SumSteps

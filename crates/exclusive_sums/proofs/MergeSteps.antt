@@ -1,15 +1,17 @@
 -- What merging keeps: the exclusive or of the cubes, their inputs, and that they do not grow in number.
-use Rattle.std.proofs.Common.{◌≡◌, ℕ, zero, suc, ◌+◌, ◌<◌, ◌≤◌, Bool, true, false, List, [], ◌∷◌, ◌++◌, length, map, get_or, refl, sym, ap, ◌∙◌, subst, inl, inr, arith}
+use Rattle.std.proofs.Common.{◌≡◌, ℕ, zero, suc, ◌+◌, ◌<◌, ◌≤◌, Bool, List, [], ◌∷◌, ◌++◌, length, map, get_or, refl, sym, ap, ◌∙◌, subst, inl, inr, arith}
+use Rattle.std.specs.Bool.{xor}
 use Rattle.std.specs.List.{AllByRecursion, remove}
 use Rattle.std.proofs.lemmas.List.{length-append, get_or_default}
 use Rattle.std.proofs.lemmas.Bool.{cases_order}
 use Rattle.std.proofs.lemmas.List.Edits.{length-remove, get_or-remove_below}
 use Rattle.exclusive_sums.specs.declared.cube.Literal.{Literal}
-use Rattle.exclusive_sums.specs.Polynomials.{xor, value_of_monomial, value_of_polynomial, IsRising}
-use Rattle.exclusive_sums.specs.Cubes.{value_of_cube, value_of_cubes, IsCube, distance_of, IsJoined, cube_at, distance_at, AreApart, IsFirstClosePair, without_pair, Merges, done, cancelled, joined, positive, cubes_of, IsIn, IsInputOf, IsExclusiveSumOf}
+use Rattle.revc_base.specs.Polynomials.{value_of_monomial, value_of_polynomial, IsRising}
+use Rattle.exclusive_sums.specs.Cubes.{value_of_cube, value_of_cubes, IsCube, distance_of, IsJoined, cube_at, distance_at, AreApart, IsFirstClosePair, without_pair, Merges, done, cancelled, joined, positive, cubes_of, IsInputOf, IsExclusiveSumOf}
 use Rattle.exclusive_sums.specs.Steps.{IsStep}
-use Rattle.exclusive_sums.proofs.Alignment.{All-weaken}
-use Rattle.exclusive_sums.proofs.SumSteps.{xor_left, xor_right}
+use Rattle.revc_base.specs.ClaimFunctions.{IsAmong}
+use Rattle.revc_base.proofs.ExclusiveOr.{xor_none, xor_same, xor_left, xor_right}
+use Rattle.revc_base.proofs.TapeKeeps.{All-map, All-push}
 use Rattle.exclusive_sums.proofs.CubeSteps.{IsCube-positive, same_if_no_distance, same_states_same, value-joined, inputs-joined}
 
 -- ---- taking cubes out
@@ -30,10 +32,6 @@ pub All-at : (P : List Literal → Type 0) (cubes : List (List Literal)) (j : �
 All-at P [] j l h = absurd (omega arith)
 All-at P (c ∷ cs) zero l h = h.0
 All-at P (c ∷ cs) (suc j) l h = All-at P cs j (omega arith) h.1
-
-All-push : (P : List Literal → Type 0) (cubes : List (List Literal)) (c : List Literal) → AllByRecursion P cubes → P c → AllByRecursion P (cubes ++ c ∷ [])
-All-push P [] c h p = (p, tt)
-All-push P (d ∷ ds) c h p = (h.0, All-push P ds c h.1 p)
 
 value-push : (x : ℕ → Bool) (cubes : List (List Literal)) (c : List Literal) → value_of_cubes x (cubes ++ c ∷ []) ≡ xor (value_of_cube x c) (value_of_cubes x cubes)
 value-push x [] c = refl
@@ -108,8 +106,7 @@ record IsMergedFrom (P : ℕ → Type 0) (cubes last : List (List Literal)) : Ty
   apart : AreApart last
 
 xor_itself : (b c : Bool) → xor (xor b b) c ≡ c
-xor_itself true c = refl
-xor_itself false c = refl
+xor_itself b c = rw (xor_same b) (xor_none c)
 
 merged : (P : ℕ → Type 0) (cubes last : List (List Literal)) → Merges cubes last → AllByRecursion IsCube cubes
     → AllByRecursion (λ (cube : List Literal). AllByRecursion (λ (l : Literal). P l.input) cube) cubes → IsMergedFrom P cubes last
@@ -161,13 +158,13 @@ inputs-positive : (P : ℕ → Type 0) (m : List ℕ) → AllByRecursion P m →
 inputs-positive P [] h = tt
 inputs-positive P (i ∷ is) h = (h.0, inputs-positive P is h.1)
 
-all_in : (m : List ℕ) → AllByRecursion (IsIn m) m
+all_in : (m : List ℕ) → AllByRecursion (λ i. IsAmong i m) m
 all_in [] = tt
-all_in (i ∷ is) = (inl refl, All-weaken (IsIn is) (IsIn (i ∷ is)) is (λ j k. inr k) (all_in is))
+all_in (i ∷ is) = (inl refl, All-map (λ j. IsAmong j is) (λ j. IsAmong j (i ∷ is)) (λ j k. inr k) is (all_in is))
 
 inputs-cubes_of : (P : ℕ → Type 0) (ms : List (List ℕ)) → ((i : ℕ) → IsInputOf ms i → P i) → AllByRecursion (λ (cube : List Literal). AllByRecursion (λ (l : Literal). P l.input) cube) (cubes_of ms)
 inputs-cubes_of P [] f = tt
-inputs-cubes_of P (m ∷ ms) f = (inputs-positive P m (All-weaken (IsIn m) P m (λ i k. f i (inl k)) (all_in m)), inputs-cubes_of P ms (λ i k. f i (inr k)))
+inputs-cubes_of P (m ∷ ms) f = (inputs-positive P m (All-map (λ i. IsAmong i m) P (λ i k. f i (inl k)) m (all_in m)), inputs-cubes_of P ms (λ i k. f i (inr k)))
 
 length-cubes_of : (ms : List (List ℕ)) → length (cubes_of ms) ≡ length ms
 length-cubes_of [] = refl

@@ -1,9 +1,11 @@
 -- Cubes are products of literals, and sums (by exclusive or) of cubes are merged while two of them are at distance 0 or 1.
-use Rattle.std.specs.Prelude.{◌≡◌, ◌⊎◌, ℕ, ◌+◌, ◌<◌, ◌≤◌, ◌==◌, Bool, true, false, not, if◌then◌else◌, List, [], ◌∷◌, ◌++◌, length, map, Option, Some, None, slice_index_or}
+use Rattle.std.specs.Prelude.{◌≡◌, ℕ, ◌+◌, ◌<◌, ◌≤◌, ◌==◌, Bool, true, false, not, if◌then◌else◌, List, [], ◌∷◌, ◌++◌, length, map, Option, Some, None, slice_index_or}
+use Rattle.std.specs.Bool.{beq, xor}
 use Rattle.std.specs.List.{AllByRecursion, list_all, count_by, remove}
 use Rattle.std.specs.Option.{is_none}
 use Rattle.exclusive_sums.specs.declared.cube.Literal.{Literal}
-use Rattle.exclusive_sums.specs.Polynomials.{xor, IsRising, value_of_polynomial}
+use Rattle.revc_base.specs.ClaimFunctions.{IsAmong, AnyByRecursion}
+use Rattle.revc_base.specs.Polynomials.{IsRising, value_of_polynomial}
 
 -- ---- values
 
@@ -34,8 +36,9 @@ abbrev pub state_of : List Literal → ℕ → Option Bool
 state_of [] input = None
 state_of (l ∷ ls) input = if l.input == input then Some l.positive else state_of ls input
 
+-- both are positive, or both negative
 abbrev pub same_sign : Bool → Bool → Bool
-same_sign a b = not (xor a b)
+same_sign a b = beq a b
 
 abbrev pub same_state : Option Bool → Option Bool → Bool
 same_state None None = true
@@ -106,15 +109,9 @@ cubes_of monomials = map (map positive) monomials
 
 -- ---- what merging keeps
 
--- the input is one of these
-abbrev pub IsIn : List ℕ → ℕ → Type 0
-IsIn [] input = ⊥
-IsIn (x ∷ xs) input = (x ≡ input) ⊎ IsIn xs input
-
 -- the input stands in one of the monomials
 abbrev pub IsInputOf : List (List ℕ) → ℕ → Type 0
-IsInputOf [] input = ⊥
-IsInputOf (m ∷ ms) input = IsIn m input ⊎ IsInputOf ms input
+IsInputOf monomials input = AnyByRecursion (IsAmong input) monomials
 
 -- the exclusive sum of the cubes is the polynomial, in at most as many cubes, over its inputs, and no two cubes are equal or at distance 1
 pub record IsExclusiveSumOf (monomials : List (List ℕ)) (cubes : List (List Literal)) : Type 0 where

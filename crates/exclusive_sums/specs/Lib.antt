@@ -1,4 +1,3 @@
-pub mod Aligned
 pub mod Cubes
-pub mod Polynomials
+pub mod Limits
 pub mod Steps

@@ -9,7 +9,7 @@ mod poly;
 mod products;
 
 pub use cube::{Cube, Literal};
-pub use law::{determinacy, uniqueness};
+pub use law::determinacy;
 pub use merging::merge;
 pub use poly::Poly;
 

@@ -1,6 +1,8 @@
 // Polynomials of at most 64 monomials.
 ghost use Rattle.std.specs.Prelude.{◌≡◌, ◌*◌, ◌≤◌, ◌==◌, ◌&&◌, not, [], ◌∷◌, length, IfOk, if◌then◌else◌, nat_le, Some, None};
-ghost use Rattle.exclusive_sums.specs.Polynomials.{IsPolynomial, IsPolynomialOf, IsPolynomialUpTo, value_of_polynomial, xor};
+ghost use Rattle.std.specs.Bool.{xor};
+ghost use Rattle.revc_base.specs.Polynomials.{IsPolynomial, IsPolynomialOf, value_of_polynomial};
+ghost use Rattle.exclusive_sums.specs.Limits.{IsPolynomialUpTo};
 ghost use Rattle.exclusive_sums.specs.Steps.{IsProduct};
 
 use crate::monomial::{Monomial, copies, exclusive_sum};
@@ -21,7 +23,7 @@ pub struct Poly {
 
 impl Model for Poly {
     ghost use Rattle.std.specs.Prelude.{List, ℕ, ◌≤◌, length};
-    ghost use Rattle.exclusive_sums.specs.Polynomials.{IsPolynomial};
+    ghost use Rattle.revc_base.specs.Polynomials.{IsPolynomial};
 
     ghost Value = { List (List ℕ) };
 

@@ -1,7 +1,8 @@
 use Rattle.std.proofs.Common.{◌≡◌, [], ◌∷◌, sym, subst}
-use Rattle.exclusive_sums.specs.Polynomials.{IsPolynomial}
-use Rattle.exclusive_sums.specs.Steps.{exclusive_sum_of}
-use Rattle.exclusive_sums.proofs.SumSteps.{IsPolynomial-exclusive_sum_of, IsPolynomial-one, up_to_from_sum}
+use Rattle.revc_base.specs.Polynomials.{IsPolynomial}
+use Rattle.revc_base.specs.Sums.{exclusive_sum_of}
+use Rattle.revc_base.proofs.SumSteps.{IsPolynomial-exclusive_sum_of, IsPolynomial-one}
+use Rattle.exclusive_sums.proofs.PolySteps.{up_to_from_negation}
 use Rattle.exclusive_sums.proofs.poly.Poly.not.Goals as goal
 
 pub limited-requires : goal.limited-requires
@@ -12,4 +13,4 @@ limited-requires c =
 pub returns : goal.returns
 returns c =
     let sum : c.in_ok-sum.sum.items ≡ exclusive_sum_of ([] ∷ []) c.args.self.now = cc (c.in_ok-sum.ensures, c.in_ok-one.ensures.items, c.in_ok-copies.ensures) in
-    up_to_from_sum _ ([] ∷ []) c.args.self.now _ IsPolynomial-one (subst IsPolynomial c.self.view_is c.self.invariant.0) (rw sum at c.limited.ensures)
+    up_to_from_negation _ c.args.self.now _ (subst IsPolynomial c.self.view_is c.self.invariant.0) (rw sum at c.limited.ensures)

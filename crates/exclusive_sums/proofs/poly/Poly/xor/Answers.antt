@@ -1,7 +1,8 @@
 use Rattle.std.proofs.Common.{◌≡◌, sym, subst}
-use Rattle.exclusive_sums.specs.Polynomials.{IsPolynomial}
-use Rattle.exclusive_sums.specs.Steps.{exclusive_sum_of}
-use Rattle.exclusive_sums.proofs.SumSteps.{IsPolynomial-exclusive_sum_of, up_to_from_sum}
+use Rattle.revc_base.specs.Polynomials.{IsPolynomial}
+use Rattle.revc_base.specs.Sums.{exclusive_sum_of}
+use Rattle.revc_base.proofs.SumSteps.{IsPolynomial-exclusive_sum_of}
+use Rattle.exclusive_sums.proofs.PolySteps.{up_to_from_sum}
 use Rattle.exclusive_sums.proofs.poly.Poly.xor.Goals as goal
 
 pub limited-requires : goal.limited-requires

@@ -1,0 +1,58 @@
+-- What is left of a monomial at the end of the other, and sums of at most so many monomials.
+use Rattle.std.proofs.Common.{◌≡◌, ◌⊎◌, ℕ, ◌≤◌, not, true, cond, leb, List, [], ◌∷◌, ◌++◌, length, map, drop, Option, Some, None, refl, sym, ap, subst, ◌∙◌, inl, inr}
+use Rattle.std.specs.Bool.{xor}
+use Rattle.std.specs.Ordering.{nat_cmp}
+use Rattle.std.proofs.lemmas.List.{append-nil}
+use Rattle.std.proofs.Math.ListN.{drop_of_length-le}
+use Rattle.revc_base.specs.Aligned.{right, aligned, key_of}
+use Rattle.revc_base.specs.Polynomials.{value_of_polynomial, IsPolynomial, IsPolynomialOf}
+use Rattle.revc_base.specs.Sums.{union_of, exclusive_sum_of}
+use Rattle.revc_base.proofs.ExclusiveOr.{xor_one, xor_nothing}
+use Rattle.revc_base.proofs.SumSteps.{value-exclusive_sum_of, IsPolynomial-exclusive_sum_of, IsPolynomial-one, IsPolynomial-input, value-input}
+use Rattle.exclusive_sums.specs.Limits.{IsPolynomialUpTo}
+
+-- ---- what is left of a monomial at the end of the other
+
+keys-rights_only : (n : List ℕ) → map key_of (map right n) ≡ n
+keys-rights_only [] = refl
+keys-rights_only (j ∷ js) = ap (λ ks. j ∷ ks) (keys-rights_only js)
+
+keys-lefts_only : (m : List ℕ) → map key_of (aligned nat_cmp m []) ≡ m
+keys-lefts_only [] = refl
+keys-lefts_only (i ∷ is) = ap (λ ks. i ∷ ks) (keys-lefts_only is)
+
+pub union_left_over : (m n : List ℕ) (i j : ℕ) → (length m ≤ i) ⊎ (length n ≤ j) → union_of (drop i m) (drop j n) ≡ drop i m ++ drop j n
+union_left_over m n i j (inl h) = rw (drop_of_length-le m h) (keys-rights_only (drop j n))
+union_left_over m n i j (inr h) = rw (drop_of_length-le n h) (keys-lefts_only (drop i m) ∙ sym (append-nil (drop i m)))
+
+-- ---- inputs
+
+pub input_polynomial : (i : ℕ) (p : List (List ℕ)) → p ≡ (i ∷ []) ∷ [] → IsPolynomialOf (λ x. x i) p
+input_polynomial i p e = record {
+  is_polynomial = subst IsPolynomial (sym e) (IsPolynomial-input i);
+  values = λ x. ap (value_of_polynomial x) e ∙ value-input x i;
+}
+
+-- ---- answers with a limit
+
+pub up_to_from_sum : (most : ℕ) (p q : List (List ℕ)) (answer : Option (List (List ℕ))) → IsPolynomial p → IsPolynomial q
+    → answer ≡ cond (leb (length (exclusive_sum_of p q)) most) (Some (exclusive_sum_of p q)) None
+    → IsPolynomialUpTo most (λ x. xor (value_of_polynomial x p) (value_of_polynomial x q)) answer
+up_to_from_sum most p q answer a b e = record {
+  monomials = exclusive_sum_of p q;
+  is_of = record { is_polynomial = IsPolynomial-exclusive_sum_of p q a b; values = λ x. value-exclusive_sum_of x p q };
+  answers = e;
+}
+
+-- the negation is the sum with the constant 1
+pub up_to_from_negation : (most : ℕ) (p : List (List ℕ)) (answer : Option (List (List ℕ))) → IsPolynomial p
+    → answer ≡ cond (leb (length (exclusive_sum_of ([] ∷ []) p)) most) (Some (exclusive_sum_of ([] ∷ []) p)) None
+    → IsPolynomialUpTo most (λ x. not (value_of_polynomial x p)) answer
+up_to_from_negation most p answer a e = record {
+  monomials = exclusive_sum_of ([] ∷ []) p;
+  is_of = record {
+    is_polynomial = IsPolynomial-exclusive_sum_of ([] ∷ []) p IsPolynomial-one a;
+    values = λ x. value-exclusive_sum_of x ([] ∷ []) p ∙ rw (xor_nothing true) (xor_one (value_of_polynomial x p));
+  };
+  answers = e;
+}
