@@ -5,4 +5,4 @@ pub invariant_of-self-2 : goal.invariant_of-self-2
 invariant_of-self-2 c =
     let known = rw (← c.self.view_is) at c.requires.known in
     let room = rw (← c.self.view_is) at c.requires.room in
-    (rw c.in_ok-push.ensures.items (tape_claim _ c.args.claim c.self.invariant.0 known room), c.self.invariant.1)
+    (rw c.in_ok-push.ensures.items (tape_claim _ _ c.self.invariant.0 known room), c.self.invariant.1)
