@@ -168,7 +168,7 @@ impl Tape {
         &self.outputs
     }
 
-    // Where the tape takes its memory from.
+    /// Where the tape takes its memory from.
     pub fn allocator(&self) -> &Global {
         self.entries.allocator()
     }
