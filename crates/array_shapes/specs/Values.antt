@@ -15,7 +15,7 @@ pub data ValueView : Type 0 where
 abbrev pub seen : Value → ValueView
 seen variants.Unit = unit
 seen (variants.Bit location) = bit location
-seen (variants.Reg locations) = register locations.items
+seen (variants.Reg locations) = register locations.value.items
 seen (variants.Fun env taken of) = function env taken of.now
 
 -- the location of a bit

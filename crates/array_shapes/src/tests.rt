@@ -1,6 +1,7 @@
 use super::*;
 use revc_base::Memory;
 use std::alloc::Global;
+use std::rc::Rc;
 use std::test::Fail;
 
 // Each call that takes memory, on a register of three places.
@@ -20,7 +21,7 @@ fn registers_are_lists_of_locations(rt: HostRuntime) -> Result<(), Fail> {
 #[test]
 fn a_copy_is_the_value(rt: HostRuntime) -> Result<(), Fail> {
     let alloc = rt.alloc();
-    let value = Value::Reg([7, 8].to_vec(alloc)?);
+    let value = Value::Reg(Rc::new(alloc, [7, 8].to_vec(alloc)?)?);
     let copied = value.copy()?;
     assert_eq!(rt; register(&copied).ok_or("no register")?, [7, 8].as_slice());
     assert_eq!(rt; bit(&Value::Bit(3)), Some(3));

@@ -4,14 +4,16 @@ ghost use Rattle.array_shapes.specs.Values.{seen, bit_of, register_of};
 
 use revc_base::Memory;
 use revs_terms::Lambda;
+use std::rc::Rc;
 
 /// A value of a run. A location is a number, and stands for the bit in it. A function has the number of the environment
-/// that it was made in, how many of its names are taken, and its names and body.
+/// that it was made in, how many of its names are taken, and its names and body. The locations of a register are shared, so
+/// that a copy takes the same time at any length.
 #[derive(Debug, Drop)]
 pub enum Value<'t> {
     Unit,
     Bit(u32),
-    Reg(Vec<u32>),
+    Reg(Rc<Vec<u32>>),
     Fun {
         env: u32,
         taken: u32,
@@ -20,7 +22,7 @@ pub enum Value<'t> {
 }
 
 impl<'t> Value<'t> {
-    /// The same value.
+    /// The same value. A register is not copied: the new value shares its locations.
     pub fn copy(&self) -> Result<Value<'t>, Memory>
         ensures { IfOk result (λ value. seen value ≡ seen self.now) }
     {
@@ -52,7 +54,7 @@ pub fn register<'a, 't>(value: &'a Value<'t>) -> Option<&'a [u32]>
     ensures { option_map (λ r. r.now) result ≡ register_of (seen value.now) }
 {
     match value {
-        Value::Reg(locations) => Some(locations),
+        Value::Reg(locations) => Some(locations.as_slice()),
         _ => None,
     }
 }

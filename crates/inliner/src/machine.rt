@@ -16,6 +16,7 @@ use array_shapes::Value;
 use revc_base::{Claim, Entry, Kind, Place, Ref, Tape};
 use revs_terms::Term;
 use std::alloc::Global;
+use std::rc::Rc;
 
 /// The most work of a run.
 const MOST_WORK: u32 = 16_777_216;
@@ -205,7 +206,7 @@ impl<'t> Machine<'t> {
         ensures err { IfErr result (λ fault. Says fault (registered no_bits locations.items at (state_of self.old))) }
     {
         self.work(locations.len(), at)?;
-        Ok(Value::Reg(locations))
+        Ok(Value::Reg(Rc::new(self.allocator(), locations)?))
     }
 
     /// A register of these locations, of which there are at most 4,096.

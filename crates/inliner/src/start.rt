@@ -11,6 +11,7 @@ use array_shapes::Value;
 use revc_base::{Ref, Tape};
 use revs_terms::Param;
 use std::alloc::Global;
+use std::rc::Rc;
 
 // How many inputs a parameter has.
 fn width(param: &Param) -> u32
@@ -63,7 +64,10 @@ fn param_value<'t>(alloc: Global, first: u32, width: Option<u32>) -> Result<Valu
     ensures err { IfErr result (λ fault. fault ≡ RunFault.Memory) }
 {
     match width {
-        Some(width) => Ok(Value::Reg(numbers(alloc, first, first + width)?)),
+        Some(width) => {
+            let places = numbers(alloc, first, first + width)?;
+            Ok(Value::Reg(Rc::new(alloc, places)?))
+        }
         None => Ok(Value::Bit(first)),
     }
 }

@@ -1,5 +1,8 @@
+use Rattle.std.proofs.Common.{ap, ◌∙◌, ℕ, Vec, Global}
 use Rattle.inliner.proofs.Starts.{param_places}
 use Rattle.inliner.proofs.start.param_value.Goals as goal
 
-pub returns-in_ok-numbers-in-Some-clause-ok : goal.returns-in_ok-numbers-in-Some-clause-ok
-returns-in_ok-numbers-in-Some-clause-ok c = param_places c.args.first c.args.width c.in-Some.width c.in_ok-numbers-in-Some.field-0.items c.in-Some.is c.in_ok-numbers-in-Some.ensures.ok
+pub returns-in_ok-new-in-Some-clause-ok : goal.returns-in_ok-new-in-Some-clause-ok
+returns-in_ok-new-in-Some-clause-ok c =
+    param_places c.args.first c.args.width c.in-Some.width c.in_ok-new-in-Some.field-0.value.items c.in-Some.is
+    (ap (λ (x : Vec ℕ Global). x.items) c.in_ok-new-in-Some.ensures.ok ∙ c.in_ok-places-in-Some.ensures.ok)
