@@ -14,6 +14,7 @@ use crate::machine::Machine;
 use crate::places::place_of;
 use crate::start::start;
 use array_shapes::Value;
+use name_scope::Scoped;
 use revc_base::{Ref, Tape};
 use revs_terms::{Program, Term};
 use std::alloc::Global;
@@ -24,15 +25,15 @@ const MOST_DEPTH: u32 = 400;
 /// The most outputs of a program.
 const MOST_OUTPUTS: usize = 1_024;
 
-/// Runs a program once for all inputs, to the tape that its run leaves on each of them.
+/// Runs a program whose names are bound once for all inputs, to the tape that its run leaves on each of them.
 ///
 /// A fault comes exactly where the run is stuck, with that cause and place, on every input; want of memory may come
 /// anywhere.
-pub fn unroll(alloc: Global, program: &Program) -> Result<Tape, RunFault>
-    ensures ok { IfOk result (λ tape. IsTapeOf program.now.params.items (tree_of program.now.body) tape) }
-    ensures err { IfErr result (λ fault. IsRefused program.now.params.items (tree_of program.now.body) fault) }
+pub fn unroll(alloc: Global, scoped: &Scoped) -> Result<Tape, RunFault>
+    ensures ok { IfOk result (λ tape. IsTapeOf scoped.now.program.params.items (tree_of scoped.now.program.body) tape) }
+    ensures err { IfErr result (λ fault. IsRefused scoped.now.program.params.items (tree_of scoped.now.program.body) fault) }
 {
-    run(alloc, program)
+    run(alloc, scoped.program())
 }
 
 // The run without bits.

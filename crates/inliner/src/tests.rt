@@ -3,6 +3,7 @@ ghost use Rattle.revs_terms.specs.Trees.{tree_of};
 ghost use Rattle.std.specs.Prelude.{[]};
 
 use super::*;
+use name_scope::scope;
 use revc_base::{Entry, Place, Ref};
 use revs_terms::{Program, Term};
 use std::alloc::Global;
@@ -28,7 +29,10 @@ fn program(alloc: Global, body: Term) -> Program
 #[tactic(auto, using(revs_terms::proofs::Shapes::shapes))]
 fn a_constant_is_a_write(rt: HostRuntime) -> Result<(), Fail> {
     let alloc = rt.alloc();
-    let tape = unroll(alloc, &program(alloc, Term::Bool(true, at(1))))?;
+    let scoped = scope(alloc, program(alloc, Term::Bool(true, at(1))))
+        .ok()
+        .ok_or("refused")?;
+    let tape = unroll(alloc, &scoped)?;
     assert_eq!(rt; tape.len(), 1);
     assert_eq!(rt; tape.outputs(), [Ref::Write(0)].as_slice());
     assert_eq!(rt; tape.entries(), [Entry::Const(true)].as_slice());

@@ -46,7 +46,7 @@ pub fn tape_of(alloc: Global, program: Program) -> Result<Tape, Fault>
         Err(ScopeFault::TwoParams(at)) => return Err(refused(Kind::TwoParams, at)),
         Err(ScopeFault::Memory) => return Err(Fault::Memory),
     };
-    match unroll(alloc, scoped.program()) {
+    match unroll(alloc, &scoped) {
         Ok(tape) => Ok(tape),
         Err(fault) => Err(fault_of(fault)),
     }

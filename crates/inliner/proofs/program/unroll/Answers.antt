@@ -1,10 +1,20 @@
+use Rattle.std.proofs.Common.{subst}
+use Rattle.revs_terms.specs.declared.program.Program.{Program}
 use Rattle.revs_terms.specs.Trees.{tree_of}
+use Rattle.inliner.specs.Faults.{Says, Leaves}
+use Rattle.revs_terms.specs.Runs.{run_without_bits}
 use Rattle.inliner.proofs.Ends.{refused, left_on_all}
 use Rattle.inliner.proofs.Through.{on_ok, on_err}
 use Rattle.inliner.proofs.program.unroll.Goals as goal
 
 pub returns-clause-ok : goal.returns-clause-ok
-returns-clause-ok c = on_ok c.run.result (λ tape l. left_on_all c.args.program.now.params.items (tree_of c.args.program.now.body) tape l) c.run.ensures.ok
+returns-clause-ok c =
+    let p = c.args.scoped.now.program in
+    on_ok c.run.result (λ tape l. left_on_all p.params.items (tree_of p.body) tape
+    (subst (λ (x : Program). Leaves x.params.items (tree_of x.body) tape) c.program.ensures.same l)) c.run.ensures.ok
 
 pub returns-clause-err : goal.returns-clause-err
-returns-clause-err c = on_err c.run.result (λ fault s. refused c.args.program.now.params.items (tree_of c.args.program.now.body) fault s) c.run.ensures.err
+returns-clause-err c =
+    let p = c.args.scoped.now.program in
+    on_err c.run.result (λ fault s. refused p.params.items (tree_of p.body) fault
+    (subst (λ (x : Program). Says fault (run_without_bits x.params.items (tree_of x.body))) c.program.ensures.same s)) c.run.ensures.err
