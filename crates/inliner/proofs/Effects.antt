@@ -16,7 +16,7 @@ use Rattle.revs_terms.specs.Running.{Stamped, Met, went, read, unit, left_by, wr
 use Rattle.revs_terms.specs.Runs.{no_bits}
 use Rattle.array_shapes.specs.declared.value.Value.TheVariants as variants
 use Rattle.inliner.specs.declared.machine.Machine.{Machine}
-use Rattle.inliner.specs.Machines.{held_by, met_by, state_of, AreBindings, IsKnownIn, IsMachine, Does, Goes}
+use Rattle.inliner.specs.Machines.{held_by, met_by, state_of, AreBindings, AreLeaps, IsKnownIn, IsMachine, Does, Goes}
 use Rattle.inliner.specs.Steps.{claim_step, assign_step}
 use Rattle.inliner.proofs.After.{goes_on}
 use Rattle.inliner.proofs.Growth.{grows_same}
@@ -48,6 +48,7 @@ assigned old now to from left right was made b s t w first second known is =
         grows = grows_same old now b (ap (λ (x : TapeView). x.params) t);
         kept = record {
           made = subst (AreBindings 0) (sym b) is.made;
+          leaps = subst (AreLeaps []) (sym b) is.leaps;
           known = rw (s, t) (All-set (IsKnownIn old.tape) old.store.items to (Some made) is.known known);
           few = rw (s, t, length-set old.store.items to (Some made)) is.few;
           within = rw w is.within;
@@ -75,6 +76,7 @@ claimed_kept : (old now : Machine) (store : List (Option Ref)) (claims : List Cl
     → length store ≡ length old.store.items → AllByRecursion (IsKnownIn old.tape) store → IsMachine old → IsMachine now
 claimed_kept old now store claims b s t w long known is = record {
   made = subst (AreBindings 0) (sym b) is.made;
+  leaps = subst (AreLeaps []) (sym b) is.leaps;
   known = rw (s, t) known;
   few = rw (s, t, long) is.few;
   within = rw w is.within;
@@ -135,6 +137,7 @@ wrote old now entry at made m b s t w room is =
       grows = grows_same old now b params;
       kept = record {
         made = subst (AreBindings 0) (sym b) is.made;
+        leaps = subst (AreLeaps []) (sym b) is.leaps;
         known = rw s (All-push (IsKnownIn now.tape) old.store.items (Some (refs.Write (length old.tape.entries)))
             (All-map (IsKnownIn old.tape) (IsKnownIn now.tape) (λ held. IsKnownIn-later old.tape now.tape held params (omega arith)) old.store.items is.known)
             (omega (arith, longer)));

@@ -6,6 +6,7 @@ use Rattle.revs_terms.specs.Running.{Environment, nothing, bound, value_at, Stat
 use Rattle.array_shapes.specs.declared.value.Value.{Value}
 use Rattle.array_shapes.specs.Values as values
 use Rattle.array_shapes.specs.Values.{ValueView, seen}
+use Rattle.inliner.specs.declared.leaps.Leap.{Leap}
 use Rattle.inliner.specs.declared.machine.Binding.{Binding}
 use Rattle.inliner.specs.declared.machine.Machine.{Machine}
 use Rattle.revc_base.specs.Tapes.{TapeView}
@@ -13,7 +14,7 @@ use Rattle.revc_base.specs.declared.place.Place.{Place}
 use Rattle.revs_terms.specs.Runs.{no_bits}
 use Rattle.inliner.specs.Steps.{bind_step}
 use Rattle.inliner.proofs.After.{goes_on}
-use Rattle.inliner.specs.Machines.{view_length, env_in, spec_value, value_in, bound_in, envs_from, IsValueView, IsValue, AreBindings, envs_of, state_of, IsMachine, Grows, Does, Binds}
+use Rattle.inliner.specs.Machines.{view_length, env_in, spec_value, value_in, bound_in, envs_from, IsValueView, IsValue, AreBindings, AreLeaps, envs_of, state_of, IsMachine, Grows, Does, Binds}
 
 -- ---- what stands in front stays
 
@@ -166,28 +167,29 @@ bound_length-view envs (values.bit location) = refl
 bound_length-view envs (values.register locations) = refl
 bound_length-view envs (values.function env taken of) = refl
 
-pub bound_done : (old mid now : Machine) (value : Value) (env made : ℕ) (at there : Place) → at ≡ there → (count : ℕ)
+pub bound_done : (old mid now : Machine) (value : Value) (env made : ℕ) (leap : Leap) (at there : Place) → at ≡ there → (count : ℕ)
     → count ≡ view_length (seen value) → Does old mid (worked no_bits count at (state_of old)) tt
-    → now.bindings.items ≡ mid.bindings.items ++ record { value = value; parent = env } ∷ []
+    → now.bindings.items ≡ mid.bindings.items ++ record { value = value; parent = env; leap = leap } ∷ []
     → now.store.items ≡ mid.store.items → now.tape ≡ mid.tape → now.work ≡ mid.work → made ≡ length now.bindings.items
-    → env ≤ length old.bindings.items → IsValue (length old.bindings.items) value
+    → env ≤ length old.bindings.items → IsValue (length old.bindings.items) value → AreLeaps [] now.bindings.items
     → Binds old now (bind_step (value_in (envs_of old) value) (env_in (envs_of old) env) there (state_of old)) made
-bound_done old mid now value env made at there p count n w b s t k m h v =
+bound_done old mid now value env made leap at there p count n w b s t k m h v leaps =
     let v2 : IsValue (length mid.bindings.items) value = grown_made old mid value w.grows v in
     let h2 : env ≤ length mid.bindings.items = omega (arith, grown_length old mid w.grows) in
-    let longer : length now.bindings.items ≡ length mid.bindings.items + 1 = ap length b ∙ length-append mid.bindings.items (record { value = value; parent = env } ∷ []) in
+    let longer : length now.bindings.items ≡ length mid.bindings.items + 1 = ap length b ∙ length-append mid.bindings.items (record { value = value; parent = env; leap = leap } ∷ []) in
     let state : state_of mid ≡ state_of now = cc in
     let counted : runs.bound_length (value_in (envs_of old) value) ≡ count = bound_length-view (envs_of old) (seen value) ∙ sym n in
     let last : env_in (envs_of now) made ≡ bound (value_in (envs_of old) value) (env_in (envs_of old) env) =
-    ap (env_in (envs_of now)) (m ∙ longer) ∙ pushed_env mid now (record { value = value; parent = env }) b
+    ap (env_in (envs_of now)) (m ∙ longer) ∙ pushed_env mid now (record { value = value; parent = env; leap = leap }) b
     ∙ ap (λ (x : runs.Value). bound x (env_in (envs_of mid) env)) (grown_value old mid value w.grows v)
     ∙ ap (bound (value_in (envs_of old) value)) (grown_env old mid env w.grows h) in
     record {
       does = record {
         goes = rw (← p, counted) (goes_on _ _ _ _ _ w.goes (rw (last, state) refl));
-        grows = grows_trans old mid now w.grows (record { more = record { value = value; parent = env } ∷ []; bindings = b; params = ap (λ (x : TapeView). x.params) t });
+        grows = grows_trans old mid now w.grows (record { more = record { value = value; parent = env; leap = leap } ∷ []; bindings = b; params = ap (λ (x : TapeView). x.params) t });
         kept = record {
-          made = rw b (bindings_pushed mid.bindings.items (record { value = value; parent = env }) w.kept.made h2 v2.made);
+          made = rw b (bindings_pushed mid.bindings.items (record { value = value; parent = env; leap = leap }) w.kept.made h2 v2.made);
+          leaps = leaps;
           known = rw (s, t) w.kept.known;
           few = rw (s, t) w.kept.few;
           within = rw k w.kept.within;
@@ -205,7 +207,7 @@ nothing_bound back = refl
 pub none_bound : (m : Machine) (env back : ℕ) → env ≡ 0 → value_at (env_in (envs_of m) env) back ≡ runs.unit
 none_bound m env back e = ap (λ (k : ℕ). value_at (env_in (envs_of m) k) back) e ∙ nothing_bound back
 
-got : (bs : List Binding) (k : ℕ) (b : Binding) → k < length bs → b ≡ get_or bs k b → slice_get bs k ≡ Some b
+pub got : (bs : List Binding) (k : ℕ) (b : Binding) → k < length bs → b ≡ get_or bs k b → slice_get bs k ≡ Some b
 got [] k b h e = absurd (omega arith)
 got (c ∷ cs) zero b h e = ap Some (sym e)
 got (c ∷ cs) (suc k) b h e = got cs k b (omega arith) e

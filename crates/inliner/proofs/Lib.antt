@@ -1,5 +1,6 @@
 pub mod After
 pub mod Growth
+pub mod FartherOut
 pub mod Effects
 pub mod Through
 pub mod Forms

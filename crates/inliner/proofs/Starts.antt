@@ -15,14 +15,16 @@ use Rattle.revs_terms.specs.Runs.{inputs_from, nothings, from, params_in, param_
 use Rattle.array_shapes.specs.declared.value.Value.{Value}
 use Rattle.array_shapes.specs.Values as values
 use Rattle.array_shapes.specs.Values.{ValueView, seen}
+use Rattle.inliner.specs.declared.leaps.Leap.{Leap}
 use Rattle.inliner.specs.declared.machine.Binding.{Binding}
 use Rattle.revc_base.specs.Tapes.{TapeView}
 use Rattle.revc_base.proofs.TapeKeeps.{All-map}
 use Rattle.inliner.specs.declared.machine.Machine.{Machine}
 use Rattle.inliner.proofs.Effects.{state_is}
-use Rattle.inliner.specs.Machines.{held_by, met_by, IsKnownIn, env_in, spec_value, envs_from, AreBindings, IsValueView}
+use Rattle.inliner.specs.Machines.{held_by, met_by, IsKnownIn, env_in, spec_value, envs_from, AreBindings, AreLeaps, Leaps, IsValueView}
 use Rattle.inliner.specs.Starting.{param_view, IsInputBelow, AreInputs, AreBound, IsStart}
 use Rattle.inliner.proofs.Growth.{pushed_at, bindings_pushed}
+use Rattle.inliner.proofs.FartherOut.{leaps_pushed}
 
 -- ---- inputs
 
@@ -72,6 +74,7 @@ range_more a (suc n) b e =
 -- The parameters so far are bound; these are left.
 pub record InBound (bs : List Binding) (first : ℕ) (rest params : List Param) : Type 0 where
   pub are : AreBindings 0 bs
+  pub leaps : AreLeaps [] bs
   pub env : params_in first rest (env_in (envs_from [] bs) (length bs)) ≡ params_in 0 params nothing
   pub count : length bs + length rest ≡ length params
   pub total : first + sum (widths_of rest) ≤ 1024
@@ -81,6 +84,7 @@ pub record InBound (bs : List Binding) (first : ℕ) (rest params : List Param) 
 pub bound_begun : (bs : List Binding) (params : List Param) → bs ≡ [] → AreParams params → InBound bs 0 params params
 bound_begun bs params none are = record {
   are = subst (AreBindings 0) (sym none) tt;
+  leaps = subst (AreLeaps []) (sym none) tt;
   env = ap (λ (x : List Binding). params_in 0 params (env_in (envs_from [] x) (length x))) none;
   count = ap (λ (x : List Binding). length x + length params) none ∙ omega arith;
   total = omega (arith, are.inputs);
@@ -96,10 +100,10 @@ view_param : (n first : ℕ) (w : Option ℕ) → IsValueView n (param_view firs
 view_param n first None = tt
 view_param n first (Some w) = tt
 
-pub bound_more : (bs cs : List Binding) (first next parent : ℕ) (p : Param) (ps rest params : List Param) (v : Value) → rest ≡ p ∷ ps → seen v ≡ param_view first p.width → parent ≡ length bs
-    → next ≡ first + width_of p.width → cs ≡ bs ++ record { value = v; parent = parent } ∷ [] → InBound bs first rest params → InBound cs next ps params
-bound_more bs cs first next parent p ps rest params v cut s at n pushed i =
-    let b : Binding = record { value = v; parent = parent } in
+pub bound_more : (bs cs : List Binding) (first next parent : ℕ) (leap : Leap) (p : Param) (ps rest params : List Param) (v : Value) → rest ≡ p ∷ ps → seen v ≡ param_view first p.width → parent ≡ length bs
+    → next ≡ first + width_of p.width → cs ≡ bs ++ record { value = v; parent = parent; leap = leap } ∷ [] → Leaps (envs_from [] bs) parent leap → InBound bs first rest params → InBound cs next ps params
+bound_more bs cs first next parent leap p ps rest params v cut s at n pushed l i =
+    let b : Binding = record { value = v; parent = parent; leap = leap } in
     let longer : length cs ≡ length bs + 1 = ap length pushed ∙ length-append bs (b ∷ []) in
     let whole : first + sum (widths_of (p ∷ ps)) ≤ 1024 = subst (λ (x : List Param). first + sum (widths_of x) ≤ 1024) cut i.total in
     let total : first + (width_of p.width + sum (widths_of ps)) ≤ 1024 = omega (arith, whole, fold_more (0 + width_of p.width) (widths_of ps)) in
@@ -111,6 +115,7 @@ bound_more bs cs first next parent p ps rest params v cut s at n pushed i =
     ∙ ap (λ (x : ℕ). bound (param_value first p.width) (env_in (envs_from [] bs) x)) at in
     record {
       are = rw pushed (bindings_pushed bs b i.are (omega (arith, at)) (subst (λ (x : ValueView). IsValueView (length bs) x) (sym s) (view_param (length bs) first p.width)));
+      leaps = rw pushed (leaps_pushed [] bs b i.leaps l);
       env = ap (params_in next ps) last ∙ ap (λ (x : ℕ). params_in x ps (bound (param_value first p.width) (env_in (envs_from [] bs) (length bs)))) n
           ∙ ap (λ (x : List Param). params_in first x (env_in (envs_from [] bs) (length bs))) (sym cut) ∙ i.env;
       count = omega (arith, longer, ap length cut, i.count);
@@ -122,6 +127,7 @@ bound_more bs cs first next parent p ps rest params v cut s at n pushed i =
 pub bound_done : (bs : List Binding) (first : ℕ) (rest params : List Param) → rest ≡ [] → InBound bs first rest params → AreBound params bs
 bound_done bs first rest params none i = record {
   are = i.are;
+  leaps = i.leaps;
   env = ap (λ (x : List Param). params_in first x (env_in (envs_from [] bs) (length bs))) (sym none) ∙ i.env;
   count = omega (arith, ap length none, i.count);
 }
@@ -145,6 +151,7 @@ started params m w t i b are =
     record {
       kept = record {
         made = b.are;
+        leaps = b.leaps;
         known = subst (λ (x : TapeView). AllByRecursion (IsKnownIn x) m.store.items) (sym t) (All-map (IsInputBelow (sum (widths_of params))) (IsKnownIn (record { params = widths_of params; entries = []; claims = []; outputs = [] })) (known_below (widths_of params)) m.store.items i.known);
         few = omega (arith, i.count, are.inputs);
         within = omega arith;

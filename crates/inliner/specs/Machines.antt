@@ -12,6 +12,7 @@ use Rattle.array_shapes.specs.Values as values
 use Rattle.array_shapes.specs.Values.{ValueView, seen}
 use Rattle.inliner.specs.declared.machine.Binding.{Binding}
 use Rattle.inliner.specs.declared.machine.Machine.{Machine}
+use Rattle.inliner.specs.declared.leaps.Leap.{Leap}
 
 -- ---- values and environments, by number
 
@@ -57,6 +58,22 @@ abbrev pub AreBindings : ℕ → List Binding → Type 0
 AreBindings n [] = ⊤
 AreBindings n (b ∷ bs) = (b.parent ≤ n) × (IsValueView n (seen b.value) × AreBindings (n + 1) bs)
 
+-- the environment so many bindings farther out
+abbrev pub farther : ℕ → Environment → Environment
+farther zero env = env
+farther (suc n) nothing = nothing
+farther (suc n) (bound value far) = farther n far
+
+-- The leap leads out of this environment past so many bindings, to one that was made before.
+pub record Leaps (envs : List Environment) (env : ℕ) (leap : Leap) : Type 0 where
+  pub reached : env_in envs leap.to ≡ farther leap.passed (env_in envs env)
+  pub before : leap.to + leap.passed ≤ env
+
+-- each binding has a leap out of its parent
+abbrev pub AreLeaps : List Environment → List Binding → Type 0
+AreLeaps envs [] = ⊤
+AreLeaps envs (b ∷ bs) = Leaps envs b.parent b.leap × AreLeaps (envs ++ bound_in envs b ∷ []) bs
+
 -- ---- the state of a run without bits
 
 abbrev pub held_by : Option Ref → Option (Stamped (Unit {0}))
@@ -80,6 +97,7 @@ IsKnownIn tape (Some r) = IsKnown (sum tape.params) (length tape.entries) r
 -- What the machine keeps.
 pub record IsMachine (m : Machine) : Type 0 where
   pub made : AreBindings 0 m.bindings.items
+  pub leaps : AreLeaps [] m.bindings.items
   pub known : AllByRecursion (IsKnownIn m.tape) m.store.items
   pub few : length m.store.items ≤ 1024 + length m.tape.entries
   pub within : m.work ≤ 16777216

@@ -12,7 +12,7 @@ use Rattle.array_shapes.specs.Values as values
 use Rattle.array_shapes.specs.Values.{ValueView}
 use Rattle.inliner.specs.declared.machine.Binding.{Binding}
 use Rattle.inliner.specs.declared.machine.Machine.{Machine}
-use Rattle.inliner.specs.Machines.{held_by, IsMachine, AreBindings, envs_from, envs_of, env_in, state_of}
+use Rattle.inliner.specs.Machines.{held_by, IsMachine, AreBindings, AreLeaps, envs_from, envs_of, env_in, state_of}
 
 -- the value of a parameter whose first input is this one
 abbrev pub param_view : ℕ → Option ℕ → ValueView
@@ -32,6 +32,7 @@ pub record AreInputs (n : ℕ) (store : List (Option Ref)) : Type 0 where
 -- The parameters are bound, the last one nearest.
 pub record AreBound (params : List Param) (bs : List Binding) : Type 0 where
   pub are : AreBindings 0 bs
+  pub leaps : AreLeaps [] bs
   pub env : env_in (envs_from [] bs) (length bs) ≡ params_in 0 params nothing
   pub count : length bs ≡ length params
 

@@ -3,6 +3,7 @@
 #![tactic(auto)]
 
 mod fault;
+mod leaps;
 mod machine;
 mod places;
 mod program;

@@ -11,6 +11,7 @@ ghost use Rattle.inliner.specs.Machines.{view_length};
 ghost use Rattle.inliner.specs.Steps.{entry_of};
 
 use crate::RunFault;
+use crate::leaps::{Leap, leap_from};
 use crate::places::place_of;
 use array_shapes::Value;
 use revc_base::{Claim, Entry, Kind, Place, Ref, Tape};
@@ -37,11 +38,12 @@ pub enum Operator {
     Xor,
 }
 
-/// A value with a name, and the number of the environment that it was bound in.
+/// A value with a name, the number of the environment that it was bound in, and a way out of that environment.
 #[derive(Debug, Drop)]
 pub struct Binding<'t> {
     pub value: Value<'t>,
     pub parent: u32,
+    pub leap: Leap,
 }
 
 /// What a run has made so far: the bindings, what each location holds, the tape and the work.
@@ -230,7 +232,12 @@ impl<'t> Machine<'t> {
         ensures err { IfErr result (λ fault. Says fault (bind_step (value_in (envs_of self.old) value.entry) (env_in (envs_of self.old) env) (place_of (tree_of term.now)) (state_of self.old))) }
     {
         self.work(bound_length(&value), place_of(term))?;
-        self.bindings.push(Binding { value, parent: env })?;
+        let leap = leap_from(&self.bindings, env);
+        self.bindings.push(Binding {
+            value,
+            parent: env,
+            leap,
+        })?;
         self.last_environment()
     }
 
@@ -242,17 +249,17 @@ impl<'t> Machine<'t> {
         ensures made { IfOk result (λ value. IsValue (length self.now.bindings.items) value) }
         ensures err { IfErr result (λ fault. fault ≡ RunFault.Memory) }
     {
-        let mut env = env;
-        for _step in 0..back {
-            if env == 0 {
-                return Ok(Value::Unit);
-            }
-            env = self.bindings[env as usize - 1].parent;
-        }
         if env == 0 {
             return Ok(Value::Unit);
         }
-        Ok(self.bindings[env as usize - 1].value.copy()?)
+        let binding = &self.bindings[env as usize - 1];
+        if back == 0 {
+            return Ok(binding.value.copy()?);
+        }
+        if binding.leap.passed < back {
+            return self.named(binding.leap.to, back - 1 - binding.leap.passed);
+        }
+        self.named(binding.parent, back - 1)
     }
 }
 

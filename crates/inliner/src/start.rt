@@ -6,6 +6,7 @@ ghost use Rattle.array_shapes.specs.Values.{seen};
 ghost use Rattle.inliner.specs.Starting.{param_view, AreBound, IsStart};
 
 use crate::RunFault;
+use crate::leaps::leap_from;
 use crate::machine::{Binding, Machine};
 use array_shapes::Value;
 use revc_base::{Ref, Tape};
@@ -83,7 +84,12 @@ fn bound<'t>(alloc: Global, params: &[Param]) -> Result<Vec<Binding<'t>>, RunFau
     for param in params {
         let value = param_value(alloc, first, param.width)?;
         let parent = bindings.len() as u32;
-        bindings.push(Binding { value, parent })?;
+        let leap = leap_from(&bindings, parent);
+        bindings.push(Binding {
+            value,
+            parent,
+            leap,
+        })?;
         first += width(param);
     }
     Ok(bindings)

@@ -1,0 +1,103 @@
+-- Ways out of environments.
+use Rattle.std.proofs.Common.{◌≡◌, ℕ, zero, suc, ◌+◌, ◌-◌, ◌≤◌, ◌<◌, Some, List, [], ◌∷◌, ◌++◌, length, slice_get, slice_index_or, get_or, length-append, arith, refl, sym, ap, ◌∙◌, subst}
+use Rattle.revs_terms.specs.Running.{Environment, nothing, bound, value_at}
+use Rattle.inliner.specs.declared.leaps.Leap.{Leap}
+use Rattle.inliner.specs.declared.machine.Binding.{Binding}
+use Rattle.inliner.specs.declared.machine.Machine.{Machine}
+use Rattle.inliner.specs.Machines.{env_in, bound_in, envs_from, envs_of, farther, Leaps, AreLeaps, AreBindings, IsMachine}
+use Rattle.inliner.proofs.Growth.{env_in-front, envs_from-front, added_by, at_place, got}
+
+-- ---- farther out
+
+value_farther : (n k : ℕ) (e : Environment) → value_at (farther n e) k ≡ value_at e (n + k)
+value_farther zero k e = ap (value_at e) (omega arith)
+value_farther (suc n) k nothing = refl
+value_farther (suc n) k (bound v far) =
+    let next : suc (n + k) ≡ suc n + k = omega arith in
+    value_farther n k far ∙ ap (value_at (bound v far)) next
+
+farther_nothing : (n : ℕ) → farther n nothing ≡ nothing
+farther_nothing zero = refl
+farther_nothing (suc n) = refl
+
+farther_twice : (a b : ℕ) (e : Environment) → farther a (farther b e) ≡ farther (b + a) e
+farther_twice a zero e = ap (λ (n : ℕ). farther n e) (omega arith)
+farther_twice a (suc b) nothing = farther_nothing a ∙ sym (farther_nothing (suc b + a))
+farther_twice a (suc b) (bound v far) =
+    let next : suc (b + a) ≡ suc b + a = omega arith in
+    farther_twice a b far ∙ ap (λ (n : ℕ). farther n (bound v far)) next
+
+-- ---- the leaps of bindings
+
+leaps_front : (d r : List Environment) (env : ℕ) (leap : Leap) → env ≤ length d → Leaps d env leap → Leaps (d ++ r) env leap
+leaps_front d r env leap h l = record {
+  reached = env_in-front d r leap.to (omega (arith, l.before)) ∙ l.reached ∙ ap (farther leap.passed) (sym (env_in-front d r env h));
+  before = l.before;
+}
+
+leaps_at : (d : List Environment) (bs : List Binding) (k : ℕ) (b : Binding) → AreBindings (length d) bs → AreLeaps d bs → slice_get bs k ≡ Some b
+    → Leaps (envs_from d bs) b.parent b.leap
+leaps_at d [] k b are ls e = absurd cc
+leaps_at d (c ∷ cs) zero b are ls e =
+    let same : c ≡ b = cc in
+    subst (λ (x : Binding). Leaps (envs_from d (c ∷ cs)) x.parent x.leap) same
+    (subst (λ (x : List Environment). Leaps x c.parent c.leap) (sym (envs_from-front d (c ∷ cs))) (leaps_front d (added_by d (c ∷ cs)) c.parent c.leap are.0 ls.0))
+leaps_at d (c ∷ cs) (suc k) b are ls e =
+    let longer : length (d ++ bound_in d c ∷ []) ≡ length d + 1 = length-append d (bound_in d c ∷ []) in
+    leaps_at (d ++ bound_in d c ∷ []) cs k b (subst (λ (n : ℕ). AreBindings n cs) (sym longer) are.1.1) ls.1 e
+
+pub leaps_pushed : (d : List Environment) (bs : List Binding) (b : Binding) → AreLeaps d bs → Leaps (envs_from d bs) b.parent b.leap → AreLeaps d (bs ++ b ∷ [])
+leaps_pushed d [] b ls l = (l, tt)
+leaps_pushed d (c ∷ bs) b ls l = (ls.0, leaps_pushed (d ++ bound_in d c ∷ []) bs b ls.1 l)
+
+-- ---- a way out
+
+pub stays : (envs : List Environment) (env : ℕ) (leap : Leap) → leap ≡ record { to = env; passed = 0 } → Leaps envs env leap
+stays envs env leap e = subst (Leaps envs env) (sym e) (record { reached = refl; before = omega arith })
+
+-- a binding that is looked up by its place
+pub got_or : (bs : List Binding) (k : ℕ) (d : Binding) → k < length bs → slice_get bs k ≡ Some (slice_index_or bs k d)
+got_or [] k d h = absurd (omega arith)
+got_or (c ∷ cs) zero d h = refl
+got_or (c ∷ cs) (suc k) d h = got_or cs k d (omega arith)
+
+-- the leap of the binding of an environment, from that environment
+pub out : (bs : List Binding) (env : ℕ) (b : Binding) → AreBindings 0 bs → AreLeaps [] bs → 0 < env → env ≤ length bs → slice_get bs (env - 1) ≡ Some b
+    → (env_in (envs_from [] bs) b.leap.to ≡ farther (suc b.leap.passed) (env_in (envs_from [] bs) env)) × (b.leap.to + b.leap.passed + 1 ≤ env)
+out bs env b are ls some within e =
+    let p = at_place [] bs (env - 1) b are e in
+    let l = leaps_at [] bs (env - 1) b are ls e in
+    let k : env ≡ suc (0 + (env - 1)) = omega arith in
+    (l.reached ∙ ap (farther (suc b.leap.passed)) (sym (ap (env_in (envs_from [] bs)) k ∙ p.env)), omega (arith, l.before, p.parent))
+
+pub out_twice : (bs : List Binding) (env : ℕ) (b c : Binding) (leap : Leap) → AreBindings 0 bs → AreLeaps [] bs → 0 < env → env ≤ length bs → slice_get bs (env - 1) ≡ Some b
+    → 0 < b.leap.to → slice_get bs (b.leap.to - 1) ≡ Some c → leap ≡ record { to = c.leap.to; passed = b.leap.passed + c.leap.passed + 2 }
+    → Leaps (envs_from [] bs) env leap
+out_twice bs env b c leap are ls some within e further f is =
+    let o = out bs env b are ls some within e in
+    let q = out bs b.leap.to c are ls further (omega (arith, o.1)) f in
+    let both : suc b.leap.passed + suc c.leap.passed ≡ b.leap.passed + c.leap.passed + 2 = omega arith in
+    subst (Leaps (envs_from [] bs) env) (sym is) (record {
+      reached = q.0 ∙ ap (farther (suc c.leap.passed)) o.0 ∙ farther_twice (suc c.leap.passed) (suc b.leap.passed) (env_in (envs_from [] bs) env)
+          ∙ ap (λ (n : ℕ). farther n (env_in (envs_from [] bs) env)) both;
+      before = omega (arith, o.1, q.1);
+    })
+
+-- what two leaps pass is less than what there is
+pub passed_twice : (bs : List Binding) (env : ℕ) (b c : Binding) → AreBindings 0 bs → AreLeaps [] bs → 0 < env → env ≤ length bs → slice_get bs (env - 1) ≡ Some b
+    → 0 < b.leap.to → slice_get bs (b.leap.to - 1) ≡ Some c → b.leap.passed + c.leap.passed + 2 ≤ env
+passed_twice bs env b c are ls some within e further f =
+    let o = out bs env b are ls some within e in
+    let q = out bs b.leap.to c are ls further (omega (arith, o.1)) f in
+    omega (arith, o.1, q.1)
+
+-- the name is found farther out
+pub named_out : (m : Machine) (env back : ℕ) (b : Binding) → IsMachine m → 0 < env → env ≤ length m.bindings.items → b.leap.passed < back → b ≡ get_or m.bindings.items (env - 1) b
+    → (value_at (env_in (envs_of m) b.leap.to) (back - 1 - b.leap.passed) ≡ value_at (env_in (envs_of m) env) back) × (b.leap.to ≤ length m.bindings.items)
+named_out m env back b is some within further e =
+    let o = out m.bindings.items env b is.made is.leaps some within (got m.bindings.items (env - 1) b (omega arith) e) in
+    let rest : suc b.leap.passed + (back - 1 - b.leap.passed) ≡ back = omega arith in (
+      ap (λ (x : Environment). value_at x (back - 1 - b.leap.passed)) o.0 ∙ value_farther (suc b.leap.passed) (back - 1 - b.leap.passed) (env_in (envs_of m) env)
+          ∙ ap (value_at (env_in (envs_of m) env)) rest,
+      omega (arith, o.1),
+    )
