@@ -5,7 +5,7 @@ use Rattle.inliner.specs.declared.leaps.Leap.{Leap}
 use Rattle.inliner.specs.declared.machine.Binding.{Binding}
 use Rattle.inliner.specs.declared.machine.Machine.{Machine}
 use Rattle.inliner.specs.Machines.{env_in, bound_in, envs_from, envs_of, farther, Leaps, AreLeaps, AreBindings, IsMachine}
-use Rattle.inliner.proofs.Growth.{env_in-front, envs_from-front, added_by, at_place, got}
+use Rattle.inliner.proofs.Growth.{env_in-front, envs_from-front, added_by, at_place, placed, got}
 
 -- ---- farther out
 
@@ -91,13 +91,35 @@ passed_twice bs env b c are ls some within e further f =
     let q = out bs b.leap.to c are ls further (omega (arith, o.1)) f in
     omega (arith, o.1, q.1)
 
--- the name is found farther out
-pub named_out : (m : Machine) (env back : ℕ) (b : Binding) → IsMachine m → 0 < env → env ≤ length m.bindings.items → b.leap.passed < back → b ≡ get_or m.bindings.items (env - 1) b
-    → (value_at (env_in (envs_of m) b.leap.to) (back - 1 - b.leap.passed) ≡ value_at (env_in (envs_of m) env) back) × (b.leap.to ≤ length m.bindings.items)
-named_out m env back b is some within further e =
+-- ---- an environment farther out
+
+onward : (envs : List Environment) (env near there n left count : ℕ) → n + left ≡ count → env_in envs near ≡ farther n (env_in envs env)
+    → env_in envs there ≡ farther left (env_in envs near) → env_in envs there ≡ farther count (env_in envs env)
+onward envs env near there n left count whole first second =
+    second ∙ ap (farther left) first ∙ farther_twice left n (env_in envs env) ∙ ap (λ (k : ℕ). farther k (env_in envs env)) whole
+
+-- past the leap of the nearest binding
+pub leapt : (m : Machine) (env there count : ℕ) (b : Binding) → IsMachine m → 0 < env → env ≤ length m.bindings.items → b.leap.passed < count → b ≡ get_or m.bindings.items (env - 1) b
+    → env_in (envs_of m) there ≡ farther (count - 1 - b.leap.passed) (env_in (envs_of m) b.leap.to) → env_in (envs_of m) there ≡ farther count (env_in (envs_of m) env)
+leapt m env there count b is some within further e f =
     let o = out m.bindings.items env b is.made is.leaps some within (got m.bindings.items (env - 1) b (omega arith) e) in
-    let rest : suc b.leap.passed + (back - 1 - b.leap.passed) ≡ back = omega arith in (
-      ap (λ (x : Environment). value_at x (back - 1 - b.leap.passed)) o.0 ∙ value_farther (suc b.leap.passed) (back - 1 - b.leap.passed) (env_in (envs_of m) env)
-          ∙ ap (value_at (env_in (envs_of m) env)) rest,
-      omega (arith, o.1),
-    )
+    onward (envs_of m) env b.leap.to there (suc b.leap.passed) (count - 1 - b.leap.passed) count (omega arith) o.0 f
+
+pub leap_made : (m : Machine) (env : ℕ) (b : Binding) → IsMachine m → 0 < env → env ≤ length m.bindings.items → b ≡ get_or m.bindings.items (env - 1) b → b.leap.to ≤ length m.bindings.items
+leap_made m env b is some within e = omega (arith, (out m.bindings.items env b is.made is.leaps some within (got m.bindings.items (env - 1) b (omega arith) e)).1)
+
+-- past the nearest binding
+pub one_out : (m : Machine) (env there count : ℕ) (b : Binding) → IsMachine m → 0 < env → env ≤ length m.bindings.items → 0 < count → b ≡ get_or m.bindings.items (env - 1) b
+    → env_in (envs_of m) there ≡ farther (count - 1) (env_in (envs_of m) b.parent) → env_in (envs_of m) there ≡ farther count (env_in (envs_of m) env)
+one_out m env there count b is some within further e f =
+    let p = placed m (env - 1) b is (got m.bindings.items (env - 1) b (omega arith) e) in
+    let k : env ≡ suc (env - 1) = omega arith in
+    onward (envs_of m) env b.parent there (suc zero) (count - 1) count (omega arith) (ap (farther (suc zero)) (sym (ap (env_in (envs_of m)) k ∙ p.env))) f
+
+pub parent_made : (m : Machine) (env : ℕ) (b : Binding) → IsMachine m → 0 < env → env ≤ length m.bindings.items → b ≡ get_or m.bindings.items (env - 1) b → b.parent ≤ length m.bindings.items
+parent_made m env b is some within e = omega (arith, (placed m (env - 1) b is (got m.bindings.items (env - 1) b (omega arith) e)).parent)
+
+-- the value of a name is the nearest one there
+pub value_there : (m : Machine) (env there back : ℕ) → env_in (envs_of m) there ≡ farther back (env_in (envs_of m) env)
+    → value_at (env_in (envs_of m) there) 0 ≡ value_at (env_in (envs_of m) env) back
+value_there m env there back e = ap (λ (x : Environment). value_at x 0) e ∙ value_farther back 0 (env_in (envs_of m) env) ∙ ap (value_at (env_in (envs_of m) env)) (omega arith)

@@ -219,14 +219,6 @@ bound_env m env b is some within e =
     let k : env ≡ suc (env - 1) = omega arith in
     (ap (env_in (envs_of m)) k ∙ p.env, p.parent, p.made)
 
--- one binding back
-pub one_back : (m : Machine) (env left : ℕ) (b : Binding) → IsMachine m → 0 < env → env ≤ length m.bindings.items → 0 < left → b ≡ get_or m.bindings.items (env - 1) b
-    → (value_at (env_in (envs_of m) b.parent) (left - 1) ≡ value_at (env_in (envs_of m) env) left) × (b.parent ≤ length m.bindings.items)
-one_back m env left b is some within further e =
-    let p = bound_env m env b is some within e in
-    let k : left ≡ suc (left - 1) = omega arith in
-    (sym (ap (value_at (env_in (envs_of m) env)) k ∙ ap (λ (x : Environment). value_at x (suc (left - 1))) p.0), omega (arith, p.1))
-
 -- the nearest binding
 pub nearest : (m : Machine) (env left : ℕ) (b : Binding) → IsMachine m → 0 < env → env ≤ length m.bindings.items → left ≡ 0 → b ≡ get_or m.bindings.items (env - 1) b
     → (value_in (envs_of m) b.value ≡ value_at (env_in (envs_of m) env) left) × IsValueView (length m.bindings.items) (seen b.value)

@@ -1,18 +1,19 @@
-// Ways out of environments, many bindings at once.
+// Ways out of an environment, past many bindings at once.
 ghost use Rattle.std.specs.Prelude.{◌≤◌, [], length};
 ghost use Rattle.inliner.specs.Machines.{AreBindings, AreLeaps, Leaps, envs_from};
 
 use crate::machine::Binding;
 
-/// A way out of an environment: the environment that it leads to, and how many bindings are passed.
+/// A leap out of an environment: the environment that it leads to, and how many bindings are passed.
 #[derive(Clone, Copy, Debug)]
 pub struct Leap {
     pub to: u32,
     pub passed: u32,
 }
 
-/// The way out of an environment that a binding in it is given. Where the last two ways out are equally long it is both of
-/// them together, so that from each of n bindings every other one farther out is some 2 log n ways and parents away.
+/// The leap of a binding in this environment. Where the leap of the environment's own binding and the next one from there
+/// pass equally many bindings, it is both of them; else it stays here. So any of n environments farther out is a multiple of
+/// log n leaps and parents away, which no clause says.
 pub fn leap_from(bindings: &[Binding], env: u32) -> Leap
     requires made { AreBindings 0 bindings.now }
     requires leaps { AreLeaps [] bindings.now }

@@ -38,7 +38,7 @@ pub enum Operator {
     Xor,
 }
 
-/// A value with a name, the number of the environment that it was bound in, and a way out of that environment.
+/// A value with a name, the number of the environment that it was bound in, and a leap out of that environment.
 #[derive(Debug, Drop)]
 pub struct Binding<'t> {
     pub value: Value<'t>,
@@ -58,7 +58,7 @@ pub struct Machine<'t> {
 }
 
 impl<'t> Machine<'t> {
-    ghost use Rattle.inliner.specs.Machines.{IsMachine, Does, Goes, Binds, IsValue, envs_of, env_in, state_of, value_in};
+    ghost use Rattle.inliner.specs.Machines.{IsMachine, Does, Goes, Binds, IsValue, envs_of, env_in, state_of, value_in, farther};
     ghost use Rattle.inliner.specs.Steps.{constant_step, claim_step, assign_step, join_step, bind_step, reg_step};
 
     /// Where the machine takes its memory from.
@@ -241,6 +241,23 @@ impl<'t> Machine<'t> {
         self.last_environment()
     }
 
+    // The environment so many bindings farther out.
+    fn outward(&self, env: u32, count: u32) -> u32
+        requires machine { IsMachine self.now }
+        requires env { env ≤ length self.now.bindings.items }
+        ensures is { env_in (envs_of self.now) result ≡ farther count (env_in (envs_of self.now) env) }
+        ensures made { result ≤ length self.now.bindings.items }
+    {
+        if env == 0 || count == 0 {
+            return env;
+        }
+        let binding = &self.bindings[env as usize - 1];
+        if binding.leap.passed < count {
+            return self.outward(binding.leap.to, count - 1 - binding.leap.passed);
+        }
+        self.outward(binding.parent, count - 1)
+    }
+
     /// The value of a name, so many bindings back; it is unit where there is no such binding.
     pub fn named(&self, env: u32, back: u32) -> Result<Value<'t>, RunFault>
         requires machine { IsMachine self.now }
@@ -249,17 +266,11 @@ impl<'t> Machine<'t> {
         ensures made { IfOk result (λ value. IsValue (length self.now.bindings.items) value) }
         ensures err { IfErr result (λ fault. fault ≡ RunFault.Memory) }
     {
-        if env == 0 {
+        let there = self.outward(env, back);
+        if there == 0 {
             return Ok(Value::Unit);
         }
-        let binding = &self.bindings[env as usize - 1];
-        if back == 0 {
-            return Ok(binding.value.copy()?);
-        }
-        if binding.leap.passed < back {
-            return self.named(binding.leap.to, back - 1 - binding.leap.passed);
-        }
-        self.named(binding.parent, back - 1)
+        Ok(self.bindings[there as usize - 1].value.copy()?)
     }
 }
 
