@@ -5,3 +5,4 @@ pub mod GrowingLog
 pub mod SideBySide
 pub mod BothEnds
 pub mod FullValues
+pub mod TapeLaws

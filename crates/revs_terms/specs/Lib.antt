@@ -4,3 +4,4 @@ pub mod Running
 pub mod Trees
 pub mod Terms
 pub mod Programs
+pub mod Views

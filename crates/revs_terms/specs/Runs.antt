@@ -3,7 +3,7 @@ use Rattle.std.specs.Prelude.{◌≡◌, ℕ, zero, suc, ◌+◌, ◌≤◌, leb
 use Rattle.std.specs.Bool.{xor}
 use Rattle.revc_base.specs.declared.place.Place.{Place}
 use Rattle.revc_base.specs.declared.tape.Ref.TheVariants as refs
-use Rattle.revc_base.specs.Tapes.{TapeView, IsTape, bit_on}
+use Rattle.revc_base.specs.Tapes.{TapeView, IsTape, bit_on, outputs_on}
 use Rattle.revs_terms.specs.declared.program.Param.{Param}
 use Rattle.revs_terms.specs.Programs.{width_of, widths_of, AreParams}
 use Rattle.revs_terms.specs.Terms.{place_of, is_formed}
@@ -84,6 +84,17 @@ Ends params body input outputs s = run_of_program params body input ≡ went out
 abbrev pub IsStuck : List Param → Tree → List Bool → Refusal → Place → Type 0
 IsStuck params body input why at = run_of_program params body input ≡ stuck why at
 
+-- The output of a program on an input: the bits of the locations of its value.
+pub record HasOutput (params : List Param) (body : Tree) (input output : List Bool) : Type 0 where
+  pub outputs : List (Stamped Bool)
+  pub state : State Bool
+  pub ends : Ends params body input outputs state
+  pub bits : output ≡ map (λ o. o.bit) outputs
+
+-- The run of a program ends on every input.
+pub record EndsOnAll (params : List Param) (body : Tree) : Type 0 where
+  pub ends : (input : List Bool) → IsInput params input → (output : List Bool) × HasOutput params body input output
+
 -- ---- the tape of a program
 
 -- The run on an input leaves this tape, whose references have the bits that the run met.
@@ -126,3 +137,15 @@ abbrev pub HasOutputs : Type 0
 HasOutputs =
     (params : List Param) (body : Tree) (outputs : List (Stamped (Unit {0}))) (s : State (Unit {0}))
     → AreParams params → IsTrue (is_formed body) → run_without_bits params body ≡ went outputs s → 1 ≤ length outputs
+
+-- A program whose run ends on every input has one tape.
+abbrev pub OneTape : Type 0
+OneTape =
+    (params : List Param) (body : Tree) → EndsOnAll params body
+    → (t : TapeView) × IsTapeOf params body t × ((other : TapeView) → IsTapeOf params body other → other ≡ t)
+
+-- The run of a program with a tape ends on every input, and its output is that of the tape.
+abbrev pub TapeGivesOutput : Type 0
+TapeGivesOutput =
+    (params : List Param) (body : Tree) (t : TapeView) → IsTapeOf params body t
+    → (input : List Bool) → IsInput params input → HasOutput params body input (outputs_on t input)

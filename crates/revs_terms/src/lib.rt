@@ -7,7 +7,7 @@
 mod program;
 mod term;
 
-pub use program::{Param, Program, has_outputs, leaves_tape, same_for_all};
+pub use program::{Param, Program, has_outputs, leaves_tape, one_tape, same_for_all};
 pub use term::{Item, Lambda, Name, Part, Term, formed_has_parts};
 
 #[cfg(test)]

@@ -1,6 +1,6 @@
 // Programs, as the grammar gives them.
 ghost use Rattle.revs_terms.specs.Programs.{AreParams, IsBody, HasFewNames};
-ghost use Rattle.revs_terms.specs.Runs.{SameForAll, LeavesTape, HasOutputs};
+ghost use Rattle.revs_terms.specs.Runs.{SameForAll, LeavesTape, HasOutputs, OneTape, TapeGivesOutput};
 ghost use Rattle.revs_terms.specs.Trees.{tree_of};
 
 use crate::{Name, Term};
@@ -40,4 +40,10 @@ pub fn leaves_tape()
 /// A program whose run ends has an output: no register of a run is empty.
 pub fn has_outputs()
     ensures { HasOutputs }
+{}
+
+/// A program whose run ends on every input has exactly one tape, and the output of its run on an input is that of the tape.
+pub fn one_tape()
+    ensures one { OneTape }
+    ensures output { TapeGivesOutput }
 {}
