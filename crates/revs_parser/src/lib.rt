@@ -5,10 +5,12 @@
 #![tactic(auto)]
 
 mod expression;
+mod law;
 mod leaf;
 mod program;
 mod stop;
 
+pub use law::one_program_of_text;
 pub use program::{ParseFault, parse};
 
 #[cfg(test)]
