@@ -1,6 +1,7 @@
 -- A text and a word have one value, or one reason that they have none.
-use Rattle.std.proofs.Common.{◌≡◌, ℕ, suc, ◌+◌, Bool, List, [], ◌∷◌, ◌++◌, length, sum, refl, sym, ap, ◌∙◌, subst, arith}
+use Rattle.std.proofs.Common.{◌≡◌, ℕ, suc, ◌+◌, ◌==◌, Bool, List, [], ◌∷◌, ◌++◌, length, sum, refl, sym, ap, ◌∙◌, subst, arith}
 use Rattle.std.specs.List.{AllByRecursion}
+use Rattle.std.proofs.lemmas.List.{length-map}
 use Rattle.revc_base.specs.Bits.{IsDigit, IsFirstOther}
 use Rattle.revc_base.specs.declared.place.Place.{Place}
 use Rattle.revc_base.specs.declared.tape.Claim.{Claim}
@@ -11,12 +12,16 @@ use Rattle.revc.specs.declared.fault.Fault.{Fault}
 use Rattle.revc.specs.declared.fault.Fault.TheVariants as faults
 use Rattle.revc.specs.declared.fault.Refusal.{Refusal}
 use Rattle.std.specs.Prelude.{slice_index_or}
-use Rattle.revc.specs.Clean.{IsProgramText, HasTape}
-use Rattle.revc.specs.Program.{ProgramView}
+use Rattle.revs_parser.specs.WellFormed.{IsWellFormed}
+use Rattle.revs_parser.proofs.OneText.{one_formed}
+use Rattle.revs_terms.specs.Programs.{widths_of}
+use Rattle.revs_terms.specs.Runs.{IsTapeOf, HasOutput}
+use Rattle.revs_terms.proofs.TapeLaws.{one_tape_at_most, tape_gives_output}
+use Rattle.revs_terms.specs.Views.{ProgramView}
 use Rattle.revc.specs.Compiled.{IsEvalFault}
 use Rattle.revc.specs.Evaluation.{IsInputWord, IsValueOf, IsBadWord, IsBroken, Stops, bits_of}
 use Rattle.revc.specs.Top.{IsOnlyStop, StopsWell}
-use Rattle.revc.proofs.Outcomes.{one_refusal, formed_refusal, one_tape}
+use Rattle.revc.proofs.Outcomes.{one_refusal, formed_refusal}
 
 all_at : {A : Type 0} (P : A → Type 0) (before : List A) (x : A) (behind : List A) → AllByRecursion P (before ++ x ∷ behind) → P x
 all_at P [] x behind h = h.0
@@ -46,9 +51,14 @@ first_same P (b ∷ before) (c ∷ after) x y behind rest e h k n m =
     let tails : before ++ x ∷ behind ≡ after ++ y ∷ rest = cc in
     more_same b c before after x y (first_same P before after x y behind rest tails h.1 k.1 n m)
 
+-- a well-formed text has one tape
+same_tape : (text : List ℕ) (p q : ProgramView) (tape other : TapeView) → IsWellFormed text p → IsWellFormed text q → IsTapeOf p.params p.body tape → IsTapeOf q.params q.body other → tape ≡ other
+same_tape text p q tape other v w a b =
+    one_tape_at_most q.params q.body other tape b (subst (λ (x : ProgramView). IsTapeOf x.params x.body tape) (one_formed text p q v w) a)
+
 one_claim : (text word : List ℕ) (number other : ℕ) (at there : Place) → IsBroken text word number at → IsBroken text word other there → faults.Claim number at ≡ faults.Claim other there
 one_claim text word number other at there a b =
-    let same : a.tape ≡ b.tape = one_tape text a.program b.program a.tape b.tape a.formed b.formed in
+    let same : a.tape ≡ b.tape = same_tape text a.program b.program a.tape b.tape a.formed b.formed a.tape_of b.tape_of in
     let claims : a.tape.claims ≡ b.tape.claims = ap (λ (t : TapeView). t.claims) same in
     let one = first_same (Holds b.tape (bits_of word)) a.first.before b.first.before a.first.named b.first.named a.first.behind b.first.behind (sym a.first.cut ∙ claims ∙ b.first.cut)
     (subst (λ (t : TapeView). AllByRecursion (Holds t (bits_of word)) a.first.before) same a.first.met) b.first.met
@@ -65,18 +75,18 @@ one_claim text word number other at there a b =
 
 value_or_claim : (text word : List ℕ) (value : List Bool) (number : ℕ) (at : Place) → IsValueOf text word value → IsBroken text word number at → ⊥
 value_or_claim text word value number at v b =
-    let same : v.tape ≡ b.tape = one_tape text v.program b.program v.tape b.tape v.formed b.formed in
+    let same : v.tape ≡ b.tape = same_tape text v.program b.program v.tape b.tape v.formed b.formed v.tape_of b.tape_of in
     let all : AllByRecursion (Holds b.tape (bits_of word)) b.tape.claims = subst (λ (t : TapeView). AllByRecursion (Holds t (bits_of word)) t.claims) same v.hold in
     b.first.fails (all_at (Holds b.tape (bits_of word)) b.first.before b.first.named b.first.behind (subst (AllByRecursion (Holds b.tape (bits_of word))) b.first.cut all))
 
 value_or_bad : (text word : List ℕ) (value : List Bool) → IsValueOf text word value → IsBadWord text word → ⊥
-value_or_bad text word value v b = b.unfit (subst (λ (t : TapeView). IsInputWord (sum t.params) word) (one_tape text v.program b.program v.tape b.tape v.formed b.formed) v.fits)
+value_or_bad text word value v b = b.unfit (subst (λ (p : ProgramView). IsInputWord (sum (widths_of p.params)) word) (one_formed text v.program b.program v.formed b.formed) v.fits)
 
 claim_or_bad : (text word : List ℕ) (number : ℕ) (at : Place) → IsBroken text word number at → IsBadWord text word → ⊥
-claim_or_bad text word number at v b = b.unfit (subst (λ (t : TapeView). IsInputWord (sum t.params) word) (one_tape text v.program b.program v.tape b.tape v.formed b.formed) v.fits)
+claim_or_bad text word number at v b = b.unfit (subst (λ (p : ProgramView). IsInputWord (sum (widths_of p.params)) word) (one_formed text v.program b.program v.formed b.formed) v.fits)
 
 pub no_value : (text word : List ℕ) (value : List Bool) (fault : Fault) → IsValueOf text word value → Stops text word fault → ⊥
-no_value text word value (faults.Refused refusal) v s = s.1 (formed_refusal text v.program v.tape refusal v.formed s.0)
+no_value text word value (faults.Refused refusal) v s = s.1 (formed_refusal text v.program refusal v.formed s.0)
 no_value text word value (faults.Claim number at) v s = value_or_claim text word value number at v s
 no_value text word value faults.BadBits v s = value_or_bad text word value v s
 no_value text word value faults.Usage v s = s
@@ -86,12 +96,12 @@ no_value text word value faults.Memory v s = s
 
 pub one_stop : (text word : List ℕ) (fault other : Fault) → Stops text word fault → Stops text word other → fault ≡ other
 one_stop text word (faults.Refused refusal) (faults.Refused other) a b = ap (λ (r : Refusal). faults.Refused r) (one_refusal text refusal other a.0 b.0)
-one_stop text word (faults.Refused refusal) (faults.Claim number at) a b = absurd (a.1 (formed_refusal text b.program b.tape refusal b.formed a.0))
-one_stop text word (faults.Refused refusal) faults.BadBits a b = absurd (a.1 (formed_refusal text b.program b.tape refusal b.formed a.0))
-one_stop text word (faults.Claim number at) (faults.Refused refusal) a b = absurd (b.1 (formed_refusal text a.program a.tape refusal a.formed b.0))
+one_stop text word (faults.Refused refusal) (faults.Claim number at) a b = absurd (a.1 (formed_refusal text b.program refusal b.formed a.0))
+one_stop text word (faults.Refused refusal) faults.BadBits a b = absurd (a.1 (formed_refusal text b.program refusal b.formed a.0))
+one_stop text word (faults.Claim number at) (faults.Refused refusal) a b = absurd (b.1 (formed_refusal text a.program refusal a.formed b.0))
 one_stop text word (faults.Claim number at) (faults.Claim other there) a b = one_claim text word number other at there a b
 one_stop text word (faults.Claim number at) faults.BadBits a b = absurd (claim_or_bad text word number at a b)
-one_stop text word faults.BadBits (faults.Refused refusal) a b = absurd (b.1 (formed_refusal text a.program a.tape refusal a.formed b.0))
+one_stop text word faults.BadBits (faults.Refused refusal) a b = absurd (b.1 (formed_refusal text a.program refusal a.formed b.0))
 one_stop text word faults.BadBits (faults.Claim number at) a b = absurd (claim_or_bad text word number at b a)
 one_stop text word faults.BadBits faults.BadBits a b = refl
 one_stop text word (faults.Refused refusal) faults.Usage a b = absurd b
@@ -134,18 +144,36 @@ named_at : {A : Type 0} (all before behind : List A) (named d : A) (number : ℕ
 named_at all before behind named d number cut count =
     ap (λ xs. slice_index_or xs number d) cut ∙ ap (λ n. slice_index_or (before ++ named ∷ behind) n d) (sym count) ∙ named_in before behind named d
 
-pub broken_at : (text word : List ℕ) (p : ProgramView) (tape : TapeView) (input : List Bool) (claims : List Claim) (end : TapeEnd) (number : ℕ) (d : Claim) → IsProgramText text p → HasTape p tape
+pub broken_at : (text word : List ℕ) (p : ProgramView) (tape : TapeView) (input : List Bool) (claims : List Claim) (end : TapeEnd) (number : ℕ) (d : Claim) → IsWellFormed text p → IsTapeOf p.params p.body tape
     → IsInputWord (sum tape.params) word → input ≡ bits_of word → IsEndOf tape input end → end ≡ ends.Broken number → claims ≡ tape.claims
     → IsBroken text word (number + 1) (slice_index_or claims number d).at
-broken_at text word p tape input claims end number d is has fits bits ended which same =
+broken_at text word p tape input claims end number d formed of fits bits ended which same =
     let first : IsFirstBroken tape (bits_of word) number = subst (λ (i : List Bool). IsFirstBroken tape i number) bits (subst (IsEndOf tape input) which ended) in
     record {
       program = p;
+      formed = formed;
       tape = tape;
-      formed = record { program = is; run = has };
-      fits = fits;
+      tape_of = of;
+      fits = subst (λ widths. IsInputWord (sum widths) word) of.widths fits;
       before = number;
       first = first;
       count = refl;
       place = ap (λ (c : Claim). c.at) (named_at claims first.before first.behind first.named d number (same ∙ first.cut) first.count);
+    }
+
+-- the end of a tape, where every claim holds, is the value of its text
+pub value_at : (text word : List ℕ) (p : ProgramView) (tape : TapeView) (input value : List Bool) (end : TapeEnd) → IsWellFormed text p → IsTapeOf p.params p.body tape
+    → IsInputWord (sum tape.params) word → input ≡ bits_of word → IsEndOf tape input end → end ≡ ends.Out value → IsValueOf text word value
+value_at text word p tape input value end formed of fits bits ended which =
+    let over : IsEndOf tape (bits_of word) (ends.Out value) = subst (λ (i : List Bool). IsEndOf tape i (ends.Out value)) bits (subst (IsEndOf tape input) which ended) in
+    let word_fits = subst (λ widths. IsInputWord (sum widths) word) of.widths fits in
+    record {
+      program = p;
+      formed = formed;
+      tape = tape;
+      tape_of = of;
+      fits = word_fits;
+      hold = over.0;
+      output = subst (HasOutput p.params p.body (bits_of word)) (sym over.1)
+          (tape_gives_output p.params p.body tape of (bits_of word) (length-map word (λ byte. byte == 49) ∙ word_fits.size));
     }

@@ -1,9 +1,8 @@
-pub mod TapeSteps
-pub mod PlanSteps
-pub mod UnrollSteps
-pub mod Names
 pub mod Outcomes
 pub mod Evaluating
 pub mod TextFaults
 pub mod Compiling
 pub mod Statuses
+pub mod SmallRuns
+pub mod SmallSteps
+pub mod PlainSteps

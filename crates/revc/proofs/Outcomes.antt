@@ -1,5 +1,5 @@
 -- Each text has one refusal at most, and none where its program is small.
-use Rattle.std.proofs.Common.{◌≡◌, ℕ, Bool, false, ◌<◌, ◌≤◌, List, length, map, sum, replicate, refl, sym, ap, ◌∙◌, subst, arith}
+use Rattle.std.proofs.Common.{◌≡◌, ℕ, Bool, false, ◌<◌, ◌≤◌, List, length, sum, replicate, refl, sym, ap, ◌∙◌, subst, arith}
 use Rattle.std.proofs.lemmas.List.{length-replicate}
 use Rattle.revs_lexer.specs.declared.token.LexFault.{LexFault}
 use Rattle.revs_lexer.specs.declared.token.LexFault.TheVariants as lexer
@@ -8,42 +8,27 @@ use Rattle.revs_lexer.specs.Tokens.{IsTokens, IsRefused, closed}
 use Rattle.revs_lexer.proofs.Outcomes.{IsTokens-same, IsRefused-same, refused_has_no_tokens}
 use Rattle.revs_terms.specs.declared.program.Param.{Param}
 use Rattle.revs_terms.specs.Trees.{Tree}
-use Rattle.revs_grammar.specs.Answers.{HasSentence}
 use Rattle.revs_grammar.specs.Faults.{Verdict, within_limits, syntax, nesting, inputs, IsVerdict}
 use Rattle.revs_grammar.proofs.Verdicts.{one_verdict}
-use Rattle.revs_grammar.proofs.OneSentence.{same_program}
 use Rattle.revc.specs.declared.fault.Kind.TheVariants as kinds
 use Rattle.revc.specs.declared.fault.Refusal.{Refusal}
 use Rattle.revc.specs.declared.fault.Refusal.TheVariants as refusals
-use Rattle.revc.specs.Program.{ProgramView, IsSmall}
+use Rattle.revs_parser.specs.WellFormed.{IsProgramText, IsWellFormed}
+use Rattle.revs_parser.proofs.OneText.{one_text, one_formed}
+use Rattle.revs_terms.specs.Views.{ProgramView}
+use Rattle.revc.specs.Small.{IsSmall}
 use Rattle.revs_terms.specs.Programs.{widths_of}
 use Rattle.revs_terms.specs.Running.{Refusal as Why, Stamped, Outcome, stuck, went, not_bit, not_register, not_function, no_index, no_slice, no_rotation, too_long, gone, no_output, too_deep, too_much_work, too_many_writes, too_many_claims, too_many_outputs}
-use Rattle.revs_terms.specs.Runs.{IsInput, run_of_program}
+use Rattle.revs_terms.specs.Runs.{IsInput, run_of_program, EndsOnAll}
 use Rattle.revs_terms.specs.Scopes.{ScopeVerdict, scope_verdict, bound_as, two_params, unbound_name}
 use Rattle.revc_base.specs.declared.place.Place.{Place}
-use Rattle.revc_base.specs.Tapes.{TapeView}
-use Rattle.revc_base.specs.declared.tape.Ref.{Ref}
-use Rattle.revc_base.specs.declared.tape.Entry.{Entry}
-use Rattle.revc_base.specs.declared.tape.Claim.{Claim}
 use Rattle.revc.specs.declared.fault.Kind.{Kind}
-use Rattle.revc.specs.Clean.{IsProgramText, HasTape, IsWellFormed, IsSmallText}
+use Rattle.revc.specs.Clean.{IsSmallText}
 use Rattle.revc.specs.Refusals.{OfTokens, IsStuckFor, IsRefusal}
 use Rattle.revc.specs.declared.fault.Fault.{Fault}
 use Rattle.revc.specs.declared.fault.Fault.TheVariants as faults
 use Rattle.revc.specs.Compiled.{IsCompileFault}
 use Rattle.revc.specs.Top.{IsOnlyRefusal, RefusesWell}
-
--- ---- a text's program
-
-pub one_program : (text : List ℕ) (p q : ProgramView) → IsProgramText text p → IsProgramText text q → p ≡ q
-one_program text p q a b =
-    let same : a.tokens ≡ b.tokens = IsTokens-same text a.tokens b.tokens a.cut b.cut in
-    let both = same_program (closed text b.tokens) p.params q.params p.body q.body (subst (λ ts. HasSentence (closed text ts) p.params p.body) same a.sentence.sentence) b.sentence.sentence in
-    same_views p.params q.params p.body q.body both.0 both.1
-  where
-    same_views : (params others : List Param) (body other : Tree) → params ≡ others → body ≡ other
-        → (let view : ProgramView = record { params = params; body = body } in view) ≡ (let view : ProgramView = record { params = others; body = other } in view)
-    same_views params others body other e f = cc
 
 -- ---- how a program ends: its run is looked at on the input of zeros
 
@@ -51,12 +36,11 @@ data ProgramEnd : Type 0 where
   two_names : Place → ProgramEnd
   no_binding : Place → ProgramEnd
   stuck_at : Why → Place → ProgramEnd
-  leaves : TapeView → ProgramEnd
+  leaves : Tree → ProgramEnd
 
-end_of_run : List Param → Outcome Bool (List (Stamped Bool)) → ProgramEnd
-end_of_run params (stuck why at) = stuck_at why at
-end_of_run params (went outputs s) =
-    leaves (record { params = widths_of params; entries = s.log; claims = map (λ m. m.claim) s.claims; outputs = map (λ o. o.stamp) outputs })
+end_of_run : Tree → Outcome Bool (List (Stamped Bool)) → ProgramEnd
+end_of_run tree (stuck why at) = stuck_at why at
+end_of_run tree (went outputs s) = leaves tree
 
 zeros : List Param → List Bool
 zeros params = replicate (sum (widths_of params)) false
@@ -68,7 +52,7 @@ zeros_are_input params = length-replicate (sum (widths_of params)) false
 end_in : List Param → ScopeVerdict → ProgramEnd
 end_in params (two_params at) = two_names at
 end_in params (unbound_name at) = no_binding at
-end_in params (bound_as tree) = end_of_run params (run_of_program params tree (zeros params))
+end_in params (bound_as tree) = end_of_run tree (run_of_program params tree (zeros params))
 
 end_of : ProgramView → ProgramEnd
 end_of p = end_in p.params (scope_verdict p.params p.body)
@@ -83,21 +67,13 @@ ends_unbound p at e = ap (end_in p.params) e
 
 ends_stuck : (p : ProgramView) (why : Why) (at : Place) → IsStuckFor why at p → end_of p ≡ stuck_at why at
 unfolding end_of end_in end_of_run
-ends_stuck p why at h = ap (end_in p.params) h.1 ∙ ap (end_of_run p.params) (h.2 (zeros p.params) (zeros_are_input p.params))
+ends_stuck p why at h = ap (end_in p.params) h.1 ∙ ap (end_of_run h.0) (h.2 (zeros p.params) (zeros_are_input p.params))
 
-ends_left : (p : ProgramView) (tape : TapeView) → HasTape p tape → end_of p ≡ leaves tape
-unfolding end_of end_in end_of_run
-ends_left p tape h =
-    let l = h.run.left (zeros p.params) (zeros_are_input p.params) in
-    ap (end_in p.params) h.bound ∙ ap (end_of_run p.params) l.ends ∙ ap (λ (t : TapeView). leaves t) (same_tape (widths_of p.params) _ _ _ tape (sym h.run.widths) l.entries l.claims l.stamps)
-  where
-    same_tape : (params : List ℕ) (entries : List Entry) (claims : List Claim) (outputs : List Ref) (tape : TapeView) → params ≡ tape.params → entries ≡ tape.entries → claims ≡ tape.claims → outputs ≡ tape.outputs
-        → (let t : TapeView = record { params = params; entries = entries; claims = claims; outputs = outputs } in t) ≡ tape
-    same_tape params entries claims outputs tape a b c d =
-        ap (λ x. let t : TapeView = record { params = x; entries = entries; claims = claims; outputs = outputs } in t) a
-        ∙ ap (λ x. let t : TapeView = record { params = tape.params; entries = x; claims = claims; outputs = outputs } in t) b
-        ∙ ap (λ x. let t : TapeView = record { params = tape.params; entries = tape.entries; claims = x; outputs = outputs } in t) c
-        ∙ ap (λ x. let t : TapeView = record { params = tape.params; entries = tape.entries; claims = tape.claims; outputs = x } in t) d
+ends_left : (params : List Param) (unbound tree : Tree) → scope_verdict params unbound ≡ bound_as tree → EndsOnAll params tree → end_in params (scope_verdict params unbound) ≡ leaves tree
+unfolding end_in end_of_run
+ends_left params unbound tree e run =
+    let one = run.ends (zeros params) (zeros_are_input params) in
+    ap (end_in params) e ∙ ap (end_of_run tree) one.1.ends
 
 -- ---- what a text is found to be
 
@@ -138,7 +114,7 @@ one_found text (judged verdict) (ended end) a b = absurd (a.1 (not_judged text v
 one_found text (ended end) long a b = let short = a.1.short in absurd (omega arith)
 one_found text (ended end) (lexed fault) a b = absurd (refused_has_no_tokens text fault a.1.tokens b.1 a.1.cut)
 one_found text (ended end) (judged verdict) a b = absurd (b.1 (not_judged text verdict a.0 b.2 a.1))
-one_found text (ended end) (ended other) a b = ap (λ (e : ProgramEnd). ended e) (sym a.2 ∙ ap end_of (one_program text a.0 b.0 a.1 b.1) ∙ b.2)
+one_found text (ended end) (ended other) a b = ap (λ (e : ProgramEnd). ended e) (sym a.2 ∙ ap end_of (one_text text a.0 b.0 a.1 b.1) ∙ b.2)
 
 kind_of : Why → Kind
 kind_of not_bit = kinds.NotBit
@@ -170,7 +146,7 @@ refusal_of (judged (inputs at)) = refusals.At kinds.Inputs at
 refusal_of (ended (two_names at)) = refusals.At kinds.TwoParams at
 refusal_of (ended (no_binding at)) = refusals.At kinds.Unbound at
 refusal_of (ended (stuck_at why at)) = refusals.At (kind_of why) at
-refusal_of (ended (leaves tape)) = refusals.Program
+refusal_of (ended (leaves tree)) = refusals.Program
 
 record IsFoundFor (text : List ℕ) (refusal : Refusal) : Type 0 where
   found : Found
@@ -189,6 +165,10 @@ no_inputs at e = absurd cc
 stuck_found : (text : List ℕ) (why : Why) (at : Place) (h : (p : ProgramView) × IsProgramText text p × IsStuckFor why at p) → IsFoundFor text (refusals.At (kind_of why) at)
 unfolding refusal_of
 stuck_found text why at h = record { found = ended (stuck_at why at); is = (h.0, h.1, ends_stuck h.0 why at h.2); same = refl }
+
+formed_found : (text : List ℕ) (p : ProgramView) → IsWellFormed text p → IsFound text (ended (leaves p.body))
+unfolding end_of
+formed_found text p w = (record p { body = w.unbound }, w.text_of, ends_left p.params w.unbound p.body w.bound w.run)
 
 found_for : (text : List ℕ) (refusal : Refusal) → IsRefusal text refusal → IsFoundFor text refusal
 unfolding refusal_of kind_of
@@ -215,7 +195,7 @@ found_for text (refusals.At kinds.Work at) h = stuck_found text too_much_work at
 found_for text (refusals.At kinds.Writes at) h = stuck_found text too_many_writes at h.1
 found_for text (refusals.At kinds.Claims at) h = stuck_found text too_many_claims at h.1
 found_for text (refusals.At kinds.Outputs at) h = stuck_found text too_many_outputs at h.1
-found_for text refusals.Program h = record { found = ended (leaves h.1); is = (h.0, h.2.program, ends_left h.0 h.1 h.2.run); same = refl }
+found_for text refusals.Program h = record { found = ended (leaves h.0.body); is = formed_found text h.0 h.1; same = refl }
 
 pub one_refusal : (text : List ℕ) (refusal other : Refusal) → IsRefusal text refusal → IsRefusal text other → refusal ≡ other
 one_refusal text refusal other a b =
@@ -223,30 +203,20 @@ one_refusal text refusal other a b =
     let g = found_for text other b in
     sym f.same ∙ ap refusal_of (one_found text f.found g.found f.is g.is) ∙ g.same
 
-formed_found : (text : List ℕ) (p : ProgramView) (tape : TapeView) → IsWellFormed text p tape → IsFound text (ended (leaves tape))
-formed_found text p tape w = (p, w.program, ends_left p tape w.run)
-
 -- a well-formed text has no refusal but that its program is not small
-pub formed_refusal : (text : List ℕ) (p : ProgramView) (tape : TapeView) (refusal : Refusal) → IsWellFormed text p tape → IsRefusal text refusal → refusal ≡ refusals.Program
+pub formed_refusal : (text : List ℕ) (p : ProgramView) (refusal : Refusal) → IsWellFormed text p → IsRefusal text refusal → refusal ≡ refusals.Program
 unfolding refusal_of
-formed_refusal text p tape refusal w h =
+formed_refusal text p refusal w h =
     let f = found_for text refusal h in
-    sym f.same ∙ ap refusal_of (one_found text f.found (ended (leaves tape)) f.is (formed_found text p tape w))
-
--- a well-formed text has one tape
-pub one_tape : (text : List ℕ) (p q : ProgramView) (tape other : TapeView) → IsWellFormed text p tape → IsWellFormed text q other → tape ≡ other
-one_tape text p q tape other v w = same tape other (one_found text (ended (leaves tape)) (ended (leaves other)) (formed_found text p tape v) (formed_found text q other w))
-  where
-    same : (tape other : TapeView) → ended (leaves tape) ≡ ended (leaves other) → tape ≡ other
-    same tape other e = cc
+    sym f.same ∙ ap refusal_of (one_found text f.found (ended (leaves p.body)) f.is (formed_found text p w))
 
 pub never_small : (text : List ℕ) (p : ProgramView) (refusal : Refusal) → IsRefusal text refusal → IsSmallText text p → ⊥
-never_small text p refusals.TooLong h small = let short = small.formed.program.short in omega arith
-never_small text p (refusals.At kind at) h small = apart (formed_refusal text p small.tape (refusals.At kind at) small.formed h)
+never_small text p refusals.TooLong h small = let short = small.formed.text_of.short in omega arith
+never_small text p (refusals.At kind at) h small = apart (formed_refusal text p (refusals.At kind at) small.formed h)
   where
     apart : refusals.At kind at ≡ refusals.Program → ⊥
     apart e = absurd cc
-never_small text p refusals.Program h small = h.3 (subst IsSmall (one_program text p h.0 small.formed.program h.2.program) small.small)
+never_small text p refusals.Program h small = h.2 (subst (λ (v : ProgramView). IsSmall v.params v.body) (one_formed text p h.0 small.formed h.1) small.small)
 
 pub only_refusal : (text : List ℕ) (refusal : Refusal) → IsRefusal text refusal → IsOnlyRefusal text refusal
 only_refusal text refusal h = record {

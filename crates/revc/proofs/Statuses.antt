@@ -3,7 +3,7 @@ use Rattle.std.proofs.Common.{◌≡◌, ◌≢◌, ℕ, ◌⊎◌, inl, inr, Bo
 use Rattle.std.specs.Prelude.{Option, IfSome, IsErrOf}
 use Rattle.revc.specs.declared.fault.Fault.{Fault}
 use Rattle.revc.specs.declared.fault.Fault.TheVariants.{Usage, Refused, Claim, BadBits, Read, Write, Memory}
-use Rattle.revc.specs.Program.{ProgramView}
+use Rattle.revs_terms.specs.Views.{ProgramView}
 use Rattle.revc.specs.Clean.{IsSmallText, IsNoSmallText}
 use Rattle.revc.specs.declared.fault.Refusal.{Refusal}
 use Rattle.revc.specs.Refusals.{IsRefusal}

@@ -1,5 +1,5 @@
 -- A plan that may be written as a clean file, and why there is none.
-use Rattle.std.specs.Prelude.{◌≡◌, ℕ, ◌≤◌, List, length}
+use Rattle.std.specs.Prelude.{◌≡◌, ℕ, ◌+◌, ◌≤◌, List, length, sum}
 use Rattle.mct_circuit.specs.Gates.{AreNarrow}
 use Rattle.gate_split.specs.Plans.{LaidView}
 use Rattle.revc.specs.declared.fault.Fault.{Fault}
@@ -9,20 +9,37 @@ use Rattle.revc.specs.declared.fault.Kind.TheVariants as kinds
 use Rattle.inliner.specs.declared.fault.RunFault.{RunFault}
 use Rattle.inliner.specs.declared.fault.RunFault.TheVariants as runs
 use Rattle.revc.specs.Evaluation.{IsInputWord, Stops}
-use Rattle.revc.specs.Program.{ProgramView, value_of}
-use Rattle.revc.specs.Plan.{MapsCleanly}
+use Rattle.revc_base.specs.Tapes.{TapeView, outputs_on}
+use Rattle.revs_terms.specs.Runs.{IsTapeOf}
+use Rattle.revs_terms.specs.Scopes.{scope_verdict, bound_as}
+use Rattle.revs_terms.specs.Views.{ProgramView}
+use Rattle.revc.specs.Plain.{MapsCleanly}
+use Rattle.revc.specs.Small.{IsSmallTape}
 use Rattle.revc.specs.Refusals.{IsRefusal}
 
--- the plan's gates are narrow, and take each input and zeros to the input, the program's output and zeros
-pub record IsCleanPlan (laid : LaidView) (p : ProgramView) : Type 0 where
-  pub inputs : laid.inputs ≡ length p.params
-  pub outputs : laid.outputs ≡ 1
+-- the plan's gates are narrow, and take each input and zeros to the input, the outputs of the tape and zeros
+pub record IsPlanOf (laid : LaidView) (tape : TapeView) : Type 0 where
+  pub inputs : laid.inputs ≡ sum tape.params
+  pub outputs : laid.outputs ≡ length tape.outputs
   pub borrowed : laid.borrowed ≡ 0
-  pub some : 1 ≤ laid.circuit.lines
+  pub lines : laid.circuit.lines ≡ sum tape.params + length tape.outputs + length tape.entries
   pub few : laid.circuit.lines ≤ 16384
   pub few_gates : length laid.circuit.gates ≤ 4000000
   pub narrow : AreNarrow laid.circuit.gates
-  pub clean : MapsCleanly (length p.params) laid.work laid.circuit.gates (λ input. value_of p.params input p.body)
+  pub clean : MapsCleanly (sum tape.params) (length tape.outputs) laid.work laid.circuit.gates (outputs_on tape)
+
+-- it is the plan of a program's tape, on which there are no claims and one output
+pub record IsCleanPlan (laid : LaidView) (p : ProgramView) : Type 0 where
+  pub tape : TapeView
+  pub tape_of : IsTapeOf p.params p.body tape
+  pub small : IsSmallTape tape
+  pub plan : IsPlanOf laid tape
+  pub some : 1 ≤ laid.circuit.lines
+
+-- the program with its names bound
+pub record IsBoundAs (p bound : ProgramView) : Type 0 where
+  pub params : bound.params ≡ p.params
+  pub body : scope_verdict p.params p.body ≡ bound_as bound.body
 
 -- why a text has no clean plan: the text is refused so, or there was no memory left
 abbrev pub IsCompileFault : List ℕ → Fault → Type 0

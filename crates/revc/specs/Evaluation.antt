@@ -3,10 +3,12 @@ use Rattle.std.specs.Prelude.{◌≡◌, ◌≢◌, ℕ, ◌+◌, ◌==◌, if�
 use Rattle.std.specs.Fmt.{decimal}
 use Rattle.std.specs.List.{AllByRecursion}
 use Rattle.revc_base.specs.Bits.{IsDigit}
-use Rattle.revc_base.specs.Tapes.{TapeView, Holds, IsFirstBroken, outputs_on}
+use Rattle.revc_base.specs.Tapes.{TapeView, Holds, IsFirstBroken}
 use Rattle.revc_base.specs.declared.place.Place.{Place}
-use Rattle.revc.specs.Clean.{IsWellFormed}
-use Rattle.revc.specs.Program.{ProgramView}
+use Rattle.revs_parser.specs.WellFormed.{IsWellFormed}
+use Rattle.revs_terms.specs.Programs.{widths_of}
+use Rattle.revs_terms.specs.Runs.{HasOutput, IsTapeOf}
+use Rattle.revs_terms.specs.Views.{ProgramView}
 use Rattle.revc.specs.Refusals.{IsRefusal, place_text}
 use Rattle.revc.specs.declared.fault.Fault.{Fault}
 use Rattle.revc.specs.declared.fault.Fault.TheVariants.{Refused, Claim, BadBits}
@@ -25,29 +27,31 @@ bits_of word = map (λ byte. byte == 49) word
 abbrev pub digits_of : List Bool → List ℕ
 digits_of bits = map (λ bit. if bit then 49 else 48) bits
 
--- the text is well formed, the word is an input of its program, every claim holds on it, and these are the output bits
+-- the text is well formed, the word is an input of its program, every claim holds on it, and these are the bits of the program's
+-- output on it
 pub record IsValueOf (text word : List ℕ) (value : List Bool) : Type 0 where
   pub program : ProgramView
+  pub formed : IsWellFormed text program
   pub tape : TapeView
-  pub formed : IsWellFormed text program tape
-  pub fits : IsInputWord (sum tape.params) word
+  pub tape_of : IsTapeOf program.params program.body tape
+  pub fits : IsInputWord (sum (widths_of program.params)) word
   pub hold : AllByRecursion (Holds tape (bits_of word)) tape.claims
-  pub outputs : value ≡ outputs_on tape (bits_of word)
+  pub output : HasOutput program.params program.body (bits_of word) value
 
 -- the text is well formed, and the word is no input of its program
 pub record IsBadWord (text word : List ℕ) : Type 0 where
   pub program : ProgramView
-  pub tape : TapeView
-  pub formed : IsWellFormed text program tape
-  pub unfit : ¬ IsInputWord (sum tape.params) word
+  pub formed : IsWellFormed text program
+  pub unfit : ¬ IsInputWord (sum (widths_of program.params)) word
 
 -- the text is well formed, the word is an input of its program, and the claim with this number, counted from 1, is the first that
 -- fails on it; its term is at this place
 pub record IsBroken (text word : List ℕ) (number : ℕ) (at : Place) : Type 0 where
   pub program : ProgramView
+  pub formed : IsWellFormed text program
   pub tape : TapeView
-  pub formed : IsWellFormed text program tape
-  pub fits : IsInputWord (sum tape.params) word
+  pub tape_of : IsTapeOf program.params program.body tape
+  pub fits : IsInputWord (sum (widths_of program.params)) word
   pub before : ℕ
   pub first : IsFirstBroken tape (bits_of word) before
   pub count : number ≡ before + 1

@@ -1,7 +1,5 @@
-pub mod Program
-pub mod Tape
-pub mod Unrolling
-pub mod Plan
+pub mod Small
+pub mod Plain
 pub mod Clean
 pub mod Refusals
 pub mod Evaluation

@@ -11,9 +11,9 @@ use Rattle.revc.specs.declared.fault.Kind.{Kind}
 use Rattle.revc.specs.declared.fault.Kind.TheVariants.{BadByte, LongName, LongNumber, Syntax, Nesting, Inputs, Unbound, TwoParams, NotBit, NotRegister, NotFunction, Index, Slice, Rotate, Length, Gone, NoOutput, Depth, Work, Writes, Claims, Outputs}
 use Rattle.revc.specs.declared.fault.Refusal.{Refusal}
 use Rattle.revc.specs.declared.fault.Refusal.TheVariants.{TooLong, At, Program}
-use Rattle.revc.specs.Program.{ProgramView, IsSmall}
-use Rattle.revc.specs.Clean.{IsProgramText, IsWellFormed}
-use Rattle.revc_base.specs.Tapes.{TapeView}
+use Rattle.revc.specs.Small.{IsSmall}
+use Rattle.revs_parser.specs.WellFormed.{IsProgramText, IsWellFormed}
+use Rattle.revs_terms.specs.Views.{ProgramView}
 use Rattle.revs_terms.specs.Running.{Refusal as Why, not_bit, not_register, not_function, no_index, no_slice, no_rotation, too_long, gone, no_output, too_deep, too_much_work, too_many_writes, too_many_claims, too_many_outputs}
 use Rattle.revs_terms.specs.Runs.{IsInput, IsStuck}
 use Rattle.revs_terms.specs.Scopes.{scope_verdict, bound_as, two_params, unbound_name}
@@ -60,7 +60,7 @@ IsRefusedAt text Outputs at = OfProgram text (IsStuckFor too_many_outputs at)
 abbrev pub IsRefusal : List ℕ → Refusal → Type 0
 IsRefusal text TooLong = 1048576 < length text
 IsRefusal text (At kind at) = (length text ≤ 1048576) × IsRefusedAt text kind at
-IsRefusal text Program = (p : ProgramView) × (tape : TapeView) × IsWellFormed text p tape × (¬ IsSmall p)
+IsRefusal text Program = (p : ProgramView) × IsWellFormed text p × (¬ IsSmall p.params p.body)
 
 abbrev pub kind_text : Kind → List ℕ
 kind_text BadByte = codes "BadByte"

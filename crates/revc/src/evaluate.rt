@@ -6,7 +6,7 @@ ghost use Rattle.revc.specs.Evaluation.{IsInputWord, IsValueOf, bits_of, digits_
 ghost use Rattle.revc.specs.Compiled.{IsBitsFault, IsEvalFault};
 
 use crate::fault::Fault;
-use crate::front::{read_program, tape_of};
+use crate::front::read;
 use revc_base::{Bits, BitsFault, Tape, TapeEnd};
 use revc_io::{Buffer, Failed, Sink};
 use std::alloc::Global;
@@ -18,8 +18,7 @@ pub fn evaluate(alloc: Global, text: &[u8], word: &str) -> Result<Bits, Fault>
     ensures ok { IfOk result (IsValueOf text.now word.now) }
     ensures err { IfErr result (IsEvalFault text.now word.now) }
 {
-    let program = read_program(alloc, text)?;
-    let tape = tape_of(alloc, program)?;
+    let (_, tape) = read(alloc, text)?;
     let input = input_of(alloc, &tape, word)?;
     match tape.run(input.bits())? {
         TapeEnd::Out(bits) => Ok(bits),

@@ -1,20 +1,40 @@
 // From a text to its program, and to the tape that the program leaves.
 ghost use Rattle.std.specs.Prelude.{◌≡◌, ℕ, ◌≤◌, List, length, IfOk, IfErr};
-ghost use Rattle.revc.specs.Program.{view_of};
-ghost use Rattle.revc.specs.Clean.{IsProgramText, HasTape};
-ghost use Rattle.revc.specs.Compiled.{IsTextFault, fault_of};
+ghost use Rattle.revs_parser.specs.WellFormed.{IsProgramText, IsWellFormed};
+ghost use Rattle.revs_terms.specs.Runs.{IsTapeOf};
+ghost use Rattle.revs_terms.specs.Scopes.{scope_verdict, bound_as};
+ghost use Rattle.revs_terms.specs.Trees.{tree_of};
+ghost use Rattle.revs_terms.specs.Views.{view_of};
+ghost use Rattle.revc.specs.Compiled.{IsTextFault, fault_of, IsBoundAs};
 
 use crate::fault::{Fault, Kind, Refusal};
 use inliner::{RunFault, unroll};
-use name_scope::{ScopeFault, scope};
+use name_scope::{ScopeFault, Scoped, scope};
 use revc_base::{Place, Tape};
 use revs_lexer::{LexFault, tokens};
 use revs_parser::{ParseFault, parse};
 use revs_terms::Program;
 use std::alloc::Global;
 
-/// The program of a text.
-pub fn read_program(alloc: Global, text: &[u8]) -> Result<Program, Fault>
+/// The program of a well-formed text, with its names bound, and the tape that it leaves on every input. A fault is the text's refusal,
+/// or want of memory.
+pub fn read(alloc: Global, text: &[u8]) -> Result<(Scoped, Tape), Fault>
+    requires { length text.now ≤ 1048576 }
+    ensures formed { IfOk result (λ run. IsWellFormed text.now (view_of run.0.program)) }
+    ensures tape { IfOk result (λ run. IsTapeOf run.0.program.params.items (tree_of run.0.program.body) run.1) }
+    ensures err { IfErr result (IsTextFault text.now) }
+{
+    let program = read_program(alloc, text)?;
+    let scoped = bind(alloc, program)?;
+    let tape = match unroll(alloc, &scoped) {
+        Ok(tape) => tape,
+        Err(fault) => return Err(fault_of(fault)),
+    };
+    Ok((scoped, tape))
+}
+
+// The program of a text, with no name bound.
+fn read_program(alloc: Global, text: &[u8]) -> Result<Program, Fault>
     requires { length text.now ≤ 1048576 }
     ensures ok { IfOk result (λ program. IsProgramText text.now (view_of program)) }
     ensures err { IfErr result (IsTextFault text.now) }
@@ -35,20 +55,16 @@ pub fn read_program(alloc: Global, text: &[u8]) -> Result<Program, Fault>
     }
 }
 
-/// The tape that a program leaves on every input. A fault is one of each text of the program.
-pub fn tape_of(alloc: Global, program: Program) -> Result<Tape, Fault>
-    ensures ok { IfOk result (HasTape (view_of program)) }
+// The program with its names bound. A fault is one of each text of the program.
+fn bind(alloc: Global, program: Program) -> Result<Scoped, Fault>
+    ensures ok { IfOk result (λ scoped. IsBoundAs (view_of program) (view_of scoped.program)) }
     ensures err { IfErr result (λ fault. (text : List ℕ) → IsProgramText text (view_of program) → IsTextFault text fault) }
 {
-    let scoped = match scope(alloc, program) {
-        Ok(scoped) => scoped,
-        Err(ScopeFault::Unbound(at)) => return Err(refused(Kind::Unbound, at)),
-        Err(ScopeFault::TwoParams(at)) => return Err(refused(Kind::TwoParams, at)),
-        Err(ScopeFault::Memory) => return Err(Fault::Memory),
-    };
-    match unroll(alloc, &scoped) {
-        Ok(tape) => Ok(tape),
-        Err(fault) => Err(fault_of(fault)),
+    match scope(alloc, program) {
+        Ok(scoped) => Ok(scoped),
+        Err(ScopeFault::Unbound(at)) => Err(refused(Kind::Unbound, at)),
+        Err(ScopeFault::TwoParams(at)) => Err(refused(Kind::TwoParams, at)),
+        Err(ScopeFault::Memory) => Err(Fault::Memory),
     }
 }
 

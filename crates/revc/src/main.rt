@@ -6,13 +6,14 @@ mod compile;
 mod evaluate;
 mod fault;
 mod front;
-mod plan;
+mod plain;
+#[cfg(test)]
+mod plain_tests;
 mod report;
-mod tape;
+mod small;
 #[cfg(test)]
 mod tests;
 mod top;
-mod unroll;
 
 use revc_io::{StdSink, StdSource};
 use std::env;

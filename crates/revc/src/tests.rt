@@ -134,37 +134,276 @@ const CASES: &[(&[(&[u8], usize)], u8, &[u8])] = &[
     (&[(b"main (a : bool) = a", 1), (b" <> a", 1001)], 3, REFUSED),
 ];
 
-const ASSIGNED: &[u8] = b"main (a : bool) (b : bool) = { let r = reg [a; b]; r.[0] <- b; a }";
+// The inputs of most programs below: two bits, a register of two, of four, of 1,024 bits.
+const BITS: &[u8] = b"main (a : bool) (b : bool) = ";
 
-const CLAIMED: &[u8] = b"main (a : bool) (b : bool) = { let t = a && b; clean t; a }";
+const PAIR: &[u8] = b"main (r : bool[2]) = ";
 
-// A program text, a bit word, and then the status and the text on standard output or standard error.
-const VALUES: &[(&[u8], &str, u8, &[u8])] = &[
-    (ASSIGNED, "01", 0, b"1\n"),
-    (ASSIGNED, "10", 0, b"0\n"),
-    (CLAIMED, "10", 0, b"1\n"),
-    (CLAIMED, "11", 4, b"revc: claim 1 at 1:48 fails on 11\n"),
-    (ASSIGNED, "2", 12, BAD_BITS),
-    (ASSIGNED, "02", 12, BAD_BITS),
-    (ASSIGNED, "1", 12, BAD_BITS),
-    (ASSIGNED, "", 12, BAD_BITS),
+const FOUR: &[u8] = b"main (r : bool[4]) = ";
+
+const LONG: &[u8] = b"main (r : bool[1024]) = ";
+
+const ASSIGNED: &[u8] = b"{ let r = reg [a; b]; r.[0] <- b; a }";
+
+const CLAIMED: &[u8] = b"{ let t = a && b; clean t; a }";
+
+const CLAIMS: &[u8] = b"{ assert a; clean b; true }";
+
+const ALIAS: &[u8] = b"{ let r = reg [a; b]; let s = r; s.[0] <- b; r }";
+
+const BAD_BITS: &[u8] = b"revc: bad bits in word 1\n";
+
+// A program text as its head, a body and what stands behind it so many times, a bit word that is repeated, and then the status and the
+// text on standard output or standard error. The outputs are worked out by hand.
+const VALUES: &[(&[(&[u8], usize)], (&str, usize), u8, &[u8])] = &[
+    // Bits and words.
+    (&[(BITS, 1), (b"true && a", 1)], ("10", 1), 0, b"1\n"),
+    (&[(BITS, 1), (ASSIGNED, 1)], ("01", 1), 0, b"1\n"),
+    (&[(BITS, 1), (ASSIGNED, 1)], ("10", 1), 0, b"0\n"),
+    (&[(BITS, 1), (ASSIGNED, 1)], ("2", 1), 12, BAD_BITS),
+    (&[(BITS, 1), (ASSIGNED, 1)], ("02", 1), 12, BAD_BITS),
+    (&[(BITS, 1), (ASSIGNED, 1)], ("1", 1), 12, BAD_BITS),
+    (&[(BITS, 1), (ASSIGNED, 1)], ("", 1), 12, BAD_BITS),
+    // Claims.
+    (&[(BITS, 1), (CLAIMED, 1)], ("10", 1), 0, b"1\n"),
     (
-        b"main (r : bool[3]) = rotate 3 r",
-        "000",
+        &[(BITS, 1), (CLAIMED, 1)],
+        ("11", 1),
+        4,
+        b"revc: claim 1 at 1:48 fails on 11\n",
+    ),
+    (&[(BITS, 1), (CLAIMS, 1)], ("10", 1), 0, b"1\n"),
+    (
+        &[(BITS, 1), (CLAIMS, 1)],
+        ("11", 1),
+        4,
+        b"revc: claim 2 at 1:42 fails on 11\n",
+    ),
+    (
+        &[(BITS, 1), (CLAIMS, 1)],
+        ("01", 1),
+        4,
+        b"revc: claim 1 at 1:32 fails on 01\n",
+    ),
+    (
+        &[(BITS, 1), (b"{ let t = a && b; clean t; t <- a; t }", 1)],
+        ("00", 1),
+        3,
+        b"revc: 1:57 Gone\n",
+    ),
+    // Names that stand for one location, and registers that copy no bit.
+    (&[(BITS, 1), (ALIAS, 1)], ("01", 1), 0, b"11\n"),
+    (&[(BITS, 1), (ALIAS, 1)], ("10", 1), 0, b"00\n"),
+    (
+        &[(BITS, 1), (b"{ let t = a; a <- b; b <- t; reg [a; b] }", 1)],
+        ("01", 1),
+        0,
+        b"11\n",
+    ),
+    (
+        &[
+            (BITS, 1),
+            (b"{ let t = a && a; a <- b; b <- t; reg [a; b] }", 1),
+        ],
+        ("01", 1),
+        0,
+        b"10\n",
+    ),
+    (
+        &[(BITS, 1), (b"a <> { a <- b; a }", 1)],
+        ("01", 1),
+        0,
+        b"0\n",
+    ),
+    (
+        &[(PAIR, 1), (b"{ let s = rotate 1 r; s.[0] <- s.[1]; r }", 1)],
+        ("10", 1),
+        0,
+        b"11\n",
+    ),
+    (
+        &[
+            (b"main (a : bool) (r : bool[2]) = ", 1),
+            (b"{ let s = append (reg [a]) r; s.[2] <- s.[0]; r }", 1),
+        ],
+        ("011", 1),
+        0,
+        b"10\n",
+    ),
+    // Functions as values, with the locations that they were made with.
+    (
+        &[(BITS, 1), (b"{ let f x = x <> a; a <- b; f b }", 1)],
+        ("01", 1),
+        0,
+        b"0\n",
+    ),
+    (
+        &[
+            (BITS, 1),
+            (b"{ let f = { let h = a && b; fun x -> x <> h }; f a }", 1),
+        ],
+        ("11", 1),
+        0,
+        b"0\n",
+    ),
+    (
+        &[
+            (BITS, 1),
+            (b"{ let f x y = x <> (x && y); let g = f a; g b }", 1),
+        ],
+        ("10", 1),
+        0,
+        b"1\n",
+    ),
+    (
+        &[(BITS, 1), (b"(fun x -> fun y -> x && y) a b", 1)],
+        ("11", 1),
+        0,
+        b"1\n",
+    ),
+    (
+        &[
+            (BITS, 1),
+            (b"{ let twice f x = f (f x); ", 1),
+            (b"let flip x = x <> true; reg [twice flip a; flip b] }", 1),
+        ],
+        ("11", 1),
+        0,
+        b"10\n",
+    ),
+    (
+        &[(PAIR, 1), (b"{ let put x = x.[0] <- x.[1]; put r; r }", 1)],
+        ("01", 1),
+        0,
+        b"11\n",
+    ),
+    // Nearer names hide farther ones.
+    (
+        &[(BITS, 1), (b"(fun x x -> x) a b", 1)],
+        ("01", 1),
+        0,
+        b"1\n",
+    ),
+    (
+        &[
+            (BITS, 1),
+            (b"{ let x = a; let y = { let x = b; x }; reg [x; y] }", 1),
+        ],
+        ("01", 1),
+        0,
+        b"01\n",
+    ),
+    (
+        &[(BITS, 1), (b"{ let x = b; let x = x <> a; x }", 1)],
+        ("01", 1),
+        0,
+        b"1\n",
+    ),
+    (
+        &[
+            (BITS, 1),
+            (b"{ let x = a; let f y = x <> y; let x = b; f x }", 1),
+        ],
+        ("10", 1),
+        0,
+        b"1\n",
+    ),
+    // Registers.
+    (&[(FOUR, 1), (b"rotate 1 r", 1)], ("1000", 1), 0, b"0001\n"),
+    (
+        &[(FOUR, 1), (b"r.[1..3].[1..2]", 1)],
+        ("0010", 1),
+        0,
+        b"10\n",
+    ),
+    (
+        &[(FOUR, 1), (b"append (rotate 1 r) r.[0..1]", 1)],
+        ("1000", 1),
+        0,
+        b"000110\n",
+    ),
+    (
+        &[(b"main (r : bool[3]) = rotate 3 r", 1)],
+        ("000", 1),
         3,
         b"revc: 1:22 Rotate\n",
     ),
+    // Limits.
     (
-        b"main (r : bool[3]) = append (rotate 1 r) r.[0..1]",
-        "100",
-        0,
-        b"00110\n",
+        &[
+            (LONG, 1),
+            (b"{\nlet s = append r r;\nlet t = append s s;\n", 1),
+            (b"append t t;\nr.[0] }", 1),
+        ],
+        ("0", 1),
+        3,
+        b"revc: 4:1 Length\n",
     ),
-    (b"main (a : bool) = true && a", "1", 0, b"1\n"),
-    (b"main (a : bool) = z", "", 3, b"revc: 1:19 Unbound\n"),
+    (
+        &[(LONG, 1), (b"append r r", 1)],
+        ("0", 1),
+        3,
+        b"revc: 1:25 Outputs\n",
+    ),
+    (
+        &[
+            (b"main (a : bool) = {\n", 1),
+            (b"assert a;\n", 4097),
+            (b"a }", 1),
+        ],
+        ("0", 1),
+        3,
+        b"revc: 4098:1 Claims\n",
+    ),
+    (
+        &[
+            (b"main (a : bool) = {\nlet f x = x", 1),
+            (b" <> x", 256),
+            (b";\n", 1),
+            (b"f a;\n", 1025),
+            (b"a }", 1),
+        ],
+        ("0", 1),
+        3,
+        b"revc: 2:16 Writes\n",
+    ),
+    (
+        &[
+            (LONG, 1),
+            (b"{\nlet s = append r r;\nlet t = append s s;\n", 1),
+            (b"rotate 0 t;\n", 5000),
+            (b"r.[0]\n}", 1),
+        ],
+        ("0", 1024),
+        3,
+        b"revc: 4095:1 Work\n",
+    ),
+    // The other refusals of a text.
+    (
+        &[(b"main (a : bool) = z", 1)],
+        ("", 1),
+        3,
+        b"revc: 1:19 Unbound\n",
+    ),
+    (
+        &[(b"main (a : bool) (a : bool) = a", 1)],
+        ("00", 1),
+        3,
+        b"revc: 1:18 TwoParams\n",
+    ),
+    (
+        &[(b"main (a : bool) = { let t = false; clean t; t }", 1)],
+        ("0", 1),
+        3,
+        b"revc: 1:19 Gone\n",
+    ),
+    (
+        &[(b"main (a : bool) = (fun x -> x x) (fun x -> x x)", 1)],
+        ("0", 1),
+        3,
+        b"revc: 1:44 Depth\n",
+    ),
 ];
-
-const BAD_BITS: &[u8] = b"revc: bad bits in word 1\n";
 
 // A body behind a bit `a` and a register `r` of three bits, and its refusal.
 const REFUSALS: &[(&[u8], &[u8])] = &[
@@ -197,19 +436,35 @@ fn text_of(alloc: Global, pieces: &[(&[u8], usize)]) -> Result<Vec<u8>, AllocErr
     Ok(text)
 }
 
+// The call on a source that holds a text: the status, and what standard output and standard error hold.
+fn ended(
+    alloc: Global,
+    words: &[&str],
+    pieces: &[(&[u8], usize)],
+) -> Result<(u8, MemorySink, MemorySink), Fail> {
+    let words = words_of(alloc, words)?;
+    let mut source = SureSource::new(text_of(alloc, pieces)?);
+    let mut out = MemorySink::new(alloc, 1000, Vec::new(alloc), 100)?;
+    let mut err = MemorySink::new(alloc, 100, Vec::new(alloc), 100)?;
+    let status = revc(alloc, &words, &mut source, &mut out, &mut err);
+    Ok((status, out, err))
+}
+
+// The word, so many times.
+fn word_of(alloc: Global, word: &str, count: usize) -> Result<String, AllocError> {
+    let mut all = String::new(alloc);
+    for _ in 0..count {
+        all.push_str(word)?;
+    }
+    Ok(all)
+}
+
 #[test]
 fn texts_are_compiled_or_refused(rt: HostRuntime) -> Result<(), Fail> {
-    let alloc = rt.alloc();
-    let words = words_of(alloc, &["compile"])?;
     for (pieces, status, written) in CASES {
-        let mut source = SureSource::new(text_of(alloc, pieces)?);
-        let mut out = MemorySink::new(alloc, 1000, Vec::new(alloc), 100)?;
-        let mut err = MemorySink::new(alloc, 100, Vec::new(alloc), 100)?;
-        assert_eq!(rt;
-            revc(alloc, &words, &mut source, &mut out, &mut err),
-            *status
-        );
-        let (full, empty) = if *status == 0 {
+        let (ended, out, err) = ended(rt.alloc(), &["compile"], pieces)?;
+        assert_eq!(rt; ended, *status);
+        let (full, empty) = if ended == 0 {
             (&out, &err)
         } else {
             (&err, &out)
@@ -222,17 +477,11 @@ fn texts_are_compiled_or_refused(rt: HostRuntime) -> Result<(), Fail> {
 
 #[test]
 fn texts_are_evaluated_or_refused(rt: HostRuntime) -> Result<(), Fail> {
-    let alloc = rt.alloc();
-    for (text, word, status, written) in VALUES {
-        let words = words_of(alloc, &["eval", word])?;
-        let mut source = SureSource::new(text.to_vec(alloc)?);
-        let mut out = MemorySink::new(alloc, 1000, Vec::new(alloc), 100)?;
-        let mut err = MemorySink::new(alloc, 100, Vec::new(alloc), 100)?;
-        assert_eq!(rt;
-            revc(alloc, &words, &mut source, &mut out, &mut err),
-            *status
-        );
-        let (full, empty) = if *status == 0 {
+    for (pieces, (word, count), status, written) in VALUES {
+        let word = word_of(rt.alloc(), word, *count)?;
+        let (ended, out, err) = ended(rt.alloc(), &["eval", word.as_str()], pieces)?;
+        assert_eq!(rt; ended, *status);
+        let (full, empty) = if ended == 0 {
             (&out, &err)
         } else {
             (&err, &out)
@@ -245,17 +494,13 @@ fn texts_are_evaluated_or_refused(rt: HostRuntime) -> Result<(), Fail> {
 
 #[test]
 fn stuck_runs_are_refused(rt: HostRuntime) -> Result<(), Fail> {
-    let alloc = rt.alloc();
-    let words = words_of(alloc, &["eval", "0000"])?;
     for (body, line) in REFUSALS {
-        let text = text_of(
-            alloc,
-            &[(b"main (a : bool) (r : bool[3]) = ", 1), (body, 1)],
-        )?;
-        let mut source = SureSource::new(text);
-        let mut out = MemorySink::new(alloc, 1000, Vec::new(alloc), 100)?;
-        let mut err = MemorySink::new(alloc, 100, Vec::new(alloc), 100)?;
-        assert_eq!(rt; revc(alloc, &words, &mut source, &mut out, &mut err), 3);
+        let pieces = [
+            (b"main (a : bool) (r : bool[3]) = ".as_slice(), 1),
+            (*body, 1),
+        ];
+        let (ended, out, err) = ended(rt.alloc(), &["eval", "0000"], &pieces)?;
+        assert_eq!(rt; ended, 3);
         assert_eq!(rt; err.bytes(), *line);
         assert_eq!(rt; out.bytes(), b"".as_slice());
     }
@@ -264,41 +509,42 @@ fn stuck_runs_are_refused(rt: HostRuntime) -> Result<(), Fail> {
 
 #[test]
 fn other_words_are_no_order(rt: HostRuntime) -> Result<(), Fail> {
-    let alloc = rt.alloc();
     for words in NO_ORDERS {
-        let words = words_of(alloc, words)?;
-        let mut source = SureSource::new(PRODUCT.to_vec(alloc)?);
-        let mut out = MemorySink::new(alloc, 1000, Vec::new(alloc), 100)?;
-        let mut err = MemorySink::new(alloc, 100, Vec::new(alloc), 100)?;
-        assert_eq!(rt; revc(alloc, &words, &mut source, &mut out, &mut err), 2);
+        let (ended, out, err) = ended(rt.alloc(), words, &[(PRODUCT, 1)])?;
+        assert_eq!(rt; ended, 2);
         assert_eq!(rt; out.bytes(), b"".as_slice());
         assert_eq!(rt; err.bytes(), USAGE);
     }
     Ok(())
 }
 
-// The sink takes 8 bytes a call, and the call with this number fails; the file goes out in one piece of
-// 163 bytes, and is flushed at the end. The first call of standard error fails too.
+// The sink takes 8 bytes a call, and the call with this number fails; a text goes out in one piece, and is flushed at the end. The
+// first call of standard error fails too.
+const FAULTS: &[(&[&str], u64, u8, (&[u8], usize))] = &[
+    (&["compile"], 1, 10, (PRODUCT_FILE, 0)),
+    (&["compile"], 2, 10, (PRODUCT_FILE, 8)),
+    (&["compile"], 21, 10, (PRODUCT_FILE, 160)),
+    (&["compile"], 22, 10, (PRODUCT_FILE, 163)),
+    (&["compile"], 23, 0, (PRODUCT_FILE, 163)),
+    (&["eval", "11"], 1, 10, (b"1\n", 0)),
+    (&["eval", "11"], 2, 10, (b"1\n", 2)),
+    (&["eval", "11"], 3, 0, (b"1\n", 2)),
+];
+
 #[test]
 fn faults_of_the_sink_end_the_writing(rt: HostRuntime) -> Result<(), Fail> {
     let alloc = rt.alloc();
-    for (failing, status, held) in [
-        (1, 10, 0),
-        (2, 10, 8),
-        (21, 10, 160),
-        (22, 10, 163),
-        (23, 0, 163),
-    ] {
+    for (words, failing, status, (text, held)) in FAULTS {
+        let words = words_of(alloc, words)?;
         let mut source = SureSource::new(PRODUCT.to_vec(alloc)?);
-        let mut out = MemorySink::new(alloc, 1000, vec![in alloc; failing]?, 8)?;
+        let mut out = MemorySink::new(alloc, 1000, vec![in alloc; *failing]?, 8)?;
         let mut err = MemorySink::new(alloc, 100, vec![in alloc; 1]?, 100)?;
-        let words = words_of(alloc, &["compile"])?;
         assert_eq!(rt;
             revc(alloc, &words, &mut source, &mut out, &mut err),
-            status,
+            *status,
             "at {failing}"
         );
-        assert_eq!(rt; out.bytes(), &PRODUCT_FILE[..held]);
+        assert_eq!(rt; out.bytes(), &text[..*held]);
         assert_eq!(rt; err.bytes(), b"".as_slice());
     }
     Ok(())

@@ -3,7 +3,7 @@ ghost use Rattle.std.specs.Prelude.{◌≡◌, ◌≢◌, ℕ, List, Bool, ◌�
 ghost use Rattle.std.specs.Io.KnownBytes.{IsAtEnd, Keeps};
 ghost use Rattle.revc_io.specs.Faults.{Rose, HasCause};
 ghost use Rattle.revc.specs.Clean.{IsNoSmallText, IsSmallText};
-ghost use Rattle.revc.specs.Program.{ProgramView};
+ghost use Rattle.revs_terms.specs.Views.{ProgramView};
 ghost use Rattle.revc.specs.Refusals.{IsRefusal};
 ghost use Rattle.revc.specs.declared.fault.Refusal.{Refusal};
 ghost use Rattle.revc.specs.Evaluation.{IsValueOf, Stops};
