@@ -3,6 +3,7 @@ use revc_io::{MemorySink, StdSource, SureSource};
 use std::alloc::{AllocError, Global};
 use std::io;
 use std::io::{Error, ErrorKind, Read};
+use std::process::Abort;
 use std::test::Fail;
 
 const PRODUCT: &[u8] = b"main (a : bool) (b : bool) = a && b";
@@ -436,18 +437,32 @@ fn text_of(alloc: Global, pieces: &[(&[u8], usize)]) -> Result<Vec<u8>, AllocErr
     Ok(text)
 }
 
-// The call on a source that holds a text: the status, and what standard output and standard error hold.
-fn ended(
+// The call on a source that holds a text ends with this status, and with what was written: on standard output where it is 0, and on
+// standard error else.
+fn check(
+    rt: &impl Abort,
     alloc: Global,
     words: &[&str],
     pieces: &[(&[u8], usize)],
-) -> Result<(u8, MemorySink, MemorySink), Fail> {
+    status: u8,
+    written: &[u8],
+) -> Result<(), Fail> {
     let words = words_of(alloc, words)?;
     let mut source = SureSource::new(text_of(alloc, pieces)?);
     let mut out = MemorySink::new(alloc, 1000, Vec::new(alloc), 100)?;
     let mut err = MemorySink::new(alloc, 100, Vec::new(alloc), 100)?;
-    let status = revc(alloc, &words, &mut source, &mut out, &mut err);
-    Ok((status, out, err))
+    assert_eq!(rt;
+        revc(alloc, &words, &mut source, &mut out, &mut err),
+        status
+    );
+    let (full, empty) = if status == 0 {
+        (&out, &err)
+    } else {
+        (&err, &out)
+    };
+    assert_eq!(rt; full.bytes(), written);
+    assert_eq!(rt; empty.bytes(), b"".as_slice());
+    Ok(())
 }
 
 // The word, so many times.
@@ -462,15 +477,7 @@ fn word_of(alloc: Global, word: &str, count: usize) -> Result<String, AllocError
 #[test]
 fn texts_are_compiled_or_refused(rt: HostRuntime) -> Result<(), Fail> {
     for (pieces, status, written) in CASES {
-        let (ended, out, err) = ended(rt.alloc(), &["compile"], pieces)?;
-        assert_eq!(rt; ended, *status);
-        let (full, empty) = if ended == 0 {
-            (&out, &err)
-        } else {
-            (&err, &out)
-        };
-        assert_eq!(rt; full.bytes(), *written);
-        assert_eq!(rt; empty.bytes(), b"".as_slice());
+        check(&rt, rt.alloc(), &["compile"], pieces, *status, written)?;
     }
     Ok(())
 }
@@ -479,15 +486,7 @@ fn texts_are_compiled_or_refused(rt: HostRuntime) -> Result<(), Fail> {
 fn texts_are_evaluated_or_refused(rt: HostRuntime) -> Result<(), Fail> {
     for (pieces, (word, count), status, written) in VALUES {
         let word = word_of(rt.alloc(), word, *count)?;
-        let (ended, out, err) = ended(rt.alloc(), &["eval", word.as_str()], pieces)?;
-        assert_eq!(rt; ended, *status);
-        let (full, empty) = if ended == 0 {
-            (&out, &err)
-        } else {
-            (&err, &out)
-        };
-        assert_eq!(rt; full.bytes(), *written);
-        assert_eq!(rt; empty.bytes(), b"".as_slice());
+        check(&rt, rt.alloc(), &["eval", word.as_str()], pieces, *status, written)?;
     }
     Ok(())
 }
@@ -495,14 +494,8 @@ fn texts_are_evaluated_or_refused(rt: HostRuntime) -> Result<(), Fail> {
 #[test]
 fn stuck_runs_are_refused(rt: HostRuntime) -> Result<(), Fail> {
     for (body, line) in REFUSALS {
-        let pieces = [
-            (b"main (a : bool) (r : bool[3]) = ".as_slice(), 1),
-            (*body, 1),
-        ];
-        let (ended, out, err) = ended(rt.alloc(), &["eval", "0000"], &pieces)?;
-        assert_eq!(rt; ended, 3);
-        assert_eq!(rt; err.bytes(), *line);
-        assert_eq!(rt; out.bytes(), b"".as_slice());
+        let head: &[u8] = b"main (a : bool) (r : bool[3]) = ";
+        check(&rt, rt.alloc(), &["eval", "0000"], &[(head, 1), (*body, 1)], 3, line)?;
     }
     Ok(())
 }
@@ -510,10 +503,7 @@ fn stuck_runs_are_refused(rt: HostRuntime) -> Result<(), Fail> {
 #[test]
 fn other_words_are_no_order(rt: HostRuntime) -> Result<(), Fail> {
     for words in NO_ORDERS {
-        let (ended, out, err) = ended(rt.alloc(), words, &[(PRODUCT, 1)])?;
-        assert_eq!(rt; ended, 2);
-        assert_eq!(rt; out.bytes(), b"".as_slice());
-        assert_eq!(rt; err.bytes(), USAGE);
+        check(&rt, rt.alloc(), words, &[(PRODUCT, 1)], 2, USAGE)?;
     }
     Ok(())
 }
