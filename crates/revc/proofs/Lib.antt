@@ -6,3 +6,4 @@ pub mod Statuses
 pub mod SmallRuns
 pub mod SmallSteps
 pub mod PlainSteps
+pub mod SmallEnds

@@ -37,11 +37,11 @@ value_there (bound value env) (suc back) h = value_there env back h.1
 
 -- ---- terms
 
-behind_cons : (t : Tree) (ts : Trees) → operators_behind (cons t ts) ≡ operators_of t + 1 + operators_behind ts
+pub behind_cons : (t : Tree) (ts : Trees) → operators_behind (cons t ts) ≡ operators_of t + 1 + operators_behind ts
 unfolding operators_of
 behind_cons t ts = refl
 
-plain_cons : (t : Tree) (ts : Trees) → are_plain (cons t ts) ≡ true → (is_plain t ≡ true) × (are_plain ts ≡ true)
+pub plain_cons : (t : Tree) (ts : Trees) → are_plain (cons t ts) ≡ true → (is_plain t ≡ true) × (are_plain ts ≡ true)
 unfolding is_plain
 plain_cons t ts e = both (is_plain t) (are_plain ts) e
 
