@@ -17,6 +17,7 @@ use Rattle.revs_terms.proofs.TapeLaws.{tape_gives_output}
 use Rattle.revc.specs.Clean.{IsSmallText, IsClean, PutsOutput, AllHold, IsCompiled}
 use Rattle.revc.specs.Compiled.{IsCleanPlan, IsPlanOf}
 use Rattle.revc.specs.Small.{IsSmallTape}
+use Rattle.revc.proofs.SmallTexts.{small_is_formed}
 
 -- the tape of a small program has few lines
 pub few_lines : (text : List ℕ) (p : ProgramView) (tape : TapeView) → IsWellFormed text p → IsTapeOf p.params p.body tape → IsSmallTape tape
@@ -77,10 +78,13 @@ all_hold laid p c = record { tape = c.tape; of = c.tape_of; hold = subst (AllByR
 
 pub compiled_file : (text : List ℕ) (laid : LaidView) (p : ProgramView) → IsSmallText text p → IsCleanPlan laid p → MeansCompiled (compiled_text (roles_of laid) laid.circuit.gates) (roles_of laid) laid.circuit.gates
     → IsCompiled text (compiled_text (roles_of laid) laid.circuit.gates)
-compiled_file text laid p small c means = record {
-  program = p;
-  small = small;
-  only = λ q is. one_formed text q p is small.formed;
-  claims = all_hold laid p c;
-  clean = clean_file laid p c means;
-}
+compiled_file text laid p small c means =
+    let formed = small_is_formed text p small in
+    record {
+      program = p;
+      formed = formed;
+      small = small;
+      only = λ q is. one_formed text q p is formed;
+      claims = all_hold laid p c;
+      clean = clean_file laid p c means;
+    }

@@ -7,3 +7,4 @@ pub mod SmallRuns
 pub mod SmallSteps
 pub mod PlainSteps
 pub mod SmallEnds
+pub mod SmallTexts

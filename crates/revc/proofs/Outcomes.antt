@@ -29,6 +29,7 @@ use Rattle.revc.specs.declared.fault.Fault.{Fault}
 use Rattle.revc.specs.declared.fault.Fault.TheVariants as faults
 use Rattle.revc.specs.Compiled.{IsCompileFault}
 use Rattle.revc.specs.Top.{IsOnlyRefusal, RefusesWell}
+use Rattle.revc.proofs.SmallTexts.{small_is_formed}
 
 -- ---- how a program ends: its run is looked at on the input of zeros
 
@@ -211,12 +212,12 @@ formed_refusal text p refusal w h =
     sym f.same ∙ ap refusal_of (one_found text f.found (ended (leaves p.body)) f.is (formed_found text p w))
 
 pub never_small : (text : List ℕ) (p : ProgramView) (refusal : Refusal) → IsRefusal text refusal → IsSmallText text p → ⊥
-never_small text p refusals.TooLong h small = let short = small.formed.text_of.short in omega arith
-never_small text p (refusals.At kind at) h small = apart (formed_refusal text p (refusals.At kind at) small.formed h)
+never_small text p refusals.TooLong h small = let short = small.text_of.short in omega arith
+never_small text p (refusals.At kind at) h small = apart (formed_refusal text p (refusals.At kind at) (small_is_formed text p small) h)
   where
     apart : refusals.At kind at ≡ refusals.Program → ⊥
     apart e = absurd cc
-never_small text p refusals.Program h small = h.2 (subst (λ (v : ProgramView). IsSmall v.params v.body) (one_formed text p h.0 small.formed h.1) small.small)
+never_small text p refusals.Program h small = h.2 (subst (λ (v : ProgramView). IsSmall v.params v.body) (one_formed text p h.0 (small_is_formed text p small) h.1) small.small)
 
 pub only_refusal : (text : List ℕ) (refusal : Refusal) → IsRefusal text refusal → IsOnlyRefusal text refusal
 only_refusal text refusal h = record {

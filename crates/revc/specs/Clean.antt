@@ -6,15 +6,19 @@ use Rattle.real_format.specs.Real.{RealView, RealMeaning}
 use Rattle.real_format.specs.Compiled.{HasRoles}
 use Rattle.revc_base.specs.Claims.{HoldsEverywhere}
 use Rattle.revc_base.specs.Tapes.{TapeView}
-use Rattle.revs_parser.specs.WellFormed.{IsWellFormed}
+use Rattle.revs_parser.specs.WellFormed.{IsProgramText, IsWellFormed}
 use Rattle.revs_terms.specs.Programs.{widths_of}
 use Rattle.revs_terms.specs.Runs.{IsInput, HasOutput, IsTapeOf}
+use Rattle.revs_terms.specs.Scopes.{scope_verdict, bound_as}
+use Rattle.revs_terms.specs.Trees.{Tree}
 use Rattle.revs_terms.specs.Views.{ProgramView}
 use Rattle.revc.specs.Small.{IsSmall}
 
--- the text is well formed, and that of this small program
+-- the text is that of this small program, with its names bound as the scope rule says
 pub record IsSmallText (text : List ℕ) (p : ProgramView) : Type 0 where
-  pub formed : IsWellFormed text p
+  pub unbound : Tree
+  pub text_of : IsProgramText text (record p { body = unbound })
+  pub bound : scope_verdict p.params unbound ≡ bound_as p.body
   pub small : IsSmall p.params p.body
 
 -- the text is that of no small program
@@ -47,9 +51,10 @@ pub record AllHold (p : ProgramView) : Type 0 where
   pub of : IsTapeOf p.params p.body tape
   pub hold : AllByRecursion (HoldsEverywhere tape) tape.claims
 
--- a clean file for the one program of the text, whose claims hold on all inputs
+-- a clean file for the one program of the text, which is well formed and small; its claims hold on all inputs
 pub record IsCompiled (text file : List ℕ) : Type 0 where
   pub program : ProgramView
+  pub formed : IsWellFormed text program
   pub small : IsSmallText text program
   pub only : (p : ProgramView) → IsWellFormed text p → p ≡ program
   pub claims : AllHold program

@@ -3,6 +3,7 @@ use Rattle.revs_terms.specs.Views.{view_of}
 use Rattle.revc.specs.Small.{IsSmall}
 use Rattle.revc.proofs.Compiling.{few_lines, clean_plan}
 use Rattle.revc.proofs.SmallRuns.{small_tape}
+use Rattle.revc.proofs.SmallTexts.{formed_is_small}
 use Rattle.revc.proofs.compile.compile.Goals as goal
 
 pub lay-requires : goal.lay-requires
@@ -17,7 +18,7 @@ returns-clause-ok c =
     let p = c.in_ok-scoped.scoped.program in
     let small : IsSmall p.params.items (tree_of p.body) = rw c.program.ensures.same at (c.is_small.ensures.0 c.if-not-is_small.false) in (
       view_of p,
-      record { formed = c.in_ok-scoped.ensures.formed; small = small },
+      formed_is_small c.args.text.now (view_of p) c.in_ok-scoped.ensures.formed small,
       clean_plan c.in_ok-lay.field-0 (view_of p) c.in_ok-scoped.tape c.in_ok-scoped.ensures.tape
           (small_tape p.params.items (tree_of p.body) c.in_ok-scoped.tape small c.in_ok-scoped.ensures.tape) c.in_ok-lay.ensures,
     )
