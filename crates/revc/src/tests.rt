@@ -486,7 +486,14 @@ fn texts_are_compiled_or_refused(rt: HostRuntime) -> Result<(), Fail> {
 fn texts_are_evaluated_or_refused(rt: HostRuntime) -> Result<(), Fail> {
     for (pieces, (word, count), status, written) in VALUES {
         let word = word_of(rt.alloc(), word, *count)?;
-        check(&rt, rt.alloc(), &["eval", word.as_str()], pieces, *status, written)?;
+        check(
+            &rt,
+            rt.alloc(),
+            &["eval", word.as_str()],
+            pieces,
+            *status,
+            written,
+        )?;
     }
     Ok(())
 }
@@ -495,7 +502,14 @@ fn texts_are_evaluated_or_refused(rt: HostRuntime) -> Result<(), Fail> {
 fn stuck_runs_are_refused(rt: HostRuntime) -> Result<(), Fail> {
     for (body, line) in REFUSALS {
         let head: &[u8] = b"main (a : bool) (r : bool[3]) = ";
-        check(&rt, rt.alloc(), &["eval", "0000"], &[(head, 1), (*body, 1)], 3, line)?;
+        check(
+            &rt,
+            rt.alloc(),
+            &["eval", "0000"],
+            &[(head, 1), (*body, 1)],
+            3,
+            line,
+        )?;
     }
     Ok(())
 }
