@@ -1,0 +1,7 @@
+pub mod AllLemmas
+pub mod AmongLemmas
+pub mod BitLemmas
+pub mod CountingLemmas
+pub mod CutLemmas
+pub mod OrderLemmas
+pub mod SearchLemmas
