@@ -9,7 +9,7 @@ use Rattle.revs_terms.specs.declared.term.Part.TheVariants as part
 use Rattle.revs_terms.specs.Terms.{place_of}
 use Rattle.revs_terms.specs.Trees.{Tree, trees, list_of, ItemTree, item_trees, bind, run, block, parts, apply, append}
 use Rattle.revs_terms.specs.Running as runs
-use Rattle.revs_terms.specs.Running.{Environment, bound, bound_length, State, Outcome, stuck, went, after, run_of, term_of, block_of, part_of, parts_of, apply_all, apply_to, worked, not_function}
+use Rattle.revs_terms.specs.Running.{Environment, bound, bound_length, State, Outcome, stuck, went, after, run_of, term_of, block_of, part_of, parts_of, apply_all, apply_to, worked}
 use Rattle.revs_terms.specs.Runs.{no_bits}
 use Rattle.array_shapes.specs.declared.value.Value.{Value}
 use Rattle.inliner.specs.declared.fault.RunFault.{RunFault}
@@ -20,6 +20,7 @@ use Rattle.inliner.specs.Steps.{Going, part_step, parts_step, append_step, bind_
 use Rattle.inliner.proofs.After.{said_first, said_same}
 use Rattle.inliner.proofs.Growth.{grown_env, grown_value, grown_length}
 use Rattle.inliner.proofs.Through.{Through, begun, step, same_rest, ends, ends_here, said, goes_in, says_in, regroup, same_next, list_of-trees, items_of-item_trees}
+use Rattle.revs_terms.specs.declared.cause.Cause.TheVariants as causes
 
 -- ---- loops and exits
 
@@ -189,7 +190,7 @@ argument_run old mid left env t v x is made g =
 -- ---- names of a function
 
 no_name : (left : ℕ) (at : Place) (ns : List Name) (body : Tree) (e : Environment) (v : runs.Value) (s : State (Unit {0})) → length ns ≡ 0
-    → apply_to no_bits (run_of no_bits left) at (runs.closure ns body e) v s ≡ stuck not_function at
+    → apply_to no_bits (run_of no_bits left) at (runs.closure ns body e) v s ≡ stuck causes.NotFunction at
 no_name left at [] body e v s h = refl
 no_name left at (n ∷ ns) body e v s h = absurd (omega arith)
 
@@ -220,7 +221,7 @@ drop_length (x ∷ xs) (suc k) = drop_length xs k ∙ omega arith
 -- ---- calls
 
 pub call_none : (left : ℕ) (at : Place) (names : List Name) (taken : ℕ) (body : Tree) (e : Environment) (v : runs.Value) (s : State (Unit {0})) → length names ≤ taken
-    → apply_to no_bits (run_of no_bits left) at (runs.closure (drop taken names) body e) v s ≡ stuck not_function at
+    → apply_to no_bits (run_of no_bits left) at (runs.closure (drop taken names) body e) v s ≡ stuck causes.NotFunction at
 call_none left at names taken body e v s h = no_name left at (drop taken names) body e v s (drop_length names taken ∙ omega arith)
 
 bind_first : (left : ℕ) (at : Place) (ns : List Name) (body : Tree) (e : Environment) (v : runs.Value) (s : State (Unit {0})) (fault : RunFault) → 0 < length ns

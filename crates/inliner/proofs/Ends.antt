@@ -18,14 +18,13 @@ use Rattle.array_shapes.specs.declared.value.Value.{Value}
 use Rattle.inliner.specs.declared.fault.RunFault.{RunFault}
 use Rattle.inliner.specs.declared.fault.RunFault.TheVariants as faults
 use Rattle.inliner.specs.declared.machine.Machine.{Machine}
-use Rattle.inliner.specs.Faults.{cause_of, IsStuckAs, Says, Leaves, IsStuckOnAll, IsRefused}
+use Rattle.inliner.specs.Faults.{IsStuckAs, Says, Leaves, IsStuckOnAll, IsRefused}
 use Rattle.revs_terms.specs.Terms.{is_formed}
 use Rattle.revs_terms.specs.Programs.{AreParams}
 use Rattle.revs_terms.proofs.BothEnds.{same_for_all}
 use Rattle.revs_terms.proofs.FullValues.{has_outputs}
-use Rattle.std.specs.Prelude.{IsTrue, Option, Some, None}
+use Rattle.std.specs.Prelude.{IsTrue}
 use Rattle.std.proofs.lemmas.List.{length-map}
-use Rattle.revs_terms.specs.Running.{Refusal}
 use Rattle.inliner.specs.Machines.{met_by, env_in, value_in, envs_of, state_of, Goes}
 use Rattle.inliner.specs.Starting.{stamped, Reads, Outputs, outputs_step, IsStart}
 use Rattle.inliner.specs.Steps.{Going}
@@ -151,16 +150,16 @@ at_default (y ∷ ys) (suc i) d h =
 
 -- Want of memory says nothing of the run.
 pub memory_says : {A : Type 0} (fault : RunFault) (o : Going A) → fault ≡ faults.Memory → Says fault o
-memory_says fault o e = subst (λ (f : RunFault). Says f o) (sym e) (record { cause = tt })
+memory_says fault o e = subst (λ (f : RunFault). Says f o) (sym e) (record { stuck = tt })
 
 -- ---- every input
 
-stuck_on_all : (params : List Param) (body : Tree) (cause : Option (Refusal × Place)) → IsStuckAs cause (run_without_bits params body) → IsStuckOnAll params body cause
-stuck_on_all params body None e = tt
-stuck_on_all params body (Some cause) e = (same_for_all params body).0 cause.0 cause.1 e
+stuck_on_all : (params : List Param) (body : Tree) (fault : RunFault) → IsStuckAs fault (run_without_bits params body) → IsStuckOnAll params body fault
+stuck_on_all params body (faults.Stuck cause at) e = (same_for_all params body).0 cause at e
+stuck_on_all params body faults.Memory e = tt
 
 pub refused : (params : List Param) (body : Tree) (fault : RunFault) → Says fault (run_without_bits params body) → IsRefused params body fault
-refused params body fault s = record { stuck = stuck_on_all params body (cause_of fault) s.cause }
+refused params body fault s = record { stuck = stuck_on_all params body fault s.stuck }
 
 pub left_on_all : (params : List Param) (body : Tree) (tape : TapeView) → Leaves params body tape → IsTapeOf params body tape
 left_on_all params body tape l = subst (IsTapeOf params body) (sym l.left) ((same_for_all params body).1 l.outputs l.state l.ends)

@@ -9,7 +9,7 @@ use Rattle.revs_terms.specs.declared.term.Part.{Part}
 use Rattle.revs_terms.specs.declared.term.Part.TheVariants as part
 use Rattle.revs_terms.specs.Trees.{Tree, ItemTree, bind, run, ands, xors, trees}
 use Rattle.revs_terms.specs.Terms.{place_of}
-use Rattle.revs_terms.specs.Running.{Value, unit, bit, Environment, bound, bound_length, State, Outcome, stuck, went, after, provided, no_index, no_slice, no_rotation, too_long, too_many_claims, as_register, registered, read, written, worked, left_by}
+use Rattle.revs_terms.specs.Running.{Value, unit, bit, Environment, bound, bound_length, State, Outcome, stuck, went, after, provided, as_register, registered, read, written, worked, left_by}
 use Rattle.revs_terms.specs.Runs.{no_bits}
 use Rattle.revs_terms.specs.Running as Running
 use Rattle.array_shapes.specs.declared.value.Value as shapes
@@ -19,6 +19,7 @@ use Rattle.inliner.specs.declared.fault.RunFault.{RunFault}
 use Rattle.inliner.specs.declared.fault.RunFault.TheVariants as faults
 use Rattle.inliner.specs.declared.machine.Operator.{Operator}
 use Rattle.inliner.specs.declared.machine.Operator.TheVariants as operators
+use Rattle.revs_terms.specs.declared.cause.Cause.TheVariants as causes
 
 abbrev pub Going : Type 0 → Type 0
 Going A = Outcome (Unit {0}) A
@@ -30,9 +31,9 @@ constant_step b at s = after (written no_bits (entries.Const b) tt at s) (λ mad
 -- one part of a register
 abbrev pub part_step : Place → Part → Value → State (Unit {0}) → Going Value
 part_step whole (part.Index i at) value s =
-    after (as_register no_bits at value s) (λ r s. elim (slice_get r i) [ None ↦ stuck no_index at | Some location ↦ went (bit location) s ])
+    after (as_register no_bits at value s) (λ r s. elim (slice_get r i) [ None ↦ stuck causes.Index at | Some location ↦ went (bit location) s ])
 part_step whole (part.Slice i j at) value s =
-    after (as_register no_bits at value s) (λ r s. provided (leb i j && leb (j + 1) (length r)) no_slice at (registered no_bits (take (j + 1 - i) (drop i r)) whole s))
+    after (as_register no_bits at value s) (λ r s. provided (leb i j && leb (j + 1) (length r)) causes.Slice at (registered no_bits (take (j + 1 - i) (drop i r)) whole s))
 
 abbrev pub parts_step : Place → List Part → Value → State (Unit {0}) → Going Value
 parts_step whole [] value s = went value s
@@ -41,22 +42,22 @@ parts_step whole (p ∷ ps) value s = after (part_step whole p value s) (parts_s
 -- the register of an operand, at its place, rotated
 abbrev pub rotate_step : ℕ → Place → Place → Value → State (Unit {0}) → Going Value
 rotate_step i operand at x s =
-    after (as_register no_bits operand x s) (λ r s. provided (leb (i + 1) (length r)) no_rotation at (registered no_bits (drop i r ++ take i r) at s))
+    after (as_register no_bits operand x s) (λ r s. provided (leb (i + 1) (length r)) causes.Rotate at (registered no_bits (drop i r ++ take i r) at s))
 
 -- the registers of two operands, at their places, one behind the other
 abbrev pub append_step : Place → Place → Place → Value → Value → State (Unit {0}) → Going Value
 append_step first second at x y s =
     after (as_register no_bits first x s) (λ r s. after (as_register no_bits second y s) (λ q s.
-    provided (leb (length r + length q) 4096) too_long at (registered no_bits (r ++ q) at s)))
+    provided (leb (length r + length q) 4096) causes.Length at (registered no_bits (r ++ q) at s)))
 
 -- a register of these locations, of which there are not too many
 abbrev pub reg_step : List ℕ → Place → State (Unit {0}) → Going Value
-reg_step locations at s = provided (leb (length locations) 4096) too_long at (registered no_bits locations at s)
+reg_step locations at s = provided (leb (length locations) 4096) causes.Length at (registered no_bits locations at s)
 
 -- a claim on the bit in a location, with the place of its operand
 abbrev pub claim_step : Kind → ℕ → Place → Place → State (Unit {0}) → Going Value
 claim_step kind location operand at s = after (read no_bits location operand s) (λ held s.
-    provided (leb (length s.claims + 1) 4096) too_many_claims at
+    provided (leb (length s.claims + 1) 4096) causes.Claims at
     (went unit (record s {
       store = left_by no_bits (λ _ _ s. went unit s) kind location s.store;
       claims = s.claims ++ record { claim = record { kind = kind; of = held.stamp; at = at }; bit = held.bit } ∷ [];
@@ -98,7 +99,7 @@ pub record IsBitAt (value : shapes.Value) (location : ℕ) : Type 0 where
 -- the value is no bit, as the fault says
 pub record NoBitAt (value : shapes.Value) (at : Place) (fault : RunFault) : Type 0 where
   pub is : bit_of (seen value) ≡ None
-  pub fault_is : fault ≡ faults.NotBit at
+  pub fault_is : fault ≡ faults.Stuck causes.NotBit at
 
 -- a bit of a chain with the next operand's
 abbrev pub link_step : (Environment → Tree → State (Unit {0}) → Going Value) → Operator → Environment → Place → ℕ → Tree → State (Unit {0}) → Going ℕ

@@ -15,7 +15,7 @@ use crate::leaps::{Leap, leap_from};
 use crate::places::place_of;
 use array_shapes::Value;
 use revc_base::{Claim, Entry, Kind, Place, Ref, Tape};
-use revs_terms::Term;
+use revs_terms::{Cause, Term};
 use std::alloc::Global;
 use std::rc::Rc;
 
@@ -84,7 +84,7 @@ impl<'t> Machine<'t> {
         ensures err { IfErr result (λ fault. Says fault (worked no_bits 1 (place_of (tree_of term.now)) (state_of self.old))) }
     {
         if self.work >= MOST_WORK {
-            return Err(RunFault::Work(place_of(term)));
+            return Err(RunFault::stuck(Cause::Work, place_of(term)));
         }
         self.work += 1;
         Ok(())
@@ -97,7 +97,7 @@ impl<'t> Machine<'t> {
         ensures err { IfErr result (λ fault. Says fault (worked no_bits count at (state_of self.old))) }
     {
         if count > (MOST_WORK - self.work) as usize {
-            return Err(RunFault::Work(at));
+            return Err(RunFault::stuck(Cause::Work, at));
         }
         self.work += count as u32;
         Ok(())
@@ -112,7 +112,7 @@ impl<'t> Machine<'t> {
     {
         match self.store.get(location as usize) {
             Some(Some(made)) => Ok(*made),
-            _ => Err(RunFault::Gone(place_of(term))),
+            _ => Err(RunFault::stuck(Cause::Gone, place_of(term))),
         }
     }
 
@@ -124,7 +124,7 @@ impl<'t> Machine<'t> {
         ensures err { IfErr result (λ fault. Says fault (written no_bits entry tt at (state_of self.old))) }
     {
         if self.tape.len() >= MOST_WRITES {
-            return Err(RunFault::Writes(at));
+            return Err(RunFault::stuck(Cause::Writes, at));
         }
         let location = self.store.len() as u32;
         let made = self.tape.push(entry)?;
@@ -173,7 +173,7 @@ impl<'t> Machine<'t> {
     {
         let of = self.read(location, operand)?;
         if self.tape.claims().len() >= MOST_CLAIMS {
-            return Err(RunFault::Claims(at));
+            return Err(RunFault::stuck(Cause::Claims, at));
         }
         self.tape.claim(Claim { kind, of, at })?;
         if kind == Kind::Clean {
@@ -218,7 +218,7 @@ impl<'t> Machine<'t> {
         ensures err { IfErr result (λ fault. Says fault (reg_step locations.items at (state_of self.old))) }
     {
         if locations.len() > MOST_PLACES {
-            return Err(RunFault::Length(at));
+            return Err(RunFault::stuck(Cause::Length, at));
         }
         self.register(locations, at)
     }

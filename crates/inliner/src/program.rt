@@ -16,7 +16,7 @@ use crate::start::start;
 use array_shapes::Value;
 use name_scope::Scoped;
 use revc_base::{Ref, Tape};
-use revs_terms::{Program, Term};
+use revs_terms::{Cause, Program, Term};
 use std::alloc::Global;
 
 /// How deep terms are run.
@@ -58,11 +58,11 @@ fn outputs<'t>(machine: &Machine<'t>, value: &Value<'t>, body: &Term) -> Result<
         Value::Bit(location) => read(machine, &[*location], body),
         Value::Reg(locations) => {
             if locations.len() > MOST_OUTPUTS {
-                return Err(RunFault::Outputs(place_of(body)));
+                return Err(RunFault::stuck(Cause::Outputs, place_of(body)));
             }
             read(machine, locations, body)
         }
-        Value::Unit | Value::Fun { .. } => Err(RunFault::NoOutput(place_of(body))),
+        Value::Unit | Value::Fun { .. } => Err(RunFault::stuck(Cause::NoOutput, place_of(body))),
     }
 }
 

@@ -10,7 +10,7 @@ use crate::machine::Machine;
 use crate::places::place_of;
 use array_shapes::{ShapeFault, Value, append, bit, index, register, rotate, slice};
 use revc_base::Place;
-use revs_terms::{Part, Term};
+use revs_terms::{Cause, Part, Term};
 
 /// The location of a bit, which is the value of a term.
 pub fn bit_at(value: &Value, term: &Term) -> Result<u32, RunFault>
@@ -19,7 +19,7 @@ pub fn bit_at(value: &Value, term: &Term) -> Result<u32, RunFault>
 {
     match bit(value) {
         Some(location) => Ok(location),
-        None => Err(RunFault::NotBit(place_of(term))),
+        None => Err(RunFault::stuck(Cause::NotBit, place_of(term))),
     }
 }
 
@@ -40,11 +40,11 @@ impl<'t> Machine<'t> {
         ensures err { IfErr result (λ fault. Says fault (rotate_step i (place_of (tree_of operand.now)) at (value_in (envs_of self.old) value.now) (state_of self.old))) }
     {
         let Some(places) = register(value) else {
-            return Err(RunFault::NotRegister(place_of(operand)));
+            return Err(RunFault::stuck(Cause::NotRegister, place_of(operand)));
         };
         match rotate(self.allocator(), i, places) {
             Ok(turned) => self.register(turned, at),
-            Err(ShapeFault::Rotate) => Err(RunFault::Rotate(at)),
+            Err(ShapeFault::Rotate) => Err(RunFault::stuck(Cause::Rotate, at)),
             Err(_) => Err(RunFault::Memory),
         }
     }
@@ -63,14 +63,14 @@ impl<'t> Machine<'t> {
         ensures err { IfErr result (λ fault. Says fault (append_step (place_of (tree_of first.now)) (place_of (tree_of second.now)) at (value_in (envs_of self.old) x.now) (value_in (envs_of self.old) y.now) (state_of self.old))) }
     {
         let Some(front) = register(x) else {
-            return Err(RunFault::NotRegister(place_of(first)));
+            return Err(RunFault::stuck(Cause::NotRegister, place_of(first)));
         };
         let Some(back) = register(y) else {
-            return Err(RunFault::NotRegister(place_of(second)));
+            return Err(RunFault::stuck(Cause::NotRegister, place_of(second)));
         };
         match append(self.allocator(), front, back) {
             Ok(joined) => self.register(joined, at),
-            Err(ShapeFault::Length) => Err(RunFault::Length(at)),
+            Err(ShapeFault::Length) => Err(RunFault::stuck(Cause::Length, at)),
             Err(_) => Err(RunFault::Memory),
         }
     }
@@ -113,11 +113,11 @@ impl<'t> Machine<'t> {
         ensures err { IfErr result (λ fault. Says fault (part_step at (Part.Index i at) (value_in (envs_of self.old) value.now) (state_of self.old))) }
     {
         let Some(places) = register(value) else {
-            return Err(RunFault::NotRegister(at));
+            return Err(RunFault::stuck(Cause::NotRegister, at));
         };
         match index(places, i) {
             Some(location) => Ok(Value::Bit(location)),
-            None => Err(RunFault::Index(at)),
+            None => Err(RunFault::stuck(Cause::Index, at)),
         }
     }
 
@@ -135,11 +135,11 @@ impl<'t> Machine<'t> {
         ensures err { IfErr result (λ fault. Says fault (part_step whole (Part.Slice i j at) (value_in (envs_of self.old) value.now) (state_of self.old))) }
     {
         let Some(places) = register(value) else {
-            return Err(RunFault::NotRegister(at));
+            return Err(RunFault::stuck(Cause::NotRegister, at));
         };
         match slice(self.allocator(), places, i, j) {
             Ok(between) => self.register(between, whole),
-            Err(ShapeFault::Slice) => Err(RunFault::Slice(at)),
+            Err(ShapeFault::Slice) => Err(RunFault::stuck(Cause::Slice, at)),
             Err(_) => Err(RunFault::Memory),
         }
     }

@@ -12,7 +12,7 @@ use crate::places::place_of;
 use crate::registers::bit_at;
 use array_shapes::Value;
 use revc_base::{Kind, Place};
-use revs_terms::{Item, Part, Term};
+use revs_terms::{Cause, Item, Part, Term};
 
 impl<'t> Machine<'t> {
     ghost use Rattle.inliner.specs.Machines.{IsMachine, Does, Goes, Binds, IsValue, envs_of, env_in, state_of, value_in};
@@ -27,7 +27,7 @@ impl<'t> Machine<'t> {
         ensures err { IfErr result (λ fault. Says fault (run_of no_bits left (env_in (envs_of self.old) env) (tree_of term.now) (state_of self.old))) }
     {
         if left == 0 {
-            return Err(RunFault::Depth(place_of(term)));
+            return Err(RunFault::stuck(Cause::Depth, place_of(term)));
         }
         self.enter(term)?;
         self.term(env, term, left - 1)
@@ -335,10 +335,10 @@ impl<'t> Machine<'t> {
         ensures err { IfErr result (λ fault. Says fault (apply_to no_bits (run_of no_bits left) (place_of (tree_of term.now)) (value_in (envs_of self.old) callee.entry) (value_in (envs_of self.old) argument.entry) (state_of self.old))) }
     {
         let Value::Fun { env, taken, of } = callee else {
-            return Err(RunFault::NotFunction(place_of(term)));
+            return Err(RunFault::stuck(Cause::NotFunction, place_of(term)));
         };
         if of.names.len() <= taken as usize {
-            return Err(RunFault::NotFunction(place_of(term)));
+            return Err(RunFault::stuck(Cause::NotFunction, place_of(term)));
         }
         let inner = self.bind(env, argument, term)?;
         if of.names.len() == taken as usize + 1 {

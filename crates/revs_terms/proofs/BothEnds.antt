@@ -12,11 +12,13 @@ use Rattle.revs_terms.specs.declared.program.Param.{Param}
 use Rattle.revs_terms.specs.Programs.{widths_of, AreParams}
 use Rattle.revs_terms.specs.Trees.{Tree}
 use Rattle.revs_terms.specs.Terms.{place_of}
-use Rattle.revs_terms.specs.Running.{Value, unit, bit, register, closure, nothing, Refusal, no_output, too_many_outputs, Stamped, Met, State, Outcome, stuck, went, after, run_of}
+use Rattle.revs_terms.specs.Running.{Value, unit, bit, register, closure, nothing, Stamped, Met, State, Outcome, stuck, went, after, run_of}
 use Rattle.revs_terms.specs.Runs.{inputs_from, start, params_in, locations_of, read_all, no_bits, real_bits, nothings, run_of_program, run_without_bits, IsInput, LeavesOn, tape_of, SameForAll, LeavesTape}
 use Rattle.revs_terms.proofs.Parts.{both}
 use Rattle.revs_terms.proofs.Pairs.{OptionPaired, Paired, same_length}
 use Rattle.revs_terms.proofs.SideBySide.{IsAlike, IsAlikeClaim, AreAlike, Answers, GoTogether, both_stuck, next, next_with, answers, both_provided, both_read, both_run_of}
+use Rattle.revs_terms.specs.declared.cause.Cause.{Cause}
+use Rattle.revs_terms.specs.declared.cause.Cause.TheVariants as causes
 
 -- ---- lists that are paired
 
@@ -69,12 +71,12 @@ module _ (input : List Bool) where
 
   both_locations_of : (at : Place) (value : Value) {s : State (Unit {0})} {t : State Bool} → AreAlike input s t
       → GoTogether input Places (locations_of at value s) (locations_of at value t)
-  both_locations_of at unit h = both_stuck input no_output at
+  both_locations_of at unit h = both_stuck input causes.NoOutput at
   both_locations_of at (bit location) h = record { side = (refl, omega arith, h) }
   both_locations_of at (register locations) h =
-      both_provided input (leb (length locations) 1024) (leb (length locations) 1024) too_many_outputs at refl (λ fits.
+      both_provided input (leb (length locations) 1024) (leb (length locations) 1024) causes.Outputs at refl (λ fits.
       let few : length locations ≤ 1024 = leb-true (length locations) 1024 fits in record { side = (refl, few, h) })
-  both_locations_of at (closure names body env) h = both_stuck input no_output at
+  both_locations_of at (closure names body env) h = both_stuck input causes.NoOutput at
 
   -- the outputs that are read, so many of them, with the log as it was
   abbrev Reads : ℕ → List Entry → Answers input (List (Stamped (Unit {0}))) (List (Stamped Bool))
@@ -118,7 +120,7 @@ module _ (input : List Bool) where
   both_programs params body e = both_runs 400 params body (sum (widths_of params)) e
 
   -- where the run without bits is stuck, the other is
-  stuck_too : {A C : Type 0} (R : Answers input A C) (why : Refusal) (at : Place) (p : Outcome Bool C) → GoTogether input R (stuck why at) p → p ≡ stuck why at
+  stuck_too : {A C : Type 0} (R : Answers input A C) (why : Cause) (at : Place) (p : Outcome Bool C) → GoTogether input R (stuck why at) p → p ≡ stuck why at
   stuck_too R why at (stuck reason place) h = ap (λ r. stuck r place) (sym h.side.0) ∙ ap (λ q. stuck why q) (sym h.side.1)
   stuck_too R why at (went c t) h = absurd h.side
 

@@ -15,9 +15,11 @@ use Rattle.revs_terms.specs.declared.term.Part.TheVariants as part
 use Rattle.revs_terms.specs.Programs.{width_of, widths_of}
 use Rattle.revs_terms.specs.Trees.{Tree, Trees, ItemTree, ItemTrees, list_of, items_of, used, bool, reg, block, function, parts, apply, append, rotate, clean, assert, ands, xors, assign, nil, cons, bind, run, no_items, item}
 use Rattle.revs_terms.specs.Terms.{place_of, has_one, is_formed, are_formed, item_is_formed, items_are_formed}
-use Rattle.revs_terms.specs.Running.{Value, unit, bit, register, closure, Environment, nothing, bound, value_at, bound_length, Refusal, no_index, too_many_claims, Bits, Stamped, State, Outcome, stuck, went, after, provided, worked, registered, written, read, as_register, bit_of, bits_of, block_of, part_of, parts_of, apply_to, apply_all, claimed, chain_of, chain, term_of, run_of}
+use Rattle.revs_terms.specs.Running.{Value, unit, bit, register, closure, Environment, nothing, bound, value_at, bound_length, Bits, Stamped, State, Outcome, stuck, went, after, provided, worked, registered, written, read, as_register, bit_of, bits_of, block_of, part_of, parts_of, apply_to, apply_all, claimed, chain_of, chain, term_of, run_of}
 use Rattle.revs_terms.specs.Runs.{start, from, param_value, params_in, locations_of, read_all, no_bits, nothings, run_without_bits, HasOutputs}
 use Rattle.revs_terms.proofs.Parts.{both}
+use Rattle.revs_terms.specs.declared.cause.Cause.{Cause}
+use Rattle.revs_terms.specs.declared.cause.Cause.TheVariants as causes
 
 -- A register has a place, and a function has a formed body and values of this sort.
 abbrev mutual
@@ -67,7 +69,7 @@ module _ {B : Type 0} where
   pub record Gives {A : Type 0} (P : A → Type 0) (o : Outcome B A) : Type 0 where
     pub given : Given P o
 
-  nothing_given : {A : Type 0} {P : A → Type 0} (why : Refusal) (at : Place) → Gives P (stuck why at)
+  nothing_given : {A : Type 0} {P : A → Type 0} (why : Cause) (at : Place) → Gives P (stuck why at)
   nothing_given why at = record { given = tt }
 
   some_given : {A : Type 0} {P : A → Type 0} (a : A) (s : State B) → P a → Gives P (went a s)
@@ -86,7 +88,7 @@ module _ {B : Type 0} where
       by_case P Q (stuck why at) k h f = record { given = tt }
       by_case P Q (went a s) k h f = f a s h.given
 
-  where_so : {A : Type 0} {P : A → Type 0} {o : Outcome B A} (b : Bool) (why : Refusal) (at : Place) → (b ≡ true → Gives P o) → Gives P (provided b why at o)
+  where_so : {A : Type 0} {P : A → Type 0} {o : Outcome B A} (b : Bool) (why : Cause) (at : Place) → (b ≡ true → Gives P o) → Gives P (provided b why at o)
   where_so true why at f = f refl
   where_so false why at f = record { given = tt }
 
@@ -115,8 +117,8 @@ module _ {B : Type 0} (bits : Bits B) where
         full_block (bound value env) items last s (h, full) formed.1 e))
     full_block env (run u ∷ items) last s full formed e = next (any (deeper env u s)) (λ _ s _. full_block env items last s full formed.1 e)
 
-    full_index : (x : Option ℕ) (at : Place) (s : State B) → Gives IsFull (elim x [ None ↦ stuck no_index at | Some location ↦ went (bit location) s ])
-    full_index None at s = nothing_given no_index at
+    full_index : (x : Option ℕ) (at : Place) (s : State B) → Gives IsFull (elim x [ None ↦ stuck causes.Index at | Some location ↦ went (bit location) s ])
+    full_index None at s = nothing_given causes.Index at
     full_index (Some location) at s = some_given (bit location) s tt
 
     full_part : (whole : Place) (p : Part) (value : Value) (s : State B) → IsFull value → Gives IsFull (part_of bits deeper whole p value s)
@@ -153,7 +155,7 @@ module _ {B : Type 0} (bits : Bits B) where
     full_claim : (kind : Kind) (env : Environment) (u : Tree) (at : Place) (s : State B) → Gives IsFull (claimed bits deeper kind env u at s)
     full_claim kind env u at s =
         next (any (bit_of bits deeper env u s)) (λ location s _. next (any (read bits location (place_of u) s)) (λ held s _.
-        where_so (leb (length s.claims + 1) 4096) too_many_claims at (λ fits. record { given = tt })))
+        where_so (leb (length s.claims + 1) 4096) causes.Claims at (λ fits. record { given = tt })))
 
     full_chain_of : (entry : Ref → Ref → Entry) (op : B → B → B) (env : Environment) (first : Place) (so_far : ℕ) (us : List Tree) (s : State B)
         → Gives IsFull (chain_of bits deeper entry op env first so_far us s)

@@ -19,10 +19,12 @@ use Rattle.revs_terms.specs.declared.term.Part.{Part}
 use Rattle.revs_terms.specs.declared.term.Part.TheVariants as part
 use Rattle.revs_terms.specs.Trees.{Tree, ItemTree, list_of, items_of, used, bool, reg, block, function, parts, apply, append, rotate, clean, assert, ands, xors, assign, bind, run}
 use Rattle.revs_terms.specs.Terms.{place_of}
-use Rattle.revs_terms.specs.Running.{Value, unit, bit, register, closure, Environment, bound, value_at, bound_length, Refusal, no_index, no_slice, too_long, no_rotation, too_many_claims, gone, Stamped, Met, State, Outcome, stuck, went, after, provided, worked, registered, written, read, as_bit, as_register, bit_of, bits_of, block_of, part_of, parts_of, apply_to, apply_all, left_by, claimed, chain_of, chain, term_of, run_of}
+use Rattle.revs_terms.specs.Running.{Value, unit, bit, register, closure, Environment, bound, value_at, bound_length, Stamped, Met, State, Outcome, stuck, went, after, provided, worked, registered, written, read, as_bit, as_register, bit_of, bits_of, block_of, part_of, parts_of, apply_to, apply_all, left_by, claimed, chain_of, chain, term_of, run_of}
 use Rattle.revs_terms.specs.Runs.{no_bits, real_bits}
 use Rattle.revs_terms.proofs.Pairs.{OptionPaired, Paired, option_weaker, weaker, pushed, same_length, stored, found}
 use Rattle.revs_terms.proofs.GrowingLog.{bit_at-push, bit_at-newest}
+use Rattle.revs_terms.specs.declared.cause.Cause.{Cause}
+use Rattle.revs_terms.specs.declared.cause.Cause.TheVariants as causes
 
 module _ (input : List Bool) where
   -- a stamp without a bit, and with the bit that it has after these writes
@@ -63,7 +65,7 @@ module _ (input : List Bool) where
   abbrev pub Same : {A : Type 0} → Answers A A
   Same a s c t = (a ≡ c) × AreAlike s t
 
-  pub both_stuck : {A C : Type 0} {R : Answers A C} (why : Refusal) (at : Place) → GoTogether R (stuck why at) (stuck why at)
+  pub both_stuck : {A C : Type 0} {R : Answers A C} (why : Cause) (at : Place) → GoTogether R (stuck why at) (stuck why at)
   both_stuck why at = record { side = (refl, refl) }
 
   pub both_went : {A : Type 0} (a : A) {s : State (Unit {0})} {t : State Bool} → AreAlike s t → GoTogether Same (went a s) (went a t)
@@ -92,7 +94,7 @@ module _ (input : List Bool) where
       → GoTogether Q (after o k) (after p m)
   next {Q = Q} {o} {p} {k} {m} h f = next_with Same o p h (λ a s c t r. subst (λ x. GoTogether Q (k a s) (m x t)) r.0 (f a s t r.1))
 
-  pub both_provided : {A C : Type 0} {R : Answers A C} {o : Outcome (Unit {0}) A} {p : Outcome Bool C} (b c : Bool) (why : Refusal) (at : Place)
+  pub both_provided : {A C : Type 0} {R : Answers A C} {o : Outcome (Unit {0}) A} {p : Outcome Bool C} (b c : Bool) (why : Cause) (at : Place)
       → b ≡ c → (c ≡ true → GoTogether R o p) → GoTogether R (provided b why at o) (provided c why at p)
   both_provided true true why at e f = f refl
   both_provided false false why at e f = both_stuck why at
@@ -166,12 +168,12 @@ module _ (input : List Bool) where
       (k : Stamped (Unit {0}) → State (Unit {0}) → Outcome (Unit {0}) A) (m : Stamped Bool → State Bool → Outcome Bool C)
       → OptionPaired (OptionPaired (IsAlike t.log)) x y
       → ((a : Stamped (Unit {0})) (b : Stamped Bool) → IsAlike t.log a b → GoTogether Q (k a s) (m b t))
-      → GoTogether Q (after (elim x [ None ↦ stuck gone at | Some held ↦ elim held [ None ↦ stuck gone at | Some b ↦ went b s ] ]) k)
-      (after (elim y [ None ↦ stuck gone at | Some held ↦ elim held [ None ↦ stuck gone at | Some b ↦ went b t ] ]) m)
-  found_held None None at s t k m h f = both_stuck gone at
+      → GoTogether Q (after (elim x [ None ↦ stuck causes.Gone at | Some held ↦ elim held [ None ↦ stuck causes.Gone at | Some b ↦ went b s ] ]) k)
+      (after (elim y [ None ↦ stuck causes.Gone at | Some held ↦ elim held [ None ↦ stuck causes.Gone at | Some b ↦ went b t ] ]) m)
+  found_held None None at s t k m h f = both_stuck causes.Gone at
   found_held None (Some y) at s t k m h f = absurd h
   found_held (Some x) None at s t k m h f = absurd h
-  found_held (Some None) (Some None) at s t k m h f = both_stuck gone at
+  found_held (Some None) (Some None) at s t k m h f = both_stuck causes.Gone at
   found_held (Some None) (Some (Some b)) at s t k m h f = absurd h
   found_held (Some (Some a)) (Some None) at s t k m h f = absurd h
   found_held (Some (Some a)) (Some (Some b)) at s t k m h f = f a b h
@@ -219,16 +221,16 @@ module _ (input : List Bool) where
     both_block_of env (run u ∷ items) last h = next (deeper env u _ _ h) (λ _ s t h. both_block_of env items last h)
 
     both_index : (x : Option ℕ) (at : Place) {s : State (Unit {0})} {t : State Bool} → AreAlike s t
-        → GoTogether {A = Value} {C = Value} Same (elim x [ None ↦ stuck no_index at | Some location ↦ went (bit location) s ])
-        (elim x [ None ↦ stuck no_index at | Some location ↦ went (bit location) t ])
-    both_index None at h = both_stuck no_index at
+        → GoTogether {A = Value} {C = Value} Same (elim x [ None ↦ stuck causes.Index at | Some location ↦ went (bit location) s ])
+        (elim x [ None ↦ stuck causes.Index at | Some location ↦ went (bit location) t ])
+    both_index None at h = both_stuck causes.Index at
     both_index (Some location) at h = both_went (bit location) h
 
     both_part_of : (whole : Place) (p : Part) (value : Value) {s : State (Unit {0})} {t : State Bool} → AreAlike s t
         → GoTogether Same (part_of no_bits d whole p value s) (part_of real_bits e whole p value t)
     both_part_of whole (part.Index i at) value h = next (both_as_register at value h) (λ r s t h. both_index (slice_get r i) at h)
     both_part_of whole (part.Slice i j at) value h =
-        next (both_as_register at value h) (λ r s t h. both_provided (leb i j && leb (j + 1) (length r)) _ no_slice at refl (λ fits. both_registered (take (j + 1 - i) (drop i r)) whole h))
+        next (both_as_register at value h) (λ r s t h. both_provided (leb i j && leb (j + 1) (length r)) _ causes.Slice at refl (λ fits. both_registered (take (j + 1 - i) (drop i r)) whole h))
 
     both_parts_of : (whole : Place) (ps : List Part) (value : Value) {s : State (Unit {0})} {t : State Bool} → AreAlike s t
         → GoTogether Same (parts_of no_bits d whole ps value s) (parts_of real_bits e whole ps value t)
@@ -262,7 +264,7 @@ module _ (input : List Bool) where
     both_claimed kind env u at h =
         next (both_bit_of env u h) (λ location s t h. both_read location (place_of u) _ _ h (λ a b alike.
         let count : length s.claims ≡ length t.claims = same_length (IsAlikeClaim t.log) s.claims t.claims h.claims in
-        both_provided (leb (length s.claims + 1) 4096) (leb (length t.claims + 1) 4096) too_many_claims at (ap (λ n. leb (n + 1) 4096) count) (λ fits.
+        both_provided (leb (length s.claims + 1) 4096) (leb (length t.claims + 1) 4096) causes.Claims at (ap (λ n. leb (n + 1) 4096) count) (λ fits.
         let noted : Claim = record { kind = kind; of = a.stamp; at = at } in
         let met : Claim = record { kind = kind; of = b.stamp; at = at } in
         let few : length t.claims + 1 ≤ 4096 = leb-true (length t.claims + 1) 4096 fits in
@@ -312,7 +314,7 @@ module _ (input : List Bool) where
     both_term_of env (used name) h = both_went (value_at env name.back) h
     both_term_of env (bool b at) h = next (both_written (entries.Const b) (entries.Const b) b at h refl tt refl) (λ made s t h. both_went (bit made) h)
     both_term_of env (reg us at) h =
-        next (both_bits_of env (list_of us) h) (λ locations s t h. both_provided (leb (length locations) 4096) _ too_long at refl (λ fits. both_registered locations at h))
+        next (both_bits_of env (list_of us) h) (λ locations s t h. both_provided (leb (length locations) 4096) _ causes.Length at refl (λ fits. both_registered locations at h))
     both_term_of env (block items last at) h = both_block_of env (items_of items) last h
     both_term_of env (function names body at) h = both_went (closure names body env) h
     both_term_of env (parts base ps) h = next (deeper env base _ _ h) (λ value s t h. both_parts_of (place_of base) ps value h)
@@ -320,10 +322,10 @@ module _ (input : List Bool) where
     both_term_of env (append u v at) h =
         next (deeper env u _ _ h) (λ x s t h. next (deeper env v _ _ h) (λ y s t h.
         next (both_as_register (place_of u) x h) (λ r s t h. next (both_as_register (place_of v) y h) (λ q s t h.
-        both_provided (leb (length r + length q) 4096) _ too_long at refl (λ fits. both_registered (r ++ q) at h)))))
+        both_provided (leb (length r + length q) 4096) _ causes.Length at refl (λ fits. both_registered (r ++ q) at h)))))
     both_term_of env (rotate i u at) h =
         next (deeper env u _ _ h) (λ x s t h. next (both_as_register (place_of u) x h) (λ r s t h.
-        both_provided (leb (i + 1) (length r)) _ no_rotation at refl (λ fits. both_registered (drop i r ++ take i r) at h)))
+        both_provided (leb (i + 1) (length r)) _ causes.Rotate at refl (λ fits. both_registered (drop i r ++ take i r) at h)))
     both_term_of env (clean u at) h = both_claimed kinds.Clean env u at h
     both_term_of env (assert u at) h = both_claimed kinds.Assert env u at h
     both_term_of env (ands us) h = both_chain entries.And (◌&&◌) is_and env (list_of us) h

@@ -5,10 +5,11 @@ use Rattle.revc_base.specs.declared.place.Place.{Place}
 use Rattle.revc_base.specs.Tapes.{TapeView, outputs_on}
 use Rattle.revs_terms.specs.declared.program.Param.{Param}
 use Rattle.revs_terms.specs.Programs.{widths_of}
-use Rattle.revs_terms.specs.Running.{Refusal, Stamped, State, Outcome, stuck, went}
+use Rattle.revs_terms.specs.Running.{Stamped, State, Outcome, stuck, went}
 use Rattle.revs_terms.specs.Runs.{run_of_program, run_without_bits, IsInput, EndsOnAll, IsTapeOf, tape_of, OneTape, TapeGivesOutput}
 use Rattle.revs_terms.specs.Trees.{Tree}
 use Rattle.revs_terms.proofs.BothEnds.{same_for_all}
+use Rattle.revs_terms.specs.declared.cause.Cause.{Cause}
 
 zeros : List Param → List Bool
 zeros params = replicate (sum (widths_of params)) false
@@ -17,7 +18,7 @@ zeros_are_input : (params : List Param) → IsInput params (zeros params)
 unfolding zeros
 zeros_are_input params = length-replicate (sum (widths_of params)) false
 
-no_two_ends : (o : Outcome Bool (List (Stamped Bool))) (outputs : List (Stamped Bool)) (s : State Bool) (why : Refusal) (at : Place) → o ≡ went outputs s → o ≡ stuck why at → ⊥
+no_two_ends : (o : Outcome Bool (List (Stamped Bool))) (outputs : List (Stamped Bool)) (s : State Bool) (why : Cause) (at : Place) → o ≡ went outputs s → o ≡ stuck why at → ⊥
 no_two_ends o outputs s why at e f = absurd cc
 
 same_end : (o : Outcome Bool (List (Stamped Bool))) (a b : List (Stamped Bool)) (s t : State Bool) → o ≡ went a s → o ≡ went b t → (a ≡ b) × (s ≡ t)

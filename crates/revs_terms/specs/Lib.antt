@@ -5,3 +5,4 @@ pub mod Trees
 pub mod Terms
 pub mod Programs
 pub mod Views
+pub mod Causes

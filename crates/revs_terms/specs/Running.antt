@@ -15,6 +15,8 @@ use Rattle.revs_terms.specs.declared.term.Part.{Part}
 use Rattle.revs_terms.specs.declared.term.Part.TheVariants as part
 use Rattle.revs_terms.specs.Trees.{Tree, ItemTree, list_of, items_of, used, bool, reg, block, function, parts, apply, append, rotate, clean, assert, ands, xors, assign, bind, run}
 use Rattle.revs_terms.specs.Terms.{place_of}
+use Rattle.revs_terms.specs.declared.cause.Cause.{Cause}
+use Rattle.revs_terms.specs.declared.cause.Cause.TheVariants as causes
 
 -- ---- values
 
@@ -42,23 +44,7 @@ abbrev pub bound_length : Value → ℕ
 bound_length (register locations) = length locations
 bound_length _ = 0
 
--- ---- why a run is stuck
-
-pub data Refusal : Type 0 where
-  not_bit : Refusal
-  not_register : Refusal
-  not_function : Refusal
-  no_index : Refusal
-  no_slice : Refusal
-  no_rotation : Refusal
-  too_long : Refusal
-  gone : Refusal
-  no_output : Refusal
-  too_deep : Refusal
-  too_much_work : Refusal
-  too_many_writes : Refusal
-  too_many_claims : Refusal
-  too_many_outputs : Refusal
+-- ---- the state of a run
 
 -- a type of bits: its constants, and its XOR and AND
 pub record Bits (B : Type 0) : Type 0 where
@@ -85,7 +71,7 @@ pub record State (B : Type 0) : Type 0 where
 
 -- The run is stuck at a place, or goes on with an answer.
 pub data Outcome (B A : Type 0) : Type 0 where
-  stuck : Refusal → Place → Outcome B A
+  stuck : Cause → Place → Outcome B A
   went : A → State B → Outcome B A
 
 -- what comes next, where the run is not stuck
@@ -94,7 +80,7 @@ after (stuck why at) next = stuck why at
 after (went answer s) next = next answer s
 
 -- the run goes on where this holds, and is stuck otherwise
-abbrev pub provided : {B A : Type 0} → Bool → Refusal → Place → Outcome B A → Outcome B A
+abbrev pub provided : {B A : Type 0} → Bool → Cause → Place → Outcome B A → Outcome B A
 provided true why at next = next
 provided false why at next = stuck why at
 
@@ -103,7 +89,7 @@ module _ {B : Type 0} (bits : Bits B) where
 
   -- the work rises by so much
   abbrev pub worked : ℕ → Place → State B → Outcome B (Unit {0})
-  worked count at s = provided (leb (s.work + count) 16777216) too_much_work at (went tt (record s { work = s.work + count }))
+  worked count at s = provided (leb (s.work + count) 16777216) causes.Work at (went tt (record s { work = s.work + count }))
 
   -- a register of these locations, which counts its length
   abbrev pub registered : List ℕ → Place → State B → Outcome B Value
@@ -112,7 +98,7 @@ module _ {B : Type 0} (bits : Bits B) where
   -- a new entry of the log, and a new location with its bit
   abbrev pub written : Entry → B → Place → State B → Outcome B ℕ
   written entry b at s =
-      provided (leb (length s.log + 1) 262144) too_many_writes at
+      provided (leb (length s.log + 1) 262144) causes.Writes at
       (went (length s.store) (record s {
         store = s.store ++ Some (record { bit = b; stamp = refs.Write (length s.log) }) ∷ [];
         log = s.log ++ entry ∷ [];
@@ -120,15 +106,15 @@ module _ {B : Type 0} (bits : Bits B) where
 
   -- what a location holds
   abbrev pub read : ℕ → Place → State B → Outcome B (Stamped B)
-  read location at s = elim (slice_get s.store location) [ None ↦ stuck gone at | Some held ↦ elim held [ None ↦ stuck gone at | Some b ↦ went b s ] ]
+  read location at s = elim (slice_get s.store location) [ None ↦ stuck causes.Gone at | Some held ↦ elim held [ None ↦ stuck causes.Gone at | Some b ↦ went b s ] ]
 
   abbrev pub as_bit : Place → Value → State B → Outcome B ℕ
   as_bit at (bit location) s = went location s
-  as_bit at _ s = stuck not_bit at
+  as_bit at _ s = stuck causes.NotBit at
 
   abbrev pub as_register : Place → Value → State B → Outcome B (List ℕ)
   as_register at (register locations) s = went locations s
-  as_register at _ s = stuck not_register at
+  as_register at _ s = stuck causes.NotRegister at
 
   -- ---- the forms of terms, with the run of a term one deeper
 
@@ -152,9 +138,9 @@ module _ {B : Type 0} (bits : Bits B) where
     -- the parts of a register, one after another; a slice counts its length at the whole term
     abbrev pub part_of : Place → Part → Value → State B → Outcome B Value
     part_of whole (part.Index i at) value s =
-        after (as_register at value s) (λ r s. elim (slice_get r i) [ None ↦ stuck no_index at | Some location ↦ went (bit location) s ])
+        after (as_register at value s) (λ r s. elim (slice_get r i) [ None ↦ stuck causes.Index at | Some location ↦ went (bit location) s ])
     part_of whole (part.Slice i j at) value s =
-        after (as_register at value s) (λ r s. provided (leb i j && leb (j + 1) (length r)) no_slice at (registered (take (j + 1 - i) (drop i r)) whole s))
+        after (as_register at value s) (λ r s. provided (leb i j && leb (j + 1) (length r)) causes.Slice at (registered (take (j + 1 - i) (drop i r)) whole s))
 
     abbrev pub parts_of : Place → List Part → Value → State B → Outcome B Value
     parts_of whole [] value s = went value s
@@ -166,7 +152,7 @@ module _ {B : Type 0} (bits : Bits B) where
         after (worked (bound_length argument) at s) (λ _ s. deeper (bound argument env) body s)
     apply_to at (closure (name ∷ next ∷ names) body env) argument s =
         after (worked (bound_length argument) at s) (λ _ s. went (closure (next ∷ names) body (bound argument env)) s)
-    apply_to at _ argument s = stuck not_function at
+    apply_to at _ argument s = stuck causes.NotFunction at
 
     abbrev pub apply_all : Environment → List Tree → Value → State B → Outcome B Value
     apply_all env [] value s = went value s
@@ -180,7 +166,7 @@ module _ {B : Type 0} (bits : Bits B) where
     abbrev pub claimed : Kind → Environment → Tree → Place → State B → Outcome B Value
     claimed kind env t at s =
         after (bit_of env t s) (λ location s. after (read location (place_of t) s) (λ held s.
-        provided (leb (length s.claims + 1) 4096) too_many_claims at
+        provided (leb (length s.claims + 1) 4096) causes.Claims at
         (went unit (record s {
           store = left_by kind location s.store;
           claims = s.claims ++ record { claim = record { kind = kind; of = held.stamp; at = at }; bit = held.bit } ∷ [];
@@ -202,7 +188,7 @@ module _ {B : Type 0} (bits : Bits B) where
     term_of env (used name) s = went (value_at env name.back) s
     term_of env (bool b at) s = after (written (entries.Const b) (bits.constant b) at s) (λ made s. went (bit made) s)
     term_of env (reg ts at) s =
-        after (bits_of env (list_of ts) s) (λ locations s. provided (leb (length locations) 4096) too_long at (registered locations at s))
+        after (bits_of env (list_of ts) s) (λ locations s. provided (leb (length locations) 4096) causes.Length at (registered locations at s))
     term_of env (block items last at) s = block_of env (items_of items) last s
     term_of env (function names body at) s = went (closure names body env) s
     term_of env (parts base ps) s = after (deeper env base s) (parts_of (place_of base) ps)
@@ -210,10 +196,10 @@ module _ {B : Type 0} (bits : Bits B) where
     term_of env (append a b at) s =
         after (deeper env a s) (λ x s. after (deeper env b s) (λ y s.
         after (as_register (place_of a) x s) (λ r s. after (as_register (place_of b) y s) (λ q s.
-        provided (leb (length r + length q) 4096) too_long at (registered (r ++ q) at s)))))
+        provided (leb (length r + length q) 4096) causes.Length at (registered (r ++ q) at s)))))
     term_of env (rotate i t at) s =
         after (deeper env t s) (λ x s. after (as_register (place_of t) x s) (λ r s.
-        provided (leb (i + 1) (length r)) no_rotation at (registered (drop i r ++ take i r) at s)))
+        provided (leb (i + 1) (length r)) causes.Rotate at (registered (drop i r ++ take i r) at s)))
     term_of env (clean t at) s = claimed kinds.Clean env t at s
     term_of env (assert t at) s = claimed kinds.Assert env t at s
     term_of env (ands ts) s = chain entries.And bits.and env (list_of ts) s
@@ -225,5 +211,5 @@ module _ {B : Type 0} (bits : Bits B) where
 
   -- A term with so many levels of depth left: a term is entered, which counts one unit of work, and its parts are run one deeper.
   abbrev pub run_of : ℕ → Environment → Tree → State B → Outcome B Value
-  run_of zero env t s = stuck too_deep (place_of t)
+  run_of zero env t s = stuck causes.Depth (place_of t)
   run_of (suc left) env t s = after (worked 1 (place_of t) s) (λ _ s. term_of (run_of left) env t s)

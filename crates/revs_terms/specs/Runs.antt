@@ -8,7 +8,9 @@ use Rattle.revs_terms.specs.declared.program.Param.{Param}
 use Rattle.revs_terms.specs.Programs.{width_of, widths_of, AreParams}
 use Rattle.revs_terms.specs.Terms.{place_of, is_formed}
 use Rattle.revs_terms.specs.Trees.{Tree}
-use Rattle.revs_terms.specs.Running.{Value, bit, register, Environment, nothing, bound, Refusal, too_many_outputs, no_output, Bits, Stamped, State, Outcome, stuck, went, after, provided, read, run_of}
+use Rattle.revs_terms.specs.Running.{Value, bit, register, Environment, nothing, bound, Bits, Stamped, State, Outcome, stuck, went, after, provided, read, run_of}
+use Rattle.revs_terms.specs.declared.cause.Cause.{Cause}
+use Rattle.revs_terms.specs.declared.cause.Cause.TheVariants as causes
 
 -- ---- the start: input i stands in location i
 
@@ -39,8 +41,8 @@ params_in first (p ∷ ps) env = params_in (first + width_of p.width) ps (bound 
 module _ {B : Type 0} where
   abbrev pub locations_of : Place → Value → State B → Outcome B (List ℕ)
   locations_of at (bit location) s = went (location ∷ []) s
-  locations_of at (register locations) s = provided (leb (length locations) 1024) too_many_outputs at (went locations s)
-  locations_of at _ s = stuck no_output at
+  locations_of at (register locations) s = provided (leb (length locations) 1024) causes.Outputs at (went locations s)
+  locations_of at _ s = stuck causes.NoOutput at
 
   abbrev pub read_all : Bits B → Place → List ℕ → State B → Outcome B (List (Stamped B))
   read_all bits at [] s = went [] s
@@ -81,7 +83,7 @@ abbrev pub Ends : List Param → Tree → List Bool → List (Stamped Bool) → 
 Ends params body input outputs s = run_of_program params body input ≡ went outputs s
 
 -- The run on an input is stuck at a place.
-abbrev pub IsStuck : List Param → Tree → List Bool → Refusal → Place → Type 0
+abbrev pub IsStuck : List Param → Tree → List Bool → Cause → Place → Type 0
 IsStuck params body input why at = run_of_program params body input ≡ stuck why at
 
 -- The output of a program on an input: the bits of the locations of its value.
@@ -123,7 +125,7 @@ tape_of params outputs s =
 abbrev pub SameForAll : Type 0
 SameForAll =
     (params : List Param) (body : Tree)
-    → ((why : Refusal) (at : Place) → run_without_bits params body ≡ stuck why at → (input : List Bool) → IsInput params input → IsStuck params body input why at)
+    → ((why : Cause) (at : Place) → run_without_bits params body ≡ stuck why at → (input : List Bool) → IsInput params input → IsStuck params body input why at)
     × ((outputs : List (Stamped (Unit {0}))) (s : State (Unit {0})) → run_without_bits params body ≡ went outputs s → IsTapeOf params body (tape_of params outputs s))
 
 -- What a run without bits leaves is a tape: its references are earlier, and the limits hold.

@@ -4,9 +4,11 @@
 //! brackets nest, and can be dropped and walked at any length.
 #![tactic(auto)]
 
+mod cause;
 mod program;
 mod term;
 
+pub use cause::Cause;
 pub use program::{Param, Program, has_outputs, leaves_tape, one_tape, same_for_all};
 pub use term::{Item, Lambda, Name, Part, Term, formed_has_parts};
 
