@@ -4,7 +4,7 @@ use Rattle.std.proofs.lemmas.List.{length-append, length-take-le, length-drop, l
 use Rattle.std.proofs.lemmas.Bool.Decides.{leb_tells, eqb_tells}
 use Rattle.mct_circuit.specs.Gates.{GateView, IsGateOn, flip_of}
 use Rattle.gate_split.specs.Split.{idle_lines, in_falling_order, ladder, there_and_back, over_idle_lines, with_enough_idle, first_half, first_flips, second_flips, in_halves, over_few_lines}
-use Rattle.gate_split.specs.Plans.{SplitCosts}
+use Rattle.gate_split.specs.Costs.{SplitCosts}
 use Rattle.gate_split.proofs.Building.{length-ladder}
 use Rattle.gate_split.proofs.Pieces.{Halves, some_is, idle_serves}
 use Rattle.gate_split.proofs.Steps.{halves_of}

@@ -1,3 +1,4 @@
+pub mod Costs
 pub mod Idle
 pub mod Plans
 pub mod Split

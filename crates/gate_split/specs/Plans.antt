@@ -1,7 +1,9 @@
--- Budgets and plans as contracts see them, what a split costs, and what it leaves as it is.
-use Rattle.std.specs.Prelude.{◌≡◌, ℕ, ◌-◌, ◌*◌, ◌<◌, ◌≤◌, ◌==◌, if◌then◌else◌, Some, Ok, List, [], ◌∷◌, ◌++◌, length}
-use Rattle.mct_circuit.specs.Gates.{GateView, CircuitView, IsGateOn, AreNarrow, flip_of}
-use Rattle.gate_split.specs.Split.{idle_lines, split_positive, split_list}
+-- Budgets and plans as contracts see them, the roles of a plan's lines, and clean circuits.
+use Rattle.std.specs.Prelude.{◌≡◌, ℕ, ◌+◌, ◌-◌, Bool, false, nat_lt, if◌then◌else◌, List, ◌++◌, length, replicate}
+use Rattle.mct_circuit.specs.Gates.{GateView, CircuitView, line_map}
+use Rattle.gate_split.specs.declared.roles.Roles.{Roles}
+use Rattle.gate_split.specs.declared.roles.Role.{Role}
+use Rattle.gate_split.specs.declared.roles.Role.TheVariants.{Input, Output, Work, Borrowed}
 
 pub record BudgetView : Type 0 where
   pub lines : ℕ
@@ -21,16 +23,47 @@ pub record LaidView : Type 0 where
   pub work : ℕ
   pub borrowed : ℕ
 
--- the gates in place of a flip of k positive controls, at least 3: 4(k - 2) where k - 2 lines are idle,
--- and otherwise 10 for k = 4 and 8(k - 3) for more; so never more than 8k
-pub record HasCost (n : ℕ) (controls : List ℕ) (target : ℕ) (gates : List GateView) : Type 0 where
-  pub with_enough : length controls - 2 ≤ length (idle_lines n (controls ++ target ∷ [])) → length gates ≡ 4 * (length controls - 2)
-  pub with_few : length (idle_lines n (controls ++ target ∷ [])) < length controls - 2 → length gates ≡ (if length controls == 4 then 10 else 8 * (length controls - 3))
-  pub at_most : length gates ≤ 8 * length controls
+-- ---- roles: input lines come first, then output lines, work lines and borrowed ones
 
-abbrev pub SplitCosts : Type 0
-SplitCosts = (n : ℕ) (controls : List ℕ) (target : ℕ) (gates : List GateView) → IsGateOn n (flip_of controls target) → 3 ≤ length controls → split_positive n controls target ≡ Some gates → HasCost n controls target gates
+-- the number of lines
+abbrev pub lines_in : Roles → ℕ
+lines_in roles = roles.inputs + roles.outputs + roles.work + roles.borrowed
 
--- narrow gates stay, where they are within the limit
-abbrev pub NarrowStay : Type 0
-NarrowStay = (n limit : ℕ) (gates : List GateView) → AreNarrow gates → length gates ≤ limit → split_list n limit gates ≡ Ok gates
+-- the first line of a role
+abbrev pub first_of : Roles → Role → ℕ
+first_of roles Input = 0
+first_of roles Output = roles.inputs
+first_of roles Work = roles.inputs + roles.outputs
+first_of roles Borrowed = roles.inputs + roles.outputs + roles.work
+
+-- the role of a line
+abbrev pub role_at : Roles → ℕ → Role
+role_at roles line =
+    if nat_lt line (first_of roles Output) then Input
+    else (if nat_lt line (first_of roles Work) then Output
+    else (if nat_lt line (first_of roles Borrowed) then Work
+    else Borrowed))
+
+-- the number of a line among the lines of its role
+abbrev pub number_at : Roles → ℕ → ℕ
+number_at roles line = line - first_of roles (role_at roles line)
+
+-- the roles of a plan's lines
+abbrev pub roles_of : LaidView → Roles
+roles_of laid =
+    record { inputs = laid.inputs; outputs = laid.outputs; work = laid.work; borrowed = laid.borrowed }
+
+-- ---- clean circuits
+
+-- the gates take this input, zeros on the output and work lines, and these bits on the borrowed lines to the input,
+-- these outputs, zeros on the work lines, and the same bits
+pub record PutsOutputs (roles : Roles) (gates : List GateView) (input outputs borrowed : List Bool) : Type 0 where
+  pub mapped :
+      line_map gates (input ++ (replicate roles.outputs false ++ (replicate roles.work false ++ borrowed)))
+      ≡ input ++ (outputs ++ (replicate roles.work false ++ borrowed))
+
+-- on every input, whatever the borrowed lines hold, the gates put its value on the output lines, and leave all other
+-- lines as they are
+pub record MapsCleanly (roles : Roles) (gates : List GateView) (value : List Bool → List Bool) : Type 0 where
+  pub puts : (input borrowed : List Bool) → length input ≡ roles.inputs → length borrowed ≡ roles.borrowed
+      → PutsOutputs roles gates input (value input) borrowed

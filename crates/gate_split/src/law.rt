@@ -1,4 +1,4 @@
-ghost use Rattle.gate_split.specs.Plans.{SplitCosts, NarrowStay};
+ghost use Rattle.gate_split.specs.Costs.{SplitCosts, NarrowStay};
 
 /// The law of costs: a flip of `k` positive controls, at least 3, takes `4 * (k - 2)` gates where `k - 2` lines
 /// are idle, and otherwise 10 for 4 controls and `8 * (k - 3)` for more; so never more than `8 * k`. The

@@ -8,12 +8,14 @@ mod idle;
 mod law;
 mod piece;
 mod plan;
+mod roles;
 mod walk;
 mod wide;
 
 pub use fault::SplitFault;
 pub use law::{narrow_stay, split_costs};
-pub use plan::{Budget, Laid, PlanFault, Planned};
+pub use plan::{Budget, Laid, MOST_BORROWED, MOST_GATES, MOST_LINES, PlanFault, Planned};
+pub use roles::{Role, Roles};
 pub use walk::{Narrow, split};
 
 #[cfg(test)]

@@ -1,15 +1,25 @@
 // What plans share: a budget, a plan before its gates are split, and after.
 ghost use Rattle.std.specs.Prelude.{◌≡◌, ◌+◌, ◌≤◌};
+ghost use Rattle.gate_split.specs.declared.plan.TheConstants.{MOST_LINES, MOST_GATES, MOST_BORROWED};
 ghost use Rattle.gate_split.specs.declared.plan.PlanFault.TheVariants.{Memory};
+ghost use Rattle.gate_split.specs.Plans.{roles_of};
 ghost use Rattle.mct_circuit.specs.Gates.{AreNarrow};
 
-use crate::Narrow;
+use crate::{Narrow, Roles};
 use mct_circuit::Circuit;
 use std::alloc::{AllocError, AllocFailed};
 use std::marker::Model;
 
-/// What a plan may use: at most 16,384 lines and 4,000,000 gates, and how many of the lines are borrowed, at
-/// most 64.
+/// The most lines of a circuit.
+pub const MOST_LINES: u32 = 16_384;
+
+/// The most gates of a circuit.
+pub const MOST_GATES: u64 = 4_000_000;
+
+/// The most borrowed lines of a circuit.
+pub const MOST_BORROWED: u32 = 64;
+
+/// What a plan may use: so many lines and gates, and how many of the lines are borrowed, each within its most.
 #[derive(Debug, Drop)]
 pub struct Budget {
     lines: u32,
@@ -19,21 +29,22 @@ pub struct Budget {
 
 impl Model for Budget {
     ghost use Rattle.std.specs.Prelude.{◌≤◌};
+    ghost use Rattle.gate_split.specs.declared.plan.TheConstants.{MOST_LINES, MOST_GATES, MOST_BORROWED};
     ghost use Rattle.gate_split.specs.Plans.{BudgetView};
 
     ghost Value = { BudgetView };
 
     ghost view = { λ b. record { lines = b.lines; gates = b.gates; borrow = b.borrow } };
 
-    ghost invariant = { λ b. (b.lines ≤ 16384) × (b.gates ≤ 4000000) × (b.borrow ≤ 64) };
+    ghost invariant = { λ b. (b.lines ≤ MOST_LINES) × (b.gates ≤ MOST_GATES) × (b.borrow ≤ MOST_BORROWED) };
 }
 
 impl Budget {
     /// The budget of these numbers.
     pub fn new(lines: u32, gates: u64, borrow: u32) -> Budget
-        requires lines { lines ≤ 16384 }
-        requires gates { gates ≤ 4000000 }
-        requires borrow { borrow ≤ 64 }
+        requires lines { lines ≤ MOST_LINES }
+        requires gates { gates ≤ MOST_GATES }
+        requires borrow { borrow ≤ MOST_BORROWED }
         ensures { result ≡ record { lines = lines; gates = gates; borrow = borrow } }
     {
         Budget {
@@ -46,7 +57,7 @@ impl Budget {
     /// The number of lines, the borrowed ones among them.
     pub fn lines(&self) -> u32
         ensures lines { result ≡ self.now.lines }
-        ensures limit { self.now.lines ≤ 16384 }
+        ensures limit { self.now.lines ≤ MOST_LINES }
     {
         self.lines
     }
@@ -54,7 +65,7 @@ impl Budget {
     /// The number of gates.
     pub fn gates(&self) -> u64
         ensures gates { result ≡ self.now.gates }
-        ensures limit { self.now.gates ≤ 4000000 }
+        ensures limit { self.now.gates ≤ MOST_GATES }
     {
         self.gates
     }
@@ -62,7 +73,7 @@ impl Budget {
     /// The number of borrowed lines.
     pub fn borrow(&self) -> u32
         ensures borrow { result ≡ self.now.borrow }
-        ensures limit { self.now.borrow ≤ 64 }
+        ensures limit { self.now.borrow ≤ MOST_BORROWED }
     {
         self.borrow
     }
@@ -177,6 +188,18 @@ impl Laid {
         ensures lines { self.now.inputs + self.now.outputs + self.now.work + self.now.borrowed ≡ self.now.circuit.lines }
     {
         self.circuit.circuit()
+    }
+
+    /// The roles of the lines.
+    pub fn roles(&self) -> Roles
+        ensures { result ≡ roles_of self.now }
+    {
+        Roles {
+            inputs: self.inputs,
+            outputs: self.outputs,
+            work: self.work,
+            borrowed: self.borrowed,
+        }
     }
 
     /// The number of input lines.

@@ -130,6 +130,7 @@ fn plans_keep_their_counts(rt: HostRuntime) -> Result<(), Fail> {
         (laid.inputs(), laid.outputs(), laid.work(), laid.borrowed()),
         (1, 1, 1, 1)
     );
+    assert_eq!(rt; laid.roles().role_and_number(3), (Role::Borrowed, 0));
     Ok(())
 }
 

@@ -9,9 +9,10 @@ use Rattle.mct_circuit.proofs.Undoing.{AllByRecursion-append, lines_of-flip_of}
 use Rattle.real_format.specs.Words.{is_word_byte}
 use Rattle.real_format.specs.declared.file.Mark.{Mark}
 use Rattle.real_format.specs.declared.file.Mark.TheVariants.{Free, Zero, One}
-use Rattle.real_format.specs.declared.roles.Roles.{Roles}
+use Rattle.gate_split.specs.declared.roles.Roles.{Roles}
 use Rattle.real_format.specs.Real.{RealView, RealMeaning, IsName, ReadsFlip, constant_byte, garbage_byte}
-use Rattle.real_format.specs.Compiled.{lines_in, name_of_line, names_of, constants_of, header_lines, gate_words, compiled_lines, compiled_text, CompiledHasMeaning}
+use Rattle.gate_split.specs.Plans.{lines_in}
+use Rattle.real_format.specs.Compiled.{name_of_line, names_of, constants_of, header_lines, gate_words, compiled_lines, compiled_text, CompiledHasMeaning}
 use Rattle.real_format.proofs.Reading.{IsWord, words_of_lines}
 use Rattle.real_format.proofs.Naming.{IsWord-from_name, IsWord-decimal, IsName-name_of_line, length-names_of, names_are_different, names_are_names, name_at}
 

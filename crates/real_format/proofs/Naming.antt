@@ -1,5 +1,5 @@
 -- The names of a compiled circuit's lines.
-use Rattle.std.proofs.Common.{◌≡◌, ◌≢◌, ℕ, zero, suc, ◌+◌, ◌-◌, ◌<◌, ◌≤◌, ◌^◌, ◌%◌, ltb, eqb, true, false, cond, List, [], ◌∷◌, length, map, refl, sym, ap, ◌∙◌, arith, inl, inr, Some, slice_get}
+use Rattle.std.proofs.Common.{◌≡◌, ◌≢◌, ℕ, zero, suc, ◌+◌, ◌<◌, ◌≤◌, ◌^◌, ◌%◌, ltb, eqb, true, false, cond, List, [], ◌∷◌, length, map, refl, sym, ap, ◌∙◌, arith, inl, inr, Some, slice_get}
 use Rattle.std.specs.List.{AllByRecursion, AllPairs, list_all, range_with_len}
 use Rattle.std.specs.Fmt.{decimal}
 use Rattle.std.proofs.lemmas.Fmt.{decimal_by_steps, decimal_injective, decimal_nonempty, length-decimal-le}
@@ -9,8 +9,11 @@ use Rattle.std.proofs.lemmas.Bool.{cases_lt, lt-ltb, ne_eqb}
 use Rattle.std.proofs.lemmas.Bool.Decides.{nat_tests}
 use Rattle.real_format.specs.Words.{is_word_byte}
 use Rattle.real_format.specs.Real.{IsName}
-use Rattle.real_format.specs.declared.roles.Roles.{Roles}
-use Rattle.real_format.specs.Compiled.{lines_in, name_of_line, names_of}
+use Rattle.gate_split.specs.declared.roles.Roles.{Roles}
+use Rattle.gate_split.specs.declared.roles.Role.{Role}
+use Rattle.gate_split.specs.declared.roles.Role.TheVariants.{Input, Output, Work, Borrowed}
+use Rattle.gate_split.specs.Plans.{lines_in, first_of, role_at, number_at}
+use Rattle.real_format.specs.Compiled.{letter_of, name_of_line, names_of}
 use Rattle.real_format.proofs.Reading.{true-and, IsWord}
 
 -- ---- lists of the values of a function at a range
@@ -37,31 +40,41 @@ solid-decimal =
     (λ n h. true-and (is_word_byte (48 + n)) true (is_word_byte-above (48 + n) (omega arith)) refl)
     (λ n ds h p. list_all-append is_word_byte ds ((48 + n % 10) ∷ []) ∙ true-and _ _ p (true-and (is_word_byte (48 + n % 10)) true (is_word_byte-above (48 + n % 10) (omega arith)) refl))
 
--- ---- the letter of a line's role, and the first line of that role
+-- ---- the letter and the number of a line
 
-abbrev first_of : ℕ → Roles → ℕ
-first_of letter roles =
-    cond (eqb letter 120) 0 (cond (eqb letter 121) roles.inputs (cond (eqb letter 119) (roles.inputs + roles.outputs) (roles.inputs + roles.outputs + roles.work)))
+letter-above : (role : Role) → 98 ≤ letter_of role
+letter-above Input = omega arith
+letter-above Output = omega arith
+letter-above Work = omega arith
+letter-above Borrowed = omega arith
 
-record IsNamed (roles : Roles) (line : ℕ) : Type 0 where
-  letter : ℕ
-  first : ℕ
-  name : name_of_line roles line ≡ letter ∷ decimal (line - first)
-  from : first ≤ line
-  above : 98 ≤ letter
-  by_letter : first ≡ first_of letter roles
+abbrev role_of_letter : ℕ → Role
+role_of_letter letter =
+    cond (eqb letter 120) Input (cond (eqb letter 121) Output (cond (eqb letter 119) Work Borrowed))
+
+role_of_letter-letter_of : (role : Role) → role_of_letter (letter_of role) ≡ role
+role_of_letter-letter_of Input = refl
+role_of_letter-letter_of Output = refl
+role_of_letter-letter_of Work = refl
+role_of_letter-letter_of Borrowed = refl
+
+-- each role has a letter of its own
+letter_of-injective : (a b : Role) → letter_of a ≡ letter_of b → a ≡ b
+letter_of-injective a b e =
+    sym (role_of_letter-letter_of a) ∙ ap role_of_letter e ∙ role_of_letter-letter_of b
 
 ltb-above : (a b : ℕ) → b ≤ a → ltb a b ≡ false
 ltb-above a b h = grind (arith, nat_tests)
 
-named : (roles : Roles) (line : ℕ) → IsNamed roles line
-named roles line = elim (cases_lt line roles.inputs) [
-  | inl p ↦ record { letter = 120; first = 0; name = rw (lt-ltb line roles.inputs p) (ap (λ k. 120 ∷ decimal k) (omega arith)); from = omega arith; above = omega arith; by_letter = refl }
+-- no line stands before the first one of its role
+first-below : (roles : Roles) (line : ℕ) → first_of roles (role_at roles line) ≤ line
+first-below roles line = elim (cases_lt line roles.inputs) [
+  | inl p ↦ rw (lt-ltb line roles.inputs p) (omega arith)
   | inr p ↦ elim (cases_lt line (roles.inputs + roles.outputs)) [
-    | inl q ↦ record { letter = 121; first = roles.inputs; name = rw (ltb-above line roles.inputs p, lt-ltb line (roles.inputs + roles.outputs) q) refl; from = p; above = omega arith; by_letter = refl }
+    | inl q ↦ rw (ltb-above line roles.inputs p, lt-ltb line (roles.inputs + roles.outputs) q) p
     | inr q ↦ elim (cases_lt line (roles.inputs + roles.outputs + roles.work)) [
-      | inl r ↦ record { letter = 119; first = roles.inputs + roles.outputs; name = rw (ltb-above line roles.inputs p, ltb-above line (roles.inputs + roles.outputs) q, lt-ltb line (roles.inputs + roles.outputs + roles.work) r) refl; from = q; above = omega arith; by_letter = refl }
-      | inr r ↦ record { letter = 98; first = roles.inputs + roles.outputs + roles.work; name = rw (ltb-above line roles.inputs p, ltb-above line (roles.inputs + roles.outputs) q, ltb-above line (roles.inputs + roles.outputs + roles.work) r) refl; from = r; above = omega arith; by_letter = refl }
+      | inl r ↦ rw (ltb-above line roles.inputs p, ltb-above line (roles.inputs + roles.outputs) q, lt-ltb line (roles.inputs + roles.outputs + roles.work) r) q
+      | inr r ↦ rw (ltb-above line roles.inputs p, ltb-above line (roles.inputs + roles.outputs) q, ltb-above line (roles.inputs + roles.outputs + roles.work) r) r
     ]
   ]
 ]
@@ -69,29 +82,27 @@ named roles line = elim (cases_lt line roles.inputs) [
 -- different lines have different names
 name_of_line-injective : (roles : Roles) (i j : ℕ) → i < 2 ^ 64 → j < 2 ^ 64 → name_of_line roles i ≡ name_of_line roles j → i ≡ j
 name_of_line-injective roles i j hi hj e =
-    let a = named roles i in
-    let b = named roles j in
-    let whole : a.letter ∷ decimal (i - a.first) ≡ b.letter ∷ decimal (j - b.first) = sym a.name ∙ e ∙ b.name in
-    let letters : a.letter ≡ b.letter = cc in
-    let digits : decimal (i - a.first) ≡ decimal (j - b.first) = cc in
-    let firsts : a.first ≡ b.first = a.by_letter ∙ ap (λ l. first_of l roles) letters ∙ sym b.by_letter in
-    let numbers : i - a.first ≡ j - b.first = decimal_injective (i - a.first) (j - b.first) (omega arith) (omega arith) digits in
-    let from_a = a.from in
-    let from_b = b.from in
+    let letters : letter_of (role_at roles i) ≡ letter_of (role_at roles j) = cc in
+    let digits : decimal (number_at roles i) ≡ decimal (number_at roles j) = cc in
+    let same_role : role_at roles i ≡ role_at roles j = letter_of-injective _ _ letters in
+    let firsts : first_of roles (role_at roles i) ≡ first_of roles (role_at roles j) = ap (first_of roles) same_role in
+    let numbers : number_at roles i ≡ number_at roles j = decimal_injective (number_at roles i) (number_at roles j) (omega arith) (omega arith) digits in
+    let from_i = first-below roles i in
+    let from_j = first-below roles j in
     omega arith
 
 pub IsName-name_of_line : (roles : Roles) (line : ℕ) → line < 16384 → IsName (name_of_line roles line)
 IsName-name_of_line roles line h =
-    let a = named roles line in
-    let low : line - a.first < 2 ^ 64 = omega arith in
-    let short : length (decimal (line - a.first)) ≤ 20 = length-decimal-le 20 (line - a.first) (omega arith) (omega arith) low in
-    let above = a.above in
-    rw a.name (record {
+    let number = number_at roles line in
+    let low : number < 2 ^ 64 = omega arith in
+    let short : length (decimal number) ≤ 20 = length-decimal-le 20 number (omega arith) (omega arith) low in
+    let above = letter-above (role_at roles line) in
+    record {
       some = omega arith;
       few = omega arith;
-      solid = true-and _ _ (is_word_byte-above a.letter (omega arith)) (solid-decimal (line - a.first) low);
+      solid = true-and _ _ (is_word_byte-above (letter_of (role_at roles line)) (omega arith)) (solid-decimal number low);
       begins = λ barred. elim barred [ inl e ↦ omega arith | inr e ↦ omega arith ];
-    })
+    }
 
 pub IsWord-from_name : (word : List ℕ) → IsName word → IsWord word
 IsWord-from_name word n = record { some = n.some; solid = n.solid }

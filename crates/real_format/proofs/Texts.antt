@@ -7,9 +7,10 @@ use Rattle.std.proofs.lemmas.List.Concat.{flat_map-append}
 use Rattle.mct_circuit.specs.declared.gate.Control.{Control}
 use Rattle.mct_circuit.specs.declared.gate.Op.TheVariants.{Flip}
 use Rattle.mct_circuit.specs.Gates.{GateView, lines_of, targets_of}
-use Rattle.real_format.specs.declared.roles.Roles.{Roles}
+use Rattle.gate_split.specs.declared.roles.Roles.{Roles}
 use Rattle.real_format.specs.Real.{constant_byte, garbage_byte}
-use Rattle.real_format.specs.Compiled.{lines_in, name_of_line, names_of, constants_of, line_text, header_lines, gate_words, compiled_text}
+use Rattle.gate_split.specs.Plans.{lines_in}
+use Rattle.real_format.specs.Compiled.{name_of_line, names_of, constants_of, line_text, header_lines, gate_words, compiled_text}
 use Rattle.real_format.specs.Parts.{size_text, names_text, header_text, flip_text}
 
 map-replicate : {X Y : Type 0} (f : X → Y) (n : ℕ) (x : X) → map f (replicate n x) ≡ replicate n (f x)

@@ -1,30 +1,29 @@
 -- The file of a compiled circuit: its names and marks by the roles of its lines, and its text.
-use Rattle.std.specs.Prelude.{◌≡◌, ℕ, ◌+◌, ◌-◌, ◌≤◌, false, if◌then◌else◌, nat_lt, List, [], ◌∷◌, ◌++◌, length, map, replicate, codes}
+use Rattle.std.specs.Prelude.{◌≡◌, ℕ, ◌+◌, ◌≤◌, false, List, [], ◌∷◌, ◌++◌, length, map, replicate, codes}
 use Rattle.std.specs.List.{flat_map, range_with_len}
 use Rattle.std.specs.Fmt.{decimal}
 use Rattle.real_format.specs.declared.file.Mark.{Mark}
 use Rattle.real_format.specs.declared.file.Mark.TheVariants.{Free, Zero}
-use Rattle.real_format.specs.declared.roles.Roles.{Roles}
-use Rattle.gate_split.specs.Plans.{LaidView}
+use Rattle.gate_split.specs.declared.plan.TheConstants.{MOST_LINES, MOST_GATES}
+use Rattle.gate_split.specs.declared.roles.Roles.{Roles}
+use Rattle.gate_split.specs.declared.roles.Role.{Role}
+use Rattle.gate_split.specs.declared.roles.Role.TheVariants.{Input, Output, Work, Borrowed}
+use Rattle.gate_split.specs.Plans.{lines_in, role_at, number_at}
 use Rattle.mct_circuit.specs.Gates.{GateView, lines_of, AreGatesOn, AreNarrow}
 use Rattle.real_format.specs.Real.{RealView, RealMeaning, constant_byte, garbage_byte}
 
--- ---- roles
+-- ---- names and marks
 
-abbrev pub lines_in : Roles → ℕ
-lines_in roles = roles.inputs + roles.outputs + roles.work + roles.borrowed
-
--- the roles of a plan's lines
-abbrev pub roles_of : LaidView → Roles
-roles_of laid = record { inputs = laid.inputs; outputs = laid.outputs; work = laid.work; borrowed = laid.borrowed }
+-- the letter with which the names of a role's lines begin: `x`, `y`, `w` or `b`
+abbrev pub letter_of : Role → ℕ
+letter_of Input = 120
+letter_of Output = 121
+letter_of Work = 119
+letter_of Borrowed = 98
 
 -- the name of a line: the letter of its role, and its number among the lines of that role
 abbrev pub name_of_line : Roles → ℕ → List ℕ
-name_of_line roles line =
-    if nat_lt line roles.inputs then 120 ∷ decimal line
-    else (if nat_lt line (roles.inputs + roles.outputs) then 121 ∷ decimal (line - roles.inputs)
-    else (if nat_lt line (roles.inputs + roles.outputs + roles.work) then 119 ∷ decimal (line - (roles.inputs + roles.outputs))
-    else 98 ∷ decimal (line - (roles.inputs + roles.outputs + roles.work))))
+name_of_line roles line = letter_of (role_at roles line) ∷ decimal (number_at roles line)
 
 -- output and work lines start at 0, input and borrowed lines hold anything
 abbrev pub constants_of : Roles → List Mark
@@ -80,5 +79,6 @@ pub record MeansCompiled (text : List ℕ) (roles : Roles) (gates : List GateVie
 
 abbrev pub CompiledHasMeaning : Type 0
 CompiledHasMeaning =
-    (roles : Roles) (gates : List GateView) → 1 ≤ lines_in roles → lines_in roles ≤ 16384 → length gates ≤ 4000000 → AreGatesOn (lines_in roles) gates → AreNarrow gates
+    (roles : Roles) (gates : List GateView) → 1 ≤ lines_in roles → lines_in roles ≤ MOST_LINES
+    → length gates ≤ MOST_GATES → AreGatesOn (lines_in roles) gates → AreNarrow gates
     → MeansCompiled (compiled_text roles gates) roles gates

@@ -2,9 +2,10 @@
 use Rattle.std.specs.Prelude.{ℕ, ◌+◌, List, ◌∷◌, ◌++◌, length, replicate, codes}
 use Rattle.std.specs.List.{flat_map}
 use Rattle.std.specs.Fmt.{decimal}
-use Rattle.real_format.specs.declared.roles.Roles.{Roles}
+use Rattle.gate_split.specs.declared.roles.Roles.{Roles}
 use Rattle.mct_circuit.specs.declared.gate.Control.{Control}
-use Rattle.real_format.specs.Compiled.{lines_in, name_of_line, names_of, line_text}
+use Rattle.gate_split.specs.Plans.{lines_in}
+use Rattle.real_format.specs.Compiled.{name_of_line, names_of, line_text}
 
 abbrev pub size_text : Roles → List ℕ
 size_text roles = codes ".version 2.0\n.numvars " ++ (decimal (lines_in roles) ++ codes "\n")

@@ -6,6 +6,7 @@ use Rattle.std.specs.Str.Parse.{IsNumeral, digits_value}
 use Rattle.real_format.specs.declared.file.Mark.{Mark}
 use Rattle.real_format.specs.declared.file.Mark.TheVariants.{Free, Zero, One}
 use Rattle.mct_circuit.specs.Gates.{GateView, flip_of, AreDifferent}
+use Rattle.gate_split.specs.declared.plan.TheConstants.{MOST_LINES, MOST_GATES}
 use Rattle.real_format.specs.Words.{lines_of_text, words_of_line, is_word_byte}
 
 -- a file: for each line its name, the bit with which it starts and whether its last bit is of no use; then the gates
@@ -73,8 +74,8 @@ pub record RealMeaning (text : List ℕ) (file : RealView) : Type 0 where
       ∷ (gate_lines ++ (codes ".end" ∷ []) ∷ [])
   pub counted : IsNumber number (length file.names)
   pub some : 1 ≤ length file.names
-  pub few : length file.names ≤ 16384
-  pub few_gates : length file.gates ≤ 4000000
+  pub few : length file.names ≤ MOST_LINES
+  pub few_gates : length file.gates ≤ MOST_GATES
   pub named : AllByRecursion IsName file.names
   pub different : AllPairs (λ a b. a ≢ b) file.names
   pub constants_fit : length file.constants ≡ length file.names

@@ -3,7 +3,6 @@
 
 mod file;
 mod law;
-mod roles;
 mod writer;
 
 pub use file::Mark;

@@ -3,13 +3,14 @@ ghost use Rattle.std.specs.Prelude.{◌≡◌, ◌<◌, ◌≤◌, ◌+◌, ◌�
 ghost use Rattle.std.specs.List.{flat_map, AllByRecursion};
 ghost use Rattle.std.specs.Fmt.{decimal};
 ghost use Rattle.mct_circuit.specs.Gates.{AreNarrow, IsNarrow, lines_of};
+ghost use Rattle.gate_split.specs.declared.plan.TheConstants.{MOST_LINES, MOST_GATES};
+ghost use Rattle.gate_split.specs.Plans.{lines_in, roles_of};
 ghost use Rattle.revc_io.specs.Faults.{HasCause};
 ghost use Rattle.revc_io.specs.Passing.{Gathers, Writes};
-ghost use Rattle.real_format.specs.Compiled.{lines_in, name_of_line, names_of, line_text, gate_words, compiled_text, roles_of, MeansCompiled};
+ghost use Rattle.real_format.specs.Compiled.{letter_of, name_of_line, names_of, line_text, gate_words, compiled_text, MeansCompiled};
 ghost use Rattle.real_format.specs.Parts.{size_text, names_text, constants_text, garbage_text, header_text, flip_text};
 
-use crate::roles::Roles;
-use gate_split::Laid;
+use gate_split::{Laid, Role, Roles};
 use mct_circuit::{Circuit, Control, Gate, Op};
 use revc_io::{Buffer, Failed, Sink, put_decimal};
 
@@ -18,8 +19,8 @@ use revc_io::{Buffer, Failed, Sink, put_decimal};
 /// Drechsler: RevLib, an online resource for reversible functions and reversible circuits, ISMVL 2008).
 pub fn write<K: Sink>(laid: &Laid, out: &mut K) -> Result<(), Failed>
     requires some { 1 ≤ laid.now.circuit.lines }
-    requires few { laid.now.circuit.lines ≤ 16384 }
-    requires few_gates { length laid.now.circuit.gates ≤ 4000000 }
+    requires few { laid.now.circuit.lines ≤ MOST_LINES }
+    requires few_gates { length laid.now.circuit.gates ≤ MOST_GATES }
     ensures bytes { Writes result (K.held out.old) (K.held out.new) (compiled_text (roles_of laid.now) laid.now.circuit.gates) }
     ensures meaning { MeansCompiled (compiled_text (roles_of laid.now) laid.now.circuit.gates) (roles_of laid.now) laid.now.circuit.gates }
     ensures cause { HasCause (K.faults out.old) (K.faults out.new) result }
@@ -27,12 +28,12 @@ pub fn write<K: Sink>(laid: &Laid, out: &mut K) -> Result<(), Failed>
     let circuit = laid.circuit();
     // This call says that the gates are on the circuit's lines.
     let _ = circuit.lines();
-    write_text(circuit, Roles::of(laid), out)
+    write_text(circuit, laid.roles(), out)
 }
 
 fn write_text<K: Sink>(circuit: &Circuit, roles: Roles, out: &mut K) -> Result<(), Failed>
     requires fits { lines_in roles ≡ circuit.now.lines }
-    requires few { circuit.now.lines ≤ 16384 }
+    requires few { circuit.now.lines ≤ MOST_LINES }
     requires narrow { AreNarrow circuit.now.gates }
     ensures bytes { Writes result (K.held out.old) (K.held out.new) (compiled_text roles circuit.now.gates) }
     ensures cause { HasCause (K.faults out.old) (K.faults out.new) result }
@@ -49,7 +50,7 @@ fn put_text<K: Sink>(
     roles: Roles,
 ) -> Result<(), Failed>
     requires fits { lines_in roles ≡ circuit.now.lines }
-    requires few { circuit.now.lines ≤ 16384 }
+    requires few { circuit.now.lines ≤ MOST_LINES }
     requires narrow { AreNarrow circuit.now.gates }
     ensures bytes { Gathers result (K.held out.old) (K.held out.new) buffer.old buffer.new
         (header_text roles ++ (flat_map line_text (map (gate_words roles) circuit.now.gates) ++ codes ".end\n")) }
@@ -63,7 +64,7 @@ fn put_text<K: Sink>(
 // ---- the header
 
 fn put_header<K: Sink>(buffer: &mut Buffer, out: &mut K, roles: Roles) -> Result<(), Failed>
-    requires { lines_in roles ≤ 16384 }
+    requires { lines_in roles ≤ MOST_LINES }
     ensures bytes { Gathers result (K.held out.old) (K.held out.new) buffer.old buffer.new
         (header_text roles) }
     ensures cause { HasCause (K.faults out.old) (K.faults out.new) result }
@@ -74,7 +75,7 @@ fn put_header<K: Sink>(buffer: &mut Buffer, out: &mut K, roles: Roles) -> Result
 }
 
 fn put_size<K: Sink>(buffer: &mut Buffer, out: &mut K, roles: Roles) -> Result<(), Failed>
-    requires { lines_in roles ≤ 16384 }
+    requires { lines_in roles ≤ MOST_LINES }
     ensures bytes { Gathers result (K.held out.old) (K.held out.new) buffer.old buffer.new
         (size_text roles) }
     ensures cause { HasCause (K.faults out.old) (K.faults out.new) result }
@@ -85,7 +86,7 @@ fn put_size<K: Sink>(buffer: &mut Buffer, out: &mut K, roles: Roles) -> Result<(
 }
 
 fn put_all_names<K: Sink>(buffer: &mut Buffer, out: &mut K, roles: Roles) -> Result<(), Failed>
-    requires { lines_in roles ≤ 16384 }
+    requires { lines_in roles ≤ MOST_LINES }
     ensures bytes { Gathers result (K.held out.old) (K.held out.new) buffer.old buffer.new
         (names_text roles) }
     ensures cause { HasCause (K.faults out.old) (K.faults out.new) result }
@@ -102,7 +103,7 @@ fn put_names<K: Sink>(
     word: &[u8],
     roles: Roles,
 ) -> Result<(), Failed>
-    requires { lines_in roles ≤ 16384 }
+    requires { lines_in roles ≤ MOST_LINES }
     ensures bytes { Gathers result (K.held out.old) (K.held out.new) buffer.old buffer.new
         (line_text (word.now ∷ names_of roles)) }
     ensures cause { HasCause (K.faults out.old) (K.faults out.new) result }
@@ -113,7 +114,7 @@ fn put_names<K: Sink>(
 }
 
 fn put_spaced_names<K: Sink>(buffer: &mut Buffer, out: &mut K, roles: Roles) -> Result<(), Failed>
-    requires { lines_in roles ≤ 16384 }
+    requires { lines_in roles ≤ MOST_LINES }
     ensures bytes { Gathers result (K.held out.old) (K.held out.new) buffer.old buffer.new
         (flat_map (λ w. 32 ∷ w) (names_of roles)) }
     ensures cause { HasCause (K.faults out.old) (K.faults out.new) result }
@@ -130,14 +131,26 @@ fn put_spaced_name<K: Sink>(
     roles: Roles,
     line: u32,
 ) -> Result<(), Failed>
-    requires few { lines_in roles ≤ 16384 }
+    requires few { lines_in roles ≤ MOST_LINES }
     requires in_range { line < lines_in roles }
     ensures bytes { Gathers result (K.held out.old) (K.held out.new) buffer.old buffer.new
         (32 ∷ name_of_line roles line) }
     ensures cause { HasCause (K.faults out.old) (K.faults out.new) result }
 {
-    let (letter, number) = roles.letter_and_number(line);
-    put_spaced_parts(buffer, out, letter, number)
+    let (role, number) = roles.role_and_number(line);
+    put_spaced_parts(buffer, out, letter_of(role), number)
+}
+
+// The letter with which the names of a role's lines begin.
+fn letter_of(role: Role) -> u8
+    ensures { result ≡ letter_of role }
+{
+    match role {
+        Role::Input => b'x',
+        Role::Output => b'y',
+        Role::Work => b'w',
+        Role::Borrowed => b'b',
+    }
 }
 
 fn put_spaced_parts<K: Sink>(
@@ -156,7 +169,7 @@ fn put_spaced_parts<K: Sink>(
 
 // Output and work lines start at 0, input and borrowed lines hold anything, and no line is garbage.
 fn put_marks<K: Sink>(buffer: &mut Buffer, out: &mut K, roles: Roles) -> Result<(), Failed>
-    requires { lines_in roles ≤ 16384 }
+    requires { lines_in roles ≤ MOST_LINES }
     ensures bytes { Gathers result (K.held out.old) (K.held out.new) buffer.old buffer.new
         (constants_text roles ++ garbage_text roles) }
     ensures cause { HasCause (K.faults out.old) (K.faults out.new) result }
@@ -166,7 +179,7 @@ fn put_marks<K: Sink>(buffer: &mut Buffer, out: &mut K, roles: Roles) -> Result<
 }
 
 fn put_constants<K: Sink>(buffer: &mut Buffer, out: &mut K, roles: Roles) -> Result<(), Failed>
-    requires { lines_in roles ≤ 16384 }
+    requires { lines_in roles ≤ MOST_LINES }
     ensures bytes { Gathers result (K.held out.old) (K.held out.new) buffer.old buffer.new
         (constants_text roles) }
     ensures cause { HasCause (K.faults out.old) (K.faults out.new) result }
@@ -177,7 +190,7 @@ fn put_constants<K: Sink>(buffer: &mut Buffer, out: &mut K, roles: Roles) -> Res
 }
 
 fn put_started_marks<K: Sink>(buffer: &mut Buffer, out: &mut K, roles: Roles) -> Result<(), Failed>
-    requires { lines_in roles ≤ 16384 }
+    requires { lines_in roles ≤ MOST_LINES }
     ensures bytes { Gathers result (K.held out.old) (K.held out.new) buffer.old buffer.new
         (replicate (roles.outputs + roles.work) 48 ++ replicate roles.borrowed 45) }
     ensures cause { HasCause (K.faults out.old) (K.faults out.new) result }
@@ -187,7 +200,7 @@ fn put_started_marks<K: Sink>(buffer: &mut Buffer, out: &mut K, roles: Roles) ->
 }
 
 fn put_garbage<K: Sink>(buffer: &mut Buffer, out: &mut K, roles: Roles) -> Result<(), Failed>
-    requires { lines_in roles ≤ 16384 }
+    requires { lines_in roles ≤ MOST_LINES }
     ensures bytes { Gathers result (K.held out.old) (K.held out.new) buffer.old buffer.new
         (garbage_text roles) }
     ensures cause { HasCause (K.faults out.old) (K.faults out.new) result }
@@ -222,7 +235,7 @@ fn put_gates<K: Sink>(
     roles: Roles,
 ) -> Result<(), Failed>
     requires fits { lines_in roles ≡ circuit.now.lines }
-    requires few { circuit.now.lines ≤ 16384 }
+    requires few { circuit.now.lines ≤ MOST_LINES }
     requires narrow { AreNarrow circuit.now.gates }
     ensures bytes { Gathers result (K.held out.old) (K.held out.new) buffer.old buffer.new
         (flat_map line_text (map (gate_words roles) circuit.now.gates)) }
@@ -243,7 +256,7 @@ fn put_gate<K: Sink>(
     gate: &Gate,
     roles: Roles,
 ) -> Result<(), Failed>
-    requires few { lines_in roles ≤ 16384 }
+    requires few { lines_in roles ≤ MOST_LINES }
     requires narrow { IsNarrow gate.now }
     requires in_range { AllByRecursion (λ line. line < lines_in roles) (lines_of gate.now) }
     ensures bytes { Gathers result (K.held out.old) (K.held out.new) buffer.old buffer.new
@@ -263,7 +276,7 @@ fn put_flip<K: Sink>(
     target: u32,
     roles: Roles,
 ) -> Result<(), Failed>
-    requires few { lines_in roles ≤ 16384 }
+    requires few { lines_in roles ≤ MOST_LINES }
     requires short { length controls.now ≤ 2 }
     requires controls_in_range { AllByRecursion (λ control. control.line < lines_in roles) controls.now }
     requires target_in_range { target < lines_in roles }
@@ -291,7 +304,7 @@ fn put_controls<K: Sink>(
     controls: &[Control],
     roles: Roles,
 ) -> Result<(), Failed>
-    requires few { lines_in roles ≤ 16384 }
+    requires few { lines_in roles ≤ MOST_LINES }
     requires in_range { AllByRecursion (λ control. control.line < lines_in roles) controls.now }
     ensures bytes { Gathers result (K.held out.old) (K.held out.new) buffer.old buffer.new
         (flat_map (λ control. 32 ∷ name_of_line roles control.line) controls.now) }
@@ -309,7 +322,7 @@ fn put_target<K: Sink>(
     roles: Roles,
     target: u32,
 ) -> Result<(), Failed>
-    requires few { lines_in roles ≤ 16384 }
+    requires few { lines_in roles ≤ MOST_LINES }
     requires in_range { target < lines_in roles }
     ensures bytes { Gathers result (K.held out.old) (K.held out.new) buffer.old buffer.new
         ((32 ∷ name_of_line roles target) ++ codes "\n") }

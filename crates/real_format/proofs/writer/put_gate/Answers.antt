@@ -2,7 +2,7 @@ use Rattle.std.proofs.Common.{◌<◌, sym, subst}
 use Rattle.std.specs.List.{AllByRecursion}
 use Rattle.mct_circuit.specs.Gates.{targets_of}
 use Rattle.revc_io.specs.Passing.{Gathers}
-use Rattle.real_format.specs.Compiled.{lines_in}
+use Rattle.gate_split.specs.Plans.{lines_in}
 use Rattle.real_format.proofs.Texts.{flip_text_is, controls_in_range}
 use Rattle.real_format.proofs.writer.put_gate.Goals as goal
 

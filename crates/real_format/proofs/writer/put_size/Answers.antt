@@ -1,7 +1,7 @@
 use Rattle.std.proofs.Common.{◌++◌, codes}
 use Rattle.std.specs.Fmt.{decimal}
 use Rattle.revc_io.proofs.OnTheWay.{begun, step, failed_call, last_call}
-use Rattle.real_format.specs.Compiled.{lines_in}
+use Rattle.gate_split.specs.Plans.{lines_in}
 use Rattle.real_format.proofs.writer.put_size.Goals as goal
 
 pub returns-in_err-put-clause-bytes : goal.returns-in_err-put-clause-bytes

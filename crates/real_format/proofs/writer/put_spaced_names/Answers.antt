@@ -2,7 +2,8 @@ use Rattle.std.proofs.Common.{ap, map, ◌∷◌, arith}
 use Rattle.std.specs.List.{flat_map}
 use Rattle.std.proofs.Math.Nat.{sub-zero}
 use Rattle.revc_io.proofs.Loops.{writing_begun, writing_more, writing_done, writing_failed, fault_later, no_fault}
-use Rattle.real_format.specs.Compiled.{name_of_line, lines_in}
+use Rattle.gate_split.specs.Plans.{lines_in}
+use Rattle.real_format.specs.Compiled.{name_of_line}
 use Rattle.real_format.proofs.Loops.{range_left, range_over}
 use Rattle.real_format.proofs.writer.put_spaced_names.Goals as goal
 

@@ -1,6 +1,6 @@
 use Rattle.std.proofs.Common.{◌≡◌, sym, subst, arith}
 use Rattle.mct_circuit.specs.Gates.{CircuitView, AreGatesOn}
-use Rattle.real_format.specs.Compiled.{lines_in, roles_of}
+use Rattle.gate_split.specs.Plans.{lines_in, roles_of}
 use Rattle.real_format.proofs.Meaning.{compiled_has_meaning}
 use Rattle.real_format.proofs.writer.write.Goals as goal
 
