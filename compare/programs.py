@@ -1,0 +1,268 @@
+"""Random texts: programs of each kind, programs at the limits, and broken texts."""
+from random import Random
+from typing import List, NamedTuple, Optional, Tuple
+
+BIT, REGISTER, UNIT = "bit", "register", "unit"
+NAMES = ["a", "b", "c", "x0", "_y", "Bool", "main1", "q" * 64]
+PIECES = "( ) [ ] { } <> && < & / a ; in . .. + = -> : bool // \xff 12345".split() + [
+    " 7 ", "\n", "let ", "fun ", "reg ", "z" * 65
+]  # fmt: skip
+
+
+class Case(NamedTuple):
+    """A text, and the number of inputs that it was written with."""
+
+    text: bytes
+    inputs: int
+
+
+class Scope(NamedTuple):
+    """The names that a term may use: pairs of a name and its kind, a later one hiding an earlier one. A function's
+    kind is the number of bits that it takes."""
+
+    names: tuple
+
+    def of_kind(self, kind) -> List[str]:
+        return [name for name, its in self.names if its == kind]
+
+    def functions(self) -> List[Tuple[str, int]]:
+        return [(name, kind) for name, kind in self.names if isinstance(kind, int)]
+
+    def bind(self, *pairs) -> "Scope":
+        new = {name for name, _ in pairs}
+        return Scope(tuple(pair for pair in self.names if pair[0] not in new) + pairs)
+
+
+class Programs:
+    """Random cases from one seed."""
+
+    def __init__(self, seed: int):
+        self.random = Random(seed)
+
+    def chance(self, probability: float) -> bool:
+        return self.random.random() < probability
+
+    def some(self, make, least: int, most: int) -> list:
+        return [make() for _ in range(self.random.randint(least, most))]
+
+    # ---- Cases
+
+    def case(self, kinds: dict) -> Case:
+        """A case of one of the kinds, each the name of a method here with its weight."""
+        (kind,) = self.random.choices(list(kinds), kinds.values())
+        text, inputs = getattr(self, kind)()
+        text = self.spaced(text)
+        return Case(self.broken(text) if self.chance(0.2) else text.encode(), inputs)
+
+    def word(self, inputs: int) -> str:
+        """A word for so many inputs, now and then a wrong one."""
+        bits = "".join(self.random.choice("01") for _ in range(inputs))
+        if self.chance(0.04):
+            return self.random.choice([bits + "1", bits[:-1], bits[:-1] + "x", ""])
+        return bits
+
+    def head(self, parameters) -> str:
+        return "main " + " ".join("(%s : bool%s)" % (name, width) for name, width in parameters) + " = "
+
+    def bits_head(self, names) -> Tuple[str, int]:
+        """Parameters of one bit, now and then a register or a length at a limit."""
+        widths = ["" if self.chance(0.95) else self.random.choice(["[0]", "[1]", "[3]", "[1024]", "[1025]", "[9999]"])
+                  for _ in names]
+        inputs = sum(int(width[1:-1] or 1) if width else 1 for width in widths)
+        return self.head(zip(names, widths)), min(inputs, 1024)
+
+    def some_names(self) -> List[str]:
+        names = self.random.sample(NAMES, self.random.randint(1, 5))
+        return names + names[:1] if self.chance(0.03) else names
+
+    # ---- Kinds of programs
+
+    def plain(self) -> Tuple[str, int]:
+        """Names, `&&`, `<>` and brackets."""
+        names = self.some_names()
+        head, inputs = self.bits_head(names)
+        used = names if self.chance(0.95) else names + ["unbound"]
+        return head + self.plain_term(used, self.random.randint(0, 5)), inputs
+
+    def plain_term(self, names: List[str], depth: int) -> str:
+        if depth == 0 or self.chance(0.3):
+            return self.random.choice(names)
+        if self.chance(0.25):
+            return "(" + self.plain_term(names, depth - 1) + ")"
+
+        def operand() -> str:
+            term = self.plain_term(names, depth - 1)
+            return "(" + term + ")" if self.chance(0.4) else term
+
+        return self.random.choice([" <> ", " && ", "&&", "<>"]).join(self.some(operand, 2, 4))
+
+    def loose(self) -> Tuple[str, int]:
+        """Any sentence, whatever its values are."""
+        names = self.some_names()
+        head, inputs = self.bits_head(names)
+        return head + self.loose_term(names, self.random.randint(1, 5)), inputs
+
+    def loose_term(self, names: List[str], depth: int) -> str:
+        leaves = names + ["true", "false", "a.[1]", "b.[0..2].[1]"]
+        if depth == 0 or self.chance(0.2):
+            return self.random.choice(leaves)
+        form = self.random.choice([
+            "(#)", "reg [#]", "reg [#; #]", "{ # }", "{ let f = #; # }", "{ let g x y = #; #; # }", "fun x -> #",
+            "fun x y -> #", "clean (#)", "assert (#)", "rotate 3 (#)", "append (#) (#)", "(#) (#)", "(#) <- (#)",
+            "(#) <> (#)", "(#) && (#) && (#)",
+        ])  # fmt: skip
+        pieces = form.split("#")
+        return pieces[0] + "".join(self.loose_term(names, depth - 1) + piece for piece in pieces[1:])
+
+    def deep(self) -> Tuple[str, int]:
+        """Terms that open about as many levels as there may be."""
+        opened = self.random.randint(95, 103)
+        if self.chance(0.5):
+            body = "(" * opened + "a" + ")" * (opened + self.random.choice([0, 0, -1, 1]))
+        else:
+            body = self.random.choice(["{ fun x -> reg [", "( fun x -> {", "reg [ fun y -> {"]) * (opened // 3)
+        return "main (a : bool) = " + body, 1
+
+    def long(self) -> Tuple[str, int]:
+        """About as many operators as a small program may have."""
+        names = self.random.sample(NAMES, 3)
+        operands = [self.random.choice(names) for _ in range(self.random.randint(995, 1005))]
+        return self.head((name, "") for name in names) + self.random.choice([" <> ", " && "]).join(operands), 3
+
+    def wide(self) -> Tuple[str, int]:
+        """About as many parameters as there may be."""
+        count = self.random.choice([1, 2, 1023, 1024, 1025])
+        return self.head(("p%d" % number, "") for number in range(count)) + "p0 <> p%d" % (count - 1), count
+
+    def limit(self) -> Tuple[str, int]:
+        """A run about as deep, long or large as it may be."""
+        more, head = self.random.randint(-2, 2), "main (r : bool[1024]) = "
+        form = self.random.choice(["depth", "work", "writes", "claims", "outputs", "length"])
+        if form == "depth":
+            functions = ["let f0 x = x;"] + ["let f%d x = f%d x;" % (k + 1, k) for k in range(397 + more)]
+            return head + "{ " + " ".join(functions) + " f%d r.[0] }" % (397 + more), 1024
+        if form == "work":
+            rotations = " ".join(["rotate 0 t;"] * (4091 + more))
+            return head + "{ let s = append r r; let t = append s s; " + rotations + " r.[0] }", 1024
+        if form == "writes":
+            return "main (a : bool) = " + "<>".join("a" * (262145 + more)), 1
+        if form == "claims":
+            return "main (a : bool) = { " + "assert a; " * (4096 + more) + "a }", 1
+        if form == "outputs":
+            return "main (r : bool[%d]) = append r (reg [r.[0]; r.[1]])" % (1022 + more), 1022 + more
+        places = "; ".join(["r.[0]"] * (2048 + more))
+        return head + "{ let s = append r r; append s (reg [" + places + "]) }.[0]", 1024
+
+    def typed(self) -> Tuple[str, int]:
+        """The whole language, where most terms have the kind that is wanted of them."""
+        parameters = self.random.choice([
+            [("a", None)], [("a", None), ("b", None)], [("r", 3)], [("a", None), ("r", 2)],
+            [("a", None), ("b", None), ("r", 4)],
+        ])  # fmt: skip
+        scope = Scope(tuple((name, REGISTER if width else BIT) for name, width in parameters))
+        head = self.head((name, "[%d]" % width if width else "") for name, width in parameters)
+        kind = self.random.choice([BIT, BIT, REGISTER])
+        return head + self.term(scope, kind, self.random.randint(1, 6)), sum(width or 1 for _, width in parameters)
+
+    # ---- Terms of a kind
+
+    def term(self, scope: Scope, kind, depth: int) -> str:
+        if self.chance(0.02):
+            kind = self.random.choice([BIT, REGISTER, UNIT, 1])
+        if depth <= 0 or self.chance(0.15):
+            return self.leaf(scope, kind)
+        if self.chance(0.15):
+            return self.block(scope, kind, depth)
+        if self.chance(0.05):
+            body = self.term(scope.bind(("u", BIT), ("v", REGISTER)), kind, depth - 1)
+            return "(fun u v -> %s) %s %s" % (body, self.atom(scope, BIT, depth), self.atom(scope, REGISTER, depth))
+        if kind == BIT:
+            return self.bit(scope, depth)
+        if kind == REGISTER:
+            return self.register(scope, depth)
+        if kind == UNIT:
+            return self.action(scope, depth)
+        return "fun x -> " + self.term(scope.bind(("x", BIT)), BIT, depth - 1)
+
+    def leaf(self, scope: Scope, kind) -> str:
+        names = scope.of_kind(kind)
+        if names:
+            return self.random.choice(names)
+        if kind == BIT:
+            return self.random.choice(["true", "false"])
+        if kind == REGISTER:
+            return "reg [%s]" % "; ".join(self.some(lambda: self.leaf(scope, BIT), 1, 3))
+        if kind == UNIT:
+            return "clean " + self.atom(scope, BIT, 0)
+        return "(fun q -> q)"
+
+    def atom(self, scope: Scope, kind, depth: int) -> str:
+        term = self.term(scope, kind, depth - 1)
+        return term if term.isidentifier() else "(" + term + ")"
+
+    def bit(self, scope: Scope, depth: int) -> str:
+        functions = scope.functions()
+        if functions and self.chance(0.2):
+            name, arguments = self.random.choice(functions)
+            surplus = self.chance(0.05)
+            return " ".join([name] + [self.atom(scope, BIT, depth) for _ in range(arguments + surplus)])
+        if self.chance(0.3):
+            return "%s.[%d]" % (self.atom(scope, REGISTER, depth), self.random.choice([0, 0, 0, 0, 1, 1, 2, 5]))
+        return self.random.choice([" <> ", " && "]).join(self.some(lambda: self.term(scope, BIT, depth - 1), 2, 3))
+
+    def register(self, scope: Scope, depth: int) -> str:
+        form = self.random.choice(["reg", "reg", "append", "rotate", "slice"])
+        if form == "reg":
+            return "reg [%s]" % "; ".join(self.some(lambda: self.term(scope, BIT, depth - 1), 1, 3))
+        operand = self.atom(scope, REGISTER, depth)
+        if form == "append":
+            return "append %s %s" % (operand, self.atom(scope, REGISTER, depth))
+        first = self.random.choice([0, 0, 0, 1, 1, 2])
+        if form == "rotate":
+            return "rotate %d %s" % (first, operand)
+        return "%s.[%d..%d]" % (operand, first, max(0, first + self.random.choice([0, 0, 1, 1, 2, -1])))
+
+    def action(self, scope: Scope, depth: int) -> str:
+        if self.chance(0.5):
+            return "%s <- %s" % (self.atom(scope, BIT, depth), self.atom(scope, BIT, depth))
+        return self.random.choice(["clean ", "assert "]) + self.atom(scope, BIT, depth)
+
+    def block(self, scope: Scope, kind, depth: int) -> str:
+        items = []
+        for _ in range(self.random.randint(1, 3)):
+            form = self.random.choice(["value", "value", "function", "action", "action"])
+            if form == "value":
+                name, its = self.random.choice("pqtsar"), self.random.choice([BIT, BIT, REGISTER])
+                items.append("let %s = %s;" % (name, self.term(scope, its, depth - 1)))
+                scope = scope.bind((name, its))
+            elif form == "function":
+                name, names = self.random.choice("fg"), ["y", "z"][: self.random.randint(1, 2)]
+                body = self.term(scope.bind(*((each, BIT) for each in names)), BIT, depth - 1)
+                items.append("let %s %s = %s;" % (name, " ".join(names), body))
+                scope = scope.bind((name, len(names)))
+            else:
+                items.append(self.term(scope, UNIT, depth - 1) + ";")
+        return "{ " + " ".join(items + [self.term(scope, kind, depth - 1)]) + " }"
+
+    # ---- Texts
+
+    def spaced(self, text: str) -> str:
+        """The same tokens, now and then with other blanks and comments between."""
+        blanks = [" ", "  ", "\n", "\t\r\n", " // note\n", "\n\n "]
+        return text.replace(" ", self.random.choice(blanks)) if self.chance(0.3) else text
+
+    def broken(self, text: str) -> bytes:
+        """The text with bytes deleted, put in, changed, or cut off."""
+        broken = bytearray(text.encode())
+        for _ in range(self.random.randint(1, 3)):
+            at = self.random.randint(0, len(broken))
+            change = self.random.choice(["delete", "insert", "cut", "set"])
+            if change == "delete":
+                del broken[at : at + 1]
+            elif change == "insert":
+                broken[at:at] = self.random.choice(PIECES).encode("latin-1")
+            elif change == "cut":
+                del broken[at:]
+            elif at < len(broken):
+                broken[at] = self.random.randrange(256)
+        return bytes(broken)
