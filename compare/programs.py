@@ -1,12 +1,62 @@
 """Random texts: programs of each kind, programs at the limits, and broken texts."""
 from random import Random
-from typing import List, NamedTuple, Optional, Tuple
+from typing import List, NamedTuple, Tuple
 
 BIT, REGISTER, UNIT = "bit", "register", "unit"
+
 NAMES = ["a", "b", "c", "x0", "_y", "Bool", "main1", "q" * 64]
-PIECES = "( ) [ ] { } <> && < & / a ; in . .. + = -> : bool // \xff 12345".split() + [
-    " 7 ", "\n", "let ", "fun ", "reg ", "z" * 65
-]  # fmt: skip
+WIDTHS = [0, 1, 3, 1024, 1025, 9999]
+PARAMETERS = [[("a", None)], [("r", 3)], [("a", None), ("r", 2)], [("a", None), ("b", None)],
+              [("a", None), ("b", None), ("r", 4)]]
+FORMS = ["(#)", "reg [#]", "reg [#; #]", "{ # }", "{ let f = #; # }", "{ let g x y = #; #; # }", "fun x -> #",
+         "fun x y -> #", "clean (#)", "assert (#)", "rotate 3 (#)", "append (#) (#)", "(#) (#)", "(#) <- (#)",
+         "(#) <> (#)", "(#) && (#) && (#)"]
+BLANKS = [" ", "  ", "\n", "\t\r\n", " // note\n", "\n\n "]
+PIECES = "( ) [ ] { } <> && < & / a ; in . .. + = -> : bool // \xff 12345".split()
+PIECES += [" 7 ", "\n", "let ", "fun ", "reg ", "z" * 65]
+
+
+def head(parameters) -> str:
+    """The text before a body, for pairs of a name and a width, or None for a bit."""
+    texts = ["(%s : bool%s)" % (name, "" if width is None else "[%d]" % width) for name, width in parameters]
+    return "main " + " ".join(texts) + " = "
+
+
+# ---- Programs at the limits of a run, and a little below or above: each the text and the number of inputs
+
+
+def at_depth(more: int) -> Tuple[str, int]:
+    last = 397 + more
+    functions = ["let f0 x = x;"] + ["let f%d x = f%d x;" % (k + 1, k) for k in range(last)]
+    return head([("a", None)]) + "{ " + " ".join(functions) + " f%d a }" % last, 1
+
+
+def at_work(more: int) -> Tuple[str, int]:
+    rotations = "rotate 0 t; " * (4091 + more)
+    return head([("r", 1024)]) + "{ let s = append r r; let t = append s s; " + rotations + "r.[0] }", 1024
+
+
+def at_writes(more: int) -> Tuple[str, int]:
+    return head([("a", None)]) + "<>".join("a" * (262_145 + more)), 1
+
+
+def at_claims(more: int) -> Tuple[str, int]:
+    return head([("a", None)]) + "{ " + "assert a; " * (4096 + more) + "a }", 1
+
+
+def at_outputs(more: int) -> Tuple[str, int]:
+    return head([("r", 1022 + more)]) + "append r (reg [r.[0]; r.[1]])", 1022 + more
+
+
+def at_length(more: int) -> Tuple[str, int]:
+    places = "; ".join(["r.[0]"] * (2048 + more))
+    return head([("r", 1024)]) + "{ let s = append r r; append s (reg [" + places + "]) }.[0]", 1024
+
+
+LIMITS = [at_depth, at_work, at_writes, at_claims, at_outputs, at_length]
+
+
+# ---- Random cases
 
 
 class Case(NamedTuple):
@@ -61,15 +111,11 @@ class Programs:
             return self.random.choice([bits + "1", bits[:-1], bits[:-1] + "x", ""])
         return bits
 
-    def head(self, parameters) -> str:
-        return "main " + " ".join("(%s : bool%s)" % (name, width) for name, width in parameters) + " = "
-
-    def bits_head(self, names) -> Tuple[str, int]:
-        """Parameters of one bit, now and then a register or a length at a limit."""
-        widths = ["" if self.chance(0.95) else self.random.choice(["[0]", "[1]", "[3]", "[1024]", "[1025]", "[9999]"])
-                  for _ in names]
-        inputs = sum(int(width[1:-1] or 1) if width else 1 for width in widths)
-        return self.head(zip(names, widths)), min(inputs, 1024)
+    def bits_head(self, names: List[str]) -> Tuple[str, int]:
+        """Parameters of one bit, now and then a register of a length at a limit, and the number of inputs."""
+        widths = [self.random.choice(WIDTHS) if self.chance(0.05) else None for _ in names]
+        inputs = sum(1 if width is None else width for width in widths)
+        return head(zip(names, widths)), min(inputs, 1024)
 
     def some_names(self) -> List[str]:
         names = self.random.sample(NAMES, self.random.randint(1, 5))
@@ -80,9 +126,9 @@ class Programs:
     def plain(self) -> Tuple[str, int]:
         """Names, `&&`, `<>` and brackets."""
         names = self.some_names()
-        head, inputs = self.bits_head(names)
+        front, inputs = self.bits_head(names)
         used = names if self.chance(0.95) else names + ["unbound"]
-        return head + self.plain_term(used, self.random.randint(0, 5)), inputs
+        return front + self.plain_term(used, self.random.randint(0, 5)), inputs
 
     def plain_term(self, names: List[str], depth: int) -> str:
         if depth == 0 or self.chance(0.3):
@@ -99,19 +145,14 @@ class Programs:
     def loose(self) -> Tuple[str, int]:
         """Any sentence, whatever its values are."""
         names = self.some_names()
-        head, inputs = self.bits_head(names)
-        return head + self.loose_term(names, self.random.randint(1, 5)), inputs
+        front, inputs = self.bits_head(names)
+        return front + self.loose_term(names, self.random.randint(1, 5)), inputs
 
     def loose_term(self, names: List[str], depth: int) -> str:
         leaves = names + ["true", "false", "a.[1]", "b.[0..2].[1]"]
         if depth == 0 or self.chance(0.2):
             return self.random.choice(leaves)
-        form = self.random.choice([
-            "(#)", "reg [#]", "reg [#; #]", "{ # }", "{ let f = #; # }", "{ let g x y = #; #; # }", "fun x -> #",
-            "fun x y -> #", "clean (#)", "assert (#)", "rotate 3 (#)", "append (#) (#)", "(#) (#)", "(#) <- (#)",
-            "(#) <> (#)", "(#) && (#) && (#)",
-        ])  # fmt: skip
-        pieces = form.split("#")
+        pieces = self.random.choice(FORMS).split("#")
         return pieces[0] + "".join(self.loose_term(names, depth - 1) + piece for piece in pieces[1:])
 
     def deep(self) -> Tuple[str, int]:
@@ -121,48 +162,29 @@ class Programs:
             body = "(" * opened + "a" + ")" * (opened + self.random.choice([0, 0, -1, 1]))
         else:
             body = self.random.choice(["{ fun x -> reg [", "( fun x -> {", "reg [ fun y -> {"]) * (opened // 3)
-        return "main (a : bool) = " + body, 1
+        return head([("a", None)]) + body, 1
 
     def long(self) -> Tuple[str, int]:
         """About as many operators as a small program may have."""
         names = self.random.sample(NAMES, 3)
         operands = [self.random.choice(names) for _ in range(self.random.randint(995, 1005))]
-        return self.head((name, "") for name in names) + self.random.choice([" <> ", " && "]).join(operands), 3
+        return head((name, None) for name in names) + self.random.choice([" <> ", " && "]).join(operands), 3
 
     def wide(self) -> Tuple[str, int]:
         """About as many parameters as there may be."""
         count = self.random.choice([1, 2, 1023, 1024, 1025])
-        return self.head(("p%d" % number, "") for number in range(count)) + "p0 <> p%d" % (count - 1), count
+        return head(("p%d" % number, None) for number in range(count)) + "p0 <> p%d" % (count - 1), count
 
     def limit(self) -> Tuple[str, int]:
         """A run about as deep, long or large as it may be."""
-        more, head = self.random.randint(-2, 2), "main (r : bool[1024]) = "
-        form = self.random.choice(["depth", "work", "writes", "claims", "outputs", "length"])
-        if form == "depth":
-            functions = ["let f0 x = x;"] + ["let f%d x = f%d x;" % (k + 1, k) for k in range(397 + more)]
-            return head + "{ " + " ".join(functions) + " f%d r.[0] }" % (397 + more), 1024
-        if form == "work":
-            rotations = " ".join(["rotate 0 t;"] * (4091 + more))
-            return head + "{ let s = append r r; let t = append s s; " + rotations + " r.[0] }", 1024
-        if form == "writes":
-            return "main (a : bool) = " + "<>".join("a" * (262145 + more)), 1
-        if form == "claims":
-            return "main (a : bool) = { " + "assert a; " * (4096 + more) + "a }", 1
-        if form == "outputs":
-            return "main (r : bool[%d]) = append r (reg [r.[0]; r.[1]])" % (1022 + more), 1022 + more
-        places = "; ".join(["r.[0]"] * (2048 + more))
-        return head + "{ let s = append r r; append s (reg [" + places + "]) }.[0]", 1024
+        return self.random.choice(LIMITS)(self.random.randint(-2, 2))
 
     def typed(self) -> Tuple[str, int]:
         """The whole language, where most terms have the kind that is wanted of them."""
-        parameters = self.random.choice([
-            [("a", None)], [("a", None), ("b", None)], [("r", 3)], [("a", None), ("r", 2)],
-            [("a", None), ("b", None), ("r", 4)],
-        ])  # fmt: skip
+        parameters = self.random.choice(PARAMETERS)
         scope = Scope(tuple((name, REGISTER if width else BIT) for name, width in parameters))
-        head = self.head((name, "[%d]" % width if width else "") for name, width in parameters)
-        kind = self.random.choice([BIT, BIT, REGISTER])
-        return head + self.term(scope, kind, self.random.randint(1, 6)), sum(width or 1 for _, width in parameters)
+        body = self.term(scope, self.random.choice([BIT, BIT, REGISTER]), self.random.randint(1, 6))
+        return head(parameters) + body, sum(width or 1 for _, width in parameters)
 
     # ---- Terms of a kind
 
@@ -248,8 +270,7 @@ class Programs:
 
     def spaced(self, text: str) -> str:
         """The same tokens, now and then with other blanks and comments between."""
-        blanks = [" ", "  ", "\n", "\t\r\n", " // note\n", "\n\n "]
-        return text.replace(" ", self.random.choice(blanks)) if self.chance(0.3) else text
+        return text.replace(" ", self.random.choice(BLANKS)) if self.chance(0.3) else text
 
     def broken(self, text: str) -> bytes:
         """The text with bytes deleted, put in, changed, or cut off."""
