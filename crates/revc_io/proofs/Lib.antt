@@ -1,2 +1,2 @@
-pub mod OnTheWay
-pub mod Loops
+pub mod PassingLemmas
+pub mod WritingLoopLemmas

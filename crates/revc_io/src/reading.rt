@@ -1,10 +1,11 @@
 ghost use Rattle.std.specs.Prelude.{◌≡◌, ◌<◌, ◌≤◌, length, vec_len, IfErr, IfOk, IfSome, IsErrOf, OnOk};
 ghost use Rattle.std.specs.Io.KnownBytes.{Consumes, IsAtEnd};
 ghost use Rattle.revc_io.specs.Faults.{Rose};
-ghost use Rattle.revc_io.specs.Reading.{TakenAt, TakesCount};
+ghost use Rattle.revc_io.specs.Reading.{CountsAt, TakenAt, TakesCount};
+ghost use Rattle.revc_io.specs.declared.reading.ReadFault.TheVariants as faults;
 
-use crate::Source;
-use std::alloc::Global;
+use crate::{Failed, Source};
+use std::alloc::{AllocError, Global};
 
 /// Why a whole text was not read: the source failed, the text is longer than the limit, or memory was refused.
 #[derive(Clone, Copy, Debug, PartialEq, Eq)]
@@ -12,6 +13,22 @@ pub enum ReadFault {
     Failed,
     TooLong,
     Memory,
+}
+
+impl From<Failed> for ReadFault {
+    ghost from_gives = { λ _ e. e ≡ faults.Failed };
+
+    fn from(_: Failed) -> ReadFault {
+        ReadFault::Failed
+    }
+}
+
+impl From<AllocError> for ReadFault {
+    ghost from_gives = { λ _ e. e ≡ faults.Memory };
+
+    fn from(_: AllocError) -> ReadFault {
+        ReadFault::Memory
+    }
 }
 
 // How many bytes are read at a time, at most.
@@ -36,23 +53,23 @@ pub fn read_up_to<S: Source>(
     ensures refused { IfErr result (λ fault. TakesCount (S.rest source.old) (S.rest source.new) (TakenAt fault limit)) }
     ensures too_long { IsErrOf result ReadFault.TooLong → IfSome (S.rest source.old) (λ rest. limit < length rest) }
     ensures failed { IsErrOf result ReadFault.Failed → Rose (S.faults source.old) (S.faults source.new) }
+    ensures counts { IfErr result (λ fault. CountsAt fault (S.faults source.old) (S.faults source.new)) }
+
+    // The count of faults: it never falls, and stays where the whole rest was read.
     ensures later { S.faults source.old ≤ S.faults source.new }
+    ensures stays { OnOk result (S.faults source.new ≡ S.faults source.old) }
 {
     let mut all = Vec::new(alloc);
     let mut chunk = [0; CHUNK];
     loop {
         let most = CHUNK.min(limit + 1 - all.len());
-        let Ok(count) = source.read(&mut chunk[..most]) else {
-            return Err(ReadFault::Failed);
-        };
+        let count = source.read(&mut chunk[..most])?;
         if count == 0 {
             return Ok(all);
         }
         if count > limit - all.len() {
             return Err(ReadFault::TooLong);
         }
-        let Ok(()) = all.extend_from_slice(&chunk[..count]) else {
-            return Err(ReadFault::Memory);
-        };
+        all.extend_from_slice(&chunk[..count])?;
     }
 }

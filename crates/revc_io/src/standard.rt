@@ -1,5 +1,6 @@
 // The adapters over the readers and writers of the standard library.
-ghost use Rattle.std.specs.Prelude.{◌≡◌};
+ghost use Rattle.std.specs.Prelude.{◌≡◌, ◌≤◌};
+ghost use Rattle.revc_io.specs.Faults.{raised};
 
 use crate::{Failed, Sink, Source};
 use std::io::{Read, Write};
@@ -30,10 +31,7 @@ impl<R: Read> Source for StdSource<R> {
     fn read(&mut self, buf: &mut [u8]) -> Result<usize, Failed> {
         match self.inner.read(buf) {
             Ok(count) => Ok(count),
-            Err(_) => {
-                self.faults = self.faults.saturating_add(1);
-                Err(Failed)
-            }
+            Err(_) => Err(count_fault(&mut self.faults)),
         }
     }
 }
@@ -63,21 +61,24 @@ impl<W: Write> Sink for StdSink<W> {
 
     fn write(&mut self, piece: &[u8]) -> Result<usize, Failed> {
         match self.inner.write(piece) {
-            Ok(0) | Err(_) => {
-                self.faults = self.faults.saturating_add(1);
-                Err(Failed)
-            }
+            Ok(0) | Err(_) => Err(count_fault(&mut self.faults)),
             Ok(count) => Ok(count),
         }
     }
 
     fn flush(&mut self) -> Result<(), Failed> {
-        match self.inner.flush() {
-            Ok(()) => Ok(()),
-            Err(_) => {
-                self.faults = self.faults.saturating_add(1);
-                Err(Failed)
-            }
+        if self.inner.flush().is_err() {
+            return Err(count_fault(&mut self.faults));
         }
+        Ok(())
     }
+}
+
+// Counts a fault of a reader or a writer.
+fn count_fault(faults: &mut u64) -> Failed
+    ensures after { faults.new ≡ raised faults.old }
+    ensures later { faults.old ≤ faults.new }
+{
+    *faults = faults.saturating_add(1);
+    Failed
 }

@@ -6,11 +6,11 @@ ghost use Rattle.revc_io.specs.Passing.{Gathers, Writes};
 
 use super::*;
 use std::io;
-use std::io::{Cursor, Error, ErrorKind, Read};
+use std::io::{Cursor, Error, ErrorKind, Read, Write};
 use std::test::Fail;
 
 // A part of a text: a name, an equals sign and a number.
-#[tactic(auto, using(crate::proofs::OnTheWay::gathering))]
+#[tactic(auto, using(crate::proofs::PassingLemmas::gathering))]
 fn put_row<K: Sink>(
     buffer: &mut Buffer,
     out: &mut K,
@@ -27,7 +27,7 @@ fn put_row<K: Sink>(
 }
 
 // A whole text, with a row for each number.
-#[tactic(auto, using(crate::proofs::OnTheWay::gathering))]
+#[tactic(auto, using(crate::proofs::PassingLemmas::gathering))]
 fn write_rows<K: Sink>(out: &mut K, name: &[u8], numbers: &[u64]) -> Result<(), Failed>
     ensures bytes { Writes result (K.held out.old) (K.held out.new)
         (flat_map (λ number. name.now ++ (codes "=" ++ decimal number)) numbers.now) }
@@ -52,6 +52,20 @@ impl Read for FailsOnce {
             return Ok(0);
         }
         self.failed = true;
+        Err(Error::from(ErrorKind::Other))
+    }
+}
+
+// A writer that takes every byte, and cannot hand on what it took.
+#[derive(Drop)]
+struct FailsToFlush;
+
+impl Write for FailsToFlush {
+    fn write(&mut self, buf: &[u8]) -> io::Result<usize> {
+        Ok(buf.len())
+    }
+
+    fn flush(&mut self) -> io::Result<()> {
         Err(Error::from(ErrorKind::Other))
     }
 }
@@ -160,5 +174,9 @@ fn standard_ends_pass_bytes_and_count_faults(rt: HostRuntime) -> Result<(), Fail
     assert_eq!(rt; written.as_slice(), b"output".as_slice());
     let mut full = StdSink::new(Cursor::new([0; 3]));
     assert_eq!(rt; put_all(&mut full, b"output"), Err(Failed));
+    let mut stuck = StdSink::new(FailsToFlush);
+    assert_eq!(rt; put_all(&mut stuck, b"output"), Ok(()));
+    assert_eq!(rt; stuck.flush(), Err(Failed));
+    assert_eq!(rt; Buffer::new().finish(&mut stuck), Err(Failed));
     Ok(())
 }

@@ -1,7 +1,7 @@
 use Rattle.std.proofs.Common.{◌∷◌, drop}
 use Rattle.std.specs.List.{flat_map}
 use Rattle.real_format.specs.Compiled.{name_of_line}
-use Rattle.revc_io.proofs.Loops.{IsWriting}
+use Rattle.revc_io.proofs.WritingLoopLemmas.{IsWriting}
 use Rattle.real_format.proofs.writer.put_controls.Given as goal
 
 abbrev pub invariant-loop-control : goal.invariant-loop-control

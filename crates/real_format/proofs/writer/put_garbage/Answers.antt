@@ -1,5 +1,5 @@
 use Rattle.std.proofs.Common.{◌++◌, replicate, codes}
-use Rattle.revc_io.proofs.OnTheWay.{begun, step, failed_call, last_call}
+use Rattle.revc_io.proofs.PassingLemmas.{begun, step, failed_call, last_call}
 use Rattle.gate_split.specs.Plans.{lines_in}
 use Rattle.real_format.proofs.writer.put_garbage.Goals as goal
 

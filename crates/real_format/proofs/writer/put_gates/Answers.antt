@@ -3,7 +3,7 @@ use Rattle.std.specs.List.{flat_map}
 use Rattle.std.proofs.lemmas.List.{drop_all}
 use Rattle.real_format.specs.Compiled.{line_text, gate_words}
 use Rattle.real_format.proofs.Loops.{drop_at}
-use Rattle.revc_io.proofs.Loops.{writing_begun, writing_more, writing_done, writing_failed, fault_later, no_fault}
+use Rattle.revc_io.proofs.WritingLoopLemmas.{writing_begun, writing_more, writing_done, writing_failed, fault_later, no_fault}
 use Rattle.real_format.proofs.writer.put_gates.Goals as goal
 
 pub loop-i-init : goal.loop-i-init
@@ -16,12 +16,12 @@ returns-in_err-put_gate-clause-bytes g c =
 
 pub returns-in_err-put_gate-clause-cause : goal.returns-in_err-put_gate-clause-cause
 returns-in_err-put_gate-clause-cause g c =
-    fault_later _ _ c.from_residual.ensures.1 c.loop-i.invariant.later c.in_err-put_gate.ensures.cause.failed c.in_err-put_gate.ensures.cause.later
+    fault_later _ _ c.from_residual.ensures.1 c.loop-i.invariant.calm c.in_err-put_gate.ensures.cause.failed c.in_err-put_gate.ensures.cause.later
 
 pub loop-i-preserved : goal.loop-i-preserved
 loop-i-preserved g c =
     let left = drop_at c.args.circuit.now.gates c.loop-i.i _ c.gate.ensures in
-    writing_more _ _ _ (ap (λ gates. flat_map line_text (map (gate_words c.args.roles) gates)) left) c.in_ok-put_gate.ensures.bytes c.in_ok-put_gate.ensures.cause.later c.loop-i.invariant
+    writing_more _ _ _ (ap (λ gates. flat_map line_text (map (gate_words c.args.roles) gates)) left) c.in_ok-put_gate.ensures.bytes c.in_ok-put_gate.ensures.cause.stays c.loop-i.invariant
 
 pub returns-clause-bytes : goal.returns-clause-bytes
 returns-clause-bytes g c =
@@ -29,4 +29,4 @@ returns-clause-bytes g c =
     writing_done _ (ap (λ gates. flat_map line_text (map (gate_words c.args.roles) gates)) over) c.loop-i.invariant
 
 pub returns-clause-cause : goal.returns-clause-cause
-returns-clause-cause g c = no_fault _ c.loop-i.invariant.later
+returns-clause-cause g c = no_fault _ c.loop-i.invariant.calm

@@ -1,7 +1,7 @@
 use Rattle.std.proofs.Common.{drop, map}
 use Rattle.std.specs.List.{flat_map}
 use Rattle.real_format.specs.Compiled.{line_text, gate_words}
-use Rattle.revc_io.proofs.Loops.{IsWriting}
+use Rattle.revc_io.proofs.WritingLoopLemmas.{IsWriting}
 use Rattle.real_format.proofs.writer.put_gates.Given as goal
 
 abbrev pub invariant-loop-i : goal.invariant-loop-i

@@ -1,4 +1,4 @@
-use Rattle.revc_io.proofs.OnTheWay.{begun, step, failed_call, last_call}
+use Rattle.revc_io.proofs.PassingLemmas.{begun, step, failed_call, last_call}
 use Rattle.real_format.specs.Parts.{constants_text, garbage_text}
 use Rattle.real_format.proofs.writer.put_marks.Goals as goal
 

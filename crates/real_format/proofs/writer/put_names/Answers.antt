@@ -1,6 +1,6 @@
 use Rattle.std.proofs.Common.{◌∷◌, ◌++◌, codes}
 use Rattle.std.specs.List.{flat_map}
-use Rattle.revc_io.proofs.OnTheWay.{begun, step, failed_call, last_call}
+use Rattle.revc_io.proofs.PassingLemmas.{begun, step, failed_call, last_call}
 use Rattle.real_format.specs.Compiled.{names_of}
 use Rattle.real_format.proofs.writer.put_names.Goals as goal
 

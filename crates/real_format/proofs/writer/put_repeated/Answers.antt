@@ -1,7 +1,7 @@
 use Rattle.std.proofs.Common.{arith}
 use Rattle.std.proofs.Math.Nat.{sub-zero}
 use Rattle.real_format.proofs.Loops.{replicate_left, replicate_over}
-use Rattle.revc_io.proofs.Loops.{writing_begun, writing_more, writing_done, writing_failed, fault_later, no_fault}
+use Rattle.revc_io.proofs.WritingLoopLemmas.{writing_begun, writing_more, writing_done, writing_failed, fault_later, no_fault}
 use Rattle.real_format.proofs.writer.put_repeated.Goals as goal
 
 pub loop-i-init : goal.loop-i-init
@@ -14,12 +14,12 @@ returns-in_err-put-clause-bytes g c =
 
 pub returns-in_err-put-clause-cause : goal.returns-in_err-put-clause-cause
 returns-in_err-put-clause-cause g c =
-    fault_later _ _ c.from_residual.ensures.1 c.loop-i.invariant.later c.in_err-put.ensures.cause.failed c.in_err-put.ensures.cause.later
+    fault_later _ _ c.from_residual.ensures.1 c.loop-i.invariant.calm c.in_err-put.ensures.cause.failed c.in_err-put.ensures.cause.later
 
 pub loop-i-preserved : goal.loop-i-preserved
 loop-i-preserved g c =
     let left = replicate_left c.args.byte c.loop-i._i c.args.count (omega arith) in
-    writing_more _ _ _ (left) c.in_ok-put.ensures.bytes c.in_ok-put.ensures.cause.later c.loop-i.invariant
+    writing_more _ _ _ (left) c.in_ok-put.ensures.bytes c.in_ok-put.ensures.cause.stays c.loop-i.invariant
 
 pub returns-clause-bytes : goal.returns-clause-bytes
 returns-clause-bytes g c =
@@ -27,4 +27,4 @@ returns-clause-bytes g c =
     writing_done _ (over) c.loop-i.invariant
 
 pub returns-clause-cause : goal.returns-clause-cause
-returns-clause-cause g c = no_fault _ c.loop-i.invariant.later
+returns-clause-cause g c = no_fault _ c.loop-i.invariant.calm

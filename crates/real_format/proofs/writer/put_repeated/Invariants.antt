@@ -1,5 +1,5 @@
 use Rattle.std.proofs.Common.{◌-◌, replicate}
-use Rattle.revc_io.proofs.Loops.{IsWriting}
+use Rattle.revc_io.proofs.WritingLoopLemmas.{IsWriting}
 use Rattle.real_format.proofs.writer.put_repeated.Given as goal
 
 abbrev pub invariant-loop-i : goal.invariant-loop-i

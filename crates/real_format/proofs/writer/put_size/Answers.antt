@@ -1,6 +1,6 @@
 use Rattle.std.proofs.Common.{◌++◌, codes}
 use Rattle.std.specs.Fmt.{decimal}
-use Rattle.revc_io.proofs.OnTheWay.{begun, step, failed_call, last_call}
+use Rattle.revc_io.proofs.PassingLemmas.{begun, step, failed_call, last_call}
 use Rattle.gate_split.specs.Plans.{lines_in}
 use Rattle.real_format.proofs.writer.put_size.Goals as goal
 

@@ -1,7 +1,7 @@
 use Rattle.std.proofs.Common.{ap, map, ◌∷◌, arith}
 use Rattle.std.specs.List.{flat_map}
 use Rattle.std.proofs.Math.Nat.{sub-zero}
-use Rattle.revc_io.proofs.Loops.{writing_begun, writing_more, writing_done, writing_failed, fault_later, no_fault}
+use Rattle.revc_io.proofs.WritingLoopLemmas.{writing_begun, writing_more, writing_done, writing_failed, fault_later, no_fault}
 use Rattle.gate_split.specs.Plans.{lines_in}
 use Rattle.real_format.specs.Compiled.{name_of_line}
 use Rattle.real_format.proofs.Loops.{range_left, range_over}
@@ -17,12 +17,12 @@ returns-in_err-put_spaced_name-clause-bytes g c =
 
 pub returns-in_err-put_spaced_name-clause-cause : goal.returns-in_err-put_spaced_name-clause-cause
 returns-in_err-put_spaced_name-clause-cause g c =
-    fault_later _ _ c.from_residual.ensures.1 c.loop-line.invariant.later c.in_err-put_spaced_name.ensures.cause.failed c.in_err-put_spaced_name.ensures.cause.later
+    fault_later _ _ c.from_residual.ensures.1 c.loop-line.invariant.calm c.in_err-put_spaced_name.ensures.cause.failed c.in_err-put_spaced_name.ensures.cause.later
 
 pub loop-line-preserved : goal.loop-line-preserved
 loop-line-preserved g c =
     let left = range_left c.loop-line.line (lines_in c.args.roles) (omega arith) in
-    writing_more _ _ _ (ap (λ lines. flat_map (λ w. 32 ∷ w) (map (name_of_line c.args.roles) lines)) left) c.in_ok-put_spaced_name.ensures.bytes c.in_ok-put_spaced_name.ensures.cause.later c.loop-line.invariant
+    writing_more _ _ _ (ap (λ lines. flat_map (λ w. 32 ∷ w) (map (name_of_line c.args.roles) lines)) left) c.in_ok-put_spaced_name.ensures.bytes c.in_ok-put_spaced_name.ensures.cause.stays c.loop-line.invariant
 
 pub returns-clause-bytes : goal.returns-clause-bytes
 returns-clause-bytes g c =
@@ -30,4 +30,4 @@ returns-clause-bytes g c =
     writing_done _ (ap (λ lines. flat_map (λ w. 32 ∷ w) (map (name_of_line c.args.roles) lines)) over) c.loop-line.invariant
 
 pub returns-clause-cause : goal.returns-clause-cause
-returns-clause-cause g c = no_fault _ c.loop-line.invariant.later
+returns-clause-cause g c = no_fault _ c.loop-line.invariant.calm

@@ -2,7 +2,7 @@ use Rattle.std.proofs.Common.{◌-◌, ◌∷◌, map}
 use Rattle.std.specs.List.{flat_map, range_with_len}
 use Rattle.gate_split.specs.Plans.{lines_in}
 use Rattle.real_format.specs.Compiled.{name_of_line, names_of}
-use Rattle.revc_io.proofs.Loops.{IsWriting}
+use Rattle.revc_io.proofs.WritingLoopLemmas.{IsWriting}
 use Rattle.real_format.proofs.writer.put_spaced_names.Given as goal
 
 abbrev pub invariant-loop-line : goal.invariant-loop-line

@@ -1,5 +1,5 @@
 use Rattle.std.proofs.Common.{◌+◌, replicate}
-use Rattle.revc_io.proofs.OnTheWay.{begun, step, failed_call, last_call}
+use Rattle.revc_io.proofs.PassingLemmas.{begun, step, failed_call, last_call}
 use Rattle.real_format.proofs.writer.put_started_marks.Goals as goal
 
 pub returns-in_err-put_repeated-clause-bytes : goal.returns-in_err-put_repeated-clause-bytes

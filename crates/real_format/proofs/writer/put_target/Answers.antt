@@ -1,5 +1,5 @@
 use Rattle.std.proofs.Common.{◌∷◌, codes}
-use Rattle.revc_io.proofs.OnTheWay.{begun, step, failed_call, last_call}
+use Rattle.revc_io.proofs.PassingLemmas.{begun, step, failed_call, last_call}
 use Rattle.real_format.specs.Compiled.{name_of_line}
 use Rattle.real_format.proofs.writer.put_target.Goals as goal
 

@@ -1,6 +1,6 @@
 use Rattle.std.proofs.Common.{subst}
 use Rattle.revc_io.specs.Passing.{AppendsFront, Gathered}
-use Rattle.revc_io.proofs.OnTheWay.{whole_gathered, finish_call, writes_fault}
+use Rattle.revc_io.proofs.PassingLemmas.{whole_gathered, finish_call, writes_fault}
 use Rattle.real_format.proofs.Texts.{compiled_text_is}
 use Rattle.real_format.proofs.writer.write_text.Goals as goal
 

@@ -1,15 +1,19 @@
 use Rattle.std.proofs.Common.{◌++◌, take, arith, length-append, length-take}
+use Rattle.std.proofs.lemmas.Result.{err_from_is_err_and}
 use Rattle.std.proofs.KnownBytes.{Consumes-trans}
 use Rattle.revc_io.proofs.reading.read_up_to.Goals as goal
 
 pub returns-then-count-limit-clause-refused : goal.returns-then-count-limit-clause-refused
 returns-then-count-limit-clause-refused g c =
-    let all = c.loop-count.all.items in
-    let more = take c.in-Ok.count c.read.new.buf in
-    (all ++ more, Consumes-trans _ _ _ all more c.loop-count.invariant.taken c.in-Ok.ensures.bytes.0, omega (arith, length-append all more, c.in-Ok.ensures.bound, length-take c.min-most.result c.loop-count.chunk))
+    let all = c.loop-all.all.items in
+    let more = take c.in_ok-count.count c.read.new.buf in
+    (all ++ more, Consumes-trans _ _ _ all more c.loop-all.invariant.taken c.in_ok-count.ensures.bytes.0, omega (arith, length-append all more, c.in_ok-count.ensures.bound, length-take c.min-most.result c.loop-all.chunk))
 
-pub returns-in_default-extend_from_slice-clause-refused : goal.returns-in_default-extend_from_slice-clause-refused
-returns-in_default-extend_from_slice-clause-refused g c =
-    let all = c.loop-count.all.items in
-    let more = take c.in-Ok.count c.read.new.buf in
-    (all ++ more, Consumes-trans _ _ _ all more c.loop-count.invariant.taken c.in-Ok.ensures.bytes.0, omega (arith, length-append all more, c.in-Ok.ensures.bound))
+pub returns-in_err-extend_from_slice-clause-refused : goal.returns-in_err-extend_from_slice-clause-refused
+returns-in_err-extend_from_slice-clause-refused g c =
+    let all = c.loop-all.all.items in
+    let more = take c.in_ok-count.count c.read.new.buf in
+    let refusal = c.from_residual-in_err-extend_from_slice in
+    let fault = err_from_is_err_and refusal.result refusal.ensures.1 in
+    let whole = Consumes-trans _ _ _ all more c.loop-all.invariant.taken c.in_ok-count.ensures.bytes.0 in
+    rw (fault.1, fault.2) (all ++ more, whole, omega (arith, length-append all more, c.in_ok-count.ensures.bound))

@@ -1,4 +1,4 @@
-use Rattle.revc_io.proofs.OnTheWay.{failed_call, step, begun}
+use Rattle.revc_io.proofs.PassingLemmas.{failed_call, step, begun}
 use Rattle.revc_io.proofs.tests.put_row.Goals as goal
 
 pub returns-in_err-put-2-clause-bytes : goal.returns-in_err-put-2-clause-bytes

@@ -1,8 +1,8 @@
-use Rattle.std.proofs.Common.{ℕ, ◌++◌, List, codes, arith}
+use Rattle.std.proofs.Common.{ℕ, ◌++◌, List, codes, ◌∙◌}
 use Rattle.std.proofs.lemmas.List.{at_drop_all, at_drop_more}
 use Rattle.std.specs.Fmt.{decimal}
 use Rattle.std.specs.List.{flat_map}
-use Rattle.revc_io.proofs.OnTheWay.{ended, failed_at, finish_call, step_at, writes_fault}
+use Rattle.revc_io.proofs.PassingLemmas.{ended, failed_at, finish_call, step_at, writes_fault}
 use Rattle.revc_io.proofs.tests.write_rows.Goals as goal
 
 -- the text of these numbers
@@ -19,7 +19,7 @@ loop-number-preserved g c =
     let next = at_drop_more (text c.args.name.now) c.args.numbers.now c.loop-number.number-index 0 c.loop-number-test.true in
     record {
       on_the_way = step_at _ _ next c.in_ok-put_row.ensures.bytes c.loop-number.invariant.on_the_way;
-      later = omega (arith, c.put_row.ensures.cause.later, c.loop-number.invariant.later);
+      calm = c.in_ok-put_row.ensures.cause.stays ∙ c.loop-number.invariant.calm;
     }
 
 pub returns-clause-bytes : goal.returns-clause-bytes

@@ -1,4 +1,4 @@
-use Rattle.revc_io.proofs.OnTheWay.{front_of_more, gathers_fault, halfway, passed_on}
+use Rattle.revc_io.proofs.PassingLemmas.{front_of_more, gathers_fault, halfway, passed_on}
 use Rattle.revc_io.proofs.buffer.Buffer.put.Goals as goal
 
 pub returns-in_err-hand_on-clause-bytes : goal.returns-in_err-hand_on-clause-bytes
