@@ -10,14 +10,15 @@ use Rattle.std.proofs.lemmas.List.{append-nil}
 use Rattle.std.proofs.lemmas.List.Sums.{sum_by-cons}
 use Rattle.std.proofs.Math.ListN.{drop_of_length-le}
 use Rattle.exclusive_sums.specs.declared.cube.Literal.{Literal}
-use Rattle.revc_base.specs.Aligned.{Pair, left, right, both, aligned, key_of}
-use Rattle.revc_base.specs.Polynomials.{IsRising, IsInOrder}
+use Rattle.revc_base.specs.inside.Aligned.{Pair, left, right, both, aligned, key_of}
+use Rattle.list_facts.specs.Lists.{IsRising}
+use Rattle.revc_base.specs.Polynomials.{IsInOrder}
 use Rattle.exclusive_sums.specs.Cubes.{value_of_literal, value_of_cube, input_of, IsCube, state_of, same_sign, same_state, distance_of, third_state, IsJoined, positive}
 use Rattle.exclusive_sums.specs.Steps.{by_input, differences, flipped, thirds}
-use Rattle.revc_base.proofs.Alignment.{lefts, rights, lefts-aligned, rights-aligned, IsTied, tied-aligned, by_key, in_order-aligned}
-use Rattle.revc_base.proofs.ExclusiveOr.{xor-and_right}
-use Rattle.revc_base.proofs.SumSteps.{eq_from_equal, less_from_lt, lt_from_less}
-use Rattle.revc_base.proofs.TapeKeeps.{All-map}
+use Rattle.revc_base.proofs.AlignmentLemmas.{lefts, rights, lefts-aligned, rights-aligned, IsTied, tied-aligned, by_key, in_order-aligned}
+use Rattle.list_facts.proofs.BitLemmas.{xor-and_right}
+use Rattle.revc_base.proofs.SumLemmas.{eq_from_equal, less_from_lt, lt_from_less}
+use Rattle.list_facts.proofs.AllLemmas.{AllByRecursion-weaker}
 
 -- ---- what going through two cubes gives
 
@@ -41,7 +42,7 @@ pub record AreSteps (ps : List (Pair Literal)) : Type 0 where
 rising_pairs : (ps : List (Pair Literal)) → IsInOrder (by_key by_input) ps → AreRising ps
 rising_pairs [] h = tt
 rising_pairs (p ∷ ps) h = (
-  All-map (λ (q : Pair Literal). by_input (key_of p) (key_of q) ≡ Less) (λ (q : Pair Literal). (key_of p).input < (key_of q).input) (λ q l. lt_from_less (key_of p).input (key_of q).input l) ps h.0,
+  AllByRecursion-weaker (λ (q : Pair Literal). by_input (key_of p) (key_of q) ≡ Less) (λ (q : Pair Literal). (key_of p).input < (key_of q).input) (λ q l. lt_from_less (key_of p).input (key_of q).input l) ps h.0,
   rising_pairs ps h.1,
 )
 
@@ -61,7 +62,7 @@ in_order_cube (l ∷ ls) h = (below l ls h.0, in_order_cube ls h.1)
 pub steps_of : (c d : List Literal) → IsCube c → IsCube d → AreSteps (aligned by_input c d)
 steps_of c d a b = record {
   rising = rising_pairs (aligned by_input c d) (in_order-aligned by_input (on_total (λ (l : Literal). l.input) nat_cmp_total) c d (in_order_cube c a) (in_order_cube d b));
-  tied = All-map (IsTied by_input) HaveOneInput one_input (aligned by_input c d) (tied-aligned by_input c d);
+  tied = AllByRecursion-weaker (IsTied by_input) HaveOneInput one_input (aligned by_input c d) (tied-aligned by_input c d);
 }
 
 -- ---- states above an input
@@ -109,10 +110,10 @@ skip : (l : Literal) (c : List Literal) (i : ℕ) → l.input < i → state_of (
 skip l c i h = rw (ne_eqb l.input i (λ e. absurd (omega arith))) refl
 
 other_above : (m : Literal) (d c : List Literal) → AllByRecursion (λ (l : Literal). m.input < l.input) c → count_by (other (m ∷ d)) c ≡ count_by (other d) c
-other_above m d c h = count_same (other (m ∷ d)) (other d) c (All-map (λ (l : Literal). m.input < l.input) (λ l. other (m ∷ d) l ≡ other d l) (λ l k. rw (skip m d l.input k) refl) c h)
+other_above m d c h = count_same (other (m ∷ d)) (other d) c (AllByRecursion-weaker (λ (l : Literal). m.input < l.input) (λ l. other (m ∷ d) l ≡ other d l) (λ l k. rw (skip m d l.input k) refl) c h)
 
 only_above : (l : Literal) (c d : List Literal) → AllByRecursion (λ (m : Literal). l.input < m.input) d → count_by (only (l ∷ c)) d ≡ count_by (only c) d
-only_above l c d h = count_same (only (l ∷ c)) (only c) d (All-map (λ (m : Literal). l.input < m.input) (λ m. only (l ∷ c) m ≡ only c m) (λ m k. rw (skip l c m.input k) refl) d h)
+only_above l c d h = count_same (only (l ∷ c)) (only c) d (AllByRecursion-weaker (λ (m : Literal). l.input < m.input) (λ m. only (l ∷ c) m ≡ only c m) (λ m k. rw (skip l c m.input k) refl) d h)
 
 count_both : (a b : Bool) → ◌≡◌ {A = ℕ} (cond (not (same_sign a b)) 1 0) (cond (same_sign a b) 0 1)
 count_both true true = refl
@@ -343,7 +344,7 @@ first_no_later : (l m : Literal) (c d : List Literal) → IsCube (m ∷ d) → (
 first_no_later l m c d b h =
     elim (cases_lt l.input m.input) [
       | inl k ↦
-          let up : AllByRecursion (λ (n : Literal). l.input < n.input) (m ∷ d) = (k, All-map (λ (n : Literal). m.input < n.input) (λ (n : Literal). l.input < n.input) (λ n j. omega arith) d (literals_above m.input d b.0)) in
+          let up : AllByRecursion (λ (n : Literal). l.input < n.input) (m ∷ d) = (k, AllByRecursion-weaker (λ (n : Literal). m.input < n.input) (λ (n : Literal). l.input < n.input) (λ n j. omega arith) d (literals_above m.input d b.0)) in
           let clash : Some l.positive ≡ None = sym (state_of_first l c) ∙ h l.input ∙ absent l.input (m ∷ d) up in cc
       | inr g ↦ g
     ]

@@ -6,12 +6,13 @@ use Rattle.std.proofs.lemmas.List.{length-append, get_or_default}
 use Rattle.std.proofs.lemmas.Bool.{cases_order}
 use Rattle.std.proofs.lemmas.List.Edits.{length-remove, get_or-remove_below}
 use Rattle.exclusive_sums.specs.declared.cube.Literal.{Literal}
-use Rattle.revc_base.specs.Polynomials.{value_of_monomial, value_of_polynomial, IsRising}
+use Rattle.list_facts.specs.Lists.{IsRising}
+use Rattle.revc_base.specs.Polynomials.{value_of_monomial, value_of_polynomial}
 use Rattle.exclusive_sums.specs.Cubes.{value_of_cube, value_of_cubes, IsCube, distance_of, IsJoined, cube_at, distance_at, AreApart, IsFirstClosePair, without_pair, Merges, done, cancelled, joined, positive, cubes_of, IsInputOf, IsExclusiveSumOf}
 use Rattle.exclusive_sums.specs.Steps.{IsStep}
-use Rattle.revc_base.specs.ClaimFunctions.{IsAmong}
-use Rattle.revc_base.proofs.ExclusiveOr.{xor_none, xor_same, xor_left, xor_right}
-use Rattle.revc_base.proofs.TapeKeeps.{All-map, All-push}
+use Rattle.list_facts.specs.Lists.{IsAmong}
+use Rattle.list_facts.proofs.BitLemmas.{xor_none, xor_same, xor_left, xor_right}
+use Rattle.list_facts.proofs.AllLemmas.{AllByRecursion-weaker, AllByRecursion-push}
 use Rattle.exclusive_sums.proofs.CubeSteps.{IsCube-positive, same_if_no_distance, same_states_same, value-joined, inputs-joined}
 
 -- ---- taking cubes out
@@ -130,8 +131,8 @@ merged P cubes last (joined cs end i j cube f h g m) k p =
     let right = All-at IsCube cs j f.in_range k in
     let inside = inputs-joined P (cube_at cs i) (cube_at cs j) cube left right g (All-at Over cs i low p) (All-at Over cs j f.in_range p) in
     let rest = merged P (without_pair cs i j ++ cube ∷ []) end m
-    (All-push IsCube (without_pair cs i j) cube (All-remove IsCube (remove cs j) i (All-remove IsCube cs j k)) g.is_cube)
-    (All-push Over (without_pair cs i j) cube (All-remove Over (remove cs j) i (All-remove Over cs j p)) inside) in
+    (AllByRecursion-push IsCube (without_pair cs i j) cube (All-remove IsCube (remove cs j) i (All-remove IsCube cs j k)) g.is_cube)
+    (AllByRecursion-push Over (without_pair cs i j) cube (All-remove Over (remove cs j) i (All-remove Over cs j p)) inside) in
     record {
       values = λ x. rest.values x ∙ value-push x (without_pair cs i j) cube ∙ rw (value-joined x (cube_at cs i) (cube_at cs j) cube left right h g) (sym (value-without_pair x cs i j f.ordered f.in_range));
       few = omega (arith, rest.few, length-without_pair cs i j f.ordered f.in_range, length-append (without_pair cs i j) (cube ∷ []));
@@ -160,11 +161,11 @@ inputs-positive P (i ∷ is) h = (h.0, inputs-positive P is h.1)
 
 all_in : (m : List ℕ) → AllByRecursion (λ i. IsAmong i m) m
 all_in [] = tt
-all_in (i ∷ is) = (inl refl, All-map (λ j. IsAmong j is) (λ j. IsAmong j (i ∷ is)) (λ j k. inr k) is (all_in is))
+all_in (i ∷ is) = (inl refl, AllByRecursion-weaker (λ j. IsAmong j is) (λ j. IsAmong j (i ∷ is)) (λ j k. inr k) is (all_in is))
 
 inputs-cubes_of : (P : ℕ → Type 0) (ms : List (List ℕ)) → ((i : ℕ) → IsInputOf ms i → P i) → AllByRecursion (λ (cube : List Literal). AllByRecursion (λ (l : Literal). P l.input) cube) (cubes_of ms)
 inputs-cubes_of P [] f = tt
-inputs-cubes_of P (m ∷ ms) f = (inputs-positive P m (All-map (λ i. IsAmong i m) P (λ i k. f i (inl k)) m (all_in m)), inputs-cubes_of P ms (λ i k. f i (inr k)))
+inputs-cubes_of P (m ∷ ms) f = (inputs-positive P m (AllByRecursion-weaker (λ i. IsAmong i m) P (λ i k. f i (inl k)) m (all_in m)), inputs-cubes_of P ms (λ i k. f i (inr k)))
 
 length-cubes_of : (ms : List (List ℕ)) → length (cubes_of ms) ≡ length ms
 length-cubes_of [] = refl

@@ -4,8 +4,9 @@ use Rattle.std.specs.Bool.{beq, xor}
 use Rattle.std.specs.List.{AllByRecursion, list_all, count_by, remove}
 use Rattle.std.specs.Option.{is_none}
 use Rattle.exclusive_sums.specs.declared.cube.Literal.{Literal}
-use Rattle.revc_base.specs.ClaimFunctions.{IsAmong, AnyByRecursion}
-use Rattle.revc_base.specs.Polynomials.{IsRising, value_of_polynomial}
+use Rattle.list_facts.specs.Lists.{IsAmong, AnyByRecursion}
+use Rattle.list_facts.specs.Lists.{IsRising}
+use Rattle.revc_base.specs.Polynomials.{value_of_polynomial}
 
 -- ---- values
 

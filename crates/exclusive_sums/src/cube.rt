@@ -1,7 +1,7 @@
 // Cubes, products of literals, and their distance.
 ghost use Rattle.std.specs.Prelude.{◌≡◌, ◌++◌, map, IfOk, OnOk};
 ghost use Rattle.std.specs.Option.{option_to_list};
-ghost use Rattle.revc_base.specs.Polynomials.{IsRising};
+ghost use Rattle.list_facts.specs.Lists.{IsRising};
 ghost use Rattle.exclusive_sums.specs.Cubes.{IsCube, IsJoined, distance_of, positive};
 ghost use Rattle.exclusive_sums.specs.Steps.{flipped as flipped_of, third_of};
 

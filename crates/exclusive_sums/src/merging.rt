@@ -1,7 +1,7 @@
 // Merging the monomials of a polynomial into few cubes.
 ghost use Rattle.std.specs.Prelude.{◌≡◌, ℕ, ◌<◌, length, IfOk, IfSome, IsNone, OnOk};
 ghost use Rattle.std.specs.List.{AllByRecursion};
-ghost use Rattle.revc_base.specs.Polynomials.{IsRising};
+ghost use Rattle.list_facts.specs.Lists.{IsRising};
 ghost use Rattle.exclusive_sums.specs.Cubes.{AreApart, IsExclusiveSumOf, IsFirstClosePair, Merges, cubes_of, distance_at};
 ghost use Rattle.exclusive_sums.specs.Steps.{IsCloseBehind, IsStep};
 

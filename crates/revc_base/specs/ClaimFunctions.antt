@@ -1,40 +1,31 @@
 -- The functions on which claims rest, and how many there are.
-use Rattle.std.specs.Prelude.{◌≡◌, ℕ, ◌+◌, ◌≤◌, ◌⊎◌, Bool, List, [], ◌∷◌, length, take, sum, slice_get, slice_set, Option, Some, None, ⊤}
+use Rattle.std.specs.Prelude.{◌≡◌, ℕ, ◌+◌, ◌≤◌, ◌⊎◌, Bool, List, [], ◌∷◌, length, take, sum, slice_get, slice_set, Option, Some, None}
 use Rattle.std.specs.List.{AllByRecursion}
 use Rattle.revc_base.specs.declared.tape.Ref.{Ref}
 use Rattle.revc_base.specs.declared.tape.Ref.TheVariants as refs
 use Rattle.revc_base.specs.declared.tape.Entry.{Entry}
-use Rattle.revc_base.specs.declared.tape.Entry.TheVariants as entries
-use Rattle.revc_base.specs.Tapes.{TapeView, IsTape, bit_on}
-use Rattle.revc_base.specs.Claims.{IsInputOf, variable_order}
+use Rattle.list_facts.specs.Lists.{IsAmong, AnyByRecursion, AreApart}
+use Rattle.revc_base.specs.Tapes.{TapeView, IsTape, bit_on, operands}
+use Rattle.revc_base.specs.Claims.{IsInputOf}
+use Rattle.revc_base.specs.VariableOrders.{variable_order}
 
 -- ---- what a claim rests on
 
--- x is an element of the list
-abbrev pub IsAmong : {A : Type 0} → A → List A → Type 0
-IsAmong x [] = ⊥
-IsAmong x (y ∷ ys) = (x ≡ y) ⊎ IsAmong x ys
-
--- the fact holds of some element
-abbrev pub AnyByRecursion : {A : Type 0} → (A → Type 0) → List A → Type 0
-AnyByRecursion P [] = ⊥
-AnyByRecursion P (x ∷ xs) = P x ⊎ AnyByRecursion P xs
-
-abbrev pub operands : Option Entry → List Ref
-operands None = []
-operands (Some (entries.Const bit)) = []
-operands (Some (entries.Xor a b)) = a ∷ b ∷ []
-operands (Some (entries.And a b)) = a ∷ b ∷ []
+-- the operands of a write where there is one
+abbrev pub operands_at : Option Entry → List Ref
+operands_at None = []
+operands_at (Some entry) = operands entry
 
 -- the operands of what made a bit; an input has none
 abbrev pub operands_of : TapeView → Ref → List Ref
 operands_of t (refs.Input i) = []
-operands_of t (refs.Write j) = operands (slice_get t.entries j)
+operands_of t (refs.Write j) = operands_at (slice_get t.entries j)
 
 -- A reference rests on itself, and on what its operands rest on.
 pub data RestsOn (t : TapeView) : Ref → Ref → Type 0 where
   itself : (ref : Ref) → RestsOn t ref ref
-  through : (ref operand base : Ref) → IsAmong operand (operands_of t ref) → RestsOn t operand base → RestsOn t ref base
+  through : (ref operand base : Ref) → IsAmong operand (operands_of t ref)
+      → RestsOn t operand base → RestsOn t ref base
 
 -- One of the first claims rests on this input or write.
 abbrev pub IsBase : TapeView → ℕ → Ref → Type 0
@@ -58,10 +49,12 @@ value_on t r input = bit_on t (with_fixed (variable_order t.params) r.fixed inpu
 
 -- Two of them are one function of the inputs.
 abbrev pub IsSameFunction : TapeView → Restriction → Restriction → Type 0
-IsSameFunction t r s = (input : List Bool) → IsInputOf t input → value_on t r input ≡ value_on t s input
+IsSameFunction t r s = (input : List Bool) → IsInputOf t input
+    → value_on t r input ≡ value_on t s input
 
 abbrev pub IsConstant : TapeView → Restriction → Type 0
-IsConstant t r = (one other : List Bool) → IsInputOf t one → IsInputOf t other → value_on t r one ≡ value_on t r other
+IsConstant t r = (one other : List Bool) → IsInputOf t one → IsInputOf t other
+    → value_on t r one ≡ value_on t r other
 
 -- A member of the set of functions on which the first claims rest: a restriction that is not constant.
 pub record IsMember (t : TapeView) (claims : ℕ) (r : Restriction) : Type 0 where
@@ -70,11 +63,6 @@ pub record IsMember (t : TapeView) (claims : ℕ) (r : Restriction) : Type 0 whe
   pub varies : ¬ IsConstant t r
 
 -- ---- how many
-
--- no two elements are in the relation
-abbrev pub AreApart : {A : Type 0} → (A → A → Type 0) → List A → Type 0
-AreApart R [] = ⊤
-AreApart R (x ∷ xs) = AllByRecursion (λ y. ¬ R x y) xs × AreApart R xs
 
 -- The set has more members than the limit.
 pub record HasMore (t : TapeView) (claims limit : ℕ) : Type 0 where
@@ -92,4 +80,5 @@ pub record HasAtMost (t : TapeView) (claims limit : ℕ) : Type 0 where
 -- The law: of every tape, exactly one of the two holds.
 abbrev pub MembersAreCounted : Type 0
 MembersAreCounted = (t : TapeView) → IsTape t → (claims limit : ℕ)
-    → (HasMore t claims limit ⊎ HasAtMost t claims limit) × (HasMore t claims limit → ¬ HasAtMost t claims limit)
+    → (HasMore t claims limit ⊎ HasAtMost t claims limit)
+    × (HasMore t claims limit → ¬ HasAtMost t claims limit)

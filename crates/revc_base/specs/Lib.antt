@@ -1,10 +1,11 @@
-pub mod Aligned
 pub mod Bits
 pub mod ClaimFunctions
 pub mod Claims
-pub mod Marks
+pub mod Cuts
+pub mod Levels
 pub mod Measures
 pub mod Monomials
 pub mod Polynomials
-pub mod Sums
 pub mod Tapes
+pub mod VariableOrders
+pub mod inside

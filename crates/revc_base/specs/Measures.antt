@@ -1,11 +1,12 @@
 -- Measures of a tape.
-use Rattle.std.specs.Prelude.{◌≡◌, ℕ, zero, suc, ◌≤◌, ◌==◌, ◌^◌, Bool, false, ◌||◌, List, [], ◌∷◌, ◌++◌, length, drop, filter, sum}
-use Rattle.std.specs.List.{list_any}
+use Rattle.std.specs.Prelude.{ℕ, List, [], ◌∷◌, length, map, sum}
+use Rattle.std.specs.List.{flat_map}
 use Rattle.revc_base.specs.declared.tape.Ref.{Ref}
 use Rattle.revc_base.specs.declared.tape.Ref.TheVariants as refs
 use Rattle.revc_base.specs.declared.tape.Entry.{Entry}
-use Rattle.revc_base.specs.declared.tape.Entry.TheVariants as entries
-use Rattle.revc_base.specs.Tapes.{TapeView}
+use Rattle.revc_base.specs.Cuts.{IsWidth}
+use Rattle.revc_base.specs.Levels.{IsLevels}
+use Rattle.revc_base.specs.Tapes.{TapeView, operands}
 
 -- ---- counts
 
@@ -23,50 +24,25 @@ writes_of t = length t.entries
 
 -- ---- width
 
--- whether a reference is to the write at place i
-abbrev pub is_write : ℕ → Ref → Bool
-is_write i (refs.Input j) = false
-is_write i (refs.Write j) = j == i
+-- the write of a reference, where it is one
+abbrev pub write_of : Ref → List ℕ
+write_of (refs.Input i) = []
+write_of (refs.Write j) = j ∷ []
 
--- whether the write at place i is an operand of this one
-abbrev pub is_operand : ℕ → Entry → Bool
-is_operand i (entries.Const bit) = false
-is_operand i (entries.Xor a b) = is_write i a || is_write i b
-is_operand i (entries.And a b) = is_write i a || is_write i b
+-- the writes among these
+abbrev pub writes_among : List Ref → List ℕ
+writes_among made = flat_map write_of made
 
--- whether the write at place i is an output, or an operand of a write at place j or later
-abbrev pub is_needed : TapeView → ℕ → ℕ → Bool
-is_needed t j i = list_any (is_write i) t.outputs || list_any (is_operand i) (drop j t.entries)
+-- the writes of a tape as steps: each with the writes that it is made of
+abbrev pub steps_of : TapeView → List (List ℕ)
+steps_of t = map (λ (entry : Entry). writes_among (operands entry)) t.entries
 
--- the numbers below n, in their order
-abbrev pub below : ℕ → List ℕ
-below zero = []
-below (suc n) = below n ++ n ∷ []
-
--- the cut at j: the writes below j that are needed at j or later
-abbrev pub cut_at : TapeView → ℕ → List ℕ
-cut_at t j = filter (is_needed t j) (below j)
-
--- The width of a tape: no cut is longer, and some cut is that long. The cuts lie before each write and behind the last.
-pub record IsWidth (t : TapeView) (width : ℕ) : Type 0 where
-  pub most : (j : ℕ) → j ≤ length t.entries → length (cut_at t j) ≤ width
-  pub at : ℕ
-  pub inside : at ≤ length t.entries
-  pub reached : length (cut_at t at) ≡ width
+-- The width of a tape: the most writes that are needed at one place.
+abbrev pub HasWidth : TapeView → ℕ → Type 0
+HasWidth t width = IsWidth (steps_of t) (writes_among t.outputs) width
 
 -- ---- levels
 
--- The number of levels of so many writes: the least number whose power of two is at least theirs; 0 for none.
-pub record IsLevels (writes levels : ℕ) : Type 0 where
-  pub enough : writes ≤ 2 ^ levels
-  pub least : (other : ℕ) → writes ≤ 2 ^ other → levels ≤ other
-
--- So many writes have one number of levels, and no other.
-pub record HasOneNumberOfLevels (writes : ℕ) : Type 0 where
-  pub levels : ℕ
-  pub are : IsLevels writes levels
-  pub only : (other : ℕ) → IsLevels writes other → other ≡ levels
-
--- The law: each number of writes has one number of levels.
-abbrev pub LevelsAreDetermined : Type 0
-LevelsAreDetermined = (writes : ℕ) → HasOneNumberOfLevels writes
+-- The number of levels of a tape, in blocks of one write.
+abbrev pub HasLevels : TapeView → ℕ → Type 0
+HasLevels t levels = IsLevels 1 (writes_of t) levels

@@ -1,7 +1,8 @@
 -- Polynomials over the field of two elements: sums (by exclusive or) of monomials, each a product (by and) of inputs.
 -- An assignment gives each input a bit.
-use Rattle.std.specs.Prelude.{◌≡◌, ℕ, ◌<◌, Bool, false, List, [], ◌∷◌, ⊤}
+use Rattle.std.specs.Prelude.{◌≡◌, ℕ, Bool, false, List, [], ◌∷◌, ⊤}
 use Rattle.std.specs.Bool.{xor}
+use Rattle.list_facts.specs.Lists.{IsRising}
 use Rattle.std.specs.List.{AllByRecursion, list_all}
 use Rattle.std.specs.Ordering.{nat_cmp}
 use Rattle.std.specs.Cmp.Lexicographic.{slice_cmp}
@@ -16,14 +17,10 @@ value_of_monomial assignment monomial = list_all assignment monomial
 
 abbrev pub value_of_polynomial : (ℕ → Bool) → List (List ℕ) → Bool
 value_of_polynomial assignment [] = false
-value_of_polynomial assignment (m ∷ ms) = xor (value_of_monomial assignment m) (value_of_polynomial assignment ms)
+value_of_polynomial assignment (m ∷ ms) =
+    xor (value_of_monomial assignment m) (value_of_polynomial assignment ms)
 
 -- ---- sets as lists
-
--- each is less than all behind it
-abbrev pub IsRising : List ℕ → Type 0
-IsRising [] = ⊤
-IsRising (x ∷ xs) = AllByRecursion (λ y. x < y) xs × IsRising xs
 
 -- each comes before all behind it
 abbrev pub IsInOrder : {A : Type 0} → (A → A → Ordering) → List A → Type 0
@@ -40,10 +37,11 @@ pub record IsPolynomial (monomials : List (List ℕ)) : Type 0 where
 -- the one polynomial with the function's values
 pub record IsPolynomialOf (function : (ℕ → Bool) → Bool) (monomials : List (List ℕ)) : Type 0 where
   pub is_polynomial : IsPolynomial monomials
-  pub values : (assignment : ℕ → Bool) → value_of_polynomial assignment monomials ≡ function assignment
+  pub values : (assignment : ℕ → Bool)
+      → value_of_polynomial assignment monomials ≡ function assignment
 
 -- polynomials of equal values are equal
 abbrev pub PolynomialsAreUnique : Type 0
 PolynomialsAreUnique =
     (p q : List (List ℕ)) → IsPolynomial p → IsPolynomial q
-    → ((assignment : ℕ → Bool) → value_of_polynomial assignment p ≡ value_of_polynomial assignment q) → p ≡ q
+    → ((x : ℕ → Bool) → value_of_polynomial x p ≡ value_of_polynomial x q) → p ≡ q

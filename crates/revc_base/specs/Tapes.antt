@@ -1,7 +1,9 @@
 -- Tapes: the writes of a run with its claims and outputs, and the bits that they have on an input.
-use Rattle.std.specs.Prelude.{◌≡◌, ℕ, ◌+◌, ◌<◌, ◌≤◌, Bool, true, false, ◌&&◌, List, [], ◌∷◌, ◌++◌, length, map, sum, slice_index_or, ⊤}
+use Rattle.std.specs.Prelude.{◌≡◌, ℕ, ◌+◌, ◌<◌, ◌≤◌, Bool, true, false, ◌&&◌, List, [], ◌∷◌, ◌++◌, length, map, sum, ⊤}
 use Rattle.std.specs.Bool.{xor}
 use Rattle.std.specs.List.{AllByRecursion}
+pub use Rattle.list_facts.specs.Bits.{bit_of}
+use Rattle.revc_base.specs.declared.limits.TheConstants.{MOST_INPUTS, MOST_WRITES, MOST_CLAIMS, MOST_OUTPUTS}
 use Rattle.revc_base.specs.declared.tape.Ref.{Ref}
 use Rattle.revc_base.specs.declared.tape.Ref.TheVariants as refs
 use Rattle.revc_base.specs.declared.tape.Entry.{Entry}
@@ -19,12 +21,18 @@ pub record TapeView : Type 0 where
   pub claims : List Claim
   pub outputs : List Ref
 
+-- the operands of a write
+abbrev pub operands : Entry → List Ref
+operands (entries.Const bit) = []
+operands (entries.Xor a b) = a ∷ b ∷ []
+operands (entries.And a b) = a ∷ b ∷ []
+
 -- ---- what a tape keeps
 
--- widths of at least 1 that add up to at most 1,024
+-- widths of at least 1 that add up to at most the greatest number of inputs
 pub record AreWidths (params : List ℕ) : Type 0 where
   pub bits : AllByRecursion (λ width. 1 ≤ width) params
-  pub inputs : sum params ≤ 1024
+  pub inputs : sum params ≤ MOST_INPUTS
 
 -- one of n inputs, or of the writes before the k-th
 abbrev pub IsKnown : ℕ → ℕ → Ref → Type 0
@@ -45,17 +53,13 @@ AreKnown n k (entry ∷ rest) = IsKnownEntry n k entry × AreKnown n (k + 1) res
 pub record IsTape (t : TapeView) : Type 0 where
   pub widths : AreWidths t.params
   pub known : AreKnown (sum t.params) 0 t.entries
-  pub few_entries : length t.entries ≤ 262144
+  pub few_entries : length t.entries ≤ MOST_WRITES
   pub claims : AllByRecursion (λ claim. IsKnown (sum t.params) (length t.entries) claim.of) t.claims
-  pub few_claims : length t.claims ≤ 4096
+  pub few_claims : length t.claims ≤ MOST_CLAIMS
   pub outputs : AllByRecursion (IsKnown (sum t.params) (length t.entries)) t.outputs
-  pub few_outputs : length t.outputs ≤ 1024
+  pub few_outputs : length t.outputs ≤ MOST_OUTPUTS
 
 -- ---- bits on an input
-
--- the bit at a place of a list; past its end it is false
-abbrev pub bit_of : List Bool → ℕ → Bool
-bit_of bits i = slice_index_or bits i false
 
 -- the bit of a reference, with the bits of the inputs and those of the writes
 abbrev pub bit_at : List Bool → List Bool → Ref → Bool
@@ -70,7 +74,8 @@ entry_bit input written (entries.And a b) = bit_at input written a && bit_at inp
 -- the bits written so far, and then those of these writes, one after another
 abbrev pub written_by : List Bool → List Bool → List Entry → List Bool
 written_by input written [] = written
-written_by input written (entry ∷ rest) = written_by input (written ++ entry_bit input written entry ∷ []) rest
+written_by input written (entry ∷ rest) =
+    written_by input (written ++ entry_bit input written entry ∷ []) rest
 
 -- the bit of a reference of a tape on an input
 abbrev pub bit_on : TapeView → List Bool → Ref → Bool
@@ -92,7 +97,8 @@ abbrev pub IsMet : List Bool → List Bool → Claim → Type 0
 IsMet input written claim = bit_at input written claim.of ≡ claimed claim.kind
 
 -- The claim with this number, counted from 0, is the first that is not met.
-pub record IsFirstFailing (input written : List Bool) (claims : List Claim) (number : ℕ) : Type 0 where
+pub record IsFirstFailing (input written : List Bool) (claims : List Claim) (number : ℕ)
+    : Type 0 where
   pub before : List Claim
   pub named : Claim
   pub behind : List Claim
@@ -111,5 +117,6 @@ IsFirstBroken t input number = IsFirstFailing input (written_by input [] t.entri
 
 -- How the run of a tape ends on an input: with its outputs where every claim holds, else at the first claim that fails.
 abbrev pub IsEndOf : TapeView → List Bool → TapeEnd → Type 0
-IsEndOf t input (ends.Out bits) = AllByRecursion (Holds t input) t.claims × (bits ≡ outputs_on t input)
+IsEndOf t input (ends.Out bits) =
+    AllByRecursion (Holds t input) t.claims × (bits ≡ outputs_on t input)
 IsEndOf t input (ends.Broken number) = IsFirstBroken t input number

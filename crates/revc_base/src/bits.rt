@@ -1,9 +1,10 @@
 // Bit words.
-ghost use Rattle.std.specs.Prelude.{◌≡◌, ◌==◌, ◌<◌, ◌^◌, length, IfOk, IfSome, IfNone, IsErrOf};
+ghost use Rattle.std.specs.List.{AllByRecursion};
+ghost use Rattle.std.specs.Prelude.{◌≡◌, ◌↔◌, ◌==◌, ◌<◌, ◌^◌, length, map, IfOk, IfSome, IfNone, IsErrOf, IsTrue};
 ghost use Rattle.revc_base.specs.Bits.{IsDigit, IsWordOf, IsFirstOther};
 
 use crate::Memory;
-use std::alloc::{AllocFailed, Global};
+use std::alloc::Global;
 use std::marker::Model;
 
 /// A list of bits. Contracts see it as that list.
@@ -29,13 +30,13 @@ pub enum BitsFault {
     Memory,
 }
 
-impl<T: Drop> From<AllocFailed<T>> for BitsFault {
+impl From<Memory> for BitsFault {
     ghost use Rattle.std.specs.Prelude.{◌≡◌};
     ghost use Rattle.revc_base.specs.declared.bits.BitsFault.TheVariants as faults;
 
     ghost from_gives = { λ _ e. e ≡ faults.Memory };
 
-    fn from(_: AllocFailed<T>) -> BitsFault {
+    fn from(_: Memory) -> BitsFault {
         BitsFault::Memory
     }
 }
@@ -55,31 +56,48 @@ impl Bits {
         &self.bits
     }
 
-    /// One bit for each byte of the word, true for `1`.
+    /// One bit for each byte of the word, true for `1`. Memory is taken only for a word of digits.
     pub fn from_word(alloc: Global, word: &str) -> Result<Bits, BitsFault>
         requires { length word.now < 2 ^ 32 }
         ensures ok { IfOk result (λ bits. IsWordOf word.now bits) }
         ensures bad { (at : _) → IsErrOf result (BitsFault.BadDigit at) → IsFirstOther word.now at }
+        ensures named { (at : _) → IsFirstOther word.now at
+            → IsErrOf result (BitsFault.BadDigit at) }
     {
-        let mut bits = Vec::new(alloc);
-        for (place, byte) in word.as_bytes().iter().enumerate() {
-            let Some(bit) = digit(*byte) else {
-                return Err(BitsFault::BadDigit { at: place as u32 });
-            };
-            bits.push(bit)?;
+        let digits = word.as_bytes();
+        if let Some(at) = first_other(digits) {
+            return Err(BitsFault::BadDigit { at });
         }
+        let bits = bits_of(alloc, digits)?;
         Ok(Bits { bits })
     }
 }
 
-// The bit of a digit 0 or 1.
-fn digit(byte: u8) -> Option<bool>
-    ensures found { IfSome result (λ bit. IsDigit byte × (bit ≡ (byte == 49))) }
-    ensures none { IfNone result (¬ IsDigit byte) }
+// Whether a byte is the digit 0 or 1.
+fn is_digit(byte: u8) -> bool
+    ensures { IsTrue result ↔ IsDigit byte }
 {
-    match byte {
-        b'0' => Some(false),
-        b'1' => Some(true),
-        _ => None,
+    byte == b'0' || byte == b'1'
+}
+
+// The place of the first byte that is neither 0 nor 1.
+#[tactic(auto, using(crate::proofs::WordLemmas::first_other))]
+fn first_other(word: &[u8]) -> Option<u32>
+    requires { length word.now < 2 ^ 32 }
+    ensures found { IfSome result (λ at. IsFirstOther word.now at) }
+    ensures none { IfNone result (AllByRecursion IsDigit word.now) }
+{
+    for (at, byte) in word.iter().enumerate() {
+        if !is_digit(*byte) {
+            return Some(at as u32);
+        }
     }
+    None
+}
+
+// True for each byte that is 1.
+fn bits_of(alloc: Global, word: &[u8]) -> Result<Vec<bool>, Memory>
+    ensures { IfOk result (λ bits. bits.items ≡ map (λ byte. byte == 49) word.now) }
+{
+    Ok(word.iter().map(|byte| *byte == b'1').collect(alloc)?)
 }

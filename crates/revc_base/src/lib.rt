@@ -1,9 +1,10 @@
-//! What every crate of the compiler shares: want of memory, short texts, places in a source text, bit words, and the
-//! tape of a program's run.
+//! What every crate of the compiler shares: want of memory, short texts, places in a source text, bit words, the
+//! limits of programs, and the tape of a program's run.
 #![tactic(auto)]
 
 mod bits;
 mod law;
+pub mod limits;
 mod memory;
 mod place;
 mod running;
@@ -12,7 +13,10 @@ mod text;
 mod width;
 
 pub use bits::{Bits, BitsFault};
-pub use law::{claim_functions, one_number_of_levels, one_polynomial, one_set_of_monomials};
+pub use law::{
+    claim_functions, each_claim_is_settled, each_input_is_one_variable, one_number_of_levels,
+    one_polynomial, one_set_of_monomials,
+};
 pub use memory::Memory;
 pub use place::Place;
 pub use running::TapeEnd;

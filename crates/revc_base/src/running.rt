@@ -1,6 +1,7 @@
 // The run of a tape on an input.
 ghost use Rattle.std.specs.Prelude.{◌≡◌, ◌↔◌, ◌≤◌, [], length, map, sum, IsTrue, IfOk, IfSome, IfNone};
 ghost use Rattle.std.specs.List.{AllByRecursion};
+ghost use Rattle.revc_base.specs.declared.limits.TheConstants.{MOST_CLAIMS};
 ghost use Rattle.revc_base.specs.Tapes.{IsEndOf, IsFirstFailing, IsMet, bit_of, bit_at, claimed, entry_bit, written_by};
 
 use crate::{Bits, Claim, Entry, Kind, Memory, Ref, Tape};
@@ -60,10 +61,11 @@ fn holds(input: &[bool], written: &[bool], claim: &Claim) -> bool
 }
 
 // The number of the first claim that fails.
-#[tactic(auto, using(crate::proofs::BitSteps::first_failing))]
+#[tactic(auto, using(crate::proofs::RunLemmas::first_failing))]
 fn first_failing(claims: &[Claim], input: &[bool], written: &[bool]) -> Option<u32>
-    requires { length claims.now ≤ 4096 }
-    ensures found { IfSome result (λ number. IsFirstFailing input.now written.now claims.now number) }
+    requires { length claims.now ≤ MOST_CLAIMS }
+    ensures found { IfSome result (λ number.
+        IsFirstFailing input.now written.now claims.now number) }
     ensures none { IfNone result (AllByRecursion (IsMet input.now written.now) claims.now) }
 {
     for (number, claim) in claims.iter().enumerate() {
@@ -93,7 +95,8 @@ fn bits_of(
 impl Tape {
     // The bits of the writes on an input.
     fn written(&self, input: &[bool]) -> Result<Vec<bool>, Memory>
-        ensures { IfOk result (λ written. written.items ≡ written_by input.now [] self.now.entries) }
+        ensures { IfOk result (λ written.
+            written.items ≡ written_by input.now [] self.now.entries) }
     {
         let mut written = Vec::with_capacity(*self.allocator(), self.entries().len())?;
         for entry in self.entries() {

@@ -2,6 +2,7 @@
 ghost use Rattle.std.specs.Prelude.{◌≡◌, ◌+◌, ◌<◌, ◌≤◌, ◌∷◌, [], ◌++◌, length, sum, slice_get, Some, IfOk, OnOk, OnErr};
 ghost use Rattle.std.specs.List.{AllByRecursion};
 ghost use Rattle.revc_base.specs.Tapes.{AreWidths, IsKnown, IsKnownEntry, IsTape};
+ghost use Rattle.revc_base.specs.declared.limits.TheConstants.{MOST_CLAIMS, MOST_OUTPUTS, MOST_WRITES};
 
 use crate::{Memory, Place};
 use std::alloc::Global;
@@ -56,17 +57,31 @@ impl Model for Tape {
 
     ghost Value = { TapeView };
 
-    ghost view = { λ t. record { params = t.params.items; entries = t.entries.items; claims = t.claims.items; outputs = t.outputs.items } };
+    ghost view = { λ t. record {
+      params = t.params.items;
+      entries = t.entries.items;
+      claims = t.claims.items;
+      outputs = t.outputs.items;
+    } };
 
-    ghost invariant = { λ t. IsTape (record { params = t.params.items; entries = t.entries.items; claims = t.claims.items; outputs = t.outputs.items })
-        × (t.inputs ≡ sum t.params.items) };
+    ghost invariant = { λ t. IsTape (record {
+      params = t.params.items;
+      entries = t.entries.items;
+      claims = t.claims.items;
+      outputs = t.outputs.items;
+    }) × (t.inputs ≡ sum t.params.items) };
 }
 
 impl Tape {
     /// The tape of a program with parameters of these widths, without writes, claims and outputs. It takes no memory.
     pub fn new(alloc: Global, params: Vec<u32>) -> Tape
         requires { AreWidths params.items }
-        ensures { result ≡ record { params = params.items; entries = []; claims = []; outputs = [] } }
+        ensures { result ≡ record {
+          params = params.items;
+          entries = [];
+          claims = [];
+          outputs = [];
+        } }
     {
         let inputs = params.iter().sum();
         Tape {
@@ -81,9 +96,10 @@ impl Tape {
     /// Appends a write, and answers it.
     pub fn push(&mut self, entry: Entry) -> Result<Ref, Memory>
         requires known { IsKnownEntry (sum self.old.params) (length self.old.entries) entry }
-        requires room { length self.old.entries < 262144 }
+        requires room { length self.old.entries < MOST_WRITES }
         ensures ok { IfOk result (λ made. made ≡ Ref.Write (length self.old.entries)) }
-        ensures pushed { OnOk result (self.new ≡ record self.old { entries = self.old.entries ++ entry ∷ [] }) }
+        ensures pushed { OnOk result
+            (self.new ≡ record self.old { entries = self.old.entries ++ entry ∷ [] }) }
         ensures err { OnErr result (self.new ≡ self.old) }
     {
         let made = Ref::Write(self.entries.len() as u32);
@@ -94,8 +110,9 @@ impl Tape {
     /// Appends a claim.
     pub fn claim(&mut self, claim: Claim) -> Result<(), Memory>
         requires known { IsKnown (sum self.old.params) (length self.old.entries) claim.of }
-        requires room { length self.old.claims < 4096 }
-        ensures ok { OnOk result (self.new ≡ record self.old { claims = self.old.claims ++ claim ∷ [] }) }
+        requires room { length self.old.claims < MOST_CLAIMS }
+        ensures ok { OnOk result
+            (self.new ≡ record self.old { claims = self.old.claims ++ claim ∷ [] }) }
         ensures err { OnErr result (self.new ≡ self.old) }
     {
         self.claims.push(claim)?;
@@ -104,9 +121,10 @@ impl Tape {
 
     /// Sets the outputs, which are 1 to 1,024. It takes no memory.
     pub fn set_outputs(&mut self, outputs: Vec<Ref>)
-        requires known { AllByRecursion (IsKnown (sum self.old.params) (length self.old.entries)) outputs.items }
+        requires known { AllByRecursion
+            (IsKnown (sum self.old.params) (length self.old.entries)) outputs.items }
         requires some { 1 ≤ length outputs.items }
-        requires few { length outputs.items ≤ 1024 }
+        requires few { length outputs.items ≤ MOST_OUTPUTS }
         ensures { self.new ≡ record self.old { outputs = outputs.items } }
     {
         self.outputs = outputs;

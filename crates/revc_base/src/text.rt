@@ -1,7 +1,9 @@
 // A short text, such as a name of a program or of a circuit's line.
 ghost use Rattle.std.specs.Prelude.{◌≡◌, ◌≤◌, length, IfOk};
+ghost use Rattle.revc_base.specs.declared.limits.TheConstants.{MOST_NAME_BYTES};
 
 use crate::Memory;
+use crate::limits::MOST_NAME_BYTES;
 use std::alloc::Global;
 use std::hash::{Hash, Hasher};
 use std::marker::Model;
@@ -14,22 +16,24 @@ pub struct Text {
 
 impl Model for Text {
     ghost use Rattle.std.specs.Prelude.{ℕ, List, length, ◌≤◌};
+    ghost use Rattle.revc_base.specs.declared.limits.TheConstants.{MOST_NAME_BYTES};
 
     ghost Value = { List ℕ };
 
     ghost view = { λ t. t.bytes.items };
 
-    ghost invariant = { λ t. (1 ≤ length t.bytes.items) × (length t.bytes.items ≤ 64) };
+    ghost invariant = { λ t.
+        (1 ≤ length t.bytes.items) × (length t.bytes.items ≤ MOST_NAME_BYTES) };
 }
 
 impl Text {
     /// The most bytes that a text has.
-    pub const MOST: usize = 64;
+    pub const MOST: usize = MOST_NAME_BYTES;
 
     /// The text of these bytes.
     pub fn new(alloc: Global, bytes: &[u8]) -> Result<Text, Memory>
         requires some { 1 ≤ length bytes.now }
-        requires few { length bytes.now ≤ 64 }
+        requires few { length bytes.now ≤ MOST_NAME_BYTES }
         ensures { IfOk result (λ text. text ≡ bytes.now) }
     {
         Ok(Text {
@@ -41,7 +45,7 @@ impl Text {
     pub fn bytes(&self) -> &[u8]
         ensures bytes { result.now ≡ self.now }
         ensures some { 1 ≤ length self.now }
-        ensures few { length self.now ≤ 64 }
+        ensures few { length self.now ≤ MOST_NAME_BYTES }
     {
         &self.bytes
     }

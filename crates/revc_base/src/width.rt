@@ -1,7 +1,8 @@
 // How many writes of a tape are needed at one time.
-ghost use Rattle.std.specs.Prelude.{◌≡◌, ◌+◌, length, IfOk, false, replicate};
-ghost use Rattle.revc_base.specs.Marks.{marked, with_mark, with_marks, with_operands};
-ghost use Rattle.revc_base.specs.Measures.{IsWidth};
+ghost use Rattle.std.specs.Prelude.{◌≡◌, ◌+◌, length, IfOk};
+ghost use Rattle.list_facts.specs.Bits.{zeros};
+ghost use Rattle.revc_base.specs.inside.Marks.{marked, with_mark, with_marks, with_operands};
+ghost use Rattle.revc_base.specs.Measures.{HasWidth};
 
 use crate::{Entry, Memory, Ref, Tape};
 
@@ -41,7 +42,8 @@ fn count_marks(marks: &[bool]) -> u64
 impl Tape {
     // A mark for each write, set at the outputs.
     fn output_marks(&self) -> Result<Vec<bool>, Memory>
-        ensures { IfOk result (λ marks. marks.items ≡ with_marks (replicate (length self.now.entries) false) self.now.outputs) }
+        ensures { IfOk result (λ marks.
+            marks.items ≡ with_marks (zeros (length self.now.entries)) self.now.outputs) }
     {
         let mut marks = vec![in *self.allocator(); false; self.entries().len()]?;
         for output in self.outputs() {
@@ -53,7 +55,7 @@ impl Tape {
     /// The width of the tape: the greatest number, over j from 0 to the number of writes, of writes below j that are an
     /// output or an operand of a write at or above j.
     pub fn width(&self) -> Result<u64, Memory>
-        ensures { IfOk result (λ width. IsWidth self.now width) }
+        ensures { IfOk result (λ width. HasWidth self.now width) }
     {
         // From the last place down: what is marked is needed at the place or later, and stands below it.
         let mut marks = self.output_marks()?;

@@ -1,5 +1,5 @@
 use Rattle.std.proofs.Common.{◌≡◌, ◌+◌, ◌-◌, ◌≤◌, length, drop}
-use Rattle.revc_base.specs.Aligned.{aligned}
+use Rattle.revc_base.specs.inside.Aligned.{aligned}
 use Rattle.exclusive_sums.specs.Steps.{by_input, differences}
 use Rattle.exclusive_sums.proofs.cube.distance.Given as goal
 

@@ -1,4 +1,4 @@
-use Rattle.revc_base.proofs.MemberSteps.{members_are_counted}
+use Rattle.revc_base.proofs.ClaimFunctionLemmas.{members_are_counted}
 use Rattle.revc_base.proofs.law.claim_functions.Goals as goal
 
 pub returns : goal.returns

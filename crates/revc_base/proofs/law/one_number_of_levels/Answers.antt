@@ -1,4 +1,4 @@
-use Rattle.revc_base.proofs.LevelSteps.{levels_are_determined}
+use Rattle.revc_base.proofs.LevelLemmas.{levels_are_determined}
 use Rattle.revc_base.proofs.law.one_number_of_levels.Goals as goal
 
 pub returns : goal.returns

@@ -1,4 +1,4 @@
-use Rattle.revc_base.proofs.OnePolynomial.{polynomials_are_unique}
+use Rattle.revc_base.proofs.PolynomialLemmas.{polynomials_are_unique}
 use Rattle.revc_base.proofs.law.one_polynomial.Goals as goal
 
 pub returns : goal.returns

@@ -1,7 +1,7 @@
 use Rattle.std.proofs.Common.{◌≡◌, sym, subst}
 use Rattle.revc_base.specs.Polynomials.{IsPolynomial}
-use Rattle.revc_base.specs.Sums.{exclusive_sum_of}
-use Rattle.revc_base.proofs.SumSteps.{IsPolynomial-exclusive_sum_of}
+use Rattle.revc_base.specs.inside.Sums.{exclusive_sum_of}
+use Rattle.revc_base.proofs.SumLemmas.{IsPolynomial-exclusive_sum_of}
 use Rattle.exclusive_sums.proofs.PolySteps.{up_to_from_sum}
 use Rattle.exclusive_sums.proofs.poly.Poly.xor.Goals as goal
 

@@ -1,4 +1,4 @@
-use Rattle.revc_base.proofs.TapeKeeps.{tape_claim}
+use Rattle.revc_base.proofs.TapeLemmas.{tape_claim}
 use Rattle.revc_base.proofs.tape.Tape.claim.Goals as goal
 
 pub invariant_of-self-2 : goal.invariant_of-self-2

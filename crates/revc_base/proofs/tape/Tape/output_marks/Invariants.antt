@@ -1,5 +1,5 @@
 use Rattle.std.proofs.Common.{◌≡◌, false, drop, length, replicate}
-use Rattle.revc_base.specs.Marks.{with_marks}
+use Rattle.revc_base.specs.inside.Marks.{with_marks}
 use Rattle.revc_base.proofs.tape.Tape.output_marks.Given as goal
 
 abbrev pub invariant-loop-output : goal.invariant-loop-output

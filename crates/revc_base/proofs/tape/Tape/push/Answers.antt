@@ -1,4 +1,4 @@
-use Rattle.revc_base.proofs.TapeKeeps.{tape_push}
+use Rattle.revc_base.proofs.TapeLemmas.{tape_push}
 use Rattle.revc_base.proofs.tape.Tape.push.Goals as goal
 
 pub invariant_of-self-2 : goal.invariant_of-self-2

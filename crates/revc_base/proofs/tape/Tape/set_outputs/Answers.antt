@@ -1,4 +1,4 @@
-use Rattle.revc_base.proofs.TapeKeeps.{tape_outputs}
+use Rattle.revc_base.proofs.TapeLemmas.{tape_outputs}
 use Rattle.revc_base.proofs.tape.Tape.set_outputs.Goals as goal
 
 pub invariant_of-self : goal.invariant_of-self

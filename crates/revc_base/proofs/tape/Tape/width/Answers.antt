@@ -1,8 +1,8 @@
 use Rattle.std.proofs.Common.{rules, ◌≡◌, ℕ, ◌<◌, ◌+◌, ◌-◌, suc, List, [], Bool, false, ◌∷◌, ◌++◌, length, take, drop, slice_index_or, subst, sym, arith}
 use Rattle.std.proofs.lemmas.Grind.{common_steps}
 use Rattle.revc_base.specs.declared.tape.Entry.TheVariants as entries
-use Rattle.revc_base.specs.Marks.{marked}
-use Rattle.revc_base.proofs.WidthSteps.{IsCounted, counted_begin, counted_again, cut_where, written_back}
+use Rattle.revc_base.specs.inside.Marks.{marked}
+use Rattle.revc_base.proofs.WidthLemmas.{IsCounted, counted_begin, counted_again, counted_end, cut_where, written_back}
 use Rattle.revc_base.proofs.tape.Tape.width.Goals as goal
 
 pub loop-is_needed-init : goal.loop-is_needed-init
@@ -29,3 +29,10 @@ loop-is_needed-preserved c =
     c.loop-is_needed.live c.loop-is_needed.width c.from-live.result c.mark_operands-live.result c.max-width.result
     c.loop-is_needed.invariant cut c.deref_mut.ensures.value c.mark_operands-live.ensures.marks c.mark_operands-live.ensures.added
     next (search rules) c.max-width.ensures)
+
+pub returns : goal.returns
+returns c =
+    let t = c.args.self.now in
+    let none : c.loop-is_needed.marks.items ≡ [] = search rules in
+    counted_end t c.loop-is_needed.live c.loop-is_needed.width
+    (subst (λ (z : List Bool). IsCounted t z c.loop-is_needed.live c.loop-is_needed.width) none c.loop-is_needed.invariant)

@@ -1,5 +1,5 @@
 use Rattle.std.proofs.Common.{vec_len}
-use Rattle.revc_base.proofs.WidthSteps.{IsCounted}
+use Rattle.revc_base.proofs.WidthLemmas.{IsCounted}
 use Rattle.revc_base.proofs.tape.Tape.width.Given as goal
 
 abbrev pub invariant-loop-is_needed : goal.invariant-loop-is_needed

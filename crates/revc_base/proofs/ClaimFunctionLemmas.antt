@@ -1,95 +1,23 @@
 -- The functions on which claims rest are finitely many, and can be told apart.
-use Rattle.std.proofs.Common.{◌≡◌, ℕ, zero, suc, ◌+◌, ◌<◌, ◌≤◌, ◌⊎◌, inl, inr, Bool, true, false, not, List, [], ◌∷◌, ◌++◌, length, map, take, sum, replicate, slice_get, Some, refl, sym, ap, ◌∙◌, subst, arith}
+use Rattle.std.proofs.Common.{◌≡◌, ℕ, zero, suc, ◌+◌, ◌<◌, ◌≤◌, ◌⊎◌, inl, inr, Bool, false, List, [], ◌∷◌, length, map, take, sum, replicate, slice_get, refl}
+use Rattle.std.proofs.Common.{sym, ◌∙◌, subst, arith}
 use Rattle.std.proofs.lemmas.Grind.{common_steps}
 use Rattle.std.proofs.lemmas.Bool.{cases_lt}
+use Rattle.std.proofs.lemmas.List.{length-take-le}
+use Rattle.list_facts.specs.Lists.{IsAmong, AnyByRecursion}
+use Rattle.list_facts.proofs.AllLemmas.{AllByRecursion-weaker, AllByRecursion-take}
+use Rattle.list_facts.proofs.AmongLemmas.{among_map, among_image, gathered, among_gathered, among_source, any_of, some_of, sifted}
+use Rattle.list_facts.proofs.CountingLemmas.{no_more, sorts, AreApart-take}
+use Rattle.list_facts.proofs.SearchLemmas.{same_or_differ, bits_within, within_all, within_few}
 use Rattle.revc_base.specs.declared.tape.Ref.{Ref}
 use Rattle.revc_base.specs.declared.tape.Ref.TheVariants as refs
 use Rattle.revc_base.specs.declared.tape.Entry.{Entry}
 use Rattle.revc_base.specs.declared.tape.Entry.TheVariants as entries
 use Rattle.revc_base.specs.declared.tape.Claim.{Claim}
-use Rattle.revc_base.specs.Tapes.{TapeView, IsTape, IsKnown, IsKnownEntry, AreKnown}
+use Rattle.revc_base.specs.Tapes.{TapeView, IsTape, IsKnown, IsKnownEntry, AreKnown, operands}
 use Rattle.revc_base.specs.ClaimFunctions as sets
-use Rattle.revc_base.specs.ClaimFunctions.{IsAmong, AnyByRecursion, operands, operands_of, RestsOn, IsBase, Restriction, value_on, IsSameFunction, IsConstant, IsMember, AreApart, HasMore, HasAtMost, MembersAreCounted}
-use Rattle.revc_base.proofs.Counting.{among_left, among_right, among_append, among_map, among_image, gathered, among_gathered, among_source, any_of, some_of, sifted, all_front, length_front, no_more, sorts, apart_front}
-use Rattle.revc_base.proofs.TapeKeeps.{All-map}
-
--- ---- bits
-
-SomeOrAll : ℕ → (List Bool → Bool) → Type 0
-SomeOrAll n test = ((v : List Bool) → length v ≡ n → test v ≡ true) ⊎ ((v : List Bool) × (length v ≡ n) × (test v ≡ false))
-
-at_empty : (test : List Bool → Bool) (v : List Bool) → length v ≡ 0 → test [] ≡ true → test v ≡ true
-at_empty test [] size is = is
-at_empty test (b ∷ v) size is = absurd (omega (arith, size))
-
-at_both : (n : ℕ) (test : List Bool → Bool) → ((v : List Bool) → length v ≡ n → test (true ∷ v) ≡ true)
-    → ((v : List Bool) → length v ≡ n → test (false ∷ v) ≡ true) → (v : List Bool) → length v ≡ suc n → test v ≡ true
-at_both n test ones zeros [] size = absurd (omega (arith, size))
-at_both n test ones zeros (true ∷ v) size = ones v (omega (arith, size))
-at_both n test ones zeros (false ∷ v) size = zeros v (omega (arith, size))
-
-empty_known : (test : List Bool → Bool) (b : Bool) → test [] ≡ b → SomeOrAll 0 test
-unfolding SomeOrAll
-empty_known test true is = inl (λ v size. at_empty test v size is)
-empty_known test false is = inr ([], refl, is)
-
--- a test holds of all lists of this length, or fails at one
-some_or_all : (n : ℕ) (test : List Bool → Bool) → SomeOrAll n test
-unfolding SomeOrAll
-some_or_all zero test = empty_known test (test []) refl
-some_or_all (suc n) test = elim (some_or_all n (λ v. test (true ∷ v))) as (λ _. SomeOrAll (suc n) test) [
-  | inr found ↦ inr (true ∷ found.0, ap suc found.1, found.2)
-  | inl ones ↦ elim (some_or_all n (λ v. test (false ∷ v))) as (λ _. SomeOrAll (suc n) test) [
-    | inr found ↦ inr (false ∷ found.0, ap suc found.1, found.2)
-    | inl zeros ↦ inl (λ v size. at_both n test ones zeros v size)
-  ]
-]
-
-agree : Bool → Bool → Bool
-agree true b = b
-agree false b = not b
-
-agree_true : (a b : Bool) → agree a b ≡ true → a ≡ b
-unfolding agree
-agree_true true true e = refl
-agree_true true false e = sym e
-agree_true false true e = e
-agree_true false false e = refl
-
-agree_false : (a b : Bool) → agree a b ≡ false → ¬ (a ≡ b)
-unfolding agree
-agree_false true true e = λ same. cc
-agree_false true false e = λ same. cc
-agree_false false true e = λ same. cc
-agree_false false false e = λ same. cc
-
--- the lists of at most n bits
-bits_within : ℕ → List (List Bool)
-bits_within zero = [] ∷ []
-bits_within (suc n) = [] ∷ (map (λ v. true ∷ v) (bits_within n) ++ map (λ v. false ∷ v) (bits_within n))
-
-within_all : (n : ℕ) (v : List Bool) → length v ≤ n → IsAmong v (bits_within n)
-unfolding bits_within
-within_all zero [] few = inl refl
-within_all zero (b ∷ v) few = absurd (omega (arith, few))
-within_all (suc n) [] few = inl refl
-within_all (suc n) (true ∷ v) few =
-    inr (among_left (true ∷ v) (map (λ w. true ∷ w) (bits_within n)) (map (λ w. false ∷ w) (bits_within n))
-    (among_map (λ w. true ∷ w) v (bits_within n) (within_all n v (omega (arith, few)))))
-within_all (suc n) (false ∷ v) few =
-    inr (among_right (false ∷ v) (map (λ w. true ∷ w) (bits_within n)) (map (λ w. false ∷ w) (bits_within n))
-    (among_map (λ w. false ∷ w) v (bits_within n) (within_all n v (omega (arith, few)))))
-
-within_few : (n : ℕ) (v : List Bool) → IsAmong v (bits_within n) → length v ≤ n
-unfolding bits_within
-within_few zero v k = elim k as (λ _. length v ≤ 0) [ inl e ↦ omega (arith, ap length e) | inr none ↦ absurd none ]
-within_few (suc n) v k = elim k as (λ _. length v ≤ suc n) [
-  | inl e ↦ omega (arith, ap length e)
-  | inr later ↦ elim (among_append v (map (λ w. true ∷ w) (bits_within n)) (map (λ w. false ∷ w) (bits_within n)) later) as (λ _. length v ≤ suc n) [
-    | inl a ↦ let found = among_image (λ w. true ∷ w) v (bits_within n) a in omega (arith, within_few n found.0 found.1, ap length found.2)
-    | inr b ↦ let found = among_image (λ w. false ∷ w) v (bits_within n) b in omega (arith, within_few n found.0 found.1, ap length found.2)
-  ]
-]
+use Rattle.revc_base.specs.ClaimFunctions.{operands_at, operands_of, RestsOn, IsBase, Restriction, value_on, IsSameFunction, IsConstant, IsMember, HasMore}
+use Rattle.revc_base.specs.ClaimFunctions.{HasAtMost, MembersAreCounted}
 
 -- ---- what a reference rests on
 
@@ -129,12 +57,12 @@ two_lower n k a b ref first second k2 = elim k2 as (λ _. rank ref < suc k) [
   ]
 ]
 
-entry_lower : (n k : ℕ) (e : Entry) (ref : Ref) → IsKnownEntry n k e → IsAmong ref (operands (Some e)) → rank ref < suc k
+entry_lower : (n k : ℕ) (e : Entry) (ref : Ref) → IsKnownEntry n k e → IsAmong ref (operands e) → rank ref < suc k
 entry_lower n k (entries.Const bit) ref known among = absurd among
 entry_lower n k (entries.Xor a b) ref known among = two_lower n k a b ref known.0 known.1 among
 entry_lower n k (entries.And a b) ref known among = two_lower n k a b ref known.0 known.1 among
 
-operands_lower : (n k : ℕ) (es : List Entry) (j : ℕ) (ref : Ref) → AreKnown n k es → IsAmong ref (operands (slice_get es j)) → rank ref < suc (k + j)
+operands_lower : (n k : ℕ) (es : List Entry) (j : ℕ) (ref : Ref) → AreKnown n k es → IsAmong ref (operands_at (slice_get es j)) → rank ref < suc (k + j)
 operands_lower n k [] j ref known among = absurd among
 operands_lower n k (e ∷ es) zero ref known among = omega (arith, entry_lower n k e ref known.0 among)
 operands_lower n k (e ∷ es) (suc j) ref known among = omega (arith, operands_lower n (k + 1) es j ref known.1 among)
@@ -156,21 +84,18 @@ rests_all t is (suc depth) _ _ (sets.through ref operand base among below) deep 
 -- ---- the functions
 
 same_or_not : (t : TapeView) (r s : Restriction) → IsSameFunction t r s ⊎ (¬ IsSameFunction t r s)
-unfolding SomeOrAll
-same_or_not t r s = elim (some_or_all (sum t.params) (λ v. agree (value_on t r v) (value_on t s v))) as (λ _. IsSameFunction t r s ⊎ (¬ IsSameFunction t r s)) [
-  | inl all ↦ inl (λ v size. agree_true (value_on t r v) (value_on t s v) (all v size))
-  | inr found ↦ inr (λ same. agree_false (value_on t r found.0) (value_on t s found.0) found.2 (same found.0 found.1))
+same_or_not t r s = elim (same_or_differ (sum t.params) (value_on t r) (value_on t s)) as (λ _. IsSameFunction t r s ⊎ (¬ IsSameFunction t r s)) [
+  | inl all ↦ inl (λ v size. all v size)
+  | inr found ↦ inr (λ same. found.2 (same found.0 found.1))
 ]
 
 constant_or_not : (t : TapeView) (r : Restriction) → IsConstant t r ⊎ (¬ IsConstant t r)
-unfolding SomeOrAll
 constant_or_not t r =
     let v0 : List Bool = replicate (sum t.params) false in
     let size0 : length v0 ≡ sum t.params = grind (arith, common_steps) in
-    elim (some_or_all (sum t.params) (λ v. agree (value_on t r v) (value_on t r v0))) as (λ _. IsConstant t r ⊎ (¬ IsConstant t r)) [
-      | inl all ↦ inl (λ one other size size2. agree_true (value_on t r one) (value_on t r v0) (all one size)
-          ∙ sym (agree_true (value_on t r other) (value_on t r v0) (all other size2)))
-      | inr found ↦ inr (λ constant. agree_false (value_on t r found.0) (value_on t r v0) found.2 (constant found.0 v0 found.1 size0))
+    elim (same_or_differ (sum t.params) (value_on t r) (λ v. value_on t r v0)) as (λ _. IsConstant t r ⊎ (¬ IsConstant t r)) [
+      | inl all ↦ inl (λ one other size size2. all one size ∙ sym (all other size2))
+      | inr found ↦ inr (λ constant. found.2 (constant found.0 v0 found.1 size0))
     ]
 
 abbrev made : Ref → List Bool → Restriction
@@ -203,7 +128,8 @@ member_or_not t claims r k =
     let at = among_source (λ of. map (made of) (bits_within (sum t.params))) r (bases t claims) k in
     let of_it = among_image (made at.0) r (bits_within (sum t.params)) at.2 in
     let base : IsBase t claims r.of = subst (λ (z : Restriction). IsBase t claims z.of) (sym of_it.2) (listed_base t claims at.0 at.1) in
-    let few : length r.fixed ≤ sum t.params = subst (λ (z : Restriction). length z.fixed ≤ sum t.params) (sym of_it.2) (within_few (sum t.params) of_it.0 of_it.1) in
+    let few : length r.fixed ≤ sum t.params = subst (λ (z : Restriction). length z.fixed ≤ sum t.params) (sym of_it.2)
+    (within_few (sum t.params) of_it.0 of_it.1) in
     elim (constant_or_not t r) as (λ _. IsMember t claims r ⊎ (¬ IsMember t claims r)) [
       | inl constant ↦ inr (λ member. member.varies constant)
       | inr varies ↦ inl (record { base = base; few = few; varies = varies })
@@ -222,9 +148,9 @@ more_or_most t is claims limit =
     elim (cases_lt limit (length each.kept)) as (λ _. HasMore t claims limit ⊎ HasAtMost t claims limit) [
       | inl more ↦ inl (record {
         members = take (limit + 1) each.kept;
-        are = all_front (IsMember t claims) (limit + 1) each.kept each.are;
-        apart = apart_front (IsSameFunction t) (turned t) (joined t) (limit + 1) each.kept each.apart;
-        many = length_front (limit + 1) each.kept (omega (arith, more));
+        are = AllByRecursion-take (IsMember t claims) (limit + 1) each.kept each.are;
+        apart = AreApart-take (IsSameFunction t) (turned t) (joined t) (limit + 1) each.kept each.apart;
+        many = length-take-le (limit + 1) each.kept (omega (arith, more));
       })
       | inr few ↦ inr (record {
         listed = each.kept;
@@ -235,7 +161,7 @@ more_or_most t is claims limit =
 
 not_both : (t : TapeView) (claims limit : ℕ) → HasMore t claims limit → ¬ HasAtMost t claims limit
 not_both t claims limit more most =
-    let alike = All-map (IsMember t claims) (λ r. AnyByRecursion (IsSameFunction t r) most.listed) most.all more.members more.are in
+    let alike = AllByRecursion-weaker (IsMember t claims) (λ r. AnyByRecursion (IsSameFunction t r) most.listed) most.all more.members more.are in
     let fewer = no_more (IsSameFunction t) (turned t) (joined t) more.members most.listed more.apart alike in
     omega (arith, fewer, more.many, most.few)
 

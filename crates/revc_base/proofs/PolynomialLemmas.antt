@@ -7,14 +7,15 @@ use Rattle.std.specs.Cmp.Lexicographic.{slice_cmp}
 use Rattle.std.specs.declared.cmp.Ordering.TheVariants.{Less, Equal}
 use Rattle.std.proofs.lemmas.Bool.{cases_Bool, cases_lt, eqb-true, eqb-false, eq-eqb, ne_eqb, and_parts, true≢false, false_from_ne_true, or_left, or_right}
 use Rattle.std.proofs.lemmas.Cmp.{nat_list_cmp_total, tied_itself}
-use Rattle.revc_base.specs.Aligned.{Pair, left, right, both, aligned, alone}
-use Rattle.revc_base.specs.ClaimFunctions.{IsAmong}
-use Rattle.revc_base.specs.Polynomials.{value_of_polynomial, IsRising, IsInOrder, IsPolynomial, PolynomialsAreUnique}
-use Rattle.revc_base.specs.Sums.{exclusive_sum_of}
-use Rattle.revc_base.proofs.Alignment.{lefts, rights, lefts-aligned, rights-aligned, IsTied, tied-aligned}
-use Rattle.revc_base.proofs.ExclusiveOr.{xor_none, xor_nothing, xor_same}
-use Rattle.revc_base.proofs.SumSteps.{same_from_equal, value-exclusive_sum_of, IsPolynomial-exclusive_sum_of}
-use Rattle.revc_base.proofs.TapeKeeps.{All-map}
+use Rattle.revc_base.specs.inside.Aligned.{Pair, left, right, both, aligned, alone}
+use Rattle.list_facts.specs.Lists.{IsAmong}
+use Rattle.list_facts.specs.Lists.{IsRising}
+use Rattle.revc_base.specs.Polynomials.{value_of_polynomial, IsInOrder, IsPolynomial, PolynomialsAreUnique}
+use Rattle.revc_base.specs.inside.Sums.{exclusive_sum_of}
+use Rattle.revc_base.proofs.AlignmentLemmas.{lefts, rights, lefts-aligned, rights-aligned, IsTied, tied-aligned}
+use Rattle.list_facts.proofs.BitLemmas.{xor_none, xor_nothing, xor_same}
+use Rattle.revc_base.proofs.SumLemmas.{same_from_equal, value-exclusive_sum_of, IsPolynomial-exclusive_sum_of}
+use Rattle.list_facts.proofs.AllLemmas.{AllByRecursion-weaker}
 
 -- ---- the input that has ones at a list
 
@@ -44,17 +45,17 @@ fits_length [] (y ∷ ys) a b h = absurd (true≢false (sym h))
 fits_length (x ∷ xs) [] a b h = omega arith
 fits_length (x ∷ xs) (y ∷ ys) a b h =
     elim (cases_lt x y) [
-      | inl l ↦ let up : AllByRecursion (λ z. x < z) (y ∷ ys) = (l, All-map (λ z. y < z) (λ z. x < z) (λ z k. omega arith) ys b.0) in
+      | inl l ↦ let up : AllByRecursion (λ z. x < z) (y ∷ ys) = (l, AllByRecursion-weaker (λ z. y < z) (λ z. x < z) (λ z k. omega arith) ys b.0) in
           omega (arith, fits_length xs (y ∷ ys) a.1 b (sym (fits_above x (y ∷ ys) xs up) ∙ h))
       | inr g ↦ elim (cases_Bool (eqb x y)) [
         | inl e ↦
             let same : x ≡ y = eqb-true x y e in
-            let up : AllByRecursion (λ z. x < z) ys = All-map (λ z. y < z) (λ z. x < z) (λ z k. omega arith) ys b.0 in
+            let up : AllByRecursion (λ z. x < z) ys = AllByRecursion-weaker (λ z. y < z) (λ z. x < z) (λ z k. omega arith) ys b.0 in
             let rest = (and_parts (ones (x ∷ xs) y) (fits ys (x ∷ xs)) h).1 in
             omega (arith, fits_length xs ys a.1 b.1 (sym (fits_above x ys xs up) ∙ rest))
         | inr n ↦
             let below : y < x = let ne : x ≢ y = eqb-false x y n in omega arith in
-            let none : ones (x ∷ xs) y ≡ false = not_among y (x ∷ xs) (below, All-map (λ z. x < z) (λ z. y < z) (λ z k. omega arith) xs a.0) in
+            let none : ones (x ∷ xs) y ≡ false = not_among y (x ∷ xs) (below, AllByRecursion-weaker (λ z. x < z) (λ z. y < z) (λ z k. omega arith) xs a.0) in
             absurd (true≢false (sym (and_parts (ones (x ∷ xs) y) (fits ys (x ∷ xs)) h).0 ∙ none))
       ]
     ]
@@ -66,18 +67,18 @@ fits_same [] (y ∷ ys) a b h l = absurd (true≢false (sym h))
 fits_same (x ∷ xs) [] a b h l = absurd (omega arith)
 fits_same (x ∷ xs) (y ∷ ys) a b h l =
     elim (cases_lt x y) [
-      | inl k ↦ let up : AllByRecursion (λ z. x < z) (y ∷ ys) = (k, All-map (λ z. y < z) (λ z. x < z) (λ z j. omega arith) ys b.0) in
+      | inl k ↦ let up : AllByRecursion (λ z. x < z) (y ∷ ys) = (k, AllByRecursion-weaker (λ z. y < z) (λ z. x < z) (λ z j. omega arith) ys b.0) in
           absurd (omega (arith, fits_length xs (y ∷ ys) a.1 b (sym (fits_above x (y ∷ ys) xs up) ∙ h)))
       | inr g ↦ elim (cases_Bool (eqb x y)) [
         | inl e ↦
             let same : x ≡ y = eqb-true x y e in
-            let up : AllByRecursion (λ z. x < z) ys = All-map (λ z. y < z) (λ z. x < z) (λ z k. omega arith) ys b.0 in
+            let up : AllByRecursion (λ z. x < z) ys = AllByRecursion-weaker (λ z. y < z) (λ z. x < z) (λ z k. omega arith) ys b.0 in
             let rest = (and_parts (ones (x ∷ xs) y) (fits ys (x ∷ xs)) h).1 in
             let tails : ys ≡ xs = fits_same xs ys a.1 b.1 (sym (fits_above x ys xs up) ∙ rest) (omega arith) in
             rw (same, tails) refl
         | inr n ↦
             let below : y < x = let ne : x ≢ y = eqb-false x y n in omega arith in
-            let none : ones (x ∷ xs) y ≡ false = not_among y (x ∷ xs) (below, All-map (λ z. x < z) (λ z. y < z) (λ z k. omega arith) xs a.0) in
+            let none : ones (x ∷ xs) y ≡ false = not_among y (x ∷ xs) (below, AllByRecursion-weaker (λ z. x < z) (λ z. y < z) (λ z k. omega arith) xs a.0) in
             absurd (true≢false (sym (and_parts (ones (x ∷ xs) y) (fits ys (x ∷ xs)) h).0 ∙ none))
       ]
     ]
@@ -87,7 +88,7 @@ fits_ones m [] h = refl
 fits_ones m (i ∷ is) h = rw (h.0, fits_ones m is h.1) refl
 
 fits_more : (x : ℕ) (m n : List ℕ) → AllByRecursion (λ i. ones m i ≡ true) n → AllByRecursion (λ i. ones (x ∷ m) i ≡ true) n
-fits_more x m n h = All-map (λ i. ones m i ≡ true) (λ i. ones (x ∷ m) i ≡ true) (λ i e. or_right (eqb x i) (ones m i) e) n h
+fits_more x m n h = AllByRecursion-weaker (λ i. ones m i ≡ true) (λ i. ones (x ∷ m) i ≡ true) (λ i e. or_right (eqb x i) (ones m i) e) n h
 
 all_ones : (m : List ℕ) → AllByRecursion (λ i. ones m i ≡ true) m
 all_ones [] = tt
@@ -105,12 +106,21 @@ shortest m [] = record { monomial = m; among = inl refl; shortest = (omega arith
 shortest m (n ∷ ns) =
     let rest = shortest n ns in
     elim (cases_lt (length m) (length rest.monomial)) [
-      | inl l ↦ record { monomial = m; among = inl refl; shortest = (omega arith, All-map (λ k. length rest.monomial ≤ length k) (λ k. length m ≤ length k) (λ k j. omega arith) (n ∷ ns) rest.shortest) }
+      | inl l ↦ record {
+        monomial = m;
+        among = inl refl;
+        shortest = (
+          omega arith,
+          AllByRecursion-weaker (λ k. length rest.monomial ≤ length k)
+              (λ k. length m ≤ length k) (λ k j. omega arith) (n ∷ ns) rest.shortest,
+        );
+      }
       | inr g ↦ record { monomial = rest.monomial; among = inr rest.among; shortest = (g, rest.shortest) }
     ]
 
 -- the other monomials are 0 at the ones of a shortest one
-none_fits : (m : List ℕ) (p : List (List ℕ)) → IsRising m → AllByRecursion IsRising p → AllByRecursion (λ n. length m ≤ length n) p → AllByRecursion (λ n. n ≢ m) p
+none_fits : (m : List ℕ) (p : List (List ℕ)) → IsRising m → AllByRecursion IsRising p → AllByRecursion (λ n. length m ≤ length n) p
+    → AllByRecursion (λ n. n ≢ m) p
     → value_of_polynomial (ones m) p ≡ false
 none_fits m [] a r l d = refl
 none_fits m (n ∷ ns) a r l d =
@@ -119,7 +129,7 @@ none_fits m (n ∷ ns) a r l d =
 
 different_from : (m : List ℕ) (p : List (List ℕ)) → AllByRecursion (λ n. slice_cmp nat_cmp m n ≡ Less) p → AllByRecursion (λ n. n ≢ m) p
 different_from m p h =
-    All-map (λ n. slice_cmp nat_cmp m n ≡ Less) (λ n. n ≢ m) (λ n l e.
+    AllByRecursion-weaker (λ n. slice_cmp nat_cmp m n ≡ Less) (λ n. n ≢ m) (λ n l e.
     let same : slice_cmp nat_cmp m m ≡ Equal = tied_itself nat_list_cmp_total m in
     let less : slice_cmp nat_cmp m m ≡ Less = subst (λ k. slice_cmp nat_cmp m k ≡ Less) e l in cc) p h
 
@@ -135,12 +145,14 @@ apart_from m n (k ∷ ks) e o (inl i) =
     let less : slice_cmp nat_cmp n n ≡ Less = subst (λ j. slice_cmp nat_cmp n j ≡ Less) (sym (e ∙ i)) o.0 in cc
 apart_from m n (k ∷ ks) e o (inr i) = apart_from m n ks e o.1 i
 
-one_at : (m : List ℕ) (p : List (List ℕ)) → IsRising m → AllByRecursion IsRising p → IsInOrder (slice_cmp nat_cmp) p → AllByRecursion (λ n. length m ≤ length n) p → IsAmong m p
+one_at : (m : List ℕ) (p : List (List ℕ)) → IsRising m → AllByRecursion IsRising p → IsInOrder (slice_cmp nat_cmp) p
+    → AllByRecursion (λ n. length m ≤ length n) p → IsAmong m p
     → value_of_polynomial (ones m) p ≡ true
 one_at m [] a r o l k = elim k [ ]
 one_at m (n ∷ ns) a r o l (inl e) =
     let here : fits n m ≡ true = subst (λ k. fits k m ≡ true) e (fits_ones m m (all_ones m)) in
-    let rest : value_of_polynomial (ones m) ns ≡ false = none_fits m ns a r.1 l.1 (different_from m ns (subst (λ (k : List ℕ). AllByRecursion (λ n. slice_cmp nat_cmp k n ≡ Less) ns) (sym e) o.0)) in
+    let rest : value_of_polynomial (ones m) ns ≡ false = none_fits m ns a r.1 l.1
+    (different_from m ns (subst (λ (k : List ℕ). AllByRecursion (λ n. slice_cmp nat_cmp k n ≡ Less) ns) (sym e) o.0)) in
     rw (here, rest) (xor_nothing true)
 one_at m (n ∷ ns) a r o l (inr k) =
     let here : fits n m ≡ false = false_from_ne_true (fits n m) (λ e. apart_from m n ns (fits_same m n a r.0 e l.0) o.0 k) in
@@ -168,4 +180,5 @@ pub polynomials_are_unique : PolynomialsAreUnique
 polynomials_are_unique p q a b v =
     let none = empty_from_values (exclusive_sum_of p q) (IsPolynomial-exclusive_sum_of p q a b)
     (λ x. value-exclusive_sum_of x p q ∙ rw (v x) (xor_same (value_of_polynomial x q))) in
-    sym (lefts-aligned (slice_cmp nat_cmp) p q) ∙ same_if_none_alone (aligned (slice_cmp nat_cmp) p q) (tied-aligned (slice_cmp nat_cmp) p q) none ∙ rights-aligned (slice_cmp nat_cmp) p q
+    sym (lefts-aligned (slice_cmp nat_cmp) p q) ∙ same_if_none_alone (aligned (slice_cmp nat_cmp) p q) (tied-aligned (slice_cmp nat_cmp) p q) none
+    ∙ rights-aligned (slice_cmp nat_cmp) p q

@@ -14,10 +14,14 @@ by_order Less x y z = x
 by_order Equal x y z = y
 by_order Greater x y z = z
 
-abbrev pub aligned_behind : {A : Type 0} → (A → A → Ordering) → A → (List A → List (Pair A)) → List A → List (Pair A)
+abbrev pub aligned_behind : {A : Type 0} → (A → A → Ordering) → A → (List A → List (Pair A))
+    → List A → List (Pair A)
 aligned_behind cmp x rest [] = left x ∷ rest []
 aligned_behind cmp x rest (y ∷ ys) =
-    by_order (cmp x y) (left x ∷ rest (y ∷ ys)) (both x y ∷ rest ys) (right y ∷ aligned_behind cmp x rest ys)
+    by_order (cmp x y)
+    (left x ∷ rest (y ∷ ys))
+    (both x y ∷ rest ys)
+    (right y ∷ aligned_behind cmp x rest ys)
 
 -- each step takes the lesser of the two first elements, or both where they tie
 abbrev pub aligned : {A : Type 0} → (A → A → Ordering) → List A → List A → List (Pair A)

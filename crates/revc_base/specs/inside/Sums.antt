@@ -2,7 +2,7 @@
 use Rattle.std.specs.Prelude.{ℕ, List, map}
 use Rattle.std.specs.Ordering.{nat_cmp}
 use Rattle.std.specs.Cmp.Lexicographic.{slice_cmp}
-use Rattle.revc_base.specs.Aligned.{aligned, key_of, alone}
+use Rattle.revc_base.specs.inside.Aligned.{aligned, key_of, alone}
 
 -- the product of two monomials: the inputs of one or the other
 abbrev pub union_of : List ℕ → List ℕ → List ℕ

@@ -2,12 +2,13 @@
 use Rattle.std.proofs.Common.{◌≡◌, ℕ, Bool, ◌&&◌, List, [], ◌∷◌, map, refl, sym, ◌∙◌, subst}
 use Rattle.std.specs.List.{AllByRecursion}
 use Rattle.std.specs.Ordering.{nat_cmp}
-use Rattle.revc_base.specs.Aligned.{Pair, left, right, both, aligned, key_of}
-use Rattle.revc_base.specs.Polynomials.{value_of_monomial, value_of_polynomial, IsRising, IsPolynomial}
-use Rattle.revc_base.specs.Sums.{union_of, exclusive_sum_of}
-use Rattle.revc_base.proofs.Alignment.{lefts, rights, lefts-aligned, rights-aligned}
-use Rattle.revc_base.proofs.ExclusiveOr.{xor_nothing, and_nothing, xor-and_left, xor-and_right}
-use Rattle.revc_base.proofs.SumSteps.{value-exclusive_sum_of, All-exclusive_sum_of, IsPolynomial-exclusive_sum_of, value-union_of, IsRising-union_of}
+use Rattle.revc_base.specs.inside.Aligned.{Pair, left, right, both, aligned, key_of}
+use Rattle.list_facts.specs.Lists.{IsRising}
+use Rattle.revc_base.specs.Polynomials.{value_of_monomial, value_of_polynomial, IsPolynomial}
+use Rattle.revc_base.specs.inside.Sums.{union_of, exclusive_sum_of}
+use Rattle.revc_base.proofs.AlignmentLemmas.{lefts, rights, lefts-aligned, rights-aligned}
+use Rattle.list_facts.proofs.BitLemmas.{xor_nothing, and_nothing, xor-and_left, xor-and_right}
+use Rattle.revc_base.proofs.SumLemmas.{value-exclusive_sum_of, All-exclusive_sum_of, IsPolynomial-exclusive_sum_of, value-union_of, IsRising-union_of}
 
 -- ---- monomials in any order
 
@@ -25,7 +26,8 @@ IsPolynomial-none = record { rising = tt; in_order = tt }
 
 pub IsPolynomial-ordered : (p : List (List ℕ)) → AllByRecursion IsRising p → IsPolynomial (ordered p)
 IsPolynomial-ordered [] h = IsPolynomial-none
-IsPolynomial-ordered (m ∷ ms) h = IsPolynomial-exclusive_sum_of (m ∷ []) (ordered ms) (record { rising = (h.0, tt); in_order = (tt, tt) }) (IsPolynomial-ordered ms h.1)
+IsPolynomial-ordered (m ∷ ms) h = IsPolynomial-exclusive_sum_of (m ∷ []) (ordered ms) (record { rising = (h.0, tt); in_order = (tt, tt) })
+    (IsPolynomial-ordered ms h.1)
 
 pub value-ordered : (x : ℕ → Bool) (p : List (List ℕ)) → value_of_polynomial x (ordered p) ≡ value_of_polynomial x p
 value-ordered x [] = refl
@@ -50,13 +52,15 @@ multiples m p = map (union_of m) p
 
 value-multiples : (x : ℕ → Bool) (m : List ℕ) (p : List (List ℕ)) → value_of_polynomial x (multiples m p) ≡ (value_of_monomial x m && value_of_polynomial x p)
 value-multiples x m [] = sym (and_nothing (value_of_monomial x m))
-value-multiples x m (n ∷ ns) = rw (value-union_of x m n, value-multiples x m ns) (xor-and_right (value_of_monomial x n) (value_of_polynomial x ns) (value_of_monomial x m))
+value-multiples x m (n ∷ ns) = rw (value-union_of x m n, value-multiples x m ns)
+    (xor-and_right (value_of_monomial x n) (value_of_polynomial x ns) (value_of_monomial x m))
 
 rising-multiples : (m : List ℕ) (p : List (List ℕ)) → IsRising m → AllByRecursion IsRising p → AllByRecursion IsRising (multiples m p)
 rising-multiples m [] a b = tt
 rising-multiples m (n ∷ ns) a b = (IsRising-union_of m n a b.0, rising-multiples m ns a b.1)
 
-All-multiples : (P : ℕ → Type 0) (m : List ℕ) (p : List (List ℕ)) → AllByRecursion P m → AllByRecursion (AllByRecursion P) p → AllByRecursion (AllByRecursion P) (multiples m p)
+All-multiples : (P : ℕ → Type 0) (m : List ℕ) (p : List (List ℕ)) → AllByRecursion P m → AllByRecursion (AllByRecursion P) p
+    → AllByRecursion (AllByRecursion P) (multiples m p)
 All-multiples P m [] a b = tt
 All-multiples P m (n ∷ ns) a b = (All-union_of P m n a b.0, All-multiples P m ns a b.1)
 
@@ -82,7 +86,8 @@ is_polynomial_of_rising (m ∷ ms) q a b =
 pub IsPolynomial-product_of : (p q : List (List ℕ)) → IsPolynomial p → IsPolynomial q → IsPolynomial (product_of p q)
 IsPolynomial-product_of p q a b = is_polynomial_of_rising p q a.rising b.rising
 
-pub All-product_of : (P : ℕ → Type 0) (p q : List (List ℕ)) → AllByRecursion (AllByRecursion P) p → AllByRecursion (AllByRecursion P) q → AllByRecursion (AllByRecursion P) (product_of p q)
+pub All-product_of : (P : ℕ → Type 0) (p q : List (List ℕ)) → AllByRecursion (AllByRecursion P) p → AllByRecursion (AllByRecursion P) q
+    → AllByRecursion (AllByRecursion P) (product_of p q)
 All-product_of P [] q a b = tt
 All-product_of P (m ∷ ms) q a b =
     All-exclusive_sum_of (AllByRecursion P) (ordered (multiples m q)) (product_of ms q)

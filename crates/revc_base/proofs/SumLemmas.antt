@@ -8,12 +8,13 @@ use Rattle.std.specs.declared.cmp.Ordering.{Ordering}
 use Rattle.std.specs.declared.cmp.Ordering.TheVariants.{Less, Equal, Greater}
 use Rattle.std.proofs.lemmas.Bool.{lt-ltb}
 use Rattle.std.proofs.lemmas.Cmp.{ranked, nat_cmp_total, nat_list_cmp_total}
-use Rattle.revc_base.specs.Aligned.{Pair, left, right, both, aligned, key_of, alone}
-use Rattle.revc_base.specs.Polynomials.{value_of_monomial, value_of_polynomial, IsRising, IsInOrder, IsPolynomial}
-use Rattle.revc_base.specs.Sums.{union_of, exclusive_sum_of}
-use Rattle.revc_base.proofs.Alignment.{lefts, rights, lefts-aligned, rights-aligned, IsTied, tied-aligned, by_key, in_order-aligned}
-use Rattle.revc_base.proofs.ExclusiveOr.{xor_none, xor_nothing, xor_left, xor_right, xor_both, and_nothing}
-use Rattle.revc_base.proofs.TapeKeeps.{All-map}
+use Rattle.revc_base.specs.inside.Aligned.{Pair, left, right, both, aligned, key_of, alone}
+use Rattle.list_facts.specs.Lists.{IsRising}
+use Rattle.revc_base.specs.Polynomials.{value_of_monomial, value_of_polynomial, IsInOrder, IsPolynomial}
+use Rattle.revc_base.specs.inside.Sums.{union_of, exclusive_sum_of}
+use Rattle.revc_base.proofs.AlignmentLemmas.{lefts, rights, lefts-aligned, rights-aligned, IsTied, tied-aligned, by_key, in_order-aligned}
+use Rattle.list_facts.proofs.BitLemmas.{xor_none, xor_nothing, xor_left, xor_right, xor_both, and_nothing}
+use Rattle.list_facts.proofs.AllLemmas.{AllByRecursion-weaker}
 
 -- ---- values
 
@@ -46,11 +47,11 @@ eq_from_equal x y e = subst (λ (o : Ordering). MatchOrdering o (x < y) (x ≡ y
 
 pub in_order_from_rising : (xs : List ℕ) → IsRising xs → IsInOrder nat_cmp xs
 in_order_from_rising [] h = tt
-in_order_from_rising (x ∷ xs) h = (All-map (λ y. x < y) (λ y. nat_cmp x y ≡ Less) (less_from_lt x) xs h.0, in_order_from_rising xs h.1)
+in_order_from_rising (x ∷ xs) h = (AllByRecursion-weaker (λ y. x < y) (λ y. nat_cmp x y ≡ Less) (less_from_lt x) xs h.0, in_order_from_rising xs h.1)
 
 pub rising_from_in_order : (xs : List ℕ) → IsInOrder nat_cmp xs → IsRising xs
 rising_from_in_order [] h = tt
-rising_from_in_order (x ∷ xs) h = (All-map (λ y. nat_cmp x y ≡ Less) (λ y. x < y) (lt_from_less x) xs h.0, rising_from_in_order xs h.1)
+rising_from_in_order (x ∷ xs) h = (AllByRecursion-weaker (λ y. nat_cmp x y ≡ Less) (λ y. x < y) (lt_from_less x) xs h.0, rising_from_in_order xs h.1)
 
 then_equal : (o p : Ordering) → ordering_then o p ≡ Equal → (o ≡ Equal) × (p ≡ Equal)
 then_equal Less p h = cc
@@ -72,19 +73,23 @@ same_from_equal (x ∷ xs) (y ∷ ys) h =
 value-alone : (x : ℕ → Bool) (ps : List (Pair (List ℕ))) → AllByRecursion (IsTied (slice_cmp nat_cmp)) ps
     → value_of_polynomial x (alone ps) ≡ xor (value_of_polynomial x (lefts ps)) (value_of_polynomial x (rights ps))
 value-alone x [] t = sym (xor_none false)
-value-alone x (left m ∷ ps) t = rw (value-alone x ps t.1) (xor_left (value_of_monomial x m) (value_of_polynomial x (lefts ps)) (value_of_polynomial x (rights ps)))
-value-alone x (right n ∷ ps) t = rw (value-alone x ps t.1) (xor_right (value_of_monomial x n) (value_of_polynomial x (lefts ps)) (value_of_polynomial x (rights ps)))
+value-alone x (left m ∷ ps) t = rw (value-alone x ps t.1)
+    (xor_left (value_of_monomial x m) (value_of_polynomial x (lefts ps)) (value_of_polynomial x (rights ps)))
+value-alone x (right n ∷ ps) t = rw (value-alone x ps t.1)
+    (xor_right (value_of_monomial x n) (value_of_polynomial x (lefts ps)) (value_of_polynomial x (rights ps)))
 value-alone x (both m n ∷ ps) t =
     let same : m ≡ n = same_from_equal m n t.0 in
     rw (value-alone x ps t.1, same) (xor_both (value_of_monomial x n) (value_of_polynomial x (lefts ps)) (value_of_polynomial x (rights ps)))
 
-pub value-exclusive_sum_of : (x : ℕ → Bool) (p q : List (List ℕ)) → value_of_polynomial x (exclusive_sum_of p q) ≡ xor (value_of_polynomial x p) (value_of_polynomial x q)
+pub value-exclusive_sum_of : (x : ℕ → Bool) (p q : List (List ℕ))
+    → value_of_polynomial x (exclusive_sum_of p q) ≡ xor (value_of_polynomial x p) (value_of_polynomial x q)
 value-exclusive_sum_of x p q =
     let ps = aligned (slice_cmp nat_cmp) p q in
     value-alone x ps (tied-aligned (slice_cmp nat_cmp) p q)
     ∙ rw (lefts-aligned (slice_cmp nat_cmp) p q, rights-aligned (slice_cmp nat_cmp) p q) refl
 
-above-alone : (m : List ℕ) (ps : List (Pair (List ℕ))) → AllByRecursion (λ (p : Pair (List ℕ)). slice_cmp nat_cmp m (key_of p) ≡ Less) ps → AllByRecursion (λ n. slice_cmp nat_cmp m n ≡ Less) (alone ps)
+above-alone : (m : List ℕ) (ps : List (Pair (List ℕ))) → AllByRecursion (λ (p : Pair (List ℕ)). slice_cmp nat_cmp m (key_of p) ≡ Less) ps
+    → AllByRecursion (λ n. slice_cmp nat_cmp m n ≡ Less) (alone ps)
 above-alone m [] h = tt
 above-alone m (left n ∷ ps) h = (h.0, above-alone m ps h.1)
 above-alone m (right n ∷ ps) h = (h.0, above-alone m ps h.1)
@@ -116,7 +121,8 @@ IsPolynomial-exclusive_sum_of p q a b = record {
 
 -- ---- products of two monomials
 
-value-keys : (x : ℕ → Bool) (ps : List (Pair ℕ)) → AllByRecursion (IsTied nat_cmp) ps → list_all x (map key_of ps) ≡ (list_all x (lefts ps) && list_all x (rights ps))
+value-keys : (x : ℕ → Bool) (ps : List (Pair ℕ)) → AllByRecursion (IsTied nat_cmp) ps
+    → list_all x (map key_of ps) ≡ (list_all x (lefts ps) && list_all x (rights ps))
 value-keys x [] t = refl
 value-keys x (left i ∷ ps) t = rw (value-keys x ps t.1) (and_left_in (x i) (list_all x (lefts ps)) (list_all x (rights ps)))
 value-keys x (right j ∷ ps) t = rw (value-keys x ps t.1) (and_right_in (x j) (list_all x (lefts ps)) (list_all x (rights ps)))
@@ -127,7 +133,8 @@ value-keys x (both i j ∷ ps) t =
 pub value-union_of : (x : ℕ → Bool) (m n : List ℕ) → value_of_monomial x (union_of m n) ≡ (value_of_monomial x m && value_of_monomial x n)
 value-union_of x m n = value-keys x (aligned nat_cmp m n) (tied-aligned nat_cmp m n) ∙ rw (lefts-aligned nat_cmp m n, rights-aligned nat_cmp m n) refl
 
-above-keys : (i : ℕ) (ps : List (Pair ℕ)) → AllByRecursion (λ (p : Pair ℕ). nat_cmp i (key_of p) ≡ Less) ps → AllByRecursion (λ j. nat_cmp i j ≡ Less) (map key_of ps)
+above-keys : (i : ℕ) (ps : List (Pair ℕ)) → AllByRecursion (λ (p : Pair ℕ). nat_cmp i (key_of p) ≡ Less) ps
+    → AllByRecursion (λ j. nat_cmp i j ≡ Less) (map key_of ps)
 above-keys i [] h = tt
 above-keys i (p ∷ ps) h = (h.0, above-keys i ps h.1)
 
@@ -137,7 +144,8 @@ in_order-keys (p ∷ ps) h = (above-keys (key_of p) ps h.0, in_order-keys ps h.1
 
 pub IsRising-union_of : (m n : List ℕ) → IsRising m → IsRising n → IsRising (union_of m n)
 IsRising-union_of m n a b =
-    rising_from_in_order (union_of m n) (in_order-keys (aligned nat_cmp m n) (in_order-aligned nat_cmp nat_cmp_total m n (in_order_from_rising m a) (in_order_from_rising n b)))
+    rising_from_in_order (union_of m n)
+    (in_order-keys (aligned nat_cmp m n) (in_order-aligned nat_cmp nat_cmp_total m n (in_order_from_rising m a) (in_order_from_rising n b)))
 
 -- ---- the constant 1 and inputs
 
