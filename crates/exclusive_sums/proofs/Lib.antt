@@ -1,4 +1,5 @@
-pub mod CubeSteps
-pub mod MergeSteps
-pub mod PolySteps
-pub mod ProductSteps
+pub mod CubeLemmas
+pub mod InputLemmas
+pub mod MergingLemmas
+pub mod MonomialSetLemmas
+pub mod PolyLemmas

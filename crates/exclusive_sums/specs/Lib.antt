@@ -1,3 +1,4 @@
 pub mod Cubes
+pub mod Inputs
 pub mod Limits
-pub mod Steps
+pub mod inside

@@ -3,7 +3,7 @@ ghost use Rattle.std.specs.Prelude.{◌≡◌, ◌++◌, map, IfOk, OnOk};
 ghost use Rattle.std.specs.Option.{option_to_list};
 ghost use Rattle.list_facts.specs.Lists.{IsRising};
 ghost use Rattle.exclusive_sums.specs.Cubes.{IsCube, IsJoined, distance_of, positive};
-ghost use Rattle.exclusive_sums.specs.Steps.{flipped as flipped_of, third_of};
+ghost use Rattle.exclusive_sums.specs.inside.Merging.{flipped as flipped_of, third_of};
 
 use revc_base::Memory;
 use std::alloc::{AllocError, Global};

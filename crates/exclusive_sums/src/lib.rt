@@ -11,7 +11,7 @@ mod products;
 pub use cube::{Cube, Literal};
 pub use law::determinacy;
 pub use merging::merge;
-pub use poly::Poly;
+pub use poly::{MOST_MONOMIALS, Poly};
 
 #[cfg(test)]
 mod tests;

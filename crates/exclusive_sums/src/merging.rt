@@ -2,8 +2,8 @@
 ghost use Rattle.std.specs.Prelude.{◌≡◌, ℕ, ◌<◌, length, IfOk, IfSome, IsNone, OnOk};
 ghost use Rattle.std.specs.List.{AllByRecursion};
 ghost use Rattle.list_facts.specs.Lists.{IsRising};
-ghost use Rattle.exclusive_sums.specs.Cubes.{AreApart, IsExclusiveSumOf, IsFirstClosePair, Merges, cubes_of, distance_at};
-ghost use Rattle.exclusive_sums.specs.Steps.{IsCloseBehind, IsStep};
+ghost use Rattle.exclusive_sums.specs.Cubes.{AreFarApart, IsExclusiveSumOf, IsFirstClosePair, Merges, cubes_of, distance_at};
+ghost use Rattle.exclusive_sums.specs.inside.Merging.{IsCloseBehind, IsStep};
 
 use crate::cube::{Cube, distance, joined, positive_cube};
 use crate::monomial::Monomial;
@@ -42,7 +42,7 @@ fn positive_cubes(alloc: Global, monomials: &[Monomial]) -> Result<Vec<Cube>, Me
 
 // The first pair of cubes at distance 0 or 1.
 fn first_close_pair(cubes: &[Cube]) -> Option<(usize, usize)>
-    ensures none { IsNone result → AreApart cubes.now }
+    ensures none { IsNone result → AreFarApart cubes.now }
     ensures some { IfSome result (λ pair. IsFirstClosePair cubes.now pair.0 pair.1) }
 {
     for first in 0..cubes.len() {
@@ -56,7 +56,8 @@ fn first_close_pair(cubes: &[Cube]) -> Option<(usize, usize)>
 // The first cube behind this one at distance 0 or 1 from it.
 fn first_close_to(cubes: &[Cube], first: usize) -> Option<usize>
     requires { first < length cubes.now }
-    ensures none { IsNone result → (k : ℕ) → first < k → k < length cubes.now → 1 < distance_at cubes.now first k }
+    ensures none { IsNone result → (k : ℕ) → first < k → k < length cubes.now
+        → 1 < distance_at cubes.now first k }
     ensures some { IfSome result (λ second. IsCloseBehind cubes.now first second) }
 {
     for second in first + 1..cubes.len() {

@@ -3,7 +3,7 @@ ghost use Rattle.std.specs.Prelude.{◌≡◌, ◌+◌, ◌<◌, [], ◌∷◌, 
 ghost use Rattle.std.specs.Ordering.{nat_cmp};
 ghost use Rattle.std.specs.Cmp.Lexicographic.{slice_cmp};
 ghost use Rattle.revc_base.specs.inside.Sums.{exclusive_sum_of, union_of};
-ghost use Rattle.exclusive_sums.specs.Steps.{MovesFront, order_of_fronts as fronts};
+ghost use Rattle.exclusive_sums.specs.inside.Products.{MovesFront, order_of_fronts as fronts};
 
 use revc_base::Memory;
 use std::alloc::Global;
@@ -169,8 +169,12 @@ fn step(
     order: Ordering,
 ) -> Result<(), Memory>
     requires { fronts left.old.items right.old.items ≡ Some order }
-    ensures sum { OnOk result (sum.new.items ++ exclusive_sum_of left.new.items right.new.items ≡ sum.old.items ++ exclusive_sum_of left.old.items right.old.items) }
-    ensures shorter { OnOk result (length left.new.items + length right.new.items < length left.old.items + length right.old.items) }
+    ensures sum { OnOk result
+        (sum.new.items ++ exclusive_sum_of left.new.items right.new.items
+        ≡ sum.old.items ++ exclusive_sum_of left.old.items right.old.items) }
+    ensures shorter { OnOk result
+        (length left.new.items + length right.new.items
+        < length left.old.items + length right.old.items) }
 {
     match order {
         Ordering::Less => move_front(left, sum),

@@ -1,9 +1,11 @@
 // Polynomials of at most 64 monomials.
-ghost use Rattle.std.specs.Prelude.{◌≡◌, ◌*◌, ◌≤◌, ◌==◌, ◌&&◌, not, [], ◌∷◌, length, IfOk, if◌then◌else◌, nat_le, Some, None};
+ghost use Rattle.std.specs.Prelude.{◌≡◌, ◌*◌, ◌≤◌, ◌==◌, ◌&&◌, not, [], ◌∷◌, ◌++◌, length, IfOk, IfSome, if◌then◌else◌, nat_le, Some, None};
 ghost use Rattle.std.specs.Bool.{xor};
 ghost use Rattle.revc_base.specs.Polynomials.{IsPolynomial, IsPolynomialOf, value_of_polynomial};
+ghost use Rattle.exclusive_sums.specs.Inputs.{AreOverInputsOf};
 ghost use Rattle.exclusive_sums.specs.Limits.{IsPolynomialUpTo};
-ghost use Rattle.exclusive_sums.specs.Steps.{IsProduct};
+ghost use Rattle.exclusive_sums.specs.declared.poly.TheConstants.{MOST_MONOMIALS};
+ghost use Rattle.exclusive_sums.specs.inside.Products.{IsProduct};
 
 use crate::monomial::{Monomial, copies, exclusive_sum};
 use crate::products::{in_order, product};
@@ -11,6 +13,9 @@ use indexmap::IndexSet;
 use revc_base::Memory;
 use std::alloc::Global;
 use std::marker::Model;
+
+/// The most monomials of a polynomial.
+pub const MOST_MONOMIALS: usize = 64;
 
 /// A polynomial over the field of two elements (the algebraic normal form, or Zhegalkin polynomial, of a
 /// Boolean function): the exclusive or of at most 64 monomials, each the product of some inputs. Inputs are
@@ -24,18 +29,17 @@ pub struct Poly {
 impl Model for Poly {
     ghost use Rattle.std.specs.Prelude.{List, ℕ, ◌≤◌, length};
     ghost use Rattle.revc_base.specs.Polynomials.{IsPolynomial};
+    ghost use Rattle.exclusive_sums.specs.declared.poly.TheConstants.{MOST_MONOMIALS};
 
     ghost Value = { List (List ℕ) };
 
     ghost view = { λ p. p.monomials.items };
 
-    ghost invariant = { λ p. IsPolynomial p.monomials.items × (length p.monomials.items ≤ 64) };
+    ghost invariant = { λ p.
+        IsPolynomial p.monomials.items × (length p.monomials.items ≤ MOST_MONOMIALS) };
 }
 
 impl Poly {
-    /// The most monomials that a polynomial has.
-    pub const MOST: usize = 64;
-
     /// The polynomial of one input.
     pub fn input(alloc: Global, input: u32) -> Result<Poly, Memory>
         ensures monomials { IfOk result (λ poly. poly ≡ (input ∷ []) ∷ []) }
@@ -47,9 +51,12 @@ impl Poly {
         })
     }
 
-    /// The polynomial of the negation. `None` comes exactly where it has more than 64 monomials.
+    /// The polynomial of the negation. `None` comes exactly where it has more than 64 monomials. Its inputs are among
+    /// those of this one.
     pub fn not(&self) -> Result<Option<Poly>, Memory>
-        ensures { IfOk result (IsPolynomialUpTo Self.MOST (λ assignment. not (value_of_polynomial assignment self.now))) }
+        ensures polynomial { IfOk result
+            (IsPolynomialUpTo MOST_MONOMIALS (λ x. not (value_of_polynomial x self.now))) }
+        ensures inputs { IfOk result (λ answer. IfSome answer (AreOverInputsOf self.now)) }
     {
         let alloc = *self.monomials.allocator();
         let one = Vec::from_array(alloc, [Monomial::one(alloc)])?;
@@ -57,9 +64,13 @@ impl Poly {
         Ok(limited(sum))
     }
 
-    /// The polynomial of the exclusive or of both. `None` comes exactly where it has more than 64 monomials.
+    /// The polynomial of the exclusive or of both. `None` comes exactly where it has more than 64 monomials. Its inputs
+    /// are among those of both.
     pub fn xor(&self, other: &Poly) -> Result<Option<Poly>, Memory>
-        ensures { IfOk result (IsPolynomialUpTo Self.MOST (λ assignment. xor (value_of_polynomial assignment self.now) (value_of_polynomial assignment other.now))) }
+        ensures polynomial { IfOk result (IsPolynomialUpTo MOST_MONOMIALS
+            (λ x. xor (value_of_polynomial x self.now) (value_of_polynomial x other.now))) }
+        ensures inputs { IfOk result (λ answer.
+            IfSome answer (AreOverInputsOf (self.now ++ other.now))) }
     {
         let alloc = *self.monomials.allocator();
         let left = copies(alloc, &self.monomials)?;
@@ -69,13 +80,16 @@ impl Poly {
     }
 
     /// The polynomial of the conjunction of both: their product, multiplied out with cancellation. `None` comes
-    /// exactly where it has more than 64 monomials. It multiplies at most 64 x 64 pairs of monomials, each in
-    /// expected time linear in their lengths.
+    /// exactly where it has more than 64 monomials. Its inputs are among those of both. It multiplies at most 64 x 64
+    /// pairs of monomials, each in expected time linear in their lengths.
     pub fn and(&self, other: &Poly) -> Result<Option<Poly>, Memory>
-        ensures { IfOk result (IsPolynomialUpTo Self.MOST (λ assignment. value_of_polynomial assignment self.now && value_of_polynomial assignment other.now)) }
+        ensures polynomial { IfOk result (IsPolynomialUpTo MOST_MONOMIALS
+            (λ x. value_of_polynomial x self.now && value_of_polynomial x other.now)) }
+        ensures inputs { IfOk result (λ answer.
+            IfSome answer (AreOverInputsOf (self.now ++ other.now))) }
     {
         let product = self.multiplied(other)?;
-        if product.len() > Poly::MOST {
+        if product.len() > MOST_MONOMIALS {
             return Ok(None);
         }
         let monomials = in_order(*self.monomials.allocator(), product)?;
@@ -85,7 +99,8 @@ impl Poly {
     // The monomials of the product, in any order. There are never more on the way to it than pairs.
     fn multiplied(&self, other: &Poly) -> Result<IndexSet<Monomial>, Memory>
         ensures product { IfOk result (λ product. IsProduct self.now other.now product.keys) }
-        ensures few { IfOk result (λ product. length product.keys ≤ Self.MOST * Self.MOST) }
+        ensures few { IfOk result (λ product.
+            length product.keys ≤ MOST_MONOMIALS * MOST_MONOMIALS) }
     {
         product(
             *self.monomials.allocator(),
@@ -97,7 +112,7 @@ impl Poly {
     /// The number of monomials. It takes no memory.
     pub fn len(&self) -> u32
         ensures len { result ≡ length self.now }
-        ensures few { result ≤ Self.MOST }
+        ensures few { result ≤ MOST_MONOMIALS }
         ensures polynomial { IsPolynomial self.now }
     {
         self.monomials.len() as u32
@@ -122,9 +137,11 @@ impl Poly {
 // The polynomial of these monomials, if they are few enough.
 fn limited(monomials: Vec<Monomial>) -> Option<Poly>
     requires { IsPolynomial monomials.items }
-    ensures { result ≡ (if nat_le (length monomials.items) Poly.MOST then Some monomials.items else None) }
+    ensures { result ≡ (if nat_le (length monomials.items) MOST_MONOMIALS
+        then Some monomials.items
+        else None) }
 {
-    if monomials.len() <= Poly::MOST {
+    if monomials.len() <= MOST_MONOMIALS {
         Some(Poly { monomials })
     } else {
         None

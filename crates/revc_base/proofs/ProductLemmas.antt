@@ -41,7 +41,7 @@ All-keys P (left i ∷ ps) a b = (a.0, All-keys P ps a.1 b)
 All-keys P (right j ∷ ps) a b = (b.0, All-keys P ps a b.1)
 All-keys P (both i j ∷ ps) a b = (a.0, All-keys P ps a.1 b.1)
 
-All-union_of : (P : ℕ → Type 0) (m n : List ℕ) → AllByRecursion P m → AllByRecursion P n → AllByRecursion P (union_of m n)
+pub All-union_of : (P : ℕ → Type 0) (m n : List ℕ) → AllByRecursion P m → AllByRecursion P n → AllByRecursion P (union_of m n)
 All-union_of P m n a b =
     All-keys P (aligned nat_cmp m n)
     (subst (AllByRecursion P) (sym (lefts-aligned nat_cmp m n)) a)

@@ -1,6 +1,6 @@
 use Rattle.std.proofs.Common.{◌⊎◌, ◌≤◌, length, inl, inr, arith}
 use Rattle.std.proofs.lemmas.List.{length-drop}
-use Rattle.exclusive_sums.proofs.CubeSteps.{differences-aligned, differences_left_over}
+use Rattle.exclusive_sums.proofs.CubeLemmas.{differences-aligned, differences_left_over}
 use Rattle.exclusive_sums.proofs.cube.distance.Goals as goal
 use Rattle.exclusive_sums.proofs.cube.distance.Goals.{then-loop-i-test+else-j-right, else-loop-i-test}
 

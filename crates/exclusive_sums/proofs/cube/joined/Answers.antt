@@ -2,8 +2,8 @@ use Rattle.std.proofs.Common.{◌≡◌, ◌⊎◌, ◌≤◌, length, refl, sym
 use Rattle.std.proofs.lemmas.List.{take_rest, append_assoc}
 use Rattle.revc_base.specs.inside.Aligned.{aligned}
 use Rattle.exclusive_sums.specs.Cubes.{IsJoined}
-use Rattle.exclusive_sums.specs.Steps.{by_input, thirds}
-use Rattle.exclusive_sums.proofs.CubeSteps.{IsJoined-thirds, thirds_left_over}
+use Rattle.exclusive_sums.specs.inside.Merging.{by_input, thirds}
+use Rattle.exclusive_sums.proofs.CubeLemmas.{IsJoined-thirds, thirds_left_over}
 use Rattle.exclusive_sums.proofs.cube.joined.Goals as goal
 use Rattle.exclusive_sums.proofs.cube.joined.Goals.{then-loop-i-test+else-j-right, else-loop-i-test}
 
@@ -13,7 +13,13 @@ literals_are c =
     elim c.loop-i-test.branch [ then-loop-i-test+else-j-right w ↦ inr (omega arith) | else-loop-i-test w ↦ inl (omega arith) ] in
     let over = thirds_left_over c.literals-left.result.now c.literals-right.result.now c.loop-i.i c.loop-i.j ended in
     let done = rw over at c.loop-i.invariant.left_over in
-    rw (c.in_ok-put_flipped-2.ensures, c.in_ok-put_flipped.ensures, take_rest c.literals-left.result.now c.loop-i.i, take_rest c.literals-right.result.now c.loop-i.j, append_assoc)
+    rw (
+      c.in_ok-put_flipped-2.ensures,
+      c.in_ok-put_flipped.ensures,
+      take_rest c.literals-left.result.now c.loop-i.i,
+      take_rest c.literals-right.result.now c.loop-i.j,
+      append_assoc,
+    )
     (done ∙ rw (c.literals-left.ensures.literals, c.literals-right.ensures.literals) refl)
 
 pub returns : goal.returns

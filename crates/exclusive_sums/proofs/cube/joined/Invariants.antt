@@ -1,6 +1,6 @@
 use Rattle.std.proofs.Common.{◌≡◌, ◌+◌, ◌-◌, ◌≤◌, ◌++◌, length, drop}
 use Rattle.revc_base.specs.inside.Aligned.{aligned}
-use Rattle.exclusive_sums.specs.Steps.{by_input, thirds}
+use Rattle.exclusive_sums.specs.inside.Merging.{by_input, thirds}
 use Rattle.exclusive_sums.proofs.cube.joined.Given as goal
 
 abbrev pub invariant-loop-i : goal.invariant-loop-i

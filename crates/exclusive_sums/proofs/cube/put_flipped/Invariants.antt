@@ -1,5 +1,5 @@
 use Rattle.std.proofs.Common.{◌≡◌, ◌++◌, map, take}
-use Rattle.exclusive_sums.specs.Steps.{flipped}
+use Rattle.exclusive_sums.specs.inside.Merging.{flipped}
 use Rattle.exclusive_sums.proofs.cube.put_flipped.Given as goal
 
 abbrev pub invariant-loop-literal : goal.invariant-loop-literal

@@ -1,4 +1,4 @@
-use Rattle.exclusive_sums.proofs.MergeSteps.{merging_is_determined}
+use Rattle.exclusive_sums.proofs.MergingLemmas.{merging_is_determined}
 use Rattle.exclusive_sums.proofs.law.determinacy.Goals as goal
 
 pub returns : goal.returns

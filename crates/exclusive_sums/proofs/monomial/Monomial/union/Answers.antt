@@ -1,6 +1,6 @@
 use Rattle.std.proofs.Common.{◌⊎◌, ◌≤◌, length, refl, ◌∙◌, inl, inr, arith}
 use Rattle.std.proofs.lemmas.List.{take_rest, append_assoc}
-use Rattle.exclusive_sums.proofs.PolySteps.{union_left_over}
+use Rattle.exclusive_sums.proofs.PolyLemmas.{union_left_over}
 use Rattle.exclusive_sums.proofs.monomial.Monomial.union.Goals as goal
 use Rattle.exclusive_sums.proofs.monomial.Monomial.union.Goals.{then-loop-i-test+else-j-right, else-loop-i-test}
 
@@ -10,5 +10,11 @@ returns c =
     elim c.loop-i-test.branch [ then-loop-i-test+else-j-right w ↦ inr (omega arith) | else-loop-i-test w ↦ inl (omega arith) ] in
     let over = union_left_over c.inputs-left.result.now c.inputs-right.result.now c.loop-i.i c.loop-i.j ended in
     let done = rw over at c.loop-i.invariant.left_over in
-    rw (c.in_ok-extend_from_slice-2.ensures.items, c.in_ok-extend_from_slice.ensures.items, take_rest c.inputs-left.result.now c.loop-i.i, take_rest c.inputs-right.result.now c.loop-i.j, append_assoc)
+    rw (
+      c.in_ok-extend_from_slice-2.ensures.items,
+      c.in_ok-extend_from_slice.ensures.items,
+      take_rest c.inputs-left.result.now c.loop-i.i,
+      take_rest c.inputs-right.result.now c.loop-i.j,
+      append_assoc,
+    )
     (done ∙ rw (c.inputs-left.ensures, c.inputs-right.ensures) refl)

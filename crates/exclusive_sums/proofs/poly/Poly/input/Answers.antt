@@ -1,5 +1,5 @@
 use Rattle.std.proofs.Common.{◌≡◌, [], ◌∷◌, rules}
-use Rattle.exclusive_sums.proofs.PolySteps.{input_polynomial}
+use Rattle.exclusive_sums.proofs.PolyLemmas.{input_polynomial}
 use Rattle.exclusive_sums.proofs.poly.Poly.input.Goals as goal
 
 pub returns-clause-function : goal.returns-clause-function

@@ -1,5 +1,6 @@
 -- Two cubes gone through side by side: their distance, and the cube with the third states.
-use Rattle.std.proofs.Common.{◌≡◌, ◌⊎◌, ℕ, ◌+◌, ◌<◌, ◌≤◌, Bool, true, false, not, ◌&&◌, cond, eqb, List, [], ◌∷◌, ◌++◌, length, map, drop, Option, Some, None, refl, sym, ap, ◌∙◌, subst, inl, inr, arith}
+use Rattle.std.proofs.Common.{◌≡◌, ◌⊎◌, ℕ, ◌+◌, ◌<◌, ◌≤◌, Bool, true, false, not, ◌&&◌, cond, eqb, List, [], ◌∷◌, ◌++◌, length, map, drop, Option, Some, None}
+use Rattle.std.proofs.Common.{refl, sym, ap, ◌∙◌, subst, inl, inr, arith}
 use Rattle.std.specs.Bool.{xor}
 use Rattle.std.specs.List.{AllByRecursion, count_by}
 use Rattle.std.specs.Option.{is_none}
@@ -9,12 +10,14 @@ use Rattle.std.proofs.lemmas.Cmp.{nat_cmp_total, on_total}
 use Rattle.std.proofs.lemmas.List.{append-nil}
 use Rattle.std.proofs.lemmas.List.Sums.{sum_by-cons}
 use Rattle.std.proofs.Math.ListN.{drop_of_length-le}
+use Rattle.std.proofs.lemmas.Option.{same_Some}
 use Rattle.exclusive_sums.specs.declared.cube.Literal.{Literal}
 use Rattle.revc_base.specs.inside.Aligned.{Pair, left, right, both, aligned, key_of}
 use Rattle.list_facts.specs.Lists.{IsRising}
 use Rattle.revc_base.specs.Polynomials.{IsInOrder}
-use Rattle.exclusive_sums.specs.Cubes.{value_of_literal, value_of_cube, input_of, IsCube, state_of, same_sign, same_state, distance_of, third_state, IsJoined, positive}
-use Rattle.exclusive_sums.specs.Steps.{by_input, differences, flipped, thirds}
+use Rattle.exclusive_sums.specs.Cubes.{value_of_literal, value_of_cube, input_of, IsCube, state_of, same_sign, same_state, distance_of, third_state, IsJoined}
+use Rattle.exclusive_sums.specs.Cubes.{positive}
+use Rattle.exclusive_sums.specs.inside.Merging.{by_input, differences, flipped, thirds}
 use Rattle.revc_base.proofs.AlignmentLemmas.{lefts, rights, lefts-aligned, rights-aligned, IsTied, tied-aligned, by_key, in_order-aligned}
 use Rattle.list_facts.proofs.BitLemmas.{xor-and_right}
 use Rattle.revc_base.proofs.SumLemmas.{eq_from_equal, less_from_lt, lt_from_less}
@@ -42,7 +45,8 @@ pub record AreSteps (ps : List (Pair Literal)) : Type 0 where
 rising_pairs : (ps : List (Pair Literal)) → IsInOrder (by_key by_input) ps → AreRising ps
 rising_pairs [] h = tt
 rising_pairs (p ∷ ps) h = (
-  AllByRecursion-weaker (λ (q : Pair Literal). by_input (key_of p) (key_of q) ≡ Less) (λ (q : Pair Literal). (key_of p).input < (key_of q).input) (λ q l. lt_from_less (key_of p).input (key_of q).input l) ps h.0,
+  AllByRecursion-weaker (λ (q : Pair Literal). by_input (key_of p) (key_of q) ≡ Less) (λ (q : Pair Literal). (key_of p).input < (key_of q).input)
+      (λ q l. lt_from_less (key_of p).input (key_of q).input l) ps h.0,
   rising_pairs ps h.1,
 )
 
@@ -61,7 +65,8 @@ in_order_cube (l ∷ ls) h = (below l ls h.0, in_order_cube ls h.1)
 
 pub steps_of : (c d : List Literal) → IsCube c → IsCube d → AreSteps (aligned by_input c d)
 steps_of c d a b = record {
-  rising = rising_pairs (aligned by_input c d) (in_order-aligned by_input (on_total (λ (l : Literal). l.input) nat_cmp_total) c d (in_order_cube c a) (in_order_cube d b));
+  rising = rising_pairs (aligned by_input c d)
+      (in_order-aligned by_input (on_total (λ (l : Literal). l.input) nat_cmp_total) c d (in_order_cube c a) (in_order_cube d b));
   tied = AllByRecursion-weaker (IsTied by_input) HaveOneInput one_input (aligned by_input c d) (tied-aligned by_input c d);
 }
 
@@ -110,10 +115,12 @@ skip : (l : Literal) (c : List Literal) (i : ℕ) → l.input < i → state_of (
 skip l c i h = rw (ne_eqb l.input i (λ e. absurd (omega arith))) refl
 
 other_above : (m : Literal) (d c : List Literal) → AllByRecursion (λ (l : Literal). m.input < l.input) c → count_by (other (m ∷ d)) c ≡ count_by (other d) c
-other_above m d c h = count_same (other (m ∷ d)) (other d) c (AllByRecursion-weaker (λ (l : Literal). m.input < l.input) (λ l. other (m ∷ d) l ≡ other d l) (λ l k. rw (skip m d l.input k) refl) c h)
+other_above m d c h = count_same (other (m ∷ d)) (other d) c
+    (AllByRecursion-weaker (λ (l : Literal). m.input < l.input) (λ l. other (m ∷ d) l ≡ other d l) (λ l k. rw (skip m d l.input k) refl) c h)
 
 only_above : (l : Literal) (c d : List Literal) → AllByRecursion (λ (m : Literal). l.input < m.input) d → count_by (only (l ∷ c)) d ≡ count_by (only c) d
-only_above l c d h = count_same (only (l ∷ c)) (only c) d (AllByRecursion-weaker (λ (m : Literal). l.input < m.input) (λ m. only (l ∷ c) m ≡ only c m) (λ m k. rw (skip l c m.input k) refl) d h)
+only_above l c d h = count_same (only (l ∷ c)) (only c) d
+    (AllByRecursion-weaker (λ (m : Literal). l.input < m.input) (λ m. only (l ∷ c) m ≡ only c m) (λ m k. rw (skip l c m.input k) refl) d h)
 
 count_both : (a b : Bool) → ◌≡◌ {A = ℕ} (cond (not (same_sign a b)) 1 0) (cond (same_sign a b) 0 1)
 count_both true true = refl
@@ -126,7 +133,8 @@ differences_is [] s = refl
 differences_is (left l ∷ ps) s =
     let rest = differences_is ps (record { rising = s.rising.1; tied = s.tied.1 }) in
     let right_above = above_rights l.input ps s.tied.1 s.rising.0 in
-    rw (count-cons (other (rights ps)) l (lefts ps), absent l.input (rights ps) right_above, only_above l (lefts ps) (rights ps) right_above) (omega (arith, rest))
+    rw (count-cons (other (rights ps)) l (lefts ps), absent l.input (rights ps) right_above, only_above l (lefts ps) (rights ps) right_above)
+    (omega (arith, rest))
 differences_is (right m ∷ ps) s =
     let rest = differences_is ps (record { rising = s.rising.1; tied = s.tied.1 }) in
     let left_above = above_lefts m.input ps s.rising.0 in
@@ -135,7 +143,8 @@ differences_is (both l m ∷ ps) s =
     let rest = differences_is ps (record { rising = s.rising.1; tied = s.tied.1 }) in
     let same : l.input ≡ m.input = s.tied.0 in
     let right_above = above_rights l.input ps s.tied.1 s.rising.0 in
-    let left_above : AllByRecursion (λ (k : Literal). m.input < k.input) (lefts ps) = subst (λ n. AllByRecursion (λ (k : Literal). n < k.input) (lefts ps)) same (above_lefts l.input ps s.rising.0) in
+    let left_above : AllByRecursion (λ (k : Literal). m.input < k.input) (lefts ps) = subst
+    (λ n. AllByRecursion (λ (k : Literal). n < k.input) (lefts ps)) same (above_lefts l.input ps s.rising.0) in
     rw (
       count-cons (other (m ∷ rights ps)) l (lefts ps),
       count-cons (only (l ∷ lefts ps)) m (rights ps),
@@ -161,7 +170,8 @@ states-thirds (left l ∷ ps) s i =
     elim (cases_Bool (eqb l.input i)) [
       | inl e ↦
           let same : l.input ≡ i = eqb-true l.input i e in
-          let none : state_of (rights ps) i ≡ None = subst (λ n. state_of (rights ps) n ≡ None) same (absent l.input (rights ps) (above_rights l.input ps s.tied.1 s.rising.0)) in
+          let none : state_of (rights ps) i ≡ None = subst (λ n. state_of (rights ps) n ≡ None) same
+          (absent l.input (rights ps) (above_rights l.input ps s.tied.1 s.rising.0)) in
           rw (e, none) refl
       | inr n ↦ rw n (states-thirds ps (record { rising = s.rising.1; tied = s.tied.1 }) i)
     ]
@@ -169,7 +179,8 @@ states-thirds (right m ∷ ps) s i =
     elim (cases_Bool (eqb m.input i)) [
       | inl e ↦
           let same : m.input ≡ i = eqb-true m.input i e in
-          let none : state_of (lefts ps) i ≡ None = subst (λ n. state_of (lefts ps) n ≡ None) same (absent m.input (lefts ps) (above_lefts m.input ps s.rising.0)) in
+          let none : state_of (lefts ps) i ≡ None = subst (λ n. state_of (lefts ps) n ≡ None) same
+          (absent m.input (lefts ps) (above_lefts m.input ps s.rising.0)) in
           rw (e, none) refl
       | inr n ↦ rw n (states-thirds ps (record { rising = s.rising.1; tied = s.tied.1 }) i)
     ]
@@ -178,7 +189,8 @@ states-thirds (both l m ∷ ps) s i =
     elim (cases_Bool (eqb l.input i)) [
       | inl e ↦
           let same : l.input ≡ i = eqb-true l.input i e in
-          let none : state_of (thirds ps) i ≡ None = subst (λ n. state_of (thirds ps) n ≡ None) same (absent l.input (thirds ps) (above_thirds l.input ps s.rising.0)) in
+          let none : state_of (thirds ps) i ≡ None = subst (λ n. state_of (thirds ps) n ≡ None) same
+          (absent l.input (thirds ps) (above_thirds l.input ps s.rising.0)) in
           elim (cases_Bool (same_sign l.positive m.positive)) [
             | inl y ↦ rw (y, e, eq-eqb m.input i (sym one ∙ same), y) refl
             | inr y ↦ rw (y, e, eq-eqb m.input i (sym one ∙ same), y) none
@@ -222,7 +234,8 @@ thirds-lefts_only : (c : List Literal) → thirds (aligned by_input c []) ≡ ma
 thirds-lefts_only [] = refl
 thirds-lefts_only (l ∷ ls) = ap (λ ms. flipped l ∷ ms) (thirds-lefts_only ls)
 
-pub thirds_left_over : (c d : List Literal) (i j : ℕ) → (length c ≤ i) ⊎ (length d ≤ j) → thirds (aligned by_input (drop i c) (drop j d)) ≡ map flipped (drop i c) ++ map flipped (drop j d)
+pub thirds_left_over : (c d : List Literal) (i j : ℕ) → (length c ≤ i) ⊎ (length d ≤ j)
+    → thirds (aligned by_input (drop i c) (drop j d)) ≡ map flipped (drop i c) ++ map flipped (drop j d)
 thirds_left_over c d i j (inl h) = rw (drop_of_length-le c h) (thirds-rights_only (drop j d))
 thirds_left_over c d i j (inr h) = rw (drop_of_length-le d h) (thirds-lefts_only (drop i c) ∙ sym (append-nil (map flipped (drop i c))))
 
@@ -234,14 +247,16 @@ differences-lefts_only : (c : List Literal) → differences (aligned by_input c 
 differences-lefts_only [] = refl
 differences-lefts_only (l ∷ ls) = omega (arith, differences-lefts_only ls)
 
-pub differences_left_over : (c d : List Literal) (i j : ℕ) → (length c ≤ i) ⊎ (length d ≤ j) → differences (aligned by_input (drop i c) (drop j d)) ≡ length (drop i c) + length (drop j d)
+pub differences_left_over : (c d : List Literal) (i j : ℕ) → (length c ≤ i) ⊎ (length d ≤ j)
+    → differences (aligned by_input (drop i c) (drop j d)) ≡ length (drop i c) + length (drop j d)
 differences_left_over c d i j (inl h) = rw (drop_of_length-le c h) (omega (arith, differences-rights_only (drop j d)))
 differences_left_over c d i j (inr h) = rw (drop_of_length-le d h) (omega (arith, differences-lefts_only (drop i c)))
 
 -- ---- values
 
 literal_same : (l m : Literal) → l.input ≡ m.input → l.positive ≡ m.positive → l ≡ m
-literal_same l m e f = ap (λ (n : ℕ). (let k : Literal = record { input = n; positive = l.positive } in k)) e ∙ ap (λ (b : Bool). (let k : Literal = record { input = m.input; positive = b } in k)) f
+literal_same l m e f = ap (λ (n : ℕ). (let k : Literal = record { input = n; positive = l.positive } in k)) e
+    ∙ ap (λ (b : Bool). (let k : Literal = record { input = m.input; positive = b } in k)) f
 
 same_sign_same : (a b : Bool) → same_sign a b ≡ true → a ≡ b
 same_sign_same true true h = refl
@@ -337,25 +352,29 @@ literals_above i (l ∷ ls) h = (h.0, literals_above i ls h.1)
 state_of_first : (l : Literal) (c : List Literal) → state_of (l ∷ c) l.input ≡ Some l.positive
 state_of_first l c = rw (eq-eqb l.input l.input refl) refl
 
-some_same : (a b : Bool) → Some a ≡ Some b → a ≡ b
-some_same a b h = cc
-
 first_no_later : (l m : Literal) (c d : List Literal) → IsCube (m ∷ d) → ((i : ℕ) → state_of (l ∷ c) i ≡ state_of (m ∷ d) i) → m.input ≤ l.input
 first_no_later l m c d b h =
     elim (cases_lt l.input m.input) [
       | inl k ↦
-          let up : AllByRecursion (λ (n : Literal). l.input < n.input) (m ∷ d) = (k, AllByRecursion-weaker (λ (n : Literal). m.input < n.input) (λ (n : Literal). l.input < n.input) (λ n j. omega arith) d (literals_above m.input d b.0)) in
+          let up : AllByRecursion (λ (n : Literal). l.input < n.input)
+          (m ∷ d) = (
+            k,
+            AllByRecursion-weaker (λ (n : Literal). m.input < n.input) (λ (n : Literal). l.input < n.input) (λ n j. omega arith) d
+                (literals_above m.input d b.0),
+          ) in
           let clash : Some l.positive ≡ None = sym (state_of_first l c) ∙ h l.input ∙ absent l.input (m ∷ d) up in cc
       | inr g ↦ g
     ]
 
-tail_states : (l m : Literal) (c d : List Literal) → IsCube (l ∷ c) → IsCube (m ∷ d) → l.input ≡ m.input → ((i : ℕ) → state_of (l ∷ c) i ≡ state_of (m ∷ d) i) → (i : ℕ) → state_of c i ≡ state_of d i
+tail_states : (l m : Literal) (c d : List Literal) → IsCube (l ∷ c) → IsCube (m ∷ d) → l.input ≡ m.input → ((i : ℕ) → state_of (l ∷ c) i ≡ state_of (m ∷ d) i)
+    → (i : ℕ) → state_of c i ≡ state_of d i
 tail_states l m c d a b e h i =
     elim (cases_Bool (eqb l.input i)) [
       | inl k ↦
           let here : l.input ≡ i = eqb-true l.input i k in
           let there : m.input ≡ i = sym e ∙ here in
-          subst (λ n. state_of c n ≡ None) here (absent l.input c (literals_above l.input c a.0)) ∙ sym (subst (λ n. state_of d n ≡ None) there (absent m.input d (literals_above m.input d b.0)))
+          subst (λ n. state_of c n ≡ None) here (absent l.input c (literals_above l.input c a.0))
+          ∙ sym (subst (λ n. state_of d n ≡ None) there (absent m.input d (literals_above m.input d b.0)))
       | inr k ↦
           let apart : eqb m.input i ≡ false = ne_eqb m.input i (λ j. eqb-false l.input i k (e ∙ j)) in
           let whole = h i in rw (k, apart) at whole
@@ -369,34 +388,42 @@ same_states_same (l ∷ c) (m ∷ d) a b h =
     let down = first_no_later l m c d b h in
     let up = first_no_later m l d c a (λ i. sym (h i)) in
     let one : l.input ≡ m.input = omega arith in
-    let signs : Some l.positive ≡ Some m.positive = sym (state_of_first l c) ∙ h l.input ∙ subst (λ n. state_of (m ∷ d) n ≡ Some m.positive) (sym one) (state_of_first m d) in
-    let first : l ≡ m = literal_same l m one (some_same l.positive m.positive signs) in
+    let signs : Some l.positive ≡ Some m.positive = sym (state_of_first l c) ∙ h l.input
+    ∙ subst (λ n. state_of (m ∷ d) n ≡ Some m.positive) (sym one) (state_of_first m d) in
+    let first : l ≡ m = literal_same l m one (same_Some l.positive m.positive signs) in
     let rest : c ≡ d = same_states_same c d a.1 b.1 (tail_states l m c d a b one h) in
     rw (first, rest) refl
 
-pub value-joined : (x : ℕ → Bool) (c d joined : List Literal) → IsCube c → IsCube d → distance_of c d ≡ 1 → IsJoined c d joined → value_of_cube x joined ≡ xor (value_of_cube x c) (value_of_cube x d)
+pub value-joined : (x : ℕ → Bool) (c d joined : List Literal) → IsCube c → IsCube d → distance_of c d ≡ 1 → IsJoined c d joined
+    → value_of_cube x joined ≡ xor (value_of_cube x c) (value_of_cube x d)
 value-joined x c d joined a b h j =
     let s = steps_of c d a b in
     let thirds_are = IsJoined-thirds c d a b in
-    let same : joined ≡ thirds (aligned by_input c d) = same_states_same joined (thirds (aligned by_input c d)) j.is_cube thirds_are.is_cube (λ i. j.states i ∙ sym (thirds_are.states i)) in
-    ap (value_of_cube x) same ∙ sym (value-thirds x (aligned by_input c d) s.tied (differences-aligned c d a b ∙ h)) ∙ rw (lefts-aligned by_input c d, rights-aligned by_input c d) refl
+    let same : joined ≡ thirds (aligned by_input c d) = same_states_same joined (thirds (aligned by_input c d)) j.is_cube thirds_are.is_cube
+    (λ i. j.states i ∙ sym (thirds_are.states i)) in
+    ap (value_of_cube x) same ∙ sym (value-thirds x (aligned by_input c d) s.tied (differences-aligned c d a b ∙ h))
+    ∙ rw (lefts-aligned by_input c d, rights-aligned by_input c d) refl
 
 -- ---- inputs
 
-All-thirds : (P : ℕ → Type 0) (ps : List (Pair Literal)) → AllByRecursion (λ (l : Literal). P l.input) (lefts ps) → AllByRecursion (λ (l : Literal). P l.input) (rights ps) → AllByRecursion (λ (l : Literal). P l.input) (thirds ps)
+All-thirds : (P : ℕ → Type 0) (ps : List (Pair Literal)) → AllByRecursion (λ (l : Literal). P l.input) (lefts ps)
+    → AllByRecursion (λ (l : Literal). P l.input) (rights ps) → AllByRecursion (λ (l : Literal). P l.input) (thirds ps)
 All-thirds P [] a b = tt
 All-thirds P (left l ∷ ps) a b = (a.0, All-thirds P ps a.1 b)
 All-thirds P (right m ∷ ps) a b = (b.0, All-thirds P ps a b.1)
 All-thirds P (both l m ∷ ps) a b =
     elim (cases_Bool (same_sign l.positive m.positive)) [ inl e ↦ rw e (a.0, All-thirds P ps a.1 b.1) | inr e ↦ rw e (All-thirds P ps a.1 b.1) ]
 
-pub inputs-joined : (P : ℕ → Type 0) (c d joined : List Literal) → IsCube c → IsCube d → IsJoined c d joined → AllByRecursion (λ (l : Literal). P l.input) c → AllByRecursion (λ (l : Literal). P l.input) d
+pub inputs-joined : (P : ℕ → Type 0) (c d joined : List Literal) → IsCube c → IsCube d → IsJoined c d joined → AllByRecursion (λ (l : Literal). P l.input) c
+    → AllByRecursion (λ (l : Literal). P l.input) d
     → AllByRecursion (λ (l : Literal). P l.input) joined
 inputs-joined P c d joined a b j p q =
     let thirds_are = IsJoined-thirds c d a b in
-    let same : joined ≡ thirds (aligned by_input c d) = same_states_same joined (thirds (aligned by_input c d)) j.is_cube thirds_are.is_cube (λ i. j.states i ∙ sym (thirds_are.states i)) in
+    let same : joined ≡ thirds (aligned by_input c d) = same_states_same joined (thirds (aligned by_input c d)) j.is_cube thirds_are.is_cube
+    (λ i. j.states i ∙ sym (thirds_are.states i)) in
     subst (AllByRecursion (λ (l : Literal). P l.input)) (sym same) (All-thirds P (aligned by_input c d)
-    (subst (AllByRecursion (λ (l : Literal). P l.input)) (sym (lefts-aligned by_input c d)) p) (subst (AllByRecursion (λ (l : Literal). P l.input)) (sym (rights-aligned by_input c d)) q))
+    (subst (AllByRecursion (λ (l : Literal). P l.input)) (sym (lefts-aligned by_input c d)) p)
+    (subst (AllByRecursion (λ (l : Literal). P l.input)) (sym (rights-aligned by_input c d)) q))
 
 -- ---- positive cubes
 

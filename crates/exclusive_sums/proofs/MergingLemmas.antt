@@ -8,16 +8,19 @@ use Rattle.std.proofs.lemmas.List.Edits.{length-remove, get_or-remove_below}
 use Rattle.exclusive_sums.specs.declared.cube.Literal.{Literal}
 use Rattle.list_facts.specs.Lists.{IsRising}
 use Rattle.revc_base.specs.Polynomials.{value_of_monomial, value_of_polynomial}
-use Rattle.exclusive_sums.specs.Cubes.{value_of_cube, value_of_cubes, IsCube, distance_of, IsJoined, cube_at, distance_at, AreApart, IsFirstClosePair, without_pair, Merges, done, cancelled, joined, positive, cubes_of, IsInputOf, IsExclusiveSumOf}
-use Rattle.exclusive_sums.specs.Steps.{IsStep}
-use Rattle.list_facts.specs.Lists.{IsAmong}
+use Rattle.exclusive_sums.specs.Cubes.{value_of_cube, value_of_cubes, IsCube, distance_of, IsJoined, cube_at, distance_at, AreFarApart, IsFirstClosePair}
+use Rattle.exclusive_sums.specs.Cubes.{without_pair, Merges, done, cancelled, joined, positive, cubes_of, IsExclusiveSumOf}
+use Rattle.exclusive_sums.specs.Inputs.{StandsIn}
+use Rattle.exclusive_sums.specs.inside.Merging.{IsStep}
 use Rattle.list_facts.proofs.BitLemmas.{xor_none, xor_same, xor_left, xor_right}
-use Rattle.list_facts.proofs.AllLemmas.{AllByRecursion-weaker, AllByRecursion-push}
-use Rattle.exclusive_sums.proofs.CubeSteps.{IsCube-positive, same_if_no_distance, same_states_same, value-joined, inputs-joined}
+use Rattle.list_facts.proofs.AllLemmas.{AllByRecursion-at, AllByRecursion-push}
+use Rattle.list_facts.proofs.AmongLemmas.{all_from_among}
+use Rattle.exclusive_sums.proofs.CubeLemmas.{IsCube-positive, same_if_no_distance, same_states_same, value-joined, inputs-joined}
 
 -- ---- taking cubes out
 
-value-remove : (x : ℕ → Bool) (cubes : List (List Literal)) (j : ℕ) → j < length cubes → value_of_cubes x cubes ≡ xor (value_of_cube x (cube_at cubes j)) (value_of_cubes x (remove cubes j))
+value-remove : (x : ℕ → Bool) (cubes : List (List Literal)) (j : ℕ) → j < length cubes
+    → value_of_cubes x cubes ≡ xor (value_of_cube x (cube_at cubes j)) (value_of_cubes x (remove cubes j))
 value-remove x [] j h = absurd (omega arith)
 value-remove x (c ∷ cs) zero h = refl
 value-remove x (c ∷ cs) (suc j) h =
@@ -29,12 +32,8 @@ All-remove P [] (suc j) h = tt
 All-remove P (c ∷ cs) zero h = h.1
 All-remove P (c ∷ cs) (suc j) h = (h.0, All-remove P cs j h.1)
 
-pub All-at : (P : List Literal → Type 0) (cubes : List (List Literal)) (j : ℕ) → j < length cubes → AllByRecursion P cubes → P (cube_at cubes j)
-All-at P [] j l h = absurd (omega arith)
-All-at P (c ∷ cs) zero l h = h.0
-All-at P (c ∷ cs) (suc j) l h = All-at P cs j (omega arith) h.1
-
-value-push : (x : ℕ → Bool) (cubes : List (List Literal)) (c : List Literal) → value_of_cubes x (cubes ++ c ∷ []) ≡ xor (value_of_cube x c) (value_of_cubes x cubes)
+value-push : (x : ℕ → Bool) (cubes : List (List Literal)) (c : List Literal)
+    → value_of_cubes x (cubes ++ c ∷ []) ≡ xor (value_of_cube x c) (value_of_cubes x cubes)
 value-push x [] c = refl
 value-push x (d ∷ ds) c = rw (value-push x ds c) (xor_right (value_of_cube x d) (value_of_cube x c) (value_of_cubes x ds))
 
@@ -90,7 +89,8 @@ module _ (cubes rest last : List (List Literal)) (i j : ℕ) (left right : List 
   pub joins : (distance_of left right ≡ 0 → ⊥) → (cube : List Literal) → IsJoined left right cube → IsStep cubes (last ++ cube ∷ [])
   joins h cube k =
       let one : distance_at cubes i j ≡ 1 = let close = r.pair.close in let apart : distance_at cubes i j ≡ 0 → ⊥ = λ e. h (distance_is ∙ e) in omega arith in
-      let here : IsJoined (cube_at cubes i) (cube_at cubes j) cube = subst (λ c. IsJoined c (cube_at cubes j) cube) left_at (subst (λ d. IsJoined left d cube) right_at k) in
+      let here : IsJoined (cube_at cubes i) (cube_at cubes j) cube = subst (λ c. IsJoined c (cube_at cubes j) cube) left_at
+      (subst (λ d. IsJoined left d cube) right_at k) in
       record {
         merges = λ end m. joined cubes end i j cube r.pair one here (subst (λ cs. Merges (cs ++ cube ∷ []) end) last_is m);
         fewer = omega (arith, length-append last (cube ∷ []), ap length last_is, length-without_pair cubes i j r.pair.ordered r.pair.in_range);
@@ -103,22 +103,24 @@ record IsMergedFrom (P : ℕ → Type 0) (cubes last : List (List Literal)) : Ty
   values : (x : ℕ → Bool) → value_of_cubes x last ≡ value_of_cubes x cubes
   few : length last ≤ length cubes
   are_cubes : AllByRecursion IsCube last
-  over_inputs : AllByRecursion (λ (cube : List Literal). AllByRecursion (λ (l : Literal). P l.input) cube) last
-  apart : AreApart last
+  over_inputs : AllByRecursion (AllByRecursion (λ (l : Literal). P l.input)) last
+  apart : AreFarApart last
 
 xor_itself : (b c : Bool) → xor (xor b b) c ≡ c
 xor_itself b c = rw (xor_same b) (xor_none c)
 
 merged : (P : ℕ → Type 0) (cubes last : List (List Literal)) → Merges cubes last → AllByRecursion IsCube cubes
-    → AllByRecursion (λ (cube : List Literal). AllByRecursion (λ (l : Literal). P l.input) cube) cubes → IsMergedFrom P cubes last
+    → AllByRecursion (AllByRecursion (λ (l : Literal). P l.input)) cubes → IsMergedFrom P cubes last
 merged P cubes last (done cs a) k p = record { values = λ x. refl; few = omega arith; are_cubes = k; over_inputs = p; apart = a }
 merged P cubes last (cancelled cs end i j f h m) k p =
     let low : i < length cs = omega (arith, f.ordered, f.in_range) in
     let rest = merged P (without_pair cs i j) end m (All-remove IsCube (remove cs j) i (All-remove IsCube cs j k))
-    (All-remove (λ (cube : List Literal). AllByRecursion (λ (l : Literal). P l.input) cube) (remove cs j) i (All-remove (λ (cube : List Literal). AllByRecursion (λ (l : Literal). P l.input) cube) cs j p)) in
-    let same : cube_at cs i ≡ cube_at cs j = same_if_no_distance (cube_at cs i) (cube_at cs j) (All-at IsCube cs i low k) (All-at IsCube cs j f.in_range k) h in
+    (All-remove (AllByRecursion (λ (l : Literal). P l.input)) (remove cs j) i (All-remove (AllByRecursion (λ (l : Literal). P l.input)) cs j p)) in
+    let same : cube_at cs i ≡ cube_at cs j = same_if_no_distance (cube_at cs i) (cube_at cs j) (AllByRecursion-at IsCube cs i [] k low)
+    (AllByRecursion-at IsCube cs j [] k f.in_range) h in
     record {
-      values = λ x. rest.values x ∙ sym (value-without_pair x cs i j f.ordered f.in_range ∙ rw same (xor_itself (value_of_cube x (cube_at cs j)) (value_of_cubes x (without_pair cs i j))));
+      values = λ x. rest.values x ∙ sym
+          (value-without_pair x cs i j f.ordered f.in_range ∙ rw same (xor_itself (value_of_cube x (cube_at cs j)) (value_of_cubes x (without_pair cs i j))));
       few = omega (arith, rest.few, length-without_pair cs i j f.ordered f.in_range);
       are_cubes = rest.are_cubes;
       over_inputs = rest.over_inputs;
@@ -127,14 +129,16 @@ merged P cubes last (cancelled cs end i j f h m) k p =
 merged P cubes last (joined cs end i j cube f h g m) k p =
     let low : i < length cs = omega (arith, f.ordered, f.in_range) in
     let Over : List Literal → Type 0 = λ (c : List Literal). AllByRecursion (λ (l : Literal). P l.input) c in
-    let left = All-at IsCube cs i low k in
-    let right = All-at IsCube cs j f.in_range k in
-    let inside = inputs-joined P (cube_at cs i) (cube_at cs j) cube left right g (All-at Over cs i low p) (All-at Over cs j f.in_range p) in
+    let left = AllByRecursion-at IsCube cs i [] k low in
+    let right = AllByRecursion-at IsCube cs j [] k f.in_range in
+    let inside = inputs-joined P (cube_at cs i) (cube_at cs j) cube left right g (AllByRecursion-at Over cs i [] p low)
+    (AllByRecursion-at Over cs j [] p f.in_range) in
     let rest = merged P (without_pair cs i j ++ cube ∷ []) end m
     (AllByRecursion-push IsCube (without_pair cs i j) cube (All-remove IsCube (remove cs j) i (All-remove IsCube cs j k)) g.is_cube)
     (AllByRecursion-push Over (without_pair cs i j) cube (All-remove Over (remove cs j) i (All-remove Over cs j p)) inside) in
     record {
-      values = λ x. rest.values x ∙ value-push x (without_pair cs i j) cube ∙ rw (value-joined x (cube_at cs i) (cube_at cs j) cube left right h g) (sym (value-without_pair x cs i j f.ordered f.in_range));
+      values = λ x. rest.values x ∙ value-push x (without_pair cs i j) cube
+          ∙ rw (value-joined x (cube_at cs i) (cube_at cs j) cube left right h g) (sym (value-without_pair x cs i j f.ordered f.in_range));
       few = omega (arith, rest.few, length-without_pair cs i j f.ordered f.in_range, length-append (without_pair cs i j) (cube ∷ []));
       are_cubes = rest.are_cubes;
       over_inputs = rest.over_inputs;
@@ -159,13 +163,10 @@ inputs-positive : (P : ℕ → Type 0) (m : List ℕ) → AllByRecursion P m →
 inputs-positive P [] h = tt
 inputs-positive P (i ∷ is) h = (h.0, inputs-positive P is h.1)
 
-all_in : (m : List ℕ) → AllByRecursion (λ i. IsAmong i m) m
-all_in [] = tt
-all_in (i ∷ is) = (inl refl, AllByRecursion-weaker (λ j. IsAmong j is) (λ j. IsAmong j (i ∷ is)) (λ j k. inr k) is (all_in is))
-
-inputs-cubes_of : (P : ℕ → Type 0) (ms : List (List ℕ)) → ((i : ℕ) → IsInputOf ms i → P i) → AllByRecursion (λ (cube : List Literal). AllByRecursion (λ (l : Literal). P l.input) cube) (cubes_of ms)
+inputs-cubes_of : (P : ℕ → Type 0) (ms : List (List ℕ)) → ((i : ℕ) → StandsIn ms i → P i)
+    → AllByRecursion (AllByRecursion (λ (l : Literal). P l.input)) (cubes_of ms)
 inputs-cubes_of P [] f = tt
-inputs-cubes_of P (m ∷ ms) f = (inputs-positive P m (AllByRecursion-weaker (λ i. IsAmong i m) P (λ i k. f i (inl k)) m (all_in m)), inputs-cubes_of P ms (λ i k. f i (inr k)))
+inputs-cubes_of P (m ∷ ms) f = (inputs-positive P m (all_from_among P m (λ i k. f i (inl k))), inputs-cubes_of P ms (λ i k. f i (inr k)))
 
 length-cubes_of : (ms : List (List ℕ)) → length (cubes_of ms) ≡ length ms
 length-cubes_of [] = refl
@@ -173,7 +174,7 @@ length-cubes_of (m ∷ ms) = omega (arith, length-cubes_of ms)
 
 pub sum_from_merges : (ms : List (List ℕ)) (last : List (List Literal)) → AllByRecursion IsRising ms → Merges (cubes_of ms) last → IsExclusiveSumOf ms last
 sum_from_merges ms last h m =
-    let end = merged (IsInputOf ms) (cubes_of ms) last m (are_cubes-cubes_of ms h) (inputs-cubes_of (IsInputOf ms) ms (λ i k. k)) in
+    let end = merged (StandsIn ms) (cubes_of ms) last m (are_cubes-cubes_of ms h) (inputs-cubes_of (StandsIn ms) ms (λ i k. k)) in
     record {
       values = λ x. end.values x ∙ value-cubes_of x ms;
       few = omega (arith, end.few, length-cubes_of ms);
@@ -204,10 +205,10 @@ pair_is_one cubes i j k l p q =
     ] in
     (first, second)
 
-not_done : (cubes : List (List Literal)) (i j : ℕ) → AreApart cubes → IsFirstClosePair cubes i j → ⊥
+not_done : (cubes : List (List Literal)) (i j : ℕ) → AreFarApart cubes → IsFirstClosePair cubes i j → ⊥
 not_done cubes i j a p = absurd (omega (arith, p.close, a i j p.ordered p.in_range))
 
-done_is_it : (cubes b : List (List Literal)) → AreApart cubes → Merges cubes b → cubes ≡ b
+done_is_it : (cubes b : List (List Literal)) → AreFarApart cubes → Merges cubes b → cubes ≡ b
 done_is_it cubes b apart (done cs other) = refl
 done_is_it cubes b apart (cancelled cs end i j f h m) = absurd (not_done cs i j apart f)
 done_is_it cubes b apart (joined cs end i j cube f h g m) = absurd (not_done cs i j apart f)
@@ -233,12 +234,15 @@ joined_is_it cubes a b i j cube f h g rest (cancelled cs end k l p e m) =
     absurd (omega arith)
 joined_is_it cubes a b i j cube f h g rest (joined cs end k l other p e o m) =
     let one = pair_is_one cs i j k l f p in
-    let there : IsJoined (cube_at cs i) (cube_at cs j) other = subst (λ n. IsJoined (cube_at cs n) (cube_at cs j) other) (sym one.0) (subst (λ n. IsJoined (cube_at cs k) (cube_at cs n) other) (sym one.1) o) in
+    let there : IsJoined (cube_at cs i) (cube_at cs j) other = subst (λ n. IsJoined (cube_at cs n) (cube_at cs j) other) (sym one.0)
+    (subst (λ n. IsJoined (cube_at cs k) (cube_at cs n) other) (sym one.1) o) in
     let cubes_same : other ≡ cube = same_states_same other cube there.is_cube g.is_cube (λ i. there.states i ∙ sym (g.states i)) in
     rest end (subst (λ (c : List Literal). Merges (without_pair cs i j ++ c ∷ []) end) cubes_same
     (subst (λ n. Merges (without_pair cs n j ++ other ∷ []) end) (sym one.0) (subst (λ n. Merges (without_pair cs k n ++ other ∷ []) end) (sym one.1) m)))
 
 pub merging_is_determined : (cubes a b : List (List Literal)) → Merges cubes a → Merges cubes b → a ≡ b
 merging_is_determined cubes a b (done cs apart) m = done_is_it cs b apart m
-merging_is_determined cubes a b (cancelled cs end i j f h m) n = cancelled_is_it cs end b i j f h (λ c n. merging_is_determined (without_pair cs i j) end c m n) n
-merging_is_determined cubes a b (joined cs end i j cube f h g m) n = joined_is_it cs end b i j cube f h g (λ c n. merging_is_determined (without_pair cs i j ++ cube ∷ []) end c m n) n
+merging_is_determined cubes a b (cancelled cs end i j f h m) n = cancelled_is_it cs end b i j f h
+    (λ c n. merging_is_determined (without_pair cs i j) end c m n) n
+merging_is_determined cubes a b (joined cs end i j cube f h g m) n = joined_is_it cs end b i j cube f h g
+    (λ c n. merging_is_determined (without_pair cs i j ++ cube ∷ []) end c m n) n
