@@ -5,10 +5,10 @@ use Rattle.std.proofs.lemmas.Bool.Decides.{leb_tells, eqb_tells}
 use Rattle.mct_circuit.specs.Gates.{GateView, IsGateOn, flip_of}
 use Rattle.gate_split.specs.Split.{idle_lines, in_falling_order, ladder, there_and_back, over_idle_lines, with_enough_idle, first_half, first_flips, second_flips, in_halves, over_few_lines}
 use Rattle.gate_split.specs.Costs.{SplitCosts}
-use Rattle.gate_split.proofs.Building.{length-ladder}
-use Rattle.gate_split.proofs.Pieces.{Halves, some_is, idle_serves}
-use Rattle.gate_split.proofs.Steps.{halves_of}
-use Rattle.gate_split.proofs.Steps.{second_length, first_length}
+use Rattle.gate_split.proofs.BuildingLemmas.{length-ladder}
+use Rattle.gate_split.proofs.EffectLemmas.{Halves, some_is, idle_serves}
+use Rattle.gate_split.proofs.WideLemmas.{halves_of}
+use Rattle.gate_split.proofs.WideLemmas.{second_length, first_length}
 
 length-there : (gates : List GateView) → length (there_and_back gates) ≡ length gates + (length gates - 1)
 length-there gates = length-append gates (drop 1 (reverse gates)) ∙ ap (λ m. length gates + m) (length-drop 1 (reverse gates) ∙ ap (λ m. m - 1) (length-reverse gates))

@@ -1,16 +1,18 @@
 -- What the gates in place of one do: they stand on the lines, are narrow, and have the gate's effect for every content of the lines.
-use Rattle.std.proofs.Common.{◌≡◌, ◌≢◌, ℕ, zero, suc, ◌+◌, ◌-◌, ◌<◌, ◌≤◌, Bool, List, [], ◌∷◌, ◌++◌, length, take, drop, reverse, Some, refl, sym, ap, ◌∙◌, subst, inl, inr, arith}
+use Rattle.std.proofs.Common.{◌≡◌, ◌≢◌, ℕ, ◌+◌, ◌-◌, ◌<◌, ◌≤◌, Bool, List, [], ◌∷◌, ◌++◌, length, take, drop, reverse, Some, refl, sym, ap, ◌∙◌, subst, inl, inr, arith}
 use Rattle.std.specs.List.{AllByRecursion}
 use Rattle.std.proofs.lemmas.List.{reverse-append, reverse-reverse, append_assoc, length-reverse, length-append, length-drop, length-take-le, take-append-drop}
 use Rattle.std.proofs.lemmas.Bool.Decides.{leb_tells}
-use Rattle.mct_circuit.specs.Gates.{GateView, after_gate, line_map, flip_of, AreDifferent, IsGateOn, AreGatesOn, IsNarrow, AreNarrow}
-use Rattle.mct_circuit.proofs.Undoing.{AllByRecursion-append, AllByRecursion-left, AllByRecursion-right, AllByRecursion-reverse, AllByRecursion-take, AreDifferent-parts, line_map-append, lines_of-flip_of}
-use Rattle.mct_circuit.proofs.Weights.{AreDifferent-left}
+use Rattle.list_facts.proofs.AllLemmas.{AllByRecursion-append, AllByRecursion-both, AllByRecursion-drop, AllByRecursion-left, AllByRecursion-reverse, AllByRecursion-right, AllByRecursion-take, AllByRecursion-weaker}
+use Rattle.list_facts.proofs.OrderLemmas.{AreDifferent-left, AreDifferent-parts, AreDifferent-push, AreDifferent-reverse, AreDifferent-take}
+use Rattle.mct_circuit.specs.Gates.{GateView, after_gate, line_map, flip_of, IsGateOn, AreGatesOn, IsNarrow, AreNarrow}
+use Rattle.list_facts.specs.Lists.{AreDifferent}
+use Rattle.mct_circuit.proofs.ReversalLemmas.{line_map-append, lines_of-flip_of}
 use Rattle.gate_split.specs.Idle.{Avoids, Serves}
 use Rattle.gate_split.specs.Split.{idle_lines, in_falling_order, ladder, there_and_back, over_idle_lines, with_enough_idle, first_half, first_flips, second_flips, in_halves, over_few_lines, split_positive}
-use Rattle.gate_split.proofs.Flips.{length-flip_of, flip_of-flip_of, before_and_behind}
-use Rattle.gate_split.proofs.Ladders.{Fits, fits, fits_gates, fits_narrow, ladders_flip, AreDifferent-reverse, AreDifferent-push, Avoids-flip, Avoids-back, heads_apart, tails_apart}
-use Rattle.gate_split.proofs.Lines.{falling_below, falling_different, idle_apart, falling_members, length-in_falling_order}
+use Rattle.gate_split.proofs.FlipLemmas.{length-flip_of, flip_of-flip_of, before_and_behind}
+use Rattle.gate_split.proofs.LadderLemmas.{Fits, fits, fits_gates, fits_narrow, ladders_flip, Avoids-flip, Avoids-back, heads_apart, tails_apart}
+use Rattle.gate_split.proofs.FallingLineLemmas.{falling_below, falling_different, idle_apart, falling_members, length-in_falling_order}
 
 pub record Does (n : ℕ) (gates : List GateView) (gate : GateView) : Type 0 where
   pub placed : AreGatesOn n gates
@@ -19,27 +21,9 @@ pub record Does (n : ℕ) (gates : List GateView) (gate : GateView) : Type 0 whe
 
 -- ---- lists
 
-pub imply : {X : Type 0} (P Q : X → Type 0) (xs : List X) → ((x : X) → P x → Q x) → AllByRecursion P xs → AllByRecursion Q xs
-imply P Q [] f p = tt
-imply P Q (x ∷ xs) f p = (f x p.0, imply P Q xs f p.1)
-
-drop_all : {X : Type 0} (P : X → Type 0) (n : ℕ) (xs : List X) → AllByRecursion P xs → AllByRecursion P (drop n xs)
-drop_all P zero xs p = p
-drop_all P (suc n) [] p = tt
-drop_all P (suc n) (x ∷ xs) p = drop_all P n xs p.1
-
-AreDifferent-take : (n : ℕ) (xs : List ℕ) → AreDifferent xs → AreDifferent (take n xs)
-AreDifferent-take zero xs d = tt
-AreDifferent-take (suc n) [] d = tt
-AreDifferent-take (suc n) (x ∷ xs) d = (AllByRecursion-take (λ y. x ≢ y) n xs d.0, AreDifferent-take n xs d.1)
-
 apart_flip : (xs ys : List ℕ) → AllByRecursion (λ x. Avoids x ys) xs → AllByRecursion (λ y. Avoids y xs) ys
 apart_flip xs [] p = tt
 apart_flip xs (y ∷ ys) p = (Avoids-flip y xs (heads_apart y ys xs p), apart_flip xs ys (tails_apart y ys xs p))
-
-both : {X : Type 0} (P Q R : X → Type 0) (xs : List X) → ((x : X) → P x → Q x → R x) → AllByRecursion P xs → AllByRecursion Q xs → AllByRecursion R xs
-both P Q R [] f p q = tt
-both P Q R (x ∷ xs) f p q = (f x p.0 q.0, both P Q R xs f p.1 q.1)
 
 -- the lines of a flip
 pub different_of : (n : ℕ) (controls : List ℕ) (target : ℕ) → IsGateOn n (flip_of controls target) → AreDifferent (controls ++ target ∷ [])
@@ -58,8 +42,8 @@ serves_fits n controls target idle s e =
     let d = different_of n controls target s.gate in
     let r = below_of n controls target s.gate in
     let turned : AreDifferent (target ∷ reverse controls) = rw (reverse-append controls (target ∷ [])) at (AreDifferent-reverse (controls ++ target ∷ []) d) in
-    let off_target : Avoids target idle = Avoids-flip target idle (heads_apart target [] idle (imply (λ a. Avoids a (controls ++ target ∷ [])) (λ a. Avoids a (target ∷ [])) idle (λ a p. AllByRecursion-right (λ y. a ≢ y) controls (target ∷ []) p) s.apart)) in
-    let off_controls = imply (λ a. Avoids a (controls ++ target ∷ [])) (λ a. Avoids a (reverse controls)) idle (λ a p. AllByRecursion-reverse (λ y. a ≢ y) controls (AllByRecursion-left (λ y. a ≢ y) controls (target ∷ []) p)) s.apart in
+    let off_target : Avoids target idle = Avoids-flip target idle (heads_apart target [] idle (AllByRecursion-weaker (λ a. Avoids a (controls ++ target ∷ [])) (λ a. Avoids a (target ∷ [])) (λ a p. AllByRecursion-right (λ y. a ≢ y) controls (target ∷ []) p) idle s.apart)) in
+    let off_controls = AllByRecursion-weaker (λ a. Avoids a (controls ++ target ∷ [])) (λ a. Avoids a (reverse controls)) (λ a p. AllByRecursion-reverse (λ y. a ≢ y) controls (AllByRecursion-left (λ y. a ≢ y) controls (target ∷ []) p)) idle s.apart in
     fits n target (reverse controls) (reverse idle)
     (AllByRecursion-right (λ x. x < n) controls (target ∷ []) r).0
     turned
@@ -72,8 +56,8 @@ serves_fits n controls target idle s e =
 pub all_twice : (P : GateView → Type 0) (rungs : List GateView) → AllByRecursion P rungs → AllByRecursion P (there_and_back rungs ++ there_and_back (drop 1 rungs))
 all_twice P rungs p =
     let there : (gates : List GateView) → AllByRecursion P gates → AllByRecursion P (there_and_back gates) =
-    λ gates q. AllByRecursion-append P gates (drop 1 (reverse gates)) q (drop_all P 1 (reverse gates) (AllByRecursion-reverse P gates q)) in
-    AllByRecursion-append P (there_and_back rungs) (there_and_back (drop 1 rungs)) (there rungs p) (there (drop 1 rungs) (drop_all P 1 rungs p))
+    λ gates q. AllByRecursion-append P gates (drop 1 (reverse gates)) q (AllByRecursion-drop P 1 (reverse gates) (AllByRecursion-reverse P gates q)) in
+    AllByRecursion-append P (there_and_back rungs) (there_and_back (drop 1 rungs)) (there rungs p) (there (drop 1 rungs) (AllByRecursion-drop P 1 rungs p))
 
 pub over_idle : (n : ℕ) (controls : List ℕ) (target : ℕ) (idle : List ℕ) → Serves n controls target idle → length controls ≡ length idle + 2 → 3 ≤ length controls → Does n (over_idle_lines controls target idle) (flip_of controls target)
 over_idle n controls target idle s e h =
@@ -133,7 +117,7 @@ first_serves n first second target idle s =
       below = falling_below _ n;
       different = falling_different _ n;
       apart = falling_members (λ y. Avoids y (first ++ idle ∷ [])) n rest
-          (both (λ y. Avoids y first) (λ y. y ≢ idle) (λ y. Avoids y (first ++ idle ∷ [])) rest (λ y p q. AllByRecursion-append (λ z. y ≢ z) first (idle ∷ []) p (q, tt)) (apart_flip first rest parts.0) back);
+          (AllByRecursion-both (λ y. Avoids y first) (λ y. y ≢ idle) (λ y. Avoids y (first ++ idle ∷ [])) (λ y p q. AllByRecursion-append (λ z. y ≢ z) first (idle ∷ []) p (q, tt)) rest (apart_flip first rest parts.0) back);
     }
 
 pub second_serves : (n : ℕ) (first second : List ℕ) (target idle : ℕ) → Halves n first second target idle → Serves n (second ++ idle ∷ []) target (in_falling_order n first)
@@ -155,14 +139,13 @@ second_serves n first second target idle s =
       below = falling_below _ n;
       different = falling_different _ n;
       apart = falling_members (λ y. Avoids y ((second ++ idle ∷ []) ++ target ∷ [])) n first
-          (both (λ x. Avoids x rest) (λ x. x ≢ idle) (λ x. Avoids x ((second ++ idle ∷ []) ++ target ∷ [])) first
-          (λ x p q. AllByRecursion-append (λ z. x ≢ z) (second ++ idle ∷ []) (target ∷ [])
+          (AllByRecursion-both (λ x. Avoids x rest) (λ x. x ≢ idle) (λ x. Avoids x ((second ++ idle ∷ []) ++ target ∷ [])) (λ x p q. AllByRecursion-append (λ z. x ≢ z) (second ++ idle ∷ []) (target ∷ [])
           (AllByRecursion-append (λ z. x ≢ z) second (idle ∷ []) (AllByRecursion-left (λ z. x ≢ z) second (target ∷ []) p) (q, tt))
-          (AllByRecursion-right (λ z. x ≢ z) second (target ∷ []) p))
+          (AllByRecursion-right (λ z. x ≢ z) second (target ∷ []) p)) first
           parts.0 behind);
     }
 
--- two flips, twice each, flip the target by the controls of both (Lemma 7.3)
+-- two flips, twice each, flip the target by the controls of both (Barenco and others 1995, Lemma 7.3)
 halves_do : (n : ℕ) (first second : List ℕ) (target idle : ℕ) (Q P : List GateView) → Halves n first second target idle → Does n Q (flip_of (second ++ idle ∷ []) target) → Does n P (flip_of first idle)
     → Does n ((Q ++ P) ++ (Q ++ P)) (flip_of (first ++ second) target)
 halves_do n first second target idle Q P s dq dp =
@@ -176,7 +159,7 @@ halves_do n first second target idle Q P s dq dp =
     let target_low : target < n = (AllByRecursion-right (λ x. x < n) second (target ∷ []) (AllByRecursion-right (λ x. x < n) first rest s.below)).0 in
     let off_target = AllByRecursion-right (λ y. idle ≢ y) second (target ∷ []) off_rest in
     let target_second : Avoids target second = Avoids-flip target second (heads_apart target [] second ends.0) in
-    let target_first : Avoids target first = Avoids-flip target first (heads_apart target [] first (imply (λ x. Avoids x rest) (λ x. Avoids x (target ∷ [])) first (λ x p. AllByRecursion-right (λ z. x ≢ z) second (target ∷ []) p) parts.0)) in
+    let target_first : Avoids target first = Avoids-flip target first (heads_apart target [] first (AllByRecursion-weaker (λ x. Avoids x rest) (λ x. Avoids x (target ∷ [])) (λ x p. AllByRecursion-right (λ z. x ≢ z) second (target ∷ []) p) first parts.0)) in
     record {
       placed = AllByRecursion-append (IsGateOn n) (Q ++ P) (Q ++ P) (AllByRecursion-append (IsGateOn n) Q P dq.placed dp.placed) (AllByRecursion-append (IsGateOn n) Q P dq.placed dp.placed);
       narrow = AllByRecursion-append IsNarrow (Q ++ P) (Q ++ P) (AllByRecursion-append IsNarrow Q P dq.narrow dp.narrow) (AllByRecursion-append IsNarrow Q P dq.narrow dp.narrow);

@@ -1,12 +1,14 @@
 -- Flips as changes of bits: two lines at a time, and flips that do not meet.
 use Rattle.std.proofs.Common.{◌≡◌, ◌≢◌, ℕ, ◌<◌, Bool, true, false, not, cond, ◌&&◌, List, [], ◌∷◌, ◌++◌, length, map, set, swap, refl, sym, ap, ◌∙◌}
 use Rattle.std.specs.List.{AllByRecursion, list_all}
+use Rattle.std.proofs.Math.Bool.{not-not}
 use Rattle.std.proofs.lemmas.List.{length-set, get_or-set_same, get_or-set_other, set-set, set_comm, set-get_or, map-append}
 use Rattle.std.proofs.lemmas.List.Folds.{list_all-append}
 use Rattle.mct_circuit.specs.declared.gate.Control.{Control}
 use Rattle.mct_circuit.specs.declared.gate.Op.TheVariants.{Flip, Swap}
-use Rattle.mct_circuit.specs.Gates.{bit_of, is_met, after_gate, flip_of, positive}
-use Rattle.mct_circuit.proofs.Undoing.{swap_is}
+use Rattle.list_facts.specs.Bits.{bit_of}
+use Rattle.mct_circuit.specs.Gates.{is_met, after_gate, flip_of, positive}
+use Rattle.mct_circuit.proofs.ReversalLemmas.{swap_is}
 use Rattle.gate_split.specs.Idle.{Avoids}
 
 abbrev pub all_on : List Bool → List ℕ → Bool
@@ -17,10 +19,6 @@ flip_when b line bits = cond b (set bits line (not (bit_of bits line))) bits
 
 abbrev pub flipped : Bool → Bool → Bool
 flipped b bit = cond b (not bit) bit
-
-pub not-not : (b : Bool) → not (not b) ≡ b
-not-not true = refl
-not-not false = refl
 
 pub length-flip : (b : Bool) (line : ℕ) (bits : List Bool) → length (flip_when b line bits) ≡ length bits
 length-flip true line bits = length-set bits line (not (bit_of bits line))

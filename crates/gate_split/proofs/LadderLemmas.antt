@@ -2,11 +2,14 @@
 use Rattle.std.proofs.Common.{◌≡◌, ◌≢◌, ℕ, ◌+◌, ◌<◌, ◌≤◌, Bool, List, [], ◌∷◌, ◌++◌, length, drop, reverse, refl, sym, ap, ◌∙◌, arith}
 use Rattle.std.specs.List.{AllByRecursion}
 use Rattle.std.proofs.lemmas.List.{reverse-append, append_assoc, drop-append-le, length-reverse}
-use Rattle.mct_circuit.specs.Gates.{GateView, after_gate, line_map, flip_of, AreDifferent, IsGateOn, AreGatesOn, AreNarrow}
-use Rattle.mct_circuit.proofs.Undoing.{AllByRecursion-append, AllByRecursion-reverse, line_map-append, lines_of-flip_of}
+use Rattle.list_facts.proofs.AllLemmas.{AllByRecursion-append, AllByRecursion-reverse}
+use Rattle.list_facts.proofs.OrderLemmas.{AreDifferent-reverse}
+use Rattle.mct_circuit.specs.Gates.{GateView, after_gate, line_map, flip_of, IsGateOn, AreGatesOn, AreNarrow}
+use Rattle.list_facts.specs.Lists.{AreDifferent}
+use Rattle.mct_circuit.proofs.ReversalLemmas.{line_map-append, lines_of-flip_of}
 use Rattle.gate_split.specs.Idle.{Avoids}
 use Rattle.gate_split.specs.Split.{ladder, there_and_back}
-use Rattle.gate_split.proofs.Flips.{length-flip_of, flips_commute, flip_of-flip_of, before_and_behind}
+use Rattle.gate_split.proofs.FlipLemmas.{length-flip_of, flips_commute, flip_of-flip_of, before_and_behind}
 
 -- ---- lists of lines
 
@@ -17,15 +20,6 @@ Avoids-flip x (y ∷ ys) d = ((λ e. d.0 (sym e)), Avoids-flip x ys d.1)
 pub Avoids-back : (x : ℕ) (xs : List ℕ) → Avoids x xs → AllByRecursion (λ y. y ≢ x) xs
 Avoids-back x [] d = tt
 Avoids-back x (y ∷ ys) d = ((λ e. d.0 (sym e)), Avoids-back x ys d.1)
-
-pub AreDifferent-push : (xs : List ℕ) (x : ℕ) → AreDifferent xs → AllByRecursion (λ y. y ≢ x) xs → AreDifferent (xs ++ x ∷ [])
-AreDifferent-push [] x d a = (tt, tt)
-AreDifferent-push (y ∷ ys) x d a = (AllByRecursion-append (λ z. y ≢ z) ys (x ∷ []) d.0 (a.0, tt), AreDifferent-push ys x d.1 a.1)
-
-pub AreDifferent-reverse : (xs : List ℕ) → AreDifferent xs → AreDifferent (reverse xs)
-AreDifferent-reverse [] d = tt
-AreDifferent-reverse (x ∷ xs) d =
-    rw (reverse-append (x ∷ []) xs) (AreDifferent-push (reverse xs) x (AreDifferent-reverse xs d.1) (AllByRecursion-reverse (λ y. y ≢ x) xs (Avoids-back x xs d.0)))
 
 pub heads_apart : (c : ℕ) (cs ls : List ℕ) → AllByRecursion (λ a. Avoids a (c ∷ cs)) ls → AllByRecursion (λ a. a ≢ c) ls
 heads_apart c cs [] d = tt

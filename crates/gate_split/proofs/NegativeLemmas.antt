@@ -2,19 +2,22 @@
 use Rattle.std.proofs.Common.{◌≡◌, ◌≢◌, ℕ, ◌+◌, ◌<◌, Bool, true, false, not, cond, leb, Option, Some, None, Result, Ok, Err, List, [], ◌∷◌, ◌++◌, length, map, refl, sym, ap, ◌∙◌, subst, arith}
 use Rattle.std.specs.List.{AllByRecursion, list_all}
 use Rattle.std.proofs.lemmas.List.{get_or-set_same, append_assoc, map-append}
+use Rattle.list_facts.proofs.AllLemmas.{AllByRecursion-append, AllByRecursion-left, AllByRecursion-right}
+use Rattle.list_facts.proofs.OrderLemmas.{AreDifferent-left, AreDifferent-parts}
 use Rattle.mct_circuit.specs.declared.gate.Control.{Control}
 use Rattle.mct_circuit.specs.declared.gate.Op.{Op}
 use Rattle.mct_circuit.specs.declared.gate.Op.TheVariants.{Flip, Swap}
-use Rattle.mct_circuit.specs.Gates.{GateView, bit_of, is_met, after_gate, line_map, flip_of, positive, AreDifferent, IsGateOn, AreGatesOn, IsNarrow, AreNarrow}
-use Rattle.mct_circuit.proofs.Undoing.{AllByRecursion-append, AllByRecursion-left, AllByRecursion-right, AreDifferent-parts, line_map-append, length-line_map}
-use Rattle.mct_circuit.proofs.Weights.{AreDifferent-left}
+use Rattle.mct_circuit.specs.Gates.{GateView, is_met, after_gate, line_map, flip_of, positive, IsGateOn, AreGatesOn, IsNarrow, AreNarrow}
+use Rattle.list_facts.specs.Bits.{bit_of}
+use Rattle.list_facts.specs.Lists.{AreDifferent}
+use Rattle.mct_circuit.proofs.ReversalLemmas.{line_map-append, length-line_map}
 use Rattle.gate_split.specs.declared.fault.SplitFault.{SplitFault}
 use Rattle.gate_split.specs.declared.fault.SplitFault.TheVariants.{Gates}
 use Rattle.gate_split.specs.Idle.{Avoids}
 use Rattle.gate_split.specs.Split.{flips_of_negatives, split_positive, between, split_flip, split_op, split_gate, with_piece, split_from}
-use Rattle.gate_split.proofs.Flips.{all_on, flip_when, flips_meet, flip-flip, length-flip, bit_of-flip, met_same, swap_by_flips, length-flip_of}
-use Rattle.gate_split.proofs.Ladders.{Avoids-flip, heads_apart}
-use Rattle.gate_split.proofs.Pieces.{Does, alone, gate_on, positive_does}
+use Rattle.gate_split.proofs.FlipLemmas.{all_on, flip_when, flips_meet, flip-flip, length-flip, bit_of-flip, met_same, swap_by_flips, length-flip_of}
+use Rattle.gate_split.proofs.LadderLemmas.{Avoids-flip, heads_apart}
+use Rattle.gate_split.proofs.EffectLemmas.{Does, alone, gate_on, positive_does}
 
 abbrev pub lines : List Control → List ℕ
 lines controls = map (λ (control : Control). control.line) controls

@@ -6,12 +6,13 @@ use Rattle.std.proofs.lemmas.Bool.Decides.{leb_tells}
 use Rattle.mct_circuit.specs.declared.gate.Control.{Control}
 use Rattle.mct_circuit.specs.declared.gate.Op.{Op}
 use Rattle.mct_circuit.specs.declared.gate.Op.TheVariants.{Flip, Swap}
-use Rattle.mct_circuit.specs.Gates.{GateView, AreDifferent, flip_of, positive, IsGateOn, IsNarrow, AreNarrow}
+use Rattle.mct_circuit.specs.Gates.{GateView, flip_of, positive, IsGateOn, IsNarrow, AreNarrow}
+use Rattle.list_facts.specs.Lists.{AreDifferent}
 use Rattle.gate_split.specs.declared.fault.SplitFault.{SplitFault}
 use Rattle.gate_split.specs.Split.{flips_of_negatives, split_positive, split_op, split_gate, between, behind, with_piece, split_from}
 use Rattle.gate_split.specs.Costs.{NarrowStay}
-use Rattle.gate_split.proofs.Pieces.{gate_on}
-use Rattle.gate_split.proofs.Negatives.{lines}
+use Rattle.gate_split.proofs.EffectLemmas.{gate_on}
+use Rattle.gate_split.proofs.NegativeLemmas.{lines}
 
 -- ---- flips and swaps
 

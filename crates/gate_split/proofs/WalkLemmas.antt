@@ -2,19 +2,18 @@
 use Rattle.std.proofs.Common.{◌≡◌, ℕ, ◌+◌, ◌<◌, ◌≤◌, List, [], ◌∷◌, ◌++◌, length, get_or, drop, Some, Result, Err, refl, sym, ap, ◌∙◌, inl, inr, arith}
 use Rattle.std.proofs.lemmas.List.{drop_more, drop_all, length-append}
 use Rattle.std.proofs.lemmas.Bool.Decides.{leb_tells}
+use Rattle.list_facts.proofs.AllLemmas.{AllByRecursion-at, AllByRecursion-weaker}
 use Rattle.mct_circuit.specs.Gates.{GateView, IsGateOn, AreGatesOn, lines_of}
-use Rattle.mct_circuit.proofs.Applying.{AllByRecursion-at}
 use Rattle.gate_split.specs.declared.fault.SplitFault.{SplitFault}
 use Rattle.gate_split.specs.declared.fault.SplitFault.TheVariants.{Gates}
 use Rattle.gate_split.specs.Split.{split_gate, with_piece, split_from, split_list, behind}
-use Rattle.gate_split.proofs.Negatives.{split_gate_does, Walked, walk}
-use Rattle.gate_split.proofs.Pieces.{imply}
-use Rattle.gate_split.proofs.Steps.{nothing_behind}
+use Rattle.gate_split.proofs.NegativeLemmas.{split_gate_does, Walked, walk}
+use Rattle.gate_split.proofs.WideLemmas.{nothing_behind}
 
 -- a circuit's gates on more lines
 pub on_more : (m n : ℕ) (gates : List GateView) → m ≤ n → AreGatesOn m gates → AreGatesOn n gates
 on_more m n gates h g =
-    imply (IsGateOn m) (IsGateOn n) gates (λ gate p. record { different = p.different; in_range = imply (λ l. l < m) (λ l. l < n) (lines_of gate) (λ l q. omega arith) p.in_range }) g
+    AllByRecursion-weaker (IsGateOn m) (IsGateOn n) (λ gate p. record { different = p.different; in_range = AllByRecursion-weaker (λ l. l < m) (λ l. l < n) (λ l q. omega arith) (lines_of gate) p.in_range }) gates g
 
 pub gate_at : (n : ℕ) (gates : List GateView) (i : ℕ) (gate : GateView) → AreGatesOn n gates → i < length gates → gate ≡ get_or gates i gate → IsGateOn n gate
 gate_at n gates i gate g h e = rw (← e) at (AllByRecursion-at (IsGateOn n) gates i gate g h)

@@ -1,20 +1,22 @@
 -- What the calls of the code need, and what their answers make.
-use Rattle.std.proofs.Common.{◌≡◌, ◌≢◌, ℕ, zero, suc, ◌+◌, ◌-◌, ◌<◌, ◌≤◌, leb, cond, List, [], ◌∷◌, ◌++◌, length, get_or, take, drop, reverse, Option, Some, None, refl, sym, ap, ◌∙◌, subst, inl, inr, arith}
+use Rattle.std.proofs.Common.{◌≡◌, ◌≢◌, ℕ, zero, suc, ◌+◌, ◌-◌, ◌<◌, ◌≤◌, leb, cond, List, [], ◌∷◌, ◌++◌, length, take, drop, reverse, Option, Some, None, refl, sym, ap, ◌∙◌, subst, inl, inr, arith, Ok, Err}
 use Rattle.std.specs.List.{AllByRecursion}
 use Rattle.std.proofs.lemmas.List.{append_assoc, append-nil, length-append, length-take, length-take-le, length-drop, take-append-drop, take-take}
 use Rattle.std.proofs.lemmas.Bool.Decides.{leb_tells}
+use Rattle.list_facts.proofs.AllLemmas.{AllByRecursion-left, AllByRecursion-right, AllByRecursion-weaker}
+use Rattle.list_facts.proofs.OrderLemmas.{AreDifferent-left, AreDifferent-parts}
 use Rattle.mct_circuit.specs.Gates.{GateView, flip_of, HasDifferentLines, IsGateOn}
-use Rattle.mct_circuit.proofs.Undoing.{AllByRecursion-left, AllByRecursion-right, AreDifferent-parts}
-use Rattle.mct_circuit.proofs.Weights.{AreDifferent-left}
+use Rattle.gate_split.specs.declared.fault.Refusal.{Refusal}
+use Rattle.gate_split.specs.Steps.{first_idle}
 use Rattle.gate_split.specs.Idle.{Avoids, Serves}
 use Rattle.gate_split.specs.Split.{idle_lines, in_falling_order, ladder, over_idle_lines, with_enough_idle, first_half, first_flips, second_flips, in_halves, over_few_lines, split_positive, behind}
-use Rattle.gate_split.proofs.Ladders.{fits_gates}
-use Rattle.gate_split.proofs.Lines.{length-in_falling_order}
-use Rattle.gate_split.proofs.Pieces.{imply, different_of, below_of, serves_fits, serves_take, idle_serves, Halves}
+use Rattle.gate_split.proofs.LadderLemmas.{fits_gates}
+use Rattle.gate_split.proofs.FallingLineLemmas.{length-in_falling_order}
+use Rattle.gate_split.proofs.EffectLemmas.{different_of, below_of, serves_fits, serves_take, idle_serves, Halves}
 
 pub rungs_differ : (n : ℕ) (controls : List ℕ) (target : ℕ) (idle : List ℕ) → Serves n controls target idle → length controls ≡ length idle + 2 → AllByRecursion HasDifferentLines (ladder target (reverse controls) (reverse idle))
 rungs_differ n controls target idle s e =
-    imply (IsGateOn n) HasDifferentLines (ladder target (reverse controls) (reverse idle)) (λ g p. p.different) (fits_gates n target (reverse controls) (reverse idle) (serves_fits n controls target idle s e))
+    AllByRecursion-weaker (IsGateOn n) HasDifferentLines (λ g p. p.different) (ladder target (reverse controls) (reverse idle)) (fits_gates n target (reverse controls) (reverse idle) (serves_fits n controls target idle s e))
 
 pub cut_differ : (n : ℕ) (controls : List ℕ) (target : ℕ) (idle : List ℕ) → Serves n controls target idle → 2 < length controls → length controls ≤ length idle + 2
     → AllByRecursion HasDifferentLines (ladder target (reverse controls) (reverse (take (length controls - 2) idle)))
@@ -155,15 +157,23 @@ pub positive_halves : (n : ℕ) (controls : List ℕ) (target : ℕ) (idle : Lis
 positive_halves n controls target idle a ls h e short some =
     positive_few n controls target idle h e short ∙ few_some n controls target (length controls - 2) (idle_lines n (controls ++ target ∷ [])) a ls (sym e ∙ some)
 
--- the first idle line of a gate
-pub first_idle : (n : ℕ) (controls : List ℕ) (target : ℕ) (idle : List ℕ) (a : ℕ) (ls : List ℕ) → IsGateOn n (flip_of controls target) → idle ≡ take (length controls - 2) (idle_lines n (controls ++ target ∷ [])) → idle ≡ a ∷ ls → (a < n) × Avoids a (controls ++ target ∷ [])
-first_idle n controls target idle a ls g e some =
-    let s : Serves n controls target (a ∷ ls) = subst (Serves n controls target) (sym e ∙ some) (serves_take n controls target (length controls - 2) (idle_lines n (controls ++ target ∷ [])) (idle_serves n controls target g)) in
+-- the first idle line of a gate is none of its lines
+pub first_idle_apart : (n : ℕ) (controls : List ℕ) (target : ℕ) (idle : List ℕ) (a : ℕ) (ls : List ℕ) → IsGateOn n (flip_of controls target)
+    → idle ≡ take (length controls - 2) (idle_lines n (controls ++ target ∷ [])) → idle ≡ a ∷ ls → (a < n) × Avoids a (controls ++ target ∷ [])
+first_idle_apart n controls target idle a ls g e some =
+    let cut = serves_take n controls target (length controls - 2) (idle_lines n (controls ++ target ∷ [])) (idle_serves n controls target g) in
+    let s : Serves n controls target (a ∷ ls) = subst (Serves n controls target) (sym e ∙ some) cut in
     (s.below.0, s.apart.0)
 
-pub first_is : (xs : List ℕ) → 1 ≤ length xs → xs ≡ get_or xs 0 0 ∷ drop 1 xs
-first_is [] h = absurd (omega arith)
-first_is (x ∷ xs) h = refl
+-- an idle line was found, so it is the first
+pub line_found : (idle : List ℕ) (line : ℕ) → Ok line ≡ first_idle idle → idle ≡ line ∷ drop 1 idle
+line_found [] line e = absurd (cc)
+line_found (x ∷ xs) line e = let same : line ≡ x = cc in ap (λ k. k ∷ xs) (sym same)
+
+-- no idle line was found, so there is none
+pub no_line_found : (idle : List ℕ) (refused : Refusal) → Err refused ≡ first_idle idle → idle ≡ []
+no_line_found [] refused e = refl
+no_line_found (x ∷ xs) refused e = absurd (cc)
 
 -- ---- the walk
 

@@ -2,7 +2,7 @@
 ghost use Rattle.std.specs.Prelude.{◌≡◌};
 ghost use Rattle.gate_split.specs.declared.fault.Refusal.TheVariants as refusal;
 ghost use Rattle.gate_split.specs.declared.fault.SplitFault.TheVariants.{Memory};
-ghost use Rattle.gate_split.specs.Steps.{refusal_of};
+ghost use Rattle.gate_split.specs.Steps.{refusal_of, fault_at};
 
 use mct_circuit::GateFault;
 use std::alloc::{AllocError, AllocFailed};
@@ -47,6 +47,19 @@ pub enum Refusal {
     NoIdle,
     Full,
     Memory,
+}
+
+impl Refusal {
+    // Why the circuit was not split, where the gate at this place was refused so.
+    pub fn at(self, gate: u64) -> SplitFault
+        ensures { result ≡ fault_at gate self }
+    {
+        match self {
+            Refusal::NoIdle => SplitFault::NoIdle { gate },
+            Refusal::Full => SplitFault::Gates,
+            Refusal::Memory => SplitFault::Memory,
+        }
+    }
 }
 
 impl From<GateFault> for Refusal {

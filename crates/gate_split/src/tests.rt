@@ -1,6 +1,7 @@
 ghost use Rattle.std.specs.Prelude.{◌≡◌, ◌<◌, ◌≤◌, ◌+◌, List, Bool, ◌∷◌, [], ◌++◌, length, IfOk};
 ghost use Rattle.std.specs.List.{AllByRecursion};
-ghost use Rattle.mct_circuit.specs.Gates.{AreDifferent, line_map};
+ghost use Rattle.list_facts.specs.Lists.{AreDifferent};
+ghost use Rattle.mct_circuit.specs.Gates.{line_map};
 
 use super::*;
 use mct_circuit::{Circuit, Control, Gate, Op};

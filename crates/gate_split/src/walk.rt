@@ -59,11 +59,8 @@ pub fn split(alloc: Global, circuit: &Circuit, lines: u32, limit: u64) -> Result
     let mut piece = Vec::new(alloc);
     let mut place = 0;
     for gate in circuit.gates() {
-        match append_split(alloc, &mut narrow, &mut piece, &mut marks, gate) {
-            Ok(()) => {}
-            Err(Refusal::NoIdle) => return Err(SplitFault::NoIdle { gate: place }),
-            Err(Refusal::Full) => return Err(SplitFault::Gates),
-            Err(Refusal::Memory) => return Err(SplitFault::Memory),
+        if let Err(refusal) = append_split(alloc, &mut narrow, &mut piece, &mut marks, gate) {
+            return Err(refusal.at(place));
         }
         place += 1;
     }

@@ -3,6 +3,7 @@ ghost use Rattle.std.specs.Prelude.{◌≡◌, ℕ, ◌+◌, ◌<◌, ◌≤◌,
 ghost use Rattle.std.specs.List.{AllByRecursion};
 ghost use Rattle.mct_circuit.specs.Gates.{HasDifferentLines, IsGateOn, flip_of};
 ghost use Rattle.gate_split.specs.Idle.{Avoids, Serves};
+ghost use Rattle.gate_split.specs.Steps.{first_idle};
 ghost use Rattle.gate_split.specs.Split.{ladder, there_and_back, over_idle_lines, with_enough_idle, in_halves, split_positive, behind};
 
 use crate::fault::Refusal;
@@ -35,12 +36,18 @@ pub fn push_positive(
         push_over_idle(alloc, gates, controls, target, &idle)?;
         return Ok(());
     }
-    match idle.as_slice() {
+    let line = first_idle(&idle)?;
+    push_halves(alloc, gates, controls, target, line, marks)?;
+    Ok(())
+}
+
+// The first of the idle lines, if there is one.
+fn first_idle(idle: &[u32]) -> Result<u32, Refusal>
+    ensures { result ≡ first_idle idle.now }
+{
+    match idle {
         [] => Err(Refusal::NoIdle),
-        [line, ..] => {
-            push_halves(alloc, gates, controls, target, *line, marks)?;
-            Ok(())
-        }
+        [line, ..] => Ok(*line),
     }
 }
 

@@ -1,19 +1,10 @@
 -- One gate after another, and the lines of a gate in a list.
-use Rattle.std.proofs.Common.{◌≡◌, ℕ, zero, suc, ◌+◌, ◌<◌, Bool, List, [], ◌∷◌, ◌++◌, length, get_or, drop, map, sym, ap, ◌∙◌, arith}
+use Rattle.std.proofs.Common.{◌≡◌, ℕ, ◌+◌, ◌<◌, Bool, List, ◌∷◌, ◌++◌, length, get_or, drop, map, sym, ap, ◌∙◌}
 use Rattle.std.specs.List.{AllByRecursion}
 use Rattle.std.proofs.lemmas.List.{drop_more}
 use Rattle.mct_circuit.specs.declared.gate.Control.{Control}
 use Rattle.mct_circuit.specs.Gates.{GateView, after_gate, line_map, lines_of, IsGateOn, AreGatesOn}
-use Rattle.mct_circuit.proofs.Undoing.{AllByRecursion-left}
-
-pub AllByRecursion-at : {X : Type 0} (P : X → Type 0) (xs : List X) (i : ℕ) (d : X) → AllByRecursion P xs → i < length xs → P (get_or xs i d)
-AllByRecursion-at P [] i d p h = absurd (omega arith)
-AllByRecursion-at P (x ∷ xs) zero d p h = p.0
-AllByRecursion-at P (x ∷ xs) (suc i) d p h = AllByRecursion-at P xs i d p.1 (omega arith)
-
-pub AllByRecursion-map : {X Y : Type 0} (P : Y → Type 0) (f : X → Y) (xs : List X) → AllByRecursion P (map f xs) → AllByRecursion (λ x. P (f x)) xs
-AllByRecursion-map P f [] p = tt
-AllByRecursion-map P f (x ∷ xs) p = (p.0, AllByRecursion-map P f xs p.1)
+use Rattle.list_facts.proofs.AllLemmas.{AllByRecursion-at, AllByRecursion-from_map, AllByRecursion-left}
 
 -- the lines of each gate of a circuit are below the number of its lines
 pub lines_below : (n : ℕ) (gates : List GateView) (i : ℕ) (gate : GateView) → AreGatesOn n gates → i < length gates → gate ≡ get_or gates i gate → AllByRecursion (λ line. line < n) (lines_of gate)
@@ -21,7 +12,7 @@ lines_below n gates i gate g h e = (rw (← e) at (AllByRecursion-at (IsGateOn n
 
 -- the lines of the controls of a gate are below
 pub controls_below : (n : ℕ) (controls : List Control) (targets : List ℕ) → AllByRecursion (λ line. line < n) (map (λ (control : Control). control.line) controls ++ targets) → AllByRecursion (λ (control : Control). control.line < n) controls
-controls_below n controls targets p = AllByRecursion-map (λ line. line < n) (λ (control : Control). control.line) controls (AllByRecursion-left (λ line. line < n) (map (λ (control : Control). control.line) controls) targets p)
+controls_below n controls targets p = AllByRecursion-from_map (λ line. line < n) (λ (control : Control). control.line) controls (AllByRecursion-left (λ line. line < n) (map (λ (control : Control). control.line) controls) targets p)
 
 pub line_map_more : (gates : List GateView) (i : ℕ) (gate : GateView) (bits whole : List Bool) → i < length gates → gate ≡ get_or gates i gate → line_map (drop i gates) bits ≡ whole → line_map (drop (i + 1) gates) (after_gate gate bits) ≡ whole
 line_map_more gates i gate bits whole h e p =

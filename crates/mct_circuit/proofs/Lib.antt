@@ -1,4 +1,6 @@
-pub mod Applying
-pub mod Depths
-pub mod Undoing
-pub mod Weights
+pub mod DepthLemmas
+pub mod FlipLemmas
+pub mod GateListLemmas
+pub mod MoreLinesLemmas
+pub mod ReversalLemmas
+pub mod WeightLemmas

@@ -1,39 +1,16 @@
 -- A gate undoes itself, and a list of gates in reversed order undoes the list.
-use Rattle.std.proofs.Common.{◌≡◌, ◌≢◌, ℕ, zero, suc, ◌<◌, ◌≤◌, Bool, true, false, not, cond, List, [], ◌∷◌, ◌++◌, length, map, take, reverse, swap, set, refl, sym, ap, ◌∙◌, subst, arith}
+use Rattle.std.proofs.Common.{◌≡◌, ◌≢◌, ℕ, ◌<◌, ◌≤◌, Bool, true, false, not, cond, List, [], ◌∷◌, ◌++◌, length, map, take, reverse, swap, set, refl, sym, ap, ◌∙◌, subst, arith}
 use Rattle.std.specs.List.{AllByRecursion, list_all}
+use Rattle.std.proofs.Math.Bool.{not-not}
 use Rattle.std.proofs.lemmas.List.{length-set, get_or-set_same, get_or-set_other, set-set, set_comm, set-get_or, get_or_default, reverse-append, reverse-reverse}
+use Rattle.list_facts.proofs.AllLemmas.{AllByRecursion-append, AllByRecursion-right, AllByRecursion-reverse, AllByRecursion-take}
+use Rattle.list_facts.proofs.OrderLemmas.{AreDifferent-parts}
 use Rattle.mct_circuit.specs.declared.gate.Control.{Control}
 use Rattle.mct_circuit.specs.declared.gate.Op.{Op}
 use Rattle.mct_circuit.specs.declared.gate.Op.TheVariants.{Flip, Swap}
-use Rattle.mct_circuit.specs.Gates.{GateView, bit_of, is_met, after_op, after_gate, line_map, AreDifferent, targets_of, lines_of, HasDifferentLines, IsGateOn, AreGatesOn, ReversedUndoes, flip_of, IsNarrow, AreNarrow}
-
--- ---- lists
-
-pub AllByRecursion-append : {X : Type 0} (P : X → Type 0) (xs ys : List X) → AllByRecursion P xs → AllByRecursion P ys → AllByRecursion P (xs ++ ys)
-AllByRecursion-append P [] ys p q = q
-AllByRecursion-append P (x ∷ xs) ys p q = (p.0, AllByRecursion-append P xs ys p.1 q)
-
-pub AllByRecursion-left : {X : Type 0} (P : X → Type 0) (xs ys : List X) → AllByRecursion P (xs ++ ys) → AllByRecursion P xs
-AllByRecursion-left P [] ys p = tt
-AllByRecursion-left P (x ∷ xs) ys p = (p.0, AllByRecursion-left P xs ys p.1)
-
-pub AllByRecursion-right : {X : Type 0} (P : X → Type 0) (xs ys : List X) → AllByRecursion P (xs ++ ys) → AllByRecursion P ys
-AllByRecursion-right P [] ys p = p
-AllByRecursion-right P (x ∷ xs) ys p = AllByRecursion-right P xs ys p.1
-
-pub AllByRecursion-reverse : {X : Type 0} (P : X → Type 0) (xs : List X) → AllByRecursion P xs → AllByRecursion P (reverse xs)
-AllByRecursion-reverse P [] p = tt
-AllByRecursion-reverse P (x ∷ xs) p = subst (AllByRecursion P) (sym (reverse-append (x ∷ []) xs)) (AllByRecursion-append P (reverse xs) (x ∷ []) (AllByRecursion-reverse P xs p.1) (p.0, tt))
-
-pub AllByRecursion-take : {X : Type 0} (P : X → Type 0) (n : ℕ) (xs : List X) → AllByRecursion P xs → AllByRecursion P (take n xs)
-AllByRecursion-take P zero xs p = tt
-AllByRecursion-take P (suc n) [] p = tt
-AllByRecursion-take P (suc n) (x ∷ xs) p = (p.0, AllByRecursion-take P n xs p.1)
-
--- each of the first list differs from each of the second, where all of both are different
-pub AreDifferent-parts : (xs ys : List ℕ) → AreDifferent (xs ++ ys) → AllByRecursion (λ x. AllByRecursion (λ y. x ≢ y) ys) xs × AreDifferent ys
-AreDifferent-parts [] ys d = (tt, d)
-AreDifferent-parts (x ∷ xs) ys d = let rest = AreDifferent-parts xs ys d.1 in ((AllByRecursion-right (λ y. x ≢ y) xs ys d.0, rest.0), rest.1)
+use Rattle.mct_circuit.specs.Gates.{GateView, is_met, after_op, after_gate, line_map, targets_of, lines_of, HasDifferentLines, IsGateOn, AreGatesOn, ReversedUndoes, flip_of, IsNarrow, AreNarrow}
+use Rattle.list_facts.specs.Bits.{bit_of}
+use Rattle.list_facts.specs.Lists.{AreDifferent}
 
 -- ---- one operation
 
@@ -50,10 +27,6 @@ pub bit_of-after_op : (op : Op) (bits : List Bool) (line : ℕ) → AllByRecursi
 bit_of-after_op (Flip t) bits line r d = get_or-set_other bits t line (not (bit_of bits t)) false d.0
 bit_of-after_op (Swap a b) bits line r d =
     rw (swap_is bits a b r.0 r.1.0) (get_or-set_other (set bits a (bit_of bits b)) b line (bit_of bits a) false d.1.0 ∙ get_or-set_other bits a line (bit_of bits b) false d.0)
-
-not-not : (b : Bool) → not (not b) ≡ b
-not-not true = refl
-not-not false = refl
 
 swap-swap : (bits : List Bool) (a b : ℕ) → a < length bits → b < length bits → a ≢ b → swap (swap bits a b) a b ≡ bits
 swap-swap bits a b p q ne =
@@ -133,6 +106,17 @@ reversed_undoes gates bits g = record {
   behind = reversed_behind gates bits g;
   before = rw reverse-reverse at (reversed_behind (reverse gates) bits (AllByRecursion-reverse (IsGateOn (length bits)) gates g));
 }
+
+-- ---- compute, copy, uncompute
+
+-- where the computing gates take s to u and s' to u', and the copying gates take u to u', all of them take s to s'
+pub conjugated : (computing copying : List GateView) (s u s' u' : List Bool) → AreGatesOn (length s') computing
+    → line_map computing s ≡ u → line_map computing s' ≡ u' → line_map copying u ≡ u'
+    → line_map (computing ++ copying ++ reverse computing) s ≡ s'
+conjugated computing copying s u s' u' on forth forth' copy =
+    line_map-append (computing ++ copying) (reverse computing) s
+    ∙ ap (line_map (reverse computing)) (line_map-append computing copying s ∙ ap (line_map copying) forth ∙ copy ∙ sym forth')
+    ∙ reversed_behind computing s' on
 
 -- ---- a flip by its lines
 

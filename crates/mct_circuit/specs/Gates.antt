@@ -1,6 +1,8 @@
 -- Gates, and the map of bits that a list of gates makes. The bits of the lines are a list, line 0 first.
-use Rattle.std.specs.Prelude.{◌≡◌, ◌≢◌, ℕ, ◌<◌, ◌≤◌, Bool, true, false, not, if◌then◌else◌, List, [], ◌∷◌, ◌++◌, length, map, reverse, swap, slice_set, slice_index_or, ⊤}
+use Rattle.std.specs.Prelude.{◌≡◌, ℕ, ◌<◌, ◌≤◌, Bool, true, not, if◌then◌else◌, List, [], ◌∷◌, ◌++◌, length, map, reverse, swap, slice_set}
 use Rattle.std.specs.List.{AllByRecursion, list_all}
+use Rattle.list_facts.specs.Bits.{bit_of}
+use Rattle.list_facts.specs.Lists.{AreDifferent}
 use Rattle.mct_circuit.specs.declared.gate.Control.{Control}
 use Rattle.mct_circuit.specs.declared.gate.Op.{Op}
 use Rattle.mct_circuit.specs.declared.gate.Op.TheVariants.{Flip, Swap}
@@ -17,10 +19,6 @@ pub record CircuitView : Type 0 where
   pub gates : List GateView
 
 -- ---- the line map
-
--- the bit of a line
-abbrev pub bit_of : List Bool → ℕ → Bool
-bit_of bits line = slice_index_or bits line false
 
 -- a positive control is met where its line is 1, a negative one where it is 0
 abbrev pub is_met : List Bool → Control → Bool
@@ -41,11 +39,6 @@ line_map [] bits = bits
 line_map (gate ∷ gates) bits = line_map gates (after_gate gate bits)
 
 -- ---- what gates keep
-
--- no two are equal
-abbrev pub AreDifferent : List ℕ → Type 0
-AreDifferent [] = ⊤
-AreDifferent (x ∷ xs) = AllByRecursion (λ y. x ≢ y) xs × AreDifferent xs
 
 -- the lines that an operation changes
 abbrev pub targets_of : Op → List ℕ

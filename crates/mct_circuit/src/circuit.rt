@@ -3,7 +3,8 @@ ghost use Rattle.std.specs.Prelude.{◌≡◌, ◌+◌, ◌<◌, ◌≤◌, ◌�
 ghost use Rattle.std.specs.List.{AllByRecursion};
 ghost use Rattle.mct_circuit.specs.declared.circuit.GateFault.TheVariants.{Memory};
 ghost use Rattle.mct_circuit.specs.Sizes.{depth_of};
-ghost use Rattle.mct_circuit.specs.Gates.{AreGatesOn, AreNarrow, AreDifferent, lines_of, flip_of, line_map};
+ghost use Rattle.mct_circuit.specs.Gates.{AreGatesOn, AreNarrow, lines_of, flip_of, line_map};
+ghost use Rattle.list_facts.specs.Lists.{AreDifferent};
 
 use crate::Gate;
 use crate::depth::{greatest_on, set_all};
@@ -125,11 +126,12 @@ impl Circuit {
     }
 
     /// Appends all gates, and leaves `gates` empty. `Full` comes exactly where the circuit would hold more
-    /// than `limit` gates. After a refusal the circuit is unchanged.
+    /// than `limit` gates. After a refusal the circuit and `gates` are unchanged.
     pub fn append(&mut self, gates: &mut Vec<Gate>) -> Result<(), GateFault>
         requires { AreGatesOn self.old.lines gates.old.items }
         ensures ok { OnOk result (self.new ≡ record self.old { gates = self.old.gates ++ gates.old.items }) }
         ensures emptied { OnOk result (gates.new.items ≡ []) }
+        ensures kept { OnErr result (gates.new.items ≡ gates.old.items) }
         ensures full { IsErrOf result GateFault.Full ↔ (self.old.limit < length self.old.gates + length gates.old.items) }
         ensures err { OnErr result (self.new ≡ self.old) }
     {

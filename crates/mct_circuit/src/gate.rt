@@ -1,7 +1,8 @@
 // The gates: a flip of one line or a swap of two, under positive and negative controls.
 ghost use Rattle.std.specs.Prelude.{◌≡◌, ◌<◌, ◌∷◌, [], ◌++◌, length, map, IfOk};
 ghost use Rattle.std.specs.List.{AllByRecursion, list_all};
-ghost use Rattle.mct_circuit.specs.Gates.{AreDifferent, HasDifferentLines, flip_of, positive, lines_of, is_met, after_gate};
+ghost use Rattle.list_facts.specs.Lists.{AreDifferent};
+ghost use Rattle.mct_circuit.specs.Gates.{HasDifferentLines, flip_of, positive, lines_of, is_met, after_gate};
 
 use revc_base::Memory;
 use std::alloc::{AllocError, Global};

@@ -1,5 +1,5 @@
-pub mod Reading
-pub mod Naming
-pub mod Meaning
-pub mod Loops
-pub mod Texts
+pub mod LoopLemmas
+pub mod MeaningLemmas
+pub mod NameLemmas
+pub mod ReadingLemmas
+pub mod TextLemmas

@@ -4,8 +4,10 @@ use Rattle.std.specs.List.{AllByRecursion, AllZip, list_all}
 use Rattle.std.specs.Fmt.{decimal}
 use Rattle.std.proofs.lemmas.Fmt.{decimal_is_IsNumeral, length-decimal-le}
 use Rattle.std.proofs.lemmas.List.{length-map, length-append, length-replicate}
-use Rattle.mct_circuit.specs.Gates.{GateView, lines_of, IsGateOn, AreGatesOn, IsNarrow, AreNarrow, AreDifferent}
-use Rattle.mct_circuit.proofs.Undoing.{AllByRecursion-append, lines_of-flip_of}
+use Rattle.mct_circuit.specs.Gates.{GateView, lines_of, IsGateOn, AreGatesOn, IsNarrow, AreNarrow}
+use Rattle.list_facts.specs.Lists.{AreDifferent}
+use Rattle.list_facts.proofs.AllLemmas.{AllByRecursion-append, AllByRecursion-map, AllByRecursion-weaker}
+use Rattle.mct_circuit.proofs.ReversalLemmas.{lines_of-flip_of}
 use Rattle.real_format.specs.Words.{is_word_byte}
 use Rattle.real_format.specs.declared.file.Mark.{Mark}
 use Rattle.real_format.specs.declared.file.Mark.TheVariants.{Free, Zero, One}
@@ -13,16 +15,8 @@ use Rattle.gate_split.specs.declared.roles.Roles.{Roles}
 use Rattle.real_format.specs.Real.{RealView, RealMeaning, IsName, ReadsFlip, constant_byte, garbage_byte}
 use Rattle.gate_split.specs.Plans.{lines_in}
 use Rattle.real_format.specs.Compiled.{name_of_line, names_of, constants_of, header_lines, gate_words, compiled_lines, compiled_text, CompiledHasMeaning}
-use Rattle.real_format.proofs.Reading.{IsWord, words_of_lines}
-use Rattle.real_format.proofs.Naming.{IsWord-from_name, IsWord-decimal, IsName-name_of_line, length-names_of, names_are_different, names_are_names, name_at}
-
-AllByRecursion-map : {X Y : Type 0} (P : Y → Type 0) (f : X → Y) (xs : List X) → AllByRecursion (λ x. P (f x)) xs → AllByRecursion P (map f xs)
-AllByRecursion-map P f [] p = tt
-AllByRecursion-map P f (x ∷ xs) p = (p.0, AllByRecursion-map P f xs p.1)
-
-AllByRecursion-weaker : {X : Type 0} (P Q : X → Type 0) → ((x : X) → P x → Q x) → (xs : List X) → AllByRecursion P xs → AllByRecursion Q xs
-AllByRecursion-weaker P Q f [] p = tt
-AllByRecursion-weaker P Q f (x ∷ xs) p = (f x p.0, AllByRecursion-weaker P Q f xs p.1)
+use Rattle.real_format.proofs.ReadingLemmas.{IsWord, words_of_lines}
+use Rattle.real_format.proofs.NameLemmas.{IsWord-from_name, IsWord-decimal, IsName-name_of_line, length-names_of, names_are_different, names_are_names, name_at}
 
 -- ---- words
 

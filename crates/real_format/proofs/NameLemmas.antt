@@ -7,6 +7,7 @@ use Rattle.std.proofs.lemmas.List.FromFn.{get_or-map-range_with_len, length-map-
 use Rattle.std.proofs.lemmas.List.Folds.{list_all-append}
 use Rattle.std.proofs.lemmas.Bool.{cases_lt, lt-ltb, ne_eqb}
 use Rattle.std.proofs.lemmas.Bool.Decides.{nat_tests}
+use Rattle.list_facts.proofs.AllLemmas.{AllByRecursion-range}
 use Rattle.real_format.specs.Words.{is_word_byte}
 use Rattle.real_format.specs.Real.{IsName}
 use Rattle.gate_split.specs.declared.roles.Roles.{Roles}
@@ -14,7 +15,7 @@ use Rattle.gate_split.specs.declared.roles.Role.{Role}
 use Rattle.gate_split.specs.declared.roles.Role.TheVariants.{Input, Output, Work, Borrowed}
 use Rattle.gate_split.specs.Plans.{lines_in, first_of, role_at, number_at}
 use Rattle.real_format.specs.Compiled.{letter_of, name_of_line, names_of}
-use Rattle.real_format.proofs.Reading.{true-and, IsWord}
+use Rattle.real_format.proofs.ReadingLemmas.{true-and, IsWord}
 
 -- ---- lists of the values of a function at a range
 
@@ -23,11 +24,6 @@ slice_get-range f a zero i h = absurd (omega arith)
 slice_get-range f a (suc n) zero h = ap (λ k. Some (f k)) (omega arith)
 slice_get-range f a (suc n) (suc i) h =
     slice_get-range f (a + 1) n i (omega arith) ∙ ap (λ k. Some (f k)) (omega arith)
-
-pub AllByRecursion-range : {X : Type 0} (P : X → Type 0) (f : ℕ → X) (a n : ℕ) → ((i : ℕ) → a ≤ i → i < a + n → P (f i)) → AllByRecursion P (map f (range_with_len a n))
-AllByRecursion-range P f a zero h = tt
-AllByRecursion-range P f a (suc n) h =
-    (h a (omega arith) (omega arith), AllByRecursion-range P f (a + 1) n (λ i low high. h i (omega arith) (omega arith)))
 
 -- ---- digits
 

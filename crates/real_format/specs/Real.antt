@@ -5,7 +5,8 @@ use Rattle.std.specs.List.{AllByRecursion, AllPairs, AllZip, list_all}
 use Rattle.std.specs.Str.Parse.{IsNumeral, digits_value}
 use Rattle.real_format.specs.declared.file.Mark.{Mark}
 use Rattle.real_format.specs.declared.file.Mark.TheVariants.{Free, Zero, One}
-use Rattle.mct_circuit.specs.Gates.{GateView, flip_of, AreDifferent}
+use Rattle.mct_circuit.specs.Gates.{GateView, flip_of}
+use Rattle.list_facts.specs.Lists.{AreDifferent}
 use Rattle.gate_split.specs.declared.plan.TheConstants.{MOST_LINES, MOST_GATES}
 use Rattle.real_format.specs.Words.{lines_of_text, words_of_line, is_word_byte}
 

@@ -1,4 +1,4 @@
-use Rattle.gate_split.proofs.PieceSteps.{stay}
+use Rattle.gate_split.proofs.PieceLemmas.{stay}
 use Rattle.gate_split.proofs.law.narrow_stay.Goals as goal
 
 pub returns : goal.returns

@@ -1,4 +1,4 @@
-use Rattle.gate_split.proofs.Costs.{costs}
+use Rattle.gate_split.proofs.CostLemmas.{costs}
 use Rattle.gate_split.proofs.law.split_costs.Goals as goal
 
 pub returns : goal.returns

@@ -1,9 +1,9 @@
 use Rattle.std.proofs.Common.{◌≡◌, ◌++◌, ◌∷◌, [], Some, None, rules, Option, List, ap, sym, subst, ◌∙◌}
 use Rattle.mct_circuit.specs.Gates.{GateView, targets_of, flip_of}
-use Rattle.mct_circuit.proofs.Undoing.{AreDifferent-parts}
+use Rattle.list_facts.proofs.OrderLemmas.{AreDifferent-parts}
 use Rattle.gate_split.specs.Split.{behind, flips_of_negatives, split_positive}
-use Rattle.gate_split.proofs.Negatives.{lines}
-use Rattle.gate_split.proofs.PieceSteps.{flip_on, swap_on, flip_piece, swap_piece, surrounded_piece, between_none}
+use Rattle.gate_split.proofs.NegativeLemmas.{lines}
+use Rattle.gate_split.proofs.PieceLemmas.{flip_on, swap_on, flip_piece, swap_piece, surrounded_piece, between_none}
 use Rattle.std.specs.Result.{OnOk}
 use Rattle.gate_split.proofs.piece.push_piece.Goals as goal
 

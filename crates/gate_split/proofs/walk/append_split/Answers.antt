@@ -1,6 +1,6 @@
 use Rattle.std.proofs.Common.{refl, ap}
-use Rattle.gate_split.proofs.PieceSteps.{narrow_behind}
-use Rattle.gate_split.proofs.Walking.{piece_placed}
+use Rattle.gate_split.proofs.PieceLemmas.{narrow_behind}
+use Rattle.gate_split.proofs.WalkLemmas.{piece_placed}
 use Rattle.gate_split.proofs.walk.append_split.Goals as goal
 
 pub returns-then-is_narrow-clause-split : goal.returns-then-is_narrow-clause-split

@@ -2,7 +2,7 @@ use Rattle.std.proofs.Common.{◌≡◌, true, false, length, inl, inr, sym, ap,
 use Rattle.mct_circuit.specs.declared.gate.Control.{Control}
 use Rattle.std.specs.List.{list_all}
 use Rattle.std.proofs.lemmas.Bool.Decides.{leb_tells}
-use Rattle.gate_split.proofs.PieceSteps.{narrow_is, narrow_flips, narrow_is_short, narrow_is_positive}
+use Rattle.gate_split.proofs.PieceLemmas.{narrow_is, narrow_flips, narrow_is_short, narrow_is_positive}
 use Rattle.gate_split.proofs.walk.is_narrow.Goals as goal
 
 never : {A : Type 0} → false ≡ true → A

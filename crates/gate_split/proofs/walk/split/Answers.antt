@@ -1,4 +1,4 @@
-use Rattle.gate_split.proofs.Walking.{on_more, walked}
+use Rattle.gate_split.proofs.WalkLemmas.{on_more, walked}
 use Rattle.gate_split.proofs.walk.split.Goals as goal
 
 pub invariant_of-result : goal.invariant_of-result

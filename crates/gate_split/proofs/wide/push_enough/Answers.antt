@@ -1,6 +1,6 @@
 use Rattle.std.proofs.Common.{arith}
-use Rattle.gate_split.proofs.Pieces.{different_of}
-use Rattle.gate_split.proofs.Steps.{cut_differ}
+use Rattle.gate_split.proofs.EffectLemmas.{different_of}
+use Rattle.gate_split.proofs.WideLemmas.{cut_differ}
 use Rattle.gate_split.proofs.wide.push_enough.Goals as goal
 
 pub flip-requires : goal.flip-requires

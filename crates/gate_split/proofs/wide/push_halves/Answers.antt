@@ -1,8 +1,8 @@
 use Rattle.std.proofs.Common.{◌≡◌, [], ◌∷◌, ◌++◌, List, length, take, drop, ap, ◌∙◌}
 use Rattle.mct_circuit.specs.Gates.{GateView}
 use Rattle.gate_split.specs.Split.{first_half, in_falling_order, with_enough_idle}
-use Rattle.gate_split.proofs.Pieces.{first_serves, second_serves, serves_take}
-use Rattle.gate_split.proofs.Steps.{halves_of, first_enough, second_enough, first_found, second_found, back_below, front_below, halves_made}
+use Rattle.gate_split.proofs.EffectLemmas.{first_serves, second_serves, serves_take}
+use Rattle.gate_split.proofs.WideLemmas.{halves_of, first_enough, second_enough, first_found, second_found, back_below, front_below, halves_made}
 use Rattle.gate_split.proofs.wide.push_halves.Goals as goal
 
 pub falling_lines-requires : goal.falling_lines-requires

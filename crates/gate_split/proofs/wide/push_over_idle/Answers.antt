@@ -1,6 +1,6 @@
 use Rattle.std.proofs.Common.{◌≡◌, ◌+◌, length, reverse, ap, ◌∙◌, arith}
 use Rattle.std.proofs.lemmas.List.{length-reverse}
-use Rattle.gate_split.proofs.Building.{length-ladder}
+use Rattle.gate_split.proofs.BuildingLemmas.{length-ladder}
 use Rattle.gate_split.proofs.wide.push_over_idle.Goals as goal
 
 pub split_at-requires : goal.split_at-requires

@@ -1,9 +1,8 @@
-use Rattle.std.proofs.Common.{◌≡◌, ◌≢◌, ◌-◌, ◌≤◌, [], ◌∷◌, ◌++◌, length, get_or, drop, take, Some, sym, ap, ◌∙◌, arith}
-use Rattle.std.proofs.lemmas.List.{nil_from_length}
+use Rattle.std.proofs.Common.{◌≡◌, ◌≢◌, ◌-◌, [], ◌∷◌, ◌++◌, length, take, Some, sym, ap, ◌∙◌, arith}
 use Rattle.gate_split.specs.Idle.{Serves}
 use Rattle.gate_split.specs.Split.{idle_lines, over_idle_lines, behind}
-use Rattle.gate_split.proofs.Pieces.{different_of, below_of, idle_serves, serves_take}
-use Rattle.gate_split.proofs.Steps.{rungs_differ, positive_over, positive_none, positive_halves, first_idle, first_is}
+use Rattle.gate_split.proofs.EffectLemmas.{different_of, below_of, idle_serves, serves_take}
+use Rattle.gate_split.proofs.WideLemmas.{rungs_differ, positive_over, positive_none, positive_halves, first_idle_apart, line_found, no_line_found}
 use Rattle.gate_split.proofs.wide.push_positive.Goals as goal
 
 pub flip-requires : goal.flip-requires
@@ -28,32 +27,29 @@ returns-then-len-wanted-clause-split c =
     ap (behind c.args.gates.now.items) (positive_over c.args.marks.now c.args.controls.now c.args.target c.in_ok-idle.idle.items (omega arith) idle long)
     ∙ ap Some (sym (c.in_ok-push_over_idle.ensures ∙ ap (λ l. c.args.gates.now.items ++ over_idle_lines c.args.controls.now c.args.target l) c.deref.ensures.value))
 
-pub returns-in-empty-clause-refused : goal.returns-in-empty-clause-refused
-returns-in-empty-clause-refused c =
-    let k = length c.args.controls.now - 2 in
-    let idle : c.in_ok-idle.idle.items ≡ take k (idle_lines c.args.marks.now (c.args.controls.now ++ c.args.target ∷ [])) = c.in_ok-idle.ensures.found in
-    let zero_long : length c.as_slice.result.now ≡ 0 = omega arith in
-    λ r. positive_none c.args.marks.now c.args.controls.now c.args.target c.in_ok-idle.idle.items (omega arith) idle (sym c.as_slice.ensures.value ∙ nil_from_length c.as_slice.result.now zero_long)
+pub returns-in_err-line-clause-refused : goal.returns-in_err-line-clause-refused
+returns-in_err-line-clause-refused c =
+    let idle : c.in_ok-idle.idle.items ≡ take (length c.args.controls.now - 2) (idle_lines c.args.marks.now (c.args.controls.now ++ c.args.target ∷ [])) = c.in_ok-idle.ensures.found in
+    let none = sym c.deref-2.ensures.value ∙ no_line_found c.deref-2.result.now _ c.in_err-line.ensures in
+    λ r. positive_none c.args.marks.now c.args.controls.now c.args.target c.in_ok-idle.idle.items (omega arith) idle none
 
 pub push_halves-requires-clause-below : goal.push_halves-requires-clause-below
 push_halves-requires-clause-below c =
-    let k = length c.args.controls.now - 2 in
-    let idle : c.in_ok-idle.idle.items ≡ take k (idle_lines c.args.marks.now (c.args.controls.now ++ c.args.target ∷ [])) = c.in_ok-idle.ensures.found in
-    let some : 1 ≤ length c.as_slice.result.now = omega arith in
-    rw c.falling_lines.ensures.same (first_idle c.args.marks.now c.args.controls.now c.args.target c.in_ok-idle.idle.items (get_or c.as_slice.result.now 0 0) (drop 1 c.as_slice.result.now) c.requires idle (sym c.as_slice.ensures.value ∙ first_is c.as_slice.result.now some)).0
+    let idle : c.in_ok-idle.idle.items ≡ take (length c.args.controls.now - 2) (idle_lines c.args.marks.now (c.args.controls.now ++ c.args.target ∷ [])) = c.in_ok-idle.ensures.found in
+    let some = sym c.deref-2.ensures.value ∙ line_found c.deref-2.result.now c.in_ok-line.line c.in_ok-line.ensures in
+    rw c.falling_lines.ensures.same (first_idle_apart c.args.marks.now c.args.controls.now c.args.target c.in_ok-idle.idle.items _ _ c.requires idle some).0
 
 pub push_halves-requires-clause-apart : goal.push_halves-requires-clause-apart
 push_halves-requires-clause-apart c =
-    let k = length c.args.controls.now - 2 in
-    let idle : c.in_ok-idle.idle.items ≡ take k (idle_lines c.args.marks.now (c.args.controls.now ++ c.args.target ∷ [])) = c.in_ok-idle.ensures.found in
-    let some : 1 ≤ length c.as_slice.result.now = omega arith in
-    (first_idle c.args.marks.now c.args.controls.now c.args.target c.in_ok-idle.idle.items (get_or c.as_slice.result.now 0 0) (drop 1 c.as_slice.result.now) c.requires idle (sym c.as_slice.ensures.value ∙ first_is c.as_slice.result.now some)).1
+    let idle : c.in_ok-idle.idle.items ≡ take (length c.args.controls.now - 2) (idle_lines c.args.marks.now (c.args.controls.now ++ c.args.target ∷ [])) = c.in_ok-idle.ensures.found in
+    let some = sym c.deref-2.ensures.value ∙ line_found c.deref-2.result.now c.in_ok-line.line c.in_ok-line.ensures in
+    (first_idle_apart c.args.marks.now c.args.controls.now c.args.target c.in_ok-idle.idle.items _ _ c.requires idle some).1
 
 pub returns-clause-split : goal.returns-clause-split
 returns-clause-split c =
     let k = length c.args.controls.now - 2 in
     let idle : c.in_ok-idle.idle.items ≡ take k (idle_lines c.args.marks.now (c.args.controls.now ++ c.args.target ∷ [])) = c.in_ok-idle.ensures.found in
-    let some : 1 ≤ length c.as_slice.result.now = omega arith in
+    let some = sym c.deref-2.ensures.value ∙ line_found c.deref-2.result.now c.in_ok-line.line c.in_ok-line.ensures in
     let short : length c.in_ok-idle.idle.items ≢ k = λ e. c.if-len-wanted.false (omega (arith, c.len.ensures, e)) in
-    ap (behind c.args.gates.now.items) (positive_halves c.args.marks.now c.args.controls.now c.args.target c.in_ok-idle.idle.items (get_or c.as_slice.result.now 0 0) (drop 1 c.as_slice.result.now) (omega arith) idle short (sym c.as_slice.ensures.value ∙ first_is c.as_slice.result.now some))
-    ∙ ap Some (sym (rw c.falling_lines.ensures.same at c.in_ok-push_halves-in-len1-up.ensures.made))
+    ap (behind c.args.gates.now.items) (positive_halves c.args.marks.now c.args.controls.now c.args.target c.in_ok-idle.idle.items _ _ (omega arith) idle short some)
+    ∙ ap Some (sym (rw c.falling_lines.ensures.same at c.in_ok-push_halves.ensures.made))

@@ -1,5 +1,5 @@
 use Rattle.std.proofs.Common.{arith}
-use Rattle.gate_split.proofs.Building.{started_back}
+use Rattle.gate_split.proofs.BuildingLemmas.{started_back}
 use Rattle.gate_split.proofs.wide.push_there_and_back.Goals as goal
 
 pub loop-i-init : goal.loop-i-init

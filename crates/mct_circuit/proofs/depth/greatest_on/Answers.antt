@@ -2,9 +2,9 @@ use Rattle.std.proofs.Common.{◌<◌, length, map, ap, sym, ◌∙◌, arith}
 use Rattle.mct_circuit.specs.declared.gate.Control.{Control}
 use Rattle.mct_circuit.specs.Gates.{targets_of}
 use Rattle.mct_circuit.specs.Sizes.{greatest_at}
-use Rattle.mct_circuit.proofs.Undoing.{AllByRecursion-right}
-use Rattle.mct_circuit.proofs.Applying.{controls_below}
-use Rattle.mct_circuit.proofs.Depths.{greatest_at-append}
+use Rattle.list_facts.proofs.AllLemmas.{AllByRecursion-right}
+use Rattle.mct_circuit.proofs.GateListLemmas.{controls_below}
+use Rattle.mct_circuit.proofs.DepthLemmas.{greatest_at-append}
 use Rattle.mct_circuit.proofs.depth.greatest_on.Goals as goal
 
 pub greatest_on_controls-of_controls-requires : goal.greatest_on_controls-of_controls-requires

@@ -2,9 +2,9 @@ use Rattle.std.proofs.Common.{◌<◌, ◌++◌, [], ◌∷◌, length, length-s
 use Rattle.mct_circuit.specs.declared.gate.Control.{Control}
 use Rattle.mct_circuit.specs.Gates.{targets_of}
 use Rattle.std.proofs.lemmas.List.{append_assoc}
-use Rattle.mct_circuit.proofs.Depths.{set_more}
-use Rattle.mct_circuit.proofs.Undoing.{AllByRecursion-right}
-use Rattle.mct_circuit.proofs.Applying.{controls_below}
+use Rattle.mct_circuit.proofs.DepthLemmas.{set_more}
+use Rattle.list_facts.proofs.AllLemmas.{AllByRecursion-right}
+use Rattle.mct_circuit.proofs.GateListLemmas.{controls_below}
 use Rattle.mct_circuit.proofs.depth.set_all.Goals as goal
 
 pub set_controls-requires : goal.set_controls-requires

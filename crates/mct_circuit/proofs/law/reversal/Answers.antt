@@ -1,4 +1,4 @@
-use Rattle.mct_circuit.proofs.Undoing.{reversed_undoes}
+use Rattle.mct_circuit.proofs.ReversalLemmas.{reversed_undoes}
 use Rattle.mct_circuit.proofs.law.reversal.Goals as goal
 
 pub returns : goal.returns

@@ -1,4 +1,4 @@
-use Rattle.real_format.proofs.Meaning.{compiled_has_meaning}
+use Rattle.real_format.proofs.MeaningLemmas.{compiled_has_meaning}
 use Rattle.real_format.proofs.law.compiled_meaning.Goals as goal
 
 pub returns : goal.returns

@@ -3,7 +3,7 @@ use Rattle.std.specs.List.{AllByRecursion}
 use Rattle.mct_circuit.specs.Gates.{targets_of}
 use Rattle.revc_io.specs.Passing.{Gathers}
 use Rattle.gate_split.specs.Plans.{lines_in}
-use Rattle.real_format.proofs.Texts.{flip_text_is, controls_in_range}
+use Rattle.real_format.proofs.TextLemmas.{flip_text_is, controls_in_range}
 use Rattle.real_format.proofs.writer.put_gate.Goals as goal
 
 pub put_flip-requires-clause-controls_in_range : goal.put_flip-requires-clause-controls_in_range

@@ -2,7 +2,7 @@ use Rattle.std.proofs.Common.{ap, map, refl, arith}
 use Rattle.std.specs.List.{flat_map}
 use Rattle.std.proofs.lemmas.List.{drop_all}
 use Rattle.real_format.specs.Compiled.{line_text, gate_words}
-use Rattle.real_format.proofs.Loops.{drop_at}
+use Rattle.list_facts.proofs.CutLemmas.{drop_got}
 use Rattle.revc_io.proofs.WritingLoopLemmas.{writing_begun, writing_more, writing_done, writing_failed, fault_later, no_fault}
 use Rattle.real_format.proofs.writer.put_gates.Goals as goal
 
@@ -11,7 +11,7 @@ loop-i-init g c = writing_begun _ _ _ _ _ (refl)
 
 pub returns-in_err-put_gate-clause-bytes : goal.returns-in_err-put_gate-clause-bytes
 returns-in_err-put_gate-clause-bytes g c =
-    let left = drop_at c.args.circuit.now.gates c.loop-i.i _ c.gate.ensures in
+    let left = drop_got c.args.circuit.now.gates c.loop-i.i _ c.gate.ensures in
     writing_failed _ _ _ _ _ _ _ (ap (λ gates. flat_map line_text (map (gate_words c.args.roles) gates)) left) c.from_residual.ensures.1 c.in_err-put_gate.ensures.bytes c.loop-i.invariant
 
 pub returns-in_err-put_gate-clause-cause : goal.returns-in_err-put_gate-clause-cause
@@ -20,7 +20,7 @@ returns-in_err-put_gate-clause-cause g c =
 
 pub loop-i-preserved : goal.loop-i-preserved
 loop-i-preserved g c =
-    let left = drop_at c.args.circuit.now.gates c.loop-i.i _ c.gate.ensures in
+    let left = drop_got c.args.circuit.now.gates c.loop-i.i _ c.gate.ensures in
     writing_more _ _ _ (ap (λ gates. flat_map line_text (map (gate_words c.args.roles) gates)) left) c.in_ok-put_gate.ensures.bytes c.in_ok-put_gate.ensures.cause.stays c.loop-i.invariant
 
 pub returns-clause-bytes : goal.returns-clause-bytes

@@ -1,6 +1,6 @@
 use Rattle.std.proofs.Common.{arith}
 use Rattle.std.proofs.Math.Nat.{sub-zero}
-use Rattle.real_format.proofs.Loops.{replicate_left, replicate_over}
+use Rattle.list_facts.proofs.CutLemmas.{replicate_left, replicate_over}
 use Rattle.revc_io.proofs.WritingLoopLemmas.{writing_begun, writing_more, writing_done, writing_failed, fault_later, no_fault}
 use Rattle.real_format.proofs.writer.put_repeated.Goals as goal
 

@@ -4,7 +4,7 @@ use Rattle.std.proofs.Math.Nat.{sub-zero}
 use Rattle.revc_io.proofs.WritingLoopLemmas.{writing_begun, writing_more, writing_done, writing_failed, fault_later, no_fault}
 use Rattle.gate_split.specs.Plans.{lines_in}
 use Rattle.real_format.specs.Compiled.{name_of_line}
-use Rattle.real_format.proofs.Loops.{range_left, range_over}
+use Rattle.real_format.proofs.LoopLemmas.{range_left, range_over}
 use Rattle.real_format.proofs.writer.put_spaced_names.Goals as goal
 
 pub loop-line-init : goal.loop-line-init

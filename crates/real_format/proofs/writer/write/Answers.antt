@@ -1,7 +1,7 @@
 use Rattle.std.proofs.Common.{◌≡◌, sym, subst, arith}
 use Rattle.mct_circuit.specs.Gates.{CircuitView, AreGatesOn}
 use Rattle.gate_split.specs.Plans.{lines_in, roles_of}
-use Rattle.real_format.proofs.Meaning.{compiled_has_meaning}
+use Rattle.real_format.proofs.MeaningLemmas.{compiled_has_meaning}
 use Rattle.real_format.proofs.writer.write.Goals as goal
 
 pub returns-clause-meaning : goal.returns-clause-meaning

@@ -1,7 +1,7 @@
 use Rattle.std.proofs.Common.{subst}
 use Rattle.revc_io.specs.Passing.{AppendsFront, Gathered}
 use Rattle.revc_io.proofs.PassingLemmas.{whole_gathered, finish_call, writes_fault}
-use Rattle.real_format.proofs.Texts.{compiled_text_is}
+use Rattle.real_format.proofs.TextLemmas.{compiled_text_is}
 use Rattle.real_format.proofs.writer.write_text.Goals as goal
 
 pub returns-in_err-put_text-clause-bytes : goal.returns-in_err-put_text-clause-bytes

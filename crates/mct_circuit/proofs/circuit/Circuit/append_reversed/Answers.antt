@@ -1,6 +1,6 @@
 use Rattle.std.proofs.Common.{◌≡◌, ◌+◌, length, min, ap, ◌∙◌, arith}
 use Rattle.std.proofs.lemmas.List.{length-append, length-reverse, length-take}
-use Rattle.mct_circuit.proofs.Undoing.{AreGatesOn-mirror}
+use Rattle.mct_circuit.proofs.ReversalLemmas.{AreGatesOn-mirror}
 use Rattle.mct_circuit.proofs.circuit.Circuit.append_reversed.Goals as goal
 
 pub invariant_of-self-2 : goal.invariant_of-self-2

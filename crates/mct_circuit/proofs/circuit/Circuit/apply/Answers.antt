@@ -1,7 +1,7 @@
 use Rattle.std.proofs.Common.{◌<◌, length, sym, ap, ◌∙◌, arith}
 use Rattle.std.proofs.lemmas.List.{drop_all}
 use Rattle.mct_circuit.specs.Gates.{line_map}
-use Rattle.mct_circuit.proofs.Applying.{lines_below, line_map_more}
+use Rattle.mct_circuit.proofs.GateListLemmas.{lines_below, line_map_more}
 use Rattle.mct_circuit.proofs.circuit.Circuit.apply.Goals as goal
 
 pub apply-requires : goal.apply-requires

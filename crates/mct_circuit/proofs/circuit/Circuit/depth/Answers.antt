@@ -2,8 +2,8 @@ use Rattle.std.proofs.Common.{◌≡◌, ◌+◌, ◌<◌, length, max, take, dr
 use Rattle.std.proofs.lemmas.List.{take_at, take_all, length-reverse, length-take-le}
 use Rattle.mct_circuit.specs.Gates.{lines_of}
 use Rattle.mct_circuit.specs.Sizes.{depth_on, greatest_at, depth_of}
-use Rattle.mct_circuit.proofs.Applying.{lines_below}
-use Rattle.mct_circuit.proofs.Depths.{greatest_at-depths, depth_on-le, depths_more, latest_first}
+use Rattle.mct_circuit.proofs.GateListLemmas.{lines_below}
+use Rattle.mct_circuit.proofs.DepthLemmas.{greatest_at-depths, depth_on-le, depths_more, latest_first}
 use Rattle.mct_circuit.proofs.circuit.Circuit.depth.Goals as goal
 
 pub greatest_on-depth-requires : goal.greatest_on-depth-requires

@@ -1,6 +1,6 @@
 use Rattle.std.proofs.Common.{◌≡◌, ◌+◌, length, ap, ◌∙◌, arith}
 use Rattle.std.proofs.lemmas.List.{length_push}
-use Rattle.mct_circuit.proofs.Undoing.{AreGatesOn-push}
+use Rattle.mct_circuit.proofs.ReversalLemmas.{AreGatesOn-push}
 use Rattle.mct_circuit.proofs.circuit.Circuit.push.Goals as goal
 
 pub invariant_of-self-2 : goal.invariant_of-self-2

@@ -1,4 +1,4 @@
-use Rattle.mct_circuit.proofs.Undoing.{lines_of-flip_of}
+use Rattle.mct_circuit.proofs.ReversalLemmas.{lines_of-flip_of}
 use Rattle.mct_circuit.proofs.circuit.Circuit.push_flip.Goals as goal
 
 pub push-requires : goal.push-requires

@@ -1,7 +1,7 @@
 use Rattle.std.proofs.Common.{◌<◌, length}
 use Rattle.mct_circuit.specs.Gates.{targets_of}
-use Rattle.mct_circuit.proofs.Undoing.{AllByRecursion-right}
-use Rattle.mct_circuit.proofs.Applying.{controls_below}
+use Rattle.list_facts.proofs.AllLemmas.{AllByRecursion-right}
+use Rattle.mct_circuit.proofs.GateListLemmas.{controls_below}
 use Rattle.mct_circuit.proofs.gate.Gate.apply.Goals as goal
 
 pub are_met-requires : goal.are_met-requires

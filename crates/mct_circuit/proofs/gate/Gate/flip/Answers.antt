@@ -1,4 +1,4 @@
-use Rattle.mct_circuit.proofs.Undoing.{lines_of-flip_of}
+use Rattle.mct_circuit.proofs.ReversalLemmas.{lines_of-flip_of}
 use Rattle.mct_circuit.proofs.gate.Gate.flip.Goals as goal
 
 pub new-requires : goal.new-requires

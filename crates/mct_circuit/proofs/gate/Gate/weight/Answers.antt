@@ -1,5 +1,5 @@
 use Rattle.std.proofs.Common.{◌≤◌, ◌^◌, length, arith}
-use Rattle.mct_circuit.proofs.Weights.{few_controls}
+use Rattle.mct_circuit.proofs.WeightLemmas.{few_controls}
 use Rattle.mct_circuit.proofs.gate.Gate.weight.Goals as goal
 
 pub flip_weight-flips-requires : goal.flip_weight-flips-requires
