@@ -8,7 +8,8 @@ use Rattle.list_facts.proofs.OrderLemmas.{AreDifferent-left, AreDifferent-parts,
 use Rattle.mct_circuit.specs.Gates.{GateView, after_gate, line_map, flip_of, IsGateOn, AreGatesOn, IsNarrow, AreNarrow}
 use Rattle.list_facts.specs.Lists.{AreDifferent}
 use Rattle.mct_circuit.proofs.ReversalLemmas.{line_map-append, lines_of-flip_of}
-use Rattle.gate_split.specs.Idle.{Avoids, Serves}
+use Rattle.gate_split.specs.inside.Idle.{Serves}
+use Rattle.gate_split.specs.Split.{Avoids}
 use Rattle.gate_split.specs.Split.{idle_lines, in_falling_order, ladder, there_and_back, over_idle_lines, with_enough_idle, first_half, first_flips, second_flips, in_halves, over_few_lines, split_positive}
 use Rattle.gate_split.proofs.FlipLemmas.{length-flip_of, flip_of-flip_of, before_and_behind}
 use Rattle.gate_split.proofs.LadderLemmas.{Fits, fits, fits_gates, fits_narrow, ladders_flip, Avoids-flip, Avoids-back, heads_apart, tails_apart}

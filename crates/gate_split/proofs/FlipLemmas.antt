@@ -9,7 +9,7 @@ use Rattle.mct_circuit.specs.declared.gate.Op.TheVariants.{Flip, Swap}
 use Rattle.list_facts.specs.Bits.{bit_of}
 use Rattle.mct_circuit.specs.Gates.{is_met, after_gate, flip_of, positive}
 use Rattle.mct_circuit.proofs.ReversalLemmas.{swap_is}
-use Rattle.gate_split.specs.Idle.{Avoids}
+use Rattle.gate_split.specs.Split.{Avoids}
 
 abbrev pub all_on : List Bool → List ℕ → Bool
 all_on bits lines = list_all (is_met bits) (map positive lines)

@@ -7,7 +7,7 @@ use Rattle.list_facts.proofs.OrderLemmas.{AreDifferent-reverse}
 use Rattle.mct_circuit.specs.Gates.{GateView, after_gate, line_map, flip_of, IsGateOn, AreGatesOn, AreNarrow}
 use Rattle.list_facts.specs.Lists.{AreDifferent}
 use Rattle.mct_circuit.proofs.ReversalLemmas.{line_map-append, lines_of-flip_of}
-use Rattle.gate_split.specs.Idle.{Avoids}
+use Rattle.gate_split.specs.Split.{Avoids}
 use Rattle.gate_split.specs.Split.{ladder, there_and_back}
 use Rattle.gate_split.proofs.FlipLemmas.{length-flip_of, flips_commute, flip_of-flip_of, before_and_behind}
 

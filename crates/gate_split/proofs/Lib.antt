@@ -7,5 +7,6 @@ pub mod LadderLemmas
 pub mod MarkLemmas
 pub mod NegativeLemmas
 pub mod PieceLemmas
+pub mod RoomyFlipLemmas
 pub mod WalkLemmas
 pub mod WideLemmas

@@ -13,7 +13,7 @@ use Rattle.list_facts.specs.Lists.{AreDifferent}
 use Rattle.mct_circuit.proofs.ReversalLemmas.{line_map-append, length-line_map}
 use Rattle.gate_split.specs.declared.fault.SplitFault.{SplitFault}
 use Rattle.gate_split.specs.declared.fault.SplitFault.TheVariants.{Gates}
-use Rattle.gate_split.specs.Idle.{Avoids}
+use Rattle.gate_split.specs.Split.{Avoids}
 use Rattle.gate_split.specs.Split.{flips_of_negatives, split_positive, between, split_flip, split_op, split_gate, with_piece, split_from}
 use Rattle.gate_split.proofs.FlipLemmas.{all_on, flip_when, flips_meet, flip-flip, length-flip, bit_of-flip, met_same, swap_by_flips, length-flip_of}
 use Rattle.gate_split.proofs.LadderLemmas.{Avoids-flip, heads_apart}

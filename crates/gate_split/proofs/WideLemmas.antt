@@ -7,8 +7,9 @@ use Rattle.list_facts.proofs.AllLemmas.{AllByRecursion-left, AllByRecursion-righ
 use Rattle.list_facts.proofs.OrderLemmas.{AreDifferent-left, AreDifferent-parts}
 use Rattle.mct_circuit.specs.Gates.{GateView, flip_of, HasDifferentLines, IsGateOn}
 use Rattle.gate_split.specs.declared.fault.Refusal.{Refusal}
-use Rattle.gate_split.specs.Steps.{first_idle}
-use Rattle.gate_split.specs.Idle.{Avoids, Serves}
+use Rattle.gate_split.specs.inside.Steps.{first_idle}
+use Rattle.gate_split.specs.inside.Idle.{Serves}
+use Rattle.gate_split.specs.Split.{Avoids}
 use Rattle.gate_split.specs.Split.{idle_lines, in_falling_order, ladder, over_idle_lines, with_enough_idle, first_half, first_flips, second_flips, in_halves, over_few_lines, split_positive, behind}
 use Rattle.gate_split.proofs.LadderLemmas.{fits_gates}
 use Rattle.gate_split.proofs.FallingLineLemmas.{length-in_falling_order}

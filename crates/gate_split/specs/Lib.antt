@@ -1,5 +1,4 @@
 pub mod Costs
-pub mod Idle
 pub mod Plans
 pub mod Split
-pub mod Steps
+pub mod inside

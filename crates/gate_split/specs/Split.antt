@@ -1,5 +1,6 @@
 -- The split of a circuit into flips of at most two controls, all positive, gate by gate.
-use Rattle.std.specs.Prelude.{ℕ, zero, suc, ◌+◌, ◌-◌, ◌/◌, Bool, not, nat_le, if◌then◌else◌, Option, Some, None, Result, Ok, Err, List, [], ◌∷◌, ◌++◌, length, map, reverse, take, drop}
+use Rattle.std.specs.Prelude.{◌≢◌, ℕ, zero, suc, ◌+◌, ◌-◌, ◌/◌, Bool, not, nat_le, if◌then◌else◌, Option, Some, None, Result, Ok, Err, List, [], ◌∷◌, ◌++◌, length, map, reverse, take, drop}
+use Rattle.std.specs.List.{AllByRecursion}
 use Rattle.mct_circuit.specs.declared.gate.Control.{Control}
 use Rattle.mct_circuit.specs.declared.gate.Op.{Op}
 use Rattle.mct_circuit.specs.declared.gate.Op.TheVariants.{Flip, Swap}
@@ -14,6 +15,10 @@ use Rattle.gate_split.specs.declared.fault.SplitFault.TheVariants.{NoIdle, Gates
 abbrev pub falling_lines : (ℕ → Bool) → ℕ → List ℕ
 falling_lines test zero = []
 falling_lines test (suc n) = if test n then n ∷ falling_lines test n else falling_lines test n
+
+-- the line is none of the lines
+abbrev pub Avoids : ℕ → List ℕ → Type 0
+Avoids line lines = AllByRecursion (λ other. line ≢ other) lines
 
 -- the lines below n that are not used
 abbrev pub idle_lines : ℕ → List ℕ → List ℕ

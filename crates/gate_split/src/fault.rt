@@ -2,7 +2,7 @@
 ghost use Rattle.std.specs.Prelude.{◌≡◌};
 ghost use Rattle.gate_split.specs.declared.fault.Refusal.TheVariants as refusal;
 ghost use Rattle.gate_split.specs.declared.fault.SplitFault.TheVariants.{Memory};
-ghost use Rattle.gate_split.specs.Steps.{refusal_of, fault_at};
+ghost use Rattle.gate_split.specs.inside.Steps.{refusal_of, fault_at};
 
 use mct_circuit::GateFault;
 use std::alloc::{AllocError, AllocFailed};

@@ -1,4 +1,4 @@
-ghost use Rattle.gate_split.specs.Costs.{SplitCosts, NarrowStay};
+ghost use Rattle.gate_split.specs.Costs.{SplitCosts, NarrowStay, RoomyFlipsAreSplit};
 
 /// The law of costs: a flip of `k` positive controls, at least 3, takes `4 * (k - 2)` gates where `k - 2` lines
 /// are idle, and otherwise 10 for 4 controls and `8 * (k - 3)` for more; so never more than `8 * k`. The
@@ -11,4 +11,11 @@ pub fn split_costs()
 /// them. The function does nothing: its contract is the law.
 pub fn narrow_stay()
     ensures { NarrowStay }
+{}
+
+/// The law of flips with room: flips that each have at most two controls or an idle line are split, where the sum of their
+/// most gates is within the limit. A flip of `k` controls becomes at most `10 * k + 1` gates. The function does nothing:
+/// its contract is the law.
+pub fn roomy_flips_are_split()
+    ensures { RoomyFlipsAreSplit }
 {}

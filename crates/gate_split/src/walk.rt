@@ -4,7 +4,7 @@ ghost use Rattle.std.specs.List.{list_all};
 ghost use Rattle.gate_split.specs.declared.fault.SplitFault.TheVariants.{NoIdle, Gates};
 ghost use Rattle.mct_circuit.specs.Gates.{IsGateOn, IsNarrow, AreNarrow, line_map};
 ghost use Rattle.gate_split.specs.Split.{split_gate, split_list, behind};
-ghost use Rattle.gate_split.specs.Steps.{IsOver};
+ghost use Rattle.gate_split.specs.inside.Steps.{IsOver};
 
 use crate::fault::{Refusal, SplitFault};
 use crate::idle::LineMarks;

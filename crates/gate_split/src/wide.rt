@@ -2,8 +2,9 @@
 ghost use Rattle.std.specs.Prelude.{◌≡◌, ℕ, ◌+◌, ◌<◌, ◌≤◌, ◌∷◌, [], ◌++◌, length, reverse, take, Some, None, IfOk, OnOk, IsErrOf};
 ghost use Rattle.std.specs.List.{AllByRecursion};
 ghost use Rattle.mct_circuit.specs.Gates.{HasDifferentLines, IsGateOn, flip_of};
-ghost use Rattle.gate_split.specs.Idle.{Avoids, Serves};
-ghost use Rattle.gate_split.specs.Steps.{first_idle};
+ghost use Rattle.gate_split.specs.inside.Idle.{Serves};
+ghost use Rattle.gate_split.specs.Split.{Avoids};
+ghost use Rattle.gate_split.specs.inside.Steps.{first_idle};
 ghost use Rattle.gate_split.specs.Split.{ladder, there_and_back, over_idle_lines, with_enough_idle, in_halves, split_positive, behind};
 
 use crate::fault::Refusal;

@@ -1,5 +1,5 @@
 use Rattle.std.proofs.Common.{◌≡◌, ◌≢◌, ◌-◌, [], ◌∷◌, ◌++◌, length, take, Some, sym, ap, ◌∙◌, arith}
-use Rattle.gate_split.specs.Idle.{Serves}
+use Rattle.gate_split.specs.inside.Idle.{Serves}
 use Rattle.gate_split.specs.Split.{idle_lines, over_idle_lines, behind}
 use Rattle.gate_split.proofs.EffectLemmas.{different_of, below_of, idle_serves, serves_take}
 use Rattle.gate_split.proofs.WideLemmas.{rungs_differ, positive_over, positive_none, positive_halves, first_idle_apart, line_found, no_line_found}
