@@ -1,2 +1,3 @@
-pub mod OutLines
-pub mod FreeLines
+pub mod FreeLineLemmas
+pub mod OutLineLemmas
+pub mod PeakLemmas

@@ -1,6 +1,7 @@
 -- A heap of lines: some of the lines below its limit are out, and the others are free.
-use Rattle.std.specs.Prelude.{◌≡◌, ℕ, ◌+◌, ◌<◌, ◌≤◌, ◌==◌, nat_lt, max, Bool, true, false, not, ◌||◌, if◌then◌else◌, List, [], ◌∷◌, ⊤}
+use Rattle.std.specs.Prelude.{◌≡◌, ℕ, ◌+◌, ◌<◌, ◌≤◌, ◌==◌, nat_lt, max, Bool, true, false, not, ◌||◌, if◌then◌else◌, List, [], ◌∷◌}
 use Rattle.std.specs.List.{AllByRecursion, filter}
+use Rattle.list_facts.specs.Lists.{IsRising}
 
 -- its limit, the lines that are out, rising, and one more than the greatest line that was ever out
 pub record HeapView : Type 0 where
@@ -12,11 +13,6 @@ pub record HeapView : Type 0 where
 abbrev pub contains : List ℕ → ℕ → Bool
 contains [] line = false
 contains (x ∷ xs) line = (x == line) || contains xs line
-
--- each is less than all behind it
-abbrev pub IsRising : List ℕ → Type 0
-IsRising [] = ⊤
-IsRising (x ∷ xs) = AllByRecursion (λ y. x < y) xs × IsRising xs
 
 -- what every heap keeps
 pub record IsLineHeap (heap : HeapView) : Type 0 where
@@ -41,4 +37,5 @@ without_line lines line = filter (λ x. not (x == line)) lines
 
 -- the heap once the line is handed out
 abbrev pub with_taken : HeapView → ℕ → HeapView
-with_taken heap line = record heap { out = with_line heap.out line; peak = max heap.peak (line + 1) }
+with_taken heap line =
+    record heap { out = with_line heap.out line; peak = max heap.peak (line + 1) }

@@ -1,5 +1,5 @@
 // The heap of work lines. Lines from `next` on were never out; those below it that are back wait in `free`.
-ghost use Rattle.std.specs.Prelude.{◌≡◌, [], length, IfOk, IfSome, IfNone, IsNone, ◌↔◌, true};
+ghost use Rattle.std.specs.Prelude.{◌≡◌, [], length, max, IfOk, IfSome, IfNone, IsNone, ◌↔◌, true};
 ghost use Rattle.ancilla_heap.specs.Lines.{IsLineHeap, IsLeastFree, contains, with_taken, without_line};
 
 use revc_base::Memory;
@@ -22,7 +22,7 @@ impl Model for Heap {
 
     ghost Value = { HeapView };
 
-    ghost use Rattle.ancilla_heap.specs.Inside.{view_of, IsKept};
+    ghost use Rattle.ancilla_heap.specs.inside.Heaps.{view_of, IsKept};
 
     ghost view = { view_of };
 
@@ -41,11 +41,14 @@ impl Heap {
         })
     }
 
-    /// Hands out the least free line. `None` comes exactly where all lines are out; then nothing changes.
-    /// It takes no memory, and time logarithmic in the limit.
+    /// Hands out the least free line; the peak is then the greater of the peak before and the number of lines that are
+    /// out. `None` comes exactly where all lines are out; then nothing changes. It takes no memory, and time
+    /// logarithmic in the limit.
     pub fn take(&mut self) -> Option<u32>
         ensures least { IfSome result (IsLeastFree self.old) }
         ensures taken { IfSome result (λ line. self.new ≡ with_taken self.old line) }
+        ensures peak { IfSome result (λ _.
+            self.new.peak ≡ max self.old.peak (length self.new.out)) }
         ensures none { IsNone result ↔ (length self.old.out ≡ self.old.limit) }
         ensures unchanged { IfNone result (self.new ≡ self.old) }
     {
@@ -69,7 +72,8 @@ impl Heap {
         let _ = self.free.push(Reverse(line));
     }
 
-    /// One more than the greatest line that was ever out, or 0. It takes no memory.
+    /// One more than the greatest line that was ever out, or 0: the most lines that were out at one time. It takes no
+    /// memory.
     pub fn peak(&self) -> u32
         ensures peak { result ≡ self.now.peak }
         ensures lines { IsLineHeap self.now }

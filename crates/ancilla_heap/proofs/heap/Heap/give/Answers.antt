@@ -4,8 +4,8 @@ use Rattle.std.specs.List.Sorted.{IsPermutation}
 use Rattle.std.specs.BinaryHeap.{heap_items, heap_len}
 use Rattle.std.proofs.lemmas.List.Sorted.{length_permutation}
 use Rattle.ancilla_heap.specs.Lines.{HeapView, contains, without_line}
-use Rattle.ancilla_heap.specs.Inside.{AreLines}
-use Rattle.ancilla_heap.proofs.FreeLines.{lines_with_given, lines_moved, seen_given, room_for_one, at_ok}
+use Rattle.ancilla_heap.specs.inside.Heaps.{AreLines}
+use Rattle.ancilla_heap.proofs.FreeLineLemmas.{lines_with_given, lines_moved, seen_given, room_for_one, at_ok}
 use Rattle.ancilla_heap.proofs.heap.Heap.give.Goals as goal
 
 lines : (c : goal.After-push) → AreLines c.self.inside.limit c.self.inside.next (record { 0 = c.args.line } ∷ heap_items c.self.inside.free)

@@ -1,5 +1,5 @@
 use Rattle.std.specs.BinaryHeap.{heap_items}
-use Rattle.ancilla_heap.proofs.FreeLines.{seen_new}
+use Rattle.ancilla_heap.proofs.FreeLineLemmas.{seen_new}
 use Rattle.ancilla_heap.proofs.heap.Heap.new.Goals as goal
 
 pub returns : goal.returns

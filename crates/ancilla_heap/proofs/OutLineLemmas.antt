@@ -1,46 +1,21 @@
 -- Rising lists of lines: parts by a test, one line more, one line less.
-use Rattle.std.proofs.Common.{◌≡◌, ◌≢◌, ℕ, zero, suc, ◌+◌, ◌<◌, ◌≤◌, Bool, true, false, not, ◌&&◌, ◌||◌, eqb, ltb, List, [], ◌∷◌, length, refl, sym, ap, ◌∙◌, subst, inl, inr, arith}
+use Rattle.std.proofs.Common.{◌≡◌, ◌≢◌, ℕ, zero, suc, ◌+◌, ◌<◌, ◌≤◌, Bool, true, false, not, ◌&&◌, ◌||◌, eqb, ltb, List, [], ◌∷◌, length, refl, sym, ap, ◌∙◌}
+use Rattle.std.proofs.Common.{subst, inl, inr, arith}
 use Rattle.std.specs.List.{AllByRecursion, filter, range_with_len}
 use Rattle.std.proofs.lemmas.Bool.{cases_Bool, eqb-true, eqb-false, ne_eqb, lt-ltb, le-ltb, cases_lt, true≢false}
-use Rattle.ancilla_heap.specs.Lines.{contains, IsRising, with_line, without_line}
+use Rattle.list_facts.specs.Lists.{IsRising}
+use Rattle.list_facts.proofs.AllLemmas.{AllByRecursion-weaker, AllByRecursion-filter}
+use Rattle.ancilla_heap.specs.Lines.{contains, with_line, without_line}
 
-All-filter : {X : Type 0} (P : X → Type 0) (p : X → Bool) (xs : List X) → AllByRecursion P xs → AllByRecursion P (filter p xs)
-All-filter P p [] h = tt
-All-filter P p (x ∷ xs) h = elim (cases_Bool (p x)) [ inl e ↦ rw e (h.0, All-filter P p xs h.1) | inr e ↦ rw e (All-filter P p xs h.1) ]
-
-pub All-weaken : {X : Type 0} (P Q : X → Type 0) (xs : List X) → ((x : X) → P x → Q x) → AllByRecursion P xs → AllByRecursion Q xs
-All-weaken P Q [] f h = tt
-All-weaken P Q (x ∷ xs) f h = (f x h.0, All-weaken P Q xs f h.1)
-
-pub IsRising-filter : (p : ℕ → Bool) (xs : List ℕ) → IsRising xs → IsRising (filter p xs)
-IsRising-filter p [] h = tt
-IsRising-filter p (x ∷ xs) h =
-    elim (cases_Bool (p x)) [
-      | inl e ↦ rw e (All-filter (λ y. x < y) p xs h.0, IsRising-filter p xs h.1)
-      | inr e ↦ rw e (IsRising-filter p xs h.1)
-    ]
-
-pub All-passed : (p : ℕ → Bool) (xs : List ℕ) → AllByRecursion (λ x. p x ≡ true) (filter p xs)
-All-passed p [] = tt
-All-passed p (x ∷ xs) = elim (cases_Bool (p x)) [ inl e ↦ rw e (e, All-passed p xs) | inr e ↦ rw e (All-passed p xs) ]
+pub passed_each : (p : ℕ → Bool) (xs : List ℕ) → AllByRecursion (λ x. p x ≡ true) (filter p xs)
+passed_each p [] = tt
+passed_each p (x ∷ xs) = elim (cases_Bool (p x)) [ inl e ↦ rw e (e, passed_each p xs) | inr e ↦ rw e (passed_each p xs) ]
 
 pub filter_none : (p : ℕ → Bool) (xs : List ℕ) → ((x : ℕ) → p x ≡ false) → filter p xs ≡ []
 filter_none p [] f = refl
 filter_none p (x ∷ xs) f = rw (f x) (filter_none p xs f)
 
 -- ---- the lines below a limit
-
-All-range : (a b n : ℕ) → a < b → AllByRecursion (λ y. a < y) (range_with_len b n)
-All-range a b zero h = tt
-All-range a b (suc n) h = (h, All-range a (b + 1) n (omega arith))
-
-pub All-range_below : (a n : ℕ) → AllByRecursion (λ y. y < a + n) (range_with_len a n)
-All-range_below a zero = tt
-All-range_below a (suc n) = (omega arith, All-weaken (λ y. y < (a + 1) + n) (λ y. y < a + suc n) (range_with_len (a + 1) n) (λ y l. omega arith) (All-range_below (a + 1) n))
-
-pub IsRising-range : (a n : ℕ) → IsRising (range_with_len a n)
-IsRising-range a zero = tt
-IsRising-range a (suc n) = (All-range a (a + 1) n (omega arith), IsRising-range (a + 1) n)
 
 pub contains-range : (a n x : ℕ) → a ≤ x → x < a + n → contains (range_with_len a n) x ≡ true
 contains-range a zero x l h = absurd (omega arith)
@@ -49,10 +24,6 @@ contains-range a (suc n) x l h =
       | inl e ↦ rw e refl
       | inr e ↦ let ne : a ≢ x = eqb-false a x e in rw e (contains-range (a + 1) n x (omega arith) (omega arith))
     ]
-
-pub length-range : (a n : ℕ) → length (range_with_len a n) ≡ n
-length-range a zero = refl
-length-range a (suc n) = omega (arith, length-range (a + 1) n)
 
 -- ---- membership
 
@@ -85,7 +56,11 @@ length-filter_all p (x ∷ xs) h = rw h.0 (omega (arith, length-filter_all p xs 
 
 length-filter-le : (p : ℕ → Bool) (xs : List ℕ) → length (filter p xs) ≤ length xs
 length-filter-le p [] = omega arith
-length-filter-le p (x ∷ xs) = elim (cases_Bool (p x)) [ inl e ↦ rw e (omega (arith, length-filter-le p xs)) | inr e ↦ rw e (omega (arith, length-filter-le p xs)) ]
+length-filter-le p (x ∷ xs) = elim (cases_Bool (p x)) [
+  | inl e ↦ rw e (omega (arith, length-filter-le p xs))
+  | inr e ↦ rw e
+      (omega (arith, length-filter-le p xs))
+]
 
 pub length-filter-lt : (p : ℕ → Bool) (xs : List ℕ) (x : ℕ) → contains xs x ≡ true → p x ≡ false → length (filter p xs) < length xs
 length-filter-lt p [] x h f = absurd (true≢false (sym h))
@@ -115,12 +90,17 @@ filter_with p q (y ∷ ys) x up h f t same =
       | inl e ↦
           let here : y ≡ x = eqb-true y x e in
           let above : AllByRecursion (λ z. x < z) ys = subst (λ n. AllByRecursion (λ z. n < z) ys) here up.0 in
-          let rest : filter q ys ≡ filter p ys = filter_same p q ys (All-weaken (λ z. x < z) (λ z. q z ≡ p z) ys (λ z l. same z (λ i. absurd (omega arith))) above) in
-          rw (ap p here ∙ f, ap q here ∙ t, rest, with_line_first (filter p ys) x (All-filter (λ z. x < z) p ys above), here) refl
+          let rest : filter q ys ≡ filter p ys = filter_same p q ys
+          (AllByRecursion-weaker (λ z. x < z) (λ z. q z ≡ p z) (λ z l. same z (λ i. absurd (omega arith))) ys above) in
+          rw (ap p here ∙ f, ap q here ∙ t, rest, with_line_first (filter p ys) x (AllByRecursion-filter (λ z. x < z) p ys above), here) refl
       | inr n ↦
           let other : y ≢ x = eqb-false y x n in
           let inside : contains ys x ≡ true = rw n at h in
-          let below : y < x = elim (cases_lt y x) [ inl l ↦ l | inr g ↦ absurd (true≢false (sym inside ∙ contains_above x ys (All-weaken (λ z. y < z) (λ z. x < z) ys (λ z l. omega arith) up.0))) ] in
+          let below : y < x = elim (cases_lt y x) [
+            | inl l ↦ l
+            | inr g ↦ absurd
+                (true≢false (sym inside ∙ contains_above x ys (AllByRecursion-weaker (λ z. y < z) (λ z. x < z) (λ z l. omega arith) ys up.0)))
+          ] in
           let rest = filter_with p q ys x up.1 inside f t same in
           elim (cases_Bool (p y)) [
             | inl u ↦ rw (u, same y other ∙ u, le-ltb x y (omega arith)) (ap (λ zs. y ∷ zs) rest)
@@ -135,6 +115,14 @@ filter_without p q (y ∷ ys) x same =
     elim (cases_Bool (p y)) [
       | inl u ↦ let here : q y ≡ not (eqb y x) = same y ∙ rw u refl in rw (u, here, filter_without p q ys x same) refl
       | inr g ↦ let here : q y ≡ false = same y ∙ rw g refl in rw (g, here) (filter_without p q ys x same)
+    ]
+
+pub length-with_line : (xs : List ℕ) (x : ℕ) → length (with_line xs x) ≡ suc (length xs)
+length-with_line [] x = refl
+length-with_line (y ∷ ys) x =
+    elim (cases_Bool (ltb x y)) [
+      | inl e ↦ rw e refl
+      | inr e ↦ rw e (ap suc (length-with_line ys x))
     ]
 
 -- ---- what is out then

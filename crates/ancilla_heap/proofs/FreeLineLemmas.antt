@@ -1,5 +1,6 @@
 -- What the lines that are out become when a free line is handed out or a line comes back.
-use Rattle.std.proofs.Common.{◌≡◌, ◌≢◌, ℕ, zero, suc, ◌+◌, ◌<◌, ◌≤◌, max, Bool, true, false, not, ◌&&◌, cond, eqb, ltb, List, [], ◌∷◌, length, Result, Ok, Err, IsOk, OnOk, refl, sym, ap, ◌∙◌, inl, inr, arith}
+use Rattle.std.proofs.Common.{◌≡◌, ◌≢◌, ℕ, zero, suc, ◌+◌, ◌<◌, ◌≤◌, max, true, false, not, ◌&&◌, cond, eqb, ltb, List, [], ◌∷◌, length, Result, Ok, Err}
+use Rattle.std.proofs.Common.{IsOk, OnOk, refl, sym, ap, ◌∙◌, inl, inr, arith}
 use Rattle.std.specs.List.{range_with_len}
 use Rattle.std.specs.List.Sorted.{IsPermutation}
 use Rattle.std.specs.Ordering.{nat_cmp}
@@ -10,8 +11,13 @@ use Rattle.std.proofs.lemmas.Bool.Decides.{nat_tests}
 use Rattle.std.proofs.lemmas.List.Sums.{sum_by-cons}
 use Rattle.std.proofs.lemmas.List.Sorted.{sum_by-IsPermutation}
 use Rattle.ancilla_heap.specs.Lines.{HeapView, contains, IsLineHeap, IsLeastFree, with_line, without_line, with_taken}
-use Rattle.ancilla_heap.specs.Inside.{count_of, is_out, out_of, AreLines}
-use Rattle.ancilla_heap.proofs.OutLines.{All-weaken, All-passed, All-range_below, filter_none, IsRising-filter, IsRising-range, contains-range, length-range, contains-filter_failed, contains-filter_passed, length-filter_all, length-filter-lt, filter_with, filter_without}
+use Rattle.ancilla_heap.specs.inside.Heaps.{count_of, is_out, out_of, AreLines}
+use Rattle.std.proofs.lemmas.List.FromFn.{length-range_with_len}
+use Rattle.std.proofs.Math.Bool.{and-true}
+use Rattle.list_facts.proofs.AllLemmas.{AllByRecursion-weaker}
+use Rattle.list_facts.proofs.OrderLemmas.{IsRising-filter, IsRising-range, range_below}
+use Rattle.ancilla_heap.proofs.OutLineLemmas.{passed_each, filter_none, contains-range, contains-filter_failed, contains-filter_passed, length-filter_all}
+use Rattle.ancilla_heap.proofs.OutLineLemmas.{length-filter-lt, filter_with, filter_without}
 
 -- ---- how often a line is free
 
@@ -87,8 +93,10 @@ is_out_not next free line l = rw (ne_eqb (count_of free line) 0 (λ e. absurd (o
 in_range : (limit line : ℕ) → line < limit → contains (range_with_len 0 limit) line ≡ true
 in_range limit line l = contains-range 0 limit line (omega arith) (omega arith)
 
-is_in_out : (limit next : ℕ) (free : List (Reverse ℕ)) (line : ℕ) → next ≤ limit → line < next → count_of free line ≡ 0 → contains (out_of limit next free) line ≡ true
-is_in_out limit next free line n l z = contains-filter_passed (is_out next free) (range_with_len 0 limit) line (is_out_at next free line l z) (in_range limit line (omega arith))
+is_in_out : (limit next : ℕ) (free : List (Reverse ℕ)) (line : ℕ) → next ≤ limit → line < next → count_of free line ≡ 0
+    → contains (out_of limit next free) line ≡ true
+is_in_out limit next free line n l z = contains-filter_passed (is_out next free) (range_with_len 0 limit) line (is_out_at next free line l z)
+    (in_range limit line (omega arith))
 
 -- ---- the view
 
@@ -101,8 +109,9 @@ seen_new limit free e = rw (filter_none (is_out 0 free) (range_with_len 0 limit)
 pub IsLineHeap-seen : (limit next : ℕ) (free : List (Reverse ℕ)) → AreLines limit next free → IsLineHeap (seen limit next free)
 IsLineHeap-seen limit next free k = record {
   rising = IsRising-filter (is_out next free) (range_with_len 0 limit) (IsRising-range 0 limit);
-  below_peak = All-weaken (λ line. is_out next free line ≡ true) (λ line. line < next) (out_of limit next free)
-      (λ line t. ltb-true line next (and_parts (ltb line next) (eqb (count_of free line) 0) t).0) (All-passed (is_out next free) (range_with_len 0 limit));
+  below_peak = AllByRecursion-weaker (λ line. is_out next free line ≡ true) (λ line. line < next)
+      (λ line t. ltb-true line next (and_parts (ltb line next) (eqb (count_of free line) 0) t).0) (out_of limit next free)
+      (passed_each (is_out next free) (range_with_len 0 limit));
   in_limit = k.in_limit;
 }
 
@@ -115,17 +124,23 @@ pub record IsTop (limit next : ℕ) (x : Reverse ℕ) (old new : List (Reverse �
 top_count : (limit next : ℕ) (x : Reverse ℕ) (old new : List (Reverse ℕ)) → IsTop limit next x old new → count_of old x.0 ≡ 1 + count_of new x.0
 top_count limit next x old new t = sym (count_permuted old (x ∷ new) x.0 t.moved) ∙ count_itself x new
 
-top_others : (limit next : ℕ) (x : Reverse ℕ) (old new : List (Reverse ℕ)) → IsTop limit next x old new → (line : ℕ) → x.0 ≢ line → count_of new line ≡ count_of old line
+top_others : (limit next : ℕ) (x : Reverse ℕ) (old new : List (Reverse ℕ)) → IsTop limit next x old new → (line : ℕ) → x.0 ≢ line
+    → count_of new line ≡ count_of old line
 top_others limit next x old new t line ne = sym (count_other x new line ne) ∙ count_permuted old (x ∷ new) line t.moved
 
 top_below : (limit next : ℕ) (x : Reverse ℕ) (old new : List (Reverse ℕ)) → IsTop limit next x old new → x.0 < next
-top_below limit next x old new t = elim (cases_lt x.0 next) [ inl l ↦ l | inr g ↦ absurd (omega (arith, t.lines.below x.0 g, top_count limit next x old new t)) ]
+top_below limit next x old new t = elim (cases_lt x.0 next) [
+  | inl l ↦ l
+  | inr g ↦ absurd
+      (omega (arith, t.lines.below x.0 g, top_count limit next x old new t))
+]
 
 pub lines_without_top : (limit next : ℕ) (x : Reverse ℕ) (old new : List (Reverse ℕ)) → IsTop limit next x old new → AreLines limit next new
 lines_without_top limit next x old new t = record {
   in_limit = t.lines.in_limit;
   below = λ line l. let low = top_below limit next x old new t in top_others limit next x old new t line (λ e. absurd (omega arith)) ∙ t.lines.below line l;
-  different = λ line. let total = count-cons x new line ∙ refl in let same = count_permuted old (x ∷ new) line t.moved in let few = t.lines.different line in omega arith;
+  different = λ line. let total = count-cons x new line
+      ∙ refl in let same = count_permuted old (x ∷ new) line t.moved in let few = t.lines.different line in omega arith;
 }
 
 pub top_is_least : (limit next : ℕ) (x : Reverse ℕ) (old new : List (Reverse ℕ)) → IsTop limit next x old new → IsLeastFree (seen limit next old) x.0
@@ -139,7 +154,8 @@ top_is_least limit next x old new t =
       least = λ line l. is_in_out limit next old line n (omega arith) (none_below x old line l t.least);
     }
 
-pub seen_top : (limit next : ℕ) (x : Reverse ℕ) (old new : List (Reverse ℕ)) → IsTop limit next x old new → seen limit next new ≡ with_taken (seen limit next old) x.0
+pub seen_top : (limit next : ℕ) (x : Reverse ℕ) (old new : List (Reverse ℕ)) → IsTop limit next x old new
+    → seen limit next new ≡ with_taken (seen limit next old) x.0
 seen_top limit next x old new t =
     let low = top_below limit next x old new t in
     let n = t.lines.in_limit in
@@ -182,24 +198,27 @@ seen_fresh limit next l =
 all_out : (limit : ℕ) → length (out_of limit limit []) ≡ limit
 all_out limit =
     length-filter_all (is_out limit []) (range_with_len 0 limit)
-    (All-weaken (λ line. line < 0 + limit) (λ line. is_out limit [] line ≡ true) (range_with_len 0 limit) (λ line l. is_out_at limit [] line (omega arith) refl) (All-range_below 0 limit))
-    ∙ length-range 0 limit
+    (AllByRecursion-weaker (λ line. line < 0 + limit) (λ line. is_out limit [] line ≡ true) (λ line l. is_out_at limit [] line (omega arith) refl)
+    (range_with_len 0 limit) (range_below 0 limit))
+    ∙ length-range_with_len 0 limit
 
 pub top_not_all_out : (limit next : ℕ) (x : Reverse ℕ) (old new : List (Reverse ℕ)) → IsTop limit next x old new → length (out_of limit next old) < limit
 top_not_all_out limit next x old new t =
     let low = top_below limit next x old new t in
     let n = t.lines.in_limit in
     let here = top_count limit next x old new t in
-    omega (arith, length-range 0 limit, length-filter-lt (is_out next old) (range_with_len 0 limit) x.0 (in_range limit x.0 (omega arith)) (is_out_not next old x.0 (omega arith)))
+    omega (
+      arith,
+      length-range_with_len 0 limit,
+      length-filter-lt (is_out next old) (range_with_len 0 limit) x.0 (in_range limit x.0 (omega arith))
+          (is_out_not next old x.0 (omega arith)),
+    )
 
 fresh_not_all_out : (limit next : ℕ) → next < limit → length (out_of limit next []) < limit
-fresh_not_all_out limit next l = omega (arith, length-range 0 limit, length-filter-lt (is_out next []) (range_with_len 0 limit) next (in_range limit next l) (fresh_itself next))
+fresh_not_all_out limit next l = omega
+    (arith, length-range_with_len 0 limit, length-filter-lt (is_out next []) (range_with_len 0 limit) next (in_range limit next l) (fresh_itself next))
 
 -- ---- a heap in which no free line waits
-
-pub empty_from_length : {X : Type 0} (xs : List X) → length xs ≡ 0 → xs ≡ []
-empty_from_length [] h = refl
-empty_from_length (x ∷ xs) h = absurd (omega arith)
 
 pub lines_when_empty : (limit next : ℕ) (new : List (Reverse ℕ)) → new ≡ [] → next < limit → AreLines limit (next + 1) new
 lines_when_empty limit next new e l = rw e (lines_fresh limit next l)
@@ -207,7 +226,8 @@ lines_when_empty limit next new e l = rw e (lines_fresh limit next l)
 pub least_when_empty : (limit next : ℕ) (old : List (Reverse ℕ)) → old ≡ [] → next < limit → IsLeastFree (seen limit next old) next
 least_when_empty limit next old e l = rw e (fresh_is_least limit next l)
 
-pub seen_when_empty : (limit next : ℕ) (old new : List (Reverse ℕ)) → old ≡ [] → new ≡ [] → next < limit → seen limit (next + 1) new ≡ with_taken (seen limit next old) next
+pub seen_when_empty : (limit next : ℕ) (old new : List (Reverse ℕ)) → old ≡ [] → new ≡ [] → next < limit
+    → seen limit (next + 1) new ≡ with_taken (seen limit next old) next
 seen_when_empty limit next old new e n l = rw (e, n) (seen_fresh limit next l)
 
 pub not_all_out_when_empty : (limit next : ℕ) (old : List (Reverse ℕ)) → old ≡ [] → next < limit → length (out_of limit next old) < limit
@@ -222,7 +242,8 @@ pub at_ok : {T E : Type 0} (r : Result T E) (P : Type 0) → IsOk r → OnOk r P
 at_ok (Ok x) P h p = p
 at_ok (Err e) P h p = absurd (true≢false (sym h))
 
-pub lines_with_given : (limit next line : ℕ) (free : List (Reverse ℕ)) → AreLines limit next free → contains (out_of limit next free) line ≡ true → AreLines limit next (record { 0 = line } ∷ free)
+pub lines_with_given : (limit next line : ℕ) (free : List (Reverse ℕ)) → AreLines limit next free → contains (out_of limit next free) line ≡ true
+    → AreLines limit next (record { 0 = line } ∷ free)
 lines_with_given limit next line free k h =
     let out = out_where limit next free line h in
     let x : Reverse ℕ = record { 0 = line } in
@@ -231,7 +252,8 @@ lines_with_given limit next line free k h =
       in_limit = k.in_limit;
       below = λ l g. count_other x free l (λ e. absurd (omega arith)) ∙ k.below l g;
       different = λ l. elim (cases_Bool (eqb line l)) [
-        | inl e ↦ let none : count_of free l ≡ 0 = sym (ap (count_of free) (eqb-true line l e)) ∙ out.1 in let total : count_of (x ∷ free) l ≡ 1 + count_of free l = count-cons x free l ∙ rw e refl in omega arith
+        | inl e ↦ let none : count_of free l ≡ 0 = sym (ap (count_of free) (eqb-true line l e))
+            ∙ out.1 in let total : count_of (x ∷ free) l ≡ 1 + count_of free l = count-cons x free l ∙ rw e refl in omega arith
         | inr n ↦ let same = count_other x free l (eqb-false line l n) in let few = k.different l in omega arith
       ];
     }
@@ -243,11 +265,8 @@ lines_moved limit next xs ys p k = record {
   different = λ line. let same = count_permuted xs ys line p in let few = k.different line in omega arith;
 }
 
-and_true : (b : Bool) → (b && true) ≡ b
-and_true true = refl
-and_true false = refl
-
-given_out : (next line : ℕ) (free new : List (Reverse ℕ)) → IsPermutation (record { 0 = line } ∷ free) new → (y : ℕ) → is_out next new y ≡ (is_out next free y && not (eqb y line))
+given_out : (next line : ℕ) (free new : List (Reverse ℕ)) → IsPermutation (record { 0 = line } ∷ free) new → (y : ℕ)
+    → is_out next new y ≡ (is_out next free y && not (eqb y line))
 given_out next line free new p y =
     let x : Reverse ℕ = record { 0 = line } in
     let same = count_permuted (x ∷ free) new y p in
@@ -258,9 +277,10 @@ given_out next line free new p y =
           rw e (is_out_not next new y (omega arith) ∙ sym (and_right (is_out next free y) false refl))
       | inr n ↦
           let others = count_other x free y (λ here. eqb-false y line n (sym here)) in
-          rw (n, same ∙ others) (sym (and_true (is_out next free y)))
+          rw (n, same ∙ others) (sym (and-true (is_out next free y)))
     ]
 
 pub seen_given : (limit next line : ℕ) (free new : List (Reverse ℕ)) → IsPermutation (record { 0 = line } ∷ free) new
     → seen limit next new ≡ record (seen limit next free) { out = without_line (out_of limit next free) line }
-seen_given limit next line free new p = rw (filter_without (is_out next free) (is_out next new) (range_with_len 0 limit) line (given_out next line free new p)) refl
+seen_given limit next line free new p = rw
+    (filter_without (is_out next free) (is_out next new) (range_with_len 0 limit) line (given_out next line free new p)) refl

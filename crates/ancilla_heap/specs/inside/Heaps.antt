@@ -19,7 +19,12 @@ abbrev pub out_of : ℕ → ℕ → List (Reverse ℕ) → List ℕ
 out_of limit next free = filter (is_out next free) (range_with_len 0 limit)
 
 abbrev pub view_of : Inside → HeapView
-view_of h = record { limit = h.limit; out = out_of h.limit h.next (heap_items h.free); peak = h.next }
+view_of h = record {
+  limit = h.limit;
+  out = out_of h.limit h.next
+      (heap_items h.free);
+  peak = h.next;
+}
 
 -- the free lines are different, and all lines that were ever handed out are below `next`
 pub record AreLines (limit next : ℕ) (free : List (Reverse ℕ)) : Type 0 where

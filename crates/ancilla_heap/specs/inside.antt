@@ -1,0 +1,2 @@
+-- What only the invariant and proofs cite.
+pub mod Heaps
