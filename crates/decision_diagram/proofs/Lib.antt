@@ -1,8 +1,8 @@
-pub mod Values
-pub mod Distinct
-pub mod Restrictions
-pub mod Growing
-pub mod Places
-pub mod Walk
-pub mod Joining
-pub mod Tables
+pub mod DistinctLemmas
+pub mod GrowthLemmas
+pub mod JoinLemmas
+pub mod PlaceLemmas
+pub mod RestrictionLemmas
+pub mod TableLemmas
+pub mod ValueLemmas
+pub mod WalkLemmas

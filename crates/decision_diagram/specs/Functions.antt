@@ -1,6 +1,7 @@
 -- Functions of Boolean variables, and the functions that come from one by fixing its first variables.
-use Rattle.std.specs.Prelude.{◌≡◌, ℕ, ◌<◌, ◌&&◌, Bool, true, false, nat_lt, List, slice_index_or, if◌then◌else◌}
+use Rattle.std.specs.Prelude.{◌≡◌, ℕ, ◌<◌, ◌&&◌, Bool, true, false, nat_lt, List, if◌then◌else◌}
 use Rattle.std.specs.Bool.{xor}
+use Rattle.list_facts.specs.Bits.{bit_of}
 
 -- a value for each variable, by the variable's place in the order
 abbrev pub Assignment : Type 0
@@ -11,7 +12,7 @@ Function = Assignment → Bool
 
 -- the bits as an assignment; variables past them are false
 abbrev pub assignment_of : List Bool → Assignment
-assignment_of bits i = slice_index_or bits i false
+assignment_of bits = bit_of bits
 
 -- two functions are the same
 abbrev pub AreSame : Function → Function → Type 0
@@ -30,8 +31,8 @@ abbrev pub conjunction : Function → Function → Function
 conjunction f g a = f a && g a
 
 -- every assignment gives the bit
-abbrev pub IsConstant : Function → Bool → Type 0
-IsConstant f bit = (a : Assignment) → f a ≡ bit
+abbrev pub GivesOnly : Function → Bool → Type 0
+GivesOnly f bit = (a : Assignment) → f a ≡ bit
 
 -- some assignment gives the bit
 abbrev pub Takes : Function → Bool → Type 0

@@ -50,10 +50,10 @@ pub record IsFullFor (f : Function) (d : DiagramView) (nodes : ℕ) : Type 0 whe
   pub full : length d.nodes ≡ d.limit
   pub needs : NeedsAnother f d.nodes
 
--- the diagram may refuse f with this fault; want of memory has no cause
+-- the diagram may refuse f with this fault; want of memory has no cause, and comes only where there is room
 abbrev pub MayRefuse : Function → DiagramView → DdFault → Type 0
 MayRefuse f d (Full nodes) = IsFullFor f d nodes
-MayRefuse f d Memory = Unit {0}
+MayRefuse f d Memory = length d.nodes < d.limit
 
 -- Equal functions have equal numbers.
 abbrev pub EqualFunctionsHaveOneNumber : Type 0
@@ -64,7 +64,8 @@ EqualFunctionsHaveOneNumber =
 -- No inner node stands for a constant.
 abbrev pub InnerNodesVary : Type 0
 InnerNodesVary =
-    (d : DiagramView) → IsCanonical d → (n : ℕ) → 2 ≤ n → IsNumber d.nodes n → Varies (function_of d.nodes n)
+    (d : DiagramView) → IsCanonical d → (n : ℕ) → 2 ≤ n → IsNumber d.nodes n
+    → Varies (function_of d.nodes n)
 
 -- A function asks the variables of its diagram alone.
 abbrev pub FunctionsAskTheVariables : Type 0
@@ -75,4 +76,5 @@ FunctionsAskTheVariables =
 -- What comes from a function of a diagram and is not constant has an inner node.
 abbrev pub DiagramsHoldWhatComes : Type 0
 DiagramsHoldWhatComes =
-    (d : DiagramView) → IsCanonical d → (n : ℕ) → IsNumber d.nodes n → HoldsAllFrom (function_of d.nodes n) d.nodes
+    (d : DiagramView) → IsCanonical d → (n : ℕ) → IsNumber d.nodes n
+    → HoldsAllFrom (function_of d.nodes n) d.nodes

@@ -1,4 +1,4 @@
-pub mod Functions
 pub mod Diagrams
+pub mod Functions
 pub mod Growth
-pub mod Steps
+pub mod inside

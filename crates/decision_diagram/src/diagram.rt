@@ -1,9 +1,9 @@
 // The table of inner nodes, and the functions that it makes.
 ghost use Rattle.std.specs.Prelude.{◌≡◌, ◌≤◌, ◌<◌, ◌+◌, ◌⊎◌, ℕ, [], true, false, not, length, IsTrue, IsFalse, IfOk, IfErr, IfSome, IfNone, MatchOption, Contains, slice_get, Some, if◌then◌else◌};
-ghost use Rattle.decision_diagram.specs.Functions.{variable_at, exclusive_or, conjunction, IsConstant, Varies, IsLeast, assignment_of};
+ghost use Rattle.decision_diagram.specs.Functions.{variable_at, exclusive_or, conjunction, GivesOnly, Varies, IsLeast, assignment_of};
 ghost use Rattle.decision_diagram.specs.Diagrams.{IsNumber, function_of, first_variable, IsBehind, MayFollow, IsCanonical};
 ghost use Rattle.decision_diagram.specs.Growth.{KeepsNodes, KeepsFunctions, AddsOnlyFrom, StandsFor, HoldsAllFrom, MayRefuse, EqualFunctionsHaveOneNumber, InnerNodesVary, FunctionsAskTheVariables, DiagramsHoldWhatComes};
-ghost use Rattle.decision_diagram.specs.Steps.{Grows, joined, IsInner, Splits, node_function};
+ghost use Rattle.decision_diagram.specs.inside.Joining.{Grows, joined, IsInner, Splits, node_function};
 
 use crate::node::{Dd, DdFault, Node, Operation};
 use revc_base::Memory;
@@ -14,8 +14,9 @@ use std::marker::Model;
 /// numbers and the list of the inner nodes, newest first.
 ///
 /// A call that makes a number refuses with `DdFault::Full` only where it needs one more function than the limit
-/// allows, or with `DdFault::Memory`. Inner nodes that it made on the way may stay then; every earlier number keeps
-/// its function. A number that is passed to a call must be one that this diagram gave.
+/// allows, and with `DdFault::Memory` only where there is room for one more. Inner nodes that it made on the way may
+/// stay then; every earlier number keeps its function. A number that is passed to a call must be one that this
+/// diagram gave.
 #[derive(Drop)]
 pub struct Diagram {
     vars: u32,
@@ -31,11 +32,13 @@ impl Model for Diagram {
 
     ghost view = { λ d. record { vars = d.vars; limit = d.limit; nodes = reverse d.nodes.items } };
 
-    ghost invariant = { λ d. IsCanonical (record { vars = d.vars; limit = d.limit; nodes = reverse d.nodes.items }) };
+    ghost invariant = { λ d. IsCanonical
+        (record { vars = d.vars; limit = d.limit; nodes = reverse d.nodes.items }) };
 }
 
 impl Diagram {
-    /// A diagram of `vars` variables with no inner node, and with room for `limit` of them.
+    /// A diagram of `vars` variables with no inner node, which may come to have `limit` of them. Memory for them is
+    /// taken as they are made.
     pub fn new(alloc: Global, vars: u32, limit: u32) -> Result<Diagram, Memory>
         requires { 1 ≤ limit }
         ensures canonical { IfOk result IsCanonical }
@@ -68,7 +71,8 @@ impl Diagram {
         ensures earlier { KeepsFunctions self.old.nodes self.new.nodes }
         ensures added { AddsOnlyFrom (variable_at var) self.old.nodes self.new.nodes }
         ensures answer { IfOk result (λ h. StandsFor self.new.nodes h (variable_at var)) }
-        ensures held { IfOk result (λ h. HoldsAllFrom (function_of self.new.nodes h) self.new.nodes) }
+        ensures held { IfOk result (λ h.
+            HoldsAllFrom (function_of self.new.nodes h) self.new.nodes) }
         ensures refused { IfErr result (MayRefuse (variable_at var) self.new) }
     {
         let (low, high) = (self.truth(false), self.truth(true));
@@ -87,7 +91,8 @@ impl Diagram {
             self.old.nodes self.new.nodes }
         ensures answer { IfOk result (λ h. StandsFor self.new.nodes h
             (exclusive_or (function_of self.old.nodes f) (function_of self.old.nodes g))) }
-        ensures held { IfOk result (λ h. HoldsAllFrom (function_of self.new.nodes h) self.new.nodes) }
+        ensures held { IfOk result (λ h.
+            HoldsAllFrom (function_of self.new.nodes h) self.new.nodes) }
         ensures refused { IfErr result (MayRefuse
             (exclusive_or (function_of self.old.nodes f) (function_of self.old.nodes g)) self.new) }
     {
@@ -106,7 +111,8 @@ impl Diagram {
             self.old.nodes self.new.nodes }
         ensures answer { IfOk result (λ h. StandsFor self.new.nodes h
             (conjunction (function_of self.old.nodes f) (function_of self.old.nodes g))) }
-        ensures held { IfOk result (λ h. HoldsAllFrom (function_of self.new.nodes h) self.new.nodes) }
+        ensures held { IfOk result (λ h.
+            HoldsAllFrom (function_of self.new.nodes h) self.new.nodes) }
         ensures refused { IfErr result (MayRefuse
             (conjunction (function_of self.old.nodes f) (function_of self.old.nodes g)) self.new) }
     {
@@ -117,7 +123,7 @@ impl Diagram {
     pub fn constant(&self, f: Dd) -> Option<bool>
         requires { IsNumber self.now.nodes f }
         ensures canonical { IsCanonical self.now }
-        ensures some { IfSome result (IsConstant (function_of self.now.nodes f)) }
+        ensures some { IfSome result (GivesOnly (function_of self.now.nodes f)) }
         ensures none { IfNone result (Varies (function_of self.now.nodes f)) }
     {
         let _ = &self.nodes; // shows what every diagram keeps
@@ -135,8 +141,9 @@ impl Diagram {
         requires number { IsNumber self.now.nodes f }
         requires places { length into.old ≡ self.now.vars }
         ensures canonical { IsCanonical self.now }
-        ensures found { IsTrue result → IsLeast (function_of self.now.nodes f) want (assignment_of into.new) }
-        ensures none { IsFalse result → IsConstant (function_of self.now.nodes f) (not want) }
+        ensures found { IsTrue result
+            → IsLeast (function_of self.now.nodes f) want (assignment_of into.new) }
+        ensures none { IsFalse result → GivesOnly (function_of self.now.nodes f) (not want) }
         ensures unchanged { IsFalse result → into.new ≡ into.old }
     {
         let _ = &self.nodes; // shows what every diagram keeps
@@ -200,11 +207,13 @@ impl Diagram {
         requires left { IsNumber self.old.nodes f }
         requires right { IsNumber self.old.nodes g }
         ensures grows { Grows
-            (joined operation (function_of self.old.nodes f) (function_of self.old.nodes g)) self.old self.new }
+            (joined operation (function_of self.old.nodes f) (function_of self.old.nodes g))
+            self.old self.new }
         ensures answer { IfOk result (λ h. StandsFor self.new.nodes h
             (joined operation (function_of self.old.nodes f) (function_of self.old.nodes g))) }
         ensures refused { IfErr result (MayRefuse
-            (joined operation (function_of self.old.nodes f) (function_of self.old.nodes g)) self.new) }
+            (joined operation (function_of self.old.nodes f) (function_of self.old.nodes g))
+            self.new) }
         ensures behind { (v : ℕ)
             → IsBehind self.old.vars self.old.nodes v f → IsBehind self.old.vars self.old.nodes v g
             → IfOk result (IsBehind self.new.vars self.new.nodes v) }
@@ -251,11 +260,13 @@ impl Diagram {
             (node_function self.old.nodes (record { variable = variable; low = low; high = high }))
             self.old self.new }
         ensures answer { IfOk result (λ h. StandsFor self.new.nodes h
-            (node_function self.old.nodes (record { variable = variable; low = low; high = high }))) }
+            (node_function self.old.nodes
+            (record { variable = variable; low = low; high = high }))) }
         ensures refused { IfErr result (MayRefuse
             (node_function self.old.nodes (record { variable = variable; low = low; high = high }))
             self.new) }
-        ensures first { IfOk result (λ h. variable ≤ first_variable self.new.vars self.new.nodes h) }
+        ensures first { IfOk result (λ h.
+            variable ≤ first_variable self.new.vars self.new.nodes h) }
     {
         let _ = &self.nodes; // shows what every diagram keeps
         if low == high {
@@ -276,9 +287,11 @@ impl Diagram {
     fn push(&mut self, node: Node) -> Result<Dd, DdFault>
         requires { MayFollow self.old.vars self.old.nodes node }
         ensures grows { Grows (node_function self.old.nodes node) self.old self.new }
-        ensures answer { IfOk result (λ h. StandsFor self.new.nodes h (node_function self.old.nodes node)) }
+        ensures answer { IfOk result (λ h.
+            StandsFor self.new.nodes h (node_function self.old.nodes node)) }
         ensures refused { IfErr result (MayRefuse (node_function self.old.nodes node) self.new) }
-        ensures first { IfOk result (λ h. first_variable self.new.vars self.new.nodes h ≡ node.variable) }
+        ensures first { IfOk result (λ h.
+            first_variable self.new.vars self.new.nodes h ≡ node.variable) }
     {
         let count = self.nodes.len();
         if count == self.limit as usize {
@@ -291,7 +304,8 @@ impl Diagram {
 
 // Where a node stands among these.
 fn place_of(nodes: &[Node], node: Node) -> Option<usize>
-    ensures { MatchOption result (Contains nodes.now node → ⊥) (λ place. slice_get nodes.now place ≡ Some node) }
+    ensures { MatchOption result (Contains nodes.now node → ⊥)
+        (λ place. slice_get nodes.now place ≡ Some node) }
 {
     nodes.iter().position(|other| *other == node)
 }

@@ -38,7 +38,7 @@ fn a_conjunction_fits_three_nodes(rt: HostRuntime) -> Result<(), Fail> {
 }
 
 // A variable, or its negation.
-#[tactic(auto, using(crate::proofs::Tables::kept_length))]
+#[tactic(auto, using(crate::proofs::TableLemmas::kept_length))]
 fn literal(diagram: &mut Diagram, input: Dd, positive: bool) -> Result<Dd, DdFault>
     requires { IsNumber diagram.old.nodes input }
     ensures kept { length diagram.old.nodes ≤ length diagram.new.nodes }
@@ -50,7 +50,7 @@ fn literal(diagram: &mut Diagram, input: Dd, positive: bool) -> Result<Dd, DdFau
 }
 
 // The function that is true where the three variables are the binary digits of `place` alone.
-#[tactic(auto, using(crate::proofs::Tables::kept_length))]
+#[tactic(auto, using(crate::proofs::TableLemmas::kept_length))]
 fn minterm(diagram: &mut Diagram, inputs: (Dd, Dd, Dd), place: usize) -> Result<Dd, DdFault>
     requires first { IsNumber diagram.old.nodes inputs.0 }
     requires second { IsNumber diagram.old.nodes inputs.1 }
@@ -67,7 +67,7 @@ fn minterm(diagram: &mut Diagram, inputs: (Dd, Dd, Dd), place: usize) -> Result<
 }
 
 // Adds the exclusive or of each function with one more.
-#[tactic(auto, using(crate::proofs::Tables::kept_length))]
+#[tactic(auto, using(crate::proofs::TableLemmas::kept_length))]
 fn add_each(diagram: &mut Diagram, all: &mut Vec<Dd>, more: Dd) -> Result<(), DdFault>
     requires known { All (IsNumber diagram.old.nodes) all.old.items }
     requires more { IsNumber diagram.old.nodes more }
@@ -83,7 +83,7 @@ fn add_each(diagram: &mut Diagram, all: &mut Vec<Dd>, more: Dd) -> Result<(), Dd
 }
 
 // All functions of three variables, each at the place that is its truth table.
-#[tactic(auto, using(crate::proofs::Tables::kept_length))]
+#[tactic(auto, using(crate::proofs::TableLemmas::kept_length))]
 fn all_functions(alloc: Global, diagram: &mut Diagram) -> Result<Vec<Dd>, DdFault>
     requires { diagram.old.vars ≡ 3 }
     ensures vars { diagram.new.vars ≡ diagram.old.vars }
@@ -102,7 +102,7 @@ fn all_functions(alloc: Global, diagram: &mut Diagram) -> Result<Vec<Dd>, DdFaul
 }
 
 // The joins of two of these functions stand where the truth tables' joins say.
-#[tactic(auto, using(crate::proofs::Tables::kept_length))]
+#[tactic(auto, using(crate::proofs::TableLemmas::kept_length))]
 fn joins(diagram: &mut Diagram, all: &[Dd], s: usize, t: usize) -> Result<bool, DdFault>
     requires known { All (IsNumber diagram.old.nodes) all.now }
     requires s_in { s < length all.now }

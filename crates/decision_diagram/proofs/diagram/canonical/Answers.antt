@@ -1,6 +1,6 @@
-use Rattle.decision_diagram.proofs.Values.{function-agree}
-use Rattle.decision_diagram.proofs.Distinct.{distinct_functions}
-use Rattle.decision_diagram.proofs.Restrictions.{inner_varies, holds_all}
+use Rattle.decision_diagram.proofs.ValueLemmas.{function-agree}
+use Rattle.decision_diagram.proofs.DistinctLemmas.{distinct_functions}
+use Rattle.decision_diagram.proofs.RestrictionLemmas.{inner_varies, holds_all}
 use Rattle.decision_diagram.proofs.diagram.canonical.Goals as goal
 
 pub returns : goal.returns

@@ -2,9 +2,9 @@ use Rattle.std.proofs.Common.{true, false, arith}
 use Rattle.decision_diagram.specs.Functions.{Function}
 use Rattle.decision_diagram.specs.Diagrams.{Triple, function_of}
 use Rattle.decision_diagram.specs.Growth.{MayRefuse}
-use Rattle.decision_diagram.specs.Steps.{joined, node_function}
-use Rattle.decision_diagram.proofs.Growing.{KeepsNodes-refl, behind-kept, Grows-from, Grows-same, Grows-trans, MayRefuse-from}
-use Rattle.decision_diagram.proofs.Joining.{one_asks, settled_behind, later_comes, node_is_join, ok_same, refused_same, refused_at}
+use Rattle.decision_diagram.specs.inside.Joining.{joined, node_function}
+use Rattle.decision_diagram.proofs.GrowthLemmas.{KeepsNodes-refl, behind-kept, Grows-from, Grows-same, Grows-trans, MayRefuse-from}
+use Rattle.decision_diagram.proofs.JoinLemmas.{one_asks, settled_behind, later_comes, node_is_join, ok_same, refused_same, refused_at}
 use Rattle.decision_diagram.proofs.diagram.Diagram.+join.Goals as goal
 
 pub returns-in-Some-clause-behind : goal.returns-in-Some-clause-behind

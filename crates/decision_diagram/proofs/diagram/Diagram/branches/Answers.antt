@@ -1,5 +1,5 @@
-use Rattle.decision_diagram.proofs.Growing.{splits_self, constant_behind}
-use Rattle.decision_diagram.proofs.Restrictions.{small_from}
+use Rattle.decision_diagram.proofs.GrowthLemmas.{splits_self, constant_behind}
+use Rattle.decision_diagram.proofs.RestrictionLemmas.{small_from}
 use Rattle.decision_diagram.proofs.diagram.Diagram.branches.Goals as goal
 
 pub returns-then-not-is_inner : goal.returns-then-not-is_inner

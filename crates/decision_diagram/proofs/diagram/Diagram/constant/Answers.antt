@@ -1,6 +1,6 @@
 use Rattle.std.proofs.Common.{subst}
 use Rattle.decision_diagram.specs.Diagrams.{DiagramView, IsCanonical}
-use Rattle.decision_diagram.proofs.Restrictions.{inner_varies, constant_is, small_from}
+use Rattle.decision_diagram.proofs.RestrictionLemmas.{inner_varies, constant_is, small_from}
 use Rattle.decision_diagram.proofs.diagram.Diagram.constant.Goals as goal
 
 pub returns-then-is_inner-clause-none : goal.returns-then-is_inner-clause-none

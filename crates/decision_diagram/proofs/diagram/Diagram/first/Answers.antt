@@ -1,7 +1,7 @@
 use Rattle.std.proofs.Common.{ap, sym, ◌∙◌}
 use Rattle.decision_diagram.specs.Diagrams.{DiagramView}
-use Rattle.decision_diagram.proofs.Distinct.{first-constant}
-use Rattle.decision_diagram.proofs.Restrictions.{small_from}
+use Rattle.decision_diagram.proofs.DistinctLemmas.{first-constant}
+use Rattle.decision_diagram.proofs.RestrictionLemmas.{small_from}
 use Rattle.decision_diagram.proofs.diagram.Diagram.first.Goals as goal
 
 pub returns-else-is_inner : goal.returns-else-is_inner

@@ -1,8 +1,8 @@
 use Rattle.std.proofs.Common.{◌≡◌, ℕ, ◌+◌, ◌-◌, ◌<◌, length, reverse, arith, sym, subst}
 use Rattle.std.proofs.lemmas.List.{length-reverse}
 use Rattle.decision_diagram.specs.Diagrams.{DiagramView}
-use Rattle.decision_diagram.specs.Steps.{IsInner}
-use Rattle.decision_diagram.proofs.Places.{inner_at_place}
+use Rattle.decision_diagram.specs.inside.Joining.{IsInner}
+use Rattle.decision_diagram.proofs.PlaceLemmas.{inner_at_place}
 use Rattle.decision_diagram.proofs.diagram.Diagram.inner.Goals as goal
 
 pub returns : goal.returns

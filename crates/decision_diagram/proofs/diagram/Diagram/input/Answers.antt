@@ -1,8 +1,9 @@
 use Rattle.std.proofs.Common.{arith}
 use Rattle.decision_diagram.specs.Diagrams.{Triple}
 use Rattle.decision_diagram.specs.Growth.{StandsFor, MayRefuse}
-use Rattle.decision_diagram.specs.Steps.{node_function}
-use Rattle.decision_diagram.proofs.Growing.{keeps_functions, held_of, constant_behind, input_function, Grows-same, MayRefuse-same, StandsFor-same, ok_from, err_from}
+use Rattle.decision_diagram.specs.inside.Joining.{node_function}
+use Rattle.decision_diagram.proofs.GrowthLemmas.{keeps_functions, held_of, constant_behind, input_function, Grows-same, MayRefuse-same, StandsFor-same, ok_from}
+use Rattle.decision_diagram.proofs.GrowthLemmas.{err_from}
 use Rattle.decision_diagram.proofs.diagram.Diagram.input.Goals as goal
 
 pub node-requires-clause-low : goal.node-requires-clause-low

@@ -2,9 +2,9 @@ use Rattle.std.proofs.Common.{◌≡◌, ℕ, ◌<◌, length, slice_set, nat_eq
 use Rattle.decision_diagram.specs.Functions.{Assignment}
 use Rattle.decision_diagram.specs.Diagrams.{Triple, DiagramView, IsCanonical}
 use Rattle.decision_diagram.specs.Functions.{assignment_of}
-use Rattle.decision_diagram.proofs.Values.{first_most, set_at}
-use Rattle.decision_diagram.proofs.Restrictions.{small_from}
-use Rattle.decision_diagram.proofs.Walk.{Underway, walk_steps, walk_ends, assignment-set}
+use Rattle.decision_diagram.proofs.ValueLemmas.{first_most, set_at}
+use Rattle.decision_diagram.proofs.RestrictionLemmas.{small_from}
+use Rattle.decision_diagram.proofs.WalkLemmas.{Underway, walk_steps, walk_ends, assignment-set}
 use Rattle.decision_diagram.proofs.diagram.Diagram.least.Goals as goal
 
 pub bounds-into-node-inside : goal.bounds-into-node-inside

@@ -1,5 +1,5 @@
 use Rattle.decision_diagram.specs.Functions.{assignment_of}
-use Rattle.decision_diagram.proofs.Walk.{Underway}
+use Rattle.decision_diagram.proofs.WalkLemmas.{Underway}
 use Rattle.decision_diagram.proofs.diagram.Diagram.least.Given as goal
 
 abbrev pub invariant-walk : goal.invariant-walk

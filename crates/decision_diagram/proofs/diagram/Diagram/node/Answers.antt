@@ -1,6 +1,6 @@
 use Rattle.std.proofs.Common.{arith}
 use Rattle.decision_diagram.specs.Diagrams.{Triple}
-use Rattle.decision_diagram.proofs.Places.{found_inner}
+use Rattle.decision_diagram.proofs.PlaceLemmas.{found_inner}
 use Rattle.decision_diagram.proofs.diagram.Diagram.node.Goals as goal
 
 pub returns-in-Some-clause-answer : goal.returns-in-Some-clause-answer

@@ -1,5 +1,5 @@
 use Rattle.std.proofs.Common.{arith}
-use Rattle.decision_diagram.proofs.Places.{push_grows, push_full}
+use Rattle.decision_diagram.proofs.PlaceLemmas.{push_grows, push_full}
 use Rattle.decision_diagram.proofs.diagram.Diagram.push.Goals as goal
 
 pub returns-then-count-self-clause-refused : goal.returns-then-count-self-clause-refused

@@ -2,8 +2,8 @@ use Rattle.std.proofs.Common.{sym, subst, eqb-true}
 use Rattle.decision_diagram.specs.declared.node.Operation.{Operation}
 use Rattle.decision_diagram.specs.Diagrams.{function_of}
 use Rattle.decision_diagram.specs.Growth.{StandsFor}
-use Rattle.decision_diagram.specs.Steps.{joined}
-use Rattle.decision_diagram.proofs.Restrictions.{xor_same, xor_left, xor_right}
+use Rattle.decision_diagram.specs.inside.Joining.{joined}
+use Rattle.decision_diagram.proofs.RestrictionLemmas.{xor_itself, xor_left, xor_right}
 use Rattle.decision_diagram.proofs.diagram.Diagram.settled.Goals as goal
 
 pub returns-in-Xor-clause-stands : goal.returns-in-Xor-clause-stands
@@ -11,7 +11,7 @@ returns-in-Xor-clause-stands c =
     let nodes = c.args.self.now.nodes in
     subst (λ (o : Operation). StandsFor nodes c.truth-no.result (joined o (function_of nodes c.args.f) (function_of nodes c.args.g)))
     (sym c.in-Xor.is)
-    (xor_same nodes c.args.f c.args.g c.truth-no.result (eqb-true c.args.f c.args.g (sym c.if-eq.ensures)) c.truth-no.ensures.stands)
+    (xor_itself nodes c.args.f c.args.g c.truth-no.result (eqb-true c.args.f c.args.g (sym c.if-eq.ensures)) c.truth-no.ensures.stands)
 
 pub returns-in-Xor-2-clause-stands : goal.returns-in-Xor-2-clause-stands
 returns-in-Xor-2-clause-stands c =

@@ -1,6 +1,6 @@
 use Rattle.std.proofs.Common.{ℕ, sym, ◌∙◌, subst}
 use Rattle.decision_diagram.specs.Growth.{StandsFor}
-use Rattle.decision_diagram.proofs.Restrictions.{constant_stands, constant-byte}
+use Rattle.decision_diagram.proofs.RestrictionLemmas.{constant_stands, constant-byte}
 use Rattle.decision_diagram.proofs.diagram.Diagram.truth.Goals as goal
 
 pub returns-clause-stands : goal.returns-clause-stands

@@ -1,6 +1,6 @@
 use Rattle.std.specs.Bool.{xor}
 use Rattle.decision_diagram.specs.Diagrams.{function_of}
-use Rattle.decision_diagram.proofs.Growing.{keeps_functions, held_of}
+use Rattle.decision_diagram.proofs.GrowthLemmas.{keeps_functions, held_of}
 use Rattle.decision_diagram.proofs.diagram.Diagram.xor.Goals as goal
 
 pub returns-clause-earlier : goal.returns-clause-earlier

@@ -1,12 +1,13 @@
 -- The walk to the least assignment with a bit.
-use Rattle.std.proofs.Common.{◌≡◌, ◌≢◌, ℕ, ◌<◌, ◌≤◌, Bool, true, false, not, nat_eq, List, length, set, refl, sym, ap, ◌∙◌, inl, inr, arith, eqb-true, get_or-set_same, get_or-set_other}
+use Rattle.std.proofs.Common.{◌≡◌, ◌≢◌, ℕ, ◌<◌, ◌≤◌, Bool, true, false, not, nat_eq, List, length, set, refl, sym, ap, ◌∙◌, inl, inr, arith, eqb-true}
+use Rattle.std.proofs.Common.{get_or-set_same, get_or-set_other}
 use Rattle.std.proofs.lemmas.Bool.{cases_eq, cases_lt, cases_Bool, eqb-false, true≢false, false≢true}
 use Rattle.decision_diagram.specs.Functions.{Assignment, IsLeast, assignment_of}
 use Rattle.decision_diagram.specs.Diagrams.{Triple, IsNumber, side, function_of, first_variable, IsBehind}
-use Rattle.decision_diagram.specs.Steps.{IsInner}
-use Rattle.decision_diagram.proofs.Values.{branch_behind, set_at, set_at-same, set_at-other}
-use Rattle.decision_diagram.proofs.Distinct.{first-constant}
-use Rattle.decision_diagram.proofs.Restrictions.{constant_number, not_other, function-constant}
+use Rattle.decision_diagram.specs.inside.Joining.{IsInner}
+use Rattle.decision_diagram.proofs.ValueLemmas.{branch_behind, set_at, set_at-same, set_at-other}
+use Rattle.decision_diagram.proofs.DistinctLemmas.{first-constant}
+use Rattle.decision_diagram.proofs.RestrictionLemmas.{constant_number, not_other, function-constant}
 
 -- The walk from f has come to `at`, and `a` has the bits that it took: they lead there, and every assignment with
 -- the wanted bit that parts from them before `at` has true where they have false.

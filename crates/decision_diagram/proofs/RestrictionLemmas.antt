@@ -5,10 +5,12 @@ use mir.Val.{bool_byte}
 use Rattle.std.specs.Bool.{xor}
 use Rattle.std.specs.Prelude.{IsTrue, ◌↔◌}
 use Rattle.std.proofs.lemmas.Bool.{iff_false, cases_eq, cases_lt, lt-ltb, le-ltb, false≢true}
+use Rattle.list_facts.proofs.BitLemmas.{xor_same, xor_none, xor_nothing}
 use Rattle.decision_diagram.specs.Functions.{Assignment, Function, AreSame, Takes, Varies, fixed, ComesFrom}
 use Rattle.decision_diagram.specs.Diagrams.{Triple, IsNumber, next_number, branch, function_of, first_variable, AreOrdered}
 use Rattle.decision_diagram.specs.Growth.{StandsFor, IsHeld, HoldsAllFrom}
-use Rattle.decision_diagram.proofs.Values.{cases_number, function-newest, function-older, first-newest, branch_behind, function-agree, set_at, set_at-same, function-set_at}
+use Rattle.decision_diagram.proofs.ValueLemmas.{cases_number, function-newest, function-older, first-newest, branch_behind, function-agree, set_at, set_at-same}
+use Rattle.decision_diagram.proofs.ValueLemmas.{function-set_at}
 
 pub fixed-below : (count : ℕ) (bits a : Assignment) (i : ℕ) → i < count → fixed count bits a i ≡ bits i
 fixed-below count bits a i below = ap (λ t. if t then bits i else a i) (lt-ltb i count below)
@@ -81,7 +83,8 @@ pub takes : (vars : ℕ) (nodes : List Triple) → AreOrdered vars nodes → (n 
 takes vars [] ordered n known bit other =
     (λ i. false, ap (λ k. function_of [] k (λ i. false)) (not_other bit n known other) ∙ function-constant [] bit (λ i. false))
 takes vars (node ∷ older) ordered n known bit other =
-    let by_side : (t : Bool) → ((if t then node.high else node.low) ≡ constant_number (not bit) → ⊥) → Takes (function_of (node ∷ older) (next_number older)) bit =
+    let by_side : (t : Bool) → ((if t then node.high else node.low) ≡ constant_number (not bit) → ⊥)
+    → Takes (function_of (node ∷ older) (next_number older)) bit =
     λ t differs.
     let behind = branch_behind vars older node ordered.0.low ordered.0.high t in
     let found = takes vars older ordered.1 (if t then node.high else node.low) behind.known bit differs in
@@ -194,34 +197,19 @@ constant_is nodes n one test small is_one means a =
     ap (λ k. function_of nodes k a) bit.1 ∙ (function-constant nodes bit.0 a
     ∙ (constant-test bit.0 ∙ (sym (ap (λ k. nat_eq k 1) bit.1) ∙ (ap (λ k. nat_eq n k) (sym is_one) ∙ sym means))))
 
-xor-self : (x : Bool) → xor x x ≡ false
-unfolding mathlib.Core.Bool.xor
-xor-self true = refl
-xor-self false = refl
-
-xor-left : (x : Bool) → xor false x ≡ x
-unfolding mathlib.Core.Bool.xor
-xor-left true = refl
-xor-left false = refl
-
-xor-right : (x : Bool) → xor x false ≡ x
-unfolding mathlib.Core.Bool.xor
-xor-right true = refl
-xor-right false = refl
-
 -- the exclusive or of a function with itself, and with the constant false
-pub xor_same : (nodes : List Triple) (f g none : ℕ) → f ≡ g → StandsFor nodes none (λ a. false)
+pub xor_itself : (nodes : List Triple) (f g none : ℕ) → f ≡ g → StandsFor nodes none (λ a. false)
     → StandsFor nodes none (λ a. xor (function_of nodes f a) (function_of nodes g a))
-xor_same nodes f g none same at_none = record {
+xor_itself nodes f g none same at_none = record {
   known = at_none.known;
-  same = λ a. at_none.same a ∙ (sym (xor-self (function_of nodes f a)) ∙ ap (λ k. xor (function_of nodes f a) (function_of nodes k a)) same);
+  same = λ a. at_none.same a ∙ (sym (xor_same (function_of nodes f a)) ∙ ap (λ k. xor (function_of nodes f a) (function_of nodes k a)) same);
 }
 
 pub xor_left : (nodes : List Triple) (f g none : ℕ) → f ≡ none → StandsFor nodes none (λ a. false) → IsNumber nodes g
     → StandsFor nodes g (λ a. xor (function_of nodes f a) (function_of nodes g a))
 xor_left nodes f g none same at_none known = record {
   known = known;
-  same = λ a. sym (xor-left (function_of nodes g a))
+  same = λ a. sym (xor_none (function_of nodes g a))
       ∙ ap (λ t. xor t (function_of nodes g a)) (sym (ap (λ k. function_of nodes k a) same ∙ at_none.same a));
 }
 
@@ -229,6 +217,6 @@ pub xor_right : (nodes : List Triple) (f g none : ℕ) → g ≡ none → Stands
     → StandsFor nodes f (λ a. xor (function_of nodes f a) (function_of nodes g a))
 xor_right nodes f g none same at_none known = record {
   known = known;
-  same = λ a. sym (xor-right (function_of nodes f a))
+  same = λ a. sym (xor_nothing (function_of nodes f a))
       ∙ ap (λ t. xor (function_of nodes f a) t) (sym (ap (λ k. function_of nodes k a) same ∙ at_none.same a));
 }

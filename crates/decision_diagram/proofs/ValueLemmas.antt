@@ -1,5 +1,6 @@
 -- The functions of numbers: what a new node changes, and which variables a number asks.
-use Rattle.std.proofs.Common.{◌≡◌, ℕ, ◌<◌, ◌≤◌, Bool, true, false, nat_eq, if◌then◌else◌, List, [], ◌∷◌, ◌⊎◌, refl, sym, ap, ◌∙◌, inl, inr, arith, eq-eqb, ne_eqb}
+use Rattle.std.proofs.Common.{◌≡◌, ℕ, ◌<◌, ◌≤◌, Bool, true, false, nat_eq, if◌then◌else◌, List, [], ◌∷◌, ◌⊎◌, refl, sym, ap, ◌∙◌, inl, inr, arith, eq-eqb}
+use Rattle.std.proofs.Common.{ne_eqb}
 use Rattle.std.proofs.lemmas.Bool.{cases_eq}
 use Rattle.decision_diagram.specs.Functions.{Assignment}
 use Rattle.decision_diagram.specs.Diagrams.{Triple, IsNumber, next_number, branch, function_of, first_variable, IsBehind, AreOrdered}

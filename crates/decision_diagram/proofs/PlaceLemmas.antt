@@ -1,12 +1,13 @@
 -- The node of a number, from the list of nodes in the order in which they were made.
-use Rattle.std.proofs.Common.{◌≡◌, ℕ, zero, suc, ◌+◌, ◌-◌, ◌<◌, List, [], ◌∷◌, ◌++◌, length, reverse, get_or, slice_get, Some, sym, ap, ◌∙◌, subst, inl, inr, arith}
+use Rattle.std.proofs.Common.{◌≡◌, ℕ, zero, suc, ◌+◌, ◌-◌, ◌<◌, List, [], ◌∷◌, ◌++◌, length, reverse, get_or, slice_get, Some, sym, ap, ◌∙◌, subst, inl, inr}
+use Rattle.std.proofs.Common.{arith}
 use Rattle.std.proofs.lemmas.List.{get_or-reverse, length-reverse, reverse-append}
 use Rattle.std.proofs.lemmas.Option.{slice_get_within, get_or_from_slice_get}
 use Rattle.decision_diagram.specs.Diagrams.{Triple, DiagramView, MayFollow, AreOrdered, IsCanonical}
 use Rattle.decision_diagram.specs.Growth.{IsFullFor}
-use Rattle.decision_diagram.specs.Steps.{Grows, IsInner, node_function}
-use Rattle.decision_diagram.proofs.Distinct.{IsAt, inner_at}
-use Rattle.decision_diagram.proofs.Growing.{with_node, grows_by_node, full_for_node}
+use Rattle.decision_diagram.specs.inside.Joining.{Grows, IsInner, node_function}
+use Rattle.decision_diagram.proofs.DistinctLemmas.{IsAt, inner_at}
+use Rattle.decision_diagram.proofs.GrowthLemmas.{with_node, grows_by_node, full_for_node}
 
 at_index : (nodes : List Triple) (n k : ℕ) (node : Triple) → n + k ≡ suc (length nodes) → k < length nodes
     → get_or nodes k node ≡ node → IsAt nodes n node

@@ -1,10 +1,12 @@
 -- Equal functions have equal numbers.
-use Rattle.std.proofs.Common.{◌≡◌, ℕ, suc, ◌<◌, ◌≤◌, Bool, true, false, nat_eq, List, [], ◌∷◌, Contains, ◌⊎◌, refl, sym, ap, ◌∙◌, subst, inl, inr, arith, eq-eqb, ne_eqb, eqb-true}
+use Rattle.std.proofs.Common.{◌≡◌, ℕ, suc, ◌<◌, ◌≤◌, Bool, true, false, nat_eq, List, [], ◌∷◌, Contains, ◌⊎◌, refl, sym, ap, ◌∙◌, subst, inl, inr, arith}
+use Rattle.std.proofs.Common.{eq-eqb, ne_eqb, eqb-true}
 use Rattle.std.proofs.lemmas.Bool.{cases_eq, cases_lt, cases_order, eqb-false}
 use Rattle.decision_diagram.specs.Functions.{Assignment, Function, AreSame}
-use Rattle.decision_diagram.specs.Steps.{Branches, IsInner}
+use Rattle.decision_diagram.specs.inside.Joining.{Branches, IsInner}
 use Rattle.decision_diagram.specs.Diagrams.{Triple, IsNumber, next_number, side, branch, function_of, first_variable, IsBehind, MayFollow, AreOrdered}
-use Rattle.decision_diagram.proofs.Values.{cases_number, function-newest, function-older, first-newest, first-older, branch_behind, first_most, set_at, set_at-same, set_at-other, function-set_at}
+use Rattle.decision_diagram.proofs.ValueLemmas.{cases_number, function-newest, function-older, first-newest, first-older, branch_behind, first_most, set_at}
+use Rattle.decision_diagram.proofs.ValueLemmas.{set_at-same, set_at-other, function-set_at}
 
 pub side_behind : (vars : ℕ) (nodes : List Triple) (f : Function) (node : Triple) → Branches vars nodes f node
     → (bit : Bool) → IsBehind vars nodes node.variable (side node bit)
@@ -152,7 +154,11 @@ new_function vars older node follows ordered distinct n known same =
     elim (cases_lt n 2) [
       | inl small ↦ depends vars older ordered distinct (function_of older n) node here
           (λ bit a. function-set_at vars older ordered node.variable n
-          (record { known = known; behind = omega (arith, first-constant vars older n small, follows.low.behind, first_most vars older ordered node.low) }) bit a)
+          (record {
+            known = known;
+            behind = omega
+                (arith, first-constant vars older n small, follows.low.behind, first_most vars older ordered node.low);
+          }) bit a)
       | inr inner ↦
           let found = some_at older n inner known in
           let at = inner_at vars older ordered n found.0 found.1 in

@@ -1,16 +1,18 @@
 -- A join of two numbers through their branches at a variable.
-use Rattle.std.proofs.Common.{◌≡◌, ℕ, ◌+◌, ◌<◌, ◌≤◌, min, Bool, true, if◌then◌else◌, List, ◌⊎◌, sym, subst, inl, inr, arith, Result, Ok, Err, IfOk, IfErr, IsErrAnd}
+use Rattle.std.proofs.Common.{◌≡◌, ℕ, ◌+◌, ◌<◌, ◌≤◌, min, Bool, true, if◌then◌else◌, List, ◌⊎◌, sym, subst, inl, inr, arith, Result, Ok, Err, IfOk, IfErr}
+use Rattle.std.proofs.Common.{IsErrAnd}
 use Rattle.std.proofs.lemmas.Bool.{cases_lt}
 use Rattle.decision_diagram.specs.declared.node.DdFault.{DdFault}
 use Rattle.decision_diagram.specs.declared.node.Operation.{Operation}
 use Rattle.decision_diagram.specs.Functions.{Function, AreSame, ComesFrom}
 use Rattle.decision_diagram.specs.Diagrams.{Triple, DiagramView, IsNumber, function_of, first_variable, IsBehind, AreOrdered, IsCanonical}
 use Rattle.decision_diagram.specs.Growth.{KeepsNodes, StandsFor, MayRefuse}
-use Rattle.decision_diagram.specs.Steps.{joined, Splits, node_function}
-use Rattle.decision_diagram.proofs.Values.{branch_behind, first_most}
-use Rattle.decision_diagram.proofs.Distinct.{some_at, inner_at}
-use Rattle.decision_diagram.proofs.Restrictions.{ComesFrom-same}
-use Rattle.decision_diagram.proofs.Growing.{function-kept, stands-kept, StandsFor-same, joined-same, side_comes, node_joins, constant_behind, MayRefuse-same, ok_from, err_from}
+use Rattle.decision_diagram.specs.inside.Joining.{joined, Splits, node_function}
+use Rattle.decision_diagram.proofs.ValueLemmas.{branch_behind, first_most}
+use Rattle.decision_diagram.proofs.DistinctLemmas.{some_at, inner_at}
+use Rattle.decision_diagram.proofs.RestrictionLemmas.{ComesFrom-same}
+use Rattle.decision_diagram.proofs.GrowthLemmas.{function-kept, stands-kept, StandsFor-same, joined-same, side_comes, node_joins, constant_behind}
+use Rattle.decision_diagram.proofs.GrowthLemmas.{MayRefuse-same, ok_from, err_from}
 
 -- an inner node asks a variable of the diagram
 pub inner_asks : (vars : ℕ) (nodes : List Triple) → AreOrdered vars nodes → (n : ℕ) → 2 ≤ n → IsNumber nodes n
@@ -50,8 +52,10 @@ module _ (d : DiagramView) (canonical : IsCanonical d) (operation : Operation) (
       let f_side : ℕ = if t then f_high else f_low in
       let g_side : ℕ = if t then g_high else g_low in
       joined-same operation (function_of e.nodes f_side) (function_of e.nodes g_side) (function_of d.nodes f_side) (function_of d.nodes g_side) a a
-      (function-kept d e kept f_side a (branch_behind d.vars d.nodes (record { variable = v; low = f_low; high = f_high }) f_splits.low_behind f_splits.high_behind t).known)
-      (function-kept d e kept g_side a (branch_behind d.vars d.nodes (record { variable = v; low = g_low; high = g_high }) g_splits.low_behind g_splits.high_behind t).known)
+      (function-kept d e kept f_side a
+      (branch_behind d.vars d.nodes (record { variable = v; low = f_low; high = f_high }) f_splits.low_behind f_splits.high_behind t).known)
+      (function-kept d e kept g_side a
+      (branch_behind d.vars d.nodes (record { variable = v; low = g_low; high = g_high }) g_splits.low_behind g_splits.high_behind t).known)
 
   pub later_comes : (e : DiagramView) → KeepsNodes d e → (t : Bool)
       → ComesFrom (joined operation (function_of d.nodes f) (function_of d.nodes g))

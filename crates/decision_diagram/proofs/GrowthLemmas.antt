@@ -1,5 +1,6 @@
 -- What stays when nodes are added, and what a new node adds.
-use Rattle.std.proofs.Common.{◌≡◌, ℕ, suc, ◌<◌, ◌≤◌, Bool, true, false, ◌&&◌, if◌then◌else◌, List, [], ◌∷◌, ◌++◌, length, length-append, append_assoc, Result, Ok, Err, IfOk, IfErr, refl, sym, ap, ap₂, ◌∙◌, subst, inl, inr, arith}
+use Rattle.std.proofs.Common.{◌≡◌, ℕ, suc, ◌<◌, ◌≤◌, Bool, true, false, ◌&&◌, if◌then◌else◌, List, [], ◌∷◌, ◌++◌, length, length-append, append_assoc, Result}
+use Rattle.std.proofs.Common.{Ok, Err, IfOk, IfErr, refl, sym, ap, ap₂, ◌∙◌, subst, inl, inr, arith}
 use Rattle.std.proofs.lemmas.Bool.{cases_lt}
 use Rattle.std.specs.Bool.{xor}
 use Rattle.decision_diagram.specs.declared.node.DdFault.{DdFault}
@@ -7,12 +8,13 @@ use Rattle.decision_diagram.specs.declared.node.DdFault.TheVariants.{Full, Memor
 use Rattle.decision_diagram.specs.declared.node.Operation.{Operation}
 use Rattle.decision_diagram.specs.declared.node.Operation.TheVariants.{Xor, And}
 use Rattle.decision_diagram.specs.Functions.{Assignment, Function, AreSame, Takes, fixed, ComesFrom}
-use Rattle.decision_diagram.specs.Diagrams.{Triple, DiagramView, IsNumber, next_number, function_of, first_variable, IsBehind, MayFollow, AreOrdered, IsCanonical}
+use Rattle.decision_diagram.specs.Diagrams.{Triple, DiagramView, IsNumber, next_number, function_of, first_variable, IsBehind, MayFollow, AreOrdered}
+use Rattle.decision_diagram.specs.Diagrams.{IsCanonical}
 use Rattle.decision_diagram.specs.Growth.{KeepsNodes, KeepsFunctions, StandsFor, HoldsAllFrom, IsFullFor, MayRefuse}
-use Rattle.decision_diagram.specs.Steps.{Grows, joined, IsInner, Splits, node_function}
-use Rattle.decision_diagram.proofs.Values.{function-newest, function-older, first-older, branch_behind, function-agree}
-use Rattle.decision_diagram.proofs.Distinct.{distinct_functions, new_function, first-constant}
-use Rattle.decision_diagram.proofs.Restrictions.{fixed-below, fixed-from, comes_same, ComesFrom-trans, ComesFrom-same, inner_varies, holds_all}
+use Rattle.decision_diagram.specs.inside.Joining.{Grows, joined, IsInner, Splits, node_function}
+use Rattle.decision_diagram.proofs.ValueLemmas.{function-newest, function-older, first-older, branch_behind, function-agree}
+use Rattle.decision_diagram.proofs.DistinctLemmas.{distinct_functions, new_function, first-constant}
+use Rattle.decision_diagram.proofs.RestrictionLemmas.{fixed-below, fixed-from, comes_same, ComesFrom-trans, ComesFrom-same, inner_varies, holds_all}
 
 pub function-added : (added older : List Triple) (n : ℕ) (a : Assignment) → IsNumber older n
     → function_of (added ++ older) n a ≡ function_of older n a
@@ -96,7 +98,7 @@ MayRefuse-from f g d comes (Full nodes) cause = record {
     missing = cause.needs.missing;
   };
 }
-MayRefuse-from f g d comes Memory cause = tt
+MayRefuse-from f g d comes Memory cause = cause
 
 -- the node as the newest one
 abbrev pub with_node : DiagramView → Triple → DiagramView

@@ -40,7 +40,8 @@ pub record Splits (vars : ℕ) (nodes : List Triple) (variable n low high : ℕ)
   pub low_most : low ≤ n
   pub high_most : high ≤ n
   pub smaller : first_variable vars nodes n ≡ variable → (low < n) × (high < n)
-  pub same : (a : Assignment) → function_of nodes n a ≡ function_of nodes (if a variable then high else low) a
+  pub same : (a : Assignment) → function_of nodes n a ≡ function_of nodes
+      (if a variable then high else low) a
 
 -- the function of a node that goes to numbers of these nodes
 abbrev pub node_function : List Triple → Triple → Function
