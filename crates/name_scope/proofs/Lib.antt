@@ -1,6 +1,7 @@
-pub mod Steps
-pub mod Behind
-pub mod Loops
-pub mod Nearer
-pub mod Keeps
-pub mod Table
+pub mod VerdictLemmas
+pub mod ScopeLemmas
+pub mod LoopLemmas
+pub mod NearerLemmas
+pub mod KeepsLemmas
+pub mod TableLemmas
+pub mod NearestLemmas

@@ -14,7 +14,8 @@ abbrev mutual
   is_bound depth (used name) = leb (name.back + 1) depth
   is_bound depth (bool value at) = true
   is_bound depth (reg elements at) = are_bound depth elements
-  is_bound depth (block items last at) = items_are_bound depth items && is_bound (depth + bindings_of items) last
+  is_bound depth (block items last at) = items_are_bound depth items && is_bound
+      (depth + bindings_of items) last
   is_bound depth (function names body at) = is_bound (depth + length names) body
   is_bound depth (parts inner inside) = is_bound depth inner
   is_bound depth (apply head arguments) = is_bound depth head && are_bound depth arguments
@@ -32,5 +33,6 @@ abbrev mutual
 
   pub items_are_bound : ℕ → ItemTrees → Bool
   items_are_bound depth no_items = true
-  items_are_bound depth (item (bind name value) items) = is_bound depth value && items_are_bound (depth + 1) items
+  items_are_bound depth (item (bind name value) items) = is_bound depth value && items_are_bound
+      (depth + 1) items
   items_are_bound depth (item (run term) items) = is_bound depth term && items_are_bound depth items

@@ -1,4 +1,3 @@
-pub mod Faults
-pub mod Bound
 pub mod Answers
-pub mod Bindings
+pub mod Bound
+pub mod inside

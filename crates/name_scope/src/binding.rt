@@ -1,14 +1,36 @@
 // The scope rule over a whole program.
-ghost use Rattle.revs_terms.specs.Scopes.{scope_verdict};
+ghost use Rattle.revs_terms.specs.Scopes.{scope_verdict, BindsToNearest, UnboundHasNone};
 ghost use Rattle.revs_terms.specs.Trees.{tree_of};
 ghost use Rattle.name_scope.specs.Answers.{Answers};
 
+use crate::Scoped;
 use crate::names::Names;
-use crate::params::bind_params;
-use crate::terms::bind_term;
-use crate::{ScopeFault, Scoped};
+use crate::terms::{bind_params, bind_term};
+use revc_base::{Memory, Place};
 use revs_terms::Program;
 use std::alloc::Global;
+
+/// Why the names of a program cannot be bound.
+#[derive(Debug, Drop)]
+pub enum ScopeFault {
+    /// The name that is used here has no binding.
+    Unbound(Place),
+    /// The parameter whose name stands here has the name of one before it.
+    TwoParams(Place),
+    /// There was no memory.
+    Memory,
+}
+
+impl From<Memory> for ScopeFault {
+    ghost use Rattle.std.specs.Prelude.{◌≡◌};
+    ghost use Rattle.name_scope.specs.declared.binding.ScopeFault.TheVariants.{Memory};
+
+    ghost from_gives = { λ _ fault. fault ≡ Memory };
+
+    fn from(_: Memory) -> ScopeFault {
+        ScopeFault::Memory
+    }
+}
 
 /// Binds the names of a program: the `back` of each used name becomes the number of bindings between the use and its own
 /// binding. All else stays as it is.
@@ -21,7 +43,8 @@ use std::alloc::Global;
 /// The first in the order of the text: [`ScopeFault::TwoParams`] at the second of two parameters of one name, and
 /// [`ScopeFault::Unbound`] at a used name that has no binding. [`ScopeFault::Memory`] where there is no memory.
 pub fn scope(alloc: Global, program: Program) -> Result<Scoped, ScopeFault>
-    ensures { Answers result program.params.items (scope_verdict program.params.items (tree_of program.body)) }
+    ensures { Answers result program.params.items
+        (scope_verdict program.params.items (tree_of program.body)) }
 {
     let Program { params, mut body } = program;
     let mut names = Names::new(alloc);
@@ -29,3 +52,10 @@ pub fn scope(alloc: Global, program: Program) -> Result<Scoped, ScopeFault>
     bind_term(&mut names, &mut body)?;
     Ok(Scoped::new(Program { params, body }))
 }
+
+/// A used name is bound to the nearest binding of its name: the binding at its `back` has its name, and no nearer one has. A
+/// name is unbound only where no binding in scope has its name.
+pub fn nearest_binding()
+    ensures bound { BindsToNearest }
+    ensures unbound { UnboundHasNone }
+{}

@@ -2,16 +2,11 @@
 #![tactic(auto)]
 
 mod binding;
-mod binding_of;
-mod fault;
-mod name;
 mod names;
-mod params;
 mod program;
 mod terms;
 
-pub use binding::scope;
-pub use fault::ScopeFault;
+pub use binding::{ScopeFault, nearest_binding, scope};
 pub use program::Scoped;
 
 #[cfg(test)]

@@ -2,14 +2,20 @@
 ghost use Rattle.std.specs.Prelude.{◌≡◌, ◌≤◌, ◌∷◌, ◌-◌, List, [], drop, length, position, bytes_eq, OnOk};
 ghost use Rattle.indexmap.specs.IndexMap.{get};
 ghost use Rattle.revs_terms.specs.Scopes.{nearer};
-ghost use Rattle.name_scope.specs.Bindings.{held};
+ghost use Rattle.name_scope.specs.inside.Bindings.{held};
 
-use crate::binding_of::Bound;
 use indexmap::IndexMap;
 use revc_base::{Memory, Text};
 use revs_terms::Name;
 use std::alloc::Global;
 use std::marker::Model;
+
+/// A name that was bound, with the depth at which the nearest one of the same name was bound before it.
+#[derive(Debug, Drop)]
+pub struct Bound {
+    pub name: Text,
+    pub hidden: Option<usize>,
+}
 
 /// The names in scope, with their nesting. Contracts see them as a list, the nearest first.
 ///
@@ -23,14 +29,15 @@ pub struct Names {
 impl Model for Names {
     ghost use Rattle.std.specs.Prelude.{◌≡◌, ℕ, List, map, reverse, bytes_eq};
     ghost use Rattle.indexmap.specs.IndexMap.{get};
-    ghost use Rattle.name_scope.specs.Bindings.{depth_of, held, Hide};
+    ghost use Rattle.name_scope.specs.inside.Bindings.{depth_of, held, Hide};
 
     ghost Value = { List (List ℕ) };
 
     ghost view = { λ names. map (λ b. b.name) (reverse names.bound.items) };
 
     ghost invariant = { λ names. Hide (reverse names.bound.items)
-        × ((name : List ℕ) → held (get bytes_eq names.nearest name) ≡ depth_of name (reverse names.bound.items)) };
+        × ((name : List ℕ) → held (get bytes_eq names.nearest name) ≡ depth_of name
+        (reverse names.bound.items)) };
 }
 
 /// The depth of the nearest binding of a name.

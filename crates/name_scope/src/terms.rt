@@ -1,15 +1,40 @@
-// The names of terms are bound.
+// The names of parameters and terms are bound.
 ghost use Rattle.std.specs.Prelude.{◌≡◌, ◌<◌, ◌+◌, ◌^◌, length, map, OnOk};
-ghost use Rattle.revs_terms.specs.Scopes.{scoped_tree, scoped_trees, scoped_items};
+ghost use Rattle.revs_terms.specs.Scopes.{bound_name, nearer, second_of, scoped_tree, scoped_trees, scoped_items};
 ghost use Rattle.revs_terms.specs.Terms.{names_of, names_of_all, names_of_item, names_of_items};
 ghost use Rattle.revs_terms.specs.Trees.{tree_of, trees, item_tree_of, item_trees, no_items};
 ghost use Rattle.revs_terms.specs.Trees as shape;
-ghost use Rattle.name_scope.specs.Faults.{Binds};
+ghost use Rattle.name_scope.specs.inside.Verdicts.{Binds, Differ};
 
 use crate::ScopeFault;
-use crate::name::bind_name;
 use crate::names::Names;
-use revs_terms::{Item, Term};
+use revs_terms::{Item, Name, Param, Term};
+
+/// Binds the names of parameters, each nearer than those before it.
+pub fn bind_params(names: &mut Names, params: &[Param]) -> Result<(), ScopeFault>
+    ensures second { Differ result (second_of names.old params.now) }
+    ensures names { OnOk result (names.new ≡ nearer (map (λ p. p.name) params.now) names.old) }
+{
+    for param in params {
+        if names.back(&param.name.text).is_some() {
+            return Err(ScopeFault::TwoParams(param.name.at));
+        }
+        names.bind(&param.name.text)?;
+    }
+    Ok(())
+}
+
+/// Binds a used name among those in scope. It takes no memory.
+fn bind_name(names: &Names, name: &mut Name) -> Result<(), ScopeFault>
+    requires { length names.now < 2 ^ 32 }
+    ensures { Binds result (bound_name names.now name.old) name.new }
+{
+    let Some(back) = names.back(&name.text) else {
+        return Err(ScopeFault::Unbound(name.at));
+    };
+    name.back = back as u32;
+    Ok(())
+}
 
 /// Binds the names of a term among those in scope.
 #[cycle(bind)]
@@ -62,7 +87,8 @@ pub fn bind_term(names: &mut Names, term: &mut Term) -> Result<(), ScopeFault>
 #[cycle(bind)]
 fn bind_terms(names: &mut Names, terms: &mut [Term]) -> Result<(), ScopeFault>
     requires { length names.old + names_of_all (trees (map tree_of terms.old)) < 2 ^ 32 }
-    ensures terms { Binds result (scoped_trees names.old (trees (map tree_of terms.old))) (trees (map tree_of terms.new)) }
+    ensures terms { Binds result (scoped_trees names.old (trees (map tree_of terms.old)))
+        (trees (map tree_of terms.new)) }
     ensures names { OnOk result (names.new ≡ names.old) }
 {
     for i in 0..terms.len() {
@@ -74,7 +100,8 @@ fn bind_terms(names: &mut Names, terms: &mut [Term]) -> Result<(), ScopeFault>
 /// Binds the names of a block's items, one after another. The names that they bind stay in scope.
 #[cycle(bind)]
 fn bind_items(names: &mut Names, items: &mut [Item]) -> Result<(), ScopeFault>
-    requires { length names.old + names_of_items (item_trees (map item_tree_of items.old)) < 2 ^ 32 }
+    requires { length names.old + names_of_items
+        (item_trees (map item_tree_of items.old)) < 2 ^ 32 }
     ensures { Binds result
         (scoped_items names.old (item_trees (map item_tree_of items.old)))
         (item_trees (map item_tree_of items.new), names.new) }

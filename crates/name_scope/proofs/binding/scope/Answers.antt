@@ -1,7 +1,7 @@
 use Rattle.std.proofs.Common.{arith}
 use Rattle.revs_terms.specs.Trees.{tree_of}
-use Rattle.name_scope.proofs.Nearer.{params-length}
-use Rattle.name_scope.proofs.Keeps.{keeps}
+use Rattle.name_scope.proofs.NearerLemmas.{params-length}
+use Rattle.name_scope.proofs.KeepsLemmas.{keeps}
 use Rattle.name_scope.proofs.binding.scope.Goals as goal
 
 pub bind_term-requires : goal.bind_term-requires
@@ -12,7 +12,13 @@ bind_term-requires c =
 pub invariant_of-new : goal.invariant_of-new
 invariant_of-new c =
     let k = keeps c.bind_params.new.names (tree_of c.args.program.body) _ (c.in_ok-bind_term.ensures {u = tt}).term in
-    record { inputs = c.args.program.inputs; formed = record { formed = rw k.formed c.args.program.formed.formed; nesting = rw k.levels c.args.program.formed.nesting }; few_names = rw k.names c.args.program.few_names }
+    record {
+      inputs = c.args.program.inputs;
+      formed = record
+          { formed = rw k.formed c.args.program.formed.formed; nesting = rw k.levels c.args.program.formed.nesting };
+      few_names = rw k.names
+          c.args.program.few_names;
+    }
 
 pub new-requires : goal.new-requires
 new-requires c =

@@ -10,4 +10,5 @@ invariant-bind_terms-loop-i l =
 
 abbrev pub invariant-bind_items-loop-i : goal.invariant-bind_items-loop-i
 invariant-bind_items-loop-i l =
-    goal.unvisited-bind_items-loop-i l × (scoped_items l.initial.names (item_trees (map item_tree_of (take l.i l.initial.items))) ≡ scoped (item_trees (map item_tree_of (take l.i l.items)), l.names))
+    goal.unvisited-bind_items-loop-i l × (scoped_items l.initial.names (item_trees (map item_tree_of (take l.i l.initial.items))) ≡ scoped
+    (item_trees (map item_tree_of (take l.i l.items)), l.names))

@@ -1,5 +1,5 @@
 use Rattle.std.proofs.Common.{◌≡◌, ◌∙◌, sym, arith, length, reverse}
-use Rattle.name_scope.proofs.Table.{nowhere, somewhere}
+use Rattle.name_scope.proofs.TableLemmas.{nowhere, somewhere}
 use Rattle.name_scope.proofs.names.Names.back.Goals as goal
 
 pub returns-in_err-depth : goal.returns-in_err-depth

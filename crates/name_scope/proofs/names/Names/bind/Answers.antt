@@ -1,8 +1,8 @@
 use Rattle.std.proofs.Common.{◌∙◌, sym, ap, reverse, bytes_eq, arith}
 use Rattle.std.proofs.lemmas.List.{length-reverse}
 use Rattle.indexmap.specs.IndexMap.{get}
-use Rattle.name_scope.specs.declared.binding_of.Bound.{Bound}
-use Rattle.name_scope.proofs.Table.{bound_more, reverse-push, succeeded}
+use Rattle.name_scope.specs.declared.names.Bound.{Bound}
+use Rattle.name_scope.proofs.TableLemmas.{bound_more, reverse-push, succeeded}
 use Rattle.name_scope.proofs.names.Names.bind.Goals as goal
 
 pub invariant_of-self-else-is_err : goal.invariant_of-self-else-is_err
@@ -14,5 +14,6 @@ invariant_of-self-else-is_err c =
     let v = rw (c.in_ok-key.ensures ∙ sym c.in_ok-name.ensures) at u.0 in
     rw r (
       (rw c.in_ok-name.ensures hidden, c.self.invariant.0),
-      bound_more (get bytes_eq c.self.inside.nearest) (get bytes_eq c.insert.new.self) (reverse c.self.inside.bound.items) b c.len-depth.result (omega (arith, c.len-depth.ensures, length-reverse c.self.inside.bound.items)) v c.self.invariant.1,
+      bound_more (get bytes_eq c.self.inside.nearest) (get bytes_eq c.insert.new.self) (reverse c.self.inside.bound.items) b c.len-depth.result
+          (omega (arith, c.len-depth.ensures, length-reverse c.self.inside.bound.items)) v c.self.invariant.1,
     )

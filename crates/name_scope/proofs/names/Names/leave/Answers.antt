@@ -1,5 +1,5 @@
 use Rattle.std.proofs.Common.{◌≡◌, ◌∙◌, ap, drop, length, arith, refl}
-use Rattle.name_scope.proofs.Table.{names-length, drop_one}
+use Rattle.name_scope.proofs.TableLemmas.{names-length, drop_one}
 use Rattle.name_scope.proofs.names.Names.leave.Goals as goal
 
 pub loop-preserved : goal.loop-preserved

@@ -5,7 +5,7 @@ use Rattle.revs_terms.specs.declared.term.Name.{Name}
 use Rattle.revs_terms.specs.Trees.{Tree, ItemTree, ItemTrees, no_items, item, bind, run, trees, item_trees}
 use Rattle.revs_terms.specs.Scopes.{Scoped, scoped, nearer, scoped_tree, scoped_items}
 use Rattle.revs_terms.specs.Terms.{names_of, names_of_all, names_of_items, names_of_item}
-use Rattle.name_scope.proofs.Steps.{went}
+use Rattle.name_scope.proofs.VerdictLemmas.{first_is_bound}
 
 -- Some names, so many at most, stand before those of a scope.
 pub record Stands (before now : List (List ℕ)) (most : ℕ) : Type 0 where
@@ -20,16 +20,22 @@ last_of is js s n e =
     let h : p ≡ q = cc in
     sym (ap (λ (r : ItemTrees × List (List ℕ)). r.1) h)
 
-pub items_stand : (is : ItemTrees) (s : List (List ℕ)) (js : ItemTrees) (n : List (List ℕ)) → scoped_items s is ≡ scoped (js, n) → Stands s n (names_of_items is)
+pub items_stand : (is : ItemTrees) (s : List (List ℕ)) (js : ItemTrees) (n : List (List ℕ)) → scoped_items s is ≡ scoped (js, n)
+    → Stands s n (names_of_items is)
 items_stand no_items s js n e = record { front = []; is = last_of no_items js s n e; few = omega arith }
 items_stand (item (bind name value) is) s js n e =
-    let h = went (scoped_tree s value) _ _ e in
-    let g = went (scoped_items (name.text ∷ s) is) _ _ h.1.1 in
+    let h = first_is_bound (scoped_tree s value) _ _ e in
+    let g = first_is_bound (scoped_items (name.text ∷ s) is) _ _ h.1.1 in
     let b = items_stand is (name.text ∷ s) g.0.0 g.0.1 g.1.0 in
-    record { front = b.front ++ name.text ∷ []; is = last_of _ _ _ _ g.1.1 ∙ b.is ∙ sym (append_assoc b.front (name.text ∷ []) s); few = omega (arith, length-append b.front (name.text ∷ []), b.few) }
+    record {
+      front = b.front ++ name.text ∷ [];
+      is = last_of _ _ _ _ g.1.1 ∙ b.is ∙ sym (append_assoc b.front (name.text ∷ []) s);
+      few = omega
+          (arith, length-append b.front (name.text ∷ []), b.few);
+    }
 items_stand (item (run t) is) s js n e =
-    let h = went (scoped_tree s t) _ _ e in
-    let g = went (scoped_items s is) _ _ h.1.1 in
+    let h = first_is_bound (scoped_tree s t) _ _ e in
+    let g = first_is_bound (scoped_items s is) _ _ h.1.1 in
     let b = items_stand is s g.0.0 g.0.1 g.1.0 in
     record { front = b.front; is = last_of _ _ _ _ g.1.1 ∙ b.is; few = omega (arith, b.few) }
 
@@ -37,7 +43,12 @@ pub names_stand : (names : List Name) (s : List (List ℕ)) → Stands s (nearer
 names_stand [] s = record { front = []; is = refl; few = omega arith }
 names_stand (name ∷ names) s =
     let b = names_stand names (name.text ∷ s) in
-    record { front = b.front ++ name.text ∷ []; is = b.is ∙ sym (append_assoc b.front (name.text ∷ []) s); few = omega (arith, length-append b.front (name.text ∷ []), b.few) }
+    record {
+      front = b.front ++ name.text ∷ [];
+      is = b.is ∙ sym (append_assoc b.front (name.text ∷ []) s);
+      few = omega
+          (arith, length-append b.front (name.text ∷ []), b.few);
+    }
 
 -- what is left where the names go out of scope
 pub left_again : (s n : List (List ℕ)) (most : ℕ) → Stands s n most → drop (length n - length s) n ≡ s
@@ -51,17 +62,19 @@ deeper s n most h = omega (arith, ap length h.is ∙ length-append h.front s)
 pub few_deeper : (s n : List (List ℕ)) (most : ℕ) → Stands s n most → length n ≤ length s + most
 few_deeper s n most h = omega (arith, ap length h.is ∙ length-append h.front s, h.few)
 
-pub names_of-split : (ts rest : List Tree) (t : Tree) → names_of_all (trees (ts ++ t ∷ rest)) ≡ names_of_all (trees ts) + (names_of t + names_of_all (trees rest))
+pub names_of-split : (ts rest : List Tree) (t : Tree)
+    → names_of_all (trees (ts ++ t ∷ rest)) ≡ names_of_all (trees ts) + (names_of t + names_of_all (trees rest))
 names_of-split [] rest t = omega arith
 names_of-split (u ∷ ts) rest t = omega (arith, names_of-split ts rest t)
 
-pub names_of-items_split : (ts rest : List ItemTree) (t : ItemTree) → names_of_items (item_trees (ts ++ t ∷ rest)) ≡ names_of_items (item_trees ts) + (names_of_item t + names_of_items (item_trees rest))
+pub names_of-items_split : (ts rest : List ItemTree) (t : ItemTree)
+    → names_of_items (item_trees (ts ++ t ∷ rest)) ≡ names_of_items (item_trees ts) + (names_of_item t + names_of_items (item_trees rest))
 names_of-items_split [] rest t = omega arith
 names_of-items_split (u ∷ ts) rest t = omega (arith, names_of-items_split ts rest t)
 
 -- the same where the scope and its depth go by other names
-pub again : (s m n : List (List ℕ)) (d most : ℕ) → Stands s m most → n ≡ m → d ≡ length s → drop (length n - d) n ≡ s
-again s m n d most h e f = rw e (rw f (left_again s m most h))
+pub left_at_depth : (s m n : List (List ℕ)) (d most : ℕ) → Stands s m most → n ≡ m → d ≡ length s → drop (length n - d) n ≡ s
+left_at_depth s m n d most h e f = rw e (rw f (left_again s m most h))
 
-pub not_less : (s m n : List (List ℕ)) (d most : ℕ) → Stands s m most → n ≡ m → d ≡ length s → d ≤ length n
-not_less s m n d most h e f = rw e (rw f (deeper s m most h))
+pub depth_below : (s m n : List (List ℕ)) (d most : ℕ) → Stands s m most → n ≡ m → d ≡ length s → d ≤ length n
+depth_below s m n d most h e f = rw e (rw f (deeper s m most h))

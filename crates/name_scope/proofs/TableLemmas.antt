@@ -5,8 +5,8 @@ use Rattle.std.proofs.lemmas.Bool.{lt-ltb, ltb-true}
 use Rattle.std.specs.Result.{is_err}
 use Rattle.std.proofs.lemmas.List.{reverse-append, length-reverse, drop-drop}
 use Rattle.std.proofs.lemmas.Slice.Eq.{bytes_eq-Decides}
-use Rattle.name_scope.specs.declared.binding_of.Bound.{Bound}
-use Rattle.name_scope.specs.Bindings.{depth_of, held}
+use Rattle.name_scope.specs.declared.names.Bound.{Bound}
+use Rattle.name_scope.specs.inside.Bindings.{depth_of, held}
 
 -- ---- texts
 
@@ -22,7 +22,8 @@ by_cases false t f = f refl
 
 not_equal : (x : Bool) (a b : List ℕ) → bytes_eq b a ≡ x → x ≡ false → bytes_eq a b ≡ false
 not_equal x a b e f =
-    by_cases (bytes_eq a b) (λ t. let same : a ≡ b = equal a b t in let u : bytes_eq b a ≡ true = subst (λ (y : List ℕ). bytes_eq b y ≡ true) (sym same) (itself b) in cc) (λ g. g)
+    by_cases (bytes_eq a b) (λ t. let same : a ≡ b = equal a b t in let u : bytes_eq b a ≡ true = subst (λ (y : List ℕ). bytes_eq b y ≡ true) (sym same)
+    (itself b) in cc) (λ g. g)
 
 -- ---- a name is bound
 
@@ -94,7 +95,8 @@ at name (b ∷ bs) depth e = by_cases (bytes_eq name b.name)
     (λ t. let h = at name bs depth (rw t at e) in
     record { below = omega (arith, h.below); first = rw t (omega (arith, h.first, h.below)) })
 
-none_first : (name : List ℕ) (bs : List Bound) → depth_of name bs ≡ None → position_or_len (bytes_eq name) (map (λ b. b.name) bs) ≡ length (map (λ b. b.name) bs)
+none_first : (name : List ℕ) (bs : List Bound) → depth_of name bs ≡ None
+    → position_or_len (bytes_eq name) (map (λ b. b.name) bs) ≡ length (map (λ b. b.name) bs)
 none_first name [] e = refl
 none_first name (b ∷ bs) e = by_cases (bytes_eq name b.name)
     (λ t. let no : Some (length bs) ≡ None = rw t at e in cc)
@@ -108,12 +110,14 @@ nowhere name bs e =
     (λ t. absurd (omega (arith, ltb-true k n t, none_first name bs e)))
     (λ t. rw t refl)
 
-pub somewhere : (name : List ℕ) (bs : List Bound) (depth : ℕ) → depth_of name (reverse bs) ≡ Some depth → (depth < length bs) × (Some (length bs - 1 - depth) ≡ position (bytes_eq name) (map (λ b. b.name) (reverse bs)))
+pub somewhere : (name : List ℕ) (bs : List Bound) (depth : ℕ) → depth_of name (reverse bs) ≡ Some depth
+    → (depth < length bs) × (Some (length bs - 1 - depth) ≡ position (bytes_eq name) (map (λ b. b.name) (reverse bs)))
 somewhere name bs depth e =
     let h = at name (reverse bs) depth e in
     let len : length (reverse bs) ≡ length bs = length-reverse bs in
     let names : length (map (λ b. b.name) (reverse bs)) ≡ length bs = names-length bs in
     let below : depth < length bs = omega (arith, h.below) in
     let first : position_or_len (bytes_eq name) (map (λ b. b.name) (reverse bs)) ≡ length bs - 1 - depth = rw len at h.first in
-    let less : ltb (position_or_len (bytes_eq name) (map (λ b. b.name) (reverse bs))) (length (map (λ b. b.name) (reverse bs))) ≡ true = rw first (rw names (lt-ltb _ _ (omega (arith, below)))) in
+    let less : ltb (position_or_len (bytes_eq name) (map (λ b. b.name) (reverse bs))) (length (map (λ b. b.name) (reverse bs))) ≡ true = rw first
+    (rw names (lt-ltb _ _ (omega (arith, below)))) in
     (below, rw less (ap Some (sym first)))

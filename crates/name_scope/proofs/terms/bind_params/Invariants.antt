@@ -1,6 +1,6 @@
 use Rattle.std.proofs.Common.{◌≡◌, map, take, drop}
 use Rattle.revs_terms.specs.Scopes.{nearer, second_of}
-use Rattle.name_scope.proofs.params.bind_params.Given as goal
+use Rattle.name_scope.proofs.terms.bind_params.Given as goal
 
 abbrev pub invariant-loop-param : goal.invariant-loop-param
 invariant-loop-param l =

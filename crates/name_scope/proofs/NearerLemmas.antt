@@ -10,7 +10,8 @@ nearer-push : (names : List Name) (name : Name) (s : List (List ℕ)) → nearer
 nearer-push [] name s = refl
 nearer-push (n ∷ names) name s = nearer-push names name (n.text ∷ s)
 
-pub nearer_more : (names : List Name) (i : ℕ) (d : Name) (s now new : List (List ℕ)) → i < length names → now ≡ nearer (take i names) s → new ≡ (get_or names i d).text ∷ now → new ≡ nearer (take (i + 1) names) s
+pub nearer_more : (names : List Name) (i : ℕ) (d : Name) (s now new : List (List ℕ)) → i < length names → now ≡ nearer (take i names) s
+    → new ≡ (get_or names i d).text ∷ now → new ≡ nearer (take (i + 1) names) s
 nearer_more names i d s now new below e f =
     rw (take_more names i d below) (rw (nearer-push (take i names) (get_or names i d) s) (f ∙ ap (λ (r : List (List ℕ)). (get_or names i d).text ∷ r) e))
 
@@ -20,14 +21,17 @@ pub none_of : (o p : Option ℕ) (b : Bool) → o ≡ p → b ≡ is_some o → 
 none_of None p b e f g = sym e
 none_of (Some back) p b e f g = cc
 
-pub second_more : (s : List (List ℕ)) (l : List Param) (i : ℕ) (d : Param) → i < length l → position (bytes_eq (get_or l i d).name.text) s ≡ None → second_of s (drop i l) ≡ second_of ((get_or l i d).name.text ∷ s) (drop (i + 1) l)
+pub second_more : (s : List (List ℕ)) (l : List Param) (i : ℕ) (d : Param) → i < length l → position (bytes_eq (get_or l i d).name.text) s ≡ None
+    → second_of s (drop i l) ≡ second_of ((get_or l i d).name.text ∷ s) (drop (i + 1) l)
 second_more s l i d below e =
     let one : i + 1 ≡ suc i = omega arith in
     rw (drop-cons l i d below) (rw one (rw (e, second_of) refl))
 
-pub params_more : (l : List Param) (i : ℕ) (d : Param) (s now : List (List ℕ)) → i < length l → now ≡ nearer (map (λ p. p.name) (take i l)) s → (get_or l i d).name.text ∷ now ≡ nearer (map (λ p. p.name) (take (i + 1) l)) s
+pub params_more : (l : List Param) (i : ℕ) (d : Param) (s now : List (List ℕ)) → i < length l → now ≡ nearer (map (λ p. p.name) (take i l)) s
+    → (get_or l i d).name.text ∷ now ≡ nearer (map (λ p. p.name) (take (i + 1) l)) s
 params_more l i d s now below e =
-    rw (take_more l i d below) (rw (map-append {A = Param} {B = Name} (λ p. p.name) (take i l) (get_or l i d ∷ [])) (rw (nearer-push (map (λ p. p.name) (take i l)) (get_or l i d).name s) (ap (λ (r : List (List ℕ)). (get_or l i d).name.text ∷ r) e)))
+    rw (take_more l i d below) (rw (map-append {A = Param} {B = Name} (λ p. p.name) (take i l) (get_or l i d ∷ []))
+    (rw (nearer-push (map (λ p. p.name) (take i l)) (get_or l i d).name s) (ap (λ (r : List (List ℕ)). (get_or l i d).name.text ∷ r) e)))
 
 pub nearer-length : (names : List Name) (s : List (List ℕ)) → length (nearer names s) ≡ length s + length names
 nearer-length [] s = omega arith

@@ -1,6 +1,6 @@
 -- How the names in scope are kept: each with the depth of the one that it hides, and for each name the depth of the nearest one.
 use Rattle.std.specs.Prelude.{◌≡◌, ℕ, Option, Some, None, List, [], ◌∷◌, length, bytes_eq, if◌then◌else◌}
-use Rattle.name_scope.specs.declared.binding_of.Bound.{Bound}
+use Rattle.name_scope.specs.declared.names.Bound.{Bound}
 
 -- the depth of the nearest binding of a name among those in scope, the nearest first
 abbrev pub depth_of : List ℕ → List Bound → Option ℕ

@@ -2,8 +2,8 @@
 use Rattle.std.specs.Prelude.{◌≡◌, Option, Some, None, Result, Ok, Err}
 use Rattle.revc_base.specs.declared.place.Place.{Place}
 use Rattle.revs_terms.specs.Scopes.{Scoped, unbound, scoped}
-use Rattle.name_scope.specs.declared.fault.ScopeFault.{ScopeFault}
-use Rattle.name_scope.specs.declared.fault.ScopeFault.TheVariants as fault
+use Rattle.name_scope.specs.declared.binding.ScopeFault.{ScopeFault}
+use Rattle.name_scope.specs.declared.binding.ScopeFault.TheVariants as fault
 
 -- A refusal names the place of the name that is not bound, or memory was wanting.
 abbrev pub IsUnbound : {A : Type 0} → ScopeFault → Scoped A → Type 0

@@ -1,0 +1,154 @@
+-- Binding goes through a tree from left to right: what a step says of the whole.
+use Rattle.std.proofs.Common.{◌≡◌, ℕ, suc, ◌<◌, List, [], ◌∷◌, ◌++◌, length, get_or, take, drop, refl, sym, ap, ◌∙◌, Result, Ok, Err, IsErrAnd}
+use Rattle.std.proofs.Math.Seq.{drop-cons}
+use Rattle.std.proofs.lemmas.List.{take-append-drop}
+use Rattle.revs_terms.specs.Trees.{Tree, Trees, ItemTree, ItemTrees, nil, cons, no_items, item, bind, run, trees, item_trees}
+use Rattle.revs_terms.specs.Scopes.{Scoped, unbound, scoped, and_then, scoped_tree, scoped_trees, scoped_items}
+use Rattle.name_scope.specs.declared.binding.ScopeFault.{ScopeFault}
+use Rattle.name_scope.specs.declared.binding.ScopeFault.TheVariants as fault
+use Rattle.name_scope.specs.inside.Verdicts.{IsUnbound, Binds}
+
+-- ---- last_binds step
+
+-- the last part of a term
+pub last_binds : {A C : Type 0} (f : A → C) (r : Result (Unit {0}) ScopeFault) (v : Scoped A) (a : A) → Binds r v a
+    → Binds r (and_then v (λ u. scoped (f u))) (f a)
+last_binds f (Ok done) v a e = rw e refl
+last_binds f (Err (fault.Unbound at)) v a e = rw e refl
+last_binds f (Err (fault.TwoParams at)) v a e = e
+last_binds f (Err fault.Memory) v a e = tt
+
+-- a part that was bound, before the rest
+pub next_binds : {A C : Type 0} (next : A → Scoped C) (r : Result (Unit {0}) ScopeFault) (v : Scoped A) (a : A) (c : C) → v ≡ scoped a → Binds r (next a) c
+    → Binds r (and_then v next) c
+next_binds next r v a c e h = rw e h
+
+-- a part that was passed_on
+pub first_is_unbound : {A C : Type 0} (next : A → Scoped C) (f : ScopeFault) (v : Scoped A) → IsUnbound f v → IsUnbound f (and_then v next)
+first_is_unbound next (fault.Unbound at) v e = rw e refl
+first_is_unbound next (fault.TwoParams at) v e = e
+first_is_unbound next fault.Memory v e = tt
+
+-- a call that gives a refusal next_binds
+pub passed_on : {A : Type 0} (r : Result (Unit {0}) ScopeFault) (f : ScopeFault) (v : Scoped A) (a : A) → IsErrAnd r (λ e. e ≡ f) → IsUnbound f v
+    → Binds r v a
+passed_on (Ok done) f v a e h = absurd e
+passed_on (Err g) f v a e h = rw e h
+
+-- a tree is bound part_is_unbound where its first part is
+pub first_is_bound : {A C : Type 0} (v : Scoped A) (next : A → Scoped C) (c : C) → and_then v next ≡ scoped c
+    → (a : A) × ((v ≡ scoped a) × (next a ≡ scoped c))
+first_is_bound (unbound at) next c e = cc
+first_is_bound (scoped a) next c e = (a, (refl, e))
+
+-- ---- lists
+
+pub split_at : {A : Type 0} (l : List A) (i : ℕ) (d x : A) → i < length l → get_or l i d ≡ x → l ≡ take i l ++ x ∷ drop (suc i) l
+split_at {A} l i d x below e = sym (take-append-drop i l) ∙ ap (λ (r : List A). take i l ++ r) (drop-cons l i d below ∙ ap (λ (y : A). y ∷ drop (suc i) l) e)
+
+join : Trees → Trees → Trees
+join nil vs = vs
+join (cons t ts) vs = cons t (join ts vs)
+
+join_items : ItemTrees → ItemTrees → ItemTrees
+join_items no_items js = js
+join_items (item i is) js = item i (join_items is js)
+
+trees-append : (us vs : List Tree) → trees (us ++ vs) ≡ join (trees us) (trees vs)
+unfolding join
+trees-append [] vs = refl
+trees-append (u ∷ us) vs = ap (cons u) (trees-append us vs)
+
+item_trees-append : (us vs : List ItemTree) → item_trees (us ++ vs) ≡ join_items (item_trees us) (item_trees vs)
+unfolding join_items
+item_trees-append [] vs = refl
+item_trees-append (u ∷ us) vs = ap (item u) (item_trees-append us vs)
+
+and_then_scoped : {A : Type 0} (v : Scoped A) → v ≡ and_then v (λ a. scoped a)
+and_then_scoped (unbound at) = refl
+and_then_scoped (scoped a) = refl
+
+regroup : (a : Scoped Tree) (b c : Scoped Trees)
+    → and_then a (λ u. and_then (and_then b (λ us. and_then c (λ vs. scoped (join us vs)))) (λ ws. scoped (cons u ws))) ≡ and_then
+    (and_then a (λ u. and_then b (λ us. scoped (cons u us)))) (λ us. and_then c (λ vs. scoped (join us vs)))
+unfolding join
+regroup (unbound at) b c = refl
+regroup (scoped a) (unbound at) c = refl
+regroup (scoped a) (scoped b) (unbound at) = refl
+regroup (scoped a) (scoped b) (scoped c) = refl
+
+-- trees last_binds after another
+split_trees : (ts rest : List Tree) (s : List (List ℕ))
+    → scoped_trees s (trees (ts ++ rest)) ≡ and_then (scoped_trees s (trees ts)) (λ us. and_then (scoped_trees s (trees rest)) (λ vs. scoped (join us vs)))
+unfolding join
+split_trees [] rest s = and_then_scoped (scoped_trees s (trees rest))
+split_trees (t ∷ ts) rest s = rw (split_trees ts rest s) (regroup (scoped_tree s t) (scoped_trees s (trees ts)) (scoped_trees s (trees rest)))
+
+pub trees_more : (s : List (List ℕ)) (ts us : List Tree) (t u : Tree) → scoped_trees s (trees ts) ≡ scoped (trees us) → scoped_tree s t ≡ scoped u
+    → scoped_trees s (trees (ts ++ t ∷ [])) ≡ scoped (trees (us ++ u ∷ []))
+trees_more s ts us t u e h = rw (split_trees ts (t ∷ []) s) (rw e (rw h (ap scoped (sym (trees-append us (u ∷ []))))))
+
+pub trees_stop : (s : List (List ℕ)) (ts us : List Tree) (t : Tree) (rest : List Tree) (f : ScopeFault) → scoped_trees s (trees ts) ≡ scoped (trees us)
+    → IsUnbound f (scoped_tree s t) → IsUnbound f (scoped_trees s (trees (ts ++ t ∷ rest)))
+trees_stop s ts us t rest f e h = rw (split_trees ts (t ∷ rest) s) (rw e (first_is_unbound _ f _ (first_is_unbound _ f (scoped_tree s t) h)))
+
+-- an item, before others that were bound
+abbrev ahead : ItemTree → ItemTrees × List (List ℕ) → Scoped (ItemTrees × List (List ℕ))
+ahead i q = scoped (item i q.0, q.1)
+
+-- items, before others that were bound
+abbrev behind : ItemTrees → ItemTrees × List (List ℕ) → Scoped (ItemTrees × List (List ℕ))
+unfolding join_items
+behind is q = scoped (join_items is q.0, q.1)
+
+regroup_behind : (i : ItemTree) (is : ItemTrees) (x : Scoped (ItemTrees × List (List ℕ)))
+    → and_then (and_then x (behind is)) (ahead i) ≡ and_then x (behind (item i is))
+unfolding join_items
+regroup_behind i is (unbound at) = refl
+regroup_behind i is (scoped q) = refl
+
+regroup_items : {A : Type 0} (a : Scoped A) (f : A → ItemTree) (b : Scoped (ItemTrees × List (List ℕ)))
+    (c : List (List ℕ) → Scoped (ItemTrees × List (List ℕ)))
+    → and_then a (λ u. and_then (and_then b (λ r. and_then (c r.1) (behind r.0))) (ahead (f u))) ≡ and_then (and_then a (λ u. and_then b (ahead (f u))))
+    (λ r. and_then (c r.1) (behind r.0))
+regroup_items (unbound at) f b c = refl
+regroup_items (scoped a) f (unbound at) c = refl
+regroup_items (scoped a) f (scoped b) c = regroup_behind (f a) b.0 (c b.1)
+
+same_items : (v : Scoped (ItemTrees × List (List ℕ))) → v ≡ and_then v (behind no_items)
+unfolding join_items
+same_items (unbound at) = refl
+same_items (scoped a) = refl
+
+split_items : (is rest : List ItemTree) (s : List (List ℕ))
+    → scoped_items s (item_trees (is ++ rest)) ≡ and_then (scoped_items s (item_trees is)) (λ r. and_then (scoped_items r.1 (item_trees rest)) (behind r.0))
+split_items [] rest s = same_items (scoped_items s (item_trees rest))
+split_items (bind name value ∷ is) rest s = rw (split_items is rest (name.text ∷ s))
+    (regroup_items (scoped_tree s value) (bind name) (scoped_items (name.text ∷ s) (item_trees is)) (λ x. scoped_items x (item_trees rest)))
+split_items (run t ∷ is) rest s = rw (split_items is rest s)
+    (regroup_items (scoped_tree s t) run (scoped_items s (item_trees is)) (λ x. scoped_items x (item_trees rest)))
+
+items_with : List (List ℕ) → ItemTrees → Scoped (ItemTrees × List (List ℕ))
+items_with n x = scoped (x, n)
+
+pub items_more : (s m n : List (List ℕ)) (is js : List ItemTree) (i j : ItemTree) → scoped_items s (item_trees is) ≡ scoped (item_trees js, m)
+    → scoped_items m (item i no_items) ≡ scoped (item j no_items, n) → scoped_items s (item_trees (is ++ i ∷ [])) ≡ scoped (item_trees (js ++ j ∷ []), n)
+unfolding items_with behind
+items_more s m n is js i j e h = rw (split_items is (i ∷ []) s) (rw e (rw h (ap (items_with n) (sym (item_trees-append js (j ∷ []))))))
+
+part_is_unbound : {A C : Type 0} (g : A → C) (f : ScopeFault) (v : Scoped A) → IsUnbound f (and_then v (λ a. scoped (g a))) → IsUnbound f v
+part_is_unbound g (fault.Unbound at) (unbound from) h = cc
+part_is_unbound g (fault.Unbound at) (scoped a) h = cc
+part_is_unbound g (fault.TwoParams at) v h = h
+part_is_unbound g fault.Memory v h = tt
+
+item_is_unbound : (m : List (List ℕ)) (i : ItemTree) (rest : ItemTrees) (f : ScopeFault) → IsUnbound f (scoped_items m (item i no_items))
+    → IsUnbound f (scoped_items m (item i rest))
+item_is_unbound m (bind name value) rest f h = first_is_unbound _ f (scoped_tree m value)
+    (part_is_unbound (λ v. (item (bind name v) no_items, name.text ∷ m)) f (scoped_tree m value) h)
+item_is_unbound m (run t) rest f h = first_is_unbound _ f (scoped_tree m t) (part_is_unbound (λ v. (item (run v) no_items, m)) f (scoped_tree m t) h)
+
+pub items_stop : (s m : List (List ℕ)) (is js : List ItemTree) (i : ItemTree) (rest : List ItemTree) (f : ScopeFault)
+    → scoped_items s (item_trees is) ≡ scoped (item_trees js, m) → IsUnbound f (scoped_items m (item i no_items))
+    → IsUnbound f (scoped_items s (item_trees (is ++ i ∷ rest)))
+items_stop s m is js i rest f e h = rw (split_items is (i ∷ rest) s) (rw e (first_is_unbound _ f _ (item_is_unbound m i (item_trees rest) f h)))
