@@ -1,10 +1,9 @@
 // Registers as lists of locations.
 ghost use Rattle.std.specs.Prelude.{◌≡◌, ◌+◌, ◌-◌, ◌<◌, ◌≤◌, ◌++◌, ◌↔◌, length, take, drop, slice_get, IfOk, IsErrOf};
+ghost use Rattle.revs_terms.specs.declared.limits.TheConstants.{MOST_PLACES};
 
+use revs_terms::MOST_PLACES;
 use std::alloc::{AllocError, Global};
-
-/// The most places of a register that [`append`] makes.
-const MOST_PLACES: usize = 4096;
 
 /// Why a call makes no register.
 #[derive(Clone, Copy, Debug, PartialEq, Eq)]
@@ -55,7 +54,8 @@ pub fn slice(alloc: Global, r: &[u32], i: u32, j: u32) -> Result<Vec<u32>, Shape
 /// The places of `a`, then those of `b`. `Length` exactly where they are more than 4,096.
 pub fn append(alloc: Global, a: &[u32], b: &[u32]) -> Result<Vec<u32>, ShapeFault>
     ensures ok { IfOk result (λ made. made.items ≡ a.now ++ b.now) }
-    ensures length { IsErrOf result ShapeFault.Length ↔ (4096 < length a.now + length b.now) }
+    ensures length { IsErrOf result ShapeFault.Length ↔
+        (MOST_PLACES < length a.now + length b.now) }
     ensures no_slice { ¬ IsErrOf result ShapeFault.Slice }
     ensures no_rotate { ¬ IsErrOf result ShapeFault.Rotate }
 {

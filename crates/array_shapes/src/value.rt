@@ -16,7 +16,7 @@ pub enum Value<'t> {
     Reg(Rc<Vec<u32>>),
     Fun {
         env: u32,
-        taken: u32,
+        taken: usize,
         of: &'t Lambda,
     },
 }

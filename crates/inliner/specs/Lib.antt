@@ -1,4 +1,2 @@
 pub mod Faults
-pub mod Machines
-pub mod Starting
-pub mod Steps
+pub mod inside

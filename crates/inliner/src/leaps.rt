@@ -1,6 +1,6 @@
 // Ways out of an environment, past many bindings at once.
 ghost use Rattle.std.specs.Prelude.{◌≤◌, [], length};
-ghost use Rattle.inliner.specs.Machines.{AreBindings, AreLeaps, Leaps, envs_from};
+ghost use Rattle.inliner.specs.inside.Machines.{AreBindings, AreLeaps, Leaps, envs_from};
 
 use crate::machine::Binding;
 

@@ -5,11 +5,8 @@
 mod fault;
 mod leaps;
 mod machine;
-mod places;
 mod program;
-mod registers;
 mod start;
-mod terms;
 
 pub use fault::RunFault;
 pub use program::unroll;

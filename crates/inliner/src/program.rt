@@ -5,22 +5,19 @@ ghost use Rattle.revc_base.specs.Tapes.{IsKnown};
 ghost use Rattle.revs_terms.specs.Runs.{no_bits, read_all, run_without_bits, IsTapeOf};
 ghost use Rattle.revs_terms.specs.Terms.{place_of};
 ghost use Rattle.revs_terms.specs.Trees.{tree_of};
-ghost use Rattle.inliner.specs.Faults.{Says, Leaves, IsRefused};
-ghost use Rattle.inliner.specs.Machines.{IsMachine, envs_of, state_of, value_in};
-ghost use Rattle.inliner.specs.Starting.{Outputs, Reads, outputs_step};
+ghost use Rattle.inliner.specs.Faults.{IsRefused};
+ghost use Rattle.inliner.specs.inside.Steps.{Says, Leaves};
+ghost use Rattle.inliner.specs.inside.Machines.{IsMachine, state_of, value_of};
+ghost use Rattle.inliner.specs.inside.Starts.{Outputs, Reads, outputs_step};
 
 use crate::RunFault;
 use crate::machine::Machine;
-use crate::places::place_of;
 use crate::start::start;
 use array_shapes::Value;
 use name_scope::Scoped;
 use revc_base::{Ref, Tape};
-use revs_terms::{Cause, Program, Term};
+use revs_terms::{Cause, MOST_DEPTH, Program, Term};
 use std::alloc::Global;
-
-/// How deep terms are run.
-const MOST_DEPTH: u32 = 400;
 
 /// The most outputs of a program.
 const MOST_OUTPUTS: usize = 1_024;
@@ -30,19 +27,23 @@ const MOST_OUTPUTS: usize = 1_024;
 /// A fault comes exactly where the run is stuck, with that cause and place, on every input; want of memory may come
 /// anywhere.
 pub fn unroll(alloc: Global, scoped: &Scoped) -> Result<Tape, RunFault>
-    ensures ok { IfOk result (λ tape. IsTapeOf scoped.now.program.params.items (tree_of scoped.now.program.body) tape) }
-    ensures err { IfErr result (λ fault. IsRefused scoped.now.program.params.items (tree_of scoped.now.program.body) fault) }
+    ensures ok { IfOk result (λ tape. IsTapeOf scoped.now.program.params.items
+        (tree_of scoped.now.program.body) tape) }
+    ensures err { IfErr result (λ fault. IsRefused scoped.now.program.params.items
+        (tree_of scoped.now.program.body) fault) }
 {
     run(alloc, scoped.program())
 }
 
 // The run without bits.
 fn run(alloc: Global, program: &Program) -> Result<Tape, RunFault>
-    ensures ok { IfOk result (λ tape. Leaves program.now.params.items (tree_of program.now.body) tape) }
-    ensures err { IfErr result (λ fault. Says fault (run_without_bits program.now.params.items (tree_of program.now.body))) }
+    ensures ok { IfOk result (λ tape. Leaves program.now.params.items
+        (tree_of program.now.body) tape) }
+    ensures err { IfErr result (λ fault. Says fault
+        (run_without_bits program.now.params.items (tree_of program.now.body))) }
 {
     let mut machine = start(alloc, &program.params)?;
-    let env = machine.last_environment()?;
+    let env = machine.last_environment();
     let value = machine.run(env, &program.body, MOST_DEPTH)?;
     let outputs = outputs(&machine, &value, &program.body)?;
     Ok(finished(machine, outputs))
@@ -51,26 +52,31 @@ fn run(alloc: Global, program: &Program) -> Result<Tape, RunFault>
 // The outputs of a program: what made the bits of its value.
 fn outputs<'t>(machine: &Machine<'t>, value: &Value<'t>, body: &Term) -> Result<Vec<Ref>, RunFault>
     requires { IsMachine machine.now }
-    ensures ok { IfOk result (λ made. Outputs machine.now (value_in (envs_of machine.now) value.now) (place_of (tree_of body.now)) made.items) }
-    ensures err { IfErr result (λ fault. Says fault (outputs_step (place_of (tree_of body.now)) (value_in (envs_of machine.now) value.now) (state_of machine.now))) }
+    ensures ok { IfOk result (λ made. Outputs machine.now (value_of machine.now value.now)
+        (place_of (tree_of body.now)) made.items) }
+    ensures err { IfErr result (λ fault. Says fault
+        (outputs_step (place_of (tree_of body.now)) (value_of machine.now value.now)
+        (state_of machine.now))) }
 {
     match value {
         Value::Bit(location) => read(machine, &[*location], body),
         Value::Reg(locations) => {
             if locations.len() > MOST_OUTPUTS {
-                return Err(RunFault::stuck(Cause::Outputs, place_of(body)));
+                return Err(RunFault::stuck(Cause::Outputs, body.place()));
             }
             read(machine, locations, body)
         }
-        Value::Unit | Value::Fun { .. } => Err(RunFault::stuck(Cause::NoOutput, place_of(body))),
+        Value::Unit | Value::Fun { .. } => Err(RunFault::stuck(Cause::NoOutput, body.place())),
     }
 }
 
 // What made the bits in these locations.
 fn read<'t>(machine: &Machine<'t>, locations: &[u32], body: &Term) -> Result<Vec<Ref>, RunFault>
     requires { IsMachine machine.now }
-    ensures ok { IfOk result (λ made. Reads machine.now locations.now (place_of (tree_of body.now)) made.items) }
-    ensures err { IfErr result (λ fault. Says fault (read_all no_bits (place_of (tree_of body.now)) locations.now (state_of machine.now))) }
+    ensures ok { IfOk result (λ made. Reads machine.now locations.now
+        (place_of (tree_of body.now)) made.items) }
+    ensures err { IfErr result (λ fault. Says fault
+        (read_all no_bits (place_of (tree_of body.now)) locations.now (state_of machine.now))) }
 {
     let mut made = Vec::new(machine.allocator());
     for location in locations {
@@ -82,7 +88,8 @@ fn read<'t>(machine: &Machine<'t>, locations: &[u32], body: &Term) -> Result<Vec
 
 // The tape of a machine, with these outputs.
 fn finished(machine: Machine, outputs: Vec<Ref>) -> Tape
-    requires known { AllByRecursion (IsKnown (sum machine.tape.params) (length machine.tape.entries)) outputs.items }
+    requires known { AllByRecursion (IsKnown (sum machine.tape.params)
+        (length machine.tape.entries)) outputs.items }
     requires few { length outputs.items ≤ 1024 }
     requires some { 1 ≤ length outputs.items }
     ensures { result ≡ record machine.entry.tape { outputs = outputs.items } }

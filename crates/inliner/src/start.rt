@@ -3,7 +3,7 @@ ghost use Rattle.std.specs.Prelude.{◌≡◌, ◌+◌, ◌-◌, ◌≤◌, map,
 ghost use Rattle.std.specs.List.{range_with_len};
 ghost use Rattle.revs_terms.specs.Programs.{AreParams, width_of, widths_of};
 ghost use Rattle.array_shapes.specs.Values.{seen};
-ghost use Rattle.inliner.specs.Starting.{param_view, AreBound, IsStart};
+ghost use Rattle.inliner.specs.inside.Starts.{param_view, AreBound, IsStart};
 
 use crate::RunFault;
 use crate::leaps::leap_from;
@@ -46,7 +46,8 @@ fn numbers(alloc: Global, from: u32, to: u32) -> Result<Vec<u32>, RunFault>
 
 // The inputs, each in its location.
 fn inputs(alloc: Global, count: u32) -> Result<Vec<Option<Ref>>, RunFault>
-    ensures ok { IfOk result (λ store. store.items ≡ map (λ input. Some (Ref.Input input)) (range_with_len 0 count)) }
+    ensures ok { IfOk result (λ store. store.items ≡ map (λ input. Some (Ref.Input input))
+        (range_with_len 0 count)) }
     ensures err { IfErr result (λ fault. fault ≡ RunFault.Memory) }
 {
     let numbers = numbers(alloc, 0, count)?;

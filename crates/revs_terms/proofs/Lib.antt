@@ -1,8 +1,8 @@
 pub mod Shapes
 pub mod Parts
-pub mod Pairs
-pub mod GrowingLog
-pub mod SideBySide
-pub mod BothEnds
-pub mod FullValues
-pub mod TapeLaws
+pub mod PairedLemmas
+pub mod LogLemmas
+pub mod BitlessRunLemmas
+pub mod BitlessTapeLemmas
+pub mod OutputLemmas
+pub mod TapeLemmas

@@ -1,4 +1,4 @@
--- The run of a program, from left to right: a case for each form of term.
+-- The run of a program, from left to right: a case for each form of term, as the table of docs/LANGUAGE.md has it.
 --
 -- It is written once for every type of bits that has constants, an XOR and an AND: no case asks for a bit.
 use Rattle.std.specs.Prelude.{ℕ, zero, suc, ◌+◌, ◌-◌, leb, Bool, true, false, ◌&&◌, Option, Some, None, List, [], ◌∷◌, ◌++◌, length, take, drop, slice_get, slice_set}
@@ -10,13 +10,14 @@ use Rattle.revc_base.specs.declared.tape.Entry.TheVariants as entries
 use Rattle.revc_base.specs.declared.tape.Kind.{Kind}
 use Rattle.revc_base.specs.declared.tape.Kind.TheVariants as kinds
 use Rattle.revc_base.specs.declared.tape.Claim.{Claim}
+use Rattle.revs_terms.specs.declared.cause.Cause.{Cause}
+use Rattle.revs_terms.specs.declared.cause.Cause.TheVariants as causes
+use Rattle.revs_terms.specs.declared.limits.TheConstants.{MOST_PLACES, MOST_WORK}
 use Rattle.revs_terms.specs.declared.term.Name.{Name}
 use Rattle.revs_terms.specs.declared.term.Part.{Part}
 use Rattle.revs_terms.specs.declared.term.Part.TheVariants as part
-use Rattle.revs_terms.specs.Trees.{Tree, ItemTree, list_of, items_of, used, bool, reg, block, function, parts, apply, append, rotate, clean, assert, ands, xors, assign, bind, run}
 use Rattle.revs_terms.specs.Terms.{place_of}
-use Rattle.revs_terms.specs.declared.cause.Cause.{Cause}
-use Rattle.revs_terms.specs.declared.cause.Cause.TheVariants as causes
+use Rattle.revs_terms.specs.Trees.{Tree, ItemTree, list_of, items_of, used, bool, reg, block, function, parts, apply, append, rotate, clean, assert, ands, xors, assign, bind, run}
 
 -- ---- values
 
@@ -84,19 +85,54 @@ abbrev pub provided : {B A : Type 0} → Bool → Cause → Place → Outcome B 
 provided true why at next = next
 provided false why at next = stuck why at
 
+-- ---- steps, which hide the state
+
+-- a step of the run, to its answer
+abbrev pub Step : Type 0 → Type 0 → Type 0
+Step B A = State B → Outcome B A
+
+-- nothing is done: this is the answer
+abbrev pub done : {B A : Type 0} → A → Step B A
+done answer s = went answer s
+
+-- the run is stuck here
+abbrev pub stops : {B A : Type 0} → Cause → Place → Step B A
+stops why at s = stuck why at
+
+-- what an option holds, or the run is stuck
+abbrev pub given : {B A : Type 0} → Option A → Cause → Place → Step B A
+given None why at = stops why at
+given (Some answer) why at = done answer
+
+-- a step, and the next with its answer
+infixl 10 ◌>>=◌
+abbrev pub ◌>>=◌ : {B A C : Type 0} → Step B A → (A → Step B C) → Step B C
+step >>= next = λ s. after (step s) next
+
+-- what has to hold, and how the run is stuck otherwise
+pub record Need : Type 0 where
+  pub holds : Bool
+  pub why : Cause
+  pub at : Place
+
+abbrev pub need : Bool → Cause → Place → Need
+need holds why at = record { holds = holds; why = why; at = at }
+
+-- the next step, where this holds
+infixl 10 ◌>>◌
+abbrev pub ◌>>◌ : {B A : Type 0} → Need → Step B A → Step B A
+what >> next = λ s. provided what.holds what.why what.at (next s)
+
 module _ {B : Type 0} (bits : Bits B) where
-  -- ---- locations, writes and work
+  -- ---- what touches the state
 
   -- the work rises by so much
-  abbrev pub worked : ℕ → Place → State B → Outcome B (Unit {0})
-  worked count at s = provided (leb (s.work + count) 16777216) causes.Work at (went tt (record s { work = s.work + count }))
-
-  -- a register of these locations, which counts its length
-  abbrev pub registered : List ℕ → Place → State B → Outcome B Value
-  registered locations at s = after (worked (length locations) at s) (λ _ s. went (register locations) s)
+  abbrev pub worked : ℕ → Place → Step B (Unit {0})
+  worked count at s = provided (leb (s.work + count) MOST_WORK) causes.Work at
+      (went tt (record s { work = s.work + count }))
 
   -- a new entry of the log, and a new location with its bit
-  abbrev pub written : Entry → B → Place → State B → Outcome B ℕ
+  abbrev pub written : Entry → B → Place → Step B ℕ
   written entry b at s =
       provided (leb (length s.log + 1) 262144) causes.Writes at
       (went (length s.store) (record s {
@@ -105,111 +141,207 @@ module _ {B : Type 0} (bits : Bits B) where
       }))
 
   -- what a location holds
-  abbrev pub read : ℕ → Place → State B → Outcome B (Stamped B)
-  read location at s = elim (slice_get s.store location) [ None ↦ stuck causes.Gone at | Some held ↦ elim held [ None ↦ stuck causes.Gone at | Some b ↦ went b s ] ]
+  abbrev pub read : ℕ → Place → Step B (Stamped B)
+  read location at s = elim (slice_get s.store location) [
+    | None ↦ stuck causes.Gone at
+    | Some held ↦ elim held [ None ↦ stuck causes.Gone at | Some b ↦ went b s ]
+  ]
 
-  abbrev pub as_bit : Place → Value → State B → Outcome B ℕ
-  as_bit at (bit location) s = went location s
-  as_bit at _ s = stuck causes.NotBit at
+  -- the location takes this bit
+  abbrev pub put : ℕ → Stamped B → Step B Value
+  put location b s = went unit (record s { store = slice_set s.store location (Some b) })
 
-  abbrev pub as_register : Place → Value → State B → Outcome B (List ℕ)
-  as_register at (register locations) s = went locations s
-  as_register at _ s = stuck causes.NotRegister at
+  -- `clean` takes the bit out of its location
+  abbrev pub left_by : Kind → ℕ → List (Option (Stamped B)) → List (Option (Stamped B))
+  left_by kinds.Clean location store = slice_set store location None
+  left_by kinds.Assert location store = store
+
+  -- a claim on what a location holds is noted
+  abbrev pub noted : Kind → ℕ → Stamped B → Place → Step B Value
+  noted kind location held at s =
+      provided (leb (length s.claims + 1) 4096) causes.Claims at
+      (went unit (record s {
+        store = left_by kind location s.store;
+        claims = s.claims ++ record {
+          claim = record { kind = kind; of = held.stamp; at = at };
+          bit = held.bit;
+        } ∷ [];
+      }))
+
+  -- ---- what is done with values
+
+  abbrev pub as_bit : Place → Value → Step B ℕ
+  as_bit at (bit location) = done location
+  as_bit at _ = stops causes.NotBit at
+
+  abbrev pub as_register : Place → Value → Step B (List ℕ)
+  as_register at (register locations) = done locations
+  as_register at _ = stops causes.NotRegister at
+
+  -- a register of these locations, which counts its length
+  abbrev pub registered : List ℕ → Place → Step B Value
+  registered locations at = do
+    _ ← worked (length locations) at
+    done (register locations)
+
+  -- the same, where they are not too many
+  abbrev pub short_register : List ℕ → Place → Step B Value
+  short_register locations at = do
+    need (leb (length locations) MOST_PLACES) causes.Length at
+    registered locations at
+
+  -- a constant
+  abbrev pub constant_bit : Bool → Place → Step B Value
+  constant_bit b at = do
+    made ← written (entries.Const b) (bits.constant b) at
+    done (bit made)
+
+  -- the parts of a register, one after another; a slice counts its length at the whole term
+  abbrev pub part_of : Place → Part → Value → Step B Value
+  part_of whole (part.Index i at) value = do
+    r ← as_register at value
+    location ← given (slice_get r i) causes.Index at
+    done (bit location)
+  part_of whole (part.Slice i j at) value = do
+    r ← as_register at value
+    need (leb i j && leb (j + 1) (length r)) causes.Slice at
+    registered (take (j + 1 - i) (drop i r)) whole
+
+  abbrev pub parts_of : Place → List Part → Value → Step B Value
+  parts_of whole [] value = done value
+  parts_of whole (p ∷ ps) value = do
+    next ← part_of whole p value
+    parts_of whole ps next
+
+  -- the registers of two operands, which stand at these places, one behind the other
+  abbrev pub appended : Place → Place → Place → Value → Value → Step B Value
+  appended first second at x y = do
+    r ← as_register first x
+    q ← as_register second y
+    need (leb (length r + length q) MOST_PLACES) causes.Length at
+    registered (r ++ q) at
+
+  -- the register of an operand, from its i-th place on
+  abbrev pub rotated : ℕ → Place → Place → Value → Step B Value
+  rotated i operand at x = do
+    r ← as_register operand x
+    need (leb (i + 1) (length r)) causes.Rotate at
+    registered (drop i r ++ take i r) at
+
+  -- a claim on the bit of an operand
+  abbrev pub claim_on : Kind → ℕ → Place → Place → Step B Value
+  claim_on kind location operand at = do
+    held ← read location operand
+    noted kind location held at
+
+  -- the location to the left takes the bit of that to the right
+  abbrev pub assigned : ℕ → ℕ → Place → Place → Step B Value
+  assigned to from left right = do
+    _ ← read to left
+    b ← read from right
+    put to b
 
   -- ---- the forms of terms, with the run of a term one deeper
 
-  module _ (deeper : Environment → Tree → State B → Outcome B Value) where
+  module _ (deeper : Environment → Tree → Step B Value) where
     -- a term whose value must be a bit
-    abbrev pub bit_of : Environment → Tree → State B → Outcome B ℕ
-    bit_of env t s = after (deeper env t s) (as_bit (place_of t))
+    abbrev pub bit_of : Environment → Tree → Step B ℕ
+    bit_of env t = do
+      value ← deeper env t
+      as_bit (place_of t) value
 
     -- terms whose values must be bits, one after another
-    abbrev pub bits_of : Environment → List Tree → State B → Outcome B (List ℕ)
-    bits_of env [] s = went [] s
-    bits_of env (t ∷ ts) s = after (bit_of env t s) (λ first s. after (bits_of env ts s) (λ more s. went (first ∷ more) s))
+    abbrev pub bits_of : Environment → List Tree → Step B (List ℕ)
+    bits_of env [] = done []
+    bits_of env (t ∷ ts) = do
+      first ← bit_of env t
+      more ← bits_of env ts
+      done (first ∷ more)
 
     -- the items of a block in order, and its last expression
-    abbrev pub block_of : Environment → List ItemTree → Tree → State B → Outcome B Value
-    block_of env [] last s = deeper env last s
-    block_of env (bind name t ∷ items) last s =
-        after (deeper env t s) (λ value s. after (worked (bound_length value) (place_of t) s) (λ _ s. block_of (bound value env) items last s))
-    block_of env (run t ∷ items) last s = after (deeper env t s) (λ _ s. block_of env items last s)
-
-    -- the parts of a register, one after another; a slice counts its length at the whole term
-    abbrev pub part_of : Place → Part → Value → State B → Outcome B Value
-    part_of whole (part.Index i at) value s =
-        after (as_register at value s) (λ r s. elim (slice_get r i) [ None ↦ stuck causes.Index at | Some location ↦ went (bit location) s ])
-    part_of whole (part.Slice i j at) value s =
-        after (as_register at value s) (λ r s. provided (leb i j && leb (j + 1) (length r)) causes.Slice at (registered (take (j + 1 - i) (drop i r)) whole s))
-
-    abbrev pub parts_of : Place → List Part → Value → State B → Outcome B Value
-    parts_of whole [] value s = went value s
-    parts_of whole (p ∷ ps) value s = after (part_of whole p value s) (parts_of whole ps)
+    abbrev pub block_of : Environment → List ItemTree → Tree → Step B Value
+    block_of env [] last = deeper env last
+    block_of env (bind name t ∷ items) last = do
+      value ← deeper env t
+      _ ← worked (bound_length value) (place_of t)
+      block_of (bound value env) items last
+    block_of env (run t ∷ items) last = do
+      _ ← deeper env t
+      block_of env items last
 
     -- a function takes an argument; with its last name the body is run
-    abbrev pub apply_to : Place → Value → Value → State B → Outcome B Value
-    apply_to at (closure (name ∷ []) body env) argument s =
-        after (worked (bound_length argument) at s) (λ _ s. deeper (bound argument env) body s)
-    apply_to at (closure (name ∷ next ∷ names) body env) argument s =
-        after (worked (bound_length argument) at s) (λ _ s. went (closure (next ∷ names) body (bound argument env)) s)
-    apply_to at _ argument s = stuck causes.NotFunction at
+    abbrev pub apply_to : Place → Value → Value → Step B Value
+    apply_to at (closure (name ∷ []) body env) argument = do
+      _ ← worked (bound_length argument) at
+      deeper (bound argument env) body
+    apply_to at (closure (name ∷ next ∷ names) body env) argument = do
+      _ ← worked (bound_length argument) at
+      done (closure (next ∷ names) body (bound argument env))
+    apply_to at _ argument = stops causes.NotFunction at
 
-    abbrev pub apply_all : Environment → List Tree → Value → State B → Outcome B Value
-    apply_all env [] value s = went value s
-    apply_all env (t ∷ ts) value s = after (deeper env t s) (λ argument s. after (apply_to (place_of t) value argument s) (apply_all env ts))
+    abbrev pub apply_all : Environment → List Tree → Value → Step B Value
+    apply_all env [] value = done value
+    apply_all env (t ∷ ts) value = do
+      argument ← deeper env t
+      next ← apply_to (place_of t) value argument
+      apply_all env ts next
 
-    -- a claim on a bit: it is noted, and `clean` takes the bit out of its location
-    abbrev pub left_by : Kind → ℕ → List (Option (Stamped B)) → List (Option (Stamped B))
-    left_by kinds.Clean location store = slice_set store location None
-    left_by kinds.Assert location store = store
-
-    abbrev pub claimed : Kind → Environment → Tree → Place → State B → Outcome B Value
-    claimed kind env t at s =
-        after (bit_of env t s) (λ location s. after (read location (place_of t) s) (λ held s.
-        provided (leb (length s.claims + 1) 4096) causes.Claims at
-        (went unit (record s {
-          store = left_by kind location s.store;
-          claims = s.claims ++ record { claim = record { kind = kind; of = held.stamp; at = at }; bit = held.bit } ∷ [];
-        }))))
+    abbrev pub claimed : Kind → Environment → Tree → Place → Step B Value
+    claimed kind env t at = do
+      location ← bit_of env t
+      claim_on kind location (place_of t) at
 
     -- a chain: the bit so far, whose location is read at the first operand's place, with each next operand
-    abbrev pub chain_of : (Ref → Ref → Entry) → (B → B → B) → Environment → Place → ℕ → List Tree → State B → Outcome B Value
-    chain_of entry op env first so_far [] s = went (bit so_far) s
-    chain_of entry op env first so_far (t ∷ ts) s =
-        after (bit_of env t s) (λ next s. after (read so_far first s) (λ a s. after (read next (place_of t) s) (λ b s.
-        after (written (entry a.stamp b.stamp) (op a.bit b.bit) (place_of t) s) (λ made s. chain_of entry op env first made ts s))))
+    abbrev pub chain_of : (Ref → Ref → Entry) → (B → B → B) → Environment → Place → ℕ → List Tree
+        → Step B Value
+    chain_of entry op env first so_far [] = done (bit so_far)
+    chain_of entry op env first so_far (t ∷ ts) = do
+      next ← bit_of env t
+      a ← read so_far first
+      b ← read next (place_of t)
+      made ← written (entry a.stamp b.stamp) (op a.bit b.bit) (place_of t)
+      chain_of entry op env first made ts
 
-    abbrev pub chain : (Ref → Ref → Entry) → (B → B → B) → Environment → List Tree → State B → Outcome B Value
-    chain entry op env [] s = went unit s
-    chain entry op env (t ∷ ts) s = after (bit_of env t s) (λ first s. chain_of entry op env (place_of t) first ts s)
+    abbrev pub chain : (Ref → Ref → Entry) → (B → B → B) → Environment → List Tree → Step B Value
+    chain entry op env [] = done unit
+    chain entry op env (t ∷ ts) = do
+      first ← bit_of env t
+      chain_of entry op env (place_of t) first ts
 
     -- one term, by its form
-    abbrev pub term_of : Environment → Tree → State B → Outcome B Value
-    term_of env (used name) s = went (value_at env name.back) s
-    term_of env (bool b at) s = after (written (entries.Const b) (bits.constant b) at s) (λ made s. went (bit made) s)
-    term_of env (reg ts at) s =
-        after (bits_of env (list_of ts) s) (λ locations s. provided (leb (length locations) 4096) causes.Length at (registered locations at s))
-    term_of env (block items last at) s = block_of env (items_of items) last s
-    term_of env (function names body at) s = went (closure names body env) s
-    term_of env (parts base ps) s = after (deeper env base s) (parts_of (place_of base) ps)
-    term_of env (apply head ts) s = after (deeper env head s) (apply_all env (list_of ts))
-    term_of env (append a b at) s =
-        after (deeper env a s) (λ x s. after (deeper env b s) (λ y s.
-        after (as_register (place_of a) x s) (λ r s. after (as_register (place_of b) y s) (λ q s.
-        provided (leb (length r + length q) 4096) causes.Length at (registered (r ++ q) at s)))))
-    term_of env (rotate i t at) s =
-        after (deeper env t s) (λ x s. after (as_register (place_of t) x s) (λ r s.
-        provided (leb (i + 1) (length r)) causes.Rotate at (registered (drop i r ++ take i r) at s)))
-    term_of env (clean t at) s = claimed kinds.Clean env t at s
-    term_of env (assert t at) s = claimed kinds.Assert env t at s
-    term_of env (ands ts) s = chain entries.And bits.and env (list_of ts) s
-    term_of env (xors ts) s = chain entries.Xor bits.xor env (list_of ts) s
-    term_of env (assign left right) s =
-        after (bit_of env left s) (λ to s. after (bit_of env right s) (λ from s.
-        after (read to (place_of left) s) (λ _ s. after (read from (place_of right) s) (λ b s.
-        went unit (record s { store = slice_set s.store to (Some b) })))))
+    abbrev pub term_of : Environment → Tree → Step B Value
+    term_of env (used name) = done (value_at env name.back)
+    term_of env (bool b at) = constant_bit b at
+    term_of env (ands ts) = chain entries.And bits.and env (list_of ts)
+    term_of env (xors ts) = chain entries.Xor bits.xor env (list_of ts)
+    term_of env (assign left right) = do
+      to ← bit_of env left
+      from ← bit_of env right
+      assigned to from (place_of left) (place_of right)
+    term_of env (reg ts at) = do
+      locations ← bits_of env (list_of ts)
+      short_register locations at
+    term_of env (parts base ps) = do
+      value ← deeper env base
+      parts_of (place_of base) ps value
+    term_of env (append a b at) = do
+      x ← deeper env a
+      y ← deeper env b
+      appended (place_of a) (place_of b) at x y
+    term_of env (rotate i t at) = do
+      x ← deeper env t
+      rotated i (place_of t) at x
+    term_of env (function names body at) = done (closure names body env)
+    term_of env (apply head ts) = do
+      value ← deeper env head
+      apply_all env (list_of ts) value
+    term_of env (clean t at) = claimed kinds.Clean env t at
+    term_of env (assert t at) = claimed kinds.Assert env t at
+    term_of env (block items last at) = block_of env (items_of items) last
 
   -- A term with so many levels of depth left: a term is entered, which counts one unit of work, and its parts are run one deeper.
-  abbrev pub run_of : ℕ → Environment → Tree → State B → Outcome B Value
-  run_of zero env t s = stuck causes.Depth (place_of t)
-  run_of (suc left) env t s = after (worked 1 (place_of t) s) (λ _ s. term_of (run_of left) env t s)
+  abbrev pub run_of : ℕ → Environment → Tree → Step B Value
+  run_of zero env t = stops causes.Depth (place_of t)
+  run_of (suc left) env t = do
+    _ ← worked 1 (place_of t)
+    term_of (run_of left) env t

@@ -34,22 +34,26 @@ param_value first (Some width) = register (from first width)
 -- the parameters from this input on, the last one nearest
 abbrev pub params_in : ℕ → List Param → Environment → Environment
 params_in first [] env = env
-params_in first (p ∷ ps) env = params_in (first + width_of p.width) ps (bound (param_value first p.width) env)
+params_in first (p ∷ ps) env = params_in (first + width_of p.width) ps
+    (bound (param_value first p.width) env)
 
 -- ---- the end: the value of the body is a bit or a register, whose locations hold the outputs
 
 module _ {B : Type 0} where
   abbrev pub locations_of : Place → Value → State B → Outcome B (List ℕ)
   locations_of at (bit location) s = went (location ∷ []) s
-  locations_of at (register locations) s = provided (leb (length locations) 1024) causes.Outputs at (went locations s)
+  locations_of at (register locations) s = provided (leb (length locations) 1024) causes.Outputs at
+      (went locations s)
   locations_of at _ s = stuck causes.NoOutput at
 
   abbrev pub read_all : Bits B → Place → List ℕ → State B → Outcome B (List (Stamped B))
   read_all bits at [] s = went [] s
-  read_all bits at (l ∷ ls) s = after (read bits l at s) (λ first s. after (read_all bits at ls s) (λ more s. went (first ∷ more) s))
+  read_all bits at (l ∷ ls) s = after (read bits l at s)
+      (λ first s. after (read_all bits at ls s) (λ more s. went (first ∷ more) s))
 
 -- the run of a program on bits of any type, to the bits of its outputs
-abbrev pub run_on : {B : Type 0} → Bits B → List Param → Tree → List B → Outcome B (List (Stamped B))
+abbrev pub run_on : {B : Type 0} → Bits B → List Param → Tree → List B
+    → Outcome B (List (Stamped B))
 run_on bits params body input =
     after (run_of bits 400 (params_in 0 params nothing) body (start input)) (λ value s.
     after (locations_of (place_of body) value s) (read_all bits (place_of body)))
@@ -95,12 +99,14 @@ pub record HasOutput (params : List Param) (body : Tree) (input output : List Bo
 
 -- The run of a program ends on every input.
 pub record EndsOnAll (params : List Param) (body : Tree) : Type 0 where
-  pub ends : (input : List Bool) → IsInput params input → (output : List Bool) × HasOutput params body input output
+  pub ends : (input : List Bool) → IsInput params input
+      → (output : List Bool) × HasOutput params body input output
 
 -- ---- the tape of a program
 
 -- The run on an input leaves this tape, whose references have the bits that the run met.
-pub record LeavesOn (params : List Param) (body : Tree) (t : TapeView) (input : List Bool) : Type 0 where
+pub record LeavesOn (params : List Param) (body : Tree) (t : TapeView)
+    (input : List Bool) : Type 0 where
   pub outputs : List (Stamped Bool)
   pub state : State Bool
   pub ends : Ends params body input outputs state
@@ -118,33 +124,45 @@ pub record IsTapeOf (params : List Param) (body : Tree) (t : TapeView) : Type 0 
 -- The tape that a run without bits leaves.
 abbrev pub tape_of : List Param → List (Stamped (Unit {0})) → State (Unit {0}) → TapeView
 tape_of params outputs s =
-    record { params = widths_of params; entries = s.log; claims = map (λ m. m.claim) s.claims; outputs = map (λ o. o.stamp) outputs }
+    record {
+      params = widths_of params;
+      entries = s.log;
+      claims = map
+          (λ m. m.claim) s.claims;
+      outputs = map (λ o. o.stamp) outputs;
+    }
 
 -- The run of a program is the same for all inputs but for its bits: it is stuck for all at the same place and for the same reason, or
 -- leaves the same tape for all.
 abbrev pub SameForAll : Type 0
 SameForAll =
     (params : List Param) (body : Tree)
-    → ((why : Cause) (at : Place) → run_without_bits params body ≡ stuck why at → (input : List Bool) → IsInput params input → IsStuck params body input why at)
-    × ((outputs : List (Stamped (Unit {0}))) (s : State (Unit {0})) → run_without_bits params body ≡ went outputs s → IsTapeOf params body (tape_of params outputs s))
+    → ((why : Cause) (at : Place) → run_without_bits params body ≡ stuck why at
+    → (input : List Bool) → IsInput params input → IsStuck params body input why at)
+    × ((outputs : List (Stamped (Unit {0}))) (s : State (Unit {0}))
+    → run_without_bits params body ≡ went outputs s
+    → IsTapeOf params body (tape_of params outputs s))
 
 -- What a run without bits leaves is a tape: its references are earlier, and the limits hold.
 abbrev pub LeavesTape : Type 0
 LeavesTape =
     (params : List Param) (body : Tree) (outputs : List (Stamped (Unit {0}))) (s : State (Unit {0}))
-    → AreParams params → run_without_bits params body ≡ went outputs s → IsTape (tape_of params outputs s)
+    → AreParams params → run_without_bits params body ≡ went outputs s
+    → IsTape (tape_of params outputs s)
 
 -- A program whose run ends has an output: no register is empty.
 abbrev pub HasOutputs : Type 0
 HasOutputs =
     (params : List Param) (body : Tree) (outputs : List (Stamped (Unit {0}))) (s : State (Unit {0}))
-    → AreParams params → IsTrue (is_formed body) → run_without_bits params body ≡ went outputs s → 1 ≤ length outputs
+    → AreParams params → IsTrue (is_formed body) → run_without_bits params body ≡ went outputs s
+    → 1 ≤ length outputs
 
 -- A program whose run ends on every input has one tape.
 abbrev pub OneTape : Type 0
 OneTape =
     (params : List Param) (body : Tree) → EndsOnAll params body
-    → (t : TapeView) × IsTapeOf params body t × ((other : TapeView) → IsTapeOf params body other → other ≡ t)
+    → (t : TapeView) × IsTapeOf params body t ×
+    ((other : TapeView) → IsTapeOf params body other → other ≡ t)
 
 -- The run of a program with a tape ends on every input, and its output is that of the tape.
 abbrev pub TapeGivesOutput : Type 0

@@ -1,5 +1,5 @@
 -- What holds of a term: its place, its shape and its nesting.
-use Rattle.std.specs.Prelude.{IsTrue, ℕ, ◌+◌, leb, max, Bool, true, false, ◌&&◌, List, [], ◌∷◌, length, if◌then◌else◌}
+use Rattle.std.specs.Prelude.{ℕ, ◌+◌, leb, max, Bool, true, false, ◌&&◌, List, [], ◌∷◌, length, if◌then◌else◌}
 use Rattle.revc_base.specs.declared.place.Place.{Place}
 use Rattle.revs_terms.specs.Trees.{Tree, Trees, ItemTree, ItemTrees, used, bool, reg, block, function, parts, apply, append, rotate, clean, assert, ands, xors, assign, nil, cons, bind, run, no_items, item, list_of}
 
@@ -34,36 +34,6 @@ abbrev pub has_two : {A : Type 0} → List A → Bool
 has_two [] = false
 has_two (x ∷ xs) = has_one xs
 
--- whether each `And` and `Xor` in a term has a part
-abbrev mutual
-  pub has_parts : Tree → Bool
-  has_parts (used name) = true
-  has_parts (bool value at) = true
-  has_parts (reg elements at) = have_parts elements
-  has_parts (block items last at) = items_have_parts items && has_parts last
-  has_parts (function names body at) = has_parts body
-  has_parts (parts inner inside) = has_parts inner
-  has_parts (apply head arguments) = has_parts head && have_parts arguments
-  has_parts (append first second at) = has_parts first && has_parts second
-  has_parts (rotate by operand at) = has_parts operand
-  has_parts (clean operand at) = has_parts operand
-  has_parts (assert operand at) = has_parts operand
-  has_parts (ands terms) = has_one (list_of terms) && have_parts terms
-  has_parts (xors terms) = has_one (list_of terms) && have_parts terms
-  has_parts (assign left right) = has_parts left && has_parts right
-
-  pub have_parts : Trees → Bool
-  have_parts nil = true
-  have_parts (cons t ts) = has_parts t && have_parts ts
-
-  pub item_has_parts : ItemTree → Bool
-  item_has_parts (bind name value) = has_parts value
-  item_has_parts (run term) = has_parts term
-
-  pub items_have_parts : ItemTrees → Bool
-  items_have_parts no_items = true
-  items_have_parts (item i is) = item_has_parts i && items_have_parts is
-
 -- whether each `And` and `Xor` in a term has two parts at least, each `Reg` an element, each `Apply` an argument, each `At` a
 -- part and each function a name
 abbrev mutual
@@ -74,7 +44,8 @@ abbrev mutual
   is_formed (block items last at) = items_are_formed items && is_formed last
   is_formed (function names body at) = has_one names && is_formed body
   is_formed (parts inner inside) = has_one inside && is_formed inner
-  is_formed (apply head arguments) = is_formed head && (has_one (list_of arguments) && are_formed arguments)
+  is_formed (apply head arguments) = is_formed head &&
+      (has_one (list_of arguments) && are_formed arguments)
   is_formed (append first second at) = is_formed first && is_formed second
   is_formed (rotate by operand at) = is_formed operand
   is_formed (clean operand at) = is_formed operand
@@ -144,14 +115,17 @@ abbrev mutual
   levels_of (block items last at) = max (levels_of_items items) (levels_of last) + 1
   levels_of (function names body at) = levels_of body + 1
   levels_of (parts inner inside) = levels_as base inner (levels_of inner)
-  levels_of (apply head arguments) = max (levels_as atom head (levels_of head)) (levels_of_all atom arguments)
-  levels_of (append first second at) = max (levels_as atom first (levels_of first)) (levels_as atom second (levels_of second))
+  levels_of (apply head arguments) = max (levels_as atom head (levels_of head))
+      (levels_of_all atom arguments)
+  levels_of (append first second at) = max (levels_as atom first (levels_of first))
+      (levels_as atom second (levels_of second))
   levels_of (rotate by operand at) = levels_as atom operand (levels_of operand)
   levels_of (clean operand at) = levels_as atom operand (levels_of operand)
   levels_of (assert operand at) = levels_as atom operand (levels_of operand)
   levels_of (ands terms) = levels_of_all application terms
   levels_of (xors terms) = levels_of_all product terms
-  levels_of (assign left right) = max (levels_as sum left (levels_of left)) (levels_as sum right (levels_of right))
+  levels_of (assign left right) = max (levels_as sum left (levels_of left))
+      (levels_as sum right (levels_of right))
 
   -- the most levels of terms in places for one form
   pub levels_of_all : ℕ → Trees → ℕ
@@ -197,7 +171,3 @@ abbrev mutual
   pub names_of_items : ItemTrees → ℕ
   names_of_items no_items = 0
   names_of_items (item i is) = names_of_item i + names_of_items is
-
--- A formed term has parts.
-abbrev pub FormedHasParts : Type 0
-FormedHasParts = (term : Tree) → IsTrue (is_formed term) → IsTrue (has_parts term)

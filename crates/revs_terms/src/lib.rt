@@ -5,12 +5,14 @@
 #![tactic(auto)]
 
 mod cause;
+mod limits;
 mod program;
 mod term;
 
 pub use cause::Cause;
+pub use limits::{MOST_DEPTH, MOST_LEVELS, MOST_PLACES, MOST_WORK};
 pub use program::{Param, Program, has_outputs, leaves_tape, one_tape, same_for_all};
-pub use term::{Item, Lambda, Name, Part, Term, formed_has_parts};
+pub use term::{Item, Lambda, Name, Part, Term};
 
 #[cfg(test)]
 mod tests;

@@ -1,6 +1,6 @@
 // Terms, as the grammar gives them.
-ghost use Rattle.std.specs.Prelude.{◌≡◌, IsTrue};
-ghost use Rattle.revs_terms.specs.Terms.{place_of, has_parts, FormedHasParts};
+ghost use Rattle.std.specs.Prelude.{◌≡◌};
+ghost use Rattle.revs_terms.specs.Terms.{place_of};
 ghost use Rattle.revs_terms.specs.Trees.{tree_of};
 
 use revc_base::{Place, Text};
@@ -58,9 +58,9 @@ pub enum Term {
 }
 
 impl Term {
-    /// The place of the term's first token. A bracketed term has the place of the term inside. It takes no memory.
+    /// The place of the term's first token. A bracketed term has the place of the term inside. A chain without parts has
+    /// none, and is said to stand at 0.
     pub fn place(&self) -> Place
-        requires { IsTrue (has_parts (tree_of self.now)) }
         ensures { result ≡ place_of (tree_of self.now) }
     {
         match self {
@@ -69,12 +69,10 @@ impl Term {
             Term::Append(_, _, at) | Term::Rotate(_, _, at) => *at,
             Term::Clean(_, at) | Term::Assert(_, at) => *at,
             Term::At(first, _) | Term::Apply(first, _) | Term::Assign(first, _) => first.place(),
-            Term::And(terms) | Term::Xor(terms) => terms[0].place(),
+            Term::And(terms) | Term::Xor(terms) => match terms.first() {
+                Some(first) => first.place(),
+                None => Place { line: 0, column: 0 },
+            },
         }
     }
 }
-
-/// A formed term has parts: so the body of a program meets what [`Term::place`] requires.
-pub fn formed_has_parts()
-    ensures { FormedHasParts }
-{}

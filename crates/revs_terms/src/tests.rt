@@ -1,7 +1,3 @@
-ghost use Rattle.std.specs.Prelude.{IfOk, IsTrue};
-ghost use Rattle.revs_terms.specs.Terms.{has_parts};
-ghost use Rattle.revs_terms.specs.Trees.{tree_of};
-
 use super::*;
 use revc_base::{Place, Text};
 use std::alloc::Global;
@@ -11,9 +7,7 @@ fn at(column: u32) -> Place {
     Place { line: 1, column }
 }
 
-fn name(alloc: Global, column: u32) -> Result<Term, Fail>
-    ensures { IfOk result (λ term. IsTrue (has_parts (tree_of term))) }
-{
+fn name(alloc: Global, column: u32) -> Result<Term, Fail> {
     Ok(Term::Name(Name {
         text: Text::new(alloc, b"x")?,
         at: at(column),

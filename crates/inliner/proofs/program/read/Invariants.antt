@@ -1,7 +1,7 @@
 use Rattle.std.proofs.Common.{drop}
 use Rattle.revs_terms.specs.Terms.{place_of}
 use Rattle.revs_terms.specs.Trees.{tree_of}
-use Rattle.inliner.proofs.Ends.{InReads}
+use Rattle.inliner.proofs.EndLemmas.{InReads}
 use Rattle.inliner.proofs.program.read.Given as goal
 
 abbrev pub invariant-loop-location : goal.invariant-loop-location

@@ -1,10 +1,10 @@
 use Rattle.std.proofs.Common.{subst}
 use Rattle.revs_terms.specs.declared.program.Program.{Program}
 use Rattle.revs_terms.specs.Trees.{tree_of}
-use Rattle.inliner.specs.Faults.{Says, Leaves}
 use Rattle.revs_terms.specs.Runs.{run_without_bits}
-use Rattle.inliner.proofs.Ends.{refused, left_on_all}
-use Rattle.inliner.proofs.Through.{on_ok, on_err}
+use Rattle.inliner.proofs.EndLemmas.{refused, left_on_all}
+use Rattle.inliner.proofs.ProgressLemmas.{on_ok, on_err}
+use Rattle.inliner.specs.inside.Steps.{Leaves, Says}
 use Rattle.inliner.proofs.program.unroll.Goals as goal
 
 pub returns-clause-ok : goal.returns-clause-ok

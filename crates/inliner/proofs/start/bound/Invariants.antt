@@ -1,5 +1,5 @@
 use Rattle.std.proofs.Common.{drop}
-use Rattle.inliner.proofs.Starts.{InBound}
+use Rattle.inliner.proofs.StartLemmas.{InBound}
 use Rattle.inliner.proofs.start.bound.Given as goal
 
 abbrev pub invariant-loop-param : goal.invariant-loop-param

@@ -1,6 +1,6 @@
 use Rattle.std.proofs.Common.{arith, ◌≡◌, ◌-◌, ◌+◌, ap, sym, ◌∙◌, List, ◌++◌, ◌∷◌, [], ℕ}
 use Rattle.std.specs.List.{range_with_len}
-use Rattle.inliner.proofs.Starts.{range_more}
+use Rattle.inliner.proofs.StartLemmas.{range_more}
 use Rattle.inliner.proofs.start.numbers.Goals as goal
 
 pub loop-number-init : goal.loop-number-init

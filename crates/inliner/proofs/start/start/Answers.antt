@@ -1,8 +1,8 @@
 use Rattle.std.proofs.Common.{refl, ap, ◌∙◌, subst, ℕ, List, [], sum, ◌≡◌}
 use Rattle.revc_base.specs.Tapes.{TapeView}
 use Rattle.revs_terms.specs.Programs.{widths_of}
-use Rattle.inliner.specs.Starting.{AreInputs}
-use Rattle.inliner.proofs.Starts.{started, are_inputs, are_widths}
+use Rattle.inliner.specs.inside.Starts.{AreInputs}
+use Rattle.inliner.proofs.StartLemmas.{started, are_inputs, are_widths}
 use Rattle.inliner.proofs.start.start.Goals as goal
 
 pub new-tape-requires : goal.new-tape-requires
@@ -13,5 +13,6 @@ returns-clause-ok c =
     let t : c.new-tape.result ≡ record { params = widths_of c.args.params.now; entries = []; claims = []; outputs = [] } =
     c.new-tape.ensures ∙ ap (λ (ws : List ℕ). record { params = ws; entries = []; claims = []; outputs = [] }) c.in_ok-widths.ensures.ok in
     let n : c.inputs.result ≡ sum (widths_of c.args.params.now) = c.inputs.ensures.inputs ∙ ap (λ (x : TapeView). sum x.params) t in
-    started c.args.params.now _ refl t (subst (λ (k : ℕ). AreInputs k c.in_ok-store.store.items) n (are_inputs c.inputs.result c.in_ok-store.store.items c.in_ok-store.ensures.ok))
+    started c.args.params.now _ refl t (subst (λ (k : ℕ). AreInputs k c.in_ok-store.store.items) n
+    (are_inputs c.inputs.result c.in_ok-store.store.items c.in_ok-store.ensures.ok))
     c.in_ok-bindings.ensures.ok c.requires

@@ -1,4 +1,4 @@
-use Rattle.revs_terms.proofs.BothEnds.{leaves_tape}
+use Rattle.revs_terms.proofs.BitlessTapeLemmas.{leaves_tape}
 use Rattle.revs_terms.proofs.program.leaves_tape.Goals as goal
 
 pub returns : goal.returns

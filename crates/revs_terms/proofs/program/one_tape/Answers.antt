@@ -1,4 +1,4 @@
-use Rattle.revs_terms.proofs.TapeLaws.{one_tape, tape_gives_output}
+use Rattle.revs_terms.proofs.TapeLemmas.{one_tape, tape_gives_output}
 use Rattle.revs_terms.proofs.program.one_tape.Goals as goal
 
 pub returns-clause-one : goal.returns-clause-one

@@ -1,4 +1,4 @@
-use Rattle.revs_terms.proofs.BothEnds.{same_for_all}
+use Rattle.revs_terms.proofs.BitlessTapeLemmas.{same_for_all}
 use Rattle.revs_terms.proofs.program.same_for_all.Goals as goal
 
 pub returns : goal.returns

@@ -1,165 +1,265 @@
-use Rattle.std.proofs.Common.{◌≡◌, ℕ, ◌-◌, ◌+◌, drop, map, sym, ap, ◌∙◌, subst, rules, arith}
+use Rattle.std.proofs.Common.{◌≡◌, ◌-◌, ◌+◌, drop, map, sym, ap, ◌∙◌, subst, arith}
 use Rattle.revs_terms.specs.Terms.{place_of}
 use Rattle.revs_terms.specs.Trees.{ItemTree, tree_of, item_tree_of}
 use Rattle.revs_terms.specs.Running as runs
-use Rattle.revs_terms.specs.Running.{run_of, term_of, apply_to, closure, Outcome}
+use Rattle.revs_terms.specs.Running.{run_of, term_of, apply_to, closure, went, Outcome}
 use Rattle.revs_terms.proofs.Shapes.{tree_of-Block, item_tree_of-Let, item_tree_of-Do}
 use Rattle.array_shapes.specs.declared.value.Value.{Value}
-use Rattle.inliner.specs.Faults.{Says}
-use Rattle.inliner.specs.Steps.{item_step}
 use Rattle.revs_terms.specs.Runs.{no_bits}
-use Rattle.inliner.specs.Machines.{envs_of, env_in, value_in, state_of, Does, Goes, Binds}
-use Rattle.inliner.proofs.Through.{on_ok, on_err, ends_goes, said, goes_in, says_in}
-use Rattle.inliner.proofs.Forms.{entered, assigns_from, assigns_stuck, reg_made, reg_stuck, bits_begun, bits_more, bits_stuck, bits_done, chain_begun, chain_more, chain_stuck, chain_done}
-use Rattle.inliner.proofs.Blocks.{mapped_at, mapped_end, passes_on, block_more, block_stuck, at_begun, append_second, append_stuck, apply_begun, apply_more, apply_stuck, argument_run, call_stuck, call_last, call_next, item_bound, item_run, block_term}
+use Rattle.inliner.specs.inside.Machines.{envs_of, env_in, value_in, state_of, Goes, Binds, Calls}
+use Rattle.inliner.proofs.ProgressLemmas.{on_ok, on_err, on_ok_alone, ends_goes, ends_calls, said, goes_in, says_in}
+use Rattle.inliner.proofs.ChainLemmas.{entered, assigns_from, assigns_stuck, reg_made, reg_stuck, bits_begun, bits_more, bits_stuck, bits_done, chain_begun, chain_more, chain_stuck, chain_done}
+use Rattle.inliner.proofs.CallLemmas.{mapped_at, mapped_end, passes_on, block_more, block_stuck, at_begun, append_second, append_stuck, apply_begun, apply_more, apply_stuck, argument_run, call_stuck, call_last, call_next, call_ends, call_said, item_bound, item_run, block_term}
+use Rattle.inliner.specs.inside.Steps.{Says, item_step}
 use Rattle.inliner.proofs.machine.Machine.+run.Goals as goal
 
 pub run-returns-clause-ok : goal.run-returns-clause-ok
 run-returns-clause-ok t c =
     let old = c.args.self.now in
-    on_ok c.term.result (λ v g. ends_goes (entered old c.enter.new.self c.args.left (env_in (envs_of old) c.args.env) (tree_of c.args.term.now) c.requires.machine (omega arith) c.in_ok-enter.ensures.ok)
-    (goes_in (λ e. term_of no_bits (run_of no_bits (c.args.left - 1)) e (tree_of c.args.term.now) (state_of c.enter.new.self)) old c.enter.new.self _ c.args.env v c.in_ok-enter.ensures.ok.grows c.requires.env g)) c.term.ensures.ok
+    on_ok c.term.result (λ v g. ends_goes (entered old c.enter.new.self c.args.left (env_in (envs_of old) c.args.env)
+    (tree_of c.args.term.now) c.requires.machine (omega arith) c.in_ok-enter.ensures.ok)
+    (goes_in (λ e. term_of no_bits (run_of no_bits (c.args.left - 1)) e (tree_of c.args.term.now) (state_of c.enter.new.self)) old c.enter.new.self _
+    c.args.env v c.in_ok-enter.ensures.ok.grows c.requires.env g)) c.term.ensures.ok
 
 pub run-returns-clause-err : goal.run-returns-clause-err
 run-returns-clause-err t c =
     let old = c.args.self.now in
-    on_err c.term.result (λ f s. said f (entered old c.enter.new.self c.args.left (env_in (envs_of old) c.args.env) (tree_of c.args.term.now) c.requires.machine (omega arith) c.in_ok-enter.ensures.ok)
-    (says_in (λ e. term_of no_bits (run_of no_bits (c.args.left - 1)) e (tree_of c.args.term.now) (state_of c.enter.new.self)) old c.enter.new.self c.args.env f c.in_ok-enter.ensures.ok.grows c.requires.env s)) c.term.ensures.err
+    on_err c.term.result (λ f s. said f (entered old c.enter.new.self c.args.left (env_in (envs_of old) c.args.env)
+    (tree_of c.args.term.now) c.requires.machine (omega arith) c.in_ok-enter.ensures.ok)
+    (says_in (λ e. term_of no_bits (run_of no_bits (c.args.left - 1)) e (tree_of c.args.term.now) (state_of c.enter.new.self)) old c.enter.new.self c.args.env
+    f c.in_ok-enter.ensures.ok.grows c.requires.env s)) c.term.ensures.err
+
+pub run-returns-clause-room : goal.run-returns-clause-room
+run-returns-clause-room t c = on_ok_alone c.term.result (λ v g. omega (arith, c.in_ok-enter.ensures.room, g.does.worked)) c.term.ensures.ok
 
 pub assignment-returns-clause-ok : goal.assignment-returns-clause-ok
 assignment-returns-clause-ok t c =
-    on_ok c.assign.result (λ v g. ends_goes (assigns_from c.args.self.now c.bit.new.self c.bit-2.new.self c.args.left c.args.env c.in_ok-to.to c.in_ok-from.from
-    (tree_of c.args.left_term.now) (tree_of c.args.right_term.now) c.requires.machine c.requires.env c.in_ok-to.ensures.ok c.in_ok-from.ensures.ok) g) c.assign.ensures.ok
+    on_ok c.assign.result (λ v g. ends_goes (assigns_from c.args.self.now c.bit.new.self c.bit-2.new.self c.args.left c.args.env c.in_ok-to.to
+    c.in_ok-from.from
+    (tree_of c.args.left_term.now) (tree_of c.args.right_term.now) c.requires.machine c.requires.env c.in_ok-to.ensures.ok c.in_ok-from.ensures.ok) g)
+    c.assign.ensures.ok
 
 pub assignment-returns-clause-err : goal.assignment-returns-clause-err
 assignment-returns-clause-err t c =
     on_err c.assign.result (λ f s. said f (assigns_from c.args.self.now c.bit.new.self c.bit-2.new.self c.args.left c.args.env c.in_ok-to.to c.in_ok-from.from
-    (tree_of c.args.left_term.now) (tree_of c.args.right_term.now) c.requires.machine c.requires.env c.in_ok-to.ensures.ok c.in_ok-from.ensures.ok) s) c.assign.ensures.err
+    (tree_of c.args.left_term.now) (tree_of c.args.right_term.now) c.requires.machine c.requires.env c.in_ok-to.ensures.ok c.in_ok-from.ensures.ok) s)
+    c.assign.ensures.err
 
 pub reg-returns-clause-ok : goal.reg-returns-clause-ok
 reg-returns-clause-ok t c =
-    on_ok c.short_register.result (λ v g. ends_goes (reg_made c.args.self.now c.bits.new.self c.args.left (env_in (envs_of c.args.self.now) c.args.env) (map tree_of c.args.terms.now) c.args.at c.in_ok-locations.locations.items c.requires.machine c.in_ok-locations.ensures.ok) g) c.short_register.ensures.ok
+    on_ok c.short_register.result (λ v g. ends_goes
+    (reg_made c.args.self.now c.bits.new.self c.args.left (env_in (envs_of c.args.self.now) c.args.env)
+    (map tree_of c.args.terms.now) c.args.at c.in_ok-locations.locations.items c.requires.machine c.in_ok-locations.ensures.ok) g)
+    c.short_register.ensures.ok
 
 pub reg-returns-clause-err : goal.reg-returns-clause-err
 reg-returns-clause-err t c =
-    on_err c.short_register.result (λ f s. said f (reg_made c.args.self.now c.bits.new.self c.args.left (env_in (envs_of c.args.self.now) c.args.env) (map tree_of c.args.terms.now) c.args.at c.in_ok-locations.locations.items c.requires.machine c.in_ok-locations.ensures.ok) s) c.short_register.ensures.err
+    on_err c.short_register.result (λ f s. said f
+    (reg_made c.args.self.now c.bits.new.self c.args.left (env_in (envs_of c.args.self.now) c.args.env)
+    (map tree_of c.args.terms.now) c.args.at c.in_ok-locations.locations.items c.requires.machine c.in_ok-locations.ensures.ok) s)
+    c.short_register.ensures.err
 
 pub assignment-returns-in_err-from-clause-err : goal.assignment-returns-in_err-from-clause-err
 assignment-returns-in_err-from-clause-err t c = passes_on _ c.from_residual-in_err-from.result c.from_residual-in_err-from.ensures.1
-    (assigns_stuck c.args.self.now c.bit.new.self c.args.left c.args.env c.in_ok-to.to (tree_of c.args.left_term.now) (tree_of c.args.right_term.now) c.in_err-from.field-0.0 c.requires.machine c.requires.env c.in_ok-to.ensures.ok c.in_err-from.ensures.err)
+    (assigns_stuck c.args.self.now c.bit.new.self c.args.left c.args.env c.in_ok-to.to (tree_of c.args.left_term.now)
+    (tree_of c.args.right_term.now) c.in_err-from.field-0.0 c.requires.machine c.requires.env c.in_ok-to.ensures.ok c.in_err-from.ensures.err)
 
 pub reg-returns-in_err-locations-clause-err : goal.reg-returns-in_err-locations-clause-err
 reg-returns-in_err-locations-clause-err t c = passes_on _ c.from_residual.result c.from_residual.ensures.1
-    (reg_stuck c.args.self.now c.args.left (env_in (envs_of c.args.self.now) c.args.env) (map tree_of c.args.terms.now) c.args.at c.in_err-locations.field-0.0 c.requires.machine c.in_err-locations.ensures.err)
+    (reg_stuck c.args.self.now c.args.left (env_in (envs_of c.args.self.now) c.args.env)
+    (map tree_of c.args.terms.now) c.args.at c.in_err-locations.field-0.0 c.requires.machine c.in_err-locations.ensures.err)
 
 pub bits-loop-term-init : goal.bits-loop-term-init
-bits-loop-term-init t c = bits_begun c.args.self.now c.args.left (env_in (envs_of c.args.self.now) c.args.env) (map tree_of c.args.terms.now) c.new-locations.result.items c.requires.machine c.new-locations.ensures.items
+bits-loop-term-init t c = bits_begun c.args.self.now c.args.left (env_in (envs_of c.args.self.now) c.args.env)
+    (map tree_of c.args.terms.now) c.new-locations.result.items c.requires.machine c.new-locations.ensures.items
 
 pub bits-returns-in_err-location-clause-err : goal.bits-returns-in_err-location-clause-err
 bits-returns-in_err-location-clause-err t c = passes_on _ c.from_residual.result c.from_residual.ensures.1
-    (bits_stuck c.args.self.now c.loop-term.self c.args.left c.args.env (tree_of c.term-item.result) _ _ c.loop-term.locations.items _ c.in_err-location.field-0.0 c.requires.env
-    (mapped_at tree_of c.args.terms.now c.loop-term.term-index c.term-item.result (omega arith) c.term-item.is) c.loop-term.invariant c.in_err-location.ensures.err)
+    (bits_stuck c.args.self.now c.loop-term.self c.args.left c.args.env
+    (tree_of c.term-item.result) _ _ c.loop-term.locations.items _ c.in_err-location.field-0.0 c.requires.env
+    (mapped_at tree_of c.args.terms.now c.loop-term.term-index c.term-item.result (omega arith) c.term-item.is) c.loop-term.invariant
+    c.in_err-location.ensures.err)
 
 pub bits-loop-term-preserved : goal.bits-loop-term-preserved
-bits-loop-term-preserved t c = bits_more c.args.self.now c.loop-term.self c.bit.new.self c.args.left c.args.env c.in_ok-location.location (tree_of c.term-item.result) _ _ c.loop-term.locations.items c.push.new.self.items _ c.requires.env
-    (mapped_at tree_of c.args.terms.now c.loop-term.term-index c.term-item.result (omega arith) c.term-item.is) c.in_ok-push.ensures.items c.loop-term.invariant c.in_ok-location.ensures.ok
+bits-loop-term-preserved t c = bits_more c.args.self.now c.loop-term.self c.bit.new.self c.args.left c.args.env c.in_ok-location.location
+    (tree_of c.term-item.result) _ _ c.loop-term.locations.items c.push.new.self.items _ c.requires.env
+    (mapped_at tree_of c.args.terms.now c.loop-term.term-index c.term-item.result (omega arith) c.term-item.is) c.in_ok-push.ensures.items
+    c.loop-term.invariant c.in_ok-location.ensures.ok
 
 pub bits-returns-clause-ok : goal.bits-returns-clause-ok
-bits-returns-clause-ok t c = bits_done c.args.self.now c.loop-term.self c.args.left (env_in (envs_of c.args.self.now) c.args.env) _ c.loop-term.locations.items _ (mapped_end tree_of c.args.terms.now c.loop-term.term-index (omega arith)) c.loop-term.invariant
+bits-returns-clause-ok t c = bits_done c.args.self.now c.loop-term.self c.args.left
+    (env_in (envs_of c.args.self.now) c.args.env) _ c.loop-term.locations.items _
+    (mapped_end tree_of c.args.terms.now c.loop-term.term-index (omega arith)) c.loop-term.invariant
 
 pub chain-loop-term-init : goal.chain-loop-term-init
-chain-loop-term-init t c = chain_begun c.args.self.now c.bit.new.self c.args.left c.args.op (env_in (envs_of c.args.self.now) c.args.env) (map tree_of c.args.terms.now) (tree_of c.in-Some.first.now) (map tree_of c.in-Some.rest.now) c.in_ok-so_far.so_far c.requires.machine
+chain-loop-term-init t c = chain_begun c.args.self.now c.bit.new.self c.args.left c.args.op (env_in (envs_of c.args.self.now) c.args.env)
+    (map tree_of c.args.terms.now) (tree_of c.in-Some.first.now) (map tree_of c.in-Some.rest.now) c.in_ok-so_far.so_far c.requires.machine
     (ap (map tree_of) c.in-Some.ensures.cases.0) c.in_ok-so_far.ensures.ok
 
 pub chain-returns-in_err-so_far-2-clause-err : goal.chain-returns-in_err-so_far-2-clause-err
 chain-returns-in_err-so_far-2-clause-err t c = passes_on _ c.from_residual-in_err-so_far-2.result c.from_residual-in_err-so_far-2.ensures.1
-    (chain_stuck c.args.self.now c.loop-term.self c.args.left c.args.env c.loop-term.so_far c.args.op (place_of (tree_of c.in-Some.first.now)) (tree_of c.term-item.result) _ _ _ c.in_err-so_far-2.field-0.0 c.requires.env
-    (mapped_at tree_of c.in-Some.rest.now c.loop-term.term-index c.term-item.result (omega arith) c.term-item.is) c.loop-term.invariant c.in_err-so_far-2.ensures.err)
+    (chain_stuck c.args.self.now c.loop-term.self c.args.left c.args.env c.loop-term.so_far c.args.op (place_of (tree_of c.in-Some.first.now))
+    (tree_of c.term-item.result) _ _ _ c.in_err-so_far-2.field-0.0 c.requires.env
+    (mapped_at tree_of c.in-Some.rest.now c.loop-term.term-index c.term-item.result (omega arith) c.term-item.is) c.loop-term.invariant
+    c.in_err-so_far-2.ensures.err)
 
 pub chain-loop-term-preserved : goal.chain-loop-term-preserved
-chain-loop-term-preserved t c = chain_more c.args.self.now c.loop-term.self c.link.new.self c.args.left c.args.env c.loop-term.so_far c.in_ok-so_far-2.so_far c.args.op (place_of (tree_of c.in-Some.first.now)) (tree_of c.term-item.result) _ _ _ c.requires.env
-    (mapped_at tree_of c.in-Some.rest.now c.loop-term.term-index c.term-item.result (omega arith) c.term-item.is) c.loop-term.invariant c.in_ok-so_far-2.ensures.ok
+chain-loop-term-preserved t c = chain_more c.args.self.now c.loop-term.self c.link.new.self c.args.left c.args.env c.loop-term.so_far c.in_ok-so_far-2.so_far
+    c.args.op (place_of (tree_of c.in-Some.first.now)) (tree_of c.term-item.result) _ _ _ c.requires.env
+    (mapped_at tree_of c.in-Some.rest.now c.loop-term.term-index c.term-item.result (omega arith) c.term-item.is) c.loop-term.invariant
+    c.in_ok-so_far-2.ensures.ok
 
 pub chain-returns-clause-ok : goal.chain-returns-clause-ok
-chain-returns-clause-ok t c = chain_done c.args.self.now c.loop-term.self c.args.left c.args.op (env_in (envs_of c.args.self.now) c.args.env) (place_of (tree_of c.in-Some.first.now)) c.loop-term.so_far _ _ (mapped_end tree_of c.in-Some.rest.now c.loop-term.term-index (omega arith)) c.loop-term.invariant
+chain-returns-clause-ok t c = chain_done c.args.self.now c.loop-term.self c.args.left c.args.op (env_in (envs_of c.args.self.now) c.args.env)
+    (place_of (tree_of c.in-Some.first.now)) c.loop-term.so_far _ _
+    (mapped_end tree_of c.in-Some.rest.now c.loop-term.term-index (omega arith)) c.loop-term.invariant
 
 pub append-returns-in_err-back-clause-err : goal.append-returns-in_err-back-clause-err
 append-returns-in_err-back-clause-err t c = passes_on _ c.from_residual-in_err-back.result c.from_residual-in_err-back.ensures.1
-    (append_stuck c.args.self.now c.run.new.self c.args.left c.args.env (tree_of c.args.first.now) (tree_of c.args.second.now) c.args.at c.in_ok-front.front c.in_err-back.field-0.0 c.requires.machine c.requires.env c.in_ok-front.ensures.ok c.in_err-back.ensures.err)
+    (append_stuck c.args.self.now c.run.new.self c.args.left c.args.env (tree_of c.args.first.now)
+    (tree_of c.args.second.now) c.args.at c.in_ok-front.front c.in_err-back.field-0.0 c.requires.machine c.requires.env c.in_ok-front.ensures.ok
+    c.in_err-back.ensures.err)
 
 pub append-returns-clause-ok : goal.append-returns-clause-ok
-append-returns-clause-ok t c = on_ok c.appended.result (λ v g. ends_goes (append_second c.args.self.now c.run.new.self c.run-2.new.self c.args.left c.args.env (tree_of c.args.first.now) (tree_of c.args.second.now) c.args.at c.in_ok-front.front c.in_ok-back.back c.requires.machine c.requires.env c.in_ok-front.ensures.ok c.in_ok-back.ensures.ok) g) c.appended.ensures.ok
+append-returns-clause-ok t c = on_ok c.appended.result
+    (λ v g. ends_goes (append_second c.args.self.now c.run.new.self c.run-2.new.self c.args.left c.args.env (tree_of c.args.first.now)
+    (tree_of c.args.second.now) c.args.at c.in_ok-front.front c.in_ok-back.back c.requires.machine c.requires.env c.in_ok-front.ensures.ok
+    c.in_ok-back.ensures.ok) g) c.appended.ensures.ok
 
 pub append-returns-clause-err : goal.append-returns-clause-err
-append-returns-clause-err t c = on_err c.appended.result (λ f s. said f (append_second c.args.self.now c.run.new.self c.run-2.new.self c.args.left c.args.env (tree_of c.args.first.now) (tree_of c.args.second.now) c.args.at c.in_ok-front.front c.in_ok-back.back c.requires.machine c.requires.env c.in_ok-front.ensures.ok c.in_ok-back.ensures.ok) s) c.appended.ensures.err
+append-returns-clause-err t c = on_err c.appended.result
+    (λ f s. said f (append_second c.args.self.now c.run.new.self c.run-2.new.self c.args.left c.args.env (tree_of c.args.first.now)
+    (tree_of c.args.second.now) c.args.at c.in_ok-front.front c.in_ok-back.back c.requires.machine c.requires.env c.in_ok-front.ensures.ok
+    c.in_ok-back.ensures.ok) s) c.appended.ensures.err
 
 pub apply-loop-term-init : goal.apply-loop-term-init
-apply-loop-term-init t c = apply_begun c.args.self.now c.run.new.self c.args.left c.args.env (tree_of c.args.head.now) (map tree_of c.args.terms.now) c.in_ok-value.value c.requires.machine c.in_ok-value.ensures.ok
+apply-loop-term-init t c = apply_begun c.args.self.now c.run.new.self c.args.left c.args.env (tree_of c.args.head.now)
+    (map tree_of c.args.terms.now) c.in_ok-value.value c.requires.machine c.in_ok-value.ensures.ok
 
 pub apply-returns-in_err-value-2-clause-err : goal.apply-returns-in_err-value-2-clause-err
 apply-returns-in_err-value-2-clause-err t c = passes_on _ c.from_residual-in_err-value-2.result c.from_residual-in_err-value-2.ensures.1
-    (apply_stuck c.args.self.now c.loop-term.self c.args.left c.args.env (tree_of c.term-item.result) _ _ c.loop-term.value _ c.in_err-value-2.field-0.0 c.requires.env
-    (mapped_at tree_of c.args.terms.now c.loop-term.term-index c.term-item.result (omega arith) c.term-item.is) c.loop-term.invariant c.in_err-value-2.ensures.err)
+    (apply_stuck c.args.self.now c.loop-term.self c.args.left c.args.env
+    (tree_of c.term-item.result) _ _ c.loop-term.value _ c.in_err-value-2.field-0.0 c.requires.env
+    (mapped_at tree_of c.args.terms.now c.loop-term.term-index c.term-item.result (omega arith) c.term-item.is) c.loop-term.invariant
+    c.in_err-value-2.ensures.err)
 
 pub apply-loop-term-preserved : goal.apply-loop-term-preserved
-apply-loop-term-preserved t c = apply_more c.args.self.now c.loop-term.self c.argument.new.self c.args.left c.args.env (tree_of c.term-item.result) _ _ c.loop-term.value c.in_ok-value-2.value _ c.requires.env
-    (mapped_at tree_of c.args.terms.now c.loop-term.term-index c.term-item.result (omega arith) c.term-item.is) c.loop-term.invariant c.in_ok-value-2.ensures.ok
+apply-loop-term-preserved t c = apply_more c.args.self.now c.loop-term.self c.argument.new.self c.args.left c.args.env
+    (tree_of c.term-item.result) _ _ c.loop-term.value c.in_ok-value-2.value _ c.requires.env
+    (mapped_at tree_of c.args.terms.now c.loop-term.term-index c.term-item.result (omega arith) c.term-item.is) c.loop-term.invariant
+    c.in_ok-value-2.ensures.ok
 
 pub argument-returns-clause-ok : goal.argument-returns-clause-ok
-argument-returns-clause-ok t c = on_ok c.call.result (λ v g. ends_goes (argument_run c.args.self.now c.run.new.self c.args.left c.args.env (tree_of c.args.term.now) c.args.callee c.in_ok-argument.argument c.requires.machine c.requires.made c.in_ok-argument.ensures.ok) g) c.call.ensures.ok
+argument-returns-clause-ok t c = on_ok c.call.result
+    (λ v g. ends_calls (argument_run c.args.self.now c.run.new.self c.args.left c.args.env
+    (tree_of c.args.term.now) c.args.callee c.in_ok-argument.argument c.requires.machine c.requires.made c.in_ok-argument.ensures.ok)
+    c.in_ok-argument.ensures.room g) c.call.ensures.ok
 
 pub argument-returns-clause-err : goal.argument-returns-clause-err
-argument-returns-clause-err t c = on_err c.call.result (λ f s. said f (argument_run c.args.self.now c.run.new.self c.args.left c.args.env (tree_of c.args.term.now) c.args.callee c.in_ok-argument.argument c.requires.machine c.requires.made c.in_ok-argument.ensures.ok) s) c.call.ensures.err
+argument-returns-clause-err t c = on_err c.call.result
+    (λ f s. said f (argument_run c.args.self.now c.run.new.self c.args.left c.args.env
+    (tree_of c.args.term.now) c.args.callee c.in_ok-argument.argument c.requires.machine c.requires.made c.in_ok-argument.ensures.ok) s) c.call.ensures.err
 
 pub at-returns-clause-ok : goal.at-returns-clause-ok
-at-returns-clause-ok t c = on_ok c.parts.result (λ v g. ends_goes (at_begun c.args.self.now c.run.new.self c.args.left c.args.env (tree_of c.args.base.now) c.args.inside.now c.in_ok-value.value c.place_of.result c.place_of.ensures c.requires.machine c.in_ok-value.ensures.ok) g) c.parts.ensures.ok
+at-returns-clause-ok t c = on_ok c.parts.result
+    (λ v g. ends_goes (at_begun c.args.self.now c.run.new.self c.args.left c.args.env
+    (tree_of c.args.base.now) c.args.inside.now c.in_ok-value.value c.place.result c.place.ensures c.requires.machine c.in_ok-value.ensures.ok) g)
+    c.parts.ensures.ok
 
 pub at-returns-clause-err : goal.at-returns-clause-err
-at-returns-clause-err t c = on_err c.parts.result (λ f s. said f (at_begun c.args.self.now c.run.new.self c.args.left c.args.env (tree_of c.args.base.now) c.args.inside.now c.in_ok-value.value c.place_of.result c.place_of.ensures c.requires.machine c.in_ok-value.ensures.ok) s) c.parts.ensures.err
+at-returns-clause-err t c = on_err c.parts.result
+    (λ f s. said f (at_begun c.args.self.now c.run.new.self c.args.left c.args.env
+    (tree_of c.args.base.now) c.args.inside.now c.in_ok-value.value c.place.result c.place.ensures c.requires.machine c.in_ok-value.ensures.ok) s)
+    c.parts.ensures.err
 
 pub block-returns-in_err-inner-clause-err : goal.block-returns-in_err-inner-clause-err
 block-returns-in_err-inner-clause-err t c = passes_on _ c.from_residual.result c.from_residual.ensures.1
-    (block_stuck c.args.self.now c.loop-item.self c.args.left c.loop-item.inner (item_tree_of c.item-item.result) _ _ (tree_of c.args.last.now) _ c.in_err-inner.field-0.0
-    (mapped_at item_tree_of c.args.items.now c.loop-item.item-index c.item-item.result (omega arith) c.item-item.is) c.loop-item.invariant c.in_err-inner.ensures.err)
+    (block_stuck c.args.self.now c.loop-item.self c.args.left c.loop-item.inner (item_tree_of c.item-item.result) _ _
+    (tree_of c.args.last.now) _ c.in_err-inner.field-0.0
+    (mapped_at item_tree_of c.args.items.now c.loop-item.item-index c.item-item.result (omega arith) c.item-item.is) c.loop-item.invariant
+    c.in_err-inner.ensures.err)
 
 pub block-loop-item-preserved : goal.block-loop-item-preserved
-block-loop-item-preserved t c = block_more c.args.self.now c.loop-item.self c.item.new.self c.args.left c.loop-item.inner c.in_ok-inner.inner (item_tree_of c.item-item.result) _ _ (tree_of c.args.last.now) _
-    (mapped_at item_tree_of c.args.items.now c.loop-item.item-index c.item-item.result (omega arith) c.item-item.is) c.loop-item.invariant c.in_ok-inner.ensures.ok
+block-loop-item-preserved t c = block_more c.args.self.now c.loop-item.self c.item.new.self c.args.left c.loop-item.inner c.in_ok-inner.inner
+    (item_tree_of c.item-item.result) _ _ (tree_of c.args.last.now) _
+    (mapped_at item_tree_of c.args.items.now c.loop-item.item-index c.item-item.result (omega arith) c.item-item.is) c.loop-item.invariant
+    c.in_ok-inner.ensures.ok
 
 pub call-returns-in_err-inner-clause-err : goal.call-returns-in_err-inner-clause-err
 call-returns-in_err-inner-clause-err t c = passes_on _ c.from_residual.result c.from_residual.ensures.1
-    (subst (λ (w : Value). Says c.in_err-inner.field-0.0 (apply_to no_bits (run_of no_bits c.args.left) (place_of (tree_of c.args.term.now)) (value_in (envs_of c.args.self.now) w) (value_in (envs_of c.args.self.now) c.args.argument) (state_of c.args.self.now))) (sym c.in-Fun.is)
-    (call_stuck c.args.left (place_of (tree_of c.args.term.now)) c.in-Fun.of.now.names.items c.in-Fun.taken (tree_of c.in-Fun.of.now.body) (env_in (envs_of c.args.self.now) c.in-Fun.env) (value_in (envs_of c.args.self.now) c.args.argument) (state_of c.args.self.now) c.in_err-inner.field-0.0 (omega (arith, c.in-Fun.of.now.names.ok.0)) c.in_err-inner.ensures.err))
+    (subst (λ (w : Value). Says c.in_err-inner.field-0.0
+    (apply_to no_bits (run_of no_bits c.args.left) (place_of (tree_of c.args.term.now)) (value_in (envs_of c.args.self.now) w)
+    (value_in (envs_of c.args.self.now) c.args.argument) (state_of c.args.self.now))) (sym c.in-Fun.is)
+    (call_stuck c.args.left (place_of (tree_of c.args.term.now)) c.in-Fun.of.now.names.items c.in-Fun.taken (tree_of c.in-Fun.of.now.body)
+    (env_in (envs_of c.args.self.now) c.in-Fun.env) (value_in (envs_of c.args.self.now) c.args.argument)
+    (state_of c.args.self.now) c.in_err-inner.field-0.0 (omega (arith, c.in-Fun.of.now.names.ok.0)) c.in_err-inner.ensures.err))
 
 pub call-returns-then-len-taken-2-clause-ok : goal.call-returns-then-len-taken-2-clause-ok
-call-returns-then-len-taken-2-clause-ok t c = on_ok c.run.result (λ v g. subst (λ (w : Value). Goes c.args.self.now c.run.new.self (apply_to no_bits (run_of no_bits c.args.left) (place_of (tree_of c.args.term.now)) (value_in (envs_of c.args.self.now) w) (value_in (envs_of c.args.self.now) c.args.argument) (state_of c.args.self.now)) v) (sym c.in-Fun.is) (ends_goes (call_last c.args.self.now c.bind.new.self c.args.left c.in_ok-inner.inner (place_of (tree_of c.args.term.now)) c.in-Fun.of.now.names.items c.in-Fun.taken (tree_of c.in-Fun.of.now.body) (env_in (envs_of c.args.self.now) c.in-Fun.env) (value_in (envs_of c.args.self.now) c.args.argument) c.requires.machine (omega (arith, c.in-Fun.of.now.names.ok.0)) c.in_ok-inner.ensures.ok) g)) c.run.ensures.ok
+call-returns-then-len-taken-2-clause-ok t c = on_ok c.run.result
+    (λ v g. subst (λ (w : Value). Calls c.args.self.now c.run.new.self
+    (apply_to no_bits (run_of no_bits c.args.left) (place_of (tree_of c.args.term.now)) (value_in (envs_of c.args.self.now) w)
+    (value_in (envs_of c.args.self.now) c.args.argument) (state_of c.args.self.now)) v) (sym c.in-Fun.is)
+    (call_ends (call_last c.args.self.now c.bind.new.self c.args.left c.in_ok-inner.inner
+    (place_of (tree_of c.args.term.now)) c.in-Fun.of.now.names.items c.in-Fun.taken (tree_of c.in-Fun.of.now.body)
+    (env_in (envs_of c.args.self.now) c.in-Fun.env) (value_in (envs_of c.args.self.now) c.args.argument)
+    (omega (arith, c.in-Fun.of.now.names.ok.0)) c.in_ok-inner.ensures.ok) g)) c.run.ensures.ok
 
 pub call-returns-then-len-taken-2-clause-err : goal.call-returns-then-len-taken-2-clause-err
-call-returns-then-len-taken-2-clause-err t c = on_err c.run.result (λ f s. subst (λ (w : Value). Says f (apply_to no_bits (run_of no_bits c.args.left) (place_of (tree_of c.args.term.now)) (value_in (envs_of c.args.self.now) w) (value_in (envs_of c.args.self.now) c.args.argument) (state_of c.args.self.now))) (sym c.in-Fun.is) (said f (call_last c.args.self.now c.bind.new.self c.args.left c.in_ok-inner.inner (place_of (tree_of c.args.term.now)) c.in-Fun.of.now.names.items c.in-Fun.taken (tree_of c.in-Fun.of.now.body) (env_in (envs_of c.args.self.now) c.in-Fun.env) (value_in (envs_of c.args.self.now) c.args.argument) c.requires.machine (omega (arith, c.in-Fun.of.now.names.ok.0)) c.in_ok-inner.ensures.ok) s)) c.run.ensures.err
+call-returns-then-len-taken-2-clause-err t c = on_err c.run.result
+    (λ f s. subst (λ (w : Value). Says f (apply_to no_bits (run_of no_bits c.args.left) (place_of (tree_of c.args.term.now))
+    (value_in (envs_of c.args.self.now) w) (value_in (envs_of c.args.self.now) c.args.argument) (state_of c.args.self.now))) (sym c.in-Fun.is)
+    (call_said f (call_last c.args.self.now c.bind.new.self c.args.left c.in_ok-inner.inner
+    (place_of (tree_of c.args.term.now)) c.in-Fun.of.now.names.items c.in-Fun.taken (tree_of c.in-Fun.of.now.body)
+    (env_in (envs_of c.args.self.now) c.in-Fun.env) (value_in (envs_of c.args.self.now) c.args.argument)
+    (omega (arith, c.in-Fun.of.now.names.ok.0)) c.in_ok-inner.ensures.ok) s)) c.run.ensures.err
 
-pub call-returns-in-Some-clause-ok : goal.call-returns-in-Some-clause-ok
-call-returns-in-Some-clause-ok t c =
-    let e : c.in-Some.taken ≡ c.in-Fun.taken + 1 = first_of (search rules, omega (arith, c.in-Some.ensures)) in
-    record {
-      does = subst (λ (n : ℕ). Does c.args.self.now c.bind.new.self (apply_to no_bits (run_of no_bits c.args.left) (place_of (tree_of c.args.term.now)) (value_in (envs_of c.args.self.now) c.args.callee) (value_in (envs_of c.args.self.now) c.args.argument) (state_of c.args.self.now))
-          (closure (drop n c.in-Fun.of.now.names.items) (tree_of c.in-Fun.of.now.body) (env_in (envs_of c.bind.new.self) c.in_ok-inner.inner))) (sym e)
-          (subst (λ (w : Value). Does c.args.self.now c.bind.new.self (apply_to no_bits (run_of no_bits c.args.left) (place_of (tree_of c.args.term.now)) (value_in (envs_of c.args.self.now) w) (value_in (envs_of c.args.self.now) c.args.argument) (state_of c.args.self.now)) (closure (drop (c.in-Fun.taken + 1) c.in-Fun.of.now.names.items) (tree_of c.in-Fun.of.now.body) (env_in (envs_of c.bind.new.self) c.in_ok-inner.inner))) (sym c.in-Fun.is)
-          (call_next c.args.self.now c.bind.new.self c.args.left c.in_ok-inner.inner (place_of (tree_of c.args.term.now)) c.in-Fun.of.now.names.items c.in-Fun.taken (tree_of c.in-Fun.of.now.body) (env_in (envs_of c.args.self.now) c.in-Fun.env) (value_in (envs_of c.args.self.now) c.args.argument) c.requires.machine (omega (arith, c.in-Fun.of.now.names.ok.0)) c.in_ok-inner.ensures.ok));
-      made = record { made = c.in_ok-inner.ensures.ok.made };
-    }
+pub call-returns-clause-ok : goal.call-returns-clause-ok
+call-returns-clause-ok t c = record {
+  goes = subst (λ (w : Value). (apply_to no_bits (run_of no_bits c.args.left) (place_of (tree_of c.args.term.now)) (value_in (envs_of c.args.self.now) w)
+      (value_in (envs_of c.args.self.now) c.args.argument) (state_of c.args.self.now)) ≡ went
+      (closure (drop (c.in-Fun.taken + 1) c.in-Fun.of.now.names.items) (tree_of c.in-Fun.of.now.body) (env_in (envs_of c.bind.new.self) c.in_ok-inner.inner))
+      (state_of c.bind.new.self)) (sym c.in-Fun.is)
+      (call_next c.args.self.now c.bind.new.self c.args.left c.in_ok-inner.inner
+      (place_of (tree_of c.args.term.now)) c.in-Fun.of.now.names.items c.in-Fun.taken (tree_of c.in-Fun.of.now.body)
+      (env_in (envs_of c.args.self.now) c.in-Fun.env) (value_in (envs_of c.args.self.now) c.args.argument)
+      (omega (arith, c.in-Fun.of.now.names.ok.0)) c.in_ok-inner.ensures.ok);
+  grows = c.in_ok-inner.ensures.ok.grows;
+  kept = c.in_ok-inner.ensures.ok.kept;
+  worked = c.in_ok-inner.ensures.ok.worked;
+  made = record { made = c.in_ok-inner.ensures.ok.made };
+}
 
 pub item-returns-in_ok-bound-in-Let-clause-ok : goal.item-returns-in_ok-bound-in-Let-clause-ok
-item-returns-in_ok-bound-in-Let-clause-ok t c = on_ok c.bind.result (λ b g. subst (λ (i : ItemTree). Binds c.args.self.now c.bind.new.self (item_step (run_of no_bits c.args.left) (env_in (envs_of c.args.self.now) c.args.env) i (state_of c.args.self.now)) b) (sym (ap item_tree_of c.in-Let.is ∙ item_tree_of-Let c.in-Let.name c.in-Let.value))
-    (item_bound c.args.self.now c.run.new.self c.bind.new.self c.args.left c.args.env b c.in-Let.name (tree_of c.in-Let.value) c.in_ok-bound-in-Let.bound c.requires.machine c.requires.env c.in_ok-bound-in-Let.ensures.ok g)) c.bind.ensures.ok
+item-returns-in_ok-bound-in-Let-clause-ok t c = on_ok c.bind.result
+    (λ b g. subst (λ (i : ItemTree). Binds c.args.self.now c.bind.new.self
+    (item_step (run_of no_bits c.args.left) (env_in (envs_of c.args.self.now) c.args.env) i (state_of c.args.self.now)) b)
+    (sym (ap item_tree_of c.in-Let.is ∙ item_tree_of-Let c.in-Let.name c.in-Let.value))
+    (item_bound c.args.self.now c.run.new.self c.bind.new.self c.args.left c.args.env b c.in-Let.name
+    (tree_of c.in-Let.value) c.in_ok-bound-in-Let.bound c.requires.machine c.requires.env c.in_ok-bound-in-Let.ensures.ok
+    c.in_ok-bound-in-Let.ensures.room g)) c.bind.ensures.ok
 
 pub item-returns-in_ok-run-in-Do-clause-ok : goal.item-returns-in_ok-run-in-Do-clause-ok
-item-returns-in_ok-run-in-Do-clause-ok t c = subst (λ (i : ItemTree). Binds c.args.self.now c.run-in-Do.new.self (item_step (run_of no_bits c.args.left) (env_in (envs_of c.args.self.now) c.args.env) i (state_of c.args.self.now)) c.args.env) (sym (ap item_tree_of c.in-Do.is ∙ item_tree_of-Do c.in-Do.term))
-    (item_run c.args.self.now c.run-in-Do.new.self c.args.left c.args.env (tree_of c.in-Do.term) c.in_ok-run-in-Do.field-0 c.requires.machine c.requires.env c.in_ok-run-in-Do.ensures.ok)
+item-returns-in_ok-run-in-Do-clause-ok t c = subst
+    (λ (i : ItemTree). Binds c.args.self.now c.run-in-Do.new.self
+    (item_step (run_of no_bits c.args.left) (env_in (envs_of c.args.self.now) c.args.env) i (state_of c.args.self.now)) c.args.env)
+    (sym (ap item_tree_of c.in-Do.is ∙ item_tree_of-Do c.in-Do.term))
+    (item_run c.args.self.now c.run-in-Do.new.self c.args.left c.args.env
+    (tree_of c.in-Do.term) c.in_ok-run-in-Do.field-0 c.requires.machine c.requires.env c.in_ok-run-in-Do.ensures.ok)
 
 pub term-returns-in-Block-clause-ok : goal.term-returns-in-Block-clause-ok
-term-returns-in-Block-clause-ok t c = on_ok c.block.result (λ v g. subst (λ (o : Outcome (Unit {0}) runs.Value). Goes c.args.self.now c.block.new.self o v) (sym (block_term c.args.left (env_in (envs_of c.args.self.now) c.args.env) (map item_tree_of c.in-Block.items.items) (map item_tree_of c.deref-in-Block.result.now) (tree_of c.in-Block.last.value) (tree_of c.deref-in-Block-2.result.now) c.in-Block.field-2 (state_of c.args.self.now) (tree_of c.args.term.now)
-    (ap tree_of c.in-Block.is ∙ tree_of-Block c.in-Block.items c.in-Block.last c.in-Block.field-2) (ap (map item_tree_of) c.deref-in-Block.ensures.value) (ap tree_of c.deref-in-Block-2.ensures))) g) c.block.ensures.ok
+term-returns-in-Block-clause-ok t c = on_ok c.block.result
+    (λ v g. subst (λ (o : Outcome (Unit {0}) runs.Value). Goes c.args.self.now c.block.new.self o v)
+    (sym (block_term c.args.left (env_in (envs_of c.args.self.now) c.args.env) (map item_tree_of c.in-Block.items.items)
+    (map item_tree_of c.deref-in-Block.result.now) (tree_of c.in-Block.last.value) (tree_of c.deref-in-Block-2.result.now) c.in-Block.field-2
+    (state_of c.args.self.now) (tree_of c.args.term.now)
+    (ap tree_of c.in-Block.is ∙ tree_of-Block c.in-Block.items c.in-Block.last c.in-Block.field-2) (ap (map item_tree_of) c.deref-in-Block.ensures.value)
+    (ap tree_of c.deref-in-Block-2.ensures))) g) c.block.ensures.ok
 
 pub term-returns-in-Block-clause-err : goal.term-returns-in-Block-clause-err
-term-returns-in-Block-clause-err t c = on_err c.block.result (λ f g. subst (λ (o : Outcome (Unit {0}) runs.Value). Says f o) (sym (block_term c.args.left (env_in (envs_of c.args.self.now) c.args.env) (map item_tree_of c.in-Block.items.items) (map item_tree_of c.deref-in-Block.result.now) (tree_of c.in-Block.last.value) (tree_of c.deref-in-Block-2.result.now) c.in-Block.field-2 (state_of c.args.self.now) (tree_of c.args.term.now)
-    (ap tree_of c.in-Block.is ∙ tree_of-Block c.in-Block.items c.in-Block.last c.in-Block.field-2) (ap (map item_tree_of) c.deref-in-Block.ensures.value) (ap tree_of c.deref-in-Block-2.ensures))) g) c.block.ensures.err
+term-returns-in-Block-clause-err t c = on_err c.block.result
+    (λ f g. subst (λ (o : Outcome (Unit {0}) runs.Value). Says f o)
+    (sym (block_term c.args.left (env_in (envs_of c.args.self.now) c.args.env) (map item_tree_of c.in-Block.items.items)
+    (map item_tree_of c.deref-in-Block.result.now) (tree_of c.in-Block.last.value) (tree_of c.deref-in-Block-2.result.now) c.in-Block.field-2
+    (state_of c.args.self.now) (tree_of c.args.term.now)
+    (ap tree_of c.in-Block.is ∙ tree_of-Block c.in-Block.items c.in-Block.last c.in-Block.field-2) (ap (map item_tree_of) c.deref-in-Block.ensures.value)
+    (ap tree_of c.deref-in-Block-2.ensures))) g) c.block.ensures.err

@@ -3,11 +3,11 @@ use Rattle.revs_terms.specs.Running.{run_of, term_of, bits_of, block_of}
 use Rattle.revs_terms.specs.Runs.{no_bits}
 use Rattle.revs_terms.specs.Terms.{place_of}
 use Rattle.revs_terms.specs.Trees.{tree_of, item_tree_of, trees, apply}
-use Rattle.inliner.specs.Machines.{envs_of, env_in, state_of}
-use Rattle.inliner.specs.Steps.{chain_tree}
-use Rattle.inliner.proofs.Through.{Through}
-use Rattle.inliner.proofs.Blocks.{InBlock, InApply}
-use Rattle.inliner.proofs.Forms.{rest_of_bits, rest_of_chain}
+use Rattle.inliner.specs.inside.Machines.{envs_of, env_in, state_of}
+use Rattle.inliner.proofs.ProgressLemmas.{Through}
+use Rattle.inliner.proofs.CallLemmas.{InBlock, InApply}
+use Rattle.inliner.proofs.ChainLemmas.{rest_of_bits, rest_of_chain}
+use Rattle.inliner.specs.inside.Steps.{chain_tree}
 use Rattle.inliner.proofs.machine.Machine.+run.Given as goal
 
 abbrev pub decreases-run : goal.decreases-run
@@ -44,8 +44,10 @@ invariant-bits-loop-term l =
 
 abbrev pub invariant-chain-loop-term : goal.invariant-chain-loop-term
 invariant-chain-loop-term l =
-    Through l.fn.self l.self (term_of no_bits (run_of no_bits l.left) (env_in (envs_of l.fn.self) l.env) (chain_tree l.op (map tree_of l.terms)) (state_of l.fn.self))
-    (rest_of_chain l.left l.op (env_in (envs_of l.fn.self) l.env) (place_of (tree_of l.first)) l.so_far (drop l.term-index (map tree_of l.rest)) (state_of l.self))
+    Through l.fn.self l.self (term_of no_bits (run_of no_bits l.left) (env_in (envs_of l.fn.self) l.env) (chain_tree l.op (map tree_of l.terms))
+    (state_of l.fn.self))
+    (rest_of_chain l.left l.op (env_in (envs_of l.fn.self) l.env) (place_of (tree_of l.first)) l.so_far (drop l.term-index (map tree_of l.rest))
+    (state_of l.self))
 
 abbrev pub decreases-block : goal.decreases-block
 decreases-block l = l.left * 8 + 6
@@ -79,4 +81,5 @@ invariant-block-loop-item l =
 abbrev pub invariant-apply-loop-term : goal.invariant-apply-loop-term
 invariant-apply-loop-term l =
     InApply l.fn.self l.self l.left (env_in (envs_of l.fn.self) l.env) (drop l.term-index (map tree_of l.terms)) l.value
-    (term_of no_bits (run_of no_bits l.left) (env_in (envs_of l.fn.self) l.env) (apply (tree_of l.fn.head) (trees (map tree_of l.terms))) (state_of l.fn.self))
+    (term_of no_bits (run_of no_bits l.left) (env_in (envs_of l.fn.self) l.env) (apply (tree_of l.fn.head) (trees (map tree_of l.terms)))
+    (state_of l.fn.self))

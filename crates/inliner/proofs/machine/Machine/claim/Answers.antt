@@ -1,9 +1,11 @@
 use Rattle.std.proofs.Common.{refl, rules, arith, length, ap}
-use Rattle.inliner.proofs.Effects.{asserted, cleaned}
+use Rattle.inliner.proofs.WriteLemmas.{asserted, cleaned}
 use Rattle.inliner.proofs.machine.Machine.claim.Goals as goal
 
 pub returns-then-eq-clause-ok : goal.returns-then-eq-clause-ok
-returns-then-eq-clause-ok c = cleaned c.args.self.now _ c.args.kind c.args.location _ c.args.at c.in_ok-of.of (search rules) refl refl c.in_ok-claim.ensures.ok refl c.in_ok-of.ensures.ok (omega (arith, ap length c.claims.ensures.claims)) c.requires
+returns-then-eq-clause-ok c = cleaned c.args.self.now _ c.args.kind c.args.location _ c.args.at c.in_ok-of.of
+    (search rules) refl refl c.in_ok-claim.ensures.ok refl c.in_ok-of.ensures.ok (omega (arith, ap length c.claims.ensures.claims)) c.requires
 
 pub returns-clause-ok : goal.returns-clause-ok
-returns-clause-ok c = asserted c.args.self.now _ c.args.kind c.args.location _ c.args.at c.in_ok-of.of (search rules) refl refl c.in_ok-claim.ensures.ok refl c.in_ok-of.ensures.ok (omega (arith, ap length c.claims.ensures.claims)) c.requires
+returns-clause-ok c = asserted c.args.self.now _ c.args.kind c.args.location _ c.args.at c.in_ok-of.of
+    (search rules) refl refl c.in_ok-claim.ensures.ok refl c.in_ok-of.ensures.ok (omega (arith, ap length c.claims.ensures.claims)) c.requires

@@ -5,26 +5,25 @@ use Rattle.std.proofs.lemmas.Result.{err_from_is_err_and}
 use Rattle.revc_base.specs.declared.place.Place.{Place}
 use Rattle.revs_terms.specs.declared.term.Name.{Name}
 use Rattle.revs_terms.specs.declared.term.Part.{Part}
-use Rattle.revs_terms.specs.declared.term.Part.TheVariants as part
 use Rattle.revs_terms.specs.Terms.{place_of}
 use Rattle.revs_terms.specs.Trees.{Tree, trees, list_of, ItemTree, item_trees, bind, run, block, parts, apply, append}
 use Rattle.revs_terms.specs.Running as runs
-use Rattle.revs_terms.specs.Running.{Environment, bound, bound_length, State, Outcome, stuck, went, after, run_of, term_of, block_of, part_of, parts_of, apply_all, apply_to, worked}
+use Rattle.revs_terms.specs.Running.{Environment, bound, bound_length, State, Outcome, stuck, went, after, run_of, term_of, block_of, part_of, parts_of, apply_all, apply_to, worked, appended}
 use Rattle.revs_terms.specs.Runs.{no_bits}
 use Rattle.array_shapes.specs.declared.value.Value.{Value}
 use Rattle.inliner.specs.declared.fault.RunFault.{RunFault}
 use Rattle.inliner.specs.declared.machine.Machine.{Machine}
-use Rattle.inliner.specs.Faults.{Says}
-use Rattle.inliner.specs.Machines.{env_in, value_in, envs_of, state_of, IsMachine, IsValue, Does, Goes, Binds}
-use Rattle.inliner.specs.Steps.{Going, part_step, parts_step, append_step, bind_step, item_step, argument_step}
-use Rattle.inliner.proofs.After.{said_first, said_same}
-use Rattle.inliner.proofs.Growth.{grown_env, grown_value, grown_length}
-use Rattle.inliner.proofs.Through.{Through, begun, step, same_rest, ends, ends_here, said, goes_in, says_in, regroup, same_next, list_of-trees, items_of-item_trees}
+use Rattle.inliner.specs.inside.Machines.{env_in, value_in, envs_of, state_of, IsMachine, IsValue, Goes, Binds, AreWorkedFor, LeavesRoom, Grows, BindsOne, Calls}
+use Rattle.inliner.proofs.FaultLemmas.{said_first, said_same}
+use Rattle.inliner.proofs.EnvironmentLemmas.{grown_env, grown_length, grown_value, grows_trans}
+use Rattle.inliner.proofs.ProgressLemmas.{Through, after_went, begun, ends_here, goes_in, items_of-item_trees, list_of-trees, regroup, said, same_next, same_rest, says_in, step, step_bound}
+use Rattle.inliner.specs.inside.Steps.{Going, Says, argument_step, bind_step, item_step}
 use Rattle.revs_terms.specs.declared.cause.Cause.TheVariants as causes
 
 -- ---- loops and exits
 
-pub mapped_at : {X Y : Type 0} (f : X → Y) (xs : List X) (i : ℕ) (x : X) → i < length xs → x ≡ get_or xs i x → drop i (map f xs) ≡ f x ∷ drop (i + 1) (map f xs)
+pub mapped_at : {X Y : Type 0} (f : X → Y) (xs : List X) (i : ℕ) (x : X) → i < length xs → x ≡ get_or xs i x
+    → drop i (map f xs) ≡ f x ∷ drop (i + 1) (map f xs)
 mapped_at f [] i x h e = absurd (omega arith)
 mapped_at f (y ∷ ys) zero x h e = ap (λ z. f z ∷ map f ys) (sym e)
 mapped_at f (y ∷ ys) (suc i) x h e =
@@ -51,7 +50,8 @@ value_behind old mid left env t v next is g = step next (begun old _ _ refl is) 
 -- ---- blocks
 
 block_next : (left : ℕ) (e : Environment) (i : ItemTree) (is : List ItemTree) (last : Tree) (s : State (Unit {0}))
-    → block_of no_bits (run_of no_bits left) e (i ∷ is) last s ≡ after (item_step (run_of no_bits left) e i s) (λ f s. block_of no_bits (run_of no_bits left) f is last s)
+    → block_of no_bits (run_of no_bits left) e (i ∷ is) last s ≡ after (item_step (run_of no_bits left) e i s)
+    (λ f s. block_of no_bits (run_of no_bits left) f is last s)
 block_next left e (bind name t) is last s =
     let k : Environment → State (Unit {0}) → Going runs.Value = λ f s. block_of no_bits (run_of no_bits left) f is last s in
     sym (regroup (run_of no_bits left e t s) (λ value s. bind_step value e (place_of t) s) k
@@ -63,21 +63,25 @@ pub record InBlock (old now : Machine) (left inner : ℕ) (is : List ItemTree) (
   pub through : Through old now whole (block_of no_bits (run_of no_bits left) (env_in (envs_of now) inner) is last (state_of now))
   pub made : inner ≤ length now.bindings.items
 
-pub block_more : (old now later : Machine) (left inner behind : ℕ) (i : ItemTree) (is js : List ItemTree) (last : Tree) (whole : Going runs.Value) → js ≡ i ∷ is
+pub block_more : (old now later : Machine) (left inner behind : ℕ) (i : ItemTree) (is js : List ItemTree) (last : Tree) (whole : Going runs.Value)
+    → js ≡ i ∷ is
     → InBlock old now left inner js last whole
     → Binds now later (item_step (run_of no_bits left) (env_in (envs_of now) inner) i (state_of now)) behind
     → InBlock old later left behind is last whole
 block_more old now later left inner behind i is js last whole cut w b = record {
   through = step (λ f s. block_of no_bits (run_of no_bits left) f is last s)
-      (same_rest _ (ap (λ (x : List ItemTree). block_of no_bits (run_of no_bits left) (env_in (envs_of now) inner) x last (state_of now)) cut ∙ block_next left (env_in (envs_of now) inner) i is last (state_of now)) w.through) b.does;
+      (same_rest _ (ap (λ (x : List ItemTree). block_of no_bits (run_of no_bits left) (env_in (envs_of now) inner) x last (state_of now)) cut ∙ block_next
+      left (env_in (envs_of now) inner) i is last (state_of now)) w.through) b.does;
   made = b.made;
 }
 
-pub block_stuck : (old now : Machine) (left inner : ℕ) (i : ItemTree) (is js : List ItemTree) (last : Tree) (whole : Going runs.Value) (fault : RunFault) → js ≡ i ∷ is
+pub block_stuck : (old now : Machine) (left inner : ℕ) (i : ItemTree) (is js : List ItemTree) (last : Tree) (whole : Going runs.Value) (fault : RunFault)
+    → js ≡ i ∷ is
     → InBlock old now left inner js last whole
     → Says fault (item_step (run_of no_bits left) (env_in (envs_of now) inner) i (state_of now)) → Says fault whole
 block_stuck old now left inner i is js last whole fault cut w s =
-    said fault (same_rest _ (ap (λ (x : List ItemTree). block_of no_bits (run_of no_bits left) (env_in (envs_of now) inner) x last (state_of now)) cut ∙ block_next left (env_in (envs_of now) inner) i is last (state_of now)) w.through)
+    said fault (same_rest _ (ap (λ (x : List ItemTree). block_of no_bits (run_of no_bits left) (env_in (envs_of now) inner) x last (state_of now)) cut ∙
+    block_next left (env_in (envs_of now) inner) i is last (state_of now)) w.through)
     (said_first fault _ (λ f s. block_of no_bits (run_of no_bits left) f is last s) s)
 
 pub block_last : (old now : Machine) (left inner : ℕ) (js : List ItemTree) (last : Tree) (whole : Going runs.Value) → js ≡ []
@@ -92,48 +96,46 @@ block_is left e is last at s = ap (λ (x : List ItemTree). block_of no_bits (run
 
 -- ---- parts
 
-part_is : (left : ℕ) (whole : Place) (p : Part) (v : runs.Value) (s : State (Unit {0})) → part_of no_bits (run_of no_bits left) whole p v s ≡ part_step whole p v s
-part_is left whole (part.Index i at) v s = refl
-part_is left whole (part.Slice i j at) v s = refl
-
-pub parts_are : (left : ℕ) (whole : Place) (ps : List Part) (v : runs.Value) (s : State (Unit {0})) → parts_of no_bits (run_of no_bits left) whole ps v s ≡ parts_step whole ps v s
-parts_are left whole [] v s = refl
-parts_are left whole (p ∷ ps) v s =
-    ap (λ (x : Going runs.Value). after x (parts_of no_bits (run_of no_bits left) whole ps)) (part_is left whole p v s)
-    ∙ same_next (part_step whole p v s) _ _ (λ w s. parts_are left whole ps w s)
-
 pub at_begun : (old mid : Machine) (left env : ℕ) (t : Tree) (ps : List Part) (v : Value) (at : Place) → at ≡ place_of t → IsMachine old
     → Goes old mid (run_of no_bits left (env_in (envs_of old) env) t (state_of old)) v
-    → Through old mid (term_of no_bits (run_of no_bits left) (env_in (envs_of old) env) (parts t ps) (state_of old)) (parts_step at ps (value_in (envs_of mid) v) (state_of mid))
+    → Through old mid (term_of no_bits (run_of no_bits left) (env_in (envs_of old) env) (parts t ps) (state_of old))
+    (parts_of no_bits at ps (value_in (envs_of mid) v) (state_of mid))
 at_begun old mid left env t ps v at e is g =
-    same_rest _ (ap (λ (x : Place). parts_step x ps (value_in (envs_of mid) v) (state_of mid)) (sym e)) (same_rest _ (parts_are left (place_of t) ps (value_in (envs_of mid) v) (state_of mid)) (value_behind old mid left env t v (parts_of no_bits (run_of no_bits left) (place_of t) ps) is g))
+    same_rest _ (ap (λ (x : Place). parts_of no_bits x ps (value_in (envs_of mid) v) (state_of mid)) (sym e))
+    (value_behind old mid left env t v (parts_of no_bits (place_of t) ps) is g)
 
 -- ---- append
 
 pub append_first : (old mid : Machine) (left env : ℕ) (a b : Tree) (at : Place) (x : Value) → IsMachine old
     → Goes old mid (run_of no_bits left (env_in (envs_of old) env) a (state_of old)) x
     → Through old mid (term_of no_bits (run_of no_bits left) (env_in (envs_of old) env) (append a b at) (state_of old))
-    (after (run_of no_bits left (env_in (envs_of old) env) b (state_of mid)) (λ y s. append_step (place_of a) (place_of b) at (value_in (envs_of mid) x) y s))
+    (after (run_of no_bits left (env_in (envs_of old) env) b (state_of mid))
+    (λ y s. appended no_bits (place_of a) (place_of b) at (value_in (envs_of mid) x) y s))
 append_first old mid left env a b at x is g =
-    value_behind old mid left env a x (λ x s. after (run_of no_bits left (env_in (envs_of old) env) b s) (λ y s. append_step (place_of a) (place_of b) at x y s)) is g
+    value_behind old mid left env a x (λ x s. after (run_of no_bits left (env_in (envs_of old) env) b s)
+    (λ y s. appended no_bits (place_of a) (place_of b) at x y s)) is g
 
 pub append_second : (old mid later : Machine) (left env : ℕ) (a b : Tree) (at : Place) (x y : Value) → IsMachine old → env ≤ length old.bindings.items
     → Goes old mid (run_of no_bits left (env_in (envs_of old) env) a (state_of old)) x
     → Goes mid later (run_of no_bits left (env_in (envs_of mid) env) b (state_of mid)) y
     → Through old later (term_of no_bits (run_of no_bits left) (env_in (envs_of old) env) (append a b at) (state_of old))
-    (append_step (place_of a) (place_of b) at (value_in (envs_of later) x) (value_in (envs_of later) y) (state_of later))
+    (appended no_bits (place_of a) (place_of b) at (value_in (envs_of later) x) (value_in (envs_of later) y) (state_of later))
 append_second old mid later left env a b at x y is h g k =
-    let k2 : Goes mid later (run_of no_bits left (env_in (envs_of old) env) b (state_of mid)) y = goes_in (λ e. run_of no_bits left e b (state_of mid)) old mid later env y g.does.grows h k in
-    same_rest _ (ap (λ (v : runs.Value). append_step (place_of a) (place_of b) at v (value_in (envs_of later) y) (state_of later)) (sym (grown_value mid later x k.does.grows g.made)))
-    (step (λ y s. append_step (place_of a) (place_of b) at (value_in (envs_of mid) x) y s) (append_first old mid left env a b at x is g) k2.does)
+    let k2 : Goes mid later (run_of no_bits left (env_in (envs_of old) env) b (state_of mid)) y = goes_in
+    (λ e. run_of no_bits left e b (state_of mid)) old mid later env y g.does.grows h k in
+    same_rest _ (ap (λ (v : runs.Value). appended no_bits (place_of a) (place_of b) at v (value_in (envs_of later) y) (state_of later))
+    (sym (grown_value mid later x k.does.grows g.made)))
+    (step (λ y s. appended no_bits (place_of a) (place_of b) at (value_in (envs_of mid) x) y s) (append_first old mid left env a b at x is g) k2.does)
 
-pub append_stuck : (old mid : Machine) (left env : ℕ) (a b : Tree) (at : Place) (x : Value) (fault : RunFault) → IsMachine old → env ≤ length old.bindings.items
+pub append_stuck : (old mid : Machine) (left env : ℕ) (a b : Tree) (at : Place) (x : Value) (fault : RunFault) → IsMachine old
+    → env ≤ length old.bindings.items
     → Goes old mid (run_of no_bits left (env_in (envs_of old) env) a (state_of old)) x
     → Says fault (run_of no_bits left (env_in (envs_of mid) env) b (state_of mid))
     → Says fault (term_of no_bits (run_of no_bits left) (env_in (envs_of old) env) (append a b at) (state_of old))
 append_stuck old mid left env a b at x fault is h g s =
     said fault (append_first old mid left env a b at x is g)
-    (said_first fault (run_of no_bits left (env_in (envs_of old) env) b (state_of mid)) (λ y s. append_step (place_of a) (place_of b) at (value_in (envs_of mid) x) y s)
+    (said_first fault (run_of no_bits left (env_in (envs_of old) env) b (state_of mid))
+    (λ y s. appended no_bits (place_of a) (place_of b) at (value_in (envs_of mid) x) y s)
     (says_in (λ e. run_of no_bits left e b (state_of mid)) old mid env fault g.does.grows h s))
 
 -- ---- functions
@@ -144,38 +146,49 @@ pub record InApply (old now : Machine) (left : ℕ) (e : Environment) (ts : List
 
 pub apply_begun : (old mid : Machine) (left env : ℕ) (t : Tree) (ts : List Tree) (v : Value) → IsMachine old
     → Goes old mid (run_of no_bits left (env_in (envs_of old) env) t (state_of old)) v
-    → InApply old mid left (env_in (envs_of old) env) ts v (term_of no_bits (run_of no_bits left) (env_in (envs_of old) env) (apply t (trees ts)) (state_of old))
+    → InApply old mid left (env_in (envs_of old) env) ts v
+    (term_of no_bits (run_of no_bits left) (env_in (envs_of old) env) (apply t (trees ts)) (state_of old))
 apply_begun old mid left env t ts v is g = record {
-  through = same_rest _ (ap (λ (x : List Tree). apply_all no_bits (run_of no_bits left) (env_in (envs_of old) env) x (value_in (envs_of mid) v) (state_of mid)) (list_of-trees ts))
+  through = same_rest _ (ap (λ (x : List Tree). apply_all no_bits (run_of no_bits left) (env_in (envs_of old) env) x (value_in (envs_of mid) v)
+      (state_of mid)) (list_of-trees ts))
       (value_behind old mid left env t v (apply_all no_bits (run_of no_bits left) (env_in (envs_of old) env) (list_of (trees ts))) is g);
   made = g.made;
 }
 
 apply_next : (left : ℕ) (e : Environment) (t : Tree) (ts : List Tree) (v : runs.Value) (s : State (Unit {0}))
-    → apply_all no_bits (run_of no_bits left) e (t ∷ ts) v s ≡ after (argument_step (run_of no_bits left) e v t s) (apply_all no_bits (run_of no_bits left) e ts)
-apply_next left e t ts v s = sym (regroup (run_of no_bits left e t s) (λ argument s. apply_to no_bits (run_of no_bits left) (place_of t) v argument s) (apply_all no_bits (run_of no_bits left) e ts))
+    → apply_all no_bits (run_of no_bits left) e (t ∷ ts) v s ≡ after (argument_step (run_of no_bits left) e v t s)
+    (apply_all no_bits (run_of no_bits left) e ts)
+apply_next left e t ts v s = sym (regroup (run_of no_bits left e t s) (λ argument s. apply_to no_bits (run_of no_bits left) (place_of t) v argument s)
+    (apply_all no_bits (run_of no_bits left) e ts))
 
-pub apply_more : (old now later : Machine) (left env : ℕ) (t : Tree) (ts us : List Tree) (v w : Value) (whole : Going runs.Value) → env ≤ length old.bindings.items → us ≡ t ∷ ts
+pub apply_more : (old now later : Machine) (left env : ℕ) (t : Tree) (ts us : List Tree) (v w : Value) (whole : Going runs.Value)
+    → env ≤ length old.bindings.items → us ≡ t ∷ ts
     → InApply old now left (env_in (envs_of old) env) us v whole
     → Goes now later (argument_step (run_of no_bits left) (env_in (envs_of now) env) (value_in (envs_of now) v) t (state_of now)) w
     → InApply old later left (env_in (envs_of old) env) ts w whole
 apply_more old now later left env t ts us v w whole h cut i g = record {
   through = step (apply_all no_bits (run_of no_bits left) (env_in (envs_of old) env) ts)
-      (same_rest _ (ap (λ (x : List Tree). apply_all no_bits (run_of no_bits left) (env_in (envs_of old) env) x (value_in (envs_of now) v) (state_of now)) cut ∙ apply_next left (env_in (envs_of old) env) t ts (value_in (envs_of now) v) (state_of now)) i.through)
+      (same_rest _ (ap (λ (x : List Tree). apply_all no_bits (run_of no_bits left) (env_in (envs_of old) env) x (value_in (envs_of now) v) (state_of now)) cut
+      ∙ apply_next left (env_in (envs_of old) env) t ts (value_in (envs_of now) v) (state_of now)) i.through)
       (goes_in (λ e. argument_step (run_of no_bits left) e (value_in (envs_of now) v) t (state_of now)) old now later env w i.through.grows h g).does;
   made = g.made;
 }
 
-pub apply_stuck : (old now : Machine) (left env : ℕ) (t : Tree) (ts us : List Tree) (v : Value) (whole : Going runs.Value) (fault : RunFault) → env ≤ length old.bindings.items → us ≡ t ∷ ts
+pub apply_stuck : (old now : Machine) (left env : ℕ) (t : Tree) (ts us : List Tree) (v : Value) (whole : Going runs.Value) (fault : RunFault)
+    → env ≤ length old.bindings.items → us ≡ t ∷ ts
     → InApply old now left (env_in (envs_of old) env) us v whole
     → Says fault (argument_step (run_of no_bits left) (env_in (envs_of now) env) (value_in (envs_of now) v) t (state_of now)) → Says fault whole
 apply_stuck old now left env t ts us v whole fault h cut i s =
-    said fault (same_rest _ (ap (λ (x : List Tree). apply_all no_bits (run_of no_bits left) (env_in (envs_of old) env) x (value_in (envs_of now) v) (state_of now)) cut ∙ apply_next left (env_in (envs_of old) env) t ts (value_in (envs_of now) v) (state_of now)) i.through)
-    (said_first fault _ (apply_all no_bits (run_of no_bits left) (env_in (envs_of old) env) ts) (says_in (λ e. argument_step (run_of no_bits left) e (value_in (envs_of now) v) t (state_of now)) old now env fault i.through.grows h s))
+    said fault (same_rest _ (ap (λ (x : List Tree). apply_all no_bits (run_of no_bits left) (env_in (envs_of old) env) x (value_in (envs_of now) v)
+    (state_of now)) cut ∙ apply_next left (env_in (envs_of old) env) t ts (value_in (envs_of now) v) (state_of now)) i.through)
+    (said_first fault _ (apply_all no_bits (run_of no_bits left) (env_in (envs_of old) env) ts)
+    (says_in (λ e. argument_step (run_of no_bits left) e (value_in (envs_of now) v) t (state_of now)) old now env fault i.through.grows h s))
 
-pub apply_done : (old now : Machine) (left : ℕ) (e : Environment) (us : List Tree) (v : Value) (whole : Going runs.Value) → us ≡ [] → InApply old now left e us v whole → Goes old now whole v
+pub apply_done : (old now : Machine) (left : ℕ) (e : Environment) (us : List Tree) (v : Value) (whole : Going runs.Value) → us ≡ []
+    → InApply old now left e us v whole → Goes old now whole v
 apply_done old now left e us v whole none i = record {
-  does = ends_here (value_in (envs_of now) v) i.through (ap (λ (x : List Tree). apply_all no_bits (run_of no_bits left) e x (value_in (envs_of now) v) (state_of now)) none);
+  does = ends_here (value_in (envs_of now) v) i.through
+      (ap (λ (x : List Tree). apply_all no_bits (run_of no_bits left) e x (value_in (envs_of now) v) (state_of now)) none);
   made = i.made;
 }
 
@@ -184,7 +197,8 @@ pub argument_run : (old mid : Machine) (left env : ℕ) (t : Tree) (v x : Value)
     → Through old mid (argument_step (run_of no_bits left) (env_in (envs_of old) env) (value_in (envs_of old) v) t (state_of old))
     (apply_to no_bits (run_of no_bits left) (place_of t) (value_in (envs_of mid) v) (value_in (envs_of mid) x) (state_of mid))
 argument_run old mid left env t v x is made g =
-    same_rest _ (ap (λ (w : runs.Value). apply_to no_bits (run_of no_bits left) (place_of t) w (value_in (envs_of mid) x) (state_of mid)) (sym (grown_value old mid v g.does.grows made)))
+    same_rest _ (ap (λ (w : runs.Value). apply_to no_bits (run_of no_bits left) (place_of t) w (value_in (envs_of mid) x) (state_of mid))
+    (sym (grown_value old mid v g.does.grows made)))
     (value_behind old mid left env t x (λ argument s. apply_to no_bits (run_of no_bits left) (place_of t) (value_in (envs_of old) v) argument s) is g)
 
 -- ---- names of a function
@@ -197,14 +211,16 @@ no_name left at (n ∷ ns) body e v s h = absurd (omega arith)
 last_name : (left : ℕ) (at : Place) (ns : List Name) (body : Tree) (e : Environment) (v : runs.Value) (s : State (Unit {0})) → length ns ≡ 1
     → apply_to no_bits (run_of no_bits left) at (runs.closure ns body e) v s ≡ after (bind_step v e at s) (λ f s. run_of no_bits left f body s)
 last_name left at [] body e v s h = absurd (omega arith)
-last_name left at (n ∷ []) body e v s h = sym (regroup (worked no_bits (bound_length v) at s) (λ _ s. went (bound v e) s) (λ f s. run_of no_bits left f body s))
+last_name left at (n ∷ []) body e v s h = sym
+    (regroup (worked no_bits (bound_length v) at s) (λ _ s. went (bound v e) s) (λ f s. run_of no_bits left f body s))
 last_name left at (n ∷ m ∷ ns) body e v s h = absurd (omega arith)
 
 next_name : (left : ℕ) (at : Place) (ns : List Name) (body : Tree) (e : Environment) (v : runs.Value) (s : State (Unit {0})) → 1 < length ns
     → apply_to no_bits (run_of no_bits left) at (runs.closure ns body e) v s ≡ after (bind_step v e at s) (λ f s. went (runs.closure (drop 1 ns) body f) s)
 next_name left at [] body e v s h = absurd (omega arith)
 next_name left at (n ∷ []) body e v s h = absurd (omega arith)
-next_name left at (n ∷ m ∷ ns) body e v s h = sym (regroup (worked no_bits (bound_length v) at s) (λ _ s. went (bound v e) s) (λ f s. went (runs.closure (m ∷ ns) body f) s))
+next_name left at (n ∷ m ∷ ns) body e v s h = sym
+    (regroup (worked no_bits (bound_length v) at s) (λ _ s. went (bound v e) s) (λ f s. went (runs.closure (m ∷ ns) body f) s))
 
 drop_more : {A : Type 0} (xs : List A) (k : ℕ) → drop 1 (drop k xs) ≡ drop (k + 1) xs
 drop_more [] zero = refl
@@ -220,61 +236,103 @@ drop_length (x ∷ xs) (suc k) = drop_length xs k ∙ omega arith
 
 -- ---- calls
 
-pub call_none : (left : ℕ) (at : Place) (names : List Name) (taken : ℕ) (body : Tree) (e : Environment) (v : runs.Value) (s : State (Unit {0})) → length names ≤ taken
+pub call_none : (left : ℕ) (at : Place) (names : List Name) (taken : ℕ) (body : Tree) (e : Environment) (v : runs.Value) (s : State (Unit {0}))
+    → length names ≤ taken
     → apply_to no_bits (run_of no_bits left) at (runs.closure (drop taken names) body e) v s ≡ stuck causes.NotFunction at
 call_none left at names taken body e v s h = no_name left at (drop taken names) body e v s (drop_length names taken ∙ omega arith)
 
-bind_first : (left : ℕ) (at : Place) (ns : List Name) (body : Tree) (e : Environment) (v : runs.Value) (s : State (Unit {0})) (fault : RunFault) → 0 < length ns
+bind_first : (left : ℕ) (at : Place) (ns : List Name) (body : Tree) (e : Environment) (v : runs.Value) (s : State (Unit {0})) (fault : RunFault)
+    → 0 < length ns
     → Says fault (bind_step v e at s) → Says fault (apply_to no_bits (run_of no_bits left) at (runs.closure ns body e) v s)
 bind_first left at [] body e v s fault h says = absurd (omega arith)
-bind_first left at (n ∷ []) body e v s fault h says = said_same fault _ _ (last_name left at (n ∷ []) body e v s refl) (said_first fault (bind_step v e at s) (λ f s. run_of no_bits left f body s) says)
+bind_first left at (n ∷ []) body e v s fault h says = said_same fault _ _ (last_name left at (n ∷ []) body e v s refl)
+    (said_first fault (bind_step v e at s) (λ f s. run_of no_bits left f body s) says)
 bind_first left at (n ∷ m ∷ ns) body e v s fault h says =
-    said_same fault _ _ (next_name left at (n ∷ m ∷ ns) body e v s (omega arith)) (said_first fault (bind_step v e at s) (λ f s. went (runs.closure (m ∷ ns) body f) s) says)
+    said_same fault _ _ (next_name left at (n ∷ m ∷ ns) body e v s (omega arith))
+    (said_first fault (bind_step v e at s) (λ f s. went (runs.closure (m ∷ ns) body f) s) says)
 
-pub call_stuck : (left : ℕ) (at : Place) (names : List Name) (taken : ℕ) (body : Tree) (e : Environment) (v : runs.Value) (s : State (Unit {0})) (fault : RunFault) → taken < length names
+pub call_stuck : (left : ℕ) (at : Place) (names : List Name) (taken : ℕ) (body : Tree) (e : Environment) (v : runs.Value) (s : State (Unit {0}))
+    (fault : RunFault) → taken < length names
     → Says fault (bind_step v e at s) → Says fault (apply_to no_bits (run_of no_bits left) at (runs.closure (drop taken names) body e) v s)
 call_stuck left at names taken body e v s fault h says = bind_first left at (drop taken names) body e v s fault (omega (arith, drop_length names taken)) says
 
-pub call_last : (old mid : Machine) (left inner : ℕ) (at : Place) (names : List Name) (taken : ℕ) (body : Tree) (e : Environment) (v : runs.Value) → IsMachine old → length names ≡ taken + 1
-    → Binds old mid (bind_step v e at (state_of old)) inner
-    → Through old mid (apply_to no_bits (run_of no_bits left) at (runs.closure (drop taken names) body e) v (state_of old)) (run_of no_bits left (env_in (envs_of mid) inner) body (state_of mid))
-call_last old mid left inner at names taken body e v is h b =
-    step (λ f s. run_of no_bits left f body s) (begun old _ _ (last_name left at (drop taken names) body e v (state_of old) (drop_length names taken ∙ omega arith)) is) b.does
+-- one more binding stands before what is left of a call
+pub record Called (old now : Machine) (whole rest : Going runs.Value) : Type 0 where
+  pub same : whole ≡ rest
+  pub grows : Grows old now
+  pub worked : AreWorkedFor 1 old now
 
-pub call_next : (old mid : Machine) (left inner : ℕ) (at : Place) (names : List Name) (taken : ℕ) (body : Tree) (e : Environment) (v : runs.Value) → IsMachine old → taken + 1 < length names
-    → Binds old mid (bind_step v e at (state_of old)) inner
-    → Does old mid (apply_to no_bits (run_of no_bits left) at (runs.closure (drop taken names) body e) v (state_of old)) (runs.closure (drop (taken + 1) names) body (env_in (envs_of mid) inner))
-call_next old mid left inner at names taken body e v is h b =
-    ends_here _ (step (λ f s. went (runs.closure (drop 1 (drop taken names)) body f) s) (begun old _ _ (next_name left at (drop taken names) body e v (state_of old) (omega (arith, drop_length names taken))) is) b.does)
-    (ap (λ (ns : List Name). went (runs.closure ns body (env_in (envs_of mid) inner)) (state_of mid)) (drop_more names taken))
+pub call_ends : {old now later : Machine} {whole rest : Going runs.Value} {v : Value} → Called old now whole rest → Goes now later rest v
+    → Calls old later whole v
+call_ends {old} {now} {later} c g = record {
+  goes = c.same ∙ g.does.goes;
+  grows = grows_trans old now later c.grows g.does.grows;
+  kept = g.does.kept;
+  worked = omega (arith, c.worked, g.does.worked);
+  made = g.made;
+}
+
+pub call_said : {old now : Machine} {whole rest : Going runs.Value} (fault : RunFault) → Called old now whole rest → Says fault rest → Says fault whole
+call_said {old} {now} {whole} {rest} fault c says = said_same fault whole rest c.same says
+
+pub call_last : (old mid : Machine) (left inner : ℕ) (at : Place) (names : List Name) (taken : ℕ) (body : Tree) (e : Environment) (v : runs.Value)
+    → length names ≡ taken + 1
+    → BindsOne old mid (bind_step v e at (state_of old)) inner
+    → Called old mid (apply_to no_bits (run_of no_bits left) at (runs.closure (drop taken names) body e) v (state_of old))
+    (run_of no_bits left (env_in (envs_of mid) inner) body (state_of mid))
+call_last old mid left inner at names taken body e v h b = record {
+  same = last_name left at (drop taken names) body e v (state_of old) (drop_length names taken ∙ omega arith)
+      ∙ ap (λ (o : Going Environment). after o (λ f s. run_of no_bits left f body s)) b.goes;
+  grows = b.grows;
+  worked = b.worked;
+}
+
+pub call_next : (old mid : Machine) (left inner : ℕ) (at : Place) (names : List Name) (taken : ℕ) (body : Tree) (e : Environment) (v : runs.Value)
+    → taken + 1 < length names
+    → BindsOne old mid (bind_step v e at (state_of old)) inner
+    → apply_to no_bits (run_of no_bits left) at (runs.closure (drop taken names) body e) v (state_of old) ≡ went
+    (runs.closure (drop (taken + 1) names) body (env_in (envs_of mid) inner)) (state_of mid)
+call_next old mid left inner at names taken body e v h b =
+    next_name left at (drop taken names) body e v (state_of old) (omega (arith, drop_length names taken))
+    ∙ ap (λ (o : Going Environment). after o (λ f s. went (runs.closure (drop 1 (drop taken names)) body f) s)) b.goes
+    ∙ ap (λ (ns : List Name). went (runs.closure ns body (env_in (envs_of mid) inner)) (state_of mid)) (drop_more names taken)
 
 -- ---- items
 
 pub item_bound : (old mid later : Machine) (left env made : ℕ) (name : Name) (t : Tree) (v : Value) → IsMachine old → env ≤ length old.bindings.items
     → Goes old mid (run_of no_bits left (env_in (envs_of old) env) t (state_of old)) v
-    → Binds mid later (bind_step (value_in (envs_of mid) v) (env_in (envs_of mid) env) (place_of t) (state_of mid)) made
+    → LeavesRoom old mid
+    → BindsOne mid later (bind_step (value_in (envs_of mid) v) (env_in (envs_of mid) env) (place_of t) (state_of mid)) made
     → Binds old later (item_step (run_of no_bits left) (env_in (envs_of old) env) (bind name t) (state_of old)) made
-item_bound old mid later left env made name t v is h g b =
-    let b2 : Binds mid later (bind_step (value_in (envs_of mid) v) (env_in (envs_of old) env) (place_of t) (state_of mid)) made =
-    subst (λ (e : Environment). Binds mid later (bind_step (value_in (envs_of mid) v) e (place_of t) (state_of mid)) made) (grown_env old mid env g.does.grows h) b in
+item_bound old mid later left env made name t v is h g room b =
+    let e : Environment = env_in (envs_of old) env in
+    let b2 : BindsOne mid later (bind_step (value_in (envs_of mid) v) e (place_of t) (state_of mid)) made =
+    subst (λ (e : Environment). BindsOne mid later (bind_step (value_in (envs_of mid) v) e (place_of t) (state_of mid)) made)
+    (grown_env old mid env g.does.grows h) b in
+    let there = step (λ value s. bind_step value e (place_of t) s) (begun old _ _ refl is) g.does in
     record {
-      does = ends (step (λ value s. bind_step value (env_in (envs_of old) env) (place_of t) s) (begun old _ _ refl is) g.does) b2.does;
-      made = b.made;
+      does = ends_here _ (step_bound (λ f s. went f s)
+          (same_rest _ (after_went (bind_step (value_in (envs_of mid) v) e (place_of t) (state_of mid))) there) room b2) refl;
+      made = b2.made;
     }
 
 pub item_run : (old mid : Machine) (left env : ℕ) (t : Tree) (v : Value) → IsMachine old → env ≤ length old.bindings.items
     → Goes old mid (run_of no_bits left (env_in (envs_of old) env) t (state_of old)) v
     → Binds old mid (item_step (run_of no_bits left) (env_in (envs_of old) env) (run t) (state_of old)) env
 item_run old mid left env t v is h g = record {
-  does = ends_here (env_in (envs_of mid) env) (step (λ _ s. went (env_in (envs_of old) env) s) (begun old (item_step (run_of no_bits left) (env_in (envs_of old) env) (run t) (state_of old)) _ refl is) g.does)
+  does = ends_here (env_in (envs_of mid) env)
+      (step (λ _ s. went (env_in (envs_of old) env) s)
+      (begun old (item_step (run_of no_bits left) (env_in (envs_of old) env) (run t) (state_of old)) _ refl is) g.does)
       (ap (λ (e : Environment). went e (state_of mid)) (sym (grown_env old mid env g.does.grows h)));
   made = omega (arith, grown_length old mid g.does.grows);
 }
 
 -- ---- a block's term
 
-pub block_term : (left : ℕ) (e : Environment) (is js : List ItemTree) (last end : Tree) (at : Place) (s : State (Unit {0})) (t : Tree) → t ≡ block (item_trees is) last at → js ≡ is → end ≡ last
+pub block_term : (left : ℕ) (e : Environment) (is js : List ItemTree) (last end : Tree) (at : Place) (s : State (Unit {0})) (t : Tree)
+    → t ≡ block (item_trees is) last at → js ≡ is → end ≡ last
     → term_of no_bits (run_of no_bits left) e t s ≡ block_of no_bits (run_of no_bits left) e js end s
 block_term left e is js last end at s t cut i l =
     ap (λ (x : Tree). term_of no_bits (run_of no_bits left) e x s) cut ∙ block_is left e is last at s
-    ∙ ap (λ (x : List ItemTree). block_of no_bits (run_of no_bits left) e x last s) (sym i) ∙ ap (λ (x : Tree). block_of no_bits (run_of no_bits left) e js x s) (sym l)
+    ∙ ap (λ (x : List ItemTree). block_of no_bits (run_of no_bits left) e x last s) (sym i) ∙ ap
+    (λ (x : Tree). block_of no_bits (run_of no_bits left) e js x s) (sym l)

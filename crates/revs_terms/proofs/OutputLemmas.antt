@@ -15,9 +15,9 @@ use Rattle.revs_terms.specs.declared.term.Part.TheVariants as part
 use Rattle.revs_terms.specs.Programs.{width_of, widths_of}
 use Rattle.revs_terms.specs.Trees.{Tree, Trees, ItemTree, ItemTrees, list_of, items_of, used, bool, reg, block, function, parts, apply, append, rotate, clean, assert, ands, xors, assign, nil, cons, bind, run, no_items, item}
 use Rattle.revs_terms.specs.Terms.{place_of, has_one, is_formed, are_formed, item_is_formed, items_are_formed}
-use Rattle.revs_terms.specs.Running.{Value, unit, bit, register, closure, Environment, nothing, bound, value_at, bound_length, Bits, Stamped, State, Outcome, stuck, went, after, provided, worked, registered, written, read, as_register, bit_of, bits_of, block_of, part_of, parts_of, apply_to, apply_all, claimed, chain_of, chain, term_of, run_of}
+use Rattle.revs_terms.specs.Running.{Value, unit, bit, register, closure, Environment, nothing, bound, value_at, bound_length, Bits, Stamped, State, Outcome, stuck, went, after, provided, given, worked, registered, written, read, as_register, bit_of, bits_of, block_of, part_of, parts_of, apply_to, apply_all, claimed, chain_of, chain, term_of, run_of}
 use Rattle.revs_terms.specs.Runs.{start, from, param_value, params_in, locations_of, read_all, no_bits, nothings, run_without_bits, HasOutputs}
-use Rattle.revs_terms.proofs.Parts.{both}
+use Rattle.std.proofs.lemmas.Bool.{and_parts}
 use Rattle.revs_terms.specs.declared.cause.Cause.{Cause}
 use Rattle.revs_terms.specs.declared.cause.Cause.TheVariants as causes
 
@@ -45,14 +45,14 @@ AreFormed us = AllByRecursion (λ u. is_formed u ≡ true) us
 
 formed_list : (us : Trees) → are_formed us ≡ true → AreFormed (list_of us)
 formed_list nil e = tt
-formed_list (cons u us) e = let h = both (is_formed u) (are_formed us) e in (h.0, formed_list us h.1)
+formed_list (cons u us) e = let h = and_parts (is_formed u) (are_formed us) e in (h.0, formed_list us h.1)
 
 abbrev AreFormedItems : List ItemTree → Type 0
 AreFormedItems items = AllByRecursion (λ i. item_is_formed i ≡ true) items
 
 formed_items : (items : ItemTrees) → items_are_formed items ≡ true → AreFormedItems (items_of items)
 formed_items no_items e = tt
-formed_items (item i items) e = let h = both (item_is_formed i) (items_are_formed items) e in (h.0, formed_items items h.1)
+formed_items (item i items) e = let h = and_parts (item_is_formed i) (items_are_formed items) e in (h.0, formed_items items h.1)
 
 one : {A : Type 0} (xs : List A) → has_one xs ≡ true → 1 ≤ length xs
 one [] e = cc
@@ -117,22 +117,22 @@ module _ {B : Type 0} (bits : Bits B) where
         full_block (bound value env) items last s (h, full) formed.1 e))
     full_block env (run u ∷ items) last s full formed e = next (any (deeper env u s)) (λ _ s _. full_block env items last s full formed.1 e)
 
-    full_index : (x : Option ℕ) (at : Place) (s : State B) → Gives IsFull (elim x [ None ↦ stuck causes.Index at | Some location ↦ went (bit location) s ])
+    full_index : (x : Option ℕ) (at : Place) (s : State B) → Gives IsFull (after (given x causes.Index at s) (λ location s. went (bit location) s))
     full_index None at s = nothing_given causes.Index at
     full_index (Some location) at s = some_given (bit location) s tt
 
-    full_part : (whole : Place) (p : Part) (value : Value) (s : State B) → IsFull value → Gives IsFull (part_of bits deeper whole p value s)
+    full_part : (whole : Place) (p : Part) (value : Value) (s : State B) → IsFull value → Gives IsFull (part_of bits whole p value s)
     full_part whole (part.Index i at) value s h = next (any (as_register bits at value s)) (λ r s _. full_index (slice_get r i) at s)
     full_part whole (part.Slice i j at) value s h =
         next (any (as_register bits at value s)) (λ r s _. where_so (leb i j && leb (j + 1) (length r)) _ at (λ fits.
-        full_register (take (j + 1 - i) (drop i r)) whole s (slice_full r i j (both (leb i j) (leb (j + 1) (length r)) fits))))
+        full_register (take (j + 1 - i) (drop i r)) whole s (slice_full r i j (and_parts (leb i j) (leb (j + 1) (length r)) fits))))
       where
         slice_full : (r : List ℕ) (i j : ℕ) → (leb i j ≡ true) × (leb (j + 1) (length r) ≡ true) → 1 ≤ length (take (j + 1 - i) (drop i r))
         slice_full r i j h =
             let first = leb-true i j h.0 in let last = leb-true (j + 1) (length r) h.1 in
             omega (arith, length-take (j + 1 - i) (drop i r), length-drop i r)
 
-    full_parts : (whole : Place) (ps : List Part) (value : Value) (s : State B) → IsFull value → Gives IsFull (parts_of bits deeper whole ps value s)
+    full_parts : (whole : Place) (ps : List Part) (value : Value) (s : State B) → IsFull value → Gives IsFull (parts_of bits whole ps value s)
     full_parts whole [] value s h = some_given value s h
     full_parts whole (p ∷ ps) value s h = next (full_part whole p value s h) (λ value s h. full_parts whole ps value s h)
 
@@ -150,7 +150,8 @@ module _ {B : Type 0} (bits : Bits B) where
         → Gives IsFull (apply_all bits deeper env us head s)
     full_apply_all env [] head s full formed h = some_given head s h
     full_apply_all env (u ∷ us) head s full formed h =
-        next (full_deeper env u s full formed.0) (λ argument s g. next (full_apply (place_of u) head argument s h g) (λ head s h. full_apply_all env us head s full formed.1 h))
+        next (full_deeper env u s full formed.0)
+        (λ argument s g. next (full_apply (place_of u) head argument s h g) (λ head s h. full_apply_all env us head s full formed.1 h))
 
     full_claim : (kind : Kind) (env : Environment) (u : Tree) (at : Place) (s : State B) → Gives IsFull (claimed bits deeper kind env u at s)
     full_claim kind env u at s =
@@ -161,10 +162,12 @@ module _ {B : Type 0} (bits : Bits B) where
         → Gives IsFull (chain_of bits deeper entry op env first so_far us s)
     full_chain_of entry op env first so_far [] s = some_given (bit so_far) s tt
     full_chain_of entry op env first so_far (u ∷ us) s =
-        next (any (bit_of bits deeper env u s)) (λ more s _. next (any (read bits so_far first s)) (λ a s _. next (any (read bits more (place_of u) s)) (λ b s _.
+        next (any (bit_of bits deeper env u s)) (λ more s _. next (any (read bits so_far first s))
+        (λ a s _. next (any (read bits more (place_of u) s)) (λ b s _.
         next (any (written bits (entry a.stamp b.stamp) (op a.bit b.bit) (place_of u) s)) (λ made s _. full_chain_of entry op env first made us s))))
 
-    full_chain : (entry : Ref → Ref → Entry) (op : B → B → B) (env : Environment) (us : List Tree) (s : State B) → Gives IsFull (chain bits deeper entry op env us s)
+    full_chain : (entry : Ref → Ref → Entry) (op : B → B → B) (env : Environment) (us : List Tree) (s : State B)
+        → Gives IsFull (chain bits deeper entry op env us s)
     full_chain entry op env [] s = some_given unit s tt
     full_chain entry op env (u ∷ us) s = next (any (bit_of bits deeper env u s)) (λ first s _. full_chain_of entry op env (place_of u) first us s)
 
@@ -172,19 +175,20 @@ module _ {B : Type 0} (bits : Bits B) where
     full_term env (used name) s full e = some_given (value_at env name.back) s (full_at env name.back full)
     full_term env (bool b at) s full e = next (any (written bits _ (bits.constant b) at s)) (λ made s _. some_given (bit made) s tt)
     full_term env (reg us at) s full e =
-        let some = one (list_of us) (both (has_one (list_of us)) (are_formed us) e).0 in
-        next (same_count env (list_of us) s) (λ locations s count. where_so (leb (length locations) 4096) _ at (λ fits. full_register locations at s (omega arith)))
+        let some = one (list_of us) (and_parts (has_one (list_of us)) (are_formed us) e).0 in
+        next (same_count env (list_of us) s) (λ locations s count. where_so (leb (length locations) 4096) _ at
+        (λ fits. full_register locations at s (omega arith)))
     full_term env (block items last at) s full e =
-        let h = both (items_are_formed items) (is_formed last) e in full_block env (items_of items) last s full (formed_items items h.0) h.1
-    full_term env (function names body at) s full e = some_given (closure names body env) s ((both (has_one names) (is_formed body) e).1, full)
+        let h = and_parts (items_are_formed items) (is_formed last) e in full_block env (items_of items) last s full (formed_items items h.0) h.1
+    full_term env (function names body at) s full e = some_given (closure names body env) s ((and_parts (has_one names) (is_formed body) e).1, full)
     full_term env (parts base ps) s full e =
-        next (full_deeper env base s full (both (has_one ps) (is_formed base) e).1) (λ value s h. full_parts (place_of base) ps value s h)
+        next (full_deeper env base s full (and_parts (has_one ps) (is_formed base) e).1) (λ value s h. full_parts (place_of base) ps value s h)
     full_term env (apply head us) s full e =
-        let h = both (is_formed head) (has_one (list_of us) && are_formed us) e in
-        let rest = both (has_one (list_of us)) (are_formed us) h.1 in
+        let h = and_parts (is_formed head) (has_one (list_of us) && are_formed us) e in
+        let rest = and_parts (has_one (list_of us)) (are_formed us) h.1 in
         next (full_deeper env head s full h.0) (λ value s g. full_apply_all env (list_of us) value s full (formed_list us rest.1) g)
     full_term env (append u v at) s full e =
-        let h = both (is_formed u) (is_formed v) e in
+        let h = and_parts (is_formed u) (is_formed v) e in
         next (full_deeper env u s full h.0) (λ x s left. next (any (deeper env v s)) (λ y s _.
         next (register_of_full (place_of u) x s left) (λ r s some. next (any (as_register bits (place_of v) y s)) (λ q s _.
         where_so (leb (length r + length q) 4096) _ at (λ fits. full_register (r ++ q) at s (omega (arith, length-append r q)))))))
@@ -219,7 +223,8 @@ module _ {B : Type 0} (bits : Bits B) where
   same_outputs at (l ∷ ls) s = next (any (read bits l at s)) (λ first s _. next (same_outputs at ls s) (λ more s h. some_given (first ∷ more) s (ap suc h)))
 
   some_outputs : (left : ℕ) (env : Environment) (body : Tree) (s : State B) → AreFull env → is_formed body ≡ true
-      → Gives (λ os. 1 ≤ length os) (after (run_of bits left env body s) (λ value s. after (locations_of (place_of body) value s) (read_all bits (place_of body))))
+      → Gives (λ os. 1 ≤ length os) (after (run_of bits left env body s)
+      (λ value s. after (locations_of (place_of body) value s) (read_all bits (place_of body))))
   some_outputs left env body s full e =
       next (full_run left env body s full e) (λ value s h. next (some_places (place_of body) value s h) (λ ls s some.
       more_outputs (read_all bits (place_of body) ls s) ls some (same_outputs (place_of body) ls s)))
@@ -238,14 +243,16 @@ full_param : (first : ℕ) (width : Option ℕ) → leb 1 (width_of width) ≡ t
 full_param first None e = tt
 full_param first (Some width) e = let h = leb-true 1 width e in omega (arith, length-from first width)
 
-full_params : (first : ℕ) (params : List Param) (env : Environment) → list_all (λ width. leb 1 width) (widths_of params) ≡ true → AreFull env → AreFull (params_in first params env)
+full_params : (first : ℕ) (params : List Param) (env : Environment) → list_all (λ width. leb 1 width) (widths_of params) ≡ true → AreFull env
+    → AreFull (params_in first params env)
 full_params first [] env e full = full
 full_params first (p ∷ ps) env e full =
-    let h = both (leb 1 (width_of p.width)) (list_all (λ width. leb 1 width) (widths_of ps)) e in
+    let h = and_parts (leb 1 (width_of p.width)) (list_all (λ width. leb 1 width) (widths_of ps)) e in
     full_params (first + width_of p.width) ps (bound (param_value first p.width) env) h.1 (full_param first p.width h.0, full)
 
 pub has_outputs : HasOutputs
 has_outputs params body outputs s ps formed e =
     let full : AreFull (params_in 0 params nothing) = full_params 0 params nothing ps.bits tt in
-    let gives : Gives (λ os. 1 ≤ length os) (run_without_bits params body) = some_outputs no_bits 400 (params_in 0 params nothing) body (start (nothings (sum (widths_of params)))) full formed in
+    let gives : Gives (λ os. 1 ≤ length os) (run_without_bits params body) = some_outputs no_bits 400 (params_in 0 params nothing) body
+    (start (nothings (sum (widths_of params)))) full formed in
     (subst (λ o. Gives (λ os. 1 ≤ length os) o) e gives).given

@@ -12,7 +12,7 @@ use Rattle.array_shapes.specs.Values as values
 use Rattle.array_shapes.specs.Values.{ValueView}
 use Rattle.inliner.specs.declared.machine.Binding.{Binding}
 use Rattle.inliner.specs.declared.machine.Machine.{Machine}
-use Rattle.inliner.specs.Machines.{held_by, IsMachine, AreBindings, AreLeaps, envs_from, envs_of, env_in, state_of}
+use Rattle.inliner.specs.inside.Machines.{held_by, IsMachine, AreBindings, AreLeaps, envs_from, envs_of, env_in, state_of}
 
 -- the value of a parameter whose first input is this one
 abbrev pub param_view : ℕ → Option ℕ → ValueView
@@ -35,6 +35,7 @@ pub record AreBound (params : List Param) (bs : List Binding) : Type 0 where
   pub leaps : AreLeaps [] bs
   pub env : env_in (envs_from [] bs) (length bs) ≡ params_in 0 params nothing
   pub count : length bs ≡ length params
+  pub few : length bs ≤ 1024
 
 -- The machine is at the start of a program.
 pub record IsStart (params : List Param) (m : Machine) : Type 0 where
@@ -50,7 +51,8 @@ stamped r = record { bit = tt; stamp = r }
 -- ---- the end
 
 -- the outputs of a program's value
-abbrev pub outputs_step : Place → Value → State (Unit {0}) → Outcome (Unit {0}) (List (Stamped (Unit {0})))
+abbrev pub outputs_step : Place → Value → State (Unit {0})
+    → Outcome (Unit {0}) (List (Stamped (Unit {0})))
 outputs_step at value s = after (locations_of at value s) (read_all no_bits at)
 
 -- These made the bits in the locations.

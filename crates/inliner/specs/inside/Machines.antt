@@ -25,7 +25,8 @@ abbrev pub spec_value : List Environment → ValueView → runs.Value
 spec_value envs values.unit = runs.unit
 spec_value envs (values.bit location) = runs.bit location
 spec_value envs (values.register locations) = runs.register locations
-spec_value envs (values.function env taken of) = runs.closure (drop taken of.names.items) (tree_of of.body) (env_in envs env)
+spec_value envs (values.function env taken of) = runs.closure (drop taken of.names.items)
+    (tree_of of.body) (env_in envs env)
 
 -- the length that a value counts where it is bound
 abbrev pub view_length : ValueView → ℕ
@@ -86,9 +87,22 @@ met_by claim = record { claim = claim; bit = tt }
 abbrev pub envs_of : Machine → List Environment
 envs_of m = envs_from [] m.bindings.items
 
+-- the environment with a number, and the value that a value of the machine stands for
+abbrev pub env_of : Machine → ℕ → Environment
+env_of m env = env_in (envs_of m) env
+
+abbrev pub value_of : Machine → Value → runs.Value
+value_of m value = value_in (envs_of m) value
+
 -- the state of the run
 abbrev pub state_of : Machine → State (Unit {0})
-state_of m = record { store = map held_by m.store.items; log = m.tape.entries; claims = map met_by m.tape.claims; work = m.work }
+state_of m = record {
+  store = map held_by m.store.items;
+  log = m.tape.entries;
+  claims = map met_by
+      m.tape.claims;
+  work = m.work;
+}
 
 abbrev pub IsKnownIn : TapeView → Option Ref → Type 0
 IsKnownIn tape None = ⊤
@@ -101,6 +115,7 @@ pub record IsMachine (m : Machine) : Type 0 where
   pub known : AllByRecursion (IsKnownIn m.tape) m.store.items
   pub few : length m.store.items ≤ 1024 + length m.tape.entries
   pub within : m.work ≤ 16777216
+  pub room : length m.bindings.items ≤ 1024 + m.work
 
 -- ---- what a call of the machine does
 
@@ -110,18 +125,49 @@ pub record Grows (old now : Machine) : Type 0 where
   pub bindings : now.bindings.items ≡ old.bindings.items ++ more
   pub params : now.tape.params ≡ old.tape.params
 
+-- No more bindings were added than units of work, but for so many.
+abbrev pub AreWorkedFor : ℕ → Machine → Machine → Type 0
+AreWorkedFor ahead old now = length now.bindings.items + old.work ≤ length old.bindings.items +
+    now.work + ahead
+
+-- More units of work were added than bindings.
+abbrev pub LeavesRoom : Machine → Machine → Type 0
+LeavesRoom old now = length now.bindings.items + old.work + 1 ≤ length old.bindings.items + now.work
+
 -- The run goes on with this answer.
-pub record Does {A : Type 0} (old now : Machine) (outcome : Outcome (Unit {0}) A) (answer : A) : Type 0 where
+pub record Does {A : Type 0} (old now : Machine) (outcome : Outcome (Unit {0}) A)
+    (answer : A) : Type 0 where
   pub goes : outcome ≡ went answer (state_of now)
   pub grows : Grows old now
   pub kept : IsMachine now
+  pub worked : AreWorkedFor 0 old now
 
 -- The run goes on with a value of the machine.
-pub record Goes (old now : Machine) (outcome : Outcome (Unit {0}) runs.Value) (value : Value) : Type 0 where
+pub record Goes (old now : Machine) (outcome : Outcome (Unit {0}) runs.Value)
+    (value : Value) : Type 0 where
   pub does : Does old now outcome (value_in (envs_of now) value)
   pub made : IsValue (length now.bindings.items) value
 
 -- The run goes on with an environment of the machine.
-pub record Binds (old now : Machine) (outcome : Outcome (Unit {0}) Environment) (env : ℕ) : Type 0 where
+pub record Binds (old now : Machine) (outcome : Outcome (Unit {0}) Environment)
+    (env : ℕ) : Type 0 where
   pub does : Does old now outcome (env_in (envs_of now) env)
   pub made : env ≤ length now.bindings.items
+
+-- The run goes on with an environment of the machine, which has one more binding.
+pub record BindsOne (old now : Machine) (outcome : Outcome (Unit {0}) Environment)
+    (env : ℕ) : Type 0 where
+  pub goes : outcome ≡ went (env_in (envs_of now) env) (state_of now)
+  pub grows : Grows old now
+  pub kept : IsMachine now
+  pub worked : AreWorkedFor 1 old now
+  pub made : env ≤ length now.bindings.items
+
+-- The run goes on with a value of the machine, behind one more binding.
+pub record Calls (old now : Machine) (outcome : Outcome (Unit {0}) runs.Value)
+    (value : Value) : Type 0 where
+  pub goes : outcome ≡ went (value_in (envs_of now) value) (state_of now)
+  pub grows : Grows old now
+  pub kept : IsMachine now
+  pub worked : AreWorkedFor 1 old now
+  pub made : IsValue (length now.bindings.items) value

@@ -4,8 +4,8 @@ use Rattle.revs_terms.specs.Running.{Environment, nothing, bound, value_at}
 use Rattle.inliner.specs.declared.leaps.Leap.{Leap}
 use Rattle.inliner.specs.declared.machine.Binding.{Binding}
 use Rattle.inliner.specs.declared.machine.Machine.{Machine}
-use Rattle.inliner.specs.Machines.{env_in, bound_in, envs_from, envs_of, farther, Leaps, AreLeaps, AreBindings, IsMachine}
-use Rattle.inliner.proofs.Growth.{env_in-front, envs_from-front, added_by, at_place, placed, got}
+use Rattle.inliner.specs.inside.Machines.{env_in, bound_in, envs_from, envs_of, farther, Leaps, AreLeaps, AreBindings, IsMachine}
+use Rattle.inliner.proofs.EnvironmentLemmas.{env_in-front, envs_from-front, added_by, at_place, placed, got}
 
 -- ---- farther out
 
@@ -41,12 +41,14 @@ leaps_at d [] k b are ls e = absurd cc
 leaps_at d (c ∷ cs) zero b are ls e =
     let same : c ≡ b = cc in
     subst (λ (x : Binding). Leaps (envs_from d (c ∷ cs)) x.parent x.leap) same
-    (subst (λ (x : List Environment). Leaps x c.parent c.leap) (sym (envs_from-front d (c ∷ cs))) (leaps_front d (added_by d (c ∷ cs)) c.parent c.leap are.0 ls.0))
+    (subst (λ (x : List Environment). Leaps x c.parent c.leap) (sym (envs_from-front d (c ∷ cs)))
+    (leaps_front d (added_by d (c ∷ cs)) c.parent c.leap are.0 ls.0))
 leaps_at d (c ∷ cs) (suc k) b are ls e =
     let longer : length (d ++ bound_in d c ∷ []) ≡ length d + 1 = length-append d (bound_in d c ∷ []) in
     leaps_at (d ++ bound_in d c ∷ []) cs k b (subst (λ (n : ℕ). AreBindings n cs) (sym longer) are.1.1) ls.1 e
 
-pub leaps_pushed : (d : List Environment) (bs : List Binding) (b : Binding) → AreLeaps d bs → Leaps (envs_from d bs) b.parent b.leap → AreLeaps d (bs ++ b ∷ [])
+pub leaps_pushed : (d : List Environment) (bs : List Binding) (b : Binding) → AreLeaps d bs → Leaps (envs_from d bs) b.parent b.leap
+    → AreLeaps d (bs ++ b ∷ [])
 leaps_pushed d [] b ls l = (l, tt)
 leaps_pushed d (c ∷ bs) b ls l = (ls.0, leaps_pushed (d ++ bound_in d c ∷ []) bs b ls.1 l)
 
@@ -70,7 +72,8 @@ out bs env b are ls some within e =
     let k : env ≡ suc (0 + (env - 1)) = omega arith in
     (l.reached ∙ ap (farther (suc b.leap.passed)) (sym (ap (env_in (envs_from [] bs)) k ∙ p.env)), omega (arith, l.before, p.parent))
 
-pub out_twice : (bs : List Binding) (env : ℕ) (b c : Binding) (leap : Leap) → AreBindings 0 bs → AreLeaps [] bs → 0 < env → env ≤ length bs → slice_get bs (env - 1) ≡ Some b
+pub out_twice : (bs : List Binding) (env : ℕ) (b c : Binding) (leap : Leap) → AreBindings 0 bs → AreLeaps [] bs → 0 < env → env ≤ length bs
+    → slice_get bs (env - 1) ≡ Some b
     → 0 < b.leap.to → slice_get bs (b.leap.to - 1) ≡ Some c → leap ≡ record { to = c.leap.to; passed = b.leap.passed + c.leap.passed + 2 }
     → Leaps (envs_from [] bs) env leap
 out_twice bs env b c leap are ls some within e further f is =
@@ -84,7 +87,8 @@ out_twice bs env b c leap are ls some within e further f is =
     })
 
 -- what two leaps pass is less than what there is
-pub passed_twice : (bs : List Binding) (env : ℕ) (b c : Binding) → AreBindings 0 bs → AreLeaps [] bs → 0 < env → env ≤ length bs → slice_get bs (env - 1) ≡ Some b
+pub passed_twice : (bs : List Binding) (env : ℕ) (b c : Binding) → AreBindings 0 bs → AreLeaps [] bs → 0 < env → env ≤ length bs
+    → slice_get bs (env - 1) ≡ Some b
     → 0 < b.leap.to → slice_get bs (b.leap.to - 1) ≡ Some c → b.leap.passed + c.leap.passed + 2 ≤ env
 passed_twice bs env b c are ls some within e further f =
     let o = out bs env b are ls some within e in
@@ -99,27 +103,34 @@ onward envs env near there n left count whole first second =
     second ∙ ap (farther left) first ∙ farther_twice left n (env_in envs env) ∙ ap (λ (k : ℕ). farther k (env_in envs env)) whole
 
 -- past the leap of the nearest binding
-pub leapt : (m : Machine) (env there count : ℕ) (b : Binding) → IsMachine m → 0 < env → env ≤ length m.bindings.items → b.leap.passed < count → b ≡ get_or m.bindings.items (env - 1) b
-    → env_in (envs_of m) there ≡ farther (count - 1 - b.leap.passed) (env_in (envs_of m) b.leap.to) → env_in (envs_of m) there ≡ farther count (env_in (envs_of m) env)
+pub leapt : (m : Machine) (env there count : ℕ) (b : Binding) → IsMachine m → 0 < env → env ≤ length m.bindings.items → b.leap.passed < count
+    → b ≡ get_or m.bindings.items (env - 1) b
+    → env_in (envs_of m) there ≡ farther (count - 1 - b.leap.passed) (env_in (envs_of m) b.leap.to)
+    → env_in (envs_of m) there ≡ farther count (env_in (envs_of m) env)
 leapt m env there count b is some within further e f =
     let o = out m.bindings.items env b is.made is.leaps some within (got m.bindings.items (env - 1) b (omega arith) e) in
     onward (envs_of m) env b.leap.to there (suc b.leap.passed) (count - 1 - b.leap.passed) count (omega arith) o.0 f
 
-pub leap_made : (m : Machine) (env : ℕ) (b : Binding) → IsMachine m → 0 < env → env ≤ length m.bindings.items → b ≡ get_or m.bindings.items (env - 1) b → b.leap.to ≤ length m.bindings.items
-leap_made m env b is some within e = omega (arith, (out m.bindings.items env b is.made is.leaps some within (got m.bindings.items (env - 1) b (omega arith) e)).1)
+pub leap_made : (m : Machine) (env : ℕ) (b : Binding) → IsMachine m → 0 < env → env ≤ length m.bindings.items → b ≡ get_or m.bindings.items (env - 1) b
+    → b.leap.to ≤ length m.bindings.items
+leap_made m env b is some within e = omega
+    (arith, (out m.bindings.items env b is.made is.leaps some within (got m.bindings.items (env - 1) b (omega arith) e)).1)
 
 -- past the nearest binding
-pub one_out : (m : Machine) (env there count : ℕ) (b : Binding) → IsMachine m → 0 < env → env ≤ length m.bindings.items → 0 < count → b ≡ get_or m.bindings.items (env - 1) b
+pub one_out : (m : Machine) (env there count : ℕ) (b : Binding) → IsMachine m → 0 < env → env ≤ length m.bindings.items → 0 < count
+    → b ≡ get_or m.bindings.items (env - 1) b
     → env_in (envs_of m) there ≡ farther (count - 1) (env_in (envs_of m) b.parent) → env_in (envs_of m) there ≡ farther count (env_in (envs_of m) env)
 one_out m env there count b is some within further e f =
     let p = placed m (env - 1) b is (got m.bindings.items (env - 1) b (omega arith) e) in
     let k : env ≡ suc (env - 1) = omega arith in
     onward (envs_of m) env b.parent there (suc zero) (count - 1) count (omega arith) (ap (farther (suc zero)) (sym (ap (env_in (envs_of m)) k ∙ p.env))) f
 
-pub parent_made : (m : Machine) (env : ℕ) (b : Binding) → IsMachine m → 0 < env → env ≤ length m.bindings.items → b ≡ get_or m.bindings.items (env - 1) b → b.parent ≤ length m.bindings.items
+pub parent_made : (m : Machine) (env : ℕ) (b : Binding) → IsMachine m → 0 < env → env ≤ length m.bindings.items → b ≡ get_or m.bindings.items (env - 1) b
+    → b.parent ≤ length m.bindings.items
 parent_made m env b is some within e = omega (arith, (placed m (env - 1) b is (got m.bindings.items (env - 1) b (omega arith) e)).parent)
 
 -- the value of a name is the nearest one there
 pub value_there : (m : Machine) (env there back : ℕ) → env_in (envs_of m) there ≡ farther back (env_in (envs_of m) env)
     → value_at (env_in (envs_of m) there) 0 ≡ value_at (env_in (envs_of m) env) back
-value_there m env there back e = ap (λ (x : Environment). value_at x 0) e ∙ value_farther back 0 (env_in (envs_of m) env) ∙ ap (value_at (env_in (envs_of m) env)) (omega arith)
+value_there m env there back e = ap (λ (x : Environment). value_at x 0) e ∙ value_farther back 0 (env_in (envs_of m) env) ∙ ap
+    (value_at (env_in (envs_of m) env)) (omega arith)

@@ -19,10 +19,10 @@ use Rattle.revs_terms.specs.declared.term.Part.{Part}
 use Rattle.revs_terms.specs.declared.term.Part.TheVariants as part
 use Rattle.revs_terms.specs.Trees.{Tree, ItemTree, list_of, items_of, used, bool, reg, block, function, parts, apply, append, rotate, clean, assert, ands, xors, assign, bind, run}
 use Rattle.revs_terms.specs.Terms.{place_of}
-use Rattle.revs_terms.specs.Running.{Value, unit, bit, register, closure, Environment, bound, value_at, bound_length, Stamped, Met, State, Outcome, stuck, went, after, provided, worked, registered, written, read, as_bit, as_register, bit_of, bits_of, block_of, part_of, parts_of, apply_to, apply_all, left_by, claimed, chain_of, chain, term_of, run_of}
+use Rattle.revs_terms.specs.Running.{Value, unit, bit, register, closure, Environment, bound, value_at, bound_length, Stamped, Met, State, Outcome, stuck, went, after, provided, given, worked, registered, written, read, as_bit, as_register, bit_of, bits_of, block_of, part_of, parts_of, apply_to, apply_all, left_by, claimed, chain_of, chain, term_of, run_of}
 use Rattle.revs_terms.specs.Runs.{no_bits, real_bits}
-use Rattle.revs_terms.proofs.Pairs.{OptionPaired, Paired, option_weaker, weaker, pushed, same_length, stored, found}
-use Rattle.revs_terms.proofs.GrowingLog.{bit_at-push, bit_at-newest}
+use Rattle.revs_terms.proofs.PairedLemmas.{OptionPaired, Paired, option_weaker, weaker, pushed, same_length, stored, found}
+use Rattle.revs_terms.proofs.LogLemmas.{bit_at-push, bit_at-newest}
 use Rattle.revs_terms.specs.declared.cause.Cause.{Cause}
 use Rattle.revs_terms.specs.declared.cause.Cause.TheVariants as causes
 
@@ -107,7 +107,16 @@ module _ (input : List Bool) where
       → GoTogether Same (worked no_bits count at s) (worked real_bits count at t)
   both_worked count at {s} {t} h =
       both_provided (leb (s.work + count) 16777216) (leb (t.work + count) 16777216) _ at (ap (λ w. leb (w + count) 16777216) h.work) (λ fits.
-      both_went tt (record { log = h.log; work = ap (λ w. w + count) h.work; known = h.known; few_entries = h.few_entries; few_claims = h.few_claims; store = h.store; claims = h.claims }))
+      both_went tt (record {
+        log = h.log;
+        work = ap
+            (λ w. w + count) h.work;
+        known = h.known;
+        few_entries = h.few_entries;
+        few_claims = h.few_claims;
+        store = h.store;
+        claims = h.claims;
+      }))
 
   pub both_registered : (locations : List ℕ) (at : Place) {s : State (Unit {0})} {t : State Bool} → AreAlike s t
       → GoTogether Same (registered no_bits locations at s) (registered real_bits locations at t)
@@ -164,7 +173,8 @@ module _ (input : List Bool) where
       })
 
   -- what a location holds, for the steps behind it
-  found_held : {A C : Type 0} {Q : Answers A C} (x : Option (Option (Stamped (Unit {0})))) (y : Option (Option (Stamped Bool))) (at : Place) (s : State (Unit {0})) (t : State Bool)
+  found_held : {A C : Type 0} {Q : Answers A C} (x : Option (Option (Stamped (Unit {0})))) (y : Option (Option (Stamped Bool))) (at : Place)
+      (s : State (Unit {0})) (t : State Bool)
       (k : Stamped (Unit {0}) → State (Unit {0}) → Outcome (Unit {0}) A) (m : Stamped Bool → State Bool → Outcome Bool C)
       → OptionPaired (OptionPaired (IsAlike t.log)) x y
       → ((a : Stamped (Unit {0})) (b : Stamped Bool) → IsAlike t.log a b → GoTogether Q (k a s) (m b t))
@@ -183,7 +193,8 @@ module _ (input : List Bool) where
       → ((a : Stamped (Unit {0})) (b : Stamped Bool) → IsAlike t.log a b → GoTogether Q (k a s) (m b t))
       → GoTogether Q (after (read no_bits location at s) k) (after (read real_bits location at t) m)
   both_read location at {s} {t} k m h f =
-      found_held (slice_get s.store location) (slice_get t.store location) at s t k m (found (OptionPaired (IsAlike t.log)) s.store t.store location h.store) f
+      found_held (slice_get s.store location) (slice_get t.store location) at s t k m
+      (found (OptionPaired (IsAlike t.log)) s.store t.store location h.store) f
 
   both_as_bit : (at : Place) (value : Value) {s : State (Unit {0})} {t : State Bool} → AreAlike s t
       → GoTogether Same (as_bit no_bits at value s) (as_bit real_bits at value t)
@@ -217,23 +228,25 @@ module _ (input : List Bool) where
         → GoTogether Same (block_of no_bits d env items last s) (block_of real_bits e env items last t)
     both_block_of env [] last h = deeper env last _ _ h
     both_block_of env (bind name u ∷ items) last h =
-        next (deeper env u _ _ h) (λ value s t h. next (both_worked (bound_length value) (place_of u) h) (λ _ s t h. both_block_of (bound value env) items last h))
+        next (deeper env u _ _ h) (λ value s t h. next (both_worked (bound_length value) (place_of u) h)
+        (λ _ s t h. both_block_of (bound value env) items last h))
     both_block_of env (run u ∷ items) last h = next (deeper env u _ _ h) (λ _ s t h. both_block_of env items last h)
 
     both_index : (x : Option ℕ) (at : Place) {s : State (Unit {0})} {t : State Bool} → AreAlike s t
-        → GoTogether {A = Value} {C = Value} Same (elim x [ None ↦ stuck causes.Index at | Some location ↦ went (bit location) s ])
-        (elim x [ None ↦ stuck causes.Index at | Some location ↦ went (bit location) t ])
+        → GoTogether {A = Value} {C = Value} Same (after (given x causes.Index at s) (λ location s. went (bit location) s))
+        (after (given x causes.Index at t) (λ location t. went (bit location) t))
     both_index None at h = both_stuck causes.Index at
     both_index (Some location) at h = both_went (bit location) h
 
     both_part_of : (whole : Place) (p : Part) (value : Value) {s : State (Unit {0})} {t : State Bool} → AreAlike s t
-        → GoTogether Same (part_of no_bits d whole p value s) (part_of real_bits e whole p value t)
+        → GoTogether Same (part_of no_bits whole p value s) (part_of real_bits whole p value t)
     both_part_of whole (part.Index i at) value h = next (both_as_register at value h) (λ r s t h. both_index (slice_get r i) at h)
     both_part_of whole (part.Slice i j at) value h =
-        next (both_as_register at value h) (λ r s t h. both_provided (leb i j && leb (j + 1) (length r)) _ causes.Slice at refl (λ fits. both_registered (take (j + 1 - i) (drop i r)) whole h))
+        next (both_as_register at value h) (λ r s t h. both_provided (leb i j && leb (j + 1) (length r)) _ causes.Slice at refl
+        (λ fits. both_registered (take (j + 1 - i) (drop i r)) whole h))
 
     both_parts_of : (whole : Place) (ps : List Part) (value : Value) {s : State (Unit {0})} {t : State Bool} → AreAlike s t
-        → GoTogether Same (parts_of no_bits d whole ps value s) (parts_of real_bits e whole ps value t)
+        → GoTogether Same (parts_of no_bits whole ps value s) (parts_of real_bits whole ps value t)
     both_parts_of whole [] value h = both_went value h
     both_parts_of whole (p ∷ ps) value h = next (both_part_of whole p value h) (λ value s t h. both_parts_of whole ps value h)
 
@@ -255,7 +268,8 @@ module _ (input : List Bool) where
         next (deeper env u _ _ h) (λ argument s t h. next (both_apply_to (place_of u) head argument h) (λ head s t h. both_apply_all env us head h))
 
     left_alike : (log : List Entry) (kind : Kind) (location : ℕ) (xs : List (Option (Stamped (Unit {0})))) (ys : List (Option (Stamped Bool)))
-        → Paired (OptionPaired (IsAlike log)) xs ys → Paired (OptionPaired (IsAlike log)) (left_by no_bits d kind location xs) (left_by real_bits e kind location ys)
+        → Paired (OptionPaired (IsAlike log)) xs ys
+        → Paired (OptionPaired (IsAlike log)) (left_by no_bits kind location xs) (left_by real_bits kind location ys)
     left_alike log kinds.Clean location xs ys h = stored (OptionPaired (IsAlike log)) xs ys location None None h tt
     left_alike log kinds.Assert location xs ys h = h
 
@@ -268,7 +282,8 @@ module _ (input : List Bool) where
         let noted : Claim = record { kind = kind; of = a.stamp; at = at } in
         let met : Claim = record { kind = kind; of = b.stamp; at = at } in
         let few : length t.claims + 1 ≤ 4096 = leb-true (length t.claims + 1) 4096 fits in
-        let longer : length (t.claims ++ record { claim = met; bit = b.bit } ∷ []) ≡ length t.claims + 1 = length-append t.claims (record { claim = met; bit = b.bit } ∷ []) in
+        let longer : length (t.claims ++ record { claim = met; bit = b.bit } ∷ []) ≡ length t.claims + 1 = length-append t.claims
+        (record { claim = met; bit = b.bit } ∷ []) in
         both_went unit (record {
           log = h.log;
           work = h.work;
@@ -294,7 +309,8 @@ module _ (input : List Bool) where
         next (both_written (entry a.stamp b.stamp) (entry x.stamp y.stamp) (op x.bit y.bit) (place_of u) h
         (ap (λ r. entry r b.stamp) left.stamp ∙ ap (entry x.stamp) right.stamp)
         (o.known (length t.log) x.stamp y.stamp left.known right.known)
-        (ap (λ c. op c y.bit) left.bit ∙ ap (op (bit_at input (written_by input [] t.log) x.stamp)) right.bit ∙ o.bit (written_by input [] t.log) x.stamp y.stamp))
+        (ap (λ c. op c y.bit) left.bit ∙ ap (op (bit_at input (written_by input [] t.log) x.stamp)) right.bit ∙ o.bit
+        (written_by input [] t.log) x.stamp y.stamp))
         (λ made s t h. both_chain_of entry op o env first made us h))))
 
     both_chain : (entry : Ref → Ref → Entry) (op : Bool → Bool → Bool) → IsOperator entry op
@@ -314,7 +330,8 @@ module _ (input : List Bool) where
     both_term_of env (used name) h = both_went (value_at env name.back) h
     both_term_of env (bool b at) h = next (both_written (entries.Const b) (entries.Const b) b at h refl tt refl) (λ made s t h. both_went (bit made) h)
     both_term_of env (reg us at) h =
-        next (both_bits_of env (list_of us) h) (λ locations s t h. both_provided (leb (length locations) 4096) _ causes.Length at refl (λ fits. both_registered locations at h))
+        next (both_bits_of env (list_of us) h) (λ locations s t h. both_provided (leb (length locations) 4096) _ causes.Length at refl
+        (λ fits. both_registered locations at h))
     both_term_of env (block items last at) h = both_block_of env (items_of items) last h
     both_term_of env (function names body at) h = both_went (closure names body env) h
     both_term_of env (parts base ps) h = next (deeper env base _ _ h) (λ value s t h. both_parts_of (place_of base) ps value h)

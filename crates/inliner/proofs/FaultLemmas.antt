@@ -2,8 +2,8 @@
 use Rattle.std.proofs.Common.{◌≡◌, sym, ap, ◌∙◌, subst}
 use Rattle.revs_terms.specs.Running.{State, Outcome, went, after}
 use Rattle.inliner.specs.declared.fault.RunFault.{RunFault}
+use Rattle.inliner.specs.inside.Steps.{IsStuckAs, Says}
 use Rattle.inliner.specs.declared.fault.RunFault.TheVariants as faults
-use Rattle.inliner.specs.Faults.{IsStuckAs, Says}
 
 pub goes_on : {A C : Type 0} (o : Outcome (Unit {0}) A) (a : A) (s : State (Unit {0})) (next : A → State (Unit {0}) → Outcome (Unit {0}) C)
     (r : Outcome (Unit {0}) C) → o ≡ went a s → next a s ≡ r → after o next ≡ r
@@ -23,6 +23,7 @@ pub said_same : {A : Type 0} (fault : RunFault) (o p : Outcome (Unit {0}) A) →
 said_same fault o p e says = subst (λ (x : Outcome (Unit {0}) _). Says fault x) (sym e) says
 
 -- stuck behind the first step
-pub said_next : {A C : Type 0} (fault : RunFault) (o : Outcome (Unit {0}) A) (a : A) (s : State (Unit {0})) (next : A → State (Unit {0}) → Outcome (Unit {0}) C)
+pub said_next : {A C : Type 0} (fault : RunFault) (o : Outcome (Unit {0}) A) (a : A) (s : State (Unit {0}))
+    (next : A → State (Unit {0}) → Outcome (Unit {0}) C)
     → o ≡ went a s → Says fault (next a s) → Says fault (after o next)
 said_next fault o a s next e says = said_same fault (after o next) (next a s) (ap (λ (x : Outcome (Unit {0}) _). after x next) e) says

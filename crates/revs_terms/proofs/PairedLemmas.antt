@@ -39,7 +39,8 @@ module _ {A C : Type 0} where
   same_length R (x ∷ xs) [] h = absurd h
   same_length R (x ∷ xs) (y ∷ ys) h = ap suc (same_length R xs ys h.1)
 
-  pub stored : (R : A → C → Type 0) (xs : List A) (ys : List C) (i : ℕ) (x : A) (y : C) → Paired R xs ys → R x y → Paired R (slice_set xs i x) (slice_set ys i y)
+  pub stored : (R : A → C → Type 0) (xs : List A) (ys : List C) (i : ℕ) (x : A) (y : C) → Paired R xs ys → R x y
+      → Paired R (slice_set xs i x) (slice_set ys i y)
   stored R [] [] i x y h r = tt
   stored R [] (v ∷ ys) i x y h r = absurd h
   stored R (u ∷ xs) [] i x y h r = absurd h

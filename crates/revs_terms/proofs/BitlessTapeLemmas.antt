@@ -14,9 +14,9 @@ use Rattle.revs_terms.specs.Trees.{Tree}
 use Rattle.revs_terms.specs.Terms.{place_of}
 use Rattle.revs_terms.specs.Running.{Value, unit, bit, register, closure, nothing, Stamped, Met, State, Outcome, stuck, went, after, run_of}
 use Rattle.revs_terms.specs.Runs.{inputs_from, start, params_in, locations_of, read_all, no_bits, real_bits, nothings, run_of_program, run_without_bits, IsInput, LeavesOn, tape_of, SameForAll, LeavesTape}
-use Rattle.revs_terms.proofs.Parts.{both}
-use Rattle.revs_terms.proofs.Pairs.{OptionPaired, Paired, same_length}
-use Rattle.revs_terms.proofs.SideBySide.{IsAlike, IsAlikeClaim, AreAlike, Answers, GoTogether, both_stuck, next, next_with, answers, both_provided, both_read, both_run_of}
+use Rattle.std.proofs.lemmas.Bool.{and_parts}
+use Rattle.revs_terms.proofs.PairedLemmas.{OptionPaired, Paired, same_length}
+use Rattle.revs_terms.proofs.BitlessRunLemmas.{IsAlike, IsAlikeClaim, AreAlike, Answers, GoTogether, both_stuck, next, next_with, answers, both_provided, both_read, both_run_of}
 use Rattle.revs_terms.specs.declared.cause.Cause.{Cause}
 use Rattle.revs_terms.specs.declared.cause.Cause.TheVariants as causes
 
@@ -29,13 +29,15 @@ module _ {A C : Type 0} (R : A → C → Type 0) where
   same_map f g e (x ∷ xs) [] h = absurd h
   same_map f g e (x ∷ xs) (y ∷ ys) h = ap (λ d. d ∷ map g ys) (e x y h.0) ∙ ap (λ ds. f x ∷ ds) (same_map f g e xs ys h.1)
 
-  same_map_map : {D E : Type 0} (f : A → D) (k : D → E) (g : C → E) → ((x : A) (y : C) → R x y → g y ≡ k (f x)) → (xs : List A) (ys : List C) → Paired R xs ys → map g ys ≡ map k (map f xs)
+  same_map_map : {D E : Type 0} (f : A → D) (k : D → E) (g : C → E) → ((x : A) (y : C) → R x y → g y ≡ k (f x)) → (xs : List A) (ys : List C) → Paired R xs ys
+      → map g ys ≡ map k (map f xs)
   same_map_map f k g e [] [] h = refl
   same_map_map f k g e [] (y ∷ ys) h = absurd h
   same_map_map f k g e (x ∷ xs) [] h = absurd h
   same_map_map f k g e (x ∷ xs) (y ∷ ys) h = ap (λ d. d ∷ map g ys) (e x y h.0) ∙ ap (λ ds. k (f x) ∷ ds) (same_map_map f k g e xs ys h.1)
 
-  all_map : {D : Type 0} (f : A → D) (P : D → Type 0) → ((x : A) (y : C) → R x y → P (f x)) → (xs : List A) (ys : List C) → Paired R xs ys → AllByRecursion P (map f xs)
+  all_map : {D : Type 0} (f : A → D) (P : D → Type 0) → ((x : A) (y : C) → R x y → P (f x)) → (xs : List A) (ys : List C) → Paired R xs ys
+      → AllByRecursion P (map f xs)
   all_map f P e [] ys h = tt
   all_map f P e (x ∷ xs) [] h = absurd h
   all_map f P e (x ∷ xs) (y ∷ ys) h = (e x y h.0, all_map f P e xs ys h.1)
@@ -110,8 +112,10 @@ module _ (input : List Bool) where
       (λ outputs s' bits t' reads. all_read (length ms) t.log outputs s' bits t' r.1 reads) (both_read_all at ms r.2)))
 
   both_runs : (left : ℕ) (params : List Param) (body : Tree) (n : ℕ) → length input ≡ n
-      → GoTogether input AreEnds (after (run_of no_bits left (params_in 0 params nothing) body (start (nothings n))) (λ value s. after (locations_of (place_of body) value s) (read_all no_bits (place_of body))))
-      (after (run_of real_bits left (params_in 0 params nothing) body (start input)) (λ value s. after (locations_of (place_of body) value s) (read_all real_bits (place_of body))))
+      → GoTogether input AreEnds (after (run_of no_bits left (params_in 0 params nothing) body (start (nothings n)))
+      (λ value s. after (locations_of (place_of body) value s) (read_all no_bits (place_of body))))
+      (after (run_of real_bits left (params_in 0 params nothing) body (start input))
+      (λ value s. after (locations_of (place_of body) value s) (read_all real_bits (place_of body))))
   both_runs left params body n e =
       next input (both_run_of input left (params_in 0 params nothing) body (start (nothings n)) (start input) (starts_alike n e)) (both_end (place_of body))
 
@@ -190,11 +194,13 @@ module _ (input : List Bool) where
     where
       positive : (widths : List ℕ) → list_all (λ width. leb 1 width) widths ≡ true → AllByRecursion (λ width. 1 ≤ width) widths
       positive [] e = tt
-      positive (w ∷ ws) e = let h = both (leb 1 w) (list_all (λ width. leb 1 width) ws) e in (leb-true 1 w h.0, positive ws h.1)
+      positive (w ∷ ws) e = let h = and_parts (leb 1 w) (list_all (λ width. leb 1 width) ws) e in (leb-true 1 w h.0, positive ws h.1)
 
-      known : {log old : List Entry} → log ≡ old → (r q : Ref) → r ≡ q → IsKnown (length input) (length old) r → IsKnown (sum (widths_of params)) (length log) q
+      known : {log old : List Entry} → log ≡ old → (r q : Ref) → r ≡ q → IsKnown (length input) (length old) r
+          → IsKnown (sum (widths_of params)) (length log) q
       known {log} {old} l r q same h =
-          subst (λ x. IsKnown (sum (widths_of params)) (length x) q) (sym l) (subst (λ x. IsKnown (sum (widths_of params)) (length old) x) same (subst (λ n. IsKnown n (length old) r) whole h))
+          subst (λ x. IsKnown (sum (widths_of params)) (length x) q) (sym l)
+          (subst (λ x. IsKnown (sum (widths_of params)) (length old) x) same (subst (λ n. IsKnown n (length old) r) whole h))
 
 pub same_for_all : SameForAll
 same_for_all params body = (

@@ -12,14 +12,13 @@ use Rattle.revc_base.specs.declared.tape.Kind.TheVariants as kinds
 use Rattle.revc_base.specs.declared.tape.Claim.{Claim}
 use Rattle.revc_base.specs.Tapes.{TapeView, IsKnown}
 use Rattle.revc_base.proofs.TapeKeeps.{IsKnown-later, All-map, All-push}
-use Rattle.revs_terms.specs.Running.{Stamped, Met, went, read, unit, left_by, written}
+use Rattle.revs_terms.specs.Running.{Stamped, Met, went, read, unit, left_by, written, assigned, claim_on}
 use Rattle.revs_terms.specs.Runs.{no_bits}
 use Rattle.array_shapes.specs.declared.value.Value.TheVariants as variants
 use Rattle.inliner.specs.declared.machine.Machine.{Machine}
-use Rattle.inliner.specs.Machines.{held_by, met_by, state_of, AreBindings, AreLeaps, IsKnownIn, IsMachine, Does, Goes}
-use Rattle.inliner.specs.Steps.{claim_step, assign_step}
-use Rattle.inliner.proofs.After.{goes_on}
-use Rattle.inliner.proofs.Growth.{grows_same}
+use Rattle.inliner.specs.inside.Machines.{held_by, met_by, state_of, AreBindings, AreLeaps, IsKnownIn, IsMachine, Does, Goes}
+use Rattle.inliner.proofs.FaultLemmas.{goes_on}
+use Rattle.inliner.proofs.EnvironmentLemmas.{grows_same}
 
 All-set : {A : Type 0} (P : A → Type 0) (xs : List A) (i : ℕ) (x : A) → AllByRecursion P xs → P x → AllByRecursion P (slice_set xs i x)
 All-set P [] i x all is = all
@@ -33,15 +32,16 @@ state_is now store log claims work e f g h = cc
 
 -- ---- a location takes a bit
 
-pub assigned : (old now : Machine) (to from : ℕ) (left right : Place) (was made : Ref)
+pub assigned_goes : (old now : Machine) (to from : ℕ) (left right : Place) (was made : Ref)
     → now.bindings.items ≡ old.bindings.items → now.store.items ≡ slice_set old.store.items to (Some made) → now.tape ≡ old.tape → now.work ≡ old.work
     → read no_bits to left (state_of old) ≡ went (record { bit = tt; stamp = was }) (state_of old)
     → read no_bits from right (state_of old) ≡ went (record { bit = tt; stamp = made }) (state_of old)
     → IsKnown (sum old.tape.params) (length old.tape.entries) made → IsMachine old
-    → Goes old now (assign_step to from left right (state_of old)) variants.Unit
-assigned old now to from left right was made b s t w first second known is =
+    → Goes old now (assigned no_bits to from left right (state_of old)) variants.Unit
+assigned_goes old now to from left right was made b s t w first second known is =
     let state : state_of now ≡ record (state_of old) { store = slice_set (map held_by old.store.items) to (held_by (Some made)) } =
-    state_is now _ _ _ _ (ap (map held_by) s ∙ map-set held_by old.store.items to (Some made)) (ap (λ (x : TapeView). x.entries) t) (ap (λ (x : TapeView). map met_by x.claims) t) w in
+    state_is now _ _ _ _ (ap (map held_by) s ∙ map-set held_by old.store.items to (Some made)) (ap (λ (x : TapeView). x.entries) t)
+    (ap (λ (x : TapeView). map met_by x.claims) t) w in
     record {
       does = record {
         goes = goes_on _ _ _ _ _ first (goes_on _ _ _ _ _ second (ap (went unit) (sym state)));
@@ -52,7 +52,9 @@ assigned old now to from left right was made b s t w first second known is =
           known = rw (s, t) (All-set (IsKnownIn old.tape) old.store.items to (Some made) is.known known);
           few = rw (s, t, length-set old.store.items to (Some made)) is.few;
           within = rw w is.within;
+          room = rw (b, w) is.room;
         };
+        worked = omega (arith, ap length b, w);
       };
       made = record { made = tt };
     }
@@ -60,11 +62,12 @@ assigned old now to from left right was made b s t w first second known is =
 -- ---- a claim is noted
 
 claimed_state : (old now : Machine) (kind : Kind) (location : ℕ) (operand at : Place) (of : Ref) (store : List (Option Ref))
-    → now.bindings.items ≡ old.bindings.items → now.store.items ≡ store → now.tape ≡ record old.tape { claims = old.tape.claims ++ record { kind = kind; of = of; at = at } ∷ [] } → now.work ≡ old.work
-    → left_by no_bits (λ _ _ s. went unit s) kind location (map held_by old.store.items) ≡ map held_by store
+    → now.bindings.items ≡ old.bindings.items → now.store.items ≡ store
+    → now.tape ≡ record old.tape { claims = old.tape.claims ++ record { kind = kind; of = of; at = at } ∷ [] } → now.work ≡ old.work
+    → left_by no_bits kind location (map held_by old.store.items) ≡ map held_by store
     → read no_bits location operand (state_of old) ≡ went (record { bit = tt; stamp = of }) (state_of old)
     → length old.tape.claims < 4096
-    → claim_step kind location operand at (state_of old) ≡ went unit (state_of now)
+    → claim_on no_bits kind location operand at (state_of old) ≡ went unit (state_of now)
 claimed_state old now kind location operand at of store b s t w left first room =
     let few : leb (length (map met_by old.tape.claims) + 1) 4096 ≡ true = grind (arith, length-map, nat_tests) in
     goes_on _ _ _ _ _ first (rw few (ap (went unit) (sym (state_is now _ _ _ _ (ap (map held_by) s ∙ sym left) (ap (λ (x : TapeView). x.entries) t)
@@ -80,36 +83,43 @@ claimed_kept old now store claims b s t w long known is = record {
   known = rw (s, t) known;
   few = rw (s, t, long) is.few;
   within = rw w is.within;
+  room = rw (b, w) is.room;
 }
 
 pub asserted : (old now : Machine) (kind : Kind) (location : ℕ) (operand at : Place) (of : Ref)
     → ¬ (kind ≡ kinds.Clean)
-    → now.bindings.items ≡ old.bindings.items → now.store.items ≡ old.store.items → now.tape ≡ record old.tape { claims = old.tape.claims ++ record { kind = kind; of = of; at = at } ∷ [] } → now.work ≡ old.work
+    → now.bindings.items ≡ old.bindings.items → now.store.items ≡ old.store.items
+    → now.tape ≡ record old.tape { claims = old.tape.claims ++ record { kind = kind; of = of; at = at } ∷ [] } → now.work ≡ old.work
     → read no_bits location operand (state_of old) ≡ went (record { bit = tt; stamp = of }) (state_of old)
     → length old.tape.claims < 4096 → IsMachine old
-    → Goes old now (claim_step kind location operand at (state_of old)) variants.Unit
+    → Goes old now (claim_on no_bits kind location operand at (state_of old)) variants.Unit
 asserted old now kinds.Clean location operand at of h b s t w first room is = absurd (h refl)
 asserted old now kinds.Assert location operand at of h b s t w first room is = record {
   does = record {
     goes = claimed_state old now kinds.Assert location operand at of old.store.items b s t w refl first room;
     grows = grows_same old now b (ap (λ (x : TapeView). x.params) t);
     kept = claimed_kept old now old.store.items _ b s t w refl is.known is;
+    worked = omega (arith, ap length b, w);
   };
   made = record { made = tt };
 }
 
 pub cleaned : (old now : Machine) (kind : Kind) (location : ℕ) (operand at : Place) (of : Ref)
     → kind ≡ kinds.Clean
-    → now.bindings.items ≡ old.bindings.items → now.store.items ≡ slice_set old.store.items location None → now.tape ≡ record old.tape { claims = old.tape.claims ++ record { kind = kind; of = of; at = at } ∷ [] } → now.work ≡ old.work
+    → now.bindings.items ≡ old.bindings.items → now.store.items ≡ slice_set old.store.items location None
+    → now.tape ≡ record old.tape { claims = old.tape.claims ++ record { kind = kind; of = of; at = at } ∷ [] } → now.work ≡ old.work
     → read no_bits location operand (state_of old) ≡ went (record { bit = tt; stamp = of }) (state_of old)
     → length old.tape.claims < 4096 → IsMachine old
-    → Goes old now (claim_step kind location operand at (state_of old)) variants.Unit
+    → Goes old now (claim_on no_bits kind location operand at (state_of old)) variants.Unit
 cleaned old now kinds.Assert location operand at of h b s t w first room is = cc
 cleaned old now kinds.Clean location operand at of h b s t w first room is = record {
   does = record {
-    goes = claimed_state old now kinds.Clean location operand at of (slice_set old.store.items location None) b s t w (sym (map-set held_by old.store.items location None)) first room;
+    goes = claimed_state old now kinds.Clean location operand at of (slice_set old.store.items location None) b s t w
+        (sym (map-set held_by old.store.items location None)) first room;
     grows = grows_same old now b (ap (λ (x : TapeView). x.params) t);
-    kept = claimed_kept old now (slice_set old.store.items location None) _ b s t w (length-set old.store.items location None) (All-set (IsKnownIn old.tape) old.store.items location None is.known tt) is;
+    kept = claimed_kept old now (slice_set old.store.items location None) _ b s t w (length-set old.store.items location None)
+        (All-set (IsKnownIn old.tape) old.store.items location None is.known tt) is;
+    worked = omega (arith, ap length b, w);
   };
   made = record { made = tt };
 }
@@ -143,5 +153,7 @@ wrote old now entry at made m b s t w room is =
             (omega (arith, longer)));
         few = rw s (omega (arith, longer, is.few, length-append old.store.items (Some (refs.Write (length old.tape.entries)) ∷ [])));
         within = rw w is.within;
+        room = rw (b, w) is.room;
       };
+      worked = omega (arith, ap length b, w);
     }

@@ -8,7 +8,7 @@ use Rattle.revs_terms.specs.Programs.{widths_of}
 use Rattle.revs_terms.specs.Running.{Stamped, State, Outcome, stuck, went}
 use Rattle.revs_terms.specs.Runs.{run_of_program, run_without_bits, IsInput, EndsOnAll, IsTapeOf, tape_of, OneTape, TapeGivesOutput}
 use Rattle.revs_terms.specs.Trees.{Tree}
-use Rattle.revs_terms.proofs.BothEnds.{same_for_all}
+use Rattle.revs_terms.proofs.BitlessTapeLemmas.{same_for_all}
 use Rattle.revs_terms.specs.declared.cause.Cause.{Cause}
 
 zeros : List Param → List Bool
@@ -18,7 +18,8 @@ zeros_are_input : (params : List Param) → IsInput params (zeros params)
 unfolding zeros
 zeros_are_input params = length-replicate (sum (widths_of params)) false
 
-no_two_ends : (o : Outcome Bool (List (Stamped Bool))) (outputs : List (Stamped Bool)) (s : State Bool) (why : Cause) (at : Place) → o ≡ went outputs s → o ≡ stuck why at → ⊥
+no_two_ends : (o : Outcome Bool (List (Stamped Bool))) (outputs : List (Stamped Bool)) (s : State Bool) (why : Cause) (at : Place) → o ≡ went outputs s
+    → o ≡ stuck why at → ⊥
 no_two_ends o outputs s why at e f = absurd cc
 
 same_end : (o : Outcome Bool (List (Stamped Bool))) (a b : List (Stamped Bool)) (s t : State Bool) → o ≡ went a s → o ≡ went b t → (a ≡ b) × (s ≡ t)
@@ -42,10 +43,12 @@ one_tape_at_most params body t other a b =
     (sym m.claims ∙ ap (λ (s : State Bool). map (λ m. m.claim) s.claims) same.1 ∙ l.claims)
     (sym m.stamps ∙ ap (λ (os : List (Stamped Bool)). map (λ o. o.stamp) os) same.0 ∙ l.stamps)
 
-tape_from : (params : List Param) (body : Tree) (o : Outcome (Unit {0}) (List (Stamped (Unit {0})))) → run_without_bits params body ≡ o → EndsOnAll params body → (t : TapeView) × IsTapeOf params body t
+tape_from : (params : List Param) (body : Tree) (o : Outcome (Unit {0}) (List (Stamped (Unit {0})))) → run_without_bits params body ≡ o
+    → EndsOnAll params body → (t : TapeView) × IsTapeOf params body t
 tape_from params body (stuck why at) e all =
     let one = all.ends (zeros params) (zeros_are_input params) in
-    absurd (no_two_ends (run_of_program params body (zeros params)) one.1.outputs one.1.state why at one.1.ends ((same_for_all params body).0 why at e (zeros params) (zeros_are_input params)))
+    absurd (no_two_ends (run_of_program params body (zeros params)) one.1.outputs one.1.state why at one.1.ends
+    ((same_for_all params body).0 why at e (zeros params) (zeros_are_input params)))
 tape_from params body (went outputs s) e all = (tape_of params outputs s, (same_for_all params body).1 outputs s e)
 
 pub one_tape : OneTape

@@ -8,7 +8,7 @@ use Rattle.revc_base.specs.Tapes.{AreWidths}
 use Rattle.revs_terms.specs.declared.program.Param.{Param}
 use Rattle.revs_terms.specs.Programs.{AreParams, width_of, widths_of}
 use Rattle.std.proofs.lemmas.Bool.Decides.{nat_tests}
-use Rattle.revs_terms.proofs.Parts.{both}
+use Rattle.std.proofs.lemmas.Bool.{and_parts}
 use Rattle.revs_terms.specs.Running as runs
 use Rattle.revs_terms.specs.Running.{Environment, nothing, bound}
 use Rattle.revs_terms.specs.Runs.{inputs_from, nothings, from, params_in, param_value}
@@ -20,11 +20,11 @@ use Rattle.inliner.specs.declared.machine.Binding.{Binding}
 use Rattle.revc_base.specs.Tapes.{TapeView}
 use Rattle.revc_base.proofs.TapeKeeps.{All-map}
 use Rattle.inliner.specs.declared.machine.Machine.{Machine}
-use Rattle.inliner.proofs.Effects.{state_is}
-use Rattle.inliner.specs.Machines.{held_by, met_by, IsKnownIn, env_in, spec_value, envs_from, AreBindings, AreLeaps, Leaps, IsValueView}
-use Rattle.inliner.specs.Starting.{param_view, IsInputBelow, AreInputs, AreBound, IsStart}
-use Rattle.inliner.proofs.Growth.{pushed_at, bindings_pushed}
-use Rattle.inliner.proofs.FartherOut.{leaps_pushed}
+use Rattle.inliner.proofs.WriteLemmas.{state_is}
+use Rattle.inliner.specs.inside.Machines.{held_by, met_by, IsKnownIn, env_in, spec_value, envs_from, AreBindings, AreLeaps, Leaps, IsValueView}
+use Rattle.inliner.specs.inside.Starts.{param_view, IsInputBelow, AreInputs, AreBound, IsStart}
+use Rattle.inliner.proofs.EnvironmentLemmas.{pushed_at, bindings_pushed}
+use Rattle.inliner.proofs.LeapLemmas.{leaps_pushed}
 
 -- ---- inputs
 
@@ -58,7 +58,7 @@ at_least w e = grind (arith, nat_tests)
 
 pub all_widths : (ws : List ℕ) → list_all (λ w. leb 1 w) ws ≡ true → AllByRecursion (λ w. 1 ≤ w) ws
 all_widths [] e = tt
-all_widths (w ∷ ws) e = let h = both (leb 1 w) (list_all (λ w. leb 1 w) ws) e in (at_least w h.0, all_widths ws h.1)
+all_widths (w ∷ ws) e = let h = and_parts (leb 1 w) (list_all (λ w. leb 1 w) ws) e in (at_least w h.0, all_widths ws h.1)
 
 pub are_widths : (params : List Param) (ws : List ℕ) → AreParams params → ws ≡ widths_of params → AreWidths ws
 are_widths params ws are e = subst AreWidths (sym e) (record { bits = all_widths (widths_of params) are.bits; inputs = are.inputs })
@@ -100,8 +100,10 @@ view_param : (n first : ℕ) (w : Option ℕ) → IsValueView n (param_view firs
 view_param n first None = tt
 view_param n first (Some w) = tt
 
-pub bound_more : (bs cs : List Binding) (first next parent : ℕ) (leap : Leap) (p : Param) (ps rest params : List Param) (v : Value) → rest ≡ p ∷ ps → seen v ≡ param_view first p.width → parent ≡ length bs
-    → next ≡ first + width_of p.width → cs ≡ bs ++ record { value = v; parent = parent; leap = leap } ∷ [] → Leaps (envs_from [] bs) parent leap → InBound bs first rest params → InBound cs next ps params
+pub bound_more : (bs cs : List Binding) (first next parent : ℕ) (leap : Leap) (p : Param) (ps rest params : List Param) (v : Value) → rest ≡ p ∷ ps
+    → seen v ≡ param_view first p.width → parent ≡ length bs
+    → next ≡ first + width_of p.width → cs ≡ bs ++ record { value = v; parent = parent; leap = leap } ∷ [] → Leaps (envs_from [] bs) parent leap
+    → InBound bs first rest params → InBound cs next ps params
 bound_more bs cs first next parent leap p ps rest params v cut s at n pushed l i =
     let b : Binding = record { value = v; parent = parent; leap = leap } in
     let longer : length cs ≡ length bs + 1 = ap length pushed ∙ length-append bs (b ∷ []) in
@@ -114,7 +116,8 @@ bound_more bs cs first next parent leap p ps rest params v cut s at n pushed l i
     ∙ ap (λ (x : runs.Value). bound x (env_in (envs_from [] bs) parent)) (spec_param (envs_from [] bs) first p.width)
     ∙ ap (λ (x : ℕ). bound (param_value first p.width) (env_in (envs_from [] bs) x)) at in
     record {
-      are = rw pushed (bindings_pushed bs b i.are (omega (arith, at)) (subst (λ (x : ValueView). IsValueView (length bs) x) (sym s) (view_param (length bs) first p.width)));
+      are = rw pushed (bindings_pushed bs b i.are (omega (arith, at))
+          (subst (λ (x : ValueView). IsValueView (length bs) x) (sym s) (view_param (length bs) first p.width)));
       leaps = rw pushed (leaps_pushed [] bs b i.leaps l);
       env = ap (params_in next ps) last ∙ ap (λ (x : ℕ). params_in x ps (bound (param_value first p.width) (env_in (envs_from [] bs) (length bs)))) n
           ∙ ap (λ (x : List Param). params_in first x (env_in (envs_from [] bs) (length bs))) (sym cut) ∙ i.env;
@@ -130,16 +133,19 @@ bound_done bs first rest params none i = record {
   leaps = i.leaps;
   env = ap (λ (x : List Param). params_in first x (env_in (envs_from [] bs) (length bs))) (sym none) ∙ i.env;
   count = omega (arith, ap length none, i.count);
+  few = omega (arith, i.few, i.total);
 }
 
-pub param_places : (first : ℕ) (w : Option ℕ) (width : ℕ) (places : List ℕ) → w ≡ Some width → places ≡ range_with_len first (first + width - first) → values.register places ≡ param_view first w
+pub param_places : (first : ℕ) (w : Option ℕ) (width : ℕ) (places : List ℕ) → w ≡ Some width → places ≡ range_with_len first (first + width - first)
+    → values.register places ≡ param_view first w
 param_places first w width places some e =
     let n : first + width - first ≡ width = omega arith in
     ap values.register (e ∙ ap (range_with_len first) n ∙ from_range first width) ∙ ap (param_view first) (sym some)
 
 -- ---- the start
 
-known_below : (ws : List ℕ) (held : Option Ref) → IsInputBelow (sum ws) held → IsKnownIn (record { params = ws; entries = []; claims = []; outputs = [] }) held
+known_below : (ws : List ℕ) (held : Option Ref) → IsInputBelow (sum ws) held
+    → IsKnownIn (record { params = ws; entries = []; claims = []; outputs = [] }) held
 known_below ws None h = tt
 known_below ws (Some r) h = h
 
@@ -152,9 +158,12 @@ started params m w t i b are =
       kept = record {
         made = b.are;
         leaps = b.leaps;
-        known = subst (λ (x : TapeView). AllByRecursion (IsKnownIn x) m.store.items) (sym t) (All-map (IsInputBelow (sum (widths_of params))) (IsKnownIn (record { params = widths_of params; entries = []; claims = []; outputs = [] })) (known_below (widths_of params)) m.store.items i.known);
+        known = subst (λ (x : TapeView). AllByRecursion (IsKnownIn x) m.store.items) (sym t)
+            (All-map (IsInputBelow (sum (widths_of params))) (IsKnownIn (record { params = widths_of params; entries = []; claims = []; outputs = [] }))
+            (known_below (widths_of params)) m.store.items i.known);
         few = omega (arith, i.count, are.inputs);
         within = omega arith;
+        room = omega (arith, b.few);
       };
       state = state_is m _ _ _ _ i.held e (ap (λ (x : TapeView). map met_by x.claims) t) w;
       env = b.env;

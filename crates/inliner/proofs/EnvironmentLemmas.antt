@@ -12,9 +12,9 @@ use Rattle.inliner.specs.declared.machine.Machine.{Machine}
 use Rattle.revc_base.specs.Tapes.{TapeView}
 use Rattle.revc_base.specs.declared.place.Place.{Place}
 use Rattle.revs_terms.specs.Runs.{no_bits}
-use Rattle.inliner.specs.Steps.{bind_step}
-use Rattle.inliner.proofs.After.{goes_on}
-use Rattle.inliner.specs.Machines.{view_length, env_in, spec_value, value_in, bound_in, envs_from, IsValueView, IsValue, AreBindings, AreLeaps, envs_of, state_of, IsMachine, Grows, Does, Binds}
+use Rattle.inliner.proofs.FaultLemmas.{goes_on}
+use Rattle.inliner.specs.inside.Steps.{bind_step}
+use Rattle.inliner.specs.inside.Machines.{view_length, env_in, spec_value, value_in, bound_in, envs_from, IsValueView, IsValue, AreBindings, AreLeaps, envs_of, state_of, IsMachine, Grows, Does, BindsOne}
 
 -- ---- what stands in front stays
 
@@ -72,7 +72,8 @@ grown_env old now env g h =
     ap (λ (d : List Environment). env_in d env) (grown old now g)
     ∙ env_in-front (envs_of old) (added_by (envs_of old) g.more) env (omega (arith, envs_of-length old))
 
-pub grown_value : (old now : Machine) (v : Value) → Grows old now → IsValue (length old.bindings.items) v → value_in (envs_of now) v ≡ value_in (envs_of old) v
+pub grown_value : (old now : Machine) (v : Value) → Grows old now → IsValue (length old.bindings.items) v
+    → value_in (envs_of now) v ≡ value_in (envs_of old) v
 grown_value old now v g h =
     ap (λ (d : List Environment). spec_value d (seen v)) (grown old now g)
     ∙ spec_value-front (envs_of old) (added_by (envs_of old) g.more) (seen v) (subst (λ (n : ℕ). IsValueView n (seen v)) (sym (envs_of-length old)) h.made)
@@ -114,11 +115,19 @@ pushed_env old now b e = ap (λ (bs : List Binding). env_in (envs_from [] bs) (l
 AreBindings-push : (n : ℕ) (bs : List Binding) (b : Binding) → AreBindings n bs → b.parent ≤ n + length bs → IsValueView (n + length bs) (seen b.value)
     → AreBindings n (bs ++ b ∷ [])
 AreBindings-push n [] b are p v = (subst (λ (k : ℕ). b.parent ≤ k) (omega arith) p, (subst (λ (k : ℕ). IsValueView k (seen b.value)) (omega arith) v, tt))
-AreBindings-push n (c ∷ bs) b are p v =
-    (are.0, (are.1.0, AreBindings-push (n + 1) bs b are.1.1 (subst (λ (k : ℕ). b.parent ≤ k) (omega arith) p) (subst (λ (k : ℕ). IsValueView k (seen b.value)) (omega arith) v)))
+AreBindings-push n (c ∷ bs) b are p v = (
+  are.0,
+  (
+    are.1.0,
+    AreBindings-push (n + 1) bs b are.1.1 (subst (λ (k : ℕ). b.parent ≤ k) (omega arith) p)
+        (subst (λ (k : ℕ). IsValueView k (seen b.value)) (omega arith) v),
+  ),
+)
 
-pub bindings_pushed : (bs : List Binding) (b : Binding) → AreBindings 0 bs → b.parent ≤ length bs → IsValueView (length bs) (seen b.value) → AreBindings 0 (bs ++ b ∷ [])
-bindings_pushed bs b are p v = AreBindings-push 0 bs b are (subst (λ (k : ℕ). b.parent ≤ k) (omega arith) p) (subst (λ (k : ℕ). IsValueView k (seen b.value)) (omega arith) v)
+pub bindings_pushed : (bs : List Binding) (b : Binding) → AreBindings 0 bs → b.parent ≤ length bs → IsValueView (length bs) (seen b.value)
+    → AreBindings 0 (bs ++ b ∷ [])
+bindings_pushed bs b are p v = AreBindings-push 0 bs b are (subst (λ (k : ℕ). b.parent ≤ k) (omega arith) p)
+    (subst (λ (k : ℕ). IsValueView k (seen b.value)) (omega arith) v)
 
 -- ---- an environment that is there
 
@@ -139,13 +148,16 @@ placed_here d bs b p v =
     let whole : envs_from e bs ≡ e ++ r = envs_from-front e bs in
     let longer : length e ≡ length d + 1 = length-append d (bound_in d b ∷ []) in
     rw whole (env_in-front e r (suc (length d)) (omega arith) ∙ at_end d (bound_in d b)
-    ∙ sym (bound_in-front e r b (omega arith) (IsValueView-later (length d) (length e) (seen b.value) (omega arith) v) ∙ bound_in-front d (bound_in d b ∷ []) b p v))
+    ∙ sym (bound_in-front e r b (omega arith) (IsValueView-later (length d) (length e) (seen b.value) (omega arith) v) ∙ bound_in-front d
+    (bound_in d b ∷ []) b p v))
 
-pub at_place : (d : List Environment) (bs : List Binding) (k : ℕ) (b : Binding) → AreBindings (length d) bs → slice_get bs k ≡ Some b → IsPlaced (envs_from d bs) (length d + k) b
+pub at_place : (d : List Environment) (bs : List Binding) (k : ℕ) (b : Binding) → AreBindings (length d) bs → slice_get bs k ≡ Some b
+    → IsPlaced (envs_from d bs) (length d + k) b
 at_place d [] k b are e = absurd cc
 at_place d (c ∷ cs) zero b are e =
     let same : c ≡ b = cc in
-    subst (λ (x : Binding). IsPlaced (envs_from d (c ∷ cs)) (length d + 0) x) same (subst (λ (n : ℕ). IsPlaced (envs_from d (c ∷ cs)) n c) (omega arith) (record {
+    subst (λ (x : Binding). IsPlaced (envs_from d (c ∷ cs)) (length d + 0) x) same
+    (subst (λ (n : ℕ). IsPlaced (envs_from d (c ∷ cs)) n c) (omega arith) (record {
       env = placed_here d cs c are.0 are.1.0;
       parent = are.0;
       made = are.1.0;
@@ -171,12 +183,14 @@ pub bound_done : (old mid now : Machine) (value : Value) (env made : ℕ) (leap 
     → count ≡ view_length (seen value) → Does old mid (worked no_bits count at (state_of old)) tt
     → now.bindings.items ≡ mid.bindings.items ++ record { value = value; parent = env; leap = leap } ∷ []
     → now.store.items ≡ mid.store.items → now.tape ≡ mid.tape → now.work ≡ mid.work → made ≡ length now.bindings.items
-    → env ≤ length old.bindings.items → IsValue (length old.bindings.items) value → AreLeaps [] now.bindings.items
-    → Binds old now (bind_step (value_in (envs_of old) value) (env_in (envs_of old) env) there (state_of old)) made
-bound_done old mid now value env made leap at there p count n w b s t k m h v leaps =
+    → length old.bindings.items + 1 ≤ 1024 + old.work → env ≤ length old.bindings.items → IsValue (length old.bindings.items) value
+    → AreLeaps [] now.bindings.items
+    → BindsOne old now (bind_step (value_in (envs_of old) value) (env_in (envs_of old) env) there (state_of old)) made
+bound_done old mid now value env made leap at there p count n w b s t k m space h v leaps =
     let v2 : IsValue (length mid.bindings.items) value = grown_made old mid value w.grows v in
     let h2 : env ≤ length mid.bindings.items = omega (arith, grown_length old mid w.grows) in
-    let longer : length now.bindings.items ≡ length mid.bindings.items + 1 = ap length b ∙ length-append mid.bindings.items (record { value = value; parent = env; leap = leap } ∷ []) in
+    let longer : length now.bindings.items ≡ length mid.bindings.items + 1 = ap length b ∙ length-append mid.bindings.items
+    (record { value = value; parent = env; leap = leap } ∷ []) in
     let state : state_of mid ≡ state_of now = cc in
     let counted : runs.bound_length (value_in (envs_of old) value) ≡ count = bound_length-view (envs_of old) (seen value) ∙ sym n in
     let last : env_in (envs_of now) made ≡ bound (value_in (envs_of old) value) (env_in (envs_of old) env) =
@@ -184,17 +198,18 @@ bound_done old mid now value env made leap at there p count n w b s t k m h v le
     ∙ ap (λ (x : runs.Value). bound x (env_in (envs_of mid) env)) (grown_value old mid value w.grows v)
     ∙ ap (bound (value_in (envs_of old) value)) (grown_env old mid env w.grows h) in
     record {
-      does = record {
-        goes = rw (← p, counted) (goes_on _ _ _ _ _ w.goes (rw (last, state) refl));
-        grows = grows_trans old mid now w.grows (record { more = record { value = value; parent = env; leap = leap } ∷ []; bindings = b; params = ap (λ (x : TapeView). x.params) t });
-        kept = record {
-          made = rw b (bindings_pushed mid.bindings.items (record { value = value; parent = env; leap = leap }) w.kept.made h2 v2.made);
-          leaps = leaps;
-          known = rw (s, t) w.kept.known;
-          few = rw (s, t) w.kept.few;
-          within = rw k w.kept.within;
-        };
+      goes = rw (← p, counted) (goes_on _ _ _ _ _ w.goes (rw (last, state) refl));
+      grows = grows_trans old mid now w.grows (record
+          { more = record { value = value; parent = env; leap = leap } ∷ []; bindings = b; params = ap (λ (x : TapeView). x.params) t });
+      kept = record {
+        made = rw b (bindings_pushed mid.bindings.items (record { value = value; parent = env; leap = leap }) w.kept.made h2 v2.made);
+        leaps = leaps;
+        known = rw (s, t) w.kept.known;
+        few = rw (s, t) w.kept.few;
+        within = rw k w.kept.within;
+        room = omega (arith, longer, k, w.worked, space);
       };
+      worked = omega (arith, longer, k, w.worked);
       made = omega (arith, m);
     }
 
@@ -220,8 +235,12 @@ bound_env m env b is some within e =
     (ap (env_in (envs_of m)) k ∙ p.env, p.parent, p.made)
 
 -- the nearest binding
-pub nearest : (m : Machine) (env left : ℕ) (b : Binding) → IsMachine m → 0 < env → env ≤ length m.bindings.items → left ≡ 0 → b ≡ get_or m.bindings.items (env - 1) b
+pub nearest : (m : Machine) (env left : ℕ) (b : Binding) → IsMachine m → 0 < env → env ≤ length m.bindings.items → left ≡ 0
+    → b ≡ get_or m.bindings.items (env - 1) b
     → (value_in (envs_of m) b.value ≡ value_at (env_in (envs_of m) env) left) × IsValueView (length m.bindings.items) (seen b.value)
 nearest m env left b is some within none e =
-    let p = bound_env m env b is some within e in
-    (sym (ap (value_at (env_in (envs_of m) env)) none ∙ ap (λ (x : Environment). value_at x 0) p.0), IsValueView-later (env - 1) (length m.bindings.items) (seen b.value) (omega arith) p.2)
+    let p = bound_env m env b is some within e in (
+      sym (ap (value_at (env_in (envs_of m) env)) none ∙ ap (λ (x : Environment). value_at x 0) p.0),
+      IsValueView-later (env - 1) (length m.bindings.items)
+          (seen b.value) (omega arith) p.2,
+    )

@@ -18,18 +18,18 @@ use Rattle.array_shapes.specs.declared.value.Value.{Value}
 use Rattle.inliner.specs.declared.fault.RunFault.{RunFault}
 use Rattle.inliner.specs.declared.fault.RunFault.TheVariants as faults
 use Rattle.inliner.specs.declared.machine.Machine.{Machine}
-use Rattle.inliner.specs.Faults.{IsStuckAs, Says, Leaves, IsStuckOnAll, IsRefused}
+use Rattle.inliner.specs.Faults.{IsStuckOnAll, IsRefused}
 use Rattle.revs_terms.specs.Terms.{is_formed}
 use Rattle.revs_terms.specs.Programs.{AreParams}
-use Rattle.revs_terms.proofs.BothEnds.{same_for_all}
-use Rattle.revs_terms.proofs.FullValues.{has_outputs}
+use Rattle.revs_terms.proofs.BitlessTapeLemmas.{same_for_all}
+use Rattle.revs_terms.proofs.OutputLemmas.{has_outputs}
 use Rattle.std.specs.Prelude.{IsTrue}
 use Rattle.std.proofs.lemmas.List.{length-map}
-use Rattle.inliner.specs.Machines.{met_by, env_in, value_in, envs_of, state_of, Goes}
-use Rattle.inliner.specs.Starting.{stamped, Reads, Outputs, outputs_step, IsStart}
-use Rattle.inliner.specs.Steps.{Going}
-use Rattle.inliner.proofs.After.{said_first, said_same}
-use Rattle.inliner.proofs.Through.{regroup, same_next, after_went}
+use Rattle.inliner.specs.inside.Machines.{met_by, env_in, value_in, envs_of, state_of, Goes}
+use Rattle.inliner.specs.inside.Starts.{stamped, Reads, Outputs, outputs_step, IsStart}
+use Rattle.inliner.proofs.FaultLemmas.{said_first, said_same}
+use Rattle.inliner.specs.inside.Steps.{Going, IsStuckAs, Leaves, Says}
+use Rattle.inliner.proofs.ProgressLemmas.{regroup, same_next, after_went}
 
 -- ---- outputs are read one after another
 
@@ -53,13 +53,17 @@ pub reads_more : (m : Machine) (at : Place) (made now : List Ref) (l : ℕ) (r :
     → InReads m at made rest all → InReads m at now ls all
 reads_more m at made now l r ls rest all cut pushed got known i = record {
   left = i.left ∙ ap (λ (x : List ℕ). left_to_read at x made (state_of m)) cut
-      ∙ regroup (read no_bits l at (state_of m)) (λ first s. after (read_all no_bits at ls s) (λ more s. went (first ∷ more) s)) (λ more s. went (map stamped made ++ more) s)
-      ∙ ap (λ (o : Going (Stamped (Unit {0}))). after o (λ first s. after (after (read_all no_bits at ls s) (λ more s. went (first ∷ more) s)) (λ more s. went (map stamped made ++ more) s))) got
+      ∙ regroup (read no_bits l at (state_of m)) (λ first s. after (read_all no_bits at ls s) (λ more s. went (first ∷ more) s))
+      (λ more s. went (map stamped made ++ more) s)
+      ∙ ap (λ (o : Going (Stamped (Unit {0}))). after o
+      (λ first s. after (after (read_all no_bits at ls s) (λ more s. went (first ∷ more) s)) (λ more s. went (map stamped made ++ more) s))) got
       ∙ regroup (read_all no_bits at ls (state_of m)) (λ more s. went (stamped r ∷ more) s) (λ more s. went (map stamped made ++ more) s)
       ∙ same_next (read_all no_bits at ls (state_of m)) (λ more s. went (map stamped made ++ stamped r ∷ more) s) (λ more s. went (map stamped now ++ more) s)
       (λ more s. ap (λ (x : List (Stamped (Unit {0}))). went x s)
-      (sym (append_assoc (map stamped made) (stamped r ∷ []) more) ∙ ap (λ (x : List (Stamped (Unit {0}))). x ++ more) (sym (map-append stamped made (r ∷ [])) ∙ ap (map stamped) (sym pushed))));
-  known = subst (AllByRecursion (IsKnown (sum m.tape.params) (length m.tape.entries))) (sym pushed) (All-push (IsKnown (sum m.tape.params) (length m.tape.entries)) made r i.known known);
+      (sym (append_assoc (map stamped made) (stamped r ∷ []) more) ∙ ap (λ (x : List (Stamped (Unit {0}))). x ++ more)
+      (sym (map-append stamped made (r ∷ [])) ∙ ap (map stamped) (sym pushed))));
+  known = subst (AllByRecursion (IsKnown (sum m.tape.params) (length m.tape.entries))) (sym pushed)
+      (All-push (IsKnown (sum m.tape.params) (length m.tape.entries)) made r i.known known);
   count = omega (arith, ap length pushed ∙ length-append made (r ∷ []), ap length cut, i.count);
 }
 
@@ -72,7 +76,8 @@ reads_stuck m at made l ls rest all fault cut i s =
 
 pub reads_done : (m : Machine) (at : Place) (made : List Ref) (rest all : List ℕ) → rest ≡ [] → InReads m at made rest all → Reads m all at made
 reads_done m at made rest all none i = record {
-  read = i.left ∙ ap (λ (x : List ℕ). left_to_read at x made (state_of m)) none ∙ ap (λ (x : List (Stamped (Unit {0}))). went x (state_of m)) (append-nil (map stamped made));
+  read = i.left ∙ ap (λ (x : List ℕ). left_to_read at x made (state_of m)) none ∙ ap (λ (x : List (Stamped (Unit {0}))). went x (state_of m))
+      (append-nil (map stamped made));
   known = i.known;
   count = omega (arith, ap length none, i.count);
 }
@@ -90,18 +95,22 @@ stamps_back (r ∷ rs) = ap (λ (x : List Ref). r ∷ x) (stamps_back rs)
 -- the run of a program with so many levels of depth
 abbrev pub run_within : ℕ → List Param → Tree → Going (List (Stamped (Unit {0})))
 run_within left params body =
-    after (run_of no_bits left (params_in 0 params nothing) body (start (nothings (sum (widths_of params))))) (λ value s. outputs_step (place_of body) value s)
+    after (run_of no_bits left (params_in 0 params nothing) body (start (nothings (sum (widths_of params)))))
+    (λ value s. outputs_step (place_of body) value s)
 
 at_start : (left : ℕ) (params : List Param) (body : Tree) (m : Machine) (env : ℕ) → IsStart params m → env ≡ length m.bindings.items
     → run_within left params body ≡ after (run_of no_bits left (env_in (envs_of m) env) body (state_of m)) (λ value s. outputs_step (place_of body) value s)
 at_start left params body m env s e =
-    sym (ap (λ (x : Environment). after (run_of no_bits left x body (state_of m)) (λ value s. outputs_step (place_of body) value s)) (ap (env_in (envs_of m)) e ∙ s.env)
-    ∙ ap (λ (x : State (Unit {0})). after (run_of no_bits left (params_in 0 params nothing) body x) (λ value s. outputs_step (place_of body) value s)) s.state)
+    sym (ap (λ (x : Environment). after (run_of no_bits left x body (state_of m)) (λ value s. outputs_step (place_of body) value s))
+    (ap (env_in (envs_of m)) e ∙ s.env)
+    ∙ ap (λ (x : State (Unit {0})). after (run_of no_bits left (params_in 0 params nothing) body x) (λ value s. outputs_step (place_of body) value s))
+    s.state)
 
 pub body_stuck : (left : ℕ) (params : List Param) (body : Tree) (m : Machine) (env : ℕ) (fault : RunFault) → IsStart params m → env ≡ length m.bindings.items
     → Says fault (run_of no_bits left (env_in (envs_of m) env) body (state_of m)) → Says fault (run_within left params body)
 body_stuck left params body m env fault s e says =
-    said_same fault _ _ (at_start left params body m env s e) (said_first fault (run_of no_bits left (env_in (envs_of m) env) body (state_of m)) (λ value s. outputs_step (place_of body) value s) says)
+    said_same fault _ _ (at_start left params body m env s e)
+    (said_first fault (run_of no_bits left (env_in (envs_of m) env) body (state_of m)) (λ value s. outputs_step (place_of body) value s) says)
 
 body_run : (left : ℕ) (params : List Param) (body : Tree) (m now : Machine) (env : ℕ) (v : Value) → IsStart params m → env ≡ length m.bindings.items
     → Goes m now (run_of no_bits left (env_in (envs_of m) env) body (state_of m)) v
@@ -109,12 +118,14 @@ body_run : (left : ℕ) (params : List Param) (body : Tree) (m now : Machine) (e
 body_run left params body m now env v s e g =
     at_start left params body m env s e ∙ ap (λ (o : Going runs.Value). after o (λ value s. outputs_step (place_of body) value s)) g.does.goes
 
-pub outputs_stuck : (left : ℕ) (params : List Param) (body : Tree) (m now : Machine) (env : ℕ) (v : Value) (fault : RunFault) → IsStart params m → env ≡ length m.bindings.items
+pub outputs_stuck : (left : ℕ) (params : List Param) (body : Tree) (m now : Machine) (env : ℕ) (v : Value) (fault : RunFault) → IsStart params m
+    → env ≡ length m.bindings.items
     → Goes m now (run_of no_bits left (env_in (envs_of m) env) body (state_of m)) v
     → Says fault (outputs_step (place_of body) (value_in (envs_of now) v) (state_of now)) → Says fault (run_within left params body)
 outputs_stuck left params body m now env v fault s e g says = said_same fault _ _ (body_run left params body m now env v s e g) says
 
-pub program_leaves : (left : ℕ) (params : List Param) (body : Tree) (m now : Machine) (env : ℕ) (v : Value) (made : List Ref) (tape : TapeView) → IsStart params m → env ≡ length m.bindings.items
+pub program_leaves : (left : ℕ) (params : List Param) (body : Tree) (m now : Machine) (env : ℕ) (v : Value) (made : List Ref) (tape : TapeView)
+    → IsStart params m → env ≡ length m.bindings.items
     → Goes m now (run_of no_bits left (env_in (envs_of m) env) body (state_of m)) v
     → Outputs now (value_in (envs_of now) v) (place_of body) made → tape ≡ record now.tape { outputs = made }
     → (run_within left params body ≡ went (map stamped made) (state_of now)) × (tape ≡ tape_of params (map stamped made) (state_of now))
@@ -165,9 +176,12 @@ pub left_on_all : (params : List Param) (body : Tree) (tape : TapeView) → Leav
 left_on_all params body tape l = subst (IsTapeOf params body) (sym l.left) ((same_for_all params body).1 l.outputs l.state l.ends)
 
 -- a program has an output
-pub some_made : (left : ℕ) (params : List Param) (body : Tree) (m now : Machine) (env : ℕ) (v : Value) (made : List Ref) → run_within left params body ≡ run_without_bits params body
+pub some_made : (left : ℕ) (params : List Param) (body : Tree) (m now : Machine) (env : ℕ) (v : Value) (made : List Ref)
+    → run_within left params body ≡ run_without_bits params body
     → AreParams params → IsTrue (is_formed body) → IsStart params m → env ≡ length m.bindings.items
-    → Goes m now (run_of no_bits left (env_in (envs_of m) env) body (state_of m)) v → Outputs now (value_in (envs_of now) v) (place_of body) made → 1 ≤ length made
+    → Goes m now (run_of no_bits left (env_in (envs_of m) env) body (state_of m)) v → Outputs now (value_in (envs_of now) v) (place_of body) made
+    → 1 ≤ length made
 some_made left params body m now env v made same are formed s e g o =
-    let some : 1 ≤ length (map stamped made) = has_outputs params body (map stamped made) (state_of now) are formed (sym same ∙ body_run left params body m now env v s e g ∙ o.read) in
+    let some : 1 ≤ length (map stamped made) = has_outputs params body (map stamped made) (state_of now) are formed
+    (sym same ∙ body_run left params body m now env v s e g ∙ o.read) in
     omega (arith, some, length-map made stamped)
