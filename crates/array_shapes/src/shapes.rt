@@ -2,7 +2,7 @@
 ghost use Rattle.std.specs.Prelude.{◌≡◌, ◌+◌, ◌-◌, ◌<◌, ◌≤◌, ◌++◌, ◌↔◌, length, take, drop, slice_get, IfOk, IsErrOf};
 ghost use Rattle.revs_terms.specs.declared.limits.TheConstants.{MOST_PLACES};
 
-use revs_terms::MOST_PLACES;
+use revs_terms::limits::MOST_PLACES;
 use std::alloc::{AllocError, Global};
 
 /// Why a call makes no register.

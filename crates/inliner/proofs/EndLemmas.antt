@@ -6,7 +6,7 @@ use Rattle.revc_base.specs.declared.place.Place.{Place}
 use Rattle.revc_base.specs.declared.tape.Ref.{Ref}
 use Rattle.revc_base.specs.declared.tape.Claim.{Claim}
 use Rattle.revc_base.specs.Tapes.{TapeView, IsKnown}
-use Rattle.revc_base.proofs.TapeKeeps.{All-push}
+use Rattle.list_facts.proofs.AllLemmas.{AllByRecursion-push}
 use Rattle.revs_terms.specs.declared.program.Param.{Param}
 use Rattle.revs_terms.specs.Programs.{widths_of}
 use Rattle.revs_terms.specs.Terms.{place_of}
@@ -63,7 +63,7 @@ reads_more m at made now l r ls rest all cut pushed got known i = record {
       (sym (append_assoc (map stamped made) (stamped r ∷ []) more) ∙ ap (λ (x : List (Stamped (Unit {0}))). x ++ more)
       (sym (map-append stamped made (r ∷ [])) ∙ ap (map stamped) (sym pushed))));
   known = subst (AllByRecursion (IsKnown (sum m.tape.params) (length m.tape.entries))) (sym pushed)
-      (All-push (IsKnown (sum m.tape.params) (length m.tape.entries)) made r i.known known);
+      (AllByRecursion-push (IsKnown (sum m.tape.params) (length m.tape.entries)) made r i.known known);
   count = omega (arith, ap length pushed ∙ length-append made (r ∷ []), ap length cut, i.count);
 }
 
@@ -138,13 +138,6 @@ program_leaves left params body m now env v made tape s e g o t =
     )
 
 -- ---- what is left of a list
-
-pub at_index : {X : Type 0} (xs : List X) (i : ℕ) (x : X) → i < length xs → x ≡ get_or xs i x → drop i xs ≡ x ∷ drop (i + 1) xs
-at_index [] i x h e = absurd (omega arith)
-at_index (y ∷ ys) zero x h e = ap (λ z. z ∷ ys) (sym e)
-at_index (y ∷ ys) (suc i) x h e =
-    let next : suc i + 1 ≡ suc (i + 1) = omega arith in
-    rw next (at_index ys i x (omega arith) e)
 
 pub at_last : {X : Type 0} (xs : List X) (i : ℕ) → length xs ≤ i → drop i xs ≡ []
 at_last [] zero h = refl

@@ -18,7 +18,7 @@ use Rattle.array_shapes.specs.Values.{ValueView, seen}
 use Rattle.inliner.specs.declared.leaps.Leap.{Leap}
 use Rattle.inliner.specs.declared.machine.Binding.{Binding}
 use Rattle.revc_base.specs.Tapes.{TapeView}
-use Rattle.revc_base.proofs.TapeKeeps.{All-map}
+use Rattle.list_facts.proofs.AllLemmas.{AllByRecursion-weaker}
 use Rattle.inliner.specs.declared.machine.Machine.{Machine}
 use Rattle.inliner.proofs.WriteLemmas.{state_is}
 use Rattle.inliner.specs.inside.Machines.{held_by, met_by, IsKnownIn, env_in, spec_value, envs_from, AreBindings, AreLeaps, Leaps, IsValueView}
@@ -159,7 +159,7 @@ started params m w t i b are =
         made = b.are;
         leaps = b.leaps;
         known = subst (λ (x : TapeView). AllByRecursion (IsKnownIn x) m.store.items) (sym t)
-            (All-map (IsInputBelow (sum (widths_of params))) (IsKnownIn (record { params = widths_of params; entries = []; claims = []; outputs = [] }))
+            (AllByRecursion-weaker (IsInputBelow (sum (widths_of params))) (IsKnownIn (record { params = widths_of params; entries = []; claims = []; outputs = [] }))
             (known_below (widths_of params)) m.store.items i.known);
         few = omega (arith, i.count, are.inputs);
         within = omega arith;

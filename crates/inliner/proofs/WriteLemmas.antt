@@ -1,5 +1,5 @@
 -- What each write to the machine does to the state of the run.
-use Rattle.std.proofs.Common.{◌≡◌, ℕ, zero, suc, ◌+◌, ◌≤◌, ◌<◌, leb, true, Option, Some, None, List, [], ◌∷◌, ◌++◌, length, map, sum, slice_set, length-append, arith, refl, sym, ap, ◌∙◌, subst}
+use Rattle.std.proofs.Common.{◌≡◌, ℕ, ◌+◌, ◌≤◌, ◌<◌, leb, true, Option, Some, None, List, [], ◌∷◌, ◌++◌, length, map, sum, slice_set, length-append, arith, refl, sym, ap, ◌∙◌, subst}
 use Rattle.std.specs.List.{AllByRecursion}
 use Rattle.std.proofs.lemmas.List.{map-set, length-set, map-append, length-map}
 use Rattle.std.proofs.lemmas.Bool.Decides.{nat_tests}
@@ -11,7 +11,8 @@ use Rattle.revc_base.specs.declared.tape.Kind.{Kind}
 use Rattle.revc_base.specs.declared.tape.Kind.TheVariants as kinds
 use Rattle.revc_base.specs.declared.tape.Claim.{Claim}
 use Rattle.revc_base.specs.Tapes.{TapeView, IsKnown}
-use Rattle.revc_base.proofs.TapeKeeps.{IsKnown-later, All-map, All-push}
+use Rattle.list_facts.proofs.AllLemmas.{AllByRecursion-push, AllByRecursion-set, AllByRecursion-weaker}
+use Rattle.revc_base.proofs.TapeLemmas.{IsKnown-later}
 use Rattle.revs_terms.specs.Running.{Stamped, Met, went, read, unit, left_by, written, assigned, claim_on}
 use Rattle.revs_terms.specs.Runs.{no_bits}
 use Rattle.array_shapes.specs.declared.value.Value.TheVariants as variants
@@ -19,11 +20,6 @@ use Rattle.inliner.specs.declared.machine.Machine.{Machine}
 use Rattle.inliner.specs.inside.Machines.{held_by, met_by, state_of, AreBindings, AreLeaps, IsKnownIn, IsMachine, Does, Goes}
 use Rattle.inliner.proofs.FaultLemmas.{goes_on}
 use Rattle.inliner.proofs.EnvironmentLemmas.{grows_same}
-
-All-set : {A : Type 0} (P : A → Type 0) (xs : List A) (i : ℕ) (x : A) → AllByRecursion P xs → P x → AllByRecursion P (slice_set xs i x)
-All-set P [] i x all is = all
-All-set P (y ∷ ys) zero x all is = (is, all.1)
-All-set P (y ∷ ys) (suc i) x all is = (all.0, All-set P ys i x all.1 is)
 
 pub state_is : (now : Machine) (store : List (Option (Stamped (Unit {0})))) (log : List Entry) (claims : List (Met (Unit {0}))) (work : ℕ)
     → map held_by now.store.items ≡ store → now.tape.entries ≡ log → map met_by now.tape.claims ≡ claims → now.work ≡ work
@@ -49,7 +45,7 @@ assigned_goes old now to from left right was made b s t w first second known is 
         kept = record {
           made = subst (AreBindings 0) (sym b) is.made;
           leaps = subst (AreLeaps []) (sym b) is.leaps;
-          known = rw (s, t) (All-set (IsKnownIn old.tape) old.store.items to (Some made) is.known known);
+          known = rw (s, t) (AllByRecursion-set (IsKnownIn old.tape) old.store.items to (Some made) is.known known);
           few = rw (s, t, length-set old.store.items to (Some made)) is.few;
           within = rw w is.within;
           room = rw (b, w) is.room;
@@ -118,7 +114,7 @@ cleaned old now kinds.Clean location operand at of h b s t w first room is = rec
         (sym (map-set held_by old.store.items location None)) first room;
     grows = grows_same old now b (ap (λ (x : TapeView). x.params) t);
     kept = claimed_kept old now (slice_set old.store.items location None) _ b s t w (length-set old.store.items location None)
-        (All-set (IsKnownIn old.tape) old.store.items location None is.known tt) is;
+        (AllByRecursion-set (IsKnownIn old.tape) old.store.items location None is.known tt) is;
     worked = omega (arith, ap length b, w);
   };
   made = record { made = tt };
@@ -148,8 +144,8 @@ wrote old now entry at made m b s t w room is =
       kept = record {
         made = subst (AreBindings 0) (sym b) is.made;
         leaps = subst (AreLeaps []) (sym b) is.leaps;
-        known = rw s (All-push (IsKnownIn now.tape) old.store.items (Some (refs.Write (length old.tape.entries)))
-            (All-map (IsKnownIn old.tape) (IsKnownIn now.tape) (λ held. IsKnownIn-later old.tape now.tape held params (omega arith)) old.store.items is.known)
+        known = rw s (AllByRecursion-push (IsKnownIn now.tape) old.store.items (Some (refs.Write (length old.tape.entries)))
+            (AllByRecursion-weaker (IsKnownIn old.tape) (IsKnownIn now.tape) (λ held. IsKnownIn-later old.tape now.tape held params (omega arith)) old.store.items is.known)
             (omega (arith, longer)));
         few = rw s (omega (arith, longer, is.few, length-append old.store.items (Some (refs.Write (length old.tape.entries)) ∷ [])));
         within = rw w is.within;

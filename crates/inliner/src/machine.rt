@@ -13,16 +13,12 @@ ghost use Rattle.inliner.specs.inside.Steps.{Says, IsBitAt, NoBitAt, entry_of, s
 use crate::RunFault;
 use crate::leaps::{Leap, leap_from};
 use array_shapes::{ShapeFault, Value, append, bit, index, register, rotate, slice};
+use revc_base::limits::{MOST_CLAIMS, MOST_WRITES};
 use revc_base::{Claim, Entry, Kind, Place, Ref, Tape};
-use revs_terms::{Cause, Item, MOST_PLACES, MOST_WORK, Part, Term};
+use revs_terms::limits::{MOST_PLACES, MOST_WORK};
+use revs_terms::{Cause, Item, Part, Term};
 use std::alloc::Global;
 use std::rc::Rc;
-
-/// The most writes of a run.
-const MOST_WRITES: u32 = 262_144;
-
-/// The most claims of a run.
-const MOST_CLAIMS: usize = 4_096;
 
 /// The operator of a chain.
 #[derive(Clone, Copy, Debug, PartialEq, Eq)]
@@ -124,7 +120,7 @@ impl<'t> Machine<'t> {
         ensures err { IfErr result (λ fault. Says fault
             (written no_bits entry tt at (state_of self.old))) }
     {
-        if self.tape.len() >= MOST_WRITES {
+        if self.tape.len() as usize >= MOST_WRITES {
             return Err(RunFault::stuck(Cause::Writes, at));
         }
         let location = self.store.len() as u32;

@@ -15,12 +15,11 @@ use crate::machine::Machine;
 use crate::start::start;
 use array_shapes::Value;
 use name_scope::Scoped;
+use revc_base::limits::MOST_OUTPUTS;
 use revc_base::{Ref, Tape};
-use revs_terms::{Cause, MOST_DEPTH, Program, Term};
+use revs_terms::limits::MOST_DEPTH;
+use revs_terms::{Cause, Program, Term};
 use std::alloc::Global;
-
-/// The most outputs of a program.
-const MOST_OUTPUTS: usize = 1_024;
 
 /// Runs a program whose names are bound once for all inputs, to the tape that its run leaves on each of them.
 ///

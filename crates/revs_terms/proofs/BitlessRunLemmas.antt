@@ -14,7 +14,7 @@ use Rattle.revc_base.specs.declared.tape.Kind.{Kind}
 use Rattle.revc_base.specs.declared.tape.Kind.TheVariants as kinds
 use Rattle.revc_base.specs.declared.tape.Claim.{Claim}
 use Rattle.revc_base.specs.Tapes.{bit_at, entry_bit, written_by, IsKnown, IsKnownEntry, AreKnown}
-use Rattle.revc_base.proofs.TapeKeeps.{IsKnown-later, AreKnown-push}
+use Rattle.revc_base.proofs.TapeLemmas.{IsKnown-later, AreKnown-push}
 use Rattle.revs_terms.specs.declared.term.Part.{Part}
 use Rattle.revs_terms.specs.declared.term.Part.TheVariants as part
 use Rattle.revs_terms.specs.Trees.{Tree, ItemTree, list_of, items_of, used, bool, reg, block, function, parts, apply, append, rotate, clean, assert, ands, xors, assign, bind, run}

@@ -6,3 +6,4 @@ pub mod BitlessRunLemmas
 pub mod BitlessTapeLemmas
 pub mod OutputLemmas
 pub mod TapeLemmas
+pub mod TapeLaws

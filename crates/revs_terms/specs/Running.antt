@@ -2,6 +2,7 @@
 --
 -- It is written once for every type of bits that has constants, an XOR and an AND: no case asks for a bit.
 use Rattle.std.specs.Prelude.{ℕ, zero, suc, ◌+◌, ◌-◌, leb, Bool, true, false, ◌&&◌, Option, Some, None, List, [], ◌∷◌, ◌++◌, length, take, drop, slice_get, slice_set}
+use Rattle.revc_base.specs.declared.limits.TheConstants.{MOST_WRITES, MOST_CLAIMS}
 use Rattle.revc_base.specs.declared.place.Place.{Place}
 use Rattle.revc_base.specs.declared.tape.Ref.{Ref}
 use Rattle.revc_base.specs.declared.tape.Ref.TheVariants as refs
@@ -134,7 +135,7 @@ module _ {B : Type 0} (bits : Bits B) where
   -- a new entry of the log, and a new location with its bit
   abbrev pub written : Entry → B → Place → Step B ℕ
   written entry b at s =
-      provided (leb (length s.log + 1) 262144) causes.Writes at
+      provided (leb (length s.log + 1) MOST_WRITES) causes.Writes at
       (went (length s.store) (record s {
         store = s.store ++ Some (record { bit = b; stamp = refs.Write (length s.log) }) ∷ [];
         log = s.log ++ entry ∷ [];
@@ -159,7 +160,7 @@ module _ {B : Type 0} (bits : Bits B) where
   -- a claim on what a location holds is noted
   abbrev pub noted : Kind → ℕ → Stamped B → Place → Step B Value
   noted kind location held at s =
-      provided (leb (length s.claims + 1) 4096) causes.Claims at
+      provided (leb (length s.claims + 1) MOST_CLAIMS) causes.Claims at
       (went unit (record s {
         store = left_by kind location s.store;
         claims = s.claims ++ record {

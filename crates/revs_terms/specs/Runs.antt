@@ -1,9 +1,11 @@
 -- The run of a program on an input, and the tape that it leaves.
 use Rattle.std.specs.Prelude.{◌≡◌, ℕ, zero, suc, ◌+◌, ◌≤◌, leb, IsTrue, Bool, ◌&&◌, Option, Some, None, List, [], ◌∷◌, length, map, sum}
 use Rattle.std.specs.Bool.{xor}
+use Rattle.revc_base.specs.declared.limits.TheConstants.{MOST_OUTPUTS}
 use Rattle.revc_base.specs.declared.place.Place.{Place}
 use Rattle.revc_base.specs.declared.tape.Ref.TheVariants as refs
 use Rattle.revc_base.specs.Tapes.{TapeView, IsTape, bit_on, outputs_on}
+use Rattle.revs_terms.specs.declared.limits.TheConstants.{MOST_DEPTH}
 use Rattle.revs_terms.specs.declared.program.Param.{Param}
 use Rattle.revs_terms.specs.Programs.{width_of, widths_of, AreParams}
 use Rattle.revs_terms.specs.Terms.{place_of, is_formed}
@@ -42,7 +44,7 @@ params_in first (p ∷ ps) env = params_in (first + width_of p.width) ps
 module _ {B : Type 0} where
   abbrev pub locations_of : Place → Value → State B → Outcome B (List ℕ)
   locations_of at (bit location) s = went (location ∷ []) s
-  locations_of at (register locations) s = provided (leb (length locations) 1024) causes.Outputs at
+  locations_of at (register locations) s = provided (leb (length locations) MOST_OUTPUTS) causes.Outputs at
       (went locations s)
   locations_of at _ s = stuck causes.NoOutput at
 
@@ -55,7 +57,7 @@ module _ {B : Type 0} where
 abbrev pub run_on : {B : Type 0} → Bits B → List Param → Tree → List B
     → Outcome B (List (Stamped B))
 run_on bits params body input =
-    after (run_of bits 400 (params_in 0 params nothing) body (start input)) (λ value s.
+    after (run_of bits MOST_DEPTH (params_in 0 params nothing) body (start input)) (λ value s.
     after (locations_of (place_of body) value s) (read_all bits (place_of body)))
 
 -- ---- the run on real bits

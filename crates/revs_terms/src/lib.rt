@@ -5,12 +5,11 @@
 #![tactic(auto)]
 
 mod cause;
-mod limits;
+pub mod limits;
 mod program;
 mod term;
 
 pub use cause::Cause;
-pub use limits::{MOST_DEPTH, MOST_LEVELS, MOST_PLACES, MOST_WORK};
 pub use program::{Param, Program, has_outputs, leaves_tape, one_tape, same_for_all};
 pub use term::{Item, Lambda, Name, Part, Term};
 

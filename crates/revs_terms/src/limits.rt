@@ -1,4 +1,4 @@
-// The limits of terms and of their runs.
+//! The limits of terms and of their runs.
 
 /// The most levels of a term.
 pub const MOST_LEVELS: usize = 100;

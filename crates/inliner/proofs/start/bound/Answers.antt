@@ -2,7 +2,8 @@ use Rattle.std.proofs.Common.{arith, rules, ◌≡◌, length, sym, subst, ap, L
 use Rattle.inliner.specs.declared.machine.Binding.{Binding}
 use Rattle.inliner.specs.inside.Machines.{AreBindings, AreLeaps, Leaps, envs_from}
 use Rattle.inliner.proofs.StartLemmas.{bound_begun, bound_more, bound_done}
-use Rattle.inliner.proofs.EndLemmas.{at_index, at_last}
+use Rattle.list_facts.proofs.CutLemmas.{drop_read}
+use Rattle.inliner.proofs.EndLemmas.{at_last}
 use Rattle.inliner.proofs.start.bound.Goals as goal
 
 pub loop-param-init : goal.loop-param-init
@@ -17,7 +18,7 @@ loop-param-preserved c =
     (λ (x : List Binding). Leaps (envs_from [] x) c.len-parent.result leap) c.deref.ensures.value c.leap_from-leap.ensures in
     bound_more c.loop-param.bindings.items c.push.new.self.items c.loop-param.first _ c.len-parent.result leap c.param-item.result _ _ c.args.params.now
     c.in_ok-value.value
-    (at_index c.args.params.now c.loop-param.param-index c.param-item.result (omega arith) c.param-item.is) c.in_ok-value.ensures.ok e
+    (drop_read c.args.params.now c.loop-param.param-index c.param-item.result (omega arith) c.param-item.is) c.in_ok-value.ensures.ok e
     (omega (arith, c.width-first.ensures)) c.in_ok-push.ensures.items l c.loop-param.invariant
 
 pub returns-clause-ok : goal.returns-clause-ok
