@@ -11,7 +11,7 @@ use Rattle.gate_split.specs.declared.roles.Roles.{Roles}
 use Rattle.real_format.specs.Real.{constant_byte, garbage_byte}
 use Rattle.gate_split.specs.Plans.{lines_in}
 use Rattle.real_format.specs.Compiled.{name_of_line, names_of, constants_of, line_text, header_lines, gate_words, compiled_text}
-use Rattle.real_format.specs.Parts.{size_text, names_text, header_text, flip_text}
+use Rattle.real_format.specs.inside.Parts.{size_text, names_text, header_text, flip_text}
 
 map-replicate : {X Y : Type 0} (f : X → Y) (n : ℕ) (x : X) → map f (replicate n x) ≡ replicate n (f x)
 map-replicate f zero x = refl

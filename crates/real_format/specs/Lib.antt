@@ -1,4 +1,4 @@
 pub mod Words
 pub mod Real
 pub mod Compiled
-pub mod Parts
+pub mod inside

@@ -82,3 +82,8 @@ pub record RealMeaning (text : List ℕ) (file : RealView) : Type 0 where
   pub constants_fit : length file.constants ≡ length file.names
   pub garbage_fits : length file.garbage ≡ length file.names
   pub gates : AllZip (ReadsFlip file.names) gate_lines file.gates
+
+-- a text means at most one file
+abbrev pub OneMeaning : Type 0
+OneMeaning =
+    (text : List ℕ) (file other : RealView) → RealMeaning text file → RealMeaning text other → file ≡ other

@@ -6,7 +6,7 @@ mod law;
 mod writer;
 
 pub use file::Mark;
-pub use law::compiled_meaning;
+pub use law::{compiled_meaning, one_meaning};
 pub use writer::write;
 
 #[cfg(test)]

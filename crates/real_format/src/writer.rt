@@ -8,7 +8,7 @@ ghost use Rattle.gate_split.specs.Plans.{lines_in, roles_of};
 ghost use Rattle.revc_io.specs.Faults.{HasCause};
 ghost use Rattle.revc_io.specs.Passing.{Gathers, Writes};
 ghost use Rattle.real_format.specs.Compiled.{letter_of, name_of_line, names_of, line_text, gate_words, compiled_text, MeansCompiled};
-ghost use Rattle.real_format.specs.Parts.{size_text, names_text, constants_text, garbage_text, header_text, flip_text};
+ghost use Rattle.real_format.specs.inside.Parts.{size_text, names_text, constants_text, garbage_text, header_text, flip_text};
 
 use gate_split::{Laid, Role, Roles};
 use mct_circuit::{Circuit, Control, Gate, Op};

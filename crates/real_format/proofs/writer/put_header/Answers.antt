@@ -1,6 +1,6 @@
 use Rattle.std.proofs.Common.{◌++◌}
 use Rattle.revc_io.proofs.PassingLemmas.{begun, step, failed_call, last_call}
-use Rattle.real_format.specs.Parts.{size_text, names_text, constants_text, garbage_text}
+use Rattle.real_format.specs.inside.Parts.{size_text, names_text, constants_text, garbage_text}
 use Rattle.real_format.proofs.writer.put_header.Goals as goal
 
 pub returns-in_err-put_size-clause-bytes : goal.returns-in_err-put_size-clause-bytes

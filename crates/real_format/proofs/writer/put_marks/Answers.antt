@@ -1,5 +1,5 @@
 use Rattle.revc_io.proofs.PassingLemmas.{begun, step, failed_call, last_call}
-use Rattle.real_format.specs.Parts.{constants_text, garbage_text}
+use Rattle.real_format.specs.inside.Parts.{constants_text, garbage_text}
 use Rattle.real_format.proofs.writer.put_marks.Goals as goal
 
 pub returns-in_err-put_constants-clause-bytes : goal.returns-in_err-put_constants-clause-bytes

@@ -2,7 +2,7 @@ use Rattle.std.proofs.Common.{◌++◌, map, codes}
 use Rattle.std.specs.List.{flat_map}
 use Rattle.revc_io.proofs.PassingLemmas.{begun, step, failed_call, last_call}
 use Rattle.real_format.specs.Compiled.{line_text, gate_words}
-use Rattle.real_format.specs.Parts.{header_text}
+use Rattle.real_format.specs.inside.Parts.{header_text}
 use Rattle.real_format.proofs.writer.put_text.Goals as goal
 
 pub returns-in_err-put_header-clause-bytes : goal.returns-in_err-put_header-clause-bytes
