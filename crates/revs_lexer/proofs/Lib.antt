@@ -1,7 +1,9 @@
-pub mod Cuts
-pub mod Firsts
-pub mod Gaps
-pub mod Longest
+pub mod CutLemmas
+pub mod FirstByteLemmas
+pub mod GapLemmas
+pub mod LongestLemmas
+pub mod OutcomeLemmas
 pub mod Outcomes
-pub mod Runs
-pub mod Tables
+pub mod RunLemmas
+pub mod SomeOutcomeLemmas
+pub mod TableLemmas

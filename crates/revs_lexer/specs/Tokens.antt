@@ -1,5 +1,5 @@
 -- The tokens of a program text: a relation between the text and the pieces that it is cut into.
-use Rattle.std.specs.Prelude.{◌≡◌, ◌≢◌, ℕ, ◌+◌, ◌<◌, ◌≤◌, not, List, [], ◌∷◌, ◌++◌, length, if◌then◌else◌, IsTrue, codes, fold}
+use Rattle.std.specs.Prelude.{◌≡◌, ◌≢◌, ◌⊎◌, ℕ, ◌+◌, ◌<◌, ◌≤◌, not, List, [], ◌∷◌, ◌++◌, length, if◌then◌else◌, IsTrue, codes, fold}
 use Rattle.std.specs.List.{list_all}
 use Rattle.revc_base.specs.declared.place.Place.{Place}
 use Rattle.revs_lexer.specs.Bytes.{is_blank, is_line_feed}
@@ -104,3 +104,8 @@ abbrev pub OneOutcome : Type 0
 OneOutcome =
     (text : List ℕ) (ts us : List Token) (stop other : Stop)
     → IsCut start text ts stop → IsCut start text us other → (ts ≡ us) × (stop ≡ other)
+
+-- Each text has a list of tokens or a first refusal.
+abbrev pub SomeOutcome : Type 0
+SomeOutcome =
+    (text : List ℕ) → ((ts : List Token) × IsTokens text ts) ⊎ ((fault : LexFault) × IsRefused text fault)

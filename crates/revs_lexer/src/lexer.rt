@@ -7,7 +7,7 @@ ghost use Rattle.std.specs.Str.Parse.{AllDigits, digits_value};
 ghost use Rattle.revs_lexer.specs.Bytes.{is_blank, is_line_feed, is_letter, is_name_byte};
 ghost use Rattle.revs_lexer.specs.Pieces.{Takes};
 ghost use Rattle.revs_lexer.specs.Spelling.{word_text, sign_text, is_identifier, Spells, IsWithinLimits};
-ghost use Rattle.revs_lexer.specs.Tokens.{place_after, IsGap, HasNoGap, IsLongest, Refuses, IsTokens, IsRefused, closed, IsEnded, OneOutcome};
+ghost use Rattle.revs_lexer.specs.Tokens.{place_after, IsGap, HasNoGap, IsLongest, Refuses, IsTokens, IsRefused, closed, IsEnded, OneOutcome, SomeOutcome};
 ghost use Rattle.revs_lexer.specs.declared.sign.Sign.{Sign};
 ghost use Rattle.revs_lexer.specs.declared.token.LexFault.{LexFault};
 ghost use Rattle.revs_lexer.specs.declared.token.Token.{Token};
@@ -229,4 +229,9 @@ pub fn tokens(alloc: Global, text: &[u8]) -> Result<Vec<Token>, LexFault>
 /// A text is cut in one way only: it has one list of tokens or one first refusal, and not both.
 pub fn one_outcome()
     ensures { OneOutcome }
+{}
+
+/// Each text has a list of tokens or a first refusal.
+pub fn some_outcome()
+    ensures { SomeOutcome }
 {}

@@ -2,7 +2,7 @@ use Rattle.std.proofs.Common.{length, sym, ◌∙◌, subst, arith, []}
 use Rattle.std.proofs.lemmas.Bool.{eqb-true}
 use Rattle.std.proofs.lemmas.List.{nil_from_length}
 use Rattle.std.proofs.lemmas.Result.{err_from_is_err_and}
-use Rattle.revs_lexer.proofs.Cuts.{Underway, underway_past, underway_at_end, underway_at_refusal, closed_at_end}
+use Rattle.revs_lexer.proofs.CutLemmas.{Underway, underway_past, underway_at_end, underway_at_refusal, closed_at_end}
 use Rattle.revs_lexer.proofs.lexer.cut.Goals as goal
 use Rattle.revs_lexer.proofs.lexer.cut.Goals.{In_ok-push}
 

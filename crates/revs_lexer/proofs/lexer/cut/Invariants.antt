@@ -1,5 +1,5 @@
 use Rattle.std.proofs.Common.{◌≤◌, ◌+◌, length}
-use Rattle.revs_lexer.proofs.Cuts.{Underway}
+use Rattle.revs_lexer.proofs.CutLemmas.{Underway}
 use Rattle.revs_lexer.proofs.lexer.cut.Given as goal
 
 abbrev pub invariant-loop-rest : goal.invariant-loop-rest

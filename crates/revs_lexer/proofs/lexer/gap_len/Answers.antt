@@ -1,6 +1,6 @@
 use Rattle.std.proofs.Common.{sym, ◌∙◌}
 use Rattle.std.proofs.lemmas.List.Sums.{prefix_len-le-length}
-use Rattle.revs_lexer.proofs.Gaps.{blank_at_front, comment_at_front, no_gap_at_front}
+use Rattle.revs_lexer.proofs.GapLemmas.{blank_at_front, comment_at_front, no_gap_at_front}
 use Rattle.revs_lexer.proofs.lexer.gap_len.Goals as goal
 
 pub returns-then-is_blank-clause-found : goal.returns-then-is_blank-clause-found

@@ -1,5 +1,5 @@
 use Rattle.std.proofs.Common.{sym}
-use Rattle.revs_lexer.proofs.Tables.{word_of-some}
+use Rattle.revs_lexer.proofs.TableLemmas.{word_of-some}
 use Rattle.revs_lexer.proofs.lexer.name.Goals as goal
 
 pub returns-in-Some-clause-spelled : goal.returns-in-Some-clause-spelled

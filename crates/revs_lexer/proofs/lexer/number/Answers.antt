@@ -1,7 +1,7 @@
 use Rattle.std.proofs.Common.{arith}
 use Rattle.std.proofs.lemmas.Int.Digits.{digits_value_more}
 use Rattle.std.proofs.lemmas.Grind.{pow_more}
-use Rattle.revs_lexer.proofs.Firsts.{digit_at}
+use Rattle.revs_lexer.proofs.FirstByteLemmas.{digit_at}
 use Rattle.revs_lexer.proofs.lexer.number.Goals as goal
 
 pub overflow_sub-digit : goal.overflow_sub-digit

@@ -1,4 +1,4 @@
-use Rattle.revs_lexer.proofs.Cuts.{one_way}
+use Rattle.revs_lexer.proofs.CutLemmas.{one_way}
 use Rattle.revs_lexer.proofs.lexer.one_outcome.Goals as goal
 
 pub returns : goal.returns

@@ -1,4 +1,4 @@
-use Rattle.revs_lexer.proofs.Outcomes.{only_tokens, only_refusal, ended, few}
+use Rattle.revs_lexer.proofs.OutcomeLemmas.{only_tokens, only_refusal, ended, few}
 use Rattle.revs_lexer.proofs.lexer.tokens.Goals as goal
 
 pub returns-clause-only_tokens : goal.returns-clause-only_tokens

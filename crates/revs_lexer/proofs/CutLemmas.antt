@@ -11,8 +11,8 @@ use Rattle.revs_lexer.specs.declared.token.Tok.{Tok}
 use Rattle.revs_lexer.specs.declared.token.Tok.TheVariants as toks
 use Rattle.revs_lexer.specs.declared.token.Token.{Token}
 use Rattle.revs_lexer.specs.declared.token.LexFault.{LexFault}
-use Rattle.revs_lexer.proofs.Longest.{same_longest, some_longest, no_gap_before_token}
-use Rattle.revs_lexer.proofs.Gaps.{same_gap, some_gap}
+use Rattle.revs_lexer.proofs.LongestLemmas.{same_longest, some_longest, no_gap_before_token}
+use Rattle.revs_lexer.proofs.GapLemmas.{same_gap, some_gap}
 
 -- a piece that is not empty is no front of an empty text
 not_empty : (piece rest : List ℕ) → [] ≡ piece ++ rest → 0 < length piece → ⊥

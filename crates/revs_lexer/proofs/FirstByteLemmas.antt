@@ -14,7 +14,7 @@ use Rattle.revs_lexer.specs.declared.sign.Sign.{Sign}
 use Rattle.revs_lexer.specs.declared.sign.Sign.TheVariants as signs
 use Rattle.revs_lexer.specs.declared.token.Tok.{Tok}
 use Rattle.revs_lexer.specs.declared.token.Tok.TheVariants as toks
-use Rattle.revs_lexer.proofs.Tables.{word_of, sign_of, word_of-name, word_text_is_short, sign_text_begins, some_sign_text}
+use Rattle.revs_lexer.proofs.TableLemmas.{word_of, sign_of, word_of-name, word_text_is_short, sign_text_begins, some_sign_text}
 
 pub letter_is_high : (b : ℕ) → is_letter b ≡ true → 65 ≤ b
 letter_is_high b e = grind (arith, nat_tests)

@@ -14,10 +14,10 @@ use Rattle.revs_lexer.specs.declared.token.LexFault.TheVariants as faults
 use Rattle.revs_lexer.specs.declared.sign.Sign.{Sign}
 use Rattle.revs_lexer.specs.declared.token.Tok.{Tok}
 use Rattle.revs_lexer.specs.declared.token.Tok.TheVariants as toks
-use Rattle.revs_lexer.proofs.Tables.{sign_at, sign_at-some, sign_at-longest, sign_at-none}
-use Rattle.revs_lexer.proofs.Firsts.{first_of, word_is_short, some_spelled, identifier_goes_on, AllDigits-from_all, spelled_by_letter, spelled_by_digit, spelled_by_other, spelled_by_blank, same_spelled}
-use Rattle.revs_lexer.proofs.Runs.{front_in_run, prefix_len-yes, run_of, some_run, same_split}
-use Rattle.revs_lexer.proofs.Gaps.{gap_begins}
+use Rattle.revs_lexer.proofs.TableLemmas.{sign_at, sign_at-some, sign_at-longest, sign_at-none}
+use Rattle.revs_lexer.proofs.FirstByteLemmas.{first_of, word_is_short, some_spelled, identifier_goes_on, AllDigits-from_all, spelled_by_letter, spelled_by_digit, spelled_by_other, spelled_by_blank, same_spelled}
+use Rattle.revs_lexer.proofs.RunLemmas.{front_in_run, prefix_len-yes, run_of, some_run, same_split}
+use Rattle.revs_lexer.proofs.GapLemmas.{gap_begins}
 
 -- a token at the front begins as the text does
 same_first : (text front behind : List ℕ) → text ≡ front ++ behind → 0 < length front → first_of front ≡ first_of text

@@ -8,10 +8,10 @@ use Rattle.std.proofs.lemmas.Slice.Eq.{starts_is}
 use Rattle.revs_lexer.specs.Bytes.{is_blank, is_line_feed}
 use Rattle.revs_lexer.specs.Tokens.{IsGap, IsLineEnd, HasNoGap}
 use Rattle.revs_lexer.specs.Tokens as cuts
-use Rattle.revs_lexer.proofs.Runs.{Stops, front_is_run, run_of, same_split}
-use Rattle.revs_lexer.proofs.Firsts.{first_of}
+use Rattle.revs_lexer.proofs.RunLemmas.{Stops, front_is_run, run_of, same_split}
+use Rattle.revs_lexer.proofs.FirstByteLemmas.{first_of}
 
-abbrev in_line : ℕ → Bool
+abbrev pub in_line : ℕ → Bool
 in_line b = not (is_line_feed b)
 
 -- how long the gap is, and 0 where there is none
