@@ -20,25 +20,33 @@ wanted true false e = absurd (cc)
 wanted false true e = absurd (cc)
 wanted false false e = refl
 
-passed_one : (test : ℕ → Bool) (line m : ℕ) (found whole : List ℕ) → test line ≡ false → found ++ take m (falling_lines test (suc line)) ≡ whole → found ++ take m (falling_lines test line) ≡ whole
-passed_one test line m found whole t e = let same : falling_lines test (suc line) ≡ falling_lines test line = rw t refl in ap (λ ls. found ++ take m ls) (sym same) ∙ e
+passed_one : (test : ℕ → Bool) (line m : ℕ) (found whole : List ℕ) → test line ≡ false → found ++ take m (falling_lines test (suc line)) ≡ whole
+    → found ++ take m (falling_lines test line) ≡ whole
+passed_one test line m found whole t e = let same : falling_lines test (suc line) ≡ falling_lines test line = rw t refl in
+    ap (λ ls. found ++ take m ls) (sym same) ∙ e
 
 before : (line : ℕ) → 0 < line → line ≡ suc (line - 1)
 before line h = omega arith
 
-pub passed : (test : ℕ → Bool) (line m : ℕ) (found whole : List ℕ) → 0 < line → test (line - 1) ≡ false → found ++ take m (falling_lines test line) ≡ whole → found ++ take m (falling_lines test (line - 1)) ≡ whole
-passed test line m found whole h t e = passed_one test (line - 1) m found whole t (subst (λ (k : ℕ). found ++ take m (falling_lines test k) ≡ whole) (before line h) e)
+pub passed : (test : ℕ → Bool) (line m : ℕ) (found whole : List ℕ) → 0 < line → test (line - 1) ≡ false → found ++ take m (falling_lines test line) ≡ whole
+    → found ++ take m (falling_lines test (line - 1)) ≡ whole
+passed test line m found whole h t e = passed_one test (line - 1) m found whole t
+    (subst (λ (k : ℕ). found ++ take m (falling_lines test k) ≡ whole) (before line h) e)
 
-taken_one : (test : ℕ → Bool) (line count : ℕ) (found whole : List ℕ) → test line ≡ true → length found < count → found ++ take (count - length found) (falling_lines test (suc line)) ≡ whole
+taken_one : (test : ℕ → Bool) (line count : ℕ) (found whole : List ℕ) → test line ≡ true → length found < count
+    → found ++ take (count - length found) (falling_lines test (suc line)) ≡ whole
     → (found ++ line ∷ []) ++ take (count - length (found ++ line ∷ [])) (falling_lines test line) ≡ whole
 taken_one test line count found whole t less e =
     let more : count - length found ≡ suc (count - length (found ++ line ∷ [])) = omega (arith, length-append found (line ∷ [])) in
     let same : falling_lines test (suc line) ≡ line ∷ falling_lines test line = rw t refl in
-    append_assoc found (line ∷ []) (take (count - length (found ++ line ∷ [])) (falling_lines test line)) ∙ sym (ap (λ ls. found ++ take (count - length found) ls) same ∙ ap (λ m. found ++ take m (line ∷ falling_lines test line)) more) ∙ e
+    append_assoc found (line ∷ []) (take (count - length (found ++ line ∷ [])) (falling_lines test line))
+    ∙ sym (ap (λ ls. found ++ take (count - length found) ls) same ∙ ap (λ m. found ++ take m (line ∷ falling_lines test line)) more) ∙ e
 
-pub taken : (test : ℕ → Bool) (line count : ℕ) (found whole : List ℕ) → 0 < line → test (line - 1) ≡ true → length found < count → found ++ take (count - length found) (falling_lines test line) ≡ whole
+pub taken : (test : ℕ → Bool) (line count : ℕ) (found whole : List ℕ) → 0 < line → test (line - 1) ≡ true → length found < count
+    → found ++ take (count - length found) (falling_lines test line) ≡ whole
     → (found ++ (line - 1) ∷ []) ++ take (count - length (found ++ (line - 1) ∷ [])) (falling_lines test (line - 1)) ≡ whole
-taken test line count found whole h t less e = taken_one test (line - 1) count found whole t less (subst (λ (k : ℕ). found ++ take (count - length found) (falling_lines test k) ≡ whole) (before line h) e)
+taken test line count found whole h t less e = taken_one test (line - 1) count found whole t less
+    (subst (λ (k : ℕ). found ++ take (count - length found) (falling_lines test k) ≡ whole) (before line h) e)
 
 -- ---- ladders
 
@@ -54,23 +62,31 @@ reverse_take : (xs : List ℕ) (k : ℕ) → 0 < k → k ≤ length xs → rever
 reverse_take xs k h l = ap (λ m. reverse (take m xs)) (before k h) ∙ reverse_take_one xs (k - 1) (omega arith)
 
 pub rung_more : (t : ℕ) (cs ls : List ℕ) (k : ℕ) → 0 < k → k ≤ length ls → length cs ≡ length ls + 2
-    → ladder t (reverse (take (k + 2) cs)) (reverse (take k ls)) ≡ flip_of (get_or cs (k - 1 + 2) 0 ∷ get_or ls (k - 1) 0 ∷ []) t ∷ ladder (get_or ls (k - 1) 0) (reverse (take (k - 1 + 2) cs)) (reverse (take (k - 1) ls))
+    → ladder t (reverse (take (k + 2) cs)) (reverse (take k ls)) ≡ flip_of (get_or cs (k - 1 + 2) 0 ∷ get_or ls (k - 1) 0 ∷ []) t ∷ ladder (get_or ls (k - 1) 0)
+    (reverse (take (k - 1 + 2) cs)) (reverse (take (k - 1) ls))
 rung_more t cs ls k h l e =
     let first : reverse (take (k + 2) cs) ≡ get_or cs (k + 2 - 1) 0 ∷ reverse (take (k + 2 - 1) cs) = reverse_take cs (k + 2) (omega arith) (omega arith) in
     let same : k + 2 - 1 ≡ k - 1 + 2 = omega arith in
     let second = reverse_take ls k h l in
-    let one : ladder t (reverse (take (k + 2) cs)) (reverse (take k ls)) ≡ ladder t (get_or cs (k - 1 + 2) 0 ∷ reverse (take (k - 1 + 2) cs)) (get_or ls (k - 1) 0 ∷ reverse (take (k - 1) ls)) =
-    ap (λ c. ladder t c (reverse (take k ls))) (first ∙ ap (λ j. get_or cs j 0 ∷ reverse (take j cs)) same) ∙ ap (λ c. ladder t (get_or cs (k - 1 + 2) 0 ∷ reverse (take (k - 1 + 2) cs)) c) second in
+    let one : ladder t (reverse (take (k + 2) cs)) (reverse (take k ls))
+    ≡ ladder t (get_or cs (k - 1 + 2) 0 ∷ reverse (take (k - 1 + 2) cs)) (get_or ls (k - 1) 0 ∷ reverse (take (k - 1) ls)) =
+    ap (λ c. ladder t c (reverse (take k ls))) (first ∙ ap (λ j. get_or cs j 0 ∷ reverse (take j cs)) same)
+    ∙ ap (λ c. ladder t (get_or cs (k - 1 + 2) 0 ∷ reverse (take (k - 1 + 2) cs)) c) second in
     one
 
-pub rungs_made : (t : ℕ) (cs ls : List ℕ) (k : ℕ) (made whole : List GateView) → 0 < k → k ≤ length ls → length cs ≡ length ls + 2 → made ++ ladder t (reverse (take (k + 2) cs)) (reverse (take k ls)) ≡ whole
-    → (made ++ flip_of (get_or cs (k - 1 + 2) 0 ∷ get_or ls (k - 1) 0 ∷ []) t ∷ []) ++ ladder (get_or ls (k - 1) 0) (reverse (take (k - 1 + 2) cs)) (reverse (take (k - 1) ls)) ≡ whole
+pub rungs_made : (t : ℕ) (cs ls : List ℕ) (k : ℕ) (made whole : List GateView) → 0 < k → k ≤ length ls → length cs ≡ length ls + 2
+    → made ++ ladder t (reverse (take (k + 2) cs)) (reverse (take k ls)) ≡ whole
+    → (made ++ flip_of (get_or cs (k - 1 + 2) 0 ∷ get_or ls (k - 1) 0 ∷ []) t ∷ [])
+    ++ ladder (get_or ls (k - 1) 0) (reverse (take (k - 1 + 2) cs)) (reverse (take (k - 1) ls)) ≡ whole
 rungs_made t cs ls k made whole h l e q =
-    append_assoc made (flip_of (get_or cs (k - 1 + 2) 0 ∷ get_or ls (k - 1) 0 ∷ []) t ∷ []) (ladder (get_or ls (k - 1) 0) (reverse (take (k - 1 + 2) cs)) (reverse (take (k - 1) ls)))
+    append_assoc made (flip_of (get_or cs (k - 1 + 2) 0 ∷ get_or ls (k - 1) 0 ∷ []) t ∷ [])
+    (ladder (get_or ls (k - 1) 0) (reverse (take (k - 1 + 2) cs)) (reverse (take (k - 1) ls)))
     ∙ ap (λ g. made ++ g) (sym (rung_more t cs ls k h l e)) ∙ q
 
-pub rungs_left : (t : ℕ) (cs ls : List ℕ) (k : ℕ) → 0 < k → k ≤ length ls → length cs ≡ length ls + 2 → AllByRecursion HasDifferentLines (ladder t (reverse (take (k + 2) cs)) (reverse (take k ls)))
-    → AllByRecursion HasDifferentLines (flip_of (get_or cs (k - 1 + 2) 0 ∷ get_or ls (k - 1) 0 ∷ []) t ∷ ladder (get_or ls (k - 1) 0) (reverse (take (k - 1 + 2) cs)) (reverse (take (k - 1) ls)))
+pub rungs_left : (t : ℕ) (cs ls : List ℕ) (k : ℕ) → 0 < k → k ≤ length ls → length cs ≡ length ls + 2
+    → AllByRecursion HasDifferentLines (ladder t (reverse (take (k + 2) cs)) (reverse (take k ls)))
+    → AllByRecursion HasDifferentLines (flip_of (get_or cs (k - 1 + 2) 0 ∷ get_or ls (k - 1) 0 ∷ []) t ∷ ladder (get_or ls (k - 1) 0)
+    (reverse (take (k - 1 + 2) cs)) (reverse (take (k - 1) ls)))
 rungs_left t cs ls k h l e d = subst (AllByRecursion HasDifferentLines) (rung_more t cs ls k h l e) d
 
 pub length-ladder : (t : ℕ) (cs ls : List ℕ) → length cs ≡ length ls + 2 → length (ladder t cs ls) ≡ length ls + 1
@@ -90,17 +106,22 @@ reverse_gates xs d k h l = ap (λ m. reverse (take m xs)) (before k h) ∙ rever
 
 pub turn_back : (gates : List GateView) (d : GateView) → 1 ≤ length gates → drop 1 (reverse gates) ≡ reverse (take (length gates - 1) gates)
 turn_back gates d h =
-    let all : reverse gates ≡ get_or gates (length gates - 1) d ∷ reverse (take (length gates - 1) gates) = ap reverse (sym (take_all (length gates) gates (omega arith))) ∙ reverse_gates gates d (length gates) h (omega arith) in
+    let all : reverse gates ≡ get_or gates (length gates - 1) d ∷ reverse (take (length gates - 1) gates) =
+    ap reverse (sym (take_all (length gates) gates (omega arith))) ∙ reverse_gates gates d (length gates) h (omega arith) in
     ap (drop 1) all
 
-pub one_back : (gates : List GateView) (gate : GateView) (i : ℕ) (made whole : List GateView) → 1 < i → i ≤ length gates → gate ≡ get_or gates (i - 1 - 1) gate → made ++ reverse (take (i - 1) gates) ≡ whole
+pub one_back : (gates : List GateView) (gate : GateView) (i : ℕ) (made whole : List GateView) → 1 < i → i ≤ length gates → gate ≡ get_or gates (i - 1 - 1) gate
+    → made ++ reverse (take (i - 1) gates) ≡ whole
     → (made ++ gate ∷ []) ++ reverse (take (i - 1 - 1) gates) ≡ whole
 one_back gates gate i made whole h l e q =
     let here = reverse_gates gates gate (i - 1) (omega arith) (omega arith) in
-    append_assoc made (gate ∷ []) (reverse (take (i - 1 - 1) gates)) ∙ ap (λ g. made ++ g ∷ reverse (take (i - 1 - 1) gates)) e ∙ ap (λ g. made ++ g) (sym here) ∙ q
+    append_assoc made (gate ∷ []) (reverse (take (i - 1 - 1) gates)) ∙ ap (λ g. made ++ g ∷ reverse (take (i - 1 - 1) gates)) e ∙ ap (λ g. made ++ g) (sym here)
+    ∙ q
 
 -- nothing comes back behind no gates
-pub started_back : (gates : List GateView) (made whole : List GateView) → made ≡ whole ++ gates → made ++ reverse (take (length gates - 1) gates) ≡ whole ++ there_and_back gates
+pub started_back : (gates : List GateView) (made whole : List GateView) → made ≡ whole ++ gates
+    → made ++ reverse (take (length gates - 1) gates) ≡ whole ++ there_and_back gates
 started_back [] made whole e = append-nil made ∙ e
 started_back (g ∷ gs) made whole e =
-    ap (λ r. made ++ r) (sym (turn_back (g ∷ gs) g (omega arith))) ∙ ap (λ m. m ++ drop 1 (reverse (g ∷ gs))) e ∙ append_assoc whole (g ∷ gs) (drop 1 (reverse (g ∷ gs)))
+    ap (λ r. made ++ r) (sym (turn_back (g ∷ gs) g (omega arith))) ∙ ap (λ m. m ++ drop 1 (reverse (g ∷ gs))) e
+    ∙ append_assoc whole (g ∷ gs) (drop 1 (reverse (g ∷ gs)))

@@ -11,9 +11,11 @@ use Rattle.gate_split.proofs.WideLemmas.{halves_of}
 use Rattle.gate_split.proofs.WideLemmas.{second_length, first_length}
 
 length-there : (gates : List GateView) → length (there_and_back gates) ≡ length gates + (length gates - 1)
-length-there gates = length-append gates (drop 1 (reverse gates)) ∙ ap (λ m. length gates + m) (length-drop 1 (reverse gates) ∙ ap (λ m. m - 1) (length-reverse gates))
+length-there gates = length-append gates (drop 1 (reverse gates)) ∙ ap (λ m. length gates + m)
+    (length-drop 1 (reverse gates) ∙ ap (λ m. m - 1) (length-reverse gates))
 
-length-over : (controls : List ℕ) (target : ℕ) (idle : List ℕ) → length controls ≡ length idle + 2 → 1 ≤ length idle → length (over_idle_lines controls target idle) ≡ 4 * length idle
+length-over : (controls : List ℕ) (target : ℕ) (idle : List ℕ) → length controls ≡ length idle + 2 → 1 ≤ length idle
+    → length (over_idle_lines controls target idle) ≡ 4 * length idle
 length-over controls target idle e h =
     let rungs = ladder target (reverse controls) (reverse idle) in
     let even : length (reverse controls) ≡ length (reverse idle) + 2 = rw (length-reverse controls, length-reverse idle) e in
@@ -25,7 +27,8 @@ length-over controls target idle e h =
     let whole = length-append (there_and_back rungs) (there_and_back (drop 1 rungs)) in
     omega arith
 
-cut_over : (controls : List ℕ) (target : ℕ) (idle : List ℕ) → 3 ≤ length controls → length controls ≤ length idle + 2 → length (over_idle_lines controls target (take (length controls - 2) idle)) ≡ 4 * (length controls - 2)
+cut_over : (controls : List ℕ) (target : ℕ) (idle : List ℕ) → 3 ≤ length controls → length controls ≤ length idle + 2
+    → length (over_idle_lines controls target (take (length controls - 2) idle)) ≡ 4 * (length controls - 2)
 cut_over controls target idle h enough =
     let cut : length (take (length controls - 2) idle) ≡ length controls - 2 = length-take-le (length controls - 2) idle (omega arith) in
     length-over controls target (take (length controls - 2) idle) (omega arith) (omega arith) ∙ ap (λ m. 4 * m) cut
@@ -33,10 +36,13 @@ cut_over controls target idle h enough =
 few : (controls : List ℕ) (target : ℕ) (idle : List ℕ) → length controls ≤ 2 → length (with_enough_idle controls target idle) ≡ 1
 few controls target idle h = elim (leb_tells (length controls) 2) [ inl t ↦ rw t.0 refl | inr t ↦ absurd (omega (arith, t.1)) ]
 
-many : (controls : List ℕ) (target : ℕ) (idle : List ℕ) → 3 ≤ length controls → length controls ≤ length idle + 2 → length (with_enough_idle controls target idle) ≡ 4 * (length controls - 2)
-many controls target idle h enough = elim (leb_tells (length controls) 2) [ inl t ↦ absurd (omega (arith, t.1)) | inr t ↦ rw t.0 (cut_over controls target idle h enough) ]
+many : (controls : List ℕ) (target : ℕ) (idle : List ℕ) → 3 ≤ length controls → length controls ≤ length idle + 2
+    → length (with_enough_idle controls target idle) ≡ 4 * (length controls - 2)
+many controls target idle h enough = elim (leb_tells (length controls) 2)
+    [ inl t ↦ absurd (omega (arith, t.1)) | inr t ↦ rw t.0 (cut_over controls target idle h enough) ]
 
-length-halves : (n : ℕ) (controls : List ℕ) (target idle : ℕ) → Halves n (take (first_half controls) controls) (drop (first_half controls) controls) target idle → 4 ≤ length controls
+length-halves : (n : ℕ) (controls : List ℕ) (target idle : ℕ) → Halves n (take (first_half controls) controls) (drop (first_half controls) controls) target idle
+    → 4 ≤ length controls
     → length (in_halves n controls target idle) ≡ cond (eqb (length controls) 4) 10 (8 * (length controls - 3))
 length-halves n controls target idle s four =
     let h = first_half controls in
@@ -54,23 +60,27 @@ length-halves n controls target idle s four =
     let twice = length-append (Q ++ P) (Q ++ P) in
     elim (eqb_tells (length controls) 4) [
       | inl t ↦ (let is = t.1 in let p : length P ≡ 1 = few first idle (in_falling_order n (second ++ target ∷ [])) (omega arith) in rw t.0 (omega arith))
-      | inr t ↦ (let is = t.1 in let p : length P ≡ 4 * (length first - 2) = many first idle (in_falling_order n (second ++ target ∷ [])) (omega arith) enough_first in rw t.0 (omega arith))
+      | inr t ↦ (let is = t.1 in let p : length P ≡ 4 * (length first - 2) =
+          many first idle (in_falling_order n (second ++ target ∷ [])) (omega arith) enough_first in rw t.0 (omega arith))
     ]
 
 few_cost : (b : Bool) (k m : ℕ) → m ≡ cond b 10 (8 * (k - 3)) → 4 ≤ k → m ≤ 8 * k
 few_cost true k m e h = omega arith
 few_cost false k m e h = omega arith
 
-few_lines_cost : (n : ℕ) (controls : List ℕ) (target : ℕ) (idle : List ℕ) (gates : List GateView) → IsGateOn n (flip_of controls target) → 3 ≤ length controls → idle ≡ idle_lines n (controls ++ target ∷ []) → length idle < length controls - 2
+few_lines_cost : (n : ℕ) (controls : List ℕ) (target : ℕ) (idle : List ℕ) (gates : List GateView) → IsGateOn n (flip_of controls target) → 3 ≤ length controls
+    → idle ≡ idle_lines n (controls ++ target ∷ []) → length idle < length controls - 2
     → over_few_lines n controls target idle ≡ Some gates → length gates ≡ cond (eqb (length controls) 4) 10 (8 * (length controls - 3))
 few_lines_cost n controls target [] gates g h i less e = absurd (cc)
 few_lines_cost n controls target (a ∷ ls) gates g h i less e =
     let s = idle_serves n controls target g in
     let below = rw (← i) at s.below in
     let apart = rw (← i) at s.apart in
-    ap length (sym (some_is (in_halves n controls target a) gates e)) ∙ length-halves n controls target a (halves_of n controls target a g below.0 apart.0) (omega arith)
+    ap length (sym (some_is (in_halves n controls target a) gates e)) ∙ length-halves n controls target a (halves_of n controls target a g below.0 apart.0)
+    (omega arith)
 
-most : (n : ℕ) (controls : List ℕ) (target : ℕ) (idle : List ℕ) (gates : List GateView) → length idle < length controls - 2 → length gates ≡ cond (eqb (length controls) 4) 10 (8 * (length controls - 3))
+most : (n : ℕ) (controls : List ℕ) (target : ℕ) (idle : List ℕ) (gates : List GateView) → length idle < length controls - 2
+    → length gates ≡ cond (eqb (length controls) 4) 10 (8 * (length controls - 3))
     → over_few_lines n controls target idle ≡ Some gates → length gates ≤ 8 * length controls
 most n controls target [] gates less long e = absurd (cc)
 most n controls target (a ∷ ls) gates less long e = few_cost (eqb (length controls) 4) (length controls) (length gates) long (omega arith)

@@ -93,7 +93,8 @@ flip_second : (bits : List Bool) (a t : ℕ) (b x y : Bool) → AreTwo bits a t 
 flip_second bits a t true x y w = rw (bit_second bits a t x y w) (set-set (set bits a x) t y (not y))
 flip_second bits a t false x y w = refl
 
-pub met_same : (bits changed : List Bool) (controls : List Control) → AllByRecursion (λ (control : Control). bit_of changed control.line ≡ bit_of bits control.line) controls
+pub met_same : (bits changed : List Bool) (controls : List Control) → AllByRecursion
+    (λ (control : Control). bit_of changed control.line ≡ bit_of bits control.line) controls
     → list_all (is_met changed) controls ≡ list_all (is_met bits) controls
 met_same bits changed [] s = refl
 met_same bits changed (c ∷ cs) s = rw (s.0, met_same bits changed cs s.1)
@@ -101,7 +102,8 @@ met_same bits changed (c ∷ cs) s = rw (s.0, met_same bits changed cs s.1)
 bit_third : (bits : List Bool) (a t : ℕ) (x y : Bool) (line : ℕ) → a ≢ line → t ≢ line → bit_of (with_two bits a t x y) line ≡ bit_of bits line
 bit_third bits a t x y line da dt = get_or-set_other (set bits a x) t line y false (λ e. dt (sym e)) ∙ get_or-set_other bits a line x false (λ e. da (sym e))
 
-all_on-two : (bits : List Bool) (a t : ℕ) (x y : Bool) (lines : List ℕ) → Avoids a lines → Avoids t lines → all_on (with_two bits a t x y) lines ≡ all_on bits lines
+all_on-two : (bits : List Bool) (a t : ℕ) (x y : Bool) (lines : List ℕ) → Avoids a lines → Avoids t lines
+    → all_on (with_two bits a t x y) lines ≡ all_on bits lines
 all_on-two bits a t x y [] da dt = refl
 all_on-two bits a t x y (l ∷ ls) da dt = rw (bit_third bits a t x y l da.0 dt.0, all_on-two bits a t x y ls da.1 dt.1)
 
@@ -114,7 +116,8 @@ by_both : (bits : List Bool) (a t : ℕ) (x y : Bool) (C : List ℕ) → AreTwo 
     → after_gate (flip_of (C ++ a ∷ []) t) (with_two bits a t x y) ≡ with_two bits a t x (flipped (all_on bits C && x) y)
 by_both bits a t x y C w da dt =
     let now = with_two bits a t x y in
-    let met : all_on now (C ++ a ∷ []) ≡ (all_on bits C && x) = all_on-append now C (a ∷ []) ∙ rw (all_on-two bits a t x y C da dt, bit_first bits a t x y w, and_true x) refl in
+    let met : all_on now (C ++ a ∷ []) ≡ (all_on bits C && x) = all_on-append now C (a ∷ [])
+    ∙ rw (all_on-two bits a t x y C da dt, bit_first bits a t x y w, and_true x) refl in
     rw met (flip_second bits a t (all_on bits C && x) x y w)
 
 -- the flip of a by D
@@ -131,8 +134,10 @@ twice_told false true a t = refl
 twice_told false false a t = refl
 
 -- a flip of t by C and a, before and behind a flip of a by D, flips t by D and C
-pub before_and_behind : (bits : List Bool) (a t : ℕ) (C D : List ℕ) → a < length bits → t < length bits → a ≢ t → Avoids a C → Avoids t C → Avoids a D → Avoids t D
-    → after_gate (flip_of (C ++ a ∷ []) t) (after_gate (flip_of D a) (after_gate (flip_of (C ++ a ∷ []) t) bits)) ≡ after_gate (flip_of D a) (after_gate (flip_of (D ++ C) t) bits)
+pub before_and_behind : (bits : List Bool) (a t : ℕ) (C D : List ℕ) → a < length bits → t < length bits → a ≢ t → Avoids a C → Avoids t C → Avoids a D
+    → Avoids t D
+    → after_gate (flip_of (C ++ a ∷ []) t) (after_gate (flip_of D a) (after_gate (flip_of (C ++ a ∷ []) t) bits))
+    ≡ after_gate (flip_of D a) (after_gate (flip_of (D ++ C) t) bits)
 before_and_behind bits a t C D la lt d ac tc ad td =
     let w : AreTwo bits a t = record { low_a = la; low_t = lt; apart = d } in
     let A = bit_of bits a in let T = bit_of bits t in
@@ -141,7 +146,8 @@ before_and_behind bits a t C D la lt d ac tc ad td =
     let F : List Bool → List Bool = after_gate (flip_of D a) in
     let one : G bits ≡ with_two bits a t A (flipped (x && A) T) = ap G (sym (two_same bits a t)) ∙ by_both bits a t A T C w ac tc in
     let two : F (G bits) ≡ with_two bits a t (flipped y A) (flipped (x && A) T) = ap F one ∙ by_others bits a t A (flipped (x && A) T) D w ad td in
-    let three : G (F (G bits)) ≡ with_two bits a t (flipped y A) (flipped (x && flipped y A) (flipped (x && A) T)) = ap G two ∙ by_both bits a t (flipped y A) (flipped (x && A) T) C w ac tc in
+    let three : G (F (G bits)) ≡ with_two bits a t (flipped y A) (flipped (x && flipped y A) (flipped (x && A) T)) = ap G two
+    ∙ by_both bits a t (flipped y A) (flipped (x && A) T) C w ac tc in
     let whole : after_gate (flip_of (D ++ C) t) bits ≡ with_two bits a t A (flipped (y && x) T) =
     ap (λ b. flip_when b t bits) (all_on-append bits D C) ∙ ap (flip_when (y && x) t) (sym (two_same bits a t)) ∙ flip_second bits a t (y && x) A T w in
     three ∙ ap (λ b. with_two bits a t (flipped y A) b) (twice_told x y A T) ∙ sym (ap F whole ∙ by_others bits a t A (flipped (y && x) T) D w ad td)
@@ -165,11 +171,13 @@ exchange_second true false true = refl
 exchange_second true false false = refl
 exchange_second false a b = refl
 
-swapped : (x : Bool) (bits : List Bool) (a b : ℕ) → AreTwo bits a b → with_two bits a b (cond x (bit_of bits b) (bit_of bits a)) (cond x (bit_of bits a) (bit_of bits b)) ≡ cond x (swap bits a b) bits
+swapped : (x : Bool) (bits : List Bool) (a b : ℕ) → AreTwo bits a b → with_two bits a b (cond x (bit_of bits b) (bit_of bits a))
+    (cond x (bit_of bits a) (bit_of bits b)) ≡ cond x (swap bits a b) bits
 swapped true bits a b w = sym (swap_is bits a b w.low_a w.low_t)
 swapped false bits a b w = two_same bits a b
 
-lines_apart : (bits : List Bool) (a b : ℕ) (x y : Bool) (controls : List Control) → AllByRecursion (λ (control : Control). a ≢ control.line) controls → AllByRecursion (λ (control : Control). b ≢ control.line) controls
+lines_apart : (bits : List Bool) (a b : ℕ) (x y : Bool) (controls : List Control) → AllByRecursion (λ (control : Control). a ≢ control.line) controls
+    → AllByRecursion (λ (control : Control). b ≢ control.line) controls
     → AllByRecursion (λ (control : Control). bit_of (with_two bits a b x y) control.line ≡ bit_of bits control.line) controls
 lines_apart bits a b x y [] da db = tt
 lines_apart bits a b x y (c ∷ cs) da db = (bit_third bits a b x y c.line da.0 db.0, lines_apart bits a b x y cs da.1 db.1)
@@ -177,7 +185,8 @@ lines_apart bits a b x y (c ∷ cs) da db = (bit_third bits a b x y c.line da.0 
 -- a swap of a and b is a flip of a by b, of b by the controls and a, and of a by b
 pub swap_by_flips : (bits : List Bool) (a b : ℕ) (controls : List Control) → a < length bits → b < length bits → a ≢ b
     → AllByRecursion (λ (control : Control). a ≢ control.line) controls → AllByRecursion (λ (control : Control). b ≢ control.line) controls
-    → after_gate (flip_of (b ∷ []) a) (after_gate (record { controls = controls ++ positive a ∷ []; op = Flip b }) (after_gate (flip_of (b ∷ []) a) bits)) ≡ after_gate (record { controls = controls; op = Swap a b }) bits
+    → after_gate (flip_of (b ∷ []) a) (after_gate (record { controls = controls ++ positive a ∷ []; op = Flip b }) (after_gate (flip_of (b ∷ []) a) bits))
+    ≡ after_gate (record { controls = controls; op = Swap a b }) bits
 swap_by_flips bits a b controls la lb d da db =
     let w : AreTwo bits a b = record { low_a = la; low_t = lb; apart = d } in
     let A = bit_of bits a in let B = bit_of bits b in
@@ -187,7 +196,12 @@ swap_by_flips bits a b controls la lb d da db =
     let cx : (X Y : Bool) → CX (with_two bits a b X Y) ≡ with_two bits a b (flipped Y X) Y =
     λ X Y. rw (bit_second bits a b X Y w, and_true Y) (flip_first bits a b Y X Y w) in
     let m : (X Y : Bool) → M (with_two bits a b X Y) ≡ with_two bits a b X (flipped (x && X) Y) =
-    λ X Y. rw (list_all-append (is_met (with_two bits a b X Y)) controls (positive a ∷ []), met_same bits (with_two bits a b X Y) controls (lines_apart bits a b X Y controls da db), bit_first bits a b X Y w, and_true X)
+    λ X Y. rw (
+      list_all-append (is_met (with_two bits a b X Y)) controls (positive a ∷ []),
+      met_same bits (with_two bits a b X Y) controls (lines_apart bits a b X Y controls da db),
+      bit_first bits a b X Y w,
+      and_true X,
+    )
     (flip_second bits a b (x && X) X Y w) in
     let one : CX bits ≡ with_two bits a b (flipped B A) B = ap CX (sym (two_same bits a b)) ∙ cx A B in
     let two : M (CX bits) ≡ with_two bits a b (flipped B A) (flipped (x && flipped B A) B) = ap M one ∙ m (flipped B A) B in

@@ -39,7 +39,8 @@ both_apart c a (x ∷ xs) p q = ((p.0, ((λ e. q.0 (sym e)), tt)), both_apart c 
 abbrev pub Fits : ℕ → ℕ → List ℕ → List ℕ → Type 0
 Fits n target controls [] = (target < n) × Avoids target controls × IsGateOn n (flip_of (reverse controls) target) × (length controls ≤ 2)
 Fits n target [] (a ∷ ls) = ⊥
-Fits n target (c ∷ cs) (a ∷ ls) = (target < n) × Avoids target (c ∷ cs) × Avoids target (a ∷ ls) × AllByRecursion (λ x. x ≢ c) (a ∷ ls) × IsGateOn n (flip_of (c ∷ a ∷ []) target) × Fits n a cs ls
+Fits n target (c ∷ cs) (a ∷ ls) = (target < n) × Avoids target (c ∷ cs) × Avoids target (a ∷ ls) × AllByRecursion (λ x. x ≢ c) (a ∷ ls)
+    × IsGateOn n (flip_of (c ∷ a ∷ []) target) × Fits n a cs ls
 
 low : (n t : ℕ) (cs ls : List ℕ) → Fits n t cs ls → t < n
 low n t cs [] f = f.0
@@ -51,14 +52,16 @@ free n t cs [] f = f.1
 free n t [] (a ∷ ls) f = absurd f
 free n t (c ∷ cs) (a ∷ ls) f = f.1
 
-pub fits : (n t : ℕ) (cs ls : List ℕ) → t < n → AreDifferent (t ∷ cs) → AllByRecursion (λ x. x < n) cs → AreDifferent (t ∷ ls) → AllByRecursion (λ x. x < n) ls → AllByRecursion (λ a. Avoids a cs) ls → length cs ≡ length ls + 2
+pub fits : (n t : ℕ) (cs ls : List ℕ) → t < n → AreDifferent (t ∷ cs) → AllByRecursion (λ x. x < n) cs → AreDifferent (t ∷ ls) → AllByRecursion (λ x. x < n) ls
+    → AllByRecursion (λ a. Avoids a cs) ls → length cs ≡ length ls + 2
     → Fits n t cs ls
 fits n t cs [] l d r da ra far e = (
   l,
   d.0,
   record {
     different = rw (lines_of-flip_of (reverse cs) t, ← (reverse-append (t ∷ []) cs)) (AreDifferent-reverse (t ∷ cs) d);
-    in_range = rw (lines_of-flip_of (reverse cs) t) (AllByRecursion-append (λ x. x < n) (reverse cs) (t ∷ []) (AllByRecursion-reverse (λ x. x < n) cs r) (l, tt));
+    in_range = rw (lines_of-flip_of (reverse cs) t) (AllByRecursion-append (λ x. x < n) (reverse cs) (t ∷ []) (AllByRecursion-reverse (λ x. x < n) cs r)
+        (l, tt));
   },
   omega arith,
 )
@@ -98,21 +101,25 @@ some_rung n t (c ∷ cs) (a ∷ ls) f = omega arith
 around : (g : GateView) (gates : List GateView) → 1 ≤ length gates → there_and_back (g ∷ gates) ≡ g ∷ (there_and_back gates ++ g ∷ [])
 around g gates h =
     let long : 1 ≤ length (reverse gates) = rw (length-reverse gates) h in
-    ap (λ r. g ∷ (gates ++ drop 1 r)) (reverse-append (g ∷ []) gates) ∙ ap (λ r. g ∷ (gates ++ r)) (drop-append-le 1 (reverse gates) (g ∷ []) long) ∙ ap (λ r. g ∷ r) (sym (append_assoc gates (drop 1 (reverse gates)) (g ∷ [])))
+    ap (λ r. g ∷ (gates ++ drop 1 r)) (reverse-append (g ∷ []) gates) ∙ ap (λ r. g ∷ (gates ++ r)) (drop-append-le 1 (reverse gates) (g ∷ []) long)
+    ∙ ap (λ r. g ∷ r) (sym (append_assoc gates (drop 1 (reverse gates)) (g ∷ [])))
 
-there_and_back_is : (n t : ℕ) (cs ls : List ℕ) (bits : List Bool) → Fits n t cs ls → line_map (there_and_back (ladder t cs ls)) bits ≡ back_and_forth t cs ls bits
+there_and_back_is : (n t : ℕ) (cs ls : List ℕ) (bits : List Bool) → Fits n t cs ls
+    → line_map (there_and_back (ladder t cs ls)) bits ≡ back_and_forth t cs ls bits
 there_and_back_is n t cs [] bits f = refl
 there_and_back_is n t [] (a ∷ ls) bits f = absurd f
 there_and_back_is n t (c ∷ cs) (a ∷ ls) bits f =
     let g = flip_of (c ∷ a ∷ []) t in
-    ap (λ gs. line_map gs bits) (around g (ladder a cs ls) (some_rung n a cs ls f.5)) ∙ line_map-append (there_and_back (ladder a cs ls)) (g ∷ []) (after_gate g bits)
+    ap (λ gs. line_map gs bits) (around g (ladder a cs ls) (some_rung n a cs ls f.5))
+    ∙ line_map-append (there_and_back (ladder a cs ls)) (g ∷ []) (after_gate g bits)
     ∙ ap (after_gate g) (there_and_back_is n a cs ls (after_gate g bits) f.5)
 
 length-back : (t : ℕ) (cs ls : List ℕ) (bits : List Bool) → length (back_and_forth t cs ls bits) ≡ length bits
 length-back t cs [] bits = length-flip_of (reverse cs) t bits
 length-back t [] (a ∷ ls) bits = refl
 length-back t (c ∷ cs) (a ∷ ls) bits =
-    length-flip_of (c ∷ a ∷ []) t (back_and_forth a cs ls (after_gate (flip_of (c ∷ a ∷ []) t) bits)) ∙ length-back a cs ls (after_gate (flip_of (c ∷ a ∷ []) t) bits) ∙ length-flip_of (c ∷ a ∷ []) t bits
+    length-flip_of (c ∷ a ∷ []) t (back_and_forth a cs ls (after_gate (flip_of (c ∷ a ∷ []) t) bits))
+    ∙ length-back a cs ls (after_gate (flip_of (c ∷ a ∷ []) t) bits) ∙ length-flip_of (c ∷ a ∷ []) t bits
 
 -- it undoes itself
 back_twice : (n t : ℕ) (cs ls : List ℕ) (bits : List Bool) → Fits n t cs ls → length bits ≡ n → back_and_forth t cs ls (back_and_forth t cs ls bits) ≡ bits
@@ -128,7 +135,8 @@ back_twice n t (c ∷ cs) (a ∷ ls) bits f e =
     ap (λ b. h (P b)) inner ∙ ap h (back_twice n a cs ls (h bits) f.5 long) ∙ flip_of-flip_of (c ∷ a ∷ []) t bits apart (rw e f.0)
 
 -- it lets a flip pass that meets none of its lines
-back_commutes : (R : List ℕ) (t u : ℕ) (cs ls : List ℕ) (bits : List Bool) → t ≢ u → Avoids t cs → Avoids t ls → Avoids u R → AllByRecursion (λ a. Avoids a R) ls
+back_commutes : (R : List ℕ) (t u : ℕ) (cs ls : List ℕ) (bits : List Bool) → t ≢ u → Avoids t cs → Avoids t ls → Avoids u R
+    → AllByRecursion (λ a. Avoids a R) ls
     → after_gate (flip_of R t) (back_and_forth u cs ls bits) ≡ back_and_forth u cs ls (after_gate (flip_of R t) bits)
 back_commutes R t u cs [] bits d tc ta uR aR = sym (flips_commute R (reverse cs) t u bits d (AllByRecursion-reverse (λ x. t ≢ x) cs tc) uR)
 back_commutes R t u [] (a ∷ ls) bits d tc ta uR aR = refl

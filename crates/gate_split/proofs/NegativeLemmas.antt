@@ -24,57 +24,69 @@ lines controls = map (λ (control : Control). control.line) controls
 
 -- ---- flips of the lines of negative controls
 
-one_negative : (p : Bool) (l : ℕ) (rest : List GateView) (bits : List Bool) → line_map (cond p rest (flip_of [] l ∷ rest)) bits ≡ line_map rest (flip_when (not p) l bits)
+one_negative : (p : Bool) (l : ℕ) (rest : List GateView) (bits : List Bool)
+    → line_map (cond p rest (flip_of [] l ∷ rest)) bits ≡ line_map rest (flip_when (not p) l bits)
 one_negative true l rest bits = refl
 one_negative false l rest bits = refl
 
-negatives_step : (c : Control) (cs : List Control) (bits : List Bool) → line_map (flips_of_negatives (c ∷ cs)) bits ≡ line_map (flips_of_negatives cs) (flip_when (not c.positive) c.line bits)
+negatives_step : (c : Control) (cs : List Control) (bits : List Bool) → line_map (flips_of_negatives (c ∷ cs)) bits
+    ≡ line_map (flips_of_negatives cs) (flip_when (not c.positive) c.line bits)
 negatives_step c cs bits = one_negative c.positive c.line (flips_of_negatives cs) bits
 
-negatives_commute : (cs : List Control) (b : Bool) (t : ℕ) (bits : List Bool) → Avoids t (lines cs) → line_map (flips_of_negatives cs) (flip_when b t bits) ≡ flip_when b t (line_map (flips_of_negatives cs) bits)
+negatives_commute : (cs : List Control) (b : Bool) (t : ℕ) (bits : List Bool) → Avoids t (lines cs)
+    → line_map (flips_of_negatives cs) (flip_when b t bits) ≡ flip_when b t (line_map (flips_of_negatives cs) bits)
 negatives_commute [] b t bits d = refl
 negatives_commute (c ∷ cs) b t bits d =
     let N : List Bool → List Bool = line_map (flips_of_negatives cs) in
-    negatives_step c cs (flip_when b t bits) ∙ ap N (flips_meet (not c.positive) b c.line t bits (λ e. d.0 (sym e))) ∙ negatives_commute cs b t (flip_when (not c.positive) c.line bits) d.1
+    negatives_step c cs (flip_when b t bits) ∙ ap N (flips_meet (not c.positive) b c.line t bits (λ e. d.0 (sym e)))
+    ∙ negatives_commute cs b t (flip_when (not c.positive) c.line bits) d.1
     ∙ ap (flip_when b t) (sym (negatives_step c cs bits))
 
 length-negatives : (cs : List Control) (bits : List Bool) → length (line_map (flips_of_negatives cs) bits) ≡ length bits
 length-negatives [] bits = refl
-length-negatives (c ∷ cs) bits = ap length (negatives_step c cs bits) ∙ length-negatives cs (flip_when (not c.positive) c.line bits) ∙ length-flip (not c.positive) c.line bits
+length-negatives (c ∷ cs) bits = ap length (negatives_step c cs bits) ∙ length-negatives cs (flip_when (not c.positive) c.line bits)
+    ∙ length-flip (not c.positive) c.line bits
 
-below_length : (bits changed : List Bool) (ls : List ℕ) → length changed ≡ length bits → AllByRecursion (λ l. l < length bits) ls → AllByRecursion (λ l. l < length changed) ls
+below_length : (bits changed : List Bool) (ls : List ℕ) → length changed ≡ length bits → AllByRecursion (λ l. l < length bits) ls
+    → AllByRecursion (λ l. l < length changed) ls
 below_length bits changed ls e r = rw e r
 
-negatives_twice : (cs : List Control) (bits : List Bool) → AreDifferent (lines cs) → AllByRecursion (λ l. l < length bits) (lines cs) → line_map (flips_of_negatives cs) (line_map (flips_of_negatives cs) bits) ≡ bits
+negatives_twice : (cs : List Control) (bits : List Bool) → AreDifferent (lines cs) → AllByRecursion (λ l. l < length bits) (lines cs)
+    → line_map (flips_of_negatives cs) (line_map (flips_of_negatives cs) bits) ≡ bits
 negatives_twice [] bits d r = refl
 negatives_twice (c ∷ cs) bits d r =
     let N : List Bool → List Bool = line_map (flips_of_negatives cs) in
     let F : List Bool → List Bool = flip_when (not c.positive) c.line in
     let low = below_length bits (F bits) (lines cs) (length-flip (not c.positive) c.line bits) r.1 in
-    ap (line_map (flips_of_negatives (c ∷ cs))) (negatives_step c cs bits) ∙ negatives_step c cs (N (F bits)) ∙ negatives_commute cs (not c.positive) c.line (N (F bits)) d.0
+    ap (line_map (flips_of_negatives (c ∷ cs))) (negatives_step c cs bits) ∙ negatives_step c cs (N (F bits))
+    ∙ negatives_commute cs (not c.positive) c.line (N (F bits)) d.0
     ∙ ap F (negatives_twice cs (F bits) d.1 low) ∙ flip-flip (not c.positive) c.line bits r.0
 
 bit_behind : (cs : List Control) (bits : List Bool) (line : ℕ) → Avoids line (lines cs) → bit_of (line_map (flips_of_negatives cs) bits) line ≡ bit_of bits line
 bit_behind [] bits line d = refl
 bit_behind (c ∷ cs) bits line d =
-    ap (λ b. bit_of b line) (negatives_step c cs bits) ∙ bit_behind cs (flip_when (not c.positive) c.line bits) line d.1 ∙ bit_of-flip (not c.positive) c.line line bits (λ e. d.0 (sym e))
+    ap (λ b. bit_of b line) (negatives_step c cs bits) ∙ bit_behind cs (flip_when (not c.positive) c.line bits) line d.1
+    ∙ bit_of-flip (not c.positive) c.line line bits (λ e. d.0 (sym e))
 
 turned : (p : Bool) (l : ℕ) (bits : List Bool) → l < length bits → bit_of (flip_when (not p) l bits) l ≡ is_met bits (record { line = l; positive = p })
 turned true l bits h = refl
 turned false l bits h = get_or-set_same bits l (not (bit_of bits l)) false h
 
-others_same : (b : Bool) (l : ℕ) (bits : List Bool) (cs : List Control) → Avoids l (lines cs) → AllByRecursion (λ (control : Control). bit_of (flip_when b l bits) control.line ≡ bit_of bits control.line) cs
+others_same : (b : Bool) (l : ℕ) (bits : List Bool) (cs : List Control) → Avoids l (lines cs)
+    → AllByRecursion (λ (control : Control). bit_of (flip_when b l bits) control.line ≡ bit_of bits control.line) cs
 others_same b l bits [] d = tt
 others_same b l bits (c ∷ cs) d = (bit_of-flip b l c.line bits d.0, others_same b l bits cs d.1)
 
 -- between these flips the controls are met where all their lines are 1
-met_between : (cs : List Control) (bits : List Bool) → AreDifferent (lines cs) → AllByRecursion (λ l. l < length bits) (lines cs) → all_on (line_map (flips_of_negatives cs) bits) (lines cs) ≡ list_all (is_met bits) cs
+met_between : (cs : List Control) (bits : List Bool) → AreDifferent (lines cs) → AllByRecursion (λ l. l < length bits) (lines cs)
+    → all_on (line_map (flips_of_negatives cs) bits) (lines cs) ≡ list_all (is_met bits) cs
 met_between [] bits d r = refl
 met_between (c ∷ cs) bits d r =
     let F : List Bool = flip_when (not c.positive) c.line bits in
     let low = below_length bits F (lines cs) (length-flip (not c.positive) c.line bits) r.1 in
     let here : bit_of (line_map (flips_of_negatives cs) F) c.line ≡ is_met bits c = bit_behind cs F c.line d.0 ∙ turned c.positive c.line bits r.0 in
-    let rest : all_on (line_map (flips_of_negatives cs) F) (lines cs) ≡ list_all (is_met bits) cs = met_between cs F d.1 low ∙ met_same bits F cs (others_same (not c.positive) c.line bits cs d.0) in
+    let rest : all_on (line_map (flips_of_negatives cs) F) (lines cs) ≡ list_all (is_met bits) cs = met_between cs F d.1 low
+    ∙ met_same bits F cs (others_same (not c.positive) c.line bits cs d.0) in
     ap (λ b. all_on b (lines (c ∷ cs))) (negatives_step c cs bits) ∙ rw (here, rest) refl
 
 placed_one : (n : ℕ) (p : Bool) (l : ℕ) (rest : List GateView) → l < n → AreGatesOn n rest → AreGatesOn n (cond p rest (flip_of [] l ∷ rest))
@@ -99,11 +111,13 @@ surrounded n outer inner o i = AllByRecursion-append (IsGateOn n) (outer ++ inne
 pub surrounded_narrow : (outer inner : List GateView) → AreNarrow outer → AreNarrow inner → AreNarrow (outer ++ inner ++ outer)
 surrounded_narrow outer inner o i = AllByRecursion-append IsNarrow (outer ++ inner) outer (AllByRecursion-append IsNarrow outer inner o i) o
 
-surrounded_map : (outer inner : List GateView) (bits : List Bool) → line_map (outer ++ inner ++ outer) bits ≡ line_map outer (line_map inner (line_map outer bits))
+surrounded_map : (outer inner : List GateView) (bits : List Bool) → line_map (outer ++ inner ++ outer) bits
+    ≡ line_map outer (line_map inner (line_map outer bits))
 surrounded_map outer inner bits = line_map-append (outer ++ inner) outer bits ∙ ap (line_map outer) (line_map-append outer inner bits)
 
 -- a flip under any controls
-pub flip_does : (n : ℕ) (controls : List Control) (target : ℕ) (inner : List GateView) → IsGateOn n (record { controls = controls; op = Flip target }) → Does n inner (flip_of (lines controls) target)
+pub flip_does : (n : ℕ) (controls : List Control) (target : ℕ) (inner : List GateView) → IsGateOn n (record { controls = controls; op = Flip target })
+    → Does n inner (flip_of (lines controls) target)
     → Does n (flips_of_negatives controls ++ inner ++ flips_of_negatives controls) (record { controls = controls; op = Flip target })
 flip_does n controls target inner g d =
     let outer = flips_of_negatives controls in
@@ -117,26 +131,34 @@ flip_does n controls target inner g d =
       effect = λ bits e.
           let N : List Bool → List Bool = line_map outer in
           let low_bits : AllByRecursion (λ l. l < length bits) (lines controls) = rw e low in
-          surrounded_map outer inner bits ∙ ap N (d.effect (N bits) (length-negatives controls bits ∙ e)) ∙ ap (λ b. N (flip_when b target (N bits))) (met_between controls bits different low_bits)
-          ∙ negatives_commute controls (list_all (is_met bits) controls) target (N bits) off ∙ ap (flip_when (list_all (is_met bits) controls) target) (negatives_twice controls bits different low_bits);
+          surrounded_map outer inner bits ∙ ap N (d.effect (N bits) (length-negatives controls bits ∙ e))
+          ∙ ap (λ b. N (flip_when b target (N bits))) (met_between controls bits different low_bits)
+          ∙ negatives_commute controls (list_all (is_met bits) controls) target (N bits) off
+          ∙ ap (flip_when (list_all (is_met bits) controls) target) (negatives_twice controls bits different low_bits);
     }
 
 -- ---- swaps
 
-pub swap_gate : (n : ℕ) (controls : List Control) (a b : ℕ) → IsGateOn n (record { controls = controls; op = Swap a b }) → IsGateOn n (record { controls = controls ++ positive a ∷ []; op = Flip b })
+pub swap_gate : (n : ℕ) (controls : List Control) (a b : ℕ) → IsGateOn n (record { controls = controls; op = Swap a b })
+    → IsGateOn n (record { controls = controls ++ positive a ∷ []; op = Flip b })
 swap_gate n controls a b g =
-    let same : lines (controls ++ positive a ∷ []) ++ b ∷ [] ≡ lines controls ++ (a ∷ b ∷ []) = ap (λ ls. ls ++ b ∷ []) (map-append (λ (control : Control). control.line) controls (positive a ∷ [])) ∙ append_assoc (lines controls) (a ∷ []) (b ∷ []) in
+    let same : lines (controls ++ positive a ∷ []) ++ b ∷ [] ≡ lines controls ++ (a ∷ b ∷ []) =
+    ap (λ ls. ls ++ b ∷ []) (map-append (λ (control : Control). control.line) controls (positive a ∷ []))
+    ∙ append_assoc (lines controls) (a ∷ []) (b ∷ []) in
     record { different = rw same g.different; in_range = rw same g.in_range }
 
-off_lines : (a : ℕ) (controls : List Control) (others : List ℕ) → AllByRecursion (λ x. Avoids x (a ∷ others)) (lines controls) → AllByRecursion (λ (control : Control). a ≢ control.line) controls
+off_lines : (a : ℕ) (controls : List Control) (others : List ℕ) → AllByRecursion (λ x. Avoids x (a ∷ others)) (lines controls)
+    → AllByRecursion (λ (control : Control). a ≢ control.line) controls
 off_lines a [] others p = tt
 off_lines a (c ∷ cs) others p = ((λ e. p.0.0 (sym e)), off_lines a cs others p.1)
 
-off_second : (a b : ℕ) (controls : List Control) → AllByRecursion (λ x. Avoids x (a ∷ b ∷ [])) (lines controls) → AllByRecursion (λ (control : Control). b ≢ control.line) controls
+off_second : (a b : ℕ) (controls : List Control) → AllByRecursion (λ x. Avoids x (a ∷ b ∷ [])) (lines controls)
+    → AllByRecursion (λ (control : Control). b ≢ control.line) controls
 off_second a b [] p = tt
 off_second a b (c ∷ cs) p = ((λ e. p.0.1.0 (sym e)), off_second a b cs p.1)
 
-pub swap_does : (n : ℕ) (controls : List Control) (a b : ℕ) (inner : List GateView) → IsGateOn n (record { controls = controls; op = Swap a b }) → Does n inner (record { controls = controls ++ positive a ∷ []; op = Flip b })
+pub swap_does : (n : ℕ) (controls : List Control) (a b : ℕ) (inner : List GateView) → IsGateOn n (record { controls = controls; op = Swap a b })
+    → Does n inner (record { controls = controls ++ positive a ∷ []; op = Flip b })
     → Does n ((flip_of (b ∷ []) a ∷ []) ++ inner ++ (flip_of (b ∷ []) a ∷ [])) (record { controls = controls; op = Swap a b })
 swap_does n controls a b inner g d =
     let parts = AreDifferent-parts (lines controls) (a ∷ b ∷ []) g.different in
@@ -155,23 +177,29 @@ swap_does n controls a b inner g d =
 
 -- ---- one gate
 
-between_some : (outer : List GateView) (o : Option (List GateView)) (gates : List GateView) → between outer o ≡ Some gates → (inner : List GateView) × (o ≡ Some inner) × (gates ≡ outer ++ inner ++ outer)
+between_some : (outer : List GateView) (o : Option (List GateView)) (gates : List GateView) → between outer o ≡ Some gates → (inner : List GateView)
+    × (o ≡ Some inner) × (gates ≡ outer ++ inner ++ outer)
 between_some outer None gates e = absurd (cc)
 between_some outer (Some inner) gates e = (inner, refl, (let s : gates ≡ outer ++ inner ++ outer = cc in s))
 
-pub lines_gate : (n : ℕ) (controls : List Control) (target : ℕ) → IsGateOn n (record { controls = controls; op = Flip target }) → IsGateOn n (flip_of (lines controls) target)
+pub lines_gate : (n : ℕ) (controls : List Control) (target : ℕ) → IsGateOn n (record { controls = controls; op = Flip target })
+    → IsGateOn n (flip_of (lines controls) target)
 lines_gate n controls target g = gate_on n (lines controls) target g.different g.in_range
 
-flip_split_does : (n : ℕ) (controls : List Control) (target : ℕ) (gates : List GateView) → IsGateOn n (record { controls = controls; op = Flip target }) → split_flip n controls target ≡ Some gates → Does n gates (record { controls = controls; op = Flip target })
+flip_split_does : (n : ℕ) (controls : List Control) (target : ℕ) (gates : List GateView) → IsGateOn n (record { controls = controls; op = Flip target })
+    → split_flip n controls target ≡ Some gates → Does n gates (record { controls = controls; op = Flip target })
 flip_split_does n controls target gates g e =
     let s = between_some (flips_of_negatives controls) (split_positive n (lines controls) target) gates e in
-    subst (λ (l : List GateView). Does n l (record { controls = controls; op = Flip target })) (sym s.2) (flip_does n controls target s.0 g (positive_does n (lines controls) target s.0 (lines_gate n controls target g) s.1))
+    subst (λ (l : List GateView). Does n l (record { controls = controls; op = Flip target })) (sym s.2)
+    (flip_does n controls target s.0 g (positive_does n (lines controls) target s.0 (lines_gate n controls target g) s.1))
 
-op_split_does : (n : ℕ) (controls : List Control) (op : Op) (gates : List GateView) → IsGateOn n (record { controls = controls; op = op }) → split_op n controls op ≡ Some gates → Does n gates (record { controls = controls; op = op })
+op_split_does : (n : ℕ) (controls : List Control) (op : Op) (gates : List GateView) → IsGateOn n (record { controls = controls; op = op })
+    → split_op n controls op ≡ Some gates → Does n gates (record { controls = controls; op = op })
 op_split_does n controls (Flip t) gates g e = flip_split_does n controls t gates g e
 op_split_does n controls (Swap a b) gates g e =
     let s = between_some (flip_of (b ∷ []) a ∷ []) (split_flip n (controls ++ positive a ∷ []) b) gates e in
-    subst (λ (l : List GateView). Does n l (record { controls = controls; op = Swap a b })) (sym s.2) (swap_does n controls a b s.0 g (flip_split_does n (controls ++ positive a ∷ []) b s.0 (swap_gate n controls a b g) s.1))
+    subst (λ (l : List GateView). Does n l (record { controls = controls; op = Swap a b })) (sym s.2)
+    (swap_does n controls a b s.0 g (flip_split_does n (controls ++ positive a ∷ []) b s.0 (swap_gate n controls a b g) s.1))
 
 pub split_gate_does : (n : ℕ) (gate : GateView) (gates : List GateView) → IsGateOn n gate → split_gate n gate ≡ Some gates → Does n gates gate
 split_gate_does n gate gates g e = op_split_does n gate.controls gate.op gates g e
@@ -182,7 +210,8 @@ within : (b : Bool) (r : Result (List GateView) SplitFault) (gates : List GateVi
 within true r gates e = e
 within false r gates e = absurd (cc)
 
-piece_ok : (o : Option (List GateView)) (limit place : ℕ) (done : List GateView) (next : List GateView → Result (List GateView) SplitFault) (gates : List GateView) → with_piece o limit place done next ≡ Ok gates
+piece_ok : (o : Option (List GateView)) (limit place : ℕ) (done : List GateView) (next : List GateView → Result (List GateView) SplitFault)
+    (gates : List GateView) → with_piece o limit place done next ≡ Ok gates
     → (piece : List GateView) × (o ≡ Some piece) × (next (done ++ piece) ≡ Ok gates)
 piece_ok None limit place done next gates e = absurd (cc)
 piece_ok (Some piece) limit place done next gates e = (piece, refl, within (leb (length (done ++ piece)) limit) (next (done ++ piece)) gates e)
@@ -195,7 +224,8 @@ pub record Walked (n : ℕ) (done gates result : List GateView) : Type 0 where
 ok_is : (x y : List GateView) → ◌≡◌ {A = Result (List GateView) SplitFault} (Ok x) (Ok y) → x ≡ y
 ok_is x y e = cc
 
-pub walk : (n limit place : ℕ) (done gates result : List GateView) → AreGatesOn n gates → split_from n limit place done gates ≡ Ok result → Walked n done gates result
+pub walk : (n limit place : ℕ) (done gates result : List GateView) → AreGatesOn n gates → split_from n limit place done gates ≡ Ok result
+    → Walked n done gates result
 walk n limit place done [] result g e = subst (Walked n done []) (ok_is done result e) (record { narrow = λ p. p; placed = λ p. p; effect = λ bits l p. refl })
 walk n limit place done (x ∷ xs) result g e =
     let s = piece_ok (split_gate n x) limit place done (λ now. split_from n limit (place + 1) now xs) result e in
@@ -206,5 +236,6 @@ walk n limit place done (x ∷ xs) result g e =
       placed = λ p. rest.placed (AllByRecursion-append (IsGateOn n) done s.0 p d.placed);
       effect = λ bits l p.
           let long : length (line_map done bits) ≡ n = length-line_map done bits (rw l p) ∙ l in
-          rest.effect bits l (AllByRecursion-append (IsGateOn n) done s.0 p d.placed) ∙ ap (line_map xs) (line_map-append done s.0 bits ∙ d.effect (line_map done bits) long);
+          rest.effect bits l (AllByRecursion-append (IsGateOn n) done s.0 p d.placed)
+          ∙ ap (line_map xs) (line_map-append done s.0 bits ∙ d.effect (line_map done bits) long);
     }

@@ -22,37 +22,44 @@ flip_on n gate t ls o e g =
     let low : AllByRecursion (λ l. l < n) (lines gate.controls ++ t ∷ []) = rw o at g.in_range in
     rw e (gate_on n (lines gate.controls) t different low)
 
-pub swap_on : (n : ℕ) (gate : GateView) (a b : ℕ) (ls : List ℕ) → gate.op ≡ Swap a b → ls ≡ lines gate.controls ++ a ∷ [] → IsGateOn n gate → IsGateOn n (flip_of ls b)
+pub swap_on : (n : ℕ) (gate : GateView) (a b : ℕ) (ls : List ℕ) → gate.op ≡ Swap a b → ls ≡ lines gate.controls ++ a ∷ [] → IsGateOn n gate
+    → IsGateOn n (flip_of ls b)
 swap_on n gate a b ls o e g =
     let same : (lines gate.controls ++ a ∷ []) ++ b ∷ [] ≡ lines gate.controls ++ (a ∷ b ∷ []) = append_assoc (lines gate.controls) (a ∷ []) (b ∷ []) in
     let different : AreDifferent (lines gate.controls ++ (a ∷ b ∷ [])) = rw o at g.different in
     let low : AllByRecursion (λ l. l < n) (lines gate.controls ++ (a ∷ b ∷ [])) = rw o at g.in_range in
     rw e (gate_on n (lines gate.controls ++ a ∷ []) b (rw same different) (rw same low))
 
-pub flip_piece : (n : ℕ) (gate : GateView) (t : ℕ) (controls : List Control) (ls : List ℕ) → gate.op ≡ Flip t → controls ≡ gate.controls → ls ≡ lines gate.controls
+pub flip_piece : (n : ℕ) (gate : GateView) (t : ℕ) (controls : List Control) (ls : List ℕ) → gate.op ≡ Flip t → controls ≡ gate.controls
+    → ls ≡ lines gate.controls
     → split_gate n gate ≡ between (flips_of_negatives controls) (split_positive n ls t)
 flip_piece n gate t controls ls o e f =
-    ap (split_op n gate.controls) o ∙ ap (λ l. between (flips_of_negatives gate.controls) (split_positive n l t)) (sym f) ∙ ap (λ c. between (flips_of_negatives c) (split_positive n ls t)) (sym e)
+    ap (split_op n gate.controls) o ∙ ap (λ l. between (flips_of_negatives gate.controls) (split_positive n l t)) (sym f)
+    ∙ ap (λ c. between (flips_of_negatives c) (split_positive n ls t)) (sym e)
 
 no_more_negatives : (cs : List Control) (a : ℕ) → flips_of_negatives (cs ++ positive a ∷ []) ≡ flips_of_negatives cs
 no_more_negatives [] a = refl
 no_more_negatives (c ∷ cs) a = let rest = no_more_negatives cs a in rw rest refl
 
-pub swap_piece : (n : ℕ) (gate : GateView) (a b : ℕ) (controls : List Control) (ls : List ℕ) → gate.op ≡ Swap a b → controls ≡ gate.controls → ls ≡ lines gate.controls ++ a ∷ []
+pub swap_piece : (n : ℕ) (gate : GateView) (a b : ℕ) (controls : List Control) (ls : List ℕ) → gate.op ≡ Swap a b → controls ≡ gate.controls
+    → ls ≡ lines gate.controls ++ a ∷ []
     → split_gate n gate ≡ between (flip_of (b ∷ []) a ∷ []) (between (flips_of_negatives controls) (split_positive n ls b))
 swap_piece n gate a b controls ls o e f =
     let same : lines (gate.controls ++ positive a ∷ []) ≡ ls = map-append (λ (control : Control). control.line) gate.controls (positive a ∷ []) ∙ sym f in
-    ap (split_op n gate.controls) o ∙ ap (λ l. between (flip_of (b ∷ []) a ∷ []) (between (flips_of_negatives (gate.controls ++ positive a ∷ [])) (split_positive n l b))) same
+    ap (split_op n gate.controls) o ∙ ap (λ l. between (flip_of (b ∷ []) a ∷ [])
+    (between (flips_of_negatives (gate.controls ++ positive a ∷ [])) (split_positive n l b))) same
     ∙ ap (λ g. between (flip_of (b ∷ []) a ∷ []) (between g (split_positive n ls b))) (no_more_negatives gate.controls a ∙ ap flips_of_negatives (sym e))
 
-behind_between : (done outer : List GateView) (o : Option (List GateView)) (now : List GateView) → behind (done ++ outer) o ≡ Some now → behind done (between outer o) ≡ Some (now ++ outer)
+behind_between : (done outer : List GateView) (o : Option (List GateView)) (now : List GateView) → behind (done ++ outer) o ≡ Some now
+    → behind done (between outer o) ≡ Some (now ++ outer)
 behind_between done outer None now e = absurd (cc)
 behind_between done outer (Some inner) now e =
     let is : (done ++ outer) ++ inner ≡ now = cc in
     ap Some (sym (append_assoc done (outer ++ inner) outer) ∙ ap (λ l. l ++ outer) (sym (append_assoc done outer inner) ∙ is))
 
 -- the gates around a piece, before and behind
-pub surrounded_piece : (done outer begun now : List GateView) (whole o : Option (List GateView)) → whole ≡ between outer o → begun ≡ done ++ outer → behind begun o ≡ Some now → behind done whole ≡ Some (now ++ outer)
+pub surrounded_piece : (done outer begun now : List GateView) (whole o : Option (List GateView)) → whole ≡ between outer o → begun ≡ done ++ outer
+    → behind begun o ≡ Some now → behind done whole ≡ Some (now ++ outer)
 surrounded_piece done outer begun now whole o e f h = ap (behind done) e ∙ behind_between done outer o now (rw f at h)
 
 pub between_none : (outer : List GateView) (o : Option (List GateView)) → o ≡ None → between outer o ≡ None
@@ -75,12 +82,15 @@ all_positive : (cs : List Control) → list_all (λ (control : Control). control
 all_positive [] e = refl
 all_positive (c ∷ cs) e =
     let rest = list_all (λ (control : Control). control.positive) cs in
-    ap (λ x. x ∷ map positive (lines cs)) (positive_is c.positive c.line (and_left c.positive rest e)) ∙ ap (λ r. c ∷ r) (all_positive cs (and_right c.positive rest e))
+    ap (λ x. x ∷ map positive (lines cs)) (positive_is c.positive c.line (and_left c.positive rest e))
+    ∙ ap (λ r. c ∷ r) (all_positive cs (and_right c.positive rest e))
 
-whole : (controls : List Control) (op was : Op) (made : List Control) → op ≡ was → controls ≡ made → ◌≡◌ {A = GateView} (record { controls = controls; op = op }) (record { controls = made; op = was })
+whole : (controls : List Control) (op was : Op) (made : List Control) → op ≡ was → controls ≡ made
+    → ◌≡◌ {A = GateView} (record { controls = controls; op = op }) (record { controls = made; op = was })
 whole controls op was made o e = rw (o, e) refl
 
-pub narrow_is : (gate : GateView) (t : ℕ) → gate.op ≡ Flip t → length gate.controls ≤ 2 → list_all (λ (control : Control). control.positive) gate.controls ≡ true → IsNarrow gate
+pub narrow_is : (gate : GateView) (t : ℕ) → gate.op ≡ Flip t → length gate.controls ≤ 2
+    → list_all (λ (control : Control). control.positive) gate.controls ≡ true → IsNarrow gate
 narrow_is gate t o few e = record {
   controls = lines gate.controls;
   target = t;
@@ -116,15 +126,19 @@ few_stay n controls target few = elim (leb_tells (length controls) 2) [ inl t �
 pub narrow_stays : (n : ℕ) (gate : GateView) → IsNarrow gate → split_gate n gate ≡ Some (gate ∷ [])
 narrow_stays n gate s =
     ap (split_gate n) s.is_flip ∙ ap (λ g. between g (split_positive n (lines (map positive s.controls)) s.target)) (no_negatives s.controls)
-    ∙ ap (λ l. between [] (split_positive n l s.target)) (lines_back s.controls) ∙ ap (between []) (few_stay n s.controls s.target s.few) ∙ ap (λ g. Some (g ∷ [])) (sym s.is_flip)
+    ∙ ap (λ l. between [] (split_positive n l s.target)) (lines_back s.controls) ∙ ap (between []) (few_stay n s.controls s.target s.few)
+    ∙ ap (λ g. Some (g ∷ [])) (sym s.is_flip)
 
-pub narrow_behind : (n : ℕ) (gate copy : GateView) (done now : List GateView) → IsNarrow gate → copy ≡ gate → now ≡ done ++ copy ∷ [] → behind done (split_gate n gate) ≡ Some now
+pub narrow_behind : (n : ℕ) (gate copy : GateView) (done now : List GateView) → IsNarrow gate → copy ≡ gate → now ≡ done ++ copy ∷ []
+    → behind done (split_gate n gate) ≡ Some now
 narrow_behind n gate copy done now s e f = ap (behind done) (narrow_stays n gate s) ∙ ap (λ g. Some (done ++ g ∷ [])) (sym e) ∙ ap Some (sym f)
 
-stays_one : (limit place : ℕ) (done : List GateView) (gate : GateView) (next : List GateView → Result (List GateView) SplitFault) → length (done ++ gate ∷ []) ≤ limit → with_piece (Some (gate ∷ [])) limit place done next ≡ next (done ++ gate ∷ [])
+stays_one : (limit place : ℕ) (done : List GateView) (gate : GateView) (next : List GateView → Result (List GateView) SplitFault)
+    → length (done ++ gate ∷ []) ≤ limit → with_piece (Some (gate ∷ [])) limit place done next ≡ next (done ++ gate ∷ [])
 stays_one limit place done gate next h = elim (leb_tells (length (done ++ gate ∷ [])) limit) [ inl t ↦ rw t.0 refl | inr t ↦ absurd (omega (arith, t.1)) ]
 
-stays_from : (n limit place : ℕ) (done gates : List GateView) → AreNarrow gates → length done + length gates ≤ limit → split_from n limit place done gates ≡ Ok (done ++ gates)
+stays_from : (n limit place : ℕ) (done gates : List GateView) → AreNarrow gates → length done + length gates ≤ limit
+    → split_from n limit place done gates ≡ Ok (done ++ gates)
 stays_from n limit place done [] s h = ap Ok (sym (append-nil done))
 stays_from n limit place done (g ∷ gs) s h =
     let next : List GateView → Result (List GateView) SplitFault = λ now. split_from n limit (place + 1) now gs in

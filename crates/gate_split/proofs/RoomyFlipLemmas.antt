@@ -52,7 +52,8 @@ record IsPiece (piece : Option (List GateView)) (most : ℕ) : Type 0 where
 abbrev most_positive : ℕ → ℕ
 most_positive k = cond (leb k 2) 1 (8 * k)
 
-few_controls : (n : ℕ) (controls : List ℕ) (target : ℕ) → leb (length controls) 2 ≡ true → IsPiece (split_positive n controls target) (most_positive (length controls))
+few_controls : (n : ℕ) (controls : List ℕ) (target : ℕ) → leb (length controls) 2 ≡ true
+    → IsPiece (split_positive n controls target) (most_positive (length controls))
 few_controls n controls target e = record { gates = flip_of controls target ∷ []; is = rw e refl; few = rw e (omega arith) }
 
 -- some gates stand in place of a flip of three controls or more that has an idle line
@@ -65,13 +66,15 @@ some_gates n controls target e idle =
       | inr t ↦ (in_halves n controls target idle.first, rw (e, t.0) (ap (over_few_lines n controls target) idle.parts))
     ]
 
-many_controls : (n : ℕ) (controls : List ℕ) (target : ℕ) → leb (length controls) 2 ≡ false → 3 ≤ length controls → IsGateOn n (flip_of controls target) → HasFirst (idle_lines n (controls ++ target ∷ []))
+many_controls : (n : ℕ) (controls : List ℕ) (target : ℕ) → leb (length controls) 2 ≡ false → 3 ≤ length controls → IsGateOn n (flip_of controls target)
+    → HasFirst (idle_lines n (controls ++ target ∷ []))
     → IsPiece (split_positive n controls target) (most_positive (length controls))
 many_controls n controls target e many on idle =
     let some = some_gates n controls target e idle in
     record { gates = some.0; is = some.1; few = rw e (costs n controls target some.0 on many some.1).at_most }
 
-positive_piece : (n : ℕ) (controls : List ℕ) (target : ℕ) → IsGateOn n (flip_of controls target) → (length controls ≤ 2) ⊎ HasFirst (idle_lines n (controls ++ target ∷ []))
+positive_piece : (n : ℕ) (controls : List ℕ) (target : ℕ) → IsGateOn n (flip_of controls target) → (length controls ≤ 2)
+    ⊎ HasFirst (idle_lines n (controls ++ target ∷ []))
     → IsPiece (split_positive n controls target) (most_positive (length controls))
 positive_piece n controls target on room = elim (leb_tells (length controls) 2) [
   | inl t ↦ few_controls n controls target t.0
@@ -92,7 +95,8 @@ length-flips_of_negatives controls =
     (λ c cs. length-cons-if c.positive (flip_of [] c.line) (flips_of_negatives cs)) controls
 
 -- between flips of the negative controls there are two more for each
-between_piece : (outer : List GateView) (piece : Option (List GateView)) (most : ℕ) → IsPiece piece most → IsPiece (between outer piece) (most + 2 * length outer)
+between_piece : (outer : List GateView) (piece : Option (List GateView)) (most : ℕ) → IsPiece piece most
+    → IsPiece (between outer piece) (most + 2 * length outer)
 between_piece outer piece most p =
     let few = p.few in
     let inner = length-append p.gates outer in
@@ -110,7 +114,8 @@ gate_piece n gate flip =
       | inr idle ↦ inr (some_idle n idle.line _ idle.below (subst (Avoids idle.line) used idle.idle))
     ] in
     let inner = positive_piece n (lines gate.controls) flip.target on room in
-    let whole = between_piece (flips_of_negatives gate.controls) (split_positive n (lines gate.controls) flip.target) (most_positive (length (lines gate.controls))) inner in
+    let whole = between_piece (flips_of_negatives gate.controls) (split_positive n (lines gate.controls) flip.target)
+    (most_positive (length (lines gate.controls))) inner in
     let negatives = length-flips_of_negatives gate.controls in
     let most : most_positive (length (lines gate.controls)) + 2 * length (flips_of_negatives gate.controls) ≡ most_gates gate =
     ap (λ k. most_positive k + 2 * length (flips_of_negatives gate.controls)) long ∙ ap (λ m. most_positive (length gate.controls) + 2 * m) negatives in
@@ -132,7 +137,8 @@ record Goes (n limit place : ℕ) (done gates : List GateView) : Type 0 where
   is : split_from n limit place done gates ≡ Ok narrow
   few : length narrow ≤ length done + sum_by most_gates gates
 
-goes : (n limit place : ℕ) (done gates : List GateView) → AllByRecursion (IsRoomyFlip n) gates → length done + sum_by most_gates gates ≤ limit → Goes n limit place done gates
+goes : (n limit place : ℕ) (done gates : List GateView) → AllByRecursion (IsRoomyFlip n) gates → length done + sum_by most_gates gates ≤ limit
+    → Goes n limit place done gates
 goes n limit place done [] roomy fits = record { narrow = done; is = refl; few = omega arith }
 goes n limit place done (gate ∷ gates) roomy fits =
     let piece = gate_piece n gate roomy.0 in
@@ -153,7 +159,8 @@ goes n limit place done (gate ∷ gates) roomy fits =
 weight_within : (n : ℕ) (gate : GateView) → IsRoomyFlip n gate → weight_of gate ≤ most_gates gate
 weight_within n gate flip =
     let k = length gate.controls in
-    let same : weight_of gate ≡ op_weight (Flip flip.target) k + 2 * negative_controls gate.controls = ap (λ op. op_weight op k + 2 * negative_controls gate.controls) flip.is_flip in
+    let same : weight_of gate ≡ op_weight (Flip flip.target) k + 2 * negative_controls gate.controls =
+    ap (λ op. op_weight op k + 2 * negative_controls gate.controls) flip.is_flip in
     elim (leb_tells k 2) [
       | inl t ↦ rw (same, t.0) (omega arith)
       | inr t ↦ rw (same, t.0) (omega arith)

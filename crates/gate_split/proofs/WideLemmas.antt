@@ -15,11 +15,14 @@ use Rattle.gate_split.proofs.LadderLemmas.{fits_gates}
 use Rattle.gate_split.proofs.FallingLineLemmas.{length-in_falling_order}
 use Rattle.gate_split.proofs.EffectLemmas.{different_of, below_of, serves_fits, serves_take, idle_serves, Halves}
 
-pub rungs_differ : (n : ℕ) (controls : List ℕ) (target : ℕ) (idle : List ℕ) → Serves n controls target idle → length controls ≡ length idle + 2 → AllByRecursion HasDifferentLines (ladder target (reverse controls) (reverse idle))
+pub rungs_differ : (n : ℕ) (controls : List ℕ) (target : ℕ) (idle : List ℕ) → Serves n controls target idle → length controls ≡ length idle + 2
+    → AllByRecursion HasDifferentLines (ladder target (reverse controls) (reverse idle))
 rungs_differ n controls target idle s e =
-    AllByRecursion-weaker (IsGateOn n) HasDifferentLines (λ g p. p.different) (ladder target (reverse controls) (reverse idle)) (fits_gates n target (reverse controls) (reverse idle) (serves_fits n controls target idle s e))
+    AllByRecursion-weaker (IsGateOn n) HasDifferentLines (λ g p. p.different) (ladder target (reverse controls) (reverse idle))
+    (fits_gates n target (reverse controls) (reverse idle) (serves_fits n controls target idle s e))
 
-pub cut_differ : (n : ℕ) (controls : List ℕ) (target : ℕ) (idle : List ℕ) → Serves n controls target idle → 2 < length controls → length controls ≤ length idle + 2
+pub cut_differ : (n : ℕ) (controls : List ℕ) (target : ℕ) (idle : List ℕ) → Serves n controls target idle → 2 < length controls
+    → length controls ≤ length idle + 2
     → AllByRecursion HasDifferentLines (ladder target (reverse controls) (reverse (take (length controls - 2) idle)))
 cut_differ n controls target idle s h enough =
     let cut : length (take (length controls - 2) idle) ≡ length controls - 2 = length-take-le (length controls - 2) idle (omega arith) in
@@ -27,10 +30,12 @@ cut_differ n controls target idle s h enough =
 
 -- ---- halves
 
-pub halves_of : (n : ℕ) (controls : List ℕ) (target idle : ℕ) → IsGateOn n (flip_of controls target) → idle < n → Avoids idle (controls ++ target ∷ []) → Halves n (take (first_half controls) controls) (drop (first_half controls) controls) target idle
+pub halves_of : (n : ℕ) (controls : List ℕ) (target idle : ℕ) → IsGateOn n (flip_of controls target) → idle < n → Avoids idle (controls ++ target ∷ [])
+    → Halves n (take (first_half controls) controls) (drop (first_half controls) controls) target idle
 halves_of n controls target idle g low off =
     let h = first_half controls in
-    let grouped : take h controls ++ (drop h controls ++ target ∷ []) ≡ controls ++ target ∷ [] = sym (append_assoc (take h controls) (drop h controls) (target ∷ [])) ∙ ap (λ c. c ++ target ∷ []) (take-append-drop h controls) in
+    let grouped : take h controls ++ (drop h controls ++ target ∷ []) ≡ controls ++ target ∷ [] =
+    sym (append_assoc (take h controls) (drop h controls) (target ∷ [])) ∙ ap (λ c. c ++ target ∷ []) (take-append-drop h controls) in
     record {
       different = rw grouped (different_of n controls target g);
       below = rw grouped (below_of n controls target g);
@@ -44,23 +49,29 @@ at_most k ls h = let cut = length-take k ls in omega arith
 cut_le : (k : ℕ) (ls : List ℕ) → length (take k ls) ≡ k → k ≤ length ls
 cut_le k ls e = let cut = length-take k ls in omega arith
 
-pub second_length : (n : ℕ) (controls : List ℕ) (target idle : ℕ) → Halves n (take (first_half controls) controls) (drop (first_half controls) controls) target idle → 4 ≤ length controls
+pub second_length : (n : ℕ) (controls : List ℕ) (target idle : ℕ) → Halves n (take (first_half controls) controls)
+    (drop (first_half controls) controls) target idle → 4 ≤ length controls
     → length (drop (first_half controls) controls ++ idle ∷ []) ≤ length (in_falling_order n (take (first_half controls) controls)) + 2
 second_length n controls target idle s four =
     let h = first_half controls in
     let first = take h controls in
     let second = drop h controls in
-    let first_is = length-in_falling_order n first (AreDifferent-left first (second ++ target ∷ []) s.different) (AllByRecursion-left (λ x. x < n) first (second ++ target ∷ []) s.below) in
+    let first_is = length-in_falling_order n first (AreDifferent-left first (second ++ target ∷ []) s.different)
+    (AllByRecursion-left (λ x. x < n) first (second ++ target ∷ []) s.below) in
     let long_first : length first ≡ h = length-take-le h controls (omega arith) in
     let long_second : length second ≡ length controls - h = length-drop h controls in
     let long = length-append second (idle ∷ []) in
     omega arith
 
-pub second_enough : (n : ℕ) (controls : List ℕ) (target idle : ℕ) → Halves n (take (first_half controls) controls) (drop (first_half controls) controls) target idle → 4 ≤ length controls
-    → length (drop (first_half controls) controls ++ idle ∷ []) ≤ length (take (length (drop (first_half controls) controls ++ idle ∷ [])) (in_falling_order n (take (first_half controls) controls))) + 2
-second_enough n controls target idle s four = at_most (length (drop (first_half controls) controls ++ idle ∷ [])) (in_falling_order n (take (first_half controls) controls)) (second_length n controls target idle s four)
+pub second_enough : (n : ℕ) (controls : List ℕ) (target idle : ℕ) → Halves n (take (first_half controls) controls)
+    (drop (first_half controls) controls) target idle → 4 ≤ length controls
+    → length (drop (first_half controls) controls ++ idle ∷ []) ≤ length
+    (take (length (drop (first_half controls) controls ++ idle ∷ [])) (in_falling_order n (take (first_half controls) controls))) + 2
+second_enough n controls target idle s four = at_most (length (drop (first_half controls) controls ++ idle ∷ []))
+    (in_falling_order n (take (first_half controls) controls)) (second_length n controls target idle s four)
 
-pub first_length : (n : ℕ) (controls : List ℕ) (target idle : ℕ) → Halves n (take (first_half controls) controls) (drop (first_half controls) controls) target idle → 4 ≤ length controls
+pub first_length : (n : ℕ) (controls : List ℕ) (target idle : ℕ) → Halves n (take (first_half controls) controls)
+    (drop (first_half controls) controls) target idle → 4 ≤ length controls
     → length (take (first_half controls) controls) ≤ length (in_falling_order n (drop (first_half controls) controls ++ target ∷ [])) + 2
 first_length n controls target idle s four =
     let h = first_half controls in
@@ -73,47 +84,63 @@ first_length n controls target idle s four =
     let long = length-append second (target ∷ []) in
     omega arith
 
-pub first_enough : (n : ℕ) (controls : List ℕ) (target idle : ℕ) → Halves n (take (first_half controls) controls) (drop (first_half controls) controls) target idle → 4 ≤ length controls
-    → length (take (first_half controls) controls) ≤ length (take (length (take (first_half controls) controls)) (in_falling_order n (drop (first_half controls) controls ++ target ∷ []))) + 2
-first_enough n controls target idle s four = at_most (length (take (first_half controls) controls)) (in_falling_order n (drop (first_half controls) controls ++ target ∷ [])) (first_length n controls target idle s four)
+pub first_enough : (n : ℕ) (controls : List ℕ) (target idle : ℕ) → Halves n (take (first_half controls) controls)
+    (drop (first_half controls) controls) target idle → 4 ≤ length controls
+    → length (take (first_half controls) controls) ≤ length (take (length (take (first_half controls) controls))
+    (in_falling_order n (drop (first_half controls) controls ++ target ∷ []))) + 2
+first_enough n controls target idle s four = at_most (length (take (first_half controls) controls))
+    (in_falling_order n (drop (first_half controls) controls ++ target ∷ [])) (first_length n controls target idle s four)
 
-pub same_cut : (controls : List ℕ) (target : ℕ) (idle : List ℕ) → with_enough_idle controls target (take (length controls) idle) ≡ with_enough_idle controls target idle
-same_cut controls target idle = ap (λ ls. cond (leb (length controls) 2) (flip_of controls target ∷ []) (over_idle_lines controls target ls)) (take-take (length controls - 2) (length controls) idle (omega arith))
+pub same_cut : (controls : List ℕ) (target : ℕ) (idle : List ℕ) → with_enough_idle controls target (take (length controls) idle)
+    ≡ with_enough_idle controls target idle
+same_cut controls target idle = ap (λ ls. cond (leb (length controls) 2) (flip_of controls target ∷ []) (over_idle_lines controls target ls))
+    (take-take (length controls - 2) (length controls) idle (omega arith))
 
 -- the list of both halves, twice
 pub halves_made : (n : ℕ) (controls : List ℕ) (target idle : ℕ) (done once second first : List GateView)
-    → second ≡ with_enough_idle (drop (first_half controls) controls ++ idle ∷ []) target (take (length (drop (first_half controls) controls ++ idle ∷ [])) (in_falling_order n (take (first_half controls) controls)))
-    → first ≡ with_enough_idle (take (first_half controls) controls) idle (take (length (take (first_half controls) controls)) (in_falling_order n (drop (first_half controls) controls ++ target ∷ [])))
+    → second ≡ with_enough_idle (drop (first_half controls) controls ++ idle ∷ []) target
+    (take (length (drop (first_half controls) controls ++ idle ∷ [])) (in_falling_order n (take (first_half controls) controls)))
+    → first ≡ with_enough_idle (take (first_half controls) controls) idle
+    (take (length (take (first_half controls) controls)) (in_falling_order n (drop (first_half controls) controls ++ target ∷ [])))
     → once ≡ second ++ first → (done ++ once) ++ once ≡ done ++ in_halves n controls target idle
 halves_made n controls target idle done once second first es ef e =
     let both : once ≡ second_flips n controls target idle ++ first_flips n controls target idle =
-    e ∙ ap (λ s. s ++ first) (es ∙ same_cut (drop (first_half controls) controls ++ idle ∷ []) target (in_falling_order n (take (first_half controls) controls)))
-    ∙ ap (λ f. second_flips n controls target idle ++ f) (ef ∙ same_cut (take (first_half controls) controls) idle (in_falling_order n (drop (first_half controls) controls ++ target ∷ []))) in
+    e ∙ ap (λ s. s ++ first) (es ∙ same_cut (drop (first_half controls) controls ++ idle ∷ []) target
+    (in_falling_order n (take (first_half controls) controls)))
+    ∙ ap (λ f. second_flips n controls target idle ++ f) (ef ∙ same_cut (take (first_half controls) controls) idle
+    (in_falling_order n (drop (first_half controls) controls ++ target ∷ []))) in
     append_assoc done once once ∙ ap (λ o. done ++ (o ++ o)) both
 
 -- the lines of a half, as the code finds them
-pub second_found : (n m : ℕ) (controls front back found : List ℕ) (idle : ℕ) → front ≡ take (first_half controls) controls → back ≡ drop (first_half controls) controls → m ≡ n → found ≡ take (length back + 1) (in_falling_order m (front ++ []))
+pub second_found : (n m : ℕ) (controls front back found : List ℕ) (idle : ℕ) → front ≡ take (first_half controls) controls
+    → back ≡ drop (first_half controls) controls → m ≡ n → found ≡ take (length back + 1) (in_falling_order m (front ++ []))
     → found ≡ take (length (drop (first_half controls) controls ++ idle ∷ [])) (in_falling_order n (take (first_half controls) controls))
 second_found n m controls front back found idle f b s e =
     let first = take (first_half controls) controls in
     let second = drop (first_half controls) controls in
     let count : length back + 1 ≡ length (second ++ idle ∷ []) = ap (λ (l : List ℕ). length l + 1) b ∙ sym (length-append second (idle ∷ [])) in
-    e ∙ ap (λ l. take (length back + 1) (in_falling_order m l)) (append-nil front ∙ f) ∙ ap (λ k. take (length back + 1) (in_falling_order k first)) s ∙ ap (λ k. take k (in_falling_order n first)) count
+    e ∙ ap (λ l. take (length back + 1) (in_falling_order m l)) (append-nil front ∙ f) ∙ ap (λ k. take (length back + 1) (in_falling_order k first)) s
+    ∙ ap (λ k. take k (in_falling_order n first)) count
 
-pub first_found : (n : ℕ) (controls front back found : List ℕ) (target : ℕ) → front ≡ take (first_half controls) controls → back ≡ drop (first_half controls) controls → found ≡ take (length front) (in_falling_order n (back ++ target ∷ []))
+pub first_found : (n : ℕ) (controls front back found : List ℕ) (target : ℕ) → front ≡ take (first_half controls) controls
+    → back ≡ drop (first_half controls) controls → found ≡ take (length front) (in_falling_order n (back ++ target ∷ []))
     → found ≡ take (length (take (first_half controls) controls)) (in_falling_order n (drop (first_half controls) controls ++ target ∷ []))
 first_found n controls front back found target f b e =
-    e ∙ ap (λ (l : List ℕ). take (length l) (in_falling_order n (back ++ target ∷ []))) f ∙ ap (λ l. take (length (take (first_half controls) controls)) (in_falling_order n (l ++ target ∷ []))) b
+    e ∙ ap (λ (l : List ℕ). take (length l) (in_falling_order n (back ++ target ∷ []))) f
+    ∙ ap (λ l. take (length (take (first_half controls) controls)) (in_falling_order n (l ++ target ∷ []))) b
 
-pub back_below : (n : ℕ) (first second back : List ℕ) (target idle : ℕ) → Halves n first second target idle → back ≡ second → AllByRecursion (λ x. x < n) (back ++ target ∷ [])
+pub back_below : (n : ℕ) (first second back : List ℕ) (target idle : ℕ) → Halves n first second target idle → back ≡ second
+    → AllByRecursion (λ x. x < n) (back ++ target ∷ [])
 back_below n first second back target idle s b = rw b (AllByRecursion-right (λ x. x < n) first (second ++ target ∷ []) s.below)
 
-pub front_below : (n m : ℕ) (first second front : List ℕ) (target idle : ℕ) → Halves n first second target idle → front ≡ first → m ≡ n → AllByRecursion (λ x. x < m) (front ++ [])
+pub front_below : (n m : ℕ) (first second front : List ℕ) (target idle : ℕ) → Halves n first second target idle → front ≡ first → m ≡ n
+    → AllByRecursion (λ x. x < m) (front ++ [])
 front_below n m first second front target idle s f e = rw (append-nil front, f, e) (AllByRecursion-left (λ x. x < n) first (second ++ target ∷ []) s.below)
 
 -- ---- which list
 
-pub positive_over : (n : ℕ) (controls : List ℕ) (target : ℕ) (idle : List ℕ) → 2 < length controls → idle ≡ take (length controls - 2) (idle_lines n (controls ++ target ∷ [])) → length idle ≡ length controls - 2
+pub positive_over : (n : ℕ) (controls : List ℕ) (target : ℕ) (idle : List ℕ) → 2 < length controls
+    → idle ≡ take (length controls - 2) (idle_lines n (controls ++ target ∷ [])) → length idle ≡ length controls - 2
     → split_positive n controls target ≡ Some (over_idle_lines controls target idle)
 positive_over n controls target idle h e long =
     let all = idle_lines n (controls ++ target ∷ []) in
@@ -126,7 +153,8 @@ positive_over n controls target idle h e long =
       ]
     ]
 
-pub positive_few : (n : ℕ) (controls : List ℕ) (target : ℕ) (idle : List ℕ) → 2 < length controls → idle ≡ take (length controls - 2) (idle_lines n (controls ++ target ∷ [])) → length idle ≢ length controls - 2
+pub positive_few : (n : ℕ) (controls : List ℕ) (target : ℕ) (idle : List ℕ) → 2 < length controls
+    → idle ≡ take (length controls - 2) (idle_lines n (controls ++ target ∷ [])) → length idle ≢ length controls - 2
     → split_positive n controls target ≡ over_few_lines n controls target (idle_lines n (controls ++ target ∷ []))
 positive_few n controls target idle h e short =
     let all = idle_lines n (controls ++ target ∷ []) in
@@ -143,20 +171,25 @@ few_none n controls target m [] h e = refl
 few_none n controls target zero (a ∷ ls) h e = absurd (omega arith)
 few_none n controls target (suc m) (a ∷ ls) h e = absurd (cc)
 
-few_some : (n : ℕ) (controls : List ℕ) (target m : ℕ) (all : List ℕ) (a : ℕ) (ls : List ℕ) → take m all ≡ a ∷ ls → over_few_lines n controls target all ≡ Some (in_halves n controls target a)
+few_some : (n : ℕ) (controls : List ℕ) (target m : ℕ) (all : List ℕ) (a : ℕ) (ls : List ℕ) → take m all ≡ a ∷ ls
+    → over_few_lines n controls target all ≡ Some (in_halves n controls target a)
 few_some n controls target zero all a ls e = absurd (cc)
 few_some n controls target (suc m) [] a ls e = absurd (cc)
 few_some n controls target (suc m) (b ∷ bs) a ls e = let same : b ≡ a = cc in ap (λ x. Some (in_halves n controls target x)) same
 
-pub positive_none : (n : ℕ) (controls : List ℕ) (target : ℕ) (idle : List ℕ) → 2 < length controls → idle ≡ take (length controls - 2) (idle_lines n (controls ++ target ∷ [])) → idle ≡ [] → split_positive n controls target ≡ None
+pub positive_none : (n : ℕ) (controls : List ℕ) (target : ℕ) (idle : List ℕ) → 2 < length controls
+    → idle ≡ take (length controls - 2) (idle_lines n (controls ++ target ∷ [])) → idle ≡ [] → split_positive n controls target ≡ None
 positive_none n controls target idle h e none =
     let zero_long : length idle ≡ 0 = ap length none in
-    positive_few n controls target idle h e (λ q. absurd (omega arith)) ∙ few_none n controls target (length controls - 2) (idle_lines n (controls ++ target ∷ [])) (omega arith) (sym e ∙ none)
+    positive_few n controls target idle h e (λ q. absurd (omega arith)) ∙ few_none n controls target (length controls - 2)
+    (idle_lines n (controls ++ target ∷ [])) (omega arith) (sym e ∙ none)
 
-pub positive_halves : (n : ℕ) (controls : List ℕ) (target : ℕ) (idle : List ℕ) (a : ℕ) (ls : List ℕ) → 2 < length controls → idle ≡ take (length controls - 2) (idle_lines n (controls ++ target ∷ [])) → length idle ≢ length controls - 2 → idle ≡ a ∷ ls
+pub positive_halves : (n : ℕ) (controls : List ℕ) (target : ℕ) (idle : List ℕ) (a : ℕ) (ls : List ℕ) → 2 < length controls
+    → idle ≡ take (length controls - 2) (idle_lines n (controls ++ target ∷ [])) → length idle ≢ length controls - 2 → idle ≡ a ∷ ls
     → split_positive n controls target ≡ Some (in_halves n controls target a)
 positive_halves n controls target idle a ls h e short some =
-    positive_few n controls target idle h e short ∙ few_some n controls target (length controls - 2) (idle_lines n (controls ++ target ∷ [])) a ls (sym e ∙ some)
+    positive_few n controls target idle h e short ∙ few_some n controls target (length controls - 2) (idle_lines n (controls ++ target ∷ [])) a ls
+    (sym e ∙ some)
 
 -- the first idle line of a gate is none of its lines
 pub first_idle_apart : (n : ℕ) (controls : List ℕ) (target : ℕ) (idle : List ℕ) (a : ℕ) (ls : List ℕ) → IsGateOn n (flip_of controls target)

@@ -30,7 +30,8 @@ SplitCosts =
 -- narrow gates stay, where they are within the limit
 abbrev pub NarrowStay : Type 0
 NarrowStay =
-    (n limit : ℕ) (gates : List GateView) → AreNarrow gates → length gates ≤ limit → split_list n limit gates ≡ Ok gates
+    (n limit : ℕ) (gates : List GateView) → AreNarrow gates → length gates ≤ limit
+    → split_list n limit gates ≡ Ok gates
 
 -- ---- flips that a split takes
 
@@ -38,7 +39,8 @@ NarrowStay =
 -- for each negative control
 abbrev pub most_gates : GateView → ℕ
 most_gates gate =
-    (if nat_le (length gate.controls) 2 then 1 else 8 * length gate.controls) + 2 * negative_controls gate.controls
+    (if nat_le (length gate.controls) 2 then 1 else 8 * length gate.controls)
+    + 2 * negative_controls gate.controls
 
 -- a line below n that the gate does not use
 pub record HasIdleLine (n : ℕ) (gate : GateView) : Type 0 where

@@ -51,19 +51,28 @@ number_at roles line = line - first_of roles (role_at roles line)
 -- the roles of a plan's lines
 abbrev pub roles_of : LaidView → Roles
 roles_of laid =
-    record { inputs = laid.inputs; outputs = laid.outputs; work = laid.work; borrowed = laid.borrowed }
+    record {
+      inputs = laid.inputs;
+      outputs = laid.outputs;
+      work = laid.work;
+      borrowed = laid.borrowed;
+    }
 
 -- ---- clean circuits
 
 -- the gates take this input, zeros on the output and work lines, and these bits on the borrowed lines to the input,
 -- these outputs, zeros on the work lines, and the same bits
-pub record PutsOutputs (roles : Roles) (gates : List GateView) (input outputs borrowed : List Bool) : Type 0 where
+pub record PutsOutputs (roles : Roles) (gates : List GateView)
+    (input outputs borrowed : List Bool) : Type 0 where
   pub mapped :
-      line_map gates (input ++ (replicate roles.outputs false ++ (replicate roles.work false ++ borrowed)))
+      line_map gates
+      (input ++ (replicate roles.outputs false ++ (replicate roles.work false ++ borrowed)))
       ≡ input ++ (outputs ++ (replicate roles.work false ++ borrowed))
 
 -- on every input, whatever the borrowed lines hold, the gates put its value on the output lines, and leave all other
 -- lines as they are
-pub record MapsCleanly (roles : Roles) (gates : List GateView) (value : List Bool → List Bool) : Type 0 where
-  pub puts : (input borrowed : List Bool) → length input ≡ roles.inputs → length borrowed ≡ roles.borrowed
+pub record MapsCleanly (roles : Roles) (gates : List GateView)
+    (value : List Bool → List Bool) : Type 0 where
+  pub puts : (input borrowed : List Bool) → length input ≡ roles.inputs
+      → length borrowed ≡ roles.borrowed
       → PutsOutputs roles gates input (value input) borrowed

@@ -35,19 +35,22 @@ in_falling_order n lines = falling_lines (λ line. has_line line lines) n
 abbrev pub ladder : ℕ → List ℕ → List ℕ → List GateView
 ladder target controls [] = flip_of (reverse controls) target ∷ []
 ladder target [] (idle ∷ idles) = []
-ladder target (control ∷ controls) (idle ∷ idles) = flip_of (control ∷ idle ∷ []) target ∷ ladder idle controls idles
+ladder target (control ∷ controls) (idle ∷ idles) =
+    flip_of (control ∷ idle ∷ []) target ∷ ladder idle controls idles
 
 abbrev pub there_and_back : List GateView → List GateView
 there_and_back gates = gates ++ drop 1 (reverse gates)
 
 abbrev pub over_idle_lines : List ℕ → ℕ → List ℕ → List GateView
 over_idle_lines controls target idle =
-    let rungs = ladder target (reverse controls) (reverse idle) in there_and_back rungs ++ there_and_back (drop 1 rungs)
+    let rungs = ladder target (reverse controls) (reverse idle) in
+    there_and_back rungs ++ there_and_back (drop 1 rungs)
 
 -- a flip of few controls stays, one of k more takes the first k - 2 idle lines
 abbrev pub with_enough_idle : List ℕ → ℕ → List ℕ → List GateView
 with_enough_idle controls target idle =
-    if nat_le (length controls) 2 then flip_of controls target ∷ [] else over_idle_lines controls target (take (length controls - 2) idle)
+    if nat_le (length controls) 2 then flip_of controls target ∷ []
+    else over_idle_lines controls target (take (length controls - 2) idle)
 
 -- ---- a flip of four or more controls over one idle line (Lemma 7.3)
 
@@ -58,16 +61,19 @@ first_half controls = length controls - length controls / 2
 -- the flip of the idle line by the first controls, among the other lines of the gate
 abbrev pub first_flips : ℕ → List ℕ → ℕ → ℕ → List GateView
 first_flips n controls target idle =
-    with_enough_idle (take (first_half controls) controls) idle (in_falling_order n (drop (first_half controls) controls ++ target ∷ []))
+    with_enough_idle (take (first_half controls) controls) idle
+    (in_falling_order n (drop (first_half controls) controls ++ target ∷ []))
 
 -- the flip of the target by the other controls and then the idle line, among the first controls
 abbrev pub second_flips : ℕ → List ℕ → ℕ → ℕ → List GateView
 second_flips n controls target idle =
-    with_enough_idle (drop (first_half controls) controls ++ idle ∷ []) target (in_falling_order n (take (first_half controls) controls))
+    with_enough_idle (drop (first_half controls) controls ++ idle ∷ []) target
+    (in_falling_order n (take (first_half controls) controls))
 
 abbrev pub in_halves : ℕ → List ℕ → ℕ → ℕ → List GateView
 in_halves n controls target idle =
-    let once = second_flips n controls target idle ++ first_flips n controls target idle in once ++ once
+    let once = second_flips n controls target idle ++ first_flips n controls target idle in
+    once ++ once
 
 -- ---- the gates in place of one
 
@@ -80,7 +86,8 @@ abbrev pub split_positive : ℕ → List ℕ → ℕ → Option (List GateView)
 split_positive n controls target =
     let idle = idle_lines n (controls ++ target ∷ []) in
     if nat_le (length controls) 2 then Some (flip_of controls target ∷ [])
-    else (if nat_le (length controls - 2) (length idle) then Some (over_idle_lines controls target (take (length controls - 2) idle))
+    else (if nat_le (length controls - 2) (length idle)
+    then Some (over_idle_lines controls target (take (length controls - 2) idle))
     else over_few_lines n controls target idle)
 
 abbrev pub between : List GateView → Option (List GateView) → Option (List GateView)
@@ -95,29 +102,40 @@ behind done (Some gates) = Some (done ++ gates)
 -- a flip of each line of a negative control, in order
 abbrev pub flips_of_negatives : List Control → List GateView
 flips_of_negatives [] = []
-flips_of_negatives (control ∷ controls) = if control.positive then flips_of_negatives controls else flip_of [] control.line ∷ flips_of_negatives controls
+flips_of_negatives (control ∷ controls) =
+    if control.positive then flips_of_negatives controls
+    else flip_of [] control.line ∷ flips_of_negatives controls
 
 -- a flip under any controls
 abbrev pub split_flip : ℕ → List Control → ℕ → Option (List GateView)
-split_flip n controls target = between (flips_of_negatives controls) (split_positive n (map (λ (control : Control). control.line) controls) target)
+split_flip n controls target =
+    between (flips_of_negatives controls)
+    (split_positive n (map (λ (control : Control). control.line) controls) target)
 
 abbrev pub split_op : ℕ → List Control → Op → Option (List GateView)
 split_op n controls (Flip target) = split_flip n controls target
-split_op n controls (Swap first second) = between (flip_of (second ∷ []) first ∷ []) (split_flip n (controls ++ positive first ∷ []) second)
+split_op n controls (Swap first second) =
+    between (flip_of (second ∷ []) first ∷ [])
+    (split_flip n (controls ++ positive first ∷ []) second)
 
 abbrev pub split_gate : ℕ → GateView → Option (List GateView)
 split_gate n gate = split_op n gate.controls gate.op
 
 -- ---- the walk over the gates
 
-abbrev pub with_piece : Option (List GateView) → ℕ → ℕ → List GateView → (List GateView → Result (List GateView) SplitFault) → Result (List GateView) SplitFault
+abbrev pub with_piece : Option (List GateView) → ℕ → ℕ → List GateView
+    → (List GateView → Result (List GateView) SplitFault) → Result (List GateView) SplitFault
 with_piece None limit place done next = Err (NoIdle place)
-with_piece (Some piece) limit place done next = if nat_le (length (done ++ piece)) limit then next (done ++ piece) else Err Gates
+with_piece (Some piece) limit place done next =
+    if nat_le (length (done ++ piece)) limit then next (done ++ piece) else Err Gates
 
 -- the gates from the given place on, behind those that are done
-abbrev pub split_from : ℕ → ℕ → ℕ → List GateView → List GateView → Result (List GateView) SplitFault
+abbrev pub split_from : ℕ → ℕ → ℕ → List GateView → List GateView
+    → Result (List GateView) SplitFault
 split_from n limit place done [] = Ok done
-split_from n limit place done (gate ∷ gates) = with_piece (split_gate n gate) limit place done (λ now. split_from n limit (place + 1) now gates)
+split_from n limit place done (gate ∷ gates) =
+    with_piece (split_gate n gate) limit place done
+    (λ now. split_from n limit (place + 1) now gates)
 
 -- the split list on n lines: the gates, or the first gate that has no idle line, or that the gates pass the limit, whichever the walk meets first
 abbrev pub split_list : ℕ → ℕ → List GateView → Result (List GateView) SplitFault

@@ -18,7 +18,8 @@ pub fn push_piece(
     marks: &mut LineMarks,
 ) -> Result<(), Refusal>
     requires { IsGateOn marks.old gate.now }
-    ensures split { OnOk result (behind gates.old.items (split_gate marks.old gate.now) ≡ Some gates.new.items) }
+    ensures split { OnOk result (behind gates.old.items (split_gate marks.old gate.now)
+        ≡ Some gates.new.items) }
     ensures same { marks.new ≡ marks.old }
     ensures refused { IsErrOf result Refusal.NoIdle → split_gate marks.old gate.now ≡ None }
     ensures cause { IsErrOf result Refusal.Full → ⊥ }
@@ -48,9 +49,12 @@ fn push_flip(
     marks: &mut LineMarks,
 ) -> Result<(), Refusal>
     requires { IsGateOn marks.old (flip_of lines.now target) }
-    ensures split { OnOk result (behind gates.old.items (between (flips_of_negatives controls.now) (split_positive marks.old lines.now target)) ≡ Some gates.new.items) }
+    ensures split { OnOk result (behind gates.old.items
+        (between (flips_of_negatives controls.now) (split_positive marks.old lines.now target))
+        ≡ Some gates.new.items) }
     ensures same { marks.new ≡ marks.old }
-    ensures refused { IsErrOf result Refusal.NoIdle → split_positive marks.old lines.now target ≡ None }
+    ensures refused { IsErrOf result Refusal.NoIdle
+        → split_positive marks.old lines.now target ≡ None }
     ensures cause { IsErrOf result Refusal.Full → ⊥ }
 {
     push_negatives(alloc, gates, controls)?;

@@ -36,7 +36,8 @@ impl Model for Budget {
 
     ghost view = { λ b. record { lines = b.lines; gates = b.gates; borrow = b.borrow } };
 
-    ghost invariant = { λ b. (b.lines ≤ MOST_LINES) × (b.gates ≤ MOST_GATES) × (b.borrow ≤ MOST_BORROWED) };
+    ghost invariant = { λ b. (b.lines ≤ MOST_LINES) × (b.gates ≤ MOST_GATES)
+        × (b.borrow ≤ MOST_BORROWED) };
 }
 
 impl Budget {
@@ -95,7 +96,12 @@ impl Model for Planned {
 
     ghost Value = { PlannedView };
 
-    ghost view = { λ p. record { circuit = p.circuit; inputs = p.inputs; outputs = p.outputs; work = p.work } };
+    ghost view = { λ p. record {
+      circuit = p.circuit;
+      inputs = p.inputs;
+      outputs = p.outputs;
+      work = p.work;
+    } };
 
     ghost invariant = { λ p. p.inputs + p.outputs + p.work ≡ p.circuit.lines };
 }
@@ -104,7 +110,12 @@ impl Planned {
     /// The plan of these parts.
     pub fn new(circuit: Circuit, inputs: u32, outputs: u32, work: u32) -> Planned
         requires { inputs + outputs + work ≡ circuit.lines }
-        ensures { result ≡ record { circuit = circuit; inputs = inputs; outputs = outputs; work = work } }
+        ensures { result ≡ record {
+          circuit = circuit;
+          inputs = inputs;
+          outputs = outputs;
+          work = work;
+        } }
     {
         Planned {
             circuit,
@@ -117,7 +128,8 @@ impl Planned {
     /// The circuit.
     pub fn circuit(&self) -> &Circuit
         ensures circuit { result.now ≡ self.now.circuit }
-        ensures lines { self.now.inputs + self.now.outputs + self.now.work ≡ self.now.circuit.lines }
+        ensures lines { self.now.inputs + self.now.outputs + self.now.work
+            ≡ self.now.circuit.lines }
     {
         &self.circuit
     }
@@ -161,7 +173,13 @@ impl Model for Laid {
 
     ghost Value = { LaidView };
 
-    ghost view = { λ l. record { circuit = l.circuit; inputs = l.inputs; outputs = l.outputs; work = l.work; borrowed = l.borrowed } };
+    ghost view = { λ l. record {
+      circuit = l.circuit;
+      inputs = l.inputs;
+      outputs = l.outputs;
+      work = l.work;
+      borrowed = l.borrowed;
+    } };
 
     ghost invariant = { λ l. l.inputs + l.outputs + l.work + l.borrowed ≡ l.circuit.lines };
 }
@@ -170,7 +188,13 @@ impl Laid {
     /// The plan of these parts.
     pub fn new(circuit: Narrow, inputs: u32, outputs: u32, work: u32, borrowed: u32) -> Laid
         requires { inputs + outputs + work + borrowed ≡ circuit.lines }
-        ensures { result ≡ record { circuit = circuit; inputs = inputs; outputs = outputs; work = work; borrowed = borrowed } }
+        ensures { result ≡ record {
+          circuit = circuit;
+          inputs = inputs;
+          outputs = outputs;
+          work = work;
+          borrowed = borrowed;
+        } }
     {
         Laid {
             circuit,
@@ -185,7 +209,8 @@ impl Laid {
     pub fn circuit(&self) -> &Circuit
         ensures circuit { result.now ≡ self.now.circuit }
         ensures narrow { AreNarrow self.now.circuit.gates }
-        ensures lines { self.now.inputs + self.now.outputs + self.now.work + self.now.borrowed ≡ self.now.circuit.lines }
+        ensures lines { self.now.inputs + self.now.outputs + self.now.work + self.now.borrowed
+            ≡ self.now.circuit.lines }
     {
         self.circuit.circuit()
     }

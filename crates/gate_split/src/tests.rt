@@ -82,7 +82,8 @@ fn expect_line_map(
     target: u32,
 ) -> Result<(), Fail>
     requires different { AreDifferent (controls.now ++ target ∷ []) }
-    requires below { AllByRecursion (λ line. line < length controls.now + 1) (controls.now ++ target ∷ []) }
+    requires below { AllByRecursion (λ line. line < length controls.now + 1)
+        (controls.now ++ target ∷ []) }
     requires few { length controls.now ≤ 12 }
     requires low { target < 13 }
 {
@@ -140,7 +141,9 @@ fn with_one_borrowed(alloc: Global, planned: &Planned) -> Result<Laid, SplitFaul
     requires { planned.now.circuit.lines < 16384 }
     ensures lines { IfOk result (λ laid. laid.circuit.lines ≡ planned.now.circuit.lines + 1) }
     ensures gates { IfOk result (λ laid. length laid.circuit.gates ≤ 4000000) }
-    ensures map { IfOk result (λ laid. (bits : List Bool) → length bits ≡ planned.now.circuit.lines + 1 → line_map laid.circuit.gates bits ≡ line_map planned.now.circuit.gates bits) }
+    ensures map { IfOk result (λ laid. (bits : List Bool)
+        → length bits ≡ planned.now.circuit.lines + 1
+        → line_map laid.circuit.gates bits ≡ line_map planned.now.circuit.gates bits) }
 {
     let circuit = planned.circuit();
     let narrow = split(alloc, circuit, circuit.lines() + 1, 4_000_000)?;

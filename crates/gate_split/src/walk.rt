@@ -47,12 +47,17 @@ impl Narrow {
 /// line and wants an idle one, `Gates` says that there are more than `limit` gates, whichever comes first.
 pub fn split(alloc: Global, circuit: &Circuit, lines: u32, limit: u64) -> Result<Narrow, SplitFault>
     requires { circuit.now.lines ≤ lines }
-    ensures gates { IfOk result (λ narrow. split_list lines limit circuit.now.gates ≡ Ok narrow.gates) }
-    ensures size { IfOk result (λ narrow. narrow ≡ record { lines = lines; limit = limit; gates = narrow.gates }) }
+    ensures gates { IfOk result (λ narrow. split_list lines limit circuit.now.gates
+        ≡ Ok narrow.gates) }
+    ensures size { IfOk result (λ narrow. narrow
+        ≡ record { lines = lines; limit = limit; gates = narrow.gates }) }
     ensures within { IfOk result (λ narrow. length narrow.gates ≤ limit) }
-    ensures map { IfOk result (λ narrow. (bits : List Bool) → length bits ≡ lines → line_map narrow.gates bits ≡ line_map circuit.now.gates bits) }
-    ensures no_idle { (gate : ℕ) → IsErrOf result (SplitFault.NoIdle gate) → split_list lines limit circuit.now.gates ≡ Err (NoIdle gate) }
-    ensures over { IsErrOf result SplitFault.Gates → split_list lines limit circuit.now.gates ≡ Err Gates }
+    ensures map { IfOk result (λ narrow. (bits : List Bool) → length bits ≡ lines
+        → line_map narrow.gates bits ≡ line_map circuit.now.gates bits) }
+    ensures no_idle { (gate : ℕ) → IsErrOf result (SplitFault.NoIdle gate)
+        → split_list lines limit circuit.now.gates ≡ Err (NoIdle gate) }
+    ensures over { IsErrOf result SplitFault.Gates
+        → split_list lines limit circuit.now.gates ≡ Err Gates }
 {
     let mut narrow = Circuit::new(alloc, lines, limit);
     let mut marks = LineMarks::new(alloc, lines)?;
@@ -78,13 +83,15 @@ fn append_split(
     requires lines { marks.old ≡ narrow.old.lines }
     requires gate { IsGateOn marks.old gate.now }
     requires empty { piece.old.items ≡ [] }
-    ensures split { OnOk result (behind narrow.old.gates (split_gate marks.old gate.now) ≡ Some narrow.new.gates) }
+    ensures split { OnOk result (behind narrow.old.gates (split_gate marks.old gate.now)
+        ≡ Some narrow.new.gates) }
     ensures rest { OnOk result (narrow.new ≡ record narrow.old { gates = narrow.new.gates }) }
     ensures within { OnOk result (length narrow.new.gates ≤ narrow.old.limit) }
     ensures emptied { OnOk result (piece.new.items ≡ []) }
     ensures same { marks.new ≡ marks.old }
     ensures no_idle { IsErrOf result Refusal.NoIdle → split_gate marks.old gate.now ≡ None }
-    ensures full { IsErrOf result Refusal.Full → IsOver narrow.old.limit narrow.old.gates (split_gate marks.old gate.now) }
+    ensures full { IsErrOf result Refusal.Full
+        → IsOver narrow.old.limit narrow.old.gates (split_gate marks.old gate.now) }
 {
     if is_narrow(gate) {
         // This call says that the gates are within their limit.

@@ -22,9 +22,11 @@ pub fn push_positive(
     marks: &mut LineMarks,
 ) -> Result<(), Refusal>
     requires { IsGateOn marks.old (flip_of controls.now target) }
-    ensures split { OnOk result (behind gates.old.items (split_positive marks.old controls.now target) ≡ Some gates.new.items) }
+    ensures split { OnOk result (behind gates.old.items
+        (split_positive marks.old controls.now target) ≡ Some gates.new.items) }
     ensures same { marks.new ≡ marks.old }
-    ensures refused { IsErrOf result Refusal.NoIdle → split_positive marks.old controls.now target ≡ None }
+    ensures refused { IsErrOf result Refusal.NoIdle
+        → split_positive marks.old controls.now target ≡ None }
     ensures cause { IsErrOf result Refusal.Full → ⊥ }
 {
     if controls.len() <= 2 {
@@ -66,7 +68,8 @@ fn push_halves(
     requires four { 4 ≤ length controls.now }
     requires below { idle < marks.old }
     requires apart { Avoids idle (controls.now ++ target ∷ []) }
-    ensures made { OnOk result (gates.new.items ≡ gates.old.items ++ in_halves marks.old controls.now target idle) }
+    ensures made { OnOk result (gates.new.items ≡ gates.old.items
+        ++ in_halves marks.old controls.now target idle) }
     ensures same { marks.new ≡ marks.old }
 {
     let (first, second) = controls.split_at(controls.len() - controls.len() / 2);
@@ -91,7 +94,8 @@ fn push_enough(
 ) -> Result<(), Memory>
     requires serves { (n : ℕ) × Serves n controls.now target idle.now }
     requires enough { length controls.now ≤ length idle.now + 2 }
-    ensures { OnOk result (gates.new.items ≡ gates.old.items ++ with_enough_idle controls.now target idle.now) }
+    ensures { OnOk result (gates.new.items ≡ gates.old.items
+        ++ with_enough_idle controls.now target idle.now) }
 {
     if controls.len() <= 2 {
         gates.push(Gate::flip(alloc, controls, target)?)?;
@@ -109,8 +113,10 @@ fn push_over_idle(
     idle: &[u32],
 ) -> Result<(), Memory>
     requires long { length controls.now ≡ length idle.now + 2 }
-    requires different { AllByRecursion HasDifferentLines (ladder target (reverse controls.now) (reverse idle.now)) }
-    ensures { OnOk result (gates.new.items ≡ gates.old.items ++ over_idle_lines controls.now target idle.now) }
+    requires different { AllByRecursion HasDifferentLines
+        (ladder target (reverse controls.now) (reverse idle.now)) }
+    ensures { OnOk result (gates.new.items ≡ gates.old.items
+        ++ over_idle_lines controls.now target idle.now) }
 {
     let rungs = rungs(alloc, controls, target, idle)?;
     let (_, lower) = rungs.split_at(1);
@@ -121,8 +127,10 @@ fn push_over_idle(
 // The flips from the target down to the first idle line.
 fn rungs(alloc: Global, controls: &[u32], target: u32, idle: &[u32]) -> Result<Vec<Gate>, Memory>
     requires long { length controls.now ≡ length idle.now + 2 }
-    requires different { AllByRecursion HasDifferentLines (ladder target (reverse controls.now) (reverse idle.now)) }
-    ensures { IfOk result (λ rungs. rungs.items ≡ ladder target (reverse controls.now) (reverse idle.now)) }
+    requires different { AllByRecursion HasDifferentLines
+        (ladder target (reverse controls.now) (reverse idle.now)) }
+    ensures { IfOk result (λ rungs. rungs.items
+        ≡ ladder target (reverse controls.now) (reverse idle.now)) }
 {
     let mut rungs = Vec::with_capacity(alloc, idle.len())?;
     let mut top = target;

@@ -24,11 +24,14 @@ chosen false true v old = refl
 chosen false false v old = refl
 
 -- one line more is set
-pub set_more : (numbers : List ℕ) (k v line : ℕ) (lines : List ℕ) (old : ℕ) → k < length numbers → get_or numbers line 0 ≡ cond (has_line line lines) v old → get_or (set numbers k v) line 0 ≡ cond (has_line line (lines ++ k ∷ [])) v old
+pub set_more : (numbers : List ℕ) (k v line : ℕ) (lines : List ℕ) (old : ℕ) → k < length numbers → get_or numbers line 0 ≡ cond (has_line line lines) v old
+    → get_or (set numbers k v) line 0 ≡ cond (has_line line (lines ++ k ∷ [])) v old
 set_more numbers k v line lines old h e =
     rw (set_is numbers k v line h, e, list_any-append (λ other. eqb line other) lines (k ∷ [])) (chosen (has_line line lines) (eqb line k) v old)
 
-pub lines_more : (controls : List Control) (i : ℕ) (d : Control) → i < length controls → map (λ (control : Control). control.line) (take (i + 1) controls) ≡ map (λ (control : Control). control.line) (take i controls) ++ (get_or controls i d).line ∷ []
+pub lines_more : (controls : List Control) (i : ℕ) (d : Control) → i < length controls
+    → map (λ (control : Control). control.line) (take (i + 1) controls) ≡ map (λ (control : Control). control.line) (take i controls)
+    ++ (get_or controls i d).line ∷ []
 lines_more controls i d h = rw (take_more controls i d h) (map-append (λ (control : Control). control.line) (take i controls) (get_or controls i d ∷ []))
 
 -- ---- depths
@@ -43,11 +46,14 @@ both true false d x y z e = omega arith
 both false true d x y z e = omega arith
 both false false d x y z e = omega arith
 
-pub depth_on-cons : (line : ℕ) (lines : List ℕ) (gates : List GateView) → depth_on (line ∷ lines) gates ≡ max (depth_on (line ∷ []) gates) (depth_on lines gates)
+pub depth_on-cons : (line : ℕ) (lines : List ℕ) (gates : List GateView) → depth_on (line ∷ lines) gates
+    ≡ max (depth_on (line ∷ []) gates) (depth_on lines gates)
 depth_on-cons line lines [] = refl
-depth_on-cons line lines (g ∷ gs) = both (has_line line (lines_of g)) (share_a_line lines (lines_of g)) (1 + depth_on (lines_of g) gs) (depth_on (line ∷ []) gs) (depth_on lines gs) (depth_on (line ∷ lines) gs) (depth_on-cons line lines gs)
+depth_on-cons line lines (g ∷ gs) = both (has_line line (lines_of g)) (share_a_line lines (lines_of g)) (1 + depth_on (lines_of g) gs) (depth_on (line ∷ []) gs)
+    (depth_on lines gs) (depth_on (line ∷ lines) gs) (depth_on-cons line lines gs)
 
-pub greatest_at-depths : (numbers : List ℕ) (gates : List GateView) (lines : List ℕ) → ((line : ℕ) → get_or numbers line 0 ≡ depth_on (line ∷ []) gates) → greatest_at numbers lines ≡ depth_on lines gates
+pub greatest_at-depths : (numbers : List ℕ) (gates : List GateView) (lines : List ℕ) → ((line : ℕ) → get_or numbers line 0 ≡ depth_on (line ∷ []) gates)
+    → greatest_at numbers lines ≡ depth_on lines gates
 greatest_at-depths numbers gates [] h = sym (depth_on-none gates)
 greatest_at-depths numbers gates (x ∷ xs) h = let e = greatest_at-depths numbers gates xs h in let f = depth_on-cons x xs gates in let k = h x in omega arith
 
@@ -70,18 +76,24 @@ pub depth_on-member : (line : ℕ) (lines : List ℕ) (gates : List GateView) �
 depth_on-member line [] gates e = absurd (cc)
 depth_on-member line (x ∷ xs) gates e =
     let f = depth_on-cons x xs gates in
-    elim (eqb_tells line x) [ inl s ↦ rw s.1 (omega arith) | inr s ↦ (let g = depth_on-member line xs gates (or_cases (eqb line x) (has_line line xs) e s.0) in omega arith) ]
+    elim (eqb_tells line x) [
+      | inl s ↦ rw s.1 (omega arith)
+      | inr s ↦ (let g = depth_on-member line xs gates (or_cases (eqb line x) (has_line line xs) e s.0) in
+          omega arith)
+    ]
 
 step_on : (b : Bool) (d x : ℕ) → (b ≡ true → x ≤ d) → cond b (1 + d) x ≡ max (cond (b || false) (1 + d) 0) x
 step_on true d x h = let k = h refl in omega arith
 step_on false d x h = omega arith
 
 -- one gate more
-pub depths_more : (numbers : List ℕ) (gate : GateView) (gates : List GateView) (depth line : ℕ) → ((l : ℕ) → get_or numbers l 0 ≡ depth_on (l ∷ []) gates) → depth ≡ 1 + greatest_at numbers (lines_of gate)
+pub depths_more : (numbers : List ℕ) (gate : GateView) (gates : List GateView) (depth line : ℕ) → ((l : ℕ) → get_or numbers l 0 ≡ depth_on (l ∷ []) gates)
+    → depth ≡ 1 + greatest_at numbers (lines_of gate)
     → cond (has_line line (lines_of gate)) depth (get_or numbers line 0) ≡ depth_on (line ∷ []) (gate ∷ gates)
 depths_more numbers gate gates depth line h e =
     rw (e, greatest_at-depths numbers gates (lines_of gate) h, h line)
     (step_on (has_line line (lines_of gate)) (depth_on (lines_of gate) gates) (depth_on (line ∷ []) gates) (λ t. depth_on-member line (lines_of gate) gates t))
 
-pub latest_first : (gates : List GateView) (i : ℕ) (gate : GateView) → i < length gates → gate ≡ get_or gates i gate → reverse (take (i + 1) gates) ≡ gate ∷ reverse (take i gates)
+pub latest_first : (gates : List GateView) (i : ℕ) (gate : GateView) → i < length gates → gate ≡ get_or gates i gate
+    → reverse (take (i + 1) gates) ≡ gate ∷ reverse (take i gates)
 latest_first gates i gate h e = rw (take_more gates i gate h, ← e) (reverse-append (take i gates) (gate ∷ []))

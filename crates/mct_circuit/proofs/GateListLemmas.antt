@@ -7,14 +7,19 @@ use Rattle.mct_circuit.specs.Gates.{GateView, after_gate, line_map, lines_of, Is
 use Rattle.list_facts.proofs.AllLemmas.{AllByRecursion-at, AllByRecursion-from_map, AllByRecursion-left}
 
 -- the lines of each gate of a circuit are below the number of its lines
-pub lines_below : (n : ℕ) (gates : List GateView) (i : ℕ) (gate : GateView) → AreGatesOn n gates → i < length gates → gate ≡ get_or gates i gate → AllByRecursion (λ line. line < n) (lines_of gate)
+pub lines_below : (n : ℕ) (gates : List GateView) (i : ℕ) (gate : GateView) → AreGatesOn n gates → i < length gates → gate ≡ get_or gates i gate
+    → AllByRecursion (λ line. line < n) (lines_of gate)
 lines_below n gates i gate g h e = (rw (← e) at (AllByRecursion-at (IsGateOn n) gates i gate g h)).in_range
 
 -- the lines of the controls of a gate are below
-pub controls_below : (n : ℕ) (controls : List Control) (targets : List ℕ) → AllByRecursion (λ line. line < n) (map (λ (control : Control). control.line) controls ++ targets) → AllByRecursion (λ (control : Control). control.line < n) controls
-controls_below n controls targets p = AllByRecursion-from_map (λ line. line < n) (λ (control : Control). control.line) controls (AllByRecursion-left (λ line. line < n) (map (λ (control : Control). control.line) controls) targets p)
+pub controls_below : (n : ℕ) (controls : List Control) (targets : List ℕ)
+    → AllByRecursion (λ line. line < n) (map (λ (control : Control). control.line) controls ++ targets)
+    → AllByRecursion (λ (control : Control). control.line < n) controls
+controls_below n controls targets p = AllByRecursion-from_map (λ line. line < n) (λ (control : Control). control.line) controls
+    (AllByRecursion-left (λ line. line < n) (map (λ (control : Control). control.line) controls) targets p)
 
-pub line_map_more : (gates : List GateView) (i : ℕ) (gate : GateView) (bits whole : List Bool) → i < length gates → gate ≡ get_or gates i gate → line_map (drop i gates) bits ≡ whole → line_map (drop (i + 1) gates) (after_gate gate bits) ≡ whole
+pub line_map_more : (gates : List GateView) (i : ℕ) (gate : GateView) (bits whole : List Bool) → i < length gates → gate ≡ get_or gates i gate
+    → line_map (drop i gates) bits ≡ whole → line_map (drop (i + 1) gates) (after_gate gate bits) ≡ whole
 line_map_more gates i gate bits whole h e p =
     let at : drop i gates ≡ gate ∷ drop (i + 1) gates = drop_more gates i gate h ∙ ap (λ g. g ∷ drop (i + 1) gates) (sym e) in
     ap (λ gs. line_map gs bits) (sym at) ∙ p

@@ -42,7 +42,8 @@ after_gate-append gate bits more on =
     let lines = map (λ (control : Control). control.line) gate.controls in
     let met = list_all (is_met bits) gate.controls in
     let targets = AllByRecursion-right (λ line. line < length bits) lines (targets_of gate.op) on.in_range in
-    ap (λ b. cond b (after_op gate.op (bits ++ more)) (bits ++ more)) (are_met-append bits more gate.controls (controls_below (length bits) gate.controls (targets_of gate.op) on.in_range))
+    ap (λ b. cond b (after_op gate.op (bits ++ more)) (bits ++ more)) (are_met-append bits more gate.controls
+    (controls_below (length bits) gate.controls (targets_of gate.op) on.in_range))
     ∙ ap (λ (changed : List Bool). cond met changed (bits ++ more)) (after_op-append gate.op bits more targets)
     ∙ cond-append met bits (after_op gate.op bits) more
 

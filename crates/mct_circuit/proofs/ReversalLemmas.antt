@@ -20,13 +20,16 @@ swap_is (d ∷ ys) a b p q = rw (get_or_default (d ∷ ys) a d false p, get_or_d
 
 pub length-after_op : (op : Op) (bits : List Bool) → AllByRecursion (λ line. line < length bits) (targets_of op) → length (after_op op bits) ≡ length bits
 length-after_op (Flip t) bits r = length-set bits t (not (bit_of bits t))
-length-after_op (Swap a b) bits r = rw (swap_is bits a b r.0 r.1.0) (length-set (set bits a (bit_of bits b)) b (bit_of bits a) ∙ length-set bits a (bit_of bits b))
+length-after_op (Swap a b) bits r = rw (swap_is bits a b r.0 r.1.0) (length-set (set bits a (bit_of bits b)) b (bit_of bits a)
+    ∙ length-set bits a (bit_of bits b))
 
 -- an operation leaves the bits of all other lines
-pub bit_of-after_op : (op : Op) (bits : List Bool) (line : ℕ) → AllByRecursion (λ l. l < length bits) (targets_of op) → AllByRecursion (λ t. line ≢ t) (targets_of op) → bit_of (after_op op bits) line ≡ bit_of bits line
+pub bit_of-after_op : (op : Op) (bits : List Bool) (line : ℕ) → AllByRecursion (λ l. l < length bits) (targets_of op)
+    → AllByRecursion (λ t. line ≢ t) (targets_of op) → bit_of (after_op op bits) line ≡ bit_of bits line
 bit_of-after_op (Flip t) bits line r d = get_or-set_other bits t line (not (bit_of bits t)) false d.0
 bit_of-after_op (Swap a b) bits line r d =
-    rw (swap_is bits a b r.0 r.1.0) (get_or-set_other (set bits a (bit_of bits b)) b line (bit_of bits a) false d.1.0 ∙ get_or-set_other bits a line (bit_of bits b) false d.0)
+    rw (swap_is bits a b r.0 r.1.0) (get_or-set_other (set bits a (bit_of bits b)) b line (bit_of bits a) false d.1.0
+    ∙ get_or-set_other bits a line (bit_of bits b) false d.0)
 
 swap-swap : (bits : List Bool) (a b : ℕ) → a < length bits → b < length bits → a ≢ b → swap (swap bits a b) a b ≡ bits
 swap-swap bits a b p q ne =
@@ -39,11 +42,21 @@ swap-swap bits a b p q ne =
     let long_a : length (set bits a B) ≡ length bits = length-set bits a B in
     let at_b : bit_of once b ≡ A = get_or-set_same (set bits a B) b A false (omega arith) in
     let at_a : bit_of once a ≡ B = get_or-set_other (set bits a B) b a A false ne ∙ get_or-set_same bits a B false p in
-    rw (swap_is bits a b p q, swap_is once a b in_a in_b, at_b, at_a, set_comm (set bits a B) b a A A (λ e. ne (sym e)), set-set bits a B A, set-set (set bits a A) b A B, set-get_or bits a false)
+    rw (
+      swap_is bits a b p q,
+      swap_is once a b in_a in_b,
+      at_b,
+      at_a,
+      set_comm (set bits a B) b a A A (λ e. ne (sym e)),
+      set-set bits a B A,
+      set-set (set bits a A) b A B,
+      set-get_or bits a false,
+    )
     (set-get_or bits b false)
 
 -- an operation undoes itself
-pub after_op-after_op : (op : Op) (bits : List Bool) → AllByRecursion (λ l. l < length bits) (targets_of op) → AreDifferent (targets_of op) → after_op op (after_op op bits) ≡ bits
+pub after_op-after_op : (op : Op) (bits : List Bool) → AllByRecursion (λ l. l < length bits) (targets_of op) → AreDifferent (targets_of op)
+    → after_op op (after_op op bits) ≡ bits
 after_op-after_op (Flip t) bits r d =
     let same : bit_of (set bits t (not (bit_of bits t))) t ≡ not (bit_of bits t) = get_or-set_same bits t (not (bit_of bits t)) false r.0 in
     rw same (set-set bits t (not (bit_of bits t)) (not (not (bit_of bits t))) ∙ rw not-not (set-get_or bits t false))
@@ -66,10 +79,13 @@ length-if false bits changed e = refl
 
 pub length-after_gate : (gate : GateView) (bits : List Bool) → IsGateOn (length bits) gate → length (after_gate gate bits) ≡ length bits
 length-after_gate gate bits g =
-    length-if (list_all (is_met bits) gate.controls) bits (after_op gate.op bits) (length-after_op gate.op bits (AllByRecursion-right (λ line. line < length bits) (map (λ (control : Control). control.line) gate.controls) (targets_of gate.op) g.in_range))
+    length-if (list_all (is_met bits) gate.controls) bits (after_op gate.op bits)
+    (length-after_op gate.op bits (AllByRecursion-right (λ line. line < length bits) (map (λ (control : Control). control.line) gate.controls)
+    (targets_of gate.op) g.in_range))
 
 -- a change made where a test passes undoes itself, if it passes the test again and undoes itself where made
-if-twice : (b : Bool) (test : List Bool → Bool) (change : List Bool → List Bool) (bits : List Bool) → test bits ≡ b → test (change bits) ≡ test bits → change (change bits) ≡ bits
+if-twice : (b : Bool) (test : List Bool → Bool) (change : List Bool → List Bool) (bits : List Bool) → test bits ≡ b → test (change bits) ≡ test bits
+    → change (change bits) ≡ bits
     → cond (test (cond b (change bits) bits)) (change (cond b (change bits) bits)) (cond b (change bits) bits) ≡ bits
 if-twice true test change bits e same back = rw (same, e) back
 if-twice false test change bits e same back = rw e refl
@@ -79,7 +95,8 @@ after_gate-after_gate gate bits g =
     let controlling = map (λ (control : Control). control.line) gate.controls in
     let apart = AreDifferent-parts controlling (targets_of gate.op) g.different in
     let low = AllByRecursion-right (λ line. line < length bits) controlling (targets_of gate.op) g.in_range in
-    if-twice (list_all (is_met bits) gate.controls) (λ b. list_all (is_met b) gate.controls) (after_op gate.op) bits refl (are_met-after_op gate.op bits gate.controls low apart.0)
+    if-twice (list_all (is_met bits) gate.controls) (λ b. list_all (is_met b) gate.controls) (after_op gate.op) bits refl
+    (are_met-after_op gate.op bits gate.controls low apart.0)
     (after_op-after_op gate.op bits low apart.1)
 
 -- ---- lists of gates
@@ -98,7 +115,8 @@ pub reversed_behind : (gates : List GateView) (bits : List Bool) → AreGatesOn 
 reversed_behind [] bits g = refl
 reversed_behind (x ∷ xs) bits g =
     let same = length-after_gate x bits g.0 in
-    let rest : line_map (reverse xs) (line_map xs (after_gate x bits)) ≡ after_gate x bits = reversed_behind xs (after_gate x bits) (subst (λ n. AreGatesOn n xs) (sym same) g.1) in
+    let rest : line_map (reverse xs) (line_map xs (after_gate x bits)) ≡ after_gate x bits =
+    reversed_behind xs (after_gate x bits) (subst (λ n. AreGatesOn n xs) (sym same) g.1) in
     rw (reverse-append (x ∷ []) xs, line_map-append (reverse xs) (x ∷ []), rest) (after_gate-after_gate x bits g.0)
 
 pub reversed_undoes : ReversedUndoes
@@ -126,13 +144,16 @@ lines_of-flip_of (c ∷ cs) target = ap (λ ls. c ∷ ls) (lines_of-flip_of cs t
 
 -- ---- what a circuit keeps as it grows
 
-pub AreGatesOn-push : (n : ℕ) (gates : List GateView) (gate : GateView) → AreGatesOn n gates → HasDifferentLines gate → AllByRecursion (λ line. line < n) (lines_of gate) → AreGatesOn n (gates ++ gate ∷ [])
+pub AreGatesOn-push : (n : ℕ) (gates : List GateView) (gate : GateView) → AreGatesOn n gates → HasDifferentLines gate
+    → AllByRecursion (λ line. line < n) (lines_of gate) → AreGatesOn n (gates ++ gate ∷ [])
 AreGatesOn-push n gates gate g d r = AllByRecursion-append (IsGateOn n) gates (gate ∷ []) g (record { different = d; in_range = r }, tt)
 
 pub AreGatesOn-mirror : (n count : ℕ) (gates : List GateView) → AreGatesOn n gates → AreGatesOn n (gates ++ reverse (take count gates))
 AreGatesOn-mirror n count gates g =
-    AllByRecursion-append (IsGateOn n) gates (reverse (take count gates)) g (AllByRecursion-reverse (IsGateOn n) (take count gates) (AllByRecursion-take (IsGateOn n) count gates g))
+    AllByRecursion-append (IsGateOn n) gates (reverse (take count gates)) g
+    (AllByRecursion-reverse (IsGateOn n) (take count gates) (AllByRecursion-take (IsGateOn n) count gates g))
 
-pub AreNarrow-push : (gates : List GateView) (controls : List ℕ) (target : ℕ) → length controls ≤ 2 → AreNarrow gates → AreNarrow (gates ++ flip_of controls target ∷ [])
+pub AreNarrow-push : (gates : List GateView) (controls : List ℕ) (target : ℕ) → length controls ≤ 2 → AreNarrow gates
+    → AreNarrow (gates ++ flip_of controls target ∷ [])
 AreNarrow-push gates controls target few n =
     AllByRecursion-append IsNarrow gates (flip_of controls target ∷ []) n (record { controls = controls; target = target; few = few; is_flip = refl }, tt)

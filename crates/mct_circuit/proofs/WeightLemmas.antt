@@ -35,17 +35,21 @@ member_below n [] b q e = absurd (cc)
 member_below n (x ∷ xs) b q e =
     elim (eqb_tells q x) [ inl s ↦ subst (λ k. k < n) (sym s.1) b.0 | inr s ↦ member_below n xs b.1 q (or_cases (eqb q x) (list_any (eqb q) xs) e s.0) ]
 
-pub few_controls : (gate : GateView) → HasDifferentLines gate → AllByRecursion (λ (control : Control). control.line < 2 ^ 32) gate.controls → length gate.controls ≤ 2 ^ 32
+pub few_controls : (gate : GateView) → HasDifferentLines gate → AllByRecursion (λ (control : Control). control.line < 2 ^ 32) gate.controls
+    → length gate.controls ≤ 2 ^ 32
 few_controls gate d b =
     let lines = map (λ (control : Control). control.line) gate.controls in
-    let few : length lines ≤ 2 ^ 32 = length-le_from_distinct_below lines (2 ^ 32) (distinct lines (AreDifferent-left lines (targets_of gate.op) d)) (member_below (2 ^ 32) lines (AllByRecursion-map (λ line. line < 2 ^ 32) (λ (control : Control). control.line) gate.controls b)) in
+    let few : length lines ≤ 2 ^ 32 = length-le_from_distinct_below lines (2 ^ 32) (distinct lines (AreDifferent-left lines (targets_of gate.op) d))
+    (member_below (2 ^ 32) lines (AllByRecursion-map (λ line. line < 2 ^ 32) (λ (control : Control). control.line) gate.controls b)) in
     rw (length-map gate.controls (λ (control : Control). control.line)) at few
 
-counted_by : {X : Type 0} (p : X → Bool) (xs : List X) (i : ℕ) (d : X) (b : Bool) → i < length xs → p (get_or xs i d) ≡ b → count_by p (take i xs) + bool_byte b ≡ count_by p (take (i + 1) xs)
+counted_by : {X : Type 0} (p : X → Bool) (xs : List X) (i : ℕ) (d : X) (b : Bool) → i < length xs → p (get_or xs i d) ≡ b
+    → count_by p (take i xs) + bool_byte b ≡ count_by p (take (i + 1) xs)
 counted_by p xs i d true h e = sym (count_by_more_yes p xs i d h e)
 counted_by p xs i d false h e = let same = count_by_more_no p xs i d h e in omega arith
 
-pub counted : {X : Type 0} (p : X → Bool) (xs : List X) (i : ℕ) (d : X) (n : ℕ) → i < length xs → n ≡ count_by p (take i xs) → n + bool_byte (p (get_or xs i d)) ≡ count_by p (take (i + 1) xs)
+pub counted : {X : Type 0} (p : X → Bool) (xs : List X) (i : ℕ) (d : X) (n : ℕ) → i < length xs → n ≡ count_by p (take i xs)
+    → n + bool_byte (p (get_or xs i d)) ≡ count_by p (take (i + 1) xs)
 counted p xs i d n h e = rw e (counted_by p xs i d (p (get_or xs i d)) h refl)
 
 pub at_most_one : (b : Bool) → bool_byte b ≤ 1

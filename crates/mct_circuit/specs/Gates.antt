@@ -22,7 +22,8 @@ pub record CircuitView : Type 0 where
 
 -- a positive control is met where its line is 1, a negative one where it is 0
 abbrev pub is_met : List Bool → Control → Bool
-is_met bits control = if control.positive then bit_of bits control.line else not (bit_of bits control.line)
+is_met bits control =
+    if control.positive then bit_of bits control.line else not (bit_of bits control.line)
 
 -- a flip changes its target, a swap exchanges its two lines, and nothing else changes
 abbrev pub after_op : Op → List Bool → List Bool
@@ -87,4 +88,6 @@ pub record IsUndone (gates : List GateView) (bits : List Bool) : Type 0 where
   pub before : line_map gates (line_map (reverse gates) bits) ≡ bits
 
 abbrev pub ReversedUndoes : Type 0
-ReversedUndoes = (gates : List GateView) (bits : List Bool) → AreGatesOn (length bits) gates → IsUndone gates bits
+ReversedUndoes =
+    (gates : List GateView) (bits : List Bool)
+    → AreGatesOn (length bits) gates → IsUndone gates bits

@@ -57,11 +57,14 @@ share_a_line these those = list_any (λ line. has_line line those) these
 -- the greatest depth of a gate on one of the lines, or 0; a gate's own depth is one more than that of the earlier gates on its lines
 abbrev pub depth_on : List ℕ → List GateView → ℕ
 depth_on lines [] = 0
-depth_on lines (gate ∷ earlier) = max (if share_a_line lines (lines_of gate) then 1 + depth_on (lines_of gate) earlier else 0) (depth_on lines earlier)
+depth_on lines (gate ∷ earlier) =
+    max (if share_a_line lines (lines_of gate) then 1 + depth_on (lines_of gate) earlier else 0)
+    (depth_on lines earlier)
 
 abbrev pub greatest_depth : List GateView → ℕ
 greatest_depth [] = 0
-greatest_depth (gate ∷ earlier) = max (1 + depth_on (lines_of gate) earlier) (greatest_depth earlier)
+greatest_depth (gate ∷ earlier) =
+    max (1 + depth_on (lines_of gate) earlier) (greatest_depth earlier)
 
 -- the greatest depth of a gate, or 0
 abbrev pub depth_of : List GateView → ℕ

@@ -59,7 +59,8 @@ impl Model for Circuit {
 
     ghost view = { λ c. record { lines = c.lines; limit = c.limit; gates = c.gates.items } };
 
-    ghost invariant = { λ c. (AreGatesOn c.lines c.gates.items) × (length c.gates.items ≤ c.limit) };
+    ghost invariant = { λ c. (AreGatesOn c.lines c.gates.items)
+        × (length c.gates.items ≤ c.limit) };
 }
 
 impl Circuit {
@@ -78,7 +79,8 @@ impl Circuit {
     /// After a refusal the circuit is unchanged.
     pub fn push(&mut self, gate: Gate) -> Result<(), GateFault>
         requires { AllByRecursion (λ line. line < self.old.lines) (lines_of gate) }
-        ensures ok { OnOk result (self.new ≡ record self.old { gates = self.old.gates ++ gate ∷ [] }) }
+        ensures ok { OnOk result (self.new ≡ record self.old
+            { gates = self.old.gates ++ gate ∷ [] }) }
         ensures full { IsErrOf result GateFault.Full ↔ (length self.old.gates ≡ self.old.limit) }
         ensures err { OnErr result (self.new ≡ self.old) }
     {
@@ -94,11 +96,14 @@ impl Circuit {
     /// Appends the flip of `target` where all lines of `controls` are 1, as `push` does.
     pub fn push_flip(&mut self, controls: &[u32], target: u32) -> Result<(), GateFault>
         requires different { AreDifferent (controls.now ++ target ∷ []) }
-        requires in_range { AllByRecursion (λ line. line < self.old.lines) (controls.now ++ target ∷ []) }
-        ensures ok { OnOk result (self.new ≡ record self.old { gates = self.old.gates ++ flip_of controls.now target ∷ [] }) }
+        requires in_range { AllByRecursion (λ line. line < self.old.lines)
+            (controls.now ++ target ∷ []) }
+        ensures ok { OnOk result (self.new ≡ record self.old
+            { gates = self.old.gates ++ flip_of controls.now target ∷ [] }) }
         ensures full { IsErrOf result GateFault.Full ↔ (length self.old.gates ≡ self.old.limit) }
         ensures err { OnErr result (self.new ≡ self.old) }
-        ensures narrow { length controls.now ≤ 2 → AreNarrow self.old.gates → AreNarrow self.new.gates }
+        ensures narrow { length controls.now ≤ 2 → AreNarrow self.old.gates
+            → AreNarrow self.new.gates }
     {
         if self.is_full() {
             return Err(GateFault::Full);
@@ -112,8 +117,10 @@ impl Circuit {
     /// would hold more than `limit` gates. After a refusal the circuit is unchanged.
     pub fn append_reversed(&mut self, count: u64) -> Result<(), GateFault>
         requires { count ≤ length self.old.gates }
-        ensures ok { OnOk result (self.new ≡ record self.old { gates = self.old.gates ++ reverse (take count self.old.gates) }) }
-        ensures full { IsErrOf result GateFault.Full ↔ (self.old.limit < length self.old.gates + count) }
+        ensures ok { OnOk result (self.new ≡ record self.old
+            { gates = self.old.gates ++ reverse (take count self.old.gates) }) }
+        ensures full { IsErrOf result GateFault.Full
+            ↔ (self.old.limit < length self.old.gates + count) }
         ensures err { OnErr result (self.new ≡ self.old) }
     {
         if self.limit - self.len() < count {
@@ -129,10 +136,12 @@ impl Circuit {
     /// than `limit` gates. After a refusal the circuit and `gates` are unchanged.
     pub fn append(&mut self, gates: &mut Vec<Gate>) -> Result<(), GateFault>
         requires { AreGatesOn self.old.lines gates.old.items }
-        ensures ok { OnOk result (self.new ≡ record self.old { gates = self.old.gates ++ gates.old.items }) }
+        ensures ok { OnOk result (self.new ≡ record self.old
+            { gates = self.old.gates ++ gates.old.items }) }
         ensures emptied { OnOk result (gates.new.items ≡ []) }
         ensures kept { OnErr result (gates.new.items ≡ gates.old.items) }
-        ensures full { IsErrOf result GateFault.Full ↔ (self.old.limit < length self.old.gates + length gates.old.items) }
+        ensures full { IsErrOf result GateFault.Full
+            ↔ (self.old.limit < length self.old.gates + length gates.old.items) }
         ensures err { OnErr result (self.new ≡ self.old) }
     {
         if self.limit - self.len() < gates.len() as u64 {

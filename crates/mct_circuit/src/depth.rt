@@ -34,7 +34,8 @@ fn greatest_on_controls(controls: &[Control], depths: &[u64]) -> u64
 // Sets the numbers at all lines of the gate.
 pub fn set_all(gate: &Gate, depths: &mut [u64], depth: u64)
     requires { AllByRecursion (λ line. line < length depths.old) (lines_of gate.now) }
-    ensures { (line : ℕ) → slice_index depths.new line ≡ (if has_line line (lines_of gate.now) then depth else slice_index depths.old line) }
+    ensures { (line : ℕ) → slice_index depths.new line
+        ≡ (if has_line line (lines_of gate.now) then depth else slice_index depths.old line) }
 {
     set_controls(gate.controls(), depths, depth);
     match gate.op() {
@@ -48,7 +49,9 @@ pub fn set_all(gate: &Gate, depths: &mut [u64], depth: u64)
 
 fn set_controls(controls: &[Control], depths: &mut [u64], depth: u64)
     requires { AllByRecursion (λ control. control.line < length depths.old) controls.now }
-    ensures { (line : ℕ) → slice_index depths.new line ≡ (if has_line line (map (λ control. control.line) controls.now) then depth else slice_index depths.old line) }
+    ensures { (line : ℕ) → slice_index depths.new line
+        ≡ (if has_line line (map (λ control. control.line) controls.now) then depth
+        else slice_index depths.old line) }
 {
     for control in controls {
         depths[control.line as usize] = depth;

@@ -39,7 +39,8 @@ impl Model for Gate {
 
     ghost view = { λ g. record { controls = g.controls.items; op = g.op } };
 
-    ghost invariant = { λ g. HasDifferentLines (record { controls = g.controls.items; op = g.op }) };
+    ghost invariant = { λ g. HasDifferentLines
+        (record { controls = g.controls.items; op = g.op }) };
 }
 
 impl Gate {

@@ -44,8 +44,13 @@ names_are_words roles few = AllByRecursion-weaker IsName IsWord IsWord-from_name
 header_is_words : (roles : Roles) → 1 ≤ lines_in roles → lines_in roles ≤ 16384 → AllByRecursion (AllByRecursion IsWord) (header_lines roles)
 header_is_words roles some few =
     let names = names_are_words roles few in
-    let constants : IsWord (map constant_byte (constants_of roles)) = record { some = omega (arith, length-map (constants_of roles) constant_byte, length-constants_of roles); solid = solid-constants (constants_of roles) } in
-    let garbage : IsWord (map garbage_byte (replicate (lines_in roles) false)) = record { some = omega (arith, length-map (replicate (lines_in roles) false) garbage_byte, length-replicate (lines_in roles) false); solid = solid-garbage (replicate (lines_in roles) false) } in (
+    let constants : IsWord (map constant_byte (constants_of roles)) = record
+    { some = omega (arith, length-map (constants_of roles) constant_byte, length-constants_of roles); solid = solid-constants (constants_of roles) } in
+    let garbage : IsWord (map garbage_byte (replicate (lines_in roles) false)) =
+    record {
+      some = omega (arith, length-map (replicate (lines_in roles) false) garbage_byte, length-replicate (lines_in roles) false);
+      solid = solid-garbage (replicate (lines_in roles) false);
+    } in (
       (literal _ (omega arith) refl, (literal _ (omega arith) refl, tt)),
       (
         (literal _ (omega arith) refl, (IsWord-decimal (lines_in roles) (omega arith), tt)),
@@ -70,12 +75,14 @@ header_is_words roles some few =
 
 -- ---- gates
 
-gate_is_words : (roles : Roles) (gate : GateView) → lines_in roles ≤ 16384 → IsGateOn (lines_in roles) gate → length (lines_of gate) ≤ 3 → AllByRecursion IsWord (gate_words roles gate)
+gate_is_words : (roles : Roles) (gate : GateView) → lines_in roles ≤ 16384 → IsGateOn (lines_in roles) gate → length (lines_of gate) ≤ 3
+    → AllByRecursion IsWord (gate_words roles gate)
 gate_is_words roles gate few on short =
     let digits = IsWord-decimal (length (lines_of gate)) (omega arith) in (
       record { some = omega arith; solid = digits.solid },
       AllByRecursion-map IsWord (name_of_line roles) (lines_of gate)
-          (AllByRecursion-weaker (λ line. line < lines_in roles) (λ line. IsWord (name_of_line roles line)) (λ line h. IsWord-from_name _ (IsName-name_of_line roles line (omega arith))) (lines_of gate) on.in_range),
+          (AllByRecursion-weaker (λ line. line < lines_in roles) (λ line. IsWord (name_of_line roles line))
+          (λ line h. IsWord-from_name _ (IsName-name_of_line roles line (omega arith))) (lines_of gate) on.in_range),
     )
 
 length-narrow : (gate : GateView) → IsNarrow gate → length (lines_of gate) ≤ 3
@@ -85,12 +92,14 @@ length-narrow gate narrow =
     let long : length (lines_of gate) ≡ length narrow.controls + 1 = ap length lines ∙ length-append narrow.controls (narrow.target ∷ []) in
     omega arith
 
-gates_are_words : (roles : Roles) (gates : List GateView) → lines_in roles ≤ 16384 → AreGatesOn (lines_in roles) gates → AreNarrow gates → AllByRecursion (AllByRecursion IsWord) (map (gate_words roles) gates)
+gates_are_words : (roles : Roles) (gates : List GateView) → lines_in roles ≤ 16384 → AreGatesOn (lines_in roles) gates → AreNarrow gates
+    → AllByRecursion (AllByRecursion IsWord) (map (gate_words roles) gates)
 gates_are_words roles [] few on narrow = tt
 gates_are_words roles (g ∷ gs) few on narrow =
     (gate_is_words roles g few on.0 (length-narrow g narrow.0), gates_are_words roles gs few on.1 narrow.1)
 
-named_lines : (roles : Roles) (lines : List ℕ) → AllByRecursion (λ line. line < lines_in roles) lines → AllZip (λ name line. slice_get (names_of roles) line ≡ Some name) (map (name_of_line roles) lines) lines
+named_lines : (roles : Roles) (lines : List ℕ) → AllByRecursion (λ line. line < lines_in roles) lines
+    → AllZip (λ name line. slice_get (names_of roles) line ≡ Some name) (map (name_of_line roles) lines) lines
 named_lines roles [] h = tt
 named_lines roles (l ∷ ls) h = (name_at roles l h.0, named_lines roles ls h.1)
 
@@ -107,13 +116,15 @@ reads_flip roles gate on narrow =
       words_are = refl;
       counted = record { digits = number.0; value = number.1 ∙ sym (length-map (lines_of gate) (name_of_line roles)) };
       few_digits = length-decimal-le 5 (length (lines_of gate)) (omega arith) (omega arith) (omega arith);
-      named = subst (λ ls. AllZip (λ name line. slice_get (names_of roles) line ≡ Some name) (map (name_of_line roles) (lines_of gate)) ls) lines (named_lines roles (lines_of gate) on.in_range);
+      named = subst (λ ls. AllZip (λ name line. slice_get (names_of roles) line ≡ Some name) (map (name_of_line roles) (lines_of gate)) ls) lines
+          (named_lines roles (lines_of gate) on.in_range);
       few_controls = narrow.few;
       different = subst AreDifferent lines on.different;
       gate_is = narrow.is_flip;
     }
 
-reads_flips : (roles : Roles) (gates : List GateView) → AreGatesOn (lines_in roles) gates → AreNarrow gates → AllZip (ReadsFlip (names_of roles)) (map (gate_words roles) gates) gates
+reads_flips : (roles : Roles) (gates : List GateView) → AreGatesOn (lines_in roles) gates → AreNarrow gates
+    → AllZip (ReadsFlip (names_of roles)) (map (gate_words roles) gates) gates
 reads_flips roles [] on narrow = tt
 reads_flips roles (g ∷ gs) on narrow = (reads_flip roles g on.0 narrow.0, reads_flips roles gs on.1 narrow.1)
 
@@ -122,7 +133,8 @@ reads_flips roles (g ∷ gs) on narrow = (reads_flip roles g on.0 narrow.0, read
 abbrev file_of : Roles → List GateView → RealView
 file_of roles gates = record { names = names_of roles; constants = constants_of roles; garbage = replicate (lines_in roles) false; gates = gates }
 
-meaning : (roles : Roles) (gates : List GateView) → 1 ≤ lines_in roles → lines_in roles ≤ 16384 → length gates ≤ 4000000 → AreGatesOn (lines_in roles) gates → AreNarrow gates → RealMeaning (compiled_text roles gates) (file_of roles gates)
+meaning : (roles : Roles) (gates : List GateView) → 1 ≤ lines_in roles → lines_in roles ≤ 16384 → length gates ≤ 4000000 → AreGatesOn (lines_in roles) gates
+    → AreNarrow gates → RealMeaning (compiled_text roles gates) (file_of roles gates)
 meaning roles gates some few few_gates on narrow =
     let number = decimal_is_IsNumeral (lines_in roles) (omega arith) in
     let long = length-names_of roles in
@@ -133,7 +145,8 @@ meaning roles gates some few few_gates on narrow =
       gate_lines = map (gate_words roles) gates;
       lines = words_of_lines (compiled_lines roles gates)
           (AllByRecursion-append (AllByRecursion IsWord) (header_lines roles) _ (header_is_words roles some few)
-          (AllByRecursion-append (AllByRecursion IsWord) (map (gate_words roles) gates) _ (gates_are_words roles gates few on narrow) ((literal _ (omega arith) refl, tt), tt)));
+          (AllByRecursion-append (AllByRecursion IsWord) (map (gate_words roles) gates) _ (gates_are_words roles gates few on narrow)
+          ((literal _ (omega arith) refl, tt), tt)));
       counted = record { digits = number.0; value = number.1 ∙ sym long };
       some = omega arith;
       few = omega arith;

@@ -34,7 +34,8 @@ solid-decimal : (n : ℕ) → n < 2 ^ 64 → list_all is_word_byte (decimal n) �
 solid-decimal =
     decimal_by_steps (λ n ds. list_all is_word_byte ds ≡ true)
     (λ n h. true-and (is_word_byte (48 + n)) true (is_word_byte-above (48 + n) (omega arith)) refl)
-    (λ n ds h p. list_all-append is_word_byte ds ((48 + n % 10) ∷ []) ∙ true-and _ _ p (true-and (is_word_byte (48 + n % 10)) true (is_word_byte-above (48 + n % 10) (omega arith)) refl))
+    (λ n ds h p. list_all-append is_word_byte ds ((48 + n % 10) ∷ []) ∙ true-and _ _ p
+    (true-and (is_word_byte (48 + n % 10)) true (is_word_byte-above (48 + n % 10) (omega arith)) refl))
 
 -- ---- the letter and the number of a line
 
@@ -70,7 +71,11 @@ first-below roles line = elim (cases_lt line roles.inputs) [
     | inl q ↦ rw (ltb-above line roles.inputs p, lt-ltb line (roles.inputs + roles.outputs) q) p
     | inr q ↦ elim (cases_lt line (roles.inputs + roles.outputs + roles.work)) [
       | inl r ↦ rw (ltb-above line roles.inputs p, ltb-above line (roles.inputs + roles.outputs) q, lt-ltb line (roles.inputs + roles.outputs + roles.work) r) q
-      | inr r ↦ rw (ltb-above line roles.inputs p, ltb-above line (roles.inputs + roles.outputs) q, ltb-above line (roles.inputs + roles.outputs + roles.work) r) r
+      | inr r ↦ rw (
+        ltb-above line roles.inputs p,
+        ltb-above line (roles.inputs + roles.outputs) q,
+        ltb-above line (roles.inputs + roles.outputs + roles.work) r,
+      ) r
     ]
   ]
 ]

@@ -46,7 +46,8 @@ inside names i name e = elim ((slice_get_cases names i).1) [
 ]
 
 -- a name stands at one place
-one_place : (names : List (List ℕ)) (name : List ℕ) (i j : ℕ) → AllPairs (λ a b. a ≢ b) names → slice_get names i ≡ Some name → slice_get names j ≡ Some name → i ≡ j
+one_place : (names : List (List ℕ)) (name : List ℕ) (i j : ℕ) → AllPairs (λ a b. a ≢ b) names → slice_get names i ≡ Some name → slice_get names j ≡ Some name
+    → i ≡ j
 one_place names name i j different e f =
     let at_i = get_or_from_slice_get names i name name e in
     let at_j = get_or_from_slice_get names j name name f in
@@ -60,7 +61,8 @@ one_place names name i j different e f =
 
 -- names stand for one list of lines
 same_lines : (names line_names : List (List ℕ)) (lines others : List ℕ) → AllPairs (λ a b. a ≢ b) names
-    → AllZip (λ name line. slice_get names line ≡ Some name) line_names lines → AllZip (λ name line. slice_get names line ≡ Some name) line_names others → lines ≡ others
+    → AllZip (λ name line. slice_get names line ≡ Some name) line_names lines → AllZip (λ name line. slice_get names line ≡ Some name) line_names others
+    → lines ≡ others
 same_lines names [] [] [] different p q = refl
 same_lines names [] [] (y ∷ ys) different p q = absurd q
 same_lines names [] (x ∷ xs) others different p q = absurd p
@@ -70,7 +72,8 @@ same_lines names (n ∷ ns) (x ∷ xs) (y ∷ ys) different p q =
     ap (λ line. line ∷ xs) (one_place names n x y different p.0 q.0) ∙ ap (λ rest. y ∷ rest) (same_lines names ns xs ys different p.1 q.1)
 
 -- words stand for one gate
-same_gate : (names words : List (List ℕ)) (gate other : GateView) → AllPairs (λ a b. a ≢ b) names → ReadsFlip names words gate → ReadsFlip names words other → gate ≡ other
+same_gate : (names words : List (List ℕ)) (gate other : GateView) → AllPairs (λ a b. a ≢ b) names → ReadsFlip names words gate → ReadsFlip names words other
+    → gate ≡ other
 same_gate names words gate other different p q =
     let line_names : q.line_names ≡ p.line_names = ap (drop 1) (sym q.words_are ∙ p.words_are) in
     let named = subst (λ ns. AllZip (λ name line. slice_get names line ≡ Some name) ns (q.controls ++ q.target ∷ [])) line_names q.named in

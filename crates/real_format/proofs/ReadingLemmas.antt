@@ -107,7 +107,8 @@ line_text-body [] rest = refl
 line_text-body (w ∷ ws) rest = simp append_assoc
 
 -- the lines and words of a text are those that it was made of
-pub words_of_lines : (lines : List (List (List ℕ))) → AllByRecursion (AllByRecursion IsWord) lines → map words_of_line (lines_of_text (flat_map line_text lines)) ≡ lines
+pub words_of_lines : (lines : List (List (List ℕ))) → AllByRecursion (AllByRecursion IsWord) lines
+    → map words_of_line (lines_of_text (flat_map line_text lines)) ≡ lines
 words_of_lines [] h = refl
 words_of_lines (l ∷ ls) h =
     let front : lines_of_text (line_text l ++ flat_map line_text ls) ≡ body_of l ∷ lines_of_text (flat_map line_text ls)

@@ -27,7 +27,9 @@ name_of_line roles line = letter_of (role_at roles line) ∷ decimal (number_at 
 
 -- output and work lines start at 0, input and borrowed lines hold anything
 abbrev pub constants_of : Roles → List Mark
-constants_of roles = replicate roles.inputs Free ++ (replicate (roles.outputs + roles.work) Zero ++ replicate roles.borrowed Free)
+constants_of roles =
+    replicate roles.inputs Free
+    ++ (replicate (roles.outputs + roles.work) Zero ++ replicate roles.borrowed Free)
 
 abbrev pub names_of : Roles → List (List ℕ)
 names_of roles = map (name_of_line roles) (range_with_len 0 (lines_in roles))
@@ -48,7 +50,8 @@ line_text (word ∷ words) = word ++ (flat_map (λ w. 32 ∷ w) words ++ 10 ∷ 
 
 -- `t1`, `t2` or `t3`, and the names of the controls and the target
 abbrev pub gate_words : Roles → GateView → List (List ℕ)
-gate_words roles gate = (116 ∷ decimal (length (lines_of gate))) ∷ map (name_of_line roles) (lines_of gate)
+gate_words roles gate =
+    (116 ∷ decimal (length (lines_of gate))) ∷ map (name_of_line roles) (lines_of gate)
 
 abbrev pub header_lines : Roles → List (List (List ℕ))
 header_lines roles =
@@ -63,7 +66,8 @@ header_lines roles =
     ∷ []
 
 abbrev pub compiled_lines : Roles → List GateView → List (List (List ℕ))
-compiled_lines roles gates = header_lines roles ++ (map (gate_words roles) gates ++ (codes ".end" ∷ []) ∷ [])
+compiled_lines roles gates =
+    header_lines roles ++ (map (gate_words roles) gates ++ (codes ".end" ∷ []) ∷ [])
 
 abbrev pub compiled_text : Roles → List GateView → List ℕ
 compiled_text roles gates = flat_map line_text (compiled_lines roles gates)

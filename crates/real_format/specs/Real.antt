@@ -44,7 +44,8 @@ garbage_byte true = 49
 garbage_byte false = 45
 
 -- the word `tN` and the N names of different lines: the last one is flipped where all others are 1
-pub record ReadsFlip (names : List (List ℕ)) (words : List (List ℕ)) (gate : GateView) : Type 0 where
+pub record ReadsFlip (names : List (List ℕ)) (words : List (List ℕ))
+    (gate : GateView) : Type 0 where
   pub number : List ℕ
   pub line_names : List (List ℕ)
   pub controls : List ℕ
@@ -52,7 +53,8 @@ pub record ReadsFlip (names : List (List ℕ)) (words : List (List ℕ)) (gate :
   pub words_are : words ≡ (116 ∷ number) ∷ line_names
   pub counted : IsNumber number (length line_names)
   pub few_digits : length number ≤ 5
-  pub named : AllZip (λ name line. slice_get names line ≡ Some name) line_names (controls ++ target ∷ [])
+  pub named : AllZip (λ name line. slice_get names line ≡ Some name) line_names
+      (controls ++ target ∷ [])
   pub few_controls : length controls ≤ 2
   pub different : AreDifferent (controls ++ target ∷ [])
   pub gate_is : gate ≡ flip_of controls target
@@ -86,4 +88,5 @@ pub record RealMeaning (text : List ℕ) (file : RealView) : Type 0 where
 -- a text means at most one file
 abbrev pub OneMeaning : Type 0
 OneMeaning =
-    (text : List ℕ) (file other : RealView) → RealMeaning text file → RealMeaning text other → file ≡ other
+    (text : List ℕ) (file other : RealView) → RealMeaning text file → RealMeaning text other
+    → file ≡ other

@@ -27,4 +27,6 @@ begins_word (b ∷ bs) = not (is_blank b)
 abbrev pub words_of_line : List ℕ → List (List ℕ)
 words_of_line [] = []
 words_of_line (b ∷ bs) =
-    if is_blank b then words_of_line bs else (if begins_word bs then onto_first b (words_of_line bs) else (b ∷ []) ∷ words_of_line bs)
+    if is_blank b then words_of_line bs
+    else (if begins_word bs then onto_first b (words_of_line bs)
+    else (b ∷ []) ∷ words_of_line bs)

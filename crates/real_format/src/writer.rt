@@ -21,8 +21,10 @@ pub fn write<K: Sink>(laid: &Laid, out: &mut K) -> Result<(), Failed>
     requires some { 1 ≤ laid.now.circuit.lines }
     requires few { laid.now.circuit.lines ≤ MOST_LINES }
     requires few_gates { length laid.now.circuit.gates ≤ MOST_GATES }
-    ensures bytes { Writes result (K.held out.old) (K.held out.new) (compiled_text (roles_of laid.now) laid.now.circuit.gates) }
-    ensures meaning { MeansCompiled (compiled_text (roles_of laid.now) laid.now.circuit.gates) (roles_of laid.now) laid.now.circuit.gates }
+    ensures bytes { Writes result (K.held out.old) (K.held out.new)
+        (compiled_text (roles_of laid.now) laid.now.circuit.gates) }
+    ensures meaning { MeansCompiled (compiled_text (roles_of laid.now) laid.now.circuit.gates)
+        (roles_of laid.now) laid.now.circuit.gates }
     ensures cause { HasCause (K.faults out.old) (K.faults out.new) result }
 {
     let circuit = laid.circuit();
@@ -35,7 +37,8 @@ fn write_text<K: Sink>(circuit: &Circuit, roles: Roles, out: &mut K) -> Result<(
     requires fits { lines_in roles ≡ circuit.now.lines }
     requires few { circuit.now.lines ≤ MOST_LINES }
     requires narrow { AreNarrow circuit.now.gates }
-    ensures bytes { Writes result (K.held out.old) (K.held out.new) (compiled_text roles circuit.now.gates) }
+    ensures bytes { Writes result (K.held out.old) (K.held out.new)
+        (compiled_text roles circuit.now.gates) }
     ensures cause { HasCause (K.faults out.old) (K.faults out.new) result }
 {
     let mut buffer = Buffer::new();
@@ -53,7 +56,8 @@ fn put_text<K: Sink>(
     requires few { circuit.now.lines ≤ MOST_LINES }
     requires narrow { AreNarrow circuit.now.gates }
     ensures bytes { Gathers result (K.held out.old) (K.held out.new) buffer.old buffer.new
-        (header_text roles ++ (flat_map line_text (map (gate_words roles) circuit.now.gates) ++ codes ".end\n")) }
+        (header_text roles ++ (flat_map line_text (map (gate_words roles) circuit.now.gates)
+        ++ codes ".end\n")) }
     ensures cause { HasCause (K.faults out.old) (K.faults out.new) result }
 {
     put_header(buffer, out, roles)?;
@@ -278,7 +282,8 @@ fn put_flip<K: Sink>(
 ) -> Result<(), Failed>
     requires few { lines_in roles ≤ MOST_LINES }
     requires short { length controls.now ≤ 2 }
-    requires controls_in_range { AllByRecursion (λ control. control.line < lines_in roles) controls.now }
+    requires controls_in_range { AllByRecursion
+        (λ control. control.line < lines_in roles) controls.now }
     requires target_in_range { target < lines_in roles }
     ensures bytes { Gathers result (K.held out.old) (K.held out.new) buffer.old buffer.new
         (flip_text roles controls.now target) }

@@ -14,18 +14,23 @@ pub writing_begun : (old : Option (List ℕ)) (count : ℕ) (first part left : L
 writing_begun old count first part left e = record { text = subst (Underway old old first (first ++ part)) (sym e) (begun old first part); calm = refl }
 
 -- a piece was gathered
-pub writing_more : {old now new : Option (List ℕ)} {before after : ℕ} {first waiting waiting_new part piece : List ℕ} (count : ℕ) (whole left : List ℕ) → whole ≡ piece ++ left
-    → Gathered now new waiting waiting_new piece → count ≡ after → IsWriting old now before after first waiting part whole → IsWriting old new before count first waiting_new part left
+pub writing_more : {old now new : Option (List ℕ)} {before after : ℕ} {first waiting waiting_new part piece : List ℕ} (count : ℕ) (whole left : List ℕ)
+    → whole ≡ piece ++ left
+    → Gathered now new waiting waiting_new piece → count ≡ after → IsWriting old now before after first waiting part whole
+    → IsWriting old new before count first waiting_new part left
 writing_more {old} {now} {new} {before} {after} {first} {waiting} {waiting_new} {part} {piece} count whole left e put stays so_far =
     record { text = step piece left put (subst (Underway old now waiting (first ++ part)) e so_far.text); calm = stays ∙ so_far.calm }
 
 -- nothing is left
-pub writing_done : {old now : Option (List ℕ)} {before after : ℕ} {first waiting part : List ℕ} (left : List ℕ) → left ≡ [] → IsWriting old now before after first waiting part left → Gathered old now first waiting part
+pub writing_done : {old now : Option (List ℕ)} {before after : ℕ} {first waiting part : List ℕ} (left : List ℕ) → left ≡ []
+    → IsWriting old now before after first waiting part left → Gathered old now first waiting part
 writing_done {old} {now} {before} {after} {first} {waiting} {part} left e so_far = gathered (subst (Underway old now waiting (first ++ part)) e so_far.text)
 
 -- a call failed within a piece
-pub writing_failed : {T E : Type 0} {old now new : Option (List ℕ)} {before after : ℕ} {waiting waiting_new : List ℕ} (first part whole piece left : List ℕ) (Q : E → Type 0) (result : Result T E)
-    → whole ≡ piece ++ left → IsErrAnd result Q → AppendsFront now new (waiting ++ piece) × (waiting_new ≡ []) → IsWriting old now before after first waiting part whole
+pub writing_failed : {T E : Type 0} {old now new : Option (List ℕ)} {before after : ℕ} {waiting waiting_new : List ℕ} (first part whole piece left : List ℕ)
+    (Q : E → Type 0) (result : Result T E)
+    → whole ≡ piece ++ left → IsErrAnd result Q → AppendsFront now new (waiting ++ piece) × (waiting_new ≡ [])
+    → IsWriting old now before after first waiting part whole
     → Gathers result old new first waiting_new part
 writing_failed {T} {E} {old} {now} {new} {before} {after} {waiting} {waiting_new} first part whole piece left Q result e h put so_far =
     failed_call first part piece left Q result h put (subst (Underway old now waiting (first ++ part)) e so_far.text)

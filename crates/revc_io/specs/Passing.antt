@@ -10,20 +10,25 @@ pub record AppendsFront (old new : Option (List ℕ)) (bytes : List ℕ) : Type 
   pub grown : Appends old new front
 
 -- a writer of these bytes: all of them were appended at `Ok`, a front of them at `Err`
-abbrev pub Writes : {T E : Type 0} → Result T E → Option (List ℕ) → Option (List ℕ) → List ℕ → Type 0
-Writes result old new bytes = MatchResult result (λ _. Appends old new bytes) (λ _. AppendsFront old new bytes)
+abbrev pub Writes : {T E : Type 0} → Result T E → Option (List ℕ) → Option (List ℕ) → List ℕ
+    → Type 0
+Writes result old new bytes =
+    MatchResult result (λ _. Appends old new bytes) (λ _. AppendsFront old new bytes)
 
 -- the bytes that waited, and then the piece: some went on to the sink, and the others wait behind them
-pub record Gathered (old new : Option (List ℕ)) (waiting_old waiting_new piece : List ℕ) : Type 0 where
+pub record Gathered (old new : Option (List ℕ))
+    (waiting_old waiting_new piece : List ℕ) : Type 0 where
   pub front : List ℕ
   pub parts : waiting_old ++ piece ≡ front ++ waiting_new
   pub grown : Appends old new front
 
 -- a writer of this piece through a buffer: the piece was gathered at `Ok`; at `Err` a front of what waited and the piece
 -- was appended, and nothing waits
-abbrev pub Gathers : {T E : Type 0} → Result T E → Option (List ℕ) → Option (List ℕ) → List ℕ → List ℕ → List ℕ → Type 0
+abbrev pub Gathers : {T E : Type 0} → Result T E → Option (List ℕ) → Option (List ℕ) → List ℕ
+    → List ℕ → List ℕ → Type 0
 Gathers result old new waiting_old waiting_new piece =
-    MatchResult result (λ _. Gathered old new waiting_old waiting_new piece) (λ _. AppendsFront old new (waiting_old ++ piece) × (waiting_new ≡ []))
+    MatchResult result (λ _. Gathered old new waiting_old waiting_new piece)
+    (λ _. AppendsFront old new (waiting_old ++ piece) × (waiting_new ≡ []))
 
 -- a text on its way: a front of it was appended, some of it waits in a buffer, and the rest is left to be written
 pub record Underway (old now : Option (List ℕ)) (waiting whole left : List ℕ) : Type 0 where

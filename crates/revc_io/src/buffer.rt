@@ -69,7 +69,8 @@ impl Buffer {
     /// past it, after what waits. Where the sink fails, it took a front of what waited and the piece, and nothing
     /// waits. It takes no memory.
     pub fn put<K: Sink>(&mut self, out: &mut K, piece: &[u8]) -> Result<(), Failed>
-        ensures bytes { Gathers result (K.held out.old) (K.held out.new) self.old self.new piece.now }
+        ensures bytes { Gathers result (K.held out.old)
+            (K.held out.new) self.old self.new piece.now }
         ensures cause { HasCause (K.faults out.old) (K.faults out.new) result }
     {
         let (first, rest) = piece.split_at(piece.len().min(self.room()));

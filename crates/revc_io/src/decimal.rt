@@ -7,7 +7,8 @@ use crate::{Buffer, Failed, Sink};
 
 /// Puts the decimal digits of `n`, without leading zeros, through the buffer. It takes no memory.
 pub fn put_decimal<K: Sink>(buffer: &mut Buffer, out: &mut K, n: u64) -> Result<(), Failed>
-    ensures bytes { Gathers result (K.held out.old) (K.held out.new) buffer.old buffer.new (decimal n) }
+    ensures bytes { Gathers result (K.held out.old) (K.held out.new) buffer.old buffer.new
+        (decimal n) }
     ensures cause { HasCause (K.faults out.old) (K.faults out.new) result }
 {
     // The digits fill the array from its end; the greatest number has 20.

@@ -115,7 +115,8 @@ impl Sink for MemorySink {
         ensures fails { IsErr result ↔ (FailsNext self.old ⊎ IsFull self.old) }
         ensures takes { IfOk result (λ count. count ≡ taken_of self.old (length piece.now)) }
         ensures after { MatchResult result
-            (λ count. self.new ≡ record (counted self.old) { held = self.old.held ++ take count piece.now })
+            (λ count. self.new ≡ record (counted self.old)
+            { held = self.old.held ++ take count piece.now })
             (λ _. self.new ≡ record (counted self.old) { faults = raised self.old.faults }) }
     {
         let fails = self.fails_now();

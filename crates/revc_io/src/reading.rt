@@ -50,10 +50,14 @@ pub fn read_up_to<S: Source>(
     ensures fits { IfOk result (λ all. vec_len all ≤ limit) }
 
     // Each refusal.
-    ensures refused { IfErr result (λ fault. TakesCount (S.rest source.old) (S.rest source.new) (TakenAt fault limit)) }
-    ensures too_long { IsErrOf result ReadFault.TooLong → IfSome (S.rest source.old) (λ rest. limit < length rest) }
-    ensures failed { IsErrOf result ReadFault.Failed → Rose (S.faults source.old) (S.faults source.new) }
-    ensures counts { IfErr result (λ fault. CountsAt fault (S.faults source.old) (S.faults source.new)) }
+    ensures refused { IfErr result (λ fault. TakesCount (S.rest source.old) (S.rest source.new)
+        (TakenAt fault limit)) }
+    ensures too_long { IsErrOf result ReadFault.TooLong
+        → IfSome (S.rest source.old) (λ rest. limit < length rest) }
+    ensures failed { IsErrOf result ReadFault.Failed
+        → Rose (S.faults source.old) (S.faults source.new) }
+    ensures counts { IfErr result (λ fault. CountsAt fault (S.faults source.old)
+        (S.faults source.new)) }
 
     // The count of faults: it never falls, and stays where the whole rest was read.
     ensures later { S.faults source.old ≤ S.faults source.new }

@@ -30,7 +30,8 @@ refused_no_gap at text fault gap behind (cuts.bad_byte no_gap no_token) cut g = 
 refused_no_gap at text fault gap behind (cuts.long_name run rest h long) cut g = no_gap_before_token text run rest gap behind (toks.Name run) h cut g
 refused_no_gap at text fault gap behind (cuts.long_number run rest n h long) cut g = no_gap_before_token text run rest gap behind (toks.Number n) h cut g
 
-refused_no_token : (at : Place) (text : List ℕ) (fault : LexFault) (piece behind : List ℕ) (tok : Tok) → Refuses at text fault → IsLongest text piece behind tok → IsWithinLimits piece tok → ⊥
+refused_no_token : (at : Place) (text : List ℕ) (fault : LexFault) (piece behind : List ℕ) (tok : Tok) → Refuses at text fault → IsLongest text piece behind tok
+    → IsWithinLimits piece tok → ⊥
 refused_no_token at text fault piece behind tok (cuts.bad_byte no_gap no_token) k within = no_token piece behind tok k.cut k.spelled
 refused_no_token at text fault piece behind tok (cuts.long_name run rest h long) k within =
     let same = same_longest text piece behind tok run rest (toks.Name run) k h in
@@ -49,12 +50,14 @@ name_is_no_number name n e = absurd cc
 same_refusal : (at : Place) (text : List ℕ) (fault other : LexFault) → Refuses at text fault → Refuses at text other → fault ≡ other
 same_refusal at text fault other (cuts.bad_byte no_gap no_token) (cuts.bad_byte no_gap' no_token') = refl
 same_refusal at text fault other (cuts.bad_byte no_gap no_token) (cuts.long_name run rest h long) = absurd (no_token run rest (toks.Name run) h.cut h.spelled)
-same_refusal at text fault other (cuts.bad_byte no_gap no_token) (cuts.long_number run rest n h long) = absurd (no_token run rest (toks.Number n) h.cut h.spelled)
+same_refusal at text fault other (cuts.bad_byte no_gap no_token) (cuts.long_number run rest n h long) =
+    absurd (no_token run rest (toks.Number n) h.cut h.spelled)
 same_refusal at text fault other (cuts.long_name run rest h long) (cuts.bad_byte no_gap no_token) = absurd (no_token run rest (toks.Name run) h.cut h.spelled)
 same_refusal at text fault other (cuts.long_name run rest h long) (cuts.long_name run' rest' h' long') = refl
 same_refusal at text fault other (cuts.long_name run rest h long) (cuts.long_number run' rest' n h' long') =
     absurd (name_is_no_number run n (same_longest text run rest (toks.Name run) run' rest' (toks.Number n) h h').tok)
-same_refusal at text fault other (cuts.long_number run rest n h long) (cuts.bad_byte no_gap no_token) = absurd (no_token run rest (toks.Number n) h.cut h.spelled)
+same_refusal at text fault other (cuts.long_number run rest n h long) (cuts.bad_byte no_gap no_token) =
+    absurd (no_token run rest (toks.Number n) h.cut h.spelled)
 same_refusal at text fault other (cuts.long_number run rest n h long) (cuts.long_name run' rest' h' long') =
     absurd (name_is_no_number run' n (same_longest text run' rest' (toks.Name run') run rest (toks.Number n) h' h).tok)
 same_refusal at text fault other (cuts.long_number run rest n h long) (cuts.long_number run' rest' n' h' long') = refl
@@ -66,7 +69,8 @@ cut_of_nothing at text us other e (cuts.gap piece rest cut g k) = absurd (not_em
 cut_of_nothing at text us other e (cuts.token piece rest tok h within k) = absurd (not_empty piece rest (sym e ∙ h.cut) (some_longest h))
 cut_of_nothing at text us other e (cuts.refusal fault r) = absurd (refused_no_end at text fault r e)
 
-cut_at_gap : (at : Place) (text gap behind : List ℕ) (us : List Token) (other : Stop) → text ≡ gap ++ behind → IsGap gap behind → IsCut at text us other → IsCut (place_after at gap) behind us other
+cut_at_gap : (at : Place) (text gap behind : List ℕ) (us : List Token) (other : Stop) → text ≡ gap ++ behind → IsGap gap behind → IsCut at text us other
+    → IsCut (place_after at gap) behind us other
 cut_at_gap at text gap behind us other begins g cuts.done = absurd (not_empty gap behind begins (some_gap gap behind g))
 cut_at_gap at text gap behind us other begins g (cuts.gap piece rest cut g' k) =
     let same = same_gap text piece rest gap behind cut g' begins g in
@@ -77,19 +81,23 @@ cut_at_gap at text gap behind us other begins g (cuts.refusal fault r) = absurd 
 abbrev CutBehind : Place → List ℕ → Tok → List ℕ → List Token → Stop → Type 0
 CutBehind at piece tok rest us other = (more : List Token) × (us ≡ record { tok = tok; at = at } ∷ more) × IsCut (place_after at piece) rest more other
 
-cut_at_token : (at : Place) (text front behind : List ℕ) (t : Tok) (us : List Token) (other : Stop) → IsLongest text front behind t → IsWithinLimits front t → IsCut at text us other → CutBehind at front t behind us other
+cut_at_token : (at : Place) (text front behind : List ℕ) (t : Tok) (us : List Token) (other : Stop) → IsLongest text front behind t → IsWithinLimits front t
+    → IsCut at text us other → CutBehind at front t behind us other
 cut_at_token at text front behind t us other h short cuts.done = absurd (not_empty front behind h.cut (some_longest h))
 cut_at_token at text front behind t us other h short (cuts.gap piece rest cut g k) = absurd (no_gap_before_token text front behind piece rest t h cut g)
 cut_at_token at text front behind t us other h short (cuts.token {ts = more} piece rest tok h' within k) =
     let same = same_longest text piece rest tok front behind t h' h in
-    let first : ◌≡◌ {A = Token} (record { tok = tok; at = at }) (record { tok = t; at = at }) = ap (λ (x : Tok). let found : Token = record { tok = x; at = at } in found) same.tok in (
+    let first : ◌≡◌ {A = Token} (record { tok = tok; at = at }) (record { tok = t; at = at }) =
+    ap (λ (x : Tok). let found : Token = record { tok = x; at = at } in found) same.tok in (
       more,
       ap (λ (x : Token). x ∷ more) first,
-      subst (λ (p : List ℕ). IsCut (place_after at p) behind more other) same.piece (subst (λ (r : List ℕ). IsCut (place_after at piece) r more other) same.rest k),
+      subst (λ (p : List ℕ). IsCut (place_after at p) behind more other) same.piece
+          (subst (λ (r : List ℕ). IsCut (place_after at piece) r more other) same.rest k),
     )
 cut_at_token at text front behind t us other h short (cuts.refusal fault r) = absurd (refused_no_token at text fault front behind t r h short)
 
-cut_at_refusal : (at : Place) (text : List ℕ) (fault : LexFault) (us : List Token) (other : Stop) → Refuses at text fault → IsCut at text us other → (us ≡ []) × (other ≡ cuts.refused fault)
+cut_at_refusal : (at : Place) (text : List ℕ) (fault : LexFault) (us : List Token) (other : Stop) → Refuses at text fault → IsCut at text us other → (us ≡ [])
+    × (other ≡ cuts.refused fault)
 cut_at_refusal at text fault us other r cuts.done = absurd (refused_no_end at text fault r refl)
 cut_at_refusal at text fault us other r (cuts.gap piece rest cut g k) = absurd (refused_no_gap at text fault piece rest r cut g)
 cut_at_refusal at text fault us other r (cuts.token piece rest tok h within k) = absurd (refused_no_token at text fault piece rest tok r h within)
@@ -122,13 +130,18 @@ underway_at_start text = record { completes = λ more stop k. k; place = refl }
 place_past : (at : Place) (text : List ℕ) (len : ℕ) → place_after (place_after at (take len text)) (drop len text) ≡ place_after at text
 place_past at text len = sym (fold-append place_behind at (take len text) (drop len text)) ∙ ap (place_after at) (take-append-drop len text)
 
-pub underway_past : (text : List ℕ) (old new : List Token) (at : Place) (rest : List ℕ) (len : ℕ) → Underway text old at rest → Takes at rest len old new → Underway text new (place_after at (take len rest)) (drop len rest)
+pub underway_past : (text : List ℕ) (old new : List Token) (at : Place) (rest : List ℕ) (len : ℕ) → Underway text old at rest → Takes at rest len old new
+    → Underway text new (place_after at (take len rest)) (drop len rest)
 underway_past text old new at rest len so_far taken =
     record {
       completes = λ more stop k.
           ⊎_elim
-          (λ (gap : TakesGap rest len old new). subst (λ (ts : List Token). IsCut start text (ts ++ more) stop) (sym gap.kept) (so_far.completes more stop (cuts.gap (take len rest) (drop len rest) (sym (take-append-drop len rest)) gap.gap k)))
-          (λ (token : TakesToken at rest len old new). subst (λ (ts : List Token). IsCut start text (ts ++ more) stop) (sym token.added) (subst (λ (ts : List Token). IsCut start text ts stop) (sym (append_assoc old (record { tok = token.tok; at = at } ∷ []) more)) (so_far.completes (record { tok = token.tok; at = at } ∷ more) stop (cuts.token (take len rest) (drop len rest) token.tok token.longest token.within k))))
+          (λ (gap : TakesGap rest len old new). subst (λ (ts : List Token). IsCut start text (ts ++ more) stop) (sym gap.kept)
+          (so_far.completes more stop (cuts.gap (take len rest) (drop len rest) (sym (take-append-drop len rest)) gap.gap k)))
+          (λ (token : TakesToken at rest len old new). subst (λ (ts : List Token). IsCut start text (ts ++ more) stop) (sym token.added)
+          (subst (λ (ts : List Token). IsCut start text ts stop) (sym (append_assoc old (record { tok = token.tok; at = at } ∷ []) more))
+          (so_far.completes (record { tok = token.tok; at = at } ∷ more) stop
+          (cuts.token (take len rest) (drop len rest) token.tok token.longest token.within k))))
           taken;
       place = place_past at rest len ∙ so_far.place;
     }
@@ -137,7 +150,8 @@ underway_past text old new at rest len so_far taken =
 pub underway_at_end : (text : List ℕ) (ts : List Token) (at : Place) → Underway text ts at [] → IsCut start text ts cuts.whole
 underway_at_end text ts at h = subst (λ (us : List Token). IsCut start text us cuts.whole) (append-nil ts) (h.completes [] cuts.whole cuts.done)
 
-pub underway_at_refusal : (text : List ℕ) (ts : List Token) (at : Place) (rest : List ℕ) (fault : LexFault) → Underway text ts at rest → Refuses at rest fault → IsRefused text fault
+pub underway_at_refusal : (text : List ℕ) (ts : List Token) (at : Place) (rest : List ℕ) (fault : LexFault) → Underway text ts at rest → Refuses at rest fault
+    → IsRefused text fault
 underway_at_refusal text ts at rest fault h r = (ts ++ [], h.completes [] (cuts.refused fault) (cuts.refusal fault r))
 
 pub closed_at_end : (text : List ℕ) (ts : List Token) (at : Place) → Underway text ts at [] → ts ++ record { tok = toks.End; at = at } ∷ [] ≡ closed text ts
@@ -162,9 +176,11 @@ ended_behind : (t : Token) (ts : List Token) (end : Token) → t.tok ≢ toks.En
 ended_behind t [] end apart h = (apart, h)
 ended_behind t (u ∷ ts) end apart h = (apart, h)
 
-pub ended_cut : (at : Place) (text : List ℕ) (ts : List Token) (stop : Stop) (end : Place) → IsCut at text ts stop → IsEnded (ts ++ record { tok = toks.End; at = end } ∷ [])
+pub ended_cut : (at : Place) (text : List ℕ) (ts : List Token) (stop : Stop) (end : Place) → IsCut at text ts stop
+    → IsEnded (ts ++ record { tok = toks.End; at = end } ∷ [])
 ended_cut at text ts stop end cuts.done = refl
 ended_cut at text ts stop end (cuts.gap piece rest cut g k) = ended_cut (place_after at piece) rest ts stop end k
 ended_cut at text ts stop end (cuts.token {ts = more} piece rest tok h within k) =
-    ended_behind (record { tok = tok; at = at }) more (record { tok = toks.End; at = end }) (spelled_no_end piece tok h.spelled) (ended_cut (place_after at piece) rest more stop end k)
+    ended_behind (record { tok = tok; at = at }) more (record { tok = toks.End; at = end }) (spelled_no_end piece tok h.spelled)
+    (ended_cut (place_after at piece) rest more stop end k)
 ended_cut at text ts stop end (cuts.refusal fault r) = refl

@@ -117,7 +117,8 @@ spelled_by_digit p (toks.Sign s) h digit =
     absurd (false≢true (sym (sign_begins s).no_digit ∙ ap (λ q. is_ascii_digit (first_of q)) (sym h) ∙ digit))
 spelled_by_digit p toks.End h digit = absurd h
 
-pub spelled_by_other : (p : List ℕ) (t : Tok) → Spells p t → is_letter (first_of p) ≡ false → is_ascii_digit (first_of p) ≡ false → (s : Sign) × (p ≡ sign_text s)
+pub spelled_by_other : (p : List ℕ) (t : Tok) → Spells p t → is_letter (first_of p) ≡ false → is_ascii_digit (first_of p) ≡ false → (s : Sign)
+    × (p ≡ sign_text s)
 spelled_by_other p (toks.Name name) h letter digit = absurd (false≢true (sym letter ∙ identifier_begins p h.0))
 spelled_by_other p (toks.Number n) h letter digit = absurd (false≢true (sym digit ∙ numeral_begins p h.0))
 spelled_by_other p (toks.Word w) h letter digit =
@@ -128,9 +129,12 @@ spelled_by_other p toks.End h letter digit = absurd h
 -- No token begins as a blank or a comment does.
 pub spelled_by_blank : (p : List ℕ) (t : Tok) → Spells p t → (is_blank (first_of p) ≡ true) ⊎ (first_of p ≡ 47) → ⊥
 spelled_by_blank p t h gap =
-    let low : first_of p ≤ 47 = ⊎_elim (λ (blank : is_blank (first_of p) ≡ true). let l : first_of p ≤ 32 = blank_is_low (first_of p) blank in omega arith) (λ (slash : first_of p ≡ 47). omega arith) gap in
-    let letter : is_letter (first_of p) ≡ false = false_from_ne_true (is_letter (first_of p)) (λ e. let high : 65 ≤ first_of p = letter_is_high (first_of p) e in absurd (omega arith)) in
-    let digit : is_ascii_digit (first_of p) ≡ false = false_from_ne_true (is_ascii_digit (first_of p)) (λ e. let range = digit_in_range (first_of p) e in absurd (omega arith)) in
+    let low : first_of p ≤ 47 = ⊎_elim (λ (blank : is_blank (first_of p) ≡ true). let l : first_of p ≤ 32 = blank_is_low (first_of p) blank in omega arith)
+    (λ (slash : first_of p ≡ 47). omega arith) gap in
+    let letter : is_letter (first_of p) ≡ false = false_from_ne_true (is_letter (first_of p))
+    (λ e. let high : 65 ≤ first_of p = letter_is_high (first_of p) e in absurd (omega arith)) in
+    let digit : is_ascii_digit (first_of p) ≡ false = false_from_ne_true (is_ascii_digit (first_of p))
+    (λ e. let range = digit_in_range (first_of p) e in absurd (omega arith)) in
     let (s, same) = spelled_by_other p t h letter digit in
     let begins = sign_begins s in
     ⊎_elim

@@ -32,7 +32,8 @@ gap_len-gap gap rest (cuts.comment {body} clean ends) =
     let run = front_is_run in_line body rest clean (line_end_stops rest ends) in (omega (arith, run), omega arith)
 
 -- a text has one gap at its front
-pub same_gap : (text gap rest other behind : List ℕ) → text ≡ gap ++ rest → IsGap gap rest → text ≡ other ++ behind → IsGap other behind → (gap ≡ other) × (rest ≡ behind)
+pub same_gap : (text gap rest other behind : List ℕ) → text ≡ gap ++ rest → IsGap gap rest → text ≡ other ++ behind → IsGap other behind → (gap ≡ other)
+    × (rest ≡ behind)
 same_gap text gap rest other behind cut h cut' k =
     same_split text gap rest other behind cut cut'
     (sym (gap_len-gap gap rest h).0 ∙ ap gap_len (sym cut ∙ cut') ∙ (gap_len-gap other behind k).0)

@@ -29,7 +29,8 @@ pub record Same (front behind : List ℕ) (t : Tok) (other left : List ℕ) (u :
   pub rest : behind ≡ left
   pub tok : t ≡ u
 
-pub same_longest : (text piece rest : List ℕ) (tok : Tok) (other behind : List ℕ) (t : Tok) → IsLongest text piece rest tok → IsLongest text other behind t → Same piece rest tok other behind t
+pub same_longest : (text piece rest : List ℕ) (tok : Tok) (other behind : List ℕ) (t : Tok) → IsLongest text piece rest tok → IsLongest text other behind t
+    → Same piece rest tok other behind t
 same_longest text piece rest tok other behind t h k =
     let le = k.longest piece rest tok h.cut h.spelled in
     let ge = h.longest other behind t k.cut k.spelled in
@@ -48,10 +49,13 @@ pub no_gap_before_token : (text piece rest gap behind : List ℕ) (tok : Tok) �
 no_gap_before_token text piece rest gap behind tok h cut g =
     let same : first_of (gap ++ behind) ≡ first_of piece = ap first_of (sym cut) ∙ sym (same_first text piece rest h.cut (some_longest h)) in
     spelled_by_blank piece tok h.spelled
-    (⊎_elim (λ (blank : is_blank (first_of (gap ++ behind)) ≡ true). inl (subst (λ (b : ℕ). is_blank b ≡ true) same blank)) (λ (slash : first_of (gap ++ behind) ≡ 47). inr (sym same ∙ slash)) (gap_begins gap behind g))
+    (⊎_elim (λ (blank : is_blank (first_of (gap ++ behind)) ≡ true). inl (subst (λ (b : ℕ). is_blank b ≡ true) same blank))
+    (λ (slash : first_of (gap ++ behind) ≡ 47). inr (sym same ∙ slash)) (gap_begins gap behind g))
 
 -- a token that is the run of bytes that pass a test, where each token that begins so passes it
-longest_run : (q : ℕ → Bool) (text : List ℕ) (n : ℕ) (tok : Tok) → n ≡ prefix_len q text → ((front : List ℕ) (other : Tok) → Spells front other → first_of front ≡ first_of text → list_all q front ≡ true) → Spells (take n text) tok → IsLongest text (take n text) (drop n text) tok
+longest_run : (q : ℕ → Bool) (text : List ℕ) (n : ℕ) (tok : Tok) → n ≡ prefix_len q text
+    → ((front : List ℕ) (other : Tok) → Spells front other → first_of front ≡ first_of text → list_all q front ≡ true) → Spells (take n text) tok
+    → IsLongest text (take n text) (drop n text) tok
 longest_run q text n tok same passes spelled =
     record {
       cut = sym (take-append-drop n text);
@@ -65,17 +69,20 @@ longest_run q text n tok same passes spelled =
           omega arith;
     }
 
-pub longest_name : (text : List ℕ) (n : ℕ) (tok : Tok) → n ≡ prefix_len is_name_byte text → is_letter (first_of text) ≡ true → Spells (take n text) tok → IsLongest text (take n text) (drop n text) tok
+pub longest_name : (text : List ℕ) (n : ℕ) (tok : Tok) → n ≡ prefix_len is_name_byte text → is_letter (first_of text) ≡ true → Spells (take n text) tok
+    → IsLongest text (take n text) (drop n text) tok
 longest_name text n tok same letter =
     longest_run is_name_byte text n tok same
     (λ front other h first. identifier_goes_on front (spelled_by_letter front other h (ap is_letter first ∙ letter)))
 
-pub longest_number : (text : List ℕ) (n : ℕ) (tok : Tok) → n ≡ prefix_len is_ascii_digit text → is_ascii_digit (first_of text) ≡ true → Spells (take n text) tok → IsLongest text (take n text) (drop n text) tok
+pub longest_number : (text : List ℕ) (n : ℕ) (tok : Tok) → n ≡ prefix_len is_ascii_digit text → is_ascii_digit (first_of text) ≡ true → Spells (take n text) tok
+    → IsLongest text (take n text) (drop n text) tok
 longest_number text n tok same digit =
     longest_run is_ascii_digit text n tok same (λ front other h first. spelled_by_digit front other h (ap is_ascii_digit first ∙ digit))
 
 -- the run that a letter begins is an identifier, and the one that a digit begins is a numeral
-pub identifier_at_front : (text : List ℕ) (n : ℕ) → 0 < length text → n ≡ prefix_len is_name_byte text → is_letter (first_of text) ≡ true → is_identifier (take n text) ≡ true
+pub identifier_at_front : (text : List ℕ) (n : ℕ) → 0 < length text → n ≡ prefix_len is_name_byte text → is_letter (first_of text) ≡ true
+    → is_identifier (take n text) ≡ true
 identifier_at_front [] n some same letter = absurd (omega arith)
 identifier_at_front (b ∷ bs) n some same letter =
     let first : is_name_byte b ≡ true = or_left (is_letter b) (is_ascii_digit b) letter in
@@ -84,9 +91,11 @@ identifier_at_front (b ∷ bs) n some same letter =
 
 pub digits_at_front : (text : List ℕ) (n : ℕ) → n ≡ prefix_len is_ascii_digit text → AllDigits 10 (take n text)
 digits_at_front text n same =
-    subst (λ (k : ℕ). AllDigits 10 (take k text)) (sym same) (AllDigits-from_all (take (prefix_len is_ascii_digit text) text) (run_of is_ascii_digit text).passes)
+    subst (λ (k : ℕ). AllDigits 10 (take k text)) (sym same) (AllDigits-from_all (take (prefix_len is_ascii_digit text) text)
+    (run_of is_ascii_digit text).passes)
 
-pub numeral_at_front : (text : List ℕ) (n : ℕ) → 0 < length text → n ≡ prefix_len is_ascii_digit text → is_ascii_digit (first_of text) ≡ true → IsNumeral 10 (take n text)
+pub numeral_at_front : (text : List ℕ) (n : ℕ) → 0 < length text → n ≡ prefix_len is_ascii_digit text → is_ascii_digit (first_of text) ≡ true
+    → IsNumeral 10 (take n text)
 numeral_at_front text n some same digit =
     let one = some_run is_ascii_digit text some digit in
     let run = run_of is_ascii_digit text in
@@ -94,7 +103,8 @@ numeral_at_front text n some same digit =
     (omega arith, digits_at_front text n same)
 
 -- a run over the limit is refused
-pub long_name_at_front : (at : Place) (text : List ℕ) (n : ℕ) → 0 < length text → n ≡ prefix_len is_name_byte text → is_letter (first_of text) ≡ true → 64 < n → Refuses at text (faults.LongName at)
+pub long_name_at_front : (at : Place) (text : List ℕ) (n : ℕ) → 0 < length text → n ≡ prefix_len is_name_byte text → is_letter (first_of text) ≡ true → 64 < n
+    → Refuses at text (faults.LongName at)
 long_name_at_front at text n some same letter long =
     let run = run_of is_name_byte text in
     let len = length-take-le n text (omega (arith, run.within)) in
@@ -105,7 +115,8 @@ long_name_at_front at text n some same letter long =
     ) in
     cuts.long_name (take n text) (drop n text) (longest_name text n (toks.Name (take n text)) same letter spelled) (omega arith)
 
-pub long_number_at_front : (at : Place) (text : List ℕ) (n : ℕ) → 0 < length text → n ≡ prefix_len is_ascii_digit text → is_ascii_digit (first_of text) ≡ true → 4 < n → Refuses at text (faults.LongNumber at)
+pub long_number_at_front : (at : Place) (text : List ℕ) (n : ℕ) → 0 < length text → n ≡ prefix_len is_ascii_digit text → is_ascii_digit (first_of text) ≡ true
+    → 4 < n → Refuses at text (faults.LongNumber at)
 long_number_at_front at text n some same digit long =
     let value = digits_value 10 (take n text) in
     let run = run_of is_ascii_digit text in
@@ -114,7 +125,8 @@ long_number_at_front at text n some same digit long =
     cuts.long_number (take n text) (drop n text) value (longest_number text n (toks.Number value) same digit spelled) (omega arith)
 
 -- a sign, where neither a letter nor a digit begins the text
-pub longest_sign : (text : List ℕ) (n : ℕ) (s : Sign) → is_letter (first_of text) ≡ false → is_ascii_digit (first_of text) ≡ false → sign_at text ≡ Some s → n ≡ length (sign_text s) → IsLongest text (take n text) (drop n text) (toks.Sign s)
+pub longest_sign : (text : List ℕ) (n : ℕ) (s : Sign) → is_letter (first_of text) ≡ false → is_ascii_digit (first_of text) ≡ false → sign_at text ≡ Some s
+    → n ≡ length (sign_text s) → IsLongest text (take n text) (drop n text) (toks.Sign s)
 longest_sign text n s letter digit found same_len =
     let left = drop (length (sign_text s)) text in
     let cut = sign_at-some text s found in

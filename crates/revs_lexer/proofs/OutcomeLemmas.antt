@@ -49,21 +49,26 @@ memory_or_not (faults.BadByte at) = inr (λ e. absurd cc)
 memory_or_not (faults.LongName at) = inr (λ e. absurd cc)
 memory_or_not (faults.LongNumber at) = inr (λ e. absurd cc)
 
-pub only_tokens : {V : Type 0} (items : V → List Token) (text : List ℕ) (r : Result V LexFault) → GivesTokens items text r → GivesRefusal text r → (ts : List Token) → IsTokens text ts → MatchResult r (λ all. items all ≡ closed text ts) (λ fault. fault ≡ faults.Memory)
+pub only_tokens : {V : Type 0} (items : V → List Token) (text : List ℕ) (r : Result V LexFault) → GivesTokens items text r → GivesRefusal text r
+    → (ts : List Token) → IsTokens text ts → MatchResult r (λ all. items all ≡ closed text ts) (λ fault. fault ≡ faults.Memory)
 only_tokens items text (Ok all) (us, k, same) f ts h = same ∙ ap (closed text) (IsTokens-same text us ts k h)
 only_tokens items text (Err fault) t f ts h =
-    ⊎_elim (λ (memory : fault ≡ faults.Memory). memory) (λ (own : fault ≢ faults.Memory). absurd (refused_has_no_tokens text fault ts (f own) h)) (memory_or_not fault)
+    ⊎_elim (λ (memory : fault ≡ faults.Memory). memory) (λ (own : fault ≢ faults.Memory). absurd (refused_has_no_tokens text fault ts (f own) h))
+    (memory_or_not fault)
 
-pub only_refusal : {V : Type 0} (items : V → List Token) (text : List ℕ) (r : Result V LexFault) → GivesTokens items text r → GivesRefusal text r → (fault : LexFault) → IsRefused text fault → IsErrOf r fault ⊎ IsErrOf r faults.Memory
+pub only_refusal : {V : Type 0} (items : V → List Token) (text : List ℕ) (r : Result V LexFault) → GivesTokens items text r → GivesRefusal text r
+    → (fault : LexFault) → IsRefused text fault → IsErrOf r fault ⊎ IsErrOf r faults.Memory
 only_refusal items text (Ok all) (us, k, same) f fault h = absurd (refused_has_no_tokens text fault us h k)
 only_refusal {V} items text (Err found) t f fault h =
     let answer : LexFault → Result V LexFault = λ e. Err e in
-    ⊎_elim (λ (memory : found ≡ faults.Memory). inr (ap answer memory)) (λ (own : found ≢ faults.Memory). inl (ap answer (IsRefused-same text found fault (f own) h))) (memory_or_not found)
+    ⊎_elim (λ (memory : found ≡ faults.Memory). inr (ap answer memory)) (λ (own : found ≢ faults.Memory). inl
+    (ap answer (IsRefused-same text found fault (f own) h))) (memory_or_not found)
 
 pub ended : {V : Type 0} (items : V → List Token) (text : List ℕ) (r : Result V LexFault) → GivesTokens items text r → IfOk r (λ all. IsEnded (items all))
 ended items text (Ok all) (us, k, same) = subst IsEnded (sym same) (closed_is_ended text us k)
 ended items text (Err fault) t = tt
 
-pub few : {V : Type 0} (items : V → List Token) (text : List ℕ) (r : Result V LexFault) → GivesTokens items text r → IfOk r (λ all. length (items all) ≤ length text + 1)
+pub few : {V : Type 0} (items : V → List Token) (text : List ℕ) (r : Result V LexFault) → GivesTokens items text r
+    → IfOk r (λ all. length (items all) ≤ length text + 1)
 few items text (Ok all) (us, k, same) = subst (λ (ts : List Token). length ts ≤ length text + 1) (sym same) (length-closed text us k)
 few items text (Err fault) t = tt

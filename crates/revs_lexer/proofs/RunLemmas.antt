@@ -59,7 +59,8 @@ some_run q [] some e = absurd (omega arith)
 some_run q (b ∷ bs) some e = let longer = prefix_len-yes q b bs e in omega arith
 
 -- one text has one front of a length
-pub same_split : (text front behind other rest : List ℕ) → text ≡ front ++ behind → text ≡ other ++ rest → length front ≡ length other → (front ≡ other) × (behind ≡ rest)
+pub same_split : (text front behind other rest : List ℕ) → text ≡ front ++ behind → text ≡ other ++ rest → length front ≡ length other → (front ≡ other)
+    × (behind ≡ rest)
 same_split text front behind other rest cut cut' same = (
   sym (take_at front behind (length front) refl) ∙ ap (take (length front)) (sym cut ∙ cut') ∙ take_at other rest (length front) (sym same),
   sym (drop_at front behind (length front) refl) ∙ ap (drop (length front)) (sym cut ∙ cut') ∙ drop_at other rest (length front) (sym same),

@@ -69,7 +69,8 @@ number_front at text some digit =
           (longest_number text n (toks.Number value) refl digit (numeral_at_front text n some refl digit, refl)) (omega arith)
     ]
 
-sign_front : (at : Place) (text : List ℕ) → 0 < length text → HasNoGap text → is_letter (first_of text) ≡ false → is_ascii_digit (first_of text) ≡ false → Front at text
+sign_front : (at : Place) (text : List ℕ) → 0 < length text → HasNoGap text → is_letter (first_of text) ≡ false → is_ascii_digit (first_of text) ≡ false
+    → Front at text
 sign_front at text some no_gap letter digit = elim (cases_Option (sign_at text)) [
   | inl found ↦ (let n = length (sign_text found.0) in
       token_first (take n text) (drop n text) (toks.Sign found.0) (longest_sign text n found.0 letter digit found.1 refl) tt)
@@ -107,7 +108,8 @@ shorter piece rest text k cut some few =
     let whole = ap length cut ∙ length-append piece rest in
     omega arith
 
-go_on : (k : ℕ) → ((at : Place) (text : List ℕ) → length text ≤ k → HasCut at text) → (at : Place) (text : List ℕ) → length text ≤ suc k → Front at text → HasCut at text
+go_on : (k : ℕ) → ((at : Place) (text : List ℕ) → length text ≤ k → HasCut at text) → (at : Place) (text : List ℕ) → length text ≤ suc k → Front at text
+    → HasCut at text
 go_on k rec at text few (gap_first piece rest cut gap) =
     let left = rec (place_after at piece) rest (shorter piece rest text k cut (some_gap piece rest gap) few) in
     record { tokens = left.tokens; stop = left.stop; is = cuts.gap piece rest cut gap left.is }

@@ -17,12 +17,14 @@ use Rattle.revs_lexer.specs.declared.sign.Sign.TheVariants as signs
 
 abbrev pub all_words : List Word
 all_words =
-    words.Main ∷ words.Let ∷ words.Fun ∷ words.Clean ∷ words.Assert ∷ words.Append ∷ words.Rotate ∷ words.Reg ∷ words.True ∷ words.False ∷ words.Bool ∷ words.For ∷ words.In ∷ words.Do ∷ words.Revs ∷ []
+    words.Main ∷ words.Let ∷ words.Fun ∷ words.Clean ∷ words.Assert ∷ words.Append ∷ words.Rotate ∷ words.Reg ∷ words.True ∷ words.False ∷ words.Bool ∷
+    words.For ∷ words.In ∷ words.Do ∷ words.Revs ∷ []
 
 -- no sign before a longer one
 abbrev pub all_signs : List Sign
 all_signs =
-    signs.Xor ∷ signs.And ∷ signs.Assign ∷ signs.Arrow ∷ signs.DotDot ∷ signs.OpenRound ∷ signs.CloseRound ∷ signs.OpenSquare ∷ signs.CloseSquare ∷ signs.OpenCurly ∷ signs.CloseCurly ∷ signs.Colon ∷ signs.Semi ∷ signs.Equal ∷ signs.Dot ∷ signs.Plus ∷ signs.Minus ∷ []
+    signs.Xor ∷ signs.And ∷ signs.Assign ∷ signs.Arrow ∷ signs.DotDot ∷ signs.OpenRound ∷ signs.CloseRound ∷ signs.OpenSquare ∷ signs.CloseSquare ∷
+    signs.OpenCurly ∷ signs.CloseCurly ∷ signs.Colon ∷ signs.Semi ∷ signs.Equal ∷ signs.Dot ∷ signs.Plus ∷ signs.Minus ∷ []
 
 -- the first word that is spelled so
 abbrev pub word_of : List ℕ → Option Word
@@ -122,7 +124,8 @@ list_all_at {X} p (y ∷ ys) x all h =
     let parts = and_parts (p y) (list_all p ys) all in
     ⊎_elim (λ (same : x ≡ y). subst (λ (z : X). p z ≡ true) (sym same) parts.0) (λ (later : Among x ys). list_all_at p ys x parts.1 later) h
 
-find_longest : (p : Sign → Bool) (xs : List Sign) (s other : Sign) → is_descending xs ≡ true → find p xs ≡ Some s → Among other xs → p other ≡ true → length (sign_text other) ≤ length (sign_text s)
+find_longest : (p : Sign → Bool) (xs : List Sign) (s other : Sign) → is_descending xs ≡ true → find p xs ≡ Some s → Among other xs → p other ≡ true
+    → length (sign_text other) ≤ length (sign_text s)
 find_longest p [] s other falls e h passes = absurd h
 find_longest p (y ∷ ys) s other falls e h passes =
     let parts = and_parts (list_all (λ t. nat_le (length (sign_text t)) (length (sign_text y))) ys) (is_descending ys) falls in
@@ -145,10 +148,13 @@ find_longest p (y ∷ ys) s other falls e h passes =
 pub sign_at-some : (text : List ℕ) (s : Sign) → sign_at text ≡ Some s → text ≡ sign_text s ++ drop (length (sign_text s)) text
 sign_at-some text s e = (starts_is Decides-eqb text (sign_text s) _ refl).0 (find_passes (λ t. starts_with nat_eq text (sign_text t)) all_signs s e).0
 
-pub sign_at-longest : (text : List ℕ) (s other : Sign) (rest : List ℕ) → sign_at text ≡ Some s → text ≡ sign_text other ++ rest → length (sign_text other) ≤ length (sign_text s)
+pub sign_at-longest : (text : List ℕ) (s other : Sign) (rest : List ℕ) → sign_at text ≡ Some s → text ≡ sign_text other ++ rest
+    → length (sign_text other) ≤ length (sign_text s)
 sign_at-longest text s other rest e begins =
-    find_longest (λ t. starts_with nat_eq text (sign_text t)) all_signs s other refl e (sign_among other) ((starts_is Decides-eqb text (sign_text other) _ refl).1 rest begins)
+    find_longest (λ t. starts_with nat_eq text (sign_text t)) all_signs s other refl e (sign_among other)
+    ((starts_is Decides-eqb text (sign_text other) _ refl).1 rest begins)
 
 pub sign_at-none : (text : List ℕ) → sign_at text ≡ None → (s : Sign) (rest : List ℕ) → text ≢ sign_text s ++ rest
 sign_at-none text e s rest begins =
-    false≢true (sym (find_none (λ t. starts_with nat_eq text (sign_text t)) all_signs s e (sign_among s)) ∙ (starts_is Decides-eqb text (sign_text s) _ refl).1 rest begins)
+    false≢true (sym (find_none (λ t. starts_with nat_eq text (sign_text t)) all_signs s e (sign_among s))
+    ∙ (starts_is Decides-eqb text (sign_text s) _ refl).1 rest begins)

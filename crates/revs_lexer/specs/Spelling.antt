@@ -9,6 +9,8 @@ use Rattle.revs_lexer.specs.declared.sign.Sign.{Sign}
 use Rattle.revs_lexer.specs.declared.sign.Sign.TheVariants as signs
 use Rattle.revs_lexer.specs.declared.token.Tok.{Tok}
 use Rattle.revs_lexer.specs.declared.token.Tok.TheVariants as toks
+use Rattle.revc_base.specs.declared.limits.TheConstants.{MOST_NAME_BYTES}
+use Rattle.revs_lexer.specs.declared.lexer.TheConstants.{MOST_DIGITS}
 
 -- the words, and how each is spelled
 abbrev pub word_text : Word → List ℕ
@@ -55,14 +57,15 @@ is_identifier (b ∷ bs) = is_letter b && list_all is_name_byte bs
 
 -- Which bytes spell a token, however long they are: an identifier is a word, or else a name, and digits are their value.
 abbrev pub Spells : List ℕ → Tok → Type 0
-Spells bytes (toks.Name name) = IsTrue (is_identifier bytes) × ((w : Word) → bytes ≢ word_text w) × (name ≡ bytes)
+Spells bytes (toks.Name name) = IsTrue (is_identifier bytes) × ((w : Word) → bytes ≢ word_text w)
+    × (name ≡ bytes)
 Spells bytes (toks.Number n) = IsNumeral 10 bytes × (n ≡ digits_value 10 bytes)
 Spells bytes (toks.Word w) = bytes ≡ word_text w
 Spells bytes (toks.Sign s) = bytes ≡ sign_text s
 Spells bytes toks.End = ⊥
 
--- how many bytes a token may have: 64 in a name, 4 in a number
+-- how many bytes a token may have
 abbrev pub IsWithinLimits : List ℕ → Tok → Type 0
-IsWithinLimits bytes (toks.Name name) = length bytes ≤ 64
-IsWithinLimits bytes (toks.Number n) = length bytes ≤ 4
+IsWithinLimits bytes (toks.Name name) = length bytes ≤ MOST_NAME_BYTES
+IsWithinLimits bytes (toks.Number n) = length bytes ≤ MOST_DIGITS
 IsWithinLimits bytes _ = Unit {0}

@@ -9,6 +9,8 @@ use Rattle.revs_lexer.specs.declared.token.Tok.TheVariants as toks
 use Rattle.revs_lexer.specs.declared.token.Token.{Token}
 use Rattle.revs_lexer.specs.declared.token.LexFault.{LexFault}
 use Rattle.revs_lexer.specs.declared.token.LexFault.TheVariants as faults
+use Rattle.revc_base.specs.declared.limits.TheConstants.{MOST_NAME_BYTES}
+use Rattle.revs_lexer.specs.declared.lexer.TheConstants.{MOST_DIGITS}
 
 -- the place of a text's first byte
 abbrev pub start : Place
@@ -17,7 +19,8 @@ start = record { line = 1; column = 1 }
 -- the place behind a byte: a line feed ends its line
 abbrev pub place_behind : Place → ℕ → Place
 place_behind at b =
-    if is_line_feed b then record { line = at.line + 1; column = 1 } else record { line = at.line; column = at.column + 1 }
+    if is_line_feed b then record { line = at.line + 1; column = 1 }
+    else record { line = at.line; column = at.column + 1 }
 
 -- the place behind bytes that begin at a place
 abbrev pub place_after : Place → List ℕ → Place
@@ -32,7 +35,8 @@ IsLineEnd (b ∷ _) = IsTrue (is_line_feed b)
 pub data IsGap : List ℕ → List ℕ → Type 0 where
   blank : {b : ℕ} {rest : List ℕ} → IsTrue (is_blank b) → IsGap (b ∷ []) rest
   -- `//` and everything before the next line feed or the end of the text
-  comment : {body rest : List ℕ} → IsTrue (list_all (λ b. not (is_line_feed b)) body) → IsLineEnd rest → IsGap (codes "//" ++ body) rest
+  comment : {body rest : List ℕ} → IsTrue (list_all (λ b. not (is_line_feed b)) body)
+      → IsLineEnd rest → IsGap (codes "//" ++ body) rest
 
 -- Neither a blank nor a comment stands at the front of the text.
 abbrev pub HasNoGap : List ℕ → Type 0
@@ -54,12 +58,14 @@ pub data Refuses : Place → List ℕ → LexFault → Type 0 where
   -- its first byte begins no blank or comment and no token
   bad_byte : {at : Place} {b : ℕ} {bytes : List ℕ}
       → HasNoGap (b ∷ bytes) → HasNoToken (b ∷ bytes) → Refuses at (b ∷ bytes) (faults.BadByte at)
-  -- its longest token is a name of more than 64 bytes
+  -- its longest token is a name of more bytes than names have
   long_name : {at : Place} {text : List ℕ} (run rest : List ℕ)
-      → IsLongest text run rest (toks.Name run) → 64 < length run → Refuses at text (faults.LongName at)
-  -- its longest token is a number of more than 4 digits
+      → IsLongest text run rest (toks.Name run) → MOST_NAME_BYTES < length run
+      → Refuses at text (faults.LongName at)
+  -- its longest token is a number of more digits than numbers have
   long_number : {at : Place} {text : List ℕ} (run rest : List ℕ) (n : ℕ)
-      → IsLongest text run rest (toks.Number n) → 4 < length run → Refuses at text (faults.LongNumber at)
+      → IsLongest text run rest (toks.Number n) → MOST_DIGITS < length run
+      → Refuses at text (faults.LongNumber at)
 
 -- Where the cutting of a text ends: at its end, or at the first refusal.
 pub data Stop : Type 0 where
@@ -75,11 +81,14 @@ pub data IsCut : Place → List ℕ → List Token → Stop → Type 0 where
       → text ≡ piece ++ rest → IsGap piece rest
       → IsCut (place_after at piece) rest ts stop → IsCut at text ts stop
   -- the longest token is taken
-  token : {at : Place} {text : List ℕ} {ts : List Token} {stop : Stop} (piece rest : List ℕ) (tok : Tok)
+  token : {at : Place} {text : List ℕ} {ts : List Token} {stop : Stop} (piece rest : List ℕ)
+      (tok : Tok)
       → IsLongest text piece rest tok → IsWithinLimits piece tok
-      → IsCut (place_after at piece) rest ts stop → IsCut at text (record { tok = tok; at = at } ∷ ts) stop
+      → IsCut (place_after at piece) rest ts stop
+      → IsCut at text (record { tok = tok; at = at } ∷ ts) stop
   -- what is left is refused
-  refusal : {at : Place} {text : List ℕ} (fault : LexFault) → Refuses at text fault → IsCut at text [] (refused fault)
+  refusal : {at : Place} {text : List ℕ} (fault : LexFault) → Refuses at text fault
+      → IsCut at text [] (refused fault)
 
 -- These are the tokens of the text, without `End`.
 abbrev pub IsTokens : List ℕ → List Token → Type 0
@@ -108,4 +117,5 @@ OneOutcome =
 -- Each text has a list of tokens or a first refusal.
 abbrev pub SomeOutcome : Type 0
 SomeOutcome =
-    (text : List ℕ) → ((ts : List Token) × IsTokens text ts) ⊎ ((fault : LexFault) × IsRefused text fault)
+    (text : List ℕ) → ((ts : List Token) × IsTokens text ts)
+    ⊎ ((fault : LexFault) × IsRefused text fault)

@@ -4,6 +4,7 @@ ghost use Rattle.std.specs.Char.{is_ascii_digit};
 ghost use Rattle.std.specs.List.{find, prefix_len, starts_with};
 ghost use Rattle.std.specs.Str.{bytes_eq};
 ghost use Rattle.std.specs.Str.Parse.{AllDigits, digits_value};
+ghost use Rattle.revc_base.specs.declared.limits.TheConstants.{MOST_NAME_BYTES};
 ghost use Rattle.revs_lexer.specs.Bytes.{is_blank, is_line_feed, is_letter, is_name_byte};
 ghost use Rattle.revs_lexer.specs.Pieces.{Takes};
 ghost use Rattle.revs_lexer.specs.Spelling.{word_text, sign_text, is_identifier, Spells, IsWithinLimits};
@@ -18,7 +19,7 @@ use revc_base::{Memory, Place, Text};
 use std::alloc::Global;
 
 /// The most digits that a number has.
-const MOST_DIGITS: usize = 4;
+pub const MOST_DIGITS: usize = 4;
 
 fn is_blank(byte: u8) -> bool
     ensures { result ≡ is_blank byte }
@@ -92,7 +93,7 @@ fn number_len(text: &[u8]) -> usize
 // The word or the name that the bytes spell.
 fn name(alloc: Global, bytes: &[u8]) -> Result<Tok, Memory>
     requires identifier { IsTrue (is_identifier bytes.now) }
-    requires few { length bytes.now ≤ 64 }
+    requires few { length bytes.now ≤ MOST_NAME_BYTES }
     ensures spelled { IfOk result (Spells bytes.now) }
     ensures within { IfOk result (IsWithinLimits bytes.now) }
 {
@@ -105,7 +106,7 @@ fn name(alloc: Global, bytes: &[u8]) -> Result<Tok, Memory>
 // The value of at most 4 digits.
 fn number(digits: &[u8]) -> u32
     requires digits { AllDigits 10 digits.now }
-    requires few { length digits.now ≤ 4 }
+    requires few { length digits.now ≤ MOST_DIGITS }
     ensures { result ≡ digits_value 10 digits.now }
 {
     let mut value = 0;
@@ -120,7 +121,8 @@ fn token(alloc: Global, text: &[u8], at: Place) -> Result<(Tok, usize), LexFault
     requires some { 0 < length text.now }
     requires no_gap { HasNoGap text.now }
     ensures in_range { IfOk result (λ found. (0 < found.1) × (found.1 ≤ length text.now)) }
-    ensures longest { IfOk result (λ found. IsLongest text.now (take found.1 text.now) (drop found.1 text.now) found.0) }
+    ensures longest { IfOk result (λ found. IsLongest text.now (take found.1 text.now)
+        (drop found.1 text.now) found.0) }
     ensures within { IfOk result (λ found. IsWithinLimits (take found.1 text.now) found.0) }
     ensures refused { IfErr result (λ fault. fault ≢ LexFault.Memory → Refuses at text.now fault) }
 {
@@ -186,7 +188,8 @@ fn place_after(mut at: Place, bytes: &[u8]) -> Place
 // The tokens or the first refusal.
 fn cut(alloc: Global, text: &[u8]) -> Result<Vec<Token>, LexFault>
     requires { length text.now + 1 < 2 ^ 32 }
-    ensures tokens { IfOk result (λ all. (ts : List Token) × IsTokens text.now ts × (all.items ≡ closed text.now ts)) }
+    ensures tokens { IfOk result (λ all. (ts : List Token) × IsTokens text.now ts
+        × (all.items ≡ closed text.now ts)) }
     ensures refused { IfErr result (λ fault. fault ≢ LexFault.Memory → IsRefused text.now fault) }
 {
     let mut tokens = Vec::new(alloc);
@@ -210,7 +213,8 @@ pub fn tokens(alloc: Global, text: &[u8]) -> Result<Vec<Token>, LexFault>
     requires { length text.now + 1 < 2 ^ 32 }
 
     // The tokens of the text and no others.
-    ensures tokens { IfOk result (λ all. (ts : List Token) × IsTokens text.now ts × (all.items ≡ closed text.now ts)) }
+    ensures tokens { IfOk result (λ all. (ts : List Token) × IsTokens text.now ts
+        × (all.items ≡ closed text.now ts)) }
     ensures only_tokens { (ts : List Token) → IsTokens text.now ts →
         MatchResult result (λ all. all.items ≡ closed text.now ts) (λ fault. fault ≡ LexFault.Memory) }
 

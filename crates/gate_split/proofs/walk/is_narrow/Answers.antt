@@ -11,8 +11,10 @@ never e = absurd (cc)
 pub returns-then-controls-le2 : goal.returns-then-controls-le2
 returns-then-controls-le2 c =
     let few = rw c.controls.ensures.controls at c.if-controls-le2.true in (
-      λ r. narrow_is c.args.gate.now c.in-Flip.field-0 (sym c.op.ensures.op ∙ c.in-Flip.is) few (rw c.controls-then-controls-le2.ensures.controls at (sym c.are_positive.ensures ∙ r)),
-      λ s. c.are_positive.ensures ∙ ap (list_all (λ (control : Control). control.positive)) c.controls-then-controls-le2.ensures.controls ∙ narrow_is_positive c.args.gate.now s,
+      λ r. narrow_is c.args.gate.now c.in-Flip.field-0 (sym c.op.ensures.op ∙ c.in-Flip.is) few
+          (rw c.controls-then-controls-le2.ensures.controls at (sym c.are_positive.ensures ∙ r)),
+      λ s. c.are_positive.ensures ∙ ap (list_all (λ (control : Control). control.positive)) c.controls-then-controls-le2.ensures.controls
+          ∙ narrow_is_positive c.args.gate.now s,
     )
 
 pub returns-else-controls-le2 : goal.returns-else-controls-le2

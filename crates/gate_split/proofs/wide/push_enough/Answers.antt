@@ -7,4 +7,5 @@ pub flip-requires : goal.flip-requires
 flip-requires c = different_of c.requires.serves.0 c.args.controls.now c.args.target c.requires.serves.1.gate
 
 pub push_over_idle-requires-clause-different : goal.push_over_idle-requires-clause-different
-push_over_idle-requires-clause-different c = cut_differ c.requires.serves.0 c.args.controls.now c.args.target c.args.idle.now c.requires.serves.1 (omega arith) c.requires.enough
+push_over_idle-requires-clause-different c = cut_differ c.requires.serves.0 c.args.controls.now c.args.target c.args.idle.now c.requires.serves.1
+    (omega arith) c.requires.enough

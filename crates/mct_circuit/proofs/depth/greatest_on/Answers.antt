@@ -11,13 +11,16 @@ pub greatest_on_controls-of_controls-requires : goal.greatest_on_controls-of_con
 greatest_on_controls-of_controls-requires c = rw c.controls.ensures.controls (controls_below _ _ _ c.requires)
 
 pub bounds-depths-target : goal.bounds-depths-target
-bounds-depths-target c = (rw (sym c.op.ensures.op ∙ c.in-Flip.is) at (AllByRecursion-right (λ line. line < length c.args.depths.now) _ (targets_of c.args.gate.now.op) c.requires)).0
+bounds-depths-target c = (rw (sym c.op.ensures.op ∙ c.in-Flip.is) at (AllByRecursion-right (λ line. line < length c.args.depths.now) _
+    (targets_of c.args.gate.now.op) c.requires)).0
 
 pub bounds-depths-first : goal.bounds-depths-first
-bounds-depths-first c = (rw (sym c.op.ensures.op ∙ c.in-Swap.is) at (AllByRecursion-right (λ line. line < length c.args.depths.now) _ (targets_of c.args.gate.now.op) c.requires)).0
+bounds-depths-first c = (rw (sym c.op.ensures.op ∙ c.in-Swap.is) at (AllByRecursion-right (λ line. line < length c.args.depths.now) _
+    (targets_of c.args.gate.now.op) c.requires)).0
 
 pub bounds-depths-second : goal.bounds-depths-second
-bounds-depths-second c = (rw (sym c.op.ensures.op ∙ c.in-Swap.is) at (AllByRecursion-right (λ line. line < length c.args.depths.now) _ (targets_of c.args.gate.now.op) c.requires)).1.0
+bounds-depths-second c = (rw (sym c.op.ensures.op ∙ c.in-Swap.is) at (AllByRecursion-right (λ line. line < length c.args.depths.now) _
+    (targets_of c.args.gate.now.op) c.requires)).1.0
 
 pub returns-in-Flip : goal.returns-in-Flip
 returns-in-Flip c =

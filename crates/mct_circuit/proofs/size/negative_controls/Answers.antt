@@ -10,7 +10,9 @@ loop-control-preserved c =
     let here : Control = get_or c.args.controls.now c.loop-control.control-index (record { line = 0; positive = false }) in
     let low : here.line < 2 ^ 32 = omega arith in
     let one : bool_byte (not here.positive) ≤ 1 = at_most_one (not here.positive) in (
-      rw c.from-count.ensures (counted (λ (control : Control). not control.positive) c.args.controls.now c.loop-control.control-index (record { line = 0; positive = false }) _ c.loop-control-test.true c.loop-control.invariant.0),
-      AllByRecursion-more (λ (control : Control). control.line < 2 ^ 32) c.args.controls.now c.loop-control.control-index (record { line = 0; positive = false }) c.loop-control-test.true low c.loop-control.invariant.1,
+      rw c.from-count.ensures (counted (λ (control : Control). not control.positive) c.args.controls.now c.loop-control.control-index
+          (record { line = 0; positive = false }) _ c.loop-control-test.true c.loop-control.invariant.0),
+      AllByRecursion-more (λ (control : Control). control.line < 2 ^ 32) c.args.controls.now c.loop-control.control-index
+          (record { line = 0; positive = false }) c.loop-control-test.true low c.loop-control.invariant.1,
       omega (arith, c.from-count.ensures),
     )

@@ -4,12 +4,20 @@ use Rattle.real_format.proofs.writer.put_constants.Goals as goal
 
 pub returns-in_err-put-clause-bytes : goal.returns-in_err-put-clause-bytes
 returns-in_err-put-clause-bytes g c =
-    failed_call c.args.buffer.now _ (codes ".constants ") ((replicate c.args.roles.inputs 45) ++ (replicate (c.args.roles.outputs + c.args.roles.work) 48 ++ replicate c.args.roles.borrowed 45)) _ _ c.from_residual.ensures.1 c.in_err-put.ensures.bytes (begun _ _ _)
+    failed_call c.args.buffer.now _ (codes ".constants ") ((replicate c.args.roles.inputs 45)
+    ++ (replicate (c.args.roles.outputs + c.args.roles.work) 48 ++ replicate c.args.roles.borrowed 45)) _ _ c.from_residual.ensures.1
+    c.in_err-put.ensures.bytes (begun _ _ _)
 
 pub returns-in_err-put_repeated-clause-bytes : goal.returns-in_err-put_repeated-clause-bytes
 returns-in_err-put_repeated-clause-bytes g c =
-    failed_call c.args.buffer.now _ (replicate c.args.roles.inputs 45) (replicate (c.args.roles.outputs + c.args.roles.work) 48 ++ replicate c.args.roles.borrowed 45) _ _ c.from_residual-in_err-put_repeated.ensures.1 c.in_err-put_repeated.ensures.bytes (step (codes ".constants ") ((replicate c.args.roles.inputs 45) ++ (replicate (c.args.roles.outputs + c.args.roles.work) 48 ++ replicate c.args.roles.borrowed 45)) c.in_ok-put.ensures.bytes (begun _ _ _))
+    failed_call c.args.buffer.now _ (replicate c.args.roles.inputs 45) (replicate (c.args.roles.outputs + c.args.roles.work) 48
+    ++ replicate c.args.roles.borrowed 45) _ _ c.from_residual-in_err-put_repeated.ensures.1 c.in_err-put_repeated.ensures.bytes
+    (step (codes ".constants ") ((replicate c.args.roles.inputs 45) ++
+    (replicate (c.args.roles.outputs + c.args.roles.work) 48 ++ replicate c.args.roles.borrowed 45)) c.in_ok-put.ensures.bytes (begun _ _ _))
 
 pub returns-clause-bytes : goal.returns-clause-bytes
 returns-clause-bytes g c =
-    last_call c.args.buffer.now _ _ _ _ c.put_started_marks.ensures.bytes (step (replicate c.args.roles.inputs 45) (replicate (c.args.roles.outputs + c.args.roles.work) 48 ++ replicate c.args.roles.borrowed 45) c.in_ok-put_repeated.ensures.bytes (step (codes ".constants ") ((replicate c.args.roles.inputs 45) ++ (replicate (c.args.roles.outputs + c.args.roles.work) 48 ++ replicate c.args.roles.borrowed 45)) c.in_ok-put.ensures.bytes (begun _ _ _)))
+    last_call c.args.buffer.now _ _ _ _ c.put_started_marks.ensures.bytes
+    (step (replicate c.args.roles.inputs 45) (replicate (c.args.roles.outputs + c.args.roles.work) 48 ++ replicate c.args.roles.borrowed 45)
+    c.in_ok-put_repeated.ensures.bytes (step (codes ".constants ") ((replicate c.args.roles.inputs 45)
+    ++ (replicate (c.args.roles.outputs + c.args.roles.work) 48 ++ replicate c.args.roles.borrowed 45)) c.in_ok-put.ensures.bytes (begun _ _ _)))

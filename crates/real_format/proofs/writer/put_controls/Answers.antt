@@ -11,16 +11,19 @@ loop-control-init g c = writing_begun _ _ _ _ _ (refl)
 pub returns-in_err-put_spaced_name-clause-bytes : goal.returns-in_err-put_spaced_name-clause-bytes
 returns-in_err-put_spaced_name-clause-bytes g c =
     let left = drop_more c.args.controls.now c.loop-control.control-index (record { line = 0; positive = false }) (omega arith) in
-    writing_failed _ _ _ _ _ _ _ (ap (flat_map (λ control. 32 ∷ name_of_line c.args.roles control.line)) left) c.from_residual.ensures.1 c.in_err-put_spaced_name.ensures.bytes c.loop-control.invariant
+    writing_failed _ _ _ _ _ _ _ (ap (flat_map (λ control. 32 ∷ name_of_line c.args.roles control.line)) left) c.from_residual.ensures.1
+    c.in_err-put_spaced_name.ensures.bytes c.loop-control.invariant
 
 pub returns-in_err-put_spaced_name-clause-cause : goal.returns-in_err-put_spaced_name-clause-cause
 returns-in_err-put_spaced_name-clause-cause g c =
-    fault_later _ _ c.from_residual.ensures.1 c.loop-control.invariant.calm c.in_err-put_spaced_name.ensures.cause.failed c.in_err-put_spaced_name.ensures.cause.later
+    fault_later _ _ c.from_residual.ensures.1 c.loop-control.invariant.calm c.in_err-put_spaced_name.ensures.cause.failed
+    c.in_err-put_spaced_name.ensures.cause.later
 
 pub loop-control-preserved : goal.loop-control-preserved
 loop-control-preserved g c =
     let left = drop_more c.args.controls.now c.loop-control.control-index (record { line = 0; positive = false }) (omega arith) in
-    writing_more _ _ _ (ap (flat_map (λ control. 32 ∷ name_of_line c.args.roles control.line)) left) c.in_ok-put_spaced_name.ensures.bytes c.in_ok-put_spaced_name.ensures.cause.stays c.loop-control.invariant
+    writing_more _ _ _ (ap (flat_map (λ control. 32 ∷ name_of_line c.args.roles control.line)) left) c.in_ok-put_spaced_name.ensures.bytes
+    c.in_ok-put_spaced_name.ensures.cause.stays c.loop-control.invariant
 
 pub returns-clause-bytes : goal.returns-clause-bytes
 returns-clause-bytes g c =

@@ -18,4 +18,5 @@ put_flip-requires-clause-target_in_range g c =
 pub returns-clause-bytes : goal.returns-clause-bytes
 returns-clause-bytes g c =
     let put = rw c.controls.ensures.controls at c.put_flip.ensures.bytes in
-    subst (Gathers c.put_flip.result (g.K.Sink.held c.args.out.now) (g.K.Sink.held c.put_flip.new.out) c.args.buffer.now c.put_flip.new.buffer) (flip_text_is c.args.roles c.args.gate.now c.in-Flip.target (sym c.in-Flip.ensures.op)) put
+    subst (Gathers c.put_flip.result (g.K.Sink.held c.args.out.now) (g.K.Sink.held c.put_flip.new.out) c.args.buffer.now c.put_flip.new.buffer)
+    (flip_text_is c.args.roles c.args.gate.now c.in-Flip.target (sym c.in-Flip.ensures.op)) put

@@ -12,7 +12,8 @@ loop-i-init g c = writing_begun _ _ _ _ _ (refl)
 pub returns-in_err-put_gate-clause-bytes : goal.returns-in_err-put_gate-clause-bytes
 returns-in_err-put_gate-clause-bytes g c =
     let left = drop_got c.args.circuit.now.gates c.loop-i.i _ c.gate.ensures in
-    writing_failed _ _ _ _ _ _ _ (ap (λ gates. flat_map line_text (map (gate_words c.args.roles) gates)) left) c.from_residual.ensures.1 c.in_err-put_gate.ensures.bytes c.loop-i.invariant
+    writing_failed _ _ _ _ _ _ _ (ap (λ gates. flat_map line_text (map (gate_words c.args.roles) gates)) left) c.from_residual.ensures.1
+    c.in_err-put_gate.ensures.bytes c.loop-i.invariant
 
 pub returns-in_err-put_gate-clause-cause : goal.returns-in_err-put_gate-clause-cause
 returns-in_err-put_gate-clause-cause g c =
@@ -21,7 +22,8 @@ returns-in_err-put_gate-clause-cause g c =
 pub loop-i-preserved : goal.loop-i-preserved
 loop-i-preserved g c =
     let left = drop_got c.args.circuit.now.gates c.loop-i.i _ c.gate.ensures in
-    writing_more _ _ _ (ap (λ gates. flat_map line_text (map (gate_words c.args.roles) gates)) left) c.in_ok-put_gate.ensures.bytes c.in_ok-put_gate.ensures.cause.stays c.loop-i.invariant
+    writing_more _ _ _ (ap (λ gates. flat_map line_text (map (gate_words c.args.roles) gates)) left) c.in_ok-put_gate.ensures.bytes
+    c.in_ok-put_gate.ensures.cause.stays c.loop-i.invariant
 
 pub returns-clause-bytes : goal.returns-clause-bytes
 returns-clause-bytes g c =

@@ -13,16 +13,19 @@ loop-line-init g c = writing_begun _ _ _ _ _ (simp sub-zero)
 pub returns-in_err-put_spaced_name-clause-bytes : goal.returns-in_err-put_spaced_name-clause-bytes
 returns-in_err-put_spaced_name-clause-bytes g c =
     let left = range_left c.loop-line.line (lines_in c.args.roles) (omega arith) in
-    writing_failed _ _ _ _ _ _ _ (ap (λ lines. flat_map (λ w. 32 ∷ w) (map (name_of_line c.args.roles) lines)) left) c.from_residual.ensures.1 c.in_err-put_spaced_name.ensures.bytes c.loop-line.invariant
+    writing_failed _ _ _ _ _ _ _ (ap (λ lines. flat_map (λ w. 32 ∷ w) (map (name_of_line c.args.roles) lines)) left) c.from_residual.ensures.1
+    c.in_err-put_spaced_name.ensures.bytes c.loop-line.invariant
 
 pub returns-in_err-put_spaced_name-clause-cause : goal.returns-in_err-put_spaced_name-clause-cause
 returns-in_err-put_spaced_name-clause-cause g c =
-    fault_later _ _ c.from_residual.ensures.1 c.loop-line.invariant.calm c.in_err-put_spaced_name.ensures.cause.failed c.in_err-put_spaced_name.ensures.cause.later
+    fault_later _ _ c.from_residual.ensures.1 c.loop-line.invariant.calm c.in_err-put_spaced_name.ensures.cause.failed
+    c.in_err-put_spaced_name.ensures.cause.later
 
 pub loop-line-preserved : goal.loop-line-preserved
 loop-line-preserved g c =
     let left = range_left c.loop-line.line (lines_in c.args.roles) (omega arith) in
-    writing_more _ _ _ (ap (λ lines. flat_map (λ w. 32 ∷ w) (map (name_of_line c.args.roles) lines)) left) c.in_ok-put_spaced_name.ensures.bytes c.in_ok-put_spaced_name.ensures.cause.stays c.loop-line.invariant
+    writing_more _ _ _ (ap (λ lines. flat_map (λ w. 32 ∷ w) (map (name_of_line c.args.roles) lines)) left) c.in_ok-put_spaced_name.ensures.bytes
+    c.in_ok-put_spaced_name.ensures.cause.stays c.loop-line.invariant
 
 pub returns-clause-bytes : goal.returns-clause-bytes
 returns-clause-bytes g c =

@@ -9,4 +9,5 @@ returns-in_err-put-clause-bytes g c =
 
 pub returns-clause-bytes : goal.returns-clause-bytes
 returns-clause-bytes g c =
-    last_call c.args.buffer.now _ _ _ _ c.put_decimal.ensures.bytes (step (32 ∷ c.args.letter ∷ []) (decimal c.args.number) c.in_ok-put.ensures.bytes (begun _ _ _))
+    last_call c.args.buffer.now _ _ _ _ c.put_decimal.ensures.bytes (step (32 ∷ c.args.letter ∷ []) (decimal c.args.number) c.in_ok-put.ensures.bytes
+    (begun _ _ _))

@@ -5,8 +5,10 @@ use Rattle.real_format.proofs.writer.put_target.Goals as goal
 
 pub returns-in_err-put_spaced_name-clause-bytes : goal.returns-in_err-put_spaced_name-clause-bytes
 returns-in_err-put_spaced_name-clause-bytes g c =
-    failed_call c.args.buffer.now _ (32 ∷ name_of_line c.args.roles c.args.target) (codes "\n") _ _ c.from_residual.ensures.1 c.in_err-put_spaced_name.ensures.bytes (begun _ _ _)
+    failed_call c.args.buffer.now _ (32 ∷ name_of_line c.args.roles c.args.target)
+    (codes "\n") _ _ c.from_residual.ensures.1 c.in_err-put_spaced_name.ensures.bytes (begun _ _ _)
 
 pub returns-clause-bytes : goal.returns-clause-bytes
 returns-clause-bytes g c =
-    last_call c.args.buffer.now _ _ _ _ c.put.ensures.bytes (step (32 ∷ name_of_line c.args.roles c.args.target) (codes "\n") c.in_ok-put_spaced_name.ensures.bytes (begun _ _ _))
+    last_call c.args.buffer.now _ _ _ _ c.put.ensures.bytes (step (32 ∷ name_of_line c.args.roles c.args.target)
+    (codes "\n") c.in_ok-put_spaced_name.ensures.bytes (begun _ _ _))

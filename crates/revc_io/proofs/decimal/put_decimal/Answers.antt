@@ -32,7 +32,8 @@ loop-left-preserved g c =
       size = length-set _ _ _ ∙ c.loop-left.invariant.size;
       at_in = omega arith;
       few = rw same less.1;
-      parts = rw same (digit_more c.args.n c.loop-left.left at c.loop-left.digits c.loop-left-test.true (omega arith) (omega arith) c.loop-left.invariant.parts);
+      parts = rw same (digit_more c.args.n c.loop-left.left at c.loop-left.digits c.loop-left-test.true (omega arith)
+          (omega arith) c.loop-left.invariant.parts);
     }
 
 pub returns-clause-bytes : goal.returns-clause-bytes
@@ -41,5 +42,7 @@ returns-clause-bytes g c =
     let all = set c.loop-left.digits at (48 + c.loop-left.left) in
     let size : 20 ≡ length all = omega (arith, length-set {A = ℕ}) in
     let e : take (20 - at) (drop at all) ≡ decimal c.args.n =
-    ap (λ (k : ℕ). take (k - at) (drop at all)) size ∙ take_rest all at ∙ digit_first c.args.n c.loop-left.left at c.loop-left.digits (omega arith) (omega arith) c.loop-left.invariant.parts in
-    subst (λ (piece : List ℕ). Gathers c.put.result (g.K.Sink.held c.args.out.now) (g.K.Sink.held c.put.new.out) c.args.buffer.now c.put.new.self piece) e c.put.ensures.bytes
+    ap (λ (k : ℕ). take (k - at) (drop at all)) size ∙ take_rest all at ∙ digit_first c.args.n c.loop-left.left at c.loop-left.digits (omega arith)
+    (omega arith) c.loop-left.invariant.parts in
+    subst (λ (piece : List ℕ). Gathers c.put.result (g.K.Sink.held c.args.out.now) (g.K.Sink.held c.put.new.out) c.args.buffer.now c.put.new.self piece) e
+    c.put.ensures.bytes

@@ -6,8 +6,11 @@ use Rattle.revc_io.proofs.reading.read_up_to.Goals as goal
 pub returns-then-count-limit-clause-refused : goal.returns-then-count-limit-clause-refused
 returns-then-count-limit-clause-refused g c =
     let all = c.loop-all.all.items in
-    let more = take c.in_ok-count.count c.read.new.buf in
-    (all ++ more, Consumes-trans _ _ _ all more c.loop-all.invariant.taken c.in_ok-count.ensures.bytes.0, omega (arith, length-append all more, c.in_ok-count.ensures.bound, length-take c.min-most.result c.loop-all.chunk))
+    let more = take c.in_ok-count.count c.read.new.buf in (
+      all ++ more,
+      Consumes-trans _ _ _ all more c.loop-all.invariant.taken c.in_ok-count.ensures.bytes.0,
+      omega (arith, length-append all more, c.in_ok-count.ensures.bound, length-take c.min-most.result c.loop-all.chunk),
+    )
 
 pub returns-in_err-extend_from_slice-clause-refused : goal.returns-in_err-extend_from_slice-clause-refused
 returns-in_err-extend_from_slice-clause-refused g c =

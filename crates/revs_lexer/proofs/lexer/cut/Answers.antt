@@ -10,13 +10,16 @@ use Rattle.revs_lexer.proofs.lexer.cut.Goals.{In_ok-push}
 pub returns-in_err-len-clause-refused : goal.returns-in_err-len-clause-refused
 returns-in_err-len-clause-refused c =
     let p = err_from_is_err_and c.from_residual.result c.from_residual.ensures.1 in
-    rw (p.1, p.2) (λ own. underway_at_refusal c.args.text.now c.loop-rest.tokens.items c.loop-rest.at c.loop-rest.rest.now c.in_err-len.field-0.0 c.loop-rest.invariant.underway (c.in_err-len.ensures.refused own))
+    rw (p.1, p.2) (λ own. underway_at_refusal c.args.text.now c.loop-rest.tokens.items c.loop-rest.at c.loop-rest.rest.now c.in_err-len.field-0.0
+    c.loop-rest.invariant.underway (c.in_err-len.ensures.refused own))
 
 pub loop-rest-preserved : goal.loop-rest-preserved
 loop-rest-preserved c =
     let parts = c.split_at.ensures in
     record {
-      underway = rw (c.place_after-at.ensures.place, parts.front, parts.back) (underway_past c.args.text.now c.loop-rest.tokens.items c.take_piece.new.tokens.items c.loop-rest.at c.loop-rest.rest.now c.in_ok-len.len c.loop-rest.invariant.underway c.in_ok-len.ensures.taken);
+      underway = rw (c.place_after-at.ensures.place, parts.front, parts.back)
+          (underway_past c.args.text.now c.loop-rest.tokens.items c.take_piece.new.tokens.items c.loop-rest.at c.loop-rest.rest.now c.in_ok-len.len
+          c.loop-rest.invariant.underway c.in_ok-len.ensures.taken);
       line = c.place_after-at.ensures.line;
       column = c.place_after-at.ensures.column;
       room = omega (arith, c.place_after-at.ensures.room, parts.front_len, parts.back_len, c.loop-rest.invariant.room);

@@ -8,7 +8,8 @@ pub apply-requires : goal.apply-requires
 apply-requires c =
     let here : c.loop-gate.gate-index < length c.self.inside.gates.items = omega (arith, ap length c.deref-gate-items.ensures.value) in
     let long = c.loop-gate.auto.lines ∙ c.requires ∙ ap (λ v. v.lines) (sym c.self.view_is) in
-    rw long (lines_below _ c.self.inside.gates.items c.loop-gate.gate-index c.gate-item.result c.self.invariant.0 here (rw c.deref-gate-items.ensures.value at c.gate-item.is))
+    rw long (lines_below _ c.self.inside.gates.items c.loop-gate.gate-index c.gate-item.result c.self.invariant.0 here
+    (rw c.deref-gate-items.ensures.value at c.gate-item.is))
 
 pub loop-gate-preserved : goal.loop-gate-preserved
 loop-gate-preserved c = rw c.apply.ensures (line_map_more _ _ _ _ _ c.loop-gate-test.true c.gate-item.is c.loop-gate.invariant)

@@ -10,31 +10,37 @@ pub greatest_on-depth-requires : goal.greatest_on-depth-requires
 greatest_on-depth-requires c =
     let here : c.loop-gate.gate-index < length c.self.inside.gates.items = omega (arith, ap length c.deref-gate-items.ensures.value) in
     let long = ap length c.deref.ensures.value ∙ c.loop-gate.invariant.2 ∙ ap (λ v. v.lines) (sym c.self.view_is) in
-    rw long (lines_below _ c.self.inside.gates.items c.loop-gate.gate-index c.gate-item.result c.self.invariant.0 here (rw c.deref-gate-items.ensures.value at c.gate-item.is))
+    rw long (lines_below _ c.self.inside.gates.items c.loop-gate.gate-index c.gate-item.result c.self.invariant.0 here
+    (rw c.deref-gate-items.ensures.value at c.gate-item.is))
 
 pub overflow_add-depth : goal.overflow_add-depth
 overflow_add-depth c =
     let gates = reverse (take c.loop-gate.gate-index c.deref-gate-items.result.now) in
-    let deep = c.greatest_on-depth.ensures ∙ ap (λ ds. greatest_at ds (lines_of c.gate-item.result)) c.deref.ensures.value ∙ greatest_at-depths c.loop-gate.depths.items gates (lines_of c.gate-item.result) c.loop-gate.invariant.0 in
+    let deep = c.greatest_on-depth.ensures ∙ ap (λ ds. greatest_at ds (lines_of c.gate-item.result)) c.deref.ensures.value
+    ∙ greatest_at-depths c.loop-gate.depths.items gates (lines_of c.gate-item.result) c.loop-gate.invariant.0 in
     let few = depth_on-le (lines_of c.gate-item.result) gates in
-    let long : length gates ≡ c.loop-gate.gate-index = length-reverse (take c.loop-gate.gate-index c.deref-gate-items.result.now) ∙ length-take-le c.loop-gate.gate-index c.deref-gate-items.result.now (omega arith) in
+    let long : length gates ≡ c.loop-gate.gate-index = length-reverse (take c.loop-gate.gate-index c.deref-gate-items.result.now)
+    ∙ length-take-le c.loop-gate.gate-index c.deref-gate-items.result.now (omega arith) in
     omega arith
 
 pub set_all-requires : goal.set_all-requires
 set_all-requires c =
     let here : c.loop-gate.gate-index < length c.self.inside.gates.items = omega (arith, ap length c.deref-gate-items.ensures.value) in
     let long = ap length c.deref_mut.ensures.value ∙ c.loop-gate.invariant.2 ∙ ap (λ v. v.lines) (sym c.self.view_is) in
-    rw long (lines_below _ c.self.inside.gates.items c.loop-gate.gate-index c.gate-item.result c.self.invariant.0 here (rw c.deref-gate-items.ensures.value at c.gate-item.is))
+    rw long (lines_below _ c.self.inside.gates.items c.loop-gate.gate-index c.gate-item.result c.self.invariant.0 here
+    (rw c.deref-gate-items.ensures.value at c.gate-item.is))
 
 pub loop-gate-preserved : goal.loop-gate-preserved
 loop-gate-preserved c =
     let gates = reverse (take c.loop-gate.gate-index c.deref-gate-items.result.now) in
-    let whole = take_at c.set_all.new.depths (drop (length c.set_all.new.depths) c.loop-gate.depths.items) c.loop-gate.depths.len (c.set_all.auto.depths ∙ c.deref_mut.ensures.len) in
+    let whole = take_at c.set_all.new.depths (drop (length c.set_all.new.depths) c.loop-gate.depths.items) c.loop-gate.depths.len
+    (c.set_all.auto.depths ∙ c.deref_mut.ensures.len) in
     let latest = latest_first c.deref-gate-items.result.now c.loop-gate.gate-index c.gate-item.result c.loop-gate-test.true c.gate-item.is in
     let found = c.greatest_on-depth.ensures ∙ ap (λ ds. greatest_at ds (lines_of c.gate-item.result)) c.deref.ensures.value in
     let deep = found ∙ greatest_at-depths c.loop-gate.depths.items gates (lines_of c.gate-item.result) c.loop-gate.invariant.0 in
     rw (whole, latest) (
-      (λ line. rw c.deref_mut.ensures.value at (c.set_all.ensures line) ∙ depths_more c.loop-gate.depths.items c.gate-item.result gates (1 + c.greatest_on-depth.result) line c.loop-gate.invariant.0 (ap (λ d. 1 + d) found)),
+      (λ line. rw c.deref_mut.ensures.value at (c.set_all.ensures line) ∙ depths_more c.loop-gate.depths.items c.gate-item.result gates
+          (1 + c.greatest_on-depth.result) line c.loop-gate.invariant.0 (ap (λ d. 1 + d) found)),
       rw deep at c.max-greatest.ensures ∙ ap (λ g. max (1 + depth_on (lines_of c.gate-item.result) gates) g) c.loop-gate.invariant.1,
       c.set_all.auto.depths ∙ ap length c.deref_mut.ensures.value ∙ c.loop-gate.invariant.2,
     )
