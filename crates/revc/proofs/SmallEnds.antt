@@ -14,7 +14,9 @@ use Rattle.revs_terms.specs.declared.program.Param.{Param}
 use Rattle.revs_terms.specs.Programs.{width_of, widths_of, IsBody}
 use Rattle.revs_terms.specs.Trees.{Tree, Trees, list_of, used, bool, reg, block, function, parts, apply, append, rotate, clean, assert, ands, xors, assign, nil, cons}
 use Rattle.revs_terms.specs.Terms.{place_of, has_two, is_formed, are_formed, levels_as, levels_of, levels_of_all, application, product}
-use Rattle.revs_terms.specs.Running.{Value, unit, bit, register, closure, Environment, nothing, bound, value_at, Refusal, gone, Bits, Stamped, State, Outcome, stuck, went, after, provided, worked, written, read, as_bit, bit_of, chain_of, chain, term_of, run_of}
+use Rattle.revs_terms.specs.declared.cause.Cause.{Cause}
+use Rattle.revs_terms.specs.declared.cause.Cause.TheVariants as causes
+use Rattle.revs_terms.specs.Running.{Value, unit, bit, register, closure, Environment, nothing, bound, value_at, Bits, Stamped, State, Outcome, stuck, went, after, provided, worked, written, read, as_bit, bit_of, chain_of, chain, term_of, run_of}
 use Rattle.revs_terms.specs.Runs.{start, inputs_from, param_value, params_in, locations_of, read_all, real_bits, run_of_program, IsInput, EndsOnAll}
 use Rattle.revs_terms.proofs.Parts.{both}
 use Rattle.name_scope.specs.Bound.{is_bound, are_bound}
@@ -24,7 +26,8 @@ use Rattle.revc.proofs.SmallRuns.{behind_cons, plain_cons}
 -- ---- plain terms
 
 -- a plain term is a name or a chain
-by_form : (P : Tree → Type 0) → ((name : Name) → P (used name)) → ((ts : Trees) → are_plain ts ≡ true → P (ands ts)) → ((ts : Trees) → are_plain ts ≡ true → P (xors ts))
+by_form : (P : Tree → Type 0) → ((name : Name) → P (used name)) → ((ts : Trees) → are_plain ts ≡ true → P (ands ts))
+    → ((ts : Trees) → are_plain ts ≡ true → P (xors ts))
     → (t : Tree) → is_plain t ≡ true → P t
 unfolding is_plain
 by_form P a b c (used name) plain = a name
@@ -97,7 +100,13 @@ parts_fit form more in_place scope levels left (cons t ts) p f b few enough =
     let levels_few = at_most (levels_as form t (levels_of t)) (levels_of_all form ts) levels few in
     let here = levels_few.0 in
     let deep = in_place t plain.0 in (
-      record { plain = plain.0; formed = formed.0; in_scope = in_scope.0; deep = below (levels_as form t (levels_of t)) levels more (depth_of t) left deep here enough },
+      record {
+        plain = plain.0;
+        formed = formed.0;
+        in_scope = in_scope.0;
+        deep = below (levels_as form t (levels_of t)) levels more
+            (depth_of t) left deep here enough;
+      },
       parts_fit form more in_place scope levels left ts plain.1 formed.1 in_scope.1 levels_few.1 enough,
     )
   where
@@ -158,7 +167,8 @@ module _ {B : Type 0} where
   IsFull (None ∷ store) = ⊥
   IsFull (Some held ∷ store) = IsFull store
 
-  full_at : (store : List (Option (Stamped B))) (location : ℕ) → location < length store → IsFull store → (held : Stamped B) × (slice_get store location ≡ Some (Some held))
+  full_at : (store : List (Option (Stamped B))) (location : ℕ) → location < length store → IsFull store → (held : Stamped B)
+      × (slice_get store location ≡ Some (Some held))
   full_at [] location below full = absurd (omega arith)
   full_at (None ∷ store) location below full = absurd full
   full_at (Some held ∷ store) zero below full = (held, refl)
@@ -228,7 +238,8 @@ module _ {B : Type 0} where
   more P Q (stuck why at) h f = absurd h.reached
   more P Q (went a s) h f = record { reached = f a s h.reached }
 
-  where_so : {A : Type 0} (P : A → State B → Type 0) (o : Outcome B A) (b : Bool) (why : Refusal) (at : Place) → b ≡ true → Goes P o → Goes P (provided b why at o)
+  where_so : {A : Type 0} (P : A → State B → Type 0) (o : Outcome B A) (b : Bool) (why : Cause) (at : Place) → b ≡ true → Goes P o
+      → Goes P (provided b why at o)
   where_so P o true why at e h = h
   where_so P o false why at e h = cc
 
@@ -276,7 +287,7 @@ module _ {B : Type 0} (bits : Bits B) where
       })
 
   held_there : (x : Option (Option (Stamped B))) (held : Stamped B) (at : Place) (s : State B) → IsFull s.store → x ≡ Some (Some held)
-      → Goes (Stays s) (elim x [ None ↦ stuck gone at | Some held ↦ elim held [ None ↦ stuck gone at | Some b ↦ went b s ] ])
+      → Goes (Stays s) (elim x [ None ↦ stuck causes.Gone at | Some held ↦ elim held [ None ↦ stuck causes.Gone at | Some b ↦ went b s ] ])
   held_there None held at s full e = cc
   held_there (Some None) held at s full e = cc
   held_there (Some (Some b)) held at s full e = record { reached = same s full }
@@ -293,19 +304,23 @@ module _ {B : Type 0} (bits : Bits B) where
   -- ---- chains, where runs of a term one deeper go on
 
   module _ (deeper : Environment → Tree → State B → Outcome B Value) (left : ℕ)
-      (goes_deeper : (env : Environment) (t : Tree) (s : State B) → Fits (scope_of env) left t → AreBelow (length s.store) env → HasRoom (3 * operators_of t + 1) (operators_of t) s
+      (goes_deeper : (env : Environment) (t : Tree) (s : State B) → Fits (scope_of env) left t → AreBelow (length s.store) env
+      → HasRoom (3 * operators_of t + 1) (operators_of t) s
       → Goes (ToBit (3 * operators_of t + 1) (operators_of t) s) (deeper env t s)) where
-    goes_bit : (env : Environment) (t : Tree) (s : State B) → Fits (scope_of env) left t → AreBelow (length s.store) env → HasRoom (3 * operators_of t + 1) (operators_of t) s
+    goes_bit : (env : Environment) (t : Tree) (s : State B) → Fits (scope_of env) left t → AreBelow (length s.store) env
+        → HasRoom (3 * operators_of t + 1) (operators_of t) s
         → Goes (ToLocation (3 * operators_of t + 1) (operators_of t) s) (bit_of bits deeper env t s)
     goes_bit env t s fits below room =
         let work = 3 * operators_of t + 1 in
         let writes = operators_of t in
         next (ToBit work writes s) (ToLocation work writes s) (deeper env t s) (as_bit bits (place_of t)) (goes_deeper env t s fits below room) (λ value mid g.
-        more (ToLocation 0 0 mid) (ToLocation work writes s) (as_bit bits (place_of t) value mid) (goes_as_bit (place_of t) value mid g.0 g.1.full) (λ location new h.
+        more (ToLocation 0 0 mid) (ToLocation work writes s) (as_bit bits (place_of t) value mid) (goes_as_bit (place_of t) value mid g.0 g.1.full)
+        (λ location new h.
         (h.0, joined work writes (omega arith) (omega arith) g.1 h.1)))
 
     goes_chain_of : (entry : Ref → Ref → Entry) (op : B → B → B) (env : Environment) (first : Place) (so_far : ℕ) (ts : Trees) (s : State B)
-        → AllFit (scope_of env) left ts → AreBelow (length s.store) env → so_far < length s.store → HasRoom (3 * operators_behind ts - 1) (operators_behind ts) s
+        → AllFit (scope_of env) left ts → AreBelow (length s.store) env → so_far < length s.store
+        → HasRoom (3 * operators_behind ts - 1) (operators_behind ts) s
         → Goes (ToBit (3 * operators_behind ts - 1) (operators_behind ts) s) (chain_of bits deeper entry op env first so_far (list_of ts) s)
     goes_chain_of entry op env first so_far nil s fits below here room =
         record { reached = (here, record { full = room.full; store = omega arith; log = omega arith; work = omega arith }) }
@@ -317,23 +332,28 @@ module _ {B : Type 0} (bits : Bits B) where
         let part_writes = operators_of t in
         let rest_work = 3 * operators_behind ts - 1 in
         let rest_writes = operators_behind ts in
-        next (ToLocation part_work part_writes s) (ToBit work writes s) (bit_of bits deeper env t s) _ (goes_bit env t s fits.0 below (less_room (omega arith) (omega arith) room)) (λ location s1 g1.
+        next (ToLocation part_work part_writes s) (ToBit work writes s) (bit_of bits deeper env t s) _
+        (goes_bit env t s fits.0 below (less_room (omega arith) (omega arith) room)) (λ location s1 g1.
         let longer1 = g1.1.store in
         next (Stays s1) (ToBit work writes s) (read bits so_far first s1) _ (goes_read so_far first s1 (omega arith) g1.1.full) (λ a s2 g2.
         let longer2 = g2.store in
         let there = g1.0 in
         next (Stays s2) (ToBit work writes s) (read bits location (place_of t) s2) _ (goes_read location (place_of t) s2 (omega arith) g2.full) (λ b s3 g3.
-        let g : Grows part_work part_writes s s3 = joined part_work part_writes (omega arith) (omega arith) (joined part_work part_writes (omega arith) (omega arith) g1.1 g2) g3 in
+        let g : Grows part_work part_writes s s3 = joined part_work part_writes (omega arith) (omega arith)
+        (joined part_work part_writes (omega arith) (omega arith) g1.1 g2) g3 in
         let room3 : HasRoom rest_work (rest_writes + 1) s3 = room_left (omega arith) (omega arith) room g in
-        next (ToLocation 0 1 s3) (ToBit work writes s) (written bits (entry a.stamp b.stamp) (op a.bit b.bit) (place_of t) s3) _ (goes_written (entry a.stamp b.stamp) (op a.bit b.bit) (place_of t) s3 (less_room (omega arith) (omega arith) room3)) (λ made s4 g4.
+        next (ToLocation 0 1 s3) (ToBit work writes s) (written bits (entry a.stamp b.stamp) (op a.bit b.bit) (place_of t) s3) _
+        (goes_written (entry a.stamp b.stamp) (op a.bit b.bit) (place_of t) s3 (less_room (omega arith) (omega arith) room3)) (λ made s4 g4.
         let g_all : Grows part_work (part_writes + 1) s s4 = joined part_work (part_writes + 1) (omega arith) (omega arith) g g4.1 in
         let room4 : HasRoom rest_work rest_writes s4 = room_left (omega arith) (omega arith) room3 g4.1 in
         more (ToBit rest_work rest_writes s4) (ToBit work writes s) (chain_of bits deeper entry op env first made (list_of ts) s4)
-        (goes_chain_of entry op env first made ts s4 fits.1 (all_still_below (length s.store) (length s4.store) env g_all.store below) g4.0 room4) (λ value new g5.
+        (goes_chain_of entry op env first made ts s4 fits.1 (all_still_below (length s.store) (length s4.store) env g_all.store below) g4.0 room4)
+        (λ value new g5.
         (g5.0, joined work writes (omega arith) (omega arith) g_all g5.1))))))
 
     goes_chain : (entry : Ref → Ref → Entry) (op : B → B → B) (env : Environment) (ts : Trees) (s : State B)
-        → has_two (list_of ts) ≡ true → AllFit (scope_of env) left ts → AreBelow (length s.store) env → HasRoom (3 * (operators_behind ts - 1)) (operators_behind ts - 1) s
+        → has_two (list_of ts) ≡ true → AllFit (scope_of env) left ts → AreBelow (length s.store) env
+        → HasRoom (3 * (operators_behind ts - 1)) (operators_behind ts - 1) s
         → Goes (ToBit (3 * (operators_behind ts - 1)) (operators_behind ts - 1) s) (chain bits deeper entry op env (list_of ts) s)
     goes_chain entry op env nil s two fits below room = cc
     goes_chain entry op env (cons t nil) s two fits below room = cc
@@ -347,46 +367,63 @@ module _ {B : Type 0} (bits : Bits B) where
         let part_writes = operators_of t in
         let rest_work = 3 * operators_behind ts - 1 in
         let rest_writes = operators_behind ts in
-        next (ToLocation part_work part_writes s) (ToBit work writes s) (bit_of bits deeper env t s) _ (goes_bit env t s fits.0 below (less_room (omega arith) (omega arith) room)) (λ first mid g.
+        next (ToLocation part_work part_writes s) (ToBit work writes s) (bit_of bits deeper env t s) _
+        (goes_bit env t s fits.0 below (less_room (omega arith) (omega arith) room)) (λ first mid g.
         let room_mid : HasRoom rest_work rest_writes mid = room_left (omega arith) (omega arith) room g.1 in
         more (ToBit rest_work rest_writes mid) (ToBit work writes s) (chain_of bits deeper entry op env (place_of t) first (list_of ts) mid)
-        (goes_chain_of entry op env (place_of t) first ts mid fits.1 (all_still_below (length s.store) (length mid.store) env g.1.store below) g.0 room_mid) (λ value new h.
+        (goes_chain_of entry op env (place_of t) first ts mid fits.1 (all_still_below (length s.store) (length mid.store) env g.1.store below) g.0 room_mid)
+        (λ value new h.
         (h.0, joined work writes (omega arith) (omega arith) g.1 h.1)))
 
     -- a name is in scope, and a chain goes on
     abbrev GoesTerm : Environment → State B → Tree → Type 0
-    GoesTerm env s t = Fits (scope_of env) (suc left) t → HasRoom (3 * operators_of t) (operators_of t) s → Goes (ToBit (3 * operators_of t) (operators_of t) s) (term_of bits deeper env t s)
+    GoesTerm env s t = Fits (scope_of env) (suc left) t → HasRoom (3 * operators_of t) (operators_of t) s → Goes (ToBit (3 * operators_of t) (operators_of t) s)
+        (term_of bits deeper env t s)
 
     goes_term : (env : Environment) (s : State B) → AreBelow (length s.store) env → (t : Tree) → is_plain t ≡ true → GoesTerm env s t
     unfolding operators_of
     goes_term env s below = by_form (GoesTerm env s)
-        (λ name fits room. record { reached = (value_there (length s.store) env name.back (leb-true (name.back + 1) (scope_of env) fits.in_scope) below, same s room.full) })
-        (λ ts plain fits room. goes_chain _ bits.and env ts s (both (has_two (list_of ts)) _ fits.formed).0 (product_fits (scope_of env) left ts fits) below room)
+        (λ name fits room. record {
+          reached = (
+            value_there (length s.store) env name.back
+                (leb-true (name.back + 1) (scope_of env) fits.in_scope) below,
+            same s room.full,
+          );
+        })
+        (λ ts plain fits room. goes_chain _ bits.and env ts s (both (has_two (list_of ts)) _ fits.formed).0
+        (product_fits (scope_of env) left ts fits) below room)
         (λ ts plain fits room. goes_chain _ bits.xor env ts s (both (has_two (list_of ts)) _ fits.formed).0 (sum_fits (scope_of env) left ts fits) below room)
 
-  goes_run : (left : ℕ) (env : Environment) (t : Tree) (s : State B) → Fits (scope_of env) left t → AreBelow (length s.store) env → HasRoom (3 * operators_of t + 1) (operators_of t) s
+  goes_run : (left : ℕ) (env : Environment) (t : Tree) (s : State B) → Fits (scope_of env) left t → AreBelow (length s.store) env
+      → HasRoom (3 * operators_of t + 1) (operators_of t) s
       → Goes (ToBit (3 * operators_of t + 1) (operators_of t) s) (run_of bits left env t s)
   goes_run zero env t s fits below room = let none = fits.deep in let some = some_depth t fits.plain in absurd (omega arith)
   goes_run (suc left) env t s fits below room =
       let work = 3 * operators_of t + 1 in
       let writes = operators_of t in
-      next (λ _ new. Grows 1 0 s new) (ToBit work writes s) (worked bits 1 (place_of t) s) _ (goes_on (place_of t) s (less_room (omega arith) (omega arith) room)) (λ _ mid g.
+      next (λ _ new. Grows 1 0 s new) (ToBit work writes s) (worked bits 1 (place_of t) s) _
+      (goes_on (place_of t) s (less_room (omega arith) (omega arith) room)) (λ _ mid g.
       more (ToBit (3 * operators_of t) writes mid) (ToBit work writes s) (term_of bits (run_of bits left) env t mid)
-      (goes_term (run_of bits left) left (goes_run left) env mid (all_still_below (length s.store) (length mid.store) env g.store below) t fits.plain fits (room_left (omega arith) (omega arith) room g)) (λ value new h.
+      (goes_term (run_of bits left) left (goes_run left) env mid (all_still_below (length s.store) (length mid.store) env g.store below) t fits.plain fits
+      (room_left (omega arith) (omega arith) room g)) (λ value new h.
       (h.0, joined work writes (omega arith) (omega arith) g h.1)))
 
   -- ---- the output
 
-  goes_output : (at : Place) (value : Value) (s : State B) → IsBelow (length s.store) value → IsFull s.store → Goes (λ _ _. ⊤) (after (locations_of at value s) (read_all bits at))
+  goes_output : (at : Place) (value : Value) (s : State B) → IsBelow (length s.store) value → IsFull s.store
+      → Goes (λ _ _. ⊤) (after (locations_of at value s) (read_all bits at))
   goes_output at unit s below full = absurd below
-  goes_output at (bit location) s below full = next (Stays s) (λ _ _. ⊤) (read bits location at s) _ (goes_read location at s below full) (λ held new g. record { reached = tt })
+  goes_output at (bit location) s below full = next (Stays s) (λ _ _. ⊤) (read bits location at s) _ (goes_read location at s below full)
+      (λ held new g. record { reached = tt })
   goes_output at (register locations) s below full = absurd below
   goes_output at (closure names body env) s below full = absurd below
 
-  goes_through : (left : ℕ) (env : Environment) (body : Tree) (s : State B) → Fits (scope_of env) left body → AreBelow (length s.store) env → HasRoom (3 * operators_of body + 1) (operators_of body) s
+  goes_through : (left : ℕ) (env : Environment) (body : Tree) (s : State B) → Fits (scope_of env) left body → AreBelow (length s.store) env
+      → HasRoom (3 * operators_of body + 1) (operators_of body) s
       → Goes (λ _ _. ⊤) (after (run_of bits left env body s) (λ value s. after (locations_of (place_of body) value s) (read_all bits (place_of body))))
   goes_through left env body s fits below room =
-      next (ToBit (3 * operators_of body + 1) (operators_of body) s) (λ _ _. ⊤) (run_of bits left env body s) _ (goes_run left env body s fits below room) (λ value new g.
+      next (ToBit (3 * operators_of body + 1) (operators_of body) s) (λ _ _. ⊤) (run_of bits left env body s) _ (goes_run left env body s fits below room)
+      (λ value new g.
       goes_output (place_of body) value new g.0 g.1.full)
 
 -- ---- the start
@@ -413,7 +450,8 @@ widths : (before : ℕ) (params : List Param) → AreBits params → fold ◌+�
 widths before [] h = omega arith
 widths before (p ∷ ps) h = let one = one_wide p h.0 in let rest = widths (before + width_of p.width) ps h.1 in omega arith
 
-params_below : (first size : ℕ) (params : List Param) (env : Environment) → AreBits params → first + length params ≤ size → AreBelow size env → AreBelow size (params_in first params env)
+params_below : (first size : ℕ) (params : List Param) (env : Environment) → AreBits params → first + length params ≤ size → AreBelow size env
+    → AreBelow size (params_in first params env)
 params_below first size [] env h few below = below
 params_below first size (p ∷ ps) env h few below =
     let one = one_wide p h.0 in
@@ -425,7 +463,8 @@ params_below first size (p ∷ ps) env h few below =
 deep_enough : (t : Tree) → is_plain t ≡ true → levels_of t ≤ 100 → depth_of t ≤ 400
 deep_enough = by_form (λ t. levels_of t ≤ 100 → depth_of t ≤ 400) (λ name few. omega arith) (λ ts plain few. omega arith) (λ ts plain few. omega arith)
 
-goes_program : (params : List Param) (body : Tree) (input : List Bool) → IsBody body → is_bound (length params) body ≡ true → IsSmall params body → IsInput params input
+goes_program : (params : List Param) (body : Tree) (input : List Bool) → IsBody body → is_bound (length params) body ≡ true → IsSmall params body
+    → IsInput params input
     → Goes (λ _ _. ⊤) (run_of_program params body input)
 goes_program params body input kept in_scope small size =
     let bits : AreBits params = recursion_from_All (λ param. param.width ≡ None) params small.bits in
@@ -435,7 +474,13 @@ goes_program params body input kept in_scope small size =
     let inputs : sum (widths_of params) ≡ 0 + length params = widths 0 params bits in
     let few = small.few_operators in
     goes_through real_bits 400 env body (start input)
-    (record { plain = small.plain; formed = kept.formed; in_scope = subst (λ n. is_bound n body ≡ true) (sym scope) in_scope; deep = deep_enough body small.plain kept.nesting })
+    (record {
+      plain = small.plain;
+      formed = kept.formed;
+      in_scope = subst (λ n. is_bound n body ≡ true)
+          (sym scope) in_scope;
+      deep = deep_enough body small.plain kept.nesting;
+    })
     (params_below 0 (length (inputs_from 0 input)) params nothing bits (omega arith) tt)
     (record { full = full_inputs 0 input; log = omega arith; work = omega arith })
 

@@ -12,7 +12,9 @@ use Rattle.revs_terms.specs.declared.program.Param.{Param}
 use Rattle.revs_terms.specs.Programs.{width_of, widths_of}
 use Rattle.revs_terms.specs.Trees.{Tree, Trees, list_of, used, bool, reg, block, function, parts, apply, append, rotate, clean, assert, ands, xors, assign, nil, cons}
 use Rattle.revs_terms.specs.Terms.{place_of}
-use Rattle.revs_terms.specs.Running.{Value, unit, bit, register, closure, Environment, nothing, bound, value_at, Refusal, gone, Bits, Stamped, Met, State, Outcome, stuck, went, after, provided, worked, written, read, as_bit, bit_of, chain_of, chain, term_of, run_of}
+use Rattle.revs_terms.specs.declared.cause.Cause.{Cause}
+use Rattle.revs_terms.specs.declared.cause.Cause.TheVariants as causes
+use Rattle.revs_terms.specs.Running.{Value, unit, bit, register, closure, Environment, nothing, bound, value_at, Bits, Stamped, Met, State, Outcome, stuck, went, after, provided, worked, written, read, as_bit, bit_of, chain_of, chain, term_of, run_of}
 use Rattle.revs_terms.specs.Runs.{start, param_value, params_in, locations_of, read_all, real_bits, run_of_program, LeavesOn, IsTapeOf}
 use Rattle.revs_terms.proofs.Parts.{both}
 use Rattle.revc.specs.Small.{is_plain, are_plain, operators_of, operators_behind, IsSmall, IsSmallTape}
@@ -78,7 +80,7 @@ module _ {B : Type 0} where
   more P Q (stuck why at) h f = record { given = tt }
   more P Q (went a s) h f = record { given = f a s h.given }
 
-  where_so : {A : Type 0} (P : A → State B → Type 0) (o : Outcome B A) (b : Bool) (why : Refusal) (at : Place) → Gives P o → Gives P (provided b why at o)
+  where_so : {A : Type 0} (P : A → State B → Type 0) (o : Outcome B A) (b : Bool) (why : Cause) (at : Place) → Gives P o → Gives P (provided b why at o)
   where_so P o true why at h = h
   where_so P o false why at h = record { given = tt }
 
@@ -102,7 +104,7 @@ module _ {B : Type 0} (bits : Bits B) where
       (record { given = record { claims = refl; log = omega (arith, length-append s.log (entry ∷ [])) } })
 
   held_stays : (x : Option (Option (Stamped B))) (at : Place) (s : State B)
-      → Gives (Stays s) (elim x [ None ↦ stuck gone at | Some held ↦ elim held [ None ↦ stuck gone at | Some b ↦ went b s ] ])
+      → Gives (Stays s) (elim x [ None ↦ stuck causes.Gone at | Some held ↦ elim held [ None ↦ stuck causes.Gone at | Some b ↦ went b s ] ])
   held_stays None at s = record { given = tt }
   held_stays (Some None) at s = record { given = tt }
   held_stays (Some (Some b)) at s = record { given = same s }
@@ -119,10 +121,13 @@ module _ {B : Type 0} (bits : Bits B) where
   -- ---- chains, with small runs of a term one deeper
 
   module _ (deeper : Environment → Tree → State B → Outcome B Value)
-      (small_deeper : (env : Environment) (t : Tree) (s : State B) → AreAtMostBits env → is_plain t ≡ true → Gives (Small (operators_of t) s) (deeper env t s)) where
-    small_bit : (env : Environment) (t : Tree) (s : State B) → AreAtMostBits env → is_plain t ≡ true → Gives (λ _ new. Grows (operators_of t) s new) (bit_of bits deeper env t s)
+      (small_deeper : (env : Environment) (t : Tree) (s : State B) → AreAtMostBits env → is_plain t ≡ true
+      → Gives (Small (operators_of t) s) (deeper env t s)) where
+    small_bit : (env : Environment) (t : Tree) (s : State B) → AreAtMostBits env → is_plain t ≡ true
+        → Gives (λ _ new. Grows (operators_of t) s new) (bit_of bits deeper env t s)
     small_bit env t s small plain =
-        next (Small (operators_of t) s) (λ _ new. Grows (operators_of t) s new) (deeper env t s) (as_bit bits (place_of t)) (small_deeper env t s small plain) (λ value mid g.
+        next (Small (operators_of t) s) (λ _ new. Grows (operators_of t) s new) (deeper env t s) (as_bit bits (place_of t)) (small_deeper env t s small plain)
+        (λ value mid g.
         more (Stays mid) (λ _ new. Grows (operators_of t) s new) (as_bit bits (place_of t) value mid) (as_bit_stays (place_of t) value mid) (λ _ new h.
         joined (operators_of t) (omega arith) g.1 h))
 
@@ -136,9 +141,14 @@ module _ {B : Type 0} (bits : Bits B) where
         next (λ _ new. Grows (operators_of t) s new) (Small n s) (bit_of bits deeper env t s) _ (small_bit env t s small e.0) (λ location s1 g1.
         next (Stays s1) (Small n s) (read bits so_far first s1) _ (read_stays so_far first s1) (λ a s2 g2.
         next (Stays s2) (Small n s) (read bits location (place_of t) s2) _ (read_stays location (place_of t) s2) (λ b s3 g3.
-        next (λ _ new. Grows 1 s3 new) (Small n s) (written bits (entry a.stamp b.stamp) (op a.bit b.bit) (place_of t) s3) _ (one_write (entry a.stamp b.stamp) (op a.bit b.bit) (place_of t) s3) (λ made s4 g4.
-        more (Small (operators_behind ts) s4) (Small n s) (chain_of bits deeper entry op env first made (list_of ts) s4) (small_chain_of entry op env first made ts s4 small e.1) (λ value new g5.
-        (g5.0, joined n (omega arith) (joined (operators_of t + 1) (omega arith) (joined (operators_of t) (omega arith) (joined (operators_of t) (omega arith) g1 g2) g3) g4) g5.1))))))
+        next (λ _ new. Grows 1 s3 new) (Small n s) (written bits (entry a.stamp b.stamp) (op a.bit b.bit) (place_of t) s3) _
+        (one_write (entry a.stamp b.stamp) (op a.bit b.bit) (place_of t) s3) (λ made s4 g4.
+        more (Small (operators_behind ts) s4) (Small n s) (chain_of bits deeper entry op env first made (list_of ts) s4)
+        (small_chain_of entry op env first made ts s4 small e.1) (λ value new g5. (
+          g5.0,
+          joined n (omega arith)
+              (joined (operators_of t + 1) (omega arith) (joined (operators_of t) (omega arith) (joined (operators_of t) (omega arith) g1 g2) g3) g4) g5.1,
+        ))))))
 
     small_chain : (entry : Ref → Ref → Entry) (op : B → B → B) (env : Environment) (ts : Trees) (s : State B)
         → AreAtMostBits env → are_plain ts ≡ true → Gives (Small (operators_behind ts - 1) s) (chain bits deeper entry op env (list_of ts) s)
@@ -148,11 +158,13 @@ module _ {B : Type 0} (bits : Bits B) where
         let e = plain_cons t ts plain in
         let n = operators_behind (cons t ts) - 1 in
         next (λ _ new. Grows (operators_of t) s new) (Small n s) (bit_of bits deeper env t s) _ (small_bit env t s small e.0) (λ first mid g.
-        more (Small (operators_behind ts) mid) (Small n s) (chain_of bits deeper entry op env (place_of t) first (list_of ts) mid) (small_chain_of entry op env (place_of t) first ts mid small e.1) (λ value new h.
+        more (Small (operators_behind ts) mid) (Small n s) (chain_of bits deeper entry op env (place_of t) first (list_of ts) mid)
+        (small_chain_of entry op env (place_of t) first ts mid small e.1) (λ value new h.
         (h.0, joined n (omega arith) g h.1)))
 
     -- a plain term is a name or a chain
-    small_term : (env : Environment) (t : Tree) (s : State B) → AreAtMostBits env → is_plain t ≡ true → Gives (Small (operators_of t) s) (term_of bits deeper env t s)
+    small_term : (env : Environment) (t : Tree) (s : State B) → AreAtMostBits env → is_plain t ≡ true
+        → Gives (Small (operators_of t) s) (term_of bits deeper env t s)
     unfolding is_plain operators_of
     small_term env (used name) s small plain = record { given = (value_there env name.back small, record { claims = refl; log = omega arith }) }
     small_term env (ands ts) s small plain = small_chain _ bits.and env ts s small plain
@@ -169,11 +181,13 @@ module _ {B : Type 0} (bits : Bits B) where
     small_term env (assert t at) s small plain = cc
     small_term env (assign left right) s small plain = cc
 
-  small_run : (left : ℕ) (env : Environment) (t : Tree) (s : State B) → AreAtMostBits env → is_plain t ≡ true → Gives (Small (operators_of t) s) (run_of bits left env t s)
+  small_run : (left : ℕ) (env : Environment) (t : Tree) (s : State B) → AreAtMostBits env → is_plain t ≡ true
+      → Gives (Small (operators_of t) s) (run_of bits left env t s)
   small_run zero env t s small plain = record { given = tt }
   small_run (suc left) env t s small plain =
       next (Stays s) (Small (operators_of t) s) (worked bits 1 (place_of t) s) _ (work_stays 1 (place_of t) s) (λ _ mid g.
-      more (Small (operators_of t) mid) (Small (operators_of t) s) (term_of bits (run_of bits left) env t mid) (small_term (run_of bits left) (small_run left) env t mid small plain) (λ value new h.
+      more (Small (operators_of t) mid) (Small (operators_of t) s) (term_of bits (run_of bits left) env t mid)
+      (small_term (run_of bits left) (small_run left) env t mid small plain) (λ value new h.
       (h.0, joined (operators_of t) (omega arith) g h.1)))
 
   -- ---- the outputs
@@ -200,7 +214,8 @@ module _ {B : Type 0} (bits : Bits B) where
   IsSmallEnd n outputs s = (length outputs ≡ 1) × (s.claims ≡ []) × (length s.log ≤ n)
 
   small_end : (left : ℕ) (env : Environment) (body : Tree) (s : State B) → AreAtMostBits env → is_plain body ≡ true → s.claims ≡ [] → s.log ≡ []
-      → Gives (IsSmallEnd (operators_of body)) (after (run_of bits left env body s) (λ value s. after (locations_of (place_of body) value s) (read_all bits (place_of body))))
+      → Gives (IsSmallEnd (operators_of body))
+      (after (run_of bits left env body s) (λ value s. after (locations_of (place_of body) value s) (read_all bits (place_of body))))
   small_end left env body s small plain no_claims no_log =
       let n = operators_of body in
       let at = place_of body in
@@ -214,7 +229,8 @@ module _ {B : Type 0} (bits : Bits B) where
 
 -- ---- the parameters
 
-bits_only : (first : ℕ) (params : List Param) (env : Environment) → AllByRecursion (λ param. param.width ≡ None) params → AreAtMostBits env → AreAtMostBits (params_in first params env)
+bits_only : (first : ℕ) (params : List Param) (env : Environment) → AllByRecursion (λ param. param.width ≡ None) params → AreAtMostBits env
+    → AreAtMostBits (params_in first params env)
 bits_only first [] env h small = small
 bits_only first (p ∷ ps) env h small =
     bits_only (first + width_of p.width) ps (bound (param_value first p.width) env) h.1
@@ -223,7 +239,8 @@ bits_only first (p ∷ ps) env h small =
 -- ---- the tape
 
 -- what the run of a small program on an input ends with
-small_ends : (params : List Param) (body : Tree) (input : List Bool) → IsSmall params body → Gives (IsSmallEnd real_bits (operators_of body)) (run_of_program params body input)
+small_ends : (params : List Param) (body : Tree) (input : List Bool) → IsSmall params body
+    → Gives (IsSmallEnd real_bits (operators_of body)) (run_of_program params body input)
 small_ends params body input small =
     small_end real_bits 400 (params_in 0 params nothing) body (start input)
     (bits_only 0 params nothing (recursion_from_All (λ param. param.width ≡ None) params small.bits) tt) small.plain refl refl

@@ -110,7 +110,8 @@ pub part_too_much : {room left : ℕ} {t : Tree} (done rest whole : List Tree) �
 part_too_much {room} {left} {t} done rest whole cut so_far much = record {
   refuted = λ plain.
       let over = much.refuted (are_plain-at done t rest (ap (λ (w : List Tree). are_plain (trees w)) (sym cut) ∙ sym (plain_ands (trees whole)) ∙ plain)) in
-      let all : operators_of (ands (trees whole)) ≡ operators_behind (trees (done ++ t ∷ rest)) - 1 = operators_ands (trees whole) ∙ ap (λ (w : List Tree). operators_behind (trees w) - 1) cut in
+      let all : operators_of (ands (trees whole)) ≡ operators_behind (trees (done ++ t ∷ rest)) - 1 = operators_ands (trees whole)
+      ∙ ap (λ (w : List Tree). operators_behind (trees w) - 1) cut in
       let before = operators_ands (trees done) in
       let counted = so_far.counted in
       omega (arith, behind-append done (t ∷ rest), behind-cons t rest);
@@ -118,13 +119,15 @@ part_too_much {room} {left} {t} done rest whole cut so_far much = record {
 
 -- there is no room for the operator in front of a part
 pub no_operator : {room left behind : ℕ} {t : Tree} (done rest whole : List Tree) (operators : ℕ) → whole ≡ done ++ t ∷ rest
-    → IsInFront (length done) operators → (operators ≤ behind → ⊥) → LeavesRoom (ands (trees done)) room left → LeavesRoom t left behind → IsTooMuch (ands (trees whole)) room
+    → IsInFront (length done) operators → (operators ≤ behind → ⊥) → LeavesRoom (ands (trees done)) room left → LeavesRoom t left behind
+    → IsTooMuch (ands (trees whole)) room
 no_operator {room} {left} {behind} {t} [] rest whole operators cut front short so_far part = let none = front.first refl in absurd (short (omega arith))
 no_operator {room} {left} {behind} {t} (d ∷ ds) rest whole operators cut front short so_far part = record {
   refuted = λ plain.
       let one = front.later (omega arith) in
       let used_up : behind ≡ 0 = grind arith in
-      let all : operators_of (ands (trees whole)) ≡ operators_behind (trees (d ∷ ds ++ t ∷ rest)) - 1 = operators_ands (trees whole) ∙ ap (λ (w : List Tree). operators_behind (trees w) - 1) cut in
+      let all : operators_of (ands (trees whole)) ≡ operators_behind (trees (d ∷ ds ++ t ∷ rest)) - 1 = operators_ands (trees whole)
+      ∙ ap (λ (w : List Tree). operators_behind (trees w) - 1) cut in
       let before = operators_ands (trees (d ∷ ds)) in
       let counted = so_far.counted in
       let part_counted = part.counted in
@@ -146,7 +149,8 @@ next_part parts i part below is =
     let here : get_or ts i (tree_of part) ≡ tree_of part = get_or-map tree_of parts i part (tree_of part) below ∙ ap tree_of (sym is) in
     record {
       count = omega (arith, length-take i ts);
-      cut = sym (take-append-drop i ts) ∙ ap (λ (xs : List Tree). take i ts ++ xs) (drop_more ts i (tree_of part) (omega arith) ∙ ap (λ (t : Tree). t ∷ drop (i + 1) ts) here);
+      cut = sym (take-append-drop i ts) ∙ ap (λ (xs : List Tree). take i ts ++ xs) (drop_more ts i (tree_of part) (omega arith)
+          ∙ ap (λ (t : Tree). t ∷ drop (i + 1) ts) here);
       more = take_more ts i (tree_of part) (omega arith) ∙ ap (λ (t : Tree). take i ts ++ t ∷ []) here;
     }
 
@@ -157,7 +161,8 @@ unfolding is_plain operators_of
 name_leaves term name room is = subst (λ t. LeavesRoom t room room) (sym (ap tree_of is ∙ tree_of-Name name)) (record { plain = refl; counted = omega arith })
 
 -- one layer of a term that is no name and no chain
-layer_not_plain : (x : Term-F Item Term Lambda) → ((name : Name) → roll-Term x ≡ terms.Name name → ⊥) → ((all : Vec Term Global) → roll-Term x ≡ terms.And all → ⊥)
+layer_not_plain : (x : Term-F Item Term Lambda) → ((name : Name) → roll-Term x ≡ terms.Name name → ⊥) → ((all : Vec Term Global) → roll-Term x ≡ terms.And all
+    → ⊥)
     → ((all : Vec Term Global) → roll-Term x ≡ terms.Xor all → ⊥) → is_plain (tree_of (roll-Term x)) ≡ false
 unfolding is_plain
 layer_not_plain (layer.Name name) a b c = absurd (a name (terms.rolls-Name name))
@@ -168,15 +173,19 @@ layer_not_plain (layer.Reg elements at) a b c = ap (λ t. is_plain (tree_of t)) 
 layer_not_plain (layer.Block items last at) a b c = ap (λ t. is_plain (tree_of t)) (terms.rolls-Block items last at) ∙ ap is_plain (tree_of-Block items last at)
 layer_not_plain (layer.Fun inner at) a b c = ap (λ t. is_plain (tree_of t)) (terms.rolls-Fun inner at) ∙ ap is_plain (tree_of-Fun inner at)
 layer_not_plain (layer.At inner inside) a b c = ap (λ t. is_plain (tree_of t)) (terms.rolls-At inner inside) ∙ ap is_plain (tree_of-At inner inside)
-layer_not_plain (layer.Apply head arguments) a b c = ap (λ t. is_plain (tree_of t)) (terms.rolls-Apply head arguments) ∙ ap is_plain (tree_of-Apply head arguments)
-layer_not_plain (layer.Append first second at) a b c = ap (λ t. is_plain (tree_of t)) (terms.rolls-Append first second at) ∙ ap is_plain (tree_of-Append first second at)
-layer_not_plain (layer.Rotate by operand at) a b c = ap (λ t. is_plain (tree_of t)) (terms.rolls-Rotate by operand at) ∙ ap is_plain (tree_of-Rotate by operand at)
+layer_not_plain (layer.Apply head arguments) a b c = ap (λ t. is_plain (tree_of t)) (terms.rolls-Apply head arguments)
+    ∙ ap is_plain (tree_of-Apply head arguments)
+layer_not_plain (layer.Append first second at) a b c = ap (λ t. is_plain (tree_of t)) (terms.rolls-Append first second at)
+    ∙ ap is_plain (tree_of-Append first second at)
+layer_not_plain (layer.Rotate by operand at) a b c = ap (λ t. is_plain (tree_of t)) (terms.rolls-Rotate by operand at)
+    ∙ ap is_plain (tree_of-Rotate by operand at)
 layer_not_plain (layer.Clean operand at) a b c = ap (λ t. is_plain (tree_of t)) (terms.rolls-Clean operand at) ∙ ap is_plain (tree_of-Clean operand at)
 layer_not_plain (layer.Assert operand at) a b c = ap (λ t. is_plain (tree_of t)) (terms.rolls-Assert operand at) ∙ ap is_plain (tree_of-Assert operand at)
 layer_not_plain (layer.Assign left right) a b c = ap (λ t. is_plain (tree_of t)) (terms.rolls-Assign left right) ∙ ap is_plain (tree_of-Assign left right)
 
 -- a term that is no name and no chain
-pub other_too_much : (term : Term) (room : ℕ) → ((name : Name) → term ≡ terms.Name name → ⊥) → ((all : Vec Term Global) → term ≡ terms.And all → ⊥) → ((all : Vec Term Global) → term ≡ terms.Xor all → ⊥)
+pub other_too_much : (term : Term) (room : ℕ) → ((name : Name) → term ≡ terms.Name name → ⊥) → ((all : Vec Term Global) → term ≡ terms.And all → ⊥)
+    → ((all : Vec Term Global) → term ≡ terms.Xor all → ⊥)
     → IsTooMuch (tree_of term) room
 other_too_much term room a b c = record {
   refuted = λ plain.
@@ -188,18 +197,22 @@ other_too_much term room a b c = record {
 
 -- a chain of `&&`, or of `<>`, whose operators were counted as those of a chain of `&&`
 same_chain : (term : Term) (all : Vec Term Global) → (term ≡ terms.And all) ⊎ (term ≡ terms.Xor all)
-    → (is_plain (tree_of term) ≡ is_plain (ands (trees (map tree_of all.items)))) × (operators_of (tree_of term) ≡ operators_of (ands (trees (map tree_of all.items))))
+    → (is_plain (tree_of term) ≡ is_plain (ands (trees (map tree_of all.items))))
+    × (operators_of (tree_of term) ≡ operators_of (ands (trees (map tree_of all.items))))
 same_chain term all (inl is) = let e = ap tree_of is ∙ tree_of-And all in (ap is_plain e, ap operators_of e)
 same_chain term all (inr is) =
     let e = ap tree_of is ∙ tree_of-Xor all in let ps = trees (map tree_of all.items) in
     (ap is_plain e ∙ plain_xors ps, ap operators_of e ∙ operators_xors ps)
 
-pub chain_answer : (term : Term) (all : Vec Term Global) (parts : List Term) (room : ℕ) (answer : Option ℕ) → (term ≡ terms.And all) ⊎ (term ≡ terms.Xor all) → parts ≡ all.items
+pub chain_answer : (term : Term) (all : Vec Term Global) (parts : List Term) (room : ℕ) (answer : Option ℕ) → (term ≡ terms.And all) ⊎ (term ≡ terms.Xor all)
+    → parts ≡ all.items
     → MatchOption answer (IsTooMuch (ands (trees (map tree_of parts))) room) (λ left. LeavesRoom (ands (trees (map tree_of parts))) room left)
     → MatchOption answer (IsTooMuch (tree_of term) room) (λ left. LeavesRoom (tree_of term) room left)
-chain_answer term all parts room answer is items h = by_case answer (subst (λ ps. MatchOption answer (IsTooMuch (ands (trees (map tree_of ps))) room) (λ left. LeavesRoom (ands (trees (map tree_of ps))) room left)) items h)
+chain_answer term all parts room answer is items h = by_case answer
+    (subst (λ ps. MatchOption answer (IsTooMuch (ands (trees (map tree_of ps))) room) (λ left. LeavesRoom (ands (trees (map tree_of ps))) room left)) items h)
   where
-    by_case : (answer : Option ℕ) → MatchOption answer (IsTooMuch (ands (trees (map tree_of all.items))) room) (λ left. LeavesRoom (ands (trees (map tree_of all.items))) room left)
+    by_case : (answer : Option ℕ) → MatchOption answer (IsTooMuch (ands (trees (map tree_of all.items))) room)
+        (λ left. LeavesRoom (ands (trees (map tree_of all.items))) room left)
         → MatchOption answer (IsTooMuch (tree_of term) room) (λ left. LeavesRoom (tree_of term) room left)
     by_case None h =
         let e = same_chain term all is in

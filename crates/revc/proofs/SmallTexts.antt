@@ -9,8 +9,8 @@ use Rattle.revs_terms.specs.Scopes.{Scoped, unbound, scoped, nearer, scoped_tree
 use Rattle.revs_terms.specs.Trees.{Tree}
 use Rattle.revs_terms.specs.Views.{ProgramView}
 use Rattle.revs_grammar.proofs.Spelled.{body_kept}
-use Rattle.name_scope.proofs.Keeps.{Keeps, keeps}
-use Rattle.name_scope.proofs.Nearer.{nearer-length}
+use Rattle.name_scope.proofs.KeepsLemmas.{Keeps, keeps}
+use Rattle.name_scope.proofs.NearerLemmas.{nearer-length}
 use Rattle.revs_parser.specs.WellFormed.{IsWellFormed}
 use Rattle.revc.specs.Small.{IsSmall}
 use Rattle.revc.specs.Clean.{IsSmallText}
@@ -18,7 +18,11 @@ use Rattle.revc.proofs.SmallEnds.{small_ends}
 
 -- the scope rule binds a body only where its names are bound one by one
 names_bound : (second : Option Place) (body : Scoped Tree) (tree : Tree)
-    → elim second as (λ x. ScopeVerdict) [ Some at ↦ two_params at | None ↦ elim body as (λ x. ScopeVerdict) [ unbound at ↦ unbound_name at | scoped tree ↦ bound_as tree ] ] ≡ bound_as tree
+    → elim second as (λ x. ScopeVerdict) [
+      | Some at ↦ two_params at
+      | None ↦ elim body as
+          (λ x. ScopeVerdict) [ unbound at ↦ unbound_name at | scoped tree ↦ bound_as tree ]
+    ] ≡ bound_as tree
     → body ≡ scoped tree
 names_bound (Some at) body tree e = cc
 names_bound None (unbound at) tree e = cc
@@ -29,7 +33,8 @@ keeps_body params body tree e =
     let names = map (λ (p : Param). p.name) params in
     let all : length (nearer names []) ≡ length {A = List ℕ} [] + length names = nearer-length names [] in
     let count : length (params_scope params) ≡ length params = omega (arith, length-map params (λ (p : Param). p.name)) in
-    subst (λ n. Keeps n body tree) count (keeps (params_scope params) body tree (names_bound (second_of _ params) (scoped_tree (params_scope params) body) tree e))
+    subst (λ n. Keeps n body tree) count
+    (keeps (params_scope params) body tree (names_bound (second_of _ params) (scoped_tree (params_scope params) body) tree e))
 
 -- The run of a small program ends, so its texts are well formed.
 pub small_is_formed : (text : List ℕ) (p : ProgramView) → IsSmallText text p → IsWellFormed text p

@@ -1,7 +1,8 @@
+pub mod Words
+pub mod Faults
 pub mod Small
-pub mod Plain
-pub mod Clean
 pub mod Refusals
-pub mod Evaluation
+pub mod Clean
+pub mod Commands
 pub mod Top
-pub mod Compiled
+pub mod inside

@@ -1,22 +1,24 @@
 ghost use Rattle.std.specs.Prelude.{◌≡◌};
-ghost use Rattle.revc.specs.Refusals.{kind_text};
-ghost use Rattle.revc.specs.Top.{status_of};
+ghost use Rattle.revc.specs.Faults.{kind_text, status_of};
 
-use revc_base::Place;
+use revc_base::{Bits, Place};
+use revs_terms::Cause;
 use thiserror::Error;
 
-/// Why a command did not end well. Each fault has a status and a line of its own, which `report` writes.
-#[derive(Clone, Copy, Debug, PartialEq, Eq, Error)]
+/// Why a command did not end well. Each fault has a status and a line of its own, which `report` writes; it carries what
+/// the line shows.
+#[derive(Debug, Drop, Error)]
 pub enum Fault {
     #[error("bad command line")]
     Usage,
     #[error("program refused")]
     Refused(Refusal),
-    /// The claim with this number, counted from 1, fails on the given bits. Its term is at the place.
+    /// The claim with this number, counted from 1, fails on these bits. Its term is at the place.
     #[error("claim fails")]
-    Claim { number: u32, at: Place },
-    #[error("bad bits in word 1")]
-    BadBits,
+    Claim { number: u32, at: Place, bits: Bits },
+    /// The word of bits with this number, counted from 1, does not fit.
+    #[error("bad bits")]
+    BadBits { word: u32 },
     #[error("read fault")]
     Read,
     #[error("write fault")]
@@ -47,26 +49,14 @@ pub enum Kind {
     Inputs,
     Unbound,
     TwoParams,
-    NotBit,
-    NotRegister,
-    NotFunction,
-    Index,
-    Slice,
-    Rotate,
-    Length,
-    Gone,
-    NoOutput,
-    Depth,
-    Work,
-    Writes,
-    Claims,
-    Outputs,
+    /// The run is stuck.
+    Stuck(Cause),
 }
 
 impl Fault {
     /// The status with which the program ends.
-    pub fn status(self) -> u8
-        ensures { result ≡ status_of self }
+    pub fn status(&self) -> u8
+        ensures { result ≡ status_of self.now }
     {
         match self {
             Fault::Usage => 2,
@@ -75,7 +65,7 @@ impl Fault {
             Fault::Read => 9,
             Fault::Write => 10,
             Fault::Memory => 11,
-            Fault::BadBits => 12,
+            Fault::BadBits { .. } => 12,
         }
     }
 }
@@ -94,20 +84,7 @@ impl Kind {
             Kind::Inputs => b"Inputs",
             Kind::Unbound => b"Unbound",
             Kind::TwoParams => b"TwoParams",
-            Kind::NotBit => b"NotBit",
-            Kind::NotRegister => b"NotRegister",
-            Kind::NotFunction => b"NotFunction",
-            Kind::Index => b"Index",
-            Kind::Slice => b"Slice",
-            Kind::Rotate => b"Rotate",
-            Kind::Length => b"Length",
-            Kind::Gone => b"Gone",
-            Kind::NoOutput => b"NoOutput",
-            Kind::Depth => b"Depth",
-            Kind::Work => b"Work",
-            Kind::Writes => b"Writes",
-            Kind::Claims => b"Claims",
-            Kind::Outputs => b"Outputs",
+            Kind::Stuck(cause) => cause.word(),
         }
     }
 }

@@ -2,18 +2,20 @@
 //! of space-efficient reversible circuits, CAV 2017).
 #![tactic(auto)]
 
-mod compile;
-mod evaluate;
+mod commands;
+mod digits;
 mod fault;
-mod front;
+mod limits;
 mod plain;
 #[cfg(test)]
 mod plain_tests;
+mod program;
 mod report;
 mod small;
 #[cfg(test)]
 mod tests;
 mod top;
+mod words;
 
 use revc_io::{StdSink, StdSource};
 use std::env;

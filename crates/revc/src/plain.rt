@@ -2,9 +2,11 @@
 // copied, and the toggles are undone (Bennett, Logical reversibility of computation, 1973).
 ghost use Rattle.std.specs.Prelude.{◌≡◌, ◌+◌, ◌*◌, ◌<◌, ◌≤◌, ◌∷◌, [], ◌++◌, length, reverse, sum, take, OnOk, IfOk};
 ghost use Rattle.std.specs.List.{AllByRecursion};
-ghost use Rattle.mct_circuit.specs.Gates.{AreDifferent, AreNarrow, flip_of};
+ghost use Rattle.gate_split.specs.Plans.{MapsCleanly};
+ghost use Rattle.list_facts.specs.Lists.{AreDifferent};
+ghost use Rattle.mct_circuit.specs.Gates.{AreNarrow, flip_of};
 ghost use Rattle.revc_base.specs.Tapes.{IsKnown, IsKnownEntry, IsTape, outputs_on};
-ghost use Rattle.revc.specs.Plain.{line_of, toggle_of, toggles_of, copies_of, plain_gates, MapsCleanly};
+ghost use Rattle.revc.specs.inside.Plain.{line_of, toggle_of, toggles_of, copies_of, plain_gates, plain_roles};
 
 use mct_circuit::{Circuit, GateFault};
 use revc_base::{Entry, Memory, Ref, Tape};
@@ -17,11 +19,13 @@ const MOST_GATES: u64 = 4_000_000;
 /// (Bennett, Logical reversibility of computation, 1973).
 pub fn plain_plan(alloc: Global, tape: &Tape) -> Result<Circuit, Memory>
     requires few { sum tape.now.params + length tape.now.outputs + length tape.now.entries ≤ 16384 }
-    ensures lines { IfOk result (λ circuit. circuit.lines ≡ sum tape.now.params + length tape.now.outputs + length tape.now.entries) }
+    ensures lines { IfOk result (λ circuit. circuit.lines
+        ≡ sum tape.now.params + length tape.now.outputs + length tape.now.entries) }
     ensures gates { IfOk result (λ circuit. circuit.gates ≡ plain_gates tape.now) }
-    ensures few_gates { IfOk result (λ circuit. length circuit.gates ≤ 4000000) }
+    ensures few_gates { IfOk result (λ circuit. length circuit.gates
+        ≤ 4 * length tape.now.entries + length tape.now.outputs) }
     ensures narrow { IfOk result (λ circuit. AreNarrow circuit.gates) }
-    ensures clean { IfOk result (λ circuit. MapsCleanly (sum tape.now.params) (length tape.now.outputs) (length tape.now.entries) circuit.gates
+    ensures clean { IfOk result (λ circuit. MapsCleanly (plain_roles tape.now) circuit.gates
         (outputs_on tape.now)) }
 {
     let circuit = build(alloc, tape)?;
@@ -33,9 +37,11 @@ pub fn plain_plan(alloc: Global, tape: &Tape) -> Result<Circuit, Memory>
 // The gates of the plan.
 fn build(alloc: Global, tape: &Tape) -> Result<Circuit, Memory>
     requires few { sum tape.now.params + length tape.now.outputs + length tape.now.entries ≤ 16384 }
-    ensures lines { IfOk result (λ circuit. circuit.lines ≡ sum tape.now.params + length tape.now.outputs + length tape.now.entries) }
+    ensures lines { IfOk result (λ circuit. circuit.lines
+        ≡ sum tape.now.params + length tape.now.outputs + length tape.now.entries) }
     ensures gates { IfOk result (λ circuit. circuit.gates ≡ plain_gates tape.now) }
-    ensures few_gates { IfOk result (λ circuit. length circuit.gates ≤ 4000000) }
+    ensures few_gates { IfOk result (λ circuit. length circuit.gates
+        ≤ 4 * length tape.now.entries + length tape.now.outputs) }
     ensures narrow { IfOk result (λ circuit. AreNarrow circuit.gates) }
     ensures tape { IsTape tape.now }
 {
@@ -62,10 +68,15 @@ fn line_of(inputs: u32, outputs: u32, made: Ref) -> u32
 // Appends the toggles of all writes.
 fn toggle_all(circuit: &mut Circuit, tape: &Tape) -> Result<(), Memory>
     requires few { sum tape.now.params + length tape.now.outputs + length tape.now.entries ≤ 16384 }
-    requires lines { circuit.old.lines ≡ sum tape.now.params + length tape.now.outputs + length tape.now.entries }
+    requires lines { circuit.old.lines
+        ≡ sum tape.now.params + length tape.now.outputs + length tape.now.entries }
     requires limit { circuit.old.limit ≡ 4000000 }
     requires none { circuit.old.gates ≡ [] }
-    ensures ok { OnOk result (circuit.new ≡ record circuit.old { gates = toggles_of (sum tape.now.params) (length tape.now.outputs) 0 tape.now.entries }) }
+    ensures ok { OnOk result (circuit.new
+        ≡ record circuit.old {
+          gates = toggles_of (sum tape.now.params)
+              (length tape.now.outputs) 0 tape.now.entries;
+        }) }
     ensures few { OnOk result (length circuit.new.gates ≤ 2 * length tape.now.entries) }
     ensures narrow { OnOk result (AreNarrow circuit.new.gates) }
 {
@@ -88,7 +99,8 @@ fn toggle(
     requires known { IsKnownEntry inputs k entry }
     requires lines { inputs + outputs + k < circuit.old.lines }
     requires room { length circuit.old.gates + 2 ≤ circuit.old.limit }
-    ensures ok { OnOk result (circuit.new ≡ record circuit.old { gates = circuit.old.gates ++ toggle_of inputs outputs k entry }) }
+    ensures ok { OnOk result (circuit.new
+        ≡ record circuit.old { gates = circuit.old.gates ++ toggle_of inputs outputs k entry }) }
     ensures few { OnOk result (length circuit.new.gates ≤ length circuit.old.gates + 2) }
     ensures narrow { OnOk result (AreNarrow circuit.old.gates → AreNarrow circuit.new.gates) }
 {
@@ -114,13 +126,16 @@ fn toggle(
 // Appends the copies of all outputs to their lines.
 fn copy_all(circuit: &mut Circuit, tape: &Tape) -> Result<(), Memory>
     requires few { sum tape.now.params + length tape.now.outputs + length tape.now.entries ≤ 16384 }
-    requires lines { circuit.old.lines ≡ sum tape.now.params + length tape.now.outputs + length tape.now.entries }
+    requires lines { circuit.old.lines
+        ≡ sum tape.now.params + length tape.now.outputs + length tape.now.entries }
     requires room { length circuit.old.gates + length tape.now.outputs ≤ circuit.old.limit }
     ensures ok { OnOk result (circuit.new ≡ record circuit.old {
       gates =
-          circuit.old.gates ++ copies_of (sum tape.now.params) (length tape.now.outputs) 0 tape.now.outputs;
+          circuit.old.gates ++ copies_of (sum tape.now.params)
+          (length tape.now.outputs) 0 tape.now.outputs;
     }) }
-    ensures few { OnOk result (length circuit.new.gates ≡ length circuit.old.gates + length tape.now.outputs) }
+    ensures few { OnOk result (length circuit.new.gates
+        ≡ length circuit.old.gates + length tape.now.outputs) }
     ensures narrow { OnOk result (AreNarrow circuit.old.gates → AreNarrow circuit.new.gates) }
 {
     let (inputs, outputs) = (tape.inputs(), tape.outputs());
@@ -135,9 +150,12 @@ fn copy_all(circuit: &mut Circuit, tape: &Tape) -> Result<(), Memory>
 fn push(circuit: &mut Circuit, controls: &[u32], target: u32) -> Result<(), Memory>
     requires room { length circuit.old.gates < circuit.old.limit }
     requires different { AreDifferent (controls.now ++ target ∷ []) }
-    requires in_range { AllByRecursion (λ line. line < circuit.old.lines) (controls.now ++ target ∷ []) }
-    ensures ok { OnOk result (circuit.new ≡ record circuit.old { gates = circuit.old.gates ++ flip_of controls.now target ∷ [] }) }
-    ensures narrow { length controls.now ≤ 2 → AreNarrow circuit.old.gates → AreNarrow circuit.new.gates }
+    requires in_range { AllByRecursion (λ line. line < circuit.old.lines)
+        (controls.now ++ target ∷ []) }
+    ensures ok { OnOk result (circuit.new
+        ≡ record circuit.old { gates = circuit.old.gates ++ flip_of controls.now target ∷ [] }) }
+    ensures narrow { length controls.now ≤ 2 → AreNarrow circuit.old.gates
+        → AreNarrow circuit.new.gates }
 {
     match circuit.push_flip(controls, target) {
         Ok(()) => Ok(()),
@@ -150,7 +168,11 @@ fn push(circuit: &mut Circuit, controls: &[u32], target: u32) -> Result<(), Memo
 fn mirror(circuit: &mut Circuit, count: u64) -> Result<(), Memory>
     requires first { count ≤ length circuit.old.gates }
     requires room { length circuit.old.gates + count ≤ circuit.old.limit }
-    ensures ok { OnOk result (circuit.new ≡ record circuit.old { gates = circuit.old.gates ++ reverse (take count circuit.old.gates) }) }
+    ensures ok { OnOk result (circuit.new
+        ≡ record circuit.old {
+          gates = circuit.old.gates ++ reverse
+              (take count circuit.old.gates);
+        }) }
     ensures narrow { OnOk result (AreNarrow circuit.old.gates → AreNarrow circuit.new.gates) }
 {
     match circuit.append_reversed(count) {

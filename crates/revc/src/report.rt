@@ -3,44 +3,41 @@ ghost use Rattle.std.specs.Prelude.{◌≡◌, ◌++◌, codes};
 ghost use Rattle.std.specs.Fmt.{decimal};
 ghost use Rattle.revc_io.specs.Faults.{HasCause};
 ghost use Rattle.revc_io.specs.Passing.{Gathers, Writes};
-ghost use Rattle.revc.specs.Evaluation.{claim_line};
-ghost use Rattle.revc.specs.Refusals.{kind_text, line_of, place_text};
-ghost use Rattle.revc.specs.Top.{message_of, Receives};
+ghost use Rattle.revc.specs.Faults.{bits_line, claim_line, digits_of, kind_text, line_of, place_text, refusal_line};
+ghost use Rattle.revc.specs.Top.{Receives};
 
+use crate::digits::put_line_of_digits;
 use crate::fault::{Fault, Kind, Refusal};
 use revc_base::Place;
 use revc_io::{Buffer, Failed, Sink, put_decimal};
 
-/// Writes the line of a fault; that of a claim shows the word. A fault of the sink changes nothing.
-pub fn report<E: Sink>(err: &mut E, fault: Fault, word: &str)
-    ensures { Receives (E.held err.old) (E.held err.new) (E.faults err.old) (E.faults err.new) (message_of word.now fault) }
+/// Writes the line of a fault. A fault of the sink changes nothing.
+pub fn report<E: Sink>(err: &mut E, fault: &Fault)
+    ensures { Receives (E.held err.old) (E.held err.new) (E.faults err.old) (E.faults err.new)
+        (line_of fault.now) }
 {
-    let _ = write_line(err, fault, word);
+    let _ = write_line(err, fault);
 }
 
-fn write_line<E: Sink>(err: &mut E, fault: Fault, word: &str) -> Result<(), Failed>
-    ensures bytes { Writes result (E.held err.old) (E.held err.new) (message_of word.now fault) }
+fn write_line<E: Sink>(err: &mut E, fault: &Fault) -> Result<(), Failed>
+    ensures bytes { Writes result (E.held err.old) (E.held err.new) (line_of fault.now) }
     ensures cause { HasCause (E.faults err.old) (E.faults err.new) result }
 {
     let mut buffer = Buffer::new();
-    put_line(&mut buffer, err, fault, word)?;
+    put_line(&mut buffer, err, fault)?;
     buffer.finish(err)
 }
 
-fn put_line<E: Sink>(
-    buffer: &mut Buffer,
-    err: &mut E,
-    fault: Fault,
-    word: &str,
-) -> Result<(), Failed>
-    ensures bytes { Gathers result (E.held err.old) (E.held err.new) buffer.old buffer.new (message_of word.now fault) }
+fn put_line<E: Sink>(buffer: &mut Buffer, err: &mut E, fault: &Fault) -> Result<(), Failed>
+    ensures bytes { Gathers result (E.held err.old) (E.held err.new) buffer.old buffer.new
+        (line_of fault.now) }
     ensures cause { HasCause (E.faults err.old) (E.faults err.new) result }
 {
     match fault {
         Fault::Usage => buffer.put(err, b"revc: bad command line\n"),
-        Fault::Refused(refusal) => put_refusal(buffer, err, refusal),
-        Fault::Claim { number, at } => put_claim(buffer, err, number, at, word),
-        Fault::BadBits => buffer.put(err, b"revc: bad bits in word 1\n"),
+        Fault::Refused(refusal) => put_refusal(buffer, err, *refusal),
+        Fault::Claim { number, at, bits } => put_claim(buffer, err, *number, *at, bits.bits()),
+        Fault::BadBits { word } => put_bad_bits(buffer, err, *word),
         Fault::Read => buffer.put(err, b"revc: read fault\n"),
         Fault::Write => buffer.put(err, b"revc: write fault\n"),
         Fault::Memory => buffer.put(err, b"revc: out of memory\n"),
@@ -48,7 +45,8 @@ fn put_line<E: Sink>(
 }
 
 fn put_refusal<E: Sink>(buffer: &mut Buffer, err: &mut E, refusal: Refusal) -> Result<(), Failed>
-    ensures bytes { Gathers result (E.held err.old) (E.held err.new) buffer.old buffer.new (line_of refusal) }
+    ensures bytes { Gathers result (E.held err.old) (E.held err.new) buffer.old buffer.new
+        (refusal_line refusal) }
     ensures cause { HasCause (E.faults err.old) (E.faults err.new) result }
 {
     match refusal {
@@ -69,7 +67,8 @@ fn put_at<E: Sink>(buffer: &mut Buffer, err: &mut E, kind: Kind, at: Place) -> R
 }
 
 fn put_place<E: Sink>(buffer: &mut Buffer, err: &mut E, at: Place) -> Result<(), Failed>
-    ensures bytes { Gathers result (E.held err.old) (E.held err.new) buffer.old buffer.new (place_text at) }
+    ensures bytes { Gathers result (E.held err.old) (E.held err.new) buffer.old buffer.new
+        (place_text at) }
     ensures cause { HasCause (E.faults err.old) (E.faults err.new) result }
 {
     put_decimal(buffer, err, at.line as u64)?;
@@ -92,37 +91,48 @@ fn put_claim<E: Sink>(
     err: &mut E,
     number: u32,
     at: Place,
-    word: &str,
+    bits: &[bool],
 ) -> Result<(), Failed>
-    ensures bytes { Gathers result (E.held err.old) (E.held err.new) buffer.old buffer.new (claim_line number at word.now) }
+    ensures bytes { Gathers result (E.held err.old) (E.held err.new) buffer.old buffer.new
+        (claim_line number at bits.now) }
     ensures cause { HasCause (E.faults err.old) (E.faults err.new) result }
 {
     buffer.put(err, b"revc: claim ")?;
     put_decimal(buffer, err, number as u64)?;
-    put_claim_place(buffer, err, at, word)
+    put_claim_place(buffer, err, at, bits)
 }
 
 fn put_claim_place<E: Sink>(
     buffer: &mut Buffer,
     err: &mut E,
     at: Place,
-    word: &str,
+    bits: &[bool],
 ) -> Result<(), Failed>
     ensures bytes { Gathers result (E.held err.old) (E.held err.new) buffer.old buffer.new
-        (codes " at " ++ (place_text at ++ (codes " fails on " ++ (word.now ++ codes "\n")))) }
+        (codes " at " ++ (place_text at
+        ++ (codes " fails on " ++ (digits_of bits.now ++ codes "\n")))) }
     ensures cause { HasCause (E.faults err.old) (E.faults err.new) result }
 {
     buffer.put(err, b" at ")?;
     put_place(buffer, err, at)?;
-    put_failing(buffer, err, word)
+    put_failing(buffer, err, bits)
 }
 
-fn put_failing<E: Sink>(buffer: &mut Buffer, err: &mut E, word: &str) -> Result<(), Failed>
+fn put_failing<E: Sink>(buffer: &mut Buffer, err: &mut E, bits: &[bool]) -> Result<(), Failed>
     ensures bytes { Gathers result (E.held err.old) (E.held err.new) buffer.old buffer.new
-        (codes " fails on " ++ (word.now ++ codes "\n")) }
+        (codes " fails on " ++ (digits_of bits.now ++ codes "\n")) }
     ensures cause { HasCause (E.faults err.old) (E.faults err.new) result }
 {
     buffer.put(err, b" fails on ")?;
-    buffer.put(err, word.as_bytes())?;
+    put_line_of_digits(buffer, err, bits)
+}
+
+fn put_bad_bits<E: Sink>(buffer: &mut Buffer, err: &mut E, word: u32) -> Result<(), Failed>
+    ensures bytes { Gathers result (E.held err.old) (E.held err.new) buffer.old buffer.new
+        (bits_line word) }
+    ensures cause { HasCause (E.faults err.old) (E.faults err.new) result }
+{
+    buffer.put(err, b"revc: bad bits in word ")?;
+    put_decimal(buffer, err, word as u64)?;
     buffer.put(err, b"\n")
 }

@@ -27,7 +27,8 @@ fn are_bits(params: &[Param]) -> bool
 // What a term leaves of `room` for operators. `None` comes where the term is not plain, or has more operators.
 #[cycle(room_behind)]
 fn room_behind(term: &Term, room: u32) -> Option<u32>
-    ensures { MatchOption result (IsTooMuch (tree_of term.now) room) (λ left. LeavesRoom (tree_of term.now) room left) }
+    ensures { MatchOption result (IsTooMuch (tree_of term.now) room)
+        (λ left. LeavesRoom (tree_of term.now) room left) }
 {
     match term {
         Term::Name(_) => Some(room),
@@ -40,7 +41,8 @@ fn room_behind(term: &Term, room: u32) -> Option<u32>
 // has as many as one of `&&`.
 #[cycle(room_behind)]
 fn room_behind_chain(parts: &[Term], room: u32) -> Option<u32>
-    ensures { MatchOption result (IsTooMuch (ands (trees (map tree_of parts.now))) room) (λ left. LeavesRoom (ands (trees (map tree_of parts.now))) room left) }
+    ensures { MatchOption result (IsTooMuch (ands (trees (map tree_of parts.now))) room)
+        (λ left. LeavesRoom (ands (trees (map tree_of parts.now))) room left) }
 {
     let mut left = room;
     for (i, part) in parts.iter().enumerate() {

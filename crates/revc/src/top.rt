@@ -1,28 +1,24 @@
 // The top call: all that the program does.
-ghost use Rattle.std.specs.Prelude.{◌≡◌, ◌≢◌, ℕ, List, Bool, ◌↔◌, ◌≤◌, ◌⊎◌, length, map, string_bytes, IsTrue, IfSome, IfOk, OnOk, OnErr, IfErr, IsErrOf, ◌<◌};
-ghost use Rattle.std.specs.Io.KnownBytes.{IsAtEnd, Keeps};
-ghost use Rattle.revc_io.specs.Faults.{Rose, HasCause};
-ghost use Rattle.revc.specs.Clean.{IsNoSmallText, IsSmallText};
-ghost use Rattle.revs_terms.specs.Views.{ProgramView};
-ghost use Rattle.revc.specs.Refusals.{IsRefusal};
-ghost use Rattle.revc.specs.declared.fault.Refusal.{Refusal};
-ghost use Rattle.revc.specs.Evaluation.{IsValueOf, Stops};
-ghost use Rattle.revc.specs.Top.{IsCompile, IsEval, IsOption, IsOrder, second_of, Compiles, Evaluates, BeginsToCompile, BeginsToEvaluate, IsStatus, status_of, RefusesWell, Refuses, RestsOnText, Reports, StopsWell, Stopped};
+ghost use Rattle.std.specs.Prelude.{◌≡◌, ◌≢◌, ◌↔◌, ◌≤◌, ◌⊎◌, Contains, length, IfSome, IfOk, OnOk, OnErr, IfErr, IsErrOf};
+ghost use Rattle.std.specs.Io.KnownBytes.{IsAtEnd};
+ghost use Rattle.revc_io.specs.Faults.{Rose};
+ghost use Rattle.revc.specs.Commands.{Gives, IsCausedBy, IsCauseOrMemory, Serves, statuses_of};
+ghost use Rattle.revc.specs.Faults.{status_of};
+ghost use Rattle.revc.specs.Top.{Grows, GrowsByPrefix, IsReadAt, IsReadWhole, IsStatusOfAll, MayEnd, Reports, RestsOnText, Served, Stopped};
+ghost use Rattle.revc.specs.Words.{HasNoOrder, order_of, words_of};
+ghost use Rattle.revc.specs.inside.Mappings.{reading_fault, words_fault};
 
-use crate::compile::compile;
-use crate::evaluate::{evaluate, write_bits};
+use crate::commands::prepare;
 use crate::fault::{Fault, Refusal};
+use crate::limits::MOST_BYTES;
 use crate::report::report;
-use real_format::write;
+use crate::words::{Order, WordsFault, read_words};
 use revc_io::{ReadFault, Sink, Source, read_up_to};
 use std::alloc::Global;
 
-/// The most bytes of a program text.
-const MOST_BYTES: usize = 1_048_576;
-
-/// Does what the words of the command line say, without the program's own name, and answers the status.
-/// `compile` reads a program from the source and writes the file of its clean circuit. `eval BITS` reads a program, and writes
-/// the bits that it gives on these.
+/// Does what the words of the command line ask for, without the program's own name, and answers the status.
+/// `compile` reads a program from the source and writes the file of its clean circuit. `eval BITS` reads a program, and
+/// writes the bits that it gives on these.
 pub fn revc<S: Source, K: Sink, E: Sink>(
     alloc: Global,
     words: &[String],
@@ -30,48 +26,45 @@ pub fn revc<S: Source, K: Sink, E: Sink>(
     out: &mut K,
     err: &mut E,
 ) -> u8
-    // The headlines: what was written is a clean file for the one program of the text, or its value on the word.
-    ensures compiles { IsCompile (map string_bytes words.now) → result ≡ 0 → IfSome (S.rest source.old) (λ text. Compiles text (K.held out.old) (K.held out.new)) }
-    ensures evaluates { IsEval (map string_bytes words.now) → result ≡ 0
-        → IfSome (S.rest source.old) (λ text. Evaluates text (second_of (map string_bytes words.now)) (K.held out.old) (K.held out.new)) }
+    // What the order gives for the text is written at status 0, and a prefix of it at 10.
+    ensures gives { result ≡ 0 → Served (words_of words.now) (S.rest source.old)
+        (λ order text. Grows (Gives order text) (K.held out.old) (K.held out.new)) }
+    ensures begins { result ≡ 10 → Served (words_of words.now) (S.rest source.old)
+        (λ order text. GrowsByPrefix (Gives order text) (K.held out.old) (K.held out.new)) }
+    ensures silent { result ≢ 0 → result ≢ 10 → out.new ≡ out.old }
 
-    // Each other status has its cause, and there is no other.
-    ensures statuses { IsStatus result }
-    ensures usage { (result ≡ 2) ↔ ¬ IsOrder (map string_bytes words.now) }
-    ensures refused { IsCompile (map string_bytes words.now) → result ≡ 3 → IfSome (S.rest source.old) (λ text. Refuses text (E.held err.old) (E.held err.new) (E.faults err.old) (E.faults err.new)) }
-    ensures stopped { IsEval (map string_bytes words.now) → result ≢ 0 → result ≢ 9 → result ≢ 10 → result ≢ 11
-        → IfSome (S.rest source.old) (λ text. Stopped text (second_of (map string_bytes words.now)) result (E.held err.old) (E.held err.new) (E.faults err.old) (E.faults err.new)) }
-    ensures no_bits { IsCompile (map string_bytes words.now) → (result ≢ 4) × (result ≢ 12) }
+    // Each other status has its cause, and its line is written.
+    ensures statuses { result ≢ 2 → MayEnd (words_of words.now) result }
+    ensures usage { (result ≡ 2) ↔ HasNoOrder (words_of words.now) }
+    ensures stops { RestsOnText result → Served (words_of words.now) (S.rest source.old)
+        (λ order text.
+        Stopped order text result (E.held err.old) (E.held err.new) (E.faults err.old)
+        (E.faults err.new)) }
     ensures read_fault { result ≡ 9 → Rose (S.faults source.old) (S.faults source.new) }
     ensures write_fault { result ≡ 10 → Rose (K.faults out.old) (K.faults out.new) }
-
-    // So it answers 0 or 11 wherever no cause holds, and never 0 or 10 where there is nothing to write.
-    ensures completes { IsCompile (map string_bytes words.now) → ¬ Rose (S.faults source.old) (S.faults source.new) → ¬ Rose (K.faults out.old) (K.faults out.new)
-        → IfSome (S.rest source.old) (λ text. (p : ProgramView) → IsSmallText text p → (result ≡ 0) ⊎ (result ≡ 11)) }
-    ensures finishes { IsEval (map string_bytes words.now) → ¬ Rose (S.faults source.old) (S.faults source.new) → ¬ Rose (K.faults out.old) (K.faults out.new)
-        → IfSome (S.rest source.old) (λ text. (value : List Bool) → IsValueOf text (second_of (map string_bytes words.now)) value → (result ≡ 0) ⊎ (result ≡ 11)) }
-    ensures refuses { IsCompile (map string_bytes words.now) → IfSome (S.rest source.old) (λ text. IsNoSmallText text → (result ≢ 0) × (result ≢ 10)) }
-    ensures refuses_all { IsCompile (map string_bytes words.now) → result ≢ 9 → result ≢ 11
-        → IfSome (S.rest source.old) (λ text. (refusal : Refusal) → IsRefusal text refusal → result ≡ 3) }
-    ensures stops_all { IsEval (map string_bytes words.now) → result ≢ 9 → result ≢ 11
-        → IfSome (S.rest source.old) (λ text. (fault : Fault) → Stops text (second_of (map string_bytes words.now)) fault → result ≡ status_of fault) }
-
-    // What is read and written.
-    ensures untouched { result ≡ 2 → source.new ≡ source.old }
-    ensures read_whole { (result ≡ 0) ⊎ (result ≡ 10) → IsAtEnd (S.rest source.new) }
-    ensures read_for_bits { (result ≡ 4) ⊎ (result ≡ 12) → IsAtEnd (S.rest source.new) }
-    ensures read_refused { result ≡ 3 → IfSome (S.rest source.old) (λ text. length text ≤ 1048576 → IsAtEnd (S.rest source.new)) }
-    ensures begins { IsCompile (map string_bytes words.now) → result ≡ 10 → IfSome (S.rest source.old) (λ text. BeginsToCompile text (K.held out.old) (K.held out.new)) }
-    ensures begins_value { IsEval (map string_bytes words.now) → result ≡ 10
-        → IfSome (S.rest source.old) (λ text. BeginsToEvaluate text (second_of (map string_bytes words.now)) (K.held out.old) (K.held out.new)) }
-    ensures silent { result ≢ 0 → result ≢ 10 → out.new ≡ out.old }
+    ensures message { result ≢ 0
+        → Reports result (E.held err.old) (E.held err.new) (E.faults err.old) (E.faults err.new) }
     ensures quiet { result ≡ 0 → err.new ≡ err.old }
-    ensures message { result ≢ 0 → Reports (second_of (map string_bytes words.now)) result (E.held err.old) (E.held err.new) (E.faults err.old) (E.faults err.new) }
+    ensures calm { result ≡ 0
+        → (S.faults source.new ≡ S.faults source.old) × (K.faults out.new ≡ K.faults out.old) }
+
+    // Where an exact cause holds, its status comes; where the order serves, success, unless memory or a device is wanting.
+    ensures exact { result ≢ 9 → result ≢ 11 → Served (words_of words.now) (S.rest source.old)
+        (λ order text. IsStatusOfAll order text result) }
+    ensures completes { ¬ Rose (S.faults source.old) (S.faults source.new)
+        → ¬ Rose (K.faults out.old) (K.faults out.new)
+        → Served (words_of words.now) (S.rest source.old)
+        (λ order text. Serves order text → (result ≡ 0) ⊎ (result ≡ 11)) }
+
+    // Words that give no order leave the source as it is; a text within the limit is read to its end before all else.
+    ensures untouched { result ≡ 2 → source.new ≡ source.old }
+    ensures read_whole { result ≢ 2 → result ≢ 9 → result ≢ 11
+        → IsReadWhole (S.rest source.old) (S.rest source.new) }
 {
     match run(alloc, words, source, out) {
         Ok(()) => 0,
         Err(fault) => {
-            report(err, fault, second(words));
+            report(err, &fault);
             fault.status()
         }
     }
@@ -83,169 +76,120 @@ fn run<S: Source, K: Sink>(
     source: &mut S,
     out: &mut K,
 ) -> Result<(), Fault>
-    ensures compiles { IsCompile (map string_bytes words.now) → OnOk result (IfSome (S.rest source.old) (λ text. Compiles text (K.held out.old) (K.held out.new))) }
-    ensures evaluates { IsEval (map string_bytes words.now) → OnOk result (IfSome (S.rest source.old) (λ text. Evaluates text (second_of (map string_bytes words.now)) (K.held out.old) (K.held out.new))) }
-    ensures usage { IsErrOf result Fault.Usage ↔ ¬ IsOrder (map string_bytes words.now) }
-    ensures refused { IsCompile (map string_bytes words.now) → IfErr result (λ fault. IfSome (S.rest source.old) (λ text. RefusesWell text fault)) }
-    ensures no_bits { IsCompile (map string_bytes words.now) → IfErr result RestsOnText }
-    ensures stopped { IsEval (map string_bytes words.now) → IfErr result (λ fault. IfSome (S.rest source.old) (λ text. StopsWell text (second_of (map string_bytes words.now)) fault)) }
-    ensures read_fault { IsErrOf result Fault.Read → Rose (S.faults source.old) (S.faults source.new) }
+    ensures gives { OnOk result (Served (words_of words.now) (S.rest source.old)
+        (λ order text. Grows (Gives order text) (K.held out.old) (K.held out.new))) }
+    ensures begins { IsErrOf result Fault.Write → Served (words_of words.now) (S.rest source.old)
+        (λ order text. GrowsByPrefix (Gives order text) (K.held out.old) (K.held out.new)) }
+    ensures silent { OnErr result ((IsErrOf result Fault.Write → ⊥) → out.new ≡ out.old) }
+    ensures may_end { IfErr result (λ fault. status_of fault ≢ 2
+        → MayEnd (words_of words.now) (status_of fault)) }
+    ensures usage { IsErrOf result Fault.Usage ↔ HasNoOrder (words_of words.now) }
+    ensures causes { IfErr result (λ fault. Served (words_of words.now) (S.rest source.old)
+        (λ order text. IsCausedBy order text fault)) }
+    ensures read_fault { IsErrOf result Fault.Read
+        → Rose (S.faults source.old) (S.faults source.new) }
     ensures write_fault { IsErrOf result Fault.Write → Rose (K.faults out.old) (K.faults out.new) }
+    ensures calm_source { OnOk result (S.faults source.new ≡ S.faults source.old) }
+    ensures calm_sink { OnOk result (K.faults out.new ≡ K.faults out.old) }
     ensures untouched { IsErrOf result Fault.Usage → source.new ≡ source.old }
-    ensures read_whole { OnOk result (IsAtEnd (S.rest source.new)) }
-    ensures read_whole_at_write { IsErrOf result Fault.Write → IsAtEnd (S.rest source.new) }
-    ensures read_for_bits { IfErr result (λ fault. ¬ RestsOnText fault → IsAtEnd (S.rest source.new)) }
-    ensures read_refused { IfErr result (λ fault. status_of fault ≡ 3 → IfSome (S.rest source.old) (λ text. length text ≤ 1048576 → IsAtEnd (S.rest source.new))) }
-    ensures begins { IsCompile (map string_bytes words.now) → IsErrOf result Fault.Write → IfSome (S.rest source.old) (λ text. BeginsToCompile text (K.held out.old) (K.held out.new)) }
-    ensures begins_value { IsEval (map string_bytes words.now) → IsErrOf result Fault.Write → IfSome (S.rest source.old) (λ text. BeginsToEvaluate text (second_of (map string_bytes words.now)) (K.held out.old) (K.held out.new)) }
-    ensures silent { OnErr result ((IsErrOf result Fault.Write → ⊥) → out.new ≡ out.old) }
+    ensures read_whole { OnOk result (IsReadWhole (S.rest source.old) (S.rest source.new)) }
+    ensures read_at { IfErr result (λ fault. IsReadAt fault (S.rest source.old) (S.rest source.new)) }
 {
-    if is_compile(words) {
-        return compile_source(alloc, source, out);
+    match read_words(alloc, words) {
+        Ok(order) => carry_out(alloc, &order, source, out),
+        Err(fault) => Err(words_fault(fault)),
     }
-    if is_eval(words) {
-        return evaluate_source(alloc, second(words), source, out);
-    }
-    Err(Fault::Usage)
 }
 
-fn compile_source<S: Source, K: Sink>(
+// Reads the text of an order from the source, and writes what the order gives for it.
+fn carry_out<S: Source, K: Sink>(
     alloc: Global,
+    order: &Order,
     source: &mut S,
     out: &mut K,
 ) -> Result<(), Fault>
-    ensures compiles { OnOk result (IfSome (S.rest source.old) (λ text. Compiles text (K.held out.old) (K.held out.new))) }
-    ensures refused { IfErr result (λ fault. IfSome (S.rest source.old) (λ text. RefusesWell text fault)) }
-    ensures no_bits { IfErr result RestsOnText }
-    ensures read_fault { IsErrOf result Fault.Read → Rose (S.faults source.old) (S.faults source.new) }
-    ensures write_fault { IsErrOf result Fault.Write → Rose (K.faults out.old) (K.faults out.new) }
-    ensures no_usage { IsErrOf result Fault.Usage → ⊥ }
-    ensures read_whole { OnOk result (IsAtEnd (S.rest source.new)) }
-    ensures read_whole_at_write { IsErrOf result Fault.Write → IsAtEnd (S.rest source.new) }
-    ensures read_refused { IfErr result (λ fault. status_of fault ≡ 3 → IfSome (S.rest source.old) (λ text. length text ≤ 1048576 → IsAtEnd (S.rest source.new))) }
-    ensures begins { IsErrOf result Fault.Write → IfSome (S.rest source.old) (λ text. BeginsToCompile text (K.held out.old) (K.held out.new)) }
+    ensures gives { OnOk result (IfSome (S.rest source.old)
+        (λ text. Grows (Gives (order_of order.now) text) (K.held out.old) (K.held out.new))) }
+    ensures begins { IsErrOf result Fault.Write → IfSome (S.rest source.old)
+        (λ text. GrowsByPrefix (Gives (order_of order.now) text) (K.held out.old) (K.held out.new)) }
     ensures silent { OnErr result ((IsErrOf result Fault.Write → ⊥) → out.new ≡ out.old) }
-{
-    let text = read(alloc, source)?;
-    translate(alloc, &text, out)
-}
-
-fn evaluate_source<S: Source, K: Sink>(
-    alloc: Global,
-    word: &str,
-    source: &mut S,
-    out: &mut K,
-) -> Result<(), Fault>
-    ensures evaluates { OnOk result (IfSome (S.rest source.old) (λ text. Evaluates text word.now (K.held out.old) (K.held out.new))) }
-    ensures stopped { IfErr result (λ fault. IfSome (S.rest source.old) (λ text. StopsWell text word.now fault)) }
-    ensures read_fault { IsErrOf result Fault.Read → Rose (S.faults source.old) (S.faults source.new) }
-    ensures write_fault { IsErrOf result Fault.Write → Rose (K.faults out.old) (K.faults out.new) }
+    ensures may_end { IfErr result (λ fault. Contains (statuses_of order.now.command)
+        (status_of fault)) }
+    ensures causes { IfErr result (λ fault. IfSome (S.rest source.old)
+        (λ text. IsCausedBy (order_of order.now) text fault)) }
     ensures no_usage { IsErrOf result Fault.Usage → ⊥ }
-    ensures read_whole { OnOk result (IsAtEnd (S.rest source.new)) }
-    ensures read_whole_at_write { IsErrOf result Fault.Write → IsAtEnd (S.rest source.new) }
-    ensures read_for_bits { IfErr result (λ fault. ¬ RestsOnText fault → IsAtEnd (S.rest source.new)) }
-    ensures read_refused { IfErr result (λ fault. status_of fault ≡ 3 → IfSome (S.rest source.old) (λ text. length text ≤ 1048576 → IsAtEnd (S.rest source.new))) }
-    ensures begins { IsErrOf result Fault.Write → IfSome (S.rest source.old) (λ text. BeginsToEvaluate text word.now (K.held out.old) (K.held out.new)) }
+    ensures read_fault { IsErrOf result Fault.Read
+        → Rose (S.faults source.old) (S.faults source.new) }
+    ensures write_fault { IsErrOf result Fault.Write → Rose (K.faults out.old) (K.faults out.new) }
+    ensures calm_source { OnOk result (S.faults source.new ≡ S.faults source.old) }
+    ensures calm_sink { OnOk result (K.faults out.new ≡ K.faults out.old) }
+    ensures read_whole { OnOk result (IsReadWhole (S.rest source.old) (S.rest source.new)) }
+    ensures read_at { IfErr result (λ fault. IsReadAt fault (S.rest source.old) (S.rest source.new)) }
+{
+    let text = read_text(alloc, source)?;
+    serve(alloc, order, &text, out)
+}
+
+// Writes what an order gives for a text.
+fn serve<K: Sink>(alloc: Global, order: &Order, text: &[u8], out: &mut K) -> Result<(), Fault>
+    requires { length text.now ≤ MOST_BYTES }
+    ensures gives { OnOk result (Grows (Gives (order_of order.now) text.now) (K.held out.old)
+        (K.held out.new)) }
+    ensures begins { IsErrOf result Fault.Write
+        → GrowsByPrefix (Gives (order_of order.now) text.now) (K.held out.old) (K.held out.new) }
     ensures silent { OnErr result ((IsErrOf result Fault.Write → ⊥) → out.new ≡ out.old) }
+    ensures may_end { IfErr result (λ fault. Contains (statuses_of order.now.command)
+        (status_of fault)) }
+    ensures causes { IfErr result (IsCausedBy (order_of order.now) text.now) }
+    ensures no_usage { IsErrOf result Fault.Usage → ⊥ }
+    ensures no_read { IsErrOf result Fault.Read → ⊥ }
+    ensures write_fault { IsErrOf result Fault.Write → Rose (K.faults out.old) (K.faults out.new) }
+    ensures calm { OnOk result (K.faults out.new ≡ K.faults out.old) }
 {
-    let text = read(alloc, source)?;
-    print_value(alloc, &text, word, out)
-}
-
-// Whether the words are the one word `compile`.
-fn is_compile(words: &[String]) -> bool
-    ensures yes { IsTrue result ↔ IsCompile (map string_bytes words.now) }
-    ensures alone { IsTrue result → ¬ IsEval (map string_bytes words.now) }
-{
-    match words {
-        [word] => word.as_str() == "compile",
-        _ => false,
-    }
-}
-
-// Whether the words are `eval` and a word that is no option.
-fn is_eval(words: &[String]) -> bool
-    ensures { IsTrue result ↔ IsEval (map string_bytes words.now) }
-{
-    match words {
-        [name, word] => name.as_str() == "eval" && !is_option(word.as_str()),
-        _ => false,
-    }
-}
-
-fn is_option(word: &str) -> bool
-    ensures { IsTrue result ↔ IsOption word.now }
-{
-    match word.as_bytes() {
-        [first, ..] => *first == b'-',
-        [] => false,
-    }
-}
-
-// The second of two words.
-fn second(words: &[String]) -> &str
-    ensures { result.now ≡ second_of (map string_bytes words.now) }
-{
-    match words {
-        [_, word, ..] => word.as_str(),
-        _ => "",
+    let prepared = prepare(alloc, order, text)?;
+    match prepared.write(out) {
+        Ok(()) => Ok(()),
+        Err(_) => Err(Fault::Write),
     }
 }
 
 // Reads the whole text of a program.
-fn read<S: Source>(alloc: Global, source: &mut S) -> Result<Vec<u8>, Fault>
+fn read_text<S: Source>(alloc: Global, source: &mut S) -> Result<Vec<u8>, Fault>
     ensures text { IfOk result (λ text. IfSome (S.rest source.old) (λ rest. text.items ≡ rest)) }
-    ensures fits { IfOk result (λ text. length text.items ≤ 1048576) }
+    ensures fits { IfOk result (λ text. length text.items ≤ MOST_BYTES) }
     ensures read_whole { OnOk result (IsAtEnd (S.rest source.new)) }
-    ensures refused { IfErr result (λ fault. IfSome (S.rest source.old) (λ rest. RefusesWell rest fault)) }
-    ensures stopped { IfErr result (λ fault. IfSome (S.rest source.old) (λ rest. (word : List ℕ) → StopsWell rest word fault)) }
-    ensures no_bits { IfErr result RestsOnText }
-    ensures too_long { IfErr result (λ fault. status_of fault ≡ 3 → IfSome (S.rest source.old) (λ rest. 1048576 < length rest)) }
-    ensures read_fault { IsErrOf result Fault.Read → Rose (S.faults source.old) (S.faults source.new) }
+    ensures causes { IfErr result (λ fault. (order : _)
+        → IfSome (S.rest source.old) (λ rest. IsCausedBy order rest fault)) }
+    ensures may_end { IfErr result (λ fault. (command : _) → Contains (statuses_of command)
+        (status_of fault)) }
+    ensures read_at { IfErr result (λ fault. IsReadAt fault (S.rest source.old) (S.rest source.new)) }
+    ensures read_fault { IsErrOf result Fault.Read
+        → Rose (S.faults source.old) (S.faults source.new) }
+    ensures calm { OnOk result (S.faults source.new ≡ S.faults source.old) }
     ensures no_usage { IsErrOf result Fault.Usage → ⊥ }
     ensures no_write { IsErrOf result Fault.Write → ⊥ }
 {
     match read_up_to(alloc, source, MOST_BYTES) {
         Ok(text) => Ok(text),
-        Err(ReadFault::Failed) => Err(Fault::Read),
-        Err(ReadFault::TooLong) => Err(Fault::Refused(Refusal::TooLong)),
-        Err(ReadFault::Memory) => Err(Fault::Memory),
+        Err(fault) => Err(reading_fault(fault)),
     }
 }
 
-// Writes the file of the clean circuit of a text's program.
-fn translate<K: Sink>(alloc: Global, text: &[u8], out: &mut K) -> Result<(), Fault>
-    requires { length text.now ≤ 1048576 }
-    ensures compiles { OnOk result (Compiles text.now (K.held out.old) (K.held out.new)) }
-    ensures refused { IfErr result (RefusesWell text.now) }
-    ensures no_bits { IfErr result RestsOnText }
-    ensures write_fault { IsErrOf result Fault.Write → Rose (K.faults out.old) (K.faults out.new) }
-    ensures begins { IsErrOf result Fault.Write → BeginsToCompile text.now (K.held out.old) (K.held out.new) }
-    ensures silent { OnErr result ((IsErrOf result Fault.Write → ⊥) → out.new ≡ out.old) }
-    ensures no_usage { IsErrOf result Fault.Usage → ⊥ }
-    ensures no_read { IsErrOf result Fault.Read → ⊥ }
+fn reading_fault(fault: ReadFault) -> Fault
+    ensures { result ≡ reading_fault fault }
 {
-    let laid = compile(alloc, text)?;
-    match write(&laid, out) {
-        Ok(()) => Ok(()),
-        Err(_) => Err(Fault::Write),
+    match fault {
+        ReadFault::Failed => Fault::Read,
+        ReadFault::TooLong => Fault::Refused(Refusal::TooLong),
+        ReadFault::Memory => Fault::Memory,
     }
 }
 
-// Writes the value of a text's program on a word.
-fn print_value<K: Sink>(alloc: Global, text: &[u8], word: &str, out: &mut K) -> Result<(), Fault>
-    requires { length text.now ≤ 1048576 }
-    ensures evaluates { OnOk result (Evaluates text.now word.now (K.held out.old) (K.held out.new)) }
-    ensures stopped { IfErr result (StopsWell text.now word.now) }
-    ensures write_fault { IsErrOf result Fault.Write → Rose (K.faults out.old) (K.faults out.new) }
-    ensures begins { IsErrOf result Fault.Write → BeginsToEvaluate text.now word.now (K.held out.old) (K.held out.new) }
-    ensures silent { OnErr result ((IsErrOf result Fault.Write → ⊥) → out.new ≡ out.old) }
-    ensures no_usage { IsErrOf result Fault.Usage → ⊥ }
-    ensures no_read { IsErrOf result Fault.Read → ⊥ }
+fn words_fault(fault: WordsFault) -> Fault
+    ensures { result ≡ words_fault fault }
 {
-    let value = evaluate(alloc, text, word)?;
-    match write_bits(value.bits(), out) {
-        Ok(()) => Ok(()),
-        Err(_) => Err(Fault::Write),
+    match fault {
+        WordsFault::Usage => Fault::Usage,
+        WordsFault::Memory => Fault::Memory,
     }
 }

@@ -1,5 +1,5 @@
 use Rattle.std.proofs.Common.{length, sum}
-use Rattle.revc.proofs.PlainSteps.{IsCopying}
+use Rattle.revc.proofs.PlainLemmas.{IsCopying}
 use Rattle.revc.proofs.plain.copy_all.Given as goal
 
 abbrev pub invariant-loop-k : goal.invariant-loop-k

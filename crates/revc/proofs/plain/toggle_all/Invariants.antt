@@ -1,5 +1,5 @@
 use Rattle.std.proofs.Common.{length, sum}
-use Rattle.revc.proofs.PlainSteps.{IsToggling}
+use Rattle.revc.proofs.PlainLemmas.{IsToggling}
 use Rattle.revc.proofs.plain.toggle_all.Given as goal
 
 abbrev pub invariant-loop-k : goal.invariant-loop-k

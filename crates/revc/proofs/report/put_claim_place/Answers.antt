@@ -1,18 +1,22 @@
 use Rattle.std.proofs.Common.{◌++◌, codes}
-use Rattle.revc_io.proofs.OnTheWay.{begun, step, failed_call, last_call}
-use Rattle.revc.specs.Refusals.{place_text}
+use Rattle.revc_io.proofs.PassingLemmas.{begun, step, failed_call, last_call}
+use Rattle.revc.specs.Faults.{digits_of, place_text}
 use Rattle.revc.proofs.report.put_claim_place.Goals as goal
 
 pub returns-in_err-put-clause-bytes : goal.returns-in_err-put-clause-bytes
 returns-in_err-put-clause-bytes g c =
-    failed_call c.args.buffer.now _ (codes " at ") (place_text c.args.at ++ (codes " fails on " ++ (c.args.word.now ++ codes "\n"))) _ _ c.from_residual.ensures.1 c.in_err-put.ensures.bytes (begun _ _ _)
+    failed_call c.args.buffer.now _ (codes " at ") (place_text c.args.at ++ (codes " fails on " ++ (digits_of c.args.bits.now ++ codes "\n"))) _ _
+    c.from_residual.ensures.1 c.in_err-put.ensures.bytes (begun _ _ _)
 
 pub returns-in_err-put_place-clause-bytes : goal.returns-in_err-put_place-clause-bytes
 returns-in_err-put_place-clause-bytes g c =
-    failed_call c.args.buffer.now _ (place_text c.args.at) (codes " fails on " ++ (c.args.word.now ++ codes "\n")) _ _ c.from_residual-in_err-put_place.ensures.1 c.in_err-put_place.ensures.bytes
-    (step (codes " at ") (place_text c.args.at ++ (codes " fails on " ++ (c.args.word.now ++ codes "\n"))) c.in_ok-put.ensures.bytes (begun _ _ _))
+    failed_call c.args.buffer.now _ (place_text c.args.at)
+    (codes " fails on " ++ (digits_of c.args.bits.now ++ codes "\n")) _ _ c.from_residual-in_err-put_place.ensures.1 c.in_err-put_place.ensures.bytes
+    (step (codes " at ") (place_text c.args.at ++ (codes " fails on " ++ (digits_of c.args.bits.now ++ codes "\n"))) c.in_ok-put.ensures.bytes (begun _ _ _))
 
 pub returns-clause-bytes : goal.returns-clause-bytes
 returns-clause-bytes g c =
     last_call c.args.buffer.now _ _ _ _ c.put_failing.ensures.bytes
-    (step (place_text c.args.at) (codes " fails on " ++ (c.args.word.now ++ codes "\n")) c.in_ok-put_place.ensures.bytes (step (codes " at ") (place_text c.args.at ++ (codes " fails on " ++ (c.args.word.now ++ codes "\n"))) c.in_ok-put.ensures.bytes (begun _ _ _)))
+    (step (place_text c.args.at) (codes " fails on " ++ (digits_of c.args.bits.now ++ codes "\n")) c.in_ok-put_place.ensures.bytes
+    (step (codes " at ") (place_text c.args.at ++ (codes " fails on " ++ (digits_of c.args.bits.now ++ codes "\n"))) c.in_ok-put.ensures.bytes
+    (begun _ _ _)))

@@ -1,4 +1,4 @@
-use Rattle.revc_io.proofs.OnTheWay.{whole_gathered, finish_call}
+use Rattle.revc_io.proofs.PassingLemmas.{whole_gathered, finish_call}
 use Rattle.revc.proofs.report.write_line.Goals as goal
 
 pub returns-clause-bytes : goal.returns-clause-bytes

@@ -12,7 +12,8 @@ room_behind-returns-in_default t c = other_too_much c.args.term.now c.args.room 
 
 pub room_behind-returns-in-And : goal.room_behind-returns-in-And
 room_behind-returns-in-And t c =
-    chain_answer c.args.term.now c.in-And.parts c.deref.result.now c.args.room c.room_behind_chain.result c.in-And.is c.deref.ensures.value c.room_behind_chain.ensures
+    chain_answer c.args.term.now c.in-And.parts c.deref.result.now c.args.room c.room_behind_chain.result c.in-And.is c.deref.ensures.value
+    c.room_behind_chain.ensures
 
 pub room_behind_chain-loop-i-init : goal.room_behind_chain-loop-i-init
 room_behind_chain-loop-i-init t c = no_parts c.args.room
@@ -27,7 +28,8 @@ room_behind_chain-returns-in_err-left t c =
     let next = next_part c.args.parts.now c.loop-i.i c.index-parts-i.result c.loop-i-test.true c.index-parts-i.is in
     let done : List Tree = take c.loop-i.i (map tree_of c.args.parts.now) in
     let front : IsInFront (length done) c.from.result = rw next.count (in_front c.loop-i.i c.from.result c.from.ensures) in
-    rw c.from_residual-in_err-left.ensures (no_operator done _ _ c.from.result next.cut front c.in_err-left.ensures c.loop-i.invariant c.in_ok-room_behind.ensures)
+    rw c.from_residual-in_err-left.ensures
+    (no_operator done _ _ c.from.result next.cut front c.in_err-left.ensures c.loop-i.invariant c.in_ok-room_behind.ensures)
 
 pub room_behind_chain-loop-i-preserved : goal.room_behind_chain-loop-i-preserved
 room_behind_chain-loop-i-preserved t c =

@@ -1,59 +1,49 @@
-use Rattle.std.proofs.Common.{map, string_bytes, inl, inr}
+use Rattle.std.proofs.Common.{◌≡◌, Err, ap, map, string_bytes}
+use Rattle.std.specs.Prelude.{Result, IsErrOf}
+use Rattle.revc.specs.declared.fault.Fault.{Fault}
 use Rattle.revc_io.specs.Faults.{Rose}
-use Rattle.revc.specs.Top.{second_of}
-use Rattle.revc.proofs.Statuses.{ends_well, ends_after, stops_well, stops_after, refuses_well, refuses_after, finishes_well, finishes_after, all_after_value, all_after, stopped_after, bitless, rests_on_bits}
+use Rattle.revc.specs.Commands.{Gives}
+use Rattle.revc.specs.Top.{Grows, IsStatusOfAll}
+use Rattle.revc.proofs.TopLemmas.{served, given_exact, ends_well, may_succeed, may_end_after, exact_after, completes_after, stopped_after, read_whole_after}
 use Rattle.revc.proofs.top.revc.Goals as goal
 
+as_err : {fault other : Fault} → fault ≡ other → IsErrOf {T = Unit {0}} {E = Fault} (Err fault) other
+as_err is = ap (λ (f : Fault). let r : Result (Unit {0}) Fault = Err f in r) is
+
+pub returns-in-Ok-clause-statuses : goal.returns-in-Ok-clause-statuses
+returns-in-Ok-clause-statuses g c = λ _. may_succeed _
+
 pub returns-in-Ok-clause-completes : goal.returns-in-Ok-clause-completes
-returns-in-Ok-clause-completes g c = λ _ _ _. ends_well _
+returns-in-Ok-clause-completes g c = λ _ _. ends_well _ _
 
-pub returns-in-Ok-clause-finishes : goal.returns-in-Ok-clause-finishes
-returns-in-Ok-clause-finishes g c = λ _ _ _. finishes_well _ _
+pub returns-in-Ok-clause-exact : goal.returns-in-Ok-clause-exact
+returns-in-Ok-clause-exact g c = λ _ _.
+    served _ _ (λ order text. Grows (Gives order text) (g.K.Sink.held c.args.out.now) (g.K.Sink.held c.run.new.out)) (λ order text. IsStatusOfAll order text 0)
+    (λ order text. given_exact order text _ _ 0) c.in-Ok.ensures.gives
 
-pub returns-in-Ok-clause-refuses : goal.returns-in-Ok-clause-refuses
-returns-in-Ok-clause-refuses g c = λ ordered. stops_well _ _ _ (c.in-Ok.ensures.compiles ordered)
-
-pub returns-in-Ok-clause-refuses_all : goal.returns-in-Ok-clause-refuses_all
-returns-in-Ok-clause-refuses_all g c = λ ordered _ _. refuses_well _ _ _ (c.in-Ok.ensures.compiles ordered)
-
-pub returns-in-Ok-clause-stops_all : goal.returns-in-Ok-clause-stops_all
-returns-in-Ok-clause-stops_all g c = λ ordered _ _. all_after_value _ _ _ _ (c.in-Ok.ensures.evaluates ordered)
+pub returns-in-Err-clause-statuses : goal.returns-in-Err-clause-statuses
+returns-in-Err-clause-statuses g c = may_end_after _ c.in-Err.fault c.status.result c.status.ensures c.in-Err.ensures.may_end
 
 pub returns-in-Err-clause-completes : goal.returns-in-Err-clause-completes
-returns-in-Err-clause-completes g c = λ ordered calm_in calm_out.
+returns-in-Err-clause-completes g c =
     let causes = c.in-Err.ensures in
-    ends_after c.in-Err.fault c.status.result (Rose (g.S.Source.faults c.args.source.now) (g.S.Source.faults c.run.new.source))
-    (Rose (g.K.Sink.faults c.args.out.now) (g.K.Sink.faults c.run.new.out)) (g.S.Source.rest c.args.source.now) (λ is. causes.usage.0 is (inl ordered)) (causes.refused ordered) (causes.no_bits ordered)
-    causes.read_fault causes.write_fault c.status.ensures calm_in calm_out
+    completes_after (map string_bytes c.args.words.now) (g.S.Source.rest c.args.source.now)
+    (Rose (g.S.Source.faults c.args.source.now) (g.S.Source.faults c.run.new.source))
+    (Rose (g.K.Sink.faults c.args.out.now) (g.K.Sink.faults c.run.new.out)) c.in-Err.fault c.status.result (λ is. causes.usage.0 (as_err is)) causes.causes
+    (λ is. causes.read_fault (as_err is))
+    (λ is. causes.write_fault (as_err is)) c.status.ensures
 
-pub returns-in-Err-clause-finishes : goal.returns-in-Err-clause-finishes
-returns-in-Err-clause-finishes g c = λ ordered calm_in calm_out.
+pub returns-in-Err-clause-exact : goal.returns-in-Err-clause-exact
+returns-in-Err-clause-exact g c =
     let causes = c.in-Err.ensures in
-    finishes_after (second_of (map string_bytes c.args.words.now)) c.in-Err.fault c.status.result (Rose (g.S.Source.faults c.args.source.now) (g.S.Source.faults c.run.new.source))
-    (Rose (g.K.Sink.faults c.args.out.now) (g.K.Sink.faults c.run.new.out)) (g.S.Source.rest c.args.source.now) (λ is. causes.usage.0 is (inr ordered)) (causes.stopped ordered)
-    causes.read_fault causes.write_fault c.status.ensures calm_in calm_out
+    exact_after (map string_bytes c.args.words.now) (g.S.Source.rest c.args.source.now) _ _ c.in-Err.fault c.status.result
+    (λ is. causes.usage.0 (as_err is)) causes.causes
+    (λ is. causes.begins (as_err is)) c.status.ensures
 
-pub returns-in-Err-clause-refuses : goal.returns-in-Err-clause-refuses
-returns-in-Err-clause-refuses g c = λ ordered. stops_after c.in-Err.fault c.status.result _ _ _ (c.in-Err.ensures.begins ordered) c.status.ensures
+pub returns-in-Err-clause-stops : goal.returns-in-Err-clause-stops
+returns-in-Err-clause-stops g c =
+    stopped_after (map string_bytes c.args.words.now) (g.S.Source.rest c.args.source.now) _ _ _ _ c.in-Err.fault c.status.result c.in-Err.ensures.causes
+    c.status.ensures c.report.ensures
 
-pub returns-in-Err-clause-refuses_all : goal.returns-in-Err-clause-refuses_all
-returns-in-Err-clause-refuses_all g c = λ ordered r m.
-    let causes = c.in-Err.ensures in
-    refuses_after c.in-Err.fault c.status.result _ _ _ (λ is. causes.usage.0 is (inl ordered)) (causes.no_bits ordered) (causes.begins ordered) c.status.ensures r m
-
-pub returns-in-Err-clause-stops_all : goal.returns-in-Err-clause-stops_all
-returns-in-Err-clause-stops_all g c = λ ordered r m.
-    let causes = c.in-Err.ensures in
-    all_after (second_of (map string_bytes c.args.words.now)) c.in-Err.fault c.status.result _ _ _ (λ is. causes.usage.0 is (inr ordered)) (causes.stopped ordered) (causes.begins_value ordered) c.status.ensures r m
-
-pub returns-in-Err-clause-stopped : goal.returns-in-Err-clause-stopped
-returns-in-Err-clause-stopped g c = λ ordered _ r w m.
-    let causes = c.in-Err.ensures in
-    stopped_after (second_of (map string_bytes c.args.words.now)) c.in-Err.fault c.status.result _ _ _ _ _ (λ is. causes.usage.0 is (inr ordered)) (causes.stopped ordered) c.status.ensures
-    (rw c.second.ensures at c.report.ensures) r w m
-
-pub returns-in-Err-clause-no_bits : goal.returns-in-Err-clause-no_bits
-returns-in-Err-clause-no_bits g c = λ ordered. bitless c.in-Err.fault c.status.result c.status.ensures (c.in-Err.ensures.no_bits ordered)
-
-pub returns-in-Err-clause-read_for_bits : goal.returns-in-Err-clause-read_for_bits
-returns-in-Err-clause-read_for_bits g c = λ which. c.in-Err.ensures.read_for_bits (λ n. rests_on_bits c.in-Err.fault c.status.result c.status.ensures which n)
+pub returns-in-Err-clause-read_whole : goal.returns-in-Err-clause-read_whole
+returns-in-Err-clause-read_whole g c = read_whole_after c.in-Err.fault c.status.result _ _ c.status.ensures c.in-Err.ensures.read_at

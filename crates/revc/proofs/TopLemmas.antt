@@ -1,0 +1,268 @@
+-- The statuses of the top call, from the causes of its faults.
+use Rattle.std.proofs.Common.{◌≡◌, ◌≢◌, ℕ, ◌<◌, ◌≤◌, ◌⊎◌, inl, inr, List, None, Some, Ok, Err, refl, sym, ap, ◌∙◌, subst, arith, length}
+use Rattle.std.specs.Prelude.{Option, IfSome, Contains, Result, OnOk, IfErr}
+use Rattle.std.specs.Io.KnownBytes.{IsAtEnd}
+use Rattle.revc.specs.declared.fault.Fault.{Fault}
+use Rattle.revc.specs.declared.fault.Fault.TheVariants.{Usage, Refused, Claim, BadBits, Read, Write, Memory}
+use Rattle.revc.specs.declared.limits.TheConstants.{MOST_BYTES}
+use Rattle.revc_io.specs.declared.reading.ReadFault.{ReadFault}
+use Rattle.revc_io.specs.declared.reading.ReadFault.TheVariants as reads
+use Rattle.revc.specs.inside.Mappings.{reading_fault, words_fault}
+use Rattle.revc.specs.declared.words.WordsFault.{WordsFault}
+use Rattle.revc.specs.declared.words.WordsFault.TheVariants as words
+use Rattle.revc.specs.declared.words.Command.{Command}
+use Rattle.revc.specs.declared.words.Command.TheVariants.{Compile, Eval}
+use Rattle.revc.specs.declared.fault.Refusal.TheVariants as refusals
+use Rattle.revc.specs.Commands.{Gives, IsCause, IsCausedBy, IsCauseOrMemory, Serves, HasOneOutcome, statuses_of}
+use Rattle.revc.specs.Faults.{status_of, line_of}
+use Rattle.revc.specs.Top.{Grows, GrowsByPrefix, IsReadAt, IsReadWhole, IsStatusOfAll, MayEnd, Receives, RestsOnText, Served, Stopped}
+use Rattle.revc.specs.Words.{OrderView, IsOrder, HasNoOrder}
+use Rattle.gate_split.specs.Plans.{LaidView}
+use Rattle.revc.specs.Commands.Compile.{IsCompiled}
+use Rattle.revc.specs.inside.Outcomes.{file_of}
+use Rattle.revc.proofs.CompileLemmas as compile
+use Rattle.revc.proofs.EvalLemmas as eval
+use Rattle.revc.proofs.WordsLemmas.{one_order}
+
+one_outcome : (command : Command) → HasOneOutcome command
+one_outcome Compile = compile.one_outcome
+one_outcome Eval = eval.one_outcome
+
+-- ---- what is told
+
+pub if_some : (rest : Option (List ℕ)) (P Q : List ℕ → Type 0) → ((text : List ℕ) → P text → Q text) → IfSome rest P → IfSome rest Q
+if_some None P Q h p = tt
+if_some (Some text) P Q h p = h text p
+
+always : (rest : Option (List ℕ)) (P : List ℕ → Type 0) → ((text : List ℕ) → P text) → IfSome rest P
+always None P h = tt
+always (Some text) P h = h text
+
+-- what holds of the text that was read holds of the one that the source told
+pub of_told : (rest : Option (List ℕ)) (text : List ℕ) (P : List ℕ → Type 0) → IfSome rest (λ told. text ≡ told) → P text → IfSome rest P
+of_told None text P same p = tt
+of_told (Some told) text P same p = subst P same p
+
+-- what holds of one order of the words holds of each
+pub serve : (words : List (List ℕ)) (order : OrderView) (rest : Option (List ℕ)) (P : OrderView → List ℕ → Type 0) → IsOrder words order → IfSome rest (P order)
+    → Served words rest P
+serve words order rest P is holds = record { each = λ other also. subst (λ (o : OrderView). IfSome rest (P o)) (one_order words order other is also) holds }
+
+pub may_end : (words : List (List ℕ)) (order : OrderView) (status : ℕ) → IsOrder words order → Contains (statuses_of order.command) status → MayEnd words status
+may_end words order status is among = record {
+  each = λ other also. subst (λ (o : OrderView). Contains (statuses_of o.command) status)
+      (one_order words order other is also) among;
+}
+
+pub none_served : (words : List (List ℕ)) (rest : Option (List ℕ)) (P : OrderView → List ℕ → Type 0) → HasNoOrder words → Served words rest P
+none_served words rest P none = record { each = λ order is. absurd (none.refuted order is) }
+
+pub served : (words : List (List ℕ)) (rest : Option (List ℕ)) (P Q : OrderView → List ℕ → Type 0) → ((order : OrderView) (text : List ℕ) → P order text
+    → Q order text) → Served words rest P → Served words rest Q
+served words rest P Q h s = record { each = λ order is. if_some rest (P order) (Q order) (h order) (s.each order is) }
+
+pub all_served : (words : List (List ℕ)) (rest : Option (List ℕ)) (P : OrderView → List ℕ → Type 0) → ((order : OrderView) (text : List ℕ) → P order text)
+    → Served words rest P
+all_served words rest P h = record { each = λ order is. always rest (P order) (h order) }
+
+pub on_ok : {T E : Type 0} (result : Result T E) (P Q : Type 0) → (P → Q) → OnOk result P → OnOk result Q
+on_ok (Ok x) P Q h p = h p
+on_ok (Err e) P Q h p = tt
+
+pub if_err : {T E : Type 0} (result : Result T E) (P Q : E → Type 0) → ((e : E) → P e → Q e) → IfErr result P → IfErr result Q
+if_err (Ok x) P Q h p = tt
+if_err (Err e) P Q h p = h e p
+
+-- ---- causes
+
+-- a fault of a prepared order is one that rests on the text, or want of memory
+pub caused : (order : OrderView) (text : List ℕ) (fault : Fault) → IsCauseOrMemory order text fault → IsCausedBy order text fault
+caused order text Usage h = tt
+caused order text Read h = tt
+caused order text Write h = tt
+caused order text Memory h = tt
+caused order text fault h = h
+
+-- the status of a prepared order's fault is among those of its command
+pub status_among : (order : OrderView) (text : List ℕ) (fault : Fault) → IsCauseOrMemory order text fault
+    → Contains (statuses_of order.command) (status_of fault)
+status_among order text fault h = among order.command order.bits text fault h
+  where
+    among : (command : Command) (bits : List (List ℕ)) (text : List ℕ) (fault : Fault) → IsCauseOrMemory (record { command = command; bits = bits }) text fault
+        → Contains (statuses_of command) (status_of fault)
+    among Compile bits text (Refused refusal) h = (1, omega arith, refl)
+    among Compile bits text Memory h = (4, omega arith, refl)
+    among Eval bits text (Refused refusal) h = (1, omega arith, refl)
+    among Eval bits text (Claim number at digits) h = (2, omega arith, refl)
+    among Eval bits text Memory h = (5, omega arith, refl)
+    among Eval bits text (BadBits word) h = (6, omega arith, refl)
+    among Compile bits text fault h = absurd h
+    among Eval bits text fault h = absurd h
+
+pub write_among : (command : Command) → Contains (statuses_of command) 10
+write_among Compile = (3, omega arith, refl)
+write_among Eval = (4, omega arith, refl)
+
+pub reading_among : (command : Command) (fault : ReadFault) → Contains (statuses_of command) (status_of (reading_fault fault))
+reading_among Compile reads.Failed = (2, omega arith, refl)
+reading_among Compile reads.TooLong = (1, omega arith, refl)
+reading_among Compile reads.Memory = (4, omega arith, refl)
+reading_among Eval reads.Failed = (3, omega arith, refl)
+reading_among Eval reads.TooLong = (1, omega arith, refl)
+reading_among Eval reads.Memory = (5, omega arith, refl)
+
+-- a source that was read to its end, whatever the fault
+pub read_at : (fault : Fault) (old new : Option (List ℕ)) → IsAtEnd new → IsReadAt fault old new
+read_at Usage old new h = tt
+read_at Read old new h = tt
+read_at Memory old new h = tt
+read_at fault old new h = always old (λ text. length text ≤ MOST_BYTES → IsAtEnd new) (λ text short. h)
+
+-- a text over the limit is refused for that
+pub reading_caused : (fault : ReadFault) (order : OrderView) (rest : Option (List ℕ)) → (fault ≡ reads.TooLong → IfSome rest (λ text. MOST_BYTES < length text))
+    → IfSome rest (λ text. IsCausedBy order text (reading_fault fault))
+reading_caused reads.Failed order rest h = always rest (λ text. IsCausedBy order text Read) (λ text. tt)
+reading_caused reads.Memory order rest h = always rest (λ text. IsCausedBy order text Memory) (λ text. tt)
+reading_caused reads.TooLong order rest h = too_long order.command order.bits rest (h refl)
+  where
+    too_long : (command : Command) (bits : List (List ℕ)) (rest : Option (List ℕ)) → IfSome rest (λ text. MOST_BYTES < length text)
+        → IfSome rest (λ text. IsCausedBy (record { command = command; bits = bits }) text (Refused refusals.TooLong))
+    too_long Compile bits rest h = if_some rest (λ text. MOST_BYTES < length text) (λ text. IsCausedBy (record { command = Compile; bits = bits }) text
+        (Refused refusals.TooLong)) (λ text long. long) h
+    too_long Eval bits rest h = if_some rest (λ text. MOST_BYTES < length text) (λ text. IsCausedBy (record { command = Eval; bits = bits }) text
+        (Refused refusals.TooLong)) (λ text long. (long, λ e. absurd cc)) h
+
+pub reading_at : (fault : ReadFault) (old new : Option (List ℕ)) → (fault ≡ reads.TooLong → IfSome old (λ text. MOST_BYTES < length text))
+    → IsReadAt (reading_fault fault) old new
+reading_at reads.Failed old new h = tt
+reading_at reads.Memory old new h = tt
+reading_at reads.TooLong old new h =
+    if_some old (λ text. MOST_BYTES < length text) (λ text. length text ≤ MOST_BYTES → IsAtEnd new) (λ text long short. absurd (omega arith)) (h refl)
+
+-- ---- the words
+
+pub words_caused : (words : List (List ℕ)) (rest : Option (List ℕ)) (fault : WordsFault)
+    → Served words rest (λ order text. IsCausedBy order text (words_fault fault))
+words_caused ws rest words.Usage = all_served ws rest (λ order text. IsCausedBy order text Usage) (λ order text. tt)
+words_caused ws rest words.Memory = all_served ws rest (λ order text. IsCausedBy order text Memory) (λ order text. tt)
+
+pub words_may_end : (words : List (List ℕ)) (fault : WordsFault) → status_of (words_fault fault) ≢ 2 → MayEnd words (status_of (words_fault fault))
+words_may_end ws words.Usage other = absurd (other refl)
+words_may_end ws words.Memory other = record { each = λ order is. memory_among order.command }
+  where
+    memory_among : (command : Command) → Contains (statuses_of command) 11
+    memory_among Compile = (4, omega arith, refl)
+    memory_among Eval = (5, omega arith, refl)
+
+-- ---- the statuses
+
+-- success excludes each exact cause
+pub given_exact : (order : OrderView) (text : List ℕ) (old new : Option (List ℕ)) (status : ℕ) → Grows (Gives order text) old new
+    → IsStatusOfAll order text status
+given_exact order text old new status made = record {
+  each = λ fault exact cause. absurd
+      ((one_outcome order.command).never_both order text made.bytes fault made.is cause exact);
+}
+
+pub begun_exact : (order : OrderView) (text : List ℕ) (old new : Option (List ℕ)) (status : ℕ) → GrowsByPrefix (Gives order text) old new
+    → IsStatusOfAll order text status
+begun_exact order text old new status made = record {
+  each = λ fault exact cause. absurd
+      ((one_outcome order.command).never_both order text made.bytes fault made.is cause exact);
+}
+
+-- a fault that rests on the text is its one exact cause
+caused_exact : (order : OrderView) (text : List ℕ) (fault : Fault) (status : ℕ) → status ≡ status_of fault → IsCause order text fault
+    → IsStatusOfAll order text status
+caused_exact order text fault status e cause = record {
+  each = λ other exact is. e
+      ∙ ap status_of (sym ((one_outcome order.command).one_cause order text fault other cause is exact));
+}
+
+pub exact_after : (words : List (List ℕ)) (rest old new : Option (List ℕ)) (fault : Fault) (status : ℕ) → (fault ≡ Usage → HasNoOrder words)
+    → Served words rest (λ order text. IsCausedBy order text fault)
+    → (fault ≡ Write → Served words rest (λ order text. GrowsByPrefix (Gives order text) old new)) → status ≡ status_of fault → status ≢ 9 → status ≢ 11
+    → Served words rest (λ order text. IsStatusOfAll order text status)
+exact_after words rest old new Usage status u s b e r m = none_served words rest (λ order text. IsStatusOfAll order text status) (u refl)
+exact_after words rest old new Read status u s b e r m = absurd (r e)
+exact_after words rest old new Memory status u s b e r m = absurd (m e)
+exact_after words rest old new Write status u s b e r m =
+    served words rest (λ order text. GrowsByPrefix (Gives order text) old new) (λ order text. IsStatusOfAll order text status)
+    (λ order text. begun_exact order text old new status) (b refl)
+exact_after words rest old new fault status u s b e r m =
+    served words rest (λ order text. IsCausedBy order text fault) (λ order text. IsStatusOfAll order text status)
+    (λ order text cause. caused_exact order text fault status e cause) s
+
+pub stopped_after : (words : List (List ℕ)) (rest old new : Option (List ℕ)) (before now : ℕ) (fault : Fault) (status : ℕ)
+    → Served words rest (λ order text. IsCausedBy order text fault)
+    → status ≡ status_of fault → Receives old new before now (line_of fault) → RestsOnText status
+    → Served words rest (λ order text. Stopped order text status old new before now)
+stopped_after words rest old new before now Usage status s e line on = absurd (on.no_words e)
+stopped_after words rest old new before now Read status s e line on = absurd (on.no_read e)
+stopped_after words rest old new before now Write status s e line on = absurd (on.no_write e)
+stopped_after words rest old new before now Memory status s e line on = absurd (on.no_memory e)
+stopped_after words rest old new before now fault status s e line on =
+    served words rest (λ order text. IsCausedBy order text fault) (λ order text. Stopped order text status old new before now)
+    (λ order text cause. record { fault = fault; cause = cause; caused = e; line = line }) s
+
+-- 0 or 11 where the order serves the text
+abbrev pub EndsWell : ℕ → OrderView → List ℕ → Type 0
+EndsWell status order text = Serves order text → (status ≡ 0) ⊎ (status ≡ 11)
+
+pub ends_well : (words : List (List ℕ)) (rest : Option (List ℕ)) → Served words rest (EndsWell 0)
+ends_well words rest = all_served words rest (EndsWell 0) (λ order text serves. inl refl)
+
+pub completes_after : (words : List (List ℕ)) (rest : Option (List ℕ)) (rose_in rose_out : Type 0) (fault : Fault) (status : ℕ)
+    → (fault ≡ Usage → HasNoOrder words)
+    → Served words rest (λ order text. IsCausedBy order text fault) → (fault ≡ Read → rose_in) → (fault ≡ Write → rose_out) → status ≡ status_of fault
+    → (rose_in → ⊥) → (rose_out → ⊥)
+    → Served words rest (EndsWell status)
+completes_after words rest rose_in rose_out Usage status u s i o e calm_in calm_out = none_served words rest (EndsWell status) (u refl)
+completes_after words rest rose_in rose_out Read status u s i o e calm_in calm_out = absurd (calm_in (i refl))
+completes_after words rest rose_in rose_out Write status u s i o e calm_in calm_out = absurd (calm_out (o refl))
+completes_after words rest rose_in rose_out Memory status u s i o e calm_in calm_out = all_served words rest (EndsWell status) (λ order text serves. inr e)
+completes_after words rest rose_in rose_out fault status u s i o e calm_in calm_out =
+    served words rest (λ order text. IsCausedBy order text fault) (EndsWell status)
+    (λ order text cause serves. absurd ((one_outcome order.command).free order text fault serves cause)) s
+
+pub read_whole_after : (fault : Fault) (status : ℕ) (old new : Option (List ℕ)) → status ≡ status_of fault → IsReadAt fault old new → status ≢ 2 → status ≢ 9
+    → status ≢ 11 → IsReadWhole old new
+read_whole_after Usage status old new e h w r m = absurd (w e)
+read_whole_after Read status old new e h w r m = absurd (r e)
+read_whole_after Memory status old new e h w r m = absurd (m e)
+read_whole_after fault status old new e h w r m = h
+
+pub may_succeed : (words : List (List ℕ)) → MayEnd words 0
+may_succeed words = record { each = λ order is. success_among order.command }
+  where
+    success_among : (command : Command) → Contains (statuses_of command) 0
+    success_among Compile = (0, omega arith, refl)
+    success_among Eval = (0, omega arith, refl)
+
+pub may_end_after : (words : List (List ℕ)) (fault : Fault) (status : ℕ) → status ≡ status_of fault → (status_of fault ≢ 2 → MayEnd words (status_of fault))
+    → status ≢ 2 → MayEnd words status
+may_end_after words fault status e h other = subst (MayEnd words) (sym e) (h (λ two. other (e ∙ two)))
+
+pub read_whole : (old new : Option (List ℕ)) → IsAtEnd new → IsReadWhole old new
+read_whole old new h = always old (λ text. length text ≤ MOST_BYTES → IsAtEnd new) (λ text short. h)
+
+pub given_file : (order : OrderView) (text : List ℕ) (laid : LaidView) → order.command ≡ Compile → IsCompiled text (file_of laid)
+    → Gives order text (file_of laid)
+given_file order text laid is compiled = of_command order.command order.bits text laid is compiled
+  where
+    of_command : (command : Command) (bits : List (List ℕ)) (text : List ℕ) (laid : LaidView) → command ≡ Compile → IsCompiled text (file_of laid)
+        → Gives (record { command = command; bits = bits }) text (file_of laid)
+    of_command Compile bits text laid is compiled = compiled
+    of_command Eval bits text laid is compiled = absurd cc
+
+-- what holds of the text that was lent holds of the one that the source told
+pub of_read : (rest : Option (List ℕ)) (lent items : List ℕ) (P : List ℕ → Type 0) → lent ≡ items → IfSome rest (λ told. items ≡ told) → P lent → IfSome rest P
+of_read rest lent items P same told p = of_told rest items P told (subst P same p)
+
+pub always_ok : {T E : Type 0} (result : Result T E) (P : Type 0) → P → OnOk result P
+always_ok (Ok x) P p = p
+always_ok (Err e) P p = tt
+
+pub always_err : {T E : Type 0} (result : Result T E) (P : E → Type 0) → ((e : E) → P e) → IfErr result P
+always_err (Ok x) P h = tt
+always_err (Err e) P h = h e

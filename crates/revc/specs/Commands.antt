@@ -1,0 +1,66 @@
+-- Each command by three definitions: what it gives for a text, which fault it may end with for one, and where it serves.
+use Rattle.std.specs.Prelude.{◌≡◌, ℕ, List, [], ◌∷◌}
+use Rattle.revc.specs.declared.fault.Fault.{Fault}
+use Rattle.revc.specs.declared.fault.Fault.TheVariants.{Usage, Read, Write, Memory}
+use Rattle.revc.specs.declared.words.Command.{Command}
+use Rattle.revc.specs.declared.words.Command.TheVariants as commands
+use Rattle.revc.specs.Words.{OrderView}
+use Rattle.revc.specs.Commands.Compile as compile
+use Rattle.revc.specs.Commands.Eval as eval
+pub mod Compile
+pub mod Eval
+
+-- these bytes are what the order asks for, with this text on the source
+abbrev pub gives : Command → OrderView → List ℕ → List ℕ → Type 0
+gives commands.Compile = compile.Gives
+gives commands.Eval = eval.Gives
+
+-- the text lets the order end with this fault
+abbrev pub causes : Command → OrderView → List ℕ → Fault → Type 0
+causes commands.Compile = compile.IsCause
+causes commands.Eval = eval.IsCause
+
+-- the order ends well with this text, unless memory or a device is wanting
+abbrev pub serves : Command → OrderView → List ℕ → Type 0
+serves commands.Compile = compile.Serves
+serves commands.Eval = eval.Serves
+
+-- the statuses with which a command may end
+abbrev pub statuses_of : Command → List ℕ
+statuses_of commands.Compile = 0 ∷ 3 ∷ 9 ∷ 10 ∷ 11 ∷ []
+statuses_of commands.Eval = 0 ∷ 3 ∷ 4 ∷ 9 ∷ 10 ∷ 11 ∷ 12 ∷ []
+
+-- A fault is exact where it comes wherever it has its cause. So far each is.
+abbrev pub IsExact : Fault → Type 0
+IsExact fault = Unit {0}
+
+abbrev pub Gives : OrderView → List ℕ → List ℕ → Type 0
+Gives order = gives order.command order
+
+abbrev pub IsCause : OrderView → List ℕ → Fault → Type 0
+IsCause order = causes order.command order
+
+abbrev pub Serves : OrderView → List ℕ → Type 0
+Serves order = serves order.command order
+
+-- What a command gives, its exact causes and where it serves exclude one another, and exact causes are one.
+pub record HasOneOutcome (command : Command) : Type 0 where
+  pub never_both : (order : OrderView) (text written : List ℕ) (fault : Fault)
+      → gives command order text written → causes command order text fault → IsExact fault → ⊥
+  pub one_cause : (order : OrderView) (text : List ℕ) (fault exact : Fault)
+      → causes command order text fault → causes command order text exact → IsExact exact → exact ≡ fault
+  pub free : (order : OrderView) (text : List ℕ) (fault : Fault)
+      → serves command order text → causes command order text fault → ⊥
+
+-- a fault that rests on the text has its cause there; the words, the devices and memory are no matter of the text
+abbrev pub IsCausedBy : OrderView → List ℕ → Fault → Type 0
+IsCausedBy order text Usage = Unit {0}
+IsCausedBy order text Read = Unit {0}
+IsCausedBy order text Write = Unit {0}
+IsCausedBy order text Memory = Unit {0}
+IsCausedBy order text fault = IsCause order text fault
+
+-- a fault of a prepared order has its cause in the text, or is want of memory
+abbrev pub IsCauseOrMemory : OrderView → List ℕ → Fault → Type 0
+IsCauseOrMemory order text Memory = Unit {0}
+IsCauseOrMemory order text fault = IsCause order text fault

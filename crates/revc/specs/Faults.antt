@@ -1,0 +1,67 @@
+-- The status of each fault, and the line of standard error that says it.
+use Rattle.std.specs.Prelude.{ℕ, Bool, List, ◌++◌, map, if◌then◌else◌, codes}
+use Rattle.std.specs.Fmt.{decimal}
+use Rattle.revc_base.specs.declared.place.Place.{Place}
+use Rattle.revs_terms.specs.Causes.{cause_word}
+use Rattle.revc.specs.declared.fault.Fault.{Fault}
+use Rattle.revc.specs.declared.fault.Fault.TheVariants.{Usage, Refused, Claim, BadBits, Read, Write, Memory}
+use Rattle.revc.specs.declared.fault.Kind.{Kind}
+use Rattle.revc.specs.declared.fault.Kind.TheVariants.{BadByte, LongName, LongNumber, Syntax, Nesting, Inputs, Unbound, TwoParams, Stuck}
+use Rattle.revc.specs.declared.fault.Refusal.{Refusal}
+use Rattle.revc.specs.declared.fault.Refusal.TheVariants.{TooLong, At, Program}
+
+-- the status of each fault
+abbrev pub status_of : Fault → ℕ
+status_of Usage = 2
+status_of (Refused refusal) = 3
+status_of (Claim number at bits) = 4
+status_of Read = 9
+status_of Write = 10
+status_of Memory = 11
+status_of (BadBits word) = 12
+
+abbrev pub kind_text : Kind → List ℕ
+kind_text BadByte = codes "BadByte"
+kind_text LongName = codes "LongName"
+kind_text LongNumber = codes "LongNumber"
+kind_text Syntax = codes "Syntax"
+kind_text Nesting = codes "Nesting"
+kind_text Inputs = codes "Inputs"
+kind_text Unbound = codes "Unbound"
+kind_text TwoParams = codes "TwoParams"
+kind_text (Stuck cause) = cause_word cause
+
+-- a place as a line shows it: `L:C`
+abbrev pub place_text : Place → List ℕ
+place_text at = decimal at.line ++ (codes ":" ++ decimal at.column)
+
+-- bits as digits
+abbrev pub digits_of : List Bool → List ℕ
+digits_of bits = map (λ bit. if bit then 49 else 48) bits
+
+-- the line of a refusal
+abbrev pub refusal_line : Refusal → List ℕ
+refusal_line TooLong = codes "revc: source over 1048576 bytes\n"
+refusal_line (At kind at) =
+    codes "revc: " ++ (place_text at ++ (codes " " ++ (kind_text kind ++ codes "\n")))
+refusal_line Program = codes "revc: program refused\n"
+
+-- the line of a claim that fails on these bits
+abbrev pub claim_line : ℕ → Place → List Bool → List ℕ
+claim_line number at bits =
+    codes "revc: claim " ++ (decimal number ++ (codes " at " ++ (place_text at
+    ++ (codes " fails on " ++ (digits_of bits ++ codes "\n")))))
+
+-- the line of a bit word that does not fit
+abbrev pub bits_line : ℕ → List ℕ
+bits_line word = codes "revc: bad bits in word " ++ (decimal word ++ codes "\n")
+
+-- the line of each fault
+abbrev pub line_of : Fault → List ℕ
+line_of Usage = codes "revc: bad command line\n"
+line_of (Refused refusal) = refusal_line refusal
+line_of (Claim number at bits) = claim_line number at bits
+line_of (BadBits word) = bits_line word
+line_of Read = codes "revc: read fault\n"
+line_of Write = codes "revc: write fault\n"
+line_of Memory = codes "revc: out of memory\n"
