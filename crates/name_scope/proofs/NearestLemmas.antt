@@ -8,6 +8,7 @@ use Rattle.std.proofs.lemmas.Slice.Eq.{bytes_eq-Decides}
 use Rattle.revc_base.specs.declared.place.Place.{Place}
 use Rattle.revs_terms.specs.declared.term.Name.{Name}
 use Rattle.revs_terms.specs.Scopes.{Scoped, unbound, scoped, bound_name, IsNearest, BindsToNearest, UnboundHasNone}
+use Rattle.name_scope.proofs.TableLemmas.{by_cases}
 
 got : {A : Type 0} (xs : List A) (i : ℕ) (d : A) → i < length xs → slice_get xs i ≡ Some (get_or xs i d)
 got [] i d h = absurd (omega arith)
@@ -45,10 +46,6 @@ bound_at name bound scope (Some i) e h =
 
 pub binds_to_nearest : BindsToNearest
 binds_to_nearest scope name bound h = bound_at name bound scope (position (bytes_eq name.text) scope) refl h
-
-by_cases : (b : Bool) {P : Type 0} → (b ≡ true → P) → (b ≡ false → P) → P
-by_cases true t f = t refl
-by_cases false t f = f refl
 
 -- an element that passes is found
 passes_early : (p : List ℕ → Bool) (xs : List (List ℕ)) (k : ℕ) (x : List ℕ) → slice_get xs k ≡ Some x → p x ≡ true → position_or_len p xs < length xs

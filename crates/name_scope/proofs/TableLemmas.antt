@@ -16,7 +16,7 @@ equal a b e = (bytes_eq-Decides a b).0 e
 pub itself : (a : List ℕ) → bytes_eq a a ≡ true
 itself a = (bytes_eq-Decides a a).1 refl
 
-by_cases : (b : Bool) {P : Type 0} → (b ≡ true → P) → (b ≡ false → P) → P
+pub by_cases : (b : Bool) {P : Type 0} → (b ≡ true → P) → (b ≡ false → P) → P
 by_cases true t f = t refl
 by_cases false t f = f refl
 
@@ -86,13 +86,13 @@ record IsAt (name : List ℕ) (bs : List Bound) (depth : ℕ) : Type 0 where
   below : depth < length bs
   first : position_or_len (bytes_eq name) (map (λ b. b.name) bs) ≡ length bs - 1 - depth
 
-at : (name : List ℕ) (bs : List Bound) (depth : ℕ) → depth_of name bs ≡ Some depth → IsAt name bs depth
-at name [] depth e = cc
-at name (b ∷ bs) depth e = by_cases (bytes_eq name b.name)
+place_of_depth : (name : List ℕ) (bs : List Bound) (depth : ℕ) → depth_of name bs ≡ Some depth → IsAt name bs depth
+place_of_depth name [] depth e = cc
+place_of_depth name (b ∷ bs) depth e = by_cases (bytes_eq name b.name)
     (λ t. let d : Some (length bs) ≡ Some depth = rw t at e in
     let same : length bs ≡ depth = cc in
     record { below = omega arith; first = rw t (omega arith) })
-    (λ t. let h = at name bs depth (rw t at e) in
+    (λ t. let h = place_of_depth name bs depth (rw t at e) in
     record { below = omega (arith, h.below); first = rw t (omega (arith, h.first, h.below)) })
 
 none_first : (name : List ℕ) (bs : List Bound) → depth_of name bs ≡ None
@@ -113,7 +113,7 @@ nowhere name bs e =
 pub somewhere : (name : List ℕ) (bs : List Bound) (depth : ℕ) → depth_of name (reverse bs) ≡ Some depth
     → (depth < length bs) × (Some (length bs - 1 - depth) ≡ position (bytes_eq name) (map (λ b. b.name) (reverse bs)))
 somewhere name bs depth e =
-    let h = at name (reverse bs) depth e in
+    let h = place_of_depth name (reverse bs) depth e in
     let len : length (reverse bs) ≡ length bs = length-reverse bs in
     let names : length (map (λ b. b.name) (reverse bs)) ≡ length bs = names-length bs in
     let below : depth < length bs = omega (arith, h.below) in

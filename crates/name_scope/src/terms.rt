@@ -1,5 +1,5 @@
 // The names of parameters and terms are bound.
-ghost use Rattle.std.specs.Prelude.{◌≡◌, ◌<◌, ◌+◌, ◌^◌, length, map, OnOk};
+ghost use Rattle.std.specs.Prelude.{◌≡◌, ◌<◌, ◌+◌, ◌^◌, length, map, OnOk, IsErrOf};
 ghost use Rattle.revs_terms.specs.Scopes.{bound_name, nearer, second_of, scoped_tree, scoped_trees, scoped_items};
 ghost use Rattle.revs_terms.specs.Terms.{names_of, names_of_all, names_of_item, names_of_items};
 ghost use Rattle.revs_terms.specs.Trees.{tree_of, trees, item_tree_of, item_trees, no_items};
@@ -27,7 +27,8 @@ pub fn bind_params(names: &mut Names, params: &[Param]) -> Result<(), ScopeFault
 /// Binds a used name among those in scope. It takes no memory.
 fn bind_name(names: &Names, name: &mut Name) -> Result<(), ScopeFault>
     requires { length names.now < 2 ^ 32 }
-    ensures { Binds result (bound_name names.now name.old) name.new }
+    ensures binds { Binds result (bound_name names.now name.old) name.new }
+    ensures exact { ¬ IsErrOf result ScopeFault.Memory }
 {
     let Some(back) = names.back(&name.text) else {
         return Err(ScopeFault::Unbound(name.at));

@@ -54,9 +54,9 @@ formed_items : (items : ItemTrees) → items_are_formed items ≡ true → AreFo
 formed_items no_items e = tt
 formed_items (item i items) e = let h = and_parts (item_is_formed i) (items_are_formed items) e in (h.0, formed_items items h.1)
 
-one : {A : Type 0} (xs : List A) → has_one xs ≡ true → 1 ≤ length xs
-one [] e = cc
-one (x ∷ xs) e = omega arith
+some_length : {A : Type 0} (xs : List A) → has_one xs ≡ true → 1 ≤ length xs
+some_length [] e = cc
+some_length (x ∷ xs) e = omega arith
 
 -- ---- what an outcome gives
 
@@ -175,7 +175,7 @@ module _ {B : Type 0} (bits : Bits B) where
     full_term env (used name) s full e = some_given (value_at env name.back) s (full_at env name.back full)
     full_term env (bool b at) s full e = next (any (written bits _ (bits.constant b) at s)) (λ made s _. some_given (bit made) s tt)
     full_term env (reg us at) s full e =
-        let some = one (list_of us) (and_parts (has_one (list_of us)) (are_formed us) e).0 in
+        let some = some_length (list_of us) (and_parts (has_one (list_of us)) (are_formed us) e).0 in
         next (same_count env (list_of us) s) (λ locations s count. where_so (leb (length locations) 4096) _ at
         (λ fits. full_register locations at s (omega arith)))
     full_term env (block items last at) s full e =
