@@ -1,5 +1,5 @@
 // The machine that runs a program without bits.
-ghost use Rattle.std.specs.Prelude.{◌≡◌, ◌+◌, ◌≤◌, length, map, sum, IfOk, OnOk, IfErr};
+ghost use Rattle.std.specs.Prelude.{◌≡◌, ◌+◌, ◌≤◌, length, map, sum, IfOk, OnOk, IfErr, IsErrOf};
 ghost use Rattle.revc_base.specs.Tapes.{IsKnown, IsKnownEntry};
 ghost use Rattle.revs_terms.specs.Running.{went, worked, written, read, value_at, registered, short_register, constant_bit, part_of, parts_of, appended, rotated, claim_on, assigned, run_of, term_of, bit_of, bits_of, block_of, apply_to, claimed};
 ghost use Rattle.revs_terms.specs.Runs.{no_bits};
@@ -71,6 +71,7 @@ impl<'t> Machine<'t> {
         ensures room { OnOk result (LeavesRoom self.old self.new) }
         ensures err { IfErr result (λ fault. Says fault
             (worked no_bits 1 (place_of (tree_of term.now)) (state_of self.old))) }
+        ensures exact { ¬ IsErrOf result RunFault.Memory }
     {
         if self.work >= MOST_WORK {
             return Err(RunFault::stuck(Cause::Work, term.place()));
@@ -86,6 +87,7 @@ impl<'t> Machine<'t> {
             (worked no_bits count at (state_of self.old)) tt) }
         ensures err { IfErr result (λ fault. Says fault
             (worked no_bits count at (state_of self.old))) }
+        ensures exact { ¬ IsErrOf result RunFault.Memory }
     {
         if count > (MOST_WORK - self.work) as usize {
             return Err(RunFault::stuck(Cause::Work, at));
@@ -103,6 +105,7 @@ impl<'t> Machine<'t> {
             (length self.now.tape.entries) made) }
         ensures err { IfErr result (λ fault. Says fault
             (read no_bits location (place_of (tree_of term.now)) (state_of self.now))) }
+        ensures exact { ¬ IsErrOf result RunFault.Memory }
     {
         match self.store.get(location as usize) {
             Some(Some(made)) => Ok(*made),
