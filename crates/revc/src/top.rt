@@ -93,7 +93,8 @@ fn run<S: Source, K: Sink>(
     ensures calm_sink { OnOk result (K.faults out.new ≡ K.faults out.old) }
     ensures untouched { IsErrOf result Fault.Usage → source.new ≡ source.old }
     ensures read_whole { OnOk result (IsReadWhole (S.rest source.old) (S.rest source.new)) }
-    ensures read_at { IfErr result (λ fault. IsReadAt fault (S.rest source.old) (S.rest source.new)) }
+    ensures read_at { IfErr result (λ fault. IsReadAt fault (S.rest source.old)
+        (S.rest source.new)) }
 {
     match read_words(alloc, words) {
         Ok(order) => carry_out(alloc, &order, source, out),
@@ -111,7 +112,8 @@ fn carry_out<S: Source, K: Sink>(
     ensures gives { OnOk result (IfSome (S.rest source.old)
         (λ text. Grows (Gives (order_of order.now) text) (K.held out.old) (K.held out.new))) }
     ensures begins { IsErrOf result Fault.Write → IfSome (S.rest source.old)
-        (λ text. GrowsByPrefix (Gives (order_of order.now) text) (K.held out.old) (K.held out.new)) }
+        (λ text. GrowsByPrefix (Gives (order_of order.now) text) (K.held out.old)
+        (K.held out.new)) }
     ensures silent { OnErr result ((IsErrOf result Fault.Write → ⊥) → out.new ≡ out.old) }
     ensures may_end { IfErr result (λ fault. Contains (statuses_of order.now.command)
         (status_of fault)) }
@@ -124,7 +126,8 @@ fn carry_out<S: Source, K: Sink>(
     ensures calm_source { OnOk result (S.faults source.new ≡ S.faults source.old) }
     ensures calm_sink { OnOk result (K.faults out.new ≡ K.faults out.old) }
     ensures read_whole { OnOk result (IsReadWhole (S.rest source.old) (S.rest source.new)) }
-    ensures read_at { IfErr result (λ fault. IsReadAt fault (S.rest source.old) (S.rest source.new)) }
+    ensures read_at { IfErr result (λ fault. IsReadAt fault (S.rest source.old)
+        (S.rest source.new)) }
 {
     let text = read_text(alloc, source)?;
     serve(alloc, order, &text, out)
@@ -162,7 +165,8 @@ fn read_text<S: Source>(alloc: Global, source: &mut S) -> Result<Vec<u8>, Fault>
         → IfSome (S.rest source.old) (λ rest. IsCausedBy order rest fault)) }
     ensures may_end { IfErr result (λ fault. (command : _) → Contains (statuses_of command)
         (status_of fault)) }
-    ensures read_at { IfErr result (λ fault. IsReadAt fault (S.rest source.old) (S.rest source.new)) }
+    ensures read_at { IfErr result (λ fault. IsReadAt fault (S.rest source.old)
+        (S.rest source.new)) }
     ensures read_fault { IsErrOf result Fault.Read
         → Rose (S.faults source.old) (S.faults source.new) }
     ensures calm { OnOk result (S.faults source.new ≡ S.faults source.old) }

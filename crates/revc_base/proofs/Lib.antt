@@ -7,7 +7,6 @@ pub mod PolynomialLemmas
 pub mod ProductLemmas
 pub mod RunLemmas
 pub mod SumLemmas
-pub mod TapeKeeps
 pub mod TapeLemmas
 pub mod VariableOrderLemmas
 pub mod WidthLemmas
