@@ -43,6 +43,8 @@ const NO_ORDERS: &[&[&str]] = &[
     &["eval", "-1"],
     &["eval", "0", "1"],
     &["run", "01"],
+    &["compile", "--", "x"],
+    &["eval", "1", "--", "--"],
 ];
 
 // A program text in pieces that are repeated, and then the status and the text on standard output or standard error.
@@ -533,6 +535,8 @@ const FAULTS: &[(&[&str], u64, u8, (&[u8], usize))] = &[
     (&["eval", "11"], 1, 10, (b"1\n", 0)),
     (&["eval", "11"], 2, 10, (b"1\n", 2)),
     (&["eval", "11"], 3, 0, (b"1\n", 2)),
+    (&["compile", "--"], 23, 0, (PRODUCT_FILE, 163)),
+    (&["eval", "--", "11"], 3, 0, (b"1\n", 2)),
 ];
 
 #[test]
