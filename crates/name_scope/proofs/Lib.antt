@@ -2,8 +2,6 @@ pub mod VerdictLemmas
 pub mod ScopeLemmas
 pub mod LoopLemmas
 pub mod NearerLemmas
-pub mod Nearer
 pub mod KeepsLemmas
-pub mod Keeps
 pub mod TableLemmas
 pub mod NearestLemmas

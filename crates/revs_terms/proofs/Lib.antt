@@ -6,4 +6,3 @@ pub mod BitlessRunLemmas
 pub mod BitlessTapeLemmas
 pub mod OutputLemmas
 pub mod TapeLemmas
-pub mod TapeLaws
