@@ -4,7 +4,13 @@ use Rattle.std.proofs.lemmas.List.{take_rest, take-append-drop, nil_from_length}
 use Rattle.std.proofs.KnownBytes.{Appends-nil, Appends-trans, Appends-kept}
 use Rattle.std.specs.Prelude.{Option, Result, Ok, Err, IsErrAnd}
 use Rattle.std.specs.Io.KnownBytes.{Appends, Keeps}
-use Rattle.revc_io.specs.Passing.{AppendsFront, Gathered, Gathers, Underway, Writes}
+use Rattle.revc_io.specs.Passing.{AppendsFront, Gathered, Gathers, Writes}
+
+-- a text on its way: a front of it was appended, some of it waits in a buffer, and the rest is left to be written
+pub record Underway (old now : Option (List ℕ)) (waiting whole left : List ℕ) : Type 0 where
+  pub front : List ℕ
+  pub parts : whole ≡ front ++ (waiting ++ left)
+  pub grown : Appends old now front
 
 -- ---- regrouping
 

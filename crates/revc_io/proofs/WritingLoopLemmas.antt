@@ -2,8 +2,8 @@
 use Rattle.std.proofs.Common.{◌≡◌, ℕ, ◌≤◌, List, [], ◌++◌, Result, Ok, Err, refl, sym, subst, ◌∙◌, arith}
 use Rattle.std.specs.Prelude.{Option, IsErrAnd}
 use Rattle.revc_io.specs.Faults.{HasCause, Rose}
-use Rattle.revc_io.specs.Passing.{AppendsFront, Gathered, Gathers, Underway}
-use Rattle.revc_io.proofs.PassingLemmas.{begun, step, gathered, failed_call}
+use Rattle.revc_io.specs.Passing.{AppendsFront, Gathered, Gathers}
+use Rattle.revc_io.proofs.PassingLemmas.{Underway, begun, step, gathered, failed_call}
 
 -- so far a front of the part was gathered behind what waited first, and the sink's count of faults stayed
 pub record IsWriting (old now : Option (List ℕ)) (before after : ℕ) (first waiting part left : List ℕ) : Type 0 where

@@ -29,9 +29,3 @@ abbrev pub Gathers : {T E : Type 0} → Result T E → Option (List ℕ) → Opt
 Gathers result old new waiting_old waiting_new piece =
     MatchResult result (λ _. Gathered old new waiting_old waiting_new piece)
     (λ _. AppendsFront old new (waiting_old ++ piece) × (waiting_new ≡ []))
-
--- a text on its way: a front of it was appended, some of it waits in a buffer, and the rest is left to be written
-pub record Underway (old now : Option (List ℕ)) (waiting whole left : List ℕ) : Type 0 where
-  pub front : List ℕ
-  pub parts : whole ≡ front ++ (waiting ++ left)
-  pub grown : Appends old now front

@@ -6,7 +6,7 @@ use Rattle.revc_base.specs.declared.place.Place.{Place}
 use Rattle.revs_lexer.specs.Spelling.{Spells, IsWithinLimits}
 use Rattle.revs_lexer.specs.Tokens.{IsCut, Stop, IsGap, IsLongest, Refuses, IsTokens, IsRefused, closed, IsEnded, start, place_behind, place_after, OneOutcome}
 use Rattle.revs_lexer.specs.Tokens as cuts
-use Rattle.revs_lexer.specs.Pieces.{TakesGap, TakesToken, Takes}
+use Rattle.revs_lexer.specs.inside.Pieces.{TakesGap, TakesToken, Takes}
 use Rattle.revs_lexer.specs.declared.token.Tok.{Tok}
 use Rattle.revs_lexer.specs.declared.token.Tok.TheVariants as toks
 use Rattle.revs_lexer.specs.declared.token.Token.{Token}

@@ -1,4 +1,4 @@
 pub mod Bytes
-pub mod Pieces
+pub mod inside
 pub mod Spelling
 pub mod Tokens

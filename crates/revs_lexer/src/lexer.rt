@@ -6,7 +6,7 @@ ghost use Rattle.std.specs.Str.{bytes_eq};
 ghost use Rattle.std.specs.Str.Parse.{AllDigits, digits_value};
 ghost use Rattle.revc_base.specs.declared.limits.TheConstants.{MOST_NAME_BYTES};
 ghost use Rattle.revs_lexer.specs.Bytes.{is_blank, is_line_feed, is_letter, is_name_byte};
-ghost use Rattle.revs_lexer.specs.Pieces.{Takes};
+ghost use Rattle.revs_lexer.specs.inside.Pieces.{Takes};
 ghost use Rattle.revs_lexer.specs.Spelling.{word_text, sign_text, is_identifier, Spells, IsWithinLimits};
 ghost use Rattle.revs_lexer.specs.Tokens.{place_after, IsGap, HasNoGap, IsLongest, Refuses, IsTokens, IsRefused, closed, IsEnded, OneOutcome, SomeOutcome};
 ghost use Rattle.revs_lexer.specs.declared.sign.Sign.{Sign};

@@ -1,7 +1,7 @@
 use Rattle.std.proofs.Common.{◌≡◌, ℕ, ◌++◌, codes, drop}
 use Rattle.std.specs.Fmt.{decimal}
 use Rattle.std.specs.List.{flat_map}
-use Rattle.revc_io.specs.Passing.{Underway}
+use Rattle.revc_io.proofs.PassingLemmas.{Underway}
 use Rattle.revc_io.proofs.tests.write_rows.Given as goal
 
 abbrev pub invariant-loop-number : goal.invariant-loop-number

@@ -1,5 +1,5 @@
 use Rattle.std.proofs.Common.{◌≡◌, [], length}
-use Rattle.revc_io.specs.Passing.{Underway}
+use Rattle.revc_io.proofs.PassingLemmas.{Underway}
 use Rattle.revc_io.proofs.transfer.put_all.Given as goal
 
 abbrev pub invariant-loop-rest : goal.invariant-loop-rest
