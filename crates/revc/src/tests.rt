@@ -47,100 +47,19 @@ const NO_ORDERS: &[&[&str]] = &[
     &["eval", "1", "--", "--"],
 ];
 
-// A program text in pieces that are repeated, and then the status and the text on standard output or standard error.
-const CASES: &[(&[(&[u8], usize)], u8, &[u8])] = &[
-    (&[(PRODUCT, 1)], 0, PRODUCT_FILE),
-    (&[(b"main (a : bool) = a", 1)], 0, NAME_FILE),
-    (&[(b"// \xff\nmain(a:bool)=\r\n\ta//", 1)], 0, NAME_FILE),
-    (
-        &[
-            (b"main (a : bool) = ", 1),
-            (b"(", 99),
-            (b"a", 1),
-            (b")", 99),
-        ],
-        0,
-        NAME_FILE,
-    ),
-    (
-        &[(b"main (a : bool) (b : bool) = a <> b && a", 1)],
-        0,
-        CHAIN_FILE,
-    ),
-    (
-        &[(b"main (a : bool) (b : bool) = (a <> b) && (b <> (a))", 1)],
-        0,
-        BRACKETS_FILE,
-    ),
-    (&[(b"main (a : bool) = a && a", 1)], 0, SQUARE_FILE),
-    (&[(b" ", 1_048_541), (PRODUCT, 1)], 0, PRODUCT_FILE),
-    (
-        &[(b" ", 1_048_577)],
-        3,
-        b"revc: source over 1048576 bytes\n",
-    ),
-    (
-        &[(b"main (a : bool) = a & a", 1)],
-        3,
-        b"revc: 1:21 BadByte\n",
-    ),
-    (
-        &[(b"main (a : bool) = ", 1), (b"z", 65)],
-        3,
-        b"revc: 1:19 LongName\n",
-    ),
-    (
-        &[(b"main (a : bool[00000]) = a", 1)],
-        3,
-        b"revc: 1:16 LongNumber\n",
-    ),
-    (&[], 3, b"revc: 1:1 Syntax\n"),
-    (
-        &[(b"main (a : bool) = a a <>", 1)],
-        3,
-        b"revc: 1:25 Syntax\n",
-    ),
-    (&[(b"\n", 99), (b"main = a", 1)], 3, b"revc: 100:6 Syntax\n"),
-    (
-        &[(b"main (a : bool) = ", 1), (b"(", 100)],
-        3,
-        b"revc: 1:118 Nesting\n",
-    ),
-    (
-        &[(b"main (a : bool[1025]) = a.[0]", 1)],
-        3,
-        b"revc: 1:7 Inputs\n",
-    ),
-    (&[(b"main (a : bool) = true", 1)], 3, REFUSED),
-    (
-        &[(b"main (a : bool) = fun x -> x", 1)],
-        3,
-        b"revc: 1:19 NoOutput\n",
-    ),
-    (&[(b"main (a : bool[1]) = a", 1)], 3, REFUSED),
-    (&[(b"main (a : bool) = z", 1)], 3, b"revc: 1:19 Unbound\n"),
-    (
-        &[(b"main (a : bool) (a : bool) = a", 1)],
-        3,
-        b"revc: 1:18 TwoParams\n",
-    ),
-    (
-        &[(b"main (a : bool) = { let t = false; clean t; t }", 1)],
-        3,
-        b"revc: 1:19 Gone\n",
-    ),
-    (
-        &[(b"main (a : bool) = (fun x -> x x) (fun x -> x x)", 1)],
-        3,
-        b"revc: 1:44 Depth\n",
-    ),
-    (&[(b"main (a : bool) = a", 1), (b" <> a", 1001)], 3, REFUSED),
-];
+// The heads of most programs below: one bit, two bits, two of one name, a bit and a register of two, a register of two, of
+// three, of four, of 1,024 bits.
+const BIT: &[u8] = b"main (a : bool) = ";
 
-// The inputs of most programs below: two bits, a register of two, of four, of 1,024 bits.
 const BITS: &[u8] = b"main (a : bool) (b : bool) = ";
 
+const TWICE: &[u8] = b"main (a : bool) (a : bool) = ";
+
+const MIXED: &[u8] = b"main (a : bool) (r : bool[2]) = ";
+
 const PAIR: &[u8] = b"main (r : bool[2]) = ";
+
+const THREE: &[u8] = b"main (r : bool[3]) = ";
 
 const FOUR: &[u8] = b"main (r : bool[4]) = ";
 
@@ -154,184 +73,235 @@ const CLAIMS: &[u8] = b"{ assert a; clean b; true }";
 
 const ALIAS: &[u8] = b"{ let r = reg [a; b]; let s = r; s.[0] <- b; r }";
 
+const TWICE_FLIPPED: &[u8] =
+    b"{ let twice f x = f (f x); let flip x = x <> true; reg [twice flip a; flip b] }";
+
 const BAD_BITS: &[u8] = b"revc: bad bits in word 1\n";
 
-// A program text as its head, a body and what stands behind it so many times, a bit word that is repeated, and then the status and the
-// text on standard output or standard error. The outputs are worked out by hand.
-const VALUES: &[(&[(&[u8], usize)], (&str, usize), u8, &[u8])] = &[
-    // Bits and words.
-    (&[(BITS, 1), (b"true && a", 1)], ("10", 1), 0, b"1\n"),
-    (&[(BITS, 1), (ASSIGNED, 1)], ("01", 1), 0, b"1\n"),
-    (&[(BITS, 1), (ASSIGNED, 1)], ("10", 1), 0, b"0\n"),
-    (&[(BITS, 1), (ASSIGNED, 1)], ("2", 1), 12, BAD_BITS),
-    (&[(BITS, 1), (ASSIGNED, 1)], ("02", 1), 12, BAD_BITS),
-    (&[(BITS, 1), (ASSIGNED, 1)], ("1", 1), 12, BAD_BITS),
-    (&[(BITS, 1), (ASSIGNED, 1)], ("", 1), 12, BAD_BITS),
-    // Claims.
-    (&[(BITS, 1), (CLAIMED, 1)], ("10", 1), 0, b"1\n"),
+// The head and the body of a program, and then the status and the text on standard output or standard error.
+const CASES: &[(&[u8], &[u8], u8, &[u8])] = &[
+    (b"", PRODUCT, 0, PRODUCT_FILE),
+    (BIT, b"a", 0, NAME_FILE),
+    (b"", b"// \xff\nmain(a:bool)=\r\n\ta//", 0, NAME_FILE),
+    (BITS, b"a <> b && a", 0, CHAIN_FILE),
+    (BITS, b"(a <> b) && (b <> (a))", 0, BRACKETS_FILE),
+    (BIT, b"a && a", 0, SQUARE_FILE),
+    (BIT, b"a & a", 3, b"revc: 1:21 BadByte\n"),
     (
-        &[(BITS, 1), (CLAIMED, 1)],
-        ("11", 1),
+        b"",
+        b"main (a : bool[00000]) = a",
+        3,
+        b"revc: 1:16 LongNumber\n",
+    ),
+    (b"", b"", 3, b"revc: 1:1 Syntax\n"),
+    (BIT, b"a a <>", 3, b"revc: 1:25 Syntax\n"),
+    (
+        b"",
+        b"main (a : bool[1025]) = a.[0]",
+        3,
+        b"revc: 1:7 Inputs\n",
+    ),
+    (BIT, b"true", 3, REFUSED),
+    (BIT, b"fun x -> x", 3, b"revc: 1:19 NoOutput\n"),
+    (b"", b"main (a : bool[1]) = a", 3, REFUSED),
+    (BIT, b"z", 3, b"revc: 1:19 Unbound\n"),
+    (TWICE, b"a", 3, b"revc: 1:18 TwoParams\n"),
+    (
+        BIT,
+        b"{ let t = false; clean t; t }",
+        3,
+        b"revc: 1:19 Gone\n",
+    ),
+    (
+        BIT,
+        b"(fun x -> x x) (fun x -> x x)",
+        3,
+        b"revc: 1:44 Depth\n",
+    ),
+];
+
+// The same for texts in pieces that are repeated so many times.
+const LONG_CASES: &[(&[(&[u8], usize)], u8, &[u8])] = &[
+    (
+        &[
+            (b"main (a : bool) = ", 1),
+            (b"(", 99),
+            (b"a", 1),
+            (b")", 99),
+        ],
+        0,
+        NAME_FILE,
+    ),
+    (&[(b" ", 1_048_541), (PRODUCT, 1)], 0, PRODUCT_FILE),
+    (
+        &[(b" ", 1_048_577)],
+        3,
+        b"revc: source over 1048576 bytes\n",
+    ),
+    (
+        &[(b"main (a : bool) = ", 1), (b"z", 65)],
+        3,
+        b"revc: 1:19 LongName\n",
+    ),
+    (&[(b"\n", 99), (b"main = a", 1)], 3, b"revc: 100:6 Syntax\n"),
+    (
+        &[(b"main (a : bool) = ", 1), (b"(", 100)],
+        3,
+        b"revc: 1:118 Nesting\n",
+    ),
+    (&[(b"main (a : bool) = a", 1), (b" <> a", 1001)], 3, REFUSED),
+];
+
+// The head and the body of a program, a bit word, and then the status and the text on standard output or standard error. The
+// outputs are worked out by hand.
+const VALUES: &[(&[u8], &[u8], &str, u8, &[u8])] = &[
+    // Bits and words.
+    (BITS, b"true && a", "10", 0, b"1\n"),
+    (BITS, ASSIGNED, "01", 0, b"1\n"),
+    (BITS, ASSIGNED, "10", 0, b"0\n"),
+    (BITS, ASSIGNED, "2", 12, BAD_BITS),
+    (BITS, ASSIGNED, "02", 12, BAD_BITS),
+    (BITS, ASSIGNED, "1", 12, BAD_BITS),
+    (BITS, ASSIGNED, "", 12, BAD_BITS),
+    // Claims.
+    (BITS, CLAIMED, "10", 0, b"1\n"),
+    (
+        BITS,
+        CLAIMED,
+        "11",
         4,
         b"revc: claim 1 at 1:48 fails on 11\n",
     ),
-    (&[(BITS, 1), (CLAIMS, 1)], ("10", 1), 0, b"1\n"),
+    (BITS, CLAIMS, "10", 0, b"1\n"),
     (
-        &[(BITS, 1), (CLAIMS, 1)],
-        ("11", 1),
+        BITS,
+        CLAIMS,
+        "11",
         4,
         b"revc: claim 2 at 1:42 fails on 11\n",
     ),
     (
-        &[(BITS, 1), (CLAIMS, 1)],
-        ("01", 1),
+        BITS,
+        CLAIMS,
+        "01",
         4,
         b"revc: claim 1 at 1:32 fails on 01\n",
     ),
     (
-        &[(BITS, 1), (b"{ let t = a && b; clean t; t <- a; t }", 1)],
-        ("00", 1),
+        BITS,
+        b"{ let t = a && b; clean t; t <- a; t }",
+        "00",
         3,
         b"revc: 1:57 Gone\n",
     ),
     // Names that stand for one location, and registers that copy no bit.
-    (&[(BITS, 1), (ALIAS, 1)], ("01", 1), 0, b"11\n"),
-    (&[(BITS, 1), (ALIAS, 1)], ("10", 1), 0, b"00\n"),
+    (BITS, ALIAS, "01", 0, b"11\n"),
+    (BITS, ALIAS, "10", 0, b"00\n"),
     (
-        &[(BITS, 1), (b"{ let t = a; a <- b; b <- t; reg [a; b] }", 1)],
-        ("01", 1),
+        BITS,
+        b"{ let t = a; a <- b; b <- t; reg [a; b] }",
+        "01",
         0,
         b"11\n",
     ),
     (
-        &[
-            (BITS, 1),
-            (b"{ let t = a && a; a <- b; b <- t; reg [a; b] }", 1),
-        ],
-        ("01", 1),
+        BITS,
+        b"{ let t = a && a; a <- b; b <- t; reg [a; b] }",
+        "01",
         0,
         b"10\n",
     ),
+    (BITS, b"a <> { a <- b; a }", "01", 0, b"0\n"),
     (
-        &[(BITS, 1), (b"a <> { a <- b; a }", 1)],
-        ("01", 1),
-        0,
-        b"0\n",
-    ),
-    (
-        &[(PAIR, 1), (b"{ let s = rotate 1 r; s.[0] <- s.[1]; r }", 1)],
-        ("10", 1),
+        PAIR,
+        b"{ let s = rotate 1 r; s.[0] <- s.[1]; r }",
+        "10",
         0,
         b"11\n",
     ),
     (
-        &[
-            (b"main (a : bool) (r : bool[2]) = ", 1),
-            (b"{ let s = append (reg [a]) r; s.[2] <- s.[0]; r }", 1),
-        ],
-        ("011", 1),
+        MIXED,
+        b"{ let s = append (reg [a]) r; s.[2] <- s.[0]; r }",
+        "011",
         0,
         b"10\n",
     ),
     // Functions as values, with the locations that they were made with.
+    (BITS, b"{ let f x = x <> a; a <- b; f b }", "01", 0, b"0\n"),
     (
-        &[(BITS, 1), (b"{ let f x = x <> a; a <- b; f b }", 1)],
-        ("01", 1),
+        BITS,
+        b"{ let f = { let h = a && b; fun x -> x <> h }; f a }",
+        "11",
         0,
         b"0\n",
     ),
     (
-        &[
-            (BITS, 1),
-            (b"{ let f = { let h = a && b; fun x -> x <> h }; f a }", 1),
-        ],
-        ("11", 1),
-        0,
-        b"0\n",
-    ),
-    (
-        &[
-            (BITS, 1),
-            (b"{ let f x y = x <> (x && y); let g = f a; g b }", 1),
-        ],
-        ("10", 1),
+        BITS,
+        b"{ let f x y = x <> (x && y); let g = f a; g b }",
+        "10",
         0,
         b"1\n",
     ),
+    (BITS, b"(fun x -> fun y -> x && y) a b", "11", 0, b"1\n"),
+    (BITS, TWICE_FLIPPED, "11", 0, b"10\n"),
     (
-        &[(BITS, 1), (b"(fun x -> fun y -> x && y) a b", 1)],
-        ("11", 1),
-        0,
-        b"1\n",
-    ),
-    (
-        &[
-            (BITS, 1),
-            (b"{ let twice f x = f (f x); ", 1),
-            (b"let flip x = x <> true; reg [twice flip a; flip b] }", 1),
-        ],
-        ("11", 1),
-        0,
-        b"10\n",
-    ),
-    (
-        &[(PAIR, 1), (b"{ let put x = x.[0] <- x.[1]; put r; r }", 1)],
-        ("01", 1),
+        PAIR,
+        b"{ let put x = x.[0] <- x.[1]; put r; r }",
+        "01",
         0,
         b"11\n",
     ),
     // Nearer names hide farther ones.
+    (BITS, b"(fun x x -> x) a b", "01", 0, b"1\n"),
     (
-        &[(BITS, 1), (b"(fun x x -> x) a b", 1)],
-        ("01", 1),
-        0,
-        b"1\n",
-    ),
-    (
-        &[
-            (BITS, 1),
-            (b"{ let x = a; let y = { let x = b; x }; reg [x; y] }", 1),
-        ],
-        ("01", 1),
+        BITS,
+        b"{ let x = a; let y = { let x = b; x }; reg [x; y] }",
+        "01",
         0,
         b"01\n",
     ),
+    (BITS, b"{ let x = b; let x = x <> a; x }", "01", 0, b"1\n"),
     (
-        &[(BITS, 1), (b"{ let x = b; let x = x <> a; x }", 1)],
-        ("01", 1),
-        0,
-        b"1\n",
-    ),
-    (
-        &[
-            (BITS, 1),
-            (b"{ let x = a; let f y = x <> y; let x = b; f x }", 1),
-        ],
-        ("10", 1),
+        BITS,
+        b"{ let x = a; let f y = x <> y; let x = b; f x }",
+        "10",
         0,
         b"1\n",
     ),
     // Registers.
-    (&[(FOUR, 1), (b"rotate 1 r", 1)], ("1000", 1), 0, b"0001\n"),
+    (FOUR, b"rotate 1 r", "1000", 0, b"0001\n"),
+    (FOUR, b"r.[1..3].[1..2]", "0010", 0, b"10\n"),
     (
-        &[(FOUR, 1), (b"r.[1..3].[1..2]", 1)],
-        ("0010", 1),
-        0,
-        b"10\n",
-    ),
-    (
-        &[(FOUR, 1), (b"append (rotate 1 r) r.[0..1]", 1)],
-        ("1000", 1),
+        FOUR,
+        b"append (rotate 1 r) r.[0..1]",
+        "1000",
         0,
         b"000110\n",
     ),
-    (
-        &[(b"main (r : bool[3]) = rotate 3 r", 1)],
-        ("000", 1),
-        3,
-        b"revc: 1:22 Rotate\n",
-    ),
+    (THREE, b"rotate 3 r", "000", 3, b"revc: 1:22 Rotate\n"),
     // Limits.
+    (LONG, b"append r r", "0", 3, b"revc: 1:25 Outputs\n"),
+    // The other refusals of a text.
+    (BIT, b"z", "", 3, b"revc: 1:19 Unbound\n"),
+    (TWICE, b"a", "00", 3, b"revc: 1:18 TwoParams\n"),
+    (
+        BIT,
+        b"{ let t = false; clean t; t }",
+        "0",
+        3,
+        b"revc: 1:19 Gone\n",
+    ),
+    (
+        BIT,
+        b"(fun x -> x x) (fun x -> x x)",
+        "0",
+        3,
+        b"revc: 1:44 Depth\n",
+    ),
+];
+
+// The same for texts in pieces and a bit word, each repeated so many times.
+const LONG_VALUES: &[(&[(&[u8], usize)], (&str, usize), u8, &[u8])] = &[
     (
         &[
             (LONG, 1),
@@ -341,12 +311,6 @@ const VALUES: &[(&[(&[u8], usize)], (&str, usize), u8, &[u8])] = &[
         ("0", 1),
         3,
         b"revc: 4:1 Length\n",
-    ),
-    (
-        &[(LONG, 1), (b"append r r", 1)],
-        ("0", 1),
-        3,
-        b"revc: 1:25 Outputs\n",
     ),
     (
         &[
@@ -380,31 +344,6 @@ const VALUES: &[(&[(&[u8], usize)], (&str, usize), u8, &[u8])] = &[
         ("0", 1024),
         3,
         b"revc: 4095:1 Work\n",
-    ),
-    // The other refusals of a text.
-    (
-        &[(b"main (a : bool) = z", 1)],
-        ("", 1),
-        3,
-        b"revc: 1:19 Unbound\n",
-    ),
-    (
-        &[(b"main (a : bool) (a : bool) = a", 1)],
-        ("00", 1),
-        3,
-        b"revc: 1:18 TwoParams\n",
-    ),
-    (
-        &[(b"main (a : bool) = { let t = false; clean t; t }", 1)],
-        ("0", 1),
-        3,
-        b"revc: 1:19 Gone\n",
-    ),
-    (
-        &[(b"main (a : bool) = (fun x -> x x) (fun x -> x x)", 1)],
-        ("0", 1),
-        3,
-        b"revc: 1:44 Depth\n",
     ),
 ];
 
@@ -478,7 +417,11 @@ fn word_of(alloc: Global, word: &str, count: usize) -> Result<String, AllocError
 
 #[test]
 fn texts_are_compiled_or_refused(rt: HostRuntime) -> Result<(), Fail> {
-    for (pieces, status, written) in CASES {
+    for (head, body, status, written) in CASES {
+        let pieces = [(*head, 1), (*body, 1)];
+        check(&rt, rt.alloc(), &["compile"], &pieces, *status, written)?;
+    }
+    for (pieces, status, written) in LONG_CASES {
         check(&rt, rt.alloc(), &["compile"], pieces, *status, written)?;
     }
     Ok(())
@@ -486,16 +429,14 @@ fn texts_are_compiled_or_refused(rt: HostRuntime) -> Result<(), Fail> {
 
 #[test]
 fn texts_are_evaluated_or_refused(rt: HostRuntime) -> Result<(), Fail> {
-    for (pieces, (word, count), status, written) in VALUES {
+    for (head, body, word, status, written) in VALUES {
+        let pieces = [(*head, 1), (*body, 1)];
+        check(&rt, rt.alloc(), &["eval", word], &pieces, *status, written)?;
+    }
+    for (pieces, (word, count), status, written) in LONG_VALUES {
         let word = word_of(rt.alloc(), word, *count)?;
-        check(
-            &rt,
-            rt.alloc(),
-            &["eval", word.as_str()],
-            pieces,
-            *status,
-            written,
-        )?;
+        let words = ["eval", word.as_str()];
+        check(&rt, rt.alloc(), &words, pieces, *status, written)?;
     }
     Ok(())
 }
