@@ -1,2 +1,3 @@
 pub mod Gates
 pub mod Sizes
+pub mod Laws

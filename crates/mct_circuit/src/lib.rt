@@ -9,7 +9,7 @@ mod size;
 
 pub use circuit::{Circuit, GateFault};
 pub use gate::{Control, Gate, Op};
-pub use law::reversal;
+pub use law::{flips_set, more_lines_stay, reversal, uncomputes, weights_are_kept};
 pub use size::Counts;
 
 #[cfg(test)]
