@@ -1,155 +1,96 @@
 -- How the machine's outcome over a list of tokens tells where and why the list is refused.
-use Rattle.std.proofs.Common.{◌≡◌, ◌≢◌, ℕ, ◌+◌, Bool, true, false, cond, Option, Some, None, List, [], ◌∷◌, ◌++◌, refl, sym, ◌∙◌, ap, subst, length, append_assoc, arith}
-use Rattle.revs_lexer.specs.declared.sign.Sign.TheVariants as signs
-use Rattle.revs_lexer.specs.declared.word.Word.TheVariants as words
+use Rattle.std.proofs.Common.{◌≡◌, ◌≢◌, ℕ, ◌+◌, ◌==◌, Bool, true, false, cond, Option, Some, None, List, [], ◌∷◌, ◌++◌, refl, sym, ◌∙◌, subst, length, append_assoc, arith}
 use Rattle.revs_lexer.specs.declared.token.Tok.{Tok}
 use Rattle.revs_lexer.specs.declared.token.Tok.TheVariants as toks
 use Rattle.revs_lexer.specs.declared.token.Token.{Token}
 use Rattle.revs_lexer.specs.Tokens.{IsEnded}
-use Rattle.revs_grammar.specs.Sentences.{IsSentence, Begins, any_level, few_levels}
-use Rattle.revs_grammar.proofs.Grammar.{toks_of}
-use Rattle.revs_grammar.proofs.Grammar as g
+use Rattle.revs_terms.specs.declared.program.Param.{Param}
+use Rattle.revs_terms.specs.Trees.{Tree}
+use Rattle.revs_grammar.specs.Forms.{code, mark_code}
+use Rattle.revs_grammar.specs.Sentences.{token, kept_token, opening_token, form, Leads, value, any_level, few_levels, at_start, IsSentence, Begins, HasFewLevels}
+use Rattle.revs_grammar.specs.Answers.{HasSentence}
 use Rattle.revs_grammar.specs.Faults.{CannotStandAs, CannotStand}
-use Rattle.revs_grammar.specs.Machine.{form, parameter_end, part_end, body, body_end, Stack, step, run, accepts, is_done, at_level, base_on, application_on, sum_on, expression_on, body_on, parameter_on, names_on, part_on, assigned_on, sums_on, products_on, elements_on, Outcome, accepted, no_syntax, too_deep, is_end, at_token, outcome}
-use Rattle.revs_grammar.proofs.Complete.{accepts_next, next_accepts}
-use Rattle.revs_grammar.proofs.Sound.{run_next}
-use Rattle.revs_grammar.proofs.Laws.{at_start, sentence_accepted, accepted_sentence, run_begins, begins_runs}
+use Rattle.revs_grammar.specs.inside.Machine.{Stack, Opening, table, is_optional, at_level, taken, step, is_done, run, Outcome, accepted, no_syntax, too_deep, is_end, at_token, outcome}
+use Rattle.revs_grammar.proofs.RunLemmas.{run_next, first_step}
+use Rattle.revs_grammar.proofs.LeadsLemmas.{IsDone, leads_accepted, accepted_leads, leads_on, run_begins, run_few}
 
--- What the machine does where only few levels are allowed, it does where any are.
-level_any : (ok : Bool) (p x : Stack) → at_level ok p ≡ Some x → Some p ≡ Some x
-level_any true p x e = e
-level_any false p x e = cc
+-- ---- what the machine does where only few levels are allowed, it does where any are
 
-base_any : (l : ℕ) (t : Tok) (ms : Stack) (o q : Option Stack) (x : Stack)
-    → base_on few_levels l t ms o ≡ Some x → (o ≡ Some x → q ≡ Some x) → base_on any_level l t ms q ≡ Some x
-base_any l (toks.Name text) ms o q x e h = e
-base_any l (toks.Word words.True) ms o q x e h = e
-base_any l (toks.Word words.False) ms o q x e h = e
-base_any l (toks.Word words.Reg) ms o q x e h =
-    level_any (few_levels (l + 1)) (form (g.sign signs.OpenSquare) ∷ form (g.expression (l + 1)) ∷ form (g.elements (l + 1)) ∷ form (g.sign signs.CloseSquare) ∷ ms) x e
-base_any l (toks.Sign signs.OpenRound) ms o q x e h = level_any (few_levels (l + 1)) (form (g.expression (l + 1)) ∷ form (g.sign signs.CloseRound) ∷ ms) x e
-base_any l (toks.Sign signs.OpenCurly) ms o q x e h = level_any (few_levels (l + 1)) (body (l + 1) ∷ ms) x e
-base_any l _ ms o q x e h = h e
+level_any : (o : Option ℕ) (ss x : Stack) → at_level few_levels o ss ≡ Some x → at_level any_level o ss ≡ Some x
+level_any None ss x e = e
+level_any (Some l) ss x e = go (few_levels l) e
+  where
+    go : (b : Bool) → cond b (Some ss) None ≡ Some x → Some ss ≡ Some x
+    go true e = e
+    go false e = cc
 
-application_any : (l : ℕ) (t : Tok) (ms x : Stack) → application_on few_levels l t ms ≡ Some x → application_on any_level l t ms ≡ Some x
-application_any l (toks.Word words.Clean) ms x e = e
-application_any l (toks.Word words.Assert) ms x e = e
-application_any l (toks.Word words.Append) ms x e = e
-application_any l (toks.Word words.Rotate) ms x e = e
-application_any l t ms x e = base_any l t (form g.parts ∷ form (g.atoms l) ∷ ms) None None x e (λ n. n)
+pub step_any : (c : ℕ) (ss x : Stack) → step few_levels c ss ≡ Some x → step any_level c ss ≡ Some x
+step_any c [] x e = e
+step_any c (token m ∷ ss) x e = e
+step_any c (kept_token m ∷ ss) x e = e
+step_any c (opening_token m l ∷ ss) x e = go (c == mark_code m) e
+  where
+    go : (b : Bool) → cond b (at_level few_levels (Some l) ss) None ≡ Some x → cond b (at_level any_level (Some l) ss) None ≡ Some x
+    go true e = level_any (Some l) ss x e
+    go false e = cc
+step_any c (form f l ∷ ss) x e = go (table c f) (is_optional f) e (step_any c ss x)
+  where
+    go : (o : Option Opening) (b : Bool) → taken few_levels l ss o (cond b (step few_levels c ss) None) ≡ Some x
+        → (step few_levels c ss ≡ Some x → step any_level c ss ≡ Some x) → taken any_level l ss o (cond b (step any_level c ss) None) ≡ Some x
+    go (Some o) b e next = level_any (o.opens l) (o.rest l ++ ss) x e
+    go None true e next = next e
+    go None false e next = cc
 
-sum_any : (l : ℕ) (t : Tok) (ms x : Stack) → sum_on few_levels l t ms ≡ Some x → sum_on any_level l t ms ≡ Some x
-sum_any l t ms x e = application_any l t (form (g.products l) ∷ form (g.sums l) ∷ ms) x e
+pub run_any : (front : List Token) (ss x : Stack) → run few_levels front ss ≡ Some x → run any_level front ss ≡ Some x
+run_any [] ss x e = e
+run_any (t ∷ front) ss x e =
+    let n = run_next few_levels t front ss x e in
+    first_step any_level t front ss n.0 x (step_any (code t.tok) ss n.0 n.1) (run_any front n.0 x n.2)
 
-expression_any : (l : ℕ) (t : Tok) (ms x : Stack) → expression_on few_levels l t ms ≡ Some x → expression_on any_level l t ms ≡ Some x
-expression_any l (toks.Word words.Fun) ms x e =
-    level_any (few_levels (l + 1)) (form g.name ∷ form g.names ∷ form (g.sign signs.Arrow) ∷ form (g.expression (l + 1)) ∷ ms) x e
-expression_any l t ms x e = sum_any l t (form (g.assigned l) ∷ ms) x e
+-- ---- one token more
 
-body_any : (l : ℕ) (t : Tok) (ms x : Stack) → body_on few_levels l t ms ≡ Some x → body_on any_level l t ms ≡ Some x
-body_any l (toks.Word words.Let) ms x e = e
-body_any l t ms x e = expression_any l t (body_end l ∷ ms) x e
-
-parameter_any : (t : Tok) (ms : Stack) (o q : Option Stack) (x : Stack) → parameter_on t ms o ≡ Some x → (o ≡ Some x → q ≡ Some x) → parameter_on t ms q ≡ Some x
-parameter_any (toks.Sign signs.OpenRound) ms o q x e h = e
-parameter_any _ ms o q x e h = h e
-
-names_any : (t : Tok) (ms : Stack) (o q : Option Stack) (x : Stack) → names_on t ms o ≡ Some x → (o ≡ Some x → q ≡ Some x) → names_on t ms q ≡ Some x
-names_any (toks.Name text) ms o q x e h = e
-names_any _ ms o q x e h = h e
-
-part_any : (t : Tok) (ms : Stack) (o q : Option Stack) (x : Stack) → part_on t ms o ≡ Some x → (o ≡ Some x → q ≡ Some x) → part_on t ms q ≡ Some x
-part_any (toks.Sign signs.Dot) ms o q x e h = e
-part_any _ ms o q x e h = h e
-
-assigned_any : (l : ℕ) (t : Tok) (ms : Stack) (o q : Option Stack) (x : Stack) → assigned_on l t ms o ≡ Some x → (o ≡ Some x → q ≡ Some x) → assigned_on l t ms q ≡ Some x
-assigned_any l (toks.Sign signs.Assign) ms o q x e h = e
-assigned_any l _ ms o q x e h = h e
-
-sums_any : (l : ℕ) (t : Tok) (ms : Stack) (o q : Option Stack) (x : Stack) → sums_on l t ms o ≡ Some x → (o ≡ Some x → q ≡ Some x) → sums_on l t ms q ≡ Some x
-sums_any l (toks.Sign signs.Xor) ms o q x e h = e
-sums_any l _ ms o q x e h = h e
-
-products_any : (l : ℕ) (t : Tok) (ms : Stack) (o q : Option Stack) (x : Stack) → products_on l t ms o ≡ Some x → (o ≡ Some x → q ≡ Some x) → products_on l t ms q ≡ Some x
-products_any l (toks.Sign signs.And) ms o q x e h = e
-products_any l _ ms o q x e h = h e
-
-elements_any : (l : ℕ) (t : Tok) (ms : Stack) (o q : Option Stack) (x : Stack) → elements_on l t ms o ≡ Some x → (o ≡ Some x → q ≡ Some x) → elements_on l t ms q ≡ Some x
-elements_any l (toks.Sign signs.Semi) ms o q x e h = e
-elements_any l _ ms o q x e h = h e
-
-pub step_any : (ms : Stack) (t : Tok) (x : Stack) → step few_levels ms t ≡ Some x → step any_level ms t ≡ Some x
-step_any [] t x e = e
-step_any (form (g.sign s) ∷ ms) t x e = e
-step_any (form g.bool_word ∷ ms) t x e = e
-step_any (form g.name ∷ ms) t x e = e
-step_any (form g.number ∷ ms) t x e = e
-step_any (form g.program ∷ ms) t x e = e
-step_any (form g.parameter ∷ ms) t x e = e
-step_any (form g.parameters ∷ ms) t x e = parameter_any t (form g.parameters ∷ ms) (step few_levels ms t) (step any_level ms t) x e (step_any ms t x)
-step_any (form g.names ∷ ms) t x e = names_any t ms (step few_levels ms t) (step any_level ms t) x e (step_any ms t x)
-step_any (form (g.expression l) ∷ ms) t x e = expression_any l t ms x e
-step_any (form (g.assigned l) ∷ ms) t x e = assigned_any l t ms (step few_levels ms t) (step any_level ms t) x e (step_any ms t x)
-step_any (form (g.sum l) ∷ ms) t x e = sum_any l t ms x e
-step_any (form (g.sums l) ∷ ms) t x e = sums_any l t ms (step few_levels ms t) (step any_level ms t) x e (step_any ms t x)
-step_any (form (g.product l) ∷ ms) t x e = application_any l t (form (g.products l) ∷ ms) x e
-step_any (form (g.products l) ∷ ms) t x e = products_any l t ms (step few_levels ms t) (step any_level ms t) x e (step_any ms t x)
-step_any (form (g.application l) ∷ ms) t x e = application_any l t ms x e
-step_any (form (g.atom l) ∷ ms) t x e = base_any l t (form g.parts ∷ ms) None None x e (λ n. n)
-step_any (form (g.atoms l) ∷ ms) t x e = base_any l t (form g.parts ∷ form (g.atoms l) ∷ ms) (step few_levels ms t) (step any_level ms t) x e (step_any ms t x)
-step_any (form g.part ∷ ms) t x e = e
-step_any (form g.parts ∷ ms) t x e = part_any t (form g.parts ∷ ms) (step few_levels ms t) (step any_level ms t) x e (step_any ms t x)
-step_any (form (g.base l) ∷ ms) t x e = base_any l t ms None None x e (λ n. n)
-step_any (form (g.elements l) ∷ ms) t x e = elements_any l t ms (step few_levels ms t) (step any_level ms t) x e (step_any ms t x)
-step_any (form (g.items l) ∷ ms) t x e = e
-step_any (form (g.item l) ∷ ms) t x e = e
-step_any (parameter_end ∷ ms) t x e = e
-step_any (part_end ∷ ms) t x e = e
-step_any (body l ∷ ms) t x e = body_any l t ms x e
-step_any (body_end l ∷ ms) t x e = e
+same_stack : (x y : Stack) → Some x ≡ Some y → x ≡ y
+same_stack x y e = cc
 
 module _ (a : ℕ → Bool) where
-  first_step : (t : Tok) (front : List Tok) (ms next x : Stack) → step a ms t ≡ Some next → run a front next ≡ Some x → run a (t ∷ front) ms ≡ Some x
-  first_step t front ms next x e p =
-      subst (λ (o : Option Stack). elim o as (λ _. Option Stack) [ None ↦ None | Some next ↦ run a front next ] ≡ Some x) (sym e) p
+  pub run_more : (front : List Token) (t : Token) (ss y x : Stack) → run a front ss ≡ Some y → step a (code t.tok) y ≡ Some x
+      → run a (front ++ t ∷ []) ss ≡ Some x
+  run_more [] t ss y x e p =
+      first_step a t [] ss x x (subst (λ (z : Stack). step a (code t.tok) z ≡ Some x) (sym (same_stack ss y e)) p) refl
+  run_more (s ∷ front) t ss y x e p =
+      let n = run_next a s front ss y e in first_step a s (front ++ t ∷ []) ss n.0 x n.1 (run_more front t n.0 y x n.2 p)
 
-  one_step : (t : Tok) (y x : Stack) → run a (t ∷ []) y ≡ Some x → step a y t ≡ Some x
-  one_step t y x e = let n = run_next a t [] y x e in n.1.0 ∙ n.1.1
+  pub run_end : (front : List Token) (t : Token) (ss y x : Stack) → run a front ss ≡ Some y → run a (front ++ t ∷ []) ss ≡ Some x
+      → step a (code t.tok) y ≡ Some x
+  run_end [] t ss y x e p =
+      let n = run_next a t [] y x (subst (λ (z : Stack). run a (t ∷ []) z ≡ Some x) (same_stack ss y e) p) in n.1 ∙ n.2
+  run_end (s ∷ front) t ss y x e p =
+      let n = run_next a s front ss y e in
+      let k = run_next a s (front ++ t ∷ []) ss x p in
+      let same : n.0 ≡ k.0 = same_stack n.0 k.0 (sym n.1 ∙ k.1) in
+      run_end front t n.0 y x n.2 (subst (λ (z : Stack). run a (front ++ t ∷ []) z ≡ Some x) (sym same) k.2)
 
-  same_stack : (x y : Stack) → Some x ≡ Some y → x ≡ y
-  same_stack x y e = cc
+  -- The machine comes on over what begins what it reads.
+  pub run_front : (front rest : List Token) (ss x : Stack) → run a (front ++ rest) ss ≡ Some x
+      → (y : Stack) × (run a front ss ≡ Some y) × (run a rest y ≡ Some x)
+  run_front [] rest ss x e = (ss, refl, e)
+  run_front (t ∷ front) rest ss x e =
+      let n = run_next a t (front ++ rest) ss x e in
+      let r = run_front front rest n.0 x n.2 in (r.0, first_step a t front ss n.0 r.0 n.1 r.1, r.2)
 
-  pub run_more : (front : List Tok) (t : Tok) (ms y x : Stack) → run a front ms ≡ Some y → step a y t ≡ Some x → run a (front ++ t ∷ []) ms ≡ Some x
-  run_more [] t ms y x e p =
-      first_step t [] ms x x (subst (λ (z : Stack). step a z t ≡ Some x) (sym (same_stack ms y e)) p) refl
-  run_more (s ∷ front) t ms y x e p =
-      let n = run_next a s front ms y e in first_step s (front ++ t ∷ []) ms n.0 x n.1.0 (run_more front t n.0 y x n.1.1 p)
+-- The machine reads whatever begins a sentence, and a sentence to its end.
+pub begins_runs : (front : List Token) → Begins front → (x : Stack) × (run any_level front at_start ≡ Some x)
+begins_runs front b =
+    let r = leads_accepted any_level (front ++ b.rest) b.sentence.spelled.reading in
+    let f = run_front any_level front b.rest at_start r.stack r.runs in (f.0, f.1)
 
-  pub run_end : (front : List Tok) (t : Tok) (ms y x : Stack) → run a front ms ≡ Some y → run a (front ++ t ∷ []) ms ≡ Some x → step a y t ≡ Some x
-  run_end [] t ms y x e p = one_step t y x (subst (λ (z : Stack). run a (t ∷ []) z ≡ Some x) (same_stack ms y e) p)
-  run_end (s ∷ front) t ms y x e p =
-      let n = run_next a s front ms y e in
-      let k = run_next a s (front ++ t ∷ []) ms x p in
-      let same : n.0 ≡ k.0 = same_stack n.0 k.0 (sym n.1.0 ∙ k.1.0) in
-      run_end front t n.0 y x n.1.1 (subst (λ (z : Stack). run a (front ++ t ∷ []) z ≡ Some x) (sym same) k.1.1)
+pub few_runs : (front : List Token) → HasFewLevels front → (x : Stack) × (run few_levels front at_start ≡ Some x)
+few_runs front h = leads_on few_levels front h.left h.reading
 
-  pub run_done : (front : List Tok) (ms x : Stack) → run a front ms ≡ Some x → is_done x ≡ true → accepts a front ms ≡ true
-  run_done [] ms x e d = subst (λ (z : Stack). is_done z ≡ true) (sym (same_stack ms x e)) d
-  run_done (t ∷ front) ms x e d = let n = run_next a t front ms x e in accepts_next a t front ms n.0 n.1.0 (run_done front n.0 x n.1.1 d)
+pub run_done : (a : ℕ → Bool) (front : List Token) (x : Stack) → run a front at_start ≡ Some x → Leads a at_start front [] → is_done x ≡ true
+run_done a front x e d = let r = leads_accepted a front d in subst IsDone (same_stack r.stack x (sym r.runs ∙ e)) r.holds
 
-  pub done_run : (front : List Tok) (ms x : Stack) → run a front ms ≡ Some x → accepts a front ms ≡ true → is_done x ≡ true
-  done_run [] ms x e p = subst (λ (z : Stack). is_done z ≡ true) (same_stack ms x e) p
-  done_run (t ∷ front) ms x e p =
-      let n = run_next a t front ms x e in
-      let k = next_accepts a t front ms p in
-      let same : k.0 ≡ n.0 = same_stack k.0 n.0 (sym k.1.0 ∙ n.1.0) in
-      done_run front n.0 x n.1.1 (subst (λ (z : Stack). accepts a front z ≡ true) same k.1.1)
-
-pub run_any : (front : List Tok) (ms x : Stack) → run few_levels front ms ≡ Some x → run any_level front ms ≡ Some x
-run_any [] ms x e = e
-run_any (t ∷ front) ms x e =
-    let n = run_next few_levels t front ms x e in
-    first_step any_level t front ms n.0 x (step_any ms t n.0 n.1.0) (run_any front n.0 x n.1.1)
+-- ---- what an outcome says
 
 -- The reading stops at the token in front of which so many tokens were read.
 pub record StopsAt (tokens : List Token) (left : ℕ) (Why : List Token → Token → Type 0) : Type 0 where
@@ -161,20 +102,17 @@ pub record StopsAt (tokens : List Token) (left : ℕ) (Why : List Token → Toke
   pub why : Why front named
 
 abbrev pub Refuses : List Token → Token → Type 0
-Refuses front named = Begins few_levels front × CannotStand front named
+Refuses front named = Begins front × HasFewLevels front × CannotStand front named
 
 abbrev pub Deepens : List Token → Token → Type 0
-Deepens front named = Begins few_levels front × ((¬ Begins few_levels (front ++ named ∷ [])) × Begins any_level (front ++ named ∷ []))
+Deepens front named = Begins (front ++ named ∷ []) × HasFewLevels front × (¬ HasFewLevels (front ++ named ∷ []))
 
 -- The tokens are a sentence with no level above 100, and `End`.
 pub record IsSentenceAndEnd (tokens : List Token) : Type 0 where
-  pub sentence : List Token
-  pub end : Token
-  pub cut : tokens ≡ sentence ++ end ∷ []
-  pub ended : end.tok ≡ toks.End
-  pub is_sentence : IsSentence few_levels sentence
+  pub params : List Param
+  pub body : Tree
+  pub sentence : HasSentence tokens params body
 
--- what an outcome says of the tokens
 abbrev pub Says : List Token → Outcome → Type 0
 Says tokens accepted = IsSentenceAndEnd tokens
 Says tokens (no_syntax left) = StopsAt tokens left Refuses
@@ -185,48 +123,44 @@ not_end toks.End h = absurd (h refl)
 not_end (toks.Name text) h = refl
 not_end _ h = refl
 
-cannot : (front : List Token) (t : Token) (k : Tok) → k ≢ toks.End → (¬ Begins any_level (front ++ t ∷ [])) → CannotStandAs k front t
+cannot : (front : List Token) (t : Token) (k : Tok) → k ≢ toks.End → (¬ Begins (front ++ t ∷ [])) → CannotStandAs k front t
 cannot front t toks.End h b = absurd (h refl)
 cannot front t (toks.Name text) h b = b
 cannot front t _ h b = b
 
-cannot_end : (front : List Token) (t : Token) → t.tok ≡ toks.End → (¬ IsSentence any_level front) → CannotStand front t
+cannot_end : (front : List Token) (t : Token) → t.tok ≡ toks.End → (¬ IsSentence front) → CannotStand front t
 cannot_end front t e b = subst (λ (z : Tok). CannotStandAs z front t) (sym e) b
 
-toks_behind : (front : List Token) (t : Token) → toks_of (front ++ t ∷ []) ≡ toks_of front ++ t.tok ∷ []
-toks_behind [] t = refl
-toks_behind (u ∷ front) t = ap (λ (z : List Tok). u.tok ∷ z) (toks_behind front t)
+none_some : (o : Option Stack) (x : Stack) → o ≡ None → o ≡ Some x → ⊥
+none_some o x e f = let wrong : None ≡ Some x = sym e ∙ f in cc
 
--- how the machine reads one more token
-pub run_one : (a : ℕ → Bool) (front : List Token) (t : Token) (ms y x : Stack)
-    → run a (toks_of front) ms ≡ Some y → step a y t.tok ≡ Some x → run a (toks_of (front ++ t ∷ [])) ms ≡ Some x
-run_one a front t ms y x r is =
-    subst (λ (z : List Tok). run a z ms ≡ Some x) (sym (toks_behind front t)) (run_more a (toks_of front) t.tok ms y x r is)
+-- Where the machine is stuck, no sentence goes on; and no level below 101 is opened.
+never : (front : List Token) (t : Token) (ss : Stack) → run any_level front at_start ≡ Some ss → step any_level (code t.tok) ss ≡ None
+    → ¬ Begins (front ++ t ∷ [])
+never front t ss r stuck b =
+    let n = begins_runs (front ++ t ∷ []) b in
+    none_some (step any_level (code t.tok) ss) n.0 stuck (run_end any_level front t at_start ss n.0 r n.1)
 
-pub one_run : (a : ℕ → Bool) (front : List Token) (t : Token) (ms y x : Stack)
-    → run a (toks_of front) ms ≡ Some y → run a (toks_of (front ++ t ∷ [])) ms ≡ Some x → step a y t.tok ≡ Some x
-one_run a front t ms y x r is =
-    run_end a (toks_of front) t.tok ms y x r (subst (λ (z : List Tok). run a z ms ≡ Some x) (toks_behind front t) is)
+never_few : (front : List Token) (t : Token) (ss : Stack) → run few_levels front at_start ≡ Some ss → step few_levels (code t.tok) ss ≡ None
+    → ¬ HasFewLevels (front ++ t ∷ [])
+never_few front t ss r stuck h =
+    let n = few_runs (front ++ t ∷ []) h in
+    none_some (step few_levels (code t.tok) ss) n.0 stuck (run_end few_levels front t at_start ss n.0 r n.1)
 
-never : (a : ℕ → Bool) (front : List Token) (t : Token) (ms : Stack)
-    → run a (toks_of front) at_start ≡ Some ms → step a ms t.tok ≡ None → ¬ Begins a (front ++ t ∷ [])
-never a front t ms r stuck b =
-    let n = begins_runs a (front ++ t ∷ []) b in
-    let some : step a ms t.tok ≡ Some n.0 = one_run a front t at_start ms n.0 r n.1 in
-    let wrong : None ≡ Some n.0 = sym stuck ∙ some in cc
-
-says : (front : List Token) (t : Token) (ms : Stack) → run few_levels (toks_of front) at_start ≡ Some ms → t.tok ≡ toks.End
-    → Says (front ++ t ∷ []) (cond (is_done ms) accepted (no_syntax 1))
-says front t ms r e = go (is_done ms) refl
+says : (front : List Token) (t : Token) (ss : Stack) → run few_levels front at_start ≡ Some ss → t.tok ≡ toks.End
+    → Says (front ++ t ∷ []) (cond (is_done ss) accepted (no_syntax 1))
+says front t ss r e = go (is_done ss) refl
   where
-    go : (b : Bool) → is_done ms ≡ b → Says (front ++ t ∷ []) (cond b accepted (no_syntax 1))
-    go true d = record {
-      sentence = front;
-      end = t;
-      cut = refl;
-      ended = e;
-      is_sentence = accepted_sentence few_levels front (run_done few_levels (toks_of front) at_start ms r d);
-    }
+    far : run any_level front at_start ≡ Some ss
+    far = run_any front at_start ss r
+
+    go : (b : Bool) → is_done ss ≡ b → Says (front ++ t ∷ []) (cond b accepted (no_syntax 1))
+    go true d =
+        let all = accepted_leads few_levels front ss r d in record {
+          params = (value all tt).0.params;
+          body = (value all tt).0.body;
+          sentence = record { sentence = front; end = t; cut = refl; ended = e; spelled = record { reading = all; params_are = refl; body_is = refl } };
+        }
     go false d = record {
       front = front;
       named = t;
@@ -234,59 +168,43 @@ says front t ms r e = go (is_done ms) refl
       cut = refl;
       count = omega arith;
       why = (
-        run_begins few_levels front ms r,
+        run_begins front ss far,
+        run_few front ss r,
         cannot_end front t e (λ s.
-            let all = done_run any_level (toks_of front) at_start ms (run_any (toks_of front) at_start ms r) (sentence_accepted any_level front s) in
+            let all = run_done any_level front ss far s.spelled.reading in
             let wrong : false ≡ true = sym d ∙ all in cc),
       );
     }
 
 -- What the machine's outcome says, wherever the reading has come to.
-says_behind : (rest : List Token) (front : List Token) (ms : Stack) → run few_levels (toks_of front) at_start ≡ Some ms → IsEnded rest
-    → Says (front ++ rest) (outcome rest ms)
-says_behind [] front ms r e = absurd e
-says_behind (t ∷ []) front ms r e =
-    subst (λ (k : Tok). Says (front ++ t ∷ []) (cond (is_end k) (cond (is_done ms) accepted (no_syntax 1))
-    (at_token (step few_levels ms k) (step any_level ms k) 1 (outcome [])))) (sym e) (says front t ms r e)
-says_behind (t ∷ u ∷ ts) front ms r e =
-    let go_on : (next : Stack) → step few_levels ms t.tok ≡ Some next → Says (front ++ t ∷ u ∷ ts) (outcome (u ∷ ts) next) = λ next is.
+says_behind : (rest : List Token) (front : List Token) (ss : Stack) → run few_levels front at_start ≡ Some ss → IsEnded rest
+    → Says (front ++ rest) (outcome rest ss)
+says_behind [] front ss r e = absurd e
+says_behind (t ∷ []) front ss r e =
+    subst (λ (k : Tok). Says (front ++ t ∷ []) (cond (is_end k) (cond (is_done ss) accepted (no_syntax 1))
+    (at_token (step few_levels (code k) ss) (step any_level (code k) ss) 1 (outcome [])))) (sym e) (says front t ss r e)
+says_behind (t ∷ u ∷ ts) front ss r e =
+    let go_on : (next : Stack) → step few_levels (code t.tok) ss ≡ Some next → Says (front ++ t ∷ u ∷ ts) (outcome (u ∷ ts) next) = λ next is.
     subst (λ (z : List Token). Says z (outcome (u ∷ ts) next)) (append_assoc front (t ∷ []) (u ∷ ts))
-    (says_behind (u ∷ ts) (front ++ t ∷ []) next
-    (run_one few_levels front t at_start ms next r is) e.1) in
-    subst (λ (b : Bool). Says (front ++ t ∷ u ∷ ts) (cond b (cond (is_done ms) accepted (no_syntax (length (u ∷ ts) + 1)))
-    (at_token (step few_levels ms t.tok) (step any_level ms t.tok) (length (u ∷ ts) + 1) (outcome (u ∷ ts))))) (sym (not_end t.tok e.0))
-    (cases go_on (step few_levels ms t.tok) (step any_level ms t.tok) refl refl)
+    (says_behind (u ∷ ts) (front ++ t ∷ []) next (run_more few_levels front t at_start ss next r is) e.1) in
+    subst (λ (b : Bool). Says (front ++ t ∷ u ∷ ts) (cond b (cond (is_done ss) accepted (no_syntax (length (u ∷ ts) + 1)))
+    (at_token (step few_levels (code t.tok) ss) (step any_level (code t.tok) ss) (length (u ∷ ts) + 1) (outcome (u ∷ ts))))) (sym (not_end t.tok e.0))
+    (cases go_on (step few_levels (code t.tok) ss) (step any_level (code t.tok) ss) refl refl)
   where
-    cases : ((next : Stack) → step few_levels ms t.tok ≡ Some next → Says (front ++ t ∷ u ∷ ts) (outcome (u ∷ ts) next))
-        → (o q : Option Stack) → step few_levels ms t.tok ≡ o → step any_level ms t.tok ≡ q
+    far : run any_level front at_start ≡ Some ss
+    far = run_any front at_start ss r
+
+    stops : {Why : List Token → Token → Type 0} → Why front t → StopsAt (front ++ t ∷ u ∷ ts) (length (u ∷ ts) + 1) Why
+    stops {Why} why = record { front = front; named = t; rest = u ∷ ts; cut = refl; count = refl; why = why }
+
+    cases : ((next : Stack) → step few_levels (code t.tok) ss ≡ Some next → Says (front ++ t ∷ u ∷ ts) (outcome (u ∷ ts) next))
+        → (o q : Option Stack) → step few_levels (code t.tok) ss ≡ o → step any_level (code t.tok) ss ≡ q
         → Says (front ++ t ∷ u ∷ ts) (at_token o q (length (u ∷ ts) + 1) (outcome (u ∷ ts)))
     cases go_on (Some next) q is other = go_on next is
-    cases go_on None (Some next) is other = record {
-      front = front;
-      named = t;
-      rest = u ∷ ts;
-      cut = refl;
-      count = refl;
-      why = (
-        run_begins few_levels front ms r,
-        (
-          never few_levels front t ms r is,
-          run_begins any_level (front ++ t ∷ []) next
-              (run_one any_level front t at_start ms next (run_any (toks_of front) at_start ms r) other),
-        ),
-      );
-    }
-    cases go_on None None is other = record {
-      front = front;
-      named = t;
-      rest = u ∷ ts;
-      cut = refl;
-      count = refl;
-      why = (
-        run_begins few_levels front ms r,
-        cannot front t t.tok e.0 (never any_level front t ms (run_any (toks_of front) at_start ms r) other),
-      );
-    }
+    cases go_on None (Some next) is other =
+        stops {Why = Deepens} (run_begins (front ++ t ∷ []) next (run_more any_level front t at_start ss next far other), run_few front ss r, never_few front t ss r is)
+    cases go_on None None is other =
+        stops {Why = Refuses} (run_begins front ss far, run_few front ss r, cannot front t t.tok e.0 (never front t ss far other))
 
 -- What the outcome says of a whole list of tokens.
 pub outcome_says : (tokens : List Token) → IsEnded tokens → Says tokens (outcome tokens at_start)

@@ -1,5 +1,6 @@
 -- Each list of tokens has one verdict.
-use Rattle.std.proofs.Common.{◌≡◌, ℕ, suc, ◌+◌, Bool, true, false, cond, Option, Some, None, List, [], ◌∷◌, ◌++◌, ◌⊎◌, inl, inr, refl, sym, ◌∙◌, ap, subst, length, length-append, arith}
+use Rattle.std.proofs.Common.{◌≡◌, ℕ, suc, ◌+◌, ◌==◌, Bool, true, false, cond, Option, Some, None, List, [], ◌∷◌, ◌++◌, ◌⊎◌, inl, inr, refl, sym, ◌∙◌, ap, subst, length, length-append, arith}
+use Rattle.std.proofs.lemmas.Bool.Decides.{nat_tests}
 use Rattle.revc_base.specs.declared.place.Place.{Place}
 use Rattle.revs_lexer.specs.declared.token.Tok.{Tok}
 use Rattle.revs_lexer.specs.declared.token.Tok.TheVariants as toks
@@ -7,75 +8,61 @@ use Rattle.revs_lexer.specs.declared.token.Token.{Token}
 use Rattle.revs_terms.specs.declared.program.Param.{Param}
 use Rattle.revs_terms.specs.Programs.{AreParams}
 use Rattle.revs_terms.specs.Trees.{Tree}
-use Rattle.revs_grammar.specs.Sentences.{IsSentence, Begins, any_level, few_levels}
+use Rattle.revs_grammar.specs.Forms.{Mark, code, mark_code}
+use Rattle.revs_grammar.specs.Sentences.{Leads, done, read, keep, open_level, by_line, at_start, any_level, few_levels, Begins}
 use Rattle.revs_grammar.specs.Answers.{HasSentence, IsInputs}
-use Rattle.revs_grammar.proofs.Grammar.{toks_of}
-use Rattle.revs_grammar.proofs.Grammar as g
 use Rattle.revs_grammar.specs.Faults.{IsWithinLimits, CannotStandAs, IsSyntax, IsNesting, Verdict, within_limits, syntax, nesting, inputs, IsVerdict, SomeVerdict, OneVerdict}
-use Rattle.revs_grammar.specs.Machine.{form, parameter_end, part_end, body, body_end, Stack, step, run, is_done, Outcome, accepted, no_syntax, too_deep, is_end, at_token, outcome}
-use Rattle.revs_grammar.proofs.Sound.{run_next}
-use Rattle.revs_grammar.proofs.Laws.{at_start, sentence_accepted, accepted_sentence, run_begins, begins_runs}
-use Rattle.revs_grammar.proofs.Outcomes.{run_one, one_run, run_done, done_run, run_any, step_any, Says, outcome_says}
-use Rattle.revs_grammar.proofs.Inputs.{AreParams-none, Passes, all_pass, one_passes, none_passes}
-use Rattle.revs_grammar.proofs.OneSentence.{same_program}
+use Rattle.revs_grammar.specs.inside.Machine.{Stack, step, run, is_done, Outcome, accepted, no_syntax, too_deep, is_end, at_token, outcome}
+use Rattle.revs_grammar.proofs.LineLemmas.{no_end, true≢false}
+use Rattle.revs_grammar.proofs.RunLemmas.{run_next, step_leads}
+use Rattle.revs_grammar.proofs.LeadsLemmas.{leads_accepted, run_begins, run_few, accepted_sentence, same_program}
+use Rattle.revs_grammar.proofs.Outcomes.{run_more, run_end, run_any, step_any, begins_runs, few_runs, Says, outcome_says}
+use Rattle.revs_grammar.proofs.LimitLemmas.{AreParams-none, Passes, all_pass, one_passes, none_passes}
 
--- The machine takes no `End`.
-step_end : (a : ℕ → Bool) (ms : Stack) → step a ms toks.End ≡ None
-step_end a [] = refl
-step_end a (form (g.sign s) ∷ ms) = refl
-step_end a (form g.bool_word ∷ ms) = refl
-step_end a (form g.name ∷ ms) = refl
-step_end a (form g.number ∷ ms) = refl
-step_end a (form g.program ∷ ms) = refl
-step_end a (form g.parameter ∷ ms) = refl
-step_end a (form g.parameters ∷ ms) = step_end a ms
-step_end a (form g.names ∷ ms) = step_end a ms
-step_end a (form (g.expression l) ∷ ms) = refl
-step_end a (form (g.assigned l) ∷ ms) = step_end a ms
-step_end a (form (g.sum l) ∷ ms) = refl
-step_end a (form (g.sums l) ∷ ms) = step_end a ms
-step_end a (form (g.product l) ∷ ms) = refl
-step_end a (form (g.products l) ∷ ms) = step_end a ms
-step_end a (form (g.application l) ∷ ms) = refl
-step_end a (form (g.atom l) ∷ ms) = refl
-step_end a (form (g.atoms l) ∷ ms) = step_end a ms
-step_end a (form g.part ∷ ms) = refl
-step_end a (form g.parts ∷ ms) = step_end a ms
-step_end a (form (g.base l) ∷ ms) = refl
-step_end a (form (g.elements l) ∷ ms) = step_end a ms
-step_end a (form (g.items l) ∷ ms) = refl
-step_end a (form (g.item l) ∷ ms) = refl
-step_end a (parameter_end ∷ ms) = refl
-step_end a (part_end ∷ ms) = refl
-step_end a (body l ∷ ms) = refl
-step_end a (body_end l ∷ ms) = refl
+-- No reading takes an `End`.
+marked : (c : ℕ) (m : Mark) → c ≡ mark_code m → c ≡ 0 → ⊥
+marked c m e z =
+    let same : 0 == mark_code m ≡ true = grind (arith, nat_tests) in true≢false (sym same ∙ no_end m)
 
-taken_is_no_end : (a : ℕ → Bool) (ms : Stack) (t : Tok) (x : Stack) → step a ms t ≡ Some x → is_end t ≡ false
-taken_is_no_end a ms toks.End x e = let wrong : None ≡ Some x = sym (step_end a ms) ∙ e in cc
-taken_is_no_end a ms (toks.Name text) x e = refl
-taken_is_no_end a ms _ x e = refl
+leads_no_end : {a : ℕ → Bool} {ss left : Stack} {t : Token} {ts : List Token} → Leads a ss (t ∷ ts) left → code t.tok ≡ 0 → ⊥
+leads_no_end (read {m = m} {t = t} e d) z = marked (code t.tok) m e z
+leads_no_end (keep {m = m} {t = t} e d) z = marked (code t.tok) m e z
+leads_no_end (open_level {m = m} {t = t} e ok d) z = marked (code t.tok) m e z
+leads_no_end (by_line p i d) z = leads_no_end d z
+
+end_code : (t : Tok) → is_end t ≡ true → code t ≡ 0
+end_code toks.End e = refl
+end_code (toks.Name text) e = cc
+end_code _ e = cc
+
+taken_is_no_end : (a : ℕ → Bool) (ss : Stack) (t : Token) (x : Stack) → step a (code t.tok) ss ≡ Some x → is_end t.tok ≡ false
+taken_is_no_end a ss t x e = go (is_end t.tok) refl
+  where
+    go : (b : Bool) → is_end t.tok ≡ b → is_end t.tok ≡ false
+    go false is = is
+    go true is = absurd (leads_no_end (step_leads a t ss x x [] e done) (end_code t.tok is))
 
 -- the outcome at a token, from what the machine does there
 outcome_at : (t : Token) (rest : List Token) (ms : Stack) (o q : Option Stack)
-    → is_end t.tok ≡ false → step few_levels ms t.tok ≡ o → step any_level ms t.tok ≡ q
+    → is_end t.tok ≡ false → step few_levels (code t.tok) ms ≡ o → step any_level (code t.tok) ms ≡ q
     → outcome (t ∷ rest) ms ≡ at_token o q (length rest + 1) (outcome rest)
 outcome_at t rest ms o q e f h =
-    subst (λ (b : Bool). cond b (cond (is_done ms) accepted (no_syntax (length rest + 1))) (at_token (step few_levels ms t.tok) (step any_level ms t.tok) (length rest + 1) (outcome rest)) ≡ at_token o q (length rest + 1) (outcome rest)) (sym e)
-    (subst (λ (z : Option Stack). at_token z (step any_level ms t.tok) (length rest + 1) (outcome rest) ≡ at_token o q (length rest + 1) (outcome rest)) (sym f)
+    subst (λ (b : Bool). cond b (cond (is_done ms) accepted (no_syntax (length rest + 1))) (at_token (step few_levels (code t.tok) ms) (step any_level (code t.tok) ms) (length rest + 1) (outcome rest)) ≡ at_token o q (length rest + 1) (outcome rest)) (sym e)
+    (subst (λ (z : Option Stack). at_token z (step any_level (code t.tok) ms) (length rest + 1) (outcome rest) ≡ at_token o q (length rest + 1) (outcome rest)) (sym f)
     (subst (λ (z : Option Stack). at_token o z (length rest + 1) (outcome rest) ≡ at_token o q (length rest + 1) (outcome rest)) (sym h) refl))
 
 outcome_at_end : (t : Token) (rest : List Token) (ms : Stack) (b : Bool) → t.tok ≡ toks.End → is_done ms ≡ b
     → outcome (t ∷ rest) ms ≡ cond b accepted (no_syntax (length rest + 1))
 outcome_at_end t rest ms b e d =
-    subst (λ (k : Tok). cond (is_end k) (cond (is_done ms) accepted (no_syntax (length rest + 1))) (at_token (step few_levels ms k) (step any_level ms k) (length rest + 1) (outcome rest)) ≡ cond b accepted (no_syntax (length rest + 1))) (sym e)
+    subst (λ (k : Tok). cond (is_end k) (cond (is_done ms) accepted (no_syntax (length rest + 1))) (at_token (step few_levels (code k) ms) (step any_level (code k) ms) (length rest + 1) (outcome rest)) ≡ cond b accepted (no_syntax (length rest + 1))) (sym e)
     (subst (λ (z : Bool). cond z accepted (no_syntax (length rest + 1)) ≡ cond b accepted (no_syntax (length rest + 1))) (sym d) refl)
 
-outcome_run : (front rest : List Token) (ms x : Stack) → run few_levels (toks_of front) ms ≡ Some x → outcome (front ++ rest) ms ≡ outcome rest x
+outcome_run : (front rest : List Token) (ms x : Stack) → run few_levels front ms ≡ Some x → outcome (front ++ rest) ms ≡ outcome rest x
 outcome_run [] rest ms x e = let same : ms ≡ x = cc in ap (outcome rest) same
 outcome_run (t ∷ front) rest ms x e =
-    let n = run_next few_levels t.tok (toks_of front) ms x e in
-    outcome_at t (front ++ rest) ms (Some n.0) (step any_level ms t.tok) (taken_is_no_end few_levels ms t.tok n.0 n.1.0) n.1.0 refl
-    ∙ outcome_run front rest n.0 x n.1.1
+    let n = run_next few_levels t front ms x e in
+    outcome_at t (front ++ rest) ms (Some n.0) (step any_level (code t.tok) ms) (taken_is_no_end few_levels ms t n.0 n.1) n.1 refl
+    ∙ outcome_run front rest n.0 x n.2
 
 -- Whether the machine goes on is settled by whether it must not.
 is_none : (o : Option Stack) → ((x : Stack) → o ≡ Some x → ⊥) → o ≡ None
@@ -89,16 +76,9 @@ is_false true h = absurd (h refl)
 -- The outcome at a sentence with no level above 100.
 pub sentence_outcome : (tokens : List Token) (params : List Param) (term : Tree) → HasSentence tokens params term → outcome tokens at_start ≡ accepted
 sentence_outcome tokens params term h =
-    let is : IsSentence few_levels h.sentence = record { params = params; body = term; spelled = h.spelled } in
-    let whole : IsSentence few_levels (h.sentence ++ []) = subst (λ (z : List Token). IsSentence few_levels z) (sym (append_nil h.sentence)) is in
-    let runs = begins_runs few_levels h.sentence (record { rest = []; sentence = whole }) in
-    let done = done_run few_levels (toks_of h.sentence) at_start runs.0 runs.1 (sentence_accepted few_levels h.sentence is) in
+    let r = leads_accepted few_levels h.sentence h.spelled.reading in
     subst (λ (z : List Token). outcome z at_start ≡ accepted) (sym h.cut)
-    (outcome_run h.sentence (h.end ∷ []) at_start runs.0 runs.1 ∙ outcome_at_end h.end [] runs.0 true h.ended done)
-  where
-    append_nil : (ts : List Token) → ts ++ [] ≡ ts
-    append_nil [] = refl
-    append_nil (t ∷ ts) = ap (λ (z : List Token). t ∷ z) (append_nil ts)
+    (outcome_run h.sentence (h.end ∷ []) at_start r.stack r.runs ∙ outcome_at_end h.end [] r.stack true h.ended r.holds)
 
 within_outcome : (tokens : List Token) → IsWithinLimits tokens → outcome tokens at_start ≡ accepted
 within_outcome tokens w = sentence_outcome tokens w.params w.body w.program.sentence
@@ -107,41 +87,40 @@ inputs_outcome : (tokens : List Token) (at : Place) → IsInputs tokens at → o
 inputs_outcome tokens at i = sentence_outcome tokens i.params i.body i.sentence
 
 stuck : (named : Token) (rest : List Token) (front : List Token) (x : Stack)
-    → run few_levels (toks_of front) at_start ≡ Some x → (¬ Begins any_level (front ++ named ∷ [])) → is_end named.tok ≡ false → outcome (named ∷ rest) x ≡ no_syntax (length rest + 1)
+    → run few_levels front at_start ≡ Some x → (¬ Begins (front ++ named ∷ [])) → is_end named.tok ≡ false → outcome (named ∷ rest) x ≡ no_syntax (length rest + 1)
 stuck named rest front x r c n =
-    let far : (y : Stack) → step any_level x named.tok ≡ Some y → ⊥ = λ y is.
-    c (run_begins any_level (front ++ named ∷ []) y (run_one any_level front named at_start x y (run_any (toks_of front) at_start x r) is)) in
+    let far : (y : Stack) → step any_level (code named.tok) x ≡ Some y → ⊥ = λ y is.
+    c (run_begins (front ++ named ∷ []) y (run_more any_level front named at_start x y (run_any front at_start x r) is)) in
     outcome_at named rest x None None n
-    (is_none (step few_levels x named.tok) (λ y is. far y (step_any x named.tok y is)))
-    (is_none (step any_level x named.tok) far)
+    (is_none (step few_levels (code named.tok) x) (λ y is. far y (step_any (code named.tok) x y is)))
+    (is_none (step any_level (code named.tok) x) far)
 
 -- what a token that cannot stand does to the machine
 stuck_outcome : (named : Token) (rest : List Token) (front : List Token) (x : Stack) (k : Tok) → named.tok ≡ k
-    → run few_levels (toks_of front) at_start ≡ Some x → CannotStandAs k front named → outcome (named ∷ rest) x ≡ no_syntax (length rest + 1)
+    → run few_levels front at_start ≡ Some x → CannotStandAs k front named → outcome (named ∷ rest) x ≡ no_syntax (length rest + 1)
 stuck_outcome named rest front x toks.End e r c =
-    outcome_at_end named rest x false e (is_false (is_done x) (λ d.
-    c (accepted_sentence any_level front (run_done any_level (toks_of front) at_start x (run_any (toks_of front) at_start x r) d))))
+    outcome_at_end named rest x false e (is_false (is_done x) (λ d. c (accepted_sentence front x (run_any front at_start x r) d)))
 stuck_outcome named rest front x (toks.Name text) e r c = stuck named rest front x r c (ap is_end e)
 stuck_outcome named rest front x k e r c = stuck named rest front x r c (ap is_end e)
 
 syntax_outcome : (tokens : List Token) (number : ℕ) (at : Place) → (f : IsSyntax tokens number at) → outcome tokens at_start ≡ no_syntax (length f.rest + 1)
 syntax_outcome tokens number at f =
-    let runs = begins_runs few_levels f.front f.begins in
+    let runs = few_runs f.front f.few in
     subst (λ (z : List Token). outcome z at_start ≡ no_syntax (length f.rest + 1)) (sym f.cut)
     (outcome_run f.front (f.named ∷ f.rest) at_start runs.0 runs.1
     ∙ stuck_outcome f.named f.rest f.front runs.0 f.named.tok refl runs.1 f.refused)
 
 nesting_outcome : (tokens : List Token) (at : Place) → (f : IsNesting tokens at) → outcome tokens at_start ≡ too_deep (length f.rest + 1)
 nesting_outcome tokens at f =
-    let k = f.named.tok in
-    let runs = begins_runs few_levels f.front f.begins in
-    let far = begins_runs any_level (f.front ++ f.named ∷ []) f.goes_on in
-    let is : step any_level runs.0 k ≡ Some far.0 = one_run any_level f.front f.named at_start runs.0 far.0 (run_any (toks_of f.front) at_start runs.0 runs.1) far.1 in
-    let not : step few_levels runs.0 k ≡ None = is_none (step few_levels runs.0 k) (λ y now.
-    f.opens (run_begins few_levels (f.front ++ f.named ∷ []) y (run_one few_levels f.front f.named at_start runs.0 y runs.1 now))) in
+    let k = code f.named.tok in
+    let runs = few_runs f.front f.few in
+    let far = begins_runs (f.front ++ f.named ∷ []) f.begins in
+    let is : step any_level k runs.0 ≡ Some far.0 = run_end any_level f.front f.named at_start runs.0 far.0 (run_any f.front at_start runs.0 runs.1) far.1 in
+    let not : step few_levels k runs.0 ≡ None = is_none (step few_levels k runs.0) (λ y now.
+    f.deep (run_few (f.front ++ f.named ∷ []) y (run_more few_levels f.front f.named at_start runs.0 y runs.1 now))) in
     subst (λ (z : List Token). outcome z at_start ≡ too_deep (length f.rest + 1)) (sym f.cut)
     (outcome_run f.front (f.named ∷ f.rest) at_start runs.0 runs.1
-    ∙ outcome_at f.named f.rest runs.0 None (Some far.0) (taken_is_no_end any_level runs.0 k far.0 is) not is)
+    ∙ outcome_at f.named f.rest runs.0 None (Some far.0) (taken_is_no_end any_level runs.0 f.named far.0 is) not is)
 
 -- A token is known by how many stand behind it.
 same_cut : (f h : List Token) (n m : Token) (r q : List Token) → f ++ n ∷ r ≡ h ++ m ∷ q → length r ≡ length q → (n ≡ m) × (length f ≡ length h)
@@ -224,7 +203,7 @@ limits_of tokens params term h = go (all_pass [] params AreParams-none)
 
 pub verdict_of : (tokens : List Token) (o : Outcome) → Says tokens o → (verdict : Verdict) × IsVerdict tokens verdict
 verdict_of tokens accepted s =
-    limits_of tokens s.is_sentence.params s.is_sentence.body (record { sentence = s.sentence; end = s.end; cut = s.cut; ended = s.ended; spelled = s.is_sentence.spelled })
+    limits_of tokens s.params s.body s.sentence
 verdict_of tokens (no_syntax left) s = (
   syntax (length s.front) s.named.at,
   record {
@@ -235,7 +214,8 @@ verdict_of tokens (no_syntax left) s = (
     count = refl;
     place = refl;
     begins = s.why.0;
-    refused = s.why.1;
+    few = s.why.1;
+    refused = s.why.2;
   },
 )
 verdict_of tokens (too_deep left) s = (
@@ -247,8 +227,8 @@ verdict_of tokens (too_deep left) s = (
     cut = s.cut;
     place = refl;
     begins = s.why.0;
-    opens = s.why.1.0;
-    goes_on = s.why.1.1;
+    few = s.why.1;
+    deep = s.why.2;
   },
 )
 

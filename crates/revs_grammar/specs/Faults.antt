@@ -7,7 +7,7 @@ use Rattle.revs_lexer.specs.declared.token.Token.{Token}
 use Rattle.revs_lexer.specs.Tokens.{IsEnded}
 use Rattle.revs_terms.specs.declared.program.Param.{Param}
 use Rattle.revs_terms.specs.Trees.{Tree}
-use Rattle.revs_grammar.specs.Sentences.{IsSentence, Begins, any_level, few_levels}
+use Rattle.revs_grammar.specs.Sentences.{IsSentence, Begins, HasFewLevels}
 use Rattle.revs_grammar.specs.Answers.{IsProgramOf, IsInputs}
 
 -- The tokens are the sentence of some program within limits, and `End`.
@@ -16,16 +16,16 @@ pub record IsWithinLimits (tokens : List Token) : Type 0 where
   pub body : Tree
   pub program : IsProgramOf tokens params body
 
--- No sentence of any levels begins with these tokens and the named one, of this kind, behind them. At `End` they are no sentence.
+-- No sentence begins with these tokens and the named one, of this kind, behind them. At `End` they are no sentence.
 abbrev pub CannotStandAs : Tok → List Token → Token → Type 0
-CannotStandAs toks.End front named = ¬ IsSentence any_level front
-CannotStandAs tok front named = ¬ Begins any_level (front ++ named ∷ [])
+CannotStandAs toks.End front named = ¬ IsSentence front
+CannotStandAs tok front named = ¬ Begins (front ++ named ∷ [])
 
 abbrev pub CannotStand : List Token → Token → Type 0
 CannotStand front named = CannotStandAs named.tok front named
 
 -- The token with this number, counted from 0, and with this place is the first that cannot stand where it stands: some sentence
--- with no level above 100 begins with the tokens before it, and no sentence with the tokens through it.
+-- begins with the tokens before it, which open no level above 100, and no sentence with the tokens through it.
 pub record IsSyntax (tokens : List Token) (number : ℕ) (at : Place) : Type 0 where
   pub front : List Token
   pub named : Token
@@ -33,20 +33,21 @@ pub record IsSyntax (tokens : List Token) (number : ℕ) (at : Place) : Type 0 w
   pub cut : tokens ≡ front ++ named ∷ rest
   pub count : length front ≡ number
   pub place : named.at ≡ at
-  pub begins : Begins few_levels front
+  pub begins : Begins front
+  pub few : HasFewLevels front
   pub refused : CannotStand front named
 
--- The token at this place is the first that opens level 101: some sentence begins with the tokens through it, but none with no
--- level above 100, as one does with the tokens before it.
+-- The token at this place is the first that opens level 101: some sentence begins with the tokens through it, and those before
+-- it open no level above 100.
 pub record IsNesting (tokens : List Token) (at : Place) : Type 0 where
   pub front : List Token
   pub named : Token
   pub rest : List Token
   pub cut : tokens ≡ front ++ named ∷ rest
   pub place : named.at ≡ at
-  pub begins : Begins few_levels front
-  pub opens : ¬ Begins few_levels (front ++ named ∷ [])
-  pub goes_on : Begins any_level (front ++ named ∷ [])
+  pub begins : Begins (front ++ named ∷ [])
+  pub few : HasFewLevels front
+  pub deep : ¬ HasFewLevels (front ++ named ∷ [])
 
 -- What a list of tokens is found to be.
 pub data Verdict : Type 0 where

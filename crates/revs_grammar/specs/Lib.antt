@@ -1,5 +1,6 @@
 pub mod Answers
 pub mod Faults
 pub mod Forms
-pub mod Machine
+pub mod Productions
 pub mod Sentences
+pub mod inside

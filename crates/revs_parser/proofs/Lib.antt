@@ -1,4 +1,5 @@
-pub mod Steps
-pub mod Readings
-pub mod Programs
+pub mod PassingLemmas
+pub mod StepLemmas
+pub mod ReadingLemmas
+pub mod ProgramLemmas
 pub mod OneText

@@ -7,7 +7,7 @@ use Rattle.revs_terms.specs.Scopes.{ScopeVerdict, scope_verdict, bound_as}
 use Rattle.revs_terms.specs.Trees.{Tree}
 use Rattle.revs_terms.specs.Views.{ProgramView}
 use Rattle.revs_grammar.specs.Answers.{HasSentence}
-use Rattle.revs_grammar.proofs.OneSentence.{same_program}
+use Rattle.revs_grammar.proofs.LeadsLemmas.{same_program}
 use Rattle.revs_parser.specs.WellFormed.{IsProgramText, IsWellFormed, OneProgramOfText}
 
 same_parts : (p q : ProgramView) → p.params ≡ q.params → p.body ≡ q.body → p ≡ q

@@ -1,4 +1,3 @@
-pub mod Reading
-pub mod Forms
 pub mod Results
 pub mod WellFormed
+pub mod inside

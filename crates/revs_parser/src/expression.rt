@@ -2,12 +2,10 @@
 
 ghost use Rattle.std.specs.Prelude.{◌≡◌, ◌+◌, ◌<◌, ◌≤◌, true, false, length, [], ◌∷◌, IfOk, IfErr};
 ghost use Rattle.revs_grammar.specs.Forms as g;
-ghost use Rattle.revs_grammar.specs.Machine.{form, part_end, body};
-ghost use Rattle.revs_grammar.specs.Sentences as s;
-ghost use Rattle.revs_grammar.specs.Sentences.{few_levels};
-ghost use Rattle.revs_lexer.specs.declared.sign.Sign.TheVariants as signs;
-ghost use Rattle.revs_parser.specs.Reading.{Reads, Skips, Halts, base_first, name_first};
-ghost use Rattle.revs_parser.specs.Forms.{ReadsNames, ReadsPart, ReadsFunction, ReadsRegister, ReadsBlock, ReadsPiece, ReadsBinding};
+ghost use Rattle.revs_grammar.specs.Productions.{bound_of};
+ghost use Rattle.revs_grammar.specs.Sentences.{form, few_levels};
+ghost use Rattle.revs_parser.specs.inside.Reading.{ReadsForm, Skips, Reads, Halts, HaltsIn, base_first, name_first};
+ghost use Rattle.revs_parser.specs.inside.Forms.{ReadsNames, ReadsPart, ReadsAtoms, ReadsFunction, ReadsRegister, ReadsBlock, ReadsPiece, ReadsBinding, in_part, in_function, in_application, in_register, in_binding};
 ghost use Rattle.revs_parser.specs.declared.stop.Stop.{Stop};
 ghost use Rattle.revs_terms.specs.Trees.{tree_of, item_tree_of};
 
@@ -34,7 +32,7 @@ fn begins_name(tokens: &[Token]) -> bool
 // { name } behind the names so far.
 fn more_names(mut names: Vec<Name>, tokens: &[Token]) -> Result<(Vec<Name>, &[Token]), Stop>
     ensures ok { IfOk result (λ read. ReadsNames names.items read.0.items tokens.now read.1.now) }
-    ensures halts { IfErr result (λ stop. Halts (form g.names ∷ []) tokens.now stop) }
+    ensures halts { IfErr result (λ stop. HaltsIn g.names 0 tokens.now stop) }
 {
     let mut rest = tokens;
     while begins_name(rest) {
@@ -48,7 +46,7 @@ fn more_names(mut names: Vec<Name>, tokens: &[Token]) -> Result<(Vec<Name>, &[To
 // A part behind its dot, which has this place.
 fn part(tokens: &[Token], at: Place) -> Result<(Part, &[Token]), Stop>
     ensures ok { IfOk result (λ read. ReadsPart at read.0 tokens.now read.1.now) }
-    ensures halts { IfErr result (λ stop. Halts (form (g.sign signs.OpenSquare) ∷ form g.number ∷ part_end ∷ []) tokens.now stop) }
+    ensures halts { IfErr result (λ stop. Halts in_part tokens.now stop) }
 {
     let rest = expect(tokens, Sign::OpenSquare)?;
     let (i, rest) = number(rest)?;
@@ -63,8 +61,8 @@ fn part(tokens: &[Token], at: Place) -> Result<(Part, &[Token]), Stop>
 
 // { part }
 fn all_parts(alloc: Global, tokens: &[Token]) -> Result<(Vec<Part>, &[Token]), Stop>
-    ensures ok { IfOk result (λ read. Skips (form g.parts ∷ []) (s.all_parts read.0.items ∷ []) tokens.now read.1.now) }
-    ensures halts { IfErr result (λ stop. Halts (form g.parts ∷ []) tokens.now stop) }
+    ensures ok { IfOk result (λ read. Skips (form g.parts 0 ∷ []) (read.0.items, tt) tokens.now read.1.now) }
+    ensures halts { IfErr result (λ stop. HaltsIn g.parts 0 tokens.now stop) }
 {
     let mut parts = Vec::new(alloc);
     let mut rest = tokens;
@@ -95,8 +93,8 @@ fn open(level: u32, tokens: &[Token]) -> Result<u32, Stop>
 #[cycle(read)]
 pub fn expression(alloc: Global, tokens: &[Token], level: u32) -> Result<(Term, &[Token]), Stop>
     requires { level ≤ 100 }
-    ensures ok { IfOk result (λ read. Reads (form (g.expression level) ∷ []) (s.expression level (tree_of read.0) ∷ []) tokens.now read.1.now) }
-    ensures halts { IfErr result (λ stop. Halts (form (g.expression level) ∷ []) tokens.now stop) }
+    ensures ok { IfOk result (λ read. ReadsForm g.expression level (tree_of read.0) tokens.now read.1.now) }
+    ensures halts { IfErr result (λ stop. HaltsIn g.expression level tokens.now stop) }
 {
     if let Some((at, behind)) = after_word(tokens, Word::Fun) {
         let inner = open(level, tokens)?;
@@ -121,7 +119,7 @@ fn function(
 ) -> Result<(Term, &[Token]), Stop>
     requires { level ≤ 100 }
     ensures ok { IfOk result (λ read. ReadsFunction level at (tree_of read.0) tokens.now read.1.now) }
-    ensures halts { IfErr result (λ stop. Halts (form g.name ∷ form g.names ∷ form (g.sign signs.Arrow) ∷ form (g.expression level) ∷ []) tokens.now stop) }
+    ensures halts { IfErr result (λ stop. Halts (in_function level) tokens.now stop) }
 {
     let (first, rest) = name(tokens)?;
     let mut names = Vec::new(alloc);
@@ -136,8 +134,8 @@ fn function(
 #[cycle(read)]
 fn sum(alloc: Global, tokens: &[Token], level: u32) -> Result<(Term, &[Token]), Stop>
     requires { level ≤ 100 }
-    ensures ok { IfOk result (λ read. Reads (form (g.sum level) ∷ []) (s.sum level (tree_of read.0) ∷ []) tokens.now read.1.now) }
-    ensures halts { IfErr result (λ stop. Halts (form (g.sum level) ∷ []) tokens.now stop) }
+    ensures ok { IfOk result (λ read. ReadsForm g.sum level (tree_of read.0) tokens.now read.1.now) }
+    ensures halts { IfErr result (λ stop. HaltsIn g.sum level tokens.now stop) }
 {
     let (first, rest) = product(alloc, tokens, level)?;
     let Some((_, mut behind)) = after(rest, Sign::Xor) else {
@@ -158,8 +156,8 @@ fn sum(alloc: Global, tokens: &[Token], level: u32) -> Result<(Term, &[Token]), 
 #[cycle(read)]
 fn product(alloc: Global, tokens: &[Token], level: u32) -> Result<(Term, &[Token]), Stop>
     requires { level ≤ 100 }
-    ensures ok { IfOk result (λ read. Reads (form (g.product level) ∷ []) (s.product level (tree_of read.0) ∷ []) tokens.now read.1.now) }
-    ensures halts { IfErr result (λ stop. Halts (form (g.product level) ∷ []) tokens.now stop) }
+    ensures ok { IfOk result (λ read. ReadsForm g.product level (tree_of read.0) tokens.now read.1.now) }
+    ensures halts { IfErr result (λ stop. HaltsIn g.product level tokens.now stop) }
 {
     let (first, rest) = application(alloc, tokens, level)?;
     let Some((_, mut behind)) = after(rest, Sign::And) else {
@@ -180,8 +178,8 @@ fn product(alloc: Global, tokens: &[Token], level: u32) -> Result<(Term, &[Token
 #[cycle(read)]
 fn application(alloc: Global, tokens: &[Token], level: u32) -> Result<(Term, &[Token]), Stop>
     requires { level ≤ 100 }
-    ensures ok { IfOk result (λ read. Reads (form (g.application level) ∷ []) (s.application level (tree_of read.0) ∷ []) tokens.now read.1.now) }
-    ensures halts { IfErr result (λ stop. Halts (form (g.application level) ∷ []) tokens.now stop) }
+    ensures ok { IfOk result (λ read. ReadsForm g.application level (tree_of read.0) tokens.now read.1.now) }
+    ensures halts { IfErr result (λ stop. HaltsIn g.application level tokens.now stop) }
 {
     if let Some((at, behind)) = after_word(tokens, Word::Clean) {
         let (operand, rest) = atom(alloc, behind, level)?;
@@ -224,8 +222,8 @@ fn begins_base(tokens: &[Token]) -> bool
 #[cycle(read)]
 fn atoms(alloc: Global, tokens: &[Token], level: u32) -> Result<(Term, &[Token]), Stop>
     requires { level ≤ 100 }
-    ensures ok { IfOk result (λ read. Reads (form (g.atom level) ∷ form (g.atoms level) ∷ []) (s.application level (tree_of read.0) ∷ []) tokens.now read.1.now) }
-    ensures halts { IfErr result (λ stop. Halts (form (g.atom level) ∷ form (g.atoms level) ∷ []) tokens.now stop) }
+    ensures ok { IfOk result (λ read. ReadsAtoms level (tree_of read.0) tokens.now read.1.now) }
+    ensures halts { IfErr result (λ stop. Halts (in_application level) tokens.now stop) }
 {
     let (head, mut rest) = atom(alloc, tokens, level)?;
     if !begins_base(rest) {
@@ -246,8 +244,8 @@ fn atoms(alloc: Global, tokens: &[Token], level: u32) -> Result<(Term, &[Token])
 #[cycle(read)]
 fn atom(alloc: Global, tokens: &[Token], level: u32) -> Result<(Term, &[Token]), Stop>
     requires { level ≤ 100 }
-    ensures ok { IfOk result (λ read. Reads (form (g.atom level) ∷ []) (s.atom level (tree_of read.0) ∷ []) tokens.now read.1.now) }
-    ensures halts { IfErr result (λ stop. Halts (form (g.atom level) ∷ []) tokens.now stop) }
+    ensures ok { IfOk result (λ read. ReadsForm g.atom level (tree_of read.0) tokens.now read.1.now) }
+    ensures halts { IfErr result (λ stop. HaltsIn g.atom level tokens.now stop) }
 {
     let (inner, rest) = base(alloc, tokens, level)?;
     let (parts, rest) = all_parts(alloc, rest)?;
@@ -260,8 +258,8 @@ fn atom(alloc: Global, tokens: &[Token], level: u32) -> Result<(Term, &[Token]),
 #[cycle(read)]
 fn base(alloc: Global, tokens: &[Token], level: u32) -> Result<(Term, &[Token]), Stop>
     requires { level ≤ 100 }
-    ensures ok { IfOk result (λ read. Reads (form (g.base level) ∷ []) (s.base level (tree_of read.0) ∷ []) tokens.now read.1.now) }
-    ensures halts { IfErr result (λ stop. Halts (form (g.base level) ∷ []) tokens.now stop) }
+    ensures ok { IfOk result (λ read. ReadsForm g.base level (tree_of read.0) tokens.now read.1.now) }
+    ensures halts { IfErr result (λ stop. HaltsIn g.base level tokens.now stop) }
 {
     if let Some((at, behind)) = after_word(tokens, Word::True) {
         return Ok((Term::Bool(true, at), behind));
@@ -297,7 +295,7 @@ fn register(
 ) -> Result<(Term, &[Token]), Stop>
     requires { level ≤ 100 }
     ensures ok { IfOk result (λ read. ReadsRegister level at (tree_of read.0) tokens.now read.1.now) }
-    ensures halts { IfErr result (λ stop. Halts (form (g.sign signs.OpenSquare) ∷ form (g.expression level) ∷ form (g.elements level) ∷ form (g.sign signs.CloseSquare) ∷ []) tokens.now stop) }
+    ensures halts { IfErr result (λ stop. Halts (in_register level) tokens.now stop) }
 {
     let mut behind = expect(tokens, Sign::OpenSquare)?;
     let mut elements = Vec::new(alloc);
@@ -323,7 +321,7 @@ enum Piece {
 fn block(alloc: Global, tokens: &[Token], level: u32, at: Place) -> Result<(Term, &[Token]), Stop>
     requires { level ≤ 100 }
     ensures ok { IfOk result (λ read. ReadsBlock level at (tree_of read.0) tokens.now read.1.now) }
-    ensures halts { IfErr result (λ stop. Halts (body level ∷ []) tokens.now stop) }
+    ensures halts { IfErr result (λ stop. HaltsIn g.body level tokens.now stop) }
 {
     let mut items = Vec::new(alloc);
     let mut rest = tokens;
@@ -343,7 +341,7 @@ fn block(alloc: Global, tokens: &[Token], level: u32, at: Place) -> Result<(Term
 fn item_or_last(alloc: Global, tokens: &[Token], level: u32) -> Result<(Piece, &[Token]), Stop>
     requires { level ≤ 100 }
     ensures ok { IfOk result (λ read. ReadsPiece level read.0 tokens.now read.1.now) }
-    ensures halts { IfErr result (λ stop. Halts (body level ∷ []) tokens.now stop) }
+    ensures halts { IfErr result (λ stop. HaltsIn g.body level tokens.now stop) }
 {
     if let Some((_, behind)) = after_word(tokens, Word::Let) {
         let (item, rest) = binding(alloc, behind, level)?;
@@ -362,7 +360,7 @@ fn item_or_last(alloc: Global, tokens: &[Token], level: u32) -> Result<(Piece, &
 fn binding(alloc: Global, tokens: &[Token], level: u32) -> Result<(Item, &[Token]), Stop>
     requires { level ≤ 100 }
     ensures ok { IfOk result (λ read. ReadsBinding level (item_tree_of read.0) tokens.now read.1.now) }
-    ensures halts { IfErr result (λ stop. Halts (form g.name ∷ form g.names ∷ form (g.sign signs.Equal) ∷ form (g.expression level) ∷ form (g.sign signs.Semi) ∷ []) tokens.now stop) }
+    ensures halts { IfErr result (λ stop. Halts (in_binding level) tokens.now stop) }
 {
     let (bound, rest) = name(tokens)?;
     let (names, rest) = more_names(Vec::new(alloc), rest)?;
@@ -375,7 +373,7 @@ fn binding(alloc: Global, tokens: &[Token], level: u32) -> Result<(Item, &[Token
 
 // The value that a `let` binds: the body, or with names the function of these names, which stands at the first of them.
 fn bound_value(alloc: Global, names: Vec<Name>, body: Term) -> Result<Term, Stop>
-    ensures ok { IfOk result (λ value. tree_of value ≡ s.bound_of names.items (tree_of body)) }
+    ensures ok { IfOk result (λ value. tree_of value ≡ bound_of names.items (tree_of body)) }
     ensures memory { IfErr result (λ stop. stop ≡ Stop.Memory) }
 {
     let Some(first) = names.first() else {

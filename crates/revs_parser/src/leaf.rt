@@ -1,10 +1,10 @@
 // Single tokens.
 
 ghost use Rattle.std.specs.Prelude.{[], ◌∷◌, IfOk, IfErr, IfSome, IfNone};
-ghost use Rattle.revs_parser.specs.Reading.{Heads, NotFirst, Reads, Halts};
-ghost use Rattle.revs_grammar.specs.Machine.{form};
+ghost use Rattle.revs_parser.specs.inside.Reading.{Heads, NotFirst, Reads, Halts};
 ghost use Rattle.revs_grammar.specs.Forms as g;
-ghost use Rattle.revs_grammar.specs.Sentences as s;
+ghost use Rattle.revs_grammar.specs.Sentences.{token, kept_token};
+ghost use Rattle.revs_lexer.specs.declared.word.Word.TheVariants as words;
 ghost use Rattle.revs_lexer.specs.declared.token.Tok.TheVariants as toks;
 
 use crate::stop::Stop;
@@ -64,8 +64,8 @@ pub fn after_word(tokens: &[Token], word: Word) -> Option<(Place, &[Token])>
 
 /// The tokens behind a sign, which has to stand first.
 pub fn expect(tokens: &[Token], sign: Sign) -> Result<&[Token], Stop>
-    ensures ok { IfOk result (λ rest. Reads (form (g.sign sign) ∷ []) (s.sign sign ∷ []) tokens.now rest.now) }
-    ensures halts { IfErr result (λ stop. Halts (form (g.sign sign) ∷ []) tokens.now stop) }
+    ensures ok { IfOk result (λ rest. Reads (token (g.sign sign) ∷ []) tt tokens.now rest.now) }
+    ensures halts { IfErr result (λ stop. Halts (token (g.sign sign) ∷ []) tokens.now stop) }
 {
     match after(tokens, sign) {
         Some((_, rest)) => Ok(rest),
@@ -75,8 +75,8 @@ pub fn expect(tokens: &[Token], sign: Sign) -> Result<&[Token], Stop>
 
 /// The name that stands first, and the tokens behind it.
 pub fn name(tokens: &[Token]) -> Result<(Name, &[Token]), Stop>
-    ensures ok { IfOk result (λ read. Reads (form g.name ∷ []) (s.name read.0 ∷ []) tokens.now read.1.now) }
-    ensures halts { IfErr result (λ stop. Halts (form g.name ∷ []) tokens.now stop) }
+    ensures ok { IfOk result (λ read. Reads (kept_token g.any_name ∷ []) (read.0, tt) tokens.now read.1.now) }
+    ensures halts { IfErr result (λ stop. Halts (kept_token g.any_name ∷ []) tokens.now stop) }
 {
     match tokens.split_first() {
         Some(
@@ -98,8 +98,8 @@ pub fn name(tokens: &[Token]) -> Result<(Name, &[Token]), Stop>
 
 /// The number that stands first, and the tokens behind it.
 pub fn number(tokens: &[Token]) -> Result<(u32, &[Token]), Stop>
-    ensures ok { IfOk result (λ read. Reads (form g.number ∷ []) (s.number read.0 ∷ []) tokens.now read.1.now) }
-    ensures halts { IfErr result (λ stop. Halts (form g.number ∷ []) tokens.now stop) }
+    ensures ok { IfOk result (λ read. Reads (kept_token g.any_number ∷ []) (read.0, tt) tokens.now read.1.now) }
+    ensures halts { IfErr result (λ stop. Halts (kept_token g.any_number ∷ []) tokens.now stop) }
 {
     match tokens.split_first() {
         Some(
@@ -117,8 +117,8 @@ pub fn number(tokens: &[Token]) -> Result<(u32, &[Token]), Stop>
 
 /// The tokens behind the word `bool`, which has to stand first.
 pub fn bool_word(tokens: &[Token]) -> Result<&[Token], Stop>
-    ensures ok { IfOk result (λ rest. Reads (form g.bool_word ∷ []) (s.bool_word ∷ []) tokens.now rest.now) }
-    ensures halts { IfErr result (λ stop. Halts (form g.bool_word ∷ []) tokens.now stop) }
+    ensures ok { IfOk result (λ rest. Reads (token (g.word words.Bool) ∷ []) tt tokens.now rest.now) }
+    ensures halts { IfErr result (λ stop. Halts (token (g.word words.Bool) ∷ []) tokens.now stop) }
 {
     match after_word(tokens, Word::Bool) {
         Some((_, rest)) => Ok(rest),

@@ -4,14 +4,12 @@ ghost use Rattle.std.specs.Prelude.{◌≡◌, ◌<◌, ◌^◌, length, [], ◌
 ghost use Rattle.revc_base.specs.declared.place.Place.{Place};
 ghost use Rattle.revs_lexer.specs.Tokens.{IsEnded};
 ghost use Rattle.revs_grammar.specs.Forms as g;
-ghost use Rattle.revs_grammar.specs.Machine.{form, parameter_end};
-ghost use Rattle.revs_grammar.specs.Sentences as s;
 ghost use Rattle.revs_grammar.specs.Answers.{HasSentence, IsProgramOf, IsInputs};
 ghost use Rattle.revs_grammar.specs.Faults.{IsSyntax, IsNesting, Verdict, IsVerdict};
 ghost use Rattle.revs_terms.specs.Programs.{AreParams, width_of};
 ghost use Rattle.revs_terms.specs.Trees.{tree_of};
-ghost use Rattle.revs_parser.specs.Reading.{Reads, Halts, end_first};
-ghost use Rattle.revs_parser.specs.Forms.{ReadsWidth, ReadsParameters, PassesAt, IsRefusal};
+ghost use Rattle.revs_parser.specs.inside.Reading.{ReadsForm, HaltsIn, end_first};
+ghost use Rattle.revs_parser.specs.inside.Forms.{ReadsParameters, ReadsProgram, PassesAt, IsRefusal};
 ghost use Rattle.revs_parser.specs.Results.{IsRefused, IsAnswer};
 ghost use Rattle.revs_parser.specs.declared.program.ParseFault.{ParseFault};
 ghost use Rattle.revs_parser.specs.declared.program.ParseFault.TheVariants as faults;
@@ -42,8 +40,8 @@ pub enum ParseFault {
 
 // The width of a parameter and its `)`.
 fn width(tokens: &[Token]) -> Result<(Option<u32>, &[Token]), Stop>
-    ensures ok { IfOk result (λ read. ReadsWidth read.0 tokens.now read.1.now) }
-    ensures halts { IfErr result (λ stop. Halts (parameter_end ∷ []) tokens.now stop) }
+    ensures ok { IfOk result (λ read. ReadsForm g.width 0 read.0 tokens.now read.1.now) }
+    ensures halts { IfErr result (λ stop. HaltsIn g.width 0 tokens.now stop) }
 {
     let Some((_, behind)) = after(tokens, Sign::OpenSquare) else {
         let rest = expect(tokens, Sign::CloseRound)?;
@@ -56,8 +54,8 @@ fn width(tokens: &[Token]) -> Result<(Option<u32>, &[Token]), Stop>
 }
 
 fn parameter(tokens: &[Token]) -> Result<(Param, &[Token]), Stop>
-    ensures ok { IfOk result (λ read. Reads (form g.parameter ∷ []) (s.parameter read.0 ∷ []) tokens.now read.1.now) }
-    ensures halts { IfErr result (λ stop. Halts (form g.parameter ∷ []) tokens.now stop) }
+    ensures ok { IfOk result (λ read. ReadsForm g.parameter 0 read.0 tokens.now read.1.now) }
+    ensures halts { IfErr result (λ stop. HaltsIn g.parameter 0 tokens.now stop) }
 {
     let Some((_, behind)) = after(tokens, Sign::OpenRound) else {
         return Err(Stop::Syntax(tokens.len()));
@@ -72,7 +70,7 @@ fn parameter(tokens: &[Token]) -> Result<(Param, &[Token]), Stop>
 // { param } behind the parameters so far.
 fn parameters(mut params: Vec<Param>, tokens: &[Token]) -> Result<(Vec<Param>, &[Token]), Stop>
     ensures ok { IfOk result (λ read. ReadsParameters params.items read.0.items tokens.now read.1.now) }
-    ensures halts { IfErr result (λ stop. Halts (form g.parameters ∷ []) tokens.now stop) }
+    ensures halts { IfErr result (λ stop. HaltsIn g.parameters 0 tokens.now stop) }
 {
     let mut rest = tokens;
     while let Some((_, _)) = after(rest, Sign::OpenRound) {
@@ -85,8 +83,8 @@ fn parameters(mut params: Vec<Param>, tokens: &[Token]) -> Result<(Vec<Param>, &
 
 // A whole sentence.
 fn sentence(alloc: Global, tokens: &[Token]) -> Result<(Vec<Param>, Term, &[Token]), Stop>
-    ensures ok { IfOk result (λ read. Reads (form g.program ∷ []) (s.program read.0.items (tree_of read.1) ∷ []) tokens.now read.2.now) }
-    ensures halts { IfErr result (λ stop. Halts (form g.program ∷ []) tokens.now stop) }
+    ensures ok { IfOk result (λ read. ReadsProgram read.0.items (tree_of read.1) tokens.now read.2.now) }
+    ensures halts { IfErr result (λ stop. HaltsIn g.program 0 tokens.now stop) }
 {
     let Some((_, behind)) = after_word(tokens, Word::Main) else {
         return Err(Stop::Syntax(tokens.len()));

@@ -1,4 +1,4 @@
-use Rattle.revs_grammar.proofs.OneSentence.{one_program}
+use Rattle.revs_grammar.proofs.LeadsLemmas.{one_program}
 use Rattle.revs_grammar.proofs.one_program.Goals as goal
 
 pub returns : goal.returns

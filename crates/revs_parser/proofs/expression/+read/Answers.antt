@@ -6,9 +6,9 @@ use Rattle.revs_terms.proofs.Shapes.{tree_of-Name, tree_of-Bool, tree_of-Reg, tr
 use Rattle.revs_parser.specs.declared.expression.Piece.{Piece}
 use Rattle.revs_parser.specs.declared.expression.Piece.TheVariants as pieces
 use Rattle.std.proofs.lemmas.Bool.{eqb-true, eqb-false}
-use Rattle.revs_parser.specs.Forms.{ReadsPiece}
-use Rattle.revs_parser.proofs.Steps.{stops_so, on_ok, on_err, only, smaller_behind, halts_first}
-use Rattle.revs_parser.proofs.Readings as r
+use Rattle.revs_parser.specs.inside.Forms.{ReadsPiece}
+use Rattle.revs_parser.proofs.PassingLemmas.{stops_so, on_ok, on_err, only, smaller_behind, halts_first}
+use Rattle.revs_parser.proofs.ReadingLemmas as r
 use Rattle.revs_parser.proofs.expression.+read.Goals as goal
 
 -- ---- expressions
@@ -19,10 +19,10 @@ expression-returns-in_err-inner-clause-halts t c =
     (r.expression_no_level c.args.level c.in-Some.ensures.found c.in_err-inner.ensures.deep _ c.in_err-inner.ensures.stops)
 
 pub expression-returns-in-Some-clause-ok : goal.expression-returns-in-Some-clause-ok
-expression-returns-in-Some-clause-ok t c = on_ok c.function.result (λ x. r.expression_function c.args.level c.in_ok-inner.inner c.in_ok-inner.ensures.inner c.in-Some.ensures.found c.in_ok-inner.ensures.within) c.function.ensures.ok
+expression-returns-in-Some-clause-ok t c = on_ok c.function.result (λ x. r.expression_function c.args.level c.in-Some.ensures.found c.in_ok-inner.inner c.in_ok-inner.ensures.inner c.in_ok-inner.ensures.within) c.function.ensures.ok
 
 pub expression-returns-in-Some-clause-halts : goal.expression-returns-in-Some-clause-halts
-expression-returns-in-Some-clause-halts t c = on_err c.function.result (λ x. r.expression_in_function c.args.level c.in_ok-inner.inner c.in_ok-inner.ensures.inner c.in-Some.ensures.found c.in_ok-inner.ensures.within) c.function.ensures.halts
+expression-returns-in-Some-clause-halts t c = on_err c.function.result (λ x. r.expression_in_function c.args.level c.in-Some.ensures.found c.in_ok-inner.inner c.in_ok-inner.ensures.inner c.in_ok-inner.ensures.within) c.function.ensures.halts
 
 pub expression-returns-in_err-left-clause-halts : goal.expression-returns-in_err-left-clause-halts
 expression-returns-in_err-left-clause-halts t c =
@@ -261,10 +261,10 @@ base-returns-in_err-inner-clause-halts t c =
     (r.register_no_level c.args.level c.in-Some-after_word-2.ensures.found c.in_err-inner.ensures.deep _ c.in_err-inner.ensures.stops)
 
 pub base-returns-in-Some-after_word-2-clause-ok : goal.base-returns-in-Some-after_word-2-clause-ok
-base-returns-in-Some-after_word-2-clause-ok t c = on_ok c.register.result (λ x. r.base_register c.args.level c.in_ok-inner.inner c.in_ok-inner.ensures.inner c.in-Some-after_word-2.ensures.found c.in_ok-inner.ensures.within) c.register.ensures.ok
+base-returns-in-Some-after_word-2-clause-ok t c = on_ok c.register.result (λ x. r.base_register c.args.level c.in-Some-after_word-2.ensures.found c.in_ok-inner.inner c.in_ok-inner.ensures.inner c.in_ok-inner.ensures.within) c.register.ensures.ok
 
 pub base-returns-in-Some-after_word-2-clause-halts : goal.base-returns-in-Some-after_word-2-clause-halts
-base-returns-in-Some-after_word-2-clause-halts t c = on_err c.register.result (λ x. r.in_register_halts c.args.level c.in_ok-inner.inner c.in_ok-inner.ensures.inner c.in-Some-after_word-2.ensures.found c.in_ok-inner.ensures.within) c.register.ensures.halts
+base-returns-in-Some-after_word-2-clause-halts t c = on_err c.register.result (λ x. r.in_register_halts c.args.level c.in-Some-after_word-2.ensures.found c.in_ok-inner.inner c.in_ok-inner.ensures.inner c.in_ok-inner.ensures.within) c.register.ensures.halts
 
 pub base-returns-in_err-inner-2-clause-halts : goal.base-returns-in_err-inner-2-clause-halts
 base-returns-in_err-inner-2-clause-halts t c =
@@ -274,15 +274,15 @@ base-returns-in_err-inner-2-clause-halts t c =
 pub base-returns-in_err-term-clause-halts : goal.base-returns-in_err-term-clause-halts
 base-returns-in_err-term-clause-halts t c =
     stops_so _ c.from_residual-in_err-term.result c.from_residual-in_err-term.ensures.1
-    (r.in_bracket_halts c.args.level c.in_ok-inner-2.inner c.in_ok-inner-2.ensures.inner c.in-Some-after.ensures.found c.in_ok-inner-2.ensures.within c.in_err-term.ensures.halts)
+    (r.in_bracket_halts c.args.level c.in-Some-after.ensures.found c.in_ok-inner-2.inner c.in_ok-inner-2.ensures.inner c.in_ok-inner-2.ensures.within c.in_err-term.ensures.halts)
 
 pub base-returns-in_err-rest-clause-halts : goal.base-returns-in_err-rest-clause-halts
 base-returns-in_err-rest-clause-halts t c =
     stops_so _ c.from_residual-in_err-rest.result c.from_residual-in_err-rest.ensures.1
-    (r.bracket_unclosed c.args.level c.in_ok-inner-2.inner c.in_ok-inner-2.ensures.inner c.in-Some-after.ensures.found c.in_ok-inner-2.ensures.within c.in_ok-term.ensures.ok c.in_err-rest.ensures.halts)
+    (r.bracket_unclosed c.args.level c.in-Some-after.ensures.found c.in_ok-inner-2.inner c.in_ok-inner-2.ensures.inner c.in_ok-inner-2.ensures.within c.in_ok-term.ensures.ok c.in_err-rest.ensures.halts)
 
 pub base-returns-in-Some-after-clause-ok : goal.base-returns-in-Some-after-clause-ok
-base-returns-in-Some-after-clause-ok t c = r.base_bracket c.args.level c.in_ok-inner-2.inner c.in_ok-inner-2.ensures.inner c.in-Some-after.ensures.found c.in_ok-inner-2.ensures.within c.in_ok-term.ensures.ok c.in_ok-rest.ensures.ok
+base-returns-in-Some-after-clause-ok t c = r.base_bracket c.args.level c.in-Some-after.ensures.found c.in_ok-inner-2.inner c.in_ok-inner-2.ensures.inner c.in_ok-inner-2.ensures.within c.in_ok-term.ensures.ok c.in_ok-rest.ensures.ok
 
 pub base-returns-in_err-inner-3-clause-halts : goal.base-returns-in_err-inner-3-clause-halts
 base-returns-in_err-inner-3-clause-halts t c =
@@ -290,10 +290,10 @@ base-returns-in_err-inner-3-clause-halts t c =
     (r.block_no_level c.args.level c.in-Some-after-2.ensures.found c.in_err-inner-3.ensures.deep _ c.in_err-inner-3.ensures.stops)
 
 pub base-returns-in-Some-after-2-clause-ok : goal.base-returns-in-Some-after-2-clause-ok
-base-returns-in-Some-after-2-clause-ok t c = on_ok c.block.result (λ x. r.base_block c.args.level c.in_ok-inner-3.inner c.in_ok-inner-3.ensures.inner c.in-Some-after-2.ensures.found c.in_ok-inner-3.ensures.within) c.block.ensures.ok
+base-returns-in-Some-after-2-clause-ok t c = on_ok c.block.result (λ x. r.base_block c.args.level c.in-Some-after-2.ensures.found c.in_ok-inner-3.inner c.in_ok-inner-3.ensures.inner c.in_ok-inner-3.ensures.within) c.block.ensures.ok
 
 pub base-returns-in-Some-after-2-clause-halts : goal.base-returns-in-Some-after-2-clause-halts
-base-returns-in-Some-after-2-clause-halts t c = on_err c.block.result (λ x. r.in_block_halts c.args.level c.in_ok-inner-3.inner c.in_ok-inner-3.ensures.inner c.in-Some-after-2.ensures.found c.in_ok-inner-3.ensures.within) c.block.ensures.halts
+base-returns-in-Some-after-2-clause-halts t c = on_err c.block.result (λ x. r.in_block_halts c.args.level c.in-Some-after-2.ensures.found c.in_ok-inner-3.inner c.in_ok-inner-3.ensures.inner c.in_ok-inner-3.ensures.within) c.block.ensures.halts
 
 pub base-returns-in_err-used-clause-halts : goal.base-returns-in_err-used-clause-halts
 base-returns-in_err-used-clause-halts t c =
@@ -316,7 +316,7 @@ register-elements-init t c = record { read = r.register_begun c.args.level c.in_
 pub register-returns-in_err-next-clause-halts : goal.register-returns-in_err-next-clause-halts
 register-returns-in_err-next-clause-halts t c =
     stops_so _ c.from_residual-in_err-next.result c.from_residual-in_err-next.ensures.1
-    (r.chain_halts c.elements.invariant.read c.in_err-next.ensures.halts)
+    (r.register_halts c.args.level c.elements.invariant.read c.in_err-next.ensures.halts)
 
 pub register-returns-in_err-rest-clause-halts : goal.register-returns-in_err-rest-clause-halts
 register-returns-in_err-rest-clause-halts t c =

@@ -1,6 +1,6 @@
 use Rattle.std.proofs.Common.{◌+◌, ◌-◌, ◌*◌, length, map}
 use Rattle.revs_terms.specs.Trees.{tree_of, item_tree_of}
-use Rattle.revs_parser.proofs.Readings.{InSum, InProduct, InArguments, InRegister, InBlock}
+use Rattle.revs_parser.proofs.ReadingLemmas.{InSum, InProduct, InArguments, InRegister, InBlock}
 use Rattle.revs_parser.proofs.expression.+read.Given as goal
 
 abbrev pub decreases-application : goal.decreases-application

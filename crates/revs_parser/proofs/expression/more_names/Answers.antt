@@ -1,6 +1,6 @@
-use Rattle.revs_parser.proofs.Steps.{stops_so}
+use Rattle.revs_parser.proofs.PassingLemmas.{stops_so}
 use Rattle.std.proofs.Common.{sym, ◌∙◌}
-use Rattle.revs_parser.proofs.Readings.{names_more, names_done, names_halt}
+use Rattle.revs_parser.proofs.ReadingLemmas.{names_begun, names_more, names_done, names_halt}
 use Rattle.revs_parser.proofs.expression.more_names.Goals as goal
 
 pub returns-in_err-next-clause-halts : goal.returns-in_err-next-clause-halts
@@ -15,3 +15,6 @@ loop-rest-preserved c = record {
 
 pub returns-clause-ok : goal.returns-clause-ok
 returns-clause-ok c = names_done c.loop-rest.invariant.read (sym c.begins_name.ensures ∙ c.loop-rest-test.false)
+
+pub loop-rest-init : goal.loop-rest-init
+loop-rest-init c = record { read = names_begun c.args.names.items c.args.tokens.now }

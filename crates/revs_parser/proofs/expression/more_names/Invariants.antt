@@ -1,5 +1,5 @@
 use Rattle.std.proofs.Common.{length}
-use Rattle.revs_parser.proofs.Readings.{Names}
+use Rattle.revs_parser.proofs.ReadingLemmas.{Names}
 use Rattle.revs_parser.proofs.expression.more_names.Given as goal
 
 abbrev pub invariant-loop-rest : goal.invariant-loop-rest

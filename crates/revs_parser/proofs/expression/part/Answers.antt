@@ -1,5 +1,5 @@
-use Rattle.revs_parser.proofs.Steps.{stops_so}
-use Rattle.revs_parser.proofs.Readings.{part_index, part_slice, part_unclosed}
+use Rattle.revs_parser.proofs.PassingLemmas.{stops_so}
+use Rattle.revs_parser.proofs.ReadingLemmas.{part_index, part_slice, part_unclosed}
 use Rattle.revs_parser.proofs.expression.part.Goals as goal
 
 pub returns-in_err-rest-2-clause-halts : goal.returns-in_err-rest-2-clause-halts
@@ -8,7 +8,7 @@ returns-in_err-rest-2-clause-halts c =
     (part_unclosed c.in_ok-rest.ensures.ok c.in_ok-i.ensures.ok c.in_default.ensures.none c.in_err-rest-2.ensures.halts)
 
 pub returns-in_default-clause-ok : goal.returns-in_default-clause-ok
-returns-in_default-clause-ok c = part_index c.args.at c.in_ok-rest.ensures.ok c.in_ok-i.ensures.ok c.in_default.ensures.none c.in_ok-rest-2.ensures.ok
+returns-in_default-clause-ok c = part_index c.in_ok-rest.ensures.ok c.in_ok-i.ensures.ok c.args.at c.in_default.ensures.none c.in_ok-rest-2.ensures.ok
 
 pub returns-clause-ok : goal.returns-clause-ok
-returns-clause-ok c = part_slice c.args.at c.in_ok-rest.ensures.ok c.in_ok-i.ensures.ok c.in-Some.ensures.found c.in_ok-j.ensures.ok c.in_ok-rest-3.ensures.ok
+returns-clause-ok c = part_slice c.in_ok-rest.ensures.ok c.in_ok-i.ensures.ok c.args.at c.in-Some.ensures.found c.in_ok-j.ensures.ok c.in_ok-rest-3.ensures.ok

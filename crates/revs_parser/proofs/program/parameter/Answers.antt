@@ -1,4 +1,4 @@
-use Rattle.revs_parser.proofs.Programs.{one_parameter}
+use Rattle.revs_parser.proofs.ProgramLemmas.{one_parameter}
 use Rattle.revs_parser.proofs.program.parameter.Goals as goal
 
 pub returns-clause-ok : goal.returns-clause-ok

@@ -1,6 +1,9 @@
-use Rattle.revs_parser.proofs.Steps.{stops_so}
-use Rattle.revs_parser.proofs.Programs.{parameters_more, parameters_done, parameters_halt}
+use Rattle.revs_parser.proofs.PassingLemmas.{stops_so}
+use Rattle.revs_parser.proofs.ProgramLemmas.{parameters_begun, parameters_more, parameters_done, parameters_halt}
 use Rattle.revs_parser.proofs.program.parameters.Goals as goal
+
+pub loop-params-init : goal.loop-params-init
+loop-params-init c = record { read = parameters_begun c.args.params.items c.args.tokens.now }
 
 pub loop-params-preserved : goal.loop-params-preserved
 loop-params-preserved c = record { read = parameters_more c.loop-params.invariant.read c.in-Some.ensures.found c.in_ok-next.ensures.ok c.in_ok-push.ensures.items }

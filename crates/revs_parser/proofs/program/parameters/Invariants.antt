@@ -1,5 +1,5 @@
 use Rattle.std.proofs.Common.{length}
-use Rattle.revs_parser.proofs.Programs.{Parameters}
+use Rattle.revs_parser.proofs.ProgramLemmas.{Parameters}
 use Rattle.revs_parser.proofs.program.parameters.Given as goal
 
 abbrev pub invariant-loop-params : goal.invariant-loop-params

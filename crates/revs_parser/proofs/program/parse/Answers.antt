@@ -3,8 +3,8 @@ use Rattle.revs_terms.specs.declared.program.Param.{Param}
 use Rattle.revs_terms.specs.Programs.{AreParams}
 use Rattle.revs_terms.specs.Trees.{tree_of}
 use Rattle.revs_grammar.proofs.Spelled.{body_kept, names_kept}
-use Rattle.revs_parser.specs.Forms.{PassesAt}
-use Rattle.revs_parser.proofs.Programs.{program_exactly, inputs_exactly, refusal_exactly, inputs_at}
+use Rattle.revs_parser.specs.inside.Forms.{PassesAt}
+use Rattle.revs_parser.proofs.ProgramLemmas.{program_exactly, inputs_exactly, refusal_exactly, inputs_at}
 use Rattle.revs_parser.proofs.program.parse.Goals as goal
 
 pub invariant_of-result-clause-inputs : goal.invariant_of-result-clause-inputs

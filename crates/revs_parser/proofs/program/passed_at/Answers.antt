@@ -1,6 +1,6 @@
 use Rattle.std.proofs.Common.{◌≡◌, ℕ, ◌+◌, ◌≤◌, ◌∙◌, ap, arith}
 use Rattle.revs_terms.specs.Programs.{width_of}
-use Rattle.revs_parser.proofs.Programs.{limits_more}
+use Rattle.revs_parser.proofs.ProgramLemmas.{limits_more}
 use Rattle.revs_parser.proofs.program.passed_at.Goals as goal
 
 pub loop-param-preserved : goal.loop-param-preserved

@@ -1,5 +1,5 @@
 use Rattle.std.proofs.Common.{length}
-use Rattle.revs_parser.proofs.Programs.{WithinLimits}
+use Rattle.revs_parser.proofs.ProgramLemmas.{WithinLimits}
 use Rattle.revs_parser.proofs.program.passed_at.Given as goal
 
 abbrev pub invariant-loop-param : goal.invariant-loop-param

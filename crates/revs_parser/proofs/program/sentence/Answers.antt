@@ -1,5 +1,5 @@
-use Rattle.revs_parser.proofs.Steps.{stops_so, only}
-use Rattle.revs_parser.proofs.Programs.{a_sentence, sentence_halts, in_first, in_parameters, no_equal, in_body}
+use Rattle.revs_parser.proofs.PassingLemmas.{stops_so, only}
+use Rattle.revs_parser.proofs.ProgramLemmas.{a_sentence, sentence_halts, in_first, in_parameters, no_equal, in_body}
 use Rattle.revs_parser.proofs.program.sentence.Goals as goal
 
 pub returns-in_err-first-clause-halts : goal.returns-in_err-first-clause-halts

@@ -1,6 +1,6 @@
 use Rattle.std.proofs.Common.{sym, ◌∙◌}
-use Rattle.revs_parser.proofs.Steps.{stops_so}
-use Rattle.revs_parser.proofs.Programs.{ended, not_at_end, halt_is_right}
+use Rattle.revs_parser.proofs.PassingLemmas.{stops_so}
+use Rattle.revs_parser.proofs.ProgramLemmas.{ended, not_at_end, halt_is_right}
 use Rattle.revs_parser.proofs.program.whole.Goals as goal
 
 pub returns-in_err-params-clause-refused : goal.returns-in_err-params-clause-refused

@@ -1,5 +1,5 @@
-use Rattle.revs_parser.proofs.Steps.{stops_so}
-use Rattle.revs_parser.proofs.Programs.{some_width, width_unclosed}
+use Rattle.revs_parser.proofs.PassingLemmas.{stops_so}
+use Rattle.revs_parser.proofs.ProgramLemmas.{no_width, some_width, width_unclosed}
 use Rattle.revs_parser.proofs.program.width.Goals as goal
 
 pub returns-in_err-rest-clause-halts : goal.returns-in_err-rest-clause-halts
@@ -8,3 +8,6 @@ returns-in_err-rest-clause-halts c =
 
 pub returns-clause-ok : goal.returns-clause-ok
 returns-clause-ok c = some_width c.in-Some.ensures.found c.in_ok-bits.ensures.ok c.in_ok-rest-2.ensures.ok c.in_ok-rest-3.ensures.ok
+
+pub returns-in_default-clause-ok : goal.returns-in_default-clause-ok
+returns-in_default-clause-ok c = no_width c.in_default.ensures.none c.in_ok-rest.ensures.ok

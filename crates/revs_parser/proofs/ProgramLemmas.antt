@@ -1,0 +1,292 @@
+-- Whole programs: their parameters, their end, and their limits.
+use Rattle.std.proofs.Common.{◌≡◌, ℕ, ◌+◌, ◌≤◌, Bool, true, false, ◌&&◌, cond, leb, Option, Some, None, List, [], ◌∷◌, ◌++◌, refl, sym, ◌∙◌, ap, subst, length, append_assoc, sum, inl, inr, arith}
+use Rattle.std.specs.Prelude.{Result, Ok, Err}
+use Rattle.std.specs.List.{list_all}
+use Rattle.std.proofs.lemmas.List.{map-append}
+use Rattle.std.proofs.lemmas.List.Sums.{sum_by-append}
+use Rattle.std.proofs.lemmas.List.Folds.{list_all-append}
+use Rattle.std.proofs.lemmas.Bool.Decides.{nat_tests}
+use Rattle.revc_base.specs.declared.place.Place.{Place}
+use Rattle.revs_lexer.specs.declared.sign.Sign.TheVariants as signs
+use Rattle.revs_lexer.specs.declared.word.Word.TheVariants as words
+use Rattle.revs_lexer.specs.declared.token.Tok.{Tok}
+use Rattle.revs_lexer.specs.declared.token.Tok.TheVariants as toks
+use Rattle.revs_lexer.specs.declared.token.Token.{Token}
+use Rattle.revs_lexer.specs.Tokens.{IsEnded}
+use Rattle.revs_grammar.specs.Forms.{any_name, any_number, word, sign, code, mark_code}
+use Rattle.revs_grammar.specs.Forms as g
+use Rattle.revs_grammar.specs.Sentences.{token, kept_token, form, Vals, at_start}
+use Rattle.revs_grammar.specs.Answers.{HasSentence, IsProgramOf, IsInputs}
+use Rattle.revs_grammar.specs.Faults.{Verdict, IsVerdict, within_limits, syntax, nesting, inputs}
+use Rattle.revs_grammar.specs.inside.Machine.{Stack, Outcome, accepted, no_syntax, is_end, outcome}
+use Rattle.revs_grammar.proofs.Outcomes.{outcome_says, Says}
+use Rattle.revs_grammar.proofs.Verdicts.{one_verdict}
+use Rattle.revs_terms.specs.declared.term.Name.{Name}
+use Rattle.revs_terms.specs.declared.program.Param.{Param}
+use Rattle.revs_terms.specs.declared.program.Program.{Program}
+use Rattle.revs_terms.specs.Programs.{AreParams, width_of, widths_of}
+use Rattle.revs_terms.specs.Trees.{Tree}
+use Rattle.revs_parser.specs.declared.stop.Stop.{Stop}
+use Rattle.revs_parser.specs.declared.stop.Stop.TheVariants as stops
+use Rattle.revs_parser.specs.declared.program.ParseFault.{ParseFault}
+use Rattle.revs_parser.specs.declared.program.ParseFault.TheVariants as faults
+use Rattle.revs_parser.specs.inside.Reading.{Reads, ReadsForm, IsHalt, Halts, HaltsIn, Heads, NotFirst, end_first}
+use Rattle.revs_parser.specs.inside.Forms.{ReadsParameters, ReadsProgram, PassesAt, IsRefusal}
+use Rattle.revs_parser.specs.Results.{IsAnswer, IsRefused}
+use Rattle.revs_parser.proofs.StepLemmas as m
+use Rattle.revs_parser.proofs.StepLemmas.{at_first, token_missing, no_sign, no_word}
+use Rattle.revs_parser.proofs.PassingLemmas.{append_nil, passes_then, beside, and_then, and_maybe, line_passes, halts_first, halts_there, halts_behind}
+use Rattle.revs_parser.proofs.ReadingLemmas.{a_sign, a_main, by_pieces, by_token, halts_by_pieces, left_out, Repeats, repeats_begun, repeats_more, repeats_done, repeats_halts}
+
+-- ---- where a form cannot begin
+
+pub parameter_missing : (ts : List Token) → NotFirst (toks.Sign signs.OpenRound) ts → HaltsIn g.parameter 0 ts (stops.Syntax (length ts))
+parameter_missing ts h = record {
+  halt = λ ms. m.as_parameter ts ms ∙ token_missing (sign signs.OpenRound) ts (at_first ts h (λ t k. no_sign t signs.OpenRound k)) _;
+}
+
+pub main_missing : (ts : List Token) → NotFirst (toks.Word words.Main) ts → HaltsIn g.program 0 ts (stops.Syntax (length ts))
+main_missing ts h = record {
+  halt = λ ms. m.as_program ts ms ∙ token_missing (word words.Main) ts (at_first ts h (λ t k. no_word t words.Main k)) _;
+}
+
+-- ---- parameters
+
+pub no_width : {ts rest : List Token} → NotFirst (toks.Sign signs.OpenSquare) ts → Reads (token (sign signs.CloseRound) ∷ []) tt ts rest → ReadsForm g.width 0 None ts rest
+no_width {ts} h q = by_pieces g.width 0 _ (inl refl) (m.as_width ts h) q
+
+pub some_width : {w : ℕ} {at : Place} {ts a b c rest : List Token} → Heads (toks.Sign signs.OpenSquare) at ts a → Reads (kept_token any_number ∷ []) (w, tt) a b
+    → Reads (token (sign signs.CloseSquare) ∷ []) tt b c → Reads (token (sign signs.CloseRound) ∷ []) tt c rest → ReadsForm g.width 0 (Some w) ts rest
+some_width h n k q = by_token g.width 0 _ (inr (inl refl)) h refl refl refl (and_then (a_sign h) (and_then n (and_then k q)))
+
+pub width_unclosed : {ts : List Token} {stop : Stop} → NotFirst (toks.Sign signs.OpenSquare) ts → Halts (token (sign signs.CloseRound) ∷ []) ts stop → HaltsIn g.width 0 ts stop
+width_unclosed {ts} h k = halts_by_pieces g.width 0 _ (inl refl) (m.as_width ts h) k
+
+pub one_parameter : (w : Option ℕ) {n : Name} {at : Place} {ts a b c d rest : List Token} → Heads (toks.Sign signs.OpenRound) at ts a → Reads (kept_token any_name ∷ []) (n, tt) a b
+    → Reads (token (sign signs.Colon) ∷ []) tt b c → Reads (token (word words.Bool) ∷ []) tt c d → ReadsForm g.width 0 w d rest
+    → ReadsForm g.parameter 0 (record { name = n; width = w }) ts rest
+one_parameter w {n} {at} {ts} h q k b r = by_pieces g.parameter 0 _ (inl refl) (m.as_parameter ts) (and_then (a_sign h) (and_then q (and_then k (and_then b r))))
+
+-- The parameters so far, behind those before.
+pub record Parameters (before all : List Param) (ts rest : List Token) : Type 0 where
+  pub read : List Param
+  pub all_params : all ≡ before ++ read
+  pub repeats : Repeats g.parameters 0 (λ more. read ++ more) ts rest
+
+pub parameters_begun : (params : List Param) (ts : List Token) → Parameters params params ts ts
+parameters_begun params ts = record {
+  read = [];
+  all_params = sym (append_nil params);
+  repeats = repeats_begun g.parameters 0 (λ more. [] ++ more) ts (λ v. refl);
+}
+
+another : {at : Place} {ts a : List Token} → Heads (toks.Sign signs.OpenRound) at ts a
+    → (ms : Stack) → outcome ts (form g.parameters 0 ∷ ms) ≡ outcome ts (form g.parameter 0 ∷ form g.parameters 0 ∷ ms)
+another h = m.by_first g.parameters 0 _ (inr (inl refl)) h refl refl refl
+
+pub parameters_more : {before all new : List Param} {next : Param} {at : Place} {ts mid a rest : List Token} → Parameters before all ts mid → Heads (toks.Sign signs.OpenRound) at mid a
+    → ReadsForm g.parameter 0 next mid rest → new ≡ all ++ next ∷ [] → Parameters before new ts rest
+parameters_more {before} {all} {new} {next} {at} {ts} {mid} {a} {rest} n h q e = record {
+  read = n.read ++ next ∷ [];
+  all_params = e ∙ ap (λ (z : List Param). z ++ next ∷ []) n.all_params ∙ append_assoc before n.read (next ∷ []);
+  repeats = repeats_more (λ more. (n.read ++ next ∷ []) ++ more) n.repeats one (λ more. sym (append_assoc n.read (next ∷ []) more));
+}
+  where
+    one : Repeats g.parameters 0 (λ more. next ∷ more) mid rest
+    one = record { passes = passes_then (line_passes g.parameters 0 _ (inr (inl refl)) (another h)) (beside (form g.parameters 0 ∷ []) q.passes) }
+
+pub parameters_done : {before all : List Param} {ts rest : List Token} → Parameters before all ts rest → NotFirst (toks.Sign signs.OpenRound) rest → ReadsParameters before all ts rest
+parameters_done {before} {all} {ts} {rest} n k = record {
+  more = n.read ++ [];
+  all_params = n.all_params ∙ ap (λ (z : List Param). before ++ z) (sym (append_nil n.read));
+  skips = repeats_done [] n.repeats (left_out g.parameters 0 _ (inl refl) (m.no_parameters rest k));
+}
+
+pub parameters_halt : {before all : List Param} {at : Place} {ts mid a : List Token} {stop : Stop} → Parameters before all ts mid → Heads (toks.Sign signs.OpenRound) at mid a
+    → HaltsIn g.parameter 0 mid stop → HaltsIn g.parameters 0 ts stop
+parameters_halt n h k =
+    repeats_halts n.repeats (halts_there (form g.parameters 0 ∷ []) (form g.parameter 0 ∷ form g.parameters 0 ∷ []) (another h) (halts_first (form g.parameters 0 ∷ []) k))
+
+-- ---- sentences
+
+abbrev pub after_main : Stack
+after_main = form g.parameter 0 ∷ form g.parameters 0 ∷ token (sign signs.Equal) ∷ form g.expression 1 ∷ []
+
+pub sentence_halts : {at : Place} {ts a : List Token} {stop : Stop} → Heads (toks.Word words.Main) at ts a → Halts after_main a stop → HaltsIn g.program 0 ts stop
+sentence_halts {at} {ts} h k = halts_by_pieces g.program 0 _ (inl refl) (m.as_program ts) (halts_behind after_main (a_main h) k)
+
+pub in_first : {a : List Token} {stop : Stop} → HaltsIn g.parameter 0 a stop → Halts after_main a stop
+in_first k = halts_first (form g.parameters 0 ∷ token (sign signs.Equal) ∷ form g.expression 1 ∷ []) k
+
+module _ {p : Param} {a b : List Token} (q : ReadsForm g.parameter 0 p a b) where
+  pub in_parameters : {stop : Stop} → HaltsIn g.parameters 0 b stop → Halts after_main a stop
+  in_parameters k = halts_first (token (sign signs.Equal) ∷ form g.expression 1 ∷ []) (halts_behind (form g.parameters 0 ∷ []) q k)
+
+  pub no_equal : {before all : List Param} {c : List Token} {stop : Stop} → ReadsParameters before all b c → Halts (token (sign signs.Equal) ∷ []) c stop
+      → Halts after_main a stop
+  no_equal n k = halts_first (form g.expression 1 ∷ []) (halts_behind (token (sign signs.Equal) ∷ []) (and_maybe q n.skips) k)
+
+  pub in_body : {before all : List Param} {c d : List Token} {stop : Stop} → ReadsParameters before all b c → Reads (token (sign signs.Equal) ∷ []) tt c d
+      → HaltsIn g.expression 1 d stop → Halts after_main a stop
+  in_body n e k = halts_behind (form g.expression 1 ∷ []) (and_then (and_maybe q n.skips) e) k
+
+pub a_sentence : {p : Param} {before all : List Param} {body : Tree} {at : Place} {ts a b c d rest : List Token} → Heads (toks.Word words.Main) at ts a
+    → ReadsForm g.parameter 0 p a b → before ≡ p ∷ [] → ReadsParameters before all b c
+    → Reads (token (sign signs.Equal) ∷ []) tt c d → ReadsForm g.expression 1 body d rest → ReadsProgram all body ts rest
+a_sentence {p} {before} {all} {body} {at} {ts} {a} {b} {c} {d} {rest} h q e n k x =
+    let params : all ≡ p ∷ n.more = n.all_params ∙ ap (λ (z : List Param). z ++ n.more) e in
+    subst (λ (z : List Param). ReadsProgram z body ts rest) (sym params)
+    (by_pieces g.program 0 _ (inl refl) (m.as_program ts) (and_then (a_main h) (and_then (and_then (and_maybe q n.skips) k) x)))
+
+-- ---- the end
+
+end_is_last : (front : List Token) (t : Token) (more : List Token) → IsEnded (front ++ t ∷ more) → t.tok ≡ toks.End → more ≡ []
+end_is_last [] t [] e h = refl
+end_is_last [] t (u ∷ more) e h = absurd (e.0 h)
+end_is_last (x ∷ []) t more e h = end_is_last [] t more e.1 h
+end_is_last (x ∷ y ∷ front) t more e h = end_is_last (y ∷ front) t more e.1 h
+
+end_is : (t : Tok) → is_end t ≡ true → t ≡ toks.End
+end_is toks.End e = refl
+end_is (toks.Name text) e = cc
+end_is _ e = cc
+
+pub ended : {params : List Param} {body : Tree} (tokens rest : List Token) → IsEnded tokens → ReadsProgram params body tokens rest → end_first rest ≡ true
+    → HasSentence tokens params body
+ended tokens [] e q h = cc
+ended {params} {body} tokens (t ∷ more) e q h =
+    let f = q.passes in
+    let at_end : t.tok ≡ toks.End = end_is t.tok h in
+    let none : more ≡ [] = end_is_last f.front t more (subst IsEnded f.cut e) at_end in
+    let stands = f.stands_for [] tt tt in
+    record {
+      sentence = f.front;
+      end = t;
+      cut = f.cut ∙ ap (λ (z : List Token). f.front ++ t ∷ z) none;
+      ended = at_end;
+      spelled = record {
+        reading = f.leads [];
+        params_are = ap (λ (v : Vals at_start). v.0.params) stands;
+        body_is = ap (λ (v : Vals at_start). v.0.body) stands;
+      };
+    }
+
+not_ended : (rest : List Token) → end_first rest ≡ false → outcome rest [] ≡ no_syntax (length rest)
+not_ended [] h = refl
+not_ended (t ∷ ts) h = ap (λ (b : Bool). cond b accepted (no_syntax (length ts + 1))) h ∙ ap no_syntax (omega arith)
+
+refused : (tokens : List Token) (stop : Stop) (o : Outcome) → IsHalt stop o → Says tokens o → IsRefusal tokens stop
+refused tokens (stops.Syntax left) o e k =
+    let f = subst (Says tokens) e k in record {
+      front = f.front;
+      named = f.named;
+      rest = f.rest;
+      cut = f.cut;
+      count = f.count;
+      why = record {
+        front = f.front;
+        named = f.named;
+        rest = f.rest;
+        cut = f.cut;
+        count = refl;
+        place = refl;
+        begins = f.why.0;
+        few = f.why.1;
+        refused = f.why.2;
+      };
+    }
+refused tokens (stops.Nesting left) o e k =
+    let f = subst (Says tokens) e k in record {
+      front = f.front;
+      named = f.named;
+      rest = f.rest;
+      cut = f.cut;
+      count = f.count;
+      why = record { front = f.front; named = f.named; rest = f.rest; cut = f.cut; place = refl; begins = f.why.0; few = f.why.1; deep = f.why.2 };
+    }
+refused tokens stops.Memory o e k = tt
+
+pub halt_is_right : (tokens : List Token) (stop : Stop) → IsEnded tokens → HaltsIn g.program 0 tokens stop → IsRefusal tokens stop
+halt_is_right tokens stop e h = refused tokens stop (outcome tokens at_start) (h.halt []) (outcome_says tokens e)
+
+pub not_at_end : {params : List Param} {body : Tree} (tokens rest : List Token) → IsEnded tokens → ReadsProgram params body tokens rest → end_first rest ≡ false
+    → IsRefusal tokens (stops.Syntax (length rest))
+not_at_end tokens rest e q h = refused tokens (stops.Syntax (length rest)) (outcome tokens at_start) (q.passes.goes_on [] ∙ not_ended rest h) (outcome_says tokens e)
+
+-- ---- the limits of the widths
+
+-- The parameters so far are within the limits, and their widths add up to this.
+pub record WithinLimits (params rest : List Param) (inputs : ℕ) : Type 0 where
+  pub before : List Param
+  pub cut : params ≡ before ++ rest
+  pub fine : AreParams before
+  pub total : sum (widths_of before) ≡ inputs
+
+bits-push : (ps : List Param) (p : Param) → list_all (λ width. leb 1 width) (widths_of (ps ++ p ∷ [])) ≡ list_all (λ width. leb 1 width) (widths_of ps) && list_all (λ width. leb 1 width) (width_of p.width ∷ [])
+bits-push ps p =
+    ap (λ (z : List ℕ). list_all (λ width. leb 1 width) z) (map-append (λ (p : Param). width_of p.width) ps (p ∷ []))
+    ∙ list_all-append (λ width. leb 1 width) (widths_of ps) (widths_of (p ∷ []))
+
+sum-push : (ps : List Param) (p : Param) → sum (widths_of (ps ++ p ∷ [])) ≡ sum (widths_of ps) + width_of p.width
+sum-push ps p =
+    ap (λ (z : List ℕ). sum z) (map-append (λ (p : Param). width_of p.width) ps (p ∷ [])) ∙ sum_by-append (λ x. x) (widths_of ps) (widths_of (p ∷ [])) ∙ one (width_of p.width)
+  where
+    one : (w : ℕ) → sum (widths_of ps) + sum (w ∷ []) ≡ sum (widths_of ps) + w
+    one w = ap (λ (z : ℕ). sum (widths_of ps) + z) (alone w)
+      where
+        alone : (w : ℕ) → sum (w ∷ []) ≡ w
+        alone w = omega arith
+
+one_bit : (w : ℕ) → ¬ (w ≡ 0) → list_all (λ width. leb 1 width) (w ∷ []) ≡ true
+one_bit w h = grind (arith, nat_tests)
+
+pub limits_more : {params rest : List Param} {total : ℕ} (p : Param) (behind : List Param) (new : ℕ) → WithinLimits params rest total → rest ≡ p ∷ behind
+    → ¬ (width_of p.width ≡ 0) → total + width_of p.width ≤ 1024 → new ≡ total + width_of p.width → WithinLimits params behind new
+limits_more {params} {rest} {total} p behind new h e some few w =
+    let t = h.total in
+    let pushed = sum-push h.before p in record {
+      before = h.before ++ p ∷ [];
+      cut = h.cut ∙ ap (λ (z : List Param). h.before ++ z) e ∙ sym (append_assoc h.before (p ∷ []) behind);
+      fine = record {
+        bits = bits-push h.before p ∙ m_and (list_all (λ width. leb 1 width) (widths_of h.before)) (list_all (λ width. leb 1 width) (width_of p.width ∷ [])) h.fine.bits (one_bit (width_of p.width) some);
+        inputs = omega (arith, pushed, t, few);
+      };
+      total = pushed ∙ ap (λ (z : ℕ). z + width_of p.width) t ∙ sym w;
+    }
+  where
+    m_and : (a b : Bool) → a ≡ true → b ≡ true → a && b ≡ true
+    m_and true b e f = f
+    m_and false b e f = cc
+
+-- ---- the answer
+
+exactly : (tokens : List Token) (given : Verdict) (answer : Result Program ParseFault) → IsVerdict tokens given → IsAnswer given answer
+    → (verdict : Verdict) → IsVerdict tokens verdict → IsAnswer verdict answer
+exactly tokens given answer is a verdict other = subst (λ (v : Verdict). IsAnswer v answer) (one_verdict tokens given verdict is other) a
+
+pub program_exactly : (tokens : List Token) (p : Program) → (params : List Param) (body : Tree) → IsProgramOf tokens params body
+    → (verdict : Verdict) → IsVerdict tokens verdict → IsAnswer verdict (Ok p)
+program_exactly tokens p params body is = exactly tokens within_limits (Ok p) (record { params = params; body = body; program = is }) (inr refl)
+
+pub inputs_exactly : (tokens : List Token) (at : Place) → IsInputs tokens at → (verdict : Verdict) → IsVerdict tokens verdict → IsAnswer verdict (Err (faults.Inputs at))
+inputs_exactly tokens at is = exactly tokens (inputs at) (Err (faults.Inputs at)) is (inr refl)
+
+pub refusal_exactly : (tokens : List Token) (fault : ParseFault) → IsRefused tokens fault → (verdict : Verdict) → IsVerdict tokens verdict → IsAnswer verdict (Err fault)
+refusal_exactly tokens (faults.Syntax number at) is = exactly tokens (syntax number at) (Err (faults.Syntax number at)) is (inr refl)
+refusal_exactly tokens (faults.Nesting at) is = exactly tokens (nesting at) (Err (faults.Nesting at)) is (inr refl)
+refusal_exactly tokens (faults.Inputs at) is = absurd is
+refusal_exactly tokens faults.Memory is = λ verdict other. inl refl
+
+pub inputs_at : {tokens : List Token} {params : List Param} {body : Tree} {at : Place} → HasSentence tokens params body → PassesAt params at → IsInputs tokens at
+inputs_at {tokens} {params} {body} h k = record {
+  params = params;
+  body = body;
+  sentence = h;
+  before = k.before;
+  named = k.named;
+  behind = k.behind;
+  cut = k.cut;
+  place = k.place;
+  fine = k.fine;
+  passed = k.passed;
+}

@@ -1,0 +1,791 @@
+-- What each way through a function reads, and where it halts.
+use Rattle.std.proofs.Common.{◌≡◌, ℕ, ◌+◌, ◌==◌, true, false, Some, None, List, [], ◌∷◌, ◌++◌, inl, inr, refl, sym, ◌∙◌, ap, subst, length, append_assoc, map, arith}
+use Rattle.std.proofs.lemmas.Bool.Decides.{nat_tests}
+use Rattle.revc_base.specs.declared.place.Place.{Place}
+use Rattle.revs_lexer.specs.declared.sign.Sign.{Sign}
+use Rattle.revs_lexer.specs.declared.sign.Sign.TheVariants as signs
+use Rattle.revs_lexer.specs.declared.word.Word.{Word}
+use Rattle.revs_lexer.specs.declared.word.Word.TheVariants as words
+use Rattle.revs_lexer.specs.declared.token.Tok.{Tok}
+use Rattle.revs_lexer.specs.declared.token.Tok.TheVariants as toks
+use Rattle.revs_lexer.specs.declared.token.Token.{Token}
+use Rattle.revs_grammar.specs.Forms.{Mark, any_name, any_number, word, sign, held, mark_code, code, Form, Val, BodyTree, Production, IsOneOf, name_of}
+use Rattle.revs_grammar.specs.Forms as g
+use Rattle.revs_grammar.specs.Productions.{productions, bound_of, parts_of, apply_of, in_front}
+use Rattle.revs_grammar.specs.Sentences.{Symbol, token, kept_token, opening_token, form, symbols, Vals, fill, few_levels}
+use Rattle.revs_grammar.specs.inside.Machine.{Stack, is_empty, is_end, outcome}
+use Rattle.revs_grammar.proofs.Hints.{may_follow}
+use Rattle.revs_grammar.proofs.Checks.{begin}
+use Rattle.revs_terms.specs.Trees.{Tree, ItemTree, trees, item_trees, used, bool, reg, block, function, parts, apply, append, rotate, clean, assert, ands, xors, assign, bind, run, tree_of, item_tree_of}
+use Rattle.revs_terms.specs.declared.term.Name.{Name}
+use Rattle.revs_terms.specs.declared.term.Part.{Part}
+use Rattle.revs_terms.specs.declared.term.Part.TheVariants as part_of
+use Rattle.revs_terms.specs.declared.term.Item.{Item}
+use Rattle.revs_terms.specs.declared.term.Term.{Term}
+use Rattle.revs_parser.specs.declared.stop.Stop.{Stop}
+use Rattle.revs_parser.specs.declared.stop.Stop.TheVariants as stops
+use Rattle.revs_parser.specs.inside.Reading.{Passes, Reads, Skips, ReadsForm, Halts, HaltsIn, Heads, NotFirst, base_first, name_first}
+use Rattle.revs_parser.specs.inside.Forms.{ReadsNames, in_part, ReadsPart, in_function, ReadsFunction, in_application, ReadsAtoms, in_register, ReadsRegister, ReadsBlock, ReadsItem, in_binding, ReadsBinding}
+use Rattle.revs_parser.proofs.PassingLemmas.{append_nil, stays, passes_then, turned, beside, passes_reads, and_then, and_maybe, line_passes, token_passes, kept_passes, opening_passes, one_token, halts_first, halts_there, halts_behind, halts_past}
+use Rattle.revs_parser.proofs.StepLemmas as m
+use Rattle.revs_parser.proofs.StepLemmas.{by_first, token_goes, kept_goes, opening_goes, opening_deepens}
+
+-- ---- single tokens
+
+pub a_sign : {k : Sign} {at : Place} {ts rest : List Token} → Heads (toks.Sign k) at ts rest → Reads (token (sign k) ∷ []) tt ts rest
+a_sign {k} h = one_token h (token_passes (sign k) refl h (token_goes (sign k) (same (18 + g.sign_code k)) refl h))
+  where
+    same : (n : ℕ) → n == n ≡ true
+    same n = grind (arith, nat_tests)
+
+pub a_bool : {at : Place} {ts rest : List Token} → Heads (toks.Word words.Bool) at ts rest → Reads (token (word words.Bool) ∷ []) tt ts rest
+a_bool h = one_token h (token_passes (word words.Bool) refl h (token_goes (word words.Bool) refl refl h))
+
+pub a_main : {at : Place} {ts rest : List Token} → Heads (toks.Word words.Main) at ts rest → Reads (token (word words.Main) ∷ []) tt ts rest
+a_main h = one_token h (token_passes (word words.Main) refl h (token_goes (word words.Main) refl refl h))
+
+pub a_let : {at : Place} {ts rest : List Token} → Heads (toks.Word words.Let) at ts rest → Reads (token (word words.Let) ∷ []) tt ts rest
+a_let h = one_token h (token_passes (word words.Let) refl h (token_goes (word words.Let) refl refl h))
+
+pub a_number : {n : ℕ} {at : Place} {ts rest : List Token} → Heads (toks.Number n) at ts rest → Reads (kept_token any_number ∷ []) (n, tt) ts rest
+a_number h = one_token h (kept_passes any_number refl h (kept_goes any_number refl refl h))
+
+pub a_name : {text : List ℕ} {at : Place} {ts rest : List Token} → Heads (toks.Name text) at ts rest → Reads (kept_token any_name ∷ []) (name_of text at, tt) ts rest
+a_name h = one_token h (kept_passes any_name refl h (kept_goes any_name refl refl h))
+
+-- a word that counts, whose kind is known
+a_word : (w : Word) {at : Place} {ts rest : List Token} → Heads (toks.Word w) at ts rest → Reads (kept_token (word w) ∷ []) (at, tt) ts rest
+a_word w h = one_token h (kept_passes (word w) refl h (kept_goes (word w) (same (3 + g.word_code w)) refl h))
+  where
+    same : (n : ℕ) → n == n ≡ true
+    same n = grind (arith, nat_tests)
+
+-- a token that opens an allowed level
+opened : {k : Tok} {at : Place} {ts rest : List Token} (m : Mark) (l : ℕ) → few_levels l ≡ true → Heads k at ts rest
+    → code k ≡ mark_code m → code k == mark_code m ≡ true → is_end k ≡ false → Reads (opening_token m l ∷ []) (held m (record { tok = k; at = at }), tt) ts rest
+opened m l ok h e same n = one_token h (opening_passes m l e ok h (opening_goes m same n h l ok))
+
+-- The machine stops at a token that opens a level too many.
+opens_too_many : {k : Tok} {at : Place} {ts rest : List Token} (m : Mark) (l : ℕ) (ss : Stack) → few_levels l ≡ false → Heads k at ts rest
+    → code k == mark_code m ≡ true → is_end k ≡ false → (stop : Stop) → stop ≡ stops.Nesting (length ts) → Halts (opening_token m l ∷ ss) ts stop
+opens_too_many {ts = ts} m l ss deep h same n stop e =
+    subst (Halts (opening_token m l ∷ ss) ts) (sym e) (record { halt = λ ms. opening_deepens m same n h l deep (ss ++ ms) })
+
+-- ---- forms by their lines
+
+-- A form is read where its line is.
+pub by_pieces : (f : Form) (l : ℕ) (p : Production (Val f)) {ts rest : List Token} {vs : Vals (symbols l p.pieces)} → IsOneOf p (productions f)
+    → ((ms : Stack) → outcome ts (form f l ∷ ms) ≡ outcome ts (symbols l p.pieces ++ ms)) → Reads (symbols l p.pieces) vs ts rest
+    → ReadsForm f l (fill l p.pieces p.build vs) ts rest
+by_pieces f l p i goes r = passes_reads (line_passes f l p i goes) r
+
+-- So it is with the line that the first token begins.
+pub by_token : (f : Form) (l : ℕ) (p : Production (Val f)) {k : Tok} {at : Place} {ts mid rest : List Token} {vs : Vals (symbols l p.pieces)}
+    → IsOneOf p (productions f) → Heads k at ts mid → is_end k ≡ false → begin (may_follow f) (code k) p.pieces ≡ true → is_empty p.pieces ≡ false
+    → Reads (symbols l p.pieces) vs ts rest → ReadsForm f l (fill l p.pieces p.build vs) ts rest
+by_token f l p i h n b some r = by_pieces f l p i (by_first f l p i h n b some) r
+
+-- A form halts where its line does.
+pub halts_by_pieces : (f : Form) (l : ℕ) (p : Production (Val f)) {ts : List Token} {stop : Stop} → IsOneOf p (productions f)
+    → ((ms : Stack) → outcome ts (form f l ∷ ms) ≡ outcome ts (symbols l p.pieces ++ ms)) → Halts (symbols l p.pieces) ts stop → HaltsIn f l ts stop
+halts_by_pieces f l p i goes h = halts_there (form f l ∷ []) (symbols l p.pieces) goes h
+
+pub halts_by_token : (f : Form) (l : ℕ) (p : Production (Val f)) {k : Tok} {at : Place} {ts mid : List Token} {stop : Stop}
+    → IsOneOf p (productions f) → Heads k at ts mid → is_end k ≡ false → begin (may_follow f) (code k) p.pieces ≡ true → is_empty p.pieces ≡ false
+    → Halts (symbols l p.pieces) ts stop → HaltsIn f l ts stop
+halts_by_token f l p i h n b some r = halts_by_pieces f l p i (by_first f l p i h n b some) r
+
+-- An optional form is left out.
+pub left_out : (f : Form) (l : ℕ) (p : Production (Val f)) {ts : List Token} → IsOneOf p (productions f)
+    → ((ms : Stack) → outcome ts (form f l ∷ ms) ≡ outcome ts (symbols l p.pieces ++ ms))
+    → Passes (form f l ∷ []) (symbols l p.pieces) (λ vs. (fill l p.pieces p.build vs, tt)) ts ts
+left_out f l p i goes = line_passes f l p i goes
+
+skips : {es : Stack} {vs : Vals es} {ts rest : List Token} → Passes es [] (λ _. vs) ts rest → Skips es vs ts rest
+skips a = record { passes = a }
+
+-- ---- expressions
+
+module _ (l : ℕ) {at : Place} {ts mid : List Token} (h : Heads (toks.Word words.Fun) at ts mid) where
+  pub expression_function : {t : Tree} {rest : List Token} (inner : ℕ) → inner ≡ l + 1 → few_levels (l + 1) ≡ true → ReadsFunction inner at t mid rest
+      → ReadsForm g.expression l t ts rest
+  expression_function {t} {rest} inner e ok r =
+      let r' : ReadsFunction (l + 1) at t mid rest = subst (λ (z : ℕ). ReadsFunction z at t mid rest) e r in
+      subst (λ (z : Tree). ReadsForm g.expression l z ts rest) (sym r'.is)
+      (by_token g.expression l _ (inl refl) h refl refl refl (and_then (opened (word words.Fun) (l + 1) ok h refl refl refl) r'.reads))
+
+  pub expression_no_level : few_levels (l + 1) ≡ false → (stop : Stop) → stop ≡ stops.Nesting (length ts) → HaltsIn g.expression l ts stop
+  expression_no_level deep stop e =
+      halts_by_token g.expression l _ (inl refl) h refl refl refl (opens_too_many (word words.Fun) (l + 1) (in_function (l + 1)) deep h refl refl stop e)
+
+  pub expression_in_function : {stop : Stop} (inner : ℕ) → inner ≡ l + 1 → few_levels (l + 1) ≡ true → Halts (in_function inner) mid stop
+      → HaltsIn g.expression l ts stop
+  expression_in_function {stop} inner e ok r =
+      halts_by_token g.expression l _ (inl refl) h refl refl refl
+      (halts_behind (in_function (l + 1)) (opened (word words.Fun) (l + 1) ok h refl refl refl) (subst (λ (z : ℕ). Halts (in_function z) mid stop) e r))
+
+module _ (l : ℕ) {ts : List Token} (h : NotFirst (toks.Word words.Fun) ts) where
+  pub expression_in_sum : {stop : Stop} → HaltsIn g.sum l ts stop → HaltsIn g.expression l ts stop
+  expression_in_sum r = halts_there (form g.expression l ∷ []) (form g.sum l ∷ form g.assigned l ∷ []) (m.as_expression l ts h) (halts_first (form g.assigned l ∷ []) r)
+
+  pub expression_sum : {left : Tree} {rest : List Token} → ReadsForm g.sum l left ts rest → NotFirst (toks.Sign signs.Assign) rest → ReadsForm g.expression l left ts rest
+  expression_sum {left} {rest} r k =
+      by_pieces g.expression l _ (inr (inl refl)) (m.as_expression l ts h) (and_maybe r (skips (left_out g.assigned l _ (inl refl) (m.no_assigned l rest k))))
+
+  pub expression_in_assigned : {left : Tree} {at : Place} {mid behind : List Token} {stop : Stop} → ReadsForm g.sum l left ts mid
+      → Heads (toks.Sign signs.Assign) at mid behind → HaltsIn g.sum l behind stop → HaltsIn g.expression l ts stop
+  expression_in_assigned r k hs =
+      halts_there (form g.expression l ∷ []) (form g.sum l ∷ form g.assigned l ∷ []) (m.as_expression l ts h)
+      (halts_behind (form g.assigned l ∷ []) r (halts_by_token g.assigned l _ (inr (inl refl)) k refl refl refl (halts_behind (form g.sum l ∷ []) (a_sign k) hs)))
+
+  pub expression_assign : {left right whole : Tree} {at : Place} {mid behind rest : List Token} → ReadsForm g.sum l left ts mid
+      → Heads (toks.Sign signs.Assign) at mid behind → ReadsForm g.sum l right behind rest → whole ≡ assign left right → ReadsForm g.expression l whole ts rest
+  expression_assign {left} {right} {whole} {at} {mid} {behind} {rest} r k q w =
+      subst (λ (z : Tree). ReadsForm g.expression l z ts rest) (sym w)
+      (by_pieces g.expression l _ (inr (inl refl)) (m.as_expression l ts h)
+      (and_then r (by_token g.assigned l _ (inr (inl refl)) k refl refl refl (and_then (a_sign k) q))))
+
+-- ---- a form that repeats
+
+-- { name }, { part }, { param }: what was read so far stands in front of what more comes.
+pub record Repeats (f : Form) (l : ℕ) (onto : Val f → Val f) (ts rest : List Token) : Type 0 where
+  pub passes : Passes (form f l ∷ []) (form f l ∷ []) (λ us. (onto us.0, tt)) ts rest
+
+pub repeats_begun : (f : Form) (l : ℕ) (onto : Val f → Val f) (ts : List Token) → ((v : Val f) → v ≡ onto v) → Repeats f l onto ts ts
+repeats_begun f l onto ts e = record { passes = turned (λ us. (onto us.0, tt)) (λ us. ap (λ (z : Val f). let v : Val f × Unit {0} = (z, tt) in v) (e us.0)) (stays (form f l ∷ []) ts) }
+
+-- One element more was read.
+pub repeats_more : {f : Form} {l : ℕ} {onto one : Val f → Val f} (new : Val f → Val f) {ts mid rest : List Token} → Repeats f l onto ts mid
+    → Repeats f l one mid rest → ((v : Val f) → onto (one v) ≡ new v) → Repeats f l new ts rest
+repeats_more {f} {l} {onto} {one} new r q e = record {
+  passes = turned (λ us. (new us.0, tt)) (λ us. ap (λ (z : Val f). let v : Val f × Unit {0} = (z, tt) in v) (e us.0)) (passes_then r.passes q.passes);
+}
+
+-- No element comes any more.
+pub repeats_done : {f : Form} {l : ℕ} {onto : Val f → Val f} {ts rest : List Token} (none : Val f) → Repeats f l onto ts rest
+    → Passes (form f l ∷ []) [] (λ _. (none, tt)) rest rest → Skips (form f l ∷ []) (onto none, tt) ts rest
+repeats_done none r d = record { passes = passes_then r.passes d }
+
+pub repeats_halts : {f : Form} {l : ℕ} {onto : Val f → Val f} {ts mid : List Token} {stop : Stop} → Repeats f l onto ts mid → HaltsIn f l mid stop → HaltsIn f l ts stop
+repeats_halts r h = halts_past r.passes h
+
+-- The names so far, behind those before.
+pub record Names (before all : List Name) (ts rest : List Token) : Type 0 where
+  pub read : List Name
+  pub all_names : all ≡ before ++ read
+  pub repeats : Repeats g.names 0 (λ more. read ++ more) ts rest
+
+pub names_begun : (names : List Name) (ts : List Token) → Names names names ts ts
+names_begun names ts = record { read = []; all_names = sym (append_nil names); repeats = repeats_begun g.names 0 (λ more. [] ++ more) ts (λ v. refl) }
+
+pub names_more : {before all new : List Name} {next : Name} {ts mid rest : List Token} → Names before all ts mid → name_first mid ≡ true
+    → Reads (kept_token any_name ∷ []) (next, tt) mid rest → new ≡ all ++ next ∷ [] → Names before new ts rest
+names_more {before} {all} {new} {next} {ts} {mid} {rest} n f r e = record {
+  read = n.read ++ next ∷ [];
+  all_names = e ∙ ap (λ (z : List Name). z ++ next ∷ []) n.all_names ∙ append_assoc before n.read (next ∷ []);
+  repeats = repeats_more (λ more. (n.read ++ next ∷ []) ++ more) n.repeats (one mid rest f r) (λ more. sym (append_assoc n.read (next ∷ []) more));
+}
+  where
+    one : (mid rest : List Token) → name_first mid ≡ true → Reads (kept_token any_name ∷ []) (next, tt) mid rest → Repeats g.names 0 (λ more. next ∷ more) mid rest
+    one mid rest f r = record { passes = passes_then (line_passes g.names 0 _ (inr (inl refl)) (m.more_names mid f)) (beside (form g.names 0 ∷ []) r.passes) }
+
+pub names_done : {before all : List Name} {ts rest : List Token} → Names before all ts rest → name_first rest ≡ false → ReadsNames before all ts rest
+names_done {before} {all} {ts} {rest} n f = record {
+  more = n.read;
+  all_names = n.all_names;
+  skips = subst (λ (z : List Name). Skips (form g.names 0 ∷ []) (z, tt) ts rest) (append_nil n.read)
+      (repeats_done [] n.repeats (left_out g.names 0 _ (inl refl) (m.no_names rest f)));
+}
+
+pub names_halt : {before all : List Name} {ts mid : List Token} {stop : Stop} → Names before all ts mid → name_first mid ≡ true
+    → Halts (kept_token any_name ∷ []) mid stop → HaltsIn g.names 0 ts stop
+names_halt {before} {all} {ts} {mid} n f h =
+    repeats_halts n.repeats (halts_there (form g.names 0 ∷ []) (kept_token any_name ∷ form g.names 0 ∷ []) (m.more_names mid f) (halts_first (form g.names 0 ∷ []) h))
+
+-- ---- a part, behind its dot
+
+module _ {i : ℕ} {ts a b : List Token} (r : Reads (token (sign signs.OpenSquare) ∷ []) tt ts a) (n : Reads (kept_token any_number ∷ []) (i, tt) a b) where
+  pub part_index : (at : Place) {rest : List Token} → NotFirst (toks.Sign signs.DotDot) b → Reads (token (sign signs.CloseSquare) ∷ []) tt b rest
+      → ReadsPart at (part_of.Index i at) ts rest
+  part_index at k q = record {
+    first = i;
+    last = None;
+    is = refl;
+    reads = and_then r (and_then n (by_pieces g.part_end 0 _ (inl refl) (m.as_part_end b k) q));
+  }
+
+  pub part_slice : (at : Place) {by : Place} {j : ℕ} {c d rest : List Token} → Heads (toks.Sign signs.DotDot) by b c
+      → Reads (kept_token any_number ∷ []) (j, tt) c d → Reads (token (sign signs.CloseSquare) ∷ []) tt d rest → ReadsPart at (part_of.Slice i j at) ts rest
+  part_slice at {by} {j} k o q = record {
+    first = i;
+    last = Some j;
+    is = refl;
+    reads = and_then r (and_then n (by_token g.part_end 0 _ (inr (inl refl)) k refl refl refl (and_then (a_sign k) (and_then o q))));
+  }
+
+  in_end : {stop : Stop} → HaltsIn g.part_end 0 b stop → Halts in_part ts stop
+  in_end h = halts_behind (form g.part_end 0 ∷ []) (and_then r n) h
+
+  pub part_unclosed : {stop : Stop} → NotFirst (toks.Sign signs.DotDot) b → Halts (token (sign signs.CloseSquare) ∷ []) b stop → Halts in_part ts stop
+  part_unclosed k h = in_end (halts_by_pieces g.part_end 0 _ (inl refl) (m.as_part_end b k) h)
+
+-- The parts so far.
+pub record Parts (read : List Part) (ts rest : List Token) : Type 0 where
+  pub repeats : Repeats g.parts 0 (λ more. read ++ more) ts rest
+
+pub parts_begun : (items : List Part) (ts : List Token) → items ≡ [] → Parts items ts ts
+parts_begun items ts e =
+    subst (λ (z : List Part). Parts z ts ts) (sym e) (record { repeats = repeats_begun g.parts 0 (λ more. [] ++ more) ts (λ v. refl) })
+
+pub parts_more : {items new : List Part} {next : Part} {at : Place} {ts mid behind rest : List Token} → Parts items ts mid
+    → Heads (toks.Sign signs.Dot) at mid behind → ReadsPart at next behind rest → new ≡ items ++ next ∷ [] → Parts new ts rest
+parts_more {items} {new} {next} {at} {ts} {mid} {behind} {rest} r h p e =
+    subst (λ (z : List Part). Parts z ts rest) (sym e)
+    (record { repeats = repeats_more (λ more. (items ++ next ∷ []) ++ more) r.repeats one (λ more. sym (append_assoc items (next ∷ []) more)) })
+  where
+    a_part : ReadsForm g.part 0 next mid rest
+    a_part =
+        subst (λ (z : Part). ReadsForm g.part 0 z mid rest) (sym p.is)
+        (by_token g.part 0 _ (inl refl) h refl refl refl
+        (and_then (one_token h (kept_passes (sign signs.Dot) refl h (kept_goes (sign signs.Dot) refl refl h))) p.reads))
+
+    one : Repeats g.parts 0 (λ more. next ∷ more) mid rest
+    one = record {
+      passes = passes_then (line_passes g.parts 0 _ (inr (inl refl)) (by_first g.parts 0 _ (inr (inl refl)) h refl refl refl)) (beside (form g.parts 0 ∷ []) a_part.passes);
+    }
+
+pub parts_halt : {items : List Part} {at : Place} {ts mid behind : List Token} {stop : Stop} → Parts items ts mid → Heads (toks.Sign signs.Dot) at mid behind
+    → Halts in_part behind stop → HaltsIn g.parts 0 ts stop
+parts_halt r h k =
+    repeats_halts r.repeats (halts_by_token g.parts 0 _ (inr (inl refl)) h refl refl refl (halts_first (form g.parts 0 ∷ [])
+    (halts_by_token g.part 0 _ (inl refl) h refl refl refl
+    (halts_behind in_part (one_token h (kept_passes (sign signs.Dot) refl h (kept_goes (sign signs.Dot) refl refl h))) k))))
+
+pub parts_done : {items : List Part} {ts rest : List Token} → Parts items ts rest → NotFirst (toks.Sign signs.Dot) rest → Skips (form g.parts 0 ∷ []) (items, tt) ts rest
+parts_done {items} {ts} {rest} r k =
+    subst (λ (z : List Part). Skips (form g.parts 0 ∷ []) (z, tt) ts rest) (append_nil items)
+    (repeats_done [] r.repeats (left_out g.parts 0 _ (inl refl) (m.no_parts rest k)))
+
+-- ---- chains
+
+-- A chain before its next element: what was read so far stands in front of it and of what more comes. The symbols `es` are left
+-- with the next element, the rest of the chain and `end`.
+pub record Chain (es : Stack) (one more : Symbol) (end : Stack) (turn : Vals (one ∷ more ∷ end) → Vals es) (ts behind : List Token) : Type 0 where
+  pub passes : Passes es (one ∷ more ∷ end) turn ts behind
+
+pub chain_halts : {es : Stack} {one more : Symbol} {end : Stack} {turn : Vals (one ∷ more ∷ end) → Vals es} {ts behind : List Token} {stop : Stop}
+    → Chain es one more end turn ts behind → Halts (one ∷ []) behind stop → Halts es ts stop
+chain_halts {more = more} {end = end} c h = halts_past c.passes (halts_first (more ∷ end) h)
+
+map_push : {A B : Type 0} (f : A → B) (xs : List A) (x : A) → map f (xs ++ x ∷ []) ≡ map f xs ++ f x ∷ []
+map_push f [] x = refl
+map_push f (y ∷ xs) x = ap (λ z. f y ∷ z) (map_push f xs x)
+
+-- the trees of terms, where one was pushed
+pub pushed : (items : List Term) (t : Term) {new : List Term} → new ≡ items ++ t ∷ [] → map tree_of new ≡ map tree_of items ++ tree_of t ∷ []
+pushed items t {new} e = ap (map tree_of) e ∙ map_push tree_of items t
+
+-- ---- sums
+
+abbrev pub InSum : ℕ → List Tree → List Token → List Token → Type 0
+InSum l read ts behind = Chain (form g.sum l ∷ []) (form g.product l) (form g.sums l) [] (λ us. (xors (trees (read ++ us.0 ∷ us.1.0)), tt)) ts behind
+
+another_product : (l : ℕ) {at : Place} {ts rest : List Token} → Heads (toks.Sign signs.Xor) at ts rest
+    → Passes (form g.sums l ∷ []) (form g.product l ∷ form g.sums l ∷ []) (λ us. (us.0 ∷ us.1.0, tt)) ts rest
+another_product l h =
+    passes_then (line_passes g.sums l _ (inr (inl refl)) (by_first g.sums l _ (inr (inl refl)) h refl refl refl))
+    (beside (form g.product l ∷ form g.sums l ∷ []) (a_sign h).passes)
+
+-- A chain has begun: the first element was read, and a sign stood behind it.
+pub sum_begun : (l : ℕ) {t : Term} {items : List Term} {at : Place} {ts rest behind : List Token} → ReadsForm g.product l (tree_of t) ts rest
+    → Heads (toks.Sign signs.Xor) at rest behind → items ≡ t ∷ [] → InSum l (map tree_of items) ts behind
+sum_begun l {t} {items} {at} {ts} {rest} {behind} r h e =
+    subst (λ (z : List Term). InSum l (map tree_of z) ts behind) (sym e) (record {
+      passes = passes_then (line_passes g.sum l _ (inl refl) (m.as_sum l ts)) (passes_then (beside (form g.sums l ∷ []) r.passes) (another_product l h));
+    })
+
+pub sum_more : (l : ℕ) (items : List Term) (t : Term) {new : List Term} {at : Place} {ts behind rest mid : List Token} → InSum l (map tree_of items) ts behind
+    → ReadsForm g.product l (tree_of t) behind rest → Heads (toks.Sign signs.Xor) at rest mid → new ≡ items ++ t ∷ [] → InSum l (map tree_of new) ts mid
+sum_more l items t {new} {at} {ts} {behind} {rest} {mid} c r h e =
+    subst (λ (z : List Tree). InSum l z ts mid) (sym (pushed items t e)) (record {
+      passes = turned _ (λ us. ap (λ (z : List Tree). let v : Tree × Unit {0} = (xors (trees z), tt) in v) (sym (append_assoc (map tree_of items) (tree_of t ∷ []) (us.0 ∷ us.1.0))))
+          (passes_then c.passes (passes_then (beside (form g.sums l ∷ []) r.passes) (another_product l h)));
+    })
+
+pub sum_done : (l : ℕ) (items : List Term) (t : Term) {new : List Term} {whole : Tree} {ts behind rest : List Token} → InSum l (map tree_of items) ts behind
+    → ReadsForm g.product l (tree_of t) behind rest → NotFirst (toks.Sign signs.Xor) rest → new ≡ items ++ t ∷ []
+    → whole ≡ xors (trees (map tree_of new)) → ReadsForm g.sum l whole ts rest
+sum_done l items t {new} {whole} {ts} {behind} {rest} c r k e w =
+    subst (λ (z : Tree). ReadsForm g.sum l z ts rest) (sym (w ∙ ap (λ (z : List Tree). xors (trees z)) (pushed items t e)))
+    (passes_reads c.passes (and_maybe r (skips (left_out g.sums l _ (inl refl) (m.no_sums l rest k)))))
+
+pub sum_alone : (l : ℕ) {t : Tree} {ts rest : List Token} → ReadsForm g.product l t ts rest → NotFirst (toks.Sign signs.Xor) rest → ReadsForm g.sum l t ts rest
+sum_alone l {t} {ts} {rest} r k = by_pieces g.sum l _ (inl refl) (m.as_sum l ts) (and_maybe r (skips (left_out g.sums l _ (inl refl) (m.no_sums l rest k))))
+
+pub sum_no_first : (l : ℕ) {ts : List Token} {stop : Stop} → HaltsIn g.product l ts stop → HaltsIn g.sum l ts stop
+sum_no_first l {ts} h = halts_by_pieces g.sum l _ (inl refl) (m.as_sum l ts) (halts_first (form g.sums l ∷ []) h)
+
+-- ---- products
+
+abbrev pub InProduct : ℕ → List Tree → List Token → List Token → Type 0
+InProduct l read ts behind = Chain (form g.product l ∷ []) (form g.application l) (form g.products l) [] (λ us. (ands (trees (read ++ us.0 ∷ us.1.0)), tt)) ts behind
+
+another_application : (l : ℕ) {at : Place} {ts rest : List Token} → Heads (toks.Sign signs.And) at ts rest
+    → Passes (form g.products l ∷ []) (form g.application l ∷ form g.products l ∷ []) (λ us. (us.0 ∷ us.1.0, tt)) ts rest
+another_application l h =
+    passes_then (line_passes g.products l _ (inr (inl refl)) (by_first g.products l _ (inr (inl refl)) h refl refl refl))
+    (beside (form g.application l ∷ form g.products l ∷ []) (a_sign h).passes)
+
+pub product_begun : (l : ℕ) {t : Term} {items : List Term} {at : Place} {ts rest behind : List Token} → ReadsForm g.application l (tree_of t) ts rest
+    → Heads (toks.Sign signs.And) at rest behind → items ≡ t ∷ [] → InProduct l (map tree_of items) ts behind
+product_begun l {t} {items} {at} {ts} {rest} {behind} r h e =
+    subst (λ (z : List Term). InProduct l (map tree_of z) ts behind) (sym e) (record {
+      passes = passes_then (line_passes g.product l _ (inl refl) (m.as_product l ts)) (passes_then (beside (form g.products l ∷ []) r.passes) (another_application l h));
+    })
+
+pub product_more : (l : ℕ) (items : List Term) (t : Term) {new : List Term} {at : Place} {ts behind rest mid : List Token} → InProduct l (map tree_of items) ts behind
+    → ReadsForm g.application l (tree_of t) behind rest → Heads (toks.Sign signs.And) at rest mid → new ≡ items ++ t ∷ [] → InProduct l (map tree_of new) ts mid
+product_more l items t {new} {at} {ts} {behind} {rest} {mid} c r h e =
+    subst (λ (z : List Tree). InProduct l z ts mid) (sym (pushed items t e)) (record {
+      passes = turned _ (λ us. ap (λ (z : List Tree). let v : Tree × Unit {0} = (ands (trees z), tt) in v) (sym (append_assoc (map tree_of items) (tree_of t ∷ []) (us.0 ∷ us.1.0))))
+          (passes_then c.passes (passes_then (beside (form g.products l ∷ []) r.passes) (another_application l h)));
+    })
+
+pub product_done : (l : ℕ) (items : List Term) (t : Term) {new : List Term} {whole : Tree} {ts behind rest : List Token} → InProduct l (map tree_of items) ts behind
+    → ReadsForm g.application l (tree_of t) behind rest → NotFirst (toks.Sign signs.And) rest → new ≡ items ++ t ∷ []
+    → whole ≡ ands (trees (map tree_of new)) → ReadsForm g.product l whole ts rest
+product_done l items t {new} {whole} {ts} {behind} {rest} c r k e w =
+    subst (λ (z : Tree). ReadsForm g.product l z ts rest) (sym (w ∙ ap (λ (z : List Tree). ands (trees z)) (pushed items t e)))
+    (passes_reads c.passes (and_maybe r (skips (left_out g.products l _ (inl refl) (m.no_products l rest k)))))
+
+pub product_alone : (l : ℕ) {t : Tree} {ts rest : List Token} → ReadsForm g.application l t ts rest → NotFirst (toks.Sign signs.And) rest → ReadsForm g.product l t ts rest
+product_alone l {t} {ts} {rest} r k =
+    by_pieces g.product l _ (inl refl) (m.as_product l ts) (and_maybe r (skips (left_out g.products l _ (inl refl) (m.no_products l rest k))))
+
+pub product_no_first : (l : ℕ) {ts : List Token} {stop : Stop} → HaltsIn g.application l ts stop → HaltsIn g.product l ts stop
+product_no_first l {ts} h = halts_by_pieces g.product l _ (inl refl) (m.as_product l ts) (halts_first (form g.products l ∷ []) h)
+
+-- ---- an atom and its arguments
+
+abbrev pub InArguments : ℕ → Tree → List Tree → List Token → List Token → Type 0
+InArguments l head read ts behind = Chain (in_application l) (form g.atom l) (form g.atoms l) [] (λ us. (head, (read ++ us.0 ∷ us.1.0, tt))) ts behind
+
+another_atom : (l : ℕ) (ts : List Token) → base_first ts ≡ true
+    → Passes (form g.atoms l ∷ []) (form g.atom l ∷ form g.atoms l ∷ []) (λ us. (us.0 ∷ us.1.0, tt)) ts ts
+another_atom l ts h = line_passes g.atoms l _ (inr (inl refl)) (m.more_atoms l ts h)
+
+pub arguments_begun : (l : ℕ) (head held : Term) {items : List Term} {ts rest : List Token} → ReadsForm g.atom l (tree_of head) ts rest
+    → base_first rest ≡ true → items ≡ [] → held ≡ head → InArguments l (tree_of held) (map tree_of items) ts rest
+arguments_begun l head held {items} {ts} {rest} r h e w =
+    subst (λ (z : List Term). InArguments l (tree_of held) (map tree_of z) ts rest) (sym e)
+    (subst (λ (z : Term). InArguments l (tree_of z) [] ts rest) (sym w)
+    (record { passes = passes_then (beside (form g.atoms l ∷ []) r.passes) (another_atom l rest h) }))
+
+pub arguments_more : (l : ℕ) (head : Tree) (items : List Term) (t : Term) {new : List Term} {ts behind rest : List Token} → InArguments l head (map tree_of items) ts behind
+    → ReadsForm g.atom l (tree_of t) behind rest → base_first rest ≡ true → new ≡ items ++ t ∷ [] → InArguments l head (map tree_of new) ts rest
+arguments_more l head items t {new} {ts} {behind} {rest} c r h e =
+    subst (λ (z : List Tree). InArguments l head z ts rest) (sym (pushed items t e)) (record {
+      passes = turned _ (λ us. ap (λ (z : List Tree). let v : Tree × (List Tree × Unit {0}) = (head, (z, tt)) in v) (sym (append_assoc (map tree_of items) (tree_of t ∷ []) (us.0 ∷ us.1.0))))
+          (passes_then c.passes (passes_then (beside (form g.atoms l ∷ []) r.passes) (another_atom l rest h)));
+    })
+
+apply_more : (head : Tree) (read : List Tree) (t : Tree) → apply head (trees (read ++ t ∷ [])) ≡ apply_of head (read ++ t ∷ [])
+apply_more head [] t = refl
+apply_more head (x ∷ xs) t = refl
+
+pub arguments_done : (l : ℕ) (head : Tree) (items : List Term) (t : Term) {new : List Term} {whole : Tree} {ts behind rest : List Token} → InArguments l head (map tree_of items) ts behind
+    → ReadsForm g.atom l (tree_of t) behind rest → base_first rest ≡ false → new ≡ items ++ t ∷ []
+    → whole ≡ apply head (trees (map tree_of new)) → ReadsAtoms l whole ts rest
+arguments_done l head items t {new} {whole} {ts} {behind} {rest} c r k e w = record {
+  head = head;
+  more = map tree_of items ++ tree_of t ∷ [];
+  is = w ∙ ap (λ (z : List Tree). apply head (trees z)) (pushed items t e) ∙ apply_more head (map tree_of items) (tree_of t);
+  reads = passes_reads c.passes (and_maybe r (skips (left_out g.atoms l _ (inl refl) (m.no_atoms l rest k))));
+}
+
+-- an atom with no argument
+pub atom_alone : (l : ℕ) {t : Tree} {ts rest : List Token} → ReadsForm g.atom l t ts rest → base_first rest ≡ false → ReadsAtoms l t ts rest
+atom_alone l {t} {ts} {rest} r k = record {
+  head = t;
+  more = [];
+  is = refl;
+  reads = and_maybe r (skips (left_out g.atoms l _ (inl refl) (m.no_atoms l rest k)));
+}
+
+-- ---- the elements of a register
+
+-- what is read of a register between its brackets
+abbrev between : ℕ → Stack
+between l = form g.expression l ∷ form g.elements l ∷ []
+
+-- the elements so far, and more
+abbrev elements_of : List Tree → Tree → List Tree → Tree × (List Tree × Unit {0})
+elements_of [] next more = (next, (more, tt))
+elements_of (first ∷ read) next more = (first, (read ++ next ∷ more, tt))
+
+elements_more : (read : List Tree) (t next : Tree) (more : List Tree) → elements_of read t (next ∷ more) ≡ elements_of (read ++ t ∷ []) next more
+elements_more [] t next more = refl
+elements_more (first ∷ read) t next more =
+    ap (λ (z : List Tree). let v : Tree × (List Tree × Unit {0}) = (first, (z, tt)) in v) (sym (append_assoc read (t ∷ []) (next ∷ more)))
+
+pub record InRegister (l : ℕ) (read : List Tree) (ts behind : List Token) : Type 0 where
+  pub mid : List Token
+  pub bracket : Reads (token (sign signs.OpenSquare) ∷ []) tt ts mid
+  pub chain : Chain (between l) (form g.expression l) (form g.elements l) [] (λ us. elements_of read us.0 us.1.0) mid behind
+
+another_element : (l : ℕ) {at : Place} {ts rest : List Token} → Heads (toks.Sign signs.Semi) at ts rest
+    → Passes (form g.elements l ∷ []) (form g.expression l ∷ form g.elements l ∷ []) (λ us. (us.0 ∷ us.1.0, tt)) ts rest
+another_element l h =
+    passes_then (line_passes g.elements l _ (inr (inl refl)) (by_first g.elements l _ (inr (inl refl)) h refl refl refl))
+    (beside (form g.expression l ∷ form g.elements l ∷ []) (a_sign h).passes)
+
+pub register_begun : (l : ℕ) {items : List Term} {ts rest : List Token} → Reads (token (sign signs.OpenSquare) ∷ []) tt ts rest
+    → items ≡ [] → InRegister l (map tree_of items) ts rest
+register_begun l {items} {ts} {rest} r e =
+    subst (λ (z : List Term). InRegister l (map tree_of z) ts rest) (sym e)
+    (record { mid = rest; bracket = r; chain = record { passes = turned _ (λ us. refl) (stays (between l) rest) } })
+
+pub register_more : (l : ℕ) (items : List Term) (t : Term) {new : List Term} {at : Place} {ts behind rest mid : List Token} → InRegister l (map tree_of items) ts behind
+    → ReadsForm g.expression l (tree_of t) behind rest → Heads (toks.Sign signs.Semi) at rest mid → new ≡ items ++ t ∷ [] → InRegister l (map tree_of new) ts mid
+register_more l items t {new} {at} {ts} {behind} {rest} {mid} c r h e =
+    subst (λ (z : List Tree). InRegister l z ts mid) (sym (pushed items t e)) (record {
+      mid = c.mid;
+      bracket = c.bracket;
+      chain = record {
+        passes = turned _ (λ us. elements_more (map tree_of items) (tree_of t) us.0 us.1.0)
+            (passes_then c.chain.passes (passes_then (beside (form g.elements l ∷ []) r.passes) (another_element l h)));
+      };
+    })
+
+read_register : (l : ℕ) (at : Place) (read : List Tree) (t whole : Tree) (ts rest : List Token) → whole ≡ reg (trees (read ++ t ∷ [])) at
+    → Reads (in_register l) (elements_of read t []) ts rest → ReadsRegister l at whole ts rest
+read_register l at [] t whole ts rest e r = record { first = t; more = []; is = e; reads = r }
+read_register l at (x ∷ xs) t whole ts rest e r = record { first = x; more = xs ++ t ∷ []; is = e; reads = r }
+
+pub register_done : (l : ℕ) (at : Place) (items : List Term) (t : Term) {new : List Term} {whole : Tree} {ts behind rest final : List Token} → InRegister l (map tree_of items) ts behind
+    → ReadsForm g.expression l (tree_of t) behind rest → NotFirst (toks.Sign signs.Semi) rest → new ≡ items ++ t ∷ []
+    → Reads (token (sign signs.CloseSquare) ∷ []) tt rest final → whole ≡ reg (trees (map tree_of new)) at → ReadsRegister l at whole ts final
+register_done l at items t {new} {whole} {ts} {behind} {rest} {final} c r k e q w =
+    read_register l at (map tree_of items) (tree_of t) whole ts final (w ∙ ap (λ (z : List Tree). reg (trees z) at) (pushed items t e))
+    (and_then c.bracket (and_then (passes_reads c.chain.passes (and_maybe r (skips (left_out g.elements l _ (inl refl) (m.no_elements l rest k))))) q))
+
+pub register_halts : (l : ℕ) {read : List Tree} {ts behind : List Token} {stop : Stop} → InRegister l read ts behind → HaltsIn g.expression l behind stop
+    → Halts (in_register l) ts stop
+register_halts l c h =
+    halts_behind (form g.expression l ∷ form g.elements l ∷ token (sign signs.CloseSquare) ∷ []) c.bracket
+    (halts_first (token (sign signs.CloseSquare) ∷ []) (chain_halts c.chain h))
+
+pub register_unclosed : (l : ℕ) {read : List Tree} {t : Tree} {ts behind rest : List Token} {stop : Stop} → InRegister l read ts behind
+    → ReadsForm g.expression l t behind rest → NotFirst (toks.Sign signs.Semi) rest → Halts (token (sign signs.CloseSquare) ∷ []) rest stop
+    → Halts (in_register l) ts stop
+register_unclosed l {read} {t} {ts} {behind} {rest} c r k h =
+    halts_behind (token (sign signs.CloseSquare) ∷ [])
+    (and_then c.bracket (passes_reads c.chain.passes (and_maybe r (skips (left_out g.elements l _ (inl refl) (m.no_elements l rest k)))))) h
+
+-- ---- the items of a block
+
+-- The items so far.
+pub record InBlock (l : ℕ) (read : List ItemTree) (ts rest : List Token) : Type 0 where
+  pub repeats : Repeats g.body l (λ b. record { items = read ++ b.items; last = b.last }) ts rest
+
+pub block_begun : (l : ℕ) (ts : List Token) {items : List Item} → items ≡ [] → InBlock l (map item_tree_of items) ts ts
+block_begun l ts {items} e =
+    subst (λ (z : List Item). InBlock l (map item_tree_of z) ts ts) (sym e)
+    (record { repeats = repeats_begun g.body l (λ b. record { items = [] ++ b.items; last = b.last }) ts (λ v. refl) })
+
+pub block_more : (l : ℕ) (items : List Item) (item : Item) {new : List Item} {ts mid rest : List Token} → InBlock l (map item_tree_of items) ts mid
+    → ReadsItem l (item_tree_of item) mid rest → new ≡ items ++ item ∷ [] → InBlock l (map item_tree_of new) ts rest
+block_more l items item {new} {ts} {mid} {rest} b r e =
+    subst (λ (z : List ItemTree). InBlock l z ts rest) (sym (ap (map item_tree_of) e ∙ map_push item_tree_of items item)) (record {
+      repeats = repeats_more _ b.repeats one (λ v.
+          ap (λ (z : List ItemTree). let b : BodyTree = record { items = z; last = v.last } in b) (sym (append_assoc (map item_tree_of items) (item_tree_of item ∷ []) v.items)));
+    })
+  where
+    one : Repeats g.body l (in_front (item_tree_of item)) mid rest
+    one = record { passes = r.passes }
+
+pub block_done : (l : ℕ) (at : Place) {read : List ItemTree} {last whole : Tree} {ts mid rest : List Token} → InBlock l read ts mid
+    → ReadsForm g.body l (record { items = []; last = last }) mid rest → whole ≡ block (item_trees read) last at → ReadsBlock l at whole ts rest
+block_done l at {read} {last} {whole} b r w = record {
+  inside = record { items = read ++ []; last = last };
+  is = w ∙ ap (λ (z : List ItemTree). block (item_trees z) last at) (sym (append_nil read));
+  reads = passes_reads b.repeats.passes r;
+}
+
+pub block_halts : (l : ℕ) {read : List ItemTree} {ts mid : List Token} {stop : Stop} → InBlock l read ts mid → HaltsIn g.body l mid stop → HaltsIn g.body l ts stop
+block_halts l b h = repeats_halts b.repeats h
+
+-- ---- the rest of a function behind its `fun`, and of a binding behind its `let`
+
+pub function_reads : (l : ℕ) (at : Place) {t : Tree} {first : Name} {before all : List Name} {inner : Tree} {ts a b c rest : List Token}
+    → Reads (kept_token any_name ∷ []) (first, tt) ts a → before ≡ first ∷ [] → ReadsNames before all a b
+    → Reads (token (sign signs.Arrow) ∷ []) tt b c → ReadsForm g.expression l inner c rest → t ≡ function all inner at → ReadsFunction l at t ts rest
+function_reads l at {t} {first} {before} {all} {inner} r e n k q w = record {
+  first = first;
+  more = n.more;
+  inner = inner;
+  is = w ∙ ap (λ (z : List Name). function z inner at) (n.all_names ∙ ap (λ (z : List Name). z ++ n.more) e);
+  reads = and_then (and_then (and_maybe r n.skips) k) q;
+}
+
+module _ (l : ℕ) {first : Name} {ts a : List Token} (r : Reads (kept_token any_name ∷ []) (first, tt) ts a) where
+  pub function_in_names : {stop : Stop} → HaltsIn g.names 0 a stop → Halts (in_function l) ts stop
+  function_in_names h = halts_first (token (sign signs.Arrow) ∷ form g.expression l ∷ []) (halts_behind (form g.names 0 ∷ []) r h)
+
+  pub function_no_arrow : {before all : List Name} {b : List Token} {stop : Stop} → ReadsNames before all a b → Halts (token (sign signs.Arrow) ∷ []) b stop
+      → Halts (in_function l) ts stop
+  function_no_arrow n h = halts_first (form g.expression l ∷ []) (halts_behind (token (sign signs.Arrow) ∷ []) (and_maybe r n.skips) h)
+
+  pub function_in_body : {before all : List Name} {b c : List Token} {stop : Stop} → ReadsNames before all a b → Reads (token (sign signs.Arrow) ∷ []) tt b c
+      → HaltsIn g.expression l c stop → Halts (in_function l) ts stop
+  function_in_body n k h = halts_behind (form g.expression l ∷ []) (and_then (and_maybe r n.skips) k) h
+
+  pub binding_reads : {item : ItemTree} {before all : List Name} {inner : Tree} {b c d rest : List Token} → before ≡ [] → ReadsNames before all a b
+      → Reads (token (sign signs.Equal) ∷ []) tt b c → ReadsForm g.expression l inner c d → Reads (token (sign signs.Semi) ∷ []) tt d rest
+      → item ≡ bind first (bound_of all inner) → ReadsBinding l item ts rest
+  binding_reads {item} {before} {all} {inner} e n k q z w = record {
+    bound = first;
+    more = n.more;
+    inner = inner;
+    is = w ∙ ap (λ (x : List Name). bind first (bound_of x inner)) (n.all_names ∙ ap (λ (x : List Name). x ++ n.more) e);
+    reads = and_then (and_then (and_then (and_maybe r n.skips) k) q) z;
+  }
+
+  pub binding_in_names : {stop : Stop} → HaltsIn g.names 0 a stop → Halts (in_binding l) ts stop
+  binding_in_names h = halts_first (token (sign signs.Equal) ∷ form g.expression l ∷ token (sign signs.Semi) ∷ []) (halts_behind (form g.names 0 ∷ []) r h)
+
+  pub binding_no_equal : {before all : List Name} {b : List Token} {stop : Stop} → ReadsNames before all a b → Halts (token (sign signs.Equal) ∷ []) b stop
+      → Halts (in_binding l) ts stop
+  binding_no_equal n h = halts_first (form g.expression l ∷ token (sign signs.Semi) ∷ []) (halts_behind (token (sign signs.Equal) ∷ []) (and_maybe r n.skips) h)
+
+  pub binding_in_value : {before all : List Name} {b c : List Token} {stop : Stop} → ReadsNames before all a b → Reads (token (sign signs.Equal) ∷ []) tt b c
+      → HaltsIn g.expression l c stop → Halts (in_binding l) ts stop
+  binding_in_value n k h = halts_first (token (sign signs.Semi) ∷ []) (halts_behind (form g.expression l ∷ []) (and_then (and_maybe r n.skips) k) h)
+
+  pub binding_no_semi : {before all : List Name} {inner : Tree} {b c d : List Token} {stop : Stop} → ReadsNames before all a b
+      → Reads (token (sign signs.Equal) ∷ []) tt b c → ReadsForm g.expression l inner c d → Halts (token (sign signs.Semi) ∷ []) d stop → Halts (in_binding l) ts stop
+  binding_no_semi n k q h = halts_behind (token (sign signs.Semi) ∷ []) (and_then (and_then (and_maybe r n.skips) k) q) h
+
+-- ---- applications
+
+module _ (l : ℕ) {at : Place} {ts mid : List Token} (h : Heads (toks.Word words.Clean) at ts mid) where
+  pub application_clean : {t whole : Tree} {rest : List Token} → ReadsForm g.atom l t mid rest → whole ≡ clean t at → ReadsForm g.application l whole ts rest
+  application_clean {t} {whole} {rest} r w =
+      subst (λ (z : Tree). ReadsForm g.application l z ts rest) (sym w)
+      (by_token g.application l _ (inl refl) h refl refl refl (and_then (a_word words.Clean h) r))
+
+  pub clean_halts : {stop : Stop} → HaltsIn g.atom l mid stop → HaltsIn g.application l ts stop
+  clean_halts k = halts_by_token g.application l _ (inl refl) h refl refl refl (halts_behind (form g.atom l ∷ []) (a_word words.Clean h) k)
+
+module _ (l : ℕ) {at : Place} {ts mid : List Token} (h : Heads (toks.Word words.Assert) at ts mid) where
+  pub application_assert : {t whole : Tree} {rest : List Token} → ReadsForm g.atom l t mid rest → whole ≡ assert t at → ReadsForm g.application l whole ts rest
+  application_assert {t} {whole} {rest} r w =
+      subst (λ (z : Tree). ReadsForm g.application l z ts rest) (sym w)
+      (by_token g.application l _ (inr (inl refl)) h refl refl refl (and_then (a_word words.Assert h) r))
+
+  pub assert_halts : {stop : Stop} → HaltsIn g.atom l mid stop → HaltsIn g.application l ts stop
+  assert_halts k = halts_by_token g.application l _ (inr (inl refl)) h refl refl refl (halts_behind (form g.atom l ∷ []) (a_word words.Assert h) k)
+
+module _ (l : ℕ) {at : Place} {ts a : List Token} (h : Heads (toks.Word words.Append) at ts a) where
+  pub application_append : {t u whole : Tree} {b rest : List Token} → ReadsForm g.atom l t a b → ReadsForm g.atom l u b rest → whole ≡ append t u at
+      → ReadsForm g.application l whole ts rest
+  application_append {t} {u} {whole} {b} {rest} r q w =
+      subst (λ (z : Tree). ReadsForm g.application l z ts rest) (sym w)
+      (by_token g.application l _ (inr (inr (inl refl))) h refl refl refl (and_then (a_word words.Append h) (and_then r q)))
+
+  in_append : {stop : Stop} → Halts (form g.atom l ∷ form g.atom l ∷ []) a stop → HaltsIn g.application l ts stop
+  in_append k =
+      halts_by_token g.application l _ (inr (inr (inl refl))) h refl refl refl (halts_behind (form g.atom l ∷ form g.atom l ∷ []) (a_word words.Append h) k)
+
+  pub append_halts : {stop : Stop} → HaltsIn g.atom l a stop → HaltsIn g.application l ts stop
+  append_halts k = in_append (halts_first (form g.atom l ∷ []) k)
+
+  pub append_halts_second : {t : Tree} {b : List Token} {stop : Stop} → ReadsForm g.atom l t a b → HaltsIn g.atom l b stop → HaltsIn g.application l ts stop
+  append_halts_second r k = in_append (halts_behind (form g.atom l ∷ []) r k)
+
+module _ (l : ℕ) {at : Place} {ts a : List Token} (h : Heads (toks.Word words.Rotate) at ts a) where
+  pub application_rotate : {by : ℕ} {t whole : Tree} {b rest : List Token} → Reads (kept_token any_number ∷ []) (by, tt) a b → ReadsForm g.atom l t b rest
+      → whole ≡ rotate by t at → ReadsForm g.application l whole ts rest
+  application_rotate {by} {t} {whole} {b} {rest} r q w =
+      subst (λ (z : Tree). ReadsForm g.application l z ts rest) (sym w)
+      (by_token g.application l _ (inr (inr (inr (inl refl)))) h refl refl refl (and_then (a_word words.Rotate h) (and_then r q)))
+
+  in_rotate : {stop : Stop} → Halts (kept_token any_number ∷ form g.atom l ∷ []) a stop → HaltsIn g.application l ts stop
+  in_rotate k =
+      halts_by_token g.application l _ (inr (inr (inr (inl refl)))) h refl refl refl
+      (halts_behind (kept_token any_number ∷ form g.atom l ∷ []) (a_word words.Rotate h) k)
+
+  pub rotate_halts : {stop : Stop} → Halts (kept_token any_number ∷ []) a stop → HaltsIn g.application l ts stop
+  rotate_halts k = in_rotate (halts_first (form g.atom l ∷ []) k)
+
+  pub rotate_halts_second : {by : ℕ} {b : List Token} {stop : Stop} → Reads (kept_token any_number ∷ []) (by, tt) a b → HaltsIn g.atom l b stop
+      → HaltsIn g.application l ts stop
+  rotate_halts_second r k = in_rotate (halts_behind (form g.atom l ∷ []) r k)
+
+pub application_plain : (l : ℕ) {t : Tree} {ts rest : List Token} → m.IsPlain ts → ReadsAtoms l t ts rest → ReadsForm g.application l t ts rest
+application_plain l {t} {ts} {rest} p r =
+    subst (λ (z : Tree). ReadsForm g.application l z ts rest) (sym r.is)
+    (by_pieces g.application l _ (inr (inr (inr (inr (inl refl))))) (m.as_application l ts p) r.reads)
+
+pub plain_halts : (l : ℕ) {ts : List Token} {stop : Stop} → m.IsPlain ts → Halts (in_application l) ts stop → HaltsIn g.application l ts stop
+plain_halts l {ts} p h = halts_there (form g.application l ∷ []) (in_application l) (m.as_application l ts p) h
+
+pub atoms_halt : (l : ℕ) {ts : List Token} {stop : Stop} → HaltsIn g.atom l ts stop → Halts (in_application l) ts stop
+atoms_halt l h = halts_first (form g.atoms l ∷ []) h
+
+-- ---- atoms
+
+pub atom_reads : (l : ℕ) {inner whole : Tree} {all : List Part} {ts mid rest : List Token} → ReadsForm g.base l inner ts mid
+    → Skips (form g.parts 0 ∷ []) (all, tt) mid rest → whole ≡ parts_of inner all → ReadsForm g.atom l whole ts rest
+atom_reads l {inner} {whole} {all} {ts} {mid} {rest} r k w =
+    subst (λ (z : Tree). ReadsForm g.atom l z ts rest) (sym w) (by_pieces g.atom l _ (inl refl) (m.as_atom l ts) (and_maybe r k))
+
+pub no_part : (inner : Tree) (all : List Part) → length all ≡ 0 → inner ≡ parts_of inner all
+no_part inner [] e = refl
+no_part inner (p ∷ all) e = absurd (omega (arith, e))
+
+pub some_part : (inner : Tree) (all : List Part) → ¬ (length all ≡ 0) → parts inner all ≡ parts_of inner all
+some_part inner [] e = absurd (e refl)
+some_part inner (p ∷ all) e = refl
+
+pub atom_in_base : (l : ℕ) {ts : List Token} {stop : Stop} → HaltsIn g.base l ts stop → HaltsIn g.atom l ts stop
+atom_in_base l {ts} h = halts_there (form g.atom l ∷ []) (form g.base l ∷ form g.parts 0 ∷ []) (m.as_atom l ts) (halts_first (form g.parts 0 ∷ []) h)
+
+pub atom_in_parts : (l : ℕ) {inner : Tree} {ts mid : List Token} {stop : Stop} → ReadsForm g.base l inner ts mid → HaltsIn g.parts 0 mid stop → HaltsIn g.atom l ts stop
+atom_in_parts l {inner} {ts} r h =
+    halts_there (form g.atom l ∷ []) (form g.base l ∷ form g.parts 0 ∷ []) (m.as_atom l ts) (halts_behind (form g.parts 0 ∷ []) r h)
+
+-- ---- bases
+
+pub base_true : (l : ℕ) {at : Place} {whole : Tree} {ts rest : List Token} → Heads (toks.Word words.True) at ts rest → whole ≡ bool true at → ReadsForm g.base l whole ts rest
+base_true l {at} {whole} {ts} {rest} h w =
+    subst (λ (z : Tree). ReadsForm g.base l z ts rest) (sym w) (by_token g.base l _ (inr (inl refl)) h refl refl refl (a_word words.True h))
+
+pub base_false : (l : ℕ) {at : Place} {whole : Tree} {ts rest : List Token} → Heads (toks.Word words.False) at ts rest → whole ≡ bool false at → ReadsForm g.base l whole ts rest
+base_false l {at} {whole} {ts} {rest} h w =
+    subst (λ (z : Tree). ReadsForm g.base l z ts rest) (sym w) (by_token g.base l _ (inr (inr (inl refl))) h refl refl refl (a_word words.False h))
+
+pub base_use : (l : ℕ) {n : Name} {whole : Tree} {ts rest : List Token} → m.IsUse ts → Reads (kept_token any_name ∷ []) (n, tt) ts rest → whole ≡ used n
+    → ReadsForm g.base l whole ts rest
+base_use l {n} {whole} {ts} {rest} u r w =
+    subst (λ (z : Tree). ReadsForm g.base l z ts rest) (sym w) (by_pieces g.base l _ (inl refl) (m.as_use l ts u) r)
+
+pub base_no_use : (l : ℕ) {ts : List Token} {stop : Stop} → m.IsUse ts → Halts (kept_token any_name ∷ []) ts stop → HaltsIn g.base l ts stop
+base_no_use l {ts} u h = halts_there (form g.base l ∷ []) (kept_token any_name ∷ []) (m.as_use l ts u) h
+
+-- a base that opens a level, with the level inside
+module _ (l : ℕ) {at : Place} {ts mid : List Token} (h : Heads (toks.Word words.Reg) at ts mid) where
+  pub base_register : (inner : ℕ) → inner ≡ l + 1 → {t : Tree} {rest : List Token} → few_levels (l + 1) ≡ true → ReadsRegister inner at t mid rest
+      → ReadsForm g.base l t ts rest
+  base_register inner e {t} {rest} ok r =
+      let r' : ReadsRegister (l + 1) at t mid rest = subst (λ (z : ℕ). ReadsRegister z at t mid rest) e r in
+      subst (λ (z : Tree). ReadsForm g.base l z ts rest) (sym r'.is)
+      (by_token g.base l _ (inr (inr (inr (inl refl)))) h refl refl refl (and_then (opened (word words.Reg) (l + 1) ok h refl refl refl) r'.reads))
+
+  pub register_no_level : few_levels (l + 1) ≡ false → (stop : Stop) → stop ≡ stops.Nesting (length ts) → HaltsIn g.base l ts stop
+  register_no_level deep stop e =
+      halts_by_token g.base l _ (inr (inr (inr (inl refl)))) h refl refl refl (opens_too_many (word words.Reg) (l + 1) (in_register (l + 1)) deep h refl refl stop e)
+
+  pub in_register_halts : (inner : ℕ) → inner ≡ l + 1 → {stop : Stop} → few_levels (l + 1) ≡ true → Halts (in_register inner) mid stop → HaltsIn g.base l ts stop
+  in_register_halts inner e {stop} ok k =
+      halts_by_token g.base l _ (inr (inr (inr (inl refl)))) h refl refl refl
+      (halts_behind (in_register (l + 1)) (opened (word words.Reg) (l + 1) ok h refl refl refl) (subst (λ (z : ℕ). Halts (in_register z) mid stop) e k))
+
+-- what is expected of a bracket behind its `(`
+abbrev in_bracket : ℕ → Stack
+in_bracket l = form g.expression l ∷ token (sign signs.CloseRound) ∷ []
+
+module _ (l : ℕ) {at : Place} {ts mid : List Token} (h : Heads (toks.Sign signs.OpenRound) at ts mid) where
+  pub base_bracket : (inner : ℕ) → inner ≡ l + 1 → {t : Tree} {a rest : List Token} → few_levels (l + 1) ≡ true → ReadsForm g.expression inner t mid a
+      → Reads (token (sign signs.CloseRound) ∷ []) tt a rest → ReadsForm g.base l t ts rest
+  base_bracket inner e {t} {a} {rest} ok r q =
+      let r' : ReadsForm g.expression (l + 1) t mid a = subst (λ (z : ℕ). ReadsForm g.expression z t mid a) e r in
+      by_token g.base l _ (inr (inr (inr (inr (inl refl))))) h refl refl refl
+      (and_then (opened (sign signs.OpenRound) (l + 1) ok h refl refl refl) (and_then r' q))
+
+  pub bracket_no_level : few_levels (l + 1) ≡ false → (stop : Stop) → stop ≡ stops.Nesting (length ts) → HaltsIn g.base l ts stop
+  bracket_no_level deep stop e =
+      halts_by_token g.base l _ (inr (inr (inr (inr (inl refl))))) h refl refl refl
+      (opens_too_many (sign signs.OpenRound) (l + 1) (in_bracket (l + 1)) deep h refl refl stop e)
+
+  inside_halts : {stop : Stop} → few_levels (l + 1) ≡ true → Halts (in_bracket (l + 1)) mid stop → HaltsIn g.base l ts stop
+  inside_halts ok k =
+      halts_by_token g.base l _ (inr (inr (inr (inr (inl refl))))) h refl refl refl
+      (halts_behind (in_bracket (l + 1)) (opened (sign signs.OpenRound) (l + 1) ok h refl refl refl) k)
+
+  pub in_bracket_halts : (inner : ℕ) → inner ≡ l + 1 → {stop : Stop} → few_levels (l + 1) ≡ true → HaltsIn g.expression inner mid stop → HaltsIn g.base l ts stop
+  in_bracket_halts inner e {stop} ok k =
+      inside_halts ok (halts_first (token (sign signs.CloseRound) ∷ []) (subst (λ (z : ℕ). HaltsIn g.expression z mid stop) e k))
+
+  pub bracket_unclosed : (inner : ℕ) → inner ≡ l + 1 → {t : Tree} {a : List Token} {stop : Stop} → few_levels (l + 1) ≡ true
+      → ReadsForm g.expression inner t mid a → Halts (token (sign signs.CloseRound) ∷ []) a stop → HaltsIn g.base l ts stop
+  bracket_unclosed inner e {t} {a} ok r k =
+      inside_halts ok (halts_behind (token (sign signs.CloseRound) ∷ []) (subst (λ (z : ℕ). ReadsForm g.expression z t mid a) e r) k)
+
+module _ (l : ℕ) {at : Place} {ts mid : List Token} (h : Heads (toks.Sign signs.OpenCurly) at ts mid) where
+  pub base_block : (inner : ℕ) → inner ≡ l + 1 → {t : Tree} {rest : List Token} → few_levels (l + 1) ≡ true → ReadsBlock inner at t mid rest → ReadsForm g.base l t ts rest
+  base_block inner e {t} {rest} ok r =
+      let r' : ReadsBlock (l + 1) at t mid rest = subst (λ (z : ℕ). ReadsBlock z at t mid rest) e r in
+      subst (λ (z : Tree). ReadsForm g.base l z ts rest) (sym r'.is)
+      (by_token g.base l _ (inr (inr (inr (inr (inr (inl refl)))))) h refl refl refl (and_then (opened (sign signs.OpenCurly) (l + 1) ok h refl refl refl) r'.reads))
+
+  pub block_no_level : few_levels (l + 1) ≡ false → (stop : Stop) → stop ≡ stops.Nesting (length ts) → HaltsIn g.base l ts stop
+  block_no_level deep stop e =
+      halts_by_token g.base l _ (inr (inr (inr (inr (inr (inl refl)))))) h refl refl refl
+      (opens_too_many (sign signs.OpenCurly) (l + 1) (form g.body (l + 1) ∷ []) deep h refl refl stop e)
+
+  pub in_block_halts : (inner : ℕ) → inner ≡ l + 1 → {stop : Stop} → few_levels (l + 1) ≡ true → HaltsIn g.body inner mid stop → HaltsIn g.base l ts stop
+  in_block_halts inner e {stop} ok k =
+      halts_by_token g.base l _ (inr (inr (inr (inr (inr (inl refl)))))) h refl refl refl
+      (halts_behind (form g.body (l + 1) ∷ []) (opened (sign signs.OpenCurly) (l + 1) ok h refl refl refl) (subst (λ (z : ℕ). HaltsIn g.body z mid stop) e k))
+
+-- ---- items
+
+pub item_let : (l : ℕ) {item : ItemTree} {at : Place} {ts mid rest : List Token} → Heads (toks.Word words.Let) at ts mid → ReadsBinding l item mid rest → ReadsItem l item ts rest
+item_let l {item} {at} {ts} {mid} {rest} h r =
+    subst (λ (z : ItemTree). ReadsItem l z ts rest) (sym r.is) (record {
+      passes = passes_then (line_passes g.body l _ (inl refl) (by_first g.body l _ (inl refl) h refl refl refl)) (beside (form g.body l ∷ []) whole.passes);
+      shorter = whole.shorter;
+    })
+  where
+    whole : Reads (token (word words.Let) ∷ in_binding l) (r.bound, (r.more, (r.inner, tt))) ts rest
+    whole = and_then (a_let h) r.reads
+
+pub item_do : (l : ℕ) {item : ItemTree} {t : Tree} {at : Place} {ts mid rest : List Token} → NotFirst (toks.Word words.Let) ts → ReadsForm g.expression l t ts mid
+    → Heads (toks.Sign signs.Semi) at mid rest → item ≡ run t → ReadsItem l item ts rest
+item_do l {item} {t} {at} {ts} {mid} {rest} k r h w =
+    subst (λ (z : ItemTree). ReadsItem l z ts rest) (sym w) (record {
+      passes = passes_then (line_passes g.body l _ (inr (inl refl)) (m.as_body l ts k)) (passes_then (beside (form g.body_end l ∷ []) r.passes)
+          (passes_then (line_passes g.body_end l _ (inl refl) (by_first g.body_end l _ (inl refl) h refl refl refl)) (beside (form g.body l ∷ []) (a_sign h).passes)));
+      shorter = let x = r.shorter in let y = ap length h.cut in omega (arith, x, y);
+    })
+
+module _ (l : ℕ) {ts : List Token} (k : NotFirst (toks.Word words.Let) ts) where
+  pub last_reads : {t : Tree} {mid rest : List Token} → ReadsForm g.expression l t ts mid → NotFirst (toks.Sign signs.Semi) mid
+      → Reads (token (sign signs.CloseCurly) ∷ []) tt mid rest → ReadsForm g.body l (record { items = []; last = t }) ts rest
+  last_reads {t} {mid} r n q =
+      by_pieces g.body l _ (inr (inl refl)) (m.as_body l ts k) (and_then r (by_pieces g.body_end l _ (inr (inl refl)) (m.as_body_end l mid n) q))
+
+  pub do_halts : {stop : Stop} → HaltsIn g.expression l ts stop → HaltsIn g.body l ts stop
+  do_halts h = halts_there (form g.body l ∷ []) (form g.expression l ∷ form g.body_end l ∷ []) (m.as_body l ts k) (halts_first (form g.body_end l ∷ []) h)
+
+  pub last_unclosed : {t : Tree} {mid : List Token} {stop : Stop} → ReadsForm g.expression l t ts mid → NotFirst (toks.Sign signs.Semi) mid
+      → Halts (token (sign signs.CloseCurly) ∷ []) mid stop → HaltsIn g.body l ts stop
+  last_unclosed {t} {mid} r n h =
+      halts_there (form g.body l ∷ []) (form g.expression l ∷ form g.body_end l ∷ []) (m.as_body l ts k)
+      (halts_behind (form g.body_end l ∷ []) r (halts_by_pieces g.body_end l _ (inr (inl refl)) (m.as_body_end l mid n) h))
+
+pub let_halts : (l : ℕ) {at : Place} {ts mid : List Token} {stop : Stop} → Heads (toks.Word words.Let) at ts mid → Halts (in_binding l) mid stop → HaltsIn g.body l ts stop
+let_halts l h k =
+    halts_by_token g.body l _ (inl refl) h refl refl refl (halts_first (form g.body l ∷ []) (halts_behind (in_binding l) (a_let h) k))
+
+-- ---- what stands behind the first thing that a function expects
+
+abbrev pub function_rest : ℕ → Stack
+function_rest l = form g.names 0 ∷ token (sign signs.Arrow) ∷ form g.expression l ∷ []
+
+abbrev pub register_rest : ℕ → Stack
+register_rest l = form g.expression l ∷ form g.elements l ∷ token (sign signs.CloseSquare) ∷ []
+
+abbrev pub binding_rest : ℕ → Stack
+binding_rest l = form g.names 0 ∷ token (sign signs.Equal) ∷ form g.expression l ∷ token (sign signs.Semi) ∷ []
