@@ -7,7 +7,7 @@ use Rattle.revs_lexer.specs.Tokens.{IsEnded}
 use Rattle.revs_terms.specs.declared.program.Param.{Param}
 use Rattle.revs_terms.specs.Trees.{Tree}
 use Rattle.revs_grammar.specs.Forms.{code, mark_code}
-use Rattle.revs_grammar.specs.Sentences.{token, kept_token, opening_token, form, Leads, value, any_level, few_levels, at_start, IsSentence, Begins, HasFewLevels}
+use Rattle.revs_grammar.specs.Sentences.{token, kept_token, opening_token, form, Leads, value, any_level, few_levels, at_start, IsSentence, Begins, HasFewLevels, BeginsLow}
 use Rattle.revs_grammar.specs.Answers.{HasSentence}
 use Rattle.revs_grammar.specs.Faults.{CannotStandAs, CannotStand}
 use Rattle.revs_grammar.specs.inside.Machine.{Stack, Opening, table, is_optional, at_level, taken, step, is_done, run, Outcome, accepted, no_syntax, too_deep, is_end, at_token, outcome}
@@ -102,7 +102,7 @@ pub record StopsAt (tokens : List Token) (left : ℕ) (Why : List Token → Toke
   pub why : Why front named
 
 abbrev pub Refuses : List Token → Token → Type 0
-Refuses front named = Begins front × HasFewLevels front × CannotStand front named
+Refuses front named = BeginsLow front × CannotStand front named
 
 abbrev pub Deepens : List Token → Token → Type 0
 Deepens front named = Begins (front ++ named ∷ []) × HasFewLevels front × (¬ HasFewLevels (front ++ named ∷ []))
@@ -168,8 +168,7 @@ says front t ss r e = go (is_done ss) refl
       cut = refl;
       count = omega arith;
       why = (
-        run_begins front ss far,
-        run_few front ss r,
+        record { begins = run_begins front ss far; few = run_few front ss r },
         cannot_end front t e (λ s.
             let all = run_done any_level front ss far s.spelled.reading in
             let wrong : false ≡ true = sym d ∙ all in cc),
@@ -204,7 +203,7 @@ says_behind (t ∷ u ∷ ts) front ss r e =
     cases go_on None (Some next) is other =
         stops {Why = Deepens} (run_begins (front ++ t ∷ []) next (run_more any_level front t at_start ss next far other), run_few front ss r, never_few front t ss r is)
     cases go_on None None is other =
-        stops {Why = Refuses} (run_begins front ss far, run_few front ss r, cannot front t t.tok e.0 (never front t ss far other))
+        stops {Why = Refuses} (record { begins = run_begins front ss far; few = run_few front ss r }, cannot front t t.tok e.0 (never front t ss far other))
 
 -- What the outcome says of a whole list of tokens.
 pub outcome_says : (tokens : List Token) → IsEnded tokens → Says tokens (outcome tokens at_start)

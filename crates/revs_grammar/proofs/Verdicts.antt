@@ -105,7 +105,7 @@ stuck_outcome named rest front x k e r c = stuck named rest front x r c (ap is_e
 
 syntax_outcome : (tokens : List Token) (number : ℕ) (at : Place) → (f : IsSyntax tokens number at) → outcome tokens at_start ≡ no_syntax (length f.rest + 1)
 syntax_outcome tokens number at f =
-    let runs = few_runs f.front f.few in
+    let runs = few_runs f.front f.begins.few in
     subst (λ (z : List Token). outcome z at_start ≡ no_syntax (length f.rest + 1)) (sym f.cut)
     (outcome_run f.front (f.named ∷ f.rest) at_start runs.0 runs.1
     ∙ stuck_outcome f.named f.rest f.front runs.0 f.named.tok refl runs.1 f.refused)
@@ -214,8 +214,7 @@ verdict_of tokens (no_syntax left) s = (
     count = refl;
     place = refl;
     begins = s.why.0;
-    few = s.why.1;
-    refused = s.why.2;
+    refused = s.why.1;
   },
 )
 verdict_of tokens (too_deep left) s = (

@@ -7,7 +7,7 @@ use Rattle.revs_lexer.specs.declared.token.Token.{Token}
 use Rattle.revs_lexer.specs.Tokens.{IsEnded}
 use Rattle.revs_terms.specs.declared.program.Param.{Param}
 use Rattle.revs_terms.specs.Trees.{Tree}
-use Rattle.revs_grammar.specs.Sentences.{IsSentence, Begins, HasFewLevels}
+use Rattle.revs_grammar.specs.Sentences.{IsSentence, Begins, HasFewLevels, BeginsLow}
 use Rattle.revs_grammar.specs.Answers.{IsProgramOf, IsInputs}
 
 -- The tokens are the sentence of some program within limits, and `End`.
@@ -33,8 +33,7 @@ pub record IsSyntax (tokens : List Token) (number : ℕ) (at : Place) : Type 0 w
   pub cut : tokens ≡ front ++ named ∷ rest
   pub count : length front ≡ number
   pub place : named.at ≡ at
-  pub begins : Begins front
-  pub few : HasFewLevels front
+  pub begins : BeginsLow front
   pub refused : CannotStand front named
 
 -- The token at this place is the first that opens level 101: some sentence begins with the tokens through it, and those before

@@ -113,6 +113,11 @@ pub record HasFewLevels (front : List Token) : Type 0 where
   pub left : List Symbol
   pub reading : Leads few_levels at_start front left
 
+-- Some sentence begins with these tokens, and they open no level above 100.
+pub record BeginsLow (front : List Token) : Type 0 where
+  pub begins : Begins front
+  pub few : HasFewLevels front
+
 -- A list of tokens is the sentence of one program.
 abbrev pub OneProgram : Type 0
 OneProgram =

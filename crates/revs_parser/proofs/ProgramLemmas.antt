@@ -191,8 +191,7 @@ refused tokens (stops.Syntax left) o e k =
         count = refl;
         place = refl;
         begins = f.why.0;
-        few = f.why.1;
-        refused = f.why.2;
+        refused = f.why.1;
       };
     }
 refused tokens (stops.Nesting left) o e k =
