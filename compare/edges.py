@@ -7,6 +7,8 @@ from typing import Iterator, Tuple
 AND = b"main (a : bool) (b : bool) = a && b"
 UNBOUND = b"main (a : bool) = z"
 SECONDS = 10
+NO_ORDERS = [[], ["Compile"], ["compile", "x"], ["compile", "-"], ["eval"], ["eval", "1", "1"], ["eval", "-1"],
+             ["--help"], ["--", "compile"]]
 
 
 def edges(program: str) -> Iterator[Tuple[str, bool]]:
@@ -40,13 +42,16 @@ def edges(program: str) -> Iterator[Tuple[str, bool]]:
     yield "a source that cannot be read is a read fault", is_fault(run(["compile"], stdin=folder), 9, b"read fault")
     os.close(folder)
 
-    for words in ([], ["compile", "x"], ["eval"], ["eval", "-1"], ["--help"], ["Compile"]):
+    for words in NO_ORDERS:
         with tempfile.TemporaryFile() as source:
             source.write(AND)
             source.seek(0)
             done = run(words, stdin=source)
             untouched = os.lseek(source.fileno(), 0, os.SEEK_CUR) == 0
         yield "the words %s give no order" % words, is_fault(done, 2, b"bad command line") and untouched
+    yield "`--` ends the options", run(["compile", "--"]) == run(["compile"]) and run(["eval", "--", "11"]) == (0, b"1\n", b"")
+    for words in (["eval", "-"], ["eval", "--", "-1"]):
+        yield "the words %s give an order" % words, is_fault(run(words), 12, b"bad bits in word 1")
     yield "words that are no text end with status 1", run([b"\xff"]) == (1, b"", b"")
 
     small, most = b"main (a : bool) = a", 1_048_576
