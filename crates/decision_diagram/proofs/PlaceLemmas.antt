@@ -3,11 +3,12 @@ use Rattle.std.proofs.Common.{◌≡◌, ℕ, zero, suc, ◌+◌, ◌-◌, ◌<�
 use Rattle.std.proofs.Common.{arith}
 use Rattle.std.proofs.lemmas.List.{get_or-reverse, length-reverse, reverse-append}
 use Rattle.std.proofs.lemmas.Option.{slice_get_within, get_or_from_slice_get}
-use Rattle.decision_diagram.specs.Diagrams.{Triple, DiagramView, MayFollow, AreOrdered, IsCanonical}
-use Rattle.decision_diagram.specs.Growth.{IsFullFor}
+use Rattle.decision_diagram.specs.Diagrams.{Triple, DiagramView, next_number, first_variable, MayFollow, AreOrdered, IsCanonical}
+use Rattle.decision_diagram.specs.Growth.{StandsFor, IsFullFor}
 use Rattle.decision_diagram.specs.inside.Joining.{Grows, IsInner, node_function}
 use Rattle.decision_diagram.proofs.DistinctLemmas.{IsAt, inner_at}
-use Rattle.decision_diagram.proofs.GrowthLemmas.{with_node, grows_by_node, full_for_node}
+use Rattle.decision_diagram.proofs.ValueLemmas.{first-newest}
+use Rattle.decision_diagram.proofs.GrowthLemmas.{with_node, newest_stands, grows_by_node, full_for_node}
 
 at_index : (nodes : List Triple) (n k : ℕ) (node : Triple) → n + k ≡ suc (length nodes) → k < length nodes
     → get_or nodes k node ≡ node → IsAt nodes n node
@@ -41,6 +42,22 @@ module _ (d : DiagramView) (vars limit : ℕ) (items : List Triple) where
       let e : node ∷ reverse items ≡ reverse after = sym (ap reverse pushed ∙ reverse-append items (node ∷ [])) in
       subst (λ (e : DiagramView). Grows (node_function e.nodes node) e (record { vars = vars; limit = limit; nodes = reverse after })) view
       (subst (λ (nodes : List Triple). Grows (node_function (reverse items) node) inside (record { vars = vars; limit = limit; nodes = nodes })) e here)
+
+  pub push_stands : (after : List Triple) (node : Triple) (n : ℕ)
+      → record { vars = vars; limit = limit; nodes = reverse items } ≡ d → after ≡ items ++ node ∷ [] → n ≡ length items + 2
+      → StandsFor (reverse after) n (node_function d.nodes node) × (first_variable vars (reverse after) n ≡ node.variable)
+  push_stands after node n view pushed number =
+      let e : node ∷ reverse items ≡ reverse after = sym (ap reverse pushed ∙ reverse-append items (node ∷ [])) in
+      let newest : next_number (reverse items) ≡ n = omega (arith, number, length-reverse items) in
+      let stands = newest_stands (reverse items) node in
+      let stands_in : StandsFor (node ∷ reverse items) (next_number (reverse items)) (node_function d.nodes node) =
+      subst (λ (e : DiagramView). StandsFor (node ∷ reverse items) (next_number (reverse items)) (node_function e.nodes node)) view stands in (
+        subst (λ (k : ℕ). StandsFor (reverse after) k (node_function d.nodes node)) newest
+            (subst (λ (nodes : List Triple). StandsFor nodes (next_number (reverse items)) (node_function d.nodes node)) e stands_in),
+        subst (λ (k : ℕ). first_variable vars (reverse after) k ≡ node.variable) newest
+            (subst (λ (nodes : List Triple). first_variable vars nodes (next_number (reverse items)) ≡ node.variable) e
+            (first-newest vars (reverse items) node)),
+      )
 
   pub push_full : (node : Triple)
       → record { vars = vars; limit = limit; nodes = reverse items } ≡ d

@@ -6,6 +6,7 @@ ghost use Rattle.decision_diagram.specs.Growth.{KeepsNodes, KeepsFunctions, Adds
 ghost use Rattle.decision_diagram.specs.inside.Joining.{Grows, joined, IsInner, Splits, node_function};
 
 use crate::node::{Dd, DdFault, Node, Operation};
+use indexmap::IndexSet;
 use revc_base::Memory;
 use std::alloc::Global;
 use std::marker::Model;
@@ -21,7 +22,7 @@ use std::marker::Model;
 pub struct Diagram {
     vars: u32,
     limit: u32,
-    nodes: Vec<Node>,
+    nodes: IndexSet<Node>,
 }
 
 impl Model for Diagram {
@@ -30,10 +31,10 @@ impl Model for Diagram {
 
     ghost Value = { DiagramView };
 
-    ghost view = { λ d. record { vars = d.vars; limit = d.limit; nodes = reverse d.nodes.items } };
+    ghost view = { λ d. record { vars = d.vars; limit = d.limit; nodes = reverse d.nodes.keys } };
 
     ghost invariant = { λ d. IsCanonical
-        (record { vars = d.vars; limit = d.limit; nodes = reverse d.nodes.items }) };
+        (record { vars = d.vars; limit = d.limit; nodes = reverse d.nodes.keys }) };
 }
 
 impl Diagram {
@@ -47,7 +48,7 @@ impl Diagram {
         Ok(Diagram {
             vars,
             limit,
-            nodes: Vec::new(alloc),
+            nodes: IndexSet::new(alloc),
         })
     }
 
@@ -168,7 +169,7 @@ impl Diagram {
         requires inner { 2 ≤ f }
         ensures { IsInner self.now.vars self.now.nodes f result }
     {
-        self.nodes[f.number - 2]
+        self.nodes.as_slice()[f.number - 2]
     }
 
     // The variable that a number asks first, or the number of variables for a constant.
@@ -297,17 +298,17 @@ impl Diagram {
         if count == self.limit as usize {
             return Err(DdFault::Full { nodes: self.limit });
         }
-        self.nodes.push(node)?;
+        self.nodes.insert(node)?;
         Ok(Dd { number: count + 2 })
     }
 }
 
 // Where a node stands among these.
-fn place_of(nodes: &[Node], node: Node) -> Option<usize>
-    ensures { MatchOption result (Contains nodes.now node → ⊥)
-        (λ place. slice_get nodes.now place ≡ Some node) }
+fn place_of(nodes: &IndexSet<Node>, node: Node) -> Option<usize>
+    ensures { MatchOption result (Contains nodes.now.keys node → ⊥)
+        (λ place. slice_get nodes.now.keys place ≡ Some node) }
 {
-    nodes.iter().position(|other| *other == node)
+    nodes.get_index_of(&node)
 }
 
 /// What holds of every diagram that a call has left: equal functions have equal numbers, no inner node stands for a

@@ -3,7 +3,7 @@
 //! A diagram stands for functions of Boolean variables under one order of these variables. Each function has
 //! one number, so two functions are equal exactly where their numbers are: the reduced ordered binary decision
 //! diagrams of R. E. Bryant, "Graph-Based Algorithms for Boolean Function Manipulation", IEEE Transactions on
-//! Computers C-35(8), 1986. This body keeps the nodes in a plain vector and searches it from the start.
+//! Computers C-35(8), 1986. A hash table finds a node by its variable and branches.
 #![tactic(auto)]
 
 mod diagram;

@@ -7,7 +7,7 @@ use std::marker::Model;
 
 /// The number of a function in the diagram that gave it. Contracts see the number itself: 0 and 1 are the
 /// constants false and true, and the inner nodes have the numbers from 2 on.
-#[derive(Clone, Copy, Debug, PartialEq, Eq)]
+#[derive(Clone, Copy, Debug, PartialEq, Eq, Hash)]
 pub struct Dd {
     pub(crate) number: usize,
 }
@@ -52,7 +52,7 @@ impl<T: Drop> From<AllocFailed<T>> for DdFault {
 }
 
 // An inner node: it asks a variable and goes to `low` where that is false, to `high` where it is true.
-#[derive(Clone, Copy, PartialEq, Eq)]
+#[derive(Clone, Copy, PartialEq, Eq, Hash)]
 pub struct Node {
     pub variable: u32,
     pub low: Dd,
