@@ -2,6 +2,7 @@
 use Rattle.std.specs.Prelude.{List, Result, IsOk, IsErrOf, ◌⊎◌}
 use Rattle.revs_lexer.specs.declared.token.Token.{Token}
 use Rattle.revs_terms.specs.declared.program.Program.{Program}
+use Rattle.revs_grammar.specs.Answers.{IsInputs}
 use Rattle.revs_grammar.specs.Faults.{IsSyntax, IsNesting, Verdict, within_limits, syntax, nesting, inputs}
 use Rattle.revs_parser.specs.declared.program.ParseFault.{ParseFault}
 use Rattle.revs_parser.specs.declared.program.ParseFault.TheVariants as faults
@@ -23,3 +24,10 @@ IsRefused tokens (faults.Syntax number at) = IsSyntax tokens number at
 IsRefused tokens (faults.Nesting at) = IsNesting tokens at
 IsRefused tokens (faults.Inputs at) = ⊥
 IsRefused tokens faults.Memory = Unit {0}
+
+-- The tokens are refused for this fault rightly, which may be the parameters'.
+abbrev pub IsRefusedFor : List Token → ParseFault → Type 0
+IsRefusedFor tokens (faults.Syntax number at) = IsSyntax tokens number at
+IsRefusedFor tokens (faults.Nesting at) = IsNesting tokens at
+IsRefusedFor tokens (faults.Inputs at) = IsInputs tokens at
+IsRefusedFor tokens faults.Memory = Unit {0}

@@ -1,6 +1,6 @@
 // Expressions.
 
-ghost use Rattle.std.specs.Prelude.{◌≡◌, ◌+◌, ◌<◌, ◌≤◌, true, false, length, [], ◌∷◌, IfOk, IfErr};
+ghost use Rattle.std.specs.Prelude.{◌≡◌, ◌+◌, ◌<◌, ◌≤◌, true, false, length, [], ◌∷◌, IfOk, IfErr, IsErrOf};
 ghost use Rattle.revs_grammar.specs.Forms as g;
 ghost use Rattle.revs_grammar.specs.Productions.{bound_of};
 ghost use Rattle.revs_grammar.specs.Sentences.{form, few_levels};
@@ -47,6 +47,7 @@ fn more_names(mut names: Vec<Name>, tokens: &[Token]) -> Result<(Vec<Name>, &[To
 fn part(tokens: &[Token], at: Place) -> Result<(Part, &[Token]), Stop>
     ensures ok { IfOk result (λ read. ReadsPart at read.0 tokens.now read.1.now) }
     ensures halts { IfErr result (λ stop. Halts in_part tokens.now stop) }
+    ensures exact { ¬ IsErrOf result Stop.Memory }
 {
     let rest = expect(tokens, Sign::OpenSquare)?;
     let (i, rest) = number(rest)?;

@@ -1,9 +1,10 @@
 // Single tokens.
 
-ghost use Rattle.std.specs.Prelude.{[], ◌∷◌, IfOk, IfErr, IfSome, IfNone};
-ghost use Rattle.revs_parser.specs.inside.Reading.{Heads, NotFirst, Reads, Halts};
+ghost use Rattle.std.specs.Prelude.{◌≡◌, true, [], ◌∷◌, IfOk, IfErr, IsErrOf, IfSome, IfNone};
+ghost use Rattle.revs_parser.specs.inside.Reading.{Heads, NotFirst, Reads, Halts, name_first};
 ghost use Rattle.revs_grammar.specs.Forms as g;
 ghost use Rattle.revs_grammar.specs.Sentences.{token, kept_token};
+ghost use Rattle.revs_parser.specs.declared.stop.Stop.{Stop};
 ghost use Rattle.revs_lexer.specs.declared.word.Word.TheVariants as words;
 ghost use Rattle.revs_lexer.specs.declared.token.Tok.TheVariants as toks;
 
@@ -66,6 +67,7 @@ pub fn after_word(tokens: &[Token], word: Word) -> Option<(Place, &[Token])>
 pub fn expect(tokens: &[Token], sign: Sign) -> Result<&[Token], Stop>
     ensures ok { IfOk result (λ rest. Reads (token (g.sign sign) ∷ []) tt tokens.now rest.now) }
     ensures halts { IfErr result (λ stop. Halts (token (g.sign sign) ∷ []) tokens.now stop) }
+    ensures exact { ¬ IsErrOf result Stop.Memory }
 {
     match after(tokens, sign) {
         Some((_, rest)) => Ok(rest),
@@ -77,6 +79,7 @@ pub fn expect(tokens: &[Token], sign: Sign) -> Result<&[Token], Stop>
 pub fn name(tokens: &[Token]) -> Result<(Name, &[Token]), Stop>
     ensures ok { IfOk result (λ read. Reads (kept_token g.any_name ∷ []) (read.0, tt) tokens.now read.1.now) }
     ensures halts { IfErr result (λ stop. Halts (kept_token g.any_name ∷ []) tokens.now stop) }
+    ensures memory { IsErrOf result Stop.Memory → name_first tokens.now ≡ true }
 {
     match tokens.split_first() {
         Some(
@@ -100,6 +103,7 @@ pub fn name(tokens: &[Token]) -> Result<(Name, &[Token]), Stop>
 pub fn number(tokens: &[Token]) -> Result<(u32, &[Token]), Stop>
     ensures ok { IfOk result (λ read. Reads (kept_token g.any_number ∷ []) (read.0, tt) tokens.now read.1.now) }
     ensures halts { IfErr result (λ stop. Halts (kept_token g.any_number ∷ []) tokens.now stop) }
+    ensures exact { ¬ IsErrOf result Stop.Memory }
 {
     match tokens.split_first() {
         Some(
@@ -119,6 +123,7 @@ pub fn number(tokens: &[Token]) -> Result<(u32, &[Token]), Stop>
 pub fn bool_word(tokens: &[Token]) -> Result<&[Token], Stop>
     ensures ok { IfOk result (λ rest. Reads (token (g.word words.Bool) ∷ []) tt tokens.now rest.now) }
     ensures halts { IfErr result (λ stop. Halts (token (g.word words.Bool) ∷ []) tokens.now stop) }
+    ensures exact { ¬ IsErrOf result Stop.Memory }
 {
     match after_word(tokens, Word::Bool) {
         Some((_, rest)) => Ok(rest),

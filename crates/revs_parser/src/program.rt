@@ -1,6 +1,7 @@
 // Programs, and why a list of tokens is none.
 
 ghost use Rattle.std.specs.Prelude.{◌≡◌, ◌<◌, ◌^◌, length, [], ◌∷◌, ℕ, IfOk, IfErr, IfSome, IfNone, IsErrOf};
+ghost use Rattle.std.specs.Result.{ForOk, ForErr};
 ghost use Rattle.revc_base.specs.declared.place.Place.{Place};
 ghost use Rattle.revs_lexer.specs.Tokens.{IsEnded};
 ghost use Rattle.revs_grammar.specs.Forms as g;
@@ -10,7 +11,8 @@ ghost use Rattle.revs_terms.specs.Programs.{AreParams, width_of};
 ghost use Rattle.revs_terms.specs.Trees.{tree_of};
 ghost use Rattle.revs_parser.specs.inside.Reading.{ReadsForm, HaltsIn, end_first};
 ghost use Rattle.revs_parser.specs.inside.Forms.{ReadsParameters, ReadsProgram, PassesAt, IsRefusal};
-ghost use Rattle.revs_parser.specs.Results.{IsRefused, IsAnswer};
+ghost use Rattle.revs_parser.specs.Results.{IsRefused, IsRefusedFor, IsAnswer};
+ghost use Rattle.revs_parser.specs.declared.stop.Stop.{Stop};
 ghost use Rattle.revs_parser.specs.declared.program.ParseFault.{ParseFault};
 ghost use Rattle.revs_parser.specs.declared.program.ParseFault.TheVariants as faults;
 
@@ -42,6 +44,7 @@ pub enum ParseFault {
 fn width(tokens: &[Token]) -> Result<(Option<u32>, &[Token]), Stop>
     ensures ok { IfOk result (λ read. ReadsForm g.width 0 read.0 tokens.now read.1.now) }
     ensures halts { IfErr result (λ stop. HaltsIn g.width 0 tokens.now stop) }
+    ensures exact { ¬ IsErrOf result Stop.Memory }
 {
     let Some((_, behind)) = after(tokens, Sign::OpenSquare) else {
         let rest = expect(tokens, Sign::CloseRound)?;
@@ -152,7 +155,8 @@ fn passed_at(params: &[Param]) -> Option<Place>
 fn refusal(tokens: &[Token], stop: Stop) -> ParseFault
     requires few { length tokens.now < 2 ^ 32 }
     requires refused { IsRefusal tokens.now stop }
-    ensures { IsRefused tokens.now result }
+    ensures refused { IsRefused tokens.now result }
+    ensures memory { result ≡ faults.Memory → stop ≡ Stop.Memory }
 {
     match stop {
         Stop::Syntax(left) => {
@@ -164,6 +168,25 @@ fn refusal(tokens: &[Token], stop: Stop) -> ParseFault
         }
         Stop::Nesting(left) => ParseFault::Nesting(tokens[tokens.len() - left].at),
         Stop::Memory => ParseFault::Memory,
+    }
+}
+
+// The answer for what was read: want of memory is answered where it was met, and nowhere else.
+fn answer(tokens: &[Token], read: Result<(Vec<Param>, Term), Stop>) -> Result<Program, ParseFault>
+    requires few { length tokens.now < 2 ^ 32 }
+    requires sentence { ForOk read (λ read. HasSentence tokens.now read.0.items (tree_of read.1)) }
+    requires refused { ForErr read (λ stop. IsRefusal tokens.now stop) }
+    ensures program { IfOk result (λ p. IsProgramOf tokens.now p.params.items (tree_of p.body)) }
+    ensures refused { IfErr result (λ fault. IsRefusedFor tokens.now fault) }
+    ensures exact { (verdict : Verdict) → IsVerdict tokens.now verdict → IsAnswer verdict result }
+    ensures memory { IsErrOf result faults.Memory → IsErrOf read Stop.Memory }
+{
+    match read {
+        Ok((params, body)) => match passed_at(&params) {
+            Some(at) => Err(ParseFault::Inputs(at)),
+            None => Ok(Program { params, body }),
+        },
+        Err(stop) => Err(refusal(tokens, stop)),
     }
 }
 
@@ -182,11 +205,5 @@ pub fn parse(alloc: Global, tokens: &[Token]) -> Result<Program, ParseFault>
     ensures inputs { (at : Place) → IsErrOf result (faults.Inputs at) → IsInputs tokens.now at }
     ensures exact { (verdict : Verdict) → IsVerdict tokens.now verdict → IsAnswer verdict result }
 {
-    match whole(alloc, tokens) {
-        Ok((params, body)) => match passed_at(&params) {
-            Some(at) => Err(ParseFault::Inputs(at)),
-            None => Ok(Program { params, body }),
-        },
-        Err(stop) => Err(refusal(tokens, stop)),
-    }
+    answer(tokens, whole(alloc, tokens))
 }
