@@ -3,22 +3,21 @@
 ghost use Rattle.std.specs.Prelude.{◌≡◌, ◌+◌, ◌*◌, ◌<◌, ◌≤◌, ◌∷◌, [], ◌++◌, length, reverse, sum, take, OnOk, IfOk};
 ghost use Rattle.std.specs.List.{AllByRecursion};
 ghost use Rattle.gate_split.specs.Plans.{MapsCleanly};
+ghost use Rattle.gate_split.specs.declared.plan.TheConstants.{MOST_LINES, MOST_GATES};
 ghost use Rattle.list_facts.specs.Lists.{AreDifferent};
 ghost use Rattle.mct_circuit.specs.Gates.{AreNarrow, flip_of};
 ghost use Rattle.revc_base.specs.Tapes.{IsKnown, IsKnownEntry, IsTape, outputs_on};
 ghost use Rattle.revc.specs.inside.Plain.{line_of, toggle_of, toggles_of, copies_of, plain_gates, plain_roles};
 
+use gate_split::MOST_GATES;
 use mct_circuit::{Circuit, GateFault};
 use revc_base::{Entry, Memory, Ref, Tape};
 use std::alloc::Global;
 
-/// The most gates of a circuit.
-const MOST_GATES: u64 = 4_000_000;
-
 /// The plain circuit of a tape: the input lines, the output lines and a work line for each write
 /// (Bennett, Logical reversibility of computation, 1973).
 pub fn plain_plan(alloc: Global, tape: &Tape) -> Result<Circuit, Memory>
-    requires few { sum tape.now.params + length tape.now.outputs + length tape.now.entries ≤ 16384 }
+    requires few { sum tape.now.params + length tape.now.outputs + length tape.now.entries ≤ MOST_LINES }
     ensures lines { IfOk result (λ circuit. circuit.lines
         ≡ sum tape.now.params + length tape.now.outputs + length tape.now.entries) }
     ensures gates { IfOk result (λ circuit. circuit.gates ≡ plain_gates tape.now) }
@@ -36,7 +35,7 @@ pub fn plain_plan(alloc: Global, tape: &Tape) -> Result<Circuit, Memory>
 
 // The gates of the plan.
 fn build(alloc: Global, tape: &Tape) -> Result<Circuit, Memory>
-    requires few { sum tape.now.params + length tape.now.outputs + length tape.now.entries ≤ 16384 }
+    requires few { sum tape.now.params + length tape.now.outputs + length tape.now.entries ≤ MOST_LINES }
     ensures lines { IfOk result (λ circuit. circuit.lines
         ≡ sum tape.now.params + length tape.now.outputs + length tape.now.entries) }
     ensures gates { IfOk result (λ circuit. circuit.gates ≡ plain_gates tape.now) }
@@ -55,8 +54,8 @@ fn build(alloc: Global, tape: &Tape) -> Result<Circuit, Memory>
 }
 
 fn line_of(inputs: u32, outputs: u32, made: Ref) -> u32
-    requires few { inputs + outputs ≤ 16384 }
-    requires known { IsKnown inputs 16384 made }
+    requires few { inputs + outputs ≤ MOST_LINES }
+    requires known { IsKnown inputs MOST_LINES made }
     ensures { result ≡ line_of inputs outputs made }
 {
     match made {
@@ -67,10 +66,10 @@ fn line_of(inputs: u32, outputs: u32, made: Ref) -> u32
 
 // Appends the toggles of all writes.
 fn toggle_all(circuit: &mut Circuit, tape: &Tape) -> Result<(), Memory>
-    requires few { sum tape.now.params + length tape.now.outputs + length tape.now.entries ≤ 16384 }
+    requires few { sum tape.now.params + length tape.now.outputs + length tape.now.entries ≤ MOST_LINES }
     requires lines { circuit.old.lines
         ≡ sum tape.now.params + length tape.now.outputs + length tape.now.entries }
-    requires limit { circuit.old.limit ≡ 4000000 }
+    requires limit { circuit.old.limit ≡ MOST_GATES }
     requires none { circuit.old.gates ≡ [] }
     ensures ok { OnOk result (circuit.new
         ≡ record circuit.old {
@@ -95,7 +94,7 @@ fn toggle(
     k: u32,
     entry: Entry,
 ) -> Result<(), Memory>
-    requires few { inputs + outputs + k < 16384 }
+    requires few { inputs + outputs + k < MOST_LINES }
     requires known { IsKnownEntry inputs k entry }
     requires lines { inputs + outputs + k < circuit.old.lines }
     requires room { length circuit.old.gates + 2 ≤ circuit.old.limit }
@@ -125,7 +124,7 @@ fn toggle(
 
 // Appends the copies of all outputs to their lines.
 fn copy_all(circuit: &mut Circuit, tape: &Tape) -> Result<(), Memory>
-    requires few { sum tape.now.params + length tape.now.outputs + length tape.now.entries ≤ 16384 }
+    requires few { sum tape.now.params + length tape.now.outputs + length tape.now.entries ≤ MOST_LINES }
     requires lines { circuit.old.lines
         ≡ sum tape.now.params + length tape.now.outputs + length tape.now.entries }
     requires room { length circuit.old.gates + length tape.now.outputs ≤ circuit.old.limit }

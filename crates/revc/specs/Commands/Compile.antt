@@ -6,7 +6,7 @@ use Rattle.revs_parser.specs.WellFormed.{IsWellFormed}
 use Rattle.revs_terms.specs.Views.{ProgramView}
 use Rattle.revc.specs.declared.fault.Fault.{Fault}
 use Rattle.revc.specs.declared.fault.Fault.TheVariants.{Refused}
-use Rattle.revc.specs.declared.limits.TheConstants.{MOST_LINES, MOST_GATES}
+use Rattle.revc.specs.declared.limits.TheConstants.{LINE_BUDGET, GATE_BUDGET}
 use Rattle.revc.specs.Clean.{IsClean, AllHold, IsSmallText}
 use Rattle.revc.specs.Refusals.{IsRefusal}
 use Rattle.revc.specs.Words.{OrderView}
@@ -20,8 +20,8 @@ pub record IsCompiled (text file : List ℕ) : Type 0 where
   pub small : IsSmallText text program
   pub claims : AllHold program
   pub clean : IsClean MeansCompiled file program 0
-  pub few_lines : lines_in clean.roles ≤ MOST_LINES
-  pub few_gates : length clean.gates ≤ MOST_GATES
+  pub few_lines : lines_in clean.roles ≤ LINE_BUDGET
+  pub few_gates : length clean.gates ≤ GATE_BUDGET
 
 -- what is written
 abbrev pub Gives : OrderView → List ℕ → List ℕ → Type 0

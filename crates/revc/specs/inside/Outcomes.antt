@@ -1,5 +1,6 @@
 -- What each command's own functions answer, and the text of what waits to be written.
 use Rattle.std.specs.Prelude.{ℕ, ◌≤◌, List, ◌++◌, length, codes}
+use Rattle.gate_split.specs.declared.plan.TheConstants.{MOST_LINES, MOST_GATES}
 use Rattle.gate_split.specs.Plans.{LaidView, roles_of}
 use Rattle.real_format.specs.Compiled.{compiled_text}
 use Rattle.revc.specs.declared.commands.Prepared.{Prepared}
@@ -17,8 +18,8 @@ file_of laid = compiled_text (roles_of laid) laid.circuit.gates
 -- a circuit that is written has a line, and keeps the limits of the format
 pub record IsWritable (laid : LaidView) : Type 0 where
   pub some : 1 ≤ laid.circuit.lines
-  pub few : laid.circuit.lines ≤ 16384
-  pub few_gates : length laid.circuit.gates ≤ 4000000
+  pub few : laid.circuit.lines ≤ MOST_LINES
+  pub few_gates : length laid.circuit.gates ≤ MOST_GATES
 
 -- the text of what waits to be written
 abbrev pub text_of : Prepared → List ℕ

@@ -1,5 +1,6 @@
 -- From a text to a plan that may be written as a clean file, and why there is none.
 use Rattle.std.specs.Prelude.{◌≡◌, ℕ, ◌+◌, ◌*◌, ◌≤◌, List, length, sum}
+use Rattle.gate_split.specs.declared.plan.TheConstants.{MOST_LINES}
 use Rattle.gate_split.specs.Plans.{LaidView, MapsCleanly, roles_of}
 use Rattle.mct_circuit.specs.Gates.{AreNarrow}
 use Rattle.revc_base.specs.Tapes.{TapeView, outputs_on}
@@ -20,7 +21,7 @@ pub record IsPlanOf (laid : LaidView) (tape : TapeView) : Type 0 where
   pub work : laid.work ≡ length tape.entries
   pub borrowed : laid.borrowed ≡ 0
   pub lines : laid.circuit.lines ≡ sum tape.params + length tape.outputs + length tape.entries
-  pub few : laid.circuit.lines ≤ 16384
+  pub few : laid.circuit.lines ≤ MOST_LINES
   pub few_gates : length laid.circuit.gates ≤ 4 * length tape.entries + length tape.outputs
   pub narrow : AreNarrow laid.circuit.gates
   pub clean : MapsCleanly (roles_of laid) laid.circuit.gates (outputs_on tape)

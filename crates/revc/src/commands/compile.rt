@@ -1,5 +1,6 @@
 // `compile`: from a program text to the plan of a clean circuit.
 ghost use Rattle.std.specs.Prelude.{◌+◌, ◌≤◌, length, sum, IfOk, IfErr};
+ghost use Rattle.gate_split.specs.declared.plan.TheConstants.{MOST_LINES};
 ghost use Rattle.revc.specs.declared.words.Command.TheVariants.{Compile};
 ghost use Rattle.revc.specs.Commands.Compile.{IsCompiled};
 ghost use Rattle.revc.specs.Commands.{HasOneOutcome};
@@ -11,12 +12,9 @@ use crate::limits::MOST_BYTES;
 use crate::plain::plain_plan;
 use crate::program::tape_of_text;
 use crate::small::is_small;
-use gate_split::{Laid, SplitFault, narrow_stay, split};
+use gate_split::{Laid, MOST_GATES, SplitFault, narrow_stay, split};
 use revc_base::{Memory, Tape};
 use std::alloc::Global;
-
-/// The most gates of a circuit.
-const MOST_GATES: u64 = 4_000_000;
 
 /// What `compile` gives, its causes and where it serves exclude one another, and it has one exact cause at most.
 pub fn one_outcome()
@@ -43,7 +41,7 @@ pub fn compile(alloc: Global, text: &[u8]) -> Result<Laid, Fault>
 
 // The plain plan of a tape. A split leaves its gates as they are.
 fn lay(alloc: Global, tape: &Tape) -> Result<Laid, Memory>
-    requires { sum tape.now.params + length tape.now.outputs + length tape.now.entries ≤ 16384 }
+    requires { sum tape.now.params + length tape.now.outputs + length tape.now.entries ≤ MOST_LINES }
     ensures { IfOk result (λ laid. IsPlanOf laid tape.now) }
 {
     let circuit = plain_plan(alloc, tape)?;
