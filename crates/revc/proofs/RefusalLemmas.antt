@@ -5,7 +5,7 @@ use Rattle.revs_lexer.specs.declared.token.LexFault.{LexFault}
 use Rattle.revs_lexer.specs.declared.token.LexFault.TheVariants as lexer
 use Rattle.revs_lexer.specs.declared.token.Token.{Token}
 use Rattle.revs_lexer.specs.Tokens.{IsTokens, IsRefused, closed}
-use Rattle.revs_lexer.proofs.Outcomes.{IsTokens-same, IsRefused-same, refused_has_no_tokens}
+use Rattle.revs_lexer.proofs.OutcomeLemmas.{IsTokens-same, IsRefused-same, refused_has_no_tokens}
 use Rattle.revs_terms.specs.declared.program.Param.{Param}
 use Rattle.revs_terms.specs.Trees.{Tree}
 use Rattle.revs_grammar.specs.Faults.{Verdict, within_limits, syntax, nesting, inputs, IsVerdict}

@@ -18,7 +18,7 @@ use Rattle.revs_terms.specs.declared.cause.Cause.{Cause}
 use Rattle.revs_terms.specs.declared.cause.Cause.TheVariants as causes
 use Rattle.revs_terms.specs.Running.{Value, unit, bit, register, closure, Environment, nothing, bound, value_at, Bits, Stamped, State, Outcome, stuck, went, after, provided, worked, written, read, as_bit, bit_of, chain_of, chain, term_of, run_of}
 use Rattle.revs_terms.specs.Runs.{start, inputs_from, param_value, params_in, locations_of, read_all, real_bits, run_of_program, IsInput, EndsOnAll}
-use Rattle.revs_terms.proofs.Parts.{both}
+use Rattle.std.proofs.lemmas.Bool.{and_parts}
 use Rattle.name_scope.specs.Bound.{is_bound, are_bound}
 use Rattle.revc.specs.Small.{is_plain, are_plain, operators_of, operators_behind, IsSmall}
 use Rattle.revc.proofs.SmallRuns.{behind_cons, plain_cons}
@@ -95,8 +95,8 @@ parts_fit : (form more : ℕ) → ((t : Tree) → is_plain t ≡ true → depth_
 parts_fit form more in_place scope levels left nil p f b few enough = tt
 parts_fit form more in_place scope levels left (cons t ts) p f b few enough =
     let plain = plain_cons t ts p in
-    let formed = both (is_formed t) (are_formed ts) f in
-    let in_scope = both (is_bound scope t) (are_bound scope ts) b in
+    let formed = and_parts (is_formed t) (are_formed ts) f in
+    let in_scope = and_parts (is_bound scope t) (are_bound scope ts) b in
     let levels_few = at_most (levels_as form t (levels_of t)) (levels_of_all form ts) levels few in
     let here = levels_few.0 in
     let deep = in_place t plain.0 in (
@@ -115,13 +115,13 @@ parts_fit form more in_place scope levels left (cons t ts) p f b few enough =
 
 product_fits : (scope left : ℕ) (ts : Trees) → Fits scope (suc left) (ands ts) → AllFit scope left ts
 product_fits scope left ts h =
-    let formed = both (has_two (list_of ts)) (are_formed ts) h.formed in
+    let formed = and_parts (has_two (list_of ts)) (are_formed ts) h.formed in
     let deep = h.deep in
     parts_fit application 0 in_product scope (levels_of_all application ts) left ts (plain_ands ts h.plain) formed.1 h.in_scope (omega arith) (omega arith)
 
 sum_fits : (scope left : ℕ) (ts : Trees) → Fits scope (suc left) (xors ts) → AllFit scope left ts
 sum_fits scope left ts h =
-    let formed = both (has_two (list_of ts)) (are_formed ts) h.formed in
+    let formed = and_parts (has_two (list_of ts)) (are_formed ts) h.formed in
     let deep = h.deep in
     parts_fit product 1 in_sum scope (levels_of_all product ts) left ts (plain_xors ts h.plain) formed.1 h.in_scope (omega arith) (omega arith)
 
@@ -390,9 +390,9 @@ module _ {B : Type 0} (bits : Bits B) where
             same s room.full,
           );
         })
-        (λ ts plain fits room. goes_chain _ bits.and env ts s (both (has_two (list_of ts)) _ fits.formed).0
+        (λ ts plain fits room. goes_chain _ bits.and env ts s (and_parts (has_two (list_of ts)) _ fits.formed).0
         (product_fits (scope_of env) left ts fits) below room)
-        (λ ts plain fits room. goes_chain _ bits.xor env ts s (both (has_two (list_of ts)) _ fits.formed).0 (sum_fits (scope_of env) left ts fits) below room)
+        (λ ts plain fits room. goes_chain _ bits.xor env ts s (and_parts (has_two (list_of ts)) _ fits.formed).0 (sum_fits (scope_of env) left ts fits) below room)
 
   goes_run : (left : ℕ) (env : Environment) (t : Tree) (s : State B) → Fits (scope_of env) left t → AreBelow (length s.store) env
       → HasRoom (3 * operators_of t + 1) (operators_of t) s

@@ -16,7 +16,7 @@ use Rattle.revs_terms.specs.declared.cause.Cause.{Cause}
 use Rattle.revs_terms.specs.declared.cause.Cause.TheVariants as causes
 use Rattle.revs_terms.specs.Running.{Value, unit, bit, register, closure, Environment, nothing, bound, value_at, Bits, Stamped, Met, State, Outcome, stuck, went, after, provided, worked, written, read, as_bit, bit_of, chain_of, chain, term_of, run_of}
 use Rattle.revs_terms.specs.Runs.{start, param_value, params_in, locations_of, read_all, real_bits, run_of_program, LeavesOn, IsTapeOf}
-use Rattle.revs_terms.proofs.Parts.{both}
+use Rattle.std.proofs.lemmas.Bool.{and_parts}
 use Rattle.revc.specs.Small.{is_plain, are_plain, operators_of, operators_behind, IsSmall, IsSmallTape}
 
 -- ---- values
@@ -45,7 +45,7 @@ behind_cons t ts = refl
 
 pub plain_cons : (t : Tree) (ts : Trees) → are_plain (cons t ts) ≡ true → (is_plain t ≡ true) × (are_plain ts ≡ true)
 unfolding is_plain
-plain_cons t ts e = both (is_plain t) (are_plain ts) e
+plain_cons t ts e = and_parts (is_plain t) (are_plain ts) e
 
 -- ---- what an outcome gives
 

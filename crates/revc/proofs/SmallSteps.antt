@@ -13,7 +13,7 @@ use Rattle.revs_terms.specs.declared.term.Lambda.{Lambda}
 use Rattle.revs_terms.specs.declared.term.Item.TheOpen.{Term-F}
 use Rattle.revs_terms.specs.declared.term.Item.TheOpen as layer
 use Rattle.revs_terms.specs.Trees.{Tree, Trees, trees, ands, xors, tree_of}
-use Rattle.revs_terms.proofs.Parts.{both, joined}
+use Rattle.std.proofs.lemmas.Bool.{and_parts, and_from}
 use Rattle.revs_terms.proofs.Shapes.{tree_of-Name, tree_of-Bool, tree_of-Reg, tree_of-Block, tree_of-Fun, tree_of-At, tree_of-Apply, tree_of-Append, tree_of-Rotate, tree_of-Clean, tree_of-Assert, tree_of-And, tree_of-Xor, tree_of-Assign}
 use Rattle.revc.specs.Small.{is_plain, are_plain, operators_of, operators_behind, LeavesRoom, IsTooMuch}
 
@@ -21,15 +21,15 @@ use Rattle.revc.specs.Small.{is_plain, are_plain, operators_of, operators_behind
 
 are_plain-push : (done : List Tree) (t : Tree) → are_plain (trees done) ≡ true → is_plain t ≡ true → are_plain (trees (done ++ t ∷ [])) ≡ true
 unfolding is_plain
-are_plain-push [] t p q = joined (is_plain t) true q refl
+are_plain-push [] t p q = and_from (is_plain t) true q refl
 are_plain-push (d ∷ ds) t p q =
-    let h = both (is_plain d) (are_plain (trees ds)) p in joined (is_plain d) (are_plain (trees (ds ++ t ∷ []))) h.0 (are_plain-push ds t h.1 q)
+    let h = and_parts (is_plain d) (are_plain (trees ds)) p in and_from (is_plain d) (are_plain (trees (ds ++ t ∷ []))) h.0 (are_plain-push ds t h.1 q)
 
 -- a part of plain parts
 are_plain-at : (done : List Tree) (t : Tree) (rest : List Tree) → are_plain (trees (done ++ t ∷ rest)) ≡ true → is_plain t ≡ true
 unfolding is_plain
-are_plain-at [] t rest p = (both (is_plain t) (are_plain (trees rest)) p).0
-are_plain-at (d ∷ ds) t rest p = are_plain-at ds t rest (both (is_plain d) (are_plain (trees (ds ++ t ∷ rest))) p).1
+are_plain-at [] t rest p = (and_parts (is_plain t) (are_plain (trees rest)) p).0
+are_plain-at (d ∷ ds) t rest p = are_plain-at ds t rest (and_parts (is_plain d) (are_plain (trees (ds ++ t ∷ rest))) p).1
 
 behind-append : (done rest : List Tree) → operators_behind (trees (done ++ rest)) ≡ operators_behind (trees done) + operators_behind (trees rest)
 unfolding operators_of

@@ -12,7 +12,7 @@ use Rattle.revs_lexer.specs.Tokens.{IsTokens, IsRefused, closed}
 use Rattle.revs_parser.specs.declared.program.ParseFault.{ParseFault}
 use Rattle.revs_parser.specs.declared.program.ParseFault.TheVariants as parser
 use Rattle.revc_base.specs.declared.place.Place.{Place}
-use Rattle.revc.specs.declared.limits.TheConstants.{MOST_BYTES}
+use Rattle.revs_parser.specs.declared.limits.TheConstants.{MOST_BYTES}
 use Rattle.revc.specs.inside.Mappings.{lexing_fault, parsing_fault, scope_fault, run_fault}
 use Rattle.revc.proofs.RefusalLemmas.{of_tokens}
 use Rattle.inliner.specs.Faults.{IsRefused as IsStuckAlways}

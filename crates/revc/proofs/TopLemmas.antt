@@ -4,7 +4,7 @@ use Rattle.std.specs.Prelude.{Option, IfSome, Contains, Result, OnOk, IfErr}
 use Rattle.std.specs.Io.KnownBytes.{IsAtEnd}
 use Rattle.revc.specs.declared.fault.Fault.{Fault}
 use Rattle.revc.specs.declared.fault.Fault.TheVariants.{Usage, Refused, Claim, BadBits, Read, Write, Memory}
-use Rattle.revc.specs.declared.limits.TheConstants.{MOST_BYTES}
+use Rattle.revs_parser.specs.declared.limits.TheConstants.{MOST_BYTES}
 use Rattle.revc_io.specs.declared.reading.ReadFault.{ReadFault}
 use Rattle.revc_io.specs.declared.reading.ReadFault.TheVariants as reads
 use Rattle.revc.specs.inside.Mappings.{reading_fault, words_fault}

@@ -10,7 +10,7 @@ use Rattle.revc.specs.declared.fault.Kind.{Kind}
 use Rattle.revc.specs.declared.fault.Kind.TheVariants.{BadByte, LongName, LongNumber, Syntax, Nesting, Inputs, Unbound, TwoParams, Stuck}
 use Rattle.revc.specs.declared.fault.Refusal.{Refusal}
 use Rattle.revc.specs.declared.fault.Refusal.TheVariants.{TooLong, At, Program}
-use Rattle.revc.specs.declared.limits.TheConstants.{MOST_BYTES}
+use Rattle.revs_parser.specs.declared.limits.TheConstants.{MOST_BYTES}
 use Rattle.revc.specs.Small.{IsSmall}
 use Rattle.revs_parser.specs.WellFormed.{IsProgramText, IsWellFormed}
 use Rattle.revs_terms.specs.Views.{ProgramView}

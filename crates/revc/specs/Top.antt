@@ -5,7 +5,7 @@ use Rattle.revc_io.specs.Faults.{Rose}
 use Rattle.revc_io.specs.Passing.{AppendsFront}
 use Rattle.revc.specs.declared.fault.Fault.{Fault}
 use Rattle.revc.specs.declared.fault.Fault.TheVariants.{Usage, Read, Memory}
-use Rattle.revc.specs.declared.limits.TheConstants.{MOST_BYTES}
+use Rattle.revs_parser.specs.declared.limits.TheConstants.{MOST_BYTES}
 use Rattle.revc.specs.Commands.{IsCause, IsExact, statuses_of}
 use Rattle.revc.specs.Faults.{status_of, line_of}
 use Rattle.revc.specs.Words.{OrderView, IsOrder}

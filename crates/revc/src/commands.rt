@@ -12,11 +12,11 @@ pub mod eval;
 
 use crate::digits::write_digits;
 use crate::fault::Fault;
-use crate::limits::MOST_BYTES;
 use crate::words::{Command, Order};
 use gate_split::Laid;
 use revc_base::Bits;
 use revc_io::{Failed, Sink};
+use revs_parser::MOST_BYTES;
 use std::alloc::Global;
 
 /// What waits to be written.

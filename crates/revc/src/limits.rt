@@ -1,6 +1,3 @@
-/// The most bytes of a program text.
-pub const MOST_BYTES: usize = 1_048_576;
-
 /// The budget of lines of a compiled circuit.
 pub const LINE_BUDGET: u32 = 4096;
 

@@ -8,12 +8,11 @@ ghost use Rattle.revc.specs.inside.Mappings.{lexing_fault, parsing_fault, scope_
 ghost use Rattle.revc.specs.inside.Plans.{IsTextFault, IsBoundAs};
 
 use crate::fault::{Fault, Kind, Refusal};
-use crate::limits::MOST_BYTES;
 use inliner::{RunFault, unroll};
 use name_scope::{ScopeFault, Scoped, scope};
 use revc_base::{Place, Tape};
 use revs_lexer::{LexFault, tokens};
-use revs_parser::{ParseFault, parse};
+use revs_parser::{MOST_BYTES, ParseFault, parse};
 use revs_terms::Program;
 use std::alloc::Global;
 

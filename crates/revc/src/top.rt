@@ -10,10 +10,10 @@ ghost use Rattle.revc.specs.inside.Mappings.{reading_fault, words_fault};
 
 use crate::commands::prepare;
 use crate::fault::{Fault, Refusal};
-use crate::limits::MOST_BYTES;
 use crate::report::report;
 use crate::words::{Order, WordsFault, read_words};
 use revc_io::{ReadFault, Sink, Source, read_up_to};
+use revs_parser::MOST_BYTES;
 use std::alloc::Global;
 
 /// Does what the words of the command line ask for, without the program's own name, and answers the status.

@@ -7,7 +7,7 @@ use Rattle.std.proofs.lemmas.List.Folds.{list_all-append}
 use Rattle.std.specs.List.{list_all}
 use Rattle.revs_terms.specs.declared.program.Param.{Param}
 use Rattle.revs_terms.specs.Programs.{AreParams, width_of, widths_of}
-use Rattle.revs_terms.proofs.Parts.{both}
+use Rattle.std.proofs.lemmas.Bool.{and_parts}
 
 -- ---- tests of the limits
 
@@ -26,7 +26,7 @@ sum-append ps qs =
 -- What parameters keep, the first of them keep.
 pub AreParams-front : (ps qs : List Param) → AreParams (ps ++ qs) → AreParams ps
 AreParams-front ps qs h = record {
-  bits = (both (are_bits ps) (are_bits qs) (sym (bits-append ps qs) ∙ h.bits)).0;
+  bits = (and_parts (are_bits ps) (are_bits qs) (sym (bits-append ps qs) ∙ h.bits)).0;
   inputs = omega (arith, h.inputs, sum-append ps qs);
 }
 

@@ -7,7 +7,7 @@ use Rattle.revs_lexer.specs.declared.word.Word.{Word}
 use Rattle.revs_lexer.specs.declared.word.Word.TheVariants as words
 use Rattle.revs_lexer.specs.declared.token.Tok.{Tok}
 use Rattle.revs_lexer.specs.declared.token.Tok.TheVariants as toks
-use Rattle.revs_terms.proofs.Parts.{both}
+use Rattle.std.proofs.lemmas.Bool.{and_parts}
 use Rattle.revs_grammar.specs.Forms.{Mark, any_name, any_number, word, sign, word_code, sign_code, code, mark_code, Form, Val, Piece, one, kept, opening, sub, Production, IsOneOf}
 use Rattle.revs_grammar.specs.Productions.{productions}
 use Rattle.revs_grammar.specs.inside.Machine.{Opening, first_some, behind, begun, first_line, opened, table, is_optional}
@@ -48,10 +48,10 @@ no_end (sign s) = go s
 
 pub all_below-at : (n : ℕ) (f : ℕ → Bool) (c : ℕ) → all_below n f ≡ true → c < n → f c ≡ true
 all_below-at zero f c e h = absurd (omega arith)
-all_below-at (suc n) f c e h = go (c == n) refl (λ less. all_below-at n f c (both (f n) (all_below n f) e).1 less)
+all_below-at (suc n) f c e h = go (c == n) refl (λ less. all_below-at n f c (and_parts (f n) (all_below n f) e).1 less)
   where
     go : (b : Bool) → c == n ≡ b → (c < n → f c ≡ true) → f c ≡ true
-    go true is below = let same : c ≡ n = grind (arith, nat_tests) in subst (λ (k : ℕ). f k ≡ true) (sym same) (both (f n) (all_below n f) e).0
+    go true is below = let same : c ≡ n = grind (arith, nat_tests) in subst (λ (k : ℕ). f k ≡ true) (sym same) (and_parts (f n) (all_below n f) e).0
     go false is below = below (grind (arith, nat_tests))
 
 -- ---- tests of lines
@@ -78,14 +78,14 @@ on_false false x y e h = e
 module _ {V : Type 0} where
   pub all_lines-at : (f : List Piece → Bool) (ps : List (Production V)) (p : Production V) → all_lines f ps ≡ true → IsOneOf p ps → f p.pieces ≡ true
   all_lines-at f [] p e i = absurd i
-  all_lines-at f (q ∷ qs) p e (inl is) = subst (λ (z : Production V). f z.pieces ≡ true) (sym is) (both (f q.pieces) (all_lines f qs) e).0
-  all_lines-at f (q ∷ qs) p e (inr i) = all_lines-at f qs p (both (f q.pieces) (all_lines f qs) e).1 i
+  all_lines-at f (q ∷ qs) p e (inl is) = subst (λ (z : Production V). f z.pieces ≡ true) (sym is) (and_parts (f q.pieces) (all_lines f qs) e).0
+  all_lines-at f (q ∷ qs) p e (inr i) = all_lines-at f qs p (and_parts (f q.pieces) (all_lines f qs) e).1 i
 
   no_line-at : (f : List Piece → Bool) (ps : List (Production V)) (p : Production V) → no_line f ps ≡ true → IsOneOf p ps → f p.pieces ≡ false
   no_line-at f [] p e i = absurd i
   no_line-at f (q ∷ qs) p e (inl is) =
-      subst (λ (z : Production V). f z.pieces ≡ false) (sym is) (not_true (f q.pieces) (both (not (f q.pieces)) (no_line f qs) e).0)
-  no_line-at f (q ∷ qs) p e (inr i) = no_line-at f qs p (both (not (f q.pieces)) (no_line f qs) e).1 i
+      subst (λ (z : Production V). f z.pieces ≡ false) (sym is) (not_true (f q.pieces) (and_parts (not (f q.pieces)) (no_line f qs) e).0)
+  no_line-at f (q ∷ qs) p e (inr i) = no_line-at f qs p (and_parts (not (f q.pieces)) (no_line f qs) e).1 i
 
   passes : (f : List Piece → Bool) {p q : Production V} → p ≡ q → f p.pieces ≡ true → f q.pieces ≡ true
   passes f is h = subst (λ (z : Production V). f z.pieces ≡ true) is h
@@ -118,14 +118,14 @@ steady_pieces c r left other h (one m ∷ ps) e = refl
 steady_pieces c r left other h (kept m ∷ ps) e = refl
 steady_pieces c r left other h (opening m ∷ ps) e = refl
 steady_pieces c r left other h (sub d f ∷ ps) e =
-    let low : leb (rank f + 1) r ≡ true = (both (not (is_optional f)) (leb (rank f + 1) r) e).1 in
+    let low : leb (rank f + 1) r ≡ true = (and_parts (not (is_optional f)) (leb (rank f + 1) r) e).1 in
     ap (behind d ps) (h f (grind (arith, nat_tests)))
 
 steady_lines : {V : Type 0} (c r : ℕ) (left other : Form → Option Opening) → ((f : Form) → rank f + 1 ≤ r → left f ≡ other f)
     → (ps : List (Production V)) → all_lines (starts_well r) ps ≡ true → first_line left c ps ≡ first_line other c ps
 steady_lines c r left other h [] e = refl
 steady_lines c r left other h (p ∷ ps) e =
-    let parts = both (starts_well r p.pieces) (all_lines (starts_well r) ps) e in
+    let parts = and_parts (starts_well r p.pieces) (all_lines (starts_well r) ps) e in
     ap (λ (z : Option Opening). first_some z (first_line left c ps)) (steady_pieces c r left other h p.pieces parts.0)
     ∙ ap (first_some (begun other c p.pieces)) (steady_lines c r left other h ps parts.1)
 
@@ -173,7 +173,7 @@ module _ (next : ℕ → Bool) (c : ℕ) where
   none_begun : {V : Type 0} (ps : List (Production V)) → no_line (begin next c) ps ≡ true → first_line (table c) c ps ≡ None
   none_begun [] e = refl
   none_begun (p ∷ ps) e =
-      let parts = both (not (begin next c p.pieces)) (no_line (begin next c) ps) e in
+      let parts = and_parts (not (begin next c p.pieces)) (no_line (begin next c) ps) e in
       ap (λ (z : Option Opening). first_some z (first_line (table c) c ps)) (not_begun p.pieces (not_true (begin next c p.pieces) parts.0))
       ∙ none_begun ps parts.1
 

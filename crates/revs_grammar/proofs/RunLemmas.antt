@@ -2,7 +2,7 @@
 use Rattle.std.proofs.Common.{◌≡◌, ℕ, zero, suc, ◌+◌, ◌==◌, Bool, true, false, cond, Option, Some, None, List, [], ◌∷◌, ◌++◌, inl, inr, is_some, refl, sym, ap, subst, append_assoc, arith}
 use Rattle.std.proofs.lemmas.Bool.Decides.{nat_tests}
 use Rattle.revs_lexer.specs.declared.token.Token.{Token}
-use Rattle.revs_terms.proofs.Parts.{both}
+use Rattle.std.proofs.lemmas.Bool.{and_parts}
 use Rattle.revs_grammar.specs.Forms.{Mark, any_name, any_number, word, sign, code, mark_code, Form, Val, level, Piece, one, kept, opening, sub, Production, IsOneOf}
 use Rattle.revs_grammar.specs.Productions.{productions}
 use Rattle.revs_grammar.specs.Sentences.{token, kept_token, opening_token, form, symbols, Leads, done, read, keep, open_level, by_line, any_level}
@@ -184,7 +184,7 @@ module _ (a : ℕ → Bool) where
   pub done_leads : (ss : Stack) → is_done ss ≡ true → Leads a ss [] []
   done_leads [] e = done
   done_leads (form f l ∷ ss) e =
-      let k = both (is_optional f) (is_done ss) e in
+      let k = and_parts (is_optional f) (is_done ss) e in
       let p = empty_line (productions f) k.0 in
       by_line p.0 p.1 (subst (λ (z : List Piece). Leads a (symbols l z ++ ss) [] []) (sym (empty_is p.0.pieces p.2)) (done_leads ss k.1))
   done_leads (token m ∷ ss) e = cc

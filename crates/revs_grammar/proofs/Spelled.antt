@@ -10,7 +10,7 @@ use Rattle.revs_terms.specs.Trees as t
 use Rattle.revs_terms.specs.Terms.{is_formed, are_formed, items_are_formed, form_of, levels_as, levels_of, levels_of_all, levels_of_item, levels_of_items, names_of, names_of_all, names_of_items}
 use Rattle.revs_terms.specs.Terms as forms
 use Rattle.revs_terms.specs.Programs.{IsBody}
-use Rattle.revs_terms.proofs.Parts.{joined}
+use Rattle.std.proofs.lemmas.Bool.{and_from}
 use Rattle.revs_grammar.specs.Forms.{Form, Val, BodyTree}
 use Rattle.revs_grammar.specs.Forms as g
 use Rattle.revs_grammar.specs.Productions.{productions, assign_of, xor_of, and_of, apply_of, parts_of, bound_of, in_front, body_of}
@@ -102,7 +102,7 @@ allowed l e = grind (arith, nat_tests)
 
 more : {place l i j n : ℕ} (next : Tree) (rest : List Tree) → IsKept place l next i → AreKept place l rest j → i + j ≤ n → AreKept place l (next ∷ rest) n
 more next rest h k e = record {
-  formed = joined (is_formed next) (are_formed (trees rest)) h.formed k.formed;
+  formed = and_from (is_formed next) (are_formed (trees rest)) h.formed k.formed;
   few = λ low. omega (arith, h.few low, k.few low);
   names = omega (arith, h.names, k.names, e);
 }
@@ -122,7 +122,7 @@ assigned : {l i n : ℕ} (j : ℕ) (left : Tree) (right : Option Tree) → IsKep
     → IsKept forms.expression l (assign_of left right) n
 assigned j left None h k e = looser forms.sum forms.expression left (omega arith) h (omega (arith, e))
 assigned j left (Some right) h k e = record {
-  formed = joined (is_formed left) (is_formed right) h.formed k.formed;
+  formed = and_from (is_formed left) (is_formed right) h.formed k.formed;
   few = λ low. omega (arith, h.few low, k.few low);
   names = omega (arith, h.names, k.names, e);
 }
@@ -141,7 +141,7 @@ application_kept : {l i j n : ℕ} (head : Tree) (rest : List Tree) → IsKept f
     → IsKept forms.application l (apply_of head rest) n
 application_kept head [] h k e = looser forms.atom forms.application head (omega arith) h (omega (arith, e))
 application_kept head (next ∷ rest) h k e = record {
-  formed = joined (is_formed head) (are_formed (trees (next ∷ rest))) h.formed k.formed;
+  formed = and_from (is_formed head) (are_formed (trees (next ∷ rest))) h.formed k.formed;
   few = λ low. omega (arith, h.few low, k.few low);
   names = omega (arith, h.names, k.names, e);
 }
@@ -158,14 +158,14 @@ item_least bound _ = omega arith
 let_kept : {l i j k n : ℕ} (bound : Name) (names : List Name) (term : Tree) (rest : BodyTree) → length names ≤ i → IsKept forms.expression l term j
     → IsBodyKept l rest k → i + j + k + 1 ≤ n → IsBodyKept l (in_front (t.bind bound (bound_of names term)) rest) n
 let_kept bound [] term rest m h k e = record {
-  formed = joined (is_formed term) (items_are_formed (item_trees rest.items)) h.formed k.formed;
+  formed = and_from (is_formed term) (items_are_formed (item_trees rest.items)) h.formed k.formed;
   last_formed = k.last_formed;
   few = λ low. omega (arith, h.few low, k.few low, item_least bound term, as_least forms.expression term (levels_of term));
   last_few = k.last_few;
   names = omega (arith, h.names, k.names, e);
 }
 let_kept bound (first ∷ names) term rest m h k e = record {
-  formed = joined (is_formed term) (items_are_formed (item_trees rest.items)) h.formed k.formed;
+  formed = and_from (is_formed term) (items_are_formed (item_trees rest.items)) h.formed k.formed;
   last_formed = k.last_formed;
   few = λ low. omega (arith, h.few low, k.few low, as_least forms.expression term (levels_of term));
   last_few = k.last_few;
@@ -182,7 +182,7 @@ body_kept_by j term None h k e = record {
   names = omega (arith, h.names, e);
 }
 body_kept_by j term (Some rest) h k e = record {
-  formed = joined (is_formed term) (items_are_formed (item_trees rest.items)) h.formed k.formed;
+  formed = and_from (is_formed term) (items_are_formed (item_trees rest.items)) h.formed k.formed;
   last_formed = k.last_formed;
   few = λ low. omega (arith, h.few low, k.few low, as_least forms.expression term (levels_of term));
   last_few = k.last_few;
@@ -223,7 +223,7 @@ lines_keep g.application = (
     λ l at operand i h. record { formed = h.formed; few = h.few; names = omega (arith, h.names) },
     (
       λ l at first i h second j k. record {
-        formed = joined (is_formed first) (is_formed second) h.formed k.formed;
+        formed = and_from (is_formed first) (is_formed second) h.formed k.formed;
         few = λ low. omega (arith, h.few low, k.few low);
         names = omega (arith, h.names, k.names);
       },
@@ -259,7 +259,7 @@ lines_keep g.base = (
           },
           (
             λ l at ok inside i h. let x : IsBodyKept (l + 1) inside i = h in record {
-              formed = joined (items_are_formed (item_trees inside.items)) (is_formed inside.last) x.formed x.last_formed;
+              formed = and_from (items_are_formed (item_trees inside.items)) (is_formed inside.last) x.formed x.last_formed;
               few = λ low. omega (arith, x.few (allowed l ok), x.last_few (allowed l ok));
               names = omega (arith, x.names);
             },

@@ -1,6 +1,6 @@
 -- The machine step by step: what it takes is what its stack begins with, and a form takes what its line takes.
 use Rattle.std.proofs.Common.{◌≡◌, ℕ, ◌+◌, ◌<◌, ◌==◌, Bool, true, false, ◌&&◌, ◌||◌, not, cond, leb, Option, Some, None, List, [], ◌∷◌, ◌++◌, inl, inr, is_some, refl, sym, ◌∙◌, ap, subst, append_assoc}
-use Rattle.revs_terms.proofs.Parts.{both, joined}
+use Rattle.std.proofs.lemmas.Bool.{and_parts, and_from}
 use Rattle.revs_grammar.specs.Forms.{mark_code, Form, Val, level, Piece, one, kept, opening, sub, Production, IsOneOf}
 use Rattle.revs_grammar.specs.Productions.{productions}
 use Rattle.revs_grammar.specs.Sentences.{token, kept_token, opening_token, form, symbols}
@@ -74,7 +74,7 @@ ordered next l (one m ∷ ps) ss e h o = ordered next l ps ss e h o
 ordered next l (kept m ∷ ps) ss e h o = ordered next l ps ss e h o
 ordered next l (opening m ∷ ps) ss e h o = ordered next l ps ss e h o
 ordered next l (sub d f ∷ ps) ss e h o =
-    let parts = both (all_below 35 (λ c. not (begin next c ps) || may_follow f c)) (is_closed next ps) e in (
+    let parts = and_parts (all_below 35 (λ c. not (begin next c ps) || may_follow f c)) (is_closed next ps) e in (
       record {
         follows = λ c low b.
             implied (begin next c ps) (may_follow f c) (all_below-at 35 (λ c. not (begin next c ps) || may_follow f c) c parts.0 low)
@@ -109,7 +109,7 @@ piece_step a c l r (kept m ∷ ps) ss x w e =
 piece_step a c l r (opening m ∷ ps) ss x w e =
     token_front a c l (opening m ∷ ps) ss x (record { opens = λ l. Some (l + 1); rest = λ l. symbols l ps }) (c == mark_code m) e refl
 piece_step a c l r (sub d f ∷ ps) ss x w e =
-    let must : is_optional f ≡ false = not_true (is_optional f) (both (not (is_optional f)) (leb (rank f + 1) r) w).0 in
+    let must : is_optional f ≡ false = not_true (is_optional f) (and_parts (not (is_optional f)) (leb (rank f + 1) r) w).0 in
     go (table c f) refl (subst (λ (b : Bool). taken a (level d l) (symbols l ps ++ ss) (table c f) (cond b (step a c (symbols l ps ++ ss)) None) ≡ Some x) must e)
   where
     go : (o : Option Opening) → table c f ≡ o → taken a (level d l) (symbols l ps ++ ss) o None ≡ Some x → TakenBy a c l (sub d f ∷ ps) ss x
@@ -157,8 +157,8 @@ line_step a c f l ss x p low i b e = go (piece_step a c l (rank f) p.pieces ss x
 pub done_is_empty : (l r : ℕ) (ps : List Piece) (ss : Stack) → starts_well r ps ≡ true → is_done (symbols l ps ++ ss) ≡ true → is_empty ps ≡ true
 done_is_empty l r [] ss w d = refl
 done_is_empty l r (sub e f ∷ ps) ss w d =
-    let must = not_true (is_optional f) (both (not (is_optional f)) (leb (rank f + 1) r) w).0 in
-    absurd (true≢false (sym (both (is_optional f) (is_done (symbols l ps ++ ss)) d).0 ∙ must))
+    let must = not_true (is_optional f) (and_parts (not (is_optional f)) (leb (rank f + 1) r) w).0 in
+    absurd (true≢false (sym (and_parts (is_optional f) (is_done (symbols l ps ++ ss)) d).0 ∙ must))
 done_is_empty l r (one m ∷ ps) ss w d = cc
 done_is_empty l r (kept m ∷ ps) ss w d = cc
 done_is_empty l r (opening m ∷ ps) ss w d = cc
@@ -168,5 +168,5 @@ pub line_done : (f : Form) (l : ℕ) (ss : Stack) (p : Production (Val f)) → I
     → is_done (form f l ∷ ss) ≡ true
 line_done f l ss p i d =
     let e = done_is_empty l (rank f) p.pieces ss (all_lines-at (starts_well (rank f)) (productions f) p (starts f) i) d in
-    joined (is_optional f) (is_done ss) (has_empty-of (productions f) p i e)
+    and_from (is_optional f) (is_done ss) (has_empty-of (productions f) p i e)
     (subst (λ (z : List Piece). is_done (symbols l z ++ ss) ≡ true) (empty_is p.pieces e) d)

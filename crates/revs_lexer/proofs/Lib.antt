@@ -3,7 +3,6 @@ pub mod FirstByteLemmas
 pub mod GapLemmas
 pub mod LongestLemmas
 pub mod OutcomeLemmas
-pub mod Outcomes
 pub mod RunLemmas
 pub mod SomeOutcomeLemmas
 pub mod TableLemmas

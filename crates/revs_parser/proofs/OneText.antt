@@ -1,7 +1,7 @@
 -- A text is that of one program.
 use Rattle.std.proofs.Common.{◌≡◌, ℕ, List, ap, ◌∙◌, subst}
 use Rattle.revs_lexer.specs.Tokens.{closed}
-use Rattle.revs_lexer.proofs.Outcomes.{IsTokens-same}
+use Rattle.revs_lexer.proofs.OutcomeLemmas.{IsTokens-same}
 use Rattle.revs_terms.specs.declared.program.Param.{Param}
 use Rattle.revs_terms.specs.Scopes.{ScopeVerdict, scope_verdict, bound_as}
 use Rattle.revs_terms.specs.Trees.{Tree}

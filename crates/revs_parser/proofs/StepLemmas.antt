@@ -9,7 +9,7 @@ use Rattle.revs_lexer.specs.declared.word.Word.TheVariants as words
 use Rattle.revs_lexer.specs.declared.token.Tok.{Tok}
 use Rattle.revs_lexer.specs.declared.token.Tok.TheVariants as toks
 use Rattle.revs_lexer.specs.declared.token.Token.{Token}
-use Rattle.revs_terms.proofs.Parts.{both}
+use Rattle.std.proofs.lemmas.Bool.{and_parts}
 use Rattle.revs_grammar.specs.Forms.{Mark, any_name, any_number, word, sign, word_code, sign_code, code, mark_code, Form, Val, Depth, level, Piece, one, kept, opening, sub, here, plain, Production, IsOneOf}
 use Rattle.revs_grammar.specs.Forms as g
 use Rattle.revs_grammar.specs.Productions.{productions}
@@ -124,7 +124,7 @@ front_step a c l r (opening m ∷ ps) ms w e = go (c == mark_code m)
     go true = refl
     go false = refl
 front_step a c l r (sub d f ∷ ps) ms w e =
-    let must = not_true (is_optional f) (both (not (is_optional f)) (leb (rank f + 1) r) w).0 in
+    let must = not_true (is_optional f) (and_parts (not (is_optional f)) (leb (rank f + 1) r) w).0 in
     go (table c f)
     ∙ ap (λ (b : Bool). taken a (level d l) (symbols l ps ++ ms) (table c f) (cond b (step a c (symbols l ps ++ ms)) None)) (sym must)
   where
@@ -159,7 +159,7 @@ as_line f l p i must some (t ∷ ts) h ms =
     not_done (kept m ∷ ps) w e = refl
     not_done (opening m ∷ ps) w e = refl
     not_done (sub d g ∷ ps) w e =
-        let must = not_true (is_optional g) (both (not (is_optional g)) (leb (rank g + 1) (rank f)) w).0 in
+        let must = not_true (is_optional g) (and_parts (not (is_optional g)) (leb (rank g + 1) (rank f)) w).0 in
         ap (λ (b : Bool). b && is_done (symbols l ps ++ ms)) must
 
 if_some : (x : Opening) (b : Bool) → b ≡ true → is_some (cond b (Some x) None) ≡ true
@@ -173,7 +173,7 @@ front_some next c r (one m ∷ ps) w e b = if_some _ (c == mark_code m) b
 front_some next c r (kept m ∷ ps) w e b = if_some _ (c == mark_code m) b
 front_some next c r (opening m ∷ ps) w e b = if_some _ (c == mark_code m) b
 front_some next c r (sub d f ∷ ps) w e b =
-    go (table c f) (is_optional f) (not_true (is_optional f) (both (not (is_optional f)) (leb (rank f + 1) r) w).0) b
+    go (table c f) (is_optional f) (not_true (is_optional f) (and_parts (not (is_optional f)) (leb (rank f + 1) r) w).0) b
   where
     go : (o : Option Opening) (may : Bool) → may ≡ false → is_some o || (may && begin next c ps) ≡ true → is_some (behind d ps o) ≡ true
     go (Some o) may must b = refl

@@ -3,6 +3,7 @@ use Rattle.std.specs.Prelude.{◌≡◌, ℕ, ◌≤◌, List, length}
 use Rattle.revs_lexer.specs.declared.token.Token.{Token}
 use Rattle.revs_lexer.specs.Tokens.{IsTokens, closed}
 use Rattle.revs_grammar.specs.Answers.{IsProgramOf}
+use Rattle.revs_parser.specs.declared.limits.TheConstants.{MOST_BYTES}
 use Rattle.revs_terms.specs.Runs.{EndsOnAll}
 use Rattle.revs_terms.specs.Scopes.{scope_verdict, bound_as}
 use Rattle.revs_terms.specs.Trees.{Tree}
@@ -11,7 +12,7 @@ use Rattle.revs_terms.specs.Views.{ProgramView}
 -- The text is that of this program, whose names are not bound yet: it has at most 1,048,576 bytes, and its tokens are the program's
 -- sentence within limits.
 pub record IsProgramText (text : List ℕ) (p : ProgramView) : Type 0 where
-  pub short : length text ≤ 1048576
+  pub short : length text ≤ MOST_BYTES
   pub tokens : List Token
   pub cut : IsTokens text tokens
   pub sentence : IsProgramOf (closed text tokens) p.params p.body

@@ -7,10 +7,12 @@
 mod expression;
 mod law;
 mod leaf;
+mod limits;
 mod program;
 mod stop;
 
 pub use law::one_program_of_text;
+pub use limits::MOST_BYTES;
 pub use program::{ParseFault, parse};
 
 #[cfg(test)]

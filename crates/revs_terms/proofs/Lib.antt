@@ -1,5 +1,4 @@
 pub mod Shapes
-pub mod Parts
 pub mod PairedLemmas
 pub mod LogLemmas
 pub mod BitlessRunLemmas

@@ -8,12 +8,12 @@ ghost use Rattle.revc.specs.inside.Outcomes.{IsCompileFault, IsWritable, file_of
 ghost use Rattle.revc.specs.inside.Plans.{IsPlanOf};
 
 use crate::fault::{Fault, Refusal};
-use crate::limits::MOST_BYTES;
 use crate::plain::plain_plan;
 use crate::program::tape_of_text;
 use crate::small::is_small;
 use gate_split::{Laid, MOST_GATES, SplitFault, narrow_stay, split};
 use revc_base::{Memory, Tape};
+use revs_parser::MOST_BYTES;
 use std::alloc::Global;
 
 /// What `compile` gives, its causes and where it serves exclude one another, and it has one exact cause at most.

@@ -9,9 +9,9 @@ ghost use Rattle.revc.specs.inside.Outcomes.{IsEvalFault};
 ghost use Rattle.revc.specs.inside.Plans.{IsBitsFault};
 
 use crate::fault::Fault;
-use crate::limits::MOST_BYTES;
 use crate::program::tape_of_text;
 use revc_base::{Bits, BitsFault, Tape, TapeEnd};
+use revs_parser::MOST_BYTES;
 use std::alloc::Global;
 
 /// What `eval` gives, its causes and where it serves exclude one another, and it has one cause at most.
