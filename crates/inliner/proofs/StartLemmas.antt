@@ -159,7 +159,8 @@ started params m w t i b are =
         made = b.are;
         leaps = b.leaps;
         known = subst (λ (x : TapeView). AllByRecursion (IsKnownIn x) m.store.items) (sym t)
-            (AllByRecursion-weaker (IsInputBelow (sum (widths_of params))) (IsKnownIn (record { params = widths_of params; entries = []; claims = []; outputs = [] }))
+            (AllByRecursion-weaker (IsInputBelow (sum (widths_of params)))
+            (IsKnownIn (record { params = widths_of params; entries = []; claims = []; outputs = [] }))
             (known_below (widths_of params)) m.store.items i.known);
         few = omega (arith, i.count, are.inputs);
         within = omega arith;

@@ -145,7 +145,8 @@ wrote old now entry at made m b s t w room is =
         made = subst (AreBindings 0) (sym b) is.made;
         leaps = subst (AreLeaps []) (sym b) is.leaps;
         known = rw s (AllByRecursion-push (IsKnownIn now.tape) old.store.items (Some (refs.Write (length old.tape.entries)))
-            (AllByRecursion-weaker (IsKnownIn old.tape) (IsKnownIn now.tape) (λ held. IsKnownIn-later old.tape now.tape held params (omega arith)) old.store.items is.known)
+            (AllByRecursion-weaker (IsKnownIn old.tape) (IsKnownIn now.tape) (λ held. IsKnownIn-later old.tape now.tape held params
+            (omega arith)) old.store.items is.known)
             (omega (arith, longer)));
         few = rw s (omega (arith, longer, is.few, length-append old.store.items (Some (refs.Write (length old.tape.entries)) ∷ [])));
         within = rw w is.within;

@@ -13,7 +13,7 @@ use Rattle.revc.specs.declared.fault.Fault.TheVariants as faults
 use Rattle.revc.specs.declared.fault.Refusal.{Refusal}
 use Rattle.std.specs.Prelude.{slice_index_or}
 use Rattle.revs_parser.specs.WellFormed.{IsWellFormed}
-use Rattle.revs_parser.proofs.OneText.{one_formed}
+use Rattle.revs_parser.proofs.OneTextLemmas.{one_formed}
 use Rattle.revs_terms.specs.Programs.{widths_of}
 use Rattle.revs_terms.specs.Runs.{IsTapeOf, HasOutput}
 use Rattle.revs_terms.proofs.TapeLemmas.{one_tape_at_most, tape_gives_output}

@@ -4,9 +4,9 @@ pub mod CompileLemmas
 pub mod TextLemmas
 pub mod PlanLemmas
 pub mod TopLemmas
-pub mod SmallRuns
-pub mod SmallSteps
+pub mod SmallRunLemmas
+pub mod SmallStepLemmas
 pub mod PlainLemmas
-pub mod SmallEnds
-pub mod SmallTexts
+pub mod SmallEndLemmas
+pub mod SmallTextLemmas
 pub mod WordsLemmas

@@ -10,7 +10,7 @@ use Rattle.real_format.specs.Compiled.{MeansCompiled}
 use Rattle.revc_base.specs.Claims.{HoldsEverywhere}
 use Rattle.revc_base.specs.Tapes.{TapeView, bit_on, outputs_on}
 use Rattle.revs_parser.specs.WellFormed.{IsWellFormed}
-use Rattle.revs_parser.proofs.OneText.{one_formed}
+use Rattle.revs_parser.proofs.OneTextLemmas.{one_formed}
 use Rattle.revs_terms.specs.Programs.{widths_of}
 use Rattle.revs_terms.specs.Runs.{IsInput, IsTapeOf}
 use Rattle.revs_terms.specs.Views.{ProgramView}
@@ -19,7 +19,7 @@ use Rattle.revc.specs.Clean.{IsSmallText, IsClean, ComputesOn, AllHold}
 use Rattle.revc.specs.Commands.Compile.{IsCompiled}
 use Rattle.revc.specs.inside.Plans.{IsCleanPlan, IsPlanOf}
 use Rattle.revc.specs.Small.{IsSmallTape}
-use Rattle.revc.proofs.SmallTexts.{small_is_formed}
+use Rattle.revc.proofs.SmallTextLemmas.{small_is_formed}
 
 -- the tape of a small program has few lines
 pub few_lines : (text : List ℕ) (p : ProgramView) (tape : TapeView) → IsWellFormed text p → IsTapeOf p.params p.body tape → IsSmallTape tape

@@ -9,12 +9,12 @@ use Rattle.revs_lexer.proofs.OutcomeLemmas.{IsTokens-same, IsRefused-same, refus
 use Rattle.revs_terms.specs.declared.program.Param.{Param}
 use Rattle.revs_terms.specs.Trees.{Tree}
 use Rattle.revs_grammar.specs.Faults.{Verdict, within_limits, syntax, nesting, inputs, IsVerdict}
-use Rattle.revs_grammar.proofs.Verdicts.{one_verdict}
+use Rattle.revs_grammar.proofs.VerdictLemmas.{one_verdict}
 use Rattle.revc.specs.declared.fault.Kind.TheVariants as kinds
 use Rattle.revc.specs.declared.fault.Refusal.{Refusal}
 use Rattle.revc.specs.declared.fault.Refusal.TheVariants as refusals
 use Rattle.revs_parser.specs.WellFormed.{IsProgramText, IsWellFormed}
-use Rattle.revs_parser.proofs.OneText.{one_text, one_formed}
+use Rattle.revs_parser.proofs.OneTextLemmas.{one_text, one_formed}
 use Rattle.revs_terms.specs.Views.{ProgramView}
 use Rattle.revc.specs.Small.{IsSmall}
 use Rattle.revs_terms.specs.Programs.{widths_of}
@@ -25,7 +25,7 @@ use Rattle.revs_terms.specs.Scopes.{ScopeVerdict, scope_verdict, bound_as, two_p
 use Rattle.revc_base.specs.declared.place.Place.{Place}
 use Rattle.revc.specs.Clean.{IsSmallText}
 use Rattle.revc.specs.Refusals.{OfTokens, IsStuckFor, IsRefusal}
-use Rattle.revc.proofs.SmallTexts.{small_is_formed}
+use Rattle.revc.proofs.SmallTextLemmas.{small_is_formed}
 
 -- ---- how a program ends: its run is looked at on the input of zeros
 

@@ -17,7 +17,8 @@ use std::alloc::Global;
 /// The plain circuit of a tape: the input lines, the output lines and a work line for each write
 /// (Bennett, Logical reversibility of computation, 1973).
 pub fn plain_plan(alloc: Global, tape: &Tape) -> Result<Circuit, Memory>
-    requires few { sum tape.now.params + length tape.now.outputs + length tape.now.entries ≤ MOST_LINES }
+    requires few { sum tape.now.params + length tape.now.outputs + length tape.now.entries ≤
+        MOST_LINES }
     ensures lines { IfOk result (λ circuit. circuit.lines
         ≡ sum tape.now.params + length tape.now.outputs + length tape.now.entries) }
     ensures gates { IfOk result (λ circuit. circuit.gates ≡ plain_gates tape.now) }
@@ -35,7 +36,8 @@ pub fn plain_plan(alloc: Global, tape: &Tape) -> Result<Circuit, Memory>
 
 // The gates of the plan.
 fn build(alloc: Global, tape: &Tape) -> Result<Circuit, Memory>
-    requires few { sum tape.now.params + length tape.now.outputs + length tape.now.entries ≤ MOST_LINES }
+    requires few { sum tape.now.params + length tape.now.outputs + length tape.now.entries ≤
+        MOST_LINES }
     ensures lines { IfOk result (λ circuit. circuit.lines
         ≡ sum tape.now.params + length tape.now.outputs + length tape.now.entries) }
     ensures gates { IfOk result (λ circuit. circuit.gates ≡ plain_gates tape.now) }
@@ -66,7 +68,8 @@ fn line_of(inputs: u32, outputs: u32, made: Ref) -> u32
 
 // Appends the toggles of all writes.
 fn toggle_all(circuit: &mut Circuit, tape: &Tape) -> Result<(), Memory>
-    requires few { sum tape.now.params + length tape.now.outputs + length tape.now.entries ≤ MOST_LINES }
+    requires few { sum tape.now.params + length tape.now.outputs + length tape.now.entries ≤
+        MOST_LINES }
     requires lines { circuit.old.lines
         ≡ sum tape.now.params + length tape.now.outputs + length tape.now.entries }
     requires limit { circuit.old.limit ≡ MOST_GATES }
@@ -124,7 +127,8 @@ fn toggle(
 
 // Appends the copies of all outputs to their lines.
 fn copy_all(circuit: &mut Circuit, tape: &Tape) -> Result<(), Memory>
-    requires few { sum tape.now.params + length tape.now.outputs + length tape.now.entries ≤ MOST_LINES }
+    requires few { sum tape.now.params + length tape.now.outputs + length tape.now.entries ≤
+        MOST_LINES }
     requires lines { circuit.old.lines
         ≡ sum tape.now.params + length tape.now.outputs + length tape.now.entries }
     requires room { length circuit.old.gates + length tape.now.outputs ≤ circuit.old.limit }

@@ -54,7 +54,8 @@ module _ (allowed : ℕ → Bool) (Keeps : (f : Form) → ℕ → Val f → ℕ 
   line_keeps f (q ∷ qs) h p (inr i) l = line_keeps f qs h.1 p i l
 
   -- Where each line keeps it, each reading does.
-  pub values_kept : ((f : Form) → LinesKeep f (productions f)) → {ss left : List Symbol} {ts : List Token} (d : Leads allowed ss ts left) (ws : Vals left) (m n : ℕ)
+  pub values_kept : ((f : Form) → LinesKeep f (productions f)) → {ss left : List Symbol} {ts : List Token} (d : Leads allowed ss ts left) (ws : Vals left)
+      (m n : ℕ)
       → n ≡ length ts + m → AreKept left ws m → AreKept ss (value d ws) n
   values_kept all (done {ss = ss}) ws m n e k = subst (AreKept ss ws) (omega (arith, e)) k
   values_kept all (read {ts = ts} c d) ws m n e k = (length ts + m, omega (arith, e), values_kept all d ws m (length ts + m) refl k)

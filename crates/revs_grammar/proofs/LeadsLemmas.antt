@@ -8,8 +8,8 @@ use Rattle.revs_grammar.specs.Answers.{HasSentence}
 use Rattle.revs_terms.specs.declared.program.Param.{Param}
 use Rattle.revs_terms.specs.Trees.{Tree}
 use Rattle.revs_grammar.specs.inside.Machine.{Stack, is_done, run, is_empty}
-use Rattle.revs_grammar.proofs.Hints.{may_follow}
-use Rattle.revs_grammar.proofs.Checks.{one_line_at_most, begin, starts_well, starts, lines_part, left_out_once}
+use Rattle.revs_grammar.proofs.CheckHints.{may_follow}
+use Rattle.revs_grammar.proofs.CheckLemmas.{one_line_at_most, begin, starts_well, starts, lines_part, left_out_once}
 use Rattle.revs_grammar.proofs.LineLemmas.{true≢false, one_line, all_below-at, code_low, all_lines-at}
 use Rattle.revs_grammar.proofs.StepLemmas.{step_begins, IsOrdered, ordered_line, begin_of, line_done, done_is_empty}
 use Rattle.revs_grammar.proofs.RunLemmas.{HoldsByLines, RunsTo, leads_runs, run_next, run_leads, done_leads, completed}
@@ -70,7 +70,8 @@ taking a f l ss [] p i o d =
 taking a f l ss (t ∷ ts) p i o d =
     let r = leads_runs IsDone done_by_lines a d (ordered_line f l ss p i o) refl in
     let n = run_next a t ts (symbols l p.pieces ++ ss) r.stack r.runs in
-    begin_of (may_follow f) (code t.tok) l p.pieces ss (step_begins a (code t.tok) (symbols l p.pieces ++ ss) n.0 n.1) (o.0.follows (code t.tok) (code_low t.tok))
+    begin_of (may_follow f) (code t.tok) l p.pieces ss (step_begins a (code t.tok) (symbols l p.pieces ++ ss) n.0 n.1)
+    (o.0.follows (code t.tok) (code_low t.tok))
 
 -- By one line, two readings stand for one thing.
 by_one : (b : ℕ → Bool) (f : Form) (l : ℕ) (ss : List Symbol) (ts : List Token) (p q : Production (Val f)) → p ≡ q → (vs : Vals (symbols l p.pieces ++ ss))
@@ -84,7 +85,8 @@ pub same_value : {a b : ℕ → Bool} {ss : List Symbol} {ts : List Token} (d : 
 same_value done done o = refl
 same_value (read c d) (read k e) o = same_value d e o
 same_value (keep {m = m} {t = t} {ss = ss} c d) (keep k e) o = ap (λ (z : Vals ss). let v : Held m × Vals ss = (held m t, z) in v) (same_value d e o)
-same_value (open_level {m = m} {t = t} {ss = ss} c ok d) (open_level k okay e) o = ap (λ (z : Vals ss). let v : Held m × Vals ss = (held m t, z) in v) (same_value d e o)
+same_value (open_level {m = m} {t = t} {ss = ss} c ok d) (open_level k okay e) o = ap (λ (z : Vals ss). let v : Held m × Vals ss = (held m t, z) in v)
+    (same_value d e o)
 same_value {a} {b} (by_line {f = f} {l = l} {ss = ss} {ts = ts} p i d) (by_line q j e) o =
     by_one b f l ss ts p q
     (one_line (takes f ts) (productions f) p q (takes_once f ts) i j (taking a f l ss ts p i o d) (taking b f l ss ts q j o e))

@@ -1,11 +1,11 @@
-pub mod Hints
-pub mod Checks
+pub mod CheckHints
+pub mod CheckLemmas
 pub mod LineLemmas
 pub mod StepLemmas
 pub mod RunLemmas
 pub mod LeadsLemmas
 pub mod LimitLemmas
-pub mod Outcomes
-pub mod Verdicts
+pub mod OutcomeLemmas
+pub mod VerdictLemmas
 pub mod KeepingLemmas
-pub mod Spelled
+pub mod SpellingLemmas

@@ -11,8 +11,8 @@ use Rattle.std.proofs.lemmas.Bool.{and_parts}
 use Rattle.revs_grammar.specs.Forms.{Mark, any_name, any_number, word, sign, word_code, sign_code, code, mark_code, Form, Val, Piece, one, kept, opening, sub, Production, IsOneOf}
 use Rattle.revs_grammar.specs.Productions.{productions}
 use Rattle.revs_grammar.specs.inside.Machine.{Opening, first_some, behind, begun, first_line, opened, table, is_optional}
-use Rattle.revs_grammar.proofs.Hints.{rank, may_follow}
-use Rattle.revs_grammar.proofs.Checks.{all_below, all_lines, no_line, one_line_at_most, begin, starts_well, starts, lines_part, low_rank}
+use Rattle.revs_grammar.proofs.CheckHints.{rank, may_follow}
+use Rattle.revs_grammar.proofs.CheckLemmas.{all_below, all_lines, no_line, one_line_at_most, begin, starts_well, starts, lines_part, low_rank}
 
 -- ---- kinds of tokens
 
@@ -178,12 +178,14 @@ module _ (next : ℕ → Bool) (c : ℕ) where
       ∙ none_begun ps parts.1
 
   -- The line that begins so is what the table finds, also where it is empty.
-  pub found : {V : Type 0} (ps : List (Production V)) (p : Production V) → one_line_at_most (begin next c) ps ≡ true → IsOneOf p ps → begin next c p.pieces ≡ true
+  pub found : {V : Type 0} (ps : List (Production V)) (p : Production V) → one_line_at_most (begin next c) ps ≡ true → IsOneOf p ps → begin next c p.pieces
+      ≡ true
       → first_line (table c) c ps ≡ begun (table c) c p.pieces
   found [] p e i h = absurd i
   found {V = W} (q ∷ qs) p e (inl is) h =
       let mine : begin next c q.pieces ≡ true = passes (begin next c) is h in
-      ap (first_some (begun (table c) c q.pieces)) (none_begun qs (on_true (begin next c q.pieces) (no_line (begin next c) qs) (one_line_at_most (begin next c) qs) e mine))
+      ap (first_some (begun (table c) c q.pieces))
+      (none_begun qs (on_true (begin next c q.pieces) (no_line (begin next c) qs) (one_line_at_most (begin next c) qs) e mine))
       ∙ first_only (begun (table c) c q.pieces) ∙ ap (λ (z : Production W). begun (table c) c z.pieces) (sym is)
     where
       first_only : (o : Option Opening) → first_some o None ≡ o

@@ -7,7 +7,7 @@ use Rattle.revs_grammar.specs.Forms.{Mark, any_name, any_number, word, sign, cod
 use Rattle.revs_grammar.specs.Productions.{productions}
 use Rattle.revs_grammar.specs.Sentences.{token, kept_token, opening_token, form, symbols, Leads, done, read, keep, open_level, by_line, any_level}
 use Rattle.revs_grammar.specs.inside.Machine.{Stack, Opening, first_some, behind, begun, first_line, opened, table, is_empty, has_empty, is_optional, at_level, taken, step, is_done, run}
-use Rattle.revs_grammar.proofs.Checks.{sample, onto, both_lists, fill_pieces, first_filled, completion, completes}
+use Rattle.revs_grammar.proofs.CheckLemmas.{sample, onto, both_lists, fill_pieces, first_filled, completion, completes}
 use Rattle.revs_grammar.proofs.LineLemmas.{code_low}
 use Rattle.revs_grammar.proofs.StepLemmas.{taken_if, opened_if, IsOrdered, ordered_line, line_step, empty_is}
 
@@ -216,7 +216,8 @@ filled_pieces whole h [] = λ l ss left ts d. d
 filled_pieces whole h (one m ∷ ps) =
     filled_onto m (λ l. symbols l ps) (λ l. symbols l (one m ∷ ps)) (fill_pieces whole ps) (filled_pieces whole h ps) (λ l ss left ts d. read (sample_code m) d)
 filled_pieces whole h (kept m ∷ ps) =
-    filled_onto m (λ l. symbols l ps) (λ l. symbols l (kept m ∷ ps)) (fill_pieces whole ps) (filled_pieces whole h ps) (λ l ss left ts d. keep (sample_code m) d)
+    filled_onto m (λ l. symbols l ps) (λ l. symbols l (kept m ∷ ps)) (fill_pieces whole ps) (filled_pieces whole h ps)
+    (λ l ss left ts d. keep (sample_code m) d)
 filled_pieces whole h (opening m ∷ ps) =
     filled_onto m (λ l. symbols l ps) (λ l. symbols l (opening m ∷ ps)) (fill_pieces whole ps) (filled_pieces whole h ps)
     (λ l ss left ts d. open_level (sample_code m) refl d)

@@ -5,8 +5,8 @@ use Rattle.revs_grammar.specs.Forms.{mark_code, Form, Val, level, Piece, one, ke
 use Rattle.revs_grammar.specs.Productions.{productions}
 use Rattle.revs_grammar.specs.Sentences.{token, kept_token, opening_token, form, symbols}
 use Rattle.revs_grammar.specs.inside.Machine.{Stack, Opening, behind, begun, table, is_empty, has_empty, is_optional, at_level, taken, step, is_done}
-use Rattle.revs_grammar.proofs.Hints.{rank, may_follow}
-use Rattle.revs_grammar.proofs.Checks.{all_below, begin, starts_well, is_closed, starts, closes}
+use Rattle.revs_grammar.proofs.CheckHints.{rank, may_follow}
+use Rattle.revs_grammar.proofs.CheckLemmas.{all_below, begin, starts_well, is_closed, starts, closes}
 use Rattle.revs_grammar.proofs.LineLemmas.{all_below-at, true≢false, not_true, implied, all_lines-at, begun_begins, table_line}
 
 -- ---- what a stack begins with
@@ -110,7 +110,8 @@ piece_step a c l r (opening m ∷ ps) ss x w e =
     token_front a c l (opening m ∷ ps) ss x (record { opens = λ l. Some (l + 1); rest = λ l. symbols l ps }) (c == mark_code m) e refl
 piece_step a c l r (sub d f ∷ ps) ss x w e =
     let must : is_optional f ≡ false = not_true (is_optional f) (and_parts (not (is_optional f)) (leb (rank f + 1) r) w).0 in
-    go (table c f) refl (subst (λ (b : Bool). taken a (level d l) (symbols l ps ++ ss) (table c f) (cond b (step a c (symbols l ps ++ ss)) None) ≡ Some x) must e)
+    go (table c f) refl (subst (λ (b : Bool). taken a (level d l) (symbols l ps ++ ss) (table c f) (cond b (step a c (symbols l ps ++ ss)) None)
+    ≡ Some x) must e)
   where
     go : (o : Option Opening) → table c f ≡ o → taken a (level d l) (symbols l ps ++ ss) o None ≡ Some x → TakenBy a c l (sub d f ∷ ps) ss x
     go None is e = cc

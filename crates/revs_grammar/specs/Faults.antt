@@ -67,4 +67,5 @@ SomeVerdict = (tokens : List Token) → IsEnded tokens → (verdict : Verdict) �
 
 -- No list of tokens has two verdicts.
 abbrev pub OneVerdict : Type 0
-OneVerdict = (tokens : List Token) (verdict other : Verdict) → IsVerdict tokens verdict → IsVerdict tokens other → verdict ≡ other
+OneVerdict = (tokens : List Token) (verdict other : Verdict) → IsVerdict tokens verdict → IsVerdict tokens other
+    → verdict ≡ other

@@ -31,10 +31,12 @@ pub data Leads (allowed : ℕ → Bool) : List Symbol → List Token → List Sy
       → Leads allowed ss ts left → Leads allowed (token m ∷ ss) (t ∷ ts) left
   keep : {m : Mark} {t : Token} {ss left : List Symbol} {ts : List Token} → code t.tok ≡ mark_code m
       → Leads allowed ss ts left → Leads allowed (kept_token m ∷ ss) (t ∷ ts) left
-  open_level : {m : Mark} {l : ℕ} {t : Token} {ss left : List Symbol} {ts : List Token} → code t.tok ≡ mark_code m → allowed l ≡ true
+  open_level : {m : Mark} {l : ℕ} {t : Token} {ss left : List Symbol} {ts : List Token} → code t.tok ≡ mark_code m
+      → allowed l ≡ true
       → Leads allowed ss ts left → Leads allowed (opening_token m l ∷ ss) (t ∷ ts) left
   -- a form is read by one of its lines
-  by_line : {f : Form} {l : ℕ} {ss left : List Symbol} {ts : List Token} (p : Production (Val f)) → IsOneOf p (productions f)
+  by_line : {f : Form} {l : ℕ} {ss left : List Symbol} {ts : List Token} (p : Production (Val f))
+      → IsOneOf p (productions f)
       → Leads allowed (symbols l p.pieces ++ ss) ts left → Leads allowed (form f l ∷ ss) ts left
 
 -- what these symbols stand for, one by one
@@ -69,13 +71,17 @@ fill l (opening m ∷ ps) b vs = fill l ps (b vs.0) vs.1
 fill l (sub d f ∷ ps) b vs = fill l ps (b vs.0) vs.1
 
 -- What is expected in front of the tokens stands for this, where what is expected behind them stands for that.
-abbrev pub value : {allowed : ℕ → Bool} {ss : List Symbol} {ts : List Token} {left : List Symbol} → Leads allowed ss ts left → Vals left → Vals ss
+abbrev pub value : {allowed : ℕ → Bool} {ss : List Symbol} {ts : List Token} {left : List Symbol}
+    → Leads allowed ss ts left → Vals left → Vals ss
 value done vs = vs
 value (read e d) vs = value d vs
 value (keep {m = m} {t = t} e d) vs = (held m t, value d vs)
 value (open_level {m = m} {t = t} e ok d) vs = (held m t, value d vs)
-value (by_line {l = l} {ss = ss} p is d) vs =
-    (fill l p.pieces p.build (front_of (symbols l p.pieces) ss (value d vs)), behind_of (symbols l p.pieces) ss (value d vs))
+value (by_line {l = l} {ss = ss} p is d) vs = (
+  fill l p.pieces p.build (front_of (symbols l p.pieces) ss (value d vs)),
+  behind_of (symbols l p.pieces) ss
+      (value d vs),
+)
 
 -- ---- sentences
 

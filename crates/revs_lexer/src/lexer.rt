@@ -216,7 +216,8 @@ pub fn tokens(alloc: Global, text: &[u8]) -> Result<Vec<Token>, LexFault>
     ensures tokens { IfOk result (λ all. (ts : List Token) × IsTokens text.now ts
         × (all.items ≡ closed text.now ts)) }
     ensures only_tokens { (ts : List Token) → IsTokens text.now ts →
-        MatchResult result (λ all. all.items ≡ closed text.now ts) (λ fault. fault ≡ LexFault.Memory) }
+        MatchResult result (λ all. all.items ≡ closed text.now ts) (λ fault. fault
+        ≡ LexFault.Memory) }
 
     // The first refusal of the text and no other.
     ensures refused { IfErr result (λ fault. fault ≢ LexFault.Memory → IsRefused text.now fault) }

@@ -2,4 +2,4 @@ pub mod PassingLemmas
 pub mod StepLemmas
 pub mod ReadingLemmas
 pub mod ProgramLemmas
-pub mod OneText
+pub mod OneTextLemmas

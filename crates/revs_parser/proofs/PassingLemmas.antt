@@ -73,7 +73,8 @@ regroups (token m ∷ ss) ks ms =
 regroups (kept_token m ∷ ss) ks ms =
     ap (λ (p : From (ss ++ (ks ++ ms))). let q : From (kept_token m ∷ (ss ++ (ks ++ ms))) = (kept_token m ∷ p.0, λ v. (v.0, p.1 v.1)) in q) (regroups ss ks ms)
 regroups (opening_token m l ∷ ss) ks ms =
-    ap (λ (p : From (ss ++ (ks ++ ms))). let q : From (opening_token m l ∷ (ss ++ (ks ++ ms))) = (opening_token m l ∷ p.0, λ v. (v.0, p.1 v.1)) in q) (regroups ss ks ms)
+    ap (λ (p : From (ss ++ (ks ++ ms))). let q : From (opening_token m l ∷ (ss ++ (ks ++ ms))) = (opening_token m l ∷ p.0, λ v. (v.0, p.1 v.1)) in q)
+    (regroups ss ks ms)
 regroups (form f l ∷ ss) ks ms =
     ap (λ (p : From (ss ++ (ks ++ ms))). let q : From (form f l ∷ (ss ++ (ks ++ ms))) = (form f l ∷ p.0, λ v. (v.0, p.1 v.1)) in q) (regroups ss ks ms)
 
@@ -103,7 +104,8 @@ regroup ss ks ms {front} {left} {turn} r =
 pub stays : (es : Stack) (ts : List Token) → Passes es es (λ us. us) ts ts
 stays es ts = record { goes_on = λ ms. refl; front = []; cut = refl; leads = λ ms. done; stands_for = λ ms us ws. refl }
 
-pub passes_then : {es fs gs : Stack} {f : Vals fs → Vals es} {g : Vals gs → Vals fs} {ts mid rest : List Token} → Passes es fs f ts mid → Passes fs gs g mid rest
+pub passes_then : {es fs gs : Stack} {f : Vals fs → Vals es} {g : Vals gs → Vals fs} {ts mid rest : List Token} → Passes es fs f ts mid
+    → Passes fs gs g mid rest
     → Passes es gs (λ us. f (g us)) ts rest
 passes_then {es} {fs} {gs} {f} {g} {ts} {mid} {rest} a b = record {
   goes_on = λ ms. a.goes_on ms ∙ b.goes_on ms;
@@ -143,11 +145,13 @@ beside {es} {vs} {ts} {rest} ks a = record {
 pub no_longer : {es fs : Stack} {f : Vals fs → Vals es} {ts rest : List Token} → Passes es fs f ts rest → length rest ≤ length ts
 no_longer {rest = rest} a = omega (arith, ap length a.cut, length-append a.front rest)
 
-pub smaller_behind : {k : Tok} {at : Place} {es : Stack} {vs : Vals es} {ts mid rest : List Token} → Reads es vs ts mid → Heads k at mid rest → length rest < length ts
+pub smaller_behind : {k : Tok} {at : Place} {es : Stack} {vs : Vals es} {ts mid rest : List Token} → Reads es vs ts mid → Heads k at mid rest
+    → length rest < length ts
 smaller_behind r h = let x = r.shorter in let y = ap length h.cut in omega (arith, x, y)
 
 -- Passing, and then a reading.
-pub passes_reads : {es fs : Stack} {f : Vals fs → Vals es} {vs : Vals fs} {ts mid rest : List Token} → Passes es fs f ts mid → Reads fs vs mid rest → Reads es (f vs) ts rest
+pub passes_reads : {es fs : Stack} {f : Vals fs → Vals es} {vs : Vals fs} {ts mid rest : List Token} → Passes es fs f ts mid → Reads fs vs mid rest
+    → Reads es (f vs) ts rest
 passes_reads a r = record { passes = passes_then a r.passes; shorter = let x = no_longer a in let y = r.shorter in omega (arith, x, y) }
 
 -- One reading behind the other.
@@ -175,7 +179,8 @@ line_passes f l {ts} p i m = record {
   cut = refl;
   leads = λ ms. by_line p i done;
   stands_for = λ ms us ws.
-      ap (λ (z : Vals (symbols l p.pieces)). let v : Val f × Vals ms = (fill l p.pieces p.build z, behind_of (symbols l p.pieces) ms (put (symbols l p.pieces) ms us ws)) in v)
+      ap (λ (z : Vals (symbols l p.pieces)). let v : Val f
+      × Vals ms = (fill l p.pieces p.build z, behind_of (symbols l p.pieces) ms (put (symbols l p.pieces) ms us ws)) in v)
       (front_of-put (symbols l p.pieces) ms us ws)
       ∙ ap (λ (z : Vals ms). let v : Val f × Vals ms = (fill l p.pieces p.build us, z) in v) (behind_of-put (symbols l p.pieces) ms us ws);
 }
@@ -237,7 +242,8 @@ pub halts_there : {ts mid : List Token} {stop : Stop} (es fs : Stack) → ((ms :
     → Halts fs mid stop → Halts es ts stop
 halts_there {ts} {mid} {stop} es fs m h = record { halt = λ ms. subst (IsHalt stop) (sym (m ms)) (h.halt ms) }
 
-pub halts_behind : {es : Stack} {vs : Vals es} {ts mid : List Token} {stop : Stop} (fs : Stack) → Reads es vs ts mid → Halts fs mid stop → Halts (es ++ fs) ts stop
+pub halts_behind : {es : Stack} {vs : Vals es} {ts mid : List Token} {stop : Stop} (fs : Stack) → Reads es vs ts mid → Halts fs mid stop
+    → Halts (es ++ fs) ts stop
 halts_behind {es} {vs} {ts} {mid} {stop} fs r h = record {
   halt = λ ms. subst (IsHalt stop) (sym (ap (outcome ts) (append_assoc es fs ms) ∙ r.passes.goes_on (fs ++ ms))) (h.halt ms);
 }

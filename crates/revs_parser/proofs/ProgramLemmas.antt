@@ -19,8 +19,8 @@ use Rattle.revs_grammar.specs.Sentences.{token, kept_token, form, Vals, at_start
 use Rattle.revs_grammar.specs.Answers.{HasSentence, IsProgramOf, IsInputs}
 use Rattle.revs_grammar.specs.Faults.{Verdict, IsVerdict, within_limits, syntax, nesting, inputs}
 use Rattle.revs_grammar.specs.inside.Machine.{Stack, Outcome, accepted, no_syntax, is_end, outcome}
-use Rattle.revs_grammar.proofs.Outcomes.{outcome_says, Says}
-use Rattle.revs_grammar.proofs.Verdicts.{one_verdict}
+use Rattle.revs_grammar.proofs.OutcomeLemmas.{outcome_says, Says}
+use Rattle.revs_grammar.proofs.VerdictLemmas.{one_verdict}
 use Rattle.revs_terms.specs.declared.term.Name.{Name}
 use Rattle.revs_terms.specs.declared.program.Param.{Param}
 use Rattle.revs_terms.specs.declared.program.Program.{Program}
@@ -52,20 +52,24 @@ main_missing ts h = record {
 
 -- ---- parameters
 
-pub no_width : {ts rest : List Token} → NotFirst (toks.Sign signs.OpenSquare) ts → Reads (token (sign signs.CloseRound) ∷ []) tt ts rest → ReadsForm g.width 0 None ts rest
+pub no_width : {ts rest : List Token} → NotFirst (toks.Sign signs.OpenSquare) ts → Reads (token (sign signs.CloseRound) ∷ []) tt ts rest
+    → ReadsForm g.width 0 None ts rest
 no_width {ts} h q = by_pieces g.width 0 _ (inl refl) (m.as_width ts h) q
 
 pub some_width : {w : ℕ} {at : Place} {ts a b c rest : List Token} → Heads (toks.Sign signs.OpenSquare) at ts a → Reads (kept_token any_number ∷ []) (w, tt) a b
     → Reads (token (sign signs.CloseSquare) ∷ []) tt b c → Reads (token (sign signs.CloseRound) ∷ []) tt c rest → ReadsForm g.width 0 (Some w) ts rest
 some_width h n k q = by_token g.width 0 _ (inr (inl refl)) h refl refl refl (and_then (a_sign h) (and_then n (and_then k q)))
 
-pub width_unclosed : {ts : List Token} {stop : Stop} → NotFirst (toks.Sign signs.OpenSquare) ts → Halts (token (sign signs.CloseRound) ∷ []) ts stop → HaltsIn g.width 0 ts stop
+pub width_unclosed : {ts : List Token} {stop : Stop} → NotFirst (toks.Sign signs.OpenSquare) ts → Halts (token (sign signs.CloseRound) ∷ []) ts stop
+    → HaltsIn g.width 0 ts stop
 width_unclosed {ts} h k = halts_by_pieces g.width 0 _ (inl refl) (m.as_width ts h) k
 
-pub one_parameter : (w : Option ℕ) {n : Name} {at : Place} {ts a b c d rest : List Token} → Heads (toks.Sign signs.OpenRound) at ts a → Reads (kept_token any_name ∷ []) (n, tt) a b
+pub one_parameter : (w : Option ℕ) {n : Name} {at : Place} {ts a b c d rest : List Token} → Heads (toks.Sign signs.OpenRound) at ts a
+    → Reads (kept_token any_name ∷ []) (n, tt) a b
     → Reads (token (sign signs.Colon) ∷ []) tt b c → Reads (token (word words.Bool) ∷ []) tt c d → ReadsForm g.width 0 w d rest
     → ReadsForm g.parameter 0 (record { name = n; width = w }) ts rest
-one_parameter w {n} {at} {ts} h q k b r = by_pieces g.parameter 0 _ (inl refl) (m.as_parameter ts) (and_then (a_sign h) (and_then q (and_then k (and_then b r))))
+one_parameter w {n} {at} {ts} h q k b r = by_pieces g.parameter 0 _ (inl refl) (m.as_parameter ts)
+    (and_then (a_sign h) (and_then q (and_then k (and_then b r))))
 
 -- The parameters so far, behind those before.
 pub record Parameters (before all : List Param) (ts rest : List Token) : Type 0 where
@@ -84,7 +88,8 @@ another : {at : Place} {ts a : List Token} → Heads (toks.Sign signs.OpenRound)
     → (ms : Stack) → outcome ts (form g.parameters 0 ∷ ms) ≡ outcome ts (form g.parameter 0 ∷ form g.parameters 0 ∷ ms)
 another h = m.by_first g.parameters 0 _ (inr (inl refl)) h refl refl refl
 
-pub parameters_more : {before all new : List Param} {next : Param} {at : Place} {ts mid a rest : List Token} → Parameters before all ts mid → Heads (toks.Sign signs.OpenRound) at mid a
+pub parameters_more : {before all new : List Param} {next : Param} {at : Place} {ts mid a rest : List Token} → Parameters before all ts mid
+    → Heads (toks.Sign signs.OpenRound) at mid a
     → ReadsForm g.parameter 0 next mid rest → new ≡ all ++ next ∷ [] → Parameters before new ts rest
 parameters_more {before} {all} {new} {next} {at} {ts} {mid} {a} {rest} n h q e = record {
   read = n.read ++ next ∷ [];
@@ -95,24 +100,28 @@ parameters_more {before} {all} {new} {next} {at} {ts} {mid} {a} {rest} n h q e =
     one : Repeats g.parameters 0 (λ more. next ∷ more) mid rest
     one = record { passes = passes_then (line_passes g.parameters 0 _ (inr (inl refl)) (another h)) (beside (form g.parameters 0 ∷ []) q.passes) }
 
-pub parameters_done : {before all : List Param} {ts rest : List Token} → Parameters before all ts rest → NotFirst (toks.Sign signs.OpenRound) rest → ReadsParameters before all ts rest
+pub parameters_done : {before all : List Param} {ts rest : List Token} → Parameters before all ts rest → NotFirst (toks.Sign signs.OpenRound) rest
+    → ReadsParameters before all ts rest
 parameters_done {before} {all} {ts} {rest} n k = record {
   more = n.read ++ [];
   all_params = n.all_params ∙ ap (λ (z : List Param). before ++ z) (sym (append_nil n.read));
   skips = repeats_done [] n.repeats (left_out g.parameters 0 _ (inl refl) (m.no_parameters rest k));
 }
 
-pub parameters_halt : {before all : List Param} {at : Place} {ts mid a : List Token} {stop : Stop} → Parameters before all ts mid → Heads (toks.Sign signs.OpenRound) at mid a
+pub parameters_halt : {before all : List Param} {at : Place} {ts mid a : List Token} {stop : Stop} → Parameters before all ts mid
+    → Heads (toks.Sign signs.OpenRound) at mid a
     → HaltsIn g.parameter 0 mid stop → HaltsIn g.parameters 0 ts stop
 parameters_halt n h k =
-    repeats_halts n.repeats (halts_there (form g.parameters 0 ∷ []) (form g.parameter 0 ∷ form g.parameters 0 ∷ []) (another h) (halts_first (form g.parameters 0 ∷ []) k))
+    repeats_halts n.repeats (halts_there (form g.parameters 0 ∷ []) (form g.parameter 0 ∷ form g.parameters 0 ∷ []) (another h)
+    (halts_first (form g.parameters 0 ∷ []) k))
 
 -- ---- sentences
 
 abbrev pub after_main : Stack
 after_main = form g.parameter 0 ∷ form g.parameters 0 ∷ token (sign signs.Equal) ∷ form g.expression 1 ∷ []
 
-pub sentence_halts : {at : Place} {ts a : List Token} {stop : Stop} → Heads (toks.Word words.Main) at ts a → Halts after_main a stop → HaltsIn g.program 0 ts stop
+pub sentence_halts : {at : Place} {ts a : List Token} {stop : Stop} → Heads (toks.Word words.Main) at ts a → Halts after_main a stop
+    → HaltsIn g.program 0 ts stop
 sentence_halts {at} {ts} h k = halts_by_pieces g.program 0 _ (inl refl) (m.as_program ts) (halts_behind after_main (a_main h) k)
 
 pub in_first : {a : List Token} {stop : Stop} → HaltsIn g.parameter 0 a stop → Halts after_main a stop
@@ -210,7 +219,8 @@ halt_is_right tokens stop e h = refused tokens stop (outcome tokens at_start) (h
 
 pub not_at_end : {params : List Param} {body : Tree} (tokens rest : List Token) → IsEnded tokens → ReadsProgram params body tokens rest → end_first rest ≡ false
     → IsRefusal tokens (stops.Syntax (length rest))
-not_at_end tokens rest e q h = refused tokens (stops.Syntax (length rest)) (outcome tokens at_start) (q.passes.goes_on [] ∙ not_ended rest h) (outcome_says tokens e)
+not_at_end tokens rest e q h = refused tokens (stops.Syntax (length rest)) (outcome tokens at_start) (q.passes.goes_on [] ∙ not_ended rest h)
+    (outcome_says tokens e)
 
 -- ---- the limits of the widths
 
@@ -221,14 +231,16 @@ pub record WithinLimits (params rest : List Param) (inputs : ℕ) : Type 0 where
   pub fine : AreParams before
   pub total : sum (widths_of before) ≡ inputs
 
-bits-push : (ps : List Param) (p : Param) → list_all (λ width. leb 1 width) (widths_of (ps ++ p ∷ [])) ≡ list_all (λ width. leb 1 width) (widths_of ps) && list_all (λ width. leb 1 width) (width_of p.width ∷ [])
+bits-push : (ps : List Param) (p : Param) → list_all (λ width. leb 1 width) (widths_of (ps ++ p ∷ []))
+    ≡ list_all (λ width. leb 1 width) (widths_of ps) && list_all (λ width. leb 1 width) (width_of p.width ∷ [])
 bits-push ps p =
     ap (λ (z : List ℕ). list_all (λ width. leb 1 width) z) (map-append (λ (p : Param). width_of p.width) ps (p ∷ []))
     ∙ list_all-append (λ width. leb 1 width) (widths_of ps) (widths_of (p ∷ []))
 
 sum-push : (ps : List Param) (p : Param) → sum (widths_of (ps ++ p ∷ [])) ≡ sum (widths_of ps) + width_of p.width
 sum-push ps p =
-    ap (λ (z : List ℕ). sum z) (map-append (λ (p : Param). width_of p.width) ps (p ∷ [])) ∙ sum_by-append (λ x. x) (widths_of ps) (widths_of (p ∷ [])) ∙ one (width_of p.width)
+    ap (λ (z : List ℕ). sum z) (map-append (λ (p : Param). width_of p.width) ps (p ∷ [])) ∙ sum_by-append (λ x. x) (widths_of ps) (widths_of (p ∷ []))
+    ∙ one (width_of p.width)
   where
     one : (w : ℕ) → sum (widths_of ps) + sum (w ∷ []) ≡ sum (widths_of ps) + w
     one w = ap (λ (z : ℕ). sum (widths_of ps) + z) (alone w)
@@ -247,7 +259,8 @@ limits_more {params} {rest} {total} p behind new h e some few w =
       before = h.before ++ p ∷ [];
       cut = h.cut ∙ ap (λ (z : List Param). h.before ++ z) e ∙ sym (append_assoc h.before (p ∷ []) behind);
       fine = record {
-        bits = bits-push h.before p ∙ m_and (list_all (λ width. leb 1 width) (widths_of h.before)) (list_all (λ width. leb 1 width) (width_of p.width ∷ [])) h.fine.bits (one_bit (width_of p.width) some);
+        bits = bits-push h.before p ∙ m_and (list_all (λ width. leb 1 width) (widths_of h.before))
+            (list_all (λ width. leb 1 width) (width_of p.width ∷ [])) h.fine.bits (one_bit (width_of p.width) some);
         inputs = omega (arith, pushed, t, few);
       };
       total = pushed ∙ ap (λ (z : ℕ). z + width_of p.width) t ∙ sym w;
@@ -267,16 +280,19 @@ pub program_exactly : (tokens : List Token) (p : Program) → (params : List Par
     → (verdict : Verdict) → IsVerdict tokens verdict → IsAnswer verdict (Ok p)
 program_exactly tokens p params body is = exactly tokens within_limits (Ok p) (record { params = params; body = body; program = is }) (inr refl)
 
-pub inputs_exactly : (tokens : List Token) (at : Place) → IsInputs tokens at → (verdict : Verdict) → IsVerdict tokens verdict → IsAnswer verdict (Err (faults.Inputs at))
+pub inputs_exactly : (tokens : List Token) (at : Place) → IsInputs tokens at → (verdict : Verdict) → IsVerdict tokens verdict
+    → IsAnswer verdict (Err (faults.Inputs at))
 inputs_exactly tokens at is = exactly tokens (inputs at) (Err (faults.Inputs at)) is (inr refl)
 
-pub refusal_exactly : (tokens : List Token) (fault : ParseFault) → IsRefused tokens fault → (verdict : Verdict) → IsVerdict tokens verdict → IsAnswer verdict (Err fault)
+pub refusal_exactly : (tokens : List Token) (fault : ParseFault) → IsRefused tokens fault → (verdict : Verdict) → IsVerdict tokens verdict
+    → IsAnswer verdict (Err fault)
 refusal_exactly tokens (faults.Syntax number at) is = exactly tokens (syntax number at) (Err (faults.Syntax number at)) is (inr refl)
 refusal_exactly tokens (faults.Nesting at) is = exactly tokens (nesting at) (Err (faults.Nesting at)) is (inr refl)
 refusal_exactly tokens (faults.Inputs at) is = absurd is
 refusal_exactly tokens faults.Memory is = λ verdict other. inl refl
 
-pub inputs_at : {tokens : List Token} {params : List Param} {body : Tree} {at : Place} → HasSentence tokens params body → PassesAt params at → IsInputs tokens at
+pub inputs_at : {tokens : List Token} {params : List Param} {body : Tree} {at : Place} → HasSentence tokens params body → PassesAt params at
+    → IsInputs tokens at
 inputs_at {tokens} {params} {body} h k = record {
   params = params;
   body = body;

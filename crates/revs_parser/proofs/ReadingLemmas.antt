@@ -14,8 +14,8 @@ use Rattle.revs_grammar.specs.Forms as g
 use Rattle.revs_grammar.specs.Productions.{productions, bound_of, parts_of, apply_of, in_front}
 use Rattle.revs_grammar.specs.Sentences.{Symbol, token, kept_token, opening_token, form, symbols, Vals, fill, few_levels}
 use Rattle.revs_grammar.specs.inside.Machine.{Stack, is_empty, is_end, outcome}
-use Rattle.revs_grammar.proofs.Hints.{may_follow}
-use Rattle.revs_grammar.proofs.Checks.{begin}
+use Rattle.revs_grammar.proofs.CheckHints.{may_follow}
+use Rattle.revs_grammar.proofs.CheckLemmas.{begin}
 use Rattle.revs_terms.specs.Trees.{Tree, ItemTree, trees, item_trees, used, bool, reg, block, function, parts, apply, append, rotate, clean, assert, ands, xors, assign, bind, run, tree_of, item_tree_of}
 use Rattle.revs_terms.specs.declared.term.Name.{Name}
 use Rattle.revs_terms.specs.declared.term.Part.{Part}
@@ -50,7 +50,8 @@ a_let h = one_token h (token_passes (word words.Let) refl h (token_goes (word wo
 pub a_number : {n : ℕ} {at : Place} {ts rest : List Token} → Heads (toks.Number n) at ts rest → Reads (kept_token any_number ∷ []) (n, tt) ts rest
 a_number h = one_token h (kept_passes any_number refl h (kept_goes any_number refl refl h))
 
-pub a_name : {text : List ℕ} {at : Place} {ts rest : List Token} → Heads (toks.Name text) at ts rest → Reads (kept_token any_name ∷ []) (name_of text at, tt) ts rest
+pub a_name : {text : List ℕ} {at : Place} {ts rest : List Token} → Heads (toks.Name text) at ts rest
+    → Reads (kept_token any_name ∷ []) (name_of text at, tt) ts rest
 a_name h = one_token h (kept_passes any_name refl h (kept_goes any_name refl refl h))
 
 -- a word that counts, whose kind is known
@@ -126,9 +127,11 @@ module _ (l : ℕ) {at : Place} {ts mid : List Token} (h : Heads (toks.Word word
 
 module _ (l : ℕ) {ts : List Token} (h : NotFirst (toks.Word words.Fun) ts) where
   pub expression_in_sum : {stop : Stop} → HaltsIn g.sum l ts stop → HaltsIn g.expression l ts stop
-  expression_in_sum r = halts_there (form g.expression l ∷ []) (form g.sum l ∷ form g.assigned l ∷ []) (m.as_expression l ts h) (halts_first (form g.assigned l ∷ []) r)
+  expression_in_sum r = halts_there (form g.expression l ∷ []) (form g.sum l ∷ form g.assigned l ∷ []) (m.as_expression l ts h)
+      (halts_first (form g.assigned l ∷ []) r)
 
-  pub expression_sum : {left : Tree} {rest : List Token} → ReadsForm g.sum l left ts rest → NotFirst (toks.Sign signs.Assign) rest → ReadsForm g.expression l left ts rest
+  pub expression_sum : {left : Tree} {rest : List Token} → ReadsForm g.sum l left ts rest → NotFirst (toks.Sign signs.Assign) rest
+      → ReadsForm g.expression l left ts rest
   expression_sum {left} {rest} r k =
       by_pieces g.expression l _ (inr (inl refl)) (m.as_expression l ts h) (and_maybe r (skips (left_out g.assigned l _ (inl refl) (m.no_assigned l rest k))))
 
@@ -136,7 +139,8 @@ module _ (l : ℕ) {ts : List Token} (h : NotFirst (toks.Word words.Fun) ts) whe
       → Heads (toks.Sign signs.Assign) at mid behind → HaltsIn g.sum l behind stop → HaltsIn g.expression l ts stop
   expression_in_assigned r k hs =
       halts_there (form g.expression l ∷ []) (form g.sum l ∷ form g.assigned l ∷ []) (m.as_expression l ts h)
-      (halts_behind (form g.assigned l ∷ []) r (halts_by_token g.assigned l _ (inr (inl refl)) k refl refl refl (halts_behind (form g.sum l ∷ []) (a_sign k) hs)))
+      (halts_behind (form g.assigned l ∷ []) r (halts_by_token g.assigned l _ (inr (inl refl)) k refl refl refl
+      (halts_behind (form g.sum l ∷ []) (a_sign k) hs)))
 
   pub expression_assign : {left right whole : Tree} {at : Place} {mid behind rest : List Token} → ReadsForm g.sum l left ts mid
       → Heads (toks.Sign signs.Assign) at mid behind → ReadsForm g.sum l right behind rest → whole ≡ assign left right → ReadsForm g.expression l whole ts rest
@@ -152,7 +156,10 @@ pub record Repeats (f : Form) (l : ℕ) (onto : Val f → Val f) (ts rest : List
   pub passes : Passes (form f l ∷ []) (form f l ∷ []) (λ us. (onto us.0, tt)) ts rest
 
 pub repeats_begun : (f : Form) (l : ℕ) (onto : Val f → Val f) (ts : List Token) → ((v : Val f) → v ≡ onto v) → Repeats f l onto ts ts
-repeats_begun f l onto ts e = record { passes = turned (λ us. (onto us.0, tt)) (λ us. ap (λ (z : Val f). let v : Val f × Unit {0} = (z, tt) in v) (e us.0)) (stays (form f l ∷ []) ts) }
+repeats_begun f l onto ts e = record {
+  passes = turned (λ us. (onto us.0, tt)) (λ us. ap (λ (z : Val f). let v : Val f × Unit {0} = (z, tt) in v) (e us.0))
+      (stays (form f l ∷ []) ts);
+}
 
 -- One element more was read.
 pub repeats_more : {f : Form} {l : ℕ} {onto one : Val f → Val f} (new : Val f → Val f) {ts mid rest : List Token} → Repeats f l onto ts mid
@@ -166,7 +173,8 @@ pub repeats_done : {f : Form} {l : ℕ} {onto : Val f → Val f} {ts rest : List
     → Passes (form f l ∷ []) [] (λ _. (none, tt)) rest rest → Skips (form f l ∷ []) (onto none, tt) ts rest
 repeats_done none r d = record { passes = passes_then r.passes d }
 
-pub repeats_halts : {f : Form} {l : ℕ} {onto : Val f → Val f} {ts mid : List Token} {stop : Stop} → Repeats f l onto ts mid → HaltsIn f l mid stop → HaltsIn f l ts stop
+pub repeats_halts : {f : Form} {l : ℕ} {onto : Val f → Val f} {ts mid : List Token} {stop : Stop} → Repeats f l onto ts mid → HaltsIn f l mid stop
+    → HaltsIn f l ts stop
 repeats_halts r h = halts_past r.passes h
 
 -- The names so far, behind those before.
@@ -186,7 +194,8 @@ names_more {before} {all} {new} {next} {ts} {mid} {rest} n f r e = record {
   repeats = repeats_more (λ more. (n.read ++ next ∷ []) ++ more) n.repeats (one mid rest f r) (λ more. sym (append_assoc n.read (next ∷ []) more));
 }
   where
-    one : (mid rest : List Token) → name_first mid ≡ true → Reads (kept_token any_name ∷ []) (next, tt) mid rest → Repeats g.names 0 (λ more. next ∷ more) mid rest
+    one : (mid rest : List Token) → name_first mid ≡ true → Reads (kept_token any_name ∷ []) (next, tt) mid rest
+        → Repeats g.names 0 (λ more. next ∷ more) mid rest
     one mid rest f r = record { passes = passes_then (line_passes g.names 0 _ (inr (inl refl)) (m.more_names mid f)) (beside (form g.names 0 ∷ []) r.passes) }
 
 pub names_done : {before all : List Name} {ts rest : List Token} → Names before all ts rest → name_first rest ≡ false → ReadsNames before all ts rest
@@ -200,7 +209,8 @@ names_done {before} {all} {ts} {rest} n f = record {
 pub names_halt : {before all : List Name} {ts mid : List Token} {stop : Stop} → Names before all ts mid → name_first mid ≡ true
     → Halts (kept_token any_name ∷ []) mid stop → HaltsIn g.names 0 ts stop
 names_halt {before} {all} {ts} {mid} n f h =
-    repeats_halts n.repeats (halts_there (form g.names 0 ∷ []) (kept_token any_name ∷ form g.names 0 ∷ []) (m.more_names mid f) (halts_first (form g.names 0 ∷ []) h))
+    repeats_halts n.repeats (halts_there (form g.names 0 ∷ []) (kept_token any_name ∷ form g.names 0 ∷ []) (m.more_names mid f)
+    (halts_first (form g.names 0 ∷ []) h))
 
 -- ---- a part, behind its dot
 
@@ -251,7 +261,8 @@ parts_more {items} {new} {next} {at} {ts} {mid} {behind} {rest} r h p e =
 
     one : Repeats g.parts 0 (λ more. next ∷ more) mid rest
     one = record {
-      passes = passes_then (line_passes g.parts 0 _ (inr (inl refl)) (by_first g.parts 0 _ (inr (inl refl)) h refl refl refl)) (beside (form g.parts 0 ∷ []) a_part.passes);
+      passes = passes_then (line_passes g.parts 0 _ (inr (inl refl)) (by_first g.parts 0 _ (inr (inl refl)) h refl refl refl))
+          (beside (form g.parts 0 ∷ []) a_part.passes);
     }
 
 pub parts_halt : {items : List Part} {at : Place} {ts mid behind : List Token} {stop : Stop} → Parts items ts mid → Heads (toks.Sign signs.Dot) at mid behind
@@ -261,7 +272,8 @@ parts_halt r h k =
     (halts_by_token g.part 0 _ (inl refl) h refl refl refl
     (halts_behind in_part (one_token h (kept_passes (sign signs.Dot) refl h (kept_goes (sign signs.Dot) refl refl h))) k))))
 
-pub parts_done : {items : List Part} {ts rest : List Token} → Parts items ts rest → NotFirst (toks.Sign signs.Dot) rest → Skips (form g.parts 0 ∷ []) (items, tt) ts rest
+pub parts_done : {items : List Part} {ts rest : List Token} → Parts items ts rest → NotFirst (toks.Sign signs.Dot) rest
+    → Skips (form g.parts 0 ∷ []) (items, tt) ts rest
 parts_done {items} {ts} {rest} r k =
     subst (λ (z : List Part). Skips (form g.parts 0 ∷ []) (z, tt) ts rest) (append_nil items)
     (repeats_done [] r.repeats (left_out g.parts 0 _ (inl refl) (m.no_parts rest k)))
@@ -308,7 +320,8 @@ pub sum_more : (l : ℕ) (items : List Term) (t : Term) {new : List Term} {at : 
     → ReadsForm g.product l (tree_of t) behind rest → Heads (toks.Sign signs.Xor) at rest mid → new ≡ items ++ t ∷ [] → InSum l (map tree_of new) ts mid
 sum_more l items t {new} {at} {ts} {behind} {rest} {mid} c r h e =
     subst (λ (z : List Tree). InSum l z ts mid) (sym (pushed items t e)) (record {
-      passes = turned _ (λ us. ap (λ (z : List Tree). let v : Tree × Unit {0} = (xors (trees z), tt) in v) (sym (append_assoc (map tree_of items) (tree_of t ∷ []) (us.0 ∷ us.1.0))))
+      passes = turned _ (λ us. ap (λ (z : List Tree). let v : Tree × Unit {0} = (xors (trees z), tt) in v)
+          (sym (append_assoc (map tree_of items) (tree_of t ∷ []) (us.0 ∷ us.1.0))))
           (passes_then c.passes (passes_then (beside (form g.sums l ∷ []) r.passes) (another_product l h)));
     })
 
@@ -328,7 +341,8 @@ sum_no_first l {ts} h = halts_by_pieces g.sum l _ (inl refl) (m.as_sum l ts) (ha
 -- ---- products
 
 abbrev pub InProduct : ℕ → List Tree → List Token → List Token → Type 0
-InProduct l read ts behind = Chain (form g.product l ∷ []) (form g.application l) (form g.products l) [] (λ us. (ands (trees (read ++ us.0 ∷ us.1.0)), tt)) ts behind
+InProduct l read ts behind = Chain (form g.product l ∷ []) (form g.application l) (form g.products l) []
+    (λ us. (ands (trees (read ++ us.0 ∷ us.1.0)), tt)) ts behind
 
 another_application : (l : ℕ) {at : Place} {ts rest : List Token} → Heads (toks.Sign signs.And) at ts rest
     → Passes (form g.products l ∷ []) (form g.application l ∷ form g.products l ∷ []) (λ us. (us.0 ∷ us.1.0, tt)) ts rest
@@ -340,25 +354,30 @@ pub product_begun : (l : ℕ) {t : Term} {items : List Term} {at : Place} {ts re
     → Heads (toks.Sign signs.And) at rest behind → items ≡ t ∷ [] → InProduct l (map tree_of items) ts behind
 product_begun l {t} {items} {at} {ts} {rest} {behind} r h e =
     subst (λ (z : List Term). InProduct l (map tree_of z) ts behind) (sym e) (record {
-      passes = passes_then (line_passes g.product l _ (inl refl) (m.as_product l ts)) (passes_then (beside (form g.products l ∷ []) r.passes) (another_application l h));
+      passes = passes_then (line_passes g.product l _ (inl refl) (m.as_product l ts)) (passes_then (beside (form g.products l ∷ []) r.passes)
+          (another_application l h));
     })
 
-pub product_more : (l : ℕ) (items : List Term) (t : Term) {new : List Term} {at : Place} {ts behind rest mid : List Token} → InProduct l (map tree_of items) ts behind
+pub product_more : (l : ℕ) (items : List Term) (t : Term) {new : List Term} {at : Place} {ts behind rest mid : List Token}
+    → InProduct l (map tree_of items) ts behind
     → ReadsForm g.application l (tree_of t) behind rest → Heads (toks.Sign signs.And) at rest mid → new ≡ items ++ t ∷ [] → InProduct l (map tree_of new) ts mid
 product_more l items t {new} {at} {ts} {behind} {rest} {mid} c r h e =
     subst (λ (z : List Tree). InProduct l z ts mid) (sym (pushed items t e)) (record {
-      passes = turned _ (λ us. ap (λ (z : List Tree). let v : Tree × Unit {0} = (ands (trees z), tt) in v) (sym (append_assoc (map tree_of items) (tree_of t ∷ []) (us.0 ∷ us.1.0))))
+      passes = turned _ (λ us. ap (λ (z : List Tree). let v : Tree × Unit {0} = (ands (trees z), tt) in v)
+          (sym (append_assoc (map tree_of items) (tree_of t ∷ []) (us.0 ∷ us.1.0))))
           (passes_then c.passes (passes_then (beside (form g.products l ∷ []) r.passes) (another_application l h)));
     })
 
-pub product_done : (l : ℕ) (items : List Term) (t : Term) {new : List Term} {whole : Tree} {ts behind rest : List Token} → InProduct l (map tree_of items) ts behind
+pub product_done : (l : ℕ) (items : List Term) (t : Term) {new : List Term} {whole : Tree} {ts behind rest : List Token}
+    → InProduct l (map tree_of items) ts behind
     → ReadsForm g.application l (tree_of t) behind rest → NotFirst (toks.Sign signs.And) rest → new ≡ items ++ t ∷ []
     → whole ≡ ands (trees (map tree_of new)) → ReadsForm g.product l whole ts rest
 product_done l items t {new} {whole} {ts} {behind} {rest} c r k e w =
     subst (λ (z : Tree). ReadsForm g.product l z ts rest) (sym (w ∙ ap (λ (z : List Tree). ands (trees z)) (pushed items t e)))
     (passes_reads c.passes (and_maybe r (skips (left_out g.products l _ (inl refl) (m.no_products l rest k)))))
 
-pub product_alone : (l : ℕ) {t : Tree} {ts rest : List Token} → ReadsForm g.application l t ts rest → NotFirst (toks.Sign signs.And) rest → ReadsForm g.product l t ts rest
+pub product_alone : (l : ℕ) {t : Tree} {ts rest : List Token} → ReadsForm g.application l t ts rest → NotFirst (toks.Sign signs.And) rest
+    → ReadsForm g.product l t ts rest
 product_alone l {t} {ts} {rest} r k =
     by_pieces g.product l _ (inl refl) (m.as_product l ts) (and_maybe r (skips (left_out g.products l _ (inl refl) (m.no_products l rest k))))
 
@@ -381,11 +400,13 @@ arguments_begun l head held {items} {ts} {rest} r h e w =
     (subst (λ (z : Term). InArguments l (tree_of z) [] ts rest) (sym w)
     (record { passes = passes_then (beside (form g.atoms l ∷ []) r.passes) (another_atom l rest h) }))
 
-pub arguments_more : (l : ℕ) (head : Tree) (items : List Term) (t : Term) {new : List Term} {ts behind rest : List Token} → InArguments l head (map tree_of items) ts behind
+pub arguments_more : (l : ℕ) (head : Tree) (items : List Term) (t : Term) {new : List Term} {ts behind rest : List Token}
+    → InArguments l head (map tree_of items) ts behind
     → ReadsForm g.atom l (tree_of t) behind rest → base_first rest ≡ true → new ≡ items ++ t ∷ [] → InArguments l head (map tree_of new) ts rest
 arguments_more l head items t {new} {ts} {behind} {rest} c r h e =
     subst (λ (z : List Tree). InArguments l head z ts rest) (sym (pushed items t e)) (record {
-      passes = turned _ (λ us. ap (λ (z : List Tree). let v : Tree × (List Tree × Unit {0}) = (head, (z, tt)) in v) (sym (append_assoc (map tree_of items) (tree_of t ∷ []) (us.0 ∷ us.1.0))))
+      passes = turned _ (λ us. ap (λ (z : List Tree). let v : Tree × (List Tree × Unit {0}) = (head, (z, tt)) in v)
+          (sym (append_assoc (map tree_of items) (tree_of t ∷ []) (us.0 ∷ us.1.0))))
           (passes_then c.passes (passes_then (beside (form g.atoms l ∷ []) r.passes) (another_atom l rest h)));
     })
 
@@ -393,7 +414,8 @@ apply_more : (head : Tree) (read : List Tree) (t : Tree) → apply head (trees (
 apply_more head [] t = refl
 apply_more head (x ∷ xs) t = refl
 
-pub arguments_done : (l : ℕ) (head : Tree) (items : List Term) (t : Term) {new : List Term} {whole : Tree} {ts behind rest : List Token} → InArguments l head (map tree_of items) ts behind
+pub arguments_done : (l : ℕ) (head : Tree) (items : List Term) (t : Term) {new : List Term} {whole : Tree} {ts behind rest : List Token}
+    → InArguments l head (map tree_of items) ts behind
     → ReadsForm g.atom l (tree_of t) behind rest → base_first rest ≡ false → new ≡ items ++ t ∷ []
     → whole ≡ apply head (trees (map tree_of new)) → ReadsAtoms l whole ts rest
 arguments_done l head items t {new} {whole} {ts} {behind} {rest} c r k e w = record {
@@ -445,8 +467,10 @@ register_begun l {items} {ts} {rest} r e =
     subst (λ (z : List Term). InRegister l (map tree_of z) ts rest) (sym e)
     (record { mid = rest; bracket = r; chain = record { passes = turned _ (λ us. refl) (stays (between l) rest) } })
 
-pub register_more : (l : ℕ) (items : List Term) (t : Term) {new : List Term} {at : Place} {ts behind rest mid : List Token} → InRegister l (map tree_of items) ts behind
-    → ReadsForm g.expression l (tree_of t) behind rest → Heads (toks.Sign signs.Semi) at rest mid → new ≡ items ++ t ∷ [] → InRegister l (map tree_of new) ts mid
+pub register_more : (l : ℕ) (items : List Term) (t : Term) {new : List Term} {at : Place} {ts behind rest mid : List Token}
+    → InRegister l (map tree_of items) ts behind
+    → ReadsForm g.expression l (tree_of t) behind rest → Heads (toks.Sign signs.Semi) at rest mid → new ≡ items ++ t ∷ []
+    → InRegister l (map tree_of new) ts mid
 register_more l items t {new} {at} {ts} {behind} {rest} {mid} c r h e =
     subst (λ (z : List Tree). InRegister l z ts mid) (sym (pushed items t e)) (record {
       mid = c.mid;
@@ -462,7 +486,8 @@ read_register : (l : ℕ) (at : Place) (read : List Tree) (t whole : Tree) (ts r
 read_register l at [] t whole ts rest e r = record { first = t; more = []; is = e; reads = r }
 read_register l at (x ∷ xs) t whole ts rest e r = record { first = x; more = xs ++ t ∷ []; is = e; reads = r }
 
-pub register_done : (l : ℕ) (at : Place) (items : List Term) (t : Term) {new : List Term} {whole : Tree} {ts behind rest final : List Token} → InRegister l (map tree_of items) ts behind
+pub register_done : (l : ℕ) (at : Place) (items : List Term) (t : Term) {new : List Term} {whole : Tree} {ts behind rest final : List Token}
+    → InRegister l (map tree_of items) ts behind
     → ReadsForm g.expression l (tree_of t) behind rest → NotFirst (toks.Sign signs.Semi) rest → new ≡ items ++ t ∷ []
     → Reads (token (sign signs.CloseSquare) ∷ []) tt rest final → whole ≡ reg (trees (map tree_of new)) at → ReadsRegister l at whole ts final
 register_done l at items t {new} {whole} {ts} {behind} {rest} {final} c r k e q w =
@@ -498,7 +523,8 @@ pub block_more : (l : ℕ) (items : List Item) (item : Item) {new : List Item} {
 block_more l items item {new} {ts} {mid} {rest} b r e =
     subst (λ (z : List ItemTree). InBlock l z ts rest) (sym (ap (map item_tree_of) e ∙ map_push item_tree_of items item)) (record {
       repeats = repeats_more _ b.repeats one (λ v.
-          ap (λ (z : List ItemTree). let b : BodyTree = record { items = z; last = v.last } in b) (sym (append_assoc (map item_tree_of items) (item_tree_of item ∷ []) v.items)));
+          ap (λ (z : List ItemTree). let b : BodyTree = record { items = z; last = v.last } in b)
+          (sym (append_assoc (map item_tree_of items) (item_tree_of item ∷ []) v.items)));
     })
   where
     one : Repeats g.body l (in_front (item_tree_of item)) mid rest
@@ -512,7 +538,8 @@ block_done l at {read} {last} {whole} b r w = record {
   reads = passes_reads b.repeats.passes r;
 }
 
-pub block_halts : (l : ℕ) {read : List ItemTree} {ts mid : List Token} {stop : Stop} → InBlock l read ts mid → HaltsIn g.body l mid stop → HaltsIn g.body l ts stop
+pub block_halts : (l : ℕ) {read : List ItemTree} {ts mid : List Token} {stop : Stop} → InBlock l read ts mid → HaltsIn g.body l mid stop
+    → HaltsIn g.body l ts stop
 block_halts l b h = repeats_halts b.repeats h
 
 -- ---- the rest of a function behind its `fun`, and of a binding behind its `let`
@@ -563,7 +590,8 @@ module _ (l : ℕ) {first : Name} {ts a : List Token} (r : Reads (kept_token any
   binding_in_value n k h = halts_first (token (sign signs.Semi) ∷ []) (halts_behind (form g.expression l ∷ []) (and_then (and_maybe r n.skips) k) h)
 
   pub binding_no_semi : {before all : List Name} {inner : Tree} {b c d : List Token} {stop : Stop} → ReadsNames before all a b
-      → Reads (token (sign signs.Equal) ∷ []) tt b c → ReadsForm g.expression l inner c d → Halts (token (sign signs.Semi) ∷ []) d stop → Halts (in_binding l) ts stop
+      → Reads (token (sign signs.Equal) ∷ []) tt b c → ReadsForm g.expression l inner c d → Halts (token (sign signs.Semi) ∷ []) d stop
+      → Halts (in_binding l) ts stop
   binding_no_semi n k q h = halts_behind (token (sign signs.Semi) ∷ []) (and_then (and_then (and_maybe r n.skips) k) q) h
 
 -- ---- applications
@@ -651,17 +679,20 @@ some_part inner (p ∷ all) e = refl
 pub atom_in_base : (l : ℕ) {ts : List Token} {stop : Stop} → HaltsIn g.base l ts stop → HaltsIn g.atom l ts stop
 atom_in_base l {ts} h = halts_there (form g.atom l ∷ []) (form g.base l ∷ form g.parts 0 ∷ []) (m.as_atom l ts) (halts_first (form g.parts 0 ∷ []) h)
 
-pub atom_in_parts : (l : ℕ) {inner : Tree} {ts mid : List Token} {stop : Stop} → ReadsForm g.base l inner ts mid → HaltsIn g.parts 0 mid stop → HaltsIn g.atom l ts stop
+pub atom_in_parts : (l : ℕ) {inner : Tree} {ts mid : List Token} {stop : Stop} → ReadsForm g.base l inner ts mid → HaltsIn g.parts 0 mid stop
+    → HaltsIn g.atom l ts stop
 atom_in_parts l {inner} {ts} r h =
     halts_there (form g.atom l ∷ []) (form g.base l ∷ form g.parts 0 ∷ []) (m.as_atom l ts) (halts_behind (form g.parts 0 ∷ []) r h)
 
 -- ---- bases
 
-pub base_true : (l : ℕ) {at : Place} {whole : Tree} {ts rest : List Token} → Heads (toks.Word words.True) at ts rest → whole ≡ bool true at → ReadsForm g.base l whole ts rest
+pub base_true : (l : ℕ) {at : Place} {whole : Tree} {ts rest : List Token} → Heads (toks.Word words.True) at ts rest → whole ≡ bool true at
+    → ReadsForm g.base l whole ts rest
 base_true l {at} {whole} {ts} {rest} h w =
     subst (λ (z : Tree). ReadsForm g.base l z ts rest) (sym w) (by_token g.base l _ (inr (inl refl)) h refl refl refl (a_word words.True h))
 
-pub base_false : (l : ℕ) {at : Place} {whole : Tree} {ts rest : List Token} → Heads (toks.Word words.False) at ts rest → whole ≡ bool false at → ReadsForm g.base l whole ts rest
+pub base_false : (l : ℕ) {at : Place} {whole : Tree} {ts rest : List Token} → Heads (toks.Word words.False) at ts rest → whole ≡ bool false at
+    → ReadsForm g.base l whole ts rest
 base_false l {at} {whole} {ts} {rest} h w =
     subst (λ (z : Tree). ReadsForm g.base l z ts rest) (sym w) (by_token g.base l _ (inr (inr (inl refl))) h refl refl refl (a_word words.False h))
 
@@ -684,9 +715,11 @@ module _ (l : ℕ) {at : Place} {ts mid : List Token} (h : Heads (toks.Word word
 
   pub register_no_level : few_levels (l + 1) ≡ false → (stop : Stop) → stop ≡ stops.Nesting (length ts) → HaltsIn g.base l ts stop
   register_no_level deep stop e =
-      halts_by_token g.base l _ (inr (inr (inr (inl refl)))) h refl refl refl (opens_too_many (word words.Reg) (l + 1) (in_register (l + 1)) deep h refl refl stop e)
+      halts_by_token g.base l _ (inr (inr (inr (inl refl)))) h refl refl refl
+      (opens_too_many (word words.Reg) (l + 1) (in_register (l + 1)) deep h refl refl stop e)
 
-  pub in_register_halts : (inner : ℕ) → inner ≡ l + 1 → {stop : Stop} → few_levels (l + 1) ≡ true → Halts (in_register inner) mid stop → HaltsIn g.base l ts stop
+  pub in_register_halts : (inner : ℕ) → inner ≡ l + 1 → {stop : Stop} → few_levels (l + 1) ≡ true → Halts (in_register inner) mid stop
+      → HaltsIn g.base l ts stop
   in_register_halts inner e {stop} ok k =
       halts_by_token g.base l _ (inr (inr (inr (inl refl)))) h refl refl refl
       (halts_behind (in_register (l + 1)) (opened (word words.Reg) (l + 1) ok h refl refl refl) (subst (λ (z : ℕ). Halts (in_register z) mid stop) e k))
@@ -713,7 +746,8 @@ module _ (l : ℕ) {at : Place} {ts mid : List Token} (h : Heads (toks.Sign sign
       halts_by_token g.base l _ (inr (inr (inr (inr (inl refl))))) h refl refl refl
       (halts_behind (in_bracket (l + 1)) (opened (sign signs.OpenRound) (l + 1) ok h refl refl refl) k)
 
-  pub in_bracket_halts : (inner : ℕ) → inner ≡ l + 1 → {stop : Stop} → few_levels (l + 1) ≡ true → HaltsIn g.expression inner mid stop → HaltsIn g.base l ts stop
+  pub in_bracket_halts : (inner : ℕ) → inner ≡ l + 1 → {stop : Stop} → few_levels (l + 1) ≡ true → HaltsIn g.expression inner mid stop
+      → HaltsIn g.base l ts stop
   in_bracket_halts inner e {stop} ok k =
       inside_halts ok (halts_first (token (sign signs.CloseRound) ∷ []) (subst (λ (z : ℕ). HaltsIn g.expression z mid stop) e k))
 
@@ -723,11 +757,13 @@ module _ (l : ℕ) {at : Place} {ts mid : List Token} (h : Heads (toks.Sign sign
       inside_halts ok (halts_behind (token (sign signs.CloseRound) ∷ []) (subst (λ (z : ℕ). ReadsForm g.expression z t mid a) e r) k)
 
 module _ (l : ℕ) {at : Place} {ts mid : List Token} (h : Heads (toks.Sign signs.OpenCurly) at ts mid) where
-  pub base_block : (inner : ℕ) → inner ≡ l + 1 → {t : Tree} {rest : List Token} → few_levels (l + 1) ≡ true → ReadsBlock inner at t mid rest → ReadsForm g.base l t ts rest
+  pub base_block : (inner : ℕ) → inner ≡ l + 1 → {t : Tree} {rest : List Token} → few_levels (l + 1) ≡ true → ReadsBlock inner at t mid rest
+      → ReadsForm g.base l t ts rest
   base_block inner e {t} {rest} ok r =
       let r' : ReadsBlock (l + 1) at t mid rest = subst (λ (z : ℕ). ReadsBlock z at t mid rest) e r in
       subst (λ (z : Tree). ReadsForm g.base l z ts rest) (sym r'.is)
-      (by_token g.base l _ (inr (inr (inr (inr (inr (inl refl)))))) h refl refl refl (and_then (opened (sign signs.OpenCurly) (l + 1) ok h refl refl refl) r'.reads))
+      (by_token g.base l _ (inr (inr (inr (inr (inr (inl refl)))))) h refl refl refl
+      (and_then (opened (sign signs.OpenCurly) (l + 1) ok h refl refl refl) r'.reads))
 
   pub block_no_level : few_levels (l + 1) ≡ false → (stop : Stop) → stop ≡ stops.Nesting (length ts) → HaltsIn g.base l ts stop
   block_no_level deep stop e =
@@ -741,7 +777,8 @@ module _ (l : ℕ) {at : Place} {ts mid : List Token} (h : Heads (toks.Sign sign
 
 -- ---- items
 
-pub item_let : (l : ℕ) {item : ItemTree} {at : Place} {ts mid rest : List Token} → Heads (toks.Word words.Let) at ts mid → ReadsBinding l item mid rest → ReadsItem l item ts rest
+pub item_let : (l : ℕ) {item : ItemTree} {at : Place} {ts mid rest : List Token} → Heads (toks.Word words.Let) at ts mid → ReadsBinding l item mid rest
+    → ReadsItem l item ts rest
 item_let l {item} {at} {ts} {mid} {rest} h r =
     subst (λ (z : ItemTree). ReadsItem l z ts rest) (sym r.is) (record {
       passes = passes_then (line_passes g.body l _ (inl refl) (by_first g.body l _ (inl refl) h refl refl refl)) (beside (form g.body l ∷ []) whole.passes);
@@ -751,12 +788,14 @@ item_let l {item} {at} {ts} {mid} {rest} h r =
     whole : Reads (token (word words.Let) ∷ in_binding l) (r.bound, (r.more, (r.inner, tt))) ts rest
     whole = and_then (a_let h) r.reads
 
-pub item_do : (l : ℕ) {item : ItemTree} {t : Tree} {at : Place} {ts mid rest : List Token} → NotFirst (toks.Word words.Let) ts → ReadsForm g.expression l t ts mid
+pub item_do : (l : ℕ) {item : ItemTree} {t : Tree} {at : Place} {ts mid rest : List Token} → NotFirst (toks.Word words.Let) ts
+    → ReadsForm g.expression l t ts mid
     → Heads (toks.Sign signs.Semi) at mid rest → item ≡ run t → ReadsItem l item ts rest
 item_do l {item} {t} {at} {ts} {mid} {rest} k r h w =
     subst (λ (z : ItemTree). ReadsItem l z ts rest) (sym w) (record {
       passes = passes_then (line_passes g.body l _ (inr (inl refl)) (m.as_body l ts k)) (passes_then (beside (form g.body_end l ∷ []) r.passes)
-          (passes_then (line_passes g.body_end l _ (inl refl) (by_first g.body_end l _ (inl refl) h refl refl refl)) (beside (form g.body l ∷ []) (a_sign h).passes)));
+          (passes_then (line_passes g.body_end l _ (inl refl) (by_first g.body_end l _ (inl refl) h refl refl refl))
+          (beside (form g.body l ∷ []) (a_sign h).passes)));
       shorter = let x = r.shorter in let y = ap length h.cut in omega (arith, x, y);
     })
 
@@ -775,7 +814,8 @@ module _ (l : ℕ) {ts : List Token} (k : NotFirst (toks.Word words.Let) ts) whe
       halts_there (form g.body l ∷ []) (form g.expression l ∷ form g.body_end l ∷ []) (m.as_body l ts k)
       (halts_behind (form g.body_end l ∷ []) r (halts_by_pieces g.body_end l _ (inr (inl refl)) (m.as_body_end l mid n) h))
 
-pub let_halts : (l : ℕ) {at : Place} {ts mid : List Token} {stop : Stop} → Heads (toks.Word words.Let) at ts mid → Halts (in_binding l) mid stop → HaltsIn g.body l ts stop
+pub let_halts : (l : ℕ) {at : Place} {ts mid : List Token} {stop : Stop} → Heads (toks.Word words.Let) at ts mid → Halts (in_binding l) mid stop
+    → HaltsIn g.body l ts stop
 let_halts l h k =
     halts_by_token g.body l _ (inl refl) h refl refl refl (halts_first (form g.body l ∷ []) (halts_behind (in_binding l) (a_let h) k))
 

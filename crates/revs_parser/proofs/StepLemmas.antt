@@ -15,8 +15,8 @@ use Rattle.revs_grammar.specs.Forms as g
 use Rattle.revs_grammar.specs.Productions.{productions}
 use Rattle.revs_grammar.specs.Sentences.{token, kept_token, opening_token, form, symbols, any_level, few_levels}
 use Rattle.revs_grammar.specs.inside.Machine.{Stack, Opening, first_some, behind, begun, table, is_empty, is_optional, at_level, taken, step, is_done, accepted, no_syntax, too_deep, is_end, at_token, outcome}
-use Rattle.revs_grammar.proofs.Hints.{rank, may_follow}
-use Rattle.revs_grammar.proofs.Checks.{begin, starts_well, starts}
+use Rattle.revs_grammar.proofs.CheckHints.{rank, may_follow}
+use Rattle.revs_grammar.proofs.CheckLemmas.{begin, starts_well, starts}
 use Rattle.revs_grammar.proofs.LineLemmas.{word_low, code_low, not_true, all_lines-at, table_is, table_line}
 use Rattle.revs_parser.specs.inside.Reading.{Heads, NotFirst, begins_base, base_first, is_name, name_first}
 
@@ -45,7 +45,8 @@ alike_on t rest ms ns n e =
     (at_token (step few_levels (code t.tok) ns) (step any_level (code t.tok) ns) (length rest + 1) (outcome rest))) (sym n)
 
 -- the outcome where a token of a known kind stands first
-abbrev pub headed : {k : Tok} {at : Place} {ts rest : List Token} → Heads k at ts rest → (ms : Stack) → outcome ts ms ≡ outcome (record { tok = k; at = at } ∷ rest) ms
+abbrev pub headed : {k : Tok} {at : Place} {ts rest : List Token} → Heads k at ts rest → (ms : Stack) → outcome ts ms
+    ≡ outcome (record { tok = k; at = at } ∷ rest) ms
 headed h ms = ap (λ (z : List Token). outcome z ms) h.cut
 
 -- A fact of the kind of the first token, if there is one.
@@ -64,14 +65,16 @@ module _ {k : Tok} {at : Place} {ts rest : List Token} (m : Mark) (same : code k
   pub token_goes : (ms : Stack) → outcome ts (token m ∷ ms) ≡ outcome rest ms
   token_goes ms =
       headed h (token m ∷ ms)
-      ∙ ap (λ (b : Bool). cond b (no_syntax (length rest + 1)) (at_token (cond (code k == mark_code m) (Some ms) None) (cond (code k == mark_code m) (Some ms) None)
+      ∙ ap (λ (b : Bool). cond b (no_syntax (length rest + 1)) (at_token (cond (code k == mark_code m) (Some ms) None)
+      (cond (code k == mark_code m) (Some ms) None)
       (length rest + 1) (outcome rest))) n
       ∙ ap (λ (b : Bool). at_token (cond b (Some ms) None) (cond b (Some ms) None) (length rest + 1) (outcome rest)) same
 
   pub kept_goes : (ms : Stack) → outcome ts (kept_token m ∷ ms) ≡ outcome rest ms
   kept_goes ms =
       headed h (kept_token m ∷ ms)
-      ∙ ap (λ (b : Bool). cond b (no_syntax (length rest + 1)) (at_token (cond (code k == mark_code m) (Some ms) None) (cond (code k == mark_code m) (Some ms) None)
+      ∙ ap (λ (b : Bool). cond b (no_syntax (length rest + 1)) (at_token (cond (code k == mark_code m) (Some ms) None)
+      (cond (code k == mark_code m) (Some ms) None)
       (length rest + 1) (outcome rest))) n
       ∙ ap (λ (b : Bool). at_token (cond b (Some ms) None) (cond b (Some ms) None) (length rest + 1) (outcome rest)) same
 
@@ -91,7 +94,8 @@ module _ {k : Tok} {at : Place} {ts rest : List Token} (m : Mark) (same : code k
   opening_deepens l deep ms = let e = ap length h.cut in opening_at l false deep ms ∙ ap too_deep (omega (arith, e))
 
 -- The machine halts where the token that it expects does not stand.
-pub token_missing : (m : Mark) (ts : List Token) → AtFirst (λ t. code t == mark_code m ≡ false) ts → (ms : Stack) → outcome ts (token m ∷ ms) ≡ no_syntax (length ts)
+pub token_missing : (m : Mark) (ts : List Token) → AtFirst (λ t. code t == mark_code m ≡ false) ts → (ms : Stack) → outcome ts (token m ∷ ms)
+    ≡ no_syntax (length ts)
 token_missing m [] h ms = refl
 token_missing m (t ∷ ts) h ms =
     ap (λ (b : Bool). cond (is_end t.tok) (no_syntax (length ts + 1)) (at_token (cond b (Some ms) None) (cond b (Some ms) None) (length ts + 1) (outcome ts))) h
@@ -196,7 +200,8 @@ by_first f l p i {k} {at} {ts} {rest} h n b some ms =
     starts_so : starts_well (rank f) p.pieces ≡ true
     starts_so = all_lines-at (starts_well (rank f)) (productions f) p (starts f) i
 
-    taken_so : (a : ℕ → Bool) → table (code k) f ≡ begun (table (code k)) (code k) p.pieces → step a (code k) (form f l ∷ ms) ≡ step a (code k) (symbols l p.pieces ++ ms)
+    taken_so : (a : ℕ → Bool) → table (code k) f ≡ begun (table (code k)) (code k) p.pieces → step a (code k) (form f l ∷ ms)
+        ≡ step a (code k) (symbols l p.pieces ++ ms)
     taken_so a is =
         ap (λ (o : Option Opening). taken a l ms o (cond (is_optional f) (step a (code k) ms) None)) is
         ∙ taken_some a l ms (cond (is_optional f) (step a (code k) ms) None) (begun (table (code k)) (code k) p.pieces)
@@ -204,7 +209,8 @@ by_first f l p i {k} {at} {ts} {rest} h n b some ms =
         ∙ front_step a (code k) l (rank f) p.pieces ms starts_so some
 
 -- A form that the first token does not begin is left out.
-pub as_none : (f : Form) (l : ℕ) → is_optional f ≡ true → (ts : List Token) → AtFirst (IsLeftOut f) ts → (ms : Stack) → outcome ts (form f l ∷ ms) ≡ outcome ts ms
+pub as_none : (f : Form) (l : ℕ) → is_optional f ≡ true → (ts : List Token) → AtFirst (IsLeftOut f) ts → (ms : Stack) → outcome ts (form f l ∷ ms)
+    ≡ outcome ts ms
 as_none f l may [] h ms = refl
 as_none f l may (t ∷ ts) h ms =
     alike t ts (form f l ∷ ms) ms (λ a.
@@ -283,11 +289,13 @@ only_line f l p i must some is [] ms = refl
 only_line f l p i must some is (t ∷ ts) ms = as_line f l p i must some (t ∷ ts) (is t.tok) ms
 
 pub as_program : (ts : List Token) (ms : Stack)
-    → outcome ts (form g.program 0 ∷ ms) ≡ outcome ts (token (word words.Main) ∷ form g.parameter 0 ∷ form g.parameters 0 ∷ token (sign signs.Equal) ∷ form g.expression 1 ∷ ms)
+    → outcome ts (form g.program 0 ∷ ms)
+    ≡ outcome ts (token (word words.Main) ∷ form g.parameter 0 ∷ form g.parameters 0 ∷ token (sign signs.Equal) ∷ form g.expression 1 ∷ ms)
 as_program ts ms = only_line g.program 0 _ (inl refl) refl refl (λ t. table_is (code t) g.program ∙ first_only _) ts ms
 
 pub as_parameter : (ts : List Token) (ms : Stack)
-    → outcome ts (form g.parameter 0 ∷ ms) ≡ outcome ts (token (sign signs.OpenRound) ∷ kept_token any_name ∷ token (sign signs.Colon) ∷ token (word words.Bool) ∷ form g.width 0 ∷ ms)
+    → outcome ts (form g.parameter 0 ∷ ms)
+    ≡ outcome ts (token (sign signs.OpenRound) ∷ kept_token any_name ∷ token (sign signs.Colon) ∷ token (word words.Bool) ∷ form g.width 0 ∷ ms)
 as_parameter ts ms = only_line g.parameter 0 _ (inl refl) refl refl (λ t. table_is (code t) g.parameter ∙ first_only _) ts ms
 
 pub as_sum : (l : ℕ) (ts : List Token) (ms : Stack) → outcome ts (form g.sum l ∷ ms) ≡ outcome ts (form g.product l ∷ form g.sums l ∷ ms)
@@ -359,7 +367,8 @@ as_use l [] h ms = refl
 as_use l (t ∷ ts) h ms =
     as_line g.base l _ (inl refl) refl refl (t ∷ ts)
     (table_is (code t.tok) g.base
-    ∙ ap (first_some _) (first_less (code t.tok == 11) _ (no_word t.tok words.True h.no_true) ∙ first_less (code t.tok == 12) _ (no_word t.tok words.False h.no_false)
+    ∙ ap (first_some _) (first_less (code t.tok == 11) _ (no_word t.tok words.True h.no_true)
+    ∙ first_less (code t.tok == 12) _ (no_word t.tok words.False h.no_false)
     ∙ first_less (code t.tok == 10) _ (no_word t.tok words.Reg h.no_reg) ∙ first_less (code t.tok == 18) _ (no_sign t.tok signs.OpenRound h.no_round)
     ∙ first_less (code t.tok == 22) _ (no_sign t.tok signs.OpenCurly h.no_curly)) ∙ first_only _) ms
 
@@ -407,7 +416,8 @@ names_begin : (t : Tok) → is_name t ≡ true → (is_end t ≡ false) × (begi
 names_begin (toks.Name text) h = (refl, refl)
 names_begin _ h = cc
 
-pub more_names : (ts : List Token) → name_first ts ≡ true → (ms : Stack) → outcome ts (form g.names 0 ∷ ms) ≡ outcome ts (kept_token any_name ∷ form g.names 0 ∷ ms)
+pub more_names : (ts : List Token) → name_first ts ≡ true → (ms : Stack) → outcome ts (form g.names 0 ∷ ms)
+    ≡ outcome ts (kept_token any_name ∷ form g.names 0 ∷ ms)
 more_names [] h ms = cc
 more_names (t ∷ ts) h ms =
     let b = names_begin t.tok h in by_first g.names 0 _ (inr (inl refl)) {k = t.tok} {at = t.at} {rest = ts} (record { cut = refl }) b.0 b.1 refl ms

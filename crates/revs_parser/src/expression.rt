@@ -62,7 +62,8 @@ fn part(tokens: &[Token], at: Place) -> Result<(Part, &[Token]), Stop>
 
 // { part }
 fn all_parts(alloc: Global, tokens: &[Token]) -> Result<(Vec<Part>, &[Token]), Stop>
-    ensures ok { IfOk result (λ read. Skips (form g.parts 0 ∷ []) (read.0.items, tt) tokens.now read.1.now) }
+    ensures ok { IfOk result (λ read. Skips (form g.parts 0 ∷ [])
+        (read.0.items, tt) tokens.now read.1.now) }
     ensures halts { IfErr result (λ stop. HaltsIn g.parts 0 tokens.now stop) }
 {
     let mut parts = Vec::new(alloc);
@@ -94,7 +95,8 @@ fn open(level: u32, tokens: &[Token]) -> Result<u32, Stop>
 #[cycle(read)]
 pub fn expression(alloc: Global, tokens: &[Token], level: u32) -> Result<(Term, &[Token]), Stop>
     requires { level ≤ 100 }
-    ensures ok { IfOk result (λ read. ReadsForm g.expression level (tree_of read.0) tokens.now read.1.now) }
+    ensures ok { IfOk result (λ read. ReadsForm g.expression level
+        (tree_of read.0) tokens.now read.1.now) }
     ensures halts { IfErr result (λ stop. HaltsIn g.expression level tokens.now stop) }
 {
     if let Some((at, behind)) = after_word(tokens, Word::Fun) {
@@ -157,7 +159,8 @@ fn sum(alloc: Global, tokens: &[Token], level: u32) -> Result<(Term, &[Token]), 
 #[cycle(read)]
 fn product(alloc: Global, tokens: &[Token], level: u32) -> Result<(Term, &[Token]), Stop>
     requires { level ≤ 100 }
-    ensures ok { IfOk result (λ read. ReadsForm g.product level (tree_of read.0) tokens.now read.1.now) }
+    ensures ok { IfOk result (λ read. ReadsForm g.product level
+        (tree_of read.0) tokens.now read.1.now) }
     ensures halts { IfErr result (λ stop. HaltsIn g.product level tokens.now stop) }
 {
     let (first, rest) = application(alloc, tokens, level)?;
@@ -179,7 +182,8 @@ fn product(alloc: Global, tokens: &[Token], level: u32) -> Result<(Term, &[Token
 #[cycle(read)]
 fn application(alloc: Global, tokens: &[Token], level: u32) -> Result<(Term, &[Token]), Stop>
     requires { level ≤ 100 }
-    ensures ok { IfOk result (λ read. ReadsForm g.application level (tree_of read.0) tokens.now read.1.now) }
+    ensures ok { IfOk result (λ read. ReadsForm g.application level
+        (tree_of read.0) tokens.now read.1.now) }
     ensures halts { IfErr result (λ stop. HaltsIn g.application level tokens.now stop) }
 {
     if let Some((at, behind)) = after_word(tokens, Word::Clean) {
@@ -360,7 +364,8 @@ fn item_or_last(alloc: Global, tokens: &[Token], level: u32) -> Result<(Piece, &
 #[cycle(read)]
 fn binding(alloc: Global, tokens: &[Token], level: u32) -> Result<(Item, &[Token]), Stop>
     requires { level ≤ 100 }
-    ensures ok { IfOk result (λ read. ReadsBinding level (item_tree_of read.0) tokens.now read.1.now) }
+    ensures ok { IfOk result
+        (λ read. ReadsBinding level (item_tree_of read.0) tokens.now read.1.now) }
     ensures halts { IfErr result (λ stop. Halts (in_binding level) tokens.now stop) }
 {
     let (bound, rest) = name(tokens)?;

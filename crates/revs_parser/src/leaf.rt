@@ -77,7 +77,8 @@ pub fn expect(tokens: &[Token], sign: Sign) -> Result<&[Token], Stop>
 
 /// The name that stands first, and the tokens behind it.
 pub fn name(tokens: &[Token]) -> Result<(Name, &[Token]), Stop>
-    ensures ok { IfOk result (λ read. Reads (kept_token g.any_name ∷ []) (read.0, tt) tokens.now read.1.now) }
+    ensures ok { IfOk result (λ read. Reads (kept_token g.any_name ∷ [])
+        (read.0, tt) tokens.now read.1.now) }
     ensures halts { IfErr result (λ stop. Halts (kept_token g.any_name ∷ []) tokens.now stop) }
     ensures memory { IsErrOf result Stop.Memory → name_first tokens.now ≡ true }
 {
@@ -101,7 +102,8 @@ pub fn name(tokens: &[Token]) -> Result<(Name, &[Token]), Stop>
 
 /// The number that stands first, and the tokens behind it.
 pub fn number(tokens: &[Token]) -> Result<(u32, &[Token]), Stop>
-    ensures ok { IfOk result (λ read. Reads (kept_token g.any_number ∷ []) (read.0, tt) tokens.now read.1.now) }
+    ensures ok { IfOk result (λ read. Reads (kept_token g.any_number ∷ [])
+        (read.0, tt) tokens.now read.1.now) }
     ensures halts { IfErr result (λ stop. Halts (kept_token g.any_number ∷ []) tokens.now stop) }
     ensures exact { ¬ IsErrOf result Stop.Memory }
 {

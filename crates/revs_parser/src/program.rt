@@ -72,7 +72,8 @@ fn parameter(tokens: &[Token]) -> Result<(Param, &[Token]), Stop>
 
 // { param } behind the parameters so far.
 fn parameters(mut params: Vec<Param>, tokens: &[Token]) -> Result<(Vec<Param>, &[Token]), Stop>
-    ensures ok { IfOk result (λ read. ReadsParameters params.items read.0.items tokens.now read.1.now) }
+    ensures ok { IfOk result
+        (λ read. ReadsParameters params.items read.0.items tokens.now read.1.now) }
     ensures halts { IfErr result (λ stop. HaltsIn g.parameters 0 tokens.now stop) }
 {
     let mut rest = tokens;
@@ -86,7 +87,8 @@ fn parameters(mut params: Vec<Param>, tokens: &[Token]) -> Result<(Vec<Param>, &
 
 // A whole sentence.
 fn sentence(alloc: Global, tokens: &[Token]) -> Result<(Vec<Param>, Term, &[Token]), Stop>
-    ensures ok { IfOk result (λ read. ReadsProgram read.0.items (tree_of read.1) tokens.now read.2.now) }
+    ensures ok { IfOk result (λ read. ReadsProgram read.0.items
+        (tree_of read.1) tokens.now read.2.now) }
     ensures halts { IfErr result (λ stop. HaltsIn g.program 0 tokens.now stop) }
 {
     let Some((_, behind)) = after_word(tokens, Word::Main) else {
@@ -200,7 +202,8 @@ pub fn parse(alloc: Global, tokens: &[Token]) -> Result<Program, ParseFault>
     requires ended { IsEnded tokens.now }
     requires few { length tokens.now < 2 ^ 32 }
     ensures program { IfOk result (λ p. IsProgramOf tokens.now p.params.items (tree_of p.body)) }
-    ensures syntax { (number : ℕ) (at : Place) → IsErrOf result (faults.Syntax number at) → IsSyntax tokens.now number at }
+    ensures syntax { (number : ℕ) (at : Place) → IsErrOf result (faults.Syntax number at)
+        → IsSyntax tokens.now number at }
     ensures nesting { (at : Place) → IsErrOf result (faults.Nesting at) → IsNesting tokens.now at }
     ensures inputs { (at : Place) → IsErrOf result (faults.Inputs at) → IsInputs tokens.now at }
     ensures exact { (verdict : Verdict) → IsVerdict tokens.now verdict → IsAnswer verdict result }

@@ -1,4 +1,4 @@
-pub mod Shapes
+pub mod ShapeLemmas
 pub mod PairedLemmas
 pub mod LogLemmas
 pub mod BitlessRunLemmas

@@ -1,4 +1,4 @@
-use Rattle.revs_grammar.proofs.Verdicts.{some_verdict, one_verdict}
+use Rattle.revs_grammar.proofs.VerdictLemmas.{some_verdict, one_verdict}
 use Rattle.revs_grammar.proofs.one_verdict.Goals as goal
 
 pub returns : goal.returns

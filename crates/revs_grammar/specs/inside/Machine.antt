@@ -22,13 +22,16 @@ first_some None other = other
 -- what is left of a line whose first form is left so
 abbrev pub behind : Depth → List Piece → Option Opening → Option Opening
 behind d ps None = None
-behind d ps (Some o) = Some (record { opens = λ l. o.opens (level d l); rest = λ l. o.rest (level d l) ++ symbols l ps })
+behind d ps (Some o) = Some
+    (record { opens = λ l. o.opens (level d l); rest = λ l. o.rest (level d l) ++ symbols l ps })
 
 abbrev pub begun : (Form → Option Opening) → ℕ → List Piece → Option Opening
 begun left c [] = None
 begun left c (one m ∷ ps) = cond (c == mark_code m) (Some (record { opens = λ l. None; rest = λ l. symbols l ps })) None
-begun left c (kept m ∷ ps) = cond (c == mark_code m) (Some (record { opens = λ l. None; rest = λ l. symbols l ps })) None
-begun left c (opening m ∷ ps) = cond (c == mark_code m) (Some (record { opens = λ l. Some (l + 1); rest = λ l. symbols l ps })) None
+begun left c (kept m ∷ ps) = cond (c == mark_code m) (Some (record { opens = λ l. None; rest = λ l. symbols l ps }))
+    None
+begun left c (opening m ∷ ps) = cond (c == mark_code m)
+    (Some (record { opens = λ l. Some (l + 1); rest = λ l. symbols l ps })) None
 begun left c (sub d f ∷ ps) = behind d ps (left f)
 
 abbrev pub first_line : {V : Type 0} → (Form → Option Opening) → ℕ → List (Production V) → Option Opening

@@ -63,7 +63,8 @@ pub record ReadsAtoms (level : ℕ) (term : Tree) (ts rest : List Token) : Type 
 -- what is expected of a register behind its `reg`
 abbrev pub in_register : ℕ → Stack
 in_register level =
-    token (sign signs.OpenSquare) ∷ form g.expression level ∷ form g.elements level ∷ token (sign signs.CloseSquare) ∷ []
+    token (sign signs.OpenSquare) ∷ form g.expression level ∷ form g.elements level ∷ token
+    (sign signs.CloseSquare) ∷ []
 
 -- The elements of a register were read behind `reg`, which has this place.
 pub record ReadsRegister (level : ℕ) (at : Place) (term : Tree) (ts rest : List Token) : Type 0 where
@@ -86,12 +87,14 @@ pub record ReadsItem (level : ℕ) (item : ItemTree) (ts rest : List Token) : Ty
 -- An item of a block was read, or its last expression and the `}`.
 abbrev pub ReadsPiece : ℕ → Piece → List Token → List Token → Type 0
 ReadsPiece level (pieces.Item item) ts rest = ReadsItem level (item_tree_of item) ts rest
-ReadsPiece level (pieces.Last term) ts rest = ReadsForm g.body level (record { items = []; last = tree_of term }) ts rest
+ReadsPiece level (pieces.Last term) ts rest = ReadsForm g.body level
+    (record { items = []; last = tree_of term }) ts rest
 
 -- what is expected of a `let` behind the word
 abbrev pub in_binding : ℕ → Stack
 in_binding level =
-    kept_token any_name ∷ form g.names 0 ∷ token (sign signs.Equal) ∷ form g.expression level ∷ token (sign signs.Semi) ∷ []
+    kept_token any_name ∷ form g.names 0 ∷ token (sign signs.Equal) ∷ form g.expression level ∷ token
+    (sign signs.Semi) ∷ []
 
 -- What a `let` binds was read behind the word.
 pub record ReadsBinding (level : ℕ) (item : ItemTree) (ts rest : List Token) : Type 0 where

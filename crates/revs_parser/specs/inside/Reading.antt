@@ -27,7 +27,8 @@ pub record Passes (es fs : Stack) (turn : Vals fs → Vals es) (ts rest : List T
   pub front : List Token
   pub cut : ts ≡ front ++ rest
   pub leads : (ms : Stack) → Leads few_levels (es ++ ms) front (fs ++ ms)
-  pub stands_for : (ms : Stack) (us : Vals fs) (ws : Vals ms) → value (leads ms) (put fs ms us ws) ≡ put es ms (turn us) ws
+  pub stands_for : (ms : Stack) (us : Vals fs) (ws : Vals ms) → value (leads ms) (put fs ms us ws)
+      ≡ put es ms (turn us) ws
 
 -- The machine that expects these symbols comes over them, and the tokens in front of the rest, one at least, stand for these values.
 pub record Reads (es : Stack) (vs : Vals es) (ts rest : List Token) : Type 0 where

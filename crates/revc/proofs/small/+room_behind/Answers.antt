@@ -1,7 +1,7 @@
 use Rattle.std.proofs.Common.{List, length, map, take, sym, subst, arith}
 use Rattle.revs_terms.specs.Trees.{Tree, ands, tree_of, trees}
 use Rattle.revc.specs.Small.{LeavesRoom}
-use Rattle.revc.proofs.SmallSteps.{no_parts, IsInFront, in_front, further_part, part_too_much, no_operator, next_part, name_leaves, other_too_much, chain_answer}
+use Rattle.revc.proofs.SmallStepLemmas.{no_parts, IsInFront, in_front, further_part, part_too_much, no_operator, next_part, name_leaves, other_too_much, chain_answer}
 use Rattle.revc.proofs.small.+room_behind.Goals as goal
 
 pub room_behind-returns-in-Name : goal.room_behind-returns-in-Name

@@ -2,7 +2,7 @@ use Rattle.std.proofs.Common.{◌≡◌, sym, ◌∙◌, ap, subst, map, arith, 
 use Rattle.revs_terms.specs.Trees.{function, parts, append, rotate, clean, assert, assign, block, bind, item_trees, tree_of, item_tree_of}
 use Rattle.revs_terms.specs.declared.term.Lambda.{Lambda}
 use Rattle.revs_terms.specs.declared.term.Term.{Term}
-use Rattle.revs_terms.proofs.Shapes.{tree_of-Name, tree_of-Bool, tree_of-Reg, tree_of-Block, tree_of-Fun, tree_of-At, tree_of-Apply, tree_of-Append, tree_of-Rotate, tree_of-Clean, tree_of-Assert, tree_of-And, tree_of-Xor, tree_of-Assign, item_tree_of-Let, item_tree_of-Do}
+use Rattle.revs_terms.proofs.ShapeLemmas.{tree_of-Name, tree_of-Bool, tree_of-Reg, tree_of-Block, tree_of-Fun, tree_of-At, tree_of-Apply, tree_of-Append, tree_of-Rotate, tree_of-Clean, tree_of-Assert, tree_of-And, tree_of-Xor, tree_of-Assign, item_tree_of-Let, item_tree_of-Do}
 use Rattle.revs_parser.specs.declared.expression.Piece.{Piece}
 use Rattle.revs_parser.specs.declared.expression.Piece.TheVariants as pieces
 use Rattle.std.proofs.lemmas.Bool.{eqb-true, eqb-false}
@@ -19,10 +19,14 @@ expression-returns-in_err-inner-clause-halts t c =
     (r.expression_no_level c.args.level c.in-Some.ensures.found c.in_err-inner.ensures.deep _ c.in_err-inner.ensures.stops)
 
 pub expression-returns-in-Some-clause-ok : goal.expression-returns-in-Some-clause-ok
-expression-returns-in-Some-clause-ok t c = on_ok c.function.result (λ x. r.expression_function c.args.level c.in-Some.ensures.found c.in_ok-inner.inner c.in_ok-inner.ensures.inner c.in_ok-inner.ensures.within) c.function.ensures.ok
+expression-returns-in-Some-clause-ok t c = on_ok c.function.result
+    (λ x. r.expression_function c.args.level c.in-Some.ensures.found c.in_ok-inner.inner c.in_ok-inner.ensures.inner c.in_ok-inner.ensures.within)
+    c.function.ensures.ok
 
 pub expression-returns-in-Some-clause-halts : goal.expression-returns-in-Some-clause-halts
-expression-returns-in-Some-clause-halts t c = on_err c.function.result (λ x. r.expression_in_function c.args.level c.in-Some.ensures.found c.in_ok-inner.inner c.in_ok-inner.ensures.inner c.in_ok-inner.ensures.within) c.function.ensures.halts
+expression-returns-in-Some-clause-halts t c = on_err c.function.result
+    (λ x. r.expression_in_function c.args.level c.in-Some.ensures.found c.in_ok-inner.inner c.in_ok-inner.ensures.inner c.in_ok-inner.ensures.within)
+    c.function.ensures.halts
 
 pub expression-returns-in_err-left-clause-halts : goal.expression-returns-in_err-left-clause-halts
 expression-returns-in_err-left-clause-halts t c =
@@ -30,7 +34,8 @@ expression-returns-in_err-left-clause-halts t c =
     (r.expression_in_sum c.args.level c.in_default.ensures.none c.in_err-left.ensures.halts)
 
 pub expression-returns-in_default-after-clause-ok : goal.expression-returns-in_default-after-clause-ok
-expression-returns-in_default-after-clause-ok t c = r.expression_sum c.args.level c.in_default.ensures.none c.in_ok-left.ensures.ok c.in_default-after.ensures.none
+expression-returns-in_default-after-clause-ok t c = r.expression_sum c.args.level c.in_default.ensures.none c.in_ok-left.ensures.ok
+    c.in_default-after.ensures.none
 
 pub expression-returns-in_err-right-clause-halts : goal.expression-returns-in_err-right-clause-halts
 expression-returns-in_err-right-clause-halts t c =
@@ -38,8 +43,10 @@ expression-returns-in_err-right-clause-halts t c =
     (r.expression_in_assigned c.args.level c.in_default.ensures.none c.in_ok-left.ensures.ok c.in-Some-after.ensures.found c.in_err-right.ensures.halts)
 
 pub expression-returns-clause-ok : goal.expression-returns-clause-ok
-expression-returns-clause-ok t c = r.expression_assign c.args.level c.in_default.ensures.none c.in_ok-left.ensures.ok c.in-Some-after.ensures.found c.in_ok-right.ensures.ok
-    (tree_of-Assign c.in_ok-new.field-0 c.in_ok-new-2.field-0 ∙ ap (λ (z : Term). assign (tree_of z) (tree_of c.in_ok-new-2.field-0.value)) c.in_ok-new.ensures.ok
+expression-returns-clause-ok t c = r.expression_assign c.args.level c.in_default.ensures.none c.in_ok-left.ensures.ok c.in-Some-after.ensures.found
+    c.in_ok-right.ensures.ok
+    (tree_of-Assign c.in_ok-new.field-0 c.in_ok-new-2.field-0
+    ∙ ap (λ (z : Term). assign (tree_of z) (tree_of c.in_ok-new-2.field-0.value)) c.in_ok-new.ensures.ok
     ∙ ap (λ (z : Term). assign (tree_of c.in_ok-left.left) (tree_of z)) c.in_ok-new-2.ensures.ok)
 
 -- ---- functions
@@ -65,7 +72,8 @@ function-returns-in_err-body-clause-halts t c =
     (r.function_in_body c.args.level c.in_ok-first.ensures.ok c.in_ok-names.ensures.ok c.in_ok-rest.ensures.ok c.in_err-body.ensures.halts)
 
 pub function-returns-clause-ok : goal.function-returns-clause-ok
-function-returns-clause-ok t c = r.function_reads c.args.level c.args.at c.in_ok-first.ensures.ok (only c.new-names.result.items c.in_ok-first.first c.in_ok-push.ensures.items c.new-names.ensures.items)
+function-returns-clause-ok t c = r.function_reads c.args.level c.args.at c.in_ok-first.ensures.ok
+    (only c.new-names.result.items c.in_ok-first.first c.in_ok-push.ensures.items c.new-names.ensures.items)
     c.in_ok-names.ensures.ok c.in_ok-rest.ensures.ok c.in_ok-body.ensures.ok
     (tree_of-Fun c.in_ok-function.function c.args.at ∙ ap (λ (z : Lambda). function z.names.items (tree_of z.body) c.args.at) c.in_ok-function.ensures.ok)
 
@@ -81,7 +89,8 @@ sum-returns-in_default-clause-ok t c = r.sum_alone c.args.level c.in_ok-first.en
 
 pub sum-products-init : goal.sum-products-init
 sum-products-init t c = record {
-  read = r.sum_begun c.args.level c.in_ok-first.ensures.ok c.in-Some.ensures.found (only c.new-terms.result.items c.in_ok-first.first c.in_ok-push.ensures.items c.new-terms.ensures.items);
+  read = r.sum_begun c.args.level c.in_ok-first.ensures.ok c.in-Some.ensures.found
+      (only c.new-terms.result.items c.in_ok-first.first c.in_ok-push.ensures.items c.new-terms.ensures.items);
 }
 
 pub sum-returns-in_err-next-clause-halts : goal.sum-returns-in_err-next-clause-halts
@@ -90,12 +99,14 @@ sum-returns-in_err-next-clause-halts t c =
     (r.chain_halts c.products.invariant.read c.in_err-next.ensures.halts)
 
 pub sum-returns-in_default-after-clause-ok : goal.sum-returns-in_default-after-clause-ok
-sum-returns-in_default-after-clause-ok t c = r.sum_done c.args.level c.products.terms.items c.in_ok-next.next c.products.invariant.read c.in_ok-next.ensures.ok c.in_default-after.ensures.none c.in_ok-push-2.ensures.items
+sum-returns-in_default-after-clause-ok t c = r.sum_done c.args.level c.products.terms.items c.in_ok-next.next c.products.invariant.read c.in_ok-next.ensures.ok
+    c.in_default-after.ensures.none c.in_ok-push-2.ensures.items
     (tree_of-Xor c.push-in-products.new.self)
 
 pub sum-products-preserved : goal.sum-products-preserved
 sum-products-preserved t c = record {
-  read = r.sum_more c.args.level c.products.terms.items c.in_ok-next.next c.products.invariant.read c.in_ok-next.ensures.ok c.in-Some-after.ensures.found c.in_ok-push-2.ensures.items;
+  read = r.sum_more c.args.level c.products.terms.items c.in_ok-next.next c.products.invariant.read c.in_ok-next.ensures.ok c.in-Some-after.ensures.found
+      c.in_ok-push-2.ensures.items;
 }
 
 pub sum-products-smaller : goal.sum-products-smaller
@@ -113,7 +124,8 @@ product-returns-in_default-clause-ok t c = r.product_alone c.args.level c.in_ok-
 
 pub product-applications-init : goal.product-applications-init
 product-applications-init t c = record {
-  read = r.product_begun c.args.level c.in_ok-first.ensures.ok c.in-Some.ensures.found (only c.new-terms.result.items c.in_ok-first.first c.in_ok-push.ensures.items c.new-terms.ensures.items);
+  read = r.product_begun c.args.level c.in_ok-first.ensures.ok c.in-Some.ensures.found
+      (only c.new-terms.result.items c.in_ok-first.first c.in_ok-push.ensures.items c.new-terms.ensures.items);
 }
 
 pub product-returns-in_err-next-clause-halts : goal.product-returns-in_err-next-clause-halts
@@ -122,12 +134,14 @@ product-returns-in_err-next-clause-halts t c =
     (r.chain_halts c.applications.invariant.read c.in_err-next.ensures.halts)
 
 pub product-returns-in_default-after-clause-ok : goal.product-returns-in_default-after-clause-ok
-product-returns-in_default-after-clause-ok t c = r.product_done c.args.level c.applications.terms.items c.in_ok-next.next c.applications.invariant.read c.in_ok-next.ensures.ok c.in_default-after.ensures.none c.in_ok-push-2.ensures.items
+product-returns-in_default-after-clause-ok t c = r.product_done c.args.level c.applications.terms.items c.in_ok-next.next c.applications.invariant.read
+    c.in_ok-next.ensures.ok c.in_default-after.ensures.none c.in_ok-push-2.ensures.items
     (tree_of-And c.push-in-applications.new.self)
 
 pub product-applications-preserved : goal.product-applications-preserved
 product-applications-preserved t c = record {
-  read = r.product_more c.args.level c.applications.terms.items c.in_ok-next.next c.applications.invariant.read c.in_ok-next.ensures.ok c.in-Some-after.ensures.found c.in_ok-push-2.ensures.items;
+  read = r.product_more c.args.level c.applications.terms.items c.in_ok-next.next c.applications.invariant.read c.in_ok-next.ensures.ok
+      c.in-Some-after.ensures.found c.in_ok-push-2.ensures.items;
 }
 
 pub product-applications-smaller : goal.product-applications-smaller
@@ -164,7 +178,8 @@ application-returns-in_err-second-clause-halts t c =
     (r.append_halts_second c.args.level c.in-Some-after_word-2.ensures.found c.in_ok-first.ensures.ok c.in_err-second.ensures.halts)
 
 pub application-returns-in-Some-after_word-2-clause-ok : goal.application-returns-in-Some-after_word-2-clause-ok
-application-returns-in-Some-after_word-2-clause-ok t c = r.application_append c.args.level c.in-Some-after_word-2.ensures.found c.in_ok-first.ensures.ok c.in_ok-second.ensures.ok
+application-returns-in-Some-after_word-2-clause-ok t c = r.application_append c.args.level c.in-Some-after_word-2.ensures.found c.in_ok-first.ensures.ok
+    c.in_ok-second.ensures.ok
     (tree_of-Append c.in_ok-new-3.field-0 c.in_ok-new-4.field-0 c.in-Some-after_word-2.at
     ∙ ap (λ (z : Term). append (tree_of z) (tree_of c.in_ok-new-4.field-0.value) c.in-Some-after_word-2.at) c.in_ok-new-3.ensures.ok
     ∙ ap (λ (z : Term). append (tree_of c.in_ok-first.first) (tree_of z) c.in-Some-after_word-2.at) c.in_ok-new-4.ensures.ok)
@@ -180,14 +195,30 @@ application-returns-in_err-operand-3-clause-halts t c =
     (r.rotate_halts_second c.args.level c.in-Some-after_word-3.ensures.found c.in_ok-by.ensures.ok c.in_err-operand-3.ensures.halts)
 
 pub application-returns-in-Some-after_word-3-clause-ok : goal.application-returns-in-Some-after_word-3-clause-ok
-application-returns-in-Some-after_word-3-clause-ok t c = r.application_rotate c.args.level c.in-Some-after_word-3.ensures.found c.in_ok-by.ensures.ok c.in_ok-operand-3.ensures.ok
-    (tree_of-Rotate c.in_ok-by.by c.in_ok-new-5.field-0 c.in-Some-after_word-3.at ∙ ap (λ (z : Term). rotate c.in_ok-by.by (tree_of z) c.in-Some-after_word-3.at) c.in_ok-new-5.ensures.ok)
+application-returns-in-Some-after_word-3-clause-ok t c = r.application_rotate c.args.level c.in-Some-after_word-3.ensures.found c.in_ok-by.ensures.ok
+    c.in_ok-operand-3.ensures.ok
+    (tree_of-Rotate c.in_ok-by.by c.in_ok-new-5.field-0 c.in-Some-after_word-3.at
+    ∙ ap (λ (z : Term). rotate c.in_ok-by.by (tree_of z) c.in-Some-after_word-3.at) c.in_ok-new-5.ensures.ok)
 
 pub application-returns-clause-ok : goal.application-returns-clause-ok
-application-returns-clause-ok t c = on_ok c.atoms.result (λ x. r.application_plain c.args.level (record { no_clean = c.in_default.ensures.none; no_assert = c.in_default-after_word.ensures.none; no_append = c.in_default-after_word-2.ensures.none; no_rotate = c.in_default-after_word-3.ensures.none })) c.atoms.ensures.ok
+application-returns-clause-ok t c = on_ok c.atoms.result
+    (λ x. r.application_plain c.args.level
+    (record {
+      no_clean = c.in_default.ensures.none;
+      no_assert = c.in_default-after_word.ensures.none;
+      no_append = c.in_default-after_word-2.ensures.none;
+      no_rotate = c.in_default-after_word-3.ensures.none;
+    })) c.atoms.ensures.ok
 
 pub application-returns-clause-halts : goal.application-returns-clause-halts
-application-returns-clause-halts t c = on_err c.atoms.result (λ x. r.plain_halts c.args.level (record { no_clean = c.in_default.ensures.none; no_assert = c.in_default-after_word.ensures.none; no_append = c.in_default-after_word-2.ensures.none; no_rotate = c.in_default-after_word-3.ensures.none })) c.atoms.ensures.halts
+application-returns-clause-halts t c = on_err c.atoms.result
+    (λ x. r.plain_halts c.args.level
+    (record {
+      no_clean = c.in_default.ensures.none;
+      no_assert = c.in_default-after_word.ensures.none;
+      no_append = c.in_default-after_word-2.ensures.none;
+      no_rotate = c.in_default-after_word-3.ensures.none;
+    })) c.atoms.ensures.halts
 
 -- ---- an atom and its arguments
 
@@ -201,7 +232,8 @@ atoms-returns-then-not-begins_base-clause-ok t c = r.atom_alone c.args.level c.i
 
 pub atoms-arguments-init : goal.atoms-arguments-init
 atoms-arguments-init t c = record {
-  read = r.arguments_begun c.args.level c.in_ok-head.head c.in_ok-head-2.head.value c.in_ok-head.ensures.ok (sym c.begins_base.ensures ∙ c.if-not-begins_base.false) c.new-arguments.ensures.items c.in_ok-head-2.ensures.ok;
+  read = r.arguments_begun c.args.level c.in_ok-head.head c.in_ok-head-2.head.value c.in_ok-head.ensures.ok (sym c.begins_base.ensures
+      ∙ c.if-not-begins_base.false) c.new-arguments.ensures.items c.in_ok-head-2.ensures.ok;
 }
 
 pub atoms-returns-in_err-next-clause-halts : goal.atoms-returns-in_err-next-clause-halts
@@ -210,12 +242,14 @@ atoms-returns-in_err-next-clause-halts t c =
     (r.chain_halts c.arguments.invariant.read c.in_err-next.ensures.halts)
 
 pub atoms-returns-then-not-begins_base-2-clause-ok : goal.atoms-returns-then-not-begins_base-2-clause-ok
-atoms-returns-then-not-begins_base-2-clause-ok t c = r.arguments_done c.args.level (tree_of c.in_ok-head-2.head.value) c.arguments.arguments.items c.in_ok-next.next c.arguments.invariant.read c.in_ok-next.ensures.ok
+atoms-returns-then-not-begins_base-2-clause-ok t c = r.arguments_done c.args.level
+    (tree_of c.in_ok-head-2.head.value) c.arguments.arguments.items c.in_ok-next.next c.arguments.invariant.read c.in_ok-next.ensures.ok
     (sym c.begins_base-in-arguments.ensures ∙ c.if-not-begins_base-2.true) c.in_ok-push.ensures.items (tree_of-Apply c.in_ok-head-2.head c.push.new.self)
 
 pub atoms-arguments-preserved : goal.atoms-arguments-preserved
 atoms-arguments-preserved t c = record {
-  read = r.arguments_more c.args.level (tree_of c.in_ok-head-2.head.value) c.arguments.arguments.items c.in_ok-next.next c.arguments.invariant.read c.in_ok-next.ensures.ok (sym c.begins_base-in-arguments.ensures ∙ c.if-not-begins_base-2.false) c.in_ok-push.ensures.items;
+  read = r.arguments_more c.args.level (tree_of c.in_ok-head-2.head.value) c.arguments.arguments.items c.in_ok-next.next c.arguments.invariant.read
+      c.in_ok-next.ensures.ok (sym c.begins_base-in-arguments.ensures ∙ c.if-not-begins_base-2.false) c.in_ok-push.ensures.items;
 }
 
 pub atoms-arguments-smaller : goal.atoms-arguments-smaller
@@ -261,10 +295,14 @@ base-returns-in_err-inner-clause-halts t c =
     (r.register_no_level c.args.level c.in-Some-after_word-2.ensures.found c.in_err-inner.ensures.deep _ c.in_err-inner.ensures.stops)
 
 pub base-returns-in-Some-after_word-2-clause-ok : goal.base-returns-in-Some-after_word-2-clause-ok
-base-returns-in-Some-after_word-2-clause-ok t c = on_ok c.register.result (λ x. r.base_register c.args.level c.in-Some-after_word-2.ensures.found c.in_ok-inner.inner c.in_ok-inner.ensures.inner c.in_ok-inner.ensures.within) c.register.ensures.ok
+base-returns-in-Some-after_word-2-clause-ok t c = on_ok c.register.result
+    (λ x. r.base_register c.args.level c.in-Some-after_word-2.ensures.found c.in_ok-inner.inner c.in_ok-inner.ensures.inner c.in_ok-inner.ensures.within)
+    c.register.ensures.ok
 
 pub base-returns-in-Some-after_word-2-clause-halts : goal.base-returns-in-Some-after_word-2-clause-halts
-base-returns-in-Some-after_word-2-clause-halts t c = on_err c.register.result (λ x. r.in_register_halts c.args.level c.in-Some-after_word-2.ensures.found c.in_ok-inner.inner c.in_ok-inner.ensures.inner c.in_ok-inner.ensures.within) c.register.ensures.halts
+base-returns-in-Some-after_word-2-clause-halts t c = on_err c.register.result
+    (λ x. r.in_register_halts c.args.level c.in-Some-after_word-2.ensures.found c.in_ok-inner.inner c.in_ok-inner.ensures.inner c.in_ok-inner.ensures.within)
+    c.register.ensures.halts
 
 pub base-returns-in_err-inner-2-clause-halts : goal.base-returns-in_err-inner-2-clause-halts
 base-returns-in_err-inner-2-clause-halts t c =
@@ -274,15 +312,18 @@ base-returns-in_err-inner-2-clause-halts t c =
 pub base-returns-in_err-term-clause-halts : goal.base-returns-in_err-term-clause-halts
 base-returns-in_err-term-clause-halts t c =
     stops_so _ c.from_residual-in_err-term.result c.from_residual-in_err-term.ensures.1
-    (r.in_bracket_halts c.args.level c.in-Some-after.ensures.found c.in_ok-inner-2.inner c.in_ok-inner-2.ensures.inner c.in_ok-inner-2.ensures.within c.in_err-term.ensures.halts)
+    (r.in_bracket_halts c.args.level c.in-Some-after.ensures.found c.in_ok-inner-2.inner c.in_ok-inner-2.ensures.inner
+    c.in_ok-inner-2.ensures.within c.in_err-term.ensures.halts)
 
 pub base-returns-in_err-rest-clause-halts : goal.base-returns-in_err-rest-clause-halts
 base-returns-in_err-rest-clause-halts t c =
     stops_so _ c.from_residual-in_err-rest.result c.from_residual-in_err-rest.ensures.1
-    (r.bracket_unclosed c.args.level c.in-Some-after.ensures.found c.in_ok-inner-2.inner c.in_ok-inner-2.ensures.inner c.in_ok-inner-2.ensures.within c.in_ok-term.ensures.ok c.in_err-rest.ensures.halts)
+    (r.bracket_unclosed c.args.level c.in-Some-after.ensures.found c.in_ok-inner-2.inner c.in_ok-inner-2.ensures.inner
+    c.in_ok-inner-2.ensures.within c.in_ok-term.ensures.ok c.in_err-rest.ensures.halts)
 
 pub base-returns-in-Some-after-clause-ok : goal.base-returns-in-Some-after-clause-ok
-base-returns-in-Some-after-clause-ok t c = r.base_bracket c.args.level c.in-Some-after.ensures.found c.in_ok-inner-2.inner c.in_ok-inner-2.ensures.inner c.in_ok-inner-2.ensures.within c.in_ok-term.ensures.ok c.in_ok-rest.ensures.ok
+base-returns-in-Some-after-clause-ok t c = r.base_bracket c.args.level c.in-Some-after.ensures.found c.in_ok-inner-2.inner c.in_ok-inner-2.ensures.inner
+    c.in_ok-inner-2.ensures.within c.in_ok-term.ensures.ok c.in_ok-rest.ensures.ok
 
 pub base-returns-in_err-inner-3-clause-halts : goal.base-returns-in_err-inner-3-clause-halts
 base-returns-in_err-inner-3-clause-halts t c =
@@ -290,18 +331,36 @@ base-returns-in_err-inner-3-clause-halts t c =
     (r.block_no_level c.args.level c.in-Some-after-2.ensures.found c.in_err-inner-3.ensures.deep _ c.in_err-inner-3.ensures.stops)
 
 pub base-returns-in-Some-after-2-clause-ok : goal.base-returns-in-Some-after-2-clause-ok
-base-returns-in-Some-after-2-clause-ok t c = on_ok c.block.result (λ x. r.base_block c.args.level c.in-Some-after-2.ensures.found c.in_ok-inner-3.inner c.in_ok-inner-3.ensures.inner c.in_ok-inner-3.ensures.within) c.block.ensures.ok
+base-returns-in-Some-after-2-clause-ok t c = on_ok c.block.result
+    (λ x. r.base_block c.args.level c.in-Some-after-2.ensures.found c.in_ok-inner-3.inner c.in_ok-inner-3.ensures.inner c.in_ok-inner-3.ensures.within)
+    c.block.ensures.ok
 
 pub base-returns-in-Some-after-2-clause-halts : goal.base-returns-in-Some-after-2-clause-halts
-base-returns-in-Some-after-2-clause-halts t c = on_err c.block.result (λ x. r.in_block_halts c.args.level c.in-Some-after-2.ensures.found c.in_ok-inner-3.inner c.in_ok-inner-3.ensures.inner c.in_ok-inner-3.ensures.within) c.block.ensures.halts
+base-returns-in-Some-after-2-clause-halts t c = on_err c.block.result
+    (λ x. r.in_block_halts c.args.level c.in-Some-after-2.ensures.found c.in_ok-inner-3.inner c.in_ok-inner-3.ensures.inner c.in_ok-inner-3.ensures.within)
+    c.block.ensures.halts
 
 pub base-returns-in_err-used-clause-halts : goal.base-returns-in_err-used-clause-halts
 base-returns-in_err-used-clause-halts t c =
     stops_so _ c.from_residual-in_err-used.result c.from_residual-in_err-used.ensures.1
-    (r.base_no_use c.args.level (record { no_true = c.in_default.ensures.none; no_false = c.in_default-after_word.ensures.none; no_reg = c.in_default-after_word-2.ensures.none; no_round = c.in_default-after.ensures.none; no_curly = c.in_default-after-2.ensures.none }) c.in_err-used.ensures.halts)
+    (r.base_no_use c.args.level
+    (record {
+      no_true = c.in_default.ensures.none;
+      no_false = c.in_default-after_word.ensures.none;
+      no_reg = c.in_default-after_word-2.ensures.none;
+      no_round = c.in_default-after.ensures.none;
+      no_curly = c.in_default-after-2.ensures.none;
+    }) c.in_err-used.ensures.halts)
 
 pub base-returns-clause-ok : goal.base-returns-clause-ok
-base-returns-clause-ok t c = r.base_use c.args.level (record { no_true = c.in_default.ensures.none; no_false = c.in_default-after_word.ensures.none; no_reg = c.in_default-after_word-2.ensures.none; no_round = c.in_default-after.ensures.none; no_curly = c.in_default-after-2.ensures.none }) c.in_ok-used.ensures.ok (tree_of-Name c.in_ok-used.used)
+base-returns-clause-ok t c = r.base_use c.args.level
+    (record {
+      no_true = c.in_default.ensures.none;
+      no_false = c.in_default-after_word.ensures.none;
+      no_reg = c.in_default-after_word-2.ensures.none;
+      no_round = c.in_default-after.ensures.none;
+      no_curly = c.in_default-after-2.ensures.none;
+    }) c.in_ok-used.ensures.ok (tree_of-Name c.in_ok-used.used)
 
 -- ---- registers
 
@@ -324,11 +383,15 @@ register-returns-in_err-rest-clause-halts t c =
     (r.register_unclosed c.args.level c.elements.invariant.read c.in_ok-next.ensures.ok c.in_default.ensures.none c.in_err-rest.ensures.halts)
 
 pub register-returns-in_default-clause-ok : goal.register-returns-in_default-clause-ok
-register-returns-in_default-clause-ok t c = r.register_done c.args.level c.args.at c.elements.elements.items c.in_ok-next.next c.elements.invariant.read c.in_ok-next.ensures.ok c.in_default.ensures.none c.in_ok-push.ensures.items
+register-returns-in_default-clause-ok t c = r.register_done c.args.level c.args.at c.elements.elements.items c.in_ok-next.next c.elements.invariant.read
+    c.in_ok-next.ensures.ok c.in_default.ensures.none c.in_ok-push.ensures.items
     c.in_ok-rest.ensures.ok (tree_of-Reg c.push.new.self c.args.at)
 
 pub register-elements-preserved : goal.register-elements-preserved
-register-elements-preserved t c = record { read = r.register_more c.args.level c.elements.elements.items c.in_ok-next.next c.elements.invariant.read c.in_ok-next.ensures.ok c.in-Some.ensures.found c.in_ok-push.ensures.items }
+register-elements-preserved t c = record {
+  read = r.register_more c.args.level c.elements.elements.items c.in_ok-next.next c.elements.invariant.read
+      c.in_ok-next.ensures.ok c.in-Some.ensures.found c.in_ok-push.ensures.items;
+}
 
 pub register-elements-smaller : goal.register-elements-smaller
 register-elements-smaller t c = smaller_behind c.in_ok-next.ensures.ok c.in-Some.ensures.found
@@ -347,7 +410,10 @@ pub block-items-preserved : goal.block-items-preserved
 block-items-preserved t c =
     let item : ReadsPiece c.args.level (pieces.Item c.in-Item.item) c.items.rest.now c.in_ok-next.left.now =
     subst (λ (z : Piece). ReadsPiece c.args.level z c.items.rest.now c.in_ok-next.left.now) c.in-Item.is c.in_ok-next.ensures.ok in
-    record { read = r.block_more c.args.level c.items.items.items c.in-Item.item {new = c.push.new.self.items} c.items.invariant.read item c.in_ok-push-in-Item.ensures.items }
+    record {
+      read = r.block_more c.args.level c.items.items.items c.in-Item.item {new = c.push.new.self.items} c.items.invariant.read item
+          c.in_ok-push-in-Item.ensures.items;
+    }
 
 pub block-items-smaller : goal.block-items-smaller
 block-items-smaller t c =
@@ -378,7 +444,8 @@ item_or_last-returns-in_err-term-clause-halts t c =
     (r.do_halts c.args.level c.in_default.ensures.none c.in_err-term.ensures.halts)
 
 pub item_or_last-returns-in-Some-after-clause-ok : goal.item_or_last-returns-in-Some-after-clause-ok
-item_or_last-returns-in-Some-after-clause-ok t c = r.item_do c.args.level c.in_default.ensures.none c.in_ok-term.ensures.ok c.in-Some-after.ensures.found (item_tree_of-Do c.in_ok-term.term)
+item_or_last-returns-in-Some-after-clause-ok t c = r.item_do c.args.level c.in_default.ensures.none c.in_ok-term.ensures.ok c.in-Some-after.ensures.found
+    (item_tree_of-Do c.in_ok-term.term)
 
 pub item_or_last-returns-in_err-rest-clause-halts : goal.item_or_last-returns-in_err-rest-clause-halts
 item_or_last-returns-in_err-rest-clause-halts t c =
@@ -386,7 +453,8 @@ item_or_last-returns-in_err-rest-clause-halts t c =
     (r.last_unclosed c.args.level c.in_default.ensures.none c.in_ok-term.ensures.ok c.in_default-after.ensures.none c.in_err-rest.ensures.halts)
 
 pub item_or_last-returns-clause-ok : goal.item_or_last-returns-clause-ok
-item_or_last-returns-clause-ok t c = r.last_reads c.args.level c.in_default.ensures.none c.in_ok-term.ensures.ok c.in_default-after.ensures.none c.in_ok-rest.ensures.ok
+item_or_last-returns-clause-ok t c = r.last_reads c.args.level c.in_default.ensures.none c.in_ok-term.ensures.ok c.in_default-after.ensures.none
+    c.in_ok-rest.ensures.ok
 
 -- ---- bindings
 
@@ -413,8 +481,10 @@ binding-returns-in_err-body-clause-halts t c =
 pub binding-returns-in_err-rest-2-clause-halts : goal.binding-returns-in_err-rest-2-clause-halts
 binding-returns-in_err-rest-2-clause-halts t c =
     stops_so _ c.from_residual-in_err-rest-2.result c.from_residual-in_err-rest-2.ensures.1
-    (r.binding_no_semi c.args.level c.in_ok-bound.ensures.ok c.in_ok-names.ensures.ok c.in_ok-rest.ensures.ok c.in_ok-body.ensures.ok c.in_err-rest-2.ensures.halts)
+    (r.binding_no_semi c.args.level c.in_ok-bound.ensures.ok c.in_ok-names.ensures.ok c.in_ok-rest.ensures.ok c.in_ok-body.ensures.ok
+    c.in_err-rest-2.ensures.halts)
 
 pub binding-returns-clause-ok : goal.binding-returns-clause-ok
-binding-returns-clause-ok t c = r.binding_reads c.args.level c.in_ok-bound.ensures.ok c.new.ensures.items c.in_ok-names.ensures.ok c.in_ok-rest.ensures.ok c.in_ok-body.ensures.ok c.in_ok-rest-2.ensures.ok
+binding-returns-clause-ok t c = r.binding_reads c.args.level c.in_ok-bound.ensures.ok c.new.ensures.items c.in_ok-names.ensures.ok c.in_ok-rest.ensures.ok
+    c.in_ok-body.ensures.ok c.in_ok-rest-2.ensures.ok
     (item_tree_of-Let c.in_ok-bound.bound c.in_ok-value.value ∙ ap (bind c.in_ok-bound.bound) c.in_ok-value.ensures.ok)

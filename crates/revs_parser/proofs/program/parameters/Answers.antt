@@ -6,11 +6,15 @@ pub loop-params-init : goal.loop-params-init
 loop-params-init c = record { read = parameters_begun c.args.params.items c.args.tokens.now }
 
 pub loop-params-preserved : goal.loop-params-preserved
-loop-params-preserved c = record { read = parameters_more c.loop-params.invariant.read c.in-Some.ensures.found c.in_ok-next.ensures.ok c.in_ok-push.ensures.items }
+loop-params-preserved c = record {
+  read = parameters_more c.loop-params.invariant.read c.in-Some.ensures.found c.in_ok-next.ensures.ok
+      c.in_ok-push.ensures.items;
+}
 
 pub returns-in_err-next-clause-halts : goal.returns-in_err-next-clause-halts
 returns-in_err-next-clause-halts c =
-    stops_so _ c.from_residual.result c.from_residual.ensures.1 (parameters_halt c.loop-params.invariant.read c.in-Some.ensures.found c.in_err-next.ensures.halts)
+    stops_so _ c.from_residual.result c.from_residual.ensures.1
+    (parameters_halt c.loop-params.invariant.read c.in-Some.ensures.found c.in_err-next.ensures.halts)
 
 pub returns-clause-ok : goal.returns-clause-ok
 returns-clause-ok c = parameters_done c.loop-params.invariant.read c.in_default.ensures.none

@@ -12,5 +12,6 @@ loop-param-preserved c =
     let room = c.if-inputs-bits.false in
     let few : c.loop-param.inputs + width_of c.in-Some.param.now.width ≤ 1024 = omega (arith, fine, total, room, w) in
     record {
-      so_far = limits_more c.in-Some.param.now c.in-Some.behind.now _ c.loop-param.invariant.so_far c.in-Some.ensures.cases.0 some few (ap (λ (z : ℕ). c.loop-param.inputs + z) w);
+      so_far = limits_more c.in-Some.param.now c.in-Some.behind.now _ c.loop-param.invariant.so_far c.in-Some.ensures.cases.0 some few
+          (ap (λ (z : ℕ). c.loop-param.inputs + z) w);
     }

@@ -23,5 +23,6 @@ returns-in_err-body-clause-halts c =
 
 pub returns-clause-ok : goal.returns-clause-ok
 returns-clause-ok c =
-    a_sentence c.in-Some.ensures.found c.in_ok-first.ensures.ok (only c.new-params.result.items c.in_ok-first.first c.in_ok-push.ensures.items c.new-params.ensures.items)
+    a_sentence c.in-Some.ensures.found c.in_ok-first.ensures.ok
+    (only c.new-params.result.items c.in_ok-first.first c.in_ok-push.ensures.items c.new-params.ensures.items)
     c.in_ok-params.ensures.ok c.in_ok-rest.ensures.ok c.in_ok-body.ensures.ok

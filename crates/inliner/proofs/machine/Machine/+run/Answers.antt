@@ -3,7 +3,7 @@ use Rattle.revs_terms.specs.Terms.{place_of}
 use Rattle.revs_terms.specs.Trees.{ItemTree, tree_of, item_tree_of}
 use Rattle.revs_terms.specs.Running as runs
 use Rattle.revs_terms.specs.Running.{run_of, term_of, apply_to, closure, went, Outcome}
-use Rattle.revs_terms.proofs.Shapes.{tree_of-Block, item_tree_of-Let, item_tree_of-Do}
+use Rattle.revs_terms.proofs.ShapeLemmas.{tree_of-Block, item_tree_of-Let, item_tree_of-Do}
 use Rattle.array_shapes.specs.declared.value.Value.{Value}
 use Rattle.revs_terms.specs.Runs.{no_bits}
 use Rattle.inliner.specs.inside.Machines.{envs_of, env_in, value_in, state_of, Goes, Binds, Calls}

@@ -2,8 +2,8 @@ use Rattle.revs_terms.specs.Trees.{tree_of}
 use Rattle.revs_terms.specs.Views.{view_of}
 use Rattle.revc.specs.Small.{IsSmall}
 use Rattle.revc.proofs.PlanLemmas.{few_lines, clean_plan, compiled_file, writable}
-use Rattle.revc.proofs.SmallRuns.{small_tape}
-use Rattle.revc.proofs.SmallTexts.{formed_is_small}
+use Rattle.revc.proofs.SmallRunLemmas.{small_tape}
+use Rattle.revc.proofs.SmallTextLemmas.{formed_is_small}
 use Rattle.revc.proofs.commands.compile.compile.Goals as goal
 
 pub lay-requires : goal.lay-requires

@@ -7,7 +7,7 @@ use Rattle.revs_grammar.specs.Forms.{Mark, any_name, any_number, word, sign, mar
 use Rattle.revs_grammar.specs.Forms as g
 use Rattle.revs_grammar.specs.Productions.{productions}
 use Rattle.revs_grammar.specs.inside.Machine.{table, is_empty, is_optional}
-use Rattle.revs_grammar.proofs.Hints.{rank, may_follow}
+use Rattle.revs_grammar.proofs.CheckHints.{rank, may_follow}
 
 -- ---- tests of lists and of kinds of tokens
 

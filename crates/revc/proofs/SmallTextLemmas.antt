@@ -8,13 +8,13 @@ use Rattle.revs_terms.specs.Programs.{IsBody}
 use Rattle.revs_terms.specs.Scopes.{Scoped, unbound, scoped, nearer, scoped_tree, second_of, params_scope, ScopeVerdict, two_params, unbound_name, bound_as, scope_verdict}
 use Rattle.revs_terms.specs.Trees.{Tree}
 use Rattle.revs_terms.specs.Views.{ProgramView}
-use Rattle.revs_grammar.proofs.Spelled.{body_kept}
+use Rattle.revs_grammar.proofs.SpellingLemmas.{body_kept}
 use Rattle.name_scope.proofs.KeepsLemmas.{Keeps, keeps}
 use Rattle.name_scope.proofs.NearerLemmas.{nearer-length}
 use Rattle.revs_parser.specs.WellFormed.{IsWellFormed}
 use Rattle.revc.specs.Small.{IsSmall}
 use Rattle.revc.specs.Clean.{IsSmallText}
-use Rattle.revc.proofs.SmallEnds.{small_ends}
+use Rattle.revc.proofs.SmallEndLemmas.{small_ends}
 
 -- the scope rule binds a body only where its names are bound one by one
 names_bound : (second : Option Place) (body : Scoped Tree) (tree : Tree)

@@ -201,7 +201,12 @@ says_behind (t ∷ u ∷ ts) front ss r e =
         → Says (front ++ t ∷ u ∷ ts) (at_token o q (length (u ∷ ts) + 1) (outcome (u ∷ ts)))
     cases go_on (Some next) q is other = go_on next is
     cases go_on None (Some next) is other =
-        stops {Why = Deepens} (run_begins (front ++ t ∷ []) next (run_more any_level front t at_start ss next far other), run_few front ss r, never_few front t ss r is)
+        stops {Why = Deepens} (
+          run_begins (front ++ t ∷ []) next (run_more any_level front t at_start ss next far other),
+          run_few front ss r,
+          never_few front t
+              ss r is,
+        )
     cases go_on None None is other =
         stops {Why = Refuses} (record { begins = run_begins front ss far; few = run_few front ss r }, cannot front t t.tok e.0 (never front t ss far other))
 

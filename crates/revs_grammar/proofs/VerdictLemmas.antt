@@ -16,7 +16,7 @@ use Rattle.revs_grammar.specs.inside.Machine.{Stack, step, run, is_done, Outcome
 use Rattle.revs_grammar.proofs.LineLemmas.{no_end, true≢false}
 use Rattle.revs_grammar.proofs.RunLemmas.{run_next, step_leads}
 use Rattle.revs_grammar.proofs.LeadsLemmas.{leads_accepted, run_begins, run_few, accepted_sentence, same_program}
-use Rattle.revs_grammar.proofs.Outcomes.{run_more, run_end, run_any, step_any, begins_runs, few_runs, Says, outcome_says}
+use Rattle.revs_grammar.proofs.OutcomeLemmas.{run_more, run_end, run_any, step_any, begins_runs, few_runs, Says, outcome_says}
 use Rattle.revs_grammar.proofs.LimitLemmas.{AreParams-none, Passes, all_pass, one_passes, none_passes}
 
 -- No reading takes an `End`.
@@ -47,14 +47,19 @@ outcome_at : (t : Token) (rest : List Token) (ms : Stack) (o q : Option Stack)
     → is_end t.tok ≡ false → step few_levels (code t.tok) ms ≡ o → step any_level (code t.tok) ms ≡ q
     → outcome (t ∷ rest) ms ≡ at_token o q (length rest + 1) (outcome rest)
 outcome_at t rest ms o q e f h =
-    subst (λ (b : Bool). cond b (cond (is_done ms) accepted (no_syntax (length rest + 1))) (at_token (step few_levels (code t.tok) ms) (step any_level (code t.tok) ms) (length rest + 1) (outcome rest)) ≡ at_token o q (length rest + 1) (outcome rest)) (sym e)
-    (subst (λ (z : Option Stack). at_token z (step any_level (code t.tok) ms) (length rest + 1) (outcome rest) ≡ at_token o q (length rest + 1) (outcome rest)) (sym f)
+    subst (λ (b : Bool). cond b (cond (is_done ms) accepted (no_syntax (length rest + 1)))
+    (at_token (step few_levels (code t.tok) ms) (step any_level (code t.tok) ms) (length rest + 1) (outcome rest))
+    ≡ at_token o q (length rest + 1) (outcome rest)) (sym e)
+    (subst (λ (z : Option Stack). at_token z (step any_level (code t.tok) ms) (length rest + 1) (outcome rest) ≡ at_token o q (length rest + 1) (outcome rest))
+    (sym f)
     (subst (λ (z : Option Stack). at_token o z (length rest + 1) (outcome rest) ≡ at_token o q (length rest + 1) (outcome rest)) (sym h) refl))
 
 outcome_at_end : (t : Token) (rest : List Token) (ms : Stack) (b : Bool) → t.tok ≡ toks.End → is_done ms ≡ b
     → outcome (t ∷ rest) ms ≡ cond b accepted (no_syntax (length rest + 1))
 outcome_at_end t rest ms b e d =
-    subst (λ (k : Tok). cond (is_end k) (cond (is_done ms) accepted (no_syntax (length rest + 1))) (at_token (step few_levels (code k) ms) (step any_level (code k) ms) (length rest + 1) (outcome rest)) ≡ cond b accepted (no_syntax (length rest + 1))) (sym e)
+    subst (λ (k : Tok). cond (is_end k) (cond (is_done ms) accepted (no_syntax (length rest + 1)))
+    (at_token (step few_levels (code k) ms) (step any_level (code k) ms) (length rest + 1) (outcome rest)) ≡ cond b accepted (no_syntax (length rest + 1)))
+    (sym e)
     (subst (λ (z : Bool). cond z accepted (no_syntax (length rest + 1)) ≡ cond b accepted (no_syntax (length rest + 1))) (sym d) refl)
 
 outcome_run : (front rest : List Token) (ms x : Stack) → run few_levels front ms ≡ Some x → outcome (front ++ rest) ms ≡ outcome rest x
@@ -87,7 +92,8 @@ inputs_outcome : (tokens : List Token) (at : Place) → IsInputs tokens at → o
 inputs_outcome tokens at i = sentence_outcome tokens i.params i.body i.sentence
 
 stuck : (named : Token) (rest : List Token) (front : List Token) (x : Stack)
-    → run few_levels front at_start ≡ Some x → (¬ Begins (front ++ named ∷ [])) → is_end named.tok ≡ false → outcome (named ∷ rest) x ≡ no_syntax (length rest + 1)
+    → run few_levels front at_start ≡ Some x → (¬ Begins (front ++ named ∷ [])) → is_end named.tok ≡ false → outcome (named ∷ rest) x
+    ≡ no_syntax (length rest + 1)
 stuck named rest front x r c n =
     let far : (y : Stack) → step any_level (code named.tok) x ≡ Some y → ⊥ = λ y is.
     c (run_begins (front ++ named ∷ []) y (run_more any_level front named at_start x y (run_any front at_start x r) is)) in

@@ -172,7 +172,8 @@ let_kept bound (first ∷ names) term rest m h k e = record {
   names = omega (arith, m, h.names, k.names, e);
 }
 
-body_kept_by : {l i n : ℕ} (j : ℕ) (term : Tree) (rest : Option BodyTree) → IsKept forms.expression l term i → IfThere (λ inside. IsBodyKept l inside j) rest → i + j ≤ n
+body_kept_by : {l i n : ℕ} (j : ℕ) (term : Tree) (rest : Option BodyTree) → IsKept forms.expression l term i → IfThere (λ inside. IsBodyKept l inside j) rest
+    → i + j ≤ n
     → IsBodyKept l (body_of term rest) n
 body_kept_by j term None h k e = record {
   formed = refl;

@@ -21,7 +21,7 @@ use Rattle.revs_terms.specs.Runs.{start, inputs_from, param_value, params_in, lo
 use Rattle.std.proofs.lemmas.Bool.{and_parts}
 use Rattle.name_scope.specs.Bound.{is_bound, are_bound}
 use Rattle.revc.specs.Small.{is_plain, are_plain, operators_of, operators_behind, IsSmall}
-use Rattle.revc.proofs.SmallRuns.{behind_cons, plain_cons}
+use Rattle.revc.proofs.SmallRunLemmas.{behind_cons, plain_cons}
 
 -- ---- plain terms
 
@@ -392,7 +392,8 @@ module _ {B : Type 0} (bits : Bits B) where
         })
         (λ ts plain fits room. goes_chain _ bits.and env ts s (and_parts (has_two (list_of ts)) _ fits.formed).0
         (product_fits (scope_of env) left ts fits) below room)
-        (λ ts plain fits room. goes_chain _ bits.xor env ts s (and_parts (has_two (list_of ts)) _ fits.formed).0 (sum_fits (scope_of env) left ts fits) below room)
+        (λ ts plain fits room. goes_chain _ bits.xor env ts s (and_parts (has_two (list_of ts)) _ fits.formed).0
+        (sum_fits (scope_of env) left ts fits) below room)
 
   goes_run : (left : ℕ) (env : Environment) (t : Tree) (s : State B) → Fits (scope_of env) left t → AreBelow (length s.store) env
       → HasRoom (3 * operators_of t + 1) (operators_of t) s

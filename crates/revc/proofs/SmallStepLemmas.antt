@@ -14,7 +14,7 @@ use Rattle.revs_terms.specs.declared.term.Item.TheOpen.{Term-F}
 use Rattle.revs_terms.specs.declared.term.Item.TheOpen as layer
 use Rattle.revs_terms.specs.Trees.{Tree, Trees, trees, ands, xors, tree_of}
 use Rattle.std.proofs.lemmas.Bool.{and_parts, and_from}
-use Rattle.revs_terms.proofs.Shapes.{tree_of-Name, tree_of-Bool, tree_of-Reg, tree_of-Block, tree_of-Fun, tree_of-At, tree_of-Apply, tree_of-Append, tree_of-Rotate, tree_of-Clean, tree_of-Assert, tree_of-And, tree_of-Xor, tree_of-Assign}
+use Rattle.revs_terms.proofs.ShapeLemmas.{tree_of-Name, tree_of-Bool, tree_of-Reg, tree_of-Block, tree_of-Fun, tree_of-At, tree_of-Apply, tree_of-Append, tree_of-Rotate, tree_of-Clean, tree_of-Assert, tree_of-And, tree_of-Xor, tree_of-Assign}
 use Rattle.revc.specs.Small.{is_plain, are_plain, operators_of, operators_behind, LeavesRoom, IsTooMuch}
 
 -- ---- lists of terms

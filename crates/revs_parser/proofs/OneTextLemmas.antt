@@ -18,7 +18,8 @@ same_parts p q e f =
 pub one_text : (text : List ℕ) (p q : ProgramView) → IsProgramText text p → IsProgramText text q → p ≡ q
 one_text text p q a b =
     let same : a.tokens ≡ b.tokens = IsTokens-same text a.tokens b.tokens a.cut b.cut in
-    let both = same_program (closed text b.tokens) p.params q.params p.body q.body (subst (λ ts. HasSentence (closed text ts) p.params p.body) same a.sentence.sentence) b.sentence.sentence in
+    let both = same_program (closed text b.tokens) p.params q.params p.body q.body
+    (subst (λ ts. HasSentence (closed text ts) p.params p.body) same a.sentence.sentence) b.sentence.sentence in
     same_parts p q both.0 both.1
 
 same_tree : (a b : ScopeVerdict) (s t : Tree) → a ≡ b → a ≡ bound_as s → b ≡ bound_as t → s ≡ t
