@@ -26,7 +26,7 @@ fn program(alloc: Global, body: Term) -> Program
 
 // A constant is written, and is the output.
 #[test]
-#[tactic(auto, using(revs_terms::proofs::Shapes::shapes))]
+#[tactic(auto, using(revs_terms::proofs::ShapeLemmas::shapes))]
 fn a_constant_is_a_write(rt: HostRuntime) -> Result<(), Fail> {
     let alloc = rt.alloc();
     let scoped = scope(alloc, program(alloc, Term::Bool(true, at(1))))

@@ -39,7 +39,7 @@ fn bind_name(names: &Names, name: &mut Name) -> Result<(), ScopeFault>
 
 /// Binds the names of a term among those in scope.
 #[cycle(bind)]
-#[tactic(auto, using(revs_terms::proofs::Shapes::shapes))]
+#[tactic(auto, using(revs_terms::proofs::ShapeLemmas::shapes))]
 pub fn bind_term(names: &mut Names, term: &mut Term) -> Result<(), ScopeFault>
     requires { length names.old + names_of (tree_of term.old) < 2 ^ 32 }
     ensures term { Binds result (scoped_tree names.old (tree_of term.old)) (tree_of term.new) }
