@@ -1,2 +1,4 @@
 pub mod FoldLemmas
+pub mod TableLemmas
+pub mod UseLemmas
 pub mod ValueLemmas

@@ -1,7 +1,7 @@
 -- Dependency graphs: nodes made of inputs and of earlier nodes, and what the bits of a tape are in them.
 use Rattle.std.specs.Prelude.{◌≡◌, ◌≢◌, ℕ, ◌+◌, ◌<◌, ◌≤◌, Bool, false, not, ◌&&◌, List, [], ◌∷◌, ◌++◌, length, map, slice_index_or, ⊤}
 use Rattle.std.specs.Bool.{xor}
-use Rattle.std.specs.List.{AllByRecursion}
+use Rattle.std.specs.List.{AllByRecursion, flat_map}
 use Rattle.list_facts.specs.Bits.{bit_of}
 use Rattle.list_facts.specs.Lists.{IsAmong}
 use Rattle.revc_base.specs.declared.limits.TheConstants.{MOST_WRITES}
@@ -33,6 +33,30 @@ operands (And a b) = a ∷ b ∷ []
 abbrev pub sig_of : List Sig → Ref → Sig
 sig_of writes (refs.Input i) = Is (bases.Input i)
 sig_of writes (refs.Write j) = slice_index_or writes j (Const false)
+
+-- the base that something is, where it is one
+abbrev pub base_of : Sig → List Base
+base_of (Const bit) = []
+base_of (Is base) = base ∷ []
+
+-- ---- nodes as steps
+
+-- the node of a base, where it is one
+abbrev pub node_of : Base → List ℕ
+node_of (bases.Input i) = []
+node_of (bases.Node k) = k ∷ []
+
+-- the nodes among these
+abbrev pub nodes_among : List Base → List ℕ
+nodes_among some = flat_map node_of some
+
+-- the nodes of a graph as steps: each with the nodes that it is made of
+abbrev pub steps_of : GraphView → List (List ℕ)
+steps_of g = map (λ (node : Node). nodes_among (operands node)) g.nodes
+
+-- the nodes that are outputs
+abbrev pub output_nodes : GraphView → List ℕ
+output_nodes g = nodes_among (flat_map base_of g.outputs)
 
 -- ---- what a graph keeps
 

@@ -1,2 +1,4 @@
 pub mod Folds
 pub mod Graphs
+pub mod Uses
+pub mod inside

@@ -1,11 +1,14 @@
 // The graph of a tape.
-ghost use Rattle.std.specs.Prelude.{◌≡◌, ◌<◌, length, slice_get, Some, IfOk};
+ghost use Rattle.std.specs.Prelude.{◌≡◌, ◌<◌, ◌≤◌, length, slice_get, Some, IfOk};
 ghost use Rattle.revc_base.specs.Measures.{inputs_of, writes_of};
 ghost use Rattle.revc_base.specs.Tapes.{IsKnown};
 ghost use Rattle.dependency_graph.specs.Graphs.{IsGraph, IsGraphOf, sig_of};
 ghost use Rattle.dependency_graph.specs.Folds.{graph_of};
+ghost use Rattle.dependency_graph.specs.Uses.{cut_in, last_use_in};
+ghost use Rattle.list_facts.specs.Lists.{IsRising};
 
 use crate::fold::{fold, sig_of, sigs_of};
+use crate::uses::last_uses;
 use crate::{Node, Sig};
 use revc_base::{Memory, Ref, Tape};
 use std::marker::Model;
@@ -18,10 +21,13 @@ pub struct Graph {
     nodes: Vec<Node>,
     sigs: Vec<Sig>,
     outputs: Vec<Sig>,
+    last_uses: Vec<u32>,
 }
 
 impl Model for Graph {
+    ghost use Rattle.std.specs.Prelude.{◌≡◌};
     ghost use Rattle.dependency_graph.specs.Graphs.{GraphView, IsGraph};
+    ghost use Rattle.dependency_graph.specs.Uses.{last_uses_of};
 
     ghost Value = { GraphView };
 
@@ -37,7 +43,12 @@ impl Model for Graph {
       nodes = g.nodes.items;
       sigs = g.sigs.items;
       outputs = g.outputs.items;
-    }) };
+    }) × (g.last_uses.items ≡ last_uses_of (record {
+      inputs = g.inputs;
+      nodes = g.nodes.items;
+      sigs = g.sigs.items;
+      outputs = g.outputs.items;
+    })) };
 }
 
 impl Graph {
@@ -49,12 +60,15 @@ impl Graph {
         ensures graph { IfOk result (λ graph. IsGraph graph) }
     {
         let folding = fold(tape)?;
-        let outputs = sigs_of(*tape.allocator(), &folding.sigs, tape.outputs())?;
+        let alloc = *tape.allocator();
+        let outputs = sigs_of(alloc, &folding.sigs, tape.outputs())?;
+        let last_uses = last_uses(alloc, &folding.nodes, &outputs)?;
         Ok(Graph {
             inputs: tape.inputs(),
             nodes: folding.nodes,
             sigs: folding.sigs,
             outputs,
+            last_uses,
         })
     }
 
@@ -97,5 +111,30 @@ impl Graph {
         ensures graph { IsGraph self.now }
     {
         &self.outputs
+    }
+
+    /// The last use of the node at place `n`: the greatest node that has it as an operand, the number of nodes where it is
+    /// an output, itself where neither. It takes no memory.
+    #[tactic(auto, using(crate::proofs::TableLemmas::use_at))]
+    pub fn last_use(&self, n: u32) -> u32
+        requires { n < length self.now.nodes }
+        ensures { result ≡ last_use_in self.now n }
+    {
+        self.last_uses[n as usize]
+    }
+
+    /// The nodes below `j` that are an output, or an operand of node `j` or of a later one, rising.
+    pub fn cut(&self, j: u32) -> Result<Vec<u32>, Memory>
+        requires { j ≤ length self.now.nodes }
+        ensures cut { IfOk result (λ cut. cut.items ≡ cut_in self.now j) }
+        ensures rising { IfOk result (λ cut. IsRising cut.items) }
+    {
+        let mut cut = Vec::new(*self.nodes.allocator());
+        for n in 0..j {
+            if self.last_use(n) >= j {
+                cut.push(n)?;
+            }
+        }
+        Ok(cut)
     }
 }

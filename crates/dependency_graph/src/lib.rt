@@ -4,7 +4,13 @@
 
 mod fold;
 mod graph;
+mod law;
 mod node;
+mod uses;
 
 pub use graph::Graph;
+pub use law::last_uses_tell_cuts;
 pub use node::{Base, Node, Sig};
+
+#[cfg(test)]
+mod tests;

@@ -1,0 +1,39 @@
+-- Last uses in a list of steps. A step is the list of its operands, as in the cuts of a tape.
+use Rattle.std.specs.Prelude.{◌↔◌, ℕ, ◌<◌, ◌≤◌, cond, List, [], ◌∷◌, length, map, filter, slice_index_or}
+use Rattle.list_facts.specs.Lists.{IsAmong, below}
+use Rattle.revc_base.specs.Cuts.{is_in, cut_at}
+use Rattle.dependency_graph.specs.Graphs.{GraphView, output_nodes, steps_of}
+
+-- the last number of a list; the given one where there is none
+abbrev pub last_of : ℕ → List ℕ → ℕ
+last_of none [] = none
+last_of none (x ∷ xs) = last_of x xs
+
+-- the steps that have step i as an operand, rising
+abbrev pub readers : List (List ℕ) → ℕ → List ℕ
+readers steps i = filter (λ (k : ℕ). is_in (slice_index_or steps k []) i) (below (length steps))
+
+-- The last use of step i: behind all steps where it is an output, else at the last step that has it as an operand, else at
+-- itself.
+abbrev pub last_use : List (List ℕ) → List ℕ → ℕ → ℕ
+last_use steps outputs i = cond (is_in outputs i) (length steps) (last_of i (readers steps i))
+
+-- The law: a step below j is in the cut at j exactly where its last use is at or above j.
+abbrev pub LastUsesTellCuts : Type 0
+LastUsesTellCuts = (steps : List (List ℕ)) (outputs : List ℕ) (i j : ℕ)
+    → i < j → j ≤ length steps
+    → IsAmong i (cut_at steps outputs j) ↔ (j ≤ last_use steps outputs i)
+
+-- ---- of a graph
+
+-- the last use of a node
+abbrev pub last_use_in : GraphView → ℕ → ℕ
+last_use_in g n = last_use (steps_of g) (output_nodes g) n
+
+-- the last use of each node, in order
+abbrev pub last_uses_of : GraphView → List ℕ
+last_uses_of g = map (last_use_in g) (below (length g.nodes))
+
+-- the cut at j: the nodes below j that are an output, or an operand of node j or of a later one
+abbrev pub cut_in : GraphView → ℕ → List ℕ
+cut_in g j = cut_at (steps_of g) (output_nodes g) j

@@ -1,0 +1,28 @@
+-- The table of last uses, as it is filled: place k of the list is that of node k.
+use Rattle.std.specs.Prelude.{ℕ, ◌+◌, List, [], ◌∷◌, slice_set}
+use Rattle.dependency_graph.specs.declared.node.Base.{Base}
+use Rattle.dependency_graph.specs.declared.node.Base.TheVariants as bases
+use Rattle.dependency_graph.specs.declared.node.Node.{Node}
+use Rattle.dependency_graph.specs.declared.node.Sig.{Sig}
+use Rattle.dependency_graph.specs.Graphs.{base_of, operands}
+
+-- with a use of this base, where the list has its place
+abbrev pub with_use : List ℕ → Base → ℕ → List ℕ
+with_use table (bases.Input i) place = table
+with_use table (bases.Node k) place = slice_set table k place
+
+abbrev pub with_uses : List ℕ → List Base → ℕ → List ℕ
+with_uses table [] place = table
+with_uses table (base ∷ rest) place = with_uses (with_use table base place) rest place
+
+-- with the uses of these nodes, of which the first has this place
+abbrev pub with_nodes : List ℕ → ℕ → List Node → List ℕ
+with_nodes table place [] = table
+with_nodes table place (node ∷ rest) =
+    with_nodes (with_uses table (operands node) place) (place + 1) rest
+
+-- with a use of each output at this place
+abbrev pub with_outputs : List ℕ → List Sig → ℕ → List ℕ
+with_outputs table [] place = table
+with_outputs table (sig ∷ rest) place =
+    with_outputs (with_uses table (base_of sig) place) rest place

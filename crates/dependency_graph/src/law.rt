@@ -1,0 +1,9 @@
+ghost use Rattle.dependency_graph.specs.Uses.{LastUsesTellCuts};
+
+// Each function here does nothing: its contract is the law.
+
+/// The law of last uses: a step below j is in the cut at j exactly where its last use is at or above j.
+#[tactic(auto, using(crate::proofs::UseLemmas::last_uses_tell_cuts))]
+pub fn last_uses_tell_cuts()
+    ensures { LastUsesTellCuts }
+{}
