@@ -1,3 +1,4 @@
+pub mod CutLemmas
 pub mod FoldLemmas
 pub mod TableLemmas
 pub mod UseLemmas

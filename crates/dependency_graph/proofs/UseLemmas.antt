@@ -160,7 +160,7 @@ IsRising-below (suc n) = IsRising-push (below n) n (IsRising-below n) (all_from_
 pub rising_cut : (steps : List (List ℕ)) (outputs : List ℕ) (j : ℕ) → IsRising (cut_at steps outputs j)
 rising_cut steps outputs j = IsRising-filter (is_needed steps outputs j) (below j) (IsRising-below j)
 
-among_filter : (test : ℕ → Bool) (x : ℕ) (xs : List ℕ) → IsAmong x xs → test x ≡ true → IsAmong x (filter test xs)
+pub among_filter : (test : ℕ → Bool) (x : ℕ) (xs : List ℕ) → IsAmong x xs → test x ≡ true → IsAmong x (filter test xs)
 among_filter test x [] k is = absurd k
 among_filter test x (y ∷ ys) k is = elim k as (λ _. IsAmong x (filter test (y ∷ ys))) [
   | inl e ↦ let here : test y ≡ true = sym (ap test e) ∙ is in rw here (inl e)

@@ -1,4 +1,5 @@
 pub mod Folds
 pub mod Graphs
 pub mod Uses
+pub mod Widths
 pub mod inside

@@ -1,4 +1,5 @@
 ghost use Rattle.dependency_graph.specs.Uses.{LastUsesTellCuts};
+ghost use Rattle.dependency_graph.specs.Widths.{GraphsAreNoWider};
 
 // Each function here does nothing: its contract is the law.
 
@@ -6,4 +7,9 @@ ghost use Rattle.dependency_graph.specs.Uses.{LastUsesTellCuts};
 #[tactic(auto, using(crate::proofs::UseLemmas::last_uses_tell_cuts))]
 pub fn last_uses_tell_cuts()
     ensures { LastUsesTellCuts }
+{}
+
+/// The law of width: no cut of a tape's graph has more members than the width of the tape.
+pub fn graphs_are_no_wider()
+    ensures { GraphsAreNoWider }
 {}

@@ -9,7 +9,7 @@ mod node;
 mod uses;
 
 pub use graph::Graph;
-pub use law::last_uses_tell_cuts;
+pub use law::{graphs_are_no_wider, last_uses_tell_cuts};
 pub use node::{Base, Node, Sig};
 
 #[cfg(test)]
