@@ -1,5 +1,5 @@
 -- Readings of tokens, one behind the other, and what they stand for.
-use Rattle.std.proofs.Common.{◌≡◌, ℕ, Bool, true, Some, List, [], ◌∷◌, ◌++◌, refl, sym, ◌∙◌, ap, subst}
+use Rattle.std.proofs.Common.{◌≡◌, ℕ, Bool, true, Some, List, [], ◌∷◌, ◌++◌, refl, sym, ◌∙◌, ap, subst, append-nil}
 use Rattle.revs_lexer.specs.declared.token.Token.{Token}
 use Rattle.revs_grammar.specs.Forms.{Held, held, code, Form, Val, Piece, Production, IsOneOf}
 use Rattle.revs_grammar.specs.Productions.{productions}
@@ -92,10 +92,6 @@ same_value {a} {b} (by_line {f = f} {l = l} {ss = ss} {ts = ts} p i d) (by_line 
     (one_line (takes f ts) (productions f) p q (takes_once f ts) i j (taking a f l ss ts p i o d) (taking b f l ss ts q j o e))
     (value d tt) (λ e. same_value d e (ordered_line f l ss p i o)) e
 
-append_nil : {A : Type 0} (xs : List A) → xs ++ [] ≡ xs
-append_nil [] = refl
-append_nil (x ∷ xs) = ap (λ z. x ∷ z) (append_nil xs)
-
 -- ---- whole sentences
 
 pub start_ordered : IsOrdered at_start
@@ -137,7 +133,7 @@ module _ (a : ℕ → Bool) where
 
   -- What the machine reads to its end is a sentence.
   pub accepted_leads : (ts : List Token) (x : Stack) → run a ts at_start ≡ Some x → is_done x ≡ true → Leads a at_start ts []
-  accepted_leads ts x e d = subst (λ (z : List Token). Leads a at_start z []) (append_nil ts) (leads-then (run_leads a ts at_start x e) (done_leads a x d))
+  accepted_leads ts x e d = subst (λ (z : List Token). Leads a at_start z []) (append-nil ts) (leads-then (run_leads a ts at_start x e) (done_leads a x d))
 
   -- The machine reads whatever leads on.
   pub leads_on : (ts : List Token) (left : Stack) → Leads a at_start ts left → (x : Stack) × (run a ts at_start ≡ Some x)

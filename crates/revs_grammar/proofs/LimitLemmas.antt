@@ -1,5 +1,5 @@
 -- Which parameters pass the limits.
-use Rattle.std.proofs.Common.{◌≡◌, ℕ, ◌+◌, Bool, true, false, ◌&&◌, leb, List, [], ◌∷◌, ◌++◌, sum, refl, sym, ◌∙◌, ap, subst, ◌⊎◌, inl, inr, append_assoc, arith}
+use Rattle.std.proofs.Common.{◌≡◌, ℕ, ◌+◌, Bool, true, false, ◌&&◌, leb, List, [], ◌∷◌, ◌++◌, sum, refl, sym, ◌∙◌, ap, subst, ◌⊎◌, inl, inr, append_assoc, append-nil, arith}
 use Rattle.std.proofs.lemmas.Bool.Decides.{nat_tests}
 use Rattle.std.proofs.lemmas.List.{map-append}
 use Rattle.std.proofs.lemmas.List.Sums.{sum_by-append}
@@ -54,17 +54,9 @@ pub record Passes (before ps : List Param) : Type 0 where
   pub passed : ¬ AreParams ((before ++ fine) ++ named ∷ [])
 
 pub all_pass : (before ps : List Param) → AreParams before → AreParams (before ++ ps) ⊎ Passes before ps
-all_pass before [] h = inl (subst (λ (z : List Param). AreParams z) (sym (append_nil before)) h)
-  where
-    append_nil : (ps : List Param) → ps ++ [] ≡ ps
-    append_nil [] = refl
-    append_nil (p ∷ ps) = ap (λ (z : List Param). p ∷ z) (append_nil ps)
+all_pass before [] h = inl (subst (λ (z : List Param). AreParams z) (sym (append-nil before)) h)
 all_pass before (p ∷ ps) h = go (are_params (before ++ p ∷ [])) (λ k. all_pass (before ++ p ∷ []) ps k)
   where
-    append_nil : (qs : List Param) → qs ++ [] ≡ qs
-    append_nil [] = refl
-    append_nil (q ∷ qs) = ap (λ (z : List Param). q ∷ z) (append_nil qs)
-
     further : AreParams ((before ++ p ∷ []) ++ ps) ⊎ Passes (before ++ p ∷ []) ps → AreParams (before ++ p ∷ ps) ⊎ Passes before (p ∷ ps)
     further (inl k) = inl (subst (λ (z : List Param). AreParams z) (append_assoc before (p ∷ []) ps) k)
     further (inr k) = inr (record {
@@ -85,8 +77,8 @@ all_pass before (p ∷ ps) h = go (are_params (before ++ p ∷ [])) (λ k. all_p
       named = p;
       behind = ps;
       cut = refl;
-      keep = subst (λ (z : List Param). AreParams z) (sym (append_nil before)) h;
-      passed = subst (λ (z : List Param). ¬ AreParams (z ++ p ∷ [])) (sym (append_nil before)) k;
+      keep = subst (λ (z : List Param). AreParams z) (sym (append-nil before)) h;
+      passed = subst (λ (z : List Param). ¬ AreParams (z ++ p ∷ [])) (sym (append-nil before)) k;
     })
 
 -- ---- of two cuts of a list the one is at the other, or within its front

@@ -59,29 +59,44 @@ block_of at inside = t.block (item_trees inside.items) inside.last at
 abbrev pub productions : (f : Form) → List (Production (Val f))
 -- program = main param { param } = expr
 productions program =
-    line (one (word words.Main) ∷ plain parameter ∷ plain parameters ∷ one (sign signs.Equal) ∷ deeper expression ∷ [])
+    line
+    (one (word words.Main) ∷ plain parameter ∷ plain parameters ∷ one (sign signs.Equal) ∷ deeper expression ∷ [])
     (λ first more term. record { params = first ∷ more; body = term }) ∷ []
 -- param = ( name : bool ) | ( name : bool [ number ] )
 productions parameter =
-    line (one (sign signs.OpenRound) ∷ kept any_name ∷ one (sign signs.Colon) ∷ one (word words.Bool) ∷ plain width ∷ [])
+    line
+    (one (sign signs.OpenRound) ∷ kept any_name ∷ one (sign signs.Colon) ∷ one (word words.Bool) ∷ plain width ∷ [])
     (λ n bits. record { name = n; width = bits }) ∷ []
 productions width =
     line (one (sign signs.CloseRound) ∷ []) None
-    ∷ line (one (sign signs.OpenSquare) ∷ kept any_number ∷ one (sign signs.CloseSquare) ∷ one (sign signs.CloseRound) ∷ []) (λ bits. Some bits) ∷ []
-productions parameters = line [] [] ∷ line (plain parameter ∷ plain parameters ∷ []) (λ p more. p ∷ more) ∷ []
-productions names = line [] [] ∷ line (kept any_name ∷ plain names ∷ []) (λ n more. n ∷ more) ∷ []
+    ∷ line
+    (one (sign signs.OpenSquare) ∷ kept any_number ∷ one (sign signs.CloseSquare) ∷ one (sign signs.CloseRound) ∷ [])
+    (λ bits. Some bits) ∷ []
+productions parameters =
+    line [] []
+    ∷ line (plain parameter ∷ plain parameters ∷ []) (λ p more. p ∷ more) ∷ []
+productions names =
+    line [] []
+    ∷ line (kept any_name ∷ plain names ∷ []) (λ n more. n ∷ more) ∷ []
 -- expr = fun name { name } -> expr | sum [ <- sum ]
 productions expression =
-    line (opening (word words.Fun) ∷ kept any_name ∷ plain names ∷ one (sign signs.Arrow) ∷ deeper expression ∷ [])
+    line
+    (opening (word words.Fun) ∷ kept any_name ∷ plain names ∷ one (sign signs.Arrow) ∷ deeper expression ∷ [])
     (λ at first more term. t.function (first ∷ more) term at)
     ∷ line (here sum ∷ here assigned ∷ []) assign_of ∷ []
-productions assigned = line [] None ∷ line (one (sign signs.Assign) ∷ here sum ∷ []) (λ right. Some right) ∷ []
+productions assigned =
+    line [] None
+    ∷ line (one (sign signs.Assign) ∷ here sum ∷ []) (λ right. Some right) ∷ []
 -- sum = product { <> product }
 productions sum = line (here product ∷ here sums ∷ []) xor_of ∷ []
-productions sums = line [] [] ∷ line (one (sign signs.Xor) ∷ here product ∷ here sums ∷ []) (λ next more. next ∷ more) ∷ []
+productions sums =
+    line [] []
+    ∷ line (one (sign signs.Xor) ∷ here product ∷ here sums ∷ []) (λ next more. next ∷ more) ∷ []
 -- product = application { && application }
 productions product = line (here application ∷ here products ∷ []) and_of ∷ []
-productions products = line [] [] ∷ line (one (sign signs.And) ∷ here application ∷ here products ∷ []) (λ next more. next ∷ more) ∷ []
+productions products =
+    line [] []
+    ∷ line (one (sign signs.And) ∷ here application ∷ here products ∷ []) (λ next more. next ∷ more) ∷ []
 -- application = clean atom | assert atom | append atom atom | rotate number atom | atom { atom }
 productions application =
     line (kept (word words.Clean) ∷ here atom ∷ []) (λ at operand. t.clean operand at)
@@ -89,12 +104,17 @@ productions application =
     ∷ line (kept (word words.Append) ∷ here atom ∷ here atom ∷ []) (λ at first second. t.append first second at)
     ∷ line (kept (word words.Rotate) ∷ kept any_number ∷ here atom ∷ []) (λ at by operand. t.rotate by operand at)
     ∷ line (here atom ∷ here atoms ∷ []) apply_of ∷ []
-productions atoms = line [] [] ∷ line (here atom ∷ here atoms ∷ []) (λ next more. next ∷ more) ∷ []
+productions atoms =
+    line [] []
+    ∷ line (here atom ∷ here atoms ∷ []) (λ next more. next ∷ more) ∷ []
 -- atom = base { part }
 productions atom = line (here base ∷ plain parts ∷ []) parts_of ∷ []
-productions parts = line [] [] ∷ line (plain part ∷ plain parts ∷ []) (λ next more. next ∷ more) ∷ []
+productions parts =
+    line [] []
+    ∷ line (plain part ∷ plain parts ∷ []) (λ next more. next ∷ more) ∷ []
 -- part = . [ number ] | . [ number .. number ]
-productions part = line (kept (sign signs.Dot) ∷ one (sign signs.OpenSquare) ∷ kept any_number ∷ plain part_end ∷ []) index_of ∷ []
+productions part =
+    line (kept (sign signs.Dot) ∷ one (sign signs.OpenSquare) ∷ kept any_number ∷ plain part_end ∷ []) index_of ∷ []
 productions part_end =
     line (one (sign signs.CloseSquare) ∷ []) None
     ∷ line (one (sign signs.DotDot) ∷ kept any_number ∷ one (sign signs.CloseSquare) ∷ []) (λ j. Some j) ∷ []
@@ -103,16 +123,29 @@ productions base =
     line (kept any_name ∷ []) t.used
     ∷ line (kept (word words.True) ∷ []) (t.bool true)
     ∷ line (kept (word words.False) ∷ []) (t.bool false)
-    ∷ line (opening (word words.Reg) ∷ one (sign signs.OpenSquare) ∷ deeper expression ∷ deeper elements ∷ one (sign signs.CloseSquare) ∷ [])
+    ∷ line
+    (
+    opening (word words.Reg) ∷ one (sign signs.OpenSquare) ∷ deeper expression ∷ deeper elements
+    ∷ one (sign signs.CloseSquare) ∷ []
+    )
     (λ at first more. t.reg (trees (first ∷ more)) at)
-    ∷ line (opening (sign signs.OpenRound) ∷ deeper expression ∷ one (sign signs.CloseRound) ∷ []) (λ _ inner. inner)
+    ∷ line
+    (opening (sign signs.OpenRound) ∷ deeper expression ∷ one (sign signs.CloseRound) ∷ [])
+    (λ _ inner. inner)
     -- block = { { item } expr }
     ∷ line (opening (sign signs.OpenCurly) ∷ deeper body ∷ []) block_of ∷ []
-productions elements = line [] [] ∷ line (one (sign signs.Semi) ∷ here expression ∷ here elements ∷ []) (λ next more. next ∷ more) ∷ []
+productions elements =
+    line [] []
+    ∷ line (one (sign signs.Semi) ∷ here expression ∷ here elements ∷ []) (λ next more. next ∷ more) ∷ []
 -- item = let name { name } = expr ; | expr ;
 productions body =
-    line (one (word words.Let) ∷ kept any_name ∷ plain names ∷ one (sign signs.Equal) ∷ here expression ∷ one (sign signs.Semi) ∷ here body ∷ [])
+    line
+    (
+    one (word words.Let) ∷ kept any_name ∷ plain names ∷ one (sign signs.Equal) ∷ here expression
+    ∷ one (sign signs.Semi) ∷ here body ∷ []
+    )
     (λ bound more value rest. in_front (t.bind bound (bound_of more value)) rest)
     ∷ line (here expression ∷ here body_end ∷ []) body_of ∷ []
 productions body_end =
-    line (one (sign signs.Semi) ∷ here body ∷ []) (λ rest. Some rest) ∷ line (one (sign signs.CloseCurly) ∷ []) None ∷ []
+    line (one (sign signs.Semi) ∷ here body ∷ []) (λ rest. Some rest)
+    ∷ line (one (sign signs.CloseCurly) ∷ []) None ∷ []
