@@ -1,18 +1,17 @@
 -- A join of two numbers through their branches at a variable.
-use Rattle.std.proofs.Common.{◌≡◌, ℕ, ◌+◌, ◌<◌, ◌≤◌, min, Bool, true, if◌then◌else◌, List, ◌⊎◌, sym, subst, inl, inr, arith, Result, Ok, Err, IfOk, IfErr}
+use Rattle.std.proofs.Common.{◌≡◌, ℕ, ◌+◌, ◌<◌, ◌≤◌, min, Bool, true, if◌then◌else◌, List, ◌⊎◌, sym, subst, inl, inr, arith, Result, Ok, Err, IfErr}
 use Rattle.std.proofs.Common.{IsErrAnd}
 use Rattle.std.proofs.lemmas.Bool.{cases_lt}
 use Rattle.decision_diagram.specs.declared.node.DdFault.{DdFault}
 use Rattle.decision_diagram.specs.declared.node.Operation.{Operation}
-use Rattle.decision_diagram.specs.Functions.{Function, AreSame, ComesFrom}
+use Rattle.decision_diagram.specs.Functions.{AreSame, ComesFrom}
 use Rattle.decision_diagram.specs.Diagrams.{Triple, DiagramView, IsNumber, function_of, first_variable, IsBehind, AreOrdered, IsCanonical}
-use Rattle.decision_diagram.specs.Growth.{KeepsNodes, StandsFor, MayRefuse}
+use Rattle.decision_diagram.specs.Growth.{KeepsNodes, StandsFor}
 use Rattle.decision_diagram.specs.inside.Joining.{joined, Splits, node_function}
 use Rattle.decision_diagram.proofs.ValueLemmas.{branch_behind, first_most}
 use Rattle.decision_diagram.proofs.DistinctLemmas.{some_at, inner_at}
 use Rattle.decision_diagram.proofs.RestrictionLemmas.{ComesFrom-same}
 use Rattle.decision_diagram.proofs.GrowthLemmas.{function-kept, stands-kept, StandsFor-same, joined-same, side_comes, node_joins, constant_behind}
-use Rattle.decision_diagram.proofs.GrowthLemmas.{MayRefuse-same, ok_from, err_from}
 
 -- an inner node asks a variable of the diagram
 pub inner_asks : (vars : ℕ) (nodes : List Triple) → AreOrdered vars nodes → (n : ℕ) → 2 ≤ n → IsNumber nodes n
@@ -78,14 +77,6 @@ module _ (d : DiagramView) (canonical : IsCanonical d) (operation : Operation) (
       (stands-kept e h kept_h low (joined operation (function_of d.nodes f_low) (function_of d.nodes g_low)) at_low)
       (StandsFor-same h.nodes high (joined operation (function_of e.nodes f_high) (function_of e.nodes g_high))
       (joined operation (function_of d.nodes f_high) (function_of d.nodes g_high)) (later_side e kept_e true) at_high)
-
--- what is promised of the new node's function is promised of one that is the same
-module _ (f g : Function) (same : AreSame g f) (now : DiagramView) (r : Result ℕ DdFault) where
-  pub ok_same : IfOk r (λ h. StandsFor now.nodes h g) → IfOk r (λ h. StandsFor now.nodes h f)
-  ok_same ok = ok_from r (λ h. StandsFor now.nodes h g) (λ h. StandsFor now.nodes h f) (λ h. StandsFor-same now.nodes h g f same) ok
-
-  pub refused_same : IfErr r (MayRefuse g now) → IfErr r (MayRefuse f now)
-  refused_same refused = err_from r (MayRefuse g now) (MayRefuse f now) (MayRefuse-same f g now same) refused
 
 -- what holds of the error that a `?` passes on
 pub refused_at : (Q : DdFault → Type 0) (r : Result ℕ DdFault) (e : DdFault) → IsErrAnd r (λ x. x ≡ e) → Q e → IfErr r Q

@@ -2,6 +2,7 @@ pub mod DistinctLemmas
 pub mod GrowthLemmas
 pub mod JoinLemmas
 pub mod LookupLemmas
+pub mod MemoLemmas
 pub mod PlaceLemmas
 pub mod RestrictionLemmas
 pub mod TableLemmas

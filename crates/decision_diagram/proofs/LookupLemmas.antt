@@ -17,7 +17,7 @@ use Rattle.decision_diagram.proofs.DistinctLemmas.{triple-same}
 abbrev pub same_node : Triple → Triple → Bool
 same_node a b = nat_eq a.variable b.variable && (nat_eq a.low b.low && nat_eq a.high b.high)
 
-both_true : (x y : Bool) → (x && y) ≡ true → (x ≡ true) × (y ≡ true)
+pub both_true : (x y : Bool) → (x && y) ≡ true → (x ≡ true) × (y ≡ true)
 both_true true y e = (refl, e)
 both_true false y e = absurd (true≢false (sym e))
 

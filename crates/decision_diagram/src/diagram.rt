@@ -1,12 +1,14 @@
 // The table of inner nodes, and the functions that it makes.
-ghost use Rattle.std.specs.Prelude.{◌≡◌, ◌≤◌, ◌<◌, ◌+◌, ◌⊎◌, ℕ, [], true, false, not, length, IsTrue, IsFalse, IfOk, IfErr, IfSome, IfNone, MatchOption, Contains, slice_get, Some, if◌then◌else◌};
+ghost use Rattle.std.specs.Prelude.{◌≡◌, ◌≤◌, ◌<◌, ◌+◌, ◌⊎◌, ℕ, [], true, false, not, length, IsTrue, IsFalse, IfOk, IfErr, OnOk, IfSome, IfNone, MatchOption, Contains, slice_get, Some, if◌then◌else◌};
 ghost use Rattle.decision_diagram.specs.Functions.{variable_at, exclusive_or, conjunction, GivesOnly, Varies, IsLeast, assignment_of};
 ghost use Rattle.decision_diagram.specs.Diagrams.{IsNumber, function_of, first_variable, IsBehind, MayFollow, IsCanonical};
 ghost use Rattle.decision_diagram.specs.Growth.{KeepsNodes, KeepsFunctions, AddsOnlyFrom, StandsFor, HoldsAllFrom, MayRefuse, EqualFunctionsHaveOneNumber, InnerNodesVary, FunctionsAskTheVariables, DiagramsHoldWhatComes};
 ghost use Rattle.decision_diagram.specs.inside.Joining.{Grows, joined, IsInner, Splits, node_function};
+ghost use Rattle.decision_diagram.specs.inside.Memos.{HoldsJoins};
 
+use crate::memo::{Operands, note, recalled};
 use crate::node::{Dd, DdFault, Node, Operation};
-use indexmap::IndexSet;
+use indexmap::{IndexMap, IndexSet};
 use revc_base::Memory;
 use std::alloc::Global;
 use std::marker::Model;
@@ -97,7 +99,8 @@ impl Diagram {
         ensures refused { IfErr result (MayRefuse
             (exclusive_or (function_of self.old.nodes f) (function_of self.old.nodes g)) self.new) }
     {
-        self.join(Operation::Xor, f, g)
+        let mut memo = IndexMap::new(*self.nodes.allocator());
+        self.join(&mut memo, Operation::Xor, f, g)
     }
 
     /// The conjunction of two functions.
@@ -117,7 +120,8 @@ impl Diagram {
         ensures refused { IfErr result (MayRefuse
             (conjunction (function_of self.old.nodes f) (function_of self.old.nodes g)) self.new) }
     {
-        self.join(Operation::And, f, g)
+        let mut memo = IndexMap::new(*self.nodes.allocator());
+        self.join(&mut memo, Operation::And, f, g)
     }
 
     /// The bit that the function always has, if it is constant. It takes no memory.
@@ -203,8 +207,15 @@ impl Diagram {
     }
 
     // The join of two functions: of their branches at the first variable that one of them asks. It goes no deeper
-    // than there are variables.
-    fn join(&mut self, operation: Operation, f: Dd, g: Dd) -> Result<Dd, DdFault>
+    // than there are variables, and joins a pair again only where the memo could not note it.
+    fn join(
+        &mut self,
+        memo: &mut IndexMap<Operands, Dd>,
+        operation: Operation,
+        f: Dd,
+        g: Dd,
+    ) -> Result<Dd, DdFault>
+        requires memo { HoldsJoins operation self.old memo.old.entries }
         requires left { IsNumber self.old.nodes f }
         requires right { IsNumber self.old.nodes g }
         ensures grows { Grows
@@ -218,16 +229,22 @@ impl Diagram {
         ensures behind { (v : ℕ)
             → IsBehind self.old.vars self.old.nodes v f → IsBehind self.old.vars self.old.nodes v g
             → IfOk result (IsBehind self.new.vars self.new.nodes v) }
+        ensures memo { OnOk result (HoldsJoins operation self.new memo.new.entries) }
     {
         if let Some(settled) = self.settled(operation, f, g) {
             return Ok(settled);
         }
+        if let Some(known) = recalled(memo, f, g) {
+            return Ok(known);
+        }
         let variable = self.first(f).min(self.first(g));
         let (f_low, f_high) = self.branches(f, variable);
         let (g_low, g_high) = self.branches(g, variable);
-        let low = self.join(operation, f_low, g_low)?;
-        let high = self.join(operation, f_high, g_high)?;
-        self.node(variable, low, high)
+        let low = self.join(memo, operation, f_low, g_low)?;
+        let high = self.join(memo, operation, f_high, g_high)?;
+        let joined = self.node(variable, low, high)?;
+        note(memo, f, g, joined);
+        Ok(joined)
     }
 
     // The join where no node has to be looked at.

@@ -1,0 +1,98 @@
+-- The memo of a call: what it gives stays true while the diagram grows.
+use Rattle.std.proofs.Common.{◌≡◌, ◌⊎◌, ℕ, ◌≤◌, ◌&&◌, cond, nat_eq, min, List, length, Some, Result, Ok, Err, OnOk, OnErr}
+use Rattle.std.proofs.Common.{sym, ap, ap₂, ◌∙◌, subst, inl, inr, arith, eqb-true}
+use Rattle.std.proofs.lemmas.Bool.{cases_Bool}
+use Rattle.indexmap.specs.IndexMap.{IndexMap, Updates}
+use Rattle.decision_diagram.specs.declared.node.Operation.{Operation}
+use Rattle.decision_diagram.specs.declared.memo.Operands.{Operands}
+use Rattle.decision_diagram.specs.declared.memo.TheConstants.{MOST_PAIRS}
+use Rattle.decision_diagram.specs.Diagrams.{Triple, DiagramView, IsNumber, function_of, first_variable, IsBehind}
+use Rattle.decision_diagram.specs.Growth.{KeepsNodes, StandsFor}
+use Rattle.decision_diagram.specs.inside.Joining.{joined}
+use Rattle.decision_diagram.specs.inside.Memos.{same_operands, recalled_from, IsJoin, HoldsJoins, NotesAtMost}
+use Rattle.decision_diagram.proofs.LookupLemmas.{both_true}
+use Rattle.decision_diagram.proofs.GrowthLemmas.{known-kept, function-kept, first-added, stands-kept, joined-same, StandsFor-same}
+
+first-kept : (old now : DiagramView) → KeepsNodes old now → (n : ℕ) → IsNumber old.nodes n
+    → first_variable now.vars now.nodes n ≡ first_variable old.vars old.nodes n
+first-kept old now kept n known =
+    ap₂ (λ (vars : ℕ) (nodes : List Triple). first_variable vars nodes n) kept.vars kept.nodes
+    ∙ first-added old.vars kept.added old.nodes n known
+
+-- what was made in a diagram that has grown is the join of two numbers from before
+pub made_join : (operation : Operation) (old now : DiagramView) → KeepsNodes old now → (f g h : ℕ) → IsNumber old.nodes f → IsNumber old.nodes g
+    → StandsFor now.nodes h (joined operation (function_of old.nodes f) (function_of old.nodes g))
+    → min (first_variable old.vars old.nodes f) (first_variable old.vars old.nodes g) ≤ first_variable now.vars now.nodes h
+    → IsJoin operation now f g h
+made_join operation old now kept f g h left right stands first = record {
+  left = known-kept old now kept f left;
+  right = known-kept old now kept g right;
+  stands = StandsFor-same now.nodes h (joined operation (function_of old.nodes f) (function_of old.nodes g))
+      (joined operation (function_of now.nodes f) (function_of now.nodes g))
+      (λ a. joined-same operation (function_of old.nodes f) (function_of old.nodes g) (function_of now.nodes f) (function_of now.nodes g) a a
+      (sym (function-kept old now kept f a left)) (sym (function-kept old now kept g a right)))
+      stands;
+  first = omega (arith, first, first-kept old now kept f left, first-kept old now kept g right);
+}
+
+IsJoin-kept : (operation : Operation) (old now : DiagramView) → KeepsNodes old now → (f g h : ℕ) → IsJoin operation old f g h
+    → IsJoin operation now f g h
+IsJoin-kept operation old now kept f g h join =
+    made_join operation old now kept f g h join.left join.right
+    (stands-kept old now kept h (joined operation (function_of old.nodes f) (function_of old.nodes g)) join.stands)
+    (omega (arith, join.first, first-kept old now kept h join.stands.known))
+
+pub holds-kept : (operation : Operation) (old now : DiagramView) → KeepsNodes old now → (memo : List (Operands × ℕ))
+    → HoldsJoins operation old memo → HoldsJoins operation now memo
+holds-kept operation old now kept memo holds = record {
+  each = λ f g h given. IsJoin-kept operation old now kept f g h (holds.each f g h given);
+  within = holds.within;
+}
+
+-- one more join is noted
+pub holds-noted : (operation : Operation) (d : DiagramView) (f g h : ℕ) (old new : List (Operands × ℕ)) → HoldsJoins operation d old
+    → IsJoin operation d f g h → NotesAtMost f g h old new → length new ≤ MOST_PAIRS → HoldsJoins operation d new
+holds-noted operation d f g h old new holds join notes within = record {
+  each = λ m n k given. elim (notes m n k given) [
+    | inl this ↦ subst (λ (x : ℕ). IsJoin operation d x n k) (sym this.0)
+        (subst (λ (x : ℕ). IsJoin operation d f x k) (sym this.1) (subst (λ (x : ℕ). IsJoin operation d f g x) (sym this.2) join))
+    | inr before ↦ holds.each m n k before
+  ];
+  within = within;
+}
+
+-- a result that is recalled asks no variable before one that both ask later
+pub recalled_behind : (operation : Operation) (d : DiagramView) (f g h : ℕ) → IsJoin operation d f g h → (v : ℕ)
+    → IsBehind d.vars d.nodes v f → IsBehind d.vars d.nodes v g → IsBehind d.vars d.nodes v h
+recalled_behind operation d f g h join v behind_f behind_g = record {
+  known = join.stands.known;
+  behind = omega (arith, join.first, behind_f.behind, behind_g.behind);
+}
+
+-- ---- how the code notes
+
+some_same : {A : Type 0} {x y : A} → Some x ≡ Some y → x ≡ y
+some_same e = cc
+
+noted : (f g joined m n h : ℕ) (old new : List (Operands × ℕ))
+    → recalled_from new m n ≡ cond (nat_eq f m && nat_eq g n) (Some joined) (recalled_from old m n)
+    → recalled_from new m n ≡ Some h → ((m ≡ f) × (n ≡ g) × (h ≡ joined)) ⊎ (recalled_from old m n ≡ Some h)
+noted f g joined m n h old new updates given =
+    elim (cases_Bool (nat_eq f m && nat_eq g n)) [
+      | inl here ↦
+          let both = both_true (nat_eq f m) (nat_eq g n) here in
+          inl (
+            sym (eqb-true f m both.0),
+            sym (eqb-true g n both.1),
+            some_same (sym given ∙ (updates ∙ ap (λ b. cond b (Some joined) (recalled_from old m n)) here)),
+          )
+      | inr other ↦ inr (sym (ap (λ b. cond b (Some joined) (recalled_from old m n)) other) ∙ (sym updates ∙ given))
+    ]
+
+pub notes_insert : {A E S : Type 0} (r : Result A E) (f g joined : ℕ) (old new : IndexMap Operands ℕ S)
+    → OnOk r (Updates same_operands old new (record { left = f; right = g }) (Some joined))
+    → OnErr r (new.entries ≡ old.entries) → NotesAtMost f g joined old.entries new.entries
+notes_insert (Ok a) f g joined old new updates same = λ m n h given.
+    noted f g joined m n h old.entries new.entries (updates.0 (record { left = m; right = n })) given
+notes_insert (Err e) f g joined old new updates same = λ m n h given.
+    inr (sym (ap (λ (memo : List (Operands × ℕ)). recalled_from memo m n) same) ∙ given)
