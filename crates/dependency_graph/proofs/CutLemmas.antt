@@ -1,9 +1,10 @@
 -- No cut of a graph is longer than the width of its tape: each member is what some member of a cut of the tape became.
-use Rattle.std.proofs.Common.{◌≡◌, ◌≢◌, ℕ, zero, suc, ◌+◌, ◌<◌, ◌≤◌, ◌==◌, Bool, true, false, cond, ◌||◌, ◌⊎◌, inl, inr, List, [], ◌∷◌, ◌++◌, length, map}
-use Rattle.std.proofs.Common.{drop, filter, get_or, refl, sym, ap, ◌∙◌, subst, arith, length-append}
-use Rattle.std.specs.List.{AllByRecursion, flat_map, list_any}
+use Rattle.std.proofs.Common.{◌≡◌, ◌≢◌, ℕ, zero, suc, ◌+◌, ◌<◌, ◌≤◌, ◌==◌, Bool, true, false, cond, ◌&&◌, ◌||◌, ◌⊎◌, inl, inr, List, [], ◌∷◌, ◌++◌, length, map}
+use Rattle.std.proofs.Common.{drop, filter, refl, sym, ap, ◌∙◌, subst, arith, length-append}
+use Rattle.std.specs.Bool.{xor}
+use Rattle.std.specs.List.{flat_map, list_any}
 use Rattle.std.proofs.lemmas.Bool.{cases_Bool, cases_lt, cases_eq, eqb-true, eq-eqb}
-use Rattle.std.proofs.lemmas.List.{length-map, get_or_past}
+use Rattle.std.proofs.lemmas.List.{append-nil, append_assoc, length-map, get_or_past}
 use Rattle.list_facts.specs.Lists.{IsAmong, AnyByRecursion, AreApart, AreDifferent, below}
 use Rattle.list_facts.proofs.AllLemmas.{AllByRecursion-weaker, AllByRecursion-map}
 use Rattle.list_facts.proofs.AmongLemmas.{among_append, any_of, among_map, among_image, all_from_among}
@@ -30,7 +31,8 @@ use Rattle.dependency_graph.specs.Folds.{FoldView, is_same, xor_of, and_of, fold
 use Rattle.dependency_graph.specs.Uses.{cut_in}
 use Rattle.dependency_graph.specs.Widths.{GraphsAreNoWider}
 use Rattle.dependency_graph.proofs.FoldLemmas.{length-all, nodes_grow}
-use Rattle.dependency_graph.proofs.UseLemmas.{filter_passes, among_filter, rising_cut}
+use Rattle.dependency_graph.proofs.TableLemmas.{length-steps_of}
+use Rattle.dependency_graph.proofs.UseLemmas.{among_filter, filter_passes, or_left, or_right, rising_cut}
 
 -- ---- what a write is folded to comes from its own operands
 
@@ -60,7 +62,7 @@ as_both c d base k = elim k as (λ _. IsAmong (Is base) (Is c ∷ Is d ∷ [])) 
 ]
 
 xor_comes : (a b : Sig) → ComesFromTwo a b (xor_of a b)
-xor_comes (Const a) (Const b) = λ k e. no_node (Rattle.std.specs.Bool.xor a b) k (IsAmong (Const (Rattle.std.specs.Bool.xor a b)) (Const a ∷ Const b ∷ [])) e
+xor_comes (Const a) (Const b) = λ k e. no_node (xor a b) k (IsAmong (Const (xor a b)) (Const a ∷ Const b ∷ [])) e
 xor_comes (Const true) (Is c) = λ base k. as_second (Const true) (Is c) c base refl k
 xor_comes (Const false) (Is c) = λ k e. inr (inl refl)
 xor_comes (Is c) (Const true) = λ base k. as_first (Is c) (Const true) c base refl k
@@ -71,7 +73,7 @@ xor_comes (Is c) (Is d) = elim (cases_Bool (is_same c d)) as (λ _. ComesFromTwo
 ]
 
 and_comes : (a b : Sig) → ComesFromTwo a b (and_of a b)
-and_comes (Const a) (Const b) = λ k e. no_node (Rattle.std.proofs.Common.◌&&◌ a b) k (IsAmong (Const (Rattle.std.proofs.Common.◌&&◌ a b)) (Const a ∷ Const b ∷ [])) e
+and_comes (Const a) (Const b) = λ k e. no_node (a && b) k (IsAmong (Const (a && b)) (Const a ∷ Const b ∷ [])) e
 and_comes (Const true) (Is c) = λ k e. inr (inl refl)
 and_comes (Const false) (Is c) = λ k e. inl refl
 and_comes (Is c) (Const true) = λ k e. inl refl
@@ -144,18 +146,6 @@ one_number k l e = ap number_of e
 no_input : (i k : ℕ) (P : Type 0) → Is (bases.Input i) ≡ Is (bases.Node k) → P
 no_input i k P e = absurd (let clash : Is (bases.Input i) ≡ Is (bases.Node k) = e in cc)
 
-nothing_more : {A : Type 0} (xs : List A) → xs ≡ xs ++ []
-nothing_more [] = refl
-nothing_more (x ∷ xs) = ap (λ z. x ∷ z) (nothing_more xs)
-
-joined_again : {A : Type 0} (xs : List A) (y : A) (ys : List A) → xs ++ y ∷ ys ≡ (xs ++ y ∷ []) ++ ys
-joined_again [] y ys = refl
-joined_again (x ∷ xs) y ys = ap (λ z. x ∷ z) (joined_again xs y ys)
-
-joined_last : {A : Type 0} (xs ys : List A) (y : A) → (xs ++ ys) ++ y ∷ [] ≡ xs ++ (ys ++ y ∷ [])
-joined_last [] ys y = refl
-joined_last (x ∷ xs) ys y = ap (λ z. x ∷ z) (joined_last xs ys y)
-
 reached_itself : (front : FoldView) (ref : Ref) (k : ℕ) → sig_of front.sigs ref ≡ Is (bases.Node k) → IsReached front [] ref k
 reached_itself front (refs.Input i) k e = no_input i k (IsReached front [] (refs.Input i) k) e
 reached_itself front (refs.Write i) k e = elim (cases_lt i (length front.sigs)) as (λ _. IsReached front [] (refs.Write i) k) [
@@ -166,7 +156,7 @@ reached_itself front (refs.Write i) k e = elim (cases_lt i (length front.sigs)) 
 ahead_begin : (front : FoldView) → IsAhead front [] front
 ahead_begin front = record {
   newer = [];
-  nodes = nothing_more front.nodes;
+  nodes = sym (append-nil front.nodes);
   reached = λ ref k low e. reached_itself front ref k e;
   needed = λ node among k low has. absurd among;
 }
@@ -236,7 +226,7 @@ ahead_folded front mid now e (New node) is comes =
     let more : length now.nodes ≡ length front.nodes + length is.newer = ap length is.nodes ∙ length-append front.nodes is.newer in
     record {
       newer = is.newer ++ node ∷ [];
-      nodes = ap (λ (z : List Node). z ++ node ∷ []) is.nodes ∙ joined_last front.nodes is.newer node;
+      nodes = ap (λ (z : List Node). z ++ node ∷ []) is.nodes ∙ append_assoc front.nodes is.newer (node ∷ []);
       reached = reached_next front mid now e last is
           (λ k low same. absurd (omega (arith, low, more, one_number (length now.nodes) k same)));
       needed = λ other among k low has. elim (among_append other is.newer (node ∷ []) among) as (λ _. IsNeeded front (mid ++ e ∷ []) k) [
@@ -252,19 +242,12 @@ ahead_folded front mid now e (New node) is comes =
 ahead_all : (front : FoldView) (whole mid : List Entry) (now : FoldView) (es : List Entry) → whole ≡ mid ++ es → IsAhead front mid now
     → IsAhead front whole (folded_by now es)
 ahead_all front whole mid now [] cut is =
-    subst (λ (z : List Entry). IsAhead front z now) (nothing_more mid ∙ sym cut) is
+    subst (λ (z : List Entry). IsAhead front z now) (sym (append-nil mid) ∙ sym cut) is
 ahead_all front whole mid now (e ∷ es) cut is =
-    ahead_all front whole (mid ++ e ∷ []) (with_write now e) es (cut ∙ joined_again mid e es)
+    ahead_all front whole (mid ++ e ∷ []) (with_write now e) es (cut ∙ sym (append_assoc mid (e ∷ []) es))
     (ahead_folded front mid now e (folded now.sigs e) is (folded_comes now.sigs e))
 
 -- ---- tests of numbers in lists
-
-or_left : (a b : Bool) → a ≡ true → (a || b) ≡ true
-or_left a b e = rw e refl
-
-or_right : (a b : Bool) → b ≡ true → (a || b) ≡ true
-or_right true b e = refl
-or_right false b e = e
 
 or_else : (a b : Bool) → a ≡ false → (a || b) ≡ true → b ≡ true
 or_else true b e some = absurd (let clash : true ≡ false = e in cc)
@@ -477,8 +460,9 @@ front_at f (e ∷ es) j low high = elim (cases_eq (length f.nodes) j) as (λ _. 
       record { front = e ∷ rest.front; behind = rest.behind; cut = ap (λ (z : List Entry). e ∷ z) rest.cut; size = rest.size }
 ]
 
-pub graphs_are_no_wider : GraphsAreNoWider
-graphs_are_no_wider t width is j inside =
+no_cut_is_longer : (t : TapeView) (width : ℕ) → HasWidth t width → (j : ℕ) → j ≤ length (graph_of t).nodes
+    → length (cut_in (graph_of t) j) ≤ width
+no_cut_is_longer t width is j inside =
     let place = front_at nothing_folded t.entries j (omega arith) inside in
     let fewer = no_longer t place.front place.behind place.cut in
     let within : length place.front ≤ length (tapes.steps_of t) =
@@ -486,3 +470,13 @@ graphs_are_no_wider t width is j inside =
     let here : length (cut_in (graph_of t) j) ≤ length (cut_at (tapes.steps_of t) (writes_among t.outputs) (length place.front)) =
     subst (λ (z : ℕ). length (cut_in (graph_of t) z) ≤ length (cut_at (tapes.steps_of t) (writes_among t.outputs) (length place.front))) place.size fewer in
     omega (arith, here, is.most (length place.front) within)
+
+pub graphs_are_no_wider : GraphsAreNoWider
+graphs_are_no_wider t width is = record {
+  cuts = no_cut_is_longer t width is;
+  width = λ own has. omega (
+    arith,
+    has.reached,
+    no_cut_is_longer t width is has.at (omega (arith, has.inside, length-steps_of (graph_of t))),
+  );
+}

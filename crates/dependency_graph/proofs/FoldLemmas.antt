@@ -187,5 +187,6 @@ pub parts_are : (t : TapeView) (inputs : ℕ) (f : FoldView) (outputs : List Sig
     → f ≡ folded_by nothing_folded t.entries → outputs ≡ map (sig_of f.sigs) t.outputs
     → IsGraph (record { inputs = inputs; nodes = f.nodes; sigs = f.sigs; outputs = outputs })
 parts_are t inputs f outputs is count all found =
-    rw (count, found) (subst (λ (z : FoldView). IsGraph (record { inputs = inputs_of t; nodes = z.nodes; sigs = z.sigs; outputs = map (sig_of z.sigs) t.outputs }))
+    rw (count, found) (subst (λ (z : FoldView).
+    IsGraph (record { inputs = inputs_of t; nodes = z.nodes; sigs = z.sigs; outputs = map (sig_of z.sigs) t.outputs }))
     (sym all) (graph_is t is))

@@ -1,10 +1,11 @@
 -- The table of last uses holds them.
-use Rattle.std.proofs.Common.{◌≡◌, ℕ, zero, suc, ◌+◌, ◌<◌, ◌≤◌, ◌==◌, Bool, true, false, cond, ◌||◌, inl, inr, List, [], ◌∷◌, ◌++◌, length, map, set, get_or, filter}
+use Rattle.std.proofs.Common.{◌≡◌, ℕ, zero, suc, ◌+◌, ◌<◌, ◌≤◌, ◌==◌, Bool, true, false, cond}
+use Rattle.std.proofs.Common.{◌||◌, inl, inr, List, [], ◌∷◌, ◌++◌, length, map, set, get_or, filter}
 use Rattle.std.proofs.Common.{refl, sym, ap, ◌∙◌, arith, length-append}
 use Rattle.std.specs.List.{flat_map}
 use Rattle.std.proofs.lemmas.Grind.{common_steps}
 use Rattle.std.proofs.lemmas.Bool.{cases_lt}
-use Rattle.std.proofs.lemmas.List.{map_push, length-map, get_or_append_left, get_or_push}
+use Rattle.std.proofs.lemmas.List.{append_assoc, map_push, length-map, get_or_append_left, get_or_push}
 use Rattle.list_facts.specs.Lists.{below}
 use Rattle.list_facts.proofs.OrderLemmas.{length-below}
 use Rattle.revc_base.specs.Cuts.{is_in, is_needed}
@@ -107,10 +108,6 @@ step_at : (front : List Node) (x : Node) (behind : List Node) → get_or (map st
 step_at [] x behind = refl
 step_at (y ∷ front) x behind = step_at front x behind
 
-append_again : (front : List Node) (x : Node) (behind : List Node) → front ++ x ∷ behind ≡ (front ++ x ∷ []) ++ behind
-append_again [] x behind = refl
-append_again (y ∷ front) x behind = ap (λ (z : List Node). y ∷ z) (append_again front x behind)
-
 nodes_used : (all front xs : List Node) (n j : ℕ) → all ≡ front ++ xs → length front ≡ j
     → with_nodes (map (last_before (map step_of all) j) (below n)) j xs ≡ map (last_before (map step_of all) (length all)) (below n)
 nodes_used all front [] n j cut size =
@@ -129,7 +126,7 @@ nodes_used all front (x ∷ xs) n j cut size =
     ∙ ap (λ (z : ℕ). last_before steps z i) next in
     ap (λ (z : List ℕ). with_nodes z (j + 1) xs) (bases_used (last_before steps j) n (operands x) j
     ∙ map_same (λ i. cond (is_in (step_of x) i) j (last_before steps j i)) (last_before steps (j + 1)) (below n) more)
-    ∙ nodes_used all (front ++ x ∷ []) xs n (j + 1) (cut ∙ append_again front x xs) (length-append front (x ∷ []) ∙ omega (arith, size))
+    ∙ nodes_used all (front ++ x ∷ []) xs n (j + 1) (cut ∙ sym (append_assoc front (x ∷ []) xs)) (length-append front (x ∷ []) ∙ omega (arith, size))
 
 -- ---- the whole table
 

@@ -1,5 +1,6 @@
--- Dependency graphs: nodes made of inputs and of earlier nodes, and what the bits of a tape are in them.
-use Rattle.std.specs.Prelude.{◌≡◌, ◌≢◌, ℕ, ◌+◌, ◌<◌, ◌≤◌, Bool, false, not, ◌&&◌, List, [], ◌∷◌, ◌++◌, length, map, slice_index_or, ⊤}
+-- Dependency graphs: nodes made of inputs and of earlier nodes, and what a tape's bits are in them.
+use Rattle.std.specs.Prelude.{◌≡◌, ◌≢◌, ℕ, ◌+◌, ◌<◌, ◌≤◌, Bool, false, not}
+use Rattle.std.specs.Prelude.{◌&&◌, List, [], ◌∷◌, ◌++◌, length, map, slice_index_or, ⊤}
 use Rattle.std.specs.Bool.{xor}
 use Rattle.std.specs.List.{AllByRecursion, flat_map}
 use Rattle.list_facts.specs.Bits.{bit_of}
@@ -16,7 +17,8 @@ use Rattle.dependency_graph.specs.declared.node.Node.TheVariants.{Not, Xor, And}
 use Rattle.dependency_graph.specs.declared.node.Sig.{Sig}
 use Rattle.dependency_graph.specs.declared.node.Sig.TheVariants.{Const, Is}
 
--- a graph: the number of inputs, the nodes, what each write of the tape became, and what each output became, in order
+-- a graph: the number of inputs, the nodes, what each write of the tape became, and what each output
+-- became, in order
 pub record GraphView : Type 0 where
   pub inputs : ℕ
   pub nodes : List Node
@@ -80,8 +82,8 @@ abbrev pub AreKnownNodes : ℕ → ℕ → List Node → Type 0
 AreKnownNodes n k [] = ⊤
 AreKnownNodes n k (node ∷ rest) = IsKnownNode n k node × AreKnownNodes n (k + 1) rest
 
--- What a graph keeps: operands are earlier and different, each node is what some write became, and there are at most as
--- many nodes as writes.
+-- What a graph keeps: operands are earlier and different, each node is what some write became, and
+-- there are at most as many nodes as writes.
 pub record IsGraph (g : GraphView) : Type 0 where
   pub nodes : AreKnownNodes g.inputs 0 g.nodes
   pub sigs : AllByRecursion (IsKnownSig g.inputs (length g.nodes)) g.sigs
@@ -118,8 +120,8 @@ made_by assignment made (node ∷ rest) =
 abbrev pub value_on : GraphView → (ℕ → Bool) → Sig → Bool
 value_on g assignment sig = sig_bit assignment (made_by assignment [] g.nodes) sig
 
--- The graph of a tape: it has the inputs of the tape, something for each write and each output, and on every input each
--- bit of the tape has its value in the graph.
+-- The graph of a tape: it has the inputs of the tape, something for each write and each output, and
+-- on every input each bit of the tape has its value in the graph.
 pub record IsGraphOf (t : TapeView) (g : GraphView) : Type 0 where
   pub inputs : g.inputs ≡ inputs_of t
   pub writes : length g.sigs ≡ writes_of t

@@ -1,5 +1,6 @@
 -- Last uses in a list of steps. A step is the list of its operands, as in the cuts of a tape.
-use Rattle.std.specs.Prelude.{◌↔◌, ℕ, ◌<◌, ◌≤◌, cond, List, [], ◌∷◌, length, map, filter, slice_index_or}
+use Rattle.std.specs.Prelude.{◌↔◌, ℕ, ◌<◌, ◌≤◌, cond, List}
+use Rattle.std.specs.Prelude.{[], ◌∷◌, length, map, filter, slice_index_or}
 use Rattle.list_facts.specs.Lists.{IsAmong, below}
 use Rattle.revc_base.specs.Cuts.{is_in, cut_at}
 use Rattle.dependency_graph.specs.Graphs.{GraphView, output_nodes, steps_of}
@@ -13,8 +14,8 @@ last_of none (x ∷ xs) = last_of x xs
 abbrev pub readers : List (List ℕ) → ℕ → List ℕ
 readers steps i = filter (λ (k : ℕ). is_in (slice_index_or steps k []) i) (below (length steps))
 
--- The last use of step i: behind all steps where it is an output, else at the last step that has it as an operand, else at
--- itself.
+-- The last use of step i: behind all steps where it is an output, else at the last step that has it
+-- as an operand, else at itself.
 abbrev pub last_use : List (List ℕ) → List ℕ → ℕ → ℕ
 last_use steps outputs i = cond (is_in outputs i) (length steps) (last_of i (readers steps i))
 

@@ -2,7 +2,8 @@
 ghost use Rattle.std.specs.Prelude.{◌≡◌, ◌<◌, length, map, IfOk, OnOk, OnErr};
 ghost use Rattle.revc_base.specs.declared.limits.TheConstants.{MOST_WRITES};
 ghost use Rattle.dependency_graph.specs.Graphs.{sig_of};
-ghost use Rattle.dependency_graph.specs.Folds.{and_constant, and_of, folded, folded_by, is_same, nothing_folded, with_write, xor_constant, xor_of};
+ghost use Rattle.dependency_graph.specs.Folds.{and_constant, and_of, folded, folded_by};
+ghost use Rattle.dependency_graph.specs.Folds.{nothing_folded, with_write, xor_constant, xor_of};
 
 use crate::{Base, Node, Sig};
 use revc_base::{Entry, Memory, Ref, Tape};
@@ -14,16 +15,6 @@ use std::marker::Model;
 pub enum Reduct {
     Known(Sig),
     New(Node),
-}
-
-fn is_same(a: Base, b: Base) -> bool
-    ensures { result ≡ is_same a b }
-{
-    match (a, b) {
-        (Base::Input(i), Base::Input(j)) => i == j,
-        (Base::Node(i), Base::Node(j)) => i == j,
-        _ => false,
-    }
 }
 
 fn xor_constant(bit: bool, base: Base) -> Reduct
@@ -44,7 +35,7 @@ fn xor(a: Sig, b: Sig) -> Reduct
         (Sig::Const(bit), Sig::Is(base)) => xor_constant(bit, base),
         (Sig::Is(base), Sig::Const(bit)) => xor_constant(bit, base),
         (Sig::Is(a), Sig::Is(b)) => {
-            if is_same(a, b) {
+            if a == b {
                 Reduct::Known(Sig::Const(false))
             } else {
                 Reduct::New(Node::Xor(a, b))
@@ -71,7 +62,7 @@ fn and(a: Sig, b: Sig) -> Reduct
         (Sig::Const(bit), Sig::Is(base)) => and_constant(bit, base),
         (Sig::Is(base), Sig::Const(bit)) => and_constant(bit, base),
         (Sig::Is(a), Sig::Is(b)) => {
-            if is_same(a, b) {
+            if a == b {
                 Reduct::Known(Sig::Is(a))
             } else {
                 Reduct::New(Node::And(a, b))

@@ -13,8 +13,8 @@ use crate::{Node, Sig};
 use revc_base::{Memory, Ref, Tape};
 use std::marker::Model;
 
-/// The graph of a tape. Contracts see it as the number of inputs and the lists of nodes, of what each write became, and of
-/// what each output became.
+/// The graph of a tape. Contracts see it as the number of inputs and the lists of nodes, of what each write became, and
+/// of what each output became.
 #[derive(Drop)]
 pub struct Graph {
     inputs: u32,
@@ -52,7 +52,8 @@ impl Model for Graph {
 }
 
 impl Graph {
-    /// The graph of a tape, in time linear in it. Each write is folded by its own operands alone, and equal nodes are not shared.
+    /// The graph of a tape, in time linear in it. Each write is folded by its own operands alone, and equal nodes are
+    /// not shared.
     #[tactic(auto, using(crate::proofs::FoldLemmas::graph_is, crate::proofs::ValueLemmas::graph_of_tape))]
     pub fn of(tape: &Tape) -> Result<Graph, Memory>
         ensures fold { IfOk result (λ graph. graph ≡ graph_of tape.now) }
@@ -113,8 +114,8 @@ impl Graph {
         &self.outputs
     }
 
-    /// The last use of the node at place `n`: the greatest node that has it as an operand, the number of nodes where it is
-    /// an output, itself where neither. It takes no memory.
+    /// The last use of the node at place `n`: the greatest node that has it as an operand, the number of nodes where it
+    /// is an output, itself where neither. It takes no memory.
     #[tactic(auto, using(crate::proofs::TableLemmas::use_at))]
     pub fn last_use(&self, n: u32) -> u32
         requires { n < length self.now.nodes }

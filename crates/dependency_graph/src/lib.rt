@@ -1,4 +1,4 @@
-//! The dependency graph of a tape: what each write and each output is a constant, an input or a node of, after the constants are
+//! The dependency graph of a tape: each write and each output is a constant, an input or a node, after constants are
 //! folded away.
 #![tactic(auto)]
 

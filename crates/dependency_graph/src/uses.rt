@@ -65,7 +65,8 @@ fn numbers(alloc: Global, count: u32) -> Result<Vec<u32>, Memory>
     Ok(numbers)
 }
 
-// The last use of each node: first of all itself, then each node that has it as an operand, and at last the end where it is an output.
+// The last use of each node: first itself, then each node that has it as an operand, and at last the end where it is an
+// output.
 pub fn last_uses(alloc: Global, nodes: &[Node], outputs: &[Sig]) -> Result<Vec<u32>, Memory>
     requires { length nodes.now ≤ MOST_WRITES }
     ensures { IfOk result (λ table. table.items
