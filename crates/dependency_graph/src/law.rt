@@ -9,7 +9,7 @@ pub fn last_uses_tell_cuts()
     ensures { LastUsesTellCuts }
 {}
 
-/// The law of width: no cut of a tape's graph has more members than the width of the tape, and so the graph is no wider.
+/// The law of width: no cut of a tape's graph has more members than the width of the tape, so it is no wider.
 pub fn graphs_are_no_wider()
     ensures { GraphsAreNoWider }
 {}
