@@ -1,7 +1,8 @@
 // What one call has joined so far: from pairs of numbers to results.
-ghost use Rattle.std.specs.Prelude.{◌≡◌, ◌≤◌, length};
+ghost use Rattle.std.specs.Prelude.{◌≡◌, ◌≤◌, ◌<◌, ◌⊎◌, length};
+ghost use Rattle.indexmap.specs.IndexMap.{spare};
 ghost use Rattle.decision_diagram.specs.declared.memo.TheConstants.{MOST_PAIRS};
-ghost use Rattle.decision_diagram.specs.inside.Memos.{recalled_from, NotesAtMost};
+ghost use Rattle.decision_diagram.specs.inside.Memos.{recalled_from, Notes};
 
 use crate::node::Dd;
 use indexmap::IndexMap;
@@ -27,7 +28,10 @@ pub fn recalled(memo: &IndexMap<Operands, Dd>, f: Dd, g: Dd) -> Option<Dd>
 pub fn note(memo: &mut IndexMap<Operands, Dd>, f: Dd, g: Dd, joined: Dd)
     requires { length memo.old.entries ≤ MOST_PAIRS }
     ensures most { length memo.new.entries ≤ MOST_PAIRS }
-    ensures noted { NotesAtMost f g joined memo.old.entries memo.new.entries }
+    ensures noted { (memo.new.entries ≡ memo.old.entries)
+        ⊎ Notes f g joined memo.old.entries memo.new.entries }
+    ensures room { length memo.old.entries < MOST_PAIRS → 0 < spare memo.old
+        → Notes f g joined memo.old.entries memo.new.entries }
 {
     if memo.len() < MOST_PAIRS {
         let _ = memo.insert(Operands { left: f, right: g }, joined);

@@ -1,5 +1,5 @@
 -- What a memo holds while a call joins functions.
-use Rattle.std.specs.Prelude.{◌≡◌, ◌⊎◌, ℕ, ◌≤◌, Bool, ◌&&◌, nat_eq, min, List, length, Option, Some}
+use Rattle.std.specs.Prelude.{◌≡◌, ℕ, ◌≤◌, Bool, ◌&&◌, if◌then◌else◌, nat_eq, min, List, length, Option, Some}
 use Rattle.std.specs.Map.{lookup}
 use Rattle.decision_diagram.specs.declared.node.Operation.{Operation}
 use Rattle.decision_diagram.specs.declared.memo.Operands.{Operands}
@@ -31,8 +31,8 @@ pub record HoldsJoins (operation : Operation) (d : DiagramView)
   pub each : (f g h : ℕ) → recalled_from memo f g ≡ Some h → IsJoin operation d f g h
   pub within : length memo ≤ MOST_PAIRS
 
--- the memo gives results from before, and perhaps this one for f and g
-abbrev pub NotesAtMost : ℕ → ℕ → ℕ → List (Operands × ℕ) → List (Operands × ℕ) → Type 0
-NotesAtMost f g joined old new =
-    (m n h : ℕ) → recalled_from new m n ≡ Some h
-    → ((m ≡ f) × (n ≡ g) × (h ≡ joined)) ⊎ (recalled_from old m n ≡ Some h)
+-- the memo gives this result for f and g, and for each other pair what it gave before
+abbrev pub Notes : ℕ → ℕ → ℕ → List (Operands × ℕ) → List (Operands × ℕ) → Type 0
+Notes f g joined old new =
+    (m n : ℕ) → recalled_from new m n
+    ≡ (if nat_eq f m && nat_eq g n then Some joined else recalled_from old m n)
