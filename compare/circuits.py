@@ -1,58 +1,43 @@
 """A model of the circuit file: which one is written for a program, and what a file means.
 
-It is written from docs/LANGUAGE.md, docs/FORMATS.md and docs/DECISIONS.md, and shares nothing with the compiler.
+It is written from docs/LANGUAGE.md and docs/FORMATS.md, and shares nothing with the compiler.
 """
 from dataclasses import dataclass
 from typing import List, Optional
 
-from language import Chain, Program, Refused, Run, Used
+from graphs import Folded, Graph, Node
+from language import Run
 
-MOST_OPERATORS = 1_000
-
-
-# ---- What is compiled so far
+# ---- The plain plan: a work line for each node, the outputs copied, and the nodes undone
 
 
-def operators_of(term) -> int:
-    """How many operators a term of names, `&&` and `<>` has."""
-    if isinstance(term, Used):
-        return 0
-    if isinstance(term, Chain):
-        return len(term.operands) - 1 + sum(operators_of(operand) for operand in term.operands)
-    raise Refused("program refused")
+def toggle(line: str, node: Node) -> List[List[str]]:
+    """The gates that put a node on its line, or take it off, each as its controls and then its target."""
+    if node.operator == "not":
+        return [[node.operands[0], line], [line]]
+    if node.operator == "<>":
+        return [[operand, line] for operand in node.operands]
+    return [[*node.operands, line]]
 
 
-def is_small(program: Program) -> bool:
-    """Whether the parameters have one bit each, and the body is of names, `&&` and `<>`, with few operators."""
-    try:
-        few = operators_of(program.body) <= MOST_OPERATORS
-    except Refused:
-        return False
-    return few and all(parameter.width is None for parameter in program.parameters)
+def copies_of(output: Folded, line: str) -> List[List[str]]:
+    """The gates that bring an output to its line: a line holds 0 without any."""
+    if isinstance(output, str):
+        return [[output, line]]
+    return [[line]] if output else []
 
 
-# ---- The plain plan: a work line for each write, the outputs copied, and the writes undone
-
-
-def gates_of_write(line: str, write) -> List[List[str]]:
-    """The gates that make a write on its line, each as its controls and then its target."""
-    if write.operator == "<>":
-        return [[operand, line] for operand in write.operands]
-    if write.operator == "&&":
-        return [list(dict.fromkeys(write.operands)) + [line]]  # a bit that stands twice is one control
-    return [[line]] if write.operator == "1" else []
-
-
-def plain_gates(run: Run) -> List[List[str]]:
-    forward = [gate for number, write in enumerate(run.writes) for gate in gates_of_write("w%d" % number, write)]
-    copies = [[line, "y%d" % place] for place, (_, line) in enumerate(run.outputs)]
+def plain_gates(graph: Graph) -> List[List[str]]:
+    forward = [gate for number, node in enumerate(graph.nodes) for gate in toggle("w%d" % number, node)]
+    copies = [copy for place, output in enumerate(graph.outputs) for copy in copies_of(output, "y%d" % place)]
     return forward + copies + forward[::-1]
 
 
-def file_of(run: Run) -> bytes:
+def file_of(inputs: int, graph: Graph) -> bytes:
     """The file of the plain plan's circuit."""
-    inputs, outputs, work = len(run.bits), len(run.outputs), len(run.writes)
-    lines = [kind + str(number) for kind, count in (("x", inputs), ("y", outputs), ("w", work)) for number in range(count)]
+    outputs, work = len(graph.outputs), len(graph.nodes)
+    kinds = [("x", inputs), ("y", outputs), ("w", work)]
+    lines = [kind + str(number) for kind, count in kinds for number in range(count)]
     names = " ".join(lines)
     head = [
         ".version 2.0",
@@ -64,7 +49,7 @@ def file_of(run: Run) -> bytes:
         ".garbage " + "-" * len(lines),
         ".begin",
     ]
-    gates = ["t%d %s" % (len(gate), " ".join(gate)) for gate in plain_gates(run)]
+    gates = ["t%d %s" % (len(gate), " ".join(gate)) for gate in plain_gates(graph)]
     return "".join(line + "\n" for line in head + gates + [".end"]).encode()
 
 
@@ -125,4 +110,5 @@ def is_clean(circuit: Circuit, run: Run) -> bool:
         after[line] = bit
     roles_fit = len(inputs) == len(run.bits) and len(outputs) == len(run.outputs)
     starts_fit = all(circuit.starts[line] == 0 for line in outputs + work)
-    return roles_fit and starts_fit and len(inputs + outputs + work) == len(circuit.lines) and circuit.run(before) == after
+    all_there = len(inputs + outputs + work) == len(circuit.lines)
+    return roles_fit and starts_fit and all_there and circuit.run(before) == after

@@ -1,8 +1,11 @@
 """What each command answers for a text, by the models: docs/COMMANDS.md as functions."""
 from typing import NamedTuple
 
-from circuits import file_of, is_small
+from circuits import file_of
+from graphs import Graph
 from language import Refused, Run, program_of
+
+MOST_LINES = 4_096
 
 
 class Answer(NamedTuple):
@@ -26,7 +29,12 @@ def compile_answer(text: bytes) -> Answer:
         run = run_on_zeros(text)
     except Refused as refused:
         return fault(3, str(refused))
-    return Answer(0, file_of(run)) if is_small(run.program) else fault(3, "program refused")
+    if run.claims:
+        return fault(3, "program refused")
+    graph, ends = Graph(run), len(run.bits) + len(run.outputs)
+    if ends + len(graph.nodes) > MOST_LINES:
+        return fault(6, "lines %d over %d" % (max(ends, MOST_LINES + 1), MOST_LINES))
+    return Answer(0, file_of(len(run.bits), graph))
 
 
 def eval_answer(text: bytes, word: str) -> Answer:

@@ -49,15 +49,20 @@ def edges(program: str) -> Iterator[Tuple[str, bool]]:
             done = run(words, stdin=source)
             untouched = os.lseek(source.fileno(), 0, os.SEEK_CUR) == 0
         yield "the words %s give no order" % words, is_fault(done, 2, b"bad command line") and untouched
-    yield "`--` ends the options", run(["compile", "--"]) == run(["compile"]) and run(["eval", "--", "11"]) == (0, b"1\n", b"")
+    yield "`--` ends the options", run(["compile", "--"]) == run(["compile"])
+    yield "`--` ends the options of `eval`", run(["eval", "--", "11"]) == (0, b"1\n", b"")
     for words in (["eval", "-"], ["eval", "--", "-1"]):
         yield "the words %s give an order" % words, is_fault(run(words), 12, b"bad bits in word 1")
     yield "words that are no text end with status 1", run([b"\xff"]) == (1, b"", b"")
 
     small, most = b"main (a : bool) = a", 1_048_576
     yield "a text of the greatest size is taken", run(["eval", "1"], small.ljust(most)) == (0, b"1\n", b"")
-    yield "one byte more is refused", is_fault(run(["eval", "1"], small.ljust(most + 1)), 3, b"source over 1048576 bytes")
+    too_long = run(["eval", "1"], small.ljust(most + 1))
+    yield "one byte more is refused", is_fault(too_long, 3, b"source over 1048576 bytes")
 
     lets = b"".join(b"let n%d=a;\n" % number for number in range(70_000))
     text = b"main (a : bool) = {\n" + lets + b"n0 <> n1 <> a }"
     yield "70,000 lets run in time", run(["eval", "1"], text.ljust(most)) == (0, b"1\n", b"")
+
+    text = AND + b" <> a && b" * 2_000 + b" <> false" * 100_000
+    yield "a text of the greatest size compiles in time", run(["compile"], text.ljust(most))[0] == 0

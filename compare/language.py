@@ -422,8 +422,8 @@ UNIT = None
 
 @dataclass
 class Write:
-    """A location that the run wrote: a constant, or the AND or XOR of two bits. A bit is named by its line in a
-    circuit, as `x3` for input 3 and `w5` for write 5."""
+    """A location that the run wrote: a constant, or the AND or XOR of two bits. A bit is named `x3` where it is that
+    of input 3, and `w5` where it is that of write 5."""
 
     operator: str
     operands: tuple
@@ -440,7 +440,7 @@ class Run:
     work: int = 0
 
     def __post_init__(self):
-        # For each location its bit and the line that holds it, or None where it was cleaned.
+        # For each location its bit and whose it is, or None where it was cleaned.
         self.store = [(bit, "x%d" % number) for number, bit in enumerate(self.bits)]
         scope, first = None, 0
         for parameter in self.program.parameters:
@@ -575,9 +575,9 @@ class Run:
         location = self.bit(first, scope, depth)
         for operand in rest:
             other = self.bit(operand, scope, depth)
-            (left, left_line), (right, right_line) = self.read(location, first.place), self.read(other, operand.place)
+            (left, left_name), (right, right_name) = self.read(location, first.place), self.read(other, operand.place)
             bit = left & right if term.operator == "&&" else left ^ right
-            location = self.write(bit, operand.place, term.operator, left_line, right_line)
+            location = self.write(bit, operand.place, term.operator, left_name, right_name)
         return Bit(location)
 
     def run_assign(self, term: Assign, scope, depth):

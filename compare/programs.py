@@ -11,6 +11,7 @@ PARAMETERS = [[("a", None)], [("r", 3)], [("a", None), ("r", 2)], [("a", None), 
 FORMS = ["(#)", "reg [#]", "reg [#; #]", "{ # }", "{ let f = #; # }", "{ let g x y = #; #; # }", "fun x -> #",
          "fun x y -> #", "clean (#)", "assert (#)", "rotate 3 (#)", "append (#) (#)", "(#) (#)", "(#) <- (#)",
          "(#) <> (#)", "(#) && (#) && (#)"]
+FOLDED = ["%s", "%s", "%s", "(%s && true)", "(false <> %s)", "(%s && true && true)", "(true && %s <> false)"]
 BLANKS = [" ", "  ", "\n", "\t\r\n", " // note\n", "\n\n "]
 PIECES = "( ) [ ] { } <> && < & / a ; in . .. + = -> : bool // \xff 12345".split()
 PIECES += [" 7 ", "\n", "let ", "fun ", "reg ", "z" * 65]
@@ -68,9 +69,12 @@ class Case(NamedTuple):
 
 class Scope(NamedTuple):
     """The names that a term may use: pairs of a name and its kind, a later one hiding an earlier one. A function's
-    kind is the number of bits that it takes."""
+    kind is the number of bits that it takes. The parameters that are registers have their widths here. A strict term
+    has no claims, and each of its parts has the kind and the places that are wanted."""
 
     names: tuple
+    widths: dict
+    strict: bool = False
 
     def of_kind(self, kind) -> List[str]:
         return [name for name, its in self.names if its == kind]
@@ -80,7 +84,8 @@ class Scope(NamedTuple):
 
     def bind(self, *pairs) -> "Scope":
         new = {name for name, _ in pairs}
-        return Scope(tuple(pair for pair in self.names if pair[0] not in new) + pairs)
+        widths = {name: width for name, width in self.widths.items() if name not in new}
+        return Scope(tuple(pair for pair in self.names if pair[0] not in new) + pairs, widths, self.strict)
 
 
 class Programs:
@@ -165,10 +170,14 @@ class Programs:
         return head([("a", None)]) + body, 1
 
     def long(self) -> Tuple[str, int]:
-        """About as many operators as a small program may have."""
-        names = self.random.sample(NAMES, 3)
-        operands = [self.random.choice(names) for _ in range(self.random.randint(995, 1005))]
-        return head((name, None) for name in names) + self.random.choice([" <> ", " && "]).join(operands), 3
+        """A chain with about as many inputs, outputs and nodes as a circuit may have lines; some operands fold."""
+        inputs, outputs = self.random.randint(2, 1024), self.random.randint(1, 1024)
+        nodes = 4096 + self.random.randint(-2, 2) - inputs - outputs
+        pairs = [[form % name for form in FOLDED] for name in ("r.[0]", "r.[%d]" % (inputs - 1))]
+        operands = (self.random.choice(pairs[number % 2]) for number in range(nodes + 1))
+        chain = self.random.choice([" <> ", " && "]).join(operands)
+        body = "{ let s = %s; reg [%s] }" % (chain, "; ".join(["s"] * outputs))
+        return head([("r", inputs)]) + body, inputs
 
     def wide(self) -> Tuple[str, int]:
         """About as many parameters as there may be."""
@@ -181,15 +190,24 @@ class Programs:
 
     def typed(self) -> Tuple[str, int]:
         """The whole language, where most terms have the kind that is wanted of them."""
+        front, inputs, scope = self.typed_head()
+        return front + self.term(scope, self.random.choice([BIT, BIT, REGISTER]), self.random.randint(1, 6)), inputs
+
+    def unclaimed(self) -> Tuple[str, int]:
+        """The same without claims, and with more of it: a block whose value has one bit or some."""
+        front, inputs, scope = self.typed_head()
+        return front + self.block(scope._replace(strict=True), self.random.choice([BIT, REGISTER]), 5), inputs
+
+    def typed_head(self) -> Tuple[str, int, Scope]:
         parameters = self.random.choice(PARAMETERS)
-        scope = Scope(tuple((name, REGISTER if width else BIT) for name, width in parameters))
-        body = self.term(scope, self.random.choice([BIT, BIT, REGISTER]), self.random.randint(1, 6))
-        return head(parameters) + body, sum(width or 1 for _, width in parameters)
+        names = tuple((name, REGISTER if width else BIT) for name, width in parameters)
+        scope = Scope(names, {name: width for name, width in parameters if width})
+        return head(parameters), sum(width or 1 for _, width in parameters), scope
 
     # ---- Terms of a kind
 
     def term(self, scope: Scope, kind, depth: int) -> str:
-        if self.chance(0.02):
+        if not scope.strict and self.chance(0.02):
             kind = self.random.choice([BIT, REGISTER, UNIT, 1])
         if depth <= 0 or self.chance(0.15):
             return self.leaf(scope, kind)
@@ -208,14 +226,14 @@ class Programs:
 
     def leaf(self, scope: Scope, kind) -> str:
         names = scope.of_kind(kind)
-        if names:
+        if names and not (kind == BIT and self.chance(0.1)):
             return self.random.choice(names)
         if kind == BIT:
             return self.random.choice(["true", "false"])
         if kind == REGISTER:
             return "reg [%s]" % "; ".join(self.some(lambda: self.leaf(scope, BIT), 1, 3))
         if kind == UNIT:
-            return "clean " + self.atom(scope, BIT, 0)
+            return self.action(scope, 0)
         return "(fun q -> q)"
 
     def atom(self, scope: Scope, kind, depth: int) -> str:
@@ -226,26 +244,35 @@ class Programs:
         functions = scope.functions()
         if functions and self.chance(0.2):
             name, arguments = self.random.choice(functions)
-            surplus = self.chance(0.05)
+            surplus = not scope.strict and self.chance(0.05)
             return " ".join([name] + [self.atom(scope, BIT, depth) for _ in range(arguments + surplus)])
         if self.chance(0.3):
-            return "%s.[%d]" % (self.atom(scope, REGISTER, depth), self.random.choice([0, 0, 0, 0, 1, 1, 2, 5]))
+            return "%s.[%d]" % self.place(scope, depth)
         return self.random.choice([" <> ", " && "]).join(self.some(lambda: self.term(scope, BIT, depth - 1), 2, 3))
 
     def register(self, scope: Scope, depth: int) -> str:
         form = self.random.choice(["reg", "reg", "append", "rotate", "slice"])
         if form == "reg":
             return "reg [%s]" % "; ".join(self.some(lambda: self.term(scope, BIT, depth - 1), 1, 3))
-        operand = self.atom(scope, REGISTER, depth)
         if form == "append":
-            return "append %s %s" % (operand, self.atom(scope, REGISTER, depth))
-        first = self.random.choice([0, 0, 0, 1, 1, 2])
+            return "append %s %s" % (self.atom(scope, REGISTER, depth), self.atom(scope, REGISTER, depth))
+        operand, place = self.place(scope, depth)
         if form == "rotate":
-            return "rotate %d %s" % (first, operand)
-        return "%s.[%d..%d]" % (operand, first, max(0, first + self.random.choice([0, 0, 1, 1, 2, -1])))
+            return "rotate %d %s" % (place, operand)
+        return "%s.[%d..%d]" % (operand, self.random.randint(0, place), place)
+
+    def place(self, scope: Scope, depth: int) -> Tuple[str, int]:
+        """A register and one of its places, or about one."""
+        register, place = self.atom(scope, REGISTER, depth), 0
+        if scope.widths and self.chance(0.4):
+            register, width = self.random.choice(list(scope.widths.items()))
+            place = self.random.randrange(width)
+        elif self.chance(0.4):
+            register, place = "(append %s %s)" % (register, self.atom(scope, REGISTER, depth)), 1
+        return register, place if scope.strict else max(0, place + self.random.choice([0] * 9 + [1, 2, -1]))
 
     def action(self, scope: Scope, depth: int) -> str:
-        if self.chance(0.5):
+        if scope.strict or self.chance(0.5):
             return "%s <- %s" % (self.atom(scope, BIT, depth), self.atom(scope, BIT, depth))
         return self.random.choice(["clean ", "assert "]) + self.atom(scope, BIT, depth)
 
