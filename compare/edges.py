@@ -55,9 +55,9 @@ def edges(program: str) -> Iterator[Tuple[str, bool]]:
         yield "the words %s give an order" % words, is_fault(run(words), 12, b"bad bits in word 1")
     yield "words that are no text end with status 1", run([b"\xff"]) == (1, b"", b"")
 
-    small, most = b"main (a : bool) = a", 1_048_576
-    yield "a text of the greatest size is taken", run(["eval", "1"], small.ljust(most)) == (0, b"1\n", b"")
-    too_long = run(["eval", "1"], small.ljust(most + 1))
+    short, most = b"main (a : bool) = a", 1_048_576
+    yield "a text of the greatest size is taken", run(["eval", "1"], short.ljust(most)) == (0, b"1\n", b"")
+    too_long = run(["eval", "1"], short.ljust(most + 1))
     yield "one byte more is refused", is_fault(too_long, 3, b"source over 1048576 bytes")
 
     lets = b"".join(b"let n%d=a;\n" % number for number in range(70_000))
