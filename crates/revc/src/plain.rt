@@ -1,152 +1,176 @@
-// The plain plan of a tape: each write has a work line, the writes are toggled in order, the outputs are
+// The plain plan of a graph: each node has a work line, the nodes are toggled in order, the outputs are
 // copied, and the toggles are undone (Bennett, Logical reversibility of computation, 1973).
-ghost use Rattle.std.specs.Prelude.{◌≡◌, ◌+◌, ◌*◌, ◌<◌, ◌≤◌, ◌∷◌, [], ◌++◌, length, reverse, sum, take, OnOk, IfOk};
+ghost use Rattle.std.specs.Prelude.{◌≡◌, ◌+◌, ◌*◌, ◌<◌, ◌≤◌, ◌∷◌, [], ◌++◌, length, reverse, take, OnOk, IfOk};
 ghost use Rattle.std.specs.List.{AllByRecursion};
+ghost use Rattle.dependency_graph.specs.Graphs.{IsGraph, IsKnownBase, IsKnownNode, IsKnownSig};
 ghost use Rattle.gate_split.specs.Plans.{MapsCleanly};
 ghost use Rattle.gate_split.specs.declared.plan.TheConstants.{MOST_LINES, MOST_GATES};
 ghost use Rattle.list_facts.specs.Lists.{AreDifferent};
 ghost use Rattle.mct_circuit.specs.Gates.{AreNarrow, flip_of};
-ghost use Rattle.revc_base.specs.Tapes.{IsKnown, IsKnownEntry, IsTape, outputs_on};
-ghost use Rattle.revc.specs.inside.Plain.{line_of, toggle_of, toggles_of, copies_of, plain_gates, plain_roles};
+ghost use Rattle.revc.specs.inside.Plain.{line_of, toggle_of, toggles_of, copy_of, copies_of};
+ghost use Rattle.revc.specs.inside.Plain.{plain_gates, plain_roles, graph_outputs};
 
+use dependency_graph::{Base, Graph, Node, Sig};
 use gate_split::MOST_GATES;
 use mct_circuit::{Circuit, GateFault};
-use revc_base::{Entry, Memory, Ref, Tape};
+use revc_base::Memory;
 use std::alloc::Global;
 
-/// The plain circuit of a tape: the input lines, the output lines and a work line for each write
+/// The plain circuit of a graph: the input lines, the output lines and a work line for each node
 /// (Bennett, Logical reversibility of computation, 1973).
-pub fn plain_plan(alloc: Global, tape: &Tape) -> Result<Circuit, Memory>
-    requires few { sum tape.now.params + length tape.now.outputs + length tape.now.entries ≤
+pub fn plain_plan(alloc: Global, graph: &Graph) -> Result<Circuit, Memory>
+    requires few { graph.now.inputs + length graph.now.outputs + length graph.now.nodes ≤
         MOST_LINES }
     ensures lines { IfOk result (λ circuit. circuit.lines
-        ≡ sum tape.now.params + length tape.now.outputs + length tape.now.entries) }
-    ensures gates { IfOk result (λ circuit. circuit.gates ≡ plain_gates tape.now) }
+        ≡ graph.now.inputs + length graph.now.outputs + length graph.now.nodes) }
+    ensures gates { IfOk result (λ circuit. circuit.gates ≡ plain_gates graph.now) }
     ensures few_gates { IfOk result (λ circuit. length circuit.gates
-        ≤ 4 * length tape.now.entries + length tape.now.outputs) }
+        ≤ 4 * length graph.now.nodes + length graph.now.outputs) }
     ensures narrow { IfOk result (λ circuit. AreNarrow circuit.gates) }
-    ensures clean { IfOk result (λ circuit. MapsCleanly (plain_roles tape.now) circuit.gates
-        (outputs_on tape.now)) }
+    ensures clean { IfOk result (λ circuit. MapsCleanly (plain_roles graph.now) circuit.gates
+        (graph_outputs graph.now)) }
 {
-    let circuit = build(alloc, tape)?;
+    let circuit = build(alloc, graph)?;
     // This call says that the gates are on the circuit's lines.
     let _ = circuit.lines();
     Ok(circuit)
 }
 
 // The gates of the plan.
-fn build(alloc: Global, tape: &Tape) -> Result<Circuit, Memory>
-    requires few { sum tape.now.params + length tape.now.outputs + length tape.now.entries ≤
+fn build(alloc: Global, graph: &Graph) -> Result<Circuit, Memory>
+    requires few { graph.now.inputs + length graph.now.outputs + length graph.now.nodes ≤
         MOST_LINES }
     ensures lines { IfOk result (λ circuit. circuit.lines
-        ≡ sum tape.now.params + length tape.now.outputs + length tape.now.entries) }
-    ensures gates { IfOk result (λ circuit. circuit.gates ≡ plain_gates tape.now) }
+        ≡ graph.now.inputs + length graph.now.outputs + length graph.now.nodes) }
+    ensures gates { IfOk result (λ circuit. circuit.gates ≡ plain_gates graph.now) }
     ensures few_gates { IfOk result (λ circuit. length circuit.gates
-        ≤ 4 * length tape.now.entries + length tape.now.outputs) }
+        ≤ 4 * length graph.now.nodes + length graph.now.outputs) }
     ensures narrow { IfOk result (λ circuit. AreNarrow circuit.gates) }
-    ensures tape { IsTape tape.now }
+    ensures graph { IsGraph graph.now }
 {
-    let lines = tape.inputs() + tape.outputs().len() as u32 + tape.len();
+    let lines = graph.inputs() + graph.outputs().len() as u32 + graph.nodes();
     let mut circuit = Circuit::new(alloc, lines, MOST_GATES);
-    toggle_all(&mut circuit, tape)?;
+    toggle_all(&mut circuit, graph)?;
     let forward = circuit.len();
-    copy_all(&mut circuit, tape)?;
+    copy_all(&mut circuit, graph)?;
     mirror(&mut circuit, forward)?;
     Ok(circuit)
 }
 
-fn line_of(inputs: u32, outputs: u32, made: Ref) -> u32
+fn line_of(inputs: u32, outputs: u32, base: Base) -> u32
     requires few { inputs + outputs ≤ MOST_LINES }
-    requires known { IsKnown inputs MOST_LINES made }
-    ensures { result ≡ line_of inputs outputs made }
+    requires known { IsKnownBase inputs MOST_LINES base }
+    ensures { result ≡ line_of inputs outputs base }
 {
-    match made {
-        Ref::Input(i) => i,
-        Ref::Write(j) => inputs + outputs + j,
+    match base {
+        Base::Input(i) => i,
+        Base::Node(j) => inputs + outputs + j,
     }
 }
 
-// Appends the toggles of all writes.
-fn toggle_all(circuit: &mut Circuit, tape: &Tape) -> Result<(), Memory>
-    requires few { sum tape.now.params + length tape.now.outputs + length tape.now.entries ≤
+// Appends the toggles of all nodes.
+#[tactic(auto, using(crate::proofs::PlainLemmas::known_at))]
+fn toggle_all(circuit: &mut Circuit, graph: &Graph) -> Result<(), Memory>
+    requires few { graph.now.inputs + length graph.now.outputs + length graph.now.nodes ≤
         MOST_LINES }
     requires lines { circuit.old.lines
-        ≡ sum tape.now.params + length tape.now.outputs + length tape.now.entries }
+        ≡ graph.now.inputs + length graph.now.outputs + length graph.now.nodes }
     requires limit { circuit.old.limit ≡ MOST_GATES }
     requires none { circuit.old.gates ≡ [] }
     ensures ok { OnOk result (circuit.new
         ≡ record circuit.old {
-          gates = toggles_of (sum tape.now.params)
-              (length tape.now.outputs) 0 tape.now.entries;
+          gates = toggles_of graph.now.inputs
+              (length graph.now.outputs) 0 graph.now.nodes;
         }) }
-    ensures few { OnOk result (length circuit.new.gates ≤ 2 * length tape.now.entries) }
+    ensures few { OnOk result (length circuit.new.gates ≤ 2 * length graph.now.nodes) }
     ensures narrow { OnOk result (AreNarrow circuit.new.gates) }
 {
-    let (inputs, outputs) = (tape.inputs(), tape.outputs().len() as u32);
-    for (k, entry) in tape.entries().iter().enumerate() {
-        toggle(circuit, inputs, outputs, k as u32, *entry)?;
+    let (inputs, outputs) = (graph.inputs(), graph.outputs().len() as u32);
+    for k in 0..graph.nodes() {
+        toggle(circuit, inputs, outputs, k, graph.node(k))?;
     }
     Ok(())
 }
 
-// Appends the gates that flip the line of the k-th write by its bit.
+// Appends the gates that flip the line of the k-th node by its bit.
 fn toggle(
     circuit: &mut Circuit,
     inputs: u32,
     outputs: u32,
     k: u32,
-    entry: Entry,
+    node: Node,
 ) -> Result<(), Memory>
     requires few { inputs + outputs + k < MOST_LINES }
-    requires known { IsKnownEntry inputs k entry }
+    requires known { IsKnownNode inputs k node }
     requires lines { inputs + outputs + k < circuit.old.lines }
     requires room { length circuit.old.gates + 2 ≤ circuit.old.limit }
     ensures ok { OnOk result (circuit.new
-        ≡ record circuit.old { gates = circuit.old.gates ++ toggle_of inputs outputs k entry }) }
+        ≡ record circuit.old { gates = circuit.old.gates ++ toggle_of inputs outputs k node }) }
     ensures few { OnOk result (length circuit.new.gates ≤ length circuit.old.gates + 2) }
     ensures narrow { OnOk result (AreNarrow circuit.old.gates → AreNarrow circuit.new.gates) }
 {
     let target = inputs + outputs + k;
-    match entry {
-        Entry::Const(false) => Ok(()),
-        Entry::Const(true) => push(circuit, &[], target),
-        Entry::Xor(a, b) => {
+    match node {
+        Node::Not(a) => {
+            push(circuit, &[line_of(inputs, outputs, a)], target)?;
+            push(circuit, &[], target)
+        }
+        Node::Xor(a, b) => {
             push(circuit, &[line_of(inputs, outputs, a)], target)?;
             push(circuit, &[line_of(inputs, outputs, b)], target)
         }
-        Entry::And(a, b) => {
+        Node::And(a, b) => {
             let (a, b) = (line_of(inputs, outputs, a), line_of(inputs, outputs, b));
-            if a == b {
-                push(circuit, &[a], target)
-            } else {
-                push(circuit, &[a, b], target)
-            }
+            push(circuit, &[a, b], target)
         }
     }
 }
 
 // Appends the copies of all outputs to their lines.
-fn copy_all(circuit: &mut Circuit, tape: &Tape) -> Result<(), Memory>
-    requires few { sum tape.now.params + length tape.now.outputs + length tape.now.entries ≤
+fn copy_all(circuit: &mut Circuit, graph: &Graph) -> Result<(), Memory>
+    requires few { graph.now.inputs + length graph.now.outputs + length graph.now.nodes ≤
         MOST_LINES }
     requires lines { circuit.old.lines
-        ≡ sum tape.now.params + length tape.now.outputs + length tape.now.entries }
-    requires room { length circuit.old.gates + length tape.now.outputs ≤ circuit.old.limit }
+        ≡ graph.now.inputs + length graph.now.outputs + length graph.now.nodes }
+    requires room { length circuit.old.gates + length graph.now.outputs ≤ circuit.old.limit }
     ensures ok { OnOk result (circuit.new ≡ record circuit.old {
       gates =
-          circuit.old.gates ++ copies_of (sum tape.now.params)
-          (length tape.now.outputs) 0 tape.now.outputs;
+          circuit.old.gates ++ copies_of graph.now.inputs
+          (length graph.now.outputs) 0 graph.now.outputs;
     }) }
     ensures few { OnOk result (length circuit.new.gates
-        ≡ length circuit.old.gates + length tape.now.outputs) }
+        ≤ length circuit.old.gates + length graph.now.outputs) }
     ensures narrow { OnOk result (AreNarrow circuit.old.gates → AreNarrow circuit.new.gates) }
 {
-    let (inputs, outputs) = (tape.inputs(), tape.outputs());
-    for (k, made) in outputs.iter().enumerate() {
-        let line = line_of(inputs, outputs.len() as u32, *made);
-        push(circuit, &[line], inputs + k as u32)?;
+    for (k, sig) in graph.outputs().iter().enumerate() {
+        copy(circuit, graph, k as u32, *sig)?;
     }
     Ok(())
+}
+
+// Appends the gate that puts the k-th output on its line, where it wants one.
+fn copy(circuit: &mut Circuit, graph: &Graph, k: u32, sig: Sig) -> Result<(), Memory>
+    requires few { graph.now.inputs + length graph.now.outputs + length graph.now.nodes ≤
+        MOST_LINES }
+    requires lines { circuit.old.lines
+        ≡ graph.now.inputs + length graph.now.outputs + length graph.now.nodes }
+    requires output { k < length graph.now.outputs }
+    requires known { IsKnownSig graph.now.inputs (length graph.now.nodes) sig }
+    requires room { length circuit.old.gates < circuit.old.limit }
+    ensures ok { OnOk result (circuit.new ≡ record circuit.old {
+      gates =
+          circuit.old.gates ++ copy_of graph.now.inputs (length graph.now.outputs) k sig;
+    }) }
+    ensures few { OnOk result (length circuit.new.gates ≤ length circuit.old.gates + 1) }
+    ensures narrow { OnOk result (AreNarrow circuit.old.gates → AreNarrow circuit.new.gates) }
+{
+    let (inputs, outputs) = (graph.inputs(), graph.outputs().len() as u32);
+    let target = inputs + k;
+    match sig {
+        Sig::Const(false) => Ok(()),
+        Sig::Const(true) => push(circuit, &[], target),
+        Sig::Is(base) => push(circuit, &[line_of(inputs, outputs, base)], target),
+    }
 }
 
 // Appends a flip where there is room for it.

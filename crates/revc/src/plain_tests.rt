@@ -1,44 +1,71 @@
 ghost use Rattle.std.specs.Prelude.{◌≡◌, length, sum, IfOk};
 
 use crate::plain::plain_plan;
+use dependency_graph::Graph;
 use revc_base::{Entry, Memory, Ref, Tape};
 use std::alloc::Global;
 use std::test::Fail;
 
-// Three writes on two inputs: true, its XOR with the first input, and the AND of this and the second input.
-// The outputs are the last write and the first input.
-fn three_writes(alloc: Global) -> Result<Tape, Memory>
+// Four writes on the inputs x and y: true, the negation of x, the XOR of y and this, and the AND of the two before. The
+// outputs are the AND, the constant true, x, and the XOR.
+fn four_writes(alloc: Global) -> Result<Tape, Memory>
     ensures inputs { IfOk result (λ tape. sum tape.params ≡ 2) }
-    ensures outputs { IfOk result (λ tape. length tape.outputs ≡ 2) }
-    ensures writes { IfOk result (λ tape. length tape.entries ≡ 3) }
+    ensures outputs { IfOk result (λ tape. length tape.outputs ≡ 4) }
+    ensures writes { IfOk result (λ tape. length tape.entries ≡ 4) }
 {
     let mut tape = Tape::new(alloc, vec![in alloc; 1, 1]?);
     tape.push(Entry::Const(true))?;
     tape.push(Entry::Xor(Ref::Input(0), Ref::Write(0)))?;
-    tape.push(Entry::And(Ref::Write(1), Ref::Input(1)))?;
-    tape.set_outputs(vec![in alloc; Ref::Write(2), Ref::Input(0)]?);
+    tape.push(Entry::Xor(Ref::Input(1), Ref::Write(1)))?;
+    tape.push(Entry::And(Ref::Write(1), Ref::Write(2)))?;
+    tape.set_outputs(vec![in alloc; Ref::Write(3), Ref::Write(0), Ref::Input(0), Ref::Write(2)]?);
     Ok(tape)
 }
 
-// Lines 0 and 1 are the inputs, 2 and 3 the outputs, 4 to 6 the work lines. The plan has an X, two CX and a CCX, two
-// copies, and the first four again. On each input the outputs are those of the truth table, and the work lines are clean.
+// Two writes on an input x: true, and false. The outputs are both and x, so that the graph has no nodes.
+fn two_constants(alloc: Global) -> Result<Tape, Memory>
+    ensures inputs { IfOk result (λ tape. sum tape.params ≡ 1) }
+    ensures outputs { IfOk result (λ tape. length tape.outputs ≡ 3) }
+    ensures writes { IfOk result (λ tape. length tape.entries ≡ 2) }
+{
+    let mut tape = Tape::new(alloc, vec![in alloc; 1]?);
+    tape.push(Entry::Const(true))?;
+    tape.push(Entry::Xor(Ref::Write(0), Ref::Write(0)))?;
+    tape.set_outputs(vec![in alloc; Ref::Write(0), Ref::Write(1), Ref::Input(0)]?);
+    Ok(tape)
+}
+
+// Lines 0 and 1 are the inputs, 2 to 5 the outputs, 6 to 8 the work lines. The plan has a CX and an X, two CX, a CCX, a
+// gate for each output, and the first five again. On each input the outputs are those of the truth table, and the work
+// lines are clean.
 #[test]
 fn plain_circuits_map_cleanly(rt: HostRuntime) -> Result<(), Fail> {
-    let tape = three_writes(rt.alloc())?;
-    let circuit = plain_plan(rt.alloc(), &tape)?;
-    assert_eq!(rt; circuit.len(), 10);
-    for (inputs, outputs) in [
-        ([false, false], [false, false]),
-        ([false, true], [true, false]),
-        ([true, false], [false, true]),
-        ([true, true], [false, true]),
+    let circuit = plain_plan(rt.alloc(), &Graph::of(&four_writes(rt.alloc())?)?)?;
+    assert_eq!(rt; circuit.lines(), 9);
+    assert_eq!(rt; circuit.len(), 14);
+    for (x, y, and, xor) in [
+        (false, false, true, true),
+        (false, true, false, false),
+        (true, false, false, false),
+        (true, true, false, true),
     ] {
-        let mut bits = [inputs[0], inputs[1], false, false, false, false, false];
+        let mut bits = [x, y, false, false, false, false, false, false, false];
         circuit.apply(&mut bits);
-        let wanted = [
-            inputs[0], inputs[1], outputs[0], outputs[1], false, false, false,
-        ];
-        assert_eq!(rt; bits, wanted);
+        assert_eq!(rt; bits, [x, y, and, true, x, xor, false, false, false]);
+    }
+    Ok(())
+}
+
+// Line 0 is the input, 1 to 3 are the outputs. The constant true is an X, the constant false no gate.
+#[test]
+fn constant_outputs_need_no_work_line(rt: HostRuntime) -> Result<(), Fail> {
+    let circuit = plain_plan(rt.alloc(), &Graph::of(&two_constants(rt.alloc())?)?)?;
+    assert_eq!(rt; circuit.lines(), 4);
+    assert_eq!(rt; circuit.len(), 2);
+    for x in [false, true] {
+        let mut bits = [x, false, false, false];
+        circuit.apply(&mut bits);
+        assert_eq!(rt; bits, [x, true, false, x]);
     }
     Ok(())
 }

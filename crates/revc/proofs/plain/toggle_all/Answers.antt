@@ -1,11 +1,10 @@
-use Rattle.std.proofs.Common.{false, sum}
-use Rattle.revc_base.specs.declared.tape.Entry.TheVariants.{Const}
-use Rattle.revc.proofs.PlainLemmas.{known_at}
+use Rattle.std.proofs.Common.{length}
+use Rattle.revc.proofs.PlainLemmas.{toggled_more}
 use Rattle.revc.proofs.plain.toggle_all.Goals as goal
 
-pub toggle-requires-clause-known : goal.toggle-requires-clause-known
-toggle-requires-clause-known c =
-    let tape = c.args.tape.now in
-    let entries = c.entries-entry-items.ensures.entries in
-    rw (c.inputs-inputs.ensures.inputs, entries) (known_at (sum tape.params) c.loop-k.k tape.entries (Const false) c.inputs-inputs.ensures.tape.known
-    (rw entries at c.loop-k-test.true))
+pub loop-k-preserved : goal.loop-k-preserved
+loop-k-preserved c =
+    let graph = c.args.graph.now in
+    let made = c.in_ok-toggle.ensures in
+    toggled_more c.args.circuit.now c.loop-k.circuit c.toggle.new.circuit graph.inputs (length graph.outputs) c.loop-k.k graph.nodes c.node.result
+    c.loop-k.invariant c.node.ensures (rw (c.inputs-inputs.ensures.inputs, c.outputs.ensures.outputs) at made.ok) made.few made.narrow
