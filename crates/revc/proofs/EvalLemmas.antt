@@ -129,6 +129,7 @@ one_stop text word (faults.BadBits number) (faults.Refused refusal) a b = absurd
 one_stop text word (faults.BadBits number) (faults.Claim other there bits) a b = absurd (claim_or_bad text word other there b.1 a.1)
 one_stop text word (faults.BadBits number) (faults.BadBits other) a b = ap (λ n. faults.BadBits n) (a.0 ∙ sym b.0)
 one_stop text word faults.Usage other a b = absurd a
+one_stop text word (faults.Lines need limit) other a b = absurd a
 one_stop text word faults.Read other a b = absurd a
 one_stop text word faults.Write other a b = absurd a
 one_stop text word faults.Memory other a b = absurd a

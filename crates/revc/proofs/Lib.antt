@@ -4,9 +4,6 @@ pub mod CompileLemmas
 pub mod TextLemmas
 pub mod PlanLemmas
 pub mod TopLemmas
-pub mod SmallRunLemmas
-pub mod SmallStepLemmas
 pub mod PlainLemmas
-pub mod SmallEndLemmas
-pub mod SmallTextLemmas
+pub mod FormedLemmas
 pub mod WordsLemmas

@@ -1,5 +1,5 @@
--- Each text has one refusal at most, and none where its program is small.
-use Rattle.std.proofs.Common.{◌≡◌, ℕ, Bool, false, ◌<◌, ◌≤◌, List, length, sum, replicate, refl, sym, ap, ◌∙◌, subst, arith}
+-- Each text has one refusal at most, and none where it is well formed and its program has no claims.
+use Rattle.std.proofs.Common.{◌≡◌, ℕ, Bool, false, ◌<◌, ◌≤◌, List, [], length, sum, replicate, refl, sym, ap, ◌∙◌, subst, arith}
 use Rattle.std.proofs.lemmas.List.{length-replicate}
 use Rattle.revs_lexer.specs.declared.token.LexFault.{LexFault}
 use Rattle.revs_lexer.specs.declared.token.LexFault.TheVariants as lexer
@@ -16,16 +16,15 @@ use Rattle.revc.specs.declared.fault.Refusal.TheVariants as refusals
 use Rattle.revs_parser.specs.WellFormed.{IsProgramText, IsWellFormed}
 use Rattle.revs_parser.proofs.OneTextLemmas.{one_text, one_formed}
 use Rattle.revs_terms.specs.Views.{ProgramView}
-use Rattle.revc.specs.Small.{IsSmall}
+use Rattle.revc_base.specs.Tapes.{TapeView}
 use Rattle.revs_terms.specs.Programs.{widths_of}
 use Rattle.revs_terms.specs.Running.{Stamped, Outcome, stuck, went}
 use Rattle.revs_terms.specs.declared.cause.Cause.{Cause}
-use Rattle.revs_terms.specs.Runs.{IsInput, run_of_program, EndsOnAll}
+use Rattle.revs_terms.specs.Runs.{IsInput, IsTapeOf, run_of_program, EndsOnAll}
 use Rattle.revs_terms.specs.Scopes.{ScopeVerdict, scope_verdict, bound_as, two_params, unbound_name}
 use Rattle.revc_base.specs.declared.place.Place.{Place}
-use Rattle.revc.specs.Clean.{IsSmallText}
 use Rattle.revc.specs.Refusals.{OfTokens, IsStuckFor, IsRefusal}
-use Rattle.revc.proofs.SmallTextLemmas.{small_is_formed}
+use Rattle.revs_terms.proofs.TapeLemmas.{one_tape_at_most}
 
 -- ---- how a program ends: its run is looked at on the input of zeros
 
@@ -183,21 +182,25 @@ one_refusal text refusal other a b =
     let g = found_for text other b in
     sym f.same ∙ ap refusal_of (one_found text f.found g.found f.is g.is) ∙ g.same
 
--- a well-formed text has no refusal but that its program is not small
+-- a well-formed text has no refusal but that its program has claims
 pub formed_refusal : (text : List ℕ) (p : ProgramView) (refusal : Refusal) → IsWellFormed text p → IsRefusal text refusal → refusal ≡ refusals.Program
 unfolding refusal_of
 formed_refusal text p refusal w h =
     let f = found_for text refusal h in
     sym f.same ∙ ap refusal_of (one_found text f.found (ended (leaves p.body)) f.is (formed_found text p w))
 
-pub never_small : (text : List ℕ) (p : ProgramView) (refusal : Refusal) → IsRefusal text refusal → IsSmallText text p → ⊥
-never_small text p refusals.TooLong h small = let short = small.text_of.short in omega arith
-never_small text p (refusals.At kind at) h small = apart (formed_refusal text p (refusals.At kind at) (small_is_formed text p small) h)
+-- a well-formed text whose tape has no claims has no refusal
+pub never_refused : (text : List ℕ) (p : ProgramView) (tape : TapeView) (refusal : Refusal) → IsRefusal text refusal → IsWellFormed text p
+    → IsTapeOf p.params p.body tape → tape.claims ≡ [] → ⊥
+never_refused text p tape refusals.TooLong h w of none = let short = w.text_of.short in omega arith
+never_refused text p tape (refusals.At kind at) h w of none = apart (formed_refusal text p (refusals.At kind at) w h)
   where
     apart : refusals.At kind at ≡ refusals.Program → ⊥
     apart e = absurd cc
-never_small text p refusals.Program h small = h.2 (subst (λ (v : ProgramView). IsSmall v.params v.body)
-    (one_formed text p h.0 (small_is_formed text p small) h.1) small.small)
+never_refused text p tape refusals.Program h w of none =
+    let other : IsTapeOf p.params p.body h.2.0 = subst (λ (q : ProgramView). IsTapeOf q.params q.body h.2.0) (one_formed text h.0 p h.1 w) h.2.1 in
+    let same : h.2.0 ≡ tape = one_tape_at_most p.params p.body tape h.2.0 of other in
+    h.2.2 (ap (λ (t : TapeView). t.claims) same ∙ none)
 
 -- what holds of the lexer's tokens
 pub of_tokens : (text : List ℕ) (all : List Token) (P : List Token → Type 0) → (tokens : List Token) × IsTokens text tokens × (all ≡ closed text tokens) → P all

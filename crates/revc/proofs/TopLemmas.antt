@@ -3,7 +3,7 @@ use Rattle.std.proofs.Common.{◌≡◌, ◌≢◌, ℕ, ◌<◌, ◌≤◌, ◌
 use Rattle.std.specs.Prelude.{Option, IfSome, Contains, Result, OnOk, IfErr}
 use Rattle.std.specs.Io.KnownBytes.{IsAtEnd}
 use Rattle.revc.specs.declared.fault.Fault.{Fault}
-use Rattle.revc.specs.declared.fault.Fault.TheVariants.{Usage, Refused, Claim, BadBits, Read, Write, Memory}
+use Rattle.revc.specs.declared.fault.Fault.TheVariants.{Usage, Refused, Claim, Lines, BadBits, Read, Write, Memory}
 use Rattle.revs_parser.specs.declared.limits.TheConstants.{MOST_BYTES}
 use Rattle.revc_io.specs.declared.reading.ReadFault.{ReadFault}
 use Rattle.revc_io.specs.declared.reading.ReadFault.TheVariants as reads
@@ -91,7 +91,8 @@ status_among order text fault h = among order.command order.bits text fault h
     among : (command : Command) (bits : List (List ℕ)) (text : List ℕ) (fault : Fault) → IsCauseOrMemory (record { command = command; bits = bits }) text fault
         → Contains (statuses_of command) (status_of fault)
     among Compile bits text (Refused refusal) h = (1, omega arith, refl)
-    among Compile bits text Memory h = (4, omega arith, refl)
+    among Compile bits text (Lines need limit) h = (2, omega arith, refl)
+    among Compile bits text Memory h = (5, omega arith, refl)
     among Eval bits text (Refused refusal) h = (1, omega arith, refl)
     among Eval bits text (Claim number at digits) h = (2, omega arith, refl)
     among Eval bits text Memory h = (5, omega arith, refl)
@@ -100,13 +101,13 @@ status_among order text fault h = among order.command order.bits text fault h
     among Eval bits text fault h = absurd h
 
 pub write_among : (command : Command) → Contains (statuses_of command) 10
-write_among Compile = (3, omega arith, refl)
+write_among Compile = (4, omega arith, refl)
 write_among Eval = (4, omega arith, refl)
 
 pub reading_among : (command : Command) (fault : ReadFault) → Contains (statuses_of command) (status_of (reading_fault fault))
-reading_among Compile reads.Failed = (2, omega arith, refl)
+reading_among Compile reads.Failed = (3, omega arith, refl)
 reading_among Compile reads.TooLong = (1, omega arith, refl)
-reading_among Compile reads.Memory = (4, omega arith, refl)
+reading_among Compile reads.Memory = (5, omega arith, refl)
 reading_among Eval reads.Failed = (3, omega arith, refl)
 reading_among Eval reads.TooLong = (1, omega arith, refl)
 reading_among Eval reads.Memory = (5, omega arith, refl)
@@ -151,7 +152,7 @@ words_may_end ws words.Usage other = absurd (other refl)
 words_may_end ws words.Memory other = record { each = λ order is. memory_among order.command }
   where
     memory_among : (command : Command) → Contains (statuses_of command) 11
-    memory_among Compile = (4, omega arith, refl)
+    memory_among Compile = (5, omega arith, refl)
     memory_among Eval = (5, omega arith, refl)
 
 -- ---- the statuses

@@ -6,13 +6,9 @@ use Rattle.gate_split.specs.declared.roles.Roles.{Roles}
 use Rattle.mct_circuit.specs.Gates.{GateView, AreNarrow}
 use Rattle.revc_base.specs.Claims.{HoldsEverywhere}
 use Rattle.revc_base.specs.Tapes.{TapeView}
-use Rattle.revs_parser.specs.WellFormed.{IsProgramText}
 use Rattle.revs_terms.specs.Programs.{widths_of}
 use Rattle.revs_terms.specs.Runs.{IsInput, HasOutput, IsTapeOf}
-use Rattle.revs_terms.specs.Scopes.{scope_verdict, bound_as}
-use Rattle.revs_terms.specs.Trees.{Tree}
 use Rattle.revs_terms.specs.Views.{ProgramView}
-use Rattle.revc.specs.Small.{IsSmall}
 
 -- on this input, whatever the borrowed lines hold, the gates put the program's output on the output lines
 pub record ComputesOn (p : ProgramView) (roles : Roles) (gates : List GateView)
@@ -40,10 +36,3 @@ pub record AllHold (p : ProgramView) : Type 0 where
   pub tape : TapeView
   pub of : IsTapeOf p.params p.body tape
   pub hold : AllByRecursion (HoldsEverywhere tape) tape.claims
-
--- the text is that of this small program, with its names bound as the scope rule says
-pub record IsSmallText (text : List ℕ) (p : ProgramView) : Type 0 where
-  pub unbound : Tree
-  pub text_of : IsProgramText text (record p { body = unbound })
-  pub bound : scope_verdict p.params unbound ≡ bound_as p.body
-  pub small : IsSmall p.params p.body

@@ -1,7 +1,7 @@
 -- Each command by three definitions: what it gives for a text, which fault it may end with for one, and where it serves.
 use Rattle.std.specs.Prelude.{◌≡◌, ℕ, List, [], ◌∷◌}
 use Rattle.revc.specs.declared.fault.Fault.{Fault}
-use Rattle.revc.specs.declared.fault.Fault.TheVariants.{Usage, Read, Write, Memory}
+use Rattle.revc.specs.declared.fault.Fault.TheVariants.{Usage, Lines, Read, Write, Memory}
 use Rattle.revc.specs.declared.words.Command.{Command}
 use Rattle.revc.specs.declared.words.Command.TheVariants as commands
 use Rattle.revc.specs.Words.{OrderView}
@@ -27,11 +27,12 @@ serves commands.Eval = eval.Serves
 
 -- the statuses with which a command may end
 abbrev pub statuses_of : Command → List ℕ
-statuses_of commands.Compile = 0 ∷ 3 ∷ 9 ∷ 10 ∷ 11 ∷ []
+statuses_of commands.Compile = 0 ∷ 3 ∷ 6 ∷ 9 ∷ 10 ∷ 11 ∷ []
 statuses_of commands.Eval = 0 ∷ 3 ∷ 4 ∷ 9 ∷ 10 ∷ 11 ∷ 12 ∷ []
 
--- A fault is exact where it comes wherever it has its cause. So far each is.
+-- A fault is exact where it comes wherever it has its cause. A budget is no such fault: it may be kept where it could be passed.
 abbrev pub IsExact : Fault → Type 0
+IsExact (Lines need limit) = ⊥
 IsExact fault = Unit {0}
 
 abbrev pub Gives : OrderView → List ℕ → List ℕ → Type 0

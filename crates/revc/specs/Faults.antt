@@ -4,7 +4,7 @@ use Rattle.std.specs.Fmt.{decimal}
 use Rattle.revc_base.specs.declared.place.Place.{Place}
 use Rattle.revs_terms.specs.Causes.{cause_word}
 use Rattle.revc.specs.declared.fault.Fault.{Fault}
-use Rattle.revc.specs.declared.fault.Fault.TheVariants.{Usage, Refused, Claim, BadBits, Read, Write, Memory}
+use Rattle.revc.specs.declared.fault.Fault.TheVariants.{Usage, Refused, Claim, Lines, BadBits, Read, Write, Memory}
 use Rattle.revc.specs.declared.fault.Kind.{Kind}
 use Rattle.revc.specs.declared.fault.Kind.TheVariants.{BadByte, LongName, LongNumber, Syntax, Nesting, Inputs, Unbound, TwoParams, Stuck}
 use Rattle.revc.specs.declared.fault.Refusal.{Refusal}
@@ -15,6 +15,7 @@ abbrev pub status_of : Fault → ℕ
 status_of Usage = 2
 status_of (Refused refusal) = 3
 status_of (Claim number at bits) = 4
+status_of (Lines need limit) = 6
 status_of Read = 9
 status_of Write = 10
 status_of Memory = 11
@@ -52,6 +53,11 @@ claim_line number at bits =
     codes "revc: claim " ++ (decimal number ++ (codes " at " ++ (place_text at
     ++ (codes " fails on " ++ (digits_of bits ++ codes "\n")))))
 
+-- the line of a budget of lines that is passed
+abbrev pub lines_line : ℕ → ℕ → List ℕ
+lines_line need limit =
+    codes "revc: lines " ++ (decimal need ++ (codes " over " ++ (decimal limit ++ codes "\n")))
+
 -- the line of a bit word that does not fit
 abbrev pub bits_line : ℕ → List ℕ
 bits_line word = codes "revc: bad bits in word " ++ (decimal word ++ codes "\n")
@@ -61,6 +67,7 @@ abbrev pub line_of : Fault → List ℕ
 line_of Usage = codes "revc: bad command line\n"
 line_of (Refused refusal) = refusal_line refusal
 line_of (Claim number at bits) = claim_line number at bits
+line_of (Lines need limit) = lines_line need limit
 line_of (BadBits word) = bits_line word
 line_of Read = codes "revc: read fault\n"
 line_of Write = codes "revc: write fault\n"

@@ -1,6 +1,5 @@
 pub mod Words
 pub mod Faults
-pub mod Small
 pub mod Refusals
 pub mod Clean
 pub mod Commands

@@ -16,6 +16,9 @@ pub enum Fault {
     /// The claim with this number, counted from 1, fails on these bits. Its term is at the place.
     #[error("claim fails")]
     Claim { number: u32, at: Place, bits: Bits },
+    /// A circuit needs so many lines, more than the limit.
+    #[error("lines over budget")]
+    Lines { need: u32, limit: u32 },
     /// The word of bits with this number, counted from 1, does not fit.
     #[error("bad bits")]
     BadBits { word: u32 },
@@ -34,7 +37,7 @@ pub enum Refusal {
     TooLong,
     /// It is refused at this place.
     At(Kind, Place),
-    /// It is well formed, and its program is not small.
+    /// It is well formed, and its program has claims.
     Program,
 }
 
@@ -62,6 +65,7 @@ impl Fault {
             Fault::Usage => 2,
             Fault::Refused(_) => 3,
             Fault::Claim { .. } => 4,
+            Fault::Lines { .. } => 6,
             Fault::Read => 9,
             Fault::Write => 10,
             Fault::Memory => 11,

@@ -11,7 +11,6 @@ mod plain;
 mod plain_tests;
 mod program;
 mod report;
-mod small;
 #[cfg(test)]
 mod tests;
 mod top;

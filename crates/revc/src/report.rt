@@ -3,7 +3,7 @@ ghost use Rattle.std.specs.Prelude.{◌≡◌, ◌++◌, codes};
 ghost use Rattle.std.specs.Fmt.{decimal};
 ghost use Rattle.revc_io.specs.Faults.{HasCause};
 ghost use Rattle.revc_io.specs.Passing.{Gathers, Writes};
-ghost use Rattle.revc.specs.Faults.{bits_line, claim_line, digits_of, kind_text, line_of, place_text, refusal_line};
+ghost use Rattle.revc.specs.Faults.{bits_line, claim_line, digits_of, kind_text, line_of, lines_line, place_text, refusal_line};
 ghost use Rattle.revc.specs.Top.{Receives};
 
 use crate::digits::put_line_of_digits;
@@ -37,6 +37,7 @@ fn put_line<E: Sink>(buffer: &mut Buffer, err: &mut E, fault: &Fault) -> Result<
         Fault::Usage => buffer.put(err, b"revc: bad command line\n"),
         Fault::Refused(refusal) => put_refusal(buffer, err, *refusal),
         Fault::Claim { number, at, bits } => put_claim(buffer, err, *number, *at, bits.bits()),
+        Fault::Lines { need, limit } => put_lines(buffer, err, *need, *limit),
         Fault::BadBits { word } => put_bad_bits(buffer, err, *word),
         Fault::Read => buffer.put(err, b"revc: read fault\n"),
         Fault::Write => buffer.put(err, b"revc: write fault\n"),
@@ -125,6 +126,26 @@ fn put_failing<E: Sink>(buffer: &mut Buffer, err: &mut E, bits: &[bool]) -> Resu
 {
     buffer.put(err, b" fails on ")?;
     put_line_of_digits(buffer, err, bits)
+}
+
+fn put_lines<E: Sink>(buffer: &mut Buffer, err: &mut E, need: u32, limit: u32) -> Result<(), Failed>
+    ensures bytes { Gathers result (E.held err.old) (E.held err.new) buffer.old buffer.new
+        (lines_line need limit) }
+    ensures cause { HasCause (E.faults err.old) (E.faults err.new) result }
+{
+    buffer.put(err, b"revc: lines ")?;
+    put_decimal(buffer, err, need as u64)?;
+    put_over(buffer, err, limit)
+}
+
+fn put_over<E: Sink>(buffer: &mut Buffer, err: &mut E, limit: u32) -> Result<(), Failed>
+    ensures bytes { Gathers result (E.held err.old) (E.held err.new) buffer.old buffer.new
+        (codes " over " ++ (decimal limit ++ codes "\n")) }
+    ensures cause { HasCause (E.faults err.old) (E.faults err.new) result }
+{
+    buffer.put(err, b" over ")?;
+    put_decimal(buffer, err, limit as u64)?;
+    buffer.put(err, b"\n")
 }
 
 fn put_bad_bits<E: Sink>(buffer: &mut Buffer, err: &mut E, word: u32) -> Result<(), Failed>

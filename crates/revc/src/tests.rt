@@ -19,8 +19,26 @@ const CHAIN_FILE: &[u8] =
 .outputs x0 x1 y0 w0 w1\n.constants --000\n.garbage -----\n.begin\nt3 x1 x0 w0\nt2 x0 w1\nt2 w0 w1
 t2 w1 y0\nt2 w0 w1\nt2 x0 w1\nt3 x1 x0 w0\n.end\n";
 
-const SQUARE_FILE: &[u8] = b".version 2.0\n.numvars 3\n.variables x0 y0 w0\n.inputs x0 y0 w0
-.outputs x0 y0 w0\n.constants -00\n.garbage ---\n.begin\nt2 x0 w0\nt2 w0 y0\nt2 x0 w0\n.end\n";
+const FALSE_FILE: &[u8] =
+    b".version 2.0\n.numvars 2\n.variables x0 y0\n.inputs x0 y0\n.outputs x0 y0
+.constants -0\n.garbage --\n.begin\n.end\n";
+
+const TRUE_FILE: &[u8] = b".version 2.0\n.numvars 2\n.variables x0 y0\n.inputs x0 y0\n.outputs x0 y0
+.constants -0\n.garbage --\n.begin\nt1 y0\n.end\n";
+
+const ASSIGNED_FILE: &[u8] = b".version 2.0\n.numvars 3\n.variables x0 x1 y0\n.inputs x0 x1 y0
+.outputs x0 x1 y0\n.constants --0\n.garbage ---\n.begin\nt2 x1 y0\n.end\n";
+
+const KEPT_FILE: &[u8] =
+    b".version 2.0\n.numvars 6\n.variables x0 x1 x2 y0 y1 y2\n.inputs x0 x1 x2 y0 y1 y2
+.outputs x0 x1 x2 y0 y1 y2\n.constants ---000\n.garbage ------\n.begin\nt2 x0 y0\nt2 x1 y1\nt2 x2 y2\n.end\n";
+
+const TURNED_FILE: &[u8] =
+    b".version 2.0\n.numvars 6\n.variables x0 x1 x2 y0 y1 y2\n.inputs x0 x1 x2 y0 y1 y2
+.outputs x0 x1 x2 y0 y1 y2\n.constants ---000\n.garbage ------\n.begin\nt2 x2 y0\nt2 x0 y1\nt2 x1 y2\n.end\n";
+
+const FIRST_FILE: &[u8] = b".version 2.0\n.numvars 4\n.variables x0 x1 x2 y0\n.inputs x0 x1 x2 y0
+.outputs x0 x1 x2 y0\n.constants ---0\n.garbage ----\n.begin\nt2 x0 y0\n.end\n";
 
 const BRACKETS_FILE: &[u8] =
     b".version 2.0\n.numvars 6\n.variables x0 x1 y0 w0 w1 w2\n.inputs x0 x1 y0 w0 w1 w2
@@ -85,7 +103,16 @@ const CASES: &[(&[u8], &[u8], u8, &[u8])] = &[
     (b"", b"// \xff\nmain(a:bool)=\r\n\ta//", 0, NAME_FILE),
     (BITS, b"a <> b && a", 0, CHAIN_FILE),
     (BITS, b"(a <> b) && (b <> (a))", 0, BRACKETS_FILE),
-    (BIT, b"a && a", 0, SQUARE_FILE),
+    (BIT, b"a && a", 0, NAME_FILE),
+    (BIT, b"a <> a", 0, FALSE_FILE),
+    (BIT, b"true", 0, TRUE_FILE),
+    (BITS, ASSIGNED, 0, ASSIGNED_FILE),
+    (THREE, b"rotate 0 r", 0, KEPT_FILE),
+    (THREE, b"rotate 2 r", 0, TURNED_FILE),
+    (THREE, b"r.[0..0]", 0, FIRST_FILE),
+    (THREE, b"rotate 3 r", 3, b"revc: 1:22 Rotate\n"),
+    (BITS, CLAIMED, 3, REFUSED),
+    (BIT, b"{ assert (a <> a <> true); a }", 3, REFUSED),
     (BIT, b"a & a", 3, b"revc: 1:21 BadByte\n"),
     (
         b"",
@@ -101,9 +128,8 @@ const CASES: &[(&[u8], &[u8], u8, &[u8])] = &[
         3,
         b"revc: 1:7 Inputs\n",
     ),
-    (BIT, b"true", 3, REFUSED),
     (BIT, b"fun x -> x", 3, b"revc: 1:19 NoOutput\n"),
-    (b"", b"main (a : bool[1]) = a", 3, REFUSED),
+    (b"", b"main (a : bool[1]) = a", 0, NAME_FILE),
     (BIT, b"z", 3, b"revc: 1:19 Unbound\n"),
     (TWICE, b"a", 3, b"revc: 1:18 TwoParams\n"),
     (
@@ -149,7 +175,26 @@ const LONG_CASES: &[(&[(&[u8], usize)], u8, &[u8])] = &[
         3,
         b"revc: 1:118 Nesting\n",
     ),
-    (&[(b"main (a : bool) = a", 1), (b" <> a", 1001)], 3, REFUSED),
+    (
+        &[(b"main (a : bool) = a", 1), (b" <> a", 1001)],
+        0,
+        FALSE_FILE,
+    ),
+    (
+        &[
+            (LONG, 1),
+            (b"{\nlet s = append r r;\nlet t = append s s;\n", 1),
+            (b"rotate 0 t;\n", 5000),
+            (b"r.[0]\n}", 1),
+        ],
+        3,
+        b"revc: 4095:1 Work\n",
+    ),
+    (
+        &[(BITS, 1), (b"a && b", 1), (b" <> a && b", 2047)],
+        6,
+        b"revc: lines 4097 over 4096\n",
+    ),
 ];
 
 // The head and the body of a program, a bit word, and then the status and the text on standard output or standard error. The
@@ -424,6 +469,21 @@ fn texts_are_compiled_or_refused(rt: HostRuntime) -> Result<(), Fail> {
     for (pieces, status, written) in LONG_CASES {
         check(&rt, rt.alloc(), &["compile"], pieces, *status, written)?;
     }
+    Ok(())
+}
+
+// A program that needs just as many lines as the budget has: two inputs, an output, and a work line for each of 2,047 AND
+// and 2,046 XOR.
+#[test]
+fn the_budget_of_lines_is_used_up(rt: HostRuntime) -> Result<(), Fail> {
+    let alloc = rt.alloc();
+    let words = words_of(alloc, &["compile"])?;
+    let text = text_of(alloc, &[(BITS, 1), (b"a && b", 1), (b" <> a && b", 2046)])?;
+    let mut source = SureSource::new(text);
+    let mut out = MemorySink::new(alloc, 1_000_000, Vec::new(alloc), 1_000_000)?;
+    let mut err = MemorySink::new(alloc, 100, Vec::new(alloc), 100)?;
+    assert_eq!(rt; revc(alloc, &words, &mut source, &mut out, &mut err), 0);
+    assert!(rt; out.bytes().starts_with(b".version 2.0\n.numvars 4096\n"));
     Ok(())
 }
 

@@ -6,7 +6,8 @@ use Rattle.real_format.specs.Compiled.{compiled_text}
 use Rattle.revc.specs.declared.commands.Prepared.{Prepared}
 use Rattle.revc.specs.declared.commands.Prepared.TheVariants.{File, Digits}
 use Rattle.revc.specs.declared.fault.Fault.{Fault}
-use Rattle.revc.specs.declared.fault.Fault.TheVariants.{Refused, Memory}
+use Rattle.revc.specs.declared.fault.Fault.TheVariants.{Refused, Lines, Memory}
+use Rattle.revc.specs.Commands.Compile.{PassesLines}
 use Rattle.revc.specs.Commands.Eval.{Stops}
 use Rattle.revc.specs.Faults.{digits_of}
 use Rattle.revc.specs.Refusals.{IsRefusal}
@@ -30,9 +31,10 @@ abbrev pub CanBeWritten : Prepared → Type 0
 CanBeWritten (File laid) = IsWritable laid
 CanBeWritten (Digits bits) = Unit {0}
 
--- why a text has no clean plan: it is refused so, or there was no memory left
+-- why a text has no clean plan: it is refused so, it has too many lines, or there was no memory left
 abbrev pub IsCompileFault : List ℕ → Fault → Type 0
 IsCompileFault text (Refused refusal) = IsRefusal text refusal
+IsCompileFault text (Lines need limit) = PassesLines text need limit
 IsCompileFault text Memory = Unit {0}
 IsCompileFault text _ = ⊥
 
