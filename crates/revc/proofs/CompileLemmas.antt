@@ -1,5 +1,5 @@
 -- `compile` gives a file for a text, or has one exact cause, and serves each program without claims that keeps the budget.
-use Rattle.std.proofs.Common.{◌≡◌, ℕ, ◌<◌, List, ap, ◌∙◌, subst, arith}
+use Rattle.std.proofs.Common.{◌≡◌, ℕ, List, ap, subst, arith}
 use Rattle.revc.specs.declared.fault.Fault.{Fault}
 use Rattle.revc.specs.declared.fault.Fault.TheVariants as faults
 use Rattle.revc.specs.declared.fault.Refusal.{Refusal}
@@ -10,7 +10,6 @@ use Rattle.revc.specs.Commands.Compile.{IsCause, IsCompiled, KeepsLines, LeavesN
 use Rattle.revc.specs.Refusals.{HasClaims, IsRefusal}
 use Rattle.revc.specs.Words.{OrderView}
 use Rattle.revc_base.specs.Tapes.{TapeView}
-use Rattle.revs_parser.specs.WellFormed.{IsWellFormed}
 use Rattle.revs_parser.proofs.OneTextLemmas.{one_formed}
 use Rattle.revs_terms.specs.Runs.{IsTapeOf}
 use Rattle.revs_terms.specs.Views.{ProgramView}

@@ -1,5 +1,5 @@
 -- The text of a clean plan is a clean file for the one program of a text.
-use Rattle.std.proofs.Common.{◌≡◌, ℕ, ◌+◌, ◌≤◌, ◌<◌, Bool, List, [], ◌∷◌, length, map, sum, refl, sym, ap, ◌∙◌, subst, arith}
+use Rattle.std.proofs.Common.{◌≡◌, ℕ, ◌+◌, ◌≤◌, Bool, List, [], ◌∷◌, length, map, sum, refl, sym, ap, ◌∙◌, subst, arith}
 use Rattle.std.specs.Prelude.{max, Result, IsErrAnd, IfErr}
 use Rattle.std.proofs.lemmas.Result.{err_from_is_err_and}
 use Rattle.std.specs.List.{AllByRecursion}
@@ -16,7 +16,6 @@ use Rattle.revc_base.specs.declared.tape.Ref.{Ref}
 use Rattle.revc_base.specs.Tapes.{TapeView, IsTape, bit_on, outputs_on}
 use Rattle.revs_parser.specs.WellFormed.{IsWellFormed}
 use Rattle.revs_parser.proofs.OneTextLemmas.{one_formed}
-use Rattle.revs_terms.specs.Programs.{widths_of}
 use Rattle.revs_terms.specs.Runs.{IsInput, IsTapeOf}
 use Rattle.revs_terms.specs.Views.{ProgramView}
 use Rattle.revs_terms.proofs.TapeLemmas.{one_tape_at_most, tape_gives_output}

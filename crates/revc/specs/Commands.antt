@@ -30,7 +30,8 @@ abbrev pub statuses_of : Command → List ℕ
 statuses_of commands.Compile = 0 ∷ 3 ∷ 6 ∷ 9 ∷ 10 ∷ 11 ∷ []
 statuses_of commands.Eval = 0 ∷ 3 ∷ 4 ∷ 9 ∷ 10 ∷ 11 ∷ 12 ∷ []
 
--- A fault is exact where it comes wherever it has its cause. A budget is no such fault: it may be kept where it could be passed.
+-- A fault is exact where it comes wherever it has its cause. A budget is no such fault: it may be kept where it could
+-- be passed.
 abbrev pub IsExact : Fault → Type 0
 IsExact (Lines need limit) = ⊥
 IsExact fault = Unit {0}

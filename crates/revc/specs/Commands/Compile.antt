@@ -37,8 +37,8 @@ pub record LeavesNoClaims (text : List ℕ) (tape : TapeView) : Type 0 where
   pub tape_of : IsTapeOf program.params program.body tape
   pub no_claims : tape.claims ≡ []
 
--- The lines of the program's tape are more than the limit. The inputs and outputs are needed at least, and one line more
--- than the limit.
+-- The lines of the program's tape are more than the limit. Needed are at least the inputs and outputs, and one line
+-- more than the limit.
 pub record PassesLines (text : List ℕ) (need limit : ℕ) : Type 0 where
   pub tape : TapeView
   pub left : LeavesNoClaims text tape

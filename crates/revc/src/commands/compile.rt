@@ -25,8 +25,8 @@ pub fn one_outcome()
 {}
 
 /// The plan of the clean file of a text's program without claims, within the budgets. A text is refused exactly for its
-/// refusal; the budget of lines is passed only where the tape of the program passes it; no other fault comes but want of
-/// memory.
+/// refusal; the budget of lines is passed only where the tape of the program passes it; no other fault comes but want
+/// of memory.
 pub fn compile(alloc: Global, text: &[u8]) -> Result<Laid, Fault>
     requires { length text.now ≤ MOST_BYTES }
     ensures ok { IfOk result (λ laid. IsCompiled text.now (file_of laid)) }

@@ -10,7 +10,8 @@ returns-in_err-put-clause-bytes g c =
 
 pub returns-in_err-put_decimal-clause-bytes : goal.returns-in_err-put_decimal-clause-bytes
 returns-in_err-put_decimal-clause-bytes g c =
-    failed_call c.args.buffer.now _ (decimal c.args.need) (codes " over " ++ (decimal c.args.limit ++ codes "\n")) _ _ c.from_residual-in_err-put_decimal.ensures.1 c.in_err-put_decimal.ensures.bytes
+    failed_call c.args.buffer.now _ (decimal c.args.need) (codes " over " ++ (decimal c.args.limit ++ codes "\n")) _ _
+    c.from_residual-in_err-put_decimal.ensures.1 c.in_err-put_decimal.ensures.bytes
     (step (codes "revc: lines ") (decimal c.args.need ++ (codes " over " ++ (decimal c.args.limit ++ codes "\n"))) c.in_ok-put.ensures.bytes (begun _ _ _))
 
 pub returns-clause-bytes : goal.returns-clause-bytes
