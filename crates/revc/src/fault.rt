@@ -5,8 +5,8 @@ use revc_base::{Bits, Place};
 use revs_terms::Cause;
 use thiserror::Error;
 
-/// Why a command did not end well. Each fault has a status and a line of its own, which `report` writes; it carries what
-/// the line shows.
+/// Why a command did not end well. Each fault has a status and a line of its own, which `report` writes; it carries
+/// what the line shows.
 #[derive(Debug, Drop, Error)]
 pub enum Fault {
     #[error("bad command line")]

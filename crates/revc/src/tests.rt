@@ -65,8 +65,8 @@ const NO_ORDERS: &[&[&str]] = &[
     &["eval", "1", "--", "--"],
 ];
 
-// The heads of most programs below: one bit, two bits, two of one name, a bit and a register of two, a register of two, of
-// three, of four, of 1,024 bits.
+// The heads of most programs below: one bit, two bits, two of one name, a bit and a register of two, a register of two,
+// of three, of four, of 1,024 bits.
 const BIT: &[u8] = b"main (a : bool) = ";
 
 const BITS: &[u8] = b"main (a : bool) (b : bool) = ";
@@ -197,8 +197,8 @@ const LONG_CASES: &[(&[(&[u8], usize)], u8, &[u8])] = &[
     ),
 ];
 
-// The head and the body of a program, a bit word, and then the status and the text on standard output or standard error. The
-// outputs are worked out by hand.
+// The head and the body of a program, a bit word, and then the status and the text on standard output or standard
+// error. The outputs are worked out by hand.
 const VALUES: &[(&[u8], &[u8], &str, u8, &[u8])] = &[
     // Bits and words.
     (BITS, b"true && a", "10", 0, b"1\n"),
@@ -423,8 +423,8 @@ fn text_of(alloc: Global, pieces: &[(&[u8], usize)]) -> Result<Vec<u8>, AllocErr
     Ok(text)
 }
 
-// The call on a source that holds a text ends with this status, and with what was written: on standard output where it is 0, and on
-// standard error else.
+// The call on a source that holds a text ends with this status, and with what was written: on standard output where it
+// is 0, and on standard error else.
 fn check(
     rt: &impl Abort,
     alloc: Global,
@@ -472,18 +472,76 @@ fn texts_are_compiled_or_refused(rt: HostRuntime) -> Result<(), Fail> {
     Ok(())
 }
 
-// A program that needs just as many lines as the budget has: two inputs, an output, and a work line for each of 2,047 AND
-// and 2,046 XOR.
-#[test]
-fn the_budget_of_lines_is_used_up(rt: HostRuntime) -> Result<(), Fail> {
-    let alloc = rt.alloc();
+// What the call writes for a text at status 0.
+fn file_of(rt: &impl Abort, alloc: Global, text: Vec<u8>) -> Result<MemorySink, Fail> {
     let words = words_of(alloc, &["compile"])?;
-    let text = text_of(alloc, &[(BITS, 1), (b"a && b", 1), (b" <> a && b", 2046)])?;
     let mut source = SureSource::new(text);
     let mut out = MemorySink::new(alloc, 1_000_000, Vec::new(alloc), 1_000_000)?;
     let mut err = MemorySink::new(alloc, 100, Vec::new(alloc), 100)?;
     assert_eq!(rt; revc(alloc, &words, &mut source, &mut out, &mut err), 0);
+    Ok(out)
+}
+
+// A program that needs just as many lines as the budget has: two inputs, an output, and a work line for each of 2,047
+// AND and 2,046 XOR.
+#[test]
+fn the_budget_of_lines_is_used_up(rt: HostRuntime) -> Result<(), Fail> {
+    let pieces: &[(&[u8], usize)] = &[(BITS, 1), (b"a && b", 1), (b" <> a && b", 2046)];
+    let out = file_of(&rt, rt.alloc(), text_of(rt.alloc(), pieces)?)?;
     assert!(rt; out.bytes().starts_with(b".version 2.0\n.numvars 4096\n"));
+    Ok(())
+}
+
+// Programs of `examples/`, the first lines of their files, and how many lines these have: one for each gate, and nine.
+// Gates and lines of the circuits are counted by hand.
+const EXAMPLES: &[(&[u8], &[u8], usize)] = &[
+    (
+        b"main (x : bool) (y : bool) (c : bool) = (x && y) <> (c && (x <> y))",
+        b".version 2.0\n.numvars 8\n",
+        13 + 9,
+    ),
+    (
+        b"main (a : bool) (b : bool) (c : bool) = a && b <> a && c <> b && c",
+        b".version 2.0\n.numvars 9\n",
+        15 + 9,
+    ),
+    (
+        b"main (a : bool) (b : bool) (c : bool) = {
+  let sum x y = x <> y;
+  let carry x y z = x && y <> z && sum x y;
+  reg [sum (sum a b) c; carry a b c]
+}",
+        b".version 2.0\n.numvars 11\n",
+        22 + 9,
+    ),
+    (
+        b"main (a : bool[3]) (b : bool[3]) = {
+  let not x = true <> x;
+  let same x y = not (x <> y);
+  let below x y = not x && y;
+  let s2 = same a.[2] b.[2];
+  let s1 = same a.[1] b.[1] && s2;
+  let s0 = same a.[0] b.[0] && s1;
+  reg [below a.[2] b.[2] <> s2 && below a.[1] b.[1] <> s1 && below a.[0] b.[0]; s0]
+}",
+        b".version 2.0\n.numvars 26\n",
+        60 + 9,
+    ),
+    (
+        b"main (r : bool[3]) = append (rotate 1 r) (reg [r.[0] <> r.[1] <> r.[2]])",
+        b".version 2.0\n.numvars 9\n",
+        12 + 9,
+    ),
+];
+
+#[test]
+fn circuits_of_the_examples_are_of_their_size(rt: HostRuntime) -> Result<(), Fail> {
+    for (text, head, lines) in EXAMPLES {
+        let out = file_of(&rt, rt.alloc(), text.to_vec(rt.alloc())?)?;
+        assert!(rt; out.bytes().starts_with(head));
+        let ends = out.bytes().iter().filter(|byte| **byte == b'\n').count();
+        assert_eq!(rt; ends, *lines);
+    }
     Ok(())
 }
 
@@ -525,8 +583,8 @@ fn other_words_are_no_order(rt: HostRuntime) -> Result<(), Fail> {
     Ok(())
 }
 
-// The sink takes 8 bytes a call, and the call with this number fails; a text goes out in one piece, and is flushed at the end. The
-// first call of standard error fails too.
+// The sink takes 8 bytes a call, and the call with this number fails; a text goes out in one piece, and is flushed at
+// the end. The first call of standard error fails too.
 const FAULTS: &[(&[&str], u64, u8, (&[u8], usize))] = &[
     (&["compile"], 1, 10, (PRODUCT_FILE, 0)),
     (&["compile"], 2, 10, (PRODUCT_FILE, 8)),

@@ -48,7 +48,8 @@ pub fn revc<S: Source, K: Sink, E: Sink>(
     ensures calm { result ≡ 0
         → (S.faults source.new ≡ S.faults source.old) × (K.faults out.new ≡ K.faults out.old) }
 
-    // Where an exact cause holds, its status comes; where the order serves, success, unless memory or a device is wanting.
+    // Where an exact cause holds, its status comes; where the order serves, success, unless memory or a device is
+    // wanting.
     ensures exact { result ≢ 9 → result ≢ 11 → Served (words_of words.now) (S.rest source.old)
         (λ order text. IsStatusOfAll order text result) }
     ensures completes { ¬ Rose (S.faults source.old) (S.faults source.new)
