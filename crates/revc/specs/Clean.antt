@@ -20,8 +20,8 @@ pub record ComputesOn (p : ProgramView) (roles : Roles) (gates : List GateView)
 
 -- A clean file for a program, with so many borrowed lines: by the meaning of its format its lines have these roles and
 -- its gates are these, each a flip with at most two controls, all positive; and they compute the program on every input.
-pub record IsClean (Means : List ℕ → Roles → List GateView → Type 0) (text : List ℕ) (p : ProgramView)
-    (borrowed : ℕ) : Type 0 where
+pub record IsClean (Means : List ℕ → Roles → List GateView → Type 0) (text : List ℕ)
+    (p : ProgramView) (borrowed : ℕ) : Type 0 where
   pub roles : Roles
   pub gates : List GateView
   pub meaning : Means text roles gates

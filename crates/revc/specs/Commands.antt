@@ -50,7 +50,8 @@ pub record HasOneOutcome (command : Command) : Type 0 where
   pub never_both : (order : OrderView) (text written : List ℕ) (fault : Fault)
       → gives command order text written → causes command order text fault → IsExact fault → ⊥
   pub one_cause : (order : OrderView) (text : List ℕ) (fault exact : Fault)
-      → causes command order text fault → causes command order text exact → IsExact exact → exact ≡ fault
+      → causes command order text fault → causes command order text exact → IsExact exact
+      → exact ≡ fault
   pub free : (order : OrderView) (text : List ℕ) (fault : Fault)
       → serves command order text → causes command order text fault → ⊥
 

@@ -11,7 +11,8 @@ use Rattle.revc.specs.Faults.{status_of, line_of}
 use Rattle.revc.specs.Words.{OrderView, IsOrder}
 
 -- this holds of the order that the words give and the text that the source gives, where it tells it
-pub record Served (words : List (List ℕ)) (rest : Option (List ℕ)) (P : OrderView → List ℕ → Type 0) : Type 0 where
+pub record Served (words : List (List ℕ)) (rest : Option (List ℕ))
+    (P : OrderView → List ℕ → Type 0) : Type 0 where
   pub each : (order : OrderView) → IsOrder words order → IfSome rest (P order)
 
 -- the status is one of those with which the command may end
@@ -32,7 +33,8 @@ pub record GrowsByPrefix (P : List ℕ → Type 0) (old new : Option (List ℕ))
 
 -- the sink received the whole line, or a prefix of it where its count of faults rose
 abbrev pub Receives : Option (List ℕ) → Option (List ℕ) → ℕ → ℕ → List ℕ → Type 0
-Receives old new before now line = Appends old new line ⊎ (Rose before now × AppendsFront old new line)
+Receives old new before now line =
+    Appends old new line ⊎ (Rose before now × AppendsFront old new line)
 
 -- the sink received the line of a fault with this status
 pub record Reports (status : ℕ) (old new : Option (List ℕ)) (before now : ℕ) : Type 0 where

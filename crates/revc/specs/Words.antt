@@ -41,7 +41,8 @@ is_option _ = false
 pub data Reads : List (List ℕ) → List (List ℕ) → Type 0 where
   nothing_left : Reads [] []
   -- `--` ends the options: every word behind it is positional
-  all_behind : {word : List ℕ} {words : List (List ℕ)} → word ≡ codes "--" → Reads (word ∷ words) words
+  all_behind : {word : List ℕ} {words : List (List ℕ)}
+      → word ≡ codes "--" → Reads (word ∷ words) words
   positional : {word : List ℕ} {words plain : List (List ℕ)}
       → is_option word ≡ false → Reads words plain → Reads (word ∷ words) (word ∷ plain)
 
@@ -56,4 +57,6 @@ pub record HasNoOrder (words : List (List ℕ)) : Type 0 where
   pub refuted : (order : OrderView) → ¬ IsOrder words order
 
 abbrev pub OneOrder : Type 0
-OneOrder = (words : List (List ℕ)) (one other : OrderView) → IsOrder words one → IsOrder words other → one ≡ other
+OneOrder =
+    (words : List (List ℕ)) (one other : OrderView)
+    → IsOrder words one → IsOrder words other → one ≡ other

@@ -46,7 +46,8 @@ pub record IsCleanPlan (laid : LaidView) (p : ProgramView) : Type 0 where
 -- the plan of the graph needs more lines than the budget has
 abbrev pub PassesBudget : GraphView → Fault → Type 0
 PassesBudget g (Lines need limit) =
-    (limit < graph_lines g) × (need ≡ max (g.inputs + length g.outputs) (limit + 1)) × (limit ≡ LINE_BUDGET)
+    (limit < graph_lines g) × (need ≡ max (g.inputs + length g.outputs) (limit + 1))
+    × (limit ≡ LINE_BUDGET)
 PassesBudget g _ = ⊥
 
 -- the program with its names bound

@@ -11,4 +11,5 @@ are_read (word ∷ words) = bytes_eq word (codes "--") || (not (is_option word) 
 -- the words without the first `--`
 abbrev pub positional_words : List (List ℕ) → List (List ℕ)
 positional_words [] = []
-positional_words (word ∷ words) = if bytes_eq word (codes "--") then words else word ∷ positional_words words
+positional_words (word ∷ words) =
+    if bytes_eq word (codes "--") then words else word ∷ positional_words words
