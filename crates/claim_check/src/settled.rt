@@ -1,0 +1,86 @@
+// The settled graph.
+ghost use Rattle.std.specs.Prelude.{◌≡◌, ◌<◌, length, slice_get, Some};
+ghost use Rattle.dependency_graph.specs.Uses.{last_use_in};
+ghost use Rattle.claim_check.specs.Settled.{IsSettled, as_graph};
+
+use dependency_graph::{Node, Sig};
+use std::marker::Model;
+
+/// The nodes of a graph on which an output rests, renumbered in their order, after every claim was settled. Contracts
+/// see it as the number of inputs and the lists of nodes and outputs.
+#[derive(Drop)]
+pub struct Settled {
+    inputs: u32,
+    nodes: Vec<Node>,
+    outputs: Vec<Sig>,
+    last_uses: Vec<u32>,
+}
+
+impl Model for Settled {
+    ghost use Rattle.std.specs.Prelude.{◌≡◌};
+    ghost use Rattle.dependency_graph.specs.Uses.{last_uses_of};
+    ghost use Rattle.claim_check.specs.Settled.{SettledView, IsSettled, as_graph};
+
+    ghost Value = { SettledView };
+
+    ghost view = { λ s. record {
+      inputs = s.inputs;
+      nodes = s.nodes.items;
+      outputs = s.outputs.items;
+    } };
+
+    ghost invariant = { λ s. IsSettled (record {
+      inputs = s.inputs;
+      nodes = s.nodes.items;
+      outputs = s.outputs.items;
+    }) × (s.last_uses.items ≡ last_uses_of (as_graph (record {
+      inputs = s.inputs;
+      nodes = s.nodes.items;
+      outputs = s.outputs.items;
+    }))) };
+}
+
+impl Settled {
+    /// The number of inputs. It takes no memory.
+    pub fn inputs(&self) -> u32
+        ensures inputs { result ≡ self.now.inputs }
+        ensures settled { IsSettled self.now }
+    {
+        let _ = &self.nodes;
+        self.inputs
+    }
+
+    /// The number of nodes. It takes no memory.
+    pub fn nodes(&self) -> u32
+        ensures nodes { result ≡ length self.now.nodes }
+        ensures settled { IsSettled self.now }
+    {
+        self.nodes.len() as u32
+    }
+
+    /// The node at place `n`, counted from 0. It takes no memory.
+    pub fn node(&self, n: u32) -> Node
+        requires { n < length self.now.nodes }
+        ensures { slice_get self.now.nodes n ≡ Some result }
+    {
+        self.nodes[n as usize]
+    }
+
+    /// What each output is, in their order. It takes no memory.
+    pub fn outputs(&self) -> &[Sig]
+        ensures outputs { result.now ≡ self.now.outputs }
+        ensures settled { IsSettled self.now }
+    {
+        &self.outputs
+    }
+
+    /// The last use of the node at place `n`: the greatest node that has it as an operand, the number of nodes where it
+    /// is an output. It takes no memory.
+    #[tactic(auto, using(dependency_graph::proofs::TableLemmas::use_at))]
+    pub fn last_use(&self, n: u32) -> u32
+        requires { n < length self.now.nodes }
+        ensures { result ≡ last_use_in (as_graph self.now) n }
+    {
+        self.last_uses[n as usize]
+    }
+}
