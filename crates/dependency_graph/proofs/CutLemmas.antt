@@ -33,7 +33,7 @@ use Rattle.dependency_graph.proofs.ReachLemmas.{IsRead, IsAhead, ahead_begin, ah
 
 -- ---- tests of numbers in lists
 
-or_else : (a b : Bool) → a ≡ false → (a || b) ≡ true → b ≡ true
+pub or_else : (a b : Bool) → a ≡ false → (a || b) ≡ true → b ≡ true
 or_else true b e some = absurd (let clash : true ≡ false = e in cc)
 or_else false b e some = some
 
@@ -125,7 +125,7 @@ among_step : (b : Bool) (x y : ℕ) (ys zs : List ℕ) → (IsAmong x zs → IsA
 among_step true x y ys zs later k = elim k as (λ _. IsAmong x (y ∷ ys)) [ inl e ↦ inl e | inr there ↦ inr (later there) ]
 among_step false x y ys zs later k = inr (later k)
 
-filter_among : (test : ℕ → Bool) (x : ℕ) (xs : List ℕ) → IsAmong x (filter test xs) → IsAmong x xs
+pub filter_among : (test : ℕ → Bool) (x : ℕ) (xs : List ℕ) → IsAmong x (filter test xs) → IsAmong x xs
 filter_among test x [] k = absurd k
 filter_among test x (y ∷ ys) k = among_step (test y) x y ys (filter test ys) (λ later. filter_among test x ys later) k
 

@@ -35,7 +35,7 @@ map_itself (x ∷ xs) = ap (λ (z : List ℕ). x ∷ z) (map_itself xs)
 length-map_below : (f : ℕ → ℕ) (n : ℕ) → length (map f (below n)) ≡ n
 length-map_below f n = length-map (below n) f ∙ length-below n
 
-at_below : (f : ℕ → ℕ) (n i d : ℕ) → i < n → get_or (map f (below n)) i d ≡ f i
+pub at_below : (f : ℕ → ℕ) (n i d : ℕ) → i < n → get_or (map f (below n)) i d ≡ f i
 at_below f zero i d low = absurd (omega (arith, low))
 at_below f (suc n) i d low =
     ap (λ (z : List ℕ). get_or z i d) (map_push f (below n) n)
@@ -101,10 +101,10 @@ outputs_used f n (Is b ∷ outs) at =
 
 -- ---- nodes
 
-abbrev step_of : Node → List ℕ
+abbrev pub step_of : Node → List ℕ
 step_of node = nodes_among (operands node)
 
-step_at : (front : List Node) (x : Node) (behind : List Node) → get_or (map step_of (front ++ x ∷ behind)) (length front) [] ≡ step_of x
+pub step_at : (front : List Node) (x : Node) (behind : List Node) → get_or (map step_of (front ++ x ∷ behind)) (length front) [] ≡ step_of x
 step_at [] x behind = refl
 step_at (y ∷ front) x behind = step_at front x behind
 

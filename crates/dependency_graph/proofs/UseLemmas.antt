@@ -78,7 +78,7 @@ attained steps (suc p) i =
 
 -- ---- steps from a place on
 
-some_from : (steps : List (List ℕ)) (i j k : ℕ) → j ≤ k → k < length steps → reads steps i k ≡ true
+pub some_from : (steps : List (List ℕ)) (i j k : ℕ) → j ≤ k → k < length steps → reads steps i k ≡ true
     → list_any (λ operands. is_in operands i) (drop j steps) ≡ true
 some_from [] i j k above low is = absurd (omega (arith, low))
 some_from (s ∷ steps) i zero zero above low is = rw is refl
@@ -153,7 +153,7 @@ IsRising-push : (xs : List ℕ) (x : ℕ) → IsRising xs → AllByRecursion (λ
 IsRising-push [] x up lower = (tt, tt)
 IsRising-push (y ∷ ys) x up lower = (AllByRecursion-push (λ z. y < z) ys x up.0 lower.0, IsRising-push ys x up.1 lower.1)
 
-IsRising-below : (n : ℕ) → IsRising (below n)
+pub IsRising-below : (n : ℕ) → IsRising (below n)
 IsRising-below zero = tt
 IsRising-below (suc n) = IsRising-push (below n) n (IsRising-below n) (all_from_among (λ y. y < n) (below n) (below_bound n))
 

@@ -80,16 +80,16 @@ entry_value input made writes (entries.And a b) =
 
 -- ---- bits stay as nodes come
 
-bit_stays : (bits more : List Bool) (j : ℕ) → j < length bits → bit_of (bits ++ more) j ≡ bit_of bits j
+pub bit_stays : (bits more : List Bool) (j : ℕ) → j < length bits → bit_of (bits ++ more) j ≡ bit_of bits j
 bit_stays [] more j low = absurd (omega (arith, low))
 bit_stays (b ∷ bits) more zero low = refl
 bit_stays (b ∷ bits) more (suc j) low = bit_stays bits more j (omega (arith, low))
 
-bit_last : (bits : List Bool) (b : Bool) → bit_of (bits ++ b ∷ []) (length bits) ≡ b
+pub bit_last : (bits : List Bool) (b : Bool) → bit_of (bits ++ b ∷ []) (length bits) ≡ b
 bit_last [] b = refl
 bit_last (c ∷ bits) b = bit_last bits b
 
-sig_stays : (input : ℕ → Bool) (n : ℕ) (bits more : List Bool) (sig : Sig) → IsKnownSig n (length bits) sig
+pub sig_stays : (input : ℕ → Bool) (n : ℕ) (bits more : List Bool) (sig : Sig) → IsKnownSig n (length bits) sig
     → sig_bit input (bits ++ more) sig ≡ sig_bit input bits sig
 sig_stays input n bits more (Const bit) known = refl
 sig_stays input n bits more (Is (bases.Input i)) known = refl
@@ -102,12 +102,12 @@ sigs_stay input n bits more (sig ∷ writes) known =
     ap (λ (b : Bool). b ∷ map (sig_bit input (bits ++ more)) writes) (sig_stays input n bits more sig known.0)
     ∙ ap (λ (z : List Bool). sig_bit input bits sig ∷ z) (sigs_stay input n bits more writes known.1)
 
-made_push : (input : ℕ → Bool) (made : List Bool) (nodes : List Node) (node : Node)
+pub made_push : (input : ℕ → Bool) (made : List Bool) (nodes : List Node) (node : Node)
     → made_by input made (nodes ++ node ∷ []) ≡ made_by input made nodes ++ node_bit input (made_by input made nodes) node ∷ []
 made_push input made [] node = refl
 made_push input made (x ∷ nodes) node = made_push input (made ++ node_bit input made x ∷ []) nodes node
 
-length-made_by : (input : ℕ → Bool) (made : List Bool) (nodes : List Node) → length (made_by input made nodes) ≡ length made + length nodes
+pub length-made_by : (input : ℕ → Bool) (made : List Bool) (nodes : List Node) → length (made_by input made nodes) ≡ length made + length nodes
 length-made_by input made [] = omega arith
 length-made_by input made (x ∷ nodes) =
     length-made_by input (made ++ node_bit input made x ∷ []) nodes ∙ omega (arith, length-append made (node_bit input made x ∷ []))

@@ -11,6 +11,7 @@ mod uses;
 pub use graph::Graph;
 pub use law::{graphs_are_no_wider, last_uses_tell_cuts};
 pub use node::{Base, Node, Sig};
+pub use uses::last_uses;
 
 #[cfg(test)]
 mod tests;

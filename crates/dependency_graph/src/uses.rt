@@ -1,8 +1,9 @@
 // The table of last uses.
-ghost use Rattle.std.specs.Prelude.{◌≡◌, ◌≤◌, length, IfOk};
+ghost use Rattle.std.specs.Prelude.{◌≡◌, ◌≤◌, [], length, IfOk};
 ghost use Rattle.list_facts.specs.Lists.{below};
 ghost use Rattle.revc_base.specs.declared.limits.TheConstants.{MOST_WRITES};
 ghost use Rattle.dependency_graph.specs.Graphs.{operands};
+ghost use Rattle.dependency_graph.specs.Uses.{last_uses_of};
 ghost use Rattle.dependency_graph.specs.inside.Tables.{with_nodes, with_outputs, with_use, with_uses};
 
 use crate::{Base, Node, Sig};
@@ -65,9 +66,8 @@ fn numbers(alloc: Global, count: u32) -> Result<Vec<u32>, Memory>
     Ok(numbers)
 }
 
-// The last use of each node: first itself, then each node that has it as an operand, and at last the end where it is an
-// output.
-pub fn last_uses(alloc: Global, nodes: &[Node], outputs: &[Sig]) -> Result<Vec<u32>, Memory>
+// First each node itself, then each node that has it as an operand, and at last the end where it is an output.
+fn filled_table(alloc: Global, nodes: &[Node], outputs: &[Sig]) -> Result<Vec<u32>, Memory>
     requires { length nodes.now ≤ MOST_WRITES }
     ensures { IfOk result (λ table. table.items
         ≡ with_outputs (with_nodes (below (length nodes.now)) 0 nodes.now) outputs.now
@@ -78,4 +78,18 @@ pub fn last_uses(alloc: Global, nodes: &[Node], outputs: &[Sig]) -> Result<Vec<u
     set_node_uses(&mut table, nodes);
     set_output_uses(&mut table, outputs, count);
     Ok(table)
+}
+
+/// The last use of each of these nodes in a graph with these outputs, in time linear in both: the greatest node that
+/// has it as an operand, the number of nodes where it is an output, itself where neither.
+pub fn last_uses(alloc: Global, nodes: &[Node], outputs: &[Sig]) -> Result<Vec<u32>, Memory>
+    requires { length nodes.now ≤ MOST_WRITES }
+    ensures { IfOk result (λ table. table.items ≡ last_uses_of (record {
+      inputs = 0;
+      nodes = nodes.now;
+      sigs = [];
+      outputs = outputs.now;
+    })) }
+{
+    filled_table(alloc, nodes, outputs)
 }
