@@ -4,7 +4,7 @@ use Rattle.std.specs.List.{AllByRecursion}
 use Rattle.revc_base.specs.declared.tape.Claim.{Claim}
 use Rattle.revc_base.specs.ClaimFunctions.{HasAtMost, HasMore}
 use Rattle.revc_base.specs.Claims.{HoldsEverywhere, IsLeastBreaking}
-use Rattle.revc_base.specs.Tapes.{TapeView, IsTape}
+use Rattle.revc_base.specs.Tapes.{TapeView}
 use Rattle.claim_check.specs.declared.fault.ClaimFault.{ClaimFault}
 use Rattle.claim_check.specs.declared.fault.ClaimFault.TheVariants.{Broken, Diagram, Memory}
 
@@ -56,4 +56,4 @@ pub record EndInOneWay (t : TapeView) (limit : ℕ) : Type 0 where
       → number ≡ other
 
 abbrev pub ClaimsEndInOneWay : Type 0
-ClaimsEndInOneWay = (t : TapeView) (limit : ℕ) → IsTape t → EndInOneWay t limit
+ClaimsEndInOneWay = (t : TapeView) (limit : ℕ) → EndInOneWay t limit

@@ -1,2 +1,6 @@
+pub mod Budgets
 pub mod Claims
+pub mod Kept
+pub mod Measures
 pub mod Settled
+pub mod inside

@@ -1,9 +1,14 @@
 // The settled graph.
-ghost use Rattle.std.specs.Prelude.{◌≡◌, ◌<◌, length, slice_get, Some};
+ghost use Rattle.std.specs.Prelude.{◌≡◌, ◌<◌, length, slice_get, Some, IfOk};
+ghost use Rattle.dependency_graph.specs.Folds.{graph_of};
 ghost use Rattle.dependency_graph.specs.Uses.{last_use_in};
-ghost use Rattle.claim_check.specs.Settled.{IsSettled, as_graph};
+ghost use Rattle.claim_check.specs.Kept.{IsKeptPart};
+ghost use Rattle.claim_check.specs.Measures.{IsNoLarger};
+ghost use Rattle.claim_check.specs.Settled.{IsSettled, IsSettledOf, as_graph};
 
-use dependency_graph::{Node, Sig};
+use crate::keeping::kept_part;
+use dependency_graph::{Graph, Node, Sig, last_uses};
+use revc_base::{Memory, Tape};
 use std::marker::Model;
 
 /// The nodes of a graph on which an output rests, renumbered in their order, after every claim was settled. Contracts
@@ -41,6 +46,25 @@ impl Model for Settled {
 }
 
 impl Settled {
+    /// The nodes of a tape's graph on which an output rests, in time linear in the graph.
+    pub(crate) fn of(graph: &Graph, tape: &Tape) -> Result<Settled, Memory>
+        requires { graph.now ≡ graph_of tape.now }
+        ensures part { IfOk result (IsKeptPart graph.now) }
+        ensures settled { IfOk result IsSettled }
+        ensures of_tape { IfOk result (IsSettledOf tape.now) }
+        ensures no_larger { IfOk result (IsNoLarger tape.now) }
+    {
+        let inputs = tape.inputs();
+        let (nodes, outputs) = kept_part(graph, tape)?;
+        let last_uses = last_uses(*tape.allocator(), &nodes, &outputs)?;
+        Ok(Settled {
+            inputs,
+            nodes,
+            outputs,
+            last_uses,
+        })
+    }
+
     /// The number of inputs. It takes no memory.
     pub fn inputs(&self) -> u32
         ensures inputs { result ≡ self.now.inputs }
@@ -84,3 +108,6 @@ impl Settled {
         self.last_uses[n as usize]
     }
 }
+
+#[cfg(test)]
+mod tests;

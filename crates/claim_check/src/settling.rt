@@ -2,8 +2,11 @@
 ghost use Rattle.std.specs.Prelude.{◌≡◌, ◌≤◌, IfOk, IfErr, OnOk};
 ghost use Rattle.dependency_graph.specs.Folds.{graph_of};
 ghost use Rattle.claim_check.specs.Claims.{HoldWithin, IsClaimFault};
+ghost use Rattle.claim_check.specs.Kept.{IsKeptPart};
+ghost use Rattle.claim_check.specs.Measures.{IsNoLarger};
 ghost use Rattle.claim_check.specs.Settled.{IsSettled, IsSettledOf};
 
+use crate::claims::settle_claims;
 use crate::{ClaimFault, Settled};
 use dependency_graph::Graph;
 use revc_base::Tape;
@@ -22,10 +25,12 @@ pub fn settle(graph: Graph, tape: &Tape, limit: u32) -> Result<Settled, ClaimFau
     requires of_tape { graph ≡ graph_of tape.now }
     requires some { 1 ≤ limit }
     ensures hold { OnOk result (HoldWithin tape.now limit) }
+    ensures part { IfOk result (IsKeptPart graph) }
     ensures of_tape { IfOk result (IsSettledOf tape.now) }
     ensures settled { IfOk result IsSettled }
+    ensures no_larger { IfOk result (IsNoLarger tape.now) }
     ensures refused { IfErr result (IsClaimFault tape.now limit) }
 {
-    let _ = (graph, tape, limit);
-    Err(ClaimFault::Memory)
+    settle_claims(tape, limit)?;
+    Ok(Settled::of(&graph, tape)?)
 }

@@ -1,5 +1,4 @@
-use Rattle.std.proofs.Common.{rules, ℕ, List, ◌≡◌, ◌<◌, ◌∙◌, ap, length, get_or}
-use Rattle.dependency_graph.specs.Graphs.{GraphView}
+use Rattle.std.proofs.Common.{rules, ℕ, List, ◌<◌, ◌∙◌, ap, length, get_or}
 use Rattle.dependency_graph.proofs.TableLemmas.{use_at, use_inside}
 use Rattle.claim_check.specs.Settled.{SettledView, as_graph}
 use Rattle.claim_check.proofs.settled.Settled.last_use.Goals as goal

@@ -1,0 +1,100 @@
+-- What the function of a claim says of it: it holds everywhere, or one input is the least that breaks it.
+use Rattle.std.proofs.Common.{◌≡◌, ℕ, zero, suc, ◌+◌, ◌<◌, ◌⊎◌, inl, inr, Bool, true, false, not, List, [], ◌∷◌, ◌++◌, length, take, get_or, slice_get}
+use Rattle.std.proofs.Common.{Some, refl, sym, ap, ◌∙◌, subst, arith}
+use Rattle.std.specs.List.{AllByRecursion}
+use Rattle.std.proofs.lemmas.Bool.{true≢false}
+use Rattle.std.proofs.lemmas.List.{get_or_at, take_all}
+use Rattle.std.proofs.lemmas.Option.{same_Some}
+use Rattle.list_facts.specs.Bits.{bit_of}
+use Rattle.revc_base.specs.declared.tape.Claim.{Claim}
+use Rattle.revc_base.specs.Claims.{HoldsEverywhere, IsLeastBreaking}
+use Rattle.revc_base.specs.Measures.{inputs_of}
+use Rattle.revc_base.specs.Tapes.{TapeView, claimed, Holds}
+use Rattle.revc_base.specs.VariableOrders.{IsBefore, IsOrderOf, variable_order}
+use Rattle.revc_base.proofs.VariableOrderLemmas.{is_order}
+use Rattle.decision_diagram.specs.Functions.{Assignment, Function, AreSame, GivesOnly, IsLeast}
+use Rattle.claim_check.specs.Claims.{HoldBefore}
+use Rattle.claim_check.specs.inside.Tables.{input_at, function_at}
+use Rattle.claim_check.proofs.FunctionLemmas.{function-input}
+use Rattle.claim_check.proofs.VariableLemmas.{variable_of, assignment_at, length-input_at, bit-input_at}
+
+-- ---- one claim
+
+pub holds_everywhere : (t : TapeView) (claim : Claim) (f : Function) → AreSame f (function_at t claim.of) → GivesOnly f (claimed claim.kind)
+    → HoldsEverywhere t claim
+holds_everywhere t claim f same gives = λ input size.
+    let a : Assignment = assignment_at t input in
+    sym (function-input t claim.of input size) ∙ sym (same a) ∙ gives a
+
+pub gives_claimed : (t : TapeView) (claim : Claim) (f : Function) → AreSame f (function_at t claim.of) → HoldsEverywhere t claim
+    → GivesOnly f (claimed claim.kind)
+gives_claimed t claim f same holds = λ a. same a ∙ holds (input_at t a) (length-input_at t a)
+
+not_both : (b : Bool) → ¬ (b ≡ not b)
+not_both true e = true≢false e
+not_both false e = true≢false (sym e)
+
+either_bit : (b c : Bool) → (b ≡ c) ⊎ (b ≡ not c)
+either_bit true true = inl refl
+either_bit true false = inr refl
+either_bit false true = inr refl
+either_bit false false = inl refl
+
+all_at_place : (P : ℕ → Type 0) (xs : List ℕ) (at : ℕ) (behind : List ℕ) (k : ℕ) → AllByRecursion P xs → k < length xs
+    → P (get_or (xs ++ at ∷ behind) k 0)
+all_at_place P [] at behind k all low = absurd (omega (arith, low))
+all_at_place P (x ∷ xs) at behind zero all low = all.0
+all_at_place P (x ∷ xs) at behind (suc k) all low = all_at_place P xs at behind k all.1 (omega (arith, low))
+
+place_inside : (before : List ℕ) (at : ℕ) (behind : List ℕ) → length before < length (before ++ at ∷ behind)
+place_inside [] at behind = omega arith
+place_inside (x ∷ before) at behind = omega (arith, place_inside before at behind)
+
+-- an input before that of the least assignment does not have its bit
+parts_from : (t : TapeView) (a : Assignment) (other : List Bool) → IsBefore (variable_order t.params) other (input_at t a)
+    → ((i : ℕ) → ((k : ℕ) → k < i → a k ≡ assignment_at t other k) → assignment_at t other i ≡ false → a i ≡ false) → ⊥
+parts_from t a other b least =
+    let order : List ℕ = variable_order t.params in
+    let is : IsOrderOf (inputs_of t) order = is_order t.params in
+    let i : ℕ = length b.before in
+    let inside : i < inputs_of t = omega (arith, ap length b.cut, is.count, place_inside b.before b.at b.behind) in
+    let here : variable_of t i ≡ b.at = ap (λ (z : List ℕ). get_or z i 0) b.cut ∙ get_or_at b.before b.at b.behind 0 i refl in
+    let same : (k : ℕ) → k < i → a k ≡ assignment_at t other k = λ k low.
+    let there : variable_of t k ≡ get_or (b.before ++ b.at ∷ b.behind) k 0 = ap (λ (z : List ℕ). get_or z k 0) b.cut in
+    let shared = all_at_place (λ j. bit_of other j ≡ bit_of (input_at t a) j) b.before b.at b.behind k b.same low in
+    sym (bit-input_at t a k (omega (arith, low, inside)))
+    ∙ ap (bit_of (input_at t a)) there ∙ sym shared ∙ ap (bit_of other) (sym there) in
+    let low : assignment_at t other i ≡ false = ap (bit_of other) here ∙ b.low in
+    let high : a i ≡ true = sym (bit-input_at t a i inside) ∙ ap (bit_of (input_at t a)) here ∙ b.high in
+    true≢false (sym high ∙ least i same low)
+
+pub least_breaking : (t : TapeView) (claim : Claim) (f : Function) (a : Assignment) → AreSame f (function_at t claim.of)
+    → IsLeast f (not (claimed claim.kind)) a → IsLeastBreaking t claim (input_at t a)
+least_breaking t claim f a same least = record {
+  is_input = length-input_at t a;
+  fails = λ holds. not_both (claimed claim.kind) (sym holds ∙ sym (same a) ∙ least.gives);
+  least = λ other size before.
+      let v : Assignment = assignment_at t other in
+      elim (either_bit (f v) (claimed claim.kind)) as (λ _. Holds t other claim) [
+        | inl met ↦ sym (function-input t claim.of other size) ∙ sym (same v) ∙ met
+        | inr breaks ↦ absurd (parts_from t a other before (least.least v breaks))
+      ];
+}
+
+-- ---- one claim after another
+
+all_next : {A : Type 0} (P : A → Type 0) (xs : List A) (n : ℕ) (x : A) → AllByRecursion P (take n xs) → slice_get xs n ≡ Some x → P x
+    → AllByRecursion P (take (suc n) xs)
+all_next P [] n x all is one = cc
+all_next P (y ∷ ys) zero x all is one = (subst P (sym (same_Some y x is)) one, tt)
+all_next P (y ∷ ys) (suc n) x all is one = (all.0, all_next P ys n x all.1 is one)
+
+pub hold_more : (t : TapeView) (number : ℕ) (claim : Claim) → HoldBefore t number → slice_get t.claims number ≡ Some claim → HoldsEverywhere t claim
+    → HoldBefore t (number + 1)
+hold_more t number claim before is holds =
+    let next : suc number ≡ number + 1 = omega arith in
+    subst (HoldBefore t) next (all_next (HoldsEverywhere t) t.claims number claim before is holds)
+
+pub all_hold : (t : TapeView) (number : ℕ) → HoldBefore t number → length t.claims ≡ number → AllByRecursion (HoldsEverywhere t) t.claims
+all_hold t number before whole =
+    subst (AllByRecursion (HoldsEverywhere t)) (take_all number t.claims (omega (arith, whole))) before

@@ -1,0 +1,36 @@
+use Rattle.std.proofs.Common.{Option, List, Bool, MatchOption, subst}
+use Rattle.revc_base.specs.Claims.{HoldsEverywhere, IsLeastBreaking}
+use Rattle.claim_check.proofs.MemberLemmas.{more_claims}
+use Rattle.claim_check.proofs.OutcomeLemmas.{broken, claim_numbered, settled_more}
+use Rattle.claim_check.proofs.claims.settle_claim.Goals as goal
+
+pub number_claim-requires-clause-members : goal.number_claim-requires-clause-members
+number_claim-requires-clause-members c = more_claims c.args.tape.now c.args.number c.args.diagram.now c.requires.settled.members
+
+pub least_breaking-requires-clause-number : goal.least_breaking-requires-clause-number
+least_breaking-requires-clause-number c =
+    claim_numbered c.args.tape.now c.claim_at-claim.ensures.tape c.args.schedule.now.labels.items c.requires.schedule.labels c.args.number
+    c.claim_at-claim.result c.claim_at-claim.ensures.claim c.requires.claim c.number_claim.new.diagram.nodes c.number_claim.new.numbers
+    c.in_default.ensures.made
+
+pub returns-in-None-clause-settled : goal.returns-in-None-clause-settled
+returns-in-None-clause-settled c =
+    let t = c.args.tape.now in
+    let claim = c.claim_at-claim.result in
+    settled_more t c.claim_at-claim.ensures.tape c.args.schedule.now.labels.items c.requires.schedule.labels c.args.diagram.now.limit
+    c.args.number claim c.claim_at-claim.ensures.claim c.requires.claim c.requires.settled.hold
+    (subst (λ (o : Option (List Bool)). MatchOption o (HoldsEverywhere t claim) (IsLeastBreaking t claim)) c.in-None.is
+    c.in_ok-least_breaking.ensures)
+    c.number_claim.new.diagram c.number_claim.new.numbers c.number_claim.ensures.members c.number_claim.ensures.limit
+    c.in_default.ensures.made
+
+pub returns-in-Some-clause-refused : goal.returns-in-Some-clause-refused
+returns-in-Some-clause-refused c =
+    let t = c.args.tape.now in
+    let claim = c.claim_at-claim.result in
+    broken t c.claim_at-claim.ensures.tape c.args.schedule.now.labels.items c.requires.schedule.labels c.args.diagram.now.limit
+    c.args.number claim c.claim_at-claim.ensures.claim c.requires.claim c.requires.settled.hold c.in-Some.input
+    (subst (λ (o : Option (List Bool)). MatchOption o (HoldsEverywhere t claim) (IsLeastBreaking t claim)) c.in-Some.is
+    c.in_ok-least_breaking.ensures)
+    c.number_claim.new.diagram c.number_claim.new.numbers c.number_claim.ensures.members c.number_claim.ensures.limit
+    c.in_default.ensures.made

@@ -1,0 +1,31 @@
+use Rattle.std.proofs.Common.{ℕ, get_or, arith, sym, subst}
+use Rattle.revc_base.specs.declared.tape.Ref.{Ref}
+use Rattle.revc_base.specs.declared.tape.Ref.TheVariants as refs
+use Rattle.claim_check.specs.inside.Numbers.{IsAnswerOf}
+use Rattle.claim_check.specs.inside.Slots.{IsRefOf}
+use Rattle.claim_check.specs.inside.Tables.{function_at}
+use Rattle.claim_check.proofs.NumberLemmas.{answer}
+use Rattle.claim_check.proofs.VariableLemmas.{variable_at}
+use Rattle.claim_check.proofs.WriteLemmas.{function-Input}
+use Rattle.claim_check.proofs.numbers.number_of.Goals as goal
+
+pub input-requires : goal.input-requires
+input-requires c =
+    let t = c.args.tape.now in
+    let i : ℕ = c.in-Input.i in
+    let known : IsRefOf t (refs.Input i) = subst (λ (r : Ref). IsRefOf t r) c.in-Input.is c.requires.known in
+    let there = variable_at t (get_or c.args.variables.now i 0) i (c.requires.variables.at i known) in
+    omega (arith, there.0, c.requires.vars)
+
+pub returns-in-Input : goal.returns-in-Input
+returns-in-Input c =
+    let t = c.args.tape.now in
+    let i : ℕ = c.in-Input.i in
+    let k : ℕ = get_or c.args.variables.now i 0 in
+    let known : IsRefOf t (refs.Input i) = subst (λ (r : Ref). IsRefOf t r) c.in-Input.is c.requires.known in
+    let there = variable_at t k i (c.requires.variables.at i known) in
+    let own : IsAnswerOf (function_at t (refs.Input i)) c.args.diagram.now c.input.new.self c.input.result =
+    answer (function_at t (refs.Input i)) (λ a. a k) c.args.diagram.now c.input.new.self c.input.result
+    (function-Input t i k there.0 there.1) c.input.ensures.canonical c.input.ensures.kept c.input.ensures.added c.input.ensures.answer
+    c.input.ensures.refused in
+    subst (λ (r : Ref). IsAnswerOf (function_at t r) c.args.diagram.now c.input.new.self c.input.result) (sym c.in-Input.is) own

@@ -1,0 +1,9 @@
+-- What only private contracts and proofs cite.
+pub mod Chains
+pub mod Labels
+pub mod Marks
+pub mod Numbers
+pub mod Parts
+pub mod Slots
+pub mod Tables
+pub mod Variables

@@ -1,0 +1,171 @@
+// Claims settled on all inputs, one after another.
+ghost use Rattle.std.specs.Prelude.{◌≡◌, ◌≤◌, ◌<◌, ◌+◌, length, map, slice_get, IfErr, IfOk, MatchOption, OnOk, Some};
+ghost use Rattle.list_facts.specs.Bits.{bit_of};
+ghost use Rattle.revc_base.specs.Claims.{HoldsEverywhere, IsLeastBreaking};
+ghost use Rattle.revc_base.specs.Measures.{inputs_of};
+ghost use Rattle.revc_base.specs.Tapes.{IsTape, claimed};
+ghost use Rattle.revc_base.specs.VariableOrders.{variable_order};
+ghost use Rattle.decision_diagram.specs.Diagrams.{IsNumber, function_of};
+ghost use Rattle.decision_diagram.specs.Functions.{GivesOnly};
+ghost use Rattle.claim_check.specs.Claims.{HoldWithin, IsClaimFault};
+ghost use Rattle.claim_check.specs.inside.Labels.{claims_of};
+ghost use Rattle.claim_check.specs.inside.Numbers.{AreSettled, HasNumber, IsLeastOther, IsScheduleOf, claim_fault};
+ghost use Rattle.claim_check.specs.inside.Slots.{slots_of};
+ghost use Rattle.claim_check.specs.inside.Variables.{AreVariables};
+
+use crate::ClaimFault;
+use crate::numbers::{number_at, number_claim};
+use crate::schedule::{Schedule, schedule_of};
+use decision_diagram::{Dd, DdFault, Diagram};
+use revc_base::{Bits, Claim, Kind, Memory, Tape};
+use std::alloc::Global;
+
+// The bit that a claim claims.
+fn claimed(kind: Kind) -> bool
+    ensures { result ≡ claimed kind }
+{
+    match kind {
+        Kind::Clean => false,
+        Kind::Assert => true,
+    }
+}
+
+// The fault of a claim whose diagrams are refused.
+fn claim_fault(claim: u32, fault: DdFault) -> ClaimFault
+    ensures { result ≡ claim_fault claim fault }
+{
+    match fault {
+        DdFault::Full { nodes } => ClaimFault::Diagram { claim, nodes },
+        DdFault::Memory => ClaimFault::Memory,
+    }
+}
+
+// The bit at a place; past the end it is false.
+fn bit_of(bits: &[bool], place: u32) -> bool
+    ensures { result ≡ bit_of bits.now place }
+{
+    bits.get(place as usize).copied().unwrap_or(false)
+}
+
+// The bits of the input that an assignment of the variables gives.
+fn bits_of(alloc: Global, assignment: &[bool], variables: &[u32]) -> Result<Vec<bool>, Memory>
+    ensures { IfOk result (λ bits. bits.items ≡ map (bit_of assignment.now) variables.now) }
+{
+    Ok(
+        variables
+            .iter()
+            .map(|variable| bit_of(assignment, *variable))
+            .collect(alloc)?,
+    )
+}
+
+// The least input on which a function does not give a bit, where there is one.
+fn least_other(
+    alloc: Global,
+    diagram: &Diagram,
+    function: Dd,
+    bit: bool,
+    variables: &[u32],
+) -> Result<Bits, Memory>
+    requires number { IsNumber diagram.now.nodes function }
+    requires other { GivesOnly (function_of diagram.now.nodes function) bit → ⊥ }
+    requires variables { length variables.now ≡ diagram.now.vars }
+    ensures { IfOk result
+        (IsLeastOther (function_of diagram.now.nodes function) bit variables.now) }
+{
+    let mut assignment = vec![in alloc; false; variables.len()]?;
+    let _ = diagram.least(function, !bit, &mut assignment); // there is one
+    let input = bits_of(alloc, &assignment, variables)?;
+    Ok(Bits::new(input))
+}
+
+// The least input that breaks a claim whose bit has its number, where there is one.
+fn least_breaking(
+    diagram: &Diagram,
+    numbers: &[Dd],
+    tape: &Tape,
+    variables: &[u32],
+    claim: Claim,
+) -> Result<Option<Bits>, Memory>
+    requires number { HasNumber tape.now diagram.now.nodes numbers.now claim.of }
+    requires size { length numbers.now ≡ slots_of tape.now }
+    requires vars { diagram.now.vars ≡ inputs_of tape.now }
+    requires variables { AreVariables (inputs_of tape.now) (variable_order tape.now.params)
+        variables.now }
+    ensures { IfOk result (λ input.
+        MatchOption input (HoldsEverywhere tape.now claim) (IsLeastBreaking tape.now claim)) }
+{
+    let function = number_at(tape, numbers, claim.of);
+    let bit = claimed(claim.kind);
+    if diagram.constant(function) == Some(bit) {
+        return Ok(None);
+    }
+    let input = least_other(*tape.allocator(), diagram, function, bit, variables)?;
+    Ok(Some(input))
+}
+
+// The claim with this number.
+fn claim_at(tape: &Tape, number: u32) -> Claim
+    requires { number < claims_of tape.now }
+    ensures claim { slice_get tape.now.claims number ≡ Some result }
+    ensures tape { IsTape tape.now }
+{
+    tape.claims()[number as usize]
+}
+
+// Settles a claim, after those before it.
+fn settle_claim(
+    diagram: &mut Diagram,
+    numbers: &mut [Dd],
+    tape: &Tape,
+    schedule: &Schedule,
+    number: u32,
+) -> Result<(), ClaimFault>
+    requires schedule { IsScheduleOf tape.now schedule.now }
+    requires claim { number < claims_of tape.now }
+    requires settled { AreSettled tape.now schedule.now.labels.items diagram.old.limit number
+        diagram.old numbers.old }
+    ensures limit { diagram.new.limit ≡ diagram.old.limit }
+    ensures settled { OnOk result (AreSettled tape.now schedule.now.labels.items
+        diagram.old.limit (number + 1) diagram.new numbers.new) }
+    ensures refused { IfErr result (IsClaimFault tape.now diagram.old.limit) }
+{
+    let claim = claim_at(tape, number);
+    if let Err(fault) = number_claim(diagram, numbers, tape, schedule, number) {
+        return Err(claim_fault(number, fault));
+    }
+    match least_breaking(diagram, numbers, tape, &schedule.variables, claim)? {
+        None => Ok(()),
+        Some(input) => Err(ClaimFault::Broken {
+            claim: number,
+            input,
+        }),
+    }
+}
+
+// A table of numbers that are not made yet.
+fn no_numbers(alloc: Global, diagram: &Diagram, count: usize) -> Result<Vec<Dd>, Memory>
+    ensures { IfOk result (λ numbers. length numbers.items ≡ count) }
+{
+    Ok(vec![in alloc; diagram.truth(false); count]?)
+}
+
+// Settles each claim of a tape, in their order.
+pub fn settle_claims(tape: &Tape, limit: u32) -> Result<(), ClaimFault>
+    requires { 1 ≤ limit }
+    ensures hold { OnOk result (HoldWithin tape.now limit) }
+    ensures refused { IfErr result (IsClaimFault tape.now limit) }
+{
+    let alloc = *tape.allocator();
+    let schedule = schedule_of(tape)?;
+    let mut diagram = Diagram::new(alloc, tape.inputs(), limit)?;
+    let mut table = no_numbers(alloc, &diagram, schedule.labels.len())?;
+    let numbers = table.as_mut_slice();
+    for number in 0..tape.claims().len() as u32 {
+        settle_claim(&mut diagram, numbers, tape, &schedule, number)?;
+    }
+    Ok(())
+}
+
+#[cfg(test)]
+mod tests;
