@@ -1,0 +1,12 @@
+pub mod ClearLemmas
+pub mod ContentLemmas
+pub mod CopyLemmas
+pub mod CubeLemmas
+pub mod EmptyLemmas
+pub mod FinishLemmas
+pub mod ForwardLemmas
+pub mod LineLemmas
+pub mod PlaceLemmas
+pub mod SetLemmas
+pub mod StepLemmas
+pub mod ValueLemmas

@@ -1,0 +1,278 @@
+-- A toggle, step by step: a line is taken or given back, the gates are appended.
+use Rattle.std.proofs.Common.{◌≡◌, ℕ, ◌+◌, ◌*◌, ◌/◌, ◌<◌, ◌≤◌, max, true, false, List, ◌++◌, length, get_or, set, Option, Some, None, is_some, slice_get, refl, sym, ap, ◌∙◌, subst, arith}
+use Rattle.std.specs.List.{AllByRecursion}
+use Rattle.std.proofs.lemmas.Bool.{false≢true}
+use Rattle.std.proofs.lemmas.List.{get_or_default}
+use Rattle.std.proofs.lemmas.List.Sums.{sum_by-append}
+use Rattle.std.proofs.lemmas.Option.{same_Some, slice_get_within}
+use Rattle.ancilla_heap.proofs.OutLineLemmas.{length-with_line}
+use Rattle.ancilla_heap.specs.Lines as heaps
+use Rattle.ancilla_heap.specs.Lines.{HeapView, IsLineHeap, contains, with_taken, without_line}
+use Rattle.claim_check.specs.Settled.{SettledView}
+use Rattle.dependency_graph.specs.declared.node.Node.{Node}
+use Rattle.dependency_graph.specs.declared.node.Node.TheVariants.{Not, Xor, And}
+use Rattle.dependency_graph.specs.Graphs.{operands}
+use Rattle.gate_split.specs.declared.plan.PlanFault.{PlanFault}
+use Rattle.gate_split.specs.declared.plan.PlanFault.TheVariants.{Lines, Gates, Memory}
+use Rattle.gate_split.specs.declared.plan.TheConstants.{MOST_LINES}
+use Rattle.gate_split.specs.Costs.{IsRoomyFlip}
+use Rattle.mct_circuit.specs.Gates.{GateView}
+use Rattle.mct_circuit.specs.Sizes.{weight_of}
+use Rattle.held_nodes.specs.Held.{ForwardView, IsForward, IsLeastFree, first_work, held_line, held_count, is_held}
+use Rattle.held_nodes.specs.Moves.{IsReadyBase, IsReadyNode, IsToggled, IsToggleFault, IsToggleTooHeavy, HasNoLine, toggle_of, toggle_weight, weight_in, with_node}
+use Rattle.held_nodes.specs.inside.Kept.{IsKept, IsWeightFault}
+use Rattle.held_nodes.proofs.ForwardLemmas.{AddNode, forward_put, forward_given}
+use Rattle.held_nodes.proofs.LineLemmas.{held_taken, held_within, least_free, out-taken, out-given, not_free, count-put, count-given}
+use Rattle.held_nodes.proofs.PlaceLemmas.{CanToggleOn, held_own, toggle_adds, toggle_roomy, unheld_none}
+use Rattle.held_nodes.proofs.ValueLemmas.{known_at}
+
+-- ---- weights
+
+-- a toggle's weight does not depend on its lines
+pub weight-toggle : (first : ℕ) (lines : List (Option ℕ)) (line : ℕ) (node : Node) → weight_in (toggle_of first lines line node) ≡ toggle_weight node
+weight-toggle first lines line (Not a) = refl
+weight-toggle first lines line (Xor a b) = refl
+weight-toggle first lines line (And a b) = refl
+
+pub over_half : (gates w weight : ℕ) → w ≡ gates / 2 → w < weight → gates < 2 * weight
+over_half gates w weight e over = omega (arith, e, over)
+
+pub within_half : (gates w weight : ℕ) → w ≡ gates / 2 → weight ≤ w → 2 * weight ≤ gates
+within_half gates w weight e le = omega (arith, e, le)
+
+-- ---- nodes
+
+ready_operands : (graph : SettledView) (lines : List (Option ℕ)) (k : ℕ) (node : Node) → IsReadyNode graph lines k → slice_get graph.nodes k ≡ Some node
+    → AllByRecursion (IsReadyBase lines) (operands node)
+ready_operands graph lines k node ready is =
+    subst (λ (n : Node). AllByRecursion (IsReadyBase lines) (operands n)) (same_Some ready.node node (sym ready.is ∙ is)) ready.ready
+
+-- ---- a line is taken
+
+pub record Takes (f : ForwardView) (w : ℕ) (old new : HeapView) (k line : ℕ) (node : Node) : Type 0 where
+  pub kept : IsKept f w old
+  pub ready : IsReadyNode f.graph f.lines k
+  pub node_is : slice_get f.graph.nodes k ≡ Some node
+  pub none : held_line f.lines k ≡ None
+  pub least : heaps.IsLeastFree old line
+  pub taken : new ≡ with_taken old line
+  pub peak : new.peak ≡ max old.peak (length new.out)
+
+pub takes_of : (f entry : ForwardView) (w : ℕ) (old new : HeapView) (k line : ℕ) (node : Node) → f ≡ entry → IsKept f w old → IsReadyNode entry.graph entry.lines k
+    → is_held entry.lines k ≡ false → slice_get f.graph.nodes k ≡ Some node → heaps.IsLeastFree old line → new ≡ with_taken old line
+    → new.peak ≡ max old.peak (length new.out) → Takes f w old new k line node
+takes_of f entry w old new k line node e kept ready free is least taken peak = record {
+  kept = kept;
+  ready = subst (λ (g : ForwardView). IsReadyNode g.graph g.lines k) (sym e) ready;
+  node_is = is;
+  none = unheld_none f.lines k (ap (λ (g : ForwardView). is_held g.lines k) e ∙ free);
+  least = least;
+  taken = taken;
+  peak = peak;
+}
+
+node_place : (f : ForwardView) (k : ℕ) (node : Node) → IsForward f → slice_get f.graph.nodes k ≡ Some node → k < length f.lines
+node_place f k node is at = omega (arith, is.nodes, slice_get_within f.graph.nodes k node at)
+
+-- the forward part with a toggle on this line
+abbrev pub toggle_on : ForwardView → ℕ → Node → List GateView
+toggle_on f line node = toggle_of (first_work f.graph) f.lines line node
+
+-- gates that are too heavy for half the gates of the budget
+too_heavy : (f : ForwardView) (w k line : ℕ) (old : HeapView) (node : Node) → IsKept f w old → slice_get f.graph.nodes k ≡ Some node
+    → w < weight_in (f.gates ++ toggle_on f line node) → IsToggleTooHeavy f k
+too_heavy f w k line old node kept is over = record {
+  node = node;
+  is = is;
+  heavy =
+      (let whole : weight_in (f.gates ++ toggle_on f line node) ≡ weight_in f.gates + toggle_weight node =
+      sum_by-append weight_of f.gates (toggle_on f line node) ∙ ap (λ (n : ℕ). weight_in f.gates + n) (weight-toggle (first_work f.graph) f.lines line node) in
+      subst (λ (n : ℕ). f.budget.gates < 2 * n) whole (over_half f.budget.gates w (weight_in (f.gates ++ toggle_on f line node)) kept.weights over));
+}
+
+module _ (f : ForwardView) (w : ℕ) (old new : HeapView) (k line : ℕ) (node : Node) (t : Takes f w old new k line node) where
+  taken_peak : new.peak ≡ max f.most (line + 1)
+  taken_peak = let e : new.peak ≡ max old.peak (line + 1) = ap (λ (h : HeapView). h.peak) t.taken in omega (arith, e, t.kept.peak)
+
+  taken_count : length new.out ≡ held_count f.lines + 1
+  taken_count =
+      let outs : length new.out ≡ length (with_taken old line).out = ap (λ (h : HeapView). length h.out) t.taken in
+      omega (arith, outs, length-with_line old.out line, t.kept.out.count)
+
+  pub taken_within : first_work f.graph + new.peak + f.budget.borrow ≤ f.budget.lines
+  taken_within =
+      let low = t.least.in_range in
+      let peak = t.kept.out.is_heap.in_limit in
+      let room = t.kept.forward.within in
+      omega (arith, taken_peak, low, peak, room, t.kept.limit, t.kept.peak)
+
+  pub taken_few : first_work f.graph + new.peak ≤ MOST_LINES
+  taken_few = omega (arith, taken_within, t.kept.few)
+
+  taken_least : IsLeastFree f.lines line
+  taken_least = least_free f.lines old line t.kept.out t.least
+
+  pub taken_can : CanToggleOn f.graph f.lines new.peak k line node
+  taken_can = record {
+    known = known_at f.graph.inputs k f.graph.nodes node t.kept.forward.settled.nodes t.node_is;
+    ready = ready_operands f.graph f.lines k node t.ready t.node_is;
+    different = t.kept.forward.different;
+    below = λ j own is. omega (arith, t.kept.forward.below j own is, taken_peak);
+    inside = omega (arith, taken_peak);
+    apart = λ j own low is. not_free f.lines j own line is taken_least.free;
+  }
+
+  pub taken_room : HasNoLine f k → ⊥
+  taken_room full =
+      let low = t.least.in_range in
+      let peak = t.kept.out.is_heap.in_limit in
+      let le : new.peak ≤ old.limit = omega (arith, taken_peak, low, peak, t.kept.peak) in
+      absurd (omega (arith, le, t.peak, taken_count, full.full, t.kept.limit))
+
+  pub taken_fault : (fault : PlanFault) → IsWeightFault w (weight_in (f.gates ++ toggle_on f line node)) fault → IsToggleFault f k fault
+  taken_fault (Lines need) is = absurd is
+  taken_fault Gates is = (taken_room, too_heavy f w k line old node t.kept t.node_is is)
+  taken_fault Memory is = tt
+
+  pub taken_place : k < length f.lines
+  taken_place = node_place f k node t.kept.forward t.node_is
+
+  taken_most : new.peak ≡ max f.most (held_count (set f.lines k (Some line)))
+  taken_most =
+      let count = count-put f.lines k line taken_place t.none in
+      omega (arith, t.peak, taken_count, count, t.kept.peak)
+
+  pub taken_kept : IsLineHeap new → weight_in (f.gates ++ toggle_on f line node) ≤ w
+      → IsKept (record f { gates = f.gates ++ toggle_on f line node; lines = set f.lines k (Some line); most = new.peak }) w new
+  taken_kept is light = record {
+    forward = forward_put f k line new.peak (toggle_on f line node) t.kept.forward taken_place t.none taken_least.free
+        taken_can.inside taken_most (record {
+          within = taken_within;
+          weight = within_half f.budget.gates w (weight_in (f.gates ++ toggle_on f line node)) t.kept.weights light;
+          roomy = toggle_roomy f.graph f.lines new.peak k line node taken_can;
+          adds = record {
+            on = λ input content size is_content. toggle_adds f.graph f.lines new.peak k line node f.gates input content taken_can
+                t.kept.forward.settled.nodes t.node_is size is_content;
+          };
+        });
+    out = out-taken f.lines old new k line t.kept.out is t.taken taken_place t.none;
+    peak = refl;
+    limit = ap (λ (h : HeapView). h.limit) t.taken ∙ t.kept.limit;
+    weights = t.kept.weights;
+    few = t.kept.few;
+  }
+
+  pub taken_toggled : IsToggled f k (record f { gates = f.gates ++ toggle_on f line node; lines = set f.lines k (Some line); most = new.peak })
+  taken_toggled = record {
+    node = node;
+    is = t.node_is;
+    line = line;
+    after = Some line;
+    takes = rw t.none (taken_least, refl);
+    becomes = ap (λ (m : ℕ). record f { gates = f.gates ++ toggle_on f line node; lines = set f.lines k (Some line); most = m }) taken_most;
+  }
+
+-- ---- a line is given back
+
+-- what was read of the lines
+pub read_own : (lines : List (Option ℕ)) (k line : ℕ) (read : Option ℕ) → k < length lines → read ≡ get_or lines k read → read ≡ Some line
+    → held_line lines k ≡ Some line
+read_own lines k line read low e is = get_or_default lines k None read low ∙ sym e ∙ is
+
+pub record Gives (f : ForwardView) (w : ℕ) (old : HeapView) (k line : ℕ) : Type 0 where
+  pub kept : IsKept f w old
+  pub own : held_line f.lines k ≡ Some line
+
+pub gives_of : (f entry : ForwardView) (w : ℕ) (old : HeapView) (k line : ℕ) (read : Option ℕ) → f ≡ entry → IsKept f w old → is_held entry.lines k ≡ true
+    → read ≡ get_or f.lines k read → read ≡ Some line → Gives f w old k line
+gives_of f entry w old k line read e kept held reads is = record {
+  kept = kept;
+  own =
+      (let own = held_own f.lines k (ap (λ (g : ForwardView). is_held g.lines k) e ∙ held) in
+      read_own f.lines k line read (held_within f.lines k own.own own.is) reads is);
+}
+
+module _ (f : ForwardView) (w : ℕ) (old : HeapView) (k line : ℕ) (g : Gives f w old k line) where
+  pub given_place : k < length f.lines
+  given_place = held_within f.lines k line g.own
+
+  pub given_inside : line < f.most
+  given_inside = g.kept.forward.below k line g.own
+
+  pub given_few : first_work f.graph + f.most ≤ MOST_LINES
+  given_few = omega (arith, g.kept.forward.within, g.kept.few)
+
+  pub given_target : first_work f.graph + line ≤ MOST_LINES
+  given_target = omega (arith, given_few, given_inside)
+
+  pub given_out : contains old.out line ≡ true
+  given_out = g.kept.out.out line ∙ held_taken f.lines k line g.own
+
+  pub given_can : (node : Node) → IsReadyNode f.graph f.lines k → slice_get f.graph.nodes k ≡ Some node → CanToggleOn f.graph f.lines f.most k line node
+  given_can node ready is = record {
+    known = known_at f.graph.inputs k f.graph.nodes node g.kept.forward.settled.nodes is;
+    ready = ready_operands f.graph f.lines k node ready is;
+    different = g.kept.forward.different;
+    below = g.kept.forward.below;
+    inside = given_inside;
+    apart = λ j own low at same.
+        (let one : j ≡ k = g.kept.forward.different j k line (at ∙ ap (λ (n : ℕ). Some n) same) g.own in absurd (omega (arith, low, one)));
+  }
+
+  pub given_fault : (node : Node) (fault : PlanFault) → slice_get f.graph.nodes k ≡ Some node
+      → IsWeightFault w (weight_in (f.gates ++ toggle_on f line node)) fault → IsToggleFault f k fault
+  given_fault node (Lines need) at is = absurd is
+  given_fault node Gates at is =
+      ((λ full. false≢true (sym full.free ∙ ap (λ (x : Option ℕ). is_some x) g.own)), too_heavy f w k line old node g.kept at is)
+  given_fault node Memory at is = tt
+
+  pub given_adds : (node : Node) → IsReadyNode f.graph f.lines k → slice_get f.graph.nodes k ≡ Some node
+      → AddNode f.graph f.lines f.most f.gates (toggle_on f line node) k line
+  given_adds node ready is = record {
+    on = λ input content size is_content. toggle_adds f.graph f.lines f.most k line node f.gates input content (given_can node ready is)
+        g.kept.forward.settled.nodes is size is_content;
+  }
+
+  given_peak : (new : HeapView) → new ≡ record old { out = without_line old.out line } → new.peak ≡ f.most
+  given_peak new e = ap (λ (h : HeapView). h.peak) e ∙ g.kept.peak
+
+  given_most : (new : HeapView) → new ≡ record old { out = without_line old.out line } → new.peak ≡ max f.most (held_count (set f.lines k None))
+  given_most new e =
+      let less = count-given f.lines k line g.own in
+      let le = g.kept.forward.count in
+      omega (arith, given_peak new e, less, le)
+
+  pub given_kept : (new : HeapView) (more : List GateView) → new ≡ record old { out = without_line old.out line } → IsLineHeap new
+      → weight_in (f.gates ++ more) ≤ w → AllByRecursion (IsRoomyFlip (first_work f.graph + f.most)) more
+      → AddNode f.graph f.lines f.most f.gates more k line
+      → IsKept (record f { gates = f.gates ++ more; lines = set f.lines k None; most = new.peak }) w new
+  given_kept new more e is light roomy adds = record {
+    forward =
+        (let same = forward_given f k line more g.kept.forward g.own (record {
+          within = g.kept.forward.within;
+          weight = within_half f.budget.gates w (weight_in (f.gates ++ more)) g.kept.weights light;
+          roomy = roomy;
+          adds = adds;
+        }) in
+        subst (λ (m : ℕ). IsForward (record f { gates = f.gates ++ more; lines = set f.lines k None; most = m })) (sym (given_peak new e)) same);
+    out = out-given f.lines old new k line g.kept.out is e g.kept.forward.different g.own;
+    peak = refl;
+    limit = ap (λ (h : HeapView). h.limit) e ∙ g.kept.limit;
+    weights = g.kept.weights;
+    few = g.kept.few;
+  }
+
+  pub given_becomes : (new : HeapView) (more : List GateView) → new ≡ record old { out = without_line old.out line }
+      → record f { gates = f.gates ++ more; lines = set f.lines k None; most = new.peak } ≡ with_node f k None more
+  given_becomes new more e = ap (λ (m : ℕ). record f { gates = f.gates ++ more; lines = set f.lines k None; most = m }) (given_most new e)
+
+  pub given_toggled : (new : HeapView) (node : Node) → new ≡ record old { out = without_line old.out line } → slice_get f.graph.nodes k ≡ Some node
+      → IsToggled f k (record f { gates = f.gates ++ toggle_on f line node; lines = set f.lines k None; most = new.peak })
+  given_toggled new node e is = record {
+    node = node;
+    is = is;
+    line = line;
+    after = None;
+    takes = rw g.own (refl, refl);
+    becomes = given_becomes new (toggle_on f line node) e;
+  }

@@ -1,0 +1,207 @@
+-- What can be done with a forward part: a toggle of a node, a clearing by cubes, and the finish.
+use Rattle.std.specs.Prelude.{◌≡◌, ℕ, ◌+◌, ◌*◌, ◌<◌, max, Bool, false, true, if◌then◌else◌, List, [], ◌∷◌, ◌++◌, length, map, reverse, slice_get, slice_set, Option, Some, None, unwrap_or, ⊤, sum_by}
+use Rattle.std.specs.List.{AllByRecursion}
+use Rattle.list_facts.specs.Bits.{bit_of}
+use Rattle.dependency_graph.specs.declared.node.Base.{Base}
+use Rattle.dependency_graph.specs.declared.node.Base.TheVariants as bases
+use Rattle.dependency_graph.specs.declared.node.Node.{Node}
+use Rattle.dependency_graph.specs.declared.node.Node.TheVariants.{Not, Xor, And}
+use Rattle.dependency_graph.specs.declared.node.Sig.{Sig}
+use Rattle.dependency_graph.specs.declared.node.Sig.TheVariants.{Const, Is}
+use Rattle.dependency_graph.specs.Graphs.{operands}
+use Rattle.claim_check.specs.Settled.{SettledView}
+use Rattle.exclusive_sums.specs.declared.cube.Literal.{Literal}
+use Rattle.exclusive_sums.specs.Cubes.{value_of_cubes}
+use Rattle.gate_split.specs.declared.plan.PlanFault.{PlanFault}
+use Rattle.gate_split.specs.declared.plan.PlanFault.TheVariants.{Lines, Gates, Memory}
+use Rattle.gate_split.specs.declared.roles.Roles.{Roles}
+use Rattle.gate_split.specs.Plans.{BudgetView, PlannedView}
+use Rattle.mct_circuit.specs.declared.gate.Control.{Control}
+use Rattle.mct_circuit.specs.declared.gate.Op.TheVariants.{Flip}
+use Rattle.mct_circuit.specs.Gates.{GateView, flip_of}
+use Rattle.mct_circuit.specs.Sizes.{weight_of}
+use Rattle.held_nodes.specs.Held.{ForwardView, IsLeastFree, first_work, work_lines, held_line, is_held, held_count, node_value}
+
+-- ---- the gates; `first` is the first work line
+
+-- the line of an input, or of a node that is held
+abbrev pub base_line : ℕ → List (Option ℕ) → Base → ℕ
+base_line first lines (bases.Input i) = i
+base_line first lines (bases.Node k) = first + unwrap_or (held_line lines k) 0
+
+-- the gates of a toggle: they flip a work line by the node's value
+abbrev pub toggle_of : ℕ → List (Option ℕ) → ℕ → Node → List GateView
+toggle_of first lines line (Not a) =
+    flip_of (base_line first lines a ∷ []) (first + line) ∷ flip_of [] (first + line) ∷ []
+toggle_of first lines line (Xor a b) =
+    flip_of (base_line first lines a ∷ []) (first + line)
+    ∷ flip_of (base_line first lines b ∷ []) (first + line) ∷ []
+toggle_of first lines line (And a b) =
+    flip_of (base_line first lines a ∷ base_line first lines b ∷ []) (first + line) ∷ []
+
+-- a literal as a control on its input's line
+abbrev pub control_of : Literal → Control
+control_of literal = record { line = literal.input; positive = literal.positive }
+
+-- the flip of a work line by a cube
+abbrev pub cube_flip : ℕ → ℕ → List Literal → GateView
+cube_flip first line cube = record { controls = map control_of cube; op = Flip (first + line) }
+
+abbrev pub cube_flips : ℕ → ℕ → List (List Literal) → List GateView
+cube_flips first line cubes = map (cube_flip first line) cubes
+
+-- the gates that put an output on its line: a copy of a base, a flip for the constant true
+abbrev pub copy_of : ℕ → List (Option ℕ) → ℕ → Sig → List GateView
+copy_of first lines target (Const bit) = if bit then flip_of [] target ∷ [] else []
+copy_of first lines target (Is base) = flip_of (base_line first lines base ∷ []) target ∷ []
+
+-- the gates that put outputs on the lines from the given one on
+abbrev pub copies_from : ℕ → List (Option ℕ) → ℕ → List Sig → List GateView
+copies_from first lines target [] = []
+copies_from first lines target (sig ∷ rest) =
+    copy_of first lines target sig ++ copies_from first lines (target + 1) rest
+
+abbrev pub copies_of : ForwardView → List GateView
+copies_of f = copies_from (first_work f.graph) f.lines f.graph.inputs f.graph.outputs
+
+-- the weight of gates together
+abbrev pub weight_in : List GateView → ℕ
+weight_in gates = sum_by weight_of gates
+
+-- the forward part with more gates, and with a node held on a line or not
+abbrev pub with_node : ForwardView → ℕ → Option ℕ → List GateView → ForwardView
+with_node f node line gates =
+    let lines = slice_set f.lines node line in
+    record f {
+      gates = f.gates ++ gates;
+      lines = lines;
+      most = max f.most (held_count lines);
+    }
+
+-- ---- the beginning
+
+-- no node is held yet
+abbrev pub nothing_held : SettledView → BudgetView → List (Option ℕ) → ForwardView
+nothing_held s b lines =
+    record { graph = s; budget = b; gates = []; lines = lines; most = 0 }
+
+-- the budget does not have a line for each input, output and borrowed bit
+abbrev pub IsStartFault : SettledView → BudgetView → PlanFault → Type 0
+IsStartFault s b (Lines need) = (b.lines < need) × (need ≡ first_work s + b.borrow)
+IsStartFault s b Gates = ⊥
+IsStartFault s b Memory = ⊤
+
+-- ---- a toggle
+
+-- an input, or a node that is held
+abbrev pub IsReadyBase : List (Option ℕ) → Base → Type 0
+IsReadyBase lines (bases.Input i) = ⊤
+IsReadyBase lines (bases.Node k) = is_held lines k ≡ true
+
+-- it is a node of the graph, and each of its operands is an input or held
+pub record IsReadyNode (s : SettledView) (lines : List (Option ℕ)) (k : ℕ) : Type 0 where
+  pub node : Node
+  pub is : slice_get s.nodes k ≡ Some node
+  pub ready : AllByRecursion (IsReadyBase lines) (operands node)
+
+-- the work line on which a toggle acts, and the node's line afterwards: a node that is held is toggled on its own line,
+-- which it gives back; one that is not held takes the least free line
+abbrev pub TakesLine : List (Option ℕ) → Option ℕ → ℕ → Option ℕ → Type 0
+TakesLine lines (Some own) line after = (line ≡ own) × (after ≡ None)
+TakesLine lines None line after = IsLeastFree lines line × (after ≡ Some line)
+
+pub record IsToggled (f : ForwardView) (k : ℕ) (next : ForwardView) : Type 0 where
+  pub node : Node
+  pub is : slice_get f.graph.nodes k ≡ Some node
+  pub line : ℕ
+  pub after : Option ℕ
+  pub takes : TakesLine f.lines (held_line f.lines k) line after
+  pub becomes :
+      next ≡ with_node f k after (toggle_of (first_work f.graph) f.lines line node)
+
+-- the node is not held, and as many nodes are as the budget has work lines
+pub record HasNoLine (f : ForwardView) (k : ℕ) : Type 0 where
+  pub free : is_held f.lines k ≡ false
+  pub full : held_count f.lines ≡ work_lines f.graph f.budget
+
+-- the weight of a node's toggle, on any line
+abbrev pub toggle_weight : Node → ℕ
+toggle_weight (Not a) = 2
+toggle_weight (Xor a b) = 2
+toggle_weight (And a b) = 1
+
+-- twice the weight of the gates, with that of this node's toggle, passes the budget
+pub record IsToggleTooHeavy (f : ForwardView) (k : ℕ) : Type 0 where
+  pub node : Node
+  pub is : slice_get f.graph.nodes k ≡ Some node
+  pub heavy : f.budget.gates < 2 * (weight_in f.gates + toggle_weight node)
+
+abbrev pub IsToggleFault : ForwardView → ℕ → PlanFault → Type 0
+IsToggleFault f k (Lines need) = HasNoLine f k × (need ≡ f.budget.lines + 1)
+IsToggleFault f k Gates = (¬ HasNoLine f k) × IsToggleTooHeavy f k
+IsToggleFault f k Memory = ⊤
+
+-- ---- a clearing by cubes
+
+-- the node is held, and the cubes, all over inputs, have its value
+pub record CanClear (f : ForwardView) (k : ℕ) (cubes : List (List Literal)) : Type 0 where
+  pub held : is_held f.lines k ≡ true
+  pub inputs : AllByRecursion (AllByRecursion (λ (l : Literal). l.input < f.graph.inputs)) cubes
+  pub value : (input : List Bool) → length input ≡ f.graph.inputs
+      → value_of_cubes (bit_of input) cubes ≡ node_value f.graph input k
+
+pub record IsCleared (f : ForwardView) (k : ℕ) (cubes : List (List Literal))
+    (next : ForwardView) : Type 0 where
+  pub line : ℕ
+  pub is : held_line f.lines k ≡ Some line
+  pub becomes : next ≡ with_node f k None (cube_flips (first_work f.graph) line cubes)
+
+-- twice the weight of the gates, with that of the cubes' flips, passes the budget
+pub record IsClearTooHeavy (f : ForwardView) (k : ℕ) (cubes : List (List Literal)) : Type 0 where
+  pub line : ℕ
+  pub is : held_line f.lines k ≡ Some line
+  pub heavy : f.budget.gates
+      < 2 * (weight_in f.gates + weight_in (cube_flips (first_work f.graph) line cubes))
+
+abbrev pub IsClearFault : ForwardView → ℕ → List (List Literal) → PlanFault → Type 0
+IsClearFault f k cubes (Lines need) = ⊥
+IsClearFault f k cubes Gates = IsClearTooHeavy f k cubes
+IsClearFault f k cubes Memory = ⊤
+
+-- ---- the finish
+
+-- a constant, an input, or a node that is held
+abbrev pub IsReadySig : List (Option ℕ) → Sig → Type 0
+IsReadySig lines (Const bit) = ⊤
+IsReadySig lines (Is base) = IsReadyBase lines base
+
+-- the gates, the copies, and the gates reversed
+abbrev pub finished_gates : ForwardView → List GateView
+finished_gates f = f.gates ++ copies_of f ++ reverse f.gates
+
+abbrev pub planned_of : ForwardView → PlannedView
+planned_of f =
+    record {
+      circuit = record {
+        lines = first_work f.graph + f.most;
+        limit = f.budget.gates;
+        gates = finished_gates f;
+      };
+      inputs = f.graph.inputs;
+      outputs = length f.graph.outputs;
+      work = f.most;
+    }
+
+-- the roles of a plan's lines, of which none is borrowed
+abbrev pub roles_of_plan : PlannedView → Roles
+roles_of_plan p =
+    record { inputs = p.inputs; outputs = p.outputs; work = p.work; borrowed = 0 }
+
+-- twice the weight of the gates and once that of the copies
+abbrev pub finished_weight : ForwardView → ℕ
+finished_weight f = 2 * weight_in f.gates + weight_in (copies_of f)
+
+abbrev pub IsFinishFault : ForwardView → PlanFault → Type 0
+IsFinishFault f (Lines need) = ⊥
+IsFinishFault f Gates = f.budget.gates < finished_weight f
+IsFinishFault f Memory = ⊤
