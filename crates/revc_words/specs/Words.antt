@@ -1,0 +1,157 @@
+-- What the words of the command line ask for: a command, its options and its positional words.
+use Rattle.std.specs.Prelude.{◌≡◌, ◌≢◌, ◌⊎◌, ℕ, ◌≤◌, ◌==◌, Bool, false, List, [], ◌∷◌, ◌++◌, length, map, string_bytes, codes, Option, Some, None, MatchOption, cond}
+use Rattle.std.specs.List.{AllPairs}
+use Rattle.std.specs.Str.{bytes_eq}
+use Rattle.std.specs.Str.Parse.{IsNumeral, digits_value}
+use Rattle.std.specs.Global.{Global}
+use Rattle.std.specs.declared.string.String.{String}
+use Rattle.revc_words.specs.declared.limits.TheConstants.{MOST_DIGITS, MOST_NODES, USUAL_NODES}
+use Rattle.revc_words.specs.declared.order.Command.{Command}
+use Rattle.revc_words.specs.declared.order.Command.TheVariants.{Compile, Check, Eval, Stat, Run}
+use Rattle.revc_words.specs.declared.order.Format.{Format}
+use Rattle.revc_words.specs.declared.order.Format.TheVariants.{Real}
+use Rattle.revc_words.specs.declared.order.Order.{Order}
+
+-- the words as contracts see them: lists of bytes
+abbrev pub words_of : List (String Global) → List (List ℕ)
+words_of words = map string_bytes words
+
+-- ---- orders
+
+-- a command, the most nodes of its diagrams, the format that it reads, and its words of bits
+pub record OrderView : Type 0 where
+  pub command : Command
+  pub nodes : ℕ
+  pub from : Format
+  pub bits : List (List ℕ)
+
+-- an order as contracts see it
+abbrev pub order_of : Order → OrderView
+order_of order = record {
+  command = order.command;
+  nodes = order.nodes;
+  from = order.from;
+  bits = words_of order.bits.items;
+}
+
+abbrev pub first_word : List (List ℕ) → List ℕ
+first_word [] = []
+first_word (word ∷ rest) = word
+
+-- ---- commands
+
+abbrev pub name_of : Command → List ℕ
+name_of Compile = codes "compile"
+name_of Check = codes "check"
+name_of Eval = codes "eval"
+name_of Stat = codes "stat"
+name_of Run = codes "run"
+
+-- how many positional words a command takes: `eval` one, `run` one or more, the others none
+abbrev pub TakesWords : Command → ℕ → Type 0
+TakesWords Eval count = count ≡ 1
+TakesWords Run count = 1 ≤ count
+TakesWords _ count = count ≡ 0
+
+-- the names of the options that a command has
+abbrev pub options_of : Command → List (List ℕ)
+options_of Compile = codes "nodes" ∷ []
+options_of Check = codes "nodes" ∷ []
+options_of Eval = []
+options_of Stat = codes "from" ∷ []
+options_of Run = codes "from" ∷ []
+
+-- ---- reading
+
+-- whether a word begins with `-`, and is not `-` alone
+abbrev pub is_option : List ℕ → Bool
+is_option (first ∷ second ∷ rest) = first == 45
+is_option _ = false
+
+-- the name of an option, and the value that is given to it
+pub record Setting : Type 0 where
+  pub name : List ℕ
+  pub value : List ℕ
+
+-- the name is that of one of these options
+abbrev pub IsOneOf : List (List ℕ) → List ℕ → Type 0
+IsOneOf [] name = ⊥
+IsOneOf (option ∷ options) name = (name ≡ option) ⊎ IsOneOf options name
+
+-- The words behind a command's name, read from the left, where the command has these options: the
+-- options given, each with its value, and the positional words.
+pub data Reads (options : List (List ℕ))
+    : List (List ℕ) → List Setting → List (List ℕ) → Type 0 where
+  nothing_left : Reads options [] [] []
+  -- `--` ends the options: every word behind it is positional
+  all_behind : {word : List ℕ} {words : List (List ℕ)}
+      → word ≡ codes "--" → Reads options (word ∷ words) [] words
+  -- `--name=value`
+  joined : {word : List ℕ} {words plain : List (List ℕ)} {given : List Setting} (one : Setting)
+      → IsOneOf options one.name → word ≡ codes "--" ++ (one.name ++ (codes "=" ++ one.value))
+      → Reads options words given plain → Reads options (word ∷ words) (one ∷ given) plain
+  -- `--name value`
+  parted : {word : List ℕ} {words plain : List (List ℕ)} {given : List Setting} (one : Setting)
+      → IsOneOf options one.name → word ≡ codes "--" ++ one.name → one.value ≢ codes "--"
+      → Reads options words given plain
+      → Reads options (word ∷ one.value ∷ words) (one ∷ given) plain
+  positional : {word : List ℕ} {words plain : List (List ℕ)} {given : List Setting}
+      → is_option word ≡ false → Reads options words given plain
+      → Reads options (word ∷ words) given (word ∷ plain)
+
+-- each option is given at most once
+abbrev pub IsGivenOnce : List Setting → Type 0
+IsGivenOnce given = AllPairs (λ one other. one.name ≢ other.name) given
+
+-- ---- values
+
+-- the value that is given to the option of this name, if one is
+abbrev pub value_of : List ℕ → List Setting → Option (List ℕ)
+value_of name [] = None
+value_of name (one ∷ given) = cond (bytes_eq one.name name) (Some one.value) (value_of name given)
+
+-- a word of 1 to 7 digits, with this value in this range
+pub record IsNumberIn (least most : ℕ) (word : List ℕ) (n : ℕ) : Type 0 where
+  pub digits : IsNumeral 10 word
+  pub few : length word ≤ MOST_DIGITS
+  pub value : digits_value 10 word ≡ n
+  pub least_is : least ≤ n
+  pub most_is : n ≤ most
+
+-- the word for a format
+abbrev pub format_word : Format → List ℕ
+format_word Real = codes "real"
+
+-- the most nodes: those that are given, from 1 on, or the usual number
+abbrev pub AreNodes : List Setting → ℕ → Type 0
+AreNodes given nodes =
+    MatchOption (value_of (codes "nodes") given) (nodes ≡ USUAL_NODES)
+    (λ word. IsNumberIn 1 MOST_NODES word nodes)
+
+-- the format that is read: the one given, or `.real`
+abbrev pub IsFrom : List Setting → Format → Type 0
+IsFrom given from =
+    MatchOption (value_of (codes "from") given) (from ≡ Real) (λ word. word ≡ format_word from)
+
+-- ---- the order of the words
+
+-- The words are the name of a command, its options, each at most once, and as many positional
+-- words as it takes.
+pub record IsOrder (words : List (List ℕ)) (order : OrderView) : Type 0 where
+  pub behind : List (List ℕ)
+  pub given : List Setting
+  pub named : words ≡ name_of order.command ∷ behind
+  pub read : Reads (options_of order.command) behind given order.bits
+  pub once : IsGivenOnce given
+  pub count : TakesWords order.command (length order.bits)
+  pub nodes : AreNodes given order.nodes
+  pub from : IsFrom given order.from
+
+pub record HasNoOrder (words : List (List ℕ)) : Type 0 where
+  pub refuted : (order : OrderView) → ¬ IsOrder words order
+
+-- The law: words give one order at most.
+abbrev pub OneOrder : Type 0
+OneOrder =
+    (words : List (List ℕ)) (one other : OrderView)
+    → IsOrder words one → IsOrder words other → one ≡ other

@@ -1,0 +1,17 @@
+//! The words of the command line.
+#![tactic(auto)]
+
+mod fault;
+mod limits;
+mod options;
+mod order;
+mod reading;
+mod scanning;
+
+pub use fault::WordsFault;
+pub use limits::{MOST_DIGITS, MOST_NODES, USUAL_NODES};
+pub use order::{Command, Format, Order};
+pub use reading::{one_order, read_words};
+
+#[cfg(test)]
+mod tests;

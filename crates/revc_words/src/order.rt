@@ -1,0 +1,49 @@
+// What the words of the command line ask for.
+ghost use Rattle.std.specs.Prelude.{◌≡◌};
+ghost use Rattle.revc_words.specs.Words.{first_word, order_of};
+
+/// What is to be done.
+#[derive(Clone, Copy, Debug, PartialEq, Eq)]
+pub enum Command {
+    /// Reads a program and writes the file of its clean circuit.
+    Compile,
+    /// Reads a program and writes how many claims it has, each of which holds on all inputs.
+    Check,
+    /// Reads a program and writes the bits that it gives on the bits of a word.
+    Eval,
+    /// Reads a circuit and writes its counts.
+    Stat,
+    /// Reads a circuit and writes the bits that it gives on the bits of each word.
+    Run,
+}
+
+/// A format of circuit files.
+#[derive(Clone, Copy, Debug, PartialEq, Eq)]
+pub enum Format {
+    /// RevLib's `.real`.
+    Real,
+}
+
+/// What the words ask for: a command, its options, and its words of bits. What a command has no option for has its
+/// usual value. Contracts see it by `order_of`.
+#[derive(Debug, Drop)]
+pub struct Order {
+    pub command: Command,
+    /// The most inner nodes of the diagrams, 1 to 1,000,000.
+    pub nodes: u32,
+    /// The format of the circuit that is read.
+    pub from: Format,
+    pub bits: Vec<String>,
+}
+
+impl Order {
+    /// The first word of bits, or the empty one. It takes no memory.
+    pub fn word(&self) -> &str
+        ensures { result.now ≡ first_word (order_of self.now).bits }
+    {
+        match self.bits.as_slice() {
+            [word, ..] => word.as_str(),
+            [] => "",
+        }
+    }
+}
