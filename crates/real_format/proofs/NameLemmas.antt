@@ -1,15 +1,16 @@
 -- The names of a compiled circuit's lines.
-use Rattle.std.proofs.Common.{◌≡◌, ◌≢◌, ℕ, zero, suc, ◌+◌, ◌<◌, ◌≤◌, ◌^◌, ◌%◌, ltb, eqb, true, false, cond, List, [], ◌∷◌, length, map, refl, sym, ap, ◌∙◌, arith, inl, inr, Some, slice_get}
-use Rattle.std.specs.List.{AllByRecursion, AllPairs, list_all, range_with_len}
+use Rattle.std.proofs.Common.{◌≡◌, ℕ, zero, suc, ◌+◌, ◌<◌, ◌≤◌, ◌^◌, ◌%◌, ltb, eqb, true, false, cond, List, [], ◌∷◌, ◌++◌, length, map, refl, sym, ap, ◌∙◌, arith, inl, inr, Some, slice_get}
+use Rattle.std.specs.List.{AllByRecursion, list_all, range_with_len}
 use Rattle.std.specs.Fmt.{decimal}
 use Rattle.std.proofs.lemmas.Fmt.{decimal_by_steps, decimal_injective, decimal_nonempty, length-decimal-le}
-use Rattle.std.proofs.lemmas.List.FromFn.{get_or-map-range_with_len, length-map-range_with_len}
+use Rattle.std.proofs.lemmas.List.FromFn.{length-map-range_with_len}
 use Rattle.std.proofs.lemmas.List.Folds.{list_all-append}
 use Rattle.std.proofs.lemmas.Bool.{cases_lt, lt-ltb, ne_eqb}
 use Rattle.std.proofs.lemmas.Bool.Decides.{nat_tests}
 use Rattle.list_facts.proofs.AllLemmas.{AllByRecursion-range}
-use Rattle.real_format.specs.Words.{is_word_byte}
-use Rattle.real_format.specs.Real.{IsName}
+use Rattle.list_facts.specs.Lists.{AreApart}
+use Rattle.real_format.specs.Words.{is_word_byte, is_comment}
+use Rattle.real_format.specs.Header.{IsName}
 use Rattle.gate_split.specs.declared.roles.Roles.{Roles}
 use Rattle.gate_split.specs.declared.roles.Role.{Role}
 use Rattle.gate_split.specs.declared.roles.Role.TheVariants.{Input, Output, Work, Borrowed}
@@ -101,28 +102,53 @@ IsName-name_of_line roles line h =
     record {
       some = omega arith;
       few = omega arith;
-      solid = true-and _ _ (is_word_byte-above (letter_of (role_at roles line)) (omega arith)) (solid-decimal number low);
       begins = λ barred. elim barred [ inl e ↦ omega arith | inr e ↦ omega arith ];
     }
 
-pub IsWord-from_name : (word : List ℕ) → IsName word → IsWord word
-IsWord-from_name word n = record { some = n.some; solid = n.solid }
+pub IsWord-name_of_line : (roles : Roles) (line : ℕ) → line < 16384 → IsWord (name_of_line roles line)
+IsWord-name_of_line roles line h =
+    let number = number_at roles line in
+    let low : number < 2 ^ 64 = omega arith in
+    let above = letter-above (role_at roles line) in
+    record {
+      some = omega arith;
+      solid = true-and _ _ (is_word_byte-above (letter_of (role_at roles line)) (omega arith)) (solid-decimal number low);
+      plain = ne_eqb (letter_of (role_at roles line)) 35 (λ e. omega arith);
+    }
+
+plain-decimal : (n : ℕ) → n < 2 ^ 64 → is_comment (decimal n) ≡ false
+plain-decimal =
+    decimal_by_steps (λ n ds. is_comment ds ≡ false)
+    (λ n h. ne_eqb (48 + n) 35 (λ e. omega arith))
+    (λ n ds h p. by ds (48 + n % 10) p (ne_eqb (48 + n % 10) 35 (λ e. omega arith)))
+  where
+    by : (ds : List ℕ) (d : ℕ) → is_comment ds ≡ false → eqb d 35 ≡ false → is_comment (ds ++ d ∷ []) ≡ false
+    by [] d p e = e
+    by (b ∷ bs) d p e = p
 
 pub IsWord-decimal : (n : ℕ) → n < 2 ^ 64 → IsWord (decimal n)
-IsWord-decimal n h = record { some = decimal_nonempty n h; solid = solid-decimal n h }
+IsWord-decimal n h = record { some = decimal_nonempty n h; solid = solid-decimal n h; plain = plain-decimal n h }
 
 -- ---- all names
 
 pub length-names_of : (roles : Roles) → length (names_of roles) ≡ lines_in roles
 length-names_of roles = length-map-range_with_len (name_of_line roles) 0 (lines_in roles)
 
-pub names_are_different : (roles : Roles) → lines_in roles ≤ 16384 → AllPairs (λ a b. a ≢ b) (names_of roles)
-names_are_different roles few i j d below inside e =
-    let long = length-names_of roles in
-    let at_i = get_or-map-range_with_len (name_of_line roles) 0 (lines_in roles) i i d (omega arith) (omega arith) in
-    let at_j = get_or-map-range_with_len (name_of_line roles) 0 (lines_in roles) j j d (omega arith) (omega arith) in
-    let same : i ≡ j = name_of_line-injective roles i j (omega arith) (omega arith) (sym at_i ∙ e ∙ at_j) in
-    omega arith
+apart_range : {X : Type 0} (f : ℕ → X) (a n : ℕ) → ((i j : ℕ) → a ≤ i → i < j → j < a + n → ¬ (f i ≡ f j))
+    → AreApart (λ one other. one ≡ other) (map f (range_with_len a n))
+apart_range f a zero apart = tt
+apart_range f a (suc n) apart = (
+  AllByRecursion-range (λ y. ¬ (f a ≡ y)) f (a + 1) n (λ i low high. apart a i (omega arith) (omega (arith, low)) (omega (arith, high))),
+  apart_range f (a + 1) n (λ i j low less high. apart i j (omega (arith, low)) less (omega (arith, high))),
+)
+
+pub names_are_different : (roles : Roles) → lines_in roles ≤ 16384 → AreApart (λ one other. one ≡ other) (names_of roles)
+names_are_different roles few = apart_range (name_of_line roles) 0 (lines_in roles)
+    (λ i j low less high e. let same : i
+    ≡ j = name_of_line-injective roles i j (omega (arith, less, high)) (omega (arith, high)) e in omega (arith, less, same))
+
+pub names_are_words : (roles : Roles) → lines_in roles ≤ 16384 → AllByRecursion IsWord (names_of roles)
+names_are_words roles few = AllByRecursion-range IsWord (name_of_line roles) 0 (lines_in roles) (λ i low high. IsWord-name_of_line roles i (omega arith))
 
 pub names_are_names : (roles : Roles) → lines_in roles ≤ 16384 → AllByRecursion IsName (names_of roles)
 names_are_names roles few = AllByRecursion-range IsName (name_of_line roles) 0 (lines_in roles) (λ i low high. IsName-name_of_line roles i (omega arith))

@@ -2,7 +2,7 @@
 use Rattle.std.proofs.Common.{◌≡◌, ℕ, ◌<◌, eqb, Bool, true, false, not, ◌||◌, ◌&&◌, List, [], ◌∷◌, ◌++◌, length, map, refl, sym, ap, ◌∙◌, arith, append_assoc}
 use Rattle.std.specs.List.{AllByRecursion, list_all, flat_map}
 use Rattle.std.proofs.lemmas.List.Folds.{list_all-append}
-use Rattle.real_format.specs.Words.{lines_of_text, is_blank, is_word_byte, begins_word, words_of_line}
+use Rattle.real_format.specs.Words.{lines_of_text, is_blank, is_word_byte, begins_word, words_of_line, is_comment, before_comment, said_words, said_lines}
 use Rattle.real_format.specs.Compiled.{line_text}
 
 -- ---- tests
@@ -28,10 +28,11 @@ solid-tests false false e = (refl, refl)
 solid_from_test : (b : ℕ) → is_word_byte b ≡ true → IsSolid b
 solid_from_test b e = let p = solid-tests (is_blank b) (eqb b 10) e in record { dark = p.0; inside = p.1 }
 
--- a word of a line: some bytes, all of them bytes of words
+-- a word of a line that begins no comment: some bytes, all of them bytes of words
 pub record IsWord (word : List ℕ) : Type 0 where
   pub some : 0 < length word
   pub solid : list_all is_word_byte word ≡ true
+  pub plain : is_comment word ≡ false
 
 -- ---- lines
 
@@ -49,17 +50,18 @@ lines_of-line (b ∷ bs) rest e =
 
 -- ---- words of a line
 
-words_of-word : (word rest : List ℕ) → IsWord word → begins_word rest ≡ false → words_of_line (word ++ rest) ≡ word ∷ words_of_line rest
-words_of-word [] rest w e = absurd (omega (arith, w.some))
-words_of-word (b ∷ []) rest w e =
-    let s = solid_from_test b (and-true (is_word_byte b) true w.solid).0 in
+words_of-word : (word rest : List ℕ) → 0 < length word → list_all is_word_byte word ≡ true → begins_word rest ≡ false
+    → words_of_line (word ++ rest) ≡ word ∷ words_of_line rest
+words_of-word [] rest some solid e = absurd (omega arith)
+words_of-word (b ∷ []) rest some solid e =
+    let s = solid_from_test b (and-true (is_word_byte b) true solid).0 in
     rw (s.dark, e) refl
-words_of-word (b ∷ c ∷ cs) rest w e =
-    let p = and-true (is_word_byte b) (is_word_byte c && list_all is_word_byte cs) w.solid in
+words_of-word (b ∷ c ∷ cs) rest some solid e =
+    let p = and-true (is_word_byte b) (is_word_byte c && list_all is_word_byte cs) solid in
     let q = and-true (is_word_byte c) (list_all is_word_byte cs) p.1 in
     let s = solid_from_test b p.0 in
     let t = solid_from_test c q.0 in
-    let tail : words_of_line ((c ∷ cs) ++ rest) ≡ (c ∷ cs) ∷ words_of_line rest = words_of-word (c ∷ cs) rest (record { some = omega arith; solid = p.1 }) e in
+    let tail : words_of_line ((c ∷ cs) ++ rest) ≡ (c ∷ cs) ∷ words_of_line rest = words_of-word (c ∷ cs) rest (omega arith) p.1 e in
     rw (s.dark, tail, t.dark) refl
 
 -- words behind one space each
@@ -73,7 +75,7 @@ begins_word-behind_spaces (w ∷ ws) = refl
 words_of-behind_spaces : (words : List (List ℕ)) → AllByRecursion IsWord words → words_of_line (behind_spaces words) ≡ words
 words_of-behind_spaces [] h = refl
 words_of-behind_spaces (w ∷ ws) h =
-    words_of-word w (behind_spaces ws) h.0 (begins_word-behind_spaces ws) ∙ ap (λ rest. w ∷ rest) (words_of-behind_spaces ws h.1)
+    words_of-word w (behind_spaces ws) h.0.some h.0.solid (begins_word-behind_spaces ws) ∙ ap (λ rest. w ∷ rest) (words_of-behind_spaces ws h.1)
 
 abbrev body_of : List (List ℕ) → List ℕ
 body_of [] = []
@@ -81,7 +83,8 @@ body_of (w ∷ ws) = w ++ behind_spaces ws
 
 words_of-body_of : (words : List (List ℕ)) → AllByRecursion IsWord words → words_of_line (body_of words) ≡ words
 words_of-body_of [] h = refl
-words_of-body_of (w ∷ ws) h = words_of-word w (behind_spaces ws) h.0 (begins_word-behind_spaces ws) ∙ ap (λ rest. w ∷ rest) (words_of-behind_spaces ws h.1)
+words_of-body_of (w ∷ ws) h = words_of-word w (behind_spaces ws) h.0.some h.0.solid (begins_word-behind_spaces ws)
+    ∙ ap (λ rest. w ∷ rest) (words_of-behind_spaces ws h.1)
 
 no_feed-word : (word : List ℕ) → list_all is_word_byte word ≡ true → list_all (λ b. not (eqb b 10)) word ≡ true
 no_feed-word [] e = refl
@@ -106,11 +109,15 @@ line_text-body : (words : List (List ℕ)) (rest : List ℕ) → line_text words
 line_text-body [] rest = refl
 line_text-body (w ∷ ws) rest = simp append_assoc
 
+no_comment : (words : List (List ℕ)) → AllByRecursion IsWord words → before_comment words ≡ words
+no_comment [] h = refl
+no_comment (w ∷ ws) h = rw (h.0.plain, no_comment ws h.1) refl
+
 -- the lines and words of a text are those that it was made of
-pub words_of_lines : (lines : List (List (List ℕ))) → AllByRecursion (AllByRecursion IsWord) lines
-    → map words_of_line (lines_of_text (flat_map line_text lines)) ≡ lines
+pub words_of_lines : (lines : List (List (List ℕ))) → AllByRecursion (AllByRecursion IsWord) lines → said_lines (flat_map line_text lines) ≡ lines
 words_of_lines [] h = refl
 words_of_lines (l ∷ ls) h =
     let front : lines_of_text (line_text l ++ flat_map line_text ls) ≡ body_of l ∷ lines_of_text (flat_map line_text ls)
     = ap lines_of_text (line_text-body l (flat_map line_text ls)) ∙ lines_of-line (body_of l) (flat_map line_text ls) (no_feed-body_of l h.0) in
-    rw (front, words_of-body_of l h.0, words_of_lines ls h.1) refl
+    let said : said_words (body_of l) ≡ l = ap before_comment (words_of-body_of l h.0) ∙ no_comment l h.0 in
+    ap (map said_words) front ∙ ap (λ w. w ∷ said_lines (flat_map line_text ls)) said ∙ ap (λ rest. l ∷ rest) (words_of_lines ls h.1)

@@ -8,7 +8,7 @@ use Rattle.mct_circuit.specs.declared.gate.Control.{Control}
 use Rattle.mct_circuit.specs.declared.gate.Op.TheVariants.{Flip}
 use Rattle.mct_circuit.specs.Gates.{GateView, lines_of, targets_of}
 use Rattle.gate_split.specs.declared.roles.Roles.{Roles}
-use Rattle.real_format.specs.Real.{constant_byte, garbage_byte}
+use Rattle.real_format.specs.Header.{constant_byte, garbage_byte}
 use Rattle.gate_split.specs.Plans.{lines_in}
 use Rattle.real_format.specs.Compiled.{name_of_line, names_of, constants_of, line_text, header_lines, gate_words, compiled_text}
 use Rattle.real_format.specs.inside.Parts.{size_text, names_text, header_text, flip_text}

@@ -10,7 +10,8 @@ use Rattle.gate_split.specs.declared.roles.Role.{Role}
 use Rattle.gate_split.specs.declared.roles.Role.TheVariants.{Input, Output, Work, Borrowed}
 use Rattle.gate_split.specs.Plans.{lines_in, role_at, number_at}
 use Rattle.mct_circuit.specs.Gates.{GateView, lines_of, AreGatesOn, AreNarrow}
-use Rattle.real_format.specs.Real.{RealView, RealMeaning, constant_byte, garbage_byte}
+use Rattle.real_format.specs.Header.{constant_byte, garbage_byte}
+use Rattle.real_format.specs.Real.{RealView, RealMeaning}
 
 -- ---- names and marks
 

@@ -1,14 +1,15 @@
--- What a `.real` text means: names, marks and gates. This is the part of the format that compiled files use: their header
--- lines in their order, and flips of at most two positive controls.
-use Rattle.std.specs.Prelude.{◌≡◌, ◌≢◌, ℕ, ◌≤◌, Bool, true, false, ◌⊎◌, List, [], ◌∷◌, ◌++◌, length, map, codes, slice_get, slice_index, Some}
-use Rattle.std.specs.List.{AllByRecursion, AllPairs, AllZip, list_all}
-use Rattle.std.specs.Str.Parse.{IsNumeral, digits_value}
+-- What a `.real` text means: names, marks and gates. Its lines lead from an empty header to the end of a file.
+use Rattle.std.specs.Prelude.{◌≡◌, ℕ, ◌+◌, ◌≤◌, ◌<◌, Bool, false, if◌then◌else◌, ◌⊎◌, List, [], ◌∷◌, ◌++◌, length, replicate, codes, slice_get, Some, unwrap_or}
+use Rattle.std.specs.List.{AllByRecursion, AllZip}
+use Rattle.list_facts.specs.Lists.{AreApart}
 use Rattle.real_format.specs.declared.file.Mark.{Mark}
-use Rattle.real_format.specs.declared.file.Mark.TheVariants.{Free, Zero, One}
-use Rattle.mct_circuit.specs.Gates.{GateView, flip_of}
-use Rattle.list_facts.specs.Lists.{AreDifferent}
+use Rattle.real_format.specs.declared.file.Mark.TheVariants.{Free}
+use Rattle.real_format.specs.declared.header.Head.{Head}
+use Rattle.mct_circuit.specs.declared.gate.Control.{Control}
+use Rattle.mct_circuit.specs.Gates.{GateView, HasDifferentLines, AreGatesOn, targets_of}
 use Rattle.gate_split.specs.declared.plan.TheConstants.{MOST_LINES, MOST_GATES}
-use Rattle.real_format.specs.Words.{lines_of_text, words_of_line, is_word_byte}
+use Rattle.real_format.specs.Words.{said_lines}
+use Rattle.real_format.specs.Header.{HeaderView, IsName, IsNumber, Says, nothing_said, spelling_of}
 
 -- a file: for each line its name, the bit with which it starts and whether its last bit is of no use; then the gates
 pub record RealView : Type 0 where
@@ -17,73 +18,104 @@ pub record RealView : Type 0 where
   pub garbage : List Bool
   pub gates : List GateView
 
--- a word of digits with this value
-pub record IsNumber (word : List ℕ) (n : ℕ) : Type 0 where
-  pub digits : IsNumeral 10 word
-  pub value : digits_value 10 word ≡ n
+-- ---- gates
 
--- the byte begins no name: `-` or `#`
-abbrev pub IsBarred : ℕ → Type 0
-IsBarred b = (b ≡ 45) ⊎ (b ≡ 35)
-
--- a name has 1 to 64 bytes, all of them bytes of words, and the first one is neither `-` nor `#`
-pub record IsName (word : List ℕ) : Type 0 where
-  pub some : 1 ≤ length word
-  pub few : length word ≤ 64
-  pub solid : list_all is_word_byte word ≡ true
-  pub begins : ¬ IsBarred (slice_index word 0)
-
--- the byte that stands for a mark
-abbrev pub constant_byte : Mark → ℕ
-constant_byte Free = 45
-constant_byte Zero = 48
-constant_byte One = 49
-
-abbrev pub garbage_byte : Bool → ℕ
-garbage_byte true = 49
-garbage_byte false = 45
-
--- the word `tN` and the N names of different lines: the last one is flipped where all others are 1
-pub record ReadsFlip (names : List (List ℕ)) (words : List (List ℕ))
-    (gate : GateView) : Type 0 where
+-- the word `tN` or `fN` of a gate with so many controls that flips one line, or swaps two
+pub record IsGateWord (word : List ℕ) (controls targets : ℕ) : Type 0 where
+  pub letter : ℕ
   pub number : List ℕ
-  pub line_names : List (List ℕ)
-  pub controls : List ℕ
-  pub target : ℕ
-  pub words_are : words ≡ (116 ∷ number) ∷ line_names
-  pub counted : IsNumber number (length line_names)
+  pub spelled : word ≡ letter ∷ number
+  pub known : ((letter ≡ 116) × (targets ≡ 1)) ⊎ ((letter ≡ 102) × (targets ≡ 2))
+  pub counted : IsNumber number (controls + targets)
   pub few_digits : length number ≤ 5
-  pub named : AllZip (λ name line. slice_get names line ≡ Some name) line_names
-      (controls ++ target ∷ [])
-  pub few_controls : length controls ≤ 2
-  pub different : AreDifferent (controls ++ target ∷ [])
-  pub gate_is : gate ≡ flip_of controls target
 
--- a text of these lines of words means this file; the words of `.inputs` and `.outputs` are passed over
+abbrev pub NamesLine : List (List ℕ) → List ℕ → ℕ → Type 0
+NamesLine names word line = slice_get names line ≡ Some word
+
+-- a control is named by its line's name, with `-` before it where the control is negative
+pub record NamesControl (names : List (List ℕ)) (word : List ℕ)
+    (control : Control) : Type 0 where
+  pub name : List ℕ
+  pub signed : word ≡ (if control.positive then name else 45 ∷ name)
+  pub named : NamesLine names name control.line
+
+-- the gate's word, its controls, and the lines that it flips or swaps: all of them different lines
+pub record ReadsGate (names : List (List ℕ)) (words : List (List ℕ))
+    (gate : GateView) : Type 0 where
+  pub word : List ℕ
+  pub control_words : List (List ℕ)
+  pub target_words : List (List ℕ)
+  pub parts : words ≡ word ∷ (control_words ++ target_words)
+  pub counted : IsGateWord word (length control_words) (length target_words)
+  pub controls : AllZip (NamesControl names) control_words gate.controls
+  pub targets : AllZip (NamesLine names) target_words (targets_of gate.op)
+  pub different : HasDifferentLines gate
+
+-- ---- lines
+
+-- the file of a header, without its gates; marks that are absent are all `-`
+pub record Begins (said : HeaderView) (file : RealView) : Type 0 where
+  pub names : said.names ≡ Some file.names
+  pub constants : file.constants ≡ unwrap_or said.constants (replicate (length file.names) Free)
+  pub garbage : file.garbage ≡ unwrap_or said.garbage (replicate (length file.names) false)
+  pub gates : file.gates ≡ []
+
+-- how far the lines of a text have come
+pub data Place : Type 0 where
+  in_header : HeaderView → Place
+  in_gates : RealView → Place
+  at_end : RealView → Place
+
+-- The line leads from one place to another: it keeps the rules, where it stands.
+pub data Leads (line : List (List ℕ)) : Place → Place → Type 0 where
+  says_nothing : {place : Place} → line ≡ [] → Leads line place place
+  says_more : {said after : HeaderView} → (head : Head) → (words : List (List ℕ))
+      → line ≡ spelling_of head ∷ words → Says head said words after
+      → Leads line (in_header said) (in_header after)
+  begins_gates : {said : HeaderView} → {file : RealView} → line ≡ codes ".begin" ∷ []
+      → Begins said file → Leads line (in_header said) (in_gates file)
+  adds_gate : {file : RealView} → (read : GateView) → ReadsGate file.names line read
+      → length file.gates < MOST_GATES
+      → Leads line (in_gates file) (in_gates (record file { gates = file.gates ++ read ∷ [] }))
+  ends_file : {file : RealView} → line ≡ codes ".end" ∷ []
+      → Leads line (in_gates file) (at_end file)
+
+-- the lines lead so, one after another
+pub data LeadTo : List (List (List ℕ)) → Place → Place → Type 0 where
+  nothing_left : {place : Place} → LeadTo [] place place
+  one_more : {line : List (List ℕ)} → {lines : List (List (List ℕ))} → {from next to : Place}
+      → Leads line from next → LeadTo lines next to → LeadTo (line ∷ lines) from to
+
+-- a text means this file
 pub record RealMeaning (text : List ℕ) (file : RealView) : Type 0 where
-  pub number : List ℕ
-  pub inputs : List (List ℕ)
-  pub outputs : List (List ℕ)
-  pub gate_lines : List (List (List ℕ))
-  pub lines : map words_of_line (lines_of_text text)
-      ≡ (codes ".version" ∷ codes "2.0" ∷ [])
-      ∷ (codes ".numvars" ∷ number ∷ [])
-      ∷ (codes ".variables" ∷ file.names)
-      ∷ (codes ".inputs" ∷ inputs)
-      ∷ (codes ".outputs" ∷ outputs)
-      ∷ (codes ".constants" ∷ map constant_byte file.constants ∷ [])
-      ∷ (codes ".garbage" ∷ map garbage_byte file.garbage ∷ [])
-      ∷ (codes ".begin" ∷ [])
-      ∷ (gate_lines ++ (codes ".end" ∷ []) ∷ [])
-  pub counted : IsNumber number (length file.names)
+  pub read : LeadTo (said_lines text) (in_header nothing_said) (at_end file)
+
+-- What each file has: different names for its lines, of which there are 1 to 16,384, a mark of each kind for each line,
+-- and at most 4,000,000 gates on its lines.
+pub record IsFile (file : RealView) : Type 0 where
   pub some : 1 ≤ length file.names
   pub few : length file.names ≤ MOST_LINES
-  pub few_gates : length file.gates ≤ MOST_GATES
   pub named : AllByRecursion IsName file.names
-  pub different : AllPairs (λ a b. a ≢ b) file.names
-  pub constants_fit : length file.constants ≡ length file.names
-  pub garbage_fits : length file.garbage ≡ length file.names
-  pub gates : AllZip (ReadsFlip file.names) gate_lines file.gates
+  pub different : AreApart (λ name other. name ≡ other) file.names
+  pub constants : length file.constants ≡ length file.names
+  pub garbage : length file.garbage ≡ length file.names
+  pub few_gates : length file.gates ≤ MOST_GATES
+  pub placed : AreGatesOn (length file.names) file.gates
+
+abbrev pub MeaningsAreFiles : Type 0
+MeaningsAreFiles = (text : List ℕ) (file : RealView) → RealMeaning text file → IsFile file
+
+-- lines that lead from here to the end of a file
+pub record GoesOn (place : Place) : Type 0 where
+  pub lines : List (List (List ℕ))
+  pub file : RealView
+  pub leads : LeadTo lines place (at_end file)
+
+-- Wherever lines have led, some lines lead on to the end of a file: each front that keeps the rules begins a file.
+abbrev pub FrontsGoOn : Type 0
+FrontsGoOn =
+    (lines : List (List (List ℕ))) (place : Place) → LeadTo lines (in_header nothing_said) place
+    → GoesOn place
 
 -- a text means at most one file
 abbrev pub OneMeaning : Type 0

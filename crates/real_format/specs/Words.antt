@@ -1,5 +1,5 @@
--- The lines of a text, and the words of a line.
-use Rattle.std.specs.Prelude.{◌==◌, ℕ, Bool, false, not, ◌||◌, if◌then◌else◌, List, [], ◌∷◌}
+-- The lines of a text, the words of a line, and comments.
+use Rattle.std.specs.Prelude.{◌==◌, ℕ, Bool, false, not, ◌||◌, if◌then◌else◌, List, [], ◌∷◌, map}
 
 -- a byte before the first of some pieces
 abbrev pub onto_first : ℕ → List (List ℕ) → List (List ℕ)
@@ -30,3 +30,20 @@ words_of_line (b ∷ bs) =
     if is_blank b then words_of_line bs
     else (if begins_word bs then onto_first b (words_of_line bs)
     else (b ∷ []) ∷ words_of_line bs)
+
+-- a word that begins with `#` begins a comment
+abbrev pub is_comment : List ℕ → Bool
+is_comment [] = false
+is_comment (b ∷ bs) = b == 35
+
+-- the words before the comment of their line
+abbrev pub before_comment : List (List ℕ) → List (List ℕ)
+before_comment [] = []
+before_comment (word ∷ words) = if is_comment word then [] else word ∷ before_comment words
+
+abbrev pub said_words : List ℕ → List (List ℕ)
+said_words line = before_comment (words_of_line line)
+
+-- the lines of a text, each as its words before its comment
+abbrev pub said_lines : List ℕ → List (List (List ℕ))
+said_lines text = map said_words (lines_of_text text)

@@ -1,2 +1,7 @@
 -- What only private contracts and proofs cite.
 pub mod Parts
+pub mod Reading
+pub mod Lines
+pub mod Names
+pub mod Stamps
+pub mod Steps

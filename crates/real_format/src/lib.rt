@@ -1,12 +1,20 @@
-//! The RevLib `.real` format: the text of a compiled circuit, and what such a text means.
+//! The RevLib `.real` format: what a text means, its reader, and the text of a compiled circuit.
 #![tactic(auto)]
 
 mod file;
+mod gate;
+mod header;
 mod law;
+mod names;
+mod reader;
+mod refusal;
+mod words;
 mod writer;
 
-pub use file::Mark;
-pub use law::{compiled_meaning, one_meaning};
+pub use file::{Mark, RealFault, RealFile};
+pub use header::Head;
+pub use law::{compiled_meaning, fronts_go_on, meanings_are_files, one_meaning, one_reading};
+pub use reader::read;
 pub use writer::write;
 
 #[cfg(test)]

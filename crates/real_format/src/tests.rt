@@ -24,3 +24,138 @@ fn a_circuit_is_written(rt: HostRuntime) -> Result<(), Fail> {
     }
     Ok(())
 }
+
+// A file with comments, blank lines, both kinds of gates and a negative control, each line ended by CR LF: the
+// last bits of c and d for the bits of a, b and c, by hand.
+const PART: &[u8] = b"# full adder part\r\n.version 1.0\r\n.numvars 4\r\n.variables a b c d\r\n\r
+.inputs a b \"carry in\" 0\r\n.outputs g1 g2 \"sum out\" d\r\n.constants ---0 # d\r\n.garbage 11--\r\n.begin\r
+t3 a b d\r\nf3 -a b c\r\nt2 c d\r\n.end\r\n#\r\n";
+
+#[test]
+fn a_file_is_read(rt: HostRuntime) -> Result<(), Fail> {
+    let alloc = rt.alloc();
+    let file = read(alloc, PART)?;
+    for (name, letter) in file.names().iter().zip(b"abcd") {
+        assert_eq!(rt; name.bytes(), [*letter].as_slice());
+    }
+    let constants = [Mark::Free, Mark::Free, Mark::Free, Mark::Zero];
+    assert_eq!(rt; file.constants(), constants.as_slice());
+    assert_eq!(rt; file.garbage(), [true, true, false, false].as_slice());
+    let circuit = file.circuit();
+    assert_eq!(rt; circuit.lines(), 4);
+    for (bits, last) in [
+        ([true, true, false, false], [false, true]),
+        ([false, true, false, false], [true, true]),
+        ([false, false, true, false], [false, false]),
+        ([false, true, true, false], [true, true]),
+    ] {
+        let mut lines = bits;
+        circuit.apply(&mut lines);
+        assert_eq!(rt; &lines[2..], last.as_slice());
+    }
+    Ok(())
+}
+
+// A text for each rule of the format, with its first bad line, and whether that passes a limit: by hand, from
+// docs/FORMATS.md.
+const BAD_TEXTS: [(&[u8], u32, bool); 52] = [
+    (b"", 1, false),
+    (b".version 3.0\n", 1, false),
+    (b".version 1.0 x\n", 1, false),
+    (b".version 1.0\n.version 1.0\n", 2, false),
+    (b".numvars 0\n", 1, false),
+    (b".numvars x\n", 1, false),
+    (b".numvars 2 3\n", 1, false),
+    (b".numvars 16385 x\n", 1, true),
+    (b".numvars 1\n.numvars 1\n", 2, false),
+    (b".variables a\n", 1, false),
+    (b".numvars 2\n.variables a\n", 2, false),
+    (b".numvars 1\n.variables a b\n", 2, false),
+    (b".numvars 2\n.variables a a\n", 2, false),
+    (b".numvars 1\n.variables -a\n", 2, false),
+    (
+        b".numvars 1\n.variables nnnnnnnnnnnnnnnnnnnnnnnnnnnnnnnnnnnnnnnnnnnnnnnnnnnnnnnnnnnnnnnnn x\n",
+        2,
+        true,
+    ),
+    (
+        b".numvars 1\n.variables -nnnnnnnnnnnnnnnnnnnnnnnnnnnnnnnnnnnnnnnnnnnnnnnnnnnnnnnnnnnnnnnnn\n",
+        2,
+        false,
+    ),
+    (b".numvars 1\n.variables a\n.variables a\n", 3, false),
+    (b".constants 0\n", 1, false),
+    (b".numvars 2\n.constants 0\n", 2, false),
+    (b".numvars 1\n.constants 2\n", 2, false),
+    (b".numvars 1\n.constants 0 0\n", 2, false),
+    (b".numvars 1\n.garbage 0\n", 2, false),
+    (b".inputs a\n\n# none\n.inputs a\n", 4, false),
+    (b".outputs\n.outputs\n", 2, false),
+    (b".module m\n", 1, false),
+    (b".begin\n", 1, false),
+    (b".numvars 1\n.begin\n", 2, false),
+    (b".numvars 1\n.variables a\n.begin x\n", 3, false),
+    (b".numvars 1\n.variables a\nt1 a\n", 3, false),
+    (b".numvars 1\n.variables a\n.begin\n", 4, false),
+    (
+        b".numvars 1\n.variables a\n.begin\nt1 a\n# .end\n",
+        6,
+        false,
+    ),
+    (b".numvars 2\n.variables a b\n.begin\n.begin\n", 4, false),
+    (b".numvars 2\n.variables a b\n.begin\nt0\n", 4, false),
+    (b".numvars 2\n.variables a b\n.begin\nt3 a b\n", 4, false),
+    (b".numvars 2\n.variables a b\n.begin\nt1 a b\n", 4, false),
+    (b".numvars 2\n.variables a b\n.begin\nt2 a -b\n", 4, false),
+    (b".numvars 2\n.variables a b\n.begin\nt2 --a b\n", 4, false),
+    (b".numvars 2\n.variables a b\n.begin\nt2 - b\n", 4, false),
+    (b".numvars 2\n.variables a b\n.begin\nt2 a a\n", 4, false),
+    (b".numvars 2\n.variables a b\n.begin\nt2 a c\n", 4, false),
+    (b".numvars 2\n.variables a b\n.begin\nf1 a\n", 4, false),
+    (b".numvars 2\n.variables a b\n.begin\nf2 -a b\n", 4, false),
+    (b".numvars 2\n.variables a b\n.begin\nf3 a b a\n", 4, false),
+    (b".numvars 2\n.variables a b\n.begin\nt000001 a\n", 4, false),
+    (b".numvars 2\n.variables a b\n.begin\nv2 a b\n", 4, false),
+    (b".numvars 2\n.variables a b\n.begin\nt a\n", 4, false),
+    (b".numvars 2\n.variables a b\n.begin\n.end x\n", 4, false),
+    (
+        b".numvars 2\n.variables a b\n.begin\nt3 a b nnnnnnnnnnnnnnnnnnnnnnnnnnnnnnnnnnnnnnnnnnnnnnnnnnnnnnnnnnnnnnnnn\n",
+        4,
+        true,
+    ),
+    (
+        b".numvars 2\n.variables a b\n.begin\nt2 -nnnnnnnnnnnnnnnnnnnnnnnnnnnnnnnnnnnnnnnnnnnnnnnnnnnnnnnnnnnnnnnnn x\n",
+        4,
+        true,
+    ),
+    (
+        b".numvars 2\n.variables a b\n.begin\nt2 --nnnnnnnnnnnnnnnnnnnnnnnnnnnnnnnnnnnnnnnnnnnnnnnnnnnnnnnnnnnnnnnnn b\n",
+        4,
+        false,
+    ),
+    (
+        b".numvars 2\n.variables a b\n.begin\nt1 -nnnnnnnnnnnnnnnnnnnnnnnnnnnnnnnnnnnnnnnnnnnnnnnnnnnnnnnnnnnnnnnnn\n",
+        4,
+        false,
+    ),
+    (
+        b".numvars 2\n.variables a b\n.begin\n.end\nt1 a\n",
+        5,
+        false,
+    ),
+];
+
+#[test]
+fn bad_lines_are_named(rt: HostRuntime) -> Result<(), Fail> {
+    let alloc = rt.alloc();
+    for (text, number, is_limit) in BAD_TEXTS {
+        assert!(rt; text.len() < 1_000);
+        let fault = if is_limit {
+            RealFault::Limit { number }
+        } else {
+            RealFault::Line { number }
+        };
+        assert_eq!(rt; read(alloc, text).err(), Some(fault));
+    }
+    Ok(())
+}

@@ -1,0 +1,388 @@
+-- The rule of each line of the header, and what the reader's functions give for it.
+use Rattle.std.proofs.Common.{◌≡◌, ℕ, ◌<◌, Bool, true, false, if◌then◌else◌, eqb, ◌⊎◌, inl, inr, List, [], ◌∷◌, ◌++◌, length, map, Option, Some, None, IfSome, Ok, Err, refl, sym, ap, ◌∙◌, subst, arith, codes, append_assoc, append-nil}
+use Rattle.std.specs.Prelude.{nat_lt}
+use Rattle.std.specs.Option.{is_some}
+use Rattle.std.specs.List.{AllByRecursion}
+use Rattle.std.specs.Str.{bytes_eq}
+use Rattle.std.proofs.lemmas.Bool.{ne_eqb, eq-eqb, eqb-true}
+use Rattle.std.proofs.lemmas.Bool.Decides.{nat_tests}
+use Rattle.std.proofs.lemmas.List.{length-map}
+use Rattle.list_facts.specs.Lists.{AreApart}
+use Rattle.real_format.specs.declared.file.Mark.{Mark}
+use Rattle.real_format.specs.declared.file.Mark.TheVariants.{Free, Zero, One}
+use Rattle.real_format.specs.declared.header.Head.{Head}
+use Rattle.real_format.specs.declared.header.Head.TheVariants.{Version, Lines, Names, Inputs, Outputs, InputBus, OutputBus, Constants, Garbage}
+use Rattle.real_format.specs.declared.refusal.Refusal.TheVariants.{Form, Limit}
+use Rattle.real_format.specs.Header.{HeaderView, IsNumber, IsName, Says, constant_byte, garbage_byte, spelling_of}
+use Rattle.real_format.specs.Faults.{HasManyLines, HasLongName}
+use Rattle.real_format.specs.inside.Reading.{and_then, or_form, single, is_nil, number_of, is_version, counted, count_of, names_from, marks_from, marks_of, constant_of, garbage_of, add}
+use Rattle.real_format.specs.inside.Steps.{IsSound}
+use Rattle.real_format.proofs.InversionLemmas.{else_ok, then_ok, and_ok, or_ok, same_ok, else_limit, limit_else, then_limit, and_limit, or_limit, ok_no_limit}
+use Rattle.real_format.proofs.HeaderLemmas.{single_is, is_none, number_is, is_number, same_word, either, IsCount, count_is, is_count, AreNames, names_are, are_names, IsLongName, names_long, long_names}
+
+-- ---- marks
+
+module _ {M : Type 0} (f : ℕ → Option M) (byte_of : M → ℕ) (back : (b : ℕ) (m : M) → f b ≡ Some m → byte_of m ≡ b)
+    (forth : (m : M) → f (byte_of m) ≡ Some m) where
+  record AreMarks (done : List M) (bytes : List ℕ) (marks : List M) : Type 0 where
+    more : List M
+    is : marks ≡ done ++ more
+    spelled : map byte_of more ≡ bytes
+
+  marks_are : (done : List M) (bytes : List ℕ) (marks : List M) → marks_from f done bytes ≡ Ok marks → AreMarks done bytes marks
+  marks_are done [] marks e = record { more = []; is = sym (same_ok done marks e) ∙ sym (append-nil done); spelled = refl }
+  marks_are done (b ∷ bs) marks e =
+      let p = or_ok (f b) (λ mark. marks_from f (done ++ mark ∷ []) bs) marks e in
+      let rest = marks_are (done ++ p.0 ∷ []) bs marks p.2 in
+      record {
+        more = p.0 ∷ rest.more;
+        is = rest.is ∙ append_assoc done (p.0 ∷ []) rest.more;
+        spelled = ap (λ x. x ∷ map byte_of rest.more) (back b p.0 p.1) ∙ ap (λ xs. b ∷ xs) rest.spelled;
+      }
+
+  are_marks : (done more : List M) → marks_from f done (map byte_of more) ≡ Ok (done ++ more)
+  are_marks done [] = ap Ok (sym (append-nil done))
+  are_marks done (m ∷ ms) = rw (forth m) (are_marks (done ++ m ∷ []) ms ∙ ap Ok (append_assoc done (m ∷ []) ms))
+
+  record IsMarks (n : ℕ) (words : List (List ℕ)) (marks : List M) : Type 0 where
+    spelled : words ≡ map byte_of marks ∷ []
+    count : length marks ≡ n
+
+  marks_of-is : (n : ℕ) (words : List (List ℕ)) (marks : List M) → marks_of f n words ≡ Ok marks → IsMarks n words marks
+  marks_of-is n words marks e =
+      let p = or_ok (single words) (λ word. if eqb (length word) n then marks_from f [] word else Err Form) marks e in
+      let q = then_ok (eqb (length p.0) n) Form (marks_from f [] p.0) marks p.2 in
+      let m = marks_are [] p.0 marks q.1 in
+      let whole : map byte_of marks ≡ p.0 = ap (map byte_of) m.is ∙ m.spelled in
+      record {
+        spelled = single_is words p.0 p.1 ∙ ap (λ w. w ∷ []) (sym whole);
+        count = sym (length-map marks byte_of) ∙ ap length whole ∙ eqb-true (length p.0) n q.0;
+      }
+
+  is-marks_of : (n : ℕ) (words : List (List ℕ)) (marks : List M) → IsMarks n words marks → marks_of f n words ≡ Ok marks
+  is-marks_of n words marks is =
+      rw (is.spelled, eq-eqb (length (map byte_of marks)) n (length-map marks byte_of ∙ is.count)) (are_marks [] marks)
+
+  no_limit_in_marks : (done : List M) (bytes : List ℕ) → marks_from f done bytes ≡ Err Limit → ⊥
+  no_limit_in_marks done [] e = ok_no_limit done e
+  no_limit_in_marks done (b ∷ bs) e =
+      let p = or_limit (f b) (λ mark. marks_from f (done ++ mark ∷ []) bs) e in
+      no_limit_in_marks (done ++ p.0 ∷ []) bs p.2
+
+  no_limit_of_marks : (n : ℕ) (words : List (List ℕ)) → marks_of f n words ≡ Err Limit → ⊥
+  no_limit_of_marks n words e =
+      let p = or_limit (single words) (λ word. if eqb (length word) n then marks_from f [] word else Err Form) e in
+      let q = then_limit (eqb (length p.0) n) (marks_from f [] p.0) p.2 in
+      no_limit_in_marks [] p.0 q.1
+
+constant_back : (b : ℕ) (m : Mark) → constant_of b ≡ Some m → constant_byte m ≡ b
+constant_back b m e = by (eqb b 45) (eqb b 48) (eqb b 49) refl refl refl e
+  where
+    by : (s t u : Bool) → eqb b 45 ≡ s → eqb b 48 ≡ t → eqb b 49 ≡ u
+        → (if s then Some Free else (if t then Some Zero else (if u then Some One else None))) ≡ Some m → constant_byte m ≡ b
+    by true t u p q r f = let same : Free ≡ m = cc in ap constant_byte (sym same) ∙ sym (eqb-true b 45 p)
+    by false true u p q r f = let same : Zero ≡ m = cc in ap constant_byte (sym same) ∙ sym (eqb-true b 48 q)
+    by false false true p q r f = let same : One ≡ m = cc in ap constant_byte (sym same) ∙ sym (eqb-true b 49 r)
+    by false false false p q r f = absurd (cc)
+
+constant_forth : (m : Mark) → constant_of (constant_byte m) ≡ Some m
+constant_forth Free = refl
+constant_forth Zero = refl
+constant_forth One = refl
+
+garbage_back : (b : ℕ) (m : Bool) → garbage_of b ≡ Some m → garbage_byte m ≡ b
+garbage_back b m e = by (eqb b 45) (eqb b 49) refl refl e
+  where
+    by : (s t : Bool) → eqb b 45 ≡ s → eqb b 49 ≡ t → (if s then Some false else (if t then Some true else None)) ≡ Some m → garbage_byte m ≡ b
+    by true t p q f = let same : false ≡ m = cc in ap garbage_byte (sym same) ∙ sym (eqb-true b 45 p)
+    by false true p q f = let same : true ≡ m = cc in ap garbage_byte (sym same) ∙ sym (eqb-true b 49 q)
+    by false false p q f = absurd (cc)
+
+garbage_forth : (m : Bool) → garbage_of (garbage_byte m) ≡ Some m
+garbage_forth true = refl
+garbage_forth false = refl
+
+-- ---- what is added
+
+is_version-says : (word : List ℕ) → is_version word ≡ true → (word ∷ [] ≡ codes "1.0" ∷ []) ⊎ (word ∷ [] ≡ codes "2.0" ∷ [])
+is_version-says word e = elim (either (bytes_eq word (codes "1.0")) (bytes_eq word (codes "2.0")) e) [
+  | inl one ↦ inl (ap (λ w. w ∷ []) (same_word word (codes "1.0") one))
+  | inr two ↦ inr (ap (λ w. w ∷ []) (same_word word (codes "2.0") two))
+]
+
+pub says_so : (head : Head) (said : HeaderView) (words : List (List ℕ)) (after : HeaderView) → add head said words ≡ Ok after → Says head said words after
+says_so Version said words after e =
+    let p = else_ok said.version Form _ after e in
+    let q = or_ok (single words) (λ word. if is_version word then Ok (record said { version = true }) else Err Form) after p.1 in
+    let r = then_ok (is_version q.0) Form (Ok (record said { version = true })) after q.2 in
+    record {
+      once = p.0;
+      known = subst (λ ws. (ws ≡ codes "1.0" ∷ []) ⊎ (ws ≡ codes "2.0" ∷ [])) (sym (single_is words q.0 q.1)) (is_version-says q.0 r.0);
+      adds = sym (same_ok (record said { version = true }) after r.1);
+    }
+says_so Lines said words after e =
+    let p = else_ok (is_some said.lines) Form _ after e in
+    let q = and_ok (count_of words) (λ n. Ok (record said { lines = Some n })) after p.1 in
+    let c = count_is words q.0 q.1 in
+    record {
+      number = c.number;
+      count = q.0;
+      once = is_none said.lines p.0;
+      alone = c.alone;
+      counted = c.counted;
+      some = c.some;
+      few = c.few;
+      adds = sym (same_ok (record said { lines = Some q.0 }) after q.2);
+    }
+says_so Names said words after e =
+    let p = else_ok (is_some said.names) Form _ after e in
+    let q = or_ok said.lines (λ n. and_then (names_from n [] words) (λ names. Ok (record said { names = Some names }))) after p.1 in
+    let r = and_ok (names_from q.0 [] words) (λ names. Ok (record said { names = Some names })) after q.2 in
+    let are = names_are q.0 [] words r.0 r.1 in
+    let good = subst AreNames are.is (are.names_are (record { named = tt; different = tt })) in
+    record {
+      once = is_none said.names p.0;
+      counted = q.1 ∙ ap Some (sym are.count ∙ ap length are.is);
+      named = good.named;
+      different = good.different;
+      adds = sym (same_ok (record said { names = Some r.0 }) after r.2) ∙ ap (λ names. let s : HeaderView = record said { names = Some names } in s) are.is;
+    }
+says_so Inputs said words after e =
+    let p = else_ok said.inputs Form (Ok (record said { inputs = true })) after e in
+    record { once = p.0; adds = sym (same_ok (record said { inputs = true }) after p.1) }
+says_so Outputs said words after e =
+    let p = else_ok said.outputs Form (Ok (record said { outputs = true })) after e in
+    record { once = p.0; adds = sym (same_ok (record said { outputs = true }) after p.1) }
+says_so InputBus said words after e = sym (same_ok said after e)
+says_so OutputBus said words after e = sym (same_ok said after e)
+says_so Constants said words after e =
+    let p = else_ok (is_some said.constants) Form _ after e in
+    let q = or_ok said.lines (λ n. and_then (marks_of constant_of n words) (λ marks. Ok (record said { constants = Some marks }))) after p.1 in
+    let r = and_ok (marks_of constant_of q.0 words) (λ marks. Ok (record said { constants = Some marks })) after q.2 in
+    let m = marks_of-is constant_of constant_byte constant_back constant_forth q.0 words r.0 r.1 in
+    record {
+      marks = r.0;
+      once = is_none said.constants p.0;
+      counted = q.1 ∙ ap Some (sym m.count);
+      spelled = m.spelled;
+      adds = sym (same_ok (record said { constants = Some r.0 }) after r.2);
+    }
+says_so Garbage said words after e =
+    let p = else_ok (is_some said.garbage) Form _ after e in
+    let q = or_ok said.lines (λ n. and_then (marks_of garbage_of n words) (λ marks. Ok (record said { garbage = Some marks }))) after p.1 in
+    let r = and_ok (marks_of garbage_of q.0 words) (λ marks. Ok (record said { garbage = Some marks })) after q.2 in
+    let m = marks_of-is garbage_of garbage_byte garbage_back garbage_forth q.0 words r.0 r.1 in
+    record {
+      marks = r.0;
+      once = is_none said.garbage p.0;
+      counted = q.1 ∙ ap Some (sym m.count);
+      spelled = m.spelled;
+      adds = sym (same_ok (record said { garbage = Some r.0 }) after r.2);
+    }
+
+pub so_says : (head : Head) (said : HeaderView) (words : List (List ℕ)) (after : HeaderView) → Says head said words after → add head said words ≡ Ok after
+so_says Version said words after s = elim s.known [
+  | inl one ↦ rw (s.once, one) (ap Ok (sym s.adds))
+  | inr two ↦ rw (s.once, two) (ap Ok (sym s.adds))
+]
+so_says Lines said words after s =
+    let c : IsCount words s.count = record { number = s.number; alone = s.alone; counted = s.counted; some = s.some; few = s.few } in
+    rw (s.once, is_count words s.count c) (ap Ok (sym s.adds))
+so_says Names said words after s =
+    rw s.once (ap (λ l. or_form l (λ n. and_then (names_from n [] words) (λ names. Ok (record said { names = Some names })))) s.counted
+    ∙ ap (λ r. and_then r (λ names. Ok (record said { names = Some names }))) (are_names (length words) [] words
+    (record { named = s.named; different = s.different }) refl) ∙ ap Ok (sym s.adds))
+so_says Inputs said words after s = rw s.once (ap Ok (sym s.adds))
+so_says Outputs said words after s = rw s.once (ap Ok (sym s.adds))
+so_says InputBus said words after s = ap Ok (sym s)
+so_says OutputBus said words after s = ap Ok (sym s)
+so_says Constants said words after s =
+    rw s.once (ap (λ l. or_form l (λ n. and_then (marks_of constant_of n words) (λ marks. Ok (record said { constants = Some marks })))) s.counted
+    ∙ ap (λ r. and_then r (λ marks. Ok (record said { constants = Some marks }))) (is-marks_of constant_of constant_byte constant_back constant_forth
+    (length s.marks) words s.marks
+    (record { spelled = s.spelled; count = refl })) ∙ ap Ok (sym s.adds))
+so_says Garbage said words after s =
+    rw s.once (ap (λ l. or_form l (λ n. and_then (marks_of garbage_of n words) (λ marks. Ok (record said { garbage = Some marks })))) s.counted
+    ∙ ap (λ r. and_then r (λ marks. Ok (record said { garbage = Some marks }))) (is-marks_of garbage_of garbage_byte garbage_back garbage_forth
+    (length s.marks) words s.marks
+    (record { spelled = s.spelled; count = refl })) ∙ ap Ok (sym s.adds))
+
+-- ---- limits
+
+count_limit : (words : List (List ℕ)) → count_of words ≡ Err Limit
+    → (number : List ℕ) × (rest : List (List ℕ)) × (n : ℕ) × (words ≡ number ∷ rest) × IsNumber number n × (16384 < n)
+count_limit [] e = absurd (cc)
+count_limit (w ∷ ws) e =
+    let p = or_limit (number_of w) (λ k. counted k ws) e in
+    let q = else_limit (eqb p.0 0) _ p.2 in
+    elim (limit_else (nat_lt 16384 p.0) _ q.1) [
+      | inl above ↦ (w, ws, p.0, refl, number_is w p.0 p.1, grind (arith, nat_tests, above))
+      | inr r ↦ let s = then_limit (is_nil ws) (Ok p.0) r.1 in ok_no_limit p.0 s.1
+    ]
+
+limit_count : (number : List ℕ) (rest : List (List ℕ)) (n : ℕ) → IsNumber number n → 16384 < n → count_of (number ∷ rest) ≡ Err Limit
+limit_count number rest n is many =
+    let above : nat_lt 16384 n ≡ true = grind (arith, nat_tests) in
+    rw (is_number number n is, ne_eqb n 0 (λ e. omega arith), above) refl
+
+-- a line of the header that passes a limit
+pub limit_so : (head : Head) (said : HeaderView) (words : List (List ℕ)) → add head said words ≡ Err Limit
+    → HasManyLines said (spelling_of head ∷ words) ⊎ HasLongName said (spelling_of head ∷ words)
+limit_so Version said words e =
+    let p = else_limit said.version _ e in
+    let q = or_limit (single words) (λ word. if is_version word then Ok (record said { version = true }) else Err Form) p.1 in
+    let r = then_limit (is_version q.0) (Ok (record said { version = true })) q.2 in
+    ok_no_limit (record said { version = true }) r.1
+limit_so Lines said words e =
+    let p = else_limit (is_some said.lines) _ e in
+    elim (and_limit (count_of words) (λ n. Ok (record said { lines = Some n })) p.1) [
+      | inl here ↦
+          let c = count_limit words here in
+          inl (record {
+            number = c.0;
+            count = c.2;
+            rest = c.1;
+            once = is_none said.lines p.0;
+            words = ap (λ ws. codes ".numvars" ∷ ws) c.3;
+            counted = c.4;
+            many = c.5;
+          })
+      | inr later ↦ ok_no_limit (record said { lines = Some later.0 }) later.2
+    ]
+limit_so Names said words e =
+    let p = else_limit (is_some said.names) _ e in
+    let q = or_limit said.lines (λ n. and_then (names_from n [] words) (λ names. Ok (record said { names = Some names }))) p.1 in
+    elim (and_limit (names_from q.0 [] words) (λ names. Ok (record said { names = Some names })) q.2) [
+      | inl here ↦
+          let l = names_long q.0 [] words (omega arith) here in
+          let good = l.names_are (record { named = tt; different = tt }) in
+          inr (record {
+            names = l.good;
+            name = l.name;
+            rest = l.rest;
+            count = q.0;
+            once = is_none said.names p.0;
+            counted = q.1;
+            words = ap (λ ws. codes ".variables" ∷ ws) l.parts;
+            wanted = l.wanted;
+            named = good.named;
+            different = good.different;
+            begins = l.long_name.begins;
+            long = l.long_name.long;
+          })
+      | inr later ↦ ok_no_limit (record said { names = Some later.0 }) later.2
+    ]
+limit_so Inputs said words e = let p = else_limit said.inputs (Ok (record said { inputs = true })) e in ok_no_limit (record said { inputs = true }) p.1
+limit_so Outputs said words e = let p = else_limit said.outputs (Ok (record said { outputs = true })) e in ok_no_limit (record said { outputs = true }) p.1
+limit_so InputBus said words e = ok_no_limit said e
+limit_so OutputBus said words e = ok_no_limit said e
+limit_so Constants said words e =
+    let p = else_limit (is_some said.constants) _ e in
+    let q = or_limit said.lines (λ n. and_then (marks_of constant_of n words) (λ marks. Ok (record said { constants = Some marks }))) p.1 in
+    elim (and_limit (marks_of constant_of q.0 words) (λ marks. Ok (record said { constants = Some marks })) q.2) [
+      | inl here ↦ absurd (no_limit_of_marks constant_of constant_byte constant_back constant_forth q.0 words here)
+      | inr later ↦ ok_no_limit (record said { constants = Some later.0 }) later.2
+    ]
+limit_so Garbage said words e =
+    let p = else_limit (is_some said.garbage) _ e in
+    let q = or_limit said.lines (λ n. and_then (marks_of garbage_of n words) (λ marks. Ok (record said { garbage = Some marks }))) p.1 in
+    elim (and_limit (marks_of garbage_of q.0 words) (λ marks. Ok (record said { garbage = Some marks })) q.2) [
+      | inl here ↦ absurd (no_limit_of_marks garbage_of garbage_byte garbage_back garbage_forth q.0 words here)
+      | inr later ↦ ok_no_limit (record said { garbage = Some later.0 }) later.2
+    ]
+
+pub limit_lines : (said : HeaderView) (number : List ℕ) (rest : List (List ℕ)) (n : ℕ) → said.lines ≡ None → IsNumber number n → 16384 < n
+    → add Lines said (number ∷ rest) ≡ Err Limit
+limit_lines said number rest n once is many = rw (once, limit_count number rest n is many) refl
+
+pub limit_names : (said : HeaderView) (names : List (List ℕ)) (name : List ℕ) (rest : List (List ℕ)) (n : ℕ) → said.names ≡ None → said.lines ≡ Some n
+    → AllByRecursion IsName names → AreApart (λ one other. one ≡ other) names → length names < n → IsLongName name
+    → add Names said (names ++ name ∷ rest) ≡ Err Limit
+limit_names said names name rest n once lines named different wanted is =
+    rw once (ap (λ l. or_form l (λ k. and_then (names_from k [] (names ++ name ∷ rest)) (λ all. Ok (record said { names = Some all })))) lines
+    ∙ ap (λ r. and_then r (λ all. Ok (record said { names = Some all }))) (long_names n [] names name rest (record {
+      named = named;
+      different = different;
+    }) wanted is))
+
+-- ---- what a header says fits
+
+-- nothing that is counted was said before the number of lines
+before_lines : {X : Type 0} (o : Option (List X)) (lines new : Option ℕ) → lines ≡ None → IfSome o (λ xs. lines ≡ Some (length xs))
+    → IfSome o (λ xs. new ≡ Some (length xs))
+before_lines None lines new e h = tt
+before_lines (Some xs) lines new e h = absurd (let both : None ≡ Some (length xs) = sym e ∙ h in cc)
+
+pub sound_so : (head : Head) (said : HeaderView) (words : List (List ℕ)) (after : HeaderView) → IsSound said → Says head said words after → IsSound after
+sound_so Version said words after sound s =
+    subst IsSound (sym s.adds) (record {
+      some = sound.some;
+      few = sound.few;
+      counted = sound.counted;
+      named = sound.named;
+      different = sound.different;
+      constants = sound.constants;
+      garbage = sound.garbage;
+    })
+sound_so Lines said words after sound s =
+    subst IsSound (sym s.adds) (record {
+      some = s.some;
+      few = s.few;
+      counted = before_lines said.names said.lines _ s.once sound.counted;
+      named = sound.named;
+      different = sound.different;
+      constants = before_lines said.constants said.lines _ s.once sound.constants;
+      garbage = before_lines said.garbage said.lines _ s.once sound.garbage;
+    })
+sound_so Names said words after sound s =
+    subst IsSound (sym s.adds) (record {
+      some = sound.some;
+      few = sound.few;
+      counted = s.counted;
+      named = s.named;
+      different = s.different;
+      constants = sound.constants;
+      garbage = sound.garbage;
+    })
+sound_so Inputs said words after sound s =
+    subst IsSound (sym s.adds) (record {
+      some = sound.some;
+      few = sound.few;
+      counted = sound.counted;
+      named = sound.named;
+      different = sound.different;
+      constants = sound.constants;
+      garbage = sound.garbage;
+    })
+sound_so Outputs said words after sound s =
+    subst IsSound (sym s.adds) (record {
+      some = sound.some;
+      few = sound.few;
+      counted = sound.counted;
+      named = sound.named;
+      different = sound.different;
+      constants = sound.constants;
+      garbage = sound.garbage;
+    })
+sound_so InputBus said words after sound s = subst IsSound (sym s) sound
+sound_so OutputBus said words after sound s = subst IsSound (sym s) sound
+sound_so Constants said words after sound s =
+    subst IsSound (sym s.adds) (record {
+      some = sound.some;
+      few = sound.few;
+      counted = sound.counted;
+      named = sound.named;
+      different = sound.different;
+      constants = s.counted;
+      garbage = sound.garbage;
+    })
+sound_so Garbage said words after sound s =
+    subst IsSound (sym s.adds) (record {
+      some = sound.some;
+      few = sound.few;
+      counted = sound.counted;
+      named = sound.named;
+      different = sound.different;
+      constants = sound.constants;
+      garbage = s.counted;
+    })

@@ -1,0 +1,405 @@
+// The header of a `.real` text.
+ghost use Rattle.std.specs.Prelude.{◌≡◌, ◌≢◌, ℕ, ◌+◌, ◌<◌, ◌≤◌, List, [], ◌∷◌, length, Some, None, Ok, Err, OnOk, IfOk, IfErr, IsSome};
+ghost use Rattle.std.specs.List.{find};
+ghost use Rattle.std.specs.Str.{bytes_eq};
+ghost use Rattle.real_format.specs.Header.{HeaderView, nothing_said, spelling_of};
+ghost use Rattle.real_format.specs.inside.Reading.{Refuses, header_line, file_of, add, add_version, add_lines, add_names, add_inputs, add_outputs, add_constants, add_garbage, is_version, begins_name, count_of, names_from, more_names, marks_of, marks_from, constant_of, garbage_of};
+ghost use Rattle.real_format.specs.inside.Steps.{HeaderSays, BeginsAs};
+
+use crate::file::{Mark, RealFault};
+use crate::names::Names;
+use crate::refusal::Refusal;
+use crate::words::{Words, number};
+use gate_split::MOST_LINES;
+use revc_base::limits::MOST_NAME_BYTES;
+use std::alloc::Global;
+use std::marker::Model;
+
+/// The kinds of lines of a header, each by its first word.
+#[derive(Clone, Copy, Debug, PartialEq, Eq)]
+pub enum Head {
+    Version,
+    Lines,
+    Names,
+    Inputs,
+    Outputs,
+    InputBus,
+    OutputBus,
+    Constants,
+    Garbage,
+}
+
+impl Head {
+    // All kinds.
+    const ALL: [Head; 9] = [
+        Head::Version,
+        Head::Lines,
+        Head::Names,
+        Head::Inputs,
+        Head::Outputs,
+        Head::InputBus,
+        Head::OutputBus,
+        Head::Constants,
+        Head::Garbage,
+    ];
+
+    // The first word of such a line.
+    fn spelling(&self) -> &'static [u8]
+        ensures { result.now ≡ spelling_of self.now }
+    {
+        match self {
+            Head::Version => b".version",
+            Head::Lines => b".numvars",
+            Head::Names => b".variables",
+            Head::Inputs => b".inputs",
+            Head::Outputs => b".outputs",
+            Head::InputBus => b".inputbus",
+            Head::OutputBus => b".outputbus",
+            Head::Constants => b".constants",
+            Head::Garbage => b".garbage",
+        }
+    }
+
+    // The kind of a line that begins with this word.
+    pub fn of(word: &[u8]) -> Option<Head>
+        ensures { result ≡ find (λ head. bytes_eq (spelling_of head) word.now) Head.ALL }
+    {
+        Head::ALL
+            .iter()
+            .copied()
+            .find(|head| head.spelling() == word)
+    }
+}
+
+// What the lines of a header said so far.
+#[derive(Drop)]
+pub struct Header<'t> {
+    version: bool,
+    inputs: bool,
+    outputs: bool,
+    lines: Option<u32>,
+    names: Option<Names<'t>>,
+    constants: Option<Vec<Mark>>,
+    garbage: Option<Vec<bool>>,
+}
+
+impl<'t> Model for Header<'t> {
+    ghost use Rattle.std.specs.Prelude.{Some};
+    ghost use Rattle.std.specs.Option.{option_map};
+    ghost use Rattle.real_format.specs.Header.{HeaderView};
+
+    ghost Value = { HeaderView };
+
+    ghost view = { λ h. record {
+      version = h.version;
+      inputs = h.inputs;
+      outputs = h.outputs;
+      lines = h.lines;
+      names = h.names;
+      constants = option_map (λ v. v.items) h.constants;
+      garbage = option_map (λ v. v.items) h.garbage;
+    } };
+}
+
+// What a header says of a file. Contracts see the file without its gates.
+#[derive(Drop)]
+pub struct Begun<'t> {
+    pub names: Names<'t>,
+    pub constants: Vec<Mark>,
+    pub garbage: Vec<bool>,
+}
+
+impl<'t> Model for Begun<'t> {
+    ghost use Rattle.std.specs.Prelude.{[]};
+    ghost use Rattle.real_format.specs.Real.{RealView};
+
+    ghost Value = { RealView };
+
+    ghost view = { λ b. record {
+      names = b.names;
+      constants = b.constants.items;
+      garbage = b.garbage.items;
+      gates = [];
+    } };
+}
+
+impl<'t> Header<'t> {
+    pub fn new() -> Header<'t>
+        ensures { result ≡ nothing_said }
+    {
+        Header {
+            version: false,
+            inputs: false,
+            outputs: false,
+            lines: None,
+            names: None,
+            constants: None,
+            garbage: None,
+        }
+    }
+
+    // A line of the header, and whether it is the one that ends it.
+    pub fn read_line(&mut self, alloc: Global, words: &mut Words<'t>) -> Result<bool, Refusal>
+        ensures ok { IfOk result (λ ends.
+            HeaderSays ends (header_line self.old words.old) self.old self.new) }
+        ensures err { IfErr result (Refuses (header_line self.old words.old)) }
+    {
+        let Some(word) = words.next() else {
+            return Ok(false);
+        };
+        if let Some(head) = Head::of(word) {
+            self.add(alloc, head, words)?;
+            return Ok(false);
+        }
+        if word == b".begin".as_slice() && words.is_done() && self.names.is_some() {
+            return Ok(true);
+        }
+        Err(Refusal::Form)
+    }
+
+    // The file of the header; marks that are absent are all `-`.
+    pub fn begin(self, alloc: Global) -> Result<Begun<'t>, RealFault>
+        requires { IsSome self.names }
+        ensures ok { IfOk result (BeginsAs self.entry) }
+        ensures err { IfErr result (λ fault. fault ≡ RealFault.Memory) }
+    {
+        let constants = self.constants;
+        let garbage = self.garbage;
+        let Some(names) = self.names else {
+            unreachable!();
+        };
+        let constants = match constants {
+            Some(marks) => marks,
+            None => vec![in alloc; Mark::Free; names.len()]?,
+        };
+        let garbage = match garbage {
+            Some(marks) => marks,
+            None => vec![in alloc; false; names.len()]?,
+        };
+        Ok(Begun {
+            names,
+            constants,
+            garbage,
+        })
+    }
+
+    // The words behind the first one of a line of this kind.
+    pub fn add(&mut self, alloc: Global, head: Head, words: &mut Words<'t>) -> Result<(), Refusal>
+        ensures ok { OnOk result (add head self.old words.old ≡ Ok self.new) }
+        ensures err { IfErr result (Refuses (add head self.old words.old)) }
+    {
+        match head {
+            Head::Version => self.add_version(words),
+            Head::Lines => self.add_lines(words),
+            Head::Names => self.add_names(alloc, words),
+            Head::Inputs => self.add_inputs(),
+            Head::Outputs => self.add_outputs(),
+            Head::InputBus => Ok(()),
+            Head::OutputBus => Ok(()),
+            Head::Constants => self.add_constants(alloc, words),
+            Head::Garbage => self.add_garbage(alloc, words),
+        }
+    }
+
+    fn add_version(&mut self, words: &mut Words<'t>) -> Result<(), Refusal>
+        ensures ok { OnOk result (add_version self.old words.old ≡ Ok self.new) }
+        ensures err { IfErr result (Refuses (add_version self.old words.old)) }
+    {
+        if self.version {
+            return Err(Refusal::Form);
+        }
+        let word = words.only().ok_or(Refusal::Form)?;
+        if !is_version(word) {
+            return Err(Refusal::Form);
+        }
+        self.version = true;
+        Ok(())
+    }
+
+    fn add_lines(&mut self, words: &mut Words<'t>) -> Result<(), Refusal>
+        ensures ok { OnOk result (add_lines self.old words.old ≡ Ok self.new) }
+        ensures err { IfErr result (Refuses (add_lines self.old words.old)) }
+    {
+        if self.lines.is_some() {
+            return Err(Refusal::Form);
+        }
+        self.lines = Some(count_of(words)?);
+        Ok(())
+    }
+
+    fn add_names(&mut self, alloc: Global, words: &mut Words<'t>) -> Result<(), Refusal>
+        ensures ok { OnOk result (add_names self.old words.old ≡ Ok self.new) }
+        ensures err { IfErr result (Refuses (add_names self.old words.old)) }
+    {
+        if self.names.is_some() {
+            return Err(Refusal::Form);
+        }
+        let lines = self.lines.ok_or(Refusal::Form)?;
+        self.names = Some(names_of(alloc, lines, words)?);
+        Ok(())
+    }
+
+    fn add_inputs(&mut self) -> Result<(), Refusal>
+        ensures ok { OnOk result (add_inputs self.old ≡ Ok self.new) }
+        ensures err { IfErr result (Refuses (add_inputs self.old)) }
+    {
+        if self.inputs {
+            return Err(Refusal::Form);
+        }
+        self.inputs = true;
+        Ok(())
+    }
+
+    fn add_outputs(&mut self) -> Result<(), Refusal>
+        ensures ok { OnOk result (add_outputs self.old ≡ Ok self.new) }
+        ensures err { IfErr result (Refuses (add_outputs self.old)) }
+    {
+        if self.outputs {
+            return Err(Refusal::Form);
+        }
+        self.outputs = true;
+        Ok(())
+    }
+
+    fn add_constants(&mut self, alloc: Global, words: &mut Words<'t>) -> Result<(), Refusal>
+        ensures ok { OnOk result (add_constants self.old words.old ≡ Ok self.new) }
+        ensures err { IfErr result (Refuses (add_constants self.old words.old)) }
+    {
+        if self.constants.is_some() {
+            return Err(Refusal::Form);
+        }
+        let lines = self.lines.ok_or(Refusal::Form)?;
+        self.constants = Some(constants_of(alloc, lines, words)?);
+        Ok(())
+    }
+
+    fn add_garbage(&mut self, alloc: Global, words: &mut Words<'t>) -> Result<(), Refusal>
+        ensures ok { OnOk result (add_garbage self.old words.old ≡ Ok self.new) }
+        ensures err { IfErr result (Refuses (add_garbage self.old words.old)) }
+    {
+        if self.garbage.is_some() {
+            return Err(Refusal::Form);
+        }
+        let lines = self.lines.ok_or(Refusal::Form)?;
+        self.garbage = Some(garbage_of(alloc, lines, words)?);
+        Ok(())
+    }
+}
+
+fn is_version(word: &[u8]) -> bool
+    ensures { result ≡ is_version word.now }
+{
+    word == b"1.0".as_slice() || word == b"2.0".as_slice()
+}
+
+// The number of lines: the one word that is left.
+fn count_of(words: &mut Words) -> Result<u32, Refusal>
+    ensures ok { IfOk result (λ count. count_of words.old ≡ Ok count) }
+    ensures few { IfOk result (λ count. count ≤ MOST_LINES) }
+    ensures err { IfErr result (Refuses (count_of words.old)) }
+{
+    let word = words.next().ok_or(Refusal::Form)?;
+    let count = number(word, MOST_LINES).ok_or(Refusal::Form)?;
+    if count == 0 {
+        return Err(Refusal::Form);
+    }
+    if count > MOST_LINES {
+        return Err(Refusal::Limit);
+    }
+    if !words.is_done() {
+        return Err(Refusal::Form);
+    }
+    Ok(count)
+}
+
+// So many names: all words that are left.
+fn names_of<'t>(alloc: Global, count: u32, words: &mut Words<'t>) -> Result<Names<'t>, Refusal>
+    ensures ok { IfOk result (λ names. names_from count [] words.old ≡ Ok names) }
+    ensures err { IfErr result (Refuses (names_from count [] words.old)) }
+{
+    let mut names = Names::new(alloc);
+    while let Some(word) = words.next() {
+        if names.len() == count as usize {
+            return Err(Refusal::Form);
+        }
+        add_name(&mut names, word)?;
+    }
+    if names.len() != count as usize {
+        return Err(Refusal::Form);
+    }
+    Ok(names)
+}
+
+fn add_name<'t>(names: &mut Names<'t>, word: &'t [u8]) -> Result<(), Refusal>
+    ensures ok { OnOk result (more_names names.old word.now ≡ Ok names.new) }
+    ensures err { IfErr result (Refuses (more_names names.old word.now)) }
+{
+    if !begins_name(word) {
+        return Err(Refusal::Form);
+    }
+    if word.len() > MOST_NAME_BYTES {
+        return Err(Refusal::Limit);
+    }
+    if !names.push(word)? {
+        return Err(Refusal::Form);
+    }
+    Ok(())
+}
+
+fn begins_name(word: &[u8]) -> bool
+    ensures { result ≡ begins_name word.now }
+{
+    !word.is_empty() && !(word[0] == b'-' || word[0] == b'#')
+}
+
+// So many marks: the one word that is left.
+fn constants_of(alloc: Global, count: u32, words: &mut Words) -> Result<Vec<Mark>, Refusal>
+    ensures ok { IfOk result (λ marks. marks_of constant_of count words.old ≡ Ok marks.items) }
+    ensures err { IfErr result (Refuses (marks_of constant_of count words.old)) }
+{
+    let word = words.only().ok_or(Refusal::Form)?;
+    if word.len() != count as usize {
+        return Err(Refusal::Form);
+    }
+    let mut marks = Vec::with_capacity(alloc, word.len())?;
+    for byte in word {
+        marks.push(constant_of(*byte).ok_or(Refusal::Form)?)?;
+    }
+    Ok(marks)
+}
+
+fn constant_of(byte: u8) -> Option<Mark>
+    ensures { result ≡ constant_of byte }
+{
+    match byte {
+        b'-' => Some(Mark::Free),
+        b'0' => Some(Mark::Zero),
+        b'1' => Some(Mark::One),
+        _ => None,
+    }
+}
+
+fn garbage_of(alloc: Global, count: u32, words: &mut Words) -> Result<Vec<bool>, Refusal>
+    ensures ok { IfOk result (λ marks. marks_of garbage_of count words.old ≡ Ok marks.items) }
+    ensures err { IfErr result (Refuses (marks_of garbage_of count words.old)) }
+{
+    let word = words.only().ok_or(Refusal::Form)?;
+    if word.len() != count as usize {
+        return Err(Refusal::Form);
+    }
+    let mut marks = Vec::with_capacity(alloc, word.len())?;
+    for byte in word {
+        marks.push(is_garbage(*byte).ok_or(Refusal::Form)?)?;
+    }
+    Ok(marks)
+}
+
+fn is_garbage(byte: u8) -> Option<bool>
+    ensures { result ≡ garbage_of byte }
+{
+    match byte {
+        b'-' => Some(false),
+        b'1' => Some(true),
+        _ => None,
+    }
+}
