@@ -1,5 +1,5 @@
 -- A text and a word have one value, or one reason that they have none.
-use Rattle.std.proofs.Common.{◌≡◌, ◌≢◌, ℕ, suc, ◌+◌, ◌==◌, Bool, List, [], ◌∷◌, ◌++◌, length, sum, refl, sym, ap, ◌∙◌, subst, arith}
+use Rattle.std.proofs.Common.{◌≡◌, ℕ, suc, ◌+◌, ◌==◌, Bool, List, [], ◌∷◌, ◌++◌, length, sum, refl, sym, ap, ◌∙◌, subst, arith}
 use Rattle.std.specs.List.{AllByRecursion}
 use Rattle.std.proofs.lemmas.List.{length-map}
 use Rattle.revc_base.specs.Bits.{IsDigit, IsFirstOther}
@@ -19,18 +19,16 @@ use Rattle.revs_terms.specs.Runs.{IsTapeOf, HasOutput}
 use Rattle.revs_terms.proofs.TapeLemmas.{one_tape_at_most, tape_gives_output}
 use Rattle.revs_terms.specs.Views.{ProgramView}
 use Rattle.revc.specs.Commands.{HasOneOutcome}
-use Rattle.revc.specs.declared.words.Command.TheVariants.{Eval}
-use Rattle.revc.specs.declared.fault.Refusal.TheVariants as refusals
-use Rattle.revc.specs.Refusals.{IsRefusal}
-use Rattle.revc.specs.Words.{first_word}
+use Rattle.revc_words.specs.declared.order.Command.TheVariants.{Eval}
+use Rattle.revc_words.specs.Words.{first_word}
 use Rattle.revc_base.specs.declared.bits.BitsFault.{BitsFault}
 use Rattle.revc_base.specs.declared.bits.BitsFault.TheVariants as bits
 use Rattle.revc.specs.inside.Mappings.{bits_fault}
 use Rattle.revc.specs.inside.Plans.{IsBitsFault}
 use Rattle.revc.specs.Commands.Eval.{IsInputWord, IsValueOf, IsBadWord, IsBroken, Stops, bits_of}
-use Rattle.revc.proofs.RefusalLemmas.{one_refusal, formed_refusal}
+use Rattle.revc.proofs.RefusalLemmas.{one_refusal, never_refused}
 
-all_at : {A : Type 0} (P : A → Type 0) (before : List A) (x : A) (behind : List A) → AllByRecursion P (before ++ x ∷ behind) → P x
+pub all_at : {A : Type 0} (P : A → Type 0) (before : List A) (x : A) (behind : List A) → AllByRecursion P (before ++ x ∷ behind) → P x
 all_at P [] x behind h = h.0
 all_at P (b ∷ before) x behind h = all_at P before x behind h.1
 
@@ -38,14 +36,14 @@ pub no_digits : (word : List ℕ) (at : ℕ) → IsFirstOther word at → AllByR
 no_digits word at other h = other.no_digit (all_at IsDigit other.before other.other other.behind (subst (AllByRecursion IsDigit) other.cut h))
 
 -- what stands before the first that has not the property, and that one itself
-record SameFirst {A : Type 0} (before after : List A) (x y : A) : Type 0 where
-  count : length before ≡ length after
-  named : x ≡ y
+pub record SameFirst {A : Type 0} (before after : List A) (x y : A) : Type 0 where
+  pub count : length before ≡ length after
+  pub named : x ≡ y
 
 more_same : {A : Type 0} (b c : A) (before after : List A) (x y : A) → SameFirst before after x y → SameFirst (b ∷ before) (c ∷ after) x y
 more_same b c before after x y s = record { count = ap suc s.count; named = s.named }
 
-first_same : {A : Type 0} (P : A → Type 0) (before after : List A) (x y : A) (behind rest : List A) → before ++ x ∷ behind ≡ after ++ y ∷ rest
+pub first_same : {A : Type 0} (P : A → Type 0) (before after : List A) (x y : A) (behind rest : List A) → before ++ x ∷ behind ≡ after ++ y ∷ rest
     → AllByRecursion P before → AllByRecursion P after → ¬ P x → ¬ P y → SameFirst before after x y
 first_same P [] [] x y behind rest e h k n m = record { count = refl; named = cc }
 first_same P [] (c ∷ after) x y behind rest e h k n m =
@@ -109,27 +107,26 @@ claim_or_bad text word number at v b = b.unfit (subst (λ (p : ProgramView). IsI
     (one_formed text v.program b.program v.formed b.formed) v.fits)
 
 pub no_value : (text word : List ℕ) (value : List Bool) (fault : Fault) → IsValueOf text word value → Stops text word fault → ⊥
-no_value text word value (faults.Refused refusal) v s = s.1 (formed_refusal text v.program refusal v.formed s.0)
+no_value text word value (faults.Refused refusal) v s = never_refused text v.program refusal v.formed s
 no_value text word value (faults.Claim number at bits) v s = value_or_claim text word value number at v s.1
 no_value text word value (faults.BadBits number) v s = value_or_bad text word value v s.1
 no_value text word value fault v s = s
 
-formed_or_refused : (text : List ℕ) (refusal : Refusal) (p : ProgramView) → IsRefusal text refusal × (refusal ≢ refusals.Program) → IsWellFormed text p → ⊥
-formed_or_refused text refusal p s formed = s.1 (formed_refusal text p refusal formed s.0)
-
 pub one_stop : (text word : List ℕ) (fault other : Fault) → Stops text word fault → Stops text word other → fault ≡ other
-one_stop text word (faults.Refused refusal) (faults.Refused other) a b = ap (λ (r : Refusal). faults.Refused r) (one_refusal text refusal other a.0 b.0)
-one_stop text word (faults.Refused refusal) (faults.Claim number at bits) a b = absurd (formed_or_refused text refusal b.1.program a b.1.formed)
-one_stop text word (faults.Refused refusal) (faults.BadBits number) a b = absurd (formed_or_refused text refusal b.1.program a b.1.formed)
-one_stop text word (faults.Claim number at bits) (faults.Refused refusal) a b = absurd (formed_or_refused text refusal a.1.program b a.1.formed)
+one_stop text word (faults.Refused refusal) (faults.Refused other) a b = ap (λ (r : Refusal). faults.Refused r) (one_refusal text refusal other a b)
+one_stop text word (faults.Refused refusal) (faults.Claim number at bits) a b = absurd (never_refused text b.1.program refusal b.1.formed a)
+one_stop text word (faults.Refused refusal) (faults.BadBits number) a b = absurd (never_refused text b.1.program refusal b.1.formed a)
+one_stop text word (faults.Claim number at bits) (faults.Refused refusal) a b = absurd (never_refused text a.1.program refusal a.1.formed b)
 one_stop text word (faults.Claim number at bits) (faults.Claim other there others) a b =
     one_claim_fault number other at there bits others (one_claim text word number other at there a.1 b.1) (a.0 ∙ sym b.0)
 one_stop text word (faults.Claim number at bits) (faults.BadBits other) a b = absurd (claim_or_bad text word number at a.1 b.1)
-one_stop text word (faults.BadBits number) (faults.Refused refusal) a b = absurd (formed_or_refused text refusal a.1.program b a.1.formed)
+one_stop text word (faults.BadBits number) (faults.Refused refusal) a b = absurd (never_refused text a.1.program refusal a.1.formed b)
 one_stop text word (faults.BadBits number) (faults.Claim other there bits) a b = absurd (claim_or_bad text word other there b.1 a.1)
 one_stop text word (faults.BadBits number) (faults.BadBits other) a b = ap (λ n. faults.BadBits n) (a.0 ∙ sym b.0)
 one_stop text word faults.Usage other a b = absurd a
+one_stop text word (faults.Diagram number at limit) other a b = absurd a
 one_stop text word (faults.Lines need limit) other a b = absurd a
+one_stop text word (faults.Circuit refusal) other a b = absurd a
 one_stop text word faults.Read other a b = absurd a
 one_stop text word faults.Write other a b = absurd a
 one_stop text word faults.Memory other a b = absurd a

@@ -1,3 +1,4 @@
+pub mod RunLemmas
 pub mod RefusalLemmas
 pub mod EvalLemmas
 pub mod CompileLemmas
@@ -6,4 +7,6 @@ pub mod PlanLemmas
 pub mod TopLemmas
 pub mod PlainLemmas
 pub mod FormedLemmas
-pub mod WordsLemmas
+pub mod SettlingLemmas
+pub mod CheckLemmas
+pub mod CircuitLemmas

@@ -14,12 +14,13 @@ use Rattle.dependency_graph.specs.declared.node.Node.{Node}
 use Rattle.dependency_graph.specs.declared.node.Node.TheVariants.{Not, Xor, And}
 use Rattle.dependency_graph.specs.declared.node.Sig.{Sig}
 use Rattle.dependency_graph.specs.declared.node.Sig.TheVariants.{Const, Is}
-use Rattle.dependency_graph.specs.Graphs.{GraphView, IsGraph, IsKnownBase, IsKnownSig, IsKnownNode, AreKnownNodes, base_bit, sig_bit, node_bit, made_by}
+use Rattle.dependency_graph.specs.Graphs.{IsKnownBase, IsKnownSig, IsKnownNode, AreKnownNodes, base_bit, sig_bit, node_bit, made_by}
 use Rattle.dependency_graph.proofs.FoldLemmas.{sig_later}
+use Rattle.claim_check.specs.Settled.{SettledView, IsSettled, settled_outputs}
 use Rattle.gate_split.specs.Plans.{MapsCleanly}
 use Rattle.mct_circuit.specs.Gates.{CircuitView, GateView, is_met, after_gate, line_map, flip_of, positive, AreGatesOn, AreNarrow}
 use Rattle.mct_circuit.proofs.ReversalLemmas.{line_map-append, conjugated}
-use Rattle.revc.specs.inside.Plain.{line_of, toggle_of, toggles_of, copy_of, copies_of, plain_gates, plain_roles, graph_outputs}
+use Rattle.revc.specs.inside.Plain.{line_of, toggle_of, toggles_of, copy_of, copies_of, plain_gates, plain_roles}
 
 -- ---- one flip
 
@@ -248,10 +249,10 @@ mapped input nodes sigs known ready on =
     (forward input outs [] o 0 nodes many refl known)
     (copied input [] bits o 0 sigs refl (zero-add o) (subst (λ (m : ℕ). AllByRecursion (IsKnownSig n m) sigs) (sym made) ready))
 
-maps_input : (g : GraphView) → IsGraph g → AreGatesOn (g.inputs + length g.outputs + length g.nodes) (plain_gates g) → (input : List Bool)
+maps_input : (g : SettledView) → IsSettled g → AreGatesOn (g.inputs + length g.outputs + length g.nodes) (plain_gates g) → (input : List Bool)
     → length input ≡ g.inputs
     → line_map (plain_gates g) (input ++ (replicate (length g.outputs) false ++ replicate (length g.nodes) false))
-    ≡ input ++ (graph_outputs g input ++ replicate (length g.nodes) false)
+    ≡ input ++ (settled_outputs g input ++ replicate (length g.nodes) false)
 maps_input g is on input size =
     mapped_at g.inputs input g.nodes g.outputs size is.nodes is.outputs on
   where
@@ -267,8 +268,8 @@ maps_input g is on input size =
 nothing_borrowed : (front zeros rest : List Bool) → rest ≡ [] → front ++ (zeros ++ rest) ≡ front ++ zeros
 nothing_borrowed front zeros rest e = ap (λ (r : List Bool). front ++ (zeros ++ r)) e ∙ ap (λ (w : List Bool). front ++ w) (append-nil zeros)
 
-pub maps_cleanly : (g : GraphView) → IsGraph g → AreGatesOn (g.inputs + length g.outputs + length g.nodes) (plain_gates g)
-    → MapsCleanly (plain_roles g) (plain_gates g) (graph_outputs g)
+pub maps_cleanly : (g : SettledView) → IsSettled g → AreGatesOn (g.inputs + length g.outputs + length g.nodes) (plain_gates g)
+    → MapsCleanly (plain_roles g) (plain_gates g) (settled_outputs g)
 maps_cleanly g is on = record {
   puts = λ input rest size none.
       let nothing : rest ≡ [] = nil_from_length rest none in
@@ -277,7 +278,7 @@ maps_cleanly g is on = record {
         mapped =
             ap (λ (w : List Bool). line_map (plain_gates g) (input ++ w)) (nothing_borrowed (replicate (length g.outputs) false) zeros rest nothing)
             ∙ maps_input g is on input size
-            ∙ ap (λ (w : List Bool). input ++ w) (sym (nothing_borrowed (graph_outputs g input) zeros rest nothing));
+            ∙ ap (λ (w : List Bool). input ++ w) (sym (nothing_borrowed (settled_outputs g input) zeros rest nothing));
       };
 }
 

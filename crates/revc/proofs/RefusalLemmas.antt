@@ -1,5 +1,5 @@
 -- Each text has one refusal at most, and none where it is well formed and its program has no claims.
-use Rattle.std.proofs.Common.{◌≡◌, ℕ, Bool, false, ◌<◌, ◌≤◌, List, [], length, sum, replicate, refl, sym, ap, ◌∙◌, subst, arith}
+use Rattle.std.proofs.Common.{◌≡◌, ℕ, Bool, false, ◌<◌, ◌≤◌, List, length, sum, replicate, refl, sym, ap, ◌∙◌, subst, arith}
 use Rattle.std.proofs.lemmas.List.{length-replicate}
 use Rattle.revs_lexer.specs.declared.token.LexFault.{LexFault}
 use Rattle.revs_lexer.specs.declared.token.LexFault.TheVariants as lexer
@@ -10,21 +10,20 @@ use Rattle.revs_terms.specs.declared.program.Param.{Param}
 use Rattle.revs_terms.specs.Trees.{Tree}
 use Rattle.revs_grammar.specs.Faults.{Verdict, within_limits, syntax, nesting, inputs, IsVerdict}
 use Rattle.revs_grammar.proofs.VerdictLemmas.{one_verdict}
+use Rattle.revc.specs.declared.fault.Kind.{Kind}
 use Rattle.revc.specs.declared.fault.Kind.TheVariants as kinds
 use Rattle.revc.specs.declared.fault.Refusal.{Refusal}
 use Rattle.revc.specs.declared.fault.Refusal.TheVariants as refusals
 use Rattle.revs_parser.specs.WellFormed.{IsProgramText, IsWellFormed}
-use Rattle.revs_parser.proofs.OneTextLemmas.{one_text, one_formed}
+use Rattle.revs_parser.proofs.OneTextLemmas.{one_text}
 use Rattle.revs_terms.specs.Views.{ProgramView}
-use Rattle.revc_base.specs.Tapes.{TapeView}
 use Rattle.revs_terms.specs.Programs.{widths_of}
 use Rattle.revs_terms.specs.Running.{Stamped, Outcome, stuck, went}
 use Rattle.revs_terms.specs.declared.cause.Cause.{Cause}
-use Rattle.revs_terms.specs.Runs.{IsInput, IsTapeOf, run_of_program, EndsOnAll}
+use Rattle.revs_terms.specs.Runs.{IsInput, run_of_program, EndsOnAll}
 use Rattle.revs_terms.specs.Scopes.{ScopeVerdict, scope_verdict, bound_as, two_params, unbound_name}
 use Rattle.revc_base.specs.declared.place.Place.{Place}
 use Rattle.revc.specs.Refusals.{OfTokens, IsStuckFor, IsRefusal}
-use Rattle.revs_terms.proofs.TapeLemmas.{one_tape_at_most}
 
 -- ---- how a program ends: its run is looked at on the input of zeros
 
@@ -129,7 +128,15 @@ refusal_of (judged (inputs at)) = refusals.At kinds.Inputs at
 refusal_of (ended (two_names at)) = refusals.At kinds.TwoParams at
 refusal_of (ended (no_binding at)) = refusals.At kinds.Unbound at
 refusal_of (ended (stuck_at cause at)) = refusals.At (kinds.Stuck cause) at
-refusal_of (ended (leaves tree)) = refusals.Program
+refusal_of (ended (leaves tree)) = refusals.TooLong
+
+-- where a program is left, there is no place of a refusal
+no_place : (kind : Kind) (at : Place) (found : Found) {tree : Tree} → found ≡ ended (leaves tree) → refusal_of found ≡ refusals.At kind at → ⊥
+unfolding refusal_of
+no_place kind at found {tree} e same = apart (sym (ap refusal_of e) ∙ same)
+  where
+    apart : refusals.TooLong ≡ refusals.At kind at → ⊥
+    apart e = absurd cc
 
 record IsFoundFor (text : List ℕ) (refusal : Refusal) : Type 0 where
   found : Found
@@ -174,7 +181,6 @@ found_for text (refusals.At kinds.Inputs at) h = record { found = judged (inputs
 found_for text (refusals.At kinds.TwoParams at) h = record { found = ended (two_names at); is = (h.1.0, h.1.1, ends_two h.1.0 at h.1.2); same = refl }
 found_for text (refusals.At kinds.Unbound at) h = record { found = ended (no_binding at); is = (h.1.0, h.1.1, ends_unbound h.1.0 at h.1.2); same = refl }
 found_for text (refusals.At (kinds.Stuck cause) at) h = stuck_found text cause at h.1
-found_for text refusals.Program h = record { found = ended (leaves h.0.body); is = formed_found text h.0 h.1; same = refl }
 
 pub one_refusal : (text : List ℕ) (refusal other : Refusal) → IsRefusal text refusal → IsRefusal text other → refusal ≡ other
 one_refusal text refusal other a b =
@@ -182,25 +188,12 @@ one_refusal text refusal other a b =
     let g = found_for text other b in
     sym f.same ∙ ap refusal_of (one_found text f.found g.found f.is g.is) ∙ g.same
 
--- a well-formed text has no refusal but that its program has claims
-pub formed_refusal : (text : List ℕ) (p : ProgramView) (refusal : Refusal) → IsWellFormed text p → IsRefusal text refusal → refusal ≡ refusals.Program
-unfolding refusal_of
-formed_refusal text p refusal w h =
-    let f = found_for text refusal h in
-    sym f.same ∙ ap refusal_of (one_found text f.found (ended (leaves p.body)) f.is (formed_found text p w))
-
--- a well-formed text whose tape has no claims has no refusal
-pub never_refused : (text : List ℕ) (p : ProgramView) (tape : TapeView) (refusal : Refusal) → IsRefusal text refusal → IsWellFormed text p
-    → IsTapeOf p.params p.body tape → tape.claims ≡ [] → ⊥
-never_refused text p tape refusals.TooLong h w of none = let short = w.text_of.short in omega arith
-never_refused text p tape (refusals.At kind at) h w of none = apart (formed_refusal text p (refusals.At kind at) w h)
-  where
-    apart : refusals.At kind at ≡ refusals.Program → ⊥
-    apart e = absurd cc
-never_refused text p tape refusals.Program h w of none =
-    let other : IsTapeOf p.params p.body h.2.0 = subst (λ (q : ProgramView). IsTapeOf q.params q.body h.2.0) (one_formed text h.0 p h.1 w) h.2.1 in
-    let same : h.2.0 ≡ tape = one_tape_at_most p.params p.body tape h.2.0 of other in
-    h.2.2 (ap (λ (t : TapeView). t.claims) same ∙ none)
+-- a well-formed text has no refusal
+pub never_refused : (text : List ℕ) (p : ProgramView) (refusal : Refusal) → IsWellFormed text p → IsRefusal text refusal → ⊥
+never_refused text p refusals.TooLong w h = let short = w.text_of.short in omega arith
+never_refused text p (refusals.At kind at) w h =
+    let f = found_for text (refusals.At kind at) h in
+    no_place kind at f.found (one_found text f.found (ended (leaves p.body)) f.is (formed_found text p w)) f.same
 
 -- what holds of the lexer's tokens
 pub of_tokens : (text : List ℕ) (all : List Token) (P : List Token → Type 0) → (tokens : List Token) × IsTokens text tokens × (all ≡ closed text tokens) → P all

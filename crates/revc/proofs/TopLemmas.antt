@@ -1,32 +1,34 @@
 -- The statuses of the top call, from the causes of its faults.
-use Rattle.std.proofs.Common.{◌≡◌, ◌≢◌, ℕ, ◌<◌, ◌≤◌, ◌⊎◌, inl, inr, List, None, Some, Ok, Err, refl, sym, ap, ◌∙◌, subst, arith, length}
-use Rattle.std.specs.Prelude.{Option, IfSome, Contains, Result, OnOk, IfErr}
+use Rattle.std.proofs.Common.{◌≡◌, ◌≢◌, ℕ, ◌<◌, ◌≤◌, ◌⊎◌, inl, inr, codes, List, None, Some, Ok, Err, refl, sym, ap, ◌∙◌, subst, arith, length}
+use Rattle.std.specs.Prelude.{Option, IfSome, MatchOption, Contains, Result, OnOk, IfErr, IsErrOf}
 use Rattle.std.specs.Io.KnownBytes.{IsAtEnd}
 use Rattle.revc.specs.declared.fault.Fault.{Fault}
-use Rattle.revc.specs.declared.fault.Fault.TheVariants.{Usage, Refused, Claim, Lines, BadBits, Read, Write, Memory}
-use Rattle.revs_parser.specs.declared.limits.TheConstants.{MOST_BYTES}
+use Rattle.revc.specs.declared.fault.Fault.TheVariants.{Usage, Refused, Claim, Diagram, Lines, Circuit, BadBits, Read, Write, Memory}
 use Rattle.revc_io.specs.declared.reading.ReadFault.{ReadFault}
 use Rattle.revc_io.specs.declared.reading.ReadFault.TheVariants as reads
-use Rattle.revc.specs.inside.Mappings.{reading_fault, words_fault}
-use Rattle.revc.specs.declared.words.WordsFault.{WordsFault}
-use Rattle.revc.specs.declared.words.WordsFault.TheVariants as words
-use Rattle.revc.specs.declared.words.Command.{Command}
-use Rattle.revc.specs.declared.words.Command.TheVariants.{Compile, Eval}
-use Rattle.revc.specs.declared.fault.Refusal.TheVariants as refusals
-use Rattle.revc.specs.Commands.{Gives, IsCause, IsCausedBy, IsCauseOrMemory, Serves, HasOneOutcome, statuses_of}
+use Rattle.revc.specs.inside.Mappings.{reading_fault, too_long, words_fault}
+use Rattle.revc_words.specs.declared.fault.WordsFault.{WordsFault}
+use Rattle.revc_words.specs.declared.fault.WordsFault.TheVariants as words
+use Rattle.revc_words.specs.declared.order.Command.{Command}
+use Rattle.revc_words.specs.declared.order.Command.TheVariants.{Compile, Check, Eval, Stat, Run}
+use Rattle.revc_words.specs.declared.order.Format.{Format}
+use Rattle.revc.specs.Commands.{Gives, IsCause, IsCausedBy, IsCauseOrMemory, Serves, HasOneOutcome, most_bytes, statuses_of}
 use Rattle.revc.specs.Faults.{status_of, line_of}
-use Rattle.revc.specs.Top.{Grows, GrowsByPrefix, IsReadAt, IsReadWhole, IsStatusOfAll, MayEnd, Receives, RestsOnText, Served, Stopped}
-use Rattle.revc.specs.Words.{OrderView, IsOrder, HasNoOrder}
-use Rattle.gate_split.specs.Plans.{LaidView}
-use Rattle.revc.specs.Commands.Compile.{IsCompiled}
-use Rattle.revc.specs.inside.Outcomes.{file_of}
+use Rattle.revc.specs.Top.{Grows, GrowsByPrefix, IsReadAt, IsReadFor, IsReadWhole, IsStatusOfAll, MayEnd, Receives, RestsOnText, Served, Stopped}
+use Rattle.revc_words.specs.declared.limits.TheConstants.{MOST_NODES, USUAL_NODES}
+use Rattle.revc_words.specs.Words.{OrderView, IsOrder, HasNoOrder, IsNumberIn, value_of}
 use Rattle.revc.proofs.CompileLemmas as compile
 use Rattle.revc.proofs.EvalLemmas as eval
-use Rattle.revc.proofs.WordsLemmas.{one_order}
+use Rattle.revc.proofs.CheckLemmas as check
+use Rattle.revc.proofs.CircuitLemmas as circuit
+use Rattle.revc_words.proofs.OrderLemmas.{one_order}
 
 one_outcome : (command : Command) → HasOneOutcome command
 one_outcome Compile = compile.one_outcome
+one_outcome Check = check.one_outcome
 one_outcome Eval = eval.one_outcome
+one_outcome Stat = circuit.stat_outcome
+one_outcome Run = circuit.run_outcome
 
 -- ---- what is told
 
@@ -84,61 +86,121 @@ caused order text Memory h = tt
 caused order text fault h = h
 
 -- the status of a prepared order's fault is among those of its command
+among_of : (command : Command) (nodes : ℕ) (from : Format) (bits : List (List ℕ)) (text : List ℕ) (fault : Fault)
+    → IsCauseOrMemory (record { command = command; nodes = nodes; from = from; bits = bits }) text fault
+    → Contains (statuses_of command) (status_of fault)
+among_of Compile nodes from bits text (Refused refusal) h = (1, omega arith, refl)
+among_of Compile nodes from bits text (Claim number at digits) h = (2, omega arith, refl)
+among_of Compile nodes from bits text (Diagram number at limit) h = (3, omega arith, refl)
+among_of Compile nodes from bits text (Lines need limit) h = (4, omega arith, refl)
+among_of Compile nodes from bits text Memory h = (7, omega arith, refl)
+among_of Check nodes from bits text (Refused refusal) h = (1, omega arith, refl)
+among_of Check nodes from bits text (Claim number at digits) h = (2, omega arith, refl)
+among_of Check nodes from bits text (Diagram number at limit) h = (3, omega arith, refl)
+among_of Check nodes from bits text Memory h = (6, omega arith, refl)
+among_of Eval nodes from bits text (Refused refusal) h = (1, omega arith, refl)
+among_of Eval nodes from bits text (Claim number at digits) h = (2, omega arith, refl)
+among_of Eval nodes from bits text Memory h = (5, omega arith, refl)
+among_of Eval nodes from bits text (BadBits word) h = (6, omega arith, refl)
+among_of Stat nodes from bits text (Circuit refusal) h = (1, omega arith, refl)
+among_of Stat nodes from bits text Memory h = (4, omega arith, refl)
+among_of Run nodes from bits text (Circuit refusal) h = (1, omega arith, refl)
+among_of Run nodes from bits text Memory h = (4, omega arith, refl)
+among_of Run nodes from bits text (BadBits word) h = (5, omega arith, refl)
+among_of Compile nodes from bits text fault h = absurd h
+among_of Check nodes from bits text fault h = absurd h
+among_of Eval nodes from bits text fault h = absurd h
+among_of Stat nodes from bits text fault h = absurd h
+among_of Run nodes from bits text fault h = absurd h
+
 pub status_among : (order : OrderView) (text : List ℕ) (fault : Fault) → IsCauseOrMemory order text fault
     → Contains (statuses_of order.command) (status_of fault)
-status_among order text fault h = among order.command order.bits text fault h
-  where
-    among : (command : Command) (bits : List (List ℕ)) (text : List ℕ) (fault : Fault) → IsCauseOrMemory (record { command = command; bits = bits }) text fault
-        → Contains (statuses_of command) (status_of fault)
-    among Compile bits text (Refused refusal) h = (1, omega arith, refl)
-    among Compile bits text (Lines need limit) h = (2, omega arith, refl)
-    among Compile bits text Memory h = (5, omega arith, refl)
-    among Eval bits text (Refused refusal) h = (1, omega arith, refl)
-    among Eval bits text (Claim number at digits) h = (2, omega arith, refl)
-    among Eval bits text Memory h = (5, omega arith, refl)
-    among Eval bits text (BadBits word) h = (6, omega arith, refl)
-    among Compile bits text fault h = absurd h
-    among Eval bits text fault h = absurd h
+status_among order text fault h = among_of order.command order.nodes order.from order.bits text fault h
 
 pub write_among : (command : Command) → Contains (statuses_of command) 10
-write_among Compile = (4, omega arith, refl)
+write_among Compile = (6, omega arith, refl)
+write_among Check = (5, omega arith, refl)
 write_among Eval = (4, omega arith, refl)
+write_among Stat = (3, omega arith, refl)
+write_among Run = (3, omega arith, refl)
 
-pub reading_among : (command : Command) (fault : ReadFault) → Contains (statuses_of command) (status_of (reading_fault fault))
-reading_among Compile reads.Failed = (3, omega arith, refl)
-reading_among Compile reads.TooLong = (1, omega arith, refl)
-reading_among Compile reads.Memory = (5, omega arith, refl)
-reading_among Eval reads.Failed = (3, omega arith, refl)
-reading_among Eval reads.TooLong = (1, omega arith, refl)
-reading_among Eval reads.Memory = (5, omega arith, refl)
+memory_among : (command : Command) → Contains (statuses_of command) 11
+memory_among Compile = (7, omega arith, refl)
+memory_among Check = (6, omega arith, refl)
+memory_among Eval = (5, omega arith, refl)
+memory_among Stat = (4, omega arith, refl)
+memory_among Run = (4, omega arith, refl)
+
+read_among : (command : Command) → Contains (statuses_of command) 9
+read_among Compile = (5, omega arith, refl)
+read_among Check = (4, omega arith, refl)
+read_among Eval = (3, omega arith, refl)
+read_among Stat = (2, omega arith, refl)
+read_among Run = (2, omega arith, refl)
+
+long_among : (command : Command) → Contains (statuses_of command) (status_of (too_long command))
+long_among Compile = (1, omega arith, refl)
+long_among Check = (1, omega arith, refl)
+long_among Eval = (1, omega arith, refl)
+long_among Stat = (1, omega arith, refl)
+long_among Run = (1, omega arith, refl)
+
+pub reading_among : (command : Command) (fault : ReadFault) → Contains (statuses_of command) (status_of (reading_fault command fault))
+reading_among command reads.Failed = read_among command
+reading_among command reads.TooLong = long_among command
+reading_among command reads.Memory = memory_among command
 
 -- a source that was read to its end, whatever the fault
-pub read_at : (fault : Fault) (old new : Option (List ℕ)) → IsAtEnd new → IsReadAt fault old new
-read_at Usage old new h = tt
-read_at Read old new h = tt
-read_at Memory old new h = tt
-read_at fault old new h = always old (λ text. length text ≤ MOST_BYTES → IsAtEnd new) (λ text short. h)
+pub read_at : (fault : Fault) (command : Command) (old new : Option (List ℕ)) → IsAtEnd new → IsReadAt fault command old new
+read_at Usage command old new h = tt
+read_at Read command old new h = tt
+read_at Memory command old new h = tt
+read_at fault command old new h = always old (λ text. IsReadWhole command text new) (λ text short. h)
 
 -- a text over the limit is refused for that
-pub reading_caused : (fault : ReadFault) (order : OrderView) (rest : Option (List ℕ)) → (fault ≡ reads.TooLong → IfSome rest (λ text. MOST_BYTES < length text))
-    → IfSome rest (λ text. IsCausedBy order text (reading_fault fault))
+long_caused : (command : Command) (nodes : ℕ) (from : Format) (bits : List (List ℕ)) (text : List ℕ) → most_bytes command < length text
+    → IsCausedBy (record { command = command; nodes = nodes; from = from; bits = bits }) text (too_long command)
+long_caused Compile nodes from bits text long = long
+long_caused Check nodes from bits text long = long
+long_caused Eval nodes from bits text long = long
+long_caused Stat nodes from bits text long = long
+long_caused Run nodes from bits text long = long
+
+pub reading_caused : (fault : ReadFault) (order : OrderView) (rest : Option (List ℕ))
+    → (fault ≡ reads.TooLong → IfSome rest (λ text. most_bytes order.command < length text))
+    → IfSome rest (λ text. IsCausedBy order text (reading_fault order.command fault))
 reading_caused reads.Failed order rest h = always rest (λ text. IsCausedBy order text Read) (λ text. tt)
 reading_caused reads.Memory order rest h = always rest (λ text. IsCausedBy order text Memory) (λ text. tt)
-reading_caused reads.TooLong order rest h = too_long order.command order.bits rest (h refl)
-  where
-    too_long : (command : Command) (bits : List (List ℕ)) (rest : Option (List ℕ)) → IfSome rest (λ text. MOST_BYTES < length text)
-        → IfSome rest (λ text. IsCausedBy (record { command = command; bits = bits }) text (Refused refusals.TooLong))
-    too_long Compile bits rest h = if_some rest (λ text. MOST_BYTES < length text) (λ text. IsCausedBy (record { command = Compile; bits = bits }) text
-        (Refused refusals.TooLong)) (λ text long. long) h
-    too_long Eval bits rest h = if_some rest (λ text. MOST_BYTES < length text) (λ text. IsCausedBy (record { command = Eval; bits = bits }) text
-        (Refused refusals.TooLong)) (λ text long. (long, λ e. absurd cc)) h
+reading_caused reads.TooLong order rest h =
+    if_some rest (λ text. most_bytes order.command < length text) (λ text. IsCausedBy order text (too_long order.command))
+    (λ text long. long_caused order.command order.nodes order.from order.bits text long) (h refl)
 
-pub reading_at : (fault : ReadFault) (old new : Option (List ℕ)) → (fault ≡ reads.TooLong → IfSome old (λ text. MOST_BYTES < length text))
-    → IsReadAt (reading_fault fault) old new
-reading_at reads.Failed old new h = tt
-reading_at reads.Memory old new h = tt
-reading_at reads.TooLong old new h =
-    if_some old (λ text. MOST_BYTES < length text) (λ text. length text ≤ MOST_BYTES → IsAtEnd new) (λ text long short. absurd (omega arith)) (h refl)
+-- the same for an order of this command
+pub of_command : (order : OrderView) (command : Command) (fault : ReadFault) (rest : Option (List ℕ)) → order.command ≡ command
+    → (fault ≡ reads.TooLong → IfSome rest (λ text. most_bytes command < length text))
+    → IfSome rest (λ text. IsCausedBy order text (reading_fault command fault))
+of_command order command fault rest is h =
+    subst (λ (c : Command). IfSome rest (λ text. IsCausedBy order text (reading_fault c fault))) is
+    (reading_caused fault order rest (subst (λ (c : Command). fault ≡ reads.TooLong → IfSome rest (λ text. most_bytes c < length text)) (sym is) h))
+
+read_long : (command : Command) (old new : Option (List ℕ)) → IfSome old (λ text. most_bytes command < length text)
+    → IfSome old (λ text. IsReadWhole command text new)
+read_long command old new h =
+    if_some old (λ text. most_bytes command < length text) (λ text. IsReadWhole command text new) (λ text long short. absurd (omega arith)) h
+
+long_at : (command : Command) (old new : Option (List ℕ)) → IfSome old (λ text. most_bytes command < length text)
+    → IsReadAt (too_long command) command old new
+long_at Compile old new h = read_long Compile old new h
+long_at Check old new h = read_long Check old new h
+long_at Eval old new h = read_long Eval old new h
+long_at Stat old new h = read_long Stat old new h
+long_at Run old new h = read_long Run old new h
+
+pub reading_at : (fault : ReadFault) (command : Command) (old new : Option (List ℕ))
+    → (fault ≡ reads.TooLong → IfSome old (λ text. most_bytes command < length text)) → IsReadAt (reading_fault command fault) command old new
+reading_at reads.Failed command old new h = tt
+reading_at reads.Memory command old new h = tt
+reading_at reads.TooLong command old new h = long_at command old new (h refl)
 
 -- ---- the words
 
@@ -150,10 +212,6 @@ words_caused ws rest words.Memory = all_served ws rest (λ order text. IsCausedB
 pub words_may_end : (words : List (List ℕ)) (fault : WordsFault) → status_of (words_fault fault) ≢ 2 → MayEnd words (status_of (words_fault fault))
 words_may_end ws words.Usage other = absurd (other refl)
 words_may_end ws words.Memory other = record { each = λ order is. memory_among order.command }
-  where
-    memory_among : (command : Command) → Contains (statuses_of command) 11
-    memory_among Compile = (5, omega arith, refl)
-    memory_among Eval = (5, omega arith, refl)
 
 -- ---- the statuses
 
@@ -226,35 +284,66 @@ completes_after words rest rose_in rose_out fault status u s i o e calm_in calm_
     served words rest (λ order text. IsCausedBy order text fault) (EndsWell status)
     (λ order text cause serves. absurd ((one_outcome order.command).free order text fault serves cause)) s
 
-pub read_whole_after : (fault : Fault) (status : ℕ) (old new : Option (List ℕ)) → status ≡ status_of fault → IsReadAt fault old new → status ≢ 2 → status ≢ 9
-    → status ≢ 11 → IsReadWhole old new
-read_whole_after Usage status old new e h w r m = absurd (w e)
-read_whole_after Read status old new e h w r m = absurd (r e)
-read_whole_after Memory status old new e h w r m = absurd (m e)
-read_whole_after fault status old new e h w r m = h
+read_so : (fault : Fault) (status : ℕ) (command : Command) (old new : Option (List ℕ)) → status ≡ status_of fault → IsReadAt fault command old new → status ≢ 2
+    → status ≢ 9 → status ≢ 11 → IfSome old (λ text. IsReadWhole command text new)
+read_so Usage status command old new e h w r m = absurd (w e)
+read_so Read status command old new e h w r m = absurd (r e)
+read_so Memory status command old new e h w r m = absurd (m e)
+read_so fault status command old new e h w r m = h
+
+pub read_whole_after : (words : List (List ℕ)) (fault : Fault) (status : ℕ) (old new : Option (List ℕ)) → status ≡ status_of fault
+    → IsReadFor fault words old new → status ≢ 2 → status ≢ 9 → status ≢ 11 → Served words old (λ order text. IsReadWhole order.command text new)
+read_whole_after words fault status old new e h w r m = record {
+  each = λ order is. read_so fault status order.command old new e (h.each order is) w r m;
+}
+
+-- what holds of the command of one order of the words
+pub read_for : (words : List (List ℕ)) (order : OrderView) (fault : Fault) (old new : Option (List ℕ)) → IsOrder words order
+    → IsReadAt fault order.command old new → IsReadFor fault words old new
+read_for words order fault old new is h = record {
+  each = λ other also. subst (λ (o : OrderView). IsReadAt fault o.command old new) (one_order words order other is also) h;
+}
+
+pub words_read : (words : List (List ℕ)) (fault : WordsFault) (old new : Option (List ℕ)) → IsReadFor (words_fault fault) words old new
+words_read ws words.Usage old new = record { each = λ order is. tt }
+words_read ws words.Memory old new = record { each = λ order is. tt }
 
 pub may_succeed : (words : List (List ℕ)) → MayEnd words 0
 may_succeed words = record { each = λ order is. success_among order.command }
   where
     success_among : (command : Command) → Contains (statuses_of command) 0
     success_among Compile = (0, omega arith, refl)
+    success_among Check = (0, omega arith, refl)
     success_among Eval = (0, omega arith, refl)
+    success_among Stat = (0, omega arith, refl)
+    success_among Run = (0, omega arith, refl)
 
 pub may_end_after : (words : List (List ℕ)) (fault : Fault) (status : ℕ) → status ≡ status_of fault → (status_of fault ≢ 2 → MayEnd words (status_of fault))
     → status ≢ 2 → MayEnd words status
 may_end_after words fault status e h other = subst (MayEnd words) (sym e) (h (λ two. other (e ∙ two)))
 
-pub read_whole : (old new : Option (List ℕ)) → IsAtEnd new → IsReadWhole old new
-read_whole old new h = always old (λ text. length text ≤ MOST_BYTES → IsAtEnd new) (λ text short. h)
+pub read_whole : (command : Command) (old new : Option (List ℕ)) → IsAtEnd new → IfSome old (λ text. IsReadWhole command text new)
+read_whole command old new h = always old (λ text. IsReadWhole command text new) (λ text short. h)
 
-pub given_file : (order : OrderView) (text : List ℕ) (laid : LaidView) → order.command ≡ Compile → IsCompiled text (file_of laid)
-    → Gives order text (file_of laid)
-given_file order text laid is compiled = of_command order.command order.bits text laid is compiled
+-- the nodes of an order are some
+pub some_nodes : (words : List (List ℕ)) (order : OrderView) → IsOrder words order → 1 ≤ order.nodes
+some_nodes words order is = some (value_of (codes "nodes") is.given) order.nodes is.nodes
   where
-    of_command : (command : Command) (bits : List (List ℕ)) (text : List ℕ) (laid : LaidView) → command ≡ Compile → IsCompiled text (file_of laid)
-        → Gives (record { command = command; bits = bits }) text (file_of laid)
-    of_command Compile bits text laid is compiled = compiled
-    of_command Eval bits text laid is compiled = absurd cc
+    some : (value : Option (List ℕ)) (nodes : ℕ) → MatchOption value (nodes ≡ USUAL_NODES) (λ word. IsNumberIn 1 MOST_NODES word nodes) → 1 ≤ nodes
+    some None nodes h = omega (arith, h)
+    some (Some word) nodes h = h.least_is
+
+-- ---- what each command prepares is what its order gives
+
+pub given_of : (order : OrderView) (text written : List ℕ) (command : Command) → order.command ≡ command
+    → Gives (record order { command = command }) text written → Gives order text written
+given_of order text written command is h = given order.command command order.nodes order.from order.bits is h
+  where
+    given : (own command : Command) (nodes : ℕ) (from : Format) (bits : List (List ℕ)) → own ≡ command
+        → Gives (record { command = command; nodes = nodes; from = from; bits = bits }) text written
+        → Gives (record { command = own; nodes = nodes; from = from; bits = bits }) text written
+    given own command nodes from bits is h =
+        subst (λ (c : Command). Gives (record { command = c; nodes = nodes; from = from; bits = bits }) text written) (sym is) h
 
 -- what holds of the text that was lent holds of the one that the source told
 pub of_read : (rest : Option (List ℕ)) (lent items : List ℕ) (P : List ℕ → Type 0) → lent ≡ items → IfSome rest (λ told. items ≡ told) → P lent → IfSome rest P
@@ -267,3 +356,6 @@ always_ok (Err e) P p = tt
 pub always_err : {T E : Type 0} (result : Result T E) (P : E → Type 0) → ((e : E) → P e) → IfErr result P
 always_err (Ok x) P h = tt
 always_err (Err e) P h = h e
+
+pub err_of : {T E : Type 0} (r : Result T E) (e f : E) → r ≡ Err e → e ≡ f → IsErrOf r f
+err_of {T} {E} r e f is same = is ∙ ap (λ (x : E). let y : Result T E = Err x in y) same

@@ -1,13 +1,10 @@
 -- What a clean file is, in any format: what it computes, and what its lines hold before and behind.
 use Rattle.std.specs.Prelude.{◌≡◌, ℕ, Bool, List, length, sum}
-use Rattle.std.specs.List.{AllByRecursion}
 use Rattle.gate_split.specs.Plans.{PutsOutputs}
 use Rattle.gate_split.specs.declared.roles.Roles.{Roles}
 use Rattle.mct_circuit.specs.Gates.{GateView, AreNarrow}
-use Rattle.revc_base.specs.Claims.{HoldsEverywhere}
-use Rattle.revc_base.specs.Tapes.{TapeView}
 use Rattle.revs_terms.specs.Programs.{widths_of}
-use Rattle.revs_terms.specs.Runs.{IsInput, HasOutput, IsTapeOf}
+use Rattle.revs_terms.specs.Runs.{IsInput, HasOutput}
 use Rattle.revs_terms.specs.Views.{ProgramView}
 
 -- on this input, whatever the borrowed lines hold, the gates put the program's output on the output lines
@@ -30,9 +27,3 @@ pub record IsClean (Means : List ℕ → Roles → List GateView → Type 0) (te
   pub narrow : AreNarrow gates
   pub computes : (input bits : List Bool) → IsInput p.params input → length bits ≡ borrowed
       → ComputesOn p roles gates input bits
-
--- every claim of the program holds on all inputs
-pub record AllHold (p : ProgramView) : Type 0 where
-  pub tape : TapeView
-  pub of : IsTapeOf p.params p.body tape
-  pub hold : AllByRecursion (HoldsEverywhere tape) tape.claims

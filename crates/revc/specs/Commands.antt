@@ -2,33 +2,59 @@
 use Rattle.std.specs.Prelude.{◌≡◌, ℕ, List, [], ◌∷◌}
 use Rattle.revc.specs.declared.fault.Fault.{Fault}
 use Rattle.revc.specs.declared.fault.Fault.TheVariants.{Usage, Lines, Read, Write, Memory}
-use Rattle.revc.specs.declared.words.Command.{Command}
-use Rattle.revc.specs.declared.words.Command.TheVariants as commands
-use Rattle.revc.specs.Words.{OrderView}
+use Rattle.revc.specs.declared.limits.TheConstants.{MOST_CIRCUIT_BYTES}
+use Rattle.revc_words.specs.declared.order.Command.{Command}
+use Rattle.revc_words.specs.declared.order.Command.TheVariants as commands
+use Rattle.revc_words.specs.Words.{OrderView}
+use Rattle.revs_parser.specs.declared.limits.TheConstants.{MOST_BYTES}
 use Rattle.revc.specs.Commands.Compile as compile
+use Rattle.revc.specs.Commands.Check as check
 use Rattle.revc.specs.Commands.Eval as eval
+use Rattle.revc.specs.Commands.Stat as stat
+use Rattle.revc.specs.Commands.Run as run
+pub mod Check
 pub mod Compile
 pub mod Eval
+pub mod Run
+pub mod Stat
 
 -- these bytes are what the order asks for, with this text on the source
 abbrev pub gives : Command → OrderView → List ℕ → List ℕ → Type 0
 gives commands.Compile = compile.Gives
+gives commands.Check = check.Gives
 gives commands.Eval = eval.Gives
+gives commands.Stat = stat.Gives
+gives commands.Run = run.Gives
 
 -- the text lets the order end with this fault
 abbrev pub causes : Command → OrderView → List ℕ → Fault → Type 0
 causes commands.Compile = compile.IsCause
+causes commands.Check = check.IsCause
 causes commands.Eval = eval.IsCause
+causes commands.Stat = stat.IsCause
+causes commands.Run = run.IsCause
 
 -- the order ends well with this text, unless memory or a device is wanting
 abbrev pub serves : Command → OrderView → List ℕ → Type 0
 serves commands.Compile = compile.Serves
+serves commands.Check = check.Serves
 serves commands.Eval = eval.Serves
+serves commands.Stat = stat.Serves
+serves commands.Run = run.Serves
 
 -- the statuses with which a command may end
 abbrev pub statuses_of : Command → List ℕ
-statuses_of commands.Compile = 0 ∷ 3 ∷ 6 ∷ 9 ∷ 10 ∷ 11 ∷ []
+statuses_of commands.Compile = 0 ∷ 3 ∷ 4 ∷ 5 ∷ 6 ∷ 9 ∷ 10 ∷ 11 ∷ []
+statuses_of commands.Check = 0 ∷ 3 ∷ 4 ∷ 5 ∷ 9 ∷ 10 ∷ 11 ∷ []
 statuses_of commands.Eval = 0 ∷ 3 ∷ 4 ∷ 9 ∷ 10 ∷ 11 ∷ 12 ∷ []
+statuses_of commands.Stat = 0 ∷ 8 ∷ 9 ∷ 10 ∷ 11 ∷ []
+statuses_of commands.Run = 0 ∷ 8 ∷ 9 ∷ 10 ∷ 11 ∷ 12 ∷ []
+
+-- the most bytes of the text that a command reads: of a circuit, or of a program
+abbrev pub most_bytes : Command → ℕ
+most_bytes commands.Stat = MOST_CIRCUIT_BYTES
+most_bytes commands.Run = MOST_CIRCUIT_BYTES
+most_bytes _ = MOST_BYTES
 
 -- A fault is exact where it comes wherever it has its cause. A budget is no such fault: it may be kept where it could
 -- be passed.

@@ -4,18 +4,22 @@ use Rattle.std.specs.Fmt.{decimal}
 use Rattle.revc_base.specs.declared.place.Place.{Place}
 use Rattle.revs_terms.specs.Causes.{cause_word}
 use Rattle.revc.specs.declared.fault.Fault.{Fault}
-use Rattle.revc.specs.declared.fault.Fault.TheVariants.{Usage, Refused, Claim, Lines, BadBits, Read, Write, Memory}
+use Rattle.revc.specs.declared.fault.Fault.TheVariants.{Usage, Refused, Claim, Diagram, Lines, Circuit, BadBits, Read, Write, Memory}
+use Rattle.revc.specs.declared.fault.CircuitRefusal.{CircuitRefusal}
+use Rattle.revc.specs.declared.fault.CircuitRefusal.TheVariants as circuits
 use Rattle.revc.specs.declared.fault.Kind.{Kind}
 use Rattle.revc.specs.declared.fault.Kind.TheVariants.{BadByte, LongName, LongNumber, Syntax, Nesting, Inputs, Unbound, TwoParams, Stuck}
 use Rattle.revc.specs.declared.fault.Refusal.{Refusal}
-use Rattle.revc.specs.declared.fault.Refusal.TheVariants.{TooLong, At, Program}
+use Rattle.revc.specs.declared.fault.Refusal.TheVariants.{TooLong, At}
 
 -- the status of each fault
 abbrev pub status_of : Fault → ℕ
 status_of Usage = 2
 status_of (Refused refusal) = 3
 status_of (Claim number at bits) = 4
+status_of (Diagram number at limit) = 5
 status_of (Lines need limit) = 6
+status_of (Circuit refusal) = 8
 status_of Read = 9
 status_of Write = 10
 status_of Memory = 11
@@ -45,13 +49,26 @@ abbrev pub refusal_line : Refusal → List ℕ
 refusal_line TooLong = codes "revc: source over 1048576 bytes\n"
 refusal_line (At kind at) =
     codes "revc: " ++ (place_text at ++ (codes " " ++ (kind_text kind ++ codes "\n")))
-refusal_line Program = codes "revc: program refused\n"
 
 -- the line of a claim that fails on these bits
 abbrev pub claim_line : ℕ → Place → List Bool → List ℕ
 claim_line number at bits =
     codes "revc: claim " ++ (decimal number ++ (codes " at " ++ (place_text at
     ++ (codes " fails on " ++ (digits_of bits ++ codes "\n")))))
+
+-- the line of a claim with which the diagrams pass the limit
+abbrev pub diagram_line : ℕ → Place → ℕ → List ℕ
+diagram_line number at limit =
+    codes "revc: claim " ++ (decimal number ++ (codes " at " ++ (place_text at
+    ++ (codes " passes " ++ (decimal limit ++ codes " nodes\n")))))
+
+-- the line of a circuit text that is refused
+abbrev pub circuit_line : CircuitRefusal → List ℕ
+circuit_line circuits.TooLong = codes "revc: circuit over 134217728 bytes\n"
+circuit_line (circuits.Line number) =
+    codes "revc: circuit line " ++ (decimal number ++ codes "\n")
+circuit_line (circuits.Limit number) =
+    codes "revc: circuit line " ++ (decimal number ++ codes " over a limit\n")
 
 -- the line of a budget of lines that is passed
 abbrev pub lines_line : ℕ → ℕ → List ℕ
@@ -67,7 +84,9 @@ abbrev pub line_of : Fault → List ℕ
 line_of Usage = codes "revc: bad command line\n"
 line_of (Refused refusal) = refusal_line refusal
 line_of (Claim number at bits) = claim_line number at bits
+line_of (Diagram number at limit) = diagram_line number at limit
 line_of (Lines need limit) = lines_line need limit
+line_of (Circuit refusal) = circuit_line refusal
 line_of (BadBits word) = bits_line word
 line_of Read = codes "revc: read fault\n"
 line_of Write = codes "revc: write fault\n"

@@ -1,5 +1,5 @@
 -- Why a program text is refused.
-use Rattle.std.specs.Prelude.{◌≡◌, ◌≢◌, Bool, ℕ, ◌<◌, ◌≤◌, List, [], length}
+use Rattle.std.specs.Prelude.{◌≡◌, Bool, ℕ, ◌<◌, ◌≤◌, List, length}
 use Rattle.revc_base.specs.declared.place.Place.{Place}
 use Rattle.revs_lexer.specs.declared.token.LexFault.TheVariants as lexer
 use Rattle.revs_lexer.specs.declared.token.Token.{Token}
@@ -9,13 +9,12 @@ use Rattle.revs_grammar.specs.Faults.{IsSyntax, IsNesting}
 use Rattle.revc.specs.declared.fault.Kind.{Kind}
 use Rattle.revc.specs.declared.fault.Kind.TheVariants.{BadByte, LongName, LongNumber, Syntax, Nesting, Inputs, Unbound, TwoParams, Stuck}
 use Rattle.revc.specs.declared.fault.Refusal.{Refusal}
-use Rattle.revc.specs.declared.fault.Refusal.TheVariants.{TooLong, At, Program}
+use Rattle.revc.specs.declared.fault.Refusal.TheVariants.{TooLong, At}
 use Rattle.revs_parser.specs.declared.limits.TheConstants.{MOST_BYTES}
-use Rattle.revs_parser.specs.WellFormed.{IsProgramText, IsWellFormed}
+use Rattle.revs_parser.specs.WellFormed.{IsProgramText}
 use Rattle.revs_terms.specs.Views.{ProgramView}
 use Rattle.revs_terms.specs.declared.cause.Cause.{Cause}
-use Rattle.revc_base.specs.Tapes.{TapeView}
-use Rattle.revs_terms.specs.Runs.{IsInput, IsStuck, IsTapeOf}
+use Rattle.revs_terms.specs.Runs.{IsInput, IsStuck}
 use Rattle.revs_terms.specs.Scopes.{scope_verdict, bound_as, two_params, unbound_name}
 use Rattle.revs_terms.specs.Trees.{Tree}
 
@@ -45,12 +44,7 @@ IsRefusedAt text Unbound at = OfProgram text (λ p. scope_verdict p.params p.bod
 IsRefusedAt text TwoParams at = OfProgram text (λ p. scope_verdict p.params p.body ≡ two_params at)
 IsRefusedAt text (Stuck cause) at = OfProgram text (IsStuckFor cause at)
 
--- the tape of the program has a claim
-abbrev pub HasClaims : ProgramView → Type 0
-HasClaims p = (tape : TapeView) × IsTapeOf p.params p.body tape × (tape.claims ≢ [])
-
--- the text has too many bytes, or is refused at a place, or is well formed, and its program has claims
+-- the text has too many bytes, or is refused at a place
 abbrev pub IsRefusal : List ℕ → Refusal → Type 0
 IsRefusal text TooLong = MOST_BYTES < length text
 IsRefusal text (At kind at) = (length text ≤ MOST_BYTES) × IsRefusedAt text kind at
-IsRefusal text Program = (p : ProgramView) × IsWellFormed text p × HasClaims p

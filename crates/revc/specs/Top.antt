@@ -5,10 +5,10 @@ use Rattle.revc_io.specs.Faults.{Rose}
 use Rattle.revc_io.specs.Passing.{AppendsFront}
 use Rattle.revc.specs.declared.fault.Fault.{Fault}
 use Rattle.revc.specs.declared.fault.Fault.TheVariants.{Usage, Read, Memory}
-use Rattle.revs_parser.specs.declared.limits.TheConstants.{MOST_BYTES}
-use Rattle.revc.specs.Commands.{IsCause, IsExact, statuses_of}
+use Rattle.revc.specs.Commands.{IsCause, IsExact, most_bytes, statuses_of}
 use Rattle.revc.specs.Faults.{status_of, line_of}
-use Rattle.revc.specs.Words.{OrderView, IsOrder}
+use Rattle.revc_words.specs.declared.order.Command.{Command}
+use Rattle.revc_words.specs.Words.{OrderView, IsOrder}
 
 -- this holds of the order that the words give and the text that the source gives, where it tells it
 pub record Served (words : List (List ℕ)) (rest : Option (List ℕ))
@@ -62,13 +62,18 @@ pub record RestsOnText (status : ℕ) : Type 0 where
 pub record IsStatusOfAll (order : OrderView) (text : List ℕ) (status : ℕ) : Type 0 where
   pub each : (fault : Fault) → IsExact fault → IsCause order text fault → status ≡ status_of fault
 
--- a source that told a text of at most so many bytes is at its end
-abbrev pub IsReadWhole : Option (List ℕ) → Option (List ℕ) → Type 0
-IsReadWhole old new = IfSome old (λ text. length text ≤ MOST_BYTES → IsAtEnd new)
+-- a source that told a text within the command's limit is at its end
+abbrev pub IsReadWhole : Command → List ℕ → Option (List ℕ) → Type 0
+IsReadWhole command text new = length text ≤ most_bytes command → IsAtEnd new
 
 -- a source that did not fail was read to its end, unless the words or want of memory came before
-abbrev pub IsReadAt : Fault → Option (List ℕ) → Option (List ℕ) → Type 0
-IsReadAt Usage old new = Unit {0}
-IsReadAt Read old new = Unit {0}
-IsReadAt Memory old new = Unit {0}
-IsReadAt fault old new = IsReadWhole old new
+abbrev pub IsReadAt : Fault → Command → Option (List ℕ) → Option (List ℕ) → Type 0
+IsReadAt Usage command old new = Unit {0}
+IsReadAt Read command old new = Unit {0}
+IsReadAt Memory command old new = Unit {0}
+IsReadAt fault command old new = IfSome old (λ text. IsReadWhole command text new)
+
+-- this holds of the command of each order of the words
+pub record IsReadFor (fault : Fault) (words : List (List ℕ))
+    (old new : Option (List ℕ)) : Type 0 where
+  pub each : (order : OrderView) → IsOrder words order → IsReadAt fault order.command old new

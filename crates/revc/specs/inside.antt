@@ -1,5 +1,5 @@
-pub mod Reading
 pub mod Mappings
 pub mod Plain
 pub mod Plans
 pub mod Outcomes
+pub mod Started

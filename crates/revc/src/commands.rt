@@ -1,22 +1,27 @@
 // What an order makes of a text before anything is written: it takes all memory, and meets every fault but that of
 // writing.
-ghost use Rattle.std.specs.Prelude.{◌≤◌, length, IfOk, IfErr};
+ghost use Rattle.std.specs.Prelude.{◌≡◌, ◌≤◌, length, IfOk, IfErr};
 ghost use Rattle.revc_io.specs.Faults.{HasCause};
 ghost use Rattle.revc_io.specs.Passing.{Writes};
-ghost use Rattle.revc.specs.Commands.{Gives, IsCauseOrMemory};
-ghost use Rattle.revc.specs.Words.{order_of};
+ghost use Rattle.revc_words.specs.Words.{order_of};
+ghost use Rattle.revc.specs.Commands.{Gives, IsCauseOrMemory, most_bytes};
 ghost use Rattle.revc.specs.inside.Outcomes.{CanBeWritten, text_of};
 
+pub mod check;
 pub mod compile;
 pub mod eval;
+pub mod run;
+pub mod stat;
 
-use crate::digits::write_digits;
+use crate::digits::{write_digits, write_lines, write_number};
 use crate::fault::Fault;
-use crate::words::{Command, Order};
+use crate::limits::MOST_CIRCUIT_BYTES;
 use gate_split::Laid;
 use revc_base::Bits;
 use revc_io::{Failed, Sink};
+use revc_words::{Command, Order};
 use revs_parser::MOST_BYTES;
+use stat::Sizes;
 use std::alloc::Global;
 
 /// What waits to be written.
@@ -24,8 +29,14 @@ use std::alloc::Global;
 pub enum Prepared {
     /// The file of a compiled circuit.
     File(Laid),
+    /// The line of a number of claims.
+    Claims(u32),
     /// Bits as digits, and a line feed.
     Digits(Bits),
+    /// Bits as digits, a line for each list.
+    Lines(Vec<Bits>),
+    /// The lines of a circuit's sizes.
+    Stat(Sizes),
 }
 
 impl Prepared {
@@ -37,20 +48,37 @@ impl Prepared {
     {
         match self {
             Prepared::File(laid) => real_format::write(laid, out),
+            Prepared::Claims(count) => write_number(out, b"claims ", *count as u64, b"\n"),
             Prepared::Digits(bits) => write_digits(bits.bits(), out),
+            Prepared::Lines(lines) => write_lines(lines, out),
+            Prepared::Stat(sizes) => stat::write(sizes, out),
         }
+    }
+}
+
+/// The most bytes of the text that a command reads.
+pub fn most_bytes(command: Command) -> usize
+    ensures { result ≡ most_bytes command }
+{
+    match command {
+        Command::Stat | Command::Run => MOST_CIRCUIT_BYTES,
+        Command::Compile | Command::Check | Command::Eval => MOST_BYTES,
     }
 }
 
 /// What an order gives for a text. A fault has its cause in the text, or is want of memory.
 pub fn prepare(alloc: Global, order: &Order, text: &[u8]) -> Result<Prepared, Fault>
-    requires { length text.now ≤ MOST_BYTES }
+    requires short { length text.now ≤ most_bytes order.now.command }
+    requires nodes { 1 ≤ order.now.nodes }
     ensures ok { IfOk result (λ prepared. Gives (order_of order.now) text.now (text_of prepared)) }
     ensures writable { IfOk result CanBeWritten }
     ensures err { IfErr result (IsCauseOrMemory (order_of order.now) text.now) }
 {
     match order.command {
-        Command::Compile => Ok(Prepared::File(compile::compile(alloc, text)?)),
+        Command::Compile => Ok(Prepared::File(compile::compile(alloc, text, order.nodes)?)),
+        Command::Check => Ok(Prepared::Claims(check::check(alloc, text, order.nodes)?)),
         Command::Eval => Ok(Prepared::Digits(eval::evaluate(alloc, text, order.word())?)),
+        Command::Stat => Ok(Prepared::Stat(stat::measure(alloc, text, order.from)?)),
+        Command::Run => Ok(Prepared::Lines(run::run(alloc, text, order.from, &order.bits)?)),
     }
 }

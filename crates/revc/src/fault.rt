@@ -16,12 +16,18 @@ pub enum Fault {
     /// The claim with this number, counted from 1, fails on these bits. Its term is at the place.
     #[error("claim fails")]
     Claim { number: u32, at: Place, bits: Bits },
+    /// With the claim of this number, counted from 1, the claims rest on more functions than the limit. Its term is at
+    /// the place.
+    #[error("diagrams over budget")]
+    Diagram { number: u32, at: Place, limit: u32 },
     /// A circuit needs so many lines, more than the limit.
     #[error("lines over budget")]
     Lines { need: u32, limit: u32 },
+    #[error("circuit refused")]
+    Circuit(CircuitRefusal),
     /// The word of bits with this number, counted from 1, does not fit.
     #[error("bad bits")]
-    BadBits { word: u32 },
+    BadBits { word: usize },
     #[error("read fault")]
     Read,
     #[error("write fault")]
@@ -37,8 +43,17 @@ pub enum Refusal {
     TooLong,
     /// It is refused at this place.
     At(Kind, Place),
-    /// It is well formed, and its program has claims.
-    Program,
+}
+
+/// Why a circuit text is refused. Lines are counted from 1.
+#[derive(Clone, Copy, Debug, PartialEq, Eq)]
+pub enum CircuitRefusal {
+    /// It has more than 134,217,728 bytes.
+    TooLong,
+    /// This line is the first that breaks a rule.
+    Line { number: u32 },
+    /// This line is the first that breaks a rule, and passes a limit.
+    Limit { number: u32 },
 }
 
 /// What is wrong at a place.
@@ -65,7 +80,9 @@ impl Fault {
             Fault::Usage => 2,
             Fault::Refused(_) => 3,
             Fault::Claim { .. } => 4,
+            Fault::Diagram { .. } => 5,
             Fault::Lines { .. } => 6,
+            Fault::Circuit(_) => 8,
             Fault::Read => 9,
             Fault::Write => 10,
             Fault::Memory => 11,

@@ -2,19 +2,22 @@
 //! of space-efficient reversible circuits, CAV 2017).
 #![tactic(auto)]
 
+mod circuit;
+#[cfg(test)]
+mod circuit_tests;
+#[cfg(test)]
+mod claim_tests;
 mod commands;
 mod digits;
 mod fault;
 mod limits;
 mod plain;
-#[cfg(test)]
-mod plain_tests;
 mod program;
 mod report;
+mod settling;
 #[cfg(test)]
 mod tests;
 mod top;
-mod words;
 
 use revc_io::{StdSink, StdSource};
 use std::env;

@@ -3,11 +3,12 @@ ghost use Rattle.std.specs.Prelude.{◌≡◌, ◌++◌, codes};
 ghost use Rattle.std.specs.Fmt.{decimal};
 ghost use Rattle.revc_io.specs.Faults.{HasCause};
 ghost use Rattle.revc_io.specs.Passing.{Gathers, Writes};
-ghost use Rattle.revc.specs.Faults.{bits_line, claim_line, digits_of, kind_text, line_of, lines_line, place_text, refusal_line};
+ghost use Rattle.revc.specs.Faults.{bits_line, circuit_line, claim_line, diagram_line, digits_of, kind_text, line_of};
+ghost use Rattle.revc.specs.Faults.{lines_line, place_text, refusal_line};
 ghost use Rattle.revc.specs.Top.{Receives};
 
-use crate::digits::put_line_of_digits;
-use crate::fault::{Fault, Kind, Refusal};
+use crate::digits::{put_line_of_digits, put_number};
+use crate::fault::{CircuitRefusal, Fault, Kind, Refusal};
 use revc_base::Place;
 use revc_io::{Buffer, Failed, Sink, put_decimal};
 
@@ -37,8 +38,12 @@ fn put_line<E: Sink>(buffer: &mut Buffer, err: &mut E, fault: &Fault) -> Result<
         Fault::Usage => buffer.put(err, b"revc: bad command line\n"),
         Fault::Refused(refusal) => put_refusal(buffer, err, *refusal),
         Fault::Claim { number, at, bits } => put_claim(buffer, err, *number, *at, bits.bits()),
+        Fault::Diagram { number, at, limit } => put_diagram(buffer, err, *number, *at, *limit),
         Fault::Lines { need, limit } => put_lines(buffer, err, *need, *limit),
-        Fault::BadBits { word } => put_bad_bits(buffer, err, *word),
+        Fault::Circuit(refusal) => put_circuit(buffer, err, *refusal),
+        Fault::BadBits { word } => {
+            put_number(buffer, err, b"revc: bad bits in word ", *word as u64, b"\n")
+        }
         Fault::Read => buffer.put(err, b"revc: read fault\n"),
         Fault::Write => buffer.put(err, b"revc: write fault\n"),
         Fault::Memory => buffer.put(err, b"revc: out of memory\n"),
@@ -53,7 +58,6 @@ fn put_refusal<E: Sink>(buffer: &mut Buffer, err: &mut E, refusal: Refusal) -> R
     match refusal {
         Refusal::TooLong => buffer.put(err, b"revc: source over 1048576 bytes\n"),
         Refusal::At(kind, at) => put_at(buffer, err, kind, at),
-        Refusal::Program => buffer.put(err, b"revc: program refused\n"),
     }
 }
 
@@ -128,6 +132,62 @@ fn put_failing<E: Sink>(buffer: &mut Buffer, err: &mut E, bits: &[bool]) -> Resu
     put_line_of_digits(buffer, err, bits)
 }
 
+fn put_diagram<E: Sink>(
+    buffer: &mut Buffer,
+    err: &mut E,
+    number: u32,
+    at: Place,
+    limit: u32,
+) -> Result<(), Failed>
+    ensures bytes { Gathers result (E.held err.old) (E.held err.new) buffer.old buffer.new
+        (diagram_line number at limit) }
+    ensures cause { HasCause (E.faults err.old) (E.faults err.new) result }
+{
+    buffer.put(err, b"revc: claim ")?;
+    put_decimal(buffer, err, number as u64)?;
+    put_diagram_place(buffer, err, at, limit)
+}
+
+fn put_diagram_place<E: Sink>(
+    buffer: &mut Buffer,
+    err: &mut E,
+    at: Place,
+    limit: u32,
+) -> Result<(), Failed>
+    ensures bytes { Gathers result (E.held err.old) (E.held err.new) buffer.old buffer.new
+        (codes " at " ++ (place_text at
+        ++ (codes " passes " ++ (decimal limit ++ codes " nodes\n")))) }
+    ensures cause { HasCause (E.faults err.old) (E.faults err.new) result }
+{
+    buffer.put(err, b" at ")?;
+    put_place(buffer, err, at)?;
+    put_number(buffer, err, b" passes ", limit as u64, b" nodes\n")
+}
+
+fn put_circuit<E: Sink>(
+    buffer: &mut Buffer,
+    err: &mut E,
+    refusal: CircuitRefusal,
+) -> Result<(), Failed>
+    ensures bytes { Gathers result (E.held err.old) (E.held err.new) buffer.old buffer.new
+        (circuit_line refusal) }
+    ensures cause { HasCause (E.faults err.old) (E.faults err.new) result }
+{
+    match refusal {
+        CircuitRefusal::TooLong => buffer.put(err, b"revc: circuit over 134217728 bytes\n"),
+        CircuitRefusal::Line { number } => {
+            put_number(buffer, err, b"revc: circuit line ", number as u64, b"\n")
+        }
+        CircuitRefusal::Limit { number } => put_number(
+            buffer,
+            err,
+            b"revc: circuit line ",
+            number as u64,
+            b" over a limit\n",
+        ),
+    }
+}
+
 fn put_lines<E: Sink>(buffer: &mut Buffer, err: &mut E, need: u32, limit: u32) -> Result<(), Failed>
     ensures bytes { Gathers result (E.held err.old) (E.held err.new) buffer.old buffer.new
         (lines_line need limit) }
@@ -135,25 +195,5 @@ fn put_lines<E: Sink>(buffer: &mut Buffer, err: &mut E, need: u32, limit: u32) -
 {
     buffer.put(err, b"revc: lines ")?;
     put_decimal(buffer, err, need as u64)?;
-    put_over(buffer, err, limit)
-}
-
-fn put_over<E: Sink>(buffer: &mut Buffer, err: &mut E, limit: u32) -> Result<(), Failed>
-    ensures bytes { Gathers result (E.held err.old) (E.held err.new) buffer.old buffer.new
-        (codes " over " ++ (decimal limit ++ codes "\n")) }
-    ensures cause { HasCause (E.faults err.old) (E.faults err.new) result }
-{
-    buffer.put(err, b" over ")?;
-    put_decimal(buffer, err, limit as u64)?;
-    buffer.put(err, b"\n")
-}
-
-fn put_bad_bits<E: Sink>(buffer: &mut Buffer, err: &mut E, word: u32) -> Result<(), Failed>
-    ensures bytes { Gathers result (E.held err.old) (E.held err.new) buffer.old buffer.new
-        (bits_line word) }
-    ensures cause { HasCause (E.faults err.old) (E.faults err.new) result }
-{
-    buffer.put(err, b"revc: bad bits in word ")?;
-    put_decimal(buffer, err, word as u64)?;
-    buffer.put(err, b"\n")
+    put_number(buffer, err, b" over ", limit as u64, b"\n")
 }

@@ -47,20 +47,22 @@ t3 w0 w1 w2\nt2 w2 y0\nt3 w0 w1 w2\nt2 x0 w1\nt2 x1 w1\nt2 x1 w0\nt2 x0 w0\n.end
 
 const USAGE: &[u8] = b"revc: bad command line\n";
 
-const REFUSED: &[u8] = b"revc: program refused\n";
-
 // Words that are no order.
 const NO_ORDERS: &[&[&str]] = &[
     &[],
-    &["check"],
     &["Compile"],
     &["compile", "x"],
     &["compile", "--lines", "3"],
+    &["compile", "--nodes", "0"],
+    &["check", "--nodes", "5", "--nodes=5"],
+    &["stat", "--from", "qasm"],
     &["--help"],
     &["eval"],
     &["eval", "-1"],
     &["eval", "0", "1"],
-    &["run", "01"],
+    &["run"],
+    &["run", "-1"],
+    &["convert"],
     &["compile", "--", "x"],
     &["eval", "1", "--", "--"],
 ];
@@ -111,8 +113,6 @@ const CASES: &[(&[u8], &[u8], u8, &[u8])] = &[
     (THREE, b"rotate 2 r", 0, TURNED_FILE),
     (THREE, b"r.[0..0]", 0, FIRST_FILE),
     (THREE, b"rotate 3 r", 3, b"revc: 1:22 Rotate\n"),
-    (BITS, CLAIMED, 3, REFUSED),
-    (BIT, b"{ assert (a <> a <> true); a }", 3, REFUSED),
     (BIT, b"a & a", 3, b"revc: 1:21 BadByte\n"),
     (
         b"",
@@ -425,7 +425,7 @@ fn text_of(alloc: Global, pieces: &[(&[u8], usize)]) -> Result<Vec<u8>, AllocErr
 
 // The call on a source that holds a text ends with this status, and with what was written: on standard output where it
 // is 0, and on standard error else.
-fn check(
+pub fn check(
     rt: &impl Abort,
     alloc: Global,
     words: &[&str],
@@ -472,9 +472,14 @@ fn texts_are_compiled_or_refused(rt: HostRuntime) -> Result<(), Fail> {
     Ok(())
 }
 
-// What the call writes for a text at status 0.
-fn file_of(rt: &impl Abort, alloc: Global, text: Vec<u8>) -> Result<MemorySink, Fail> {
-    let words = words_of(alloc, &["compile"])?;
+// What the call writes for words and a text at status 0.
+pub fn output_of(
+    rt: &impl Abort,
+    alloc: Global,
+    words: &[&str],
+    text: Vec<u8>,
+) -> Result<MemorySink, Fail> {
+    let words = words_of(alloc, words)?;
     let mut source = SureSource::new(text);
     let mut out = MemorySink::new(alloc, 1_000_000, Vec::new(alloc), 1_000_000)?;
     let mut err = MemorySink::new(alloc, 100, Vec::new(alloc), 100)?;
@@ -482,12 +487,21 @@ fn file_of(rt: &impl Abort, alloc: Global, text: Vec<u8>) -> Result<MemorySink, 
     Ok(out)
 }
 
+// The file of a program.
+pub fn file_of(
+    rt: &impl Abort,
+    alloc: Global,
+    pieces: &[(&[u8], usize)],
+) -> Result<MemorySink, Fail> {
+    output_of(rt, alloc, &["compile"], text_of(alloc, pieces)?)
+}
+
 // A program that needs just as many lines as the budget has: two inputs, an output, and a work line for each of 2,047
 // AND and 2,046 XOR.
 #[test]
 fn the_budget_of_lines_is_used_up(rt: HostRuntime) -> Result<(), Fail> {
     let pieces: &[(&[u8], usize)] = &[(BITS, 1), (b"a && b", 1), (b" <> a && b", 2046)];
-    let out = file_of(&rt, rt.alloc(), text_of(rt.alloc(), pieces)?)?;
+    let out = file_of(&rt, rt.alloc(), pieces)?;
     assert!(rt; out.bytes().starts_with(b".version 2.0\n.numvars 4096\n"));
     Ok(())
 }
@@ -537,7 +551,7 @@ const EXAMPLES: &[(&[u8], &[u8], usize)] = &[
 #[test]
 fn circuits_of_the_examples_are_of_their_size(rt: HostRuntime) -> Result<(), Fail> {
     for (text, head, lines) in EXAMPLES {
-        let out = file_of(&rt, rt.alloc(), text.to_vec(rt.alloc())?)?;
+        let out = file_of(&rt, rt.alloc(), &[(*text, 1)])?;
         assert!(rt; out.bytes().starts_with(head));
         let ends = out.bytes().iter().filter(|byte| **byte == b'\n').count();
         assert_eq!(rt; ends, *lines);

@@ -2,18 +2,18 @@
 ghost use Rattle.std.specs.Prelude.{◌≡◌, ◌≢◌, ◌↔◌, ◌≤◌, ◌⊎◌, Contains, length, IfSome, IfOk, OnOk, OnErr, IfErr, IsErrOf};
 ghost use Rattle.std.specs.Io.KnownBytes.{IsAtEnd};
 ghost use Rattle.revc_io.specs.Faults.{Rose};
-ghost use Rattle.revc.specs.Commands.{Gives, IsCausedBy, IsCauseOrMemory, Serves, statuses_of};
+ghost use Rattle.revc.specs.Commands.{Gives, IsCausedBy, IsCauseOrMemory, Serves, most_bytes, statuses_of};
 ghost use Rattle.revc.specs.Faults.{status_of};
-ghost use Rattle.revc.specs.Top.{Grows, GrowsByPrefix, IsReadAt, IsReadWhole, IsStatusOfAll, MayEnd, Reports, RestsOnText, Served, Stopped};
-ghost use Rattle.revc.specs.Words.{HasNoOrder, order_of, words_of};
-ghost use Rattle.revc.specs.inside.Mappings.{reading_fault, words_fault};
+ghost use Rattle.revc.specs.Top.{Grows, GrowsByPrefix, IsReadAt, IsReadFor, IsReadWhole, IsStatusOfAll, MayEnd};
+ghost use Rattle.revc.specs.Top.{Reports, RestsOnText, Served, Stopped};
+ghost use Rattle.revc_words.specs.Words.{HasNoOrder, order_of, words_of};
+ghost use Rattle.revc.specs.inside.Mappings.{reading_fault, too_long, words_fault};
 
-use crate::commands::prepare;
-use crate::fault::{Fault, Refusal};
+use crate::commands::{most_bytes, prepare};
+use crate::fault::{CircuitRefusal, Fault, Refusal};
 use crate::report::report;
-use crate::words::{Order, WordsFault, read_words};
 use revc_io::{ReadFault, Sink, Source, read_up_to};
-use revs_parser::MOST_BYTES;
+use revc_words::{Command, Order, WordsFault, read_words};
 use std::alloc::Global;
 
 /// Does what the words of the command line ask for, without the program's own name, and answers the status.
@@ -60,7 +60,8 @@ pub fn revc<S: Source, K: Sink, E: Sink>(
     // Words that give no order leave the source as it is; a text within the limit is read to its end before all else.
     ensures untouched { result ≡ 2 → source.new ≡ source.old }
     ensures read_whole { result ≢ 2 → result ≢ 9 → result ≢ 11
-        → IsReadWhole (S.rest source.old) (S.rest source.new) }
+        → Served (words_of words.now) (S.rest source.old)
+        (λ order text. IsReadWhole order.command text (S.rest source.new)) }
 {
     match run(alloc, words, source, out) {
         Ok(()) => 0,
@@ -93,9 +94,10 @@ fn run<S: Source, K: Sink>(
     ensures calm_source { OnOk result (S.faults source.new ≡ S.faults source.old) }
     ensures calm_sink { OnOk result (K.faults out.new ≡ K.faults out.old) }
     ensures untouched { IsErrOf result Fault.Usage → source.new ≡ source.old }
-    ensures read_whole { OnOk result (IsReadWhole (S.rest source.old) (S.rest source.new)) }
-    ensures read_at { IfErr result (λ fault. IsReadAt fault (S.rest source.old)
-        (S.rest source.new)) }
+    ensures read_whole { OnOk result (Served (words_of words.now) (S.rest source.old)
+        (λ order text. IsReadWhole order.command text (S.rest source.new))) }
+    ensures read_at { IfErr result (λ fault. IsReadFor fault (words_of words.now)
+        (S.rest source.old) (S.rest source.new)) }
 {
     match read_words(alloc, words) {
         Ok(order) => carry_out(alloc, &order, source, out),
@@ -110,6 +112,7 @@ fn carry_out<S: Source, K: Sink>(
     source: &mut S,
     out: &mut K,
 ) -> Result<(), Fault>
+    requires { 1 ≤ order.now.nodes }
     ensures gives { OnOk result (IfSome (S.rest source.old)
         (λ text. Grows (Gives (order_of order.now) text) (K.held out.old) (K.held out.new))) }
     ensures begins { IsErrOf result Fault.Write → IfSome (S.rest source.old)
@@ -126,17 +129,19 @@ fn carry_out<S: Source, K: Sink>(
     ensures write_fault { IsErrOf result Fault.Write → Rose (K.faults out.old) (K.faults out.new) }
     ensures calm_source { OnOk result (S.faults source.new ≡ S.faults source.old) }
     ensures calm_sink { OnOk result (K.faults out.new ≡ K.faults out.old) }
-    ensures read_whole { OnOk result (IsReadWhole (S.rest source.old) (S.rest source.new)) }
-    ensures read_at { IfErr result (λ fault. IsReadAt fault (S.rest source.old)
-        (S.rest source.new)) }
+    ensures read_whole { OnOk result (IfSome (S.rest source.old)
+        (λ text. IsReadWhole order.now.command text (S.rest source.new))) }
+    ensures read_at { IfErr result (λ fault. IsReadAt fault order.now.command
+        (S.rest source.old) (S.rest source.new)) }
 {
-    let text = read_text(alloc, source)?;
+    let text = read_text(alloc, order.command, source)?;
     serve(alloc, order, &text, out)
 }
 
 // Writes what an order gives for a text.
 fn serve<K: Sink>(alloc: Global, order: &Order, text: &[u8], out: &mut K) -> Result<(), Fault>
-    requires { length text.now ≤ MOST_BYTES }
+    requires short { length text.now ≤ most_bytes order.now.command }
+    requires nodes { 1 ≤ order.now.nodes }
     ensures gives { OnOk result (Grows (Gives (order_of order.now) text.now) (K.held out.old)
         (K.held out.new)) }
     ensures begins { IsErrOf result Fault.Write
@@ -157,16 +162,15 @@ fn serve<K: Sink>(alloc: Global, order: &Order, text: &[u8], out: &mut K) -> Res
     }
 }
 
-// Reads the whole text of a program.
-fn read_text<S: Source>(alloc: Global, source: &mut S) -> Result<Vec<u8>, Fault>
+// Reads the whole text of a command.
+fn read_text<S: Source>(alloc: Global, command: Command, source: &mut S) -> Result<Vec<u8>, Fault>
     ensures text { IfOk result (λ text. IfSome (S.rest source.old) (λ rest. text.items ≡ rest)) }
-    ensures fits { IfOk result (λ text. length text.items ≤ MOST_BYTES) }
+    ensures fits { IfOk result (λ text. length text.items ≤ most_bytes command) }
     ensures read_whole { OnOk result (IsAtEnd (S.rest source.new)) }
-    ensures causes { IfErr result (λ fault. (order : _)
+    ensures causes { IfErr result (λ fault. (order : _) → order.command ≡ command
         → IfSome (S.rest source.old) (λ rest. IsCausedBy order rest fault)) }
-    ensures may_end { IfErr result (λ fault. (command : _) → Contains (statuses_of command)
-        (status_of fault)) }
-    ensures read_at { IfErr result (λ fault. IsReadAt fault (S.rest source.old)
+    ensures may_end { IfErr result (λ fault. Contains (statuses_of command) (status_of fault)) }
+    ensures read_at { IfErr result (λ fault. IsReadAt fault command (S.rest source.old)
         (S.rest source.new)) }
     ensures read_fault { IsErrOf result Fault.Read
         → Rose (S.faults source.old) (S.faults source.new) }
@@ -174,19 +178,29 @@ fn read_text<S: Source>(alloc: Global, source: &mut S) -> Result<Vec<u8>, Fault>
     ensures no_usage { IsErrOf result Fault.Usage → ⊥ }
     ensures no_write { IsErrOf result Fault.Write → ⊥ }
 {
-    match read_up_to(alloc, source, MOST_BYTES) {
+    match read_up_to(alloc, source, most_bytes(command)) {
         Ok(text) => Ok(text),
-        Err(fault) => Err(reading_fault(fault)),
+        Err(fault) => Err(reading_fault(command, fault)),
     }
 }
 
-fn reading_fault(fault: ReadFault) -> Fault
-    ensures { result ≡ reading_fault fault }
+fn reading_fault(command: Command, fault: ReadFault) -> Fault
+    ensures { result ≡ reading_fault command fault }
 {
     match fault {
         ReadFault::Failed => Fault::Read,
-        ReadFault::TooLong => Fault::Refused(Refusal::TooLong),
+        ReadFault::TooLong => too_long(command),
         ReadFault::Memory => Fault::Memory,
+    }
+}
+
+// The fault of a text over its command's limit.
+fn too_long(command: Command) -> Fault
+    ensures { result ≡ too_long command }
+{
+    match command {
+        Command::Stat | Command::Run => Fault::Circuit(CircuitRefusal::TooLong),
+        Command::Compile | Command::Check | Command::Eval => Fault::Refused(Refusal::TooLong),
     }
 }
 

@@ -1,5 +1,5 @@
 -- `eval`: the bits that a program gives on the bits of a word.
-use Rattle.std.specs.Prelude.{◌≡◌, ◌≢◌, ℕ, ◌+◌, ◌==◌, Bool, List, ◌++◌, length, map, sum, codes}
+use Rattle.std.specs.Prelude.{◌≡◌, ℕ, ◌+◌, ◌==◌, Bool, List, ◌++◌, length, map, sum, codes}
 use Rattle.std.specs.List.{AllByRecursion}
 use Rattle.revc_base.specs.Bits.{IsDigit}
 use Rattle.revc_base.specs.Tapes.{TapeView, Holds, IsFirstBroken}
@@ -10,10 +10,9 @@ use Rattle.revs_terms.specs.Runs.{HasOutput, IsTapeOf}
 use Rattle.revs_terms.specs.Views.{ProgramView}
 use Rattle.revc.specs.Faults.{digits_of}
 use Rattle.revc.specs.Refusals.{IsRefusal}
-use Rattle.revc.specs.Words.{OrderView, first_word}
+use Rattle.revc_words.specs.Words.{OrderView, first_word}
 use Rattle.revc.specs.declared.fault.Fault.{Fault}
 use Rattle.revc.specs.declared.fault.Fault.TheVariants.{Refused, Claim, BadBits}
-use Rattle.revc.specs.declared.fault.Refusal.TheVariants.{Program}
 
 -- a word of so many digits 0 and 1
 pub record IsInputWord (inputs : ℕ) (word : List ℕ) : Type 0 where
@@ -54,15 +53,19 @@ pub record IsBroken (text word : List ℕ) (number : ℕ) (at : Place) : Type 0 
   pub count : number ≡ before + 1
   pub place : at ≡ first.named.at
 
+-- bits as digits, and a line feed
+abbrev pub bits_text : List Bool → List ℕ
+bits_text bits = digits_of bits ++ codes "\n"
+
 -- these are the digits of the value of the text's program on the word, and a line feed
 pub record IsEvaluated (text word written : List ℕ) : Type 0 where
   pub value : List Bool
   pub is : IsValueOf text word value
-  pub digits : written ≡ digits_of value ++ codes "\n"
+  pub digits : written ≡ bits_text value
 
--- why a word and a text give no value; that a program is not small is no reason
+-- why a word and a text give no value
 abbrev pub Stops : List ℕ → List ℕ → Fault → Type 0
-Stops text word (Refused refusal) = IsRefusal text refusal × (refusal ≢ Program)
+Stops text word (Refused refusal) = IsRefusal text refusal
 Stops text word (Claim number at bits) = (bits ≡ bits_of word) × IsBroken text word number at
 Stops text word (BadBits number) = (number ≡ 1) × IsBadWord text word
 Stops text word _ = ⊥

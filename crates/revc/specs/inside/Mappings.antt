@@ -3,6 +3,8 @@ use Rattle.inliner.specs.declared.fault.RunFault.{RunFault}
 use Rattle.inliner.specs.declared.fault.RunFault.TheVariants as runs
 use Rattle.name_scope.specs.declared.binding.ScopeFault.{ScopeFault}
 use Rattle.name_scope.specs.declared.binding.ScopeFault.TheVariants as scopes
+use Rattle.real_format.specs.declared.file.RealFault.{RealFault}
+use Rattle.real_format.specs.declared.file.RealFault.TheVariants as reals
 use Rattle.revc_base.specs.declared.bits.BitsFault.{BitsFault}
 use Rattle.revc_base.specs.declared.bits.BitsFault.TheVariants as bits
 use Rattle.revc_io.specs.declared.reading.ReadFault.{ReadFault}
@@ -12,20 +14,31 @@ use Rattle.revs_lexer.specs.declared.token.LexFault.TheVariants as lexer
 use Rattle.revs_parser.specs.declared.program.ParseFault.{ParseFault}
 use Rattle.revs_parser.specs.declared.program.ParseFault.TheVariants as parser
 use Rattle.revc.specs.declared.fault.Fault.{Fault}
-use Rattle.revc.specs.declared.fault.Fault.TheVariants.{Usage, Refused, BadBits, Read, Memory}
+use Rattle.revc.specs.declared.fault.Fault.TheVariants.{Usage, Refused, Circuit, BadBits, Read, Memory}
+use Rattle.revc.specs.declared.fault.CircuitRefusal.TheVariants as circuits
 use Rattle.revc.specs.declared.fault.Kind.TheVariants as kinds
 use Rattle.revc.specs.declared.fault.Refusal.TheVariants.{TooLong, At}
-use Rattle.revc.specs.declared.words.WordsFault.{WordsFault}
-use Rattle.revc.specs.declared.words.WordsFault.TheVariants as words
+use Rattle.revc_words.specs.declared.order.Command.{Command}
+use Rattle.revc_words.specs.declared.order.Command.TheVariants as commands
+use Rattle.revc_words.specs.declared.fault.WordsFault.{WordsFault}
+use Rattle.revc_words.specs.declared.fault.WordsFault.TheVariants as words
 
 abbrev pub words_fault : WordsFault → Fault
 words_fault words.Usage = Usage
 words_fault words.Memory = Memory
 
-abbrev pub reading_fault : ReadFault → Fault
-reading_fault reads.Failed = Read
-reading_fault reads.TooLong = Refused TooLong
-reading_fault reads.Memory = Memory
+-- the fault of a text over the limit of its command
+abbrev pub too_long : Command → Fault
+too_long commands.Stat = Circuit circuits.TooLong
+too_long commands.Run = Circuit circuits.TooLong
+too_long commands.Compile = Refused TooLong
+too_long commands.Check = Refused TooLong
+too_long commands.Eval = Refused TooLong
+
+abbrev pub reading_fault : Command → ReadFault → Fault
+reading_fault command reads.Failed = Read
+reading_fault command reads.TooLong = too_long command
+reading_fault command reads.Memory = Memory
 
 abbrev pub lexing_fault : LexFault → Fault
 lexing_fault (lexer.BadByte at) = Refused (At kinds.BadByte at)
@@ -52,3 +65,8 @@ run_fault runs.Memory = Memory
 abbrev pub bits_fault : BitsFault → Fault
 bits_fault (bits.BadDigit at) = BadBits 1
 bits_fault bits.Memory = Memory
+
+abbrev pub real_fault : RealFault → Fault
+real_fault (reals.Line number) = Circuit (circuits.Line number)
+real_fault (reals.Limit number) = Circuit (circuits.Limit number)
+real_fault reals.Memory = Memory

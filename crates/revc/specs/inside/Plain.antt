@@ -1,13 +1,12 @@
--- The plain plan: the gates that compute each node of a graph on a work line of its own.
-use Rattle.std.specs.Prelude.{ℕ, ◌+◌, Bool, if◌then◌else◌, List, [], ◌∷◌, ◌++◌, length, map, reverse}
-use Rattle.list_facts.specs.Bits.{bit_of}
+-- The plain plan: the gates that compute each node of a settled graph on a work line of its own.
+use Rattle.std.specs.Prelude.{ℕ, ◌+◌, if◌then◌else◌, List, [], ◌∷◌, ◌++◌, length, reverse}
 use Rattle.dependency_graph.specs.declared.node.Base.{Base}
 use Rattle.dependency_graph.specs.declared.node.Base.TheVariants as bases
 use Rattle.dependency_graph.specs.declared.node.Node.{Node}
 use Rattle.dependency_graph.specs.declared.node.Node.TheVariants.{Not, Xor, And}
 use Rattle.dependency_graph.specs.declared.node.Sig.{Sig}
 use Rattle.dependency_graph.specs.declared.node.Sig.TheVariants.{Const, Is}
-use Rattle.dependency_graph.specs.Graphs.{GraphView, value_on}
+use Rattle.claim_check.specs.Settled.{SettledView}
 use Rattle.gate_split.specs.declared.roles.Roles.{Roles}
 use Rattle.mct_circuit.specs.Gates.{GateView, flip_of}
 
@@ -39,17 +38,13 @@ copies_of n o k [] = []
 copies_of n o k (sig ∷ rest) = copy_of n o k sig ++ copies_of n o (k + 1) rest
 
 -- all nodes are toggled, the outputs are copied, and the toggles are undone
-abbrev pub plain_gates : GraphView → List GateView
-plain_gates g =
-    let outputs = length g.outputs in
-    let forward = toggles_of g.inputs outputs 0 g.nodes in
-    forward ++ copies_of g.inputs outputs 0 g.outputs ++ reverse forward
+abbrev pub plain_gates : SettledView → List GateView
+plain_gates s =
+    let outputs = length s.outputs in
+    let forward = toggles_of s.inputs outputs 0 s.nodes in
+    forward ++ copies_of s.inputs outputs 0 s.outputs ++ reverse forward
 
 -- the roles of the plan's lines
-abbrev pub plain_roles : GraphView → Roles
-plain_roles g =
-    record { inputs = g.inputs; outputs = length g.outputs; work = length g.nodes; borrowed = 0 }
-
--- the bits of the outputs on an input
-abbrev pub graph_outputs : GraphView → List Bool → List Bool
-graph_outputs g input = map (value_on g (bit_of input)) g.outputs
+abbrev pub plain_roles : SettledView → Roles
+plain_roles s =
+    record { inputs = s.inputs; outputs = length s.outputs; work = length s.nodes; borrowed = 0 }

@@ -1,9 +1,9 @@
 // `eval`: the bits that a program gives on the bits of a word.
 ghost use Rattle.std.specs.Prelude.{◌≡◌, ◌≤◌, length, sum, IfOk, IfErr};
-ghost use Rattle.revc.specs.declared.words.Command.TheVariants.{Eval};
+ghost use Rattle.revc_words.specs.declared.order.Command.TheVariants.{Eval};
 ghost use Rattle.revc.specs.Commands.{HasOneOutcome};
 ghost use Rattle.revc.specs.Commands.Eval.{IsInputWord, IsValueOf, bits_of};
-ghost use Rattle.revc.specs.Words.{first_word, order_of};
+ghost use Rattle.revc_words.specs.Words.{first_word, order_of};
 ghost use Rattle.revc.specs.inside.Mappings.{bits_fault};
 ghost use Rattle.revc.specs.inside.Outcomes.{IsEvalFault};
 ghost use Rattle.revc.specs.inside.Plans.{IsBitsFault};

@@ -1,7 +1,8 @@
-use Rattle.revc.specs.Words.{order_of}
-use Rattle.revc.proofs.TopLemmas.{given_file}
+use Rattle.revc_words.specs.declared.order.Command.TheVariants as commands
+use Rattle.revc_words.specs.Words.{order_of}
+use Rattle.revc.proofs.TopLemmas.{given_of}
 use Rattle.revc.proofs.commands.prepare.Goals as goal
 
 pub returns-in_ok-compile-in-Compile-clause-ok : goal.returns-in_ok-compile-in-Compile-clause-ok
 returns-in_ok-compile-in-Compile-clause-ok c =
-    given_file (order_of c.args.order.now) c.args.text.now c.in_ok-compile-in-Compile.field-0 c.in-Compile.is c.in_ok-compile-in-Compile.ensures.ok
+    given_of (order_of c.args.order.now) c.args.text.now _ commands.Compile c.in-Compile.is c.in_ok-compile-in-Compile.ensures.ok

@@ -4,7 +4,7 @@ use Rattle.revc.proofs.plain.toggle_all.Goals as goal
 
 pub loop-k-preserved : goal.loop-k-preserved
 loop-k-preserved c =
-    let graph = c.args.graph.now in
+    let settled = c.args.settled.now in
     let made = c.in_ok-toggle.ensures in
-    toggled_more c.args.circuit.now c.loop-k.circuit c.toggle.new.circuit graph.inputs (length graph.outputs) c.loop-k.k graph.nodes c.node.result
+    toggled_more c.args.circuit.now c.loop-k.circuit c.toggle.new.circuit settled.inputs (length settled.outputs) c.loop-k.k settled.nodes c.node.result
     c.loop-k.invariant c.node.ensures (rw (c.inputs-inputs.ensures.inputs, c.outputs.ensures.outputs) at made.ok) made.few made.narrow

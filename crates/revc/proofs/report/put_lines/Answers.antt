@@ -16,6 +16,6 @@ returns-in_err-put_decimal-clause-bytes g c =
 
 pub returns-clause-bytes : goal.returns-clause-bytes
 returns-clause-bytes g c =
-    last_call c.args.buffer.now _ _ _ _ c.put_over.ensures.bytes
+    last_call c.args.buffer.now _ _ _ _ c.put_number.ensures.bytes
     (step (decimal c.args.need) (codes " over " ++ (decimal c.args.limit ++ codes "\n")) c.in_ok-put_decimal.ensures.bytes
     (step (codes "revc: lines ") (decimal c.args.need ++ (codes " over " ++ (decimal c.args.limit ++ codes "\n"))) c.in_ok-put.ensures.bytes (begun _ _ _)))

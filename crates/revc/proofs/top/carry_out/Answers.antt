@@ -1,7 +1,8 @@
+use Rattle.std.proofs.Common.{refl}
 use Rattle.std.proofs.lemmas.Result.{err_from_is_err_and}
 use Rattle.revc.specs.Commands.{Gives, IsCausedBy}
 use Rattle.revc.specs.Top.{Grows, GrowsByPrefix, IsReadAt}
-use Rattle.revc.specs.Words.{order_of}
+use Rattle.revc_words.specs.Words.{order_of}
 use Rattle.revc.proofs.TopLemmas.{of_read, on_ok, if_err, always_ok, always_err, read_at, read_whole}
 use Rattle.revc.proofs.top.carry_out.Goals as goal
 
@@ -25,16 +26,16 @@ returns-clause-causes g c =
 
 pub returns-clause-read_at : goal.returns-clause-read_at
 returns-clause-read_at g c =
-    always_err c.serve.result (λ fault. IsReadAt fault (g.S.Source.rest c.args.source.now) (g.S.Source.rest c.read_text.new.source))
-    (λ fault. read_at fault _ _ c.in_ok-text.ensures.read_whole)
+    always_err c.serve.result (λ fault. IsReadAt fault c.args.order.now.command (g.S.Source.rest c.args.source.now) (g.S.Source.rest c.read_text.new.source))
+    (λ fault. read_at fault c.args.order.now.command _ _ c.in_ok-text.ensures.read_whole)
 
 pub returns-clause-read_whole : goal.returns-clause-read_whole
-returns-clause-read_whole g c = always_ok c.serve.result _ (read_whole _ _ c.in_ok-text.ensures.read_whole)
+returns-clause-read_whole g c = always_ok c.serve.result _ (read_whole c.args.order.now.command _ _ c.in_ok-text.ensures.read_whole)
 
 pub returns-in_err-text-clause-causes : goal.returns-in_err-text-clause-causes
 returns-in_err-text-clause-causes g c =
     let p = err_from_is_err_and c.from_residual.result c.from_residual.ensures.1 in
-    rw (p.1, p.2) (c.in_err-text.ensures.causes (order_of c.args.order.now))
+    rw (p.1, p.2) (c.in_err-text.ensures.causes (order_of c.args.order.now) refl)
 
 pub returns-clause-calm_source : goal.returns-clause-calm_source
 returns-clause-calm_source g c = always_ok c.serve.result _ c.in_ok-text.ensures.calm

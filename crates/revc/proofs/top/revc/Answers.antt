@@ -46,4 +46,5 @@ returns-in-Err-clause-stops g c =
     c.status.ensures c.report.ensures
 
 pub returns-in-Err-clause-read_whole : goal.returns-in-Err-clause-read_whole
-returns-in-Err-clause-read_whole g c = read_whole_after c.in-Err.fault c.status.result _ _ c.status.ensures c.in-Err.ensures.read_at
+returns-in-Err-clause-read_whole g c =
+    read_whole_after (map string_bytes c.args.words.now) c.in-Err.fault c.status.result _ _ c.status.ensures c.in-Err.ensures.read_at

@@ -2,9 +2,9 @@ use Rattle.std.proofs.Common.{map, string_bytes}
 use Rattle.std.specs.Prelude.{IfSome, Contains}
 use Rattle.revc.specs.Commands.{Gives, IsCausedBy, statuses_of}
 use Rattle.revc.specs.Faults.{status_of}
-use Rattle.revc.specs.Top.{Grows, GrowsByPrefix}
-use Rattle.revc.specs.Words.{order_of}
-use Rattle.revc.proofs.TopLemmas.{serve, may_end, words_caused, words_may_end, on_ok, if_err}
+use Rattle.revc.specs.Top.{Grows, GrowsByPrefix, IsReadAt, IsReadWhole}
+use Rattle.revc_words.specs.Words.{order_of}
+use Rattle.revc.proofs.TopLemmas.{serve, some_nodes, may_end, read_for, words_caused, words_may_end, words_read, on_ok, if_err}
 use Rattle.revc.proofs.top.run.Goals as goal
 
 pub returns-in-Ok-clause-gives : goal.returns-in-Ok-clause-gives
@@ -43,3 +43,22 @@ returns-in-Err-clause-may_end g c = rw c.words_fault.ensures (words_may_end (map
 
 pub returns-in-Err-clause-causes : goal.returns-in-Err-clause-causes
 returns-in-Err-clause-causes g c = rw c.words_fault.ensures (words_caused (map string_bytes c.args.words.now) _ c.in-Err.fault)
+
+pub carry_out-requires : goal.carry_out-requires
+carry_out-requires g c = some_nodes (map string_bytes c.args.words.now) (order_of c.in-Ok.order) c.in-Ok.ensures.ok
+
+pub returns-in-Ok-clause-read_whole : goal.returns-in-Ok-clause-read_whole
+returns-in-Ok-clause-read_whole g c =
+    on_ok c.carry_out.result _ _
+    (serve (map string_bytes c.args.words.now) (order_of c.in-Ok.order) _
+    (λ order text. IsReadWhole order.command text (g.S.Source.rest c.carry_out.new.source)) c.in-Ok.ensures.ok)
+    c.carry_out.ensures.read_whole
+
+pub returns-in-Ok-clause-read_at : goal.returns-in-Ok-clause-read_at
+returns-in-Ok-clause-read_at g c =
+    if_err c.carry_out.result (λ fault. IsReadAt fault c.in-Ok.order.command (g.S.Source.rest c.args.source.now) (g.S.Source.rest c.carry_out.new.source)) _
+    (λ fault. read_for (map string_bytes c.args.words.now) (order_of c.in-Ok.order) fault _ _ c.in-Ok.ensures.ok)
+    c.carry_out.ensures.read_at
+
+pub returns-in-Err-clause-read_at : goal.returns-in-Err-clause-read_at
+returns-in-Err-clause-read_at g c = rw c.words_fault.ensures (words_read (map string_bytes c.args.words.now) c.in-Err.fault _ _)

@@ -1,5 +1,5 @@
 use Rattle.std.proofs.lemmas.Result.{err_from_is_err_and}
-use Rattle.revc.specs.Words.{order_of}
+use Rattle.revc_words.specs.Words.{order_of}
 use Rattle.revc.proofs.TopLemmas.{status_among, write_among}
 use Rattle.revc.proofs.top.serve.Goals as goal
 

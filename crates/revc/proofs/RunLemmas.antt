@@ -1,0 +1,205 @@
+-- The words of `run` one after another, and the bits of the lines before and behind the circuit.
+use Rattle.std.proofs.Common.{◌≡◌, ℕ, zero, suc, ◌+◌, ◌==◌, ◌<◌, ◌≤◌, Bool, true, false, List, [], ◌∷◌, ◌++◌, length, map, take, drop, get_or, string_bytes, Global, cond, refl, sym, ap, ◌∙◌, subst, arith, append_assoc, append-nil}
+use Rattle.std.specs.Prelude.{slice_index_or, IsTrue}
+use mir.Val.{bool_byte}
+use Rattle.std.specs.List.{flat_map}
+use Rattle.std.specs.declared.string.String.{String}
+use Rattle.std.proofs.lemmas.List.{drop_all, get_or-map, length-map, take_all}
+use Rattle.std.proofs.lemmas.Grind.{flat_map-append}
+use Rattle.list_facts.proofs.AllLemmas.{AllByRecursion-append}
+use Rattle.list_facts.proofs.CutLemmas.{cut_at, drop_read, length-take_below}
+use Rattle.real_format.specs.declared.file.Mark.{Mark}
+use Rattle.real_format.specs.declared.file.Mark.TheVariants.{Free, Zero, One}
+use Rattle.revc.specs.Circuits.{ReadCircuit}
+use Rattle.revc.specs.Commands.Eval.{IsInputWord, bits_of, bits_text}
+use Rattle.revc.specs.Commands.Run.{AreInputs, IsFirstUnfit, free_lines, given_by, is_free, kept, runs_text, started}
+use Rattle.revc.specs.inside.Started.{first_bit, rest_bits}
+
+-- ---- the words
+
+-- the words before, the word at a place, and those behind it
+word_at : (words : List (String Global)) (place : ℕ) (word : String Global) (text : List ℕ) → place < length words → word ≡ slice_index_or words place word
+    → text ≡ string_bytes word
+    → map string_bytes words ≡ take place (map string_bytes words) ++ text ∷ drop (place + 1) (map string_bytes words)
+word_at words place word text lt is same =
+    let all = map string_bytes words in
+    let here : get_or all place text ≡ text = get_or-map string_bytes words place word text lt ∙ ap string_bytes (sym is) ∙ sym same in
+    let next : suc place ≡ place + 1 = omega arith in
+    cut_at all place text (omega (arith, length-map words string_bytes, lt))
+    ∙ ap (λ (t : List ℕ). take place all ++ t ∷ drop (suc place) all) here
+    ∙ ap (λ n. take place all ++ text ∷ drop n all) next
+
+take_next : {A : Type 0} (xs : List A) (place : ℕ) (x : A) (rest : List A) → place < length xs → xs ≡ take place xs ++ x ∷ rest
+    → take (place + 1) xs ≡ take place xs ++ x ∷ []
+take_next [] place x rest lt cut = absurd (omega (arith, lt))
+take_next (y ∷ ys) zero x rest lt cut = cc
+take_next (y ∷ ys) (suc place) x rest lt cut =
+    let tails : ys ≡ take place ys ++ x ∷ rest = cc in
+    let next : suc place + 1 ≡ suc (place + 1) = omega arith in
+    rw next (ap (λ zs. y ∷ zs) (take_next ys place x rest (omega (arith, lt)) tails))
+
+pub checked_more : (circuit : ReadCircuit) (words : List (String Global)) (place : ℕ) (word : String Global) (text : List ℕ) → place < length words
+    → word ≡ slice_index_or words place word → text ≡ string_bytes word → AreInputs circuit (take place (map string_bytes words))
+    → IsInputWord (free_lines circuit.constants) text → AreInputs circuit (take (place + 1) (map string_bytes words))
+checked_more circuit words place word text lt is same fit one =
+    let all = map string_bytes words in
+    let cut = word_at words place word text lt is same in
+    subst (AreInputs circuit) (sym (take_next all place text (drop (place + 1) all) (omega (arith, length-map words string_bytes, lt)) cut))
+    (AllByRecursion-append (IsInputWord (free_lines circuit.constants)) (take place all) (text ∷ []) fit (one, tt))
+
+pub unfit_at : (circuit : ReadCircuit) (words : List (String Global)) (place : ℕ) (word : String Global) (text : List ℕ) → place < length words
+    → word ≡ slice_index_or words place word → text ≡ string_bytes word → AreInputs circuit (take place (map string_bytes words))
+    → ¬ IsInputWord (free_lines circuit.constants) text → IsFirstUnfit circuit (map string_bytes words) (place + 1)
+unfit_at circuit words place word text lt is same fit unfit =
+    let all = map string_bytes words in
+    record {
+      before = take place all;
+      word = text;
+      behind = drop (place + 1) all;
+      cut = word_at words place word text lt is same;
+      count = ap (λ n. n + 1) (sym (length-take_below all place (omega (arith, length-map words string_bytes, lt))));
+      fit = fit;
+      unfit = unfit;
+    }
+
+pub checked_all : (circuit : ReadCircuit) (words : List (String Global)) (place : ℕ) → length words ≤ place
+    → AreInputs circuit (take place (map string_bytes words)) → AreInputs circuit (map string_bytes words)
+checked_all circuit words place over fit =
+    subst (AreInputs circuit) (take_all place (map string_bytes words) (omega (arith, length-map words string_bytes, over))) fit
+
+-- a word that is refused is no input, and one that is not is one
+pub refused_word : (circuit : ReadCircuit) (inputs : ℕ) (text : List ℕ) (result : Bool) → inputs ≡ free_lines circuit.constants
+    → (IsTrue result → IsInputWord inputs text) × (IsInputWord inputs text → IsTrue result) → result ≡ false
+    → ¬ IsInputWord (free_lines circuit.constants) text
+refused_word circuit inputs text result same tells fails = λ fits. apart (subst IsTrue fails (tells.1 (subst (λ n. IsInputWord n text) (sym same) fits)))
+  where
+    apart : IsTrue false → ⊥
+    apart e = absurd cc
+
+pub accepted_word : (circuit : ReadCircuit) (inputs : ℕ) (text : List ℕ) (result : Bool) → inputs ≡ free_lines circuit.constants
+    → (IsTrue result → IsInputWord inputs text) × (IsInputWord inputs text → IsTrue result) → result ≡ true
+    → IsInputWord (free_lines circuit.constants) text
+accepted_word circuit inputs text result same tells passes = subst (λ n. IsInputWord n text) same (tells.0 (subst IsTrue (sym passes) refl))
+
+-- ---- the bits with which lines start
+
+pub started_first : (mark : Mark) (marks : List Mark) (bits : List Bool)
+    → started (mark ∷ marks) bits ≡ first_bit mark bits ∷ started marks (rest_bits mark bits)
+started_first Zero marks bits = refl
+started_first One marks bits = refl
+started_first Free marks [] = refl
+started_first Free marks (bit ∷ bits) = refl
+
+-- a digit at a place is the first bit that is left there
+pub first_here : (digits : List ℕ) (place digit : ℕ) → place < length digits → digit ≡ get_or digits place digit
+    → first_bit Free (drop place (bits_of digits)) ≡ (digit == 49)
+first_here [] place digit lt e = absurd (omega (arith, lt))
+first_here (d ∷ ds) zero digit lt e = ap (λ n. n == 49) (sym e)
+first_here (d ∷ ds) (suc place) digit lt e = first_here ds place digit (omega (arith, lt)) e
+
+pub first_none : (digits : List ℕ) (place : ℕ) → length digits ≤ place → first_bit Free (drop place (bits_of digits)) ≡ false
+first_none [] zero le = refl
+first_none [] (suc place) le = refl
+first_none (d ∷ ds) zero le = absurd (omega (arith, le))
+first_none (d ∷ ds) (suc place) le = first_none ds place (omega (arith, le))
+
+-- ---- loops: what was made, and what is left
+
+pub starts_more : (marks : List Mark) (digits now lines : List Bool) (at next step : ℕ) (mark : Mark) → drop at marks ≡ mark ∷ drop (at + 1) marks
+    → lines ++ started (drop at marks) (drop next digits) ≡ started marks digits → now ≡ lines ++ first_bit mark (drop next digits) ∷ []
+    → drop step digits ≡ rest_bits mark (drop next digits) → now ++ started (drop (at + 1) marks) (drop step digits) ≡ started marks digits
+starts_more marks digits now lines at next step mark here inv pushed stepped =
+    let rest = started (drop (at + 1) marks) (rest_bits mark (drop next digits)) in
+    ap (λ (ls : List Bool). ls ++ started (drop (at + 1) marks) (drop step digits)) pushed
+    ∙ ap (λ (bits : List Bool). (lines ++ first_bit mark (drop next digits) ∷ []) ++ started (drop (at + 1) marks) bits) stepped
+    ∙ append_assoc lines (first_bit mark (drop next digits) ∷ []) rest
+    ∙ ap (λ (ls : List Bool). lines ++ ls) (sym (started_first mark (drop (at + 1) marks) (drop next digits)))
+    ∙ ap (λ (ms : List Mark). lines ++ started ms (drop next digits)) (sym here)
+    ∙ inv
+
+-- the bits that are left behind a mark
+rest_left : (mark : Mark) (digits : List Bool) (next : ℕ) → drop (next + bool_byte (is_free mark)) digits ≡ rest_bits mark (drop next digits)
+rest_left Zero digits next = let same : next + 0 ≡ next = omega arith in ap (λ n. drop n digits) same
+rest_left One digits next = let same : next + 0 ≡ next = omega arith in ap (λ n. drop n digits) same
+rest_left Free [] zero = refl
+rest_left Free [] (suc next) = none_left next
+  where
+    none_left : (next : ℕ) → drop (suc next + 1) [] ≡ rest_bits Free (drop (suc next) [])
+    none_left next = drop_all (suc next + 1) [] (omega arith)
+rest_left Free (d ∷ ds) zero = refl
+rest_left Free (d ∷ ds) (suc next) =
+    let later : suc next + 1 ≡ suc (next + 1) = omega arith in
+    ap (λ n. drop n (d ∷ ds)) later ∙ rest_left Free ds next
+
+pub step_below : (more : ℕ) (free : Bool) → more ≡ bool_byte free → more ≤ 1
+step_below more true e = omega (arith, e)
+step_below more false e = omega (arith, e)
+
+pub stepped : (mark : Mark) (digits : List Bool) (next more : ℕ) (free : Bool) → more ≡ bool_byte free → free ≡ is_free mark
+    → drop (next + more) digits ≡ rest_bits mark (drop next digits)
+stepped mark digits next more free one is = ap (λ k. drop (next + k) digits) (one ∙ ap bool_byte is) ∙ rest_left mark digits next
+
+pub starts_all : (marks : List Mark) (digits lines : List Bool) (at next : ℕ) → length marks ≤ at
+    → lines ++ started (drop at marks) (drop next digits) ≡ started marks digits → lines ≡ started marks digits
+starts_all marks digits lines at next over inv =
+    sym (append-nil lines) ∙ ap (λ (ms : List Mark). lines ++ started ms (drop next digits)) (sym (drop_all at marks over)) ∙ inv
+
+kept_first : (useless : Bool) (garbage : List Bool) (bit : Bool) (bits : List Bool) → kept (useless ∷ garbage) (bit ∷ bits)
+    ≡ cond useless [] (bit ∷ []) ++ kept garbage bits
+kept_first true garbage bit bits = refl
+kept_first false garbage bit bits = refl
+
+pub keeps_more : (garbage lines now bits : List Bool) (at : ℕ) (useless bit : Bool)
+    → drop at garbage ≡ useless ∷ drop (at + 1) garbage → drop at lines ≡ bit ∷ drop (at + 1) lines
+    → bits ++ kept (drop at garbage) (drop at lines) ≡ kept garbage lines
+    → now ≡ bits ++ cond useless [] (bit ∷ []) → now ++ kept (drop (at + 1) garbage) (drop (at + 1) lines) ≡ kept garbage lines
+keeps_more garbage lines now bits at useless bit left right inv pushed =
+    let rest = kept (drop (at + 1) garbage) (drop (at + 1) lines) in
+    ap (λ (bs : List Bool). bs ++ rest) pushed ∙ append_assoc bits (cond useless [] (bit ∷ [])) rest
+    ∙ ap (λ (bs : List Bool). bits ++ bs) (sym (kept_first useless (drop (at + 1) garbage) bit (drop (at + 1) lines)))
+    ∙ ap (λ (g : List Bool). bits ++ kept g (bit ∷ drop (at + 1) lines)) (sym left)
+    ∙ ap (λ (l : List Bool). bits ++ kept (drop at garbage) l) (sym right)
+    ∙ inv
+
+pub keeps_all : (garbage lines bits : List Bool) (at : ℕ) → length lines ≤ at → length lines ≡ length garbage
+    → bits ++ kept (drop at garbage) (drop at lines) ≡ kept garbage lines → bits ≡ kept garbage lines
+keeps_all garbage lines bits at over same inv =
+    sym (append-nil bits) ∙ ap (λ (g : List Bool). bits ++ kept g (drop at lines)) (sym (drop_all at garbage (omega (arith, over, same)))) ∙ inv
+
+pub runs_more : (circuit : ReadCircuit) (words : List (String Global)) (now lines : List (List Bool)) (given : List Bool) (at : ℕ) (word : String Global)
+    (text : List ℕ) → at < length words → word ≡ slice_index_or words at word → text ≡ string_bytes word
+    → flat_map bits_text lines ++ runs_text circuit (drop at (map string_bytes words)) ≡ runs_text circuit (map string_bytes words)
+    → now ≡ lines ++ given ∷ [] → given ≡ given_by circuit text
+    → flat_map bits_text now ++ runs_text circuit (drop (at + 1) (map string_bytes words)) ≡ runs_text circuit (map string_bytes words)
+runs_more circuit words now lines given at word text lt is same inv pushed gives =
+    let all = map string_bytes words in
+    let here : drop at all ≡ text ∷ drop (at + 1) all = drop_read all at text (omega (arith, length-map words string_bytes, lt))
+    (sym (get_or-map string_bytes words at word text lt ∙ ap string_bytes (sym is) ∙ sym same)) in
+    let rest = runs_text circuit (drop (at + 1) all) in
+    ap (λ (ls : List (List Bool)). flat_map bits_text ls ++ rest) (pushed ∙ ap (λ (g : List Bool). lines ++ g ∷ []) gives)
+    ∙ ap (λ (t : List ℕ). t ++ rest) (flat_map-append bits_text lines (given_by circuit text ∷ []))
+    ∙ append_assoc (flat_map bits_text lines) (flat_map bits_text (given_by circuit text ∷ [])) rest
+    ∙ ap (λ (t : List ℕ). flat_map bits_text lines ++ t) (one_piece (bits_text (given_by circuit text)) rest)
+    ∙ ap (λ (ws : List (List ℕ)). flat_map bits_text lines ++ runs_text circuit ws) (sym here)
+    ∙ inv
+  where
+    one_piece : (piece rest : List ℕ) → (piece ++ []) ++ rest ≡ piece ++ rest
+    one_piece piece rest = ap (λ (p : List ℕ). p ++ rest) (append-nil piece)
+
+pub runs_all : (circuit : ReadCircuit) (words : List (String Global)) (lines : List (List Bool)) (at : ℕ) → length words ≤ at
+    → flat_map bits_text lines ++ runs_text circuit (drop at (map string_bytes words)) ≡ runs_text circuit (map string_bytes words)
+    → flat_map bits_text lines ≡ runs_text circuit (map string_bytes words)
+runs_all circuit words lines at over inv =
+    let all = map string_bytes words in
+    sym (append-nil (flat_map bits_text lines))
+    ∙ ap (λ (ws : List (List ℕ)). flat_map bits_text lines ++ runs_text circuit ws) (sym (drop_all at all (omega (arith, length-map words string_bytes, over))))
+    ∙ inv
+
+-- ---- as many lines behind as before
+
+pub length-started : (marks : List Mark) (bits : List Bool) → length (started marks bits) ≡ length marks
+length-started [] bits = refl
+length-started (Zero ∷ marks) bits = ap suc (length-started marks bits)
+length-started (One ∷ marks) bits = ap suc (length-started marks bits)
+length-started (Free ∷ marks) [] = ap suc (length-started marks [])
+length-started (Free ∷ marks) (bit ∷ bits) = ap suc (length-started marks bits)

@@ -1,0 +1,28 @@
+// `check`: how many claims a program has, each of which holds on all inputs.
+ghost use Rattle.std.specs.Prelude.{◌≡◌, ◌≤◌, length, IfOk, IfErr};
+ghost use Rattle.revc_words.specs.declared.order.Command.TheVariants.{Check};
+ghost use Rattle.revc.specs.Commands.Check.{IsChecked, claims_text};
+ghost use Rattle.revc.specs.Commands.{HasOneOutcome};
+ghost use Rattle.revc.specs.inside.Outcomes.{IsSettlingFault};
+
+use crate::fault::Fault;
+use crate::settling::settle_text;
+use revs_parser::MOST_BYTES;
+use std::alloc::Global;
+
+/// What `check` gives, its causes and where it serves exclude one another, and it has one cause at most.
+pub fn one_outcome()
+    ensures { HasOneOutcome Check }
+{}
+
+/// The number of claims of a text's program, all of which hold on all inputs. A fault is exactly the text's refusal or
+/// a claim that stops, or want of memory.
+pub fn check(alloc: Global, text: &[u8], nodes: u32) -> Result<u32, Fault>
+    requires short { length text.now ≤ MOST_BYTES }
+    requires nodes { 1 ≤ nodes }
+    ensures ok { IfOk result (λ count. IsChecked text.now nodes (claims_text count)) }
+    ensures err { IfErr result (IsSettlingFault text.now nodes) }
+{
+    let (tape, _) = settle_text(alloc, text, nodes)?;
+    Ok(tape.claims().len() as u32)
+}
