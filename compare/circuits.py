@@ -1,12 +1,12 @@
-"""A model of the circuit file: which one is written for a program, and what a file means.
+"""A model of the circuit file: which one is written for a program, and which ones are clean.
 
 It is written from docs/LANGUAGE.md and docs/FORMATS.md, and shares nothing with the compiler.
 """
-from dataclasses import dataclass
-from typing import List, Optional
+from typing import Iterable, List
 
 from graphs import Folded, Graph, Node
-from language import Run
+from language import Program, Run
+from real import Circuit, Refused, circuit_of
 
 # ---- The plain plan: a work line for each node, the outputs copied, and the nodes undone
 
@@ -53,62 +53,40 @@ def file_of(inputs: int, graph: Graph) -> bytes:
     return "".join(line + "\n" for line in head + gates + [".end"]).encode()
 
 
-# ---- What a file means
+# ---- Clean files
 
 
-@dataclass
-class Circuit:
-    """The lines, the bit at which each starts (None: it is given), and the gates, as numbers of lines."""
-
-    lines: List[str]
-    starts: List
-    gates: List[List[int]]
-
-    def roles(self, kind: str) -> List[int]:
-        return [number for number, line in enumerate(self.lines) if line[0] == kind]
-
-    def run(self, bits: List[int]) -> List[int]:
-        """The last bits of all lines: a gate flips its last line where all others are 1."""
-        bits = list(bits)
-        for *controls, target in self.gates:
-            bits[target] ^= all(bits[control] for control in controls)
-        return bits
+def starts(lines: List[bytes], kind: bytes, at: int) -> int:
+    """How many lines of a kind there are from here on, numbered from 0."""
+    count = 0
+    while lines[at + count : at + count + 1] == [kind + b"%d" % count]:
+        count += 1
+    return count
 
 
-def read_file(file: bytes) -> Optional[Circuit]:
-    """The circuit that a file means, or None where it means none."""
+def is_clean(file: bytes, program: Program, words: Iterable[str]) -> bool:
+    """Whether the file's circuit has the lines of a compiled one and no gate with more than two controls; and takes
+    each word's bits to the program's outputs, keeps them and leaves each work line at 0."""
     try:
-        words = [line.split() for line in file.decode("ascii").splitlines()]
-        begin = words.index([".begin"])
-        fields, gates = {line[0]: line[1:] for line in words[:begin]}, words[begin + 1 : -1]
-        lines, marks = fields[".variables"], fields[".constants"][0]
-        numbers = {line: number for number, line in enumerate(lines)}
-        circuit = Circuit(
-            lines,
-            [None if mark == "-" else int(mark) for mark in marks],
-            [[numbers[name] for name in names] for _, *names in gates],
-        )
-    except (ValueError, KeyError, IndexError):
-        return None
-    is_sound = (
-        words[-1] == [".end"]
-        and fields[".numvars"] == [str(len(lines))]
-        and len(numbers) == len(lines) == len(marks) == len(fields[".garbage"][0])
-        and all(kind == "t%d" % len(names) and len(set(names)) == len(names) <= 3 for kind, *names in gates)
+        circuit = circuit_of(file)
+    except Refused:
+        return False
+    inputs = starts(circuit.names, b"x", 0)
+    outputs = starts(circuit.names, b"y", inputs)
+    work = starts(circuit.names, b"w", inputs + outputs)
+    has_form = (
+        inputs + outputs + work == len(circuit.names)
+        and circuit.constants == "-" * inputs + "0" * (outputs + work)
+        and set(circuit.garbage) == {"-"}
+        and all(len(gate.targets) == 1 and len(gate.controls) <= 2 for gate in circuit.gates)
+        and all(bit == 1 for gate in circuit.gates for _, bit in gate.controls)
     )
-    return circuit if is_sound else None
+    return has_form and inputs == program.inputs and all(
+        maps_cleanly(circuit, Run(program, [int(digit) for digit in word])) for word in words
+    )
 
 
-def is_clean(circuit: Circuit, run: Run) -> bool:
-    """Whether the circuit takes the run's bits to its outputs, keeps the inputs and leaves each work line at 0."""
-    inputs, outputs, work = circuit.roles("x"), circuit.roles("y"), circuit.roles("w")
-    before = [0] * len(circuit.lines)
-    for line, bit in zip(inputs, run.bits):
-        before[line] = bit
-    after = list(before)
-    for line, (bit, _) in zip(outputs, run.outputs):
-        after[line] = bit
-    roles_fit = len(inputs) == len(run.bits) and len(outputs) == len(run.outputs)
-    starts_fit = all(circuit.starts[line] == 0 for line in outputs + work)
-    all_there = len(inputs + outputs + work) == len(circuit.lines)
-    return roles_fit and starts_fit and all_there and circuit.run(before) == after
+def maps_cleanly(circuit: Circuit, run: Run) -> bool:
+    outputs = [bit for bit, _ in run.outputs]
+    work = [0] * (len(circuit.names) - len(run.bits) - len(outputs))
+    return circuit.run(run.bits + [0] * len(outputs) + work) == run.bits + outputs + work

@@ -1,9 +1,13 @@
 """What each command answers for a text, by the models: docs/COMMANDS.md as functions."""
-from typing import NamedTuple
+from typing import List, NamedTuple
 
+import language
+import real
 from circuits import file_of
+from claims import TooWide, settled
 from graphs import Graph
-from language import Refused, Run, program_of
+from language import Run, program_of
+from words import Order, order_of
 
 MOST_LINES = 4_096
 
@@ -14,8 +18,16 @@ class Answer(NamedTuple):
     err: bytes = b""
 
 
-def fault(status: int, line: str) -> Answer:
-    return Answer(status, b"", ("revc: %s\n" % line).encode())
+class Fault(Exception):
+    """A status with its line on standard error."""
+
+    def __init__(self, status: int, line: str):
+        super().__init__(line)
+        self.answer = Answer(status, b"", ("revc: %s\n" % line).encode())
+
+
+def lines(texts: List[str]) -> bytes:
+    return "".join(text + "\n" for text in texts).encode()
 
 
 def run_on_zeros(text: bytes) -> Run:
@@ -24,28 +36,74 @@ def run_on_zeros(text: bytes) -> Run:
     return Run(program, [0] * program.inputs)
 
 
-def compile_answer(text: bytes) -> Answer:
+def settled_run(order: Order, text: bytes) -> Run:
+    """The run of a text's program, whose claims hold on all inputs."""
+    run = run_on_zeros(text)
+    for number, (claim, (size, broken)) in enumerate(zip(run.claims, settled(run)), 1):
+        named = "claim %d at %d:%d" % (number, *claim.place)
+        if size > order.nodes:
+            raise Fault(5, "%s passes %d nodes" % (named, order.nodes))
+        if broken is not None:
+            raise Fault(4, "%s fails on %s" % (named, broken))
+    return run
+
+
+def sizes_of(text: bytes) -> List[int]:
+    """How many functions the claims up to each one rest on, where the text is well formed."""
     try:
-        run = run_on_zeros(text)
-    except Refused as refused:
-        return fault(3, str(refused))
-    if run.claims:
-        return fault(3, "program refused")
+        return [size for size, _ in settled(run_on_zeros(text))]
+    except (language.Refused, TooWide):
+        return []
+
+
+def compile_text(order: Order, text: bytes) -> bytes:
+    run = settled_run(order, text)
     graph, ends = Graph(run), len(run.bits) + len(run.outputs)
     if ends + len(graph.nodes) > MOST_LINES:
-        return fault(6, "lines %d over %d" % (max(ends, MOST_LINES + 1), MOST_LINES))
-    return Answer(0, file_of(len(run.bits), graph))
+        raise Fault(6, "lines %d over %d" % (ends if ends > MOST_LINES else MOST_LINES + 1, MOST_LINES))
+    return file_of(len(run.bits), graph)
 
 
-def eval_answer(text: bytes, word: str) -> Answer:
+def check_text(order: Order, text: bytes) -> bytes:
+    return lines(["claims %d" % len(settled_run(order, text).claims)])
+
+
+def eval_text(order: Order, text: bytes) -> bytes:
+    program, (word,) = run_on_zeros(text).program, order.bits
+    if len(word) != program.inputs or not set(word) <= set("01"):
+        raise Fault(12, "bad bits in word 1")
+    run = Run(program, [int(digit) for digit in word])
+    for number, claim in enumerate(run.claims, 1):
+        if not claim.holds:
+            raise Fault(4, "claim %d at %d:%d fails on %s" % (number, *claim.place, word))
+    return lines(["".join(str(bit) for bit, _ in run.outputs)])
+
+
+def stat_text(order: Order, text: bytes) -> bytes:
+    return lines(real.counts_of(real.circuit_of(text)))
+
+
+def run_text(order: Order, text: bytes) -> bytes:
+    circuit = real.circuit_of(text)
+    number = real.bad_word(circuit, order.bits)
+    if number is not None:
+        raise Fault(12, "bad bits in word %d" % number)
+    return lines([real.line_of(circuit, word) for word in order.bits])
+
+
+TEXTS = {"compile": compile_text, "check": check_text, "eval": eval_text, "stat": stat_text, "run": run_text}
+
+
+def answer_of(words: List[str], text: bytes) -> Answer:
+    """What the program answers for these words and this text."""
+    order = order_of(words)
+    if order is None:
+        return Fault(2, "bad command line").answer
     try:
-        program = run_on_zeros(text).program
-        if len(word) != program.inputs or not set(word) <= set("01"):
-            return fault(12, "bad bits in word 1")
-        run = Run(program, [int(digit) for digit in word])
-    except Refused as refused:
-        return fault(3, str(refused))
-    for number, (holds, (line, column)) in enumerate(run.claims, 1):
-        if not holds:
-            return fault(4, "claim %d at %d:%d fails on %s" % (number, line, column, word))
-    return Answer(0, ("".join(str(bit) for bit, _ in run.outputs) + "\n").encode())
+        return Answer(0, TEXTS[order.command](order, text))
+    except Fault as fault:
+        return fault.answer
+    except language.Refused as refused:
+        return Fault(3, str(refused)).answer
+    except real.Refused as refused:
+        return Fault(8, str(refused)).answer

@@ -1,14 +1,19 @@
-"""What only a real process shows: its words, its streams, and its time on a text of the greatest size."""
+"""What only a real process shows: its words, its streams, and its time on texts of the greatest sizes."""
 import os
 import subprocess
 import tempfile
 from typing import Iterator, Tuple
 
+from rows import FILE, LEAST, NO_GATES
+
 AND = b"main (a : bool) (b : bool) = a && b"
 UNBOUND = b"main (a : bool) = z"
-SECONDS = 10
-NO_ORDERS = [[], ["Compile"], ["compile", "x"], ["compile", "-"], ["eval"], ["eval", "1", "1"], ["eval", "-1"],
-             ["--help"], ["--", "compile"]]
+SECONDS = 60
+NO_ORDERS = [[], ["Compile"], ["compile", "x"], ["compile", "-"], ["eval"], ["eval", "1", "1"], ["eval", "-1"], ["run"],
+             ["stat", "--from", "qasm"], ["check", "--nodes", "0"], ["--help"], ["--", "compile"]]
+COUNTS = (NO_GATES.replace(", ", "\n") + "\n").encode()
+MOST_GATES = 4_000_000
+MOST_CIRCUIT = 134_217_728
 
 
 def edges(program: str) -> Iterator[Tuple[str, bool]]:
@@ -32,14 +37,17 @@ def edges(program: str) -> Iterator[Tuple[str, bool]]:
         run(["eval", "1"], b"main (a : bool) = { clean a; true }"), 4, b"claim 1 at 1:21 fails on 1")
 
     with open("/dev/full", "wb") as full:
-        for words in (["compile"], ["eval", "11"]):
-            status, _, line = run(words, stdout=full)
+        for words, text in ((["compile"], AND), (["check"], AND), (["eval", "11"], AND),
+                            (["stat"], FILE.encode()), (["run", "11"], FILE.encode())):
+            status, _, line = run(words, text, stdout=full)
             yield words[0] + " on a full device is a write fault", (status, line) == (10, b"revc: write fault\n")
         status, out, _ = run(["compile"], UNBOUND, stderr=full)
         yield "a full standard error changes no status", (status, out) == (3, b"")
 
     folder = os.open("/", os.O_RDONLY)
-    yield "a source that cannot be read is a read fault", is_fault(run(["compile"], stdin=folder), 9, b"read fault")
+    for words in (["compile"], ["check"], ["eval", "11"], ["stat"], ["run", "11"]):
+        faulty = is_fault(run(words, stdin=folder), 9, b"read fault")
+        yield words[0] + " of a source that cannot be read is a read fault", faulty
     os.close(folder)
 
     for words in NO_ORDERS:
@@ -53,7 +61,8 @@ def edges(program: str) -> Iterator[Tuple[str, bool]]:
     yield "`--` ends the options of `eval`", run(["eval", "--", "11"]) == (0, b"1\n", b"")
     for words in (["eval", "-"], ["eval", "--", "-1"]):
         yield "the words %s give an order" % words, is_fault(run(words), 12, b"bad bits in word 1")
-    yield "words that are no text end with status 1", run([b"\xff"]) == (1, b"", b"")
+    for words in ([b"\xff"], ["eval", b"\xff"], ["check", "--nodes", b"\xff"]):
+        yield "words that are no text end with status 1", run(words) == (1, b"", b"")
 
     short, most = b"main (a : bool) = a", 1_048_576
     yield "a text of the greatest size is taken", run(["eval", "1"], short.ljust(most)) == (0, b"1\n", b"")
@@ -66,3 +75,29 @@ def edges(program: str) -> Iterator[Tuple[str, bool]]:
 
     text = AND + b" <> a && b" * 2_000 + b" <> false" * 100_000
     yield "a text of the greatest size compiles in time", run(["compile"], text.ljust(most))[0] == 0
+
+    text = b"main (a : bool) = {\n" + b"clean (a <> a);\n" * 4_096 + b"a }"
+    yield "as many claims as there may be are settled in time", run(["check"], text) == (0, b"claims 4096\n", b"")
+    text = b"main (a : bool) (b : bool) = { clean (a <> a" + b" <> a <> b <> b <> a" * 52_000 + b"); a }"
+    yield "a claim on 208,001 writes is settled in time", run(["check"], text) == (0, b"claims 1\n", b"")
+
+    least = LEAST.encode()
+    longest = least + b"#".ljust(MOST_CIRCUIT - len(least), b"x")
+    yield "a circuit text of the greatest size is taken", run(["stat"], longest) == (0, COUNTS, b"")
+    too_long = run(["stat"], longest + b"x")
+    yield "one byte more of a circuit is refused", is_fault(too_long, 8, b"circuit over 134217728 bytes")
+    for more in (0, 1):
+        text = least.replace(b".end", b"t1 a\n" * (MOST_GATES + more) + b".end")
+        counts = COUNTS.replace(b"gates 0\nx 0", b"gates 4000000\nx 4000000").replace(b"depth 0", b"depth 4000000")
+        done = run(["stat"], text)
+        fits = is_fault(done, 8, b"circuit line 4000004 over a limit") if more else done == (0, counts, b"")
+        yield "%d gates are %s" % (MOST_GATES + more, "over the limit" if more else "taken"), fits
+    text = least.replace(b".end", b"t1 a\n" * MOST_GATES + b"t0 a\n.end")
+    yield "the word of a gate over the limit is read first", is_fault(run(["stat"], text), 8, b"circuit line 4000004")
+
+    names = b" ".join(b"l%d" % number for number in range(16_384))
+    text = b".numvars 16384\n.variables %s\n.begin\nt16384 %s\n.end\n" % (names, names)
+    counts = COUNTS.replace(b"lines 1\ngates 0", b"lines 16384\ngates 1").replace(b"wide 0", b"wide 1")
+    yield "a gate over 16,384 lines is taken", run(["stat"], text) == (0, counts.replace(b"depth 0", b"depth 1"), b"")
+    ones, last = "1" * 16_384, b"1" * 16_383 + b"0\n"
+    yield "and flips the last", run(["run", ones, ones[:-1] + "0"], text) == (0, last + last.replace(b"0", b"1"), b"")

@@ -1,4 +1,4 @@
-"""A model of the graph of a program without claims: its writes folded to constants, inputs and nodes.
+"""A model of the graph of a program: its writes folded to constants, inputs and nodes that an output rests on.
 
 It is written from docs/LANGUAGE.md, and shares nothing with the compiler. A bit of the run is named as in `language`:
 `x3` is input 3, and `w5` is write 5. It becomes a constant, 0 or 1, or a base: an input, `x3`, or a node, named by the
@@ -21,7 +21,7 @@ class Node:
 
 
 class Graph:
-    """The nodes in their order, and what each output became."""
+    """The nodes that an output rests on, in their order, and what each output became."""
 
     def __init__(self, run: Run):
         self.nodes: List[Node] = []
@@ -29,6 +29,19 @@ class Graph:
         for number, write in enumerate(run.writes):
             became["w%d" % number] = self.fold(write, [became[operand] for operand in write.operands])
         self.outputs = [became[name] for _, name in run.outputs]
+        self.drop_unused()
+
+    def drop_unused(self) -> None:
+        """Only the nodes that an output rests on stay; they are numbered anew."""
+        used = set(self.outputs)
+        for number in reversed(range(len(self.nodes))):
+            if "w%d" % number in used:
+                used.update(self.nodes[number].operands)
+        kept = [number for number in range(len(self.nodes)) if "w%d" % number in used]
+        new = {"w%d" % old: "w%d" % number for number, old in enumerate(kept)}
+        nodes = [self.nodes[number] for number in kept]
+        self.nodes = [Node(node.operator, tuple(new.get(each, each) for each in node.operands)) for node in nodes]
+        self.outputs = [new.get(output, output) for output in self.outputs]
 
     def fold(self, write: Write, operands: List[Folded]) -> Folded:
         if not operands:

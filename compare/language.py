@@ -430,13 +430,23 @@ class Write:
 
 
 @dataclass
+class Claimed:
+    """What the run claimed of a bit, named as in a write, and where; and whether it holds on the bits of the run."""
+
+    word: str
+    name: str
+    place: Place
+    holds: bool
+
+
+@dataclass
 class Run:
     """The run of a program on given bits. It raises `Refused` where it is stuck."""
 
     program: Program
     bits: List[int]
     writes: List[Write] = field(default_factory=list)
-    claims: list = field(default_factory=list)  # for each whether it holds, and its place
+    claims: List[Claimed] = field(default_factory=list)
     work: int = 0
 
     def __post_init__(self):
@@ -562,10 +572,10 @@ class Run:
 
     def run_claim(self, term: Claim, scope, depth):
         location = self.bit(term.operand, scope, depth)
-        bit, _ = self.read(location, term.operand.place)
+        bit, name = self.read(location, term.operand.place)
         if len(self.claims) == MOST_CLAIMS:
             raise Refused("Claims", term.place)
-        self.claims.append((bit == (term.word == "assert"), term.place))
+        self.claims.append(Claimed(term.word, name, term.place, bit == (term.word == "assert")))
         if term.word == "clean":
             self.store[location] = None
         return UNIT

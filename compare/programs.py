@@ -2,6 +2,8 @@
 from random import Random
 from typing import List, NamedTuple, Tuple
 
+from claimed import claimed
+
 BIT, REGISTER, UNIT = "bit", "register", "unit"
 
 NAMES = ["a", "b", "c", "x0", "_y", "Bool", "main1", "q" * 64]
@@ -109,9 +111,22 @@ class Programs:
         text = self.spaced(text)
         return Case(self.broken(text) if self.chance(0.2) else text.encode(), inputs)
 
+    def bits(self, inputs: int) -> str:
+        return "".join(self.random.choice("01") for _ in range(inputs))
+
+    def nodes(self, sizes: List[int]) -> List[str]:
+        """Now and then a limit on nodes, mostly about as many as the claims up to one of them need."""
+        if self.chance(0.4):
+            return []
+        limit = self.random.choice(sizes) + self.random.choice([-1, 0, 1]) if sizes else 1
+        if self.chance(0.1):
+            limit = self.random.choice([self.random.randint(1, 50), 1_000_000, 100_000])
+        text = str(max(1, limit)).zfill(self.random.choice([0, 0, 0, 0, 7]))
+        return ["--nodes=" + text] if self.chance(0.5) else ["--nodes", text]
+
     def word(self, inputs: int) -> str:
         """A word for so many inputs, now and then a wrong one."""
-        bits = "".join(self.random.choice("01") for _ in range(inputs))
+        bits = self.bits(inputs)
         if self.chance(0.04):
             return self.random.choice([bits + "1", bits[:-1], bits[:-1] + "x", ""])
         return bits
@@ -197,6 +212,10 @@ class Programs:
         """The same without claims, and with more of it: a block whose value has one bit or some."""
         front, inputs, scope = self.typed_head()
         return front + self.block(scope._replace(strict=True), self.random.choice([BIT, REGISTER]), 5), inputs
+
+    def claimed(self) -> Tuple[str, int]:
+        """Claims, many of which hold on all inputs."""
+        return claimed(self.random)
 
     def typed_head(self) -> Tuple[str, int, Scope]:
         parameters = self.random.choice(PARAMETERS)

@@ -1,4 +1,5 @@
-"""Texts for `compile` whose answers were worked out by hand: the lines and gates of a file, or the line of a fault."""
+"""Texts whose answers were worked out by hand, each with its words: the lines and gates of a file, the lines that
+another command writes, or the line of a fault."""
 from commands import Answer
 
 BIT = "main (a : bool) = "
@@ -7,9 +8,16 @@ THREE = "main (r : bool[3]) = "
 NOT = "{ let n = true <> a; %s }"
 PRODUCTS = " <> ".join(["a && b"] * 2_047)  # 4,093 nodes
 LONG = ["let s = append r r;", "let t = append s s;"] + ["rotate 0 t;"] * 5_000 + ["r.[0]", "}"]
+AND = "x0 x1 y0 w0: t3 x0 x1 w0, t2 w0 y0, t3 x0 x1 w0"
+UNCLEANED = "{ let t = a && b; clean t; a }"
+CLEANED = "{ let t = a <> b; t <- t <> (a <> b); clean t; a && b }"
+FIVE = BITS + "{ let t = a && b; assert (true <> t <> t); t }"
+ALIASED = BITS + "{ let r = reg [a; b]; r.[0] <- b; a }"
 
-WORKED = [
-    (BITS + "a && b", "x0 x1 y0 w0: t3 x0 x1 w0, t2 w0 y0, t3 x0 x1 w0"),
+# ---- Compiling
+
+COMPILED = [
+    (BITS + "a && b", AND),
     (BITS + "a <> b", "x0 x1 y0 w0: t2 x0 w0, t2 x1 w0, t2 w0 y0, t2 x1 w0, t2 x0 w0"),
     (BITS + "a <> b && a",
      "x0 x1 y0 w0 w1: t3 x1 x0 w0, t2 x0 w1, t2 w0 w1, t2 w1 y0, t2 w0 w1, t2 x0 w1, t3 x1 x0 w0"),
@@ -38,18 +46,25 @@ WORKED = [
     (BIT + "a && a", "x0 y0: t2 x0 y0"),
     # Bases that are nodes, and several outputs
     (BIT + NOT % "n && n", "x0 y0 w0: t2 x0 w0, t1 w0, t2 w0 y0, t1 w0, t2 x0 w0"),
-    (BIT + NOT % "n <> n", "x0 y0 w0: t2 x0 w0, t1 w0, t1 w0, t2 x0 w0"),
+    (BIT + NOT % "n <> n", "x0 y0: "),
     (BIT + NOT % "reg [n; true; false; a; n]",
      "x0 y0 y1 y2 y3 y4 w0: t2 x0 w0, t1 w0, t2 w0 y0, t1 y1, t2 x0 y3, t2 w0 y4, t1 w0, t2 x0 w0"),
     (BITS + "reg [a && b; a && b]",
      "x0 x1 y0 y1 w0 w1: t3 x0 x1 w0, t3 x0 x1 w1, t2 w0 y0, t2 w1 y1, t3 x0 x1 w1, t3 x0 x1 w0"),
+    # Nodes that no output rests on go, and the others are numbered anew
+    (BITS + "{ let t = a <> b; let u = true <> a; let v = t && u; u }",
+     "x0 x1 y0 w0: t2 x0 w0, t1 w0, t2 w0 y0, t1 w0, t2 x0 w0"),
+    (BITS + "{ let t = a <> b; let u = t && a; let v = true <> b; let w = u <> t; v && a }",
+     "x0 x1 y0 w0 w1: t2 x1 w0, t1 w0, t3 w0 x0 w1, t2 w1 y0, t3 w0 x0 w1, t1 w0, t2 x1 w0"),
+    (BITS + CLEANED, AND),
     # Faults
     (BITS + PRODUCTS + " <> a && b", "revc: lines 4097 over 4096"),
-    (BIT + "{ assert a; a }", "revc: program refused"),
-    (BITS + "{ let t = a && b; clean t; a }", "revc: program refused"),
+    (BIT + "{ assert a; a }", "revc: claim 1 at 1:21 fails on 0"),
+    (BITS + UNCLEANED, "revc: claim 1 at 1:48 fails on 11"),
     (BIT + "{ let t = false; clean t; t }", "revc: 1:19 Gone"),
     (BIT + "(fun x -> x x) (fun x -> x x)", "revc: 1:44 Depth"),
     (THREE + "rotate 3 r", "revc: 1:22 Rotate"),
+    (BIT + "{ clean a; a }", "revc: 1:19 Gone"),
     ("\n".join(["main (r : bool[1024]) = {"] + LONG), "revc: 4095:1 Work"),
     ("", "revc: 1:1 Syntax"),
     (BIT + "a & a", "revc: 1:21 BadByte"),
@@ -61,11 +76,163 @@ WORKED = [
     (" " * 1_048_577, "revc: source over 1048576 bytes"),
 ]
 
+# ---- Claims
+
+PLACES = ["a.[%d]" % place for place in range(64)]
+PARITIES = "\n".join(["main (a : bool[64]) = {", "let t = %s;" % " <> ".join(PLACES),
+                      "let u = %s;" % " <> ".join(PLACES[::-1]), "clean (t <> u);", "a.[0] }"])
+MIXED = "main (r : bool[2]) (s : bool) = "
+WIDE = "main (p : bool) (q : bool[3]) (r : bool[2]) = "
+
+CHECKED = [
+    ("check", BITS + UNCLEANED, "revc: claim 1 at 1:48 fails on 11"),
+    ("eval 10", BITS + UNCLEANED, "1"),
+    ("eval 11", BITS + UNCLEANED, "revc: claim 1 at 1:48 fails on 11"),
+    ("check", BITS + CLEANED, "claims 1"),
+    ("check", BIT + "a", "claims 0"),
+    ("check", BIT + "a & a", "revc: 1:21 BadByte"),
+    ("check --nodes 1", MIXED + "{ clean (r.[0] && false); s }", "claims 1"),
+    ("check", MIXED + "{ clean (r.[1] <> s); s }", "revc: claim 1 at 1:35 fails on 010"),
+    ("check", MIXED + "{ clean (r.[1] <> s); z }", "revc: 1:55 Unbound"),
+    # The order of the variables is p, q0, r0, q1, r1, q2
+    ("check", WIDE + "{ clean (q.[2] <> r.[1]); p }", "revc: claim 1 at 1:49 fails on 000100"),
+    ("check", WIDE + "{ clean ((q.[1] <> r.[0]) && q.[0]); p }", "revc: claim 1 at 1:49 fails on 011000"),
+    ("check", WIDE + "{ assert (true <> p && q.[0] && r.[0] && q.[1] && r.[1] && q.[2]); p }",
+     "revc: claim 1 at 1:49 fails on 111111"),
+    ("check", WIDE + "{ assert (true <> p); assert p; p }", "revc: claim 1 at 1:49 fails on 100000"),
+    # Five functions: a, b, a && b, and the negations of the last two
+    ("compile --nodes 2", FIVE, "revc: claim 1 at 1:48 passes 2 nodes"),
+    ("compile --nodes 4", FIVE, "revc: claim 1 at 1:48 passes 4 nodes"),
+    ("compile --nodes 5", FIVE, AND),
+    ("check --nodes 4", FIVE, "revc: claim 1 at 1:48 passes 4 nodes"),
+    ("check --nodes=5", FIVE, "claims 1"),
+    # A claim that is broken and over the limit at once is over it; one that is broken before is broken
+    ("check --nodes 2", BITS + UNCLEANED, "revc: claim 1 at 1:48 passes 2 nodes"),
+    ("check --nodes 3", BITS + UNCLEANED, "revc: claim 1 at 1:48 fails on 11"),
+    ("check --nodes 1", BITS + "{ assert a; clean b; a }", "revc: claim 1 at 1:32 fails on 00"),
+    ("check --nodes 1", BITS + "{ clean (a <> a); clean b; a }", "revc: claim 2 at 1:48 passes 1 nodes"),
+    ("check --nodes 2", BITS + "{ clean (a <> a); clean b; a }", "revc: claim 2 at 1:48 fails on 01"),
+    # Sums that begin at place 0, and both signs of the other sums of neighbouring places
+    ("check --nodes 4096", PARITIES, "claims 1"),
+    ("check --nodes 4095", PARITIES, "revc: claim 1 at 4:1 passes 4095 nodes"),
+]
+
+# ---- Evaluation
+
+EVALUATED = [("eval " + word, text, worked) for word, text, worked in [
+    ("01", ALIASED, "1"),
+    ("10", ALIASED, "0"),
+    ("2", ALIASED, "revc: bad bits in word 1"),
+    ("1", ALIASED, "revc: bad bits in word 1"),
+]]
+
+# ---- Circuit files
+
+FILE = """.version 2.0
+.numvars 4
+.variables x0 x1 y0 w0
+.inputs x0 x1 y0 w0
+.outputs x0 x1 y0 w0
+.constants --00
+.garbage ----
+.begin
+t3 x0 x1 w0
+t2 w0 y0
+t3 x0 x1 w0
+.end
+"""
+SUM = """# full adder part
+.version 1.0
+.numvars 4
+.variables a b c d
+.inputs a b "carry in" 0
+.outputs g1 g2 "sum out" d
+.constants ---0
+.garbage 11--
+.begin
+t3 a b d
+f3 -a b c
+t2 c d
+.end
+""".replace("\n", "\r\n")
+LEAST = ".numvars 1\n.variables a\n.begin\n.end\n"
+NO_GATES = "lines 1, gates 0, x 0, cx 0, ccx 0, wide 0, swap 0, depth 0"
+FILE_COUNTS = "lines 4, gates 3, x 0, cx 1, ccx 2, wide 0, swap 0, depth 3"
+
+FILES = [
+    ("stat", FILE, FILE_COUNTS),
+    ("run 11 10", FILE, "1110, 1000"),
+    ("run " + "11 " * 512 + "10", FILE, ", ".join(["1110"] * 512 + ["1000"])),
+    ("stat", SUM, "lines 4, gates 3, x 0, cx 1, ccx 1, wide 0, swap 1, depth 3"),
+    ("run 110 010 001 010", SUM, "01, 11, 00, 11"),
+    ("stat", SUM[: SUM.index(".end")], "revc: circuit line 13"),
+    ("stat", SUM.replace("t2 c d", "t2 c c"), "revc: circuit line 12"),
+    ("run 11", SUM, "revc: bad bits in word 1"),
+    ("run 110 01x", SUM, "revc: bad bits in word 2"),
+    ("stat", ".version 2.0\n.numvars 16385\n", "revc: circuit line 2 over a limit"),
+    ("stat", LEAST, NO_GATES),
+    ("stat --from real", LEAST, NO_GATES),
+    ("stat", LEAST + "x", "revc: circuit line 5"),
+    ("stat", "", "revc: circuit line 1"),
+]
+
+# ---- Words
+
+BAD = "revc: bad command line"
+WORDS = [(words, BITS + "a && b", worked) for words, worked in [
+    ("", BAD),
+    ("compile x", BAD),
+    ("compile -", BAD),
+    ("compile --", AND),
+    ("compile --nodes=5", AND),
+    ("compile --nodes 0000005", AND),
+    ("compile --nodes 00000005", BAD),
+    ("compile --nodes 0", BAD),
+    ("compile --nodes 1000000 --", AND),
+    ("compile --nodes 1000001", BAD),
+    ("compile --nodes +5", BAD),
+    ("compile --nodes=", BAD),
+    ("compile --nodes", BAD),
+    ("compile --nodes --", BAD),
+    ("compile --nodes 5 --nodes 5", BAD),
+    ("compile --nodes 5 --nodes=5", BAD),
+    ("compile -- --nodes 5", BAD),
+    ("compile --from real", BAD),
+    ("--help", BAD),
+    ("check --help", BAD),
+    ("check", "claims 0"),
+    ("eval", BAD),
+    ("eval 1 1", BAD),
+    ("eval -1", BAD),
+    ("eval --nodes 5 11", BAD),
+    ("eval -- 11", "1"),
+    ("eval 11 --", "1"),
+    ("eval ", "revc: bad bits in word 1"),
+    ("eval -", "revc: bad bits in word 1"),
+    ("eval -- --", "revc: bad bits in word 1"),
+    ("eval -- -1", "revc: bad bits in word 1"),
+    ("stat x", BAD),
+    ("stat --from qasm", BAD),
+    ("stat --nodes 5", BAD),
+    ("stat", "revc: circuit line 1"),
+    ("run", BAD),
+    ("run -1", BAD),
+    ("run --", BAD),
+    ("run --from=real", BAD),
+    ("run 1 --from=real -- -1", "revc: circuit line 1"),
+    ("run ", "revc: circuit line 1"),
+]]
+
+COMPILE = [("compile", text, worked) for text, worked in COMPILED]
+WORKED = COMPILE + CHECKED + EVALUATED + FILES + WORDS
+
 
 def shown(answer: Answer) -> str:
-    """The lines and gates of the file that was written, or the line on standard error."""
+    """The lines and gates of the file that was written, the lines that were, or the line on standard error."""
     if answer.status != 0:
         return answer.err.decode().rstrip("\n")
     lines = answer.out.decode().splitlines()
+    if lines[0] != ".version 2.0":
+        return ", ".join(lines)
     names = lines[2].partition(" ")[2]
     return "%s: %s" % (names, ", ".join(lines[lines.index(".begin") + 1 : -1]))

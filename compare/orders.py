@@ -1,0 +1,48 @@
+"""Random words of the command line, many of which give an order."""
+from random import Random
+from typing import List
+
+NAMES = ["nodes", "from", "node", "nodes1", "to", "lines", "gates", "format", "plan", "borrow", "help", "", "Nodes"]
+NUMBERS = ["1", "2", "3", "4", "5", "0", "100000", "1000000", "1000001", "9999999", "0000001", "0000005", "00000005",
+           "+5", "-5", "5 ", "0x5", "", "real", "5=5", "\u0665", "1e3", "--", "-"]
+FORMATS = ["real", "real", "real", "qasm", "Real", "real ", "", "5", "=real", "--", "-"]
+POSITIONAL = ["11", "10", "01", "00", "1", "0", "", "-", "x", "2", "110", "real", "compile", "\u00e9", "1\n"]
+COMMANDS = ["compile", "check", "eval", "stat", "run"]
+OTHERS = ["Compile", "", "-", "--", "convert", "gen", "bench", "verify", "--nodes", "check ", "--help", "help"]
+
+
+class Orders:
+    """Random words from one seed."""
+
+    def __init__(self, seed: int):
+        self.random = Random(seed)
+
+    def chance(self, probability: float) -> bool:
+        return self.random.random() < probability
+
+    def words(self) -> List[str]:
+        if self.chance(0.06):
+            return [self.random.choice(OTHERS) for _ in range(self.random.choice([0, 1, 1, 2]))]
+        command = self.random.choice(COMMANDS)
+        pieces = [self.option(command) for _ in range(self.random.choice([0, 0, 1, 1, 1, 2]))]
+        count = {"eval": 1, "run": self.random.randint(1, 3)}.get(command, 0)
+        if self.chance(0.1):
+            count = self.random.randint(0, 2)
+        pieces += [[self.random.choice(POSITIONAL[:4] if self.chance(0.7) else POSITIONAL)] for _ in range(count)]
+        if self.chance(0.2):
+            pieces.append(["--"])
+        if self.chance(0.05):
+            pieces.append([self.random.choice(["-1", "-x", "---", "--=", "-nodes", "-nodes=5", "--nodes5"])])
+        self.random.shuffle(pieces)
+        return [command] + [word for piece in pieces for word in piece]
+
+    def option(self, command: str) -> List[str]:
+        """An option that the command has, as a rule, with a value that it takes, as a rule."""
+        name = "nodes" if command in ("compile", "check") else "from"
+        if self.chance(0.06):
+            name = self.random.choice(NAMES)
+        values = FORMATS if name == "from" else NUMBERS
+        value = self.random.choice(values[:3] if self.chance(0.7) else values)
+        if self.chance(0.03):
+            return ["--" + name]
+        return ["--%s=%s" % (name, value)] if self.chance(0.4) else ["--" + name, value]
