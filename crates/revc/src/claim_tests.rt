@@ -112,6 +112,43 @@ const CASES: &[(&[&str], &[u8], &[u8], u8, &[u8])] = &[
     ),
 ];
 
+// The places of a register of 64 bits, added in rising and in falling order. The claim rests on 4,096 functions: 64 sums
+// that begin at place 0, and both signs of the 2,016 sums of neighbouring places that begin later.
+const SUMS: &[u8] = b"main (a : bool[64]) = {
+let t = a.[0] <> a.[1] <> a.[2] <> a.[3] <> a.[4] <> a.[5] <> a.[6] <> a.[7] <> a.[8] <> a.[9] <> a.[10]
+<> a.[11] <> a.[12] <> a.[13] <> a.[14] <> a.[15] <> a.[16] <> a.[17] <> a.[18] <> a.[19] <> a.[20]
+<> a.[21] <> a.[22] <> a.[23] <> a.[24] <> a.[25] <> a.[26] <> a.[27] <> a.[28] <> a.[29] <> a.[30]
+<> a.[31] <> a.[32] <> a.[33] <> a.[34] <> a.[35] <> a.[36] <> a.[37] <> a.[38] <> a.[39] <> a.[40]
+<> a.[41] <> a.[42] <> a.[43] <> a.[44] <> a.[45] <> a.[46] <> a.[47] <> a.[48] <> a.[49] <> a.[50]
+<> a.[51] <> a.[52] <> a.[53] <> a.[54] <> a.[55] <> a.[56] <> a.[57] <> a.[58] <> a.[59] <> a.[60]
+<> a.[61] <> a.[62] <> a.[63];
+let u = a.[63] <> a.[62] <> a.[61] <> a.[60] <> a.[59] <> a.[58] <> a.[57] <> a.[56] <> a.[55] <> a.[54]
+<> a.[53] <> a.[52] <> a.[51] <> a.[50] <> a.[49] <> a.[48] <> a.[47] <> a.[46] <> a.[45] <> a.[44]
+<> a.[43] <> a.[42] <> a.[41] <> a.[40] <> a.[39] <> a.[38] <> a.[37] <> a.[36] <> a.[35] <> a.[34]
+<> a.[33] <> a.[32] <> a.[31] <> a.[30] <> a.[29] <> a.[28] <> a.[27] <> a.[26] <> a.[25] <> a.[24]
+<> a.[23] <> a.[22] <> a.[21] <> a.[20] <> a.[19] <> a.[18] <> a.[17] <> a.[16] <> a.[15] <> a.[14]
+<> a.[13] <> a.[12] <> a.[11] <> a.[10] <> a.[9] <> a.[8] <> a.[7] <> a.[6] <> a.[5] <> a.[4]
+<> a.[3] <> a.[2] <> a.[1] <> a.[0];
+clean (t <> u);
+a.[0] }";
+
+const SUM_CASES: &[(&[&str], u8, &[u8])] = &[
+    (&["check", "--nodes", "4096"], 0, b"claims 1\n"),
+    (
+        &["check", "--nodes", "4095"],
+        5,
+        b"revc: claim 1 at 16:1 passes 4095 nodes\n",
+    ),
+];
+
+#[test]
+fn a_sum_is_settled_within_its_functions(rt: HostRuntime) -> Result<(), Fail> {
+    for (words, status, written) in SUM_CASES {
+        check(&rt, rt.alloc(), words, &[(SUMS, 1)], *status, written)?;
+    }
+    Ok(())
+}
+
 #[test]
 fn claims_are_settled_on_all_inputs(rt: HostRuntime) -> Result<(), Fail> {
     for (words, head, body, status, written) in CASES {
