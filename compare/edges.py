@@ -1,5 +1,6 @@
 """What only a real process shows: its words, its streams, and its time on texts of the greatest sizes."""
 import os
+import resource
 import subprocess
 import tempfile
 from typing import Iterator, Tuple
@@ -12,6 +13,7 @@ SECONDS = 60
 NO_ORDERS = [[], ["Compile"], ["compile", "x"], ["compile", "-"], ["eval"], ["eval", "1", "1"], ["eval", "-1"], ["run"],
              ["stat", "--from", "qasm"], ["check", "--nodes", "0"], ["--help"], ["--", "compile"]]
 COUNTS = (NO_GATES.replace(", ", "\n") + "\n").encode()
+LARGE = LEAST.replace(".end", "t1 a\n" * 200_000 + ".end").encode()
 MOST_GATES = 4_000_000
 MOST_CIRCUIT = 134_217_728
 
@@ -77,6 +79,12 @@ def edges(program: str) -> Iterator[Tuple[str, bool]]:
     yield "a text of the greatest size compiles in time", run(["compile"], text.ljust(most))[0] == 0
 
     text = b"main (a : bool) = {\n" + b"clean (a <> a);\n" * 4_096 + b"a }"
+    larges = [(["compile"], text), (["check"], text), (["eval", "1"], text), (["stat"], LARGE), (["run", "1"], LARGE)]
+    for words, large in larges:
+        answers, none = [run(words, large)], (11, b"", b"revc: out of memory\n")
+        for size in range(4_000_000, 40_000_000, 1_500_000):
+            answers.append(run(words, large, preexec_fn=lambda: resource.setrlimit(resource.RLIMIT_AS, (size, size))))
+        yield words[0] + " in little memory wants memory, or answers", set(answers) == {answers[0], none}
     yield "as many claims as there may be are settled in time", run(["check"], text) == (0, b"claims 4096\n", b"")
     text = b"main (a : bool) (b : bool) = { clean (a <> a" + b" <> a <> b <> b <> a" * 52_000 + b"); a }"
     yield "a claim on 208,001 writes is settled in time", run(["check"], text) == (0, b"claims 1\n", b"")

@@ -14,6 +14,8 @@ FORMS = ["(#)", "reg [#]", "reg [#; #]", "{ # }", "{ let f = #; # }", "{ let g x
          "fun x y -> #", "clean (#)", "assert (#)", "rotate 3 (#)", "append (#) (#)", "(#) (#)", "(#) <- (#)",
          "(#) <> (#)", "(#) && (#) && (#)"]
 FOLDED = ["%s", "%s", "%s", "(%s && true)", "(false <> %s)", "(%s && true && true)", "(true && %s <> false)"]
+ASIDES = ["", "", "", "let t = s <> r.[0]; ", "clean (s <> s); ", "let t = s && r.[0]; clean (t && (true <> s)); ",
+          "assert (s <> s); ", "clean (s && r.[0]); "]
 BLANKS = [" ", "  ", "\n", "\t\r\n", " // note\n", "\n\n "]
 PIECES = "( ) [ ] { } <> && < & / a ; in . .. + = -> : bool // \xff 12345".split()
 PIECES += [" 7 ", "\n", "let ", "fun ", "reg ", "z" * 65]
@@ -185,13 +187,14 @@ class Programs:
         return head([("a", None)]) + body, 1
 
     def long(self) -> Tuple[str, int]:
-        """A chain with about as many inputs, outputs and nodes as a circuit may have lines; some operands fold."""
+        """A chain with about as many inputs, outputs and nodes as a circuit may have lines; some operands fold, and
+        some nodes no output rests on."""
         inputs, outputs = self.random.randint(2, 1024), self.random.randint(1, 1024)
         nodes = 4096 + self.random.randint(-2, 2) - inputs - outputs
         pairs = [[form % name for form in FOLDED] for name in ("r.[0]", "r.[%d]" % (inputs - 1))]
         operands = (self.random.choice(pairs[number % 2]) for number in range(nodes + 1))
         chain = self.random.choice([" <> ", " && "]).join(operands)
-        body = "{ let s = %s; reg [%s] }" % (chain, "; ".join(["s"] * outputs))
+        body = "{ let s = %s; %sreg [%s] }" % (chain, self.random.choice(ASIDES), "; ".join(["s"] * outputs))
         return head([("r", inputs)]) + body, inputs
 
     def wide(self) -> Tuple[str, int]:
