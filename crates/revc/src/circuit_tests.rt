@@ -224,7 +224,7 @@ fn circuits_of_the_examples_give_what_eval_gives(rt: HostRuntime) -> Result<(), 
                     wanted.push(*digit)?;
                 }
             }
-            while wanted.len() < *lines {
+            for _ in wanted.len()..*lines {
                 wanted.push(b'0')?;
             }
             wanted.push(b'\n')?;
