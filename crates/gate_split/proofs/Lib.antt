@@ -1,3 +1,4 @@
+pub mod BorrowedLemmas
 pub mod BuildingLemmas
 pub mod CostLemmas
 pub mod EffectLemmas

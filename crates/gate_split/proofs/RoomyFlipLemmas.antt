@@ -1,5 +1,5 @@
 -- Flips that have at most two controls or an idle line are split.
-use Rattle.std.proofs.Common.{◌≡◌, ℕ, zero, suc, ◌+◌, ◌-◌, ◌*◌, ◌<◌, ◌≤◌, ◌⊎◌, Bool, true, false, not, cond, leb, List, [], ◌∷◌, ◌++◌, length, take, Some, Option, Ok, Result, refl, sym, ap, ◌∙◌, subst, inl, inr, arith}
+use Rattle.std.proofs.Common.{◌≡◌, ℕ, zero, suc, ◌+◌, ◌-◌, ◌*◌, ◌<◌, ◌≤◌, ◌⊎◌, Bool, true, false, not, cond, leb, List, [], ◌∷◌, ◌++◌, length, take, Some, Option, Ok, Err, Result, refl, sym, ap, ◌∙◌, subst, inl, inr, arith}
 use Rattle.std.specs.List.{AllByRecursion, sum_by}
 use Rattle.std.proofs.lemmas.Bool.{cases_lt}
 use Rattle.std.proofs.lemmas.Bool.Decides.{leb_tells}
@@ -10,7 +10,9 @@ use Rattle.mct_circuit.specs.declared.gate.Control.{Control}
 use Rattle.mct_circuit.specs.declared.gate.Op.TheVariants.{Flip}
 use Rattle.mct_circuit.specs.Gates.{GateView, IsGateOn, flip_of, lines_of, targets_of}
 use Rattle.mct_circuit.specs.Sizes.{has_line, negative_controls, op_weight, weight_of}
+use Rattle.list_facts.proofs.AllLemmas.{AllByRecursion-weaker}
 use Rattle.gate_split.specs.declared.fault.SplitFault.{SplitFault}
+use Rattle.gate_split.specs.declared.fault.SplitFault.TheVariants.{Gates, NoIdle}
 use Rattle.gate_split.specs.Costs.{most_gates, IsRoomyFlip, RoomyFlipsAreSplit}
 use Rattle.gate_split.specs.Split.{Avoids, falling_lines, idle_lines, flips_of_negatives, over_few_lines, over_idle_lines, in_halves, split_positive, split_op, split_gate, between, with_piece, split_from}
 use Rattle.gate_split.proofs.CostLemmas.{costs}
@@ -171,8 +173,39 @@ most_within gate =
     let some = count_by-le-length (λ (control : Control). not control.positive) gate.controls in
     elim (leb_tells (length gate.controls) 2) [ inl t ↦ rw t.0 (omega arith) | inr t ↦ rw t.0 (omega arith) ]
 
+-- a walk over such flips never comes to one without an idle line
+never_idle : (n limit place at : ℕ) (done gates : List GateView) → AllByRecursion (IsRoomyFlip n) gates
+    → split_from n limit place done gates ≡ Err (NoIdle at) → ⊥
+never_idle n limit place at done [] roomy e = cc
+never_idle n limit place at done (gate ∷ gates) roomy e =
+    let piece = gate_piece n gate roomy.0 in
+    let next : List GateView → Result (List GateView) SplitFault = λ now. split_from n limit (place + 1) now gates in
+    let now : with_piece (Some piece.gates) limit place done next ≡ Err (NoIdle at) =
+    sym (ap (λ o. with_piece o limit place done next) piece.is) ∙ e in
+    elim (leb_tells (length (done ++ piece.gates)) limit) [
+      | inl t ↦ never_idle n limit (place + 1) at (done ++ piece.gates) gates roomy.1
+          (sym (within limit place done piece.gates next (omega (arith, t.1))) ∙ now)
+      | inr t ↦ (let over : with_piece (Some piece.gates) limit place done next ≡ Err Gates = rw t.0 refl in let both = sym over ∙ now in cc)
+    ]
+
+more_room : (n more : ℕ) (gate : GateView) → n ≤ more → IsRoomyFlip n gate → IsRoomyFlip more gate
+more_room n more gate le flip = record {
+  on = record {
+    different = flip.on.different;
+    in_range = AllByRecursion-weaker (λ line. line < n) (λ line. line < more) (λ line low. omega (arith, low, le)) (lines_of gate) flip.on.in_range;
+  };
+  target = flip.target;
+  is_flip = flip.is_flip;
+  room = elim flip.room [
+    | inl few ↦ inl few
+    | inr idle ↦ inr (record { line = idle.line; below = omega (arith, idle.below, le); idle = idle.idle })
+  ];
+}
+
 pub roomy_flips : RoomyFlipsAreSplit
 roomy_flips = record {
+  idle = λ n limit at gates roomy e. never_idle n limit 0 at [] gates roomy e;
+  wider = λ n more gates le roomy. AllByRecursion-weaker (IsRoomyFlip n) (IsRoomyFlip more) (λ gate flip. more_room n more gate le flip) gates roomy;
   split = λ n limit gates roomy fits. let all = goes n limit 0 [] gates roomy (omega arith) in
       let few = all.few in record { narrow = all.narrow; is = all.is; few = omega arith };
   weight = weight_within;

@@ -1,6 +1,7 @@
 -- What a split costs, what it leaves as it is, and which flips it takes.
-use Rattle.std.specs.Prelude.{◌≡◌, ℕ, ◌+◌, ◌-◌, ◌*◌, ◌<◌, ◌≤◌, ◌⊎◌, ◌==◌, nat_le, if◌then◌else◌, Some, Ok, List, [], ◌∷◌, ◌++◌, length, sum_by}
+use Rattle.std.specs.Prelude.{◌≡◌, ◌≢◌, ℕ, ◌+◌, ◌-◌, ◌*◌, ◌<◌, ◌≤◌, ◌⊎◌, ◌==◌, nat_le, if◌then◌else◌, Some, Ok, Err, List, [], ◌∷◌, ◌++◌, length, sum_by}
 use Rattle.std.specs.List.{AllByRecursion}
+use Rattle.gate_split.specs.declared.fault.SplitFault.TheVariants.{NoIdle}
 use Rattle.mct_circuit.specs.declared.gate.Op.TheVariants.{Flip}
 use Rattle.mct_circuit.specs.Gates.{GateView, IsGateOn, AreNarrow, flip_of, lines_of}
 use Rattle.mct_circuit.specs.Sizes.{negative_controls, weight_of}
@@ -61,10 +62,14 @@ pub record IsSplit (n limit : ℕ) (gates : List GateView) (most : ℕ) : Type 0
   pub is : split_list n limit gates ≡ Ok narrow
   pub few : length narrow ≤ most
 
--- such flips are split where their most gates are within the limit together, so none of them wants an idle line;
--- and the most gates for a flip of k controls are at least its weight, and at most 10k + 1
+-- Such flips never want an idle line, on these lines or more. They are split where their most gates are within the limit
+-- together; and the most gates for a flip of k controls are at least its weight, and at most 10k + 1.
 pub record RoomyFlipsAreSplit : Type 0 where
   pub split : (n limit : ℕ) (gates : List GateView) → AllByRecursion (IsRoomyFlip n) gates
       → sum_by most_gates gates ≤ limit → IsSplit n limit gates (sum_by most_gates gates)
+  pub idle : (n limit place : ℕ) (gates : List GateView) → AllByRecursion (IsRoomyFlip n) gates
+      → split_list n limit gates ≢ Err (NoIdle place)
+  pub wider : (n more : ℕ) (gates : List GateView) → n ≤ more
+      → AllByRecursion (IsRoomyFlip n) gates → AllByRecursion (IsRoomyFlip more) gates
   pub weight : (n : ℕ) (gate : GateView) → IsRoomyFlip n gate → weight_of gate ≤ most_gates gate
   pub each : (gate : GateView) → most_gates gate ≤ 10 * length gate.controls + 1

@@ -1,6 +1,6 @@
 -- Budgets and plans as contracts see them, the roles of a plan's lines, and clean circuits.
 use Rattle.std.specs.Prelude.{◌≡◌, ℕ, ◌+◌, ◌-◌, Bool, false, nat_lt, if◌then◌else◌, List, ◌++◌, length, replicate}
-use Rattle.mct_circuit.specs.Gates.{GateView, CircuitView, line_map}
+use Rattle.mct_circuit.specs.Gates.{GateView, CircuitView, AreGatesOn, line_map}
 use Rattle.gate_split.specs.declared.roles.Roles.{Roles}
 use Rattle.gate_split.specs.declared.roles.Role.{Role}
 use Rattle.gate_split.specs.declared.roles.Role.TheVariants.{Input, Output, Work, Borrowed}
@@ -76,3 +76,17 @@ pub record MapsCleanly (roles : Roles) (gates : List GateView)
   pub puts : (input borrowed : List Bool) → length input ≡ roles.inputs
       → length borrowed ≡ roles.borrowed
       → PutsOutputs roles gates input (value input) borrowed
+
+-- ---- borrowed lines
+
+-- these roles with so many borrowed lines
+abbrev pub with_borrowed : Roles → ℕ → Roles
+with_borrowed roles count = record roles { borrowed = count }
+
+-- The law: gates that are clean without borrowed lines are clean beside any number of them, which they do not use.
+abbrev pub CleanCircuitsBorrow : Type 0
+CleanCircuitsBorrow =
+    (roles : Roles) (gates : List GateView) (value : List Bool → List Bool) (count : ℕ)
+    → AreGatesOn (lines_in (with_borrowed roles 0)) gates
+    → MapsCleanly (with_borrowed roles 0) gates value
+    → MapsCleanly (with_borrowed roles count) gates value
