@@ -1,7 +1,8 @@
 -- A finished plan: the gates, the copies, and the gates reversed.
-use Rattle.std.proofs.Common.{◌≡◌, ℕ, ◌+◌, ◌-◌, ◌*◌, ◌<◌, ◌≤◌, Bool, false, List, [], ◌++◌, length, reverse, sym, ap, ◌∙◌, subst, arith, append-nil}
+use Rattle.std.proofs.Common.{◌≡◌, ℕ, ◌+◌, ◌-◌, ◌*◌, ◌<◌, ◌≤◌, Bool, false, List, [], ◌++◌, length, reverse, refl, sym, ap, ◌∙◌, subst, arith, append-nil}
 use Rattle.std.specs.List.{AllByRecursion}
 use Rattle.std.proofs.lemmas.List.{nil_from_length, length-map, length-replicate}
+use Rattle.std.proofs.lemmas.List.Sums.{sum_by-append}
 use Rattle.list_facts.specs.Bits.{zeros}
 use Rattle.list_facts.proofs.AllLemmas.{AllByRecursion-append, AllByRecursion-reverse}
 use Rattle.ancilla_heap.specs.Lines.{HeapView}
@@ -9,10 +10,12 @@ use Rattle.claim_check.specs.Settled.{settled_outputs, settled_value}
 use Rattle.gate_split.specs.Costs.{IsRoomyFlip}
 use Rattle.gate_split.specs.Plans.{MapsCleanly}
 use Rattle.mct_circuit.specs.Gates.{AreGatesOn, line_map}
+use Rattle.mct_circuit.specs.Sizes.{weight_of}
 use Rattle.mct_circuit.proofs.ReversalLemmas.{conjugated}
-use Rattle.mct_circuit.proofs.WeightLemmas.{length-le-weight}
+use Rattle.mct_circuit.proofs.WeightLemmas.{length-le-weight, weight-reverse}
 use Rattle.held_nodes.specs.Held.{ForwardView, first_work}
 use Rattle.held_nodes.specs.Moves.{IsReadySig, copies_of, finished_gates, finished_weight, planned_of, roles_of_plan, weight_in}
+use Rattle.held_nodes.specs.Plans.{HasPorts, IsInBudget}
 use Rattle.held_nodes.specs.inside.Kept.{IsApartSig, IsKept}
 use Rattle.held_nodes.proofs.ContentLemmas.{all_lines, length-all_lines}
 use Rattle.held_nodes.proofs.CopyLemmas.{AreReady, outputs_apart, copies_roomy, weight-copies, copied}
@@ -104,3 +107,20 @@ module _ (f : ForwardView) (w : ℕ) (heap : HeapView) (d : IsDone f w heap) whe
   pub done_within : (gates weight count : ℕ) → gates ≡ f.budget.gates → weight ≡ weight_in f.gates → count ≡ length (copies_of f) → count ≤ gates - 2 * weight
       → finished_weight f ≤ f.budget.gates
   done_within gates weight count e is many le = let twice = d.kept.forward.weight in omega (arith, e, is, many, le, done_weight, twice)
+
+  -- the weight of the whole plan
+  whole_weight : weight_in (finished_gates f) ≡ finished_weight f
+  whole_weight =
+      let first = sum_by-append weight_of (f.gates ++ copies_of f) (reverse f.gates) in
+      let copies = sum_by-append weight_of f.gates (copies_of f) in
+      let back = weight-reverse f.gates in
+      omega (arith, first, copies, back)
+
+  pub done_in_budget : finished_weight f ≤ f.budget.gates → IsInBudget f.budget (planned_of f)
+  done_in_budget light = record {
+    lines = omega (arith, d.kept.forward.within);
+    gates = omega (arith, light, whole_weight);
+  }
+
+  pub done_ports : HasPorts f.graph (planned_of f)
+  done_ports = record { inputs = refl; outputs = refl; lines = refl }

@@ -6,6 +6,7 @@ pub mod EmptyLemmas
 pub mod FinishLemmas
 pub mod ForwardLemmas
 pub mod LineLemmas
+pub mod NarrowLemmas
 pub mod PlaceLemmas
 pub mod SetLemmas
 pub mod StepLemmas

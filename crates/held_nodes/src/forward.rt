@@ -6,7 +6,8 @@ ghost use Rattle.gate_split.specs.Costs.{IsRoomyFlip};
 ghost use Rattle.gate_split.specs.Plans.{MapsCleanly};
 ghost use Rattle.held_nodes.specs.Held.{IsForward, first_work, is_held};
 ghost use Rattle.held_nodes.specs.Moves.{CanClear, IsCleared, IsClearFault, IsFinishFault, IsReadyNode, IsReadySig};
-ghost use Rattle.held_nodes.specs.Moves.{IsStartFault, IsToggled, IsToggleFault, finished_weight, nothing_held, planned_of, roles_of_plan};
+ghost use Rattle.held_nodes.specs.Moves.{IsStartFault, IsToggled, IsToggleFault, nothing_held, planned_of, roles_of_plan};
+ghost use Rattle.held_nodes.specs.Plans.{HasPorts, IsInBudget};
 
 use crate::copying::{copies_of, finished_circuit};
 use crate::toggling::{append_cubes, append_toggle};
@@ -215,7 +216,8 @@ impl<'s> Forward<'s> {
     }
 
     /// The plan of this forward part: its gates, a copy of each output to its line, and its gates reversed. The circuit
-    /// takes each input and zeros to that input, the outputs, and zeros.
+    /// takes each input and zeros to that input, the outputs, and zeros. Its lines, with the borrowed ones, and the
+    /// weights of its gates are within the budget.
     ///
     /// # Errors
     ///
@@ -225,8 +227,8 @@ impl<'s> Forward<'s> {
         ensures ok { IfOk result (λ planned. planned ≡ planned_of self.entry) }
         ensures clean { IfOk result (λ planned. MapsCleanly (roles_of_plan planned)
             planned.circuit.gates (settled_outputs self.entry.graph)) }
-        ensures within { IfOk result (λ _. finished_weight self.entry ≤ self.entry.budget.gates) }
-        ensures keeps { IfOk result (λ _. IsForward self.entry) }
+        ensures ports { IfOk result (HasPorts self.entry.graph) }
+        ensures within { IfOk result (IsInBudget self.entry.budget) }
         ensures roomy { IfOk result (λ planned.
             AllByRecursion (IsRoomyFlip planned.circuit.lines) planned.circuit.gates) }
         ensures refused { IfErr result (IsFinishFault self.entry) }

@@ -4,10 +4,9 @@
 
 mod copying;
 mod forward;
+mod law;
 mod toggling;
 mod weighed;
 
 pub use forward::Forward;
-
-#[cfg(test)]
-mod tests;
+pub use law::toggles_are_narrow;

@@ -1,5 +1,5 @@
 use Rattle.std.proofs.Common.{rules, ◌∙◌, length, ap}
-use Rattle.held_nodes.proofs.FinishLemmas.{done_of, done_apart, done_over, done_within, done_gates, done_copies, done_roomy, done_room, done_clean}
+use Rattle.held_nodes.proofs.FinishLemmas.{done_of, done_apart, done_ports, done_in_budget, done_over, done_within, done_gates, done_copies, done_roomy, done_room, done_clean}
 use Rattle.held_nodes.proofs.forward.Forward.finish.Goals as goal
 
 pub copies_of-requires-clause-apart : goal.copies_of-requires-clause-apart
@@ -41,12 +41,18 @@ returns-clause-clean c =
     let done = done_of _ _ _ _ c.self.view_is c.self.invariant c.requires in
     rw (returns-clause-ok c, ← c.self.view_is) (done_clean _ _ _ done)
 
+pub returns-clause-ports : goal.returns-clause-ports
+returns-clause-ports c =
+    let done = done_of _ _ _ _ c.self.view_is c.self.invariant c.requires in
+    rw (returns-clause-ok c, ← c.self.view_is) (done_ports _ _ _ done)
+
 pub returns-clause-within : goal.returns-clause-within
 returns-clause-within c =
     let done = done_of _ _ _ _ c.self.view_is c.self.invariant c.requires in
     let copies = rw (c.inputs.ensures.inputs, c.outputs-outputs.ensures.outputs, c.deref.ensures.value) at c.in_ok-copies.ensures in
     let count = c.len.ensures ∙ c.in_ok-copies.copies.ok.0 ∙ ap length copies in
-    rw (← c.self.view_is) (done_within _ _ _ done _ _ _ c.gates-2.ensures.gates c.weight.ensures.weight count c.if-len-gates.false)
+    let light = done_within _ _ _ done _ _ _ c.gates-2.ensures.gates c.weight.ensures.weight count c.if-len-gates.false in
+    rw (returns-clause-ok c, ← c.self.view_is) (done_in_budget _ _ _ done light)
 
 pub returns-clause-roomy : goal.returns-clause-roomy
 returns-clause-roomy c =

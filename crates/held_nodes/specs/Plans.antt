@@ -1,0 +1,30 @@
+-- Plans of a settled graph within a budget.
+use Rattle.std.specs.Prelude.{◌≡◌, ℕ, ◌+◌, ◌≤◌, nat_lt, if◌then◌else◌, length}
+use Rattle.claim_check.specs.Settled.{SettledView}
+use Rattle.gate_split.specs.Plans.{BudgetView, PlannedView}
+use Rattle.mct_circuit.specs.Gates.{AreNarrow}
+use Rattle.held_nodes.specs.Held.{ForwardView, first_work}
+use Rattle.held_nodes.specs.Moves.{IsToggled, finished_gates, weight_in}
+
+-- the plan has the inputs and outputs of the settled graph
+pub record HasPorts (s : SettledView) (p : PlannedView) : Type 0 where
+  pub inputs : p.inputs ≡ s.inputs
+  pub outputs : p.outputs ≡ length s.outputs
+  pub lines : p.circuit.lines ≡ first_work s + p.work
+
+-- its lines, with the borrowed ones, and the weights of its gates are within the budget
+pub record IsInBudget (b : BudgetView) (p : PlannedView) : Type 0 where
+  pub lines : p.circuit.lines + b.borrow ≤ b.lines
+  pub gates : weight_in p.circuit.gates ≤ b.gates
+
+-- how many lines a refused plan wants: one for each input, output and borrowed bit where that passes the budget, and
+-- otherwise one more than the budget has
+abbrev pub wanted_lines : SettledView → BudgetView → ℕ
+wanted_lines s b =
+    if nat_lt b.lines (first_work s + b.borrow) then first_work s + b.borrow else b.lines + 1
+
+-- The law: toggles keep gates narrow, and so does a finish.
+pub record TogglesAreNarrow : Type 0 where
+  pub toggled : (f next : ForwardView) (k : ℕ) → IsToggled f k next
+      → AreNarrow f.gates → AreNarrow next.gates
+  pub finished : (f : ForwardView) → AreNarrow f.gates → AreNarrow (finished_gates f)
