@@ -4,6 +4,7 @@ pub mod FunctionLemmas
 pub mod KeptLemmas
 pub mod LabelLemmas
 pub mod MarkLemmas
+pub mod MeasureLemmas
 pub mod MemberLemmas
 pub mod NoWiderLemmas
 pub mod NumberLemmas

@@ -61,6 +61,11 @@ pub record AreMeasuresOf (t : TapeView) (m : Measures) : Type 0 where
   pub one_each : length m.monomials ≡ writes_of t
   pub monomials : HaveMonomials (inputs_of t) (write_function t) m.monomials
 
+-- some measures are those of the tape
+pub record HasMeasures (t : TapeView) : Type 0 where
+  pub measures : Measures
+  pub are : AreMeasuresOf t measures
+
 pub record AreMeasuresOfSettled (s : SettledView) (m : Measures) : Type 0 where
   pub inputs : m.inputs ≡ s.inputs
   pub outputs : m.outputs ≡ length s.outputs
@@ -91,6 +96,10 @@ pub record IsWithin (s : SettledView) (m : Measures) : Type 0 where
   pub selected : AreSelected counts m.monomials
 
 -- ---- the laws
+
+-- The law: each tape has measures.
+abbrev pub TapesHaveMeasures : Type 0
+TapesHaveMeasures = (t : TapeView) → HasMeasures t
 
 -- a settled graph is within the measures of its tape
 abbrev pub SettledGraphsAreWithin : Type 0

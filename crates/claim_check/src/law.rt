@@ -1,5 +1,6 @@
 ghost use Rattle.claim_check.specs.Claims.{ClaimsEndInOneWay};
-ghost use Rattle.claim_check.specs.Measures.{BudgetsAreNoGreater, OwnMeasuresAreWithin, SettledGraphsAreWithin};
+ghost use Rattle.claim_check.specs.Measures.{BudgetsAreNoGreater, OwnMeasuresAreWithin};
+ghost use Rattle.claim_check.specs.Measures.{SettledGraphsAreWithin, TapesHaveMeasures};
 
 // Each function here does nothing: its contract is the law.
 
@@ -8,6 +9,11 @@ ghost use Rattle.claim_check.specs.Measures.{BudgetsAreNoGreater, OwnMeasuresAre
 /// ones.
 pub fn claims_end_in_one_way()
     ensures { ClaimsEndInOneWay }
+{}
+
+/// The law of measures: each tape has measures, so what holds for all measures of a tape holds for some.
+pub fn tapes_have_measures()
+    ensures { TapesHaveMeasures }
 {}
 
 /// The law of settled graphs: each is within the measures of its tape, and within its own.

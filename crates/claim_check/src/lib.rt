@@ -14,6 +14,8 @@ mod settling;
 mod variables;
 
 pub use fault::ClaimFault;
-pub use law::{budgets_are_no_greater, claims_end_in_one_way, settled_graphs_are_within};
+pub use law::{
+    budgets_are_no_greater, claims_end_in_one_way, settled_graphs_are_within, tapes_have_measures,
+};
 pub use settled::Settled;
 pub use settling::settle;
