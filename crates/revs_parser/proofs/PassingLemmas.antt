@@ -11,7 +11,6 @@ use Rattle.revs_grammar.specs.Sentences.{Symbol, token, kept_token, opening_toke
 use Rattle.revs_grammar.specs.inside.Machine.{Stack, outcome}
 use Rattle.revs_grammar.proofs.LeadsLemmas.{leads-then, value-then}
 use Rattle.revs_parser.specs.declared.stop.Stop.{Stop}
-use Rattle.revs_parser.specs.declared.stop.Stop.TheVariants as stops
 use Rattle.revs_parser.specs.inside.Reading.{put, Passes, Reads, Skips, IsHalt, Halts, Heads}
 
 -- ---- results that are passed on
@@ -228,9 +227,6 @@ one_token {at} h a = record { passes = a; shorter = let l = ap length h.cut in o
 -- What the called function's halt says, the halt that is passed on says.
 pub stops_so : {T : Type 0} {stop : Stop} (Q : Stop → Type 0) (r : Result T Stop) → IsErrAnd r (λ e. e ≡ stop) → Q stop → IfErr r Q
 stops_so {T} {stop} Q r e q = let p = err_from_is_err_and r e in rw (p.1, p.2) q
-
-pub no_memory : (es : Stack) (ts : List Token) → Halts es ts stops.Memory
-no_memory es ts = record { halt = λ ms. tt }
 
 pub halts_first : {es : Stack} {ts : List Token} {stop : Stop} (fs : Stack) → Halts es ts stop → Halts (es ++ fs) ts stop
 halts_first {es} {ts} {stop} fs h = record {

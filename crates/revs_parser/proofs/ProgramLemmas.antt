@@ -13,7 +13,7 @@ use Rattle.revs_lexer.specs.declared.token.Tok.{Tok}
 use Rattle.revs_lexer.specs.declared.token.Tok.TheVariants as toks
 use Rattle.revs_lexer.specs.declared.token.Token.{Token}
 use Rattle.revs_lexer.specs.Tokens.{IsEnded}
-use Rattle.revs_grammar.specs.Forms.{any_name, any_number, word, sign, code, mark_code}
+use Rattle.revs_grammar.specs.Forms.{any_name, any_number, word, sign}
 use Rattle.revs_grammar.specs.Forms as g
 use Rattle.revs_grammar.specs.Sentences.{token, kept_token, form, Vals, at_start}
 use Rattle.revs_grammar.specs.Answers.{HasSentence, IsProgramOf, IsInputs}
@@ -34,21 +34,8 @@ use Rattle.revs_parser.specs.inside.Reading.{Reads, ReadsForm, IsHalt, Halts, Ha
 use Rattle.revs_parser.specs.inside.Forms.{ReadsParameters, ReadsProgram, PassesAt, IsRefusal}
 use Rattle.revs_parser.specs.Results.{IsAnswer, IsRefused}
 use Rattle.revs_parser.proofs.StepLemmas as m
-use Rattle.revs_parser.proofs.StepLemmas.{at_first, token_missing, no_sign, no_word}
 use Rattle.revs_parser.proofs.PassingLemmas.{append_nil, passes_then, beside, and_then, and_maybe, line_passes, halts_first, halts_there, halts_behind}
 use Rattle.revs_parser.proofs.ReadingLemmas.{a_sign, a_main, by_pieces, by_token, halts_by_pieces, left_out, Repeats, repeats_begun, repeats_more, repeats_done, repeats_halts}
-
--- ---- where a form cannot begin
-
-pub parameter_missing : (ts : List Token) → NotFirst (toks.Sign signs.OpenRound) ts → HaltsIn g.parameter 0 ts (stops.Syntax (length ts))
-parameter_missing ts h = record {
-  halt = λ ms. m.as_parameter ts ms ∙ token_missing (sign signs.OpenRound) ts (at_first ts h (λ t k. no_sign t signs.OpenRound k)) _;
-}
-
-pub main_missing : (ts : List Token) → NotFirst (toks.Word words.Main) ts → HaltsIn g.program 0 ts (stops.Syntax (length ts))
-main_missing ts h = record {
-  halt = λ ms. m.as_program ts ms ∙ token_missing (word words.Main) ts (at_first ts h (λ t k. no_word t words.Main k)) _;
-}
 
 -- ---- parameters
 

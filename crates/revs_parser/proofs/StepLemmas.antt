@@ -10,7 +10,7 @@ use Rattle.revs_lexer.specs.declared.token.Tok.{Tok}
 use Rattle.revs_lexer.specs.declared.token.Tok.TheVariants as toks
 use Rattle.revs_lexer.specs.declared.token.Token.{Token}
 use Rattle.std.proofs.lemmas.Bool.{and_parts}
-use Rattle.revs_grammar.specs.Forms.{Mark, any_name, any_number, word, sign, word_code, sign_code, code, mark_code, Form, Val, Depth, level, Piece, one, kept, opening, sub, here, plain, Production, IsOneOf}
+use Rattle.revs_grammar.specs.Forms.{Mark, any_name, word, sign, word_code, sign_code, code, mark_code, Form, Val, Depth, level, Piece, one, kept, opening, sub, here, plain, Production, IsOneOf}
 use Rattle.revs_grammar.specs.Forms as g
 use Rattle.revs_grammar.specs.Productions.{productions}
 use Rattle.revs_grammar.specs.Sentences.{token, kept_token, opening_token, form, symbols, any_level, few_levels}
@@ -92,18 +92,6 @@ module _ {k : Tok} {at : Place} {ts rest : List Token} (m : Mark) (same : code k
 
   pub opening_deepens : (l : ℕ) → few_levels l ≡ false → (ms : Stack) → outcome ts (opening_token m l ∷ ms) ≡ too_deep (length ts)
   opening_deepens l deep ms = let e = ap length h.cut in opening_at l false deep ms ∙ ap too_deep (omega (arith, e))
-
--- The machine halts where the token that it expects does not stand.
-pub token_missing : (m : Mark) (ts : List Token) → AtFirst (λ t. code t == mark_code m ≡ false) ts → (ms : Stack) → outcome ts (token m ∷ ms)
-    ≡ no_syntax (length ts)
-token_missing m [] h ms = refl
-token_missing m (t ∷ ts) h ms =
-    ap (λ (b : Bool). cond (is_end t.tok) (no_syntax (length ts + 1)) (at_token (cond b (Some ms) None) (cond b (Some ms) None) (length ts + 1) (outcome ts))) h
-    ∙ either (is_end t.tok) (no_syntax (length ts + 1)) ∙ ap no_syntax (omega arith)
-  where
-    either : {A : Type 0} (b : Bool) (x : A) → cond b x x ≡ x
-    either true x = refl
-    either false x = refl
 
 -- ---- a form and its line
 
