@@ -13,5 +13,4 @@ loop-at-init c = record { read = parts_begun c.new-parts.result.items c.args.tok
 
 pub returns-in_err-next-clause-halts : goal.returns-in_err-next-clause-halts
 returns-in_err-next-clause-halts c =
-    stops_so _ c.from_residual.result c.from_residual.ensures.1
-    (parts_halt c.loop-at.invariant.read c.in-Some.ensures.found c.in_err-next.ensures.halts)
+    stops_so _ _ c.from_residual.ensures.1 (parts_halt c.loop-at.invariant.read c.in-Some.ensures.found c.in_err-next.ensures.halts)

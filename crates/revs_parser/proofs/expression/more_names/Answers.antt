@@ -5,7 +5,7 @@ use Rattle.revs_parser.proofs.expression.more_names.Goals as goal
 
 pub returns-in_err-next-clause-halts : goal.returns-in_err-next-clause-halts
 returns-in_err-next-clause-halts c =
-    stops_so _ c.from_residual.result c.from_residual.ensures.1
+    stops_so _ _ c.from_residual.ensures.1
     (names_halt c.loop-rest.invariant.read (sym c.begins_name.ensures ∙ c.loop-rest-test.true) c.in_err-next.ensures.halts)
 
 pub loop-rest-preserved : goal.loop-rest-preserved

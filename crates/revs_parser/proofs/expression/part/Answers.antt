@@ -4,7 +4,7 @@ use Rattle.revs_parser.proofs.expression.part.Goals as goal
 
 pub returns-in_err-rest-2-clause-halts : goal.returns-in_err-rest-2-clause-halts
 returns-in_err-rest-2-clause-halts c =
-    stops_so _ c.from_residual-in_err-rest-2.result c.from_residual-in_err-rest-2.ensures.1
+    stops_so _ _ c.from_residual-in_err-rest-2.ensures.1
     (part_unclosed c.in_ok-rest.ensures.ok c.in_ok-i.ensures.ok c.in_default.ensures.none c.in_err-rest-2.ensures.halts)
 
 pub returns-in_default-clause-ok : goal.returns-in_default-clause-ok

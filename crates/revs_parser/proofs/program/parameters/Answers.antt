@@ -13,8 +13,7 @@ loop-params-preserved c = record {
 
 pub returns-in_err-next-clause-halts : goal.returns-in_err-next-clause-halts
 returns-in_err-next-clause-halts c =
-    stops_so _ c.from_residual.result c.from_residual.ensures.1
-    (parameters_halt c.loop-params.invariant.read c.in-Some.ensures.found c.in_err-next.ensures.halts)
+    stops_so _ _ c.from_residual.ensures.1 (parameters_halt c.loop-params.invariant.read c.in-Some.ensures.found c.in_err-next.ensures.halts)
 
 pub returns-clause-ok : goal.returns-clause-ok
 returns-clause-ok c = parameters_done c.loop-params.invariant.read c.in_default.ensures.none

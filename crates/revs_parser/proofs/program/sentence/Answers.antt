@@ -4,21 +4,21 @@ use Rattle.revs_parser.proofs.program.sentence.Goals as goal
 
 pub returns-in_err-first-clause-halts : goal.returns-in_err-first-clause-halts
 returns-in_err-first-clause-halts c =
-    stops_so _ c.from_residual.result c.from_residual.ensures.1 (sentence_halts c.in-Some.ensures.found (in_first c.in_err-first.ensures.halts))
+    stops_so _ _ c.from_residual.ensures.1 (sentence_halts c.in-Some.ensures.found (in_first c.in_err-first.ensures.halts))
 
 pub returns-in_err-params-clause-halts : goal.returns-in_err-params-clause-halts
 returns-in_err-params-clause-halts c =
-    stops_so _ c.from_residual-in_err-params.result c.from_residual-in_err-params.ensures.1
+    stops_so _ _ c.from_residual-in_err-params.ensures.1
     (sentence_halts c.in-Some.ensures.found (in_parameters c.in_ok-first.ensures.ok c.in_err-params.ensures.halts))
 
 pub returns-in_err-rest-clause-halts : goal.returns-in_err-rest-clause-halts
 returns-in_err-rest-clause-halts c =
-    stops_so _ c.from_residual-in_err-rest.result c.from_residual-in_err-rest.ensures.1
+    stops_so _ _ c.from_residual-in_err-rest.ensures.1
     (sentence_halts c.in-Some.ensures.found (no_equal c.in_ok-first.ensures.ok c.in_ok-params.ensures.ok c.in_err-rest.ensures.halts))
 
 pub returns-in_err-body-clause-halts : goal.returns-in_err-body-clause-halts
 returns-in_err-body-clause-halts c =
-    stops_so _ c.from_residual-in_err-body.result c.from_residual-in_err-body.ensures.1
+    stops_so _ _ c.from_residual-in_err-body.ensures.1
     (sentence_halts c.in-Some.ensures.found (in_body c.in_ok-first.ensures.ok c.in_ok-params.ensures.ok c.in_ok-rest.ensures.ok c.in_err-body.ensures.halts))
 
 pub returns-clause-ok : goal.returns-clause-ok

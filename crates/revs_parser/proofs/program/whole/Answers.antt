@@ -5,8 +5,7 @@ use Rattle.revs_parser.proofs.program.whole.Goals as goal
 
 pub returns-in_err-params-clause-refused : goal.returns-in_err-params-clause-refused
 returns-in_err-params-clause-refused c =
-    stops_so _ c.from_residual.result c.from_residual.ensures.1
-    (halt_is_right c.args.tokens.now c.in_err-params.field-0.0 c.requires c.in_err-params.ensures.halts)
+    stops_so _ _ c.from_residual.ensures.1 (halt_is_right c.args.tokens.now c.in_err-params.field-0.0 c.requires c.in_err-params.ensures.halts)
 
 pub returns-then-not-ends-clause-refused : goal.returns-then-not-ends-clause-refused
 returns-then-not-ends-clause-refused c =

@@ -4,7 +4,7 @@ use Rattle.revs_parser.proofs.program.width.Goals as goal
 
 pub returns-in_err-rest-clause-halts : goal.returns-in_err-rest-clause-halts
 returns-in_err-rest-clause-halts c =
-    stops_so _ c.from_residual.result c.from_residual.ensures.1 (width_unclosed c.in_default.ensures.none c.in_err-rest.ensures.halts)
+    stops_so _ _ c.from_residual.ensures.1 (width_unclosed c.in_default.ensures.none c.in_err-rest.ensures.halts)
 
 pub returns-clause-ok : goal.returns-clause-ok
 returns-clause-ok c = some_width c.in-Some.ensures.found c.in_ok-bits.ensures.ok c.in_ok-rest-2.ensures.ok c.in_ok-rest-3.ensures.ok
