@@ -35,7 +35,7 @@ use Rattle.revs_parser.specs.inside.Forms.{ReadsParameters, ReadsProgram, Passes
 use Rattle.revs_parser.specs.Results.{IsAnswer, IsRefused}
 use Rattle.revs_parser.proofs.StepLemmas as m
 use Rattle.revs_parser.proofs.PassingLemmas.{append_nil, passes_then, beside, and_then, and_maybe, line_passes, halts_first, halts_there, halts_behind}
-use Rattle.revs_parser.proofs.ReadingLemmas.{a_sign, a_main, by_pieces, by_token, halts_by_pieces, left_out, Repeats, repeats_begun, repeats_more, repeats_done, repeats_halts}
+use Rattle.revs_parser.proofs.ReadingLemmas.{a_sign, bare_word, by_pieces, by_token, halts_by_pieces, left_out, Repeats, repeats_begun, repeats_more, repeats_done, repeats_halts}
 
 -- ---- parameters
 
@@ -109,7 +109,7 @@ after_main = form g.parameter 0 ∷ form g.parameters 0 ∷ token (sign signs.Eq
 
 pub sentence_halts : {at : Place} {ts a : List Token} {stop : Stop} → Heads (toks.Word words.Main) at ts a → Halts after_main a stop
     → HaltsIn g.program 0 ts stop
-sentence_halts {at} {ts} h k = halts_by_pieces g.program 0 _ (inl refl) (m.as_program ts) (halts_behind after_main (a_main h) k)
+sentence_halts {at} {ts} h k = halts_by_pieces g.program 0 _ (inl refl) (m.as_program ts) (halts_behind after_main (bare_word h) k)
 
 pub in_first : {a : List Token} {stop : Stop} → HaltsIn g.parameter 0 a stop → Halts after_main a stop
 in_first k = halts_first (form g.parameters 0 ∷ token (sign signs.Equal) ∷ form g.expression 1 ∷ []) k
@@ -132,7 +132,7 @@ pub a_sentence : {p : Param} {before all : List Param} {body : Tree} {at : Place
 a_sentence {p} {before} {all} {body} {at} {ts} {a} {b} {c} {d} {rest} h q e n k x =
     let params : all ≡ p ∷ n.more = n.all_params ∙ ap (λ (z : List Param). z ++ n.more) e in
     subst (λ (z : List Param). ReadsProgram z body ts rest) (sym params)
-    (by_pieces g.program 0 _ (inl refl) (m.as_program ts) (and_then (a_main h) (and_then (and_then (and_maybe q n.skips) k) x)))
+    (by_pieces g.program 0 _ (inl refl) (m.as_program ts) (and_then (bare_word h) (and_then (and_then (and_maybe q n.skips) k) x)))
 
 -- ---- the end
 

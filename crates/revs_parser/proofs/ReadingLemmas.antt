@@ -32,20 +32,16 @@ use Rattle.revs_parser.proofs.StepLemmas.{by_first, token_goes, kept_goes, openi
 
 -- ---- single tokens
 
+-- a code is itself
+same_code : (n : ℕ) → n == n ≡ true
+same_code n = grind (arith, nat_tests)
+
 pub a_sign : {k : Sign} {at : Place} {ts rest : List Token} → Heads (toks.Sign k) at ts rest → Reads (token (sign k) ∷ []) tt ts rest
-a_sign {k} h = one_token h (token_passes (sign k) refl h (token_goes (sign k) (same (18 + g.sign_code k)) refl h))
-  where
-    same : (n : ℕ) → n == n ≡ true
-    same n = grind (arith, nat_tests)
+a_sign {k} h = one_token h (token_passes (sign k) refl h (token_goes (sign k) (same_code (18 + g.sign_code k)) refl h))
 
-pub a_bool : {at : Place} {ts rest : List Token} → Heads (toks.Word words.Bool) at ts rest → Reads (token (word words.Bool) ∷ []) tt ts rest
-a_bool h = one_token h (token_passes (word words.Bool) refl h (token_goes (word words.Bool) refl refl h))
-
-pub a_main : {at : Place} {ts rest : List Token} → Heads (toks.Word words.Main) at ts rest → Reads (token (word words.Main) ∷ []) tt ts rest
-a_main h = one_token h (token_passes (word words.Main) refl h (token_goes (word words.Main) refl refl h))
-
-pub a_let : {at : Place} {ts rest : List Token} → Heads (toks.Word words.Let) at ts rest → Reads (token (word words.Let) ∷ []) tt ts rest
-a_let h = one_token h (token_passes (word words.Let) refl h (token_goes (word words.Let) refl refl h))
+-- a word that stands for nothing
+pub bare_word : {w : Word} {at : Place} {ts rest : List Token} → Heads (toks.Word w) at ts rest → Reads (token (word w) ∷ []) tt ts rest
+bare_word {w} h = one_token h (token_passes (word w) refl h (token_goes (word w) (same_code (3 + g.word_code w)) refl h))
 
 pub a_number : {n : ℕ} {at : Place} {ts rest : List Token} → Heads (toks.Number n) at ts rest → Reads (kept_token any_number ∷ []) (n, tt) ts rest
 a_number h = one_token h (kept_passes any_number refl h (kept_goes any_number refl refl h))
@@ -56,10 +52,7 @@ a_name h = one_token h (kept_passes any_name refl h (kept_goes any_name refl ref
 
 -- a word that counts, whose kind is known
 a_word : (w : Word) {at : Place} {ts rest : List Token} → Heads (toks.Word w) at ts rest → Reads (kept_token (word w) ∷ []) (at, tt) ts rest
-a_word w h = one_token h (kept_passes (word w) refl h (kept_goes (word w) (same (3 + g.word_code w)) refl h))
-  where
-    same : (n : ℕ) → n == n ≡ true
-    same n = grind (arith, nat_tests)
+a_word w h = one_token h (kept_passes (word w) refl h (kept_goes (word w) (same_code (3 + g.word_code w)) refl h))
 
 -- a token that opens an allowed level
 opened : {k : Tok} {at : Place} {ts rest : List Token} (m : Mark) (l : ℕ) → few_levels l ≡ true → Heads k at ts rest
@@ -786,7 +779,7 @@ item_let l {item} {at} {ts} {mid} {rest} h r =
     })
   where
     whole : Reads (token (word words.Let) ∷ in_binding l) (r.bound, (r.more, (r.inner, tt))) ts rest
-    whole = and_then (a_let h) r.reads
+    whole = and_then (bare_word h) r.reads
 
 pub item_do : (l : ℕ) {item : ItemTree} {t : Tree} {at : Place} {ts mid rest : List Token} → NotFirst (toks.Word words.Let) ts
     → ReadsForm g.expression l t ts mid
@@ -817,7 +810,7 @@ module _ (l : ℕ) {ts : List Token} (k : NotFirst (toks.Word words.Let) ts) whe
 pub let_halts : (l : ℕ) {at : Place} {ts mid : List Token} {stop : Stop} → Heads (toks.Word words.Let) at ts mid → Halts (in_binding l) mid stop
     → HaltsIn g.body l ts stop
 let_halts l h k =
-    halts_by_token g.body l _ (inl refl) h refl refl refl (halts_first (form g.body l ∷ []) (halts_behind (in_binding l) (a_let h) k))
+    halts_by_token g.body l _ (inl refl) h refl refl refl (halts_first (form g.body l ∷ []) (halts_behind (in_binding l) (bare_word h) k))
 
 -- ---- what stands behind the first thing that a function expects
 

@@ -1,5 +1,5 @@
-use Rattle.revs_parser.proofs.ReadingLemmas.{a_bool}
+use Rattle.revs_parser.proofs.ReadingLemmas.{bare_word}
 use Rattle.revs_parser.proofs.leaf.bool_word.Goals as goal
 
 pub returns-in-Some-clause-ok : goal.returns-in-Some-clause-ok
-returns-in-Some-clause-ok c = a_bool c.in-Some.ensures.found
+returns-in-Some-clause-ok c = bare_word c.in-Some.ensures.found
