@@ -101,9 +101,9 @@ skips a = record { passes = a }
 -- ---- expressions
 
 module _ (l : ℕ) {at : Place} {ts mid : List Token} (h : Heads (toks.Word words.Fun) at ts mid) where
-  pub expression_function : {t : Tree} {rest : List Token} (inner : ℕ) → inner ≡ l + 1 → few_levels (l + 1) ≡ true → ReadsFunction inner at t mid rest
+  pub expression_function : {t : Tree} {rest : List Token} {inner : ℕ} → inner ≡ l + 1 → few_levels (l + 1) ≡ true → ReadsFunction inner at t mid rest
       → ReadsForm g.expression l t ts rest
-  expression_function {t} {rest} inner e ok r =
+  expression_function {t} {rest} e ok r =
       let r' : ReadsFunction (l + 1) at t mid rest = subst (λ (z : ℕ). ReadsFunction z at t mid rest) e r in
       subst (λ (z : Tree). ReadsForm g.expression l z ts rest) (sym r'.is)
       (by_token g.expression l _ (inl refl) h refl refl refl (and_then (opened (word words.Fun) (l + 1) ok h refl refl refl) r'.reads))
@@ -112,9 +112,9 @@ module _ (l : ℕ) {at : Place} {ts mid : List Token} (h : Heads (toks.Word word
   expression_no_level deep stop e =
       halts_by_token g.expression l _ (inl refl) h refl refl refl (opens_too_many (word words.Fun) (l + 1) (in_function (l + 1)) deep h refl refl stop e)
 
-  pub expression_in_function : {stop : Stop} (inner : ℕ) → inner ≡ l + 1 → few_levels (l + 1) ≡ true → Halts (in_function inner) mid stop
+  pub expression_in_function : {stop : Stop} {inner : ℕ} → inner ≡ l + 1 → few_levels (l + 1) ≡ true → Halts (in_function inner) mid stop
       → HaltsIn g.expression l ts stop
-  expression_in_function {stop} inner e ok r =
+  expression_in_function {stop} e ok r =
       halts_by_token g.expression l _ (inl refl) h refl refl refl
       (halts_behind (in_function (l + 1)) (opened (word words.Fun) (l + 1) ok h refl refl refl) (subst (λ (z : ℕ). Halts (in_function z) mid stop) e r))
 
@@ -699,9 +699,9 @@ base_no_use l {ts} u h = halts_there (form g.base l ∷ []) (kept_token any_name
 
 -- a base that opens a level, with the level inside
 module _ (l : ℕ) {at : Place} {ts mid : List Token} (h : Heads (toks.Word words.Reg) at ts mid) where
-  pub base_register : (inner : ℕ) → inner ≡ l + 1 → {t : Tree} {rest : List Token} → few_levels (l + 1) ≡ true → ReadsRegister inner at t mid rest
+  pub base_register : {inner : ℕ} → inner ≡ l + 1 → {t : Tree} {rest : List Token} → few_levels (l + 1) ≡ true → ReadsRegister inner at t mid rest
       → ReadsForm g.base l t ts rest
-  base_register inner e {t} {rest} ok r =
+  base_register e {t} {rest} ok r =
       let r' : ReadsRegister (l + 1) at t mid rest = subst (λ (z : ℕ). ReadsRegister z at t mid rest) e r in
       subst (λ (z : Tree). ReadsForm g.base l z ts rest) (sym r'.is)
       (by_token g.base l _ (inr (inr (inr (inl refl)))) h refl refl refl (and_then (opened (word words.Reg) (l + 1) ok h refl refl refl) r'.reads))
@@ -711,9 +711,9 @@ module _ (l : ℕ) {at : Place} {ts mid : List Token} (h : Heads (toks.Word word
       halts_by_token g.base l _ (inr (inr (inr (inl refl)))) h refl refl refl
       (opens_too_many (word words.Reg) (l + 1) (in_register (l + 1)) deep h refl refl stop e)
 
-  pub in_register_halts : (inner : ℕ) → inner ≡ l + 1 → {stop : Stop} → few_levels (l + 1) ≡ true → Halts (in_register inner) mid stop
+  pub in_register_halts : {inner : ℕ} → inner ≡ l + 1 → {stop : Stop} → few_levels (l + 1) ≡ true → Halts (in_register inner) mid stop
       → HaltsIn g.base l ts stop
-  in_register_halts inner e {stop} ok k =
+  in_register_halts e {stop} ok k =
       halts_by_token g.base l _ (inr (inr (inr (inl refl)))) h refl refl refl
       (halts_behind (in_register (l + 1)) (opened (word words.Reg) (l + 1) ok h refl refl refl) (subst (λ (z : ℕ). Halts (in_register z) mid stop) e k))
 
@@ -722,9 +722,9 @@ abbrev in_bracket : ℕ → Stack
 in_bracket l = form g.expression l ∷ token (sign signs.CloseRound) ∷ []
 
 module _ (l : ℕ) {at : Place} {ts mid : List Token} (h : Heads (toks.Sign signs.OpenRound) at ts mid) where
-  pub base_bracket : (inner : ℕ) → inner ≡ l + 1 → {t : Tree} {a rest : List Token} → few_levels (l + 1) ≡ true → ReadsForm g.expression inner t mid a
+  pub base_bracket : {inner : ℕ} → inner ≡ l + 1 → {t : Tree} {a rest : List Token} → few_levels (l + 1) ≡ true → ReadsForm g.expression inner t mid a
       → Reads (token (sign signs.CloseRound) ∷ []) tt a rest → ReadsForm g.base l t ts rest
-  base_bracket inner e {t} {a} {rest} ok r q =
+  base_bracket e {t} {a} {rest} ok r q =
       let r' : ReadsForm g.expression (l + 1) t mid a = subst (λ (z : ℕ). ReadsForm g.expression z t mid a) e r in
       by_token g.base l _ (inr (inr (inr (inr (inl refl))))) h refl refl refl
       (and_then (opened (sign signs.OpenRound) (l + 1) ok h refl refl refl) (and_then r' q))
@@ -739,20 +739,20 @@ module _ (l : ℕ) {at : Place} {ts mid : List Token} (h : Heads (toks.Sign sign
       halts_by_token g.base l _ (inr (inr (inr (inr (inl refl))))) h refl refl refl
       (halts_behind (in_bracket (l + 1)) (opened (sign signs.OpenRound) (l + 1) ok h refl refl refl) k)
 
-  pub in_bracket_halts : (inner : ℕ) → inner ≡ l + 1 → {stop : Stop} → few_levels (l + 1) ≡ true → HaltsIn g.expression inner mid stop
+  pub in_bracket_halts : {inner : ℕ} → inner ≡ l + 1 → {stop : Stop} → few_levels (l + 1) ≡ true → HaltsIn g.expression inner mid stop
       → HaltsIn g.base l ts stop
-  in_bracket_halts inner e {stop} ok k =
+  in_bracket_halts e {stop} ok k =
       inside_halts ok (halts_first (token (sign signs.CloseRound) ∷ []) (subst (λ (z : ℕ). HaltsIn g.expression z mid stop) e k))
 
-  pub bracket_unclosed : (inner : ℕ) → inner ≡ l + 1 → {t : Tree} {a : List Token} {stop : Stop} → few_levels (l + 1) ≡ true
+  pub bracket_unclosed : {inner : ℕ} → inner ≡ l + 1 → {t : Tree} {a : List Token} {stop : Stop} → few_levels (l + 1) ≡ true
       → ReadsForm g.expression inner t mid a → Halts (token (sign signs.CloseRound) ∷ []) a stop → HaltsIn g.base l ts stop
-  bracket_unclosed inner e {t} {a} ok r k =
+  bracket_unclosed e {t} {a} ok r k =
       inside_halts ok (halts_behind (token (sign signs.CloseRound) ∷ []) (subst (λ (z : ℕ). ReadsForm g.expression z t mid a) e r) k)
 
 module _ (l : ℕ) {at : Place} {ts mid : List Token} (h : Heads (toks.Sign signs.OpenCurly) at ts mid) where
-  pub base_block : (inner : ℕ) → inner ≡ l + 1 → {t : Tree} {rest : List Token} → few_levels (l + 1) ≡ true → ReadsBlock inner at t mid rest
+  pub base_block : {inner : ℕ} → inner ≡ l + 1 → {t : Tree} {rest : List Token} → few_levels (l + 1) ≡ true → ReadsBlock inner at t mid rest
       → ReadsForm g.base l t ts rest
-  base_block inner e {t} {rest} ok r =
+  base_block e {t} {rest} ok r =
       let r' : ReadsBlock (l + 1) at t mid rest = subst (λ (z : ℕ). ReadsBlock z at t mid rest) e r in
       subst (λ (z : Tree). ReadsForm g.base l z ts rest) (sym r'.is)
       (by_token g.base l _ (inr (inr (inr (inr (inr (inl refl)))))) h refl refl refl
@@ -763,8 +763,8 @@ module _ (l : ℕ) {at : Place} {ts mid : List Token} (h : Heads (toks.Sign sign
       halts_by_token g.base l _ (inr (inr (inr (inr (inr (inl refl)))))) h refl refl refl
       (opens_too_many (sign signs.OpenCurly) (l + 1) (form g.body (l + 1) ∷ []) deep h refl refl stop e)
 
-  pub in_block_halts : (inner : ℕ) → inner ≡ l + 1 → {stop : Stop} → few_levels (l + 1) ≡ true → HaltsIn g.body inner mid stop → HaltsIn g.base l ts stop
-  in_block_halts inner e {stop} ok k =
+  pub in_block_halts : {inner : ℕ} → inner ≡ l + 1 → {stop : Stop} → few_levels (l + 1) ≡ true → HaltsIn g.body inner mid stop → HaltsIn g.base l ts stop
+  in_block_halts e {stop} ok k =
       halts_by_token g.base l _ (inr (inr (inr (inr (inr (inl refl)))))) h refl refl refl
       (halts_behind (form g.body (l + 1) ∷ []) (opened (sign signs.OpenCurly) (l + 1) ok h refl refl refl) (subst (λ (z : ℕ). HaltsIn g.body z mid stop) e k))
 

@@ -20,12 +20,12 @@ expression-returns-in_err-inner-clause-halts t c =
 
 pub expression-returns-in-Some-clause-ok : goal.expression-returns-in-Some-clause-ok
 expression-returns-in-Some-clause-ok t c = on_ok c.function.result
-    (λ x. r.expression_function c.args.level c.in-Some.ensures.found c.in_ok-inner.inner c.in_ok-inner.ensures.inner c.in_ok-inner.ensures.within)
+    (λ x. r.expression_function c.args.level c.in-Some.ensures.found c.in_ok-inner.ensures.inner c.in_ok-inner.ensures.within)
     c.function.ensures.ok
 
 pub expression-returns-in-Some-clause-halts : goal.expression-returns-in-Some-clause-halts
 expression-returns-in-Some-clause-halts t c = on_err c.function.result
-    (λ x. r.expression_in_function c.args.level c.in-Some.ensures.found c.in_ok-inner.inner c.in_ok-inner.ensures.inner c.in_ok-inner.ensures.within)
+    (λ x. r.expression_in_function c.args.level c.in-Some.ensures.found c.in_ok-inner.ensures.inner c.in_ok-inner.ensures.within)
     c.function.ensures.halts
 
 pub expression-returns-in_err-left-clause-halts : goal.expression-returns-in_err-left-clause-halts
@@ -281,12 +281,12 @@ base-returns-in_err-inner-clause-halts t c =
 
 pub base-returns-in-Some-after_word-2-clause-ok : goal.base-returns-in-Some-after_word-2-clause-ok
 base-returns-in-Some-after_word-2-clause-ok t c = on_ok c.register.result
-    (λ x. r.base_register c.args.level c.in-Some-after_word-2.ensures.found c.in_ok-inner.inner c.in_ok-inner.ensures.inner c.in_ok-inner.ensures.within)
+    (λ x. r.base_register c.args.level c.in-Some-after_word-2.ensures.found c.in_ok-inner.ensures.inner c.in_ok-inner.ensures.within)
     c.register.ensures.ok
 
 pub base-returns-in-Some-after_word-2-clause-halts : goal.base-returns-in-Some-after_word-2-clause-halts
 base-returns-in-Some-after_word-2-clause-halts t c = on_err c.register.result
-    (λ x. r.in_register_halts c.args.level c.in-Some-after_word-2.ensures.found c.in_ok-inner.inner c.in_ok-inner.ensures.inner c.in_ok-inner.ensures.within)
+    (λ x. r.in_register_halts c.args.level c.in-Some-after_word-2.ensures.found c.in_ok-inner.ensures.inner c.in_ok-inner.ensures.within)
     c.register.ensures.halts
 
 pub base-returns-in_err-inner-2-clause-halts : goal.base-returns-in_err-inner-2-clause-halts
@@ -297,17 +297,17 @@ base-returns-in_err-inner-2-clause-halts t c =
 pub base-returns-in_err-term-clause-halts : goal.base-returns-in_err-term-clause-halts
 base-returns-in_err-term-clause-halts t c =
     stops_so _ _ c.from_residual-in_err-term.ensures.1
-    (r.in_bracket_halts c.args.level c.in-Some-after.ensures.found c.in_ok-inner-2.inner c.in_ok-inner-2.ensures.inner
+    (r.in_bracket_halts c.args.level c.in-Some-after.ensures.found c.in_ok-inner-2.ensures.inner
     c.in_ok-inner-2.ensures.within c.in_err-term.ensures.halts)
 
 pub base-returns-in_err-rest-clause-halts : goal.base-returns-in_err-rest-clause-halts
 base-returns-in_err-rest-clause-halts t c =
     stops_so _ _ c.from_residual-in_err-rest.ensures.1
-    (r.bracket_unclosed c.args.level c.in-Some-after.ensures.found c.in_ok-inner-2.inner c.in_ok-inner-2.ensures.inner
+    (r.bracket_unclosed c.args.level c.in-Some-after.ensures.found c.in_ok-inner-2.ensures.inner
     c.in_ok-inner-2.ensures.within c.in_ok-term.ensures.ok c.in_err-rest.ensures.halts)
 
 pub base-returns-in-Some-after-clause-ok : goal.base-returns-in-Some-after-clause-ok
-base-returns-in-Some-after-clause-ok t c = r.base_bracket c.args.level c.in-Some-after.ensures.found c.in_ok-inner-2.inner c.in_ok-inner-2.ensures.inner
+base-returns-in-Some-after-clause-ok t c = r.base_bracket c.args.level c.in-Some-after.ensures.found c.in_ok-inner-2.ensures.inner
     c.in_ok-inner-2.ensures.within c.in_ok-term.ensures.ok c.in_ok-rest.ensures.ok
 
 pub base-returns-in_err-inner-3-clause-halts : goal.base-returns-in_err-inner-3-clause-halts
@@ -317,12 +317,12 @@ base-returns-in_err-inner-3-clause-halts t c =
 
 pub base-returns-in-Some-after-2-clause-ok : goal.base-returns-in-Some-after-2-clause-ok
 base-returns-in-Some-after-2-clause-ok t c = on_ok c.block.result
-    (λ x. r.base_block c.args.level c.in-Some-after-2.ensures.found c.in_ok-inner-3.inner c.in_ok-inner-3.ensures.inner c.in_ok-inner-3.ensures.within)
+    (λ x. r.base_block c.args.level c.in-Some-after-2.ensures.found c.in_ok-inner-3.ensures.inner c.in_ok-inner-3.ensures.within)
     c.block.ensures.ok
 
 pub base-returns-in-Some-after-2-clause-halts : goal.base-returns-in-Some-after-2-clause-halts
 base-returns-in-Some-after-2-clause-halts t c = on_err c.block.result
-    (λ x. r.in_block_halts c.args.level c.in-Some-after-2.ensures.found c.in_ok-inner-3.inner c.in_ok-inner-3.ensures.inner c.in_ok-inner-3.ensures.within)
+    (λ x. r.in_block_halts c.args.level c.in-Some-after-2.ensures.found c.in_ok-inner-3.ensures.inner c.in_ok-inner-3.ensures.within)
     c.block.ensures.halts
 
 pub base-returns-in_err-used-clause-halts : goal.base-returns-in_err-used-clause-halts
