@@ -5,13 +5,13 @@ use Rattle.std.proofs.lemmas.Result.{err_from_is_err_and}
 use Rattle.revc_base.specs.declared.place.Place.{Place}
 use Rattle.revs_lexer.specs.declared.token.Tok.{Tok}
 use Rattle.revs_lexer.specs.declared.token.Token.{Token}
-use Rattle.revs_grammar.specs.Forms.{Mark, Held, held, code, mark_code, Form, Val, Production, IsOneOf}
+use Rattle.revs_grammar.specs.Forms.{Mark, held, code, mark_code, Form, Val, Production, IsOneOf}
 use Rattle.revs_grammar.specs.Productions.{productions}
 use Rattle.revs_grammar.specs.Sentences.{Symbol, token, kept_token, opening_token, form, symbols, Leads, done, read, keep, open_level, by_line, Vals, front_of, behind_of, fill, value, few_levels}
 use Rattle.revs_grammar.specs.inside.Machine.{Stack, outcome}
 use Rattle.revs_grammar.proofs.LeadsLemmas.{leads-then, value-then}
 use Rattle.revs_parser.specs.declared.stop.Stop.{Stop}
-use Rattle.revs_parser.specs.inside.Reading.{put, Passes, Reads, Skips, IsHalt, Halts, Heads}
+use Rattle.revs_parser.specs.inside.Reading.{put, Passes, Reads, Skips, Halts, Heads}
 
 -- ---- results that are passed on
 
@@ -36,9 +36,9 @@ append_nil (x ∷ xs) = ap (λ z. x ∷ z) (append_nil xs)
 pub front_of-put : (ss ns : Stack) (vs : Vals ss) (ws : Vals ns) → front_of ss ns (put ss ns vs ws) ≡ vs
 front_of-put [] ns vs ws = refl
 front_of-put (token m ∷ ss) ns vs ws = front_of-put ss ns vs ws
-front_of-put (kept_token m ∷ ss) ns vs ws = ap (λ (z : Vals ss). let v : Held m × Vals ss = (vs.0, z) in v) (front_of-put ss ns vs.1 ws)
-front_of-put (opening_token m l ∷ ss) ns vs ws = ap (λ (z : Vals ss). let v : Held m × Vals ss = (vs.0, z) in v) (front_of-put ss ns vs.1 ws)
-front_of-put (form f l ∷ ss) ns vs ws = ap (λ (z : Vals ss). let v : Val f × Vals ss = (vs.0, z) in v) (front_of-put ss ns vs.1 ws)
+front_of-put (kept_token m ∷ ss) ns vs ws = rw (front_of-put ss ns vs.1 ws)
+front_of-put (opening_token m l ∷ ss) ns vs ws = rw (front_of-put ss ns vs.1 ws)
+front_of-put (form f l ∷ ss) ns vs ws = rw (front_of-put ss ns vs.1 ws)
 
 pub behind_of-put : (ss ns : Stack) (vs : Vals ss) (ws : Vals ns) → behind_of ss ns (put ss ns vs ws) ≡ ws
 behind_of-put [] ns vs ws = refl
@@ -81,12 +81,9 @@ regrouped-put : (ss ks ms : Stack) (vs : Vals ss) (us : Vals ks) (ws : Vals ms)
     → regrouped ss ks ms (put ss (ks ++ ms) vs (put ks ms us ws)) ≡ put (ss ++ ks) ms (put ss ks vs us) ws
 regrouped-put [] ks ms vs us ws = refl
 regrouped-put (token m ∷ ss) ks ms vs us ws = regrouped-put ss ks ms vs us ws
-regrouped-put (kept_token m ∷ ss) ks ms vs us ws =
-    ap (λ (z : Vals ((ss ++ ks) ++ ms)). let v : Held m × Vals ((ss ++ ks) ++ ms) = (vs.0, z) in v) (regrouped-put ss ks ms vs.1 us ws)
-regrouped-put (opening_token m l ∷ ss) ks ms vs us ws =
-    ap (λ (z : Vals ((ss ++ ks) ++ ms)). let v : Held m × Vals ((ss ++ ks) ++ ms) = (vs.0, z) in v) (regrouped-put ss ks ms vs.1 us ws)
-regrouped-put (form f l ∷ ss) ks ms vs us ws =
-    ap (λ (z : Vals ((ss ++ ks) ++ ms)). let v : Val f × Vals ((ss ++ ks) ++ ms) = (vs.0, z) in v) (regrouped-put ss ks ms vs.1 us ws)
+regrouped-put (kept_token m ∷ ss) ks ms vs us ws = rw (regrouped-put ss ks ms vs.1 us ws)
+regrouped-put (opening_token m l ∷ ss) ks ms vs us ws = rw (regrouped-put ss ks ms vs.1 us ws)
+regrouped-put (form f l ∷ ss) ks ms vs us ws = rw (regrouped-put ss ks ms vs.1 us ws)
 
 -- A reading that stands for so much.
 record Reading (front : List Token) (left zs : Stack) (turn : Vals left → Vals zs) : Type 0 where
@@ -106,7 +103,7 @@ stays es ts = record { goes_on = λ ms. refl; front = []; cut = refl; leads = λ
 pub passes_then : {es fs gs : Stack} {f : Vals fs → Vals es} {g : Vals gs → Vals fs} {ts mid rest : List Token} → Passes es fs f ts mid
     → Passes fs gs g mid rest
     → Passes es gs (λ us. f (g us)) ts rest
-passes_then {es} {fs} {gs} {f} {g} {ts} {mid} {rest} a b = record {
+passes_then {gs} {g} {rest} a b = record {
   goes_on = λ ms. a.goes_on ms ∙ b.goes_on ms;
   front = a.front ++ b.front;
   cut = a.cut ∙ ap (λ (z : List Token). a.front ++ z) b.cut ∙ sym (append_assoc a.front b.front rest);
@@ -118,18 +115,18 @@ passes_then {es} {fs} {gs} {f} {g} {ts} {mid} {rest} a b = record {
 -- the same where it turns out otherwise
 pub turned : {es fs : Stack} {f : Vals fs → Vals es} (g : Vals fs → Vals es) {ts rest : List Token} → ((us : Vals fs) → f us ≡ g us)
     → Passes es fs f ts rest → Passes es fs g ts rest
-turned {es} {fs} {f} g e a = record {
+turned g e a = record {
   goes_on = a.goes_on;
   front = a.front;
   cut = a.cut;
   leads = a.leads;
-  stands_for = λ ms us ws. a.stands_for ms us ws ∙ ap (λ (z : Vals es). put es ms z ws) (e us);
+  stands_for = λ ms us ws. a.stands_for ms us ws ∙ rw (e us);
 }
 
 -- in front of other symbols
 pub beside : {es : Stack} {vs : Vals es} {ts rest : List Token} (ks : Stack) → Passes es [] (λ _. vs) ts rest
     → Passes (es ++ ks) ks (λ us. put es ks vs us) ts rest
-beside {es} {vs} {ts} {rest} ks a = record {
+beside {es} {vs} {ts} ks a = record {
   goes_on = λ ms. ap (outcome ts) (append_assoc es ks ms) ∙ a.goes_on (ks ++ ms);
   front = a.front;
   cut = a.cut;
@@ -156,12 +153,12 @@ passes_reads a r = record { passes = passes_then a r.passes; shorter = let x = n
 -- One reading behind the other.
 pub and_then : {es fs : Stack} {vs : Vals es} {us : Vals fs} {ts mid rest : List Token} → Reads es vs ts mid → Reads fs us mid rest
     → Reads (es ++ fs) (put es fs vs us) ts rest
-and_then {es} {fs} a b = passes_reads (beside fs a.passes) b
+and_then {fs} a b = passes_reads (beside fs a.passes) b
 
 -- A reading, and then one of a form that may be left out.
 pub and_maybe : {es fs : Stack} {vs : Vals es} {us : Vals fs} {ts mid rest : List Token} → Reads es vs ts mid → Skips fs us mid rest
     → Reads (es ++ fs) (put es fs vs us) ts rest
-and_maybe {es} {fs} a b = record {
+and_maybe {fs} a b = record {
   passes = passes_then (beside fs a.passes) b.passes;
   shorter = let x = a.shorter in let y = no_longer b.passes in omega (arith, x, y);
 }
@@ -172,16 +169,12 @@ and_maybe {es} {fs} a b = record {
 pub line_passes : (f : Form) (l : ℕ) {ts : List Token} (p : Production (Val f)) → IsOneOf p (productions f)
     → ((ms : Stack) → outcome ts (form f l ∷ ms) ≡ outcome ts (symbols l p.pieces ++ ms))
     → Passes (form f l ∷ []) (symbols l p.pieces) (λ vs. (fill l p.pieces p.build vs, tt)) ts ts
-line_passes f l {ts} p i m = record {
+line_passes f l p i m = record {
   goes_on = m;
   front = [];
   cut = refl;
   leads = λ ms. by_line p i done;
-  stands_for = λ ms us ws.
-      ap (λ (z : Vals (symbols l p.pieces)). let v : Val f
-      × Vals ms = (fill l p.pieces p.build z, behind_of (symbols l p.pieces) ms (put (symbols l p.pieces) ms us ws)) in v)
-      (front_of-put (symbols l p.pieces) ms us ws)
-      ∙ ap (λ (z : Vals ms). let v : Val f × Vals ms = (fill l p.pieces p.build us, z) in v) (behind_of-put (symbols l p.pieces) ms us ws);
+  stands_for = λ ms us ws. rw (front_of-put (symbols l p.pieces) ms us ws, behind_of-put (symbols l p.pieces) ms us ws);
 }
 
 -- ---- single tokens
@@ -220,28 +213,28 @@ opening_passes {k} {at} m l c ok h goes = record {
 
 pub one_token : {k : Tok} {at : Place} {s : Symbol} {vs : Vals (s ∷ [])} {ts rest : List Token} → Heads k at ts rest → Passes (s ∷ []) [] (λ _. vs) ts rest
     → Reads (s ∷ []) vs ts rest
-one_token {at} h a = record { passes = a; shorter = let l = ap length h.cut in omega (arith, l) }
+one_token h a = record { passes = a; shorter = let l = ap length h.cut in omega (arith, l) }
 
 -- ---- where reading stops
 
 -- What the called function's halt says, the halt that is passed on says.
 pub stops_so : {T : Type 0} {stop : Stop} (Q : Stop → Type 0) (r : Result T Stop) → IsErrAnd r (λ e. e ≡ stop) → Q stop → IfErr r Q
-stops_so {T} {stop} Q r e q = let p = err_from_is_err_and r e in rw (p.1, p.2) q
+stops_so Q r e q = let p = err_from_is_err_and r e in rw (p.1, p.2) q
 
 pub halts_first : {es : Stack} {ts : List Token} {stop : Stop} (fs : Stack) → Halts es ts stop → Halts (es ++ fs) ts stop
-halts_first {es} {ts} {stop} fs h = record {
-  halt = λ ms. subst (λ (z : Stack). IsHalt stop (outcome ts z)) (sym (append_assoc es fs ms)) (h.halt (fs ++ ms));
+halts_first fs h = record {
+  halt = λ ms. rw append_assoc (h.halt (fs ++ ms));
 }
 
 -- The machine comes to where it halts.
 pub halts_there : {ts mid : List Token} {stop : Stop} (es fs : Stack) → ((ms : Stack) → outcome ts (es ++ ms) ≡ outcome mid (fs ++ ms))
     → Halts fs mid stop → Halts es ts stop
-halts_there {ts} {mid} {stop} es fs m h = record { halt = λ ms. subst (IsHalt stop) (sym (m ms)) (h.halt ms) }
+halts_there es fs m h = record { halt = λ ms. rw (m ms) (h.halt ms) }
 
 pub halts_behind : {es : Stack} {vs : Vals es} {ts mid : List Token} {stop : Stop} (fs : Stack) → Reads es vs ts mid → Halts fs mid stop
     → Halts (es ++ fs) ts stop
-halts_behind {es} {vs} {ts} {mid} {stop} fs r h = record {
-  halt = λ ms. subst (IsHalt stop) (sym (ap (outcome ts) (append_assoc es fs ms) ∙ r.passes.goes_on (fs ++ ms))) (h.halt ms);
+halts_behind fs r h = record {
+  halt = λ ms. rw (append_assoc, r.passes.goes_on (fs ++ ms)) (h.halt ms);
 }
 
 -- The machine halts where what it passes to halts.

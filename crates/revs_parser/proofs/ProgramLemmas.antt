@@ -1,5 +1,5 @@
 -- Whole programs: their parameters, their end, and their limits.
-use Rattle.std.proofs.Common.{◌≡◌, ℕ, ◌+◌, ◌≤◌, Bool, true, false, ◌&&◌, cond, leb, Option, Some, None, List, [], ◌∷◌, ◌++◌, refl, sym, ◌∙◌, ap, subst, length, append_assoc, sum, inl, inr, arith}
+use Rattle.std.proofs.Common.{◌≡◌, ℕ, ◌+◌, ◌≤◌, Bool, true, false, ◌&&◌, leb, Option, Some, None, List, [], ◌∷◌, ◌++◌, refl, sym, ◌∙◌, ap, subst, length, append_assoc, sum, inl, inr, arith}
 use Rattle.std.specs.Prelude.{Result, Ok, Err}
 use Rattle.std.specs.List.{list_all}
 use Rattle.std.proofs.lemmas.List.{map-append}
@@ -18,7 +18,7 @@ use Rattle.revs_grammar.specs.Forms as g
 use Rattle.revs_grammar.specs.Sentences.{token, kept_token, form, Vals, at_start}
 use Rattle.revs_grammar.specs.Answers.{HasSentence, IsProgramOf, IsInputs}
 use Rattle.revs_grammar.specs.Faults.{Verdict, IsVerdict, within_limits, syntax, nesting, inputs}
-use Rattle.revs_grammar.specs.inside.Machine.{Stack, Outcome, accepted, no_syntax, is_end, outcome}
+use Rattle.revs_grammar.specs.inside.Machine.{Stack, Outcome, no_syntax, is_end, outcome}
 use Rattle.revs_grammar.proofs.OutcomeLemmas.{outcome_says, Says}
 use Rattle.revs_grammar.proofs.VerdictLemmas.{one_verdict}
 use Rattle.revs_terms.specs.declared.term.Name.{Name}
@@ -55,7 +55,7 @@ pub one_parameter : (w : Option ℕ) {n : Name} {at : Place} {ts a b c d rest : 
     → Reads (kept_token any_name ∷ []) (n, tt) a b
     → Reads (token (sign signs.Colon) ∷ []) tt b c → Reads (token (word words.Bool) ∷ []) tt c d → ReadsForm g.width 0 w d rest
     → ReadsForm g.parameter 0 (record { name = n; width = w }) ts rest
-one_parameter w {n} {at} {ts} h q k b r = by_pieces g.parameter 0 _ (inl refl) (m.as_parameter ts)
+one_parameter w {ts} h q k b r = by_pieces g.parameter 0 _ (inl refl) (m.as_parameter ts)
     (and_then (a_sign h) (and_then q (and_then k (and_then b r))))
 
 -- The parameters so far, behind those before.
@@ -78,10 +78,10 @@ another h = m.by_first g.parameters 0 _ (inr (inl refl)) h refl refl refl
 pub parameters_more : {before all new : List Param} {next : Param} {at : Place} {ts mid a rest : List Token} → Parameters before all ts mid
     → Heads (toks.Sign signs.OpenRound) at mid a
     → ReadsForm g.parameter 0 next mid rest → new ≡ all ++ next ∷ [] → Parameters before new ts rest
-parameters_more {before} {all} {new} {next} {at} {ts} {mid} {a} {rest} n h q e = record {
+parameters_more {next} {mid} {rest} n h q e = record {
   read = n.read ++ next ∷ [];
-  all_params = e ∙ ap (λ (z : List Param). z ++ next ∷ []) n.all_params ∙ append_assoc before n.read (next ∷ []);
-  repeats = repeats_more (λ more. (n.read ++ next ∷ []) ++ more) n.repeats one (λ more. sym (append_assoc n.read (next ∷ []) more));
+  all_params = rw (e, n.all_params, append_assoc);
+  repeats = repeats_more (λ more. (n.read ++ next ∷ []) ++ more) n.repeats one (λ more. rw append_assoc);
 }
   where
     one : Repeats g.parameters 0 (λ more. next ∷ more) mid rest
@@ -89,9 +89,9 @@ parameters_more {before} {all} {new} {next} {at} {ts} {mid} {a} {rest} n h q e =
 
 pub parameters_done : {before all : List Param} {ts rest : List Token} → Parameters before all ts rest → NotFirst (toks.Sign signs.OpenRound) rest
     → ReadsParameters before all ts rest
-parameters_done {before} {all} {ts} {rest} n k = record {
+parameters_done {rest} n k = record {
   more = n.read ++ [];
-  all_params = n.all_params ∙ ap (λ (z : List Param). before ++ z) (sym (append_nil n.read));
+  all_params = rw (n.all_params, append_nil);
   skips = repeats_done [] n.repeats (left_out g.parameters 0 _ (inl refl) (m.no_parameters rest k));
 }
 
@@ -109,7 +109,7 @@ after_main = form g.parameter 0 ∷ form g.parameters 0 ∷ token (sign signs.Eq
 
 pub sentence_halts : {at : Place} {ts a : List Token} {stop : Stop} → Heads (toks.Word words.Main) at ts a → Halts after_main a stop
     → HaltsIn g.program 0 ts stop
-sentence_halts {at} {ts} h k = halts_by_pieces g.program 0 _ (inl refl) (m.as_program ts) (halts_behind after_main (bare_word h) k)
+sentence_halts {ts} h k = halts_by_pieces g.program 0 _ (inl refl) (m.as_program ts) (halts_behind after_main (bare_word h) k)
 
 pub in_first : {a : List Token} {stop : Stop} → HaltsIn g.parameter 0 a stop → Halts after_main a stop
 in_first k = halts_first (form g.parameters 0 ∷ token (sign signs.Equal) ∷ form g.expression 1 ∷ []) k
@@ -129,10 +129,8 @@ module _ {p : Param} {a b : List Token} (q : ReadsForm g.parameter 0 p a b) wher
 pub a_sentence : {p : Param} {before all : List Param} {body : Tree} {at : Place} {ts a b c d rest : List Token} → Heads (toks.Word words.Main) at ts a
     → ReadsForm g.parameter 0 p a b → before ≡ p ∷ [] → ReadsParameters before all b c
     → Reads (token (sign signs.Equal) ∷ []) tt c d → ReadsForm g.expression 1 body d rest → ReadsProgram all body ts rest
-a_sentence {p} {before} {all} {body} {at} {ts} {a} {b} {c} {d} {rest} h q e n k x =
-    let params : all ≡ p ∷ n.more = n.all_params ∙ ap (λ (z : List Param). z ++ n.more) e in
-    subst (λ (z : List Param). ReadsProgram z body ts rest) (sym params)
-    (by_pieces g.program 0 _ (inl refl) (m.as_program ts) (and_then (bare_word h) (and_then (and_then (and_maybe q n.skips) k) x)))
+a_sentence {ts} h q e n k x =
+    rw (n.all_params, e) (by_pieces g.program 0 _ (inl refl) (m.as_program ts) (and_then (bare_word h) (and_then (and_then (and_maybe q n.skips) k) x)))
 
 -- ---- the end
 
@@ -169,7 +167,7 @@ ended {params} {body} tokens (t ∷ more) e q h =
 
 not_ended : (rest : List Token) → end_first rest ≡ false → outcome rest [] ≡ no_syntax (length rest)
 not_ended [] h = refl
-not_ended (t ∷ ts) h = ap (λ (b : Bool). cond b accepted (no_syntax (length ts + 1))) h ∙ ap no_syntax (omega arith)
+not_ended (t ∷ ts) h = rw h (ap no_syntax (omega arith))
 
 refused : (tokens : List Token) (stop : Stop) (o : Outcome) → IsHalt stop o → Says tokens o → IsRefusal tokens stop
 refused tokens (stops.Syntax left) o e k =
@@ -220,9 +218,7 @@ pub record WithinLimits (params rest : List Param) (inputs : ℕ) : Type 0 where
 
 bits-push : (ps : List Param) (p : Param) → list_all (λ width. leb 1 width) (widths_of (ps ++ p ∷ []))
     ≡ list_all (λ width. leb 1 width) (widths_of ps) && list_all (λ width. leb 1 width) (width_of p.width ∷ [])
-bits-push ps p =
-    ap (λ (z : List ℕ). list_all (λ width. leb 1 width) z) (map-append (λ (p : Param). width_of p.width) ps (p ∷ []))
-    ∙ list_all-append (λ width. leb 1 width) (widths_of ps) (widths_of (p ∷ []))
+bits-push ps p = rw map-append (list_all-append (λ width. leb 1 width) (widths_of ps) (widths_of (p ∷ [])))
 
 sum-push : (ps : List Param) (p : Param) → sum (widths_of (ps ++ p ∷ [])) ≡ sum (widths_of ps) + width_of p.width
 sum-push ps p =
@@ -240,7 +236,7 @@ one_bit w h = grind (arith, nat_tests)
 
 pub limits_more : {params rest : List Param} {total : ℕ} (p : Param) (behind : List Param) (new : ℕ) → WithinLimits params rest total → rest ≡ p ∷ behind
     → ¬ (width_of p.width ≡ 0) → total + width_of p.width ≤ 1024 → new ≡ total + width_of p.width → WithinLimits params behind new
-limits_more {params} {rest} {total} p behind new h e some few w =
+limits_more {total} p behind new h e some few w =
     let t = h.total in
     let pushed = sum-push h.before p in record {
       before = h.before ++ p ∷ [];
@@ -261,7 +257,7 @@ limits_more {params} {rest} {total} p behind new h e some few w =
 
 exactly : (tokens : List Token) (given : Verdict) (answer : Result Program ParseFault) → IsVerdict tokens given → IsAnswer given answer
     → (verdict : Verdict) → IsVerdict tokens verdict → IsAnswer verdict answer
-exactly tokens given answer is a verdict other = subst (λ (v : Verdict). IsAnswer v answer) (one_verdict tokens given verdict is other) a
+exactly tokens given answer is a verdict other = rw (one_verdict tokens given verdict is other) at a
 
 pub program_exactly : (tokens : List Token) (p : Program) → (params : List Param) (body : Tree) → IsProgramOf tokens params body
     → (verdict : Verdict) → IsVerdict tokens verdict → IsAnswer verdict (Ok p)
@@ -280,7 +276,7 @@ refusal_exactly tokens faults.Memory is = λ verdict other. inl refl
 
 pub inputs_at : {tokens : List Token} {params : List Param} {body : Tree} {at : Place} → HasSentence tokens params body → PassesAt params at
     → IsInputs tokens at
-inputs_at {tokens} {params} {body} h k = record {
+inputs_at {params} {body} h k = record {
   params = params;
   body = body;
   sentence = h;

@@ -1,6 +1,7 @@
 -- What each way through a function reads, and where it halts.
-use Rattle.std.proofs.Common.{◌≡◌, ℕ, ◌+◌, ◌==◌, true, false, Some, None, List, [], ◌∷◌, ◌++◌, inl, inr, refl, sym, ◌∙◌, ap, subst, length, append_assoc, map, arith}
+use Rattle.std.proofs.Common.{◌≡◌, ℕ, ◌+◌, ◌==◌, true, false, Some, None, List, [], ◌∷◌, ◌++◌, inl, inr, refl, sym, ap, length, append_assoc, map, arith}
 use Rattle.std.proofs.lemmas.Bool.Decides.{nat_tests}
+use Rattle.std.proofs.lemmas.List.{map-append}
 use Rattle.revc_base.specs.declared.place.Place.{Place}
 use Rattle.revs_lexer.specs.declared.sign.Sign.{Sign}
 use Rattle.revs_lexer.specs.declared.sign.Sign.TheVariants as signs
@@ -63,7 +64,7 @@ opened m l ok h e same n = one_token h (opening_passes m l e ok h (opening_goes 
 opens_too_many : {k : Tok} {at : Place} {ts rest : List Token} (m : Mark) (l : ℕ) (ss : Stack) → few_levels l ≡ false → Heads k at ts rest
     → code k == mark_code m ≡ true → is_end k ≡ false → (stop : Stop) → stop ≡ stops.Nesting (length ts) → Halts (opening_token m l ∷ ss) ts stop
 opens_too_many {ts = ts} m l ss deep h same n stop e =
-    subst (Halts (opening_token m l ∷ ss) ts) (sym e) (record { halt = λ ms. opening_deepens m same n h l deep (ss ++ ms) })
+    rw e (record { halt = λ ms. opening_deepens m same n h l deep (ss ++ ms) })
 
 -- ---- forms by their lines
 
@@ -103,10 +104,9 @@ skips a = record { passes = a }
 module _ (l : ℕ) {at : Place} {ts mid : List Token} (h : Heads (toks.Word words.Fun) at ts mid) where
   pub expression_function : {t : Tree} {rest : List Token} {inner : ℕ} → inner ≡ l + 1 → few_levels (l + 1) ≡ true → ReadsFunction inner at t mid rest
       → ReadsForm g.expression l t ts rest
-  expression_function {t} {rest} e ok r =
-      let r' : ReadsFunction (l + 1) at t mid rest = subst (λ (z : ℕ). ReadsFunction z at t mid rest) e r in
-      subst (λ (z : Tree). ReadsForm g.expression l z ts rest) (sym r'.is)
-      (by_token g.expression l _ (inl refl) h refl refl refl (and_then (opened (word words.Fun) (l + 1) ok h refl refl refl) r'.reads))
+  expression_function e ok r =
+      let r' = rw e at r in
+      rw r'.is (by_token g.expression l _ (inl refl) h refl refl refl (and_then (opened (word words.Fun) (l + 1) ok h refl refl refl) r'.reads))
 
   pub expression_no_level : few_levels (l + 1) ≡ false → (stop : Stop) → stop ≡ stops.Nesting (length ts) → HaltsIn g.expression l ts stop
   expression_no_level deep stop e =
@@ -114,9 +114,9 @@ module _ (l : ℕ) {at : Place} {ts mid : List Token} (h : Heads (toks.Word word
 
   pub expression_in_function : {stop : Stop} {inner : ℕ} → inner ≡ l + 1 → few_levels (l + 1) ≡ true → Halts (in_function inner) mid stop
       → HaltsIn g.expression l ts stop
-  expression_in_function {stop} e ok r =
+  expression_in_function e ok r =
       halts_by_token g.expression l _ (inl refl) h refl refl refl
-      (halts_behind (in_function (l + 1)) (opened (word words.Fun) (l + 1) ok h refl refl refl) (subst (λ (z : ℕ). Halts (in_function z) mid stop) e r))
+      (halts_behind (in_function (l + 1)) (opened (word words.Fun) (l + 1) ok h refl refl refl) (rw e at r))
 
 module _ (l : ℕ) {ts : List Token} (h : NotFirst (toks.Word words.Fun) ts) where
   pub expression_in_sum : {stop : Stop} → HaltsIn g.sum l ts stop → HaltsIn g.expression l ts stop
@@ -125,7 +125,7 @@ module _ (l : ℕ) {ts : List Token} (h : NotFirst (toks.Word words.Fun) ts) whe
 
   pub expression_sum : {left : Tree} {rest : List Token} → ReadsForm g.sum l left ts rest → NotFirst (toks.Sign signs.Assign) rest
       → ReadsForm g.expression l left ts rest
-  expression_sum {left} {rest} r k =
+  expression_sum {rest} r k =
       by_pieces g.expression l _ (inr (inl refl)) (m.as_expression l ts h) (and_maybe r (skips (left_out g.assigned l _ (inl refl) (m.no_assigned l rest k))))
 
   pub expression_in_assigned : {left : Tree} {at : Place} {mid behind : List Token} {stop : Stop} → ReadsForm g.sum l left ts mid
@@ -137,9 +137,8 @@ module _ (l : ℕ) {ts : List Token} (h : NotFirst (toks.Word words.Fun) ts) whe
 
   pub expression_assign : {left right whole : Tree} {at : Place} {mid behind rest : List Token} → ReadsForm g.sum l left ts mid
       → Heads (toks.Sign signs.Assign) at mid behind → ReadsForm g.sum l right behind rest → whole ≡ assign left right → ReadsForm g.expression l whole ts rest
-  expression_assign {left} {right} {whole} {at} {mid} {behind} {rest} r k q w =
-      subst (λ (z : Tree). ReadsForm g.expression l z ts rest) (sym w)
-      (by_pieces g.expression l _ (inr (inl refl)) (m.as_expression l ts h)
+  expression_assign r k q w =
+      rw w (by_pieces g.expression l _ (inr (inl refl)) (m.as_expression l ts h)
       (and_then r (by_token g.assigned l _ (inr (inl refl)) k refl refl refl (and_then (a_sign k) q))))
 
 -- ---- a form that repeats
@@ -150,15 +149,14 @@ pub record Repeats (f : Form) (l : ℕ) (onto : Val f → Val f) (ts rest : List
 
 pub repeats_begun : (f : Form) (l : ℕ) (onto : Val f → Val f) (ts : List Token) → ((v : Val f) → v ≡ onto v) → Repeats f l onto ts ts
 repeats_begun f l onto ts e = record {
-  passes = turned (λ us. (onto us.0, tt)) (λ us. ap (λ (z : Val f). let v : Val f × Unit {0} = (z, tt) in v) (e us.0))
-      (stays (form f l ∷ []) ts);
+  passes = turned (λ us. (onto us.0, tt)) (λ us. rw (← (e us.0))) (stays (form f l ∷ []) ts);
 }
 
 -- One element more was read.
 pub repeats_more : {f : Form} {l : ℕ} {onto one : Val f → Val f} (new : Val f → Val f) {ts mid rest : List Token} → Repeats f l onto ts mid
     → Repeats f l one mid rest → ((v : Val f) → onto (one v) ≡ new v) → Repeats f l new ts rest
-repeats_more {f} {l} {onto} {one} new r q e = record {
-  passes = turned (λ us. (new us.0, tt)) (λ us. ap (λ (z : Val f). let v : Val f × Unit {0} = (z, tt) in v) (e us.0)) (passes_then r.passes q.passes);
+repeats_more new r q e = record {
+  passes = turned (λ us. (new us.0, tt)) (λ us. rw (e us.0)) (passes_then r.passes q.passes);
 }
 
 -- No element comes any more.
@@ -181,10 +179,10 @@ names_begun names ts = record { read = []; all_names = sym (append_nil names); r
 
 pub names_more : {before all new : List Name} {next : Name} {ts mid rest : List Token} → Names before all ts mid → name_first mid ≡ true
     → Reads (kept_token any_name ∷ []) (next, tt) mid rest → new ≡ all ++ next ∷ [] → Names before new ts rest
-names_more {before} {all} {new} {next} {ts} {mid} {rest} n f r e = record {
+names_more {next} {mid} {rest} n f r e = record {
   read = n.read ++ next ∷ [];
-  all_names = e ∙ ap (λ (z : List Name). z ++ next ∷ []) n.all_names ∙ append_assoc before n.read (next ∷ []);
-  repeats = repeats_more (λ more. (n.read ++ next ∷ []) ++ more) n.repeats (one mid rest f r) (λ more. sym (append_assoc n.read (next ∷ []) more));
+  all_names = rw (e, n.all_names, append_assoc);
+  repeats = repeats_more (λ more. (n.read ++ next ∷ []) ++ more) n.repeats (one mid rest f r) (λ more. rw append_assoc);
 }
   where
     one : (mid rest : List Token) → name_first mid ≡ true → Reads (kept_token any_name ∷ []) (next, tt) mid rest
@@ -192,16 +190,15 @@ names_more {before} {all} {new} {next} {ts} {mid} {rest} n f r e = record {
     one mid rest f r = record { passes = passes_then (line_passes g.names 0 _ (inr (inl refl)) (m.more_names mid f)) (beside (form g.names 0 ∷ []) r.passes) }
 
 pub names_done : {before all : List Name} {ts rest : List Token} → Names before all ts rest → name_first rest ≡ false → ReadsNames before all ts rest
-names_done {before} {all} {ts} {rest} n f = record {
+names_done {rest} n f = record {
   more = n.read;
   all_names = n.all_names;
-  skips = subst (λ (z : List Name). Skips (form g.names 0 ∷ []) (z, tt) ts rest) (append_nil n.read)
-      (repeats_done [] n.repeats (left_out g.names 0 _ (inl refl) (m.no_names rest f)));
+  skips = rw (append_nil n.read) at (repeats_done [] n.repeats (left_out g.names 0 _ (inl refl) (m.no_names rest f)));
 }
 
 pub names_halt : {before all : List Name} {ts mid : List Token} {stop : Stop} → Names before all ts mid → name_first mid ≡ true
     → Halts (kept_token any_name ∷ []) mid stop → HaltsIn g.names 0 ts stop
-names_halt {before} {all} {ts} {mid} n f h =
+names_halt {mid} n f h =
     repeats_halts n.repeats (halts_there (form g.names 0 ∷ []) (kept_token any_name ∷ form g.names 0 ∷ []) (m.more_names mid f)
     (halts_first (form g.names 0 ∷ []) h))
 
@@ -219,7 +216,7 @@ module _ {i : ℕ} {ts a b : List Token} (r : Reads (token (sign signs.OpenSquar
 
   pub part_slice : (at : Place) {by : Place} {j : ℕ} {c d rest : List Token} → Heads (toks.Sign signs.DotDot) by b c
       → Reads (kept_token any_number ∷ []) (j, tt) c d → Reads (token (sign signs.CloseSquare) ∷ []) tt d rest → ReadsPart at (part_of.Slice i j at) ts rest
-  part_slice at {by} {j} k o q = record {
+  part_slice at {j} k o q = record {
     first = i;
     last = Some j;
     is = refl;
@@ -237,19 +234,16 @@ pub record Parts (read : List Part) (ts rest : List Token) : Type 0 where
   pub repeats : Repeats g.parts 0 (λ more. read ++ more) ts rest
 
 pub parts_begun : (items : List Part) (ts : List Token) → items ≡ [] → Parts items ts ts
-parts_begun items ts e =
-    subst (λ (z : List Part). Parts z ts ts) (sym e) (record { repeats = repeats_begun g.parts 0 (λ more. [] ++ more) ts (λ v. refl) })
+parts_begun items ts e = rw e (record { repeats = repeats_begun g.parts 0 (λ more. [] ++ more) ts (λ v. refl) })
 
 pub parts_more : {items new : List Part} {next : Part} {at : Place} {ts mid behind rest : List Token} → Parts items ts mid
     → Heads (toks.Sign signs.Dot) at mid behind → ReadsPart at next behind rest → new ≡ items ++ next ∷ [] → Parts new ts rest
-parts_more {items} {new} {next} {at} {ts} {mid} {behind} {rest} r h p e =
-    subst (λ (z : List Part). Parts z ts rest) (sym e)
-    (record { repeats = repeats_more (λ more. (items ++ next ∷ []) ++ more) r.repeats one (λ more. sym (append_assoc items (next ∷ []) more)) })
+parts_more {items} {next} {mid} {rest} r h p e =
+    rw e (record { repeats = repeats_more (λ more. (items ++ next ∷ []) ++ more) r.repeats one (λ more. rw append_assoc) })
   where
     a_part : ReadsForm g.part 0 next mid rest
     a_part =
-        subst (λ (z : Part). ReadsForm g.part 0 z mid rest) (sym p.is)
-        (by_token g.part 0 _ (inl refl) h refl refl refl
+        rw p.is (by_token g.part 0 _ (inl refl) h refl refl refl
         (and_then (one_token h (kept_passes (sign signs.Dot) refl h (kept_goes (sign signs.Dot) refl refl h))) p.reads))
 
     one : Repeats g.parts 0 (λ more. next ∷ more) mid rest
@@ -267,9 +261,7 @@ parts_halt r h k =
 
 pub parts_done : {items : List Part} {ts rest : List Token} → Parts items ts rest → NotFirst (toks.Sign signs.Dot) rest
     → Skips (form g.parts 0 ∷ []) (items, tt) ts rest
-parts_done {items} {ts} {rest} r k =
-    subst (λ (z : List Part). Skips (form g.parts 0 ∷ []) (z, tt) ts rest) (append_nil items)
-    (repeats_done [] r.repeats (left_out g.parts 0 _ (inl refl) (m.no_parts rest k)))
+parts_done {items} {rest} r k = rw (append_nil items) at (repeats_done [] r.repeats (left_out g.parts 0 _ (inl refl) (m.no_parts rest k)))
 
 -- ---- chains
 
@@ -281,14 +273,6 @@ pub record Chain (es : Stack) (one more : Symbol) (end : Stack) (turn : Vals (on
 pub chain_halts : {es : Stack} {one more : Symbol} {end : Stack} {turn : Vals (one ∷ more ∷ end) → Vals es} {ts behind : List Token} {stop : Stop}
     → Chain es one more end turn ts behind → Halts (one ∷ []) behind stop → Halts es ts stop
 chain_halts {more = more} {end = end} c h = halts_past c.passes (halts_first (more ∷ end) h)
-
-map_push : {A B : Type 0} (f : A → B) (xs : List A) (x : A) → map f (xs ++ x ∷ []) ≡ map f xs ++ f x ∷ []
-map_push f [] x = refl
-map_push f (y ∷ xs) x = ap (λ z. f y ∷ z) (map_push f xs x)
-
--- the trees of terms, where one was pushed
-pub pushed : (items : List Term) (t : Term) {new : List Term} → new ≡ items ++ t ∷ [] → map tree_of new ≡ map tree_of items ++ tree_of t ∷ []
-pushed items t {new} e = ap (map tree_of) e ∙ map_push tree_of items t
 
 -- ---- sums
 
@@ -304,29 +288,25 @@ another_product l h =
 -- A chain has begun: the first element was read, and a sign stood behind it.
 pub sum_begun : (l : ℕ) {t : Term} {items : List Term} {at : Place} {ts rest behind : List Token} → ReadsForm g.product l (tree_of t) ts rest
     → Heads (toks.Sign signs.Xor) at rest behind → items ≡ t ∷ [] → InSum l (map tree_of items) ts behind
-sum_begun l {t} {items} {at} {ts} {rest} {behind} r h e =
-    subst (λ (z : List Term). InSum l (map tree_of z) ts behind) (sym e) (record {
+sum_begun l {ts} r h e =
+    rw e (record {
       passes = passes_then (line_passes g.sum l _ (inl refl) (m.as_sum l ts)) (passes_then (beside (form g.sums l ∷ []) r.passes) (another_product l h));
     })
 
 pub sum_more : (l : ℕ) (items : List Term) (t : Term) {new : List Term} {at : Place} {ts behind rest mid : List Token} → InSum l (map tree_of items) ts behind
     → ReadsForm g.product l (tree_of t) behind rest → Heads (toks.Sign signs.Xor) at rest mid → new ≡ items ++ t ∷ [] → InSum l (map tree_of new) ts mid
-sum_more l items t {new} {at} {ts} {behind} {rest} {mid} c r h e =
-    subst (λ (z : List Tree). InSum l z ts mid) (sym (pushed items t e)) (record {
-      passes = turned _ (λ us. ap (λ (z : List Tree). let v : Tree × Unit {0} = (xors (trees z), tt) in v)
-          (sym (append_assoc (map tree_of items) (tree_of t ∷ []) (us.0 ∷ us.1.0))))
-          (passes_then c.passes (passes_then (beside (form g.sums l ∷ []) r.passes) (another_product l h)));
+sum_more l items t c r h e =
+    rw (e, map-append) (record {
+      passes = turned _ (λ us. rw append_assoc) (passes_then c.passes (passes_then (beside (form g.sums l ∷ []) r.passes) (another_product l h)));
     })
 
 pub sum_done : (l : ℕ) (items : List Term) (t : Term) {new : List Term} {whole : Tree} {ts behind rest : List Token} → InSum l (map tree_of items) ts behind
     → ReadsForm g.product l (tree_of t) behind rest → NotFirst (toks.Sign signs.Xor) rest → new ≡ items ++ t ∷ []
     → whole ≡ xors (trees (map tree_of new)) → ReadsForm g.sum l whole ts rest
-sum_done l items t {new} {whole} {ts} {behind} {rest} c r k e w =
-    subst (λ (z : Tree). ReadsForm g.sum l z ts rest) (sym (w ∙ ap (λ (z : List Tree). xors (trees z)) (pushed items t e)))
-    (passes_reads c.passes (and_maybe r (skips (left_out g.sums l _ (inl refl) (m.no_sums l rest k)))))
+sum_done l items t {rest} c r k e w = rw (w, e, map-append) (passes_reads c.passes (and_maybe r (skips (left_out g.sums l _ (inl refl) (m.no_sums l rest k)))))
 
 pub sum_alone : (l : ℕ) {t : Tree} {ts rest : List Token} → ReadsForm g.product l t ts rest → NotFirst (toks.Sign signs.Xor) rest → ReadsForm g.sum l t ts rest
-sum_alone l {t} {ts} {rest} r k = by_pieces g.sum l _ (inl refl) (m.as_sum l ts) (and_maybe r (skips (left_out g.sums l _ (inl refl) (m.no_sums l rest k))))
+sum_alone l {ts} {rest} r k = by_pieces g.sum l _ (inl refl) (m.as_sum l ts) (and_maybe r (skips (left_out g.sums l _ (inl refl) (m.no_sums l rest k))))
 
 pub sum_no_first : (l : ℕ) {ts : List Token} {stop : Stop} → HaltsIn g.product l ts stop → HaltsIn g.sum l ts stop
 sum_no_first l {ts} h = halts_by_pieces g.sum l _ (inl refl) (m.as_sum l ts) (halts_first (form g.sums l ∷ []) h)
@@ -345,8 +325,8 @@ another_application l h =
 
 pub product_begun : (l : ℕ) {t : Term} {items : List Term} {at : Place} {ts rest behind : List Token} → ReadsForm g.application l (tree_of t) ts rest
     → Heads (toks.Sign signs.And) at rest behind → items ≡ t ∷ [] → InProduct l (map tree_of items) ts behind
-product_begun l {t} {items} {at} {ts} {rest} {behind} r h e =
-    subst (λ (z : List Term). InProduct l (map tree_of z) ts behind) (sym e) (record {
+product_begun l {ts} r h e =
+    rw e (record {
       passes = passes_then (line_passes g.product l _ (inl refl) (m.as_product l ts)) (passes_then (beside (form g.products l ∷ []) r.passes)
           (another_application l h));
     })
@@ -354,24 +334,21 @@ product_begun l {t} {items} {at} {ts} {rest} {behind} r h e =
 pub product_more : (l : ℕ) (items : List Term) (t : Term) {new : List Term} {at : Place} {ts behind rest mid : List Token}
     → InProduct l (map tree_of items) ts behind
     → ReadsForm g.application l (tree_of t) behind rest → Heads (toks.Sign signs.And) at rest mid → new ≡ items ++ t ∷ [] → InProduct l (map tree_of new) ts mid
-product_more l items t {new} {at} {ts} {behind} {rest} {mid} c r h e =
-    subst (λ (z : List Tree). InProduct l z ts mid) (sym (pushed items t e)) (record {
-      passes = turned _ (λ us. ap (λ (z : List Tree). let v : Tree × Unit {0} = (ands (trees z), tt) in v)
-          (sym (append_assoc (map tree_of items) (tree_of t ∷ []) (us.0 ∷ us.1.0))))
-          (passes_then c.passes (passes_then (beside (form g.products l ∷ []) r.passes) (another_application l h)));
+product_more l items t c r h e =
+    rw (e, map-append) (record {
+      passes = turned _ (λ us. rw append_assoc) (passes_then c.passes (passes_then (beside (form g.products l ∷ []) r.passes) (another_application l h)));
     })
 
 pub product_done : (l : ℕ) (items : List Term) (t : Term) {new : List Term} {whole : Tree} {ts behind rest : List Token}
     → InProduct l (map tree_of items) ts behind
     → ReadsForm g.application l (tree_of t) behind rest → NotFirst (toks.Sign signs.And) rest → new ≡ items ++ t ∷ []
     → whole ≡ ands (trees (map tree_of new)) → ReadsForm g.product l whole ts rest
-product_done l items t {new} {whole} {ts} {behind} {rest} c r k e w =
-    subst (λ (z : Tree). ReadsForm g.product l z ts rest) (sym (w ∙ ap (λ (z : List Tree). ands (trees z)) (pushed items t e)))
-    (passes_reads c.passes (and_maybe r (skips (left_out g.products l _ (inl refl) (m.no_products l rest k)))))
+product_done l items t {rest} c r k e w =
+    rw (w, e, map-append) (passes_reads c.passes (and_maybe r (skips (left_out g.products l _ (inl refl) (m.no_products l rest k)))))
 
 pub product_alone : (l : ℕ) {t : Tree} {ts rest : List Token} → ReadsForm g.application l t ts rest → NotFirst (toks.Sign signs.And) rest
     → ReadsForm g.product l t ts rest
-product_alone l {t} {ts} {rest} r k =
+product_alone l {ts} {rest} r k =
     by_pieces g.product l _ (inl refl) (m.as_product l ts) (and_maybe r (skips (left_out g.products l _ (inl refl) (m.no_products l rest k))))
 
 pub product_no_first : (l : ℕ) {ts : List Token} {stop : Stop} → HaltsIn g.application l ts stop → HaltsIn g.product l ts stop
@@ -388,19 +365,16 @@ another_atom l ts h = line_passes g.atoms l _ (inr (inl refl)) (m.more_atoms l t
 
 pub arguments_begun : (l : ℕ) (head held : Term) {items : List Term} {ts rest : List Token} → ReadsForm g.atom l (tree_of head) ts rest
     → base_first rest ≡ true → items ≡ [] → held ≡ head → InArguments l (tree_of held) (map tree_of items) ts rest
-arguments_begun l head held {items} {ts} {rest} r h e w =
-    subst (λ (z : List Term). InArguments l (tree_of held) (map tree_of z) ts rest) (sym e)
-    (subst (λ (z : Term). InArguments l (tree_of z) [] ts rest) (sym w)
+arguments_begun l head held {rest} r h e w =
+    rw e (rw w
     (record { passes = passes_then (beside (form g.atoms l ∷ []) r.passes) (another_atom l rest h) }))
 
 pub arguments_more : (l : ℕ) (head : Tree) (items : List Term) (t : Term) {new : List Term} {ts behind rest : List Token}
     → InArguments l head (map tree_of items) ts behind
     → ReadsForm g.atom l (tree_of t) behind rest → base_first rest ≡ true → new ≡ items ++ t ∷ [] → InArguments l head (map tree_of new) ts rest
-arguments_more l head items t {new} {ts} {behind} {rest} c r h e =
-    subst (λ (z : List Tree). InArguments l head z ts rest) (sym (pushed items t e)) (record {
-      passes = turned _ (λ us. ap (λ (z : List Tree). let v : Tree × (List Tree × Unit {0}) = (head, (z, tt)) in v)
-          (sym (append_assoc (map tree_of items) (tree_of t ∷ []) (us.0 ∷ us.1.0))))
-          (passes_then c.passes (passes_then (beside (form g.atoms l ∷ []) r.passes) (another_atom l rest h)));
+arguments_more l head items t {rest} c r h e =
+    rw (e, map-append) (record {
+      passes = turned _ (λ us. rw append_assoc) (passes_then c.passes (passes_then (beside (form g.atoms l ∷ []) r.passes) (another_atom l rest h)));
     })
 
 apply_more : (head : Tree) (read : List Tree) (t : Tree) → apply head (trees (read ++ t ∷ [])) ≡ apply_of head (read ++ t ∷ [])
@@ -411,16 +385,16 @@ pub arguments_done : (l : ℕ) (head : Tree) (items : List Term) (t : Term) {new
     → InArguments l head (map tree_of items) ts behind
     → ReadsForm g.atom l (tree_of t) behind rest → base_first rest ≡ false → new ≡ items ++ t ∷ []
     → whole ≡ apply head (trees (map tree_of new)) → ReadsAtoms l whole ts rest
-arguments_done l head items t {new} {whole} {ts} {behind} {rest} c r k e w = record {
+arguments_done l head items t {rest} c r k e w = record {
   head = head;
   more = map tree_of items ++ tree_of t ∷ [];
-  is = w ∙ ap (λ (z : List Tree). apply head (trees z)) (pushed items t e) ∙ apply_more head (map tree_of items) (tree_of t);
+  is = rw (w, e, map-append) (apply_more head (map tree_of items) (tree_of t));
   reads = passes_reads c.passes (and_maybe r (skips (left_out g.atoms l _ (inl refl) (m.no_atoms l rest k))));
 }
 
 -- an atom with no argument
 pub atom_alone : (l : ℕ) {t : Tree} {ts rest : List Token} → ReadsForm g.atom l t ts rest → base_first rest ≡ false → ReadsAtoms l t ts rest
-atom_alone l {t} {ts} {rest} r k = record {
+atom_alone l {t} {rest} r k = record {
   head = t;
   more = [];
   is = refl;
@@ -440,8 +414,7 @@ elements_of (first ∷ read) next more = (first, (read ++ next ∷ more, tt))
 
 elements_more : (read : List Tree) (t next : Tree) (more : List Tree) → elements_of read t (next ∷ more) ≡ elements_of (read ++ t ∷ []) next more
 elements_more [] t next more = refl
-elements_more (first ∷ read) t next more =
-    ap (λ (z : List Tree). let v : Tree × (List Tree × Unit {0}) = (first, (z, tt)) in v) (sym (append_assoc read (t ∷ []) (next ∷ more)))
+elements_more (first ∷ read) t next more = rw (append_assoc read (t ∷ []) (next ∷ more))
 
 pub record InRegister (l : ℕ) (read : List Tree) (ts behind : List Token) : Type 0 where
   pub mid : List Token
@@ -456,16 +429,14 @@ another_element l h =
 
 pub register_begun : (l : ℕ) {items : List Term} {ts rest : List Token} → Reads (token (sign signs.OpenSquare) ∷ []) tt ts rest
     → items ≡ [] → InRegister l (map tree_of items) ts rest
-register_begun l {items} {ts} {rest} r e =
-    subst (λ (z : List Term). InRegister l (map tree_of z) ts rest) (sym e)
-    (record { mid = rest; bracket = r; chain = record { passes = turned _ (λ us. refl) (stays (between l) rest) } })
+register_begun l {rest} r e = rw e (record { mid = rest; bracket = r; chain = record { passes = turned _ (λ us. refl) (stays (between l) rest) } })
 
 pub register_more : (l : ℕ) (items : List Term) (t : Term) {new : List Term} {at : Place} {ts behind rest mid : List Token}
     → InRegister l (map tree_of items) ts behind
     → ReadsForm g.expression l (tree_of t) behind rest → Heads (toks.Sign signs.Semi) at rest mid → new ≡ items ++ t ∷ []
     → InRegister l (map tree_of new) ts mid
-register_more l items t {new} {at} {ts} {behind} {rest} {mid} c r h e =
-    subst (λ (z : List Tree). InRegister l z ts mid) (sym (pushed items t e)) (record {
+register_more l items t {mid} c r h e =
+    rw (e, map-append) (record {
       mid = c.mid;
       bracket = c.bracket;
       chain = record {
@@ -483,8 +454,8 @@ pub register_done : (l : ℕ) (at : Place) (items : List Term) (t : Term) {new :
     → InRegister l (map tree_of items) ts behind
     → ReadsForm g.expression l (tree_of t) behind rest → NotFirst (toks.Sign signs.Semi) rest → new ≡ items ++ t ∷ []
     → Reads (token (sign signs.CloseSquare) ∷ []) tt rest final → whole ≡ reg (trees (map tree_of new)) at → ReadsRegister l at whole ts final
-register_done l at items t {new} {whole} {ts} {behind} {rest} {final} c r k e q w =
-    read_register l at (map tree_of items) (tree_of t) whole ts final (w ∙ ap (λ (z : List Tree). reg (trees z) at) (pushed items t e))
+register_done l at items t {whole} {ts} {rest} {final} c r k e q w =
+    read_register l at (map tree_of items) (tree_of t) whole ts final (rw (w, e, map-append))
     (and_then c.bracket (and_then (passes_reads c.chain.passes (and_maybe r (skips (left_out g.elements l _ (inl refl) (m.no_elements l rest k))))) q))
 
 pub register_halts : (l : ℕ) {read : List Tree} {ts behind : List Token} {stop : Stop} → InRegister l read ts behind → HaltsIn g.expression l behind stop
@@ -496,7 +467,7 @@ register_halts l c h =
 pub register_unclosed : (l : ℕ) {read : List Tree} {t : Tree} {ts behind rest : List Token} {stop : Stop} → InRegister l read ts behind
     → ReadsForm g.expression l t behind rest → NotFirst (toks.Sign signs.Semi) rest → Halts (token (sign signs.CloseSquare) ∷ []) rest stop
     → Halts (in_register l) ts stop
-register_unclosed l {read} {t} {ts} {behind} {rest} c r k h =
+register_unclosed l {rest} c r k h =
     halts_behind (token (sign signs.CloseSquare) ∷ [])
     (and_then c.bracket (passes_reads c.chain.passes (and_maybe r (skips (left_out g.elements l _ (inl refl) (m.no_elements l rest k)))))) h
 
@@ -507,17 +478,13 @@ pub record InBlock (l : ℕ) (read : List ItemTree) (ts rest : List Token) : Typ
   pub repeats : Repeats g.body l (λ b. record { items = read ++ b.items; last = b.last }) ts rest
 
 pub block_begun : (l : ℕ) (ts : List Token) {items : List Item} → items ≡ [] → InBlock l (map item_tree_of items) ts ts
-block_begun l ts {items} e =
-    subst (λ (z : List Item). InBlock l (map item_tree_of z) ts ts) (sym e)
-    (record { repeats = repeats_begun g.body l (λ b. record { items = [] ++ b.items; last = b.last }) ts (λ v. refl) })
+block_begun l ts {items} e = rw e (record { repeats = repeats_begun g.body l (λ b. record { items = [] ++ b.items; last = b.last }) ts (λ v. refl) })
 
 pub block_more : (l : ℕ) (items : List Item) (item : Item) {new : List Item} {ts mid rest : List Token} → InBlock l (map item_tree_of items) ts mid
     → ReadsItem l (item_tree_of item) mid rest → new ≡ items ++ item ∷ [] → InBlock l (map item_tree_of new) ts rest
-block_more l items item {new} {ts} {mid} {rest} b r e =
-    subst (λ (z : List ItemTree). InBlock l z ts rest) (sym (ap (map item_tree_of) e ∙ map_push item_tree_of items item)) (record {
-      repeats = repeats_more _ b.repeats one (λ v.
-          ap (λ (z : List ItemTree). let b : BodyTree = record { items = z; last = v.last } in b)
-          (sym (append_assoc (map item_tree_of items) (item_tree_of item ∷ []) v.items)));
+block_more l items item {mid} {rest} b r e =
+    rw (e, map-append) (record {
+      repeats = repeats_more _ b.repeats one (λ v. rw append_assoc);
     })
   where
     one : Repeats g.body l (in_front (item_tree_of item)) mid rest
@@ -525,9 +492,9 @@ block_more l items item {new} {ts} {mid} {rest} b r e =
 
 pub block_done : (l : ℕ) (at : Place) {read : List ItemTree} {last whole : Tree} {ts mid rest : List Token} → InBlock l read ts mid
     → ReadsForm g.body l (record { items = []; last = last }) mid rest → whole ≡ block (item_trees read) last at → ReadsBlock l at whole ts rest
-block_done l at {read} {last} {whole} b r w = record {
+block_done l at {read} {last} b r w = record {
   inside = record { items = read ++ []; last = last };
-  is = w ∙ ap (λ (z : List ItemTree). block (item_trees z) last at) (sym (append_nil read));
+  is = rw (w, append_nil);
   reads = passes_reads b.repeats.passes r;
 }
 
@@ -540,11 +507,11 @@ block_halts l b h = repeats_halts b.repeats h
 pub function_reads : (l : ℕ) (at : Place) {t : Tree} {first : Name} {before all : List Name} {inner : Tree} {ts a b c rest : List Token}
     → Reads (kept_token any_name ∷ []) (first, tt) ts a → before ≡ first ∷ [] → ReadsNames before all a b
     → Reads (token (sign signs.Arrow) ∷ []) tt b c → ReadsForm g.expression l inner c rest → t ≡ function all inner at → ReadsFunction l at t ts rest
-function_reads l at {t} {first} {before} {all} {inner} r e n k q w = record {
+function_reads l at {first} {inner} r e n k q w = record {
   first = first;
   more = n.more;
   inner = inner;
-  is = w ∙ ap (λ (z : List Name). function z inner at) (n.all_names ∙ ap (λ (z : List Name). z ++ n.more) e);
+  is = rw (w, n.all_names, e);
   reads = and_then (and_then (and_maybe r n.skips) k) q;
 }
 
@@ -563,11 +530,11 @@ module _ (l : ℕ) {first : Name} {ts a : List Token} (r : Reads (kept_token any
   pub binding_reads : {item : ItemTree} {before all : List Name} {inner : Tree} {b c d rest : List Token} → before ≡ [] → ReadsNames before all a b
       → Reads (token (sign signs.Equal) ∷ []) tt b c → ReadsForm g.expression l inner c d → Reads (token (sign signs.Semi) ∷ []) tt d rest
       → item ≡ bind first (bound_of all inner) → ReadsBinding l item ts rest
-  binding_reads {item} {before} {all} {inner} e n k q z w = record {
+  binding_reads {inner} e n k q z w = record {
     bound = first;
     more = n.more;
     inner = inner;
-    is = w ∙ ap (λ (x : List Name). bind first (bound_of x inner)) (n.all_names ∙ ap (λ (x : List Name). x ++ n.more) e);
+    is = rw (w, n.all_names, e);
     reads = and_then (and_then (and_then (and_maybe r n.skips) k) q) z;
   }
 
@@ -591,18 +558,14 @@ module _ (l : ℕ) {first : Name} {ts a : List Token} (r : Reads (kept_token any
 
 module _ (l : ℕ) {at : Place} {ts mid : List Token} (h : Heads (toks.Word words.Clean) at ts mid) where
   pub application_clean : {t whole : Tree} {rest : List Token} → ReadsForm g.atom l t mid rest → whole ≡ clean t at → ReadsForm g.application l whole ts rest
-  application_clean {t} {whole} {rest} r w =
-      subst (λ (z : Tree). ReadsForm g.application l z ts rest) (sym w)
-      (by_token g.application l _ (inl refl) h refl refl refl (and_then (a_word words.Clean h) r))
+  application_clean r w = rw w (by_token g.application l _ (inl refl) h refl refl refl (and_then (a_word words.Clean h) r))
 
   pub clean_halts : {stop : Stop} → HaltsIn g.atom l mid stop → HaltsIn g.application l ts stop
   clean_halts k = halts_by_token g.application l _ (inl refl) h refl refl refl (halts_behind (form g.atom l ∷ []) (a_word words.Clean h) k)
 
 module _ (l : ℕ) {at : Place} {ts mid : List Token} (h : Heads (toks.Word words.Assert) at ts mid) where
   pub application_assert : {t whole : Tree} {rest : List Token} → ReadsForm g.atom l t mid rest → whole ≡ assert t at → ReadsForm g.application l whole ts rest
-  application_assert {t} {whole} {rest} r w =
-      subst (λ (z : Tree). ReadsForm g.application l z ts rest) (sym w)
-      (by_token g.application l _ (inr (inl refl)) h refl refl refl (and_then (a_word words.Assert h) r))
+  application_assert r w = rw w (by_token g.application l _ (inr (inl refl)) h refl refl refl (and_then (a_word words.Assert h) r))
 
   pub assert_halts : {stop : Stop} → HaltsIn g.atom l mid stop → HaltsIn g.application l ts stop
   assert_halts k = halts_by_token g.application l _ (inr (inl refl)) h refl refl refl (halts_behind (form g.atom l ∷ []) (a_word words.Assert h) k)
@@ -610,9 +573,7 @@ module _ (l : ℕ) {at : Place} {ts mid : List Token} (h : Heads (toks.Word word
 module _ (l : ℕ) {at : Place} {ts a : List Token} (h : Heads (toks.Word words.Append) at ts a) where
   pub application_append : {t u whole : Tree} {b rest : List Token} → ReadsForm g.atom l t a b → ReadsForm g.atom l u b rest → whole ≡ append t u at
       → ReadsForm g.application l whole ts rest
-  application_append {t} {u} {whole} {b} {rest} r q w =
-      subst (λ (z : Tree). ReadsForm g.application l z ts rest) (sym w)
-      (by_token g.application l _ (inr (inr (inl refl))) h refl refl refl (and_then (a_word words.Append h) (and_then r q)))
+  application_append r q w = rw w (by_token g.application l _ (inr (inr (inl refl))) h refl refl refl (and_then (a_word words.Append h) (and_then r q)))
 
   in_append : {stop : Stop} → Halts (form g.atom l ∷ form g.atom l ∷ []) a stop → HaltsIn g.application l ts stop
   in_append k =
@@ -627,9 +588,7 @@ module _ (l : ℕ) {at : Place} {ts a : List Token} (h : Heads (toks.Word words.
 module _ (l : ℕ) {at : Place} {ts a : List Token} (h : Heads (toks.Word words.Rotate) at ts a) where
   pub application_rotate : {by : ℕ} {t whole : Tree} {b rest : List Token} → Reads (kept_token any_number ∷ []) (by, tt) a b → ReadsForm g.atom l t b rest
       → whole ≡ rotate by t at → ReadsForm g.application l whole ts rest
-  application_rotate {by} {t} {whole} {b} {rest} r q w =
-      subst (λ (z : Tree). ReadsForm g.application l z ts rest) (sym w)
-      (by_token g.application l _ (inr (inr (inr (inl refl)))) h refl refl refl (and_then (a_word words.Rotate h) (and_then r q)))
+  application_rotate r q w = rw w (by_token g.application l _ (inr (inr (inr (inl refl)))) h refl refl refl (and_then (a_word words.Rotate h) (and_then r q)))
 
   in_rotate : {stop : Stop} → Halts (kept_token any_number ∷ form g.atom l ∷ []) a stop → HaltsIn g.application l ts stop
   in_rotate k =
@@ -644,9 +603,7 @@ module _ (l : ℕ) {at : Place} {ts a : List Token} (h : Heads (toks.Word words.
   rotate_halts_second r k = in_rotate (halts_behind (form g.atom l ∷ []) r k)
 
 pub application_plain : (l : ℕ) {t : Tree} {ts rest : List Token} → m.IsPlain ts → ReadsAtoms l t ts rest → ReadsForm g.application l t ts rest
-application_plain l {t} {ts} {rest} p r =
-    subst (λ (z : Tree). ReadsForm g.application l z ts rest) (sym r.is)
-    (by_pieces g.application l _ (inr (inr (inr (inr (inl refl))))) (m.as_application l ts p) r.reads)
+application_plain l {ts} p r = rw r.is (by_pieces g.application l _ (inr (inr (inr (inr (inl refl))))) (m.as_application l ts p) r.reads)
 
 pub plain_halts : (l : ℕ) {ts : List Token} {stop : Stop} → m.IsPlain ts → Halts (in_application l) ts stop → HaltsIn g.application l ts stop
 plain_halts l {ts} p h = halts_there (form g.application l ∷ []) (in_application l) (m.as_application l ts p) h
@@ -658,8 +615,7 @@ atoms_halt l h = halts_first (form g.atoms l ∷ []) h
 
 pub atom_reads : (l : ℕ) {inner whole : Tree} {all : List Part} {ts mid rest : List Token} → ReadsForm g.base l inner ts mid
     → Skips (form g.parts 0 ∷ []) (all, tt) mid rest → whole ≡ parts_of inner all → ReadsForm g.atom l whole ts rest
-atom_reads l {inner} {whole} {all} {ts} {mid} {rest} r k w =
-    subst (λ (z : Tree). ReadsForm g.atom l z ts rest) (sym w) (by_pieces g.atom l _ (inl refl) (m.as_atom l ts) (and_maybe r k))
+atom_reads l {ts} r k w = rw w (by_pieces g.atom l _ (inl refl) (m.as_atom l ts) (and_maybe r k))
 
 pub no_part : (inner : Tree) (all : List Part) → length all ≡ 0 → inner ≡ parts_of inner all
 no_part inner [] e = refl
@@ -674,25 +630,22 @@ atom_in_base l {ts} h = halts_there (form g.atom l ∷ []) (form g.base l ∷ fo
 
 pub atom_in_parts : (l : ℕ) {inner : Tree} {ts mid : List Token} {stop : Stop} → ReadsForm g.base l inner ts mid → HaltsIn g.parts 0 mid stop
     → HaltsIn g.atom l ts stop
-atom_in_parts l {inner} {ts} r h =
+atom_in_parts l {ts} r h =
     halts_there (form g.atom l ∷ []) (form g.base l ∷ form g.parts 0 ∷ []) (m.as_atom l ts) (halts_behind (form g.parts 0 ∷ []) r h)
 
 -- ---- bases
 
 pub base_true : (l : ℕ) {at : Place} {whole : Tree} {ts rest : List Token} → Heads (toks.Word words.True) at ts rest → whole ≡ bool true at
     → ReadsForm g.base l whole ts rest
-base_true l {at} {whole} {ts} {rest} h w =
-    subst (λ (z : Tree). ReadsForm g.base l z ts rest) (sym w) (by_token g.base l _ (inr (inl refl)) h refl refl refl (a_word words.True h))
+base_true l h w = rw w (by_token g.base l _ (inr (inl refl)) h refl refl refl (a_word words.True h))
 
 pub base_false : (l : ℕ) {at : Place} {whole : Tree} {ts rest : List Token} → Heads (toks.Word words.False) at ts rest → whole ≡ bool false at
     → ReadsForm g.base l whole ts rest
-base_false l {at} {whole} {ts} {rest} h w =
-    subst (λ (z : Tree). ReadsForm g.base l z ts rest) (sym w) (by_token g.base l _ (inr (inr (inl refl))) h refl refl refl (a_word words.False h))
+base_false l h w = rw w (by_token g.base l _ (inr (inr (inl refl))) h refl refl refl (a_word words.False h))
 
 pub base_use : (l : ℕ) {n : Name} {whole : Tree} {ts rest : List Token} → m.IsUse ts → Reads (kept_token any_name ∷ []) (n, tt) ts rest → whole ≡ used n
     → ReadsForm g.base l whole ts rest
-base_use l {n} {whole} {ts} {rest} u r w =
-    subst (λ (z : Tree). ReadsForm g.base l z ts rest) (sym w) (by_pieces g.base l _ (inl refl) (m.as_use l ts u) r)
+base_use l {ts} u r w = rw w (by_pieces g.base l _ (inl refl) (m.as_use l ts u) r)
 
 pub base_no_use : (l : ℕ) {ts : List Token} {stop : Stop} → m.IsUse ts → Halts (kept_token any_name ∷ []) ts stop → HaltsIn g.base l ts stop
 base_no_use l {ts} u h = halts_there (form g.base l ∷ []) (kept_token any_name ∷ []) (m.as_use l ts u) h
@@ -701,10 +654,9 @@ base_no_use l {ts} u h = halts_there (form g.base l ∷ []) (kept_token any_name
 module _ (l : ℕ) {at : Place} {ts mid : List Token} (h : Heads (toks.Word words.Reg) at ts mid) where
   pub base_register : {inner : ℕ} → inner ≡ l + 1 → {t : Tree} {rest : List Token} → few_levels (l + 1) ≡ true → ReadsRegister inner at t mid rest
       → ReadsForm g.base l t ts rest
-  base_register e {t} {rest} ok r =
-      let r' : ReadsRegister (l + 1) at t mid rest = subst (λ (z : ℕ). ReadsRegister z at t mid rest) e r in
-      subst (λ (z : Tree). ReadsForm g.base l z ts rest) (sym r'.is)
-      (by_token g.base l _ (inr (inr (inr (inl refl)))) h refl refl refl (and_then (opened (word words.Reg) (l + 1) ok h refl refl refl) r'.reads))
+  base_register e ok r =
+      let r' = rw e at r in
+      rw r'.is (by_token g.base l _ (inr (inr (inr (inl refl)))) h refl refl refl (and_then (opened (word words.Reg) (l + 1) ok h refl refl refl) r'.reads))
 
   pub register_no_level : few_levels (l + 1) ≡ false → (stop : Stop) → stop ≡ stops.Nesting (length ts) → HaltsIn g.base l ts stop
   register_no_level deep stop e =
@@ -713,9 +665,9 @@ module _ (l : ℕ) {at : Place} {ts mid : List Token} (h : Heads (toks.Word word
 
   pub in_register_halts : {inner : ℕ} → inner ≡ l + 1 → {stop : Stop} → few_levels (l + 1) ≡ true → Halts (in_register inner) mid stop
       → HaltsIn g.base l ts stop
-  in_register_halts e {stop} ok k =
+  in_register_halts e ok k =
       halts_by_token g.base l _ (inr (inr (inr (inl refl)))) h refl refl refl
-      (halts_behind (in_register (l + 1)) (opened (word words.Reg) (l + 1) ok h refl refl refl) (subst (λ (z : ℕ). Halts (in_register z) mid stop) e k))
+      (halts_behind (in_register (l + 1)) (opened (word words.Reg) (l + 1) ok h refl refl refl) (rw e at k))
 
 -- what is expected of a bracket behind its `(`
 abbrev in_bracket : ℕ → Stack
@@ -724,8 +676,8 @@ in_bracket l = form g.expression l ∷ token (sign signs.CloseRound) ∷ []
 module _ (l : ℕ) {at : Place} {ts mid : List Token} (h : Heads (toks.Sign signs.OpenRound) at ts mid) where
   pub base_bracket : {inner : ℕ} → inner ≡ l + 1 → {t : Tree} {a rest : List Token} → few_levels (l + 1) ≡ true → ReadsForm g.expression inner t mid a
       → Reads (token (sign signs.CloseRound) ∷ []) tt a rest → ReadsForm g.base l t ts rest
-  base_bracket e {t} {a} {rest} ok r q =
-      let r' : ReadsForm g.expression (l + 1) t mid a = subst (λ (z : ℕ). ReadsForm g.expression z t mid a) e r in
+  base_bracket e ok r q =
+      let r' = rw e at r in
       by_token g.base l _ (inr (inr (inr (inr (inl refl))))) h refl refl refl
       (and_then (opened (sign signs.OpenRound) (l + 1) ok h refl refl refl) (and_then r' q))
 
@@ -741,21 +693,20 @@ module _ (l : ℕ) {at : Place} {ts mid : List Token} (h : Heads (toks.Sign sign
 
   pub in_bracket_halts : {inner : ℕ} → inner ≡ l + 1 → {stop : Stop} → few_levels (l + 1) ≡ true → HaltsIn g.expression inner mid stop
       → HaltsIn g.base l ts stop
-  in_bracket_halts e {stop} ok k =
-      inside_halts ok (halts_first (token (sign signs.CloseRound) ∷ []) (subst (λ (z : ℕ). HaltsIn g.expression z mid stop) e k))
+  in_bracket_halts e ok k =
+      inside_halts ok (halts_first (token (sign signs.CloseRound) ∷ []) (rw e at k))
 
   pub bracket_unclosed : {inner : ℕ} → inner ≡ l + 1 → {t : Tree} {a : List Token} {stop : Stop} → few_levels (l + 1) ≡ true
       → ReadsForm g.expression inner t mid a → Halts (token (sign signs.CloseRound) ∷ []) a stop → HaltsIn g.base l ts stop
-  bracket_unclosed e {t} {a} ok r k =
-      inside_halts ok (halts_behind (token (sign signs.CloseRound) ∷ []) (subst (λ (z : ℕ). ReadsForm g.expression z t mid a) e r) k)
+  bracket_unclosed e ok r k =
+      inside_halts ok (halts_behind (token (sign signs.CloseRound) ∷ []) (rw e at r) k)
 
 module _ (l : ℕ) {at : Place} {ts mid : List Token} (h : Heads (toks.Sign signs.OpenCurly) at ts mid) where
   pub base_block : {inner : ℕ} → inner ≡ l + 1 → {t : Tree} {rest : List Token} → few_levels (l + 1) ≡ true → ReadsBlock inner at t mid rest
       → ReadsForm g.base l t ts rest
-  base_block e {t} {rest} ok r =
-      let r' : ReadsBlock (l + 1) at t mid rest = subst (λ (z : ℕ). ReadsBlock z at t mid rest) e r in
-      subst (λ (z : Tree). ReadsForm g.base l z ts rest) (sym r'.is)
-      (by_token g.base l _ (inr (inr (inr (inr (inr (inl refl)))))) h refl refl refl
+  base_block e ok r =
+      let r' = rw e at r in
+      rw r'.is (by_token g.base l _ (inr (inr (inr (inr (inr (inl refl)))))) h refl refl refl
       (and_then (opened (sign signs.OpenCurly) (l + 1) ok h refl refl refl) r'.reads))
 
   pub block_no_level : few_levels (l + 1) ≡ false → (stop : Stop) → stop ≡ stops.Nesting (length ts) → HaltsIn g.base l ts stop
@@ -764,16 +715,16 @@ module _ (l : ℕ) {at : Place} {ts mid : List Token} (h : Heads (toks.Sign sign
       (opens_too_many (sign signs.OpenCurly) (l + 1) (form g.body (l + 1) ∷ []) deep h refl refl stop e)
 
   pub in_block_halts : {inner : ℕ} → inner ≡ l + 1 → {stop : Stop} → few_levels (l + 1) ≡ true → HaltsIn g.body inner mid stop → HaltsIn g.base l ts stop
-  in_block_halts e {stop} ok k =
+  in_block_halts e ok k =
       halts_by_token g.base l _ (inr (inr (inr (inr (inr (inl refl)))))) h refl refl refl
-      (halts_behind (form g.body (l + 1) ∷ []) (opened (sign signs.OpenCurly) (l + 1) ok h refl refl refl) (subst (λ (z : ℕ). HaltsIn g.body z mid stop) e k))
+      (halts_behind (form g.body (l + 1) ∷ []) (opened (sign signs.OpenCurly) (l + 1) ok h refl refl refl) (rw e at k))
 
 -- ---- items
 
 pub item_let : (l : ℕ) {item : ItemTree} {at : Place} {ts mid rest : List Token} → Heads (toks.Word words.Let) at ts mid → ReadsBinding l item mid rest
     → ReadsItem l item ts rest
-item_let l {item} {at} {ts} {mid} {rest} h r =
-    subst (λ (z : ItemTree). ReadsItem l z ts rest) (sym r.is) (record {
+item_let l {ts} {rest} h r =
+    rw r.is (record {
       passes = passes_then (line_passes g.body l _ (inl refl) (by_first g.body l _ (inl refl) h refl refl refl)) (beside (form g.body l ∷ []) whole.passes);
       shorter = whole.shorter;
     })
@@ -784,8 +735,8 @@ item_let l {item} {at} {ts} {mid} {rest} h r =
 pub item_do : (l : ℕ) {item : ItemTree} {t : Tree} {at : Place} {ts mid rest : List Token} → NotFirst (toks.Word words.Let) ts
     → ReadsForm g.expression l t ts mid
     → Heads (toks.Sign signs.Semi) at mid rest → item ≡ run t → ReadsItem l item ts rest
-item_do l {item} {t} {at} {ts} {mid} {rest} k r h w =
-    subst (λ (z : ItemTree). ReadsItem l z ts rest) (sym w) (record {
+item_do l {ts} k r h w =
+    rw w (record {
       passes = passes_then (line_passes g.body l _ (inr (inl refl)) (m.as_body l ts k)) (passes_then (beside (form g.body_end l ∷ []) r.passes)
           (passes_then (line_passes g.body_end l _ (inl refl) (by_first g.body_end l _ (inl refl) h refl refl refl))
           (beside (form g.body l ∷ []) (a_sign h).passes)));
@@ -795,7 +746,7 @@ item_do l {item} {t} {at} {ts} {mid} {rest} k r h w =
 module _ (l : ℕ) {ts : List Token} (k : NotFirst (toks.Word words.Let) ts) where
   pub last_reads : {t : Tree} {mid rest : List Token} → ReadsForm g.expression l t ts mid → NotFirst (toks.Sign signs.Semi) mid
       → Reads (token (sign signs.CloseCurly) ∷ []) tt mid rest → ReadsForm g.body l (record { items = []; last = t }) ts rest
-  last_reads {t} {mid} r n q =
+  last_reads {mid} r n q =
       by_pieces g.body l _ (inr (inl refl)) (m.as_body l ts k) (and_then r (by_pieces g.body_end l _ (inr (inl refl)) (m.as_body_end l mid n) q))
 
   pub do_halts : {stop : Stop} → HaltsIn g.expression l ts stop → HaltsIn g.body l ts stop
@@ -803,7 +754,7 @@ module _ (l : ℕ) {ts : List Token} (k : NotFirst (toks.Word words.Let) ts) whe
 
   pub last_unclosed : {t : Tree} {mid : List Token} {stop : Stop} → ReadsForm g.expression l t ts mid → NotFirst (toks.Sign signs.Semi) mid
       → Halts (token (sign signs.CloseCurly) ∷ []) mid stop → HaltsIn g.body l ts stop
-  last_unclosed {t} {mid} r n h =
+  last_unclosed {mid} r n h =
       halts_there (form g.body l ∷ []) (form g.expression l ∷ form g.body_end l ∷ []) (m.as_body l ts k)
       (halts_behind (form g.body_end l ∷ []) r (halts_by_pieces g.body_end l _ (inr (inl refl)) (m.as_body_end l mid n) h))
 

@@ -14,7 +14,7 @@ use Rattle.revs_grammar.specs.Forms.{Mark, any_name, word, sign, word_code, sign
 use Rattle.revs_grammar.specs.Forms as g
 use Rattle.revs_grammar.specs.Productions.{productions}
 use Rattle.revs_grammar.specs.Sentences.{token, kept_token, opening_token, form, symbols, any_level, few_levels}
-use Rattle.revs_grammar.specs.inside.Machine.{Stack, Opening, first_some, behind, begun, table, is_empty, is_optional, at_level, taken, step, is_done, accepted, no_syntax, too_deep, is_end, at_token, outcome}
+use Rattle.revs_grammar.specs.inside.Machine.{Stack, Opening, first_some, behind, begun, table, is_empty, is_optional, at_level, taken, step, is_done, too_deep, is_end, at_token, outcome}
 use Rattle.revs_grammar.proofs.CheckHints.{rank, may_follow}
 use Rattle.revs_grammar.proofs.CheckLemmas.{begin, starts_well, starts}
 use Rattle.revs_grammar.proofs.LineLemmas.{word_low, code_low, not_true, all_lines-at, table_is, table_line}
@@ -25,24 +25,12 @@ use Rattle.revs_parser.specs.inside.Reading.{Heads, NotFirst, begins_base, base_
 -- Two stacks that take the next token in the same way have the same outcome.
 pub alike : (t : Token) (rest : List Token) (ms ns : Stack) → ((a : ℕ → Bool) → step a (code t.tok) ms ≡ step a (code t.tok) ns) → is_done ms ≡ is_done ns
     → outcome (t ∷ rest) ms ≡ outcome (t ∷ rest) ns
-alike t rest ms ns e h =
-    ap (λ (z : Option Stack). cond (is_end t.tok) (cond (is_done ms) accepted (no_syntax (length rest + 1)))
-    (at_token z (step any_level (code t.tok) ms) (length rest + 1) (outcome rest))) (e few_levels)
-    ∙ ap (λ (z : Option Stack). cond (is_end t.tok) (cond (is_done ms) accepted (no_syntax (length rest + 1)))
-    (at_token (step few_levels (code t.tok) ns) z (length rest + 1) (outcome rest))) (e any_level)
-    ∙ ap (λ (z : Bool). cond (is_end t.tok) (cond z accepted (no_syntax (length rest + 1)))
-    (at_token (step few_levels (code t.tok) ns) (step any_level (code t.tok) ns) (length rest + 1) (outcome rest))) h
+alike t rest ms ns e h = rw (e few_levels, e any_level, h)
 
 -- At a token that is no `End` only the steps count.
 alike_on : (t : Token) (rest : List Token) (ms ns : Stack) → is_end t.tok ≡ false → ((a : ℕ → Bool) → step a (code t.tok) ms ≡ step a (code t.tok) ns)
     → outcome (t ∷ rest) ms ≡ outcome (t ∷ rest) ns
-alike_on t rest ms ns n e =
-    ap (λ (b : Bool). cond b (cond (is_done ms) accepted (no_syntax (length rest + 1)))
-    (at_token (step few_levels (code t.tok) ms) (step any_level (code t.tok) ms) (length rest + 1) (outcome rest))) n
-    ∙ ap (λ (z : Option Stack). at_token z (step any_level (code t.tok) ms) (length rest + 1) (outcome rest)) (e few_levels)
-    ∙ ap (λ (z : Option Stack). at_token (step few_levels (code t.tok) ns) z (length rest + 1) (outcome rest)) (e any_level)
-    ∙ ap (λ (b : Bool). cond b (cond (is_done ns) accepted (no_syntax (length rest + 1)))
-    (at_token (step few_levels (code t.tok) ns) (step any_level (code t.tok) ns) (length rest + 1) (outcome rest))) (sym n)
+alike_on t rest ms ns n e = rw (n, e few_levels, e any_level)
 
 -- the outcome where a token of a known kind stands first
 abbrev pub headed : {k : Tok} {at : Place} {ts rest : List Token} → Heads k at ts rest → (ms : Stack) → outcome ts ms
@@ -63,29 +51,14 @@ at_first (t ∷ ts) h f = f t.tok h
 module _ {k : Tok} {at : Place} {ts rest : List Token} (m : Mark) (same : code k == mark_code m ≡ true) (n : is_end k ≡ false) (h : Heads k at ts rest) where
   -- The machine comes over a token that it expects.
   pub token_goes : (ms : Stack) → outcome ts (token m ∷ ms) ≡ outcome rest ms
-  token_goes ms =
-      headed h (token m ∷ ms)
-      ∙ ap (λ (b : Bool). cond b (no_syntax (length rest + 1)) (at_token (cond (code k == mark_code m) (Some ms) None)
-      (cond (code k == mark_code m) (Some ms) None)
-      (length rest + 1) (outcome rest))) n
-      ∙ ap (λ (b : Bool). at_token (cond b (Some ms) None) (cond b (Some ms) None) (length rest + 1) (outcome rest)) same
+  token_goes ms = rw (h.cut, n, same)
 
   pub kept_goes : (ms : Stack) → outcome ts (kept_token m ∷ ms) ≡ outcome rest ms
-  kept_goes ms =
-      headed h (kept_token m ∷ ms)
-      ∙ ap (λ (b : Bool). cond b (no_syntax (length rest + 1)) (at_token (cond (code k == mark_code m) (Some ms) None)
-      (cond (code k == mark_code m) (Some ms) None)
-      (length rest + 1) (outcome rest))) n
-      ∙ ap (λ (b : Bool). at_token (cond b (Some ms) None) (cond b (Some ms) None) (length rest + 1) (outcome rest)) same
+  kept_goes ms = rw (h.cut, n, same)
 
   opening_at : (l : ℕ) (few : Bool) → few_levels l ≡ few → (ms : Stack)
       → outcome ts (opening_token m l ∷ ms) ≡ at_token (cond few (Some ms) None) (Some ms) (length rest + 1) (outcome rest)
-  opening_at l few e ms =
-      headed h (opening_token m l ∷ ms)
-      ∙ ap (λ (b : Bool). cond b (no_syntax (length rest + 1)) (at_token (cond (code k == mark_code m) (cond (few_levels l) (Some ms) None) None)
-      (cond (code k == mark_code m) (Some ms) None) (length rest + 1) (outcome rest))) n
-      ∙ ap (λ (b : Bool). at_token (cond b (cond (few_levels l) (Some ms) None) None) (cond b (Some ms) None) (length rest + 1) (outcome rest)) same
-      ∙ ap (λ (b : Bool). at_token (cond b (Some ms) None) (Some ms) (length rest + 1) (outcome rest)) e
+  opening_at l few e ms = rw (h.cut, n, same, e)
 
   pub opening_goes : (l : ℕ) → few_levels l ≡ true → (ms : Stack) → outcome ts (opening_token m l ∷ ms) ≡ outcome rest ms
   opening_goes l ok ms = opening_at l true ok ms
@@ -117,8 +90,7 @@ front_step a c l r (opening m ∷ ps) ms w e = go (c == mark_code m)
     go false = refl
 front_step a c l r (sub d f ∷ ps) ms w e =
     let must = not_true (is_optional f) (and_parts (not (is_optional f)) (leb (rank f + 1) r) w).0 in
-    go (table c f)
-    ∙ ap (λ (b : Bool). taken a (level d l) (symbols l ps ++ ms) (table c f) (cond b (step a c (symbols l ps ++ ms)) None)) (sym must)
+    rw must (go (table c f))
   where
     go : (o : Option Opening) → taken a l ms (behind d ps o) None ≡ taken a (level d l) (symbols l ps ++ ms) o None
     go None = refl
@@ -136,11 +108,8 @@ pub as_line : (f : Form) (l : ℕ) (p : Production (Val f)) → IsOneOf p (produ
     → (ts : List Token) → AtFirst (IsRead f p.pieces) ts → (ms : Stack) → outcome ts (form f l ∷ ms) ≡ outcome ts (symbols l p.pieces ++ ms)
 as_line f l p i must some [] h ms = refl
 as_line f l p i must some (t ∷ ts) h ms =
-    alike t ts (form f l ∷ ms) (symbols l p.pieces ++ ms) (λ a.
-    ap (λ (b : Bool). taken a l ms (table (code t.tok) f) (cond b (step a (code t.tok) ms) None)) must
-    ∙ ap (λ (o : Option Opening). taken a l ms o None) h
-    ∙ front_step a (code t.tok) l (rank f) p.pieces ms starts_so some)
-    (ap (λ (b : Bool). b && is_done ms) must ∙ sym (not_done p.pieces starts_so some))
+    alike t ts (form f l ∷ ms) (symbols l p.pieces ++ ms) (λ a. rw (must, h) (front_step a (code t.tok) l (rank f) p.pieces ms starts_so some))
+    (rw (must, not_done p.pieces starts_so some))
   where
     starts_so : starts_well (rank f) p.pieces ≡ true
     starts_so = all_lines-at (starts_well (rank f)) (productions f) p (starts f) i
@@ -151,8 +120,7 @@ as_line f l p i must some (t ∷ ts) h ms =
     not_done (kept m ∷ ps) w e = refl
     not_done (opening m ∷ ps) w e = refl
     not_done (sub d g ∷ ps) w e =
-        let must = not_true (is_optional g) (and_parts (not (is_optional g)) (leb (rank g + 1) (rank f)) w).0 in
-        ap (λ (b : Bool). b && is_done (symbols l ps ++ ms)) must
+        let must = not_true (is_optional g) (and_parts (not (is_optional g)) (leb (rank g + 1) (rank f)) w).0 in rw must
 
 if_some : (x : Opening) (b : Bool) → b ≡ true → is_some (cond b (Some x) None) ≡ true
 if_some x true e = refl
@@ -180,7 +148,7 @@ taken_some a l ms other (Some o) e = refl
 pub by_first : (f : Form) (l : ℕ) (p : Production (Val f)) → IsOneOf p (productions f) → {k : Tok} {at : Place} {ts rest : List Token} → Heads k at ts rest
     → is_end k ≡ false → begin (may_follow f) (code k) p.pieces ≡ true → is_empty p.pieces ≡ false
     → (ms : Stack) → outcome ts (form f l ∷ ms) ≡ outcome ts (symbols l p.pieces ++ ms)
-by_first f l p i {k} {at} {ts} {rest} h n b some ms =
+by_first f l p i {k} {at} {rest} h n b some ms =
     headed h (form f l ∷ ms)
     ∙ alike_on (record { tok = k; at = at }) rest (form f l ∷ ms) (symbols l p.pieces ++ ms) n (λ a. taken_so a (table_line (code k) f p (code_low k) i b))
     ∙ sym (headed h (symbols l p.pieces ++ ms))
@@ -191,20 +159,15 @@ by_first f l p i {k} {at} {ts} {rest} h n b some ms =
     taken_so : (a : ℕ → Bool) → table (code k) f ≡ begun (table (code k)) (code k) p.pieces → step a (code k) (form f l ∷ ms)
         ≡ step a (code k) (symbols l p.pieces ++ ms)
     taken_so a is =
-        ap (λ (o : Option Opening). taken a l ms o (cond (is_optional f) (step a (code k) ms) None)) is
-        ∙ taken_some a l ms (cond (is_optional f) (step a (code k) ms) None) (begun (table (code k)) (code k) p.pieces)
+        rw is (taken_some a l ms (cond (is_optional f) (step a (code k) ms) None) (begun (table (code k)) (code k) p.pieces)
         (front_some (may_follow f) (code k) (rank f) p.pieces starts_so some b)
-        ∙ front_step a (code k) l (rank f) p.pieces ms starts_so some
+        ∙ front_step a (code k) l (rank f) p.pieces ms starts_so some)
 
 -- A form that the first token does not begin is left out.
 pub as_none : (f : Form) (l : ℕ) → is_optional f ≡ true → (ts : List Token) → AtFirst (IsLeftOut f) ts → (ms : Stack) → outcome ts (form f l ∷ ms)
     ≡ outcome ts ms
 as_none f l may [] h ms = refl
-as_none f l may (t ∷ ts) h ms =
-    alike t ts (form f l ∷ ms) ms (λ a.
-    ap (λ (b : Bool). taken a l ms (table (code t.tok) f) (cond b (step a (code t.tok) ms) None)) may
-    ∙ ap (λ (o : Option Opening). taken a l ms o (step a (code t.tok) ms)) h)
-    (ap (λ (b : Bool). b && is_done ms) may)
+as_none f l may (t ∷ ts) h ms = alike t ts (form f l ∷ ms) ms (λ a. rw (may, h)) (rw may)
 
 -- ---- tokens of another kind
 
@@ -232,7 +195,7 @@ is_word (toks.Name text) w e = absurd (omega (arith, e))
 is_word (toks.Number n) w e = absurd (omega (arith, e))
 is_word (toks.Word v) w e =
     let same : word_code v ≡ word_code w = omega (arith, e) in
-    ap (λ (x : Word). toks.Word x) (sym (word_back v) ∙ ap (λ (n : ℕ). get_or all_words n words.Main) same ∙ word_back w)
+    rw (← (word_back v), same, word_back w)
 is_word (toks.Sign s) w e = absurd (omega (arith, e, word_low w))
 
 is_sign : (t : Tok) (s : Sign) → code t ≡ 18 + sign_code s → t ≡ toks.Sign s
@@ -242,7 +205,7 @@ is_sign (toks.Number n) s e = absurd (omega (arith, e))
 is_sign (toks.Word w) s e = absurd (omega (arith, e, word_low w))
 is_sign (toks.Sign r) s e =
     let same : sign_code r ≡ sign_code s = omega (arith, e) in
-    ap (λ (x : Sign). toks.Sign x) (sym (sign_back r) ∙ ap (λ (n : ℕ). get_or all_signs n signs.Plus) same ∙ sign_back s)
+    rw (← (sign_back r), same, sign_back s)
 
 differs : (c k : ℕ) → ¬ (c ≡ k) → c == k ≡ false
 differs c k h = go (c == k) refl
@@ -268,7 +231,7 @@ first_only None = refl
 first_only (Some o) = refl
 
 not_behind : (d : Depth) (ps : List Piece) {o : Option Opening} → o ≡ None → first_some (behind d ps o) None ≡ None
-not_behind d ps e = ap (λ (z : Option Opening). first_some (behind d ps z) None) e
+not_behind d ps e = rw e
 
 -- a form with one line
 pub only_line : (f : Form) (l : ℕ) (p : Production (Val f)) → IsOneOf p (productions f) → is_optional f ≡ false → is_empty p.pieces ≡ false

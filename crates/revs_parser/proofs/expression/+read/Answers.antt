@@ -1,12 +1,7 @@
-use Rattle.std.proofs.Common.{◌≡◌, sym, ◌∙◌, ap, subst, map, arith, length}
-use Rattle.revs_terms.specs.Trees.{function, parts, append, rotate, clean, assert, assign, block, bind, item_trees, tree_of, item_tree_of}
-use Rattle.revs_terms.specs.declared.term.Lambda.{Lambda}
-use Rattle.revs_terms.specs.declared.term.Term.{Term}
+use Rattle.std.proofs.Common.{◌≡◌, sym, ◌∙◌, arith, length}
+use Rattle.revs_terms.specs.Trees.{tree_of}
 use Rattle.revs_terms.proofs.ShapeLemmas.{tree_of-Name, tree_of-Bool, tree_of-Reg, tree_of-Block, tree_of-Fun, tree_of-At, tree_of-Apply, tree_of-Append, tree_of-Rotate, tree_of-Clean, tree_of-Assert, tree_of-And, tree_of-Xor, tree_of-Assign, item_tree_of-Let, item_tree_of-Do}
-use Rattle.revs_parser.specs.declared.expression.Piece.{Piece}
-use Rattle.revs_parser.specs.declared.expression.Piece.TheVariants as pieces
 use Rattle.std.proofs.lemmas.Bool.{eqb-true, eqb-false}
-use Rattle.revs_parser.specs.inside.Forms.{ReadsPiece}
 use Rattle.revs_parser.proofs.PassingLemmas.{stops_so, on_ok, on_err, only, smaller_behind, halts_first}
 use Rattle.revs_parser.proofs.ReadingLemmas as r
 use Rattle.revs_parser.proofs.expression.+read.Goals as goal
@@ -43,10 +38,7 @@ expression-returns-in_err-right-clause-halts t c =
 
 pub expression-returns-clause-ok : goal.expression-returns-clause-ok
 expression-returns-clause-ok t c = r.expression_assign c.args.level c.in_default.ensures.none c.in_ok-left.ensures.ok c.in-Some-after.ensures.found
-    c.in_ok-right.ensures.ok
-    (tree_of-Assign c.in_ok-new.field-0 c.in_ok-new-2.field-0
-    ∙ ap (λ (z : Term). assign (tree_of z) (tree_of c.in_ok-new-2.field-0.value)) c.in_ok-new.ensures.ok
-    ∙ ap (λ (z : Term). assign (tree_of c.in_ok-left.left) (tree_of z)) c.in_ok-new-2.ensures.ok)
+    c.in_ok-right.ensures.ok (rw (tree_of-Assign, c.in_ok-new.ensures.ok, c.in_ok-new-2.ensures.ok))
 
 -- ---- functions
 
@@ -71,8 +63,7 @@ function-returns-in_err-body-clause-halts t c =
 pub function-returns-clause-ok : goal.function-returns-clause-ok
 function-returns-clause-ok t c = r.function_reads c.args.level c.args.at c.in_ok-first.ensures.ok
     (only c.new-names.result.items c.in_ok-first.first c.in_ok-push.ensures.items c.new-names.ensures.items)
-    c.in_ok-names.ensures.ok c.in_ok-rest.ensures.ok c.in_ok-body.ensures.ok
-    (tree_of-Fun c.in_ok-function.function c.args.at ∙ ap (λ (z : Lambda). function z.names.items (tree_of z.body) c.args.at) c.in_ok-function.ensures.ok)
+    c.in_ok-names.ensures.ok c.in_ok-rest.ensures.ok c.in_ok-body.ensures.ok (rw (tree_of-Fun, c.in_ok-function.ensures.ok))
 
 -- ---- sums
 
@@ -148,7 +139,7 @@ application-returns-in_err-operand-clause-halts t c =
 
 pub application-returns-in-Some-clause-ok : goal.application-returns-in-Some-clause-ok
 application-returns-in-Some-clause-ok t c = r.application_clean c.args.level c.in-Some.ensures.found c.in_ok-operand.ensures.ok
-    (tree_of-Clean c.in_ok-new.field-0 c.in-Some.at ∙ ap (λ (z : Term). clean (tree_of z) c.in-Some.at) c.in_ok-new.ensures.ok)
+    (rw (tree_of-Clean, c.in_ok-new.ensures.ok))
 
 pub application-returns-in_err-operand-2-clause-halts : goal.application-returns-in_err-operand-2-clause-halts
 application-returns-in_err-operand-2-clause-halts t c =
@@ -156,7 +147,7 @@ application-returns-in_err-operand-2-clause-halts t c =
 
 pub application-returns-in-Some-after_word-clause-ok : goal.application-returns-in-Some-after_word-clause-ok
 application-returns-in-Some-after_word-clause-ok t c = r.application_assert c.args.level c.in-Some-after_word.ensures.found c.in_ok-operand-2.ensures.ok
-    (tree_of-Assert c.in_ok-new-2.field-0 c.in-Some-after_word.at ∙ ap (λ (z : Term). assert (tree_of z) c.in-Some-after_word.at) c.in_ok-new-2.ensures.ok)
+    (rw (tree_of-Assert, c.in_ok-new-2.ensures.ok))
 
 pub application-returns-in_err-first-clause-halts : goal.application-returns-in_err-first-clause-halts
 application-returns-in_err-first-clause-halts t c =
@@ -169,10 +160,7 @@ application-returns-in_err-second-clause-halts t c =
 
 pub application-returns-in-Some-after_word-2-clause-ok : goal.application-returns-in-Some-after_word-2-clause-ok
 application-returns-in-Some-after_word-2-clause-ok t c = r.application_append c.args.level c.in-Some-after_word-2.ensures.found c.in_ok-first.ensures.ok
-    c.in_ok-second.ensures.ok
-    (tree_of-Append c.in_ok-new-3.field-0 c.in_ok-new-4.field-0 c.in-Some-after_word-2.at
-    ∙ ap (λ (z : Term). append (tree_of z) (tree_of c.in_ok-new-4.field-0.value) c.in-Some-after_word-2.at) c.in_ok-new-3.ensures.ok
-    ∙ ap (λ (z : Term). append (tree_of c.in_ok-first.first) (tree_of z) c.in-Some-after_word-2.at) c.in_ok-new-4.ensures.ok)
+    c.in_ok-second.ensures.ok (rw (tree_of-Append, c.in_ok-new-3.ensures.ok, c.in_ok-new-4.ensures.ok))
 
 pub application-returns-in_err-by-clause-halts : goal.application-returns-in_err-by-clause-halts
 application-returns-in_err-by-clause-halts t c =
@@ -185,9 +173,7 @@ application-returns-in_err-operand-3-clause-halts t c =
 
 pub application-returns-in-Some-after_word-3-clause-ok : goal.application-returns-in-Some-after_word-3-clause-ok
 application-returns-in-Some-after_word-3-clause-ok t c = r.application_rotate c.args.level c.in-Some-after_word-3.ensures.found c.in_ok-by.ensures.ok
-    c.in_ok-operand-3.ensures.ok
-    (tree_of-Rotate c.in_ok-by.by c.in_ok-new-5.field-0 c.in-Some-after_word-3.at
-    ∙ ap (λ (z : Term). rotate c.in_ok-by.by (tree_of z) c.in-Some-after_word-3.at) c.in_ok-new-5.ensures.ok)
+    c.in_ok-operand-3.ensures.ok (rw (tree_of-Rotate, c.in_ok-new-5.ensures.ok))
 
 pub application-returns-clause-ok : goal.application-returns-clause-ok
 application-returns-clause-ok t c = on_ok c.atoms.result
@@ -263,8 +249,7 @@ atom-returns-clause-ok t c =
     let e : ¬ (c.in_ok-parts.parts.len ≡ 0) = eqb-false c.in_ok-parts.parts.len 0 (sym c.is_empty.ensures ∙ c.if-is_empty.false) in
     let some : ¬ (length c.in_ok-parts.parts.items ≡ 0) = λ none. e (omega arith) in
     r.atom_reads c.args.level c.in_ok-inner.ensures.ok c.in_ok-parts.ensures.ok
-    (tree_of-At c.in_ok-new.field-0 c.in_ok-parts.parts ∙ ap (λ (z : Term). parts (tree_of z) c.in_ok-parts.parts.items) c.in_ok-new.ensures.ok
-    ∙ r.some_part (tree_of c.in_ok-inner.inner) c.in_ok-parts.parts.items some)
+    (rw (tree_of-At, c.in_ok-new.ensures.ok) (r.some_part (tree_of c.in_ok-inner.inner) c.in_ok-parts.parts.items some))
 
 -- ---- bases
 
@@ -389,25 +374,19 @@ block-returns-in_err-next-clause-halts t c =
 
 pub block-items-preserved : goal.block-items-preserved
 block-items-preserved t c =
-    let item : ReadsPiece c.args.level (pieces.Item c.in-Item.item) c.items.rest.now c.in_ok-next.left.now =
-    subst (λ (z : Piece). ReadsPiece c.args.level z c.items.rest.now c.in_ok-next.left.now) c.in-Item.is c.in_ok-next.ensures.ok in
+    let item = rw c.in-Item.is at c.in_ok-next.ensures.ok in
     record {
       read = r.block_more c.args.level c.items.items.items c.in-Item.item {new = c.push.new.self.items} c.items.invariant.read item
           c.in_ok-push-in-Item.ensures.items;
     }
 
 pub block-items-smaller : goal.block-items-smaller
-block-items-smaller t c =
-    let item : ReadsPiece c.args.level (pieces.Item c.in-Item.item) c.items.rest.now c.in_ok-next.left.now =
-    subst (λ (z : Piece). ReadsPiece c.args.level z c.items.rest.now c.in_ok-next.left.now) c.in-Item.is c.in_ok-next.ensures.ok in item.shorter
+block-items-smaller t c = let item = rw c.in-Item.is at c.in_ok-next.ensures.ok in item.shorter
 
 pub block-returns-in-Last-clause-ok : goal.block-returns-in-Last-clause-ok
 block-returns-in-Last-clause-ok t c =
-    let last : ReadsPiece c.args.level (pieces.Last c.in-Last.last) c.items.rest.now c.in_ok-next.left.now =
-    subst (λ (z : Piece). ReadsPiece c.args.level z c.items.rest.now c.in_ok-next.left.now) c.in-Last.is c.in_ok-next.ensures.ok in
-    r.block_done c.args.level c.args.at c.items.invariant.read last
-    (tree_of-Block c.items.items c.in_ok-new-in-Last.field-0 c.args.at
-    ∙ ap (λ (z : Term). block (item_trees (map item_tree_of c.items.items.items)) (tree_of z) c.args.at) c.in_ok-new-in-Last.ensures.ok)
+    let last = rw c.in-Last.is at c.in_ok-next.ensures.ok in
+    r.block_done c.args.level c.args.at c.items.invariant.read last (rw (tree_of-Block, c.in_ok-new-in-Last.ensures.ok))
 
 -- ---- items
 
@@ -463,5 +442,4 @@ binding-returns-in_err-rest-2-clause-halts t c =
 
 pub binding-returns-clause-ok : goal.binding-returns-clause-ok
 binding-returns-clause-ok t c = r.binding_reads c.args.level c.in_ok-bound.ensures.ok c.new.ensures.items c.in_ok-names.ensures.ok c.in_ok-rest.ensures.ok
-    c.in_ok-body.ensures.ok c.in_ok-rest-2.ensures.ok
-    (item_tree_of-Let c.in_ok-bound.bound c.in_ok-value.value ∙ ap (bind c.in_ok-bound.bound) c.in_ok-value.ensures.ok)
+    c.in_ok-body.ensures.ok c.in_ok-rest-2.ensures.ok (rw (item_tree_of-Let, c.in_ok-value.ensures.ok))
