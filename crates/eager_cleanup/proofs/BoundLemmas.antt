@@ -1,0 +1,253 @@
+-- What is held and paid for stays within the eager numbers.
+use Rattle.std.proofs.Common.{◌≡◌, ℕ, zero, suc, ◌+◌, ◌*◌, ◌<◌, ◌≤◌, Bool, true, ltb, min, inl, inr, List, [], ◌∷◌, length, get_or, slice_get, Option, Some, None, refl, sym, ap, ◌∙◌, subst, arith}
+use Rattle.std.specs.List.{list_all, sum_by}
+use Rattle.std.proofs.lemmas.Bool.{cases_Bool, cases_lt, ltb-true, ltb-false, true≢false}
+use Rattle.std.proofs.lemmas.Bool.Decides.{leb_tells}
+use Rattle.std.proofs.lemmas.List.Folds.{list_all_at}
+use Rattle.std.proofs.Math.Nat.{mul-le-mul_right}
+use Rattle.claim_check.specs.Budgets.{Measures, eager_gates, eager_lines, is_cleaned, most_cleaned, step_gates}
+use Rattle.claim_check.specs.Measures.{HasMonomials, IsWithin, node_function}
+use Rattle.claim_check.specs.Settled.{SettledView}
+use Rattle.claim_check.proofs.SelectedLemmas.{selected_pass, selected_sum}
+use Rattle.dependency_graph.specs.declared.node.Base.{Base}
+use Rattle.dependency_graph.specs.declared.node.Base.TheVariants as bases
+use Rattle.dependency_graph.specs.declared.node.Node.{Node}
+use Rattle.dependency_graph.specs.Graphs.{IsKnownBase, operands}
+use Rattle.gate_split.specs.declared.plan.PlanFault.{PlanFault}
+use Rattle.gate_split.specs.declared.plan.PlanFault.TheVariants.{Lines, Gates, Memory}
+use Rattle.gate_split.specs.Plans.{BudgetView}
+use Rattle.held_nodes.specs.Held.{ForwardView, first_work, held_count, is_held, work_lines}
+use Rattle.held_nodes.specs.Moves.{IsReadyBase, IsReadyNode, IsStartFault, IsToggleFault}
+use Rattle.held_nodes.specs.Plans.{wanted_lines}
+use Rattle.held_nodes.proofs.ValueLemmas.{known_at}
+use Rattle.list_facts.specs.Lists.{IsAmong}
+use Rattle.list_facts.proofs.AmongLemmas.{all_among, all_from_among}
+use Rattle.revc_base.specs.Monomials.{AreMonomialsOf}
+use Rattle.revc_base.proofs.MonomialLemmas.{monomials_are_determined}
+use Rattle.eager_cleanup.specs.Eager.{HasFewGates, IsEagerFault}
+use Rattle.eager_cleanup.specs.inside.Known.{AreKnownValues, HasLargeNode, IsKnownValue, Polynomial, value_at}
+use Rattle.eager_cleanup.specs.inside.Sweeps.{BoundsCuts, HasHeavy, IsSwept, IsUseFault, all_gates, cleaning_gates, gates_in, last_use_of, paid_gates, total}
+use Rattle.eager_cleanup.proofs.CleaningLemmas.{toggle_light}
+use Rattle.eager_cleanup.proofs.CostLemmas.{light_forward}
+use Rattle.eager_cleanup.proofs.HolderLemmas.{held_below}
+use Rattle.eager_cleanup.proofs.KnownLemmas.{known_operands}
+use Rattle.eager_cleanup.proofs.SweepLemmas.{held_in_cut, settled_of}
+use Rattle.eager_cleanup.proofs.TotalLemmas.{sum_total, total_longer, total_no_more, total_with}
+use Rattle.eager_cleanup.proofs.UserLemmas.{used_here}
+
+-- ---- the numbers of monomials
+
+pub same_count : (n : ℕ) (f : List Bool → Bool) (p : Polynomial) (count : ℕ) → AreMonomialsOf n f p → HasMonomials n f count → length p ≡ count
+same_count n f p count are has =
+    let own = monomials_are_determined n f in
+    ap length (own.only p are ∙ sym (own.only has.monomials has.are)) ∙ has.counted
+
+cleaned_at : (counts : List ℕ) (k : ℕ) → list_all is_cleaned counts ≡ true → k < length counts → get_or counts k 0 ≤ most_cleaned
+cleaned_at counts k all low = elim (leb_tells (get_or counts k 0) most_cleaned) as (λ _. get_or counts k 0 ≤ most_cleaned) [
+  | inl t ↦ t.1
+  | inr t ↦ absurd (true≢false (sym all ∙ list_all_at is_cleaned counts k 0 low t.0))
+]
+
+-- where each step of the measures is cleaned no node is large
+pub all_small : (s : SettledView) (m : Measures) → IsWithin s m → list_all is_cleaned m.monomials ≡ true → ¬ HasLargeNode s
+all_small s m within all large =
+    let low : large.node < length within.counts = omega (arith, large.inside, within.one_each) in
+    let few = cleaned_at within.counts large.node (selected_pass is_cleaned within.counts m.monomials within.selected all) low in
+    let count = same_count s.inputs (node_function s large.node) large.monomials (get_or within.counts large.node 0) large.are
+    (within.monomials large.node low) in
+    omega (arith, large.large, few, count)
+
+-- ---- gates
+
+value_gates : (s : SettledView) (k count : ℕ) (value : Option Polynomial) → IsKnownValue s k value → HasMonomials s.inputs (node_function s k) count
+    → all_gates s.inputs value ≤ step_gates s.inputs count
+value_gates s k count None large has = omega arith
+value_gates s k count (Some p) is has =
+    let same = same_count s.inputs (node_function s k) p count is.are has in
+    let few : length p ≤ min count most_cleaned = omega (arith, same, is.few) in
+    let product : length p * (10 * s.inputs + 1) ≤ min count most_cleaned * (10 * s.inputs + 1) = mul-le-mul_right (10 * s.inputs + 1) few in
+    omega (arith, product)
+
+abbrev pub most_total : SettledView → List (Option Polynomial) → ℕ
+most_total s known = total (λ k. all_gates s.inputs (value_at known k)) (length s.nodes)
+
+pub total_within : (s : SettledView) (known : List (Option Polynomial)) (m : Measures) → AreKnownValues s known → IsWithin s m
+    → m.outputs + 2 * most_total s known ≤ eager_gates m
+total_within s known m values within =
+    let counts : List ℕ = within.counts in
+    let each = total_no_more (λ k. all_gates s.inputs (value_at known k)) (λ k. step_gates s.inputs (get_or counts k 0)) (length s.nodes)
+    (λ k low. value_gates s k (get_or counts k 0) (value_at known k) (values.values.each k (omega (arith, low, values.one_each)))
+    (within.monomials k (omega (arith, low, within.one_each)))) in
+    let length_same = ap (total (λ k. step_gates s.inputs (get_or counts k 0))) within.one_each in
+    let selected = selected_sum (step_gates s.inputs) counts m.monomials within.selected in
+    let inputs = ap (λ (n : ℕ). sum_by (step_gates n) m.monomials) within.inputs in
+    omega (arith, each, sum_total (step_gates s.inputs) counts, length_same, selected, inputs)
+
+pub few_gates : (s : SettledView) (b : BudgetView) (known : List (Option Polynomial)) (gates : ℕ) → AreKnownValues s known → b.gates < 2 * gates
+    → gates ≤ most_total s known → HasFewGates s b
+few_gates s b known gates values over within = record {
+  few = λ m is. omega (arith, over, within, total_within s known m values is);
+}
+
+less_paid : (n : ℕ) (value : Option Polynomial) (lines : List (Option ℕ)) (k : ℕ) → paid_gates n value lines k ≤ all_gates n value
+less_paid n value lines k = elim (cases_Bool (is_held lines k)) as (λ _. paid_gates n value lines k ≤ all_gates n value) [
+  | inl held ↦ rw held (omega arith)
+  | inr free ↦ rw free (omega arith)
+]
+
+-- what is paid for so far, and what is still to pay for a held node, is not too much
+pub paid_within : (s : SettledView) (known : List (Option Polynomial)) (lines : List (Option ℕ)) (count k : ℕ) → k < count → count ≤ length s.nodes
+    → is_held lines k ≡ true
+    → total (λ i. paid_gates s.inputs (value_at known i) lines i) count + cleaning_gates s.inputs (value_at known k) ≤ most_total s known
+paid_within s known lines count k low inside held =
+    let here : paid_gates s.inputs (value_at known k) lines k + cleaning_gates s.inputs (value_at known k) ≤ all_gates s.inputs (value_at known k) =
+    rw held (omega arith) in
+    let part = total_with (λ i. paid_gates s.inputs (value_at known i) lines i) (λ i. all_gates s.inputs (value_at known i)) count k
+    (cleaning_gates s.inputs (value_at known k)) low (λ i lower. less_paid s.inputs (value_at known i) lines i) here in
+    omega (arith, part, total_longer (λ i. all_gates s.inputs (value_at known i)) count (length s.nodes) inside)
+
+pub paid_all : (s : SettledView) (known : List (Option Polynomial)) (lines : List (Option ℕ)) (count : ℕ) → count ≤ length s.nodes
+    → total (λ i. paid_gates s.inputs (value_at known i) lines i) count ≤ most_total s known
+paid_all s known lines count inside = omega (
+  arith,
+  total_no_more (λ i. paid_gates s.inputs (value_at known i) lines i) (λ i. all_gates s.inputs (value_at known i)) count
+      (λ i lower. less_paid s.inputs (value_at known i) lines i),
+  total_longer (λ i. all_gates s.inputs (value_at known i)) count (length s.nodes) inside,
+)
+
+-- what is paid for so far, and a toggle more, is not too much
+pub paid_more : (s : SettledView) (known : List (Option Polynomial)) (lines : List (Option ℕ)) (count : ℕ) → count < length s.nodes
+    → total (λ i. paid_gates s.inputs (value_at known i) lines i) count + 2 ≤ most_total s known
+paid_more s known lines count inside =
+    let next : count + 1 ≡ suc count = omega arith in
+    let step = ap (total (λ i. all_gates s.inputs (value_at known i))) next in
+    omega (
+      arith,
+      total_no_more (λ i. paid_gates s.inputs (value_at known i) lines i) (λ i. all_gates s.inputs (value_at known i)) count
+          (λ i lower. less_paid s.inputs (value_at known i) lines i),
+      step,
+      total_longer (λ i. all_gates s.inputs (value_at known i)) (count + 1) (length s.nodes) (omega (arith, inside)),
+    )
+
+-- ---- lines
+
+-- so many work lines are enough for these measures
+pub lines_enough : (s : SettledView) (m : Measures) (work borrowed : ℕ) → IsWithin s m → work ≤ length s.nodes
+    → (¬ HasLargeNode s → (width : ℕ) → BoundsCuts s width → work ≤ width + 1) → first_work s + work + borrowed ≤ eager_lines m borrowed
+lines_enough s m work borrowed within most few =
+    elim (cases_Bool (list_all is_cleaned m.monomials)) as (λ _. first_work s + work + borrowed ≤ eager_lines m borrowed) [
+      | inl all ↦
+          let bound = few (all_small s m within all) m.width (record { cuts = within.cuts }) in
+          rw all (omega (arith, bound, most, within.inputs, within.outputs, within.steps))
+      | inr large ↦ rw large (omega (arith, most, within.inputs, within.outputs, within.steps))
+    ]
+
+pub wanted_more : (s : SettledView) (b : BudgetView) → first_work s + b.borrow ≤ b.lines → b.lines + 1 ≡ wanted_lines s b
+wanted_more s b enough = elim (cases_Bool (ltb b.lines (first_work s + b.borrow))) as (λ _. b.lines + 1 ≡ wanted_lines s b) [
+  | inl e ↦ absurd (omega (arith, ltb-true b.lines (first_work s + b.borrow) e, enough))
+  | inr e ↦ rw e refl
+]
+
+pub wanted_sum : (s : SettledView) (b : BudgetView) → b.lines < first_work s + b.borrow → first_work s + b.borrow ≡ wanted_lines s b
+wanted_sum s b short = elim (cases_Bool (ltb b.lines (first_work s + b.borrow))) as (λ _. first_work s + b.borrow ≡ wanted_lines s b) [
+  | inl e ↦ rw e refl
+  | inr e ↦ absurd (omega (arith, ltb-false b.lines (first_work s + b.borrow) e, short))
+]
+
+-- ---- faults
+
+-- a beginning that is refused
+pub start_fault : (s : SettledView) (b : BudgetView) (fault : PlanFault) → IsStartFault s b fault → IsEagerFault s b fault
+start_fault s b (Lines need) is = (
+  record {
+    few = λ m within. omega (
+      arith,
+      is.0,
+      is.1,
+      lines_enough s m 0 b.borrow within (omega arith) (λ none width bounds. omega arith),
+    );
+  },
+  is.1 ∙ wanted_sum s b (omega (arith, is.0, is.1)),
+)
+start_fault s b Gates is = absurd is
+start_fault s b Memory is = tt
+
+-- a toggle of the next node that is refused
+pub next_fault : (s : SettledView) (b : BudgetView) (known : List (Option Polynomial)) (j : ℕ) (f : ForwardView) (fault : PlanFault)
+    → AreKnownValues s known → IsSwept s b known j [] f → j < length s.nodes → IsToggleFault f j fault → IsEagerFault s b fault
+next_fault s b known j f (Lines need) values is inside fault =
+    let budget : f.budget ≡ b = is.budget in
+    let graph : f.graph ≡ s = is.graph in
+    let full : held_count f.lines ≡ work_lines s b =
+    fault.0.full ∙ ap (λ (g : SettledView). work_lines g f.budget) graph ∙ ap (work_lines s) budget in
+    let lines = ap (λ (x : BudgetView). x.lines) budget in
+    let borrow = ap (λ (x : BudgetView). x.borrow) budget in
+    let first = ap first_work graph in
+    let enough : first_work s + b.borrow ≤ b.lines = omega (arith, is.forward.within, lines, borrow, first) in
+    let below = held_below f.lines j is.behind in (
+      record {
+        few = λ m within. omega (
+          arith,
+          full,
+          enough,
+          lines_enough s m (held_count f.lines + 1) b.borrow within (omega (arith, below, inside))
+              (λ none width bounds. omega
+              (arith, held_in_cut s b known j f is (omega (arith, inside)) none, bounds.cuts j (omega (arith, inside)))),
+        );
+      },
+      fault.1 ∙ omega (arith, lines, wanted_more s b enough),
+    )
+next_fault s b known j f Gates values is inside fault =
+    let gates = ap (λ (x : BudgetView). x.gates) is.budget in
+    few_gates s b known (gates_in f + 2) values
+    (omega (arith, gates, fault.1.heavy, toggle_light fault.1.node, light_forward f is.forward))
+    (omega (arith, is.gates, paid_more s known f.lines j inside))
+next_fault s b known j f Memory values is inside fault = tt
+
+heavy_fault : (s : SettledView) (b : BudgetView) (known : List (Option Polynomial)) (user : ℕ) (base : Base) (used : List Base) (f : ForwardView)
+    → AreKnownValues s known → IsSwept s b known (user + 1) used f → user < length s.nodes → HasHeavy s known user base f → HasFewGates s b
+heavy_fault s b known user base used f values is inside heavy =
+    let gates = ap (λ (x : BudgetView). x.gates) is.budget in
+    let low : heavy.node < user + 1 = elim (cases_lt heavy.node (user + 1)) as (λ _. heavy.node < user + 1) [
+      | inl early ↦ early
+      | inr late ↦ absurd (true≢false (sym heavy.heavy.held ∙ is.behind heavy.node late))
+    ] in
+    let cost : cleaning_gates f.graph.inputs (value_at known heavy.node) ≡ cleaning_gates s.inputs (value_at known heavy.node) =
+    ap (λ (g : SettledView). cleaning_gates g.inputs (value_at known heavy.node)) is.graph in
+    few_gates s b known (gates_in f + cleaning_gates s.inputs (value_at known heavy.node)) values
+    (omega (arith, gates, heavy.heavy.heavy, cost))
+    (omega (arith, is.gates, paid_within s known f.lines (user + 1) heavy.node low (omega (arith, inside)) heavy.heavy.held))
+
+-- a cleaning of an operand that is refused
+pub used_fault : (s : SettledView) (b : BudgetView) (known : List (Option Polynomial)) (user : ℕ) (base : Base) (used : List Base) (f : ForwardView)
+    (fault : PlanFault) → AreKnownValues s known → IsSwept s b known (user + 1) used f → user < length s.nodes → IsUseFault s known user base f fault
+    → IsEagerFault s b fault
+used_fault s b known user base used f (Lines need) values is inside fault = absurd fault
+used_fault s b known user base used f Gates values is inside fault = heavy_fault s b known user base used f values is inside fault
+used_fault s b known user base used f Memory values is inside fault = tt
+
+-- ---- the next node
+
+-- the operands of the next node are inputs, or held
+pub next_ready : (s : SettledView) (b : BudgetView) (known : List (Option Polynomial)) (j : ℕ) (f : ForwardView) → IsSwept s b known j [] f
+    → j < length s.nodes → IsReadyNode f.graph f.lines j
+next_ready s b known j f is inside =
+    let node = got s.nodes j inside in
+    let settled = settled_of s b known j [] f is in
+    subst (λ (g : SettledView). IsReadyNode g f.lines j) (sym is.graph) (record {
+      node = node.0;
+      is = node.1;
+      ready = all_from_among (IsReadyBase f.lines) (operands node.0)
+          (λ base among. ready base (all_among (IsKnownBase s.inputs j) (operands node.0)
+          (known_operands s.inputs j node.0 (known_at s.inputs j s.nodes node.0 settled.nodes node.1)) base among)
+          (λ k e. used_here s j k node.0 node.1 (subst (λ (x : Base). IsAmong x (operands node.0)) e among)));
+    })
+  where
+    got : (nodes : List Node) (k : ℕ) → k < length nodes → (node : Node) × (slice_get nodes k ≡ Some node)
+    got [] k low = absurd (omega (arith, low))
+    got (x ∷ xs) zero low = (x, refl)
+    got (x ∷ xs) (suc k) low = got xs k (omega (arith, low))
+
+    ready : (base : Base) → IsKnownBase s.inputs j base → ((k : ℕ) → base ≡ bases.Node k → j ≤ last_use_of s k) → IsReadyBase f.lines base
+    ready (bases.Input i) known later = tt
+    ready (bases.Node k) low later = is.needed k low (later k refl)

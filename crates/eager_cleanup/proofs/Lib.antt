@@ -1,0 +1,9 @@
+pub mod BoundLemmas
+pub mod CleaningLemmas
+pub mod CostLemmas
+pub mod HolderLemmas
+pub mod KnownLemmas
+pub mod PlanLemmas
+pub mod SweepLemmas
+pub mod TotalLemmas
+pub mod UserLemmas

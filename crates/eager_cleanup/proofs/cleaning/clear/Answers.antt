@@ -1,0 +1,33 @@
+use Rattle.std.proofs.Common.{Some}
+use Rattle.std.proofs.lemmas.Result.{IfErr-weaker}
+use Rattle.held_nodes.specs.Held.{IsForward}
+use Rattle.held_nodes.specs.Moves.{IsCleared, IsClearFault}
+use Rattle.eager_cleanup.specs.inside.Sweeps.{IsCleaned, IsCleaningFault}
+use Rattle.eager_cleanup.proofs.CleaningLemmas.{both_ok, can_clear, cleared, clear_fault}
+use Rattle.eager_cleanup.proofs.cleaning.clear.Goals as goal
+
+pub clear-requires : goal.clear-requires
+clear-requires c =
+    rw c.deref.ensures.value
+    (can_clear c.args.forward c.args.k c.args.poly.now c.in_ok-cubes.cubes.items c.requires.value c.requires.held c.in_ok-cubes.ensures.sum)
+
+pub returns-clause-ok : goal.returns-clause-ok
+returns-clause-ok c =
+    let f = c.args.forward in
+    let k = c.args.k in
+    let p = c.args.poly.now in
+    let cubes = c.in_ok-cubes.cubes.items in
+    let ok = rw c.deref.ensures.value at c.clear.ensures.ok in
+    both_ok c.clear.result (IsCleared f k cubes) IsForward (IsCleaned (Some p) f k)
+    (λ next clear forward. cleared f next k p cubes c.requires.keeps forward c.requires.value c.in_ok-cubes.ensures.sum clear)
+    ok c.clear.ensures.keeps
+
+pub returns-clause-refused : goal.returns-clause-refused
+returns-clause-refused c =
+    let f = c.args.forward in
+    let k = c.args.k in
+    let p = c.args.poly.now in
+    let cubes = c.in_ok-cubes.cubes.items in
+    let refused = rw c.deref.ensures.value at c.clear.ensures.refused in
+    IfErr-weaker c.clear.result (IsClearFault f k cubes) (IsCleaningFault (Some p) f k)
+    (λ fault is. clear_fault f k p cubes fault c.requires.keeps c.requires.held c.requires.value c.in_ok-cubes.ensures.sum is) refused

@@ -1,0 +1,6 @@
+use Rattle.std.proofs.Common.{[]}
+use Rattle.eager_cleanup.specs.inside.Sweeps.{IsSwept}
+use Rattle.eager_cleanup.proofs.planning.swept.Given as goal
+
+abbrev pub invariant-loop-node : goal.invariant-loop-node
+invariant-loop-node l = IsSwept l.graph l.fn.forward.budget l.known l.node [] l.forward

@@ -1,0 +1,88 @@
+-- Known values: the polynomials of nodes over the inputs.
+use Rattle.std.specs.Prelude.{◌≡◌, ℕ, ◌<◌, ◌≤◌, Bool, not, ◌&&◌, List, [], ◌∷◌, length, slice_index_or, Option, Some, None}
+use Rattle.std.specs.Bool.{xor}
+use Rattle.claim_check.specs.Budgets.{most_cleaned}
+use Rattle.claim_check.specs.Measures.{node_function}
+use Rattle.claim_check.specs.Settled.{SettledView}
+use Rattle.dependency_graph.specs.declared.node.Base.{Base}
+use Rattle.dependency_graph.specs.declared.node.Base.TheVariants as bases
+use Rattle.dependency_graph.specs.declared.node.Node.{Node}
+use Rattle.dependency_graph.specs.declared.node.Node.TheVariants.{Not, Xor, And}
+use Rattle.exclusive_sums.specs.Limits.{IsPolynomialUpTo}
+use Rattle.revc_base.specs.Monomials.{AreMonomialsOf}
+use Rattle.revc_base.specs.Polynomials.{value_of_polynomial}
+
+-- ---- values
+
+abbrev pub Polynomial : Type 0
+Polynomial = List (List ℕ)
+
+-- the value of a node, where it is known
+abbrev pub value_at : List (Option Polynomial) → ℕ → Option Polynomial
+value_at known k = slice_index_or known k None
+
+-- a node has too many monomials to be cleaned by them
+pub record HasLargeNode (s : SettledView) : Type 0 where
+  pub node : ℕ
+  pub inside : node < length s.nodes
+  pub monomials : Polynomial
+  pub are : AreMonomialsOf s.inputs (node_function s node) monomials
+  pub large : most_cleaned < length monomials
+
+-- the monomials of a node, few of them
+pub record IsKnownPolynomial (s : SettledView) (k : ℕ) (p : Polynomial) : Type 0 where
+  pub are : AreMonomialsOf s.inputs (node_function s k) p
+  pub few : length p ≤ most_cleaned
+
+-- the value of a node is its polynomial, or it is not known since some node has too many monomials
+abbrev pub IsKnownValue : SettledView → ℕ → Option Polynomial → Type 0
+IsKnownValue s k None = HasLargeNode s
+IsKnownValue s k (Some p) = IsKnownPolynomial s k p
+
+-- these are the values of the first nodes
+pub record AreFirstValues (s : SettledView) (known : List (Option Polynomial)) : Type 0 where
+  pub each : (k : ℕ) → k < length known → IsKnownValue s k (value_at known k)
+
+-- these are the values of all nodes
+pub record AreKnownValues (s : SettledView) (known : List (Option Polynomial)) : Type 0 where
+  pub one_each : length known ≡ length s.nodes
+  pub values : AreFirstValues s known
+
+-- ---- one value more
+
+-- the polynomial of an input
+abbrev pub input_value : ℕ → Polynomial
+input_value i = (i ∷ []) ∷ []
+
+-- these are the polynomials of the first inputs
+pub record AreInputValues (inputs : List Polynomial) : Type 0 where
+  pub each : (i : ℕ) → i < length inputs → slice_index_or inputs i [] ≡ input_value i
+
+-- the value of a base, where it is known
+abbrev pub base_value : List Polynomial → List (Option Polynomial) → Base → Option Polynomial
+base_value inputs known (bases.Input i) = Some (slice_index_or inputs i [])
+base_value inputs known (bases.Node k) = value_at known k
+
+-- the negation of a value
+abbrev pub IsNegation : Option Polynomial → Option Polynomial → Type 0
+IsNegation None answer = answer ≡ None
+IsNegation (Some p) answer =
+    IsPolynomialUpTo most_cleaned (λ x. not (value_of_polynomial x p)) answer
+
+-- two values joined
+abbrev pub IsJoin : (Bool → Bool → Bool) → Option Polynomial → Option Polynomial
+    → Option Polynomial → Type 0
+IsJoin join None b answer = answer ≡ None
+IsJoin join (Some p) None answer = answer ≡ None
+IsJoin join (Some p) (Some q) answer =
+    IsPolynomialUpTo most_cleaned
+    (λ x. join (value_of_polynomial x p) (value_of_polynomial x q)) answer
+
+-- the value of a node, by those of its operands
+abbrev pub IsValueOf : List Polynomial → List (Option Polynomial) → Node
+    → Option Polynomial → Type 0
+IsValueOf inputs known (Not a) answer = IsNegation (base_value inputs known a) answer
+IsValueOf inputs known (Xor a b) answer =
+    IsJoin xor (base_value inputs known a) (base_value inputs known b) answer
+IsValueOf inputs known (And a b) answer =
+    IsJoin (λ p q. p && q) (base_value inputs known a) (base_value inputs known b) answer

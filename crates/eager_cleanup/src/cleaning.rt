@@ -1,0 +1,178 @@
+// The cleaning of the nodes that a node uses for the last time.
+ghost use Rattle.std.specs.Prelude.{◌≡◌, ◌≢◌, ◌+◌, ◌<◌, [], ◌∷◌, length, true, IfOk, IfErr};
+ghost use Rattle.std.specs.List.{AllByRecursion};
+ghost use Rattle.dependency_graph.specs.Graphs.{IsKnownBase, operands};
+ghost use Rattle.eager_cleanup.specs.Eager.{IsEagerFault};
+ghost use Rattle.eager_cleanup.specs.inside.Known.{AreKnownValues, IsKnownPolynomial, IsKnownValue};
+ghost use Rattle.eager_cleanup.specs.inside.Sweeps.{CanClean, IsCleaned, IsCleaningFault, IsMade, IsSwept, IsUsed, IsUseFault};
+ghost use Rattle.eager_cleanup.specs.inside.Sweeps.{are_ready, is_earlier, is_ready};
+ghost use Rattle.held_nodes.specs.Held.{IsForward, is_held};
+
+use claim_check::Settled;
+use dependency_graph::{Base, Node};
+use exclusive_sums::{Poly, merge};
+use gate_split::PlanFault;
+use held_nodes::Forward;
+use std::alloc::Global;
+
+// Cleans the nodes that node `user`, which was made last, uses for the last time, the later one first.
+pub fn clean_operands<'s>(
+    alloc: Global,
+    forward: Forward<'s>,
+    graph: &Settled,
+    known: &[Option<Poly>],
+    user: u32,
+) -> Result<Forward<'s>, PlanFault>
+    requires values { AreKnownValues graph.now known.now }
+    requires made { IsMade graph.now forward.budget known.now user forward }
+    ensures swept { IfOk result (IsSwept graph.now forward.entry.budget known.now (user + 1) []) }
+    ensures refused { IfErr result (IsEagerFault graph.now forward.entry.budget) }
+{
+    match graph.node(user) {
+        Node::Not(a) => clean_used(alloc, forward, graph, known, a, user),
+        Node::Xor(a, b) => clean_both(alloc, forward, graph, known, a, b, user),
+        Node::And(a, b) => clean_both(alloc, forward, graph, known, a, b, user),
+    }
+}
+
+// Cleans two operands of a node where it uses them for the last time, the later one first.
+fn clean_both<'s>(
+    alloc: Global,
+    forward: Forward<'s>,
+    graph: &Settled,
+    known: &[Option<Poly>],
+    a: Base,
+    b: Base,
+    user: u32,
+) -> Result<Forward<'s>, PlanFault>
+    requires values { AreKnownValues graph.now known.now }
+    requires can { CanClean graph.now forward.budget known.now user (a ∷ b ∷ []) forward }
+    ensures swept { IfOk result (IsSwept graph.now forward.entry.budget known.now (user + 1) []) }
+    ensures refused { IfErr result (IsEagerFault graph.now forward.entry.budget) }
+{
+    if is_earlier(a, b) {
+        clean_in_turn(alloc, forward, graph, known, b, a, user)
+    } else {
+        clean_in_turn(alloc, forward, graph, known, a, b, user)
+    }
+}
+
+// Cleans two operands of a node, in this order, where it uses them for the last time.
+fn clean_in_turn<'s>(
+    alloc: Global,
+    forward: Forward<'s>,
+    graph: &Settled,
+    known: &[Option<Poly>],
+    first: Base,
+    second: Base,
+    user: u32,
+) -> Result<Forward<'s>, PlanFault>
+    requires values { AreKnownValues graph.now known.now }
+    requires can { CanClean graph.now forward.budget known.now user
+        (first ∷ second ∷ []) forward }
+    ensures swept { IfOk result (IsSwept graph.now forward.entry.budget known.now (user + 1) []) }
+    ensures refused { IfErr result (IsEagerFault graph.now forward.entry.budget) }
+{
+    let forward = clean_used(alloc, forward, graph, known, first, user)?;
+    clean_used(alloc, forward, graph, known, second, user)
+}
+
+// Whether it is a node before another one.
+fn is_earlier(a: Base, b: Base) -> bool
+    ensures { result ≡ is_earlier a b }
+{
+    match (a, b) {
+        (Base::Node(a), Base::Node(b)) => a < b,
+        _ => false,
+    }
+}
+
+// Cleans a base where it is a node that is held, and that node `user` uses for the last time.
+fn clean_used<'s>(
+    alloc: Global,
+    forward: Forward<'s>,
+    graph: &Settled,
+    known: &[Option<Poly>],
+    base: Base,
+    user: u32,
+) -> Result<Forward<'s>, PlanFault>
+    requires values { AreKnownValues graph.now known.now }
+    requires graph { forward.graph ≡ graph.now }
+    requires base { IsKnownBase graph.now.inputs (length graph.now.nodes) base }
+    ensures ok { IfOk result (IsUsed graph.now known.now user base forward.entry) }
+    ensures refused { IfErr result (IsUseFault graph.now known.now user base forward.entry) }
+{
+    let Base::Node(k) = base else {
+        return Ok(forward);
+    };
+    if graph.last_use(k) != user || !forward.held(k) {
+        return Ok(forward);
+    }
+    clean(alloc, forward, graph, k, &known[k as usize])
+}
+
+// Cleans a held node: by its operands where each is an input or held, else by its value where that is known.
+fn clean<'s>(
+    alloc: Global,
+    forward: Forward<'s>,
+    graph: &Settled,
+    k: u32,
+    value: &Option<Poly>,
+) -> Result<Forward<'s>, PlanFault>
+    requires inside { k < length graph.now.nodes }
+    requires value { IsKnownValue graph.now k value.now }
+    requires graph { forward.graph ≡ graph.now }
+    requires keeps { IsForward forward }
+    requires held { is_held forward.lines k ≡ true }
+    ensures ok { IfOk result (IsCleaned value.now forward.entry k) }
+    ensures refused { IfErr result (IsCleaningFault value.now forward.entry k) }
+{
+    if are_ready(&forward, graph.node(k)) {
+        return forward.toggle(k);
+    }
+    match value {
+        Some(poly) => clear(alloc, forward, k, poly),
+        None => Ok(forward),
+    }
+}
+
+// Cleans a held node by the merged cubes of its polynomial.
+fn clear<'s>(
+    alloc: Global,
+    forward: Forward<'s>,
+    k: u32,
+    poly: &Poly,
+) -> Result<Forward<'s>, PlanFault>
+    requires value { IsKnownPolynomial forward.graph k poly.now }
+    requires keeps { IsForward forward }
+    requires held { is_held forward.lines k ≡ true }
+    ensures ok { IfOk result (IsCleaned (Some poly.now) forward.entry k) }
+    ensures refused { IfErr result (IsCleaningFault (Some poly.now) forward.entry k) }
+{
+    let cubes = merge(alloc, poly)?;
+    forward.clear(k, &cubes)
+}
+
+// Whether each operand is an input or a node that is held.
+fn are_ready(forward: &Forward, node: Node) -> bool
+    requires { AllByRecursion (IsKnownBase forward.now.graph.inputs
+        (length forward.now.graph.nodes)) (operands node) }
+    ensures ready { result ≡ are_ready forward.now.lines node }
+{
+    match node {
+        Node::Not(a) => is_ready(forward, a),
+        Node::Xor(a, b) => is_ready(forward, a) && is_ready(forward, b),
+        Node::And(a, b) => is_ready(forward, a) && is_ready(forward, b),
+    }
+}
+
+// Whether it is an input or a node that is held.
+fn is_ready(forward: &Forward, base: Base) -> bool
+    requires { IsKnownBase forward.now.graph.inputs (length forward.now.graph.nodes) base }
+    ensures ready { result ≡ is_ready forward.now.lines base }
+{
+    match base {
+        Base::Input(_) => true,
+        Base::Node(k) => forward.held(k),
+    }
+}
