@@ -1,0 +1,58 @@
+-- A block as a range.
+use Rattle.std.proofs.Common.{ℕ, ◌+◌, ◌≤◌, Bool, List, length, arith}
+use Rattle.gate_split.specs.declared.plan.PlanFault.{PlanFault}
+use Rattle.held_nodes.specs.Held.{ForwardView}
+use Rattle.bennett_pebbling.specs.inside.Changes.{IsChanged, IsChangeFault, IsRisen, IsRiseFault, IsThrifty}
+use Rattle.bennett_pebbling.specs.inside.Costs.{block_room, block_toggles, counted, reach_of, toggles_at}
+use Rattle.bennett_pebbling.proofs.CostLemmas.{room_at-larger, toggles_at-larger}
+use Rattle.bennett_pebbling.proofs.MoveLemmas.{move-weaker, short-weaker}
+
+thrifty_block : (f next : ForwardView) (block lo : ℕ) (wanted : List Bool) → 1 ≤ block → length wanted ≤ block
+    → IsThrifty f (length wanted) lo wanted next → IsThrifty f block lo wanted next
+thrifty_block f next block lo wanted some within t = record {
+  move = λ level width allowed c a.
+      let n = length f.graph.nodes in
+      move-weaker f next (counted allowed n + block_room (length wanted) n) (reach_of f block level width allowed)
+      (block_toggles (length wanted)) (toggles_at block level)
+      (omega (arith, room_at-larger (length wanted) block n width level some within)) (toggles_at-larger (length wanted) block level some within)
+      (t.move 0 width allowed (record { cuts = c.cuts; enough = omega arith }) a);
+}
+
+pub changed_block : (f next : ForwardView) (block lo : ℕ) (wanted : List Bool) → 1 ≤ block → length wanted ≤ block
+    → IsChanged f (length wanted) lo wanted next → IsChanged f block lo wanted next
+changed_block f next block lo wanted some within t = record {
+  graph = t.graph;
+  budget = t.budget;
+  exactly = t.exactly;
+  thrifty = thrifty_block f next block lo wanted some within t.thrifty;
+}
+
+pub short_block : (f : ForwardView) (block lo : ℕ) (wanted : List Bool) (e : PlanFault) → 1 ≤ block → length wanted ≤ block
+    → IsChangeFault f (length wanted) lo wanted e → IsChangeFault f block lo wanted e
+short_block f block lo wanted e some within t = record {
+  need = t.need;
+  short = λ level width allowed c a.
+      let n = length f.graph.nodes in
+      short-weaker f (counted allowed n + block_room (length wanted) n) (reach_of f block level width allowed)
+      (block_toggles (length wanted)) (toggles_at block level) e
+      (omega (arith, room_at-larger (length wanted) block n width level some within)) (toggles_at-larger (length wanted) block level some within)
+      (t.short 0 width allowed (record { cuts = c.cuts; enough = omega arith }) a);
+}
+
+pub risen_block : (f next : ForwardView) (block lo : ℕ) (wanted : List Bool) → 1 ≤ block → length wanted ≤ block
+    → IsRisen f (length wanted) lo wanted next → IsRisen f block lo wanted next
+risen_block f next block lo wanted some within t = record {
+  graph = t.graph;
+  budget = t.budget;
+  inside = t.inside;
+  outside = t.outside;
+  thrifty = thrifty_block f next block lo wanted some within t.thrifty;
+  plain = λ low. t.plain (omega arith);
+}
+
+pub rise_short_block : (f : ForwardView) (block lo : ℕ) (wanted : List Bool) (e : PlanFault) → 1 ≤ block → length wanted ≤ block
+    → IsRiseFault f (length wanted) lo wanted e → IsRiseFault f block lo wanted e
+rise_short_block f block lo wanted e some within t = record {
+  change = short_block f block lo wanted e some within t.change;
+  plain = λ low. t.plain (omega arith);
+}

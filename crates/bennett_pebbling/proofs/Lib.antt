@@ -1,0 +1,15 @@
+pub mod BlockLemmas
+pub mod ChangeLemmas
+pub mod CostLemmas
+pub mod CountLemmas
+pub mod HalfLemmas
+pub mod LowerLemmas
+pub mod MoveLemmas
+pub mod NeedLemmas
+pub mod OutputLemmas
+pub mod PlanLemmas
+pub mod RaiseLemmas
+pub mod ReachLemmas
+pub mod ReadyLemmas
+pub mod RiseLemmas
+pub mod TurnLemmas

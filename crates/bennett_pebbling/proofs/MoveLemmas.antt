@@ -1,0 +1,78 @@
+-- Moves one after another, and within other numbers.
+use Rattle.std.proofs.Common.{◌≡◌, ℕ, ◌+◌, ◌<◌, ◌≤◌, ◌∙◌, ap, subst, refl, arith}
+use Rattle.gate_split.specs.declared.plan.PlanFault.{PlanFault}
+use Rattle.gate_split.specs.declared.plan.PlanFault.TheVariants.{Lines, Gates, Memory}
+use Rattle.gate_split.specs.Plans.{BudgetView}
+use Rattle.claim_check.specs.Settled.{SettledView}
+use Rattle.held_nodes.specs.Held.{ForwardView, work_lines}
+use Rattle.bennett_pebbling.specs.inside.Costs.{HasNeed, IsMove, IsMoveFault, IsShort}
+
+-- nothing is moved
+pub no_move : (f : ForwardView) (reach toggles : ℕ) → IsMove f reach toggles f
+no_move f reach toggles = record {
+  graph = refl;
+  budget = refl;
+  most = omega arith;
+  weight = omega arith;
+  narrow = λ n. n;
+}
+
+pub move-weaker : (f next : ForwardView) (reach more toggles larger : ℕ) → reach ≤ more → toggles ≤ larger
+    → IsMove f reach toggles next → IsMove f more larger next
+move-weaker f next reach more toggles larger low few m = record {
+  graph = m.graph;
+  budget = m.budget;
+  most = omega (arith, m.most, low);
+  weight = omega (arith, m.weight, few);
+  narrow = m.narrow;
+}
+
+-- one move after another, both within the reach
+pub move-then : (f mid next : ForwardView) (reach first second : ℕ) → IsMove f reach first mid → IsMove mid reach second next
+    → IsMove f reach (first + second) next
+move-then f mid next reach first second m n = record {
+  graph = n.graph ∙ m.graph;
+  budget = n.budget ∙ m.budget;
+  most = omega (arith, m.most, n.most);
+  weight = omega (arith, m.weight, n.weight);
+  narrow = λ narrow. n.narrow (m.narrow narrow);
+}
+
+pub short-weaker : (f : ForwardView) (reach more toggles larger : ℕ) (e : PlanFault) → reach ≤ more → toggles ≤ larger
+    → IsShort f reach toggles e → IsShort f more larger e
+short-weaker f reach more toggles larger (Lines need) low few s = omega (arith, s, low)
+short-weaker f reach more toggles larger Gates low few s = omega (arith, s, few)
+short-weaker f reach more toggles larger Memory low few s = tt
+
+same_work : (s t : SettledView) (b c : BudgetView) → s ≡ t → b ≡ c → work_lines s b ≡ work_lines t c
+same_work s t b c e d = ap (λ (x : SettledView). work_lines x b) e ∙ ap (λ (x : BudgetView). work_lines t x) d
+
+pub need-then : (f mid : ForwardView) (e : PlanFault) → mid.budget ≡ f.budget → HasNeed mid e → HasNeed f e
+need-then f mid (Lines need) same h = h ∙ ap (λ (b : BudgetView). b.lines + 1) same
+need-then f mid Gates same h = tt
+need-then f mid Memory same h = tt
+
+-- a move that falls short after another
+pub short-then : (f mid : ForwardView) (reach first second : ℕ) (e : PlanFault) → IsMove f reach first mid → IsShort mid reach second e
+    → IsShort f reach (first + second) e
+short-then f mid reach first second (Lines need) m s =
+    let same : work_lines mid.graph mid.budget ≡ work_lines f.graph f.budget = same_work mid.graph f.graph mid.budget f.budget m.graph m.budget in
+    subst (λ (n : ℕ). n < reach) same s
+short-then f mid reach first second Gates m s =
+    let same : mid.budget.gates ≡ f.budget.gates = ap (λ (b : BudgetView). b.gates) m.budget in
+    omega (arith, s, m.weight, same)
+short-then f mid reach first second Memory m s = tt
+
+pub fault-weaker : (f : ForwardView) (reach more toggles larger : ℕ) (e : PlanFault) → reach ≤ more → toggles ≤ larger
+    → IsMoveFault f reach toggles e → IsMoveFault f more larger e
+fault-weaker f reach more toggles larger e low few s = record {
+  need = s.need;
+  short = short-weaker f reach more toggles larger e low few s.short;
+}
+
+pub fault-then : (f mid : ForwardView) (reach first second : ℕ) (e : PlanFault) → IsMove f reach first mid → IsMoveFault mid reach second e
+    → IsMoveFault f reach (first + second) e
+fault-then f mid reach first second e m s = record {
+  need = need-then f mid e m.budget s.need;
+  short = short-then f mid reach first second e m s.short;
+}

@@ -1,0 +1,292 @@
+-- A plan by halves: what it costs, and why there is none.
+use Rattle.std.proofs.Common.{◌≡◌, ℕ, zero, suc, ◌+◌, ◌*◌, ◌^◌, ◌<◌, ◌≤◌, min, Bool, true, false, ◌||◌, List, ◌++◌, length, reverse, replicate, Option, None}
+use Rattle.std.proofs.Common.{sym, ◌∙◌, ap, subst, refl, arith, length-append, zero-add}
+use Rattle.std.specs.Prelude.{nat_le}
+use Rattle.std.specs.List.{AllByRecursion}
+use Rattle.std.proofs.lemmas.Bool.{le-leb, leb-true, lt-leb}
+use Rattle.std.proofs.lemmas.List.{get_or-replicate, length-replicate, length-reverse}
+use Rattle.std.proofs.lemmas.List.Sums.{count_by-le-length, length-filter}
+use Rattle.list_facts.proofs.OrderLemmas.{length-below}
+use Rattle.list_facts.specs.Bits.{bit_of}
+use Rattle.list_facts.specs.Lists.{below}
+use Rattle.revc_base.specs.Cuts.{is_in, is_needed}
+use Rattle.dependency_graph.specs.Graphs.{output_nodes, steps_of}
+use Rattle.dependency_graph.specs.Uses.{cut_in, last_use_in}
+use Rattle.claim_check.specs.Budgets.{Measures}
+use Rattle.claim_check.specs.Settled.{SettledView, IsSettled, as_graph}
+use Rattle.gate_split.specs.declared.plan.PlanFault.{PlanFault}
+use Rattle.gate_split.specs.declared.plan.PlanFault.TheVariants.{Lines, Gates, Memory}
+use Rattle.gate_split.specs.Plans.{BudgetView}
+use Rattle.mct_circuit.specs.Gates.{AreNarrow}
+use Rattle.mct_circuit.proofs.WeightLemmas.{length-le-weight}
+use Rattle.held_nodes.specs.Held.{ForwardView, IsForward, first_work, is_held, work_lines}
+use Rattle.held_nodes.specs.Moves.{IsFinishFault, IsReadySig, copies_of, finished_gates, finished_weight, nothing_held, planned_of, weight_in}
+use Rattle.held_nodes.specs.Plans.{wanted_lines}
+use Rattle.held_nodes.proofs.CopyLemmas.{weight-copies}
+use Rattle.held_nodes.proofs.NarrowLemmas.{narrow_toggles}
+use Rattle.bennett_pebbling.specs.Pebbling.{IsHalved, IsPebblingFault, IsWithinBlock}
+use Rattle.bennett_pebbling.specs.inside.Changes.{IsRisen, IsRiseFault}
+use Rattle.bennett_pebbling.specs.inside.Costs.{Allows, IsCovered, IsMove, block_room, counted, reach_of, room_at, size_at, toggles_at}
+use Rattle.bennett_pebbling.specs.inside.Marks.{AreNeeded}
+use Rattle.bennett_pebbling.proofs.CostLemmas.{block_room-most, room_at-times, size_at-power, toggles_at-fine, toggles_at-gates}
+use Rattle.bennett_pebbling.proofs.CountLemmas.{counted-in}
+use Rattle.bennett_pebbling.proofs.NeedLemmas.{bit_inside}
+use Rattle.bennett_pebbling.proofs.ReachLemmas.{everything}
+use Rattle.bennett_pebbling.proofs.OutputLemmas.{few_copies, few_outputs, ready_outputs, use_output}
+
+-- ---- the beginning
+
+-- the forward part of no gates, and the marks of the outputs
+pub record IsBegun (s : SettledView) (b : BudgetView) (start : ForwardView) (outputs : List Bool) : Type 0 where
+  pub is : start ≡ nothing_held s b (replicate (length s.nodes) None)
+  pub keeps : IsForward start
+  pub count : length outputs ≡ length s.nodes
+  pub marked : (k : ℕ) → k < length s.nodes → bit_of outputs k ≡ nat_le (length s.nodes) (last_use_in (as_graph s) k)
+
+pub begun : (s : SettledView) (b : BudgetView) (start : ForwardView) (none outputs : List Bool)
+    → start ≡ nothing_held s b (replicate (length s.nodes) None) → IsForward start → none ≡ replicate (length s.nodes) false
+    → AreNeeded s 0 none outputs → IsBegun s b start outputs
+begun s b start none outputs is keeps nothing needed =
+    let n = length s.nodes in
+    let long : length none ≡ n = ap length nothing ∙ length-replicate n false in
+    record {
+      is = is;
+      keeps = keeps;
+      count = needed.count ∙ long;
+      marked = λ k low.
+          let blank : bit_of none k ≡ false = ap (λ (xs : List Bool). bit_of xs k) nothing ∙ get_or-replicate n k false false low in
+          let end : 0 + length none ≡ n = omega (arith, long) in
+          needed.marked k (omega (arith, low, long))
+          ∙ ap (λ (x : Bool). x || nat_le (0 + length none) (last_use_in (as_graph s) (0 + k))) blank
+          ∙ ap (λ (m : ℕ). nat_le m (last_use_in (as_graph s) (0 + k))) end
+          ∙ ap (λ (m : ℕ). nat_le n (last_use_in (as_graph s) m)) (zero-add k);
+    }
+
+none_held : (n k : ℕ) → is_held (replicate n None) k ≡ false
+none_held zero k = refl
+none_held (suc n) zero = refl
+none_held (suc n) (suc k) = none_held n k
+
+-- a cut has no more nodes than the graph
+some_cut : (s : SettledView) (n j : ℕ) → j ≤ n → length (cut_in (as_graph s) j) ≤ n
+some_cut s n j low =
+    let g = as_graph s in
+    let test = is_needed (steps_of g) (output_nodes g) j in
+    omega (arith, low, length-filter test (below j), count_by-le-length test (below j), length-below j)
+
+more_level : (block level : ℕ) → 1 ≤ block → level + 1 ≤ size_at block level
+more_level block zero some = omega (arith, some)
+more_level block (suc level) some = omega (arith, more_level block level some)
+
+-- there are levels for every number of nodes
+some_level : (block level : ℕ) → 1 ≤ block → level ≤ size_at block level
+some_level block level some = omega (arith, more_level block level some)
+
+ap_narrow : (f : ForwardView) (s : SettledView) (b : BudgetView) (lines : List (Option ℕ)) → f ≡ nothing_held s b lines → AreNarrow f.gates
+ap_narrow f s b lines e = subst (λ (x : ForwardView). AreNarrow x.gates) (sym e) tt
+
+module _ (s : SettledView) (b : BudgetView) (block : ℕ) (start : ForwardView) (outputs : List Bool) (some : 1 ≤ block) (begin : IsBegun s b start outputs)
+  where
+    start_graph : start.graph ≡ s
+    start_graph = ap (λ (f : ForwardView). f.graph) begin.is
+
+    start_budget : start.budget ≡ b
+    start_budget = ap (λ (f : ForwardView). f.budget) begin.is
+
+    start_most : start.most ≡ 0
+    start_most = ap (λ (f : ForwardView). f.most) begin.is
+
+    start_weight : weight_in start.gates ≡ 0
+    start_weight = ap (λ (f : ForwardView). weight_in f.gates) begin.is
+
+    settled : IsSettled s
+    settled = subst IsSettled start_graph begin.keeps.settled
+
+    room : first_work s + b.borrow ≤ b.lines
+    room =
+        let within =
+        subst (λ (x : BudgetView). first_work s + start.most + x.borrow ≤ x.lines) start_budget
+        (subst (λ (x : SettledView). first_work x + start.most + start.budget.borrow ≤ start.budget.lines) start_graph begin.keeps.within) in
+        omega (arith, within)
+
+    -- ---- what is wanted
+
+    allows_outputs : Allows start 0 outputs (is_in (output_nodes (as_graph s)))
+    allows_outputs = record {
+      held = record {
+        held = λ k is.
+            absurd (let clash : false ≡ true =
+            sym (ap (λ (f : ForwardView). is_held f.lines k) begin.is ∙ none_held (length s.nodes) k) ∙ is in cc);
+      };
+      marked = λ k is.
+          let inside = bit_inside outputs k is in
+          let low : k < length s.nodes = omega (arith, inside, begin.count) in
+          ap (is_in (output_nodes (as_graph s))) (zero-add k)
+          ∙ use_output s k low (leb-true (length s.nodes) (last_use_in (as_graph s) k) (sym (begin.marked k low) ∙ is));
+    }
+
+    few_wanted : counted (is_in (output_nodes (as_graph s))) (length s.nodes) ≤ length s.outputs
+    few_wanted = omega (arith, counted-in (output_nodes (as_graph s)) (length s.nodes), few_outputs s)
+
+    covered : (m : Measures) (levels : ℕ) → IsHalved s block levels m → IsCovered start.graph block (length outputs) levels m.width
+    covered m levels h =
+        subst (λ (x : SettledView). IsCovered x block (length outputs) levels m.width) (sym start_graph) (record {
+          cuts = h.within.cuts;
+          enough = omega (arith, h.enough, size_at-power block levels, begin.count);
+        })
+
+    -- the reach of the whole graph
+    reach : Measures → ℕ → ℕ
+    reach m levels = reach_of start block levels m.width (is_in (output_nodes (as_graph s)))
+
+    reach_fits : (m : Measures) (levels : ℕ) → reach m levels ≤ length s.outputs + m.width * levels + block_room block (length s.nodes)
+    unfolding reach
+    reach_fits m levels =
+        let all : reach_of start block levels m.width (is_in (output_nodes (as_graph s)))
+        ≡ counted (is_in (output_nodes (as_graph s))) (length s.nodes) + room_at block (length s.nodes) m.width levels =
+        ap (λ (x : SettledView). counted (is_in (output_nodes (as_graph s))) (length x.nodes) + room_at block (length x.nodes) m.width levels) start_graph in
+        omega (arith, all, few_wanted, room_at-times block (length s.nodes) m.width levels)
+
+    block_fits : (m : Measures) (levels : ℕ) → IsHalved s block levels m
+        → length s.outputs + m.width * levels + block_room block (length s.nodes) ≤ m.outputs + m.width * levels + min block m.steps
+    block_fits m levels h = omega (arith, h.within.outputs, h.within.steps, block_room-most block (length s.nodes))
+
+    -- ---- refused
+
+    work_is : work_lines start.graph start.budget ≡ work_lines s b
+    work_is = ap (λ (x : SettledView). work_lines x start.budget) start_graph ∙ ap (work_lines s) start_budget
+
+    wanted_is : wanted_lines s b ≡ b.lines + 1
+    wanted_is = rw (lt-leb (suc b.lines) (first_work s + b.borrow) (omega (arith, room))) refl
+
+    fine_halved : (m : Measures) (levels : ℕ) → block ≡ 1 → IsHalved s 1 levels m → IsHalved s block levels m
+    fine_halved m levels one h = subst (λ (x : ℕ). IsHalved s x levels m) (sym one) h
+
+    fine_room : block ≡ 1 → block_room block (length s.nodes) ≡ 0
+    fine_room one = ap (λ (x : ℕ). block_room x (length s.nodes)) one
+
+    fine_toggles : (levels : ℕ) → block ≡ 1 → toggles_at block levels ≡ 3 ^ levels
+    fine_toggles levels one = ap (λ (x : ℕ). toggles_at x levels) one ∙ toggles_at-fine levels
+
+    gates_is : start.budget.gates ≡ b.gates
+    gates_is = ap (λ (x : BudgetView). x.gates) start_budget
+
+    nodes_is : length start.graph.nodes ≡ length s.nodes
+    nodes_is = ap (λ (x : SettledView). length x.nodes) start_graph
+
+    pub rise_refused : (e : PlanFault) → IsRiseFault start block 0 outputs e → IsPebblingFault s block b e
+    unfolding reach
+    rise_refused (Lines need) fault = (
+      record {
+        halved = λ m levels h.
+            let short = fault.change.short levels m.width (is_in (output_nodes (as_graph s))) (covered m levels h) allows_outputs in
+            omega (arith, short, work_is, reach_fits m levels, block_fits m levels h, h.within.inputs, h.within.outputs);
+        fine = λ m levels one h.
+            let short =
+            fault.change.short levels m.width (is_in (output_nodes (as_graph s))) (covered m levels (fine_halved m levels one h)) allows_outputs in
+            omega (arith, short, work_is, reach_fits m levels, fine_room one, h.within.inputs, h.within.outputs);
+        plain = λ low.
+            let short = fault.plain (omega (arith, low, begin.count)) in
+            omega (arith, short, work_is, nodes_is);
+      },
+      fault.change.need ∙ ap (λ (x : BudgetView). x.lines + 1) start_budget ∙ sym wanted_is,
+    )
+    rise_refused Gates fault = record {
+      halved = λ m levels h.
+          let short = fault.change.short levels m.width (is_in (output_nodes (as_graph s))) (covered m levels h) allows_outputs in
+          omega (arith, short, gates_is, start_weight, toggles_at-gates block levels some);
+      fine = λ m levels one h.
+          let short =
+          fault.change.short levels m.width (is_in (output_nodes (as_graph s))) (covered m levels (fine_halved m levels one h)) allows_outputs in
+          omega (arith, short, gates_is, start_weight, fine_toggles levels one);
+      plain = λ low.
+          let short = fault.plain (omega (arith, low, begin.count)) in
+          omega (arith, short, gates_is, start_weight, begin.count);
+    }
+    rise_refused Memory fault = tt
+
+    -- ---- planned
+
+    module _ (f : ForwardView) (risen : IsRisen start block 0 outputs f) where
+      f_graph : f.graph ≡ s
+      f_graph = risen.graph ∙ start_graph
+
+      outputs_is : length f.graph.outputs ≡ length s.outputs
+      outputs_is = ap (λ (x : SettledView). length x.outputs) f_graph
+
+      first_is : first_work f.graph ≡ first_work s
+      first_is = ap first_work f_graph
+
+      f_gates : f.budget.gates ≡ b.gates
+      f_gates = ap (λ (x : BudgetView). x.gates) risen.budget ∙ gates_is
+
+      output_held : (k : ℕ) → k < length s.nodes → last_use_in (as_graph s) k ≡ length s.nodes → is_held f.lines k ≡ true
+      output_held k low is =
+          ap (is_held f.lines) (sym (zero-add k))
+          ∙ risen.inside k (begin.marked k low ∙ le-leb (length s.nodes) (last_use_in (as_graph s) k) (omega (arith, is)))
+
+      pub plan_ready : AllByRecursion (IsReadySig f.lines) f.graph.outputs
+      plan_ready = subst (λ (x : SettledView). AllByRecursion (IsReadySig f.lines) x.outputs) (sym f_graph) (ready_outputs s f.lines settled output_held)
+
+      halved_move : (m : Measures) (levels : ℕ) → IsHalved s block levels m → IsMove start (reach m levels) (toggles_at block levels) f
+      unfolding reach
+      halved_move m levels h = risen.thrifty.move levels m.width (is_in (output_nodes (as_graph s))) (covered m levels h) allows_outputs
+
+      plain_move : length s.nodes ≤ block → IsMove start (length start.graph.nodes) (length outputs) f
+      plain_move low = risen.plain (omega (arith, low, begin.count))
+
+      copies_few : length (copies_of f) ≤ length s.outputs
+      copies_few = omega (arith, few_copies (first_work f.graph) f.lines f.graph.inputs f.graph.outputs, outputs_is)
+
+      -- some width and some levels always serve
+      pub plan_narrow : AreNarrow (finished_gates f)
+      plan_narrow =
+          let move =
+          risen.thrifty.move (length outputs) (length start.graph.nodes) (λ k. true)
+          (record { cuts = λ j low. some_cut start.graph (length start.graph.nodes) j low; enough = some_level block (length outputs) some })
+          (everything start 0 outputs) in
+          narrow_toggles.finished f (move.narrow (ap_narrow start s b (replicate (length s.nodes) None) begin.is))
+
+      gates_few : length (finished_gates f) ≤ 2 * weight_in f.gates + length s.outputs
+      gates_few =
+          let all = length-append (f.gates ++ copies_of f) (reverse f.gates) in
+          let front = length-append f.gates (copies_of f) in
+          omega (arith, all, front, length-reverse f.gates, length-le-weight f.gates, copies_few)
+
+      pub plan_few : IsWithinBlock s block (planned_of f)
+      plan_few = record {
+        block_lines = λ m levels h.
+            let move = (halved_move m levels h).most in
+            omega (arith, move, start_most, first_is, reach_fits m levels, block_fits m levels h, h.within.inputs, h.within.outputs);
+        block_gates = λ m levels h.
+            let move = (halved_move m levels h).weight in
+            omega (arith, move, start_weight, gates_few, toggles_at-gates block levels some, h.within.outputs);
+        fine_lines = λ m levels one h.
+            let move = (halved_move m levels (fine_halved m levels one h)).most in
+            omega (arith, move, start_most, first_is, reach_fits m levels, fine_room one, h.within.inputs, h.within.outputs);
+        fine_gates = λ m levels one h.
+            let move = (halved_move m levels (fine_halved m levels one h)).weight in
+            omega (arith, move, start_weight, gates_few, fine_toggles levels one, h.within.outputs);
+        plain_lines = λ low. let move = (plain_move low).most in omega (arith, move, start_most, first_is, nodes_is);
+        plain_gates = λ low. let move = (plain_move low).weight in omega (arith, move, start_weight, gates_few, begin.count);
+      }
+
+      finished_few : finished_weight f ≤ 2 * weight_in f.gates + length s.outputs
+      finished_few =
+          let copies = weight-copies (first_work f.graph) f.lines f.graph.inputs f.graph.outputs in
+          omega (arith, copies, copies_few)
+
+      pub finish_refused : (e : PlanFault) → IsFinishFault f e → IsPebblingFault s block b e
+      finish_refused (Lines need) fault = absurd fault
+      finish_refused Gates fault = record {
+        halved = λ m levels h.
+            let move = (halved_move m levels h).weight in
+            omega (arith, fault, f_gates, finished_few, move, start_weight, toggles_at-gates block levels some, h.within.outputs);
+        fine = λ m levels one h.
+            let move = (halved_move m levels (fine_halved m levels one h)).weight in
+            omega (arith, fault, f_gates, finished_few, move, start_weight, fine_toggles levels one, h.within.outputs);
+        plain = λ low.
+            let move = (plain_move low).weight in
+            omega (arith, fault, f_gates, finished_few, move, start_weight, begin.count);
+      }
+      finish_refused Memory fault = tt

@@ -1,0 +1,104 @@
+-- A node that turns, by a toggle.
+use Rattle.std.proofs.Common.{◌≡◌, ℕ, ◌+◌, ◌*◌, ◌<◌, ◌≤◌, max, Bool, true, not, List, ◌++◌, length, set, Option, Some, None, is_some}
+use Rattle.std.proofs.Common.{sym, ◌∙◌, ap, subst, refl, arith, inl, inr}
+use Rattle.std.proofs.lemmas.Bool.{cases_eq}
+use Rattle.std.proofs.lemmas.List.{get_or-set_same, get_or-set_other, length-set}
+use Rattle.std.proofs.lemmas.List.Sums.{sum_by-append}
+use Rattle.dependency_graph.specs.declared.node.Node.{Node}
+use Rattle.dependency_graph.specs.declared.node.Node.TheVariants.{Not, Xor, And}
+use Rattle.gate_split.specs.declared.plan.PlanFault.{PlanFault}
+use Rattle.gate_split.specs.declared.plan.PlanFault.TheVariants.{Lines, Gates, Memory}
+use Rattle.mct_circuit.specs.Gates.{GateView}
+use Rattle.mct_circuit.specs.Sizes.{weight_of}
+use Rattle.held_nodes.specs.Held.{ForwardView, IsForward, first_work, held_count, held_line, is_held}
+use Rattle.held_nodes.specs.Moves.{IsToggled, IsToggleFault, TakesLine, toggle_of, toggle_weight, weight_in}
+use Rattle.held_nodes.proofs.NarrowLemmas.{narrow_toggles}
+use Rattle.held_nodes.proofs.StepLemmas.{weight-toggle}
+use Rattle.bennett_pebbling.specs.inside.Changes.{AllowsTurn, IsTurned, IsTurnFault}
+use Rattle.bennett_pebbling.specs.inside.Costs.{IsMove, counted}
+use Rattle.bennett_pebbling.proofs.CountLemmas.{counted-held, counted-weaker, counted-below}
+
+after_turn : (lines : List (Option ℕ)) (own : Option ℕ) (line : ℕ) (after : Option ℕ) → TakesLine lines own line after
+    → is_some after ≡ not (is_some own)
+after_turn lines (Some old) line after t = ap is_some t.1
+after_turn lines None line after t = ap is_some t.1
+
+few_toggle : (node : Node) → toggle_weight node ≤ 2
+few_toggle (Not a) = omega arith
+few_toggle (Xor a b) = omega arith
+few_toggle (And a b) = omega arith
+
+-- what is held with one line changed is allowed
+allowed_after : (f : ForwardView) (k : ℕ) (after : Option ℕ) (allowed : ℕ → Bool) → AllowsTurn f k true allowed
+    → (j : ℕ) → is_held (set f.lines k after) j ≡ true → allowed j ≡ true
+allowed_after f k after allowed allows j is =
+    elim (cases_eq j k) as (λ _. allowed j ≡ true) [
+      | inl e ↦ ap allowed e ∙ allows.turning refl
+      | inr ne ↦ allows.held.held j (sym (ap is_some (get_or-set_other f.lines k j after None ne)) ∙ is)
+    ]
+
+few_held : (f : ForwardView) (k : ℕ) (after : Option ℕ) (allowed : ℕ → Bool) → IsForward f → AllowsTurn f k true allowed
+    → held_count (set f.lines k after) ≤ counted allowed (length f.graph.nodes)
+few_held f k after allowed forward allows =
+    let lines = set f.lines k after in
+    let long : length lines ≡ length f.graph.nodes = length-set f.lines k after ∙ forward.nodes in
+    let all : held_count lines ≡ counted (is_held lines) (length f.graph.nodes) = counted-held lines ∙ ap (counted (is_held lines)) long in
+    omega (arith, all, counted-weaker (is_held lines) allowed (length f.graph.nodes) (λ j _. allowed_after f k after allowed allows j))
+
+module _ (f next : ForwardView) (k : ℕ) (t : IsToggled f k next) (forward : IsForward f) (low : k < length f.graph.nodes) where
+  gates : List GateView
+  gates = toggle_of (first_work f.graph) f.lines t.line t.node
+
+  whole_weight : weight_in (f.gates ++ toggle_of (first_work f.graph) f.lines t.line t.node) ≤ weight_in f.gates + 2 * 1
+  whole_weight =
+      let sum = sum_by-append weight_of f.gates (toggle_of (first_work f.graph) f.lines t.line t.node) in
+      omega (arith, sum, weight-toggle (first_work f.graph) f.lines t.line t.node, few_toggle t.node)
+
+  lines_after : next.lines ≡ set f.lines k t.after
+  lines_after = ap (λ (g : ForwardView). g.lines) t.becomes
+
+  here : is_held next.lines k ≡ not (is_held f.lines k)
+  here =
+      ap (λ (lines : List (Option ℕ)). is_held lines k) lines_after
+      ∙ ap is_some (get_or-set_same f.lines k t.after None (subst (λ (n : ℕ). k < n) (sym forward.nodes) low))
+      ∙ after_turn f.lines (held_line f.lines k) t.line t.after t.takes
+
+  others : (j : ℕ) → ¬ (j ≡ k) → is_held next.lines j ≡ is_held f.lines j
+  others j ne =
+      ap (λ (lines : List (Option ℕ)). is_held lines j) lines_after ∙ ap is_some (get_or-set_other f.lines k j t.after None ne)
+
+  move : (allowed : ℕ → Bool) → AllowsTurn f k true allowed → IsMove f (counted allowed (length f.graph.nodes)) 1 next
+  move allowed allows = record {
+    graph = ap (λ (g : ForwardView). g.graph) t.becomes;
+    budget = ap (λ (g : ForwardView). g.budget) t.becomes;
+    most =
+        let e : next.most ≡ max f.most (held_count (set f.lines k t.after)) = ap (λ (g : ForwardView). g.most) t.becomes in
+        omega (arith, e, few_held f k t.after allowed forward allows);
+    weight =
+        let e = ap (λ (g : ForwardView). weight_in g.gates) t.becomes in
+        omega (arith, e, whole_weight);
+    narrow = narrow_toggles.toggled f next k t;
+  }
+
+  pub turned_over : IsTurned f k true next
+  turned_over = record { here = here; others = others; move = move }
+
+pub not_turned_over : (f : ForwardView) (k : ℕ) (e : PlanFault) → IsForward f → k < length f.graph.nodes → IsToggleFault f k e → IsTurnFault f k true e
+not_turned_over f k (Lines need) forward low fault = record {
+  fault = λ allowed allows. record {
+    need = fault.1;
+    short =
+        let n = length f.graph.nodes in
+        let all : held_count f.lines ≡ counted (is_held f.lines) n = counted-held f.lines ∙ ap (counted (is_held f.lines)) forward.nodes in
+        let more : counted (is_held f.lines) n + 1 ≤ counted allowed n =
+        counted-below (is_held f.lines) allowed n k low fault.0.free (allows.turning refl) allows.held.held in
+        omega (arith, fault.0.full, all, more);
+  };
+}
+not_turned_over f k Gates forward low fault = record {
+  fault = λ allowed allows. record {
+    need = tt;
+    short = omega (arith, fault.1.heavy, few_toggle fault.1.node);
+  };
+}
+not_turned_over f k Memory forward low fault = record { fault = λ allowed allows. record { need = tt; short = tt } }

@@ -1,0 +1,2 @@
+pub mod Pebbling
+pub mod inside

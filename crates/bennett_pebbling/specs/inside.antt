@@ -1,0 +1,4 @@
+-- What only private contracts and proofs cite.
+pub mod Changes
+pub mod Costs
+pub mod Marks

@@ -1,0 +1,60 @@
+-- Marks of the nodes of a range: the mark at place k is that of node lo + k.
+use Rattle.std.specs.Prelude.{◌≡◌, ℕ, ◌+◌, ◌<◌, ◌≤◌, nat_le, Bool, true, false, not, ◌||◌, ◌⊎◌}
+use Rattle.std.specs.Prelude.{List, [], length, slice_index_or, Option}
+use Rattle.list_facts.specs.Bits.{bit_of}
+use Rattle.list_facts.specs.Lists.{IsAmong}
+use Rattle.dependency_graph.specs.Graphs.{steps_of}
+use Rattle.dependency_graph.specs.Uses.{last_use_in}
+use Rattle.claim_check.specs.Settled.{SettledView, as_graph}
+use Rattle.held_nodes.specs.Held.{is_held}
+
+-- node j is an operand of node k
+pub record RestsOn (s : SettledView) (k j : ℕ) : Type 0 where
+  pub among : IsAmong j (slice_index_or (steps_of (as_graph s)) k [])
+
+-- half of a range, rounded up
+pub record IsHalf (count half : ℕ) : Type 0 where
+  pub less : half + half ≤ count + 1
+  pub more : count ≤ half + half
+
+-- node k is not one of the range
+abbrev pub IsOutside : ℕ → ℕ → ℕ → Type 0
+IsOutside lo count k = (k < lo) ⊎ (lo + count ≤ k)
+
+-- the wanted nodes are marked, and those in the cut at the end of the range
+pub record AreNeeded (s : SettledView) (lo : ℕ) (wanted marks : List Bool) : Type 0 where
+  pub count : length marks ≡ length wanted
+  pub marked : (k : ℕ) → k < length wanted
+      → bit_of marks k
+      ≡ (bit_of wanted k || nat_le (lo + length wanted) (last_use_in (as_graph s) (lo + k)))
+
+-- whether two bits differ
+abbrev pub differ : Bool → Bool → Bool
+differ true b = not b
+differ false b = b
+
+-- the nodes that are held and not wanted, or wanted and not held, are marked
+pub record AreDifferences (lines : List (Option ℕ)) (lo : ℕ) (wanted marks : List Bool)
+    : Type 0 where
+  pub count : length marks ≡ length wanted
+  pub marked : (k : ℕ) → k < length wanted
+      → bit_of marks k ≡ differ (is_held lines (lo + k)) (bit_of wanted k)
+
+-- each operand that a marked node has in the range is marked
+pub record AreClosed (s : SettledView) (lo : ℕ) (marks : List Bool) : Type 0 where
+  pub closed : (k j : ℕ) → bit_of marks k ≡ true → j < length marks
+      → RestsOn s (lo + k) (lo + j) → bit_of marks j ≡ true
+
+-- the marked nodes and all nodes of the range on which they rest are marked; the last node has the mark that it had
+pub record AreNeeds (s : SettledView) (lo : ℕ) (start marks : List Bool) : Type 0 where
+  pub count : length marks ≡ length start
+  pub more : (k : ℕ) → bit_of start k ≡ true → bit_of marks k ≡ true
+  pub closed : AreClosed s lo marks
+  pub last : (k : ℕ) → k + 1 ≡ length start → bit_of marks k ≡ bit_of start k
+
+-- these nodes were marked, and nothing else
+pub record HasMarked (lo : ℕ) (nodes : List ℕ) (start marks : List Bool) : Type 0 where
+  pub count : length marks ≡ length start
+  pub more : (k : ℕ) → bit_of start k ≡ true → bit_of marks k ≡ true
+  pub set : (k : ℕ) → k < length start → IsAmong (lo + k) nodes → bit_of marks k ≡ true
+  pub only : (k : ℕ) → bit_of marks k ≡ true → (bit_of start k ≡ true) ⊎ IsAmong (lo + k) nodes

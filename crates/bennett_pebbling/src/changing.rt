@@ -1,0 +1,124 @@
+// Work on a range of nodes: by halves, down to blocks. The mark at place k is that of node lo + k.
+ghost use Rattle.std.specs.Prelude.{◌≡◌, ◌+◌, ◌≤◌, length, IfOk, IfErr};
+ghost use Rattle.held_nodes.specs.Held.{IsForward};
+ghost use Rattle.bennett_pebbling.specs.inside.Changes.{IsChanged, IsChangeFault, IsReadyBelow, IsRisen, IsRiseFault};
+ghost use Rattle.bennett_pebbling.specs.inside.Marks.{AreDifferences, IsHalf};
+
+use crate::block::{lower, raise};
+use crate::needs::{differing, with_cut, with_needs};
+use claim_check::Settled;
+use gate_split::PlanFault;
+use held_nodes::Forward;
+use std::alloc::Global;
+
+// How many nodes the first half of a range has: no fewer than the second.
+fn half(count: usize) -> usize
+    ensures { IsHalf count result }
+{
+    count - count / 2
+}
+
+// Holds exactly the wanted nodes of a range, within one block; the marks are those of the nodes that differ.
+fn change_block<'s>(
+    graph: &Settled,
+    forward: Forward<'s>,
+    lo: u32,
+    wanted: &[bool],
+    marks: Vec<bool>,
+) -> Result<Forward<'s>, PlanFault>
+    requires graph { graph.now ≡ forward.graph }
+    requires keeps { IsForward forward }
+    requires inside { lo + length wanted.now ≤ length forward.graph.nodes }
+    requires ready { IsReadyBelow forward lo (length wanted.now) }
+    requires differ { AreDifferences forward.lines lo wanted.now marks.items }
+    ensures changed { IfOk result (IsChanged forward.entry (length wanted.now) lo wanted.now) }
+    ensures keeps { IfOk result IsForward }
+    ensures refused { IfErr result (IsChangeFault forward.entry (length wanted.now) lo
+        wanted.now) }
+{
+    let marks = with_needs(marks, graph, lo);
+    let forward = raise(forward, lo, &marks)?;
+    lower(forward, lo, wanted)
+}
+
+// Holds the wanted nodes of a range, and all nodes of the range on which they rest, within one block.
+fn rise_block<'s>(
+    alloc: Global,
+    graph: &Settled,
+    forward: Forward<'s>,
+    lo: u32,
+    wanted: &[bool],
+) -> Result<Forward<'s>, PlanFault>
+    requires graph { graph.now ≡ forward.graph }
+    requires keeps { IsForward forward }
+    requires inside { lo + length wanted.now ≤ length forward.graph.nodes }
+    requires ready { IsReadyBelow forward lo (length wanted.now) }
+    ensures risen { IfOk result (IsRisen forward.entry (length wanted.now) lo wanted.now) }
+    ensures keeps { IfOk result IsForward }
+    ensures refused { IfErr result (IsRiseFault forward.entry (length wanted.now) lo
+        wanted.now) }
+{
+    let marks = with_needs(Vec::from_slice(alloc, wanted)?, graph, lo);
+    raise(forward, lo, &marks)
+}
+
+// Holds exactly the wanted nodes of a range.
+pub fn change<'s>(
+    alloc: Global,
+    graph: &Settled,
+    block: u32,
+    forward: Forward<'s>,
+    lo: u32,
+    wanted: &[bool],
+) -> Result<Forward<'s>, PlanFault>
+    requires graph { graph.now ≡ forward.graph }
+    requires keeps { IsForward forward }
+    requires some { 1 ≤ block }
+    requires inside { lo + length wanted.now ≤ length forward.graph.nodes }
+    requires ready { IsReadyBelow forward lo (length wanted.now) }
+    ensures changed { IfOk result (IsChanged forward.entry block lo wanted.now) }
+    ensures keeps { IfOk result IsForward }
+    ensures refused { IfErr result (IsChangeFault forward.entry block lo wanted.now) }
+{
+    let marks = differing(alloc, &forward, lo, wanted)?;
+    if !marks.contains(&true) {
+        return Ok(forward);
+    }
+    if wanted.len() <= block as usize {
+        return change_block(graph, forward, lo, wanted, marks);
+    }
+    let half = half(wanted.len());
+    let (left, right) = wanted.split_at(half);
+    let needed = with_cut(alloc, graph, lo, left)?;
+    let forward = change(alloc, graph, block, forward, lo, &needed)?;
+    let forward = change(alloc, graph, block, forward, lo + half as u32, right)?;
+    change(alloc, graph, block, forward, lo, left)
+}
+
+// Holds the wanted nodes of a range, and maybe more of its second half.
+pub fn rise<'s>(
+    alloc: Global,
+    graph: &Settled,
+    block: u32,
+    forward: Forward<'s>,
+    lo: u32,
+    wanted: &[bool],
+) -> Result<Forward<'s>, PlanFault>
+    requires graph { graph.now ≡ forward.graph }
+    requires keeps { IsForward forward }
+    requires some { 1 ≤ block }
+    requires inside { lo + length wanted.now ≤ length forward.graph.nodes }
+    requires ready { IsReadyBelow forward lo (length wanted.now) }
+    ensures risen { IfOk result (IsRisen forward.entry block lo wanted.now) }
+    ensures keeps { IfOk result IsForward }
+    ensures refused { IfErr result (IsRiseFault forward.entry block lo wanted.now) }
+{
+    if wanted.len() <= block as usize {
+        return rise_block(alloc, graph, forward, lo, wanted);
+    }
+    let half = half(wanted.len());
+    let (left, right) = wanted.split_at(half);
+    let needed = with_cut(alloc, graph, lo, left)?;
+    let forward = change(alloc, graph, block, forward, lo, &needed)?;
+    rise(alloc, graph, block, forward, lo + half as u32, right)
+}

@@ -1,0 +1,102 @@
+// Marks of the nodes of a range: those that are needed behind it, those that differ, and those on which they rest. The mark
+// at place k is that of node lo + k.
+ghost use Rattle.std.specs.Prelude.{◌+◌, ◌≤◌, length, IfOk};
+ghost use Rattle.dependency_graph.specs.Graphs.{nodes_among, node_of, operands};
+ghost use Rattle.claim_check.specs.Settled.{IsSettled};
+ghost use Rattle.held_nodes.specs.Held.{IsForward};
+ghost use Rattle.bennett_pebbling.specs.inside.Marks.{AreDifferences, AreNeeded, AreNeeds, HasMarked};
+
+use claim_check::Settled;
+use dependency_graph::{Base, Node};
+use held_nodes::Forward;
+use revc_base::Memory;
+use std::alloc::Global;
+
+// Marks the wanted nodes, and those that are in the cut at the end of the range.
+pub fn with_cut(
+    alloc: Global,
+    graph: &Settled,
+    lo: u32,
+    wanted: &[bool],
+) -> Result<Vec<bool>, Memory>
+    requires settled { IsSettled graph.now }
+    requires inside { lo + length wanted.now ≤ length graph.now.nodes }
+    ensures { IfOk result (λ marks. AreNeeded graph.now lo wanted.now marks.items) }
+{
+    let end = lo + wanted.len() as u32;
+    let mut marks = Vec::with_capacity(alloc, wanted.len())?;
+    for (k, want) in wanted.iter().enumerate() {
+        let needed = graph.last_use(lo + k as u32) >= end;
+        marks.push(*want || needed)?;
+    }
+    Ok(marks)
+}
+
+// Marks the nodes that are held and not wanted, or wanted and not held.
+pub fn differing(
+    alloc: Global,
+    forward: &Forward<'_>,
+    lo: u32,
+    wanted: &[bool],
+) -> Result<Vec<bool>, Memory>
+    requires keeps { IsForward forward.now }
+    requires inside { lo + length wanted.now ≤ length forward.now.graph.nodes }
+    ensures { IfOk result (λ marks. AreDifferences forward.now.lines lo wanted.now marks.items) }
+{
+    let mut marks = Vec::with_capacity(alloc, wanted.len())?;
+    for (k, want) in wanted.iter().enumerate() {
+        marks.push(forward.held(lo + k as u32) != *want)?;
+    }
+    Ok(marks)
+}
+
+// Marks a base, where it is a node of the range.
+fn mark(marks: &mut [bool], lo: u32, base: Base)
+    ensures { HasMarked lo (node_of base) marks.old marks.new }
+{
+    let Base::Node(j) = base else {
+        return;
+    };
+    if j < lo {
+        return;
+    }
+    let k = (j - lo) as usize;
+    if k < marks.len() {
+        marks[k] = true;
+    }
+}
+
+fn mark_operands(marks: &mut [bool], lo: u32, node: Node)
+    ensures { HasMarked lo (nodes_among (operands node)) marks.old marks.new }
+{
+    match node {
+        Node::Not(a) => mark(marks, lo, a),
+        Node::Xor(a, b) | Node::And(a, b) => {
+            mark(marks, lo, a);
+            mark(marks, lo, b);
+        }
+    }
+}
+
+// These marks, and those of all nodes of the range on which marked ones rest.
+pub fn with_needs(mut marks: Vec<bool>, graph: &Settled, lo: u32) -> Vec<bool>
+    requires settled { IsSettled graph.now }
+    requires inside { lo + length marks.items ≤ length graph.now.nodes }
+    ensures { AreNeeds graph.now lo marks.items result.items }
+{
+    mark_needs(&mut marks, graph, lo);
+    marks
+}
+
+// By falling nodes, so that each is marked before it is looked at.
+fn mark_needs(marks: &mut [bool], graph: &Settled, lo: u32)
+    requires settled { IsSettled graph.now }
+    requires inside { lo + length marks.old ≤ length graph.now.nodes }
+    ensures { AreNeeds graph.now lo marks.old marks.new }
+{
+    for k in (0..marks.len()).rev() {
+        if marks[k] {
+            mark_operands(marks, lo, graph.node(lo + k as u32));
+        }
+    }
+}

@@ -1,0 +1,47 @@
+// The pebbling plan of a settled graph.
+ghost use Rattle.std.specs.Prelude.{IfOk, IfErr, ◌≤◌};
+ghost use Rattle.bennett_pebbling.specs.Pebbling.{IsPebblingFault, IsWithinBlock};
+ghost use Rattle.claim_check.specs.Settled.{settled_outputs};
+ghost use Rattle.gate_split.specs.Plans.{MapsCleanly};
+ghost use Rattle.held_nodes.specs.Moves.{roles_of_plan};
+ghost use Rattle.held_nodes.specs.Plans.{HasPorts, IsInBudget};
+ghost use Rattle.mct_circuit.specs.Gates.{AreNarrow};
+
+use crate::changing::rise;
+use crate::needs::with_cut;
+use claim_check::Settled;
+use gate_split::{Budget, PlanFault, Planned};
+use held_nodes::Forward;
+use std::alloc::Global;
+
+/// The plan of a settled graph by halves, down to blocks of `block` nodes. The forward part holds what the second half of
+/// the nodes needs of the first, then the outputs in the second half, and then cleans the first half of what is no
+/// output; each half goes in the same way, and a block is computed node by node. The circuit takes each input and zeros
+/// to that input, the outputs, and zeros.
+///
+/// # Errors
+///
+/// `Lines` and `Gates` only where the budget has fewer of them than the numbers of the block, for a block of one node than
+/// the fine numbers, and where one block has all nodes than the plain numbers. `need` is the number of inputs, outputs
+/// and borrowed lines where that passes the budget, and one line more than the budget otherwise.
+pub fn plan(
+    alloc: Global,
+    graph: &Settled,
+    block: u32,
+    budget: &Budget,
+) -> Result<Planned, PlanFault>
+    requires { 1 ≤ block }
+    ensures ports { IfOk result (HasPorts graph.now) }
+    ensures clean { IfOk result (λ planned. MapsCleanly (roles_of_plan planned)
+        planned.circuit.gates (settled_outputs graph.now)) }
+    ensures within { IfOk result (IsInBudget budget.now) }
+    ensures narrow { IfOk result (λ planned. AreNarrow planned.circuit.gates) }
+    ensures few { IfOk result (IsWithinBlock graph.now block) }
+    ensures refused { IfErr result (IsPebblingFault graph.now block budget.now) }
+{
+    let forward = Forward::new(alloc, graph, budget)?;
+    let none = vec![in alloc; false; graph.nodes() as usize]?;
+    let outputs = with_cut(alloc, graph, 0, &none)?;
+    let forward = rise(alloc, graph, block, forward, 0, &outputs)?;
+    forward.finish()
+}
