@@ -1,0 +1,182 @@
+-- What is known while blocks are tried, from one block of all nodes down to blocks of one node.
+use Rattle.std.proofs.Common.{◌≡◌, ℕ, zero, suc, ◌+◌, ◌*◌, ◌/◌, ◌^◌, ◌<◌, ◌≤◌, true, length, Ok, Err, inl, inr, refl, sym, subst, ◌∙◌, pow_mono, arith}
+use Rattle.std.specs.Prelude.{IfErr, IfOk, Result}
+use Rattle.std.proofs.lemmas.Bool.{cases_lt}
+use Rattle.std.proofs.lemmas.Nat.{pow_pos}
+use Rattle.std.proofs.Math.Nat.{mul-le-mul_left, one-le-pow, pow-succ'}
+use Rattle.bennett_pebbling.specs.Pebbling.{HasFewGates, HasFewLines, IsHalved, IsPebblingFault}
+use Rattle.claim_check.specs.Budgets.{Measures, block_gates, block_lines}
+use Rattle.claim_check.specs.Measures.{IsWithin}
+use Rattle.claim_check.specs.Settled.{SettledView}
+use Rattle.gate_split.specs.declared.plan.PlanFault.{PlanFault}
+use Rattle.gate_split.specs.declared.plan.PlanFault.TheVariants.{Lines, Gates, Memory}
+use Rattle.gate_split.specs.Plans.{BudgetView, LaidView}
+use Rattle.held_nodes.specs.Held.{first_work}
+use Rattle.revc_base.specs.Levels.{IsLevels}
+use Rattle.plan_choice.specs.declared.choice.How.TheVariants.{Pebble}
+use Rattle.plan_choice.specs.Choices.{Fit, FineFits, GatesAreFew, IsChoiceFault, IsLaidFor, LinesAreFew, PlainFits, PebblingFits}
+use Rattle.plan_choice.specs.inside.Tried.{IsSearchFault, NoLargerFits, is_refusal}
+
+-- ---- one block
+
+-- the plain numbers of the graph itself fit
+abbrev NodesFit : SettledView → BudgetView → Type 0
+NodesFit s b = Fit b (first_work s + length s.nodes + b.borrow) (4 * length s.nodes + length s.outputs)
+
+-- no numbers of the block fit: those of its halvings, and the plain ones where one block has all nodes
+record NoneFits (s : SettledView) (block : ℕ) (b : BudgetView) : Type 0 where
+  halved : (m : Measures) (levels : ℕ) → IsHalved s block levels m → ¬ Fit b (block_lines m block levels b.borrow) (block_gates m block levels)
+  plain : length s.nodes ≤ block → ¬ NodesFit s b
+
+few_lines : (s : SettledView) (block : ℕ) (b : BudgetView) → HasFewLines s block b → NoneFits s block b
+few_lines s block b h = record {
+  halved = λ m levels is fit. (let fits = fit.few_lines in let few = h.halved m levels is in omega arith);
+  plain = λ covers fit. (let fits = fit.few_lines in let few = h.plain covers in omega arith);
+}
+
+few_gates : (s : SettledView) (block : ℕ) (b : BudgetView) → HasFewGates s block b → NoneFits s block b
+few_gates s block b h = record {
+  halved = λ m levels is fit. (let fits = fit.few_gates in let few = h.halved m levels is in omega arith);
+  plain = λ covers fit. (let fits = fit.few_gates in let few = h.plain covers in omega arith);
+}
+
+-- so many levels are enough for the nodes too
+is_halved : (s : SettledView) (block levels : ℕ) (m : Measures) → IsWithin s m → IsLevels block m.steps levels → IsHalved s block levels m
+is_halved s block levels m within are =
+    let fewer = within.steps in
+    let enough = are.enough in
+    record { within = within; enough = omega arith }
+
+-- ---- blocks of this size or more
+
+-- where no plain numbers of the nodes fit, no plain numbers do
+no_plain : (s : SettledView) (b : BudgetView) (m : Measures) → ¬ NodesFit s b
+    → IsWithin s m → ¬ PlainFits b m
+no_plain s b m none within fit =
+    let inputs = within.inputs in
+    let outputs = within.outputs in
+    let steps = within.steps in
+    let lines = fit.few_lines in
+    let gates = fit.few_gates in
+    none (record { few_lines = omega arith; few_gates = omega arith })
+
+-- where a block has all nodes, the plain numbers fit if those of the block do
+no_larger : (s : SettledView) (b : BudgetView) (m : Measures) (block levels : ℕ)
+    → ¬ NodesFit s b → IsWithin s m → length s.nodes ≤ block
+    → ¬ Fit b (block_lines m block levels b.borrow) (block_gates m block levels)
+no_larger s b m block levels none within covers fit =
+    let inputs = within.inputs in
+    let outputs = within.outputs in
+    let steps = within.steps in
+    let lines = fit.few_lines in
+    let gates = fit.few_gates in
+    let some : block * 1 ≤ block * 3 ^ levels = mul-le-mul_left block (one-le-pow levels 3 (omega arith)) in
+    none (record { few_lines = omega arith; few_gates = omega arith })
+
+-- the block that has all nodes
+at_first : (s : SettledView) (block : ℕ) (b : BudgetView) → length s.nodes ≤ block → NoneFits s block b → NoLargerFits s block b
+at_first s block b covers h = record {
+  plain = λ m within. no_plain s b m (h.plain covers) within;
+  blocks = λ m power levels within larger are. no_larger s b m (2 ^ power) levels (h.plain covers) within (omega arith);
+}
+
+-- nothing lies between a power of two and its half
+at_half : (s : SettledView) (power : ℕ) (b : BudgetView) → NoLargerFits s (2 ^ suc power) b → NoneFits s (2 ^ power) b → NoLargerFits s (2 ^ power) b
+at_half s power b before h = record {
+  plain = before.plain;
+  blocks = λ m other levels within larger are. elim (cases_lt power other) [
+    | inl more ↦ before.blocks m other levels within (pow_mono more) are
+    | inr fewer ↦ (let low : 2 ^ other ≤ 2 ^ power = pow_mono fewer in
+        let same : 2 ^ power ≡ 2 ^ other = omega arith in
+        let none = subst (λ block. NoneFits s block b) same h in
+        none.halved m levels (is_halved s (2 ^ other) levels m within are))
+  ];
+}
+
+-- ---- the search
+
+-- what is known of the last plan that was tried
+pub record IsSearching (s : SettledView) (b : BudgetView) (block : ℕ) (tried : Result LaidView PlanFault) : Type 0 where
+  pub power : ℕ
+  pub is : block ≡ 2 ^ power
+  pub ok : IfOk tried (IsLaidFor s b)
+  pub refused : IfErr tried (IsSearchFault s block b)
+
+-- the fault of a block is that of the search, where no larger numbers fit if the block's do not
+search_fault : (s : SettledView) (block : ℕ) (b : BudgetView) (tried : Result LaidView PlanFault) → (NoneFits s block b → NoLargerFits s block b)
+    → IfErr tried (IsPebblingFault s block b) → IfErr tried (IsSearchFault s block b)
+search_fault s block b (Ok laid) larger h = tt
+search_fault s block b (Err (Lines need)) larger h = (larger (few_lines s block b h.0), h)
+search_fault s block b (Err Gates) larger h = (larger (few_gates s block b h), h)
+search_fault s block b (Err Memory) larger h = tt
+
+pub begun : (s : SettledView) (b : BudgetView) (block power : ℕ) (tried : Result LaidView PlanFault) → block ≡ 2 ^ power → length s.nodes ≤ block
+    → IfOk tried (IsLaidFor s b) → IfErr tried (IsPebblingFault s block b) → IsSearching s b block tried
+begun s b block power tried is covers ok refused =
+    record { power = power; is = is; ok = ok; refused = search_fault s block b tried (at_first s block b covers) refused }
+
+-- a refusal says that nothing larger fits
+none_larger : (s : SettledView) (block : ℕ) (b : BudgetView) (tried : Result LaidView PlanFault) → is_refusal tried ≡ true
+    → IfErr tried (IsSearchFault s block b) → NoLargerFits s block b
+none_larger s block b (Ok laid) e h = absurd (cc)
+none_larger s block b (Err (Lines need)) e h = h.0
+none_larger s block b (Err Gates) e h = h.0
+none_larger s block b (Err Memory) e h = absurd (cc)
+
+halved_power : (s : SettledView) (b : BudgetView) (block half power : ℕ) (next : Result LaidView PlanFault) → block ≡ 2 ^ power → 1 < block
+    → NoLargerFits s block b → half ≡ block / 2 → IfOk next (IsLaidFor s b) → IfErr next (IsPebblingFault s half b) → IsSearching s b half next
+halved_power s b block half zero next is more before e ok refused = absurd (omega arith)
+halved_power s b block half (suc power) next is more before e ok refused =
+    let twice : block ≡ 2 * 2 ^ power = is ∙ pow-succ' 2 power in
+    let same : half ≡ 2 ^ power = omega arith in
+    record {
+      power = power;
+      is = same;
+      ok = ok;
+      refused = subst (λ size. IfErr next (IsSearchFault s size b)) (sym same)
+          (search_fault s (2 ^ power) b next (at_half s power b (subst (λ size. NoLargerFits s size b) is before))
+          (subst (λ size. IfErr next (IsPebblingFault s size b)) same refused));
+    }
+
+pub halved : (s : SettledView) (b : BudgetView) (block half : ℕ) (tried next : Result LaidView PlanFault) → IsSearching s b block tried → 1 < block
+    → is_refusal tried ≡ true → half ≡ block / 2 → IfOk next (IsLaidFor s b) → IfErr next (IsPebblingFault s half b) → IsSearching s b half next
+halved s b block half tried next h more e is ok refused =
+    halved_power s b block half h.power next h.is more (none_larger s block b tried e h.refused) is ok refused
+
+-- ---- the end
+
+-- no row of pebbling fits
+no_row : (s : SettledView) (b : BudgetView) → NoLargerFits s 1 b → ((m : Measures) → IsWithin s m → ¬ FineFits b m) → (m : Measures) → IsWithin s m
+    → ¬ PebblingFits b m
+no_row s b none fine m within (inl plain) = none.plain m within plain
+no_row s b none fine m within (inr (inl fits)) = fine m within fits
+no_row s b none fine m within (inr (inr fits)) = none.blocks m fits.power fits.levels within (pow_pos fits.power) fits.are fits.fit
+
+last_lines : (s : SettledView) (b : BudgetView) → NoLargerFits s 1 b → HasFewLines s 1 b → LinesAreFew Pebble s b
+last_lines s b none h = record {
+  few = λ m within. record { below = λ levels are. h.fine m levels refl (is_halved s 1 levels m within are) };
+  no_row = no_row s b none (λ m within fits. (let lines = fits.fit.few_lines in
+      let few = h.fine m fits.levels refl (is_halved s 1 fits.levels m within fits.are) in omega arith));
+}
+
+last_gates : (s : SettledView) (b : BudgetView) → NoLargerFits s 1 b → HasFewGates s 1 b → GatesAreFew Pebble s b
+last_gates s b none h = record {
+  few = λ m within. record { below = λ levels are. h.fine m levels refl (is_halved s 1 levels m within are) };
+  no_row = no_row s b none (λ m within fits. (let gates = fits.fit.few_gates in
+      let few = h.fine m fits.levels refl (is_halved s 1 fits.levels m within fits.are) in omega arith));
+}
+
+last_fault : (s : SettledView) (b : BudgetView) (tried : Result LaidView PlanFault) → IfErr tried (IsSearchFault s 1 b) → IfErr tried (IsChoiceFault Pebble s b)
+last_fault s b (Ok laid) h = tt
+last_fault s b (Err (Lines need)) h = (last_lines s b h.0 h.1.0, h.1.1)
+last_fault s b (Err Gates) h = last_gates s b h.0 h.1
+last_fault s b (Err Memory) h = tt
+
+-- blocks of one node are the last
+pub ended : (s : SettledView) (b : BudgetView) (block : ℕ) (tried : Result LaidView PlanFault) → IsSearching s b block tried → block ≤ 1
+    → IfErr tried (IsChoiceFault Pebble s b)
+ended s b block tried h one =
+    let some : 1 ≤ 2 ^ h.power = pow_pos h.power in
+    let is = h.is in
+    let same : block ≡ 1 = omega arith in
+    last_fault s b tried (subst (λ size. IfErr tried (IsSearchFault s size b)) same h.refused)

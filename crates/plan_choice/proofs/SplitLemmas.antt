@@ -1,0 +1,118 @@
+-- What the split of a plan keeps, and when it is refused.
+use Rattle.std.proofs.Common.{◌≡◌, ℕ, ◌+◌, ◌<◌, ◌≤◌, Bool, false, List, [], ◌∷◌, ◌++◌, length, replicate, Ok, Err, inl, inr, refl, ap, subst, ◌∙◌, arith}
+use Rattle.std.specs.List.{AllByRecursion, sum_by}
+use Rattle.std.specs.Prelude.{IfErr, Result}
+use Rattle.std.proofs.lemmas.Bool.{cases_lt}
+use Rattle.std.proofs.lemmas.Bool.Decides.{leb_tells}
+use Rattle.std.proofs.lemmas.List.{length-append, length-map, length-replicate}
+use Rattle.std.proofs.lemmas.List.Sums.{sum_by-cons}
+use Rattle.claim_check.specs.Settled.{SettledView}
+use Rattle.bennett_pebbling.specs.Pebbling.{IsPebblingFault}
+use Rattle.gate_split.specs.declared.fault.SplitFault.TheVariants as split
+use Rattle.gate_split.specs.declared.plan.PlanFault.{PlanFault}
+use Rattle.gate_split.specs.declared.plan.PlanFault.TheVariants.{Lines, Gates, Memory}
+use Rattle.gate_split.specs.Costs.{IsRoomyFlip, RoomyFlipsAreSplit, most_gates}
+use Rattle.gate_split.specs.Plans.{BudgetView, CleanCircuitsBorrow, LaidView, MapsCleanly, PlannedView, lines_in, with_borrowed}
+use Rattle.gate_split.specs.Split.{split_list}
+use Rattle.held_nodes.specs.Moves.{roles_of_plan, weight_in}
+use Rattle.mct_circuit.specs.Gates.{AreGatesOn, AreNarrow, CircuitView, GateView, IsGateOn, IsNarrow, flip_of, line_map, positive}
+use Rattle.mct_circuit.specs.Sizes.{weight_of}
+use Rattle.plan_choice.specs.inside.Tried.{IsLaidOf, IsSplitFault}
+
+-- ---- narrow gates
+
+narrow_is_roomy : (n : ℕ) (gate : GateView) → IsGateOn n gate → IsNarrow gate → IsRoomyFlip n gate
+narrow_is_roomy n gate on narrow =
+    let few = narrow.few in
+    let long : length gate.controls ≡ length narrow.controls = ap (λ (g : GateView). length g.controls) narrow.is_flip ∙ length-map narrow.controls positive in
+    record { on = on; target = narrow.target; is_flip = ap (λ (g : GateView). g.op) narrow.is_flip; room = inl (omega arith) }
+
+pub narrow_are_roomy : (n : ℕ) (gates : List GateView) → AreGatesOn n gates → AreNarrow gates → AllByRecursion (IsRoomyFlip n) gates
+narrow_are_roomy n [] on narrow = tt
+narrow_are_roomy n (gate ∷ gates) on narrow = (narrow_is_roomy n gate on.0 narrow.0, narrow_are_roomy n gates on.1 narrow.1)
+
+flip_stays : (controls : List ℕ) (target : ℕ) → length controls ≤ 2 → most_gates (flip_of controls target) ≡ weight_of (flip_of controls target)
+flip_stays controls target few =
+    let long : length (flip_of controls target).controls ≡ length controls = length-map controls positive in
+    elim (leb_tells (length (flip_of controls target).controls) 2) [ inl t ↦ rw t.0 refl | inr t ↦ absurd (omega (arith, t.1)) ]
+
+-- the most gates in place of narrow ones are as many as they weigh
+narrow_stay : (gates : List GateView) → AreNarrow gates → sum_by most_gates gates ≡ weight_in gates
+narrow_stay [] narrow = refl
+narrow_stay (gate ∷ gates) narrow =
+    let here : most_gates gate ≡ weight_of gate = rw narrow.0.is_flip (flip_stays narrow.0.controls narrow.0.target narrow.0.few) in
+    let there = narrow_stay gates narrow.1 in
+    let most = sum_by-cons most_gates gate gates in
+    let weight = sum_by-cons weight_of gate gates in
+    omega arith
+
+-- ---- refusals of a split
+
+-- gates with room whose split passes the limit may become more gates than the limit
+pub many_gates : (n more limit : ℕ) (gates : List GateView) → RoomyFlipsAreSplit → n ≤ more → AllByRecursion (IsRoomyFlip n) gates
+    → split_list more limit gates ≡ Err split.Gates → limit < sum_by most_gates gates
+many_gates n more limit gates law few roomy refused = elim (cases_lt limit (sum_by most_gates gates)) [
+  | inl over ↦ over
+  | inr within ↦ (let made = law.split more limit gates (law.wider n more gates few roomy) within in
+      let is = made.is in absurd (cc))
+]
+
+-- the split of narrow gates within the budget is refused only for want of memory
+pub blocks_refused : (s : SettledView) (block : ℕ) (b : BudgetView) (gates : List GateView) (tried : Result LaidView PlanFault) → AreNarrow gates
+    → weight_in gates ≤ b.gates → IfErr tried (IsSplitFault gates b) → IfErr tried (IsPebblingFault s block b)
+blocks_refused s block b gates (Ok laid) narrow within h = tt
+blocks_refused s block b gates (Err (Lines need)) narrow within h = absurd h
+blocks_refused s block b gates (Err Gates) narrow within h = (let stay = narrow_stay gates narrow in absurd (omega arith))
+blocks_refused s block b gates (Err Memory) narrow within h = tt
+
+-- ---- the laid plan
+
+-- the lines of a plan and the borrowed ones
+all_lines : (input zeros work borrowed : List Bool)
+    → length (input ++ (zeros ++ (work ++ borrowed))) ≡ length input + length zeros + length work + length borrowed
+all_lines input zeros work borrowed =
+    let first = length-append input (zeros ++ (work ++ borrowed)) in
+    let second = length-append zeros (work ++ borrowed) in
+    let third = length-append work borrowed in
+    omega arith
+
+-- gates that change all lines as clean gates do are clean
+clean_too : (p : PlannedView) (count : ℕ) (gates : List GateView) (value : List Bool → List Bool) → CleanCircuitsBorrow
+    → p.inputs + p.outputs + p.work ≡ p.circuit.lines → AreGatesOn p.circuit.lines p.circuit.gates
+    → ((bits : List Bool) → length bits ≡ p.circuit.lines + count → line_map gates bits ≡ line_map p.circuit.gates bits)
+    → MapsCleanly (roles_of_plan p) p.circuit.gates value → MapsCleanly (with_borrowed (roles_of_plan p) count) gates value
+clean_too p count gates value law lines on map clean =
+    let all : p.circuit.lines ≡ lines_in (with_borrowed (roles_of_plan p) 0) = omega (arith, lines) in
+    let beside = law (roles_of_plan p) p.circuit.gates value count (subst (λ n. AreGatesOn n p.circuit.gates) all on) clean in
+    record {
+      puts = λ input borrowed size long. (let bits = input ++ (replicate p.outputs false ++ (replicate p.work false ++ borrowed)) in
+          let many : length bits ≡ p.circuit.lines + count =
+          omega (
+            arith,
+            all_lines input (replicate p.outputs false) (replicate p.work false) borrowed,
+            length-replicate p.outputs false,
+            length-replicate p.work false,
+            size,
+            long,
+            lines,
+          ) in
+          record { mapped = map bits many ∙ (beside.puts input borrowed size long).mapped });
+    }
+
+-- a plan with its gates split, beside the borrowed lines
+abbrev pub laid_as : PlannedView → ℕ → CircuitView → LaidView
+laid_as p borrowed narrow = record { circuit = narrow; inputs = p.inputs; outputs = p.outputs; work = p.work; borrowed = borrowed }
+
+pub is_laid_of : (p : PlannedView) (b : BudgetView) (narrow : CircuitView) → CleanCircuitsBorrow → p.inputs + p.outputs + p.work ≡ p.circuit.lines
+    → AreGatesOn p.circuit.lines p.circuit.gates → p.circuit.lines + b.borrow ≤ b.lines → narrow.lines ≡ p.circuit.lines + b.borrow
+    → length narrow.gates ≤ b.gates
+    → ((bits : List Bool) → length bits ≡ p.circuit.lines + b.borrow → line_map narrow.gates bits ≡ line_map p.circuit.gates bits)
+    → IsLaidOf p b (laid_as p b.borrow narrow)
+is_laid_of p b narrow law lines on within size few map = record {
+  inputs = refl;
+  outputs = refl;
+  borrowed = refl;
+  lines = omega arith;
+  gates = few;
+  clean = λ value clean. clean_too p b.borrow narrow.gates value law lines on map clean;
+}

@@ -1,0 +1,98 @@
+-- Which budgets are enough for a choice of plans, and what is laid.
+use Rattle.std.specs.Prelude.{◌≡◌, ℕ, ◌^◌, ◌<◌, ◌≤◌, ◌⊎◌, ⊤, length}
+use Rattle.revc_base.specs.Levels.{IsLevels}
+use Rattle.claim_check.specs.Budgets.{Measures, plain_lines, plain_gates, fine_lines, fine_gates}
+use Rattle.claim_check.specs.Budgets.{block_lines, block_gates, eager_lines, eager_gates}
+use Rattle.claim_check.specs.Measures.{IsWithin}
+use Rattle.claim_check.specs.Settled.{SettledView, settled_outputs}
+use Rattle.gate_split.specs.declared.plan.PlanFault.{PlanFault}
+use Rattle.gate_split.specs.declared.plan.PlanFault.TheVariants.{Lines, Gates, Memory}
+use Rattle.gate_split.specs.Plans.{BudgetView, LaidView, MapsCleanly, roles_of}
+use Rattle.held_nodes.specs.Plans.{wanted_lines}
+use Rattle.plan_choice.specs.declared.choice.How.{How}
+use Rattle.plan_choice.specs.declared.choice.How.TheVariants.{Auto, Eager, Pebble}
+
+-- ---- rows of the budget numbers
+
+-- so many lines and gates are within the budget
+pub record Fit (b : BudgetView) (lines gates : ℕ) : Type 0 where
+  pub few_lines : lines ≤ b.lines
+  pub few_gates : gates ≤ b.gates
+
+-- both numbers of a row fit
+abbrev pub PlainFits : BudgetView → Measures → Type 0
+PlainFits b m = Fit b (plain_lines m b.borrow) (plain_gates m)
+
+pub record FineFits (b : BudgetView) (m : Measures) : Type 0 where
+  pub levels : ℕ
+  pub are : IsLevels 1 m.steps levels
+  pub fit : Fit b (fine_lines m levels b.borrow) (fine_gates m levels)
+
+-- for some power of two as the size of a block
+pub record BlockFits (b : BudgetView) (m : Measures) : Type 0 where
+  pub power : ℕ
+  pub levels : ℕ
+  pub are : IsLevels (2 ^ power) m.steps levels
+  pub fit : Fit b (block_lines m (2 ^ power) levels b.borrow) (block_gates m (2 ^ power) levels)
+
+abbrev pub EagerFits : BudgetView → Measures → Type 0
+EagerFits b m = Fit b (eager_lines m b.borrow) (eager_gates m)
+
+abbrev pub PebblingFits : BudgetView → Measures → Type 0
+PebblingFits b m = PlainFits b m ⊎ (FineFits b m ⊎ BlockFits b m)
+
+-- one of the rows that a choice of plans allows fits
+abbrev pub SomeRowFits : How → BudgetView → Measures → Type 0
+SomeRowFits Auto b m = EagerFits b m ⊎ PebblingFits b m
+SomeRowFits Eager b m = EagerFits b m
+SomeRowFits Pebble b m = PebblingFits b m
+
+-- ---- refusals
+
+-- the budget has fewer lines than the fine number
+pub record IsBelowFineLines (b : BudgetView) (m : Measures) : Type 0 where
+  pub below : (levels : ℕ) → IsLevels 1 m.steps levels → b.lines < fine_lines m levels b.borrow
+
+-- the budget has fewer gates than the fine number
+pub record IsBelowFineGates (b : BudgetView) (m : Measures) : Type 0 where
+  pub below : (levels : ℕ) → IsLevels 1 m.steps levels → b.gates < fine_gates m levels
+
+-- the budget has fewer lines than the eager number, or than the fine number where pebbling is tried too
+abbrev pub HasFewLines : How → BudgetView → Measures → Type 0
+HasFewLines Auto b m = IsBelowFineLines b m
+HasFewLines Eager b m = b.lines < eager_lines m b.borrow
+HasFewLines Pebble b m = IsBelowFineLines b m
+
+-- the same of gates
+abbrev pub HasFewGates : How → BudgetView → Measures → Type 0
+HasFewGates Auto b m = IsBelowFineGates b m
+HasFewGates Eager b m = b.gates < eager_gates m
+HasFewGates Pebble b m = IsBelowFineGates b m
+
+-- within all measures within which the settled graph is, the budget has too few lines, and no allowed row fits
+pub record LinesAreFew (how : How) (s : SettledView) (b : BudgetView) : Type 0 where
+  pub few : (m : Measures) → IsWithin s m → HasFewLines how b m
+  pub no_row : (m : Measures) → IsWithin s m → ¬ SomeRowFits how b m
+
+-- the same of gates
+pub record GatesAreFew (how : How) (s : SettledView) (b : BudgetView) : Type 0 where
+  pub few : (m : Measures) → IsWithin s m → HasFewGates how b m
+  pub no_row : (m : Measures) → IsWithin s m → ¬ SomeRowFits how b m
+
+-- why no plan is laid; want of memory has no cause
+abbrev pub IsChoiceFault : How → SettledView → BudgetView → PlanFault → Type 0
+IsChoiceFault how s b (Lines need) = LinesAreFew how s b × (need ≡ wanted_lines s b)
+IsChoiceFault how s b Gates = GatesAreFew how s b
+IsChoiceFault how s b Memory = ⊤
+
+-- ---- what is laid
+
+-- The plan is one of the settled graph: it has its inputs and outputs and the borrowed lines of the budget, is within
+-- the budget, and maps cleanly to the graph's outputs.
+pub record IsLaidFor (s : SettledView) (b : BudgetView) (laid : LaidView) : Type 0 where
+  pub inputs : laid.inputs ≡ s.inputs
+  pub outputs : laid.outputs ≡ length s.outputs
+  pub borrowed : laid.borrowed ≡ b.borrow
+  pub lines : laid.circuit.lines ≤ b.lines
+  pub gates : length laid.circuit.gates ≤ b.gates
+  pub clean : MapsCleanly (roles_of laid) laid.circuit.gates (settled_outputs s)

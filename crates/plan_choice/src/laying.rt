@@ -1,0 +1,76 @@
+// One plan laid: its gates are split on all its lines and the borrowed ones.
+ghost use Rattle.std.specs.Prelude.{◌≡◌, ◌+◌, ◌≤◌, IfOk, IfErr};
+ghost use Rattle.std.specs.List.{AllByRecursion};
+ghost use Rattle.bennett_pebbling.specs.Pebbling.{IsPebblingFault};
+ghost use Rattle.eager_cleanup.specs.Eager.{IsEagerFault};
+ghost use Rattle.gate_split.specs.Costs.{IsRoomyFlip};
+ghost use Rattle.plan_choice.specs.Choices.{IsLaidFor};
+ghost use Rattle.plan_choice.specs.inside.Tried.{IsLaidOf, IsSplitFault, is_refusal};
+
+use claim_check::Settled;
+use gate_split::{
+    Budget, Laid, PlanFault, Planned, SplitFault, clean_circuits_borrow, roomy_flips_are_split,
+    split,
+};
+use std::alloc::Global;
+
+// The eager plan, laid.
+pub fn lay_eager(alloc: Global, graph: &Settled, budget: &Budget) -> Result<Laid, PlanFault>
+    ensures ok { IfOk result (IsLaidFor graph.now budget.now) }
+    ensures refused { IfErr result (IsEagerFault graph.now budget.now) }
+{
+    let planned = eager_cleanup::plan(alloc, graph, budget)?;
+    lay(alloc, &planned, budget)
+}
+
+// The pebbling plan down to blocks of `block` nodes, laid.
+pub fn lay_blocks(
+    alloc: Global,
+    graph: &Settled,
+    block: u32,
+    budget: &Budget,
+) -> Result<Laid, PlanFault>
+    requires { 1 ≤ block }
+    ensures ok { IfOk result (IsLaidFor graph.now budget.now) }
+    ensures refused { IfErr result (IsPebblingFault graph.now block budget.now) }
+{
+    let planned = bennett_pebbling::plan(alloc, graph, block, budget)?;
+    // This call says that the gates are on the circuit's lines.
+    let _ = planned.circuit().lines();
+    lay(alloc, &planned, budget)
+}
+
+// Whether there is no plan though memory was not wanting.
+pub fn is_refused(tried: &Result<Laid, PlanFault>) -> bool
+    ensures { result ≡ is_refusal tried.now }
+{
+    matches!(tried, Err(PlanFault::Lines { .. } | PlanFault::Gates))
+}
+
+// The plan with its gates split.
+fn lay(alloc: Global, planned: &Planned, budget: &Budget) -> Result<Laid, PlanFault>
+    requires lines { planned.now.circuit.lines + budget.now.borrow ≤ budget.now.lines }
+    requires roomy { AllByRecursion (IsRoomyFlip planned.now.circuit.lines)
+        planned.now.circuit.gates }
+    ensures ok { IfOk result (IsLaidOf planned.now budget.now) }
+    ensures refused { IfErr result (IsSplitFault planned.now.circuit.gates budget.now) }
+{
+    // These calls say that no flip wants an idle line, that the plan is clean beside borrowed lines, and that the budget
+    // has few lines.
+    roomy_flips_are_split();
+    clean_circuits_borrow();
+    let _ = budget.lines();
+    let lines = planned.circuit().lines() + budget.borrow();
+    match split(alloc, planned.circuit(), lines, budget.gates()) {
+        Ok(narrow) => Ok(Laid::new(
+            narrow,
+            planned.inputs(),
+            planned.outputs(),
+            planned.work(),
+            budget.borrow(),
+        )),
+        Err(SplitFault::Gates) => Err(PlanFault::Gates),
+        Err(SplitFault::Memory) => Err(PlanFault::Memory),
+        Err(SplitFault::NoIdle { .. }) => unreachable!(),
+    }
+}
