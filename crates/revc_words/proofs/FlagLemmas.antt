@@ -1,5 +1,6 @@
 -- The texts of options: where a word has its first `=`, and which option its front names.
 use Rattle.std.proofs.Common.{◌≡◌, ◌≢◌, ℕ, suc, ◌<◌, Bool, true, false, ◌||◌, List, [], ◌∷◌, ◌++◌, length, get_or, Option, Some, None, MatchOption, cond, eqb, refl, sym, ap, ◌∙◌, arith, codes, inl, inr, Bor, lit<}
+use Rattle.std.specs.List.{AllByRecursion}
 use Rattle.std.specs.Option.{option_map, option_and_then}
 use Rattle.std.specs.Str.{bytes_eq}
 use Rattle.std.proofs.lemmas.Bool.{false≢true}
@@ -10,9 +11,10 @@ use Rattle.std.proofs.lemmas.Str.Pattern.{IsSplitOnceResult, split_parts}
 use Rattle.revc_words.specs.declared.order.Command.{Command}
 use Rattle.revc_words.specs.declared.order.Command.TheVariants.{Compile, Check, Eval, Stat, Run}
 use Rattle.revc_words.specs.declared.options.OptionName.{OptionName}
-use Rattle.revc_words.specs.declared.options.OptionName.TheVariants.{Nodes, From}
+use Rattle.revc_words.specs.declared.options.OptionName.TheVariants.{Plan, Lines, Gates, Borrow, Nodes, Format, From}
 use Rattle.revc_words.specs.Words.{Setting, IsOneOf, options_of}
 use Rattle.revc_words.specs.inside.Scanning.{text_of, flagged, is_one_of, option_of, split_at_equals}
+use Rattle.revc_words.proofs.ValueLemmas.{first_says}
 
 -- ---- the first `=`
 
@@ -89,17 +91,17 @@ split_says (byte ∷ bytes) one e = at (eqb byte 61) refl (split_says bytes)
 -- ---- options by their texts
 
 flagged_text : (option : OptionName) → flagged (codes "--" ++ text_of option) ≡ Some option
+flagged_text Plan = refl
+flagged_text Lines = refl
+flagged_text Gates = refl
+flagged_text Borrow = refl
 flagged_text Nodes = refl
+flagged_text Format = refl
 flagged_text From = refl
 
 flagged_says : (flag : List ℕ) (option : OptionName) → flagged flag ≡ Some option → flag ≡ codes "--" ++ text_of option
-flagged_says flag option e = at (bytes_eq flag (codes "--nodes")) (bytes_eq flag (codes "--from")) refl refl e
-  where
-    at : (nodes from : Bool) → bytes_eq flag (codes "--nodes") ≡ nodes → bytes_eq flag (codes "--from") ≡ from
-        → cond nodes (Some Nodes) (cond from (Some From) None) ≡ Some option → flag ≡ codes "--" ++ text_of option
-    at true from a b e = (bytes_eq-Decides flag (codes "--nodes")).0 a ∙ ap (λ o. codes "--" ++ text_of o) (same_Some _ _ e)
-    at false true a b e = (bytes_eq-Decides flag (codes "--from")).0 b ∙ ap (λ o. codes "--" ++ text_of o) (same_Some _ _ e)
-    at false false a b e = absurd cc
+flagged_says flag option e =
+    first_says (λ option. codes "--" ++ text_of option) (Plan ∷ Lines ∷ Gates ∷ Borrow ∷ Nodes ∷ Format ∷ From ∷ []) flag option e
 
 one_of : (options : List (List ℕ)) (name : List ℕ) → IsOneOf options name → is_one_of options name ≡ true
 one_of [] name is = absurd is
@@ -119,17 +121,22 @@ one_of_says (option ∷ options) name e = at (bytes_eq name option) refl e (one_
     at true is e behind = inl ((bytes_eq-Decides name option).0 is)
     at false is e behind = inr (behind e)
 
+named_among : (options : List (List ℕ)) (name : List ℕ) → AllByRecursion (λ text. (option : OptionName) × (text ≡ text_of option)) options
+    → IsOneOf options name → (option : OptionName) × (name ≡ text_of option)
+named_among [] name texts is = absurd is
+named_among (text ∷ options) name texts (inl is) = (texts.0.0, is ∙ texts.0.1)
+named_among (text ∷ options) name texts (inr is) = named_among options name texts.1 is
+
 -- each option of a command is one of the options
 pub named : (command : Command) (name : List ℕ) → IsOneOf (options_of command) name → (option : OptionName) × (name ≡ text_of option)
-named Compile name (inl is) = (Nodes, is)
-named Compile name (inr is) = absurd is
-named Check name (inl is) = (Nodes, is)
-named Check name (inr is) = absurd is
-named Eval name is = absurd is
-named Stat name (inl is) = (From, is)
-named Stat name (inr is) = absurd is
-named Run name (inl is) = (From, is)
-named Run name (inr is) = absurd is
+named command name is = named_among (options_of command) name (texts command) is
+  where
+    texts : (command : Command) → AllByRecursion (λ text. (option : OptionName) × (text ≡ text_of option)) (options_of command)
+    texts Compile = ((Plan, refl), ((Lines, refl), ((Gates, refl), ((Borrow, refl), ((Nodes, refl), ((Format, refl), tt))))))
+    texts Check = ((Nodes, refl), tt)
+    texts Eval = tt
+    texts Stat = ((From, refl), tt)
+    texts Run = ((From, refl), tt)
 
 pub option_found : (command : Command) (option : OptionName) → IsOneOf (options_of command) (text_of option)
     → option_of command (codes "--" ++ text_of option) ≡ Some option
@@ -160,23 +167,48 @@ option_says command flag option e = at (flagged flag) refl e
 
 pub split_joined : (option : OptionName) (value : List ℕ)
     → split_at_equals (codes "--" ++ (text_of option ++ (codes "=" ++ value))) ≡ Some (record { name = codes "--" ++ text_of option; value = value })
+split_joined Plan value = refl
+split_joined Lines value = refl
+split_joined Gates value = refl
+split_joined Borrow value = refl
 split_joined Nodes value = refl
+split_joined Format value = refl
 split_joined From value = refl
 
 pub split_parted : (option : OptionName) → split_at_equals (codes "--" ++ text_of option) ≡ None
+split_parted Plan = refl
+split_parted Lines = refl
+split_parted Gates = refl
+split_parted Borrow = refl
 split_parted Nodes = refl
+split_parted Format = refl
 split_parted From = refl
 
 pub joined_again : (option : OptionName) (value : List ℕ)
     → (codes "--" ++ text_of option) ++ (61 ∷ value) ≡ codes "--" ++ (text_of option ++ (codes "=" ++ value))
+joined_again Plan value = refl
+joined_again Lines value = refl
+joined_again Gates value = refl
+joined_again Borrow value = refl
 joined_again Nodes value = refl
+joined_again Format value = refl
 joined_again From value = refl
 
 -- they are neither positional nor `--`
 pub joined_is_no_end : (option : OptionName) (value : List ℕ) → bytes_eq (codes "--" ++ (text_of option ++ (codes "=" ++ value))) (codes "--") ≡ false
+joined_is_no_end Plan value = refl
+joined_is_no_end Lines value = refl
+joined_is_no_end Gates value = refl
+joined_is_no_end Borrow value = refl
 joined_is_no_end Nodes value = refl
+joined_is_no_end Format value = refl
 joined_is_no_end From value = refl
 
 pub parted_is_no_end : (option : OptionName) → bytes_eq (codes "--" ++ text_of option) (codes "--") ≡ false
+parted_is_no_end Plan = refl
+parted_is_no_end Lines = refl
+parted_is_no_end Gates = refl
+parted_is_no_end Borrow = refl
 parted_is_no_end Nodes = refl
+parted_is_no_end Format = refl
 parted_is_no_end From = refl

@@ -1,57 +1,24 @@
 -- What is found word by word is the one order of the words.
 use Rattle.std.specs.Prelude.{slice_index_or}
 use Rattle.std.specs.declared.string.String.{String}
-use Rattle.std.proofs.Common.{take_all, take, drop, map, string_bytes, Global, ◌-◌, ◌≤◌, arith, ◌≡◌, ◌≢◌, ℕ, Bool, true, false, List, [], ◌∷◌, length, Option, Some, None, MatchOption, cond, refl, sym, ap, ◌∙◌, subst, codes}
-use Rattle.std.specs.Option.{unwrap_or}
-use Rattle.std.specs.Str.{bytes_eq}
+use Rattle.std.proofs.Common.{take_all, take, drop, map, string_bytes, Global, ◌-◌, ◌≤◌, arith, ◌≡◌, ◌≢◌, ℕ, Bool, true, false, List, [], ◌∷◌, length, Option, Some, None, refl, sym, ap, ◌∙◌, subst}
 use Rattle.std.proofs.lemmas.Option.{same_Some}
-use Rattle.revc_words.specs.declared.limits.TheConstants.{MOST_NODES, USUAL_NODES}
 use Rattle.revc_words.specs.declared.order.Command.{Command}
 use Rattle.revc_words.specs.declared.order.Command.TheVariants.{Compile, Check, Eval, Stat, Run}
-use Rattle.revc_words.specs.declared.order.Format.{Format}
-use Rattle.revc_words.specs.declared.order.Format.TheVariants.{Real}
 use Rattle.revc_words.specs.declared.options.OptionName.{OptionName}
-use Rattle.revc_words.specs.declared.options.OptionName.TheVariants.{Nodes, From}
+use Rattle.revc_words.specs.declared.options.OptionName.TheVariants.{Plan, Lines, Gates, Borrow, Nodes, Format, From}
 use Rattle.revc_words.specs.declared.options.Settings.{Settings}
-use Rattle.revc_words.specs.Words.{OrderView, IsOrder, HasNoOrder, OneOrder, TakesWords, Setting, Reads, IsNumberIn, format_word, name_of, options_of, value_of, IsGivenOnce}
-use Rattle.revc_words.specs.inside.Scanning.{Found, text_of, scan_start, found_of, number_of, format_of, counted}
-use Rattle.revc_words.proofs.ValueLemmas.{number_says, number_found, format_says, format_found}
-use Rattle.revc_words.proofs.SettingLemmas.{AtMostOnce, IsValue, IsGood, IsSettled, settle, settled, settles, slot_says, slot_good, once_gives, gives_once}
+use Rattle.revc_words.specs.Words.{OrderView, IsOrder, HasNoOrder, OneOrder, TakesWords, Setting, Reads, name_of, options_of, IsGivenOnce}
+use Rattle.revc_words.specs.inside.Scanning.{Found, text_of, first_with, no_settings, order_with, scan_start, found_of, counted}
+use Rattle.revc_words.proofs.ValueLemmas.{plan_rule, lines_rule, gates_rule, borrow_rule, nodes_rule, format_rule, from_rule}
+use Rattle.revc_words.proofs.SettingLemmas.{AtMostOnce, AreSettled, slots_of, settle, settled, settles, gives_once, once_by, right, kept}
 use Rattle.revc_words.proofs.ReadingLemmas.{with_plain, reads_so, are_options, readable, some_of_map}
-
--- ---- values
-
--- the value that an option has, or the usual one, is what the words say
-value_says : {A : Type 0} (parse : List ℕ → Option A) (Good : List ℕ → A → Type 0) (usual : A)
-    → ((word : List ℕ) (value : A) → parse word ≡ Some value → Good word value) → (given : Option (List ℕ)) (now : Option A) → IsValue parse given now
-    → MatchOption given (unwrap_or now usual ≡ usual) (λ word. Good word (unwrap_or now usual))
-value_says parse Good usual says None now is = ap (λ o. unwrap_or o usual) is
-value_says parse Good usual says (Some word) now is =
-    subst (λ o. Good word (unwrap_or o usual)) (sym is.2) (says word is.0 is.1)
-
-value_is_good : {A : Type 0} (parse : List ℕ → Option A) (Good : List ℕ → A → Type 0) (usual : A)
-    → ((word : List ℕ) (value : A) → Good word value → parse word ≡ Some value) → (given : Option (List ℕ)) (value : A)
-    → MatchOption given (value ≡ usual) (λ word. Good word value) → IsGood parse given
-value_is_good parse Good usual found None value is = tt
-value_is_good parse Good usual found (Some word) value is = (value, found word value is)
-
-same_value : {A : Type 0} (parse : List ℕ → Option A) (Good : List ℕ → A → Type 0) (usual : A)
-    → ((word : List ℕ) (value : A) → Good word value → parse word ≡ Some value) → (given : Option (List ℕ)) (now : Option A) (value : A)
-    → IsValue parse given now → MatchOption given (value ≡ usual) (λ word. Good word value) → value ≡ unwrap_or now usual
-same_value parse Good usual found None now value is said = said ∙ sym (ap (λ o. unwrap_or o usual) is)
-same_value parse Good usual found (Some word) now value is said =
-    same_Some _ _ (sym (found word value said) ∙ is.1) ∙ sym (ap (λ o. unwrap_or o usual) is.2)
 
 -- ---- commands
 
 -- the command with this name
 command_of : List ℕ → Option Command
-command_of name =
-    cond (bytes_eq name (codes "compile")) (Some Compile)
-    (cond (bytes_eq name (codes "check")) (Some Check)
-    (cond (bytes_eq name (codes "eval")) (Some Eval)
-    (cond (bytes_eq name (codes "stat")) (Some Stat)
-    (cond (bytes_eq name (codes "run")) (Some Run) None))))
+command_of name = first_with name_of (Compile ∷ Check ∷ Eval ∷ Stat ∷ Run ∷ []) name
 
 command_of_name : (command : Command) → command_of (name_of command) ≡ Some command
 unfolding command_of
@@ -70,32 +37,30 @@ heads e = (cc, cc)
 -- ---- what is found is an order
 
 abbrev pub view_of : Command → Found → OrderView
-view_of command found = record {
-  command = command;
-  nodes = unwrap_or found.settings.nodes USUAL_NODES;
-  from = unwrap_or found.settings.from Real;
-  bits = found.plain;
-}
+view_of command found = order_with command found.settings found.plain
 
 given_once : (command : Command) {behind plain : List (List ℕ)} {given : List Setting} (settings : Settings)
-    → Reads (options_of command) behind given plain → IsSettled given settings → IsGivenOnce given
+    → Reads (options_of command) behind given plain → AreSettled (slots_of no_settings given) settings → IsGivenOnce given
 given_once command {behind} {plain} {given} settings read is = gives_once given (are_options command read) each
   where
     each : (option : OptionName) → AtMostOnce (text_of option) given
-    each Nodes = (slot_says (number_of 1 MOST_NODES) (codes "nodes") given settings.nodes is.nodes).0
-    each From = (slot_says format_of (codes "from") given settings.from is.from).0
+    each Plan = once_by plan_rule given settings.plan is.plan
+    each Lines = once_by lines_rule given settings.lines is.lines
+    each Gates = once_by gates_rule given settings.gates is.gates
+    each Borrow = once_by borrow_rule given settings.borrow is.borrow
+    each Nodes = once_by nodes_rule given settings.nodes is.nodes
+    each Format = once_by format_rule given settings.format is.format
+    each From = once_by from_rule given settings.from is.from
 
 pub order_is : (words behind : List (List ℕ)) (command : Command) (found : Found) → words ≡ name_of command ∷ behind
     → found_of command behind scan_start ≡ Some found → TakesWords command (length found.plain) → IsOrder words (view_of command found)
 order_is words behind command found named e count =
-    let none : Settings = record { nodes = None; from = None } in
-    let reading = readable command behind none (ap (λ o. is_some_of o) e) in
-    let settle_it = some_of_map (λ s. let f : Found = record { settings = s; plain = reading.plain } in f) (settle none reading.given) found
-    (sym (reads_so command reading.read none) ∙ e) in
+    let reading = readable command behind no_settings (ap (λ o. is_some_of o) e) in
+    let settle_it = some_of_map (λ s. let f : Found = record { settings = s; plain = reading.plain } in f) (settle no_settings reading.given) found
+    (sym (reads_so command reading.read no_settings) ∙ e) in
     let settings = settle_it.0 in
-    let is = settled reading.given settings settle_it.1 in
-    let nodes = slot_says (number_of 1 MOST_NODES) (codes "nodes") reading.given settings.nodes is.nodes in
-    let from = slot_says format_of (codes "from") reading.given settings.from is.from in
+    let slots = slots_of no_settings reading.given in
+    let is = settled slots.plan slots.lines slots.gates slots.borrow slots.nodes slots.format slots.from settings settle_it.1 in
     let same = settle_it.2 in
     let made : Found = record { settings = settings; plain = reading.plain } in
     let here : IsOrder words (view_of command made) = record {
@@ -105,9 +70,13 @@ order_is words behind command found named e count =
       read = reading.read;
       once = given_once command settings reading.read is;
       count = subst (λ (f : Found). TakesWords command (length f.plain)) (sym same) count;
-      nodes = value_says (number_of 1 MOST_NODES) (IsNumberIn 1 MOST_NODES) USUAL_NODES (number_says 1 MOST_NODES) (value_of (codes "nodes") reading.given)
-          settings.nodes nodes.1;
-      from = value_says format_of (λ word format. word ≡ format_word format) Real format_says (value_of (codes "from") reading.given) settings.from from.1;
+      plan = right plan_rule reading.given settings.plan is.plan;
+      lines = right lines_rule reading.given settings.lines is.lines;
+      gates = right gates_rule reading.given settings.gates is.gates;
+      borrow = right borrow_rule reading.given settings.borrow is.borrow;
+      nodes = right nodes_rule reading.given settings.nodes is.nodes;
+      format = right format_rule reading.given settings.format is.format;
+      from = right from_rule reading.given settings.from is.from;
     } in
     subst (λ (f : Found). IsOrder words (view_of command f)) same here
   where
@@ -125,38 +94,49 @@ pub record IsFound (command : Command) (behind : List (List ℕ)) (order : Order
 
 found_there : (words : List (List ℕ)) (order : OrderView) → (is : IsOrder words order) → IsFound order.command is.behind order
 found_there words order is =
-    let none : Settings = record { nodes = None; from = None } in
     let given = is.given in
-    let nodes = slot_good (number_of 1 MOST_NODES) (codes "nodes") given (once_gives (codes "nodes") given is.once)
-    (value_is_good (number_of 1 MOST_NODES) (IsNumberIn 1 MOST_NODES) USUAL_NODES (number_found 1 MOST_NODES)
-    (value_of (codes "nodes") given) order.nodes is.nodes) in
-    let from = slot_good format_of (codes "from") given (once_gives (codes "from") given is.once)
-    (value_is_good format_of (λ word format. word ≡ format_word format) Real format_found (value_of (codes "from") given) order.from is.from) in
-    let settings : Settings = record { nodes = nodes.0; from = from.0 } in
-    let settles_so : IsSettled given settings = record { nodes = nodes.1; from = from.1 } in
-    let made : Found = record { settings = settings; plain = order.bits } in
+    let plan = kept plan_rule given order.plan is.once is.plan in
+    let lines = kept lines_rule given order.lines is.once is.lines in
+    let gates = kept gates_rule given order.gates is.once is.gates in
+    let borrow = kept borrow_rule given order.borrow is.once is.borrow in
+    let nodes = kept nodes_rule given order.nodes is.once is.nodes in
+    let format = kept format_rule given order.format is.once is.format in
+    let from = kept from_rule given order.from is.once is.from in
+    let settings : Settings = record {
+      plan = plan.0;
+      lines = lines.0;
+      gates = gates.0;
+      borrow = borrow.0;
+      nodes = nodes.0;
+      format = format.0;
+      from = from.0;
+    } in
+    let settled_so : AreSettled (slots_of no_settings given) settings = record {
+      plan = plan.1;
+      lines = lines.1;
+      gates = gates.1;
+      borrow = borrow.1;
+      nodes = nodes.1;
+      format = format.1;
+      from = from.1;
+    } in
     record {
-      what = made;
-      found = reads_so order.command is.read none ∙ ap (λ s. with_plain order.bits s) (settles given settings settles_so);
-      is = same_order order settings
-          (same_value (number_of 1 MOST_NODES) (IsNumberIn 1 MOST_NODES) USUAL_NODES (number_found 1 MOST_NODES)
-          (value_of (codes "nodes") given) nodes.0 order.nodes
-          (slot_says (number_of 1 MOST_NODES) (codes "nodes") given nodes.0 nodes.1).1 is.nodes)
-          (same_value format_of (λ word format. word ≡ format_word format) Real format_found (value_of (codes "from") given) from.0 order.from
-          (slot_says format_of (codes "from") given from.0 from.1).1 is.from);
+      what = record { settings = settings; plain = order.bits };
+      found = reads_so order.command is.read no_settings
+          ∙ ap (λ s. with_plain order.bits s) (settles (slots_of no_settings given) settings settled_so);
+      is = λ i. record {
+        command = order.command;
+        plan = plan.2 i;
+        lines = lines.2 i;
+        gates = gates.2 i;
+        borrow = borrow.2 i;
+        nodes = nodes.2 i;
+        format = format.2 i;
+        from = from.2 i;
+        bits = order.bits;
+      };
       count = is.count;
     }
-  where
-    same_order : (order : OrderView) (settings : Settings) → order.nodes ≡ unwrap_or settings.nodes USUAL_NODES → order.from ≡ unwrap_or settings.from Real
-        → order ≡ view_of order.command (record { settings = settings; plain = order.bits })
-    same_order order settings nodes from =
-        ap (λ (n : ℕ). let one : OrderView = record { command = order.command; nodes = n; from = order.from; bits = order.bits } in one) nodes
-        ∙ ap (λ (f : Format). let one : OrderView = record {
-          command = order.command;
-          nodes = unwrap_or settings.nodes USUAL_NODES;
-          from = f;
-          bits = order.bits;
-        } in one) from
 
 pub is_found : (words behind : List (List ℕ)) (command : Command) (order : OrderView) → words ≡ name_of command ∷ behind → IsOrder words order
     → IsFound command behind order
@@ -233,19 +213,16 @@ counts (Some f) settings count e =
     let same = same_Some _ _ e in
     record { what = f; found_is = refl; settings_is = sym (ap (λ p. p.0) same); count_is = sym (ap (λ p. p.1) same) }
 
-pub ordered : (words behind : List (List ℕ)) (command : Command) (settings : Settings) (count nodes : ℕ) (from : Format) (bits : List (List ℕ))
+pub ordered : (words behind : List (List ℕ)) (command : Command) (settings : Settings) (count : ℕ) (order : OrderView) (bits : List (List ℕ))
     → words ≡ name_of command ∷ behind → (is : IsCounted (found_of command behind scan_start) settings count) → TakesWords command count
-    → nodes ≡ unwrap_or settings.nodes USUAL_NODES → from ≡ unwrap_or settings.from Real
-    → ((f : Found) → found_of command behind scan_start ≡ Some f → bits ≡ f.plain)
-    → IsOrder words (record { command = command; nodes = nodes; from = from; bits = bits })
-ordered words behind command settings count nodes from bits named is takes nodes_is from_is bits_are =
+    → order ≡ order_with command settings bits → ((f : Found) → found_of command behind scan_start ≡ Some f → bits ≡ f.plain)
+    → IsOrder words order
+ordered words behind command settings count order bits named is takes order_is_so bits_are =
     let found = is.what in
-    let order = order_is words behind command found named is.found_is (subst (λ n. TakesWords command n) (sym is.count_is) takes) in
-    let nodes_so : unwrap_or found.settings.nodes USUAL_NODES ≡ nodes = ap (λ (s : Settings). unwrap_or s.nodes USUAL_NODES) is.settings_is ∙ sym nodes_is in
-    let from_so : unwrap_or found.settings.from Real ≡ from = ap (λ (s : Settings). unwrap_or s.from Real) is.settings_is ∙ sym from_is in
-    subst (λ (plain : List (List ℕ)). IsOrder words (record { command = command; nodes = nodes; from = from; bits = plain })) (sym (bits_are found is.found_is))
-    (subst (λ (f : Format). IsOrder words (record { command = command; nodes = nodes; from = f; bits = found.plain })) from_so
-    (subst (λ (n : ℕ). IsOrder words (record { command = command; nodes = n; from = unwrap_or found.settings.from Real; bits = found.plain })) nodes_so order))
+    let here = order_is words behind command found named is.found_is (subst (λ n. TakesWords command n) (sym is.count_is) takes) in
+    subst (λ (o : OrderView). IsOrder words o)
+    (ap (λ s. order_with command s found.plain) is.settings_is ∙ ap (λ bs. order_with command settings bs) (sym (bits_are found is.found_is))
+    ∙ sym order_is_so) here
 
 pub not_both : (words : List (List ℕ)) (order : OrderView) → IsOrder words order → HasNoOrder words → ⊥
 not_both words order is none = none.refuted order is

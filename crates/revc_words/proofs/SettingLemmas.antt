@@ -1,18 +1,19 @@
 -- Options that are given at most once: the settings that are kept from a list of options with their values.
-use Rattle.std.proofs.Common.{◌≡◌, ◌≢◌, ℕ, zero, suc, ◌<◌, Bool, true, false, List, [], ◌∷◌, length, get_or, Option, Some, None, cond, refl, sym, ap, ◌∙◌, subst, arith, codes}
+use Rattle.std.proofs.Common.{◌≡◌, ◌≢◌, ℕ, zero, suc, ◌<◌, Bool, true, false, List, [], ◌∷◌, length, get_or, Option, Some, None, MatchOption, cond, refl, sym, ap, ◌∙◌, subst, arith}
 use Rattle.std.specs.List.{AllByRecursion}
-use Rattle.std.specs.Option.{option_and_then}
+use Rattle.std.specs.Option.{option_map, option_and_then, is_some, unwrap_or}
 use Rattle.std.specs.Str.{bytes_eq}
 use Rattle.std.proofs.lemmas.Bool.{false≢true}
 use Rattle.std.proofs.lemmas.Option.{same_Some}
 use Rattle.std.proofs.lemmas.Slice.Eq.{bytes_eq-Decides}
-use Rattle.revc_words.specs.declared.limits.TheConstants.{MOST_NODES}
-use Rattle.revc_words.specs.declared.order.Format.{Format}
+use Rattle.plan_choice.specs.declared.choice.How.{How}
+use Rattle.revc_words.specs.declared.order.Format.{Format as CircuitFormat}
 use Rattle.revc_words.specs.declared.options.OptionName.{OptionName}
-use Rattle.revc_words.specs.declared.options.OptionName.TheVariants.{Nodes, From}
+use Rattle.revc_words.specs.declared.options.OptionName.TheVariants.{Plan, Lines, Gates, Borrow, Nodes, Format, From}
 use Rattle.revc_words.specs.declared.options.Settings.{Settings}
 use Rattle.revc_words.specs.Words.{Setting, IsGivenOnce, value_of}
-use Rattle.revc_words.specs.inside.Scanning.{text_of, put, set_of, number_of, format_of}
+use Rattle.revc_words.specs.inside.Scanning.{text_of, set_of}
+use Rattle.revc_words.proofs.ValueLemmas.{Rule, plan_rule, lines_rule, gates_rule, borrow_rule, nodes_rule, format_rule, from_rule}
 
 -- ---- one option
 
@@ -143,76 +144,170 @@ slot_good {A} parse name (one ∷ given) once good = at (bytes_eq one.name name)
 
 -- ---- all options
 
-abbrev pub joined : Option (Option ℕ) → Option (Option Format) → Option Settings
-joined None from = None
-joined (Some nodes) None = None
-joined (Some nodes) (Some from) = Some (record { nodes = nodes; from = from })
+abbrev pub slot_by : {A : Type 0} → Rule A → List Setting → Option A → Option (Option A)
+slot_by rule given had = slot rule.value rule.name given had
+
+-- the values that all options have behind some settings, or none where one of them cannot be
+pub record Slots : Type 0 where
+  pub plan : Option (Option How)
+  pub lines : Option (Option ℕ)
+  pub gates : Option (Option ℕ)
+  pub borrow : Option (Option ℕ)
+  pub nodes : Option (Option ℕ)
+  pub format : Option (Option CircuitFormat)
+  pub from : Option (Option CircuitFormat)
+
+abbrev pub slots_of : Settings → List Setting → Slots
+slots_of settings given = record {
+  plan = slot_by plan_rule given settings.plan;
+  lines = slot_by lines_rule given settings.lines;
+  gates = slot_by gates_rule given settings.gates;
+  borrow = slot_by borrow_rule given settings.borrow;
+  nodes = slot_by nodes_rule given settings.nodes;
+  format = slot_by format_rule given settings.format;
+  from = slot_by from_rule given settings.from;
+}
+
+-- the settings of these values, one by one
+abbrev made : Option How → Option ℕ → Option ℕ → Option ℕ → Option ℕ → Option CircuitFormat → Option CircuitFormat → Settings
+made plan lines gates borrow nodes format from =
+    record { plan = plan; lines = lines; gates = gates; borrow = borrow; nodes = nodes; format = format; from = from }
+
+abbrev with_value : {A B : Type 0} → Option (A → B) → Option A → Option B
+with_value None value = None
+with_value (Some make) value = option_map make value
+
+no_value : {A B : Type 0} (make : Option (A → B)) → with_value make None ≡ None
+no_value None = refl
+no_value (Some make) = refl
+
+abbrev pub joined : Slots → Option Settings
+joined s =
+    with_value (with_value (with_value (with_value (with_value (with_value (option_map made s.plan) s.lines) s.gates) s.borrow) s.nodes) s.format) s.from
+
+-- where one option cannot have a value, nothing is settled
+no_lines : (s : Slots) → joined (record s { lines = None }) ≡ None
+no_lines s =
+    ap (λ o. with_value (with_value (with_value (with_value (with_value o s.gates) s.borrow) s.nodes) s.format) s.from)
+    (no_value (option_map made s.plan))
+
+no_gates : (s : Slots) → joined (record s { gates = None }) ≡ None
+no_gates s =
+    ap (λ o. with_value (with_value (with_value (with_value o s.borrow) s.nodes) s.format) s.from)
+    (no_value (with_value (option_map made s.plan) s.lines))
+
+no_borrow : (s : Slots) → joined (record s { borrow = None }) ≡ None
+no_borrow s =
+    ap (λ o. with_value (with_value (with_value o s.nodes) s.format) s.from)
+    (no_value (with_value (with_value (option_map made s.plan) s.lines) s.gates))
+
+no_nodes : (s : Slots) → joined (record s { nodes = None }) ≡ None
+no_nodes s =
+    ap (λ o. with_value (with_value o s.format) s.from)
+    (no_value (with_value (with_value (with_value (option_map made s.plan) s.lines) s.gates) s.borrow))
+
+no_format : (s : Slots) → joined (record s { format = None }) ≡ None
+no_format s =
+    ap (λ o. with_value o s.from)
+    (no_value (with_value (with_value (with_value (with_value (option_map made s.plan) s.lines) s.gates) s.borrow) s.nodes))
+
+no_from : (s : Slots) → joined (record s { from = None }) ≡ None
+no_from s =
+    no_value (with_value (with_value (with_value (with_value (with_value (option_map made s.plan) s.lines) s.gates) s.borrow) s.nodes) s.format)
 
 -- what settings become by these
 abbrev pub settle : Settings → List Setting → Option Settings
-settle settings given =
-    joined (slot (number_of 1 MOST_NODES) (codes "nodes") given settings.nodes)
-    (slot format_of (codes "from") given settings.from)
+settle settings given = joined (slots_of settings given)
 
 pub settle_none : (settings : Settings) → settle settings [] ≡ Some settings
 unfolding slot
 settle_none settings = refl
 
-joined_none : (nodes : Option (Option ℕ)) → joined nodes None ≡ None
-joined_none None = refl
-joined_none (Some n) = refl
+-- one more value for an option, where its place among the slots is the hole of `all`
+one_more : {A : Type 0} (all : Option (Option A) → Option Settings) (more : Option A → Option (Option A)) (put : A → Settings)
+    (given : List Setting) (had now : Option A) → all None ≡ None → ((value : A) → all (more (Some value)) ≡ settle (put value) given)
+    → all (filled had now more) ≡ option_and_then (λ s. settle s given) (cond (is_some had) None (option_map put now))
+one_more all more put given None None none some = none
+one_more all more put given None (Some value) none some = some value
+one_more all more put given (Some had) now none some = none
 
 pub settle_more : (settings : Settings) (option : OptionName) (value : List ℕ) (given : List Setting)
     → settle settings (record { name = text_of option; value = value } ∷ given)
     ≡ option_and_then (λ more. settle more given) (set_of settings option value)
 unfolding slot
-settle_more settings Nodes value given = at settings.nodes (number_of 1 MOST_NODES value)
-  where
-    at : (had now : Option ℕ)
-        → joined (filled had now (slot (number_of 1 MOST_NODES) (codes "nodes") given)) (slot format_of (codes "from") given settings.from)
-        ≡ option_and_then (λ more. settle more given) (put (λ n. let made : Settings = record { nodes = Some n; from = settings.from } in made) had now)
-    at None None = refl
-    at None (Some n) = refl
-    at (Some n) now = refl
-settle_more settings From value given = at settings.from (format_of value)
-  where
-    nodes : Option (Option ℕ)
-    nodes = slot (number_of 1 MOST_NODES) (codes "nodes") given settings.nodes
-
-    at : (had now : Option Format)
-        → joined (slot (number_of 1 MOST_NODES) (codes "nodes") given settings.nodes) (filled had now (slot format_of (codes "from") given))
-        ≡ option_and_then (λ more. settle more given) (put (λ f. let made : Settings = record { nodes = settings.nodes; from = Some f } in made) had now)
-    at None None = joined_none (slot (number_of 1 MOST_NODES) (codes "nodes") given settings.nodes)
-    at None (Some f) = refl
-    at (Some f) now = joined_none (slot (number_of 1 MOST_NODES) (codes "nodes") given settings.nodes)
+settle_more settings Plan value given =
+    let s = slots_of settings given in
+    one_more (λ plan. joined (record s { plan = plan })) (slot_by plan_rule given) (λ plan. record settings { plan = Some plan }) given
+    settings.plan (plan_rule.value value) refl (λ plan. refl)
+settle_more settings Lines value given =
+    let s = slots_of settings given in
+    one_more (λ lines. joined (record s { lines = lines })) (slot_by lines_rule given) (λ lines. record settings { lines = Some lines }) given
+    settings.lines (lines_rule.value value) (no_lines s) (λ lines. refl)
+settle_more settings Gates value given =
+    let s = slots_of settings given in
+    one_more (λ gates. joined (record s { gates = gates })) (slot_by gates_rule given) (λ gates. record settings { gates = Some gates }) given
+    settings.gates (gates_rule.value value) (no_gates s) (λ gates. refl)
+settle_more settings Borrow value given =
+    let s = slots_of settings given in
+    one_more (λ borrow. joined (record s { borrow = borrow })) (slot_by borrow_rule given) (λ borrow. record settings { borrow = Some borrow }) given
+    settings.borrow (borrow_rule.value value) (no_borrow s) (λ borrow. refl)
+settle_more settings Nodes value given =
+    let s = slots_of settings given in
+    one_more (λ nodes. joined (record s { nodes = nodes })) (slot_by nodes_rule given) (λ nodes. record settings { nodes = Some nodes }) given
+    settings.nodes (nodes_rule.value value) (no_nodes s) (λ nodes. refl)
+settle_more settings Format value given =
+    let s = slots_of settings given in
+    one_more (λ format. joined (record s { format = format })) (slot_by format_rule given) (λ format. record settings { format = Some format }) given
+    settings.format (format_rule.value value) (no_format s) (λ format. refl)
+settle_more settings From value given =
+    let s = slots_of settings given in
+    one_more (λ from. joined (record s { from = from })) (slot_by from_rule given) (λ from. record settings { from = Some from }) given
+    settings.from (from_rule.value value) (no_from s) (λ from. refl)
 
 -- what is settled, option by option
-pub record IsSettled (given : List Setting) (settings : Settings) : Type 0 where
-  pub nodes : slot (number_of 1 MOST_NODES) (codes "nodes") given None ≡ Some settings.nodes
-  pub from : slot format_of (codes "from") given None ≡ Some settings.from
+pub record AreSettled (s : Slots) (settings : Settings) : Type 0 where
+  pub plan : s.plan ≡ Some settings.plan
+  pub lines : s.lines ≡ Some settings.lines
+  pub gates : s.gates ≡ Some settings.gates
+  pub borrow : s.borrow ≡ Some settings.borrow
+  pub nodes : s.nodes ≡ Some settings.nodes
+  pub format : s.format ≡ Some settings.format
+  pub from : s.from ≡ Some settings.from
 
-pub no_settings : Settings
-no_settings = record { nodes = None; from = None }
+pub settled : (plan : Option (Option How)) (lines gates borrow nodes : Option (Option ℕ)) (format from : Option (Option CircuitFormat))
+    (settings : Settings)
+    → (let s : Slots = record { plan = plan; lines = lines; gates = gates; borrow = borrow; nodes = nodes; format = format; from = from } in
+    joined s ≡ Some settings → AreSettled s settings)
+settled None lines gates borrow nodes format from settings e = absurd cc
+settled (Some plan) None gates borrow nodes format from settings e = absurd cc
+settled (Some plan) (Some lines) None borrow nodes format from settings e = absurd cc
+settled (Some plan) (Some lines) (Some gates) None nodes format from settings e = absurd cc
+settled (Some plan) (Some lines) (Some gates) (Some borrow) None format from settings e = absurd cc
+settled (Some plan) (Some lines) (Some gates) (Some borrow) (Some nodes) None from settings e = absurd cc
+settled (Some plan) (Some lines) (Some gates) (Some borrow) (Some nodes) (Some format) None settings e = absurd cc
+settled (Some plan) (Some lines) (Some gates) (Some borrow) (Some nodes) (Some format) (Some from) settings e =
+    let same = same_Some _ _ e in
+    record {
+      plan = ap (λ (s : Settings). Some s.plan) same;
+      lines = ap (λ (s : Settings). Some s.lines) same;
+      gates = ap (λ (s : Settings). Some s.gates) same;
+      borrow = ap (λ (s : Settings). Some s.borrow) same;
+      nodes = ap (λ (s : Settings). Some s.nodes) same;
+      format = ap (λ (s : Settings). Some s.format) same;
+      from = ap (λ (s : Settings). Some s.from) same;
+    }
 
-pub settled : (given : List Setting) (settings : Settings)
-    → settle (record { nodes = None; from = None }) given ≡ Some settings → IsSettled given settings
-settled given settings e = at (slot (number_of 1 MOST_NODES) (codes "nodes") given None) (slot format_of (codes "from") given None) refl refl e
-  where
-    at : (nodes : Option (Option ℕ)) (from : Option (Option Format))
-        → slot (number_of 1 MOST_NODES) (codes "nodes") given None ≡ nodes → slot format_of (codes "from") given None ≡ from
-        → joined nodes from ≡ Some settings → IsSettled given settings
-    at None from a b e = absurd cc
-    at (Some nodes) None a b e = absurd cc
-    at (Some nodes) (Some from) a b e =
-        let made : Settings = record { nodes = nodes; from = from } in
-        let same : made ≡ settings = same_Some _ _ e in
-        record { nodes = a ∙ ap (λ (s : Settings). Some s.nodes) same; from = b ∙ ap (λ (s : Settings). Some s.from) same }
-
-pub settles : (given : List Setting) (settings : Settings) → IsSettled given settings
-    → settle (record { nodes = None; from = None }) given ≡ Some settings
-settles given settings is =
-    ap (λ nodes. joined nodes (slot format_of (codes "from") given None)) is.nodes
-    ∙ ap (λ from. joined (Some settings.nodes) from) is.from
+pub settles : (s : Slots) (settings : Settings) → AreSettled s settings → joined s ≡ Some settings
+settles s settings is =
+    λ i. joined (record {
+      plan = is.plan i;
+      lines = is.lines i;
+      gates = is.gates i;
+      borrow = is.borrow i;
+      nodes = is.nodes i;
+      format = is.format i;
+      from = is.from i;
+    })
 
 -- ---- given once
 
@@ -246,3 +341,41 @@ gives_once (one ∷ given) known once zero (suc j) d lt within =
 gives_once (one ∷ given) known once (suc i) zero d lt within = absurd (omega arith)
 gives_once (one ∷ given) known once (suc i) (suc j) d lt within =
     gives_once given known.1 (λ option. (once option).1) i j d (omega arith) (omega arith)
+
+-- ---- values
+
+-- the value is the one that is given, or the usual one
+abbrev pub IsRight : {A : Type 0} → Rule A → List Setting → A → Type 0
+IsRight rule given value = MatchOption (value_of rule.name given) (value ≡ rule.usual) (λ word. rule.Writes word value)
+
+pub once_by : {A : Type 0} (rule : Rule A) (given : List Setting) (now : Option A) → slot_by rule given None ≡ Some now → AtMostOnce rule.name given
+once_by rule given now is = (slot_says rule.value rule.name given now is).0
+
+-- the value that is settled is the right one
+pub right : {A : Type 0} (rule : Rule A) (given : List Setting) (now : Option A) → slot_by rule given None ≡ Some now
+    → IsRight rule given (unwrap_or now rule.usual)
+right {A} rule given now is = at (value_of rule.name given) (slot_says rule.value rule.name given now is).1
+  where
+    at : (word : Option (List ℕ)) → IsValue rule.value word now
+        → MatchOption word (unwrap_or now rule.usual ≡ rule.usual) (λ word. rule.Writes word (unwrap_or now rule.usual))
+    at None is = ap (λ o. unwrap_or o rule.usual) is
+    at (Some word) is = subst (λ o. rule.Writes word (unwrap_or o rule.usual)) (sym is.2) (rule.says word is.0 is.1)
+
+-- the right value is the one that is settled
+pub kept : {A : Type 0} (rule : Rule A) (given : List Setting) (value : A) → IsGivenOnce given → IsRight rule given value
+    → (now : Option A) × (slot_by rule given None ≡ Some now) × (value ≡ unwrap_or now rule.usual)
+kept {A} rule given value once is =
+    let settled = slot_good rule.value rule.name given (once_gives rule.name given once) (good (value_of rule.name given) is) in (
+      settled.0,
+      settled.1,
+      same settled.0 (value_of rule.name given) (slot_says rule.value rule.name given settled.0 settled.1).1 is,
+    )
+  where
+    good : (word : Option (List ℕ)) → MatchOption word (value ≡ rule.usual) (λ word. rule.Writes word value) → IsGood rule.value word
+    good None is = tt
+    good (Some word) is = (value, rule.found word value is)
+
+    same : (now : Option A) (word : Option (List ℕ)) → IsValue rule.value word now
+        → MatchOption word (value ≡ rule.usual) (λ word. rule.Writes word value) → value ≡ unwrap_or now rule.usual
+    same now None is said = said ∙ sym (ap (λ o. unwrap_or o rule.usual) is)
+    same now (Some word) is said = same_Some _ _ (sym (rule.found word value said) ∙ is.1) ∙ sym (ap (λ o. unwrap_or o rule.usual) is.2)

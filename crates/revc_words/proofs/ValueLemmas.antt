@@ -1,16 +1,20 @@
--- The values of options: a number and a format are what the relations say.
-use Rattle.std.proofs.Common.{◌≡◌, ℕ, leb, Bool, true, false, ◌&&◌, List, length, Option, Some, None, MatchOption, cond, refl, sym, ap, ◌∙◌, arith, codes}
+-- The values of options: a number, a choice of plans and a format are what the relations say.
+use Rattle.std.proofs.Common.{◌≡◌, ℕ, leb, Bool, true, false, ◌&&◌, List, [], ◌∷◌, length, Option, Some, None, MatchOption, cond, refl, sym, ap, ◌∙◌, arith, codes}
 use Rattle.std.proofs.lemmas.Bool.{and_parts, and_from}
 use Rattle.std.proofs.lemmas.Bool.Decides.{nat_tests}
+use Rattle.std.proofs.lemmas.Option.{same_Some}
 use Rattle.std.proofs.lemmas.Slice.Eq.{bytes_eq-Decides}
 use Rattle.std.proofs.lemmas.Str.Parse.{IsNumeralModel, numerals_by_value, tells_all_ascii_digits}
 use Rattle.std.specs.Str.{bytes_eq, all_ascii_digits}
 use Rattle.std.specs.Str.Parse.{digits_value}
-use Rattle.revc_words.specs.declared.limits.TheConstants.{MOST_DIGITS}
+use Rattle.gate_split.specs.declared.plan.TheConstants.{MOST_LINES, MOST_GATES, MOST_BORROWED}
+use Rattle.plan_choice.specs.declared.choice.How.{How}
+use Rattle.plan_choice.specs.declared.choice.How.TheVariants.{Auto, Eager, Pebble}
+use Rattle.revc_words.specs.declared.limits.TheConstants.{MOST_DIGITS, MOST_NODES, USUAL_LINES, USUAL_GATES, USUAL_NODES}
 use Rattle.revc_words.specs.declared.order.Format.{Format}
-use Rattle.revc_words.specs.declared.order.Format.TheVariants.{Real}
-use Rattle.revc_words.specs.Words.{IsNumberIn, format_word}
-use Rattle.revc_words.specs.inside.Scanning.{is_number_in, number_of, format_of}
+use Rattle.revc_words.specs.declared.order.Format.TheVariants.{Real, Qasm}
+use Rattle.revc_words.specs.Words.{IsNumberIn, plan_word, format_word}
+use Rattle.revc_words.specs.inside.Scanning.{first_with, is_number_in, number_of, plan_of, format_of, read_format_of}
 
 digits : IsNumeralModel (λ ds. all_ascii_digits ds ≡ true) (digits_value 10)
 digits = numerals_by_value _ tells_all_ascii_digits
@@ -87,15 +91,102 @@ is_number least most word None none = at (number_of least most word) refl
     at None e = sym e
     at (Some n) e = absurd (none n (number_says least most word n e))
 
-pub format_says : (word : List ℕ) (format : Format) → format_of word ≡ Some format → word ≡ format_word format
-format_says word Real e = by_test (bytes_eq word (codes "real")) refl
-  where
-    by_test : (test : Bool) → bytes_eq word (codes "real") ≡ test → word ≡ codes "real"
-    by_test true is = (bytes_eq-Decides word (codes "real")).0 is
-    by_test false is = absurd (no_value (ap (λ t. cond t (Some Real) None) (sym is) ∙ e))
-      where
-        no_value : None ≡ Some Real → ⊥
-        no_value e = absurd cc
+-- ---- names
 
-pub format_found : (word : List ℕ) (format : Format) → word ≡ format_word format → format_of word ≡ Some format
-format_found word Real is = ap format_of is
+-- the first that has the word as its text has it
+pub first_says : {A : Type 0} (text : A → List ℕ) (all : List A) (word : List ℕ) (one : A) → first_with text all word ≡ Some one → word ≡ text one
+first_says text [] word one e = absurd cc
+first_says text (first ∷ others) word one e = at (bytes_eq word (text first)) refl e (first_says text others word one)
+  where
+    at : (test : Bool) → bytes_eq word (text first) ≡ test → cond test (Some first) (first_with text others word) ≡ Some one
+        → (first_with text others word ≡ Some one → word ≡ text one) → word ≡ text one
+    at true is e behind = (bytes_eq-Decides word (text first)).0 is ∙ ap text (same_Some _ _ e)
+    at false is e behind = behind e
+
+pub plan_named : (plan : How) → plan_of (plan_word plan) ≡ Some plan
+plan_named Auto = refl
+plan_named Eager = refl
+plan_named Pebble = refl
+
+pub format_named : (format : Format) → format_of (format_word format) ≡ Some format
+format_named Real = refl
+format_named Qasm = refl
+
+-- ---- how each option has its values
+
+-- the option's name, the value that is found for a word, the words for a value, and the usual value
+pub record Rule (A : Type 0) : Type 1 where
+  pub name : List ℕ
+  pub value : List ℕ → Option A
+  pub Writes : List ℕ → A → Type 0
+  pub usual : A
+  pub says : (word : List ℕ) (a : A) → value word ≡ Some a → Writes word a
+  pub found : (word : List ℕ) (a : A) → Writes word a → value word ≡ Some a
+
+abbrev number_rule : List ℕ → ℕ → ℕ → ℕ → Rule ℕ
+number_rule name least most usual = record {
+  name = name;
+  value = number_of least most;
+  Writes = IsNumberIn least most;
+  usual = usual;
+  says = number_says least most;
+  found = number_found least most;
+}
+
+abbrev circuit_rule : List ℕ → Rule Format
+circuit_rule name = record {
+  name = name;
+  value = format_of;
+  Writes = λ word format. word ≡ format_word format;
+  usual = Real;
+  says = first_says format_word (Real ∷ Qasm ∷ []);
+  found = λ word format is. ap format_of is ∙ format_named format;
+}
+
+abbrev pub plan_rule : Rule How
+plan_rule = record {
+  name = codes "plan";
+  value = plan_of;
+  Writes = λ word plan. word ≡ plan_word plan;
+  usual = Auto;
+  says = first_says plan_word (Auto ∷ Eager ∷ Pebble ∷ []);
+  found = λ word plan is. ap plan_of is ∙ plan_named plan;
+}
+
+abbrev pub lines_rule : Rule ℕ
+lines_rule = number_rule (codes "lines") 1 MOST_LINES USUAL_LINES
+
+abbrev pub gates_rule : Rule ℕ
+gates_rule = number_rule (codes "gates") 1 MOST_GATES USUAL_GATES
+
+abbrev pub borrow_rule : Rule ℕ
+borrow_rule = number_rule (codes "borrow") 0 MOST_BORROWED 0
+
+abbrev pub nodes_rule : Rule ℕ
+nodes_rule = number_rule (codes "nodes") 1 MOST_NODES USUAL_NODES
+
+abbrev pub format_rule : Rule Format
+format_rule = circuit_rule (codes "format")
+
+read_real : read_format_of (format_word Real) ≡ Some Real
+read_real = refl
+
+pub read_says : (word : List ℕ) (from : Format) → read_format_of word ≡ Some from → (word ≡ format_word from) × (from ≡ Real)
+read_says word from e = (first_says format_word (Real ∷ []) word from e, at (bytes_eq word (format_word Real)) e)
+  where
+    at : (test : Bool) → cond test (Some Real) None ≡ Some from → from ≡ Real
+    at true e = sym (same_Some _ _ e)
+    at false e = absurd cc
+
+pub read_found : (word : List ℕ) (from : Format) → (word ≡ format_word from) × (from ≡ Real) → read_format_of word ≡ Some from
+read_found word from is = ap read_format_of (is.0 ∙ ap format_word is.1) ∙ read_real ∙ ap (λ f. Some f) (sym is.1)
+
+abbrev pub from_rule : Rule Format
+from_rule = record {
+  name = codes "from";
+  value = read_format_of;
+  Writes = λ word from. (word ≡ format_word from) × (from ≡ Real);
+  usual = Real;
+  says = read_says;
+  found = read_found;
+}

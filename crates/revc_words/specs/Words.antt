@@ -5,11 +5,14 @@ use Rattle.std.specs.Str.{bytes_eq}
 use Rattle.std.specs.Str.Parse.{IsNumeral, digits_value}
 use Rattle.std.specs.Global.{Global}
 use Rattle.std.specs.declared.string.String.{String}
-use Rattle.revc_words.specs.declared.limits.TheConstants.{MOST_DIGITS, MOST_NODES, USUAL_NODES}
+use Rattle.gate_split.specs.declared.plan.TheConstants.{MOST_LINES, MOST_GATES, MOST_BORROWED}
+use Rattle.plan_choice.specs.declared.choice.How.{How}
+use Rattle.plan_choice.specs.declared.choice.How.TheVariants.{Auto, Eager, Pebble}
+use Rattle.revc_words.specs.declared.limits.TheConstants.{MOST_DIGITS, MOST_NODES, USUAL_LINES, USUAL_GATES, USUAL_NODES}
 use Rattle.revc_words.specs.declared.order.Command.{Command}
 use Rattle.revc_words.specs.declared.order.Command.TheVariants.{Compile, Check, Eval, Stat, Run}
 use Rattle.revc_words.specs.declared.order.Format.{Format}
-use Rattle.revc_words.specs.declared.order.Format.TheVariants.{Real}
+use Rattle.revc_words.specs.declared.order.Format.TheVariants.{Real, Qasm}
 use Rattle.revc_words.specs.declared.order.Order.{Order}
 
 -- the words as contracts see them: lists of bytes
@@ -18,10 +21,17 @@ words_of words = map string_bytes words
 
 -- ---- orders
 
--- a command, the most nodes of its diagrams, the format that it reads, and its words of bits
+-- a command, the plans that it tries, the most lines and gates of its circuit, how many lines it
+-- borrows, the most nodes of its diagrams, the formats that it writes and reads, and its words of
+-- bits
 pub record OrderView : Type 0 where
   pub command : Command
+  pub plan : How
+  pub lines : ℕ
+  pub gates : ℕ
+  pub borrow : ℕ
   pub nodes : ℕ
+  pub format : Format
   pub from : Format
   pub bits : List (List ℕ)
 
@@ -29,7 +39,12 @@ pub record OrderView : Type 0 where
 abbrev pub order_of : Order → OrderView
 order_of order = record {
   command = order.command;
+  plan = order.plan;
+  lines = order.lines;
+  gates = order.gates;
+  borrow = order.borrow;
   nodes = order.nodes;
+  format = order.format;
   from = order.from;
   bits = words_of order.bits.items;
 }
@@ -55,7 +70,9 @@ TakesWords _ count = count ≡ 0
 
 -- the names of the options that a command has
 abbrev pub options_of : Command → List (List ℕ)
-options_of Compile = codes "nodes" ∷ []
+options_of Compile =
+    codes "plan" ∷ codes "lines" ∷ codes "gates" ∷ codes "borrow" ∷ codes "nodes"
+    ∷ codes "format" ∷ []
 options_of Check = codes "nodes" ∷ []
 options_of Eval = []
 options_of Stat = codes "from" ∷ []
@@ -118,9 +135,39 @@ pub record IsNumberIn (least most : ℕ) (word : List ℕ) (n : ℕ) : Type 0 wh
   pub least_is : least ≤ n
   pub most_is : n ≤ most
 
+-- the word for a choice of plans
+abbrev pub plan_word : How → List ℕ
+plan_word Auto = codes "auto"
+plan_word Eager = codes "eager"
+plan_word Pebble = codes "pebble"
+
 -- the word for a format
 abbrev pub format_word : Format → List ℕ
 format_word Real = codes "real"
+format_word Qasm = codes "qasm"
+
+-- the plans that are tried: those that are given, or the eager plan and then pebbling
+abbrev pub IsPlan : List Setting → How → Type 0
+IsPlan given plan =
+    MatchOption (value_of (codes "plan") given) (plan ≡ Auto) (λ word. word ≡ plan_word plan)
+
+-- the most lines: those that are given, from 1 on, or the usual number
+abbrev pub AreLines : List Setting → ℕ → Type 0
+AreLines given lines =
+    MatchOption (value_of (codes "lines") given) (lines ≡ USUAL_LINES)
+    (λ word. IsNumberIn 1 MOST_LINES word lines)
+
+-- the most gates: those that are given, from 1 on, or the usual number
+abbrev pub AreGates : List Setting → ℕ → Type 0
+AreGates given gates =
+    MatchOption (value_of (codes "gates") given) (gates ≡ USUAL_GATES)
+    (λ word. IsNumberIn 1 MOST_GATES word gates)
+
+-- the borrowed lines: as many as are given, or none
+abbrev pub AreBorrowed : List Setting → ℕ → Type 0
+AreBorrowed given borrow =
+    MatchOption (value_of (codes "borrow") given) (borrow ≡ 0)
+    (λ word. IsNumberIn 0 MOST_BORROWED word borrow)
 
 -- the most nodes: those that are given, from 1 on, or the usual number
 abbrev pub AreNodes : List Setting → ℕ → Type 0
@@ -128,10 +175,17 @@ AreNodes given nodes =
     MatchOption (value_of (codes "nodes") given) (nodes ≡ USUAL_NODES)
     (λ word. IsNumberIn 1 MOST_NODES word nodes)
 
--- the format that is read: the one given, or `.real`
+-- the format that is written: the one given, or `.real`
+abbrev pub IsFormat : List Setting → Format → Type 0
+IsFormat given format =
+    MatchOption (value_of (codes "format") given) (format ≡ Real)
+    (λ word. word ≡ format_word format)
+
+-- the format that is read: the one given, or `.real`; no other is read so far
 abbrev pub IsFrom : List Setting → Format → Type 0
 IsFrom given from =
-    MatchOption (value_of (codes "from") given) (from ≡ Real) (λ word. word ≡ format_word from)
+    MatchOption (value_of (codes "from") given) (from ≡ Real)
+    (λ word. (word ≡ format_word from) × (from ≡ Real))
 
 -- ---- the order of the words
 
@@ -144,7 +198,12 @@ pub record IsOrder (words : List (List ℕ)) (order : OrderView) : Type 0 where
   pub read : Reads (options_of order.command) behind given order.bits
   pub once : IsGivenOnce given
   pub count : TakesWords order.command (length order.bits)
+  pub plan : IsPlan given order.plan
+  pub lines : AreLines given order.lines
+  pub gates : AreGates given order.gates
+  pub borrow : AreBorrowed given order.borrow
   pub nodes : AreNodes given order.nodes
+  pub format : IsFormat given order.format
   pub from : IsFrom given order.from
 
 pub record HasNoOrder (words : List (List ℕ)) : Type 0 where

@@ -9,7 +9,7 @@ mod reading;
 mod scanning;
 
 pub use fault::WordsFault;
-pub use limits::{MOST_DIGITS, MOST_NODES, USUAL_NODES};
+pub use limits::{MOST_DIGITS, MOST_NODES, USUAL_GATES, USUAL_LINES, USUAL_NODES};
 pub use order::{Command, Format, Order};
 pub use reading::{one_order, read_words};
 

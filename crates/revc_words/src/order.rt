@@ -2,6 +2,8 @@
 ghost use Rattle.std.specs.Prelude.{◌≡◌};
 ghost use Rattle.revc_words.specs.Words.{first_word, order_of};
 
+use plan_choice::How;
+
 /// What is to be done.
 #[derive(Clone, Copy, Debug, PartialEq, Eq)]
 pub enum Command {
@@ -22,6 +24,8 @@ pub enum Command {
 pub enum Format {
     /// RevLib's `.real`.
     Real,
+    /// OpenQASM 2.0.
+    Qasm,
 }
 
 /// What the words ask for: a command, its options, and its words of bits. What a command has no option for has its
@@ -29,8 +33,18 @@ pub enum Format {
 #[derive(Debug, Drop)]
 pub struct Order {
     pub command: Command,
+    /// Which plans are tried.
+    pub plan: How,
+    /// The most lines of the circuit, 1 to 16,384.
+    pub lines: u32,
+    /// The most gates of the circuit, 1 to 4,000,000.
+    pub gates: u64,
+    /// How many lines the circuit borrows, 0 to 64.
+    pub borrow: u32,
     /// The most inner nodes of the diagrams, 1 to 1,000,000.
     pub nodes: u32,
+    /// The format of the circuit that is written.
+    pub format: Format,
     /// The format of the circuit that is read.
     pub from: Format,
     pub bits: Vec<String>,

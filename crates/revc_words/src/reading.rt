@@ -5,7 +5,7 @@ ghost use Rattle.revc_words.specs.inside.Scanning.{Found, counted, found_of, sca
 
 use crate::options::Settings;
 use crate::scanning::Scan;
-use crate::{Command, Format, Order, USUAL_NODES, WordsFault};
+use crate::{Command, Order, WordsFault};
 use revc_base::Memory;
 use std::alloc::Global;
 
@@ -63,14 +63,7 @@ pub fn read_words(alloc: Global, words: &[String]) -> Result<Order, WordsFault>
         return Err(WordsFault::Usage);
     }
     let bits = positional(alloc, command, rest)?;
-    let nodes = settings.nodes.unwrap_or(USUAL_NODES);
-    let from = settings.from.unwrap_or(Format::Real);
-    Ok(Order {
-        command,
-        nodes,
-        from,
-        bits,
-    })
+    Ok(settings.order(command, bits))
 }
 
 // The settings that the words behind a command's name give, and how many of them are positional.

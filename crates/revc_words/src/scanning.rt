@@ -24,10 +24,7 @@ impl Scan {
         Scan {
             ended: false,
             pending: None,
-            settings: Settings {
-                nodes: None,
-                from: None,
-            },
+            settings: Settings::none(),
         }
     }
 

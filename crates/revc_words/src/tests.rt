@@ -1,60 +1,190 @@
 use super::*;
+use plan_choice::How;
 use std::alloc::{AllocError, Global};
 use std::test::Fail;
 
-// What words ask for: a command, the most nodes, the format that is read, the words of bits.
-type Asked = (Command, u32, Format, &'static [&'static str]);
+// What words ask for.
+struct Asked {
+    command: Command,
+    plan: How,
+    lines: u32,
+    gates: u64,
+    borrow: u32,
+    nodes: u32,
+    format: Format,
+    from: Format,
+    bits: &'static [&'static str],
+}
+
+// What a command asks for where no option is given.
+const USUAL: Asked = Asked {
+    command: Command::Compile,
+    plan: How::Auto,
+    lines: 4_096,
+    gates: 1_000_000,
+    borrow: 0,
+    nodes: 100_000,
+    format: Format::Real,
+    from: Format::Real,
+    bits: &[],
+};
 
 // Words, and what they ask for.
 const ORDERS: &[(&[&str], Asked)] = &[
-    (&["compile"], (Command::Compile, 100_000, Format::Real, &[])),
-    (&["check"], (Command::Check, 100_000, Format::Real, &[])),
-    (&["stat"], (Command::Stat, 100_000, Format::Real, &[])),
+    (&["compile"], USUAL),
+    (
+        &["check"],
+        Asked {
+            command: Command::Check,
+            ..USUAL
+        },
+    ),
+    (
+        &["stat"],
+        Asked {
+            command: Command::Stat,
+            ..USUAL
+        },
+    ),
     (
         &["compile", "--nodes", "0000005"],
-        (Command::Compile, 5, Format::Real, &[]),
+        Asked { nodes: 5, ..USUAL },
     ),
-    (
-        &["compile", "--nodes=5"],
-        (Command::Compile, 5, Format::Real, &[]),
-    ),
+    (&["compile", "--nodes=5"], Asked { nodes: 5, ..USUAL }),
     (
         &["compile", "--nodes", "1000000"],
-        (Command::Compile, 1_000_000, Format::Real, &[]),
+        Asked {
+            nodes: 1_000_000,
+            ..USUAL
+        },
+    ),
+    (&["compile", "--plan", "auto"], USUAL),
+    (
+        &["compile", "--plan", "eager", "--lines", "68"],
+        Asked {
+            plan: How::Eager,
+            lines: 68,
+            ..USUAL
+        },
     ),
     (
+        &["compile", "--plan=pebble", "--gates", "4000000"],
+        Asked {
+            plan: How::Pebble,
+            gates: 4_000_000,
+            ..USUAL
+        },
+    ),
+    (
+        &["compile", "--lines=4", "--nodes", "5"],
+        Asked {
+            lines: 4,
+            nodes: 5,
+            ..USUAL
+        },
+    ),
+    (
+        &["compile", "--lines", "16384", "--gates", "1"],
+        Asked {
+            lines: 16_384,
+            gates: 1,
+            ..USUAL
+        },
+    ),
+    (&["compile", "--borrow", "0"], USUAL),
+    (
+        &["compile", "--borrow", "64"],
+        Asked {
+            borrow: 64,
+            ..USUAL
+        },
+    ),
+    (
+        &["compile", "--format", "qasm"],
+        Asked {
+            format: Format::Qasm,
+            ..USUAL
+        },
+    ),
+    (&["compile", "--format=real"], USUAL),
+    (
         &["check", "--nodes", "1", "--"],
-        (Command::Check, 1, Format::Real, &[]),
+        Asked {
+            command: Command::Check,
+            nodes: 1,
+            ..USUAL
+        },
     ),
     (
         &["run", "1", "0"],
-        (Command::Run, 100_000, Format::Real, &["1", "0"]),
+        Asked {
+            command: Command::Run,
+            bits: &["1", "0"],
+            ..USUAL
+        },
     ),
     (
         &["run", "--", "-1"],
-        (Command::Run, 100_000, Format::Real, &["-1"]),
+        Asked {
+            command: Command::Run,
+            bits: &["-1"],
+            ..USUAL
+        },
     ),
     (
         &["run", "1", "--from", "real", "0"],
-        (Command::Run, 100_000, Format::Real, &["1", "0"]),
+        Asked {
+            command: Command::Run,
+            bits: &["1", "0"],
+            ..USUAL
+        },
     ),
     (
         &["run", "1", "--", "--from=real"],
-        (Command::Run, 100_000, Format::Real, &["1", "--from=real"]),
+        Asked {
+            command: Command::Run,
+            bits: &["1", "--from=real"],
+            ..USUAL
+        },
     ),
-    (&["run", ""], (Command::Run, 100_000, Format::Real, &[""])),
+    (
+        &["run", ""],
+        Asked {
+            command: Command::Run,
+            bits: &[""],
+            ..USUAL
+        },
+    ),
     (
         &["eval", "--", "--"],
-        (Command::Eval, 100_000, Format::Real, &["--"]),
+        Asked {
+            command: Command::Eval,
+            bits: &["--"],
+            ..USUAL
+        },
     ),
     (
         &["eval", "-"],
-        (Command::Eval, 100_000, Format::Real, &["-"]),
+        Asked {
+            command: Command::Eval,
+            bits: &["-"],
+            ..USUAL
+        },
     ),
-    (&["eval", ""], (Command::Eval, 100_000, Format::Real, &[""])),
+    (
+        &["eval", ""],
+        Asked {
+            command: Command::Eval,
+            bits: &[""],
+            ..USUAL
+        },
+    ),
     (
         &["stat", "--from", "real"],
-        (Command::Stat, 100_000, Format::Real, &[]),
+        Asked {
+            command: Command::Stat,
+            ..USUAL
+        },
     ),
 ];
 
@@ -74,20 +204,37 @@ const NO_ORDERS: &[&[&str]] = &[
     &["compile", "--nodes=5", "--nodes", "6"],
     &["compile", "--nodes", "--"],
     &["compile", "--nodes"],
+    &["compile", "--lines", "0"],
+    &["compile", "--lines", "16385"],
+    &["compile", "--lines", "3", "--lines", "3"],
+    &["compile", "--gates", "0"],
+    &["compile", "--gates", "4000001"],
+    &["compile", "--borrow", "65"],
+    &["compile", "--plan", "x"],
+    &["compile", "--plan"],
     &["compile", "--node", "5"],
     &["compile", "-nodes", "5"],
     &["compile", "x"],
     &["compile", ""],
+    &["compile", "--format", "x"],
+    &["compile", "--format"],
+    &["compile", "--format", "qasm", "--format=qasm"],
     &["compile", "--from", "real"],
+    &["compile", "--from", "qasm"],
     &["check", "--from", "real"],
+    &["check", "--format", "real"],
+    &["check", "--lines", "4"],
     &["run"],
     &["run", "-1"],
     &["run", "--nodes", "5", "1"],
     &["eval"],
     &["eval", "--"],
     &["eval", "0", "1"],
+    &["stat", "--format", "qasm"],
+    &["stat", "--from", "x"],
     &["stat", "--from", "qasm"],
     &["stat", "--from", "real", "--from=real"],
+    &["stat", "--from", "qasm", "--from=real"],
 ];
 
 fn strings(alloc: Global, words: &[&str]) -> Result<Vec<String>, AllocError> {
@@ -101,13 +248,18 @@ fn strings(alloc: Global, words: &[&str]) -> Result<Vec<String>, AllocError> {
 #[test]
 fn words_are_read(rt: HostRuntime) -> Result<(), Fail> {
     let alloc = rt.alloc();
-    for (words, (command, nodes, from, bits)) in ORDERS {
+    for (words, asked) in ORDERS {
         let words = strings(alloc, words)?;
         let order = read_words(alloc, &words)?;
-        assert_eq!(rt; order.command, *command);
-        assert_eq!(rt; order.nodes, *nodes);
-        assert_eq!(rt; order.from, *from);
-        assert_eq!(rt; order.bits, strings(alloc, bits)?);
+        assert_eq!(rt; order.command, asked.command);
+        assert_eq!(rt; order.plan, asked.plan);
+        assert_eq!(rt; order.lines, asked.lines);
+        assert_eq!(rt; order.gates, asked.gates);
+        assert_eq!(rt; order.borrow, asked.borrow);
+        assert_eq!(rt; order.nodes, asked.nodes);
+        assert_eq!(rt; order.format, asked.format);
+        assert_eq!(rt; order.from, asked.from);
+        assert_eq!(rt; order.bits, strings(alloc, asked.bits)?);
     }
     Ok(())
 }

@@ -38,8 +38,8 @@ returns-clause-ok c =
     let begun = begins_with c.args.words.now c.name-item.result c.as_str.result.now c.in-Some.command c.in-len1-up.len_at_least c.name-item.is
     c.as_str.ensures.value c.in-Some.ensures in
     let counted = counts _ c.in-Some-judged.settings c.in-Some-judged.count (sym c.in-Some-judged.is ∙ c.judged.ensures) in
-    ordered _ _ c.in-Some.command c.in-Some-judged.settings c.in-Some-judged.count _ _ _ begun counted (c.takes_words.ensures.0 c.if-not-takes_words.false)
-    c.unwrap_or-nodes.ensures c.unwrap_or-from.ensures c.in_ok-bits.ensures.ok
+    ordered _ _ c.in-Some.command c.in-Some-judged.settings c.in-Some-judged.count _ _ begun counted (c.takes_words.ensures.0 c.if-not-takes_words.false)
+    c.order.ensures c.in_ok-bits.ensures.ok
 
 pub returns-clause-usage : goal.returns-clause-usage
 returns-clause-usage c =
@@ -48,9 +48,9 @@ returns-clause-usage c =
     let counted = counts _ c.in-Some-judged.settings c.in-Some-judged.count (sym c.in-Some-judged.is ∙ c.judged.ensures) in (
       λ is. absurd (no_err _ is),
       λ none. absurd (not_both _ _
-          (ordered _ _ c.in-Some.command c.in-Some-judged.settings c.in-Some-judged.count _ _ _ begun counted
+          (ordered _ _ c.in-Some.command c.in-Some-judged.settings c.in-Some-judged.count _ _ begun counted
           (c.takes_words.ensures.0 c.if-not-takes_words.false)
-          c.unwrap_or-nodes.ensures c.unwrap_or-from.ensures c.in_ok-bits.ensures.ok) none),
+          c.order.ensures c.in_ok-bits.ensures.ok) none),
     )
 
 pub returns-in_err-bits-clause-usage : goal.returns-in_err-bits-clause-usage
