@@ -1,0 +1,85 @@
+-- The file of a compiled circuit: its registers by the roles of its lines, and its text.
+use Rattle.std.specs.Prelude.{◌≡◌, ◌==◌, ℕ, zero, suc, ◌≤◌, if◌then◌else◌, List, [], ◌∷◌, ◌++◌, length, map, codes}
+use Rattle.std.specs.List.{flat_map, concat}
+use Rattle.std.specs.Fmt.{decimal}
+use Rattle.gate_split.specs.declared.plan.TheConstants.{MOST_LINES, MOST_GATES}
+use Rattle.gate_split.specs.declared.roles.Roles.{Roles}
+use Rattle.gate_split.specs.declared.roles.Role.{Role}
+use Rattle.gate_split.specs.declared.roles.Role.TheVariants.{Input, Output, Work, Borrowed}
+use Rattle.gate_split.specs.Plans.{lines_in, role_at, number_at}
+use Rattle.mct_circuit.specs.Gates.{GateView, lines_of, AreGatesOn, AreNarrow}
+use Rattle.qasm_format.specs.Statements.{Argument, one_of, Statement, includes, declares, applies, words_of, head_words}
+use Rattle.qasm_format.specs.Registers.{RegisterView}
+use Rattle.qasm_format.specs.Qasm.{QasmView, QasmMeaning}
+
+-- ---- registers
+
+-- the name of the register of a role's lines
+abbrev pub register_name : Role → List ℕ
+register_name Input = codes "inp"
+register_name Output = codes "outp"
+register_name Work = codes "work"
+register_name Borrowed = codes "dirty"
+
+-- a register, left out exactly where it has no line
+abbrev pub register_of : Role → ℕ → List RegisterView
+register_of role size =
+    if size == 0 then [] else record { name = register_name role; size = size } ∷ []
+
+-- the registers of a compiled file
+abbrev pub registers_of : Roles → List RegisterView
+registers_of roles =
+    register_of Input roles.inputs
+    ++ (register_of Output roles.outputs
+    ++ (register_of Work roles.work ++ register_of Borrowed roles.borrowed))
+
+-- ---- the text
+
+-- the place of a line in the register of its role
+abbrev pub argument_of : Roles → ℕ → Argument
+argument_of roles line =
+    one_of (register_name (role_at roles line)) (decimal (number_at roles line))
+
+-- the word of a gate with so many controls
+abbrev pub gate_word : ℕ → List ℕ
+gate_word zero = codes "x"
+gate_word (suc zero) = codes "cx"
+gate_word (suc (suc _)) = codes "ccx"
+
+abbrev pub gate_statement : Roles → GateView → Statement
+gate_statement roles gate =
+    applies (gate_word (length gate.controls)) (map (argument_of roles) (lines_of gate))
+
+abbrev pub declaration : RegisterView → Statement
+declaration register = declares register.name (decimal register.size)
+
+-- the include, the declarations, and a statement for each gate
+abbrev pub compiled_statements : Roles → List GateView → List Statement
+compiled_statements roles gates =
+    includes ∷ (map declaration (registers_of roles) ++ map (gate_statement roles) gates)
+
+-- the first word, a space, the other words with nothing between them, and a line feed
+abbrev pub line_text : List (List ℕ) → List ℕ
+line_text [] = 10 ∷ []
+line_text (word ∷ words) = word ++ 32 ∷ (concat words ++ 10 ∷ [])
+
+-- the head and each statement in a line of its own
+abbrev pub compiled_text : Roles → List GateView → List ℕ
+compiled_text roles gates =
+    flat_map line_text (head_words ∷ map words_of (compiled_statements roles gates))
+
+-- ---- what the text means
+
+-- The text means a file of these gates, whose lines are those of the registers `inp`, `outp`, `work` and `dirty`, by
+-- these roles: each register has the lines of its role, and is left out exactly where there are none.
+pub record MeansCompiled (text : List ℕ) (roles : Roles) (gates : List GateView) : Type 0 where
+  pub file : QasmView
+  pub meaning : QasmMeaning text file
+  pub roles_are : file.registers ≡ registers_of roles
+  pub gates_are : file.gates ≡ gates
+
+abbrev pub CompiledHasMeaning : Type 0
+CompiledHasMeaning =
+    (roles : Roles) (gates : List GateView) → 1 ≤ lines_in roles → lines_in roles ≤ MOST_LINES
+    → length gates ≤ MOST_GATES → AreGatesOn (lines_in roles) gates → AreNarrow gates
+    → MeansCompiled (compiled_text roles gates) roles gates
