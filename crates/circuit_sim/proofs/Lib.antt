@@ -1,0 +1,5 @@
+pub mod GateLemmas
+pub mod LaneLemmas
+pub mod PackingLemmas
+pub mod PlaneLemmas
+pub mod RowLemmas

@@ -1,0 +1,15 @@
+use Rattle.std.proofs.Common.{arith, length, ◌≡◌, ◌∙◌, ℕ, subst, sym}
+use Rattle.circuit_sim.specs.Rows.{AreRows}
+use Rattle.circuit_sim.proofs.PackingLemmas.{length-group}
+use Rattle.circuit_sim.proofs.LaneLemmas.{stored_lane_more, stored_fits}
+use Rattle.circuit_sim.proofs.packing.store_lanes.Goals as goal
+
+pub loop-number-preserved : goal.loop-number-preserved
+loop-number-preserved c =
+    let long : length c.store.new.rows ≡ 64 = c.store.auto.rows ∙ length-group c.loop-number.rows _ _ (omega arith) (omega arith) in
+    record {
+      rows = stored_lane_more c.loop-number.number c.loop-number.rows c.store.new.rows _ c.take_lane.new.planes c.args.vectors.now (omega arith) long
+          c.take_lane.ensures c.store.ensures.rows c.loop-number.invariant.rows;
+      fit = stored_fits _ _ _ c.loop-number.rows c.store.new.rows c.loop-number.invariant.fit
+          (subst (λ (n : ℕ). AreRows n c.store.new.rows) (c.take_lane.auto.planes ∙ c.loop-number.auto.planes ∙ sym c.requires.lines) c.store.ensures.fit);
+    }

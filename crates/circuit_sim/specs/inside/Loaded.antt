@@ -1,0 +1,38 @@
+-- Rows of bits on planes: each row stands at a place of its own.
+use Rattle.std.specs.Prelude.{◌≡◌, ◌≢◌, ℕ, ◌+◌, ◌*◌, ◌<◌, ◌≤◌, Bool, List, [], ◌++◌, length, map, take, drop, slice_index_or}
+use Rattle.circuit_sim.specs.Planes.{AreVectors, plane_bit, column, lane}
+
+-- a plane with one bit set
+pub record IsWithBit (place : ℕ) (bit : Bool) (before behind : ℕ) : Type 0 where
+  pub here : plane_bit place behind ≡ bit
+  pub others : (other : ℕ) → other < 64 → other ≢ place
+      → plane_bit other behind ≡ plane_bit other before
+
+-- planes with one row set
+pub record IsWithRow (place : ℕ) (row : List Bool) (before behind : List ℕ) : Type 0 where
+  pub here : column place behind ≡ row
+  pub others : (other : ℕ) → other < 64 → other ≢ place → column other behind ≡ column other before
+
+-- the planes hold the rows, the first at place 0
+pub record HoldRows (rows : List (List Bool)) (planes : List ℕ) : Type 0 where
+  pub each : (place : ℕ) → place < length rows
+      → column place planes ≡ slice_index_or rows place []
+
+-- vectors with one lane set
+pub record IsWithLane (number : ℕ) (planes : List ℕ) (before behind : List (List ℕ))
+    : Type 0 where
+  pub vectors : AreVectors behind
+  pub here : lane number behind ≡ planes
+  pub others : (other : ℕ) → other ≢ number → lane other behind ≡ lane other before
+
+-- the vectors hold the rows, 64 in each lane
+pub record HoldRowsInLanes (rows : List (List Bool)) (vectors : List (List ℕ)) : Type 0 where
+  pub each : (number place : ℕ) → number < 8 → place < 64
+      → column place (lane number vectors) ≡ slice_index_or rows (64 * number + place) []
+
+-- so many rows at the front have been changed by f, and those behind them have not
+pub record IsFrontChanged (f : List Bool → List Bool) (count : ℕ)
+    (before behind : List (List Bool)) : Type 0 where
+  pub some : 0 < count
+  pub few : count ≤ length before
+  pub rows : behind ≡ map f (take count before) ++ drop count before
