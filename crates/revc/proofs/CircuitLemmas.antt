@@ -6,7 +6,7 @@ use Rattle.real_format.specs.declared.file.RealFault.{RealFault}
 use Rattle.real_format.specs.declared.file.RealFault.TheVariants as reals
 use Rattle.revc_words.specs.declared.order.Command.TheVariants as commands
 use Rattle.revc_words.specs.declared.order.Format.{Format}
-use Rattle.revc_words.specs.declared.order.Format.TheVariants.{Real}
+use Rattle.revc_words.specs.declared.order.Format.TheVariants.{Real, Qasm}
 use Rattle.revc_words.specs.Words.{OrderView}
 use Rattle.revc.specs.declared.fault.CircuitRefusal.{CircuitRefusal}
 use Rattle.revc.specs.declared.fault.CircuitRefusal.TheVariants.{TooLong, Line, Limit}
@@ -30,6 +30,7 @@ real_or_refused text circuit (Limit number) m h = (one_reading text).never_both 
 pub means_or_refused : (from : Format) (text : List ℕ) (circuit : ReadCircuit) (refusal : CircuitRefusal) → Means from text circuit
     → IsCircuitRefusal from text refusal → ⊥
 means_or_refused Real text circuit refusal m h = real_or_refused text circuit refusal m h
+means_or_refused Qasm text circuit refusal m h = absurd m
 
 refusal_of : RealFault → CircuitRefusal
 refusal_of (reals.Line number) = Line number
@@ -51,6 +52,11 @@ one_real text (Limit number) (Limit other) a b = ap refusal_of ((one_reading tex
 one_circuit_refusal : (from : Format) (text : List ℕ) (refusal other : CircuitRefusal) → IsCircuitRefusal from text refusal
     → IsCircuitRefusal from text other → refusal ≡ other
 one_circuit_refusal Real text refusal other a b = one_real text refusal other a b
+one_circuit_refusal Qasm text TooLong TooLong a b = refl
+one_circuit_refusal Qasm text TooLong (Line number) a b = absurd b
+one_circuit_refusal Qasm text TooLong (Limit number) a b = absurd b
+one_circuit_refusal Qasm text (Line number) other a b = absurd a
+one_circuit_refusal Qasm text (Limit number) other a b = absurd a
 
 one_real_circuit : (text : List ℕ) (circuit other : ReadCircuit) → MeansCircuit text circuit → MeansCircuit text other → circuit ≡ other
 one_real_circuit text circuit other m n = m.same ∙ ap of_real ((one_reading text).one_meaning m.file n.file m.meaning n.meaning) ∙ sym n.same
@@ -58,6 +64,7 @@ one_real_circuit text circuit other m n = m.same ∙ ap of_real ((one_reading te
 -- a text means one circuit
 pub one_circuit : (from : Format) (text : List ℕ) (circuit other : ReadCircuit) → Means from text circuit → Means from text other → circuit ≡ other
 one_circuit Real text circuit other m n = one_real_circuit text circuit other m n
+one_circuit Qasm text circuit other m n = absurd m
 
 -- ---- `stat`
 
@@ -73,6 +80,7 @@ stat_cause order text (faults.Refused refusal) other a b = absurd a
 stat_cause order text (faults.Claim number at bits) other a b = absurd a
 stat_cause order text (faults.Diagram number at limit) other a b = absurd a
 stat_cause order text (faults.Lines need limit) other a b = absurd a
+stat_cause order text (faults.Gates limit) other a b = absurd a
 stat_cause order text (faults.BadBits word) other a b = absurd a
 stat_cause order text faults.Read other a b = absurd a
 stat_cause order text faults.Write other a b = absurd a
@@ -126,6 +134,7 @@ run_cause order text (faults.Refused refusal) other a b = absurd a
 run_cause order text (faults.Claim number at bits) other a b = absurd a
 run_cause order text (faults.Diagram number at limit) other a b = absurd a
 run_cause order text (faults.Lines need limit) other a b = absurd a
+run_cause order text (faults.Gates limit) other a b = absurd a
 run_cause order text faults.Read other a b = absurd a
 run_cause order text faults.Write other a b = absurd a
 run_cause order text faults.Memory other a b = absurd a

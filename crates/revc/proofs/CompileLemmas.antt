@@ -1,32 +1,42 @@
--- `compile` gives a file for a text, or has one exact cause, and serves each program whose claims hold and that keeps the budget.
-use Rattle.std.proofs.Common.{◌≡◌, ℕ, List, ap, arith}
+-- `compile` gives a file for a text, or has one exact cause, and serves each program whose claims hold and that keeps the budgets.
+use Rattle.std.proofs.Common.{◌≡◌, ℕ, List, sym, subst}
+use Rattle.claim_check.specs.Measures.{AreMeasuresOf}
+use Rattle.revc_base.specs.Tapes.{TapeView}
 use Rattle.revc.specs.declared.fault.Fault.{Fault}
 use Rattle.revc.specs.declared.fault.Fault.TheVariants as faults
 use Rattle.revc_words.specs.declared.order.Command.TheVariants.{Compile}
 use Rattle.revc_words.specs.Words.{OrderView}
 use Rattle.revc.specs.Commands.{HasOneOutcome, IsExact}
-use Rattle.revc.specs.Commands.Compile.{IsCause, IsCompiled, KeepsLines, PassesLines, plain_lines}
+use Rattle.revc.specs.Commands.Compile.{IsCause, IsCompiled, KeepsBudget, PassesGates, PassesLines}
 use Rattle.revc.proofs.SettlingLemmas.{one_left, one_stop, settled_or_stopped}
 
-keeps_or_passes : (text : List ℕ) (nodes need limit : ℕ) → KeepsLines text nodes → PassesLines text nodes need limit → ⊥
-keeps_or_passes text nodes need limit k h =
-    let same : plain_lines h.tape ≡ plain_lines k.tape = ap plain_lines (one_left text k.tape h.tape k.settled.left h.settled.left) in
-    let few = k.few in
-    let passed = h.passed in
-    let limit_is = h.limit_is in
-    omega arith
+-- the measures of one tape of a text are those of the other
+measures_of : (order : OrderView) (text : List ℕ) (k : KeepsBudget order text) (tape : TapeView) → tape ≡ k.tape → AreMeasuresOf tape k.measures
+measures_of order text k tape same = subst (λ (t : TapeView). AreMeasuresOf t k.measures) (sym same) k.are
 
-never_both : (order : OrderView) (text file : List ℕ) (fault : Fault) → IsCompiled text order.nodes file → IsCause order text fault → IsExact fault → ⊥
+keeps_or_passes_lines : (order : OrderView) (text : List ℕ) (need limit : ℕ) → KeepsBudget order text → PassesLines order text need limit → ⊥
+keeps_or_passes_lines order text need limit k h =
+    h.no_row k.measures (measures_of order text k h.tape (one_left text k.tape h.tape k.settled.left h.settled.left)) k.fits
+
+keeps_or_passes_gates : (order : OrderView) (text : List ℕ) (limit : ℕ) → KeepsBudget order text → PassesGates order text limit → ⊥
+keeps_or_passes_gates order text limit k h =
+    h.no_row k.measures (measures_of order text k h.tape (one_left text k.tape h.tape k.settled.left h.settled.left)) k.fits
+
+never_both : (order : OrderView) (text file : List ℕ) (fault : Fault) → IsCompiled order text file → IsCause order text fault → IsExact fault → ⊥
 never_both order text file (faults.Lines need limit) given cause exact = exact
+never_both order text file (faults.Gates limit) given cause exact = exact
 never_both order text file fault given cause exact = settled_or_stopped text order.nodes given.tape fault given.settled cause
 
-keeps_free : (order : OrderView) (text : List ℕ) (fault : Fault) → KeepsLines text order.nodes → IsCause order text fault → ⊥
-keeps_free order text (faults.Lines need limit) served cause = keeps_or_passes text order.nodes need limit served cause
+keeps_free : (order : OrderView) (text : List ℕ) (fault : Fault) → KeepsBudget order text → IsCause order text fault → ⊥
+keeps_free order text (faults.Lines need limit) served cause = keeps_or_passes_lines order text need limit served cause
+keeps_free order text (faults.Gates limit) served cause = keeps_or_passes_gates order text limit served cause
 keeps_free order text fault served cause = settled_or_stopped text order.nodes served.tape fault served.settled cause
 
 one_cause : (order : OrderView) (text : List ℕ) (fault exact : Fault) → IsCause order text fault → IsCause order text exact → IsExact exact → exact ≡ fault
 one_cause order text fault (faults.Lines need limit) a b is = absurd is
+one_cause order text fault (faults.Gates limit) a b is = absurd is
 one_cause order text (faults.Lines need limit) exact a b is = absurd (settled_or_stopped text order.nodes a.tape exact a.settled b)
+one_cause order text (faults.Gates limit) exact a b is = absurd (settled_or_stopped text order.nodes a.tape exact a.settled b)
 one_cause order text fault exact a b is = one_stop text order.nodes exact fault b a
 
 pub one_outcome : HasOneOutcome Compile

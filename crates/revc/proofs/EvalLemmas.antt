@@ -126,6 +126,7 @@ one_stop text word (faults.BadBits number) (faults.BadBits other) a b = ap (λ n
 one_stop text word faults.Usage other a b = absurd a
 one_stop text word (faults.Diagram number at limit) other a b = absurd a
 one_stop text word (faults.Lines need limit) other a b = absurd a
+one_stop text word (faults.Gates limit) other a b = absurd a
 one_stop text word (faults.Circuit refusal) other a b = absurd a
 one_stop text word faults.Read other a b = absurd a
 one_stop text word faults.Write other a b = absurd a

@@ -5,7 +5,6 @@ pub mod CompileLemmas
 pub mod TextLemmas
 pub mod PlanLemmas
 pub mod TopLemmas
-pub mod PlainLemmas
 pub mod FormedLemmas
 pub mod SettlingLemmas
 pub mod CheckLemmas

@@ -2,12 +2,16 @@
 use Rattle.std.proofs.Common.{◌≡◌, ℕ, zero, suc, ◌+◌, ◌==◌, ◌<◌, ◌≤◌, Bool, true, false, List, [], ◌∷◌, ◌++◌, length, map, take, drop, get_or, string_bytes, Global, cond, refl, sym, ap, ◌∙◌, subst, arith, append_assoc, append-nil}
 use Rattle.std.specs.Prelude.{slice_index_or, IsTrue}
 use mir.Val.{bool_byte}
+use Rattle.std.specs.Global.{Vec}
 use Rattle.std.specs.List.{flat_map}
 use Rattle.std.specs.declared.string.String.{String}
-use Rattle.std.proofs.lemmas.List.{drop_all, get_or-map, length-map, take_all}
-use Rattle.std.proofs.lemmas.Grind.{flat_map-append}
+use Rattle.std.proofs.lemmas.List.{drop_all, get_or-map, length-map, map-append, take_all, take_more}
+use Rattle.std.proofs.lemmas.List.Folds.{flat_map-map}
+use Rattle.std.proofs.lemmas.Simd.{map-map}
+use Rattle.circuit_sim.specs.Rows.{contents}
 use Rattle.list_facts.proofs.AllLemmas.{AllByRecursion-append}
-use Rattle.list_facts.proofs.CutLemmas.{cut_at, drop_read, length-take_below}
+use Rattle.list_facts.proofs.CutLemmas.{cut_at, length-take_below}
+use Rattle.mct_circuit.specs.Gates.{GateView, line_map}
 use Rattle.real_format.specs.declared.file.Mark.{Mark}
 use Rattle.real_format.specs.declared.file.Mark.TheVariants.{Free, Zero, One}
 use Rattle.revc.specs.Circuits.{ReadCircuit}
@@ -166,34 +170,51 @@ pub keeps_all : (garbage lines bits : List Bool) (at : ℕ) → length lines ≤
 keeps_all garbage lines bits at over same inv =
     sym (append-nil bits) ∙ ap (λ (g : List Bool). bits ++ kept g (drop at lines)) (sym (drop_all at garbage (omega (arith, over, same)))) ∙ inv
 
-pub runs_more : (circuit : ReadCircuit) (words : List (String Global)) (now lines : List (List Bool)) (given : List Bool) (at : ℕ) (word : String Global)
-    (text : List ℕ) → at < length words → word ≡ slice_index_or words at word → text ≡ string_bytes word
-    → flat_map bits_text lines ++ runs_text circuit (drop at (map string_bytes words)) ≡ runs_text circuit (map string_bytes words)
-    → now ≡ lines ++ given ∷ [] → given ≡ given_by circuit text
-    → flat_map bits_text now ++ runs_text circuit (drop (at + 1) (map string_bytes words)) ≡ runs_text circuit (map string_bytes words)
-runs_more circuit words now lines given at word text lt is same inv pushed gives =
-    let all = map string_bytes words in
-    let here : drop at all ≡ text ∷ drop (at + 1) all = drop_read all at text (omega (arith, length-map words string_bytes, lt))
-    (sym (get_or-map string_bytes words at word text lt ∙ ap string_bytes (sym is) ∙ sym same)) in
-    let rest = runs_text circuit (drop (at + 1) all) in
-    ap (λ (ls : List (List Bool)). flat_map bits_text ls ++ rest) (pushed ∙ ap (λ (g : List Bool). lines ++ g ∷ []) gives)
-    ∙ ap (λ (t : List ℕ). t ++ rest) (flat_map-append bits_text lines (given_by circuit text ∷ []))
-    ∙ append_assoc (flat_map bits_text lines) (flat_map bits_text (given_by circuit text ∷ [])) rest
-    ∙ ap (λ (t : List ℕ). flat_map bits_text lines ++ t) (one_piece (bits_text (given_by circuit text)) rest)
-    ∙ ap (λ (ws : List (List ℕ)). flat_map bits_text lines ++ runs_text circuit ws) (sym here)
-    ∙ inv
-  where
-    one_piece : (piece rest : List ℕ) → (piece ++ []) ++ rest ≡ piece ++ rest
-    one_piece piece rest = ap (λ (p : List ℕ). p ++ rest) (append-nil piece)
+-- ---- all words
 
-pub runs_all : (circuit : ReadCircuit) (words : List (String Global)) (lines : List (List Bool)) (at : ℕ) → length words ≤ at
-    → flat_map bits_text lines ++ runs_text circuit (drop at (map string_bytes words)) ≡ runs_text circuit (map string_bytes words)
-    → flat_map bits_text lines ≡ runs_text circuit (map string_bytes words)
-runs_all circuit words lines at over inv =
+-- a row more starts on a word
+pub started_more : (marks : List Mark) (words : List (String Global)) (rows : List (Vec Bool)) (row : Vec Bool) (at : ℕ) (word : String Global)
+    (text : List ℕ) → at < length words → word ≡ slice_index_or words at word → text ≡ string_bytes word → row.items ≡ started marks (bits_of text)
+    → contents rows ≡ map (λ (w : List ℕ). started marks (bits_of w)) (take at (map string_bytes words))
+    → contents (rows ++ row ∷ []) ≡ map (λ (w : List ℕ). started marks (bits_of w)) (take (at + 1) (map string_bytes words))
+started_more marks words rows row at word text lt is same starts inv =
     let all = map string_bytes words in
-    sym (append-nil (flat_map bits_text lines))
-    ∙ ap (λ (ws : List (List ℕ)). flat_map bits_text lines ++ runs_text circuit ws) (sym (drop_all at all (omega (arith, length-map words string_bytes, over))))
-    ∙ inv
+    let start = λ (w : List ℕ). started marks (bits_of w) in
+    map-append (λ (r : Vec Bool). r.items) rows (row ∷ [])
+    ∙ ap (λ (bs : List (List Bool)). bs ++ row.items ∷ []) inv
+    ∙ ap (λ (b : List Bool). map start (take at all) ++ b ∷ []) starts
+    ∙ sym (map-append start (take at all) (text ∷ []))
+    ∙ ap (map start) (sym (take_next all at text (drop (at + 1) all) (omega (arith, length-map words string_bytes, lt))
+    (word_at words at word text lt is same)))
+
+-- the bits that are of use in a row more
+pub kept_more : (garbage : List Bool) (rows : List (Vec Bool)) (row : Vec Bool) (at : ℕ) (lines : List (List Bool)) (bits : List Bool) → at < length rows
+    → row ≡ slice_index_or rows at row → bits ≡ kept garbage row.items → lines ≡ map (kept garbage) (take at (contents rows))
+    → lines ++ bits ∷ [] ≡ map (kept garbage) (take (at + 1) (contents rows))
+kept_more garbage rows row at lines bits lt is keeps inv =
+    let all = contents rows in
+    let items = λ (r : Vec Bool). r.items in
+    let here : get_or all at [] ≡ row.items = get_or-map items rows at row [] lt ∙ ap items (sym is) in
+    ap (λ (ls : List (List Bool)). ls ++ bits ∷ []) inv
+    ∙ ap (λ (b : List Bool). map (kept garbage) (take at all) ++ b ∷ []) (keeps ∙ ap (kept garbage) (sym here))
+    ∙ sym (map-append (kept garbage) (take at all) (get_or all at [] ∷ []))
+    ∙ ap (map (kept garbage)) (sym (take_more all at [] (omega (arith, length-map rows items, lt))))
+
+-- rows that start on the words, go through the circuit and are kept give the text
+pub all_given : (circuit : ReadCircuit) (words : List (List ℕ)) (marks : List Mark) (gates : List GateView) (garbage : List Bool)
+    (before behind lines : List (List Bool)) → marks ≡ circuit.constants → gates ≡ circuit.gates → garbage ≡ circuit.garbage
+    → before ≡ map (λ (w : List ℕ). started marks (bits_of w)) words → behind ≡ map (line_map gates) before
+    → lines ≡ map (kept garbage) behind → flat_map bits_text lines ≡ runs_text circuit words
+all_given circuit words marks gates garbage before behind lines same_marks same_gates same_garbage starts runs keeps =
+    let start = λ (w : List ℕ). started circuit.constants (bits_of w) in
+    let run = line_map circuit.gates in
+    let started_so : before ≡ map start words = starts ∙ ap (λ (ms : List Mark). map (λ (w : List ℕ). started ms (bits_of w)) words) same_marks in
+    let run_so : behind ≡ map run before = runs ∙ ap (λ (gs : List GateView). map (line_map gs) before) same_gates in
+    let kept_so : lines ≡ map (kept circuit.garbage) behind = keeps ∙ ap (λ (g : List Bool). map (kept g) behind) same_garbage in
+    ap (flat_map bits_text) (kept_so
+    ∙ ap (map (kept circuit.garbage)) (run_so ∙ ap (map run) started_so ∙ map-map run start words)
+    ∙ map-map (kept circuit.garbage) (λ (w : List ℕ). run (start w)) words)
+    ∙ flat_map-map bits_text (given_by circuit) words
 
 -- ---- as many lines behind as before
 

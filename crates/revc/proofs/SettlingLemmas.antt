@@ -104,6 +104,7 @@ one_stop text nodes (faults.Diagram number at limit) (faults.Diagram other there
     one_passing text nodes number other at there limit most a.0 a.1 b.0 b.1
 one_stop text nodes faults.Usage other a b = absurd a
 one_stop text nodes (faults.Lines need limit) other a b = absurd a
+one_stop text nodes (faults.Gates limit) other a b = absurd a
 one_stop text nodes (faults.Circuit refusal) other a b = absurd a
 one_stop text nodes (faults.BadBits word) other a b = absurd a
 one_stop text nodes faults.Read other a b = absurd a

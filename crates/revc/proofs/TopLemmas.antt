@@ -3,7 +3,7 @@ use Rattle.std.proofs.Common.{◌≡◌, ◌≢◌, ℕ, ◌<◌, ◌≤◌, ◌
 use Rattle.std.specs.Prelude.{Option, IfSome, MatchOption, Contains, Result, OnOk, IfErr, IsErrOf}
 use Rattle.std.specs.Io.KnownBytes.{IsAtEnd}
 use Rattle.revc.specs.declared.fault.Fault.{Fault}
-use Rattle.revc.specs.declared.fault.Fault.TheVariants.{Usage, Refused, Claim, Diagram, Lines, Circuit, BadBits, Read, Write, Memory}
+use Rattle.revc.specs.declared.fault.Fault.TheVariants.{Usage, Refused, Claim, Diagram, Lines, Gates, Circuit, BadBits, Read, Write, Memory}
 use Rattle.revc_io.specs.declared.reading.ReadFault.{ReadFault}
 use Rattle.revc_io.specs.declared.reading.ReadFault.TheVariants as reads
 use Rattle.revc.specs.inside.Mappings.{reading_fault, too_long, words_fault}
@@ -11,12 +11,15 @@ use Rattle.revc_words.specs.declared.fault.WordsFault.{WordsFault}
 use Rattle.revc_words.specs.declared.fault.WordsFault.TheVariants as words
 use Rattle.revc_words.specs.declared.order.Command.{Command}
 use Rattle.revc_words.specs.declared.order.Command.TheVariants.{Compile, Check, Eval, Stat, Run}
-use Rattle.revc_words.specs.declared.order.Format.{Format}
-use Rattle.revc.specs.Commands.{Gives, IsCause, IsCausedBy, IsCauseOrMemory, Serves, HasOneOutcome, most_bytes, statuses_of}
+use Rattle.revc.specs.Commands.{Gives, gives, IsCause, IsCausedBy, IsCauseOrMemory, Serves, HasOneOutcome, most_bytes, statuses_of}
 use Rattle.revc.specs.Faults.{status_of, line_of}
 use Rattle.revc.specs.Top.{Grows, GrowsByPrefix, IsReadAt, IsReadFor, IsReadWhole, IsStatusOfAll, MayEnd, Receives, RestsOnText, Served, Stopped}
-use Rattle.revc_words.specs.declared.limits.TheConstants.{MOST_NODES, USUAL_NODES}
-use Rattle.revc_words.specs.Words.{OrderView, IsOrder, HasNoOrder, IsNumberIn, value_of}
+use Rattle.revc_words.specs.declared.limits.TheConstants.{MOST_NODES, USUAL_GATES, USUAL_LINES, USUAL_NODES}
+use Rattle.gate_split.specs.declared.plan.TheConstants.{MOST_BORROWED, MOST_GATES, MOST_LINES}
+use Rattle.revc.specs.inside.Outcomes.{HasLimits}
+use Rattle.revc_words.specs.declared.order.Format.{Format}
+use Rattle.revc_words.specs.declared.order.Format.TheVariants.{Real}
+use Rattle.revc_words.specs.Words.{OrderView, IsOrder, HasNoOrder, IsNumberIn, format_word, value_of}
 use Rattle.revc.proofs.CompileLemmas as compile
 use Rattle.revc.proofs.EvalLemmas as eval
 use Rattle.revc.proofs.CheckLemmas as check
@@ -86,53 +89,54 @@ caused order text Memory h = tt
 caused order text fault h = h
 
 -- the status of a prepared order's fault is among those of its command
-among_of : (command : Command) (nodes : ℕ) (from : Format) (bits : List (List ℕ)) (text : List ℕ) (fault : Fault)
-    → IsCauseOrMemory (record { command = command; nodes = nodes; from = from; bits = bits }) text fault
+among_of : (command : Command) (order : OrderView) (text : List ℕ) (fault : Fault)
+    → IsCauseOrMemory (record order { command = command }) text fault
     → Contains (statuses_of command) (status_of fault)
-among_of Compile nodes from bits text (Refused refusal) h = (1, omega arith, refl)
-among_of Compile nodes from bits text (Claim number at digits) h = (2, omega arith, refl)
-among_of Compile nodes from bits text (Diagram number at limit) h = (3, omega arith, refl)
-among_of Compile nodes from bits text (Lines need limit) h = (4, omega arith, refl)
-among_of Compile nodes from bits text Memory h = (7, omega arith, refl)
-among_of Check nodes from bits text (Refused refusal) h = (1, omega arith, refl)
-among_of Check nodes from bits text (Claim number at digits) h = (2, omega arith, refl)
-among_of Check nodes from bits text (Diagram number at limit) h = (3, omega arith, refl)
-among_of Check nodes from bits text Memory h = (6, omega arith, refl)
-among_of Eval nodes from bits text (Refused refusal) h = (1, omega arith, refl)
-among_of Eval nodes from bits text (Claim number at digits) h = (2, omega arith, refl)
-among_of Eval nodes from bits text Memory h = (5, omega arith, refl)
-among_of Eval nodes from bits text (BadBits word) h = (6, omega arith, refl)
-among_of Stat nodes from bits text (Circuit refusal) h = (1, omega arith, refl)
-among_of Stat nodes from bits text Memory h = (4, omega arith, refl)
-among_of Run nodes from bits text (Circuit refusal) h = (1, omega arith, refl)
-among_of Run nodes from bits text Memory h = (4, omega arith, refl)
-among_of Run nodes from bits text (BadBits word) h = (5, omega arith, refl)
-among_of Compile nodes from bits text fault h = absurd h
-among_of Check nodes from bits text fault h = absurd h
-among_of Eval nodes from bits text fault h = absurd h
-among_of Stat nodes from bits text fault h = absurd h
-among_of Run nodes from bits text fault h = absurd h
+among_of Compile order text (Refused refusal) h = (1, omega arith, refl)
+among_of Compile order text (Claim number at digits) h = (2, omega arith, refl)
+among_of Compile order text (Diagram number at limit) h = (3, omega arith, refl)
+among_of Compile order text (Lines need limit) h = (4, omega arith, refl)
+among_of Compile order text (Gates limit) h = (5, omega arith, refl)
+among_of Compile order text Memory h = (8, omega arith, refl)
+among_of Check order text (Refused refusal) h = (1, omega arith, refl)
+among_of Check order text (Claim number at digits) h = (2, omega arith, refl)
+among_of Check order text (Diagram number at limit) h = (3, omega arith, refl)
+among_of Check order text Memory h = (6, omega arith, refl)
+among_of Eval order text (Refused refusal) h = (1, omega arith, refl)
+among_of Eval order text (Claim number at digits) h = (2, omega arith, refl)
+among_of Eval order text Memory h = (5, omega arith, refl)
+among_of Eval order text (BadBits word) h = (6, omega arith, refl)
+among_of Stat order text (Circuit refusal) h = (1, omega arith, refl)
+among_of Stat order text Memory h = (4, omega arith, refl)
+among_of Run order text (Circuit refusal) h = (1, omega arith, refl)
+among_of Run order text Memory h = (4, omega arith, refl)
+among_of Run order text (BadBits word) h = (5, omega arith, refl)
+among_of Compile order text fault h = absurd h
+among_of Check order text fault h = absurd h
+among_of Eval order text fault h = absurd h
+among_of Stat order text fault h = absurd h
+among_of Run order text fault h = absurd h
 
 pub status_among : (order : OrderView) (text : List ℕ) (fault : Fault) → IsCauseOrMemory order text fault
     → Contains (statuses_of order.command) (status_of fault)
-status_among order text fault h = among_of order.command order.nodes order.from order.bits text fault h
+status_among order text fault h = among_of order.command order text fault h
 
 pub write_among : (command : Command) → Contains (statuses_of command) 10
-write_among Compile = (6, omega arith, refl)
+write_among Compile = (7, omega arith, refl)
 write_among Check = (5, omega arith, refl)
 write_among Eval = (4, omega arith, refl)
 write_among Stat = (3, omega arith, refl)
 write_among Run = (3, omega arith, refl)
 
 memory_among : (command : Command) → Contains (statuses_of command) 11
-memory_among Compile = (7, omega arith, refl)
+memory_among Compile = (8, omega arith, refl)
 memory_among Check = (6, omega arith, refl)
 memory_among Eval = (5, omega arith, refl)
 memory_among Stat = (4, omega arith, refl)
 memory_among Run = (4, omega arith, refl)
 
 read_among : (command : Command) → Contains (statuses_of command) 9
-read_among Compile = (5, omega arith, refl)
+read_among Compile = (6, omega arith, refl)
 read_among Check = (4, omega arith, refl)
 read_among Eval = (3, omega arith, refl)
 read_among Stat = (2, omega arith, refl)
@@ -158,13 +162,13 @@ read_at Memory command old new h = tt
 read_at fault command old new h = always old (λ text. IsReadWhole command text new) (λ text short. h)
 
 -- a text over the limit is refused for that
-long_caused : (command : Command) (nodes : ℕ) (from : Format) (bits : List (List ℕ)) (text : List ℕ) → most_bytes command < length text
-    → IsCausedBy (record { command = command; nodes = nodes; from = from; bits = bits }) text (too_long command)
-long_caused Compile nodes from bits text long = long
-long_caused Check nodes from bits text long = long
-long_caused Eval nodes from bits text long = long
-long_caused Stat nodes from bits text long = long
-long_caused Run nodes from bits text long = long
+long_caused : (command : Command) (order : OrderView) (text : List ℕ) → most_bytes command < length text
+    → IsCausedBy (record order { command = command }) text (too_long command)
+long_caused Compile order text long = long
+long_caused Check order text long = long
+long_caused Eval order text long = long
+long_caused Stat order text long = long
+long_caused Run order text long = long
 
 pub reading_caused : (fault : ReadFault) (order : OrderView) (rest : Option (List ℕ))
     → (fault ≡ reads.TooLong → IfSome rest (λ text. most_bytes order.command < length text))
@@ -173,7 +177,7 @@ reading_caused reads.Failed order rest h = always rest (λ text. IsCausedBy orde
 reading_caused reads.Memory order rest h = always rest (λ text. IsCausedBy order text Memory) (λ text. tt)
 reading_caused reads.TooLong order rest h =
     if_some rest (λ text. most_bytes order.command < length text) (λ text. IsCausedBy order text (too_long order.command))
-    (λ text long. long_caused order.command order.nodes order.from order.bits text long) (h refl)
+    (λ text long. long_caused order.command order text long) (h refl)
 
 -- the same for an order of this command
 pub of_command : (order : OrderView) (command : Command) (fault : ReadFault) (rest : Option (List ℕ)) → order.command ≡ command
@@ -325,25 +329,30 @@ may_end_after words fault status e h other = subst (MayEnd words) (sym e) (h (λ
 pub read_whole : (command : Command) (old new : Option (List ℕ)) → IsAtEnd new → IfSome old (λ text. IsReadWhole command text new)
 read_whole command old new h = always old (λ text. IsReadWhole command text new) (λ text short. h)
 
--- the nodes of an order are some
-pub some_nodes : (words : List (List ℕ)) (order : OrderView) → IsOrder words order → 1 ≤ order.nodes
-some_nodes words order is = some (value_of (codes "nodes") is.given) order.nodes is.nodes
+-- the numbers of an order are within their limits
+pub limits_of : (words : List (List ℕ)) (order : OrderView) → IsOrder words order → HasLimits order
+limits_of words order is = record {
+  nodes = (within 1 MOST_NODES USUAL_NODES order.nodes (value_of (codes "nodes") is.given) (omega arith) (omega arith) is.nodes).0;
+  lines = (within 1 MOST_LINES USUAL_LINES order.lines (value_of (codes "lines") is.given) (omega arith) (omega arith) is.lines).1;
+  gates = (within 1 MOST_GATES USUAL_GATES order.gates (value_of (codes "gates") is.given) (omega arith) (omega arith) is.gates).1;
+  borrow = (within 0 MOST_BORROWED 0 order.borrow (value_of (codes "borrow") is.given) (omega arith) (omega arith) is.borrow).1;
+  from = reads (value_of (codes "from") is.given) order.from is.from;
+}
   where
-    some : (value : Option (List ℕ)) (nodes : ℕ) → MatchOption value (nodes ≡ USUAL_NODES) (λ word. IsNumberIn 1 MOST_NODES word nodes) → 1 ≤ nodes
-    some None nodes h = omega (arith, h)
-    some (Some word) nodes h = h.least_is
+    within : (least most usual n : ℕ) (value : Option (List ℕ)) → least ≤ usual → usual ≤ most
+        → MatchOption value (n ≡ usual) (λ word. IsNumberIn least most word n) → (least ≤ n) × (n ≤ most)
+    within least most usual n None low high h = (omega (arith, h, low), omega (arith, h, high))
+    within least most usual n (Some word) low high h = (h.least_is, h.most_is)
+
+    reads : (value : Option (List ℕ)) (from : Format) → MatchOption value (from ≡ Real) (λ word. (word ≡ format_word from) × (from ≡ Real)) → from ≡ Real
+    reads None from h = h
+    reads (Some word) from h = h.1
 
 -- ---- what each command prepares is what its order gives
 
-pub given_of : (order : OrderView) (text written : List ℕ) (command : Command) → order.command ≡ command
-    → Gives (record order { command = command }) text written → Gives order text written
-given_of order text written command is h = given order.command command order.nodes order.from order.bits is h
-  where
-    given : (own command : Command) (nodes : ℕ) (from : Format) (bits : List (List ℕ)) → own ≡ command
-        → Gives (record { command = command; nodes = nodes; from = from; bits = bits }) text written
-        → Gives (record { command = own; nodes = nodes; from = from; bits = bits }) text written
-    given own command nodes from bits is h =
-        subst (λ (c : Command). Gives (record { command = c; nodes = nodes; from = from; bits = bits }) text written) (sym is) h
+pub given_of : (order : OrderView) (text written : List ℕ) (command : Command) → order.command ≡ command → gives command order text written
+    → Gives order text written
+given_of order text written command is h = subst (λ (c : Command). gives c order text written) (sym is) h
 
 -- what holds of the text that was lent holds of the one that the source told
 pub of_read : (rest : Option (List ℕ)) (lent items : List ℕ) (P : List ℕ → Type 0) → lent ≡ items → IfSome rest (λ told. items ≡ told) → P lent → IfSome rest P

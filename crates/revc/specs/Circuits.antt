@@ -6,7 +6,7 @@ use Rattle.real_format.specs.declared.file.RealFault.TheVariants as reals
 use Rattle.real_format.specs.Faults.{IsTextFault}
 use Rattle.real_format.specs.Real.{RealView, RealMeaning}
 use Rattle.revc_words.specs.declared.order.Format.{Format}
-use Rattle.revc_words.specs.declared.order.Format.TheVariants.{Real}
+use Rattle.revc_words.specs.declared.order.Format.TheVariants.{Real, Qasm}
 use Rattle.revc.specs.declared.fault.CircuitRefusal.{CircuitRefusal}
 use Rattle.revc.specs.declared.fault.CircuitRefusal.TheVariants.{TooLong, Line, Limit}
 use Rattle.revc.specs.declared.limits.TheConstants.{MOST_CIRCUIT_BYTES}
@@ -29,9 +29,10 @@ pub record MeansCircuit (text : List ℕ) (circuit : ReadCircuit) : Type 0 where
   pub meaning : RealMeaning text file
   pub same : circuit ≡ of_real file
 
--- the text means this circuit in this format
+-- the text means this circuit in this format; OpenQASM is not read yet
 abbrev pub Means : Format → List ℕ → ReadCircuit → Type 0
 Means Real text circuit = MeansCircuit text circuit
+Means Qasm text circuit = ⊥
 
 -- why a text means no circuit in a format
 abbrev pub IsCircuitRefusal : Format → List ℕ → CircuitRefusal → Type 0
@@ -40,3 +41,5 @@ IsCircuitRefusal Real text (Line number) =
     (length text ≤ MOST_CIRCUIT_BYTES) × IsTextFault text (reals.Line number)
 IsCircuitRefusal Real text (Limit number) =
     (length text ≤ MOST_CIRCUIT_BYTES) × IsTextFault text (reals.Limit number)
+IsCircuitRefusal Qasm text (Line number) = ⊥
+IsCircuitRefusal Qasm text (Limit number) = ⊥

@@ -1,11 +1,20 @@
--- What a clean file is, in any format: what it computes, and what its lines hold before and behind.
+-- What a clean file is, in each format: what it computes, and what its lines hold before and behind.
 use Rattle.std.specs.Prelude.{◌≡◌, ℕ, Bool, List, length, sum}
 use Rattle.gate_split.specs.Plans.{PutsOutputs}
 use Rattle.gate_split.specs.declared.roles.Roles.{Roles}
 use Rattle.mct_circuit.specs.Gates.{GateView, AreNarrow}
+use Rattle.qasm_format.specs.Compiled as qasm
+use Rattle.real_format.specs.Compiled as real
+use Rattle.revc_words.specs.declared.order.Format.{Format}
+use Rattle.revc_words.specs.declared.order.Format.TheVariants.{Real, Qasm}
 use Rattle.revs_terms.specs.Programs.{widths_of}
 use Rattle.revs_terms.specs.Runs.{IsInput, HasOutput}
 use Rattle.revs_terms.specs.Views.{ProgramView}
+
+-- by the meaning of a format the text has these gates, and its lines have these roles
+abbrev pub MeansIn : Format → List ℕ → Roles → List GateView → Type 0
+MeansIn Real text roles gates = real.MeansCompiled text roles gates
+MeansIn Qasm text roles gates = qasm.MeansCompiled text roles gates
 
 -- on this input, whatever the borrowed lines hold, the gates put the program's output on the output lines
 pub record ComputesOn (p : ProgramView) (roles : Roles) (gates : List GateView)
@@ -17,11 +26,11 @@ pub record ComputesOn (p : ProgramView) (roles : Roles) (gates : List GateView)
 
 -- A clean file for a program, with so many borrowed lines: by the meaning of its format its lines have these roles and
 -- its gates are these, each a flip with at most two controls, all positive; and they compute the program on every input.
-pub record IsClean (Means : List ℕ → Roles → List GateView → Type 0) (text : List ℕ)
-    (p : ProgramView) (borrowed : ℕ) : Type 0 where
+pub record IsClean (format : Format) (text : List ℕ) (p : ProgramView) (borrowed : ℕ)
+    : Type 0 where
   pub roles : Roles
   pub gates : List GateView
-  pub meaning : Means text roles gates
+  pub meaning : MeansIn format text roles gates
   pub inputs : roles.inputs ≡ sum (widths_of p.params)
   pub borrows : roles.borrowed ≡ borrowed
   pub narrow : AreNarrow gates

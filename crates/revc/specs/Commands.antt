@@ -1,7 +1,7 @@
 -- Each command by three definitions: what it gives for a text, which fault it may end with for one, and where it serves.
 use Rattle.std.specs.Prelude.{◌≡◌, ℕ, List, [], ◌∷◌}
 use Rattle.revc.specs.declared.fault.Fault.{Fault}
-use Rattle.revc.specs.declared.fault.Fault.TheVariants.{Usage, Lines, Read, Write, Memory}
+use Rattle.revc.specs.declared.fault.Fault.TheVariants.{Usage, Lines, Gates, Read, Write, Memory}
 use Rattle.revc.specs.declared.limits.TheConstants.{MOST_CIRCUIT_BYTES}
 use Rattle.revc_words.specs.declared.order.Command.{Command}
 use Rattle.revc_words.specs.declared.order.Command.TheVariants as commands
@@ -44,7 +44,7 @@ serves commands.Run = run.Serves
 
 -- the statuses with which a command may end
 abbrev pub statuses_of : Command → List ℕ
-statuses_of commands.Compile = 0 ∷ 3 ∷ 4 ∷ 5 ∷ 6 ∷ 9 ∷ 10 ∷ 11 ∷ []
+statuses_of commands.Compile = 0 ∷ 3 ∷ 4 ∷ 5 ∷ 6 ∷ 7 ∷ 9 ∷ 10 ∷ 11 ∷ []
 statuses_of commands.Check = 0 ∷ 3 ∷ 4 ∷ 5 ∷ 9 ∷ 10 ∷ 11 ∷ []
 statuses_of commands.Eval = 0 ∷ 3 ∷ 4 ∷ 9 ∷ 10 ∷ 11 ∷ 12 ∷ []
 statuses_of commands.Stat = 0 ∷ 8 ∷ 9 ∷ 10 ∷ 11 ∷ []
@@ -60,6 +60,7 @@ most_bytes _ = MOST_BYTES
 -- be passed.
 abbrev pub IsExact : Fault → Type 0
 IsExact (Lines need limit) = ⊥
+IsExact (Gates limit) = ⊥
 IsExact fault = Unit {0}
 
 abbrev pub Gives : OrderView → List ℕ → List ℕ → Type 0

@@ -4,7 +4,7 @@ use Rattle.std.specs.Fmt.{decimal}
 use Rattle.revc_base.specs.declared.place.Place.{Place}
 use Rattle.revs_terms.specs.Causes.{cause_word}
 use Rattle.revc.specs.declared.fault.Fault.{Fault}
-use Rattle.revc.specs.declared.fault.Fault.TheVariants.{Usage, Refused, Claim, Diagram, Lines, Circuit, BadBits, Read, Write, Memory}
+use Rattle.revc.specs.declared.fault.Fault.TheVariants.{Usage, Refused, Claim, Diagram, Lines, Gates, Circuit, BadBits, Read, Write, Memory}
 use Rattle.revc.specs.declared.fault.CircuitRefusal.{CircuitRefusal}
 use Rattle.revc.specs.declared.fault.CircuitRefusal.TheVariants as circuits
 use Rattle.revc.specs.declared.fault.Kind.{Kind}
@@ -19,6 +19,7 @@ status_of (Refused refusal) = 3
 status_of (Claim number at bits) = 4
 status_of (Diagram number at limit) = 5
 status_of (Lines need limit) = 6
+status_of (Gates limit) = 7
 status_of (Circuit refusal) = 8
 status_of Read = 9
 status_of Write = 10
@@ -75,6 +76,10 @@ abbrev pub lines_line : ℕ → ℕ → List ℕ
 lines_line need limit =
     codes "revc: lines " ++ (decimal need ++ (codes " over " ++ (decimal limit ++ codes "\n")))
 
+-- the line of a budget of gates that is passed
+abbrev pub gates_line : ℕ → List ℕ
+gates_line limit = codes "revc: more than " ++ (decimal limit ++ codes " gates\n")
+
 -- the line of a bit word that does not fit
 abbrev pub bits_line : ℕ → List ℕ
 bits_line word = codes "revc: bad bits in word " ++ (decimal word ++ codes "\n")
@@ -86,6 +91,7 @@ line_of (Refused refusal) = refusal_line refusal
 line_of (Claim number at bits) = claim_line number at bits
 line_of (Diagram number at limit) = diagram_line number at limit
 line_of (Lines need limit) = lines_line need limit
+line_of (Gates limit) = gates_line limit
 line_of (Circuit refusal) = circuit_line refusal
 line_of (BadBits word) = bits_line word
 line_of Read = codes "revc: read fault\n"

@@ -1,5 +1,4 @@
 pub mod Mappings
-pub mod Plain
 pub mod Plans
 pub mod Outcomes
 pub mod Started

@@ -10,9 +10,10 @@ use real_format::{RealFault, RealFile};
 use revc_words::Format;
 use std::alloc::Global;
 
-/// The circuit that a text means in a format. A fault is exactly the text's, or want of memory.
+/// The circuit that a text means in a format, `.real` so far. A fault is exactly the text's, or want of memory.
 pub fn read_circuit(alloc: Global, text: &[u8], from: Format) -> Result<RealFile, Fault>
-    requires { length text.now ≤ MOST_CIRCUIT_BYTES }
+    requires short { length text.now ≤ MOST_CIRCUIT_BYTES }
+    requires from { from ≡ Format.Real }
     ensures ok { IfOk result (λ file. Means from text.now (of_real file)) }
     ensures err { IfErr result (IsCircuitFault from text.now) }
 {
@@ -21,6 +22,7 @@ pub fn read_circuit(alloc: Global, text: &[u8], from: Format) -> Result<RealFile
             Ok(file) => Ok(file),
             Err(fault) => Err(real_fault(fault)),
         },
+        Format::Qasm => unreachable!(),
     }
 }
 

@@ -30,16 +30,6 @@ const FOUR_WRITES: &[u8] = b"main (x : bool) (y : bool) = {
   reg [n && z; true; x; z]
 }";
 
-// The factors behind the first one of the product of 65 inputs.
-const PRODUCTS: &[u8] =
-    b" && a.[1] && a.[2] && a.[3] && a.[4] && a.[5] && a.[6] && a.[7] && a.[8] && a.[9]
-&& a.[10] && a.[11] && a.[12] && a.[13] && a.[14] && a.[15] && a.[16] && a.[17] && a.[18] && a.[19]
-&& a.[20] && a.[21] && a.[22] && a.[23] && a.[24] && a.[25] && a.[26] && a.[27] && a.[28] && a.[29]
-&& a.[30] && a.[31] && a.[32] && a.[33] && a.[34] && a.[35] && a.[36] && a.[37] && a.[38] && a.[39]
-&& a.[40] && a.[41] && a.[42] && a.[43] && a.[44] && a.[45] && a.[46] && a.[47] && a.[48] && a.[49]
-&& a.[50] && a.[51] && a.[52] && a.[53] && a.[54] && a.[55] && a.[56] && a.[57] && a.[58] && a.[59]
-&& a.[60] && a.[61] && a.[62] && a.[63] && a.[64]";
-
 // Words, a circuit text, and then the status and the text on standard output or standard error.
 const CASES: &[(&[&str], &[u8], u8, &[u8])] = &[
     (
@@ -101,7 +91,7 @@ fn circuits_are_measured_and_run_or_refused(rt: HostRuntime) -> Result<(), Fail>
     Ok(())
 }
 
-// A program in pieces, words for its circuit, and what the call writes for them.
+// A program in pieces, words for the circuit of its pebbling plan, and what the call writes for them.
 const COMPILED: &[(&[(&[u8], usize)], &[&str], &[u8])] = &[
     (
         &[(PRODUCT, 1)],
@@ -118,11 +108,6 @@ const COMPILED: &[(&[(&[u8], usize)], &[&str], &[u8])] = &[
         &[(FOUR_WRITES, 1)],
         &["run", "00", "01", "10", "11"],
         b"001101000\n010100000\n100110000\n110111000\n",
-    ),
-    (
-        &[(b"main (a : bool[65]) = a.[0]", 1), (PRODUCTS, 1)],
-        &["stat"],
-        b"lines 130\ngates 129\nx 0\ncx 1\nccx 128\nwide 0\nswap 0\ndepth 129\n",
     ),
 ];
 
@@ -142,10 +127,75 @@ fn compiled(
     words: &[&str],
     written: &[u8],
 ) -> Result<(), Fail> {
-    let file = file_of(rt, alloc, pieces)?;
+    let file = file_of(rt, alloc, &["compile", "--plan", "pebble"], pieces)?;
     let given = output_of(rt, alloc, words, file.bytes().to_vec(alloc)?)?;
     assert_eq!(rt; given.bytes(), written);
     Ok(())
+}
+
+// A flip with no control, one, two and three, and swaps; some controls are negative.
+const EACH_KIND: &[u8] = b".version 2.0\n.numvars 4\n.variables a b c d\n.begin
+t1 a\nt2 a b\nt3 a -b c\nt4 a b -c d\nf2 a d\nf4 b -c a d\nf3 -d b c\n.end\n";
+
+// Its words and lines, by a calculation of its own.
+const EACH_WORD: &[(&str, &[u8])] = &[
+    ("0000", b"1101\n"),
+    ("1000", b"0000\n"),
+    ("0100", b"0011\n"),
+    ("1100", b"0010\n"),
+    ("0010", b"0111\n"),
+    ("1010", b"0100\n"),
+    ("0110", b"0001\n"),
+    ("1110", b"0110\n"),
+    ("0001", b"1010\n"),
+    ("1001", b"1000\n"),
+    ("0101", b"1011\n"),
+    ("1101", b"0101\n"),
+    ("0011", b"1111\n"),
+    ("1011", b"1100\n"),
+    ("0111", b"1001\n"),
+    ("1111", b"1110\n"),
+];
+
+// The lines that `run` writes for these words.
+fn runs(
+    rt: &impl Abort,
+    alloc: Global,
+    text: Vec<u8>,
+    lines: &[(&str, &[u8])],
+) -> Result<(), Fail> {
+    let mut words = vec![in alloc; "run"]?;
+    let mut wanted = Vec::new(alloc);
+    for (word, line) in lines {
+        words.push(*word)?;
+        wanted.extend_from_slice(*line)?;
+    }
+    let given = output_of(rt, alloc, &words, text)?;
+    assert_eq!(rt; given.bytes(), wanted.as_slice());
+    Ok(())
+}
+
+#[test]
+fn many_words_are_run(rt: HostRuntime) -> Result<(), Fail> {
+    let alloc = rt.alloc();
+    let file = file_of(&rt, alloc, &["compile"], &[(PRODUCT, 1)])?;
+    let mut lines = Vec::new(alloc);
+    for _ in 0..512 {
+        lines.push(("11", b"1110\n".as_slice()))?;
+    }
+    lines.push(("10", b"1000\n".as_slice()))?;
+    runs(&rt, alloc, file.bytes().to_vec(alloc)?, &lines)
+}
+
+// As many as go by lanes, by whole planes, and by a plane that is not full.
+#[test]
+fn each_kind_of_gate_is_run(rt: HostRuntime) -> Result<(), Fail> {
+    let alloc = rt.alloc();
+    let mut lines = Vec::new(alloc);
+    for k in 0..577 {
+        lines.push(EACH_WORD[(7 * k + k / 16) % EACH_WORD.len()])?;
+    }
+    runs(&rt, alloc, EACH_KIND.to_vec(alloc)?, &lines)
 }
 
 // Each front of a file that ends behind a line is refused at the line behind it.
@@ -165,7 +215,7 @@ fn fronts_of_a_file_are_refused(rt: HostRuntime) -> Result<(), Fail> {
         (146, b"revc: circuit line 11\n"),
         (158, b"revc: circuit line 12\n"),
     ];
-    let file = file_of(&rt, rt.alloc(), &[(PRODUCT, 1)])?;
+    let file = file_of(&rt, rt.alloc(), &["compile"], &[(PRODUCT, 1)])?;
     for (count, line) in fronts {
         let text = file.bytes();
         assert!(rt; *count <= text.len());
@@ -184,12 +234,12 @@ const EXAMPLES: &[(&[u8], usize, usize)] = &[
   reg [sum (sum a b) c; carry a b c]
 }",
         3,
-        11,
+        9,
     ),
     (
         b"main (a : bool) (b : bool) (c : bool) = a && b <> a && c <> b && c",
         3,
-        9,
+        7,
     ),
     (
         b"main (r : bool[3]) = append (rotate 1 r) (reg [r.[0] <> r.[1] <> r.[2]])",
@@ -208,7 +258,7 @@ const EXAMPLES: &[(&[u8], usize, usize)] = &[
 fn circuits_of_the_examples_give_what_eval_gives(rt: HostRuntime) -> Result<(), Fail> {
     let alloc = rt.alloc();
     for (text, inputs, lines) in EXAMPLES {
-        let file = file_of(&rt, alloc, &[(*text, 1)])?;
+        let file = file_of(&rt, alloc, &["compile"], &[(*text, 1)])?;
         for number in 0..1 << *inputs {
             let word = digits(alloc, number, *inputs)?;
             let value = output_of(&rt, alloc, &["eval", word.as_str()], text.to_vec(alloc)?)?;

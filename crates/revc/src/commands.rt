@@ -5,7 +5,7 @@ ghost use Rattle.revc_io.specs.Faults.{HasCause};
 ghost use Rattle.revc_io.specs.Passing.{Writes};
 ghost use Rattle.revc_words.specs.Words.{order_of};
 ghost use Rattle.revc.specs.Commands.{Gives, IsCauseOrMemory, most_bytes};
-ghost use Rattle.revc.specs.inside.Outcomes.{CanBeWritten, text_of};
+ghost use Rattle.revc.specs.inside.Outcomes.{CanBeWritten, HasLimits, IsWritable, file_of, text_of};
 
 pub mod check;
 pub mod compile;
@@ -19,7 +19,7 @@ use crate::limits::MOST_CIRCUIT_BYTES;
 use gate_split::Laid;
 use revc_base::Bits;
 use revc_io::{Failed, Sink};
-use revc_words::{Command, Order};
+use revc_words::{Command, Format, Order};
 use revs_parser::MOST_BYTES;
 use stat::Sizes;
 use std::alloc::Global;
@@ -27,8 +27,8 @@ use std::alloc::Global;
 /// What waits to be written.
 #[derive(Drop)]
 pub enum Prepared {
-    /// The file of a compiled circuit.
-    File(Laid),
+    /// The file of a compiled circuit, in a format.
+    File(Format, Laid),
     /// The line of a number of claims.
     Claims(u32),
     /// Bits as digits, and a line feed.
@@ -47,12 +47,24 @@ impl Prepared {
         ensures cause { HasCause (K.faults out.old) (K.faults out.new) result }
     {
         match self {
-            Prepared::File(laid) => real_format::write(laid, out),
+            Prepared::File(format, laid) => write_file(*format, laid, out),
             Prepared::Claims(count) => write_number(out, b"claims ", *count as u64, b"\n"),
             Prepared::Digits(bits) => write_digits(bits.bits(), out),
             Prepared::Lines(lines) => write_lines(lines, out),
             Prepared::Stat(sizes) => stat::write(sizes, out),
         }
+    }
+}
+
+// Writes the file of a compiled circuit.
+fn write_file<K: Sink>(format: Format, laid: &Laid, out: &mut K) -> Result<(), Failed>
+    requires { IsWritable laid.now }
+    ensures bytes { Writes result (K.held out.old) (K.held out.new) (file_of format laid.now) }
+    ensures cause { HasCause (K.faults out.old) (K.faults out.new) result }
+{
+    match format {
+        Format::Real => real_format::write(laid, out),
+        Format::Qasm => qasm_format::write(laid, out),
     }
 }
 
@@ -69,13 +81,16 @@ pub fn most_bytes(command: Command) -> usize
 /// What an order gives for a text. A fault has its cause in the text, or is want of memory.
 pub fn prepare(alloc: Global, order: &Order, text: &[u8]) -> Result<Prepared, Fault>
     requires short { length text.now ≤ most_bytes order.now.command }
-    requires nodes { 1 ≤ order.now.nodes }
+    requires limits { HasLimits (order_of order.now) }
     ensures ok { IfOk result (λ prepared. Gives (order_of order.now) text.now (text_of prepared)) }
     ensures writable { IfOk result CanBeWritten }
     ensures err { IfErr result (IsCauseOrMemory (order_of order.now) text.now) }
 {
     match order.command {
-        Command::Compile => Ok(Prepared::File(compile::compile(alloc, text, order.nodes)?)),
+        Command::Compile => {
+            let laid = compile::compile(alloc, text, order)?;
+            Ok(Prepared::File(order.format, laid))
+        }
         Command::Check => Ok(Prepared::Claims(check::check(alloc, text, order.nodes)?)),
         Command::Eval => Ok(Prepared::Digits(eval::evaluate(alloc, text, order.word())?)),
         Command::Stat => Ok(Prepared::Stat(stat::measure(alloc, text, order.from)?)),

@@ -23,6 +23,9 @@ pub enum Fault {
     /// A circuit needs so many lines, more than the limit.
     #[error("lines over budget")]
     Lines { need: u32, limit: u32 },
+    /// A circuit needs more gates than the limit.
+    #[error("gates over budget")]
+    Gates { limit: u64 },
     #[error("circuit refused")]
     Circuit(CircuitRefusal),
     /// The word of bits with this number, counted from 1, does not fit.
@@ -82,6 +85,7 @@ impl Fault {
             Fault::Claim { .. } => 4,
             Fault::Diagram { .. } => 5,
             Fault::Lines { .. } => 6,
+            Fault::Gates { .. } => 7,
             Fault::Circuit(_) => 8,
             Fault::Read => 9,
             Fault::Write => 10,

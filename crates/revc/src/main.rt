@@ -11,7 +11,8 @@ mod commands;
 mod digits;
 mod fault;
 mod limits;
-mod plain;
+#[cfg(test)]
+mod plan_tests;
 mod program;
 mod report;
 mod settling;

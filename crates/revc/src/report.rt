@@ -40,6 +40,9 @@ fn put_line<E: Sink>(buffer: &mut Buffer, err: &mut E, fault: &Fault) -> Result<
         Fault::Claim { number, at, bits } => put_claim(buffer, err, *number, *at, bits.bits()),
         Fault::Diagram { number, at, limit } => put_diagram(buffer, err, *number, *at, *limit),
         Fault::Lines { need, limit } => put_lines(buffer, err, *need, *limit),
+        Fault::Gates { limit } => {
+            put_number(buffer, err, b"revc: more than ", *limit, b" gates\n")
+        }
         Fault::Circuit(refusal) => put_circuit(buffer, err, *refusal),
         Fault::BadBits { word } => {
             put_number(buffer, err, b"revc: bad bits in word ", *word as u64, b"\n")

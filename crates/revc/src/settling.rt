@@ -1,6 +1,7 @@
 // From a text to the settled graph of its program.
 ghost use Rattle.std.specs.Prelude.{◌≡◌, ◌+◌, ◌<◌, ◌≤◌, List, ℕ, length, slice_get, IfOk, IfErr, IfSome};
 ghost use Rattle.claim_check.specs.Claims.{IsClaimFault};
+ghost use Rattle.claim_check.specs.Measures.{IsNoLarger};
 ghost use Rattle.claim_check.specs.Settled.{IsSettled, IsSettledOf};
 ghost use Rattle.revc_base.specs.Tapes.{IsTape};
 ghost use Rattle.revc.specs.Settling.{LeavesSettled, LeavesTape};
@@ -23,6 +24,7 @@ pub fn settle_text(alloc: Global, text: &[u8], nodes: u32) -> Result<(Tape, Sett
     ensures tape { IfOk result (λ run. IsTape run.0) }
     ensures graph { IfOk result (λ run. IsSettledOf run.0 run.1) }
     ensures settled { IfOk result (λ run. IsSettled run.1) }
+    ensures no_larger { IfOk result (λ run. IsNoLarger run.0 run.1) }
     ensures err { IfErr result (IsSettlingFault text.now nodes) }
 {
     let (_, tape) = tape_of_text(alloc, text)?;

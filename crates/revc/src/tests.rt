@@ -17,7 +17,7 @@ const NAME_FILE: &[u8] = b".version 2.0\n.numvars 2\n.variables x0 y0\n.inputs x
 const CHAIN_FILE: &[u8] =
     b".version 2.0\n.numvars 5\n.variables x0 x1 y0 w0 w1\n.inputs x0 x1 y0 w0 w1
 .outputs x0 x1 y0 w0 w1\n.constants --000\n.garbage -----\n.begin\nt3 x1 x0 w0\nt2 x0 w1\nt2 w0 w1
-t2 w1 y0\nt2 w0 w1\nt2 x0 w1\nt3 x1 x0 w0\n.end\n";
+t3 x1 x0 w0\nt2 w1 y0\nt3 x1 x0 w0\nt2 w0 w1\nt2 x0 w1\nt3 x1 x0 w0\n.end\n";
 
 const FALSE_FILE: &[u8] =
     b".version 2.0\n.numvars 2\n.variables x0 y0\n.inputs x0 y0\n.outputs x0 y0
@@ -40,11 +40,6 @@ const TURNED_FILE: &[u8] =
 const FIRST_FILE: &[u8] = b".version 2.0\n.numvars 4\n.variables x0 x1 x2 y0\n.inputs x0 x1 x2 y0
 .outputs x0 x1 x2 y0\n.constants ---0\n.garbage ----\n.begin\nt2 x0 y0\n.end\n";
 
-const BRACKETS_FILE: &[u8] =
-    b".version 2.0\n.numvars 6\n.variables x0 x1 y0 w0 w1 w2\n.inputs x0 x1 y0 w0 w1 w2
-.outputs x0 x1 y0 w0 w1 w2\n.constants --0000\n.garbage ------\n.begin\nt2 x0 w0\nt2 x1 w0\nt2 x1 w1\nt2 x0 w1
-t3 w0 w1 w2\nt2 w2 y0\nt3 w0 w1 w2\nt2 x0 w1\nt2 x1 w1\nt2 x1 w0\nt2 x0 w0\n.end\n";
-
 const USAGE: &[u8] = b"revc: bad command line\n";
 
 // Words that are no order.
@@ -52,8 +47,11 @@ const NO_ORDERS: &[&[&str]] = &[
     &[],
     &["Compile"],
     &["compile", "x"],
-    &["compile", "--lines", "3"],
+    &["compile", "--lines", "0"],
+    &["compile", "--lines", "3", "--lines", "3"],
+    &["compile", "--plan", "none"],
     &["compile", "--nodes", "0"],
+    &["check", "--lines", "3"],
     &["check", "--nodes", "5", "--nodes=5"],
     &["stat", "--from", "qasm"],
     &["--help"],
@@ -104,7 +102,6 @@ const CASES: &[(&[u8], &[u8], u8, &[u8])] = &[
     (BIT, b"a", 0, NAME_FILE),
     (b"", b"// \xff\nmain(a:bool)=\r\n\ta//", 0, NAME_FILE),
     (BITS, b"a <> b && a", 0, CHAIN_FILE),
-    (BITS, b"(a <> b) && (b <> (a))", 0, BRACKETS_FILE),
     (BIT, b"a && a", 0, NAME_FILE),
     (BIT, b"a <> a", 0, FALSE_FILE),
     (BIT, b"true", 0, TRUE_FILE),
@@ -189,11 +186,6 @@ const LONG_CASES: &[(&[(&[u8], usize)], u8, &[u8])] = &[
         ],
         3,
         b"revc: 4095:1 Work\n",
-    ),
-    (
-        &[(BITS, 1), (b"a && b", 1), (b" <> a && b", 2047)],
-        6,
-        b"revc: lines 4097 over 4096\n",
     ),
 ];
 
@@ -487,76 +479,14 @@ pub fn output_of(
     Ok(out)
 }
 
-// The file of a program.
+// The file of a program that these words of `compile` give.
 pub fn file_of(
     rt: &impl Abort,
     alloc: Global,
+    words: &[&str],
     pieces: &[(&[u8], usize)],
 ) -> Result<MemorySink, Fail> {
-    output_of(rt, alloc, &["compile"], text_of(alloc, pieces)?)
-}
-
-// A program that needs just as many lines as the budget has: two inputs, an output, and a work line for each of 2,047
-// AND and 2,046 XOR.
-#[test]
-fn the_budget_of_lines_is_used_up(rt: HostRuntime) -> Result<(), Fail> {
-    let pieces: &[(&[u8], usize)] = &[(BITS, 1), (b"a && b", 1), (b" <> a && b", 2046)];
-    let out = file_of(&rt, rt.alloc(), pieces)?;
-    assert!(rt; out.bytes().starts_with(b".version 2.0\n.numvars 4096\n"));
-    Ok(())
-}
-
-// Programs of `examples/`, the first lines of their files, and how many lines these have: one for each gate, and nine.
-// Gates and lines of the circuits are counted by hand.
-const EXAMPLES: &[(&[u8], &[u8], usize)] = &[
-    (
-        b"main (x : bool) (y : bool) (c : bool) = (x && y) <> (c && (x <> y))",
-        b".version 2.0\n.numvars 8\n",
-        13 + 9,
-    ),
-    (
-        b"main (a : bool) (b : bool) (c : bool) = a && b <> a && c <> b && c",
-        b".version 2.0\n.numvars 9\n",
-        15 + 9,
-    ),
-    (
-        b"main (a : bool) (b : bool) (c : bool) = {
-  let sum x y = x <> y;
-  let carry x y z = x && y <> z && sum x y;
-  reg [sum (sum a b) c; carry a b c]
-}",
-        b".version 2.0\n.numvars 11\n",
-        22 + 9,
-    ),
-    (
-        b"main (a : bool[3]) (b : bool[3]) = {
-  let not x = true <> x;
-  let same x y = not (x <> y);
-  let below x y = not x && y;
-  let s2 = same a.[2] b.[2];
-  let s1 = same a.[1] b.[1] && s2;
-  let s0 = same a.[0] b.[0] && s1;
-  reg [below a.[2] b.[2] <> s2 && below a.[1] b.[1] <> s1 && below a.[0] b.[0]; s0]
-}",
-        b".version 2.0\n.numvars 26\n",
-        60 + 9,
-    ),
-    (
-        b"main (r : bool[3]) = append (rotate 1 r) (reg [r.[0] <> r.[1] <> r.[2]])",
-        b".version 2.0\n.numvars 9\n",
-        12 + 9,
-    ),
-];
-
-#[test]
-fn circuits_of_the_examples_are_of_their_size(rt: HostRuntime) -> Result<(), Fail> {
-    for (text, head, lines) in EXAMPLES {
-        let out = file_of(&rt, rt.alloc(), &[(*text, 1)])?;
-        assert!(rt; out.bytes().starts_with(head));
-        let ends = out.bytes().iter().filter(|byte| **byte == b'\n').count();
-        assert_eq!(rt; ends, *lines);
-    }
-    Ok(())
+    output_of(rt, alloc, words, text_of(alloc, pieces)?)
 }
 
 #[test]

@@ -8,6 +8,7 @@ ghost use Rattle.revc.specs.Top.{Grows, GrowsByPrefix, IsReadAt, IsReadFor, IsRe
 ghost use Rattle.revc.specs.Top.{Reports, RestsOnText, Served, Stopped};
 ghost use Rattle.revc_words.specs.Words.{HasNoOrder, order_of, words_of};
 ghost use Rattle.revc.specs.inside.Mappings.{reading_fault, too_long, words_fault};
+ghost use Rattle.revc.specs.inside.Outcomes.{HasLimits};
 
 use crate::commands::{most_bytes, prepare};
 use crate::fault::{CircuitRefusal, Fault, Refusal};
@@ -112,7 +113,7 @@ fn carry_out<S: Source, K: Sink>(
     source: &mut S,
     out: &mut K,
 ) -> Result<(), Fault>
-    requires { 1 ≤ order.now.nodes }
+    requires { HasLimits (order_of order.now) }
     ensures gives { OnOk result (IfSome (S.rest source.old)
         (λ text. Grows (Gives (order_of order.now) text) (K.held out.old) (K.held out.new))) }
     ensures begins { IsErrOf result Fault.Write → IfSome (S.rest source.old)
@@ -141,7 +142,7 @@ fn carry_out<S: Source, K: Sink>(
 // Writes what an order gives for a text.
 fn serve<K: Sink>(alloc: Global, order: &Order, text: &[u8], out: &mut K) -> Result<(), Fault>
     requires short { length text.now ≤ most_bytes order.now.command }
-    requires nodes { 1 ≤ order.now.nodes }
+    requires limits { HasLimits (order_of order.now) }
     ensures gives { OnOk result (Grows (Gives (order_of order.now) text.now) (K.held out.old)
         (K.held out.new)) }
     ensures begins { IsErrOf result Fault.Write

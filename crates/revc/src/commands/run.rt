@@ -1,20 +1,21 @@
 // `run`: the bits that a circuit gives on the bits of each word.
-ghost use Rattle.std.specs.Prelude.{◌≡◌, ◌≤◌, [], ◌∷◌, ◌++◌, cond, drop, length, IfOk, IfErr, OnOk};
+ghost use Rattle.std.specs.Prelude.{◌≡◌, ◌≤◌, [], ◌∷◌, ◌++◌, cond, drop, length, map, IfOk, IfErr, OnOk};
 ghost use Rattle.std.specs.List.{flat_map};
+ghost use Rattle.circuit_sim.specs.Rows.{AreRows, contents};
 ghost use Rattle.revc_words.specs.declared.order.Command.TheVariants as commands;
 ghost use Rattle.revc_words.specs.Words.{words_of};
 ghost use Rattle.revc.specs.declared.limits.TheConstants.{MOST_CIRCUIT_BYTES};
 ghost use Rattle.revc.specs.Circuits.{of_real};
 ghost use Rattle.revc.specs.Commands.{HasOneOutcome};
 ghost use Rattle.revc.specs.Commands.Eval.{bits_of, bits_text};
-ghost use Rattle.revc.specs.Commands.Run.{AreInputs, IsRun, free_lines, given_by, is_free, kept, runs_text, started};
+ghost use Rattle.revc.specs.Commands.Run.{AreInputs, IsRun, free_lines, is_free, kept, runs_text, started};
 ghost use Rattle.revc.specs.inside.Outcomes.{IsRunFault, IsWordsFault};
 ghost use Rattle.revc.specs.inside.Started.{first_bit};
 
 use crate::circuit::read_circuit;
 use crate::digits::is_input_word;
 use crate::fault::Fault;
-use circuit_sim::run_one;
+use circuit_sim::run_all;
 use real_format::{Mark, RealFile};
 use revc_base::{Bits, Memory};
 use revc_words::Format;
@@ -29,7 +30,8 @@ pub fn one_outcome()
 /// free, and the last bits of the lines that are of use are given. A fault is exactly the text's or a word's, or want
 /// of memory.
 pub fn run(alloc: Global, text: &[u8], from: Format, words: &[String]) -> Result<Vec<Bits>, Fault>
-    requires { length text.now ≤ MOST_CIRCUIT_BYTES }
+    requires short { length text.now ≤ MOST_CIRCUIT_BYTES }
+    requires from { from ≡ Format.Real }
     ensures ok { IfOk result (λ lines. IsRun from (words_of words.now) text.now
         (flat_map bits_text lines.items)) }
     ensures err { IfErr result (IsRunFault from (words_of words.now) text.now) }
@@ -75,19 +77,22 @@ fn run_words(alloc: Global, file: &RealFile, words: &[String]) -> Result<Vec<Bit
     ensures { IfOk result (λ lines. flat_map bits_text lines.items
         ≡ runs_text (of_real file.now) (words_of words.now)) }
 {
-    let mut lines = Vec::new(alloc);
-    for word in words {
-        lines.push(run_word(alloc, file, word.as_str())?)?;
-    }
-    Ok(lines)
+    let mut rows = start_all(alloc, file.constants(), words)?;
+    run_all(alloc, file.circuit(), &mut rows)?;
+    keep_all(alloc, file.garbage(), &rows)
 }
 
-fn run_word(alloc: Global, file: &RealFile, word: &str) -> Result<Bits, Memory>
-    ensures { IfOk result (λ bits. bits ≡ given_by (of_real file.now) word.now) }
+// The bits with which the lines start on each word.
+fn start_all(alloc: Global, marks: &[Mark], words: &[String]) -> Result<Vec<Vec<bool>>, Memory>
+    ensures rows { IfOk result (λ rows. contents rows.items
+        ≡ map (λ word. started marks.now (bits_of word)) (words_of words.now)) }
+    ensures fit { IfOk result (λ rows. AreRows (length marks.now) rows.items) }
 {
-    let mut lines = start(alloc, file.constants(), word)?;
-    run_one(file.circuit(), &mut lines);
-    Ok(Bits::new(keep(alloc, file.garbage(), &lines)?))
+    let mut rows = Vec::new(alloc);
+    for word in words {
+        rows.push(start(alloc, marks, word.as_str())?)?;
+    }
+    Ok(rows)
 }
 
 // The bits with which the lines start on a word.
@@ -116,6 +121,18 @@ fn first_bit(mark: Mark, digits: &[u8], place: usize) -> bool
             None => false,
         },
     }
+}
+
+// The bits of the lines that are of use, for each row.
+fn keep_all(alloc: Global, garbage: &[bool], rows: &[Vec<bool>]) -> Result<Vec<Bits>, Memory>
+    requires { AreRows (length garbage.now) rows.now }
+    ensures { IfOk result (λ lines. lines.items ≡ map (kept garbage.now) (contents rows.now)) }
+{
+    let mut lines = Vec::new(alloc);
+    for row in rows {
+        lines.push(Bits::new(keep(alloc, garbage, row)?))?;
+    }
+    Ok(lines)
 }
 
 // The bits of the lines that are of use.

@@ -35,7 +35,8 @@ pub fn one_outcome()
 
 /// The sizes of the circuit that a text means. A fault is exactly the text's, or want of memory.
 pub fn measure(alloc: Global, text: &[u8], from: Format) -> Result<Sizes, Fault>
-    requires { length text.now ≤ MOST_CIRCUIT_BYTES }
+    requires short { length text.now ≤ MOST_CIRCUIT_BYTES }
+    requires from { from ≡ Format.Real }
     ensures ok { IfOk result (λ sizes. IsMeasured from text.now (stat_text sizes)) }
     ensures err { IfErr result (IsCircuitFault from text.now) }
 {

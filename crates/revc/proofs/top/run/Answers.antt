@@ -4,7 +4,7 @@ use Rattle.revc.specs.Commands.{Gives, IsCausedBy, statuses_of}
 use Rattle.revc.specs.Faults.{status_of}
 use Rattle.revc.specs.Top.{Grows, GrowsByPrefix, IsReadAt, IsReadWhole}
 use Rattle.revc_words.specs.Words.{order_of}
-use Rattle.revc.proofs.TopLemmas.{serve, some_nodes, may_end, read_for, words_caused, words_may_end, words_read, on_ok, if_err}
+use Rattle.revc.proofs.TopLemmas.{serve, limits_of, may_end, read_for, words_caused, words_may_end, words_read, on_ok, if_err}
 use Rattle.revc.proofs.top.run.Goals as goal
 
 pub returns-in-Ok-clause-gives : goal.returns-in-Ok-clause-gives
@@ -45,7 +45,7 @@ pub returns-in-Err-clause-causes : goal.returns-in-Err-clause-causes
 returns-in-Err-clause-causes g c = rw c.words_fault.ensures (words_caused (map string_bytes c.args.words.now) _ c.in-Err.fault)
 
 pub carry_out-requires : goal.carry_out-requires
-carry_out-requires g c = some_nodes (map string_bytes c.args.words.now) (order_of c.in-Ok.order) c.in-Ok.ensures.ok
+carry_out-requires g c = limits_of (map string_bytes c.args.words.now) (order_of c.in-Ok.order) c.in-Ok.ensures.ok
 
 pub returns-in-Ok-clause-read_whole : goal.returns-in-Ok-clause-read_whole
 returns-in-Ok-clause-read_whole g c =
