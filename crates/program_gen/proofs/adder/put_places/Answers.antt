@@ -1,0 +1,11 @@
+use Rattle.std.proofs.Common.{◌-◌, ◌+◌, ◌++◌, ◌∙◌, ap, arith, string_bytes}
+use Rattle.program_gen.specs.Adder.{place}
+use Rattle.program_gen.proofs.PlaceLemmas.{one_more}
+use Rattle.program_gen.proofs.adder.put_places.Goals as goal
+
+pub loop-i-preserved : goal.loop-i-preserved
+loop-i-preserved c = let i = c.loop-i.i in record {
+  within = omega arith;
+  written = c.in_ok-put_place.ensures ∙ ap (λ text. text ++ place i) c.loop-i.invariant.written
+      ∙ one_more place (string_bytes c.args.text.now) 1 (i - 1) (i + 1 - 1) i (omega arith) (omega arith);
+}

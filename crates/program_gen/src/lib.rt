@@ -1,0 +1,9 @@
+//! Programs of any size, made from a number: adders.
+#![tactic(auto)]
+
+mod adder;
+
+pub use adder::{MOST_BITS, program_text};
+
+#[cfg(test)]
+mod tests;
