@@ -1,15 +1,15 @@
 """What each command answers for a text, by the models: docs/COMMANDS.md as functions."""
-from typing import List, NamedTuple
+from typing import List, NamedTuple, Optional
 
+import circuits
 import language
+import qasm
 import real
-from circuits import file_of
 from claims import TooWide, settled
 from graphs import Graph
 from language import Run, program_of
+from plans import Budget, OverGates, OverLines, Settled, choose
 from words import Order, order_of
-
-MOST_LINES = 4_096
 
 
 class Answer(NamedTuple):
@@ -41,27 +41,47 @@ def settled_run(order: Order, text: bytes) -> Run:
     run = run_on_zeros(text)
     for number, (claim, (size, broken)) in enumerate(zip(run.claims, settled(run)), 1):
         named = "claim %d at %d:%d" % (number, *claim.place)
-        if size > order.nodes:
-            raise Fault(5, "%s passes %d nodes" % (named, order.nodes))
+        if size > order.values["nodes"]:
+            raise Fault(5, "%s passes %d nodes" % (named, order.values["nodes"]))
         if broken is not None:
             raise Fault(4, "%s fails on %s" % (named, broken))
     return run
 
 
+def run_of(text: bytes) -> Optional[Run]:
+    """The run of a text's program on zeros, where the text is well formed."""
+    try:
+        return run_on_zeros(text)
+    except language.Refused:
+        return None
+
+
 def sizes_of(text: bytes) -> List[int]:
     """How many functions the claims up to each one rest on, where the text is well formed."""
+    run = run_of(text)
     try:
-        return [size for size, _ in settled(run_on_zeros(text))]
-    except (language.Refused, TooWide):
+        return [size for size, _ in settled(run)] if run else []
+    except TooWide:
         return []
 
 
+WRITERS = {"real": circuits.file_of, "qasm": qasm.file_of}
+
+
+def budget_of(order: Order) -> Budget:
+    return Budget(*(order.values[name] for name in Budget._fields))
+
+
 def compile_text(order: Order, text: bytes) -> bytes:
-    run = settled_run(order, text)
-    graph, ends = Graph(run), len(run.bits) + len(run.outputs)
-    if ends + len(graph.nodes) > MOST_LINES:
-        raise Fault(6, "lines %d over %d" % (ends if ends > MOST_LINES else MOST_LINES + 1, MOST_LINES))
-    return file_of(len(run.bits), graph)
+    run, budget = settled_run(order, text), budget_of(order)
+    inputs = len(run.bits)
+    try:
+        plan = choose(Settled(inputs, Graph(run)), budget, order.values["plan"])
+    except OverLines as over:
+        raise Fault(6, "lines %d over %d" % (over.need, budget.lines)) from None
+    except OverGates:
+        raise Fault(7, "more than %d gates" % budget.gates) from None
+    return WRITERS[order.values["format"]](inputs, len(run.outputs), plan, budget.borrow)
 
 
 def check_text(order: Order, text: bytes) -> bytes:

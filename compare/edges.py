@@ -15,6 +15,7 @@ NO_ORDERS = [[], ["Compile"], ["compile", "x"], ["compile", "-"], ["eval"], ["ev
 COUNTS = (NO_GATES.replace(", ", "\n") + "\n").encode()
 LARGE = LEAST.replace(".end", "t1 a\n" * 200_000 + ".end").encode()
 MOST_GATES = 4_000_000
+MOST_WRITES = 262_144
 MOST_CIRCUIT = 134_217_728
 
 
@@ -77,6 +78,13 @@ def edges(program: str) -> Iterator[Tuple[str, bool]]:
 
     text = AND + b" <> a && b" * 2_000 + b" <> false" * 100_000
     yield "a text of the greatest size compiles in time", run(["compile"], text.ljust(most))[0] == 0
+
+    chain = b"main (a : bool) (b : bool) = " + b"<>".join([b"a", b"b"] * (MOST_WRITES // 2) + [b"a"])
+    done = run(["compile", "--gates", str(MOST_GATES)], chain)
+    planned = done[0] == 0 and b".numvars 5\n" in done[1] and done[1].count(b"\nt") == 6 * MOST_WRITES - 1
+    yield "a chain of as many nodes as there may be is planned in time", planned
+    done = run(["compile", "--plan", "pebble", "--lines", "300", "--gates", str(MOST_GATES)], chain)
+    yield "and refused in time by all block sizes", is_fault(done, 7, b"more than 4000000 gates")
 
     text = b"main (a : bool) = {\n" + b"clean (a <> a);\n" * 4_096 + b"a }"
     larges = [(["compile"], text), (["check"], text), (["eval", "1"], text), (["stat"], LARGE), (["run", "1"], LARGE)]

@@ -1,8 +1,7 @@
 """A model of the graph of a program: its writes folded to constants, inputs and nodes that an output rests on.
 
 It is written from docs/LANGUAGE.md, and shares nothing with the compiler. A bit of the run is named as in `language`:
-`x3` is input 3, and `w5` is write 5. It becomes a constant, 0 or 1, or a base: an input, `x3`, or a node, named by the
-work line that it will have, as `w2` is node 2.
+`x3` is input 3, and `w5` is write 5. It becomes a constant, 0 or 1, or a base: an input, `x3`, or a node, `w2`.
 """
 from dataclasses import dataclass
 from typing import Dict, List, Tuple, Union

@@ -2,10 +2,21 @@
 from random import Random
 from typing import List
 
-NAMES = ["nodes", "from", "node", "nodes1", "to", "lines", "gates", "format", "plan", "borrow", "help", "", "Nodes"]
+NAMES = ["nodes", "from", "node", "nodes1", "to", "lines", "gates", "format", "plan", "plans", "borrow", "help", "",
+         "Nodes"]
 NUMBERS = ["1", "2", "3", "4", "5", "0", "100000", "1000000", "1000001", "9999999", "0000001", "0000005", "00000005",
            "+5", "-5", "5 ", "0x5", "", "real", "5=5", "\u0665", "1e3", "--", "-"]
 FORMATS = ["real", "real", "real", "qasm", "Real", "real ", "", "5", "=real", "--", "-"]
+VALUES = {  # of each option, the first three of which are taken
+    "nodes": NUMBERS,
+    "format": ["real", "qasm", "qasm"] + FORMATS,
+    "from": FORMATS,
+    "plan": ["auto", "eager", "pebble", "x", "Auto", "eager ", "", "=eager", "plain", "real", "auto,eager", "--", "-"],
+    "lines": ["4", "5", "16384", "16385", "0016384"] + NUMBERS,
+    "gates": ["3", "4", "4000000", "4000001", "04000000"] + NUMBERS,
+    "borrow": ["0", "1", "64", "65", "0000064"] + NUMBERS,
+}
+OPTIONS = {"compile": ["nodes", "plan", "plan", "lines", "gates", "borrow", "format"], "check": ["nodes"]}
 POSITIONAL = ["11", "10", "01", "00", "1", "0", "", "-", "x", "2", "110", "real", "compile", "\u00e9", "1\n"]
 COMMANDS = ["compile", "check", "eval", "stat", "run"]
 OTHERS = ["Compile", "", "-", "--", "convert", "gen", "bench", "verify", "--nodes", "check ", "--help", "help"]
@@ -24,7 +35,8 @@ class Orders:
         if self.chance(0.06):
             return [self.random.choice(OTHERS) for _ in range(self.random.choice([0, 1, 1, 2]))]
         command = self.random.choice(COMMANDS)
-        pieces = [self.option(command) for _ in range(self.random.choice([0, 0, 1, 1, 1, 2]))]
+        most = 5 if command == "compile" else 2
+        pieces = [self.option(command) for _ in range(self.random.choice([0, 0, 1, 1, 1, 2, most]))]
         count = {"eval": 1, "run": self.random.randint(1, 3)}.get(command, 0)
         if self.chance(0.1):
             count = self.random.randint(0, 2)
@@ -38,10 +50,10 @@ class Orders:
 
     def option(self, command: str) -> List[str]:
         """An option that the command has, as a rule, with a value that it takes, as a rule."""
-        name = "nodes" if command in ("compile", "check") else "from"
+        name = self.random.choice(OPTIONS.get(command, ["from"]))
         if self.chance(0.06):
             name = self.random.choice(NAMES)
-        values = FORMATS if name == "from" else NUMBERS
+        values = VALUES.get(name, NUMBERS)
         value = self.random.choice(values[:3] if self.chance(0.7) else values)
         if self.chance(0.03):
             return ["--" + name]

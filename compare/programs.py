@@ -3,6 +3,7 @@ from random import Random
 from typing import List, NamedTuple, Tuple
 
 from claimed import claimed
+from planned import planned
 
 BIT, REGISTER, UNIT = "bit", "register", "unit"
 
@@ -187,8 +188,7 @@ class Programs:
         return head([("a", None)]) + body, 1
 
     def long(self) -> Tuple[str, int]:
-        """A chain with about as many inputs, outputs and nodes as a circuit may have lines; some operands fold, and
-        some nodes no output rests on."""
+        """A chain with about 4,096 inputs, outputs and nodes; some operands fold, and some nodes no output rests on."""
         inputs, outputs = self.random.randint(2, 1024), self.random.randint(1, 1024)
         nodes = 4096 + self.random.randint(-2, 2) - inputs - outputs
         pairs = [[form % name for form in FOLDED] for name in ("r.[0]", "r.[%d]" % (inputs - 1))]
@@ -219,6 +219,10 @@ class Programs:
     def claimed(self) -> Tuple[str, int]:
         """Claims, many of which hold on all inputs."""
         return claimed(self.random)
+
+    def planned(self) -> Tuple[str, int]:
+        """Values whose plans differ, without claims."""
+        return planned(self.random)
 
     def typed_head(self) -> Tuple[str, int, Scope]:
         parameters = self.random.choice(PARAMETERS)

@@ -6,8 +6,8 @@ BIT = "main (a : bool) = "
 BITS = "main (a : bool) (b : bool) = "
 THREE = "main (r : bool[3]) = "
 NOT = "{ let n = true <> a; %s }"
-PRODUCTS = " <> ".join(["a && b"] * 2_047)  # 4,093 nodes
 LONG = ["let s = append r r;", "let t = append s s;"] + ["rotate 0 t;"] * 5_000 + ["r.[0]", "}"]
+MOST_SHOWN = 100  # gates
 AND = "x0 x1 y0 w0: t3 x0 x1 w0, t2 w0 y0, t3 x0 x1 w0"
 UNCLEANED = "{ let t = a && b; clean t; a }"
 CLEANED = "{ let t = a <> b; t <- t <> (a <> b); clean t; a && b }"
@@ -19,8 +19,8 @@ ALIASED = BITS + "{ let r = reg [a; b]; r.[0] <- b; a }"
 COMPILED = [
     (BITS + "a && b", AND),
     (BITS + "a <> b", "x0 x1 y0 w0: t2 x0 w0, t2 x1 w0, t2 w0 y0, t2 x1 w0, t2 x0 w0"),
-    (BITS + "a <> b && a",
-     "x0 x1 y0 w0 w1: t3 x1 x0 w0, t2 x0 w1, t2 w0 w1, t2 w1 y0, t2 w0 w1, t2 x0 w1, t3 x1 x0 w0"),
+    (BITS + "a <> b && a", "x0 x1 y0 w0 w1: t3 x1 x0 w0, t2 x0 w1, t2 w0 w1, t3 x1 x0 w0, t2 w1 y0, t3 x1 x0 w0, "
+     "t2 w0 w1, t2 x0 w1, t3 x1 x0 w0"),
     (BIT + "a", "x0 y0: t2 x0 y0"),
     (BIT + "(" * 99 + "a" + ")" * 99, "x0 y0: t2 x0 y0"),
     (BITS + "{ let r = reg [a; b]; r.[0] <- b; a }", "x0 x1 y0: t2 x1 y0"),
@@ -55,10 +55,10 @@ COMPILED = [
     (BITS + "{ let t = a <> b; let u = true <> a; let v = t && u; u }",
      "x0 x1 y0 w0: t2 x0 w0, t1 w0, t2 w0 y0, t1 w0, t2 x0 w0"),
     (BITS + "{ let t = a <> b; let u = t && a; let v = true <> b; let w = u <> t; v && a }",
-     "x0 x1 y0 w0 w1: t2 x1 w0, t1 w0, t3 w0 x0 w1, t2 w1 y0, t3 w0 x0 w1, t1 w0, t2 x1 w0"),
+     "x0 x1 y0 w0 w1: t2 x1 w0, t1 w0, t3 w0 x0 w1, t2 x1 w0, t1 w0, t2 w1 y0, t1 w0, t2 x1 w0, t3 w0 x0 w1, t1 w0, "
+     "t2 x1 w0"),
     (BITS + CLEANED, AND),
     # Faults
-    (BITS + PRODUCTS + " <> a && b", "revc: lines 4097 over 4096"),
     (BIT + "{ assert a; a }", "revc: claim 1 at 1:21 fails on 0"),
     (BITS + UNCLEANED, "revc: claim 1 at 1:48 fails on 11"),
     (BIT + "{ let t = false; clean t; t }", "revc: 1:19 Gone"),
@@ -74,6 +74,71 @@ COMPILED = [
     (BIT + "(" * 100, "revc: 1:118 Nesting"),
     (BIT + "fun x -> x", "revc: 1:19 NoOutput"),
     (" " * 1_048_577, "revc: source over 1048576 bytes"),
+]
+
+# ---- Plans and budgets
+
+ROW_OF_65 = "main (a : bool[65]) = " + " && ".join("a.[%d]" % place for place in range(65))
+SUMS = " && ".join("(a.[%d] <> b.[%d])" % (place, place) for place in range(6))
+OF_65_MONOMIALS = "main (a : bool[6]) (b : bool[6]) (c : bool) (d : bool) = { let t = %s <> c; t && d }" % SUMS
+FOUR = "main (a : bool) (b : bool) (c : bool) (d : bool) = "
+PLAIN = "compile --plan pebble"
+
+PLANNED = [
+    # The first two of three products have their last use before the end: the second is cleaned by its one monomial
+    ("compile", FOUR + "a && b && c && d",
+     "x0 x1 x2 x3 y0 w0 w1: t3 x0 x1 w0, t3 w0 x2 w1, t3 x0 x1 w0, t3 w1 x3 w0, "
+     "t3 x2 w0 w1, t3 x0 x1 w0, t3 x2 w0 w1, t3 x0 x1 w0, t2 w0 y0, "
+     "t3 x2 w0 w1, t3 x0 x1 w0, t3 x2 w0 w1, t3 x0 x1 w0, "
+     "t3 w1 x3 w0, t3 x0 x1 w0, t3 w0 x2 w1, t3 x0 x1 w0"),
+    (PLAIN, FOUR + "a && b && c && d", "x0 x1 x2 x3 y0 w0 w1 w2: t3 x0 x1 w0, t3 w0 x2 w1, t3 w1 x3 w2, t2 w2 y0, "
+     "t3 w1 x3 w2, t3 w0 x2 w1, t3 x0 x1 w0"),
+    # In blocks of two nodes the third one stands alone, and the first is only there while the second changes
+    (PLAIN + " --lines 7", FOUR + "a && b && c && d",
+     "x0 x1 x2 x3 y0 w0 w1: t3 x0 x1 w0, t3 w0 x2 w1, t3 x0 x1 w0, t3 w1 x3 w0, t2 w0 y0, "
+     "t3 w1 x3 w0, t3 x0 x1 w0, t3 w0 x2 w1, t3 x0 x1 w0"),
+    # The two monomials a and ab are one cube with a negative literal
+    ("compile", FOUR + "(a <> a && b) && c && d",
+     "x0 x1 x2 x3 y0 w0 w1: t3 x0 x1 w0, t2 x0 w1, t2 w0 w1, t3 x0 x1 w0, t3 w1 x2 w0, "
+     "t1 x1, t3 x0 x1 w1, t1 x1, t3 w0 x3 w1, "
+     "t1 x1, t3 x2 w1 w0, t3 x0 x1 w1, t3 x2 w1 w0, t3 x0 x1 w1, t1 x1, t2 w1 y0, "
+     "t1 x1, t3 x2 w1 w0, t3 x0 x1 w1, t3 x2 w1 w0, t3 x0 x1 w1, t1 x1, "
+     "t3 w0 x3 w1, t1 x1, t3 x0 x1 w1, t1 x1, t3 w1 x2 w0, t3 x0 x1 w0, t2 w0 w1, t2 x0 w1, t3 x0 x1 w0"),
+    (PLAIN, BITS + "a <> b && a",
+     "x0 x1 y0 w0 w1: t3 x1 x0 w0, t2 x0 w1, t2 w0 w1, t2 w1 y0, t2 w0 w1, t2 x0 w1, t3 x1 x0 w0"),
+    # One line a write, or one for each of the six halvings and one more at its end
+    (PLAIN, ROW_OF_65, "lines 130, gates 129, x 0, cx 1, ccx 128"),
+    (PLAIN + " --lines 73", ROW_OF_65, "lines 73, gates 731, x 0, cx 1, ccx 730"),
+    (PLAIN + " --lines 72", ROW_OF_65, "revc: lines 73 over 72"),
+    ("compile --plan eager --lines 68", ROW_OF_65, "lines 68, gates 26675, x 0, cx 1, ccx 26674"),
+    ("compile --plan eager --lines 67", ROW_OF_65, "revc: lines 68 over 67"),
+    # A value of 65 monomials stays on its line
+    ("compile --plan eager", OF_65_MONOMIALS, "lines 18, gates 3209, x 0, cx 53, ccx 3156"),
+    ("compile", BITS + " <> ".join(["a && b"] * 2_047), "lines 6, gates 18417, x 0, cx 8185, ccx 10232"),
+    ("compile", BITS + " <> ".join(["a && b"] * 2_048), "lines 6, gates 18427, x 0, cx 8189, ccx 10238"),
+    (PLAIN, BITS + " <> ".join(["a && b"] * 2_047), "lines 4096, gates 12279, x 0, cx 8185, ccx 4094"),
+    # Budgets: what every plan needs comes first, and lines before gates
+    ("compile --lines 3", BITS + "a && b", "revc: lines 4 over 3"),
+    ("compile --lines 2", BITS + "a && b", "revc: lines 3 over 2"),
+    ("compile --lines 1", BITS + "a && b", "revc: lines 3 over 1"),
+    ("compile --gates 2", BITS + "a && b", "revc: more than 2 gates"),
+    ("compile --gates 1 --lines 3", BITS + "a && b", "revc: lines 4 over 3"),
+    ("compile --lines 4 --gates 3", BITS + "a && b", AND),
+    ("compile --gates 1", BIT + "a", "x0 y0: t2 x0 y0"),
+    ("compile --lines 2", BIT + "false", "x0 y0: "),
+    ("compile --lines 1", BIT + "false", "revc: lines 2 over 1"),
+    # Borrowed lines
+    ("compile --borrow 1", BITS + "a && b", AND.replace("w0:", "w0 b0:")),
+    ("compile --borrow 2 --lines 4", BITS + "a && b", "revc: lines 5 over 4"),
+    ("compile --borrow 2 --lines 5", BITS + "a && b", "revc: lines 6 over 5"),
+    ("compile --borrow 64 --lines 16384", BIT + "a",
+     "x0 y0 " + " ".join("b%d" % line for line in range(64)) + ": t2 x0 y0"),
+    # The idle lines of a wide gate are taken from the last one on, and so are those that are borrowed
+    ("compile --borrow 1", FOUR + "a && b && c && d",
+     "x0 x1 x2 x3 y0 w0 w1 b0: t3 x0 x1 w0, t3 w0 x2 w1, t3 x0 x1 w0, t3 w1 x3 w0, "
+     "t3 x2 b0 w1, t3 x0 x1 b0, t3 x2 b0 w1, t3 x0 x1 b0, t2 w0 y0, "
+     "t3 x2 b0 w1, t3 x0 x1 b0, t3 x2 b0 w1, t3 x0 x1 b0, "
+     "t3 w1 x3 w0, t3 x0 x1 w0, t3 w0 x2 w1, t3 x0 x1 w0"),
 ]
 
 # ---- Claims
@@ -201,6 +266,31 @@ WORDS = [(words, BITS + "a && b", worked) for words, worked in [
     ("--help", BAD),
     ("check --help", BAD),
     ("check", "claims 0"),
+    ("compile --plan auto --lines=4 --gates 0000003 --borrow 0 --nodes 1", AND),
+    ("compile --lines=4", AND),
+    ("compile --lines 0", BAD),
+    ("compile --lines 16385", BAD),
+    ("compile --lines 3 --lines 3", BAD),
+    ("compile --gates 0", BAD),
+    ("compile --gates 4000001", BAD),
+    ("compile --gates 4000000 --lines 16384", AND),
+    ("compile --gates 04000000", BAD),
+    ("compile --borrow 65", BAD),
+    ("compile --borrow -1", BAD),
+    ("compile --borrow=", BAD),
+    ("compile --plan x", BAD),
+    ("compile --plan=x", BAD),
+    ("compile --plan Eager", BAD),
+    ("compile --plan", BAD),
+    ("compile --plan eager --plan=eager", BAD),
+    ("compile --plans eager", BAD),
+    ("compile --plan= eager", BAD),
+    ("compile eager", BAD),
+    ("check --plan eager", BAD),
+    ("check --lines 4", BAD),
+    ("eval --gates 4 11", BAD),
+    ("stat --borrow 1", BAD),
+    ("run --lines 4 1", BAD),
     ("eval", BAD),
     ("eval 1 1", BAD),
     ("eval -1", BAD),
@@ -224,15 +314,20 @@ WORDS = [(words, BITS + "a && b", worked) for words, worked in [
 ]]
 
 COMPILE = [("compile", text, worked) for text, worked in COMPILED]
-WORKED = COMPILE + CHECKED + EVALUATED + FILES + WORDS
+WORKED = COMPILE + PLANNED + CHECKED + EVALUATED + FILES + WORDS
 
 
 def shown(answer: Answer) -> str:
-    """The lines and gates of the file that was written, the lines that were, or the line on standard error."""
+    """The lines and gates of the file that was written, or the counts of a long one; the lines that were written; or
+    the line on standard error."""
     if answer.status != 0:
         return answer.err.decode().rstrip("\n")
     lines = answer.out.decode().splitlines()
     if lines[0] != ".version 2.0":
         return ", ".join(lines)
-    names = lines[2].partition(" ")[2]
-    return "%s: %s" % (names, ", ".join(lines[lines.index(".begin") + 1 : -1]))
+    names, gates = lines[2].partition(" ")[2], lines[lines.index(".begin") + 1 : -1]
+    if len(gates) <= MOST_SHOWN:
+        return "%s: %s" % (names, ", ".join(gates))
+    kinds = [gate.partition(" ")[0] for gate in gates]
+    counts = len(names.split(" ")), len(gates), kinds.count("t1"), kinds.count("t2"), kinds.count("t3")
+    return "lines %d, gates %d, x %d, cx %d, ccx %d" % counts

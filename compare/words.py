@@ -1,38 +1,56 @@
 """A model of the words of the command line: the order that they give."""
-from dataclasses import dataclass, field
-from typing import List, Optional
+from dataclasses import dataclass
+from typing import Callable, Dict, List, NamedTuple, Optional
 
 DIGITS = set("0123456789")
 
 
 @dataclass
 class Order:
+    """A command, the values of its options, and its positional words."""
+
     command: str
-    nodes: int = 100_000
-    bits: List[str] = field(default_factory=list)
+    values: Dict[str, object]
+    bits: List[str]
 
 
-def number_of(word: str, least: int, most: int) -> Optional[int]:
-    if not 1 <= len(word) <= 7 or not set(word) <= DIGITS:
-        return None
-    return int(word) if least <= int(word) <= most else None
+class Option(NamedTuple):
+    """What its value is where it is not given, and the value of a word, which is None where it has none."""
+
+    default: object
+    read: Callable[[str], object]
 
 
-def nodes_of(word: str) -> Optional[int]:
-    return number_of(word, 1, 1_000_000)
+def number(default: int, least: int, most: int) -> Option:
+    def read(word: str) -> Optional[int]:
+        if not 1 <= len(word) <= 7 or not set(word) <= DIGITS:
+            return None
+        return int(word) if least <= int(word) <= most else None
+
+    return Option(default, read)
 
 
-def format_of(word: str) -> Optional[str]:
-    return word if word == "real" else None
+def choice(default: str, *words: str) -> Option:
+    return Option(default, lambda word: word if word in (default, *words) else None)
 
 
-# Of each command its options, each with the reader of its values, and the least and most positional words
+NODES = {"nodes": number(100_000, 1, 1_000_000)}
+PLANNED = {
+    "format": choice("real", "qasm"),
+    "plan": choice("auto", "eager", "pebble"),
+    "lines": number(4_096, 1, 16_384),
+    "gates": number(1_000_000, 1, 4_000_000),
+    "borrow": number(0, 0, 64),
+}
+FROM = {"from": choice("real")}
+
+# Of each command its options, and the least and most positional words
 COMMANDS = {
-    "compile": ({"nodes": nodes_of}, 0, 0),
-    "check": ({"nodes": nodes_of}, 0, 0),
+    "compile": ({**NODES, **PLANNED}, 0, 0),
+    "check": (NODES, 0, 0),
     "eval": ({}, 1, 1),
-    "stat": ({"from": format_of}, 0, 0),
-    "run": ({"from": format_of}, 1, None),
+    "stat": (FROM, 0, 0),
+    "run": (FROM, 1, None),
 }
 
 
@@ -57,9 +75,9 @@ def order_of(words: List[str]) -> Optional[Order]:
             if at == len(words) or words[at] == "--":
                 return None
             value, at = words[at], at + 1
-        given[name] = options[name](value)
+        given[name] = options[name].read(value)
         if given[name] is None:
             return None
     if len(positional) < least or (most is not None and len(positional) > most):
         return None
-    return Order(words[0], given.get("nodes", 100_000), positional)
+    return Order(words[0], {name: given.get(name, option.default) for name, option in options.items()}, positional)

@@ -1,0 +1,67 @@
+"""What is promised of an answer beside the one that the models give, whatever circuit it is: docs/COMMANDS.md."""
+import itertools
+from random import Random
+from typing import Iterator, List
+
+import qasm
+import real
+from circuits import is_clean
+from commands import Answer, answer_of, budget_of, run_on_zeros
+from language import Program, Run, program_of
+from plans import Budget, Numbers
+from words import Order, order_of
+
+READERS = {"real": real.circuit_of, "qasm": qasm.circuit_of}
+MOST_TRIED = 7  # bits of inputs and borrowed lines that are tried on all their values
+TRIED = 4
+
+
+def is_sound(words: List[str], text: bytes, answer: Answer) -> bool:
+    """A compiled file is clean and within its budgets, a refused budget is too small, and a printed input breaks the
+    claim."""
+    order = order_of(words)
+    if order is None or order.command not in ("compile", "check"):
+        return True
+    if answer.status == 4:
+        bits = answer.err.split()[-1].decode()
+        return answer_of(["eval", bits], text) == answer
+    if order.command == "check":
+        return True
+    if answer.status in (6, 7):
+        return may_refuse(order, run_on_zeros(text), answer)
+    return answer.status != 0 or is_fitting(order, program_of(text), answer.out)
+
+
+def is_fitting(order: Order, program: Program, file: bytes) -> bool:
+    budget, circuit = budget_of(order), READERS[order.values["format"]](file)
+    fits = len(circuit.names) <= budget.lines and len(circuit.gates) <= budget.gates
+    return fits and is_clean(circuit, program, budget.borrow, words_of(program.inputs + budget.borrow))
+
+
+def words_of(bits: int) -> Iterator[List[int]]:
+    """All words of few bits, or some."""
+    if bits <= MOST_TRIED:
+        return itertools.product((0, 1), repeat=bits)
+    random = Random(bits)
+    return ([random.randrange(2) for _ in range(bits)] for _ in range(TRIED))
+
+
+def may_refuse(order: Order, run: Run, answer: Answer) -> bool:
+    """Whether lines or gates may be refused: no row of the plan is within both budgets, and this one is below the
+    number that is its cause."""
+    budget, plan, numbers = budget_of(order), order.values["plan"], Numbers(run)
+    if any(row.fits(budget) for row in numbers.rows(plan)):
+        return False
+    cause = numbers.eager if plan == "eager" else numbers.fine
+    if answer.status == 7:
+        return budget.gates < cause.gates
+    return needed(answer) == need(run, budget) and budget.lines < cause.lines + budget.borrow
+
+
+def needed(answer: Answer) -> int:
+    return int(answer.err.split()[2])
+
+
+def need(run: Run, budget: Budget) -> int:
+    """The least number of lines that may be enough, as far as it is told."""
+    return max(len(run.bits) + len(run.outputs) + budget.borrow, budget.lines + 1)

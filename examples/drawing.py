@@ -1,0 +1,140 @@
+"""A circuit of a `.real` file as a picture: SVG, with the lines, their names, and the gates in columns."""
+from itertools import takewhile
+from typing import Dict, Iterator, List, NamedTuple, Tuple
+from xml.sax.saxutils import escape
+
+STEP, PITCH = 20, 24  # from column to column, and from line to line
+DOT, RING = 4, 7  # how great a control and a target are
+LETTER = 8  # how wide a letter is
+MARGIN = 12
+STYLE = ("line, circle { stroke: #1b1b1b; stroke-width: 1.4 } .open, .target { fill: #ffffff }"
+         " text { font: 13px monospace; fill: #1b1b1b }")
+
+
+class Gate(NamedTuple):
+    """Its controls, each with whether it has to be 1, and the lines that it flips (one) or swaps (two)."""
+
+    controls: List[Tuple[int, bool]]
+    targets: List[int]
+
+    def span(self) -> Tuple[int, int]:
+        lines = [line for line, _ in self.controls] + self.targets
+        return min(lines), max(lines)
+
+
+class Circuit(NamedTuple):
+    names: List[str]
+    marks: str  # of each line: the bit it starts with, or `-`
+    gates: List[Gate]
+
+
+# ---- Reading
+
+
+def words_of(text: str) -> Iterator[List[str]]:
+    """The words of each line that has some; a word that begins with `#` and all behind it are a comment."""
+    for line in text.split("\n"):
+        words = list(takewhile(lambda word: not word.startswith("#"), line.split()))
+        if words:
+            yield words
+
+
+def gate_of(words: List[str], lines_by_name: Dict[str, int]) -> Gate:
+    lines = [(lines_by_name[word.lstrip("-")], not word.startswith("-")) for word in words[1:]]
+    targets = 2 if words[0].startswith("f") else 1
+    return Gate(lines[:-targets], [line for line, _ in lines[-targets:]])
+
+
+def circuit_of(text: str) -> Circuit:
+    names, marks, gates = {}, "", []
+    for words in words_of(text):
+        if words[0] == ".variables":
+            names = {name: line for line, name in enumerate(words[1:])}
+        elif words[0] == ".constants":
+            marks = words[1]
+        elif not words[0].startswith("."):
+            gates.append(gate_of(words, names))
+    return Circuit(list(names), marks or "-" * len(names), gates)
+
+
+# ---- Drawing
+
+
+def columns_of(gates: List[Gate], lines: int) -> List[int]:
+    """The column of each gate: the first behind all gates before it that it overlaps."""
+    free, columns = [0] * lines, []
+    for first, last in (gate.span() for gate in gates):
+        column = max(free[first:last + 1])
+        free[first:last + 1] = [column + 1] * (last + 1 - first)
+        columns.append(column)
+    return columns
+
+
+class Drawing:
+    """The parts of a picture, from the names at the left to the names at the right."""
+
+    def __init__(self, circuit: Circuit):
+        self.circuit = circuit
+        self.columns = columns_of(circuit.gates, len(circuit.names))
+        self.left = MARGIN + LETTER * (max(map(len, circuit.names)) + 3)
+        self.right = self.x(max(self.columns, default=-1) + 1)
+
+    def x(self, column: int) -> int:
+        return self.left + STEP * (column + 1)
+
+    def y(self, line: int) -> int:
+        return MARGIN + PITCH // 2 + PITCH * line
+
+    def wires(self) -> Iterator[str]:
+        """The lines, with their names, and with the bit of those that start with one."""
+        for line, (name, mark) in enumerate(zip(self.circuit.names, self.circuit.marks)):
+            y, label = self.y(line), name if mark == "-" else "%s %s" % (name, mark)
+            yield segment(self.left, y, self.right, y)
+            yield text(self.left - 6, y, label, "end")
+            yield text(self.right + 6, y, name, "start")
+
+    def gate(self, gate: Gate, column: int) -> Iterator[str]:
+        x, (first, last) = self.x(column), gate.span()
+        if first != last:
+            yield segment(x, self.y(first), x, self.y(last))
+        for line, is_one in gate.controls:
+            yield circle(x, self.y(line), DOT, "dot" if is_one else "open")
+        for line in gate.targets:
+            yield from target(x, self.y(line)) if len(gate.targets) == 1 else cross(x, self.y(line))
+
+    def parts(self) -> Iterator[str]:
+        yield from self.wires()
+        for gate, column in zip(self.circuit.gates, self.columns):
+            yield from self.gate(gate, column)
+
+    def svg(self) -> str:
+        names = self.circuit.names
+        width = self.right + LETTER * (max(map(len, names)) + 1) + MARGIN
+        height = 2 * MARGIN + PITCH * len(names)
+        head = '<svg xmlns="http://www.w3.org/2000/svg" width="%d" height="%d" viewBox="0 0 %d %d">'
+        front = [head % (width, height, width, height), "<style>%s</style>" % STYLE,
+                 '<rect width="%d" height="%d" fill="#ffffff"/>' % (width, height)]
+        return "\n".join(front + list(self.parts()) + ["</svg>", ""])
+
+
+def segment(x1: int, y1: int, x2: int, y2: int) -> str:
+    return '<line x1="%d" y1="%d" x2="%d" y2="%d"/>' % (x1, y1, x2, y2)
+
+
+def circle(x: int, y: int, radius: int, kind: str) -> str:
+    return '<circle class="%s" cx="%d" cy="%d" r="%d"/>' % (kind, x, y, radius)
+
+
+def text(x: int, y: int, words: str, anchor: str) -> str:
+    return '<text x="%d" y="%d" text-anchor="%s">%s</text>' % (x, y + 4, anchor, escape(words))
+
+
+def target(x: int, y: int) -> Iterator[str]:
+    yield circle(x, y, RING, "target")
+    yield segment(x - RING, y, x + RING, y)
+    yield segment(x, y - RING, x, y + RING)
+
+
+def cross(x: int, y: int) -> Iterator[str]:
+    yield segment(x - DOT, y - DOT, x + DOT, y + DOT)
+    yield segment(x - DOT, y + DOT, x + DOT, y - DOT)
