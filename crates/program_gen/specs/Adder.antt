@@ -9,7 +9,8 @@ line (piece ∷ pieces) = piece ++ line pieces
 
 -- the parameters: the two numbers
 unfoldable pub parameters : ℕ → List ℕ
-parameters n = line (codes "main (a : bool[" ∷ decimal n ∷ codes "]) (b : bool[" ∷ decimal n ∷ codes "]) = {" ∷ [])
+parameters n = line (codes "main (a : bool[" ∷ decimal n ∷ codes "]) (b : bool[" ∷ decimal n
+    ∷ codes "]) = {" ∷ [])
 
 -- the carry out of a place: both bits are set, or they differ and a carry comes in
 unfoldable pub carry_function : List ℕ
@@ -17,17 +18,18 @@ carry_function = line (codes "let carry x y c = (x && y) <> (c && (x <> y));" �
 
 -- the sum and the carry out of place 0, into which no carry comes
 unfoldable pub first_place : List ℕ
-first_place = line (codes "let s0 = a.[0] <> b.[0];" ∷ []) ++ line (codes "let c1 = a.[0] && b.[0];" ∷ [])
+first_place =
+    line (codes "let s0 = a.[0] <> b.[0];" ∷ []) ++ line (codes "let c1 = a.[0] && b.[0];" ∷ [])
 
 -- the sum of a place above 0
 unfoldable pub sum_line : ℕ → List ℕ
-sum_line i = line (codes "let s" ∷ decimal i ∷ codes " = a.[" ∷ decimal i ∷ codes "] <> b.[" ∷ decimal i
-    ∷ codes "] <> c" ∷ decimal i ∷ codes ";" ∷ [])
+sum_line i = line (codes "let s" ∷ decimal i ∷ codes " = a.[" ∷ decimal i ∷ codes "] <> b.["
+    ∷ decimal i ∷ codes "] <> c" ∷ decimal i ∷ codes ";" ∷ [])
 
 -- the carry out of a place above 0
 unfoldable pub carry_line : ℕ → List ℕ
-carry_line i = line (codes "let c" ∷ decimal (i + 1) ∷ codes " = carry a.[" ∷ decimal i ∷ codes "] b.[" ∷ decimal i
-    ∷ codes "] c" ∷ decimal i ∷ codes ";" ∷ [])
+carry_line i = line (codes "let c" ∷ decimal (i + 1) ∷ codes " = carry a.[" ∷ decimal i
+    ∷ codes "] b.[" ∷ decimal i ∷ codes "] c" ∷ decimal i ∷ codes ";" ∷ [])
 
 -- a place above 0
 abbrev pub place : ℕ → List ℕ
@@ -39,7 +41,8 @@ sum_output i = codes "s" ++ (decimal i ++ codes "; ")
 
 -- the outputs: the sums of all places, and the last carry
 unfoldable pub outputs : ℕ → List ℕ
-outputs n = line (codes "reg [" ∷ flat_map sum_output (range_with_len 0 n) ∷ codes "c" ∷ decimal n ∷ codes "]" ∷ [])
+outputs n = line (codes "reg [" ∷ flat_map sum_output (range_with_len 0 n) ∷ codes "c" ∷ decimal n
+    ∷ codes "]" ∷ [])
 
 -- the program that adds two numbers of n bits
 abbrev pub adder_text : ℕ → List ℕ
