@@ -46,5 +46,5 @@ outputs n = line (codes "reg [" ∷ flat_map sum_output (range_with_len 0 n) ∷
 
 -- the program that adds two numbers of n bits
 abbrev pub adder_text : ℕ → List ℕ
-adder_text n = parameters n ++ (carry_function ++ first_place) ++ flat_map place (range_with_len 1 (n - 1))
-    ++ outputs n ++ line (codes "}" ∷ [])
+adder_text n = parameters n ++ (carry_function ++ first_place)
+    ++ flat_map place (range_with_len 1 (n - 1)) ++ outputs n ++ line (codes "}" ∷ [])
