@@ -1,0 +1,5 @@
+pub mod ByteLemmas
+pub mod DigitLemmas
+pub mod GapLemmas
+pub mod PlaceLemmas
+pub mod RunLemmas
