@@ -1,10 +1,12 @@
 -- A text is cut in one way, and the code cuts it piece by piece.
 use Rattle.std.proofs.Common.{◌≡◌, ◌≢◌, ℕ, ◌≤◌, ◌<◌, List, [], ◌∷◌, ◌++◌, length, take, drop, refl, ap, sym, ◌∙◌, subst, ⊎_elim, arith, append_assoc, length-append}
 use Rattle.std.proofs.lemmas.List.{append-nil, take-append-drop}
-use Rattle.std.proofs.lemmas.List.Sums.{fold-append}
 use Rattle.revc_base.specs.declared.place.Place.{Place}
 use Rattle.revs_lexer.specs.Spelling.{Spells, IsWithinLimits}
-use Rattle.revs_lexer.specs.Tokens.{IsCut, Stop, IsGap, IsLongest, Refuses, IsTokens, IsRefused, closed, IsEnded, start, place_behind, place_after, OneOutcome}
+use Rattle.revs_lexer.specs.Tokens.{IsCut, Stop, IsLongest, Refuses, IsTokens, IsRefused, closed, IsEnded, OneOutcome}
+use Rattle.text_places.specs.Gaps.{IsGap}
+use Rattle.text_places.specs.Places.{start, place_after}
+use Rattle.text_places.proofs.PlaceLemmas.{place_past}
 use Rattle.revs_lexer.specs.Tokens as cuts
 use Rattle.revs_lexer.specs.inside.Pieces.{TakesGap, TakesToken, Takes}
 use Rattle.revs_lexer.specs.declared.token.Tok.{Tok}
@@ -12,7 +14,7 @@ use Rattle.revs_lexer.specs.declared.token.Tok.TheVariants as toks
 use Rattle.revs_lexer.specs.declared.token.Token.{Token}
 use Rattle.revs_lexer.specs.declared.token.LexFault.{LexFault}
 use Rattle.revs_lexer.proofs.LongestLemmas.{same_longest, some_longest, no_gap_before_token}
-use Rattle.revs_lexer.proofs.GapLemmas.{same_gap, some_gap}
+use Rattle.text_places.proofs.GapLemmas.{same_gap, some_gap}
 
 -- a piece that is not empty is no front of an empty text
 not_empty : (piece rest : List ℕ) → [] ≡ piece ++ rest → 0 < length piece → ⊥
@@ -125,10 +127,6 @@ pub record Underway (text : List ℕ) (ts : List Token) (at : Place) (rest : Lis
 
 pub underway_at_start : (text : List ℕ) → Underway text [] start text
 underway_at_start text = record { completes = λ more stop k. k; place = refl }
-
--- the place of the end, past a piece
-place_past : (at : Place) (text : List ℕ) (len : ℕ) → place_after (place_after at (take len text)) (drop len text) ≡ place_after at text
-place_past at text len = sym (fold-append place_behind at (take len text) (drop len text)) ∙ ap (place_after at) (take-append-drop len text)
 
 pub underway_past : (text : List ℕ) (old new : List Token) (at : Place) (rest : List ℕ) (len : ℕ) → Underway text old at rest → Takes at rest len old new
     → Underway text new (place_after at (take len rest)) (drop len rest)

@@ -1,12 +1,13 @@
 -- What a token's first byte says of the token.
-use Rattle.std.proofs.Common.{◌≡◌, ◌≢◌, ℕ, zero, suc, ◌-◌, ◌≤◌, ◌<◌, true, false, ◌||◌, cond, List, [], ◌∷◌, length, get_or, Option, Some, None, leb, refl, ap, sym, ◌∙◌, subst, ◌⊎◌, ⊎_elim, arith}
+use Rattle.std.proofs.Common.{◌≡◌, ◌≢◌, ℕ, ◌≤◌, ◌<◌, true, false, ◌||◌, cond, List, [], ◌∷◌, length, Option, Some, None, refl, ap, sym, ◌∙◌, subst, ◌⊎◌, ⊎_elim, arith}
 use Rattle.std.specs.Prelude.{nat_le, ◌==◌}
 use Rattle.std.specs.List.{list_all}
-use Rattle.std.specs.Char.{is_ascii_digit, digit_value}
-use Rattle.std.specs.Str.Parse.{AllDigits, IsNumeral, digits_value}
+use Rattle.std.specs.Char.{is_ascii_digit}
+use Rattle.std.specs.Str.Parse.{IsNumeral, digits_value}
 use Rattle.std.proofs.lemmas.Bool.{false≢true, and_parts, leb-true, leb-false, eqb-false, and_from, or_left, or_parts, cond-true, cond-false, false_from_ne_true}
-use Rattle.std.proofs.lemmas.Bool.Decides.{nat_tests}
-use Rattle.revs_lexer.specs.Bytes.{is_blank, is_letter, is_name_byte}
+use Rattle.text_places.specs.Bytes.{is_blank, is_letter, is_name_byte}
+use Rattle.text_places.proofs.ByteLemmas.{letter_is_high, blank_is_low, no_letter_digit, first_of}
+use Rattle.text_places.proofs.DigitLemmas.{digit_in_range, small_digit_value, all_digits}
 use Rattle.revs_lexer.specs.Spelling.{word_text, sign_text, is_identifier, Spells}
 use Rattle.revs_lexer.specs.declared.word.Word.{Word}
 use Rattle.revs_lexer.specs.declared.word.Word.TheVariants as words
@@ -15,29 +16,6 @@ use Rattle.revs_lexer.specs.declared.sign.Sign.TheVariants as signs
 use Rattle.revs_lexer.specs.declared.token.Tok.{Tok}
 use Rattle.revs_lexer.specs.declared.token.Tok.TheVariants as toks
 use Rattle.revs_lexer.proofs.TableLemmas.{word_of, sign_of, word_of-name, word_text_is_short, sign_text_begins, some_sign_text}
-
-pub letter_is_high : (b : ℕ) → is_letter b ≡ true → 65 ≤ b
-letter_is_high b e = grind (arith, nat_tests)
-
-pub blank_is_low : (b : ℕ) → is_blank b ≡ true → b ≤ 32
-blank_is_low b e = grind (arith, nat_tests)
-
-pub digit_in_range : (b : ℕ) → is_ascii_digit b ≡ true → (48 ≤ b) × (b ≤ 57)
-digit_in_range b e = let parts = and_parts (leb 48 b) (leb b 57) e in (leb-true 48 b parts.0, leb-true b 57 parts.1)
-
-pub digit_value_small : (b : ℕ) → is_ascii_digit b ≡ true → digit_value b < 10
-digit_value_small b e = let range = digit_in_range b e in grind (arith, nat_tests)
-
-pub small_digit_value : (b : ℕ) → digit_value b < 10 → is_ascii_digit b ≡ true
-small_digit_value b small = grind (arith, nat_tests)
-
--- the first byte, or 0
-abbrev pub first_of : List ℕ → ℕ
-first_of bytes = get_or bytes 0 0
-
-pub no_letter_digit : (b : ℕ) → is_letter b ≡ true → is_ascii_digit b ≡ true → ⊥
-no_letter_digit b letter digit =
-    let high = letter_is_high b letter in let range = digit_in_range b digit in absurd (omega arith)
 
 identifier_begins : (p : List ℕ) → is_identifier p ≡ true → is_letter (first_of p) ≡ true
 identifier_begins [] e = absurd (false≢true e)
@@ -48,15 +26,6 @@ identifier_goes_on [] e = absurd (false≢true e)
 identifier_goes_on (b ∷ bs) e =
     let parts = and_parts (is_letter b) (list_all is_name_byte bs) e in
     and_from (is_name_byte b) (list_all is_name_byte bs) (or_left (is_letter b) (is_ascii_digit b) parts.0) parts.1
-
-pub all_digits : (p : List ℕ) → AllDigits 10 p → list_all is_ascii_digit p ≡ true
-all_digits [] h = refl
-all_digits (b ∷ bs) h = and_from (is_ascii_digit b) (list_all is_ascii_digit bs) (small_digit_value b h.0) (all_digits bs h.1)
-
-pub AllDigits-from_all : (p : List ℕ) → list_all is_ascii_digit p ≡ true → AllDigits 10 p
-AllDigits-from_all [] e = tt
-AllDigits-from_all (b ∷ bs) e =
-    let parts = and_parts (is_ascii_digit b) (list_all is_ascii_digit bs) e in (digit_value_small b parts.0, AllDigits-from_all bs parts.1)
 
 numeral_begins : (p : List ℕ) → IsNumeral 10 p → is_ascii_digit (first_of p) ≡ true
 numeral_begins [] h = absurd (omega (arith, h.0))
@@ -178,18 +147,3 @@ tok_of-spelled p toks.End h = absurd h
 -- Bytes spell one token at most.
 pub same_spelled : (p : List ℕ) (t u : Tok) → Spells p t → Spells p u → t ≡ u
 same_spelled p t u h k = sym (tok_of-spelled p t h) ∙ tok_of-spelled p u k
-
--- one digit of a numeral
-pub record IsDigit (b : ℕ) : Type 0 where
-  pub low : 48 ≤ b
-  pub high : b ≤ 57
-  pub value : digit_value b ≡ b - 48
-
-digit_value-in_range : (b : ℕ) → 48 ≤ b → b ≤ 57 → digit_value b ≡ b - 48
-digit_value-in_range b low high = grind (arith, nat_tests)
-
-pub digit_at : (digits : List ℕ) (i : ℕ) → AllDigits 10 digits → i < length digits → IsDigit (get_or digits i 0)
-digit_at [] i h l = absurd (omega arith)
-digit_at (b ∷ bs) zero h l =
-    let range = digit_in_range b (small_digit_value b h.0) in record { low = range.0; high = range.1; value = digit_value-in_range b range.0 range.1 }
-digit_at (b ∷ bs) (suc i) h l = digit_at bs i h.1 (omega arith)

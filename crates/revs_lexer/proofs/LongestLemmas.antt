@@ -4,10 +4,11 @@ use Rattle.std.specs.List.{list_all, prefix_len}
 use Rattle.std.specs.Char.{is_ascii_digit}
 use Rattle.std.specs.Str.Parse.{AllDigits, IsNumeral, digits_value}
 use Rattle.std.proofs.lemmas.Bool.{and_from, or_left}
-use Rattle.std.proofs.lemmas.List.{take-append-drop, take_at, length-take-le, get_or_append_left}
-use Rattle.revs_lexer.specs.Bytes.{is_blank, is_letter, is_name_byte}
+use Rattle.std.proofs.lemmas.List.{take-append-drop, take_at, length-take-le}
+use Rattle.text_places.specs.Bytes.{is_blank, is_letter, is_name_byte}
 use Rattle.revs_lexer.specs.Spelling.{sign_text, is_identifier, Spells}
-use Rattle.revs_lexer.specs.Tokens.{IsGap, HasNoGap, IsLongest, HasNoToken, Refuses}
+use Rattle.revs_lexer.specs.Tokens.{IsLongest, HasNoToken, Refuses}
+use Rattle.text_places.specs.Gaps.{IsGap, HasNoGap}
 use Rattle.revs_lexer.specs.Tokens as cuts
 use Rattle.revc_base.specs.declared.place.Place.{Place}
 use Rattle.revs_lexer.specs.declared.token.LexFault.TheVariants as faults
@@ -15,13 +16,11 @@ use Rattle.revs_lexer.specs.declared.sign.Sign.{Sign}
 use Rattle.revs_lexer.specs.declared.token.Tok.{Tok}
 use Rattle.revs_lexer.specs.declared.token.Tok.TheVariants as toks
 use Rattle.revs_lexer.proofs.TableLemmas.{sign_at, sign_at-some, sign_at-longest, sign_at-none}
-use Rattle.revs_lexer.proofs.FirstByteLemmas.{first_of, word_is_short, some_spelled, identifier_goes_on, AllDigits-from_all, spelled_by_letter, spelled_by_digit, spelled_by_other, spelled_by_blank, same_spelled}
-use Rattle.revs_lexer.proofs.RunLemmas.{front_in_run, prefix_len-yes, run_of, some_run, same_split}
-use Rattle.revs_lexer.proofs.GapLemmas.{gap_begins}
-
--- a token at the front begins as the text does
-same_first : (text front behind : List ℕ) → text ≡ front ++ behind → 0 < length front → first_of front ≡ first_of text
-same_first text front behind cut some = sym (ap first_of cut ∙ get_or_append_left front behind 0 0 some)
+use Rattle.text_places.proofs.ByteLemmas.{first_of, same_first}
+use Rattle.text_places.proofs.DigitLemmas.{AllDigits-from_all}
+use Rattle.revs_lexer.proofs.FirstByteLemmas.{word_is_short, some_spelled, identifier_goes_on, spelled_by_letter, spelled_by_digit, spelled_by_other, spelled_by_blank, same_spelled}
+use Rattle.text_places.proofs.RunLemmas.{front_in_run, prefix_len-yes, run_of, some_run, same_split}
+use Rattle.text_places.proofs.GapLemmas.{gap_begins}
 
 -- one text has one longest token
 pub record Same (front behind : List ℕ) (t : Tok) (other left : List ℕ) (u : Tok) : Type 0 where

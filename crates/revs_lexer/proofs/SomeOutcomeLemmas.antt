@@ -7,19 +7,21 @@ use Rattle.std.specs.Str.Parse.{digits_value}
 use Rattle.std.proofs.lemmas.Bool.{cases_Bool, cases_lt}
 use Rattle.std.proofs.lemmas.List.{take-append-drop, length-append, length-take-le}
 use Rattle.revc_base.specs.declared.place.Place.{Place}
-use Rattle.revs_lexer.specs.Bytes.{is_blank, is_letter, is_name_byte}
+use Rattle.text_places.specs.Bytes.{is_blank, is_letter, is_name_byte}
 use Rattle.revs_lexer.specs.Spelling.{sign_text, is_identifier, Spells, IsWithinLimits}
-use Rattle.revs_lexer.specs.Tokens.{Stop, IsCut, IsGap, HasNoGap, IsLongest, Refuses, SomeOutcome, start, place_after}
+use Rattle.revs_lexer.specs.Tokens.{Stop, IsCut, IsLongest, Refuses, SomeOutcome}
+use Rattle.text_places.specs.Gaps.{IsGap, HasNoGap}
+use Rattle.text_places.specs.Places.{start, place_after}
 use Rattle.revs_lexer.specs.Tokens as cuts
 use Rattle.revs_lexer.specs.declared.token.LexFault.{LexFault}
 use Rattle.revs_lexer.specs.declared.token.LexFault.TheVariants as faults
 use Rattle.revs_lexer.specs.declared.token.Tok.{Tok}
 use Rattle.revs_lexer.specs.declared.token.Tok.TheVariants as toks
 use Rattle.revs_lexer.specs.declared.token.Token.{Token}
-use Rattle.revs_lexer.proofs.FirstByteLemmas.{first_of}
-use Rattle.revs_lexer.proofs.GapLemmas.{in_line, some_gap, blank_at_front, comment_at_front, no_gap_at_front}
+use Rattle.text_places.proofs.ByteLemmas.{first_of}
+use Rattle.text_places.proofs.GapLemmas.{in_line, some_gap, blank_at_front, comment_at_front, no_gap_at_front}
 use Rattle.revs_lexer.proofs.LongestLemmas.{some_longest, identifier_at_front, longest_name, long_name_at_front, numeral_at_front, longest_number, long_number_at_front, longest_sign, no_token, bad_byte_at_front}
-use Rattle.revs_lexer.proofs.RunLemmas.{run_of}
+use Rattle.text_places.proofs.RunLemmas.{run_of}
 use Rattle.revs_lexer.proofs.TableLemmas.{word_of, word_of-some, word_of-none, sign_at}
 
 cases_Option : {X : Type 0} (o : Option X) → ((x : X) × (o ≡ Some x)) ⊎ (o ≡ None)

@@ -8,7 +8,7 @@ use Rattle.std.proofs.lemmas.Bool.{false≢true, and_parts, leb-true}
 use Rattle.std.proofs.lemmas.Bool.Decides.{Decides-eqb}
 use Rattle.std.proofs.lemmas.Option.{none-some}
 use Rattle.std.proofs.lemmas.Slice.Eq.{bytes_eq-Decides, starts_is}
-use Rattle.revs_lexer.specs.Bytes.{is_letter}
+use Rattle.text_places.specs.Bytes.{is_letter}
 use Rattle.revs_lexer.specs.Spelling.{word_text, sign_text, is_identifier}
 use Rattle.revs_lexer.specs.declared.word.Word.{Word}
 use Rattle.revs_lexer.specs.declared.word.Word.TheVariants as words

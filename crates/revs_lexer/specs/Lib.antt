@@ -1,4 +1,3 @@
-pub mod Bytes
 pub mod inside
 pub mod Spelling
 pub mod Tokens

@@ -2,7 +2,7 @@
 use Rattle.std.specs.Prelude.{◌≡◌, ◌≢◌, ℕ, ◌≤◌, Bool, false, ◌&&◌, List, [], ◌∷◌, length, IsTrue, codes}
 use Rattle.std.specs.List.{list_all}
 use Rattle.std.specs.Str.Parse.{IsNumeral, digits_value}
-use Rattle.revs_lexer.specs.Bytes.{is_letter, is_name_byte}
+use Rattle.text_places.specs.Bytes.{is_letter, is_name_byte}
 use Rattle.revs_lexer.specs.declared.word.Word.{Word}
 use Rattle.revs_lexer.specs.declared.word.Word.TheVariants as words
 use Rattle.revs_lexer.specs.declared.sign.Sign.{Sign}

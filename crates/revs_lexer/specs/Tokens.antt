@@ -1,8 +1,8 @@
 -- The tokens of a program text: a relation between the text and the pieces that it is cut into.
-use Rattle.std.specs.Prelude.{◌≡◌, ◌≢◌, ◌⊎◌, ℕ, ◌+◌, ◌<◌, ◌≤◌, not, List, [], ◌∷◌, ◌++◌, length, if◌then◌else◌, IsTrue, codes, fold}
-use Rattle.std.specs.List.{list_all}
+use Rattle.std.specs.Prelude.{◌≡◌, ◌≢◌, ◌⊎◌, ℕ, ◌<◌, ◌≤◌, List, [], ◌∷◌, ◌++◌, length}
 use Rattle.revc_base.specs.declared.place.Place.{Place}
-use Rattle.revs_lexer.specs.Bytes.{is_blank, is_line_feed}
+use Rattle.text_places.specs.Gaps.{IsGap, HasNoGap}
+use Rattle.text_places.specs.Places.{start, place_after}
 use Rattle.revs_lexer.specs.Spelling.{Spells, IsWithinLimits}
 use Rattle.revs_lexer.specs.declared.token.Tok.{Tok}
 use Rattle.revs_lexer.specs.declared.token.Tok.TheVariants as toks
@@ -11,36 +11,6 @@ use Rattle.revs_lexer.specs.declared.token.LexFault.{LexFault}
 use Rattle.revs_lexer.specs.declared.token.LexFault.TheVariants as faults
 use Rattle.revc_base.specs.declared.limits.TheConstants.{MOST_NAME_BYTES}
 use Rattle.revs_lexer.specs.declared.lexer.TheConstants.{MOST_DIGITS}
-
--- the place of a text's first byte
-abbrev pub start : Place
-start = record { line = 1; column = 1 }
-
--- the place behind a byte: a line feed ends its line
-abbrev pub place_behind : Place → ℕ → Place
-place_behind at b =
-    if is_line_feed b then record { line = at.line + 1; column = 1 }
-    else record { line = at.line; column = at.column + 1 }
-
--- the place behind bytes that begin at a place
-abbrev pub place_after : Place → List ℕ → Place
-place_after at bytes = fold place_behind at bytes
-
--- nothing, or a line feed first
-abbrev pub IsLineEnd : List ℕ → Type 0
-IsLineEnd [] = Unit {0}
-IsLineEnd (b ∷ _) = IsTrue (is_line_feed b)
-
--- What separates tokens and is dropped, with what may follow it.
-pub data IsGap : List ℕ → List ℕ → Type 0 where
-  blank : {b : ℕ} {rest : List ℕ} → IsTrue (is_blank b) → IsGap (b ∷ []) rest
-  -- `//` and everything before the next line feed or the end of the text
-  comment : {body rest : List ℕ} → IsTrue (list_all (λ b. not (is_line_feed b)) body)
-      → IsLineEnd rest → IsGap (codes "//" ++ body) rest
-
--- Neither a blank nor a comment stands at the front of the text.
-abbrev pub HasNoGap : List ℕ → Type 0
-HasNoGap text = (gap rest : List ℕ) → text ≡ gap ++ rest → ¬ IsGap gap rest
 
 -- No front of the text spells a token.
 abbrev pub HasNoToken : List ℕ → Type 0

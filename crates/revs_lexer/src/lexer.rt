@@ -1,14 +1,12 @@
 // One pass over the bytes of a text, piece by piece.
-ghost use Rattle.std.specs.Prelude.{◌≡◌, ◌≢◌, ◌⊎◌, ℕ, ◌+◌, ◌<◌, ◌≤◌, ◌^◌, List, ◌++◌, take, drop, length, IfOk, IfErr, IsErrOf, MatchResult, IsTrue, nat_eq, OnErr, not};
-ghost use Rattle.std.specs.Char.{is_ascii_digit};
-ghost use Rattle.std.specs.List.{find, prefix_len, starts_with};
+ghost use Rattle.std.specs.Prelude.{◌≡◌, ◌≢◌, ◌⊎◌, ◌+◌, ◌<◌, ◌≤◌, ◌^◌, List, take, drop, length, IfOk, IfErr, IsErrOf, MatchResult, IsTrue, nat_eq, OnErr};
+ghost use Rattle.std.specs.List.{find, starts_with};
 ghost use Rattle.std.specs.Str.{bytes_eq};
-ghost use Rattle.std.specs.Str.Parse.{AllDigits, digits_value};
 ghost use Rattle.revc_base.specs.declared.limits.TheConstants.{MOST_NAME_BYTES};
-ghost use Rattle.revs_lexer.specs.Bytes.{is_blank, is_line_feed, is_letter, is_name_byte};
+ghost use Rattle.text_places.specs.Gaps.{HasNoGap};
 ghost use Rattle.revs_lexer.specs.inside.Pieces.{Takes};
 ghost use Rattle.revs_lexer.specs.Spelling.{word_text, sign_text, is_identifier, Spells, IsWithinLimits};
-ghost use Rattle.revs_lexer.specs.Tokens.{place_after, IsGap, HasNoGap, IsLongest, Refuses, IsTokens, IsRefused, closed, IsEnded, OneOutcome, SomeOutcome};
+ghost use Rattle.revs_lexer.specs.Tokens.{IsLongest, Refuses, IsTokens, IsRefused, closed, IsEnded, OneOutcome, SomeOutcome};
 ghost use Rattle.revs_lexer.specs.declared.sign.Sign.{Sign};
 ghost use Rattle.revs_lexer.specs.declared.token.LexFault.{LexFault};
 ghost use Rattle.revs_lexer.specs.declared.token.Token.{Token};
@@ -17,27 +15,10 @@ ghost use Rattle.revs_lexer.specs.declared.word.Word.{Word};
 use crate::{LexFault, Sign, Tok, Token, Word};
 use revc_base::{Memory, Place, Text};
 use std::alloc::Global;
+use text_places::{digits_len, gap_len, is_letter, name_len, number, place_after};
 
 /// The most digits that a number has.
 pub const MOST_DIGITS: usize = 4;
-
-fn is_blank(byte: u8) -> bool
-    ensures { result ≡ is_blank byte }
-{
-    matches!(byte, b' ' | b'\t' | b'\r' | b'\n')
-}
-
-fn is_letter(byte: u8) -> bool
-    ensures { result ≡ is_letter byte }
-{
-    byte.is_ascii_alphabetic() || byte == b'_'
-}
-
-fn is_name_byte(byte: u8) -> bool
-    ensures { result ≡ is_name_byte byte }
-{
-    is_letter(byte) || byte.is_ascii_digit()
-}
 
 // The word that the bytes spell.
 fn word_of(bytes: &[u8]) -> Option<Word>
@@ -56,40 +37,6 @@ fn sign_at(text: &[u8]) -> Option<Sign>
         .find(|sign| text.starts_with(sign.text()))
 }
 
-// How many bytes the blank or the comment at the front of the text has: 0 where there is none.
-fn gap_len(text: &[u8]) -> usize
-    requires { 0 < length text.now }
-    ensures in_range { result ≤ length text.now }
-    ensures found { 0 < result → IsGap (take result text.now) (drop result text.now) }
-    ensures none { result ≡ 0 → HasNoGap text.now }
-{
-    if is_blank(text[0]) {
-        return 1;
-    }
-    if text.starts_with(b"//") {
-        return line_len(text);
-    }
-    0
-}
-
-fn line_len(text: &[u8]) -> usize
-    ensures { result ≡ prefix_len (λ b. not (is_line_feed b)) text.now }
-{
-    text.iter().take_while(|byte| **byte != b'\n').count()
-}
-
-fn name_len(text: &[u8]) -> usize
-    ensures { result ≡ prefix_len is_name_byte text.now }
-{
-    text.iter().take_while(|byte| is_name_byte(**byte)).count()
-}
-
-fn number_len(text: &[u8]) -> usize
-    ensures { result ≡ prefix_len is_ascii_digit text.now }
-{
-    text.iter().take_while(|byte| byte.is_ascii_digit()).count()
-}
-
 // The word or the name that the bytes spell.
 fn name(alloc: Global, bytes: &[u8]) -> Result<Tok, Memory>
     requires identifier { IsTrue (is_identifier bytes.now) }
@@ -101,19 +48,6 @@ fn name(alloc: Global, bytes: &[u8]) -> Result<Tok, Memory>
         Some(word) => Ok(Tok::Word(word)),
         None => Ok(Tok::Name(Text::new(alloc, bytes)?)),
     }
-}
-
-// The value of at most 4 digits.
-fn number(digits: &[u8]) -> u32
-    requires digits { AllDigits 10 digits.now }
-    requires few { length digits.now ≤ MOST_DIGITS }
-    ensures { result ≡ digits_value 10 digits.now }
-{
-    let mut value = 0;
-    for digit in digits {
-        value = 10 * value + u32::from(*digit - b'0');
-    }
-    value
 }
 
 // The longest token at the front of the text, and how many bytes it has.
@@ -134,7 +68,7 @@ fn token(alloc: Global, text: &[u8], at: Place) -> Result<(Tok, usize), LexFault
         return Ok((name(alloc, &text[..len])?, len));
     }
     if text[0].is_ascii_digit() {
-        let len = number_len(text);
+        let len = digits_len(text);
         if len > MOST_DIGITS {
             return Err(LexFault::LongNumber(at));
         }
@@ -162,27 +96,6 @@ fn take_piece(tokens: &mut Vec<Token>, text: &[u8], at: Place) -> Result<usize, 
     let (tok, len) = token(alloc, text, at)?;
     tokens.push(Token { tok, at })?;
     Ok(len)
-}
-
-// The place behind bytes that begin at a place.
-fn place_after(mut at: Place, bytes: &[u8]) -> Place
-    requires line { 1 ≤ at.line }
-    requires column { 1 ≤ at.column }
-    requires room { at.line + at.column + length bytes.now ≤ 2 ^ 32 }
-    ensures place { result ≡ place_after at bytes.now }
-    ensures line { 1 ≤ result.line }
-    ensures column { 1 ≤ result.column }
-    ensures room { result.line + result.column ≤ at.line + at.column + length bytes.now }
-{
-    for byte in bytes {
-        if *byte == b'\n' {
-            at.line += 1;
-            at.column = 1;
-        } else {
-            at.column += 1;
-        }
-    }
-    at
 }
 
 // The tokens or the first refusal.

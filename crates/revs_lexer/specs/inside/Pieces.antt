@@ -2,7 +2,8 @@
 use Rattle.std.specs.Prelude.{◌≡◌, ◌⊎◌, ℕ, List, [], ◌∷◌, ◌++◌, take, drop}
 use Rattle.revc_base.specs.declared.place.Place.{Place}
 use Rattle.revs_lexer.specs.Spelling.{IsWithinLimits}
-use Rattle.revs_lexer.specs.Tokens.{IsGap, IsLongest}
+use Rattle.text_places.specs.Gaps.{IsGap}
+use Rattle.revs_lexer.specs.Tokens.{IsLongest}
 use Rattle.revs_lexer.specs.declared.token.Tok.{Tok}
 use Rattle.revs_lexer.specs.declared.token.Token.{Token}
 

@@ -18,17 +18,17 @@ returns-then-is_letter-clause-longest c =
 
 pub returns-then-len-gt-MOST_DIGITS-clause-refused : goal.returns-then-len-gt-MOST_DIGITS-clause-refused
 returns-then-len-gt-MOST_DIGITS-clause-refused c =
-    λ own. long_number_at_front c.args.at c.args.text.now c.number_len-len.result c.requires.some c.number_len-len.ensures
+    λ own. long_number_at_front c.args.at c.args.text.now c.digits_len-len.result c.requires.some c.digits_len-len.ensures
     (sym c.is_ascii_digit.ensures.value ∙ c.if-is_ascii_digit.true) c.if-len-gt-MOST_DIGITS.true
 
 pub number-requires-clause-digits : goal.number-requires-clause-digits
-number-requires-clause-digits c = digits_at_front c.args.text.now c.number_len-len.result c.number_len-len.ensures
+number-requires-clause-digits c = digits_at_front c.args.text.now c.digits_len-len.result c.digits_len-len.ensures
 
 pub returns-then-is_ascii_digit-clause-longest : goal.returns-then-is_ascii_digit-clause-longest
 returns-then-is_ascii_digit-clause-longest c =
     let digit = sym c.is_ascii_digit.ensures.value ∙ c.if-is_ascii_digit.true in
-    longest_number c.args.text.now c.number_len-len.result _ c.number_len-len.ensures digit
-    (numeral_at_front c.args.text.now c.number_len-len.result c.requires.some c.number_len-len.ensures digit, c.number.ensures)
+    longest_number c.args.text.now c.digits_len-len.result _ c.digits_len-len.ensures digit
+    (numeral_at_front c.args.text.now c.digits_len-len.result c.requires.some c.digits_len-len.ensures digit, c.number.ensures)
 
 pub returns-in-Some-clause-longest : goal.returns-in-Some-clause-longest
 returns-in-Some-clause-longest c =
