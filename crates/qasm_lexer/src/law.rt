@@ -1,0 +1,12 @@
+// What holds of the tokens of every text.
+ghost use Rattle.qasm_lexer.specs.Tokens.{TokensAreDetermined, EachTextHasTokens};
+
+/// A text is cut in one way only: it has at most one list of tokens.
+pub fn one_way_to_cut()
+    ensures { TokensAreDetermined }
+{}
+
+/// Each text has a list of tokens.
+pub fn each_text_has_tokens()
+    ensures { EachTextHasTokens }
+{}
