@@ -2,12 +2,17 @@
 use Rattle.std.proofs.Common.{◌≡◌, ℕ, true, inl, inr, List, [], ◌∷◌, ◌++◌, map, codes, refl, sym, ap, ◌∙◌, subst, append_assoc}
 use Rattle.std.specs.List.{AllByRecursion, flat_map, concat}
 use Rattle.std.proofs.lemmas.List.Folds.{concat-append}
-use Rattle.qasm_format.specs.Tokens.{is_identifier, is_number, AreTokens, nothing_left, gap_dropped, token_taken, blank}
+use Rattle.qasm_lexer.specs.Tokens.{is_identifier, is_number, IsLongest, AreTokens, nothing_taken, gap_dropped, token_taken}
+use Rattle.text_places.specs.Gaps.{blank}
 use Rattle.qasm_format.specs.Statements.{Argument, Statement, bracketed, argument_words, parted, words_of, head_words}
 use Rattle.qasm_format.specs.Compiled.{line_text}
-use Rattle.qasm_format.proofs.TokenLemmas.{longest_name, longest_number, longest_version, longest_sign}
+use Rattle.qasm_lexer.proofs.TokenLemmas.{longest_name, longest_number, longest_version, longest_sign}
 
 -- ---- words with nothing between them
+
+-- the longest word is taken
+word_taken : {text : List ℕ} {tokens : List (List ℕ)} (word rest : List ℕ) → IsLongest text word rest → AreTokens rest tokens → AreTokens text (word ∷ tokens)
+word_taken word rest longest more = token_taken word rest (inl longest) more
 
 -- words with nothing between them are cut into these words, whatever stands behind
 pub record AreCut (words : List (List ℕ)) : Type 0 where
@@ -23,16 +28,16 @@ AreCut-append words others h k = record {
 }
 
 pub AreCut-comma : AreCut (codes "," ∷ [])
-AreCut-comma = record { says = λ rest tokens more. token_taken (codes ",") rest (longest_sign 44 [] rest (inr (inr (inr (inl refl)))) refl refl) more }
+AreCut-comma = record { says = λ rest tokens more. word_taken (codes ",") rest (longest_sign 44 [] rest (inr (inr (inr (inl refl)))) refl refl) more }
 
 pub AreCut-semicolon : AreCut (codes ";" ∷ [])
-AreCut-semicolon = record { says = λ rest tokens more. token_taken (codes ";") rest (longest_sign 59 [] rest (inr (inr (inl refl))) refl refl) more }
+AreCut-semicolon = record { says = λ rest tokens more. word_taken (codes ";") rest (longest_sign 59 [] rest (inr (inr (inl refl))) refl refl) more }
 
 open_taken : (rest : List ℕ) (tokens : List (List ℕ)) → AreTokens rest tokens → AreTokens (91 ∷ rest) ((91 ∷ []) ∷ tokens)
-open_taken rest tokens more = token_taken (91 ∷ []) rest (longest_sign 91 [] rest (inr (inr (inr (inr (inl refl))))) refl refl) more
+open_taken rest tokens more = word_taken (91 ∷ []) rest (longest_sign 91 [] rest (inr (inr (inr (inr (inl refl))))) refl refl) more
 
 close_taken : (rest : List ℕ) (tokens : List (List ℕ)) → AreTokens rest tokens → AreTokens (93 ∷ rest) ((93 ∷ []) ∷ tokens)
-close_taken rest tokens more = token_taken (93 ∷ []) rest (longest_sign 93 [] rest (inr (inr (inr (inr (inr (inl refl)))))) refl refl) more
+close_taken rest tokens more = word_taken (93 ∷ []) rest (longest_sign 93 [] rest (inr (inr (inr (inr (inr (inl refl)))))) refl refl) more
 
 bracketed_text : (name digits rest : List ℕ) → concat (bracketed name digits) ++ rest ≡ name ++ 91 ∷ (digits ++ 93 ∷ rest)
 bracketed_text name digits rest =
@@ -42,21 +47,21 @@ pub AreCut-bracketed : (name digits : List ℕ) → is_identifier name ≡ true 
 AreCut-bracketed name digits named numbered = record {
   says = λ rest tokens more.
       subst (λ text. AreTokens text (bracketed name digits ++ tokens)) (sym (bracketed_text name digits rest))
-      (token_taken name (91 ∷ (digits ++ 93 ∷ rest)) (longest_name name (digits ++ 93 ∷ rest) 91 named refl)
-      (open_taken (digits ++ 93 ∷ rest) _ (token_taken digits (93 ∷ rest) (longest_number digits rest 93 numbered refl)
+      (word_taken name (91 ∷ (digits ++ 93 ∷ rest)) (longest_name name (digits ++ 93 ∷ rest) 91 named refl)
+      (open_taken (digits ++ 93 ∷ rest) _ (word_taken digits (93 ∷ rest) (longest_number digits rest 93 numbered refl)
       (close_taken rest tokens more))));
 }
 
 pub AreCut-head : AreCut (codes "2.0" ∷ codes ";" ∷ [])
 AreCut-head = record {
   says = λ rest tokens more.
-      token_taken (codes "2.0") (59 ∷ rest) (longest_version (codes "2.0") rest 59 (inl refl) refl refl) (AreCut-semicolon.says rest tokens more);
+      word_taken (codes "2.0") (59 ∷ rest) (longest_version (codes "2.0") rest 59 (inl refl) refl refl) (AreCut-semicolon.says rest tokens more);
 }
 
 pub AreCut-include : AreCut (codes "\"qelib1.inc\"" ∷ codes ";" ∷ [])
 AreCut-include = record {
   says = λ rest tokens more.
-      token_taken (codes "\"qelib1.inc\"") (59 ∷ rest) (longest_sign 34 (codes "qelib1.inc\"") (59 ∷ rest) (inr (inl refl)) refl refl)
+      word_taken (codes "\"qelib1.inc\"") (59 ∷ rest) (longest_sign 34 (codes "qelib1.inc\"") (59 ∷ rest) (inr (inl refl)) refl refl)
       (AreCut-semicolon.says rest tokens more);
 }
 
@@ -84,7 +89,7 @@ pub is_cut_line : (word : List ℕ) (words : List (List ℕ)) → is_identifier 
 is_cut_line word words named cut = record {
   says = λ rest tokens more.
       subst (λ text. AreTokens text ((word ∷ words) ++ tokens)) (sym (line_parts word rest words))
-      (token_taken word (32 ∷ (concat words ++ 10 ∷ rest)) (longest_name word (concat words ++ 10 ∷ rest) 32 named refl)
+      (word_taken word (32 ∷ (concat words ++ 10 ∷ rest)) (longest_name word (concat words ++ 10 ∷ rest) 32 named refl)
       (gap_dropped (32 ∷ []) (concat words ++ 10 ∷ rest) refl (blank refl)
       (cut.says (10 ∷ rest) tokens (gap_dropped (10 ∷ []) rest refl (blank refl) more))));
 }
@@ -92,7 +97,7 @@ is_cut_line word words named cut = record {
 -- the lines of statements are cut into their words
 pub cut_statements : (statements : List Statement) → AllByRecursion (λ statement. IsCutLine (words_of statement)) statements
     → AreTokens (flat_map line_text (map words_of statements)) (flat_map words_of statements)
-cut_statements [] h = nothing_left
+cut_statements [] h = nothing_taken
 cut_statements (s ∷ ss) h = h.0.says (flat_map line_text (map words_of ss)) (flat_map words_of ss) (cut_statements ss h.1)
 
 -- with the head before them

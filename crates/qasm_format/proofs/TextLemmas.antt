@@ -13,10 +13,10 @@ use Rattle.gate_split.specs.declared.roles.Role.{Role}
 use Rattle.gate_split.specs.declared.roles.Role.TheVariants.{Input, Output, Work, Borrowed}
 use Rattle.gate_split.specs.Plans.{role_at, number_at}
 use Rattle.qasm_format.specs.Statements.{Statement, Argument, argument_words, bracketed, parted, words_of}
-use Rattle.qasm_format.specs.Registers.{RegisterView}
+use Rattle.qasm_format.specs.declared.file.Register.{Register}
 use Rattle.qasm_format.specs.Compiled.{register_name, register_of, registers_of, argument_of, gate_word, gate_statement, declaration, line_text, compiled_text}
 use Rattle.qasm_format.specs.inside.Parts.{place_text, argument_text, declaration_text, register_text, head_text, first_registers_text, last_registers_text, header_text, controls_text, flip_text}
-use Rattle.qasm_format.proofs.RegisterLemmas.{one_register}
+use Rattle.qasm_format.proofs.RoleLemmas.{one_register}
 
 -- ---- places
 
@@ -40,7 +40,7 @@ declaration_text_is role size =
     ∙ declaration_parts (codes "qreg") (codes " ") (place_text (register_name role) size) (codes ";") (codes "\n")
 
 -- the line of a declaration
-abbrev words_declared : RegisterView → List (List ℕ)
+abbrev words_declared : Register → List (List ℕ)
 words_declared register = words_of (declaration register)
 
 by_test : (role : Role) (size : ℕ) (none : Bool)
@@ -51,7 +51,7 @@ by_test role size false = append-nil (line_text (words_declared (record { name =
 register_text_is : (role : Role) (size : ℕ) → flat_map line_text (map words_declared (register_of role size)) ≡ register_text (register_name role) size
 register_text_is role size = by_test role size (eqb size 0)
 
-joined : (xs ys : List RegisterView) → flat_map line_text (map words_declared (xs ++ ys))
+joined : (xs ys : List Register) → flat_map line_text (map words_declared (xs ++ ys))
     ≡ flat_map line_text (map words_declared xs) ++ flat_map line_text (map words_declared ys)
 joined xs ys = ap (flat_map line_text) (map-append words_declared xs ys) ∙ flat_map-append line_text (map words_declared xs) (map words_declared ys)
 

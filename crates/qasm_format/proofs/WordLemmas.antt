@@ -10,9 +10,10 @@ use Rattle.std.proofs.lemmas.List.Folds.{list_all-append}
 use Rattle.list_facts.specs.Lists.{IsAmong}
 use Rattle.gate_split.specs.declared.roles.Role.{Role}
 use Rattle.gate_split.specs.declared.roles.Role.TheVariants.{Input, Output, Work, Borrowed}
-use Rattle.qasm_format.specs.Tokens.{is_identifier, is_number}
+use Rattle.qasm_lexer.specs.Tokens.{is_identifier, is_number}
 use Rattle.qasm_format.specs.Registers.{IsName, IsNumber, kept_words}
-use Rattle.qasm_format.specs.Qasm.{IsGateWord, no_control, one_control, two_controls}
+use Rattle.qasm_format.specs.declared.words.Use.TheVariants.{Flip}
+use Rattle.qasm_format.specs.Stages.{IsUseWord}
 use Rattle.qasm_format.specs.Compiled.{register_name, gate_word}
 
 -- ---- numbers
@@ -72,8 +73,8 @@ is_identifier-gate_word zero = refl
 is_identifier-gate_word (suc zero) = refl
 is_identifier-gate_word (suc (suc n)) = refl
 
-pub known_word : (controls : ℕ) → controls ≤ 2 → IsGateWord true (gate_word controls) controls
-known_word zero h = no_control refl
-known_word (suc zero) h = one_control refl
-known_word (suc (suc zero)) h = two_controls refl
+pub known_word : (controls : ℕ) → controls ≤ 2 → IsUseWord (gate_word controls) true (Flip controls)
+known_word zero h = inl (refl, refl, refl)
+known_word (suc zero) h = inr (inl (refl, refl, refl))
+known_word (suc (suc zero)) h = inr (inr (inr (refl, refl, refl)))
 known_word (suc (suc (suc n))) h = absurd (omega arith)

@@ -9,8 +9,8 @@ use Rattle.gate_split.specs.declared.roles.Role.TheVariants.{Input, Output, Work
 use Rattle.gate_split.specs.Plans.{lines_in, role_at, number_at}
 use Rattle.mct_circuit.specs.Gates.{GateView, lines_of, AreGatesOn, AreNarrow}
 use Rattle.qasm_format.specs.Statements.{Argument, one_of, Statement, includes, declares, applies, words_of, head_words}
-use Rattle.qasm_format.specs.Registers.{RegisterView}
-use Rattle.qasm_format.specs.Qasm.{QasmView, QasmMeaning}
+use Rattle.qasm_format.specs.declared.file.Register.{Register}
+use Rattle.qasm_format.specs.Qasm.{QasmView, MeansFile}
 
 -- ---- registers
 
@@ -22,12 +22,12 @@ register_name Work = codes "work"
 register_name Borrowed = codes "dirty"
 
 -- a register, left out exactly where it has no line
-abbrev pub register_of : Role → ℕ → List RegisterView
+abbrev pub register_of : Role → ℕ → List Register
 register_of role size =
     if size == 0 then [] else record { name = register_name role; size = size } ∷ []
 
 -- the registers of a compiled file
-abbrev pub registers_of : Roles → List RegisterView
+abbrev pub registers_of : Roles → List Register
 registers_of roles =
     register_of Input roles.inputs
     ++ (register_of Output roles.outputs
@@ -50,7 +50,7 @@ abbrev pub gate_statement : Roles → GateView → Statement
 gate_statement roles gate =
     applies (gate_word (length gate.controls)) (map (argument_of roles) (lines_of gate))
 
-abbrev pub declaration : RegisterView → Statement
+abbrev pub declaration : Register → Statement
 declaration register = declares register.name (decimal register.size)
 
 -- the include, the declarations, and a statement for each gate
@@ -74,7 +74,7 @@ compiled_text roles gates =
 -- these roles: each register has the lines of its role, and is left out exactly where there are none.
 pub record MeansCompiled (text : List ℕ) (roles : Roles) (gates : List GateView) : Type 0 where
   pub file : QasmView
-  pub meaning : QasmMeaning text file
+  pub meaning : MeansFile text file
   pub roles_are : file.registers ≡ registers_of roles
   pub gates_are : file.gates ≡ gates
 

@@ -1,6 +1,7 @@
-pub mod Tokens
-pub mod Statements
 pub mod Registers
+pub mod Stages
 pub mod Qasm
+pub mod Faults
+pub mod Statements
 pub mod Compiled
 pub mod inside

@@ -1,18 +1,14 @@
--- The statements of an OpenQASM text, and the tokens of each.
+-- The statements that are written, and the tokens of each.
 use Rattle.std.specs.Prelude.{ℕ, List, [], ◌∷◌, ◌++◌, codes}
 
--- an argument: a whole register, or one place of a register, by its digits
+-- an argument: a place of a register, by its digits
 pub data Argument : Type 0 where
-  all_of : (name : List ℕ) → Argument
   one_of : (name digits : List ℕ) → Argument
 
--- A statement: the include; the declaration of a register of qubits or of bits, with the digits of its size; a barrier;
--- or a gate by its word.
+-- A statement: the include, the declaration of a register with the digits of its size, or a gate by its word.
 pub data Statement : Type 0 where
   includes : Statement
   declares : (name digits : List ℕ) → Statement
-  declares_bits : (name digits : List ℕ) → Statement
-  bars : (arguments : List Argument) → Statement
   applies : (word : List ℕ) (arguments : List Argument) → Statement
 
 -- a name and a number in square brackets
@@ -20,7 +16,6 @@ abbrev pub bracketed : List ℕ → List ℕ → List (List ℕ)
 bracketed name digits = name ∷ codes "[" ∷ digits ∷ codes "]" ∷ []
 
 abbrev pub argument_words : Argument → List (List ℕ)
-argument_words (all_of name) = name ∷ []
 argument_words (one_of name digits) = bracketed name digits
 
 -- arguments, parted by commas
@@ -33,8 +28,6 @@ parted (argument ∷ other ∷ others) = argument_words argument ++ codes "," �
 abbrev pub words_of : Statement → List (List ℕ)
 words_of includes = codes "include" ∷ codes "\"qelib1.inc\"" ∷ codes ";" ∷ []
 words_of (declares name digits) = codes "qreg" ∷ (bracketed name digits ++ codes ";" ∷ [])
-words_of (declares_bits name digits) = codes "creg" ∷ (bracketed name digits ++ codes ";" ∷ [])
-words_of (bars arguments) = codes "barrier" ∷ (parted arguments ++ codes ";" ∷ [])
 words_of (applies word arguments) = word ∷ (parted arguments ++ codes ";" ∷ [])
 
 -- the tokens before the first statement

@@ -1,10 +1,18 @@
-//! OpenQASM 2.0 files: what a text means, and the text of a compiled circuit.
+//! OpenQASM 2.0 files: what a text means, its reader, and the text of a compiled circuit.
 #![tactic(auto)]
 
+mod file;
 mod law;
+mod names;
+mod reader;
+mod said;
+mod spots;
+mod words;
 mod writer;
 
+pub use file::{QasmFault, QasmFile, Register};
 pub use law::compiled_meaning;
+pub use reader::read;
 pub use writer::write;
 
 #[cfg(test)]

@@ -1,0 +1,310 @@
+-- Arguments of gates and barriers, as the reader takes them.
+use Rattle.std.proofs.Common.{◌≡◌, ℕ, ◌+◌, ◌<◌, ◌≤◌, Bool, true, false, List, [], ◌∷◌, ◌++◌, length, codes, refl, sym, ap, ◌∙◌, subst, arith}
+use Rattle.std.proofs.lemmas.Bool.{false≢true}
+use Rattle.std.specs.List.{AllByRecursion}
+use Rattle.list_facts.proofs.AllLemmas.{AllByRecursion-push, AllByRecursion-weaker, AllByRecursion-append}
+use Rattle.std.proofs.lemmas.List.{length-append}
+use Rattle.revc_base.specs.declared.place.Place.{Place}
+use Rattle.qasm_format.specs.declared.file.QasmFault.{QasmFault}
+use Rattle.qasm_format.specs.declared.file.QasmFault.TheVariants.{Token, Limit, Memory}
+use Rattle.qasm_format.specs.declared.file.Register.{Register}
+use Rattle.qasm_format.specs.declared.words.Use.{Use}
+use Rattle.qasm_format.specs.declared.words.Use.TheVariants.{Barrier, Flip}
+use Rattle.qasm_format.specs.declared.spots.Spot.{Spot}
+use Rattle.qasm_format.specs.declared.spots.Spot.TheVariants.{Line, Whole}
+use Rattle.mct_circuit.specs.Gates.{GateView, IsGateOn, AreGatesOn}
+use Rattle.qasm_lexer.specs.Tokens.{Left}
+use Rattle.qasm_format.specs.Registers.{IsLaid, lines_of_all}
+use Rattle.qasm_format.specs.Stages.{Said, starts, wants, wants_argument, behind_name, wants_index, behind_argument, StandForGates, nothing_said}
+use Rattle.qasm_format.specs.Qasm.{Reads}
+use Rattle.qasm_format.specs.Faults.{IsStop, BreaksRule, BreaksLimit}
+use Rattle.qasm_lexer.specs.Tokens.{Takes}
+use Rattle.qasm_format.specs.inside.Says.{TakesName, IsNameFault, TakesNumber, IsNumberFault, ReadsWord, StopsAtWord, behind_spot, ReadsArgument, StopsAtArgument, ReadsControl, StopsAtControl, ReadsBarrier, StopsAtBarrier, SpotBelow, AddsGates, IsGateFault}
+use Rattle.qasm_format.proofs.DeclaredLemmas.{laid_within}
+use Rattle.qasm_lexer.proofs.MoveLemmas.{moves_within, takes_within, takes_fewer}
+use Rattle.qasm_format.proofs.ReadingLemmas.{reads_none, reads_then, stops_later}
+use Rattle.qasm_format.proofs.StageLemmas.{some_identifier, fault_at_argument, unlaid_at_argument, reads_argument, opens_index, fault_at_index, beyond_at_index, reads_index, reads_comma, reads_end, stops_behind_argument, limit_behind_argument, comma_or_end}
+
+is_line : Spot → Bool
+is_line (Line at) = true
+is_line (Whole first size) = false
+
+line_is_no_register : (at first size : ℕ) → ¬ (Line at ≡ Whole first size)
+unfolding is_line
+line_is_no_register at first size e = false≢true (sym (ap is_line e))
+
+-- ---- a register was named
+
+pub named : (old new : Left) (word : List ℕ) (at : Place) (first size : ℕ) (registers : List Register) (usage : Use) (spots : List Spot) (said : Said)
+    → TakesName old new word at → IsLaid registers word first size → said.registers ≡ registers
+    → Reads old new (wants_argument usage spots said) (behind_name usage spots first size said)
+named old new word at first size registers usage spots said taken laid same =
+    reads_argument first size usage spots said taken (subst (λ (rs : List Register). IsLaid rs word first size) (sym same) laid)
+
+pub unnamed : (old new : Left) (word : List ℕ) (at : Place) (registers : List Register) → TakesName old new word at
+    → ((first size : ℕ) → ¬ IsLaid registers word first size) → StopsAtArgument old registers (Token at)
+unnamed old new word at registers taken none = record {
+  says = λ usage spots said same. unlaid_at_argument usage spots said taken
+      (λ first size laid. none first size (subst (λ (rs : List Register). IsLaid rs word first size) same laid));
+}
+
+pub no_name : (old : Left) (fault : QasmFault) (registers : List Register) → IsNameFault old fault → StopsAtArgument old registers fault
+no_name old fault registers h = record { says = λ usage spots said same. fault_at_argument old fault usage spots said h }
+
+name_fewer : (old new : Left) (word : List ℕ) (at : Place) → TakesName old new word at → length new.bytes < length old.bytes
+name_fewer old new word at taken = takes_fewer old new word at taken.takes (some_identifier word taken.spelled)
+
+-- a whole register
+pub whole_read : (old mid new : Left) (word behind : List ℕ) (at place : Place) (first size : ℕ) (registers : List Register) → TakesName old mid word at
+    → IsLaid registers word first size → Takes mid new behind place → ¬ (behind ≡ codes "[")
+    → ReadsArgument old new registers (Whole first size) behind place
+whole_read old mid new word behind at place first size registers taken laid takes other = record {
+  below = laid_within registers word first size laid;
+  mid = mid;
+  reads = λ usage spots said same. named old mid word at first size registers usage spots said taken laid same;
+  takes = takes;
+  closed = λ f s e. other;
+  fewer = let fewer = name_fewer old mid word at taken in let within = takes_within mid new behind place takes in omega arith;
+}
+
+-- a register and the bracket behind it
+pub record Opens (old new : Left) (registers : List Register) (first size : ℕ) : Type 0 where
+  pub fewer : length new.bytes < length old.bytes
+  pub within : first + size ≤ lines_of_all registers
+  pub says : (usage : Use) (spots : List Spot) (said : Said) → said.registers ≡ registers
+      → Reads old new (wants_argument usage spots said) (wants_index usage spots first size said)
+
+pub opened : (old mid new : Left) (word bracket : List ℕ) (at place : Place) (first size : ℕ) (registers : List Register) → TakesName old mid word at
+    → IsLaid registers word first size → Takes mid new bracket place → bracket ≡ codes "[" → Opens old new registers first size
+opened old mid new word bracket at place first size registers taken laid takes same = record {
+  says = λ usage spots said equal. reads_then (named old mid word at first size registers usage spots said taken laid equal)
+      (opens_index usage spots first size said takes same);
+  within = laid_within registers word first size laid;
+  fewer = let fewer = name_fewer old mid word at taken in let within = takes_within mid new bracket place takes in omega arith;
+}
+
+pub no_index : (old mid : Left) (fault : QasmFault) (registers : List Register) (first size : ℕ) → Opens old mid registers first size
+    → IsNumberFault mid fault → StopsAtArgument old registers fault
+no_index old mid fault registers first size open_bracket h = record {
+  says = λ usage spots said same. stops_later fault (open_bracket.says usage spots said same) (fault_at_index mid fault usage spots first size said h);
+}
+
+pub beyond : (old mid new : Left) (at : Place) (index : ℕ) (registers : List Register) (first size : ℕ) → Opens old mid registers first size
+    → TakesNumber mid new index at → size ≤ index → StopsAtArgument old registers (Token at)
+beyond old mid new at index registers first size open_bracket taken over = record {
+  says = λ usage spots said same. stops_later (Token at) (open_bracket.says usage spots said same)
+      (beyond_at_index index usage spots first size said taken over);
+}
+
+indexed : (old mid new : Left) (at : Place) (index : ℕ) (registers : List Register) (first size : ℕ) (usage : Use) (spots : List Spot) (said : Said)
+    → Opens old mid registers first size → TakesNumber mid new index at → index < size → said.registers ≡ registers
+    → Reads old new (wants_argument usage spots said) (wants (codes "]") (behind_argument usage (spots ++ Line (first + index) ∷ []) said))
+indexed old mid new at index registers first size usage spots said open_bracket taken inside same =
+    reads_then (open_bracket.says usage spots said same) (reads_index index usage spots first size said taken inside)
+
+pub unclosed : (old mid last : Left) (at : Place) (index : ℕ) (fault : QasmFault) (registers : List Register) (first size : ℕ)
+    → Opens old mid registers first size → TakesNumber mid last index at → index < size → StopsAtWord last (codes "]") fault
+    → StopsAtArgument old registers fault
+unclosed old mid last at index fault registers first size open_bracket taken inside stops = record {
+  says = λ usage spots said same. stops_later fault (indexed old mid last at index registers first size usage spots said open_bracket taken inside same)
+      (stops.says (behind_argument usage (spots ++ Line (first + index) ∷ []) said));
+}
+
+pub line_read : (old mid last end new : Left) (at place : Place) (index : ℕ) (behind : List ℕ) (registers : List Register) (first size : ℕ)
+    → Opens old mid registers first size → TakesNumber mid last index at → index < size → ReadsWord last end (codes "]") → Takes end new behind place
+    → ReadsArgument old new registers (Line (first + index)) behind place
+line_read old mid last end new at place index behind registers first size open_bracket taken inside closed takes = record {
+  below = let within = open_bracket.within in omega arith;
+  mid = end;
+  reads = λ usage spots said same. reads_then (indexed old mid last at index registers first size usage spots said open_bracket taken inside same)
+      (closed.says (behind_argument usage (spots ++ Line (first + index) ∷ []) said));
+  takes = takes;
+  closed = λ f s e. absurd (line_is_no_register (first + index) f s e);
+  fewer = let fewer = open_bracket.fewer in let number = takes_within mid last taken.word at taken.takes in
+      let bracket = moves_within (closed.says (starts nothing_said)).moves in let within = takes_within end new behind place takes in omega arith;
+}
+
+-- ---- controls
+
+one_longer : (spots : List Spot) (spot : Spot) → length (spots ++ spot ∷ []) ≡ length spots + 1
+one_longer spots spot = length-append spots (spot ∷ [])
+
+-- the arguments that stand for gates are one more than the controls
+stand_counted : {controls : ℕ} {spots : List Spot} {gates : List GateView} → StandForGates controls spots gates → length spots ≡ controls + 1
+stand_counted {controls} {spots} h =
+    ap length h.parts ∙ length-append h.controlling (h.target ∷ []) ∙ ap (λ (n : ℕ). n + 1) h.counted
+
+pub control_read : (old new : Left) (registers : List Register) (spot : Spot) (word : List ℕ) (at : Place) → ReadsArgument old new registers spot word at
+    → word ≡ codes "," → ReadsControl old new registers spot
+control_read old new registers spot word at read same = record {
+  below = read.below;
+  reads = λ controls spots said equal fewer. reads_then (read.reads (Flip controls) spots said equal)
+      (reads_comma (Flip controls) spots spot said read.takes same (let longer = one_longer spots spot in omega arith));
+}
+
+too_few : (controls : ℕ) (spots : List Spot) (spot : Spot) (gates : List GateView) → length spots < controls
+    → ¬ StandForGates controls (spots ++ spot ∷ []) gates
+too_few controls spots spot gates fewer stand =
+    let counted = stand_counted stand in let longer = one_longer spots spot in absurd (omega arith)
+
+pub no_control : (old new : Left) (registers : List Register) (spot : Spot) (word : List ℕ) (at : Place) → ReadsArgument old new registers spot word at
+    → ¬ (word ≡ codes ",") → StopsAtControl old registers (Token at)
+no_control old new registers spot word at read other = record {
+  says = λ controls spots said equal fewer. stops_later (Token at) (read.reads (Flip controls) spots said equal)
+      (stops_behind_argument (Flip controls) spots spot said read.takes read.closed (λ same more. other same)
+      (λ same after ends. too_few controls spots spot ends.0 fewer ends.1)
+      (λ same many. too_few controls spots spot many.0 fewer many.1));
+}
+
+pub control_stops : (old : Left) (fault : QasmFault) (registers : List Register) → StopsAtArgument old registers fault → StopsAtControl old registers fault
+control_stops old fault registers h = record { says = λ controls spots said equal fewer. h.says (Flip controls) spots said equal }
+
+-- ---- barriers
+
+-- the last argument so far and the token behind it
+pub record InBarrier (old new : Left) (registers : List Register) (word : List ℕ) (at : Place) : Type 0 where
+  pub mid : Left
+  pub spots : List Spot
+  pub spot : Spot
+  pub reads : (said : Said) → said.registers ≡ registers → Reads old mid (wants_argument Barrier [] said) (behind_spot Barrier spots spot said)
+  pub takes : Takes mid new word at
+  pub closed : (first size : ℕ) → spot ≡ Whole first size → ¬ (word ≡ codes "[")
+
+pub barrier_begun : (old new : Left) (registers : List Register) (spot : Spot) (word : List ℕ) (at : Place) → ReadsArgument old new registers spot word at
+    → InBarrier old new registers word at
+barrier_begun old new registers spot word at read = record {
+  mid = read.mid;
+  spots = [];
+  spot = spot;
+  reads = λ said equal. read.reads Barrier [] said equal;
+  takes = read.takes;
+  closed = read.closed;
+}
+
+pub barrier_more : (old mid new : Left) (registers : List Register) (spot : Spot) (comma word : List ℕ) (place at : Place)
+    → InBarrier old mid registers comma place → comma ≡ codes "," → ReadsArgument mid new registers spot word at → InBarrier old new registers word at
+barrier_more old mid new registers spot comma word place at so_far same read = record {
+  mid = read.mid;
+  spots = so_far.spots ++ so_far.spot ∷ [];
+  spot = spot;
+  reads = λ said equal. reads_then (so_far.reads said equal) (reads_then (reads_comma Barrier so_far.spots so_far.spot said so_far.takes same tt)
+      (read.reads Barrier (so_far.spots ++ so_far.spot ∷ []) said equal));
+  takes = read.takes;
+  closed = read.closed;
+}
+
+pub barrier_fails : (old mid : Left) (registers : List Register) (comma : List ℕ) (place : Place) (fault : QasmFault)
+    → InBarrier old mid registers comma place → comma ≡ codes "," → StopsAtArgument mid registers fault → StopsAtBarrier old registers fault
+barrier_fails old mid registers comma place fault so_far same stops = record {
+  says = λ said equal. stops_later fault (reads_then (so_far.reads said equal) (reads_comma Barrier so_far.spots so_far.spot said so_far.takes same tt))
+      (stops.says Barrier (so_far.spots ++ so_far.spot ∷ []) said equal);
+}
+
+pub barrier_ends : (old new : Left) (registers : List Register) (word : List ℕ) (at : Place) → InBarrier old new registers word at → word ≡ codes ";"
+    → ReadsBarrier old new registers
+barrier_ends old new registers word at so_far same = record {
+  reads = λ said equal. reads_then (so_far.reads said equal) (reads_end Barrier so_far.spots so_far.spot said said so_far.takes same refl);
+}
+
+pub barrier_open : (old new : Left) (registers : List Register) (word : List ℕ) (at : Place) → InBarrier old new registers word at
+    → ¬ (word ≡ codes ",") → ¬ (word ≡ codes ";") → StopsAtBarrier old registers (Token at)
+barrier_open old new registers word at so_far no_comma no_end = record {
+  says = λ said equal. stops_later (Token at) (so_far.reads said equal)
+      (stops_behind_argument Barrier so_far.spots so_far.spot said so_far.takes so_far.closed (λ same more. no_comma same)
+      (λ same after ends. no_end same) (λ same many. many));
+}
+
+pub barrier_stops : (old : Left) (fault : QasmFault) (registers : List Register) → StopsAtArgument old registers fault → StopsAtBarrier old registers fault
+barrier_stops old fault registers h = record { says = λ said equal. h.says Barrier [] said equal }
+
+-- ---- gates
+
+-- the controls so far
+pub record InGate (old new : Left) (controls : ℕ) (spots : List Spot) (said : Said) : Type 0 where
+  pub reads : Reads old new (wants_argument (Flip controls) [] said) (wants_argument (Flip controls) spots said)
+  pub below : AllByRecursion (SpotBelow (lines_of_all said.registers)) spots
+
+pub gate_begun : (old : Left) (controls : ℕ) (said : Said) → InGate old old controls [] said
+gate_begun old controls said = record { reads = reads_none old (wants_argument (Flip controls) [] said); below = tt }
+
+pub gate_more : (old mid new : Left) (controls : ℕ) (spots : List Spot) (spot : Spot) (registers : List Register) (said : Said)
+    → InGate old mid controls spots said → ReadsControl mid new registers spot → said.registers ≡ registers → length spots < controls
+    → InGate old new controls (spots ++ spot ∷ []) said
+gate_more old mid new controls spots spot registers said so_far read equal fewer = record {
+  reads = reads_then so_far.reads (read.reads controls spots said equal fewer);
+  below = AllByRecursion-push (SpotBelow (lines_of_all said.registers)) spots spot so_far.below
+      (subst (λ (rs : List Register). SpotBelow (lines_of_all rs) spot) (sym equal) read.below);
+}
+
+pub control_fails : (old mid : Left) (controls : ℕ) (spots : List Spot) (fault : QasmFault) (registers : List Register) (said : Said)
+    → InGate old mid controls spots said → StopsAtControl mid registers fault → said.registers ≡ registers → length spots < controls
+    → IsStop old (wants_argument (Flip controls) [] said) fault
+control_fails old mid controls spots fault registers said so_far stops equal fewer =
+    stops_later fault so_far.reads (stops.says controls spots said equal fewer)
+
+pub target_fails : (old mid : Left) (controls : ℕ) (spots : List Spot) (fault : QasmFault) (registers : List Register) (said : Said)
+    → InGate old mid controls spots said → StopsAtArgument mid registers fault → said.registers ≡ registers
+    → IsStop old (wants_argument (Flip controls) [] said) fault
+target_fails old mid controls spots fault registers said so_far stops equal =
+    stops_later fault so_far.reads (stops.says (Flip controls) spots said equal)
+
+-- the gate has all arguments, and no end
+pub gate_open : (old mid new : Left) (controls : ℕ) (spots : List Spot) (spot : Spot) (word : List ℕ) (at : Place) (registers : List Register) (said : Said)
+    → InGate old mid controls spots said → ReadsArgument mid new registers spot word at → said.registers ≡ registers → length spots ≡ controls
+    → ¬ (word ≡ codes ";") → IsStop old (wants_argument (Flip controls) [] said) (Token at)
+gate_open old mid new controls spots spot word at registers said so_far read equal all other =
+    stops_later (Token at) (reads_then so_far.reads (read.reads (Flip controls) spots said equal))
+    (stops_behind_argument (Flip controls) spots spot said read.takes read.closed
+    (λ same more. let longer = one_longer spots spot in absurd (omega (arith, more, longer, all)))
+    (λ same after ends. other same) (λ same many. other same))
+
+pub gate_ends : (old mid new : Left) (controls : ℕ) (spots : List Spot) (spot : Spot) (word : List ℕ) (at : Place) (registers : List Register) (said : Said)
+    (gates : List GateView) → InGate old mid controls spots said → ReadsArgument mid new registers spot word at → said.registers ≡ registers
+    → length spots ≡ controls → word ≡ codes ";" → AddsGates (spots ++ spot ∷ []) said.gates gates
+    → Reads old new (wants_argument (Flip controls) [] said) (starts (record said { gates = gates }))
+gate_ends old mid new controls spots spot word at registers said gates so_far read equal all same adds =
+    let longer = one_longer spots spot in
+    reads_then so_far.reads (reads_then (read.reads (Flip controls) spots said equal)
+    (reads_end (Flip controls) spots spot said (record said { gates = gates }) read.takes same
+    (adds.more, adds.stand controls (omega arith), adds.few, ap (λ (gs : List GateView). record said { gates = gs }) adds.added)))
+
+-- the arguments stand for no gates, or for too many
+pub gates_fail : (old mid new : Left) (controls : ℕ) (spots : List Spot) (spot : Spot) (word : List ℕ) (at : Place) (registers : List Register) (said : Said)
+    (fault : QasmFault) → InGate old mid controls spots said → ReadsArgument mid new registers spot word at → said.registers ≡ registers
+    → length spots ≡ controls → word ≡ codes ";" → IsGateFault at (spots ++ spot ∷ []) said.gates fault
+    → IsStop old (wants_argument (Flip controls) [] said) fault
+gates_fail old mid new controls spots spot word at registers said (Token place) so_far read equal all same h =
+    stops_later (Token place) (reads_then so_far.reads (read.reads (Flip controls) spots said equal))
+    (subst (λ (p : Place). BreaksRule read.mid (behind_spot (Flip controls) spots spot said) p) (sym h.0)
+    (stops_behind_argument (Flip controls) spots spot said read.takes read.closed (λ comma more. comma_or_end word comma same)
+    (λ semicolon after ends. h.1.says controls ends.0 ends.1) (λ semicolon many. h.1.says controls many.0 many.1)))
+gates_fail old mid new controls spots spot word at registers said (Limit place) so_far read equal all same h =
+    let longer = one_longer spots spot in
+    stops_later (Limit place) (reads_then so_far.reads (read.reads (Flip controls) spots said equal))
+    (subst (λ (p : Place). BreaksLimit read.mid (behind_spot (Flip controls) spots spot said) p) (sym h.0)
+    (limit_behind_argument (Flip controls) spots spot said read.takes same
+    (λ after ends. let many = h.1.all controls ends.0 ends.1 in let few = ends.2 in absurd (omega (arith, many, few)))
+    (h.1.more, h.1.stand controls (omega arith), h.1.many) read.closed))
+gates_fail old mid new controls spots spot word at registers said Memory so_far read equal all same h = tt
+
+-- all arguments of a gate are below the number of lines
+pub all_below : (old mid new : Left) (controls : ℕ) (spots : List Spot) (spot : Spot) (word : List ℕ) (at : Place) (said : Said)
+    → InGate old mid controls spots said → ReadsArgument mid new said.registers spot word at
+    → AllByRecursion (SpotBelow (lines_of_all said.registers)) (spots ++ spot ∷ [])
+all_below old mid new controls spots spot word at said so_far read =
+    AllByRecursion-push (SpotBelow (lines_of_all said.registers)) spots spot so_far.below read.below
+
+below_more : (n m : ℕ) → n ≤ m → (spot : Spot) → SpotBelow n spot → SpotBelow m spot
+below_more n m le (Line at) h = omega arith
+below_more n m le (Whole first size) h = omega arith
+
+pub all_below_most : (n : ℕ) (spots : List Spot) → n ≤ 16384 → AllByRecursion (SpotBelow n) spots → AllByRecursion (SpotBelow 16384) spots
+all_below_most n spots le all = AllByRecursion-weaker (SpotBelow n) (SpotBelow 16384) (below_more n 16384 le) spots all
+
+pub sound_after : (spots : List Spot) (old gates : List GateView) (lines : ℕ) → AreGatesOn lines old → AllByRecursion (SpotBelow lines) spots
+    → AddsGates spots old gates → AreGatesOn lines gates × (length gates ≤ 4000000)
+sound_after spots old gates lines on below adds =
+    let few = ap length adds.added ∙ length-append old adds.more in (
+      subst (AreGatesOn lines) (sym adds.added) (AllByRecursion-append (IsGateOn lines) old adds.more on (adds.placed lines below)),
+      omega (arith, few, adds.few),
+    )

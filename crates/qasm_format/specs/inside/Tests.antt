@@ -1,0 +1,50 @@
+-- The tests of words that the reader makes.
+use Rattle.std.specs.Prelude.{ℕ, Bool, not, ◌&&◌, ◌||◌, if◌then◌else◌, List, codes, slice_index, Option, Some, None}
+use Rattle.std.specs.Str.{bytes_eq}
+use Rattle.std.specs.Char.{is_ascii_lowercase}
+use Rattle.qasm_format.specs.declared.words.Kind.{Kind}
+use Rattle.qasm_format.specs.declared.words.Kind.TheVariants.{Qubits, Bits}
+use Rattle.qasm_format.specs.declared.words.Use.{Use}
+use Rattle.qasm_format.specs.declared.words.Use.TheVariants.{Barrier, Flip}
+
+-- the kind of register that a word declares
+abbrev pub kind_of : List ℕ → Option Kind
+kind_of word =
+    if bytes_eq word (codes "qreg") then Some Qubits
+    else (if bytes_eq word (codes "creg") then Some Bits
+    else None)
+
+-- the gates that stand in the included file
+abbrev pub flip_of : List ℕ → Option Use
+flip_of word =
+    if bytes_eq word (codes "x") then Some (Flip 0)
+    else (if bytes_eq word (codes "cx") then Some (Flip 1)
+    else (if bytes_eq word (codes "ccx") then Some (Flip 2)
+    else None))
+
+-- what the arguments behind a word are for
+abbrev pub use_of : List ℕ → Bool → Option Use
+use_of word included =
+    if bytes_eq word (codes "barrier") then Some Barrier
+    else (if bytes_eq word (codes "CX") then Some (Flip 1)
+    else (if included then flip_of word else None))
+
+abbrev pub is_kept_first : List ℕ → Bool
+is_kept_first word =
+    bytes_eq word (codes "barrier") || (bytes_eq word (codes "creg")
+    || (bytes_eq word (codes "gate") || (bytes_eq word (codes "if")
+    || bytes_eq word (codes "include"))))
+
+abbrev pub is_kept_too : List ℕ → Bool
+is_kept_too word =
+    bytes_eq word (codes "measure") || (bytes_eq word (codes "opaque")
+    || (bytes_eq word (codes "qreg") || (bytes_eq word (codes "reset")
+    || bytes_eq word (codes "pi"))))
+
+-- whether a word names no register
+abbrev pub is_kept : List ℕ → Bool
+is_kept word = is_kept_first word || is_kept_too word
+
+-- whether an identifier of at most 64 bytes may name a register
+abbrev pub is_free : List ℕ → Bool
+is_free word = is_ascii_lowercase (slice_index word 0) && not (is_kept word)

@@ -1,0 +1,101 @@
+// A file as it was read, and why a text means none.
+ghost use Rattle.std.specs.Prelude.{◌≡◌};
+ghost use Rattle.qasm_format.specs.Registers.{lines_of_all};
+
+use mct_circuit::Circuit;
+use revc_base::{Memory, Place, Text};
+use std::alloc::{AllocError, AllocFailed};
+use std::marker::Model;
+
+/// A register: its name and its number of lines.
+#[derive(Debug, Drop)]
+pub struct Register {
+    pub name: Text,
+    pub size: u32,
+}
+
+/// A file: its registers in the order of their declaration, and the circuit on their lines, laid one after another.
+/// Contracts see it as the registers and the gates.
+#[derive(Debug, Drop)]
+pub struct QasmFile {
+    registers: Vec<Register>,
+    circuit: Circuit,
+}
+
+impl Model for QasmFile {
+    ghost use Rattle.std.specs.Prelude.{◌≡◌};
+    ghost use Rattle.qasm_format.specs.Qasm.{QasmView};
+    ghost use Rattle.qasm_format.specs.Registers.{lines_of_all};
+
+    ghost Value = { QasmView };
+
+    ghost view = { λ f. record { registers = f.registers.items; gates = f.circuit.gates } };
+
+    ghost invariant = { λ f. f.circuit.lines ≡ lines_of_all f.registers.items };
+}
+
+impl QasmFile {
+    pub(crate) fn new(registers: Vec<Register>, circuit: Circuit) -> QasmFile
+        requires { circuit.lines ≡ lines_of_all registers.items }
+        ensures { result ≡ record { registers = registers.items; gates = circuit.gates } }
+    {
+        QasmFile { registers, circuit }
+    }
+
+    /// The registers.
+    pub fn registers(&self) -> &[Register]
+        ensures { result.now ≡ self.now.registers }
+    {
+        &self.registers
+    }
+
+    /// The circuit.
+    pub fn circuit(&self) -> &Circuit
+        ensures gates { result.now.gates ≡ self.now.gates }
+        ensures lines { result.now.lines ≡ lines_of_all self.now.registers }
+    {
+        &self.circuit
+    }
+}
+
+/// Why a text means no file: the place of the first token that breaks a rule (`Token`), or that passes a limit and
+/// else keeps the form (`Limit`). The end of the text counts as a token. `Memory` is want of memory.
+#[derive(Clone, Copy, Debug, PartialEq, Eq)]
+pub enum QasmFault {
+    Token { at: Place },
+    Limit { at: Place },
+    Memory,
+}
+
+impl From<Memory> for QasmFault {
+    ghost use Rattle.std.specs.Prelude.{◌≡◌};
+    ghost use Rattle.qasm_format.specs.declared.file.QasmFault.TheVariants.{Memory};
+
+    ghost from_gives = { λ _ e. e ≡ Memory };
+
+    fn from(_: Memory) -> QasmFault {
+        QasmFault::Memory
+    }
+}
+
+impl From<AllocError> for QasmFault {
+    ghost use Rattle.std.specs.Prelude.{◌≡◌};
+    ghost use Rattle.qasm_format.specs.declared.file.QasmFault.TheVariants.{Memory};
+
+    ghost from_gives = { λ _ e. e ≡ Memory };
+
+    fn from(_: AllocError) -> QasmFault {
+        QasmFault::Memory
+    }
+}
+
+impl<T: Drop> From<AllocFailed<T>> for QasmFault {
+    ghost use Rattle.std.specs.Prelude.{◌≡◌};
+    ghost use Rattle.qasm_format.specs.declared.file.QasmFault.TheVariants.{Memory};
+
+    ghost from_gives = { λ _ e. e ≡ Memory };
+
+    fn from(_: AllocFailed<T>) -> QasmFault {
+        QasmFault::Memory
+    }
+}

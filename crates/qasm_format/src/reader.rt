@@ -1,0 +1,393 @@
+// The reader of OpenQASM texts: one token after another.
+ghost use Rattle.std.specs.Prelude.{◌≡◌, ◌≢◌, ◌⊎◌, ℕ, ◌+◌, ◌<◌, ◌≤◌, ◌^◌, ◌∷◌, [], ◌++◌, true, false, length, codes, OnOk, IfOk, IfErr};
+ghost use Rattle.std.specs.List.{AllByRecursion};
+ghost use Rattle.gate_split.specs.declared.plan.TheConstants.{MOST_LINES, MOST_GATES};
+ghost use Rattle.mct_circuit.specs.Gates.{HasDifferentLines};
+ghost use Rattle.qasm_format.specs.Registers.{lines_of_all};
+ghost use Rattle.qasm_format.specs.Stages.{starts, wants, wants_name, wants_argument, head, nothing_said, HasRoom, gate_at};
+ghost use Rattle.qasm_format.specs.Qasm.{MeansFile, Reads};
+ghost use Rattle.qasm_format.specs.Faults.{IsStop, IsQasmFault};
+ghost use Rattle.qasm_format.specs.inside.Spread.{AreAllDifferent, ArePushed};
+ghost use Rattle.qasm_format.specs.inside.Says.{ReadsWord, StopsAtWord, TakesName, IsNameFault, TakesNumber, IsNumberFault, ReadsWords, StopsAtWords, ReadsSize, StopsAtSize, ReadsArgument, StopsAtArgument, ReadsControl, StopsAtControl, ReadsBarrier, StopsAtBarrier, said_of, IsSound, GoesOn, AddsGates, IsGateFault, SpotBelow, ReadsBehind, StopsBehind};
+
+use crate::file::{QasmFault, QasmFile};
+use crate::names::Declared;
+use crate::said::Said;
+use crate::spots::{Spot, all_different, count_of};
+use crate::words::{Kind, Use, is_free, kind_of, use_of};
+use gate_split::{MOST_GATES, MOST_LINES};
+use mct_circuit::{Circuit, Control, Gate, Op};
+use qasm_lexer::{MOST_DIGITS, Token, Tokens, is_identifier, is_number};
+use revc_base::limits::MOST_NAME_BYTES;
+use revc_base::{Memory, Place};
+use std::alloc::Global;
+use text_places::number;
+
+/// Reads an OpenQASM text: the file that it means, or exactly the first token that breaks a rule or passes a limit, or
+/// want of memory. It takes one token after another. The format is that of OpenQASM (Cross, Bishop, Smolin, Gambetta:
+/// Open Quantum Assembly Language, 2017, arXiv:1707.03429).
+pub fn read(alloc: Global, bytes: &[u8]) -> Result<QasmFile, QasmFault>
+    requires { length bytes.now + 1 < 2 ^ 32 }
+    ensures ok { IfOk result (MeansFile bytes.now) }
+    ensures err { IfErr result (IsQasmFault bytes.now) }
+{
+    let mut tokens = Tokens::new(bytes);
+    read_head(&mut tokens)?;
+    let mut said = Said::new(alloc);
+    'statements: while read_statement(alloc, &mut said, &mut tokens)? {}
+    file_of(alloc, said)
+}
+
+fn file_of(alloc: Global, said: Said) -> Result<QasmFile, QasmFault>
+    requires { IsSound said }
+    ensures ok { IfOk result (λ file. file ≡ record {
+      registers = said.entry.declared.registers;
+      gates = said.entry.gates.items;
+    }) }
+    ensures err { IfErr result (λ fault. fault ≡ QasmFault.Memory) }
+{
+    let registers = said.declared.copies(alloc)?;
+    let mut circuit = Circuit::new(alloc, said.declared.lines(), MOST_GATES);
+    let mut gates = said.gates;
+    match circuit.append(&mut gates) {
+        Ok(()) => Ok(QasmFile::new(registers, circuit)),
+        Err(_) => Err(QasmFault::Memory),
+    }
+}
+
+// ---- words that are wanted
+
+// The word that is wanted next.
+fn take_word(tokens: &mut Tokens, wanted: &[u8]) -> Result<(), QasmFault>
+    requires { 0 < length wanted.now }
+    ensures ok { OnOk result (ReadsWord tokens.old tokens.new wanted.now) }
+    ensures err { IfErr result (StopsAtWord tokens.old wanted.now) }
+{
+    let token = tokens.next();
+    if token.word != wanted {
+        return Err(QasmFault::Token { at: token.at });
+    }
+    Ok(())
+}
+
+// An identifier of at most 64 bytes.
+fn take_name<'t>(tokens: &mut Tokens<'t>) -> Result<Token<'t>, QasmFault>
+    ensures ok { IfOk result (λ token.
+        TakesName tokens.old tokens.new token.word.now token.at) }
+    ensures err { IfErr result (IsNameFault tokens.old) }
+{
+    let token = tokens.next();
+    if !is_identifier(token.word) {
+        return Err(QasmFault::Token { at: token.at });
+    }
+    if token.word.len() > MOST_NAME_BYTES {
+        return Err(QasmFault::Limit { at: token.at });
+    }
+    Ok(token)
+}
+
+// A number of at most 9 digits, and its place.
+fn take_number(tokens: &mut Tokens) -> Result<(u32, Place), QasmFault>
+    ensures ok { IfOk result (λ found. TakesNumber tokens.old tokens.new found.0 found.1) }
+    ensures err { IfErr result (IsNumberFault tokens.old) }
+{
+    let token = tokens.next();
+    if !is_number(token.word) {
+        return Err(QasmFault::Token { at: token.at });
+    }
+    if token.word.len() > MOST_DIGITS {
+        return Err(QasmFault::Limit { at: token.at });
+    }
+    Ok((number(token.word), token.at))
+}
+
+fn read_head(tokens: &mut Tokens) -> Result<(), QasmFault>
+    ensures ok { OnOk result (Reads tokens.old tokens.new head (starts nothing_said)) }
+    ensures err { IfErr result (IsStop tokens.old head) }
+{
+    take_word(tokens, b"OPENQASM")?;
+    take_word(tokens, b"2.0")?;
+    take_word(tokens, b";")
+}
+
+// ---- statements
+
+// The next statement, and whether there is one.
+fn read_statement<'t>(
+    alloc: Global,
+    said: &mut Said<'t>,
+    tokens: &mut Tokens<'t>,
+) -> Result<bool, QasmFault>
+    requires { IsSound said.old }
+    ensures ok { IfOk result (λ more. GoesOn more tokens.old tokens.new said.old said.new) }
+    ensures sound { OnOk result (IsSound said.new) }
+    ensures err { IfErr result (IsStop tokens.old (starts (said_of said.old))) }
+{
+    let token = tokens.next();
+    if token.word.is_empty() {
+        return end_of(said, token.at);
+    }
+    if said.included || token.word != b"include".as_slice() {
+        return read_other(alloc, said, tokens, token);
+    }
+    read_include(tokens)?;
+    said.included = true;
+    Ok(true)
+}
+
+// At the end of the text: no statement, where there is a line.
+fn end_of(said: &Said, at: Place) -> Result<bool, QasmFault>
+    ensures ok { IfOk result (λ more. (more ≡ false)
+        × (1 ≤ lines_of_all said.now.declared.registers)) }
+    ensures err { IfErr result (λ fault. (fault ≡ QasmFault.Token at)
+        × (lines_of_all said.now.declared.registers ≡ 0)) }
+{
+    if said.declared.lines() == 0 {
+        return Err(QasmFault::Token { at });
+    }
+    Ok(false)
+}
+
+// A statement other than the first include, behind its first word.
+fn read_other<'t>(
+    alloc: Global,
+    said: &mut Said<'t>,
+    tokens: &mut Tokens<'t>,
+    token: Token<'t>,
+) -> Result<bool, QasmFault>
+    requires sound { IsSound said.old }
+    requires other { (said.old.included ≡ true) ⊎ (token.word.now ≢ codes "include") }
+    ensures more { IfOk result (λ more. more ≡ true) }
+    ensures ok { OnOk result (ReadsBehind tokens.old tokens.new token.entry.word.now
+        (said_of said.old) (said_of said.new)) }
+    ensures sound { OnOk result (IsSound said.new) }
+    ensures err { IfErr result (StopsBehind tokens.old token.entry.word.now token.entry.at
+        (said_of said.old)) }
+{
+    if let Some(kind) = kind_of(token.word) {
+        read_declaration(said, tokens, kind)?;
+        return Ok(true);
+    }
+    match use_of(token.word, said.included) {
+        Some(Use::Barrier) => {
+            read_barrier(&said.declared, tokens)?;
+            Ok(true)
+        }
+        Some(Use::Flip(controls)) => {
+            read_gate(alloc, said, tokens, controls)?;
+            Ok(true)
+        }
+        None => Err(QasmFault::Token { at: token.at }),
+    }
+}
+
+fn read_include(tokens: &mut Tokens) -> Result<(), QasmFault>
+    ensures ok { OnOk result (ReadsWords tokens.old tokens.new
+        (codes "\"qelib1.inc\"") (codes ";")) }
+    ensures err { IfErr result (StopsAtWords tokens.old (codes "\"qelib1.inc\"") (codes ";")) }
+{
+    take_word(tokens, b"\"qelib1.inc\"")?;
+    take_word(tokens, b";")
+}
+
+fn read_declaration<'t>(
+    said: &mut Said<'t>,
+    tokens: &mut Tokens<'t>,
+    kind: Kind,
+) -> Result<(), QasmFault>
+    requires { IsSound said.old }
+    ensures ok { OnOk result (Reads tokens.old tokens.new
+        (wants_name kind (said_of said.old)) (starts (said_of said.new))) }
+    ensures sound { OnOk result (IsSound said.new) }
+    ensures err { IfErr result (IsStop tokens.old (wants_name kind (said_of said.old))) }
+{
+    let name = take_name(tokens)?;
+    if !is_free(name.word) {
+        return Err(QasmFault::Token { at: name.at });
+    }
+    if said.declared.has(name.word) {
+        return Err(QasmFault::Token { at: name.at });
+    }
+    let size = take_size(tokens, kind, said.declared.lines())?;
+    said.declared.push(kind, name.word, size)?;
+    Ok(())
+}
+
+// A size in square brackets, and the end of the statement.
+fn take_size(tokens: &mut Tokens, kind: Kind, lines: u32) -> Result<u32, QasmFault>
+    requires { lines ≤ MOST_LINES }
+    ensures ok { IfOk result (ReadsSize tokens.old tokens.new kind lines) }
+    ensures err { IfErr result (StopsAtSize tokens.old kind lines) }
+{
+    take_word(tokens, b"[")?;
+    let (size, at) = take_number(tokens)?;
+    if size == 0 {
+        return Err(QasmFault::Token { at });
+    }
+    if is_full(kind, size, lines) {
+        return Err(QasmFault::Limit { at });
+    }
+    take_word(tokens, b"]")?;
+    take_word(tokens, b";")?;
+    Ok(size)
+}
+
+// Whether the lines pass their limit with a register of this size.
+fn is_full(kind: Kind, size: u32, lines: u32) -> bool
+    requires { lines ≤ MOST_LINES }
+    ensures room { result ≡ false → HasRoom kind size lines }
+    ensures full { result ≡ true → (kind ≡ Kind.Qubits) × (MOST_LINES < lines + size) }
+{
+    match kind {
+        Kind::Qubits => size > MOST_LINES - lines,
+        Kind::Bits => false,
+    }
+}
+
+// ---- arguments
+
+// An argument, and the token behind it.
+fn read_argument<'t>(
+    declared: &Declared<'t>,
+    tokens: &mut Tokens<'t>,
+) -> Result<(Spot, Token<'t>), QasmFault>
+    ensures ok { IfOk result (λ read. ReadsArgument tokens.old tokens.new declared.now.registers
+        read.0 read.1.word.now read.1.at) }
+    ensures err { IfErr result (StopsAtArgument tokens.old declared.now.registers) }
+{
+    let name = take_name(tokens)?;
+    let Some(span) = declared.find(name.word) else {
+        return Err(QasmFault::Token { at: name.at });
+    };
+    let behind = tokens.next();
+    if behind.word != b"[".as_slice() {
+        return Ok((Spot::Whole(span.first, span.size), behind));
+    }
+    let (index, at) = take_number(tokens)?;
+    if index >= span.size {
+        return Err(QasmFault::Token { at });
+    }
+    take_word(tokens, b"]")?;
+    Ok((Spot::Line(span.first + index), tokens.next()))
+}
+
+fn read_barrier<'t>(declared: &Declared<'t>, tokens: &mut Tokens<'t>) -> Result<(), QasmFault>
+    ensures ok { OnOk result (ReadsBarrier tokens.old tokens.new declared.now.registers) }
+    ensures err { IfErr result (StopsAtBarrier tokens.old declared.now.registers) }
+{
+    let (_, mut behind) = read_argument(declared, tokens)?;
+    while behind.word == b",".as_slice() {
+        let (_, token) = read_argument(declared, tokens)?;
+        behind = token;
+    }
+    if behind.word != b";".as_slice() {
+        return Err(QasmFault::Token { at: behind.at });
+    }
+    Ok(())
+}
+
+// So many controls and the target.
+fn read_gate<'t>(
+    alloc: Global,
+    said: &mut Said<'t>,
+    tokens: &mut Tokens<'t>,
+    controls: u32,
+) -> Result<(), QasmFault>
+    requires few { controls ≤ 2 }
+    requires sound { IsSound said.old }
+    ensures ok { OnOk result (Reads tokens.old tokens.new
+        (wants_argument (Use.Flip controls) [] (said_of said.old)) (starts (said_of said.new))) }
+    ensures sound { OnOk result (IsSound said.new) }
+    ensures err { IfErr result (IsStop tokens.old
+        (wants_argument (Use.Flip controls) [] (said_of said.old))) }
+{
+    // This call says that the lines are within their limit.
+    let _ = said.declared.lines();
+    let mut spots = Vec::new(alloc);
+    for _k in 0..controls {
+        spots.push(read_control(&said.declared, tokens)?)?;
+    }
+    let (target, behind) = read_argument(&said.declared, tokens)?;
+    spots.push(target)?;
+    if behind.word != b";".as_slice() {
+        return Err(QasmFault::Token { at: behind.at });
+    }
+    add_gates(alloc, &mut said.gates, &spots, behind.at)
+}
+
+// An argument and the comma behind it.
+fn read_control<'t>(declared: &Declared<'t>, tokens: &mut Tokens<'t>) -> Result<Spot, QasmFault>
+    ensures ok { IfOk result (ReadsControl tokens.old tokens.new declared.now.registers) }
+    ensures err { IfErr result (StopsAtControl tokens.old declared.now.registers) }
+{
+    let (spot, behind) = read_argument(declared, tokens)?;
+    if behind.word != b",".as_slice() {
+        return Err(QasmFault::Token { at: behind.at });
+    }
+    Ok(spot)
+}
+
+// ---- gates
+
+// The gates that arguments stand for, which end at a place.
+fn add_gates(
+    alloc: Global,
+    gates: &mut Vec<Gate>,
+    spots: &[Spot],
+    at: Place,
+) -> Result<(), QasmFault>
+    requires some { 1 ≤ length spots.now }
+    requires below { AllByRecursion (SpotBelow MOST_LINES) spots.now }
+    ensures ok { OnOk result (AddsGates spots.now gates.old.items gates.new.items) }
+    ensures err { IfErr result (IsGateFault at spots.now gates.old.items) }
+{
+    let Some(count) = count_of(spots) else {
+        return Err(QasmFault::Token { at });
+    };
+    if !all_different(spots, count) {
+        return Err(QasmFault::Token { at });
+    }
+    if gates.len() as u64 + u64::from(count) > MOST_GATES {
+        return Err(QasmFault::Limit { at });
+    }
+    Ok(push_gates(alloc, gates, spots, count)?)
+}
+
+// So many gates of these arguments.
+fn push_gates(
+    alloc: Global,
+    gates: &mut Vec<Gate>,
+    spots: &[Spot],
+    count: u32,
+) -> Result<(), Memory>
+    requires below { AllByRecursion (SpotBelow MOST_LINES) spots.now }
+    requires few { count ≤ MOST_LINES }
+    requires different { AreAllDifferent spots.now count }
+    ensures { OnOk result (ArePushed spots.now count gates.old.items gates.new.items) }
+{
+    let Some((target, controls)) = spots.split_last() else {
+        return Ok(());
+    };
+    for i in 0..count {
+        gates.push(gate_at(alloc, controls, *target, i)?)?;
+    }
+    Ok(())
+}
+
+// The i-th gate of arguments.
+fn gate_at(alloc: Global, spots: &[Spot], target: Spot, i: u32) -> Result<Gate, Memory>
+    requires below { AllByRecursion (SpotBelow MOST_LINES) spots.now }
+    requires target { SpotBelow MOST_LINES target }
+    requires few { i ≤ MOST_LINES }
+    requires different { HasDifferentLines (gate_at spots.now target i) }
+    ensures { IfOk result (λ gate. gate ≡ gate_at spots.now target i) }
+{
+    let mut controls = Vec::with_capacity(alloc, spots.len())?;
+    for spot in spots {
+        controls.push(Control {
+            line: spot.line_at(i),
+            positive: true,
+        })?;
+    }
+    Ok(Gate::new(controls, Op::Flip(target.line_at(i))))
+}

@@ -1,0 +1,28 @@
+// What statements said so far.
+ghost use Rattle.std.specs.Prelude.{◌≡◌, [], false};
+
+use crate::names::Declared;
+use mct_circuit::Gate;
+use std::alloc::Global;
+
+// Whether the include stood, what was declared, and the gates.
+#[derive(Drop)]
+pub struct Said<'t> {
+    pub included: bool,
+    pub declared: Declared<'t>,
+    pub gates: Vec<Gate>,
+}
+
+impl<'t> Said<'t> {
+    pub fn new(alloc: Global) -> Said<'t>
+        ensures included { result.included ≡ false }
+        ensures declared { result.declared ≡ record { names = []; registers = [] } }
+        ensures gates { result.gates.items ≡ [] }
+    {
+        Said {
+            included: false,
+            declared: Declared::new(alloc),
+            gates: Vec::new(alloc),
+        }
+    }
+}
