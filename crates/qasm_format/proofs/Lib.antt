@@ -8,6 +8,8 @@ pub mod DeclaredLemmas
 pub mod DeclarationLemmas
 pub mod StatementLemmas
 pub mod FileLemmas
+pub mod FitLemmas
+pub mod OneReadingLemmas
 pub mod CutLemmas
 pub mod WordLemmas
 pub mod RegisterLemmas

@@ -5,7 +5,7 @@ use Rattle.qasm_format.specs.declared.file.QasmFault.{QasmFault}
 use Rattle.qasm_format.specs.declared.file.QasmFault.TheVariants.{Token, Limit, Memory}
 use Rattle.qasm_lexer.specs.Tokens.{Left, BeginsWith, whole}
 use Rattle.qasm_format.specs.Stages.{Stage, head, Leads, PassesLimit, MayEnd}
-use Rattle.qasm_format.specs.Qasm.{Reads}
+use Rattle.qasm_format.specs.Qasm.{Reads, QasmView, MeansFile}
 
 -- Tokens lead to a stage, and the one behind them, at this place, leads nowhere from there; no text may end there.
 pub record StopsAt (old : Left) (from : Stage) (at : Place) (word : List ℕ)
@@ -38,3 +38,21 @@ IsStop old from Memory = Unit {0}
 -- what `read` may end with: the text's fault, or want of memory
 abbrev pub IsQasmFault : List ℕ → QasmFault → Type 0
 IsQasmFault text fault = IsStop (whole text) head fault
+
+-- why the text means no file
+abbrev pub IsTextFault : List ℕ → QasmFault → Type 0
+IsTextFault text (Token at) = BreaksRule (whole text) head at
+IsTextFault text (Limit at) = BreaksLimit (whole text) head at
+IsTextFault text Memory = ⊥
+
+-- A text means at most one file, has at most one fault, and never both.
+pub record HasOneReading (text : List ℕ) : Type 0 where
+  pub one_meaning : (file other : QasmView) → MeansFile text file → MeansFile text other
+      → file ≡ other
+  pub one_fault : (fault other : QasmFault) → IsTextFault text fault → IsTextFault text other
+      → fault ≡ other
+  pub never_both : (file : QasmView) (fault : QasmFault) → MeansFile text file
+      → IsTextFault text fault → ⊥
+
+abbrev pub OneReading : Type 0
+OneReading = (text : List ℕ) → HasOneReading text

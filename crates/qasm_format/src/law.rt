@@ -1,7 +1,21 @@
 ghost use Rattle.qasm_format.specs.Compiled.{CompiledHasMeaning};
+ghost use Rattle.qasm_format.specs.Faults.{OneReading};
+ghost use Rattle.qasm_format.specs.Qasm.{MeaningsAreFiles};
 
 /// The law of compiled files: the text of a circuit of narrow gates means, by the format's own meaning,
 /// the file with those gates on the registers of the given roles. The function does nothing: its contract is the law.
 pub fn compiled_meaning()
     ensures { CompiledHasMeaning }
+{}
+
+/// The law of one reading: a text means at most one file, has at most one fault, and never both. The function does
+/// nothing: its contract is the law.
+pub fn one_reading()
+    ensures { OneReading }
+{}
+
+/// The law of files: what a text means has registers of different names, with 1 to 16,384 lines in all, and at most
+/// 4,000,000 gates on these lines. The function does nothing: its contract is the law.
+pub fn meanings_are_files()
+    ensures { MeaningsAreFiles }
 {}

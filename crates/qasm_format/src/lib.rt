@@ -11,7 +11,7 @@ mod words;
 mod writer;
 
 pub use file::{QasmFault, QasmFile, Register};
-pub use law::compiled_meaning;
+pub use law::{compiled_meaning, meanings_are_files, one_reading};
 pub use reader::read;
 pub use writer::write;
 
