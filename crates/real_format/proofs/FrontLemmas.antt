@@ -1,15 +1,14 @@
 -- Lines that keep the rules begin a file.
-use Rattle.std.proofs.Common.{◌≡◌, ℕ, ◌≤◌, List, [], ◌∷◌, length, codes, Option, Some, None, IfSome, refl, sym, ap, ◌∙◌, subst, arith}
+use Rattle.std.proofs.Common.{◌≡◌, ℕ, ◌≤◌, List, [], ◌∷◌, codes, Option, Some, None, IfSome, refl, sym, ap, ◌∙◌, subst, arith}
 use Rattle.gate_split.specs.declared.plan.TheConstants.{MOST_LINES}
-use Rattle.gate_split.specs.declared.roles.Roles.{Roles}
-use Rattle.gate_split.specs.Plans.{lines_in}
 use Rattle.real_format.specs.declared.header.Head.TheVariants.{Lines, Names}
 use Rattle.real_format.specs.Header.{HeaderView, nothing_said}
 use Rattle.real_format.specs.Real.{Place, in_header, in_gates, at_end, says_more, begins_gates, ends_file, LeadTo, nothing_left, one_more, GoesOn, FrontsGoOn}
-use Rattle.real_format.specs.Compiled.{names_of}
+use Rattle.real_format.specs.Written.{names_by}
+use Rattle.real_format.specs.Converted.{numbered_name}
 use Rattle.real_format.specs.inside.Steps.{IsSound}
 use Rattle.real_format.specs.inside.Reading.{file_of}
-use Rattle.real_format.proofs.NameLemmas.{length-names_of, names_are_different, names_are_names}
+use Rattle.real_format.proofs.NameLemmas.{good_by_number, length-names_by, names_are_different, names_are_names}
 use Rattle.real_format.proofs.LineLemmas.{IsFit}
 use Rattle.real_format.proofs.VerdictLemmas.{passed, sound_at_first}
 
@@ -27,24 +26,17 @@ names_said said names e = record {
   leads = one_more (begins_gates refl (record { names = e; constants = refl; garbage = refl; gates = refl })) (one_more (ends_file refl) nothing_left);
 }
 
-roles_of_count : ℕ → Roles
-roles_of_count n = record { inputs = n; outputs = 0; work = 0; borrowed = 0 }
-
 lines_said : (said : HeaderView) (n : ℕ) → said.lines ≡ Some n → n ≤ MOST_LINES → said.names ≡ None → GoesOn (in_header said)
-unfolding roles_of_count
 lines_said said n e few none =
-    let roles = roles_of_count n in
-    let count : lines_in roles ≡ n = omega arith in
-    let low : lines_in roles ≤ 16384 = omega arith in
-    let names = names_of roles in
+    let names = names_by numbered_name n in
+    let good = good_by_number n few in
     let after : HeaderView = record said { names = Some names } in
-    let long : length names ≡ n = length-names_of roles ∙ count in
     behind (codes ".variables" ∷ names) (in_header said) (in_header after)
     (one_more (says_more Names names refl (record {
       once = none;
-      counted = e ∙ ap Some (sym long);
-      named = names_are_names roles low;
-      different = names_are_different roles low;
+      counted = e ∙ ap Some (sym (length-names_by numbered_name n));
+      named = names_are_names numbered_name n good;
+      different = names_are_different numbered_name n good;
       adds = refl;
     })) nothing_left)
     (names_said after names refl)

@@ -1,6 +1,7 @@
 pub mod LoopLemmas
 pub mod MeaningLemmas
 pub mod NameLemmas
+pub mod MarkLemmas
 pub mod ReadingLemmas
 pub mod TextLemmas
 pub mod CutLemmas

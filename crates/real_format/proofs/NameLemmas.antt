@@ -1,4 +1,4 @@
--- The names of a compiled circuit's lines.
+-- The names of a written file's lines: by their roles, or by their numbers.
 use Rattle.std.proofs.Common.{◌≡◌, ℕ, zero, suc, ◌+◌, ◌<◌, ◌≤◌, ◌^◌, ◌%◌, ltb, eqb, true, false, cond, List, [], ◌∷◌, ◌++◌, length, map, refl, sym, ap, ◌∙◌, arith, inl, inr, Some, slice_get}
 use Rattle.std.specs.List.{AllByRecursion, list_all, range_with_len}
 use Rattle.std.specs.Fmt.{decimal}
@@ -15,7 +15,9 @@ use Rattle.gate_split.specs.declared.roles.Roles.{Roles}
 use Rattle.gate_split.specs.declared.roles.Role.{Role}
 use Rattle.gate_split.specs.declared.roles.Role.TheVariants.{Input, Output, Work, Borrowed}
 use Rattle.gate_split.specs.Plans.{lines_in, first_of, role_at, number_at}
-use Rattle.real_format.specs.Compiled.{letter_of, name_of_line, names_of}
+use Rattle.real_format.specs.Written.{names_by}
+use Rattle.real_format.specs.Compiled.{letter_of, name_of_line}
+use Rattle.real_format.specs.Converted.{numbered_name}
 use Rattle.real_format.proofs.ReadingLemmas.{true-and, IsWord}
 
 -- ---- lists of the values of a function at a range
@@ -61,7 +63,7 @@ letter_of-injective : (a b : Role) → letter_of a ≡ letter_of b → a ≡ b
 letter_of-injective a b e =
     sym (role_of_letter-letter_of a) ∙ ap role_of_letter e ∙ role_of_letter-letter_of b
 
-ltb-above : (a b : ℕ) → b ≤ a → ltb a b ≡ false
+pub ltb-above : (a b : ℕ) → b ≤ a → ltb a b ≡ false
 ltb-above a b h = grind (arith, nat_tests)
 
 -- no line stands before the first one of its role
@@ -93,28 +95,22 @@ name_of_line-injective roles i j hi hj e =
     let from_j = first-below roles j in
     omega arith
 
-pub IsName-name_of_line : (roles : Roles) (line : ℕ) → line < 16384 → IsName (name_of_line roles line)
-IsName-name_of_line roles line h =
-    let number = number_at roles line in
-    let low : number < 2 ^ 64 = omega arith in
+-- a letter from `b` on and a number
+IsName-lettered : (letter number : ℕ) → 98 ≤ letter → number < 2 ^ 64 → IsName (letter ∷ decimal number)
+IsName-lettered letter number above low =
     let short : length (decimal number) ≤ 20 = length-decimal-le 20 number (omega arith) (omega arith) low in
-    let above = letter-above (role_at roles line) in
     record {
       some = omega arith;
       few = omega arith;
       begins = λ barred. elim barred [ inl e ↦ omega arith | inr e ↦ omega arith ];
     }
 
-pub IsWord-name_of_line : (roles : Roles) (line : ℕ) → line < 16384 → IsWord (name_of_line roles line)
-IsWord-name_of_line roles line h =
-    let number = number_at roles line in
-    let low : number < 2 ^ 64 = omega arith in
-    let above = letter-above (role_at roles line) in
-    record {
-      some = omega arith;
-      solid = true-and _ _ (is_word_byte-above (letter_of (role_at roles line)) (omega arith)) (solid-decimal number low);
-      plain = ne_eqb (letter_of (role_at roles line)) 35 (λ e. omega arith);
-    }
+IsWord-lettered : (letter number : ℕ) → 98 ≤ letter → number < 2 ^ 64 → IsWord (letter ∷ decimal number)
+IsWord-lettered letter number above low = record {
+  some = omega arith;
+  solid = true-and _ _ (is_word_byte-above letter (omega arith)) (solid-decimal number low);
+  plain = ne_eqb letter 35 (λ e. omega arith);
+}
 
 plain-decimal : (n : ℕ) → n < 2 ^ 64 → is_comment (decimal n) ≡ false
 plain-decimal =
@@ -131,8 +127,28 @@ IsWord-decimal n h = record { some = decimal_nonempty n h; solid = solid-decimal
 
 -- ---- all names
 
-pub length-names_of : (roles : Roles) → length (names_of roles) ≡ lines_in roles
-length-names_of roles = length-map-range_with_len (name_of_line roles) 0 (lines_in roles)
+-- so many lines have names that the format takes, and no two have one name
+pub record AreGood (name : ℕ → List ℕ) (count : ℕ) : Type 0 where
+  pub words : (line : ℕ) → line < count → IsWord (name line)
+  pub named : (line : ℕ) → line < count → IsName (name line)
+  pub apart : (i j : ℕ) → i < count → j < count → name i ≡ name j → i ≡ j
+
+pub good_by_role : (roles : Roles) → lines_in roles ≤ 16384 → AreGood (name_of_line roles) (lines_in roles)
+good_by_role roles few = record {
+  words = λ line h. IsWord-lettered (letter_of (role_at roles line)) (number_at roles line) (letter-above (role_at roles line)) (omega arith);
+  named = λ line h. IsName-lettered (letter_of (role_at roles line)) (number_at roles line) (letter-above (role_at roles line)) (omega arith);
+  apart = λ i j hi hj e. name_of_line-injective roles i j (omega arith) (omega arith) e;
+}
+
+pub good_by_number : (count : ℕ) → count ≤ 16384 → AreGood numbered_name count
+good_by_number count few = record {
+  words = λ line h. IsWord-lettered 108 line (omega arith) (omega arith);
+  named = λ line h. IsName-lettered 108 line (omega arith) (omega arith);
+  apart = λ i j hi hj e. decimal_injective i j (omega arith) (omega arith) cc;
+}
+
+pub length-names_by : (name : ℕ → List ℕ) (count : ℕ) → length (names_by name count) ≡ count
+length-names_by name count = length-map-range_with_len name 0 count
 
 apart_range : {X : Type 0} (f : ℕ → X) (a n : ℕ) → ((i j : ℕ) → a ≤ i → i < j → j < a + n → ¬ (f i ≡ f j))
     → AreApart (λ one other. one ≡ other) (map f (range_with_len a n))
@@ -142,17 +158,16 @@ apart_range f a (suc n) apart = (
   apart_range f (a + 1) n (λ i j low less high. apart i j (omega (arith, low)) less (omega (arith, high))),
 )
 
-pub names_are_different : (roles : Roles) → lines_in roles ≤ 16384 → AreApart (λ one other. one ≡ other) (names_of roles)
-names_are_different roles few = apart_range (name_of_line roles) 0 (lines_in roles)
-    (λ i j low less high e. let same : i
-    ≡ j = name_of_line-injective roles i j (omega (arith, less, high)) (omega (arith, high)) e in omega (arith, less, same))
+pub names_are_different : (name : ℕ → List ℕ) (count : ℕ) → AreGood name count → AreApart (λ one other. one ≡ other) (names_by name count)
+names_are_different name count good = apart_range name 0 count
+    (λ i j low less high e. let same : i ≡ j = good.apart i j (omega (arith, less, high)) (omega (arith, high)) e in omega (arith, less, same))
 
-pub names_are_words : (roles : Roles) → lines_in roles ≤ 16384 → AllByRecursion IsWord (names_of roles)
-names_are_words roles few = AllByRecursion-range IsWord (name_of_line roles) 0 (lines_in roles) (λ i low high. IsWord-name_of_line roles i (omega arith))
+pub names_are_words : (name : ℕ → List ℕ) (count : ℕ) → AreGood name count → AllByRecursion IsWord (names_by name count)
+names_are_words name count good = AllByRecursion-range IsWord name 0 count (λ i low high. good.words i (omega arith))
 
-pub names_are_names : (roles : Roles) → lines_in roles ≤ 16384 → AllByRecursion IsName (names_of roles)
-names_are_names roles few = AllByRecursion-range IsName (name_of_line roles) 0 (lines_in roles) (λ i low high. IsName-name_of_line roles i (omega arith))
+pub names_are_names : (name : ℕ → List ℕ) (count : ℕ) → AreGood name count → AllByRecursion IsName (names_by name count)
+names_are_names name count good = AllByRecursion-range IsName name 0 count (λ i low high. good.named i (omega arith))
 
 -- the name of a line of the circuit stands at its place
-pub name_at : (roles : Roles) (line : ℕ) → line < lines_in roles → slice_get (names_of roles) line ≡ Some (name_of_line roles line)
-name_at roles line h = slice_get-range (name_of_line roles) 0 (lines_in roles) line h ∙ ap (λ k. Some (name_of_line roles k)) (omega arith)
+pub name_at : (name : ℕ → List ℕ) (count line : ℕ) → line < count → slice_get (names_by name count) line ≡ Some (name line)
+name_at name count line h = slice_get-range name 0 count line h ∙ ap (λ k. Some (name k)) (omega arith)

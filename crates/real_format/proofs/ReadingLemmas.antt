@@ -3,7 +3,7 @@ use Rattle.std.proofs.Common.{◌≡◌, ℕ, ◌<◌, eqb, Bool, true, false, n
 use Rattle.std.specs.List.{AllByRecursion, list_all, flat_map}
 use Rattle.std.proofs.lemmas.List.Folds.{list_all-append}
 use Rattle.real_format.specs.Words.{lines_of_text, is_blank, is_word_byte, begins_word, words_of_line, is_comment, before_comment, said_words, said_lines}
-use Rattle.real_format.specs.Compiled.{line_text}
+use Rattle.real_format.specs.Written.{line_text}
 
 -- ---- tests
 

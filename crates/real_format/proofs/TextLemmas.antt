@@ -1,84 +1,66 @@
--- The parts that the writer puts are the text of the compiled file.
-use Rattle.std.proofs.Common.{◌≡◌, ℕ, zero, suc, ◌+◌, ◌<◌, List, [], ◌∷◌, ◌++◌, length, map, replicate, codes, refl, sym, ap, ◌∙◌, append_assoc, append-nil, false}
+-- The parts that the writer puts are the text of the file.
+use Rattle.std.proofs.Common.{◌≡◌, ℕ, ◌+◌, ◌<◌, List, [], ◌∷◌, ◌++◌, Bool, length, map, codes, sym, ap, ◌∙◌, append_assoc, append-nil}
 use Rattle.std.specs.List.{flat_map, AllByRecursion}
 use Rattle.std.specs.Fmt.{decimal}
-use Rattle.std.proofs.lemmas.List.{map-append, length-append, length-map}
+use Rattle.std.proofs.lemmas.List.{length-append, length-map}
 use Rattle.std.proofs.lemmas.List.Concat.{flat_map-append}
 use Rattle.mct_circuit.specs.declared.gate.Control.{Control}
 use Rattle.mct_circuit.specs.declared.gate.Op.TheVariants.{Flip}
 use Rattle.mct_circuit.specs.Gates.{GateView, lines_of, targets_of}
-use Rattle.gate_split.specs.declared.roles.Roles.{Roles}
 use Rattle.real_format.specs.Header.{constant_byte, garbage_byte}
-use Rattle.gate_split.specs.Plans.{lines_in}
-use Rattle.real_format.specs.Compiled.{name_of_line, names_of, constants_of, line_text, header_lines, gate_words, compiled_text}
-use Rattle.real_format.specs.inside.Parts.{size_text, names_text, header_text, flip_text}
-
-map-replicate : {X Y : Type 0} (f : X → Y) (n : ℕ) (x : X) → map f (replicate n x) ≡ replicate n (f x)
-map-replicate f zero x = refl
-map-replicate f (suc n) x = ap (λ ys. f x ∷ ys) (map-replicate f n x)
+use Rattle.real_format.specs.declared.file.Mark.{Mark}
+use Rattle.real_format.specs.Written.{names_by, line_text, header_lines, gate_words, file_text}
+use Rattle.real_format.specs.inside.Parts.{front_text, marks_text, rest_text, flip_text}
 
 -- the header's words, over any words; `space` and `feed` are one byte each
 regroup : (space feed v w n d names inputs outputs k ks g gs e : List ℕ)
     → (v ++ (((space ++ w) ++ []) ++ feed)) ++ ((n ++ (((space ++ d) ++ []) ++ feed)) ++ (names ++ (inputs ++ (outputs
     ++ ((k ++ (((space ++ ks) ++ []) ++ feed)) ++ ((g ++ (((space ++ gs) ++ []) ++ feed)) ++ ((e ++ feed) ++ [])))))))
-    ≡ ((((v ++ (space ++ w)) ++ feed) ++ (n ++ space)) ++ (d ++ feed)) ++
-    ((names ++ (inputs ++ outputs)) ++ (((k ++ space) ++ ks) ++ (((feed ++ g) ++ space) ++ (gs ++ ((feed ++ e) ++ feed)))))
+    ≡ (((((v ++ (space ++ w)) ++ feed) ++ (n ++ space)) ++ (d ++ feed)) ++ (names ++ (inputs ++ outputs)))
+    ++ (((k ++ space) ++ (ks ++ feed)) ++ (((g ++ space) ++ (gs ++ feed)) ++ (e ++ feed)))
 regroup space feed v w n d names inputs outputs k ks g gs e = simp (append_assoc, append-nil)
 
-constants_word : (roles : Roles) → map constant_byte (constants_of roles) ≡ replicate roles.inputs 45
-    ++ (replicate (roles.outputs + roles.work) 48 ++ replicate roles.borrowed 45)
-constants_word roles =
-    simp (map-append, map-replicate)
+header_text_is : (name : ℕ → List ℕ) (count : ℕ) (marks : List Mark) (useless : List Bool)
+    → flat_map line_text (header_lines name count marks useless) ≡ front_text name count ++ marks_text (map constant_byte marks) (map garbage_byte useless)
+header_text_is name count marks useless = regroup (32 ∷ []) (10 ∷ []) (codes ".version") (codes "2.0") (codes ".numvars") (decimal count)
+    (line_text (codes ".variables" ∷ names_by name count)) (line_text (codes ".inputs" ∷ names_by name count))
+    (line_text (codes ".outputs" ∷ names_by name count)) (codes ".constants") (map constant_byte marks) (codes ".garbage")
+    (map garbage_byte useless) (codes ".begin")
 
-marked : (roles : Roles) (ks ks' gs gs' : List ℕ) → ks ≡ ks' → gs ≡ gs'
-    → size_text roles ++ (names_text roles ++ ((codes ".constants " ++ ks) ++ (codes "\n.garbage " ++ (gs ++ codes "\n.begin\n"))))
-    ≡ size_text roles ++ (names_text roles ++ ((codes ".constants " ++ ks') ++ (codes "\n.garbage " ++ (gs' ++ codes "\n.begin\n"))))
-marked roles ks ks' gs gs' e f =
-    ap (λ (t : List ℕ). size_text roles ++ (names_text roles ++ ((codes ".constants " ++ t) ++ (codes "\n.garbage " ++ (gs ++ codes "\n.begin\n"))))) e
-    ∙ ap (λ (t : List ℕ). size_text roles ++ (names_text roles ++ ((codes ".constants " ++ ks') ++ (codes "\n.garbage " ++ (t ++ codes "\n.begin\n"))))) f
+pub file_text_is : (name : ℕ → List ℕ) (count : ℕ) (marks : List Mark) (useless : List Bool) (gates : List GateView)
+    → front_text name count ++ (marks_text (map constant_byte marks) (map garbage_byte useless) ++ rest_text name gates)
+    ≡ file_text name count marks useless gates
+file_text_is name count marks useless gates =
+    sym (flat_map-append line_text (header_lines name count marks useless) (map (gate_words name) gates ++ (codes ".end" ∷ []) ∷ [])
+    ∙ ap (λ (t : List ℕ). t ++ flat_map line_text (map (gate_words name) gates ++ (codes ".end" ∷ []) ∷ [])) (header_text_is name count marks useless)
+    ∙ ap (λ (t : List ℕ). (front_text name count ++ marks_text (map constant_byte marks) (map garbage_byte useless)) ++ t)
+    (flat_map-append line_text (map (gate_words name) gates) ((codes ".end" ∷ []) ∷ []))
+    ∙ append_assoc (front_text name count) (marks_text (map constant_byte marks) (map garbage_byte useless)) (rest_text name gates))
 
-header_text_is : (roles : Roles) → flat_map line_text (header_lines roles) ≡ header_text roles
-header_text_is roles =
-    let constants : map constant_byte (constants_of roles) ≡ replicate roles.inputs 45
-    ++ (replicate (roles.outputs + roles.work) 48 ++ replicate roles.borrowed 45) = constants_word roles in
-    let garbage : map garbage_byte (replicate (lines_in roles) false) ≡ replicate (lines_in roles) 45 = map-replicate garbage_byte (lines_in roles) false in
-    regroup (32 ∷ []) (10 ∷ []) (codes ".version") (codes "2.0") (codes ".numvars") (decimal (lines_in roles)) (line_text (codes ".variables" ∷ names_of roles))
-    (line_text (codes ".inputs" ∷ names_of roles))
-    (line_text (codes ".outputs" ∷ names_of roles)) (codes ".constants") (map constant_byte (constants_of roles)) (codes ".garbage")
-    (map garbage_byte (replicate (lines_in roles) false)) (codes ".begin")
-    ∙ marked roles (map constant_byte (constants_of roles)) _ (map garbage_byte (replicate (lines_in roles) false)) _ constants garbage
-
-pub compiled_text_is : (roles : Roles) (gates : List GateView) → header_text roles ++ (flat_map line_text (map (gate_words roles) gates) ++ codes ".end\n")
-    ≡ compiled_text roles gates
-compiled_text_is roles gates =
-    sym (flat_map-append line_text (header_lines roles) (map (gate_words roles) gates ++ (codes ".end" ∷ []) ∷ [])
-    ∙ ap (λ (t : List ℕ). t ++ flat_map line_text (map (gate_words roles) gates ++ (codes ".end" ∷ []) ∷ [])) (header_text_is roles)
-    ∙ ap (λ (t : List ℕ). header_text roles ++ t) (flat_map-append line_text (map (gate_words roles) gates) ((codes ".end" ∷ []) ∷ [])))
-
-spaced_lines : (roles : Roles) (controls : List Control) (target : ℕ)
-    → flat_map (λ (w : List ℕ). 32 ∷ w) (map (name_of_line roles) (map (λ (control : Control). control.line) controls ++ target ∷ []))
-    ≡ flat_map (λ (control : Control). 32 ∷ name_of_line roles control.line) controls ++ (32 ∷ name_of_line roles target)
-spaced_lines roles [] target = append-nil (32 ∷ name_of_line roles target)
-spaced_lines roles (c ∷ cs) target =
-    ap (λ (t : List ℕ). (32 ∷ name_of_line roles c.line) ++ t) (spaced_lines roles cs target)
-    ∙ sym (append_assoc (32 ∷ name_of_line roles c.line) (flat_map (λ (control : Control). 32 ∷ name_of_line roles control.line) cs)
-    (32 ∷ name_of_line roles target))
+spaced_lines : (name : ℕ → List ℕ) (controls : List Control) (target : ℕ)
+    → flat_map (λ (w : List ℕ). 32 ∷ w) (map (name) (map (λ (control : Control). control.line) controls ++ target ∷ []))
+    ≡ flat_map (λ (control : Control). 32 ∷ name control.line) controls ++ (32 ∷ name target)
+spaced_lines name [] target = append-nil (32 ∷ name target)
+spaced_lines name (c ∷ cs) target =
+    ap (λ (t : List ℕ). (32 ∷ name c.line) ++ t) (spaced_lines name cs target)
+    ∙ sym (append_assoc (32 ∷ name c.line) (flat_map (λ (control : Control). 32 ∷ name control.line) cs)
+    (32 ∷ name target))
 
 length-lines : (controls : List Control) (target : ℕ) → length (map (λ (control : Control). control.line) controls ++ target ∷ []) ≡ length controls + 1
 length-lines controls target = length-append (map (λ (control : Control). control.line) controls) (target ∷ [])
     ∙ ap (λ (n : ℕ). n + 1) (length-map controls (λ (control : Control). control.line))
 
-pub flip_text_is : (roles : Roles) (gate : GateView) (target : ℕ) → gate.op ≡ Flip target
-    → flip_text roles gate.controls target ≡ line_text (gate_words roles gate)
-flip_text_is roles gate target e =
+pub flip_text_is : (name : ℕ → List ℕ) (gate : GateView) (target : ℕ) → gate.op ≡ Flip target
+    → flip_text name gate.controls target ≡ line_text (gate_words name gate)
+flip_text_is name gate target e =
     let lines : lines_of gate ≡ map (λ (control : Control). control.line) gate.controls ++ target ∷ [] =
     ap (λ op. map (λ (control : Control). control.line) gate.controls ++ targets_of op) e in
-    sym (ap (λ ls. (116 ∷ decimal (length ls)) ++ (flat_map (λ (w : List ℕ). 32 ∷ w) (map (name_of_line roles) ls) ++ 10 ∷ [])) lines
+    sym (ap (λ ls. (116 ∷ decimal (length ls)) ++ (flat_map (λ (w : List ℕ). 32 ∷ w) (map (name) ls) ++ 10 ∷ [])) lines
     ∙ ap (λ (n : ℕ). (116 ∷ decimal n) ++ (flat_map (λ (w : List ℕ). 32 ∷ w)
-    (map (name_of_line roles) (map (λ (control : Control). control.line) gate.controls ++ target ∷ [])) ++ 10 ∷ [])) (length-lines gate.controls target)
-    ∙ ap (λ (t : List ℕ). (116 ∷ decimal (length gate.controls + 1)) ++ (t ++ 10 ∷ [])) (spaced_lines roles gate.controls target)
+    (map (name) (map (λ (control : Control). control.line) gate.controls ++ target ∷ [])) ++ 10 ∷ [])) (length-lines gate.controls target)
+    ∙ ap (λ (t : List ℕ). (116 ∷ decimal (length gate.controls + 1)) ++ (t ++ 10 ∷ [])) (spaced_lines name gate.controls target)
     ∙ ap (λ (t : List ℕ). (116 ∷ decimal (length gate.controls + 1)) ++ t)
-    (append_assoc (flat_map (λ (control : Control). 32 ∷ name_of_line roles control.line) gate.controls) (32 ∷ name_of_line roles target) (10 ∷ [])))
+    (append_assoc (flat_map (λ (control : Control). 32 ∷ name control.line) gate.controls) (32 ∷ name target) (10 ∷ [])))
 
 pub controls_in_range : (n : ℕ) (controls : List Control) (targets : List ℕ)
     → AllByRecursion (λ line. line < n) (map (λ (control : Control). control.line) controls ++ targets)

@@ -1,6 +1,5 @@
 -- The file of a compiled circuit: its names and marks by the roles of its lines, and its text.
-use Rattle.std.specs.Prelude.{◌≡◌, ℕ, ◌+◌, ◌≤◌, false, List, [], ◌∷◌, ◌++◌, length, map, replicate, codes}
-use Rattle.std.specs.List.{flat_map, range_with_len}
+use Rattle.std.specs.Prelude.{◌≡◌, ℕ, ◌+◌, ◌≤◌, false, List, ◌∷◌, ◌++◌, length, replicate}
 use Rattle.std.specs.Fmt.{decimal}
 use Rattle.real_format.specs.declared.file.Mark.{Mark}
 use Rattle.real_format.specs.declared.file.Mark.TheVariants.{Free, Zero}
@@ -9,9 +8,9 @@ use Rattle.gate_split.specs.declared.roles.Roles.{Roles}
 use Rattle.gate_split.specs.declared.roles.Role.{Role}
 use Rattle.gate_split.specs.declared.roles.Role.TheVariants.{Input, Output, Work, Borrowed}
 use Rattle.gate_split.specs.Plans.{lines_in, role_at, number_at}
-use Rattle.mct_circuit.specs.Gates.{GateView, lines_of, AreGatesOn, AreNarrow}
-use Rattle.real_format.specs.Header.{constant_byte, garbage_byte}
+use Rattle.mct_circuit.specs.Gates.{GateView, AreGatesOn, AreNarrow}
 use Rattle.real_format.specs.Real.{RealView, RealMeaning}
+use Rattle.real_format.specs.Written.{names_by, file_text}
 
 -- ---- names and marks
 
@@ -33,7 +32,7 @@ constants_of roles =
     ++ (replicate (roles.outputs + roles.work) Zero ++ replicate roles.borrowed Free)
 
 abbrev pub names_of : Roles → List (List ℕ)
-names_of roles = map (name_of_line roles) (range_with_len 0 (lines_in roles))
+names_of roles = names_by (name_of_line roles) (lines_in roles)
 
 -- the lines of a file have these roles: x, y, w and b lines in this order, each numbered from 0, with their constants,
 -- and no line's last bit is of no use
@@ -44,34 +43,10 @@ pub record HasRoles (file : RealView) (roles : Roles) : Type 0 where
 
 -- ---- the text
 
--- words parted by one space, and a line feed
-abbrev pub line_text : List (List ℕ) → List ℕ
-line_text [] = 10 ∷ []
-line_text (word ∷ words) = word ++ (flat_map (λ w. 32 ∷ w) words ++ 10 ∷ [])
-
--- `t1`, `t2` or `t3`, and the names of the controls and the target
-abbrev pub gate_words : Roles → GateView → List (List ℕ)
-gate_words roles gate =
-    (116 ∷ decimal (length (lines_of gate))) ∷ map (name_of_line roles) (lines_of gate)
-
-abbrev pub header_lines : Roles → List (List (List ℕ))
-header_lines roles =
-    (codes ".version" ∷ codes "2.0" ∷ [])
-    ∷ (codes ".numvars" ∷ decimal (lines_in roles) ∷ [])
-    ∷ (codes ".variables" ∷ names_of roles)
-    ∷ (codes ".inputs" ∷ names_of roles)
-    ∷ (codes ".outputs" ∷ names_of roles)
-    ∷ (codes ".constants" ∷ map constant_byte (constants_of roles) ∷ [])
-    ∷ (codes ".garbage" ∷ map garbage_byte (replicate (lines_in roles) false) ∷ [])
-    ∷ (codes ".begin" ∷ [])
-    ∷ []
-
-abbrev pub compiled_lines : Roles → List GateView → List (List (List ℕ))
-compiled_lines roles gates =
-    header_lines roles ++ (map (gate_words roles) gates ++ (codes ".end" ∷ []) ∷ [])
-
 abbrev pub compiled_text : Roles → List GateView → List ℕ
-compiled_text roles gates = flat_map line_text (compiled_lines roles gates)
+compiled_text roles gates =
+    file_text (name_of_line roles) (lines_in roles) (constants_of roles)
+    (replicate (lines_in roles) false) gates
 
 -- ---- what the text means
 

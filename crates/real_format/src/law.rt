@@ -1,4 +1,5 @@
 ghost use Rattle.real_format.specs.Compiled.{CompiledHasMeaning};
+ghost use Rattle.real_format.specs.Converted.{ConvertedHasMeaning};
 ghost use Rattle.real_format.specs.Faults.{OneReading};
 ghost use Rattle.real_format.specs.Real.{FrontsGoOn, MeaningsAreFiles, OneMeaning};
 
@@ -7,6 +8,13 @@ ghost use Rattle.real_format.specs.Real.{FrontsGoOn, MeaningsAreFiles, OneMeanin
 /// is the law.
 pub fn compiled_meaning()
     ensures { CompiledHasMeaning }
+{}
+
+/// The law of converted files: the text of narrow gates on lines of any marks means, by the format's own meaning, the
+/// file with those gates and marks, whose lines are named by their numbers. The function does nothing: its contract is
+/// the law.
+pub fn converted_meaning()
+    ensures { ConvertedHasMeaning }
 {}
 
 /// The law of one meaning: a text means at most one file. The function does nothing: its contract is the law.

@@ -25,6 +25,25 @@ fn a_circuit_is_written(rt: HostRuntime) -> Result<(), Fail> {
     Ok(())
 }
 
+const LINES: &[u8] =
+    b".version 2.0\n.numvars 3\n.variables l0 l1 l2\n.inputs l0 l1 l2\n.outputs l0 l1 l2
+.constants 0-1\n.garbage 1--\n.begin\nt3 l0 l2 l1\nt1 l0\n.end\n";
+
+// A line of each mark; the text by hand.
+#[test]
+fn lines_of_any_marks_are_written(rt: HostRuntime) -> Result<(), Fail> {
+    let alloc = rt.alloc();
+    let mut circuit = Circuit::new(alloc, 3, 10);
+    circuit.push_flip(&[0, 2], 1)?;
+    circuit.push_flip(&[], 0)?;
+    let narrow = split(alloc, &circuit, 3, 10)?;
+    let marks = [Mark::Zero, Mark::Free, Mark::One];
+    let mut sink = MemorySink::new(alloc, 1000, Vec::new(alloc), 7)?;
+    write_lines(&narrow, &marks, &[true, false, false], &mut sink)?;
+    assert_eq!(rt; sink.bytes(), LINES);
+    Ok(())
+}
+
 // A file with comments, blank lines, both kinds of gates and a negative control, each line ended by CR LF: the
 // last bits of c and d for the bits of a, b and c, by hand.
 const PART: &[u8] = b"# full adder part\r\n.version 1.0\r\n.numvars 4\r\n.variables a b c d\r\n\r

@@ -1,16 +1,22 @@
-// The writer of compiled circuits. Each function puts one part of the text through the buffer.
-ghost use Rattle.std.specs.Prelude.{◌≡◌, ◌<◌, ◌≤◌, ◌+◌, ◌∷◌, [], ◌++◌, length, map, codes, replicate};
+// The writer of files. Each function puts one part of the text through the buffer.
+ghost use Rattle.std.specs.Prelude.{◌≡◌, ◌<◌, ◌≤◌, ◌+◌, ◌∷◌, [], ◌++◌, length, codes};
 ghost use Rattle.std.specs.List.{flat_map, AllByRecursion};
 ghost use Rattle.std.specs.Fmt.{decimal};
 ghost use Rattle.mct_circuit.specs.Gates.{AreNarrow, IsNarrow, lines_of};
 ghost use Rattle.gate_split.specs.declared.plan.TheConstants.{MOST_LINES, MOST_GATES};
-ghost use Rattle.gate_split.specs.Plans.{lines_in, roles_of};
+ghost use Rattle.gate_split.specs.Plans.{roles_of};
 ghost use Rattle.revc_io.specs.Faults.{HasCause};
 ghost use Rattle.revc_io.specs.Passing.{Gathers, Writes};
-ghost use Rattle.real_format.specs.Compiled.{letter_of, name_of_line, names_of, line_text, gate_words, compiled_text, MeansCompiled};
-ghost use Rattle.real_format.specs.inside.Parts.{size_text, names_text, constants_text, garbage_text, header_text, flip_text};
+ghost use Rattle.real_format.specs.Written.{line_text, gate_words, file_text};
+ghost use Rattle.real_format.specs.Compiled.{compiled_text, MeansCompiled};
+ghost use Rattle.real_format.specs.Converted.{converted_text, MeansConverted};
+ghost use Rattle.real_format.specs.declared.labels.Kind.TheVariants.{Constants, Garbage};
+ghost use Rattle.real_format.specs.inside.Labels.{count_of, name_by, all_names, constants_by, garbage_by, mark_bytes};
+ghost use Rattle.real_format.specs.inside.Parts.{size_text, names_text, front_text, mark_line_text, marks_text, flip_text, gates_text, rest_text};
 
-use gate_split::{Laid, Role, Roles};
+use crate::file::Mark;
+use crate::labels::{Kind, Labels};
+use gate_split::{Laid, Narrow};
 use mct_circuit::{Circuit, Control, Gate, Op};
 use revc_io::{Buffer, Failed, Sink, put_decimal};
 
@@ -30,19 +36,46 @@ pub fn write<K: Sink>(laid: &Laid, out: &mut K) -> Result<(), Failed>
     let circuit = laid.circuit();
     // This call says that the gates are on the circuit's lines.
     let _ = circuit.lines();
-    write_text(circuit, laid.roles(), out)
+    write_text(circuit, Labels::ByRole(laid.roles()), out)
 }
 
-fn write_text<K: Sink>(circuit: &Circuit, roles: Roles, out: &mut K) -> Result<(), Failed>
-    requires fits { lines_in roles ≡ circuit.now.lines }
+/// Writes the file of a circuit on lines `l0`, `l1` and so on, which have these marks. Where it fails, the sink took a
+/// front of the text. It takes no memory.
+pub fn write_lines<K: Sink>(
+    circuit: &Narrow,
+    constants: &[Mark],
+    garbage: &[bool],
+    out: &mut K,
+) -> Result<(), Failed>
+    requires some { 1 ≤ circuit.now.lines }
+    requires few { circuit.now.lines ≤ MOST_LINES }
+    requires few_gates { length circuit.now.gates ≤ MOST_GATES }
+    requires constants { length constants.now ≡ circuit.now.lines }
+    requires garbage { length garbage.now ≡ circuit.now.lines }
+    ensures bytes { Writes result (K.held out.old) (K.held out.new)
+        (converted_text constants.now garbage.now circuit.now.gates) }
+    ensures meaning { MeansConverted (converted_text constants.now garbage.now circuit.now.gates)
+        constants.now garbage.now circuit.now.gates }
+    ensures cause { HasCause (K.faults out.old) (K.faults out.new) result }
+{
+    let circuit = circuit.circuit();
+    // This call says that the gates are on the circuit's lines.
+    let _ = circuit.lines();
+    write_text(circuit, Labels::ByNumber { constants, garbage }, out)
+}
+
+fn write_text<K: Sink>(circuit: &Circuit, labels: Labels<'_>, out: &mut K) -> Result<(), Failed>
+    requires fits { count_of labels ≡ circuit.now.lines }
+    requires garbage { length (garbage_by labels) ≡ count_of labels }
     requires few { circuit.now.lines ≤ MOST_LINES }
     requires narrow { AreNarrow circuit.now.gates }
     ensures bytes { Writes result (K.held out.old) (K.held out.new)
-        (compiled_text roles circuit.now.gates) }
+        (file_text (name_by labels.entry) (count_of labels.entry) (constants_by labels.entry)
+        (garbage_by labels.entry) circuit.now.gates) }
     ensures cause { HasCause (K.faults out.old) (K.faults out.new) result }
 {
     let mut buffer = Buffer::new();
-    put_text(&mut buffer, out, circuit, roles)?;
+    put_text(&mut buffer, out, circuit, labels)?;
     buffer.finish(out)
 }
 
@@ -50,54 +83,59 @@ fn put_text<K: Sink>(
     buffer: &mut Buffer,
     out: &mut K,
     circuit: &Circuit,
-    roles: Roles,
+    labels: Labels<'_>,
 ) -> Result<(), Failed>
-    requires fits { lines_in roles ≡ circuit.now.lines }
+    requires fits { count_of labels ≡ circuit.now.lines }
+    requires garbage { length (garbage_by labels) ≡ count_of labels }
     requires few { circuit.now.lines ≤ MOST_LINES }
     requires narrow { AreNarrow circuit.now.gates }
     ensures bytes { Gathers result (K.held out.old) (K.held out.new) buffer.old buffer.new
-        (header_text roles ++ (flat_map line_text (map (gate_words roles) circuit.now.gates)
-        ++ codes ".end\n")) }
+        (front_text (name_by labels.entry) (count_of labels.entry)
+        ++ (marks_text (mark_bytes labels.entry Constants) (mark_bytes labels.entry Garbage)
+        ++ rest_text (name_by labels.entry) circuit.now.gates)) }
     ensures cause { HasCause (K.faults out.old) (K.faults out.new) result }
 {
-    put_header(buffer, out, roles)?;
-    put_gates(buffer, out, circuit, roles)?;
-    buffer.put(out, b".end\n")
+    put_front(buffer, out, labels)?;
+    put_marks(buffer, out, labels)?;
+    put_rest(buffer, out, circuit, labels)
 }
 
 // ---- the header
 
-fn put_header<K: Sink>(buffer: &mut Buffer, out: &mut K, roles: Roles) -> Result<(), Failed>
-    requires { lines_in roles ≤ MOST_LINES }
+// The part before the marks.
+fn put_front<K: Sink>(buffer: &mut Buffer, out: &mut K, labels: Labels<'_>) -> Result<(), Failed>
+    requires { count_of labels ≤ MOST_LINES }
     ensures bytes { Gathers result (K.held out.old) (K.held out.new) buffer.old buffer.new
-        (header_text roles) }
+        (front_text (name_by labels.entry) (count_of labels.entry)) }
     ensures cause { HasCause (K.faults out.old) (K.faults out.new) result }
 {
-    put_size(buffer, out, roles)?;
-    put_all_names(buffer, out, roles)?;
-    put_marks(buffer, out, roles)
+    put_size(buffer, out, labels.lines())?;
+    put_all_names(buffer, out, labels)
 }
 
-fn put_size<K: Sink>(buffer: &mut Buffer, out: &mut K, roles: Roles) -> Result<(), Failed>
-    requires { lines_in roles ≤ MOST_LINES }
+fn put_size<K: Sink>(buffer: &mut Buffer, out: &mut K, count: u32) -> Result<(), Failed>
     ensures bytes { Gathers result (K.held out.old) (K.held out.new) buffer.old buffer.new
-        (size_text roles) }
+        (size_text count) }
     ensures cause { HasCause (K.faults out.old) (K.faults out.new) result }
 {
     buffer.put(out, b".version 2.0\n.numvars ")?;
-    put_decimal(buffer, out, roles.lines() as u64)?;
+    put_decimal(buffer, out, count as u64)?;
     buffer.put(out, b"\n")
 }
 
-fn put_all_names<K: Sink>(buffer: &mut Buffer, out: &mut K, roles: Roles) -> Result<(), Failed>
-    requires { lines_in roles ≤ MOST_LINES }
+fn put_all_names<K: Sink>(
+    buffer: &mut Buffer,
+    out: &mut K,
+    labels: Labels<'_>,
+) -> Result<(), Failed>
+    requires { count_of labels ≤ MOST_LINES }
     ensures bytes { Gathers result (K.held out.old) (K.held out.new) buffer.old buffer.new
-        (names_text roles) }
+        (names_text (all_names labels.entry)) }
     ensures cause { HasCause (K.faults out.old) (K.faults out.new) result }
 {
-    put_names(buffer, out, b".variables", roles)?;
-    put_names(buffer, out, b".inputs", roles)?;
-    put_names(buffer, out, b".outputs", roles)
+    put_names(buffer, out, b".variables", labels)?;
+    put_names(buffer, out, b".inputs", labels)?;
+    put_names(buffer, out, b".outputs", labels)
 }
 
 // A line of the header that gives the names of all lines.
@@ -105,26 +143,30 @@ fn put_names<K: Sink>(
     buffer: &mut Buffer,
     out: &mut K,
     word: &[u8],
-    roles: Roles,
+    labels: Labels<'_>,
 ) -> Result<(), Failed>
-    requires { lines_in roles ≤ MOST_LINES }
+    requires { count_of labels ≤ MOST_LINES }
     ensures bytes { Gathers result (K.held out.old) (K.held out.new) buffer.old buffer.new
-        (line_text (word.now ∷ names_of roles)) }
+        (line_text (word.now ∷ all_names labels.entry)) }
     ensures cause { HasCause (K.faults out.old) (K.faults out.new) result }
 {
     buffer.put(out, word)?;
-    put_spaced_names(buffer, out, roles)?;
+    put_spaced_names(buffer, out, labels)?;
     buffer.put(out, b"\n")
 }
 
-fn put_spaced_names<K: Sink>(buffer: &mut Buffer, out: &mut K, roles: Roles) -> Result<(), Failed>
-    requires { lines_in roles ≤ MOST_LINES }
+fn put_spaced_names<K: Sink>(
+    buffer: &mut Buffer,
+    out: &mut K,
+    labels: Labels<'_>,
+) -> Result<(), Failed>
+    requires { count_of labels ≤ MOST_LINES }
     ensures bytes { Gathers result (K.held out.old) (K.held out.new) buffer.old buffer.new
-        (flat_map (λ w. 32 ∷ w) (names_of roles)) }
+        (flat_map (λ w. 32 ∷ w) (all_names labels.entry)) }
     ensures cause { HasCause (K.faults out.old) (K.faults out.new) result }
 {
-    for line in 0..roles.lines() {
-        put_spaced_name(buffer, out, roles, line)?;
+    for line in 0..labels.lines() {
+        put_spaced_name(buffer, out, labels, line)?;
     }
     Ok(())
 }
@@ -132,29 +174,17 @@ fn put_spaced_names<K: Sink>(buffer: &mut Buffer, out: &mut K, roles: Roles) -> 
 fn put_spaced_name<K: Sink>(
     buffer: &mut Buffer,
     out: &mut K,
-    roles: Roles,
+    labels: Labels<'_>,
     line: u32,
 ) -> Result<(), Failed>
-    requires few { lines_in roles ≤ MOST_LINES }
-    requires in_range { line < lines_in roles }
+    requires few { count_of labels ≤ MOST_LINES }
+    requires in_range { line < count_of labels }
     ensures bytes { Gathers result (K.held out.old) (K.held out.new) buffer.old buffer.new
-        (32 ∷ name_of_line roles line) }
+        (32 ∷ name_by labels.entry line) }
     ensures cause { HasCause (K.faults out.old) (K.faults out.new) result }
 {
-    let (role, number) = roles.role_and_number(line);
-    put_spaced_parts(buffer, out, letter_of(role), number)
-}
-
-// The letter with which the names of a role's lines begin.
-fn letter_of(role: Role) -> u8
-    ensures { result ≡ letter_of role }
-{
-    match role {
-        Role::Input => b'x',
-        Role::Output => b'y',
-        Role::Work => b'w',
-        Role::Borrowed => b'b',
-    }
+    let (letter, number) = labels.letter_and_number(line);
+    put_spaced_parts(buffer, out, letter, number)
 }
 
 fn put_spaced_parts<K: Sink>(
@@ -171,84 +201,94 @@ fn put_spaced_parts<K: Sink>(
     put_decimal(buffer, out, number as u64)
 }
 
-// Output and work lines start at 0, input and borrowed lines hold anything, and no line is garbage.
-fn put_marks<K: Sink>(buffer: &mut Buffer, out: &mut K, roles: Roles) -> Result<(), Failed>
-    requires { lines_in roles ≤ MOST_LINES }
+// ---- the marks
+
+fn put_marks<K: Sink>(buffer: &mut Buffer, out: &mut K, labels: Labels<'_>) -> Result<(), Failed>
+    requires few { count_of labels ≤ MOST_LINES }
+    requires garbage { length (garbage_by labels) ≡ count_of labels }
     ensures bytes { Gathers result (K.held out.old) (K.held out.new) buffer.old buffer.new
-        (constants_text roles ++ garbage_text roles) }
+        (marks_text (mark_bytes labels.entry Constants) (mark_bytes labels.entry Garbage)) }
     ensures cause { HasCause (K.faults out.old) (K.faults out.new) result }
 {
-    put_constants(buffer, out, roles)?;
-    put_garbage(buffer, out, roles)
+    put_mark_line(buffer, out, b".constants ", labels, Kind::Constants)?;
+    put_mark_line(buffer, out, b".garbage ", labels, Kind::Garbage)?;
+    buffer.put(out, b".begin\n")
 }
 
-fn put_constants<K: Sink>(buffer: &mut Buffer, out: &mut K, roles: Roles) -> Result<(), Failed>
-    requires { lines_in roles ≤ MOST_LINES }
-    ensures bytes { Gathers result (K.held out.old) (K.held out.new) buffer.old buffer.new
-        (constants_text roles) }
-    ensures cause { HasCause (K.faults out.old) (K.faults out.new) result }
-{
-    buffer.put(out, b".constants ")?;
-    put_repeated(buffer, out, b'-', roles.inputs)?;
-    put_started_marks(buffer, out, roles)
-}
-
-fn put_started_marks<K: Sink>(buffer: &mut Buffer, out: &mut K, roles: Roles) -> Result<(), Failed>
-    requires { lines_in roles ≤ MOST_LINES }
-    ensures bytes { Gathers result (K.held out.old) (K.held out.new) buffer.old buffer.new
-        (replicate (roles.outputs + roles.work) 48 ++ replicate roles.borrowed 45) }
-    ensures cause { HasCause (K.faults out.old) (K.faults out.new) result }
-{
-    put_repeated(buffer, out, b'0', roles.outputs + roles.work)?;
-    put_repeated(buffer, out, b'-', roles.borrowed)
-}
-
-fn put_garbage<K: Sink>(buffer: &mut Buffer, out: &mut K, roles: Roles) -> Result<(), Failed>
-    requires { lines_in roles ≤ MOST_LINES }
-    ensures bytes { Gathers result (K.held out.old) (K.held out.new) buffer.old buffer.new
-        (garbage_text roles) }
-    ensures cause { HasCause (K.faults out.old) (K.faults out.new) result }
-{
-    buffer.put(out, b"\n.garbage ")?;
-    put_repeated(buffer, out, b'-', roles.lines())?;
-    buffer.put(out, b"\n.begin\n")
-}
-
-fn put_repeated<K: Sink>(
+// A line of the header that gives the marks of a kind.
+fn put_mark_line<K: Sink>(
     buffer: &mut Buffer,
     out: &mut K,
-    byte: u8,
-    count: u32,
+    word: &[u8],
+    labels: Labels<'_>,
+    kind: Kind,
 ) -> Result<(), Failed>
+    requires few { count_of labels ≤ MOST_LINES }
+    requires garbage { length (garbage_by labels) ≡ count_of labels }
     ensures bytes { Gathers result (K.held out.old) (K.held out.new) buffer.old buffer.new
-        (replicate count byte) }
+        (mark_line_text word.now (mark_bytes labels.entry kind)) }
     ensures cause { HasCause (K.faults out.old) (K.faults out.new) result }
 {
-    for _i in 0..count {
-        buffer.put(out, &[byte])?;
+    buffer.put(out, word)?;
+    put_mark_bytes(buffer, out, labels, kind)?;
+    buffer.put(out, b"\n")
+}
+
+fn put_mark_bytes<K: Sink>(
+    buffer: &mut Buffer,
+    out: &mut K,
+    labels: Labels<'_>,
+    kind: Kind,
+) -> Result<(), Failed>
+    requires few { count_of labels ≤ MOST_LINES }
+    requires garbage { length (garbage_by labels) ≡ count_of labels }
+    ensures bytes { Gathers result (K.held out.old) (K.held out.new) buffer.old buffer.new
+        (mark_bytes labels.entry kind) }
+    ensures cause { HasCause (K.faults out.old) (K.faults out.new) result }
+{
+    for line in 0..labels.lines() {
+        buffer.put(out, &[labels.byte(kind, line)])?;
     }
     Ok(())
 }
 
 // ---- the gates
 
+// The part behind the marks.
+fn put_rest<K: Sink>(
+    buffer: &mut Buffer,
+    out: &mut K,
+    circuit: &Circuit,
+    labels: Labels<'_>,
+) -> Result<(), Failed>
+    requires fits { count_of labels ≡ circuit.now.lines }
+    requires few { circuit.now.lines ≤ MOST_LINES }
+    requires narrow { AreNarrow circuit.now.gates }
+    ensures bytes { Gathers result (K.held out.old) (K.held out.new) buffer.old buffer.new
+        (rest_text (name_by labels.entry) circuit.now.gates) }
+    ensures cause { HasCause (K.faults out.old) (K.faults out.new) result }
+{
+    put_gates(buffer, out, circuit, labels)?;
+    buffer.put(out, b".end\n")
+}
+
 fn put_gates<K: Sink>(
     buffer: &mut Buffer,
     out: &mut K,
     circuit: &Circuit,
-    roles: Roles,
+    labels: Labels<'_>,
 ) -> Result<(), Failed>
-    requires fits { lines_in roles ≡ circuit.now.lines }
+    requires fits { count_of labels ≡ circuit.now.lines }
     requires few { circuit.now.lines ≤ MOST_LINES }
     requires narrow { AreNarrow circuit.now.gates }
     ensures bytes { Gathers result (K.held out.old) (K.held out.new) buffer.old buffer.new
-        (flat_map line_text (map (gate_words roles) circuit.now.gates)) }
+        (gates_text (name_by labels.entry) circuit.now.gates) }
     ensures cause { HasCause (K.faults out.old) (K.faults out.new) result }
 {
     // This call says that the gates are on the circuit's lines.
     let _ = circuit.lines();
     for i in 0..circuit.len() {
-        put_gate(buffer, out, circuit.gate(i), roles)?;
+        put_gate(buffer, out, circuit.gate(i), labels)?;
     }
     Ok(())
 }
@@ -258,19 +298,19 @@ fn put_gate<K: Sink>(
     buffer: &mut Buffer,
     out: &mut K,
     gate: &Gate,
-    roles: Roles,
+    labels: Labels<'_>,
 ) -> Result<(), Failed>
-    requires few { lines_in roles ≤ MOST_LINES }
+    requires few { count_of labels ≤ MOST_LINES }
     requires narrow { IsNarrow gate.now }
-    requires in_range { AllByRecursion (λ line. line < lines_in roles) (lines_of gate.now) }
+    requires in_range { AllByRecursion (λ line. line < count_of labels) (lines_of gate.now) }
     ensures bytes { Gathers result (K.held out.old) (K.held out.new) buffer.old buffer.new
-        (line_text (gate_words roles gate.now)) }
+        (line_text (gate_words (name_by labels.entry) gate.now)) }
     ensures cause { HasCause (K.faults out.old) (K.faults out.new) result }
 {
     let Op::Flip(target) = gate.op() else {
         unreachable!()
     };
-    put_flip(buffer, out, gate.controls(), target, roles)
+    put_flip(buffer, out, gate.controls(), target, labels)
 }
 
 fn put_flip<K: Sink>(
@@ -278,20 +318,20 @@ fn put_flip<K: Sink>(
     out: &mut K,
     controls: &[Control],
     target: u32,
-    roles: Roles,
+    labels: Labels<'_>,
 ) -> Result<(), Failed>
-    requires few { lines_in roles ≤ MOST_LINES }
+    requires few { count_of labels ≤ MOST_LINES }
     requires short { length controls.now ≤ 2 }
     requires controls_in_range { AllByRecursion
-        (λ control. control.line < lines_in roles) controls.now }
-    requires target_in_range { target < lines_in roles }
+        (λ control. control.line < count_of labels) controls.now }
+    requires target_in_range { target < count_of labels }
     ensures bytes { Gathers result (K.held out.old) (K.held out.new) buffer.old buffer.new
-        (flip_text roles controls.now target) }
+        (flip_text (name_by labels.entry) controls.now target) }
     ensures cause { HasCause (K.faults out.old) (K.faults out.new) result }
 {
     put_gate_word(buffer, out, controls.len() as u64 + 1)?;
-    put_controls(buffer, out, controls, roles)?;
-    put_target(buffer, out, roles, target)
+    put_controls(buffer, out, controls, labels)?;
+    put_target(buffer, out, labels, target)
 }
 
 fn put_gate_word<K: Sink>(buffer: &mut Buffer, out: &mut K, lines: u64) -> Result<(), Failed>
@@ -307,16 +347,16 @@ fn put_controls<K: Sink>(
     buffer: &mut Buffer,
     out: &mut K,
     controls: &[Control],
-    roles: Roles,
+    labels: Labels<'_>,
 ) -> Result<(), Failed>
-    requires few { lines_in roles ≤ MOST_LINES }
-    requires in_range { AllByRecursion (λ control. control.line < lines_in roles) controls.now }
+    requires few { count_of labels ≤ MOST_LINES }
+    requires in_range { AllByRecursion (λ control. control.line < count_of labels) controls.now }
     ensures bytes { Gathers result (K.held out.old) (K.held out.new) buffer.old buffer.new
-        (flat_map (λ control. 32 ∷ name_of_line roles control.line) controls.now) }
+        (flat_map (λ control. 32 ∷ name_by labels.entry control.line) controls.now) }
     ensures cause { HasCause (K.faults out.old) (K.faults out.new) result }
 {
     for control in controls {
-        put_spaced_name(buffer, out, roles, control.line)?;
+        put_spaced_name(buffer, out, labels, control.line)?;
     }
     Ok(())
 }
@@ -324,15 +364,15 @@ fn put_controls<K: Sink>(
 fn put_target<K: Sink>(
     buffer: &mut Buffer,
     out: &mut K,
-    roles: Roles,
+    labels: Labels<'_>,
     target: u32,
 ) -> Result<(), Failed>
-    requires few { lines_in roles ≤ MOST_LINES }
-    requires in_range { target < lines_in roles }
+    requires few { count_of labels ≤ MOST_LINES }
+    requires in_range { target < count_of labels }
     ensures bytes { Gathers result (K.held out.old) (K.held out.new) buffer.old buffer.new
-        ((32 ∷ name_of_line roles target) ++ codes "\n") }
+        ((32 ∷ name_by labels.entry target) ++ codes "\n") }
     ensures cause { HasCause (K.faults out.old) (K.faults out.new) result }
 {
-    put_spaced_name(buffer, out, roles, target)?;
+    put_spaced_name(buffer, out, labels, target)?;
     buffer.put(out, b"\n")
 }

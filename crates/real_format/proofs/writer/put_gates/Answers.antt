@@ -1,9 +1,10 @@
-use Rattle.std.proofs.Common.{ap, map, refl, arith}
-use Rattle.std.specs.List.{flat_map}
+use Rattle.std.proofs.Common.{ap, refl, arith}
 use Rattle.std.proofs.lemmas.List.{drop_all}
-use Rattle.real_format.specs.Compiled.{line_text, gate_words}
+use Rattle.real_format.specs.Written.{line_text, gate_words}
 use Rattle.list_facts.proofs.CutLemmas.{drop_got}
 use Rattle.revc_io.proofs.WritingLoopLemmas.{writing_begun, writing_more, writing_done, writing_failed, fault_later, no_fault}
+use Rattle.real_format.specs.inside.Labels.{name_by}
+use Rattle.real_format.specs.inside.Parts.{gates_text}
 use Rattle.real_format.proofs.writer.put_gates.Goals as goal
 
 pub loop-i-init : goal.loop-i-init
@@ -12,7 +13,7 @@ loop-i-init g c = writing_begun _ _ _ _ _ (refl)
 pub returns-in_err-put_gate-clause-bytes : goal.returns-in_err-put_gate-clause-bytes
 returns-in_err-put_gate-clause-bytes g c =
     let left = drop_got c.args.circuit.now.gates c.loop-i.i _ c.gate.ensures in
-    writing_failed _ _ _ _ _ _ _ (ap (λ gates. flat_map line_text (map (gate_words c.args.roles) gates)) left) c.from_residual.ensures.1
+    writing_failed _ _ _ _ _ _ _ (ap (gates_text (name_by c.args.labels)) left) c.from_residual.ensures.1
     c.in_err-put_gate.ensures.bytes c.loop-i.invariant
 
 pub returns-in_err-put_gate-clause-cause : goal.returns-in_err-put_gate-clause-cause
@@ -22,13 +23,13 @@ returns-in_err-put_gate-clause-cause g c =
 pub loop-i-preserved : goal.loop-i-preserved
 loop-i-preserved g c =
     let left = drop_got c.args.circuit.now.gates c.loop-i.i _ c.gate.ensures in
-    writing_more _ _ _ (ap (λ gates. flat_map line_text (map (gate_words c.args.roles) gates)) left) c.in_ok-put_gate.ensures.bytes
-    c.in_ok-put_gate.ensures.cause.stays c.loop-i.invariant
+    writing_more {piece = line_text (gate_words (name_by c.args.labels) c.gate.result.now)} _ _ _
+    (ap (gates_text (name_by c.args.labels)) left) c.in_ok-put_gate.ensures.bytes c.in_ok-put_gate.ensures.cause.stays c.loop-i.invariant
 
 pub returns-clause-bytes : goal.returns-clause-bytes
 returns-clause-bytes g c =
     let over = drop_all c.loop-i.i c.args.circuit.now.gates (omega arith) in
-    writing_done _ (ap (λ gates. flat_map line_text (map (gate_words c.args.roles) gates)) over) c.loop-i.invariant
+    writing_done _ (ap (gates_text (name_by c.args.labels)) over) c.loop-i.invariant
 
 pub returns-clause-cause : goal.returns-clause-cause
 returns-clause-cause g c = no_fault _ c.loop-i.invariant.calm

@@ -1,13 +1,26 @@
+use Rattle.std.proofs.Common.{◌++◌, codes}
 use Rattle.revc_io.proofs.PassingLemmas.{begun, step, failed_call, last_call}
-use Rattle.real_format.specs.inside.Parts.{constants_text, garbage_text}
+use Rattle.real_format.specs.declared.labels.Kind.TheVariants.{Constants, Garbage}
+use Rattle.real_format.specs.inside.Labels.{mark_bytes}
+use Rattle.real_format.specs.inside.Parts.{mark_line_text}
 use Rattle.real_format.proofs.writer.put_marks.Goals as goal
 
-pub returns-in_err-put_constants-clause-bytes : goal.returns-in_err-put_constants-clause-bytes
-returns-in_err-put_constants-clause-bytes g c =
-    failed_call c.args.buffer.now _ (constants_text c.args.roles) (garbage_text c.args.roles) _ _ c.from_residual.ensures.1 c.in_err-put_constants.ensures.bytes
-    (begun _ _ _)
+pub returns-in_err-put_mark_line-clause-bytes : goal.returns-in_err-put_mark_line-clause-bytes
+returns-in_err-put_mark_line-clause-bytes g c =
+    failed_call c.args.buffer.now _ (mark_line_text (codes ".constants ") (mark_bytes c.args.labels Constants))
+    (mark_line_text (codes ".garbage ") (mark_bytes c.args.labels Garbage) ++ codes ".begin\n") _ _ c.from_residual.ensures.1
+    c.in_err-put_mark_line.ensures.bytes (begun _ _ _)
+
+pub returns-in_err-put_mark_line-2-clause-bytes : goal.returns-in_err-put_mark_line-2-clause-bytes
+returns-in_err-put_mark_line-2-clause-bytes g c =
+    failed_call c.args.buffer.now _ (mark_line_text (codes ".garbage ") (mark_bytes c.args.labels Garbage)) (codes ".begin\n") _ _
+    c.from_residual-in_err-put_mark_line-2.ensures.1 c.in_err-put_mark_line-2.ensures.bytes
+    (step (mark_line_text (codes ".constants ") (mark_bytes c.args.labels Constants))
+    (mark_line_text (codes ".garbage ") (mark_bytes c.args.labels Garbage) ++ codes ".begin\n") c.in_ok-put_mark_line.ensures.bytes (begun _ _ _))
 
 pub returns-clause-bytes : goal.returns-clause-bytes
 returns-clause-bytes g c =
-    last_call c.args.buffer.now _ _ _ _ c.put_garbage.ensures.bytes (step (constants_text c.args.roles)
-    (garbage_text c.args.roles) c.in_ok-put_constants.ensures.bytes (begun _ _ _))
+    last_call c.args.buffer.now _ _ _ _ c.put.ensures.bytes
+    (step (mark_line_text (codes ".garbage ") (mark_bytes c.args.labels Garbage)) (codes ".begin\n") c.in_ok-put_mark_line-2.ensures.bytes
+    (step (mark_line_text (codes ".constants ") (mark_bytes c.args.labels Constants))
+    (mark_line_text (codes ".garbage ") (mark_bytes c.args.labels Garbage) ++ codes ".begin\n") c.in_ok-put_mark_line.ensures.bytes (begun _ _ _)))

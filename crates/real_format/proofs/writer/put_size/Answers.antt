@@ -1,22 +1,21 @@
 use Rattle.std.proofs.Common.{◌++◌, codes}
 use Rattle.std.specs.Fmt.{decimal}
 use Rattle.revc_io.proofs.PassingLemmas.{begun, step, failed_call, last_call}
-use Rattle.gate_split.specs.Plans.{lines_in}
 use Rattle.real_format.proofs.writer.put_size.Goals as goal
 
 pub returns-in_err-put-clause-bytes : goal.returns-in_err-put-clause-bytes
 returns-in_err-put-clause-bytes g c =
-    failed_call c.args.buffer.now _ (codes ".version 2.0\n.numvars ") ((decimal (lines_in c.args.roles)) ++ (codes "\n")) _ _ c.from_residual.ensures.1
+    failed_call c.args.buffer.now _ (codes ".version 2.0\n.numvars ") ((decimal (c.args.count)) ++ (codes "\n")) _ _ c.from_residual.ensures.1
     c.in_err-put.ensures.bytes (begun _ _ _)
 
 pub returns-in_err-put_decimal-clause-bytes : goal.returns-in_err-put_decimal-clause-bytes
 returns-in_err-put_decimal-clause-bytes g c =
-    rw (← c.lines.ensures) (failed_call c.args.buffer.now _ (decimal c.lines.result)
+    failed_call c.args.buffer.now _ (decimal c.args.count)
     (codes "\n") _ _ c.from_residual-in_err-put_decimal.ensures.1 c.in_err-put_decimal.ensures.bytes
-    (step (codes ".version 2.0\n.numvars ") ((decimal c.lines.result) ++ (codes "\n")) c.in_ok-put.ensures.bytes (begun _ _ _)))
+    (step (codes ".version 2.0\n.numvars ") ((decimal c.args.count) ++ (codes "\n")) c.in_ok-put.ensures.bytes (begun _ _ _))
 
 pub returns-clause-bytes : goal.returns-clause-bytes
 returns-clause-bytes g c =
-    rw (← c.lines.ensures) (last_call c.args.buffer.now _ _ _ _ c.put-2.ensures.bytes
-    (step (decimal c.lines.result) (codes "\n") c.in_ok-put_decimal.ensures.bytes
-    (step (codes ".version 2.0\n.numvars ") ((decimal c.lines.result) ++ (codes "\n")) c.in_ok-put.ensures.bytes (begun _ _ _))))
+    last_call c.args.buffer.now _ _ _ _ c.put-2.ensures.bytes
+    (step (decimal c.args.count) (codes "\n") c.in_ok-put_decimal.ensures.bytes
+    (step (codes ".version 2.0\n.numvars ") ((decimal c.args.count) ++ (codes "\n")) c.in_ok-put.ensures.bytes (begun _ _ _)))

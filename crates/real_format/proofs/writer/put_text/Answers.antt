@@ -1,24 +1,29 @@
-use Rattle.std.proofs.Common.{◌++◌, map, codes}
-use Rattle.std.specs.List.{flat_map}
+use Rattle.std.proofs.Common.{◌++◌}
 use Rattle.revc_io.proofs.PassingLemmas.{begun, step, failed_call, last_call}
-use Rattle.real_format.specs.Compiled.{line_text, gate_words}
-use Rattle.real_format.specs.inside.Parts.{header_text}
+use Rattle.real_format.specs.declared.labels.Kind.TheVariants.{Constants, Garbage}
+use Rattle.real_format.specs.inside.Labels.{count_of, name_by, mark_bytes}
+use Rattle.real_format.specs.inside.Parts.{front_text, marks_text, rest_text}
 use Rattle.real_format.proofs.writer.put_text.Goals as goal
 
-pub returns-in_err-put_header-clause-bytes : goal.returns-in_err-put_header-clause-bytes
-returns-in_err-put_header-clause-bytes g c =
-    failed_call c.args.buffer.now _ (header_text c.args.roles) ((flat_map line_text (map (gate_words c.args.roles) c.args.circuit.now.gates))
-    ++ (codes ".end\n")) _ _ c.from_residual.ensures.1 c.in_err-put_header.ensures.bytes (begun _ _ _)
+pub returns-in_err-put_front-clause-bytes : goal.returns-in_err-put_front-clause-bytes
+returns-in_err-put_front-clause-bytes g c =
+    failed_call c.args.buffer.now _ (front_text (name_by c.args.labels) (count_of c.args.labels))
+    (marks_text (mark_bytes c.args.labels Constants) (mark_bytes c.args.labels Garbage) ++ rest_text (name_by c.args.labels) c.args.circuit.now.gates) _ _
+    c.from_residual.ensures.1 c.in_err-put_front.ensures.bytes (begun _ _ _)
 
-pub returns-in_err-put_gates-clause-bytes : goal.returns-in_err-put_gates-clause-bytes
-returns-in_err-put_gates-clause-bytes g c =
-    failed_call c.args.buffer.now _ (flat_map line_text (map (gate_words c.args.roles) c.args.circuit.now.gates))
-    (codes ".end\n") _ _ c.from_residual-in_err-put_gates.ensures.1 c.in_err-put_gates.ensures.bytes
-    (step (header_text c.args.roles) ((flat_map line_text (map (gate_words c.args.roles) c.args.circuit.now.gates)) ++ (codes ".end\n"))
-    c.in_ok-put_header.ensures.bytes (begun _ _ _))
+pub returns-in_err-put_marks-clause-bytes : goal.returns-in_err-put_marks-clause-bytes
+returns-in_err-put_marks-clause-bytes g c =
+    failed_call c.args.buffer.now _ (marks_text (mark_bytes c.args.labels Constants) (mark_bytes c.args.labels Garbage))
+    (rest_text (name_by c.args.labels) c.args.circuit.now.gates) _ _
+    c.from_residual-in_err-put_marks.ensures.1 c.in_err-put_marks.ensures.bytes
+    (step (front_text (name_by c.args.labels) (count_of c.args.labels))
+    (marks_text (mark_bytes c.args.labels Constants) (mark_bytes c.args.labels Garbage) ++ rest_text (name_by c.args.labels) c.args.circuit.now.gates)
+    c.in_ok-put_front.ensures.bytes (begun _ _ _))
 
 pub returns-clause-bytes : goal.returns-clause-bytes
 returns-clause-bytes g c =
-    last_call c.args.buffer.now _ _ _ _ c.put.ensures.bytes (step (flat_map line_text (map (gate_words c.args.roles) c.args.circuit.now.gates))
-    (codes ".end\n") c.in_ok-put_gates.ensures.bytes (step (header_text c.args.roles)
-    ((flat_map line_text (map (gate_words c.args.roles) c.args.circuit.now.gates)) ++ (codes ".end\n")) c.in_ok-put_header.ensures.bytes (begun _ _ _)))
+    last_call c.args.buffer.now _ _ _ _ c.put_rest.ensures.bytes
+    (step (marks_text (mark_bytes c.args.labels Constants) (mark_bytes c.args.labels Garbage)) (rest_text (name_by c.args.labels) c.args.circuit.now.gates)
+    c.in_ok-put_marks.ensures.bytes (step (front_text (name_by c.args.labels) (count_of c.args.labels))
+    (marks_text (mark_bytes c.args.labels Constants) (mark_bytes c.args.labels Garbage) ++ rest_text (name_by c.args.labels) c.args.circuit.now.gates)
+    c.in_ok-put_front.ensures.bytes (begun _ _ _)))

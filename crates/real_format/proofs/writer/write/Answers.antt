@@ -1,8 +1,12 @@
-use Rattle.std.proofs.Common.{◌≡◌, sym, subst, arith}
+use Rattle.std.proofs.Common.{◌≡◌, false, sym, subst, arith}
+use Rattle.std.proofs.lemmas.List.{length-replicate}
 use Rattle.mct_circuit.specs.Gates.{CircuitView, AreGatesOn}
 use Rattle.gate_split.specs.Plans.{lines_in, roles_of}
 use Rattle.real_format.proofs.MeaningLemmas.{compiled_has_meaning}
 use Rattle.real_format.proofs.writer.write.Goals as goal
+
+pub write_text-requires-clause-garbage : goal.write_text-requires-clause-garbage
+write_text-requires-clause-garbage g c = length-replicate _ false
 
 pub returns-clause-meaning : goal.returns-clause-meaning
 returns-clause-meaning g c =
