@@ -5,7 +5,7 @@ use Rattle.std.proofs.lemmas.List.Folds.{concat-append}
 use Rattle.qasm_lexer.specs.Tokens.{is_identifier, is_number, IsLongest, AreTokens, nothing_taken, gap_dropped, token_taken}
 use Rattle.text_places.specs.Gaps.{blank}
 use Rattle.qasm_format.specs.Statements.{Argument, Statement, bracketed, argument_words, parted, words_of, head_words}
-use Rattle.qasm_format.specs.Compiled.{line_text}
+use Rattle.qasm_format.specs.Written.{line_text}
 use Rattle.qasm_lexer.proofs.TokenLemmas.{longest_name, longest_number, longest_version, longest_sign}
 
 -- ---- words with nothing between them

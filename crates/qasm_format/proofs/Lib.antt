@@ -15,5 +15,6 @@ pub mod WordLemmas
 pub mod RegisterLemmas
 pub mod WrittenLemmas
 pub mod RoleLemmas
+pub mod NumberedLemmas
 pub mod MeaningLemmas
 pub mod TextLemmas

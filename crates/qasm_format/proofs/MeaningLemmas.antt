@@ -1,7 +1,9 @@
--- The text of a compiled circuit means its file.
+-- The texts of a compiled circuit and of any narrow circuit mean their files.
 use Rattle.std.proofs.Common.{ℕ, refl, sym, subst, arith}
 use Rattle.mct_circuit.specs.Gates.{AreGatesOn}
 use Rattle.qasm_format.specs.Compiled.{registers_of, argument_of, CompiledHasMeaning}
+use Rattle.qasm_format.specs.Converted.{converted_registers, converted_place, ConvertedHasMeaning}
+use Rattle.qasm_format.proofs.NumberedLemmas as numbered
 use Rattle.qasm_format.proofs.RoleLemmas.{all_lines, registers_are_good, registers_are_different, place_of_line}
 use Rattle.qasm_format.proofs.WrittenLemmas.{written_file}
 
@@ -14,5 +16,18 @@ compiled_has_meaning roles gates some few few_gates on narrow =
           (omega arith) (omega arith) (record { says = λ line low. place_of_line roles line few (omega arith) }) few_gates
           (subst (λ (n : ℕ). AreGatesOn n gates) (sym lines) on) narrow;
       roles_are = refl;
+      gates_are = refl;
+    }
+
+pub converted_has_meaning : ConvertedHasMeaning
+converted_has_meaning count added gates some two few few_gates on narrow =
+    let counted : numbered.IsCount count added = record { some = some; few = few; two = two } in
+    let lines = numbered.lines_are_all count added counted in
+    record {
+      file = record { registers = converted_registers count added; gates = gates };
+      meaning = written_file (converted_registers count added) (converted_place count added) gates
+          (numbered.registers_are_good count added counted) (numbered.registers_are_different count added) (omega arith) (omega arith)
+          (numbered.lines_have_places count added counted) few_gates (subst (λ (n : ℕ). AreGatesOn n gates) (sym lines) on) narrow;
+      registers_are = refl;
       gates_are = refl;
     }

@@ -85,7 +85,7 @@ laid_in roles Borrowed some =
 
 -- ---- the place of a line
 
-ltb-above : (a b : ℕ) → b ≤ a → ltb a b ≡ false
+pub ltb-above : (a b : ℕ) → b ≤ a → ltb a b ≡ false
 ltb-above a b h = grind (arith, nat_tests)
 
 -- a line stands among those of its role
@@ -158,7 +158,7 @@ abbrev IsNew : Role → List Register → Type 0
 IsNew role registers = AllByRecursion (λ (other : Register). ¬ (register_name role ≡ other.name)) registers
 
 -- names with other first bytes are different
-differ : (name other : List ℕ) → eqb (get_or name 0 0) (get_or other 0 0) ≡ false → ¬ (name ≡ other)
+pub differ : (name other : List ℕ) → eqb (get_or name 0 0) (get_or other 0 0) ≡ false → ¬ (name ≡ other)
 differ name other e same = false≢true (sym e ∙ eq-eqb (get_or name 0 0) (get_or other 0 0) (ap (λ (w : List ℕ). get_or w 0 0) same))
 
 is_new : (role other : Role) (size : ℕ) → eqb (get_or (register_name role) 0 0) (get_or (register_name other) 0 0) ≡ false

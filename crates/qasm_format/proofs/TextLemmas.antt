@@ -1,4 +1,4 @@
--- The parts that the writer puts are the text of the compiled file.
+-- The parts that the writer puts are the text of the file.
 use Rattle.std.proofs.Common.{◌≡◌, ℕ, ◌<◌, Bool, true, false, cond, eqb, List, [], ◌∷◌, ◌++◌, length, map, codes, refl, sym, ap, ◌∙◌, append_assoc, append-nil}
 use Rattle.std.specs.List.{flat_map, concat, AllByRecursion}
 use Rattle.std.specs.Fmt.{decimal}
@@ -11,11 +11,15 @@ use Rattle.mct_circuit.specs.Gates.{GateView, lines_of, targets_of}
 use Rattle.gate_split.specs.declared.roles.Roles.{Roles}
 use Rattle.gate_split.specs.declared.roles.Role.{Role}
 use Rattle.gate_split.specs.declared.roles.Role.TheVariants.{Input, Output, Work, Borrowed}
-use Rattle.gate_split.specs.Plans.{role_at, number_at}
 use Rattle.qasm_format.specs.Statements.{Statement, Argument, argument_words, bracketed, parted, words_of}
 use Rattle.qasm_format.specs.declared.file.Register.{Register}
-use Rattle.qasm_format.specs.Compiled.{register_name, register_of, registers_of, argument_of, gate_word, gate_statement, declaration, line_text, compiled_text}
-use Rattle.qasm_format.specs.inside.Parts.{place_text, argument_text, declaration_text, register_text, head_text, first_registers_text, last_registers_text, header_text, controls_text, flip_text}
+use Rattle.qasm_format.specs.Written.{gate_word, gate_statement, declaration, line_text, file_text}
+use Rattle.qasm_format.specs.Compiled.{register_name, register_of, registers_of, argument_of}
+use Rattle.qasm_format.specs.Converted.{kept_lines, added_register, converted_registers, converted_place}
+use Rattle.qasm_format.specs.declared.naming.Naming.{Naming}
+use Rattle.qasm_format.specs.declared.naming.Naming.TheVariants.{ByRole, ByNumber}
+use Rattle.qasm_format.specs.inside.Naming.{registers_by, place_by}
+use Rattle.qasm_format.specs.inside.Parts.{place_text, argument_text, declaration_text, register_text, role_registers_text, added_text, numbered_registers_text, head_text, header_text, controls_text, flip_text, gates_text}
 use Rattle.qasm_format.proofs.RoleLemmas.{one_register}
 
 -- ---- places
@@ -24,7 +28,7 @@ use Rattle.qasm_format.proofs.RoleLemmas.{one_register}
 place_parts : (name opened digits closed : List ℕ) → name ++ (opened ++ (digits ++ (closed ++ []))) ≡ name ++ (opened ++ (digits ++ closed))
 place_parts name opened digits closed = simp append-nil
 
-place_text_is : (name : List ℕ) (number : ℕ) → concat (bracketed name (decimal number)) ≡ place_text name number
+pub place_text_is : (name : List ℕ) (number : ℕ) → concat (bracketed name (decimal number)) ≡ place_text name number
 place_text_is name number = place_parts name (codes "[") (decimal number) (codes "]")
 
 -- ---- declarations
@@ -32,21 +36,21 @@ place_text_is name number = place_parts name (codes "[") (decimal number) (codes
 declaration_parts : (word space place end feed : List ℕ) → word ++ (space ++ ((place ++ end) ++ feed)) ≡ (word ++ space) ++ (place ++ (end ++ feed))
 declaration_parts word space place end feed = simp append_assoc
 
-declaration_text_is : (role : Role) (size : ℕ)
-    → line_text (words_of (declaration (record { name = register_name role; size = size }))) ≡ declaration_text (register_name role) size
-declaration_text_is role size =
-    ap (λ (t : List ℕ). codes "qreg" ++ (codes " " ++ (t ++ codes "\n"))) (concat-append (bracketed (register_name role) (decimal size)) (codes ";" ∷ [])
-    ∙ ap (λ (t : List ℕ). t ++ codes ";") (place_text_is (register_name role) size))
-    ∙ declaration_parts (codes "qreg") (codes " ") (place_text (register_name role) size) (codes ";") (codes "\n")
-
 -- the line of a declaration
 abbrev words_declared : Register → List (List ℕ)
 words_declared register = words_of (declaration register)
 
+declaration_text_is : (name : List ℕ) (size : ℕ) → line_text (words_declared (record { name = name; size = size })) ≡ declaration_text name size
+declaration_text_is name size =
+    ap (λ (t : List ℕ). codes "qreg" ++ (codes " " ++ (t ++ codes "\n"))) (concat-append (bracketed name (decimal size)) (codes ";" ∷ [])
+    ∙ ap (λ (t : List ℕ). t ++ codes ";") (place_text_is name size))
+    ∙ declaration_parts (codes "qreg") (codes " ") (place_text name size) (codes ";") (codes "\n")
+
 by_test : (role : Role) (size : ℕ) (none : Bool)
     → flat_map line_text (map words_declared (cond none [] (one_register role size))) ≡ cond none [] (declaration_text (register_name role) size)
 by_test role size true = refl
-by_test role size false = append-nil (line_text (words_declared (record { name = register_name role; size = size }))) ∙ declaration_text_is role size
+by_test role size false =
+    append-nil (line_text (words_declared (record { name = register_name role; size = size }))) ∙ declaration_text_is (register_name role) size
 
 register_text_is : (role : Role) (size : ℕ) → flat_map line_text (map words_declared (register_of role size)) ≡ register_text (register_name role) size
 register_text_is role size = by_test role size (eqb size 0)
@@ -58,7 +62,7 @@ joined xs ys = ap (flat_map line_text) (map-append words_declared xs ys) ∙ fla
 in_pairs : (i j o p w v b c : List ℕ) → i ≡ j → o ≡ p → w ≡ v → b ≡ c → i ++ (o ++ (w ++ b)) ≡ (j ++ p) ++ (v ++ c)
 in_pairs i j o p w v b c of_i of_o of_w of_b = rw (of_i, of_o, of_w, of_b) (sym (append_assoc j p (v ++ c)))
 
-registers_text_is : (roles : Roles) → flat_map line_text (map words_declared (registers_of roles)) ≡ first_registers_text roles ++ last_registers_text roles
+registers_text_is : (roles : Roles) → flat_map line_text (map words_declared (registers_of roles)) ≡ role_registers_text roles
 registers_text_is roles =
     let i = register_of Input roles.inputs in
     let o = register_of Output roles.outputs in
@@ -69,28 +73,49 @@ registers_text_is roles =
     ∙ in_pairs _ _ _ _ _ _ _ _ (register_text_is Input roles.inputs) (register_text_is Output roles.outputs) (register_text_is Work roles.work)
     (register_text_is Borrowed roles.borrowed)
 
--- ---- the whole text
+-- ---- registers and gates
 
 words_mapped : {X : Type 0} (f : X → Statement) (xs : List X) → map words_of (map f xs) ≡ map (λ x. words_of (f x)) xs
 words_mapped f [] = refl
 words_mapped f (x ∷ xs) = ap (λ rest. words_of (f x) ∷ rest) (words_mapped f xs)
 
 -- the registers and the gates, behind the include
-body_is : (roles : Roles) (gates : List GateView) → flat_map line_text (map words_of (map declaration (registers_of roles) ++ map (gate_statement roles) gates))
-    ≡ (first_registers_text roles ++ last_registers_text roles) ++ flat_map line_text (map (λ gate. words_of (gate_statement roles gate)) gates)
-body_is roles gates =
-    ap (flat_map line_text) (map-append words_of (map declaration (registers_of roles)) (map (gate_statement roles) gates)
-    ∙ ap (λ ls. ls ++ map words_of (map (gate_statement roles) gates)) (words_mapped declaration (registers_of roles))
-    ∙ ap (λ ls. map words_declared (registers_of roles) ++ ls) (words_mapped (gate_statement roles) gates))
-    ∙ flat_map-append line_text (map words_declared (registers_of roles)) (map (λ gate. words_of (gate_statement roles gate)) gates)
-    ∙ ap (λ (t : List ℕ). t ++ flat_map line_text (map (λ gate. words_of (gate_statement roles gate)) gates)) (registers_text_is roles)
+body_is : (registers : List Register) (place : ℕ → Argument) (gates : List GateView)
+    → flat_map line_text (map words_of (map declaration registers ++ map (gate_statement place) gates))
+    ≡ flat_map line_text (map words_declared registers) ++ gates_text place gates
+body_is registers place gates =
+    ap (flat_map line_text) (map-append words_of (map declaration registers) (map (gate_statement place) gates)
+    ∙ ap (λ ls. ls ++ map words_of (map (gate_statement place) gates)) (words_mapped declaration registers)
+    ∙ ap (λ ls. map words_declared registers ++ ls) (words_mapped (gate_statement place) gates))
+    ∙ flat_map-append line_text (map words_declared registers) (map (λ gate. words_of (gate_statement place gate)) gates)
 
-pub compiled_text_is : (roles : Roles) (gates : List GateView)
-    → header_text roles ++ flat_map line_text (map (λ gate. words_of (gate_statement roles gate)) gates) ≡ compiled_text roles gates
-compiled_text_is roles gates =
-    sym (ap (λ (t : List ℕ). head_text ++ t) (body_is roles gates)
-    ∙ sym (append_assoc head_text (first_registers_text roles ++ last_registers_text roles)
-    (flat_map line_text (map (λ gate. words_of (gate_statement roles gate)) gates))))
+file_text_is : (registers : List Register) (place : ℕ → Argument) (gates : List GateView) (text : List ℕ)
+    → flat_map line_text (map words_declared registers) ≡ text → (head_text ++ text) ++ gates_text place gates ≡ file_text registers place gates
+file_text_is registers place gates text e =
+    append_assoc head_text text (gates_text place gates)
+    ∙ sym (ap (λ (t : List ℕ). head_text ++ t) (body_is registers place gates ∙ ap (λ (t : List ℕ). t ++ gates_text place gates) e))
+
+-- ---- numbered lines
+
+added_text_is : (added : Bool) → flat_map line_text (map words_declared (added_register added)) ≡ added_text added
+added_text_is true = append-nil (line_text (words_declared (record { name = codes "dirty"; size = 1 }))) ∙ declaration_text_is (codes "dirty") 1
+added_text_is false = refl
+
+numbered_registers_text_is : (count : ℕ) (added : Bool)
+    → flat_map line_text (map words_declared (converted_registers count added)) ≡ numbered_registers_text count added
+numbered_registers_text_is count added =
+    ap (λ (t : List ℕ). t ++ flat_map line_text (map words_declared (added_register added))) (declaration_text_is (codes "q") (kept_lines count added))
+    ∙ ap (λ (t : List ℕ). declaration_text (codes "q") (kept_lines count added) ++ t) (added_text_is added)
+
+-- ---- the whole text
+
+pub text_is : (naming : Naming) (gates : List GateView)
+    → header_text naming ++ gates_text (place_by naming) gates ≡ file_text (registers_by naming) (place_by naming) gates
+text_is (ByRole roles) gates =
+    file_text_is (registers_of roles) (argument_of roles) gates (role_registers_text roles) (registers_text_is roles)
+text_is (ByNumber count added) gates =
+    file_text_is (converted_registers count added) (converted_place count added) gates (numbered_registers_text count added)
+    (numbered_registers_text_is count added)
 
 -- ---- a gate
 
@@ -99,40 +124,34 @@ more_arguments : (a b : Argument) (bs : List Argument)
 more_arguments a b bs =
     concat-append (argument_words a) (codes "," ∷ parted (b ∷ bs)) ∙ sym (append_assoc (concat (argument_words a)) (codes ",") (concat (parted (b ∷ bs))))
 
-argument_text_is : (roles : Roles) (line : ℕ) → concat (argument_words (argument_of roles line)) ≡ argument_text roles line
-argument_text_is roles line = place_text_is (register_name (role_at roles line)) (number_at roles line)
-
-arguments_text : (roles : Roles) (controls : List Control) (target : ℕ)
-    → concat (parted (map (argument_of roles) (map (λ (control : Control). control.line) controls ++ target ∷ [])))
-    ≡ controls_text roles controls ++ argument_text roles target
-arguments_text roles [] target = argument_text_is roles target
-arguments_text roles (c ∷ []) target =
-    more_arguments (argument_of roles c.line) (argument_of roles target) []
-    ∙ ap (λ (t : List ℕ). (t ++ codes ",") ++ concat (argument_words (argument_of roles target))) (argument_text_is roles c.line)
-    ∙ ap (λ (t : List ℕ). (argument_text roles c.line ++ codes ",") ++ t) (argument_text_is roles target)
-    ∙ ap (λ (t : List ℕ). t ++ argument_text roles target) (sym (append-nil (argument_text roles c.line ++ codes ",")))
-arguments_text roles (c ∷ d ∷ cs) target =
-    let rest = map (argument_of roles) (map (λ (control : Control). control.line) cs ++ target ∷ []) in
-    more_arguments (argument_of roles c.line) (argument_of roles d.line) rest
-    ∙ ap (λ (t : List ℕ). (t ++ codes ",") ++ concat (parted (argument_of roles d.line ∷ rest))) (argument_text_is roles c.line)
-    ∙ ap (λ (t : List ℕ). (argument_text roles c.line ++ codes ",") ++ t) (arguments_text roles (d ∷ cs) target)
-    ∙ sym (append_assoc (argument_text roles c.line ++ codes ",") (controls_text roles (d ∷ cs)) (argument_text roles target))
+arguments_text : (place : ℕ → Argument) (controls : List Control) (target : ℕ)
+    → concat (parted (map place (map (λ (control : Control). control.line) controls ++ target ∷ [])))
+    ≡ controls_text place controls ++ argument_text (place target)
+arguments_text place [] target = refl
+arguments_text place (c ∷ []) target =
+    more_arguments (place c.line) (place target) []
+    ∙ ap (λ (t : List ℕ). t ++ argument_text (place target)) (sym (append-nil (argument_text (place c.line) ++ codes ",")))
+arguments_text place (c ∷ d ∷ cs) target =
+    let rest = map place (map (λ (control : Control). control.line) cs ++ target ∷ []) in
+    more_arguments (place c.line) (place d.line) rest
+    ∙ ap (λ (t : List ℕ). (argument_text (place c.line) ++ codes ",") ++ t) (arguments_text place (d ∷ cs) target)
+    ∙ sym (append_assoc (argument_text (place c.line) ++ codes ",") (controls_text place (d ∷ cs)) (argument_text (place target)))
 
 gate_parts : (word space controls target end feed : List ℕ)
     → (word ++ space) ++ (controls ++ (target ++ (end ++ feed))) ≡ word ++ (space ++ (((controls ++ target) ++ end) ++ feed))
 gate_parts word space controls target end feed = simp append_assoc
 
-pub flip_text_is : (roles : Roles) (gate : GateView) (target : ℕ) → gate.op ≡ Flip target
-    → flip_text roles gate.controls target ≡ line_text (words_of (gate_statement roles gate))
-flip_text_is roles gate target e =
+pub flip_text_is : (place : ℕ → Argument) (gate : GateView) (target : ℕ) → gate.op ≡ Flip target
+    → flip_text place gate.controls target ≡ line_text (words_of (gate_statement place gate))
+flip_text_is place gate target e =
     let lines : lines_of gate ≡ map (λ (control : Control). control.line) gate.controls ++ target ∷ [] =
     ap (λ op. map (λ (control : Control). control.line) gate.controls ++ targets_of op) e in
-    let arguments : concat (parted (map (argument_of roles) (lines_of gate)) ++ codes ";" ∷ []) ≡
-    (controls_text roles gate.controls ++ argument_text roles target) ++ codes ";" =
-    concat-append (parted (map (argument_of roles) (lines_of gate))) (codes ";" ∷ [])
-    ∙ ap (λ ls. concat (parted (map (argument_of roles) ls)) ++ codes ";") lines
-    ∙ ap (λ (t : List ℕ). t ++ codes ";") (arguments_text roles gate.controls target) in
-    gate_parts (gate_word (length gate.controls)) (codes " ") (controls_text roles gate.controls) (argument_text roles target) (codes ";") (codes "\n")
+    let arguments : concat (parted (map place (lines_of gate)) ++ codes ";" ∷ []) ≡
+    (controls_text place gate.controls ++ argument_text (place target)) ++ codes ";" =
+    concat-append (parted (map place (lines_of gate))) (codes ";" ∷ [])
+    ∙ ap (λ ls. concat (parted (map place ls)) ++ codes ";") lines
+    ∙ ap (λ (t : List ℕ). t ++ codes ";") (arguments_text place gate.controls target) in
+    gate_parts (gate_word (length gate.controls)) (codes " ") (controls_text place gate.controls) (argument_text (place target)) (codes ";") (codes "\n")
     ∙ ap (λ (t : List ℕ). gate_word (length gate.controls) ++ (codes " " ++ (t ++ codes "\n"))) (sym arguments)
 
 pub controls_in_range : (n : ℕ) (controls : List Control) (targets : List ℕ)

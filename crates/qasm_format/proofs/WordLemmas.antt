@@ -1,5 +1,5 @@
 -- The words of a compiled file: names of registers and decimal numbers.
-use Rattle.std.proofs.Common.{◌≡◌, ℕ, zero, suc, ◌+◌, ◌<◌, ◌≤◌, ◌%◌, ◌^◌, eqb, not, inl, inr, true, List, [], ◌∷◌, ◌++◌, get_or, refl, sym, ap, ◌∙◌, arith, codes, eq-eqb}
+use Rattle.std.proofs.Common.{◌≡◌, ℕ, zero, suc, ◌+◌, ◌<◌, ◌≤◌, ◌*◌, ◌%◌, ◌^◌, eqb, not, inl, inr, true, List, [], ◌∷◌, ◌++◌, get_or, refl, sym, ap, ◌∙◌, arith, codes, eq-eqb}
 use Rattle.std.specs.List.{list_all}
 use Rattle.std.specs.Char.{is_ascii_digit}
 use Rattle.std.specs.Fmt.{decimal}
@@ -14,7 +14,8 @@ use Rattle.qasm_lexer.specs.Tokens.{is_identifier, is_number}
 use Rattle.qasm_format.specs.Registers.{IsName, IsNumber, kept_words}
 use Rattle.qasm_format.specs.declared.words.Use.TheVariants.{Flip}
 use Rattle.qasm_format.specs.Stages.{IsUseWord}
-use Rattle.qasm_format.specs.Compiled.{register_name, gate_word}
+use Rattle.qasm_format.specs.Written.{gate_word}
+use Rattle.qasm_format.specs.Compiled.{register_name}
 
 -- ---- numbers
 
@@ -65,6 +66,9 @@ IsName-register_name Work =
     record { spelled = refl; begins = refl; few = omega arith; free = apart (λ w. get_or w 3 0) (codes "work") kept_words refl }
 IsName-register_name Borrowed =
     record { spelled = refl; begins = refl; few = omega arith; free = apart (λ w. get_or w 3 0) (codes "dirty") kept_words refl }
+
+pub IsName-q : IsName (codes "q")
+IsName-q = record { spelled = refl; begins = refl; few = omega arith; free = apart (λ w. get_or w 0 0 + 256 * get_or w 1 0) (codes "q") kept_words refl }
 
 -- ---- the words of gates
 

@@ -16,11 +16,11 @@ use Rattle.qasm_format.specs.declared.words.Kind.TheVariants.{Qubits}
 use Rattle.qasm_format.specs.declared.words.Use.{Use}
 use Rattle.qasm_format.specs.declared.words.Use.TheVariants.{Flip}
 use Rattle.text_places.specs.Places.{place_after, start}
-use Rattle.qasm_format.specs.Statements.{Argument, one_of, Statement, includes, applies, bracketed, argument_words, parted, words_of, head_words}
+use Rattle.qasm_format.specs.Statements.{Argument, one_of, includes, bracketed, argument_words, parted, words_of, head_words}
 use Rattle.qasm_format.specs.Registers.{IsName, IsLaid, IsRegister, HaveDifferentNames, lines_of_all, line_at, HasSize}
 use Rattle.qasm_format.specs.Stages.{Said, starts, head, nothing_said, wants_argument, behind_argument, IsUseWord, StandForGates, LeadTo, nothing_left, one_more}
 use Rattle.qasm_format.specs.Qasm.{MeansFile}
-use Rattle.qasm_format.specs.Compiled.{gate_word, declaration, line_text}
+use Rattle.qasm_format.specs.Written.{gate_word, gate_statement, declaration, file_statements, file_text}
 use Rattle.qasm_format.proofs.CutLemmas.{AreCut, AreCut-append, AreCut-bracketed, AreCut-semicolon, AreCut-include, AreCut-parted, IsCutLine, is_cut_line, cut_file}
 use Rattle.qasm_format.proofs.WordLemmas.{is_number-decimal, IsNumber-decimal, is_identifier-gate_word, known_word}
 use Rattle.qasm_format.proofs.RegisterLemmas.{lines_of_all-append}
@@ -45,12 +45,6 @@ pub record IsPlaceOf (registers : List Register) (argument : Argument) (line : �
 pub record HasPlaces (registers : List Register) (argument : ℕ → Argument) : Type 0 where
   pub says : (line : ℕ) → line < lines_of_all registers → IsPlaceOf registers (argument line) line
 
-abbrev pub gate_line : (ℕ → Argument) → GateView → Statement
-gate_line argument gate = applies (gate_word (length gate.controls)) (map argument (lines_of gate))
-
-abbrev pub file_statements : List Register → (ℕ → Argument) → List GateView → List Statement
-file_statements registers argument gates = includes ∷ (map declaration registers ++ map (gate_line argument) gates)
-
 -- ---- tokens
 
 declarations_are_cut : (registers : List Register) → AllByRecursion IsRegister registers → lines_of_all registers ≤ 16384
@@ -70,7 +64,7 @@ argument_is_cut registers argument line h =
     (AreCut-bracketed h.name (decimal h.number) h.named.spelled (is_number-decimal h.number (omega (arith, small))))
 
 gates_are_cut : (registers : List Register) (argument : ℕ → Argument) (gates : List GateView) → HasPlaces registers argument
-    → AreGatesOn (lines_of_all registers) gates → AllByRecursion (λ s. IsCutLine (words_of s)) (map (gate_line argument) gates)
+    → AreGatesOn (lines_of_all registers) gates → AllByRecursion (λ s. IsCutLine (words_of s)) (map (gate_statement argument) gates)
 gates_are_cut registers argument [] places on = tt
 gates_are_cut registers argument (g ∷ gs) places on = (
   is_cut_line (gate_word (length g.controls)) (parted (map argument (lines_of g)) ++ codes ";" ∷ []) (is_identifier-gate_word (length g.controls))
@@ -208,7 +202,7 @@ lines_lead controls n said argument (l ∷ ls) places below count = arguments_le
 
 flip_leads : (names : List (List ℕ)) (registers : List Register) (argument : ℕ → Argument) (done : List GateView) (controls : List ℕ) (target : ℕ)
     → HasPlaces registers argument → IsGateOn (lines_of_all registers) (flip_of controls target) → length controls ≤ 2 → length done + 1 ≤ 4000000
-    → LeadTo (words_of (gate_line argument (flip_of controls target))) (starts (said_with names registers done))
+    → LeadTo (words_of (gate_statement argument (flip_of controls target))) (starts (said_with names registers done))
     (starts (said_with names registers (done ++ flip_of controls target ∷ [])))
 flip_leads names registers argument done controls target places on short room =
     let gate = flip_of controls target in
@@ -233,16 +227,16 @@ flip_leads names registers argument done controls target places on short room =
 
 gate_leads : (names : List (List ℕ)) (registers : List Register) (argument : ℕ → Argument) (done : List GateView) (gate : GateView)
     → HasPlaces registers argument → IsGateOn (lines_of_all registers) gate → IsNarrow gate → length done + 1 ≤ 4000000
-    → LeadTo (words_of (gate_line argument gate)) (starts (said_with names registers done)) (starts (said_with names registers (done ++ gate ∷ [])))
+    → LeadTo (words_of (gate_statement argument gate)) (starts (said_with names registers done)) (starts (said_with names registers (done ++ gate ∷ [])))
 gate_leads names registers argument done gate places on narrow room =
-    subst (λ (g : GateView). LeadTo (words_of (gate_line argument g)) (starts (said_with names registers done))
+    subst (λ (g : GateView). LeadTo (words_of (gate_statement argument g)) (starts (said_with names registers done))
     (starts (said_with names registers (done ++ g ∷ [])))) (sym narrow.is_flip)
     (flip_leads names registers argument done narrow.controls narrow.target places
     (subst (IsGateOn (lines_of_all registers)) narrow.is_flip on) narrow.few room)
 
 gates_lead : (names : List (List ℕ)) (registers : List Register) (argument : ℕ → Argument) (done gates all : List GateView) → done ++ gates ≡ all
     → HasPlaces registers argument → AreGatesOn (lines_of_all registers) gates → AreNarrow gates → length all ≤ 4000000
-    → LeadTo (flat_map words_of (map (gate_line argument) gates)) (starts (said_with names registers done)) (starts (said_with names registers all))
+    → LeadTo (flat_map words_of (map (gate_statement argument) gates)) (starts (said_with names registers done)) (starts (said_with names registers all))
 gates_lead names registers argument done [] all parts places on narrow few =
     subst (λ (gs : List GateView). LeadTo [] (starts (said_with names registers done)) (starts (said_with names registers gs)))
     (sym (append-nil done) ∙ parts) nothing_left
@@ -267,14 +261,13 @@ include_leads = one_more (inl (record { spelled = refl; once = refl; leads = ref
 pub written_file : (registers : List Register) (argument : ℕ → Argument) (gates : List GateView) → AllByRecursion IsRegister registers
     → HaveDifferentNames registers → 1 ≤ lines_of_all registers → lines_of_all registers ≤ 16384 → HasPlaces registers argument
     → length gates ≤ 4000000 → AreGatesOn (lines_of_all registers) gates → AreNarrow gates
-    → MeansFile (flat_map line_text (head_words ∷ map words_of (file_statements registers argument gates)))
-    (record { registers = registers; gates = gates })
+    → MeansFile (file_text registers argument gates) (record { registers = registers; gates = gates })
 written_file registers argument gates good different some few places few_gates on narrow =
-    let text : List ℕ = flat_map line_text (head_words ∷ map words_of (file_statements registers argument gates)) in
+    let text : List ℕ = file_text registers argument gates in
     let declares = declarations_lead [] [] registers registers refl good different (none_known registers) few in
     let tokens = cut_file (file_statements registers argument gates) (
       is_cut_line (codes "include") (codes "\"qelib1.inc\"" ∷ codes ";" ∷ []) refl AreCut-include,
-      AllByRecursion-append (λ s. IsCutLine (words_of s)) (map declaration registers) (map (gate_line argument) gates)
+      AllByRecursion-append (λ s. IsCutLine (words_of s)) (map declaration registers) (map (gate_statement argument) gates)
           (declarations_are_cut registers good few) (gates_are_cut registers argument gates places on),
     ) in
     record {
@@ -285,7 +278,7 @@ written_file registers argument gates good different some few places few_gates o
         moves = record { front = text; parts = sym (append-nil text); place = refl; cuts = tokens };
         lead = leads_then head_leads (leads_then include_leads
             (subst (λ (ts : List (List ℕ)). LeadTo ts (starts (said_with [] [] [])) (starts (said_with declares.after registers gates)))
-            (sym (flat_map-append words_of (map declaration registers) (map (gate_line argument) gates)))
+            (sym (flat_map-append words_of (map declaration registers) (map (gate_statement argument) gates)))
             (leads_then declares.leads (gates_lead declares.after registers argument [] gates gates refl places on narrow few_gates))));
       };
       ended = refl;

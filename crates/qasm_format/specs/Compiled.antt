@@ -1,16 +1,16 @@
 -- The file of a compiled circuit: its registers by the roles of its lines, and its text.
-use Rattle.std.specs.Prelude.{◌≡◌, ◌==◌, ℕ, zero, suc, ◌≤◌, if◌then◌else◌, List, [], ◌∷◌, ◌++◌, length, map, codes}
-use Rattle.std.specs.List.{flat_map, concat}
+use Rattle.std.specs.Prelude.{◌≡◌, ◌==◌, ℕ, ◌≤◌, if◌then◌else◌, List, [], ◌∷◌, ◌++◌, length, codes}
 use Rattle.std.specs.Fmt.{decimal}
 use Rattle.gate_split.specs.declared.plan.TheConstants.{MOST_LINES, MOST_GATES}
 use Rattle.gate_split.specs.declared.roles.Roles.{Roles}
 use Rattle.gate_split.specs.declared.roles.Role.{Role}
 use Rattle.gate_split.specs.declared.roles.Role.TheVariants.{Input, Output, Work, Borrowed}
 use Rattle.gate_split.specs.Plans.{lines_in, role_at, number_at}
-use Rattle.mct_circuit.specs.Gates.{GateView, lines_of, AreGatesOn, AreNarrow}
-use Rattle.qasm_format.specs.Statements.{Argument, one_of, Statement, includes, declares, applies, words_of, head_words}
+use Rattle.mct_circuit.specs.Gates.{GateView, AreGatesOn, AreNarrow}
+use Rattle.qasm_format.specs.Statements.{Argument, one_of}
 use Rattle.qasm_format.specs.declared.file.Register.{Register}
 use Rattle.qasm_format.specs.Qasm.{QasmView, MeansFile}
+use Rattle.qasm_format.specs.Written.{file_text}
 
 -- ---- registers
 
@@ -40,33 +40,8 @@ abbrev pub argument_of : Roles → ℕ → Argument
 argument_of roles line =
     one_of (register_name (role_at roles line)) (decimal (number_at roles line))
 
--- the word of a gate with so many controls
-abbrev pub gate_word : ℕ → List ℕ
-gate_word zero = codes "x"
-gate_word (suc zero) = codes "cx"
-gate_word (suc (suc _)) = codes "ccx"
-
-abbrev pub gate_statement : Roles → GateView → Statement
-gate_statement roles gate =
-    applies (gate_word (length gate.controls)) (map (argument_of roles) (lines_of gate))
-
-abbrev pub declaration : Register → Statement
-declaration register = declares register.name (decimal register.size)
-
--- the include, the declarations, and a statement for each gate
-abbrev pub compiled_statements : Roles → List GateView → List Statement
-compiled_statements roles gates =
-    includes ∷ (map declaration (registers_of roles) ++ map (gate_statement roles) gates)
-
--- the first word, a space, the other words with nothing between them, and a line feed
-abbrev pub line_text : List (List ℕ) → List ℕ
-line_text [] = 10 ∷ []
-line_text (word ∷ words) = word ++ 32 ∷ (concat words ++ 10 ∷ [])
-
--- the head and each statement in a line of its own
 abbrev pub compiled_text : Roles → List GateView → List ℕ
-compiled_text roles gates =
-    flat_map line_text (head_words ∷ map words_of (compiled_statements roles gates))
+compiled_text roles gates = file_text (registers_of roles) (argument_of roles) gates
 
 -- ---- what the text means
 

@@ -1,5 +1,6 @@
 -- What only private contracts and proofs cite.
 pub mod Parts
+pub mod Naming
 pub mod Tests
 pub mod Names
 pub mod Spread

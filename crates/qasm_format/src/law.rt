@@ -1,4 +1,5 @@
 ghost use Rattle.qasm_format.specs.Compiled.{CompiledHasMeaning};
+ghost use Rattle.qasm_format.specs.Converted.{ConvertedHasMeaning};
 ghost use Rattle.qasm_format.specs.Faults.{OneReading};
 ghost use Rattle.qasm_format.specs.Qasm.{MeaningsAreFiles};
 
@@ -6,6 +7,13 @@ ghost use Rattle.qasm_format.specs.Qasm.{MeaningsAreFiles};
 /// the file with those gates on the registers of the given roles. The function does nothing: its contract is the law.
 pub fn compiled_meaning()
     ensures { CompiledHasMeaning }
+{}
+
+/// The law of converted files: the text of narrow gates on so many lines means, by the format's own meaning, the file
+/// with those gates, whose lines are those of `q`, and of `dirty` where a line was added. The function does nothing:
+/// its contract is the law.
+pub fn converted_meaning()
+    ensures { ConvertedHasMeaning }
 {}
 
 /// The law of one reading: a text means at most one file, has at most one fault, and never both. The function does

@@ -1,9 +1,10 @@
-//! OpenQASM 2.0 files: what a text means, its reader, and the text of a compiled circuit.
+//! OpenQASM 2.0 files: what a text means, its reader, and its writer.
 #![tactic(auto)]
 
 mod file;
 mod law;
 mod names;
+mod naming;
 mod reader;
 mod said;
 mod spots;
@@ -11,9 +12,9 @@ mod words;
 mod writer;
 
 pub use file::{QasmFault, QasmFile, Register};
-pub use law::{compiled_meaning, meanings_are_files, one_reading};
+pub use law::{compiled_meaning, converted_meaning, meanings_are_files, one_reading};
 pub use reader::read;
-pub use writer::write;
+pub use writer::{write, write_lines};
 
 #[cfg(test)]
 mod tests;

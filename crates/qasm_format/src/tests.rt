@@ -42,6 +42,28 @@ fn empty_registers_are_left_out(rt: HostRuntime) -> Result<(), Fail> {
     Ok(())
 }
 
+// A flip with three controls on all lines, split beside an added line, by hand; and a circuit without one.
+const ADDED: &[u8] = b"OPENQASM 2.0;\ninclude \"qelib1.inc\";\nqreg q[4];\nqreg dirty[1];
+ccx q[2],dirty[0],q[3];\nccx q[0],q[1],dirty[0];\nccx q[2],dirty[0],q[3];\nccx q[0],q[1],dirty[0];\n";
+
+const KEPT: &[u8] = b"OPENQASM 2.0;\ninclude \"qelib1.inc\";\nqreg q[2];\ncx q[0],q[1];\n";
+
+#[test]
+fn numbered_lines_are_written(rt: HostRuntime) -> Result<(), Fail> {
+    let alloc = rt.alloc();
+    let mut wide = Circuit::new(alloc, 4, 10);
+    wide.push_flip(&[0, 1, 2], 3)?;
+    let mut sink = MemorySink::new(alloc, 1000, Vec::new(alloc), 7)?;
+    write_lines(&split(alloc, &wide, 5, 10)?, true, &mut sink)?;
+    assert_eq!(rt; sink.bytes(), ADDED);
+    let mut short = Circuit::new(alloc, 2, 10);
+    short.push_flip(&[0], 1)?;
+    let mut sink = MemorySink::new(alloc, 1000, Vec::new(alloc), 7)?;
+    write_lines(&split(alloc, &short, 2, 10)?, false, &mut sink)?;
+    assert_eq!(rt; sink.bytes(), KEPT);
+    Ok(())
+}
+
 // A file with comments, registers of both kinds, a barrier, `CX` before the include, and whole registers that are
 // spread; the last bits of the lines of a and b for some first bits, by hand.
 const PART: &[u8] =

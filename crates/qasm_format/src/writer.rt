@@ -1,16 +1,20 @@
-// The writer of compiled circuits. Each function puts one part of the text through the buffer.
-ghost use Rattle.std.specs.Prelude.{◌≡◌, ◌<◌, ◌≤◌, ◌++◌, length, codes};
+// The writer of files. Each function puts one part of the text through the buffer.
+ghost use Rattle.std.specs.Prelude.{◌≡◌, ◌<◌, ◌≤◌, ◌++◌, true, length, codes};
 ghost use Rattle.std.specs.List.{AllByRecursion};
 ghost use Rattle.mct_circuit.specs.Gates.{AreNarrow, IsNarrow, lines_of};
 ghost use Rattle.gate_split.specs.declared.plan.TheConstants.{MOST_LINES, MOST_GATES};
-ghost use Rattle.gate_split.specs.Plans.{lines_in, roles_of};
+ghost use Rattle.gate_split.specs.Plans.{roles_of};
 ghost use Rattle.revc_io.specs.Faults.{HasCause};
 ghost use Rattle.revc_io.specs.Passing.{Gathers, Writes};
 ghost use Rattle.qasm_format.specs.Statements.{words_of};
-ghost use Rattle.qasm_format.specs.Compiled.{register_name, gate_statement, line_text, compiled_text, MeansCompiled};
-ghost use Rattle.qasm_format.specs.inside.Parts.{index_text, place_text, argument_text, declaration_text, register_text, first_registers_text, last_registers_text, header_text, word_text, controls_text, flip_text, gates_text};
+ghost use Rattle.qasm_format.specs.Written.{gate_statement, line_text, file_text};
+ghost use Rattle.qasm_format.specs.Compiled.{register_name, compiled_text, MeansCompiled};
+ghost use Rattle.qasm_format.specs.Converted.{converted_text, MeansConverted};
+ghost use Rattle.qasm_format.specs.inside.Naming.{count_of, registers_by, place_by};
+ghost use Rattle.qasm_format.specs.inside.Parts.{index_text, place_text, argument_text, declaration_text, register_text, first_registers_text, last_registers_text, role_registers_text, added_text, numbered_registers_text, header_text, word_text, controls_text, flip_text, gates_text};
 
-use gate_split::{Laid, Role, Roles};
+use crate::naming::{Naming, kept_lines, register_name};
+use gate_split::{Laid, Narrow, Role, Roles};
 use mct_circuit::{Circuit, Control, Gate, Op};
 use revc_io::{Buffer, Failed, Sink, put_decimal};
 
@@ -31,19 +35,38 @@ pub fn write<K: Sink>(laid: &Laid, out: &mut K) -> Result<(), Failed>
     let circuit = laid.circuit();
     // This call says that the gates are on the circuit's lines.
     let _ = circuit.lines();
-    write_text(circuit, laid.roles(), out)
+    write_text(circuit, Naming::ByRole(laid.roles()), out)
 }
 
-fn write_text<K: Sink>(circuit: &Circuit, roles: Roles, out: &mut K) -> Result<(), Failed>
-    requires fits { lines_in roles ≡ circuit.now.lines }
+/// Writes the file of a circuit in OpenQASM 2.0: its lines are those of the register `q`, and where a line was added,
+/// the last one is that of the register `dirty`. Where it fails, the sink took a front of the text. It takes no memory.
+pub fn write_lines<K: Sink>(circuit: &Narrow, added: bool, out: &mut K) -> Result<(), Failed>
+    requires some { 1 ≤ circuit.now.lines }
+    requires two { added ≡ true → 2 ≤ circuit.now.lines }
+    requires few { circuit.now.lines ≤ MOST_LINES }
+    requires few_gates { length circuit.now.gates ≤ MOST_GATES }
+    ensures bytes { Writes result (K.held out.old) (K.held out.new)
+        (converted_text circuit.now.lines added circuit.now.gates) }
+    ensures meaning { MeansConverted (converted_text circuit.now.lines added circuit.now.gates)
+        circuit.now.lines added circuit.now.gates }
+    ensures cause { HasCause (K.faults out.old) (K.faults out.new) result }
+{
+    let circuit = circuit.circuit();
+    let lines = circuit.lines();
+    write_text(circuit, Naming::ByNumber { lines, added }, out)
+}
+
+fn write_text<K: Sink>(circuit: &Circuit, naming: Naming, out: &mut K) -> Result<(), Failed>
+    requires fits { count_of naming ≡ circuit.now.lines }
+    requires some { 1 ≤ circuit.now.lines }
     requires few { circuit.now.lines ≤ MOST_LINES }
     requires narrow { AreNarrow circuit.now.gates }
     ensures bytes { Writes result (K.held out.old) (K.held out.new)
-        (compiled_text roles circuit.now.gates) }
+        (file_text (registers_by naming) (place_by naming) circuit.now.gates) }
     ensures cause { HasCause (K.faults out.old) (K.faults out.new) result }
 {
     let mut buffer = Buffer::new();
-    put_text(&mut buffer, out, circuit, roles)?;
+    put_text(&mut buffer, out, circuit, naming)?;
     buffer.finish(out)
 }
 
@@ -51,27 +74,40 @@ fn put_text<K: Sink>(
     buffer: &mut Buffer,
     out: &mut K,
     circuit: &Circuit,
-    roles: Roles,
+    naming: Naming,
 ) -> Result<(), Failed>
-    requires fits { lines_in roles ≡ circuit.now.lines }
+    requires fits { count_of naming ≡ circuit.now.lines }
+    requires some { 1 ≤ circuit.now.lines }
     requires few { circuit.now.lines ≤ MOST_LINES }
     requires narrow { AreNarrow circuit.now.gates }
     ensures bytes { Gathers result (K.held out.old) (K.held out.new) buffer.old buffer.new
-        (header_text roles ++ gates_text roles circuit.now.gates) }
+        (header_text naming ++ gates_text (place_by naming) circuit.now.gates) }
     ensures cause { HasCause (K.faults out.old) (K.faults out.new) result }
 {
-    put_header(buffer, out, roles)?;
-    put_gates(buffer, out, circuit, roles)
+    put_header(buffer, out, naming)?;
+    put_gates(buffer, out, circuit, naming)
 }
 
 // ---- the head and the registers
 
-fn put_header<K: Sink>(buffer: &mut Buffer, out: &mut K, roles: Roles) -> Result<(), Failed>
+fn put_header<K: Sink>(buffer: &mut Buffer, out: &mut K, naming: Naming) -> Result<(), Failed>
+    requires { 1 ≤ count_of naming }
     ensures bytes { Gathers result (K.held out.old) (K.held out.new) buffer.old buffer.new
-        (header_text roles) }
+        (header_text naming) }
     ensures cause { HasCause (K.faults out.old) (K.faults out.new) result }
 {
     buffer.put(out, b"OPENQASM 2.0;\ninclude \"qelib1.inc\";\n")?;
+    match naming {
+        Naming::ByRole(roles) => put_role_registers(buffer, out, roles),
+        Naming::ByNumber { lines, added } => put_numbered_registers(buffer, out, lines, added),
+    }
+}
+
+fn put_role_registers<K: Sink>(buffer: &mut Buffer, out: &mut K, roles: Roles) -> Result<(), Failed>
+    ensures bytes { Gathers result (K.held out.old) (K.held out.new) buffer.old buffer.new
+        (role_registers_text roles) }
+    ensures cause { HasCause (K.faults out.old) (K.faults out.new) result }
+{
     put_first_registers(buffer, out, roles)?;
     put_last_registers(buffer, out, roles)
 }
@@ -115,16 +151,31 @@ fn put_register<K: Sink>(
     put_declaration(buffer, out, register_name(role), size)
 }
 
-// The name of the register of a role's lines.
-fn register_name(role: Role) -> &'static [u8]
-    ensures { result.now ≡ register_name role }
+fn put_numbered_registers<K: Sink>(
+    buffer: &mut Buffer,
+    out: &mut K,
+    lines: u32,
+    added: bool,
+) -> Result<(), Failed>
+    requires { 1 ≤ lines }
+    ensures bytes { Gathers result (K.held out.old) (K.held out.new) buffer.old buffer.new
+        (numbered_registers_text lines added) }
+    ensures cause { HasCause (K.faults out.old) (K.faults out.new) result }
 {
-    match role {
-        Role::Input => b"inp",
-        Role::Output => b"outp",
-        Role::Work => b"work",
-        Role::Borrowed => b"dirty",
+    put_declaration(buffer, out, b"q", kept_lines(lines, added))?;
+    put_added(buffer, out, added)
+}
+
+// The declaration of an added line's register.
+fn put_added<K: Sink>(buffer: &mut Buffer, out: &mut K, added: bool) -> Result<(), Failed>
+    ensures bytes { Gathers result (K.held out.old) (K.held out.new) buffer.old buffer.new
+        (added_text added) }
+    ensures cause { HasCause (K.faults out.old) (K.faults out.new) result }
+{
+    if !added {
+        return Ok(());
     }
+    put_declaration(buffer, out, b"dirty", 1)
 }
 
 fn put_declaration<K: Sink>(
@@ -168,21 +219,21 @@ fn put_index<K: Sink>(buffer: &mut Buffer, out: &mut K, number: u32) -> Result<(
     buffer.put(out, b"]")
 }
 
-// The place of a line in the register of its role.
+// The place of a line in its register.
 fn put_argument<K: Sink>(
     buffer: &mut Buffer,
     out: &mut K,
-    roles: Roles,
+    naming: Naming,
     line: u32,
 ) -> Result<(), Failed>
-    requires few { lines_in roles ≤ MOST_LINES }
-    requires in_range { line < lines_in roles }
+    requires few { count_of naming ≤ MOST_LINES }
+    requires in_range { line < count_of naming }
     ensures bytes { Gathers result (K.held out.old) (K.held out.new) buffer.old buffer.new
-        (argument_text roles line) }
+        (argument_text (place_by naming line)) }
     ensures cause { HasCause (K.faults out.old) (K.faults out.new) result }
 {
-    let (role, number) = roles.role_and_number(line);
-    put_place(buffer, out, register_name(role), number)
+    let (name, number) = naming.place(line);
+    put_place(buffer, out, name, number)
 }
 
 // ---- the gates
@@ -191,19 +242,19 @@ fn put_gates<K: Sink>(
     buffer: &mut Buffer,
     out: &mut K,
     circuit: &Circuit,
-    roles: Roles,
+    naming: Naming,
 ) -> Result<(), Failed>
-    requires fits { lines_in roles ≡ circuit.now.lines }
+    requires fits { count_of naming ≡ circuit.now.lines }
     requires few { circuit.now.lines ≤ MOST_LINES }
     requires narrow { AreNarrow circuit.now.gates }
     ensures bytes { Gathers result (K.held out.old) (K.held out.new) buffer.old buffer.new
-        (gates_text roles circuit.now.gates) }
+        (gates_text (place_by naming) circuit.now.gates) }
     ensures cause { HasCause (K.faults out.old) (K.faults out.new) result }
 {
     // This call says that the gates are on the circuit's lines.
     let _ = circuit.lines();
     for i in 0..circuit.len() {
-        put_gate(buffer, out, circuit.gate(i), roles)?;
+        put_gate(buffer, out, circuit.gate(i), naming)?;
     }
     Ok(())
 }
@@ -213,19 +264,19 @@ fn put_gate<K: Sink>(
     buffer: &mut Buffer,
     out: &mut K,
     gate: &Gate,
-    roles: Roles,
+    naming: Naming,
 ) -> Result<(), Failed>
-    requires few { lines_in roles ≤ MOST_LINES }
+    requires few { count_of naming ≤ MOST_LINES }
     requires narrow { IsNarrow gate.now }
-    requires in_range { AllByRecursion (λ line. line < lines_in roles) (lines_of gate.now) }
+    requires in_range { AllByRecursion (λ line. line < count_of naming) (lines_of gate.now) }
     ensures bytes { Gathers result (K.held out.old) (K.held out.new) buffer.old buffer.new
-        (line_text (words_of (gate_statement roles gate.now))) }
+        (line_text (words_of (gate_statement (place_by naming) gate.now))) }
     ensures cause { HasCause (K.faults out.old) (K.faults out.new) result }
 {
     let Op::Flip(target) = gate.op() else {
         unreachable!()
     };
-    put_flip(buffer, out, gate.controls(), target, roles)
+    put_flip(buffer, out, gate.controls(), target, naming)
 }
 
 fn put_flip<K: Sink>(
@@ -233,20 +284,20 @@ fn put_flip<K: Sink>(
     out: &mut K,
     controls: &[Control],
     target: u32,
-    roles: Roles,
+    naming: Naming,
 ) -> Result<(), Failed>
-    requires few { lines_in roles ≤ MOST_LINES }
+    requires few { count_of naming ≤ MOST_LINES }
     requires short { length controls.now ≤ 2 }
     requires controls_in_range { AllByRecursion
-        (λ control. control.line < lines_in roles) controls.now }
-    requires target_in_range { target < lines_in roles }
+        (λ control. control.line < count_of naming) controls.now }
+    requires target_in_range { target < count_of naming }
     ensures bytes { Gathers result (K.held out.old) (K.held out.new) buffer.old buffer.new
-        (flip_text roles controls.now target) }
+        (flip_text (place_by naming) controls.now target) }
     ensures cause { HasCause (K.faults out.old) (K.faults out.new) result }
 {
     buffer.put(out, gate_word(controls.len()))?;
-    put_controls(buffer, out, controls, roles)?;
-    put_target(buffer, out, roles, target)
+    put_controls(buffer, out, controls, naming)?;
+    put_target(buffer, out, naming, target)
 }
 
 // The word of a gate with so many controls, and a space.
@@ -265,16 +316,16 @@ fn put_controls<K: Sink>(
     buffer: &mut Buffer,
     out: &mut K,
     controls: &[Control],
-    roles: Roles,
+    naming: Naming,
 ) -> Result<(), Failed>
-    requires few { lines_in roles ≤ MOST_LINES }
-    requires in_range { AllByRecursion (λ control. control.line < lines_in roles) controls.now }
+    requires few { count_of naming ≤ MOST_LINES }
+    requires in_range { AllByRecursion (λ control. control.line < count_of naming) controls.now }
     ensures bytes { Gathers result (K.held out.old) (K.held out.new) buffer.old buffer.new
-        (controls_text roles controls.now) }
+        (controls_text (place_by naming) controls.now) }
     ensures cause { HasCause (K.faults out.old) (K.faults out.new) result }
 {
     for control in controls {
-        put_control(buffer, out, roles, control.line)?;
+        put_control(buffer, out, naming, control.line)?;
     }
     Ok(())
 }
@@ -282,31 +333,31 @@ fn put_controls<K: Sink>(
 fn put_control<K: Sink>(
     buffer: &mut Buffer,
     out: &mut K,
-    roles: Roles,
+    naming: Naming,
     line: u32,
 ) -> Result<(), Failed>
-    requires few { lines_in roles ≤ MOST_LINES }
-    requires in_range { line < lines_in roles }
+    requires few { count_of naming ≤ MOST_LINES }
+    requires in_range { line < count_of naming }
     ensures bytes { Gathers result (K.held out.old) (K.held out.new) buffer.old buffer.new
-        (argument_text roles line ++ codes ",") }
+        (argument_text (place_by naming line) ++ codes ",") }
     ensures cause { HasCause (K.faults out.old) (K.faults out.new) result }
 {
-    put_argument(buffer, out, roles, line)?;
+    put_argument(buffer, out, naming, line)?;
     buffer.put(out, b",")
 }
 
 fn put_target<K: Sink>(
     buffer: &mut Buffer,
     out: &mut K,
-    roles: Roles,
+    naming: Naming,
     target: u32,
 ) -> Result<(), Failed>
-    requires few { lines_in roles ≤ MOST_LINES }
-    requires in_range { target < lines_in roles }
+    requires few { count_of naming ≤ MOST_LINES }
+    requires in_range { target < count_of naming }
     ensures bytes { Gathers result (K.held out.old) (K.held out.new) buffer.old buffer.new
-        (argument_text roles target ++ codes ";\n") }
+        (argument_text (place_by naming target) ++ codes ";\n") }
     ensures cause { HasCause (K.faults out.old) (K.faults out.new) result }
 {
-    put_argument(buffer, out, roles, target)?;
+    put_argument(buffer, out, naming, target)?;
     buffer.put(out, b";\n")
 }

@@ -1,18 +1,18 @@
 use Rattle.std.proofs.Common.{subst}
 use Rattle.revc_io.specs.Passing.{AppendsFront, Gathered}
 use Rattle.revc_io.proofs.PassingLemmas.{whole_gathered, finish_call, writes_fault}
-use Rattle.qasm_format.proofs.TextLemmas.{compiled_text_is}
+use Rattle.qasm_format.proofs.TextLemmas.{text_is}
 use Rattle.qasm_format.proofs.writer.write_text.Goals as goal
 
 pub returns-in_err-put_text-clause-bytes : goal.returns-in_err-put_text-clause-bytes
 returns-in_err-put_text-clause-bytes g c =
     let front = rw c.new-buffer.ensures at c.in_err-put_text.ensures.bytes.0 in
     writes_fault _ _ c.from_residual.ensures.1 (subst (AppendsFront (g.K.Sink.held c.args.out.now) (g.K.Sink.held c.put_text.new.out))
-    (compiled_text_is c.args.roles c.args.circuit.now.gates) front)
+    (text_is c.args.naming c.args.circuit.now.gates) front)
 
 pub returns-clause-bytes : goal.returns-clause-bytes
 returns-clause-bytes g c =
     let put = rw c.new-buffer.ensures at c.in_ok-put_text.ensures.bytes in
     let whole = subst (Gathered (g.K.Sink.held c.args.out.now) (g.K.Sink.held c.put_text.new.out) _ c.put_text.new.buffer)
-    (compiled_text_is c.args.roles c.args.circuit.now.gates) put in
+    (text_is c.args.naming c.args.circuit.now.gates) put in
     finish_call _ _ c.finish.ensures.bytes (whole_gathered whole)
