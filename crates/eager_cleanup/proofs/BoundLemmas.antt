@@ -1,7 +1,7 @@
 -- What is held and paid for stays within the eager numbers.
 use Rattle.std.proofs.Common.{◌≡◌, ℕ, zero, suc, ◌+◌, ◌*◌, ◌<◌, ◌≤◌, Bool, true, ltb, min, inl, inr, List, [], ◌∷◌, length, get_or, slice_get, Option, Some, None, refl, sym, ap, ◌∙◌, subst, arith}
 use Rattle.std.specs.List.{list_all, sum_by}
-use Rattle.std.proofs.lemmas.Bool.{cases_Bool, cases_lt, ltb-true, ltb-false, true≢false}
+use Rattle.std.proofs.lemmas.Bool.{cases_Bool, ltb-true, ltb-false, true≢false}
 use Rattle.std.proofs.lemmas.Bool.Decides.{leb_tells}
 use Rattle.std.proofs.lemmas.List.Folds.{list_all_at}
 use Rattle.std.proofs.Math.Nat.{mul-le-mul_right}
@@ -19,19 +19,18 @@ use Rattle.gate_split.specs.Plans.{BudgetView}
 use Rattle.held_nodes.specs.Held.{ForwardView, first_work, held_count, is_held, work_lines}
 use Rattle.held_nodes.specs.Moves.{IsReadyBase, IsReadyNode, IsStartFault, IsToggleFault}
 use Rattle.held_nodes.specs.Plans.{wanted_lines}
-use Rattle.held_nodes.proofs.ValueLemmas.{known_at}
 use Rattle.list_facts.specs.Lists.{IsAmong}
 use Rattle.list_facts.proofs.AmongLemmas.{all_among, all_from_among}
 use Rattle.revc_base.specs.Monomials.{AreMonomialsOf}
 use Rattle.revc_base.proofs.MonomialLemmas.{monomials_are_determined}
 use Rattle.eager_cleanup.specs.Eager.{HasFewGates, IsEagerFault}
-use Rattle.eager_cleanup.specs.inside.Known.{AreKnownValues, HasLargeNode, IsKnownValue, Polynomial, value_at}
-use Rattle.eager_cleanup.specs.inside.Sweeps.{BoundsCuts, HasHeavy, IsSwept, IsUseFault, all_gates, cleaning_gates, gates_in, last_use_of, paid_gates, total}
+use Rattle.eager_cleanup.specs.inside.Known.{AreFirstValues, HasLargeNode, IsKnownValue, Polynomial, last_use_of, value_at}
+use Rattle.eager_cleanup.specs.inside.Sweeps.{BoundsCleanings, BoundsCuts, HasHeavy, IsSwept, IsUseFault, all_paid, cleaning_gates, gates_in, paid_gates, total}
 use Rattle.eager_cleanup.proofs.CleaningLemmas.{toggle_light}
 use Rattle.eager_cleanup.proofs.CostLemmas.{light_forward}
 use Rattle.eager_cleanup.proofs.HolderLemmas.{held_below}
-use Rattle.eager_cleanup.proofs.KnownLemmas.{known_operands}
-use Rattle.eager_cleanup.proofs.SweepLemmas.{held_in_cut, settled_of}
+use Rattle.eager_cleanup.proofs.KnownLemmas.{operands_earlier}
+use Rattle.eager_cleanup.proofs.SweepLemmas.{held_in_cut, settled_of, value_used}
 use Rattle.eager_cleanup.proofs.TotalLemmas.{sum_total, total_longer, total_no_more, total_with}
 use Rattle.eager_cleanup.proofs.UserLemmas.{used_here}
 
@@ -60,7 +59,7 @@ all_small s m within all large =
 -- ---- gates
 
 value_gates : (s : SettledView) (k count : ℕ) (value : Option Polynomial) → IsKnownValue s k value → HasMonomials s.inputs (node_function s k) count
-    → all_gates s.inputs value ≤ step_gates s.inputs count
+    → cleaning_gates s.inputs value ≤ 2 + min count most_cleaned * (10 * s.inputs + 1)
 value_gates s k count None large has = omega arith
 value_gates s k count (Some p) is has =
     let same = same_count s.inputs (node_function s k) p count is.are has in
@@ -68,65 +67,66 @@ value_gates s k count (Some p) is has =
     let product : length p * (10 * s.inputs + 1) ≤ min count most_cleaned * (10 * s.inputs + 1) = mul-le-mul_right (10 * s.inputs + 1) few in
     omega (arith, product)
 
-abbrev pub most_total : SettledView → List (Option Polynomial) → ℕ
-most_total s known = total (λ k. all_gates s.inputs (value_at known k)) (length s.nodes)
+-- the most gates that clean a node, by the number of its monomials
+abbrev pub cost_in : (s : SettledView) (m : Measures) → IsWithin s m → ℕ → ℕ
+cost_in s m within k = 2 + min (get_or within.counts k 0) most_cleaned * (10 * s.inputs + 1)
 
-pub total_within : (s : SettledView) (known : List (Option Polynomial)) (m : Measures) → AreKnownValues s known → IsWithin s m
-    → m.outputs + 2 * most_total s known ≤ eager_gates m
-total_within s known m values within =
+pub costs_bound : (s : SettledView) (m : Measures) (within : IsWithin s m) → BoundsCleanings s (cost_in s m within)
+costs_bound s m within = record {
+  each = λ k value low is. value_gates s k (get_or within.counts k 0) value is (within.monomials k (omega (arith, low, within.one_each)));
+}
+
+abbrev pub most_total : SettledView → (ℕ → ℕ) → ℕ
+most_total s cost = total (λ k. 2 + cost k) (length s.nodes)
+
+pub total_within : (s : SettledView) (m : Measures) (within : IsWithin s m) → m.outputs + 2 * most_total s (cost_in s m within) ≤ eager_gates m
+total_within s m within =
     let counts : List ℕ = within.counts in
-    let each = total_no_more (λ k. all_gates s.inputs (value_at known k)) (λ k. step_gates s.inputs (get_or counts k 0)) (length s.nodes)
-    (λ k low. value_gates s k (get_or counts k 0) (value_at known k) (values.values.each k (omega (arith, low, values.one_each)))
-    (within.monomials k (omega (arith, low, within.one_each)))) in
+    let each = total_no_more (λ k. 2 + cost_in s m within k) (λ k. step_gates s.inputs (get_or counts k 0)) (length s.nodes) (λ k low. omega arith) in
     let length_same = ap (total (λ k. step_gates s.inputs (get_or counts k 0))) within.one_each in
     let selected = selected_sum (step_gates s.inputs) counts m.monomials within.selected in
     let inputs = ap (λ (n : ℕ). sum_by (step_gates n) m.monomials) within.inputs in
     omega (arith, each, sum_total (step_gates s.inputs) counts, length_same, selected, inputs)
 
-pub few_gates : (s : SettledView) (b : BudgetView) (known : List (Option Polynomial)) (gates : ℕ) → AreKnownValues s known → b.gates < 2 * gates
-    → gates ≤ most_total s known → HasFewGates s b
-few_gates s b known gates values over within = record {
-  few = λ m is. omega (arith, over, within, total_within s known m values is);
+pub few_gates : (s : SettledView) (b : BudgetView) (gates : ℕ) → b.gates < 2 * gates
+    → ((cost : ℕ → ℕ) → BoundsCleanings s cost → gates ≤ most_total s cost) → HasFewGates s b
+few_gates s b gates over within = record {
+  few = λ m is. omega (arith, over, within (cost_in s m is) (costs_bound s m is), total_within s m is);
 }
 
-less_paid : (n : ℕ) (value : Option Polynomial) (lines : List (Option ℕ)) (k : ℕ) → paid_gates n value lines k ≤ all_gates n value
-less_paid n value lines k = elim (cases_Bool (is_held lines k)) as (λ _. paid_gates n value lines k ≤ all_gates n value) [
+less_paid : (cost : ℕ) (lines : List (Option ℕ)) (k : ℕ) → paid_gates cost lines k ≤ 2 + cost
+less_paid cost lines k = elim (cases_Bool (is_held lines k)) as (λ _. paid_gates cost lines k ≤ 2 + cost) [
   | inl held ↦ rw held (omega arith)
   | inr free ↦ rw free (omega arith)
 ]
 
 -- what is paid for so far, and what is still to pay for a held node, is not too much
-pub paid_within : (s : SettledView) (known : List (Option Polynomial)) (lines : List (Option ℕ)) (count k : ℕ) → k < count → count ≤ length s.nodes
-    → is_held lines k ≡ true
-    → total (λ i. paid_gates s.inputs (value_at known i) lines i) count + cleaning_gates s.inputs (value_at known k) ≤ most_total s known
-paid_within s known lines count k low inside held =
-    let here : paid_gates s.inputs (value_at known k) lines k + cleaning_gates s.inputs (value_at known k) ≤ all_gates s.inputs (value_at known k) =
-    rw held (omega arith) in
-    let part = total_with (λ i. paid_gates s.inputs (value_at known i) lines i) (λ i. all_gates s.inputs (value_at known i)) count k
-    (cleaning_gates s.inputs (value_at known k)) low (λ i lower. less_paid s.inputs (value_at known i) lines i) here in
-    omega (arith, part, total_longer (λ i. all_gates s.inputs (value_at known i)) count (length s.nodes) inside)
+pub paid_within : (s : SettledView) (cost : ℕ → ℕ) (lines : List (Option ℕ)) (count k : ℕ) → k < count → count ≤ length s.nodes
+    → is_held lines k ≡ true → all_paid cost lines count + cost k ≤ most_total s cost
+paid_within s cost lines count k low inside held =
+    let here : paid_gates (cost k) lines k + cost k ≤ 2 + cost k = rw held (omega arith) in
+    let part = total_with (λ i. paid_gates (cost i) lines i) (λ i. 2 + cost i) count k (cost k) low (λ i lower. less_paid (cost i) lines i) here in
+    omega (arith, part, total_longer (λ i. 2 + cost i) count (length s.nodes) inside)
 
-pub paid_all : (s : SettledView) (known : List (Option Polynomial)) (lines : List (Option ℕ)) (count : ℕ) → count ≤ length s.nodes
-    → total (λ i. paid_gates s.inputs (value_at known i) lines i) count ≤ most_total s known
-paid_all s known lines count inside = omega (
+pub paid_all : (s : SettledView) (cost : ℕ → ℕ) (lines : List (Option ℕ)) (count : ℕ) → count ≤ length s.nodes
+    → all_paid cost lines count ≤ most_total s cost
+paid_all s cost lines count inside = omega (
   arith,
-  total_no_more (λ i. paid_gates s.inputs (value_at known i) lines i) (λ i. all_gates s.inputs (value_at known i)) count
-      (λ i lower. less_paid s.inputs (value_at known i) lines i),
-  total_longer (λ i. all_gates s.inputs (value_at known i)) count (length s.nodes) inside,
+  total_no_more (λ i. paid_gates (cost i) lines i) (λ i. 2 + cost i) count (λ i lower. less_paid (cost i) lines i),
+  total_longer (λ i. 2 + cost i) count (length s.nodes) inside,
 )
 
 -- what is paid for so far, and a toggle more, is not too much
-pub paid_more : (s : SettledView) (known : List (Option Polynomial)) (lines : List (Option ℕ)) (count : ℕ) → count < length s.nodes
-    → total (λ i. paid_gates s.inputs (value_at known i) lines i) count + 2 ≤ most_total s known
-paid_more s known lines count inside =
+pub paid_more : (s : SettledView) (cost : ℕ → ℕ) (lines : List (Option ℕ)) (count : ℕ) → count < length s.nodes
+    → all_paid cost lines count + 2 ≤ most_total s cost
+paid_more s cost lines count inside =
     let next : count + 1 ≡ suc count = omega arith in
-    let step = ap (total (λ i. all_gates s.inputs (value_at known i))) next in
+    let step = ap (total (λ i. 2 + cost i)) next in
     omega (
       arith,
-      total_no_more (λ i. paid_gates s.inputs (value_at known i) lines i) (λ i. all_gates s.inputs (value_at known i)) count
-          (λ i lower. less_paid s.inputs (value_at known i) lines i),
+      total_no_more (λ i. paid_gates (cost i) lines i) (λ i. 2 + cost i) count (λ i lower. less_paid (cost i) lines i),
       step,
-      total_longer (λ i. all_gates s.inputs (value_at known i)) (count + 1) (length s.nodes) (omega (arith, inside)),
+      total_longer (λ i. 2 + cost i) (count + 1) (length s.nodes) (omega (arith, inside)),
     )
 
 -- ---- lines
@@ -173,9 +173,9 @@ start_fault s b Gates is = absurd is
 start_fault s b Memory is = tt
 
 -- a toggle of the next node that is refused
-pub next_fault : (s : SettledView) (b : BudgetView) (known : List (Option Polynomial)) (j : ℕ) (f : ForwardView) (fault : PlanFault)
-    → AreKnownValues s known → IsSwept s b known j [] f → j < length s.nodes → IsToggleFault f j fault → IsEagerFault s b fault
-next_fault s b known j f (Lines need) values is inside fault =
+pub next_fault : (s : SettledView) (b : BudgetView) (j : ℕ) (f : ForwardView) (fault : PlanFault)
+    → IsSwept s b j [] f → j < length s.nodes → IsToggleFault f j fault → IsEagerFault s b fault
+next_fault s b j f (Lines need) is inside fault =
     let budget : f.budget ≡ b = is.budget in
     let graph : f.graph ≡ s = is.graph in
     let full : held_count f.lines ≡ work_lines s b =
@@ -192,54 +192,60 @@ next_fault s b known j f (Lines need) values is inside fault =
           enough,
           lines_enough s m (held_count f.lines + 1) b.borrow within (omega (arith, below, inside))
               (λ none width bounds. omega
-              (arith, held_in_cut s b known j f is (omega (arith, inside)) none, bounds.cuts j (omega (arith, inside)))),
+              (arith, held_in_cut s b j f is (omega (arith, inside)) none, bounds.cuts j (omega (arith, inside)))),
         );
       },
       fault.1 ∙ omega (arith, lines, wanted_more s b enough),
     )
-next_fault s b known j f Gates values is inside fault =
+next_fault s b j f Gates is inside fault =
     let gates = ap (λ (x : BudgetView). x.gates) is.budget in
-    few_gates s b known (gates_in f + 2) values
+    few_gates s b (gates_in f + 2)
     (omega (arith, gates, fault.1.heavy, toggle_light fault.1.node, light_forward f is.forward))
-    (omega (arith, is.gates, paid_more s known f.lines j inside))
-next_fault s b known j f Memory values is inside fault = tt
+    (λ cost bounds. omega (arith, is.gates cost bounds, paid_more s cost f.lines j inside))
+next_fault s b j f Memory is inside fault = tt
 
 heavy_fault : (s : SettledView) (b : BudgetView) (known : List (Option Polynomial)) (user : ℕ) (base : Base) (used : List Base) (f : ForwardView)
-    → AreKnownValues s known → IsSwept s b known (user + 1) used f → user < length s.nodes → HasHeavy s known user base f → HasFewGates s b
-heavy_fault s b known user base used f values is inside heavy =
+    → AreFirstValues s user known → IsSwept s b (user + 1) used f → user < length s.nodes → IsKnownBase s.inputs user base
+    → HasHeavy s known user base f → HasFewGates s b
+heavy_fault s b known user base used f values is inside known_base heavy =
     let gates = ap (λ (x : BudgetView). x.gates) is.budget in
-    let low : heavy.node < user + 1 = elim (cases_lt heavy.node (user + 1)) as (λ _. heavy.node < user + 1) [
-      | inl early ↦ early
-      | inr late ↦ absurd (true≢false (sym heavy.heavy.held ∙ is.behind heavy.node late))
-    ] in
-    let cost : cleaning_gates f.graph.inputs (value_at known heavy.node) ≡ cleaning_gates s.inputs (value_at known heavy.node) =
-    ap (λ (g : SettledView). cleaning_gates g.inputs (value_at known heavy.node)) is.graph in
-    few_gates s b known (gates_in f + cleaning_gates s.inputs (value_at known heavy.node)) values
+    let k : ℕ = heavy.node in
+    let low : k < user = subst (IsKnownBase s.inputs user) heavy.is.is known_base in
+    let value = value_used s known user k values low heavy.is.last in
+    let inputs : f.graph.inputs ≡ s.inputs = ap (λ (g : SettledView). g.inputs) is.graph in
+    let cost : cleaning_gates f.graph.inputs (value_at known k) ≡ cleaning_gates s.inputs (value_at known k) =
+    ap (λ (n : ℕ). cleaning_gates n (value_at known k)) inputs in
+    few_gates s b (gates_in f + cleaning_gates s.inputs (value_at known k))
     (omega (arith, gates, heavy.heavy.heavy, cost))
-    (omega (arith, is.gates, paid_within s known f.lines (user + 1) heavy.node low (omega (arith, inside)) heavy.heavy.held))
+    (λ most bounds. omega (
+      arith,
+      is.gates most bounds,
+      bounds.each k (value_at known k) (omega (arith, low, inside)) value,
+      paid_within s most f.lines (user + 1) k (omega (arith, low)) (omega (arith, inside)) heavy.heavy.held,
+    ))
 
 -- a cleaning of an operand that is refused
 pub used_fault : (s : SettledView) (b : BudgetView) (known : List (Option Polynomial)) (user : ℕ) (base : Base) (used : List Base) (f : ForwardView)
-    (fault : PlanFault) → AreKnownValues s known → IsSwept s b known (user + 1) used f → user < length s.nodes → IsUseFault s known user base f fault
-    → IsEagerFault s b fault
-used_fault s b known user base used f (Lines need) values is inside fault = absurd fault
-used_fault s b known user base used f Gates values is inside fault = heavy_fault s b known user base used f values is inside fault
-used_fault s b known user base used f Memory values is inside fault = tt
+    (fault : PlanFault) → AreFirstValues s user known → IsSwept s b (user + 1) used f → user < length s.nodes → IsKnownBase s.inputs user base
+    → IsUseFault s known user base f fault → IsEagerFault s b fault
+used_fault s b known user base used f (Lines need) values is inside low fault = absurd fault
+used_fault s b known user base used f Gates values is inside low fault = heavy_fault s b known user base used f values is inside low fault
+used_fault s b known user base used f Memory values is inside low fault = tt
 
 -- ---- the next node
 
 -- the operands of the next node are inputs, or held
-pub next_ready : (s : SettledView) (b : BudgetView) (known : List (Option Polynomial)) (j : ℕ) (f : ForwardView) → IsSwept s b known j [] f
+pub next_ready : (s : SettledView) (b : BudgetView) (j : ℕ) (f : ForwardView) → IsSwept s b j [] f
     → j < length s.nodes → IsReadyNode f.graph f.lines j
-next_ready s b known j f is inside =
+next_ready s b j f is inside =
     let node = got s.nodes j inside in
-    let settled = settled_of s b known j [] f is in
+    let settled = settled_of s b j [] f is in
     subst (λ (g : SettledView). IsReadyNode g f.lines j) (sym is.graph) (record {
       node = node.0;
       is = node.1;
       ready = all_from_among (IsReadyBase f.lines) (operands node.0)
           (λ base among. ready base (all_among (IsKnownBase s.inputs j) (operands node.0)
-          (known_operands s.inputs j node.0 (known_at s.inputs j s.nodes node.0 settled.nodes node.1)) base among)
+          (operands_earlier s j node.0 settled.nodes node.1) base among)
           (λ k e. used_here s j k node.0 node.1 (subst (λ (x : Base). IsAmong x (operands node.0)) e among)));
     })
   where

@@ -44,9 +44,6 @@ given value f next k line more is forward held e few =
     let gone : held_line after k ≡ None = get_or-set_same f.lines k None None (held_within f.lines k line held) in
     let free : is_held next.lines k ≡ false = ap (λ (ls : List (Option ℕ)). is_held ls k) lines ∙ ap (λ (x : Option ℕ). is_some x) gone in
     let was : is_held f.lines k ≡ true = ap (λ (x : Option ℕ). is_some x) held in
-    let n : ℕ = f.graph.inputs in
-    let before : paid_gates n value f.lines k ≡ 2 = rw was refl in
-    let now : paid_gates n value next.lines k ≡ 2 + cleaning_gates n value = rw free refl in
     let sum : gates_in next ≡ gates_in f + most_in more = ap gates_in e ∙ sum_by-append most_gates f.gates more in
     let count : held_count after ≤ f.most = omega (arith, count-given f.lines k line held, is.count) in
     record {
@@ -56,7 +53,10 @@ given value f next k line more is forward held e few =
       most = ap (λ (g : ForwardView). g.most) e ∙ omega (arith, count);
       others = λ i ne. ap (λ (ls : List (Option ℕ)). held_line ls i) lines ∙ get_or-set_other f.lines k i None None ne;
       gone = λ some. free;
-      gates = omega (arith, before, now, sum, few);
+      gates = λ cost within.
+          let before : paid_gates cost f.lines k ≡ 2 = rw was refl in
+          let now : paid_gates cost next.lines k ≡ 2 + cost = rw free refl in
+          omega (arith, before, now, sum, few, within);
     }
 
 -- ---- by its operands

@@ -1,12 +1,14 @@
 -- The values of nodes are their polynomials, or some node has too many monomials.
-use Rattle.std.proofs.Common.{◌≡◌, ℕ, ◌<◌, ◌≤◌, Bool, not, ◌&&◌, inl, inr, List, [], ◌∷◌, ◌++◌, length, slice_get, Option, Some, None, refl, sym, ap, ◌∙◌, subst, arith, length-append}
+use Rattle.std.proofs.Common.{◌≡◌, ℕ, ◌+◌, ◌<◌, ◌≤◌, Bool, not, ◌&&◌, inl, inr, List, [], ◌∷◌, ◌++◌, length, set, slice_get, Option, Some, None, refl, sym, ap, ◌∙◌, subst, arith, length-append}
 use Rattle.std.specs.Bool.{xor}
 use Rattle.std.specs.List.{AllByRecursion}
 use Rattle.std.proofs.lemmas.Bool.{cases_lt}
 use Rattle.std.proofs.lemmas.Bool.Decides.{leb_tells}
-use Rattle.std.proofs.lemmas.List.{get_or_append_left, get_or_push}
-use Rattle.std.proofs.lemmas.Option.{slice_get_within}
+use Rattle.std.proofs.lemmas.List.{get_or_append_left, get_or_push, get_or-set_other, length-set}
+use Rattle.list_facts.specs.Lists.{IsAmong}
 use Rattle.list_facts.proofs.AllLemmas.{AllByRecursion-weaker}
+use Rattle.list_facts.proofs.AmongLemmas.{all_among}
+use Rattle.std.proofs.lemmas.Option.{slice_get_within}
 use Rattle.claim_check.specs.Budgets.{most_cleaned}
 use Rattle.claim_check.specs.Measures.{node_function}
 use Rattle.claim_check.specs.Settled.{SettledView, settled_value}
@@ -24,7 +26,8 @@ use Rattle.revc_base.specs.Polynomials.{IsPolynomial, IsPolynomialOf, value_of_p
 use Rattle.revc_base.proofs.MonomialLemmas.{firsts, monomials_are_determined, value-monomials}
 use Rattle.revc_base.proofs.PolynomialLemmas.{polynomials_are_unique}
 use Rattle.revc_base.proofs.SumLemmas.{IsPolynomial-input, value-input}
-use Rattle.eager_cleanup.specs.inside.Known.{Polynomial, AreFirstValues, AreInputValues, HasLargeNode, IsJoin, IsKnownValue, IsNegation, IsValueOf, base_value, value_at}
+use Rattle.eager_cleanup.specs.inside.Known.{Polynomial, AreFirstValues, AreInputValues, HasLargeNode, IsJoin, IsKnownValue, IsNegation, IsValueOf, base_value, last_use_of, value_at}
+use Rattle.eager_cleanup.proofs.UserLemmas.{used_here}
 
 -- ---- polynomials of functions of the inputs
 
@@ -65,13 +68,6 @@ of_node : (s : SettledView) (k : ℕ) (value : Option Polynomial) → IsKnownVal
 of_node s k None large = large
 of_node s k (Some p) is = is.are
 
-base_known : (s : SettledView) (inputs : List Polynomial) (known : List (Option Polynomial)) (base : Base) → AreInputValues inputs
-    → length inputs ≡ s.inputs → AreFirstValues s known → IsKnownBase s.inputs (length known) base → IsBaseValue s base (base_value inputs known base)
-base_known s inputs known (bases.Input i) are count first low =
-    subst (λ (p : Polynomial). AreMonomialsOf s.inputs (base_function s (bases.Input i)) p) (sym (are.each i (omega (arith, low, count))))
-    (record { is_polynomial = IsPolynomial-input i; over_inputs = ((low, tt), tt); values = λ input size. value-input (bit_of input) i })
-base_known s inputs known (bases.Node j) are count first low = of_node s j (value_at known j) (first.each j low)
-
 -- ---- one node
 
 limited : (s : SettledView) (k : ℕ) (function : (ℕ → Bool) → Bool) (answer : Option Polynomial) → k < length s.nodes
@@ -109,54 +105,73 @@ pub record IsBefore (s : SettledView) (inputs : List Polynomial) (known : List (
   pub is : slice_get s.nodes k ≡ Some node
   pub inputs_are : AreInputValues inputs
   pub input_count : length inputs ≡ s.inputs
-  pub known_are : AreFirstValues s known
-  pub known_count : length known ≡ k
-
-node_known : (s : SettledView) (inputs : List Polynomial) (known : List (Option Polynomial)) (k : ℕ) (node : Node) (answer : Option Polynomial)
-    → IsBefore s inputs known k node → IsKnownNode s.inputs (length known) node → IsValueOf inputs known node answer → IsKnownValue s k answer
-node_known s inputs known k (Not a) answer before low is =
-    negation_known s k a (base_value inputs known a) answer before.inside
-    (base_known s inputs known a before.inputs_are before.input_count before.known_are low)
-    (λ v. value_of_node s v k (Not a) before.nodes before.is) is
-node_known s inputs known k (Xor a b) answer before low is =
-    join_known xor s k a b (base_value inputs known a) (base_value inputs known b) answer before.inside
-    (base_known s inputs known a before.inputs_are before.input_count before.known_are low.0)
-    (base_known s inputs known b before.inputs_are before.input_count before.known_are low.1)
-    (λ v. value_of_node s v k (Xor a b) before.nodes before.is) is
-node_known s inputs known k (And a b) answer before low is =
-    join_known (λ p q. p && q) s k a b (base_value inputs known a) (base_value inputs known b) answer before.inside
-    (base_known s inputs known a before.inputs_are before.input_count before.known_are low.0)
-    (base_known s inputs known b before.inputs_are before.input_count before.known_are low.1)
-    (λ v. value_of_node s v k (And a b) before.nodes before.is) is
+  pub known_are : AreFirstValues s k known
 
 -- the operands of a node are known there
-pub known_operands : (n k : ℕ) (node : Node) → IsKnownNode n k node → AllByRecursion (IsKnownBase n k) (operands node)
+known_operands : (n k : ℕ) (node : Node) → IsKnownNode n k node → AllByRecursion (IsKnownBase n k) (operands node)
 known_operands n k (Not a) known = (known, tt)
 known_operands n k (Xor a b) known = (known.0, (known.1, tt))
 known_operands n k (And a b) known = (known.0, (known.1, tt))
 
-pub operands_before : (s : SettledView) (inputs : List Polynomial) (known : List (Option Polynomial)) (k : ℕ) (node : Node)
-    → IsBefore s inputs known k node → AllByRecursion (IsKnownBase (length inputs) (length known)) (operands node)
-operands_before s inputs known k node before =
-    rw (before.input_count, before.known_count) (known_operands s.inputs k node (known_at s.inputs k s.nodes node before.nodes before.is))
+-- the operands of a node are inputs and earlier nodes
+pub operands_earlier : (s : SettledView) (k : ℕ) (node : Node) → AreKnownNodes s.inputs 0 s.nodes → slice_get s.nodes k ≡ Some node
+    → AllByRecursion (IsKnownBase s.inputs k) (operands node)
+operands_earlier s k node nodes is = known_operands s.inputs k node (known_at s.inputs k s.nodes node nodes is)
+
+base_known : (s : SettledView) (inputs : List Polynomial) (known : List (Option Polynomial)) (k : ℕ) (node : Node) (base : Base)
+    → IsBefore s inputs known k node → IsAmong base (operands node) → IsBaseValue s base (base_value inputs known base)
+base_known s inputs known k node (bases.Input i) before among =
+    let low : i < s.inputs =
+    all_among (IsKnownBase s.inputs k) (operands node) (operands_earlier s k node before.nodes before.is) (bases.Input i) among in
+    subst (λ (p : Polynomial). AreMonomialsOf s.inputs (base_function s (bases.Input i)) p)
+    (sym (before.inputs_are.each i (omega (arith, low, before.input_count))))
+    (record { is_polynomial = IsPolynomial-input i; over_inputs = ((low, tt), tt); values = λ input size. value-input (bit_of input) i })
+base_known s inputs known k node (bases.Node j) before among =
+    let low : j < k =
+    all_among (IsKnownBase s.inputs k) (operands node) (operands_earlier s k node before.nodes before.is) (bases.Node j) among in
+    of_node s j (value_at known j) (before.known_are.each j low (used_here s k j node before.is among))
+
+node_known : (s : SettledView) (inputs : List Polynomial) (known : List (Option Polynomial)) (k : ℕ) (node : Node) (answer : Option Polynomial)
+    → IsBefore s inputs known k node → IsValueOf inputs known node answer → IsKnownValue s k answer
+node_known s inputs known k (Not a) answer before is =
+    negation_known s k a (base_value inputs known a) answer before.inside (base_known s inputs known k (Not a) a before (inl refl))
+    (λ v. value_of_node s v k (Not a) before.nodes before.is) is
+node_known s inputs known k (Xor a b) answer before is =
+    join_known xor s k a b (base_value inputs known a) (base_value inputs known b) answer before.inside
+    (base_known s inputs known k (Xor a b) a before (inl refl)) (base_known s inputs known k (Xor a b) b before (inr (inl refl)))
+    (λ v. value_of_node s v k (Xor a b) before.nodes before.is) is
+node_known s inputs known k (And a b) answer before is =
+    join_known (λ p q. p && q) s k a b (base_value inputs known a) (base_value inputs known b) answer before.inside
+    (base_known s inputs known k (And a b) a before (inl refl)) (base_known s inputs known k (And a b) b before (inr (inl refl)))
+    (λ v. value_of_node s v k (And a b) before.nodes before.is) is
 
 -- the values with that of this node
 pub values_more : (s : SettledView) (inputs : List Polynomial) (known : List (Option Polynomial)) (k : ℕ) (node : Node) (answer : Option Polynomial)
-    → IsBefore s inputs known k node → IsValueOf inputs known node answer → AreFirstValues s (known ++ answer ∷ [])
+    → IsBefore s inputs known k node → IsValueOf inputs known node answer → AreFirstValues s (k + 1) (known ++ answer ∷ [])
 values_more s inputs known k node answer before is =
-    let known_node = known_at s.inputs k s.nodes node before.nodes before.is in
-    let here : IsKnownValue s k answer = node_known s inputs known k node answer before (rw before.known_count known_node) is in
+    let here : IsKnownValue s k answer = node_known s inputs known k node answer before is in
+    let count : length known ≡ k = before.known_are.one_each in
     record {
-      each = λ j low. elim (cases_lt j (length known)) as (λ _. IsKnownValue s j (value_at (known ++ answer ∷ []) j)) [
-        | inl early ↦ subst (λ (v : Option Polynomial). IsKnownValue s j v) (sym (get_or_append_left known (answer ∷ []) None j early))
-            (before.known_are.each j early)
+      one_each = omega (arith, length-append known (answer ∷ []), count);
+      each = λ j low later. elim (cases_lt j k) as (λ _. IsKnownValue s j (value_at (known ++ answer ∷ []) j)) [
+        | inl early ↦
+            subst (λ (v : Option Polynomial). IsKnownValue s j v) (sym (get_or_append_left known (answer ∷ []) None j (omega (arith, early, count))))
+            (before.known_are.each j early (omega (arith, later)))
         | inr late ↦
-            let same : j ≡ length known = omega (arith, late, low, length-append known (answer ∷ [])) in
-            let at : k ≡ j = sym (same ∙ before.known_count) in
+            let at : k ≡ j = omega (arith, late, low) in
             subst (λ (i : ℕ). IsKnownValue s i (value_at (known ++ answer ∷ []) i)) at
-            (subst (λ (v : Option Polynomial). IsKnownValue s k v) (sym (get_or_push known answer None k before.known_count)) here)
+            (subst (λ (v : Option Polynomial). IsKnownValue s k v) (sym (get_or_push known answer None k count)) here)
       ];
     }
+
+-- the values without that of a node that is not needed later
+pub value_dropped : (s : SettledView) (user k : ℕ) (known : List (Option Polynomial)) → last_use_of s k ≡ user → AreFirstValues s (user + 1) known
+    → AreFirstValues s (user + 1) (set known k None)
+value_dropped s user k known last are = record {
+  one_each = length-set known k None ∙ are.one_each;
+  each = λ j low later. subst (λ (v : Option Polynomial). IsKnownValue s j v)
+      (sym (get_or-set_other known k j None None (λ e. absurd (omega (arith, later, ap (last_use_of s) e, last))))) (are.each j low later);
+}
 
 known_later : (n k m : ℕ) (base : Base) → k ≤ m → IsKnownBase n k base → IsKnownBase n m base
 known_later n k m (bases.Input i) le known = known
@@ -165,8 +180,7 @@ known_later n k m (bases.Node j) le known = omega (arith, le, known)
 -- the operands of a node are in the graph
 pub operands_inside : (s : SettledView) (k : ℕ) (node : Node) → AreKnownNodes s.inputs 0 s.nodes → slice_get s.nodes k ≡ Some node
     → AllByRecursion (IsKnownBase s.inputs (length s.nodes)) (operands node)
-operands_inside s k node known is =
+operands_inside s k node nodes is =
     let low : k < length s.nodes = slice_get_within s.nodes k node is in
     AllByRecursion-weaker (IsKnownBase s.inputs k) (IsKnownBase s.inputs (length s.nodes))
-    (λ base here. known_later s.inputs k (length s.nodes) base (omega (arith, low)) here) (operands node)
-    (known_operands s.inputs k node (known_at s.inputs k s.nodes node known is))
+    (λ base here. known_later s.inputs k (length s.nodes) base (omega (arith, low)) here) (operands node) (operands_earlier s k node nodes is)

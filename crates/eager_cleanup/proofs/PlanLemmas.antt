@@ -1,5 +1,5 @@
 -- The beginning and the end of the eager plan.
-use Rattle.std.proofs.Common.{◌≡◌, ℕ, zero, suc, ◌+◌, ◌*◌, ◌≤◌, false, List, [], length, replicate, Option, None, is_some, refl, sym, ap, ◌∙◌, subst, arith}
+use Rattle.std.proofs.Common.{◌≡◌, ℕ, zero, suc, ◌+◌, ◌*◌, ◌≤◌, false, [], length, replicate, Option, None, is_some, refl, sym, ap, ◌∙◌, subst, arith}
 use Rattle.std.specs.List.{AllByRecursion}
 use Rattle.std.proofs.lemmas.Bool.{true≢false}
 use Rattle.claim_check.specs.Budgets.{Measures, eager_gates}
@@ -17,9 +17,8 @@ use Rattle.held_nodes.specs.Moves.{IsFinishFault, IsReadySig, copies_of, nothing
 use Rattle.list_facts.specs.Lists.{IsAmong}
 use Rattle.list_facts.proofs.AmongLemmas.{all_among, all_from_among}
 use Rattle.eager_cleanup.specs.Eager.{IsEagerFault, IsWithinEager}
-use Rattle.eager_cleanup.specs.inside.Known.{AreKnownValues, Polynomial}
 use Rattle.eager_cleanup.specs.inside.Sweeps.{IsSwept, gates_in}
-use Rattle.eager_cleanup.proofs.BoundLemmas.{lines_enough, paid_all, total_within}
+use Rattle.eager_cleanup.proofs.BoundLemmas.{cost_in, costs_bound, lines_enough, paid_all, total_within}
 use Rattle.eager_cleanup.proofs.CostLemmas.{light_forward, most-copies, most-finished, weight-copies-le}
 use Rattle.eager_cleanup.proofs.SweepLemmas.{settled_of}
 use Rattle.eager_cleanup.proofs.UserLemmas.{output_last}
@@ -34,9 +33,9 @@ no_line (suc n) (suc k) = no_line n k
 none_held : (n k : ℕ) → is_held (replicate n None) k ≡ false
 none_held n k = ap (λ (x : Option ℕ). is_some x) (no_line n k)
 
-begun_here : (s : SettledView) (b : BudgetView) (known : List (Option Polynomial)) → IsForward (nothing_held s b (replicate (length s.nodes) None))
-    → IsSwept s b known 0 [] (nothing_held s b (replicate (length s.nodes) None))
-begun_here s b known forward = record {
+begun_here : (s : SettledView) (b : BudgetView) → IsForward (nothing_held s b (replicate (length s.nodes) None))
+    → IsSwept s b 0 [] (nothing_held s b (replicate (length s.nodes) None))
+begun_here s b forward = record {
   forward = forward;
   graph = refl;
   budget = refl;
@@ -45,20 +44,20 @@ begun_here s b known forward = record {
   cleaned = λ none k held early. absurd (true≢false (sym held ∙ none_held (length s.nodes) k));
   most = omega arith;
   few = λ none width bounds. omega arith;
-  gates = omega arith;
+  gates = λ cost bounds. omega arith;
 }
 
-pub begun : (s : SettledView) (b : BudgetView) (known : List (Option Polynomial)) (f : ForwardView)
-    → f ≡ nothing_held s b (replicate (length s.nodes) None) → IsForward f → IsSwept s b known 0 [] f
-begun s b known f e is = subst (IsSwept s b known 0 []) (sym e) (begun_here s b known (subst IsForward e is))
+pub begun : (s : SettledView) (b : BudgetView) (f : ForwardView)
+    → f ≡ nothing_held s b (replicate (length s.nodes) None) → IsForward f → IsSwept s b 0 [] f
+begun s b f e is = subst (IsSwept s b 0 []) (sym e) (begun_here s b (subst IsForward e is))
 
 -- ---- the end
 
 -- the outputs are constants, inputs, or held
-pub outputs_ready : (s : SettledView) (b : BudgetView) (known : List (Option Polynomial)) (f : ForwardView)
-    → IsSwept s b known (length s.nodes) [] f → AllByRecursion (IsReadySig f.lines) f.graph.outputs
-outputs_ready s b known f is =
-    let settled : IsSettled s = settled_of s b known (length s.nodes) [] f is in
+pub outputs_ready : (s : SettledView) (b : BudgetView) (f : ForwardView)
+    → IsSwept s b (length s.nodes) [] f → AllByRecursion (IsReadySig f.lines) f.graph.outputs
+outputs_ready s b f is =
+    let settled : IsSettled s = settled_of s b (length s.nodes) [] f is in
     subst (λ (g : SettledView). AllByRecursion (IsReadySig f.lines) g.outputs) (sym is.graph)
     (all_from_among (IsReadySig f.lines) s.outputs
     (λ sig among. ready sig (all_among (IsKnownSig s.inputs (length s.nodes)) s.outputs settled.outputs sig among) among))
@@ -68,16 +67,17 @@ outputs_ready s b known f is =
     ready (Is (bases.Input i)) known among = tt
     ready (Is (bases.Node k)) low among = is.needed k low (omega (arith, output_last s k among))
 
-gates_enough : (s : SettledView) (b : BudgetView) (known : List (Option Polynomial)) (f : ForwardView) (m : Measures) → AreKnownValues s known
-    → IsSwept s b known (length s.nodes) [] f → IsWithin s m → 2 * gates_in f + length f.graph.outputs ≤ eager_gates m
-gates_enough s b known f m values is within =
+gates_enough : (s : SettledView) (b : BudgetView) (f : ForwardView) (m : Measures)
+    → IsSwept s b (length s.nodes) [] f → IsWithin s m → 2 * gates_in f + length f.graph.outputs ≤ eager_gates m
+gates_enough s b f m is within =
     let outputs = ap (λ (g : SettledView). length g.outputs) is.graph in
-    omega
-    (arith, outputs, within.outputs, is.gates, paid_all s known f.lines (length s.nodes) (omega arith), total_within s known m values within)
+    let cost : ℕ → ℕ = cost_in s m within in
+    let paid = is.gates cost (costs_bound s m within) in
+    omega (arith, outputs, within.outputs, paid, paid_all s cost f.lines (length s.nodes) (omega arith), total_within s m within)
 
-planned_within : (s : SettledView) (b : BudgetView) (known : List (Option Polynomial)) (f : ForwardView) → AreKnownValues s known
-    → IsSwept s b known (length s.nodes) [] f → IsWithinEager s (planned_of f)
-planned_within s b known f values is = record {
+planned_within : (s : SettledView) (b : BudgetView) (f : ForwardView)
+    → IsSwept s b (length s.nodes) [] f → IsWithinEager s (planned_of f)
+planned_within s b f is = record {
   lines = λ m within.
       let first = ap first_work is.graph in
       omega (arith, first, lines_enough s m f.most 0 within is.most is.few);
@@ -85,25 +85,25 @@ planned_within s b known f values is = record {
     arith,
     most-finished f.gates (copies_of f),
     most-copies (first_work f.graph) f.lines f.graph.inputs f.graph.outputs,
-    gates_enough s b known f m values is within,
+    gates_enough s b f m is within,
   );
 }
 
-pub finished_within : (s : SettledView) (b : BudgetView) (known : List (Option Polynomial)) (f : ForwardView) (p : PlannedView) → AreKnownValues s known
-    → IsSwept s b known (length s.nodes) [] f → p ≡ planned_of f → IsWithinEager s p
-finished_within s b known f p values is e = subst (IsWithinEager s) (sym e) (planned_within s b known f values is)
+pub finished_within : (s : SettledView) (b : BudgetView) (f : ForwardView) (p : PlannedView)
+    → IsSwept s b (length s.nodes) [] f → p ≡ planned_of f → IsWithinEager s p
+finished_within s b f p is e = subst (IsWithinEager s) (sym e) (planned_within s b f is)
 
-pub finish_fault : (s : SettledView) (b : BudgetView) (known : List (Option Polynomial)) (f : ForwardView) (fault : PlanFault) → AreKnownValues s known
-    → IsSwept s b known (length s.nodes) [] f → IsFinishFault f fault → IsEagerFault s b fault
-finish_fault s b known f (Lines need) values is fault = absurd fault
-finish_fault s b known f Gates values is fault = record {
+pub finish_fault : (s : SettledView) (b : BudgetView) (f : ForwardView) (fault : PlanFault)
+    → IsSwept s b (length s.nodes) [] f → IsFinishFault f fault → IsEagerFault s b fault
+finish_fault s b f (Lines need) is fault = absurd fault
+finish_fault s b f Gates is fault = record {
   few = λ m within. omega (
     arith,
     fault,
     ap (λ (x : BudgetView). x.gates) is.budget,
     light_forward f is.forward,
     weight-copies-le (first_work f.graph) f.lines f.graph.inputs f.graph.outputs,
-    gates_enough s b known f m values is within,
+    gates_enough s b f m is within,
   );
 }
-finish_fault s b known f Memory values is fault = tt
+finish_fault s b f Memory is fault = tt

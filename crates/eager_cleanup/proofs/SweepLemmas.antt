@@ -1,5 +1,5 @@
 -- What a node more, and the cleaning of an operand, do to what is held and paid for.
-use Rattle.std.proofs.Common.{◌≡◌, ◌≢◌, ℕ, suc, ◌+◌, ◌<◌, ◌≤◌, Bool, true, cond, max, inl, inr, List, [], ◌∷◌, length, set, slice_get, Option, Some, None, is_some, refl, sym, ap, ◌∙◌, subst, arith}
+use Rattle.std.proofs.Common.{◌≡◌, ◌≢◌, ℕ, suc, ◌+◌, ◌<◌, ◌≤◌, Bool, true, false, cond, max, inl, inr, List, [], ◌∷◌, length, set, slice_get, Option, Some, None, is_some, refl, sym, ap, ◌∙◌, subst, arith}
 use Rattle.std.proofs.lemmas.Bool.{cases_eq, cases_lt, true≢false}
 use Rattle.std.proofs.lemmas.List.{get_or-set_same, get_or-set_other}
 use Rattle.std.proofs.lemmas.List.Sums.{sum_by-append}
@@ -20,11 +20,11 @@ use Rattle.held_nodes.proofs.LineLemmas.{count-put}
 use Rattle.held_nodes.proofs.PlaceLemmas.{unheld_none}
 use Rattle.list_facts.specs.Lists.{IsAmong}
 use Rattle.mct_circuit.specs.Gates.{GateView}
-use Rattle.eager_cleanup.specs.inside.Known.{AreKnownValues, HasLargeNode, IsKnownValue, Polynomial, value_at}
-use Rattle.eager_cleanup.specs.inside.Sweeps.{CanClean, IsCleaned, IsLastUse, IsMade, IsSwept, IsUsed, IsWaiting, all_gates, gates_in, last_use_of, paid_gates, total}
+use Rattle.eager_cleanup.specs.inside.Known.{AreFirstValues, HasLargeNode, IsKnownValue, Polynomial, last_use_of, value_at}
+use Rattle.eager_cleanup.specs.inside.Sweeps.{CanClean, IsCleaned, IsLastUse, IsMade, IsSwept, IsUsed, IsWaiting, cleaning_gates, gates_in, paid_gates, total}
 use Rattle.eager_cleanup.proofs.CostLemmas.{most-toggle, most_in}
 use Rattle.eager_cleanup.proofs.HolderLemmas.{held_among, held_below}
-use Rattle.eager_cleanup.proofs.KnownLemmas.{operands_inside}
+use Rattle.eager_cleanup.proofs.KnownLemmas.{operands_earlier}
 use Rattle.eager_cleanup.proofs.TotalLemmas.{total_changed, total_same}
 use Rattle.eager_cleanup.proofs.UserLemmas.{no_node, same_node, user_of}
 
@@ -34,21 +34,21 @@ known_some : (s : SettledView) (k : ℕ) (value : Option Polynomial) → IsKnown
 known_some s k None large none = absurd (none large)
 known_some s k (Some p) is none = refl
 
-pub value_known : (s : SettledView) (known : List (Option Polynomial)) (k : ℕ) → AreKnownValues s known → ¬ HasLargeNode s → k < length s.nodes
-    → is_some (value_at known k) ≡ true
-value_known s known k values none low =
-    known_some s k (value_at known k) (values.values.each k (omega (arith, low, values.one_each))) none
+-- the value of a node that this one uses for the last time
+pub value_used : (s : SettledView) (known : List (Option Polynomial)) (user k : ℕ) → AreFirstValues s user known → k < user → last_use_of s k ≡ user
+    → IsKnownValue s k (value_at known k)
+value_used s known user k values low last = values.each k low (omega (arith, last))
 
-pub settled_of : (s : SettledView) (b : BudgetView) (known : List (Option Polynomial)) (count : ℕ) (used : List Base) (f : ForwardView)
-    → IsSwept s b known count used f → IsSettled s
-settled_of s b known count used f is = subst IsSettled is.graph is.forward.settled
+pub settled_of : (s : SettledView) (b : BudgetView) (count : ℕ) (used : List Base) (f : ForwardView)
+    → IsSwept s b count used f → IsSettled s
+settled_of s b count used f is = subst IsSettled is.graph is.forward.settled
 
 -- ---- the cleaning of an operand
 
 -- where an operand is not used for the last time, nothing is waiting for it
-not_last : (s : SettledView) (b : BudgetView) (known : List (Option Polynomial)) (user : ℕ) (base : Base) (rest : List Base) (f : ForwardView)
-    → IsSwept s b known (user + 1) (base ∷ rest) f → ((k : ℕ) → ¬ IsLastUse s user base k) → IsSwept s b known (user + 1) rest f
-not_last s b known user base rest f is unused = record {
+not_last : (s : SettledView) (b : BudgetView) (user : ℕ) (base : Base) (rest : List Base) (f : ForwardView)
+    → IsSwept s b (user + 1) (base ∷ rest) f → ((k : ℕ) → ¬ IsLastUse s user base k) → IsSwept s b (user + 1) rest f
+not_last s b user base rest f is unused = record {
   forward = is.forward;
   graph = is.graph;
   budget = is.budget;
@@ -67,34 +67,34 @@ not_last s b known user base rest f is unused = record {
 }
 
 last_cleaned : (s : SettledView) (b : BudgetView) (known : List (Option Polynomial)) (user k : ℕ) (base : Base) (rest : List Base) (f next : ForwardView)
-    → AreKnownValues s known → IsSwept s b known (user + 1) (base ∷ rest) f → k < length s.nodes → IsLastUse s user base k
-    → IsCleaned (value_at known k) f k next → IsSwept s b known (user + 1) rest next
-last_cleaned s b known user k base rest f next values is low last clean = record {
+    → AreFirstValues s user known → IsSwept s b (user + 1) (base ∷ rest) f → user < length s.nodes → k < user → IsLastUse s user base k
+    → IsCleaned (value_at known k) f k next → IsSwept s b (user + 1) rest next
+last_cleaned s b known user k base rest f next values is inside low last clean = record {
   forward = clean.forward;
   graph = clean.graph ∙ is.graph;
   budget = clean.budget ∙ is.budget;
-  behind = λ i late. held_same i (λ e. absurd (omega (arith, late, e, earlier))) ∙ is.behind i late;
+  behind = λ i late. held_same i (λ e. absurd (omega (arith, late, e, low))) ∙ is.behind i late;
   needed = λ i lower later. held_same i (λ e. absurd (omega (arith, later, ap (last_use_of s) e, last.last))) ∙ is.needed i lower later;
   cleaned = λ none i held early. elim (cases_eq i k) as (λ _. IsWaiting s (user + 1) rest i) [
-    | inl e ↦ absurd (true≢false (sym held ∙ ap (is_held next.lines) e ∙ clean.gone (value_known s known k values none low)))
+    | inl e ↦ absurd (true≢false (sym held ∙ ap (is_held next.lines) e ∙ clean.gone (known_some s k (value_at known k) value none)))
     | inr ne ↦ other none i ne (is.cleaned none i (sym (held_same i ne) ∙ held) early)
   ];
   most = omega (arith, clean.most, is.most);
   few = λ none width bounds. omega (arith, clean.most, is.few none width bounds);
-  gates =
-      let costs : gates_in next + paid_gates s.inputs (value_at known k) f.lines k ≤ gates_in f + paid_gates s.inputs (value_at known k) next.lines k =
-      subst (λ (n : ℕ). gates_in next + paid_gates n (value_at known k) f.lines k ≤ gates_in f + paid_gates n (value_at known k) next.lines k)
-      (ap (λ (g : SettledView). g.inputs) is.graph) clean.gates in
-      let changed = total_changed (λ i. paid_gates s.inputs (value_at known i) f.lines i) (λ i. paid_gates s.inputs (value_at known i) next.lines i)
-      (user + 1) k (omega (arith, earlier)) (λ i lower ne. ap (λ (bit : Bool). cond bit 2 (all_gates s.inputs (value_at known i))) (sym (held_same i ne))) in
-      omega (arith, is.gates, costs, changed);
+  gates = λ cost bounds.
+      let inputs : f.graph.inputs ≡ s.inputs = ap (λ (g : SettledView). g.inputs) is.graph in
+      let within : cleaning_gates f.graph.inputs (value_at known k) ≤ cost k =
+      rw inputs (bounds.each k (value_at known k) (omega (arith, low, inside)) value) in
+      let changed = total_changed (λ i. paid_gates (cost i) f.lines i) (λ i. paid_gates (cost i) next.lines i) (user + 1) k (omega (arith, low))
+      (λ i lower ne. ap (λ (bit : Bool). cond bit 2 (2 + cost i)) (sym (held_same i ne))) in
+      omega (arith, is.gates cost bounds, clean.gates (cost k) within, changed);
 }
   where
+    value : IsKnownValue s k (value_at known k)
+    value = value_used s known user k values low last.last
+
     held_same : (i : ℕ) → i ≢ k → is_held next.lines i ≡ is_held f.lines i
     held_same i ne = ap (λ (x : Option ℕ). is_some x) (clean.others i ne)
-
-    earlier : k < user
-    earlier = omega (arith, (settled_of s b known (user + 1) (base ∷ rest) f is).used k low, last.last)
 
     other : ¬ HasLargeNode s → (i : ℕ) → i ≢ k → IsWaiting s (user + 1) (base ∷ rest) i → IsWaiting s (user + 1) rest i
     other none i ne waits = record {
@@ -106,27 +106,27 @@ last_cleaned s b known user k base rest f next values is low last clean = record
     }
 
 pub swept_used : (s : SettledView) (b : BudgetView) (known : List (Option Polynomial)) (user : ℕ) (base : Base) (rest : List Base) (f next : ForwardView)
-    → AreKnownValues s known → IsSwept s b known (user + 1) (base ∷ rest) f → IsKnownBase s.inputs (length s.nodes) base
-    → IsUsed s known user base f next → IsSwept s b known (user + 1) rest next
-swept_used s b known user (bases.Input i) rest f next values is low used =
+    → AreFirstValues s user known → IsSwept s b (user + 1) (base ∷ rest) f → user < length s.nodes → IsKnownBase s.inputs user base
+    → IsUsed s known user base f next → IsSwept s b (user + 1) rest next
+swept_used s b known user (bases.Input i) rest f next values is inside low used =
     let unused : (k : ℕ) → ¬ IsLastUse s user (bases.Input i) k = λ k last. no_node k i (sym last.is) in
-    subst (IsSwept s b known (user + 1) rest) (sym (used.stays unused)) (not_last s b known user (bases.Input i) rest f is unused)
-swept_used s b known user (bases.Node k) rest f next values is low used =
-    elim (cases_eq (last_use_of s k) user) as (λ _. IsSwept s b known (user + 1) rest next) [
+    subst (IsSwept s b (user + 1) rest) (sym (used.stays unused)) (not_last s b user (bases.Input i) rest f is unused)
+swept_used s b known user (bases.Node k) rest f next values is inside low used =
+    elim (cases_eq (last_use_of s k) user) as (λ _. IsSwept s b (user + 1) rest next) [
       | inl e ↦
           let last : IsLastUse s user (bases.Node k) k = record { is = refl; last = e } in
-          last_cleaned s b known user k (bases.Node k) rest f next values is low last (used.cleaned k last)
+          last_cleaned s b known user k (bases.Node k) rest f next values is inside low last (used.cleaned k last)
       | inr ne ↦
           let unused : (j : ℕ) → ¬ IsLastUse s user (bases.Node k) j = λ j last. ne (ap (last_use_of s) (same_node k j last.is) ∙ last.last) in
-          subst (IsSwept s b known (user + 1) rest) (sym (used.stays unused)) (not_last s b known user (bases.Node k) rest f is unused)
+          subst (IsSwept s b (user + 1) rest) (sym (used.stays unused)) (not_last s b user (bases.Node k) rest f is unused)
     ]
 
 -- ---- what is held
 
 -- where no node is large, no more nodes are held than are in the cut
-pub held_in_cut : (s : SettledView) (b : BudgetView) (known : List (Option Polynomial)) (count : ℕ) (f : ForwardView)
-    → IsSwept s b known count [] f → count ≤ length s.nodes → ¬ HasLargeNode s → held_count f.lines ≤ length (cut_in (as_graph s) count)
-held_in_cut s b known count f is inside none =
+pub held_in_cut : (s : SettledView) (b : BudgetView) (count : ℕ) (f : ForwardView)
+    → IsSwept s b count [] f → count ≤ length s.nodes → ¬ HasLargeNode s → held_count f.lines ≤ length (cut_in (as_graph s) count)
+held_in_cut s b count f is inside none =
     held_among f.lines (cut_in (as_graph s) count) (λ k held. in_cut k held (early k held))
   where
     early : (k : ℕ) → is_held f.lines k ≡ true → k < count
@@ -147,9 +147,9 @@ held_in_cut s b known count f is inside none =
 taken_new : (lines : List (Option ℕ)) (held : Option ℕ) (line : ℕ) (after : Option ℕ) → held ≡ None → TakesLine lines held line after → after ≡ Some line
 taken_new lines held line after e takes = (subst (λ (x : Option ℕ). TakesLine lines x line after) e takes).1
 
-pub swept_toggled : (s : SettledView) (b : BudgetView) (known : List (Option Polynomial)) (j : ℕ) (f next : ForwardView)
-    → IsSwept s b known j [] f → j < length s.nodes → IsForward next → IsToggled f j next → IsMade s b known j next
-swept_toggled s b known j f next is inside forward toggled = record {
+pub swept_toggled : (s : SettledView) (b : BudgetView) (j : ℕ) (f next : ForwardView)
+    → IsSwept s b j [] f → j < length s.nodes → IsForward next → IsToggled f j next → IsMade s b j next
+swept_toggled s b j f next is inside forward toggled = record {
   node = toggled.node;
   is = node_is;
   swept = record {
@@ -162,7 +162,7 @@ swept_toggled s b known j f next is inside forward toggled = record {
       | inr ne ↦ (let other : k ≢ j = ne in held_same k ne ∙ is.needed k (omega (arith, low, other)) (omega (arith, later)))
     ];
     cleaned = λ none k held early. elim (cases_eq k j) as (λ _. IsWaiting s (j + 1) (operands toggled.node) k) [
-      | inl e ↦ absurd (omega (arith, early, ap (last_use_of s) e, (settled_of s b known j [] f is).used j inside))
+      | inl e ↦ absurd (omega (arith, early, ap (last_use_of s) e, (settled_of s b j [] f is).used j inside))
       | inr ne ↦ waits none k ne (sym (held_same k ne) ∙ held) early
     ];
     most = omega (arith, most_is, is.most, count, held_below f.lines j is.behind);
@@ -171,17 +171,17 @@ swept_toggled s b known j f next is inside forward toggled = record {
       most_is,
       is.few none width bounds,
       count,
-      held_in_cut s b known j f is (omega (arith, inside)) none,
+      held_in_cut s b j f is (omega (arith, inside)) none,
       bounds.cuts j (omega (arith, inside)),
     );
-    gates =
-        let before : total (λ k. paid_gates s.inputs (value_at known k) f.lines k) j ≡ total (λ k. paid_gates s.inputs (value_at known k) next.lines k) j =
-        total_same (λ k. paid_gates s.inputs (value_at known k) f.lines k) (λ k. paid_gates s.inputs (value_at known k) next.lines k) j
-        (λ k low. ap (λ (bit : Bool). cond bit 2 (all_gates s.inputs (value_at known k))) (sym (held_same k (λ e. absurd (omega (arith, low, e)))))) in
-        let now : paid_gates s.inputs (value_at known j) next.lines j ≡ 2 = rw held_now refl in
+    gates = λ cost bounds.
+        let before : total (λ k. paid_gates (cost k) f.lines k) j ≡ total (λ k. paid_gates (cost k) next.lines k) j =
+        total_same (λ k. paid_gates (cost k) f.lines k) (λ k. paid_gates (cost k) next.lines k) j
+        (λ k low. ap (λ (bit : Bool). cond bit 2 (2 + cost k)) (sym (held_same k (λ e. absurd (omega (arith, low, e)))))) in
+        let now : paid_gates (cost j) next.lines j ≡ 2 = rw held_now refl in
         let next_count : j + 1 ≡ suc j = omega arith in
-        let all = ap (total (λ k. paid_gates s.inputs (value_at known k) next.lines k)) next_count in
-        omega (arith, is.gates, before, now, all, gates_are, most-toggle (first_work f.graph) f.lines toggled.line toggled.node);
+        let all = ap (total (λ k. paid_gates (cost k) next.lines k)) next_count in
+        omega (arith, is.gates cost bounds, before, now, all, gates_are, most-toggle (first_work f.graph) f.lines toggled.line toggled.node);
   };
 }
   where
@@ -234,21 +234,21 @@ swept_toggled s b known j f next is inside forward toggled = record {
 
 -- ---- the operands of the node that was made last
 
-pub can_clean : (s : SettledView) (b : BudgetView) (known : List (Option Polynomial)) (user : ℕ) (node : Node) (f : ForwardView)
-    → IsMade s b known user f → slice_get s.nodes user ≡ Some node → CanClean s b known user (operands node) f
-can_clean s b known user node f made is =
+pub can_clean : (s : SettledView) (b : BudgetView) (user : ℕ) (node : Node) (f : ForwardView)
+    → IsMade s b user f → slice_get s.nodes user ≡ Some node → CanClean s b user (operands node) f
+can_clean s b user node f made is =
     let same : made.node ≡ node = same_Some made.node node (sym made.is ∙ is) in
-    let settled = settled_of s b known (user + 1) (operands made.node) f made.swept in
+    let settled = settled_of s b (user + 1) (operands made.node) f made.swept in
     record {
       inside = slice_get_within s.nodes user node is;
-      bases = operands_inside s user node settled.nodes is;
-      swept = subst (λ (x : Node). IsSwept s b known (user + 1) (operands x) f) same made.swept;
+      bases = operands_earlier s user node settled.nodes is;
+      swept = subst (λ (x : Node). IsSwept s b (user + 1) (operands x) f) same made.swept;
     }
 
--- the operands in another order
-swept_turned : (s : SettledView) (b : BudgetView) (known : List (Option Polynomial)) (count : ℕ) (x y : Base) (f : ForwardView)
-    → IsSwept s b known count (x ∷ y ∷ []) f → IsSwept s b known count (y ∷ x ∷ []) f
-swept_turned s b known count x y f is = record {
+-- two operands in another order
+swept_turned : (s : SettledView) (b : BudgetView) (count : ℕ) (x y : Base) (f : ForwardView) → IsSwept s b count (x ∷ y ∷ []) f
+    → IsSwept s b count (y ∷ x ∷ []) f
+swept_turned s b count x y f is = record {
   forward = is.forward;
   graph = is.graph;
   budget = is.budget;
@@ -266,7 +266,12 @@ swept_turned s b known count x y f is = record {
   gates = is.gates;
 }
 
-pub can_turned : (s : SettledView) (b : BudgetView) (known : List (Option Polynomial)) (user : ℕ) (x y : Base) (f : ForwardView)
-    → CanClean s b known user (x ∷ y ∷ []) f → CanClean s b known user (y ∷ x ∷ []) f
-can_turned s b known user x y f can =
-    record { inside = can.inside; bases = (can.bases.1.0, (can.bases.0, tt)); swept = swept_turned s b known (user + 1) x y f can.swept }
+in_turn : (s : SettledView) (b : BudgetView) (user : ℕ) (turned : Bool) (x y : Base) (f : ForwardView) → CanClean s b user (x ∷ y ∷ []) f
+    → CanClean s b user (cond turned y x ∷ cond turned x y ∷ []) f
+in_turn s b user true x y f can =
+    record { inside = can.inside; bases = (can.bases.1.0, (can.bases.0, tt)); swept = swept_turned s b (user + 1) x y f can.swept }
+in_turn s b user false x y f can = can
+
+pub can_turned : (s : SettledView) (b : BudgetView) (user : ℕ) (turned : Bool) (x y first second : Base) (f : ForwardView)
+    → first ≡ cond turned y x → second ≡ cond turned x y → CanClean s b user (x ∷ y ∷ []) f → CanClean s b user (first ∷ second ∷ []) f
+can_turned s b user turned x y first second f is also can = rw (is, also) (in_turn s b user turned x y f can)

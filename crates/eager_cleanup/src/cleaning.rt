@@ -1,9 +1,9 @@
 // The cleaning of the nodes that a node uses for the last time.
-ghost use Rattle.std.specs.Prelude.{◌≡◌, ◌≢◌, ◌+◌, ◌<◌, [], ◌∷◌, length, true, IfOk, IfErr};
+ghost use Rattle.std.specs.Prelude.{◌≡◌, ◌≢◌, ◌+◌, ◌<◌, [], ◌∷◌, length, true, if◌then◌else◌, IfOk, IfErr};
 ghost use Rattle.std.specs.List.{AllByRecursion};
 ghost use Rattle.dependency_graph.specs.Graphs.{IsKnownBase, operands};
 ghost use Rattle.eager_cleanup.specs.Eager.{IsEagerFault};
-ghost use Rattle.eager_cleanup.specs.inside.Known.{AreKnownValues, IsKnownPolynomial, IsKnownValue};
+ghost use Rattle.eager_cleanup.specs.inside.Known.{AreFirstValues, IsKnownPolynomial, IsKnownValue};
 ghost use Rattle.eager_cleanup.specs.inside.Sweeps.{CanClean, IsCleaned, IsCleaningFault, IsMade, IsSwept, IsUsed, IsUseFault};
 ghost use Rattle.eager_cleanup.specs.inside.Sweeps.{are_ready, is_earlier, is_ready};
 ghost use Rattle.held_nodes.specs.Held.{IsForward, is_held};
@@ -23,9 +23,9 @@ pub fn clean_operands<'s>(
     known: &[Option<Poly>],
     user: u32,
 ) -> Result<Forward<'s>, PlanFault>
-    requires values { AreKnownValues graph.now known.now }
-    requires made { IsMade graph.now forward.budget known.now user forward }
-    ensures swept { IfOk result (IsSwept graph.now forward.entry.budget known.now (user + 1) []) }
+    requires values { AreFirstValues graph.now user known.now }
+    requires made { IsMade graph.now forward.budget user forward }
+    ensures swept { IfOk result (IsSwept graph.now forward.entry.budget (user + 1) []) }
     ensures refused { IfErr result (IsEagerFault graph.now forward.entry.budget) }
 {
     match graph.node(user) {
@@ -45,36 +45,22 @@ fn clean_both<'s>(
     b: Base,
     user: u32,
 ) -> Result<Forward<'s>, PlanFault>
-    requires values { AreKnownValues graph.now known.now }
-    requires can { CanClean graph.now forward.budget known.now user (a ∷ b ∷ []) forward }
-    ensures swept { IfOk result (IsSwept graph.now forward.entry.budget known.now (user + 1) []) }
+    requires values { AreFirstValues graph.now user known.now }
+    requires can { CanClean graph.now forward.budget user (a ∷ b ∷ []) forward }
+    ensures swept { IfOk result (IsSwept graph.now forward.entry.budget (user + 1) []) }
     ensures refused { IfErr result (IsEagerFault graph.now forward.entry.budget) }
 {
-    if is_earlier(a, b) {
-        clean_in_turn(alloc, forward, graph, known, b, a, user)
-    } else {
-        clean_in_turn(alloc, forward, graph, known, a, b, user)
-    }
-}
-
-// Cleans two operands of a node, in this order, where it uses them for the last time.
-fn clean_in_turn<'s>(
-    alloc: Global,
-    forward: Forward<'s>,
-    graph: &Settled,
-    known: &[Option<Poly>],
-    first: Base,
-    second: Base,
-    user: u32,
-) -> Result<Forward<'s>, PlanFault>
-    requires values { AreKnownValues graph.now known.now }
-    requires can { CanClean graph.now forward.budget known.now user
-        (first ∷ second ∷ []) forward }
-    ensures swept { IfOk result (IsSwept graph.now forward.entry.budget known.now (user + 1) []) }
-    ensures refused { IfErr result (IsEagerFault graph.now forward.entry.budget) }
-{
+    let (first, second) = later_first(a, b);
     let forward = clean_used(alloc, forward, graph, known, first, user)?;
     clean_used(alloc, forward, graph, known, second, user)
+}
+
+// Two bases, the later node first.
+fn later_first(a: Base, b: Base) -> (Base, Base)
+    ensures first { result.0 ≡ if is_earlier a b then b else a }
+    ensures second { result.1 ≡ if is_earlier a b then a else b }
+{
+    if is_earlier(a, b) { (b, a) } else { (a, b) }
 }
 
 // Whether it is a node before another one.
@@ -96,9 +82,10 @@ fn clean_used<'s>(
     base: Base,
     user: u32,
 ) -> Result<Forward<'s>, PlanFault>
-    requires values { AreKnownValues graph.now known.now }
+    requires values { AreFirstValues graph.now user known.now }
     requires graph { forward.graph ≡ graph.now }
-    requires base { IsKnownBase graph.now.inputs (length graph.now.nodes) base }
+    requires inside { user < length graph.now.nodes }
+    requires base { IsKnownBase graph.now.inputs user base }
     ensures ok { IfOk result (IsUsed graph.now known.now user base forward.entry) }
     ensures refused { IfErr result (IsUseFault graph.now known.now user base forward.entry) }
 {

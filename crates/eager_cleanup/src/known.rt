@@ -1,8 +1,9 @@
 // Known values: the polynomials of the nodes over the inputs.
-ghost use Rattle.std.specs.Prelude.{◌≡◌, length, Some, None, IfOk, IfSome, IsNone};
+ghost use Rattle.std.specs.Prelude.{◌≡◌, ◌+◌, ◌<◌, length, Some, None, OnOk, IfOk, IfSome, IsNone};
 ghost use Rattle.std.specs.List.{AllByRecursion};
+ghost use Rattle.claim_check.specs.Settled.{IsSettled};
 ghost use Rattle.dependency_graph.specs.Graphs.{IsKnownBase, operands};
-ghost use Rattle.eager_cleanup.specs.inside.Known.{AreInputValues, AreKnownValues, IsValueOf, base_value};
+ghost use Rattle.eager_cleanup.specs.inside.Known.{AreFirstValues, AreInputValues, IsValueOf, base_value};
 
 use claim_check::Settled;
 use dependency_graph::{Base, Node};
@@ -10,22 +11,61 @@ use exclusive_sums::Poly;
 use revc_base::Memory;
 use std::alloc::Global;
 
-// The value of each node, in order: its polynomial, where each operand is an input or known and the polynomial has at most
-// 64 monomials.
-pub fn known_values(alloc: Global, graph: &Settled) -> Result<Vec<Option<Poly>>, Memory>
-    ensures { IfOk result (λ known. AreKnownValues graph.now known.items) }
+// Appends the value of the next node: its polynomial, where each operand is an input or known and the polynomial has at
+// most 64 monomials. The values that no later node needs are dropped.
+pub fn add_value(
+    known: &mut Vec<Option<Poly>>,
+    inputs: &[Poly],
+    graph: &Settled,
+    k: u32,
+) -> Result<(), Memory>
+    requires settled { IsSettled graph.now }
+    requires inputs { AreInputValues inputs.now }
+    requires count { length inputs.now ≡ graph.now.inputs }
+    requires inside { k < length graph.now.nodes }
+    requires values { AreFirstValues graph.now k known.old.items }
+    ensures { OnOk result (AreFirstValues graph.now (k + 1) known.new.items) }
 {
-    let inputs = input_values(alloc, graph.inputs())?;
-    let mut known = Vec::new(alloc);
-    for k in 0..graph.nodes() {
-        let value = node_value(&inputs, &known, graph.node(k))?;
-        known.push(value)?;
+    let node = graph.node(k);
+    let value = node_value(inputs, known, node)?;
+    known.push(value)?;
+    drop_used(known, graph, node, k);
+    Ok(())
+}
+
+// Drops the values of the operands that their node uses for the last time.
+fn drop_used(known: &mut [Option<Poly>], graph: &Settled, node: Node, user: u32)
+    requires inside { user < length graph.now.nodes }
+    requires operands { AllByRecursion (IsKnownBase graph.now.inputs user) (operands node) }
+    requires values { AreFirstValues graph.now (user + 1) known.old }
+    ensures { AreFirstValues graph.now (user + 1) known.new }
+{
+    match node {
+        Node::Not(a) => drop_last(known, graph, a, user),
+        Node::Xor(a, b) | Node::And(a, b) => {
+            drop_last(known, graph, a, user);
+            drop_last(known, graph, b, user);
+        }
     }
-    Ok(known)
+}
+
+// Drops the value of a base where it is a node that node `user` uses for the last time.
+fn drop_last(known: &mut [Option<Poly>], graph: &Settled, base: Base, user: u32)
+    requires inside { user < length graph.now.nodes }
+    requires base { IsKnownBase graph.now.inputs user base }
+    requires values { AreFirstValues graph.now (user + 1) known.old }
+    ensures { AreFirstValues graph.now (user + 1) known.new }
+{
+    let Base::Node(k) = base else {
+        return;
+    };
+    if graph.last_use(k) == user {
+        known[k as usize] = None;
+    }
 }
 
 // The polynomial of each input, in order.
-fn input_values(alloc: Global, count: u32) -> Result<Vec<Poly>, Memory>
+pub fn input_values(alloc: Global, count: u32) -> Result<Vec<Poly>, Memory>
     ensures count { IfOk result (λ inputs. length inputs.items ≡ count) }
     ensures values { IfOk result (λ inputs. AreInputValues inputs.items) }
 {

@@ -3,7 +3,7 @@ ghost use Rattle.std.specs.Prelude.{◌+◌, ◌<◌, [], length, IfOk, IfErr};
 ghost use Rattle.std.specs.List.{AllByRecursion};
 ghost use Rattle.claim_check.specs.Settled.{settled_outputs};
 ghost use Rattle.eager_cleanup.specs.Eager.{IsEagerFault, IsWithinEager};
-ghost use Rattle.eager_cleanup.specs.inside.Known.{AreKnownValues};
+ghost use Rattle.eager_cleanup.specs.inside.Known.{AreFirstValues};
 ghost use Rattle.eager_cleanup.specs.inside.Sweeps.{IsSwept};
 ghost use Rattle.gate_split.specs.Costs.{IsRoomyFlip};
 ghost use Rattle.gate_split.specs.Plans.{MapsCleanly};
@@ -11,22 +11,22 @@ ghost use Rattle.held_nodes.specs.Moves.{roles_of_plan};
 ghost use Rattle.held_nodes.specs.Plans.{HasPorts, IsInBudget};
 
 use crate::cleaning::clean_operands;
-use crate::known::known_values;
+use crate::known::{add_value, input_values};
 use claim_check::Settled;
 use exclusive_sums::Poly;
 use gate_split::{Budget, PlanFault, Planned};
 use held_nodes::Forward;
 use std::alloc::Global;
 
-/// The eager plan of a settled graph. Its forward part takes the nodes in order. Each is computed onto the least free work
-/// line; then each node that was used for the last time is cleaned, the later one first: by its operands where they are
-/// inputs or still stand on work lines, else by the merged cubes of its polynomial where that has at most 64 monomials,
-/// and else at the end. The circuit takes each input and zeros to that input, the outputs, and zeros.
+/// The eager plan of a settled graph. Its forward part takes the nodes in order. Each is computed onto the least free
+/// work line; then each node that was used for the last time is cleaned, the later one first: by its operands where they
+/// are inputs or still stand on work lines, else by the merged cubes of its polynomial where that has at most 64
+/// monomials, and else at the end. The circuit takes each input and zeros to that input, the outputs, and zeros.
 ///
 /// # Errors
 ///
-/// `Lines` and `Gates` only where the budget has fewer of them than the eager number of the graph. `need` is the number of
-/// inputs, outputs and borrowed lines where that passes the budget, and one line more than the budget otherwise.
+/// `Lines` and `Gates` only where the budget has fewer of them than the eager number of the graph. `need` is the number
+/// of inputs, outputs and borrowed lines where that passes the budget, and one line more than the budget otherwise.
 pub fn plan(alloc: Global, graph: &Settled, budget: &Budget) -> Result<Planned, PlanFault>
     ensures ports { IfOk result (HasPorts graph.now) }
     ensures clean { IfOk result (λ planned. MapsCleanly (roles_of_plan planned)
@@ -37,27 +37,27 @@ pub fn plan(alloc: Global, graph: &Settled, budget: &Budget) -> Result<Planned, 
     ensures few { IfOk result (IsWithinEager graph.now) }
     ensures refused { IfErr result (IsEagerFault graph.now budget.now) }
 {
-    let known = known_values(alloc, graph)?;
     let forward = Forward::new(alloc, graph, budget)?;
-    let forward = swept(alloc, forward, graph, &known)?;
+    let forward = swept(alloc, forward, graph)?;
     forward.finish()
 }
 
-// Takes the nodes in order.
+// Takes the nodes in order. The value of each is worked out behind its gates, and kept up to its last use.
 fn swept<'s>(
     alloc: Global,
     mut forward: Forward<'s>,
     graph: &Settled,
-    known: &[Option<Poly>],
 ) -> Result<Forward<'s>, PlanFault>
-    requires values { AreKnownValues graph.now known.now }
-    requires begun { IsSwept graph.now forward.budget known.now 0 [] forward }
-    ensures swept { IfOk result (IsSwept graph.now forward.entry.budget known.now
+    requires begun { IsSwept graph.now forward.budget 0 [] forward }
+    ensures swept { IfOk result (IsSwept graph.now forward.entry.budget
         (length graph.now.nodes) []) }
     ensures refused { IfErr result (IsEagerFault graph.now forward.entry.budget) }
 {
+    let inputs = input_values(alloc, graph.inputs())?;
+    let mut known = Vec::new(alloc);
     for node in 0..graph.nodes() {
-        forward = advanced(alloc, forward, graph, known, node)?;
+        forward = advanced(alloc, forward, graph, &known, node)?;
+        add_value(&mut known, &inputs, graph, node)?;
     }
     Ok(forward)
 }
@@ -70,10 +70,10 @@ fn advanced<'s>(
     known: &[Option<Poly>],
     node: u32,
 ) -> Result<Forward<'s>, PlanFault>
-    requires values { AreKnownValues graph.now known.now }
+    requires values { AreFirstValues graph.now node known.now }
     requires inside { node < length graph.now.nodes }
-    requires swept { IsSwept graph.now forward.budget known.now node [] forward }
-    ensures swept { IfOk result (IsSwept graph.now forward.entry.budget known.now (node + 1) []) }
+    requires swept { IsSwept graph.now forward.budget node [] forward }
+    ensures swept { IfOk result (IsSwept graph.now forward.entry.budget (node + 1) []) }
     ensures refused { IfErr result (IsEagerFault graph.now forward.entry.budget) }
 {
     let forward = forward.toggle(node)?;

@@ -3,11 +3,12 @@ use Rattle.std.specs.Prelude.{◌≡◌, ℕ, ◌<◌, ◌≤◌, Bool, not, ◌
 use Rattle.std.specs.Bool.{xor}
 use Rattle.claim_check.specs.Budgets.{most_cleaned}
 use Rattle.claim_check.specs.Measures.{node_function}
-use Rattle.claim_check.specs.Settled.{SettledView}
+use Rattle.claim_check.specs.Settled.{SettledView, as_graph}
 use Rattle.dependency_graph.specs.declared.node.Base.{Base}
 use Rattle.dependency_graph.specs.declared.node.Base.TheVariants as bases
 use Rattle.dependency_graph.specs.declared.node.Node.{Node}
 use Rattle.dependency_graph.specs.declared.node.Node.TheVariants.{Not, Xor, And}
+use Rattle.dependency_graph.specs.Uses.{last_use_in}
 use Rattle.exclusive_sums.specs.Limits.{IsPolynomialUpTo}
 use Rattle.revc_base.specs.Monomials.{AreMonomialsOf}
 use Rattle.revc_base.specs.Polynomials.{value_of_polynomial}
@@ -39,14 +40,15 @@ abbrev pub IsKnownValue : SettledView → ℕ → Option Polynomial → Type 0
 IsKnownValue s k None = HasLargeNode s
 IsKnownValue s k (Some p) = IsKnownPolynomial s k p
 
--- these are the values of the first nodes
-pub record AreFirstValues (s : SettledView) (known : List (Option Polynomial)) : Type 0 where
-  pub each : (k : ℕ) → k < length known → IsKnownValue s k (value_at known k)
+abbrev pub last_use_of : SettledView → ℕ → ℕ
+last_use_of s k = last_use_in (as_graph s) k
 
--- these are the values of all nodes
-pub record AreKnownValues (s : SettledView) (known : List (Option Polynomial)) : Type 0 where
-  pub one_each : length known ≡ length s.nodes
-  pub values : AreFirstValues s known
+-- These are the values of the first `count` nodes. What stands for a node that is no output and that no later node uses
+-- is left open.
+pub record AreFirstValues (s : SettledView) (count : ℕ)
+    (known : List (Option Polynomial)) : Type 0 where
+  pub one_each : length known ≡ count
+  pub each : (k : ℕ) → k < count → count ≤ last_use_of s k → IsKnownValue s k (value_at known k)
 
 -- ---- one value more
 

@@ -6,14 +6,14 @@ use Rattle.dependency_graph.specs.declared.node.Base.{Base}
 use Rattle.dependency_graph.specs.declared.node.Base.TheVariants as bases
 use Rattle.dependency_graph.specs.declared.node.Node.{Node}
 use Rattle.dependency_graph.specs.Graphs.{IsKnownBase, operands}
-use Rattle.dependency_graph.specs.Uses.{last_use_in, cut_in}
+use Rattle.dependency_graph.specs.Uses.{cut_in}
 use Rattle.gate_split.specs.declared.plan.PlanFault.{PlanFault}
 use Rattle.gate_split.specs.declared.plan.PlanFault.TheVariants.{Lines, Gates, Memory}
 use Rattle.gate_split.specs.Costs.{most_gates}
 use Rattle.gate_split.specs.Plans.{BudgetView}
 use Rattle.held_nodes.specs.Held.{ForwardView, IsForward, held_line, is_held}
 use Rattle.list_facts.specs.Lists.{IsAmong}
-use Rattle.eager_cleanup.specs.inside.Known.{Polynomial, HasLargeNode, value_at}
+use Rattle.eager_cleanup.specs.inside.Known.{Polynomial, HasLargeNode, IsKnownValue, last_use_of, value_at}
 
 -- ---- what can be cleaned by its operands
 
@@ -44,17 +44,14 @@ abbrev pub cleaning_gates : ℕ → Option Polynomial → ℕ
 cleaning_gates n None = 2
 cleaning_gates n (Some p) = 2 + length p * (10 * n + 1)
 
--- the most gates that make a node and clean it
-abbrev pub all_gates : ℕ → Option Polynomial → ℕ
-all_gates n value = 2 + cleaning_gates n value
-
--- the most gates that were put for a node so far: it was made, and cleaned if it is not held any more
-abbrev pub paid_gates : ℕ → Option Polynomial → List (Option ℕ) → ℕ → ℕ
-paid_gates n value lines k = if is_held lines k then 2 else all_gates n value
+-- the most gates that were put for a node so far, where its cleaning takes at most so many: it was made, and cleaned if
+-- it is not held any more
+abbrev pub paid_gates : ℕ → List (Option ℕ) → ℕ → ℕ
+paid_gates cost lines k = if is_held lines k then 2 else 2 + cost
 
 -- the most gates that were put for the first nodes
-abbrev pub all_paid : ℕ → List (Option Polynomial) → List (Option ℕ) → ℕ → ℕ
-all_paid n known lines count = total (λ k. paid_gates n (value_at known k) lines k) count
+abbrev pub all_paid : (ℕ → ℕ) → List (Option ℕ) → ℕ → ℕ
+all_paid cost lines count = total (λ k. paid_gates (cost k) lines k) count
 
 -- what gates are split into, at most
 abbrev pub gates_in : ForwardView → ℕ
@@ -66,18 +63,21 @@ gates_in f = sum_by most_gates f.gates
 pub record BoundsCuts (s : SettledView) (width : ℕ) : Type 0 where
   pub cuts : (j : ℕ) → j ≤ length s.nodes → length (cut_in (as_graph s) j) ≤ width
 
-abbrev pub last_use_of : SettledView → ℕ → ℕ
-last_use_of s k = last_use_in (as_graph s) k
+-- no cleaning of a node takes more gates
+pub record BoundsCleanings (s : SettledView) (cost : ℕ → ℕ) : Type 0 where
+  pub each : (k : ℕ) (value : Option Polynomial) → k < length s.nodes → IsKnownValue s k value
+      → cleaning_gates s.inputs value ≤ cost k
 
 -- the last of the first `count` nodes uses this one for the last time, and it is one of `used`
 pub record IsWaiting (s : SettledView) (count : ℕ) (used : List Base) (k : ℕ) : Type 0 where
   pub last : last_use_of s k + 1 ≡ count
   pub among : IsAmong (bases.Node k) used
 
--- The first `count` nodes were gone through, and what the last of them uses for the last time may still be held where it
--- is in `used`. The nodes of later last use are held, no node behind these is, and where no node is large no other node is.
-pub record IsSwept (s : SettledView) (b : BudgetView) (known : List (Option Polynomial))
-    (count : ℕ) (used : List Base) (f : ForwardView) : Type 0 where
+-- The first `count` nodes were gone through, and what the last of them uses for the last time may still be held where
+-- it is in `used`. The nodes of later last use are held, no node behind these is, and where no node is large no other
+-- node is. No more gates were put than the nodes so far may cost.
+pub record IsSwept (s : SettledView) (b : BudgetView) (count : ℕ) (used : List Base)
+    (f : ForwardView) : Type 0 where
   pub forward : IsForward f
   pub graph : f.graph ≡ s
   pub budget : f.budget ≡ b
@@ -87,21 +87,20 @@ pub record IsSwept (s : SettledView) (b : BudgetView) (known : List (Option Poly
       → last_use_of s k < count → IsWaiting s count used k
   pub most : f.most ≤ count
   pub few : ¬ HasLargeNode s → (width : ℕ) → BoundsCuts s width → f.most ≤ width + 1
-  pub gates : gates_in f ≤ all_paid s.inputs known f.lines count
+  pub gates : (cost : ℕ → ℕ) → BoundsCleanings s cost → gates_in f ≤ all_paid cost f.lines count
 
 -- these operands of node `user`, which was made last, may be cleaned
-pub record CanClean (s : SettledView) (b : BudgetView) (known : List (Option Polynomial))
-    (user : ℕ) (used : List Base) (f : ForwardView) : Type 0 where
+pub record CanClean (s : SettledView) (b : BudgetView) (user : ℕ) (used : List Base)
+    (f : ForwardView) : Type 0 where
   pub inside : user < length s.nodes
-  pub bases : AllByRecursion (IsKnownBase s.inputs (length s.nodes)) used
-  pub swept : IsSwept s b known (user + 1) used f
+  pub bases : AllByRecursion (IsKnownBase s.inputs user) used
+  pub swept : IsSwept s b (user + 1) used f
 
 -- the last of them was made, and nothing was cleaned since
-pub record IsMade (s : SettledView) (b : BudgetView) (known : List (Option Polynomial))
-    (user : ℕ) (f : ForwardView) : Type 0 where
+pub record IsMade (s : SettledView) (b : BudgetView) (user : ℕ) (f : ForwardView) : Type 0 where
   pub node : Node
   pub is : slice_get s.nodes user ≡ Some node
-  pub swept : IsSwept s b known (user + 1) (operands node) f
+  pub swept : IsSwept s b (user + 1) (operands node) f
 
 -- ---- a cleaning
 
@@ -114,8 +113,8 @@ pub record IsCleaned (value : Option Polynomial) (f : ForwardView) (k : ℕ)
   pub most : next.most ≡ f.most
   pub others : (i : ℕ) → i ≢ k → held_line next.lines i ≡ held_line f.lines i
   pub gone : is_some value ≡ true → is_held next.lines k ≡ false
-  pub gates : gates_in next + paid_gates f.graph.inputs value f.lines k
-      ≤ gates_in f + paid_gates f.graph.inputs value next.lines k
+  pub gates : (cost : ℕ) → cleaning_gates f.graph.inputs value ≤ cost
+      → gates_in next + paid_gates cost f.lines k ≤ gates_in f + paid_gates cost next.lines k
 
 -- the node is held, and the gates so far and those of its cleaning are too many for the budget
 pub record IsTooHeavy (value : Option Polynomial) (f : ForwardView) (k : ℕ) : Type 0 where

@@ -1,5 +1,38 @@
-use Rattle.eager_cleanup.proofs.SweepLemmas.{can_turned}
+use Rattle.std.proofs.Common.{[], ◌+◌}
+use Rattle.std.proofs.lemmas.Result.{IfErr-weaker, IfOk-weaker, err_from_is_err_and}
+use Rattle.eager_cleanup.specs.Eager.{IsEagerFault}
+use Rattle.eager_cleanup.specs.inside.Sweeps.{IsSwept, IsUsed, IsUseFault}
+use Rattle.eager_cleanup.proofs.BoundLemmas.{used_fault}
+use Rattle.eager_cleanup.proofs.SweepLemmas.{can_turned, swept_used}
 use Rattle.eager_cleanup.proofs.cleaning.clean_both.Goals as goal
 
-pub clean_in_turn-requires-clause-can : goal.clean_in_turn-requires-clause-can
-clean_in_turn-requires-clause-can c = can_turned _ _ _ _ _ _ _ c.requires.can
+pub returns-in_err-forward-clause-refused : goal.returns-in_err-forward-clause-refused
+returns-in_err-forward-clause-refused c =
+    let p = err_from_is_err_and c.from_residual.result c.from_residual.ensures.1 in
+    let can = can_turned _ _ _ _ _ _ _ _ _ c.later_first-first.ensures.first c.later_first-first.ensures.second c.requires.can in
+    rw (p.1, p.2) (used_fault _ _ _ _ _ _ _ _ c.requires.values can.swept can.inside can.bases.0 c.in_err-forward.ensures.refused)
+
+pub clean_used-requires-2-clause-graph : goal.clean_used-requires-2-clause-graph
+clean_used-requires-2-clause-graph c =
+    let can = can_turned _ _ _ _ _ _ _ _ _ c.later_first-first.ensures.first c.later_first-first.ensures.second c.requires.can in
+    (swept_used _ _ _ _ _ _ _ _ c.requires.values can.swept can.inside can.bases.0 c.in_ok-forward.ensures.ok).graph
+
+pub returns-clause-swept : goal.returns-clause-swept
+returns-clause-swept c =
+    let s = c.args.graph.now in
+    let b = c.args.forward.budget in
+    let user = c.args.user in
+    let can = can_turned _ _ _ _ _ _ _ _ _ c.later_first-first.ensures.first c.later_first-first.ensures.second c.requires.can in
+    let once = swept_used _ _ _ _ _ _ _ _ c.requires.values can.swept can.inside can.bases.0 c.in_ok-forward.ensures.ok in
+    IfOk-weaker c.clean_used-2.result (IsUsed s c.args.known.now user c.later_first-first.result.1 c.in_ok-forward.forward) (IsSwept s b (user + 1) [])
+    (λ next used. swept_used _ _ _ _ _ _ _ _ c.requires.values once can.inside can.bases.1.0 used) c.clean_used-2.ensures.ok
+
+pub returns-clause-refused : goal.returns-clause-refused
+returns-clause-refused c =
+    let s = c.args.graph.now in
+    let user = c.args.user in
+    let can = can_turned _ _ _ _ _ _ _ _ _ c.later_first-first.ensures.first c.later_first-first.ensures.second c.requires.can in
+    let once = swept_used _ _ _ _ _ _ _ _ c.requires.values can.swept can.inside can.bases.0 c.in_ok-forward.ensures.ok in
+    IfErr-weaker c.clean_used-2.result (IsUseFault s c.args.known.now user c.later_first-first.result.1 c.in_ok-forward.forward)
+    (IsEagerFault s c.args.forward.budget)
+    (λ fault is. used_fault _ _ _ _ _ _ _ fault c.requires.values once can.inside can.bases.1.0 is) c.clean_used-2.ensures.refused

@@ -9,7 +9,7 @@ use Rattle.eager_cleanup.proofs.cleaning.clean_operands.Goals as goal
 
 pub clean_used-requires-clause-base : goal.clean_used-requires-clause-base
 clean_used-requires-clause-base c =
-    let can = can_clean c.args.graph.now c.args.forward.budget c.args.known.now c.args.user (Not c.in-Not.a) c.args.forward c.requires.made
+    let can = can_clean c.args.graph.now c.args.forward.budget c.args.user (Not c.in-Not.a) c.args.forward c.requires.made
     c.in-Not.ensures in
     can.bases.0
 
@@ -18,9 +18,9 @@ returns-in-Not-clause-swept c =
     let s = c.args.graph.now in
     let b = c.args.forward.budget in
     let known = c.args.known.now in
-    let can = can_clean s b known c.args.user (Not c.in-Not.a) c.args.forward c.requires.made c.in-Not.ensures in
-    IfOk-weaker c.clean_used.result (IsUsed s known c.args.user c.in-Not.a c.args.forward) (IsSwept s b known (c.args.user + 1) [])
-    (λ next used. swept_used s b known c.args.user c.in-Not.a [] c.args.forward next c.requires.values can.swept can.bases.0 used)
+    let can = can_clean s b c.args.user (Not c.in-Not.a) c.args.forward c.requires.made c.in-Not.ensures in
+    IfOk-weaker c.clean_used.result (IsUsed s known c.args.user c.in-Not.a c.args.forward) (IsSwept s b (c.args.user + 1) [])
+    (λ next used. swept_used s b known c.args.user c.in-Not.a [] c.args.forward next c.requires.values can.swept can.inside can.bases.0 used)
     c.clean_used.ensures.ok
 
 pub returns-in-Not-clause-refused : goal.returns-in-Not-clause-refused
@@ -28,17 +28,17 @@ returns-in-Not-clause-refused c =
     let s = c.args.graph.now in
     let b = c.args.forward.budget in
     let known = c.args.known.now in
-    let can = can_clean s b known c.args.user (Not c.in-Not.a) c.args.forward c.requires.made c.in-Not.ensures in
+    let can = can_clean s b c.args.user (Not c.in-Not.a) c.args.forward c.requires.made c.in-Not.ensures in
     IfErr-weaker c.clean_used.result (IsUseFault s known c.args.user c.in-Not.a c.args.forward) (IsEagerFault s b)
-    (λ fault is. used_fault s b known c.args.user c.in-Not.a (c.in-Not.a ∷ []) c.args.forward fault c.requires.values can.swept can.inside is)
+    (λ fault is. used_fault s b known c.args.user c.in-Not.a (c.in-Not.a ∷ []) c.args.forward fault c.requires.values can.swept can.inside can.bases.0 is)
     c.clean_used.ensures.refused
 
 pub clean_both-requires-clause-can : goal.clean_both-requires-clause-can
 clean_both-requires-clause-can c =
-    can_clean c.args.graph.now c.args.forward.budget c.args.known.now c.args.user (Xor c.in-Xor.a c.in-Xor.b) c.args.forward c.requires.made
+    can_clean c.args.graph.now c.args.forward.budget c.args.user (Xor c.in-Xor.a c.in-Xor.b) c.args.forward c.requires.made
     c.in-Xor.ensures
 
 pub clean_both-requires-in-And-clause-can : goal.clean_both-requires-in-And-clause-can
 clean_both-requires-in-And-clause-can c =
-    can_clean c.args.graph.now c.args.forward.budget c.args.known.now c.args.user (And c.in-And.a c.in-And.b) c.args.forward c.requires.made
+    can_clean c.args.graph.now c.args.forward.budget c.args.user (And c.in-And.a c.in-And.b) c.args.forward c.requires.made
     c.in-And.ensures

@@ -8,19 +8,18 @@ use Rattle.eager_cleanup.proofs.planning.advanced.Goals as goal
 
 pub toggle-requires : goal.toggle-requires
 toggle-requires c =
-    next_ready c.args.graph.now c.args.forward.budget c.args.known.now c.args.node c.args.forward c.requires.swept c.requires.inside
+    next_ready c.args.graph.now c.args.forward.budget c.args.node c.args.forward c.requires.swept c.requires.inside
 
 pub returns-in_err-forward-clause-refused : goal.returns-in_err-forward-clause-refused
 returns-in_err-forward-clause-refused c =
     let p = err_from_is_err_and c.from_residual.result c.from_residual.ensures.1 in
-    rw (p.1, p.2) (next_fault c.args.graph.now c.args.forward.budget c.args.known.now c.args.node c.args.forward _ c.requires.values
+    rw (p.1, p.2) (next_fault c.args.graph.now c.args.forward.budget c.args.node c.args.forward _
     c.requires.swept c.requires.inside c.in_err-forward.ensures.refused)
 
 pub clean_operands-requires-clause-made : goal.clean_operands-requires-clause-made
 clean_operands-requires-clause-made c =
     let s = c.args.graph.now in
-    let known = c.args.known.now in
     let next = c.in_ok-forward.forward in
-    let made = swept_toggled s c.args.forward.budget known c.args.node c.args.forward next c.requires.swept c.requires.inside
+    let made = swept_toggled s c.args.forward.budget c.args.node c.args.forward next c.requires.swept c.requires.inside
     c.in_ok-forward.ensures.keeps c.in_ok-forward.ensures.ok in
-    subst (λ (b : BudgetView). IsMade s b known c.args.node next) (sym made.swept.budget) made
+    subst (λ (b : BudgetView). IsMade s b c.args.node next) (sym made.swept.budget) made

@@ -8,24 +8,22 @@ use Rattle.eager_cleanup.proofs.PlanLemmas.{outputs_ready, finished_within, fini
 use Rattle.eager_cleanup.proofs.planning.plan.Goals as goal
 
 pub finish-requires : goal.finish-requires
-finish-requires c = outputs_ready _ _ _ _ c.in_ok-forward-2.ensures.swept
+finish-requires c = outputs_ready _ _ _ c.in_ok-forward-2.ensures.swept
 
 pub returns-clause-few : goal.returns-clause-few
 returns-clause-few c =
     let s = c.args.graph.now in
     let f = c.in_ok-forward-2.forward in
-    let known = c.in_ok-known.known.items in
-    let swept = rw c.deref.ensures.value at c.in_ok-forward-2.ensures.swept in
+    let swept = c.in_ok-forward-2.ensures.swept in
     IfOk-weaker c.finish.result (λ planned. planned ≡ planned_of f) (IsWithinEager s)
-    (λ planned is. finished_within s c.in_ok-forward.forward.budget known f planned c.in_ok-known.ensures swept is) c.finish.ensures.ok
+    (λ planned is. finished_within s c.in_ok-forward.forward.budget f planned swept is) c.finish.ensures.ok
 
 pub returns-clause-refused : goal.returns-clause-refused
 returns-clause-refused c =
     let s = c.args.graph.now in
     let f = c.in_ok-forward-2.forward in
-    let known = c.in_ok-known.known.items in
-    let swept = rw c.deref.ensures.value at c.in_ok-forward-2.ensures.swept in
+    let swept = c.in_ok-forward-2.ensures.swept in
     let budget = ap (λ (g : ForwardView). g.budget) c.in_ok-forward.ensures.ok in
     IfErr-weaker c.finish.result (IsFinishFault f) (IsEagerFault s c.args.budget.now)
     (λ fault is. subst (λ (b : BudgetView). IsEagerFault s b fault) budget
-    (finish_fault s c.in_ok-forward.forward.budget known f fault c.in_ok-known.ensures swept is)) c.finish.ensures.refused
+    (finish_fault s c.in_ok-forward.forward.budget f fault swept is)) c.finish.ensures.refused
