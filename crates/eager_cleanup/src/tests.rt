@@ -17,8 +17,8 @@ fn some_writes(alloc: Global) -> Result<Tape, Memory> {
     Ok(tape)
 }
 
-// The first node is cleaned by its operands, and gives its line to the third; the second by its two monomials, ab and c.
-// Lines 0 to 2 are the inputs, line 3 is the output, lines 4 and 5 are work lines.
+// The first node is cleaned by its operands, and gives its line to the third; the second by its two monomials, ab and
+// c. Lines 0 to 2 are the inputs, line 3 is the output, lines 4 and 5 are work lines.
 #[test]
 fn nodes_are_cleaned_after_their_last_use(rt: HostRuntime) -> Result<(), Fail> {
     let alloc = rt.alloc();
