@@ -1,5 +1,5 @@
 -- Gates on vectors of planes, a lane at a time.
-use Rattle.std.proofs.Common.{◌≡◌, ◌≢◌, ℕ, ◌+◌, ◌-◌, ◌*◌, ◌^◌, ◌<◌, ◌≤◌, bit_and, bit_xor, Bool, true, false, List, [], ◌∷◌, ◌++◌, length, length-set, get_or, set, take, drop, refl, sym, ap, ◌∙◌, subst, arith, below_more}
+use Rattle.std.proofs.Common.{◌≡◌, ◌≢◌, ℕ, ◌+◌, ◌-◌, ◌*◌, ◌^◌, ◌<◌, ◌≤◌, min, bit_and, bit_xor, Bool, true, false, List, [], ◌∷◌, ◌++◌, length, length-append, length-drop, length-set, get_or, set, take, drop, refl, sym, ap, ◌∙◌, subst, arith, below_more}
 use Rattle.std.specs.Global.{Vec}
 use Rattle.std.specs.List.{take-map}
 use Rattle.std.specs.Simd.Lanes.{chunk, zip2}
@@ -233,53 +233,75 @@ taken_more vectors number line planes plane inside low is front =
 
 -- the rows of so many lanes stand on these
 pub record HoldFirstInLanes (lanes : ℕ) (rows : List (List Bool)) (vectors : List (List ℕ)) : Type 0 where
-  pub each : (number place : ℕ) → number < lanes → place < 64 → column place (lane number vectors) ≡ get_or rows (64 * number + place) []
+  pub each : (number place : ℕ) → number < lanes → place < 64 → 64 * number + place < length rows
+      → column place (lane number vectors) ≡ get_or rows (64 * number + place) []
 
-pub loaded_more : (number : ℕ) (rows : List (Vec Bool)) (planes : List ℕ) (before next : List (List ℕ)) (size : ℕ) → size ≡ 64
-    → 64 * number + 64 ≤ length rows → HoldRows (contents (take size (drop (64 * number) rows))) planes → IsWithLane number planes before next
+pub loaded_more : (number : ℕ) (rows : List (Vec Bool)) (planes : List ℕ) (before next : List (List ℕ)) (size : ℕ)
+    → size ≡ min (length rows) (64 * number + 64) - 64 * number → 64 * number < length rows
+    → HoldRows (contents (take size (drop (64 * number) rows))) planes → IsWithLane number planes before next
     → HoldFirstInLanes number (contents rows) before → HoldFirstInLanes (number + 1) (contents rows) next
 loaded_more number rows planes before next size is room group step first =
     let all = contents rows in
     let start = 64 * number in
-    let Holds : ℕ → Type 0 = λ n. (place : ℕ) → place < 64 → column place (lane n next) ≡ get_or all (64 * n + place) [] in
-    let held : HoldRows (chunk start 64 all) planes =
-    subst (λ (rs : List (List Bool)). HoldRows rs planes) (contents-chunk rows start size ∙ ap (λ n. chunk start n all) is) group in
-    let long : length (chunk start 64 all) ≡ 64 =
-    length-chunk start 64 all (rw (length-map rows (λ (r : Vec Bool). r.items)) room) in
+    let same : length all ≡ length rows = length-map rows (λ (r : Vec Bool). r.items) in
+    let Holds : ℕ → Type 0 = λ n. (place : ℕ) → place < 64 → 64 * n + place < length all
+    → column place (lane n next) ≡ get_or all (64 * n + place) [] in
+    let held : HoldRows (chunk start size all) planes =
+    subst (λ (rs : List (List Bool)). HoldRows rs planes) (contents-chunk rows start size) group in
+    let long : length (chunk start size all) ≡ size = length-chunk start size all (omega (arith, same)) in
     let every = below_more Holds number
-    (λ n below place low. ap (column place) (step.others n (λ e. absurd (omega arith))) ∙ first.each n place below low)
-    (λ place low. ap (column place) step.here ∙ held.each place (rw long low) ∙ get_or-chunk start 64 all place [] low) in
-    record { each = λ n place below low. every n below place low }
+    (λ n below place low inside. ap (column place) (step.others n (λ e. absurd (omega arith))) ∙ first.each n place below low inside)
+    (λ place low inside.
+    let short : place < size = omega (arith, same) in
+    ap (column place) step.here ∙ held.each place (rw long short) ∙ get_or-chunk start size all place [] short) in
+    record { each = λ n place below low inside. every n below place low inside }
 
-pub stored_lane_more : (number : ℕ) (rows group rest : List (Vec Bool)) (planes : List ℕ) (vectors : List (List ℕ)) → 64 * number ≤ length rows
-    → length group ≡ 64 → planes ≡ lane number vectors → HoldRows (contents group) planes → HoldFirstInLanes number (contents rows) vectors
-    → HoldFirstInLanes (number + 1) (contents (take (64 * number) rows ++ (group ++ rest))) vectors
-stored_lane_more number rows group rest planes vectors room long is held first =
+pub stored_lane_more : (number : ℕ) (rows group : List (Vec Bool)) (planes : List ℕ) (vectors : List (List ℕ)) (size : ℕ)
+    → size ≡ min (length rows) (64 * number + 64) - 64 * number → 64 * number < length rows → length group ≡ size → planes ≡ lane number vectors
+    → HoldRows (contents group) planes → HoldFirstInLanes number (contents rows) vectors
+    → HoldFirstInLanes (number + 1) (contents (take (64 * number) rows ++ (group ++ drop size (drop (64 * number) rows)))) vectors
+stored_lane_more number rows group planes vectors size count room long is held first =
     let bits = λ (r : Vec Bool). r.items in
     let start = 64 * number in
+    let rest = drop size (drop start rows) in
     let all = contents (take start rows ++ (group ++ rest)) in
     let front = take start (contents rows) in
-    let long_front : length front ≡ start = length-take-le start (contents rows) (rw (length-map rows bits) room) in
-    let long_group : length (contents group) ≡ 64 = length-map group bits ∙ long in
+    let same : length (contents rows) ≡ length rows = length-map rows bits in
+    let long_front : length front ≡ start = length-take-le start (contents rows) (omega (arith, same)) in
+    let long_group : length (contents group) ≡ size = length-map group bits ∙ long in
+    let long_rest : length (contents rest) ≡ length rows - start - size =
+    length-map rest bits ∙ length-drop size (drop start rows) ∙ ap (λ n. n - size) (length-drop start rows) in
     let parts : all ≡ front ++ (contents group ++ contents rest) =
     map-append bits (take start rows) (group ++ rest)
     ∙ ap (λ (bs : List (List Bool)). bs ++ contents (group ++ rest)) (sym (take-map bits start rows))
     ∙ ap (λ (bs : List (List Bool)). front ++ bs) (map-append bits group rest) in
-    let Holds : ℕ → Type 0 = λ n. (place : ℕ) → place < 64 → column place (lane n vectors) ≡ get_or all (64 * n + place) [] in
-    let before = λ (n : ℕ) (below : n < number) (place : ℕ) (low : place < 64).
-    first.each n place below low
+    let long_all : length all ≡ length rows =
+    ap length parts
+    ∙ omega (
+      arith,
+      long_front,
+      long_group,
+      long_rest,
+      length-append front (contents group ++ contents rest),
+      length-append (contents group) (contents rest),
+    ) in
+    let Holds : ℕ → Type 0 = λ n. (place : ℕ) → place < 64 → 64 * n + place < length all
+    → column place (lane n vectors) ≡ get_or all (64 * n + place) [] in
+    let before = λ (n : ℕ) (below : n < number) (place : ℕ) (low : place < 64) (inside : 64 * n + place < length all).
+    first.each n place below low (omega (arith, same))
     ∙ sym (ap (λ (bs : List (List Bool)). get_or bs (64 * n + place) []) parts
     ∙ get_or_append_left front (contents group ++ contents rest) [] (64 * n + place) (omega (arith, long_front))
     ∙ get_or-take start (contents rows) (64 * n + place) [] (omega arith)) in
-    let here = λ (place : ℕ) (low : place < 64).
+    let here = λ (place : ℕ) (low : place < 64) (inside : 64 * number + place < length all).
+    let short : place < length (contents group) = omega (arith, long_group, long_all) in
     ap (column place) (sym is)
-    ∙ held.each place (rw long_group low)
+    ∙ held.each place short
     ∙ sym (ap (λ (bs : List (List Bool)). get_or bs (start + place) []) parts
     ∙ ap (λ (n : ℕ). get_or (front ++ (contents group ++ contents rest)) (n + place) []) (sym long_front)
     ∙ get_or-append-add front (contents group ++ contents rest) place []
-    ∙ get_or_append_left (contents group) (contents rest) [] place (rw long_group low)) in
+    ∙ get_or_append_left (contents group) (contents rest) [] place short) in
     let every = below_more Holds number before here in
-    record { each = λ n place below low. every n below place low }
+    record { each = λ n place below low inside. every n below place low inside }
 
 pub stored_fits : (lines start size : ℕ) (rows group : List (Vec Bool)) → AreRows lines rows → AreRows lines group
     → AreRows lines (take start rows ++ (group ++ drop size (drop start rows)))

@@ -31,9 +31,9 @@ planes_changed gates before behind loaded run same few held step kept =
     (λ k low. sym (kept.each k (omega arith)) ∙ step.each k (omega arith) ∙ ap (line_map gates) (held.each k low))
 
 pub lanes_changed : (gates : List GateView) (before behind : List (Vec Bool)) (loaded run : List (List ℕ)) → length behind ≡ length before
-    → length before ≡ 512 → HoldRowsInLanes (contents before) loaded → AreMappedInLanes gates loaded run → HoldRowsInLanes (contents behind) run
+    → length before ≤ 512 → HoldRowsInLanes (contents before) loaded → AreMappedInLanes gates loaded run → HoldRowsInLanes (contents behind) run
     → contents behind ≡ map (line_map gates) (contents before)
-lanes_changed gates before behind loaded run same full held step kept =
+lanes_changed gates before behind loaded run same few held step kept =
     let long = length-contents before in
     let long_behind = length-contents behind in
     each_changed (line_map gates) (contents before) (contents behind) (long_behind ∙ same ∙ sym long)
@@ -44,9 +44,21 @@ lanes_changed gates before behind loaded run same full held step kept =
     let place_below : place < 64 = omega arith in
     let is : 64 * number + place ≡ k = omega arith in
     ap (λ (n : ℕ). get_or (contents behind) n []) (sym is)
-    ∙ sym (kept.each number place lane_below place_below)
+    ∙ sym (kept.each number place place_below (rw is (omega arith)))
     ∙ (step.each number lane_below).each place place_below
-    ∙ ap (line_map gates) (held.each number place lane_below place_below ∙ ap (λ (n : ℕ). get_or (contents before) n []) is))
+    ∙ ap (line_map gates) (held.each number place place_below (rw is low) ∙ ap (λ (n : ℕ). get_or (contents before) n []) is))
+
+-- rows in two parts, each of which was changed by f
+pub parts_changed : (f : List Bool → List Bool) (rows front behind run_front run_behind : List (Vec Bool)) → rows ≡ front ++ behind
+    → contents run_front ≡ map f (contents front) → contents run_behind ≡ map f (contents behind)
+    → contents (run_front ++ run_behind) ≡ map f (contents rows)
+parts_changed f rows front behind run_front run_behind parts one other =
+    let bits = λ (r : Vec Bool). r.items in
+    map-append bits run_front run_behind
+    ∙ ap (λ (bs : List (List Bool)). bs ++ contents run_behind) one
+    ∙ ap (λ (bs : List (List Bool)). map f (contents front) ++ bs) other
+    ∙ sym (map-append f (contents front) (contents behind))
+    ∙ ap (map f) (sym (map-append bits front behind) ∙ ap contents (sym parts))
 
 -- ---- a group of rows at the front
 

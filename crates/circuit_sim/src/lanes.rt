@@ -20,6 +20,20 @@ pub fn run_lanes(circuit: &Circuit, planes: &mut [u64x8])
     }
 }
 
+// Runs a circuit on two such groups of contents at once: each gate is read once for both.
+pub fn run_pair(circuit: &Circuit, first: &mut [u64x8], second: &mut [u64x8])
+    requires lines { (length first.old ≡ circuit.now.lines)
+        × (length second.old ≡ circuit.now.lines) }
+    requires vectors { AreVectors first.old × AreVectors second.old }
+    ensures first { AreMappedInLanes circuit.now.gates first.old first.new }
+    ensures second { AreMappedInLanes circuit.now.gates second.old second.new }
+{
+    for gate in circuit.gates() {
+        run_gate(gate, first);
+        run_gate(gate, second);
+    }
+}
+
 fn run_gate(gate: &Gate, planes: &mut [u64x8])
     requires lines { AllByRecursion (λ line. line < length planes.old) (lines_of gate.now) }
     requires vectors { AreVectors planes.old }

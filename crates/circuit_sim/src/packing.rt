@@ -9,9 +9,6 @@ use std::simd::u64x8;
 // How many rows planes hold: one for each bit of a plane.
 pub const PLANE_ROWS: usize = 64;
 
-// The lanes of a vector.
-const LANES: usize = 8;
-
 // Puts rows on the planes, the first at place 0. The places behind the last hold 0.
 pub fn load(planes: &mut [u64], rows: &[Vec<bool>])
     requires few { length rows.now ≤ 64 }
@@ -67,18 +64,19 @@ fn store_row(planes: &[u64], place: usize, row: &mut [bool])
     }
 }
 
-// Puts 512 rows on the lanes, 64 on each, by way of planes.
+// Puts rows on the lanes, 64 on each, by way of planes. Lanes that have no row stay as they are.
 pub fn load_lanes(vectors: &mut [u64x8], planes: &mut [u64], rows: &[Vec<bool>])
-    requires full { length rows.now ≡ 512 }
+    requires few { length rows.now ≤ 512 }
     requires fit { AreRows (length planes.old) rows.now }
     requires lines { length vectors.old ≡ length planes.old }
     requires vectors { AreVectors vectors.old }
     ensures rows { HoldRowsInLanes (contents rows.now) vectors.new }
     ensures vectors { AreVectors vectors.new }
 {
-    for number in 0..LANES {
+    for number in 0..rows.len().div_ceil(PLANE_ROWS) {
         let start = PLANE_ROWS * number;
-        load(planes, &rows[start..start + PLANE_ROWS]);
+        let end = rows.len().min(start + PLANE_ROWS);
+        load(planes, &rows[start..end]);
         put_lane(vectors, number, planes);
     }
 }
@@ -103,19 +101,20 @@ fn with_plane(vector: u64x8, number: usize, plane: u64) -> u64x8
     u64x8::from_array(planes)
 }
 
-// Takes 512 rows from the lanes, 64 from each, by way of planes.
+// Takes rows from the lanes, 64 from each, by way of planes.
 pub fn store_lanes(vectors: &[u64x8], planes: &mut [u64], rows: &mut [Vec<bool>])
-    requires full { length rows.old ≡ 512 }
+    requires few { length rows.old ≤ 512 }
     requires fit { AreRows (length planes.old) rows.old }
     requires lines { length vectors.now ≡ length planes.old }
     requires vectors { AreVectors vectors.now }
     ensures rows { HoldRowsInLanes (contents rows.new) vectors.now }
     ensures fit { AreRows (length vectors.now) rows.new }
 {
-    for number in 0..LANES {
+    for number in 0..rows.len().div_ceil(PLANE_ROWS) {
         let start = PLANE_ROWS * number;
+        let end = rows.len().min(start + PLANE_ROWS);
         take_lane(vectors, number, planes);
-        store(planes, &mut rows[start..start + PLANE_ROWS]);
+        store(planes, &mut rows[start..end]);
     }
 }
 

@@ -5,7 +5,7 @@ ghost use Rattle.circuit_sim.specs.Planes.{AreVectors};
 ghost use Rattle.circuit_sim.specs.Rows.{AreRows, contents};
 ghost use Rattle.circuit_sim.specs.inside.Loaded.{IsFrontChanged};
 
-use crate::lanes::run_lanes;
+use crate::lanes::{run_lanes, run_pair};
 use crate::packing::{PLANE_ROWS, load, load_lanes, store, store_lanes};
 use crate::planes::run_planes;
 use mct_circuit::Circuit;
@@ -16,9 +16,12 @@ use std::simd::u64x8;
 // How many rows the lanes of vectors hold.
 const LANE_ROWS: usize = 512;
 
-/// Runs a circuit on each row, which has a bit for each line, line 0 first: 512 rows at a time by lanes, then 64 at a
-/// time by planes, and the rest by planes whose unused places hold 0. Each row becomes its line map. Memory is taken for
-/// nine words for each line; where it is wanting, the rows are unchanged.
+// How many rows go through the circuit at once.
+const MOST_ROWS: usize = 1_024;
+
+/// Runs a circuit on each row, which has a bit for each line, line 0 first: 1,024 rows at a time on the lanes of two
+/// vectors for each line, and the rest by one vector or plane where that holds them. Each row becomes its line map.
+/// Memory is taken for seventeen words for each line; where it is wanting, the rows are unchanged.
 pub fn run_all(alloc: Global, circuit: &Circuit, rows: &mut [Vec<bool>]) -> Result<(), Memory>
     requires { AreRows circuit.now.lines rows.old }
     ensures ok { OnOk result (contents rows.new
@@ -28,49 +31,82 @@ pub fn run_all(alloc: Global, circuit: &Circuit, rows: &mut [Vec<bool>]) -> Resu
 {
     let lines = circuit.lines() as usize;
     let mut planes = vec![in alloc; 0; lines]?;
-    let mut vectors = vec![in alloc; u64x8::splat(0); lines]?;
-    run_groups(circuit, &mut vectors, &mut planes, rows);
+    let mut first = vec![in alloc; u64x8::splat(0); lines]?;
+    let mut second = vec![in alloc; u64x8::splat(0); lines]?;
+    run_groups(circuit, &mut first, &mut second, &mut planes, rows);
     Ok(())
 }
 
-fn run_groups(circuit: &Circuit, vectors: &mut [u64x8], planes: &mut [u64], rows: &mut [Vec<bool>])
+fn run_groups(
+    circuit: &Circuit,
+    first: &mut [u64x8],
+    second: &mut [u64x8],
+    planes: &mut [u64],
+    rows: &mut [Vec<bool>],
+)
     requires planes { length planes.old ≡ circuit.now.lines }
-    requires lines { length vectors.old ≡ circuit.now.lines }
-    requires vectors { AreVectors vectors.old }
+    requires lines { (length first.old ≡ circuit.now.lines)
+        × (length second.old ≡ circuit.now.lines) }
+    requires vectors { AreVectors first.old × AreVectors second.old }
     requires fit { AreRows circuit.now.lines rows.old }
     ensures rows { contents rows.new ≡ map (line_map circuit.now.gates) (contents rows.old) }
     ensures fit { AreRows circuit.now.lines rows.new }
 {
     let mut start = 0;
     'groups: while start < rows.len() {
-        start += run_group(circuit, vectors, planes, &mut rows[start..]);
+        start += run_group(circuit, first, second, planes, &mut rows[start..]);
     }
 }
 
 // Runs the circuit on the rows at the front that go at once, and says how many those are.
 fn run_group(
     circuit: &Circuit,
-    vectors: &mut [u64x8],
+    first: &mut [u64x8],
+    second: &mut [u64x8],
     planes: &mut [u64],
     rows: &mut [Vec<bool>],
 ) -> usize
     requires some { 0 < length rows.old }
     requires planes { length planes.old ≡ circuit.now.lines }
-    requires lines { length vectors.old ≡ circuit.now.lines }
-    requires vectors { AreVectors vectors.old }
+    requires lines { (length first.old ≡ circuit.now.lines)
+        × (length second.old ≡ circuit.now.lines) }
+    requires vectors { AreVectors first.old × AreVectors second.old }
     requires fit { AreRows circuit.now.lines rows.old }
     ensures rows { IsFrontChanged (line_map circuit.now.gates) result
         (contents rows.old) (contents rows.new) }
-    ensures vectors { AreVectors vectors.new }
+    ensures vectors { AreVectors first.new × AreVectors second.new }
     ensures fit { AreRows circuit.now.lines rows.new }
 {
-    if rows.len() >= LANE_ROWS {
-        run_by_lanes(circuit, vectors, planes, &mut rows[..LANE_ROWS]);
-        return LANE_ROWS;
-    }
-    let count = rows.len().min(PLANE_ROWS);
-    run_by_planes(circuit, planes, &mut rows[..count]);
+    let count = rows.len().min(MOST_ROWS);
+    run_at_once(circuit, first, second, planes, &mut rows[..count]);
     count
+}
+
+// Runs the circuit on rows by what holds them all.
+fn run_at_once(
+    circuit: &Circuit,
+    first: &mut [u64x8],
+    second: &mut [u64x8],
+    planes: &mut [u64],
+    rows: &mut [Vec<bool>],
+)
+    requires few { length rows.old ≤ 1024 }
+    requires planes { length planes.old ≡ circuit.now.lines }
+    requires lines { (length first.old ≡ circuit.now.lines)
+        × (length second.old ≡ circuit.now.lines) }
+    requires vectors { AreVectors first.old × AreVectors second.old }
+    requires fit { AreRows circuit.now.lines rows.old }
+    ensures rows { contents rows.new ≡ map (line_map circuit.now.gates) (contents rows.old) }
+    ensures vectors { AreVectors first.new × AreVectors second.new }
+    ensures fit { AreRows circuit.now.lines rows.new }
+{
+    if rows.len() <= PLANE_ROWS {
+        run_by_planes(circuit, planes, rows);
+    } else if rows.len() <= LANE_ROWS {
+        run_by_lanes(circuit, first, planes, rows);
+    } else {
+        run_by_pair(circuit, first, second, planes, rows);
+    }
 }
 
 fn run_by_planes(circuit: &Circuit, planes: &mut [u64], rows: &mut [Vec<bool>])
@@ -91,7 +127,7 @@ fn run_by_lanes(
     planes: &mut [u64],
     rows: &mut [Vec<bool>],
 )
-    requires full { length rows.old ≡ 512 }
+    requires few { length rows.old ≤ 512 }
     requires planes { length planes.old ≡ circuit.now.lines }
     requires lines { length vectors.old ≡ circuit.now.lines }
     requires vectors { AreVectors vectors.old }
@@ -103,4 +139,30 @@ fn run_by_lanes(
     load_lanes(vectors, planes, rows);
     run_lanes(circuit, vectors);
     store_lanes(vectors, planes, rows);
+}
+
+fn run_by_pair(
+    circuit: &Circuit,
+    first: &mut [u64x8],
+    second: &mut [u64x8],
+    planes: &mut [u64],
+    rows: &mut [Vec<bool>],
+)
+    requires many { 512 ≤ length rows.old }
+    requires few { length rows.old ≤ 1024 }
+    requires planes { length planes.old ≡ circuit.now.lines }
+    requires lines { (length first.old ≡ circuit.now.lines)
+        × (length second.old ≡ circuit.now.lines) }
+    requires vectors { AreVectors first.old × AreVectors second.old }
+    requires fit { AreRows circuit.now.lines rows.old }
+    ensures rows { contents rows.new ≡ map (line_map circuit.now.gates) (contents rows.old) }
+    ensures vectors { AreVectors first.new × AreVectors second.new }
+    ensures fit { AreRows circuit.now.lines rows.new }
+{
+    let (front, behind) = rows.split_at_mut(LANE_ROWS);
+    load_lanes(first, planes, front);
+    load_lanes(second, planes, behind);
+    run_pair(circuit, first, second);
+    store_lanes(first, planes, front);
+    store_lanes(second, planes, behind);
 }

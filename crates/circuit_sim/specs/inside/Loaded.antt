@@ -27,7 +27,7 @@ pub record IsWithLane (number : ℕ) (planes : List ℕ) (before behind : List (
 
 -- the vectors hold the rows, 64 in each lane
 pub record HoldRowsInLanes (rows : List (List Bool)) (vectors : List (List ℕ)) : Type 0 where
-  pub each : (number place : ℕ) → number < 8 → place < 64
+  pub each : (number place : ℕ) → place < 64 → 64 * number + place < length rows
       → column place (lane number vectors) ≡ slice_index_or rows (64 * number + place) []
 
 -- so many rows at the front have been changed by f, and those behind them have not

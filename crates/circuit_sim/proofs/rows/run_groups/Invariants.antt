@@ -9,7 +9,7 @@ abbrev pub invariant-groups : goal.invariant-groups
 invariant-groups l = record {
   rows : IsPartlyChanged (line_map l.circuit.gates) l.start (contents l.fn.rows) (contents l.rows);
   fit : AreRows l.circuit.lines l.rows;
-  vectors : AreVectors l.vectors;
+  vectors : AreVectors l.first × AreVectors l.second;
 }
 
 abbrev pub decreases-groups : goal.decreases-groups
