@@ -56,6 +56,15 @@ impl QasmFile {
     {
         &self.circuit
     }
+
+    /// The circuit, given away. It takes no memory.
+    pub fn into_circuit(self) -> Circuit
+        ensures gates { result.gates ≡ self.gates }
+        ensures lines { result.lines ≡ lines_of_all self.registers }
+    {
+        let QasmFile { circuit, .. } = self;
+        circuit
+    }
 }
 
 /// Why a text means no file: the place of the first token that breaks a rule (`Token`), or that passes a limit and

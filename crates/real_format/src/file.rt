@@ -125,4 +125,21 @@ impl RealFile {
     {
         &self.circuit
     }
+
+    /// The marks of the lines and the circuit on them, given away. It takes no memory.
+    pub fn into_parts(self) -> (Vec<Mark>, Vec<bool>, Circuit)
+        ensures constants { result.0.items ≡ self.constants }
+        ensures garbage { result.1.items ≡ self.garbage }
+        ensures gates { result.2.gates ≡ self.gates }
+        ensures lines { result.2.lines ≡ length self.constants }
+        ensures fit { length self.garbage ≡ length self.constants }
+    {
+        let RealFile {
+            constants,
+            garbage,
+            circuit,
+            ..
+        } = self;
+        (constants, garbage, circuit)
+    }
 }
