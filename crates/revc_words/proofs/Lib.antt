@@ -1,6 +1,9 @@
 pub mod ValueLemmas
-pub mod SettingLemmas
-pub mod FlagLemmas
-pub mod ReadingLemmas
+pub mod WalkLemmas
+pub mod RowLemmas
+pub mod SaidLemmas
+pub mod ReadsLemmas
 pub mod OrderLemmas
+pub mod LimitLemmas
 pub mod LoopLemmas
+pub mod ParsingLemmas

@@ -1,24 +1,39 @@
--- What is found word by word is the one order of the words.
-use Rattle.std.specs.Prelude.{slice_index_or}
+-- What a parse finds is the one order of the words.
+use Rattle.std.specs.Prelude.{slice_index_or, ◌↔◌, Result, Ok, Err, IfOk, IsErrOf, IsErrAnd}
 use Rattle.std.specs.declared.string.String.{String}
-use Rattle.std.proofs.Common.{take_all, take, drop, map, string_bytes, Global, ◌-◌, ◌≤◌, arith, ◌≡◌, ◌≢◌, ℕ, Bool, true, false, List, [], ◌∷◌, length, Option, Some, None, refl, sym, ap, ◌∙◌, subst}
+use Rattle.std.proofs.Common.{drop, map, string_bytes, Global, ◌≤◌, ◌<◌, arith, ◌≡◌, ◌≢◌, ℕ, zero, suc, true, false, List, [], ◌∷◌, length, get_or, Option, Some, None, cond, refl, sym, ap, ◌∙◌, subst, codes, inl, inr}
+use Rattle.std.specs.List.{AllByRecursion, list_all}
+use Rattle.std.specs.Option.{option_map, option_and_then}
+use Rattle.std.specs.Str.{bytes_eq}
+use Rattle.std.proofs.lemmas.Bool.{false≢true}
+use Rattle.std.proofs.lemmas.Bool.Decides.{nat_tests}
 use Rattle.std.proofs.lemmas.Option.{same_Some}
+use Rattle.std.proofs.lemmas.Slice.Eq.{bytes_eq-Decides}
+use Rattle.std.proofs.lemmas.Str.{IsUtf8-string_bytes}
+use Rattle.clap.specs.Simple.{argument_words, built}
+use Rattle.clap.specs.Words.{Row, first_of}
+use Rattle.plan_choice.specs.declared.choice.How.{How}
+use Rattle.program_gen.specs.declared.adder.TheConstants.{MOST_BITS}
+use Rattle.revc_words.specs.declared.fault.WordsFault.{WordsFault}
+use Rattle.revc_words.specs.declared.fault.WordsFault.TheVariants as faults
+use Rattle.revc_words.specs.declared.order.Order.{Order}
 use Rattle.revc_words.specs.declared.order.Command.{Command}
-use Rattle.revc_words.specs.declared.order.Command.TheVariants.{Compile, Check, Eval, Stat, Run}
-use Rattle.revc_words.specs.declared.options.OptionName.{OptionName}
-use Rattle.revc_words.specs.declared.options.OptionName.TheVariants.{Plan, Lines, Gates, Borrow, Nodes, Format, From}
-use Rattle.revc_words.specs.declared.options.Settings.{Settings}
-use Rattle.revc_words.specs.Words.{OrderView, IsOrder, HasNoOrder, OneOrder, TakesWords, Setting, Reads, name_of, options_of, IsGivenOnce}
-use Rattle.revc_words.specs.inside.Scanning.{Found, text_of, first_with, no_settings, order_with, scan_start, found_of, counted}
-use Rattle.revc_words.proofs.ValueLemmas.{plan_rule, lines_rule, gates_rule, borrow_rule, nodes_rule, format_rule, from_rule}
-use Rattle.revc_words.proofs.SettingLemmas.{AtMostOnce, AreSettled, slots_of, settle, settled, settles, gives_once, once_by, right, kept}
-use Rattle.revc_words.proofs.ReadingLemmas.{with_plain, reads_so, are_options, readable, some_of_map}
+use Rattle.revc_words.specs.declared.order.Command.TheVariants.{Compile, Check, Eval, Stat, Run, Convert, Gen, Bench}
+use Rattle.revc_words.specs.declared.order.Format.{Format}
+use Rattle.revc_words.specs.declared.order.Format.TheVariants.{Real, Qasm}
+use Rattle.revc_words.specs.declared.values.Values.{Values}
+use Rattle.revc_words.specs.Words.{order_of, OrderView, IsOrder, HasNoOrder, OneOrder, TakesWords, TakesNumber, Setting, Reads, nothing_left, all_behind, joined, parted, positional, IsOneOf, name_of, options_of, first_word, is_option, value_of, IsGivenOnce}
+use Rattle.revc_words.specs.inside.Parsing.{Texts, app_for, bits_for, first_with, number_for, number_of, order_by, order_for, order_of_texts, order_with, parsed, takes_any, takes_count, texts_in, values_of}
+use Rattle.revc_words.proofs.ValueLemmas.{plan_rule, lines_rule, gates_rule, borrow_rule, nodes_rule, format_rule, number_says, number_found, right, kept, text_is_no_option}
+use Rattle.revc_words.proofs.WalkLemmas.{by_test, is_one_of, filled_app, run, clap_says, AreTexts}
+use Rattle.revc_words.proofs.SaidLemmas.{Said, said, read, reached, parsed as ends, Fits, AreNew, AreOnce, AreValues, IsNever}
+use Rattle.revc_words.proofs.ReadsLemmas.{is_name, known, reads, reads_so}
 
 -- ---- commands
 
 -- the command with this name
 command_of : List ℕ → Option Command
-command_of name = first_with name_of (Compile ∷ Check ∷ Eval ∷ Stat ∷ Run ∷ []) name
+command_of name = first_with name_of (Compile ∷ Check ∷ Eval ∷ Stat ∷ Run ∷ Convert ∷ Gen ∷ Bench ∷ []) name
 
 command_of_name : (command : Command) → command_of (name_of command) ≡ Some command
 unfolding command_of
@@ -27,6 +42,9 @@ command_of_name Check = refl
 command_of_name Eval = refl
 command_of_name Stat = refl
 command_of_name Run = refl
+command_of_name Convert = refl
+command_of_name Gen = refl
+command_of_name Bench = refl
 
 one_command : (one other : Command) → name_of one ≡ name_of other → one ≡ other
 one_command one other e = same_Some _ _ (sym (command_of_name one) ∙ ap command_of e ∙ command_of_name other)
@@ -34,122 +52,459 @@ one_command one other e = same_Some _ _ (sym (command_of_name one) ∙ ap comman
 heads : {A : Type 0} {a b : A} {xs ys : List A} → a ∷ xs ≡ b ∷ ys → (a ≡ b) × (xs ≡ ys)
 heads e = (cc, cc)
 
--- ---- what is found is an order
+-- its options have good names
+option_names : (command : Command) → list_all is_name (options_of command) ≡ true
+option_names Compile = refl
+option_names Check = refl
+option_names Eval = refl
+option_names Stat = refl
+option_names Run = refl
+option_names Convert = refl
+option_names Gen = refl
+option_names Bench = refl
 
-abbrev pub view_of : Command → Found → OrderView
-view_of command found = order_with command found.settings found.plain
+no_word_option : (command : Command) → is_one_of (options_of command) (codes "word") ≡ false
+no_word_option Compile = refl
+no_word_option Check = refl
+no_word_option Eval = refl
+no_word_option Stat = refl
+no_word_option Run = refl
+no_word_option Convert = refl
+no_word_option Gen = refl
+no_word_option Bench = refl
 
-given_once : (command : Command) {behind plain : List (List ℕ)} {given : List Setting} (settings : Settings)
-    → Reads (options_of command) behind given plain → AreSettled (slots_of no_settings given) settings → IsGivenOnce given
-given_once command {behind} {plain} {given} settings read is = gives_once given (are_options command read) each
-  where
-    each : (option : OptionName) → AtMostOnce (text_of option) given
-    each Plan = once_by plan_rule given settings.plan is.plan
-    each Lines = once_by lines_rule given settings.lines is.lines
-    each Gates = once_by gates_rule given settings.gates is.gates
-    each Borrow = once_by borrow_rule given settings.borrow is.borrow
-    each Nodes = once_by nodes_rule given settings.nodes is.nodes
-    each Format = once_by format_rule given settings.format is.format
-    each From = once_by from_rule given settings.from is.from
+-- the command that clap builds of it
+builds : (command : Command) → built (app_for command) ≡ filled_app (name_of command) (options_of command) (takes_any command)
+builds Compile = refl
+builds Check = refl
+builds Eval = refl
+builds Stat = refl
+builds Run = refl
+builds Convert = refl
+builds Gen = refl
+builds Bench = refl
 
-pub order_is : (words behind : List (List ℕ)) (command : Command) (found : Found) → words ≡ name_of command ∷ behind
-    → found_of command behind scan_start ≡ Some found → TakesWords command (length found.plain) → IsOrder words (view_of command found)
-order_is words behind command found named e count =
-    let reading = readable command behind no_settings (ap (λ o. is_some_of o) e) in
-    let settle_it = some_of_map (λ s. let f : Found = record { settings = s; plain = reading.plain } in f) (settle no_settings reading.given) found
-    (sym (reads_so command reading.read no_settings) ∙ e) in
-    let settings = settle_it.0 in
-    let slots = slots_of no_settings reading.given in
-    let is = settled slots.plan slots.lines slots.gates slots.borrow slots.nodes slots.format slots.from settings settle_it.1 in
-    let same = settle_it.2 in
-    let made : Found = record { settings = settings; plain = reading.plain } in
-    let here : IsOrder words (view_of command made) = record {
-      behind = behind;
-      given = reading.given;
-      named = named;
-      read = reading.read;
-      once = given_once command settings reading.read is;
-      count = subst (λ (f : Found). TakesWords command (length f.plain)) (sym same) count;
-      plan = right plan_rule reading.given settings.plan is.plan;
-      lines = right lines_rule reading.given settings.lines is.lines;
-      gates = right gates_rule reading.given settings.gates is.gates;
-      borrow = right borrow_rule reading.given settings.borrow is.borrow;
-      nodes = right nodes_rule reading.given settings.nodes is.nodes;
-      format = right format_rule reading.given settings.format is.format;
-      from = right from_rule reading.given settings.from is.from;
-    } in
-    subst (λ (f : Found). IsOrder words (view_of command f)) same here
-  where
-    is_some_of : Option Found → Bool
-    is_some_of None = false
-    is_some_of (Some f) = true
+arguments : (command : Command) (words behind : List (List ℕ)) → words ≡ name_of command ∷ behind → argument_words (app_for command) words ≡ behind
+arguments Compile words behind e = ap (drop 1) e
+arguments Check words behind e = ap (drop 1) e
+arguments Eval words behind e = ap (drop 1) e
+arguments Stat words behind e = ap (drop 1) e
+arguments Run words behind e = ap (drop 1) e
+arguments Convert words behind e = ap (drop 1) e
+arguments Gen words behind e = ap (drop 1) e
+arguments Bench words behind e = ap (drop 1) e
 
--- ---- an order is what is found
+parsed_so : (command : Command) (words behind : List (List ℕ)) → words ≡ name_of command ∷ behind → AreTexts behind
+    → parsed command words ≡ run (options_of command) (takes_any command) behind None []
+parsed_so command words behind e texts =
+    clap_says (app_for command) (name_of command) (options_of command) (takes_any command) (builds command) (no_word_option command) words behind
+    (arguments command words behind e) texts
 
-pub record IsFound (command : Command) (behind : List (List ℕ)) (order : OrderView) : Type 0 where
-  pub what : Found
-  pub found : found_of command behind scan_start ≡ Some what
-  pub is : order ≡ view_of command what
-  pub count : TakesWords command (length what.plain)
+-- ---- what a command takes its positional words for
 
-found_there : (words : List (List ℕ)) (order : OrderView) → (is : IsOrder words order) → IsFound order.command is.behind order
-found_there words order is =
-    let given = is.given in
-    let plan = kept plan_rule given order.plan is.once is.plan in
-    let lines = kept lines_rule given order.lines is.once is.lines in
-    let gates = kept gates_rule given order.gates is.once is.gates in
-    let borrow = kept borrow_rule given order.borrow is.once is.borrow in
-    let nodes = kept nodes_rule given order.nodes is.once is.nodes in
-    let format = kept format_rule given order.format is.once is.format in
-    let from = kept from_rule given order.from is.once is.from in
-    let settings : Settings = record {
-      plan = plan.0;
-      lines = lines.0;
-      gates = gates.0;
-      borrow = borrow.0;
-      nodes = nodes.0;
-      format = format.0;
-      from = from.0;
-    } in
-    let settled_so : AreSettled (slots_of no_settings given) settings = record {
-      plan = plan.1;
-      lines = lines.1;
-      gates = gates.1;
-      borrow = borrow.1;
-      nodes = nodes.1;
-      format = format.1;
-      from = from.1;
-    } in
+one_word : (plain : List (List ℕ)) → length plain ≡ 1 → plain ≡ first_word plain ∷ []
+one_word [] one = absurd (omega arith)
+one_word (word ∷ []) one = refl
+one_word (word ∷ more ∷ rest) one = absurd (omega arith)
+
+number_so : (plain : List (List ℕ)) (number : ℕ) → length plain ≡ 1 → number_of 1 MOST_BITS (first_word plain) ≡ Some number
+    → TakesNumber plain [] number
+number_so plain number one is = record {
+  word = first_word plain;
+  only = one_word plain one;
+  in_range = number_says 1 MOST_BITS (first_word plain) number is;
+  no_bits = refl;
+}
+
+number_gives : (plain bits : List (List ℕ)) (number : ℕ) → (is : TakesNumber plain bits number)
+    → (length plain ≡ 1) × (number_of 1 MOST_BITS (first_word plain) ≡ Some number)
+number_gives plain bits number is = (
+  ap length is.only,
+  ap (λ (ws : List (List ℕ)). number_of 1 MOST_BITS (first_word ws)) is.only ∙ number_found 1 MOST_BITS is.word number is.in_range,
+)
+
+zero_is : (number : ℕ) → Some 0 ≡ Some number → number ≡ 0
+zero_is number e = sym (same_Some _ _ e)
+
+takes_so : (command : Command) (plain : List (List ℕ)) (number : ℕ) → takes_count command (length plain) ≡ true → number_for command plain ≡ Some number
+    → TakesWords command plain (bits_for command plain) number
+takes_so Compile plain number count is = (grind (arith, nat_tests, count), record { same = refl; no_number = zero_is number is })
+takes_so Check plain number count is = (grind (arith, nat_tests, count), record { same = refl; no_number = zero_is number is })
+takes_so Eval plain number count is = (grind (arith, nat_tests, count), record { same = refl; no_number = zero_is number is })
+takes_so Stat plain number count is = (grind (arith, nat_tests, count), record { same = refl; no_number = zero_is number is })
+takes_so Run plain number count is = (grind (arith, nat_tests, count), record { same = refl; no_number = zero_is number is })
+takes_so Convert plain number count is = (grind (arith, nat_tests, count), record { same = refl; no_number = zero_is number is })
+takes_so Gen plain number count is = number_so plain number (grind (arith, nat_tests, count)) is
+takes_so Bench plain number count is = number_so plain number (grind (arith, nat_tests, count)) is
+
+-- the count, the number and the bits
+takes_gives : (command : Command) (plain bits : List (List ℕ)) (number : ℕ) → TakesWords command plain bits number
+    → (takes_count command (length plain) ≡ true) × (number_for command plain ≡ Some number) × (bits ≡ bits_for command plain)
+takes_gives Compile plain bits number is = let n = is.0 in (grind (arith, nat_tests), ap Some (sym is.1.no_number), is.1.same)
+takes_gives Check plain bits number is = let n = is.0 in (grind (arith, nat_tests), ap Some (sym is.1.no_number), is.1.same)
+takes_gives Eval plain bits number is = let n = is.0 in (grind (arith, nat_tests), ap Some (sym is.1.no_number), is.1.same)
+takes_gives Stat plain bits number is = let n = is.0 in (grind (arith, nat_tests), ap Some (sym is.1.no_number), is.1.same)
+takes_gives Run plain bits number is = let n = is.0 in (grind (arith, nat_tests), ap Some (sym is.1.no_number), is.1.same)
+takes_gives Convert plain bits number is = let n = is.0 in (grind (arith, nat_tests), ap Some (sym is.1.no_number), is.1.same)
+takes_gives Gen plain bits number is =
+    let said = number_gives plain bits number is in let n = said.0 in (grind (arith, nat_tests), said.1, is.no_bits)
+takes_gives Bench plain bits number is =
+    let said = number_gives plain bits number is in let n = said.0 in (grind (arith, nat_tests), said.1, is.no_bits)
+
+no_length : (plain : List (List ℕ)) → length plain ≡ 0 → plain ≡ []
+no_length [] e = refl
+no_length (word ∷ plain) e = absurd (omega arith)
+
+takes_none : (command : Command) (plain bits : List (List ℕ)) (number : ℕ) → TakesWords command plain bits number → takes_any command ≡ false → plain ≡ []
+takes_none Compile plain bits number is none = no_length plain is.0
+takes_none Check plain bits number is none = no_length plain is.0
+takes_none Eval plain bits number is none = absurd (false≢true (sym none))
+takes_none Stat plain bits number is none = no_length plain is.0
+takes_none Run plain bits number is none = absurd (false≢true (sym none))
+takes_none Convert plain bits number is none = no_length plain is.0
+takes_none Gen plain bits number is none = absurd (false≢true (sym none))
+takes_none Bench plain bits number is none = absurd (false≢true (sym none))
+
+-- ---- the texts that are given
+
+abbrev texts_of : List Setting → Texts
+texts_of given = record {
+  plan = value_of (codes "plan") given;
+  lines = value_of (codes "lines") given;
+  gates = value_of (codes "gates") given;
+  borrow = value_of (codes "borrow") given;
+  nodes = value_of (codes "nodes") given;
+  format = value_of (codes "format") given;
+  from = value_of (codes "from") given;
+  to = value_of (codes "to") given;
+}
+
+same_texts : (rows : List Row) (given : List Setting)
+    → ((id : List ℕ) → bytes_eq (codes "word") id ≡ false → first_of id rows ≡ value_of id given) → texts_in rows ≡ texts_of given
+same_texts rows given h = λ i. record {
+  plan = h (codes "plan") refl i;
+  lines = h (codes "lines") refl i;
+  gates = h (codes "gates") refl i;
+  borrow = h (codes "borrow") refl i;
+  nodes = h (codes "nodes") refl i;
+  format = h (codes "format") refl i;
+  from = h (codes "from") refl i;
+  to = h (codes "to") refl i;
+}
+
+abbrev order_said : Command → Said → Option OrderView
+order_said command what = order_of_texts command (texts_of what.given) what.plain
+
+-- the rows of a parse are made of what the words say
+record IsFound (command : Command) (behind : List (List ℕ)) (rows : List Row) : Type 0 where
+  what : Said
+  found : read (options_of command) behind None ≡ Some what
+  once : AreOnce what.given
+  same : order_for command rows ≡ order_said command what
+
+found_rows : (command : Command) (words behind : List (List ℕ)) (rows : List Row) → words ≡ name_of command ∷ behind → AreTexts behind
+    → parsed command words ≡ Some rows → IsFound command behind rows
+found_rows command words behind rows named texts e =
+    let it = reached (options_of command) (takes_any command) (no_word_option command) behind None tt [] rows
+    (sym (parsed_so command words behind named texts) ∙ e) in
     record {
-      what = record { settings = settings; plain = order.bits };
-      found = reads_so order.command is.read no_settings
-          ∙ ap (λ s. with_plain order.bits s) (settles (slots_of no_settings given) settings settled_so);
-      is = λ i. record {
-        command = order.command;
-        plan = plan.2 i;
-        lines = lines.2 i;
-        gates = gates.2 i;
-        borrow = borrow.2 i;
-        nodes = nodes.2 i;
-        format = format.2 i;
-        from = from.2 i;
-        bits = order.bits;
-      };
-      count = is.count;
+      what = it.what;
+      found = it.found;
+      once = it.once;
+      same = λ i. order_of_texts command (same_texts rows it.what.given it.values i) (it.plain i);
     }
 
-pub is_found : (words behind : List (List ℕ)) (command : Command) (order : OrderView) → words ≡ name_of command ∷ behind → IsOrder words order
-    → IsFound command behind order
-is_found words behind command order named is =
-    let parts = heads (sym is.named ∙ named) in
-    subst (λ (ws : List (List ℕ)). IsFound command ws order) parts.1
-    (subst (λ (c : Command). IsFound c is.behind order) (one_command order.command command parts.0) (found_there words order is))
+-- ---- the values of the texts
+
+and_says : {A B : Type 0} (f : A → Option B) (found : Option A) (b : B) → option_and_then f found ≡ Some b → (a : A) × (found ≡ Some a) × (f a ≡ Some b)
+and_says f None b e = absurd cc
+and_says f (Some a) b e = (a, refl, e)
+
+map_says : {A B : Type 0} (f : A → B) (found : Option A) (b : B) → option_map f found ≡ Some b → (a : A) × (found ≡ Some a) × (f a ≡ b)
+map_says f None b e = absurd cc
+map_says f (Some a) b e = (a, refl, same_Some _ _ e)
+
+abbrev values_from : Option How → Option ℕ → Option ℕ → Option ℕ → Option ℕ → Option Format → Option Format → Option Format → Option Values
+values_from plan lines gates borrow nodes format from to =
+    option_and_then (λ plan.
+    option_and_then (λ lines.
+    option_and_then (λ gates.
+    option_and_then (λ borrow.
+    option_and_then (λ nodes.
+    option_and_then (λ format.
+    option_and_then (λ from.
+    option_and_then (λ to. Some (let all : Values = record {
+      plan = plan;
+      lines = lines;
+      gates = gates;
+      borrow = borrow;
+      nodes = nodes;
+      format = format;
+      from = from;
+      to = to;
+    } in all)) to) from) format) nodes) borrow) gates) lines) plan
+
+record AreAll (plan : Option How) (lines gates borrow nodes : Option ℕ) (format from to : Option Format) (v : Values) : Type 0 where
+  plan_is : plan ≡ Some v.plan
+  lines_is : lines ≡ Some v.lines
+  gates_is : gates ≡ Some v.gates
+  borrow_is : borrow ≡ Some v.borrow
+  nodes_is : nodes ≡ Some v.nodes
+  format_is : format ≡ Some v.format
+  from_is : from ≡ Some v.from
+  to_is : to ≡ Some v.to
+
+no_values : (v : Values) → None ≡ Some v → ⊥
+no_values v e = absurd cc
+
+all_values : (plan : Option How) (lines gates borrow nodes : Option ℕ) (format from to : Option Format) (v : Values)
+    → values_from plan lines gates borrow nodes format from to ≡ Some v → AreAll plan lines gates borrow nodes format from to v
+all_values None lines gates borrow nodes format from to v e = absurd (no_values v e)
+all_values (Some plan) None gates borrow nodes format from to v e = absurd (no_values v e)
+all_values (Some plan) (Some lines) None borrow nodes format from to v e = absurd (no_values v e)
+all_values (Some plan) (Some lines) (Some gates) None nodes format from to v e = absurd (no_values v e)
+all_values (Some plan) (Some lines) (Some gates) (Some borrow) None format from to v e = absurd (no_values v e)
+all_values (Some plan) (Some lines) (Some gates) (Some borrow) (Some nodes) None from to v e = absurd (no_values v e)
+all_values (Some plan) (Some lines) (Some gates) (Some borrow) (Some nodes) (Some format) None to v e = absurd (no_values v e)
+all_values (Some plan) (Some lines) (Some gates) (Some borrow) (Some nodes) (Some format) (Some from) None v e = absurd (no_values v e)
+all_values (Some plan) (Some lines) (Some gates) (Some borrow) (Some nodes) (Some format) (Some from) (Some to) v e =
+    let same = same_Some _ _ e in
+    record {
+      plan_is = ap (λ (all : Values). Some all.plan) same;
+      lines_is = ap (λ (all : Values). Some all.lines) same;
+      gates_is = ap (λ (all : Values). Some all.gates) same;
+      borrow_is = ap (λ (all : Values). Some all.borrow) same;
+      nodes_is = ap (λ (all : Values). Some all.nodes) same;
+      format_is = ap (λ (all : Values). Some all.format) same;
+      from_is = ap (λ (all : Values). Some all.from) same;
+      to_is = ap (λ (all : Values). Some all.to) same;
+    }
+
+-- ---- each option is given once
+
+never_by : (name : List ℕ) (given : List Setting) → ((j : ℕ) (d : Setting) → j < length given → name ≢ (get_or given j d).name) → IsNever name given
+never_by name [] f = tt
+never_by name (one ∷ given) f = (
+  by_test (bytes_eq name one.name) (λ t. absurd (f 0 one (omega arith) ((bytes_eq-Decides name one.name).0 t))) (λ e. e),
+  never_by name given (λ j d lt. f (suc j) d (omega arith)),
+)
+
+once_gives : (given : List Setting) → IsGivenOnce given → AreOnce given
+once_gives [] once = tt
+once_gives (one ∷ given) once = (
+  never_by one.name given (λ j d lt. once 0 (suc j) d (omega arith) (omega arith)),
+  once_gives given (λ i j d lt within. once (suc i) (suc j) d (omega arith) (omega arith)),
+)
+
+never_at : (name : List ℕ) (given : List Setting) (j : ℕ) (d : Setting) → IsNever name given → j < length given → name ≢ (get_or given j d).name
+never_at name [] j d never lt = absurd (omega arith)
+never_at name (one ∷ given) zero d never lt = λ same. false≢true (sym never.0 ∙ (bytes_eq-Decides name one.name).1 same)
+never_at name (one ∷ given) (suc j) d never lt = never_at name given j d never.1 (omega arith)
+
+gives_once : (given : List Setting) → AreOnce given → IsGivenOnce given
+gives_once [] once i j d lt within = absurd (omega arith)
+gives_once (one ∷ given) once zero zero d lt within = absurd (omega arith)
+gives_once (one ∷ given) once zero (suc j) d lt within = never_at one.name given j d once.0 (omega arith)
+gives_once (one ∷ given) once (suc i) zero d lt within = absurd (omega arith)
+gives_once (one ∷ given) once (suc i) (suc j) d lt within = gives_once given once.1 i j d (omega arith) (omega arith)
+
+-- ---- what the words say is an order
+
+order_is : (words behind : List (List ℕ)) (command : Command) (what : Said) (order : OrderView) → words ≡ name_of command ∷ behind
+    → read (options_of command) behind None ≡ Some what → AreOnce what.given → order_said command what ≡ Some order → IsOrder words order
+order_is words behind command what order named found once e =
+    let valued = and_says (order_by command what.plain) (values_of (texts_of what.given)) order e in
+    let values = valued.0 in
+    let all = all_values _ _ _ _ _ _ _ _ values valued.1 in
+    by_test (takes_count command (length what.plain))
+    (λ t.
+    let numbered = map_says (λ number. order_with command values number (bits_for command what.plain)) (number_for command what.plain) order
+    (rw t at valued.2) in
+    let number = numbered.0 in
+    let here : IsOrder words (order_with command values number (bits_for command what.plain)) = record {
+      behind = behind;
+      given = what.given;
+      plain = what.plain;
+      named = named;
+      read = reads (options_of command) behind what found;
+      once = gives_once what.given once;
+      takes = takes_so command what.plain number t numbered.1;
+      plan = right plan_rule (value_of (codes "plan") what.given) values.plan all.plan_is;
+      lines = right lines_rule (value_of (codes "lines") what.given) values.lines all.lines_is;
+      gates = right gates_rule (value_of (codes "gates") what.given) values.gates all.gates_is;
+      borrow = right borrow_rule (value_of (codes "borrow") what.given) values.borrow all.borrow_is;
+      nodes = right nodes_rule (value_of (codes "nodes") what.given) values.nodes all.nodes_is;
+      format = right (format_rule Real) (value_of (codes "format") what.given) values.format all.format_is;
+      from = right (format_rule Real) (value_of (codes "from") what.given) values.from all.from_is;
+      to = right (format_rule Qasm) (value_of (codes "to") what.given) values.to all.to_is;
+    } in
+    subst (λ (o : OrderView). IsOrder words o) numbered.2 here)
+    (λ f. absurd (none order (rw f at valued.2)))
+  where
+    none : (o : OrderView) → None ≡ Some o → ⊥
+    none o e = absurd cc
+
+-- ---- an order is what the words say
+
+said_so : (words : List (List ℕ)) (order : OrderView) → (is : IsOrder words order) → order_said order.command (said is.given is.plain) ≡ Some order
+said_so words order is =
+    let taken = takes_gives order.command is.plain order.bits order.number is.takes in
+    let values : Values = record {
+      plan = order.plan;
+      lines = order.lines;
+      gates = order.gates;
+      borrow = order.borrow;
+      nodes = order.nodes;
+      format = order.format;
+      from = order.from;
+      to = order.to;
+    } in
+    let valued : values_of (texts_of is.given) ≡ Some values = λ i. values_from
+    (kept plan_rule (value_of (codes "plan") is.given) order.plan is.plan i)
+    (kept lines_rule (value_of (codes "lines") is.given) order.lines is.lines i)
+    (kept gates_rule (value_of (codes "gates") is.given) order.gates is.gates i)
+    (kept borrow_rule (value_of (codes "borrow") is.given) order.borrow is.borrow i)
+    (kept nodes_rule (value_of (codes "nodes") is.given) order.nodes is.nodes i)
+    (kept (format_rule Real) (value_of (codes "format") is.given) order.format is.format i)
+    (kept (format_rule Real) (value_of (codes "from") is.given) order.from is.from i)
+    (kept (format_rule Qasm) (value_of (codes "to") is.given) order.to is.to i) in
+    ap (option_and_then (order_by order.command is.plain)) valued
+    ∙ ap (λ t. cond t (option_map (λ number. order_with order.command values number (bits_for order.command is.plain)) (number_for order.command is.plain)) None)
+    taken.0
+    ∙ ap (option_map (λ number. order_with order.command values number (bits_for order.command is.plain))) taken.1
+    ∙ ap (λ bits. Some (order_with order.command values order.number bits)) (sym taken.2)
+
+reads_it : (words : List (List ℕ)) (order : OrderView) → (is : IsOrder words order)
+    → read (options_of order.command) is.behind None ≡ Some (said is.given is.plain)
+reads_it words order is = reads_so (options_of order.command) (option_names order.command) is.read
 
 pub one_order : OneOrder
 one_order words one other a b =
-    let left = found_there words one a in
-    let right = is_found words a.behind one.command other a.named b in
-    left.is ∙ ap (view_of one.command) (same_Some _ _ (sym left.found ∙ right.found)) ∙ sym right.is
+    let parts = heads (sym a.named ∙ b.named) in
+    let same = one_command one.command other.command parts.0 in
+    let both : said a.given a.plain ≡ said b.given b.plain =
+    same_Some _ _ (sym (reads_it words one a) ∙ (λ i. read (options_of (same i)) (parts.1 i) None) ∙ reads_it words other b) in
+    same_Some _ _ (sym (said_so words one a) ∙ (λ i. order_said (same i) (both i)) ∙ said_so words other b)
+
+-- ---- an order is parsed
+
+given_known : (options : List (List ℕ)) {words plain : List (List ℕ)} {given : List Setting} → Reads options words given plain
+    → AllByRecursion (λ one. IsOneOf options one.name) given
+given_known options nothing_left = tt
+given_known options (all_behind is) = tt
+given_known options (joined one is_one is rest) = (is_one, given_known options rest)
+given_known options (parted one is_one is no_end rest) = (is_one, given_known options rest)
+given_known options (positional is rest) = given_known options rest
+
+-- each option has the value that it is given with
+own_values : (given : List Setting) → AreOnce given → AllByRecursion (λ one. value_of one.name given ≡ Some one.value) given
+own_values [] once = tt
+own_values (one ∷ given) once = (
+  ap (λ t. cond t (Some one.value) (value_of one.name given)) ((bytes_eq-Decides one.name one.name).1 refl),
+  behind given once.0 (own_values given once.1),
+)
+  where
+    behind : (rest : List Setting) → IsNever one.name rest → AllByRecursion (λ other. value_of other.name given ≡ Some other.value) rest
+        → AllByRecursion (λ other. value_of other.name (one ∷ given) ≡ Some other.value) rest
+    behind [] never values = tt
+    behind (other ∷ rest) never values = (
+      ap (λ t. cond t (Some one.value) (value_of other.name given)) never.0 ∙ values.0,
+      behind rest never.1 values.1,
+    )
+
+-- a value that is given to an option of this name is no option
+record IsSafe (given : List Setting) (name : List ℕ) : Type 0 where
+  each : (word : List ℕ) → value_of name given ≡ Some word → is_option word ≡ false
+
+among : (P : List ℕ → Type 0) (options : List (List ℕ)) (name : List ℕ) → AllByRecursion P options → IsOneOf options name → P name
+among P [] name all is = absurd is
+among P (option ∷ options) name all (inl same) = subst P (sym same) all.0
+among P (option ∷ options) name all (inr rest) = among P options name all.1 rest
+
+safe : (words : List (List ℕ)) (order : OrderView) → (is : IsOrder words order) → AllByRecursion (IsSafe is.given) (options_of order.command)
+safe words order is = all order.command
+  where
+    plan : IsSafe is.given (codes "plan")
+    plan = record { each = λ word e. text_is_no_option plan_rule (value_of (codes "plan") is.given) order.plan word is.plan e }
+
+    lines : IsSafe is.given (codes "lines")
+    lines = record { each = λ word e. text_is_no_option lines_rule (value_of (codes "lines") is.given) order.lines word is.lines e }
+
+    gates : IsSafe is.given (codes "gates")
+    gates = record { each = λ word e. text_is_no_option gates_rule (value_of (codes "gates") is.given) order.gates word is.gates e }
+
+    borrow : IsSafe is.given (codes "borrow")
+    borrow = record { each = λ word e. text_is_no_option borrow_rule (value_of (codes "borrow") is.given) order.borrow word is.borrow e }
+
+    nodes : IsSafe is.given (codes "nodes")
+    nodes = record { each = λ word e. text_is_no_option nodes_rule (value_of (codes "nodes") is.given) order.nodes word is.nodes e }
+
+    format : IsSafe is.given (codes "format")
+    format = record { each = λ word e. text_is_no_option (format_rule Real) (value_of (codes "format") is.given) order.format word is.format e }
+
+    from : IsSafe is.given (codes "from")
+    from = record { each = λ word e. text_is_no_option (format_rule Real) (value_of (codes "from") is.given) order.from word is.from e }
+
+    to : IsSafe is.given (codes "to")
+    to = record { each = λ word e. text_is_no_option (format_rule Qasm) (value_of (codes "to") is.given) order.to word is.to e }
+
+    all : (command : Command) → AllByRecursion (IsSafe is.given) (options_of command)
+    all Compile = (plan, (lines, (gates, (borrow, (nodes, (format, tt))))))
+    all Check = (nodes, tt)
+    all Eval = tt
+    all Stat = (from, tt)
+    all Run = (from, tt)
+    all Convert = (from, (to, tt))
+    all Gen = tt
+    all Bench = (plan, (lines, (gates, (borrow, (nodes, tt)))))
+
+safe_values : (command : Command) (all given : List Setting) → AllByRecursion (IsSafe all) (options_of command)
+    → AllByRecursion (λ one. IsOneOf (options_of command) one.name) given → AllByRecursion (λ one. value_of one.name all ≡ Some one.value) given
+    → AreValues given
+safe_values command all [] safes names values = tt
+safe_values command all (one ∷ given) safes names values = (
+  (among (IsSafe all) (options_of command) one.name safes names.0).each one.value values.0,
+  safe_values command all given safes names.1 values.1,
+)
+
+new_names : (command : Command) (given : List Setting) → AllByRecursion (λ one. IsOneOf (options_of command) one.name) given → AreNew [] given
+new_names command [] names = tt
+new_names command (one ∷ given) names = ((apart, refl), new_names command given names.1)
+  where
+    apart : bytes_eq (codes "word") one.name ≡ false
+    apart = by_test (bytes_eq (codes "word") one.name)
+        (λ t. absurd (false≢true (sym (no_word_option command)
+        ∙ subst (λ (n : List ℕ). is_one_of (options_of command) n ≡ true) (sym ((bytes_eq-Decides (codes "word") one.name).0 t))
+        (known (options_of command) one.name names.0))))
+        (λ f. f)
+
+record IsParsed (words : List (List ℕ)) (order : OrderView) : Type 0 where
+  rows : List Row
+  parses : parsed order.command words ≡ Some rows
+  gives : order_for order.command rows ≡ Some order
+
+parses_it : (words : List (List ℕ)) (order : OrderView) → (is : IsOrder words order) → AreTexts is.behind → IsParsed words order
+parses_it words order is texts =
+    let options = options_of order.command in
+    let takes = takes_any order.command in
+    let names = given_known options is.read in
+    let once = once_gives is.given is.once in
+    let what = said is.given is.plain in
+    let fits : Fits takes [] what = record {
+      new = new_names order.command is.given names;
+      once = once;
+      texts = safe_values order.command is.given is.given (safe words order is) names (own_values is.given once);
+      only = takes_none order.command is.plain order.bits order.number is.takes;
+    } in
+    let end = ends options takes is.behind None [] what (reads_it words order is) fits in
+    let here = parsed_so order.command words is.behind is.named texts ∙ end.1 in
+    let found = found_rows order.command words is.behind end.0 is.named texts here in
+    let same : found.what ≡ what = same_Some _ _ (sym found.found ∙ reads_it words order is) in
+    record {
+      rows = end.0;
+      parses = here;
+      gives = found.same ∙ ap (order_said order.command) same ∙ said_so words order is;
+    }
 
 -- ---- words that give none
 
@@ -163,78 +518,83 @@ pub unnamed : (words : List (List ℕ)) (name : List ℕ) (rest : List (List ℕ
     → HasNoOrder words
 unnamed words name rest e none = record { refuted = λ order is. none order.command (heads (sym e ∙ is.named)).0 }
 
-pub not_found : (words behind : List (List ℕ)) (command : Command) → words ≡ name_of command ∷ behind → found_of command behind scan_start ≡ None
+-- an order of words whose first names the command
+parses_named : (words behind : List (List ℕ)) (command : Command) (order : OrderView) → words ≡ name_of command ∷ behind → AreTexts behind
+    → IsOrder words order → (rows : List Row) × (parsed command words ≡ Some rows) × (order_for command rows ≡ Some order)
+parses_named words behind command order named texts is =
+    let parts = heads (sym is.named ∙ named) in
+    let same = one_command order.command command parts.0 in
+    let it = parses_it words order is (subst AreTexts (sym parts.1) texts) in (
+      it.rows,
+      subst (λ (c : Command). parsed c words ≡ Some it.rows) same it.parses,
+      subst (λ (c : Command). order_for c it.rows ≡ Some order) same it.gives,
+    )
+
+pub not_parsed : (words behind : List (List ℕ)) (command : Command) → words ≡ name_of command ∷ behind → AreTexts behind → parsed command words ≡ None
     → HasNoOrder words
-not_found words behind command named e = record {
-  refuted = λ order is. apart _ (sym e ∙ (is_found words behind command order named is).found);
+not_parsed words behind command named texts e = record {
+  refuted = λ order is.
+      let it = parses_named words behind command order named texts is in
+      apart it.0 (sym e ∙ it.1);
 }
   where
-    apart : (found : Found) → None ≡ Some found → ⊥
-    apart found e = absurd cc
+    apart : (rows : List Row) → None ≡ Some rows → ⊥
+    apart rows e = absurd cc
 
-miscounted : (words behind : List (List ℕ)) (command : Command) (found : Found) → words ≡ name_of command ∷ behind
-    → found_of command behind scan_start ≡ Some found → ¬ TakesWords command (length found.plain) → HasNoOrder words
-miscounted words behind command found named e other = record {
+pub not_given : (words behind : List (List ℕ)) (command : Command) (rows : List Row) → words ≡ name_of command ∷ behind → AreTexts behind
+    → parsed command words ≡ Some rows → order_for command rows ≡ None → HasNoOrder words
+not_given words behind command rows named texts e none = record {
   refuted = λ order is.
-      let it = is_found words behind command order named is in
-      other (subst (λ (f : Found). TakesWords command (length f.plain)) (same_Some _ _ (sym it.found ∙ e)) it.count);
+      let it = parses_named words behind command order named texts is in
+      let same = same_Some _ _ (sym e ∙ it.1) in
+      apart order (sym none ∙ ap (order_for command) same ∙ it.2);
 }
+  where
+    apart : (order : OrderView) → None ≡ Some order → ⊥
+    apart order e = absurd cc
 
 -- ---- the code's answers
 
+pub gives_order : (words behind : List (List ℕ)) (command : Command) (rows : List Row) (order : OrderView) → words ≡ name_of command ∷ behind
+    → AreTexts behind → parsed command words ≡ Some rows → order_for command rows ≡ Some order → IsOrder words order
+gives_order words behind command rows order named texts e given =
+    let found = found_rows command words behind rows named texts e in
+    order_is words behind command found.what order named found.found found.once (sym found.same ∙ given)
+
+texts_all : (words : List (String Global)) → AreTexts (map string_bytes words)
+texts_all [] = tt
+texts_all (word ∷ words) = (IsUtf8-string_bytes word, texts_all words)
+
+pub texts_behind : (words : List (String Global)) (name : List ℕ) (behind : List (List ℕ)) → map string_bytes words ≡ name ∷ behind → AreTexts behind
+texts_behind words name behind e = (subst AreTexts e (texts_all words)).1
+
 begun : (words : List (String Global)) (name : String Global) → 1 ≤ length words → name ≡ slice_index_or words 0 name → map string_bytes words
-    ≡ string_bytes name ∷ map string_bytes (take (length words - 1) (drop 1 words))
+    ≡ string_bytes name ∷ drop 1 (map string_bytes words)
 begun [] name some is = absurd (omega arith)
-begun (w ∷ ws) name some is =
-    let rest : take (length (w ∷ ws) - 1) ws ≡ ws = take_all (length (w ∷ ws) - 1) ws (omega arith) in
-    ap (λ (s : String Global). string_bytes s ∷ map string_bytes ws) (sym is) ∙ ap (λ (l : List (String Global)). string_bytes name ∷ map string_bytes l)
-    (sym rest)
+begun (w ∷ ws) name some is = ap (λ (s : String Global). string_bytes s ∷ map string_bytes ws) (sym is)
 
 -- the words begin with this one
 pub begins_with : (words : List (String Global)) (name : String Global) (text : List ℕ) (command : Command) → 1 ≤ length words
     → name ≡ slice_index_or words 0 name → text ≡ string_bytes name → text ≡ name_of command
-    → map string_bytes words ≡ name_of command ∷ map string_bytes (take (length words - 1) (drop 1 words))
+    → map string_bytes words ≡ name_of command ∷ drop 1 (map string_bytes words)
 begins_with words name text command some is same found =
-    begun words name some is ∙ ap (λ (n : List ℕ). n ∷ map string_bytes (take (length words - 1) (drop 1 words))) (sym same ∙ found)
+    begun words name some is ∙ ap (λ (n : List ℕ). n ∷ drop 1 (map string_bytes words)) (sym same ∙ found)
 
-pub uncounted : (found : Option Found) → None ≡ counted found → found ≡ None
-uncounted None e = refl
-uncounted (Some f) e = absurd cc
+-- ---- `Usage` comes exactly where there is no order, save for want of memory
 
-pub record IsCounted (found : Option Found) (settings : Settings) (count : ℕ) : Type 0 where
-  pub what : Found
-  pub found_is : found ≡ Some what
-  pub settings_is : what.settings ≡ settings
-  pub count_is : length what.plain ≡ count
+same_fault : {T : Type 0} (a b : WordsFault) → IsErrOf {T = T} {E = WordsFault} (Err a) b → a ≡ b
+same_fault a b is = cc
 
-pub counts : (found : Option Found) (settings : Settings) (count : ℕ) → Some (settings, count) ≡ counted found → IsCounted found settings count
-counts None settings count e = absurd cc
-counts (Some f) settings count e =
-    let same = same_Some _ _ e in
-    record { what = f; found_is = refl; settings_is = sym (ap (λ p. p.0) same); count_is = sym (ap (λ p. p.1) same) }
+no_fault : {T : Type 0} (x : T) (b : WordsFault) → IsErrOf {T = T} {E = WordsFault} (Ok x) b → ⊥
+no_fault x b is = absurd cc
 
-pub ordered : (words behind : List (List ℕ)) (command : Command) (settings : Settings) (count : ℕ) (order : OrderView) (bits : List (List ℕ))
-    → words ≡ name_of command ∷ behind → (is : IsCounted (found_of command behind scan_start) settings count) → TakesWords command count
-    → order ≡ order_with command settings bits → ((f : Found) → found_of command behind scan_start ≡ Some f → bits ≡ f.plain)
-    → IsOrder words order
-ordered words behind command settings count order bits named is takes order_is_so bits_are =
-    let found = is.what in
-    let here = order_is words behind command found named is.found_is (subst (λ n. TakesWords command n) (sym is.count_is) takes) in
-    subst (λ (o : OrderView). IsOrder words o)
-    (ap (λ s. order_with command s found.plain) is.settings_is ∙ ap (λ bs. order_with command settings bs) (sym (bits_are found is.found_is))
-    ∙ sym order_is_so) here
+pub exactly : (words : List (List ℕ)) (result : Result Order WordsFault) → IfOk result (λ order. IsOrder words (order_of order))
+    → (IsErrOf result faults.Usage → HasNoOrder words) → result ≢ Err faults.Memory → IsErrOf result faults.Usage ↔ HasNoOrder words
+exactly words (Ok order) ok usage memory = (λ is. absurd (no_fault order faults.Usage is), λ none. absurd (none.refuted (order_of order) ok))
+exactly words (Err faults.Usage) ok usage memory = (usage, λ none. refl)
+exactly words (Err faults.Memory) ok usage memory = absurd (memory refl)
 
-pub not_both : (words : List (List ℕ)) (order : OrderView) → IsOrder words order → HasNoOrder words → ⊥
-not_both words order is none = none.refuted order is
-
-pub miscounts : (words behind : List (List ℕ)) (command : Command) (settings : Settings) (count : ℕ) → words ≡ name_of command ∷ behind
-    → IsCounted (found_of command behind scan_start) settings count → ¬ TakesWords command count → HasNoOrder words
-miscounts words behind command settings count named is other =
-    miscounted words behind command is.what named is.found_is (λ takes. other (subst (λ n. TakesWords command n) is.count_is takes))
-
--- words that are read, as many positional ones as the command takes, give an order
-pub some_order : (words behind : List (List ℕ)) (command : Command) (settings : Settings) (count : ℕ) → words ≡ name_of command ∷ behind
-    → IsCounted (found_of command behind scan_start) settings count → TakesWords command count → HasNoOrder words → ⊥
-some_order words behind command settings count named is takes none =
-    none.refuted (view_of command is.what)
-    (order_is words behind command is.what named is.found_is (subst (λ n. TakesWords command n) (sym is.count_is) takes))
+pub exactly_err : (Says : WordsFault → Type 0) (words : List (List ℕ)) (result : Result Order WordsFault) → IsErrAnd result Says
+    → (IsErrOf result faults.Usage → HasNoOrder words) → result ≢ Err faults.Memory → IsErrOf result faults.Usage ↔ HasNoOrder words
+exactly_err Says words (Ok order) err usage memory = absurd err
+exactly_err Says words (Err fault) err usage memory = exactly words (Err fault) tt usage memory

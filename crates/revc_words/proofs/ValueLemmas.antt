@@ -1,7 +1,7 @@
 -- The values of options: a number, a choice of plans and a format are what the relations say.
-use Rattle.std.proofs.Common.{◌≡◌, ℕ, leb, Bool, true, false, ◌&&◌, List, [], ◌∷◌, length, Option, Some, None, MatchOption, cond, refl, sym, ap, ◌∙◌, arith, codes}
-use Rattle.std.proofs.lemmas.Bool.{and_parts, and_from}
-use Rattle.std.proofs.lemmas.Bool.Decides.{nat_tests}
+use Rattle.std.proofs.Common.{◌≡◌, ℕ, leb, Bool, true, false, ◌&&◌, List, [], ◌∷◌, length, Option, Some, None, MatchOption, cond, refl, sym, ap, ◌∙◌, arith, eqb, subst}
+use Rattle.std.proofs.lemmas.Bool.{and_parts, and_from, false≢true}
+use Rattle.std.proofs.lemmas.Bool.Decides.{Decides-eqb, nat_tests}
 use Rattle.std.proofs.lemmas.Option.{same_Some}
 use Rattle.std.proofs.lemmas.Slice.Eq.{bytes_eq-Decides}
 use Rattle.std.proofs.lemmas.Str.Parse.{IsNumeralModel, numerals_by_value, tells_all_ascii_digits}
@@ -13,8 +13,8 @@ use Rattle.plan_choice.specs.declared.choice.How.TheVariants.{Auto, Eager, Pebbl
 use Rattle.revc_words.specs.declared.limits.TheConstants.{MOST_DIGITS, MOST_NODES, USUAL_LINES, USUAL_GATES, USUAL_NODES}
 use Rattle.revc_words.specs.declared.order.Format.{Format}
 use Rattle.revc_words.specs.declared.order.Format.TheVariants.{Real, Qasm}
-use Rattle.revc_words.specs.Words.{IsNumberIn, plan_word, format_word}
-use Rattle.revc_words.specs.inside.Scanning.{first_with, is_number_in, number_of, plan_of, format_of, read_format_of}
+use Rattle.revc_words.specs.Words.{IsNumberIn, plan_word, format_word, is_option}
+use Rattle.revc_words.specs.inside.Parsing.{first_with, is_number_in, number_of, plan_of, format_of, value_or}
 
 digits : IsNumeralModel (λ ds. all_ascii_digits ds ≡ true) (digits_value 10)
 digits = numerals_by_value _ tells_all_ascii_digits
@@ -81,6 +81,18 @@ pub number_found : (least most : ℕ) (word : List ℕ) (n : ℕ) → IsNumberIn
 number_found least most word n is =
     ap (λ t. cond t (Some (digits_value 10 word)) None) (passes least most word n is) ∙ ap Some is.value
 
+-- a number is no option
+pub number_is_no_option : (least most : ℕ) (word : List ℕ) (n : ℕ) → IsNumberIn least most word n → is_option word ≡ false
+number_is_no_option least most [] n is = refl
+number_is_no_option least most (a ∷ []) n is = refl
+number_is_no_option least most (a ∷ b ∷ rest) n is = at (eqb a 45) refl
+  where
+    at : (test : Bool) → eqb a 45 ≡ test → eqb a 45 ≡ false
+    at false e = e
+    at true e =
+        absurd (false≢true (subst (λ (x : ℕ). all_ascii_digits (x ∷ b ∷ rest) ≡ true) ((Decides-eqb a 45).0 e)
+        (digits.from (a ∷ b ∷ rest) is.digits.1)))
+
 -- what the code finds is what the function gives
 pub is_number : (least most : ℕ) (word : List ℕ) (found : Option ℕ)
     → MatchOption found ((n : ℕ) → ¬ IsNumberIn least most word n) (IsNumberIn least most word) → found ≡ number_of least most word
@@ -114,79 +126,80 @@ format_named Qasm = refl
 
 -- ---- how each option has its values
 
--- the option's name, the value that is found for a word, the words for a value, and the usual value
+-- the value that is found for a word, the words for a value, and the usual value; none of the words begins with `-`
 pub record Rule (A : Type 0) : Type 1 where
-  pub name : List ℕ
   pub value : List ℕ → Option A
   pub Writes : List ℕ → A → Type 0
   pub usual : A
   pub says : (word : List ℕ) (a : A) → value word ≡ Some a → Writes word a
   pub found : (word : List ℕ) (a : A) → Writes word a → value word ≡ Some a
+  pub no_option : (word : List ℕ) (a : A) → Writes word a → is_option word ≡ false
 
-abbrev number_rule : List ℕ → ℕ → ℕ → ℕ → Rule ℕ
-number_rule name least most usual = record {
-  name = name;
+abbrev number_rule : ℕ → ℕ → ℕ → Rule ℕ
+number_rule least most usual = record {
   value = number_of least most;
   Writes = IsNumberIn least most;
   usual = usual;
   says = number_says least most;
   found = number_found least most;
+  no_option = number_is_no_option least most;
 }
 
-abbrev circuit_rule : List ℕ → Rule Format
-circuit_rule name = record {
-  name = name;
+pub plan_is_no_option : (plan : How) → is_option (plan_word plan) ≡ false
+plan_is_no_option Auto = refl
+plan_is_no_option Eager = refl
+plan_is_no_option Pebble = refl
+
+pub format_is_no_option : (format : Format) → is_option (format_word format) ≡ false
+format_is_no_option Real = refl
+format_is_no_option Qasm = refl
+
+abbrev pub format_rule : Format → Rule Format
+format_rule usual = record {
   value = format_of;
   Writes = λ word format. word ≡ format_word format;
-  usual = Real;
+  usual = usual;
   says = first_says format_word (Real ∷ Qasm ∷ []);
   found = λ word format is. ap format_of is ∙ format_named format;
+  no_option = λ word format is. ap is_option is ∙ format_is_no_option format;
 }
 
 abbrev pub plan_rule : Rule How
 plan_rule = record {
-  name = codes "plan";
   value = plan_of;
   Writes = λ word plan. word ≡ plan_word plan;
   usual = Auto;
   says = first_says plan_word (Auto ∷ Eager ∷ Pebble ∷ []);
   found = λ word plan is. ap plan_of is ∙ plan_named plan;
+  no_option = λ word plan is. ap is_option is ∙ plan_is_no_option plan;
 }
 
 abbrev pub lines_rule : Rule ℕ
-lines_rule = number_rule (codes "lines") 1 MOST_LINES USUAL_LINES
+lines_rule = number_rule 1 MOST_LINES USUAL_LINES
 
 abbrev pub gates_rule : Rule ℕ
-gates_rule = number_rule (codes "gates") 1 MOST_GATES USUAL_GATES
+gates_rule = number_rule 1 MOST_GATES USUAL_GATES
 
 abbrev pub borrow_rule : Rule ℕ
-borrow_rule = number_rule (codes "borrow") 0 MOST_BORROWED 0
+borrow_rule = number_rule 0 MOST_BORROWED 0
 
 abbrev pub nodes_rule : Rule ℕ
-nodes_rule = number_rule (codes "nodes") 1 MOST_NODES USUAL_NODES
+nodes_rule = number_rule 1 MOST_NODES USUAL_NODES
 
-abbrev pub format_rule : Rule Format
-format_rule = circuit_rule (codes "format")
+-- the value is the one that is given, or the usual one
+abbrev pub IsRight : {A : Type 0} → Rule A → Option (List ℕ) → A → Type 0
+IsRight rule text value = MatchOption text (value ≡ rule.usual) (λ word. rule.Writes word value)
 
-read_real : read_format_of (format_word Real) ≡ Some Real
-read_real = refl
+pub right : {A : Type 0} (rule : Rule A) (text : Option (List ℕ)) (value : A) → value_or rule.usual rule.value text ≡ Some value → IsRight rule text value
+right rule None value e = sym (same_Some _ _ e)
+right rule (Some word) value e = rule.says word value e
 
-pub read_says : (word : List ℕ) (from : Format) → read_format_of word ≡ Some from → (word ≡ format_word from) × (from ≡ Real)
-read_says word from e = (first_says format_word (Real ∷ []) word from e, at (bytes_eq word (format_word Real)) e)
-  where
-    at : (test : Bool) → cond test (Some Real) None ≡ Some from → from ≡ Real
-    at true e = sym (same_Some _ _ e)
-    at false e = absurd cc
+pub kept : {A : Type 0} (rule : Rule A) (text : Option (List ℕ)) (value : A) → IsRight rule text value → value_or rule.usual rule.value text ≡ Some value
+kept rule None value is = ap Some (sym is)
+kept rule (Some word) value is = rule.found word value is
 
-pub read_found : (word : List ℕ) (from : Format) → (word ≡ format_word from) × (from ≡ Real) → read_format_of word ≡ Some from
-read_found word from is = ap read_format_of (is.0 ∙ ap format_word is.1) ∙ read_real ∙ ap (λ f. Some f) (sym is.1)
-
-abbrev pub from_rule : Rule Format
-from_rule = record {
-  name = codes "from";
-  value = read_format_of;
-  Writes = λ word from. (word ≡ format_word from) × (from ≡ Real);
-  usual = Real;
-  says = read_says;
-  found = read_found;
-}
+-- a text that is given is no option
+pub text_is_no_option : {A : Type 0} (rule : Rule A) (text : Option (List ℕ)) (value : A) (word : List ℕ) → IsRight rule text value → text ≡ Some word
+    → is_option word ≡ false
+text_is_no_option rule None value word is e = absurd cc
+text_is_no_option rule (Some other) value word is e = ap is_option (sym (same_Some _ _ e)) ∙ rule.no_option other value is

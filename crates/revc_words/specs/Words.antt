@@ -8,9 +8,10 @@ use Rattle.std.specs.declared.string.String.{String}
 use Rattle.gate_split.specs.declared.plan.TheConstants.{MOST_LINES, MOST_GATES, MOST_BORROWED}
 use Rattle.plan_choice.specs.declared.choice.How.{How}
 use Rattle.plan_choice.specs.declared.choice.How.TheVariants.{Auto, Eager, Pebble}
+use Rattle.program_gen.specs.declared.adder.TheConstants.{MOST_BITS}
 use Rattle.revc_words.specs.declared.limits.TheConstants.{MOST_DIGITS, MOST_NODES, USUAL_LINES, USUAL_GATES, USUAL_NODES}
 use Rattle.revc_words.specs.declared.order.Command.{Command}
-use Rattle.revc_words.specs.declared.order.Command.TheVariants.{Compile, Check, Eval, Stat, Run}
+use Rattle.revc_words.specs.declared.order.Command.TheVariants.{Compile, Check, Eval, Stat, Run, Convert, Gen, Bench}
 use Rattle.revc_words.specs.declared.order.Format.{Format}
 use Rattle.revc_words.specs.declared.order.Format.TheVariants.{Real, Qasm}
 use Rattle.revc_words.specs.declared.order.Order.{Order}
@@ -22,7 +23,8 @@ words_of words = map string_bytes words
 -- ---- orders
 
 -- a command, the plans that it tries, the most lines and gates of its circuit, how many lines it
--- borrows, the most nodes of its diagrams, the formats that it writes and reads, and its words of
+-- borrows, the most nodes of its diagrams, the format of the circuit of a program, the formats
+-- that `convert` reads and writes, the bits of each number that an adder adds, and its words of
 -- bits
 pub record OrderView : Type 0 where
   pub command : Command
@@ -33,6 +35,8 @@ pub record OrderView : Type 0 where
   pub nodes : ℕ
   pub format : Format
   pub from : Format
+  pub to : Format
+  pub number : ℕ
   pub bits : List (List ℕ)
 
 -- an order as contracts see it
@@ -46,6 +50,8 @@ order_of order = record {
   nodes = order.nodes;
   format = order.format;
   from = order.from;
+  to = order.to;
+  number = order.number;
   bits = words_of order.bits.items;
 }
 
@@ -61,12 +67,9 @@ name_of Check = codes "check"
 name_of Eval = codes "eval"
 name_of Stat = codes "stat"
 name_of Run = codes "run"
-
--- how many positional words a command takes: `eval` one, `run` one or more, the others none
-abbrev pub TakesWords : Command → ℕ → Type 0
-TakesWords Eval count = count ≡ 1
-TakesWords Run count = 1 ≤ count
-TakesWords _ count = count ≡ 0
+name_of Convert = codes "convert"
+name_of Gen = codes "gen"
+name_of Bench = codes "bench"
 
 -- the names of the options that a command has
 abbrev pub options_of : Command → List (List ℕ)
@@ -77,6 +80,10 @@ options_of Check = codes "nodes" ∷ []
 options_of Eval = []
 options_of Stat = codes "from" ∷ []
 options_of Run = codes "from" ∷ []
+options_of Convert = codes "from" ∷ codes "to" ∷ []
+options_of Gen = []
+options_of Bench =
+    codes "plan" ∷ codes "lines" ∷ codes "gates" ∷ codes "borrow" ∷ codes "nodes" ∷ []
 
 -- ---- reading
 
@@ -181,23 +188,51 @@ IsFormat given format =
     MatchOption (value_of (codes "format") given) (format ≡ Real)
     (λ word. word ≡ format_word format)
 
--- the format that is read: the one given, or `.real`; no other is read so far
+-- the format that is read: the one given, or `.real`
 abbrev pub IsFrom : List Setting → Format → Type 0
 IsFrom given from =
-    MatchOption (value_of (codes "from") given) (from ≡ Real)
-    (λ word. (word ≡ format_word from) × (from ≡ Real))
+    MatchOption (value_of (codes "from") given) (from ≡ Real) (λ word. word ≡ format_word from)
+
+-- the format that `convert` writes: the one given, or OpenQASM
+abbrev pub IsTo : List Setting → Format → Type 0
+IsTo given to =
+    MatchOption (value_of (codes "to") given) (to ≡ Qasm) (λ word. word ≡ format_word to)
+
+-- ---- positional words
+
+-- words of bits, and no number
+pub record AreBits (plain bits : List (List ℕ)) (number : ℕ) : Type 0 where
+  pub same : bits ≡ plain
+  pub no_number : number ≡ 0
+
+-- one word, a number in its range, and no words of bits
+pub record TakesNumber (plain bits : List (List ℕ)) (number : ℕ) : Type 0 where
+  pub word : List ℕ
+  pub only : plain ≡ word ∷ []
+  pub in_range : IsNumberIn 1 MOST_BITS word number
+  pub no_bits : bits ≡ []
+
+-- what a command takes its positional words for: `eval` one and `run` one or more as bits, `gen`
+-- and `bench` one as a number; the others take none
+abbrev pub TakesWords : Command → List (List ℕ) → List (List ℕ) → ℕ → Type 0
+TakesWords Eval plain bits number = (length plain ≡ 1) × AreBits plain bits number
+TakesWords Run plain bits number = (1 ≤ length plain) × AreBits plain bits number
+TakesWords Gen plain bits number = TakesNumber plain bits number
+TakesWords Bench plain bits number = TakesNumber plain bits number
+TakesWords _ plain bits number = (length plain ≡ 0) × AreBits plain bits number
 
 -- ---- the order of the words
 
--- The words are the name of a command, its options, each at most once, and as many positional
--- words as it takes.
+-- The words are the name of a command, its options, each at most once, and the positional words
+-- that it takes.
 pub record IsOrder (words : List (List ℕ)) (order : OrderView) : Type 0 where
   pub behind : List (List ℕ)
   pub given : List Setting
+  pub plain : List (List ℕ)
   pub named : words ≡ name_of order.command ∷ behind
-  pub read : Reads (options_of order.command) behind given order.bits
+  pub read : Reads (options_of order.command) behind given plain
   pub once : IsGivenOnce given
-  pub count : TakesWords order.command (length order.bits)
+  pub takes : TakesWords order.command plain order.bits order.number
   pub plan : IsPlan given order.plan
   pub lines : AreLines given order.lines
   pub gates : AreGates given order.gates
@@ -205,9 +240,35 @@ pub record IsOrder (words : List (List ℕ)) (order : OrderView) : Type 0 where
   pub nodes : AreNodes given order.nodes
   pub format : IsFormat given order.format
   pub from : IsFrom given order.from
+  pub to : IsTo given order.to
 
 pub record HasNoOrder (words : List (List ℕ)) : Type 0 where
   pub refuted : (order : OrderView) → ¬ IsOrder words order
+
+-- the bits of an adder's numbers, where a command makes one
+abbrev pub HasBits : Command → ℕ → Type 0
+HasBits Compile number = Unit {0}
+HasBits Check number = Unit {0}
+HasBits Eval number = Unit {0}
+HasBits Stat number = Unit {0}
+HasBits Run number = Unit {0}
+HasBits Convert number = Unit {0}
+HasBits Gen number = 1 ≤ number
+HasBits Bench number = 1 ≤ number
+
+-- the numbers of an order are within their limits
+pub record IsWithinLimits (order : OrderView) : Type 0 where
+  pub lines : order.lines ≤ MOST_LINES
+  pub gates : order.gates ≤ MOST_GATES
+  pub borrow : order.borrow ≤ MOST_BORROWED
+  pub nodes : 1 ≤ order.nodes
+  pub few_bits : order.number ≤ MOST_BITS
+  pub some_bits : HasBits order.command order.number
+
+-- The law: every order is within the limits.
+abbrev pub OrdersAreWithinLimits : Type 0
+OrdersAreWithinLimits =
+    (words : List (List ℕ)) (order : OrderView) → IsOrder words order → IsWithinLimits order
 
 -- The law: words give one order at most.
 abbrev pub OneOrder : Type 0

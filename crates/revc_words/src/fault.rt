@@ -1,4 +1,5 @@
 // Why words are no order.
+use clap::error::ErrorKind;
 use revc_base::Memory;
 
 /// Why words are no order.
@@ -18,5 +19,21 @@ impl From<Memory> for WordsFault {
 
     fn from(_: Memory) -> WordsFault {
         WordsFault::Memory
+    }
+}
+
+impl From<clap::Error> for WordsFault {
+    ghost use Rattle.std.specs.Prelude.{◌≡◌, ◌≢◌};
+    ghost use Rattle.clap.specs.Words.{kind_of};
+    ghost use Rattle.clap.specs.declared.error.kind.ErrorKind.TheVariants as kinds;
+    ghost use Rattle.revc_words.specs.declared.fault.WordsFault.TheVariants as faults;
+
+    ghost from_gives = { λ error e. e ≡ faults.Usage → kind_of error ≢ kinds.OutOfMemory };
+
+    fn from(error: clap::Error) -> WordsFault {
+        if error.kind() == ErrorKind::OutOfMemory {
+            return WordsFault::Memory;
+        }
+        WordsFault::Usage
     }
 }

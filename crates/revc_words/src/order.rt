@@ -17,6 +17,12 @@ pub enum Command {
     Stat,
     /// Reads a circuit and writes the bits that it gives on the bits of each word.
     Run,
+    /// Reads a circuit and writes the file of a narrow one with the same line map.
+    Convert,
+    /// Writes the program of an adder.
+    Gen,
+    /// Compiles the program of an adder and writes its sizes.
+    Bench,
 }
 
 /// A format of circuit files.
@@ -43,10 +49,14 @@ pub struct Order {
     pub borrow: u32,
     /// The most inner nodes of the diagrams, 1 to 1,000,000.
     pub nodes: u32,
-    /// The format of the circuit that is written.
+    /// The format of the circuit of a program.
     pub format: Format,
     /// The format of the circuit that is read.
     pub from: Format,
+    /// The format in which a circuit that was read is written.
+    pub to: Format,
+    /// How many bits an adder's numbers have, 1 to 200; 0 for a command that makes none.
+    pub number: u32,
     pub bits: Vec<String>,
 }
 

@@ -1,11 +1,16 @@
 // From the words of the command line to what they ask for.
-ghost use Rattle.std.specs.Prelude.{◌≡◌, ◌↔◌, ℕ, ◌≤◌, ◌≢◌, [], ◌∷◌, ◌++◌, IsTrue, None, Some, MatchOption, IfOk, OnOk, IsErrOf, string_bytes};
-ghost use Rattle.revc_words.specs.Words.{HasNoOrder, IsOrder, OneOrder, TakesWords, name_of, order_of, words_of};
-ghost use Rattle.revc_words.specs.inside.Scanning.{Found, counted, found_of, scan_start};
+ghost use Rattle.std.specs.Prelude.{◌≡◌, ◌≢◌, ◌↔◌, ◌∷◌, ◌++◌, [], None, Some, Err, MatchOption, IfOk, OnOk};
+ghost use Rattle.std.specs.Prelude.{IsErrOf, map};
+ghost use Rattle.clap.specs.Words.{found_of, rows_of};
+ghost use Rattle.revc_words.specs.Words.{HasNoOrder, IsOrder, OneOrder, OrdersAreWithinLimits, name_of};
+ghost use Rattle.revc_words.specs.Words.{order_of, words_of};
+ghost use Rattle.revc_words.specs.inside.Parsing.{bits_for, number_for, order_by, order_for, takes_count, takes_number};
 
-use crate::options::Settings;
-use crate::scanning::Scan;
+use crate::parsing::matched;
+use crate::values::{Values, number};
 use crate::{Command, Order, WordsFault};
+use clap::ArgMatches;
+use program_gen::MOST_BITS;
 use revc_base::Memory;
 use std::alloc::Global;
 
@@ -20,19 +25,29 @@ impl Command {
             "eval" => Some(Command::Eval),
             "stat" => Some(Command::Stat),
             "run" => Some(Command::Run),
+            "convert" => Some(Command::Convert),
+            "gen" => Some(Command::Gen),
+            "bench" => Some(Command::Bench),
             _ => None,
         }
     }
 
     // Whether it takes so many positional words.
-    fn takes_words(self, count: usize) -> bool
-        ensures { IsTrue result ↔ TakesWords self count }
+    fn takes_count(self, count: usize) -> bool
+        ensures { result ≡ takes_count self count }
     {
         match self {
-            Command::Compile | Command::Check | Command::Stat => count == 0,
-            Command::Eval => count == 1,
+            Command::Compile | Command::Check | Command::Stat | Command::Convert => count == 0,
+            Command::Eval | Command::Gen | Command::Bench => count == 1,
             Command::Run => 1 <= count,
         }
+    }
+
+    // Whether its positional word is a number.
+    fn takes_number(self) -> bool
+        ensures { result ≡ takes_number self }
+    {
+        matches!(self, Command::Gen | Command::Bench)
     }
 }
 
@@ -41,74 +56,100 @@ pub fn one_order()
     ensures { OneOrder }
 {}
 
+/// The numbers of each order are within their limits.
+pub fn orders_are_within_limits()
+    ensures { OrdersAreWithinLimits }
+{}
+
 /// The order that the words of the command line give, without the program's own name.
 ///
 /// # Errors
 ///
-/// `Usage` exactly where they give none.
+/// `Usage` exactly where they give none, save for want of memory, which may come before that is known.
 pub fn read_words(alloc: Global, words: &[String]) -> Result<Order, WordsFault>
     ensures ok { IfOk result (λ order. IsOrder (words_of words.now) (order_of order)) }
-    ensures usage { IsErrOf result WordsFault.Usage ↔ HasNoOrder (words_of words.now) }
+    ensures usage { result ≢ Err WordsFault.Memory
+        → (IsErrOf result WordsFault.Usage ↔ HasNoOrder (words_of words.now)) }
 {
-    let [name, rest @ ..] = words else {
+    let [name, ..] = words else {
         return Err(WordsFault::Usage);
     };
     let Some(command) = Command::named(name.as_str()) else {
         return Err(WordsFault::Usage);
     };
-    let Some((settings, count)) = judged(command, rest) else {
+    let matches = matched(alloc, command, words)?;
+    order(alloc, command, &matches)
+}
+
+// The order of a command whose words were parsed so.
+fn order(alloc: Global, command: Command, matches: &ArgMatches) -> Result<Order, WordsFault>
+    ensures ok { IfOk result (λ order.
+        order_for command (rows_of (found_of matches.now)) ≡ Some (order_of order)) }
+    ensures usage { IsErrOf result WordsFault.Usage
+        → order_for command (rows_of (found_of matches.now)) ≡ None }
+{
+    let Some(values) = Values::given(matches) else {
         return Err(WordsFault::Usage);
     };
-    if !command.takes_words(count) {
+    match matches.get_strs("word") {
+        Some(words) => order_by(alloc, command, values, words),
+        None => order_by(alloc, command, values, &[]),
+    }
+}
+
+// The order of a command with these values and positional words.
+fn order_by(
+    alloc: Global,
+    command: Command,
+    values: Values,
+    words: &[&str],
+) -> Result<Order, WordsFault>
+    ensures ok { IfOk result (λ order.
+        order_by command (map (λ s. s.now) words.now) values ≡ Some (order_of order)) }
+    ensures usage { IsErrOf result WordsFault.Usage
+        → order_by command (map (λ s. s.now) words.now) values ≡ None }
+{
+    if !command.takes_count(words.len()) {
         return Err(WordsFault::Usage);
     }
-    let bits = positional(alloc, command, rest)?;
-    Ok(settings.order(command, bits))
+    let Some(number) = number_asked(command, words) else {
+        return Err(WordsFault::Usage);
+    };
+    let bits = bits_asked(alloc, command, words)?;
+    Ok(values.order(command, number, bits))
 }
 
-// The settings that the words behind a command's name give, and how many of them are positional.
-fn judged(command: Command, words: &[String]) -> Option<(Settings, usize)>
-    ensures { result ≡ counted (found_of command (words_of words.now) scan_start) }
+// The number that the command takes its positional word for, and 0 where it takes none.
+fn number_asked(command: Command, words: &[&str]) -> Option<u32>
+    ensures { result ≡ number_for command (map (λ s. s.now) words.now) }
 {
-    let mut scan = Scan::start();
-    let mut count = 0;
+    if !command.takes_number() {
+        return Some(0);
+    }
+    match words {
+        [word, ..] => number(word, 1, MOST_BITS),
+        [] => number("", 1, MOST_BITS),
+    }
+}
+
+// The words of bits: the positional words, where the command takes them so.
+fn bits_asked(alloc: Global, command: Command, words: &[&str]) -> Result<Vec<String>, Memory>
+    ensures { IfOk result (λ bits.
+        words_of bits.items ≡ bits_for command (map (λ s. s.now) words.now)) }
+{
+    let mut bits = Vec::new(alloc);
+    if command.takes_number() {
+        return Ok(bits);
+    }
     for word in words {
-        let word = word.as_str();
-        count += usize::from(scan.takes(word));
-        scan = scan.step(command, word)?;
+        push_copy(&mut bits, word)?;
     }
-    if scan.pending.is_some() {
-        return None;
-    }
-    Some((scan.settings, count))
+    Ok(bits)
 }
 
-// The positional words.
-fn positional(alloc: Global, command: Command, words: &[String]) -> Result<Vec<String>, WordsFault>
-    ensures ok { IfOk result (λ plain. (f : Found)
-        → found_of command (words_of words.now) scan_start ≡ Some f
-        → words_of plain.items ≡ f.plain) }
-    ensures usage { IsErrOf result WordsFault.Usage
-        → found_of command (words_of words.now) scan_start ≡ None }
+fn push_copy(words: &mut Vec<String>, word: &str) -> Result<(), Memory>
+    ensures { OnOk result (words_of words.new.items ≡ words_of words.old.items ++ word.now ∷ []) }
 {
-    let mut scan = Scan::start();
-    let mut plain = Vec::new(alloc);
-    for word in words {
-        let text = word.as_str();
-        if scan.takes(text) {
-            push_copy(&mut plain, word)?;
-        }
-        let Some(next) = scan.step(command, text) else {
-            return Err(WordsFault::Usage);
-        };
-        scan = next;
-    }
-    Ok(plain)
-}
-
-fn push_copy(words: &mut Vec<String>, word: &String) -> Result<(), Memory>
-    ensures { OnOk result (words_of words.new.items
-        ≡ words_of words.old.items ++ string_bytes word.now ∷ []) }
-{
-    Ok(words.push(word.clone()?)?)
+    let copy = String::from_str(*words.allocator(), word)?;
+    Ok(words.push(copy)?)
 }

@@ -13,6 +13,8 @@ struct Asked {
     nodes: u32,
     format: Format,
     from: Format,
+    to: Format,
+    number: u32,
     bits: &'static [&'static str],
 }
 
@@ -26,6 +28,8 @@ const USUAL: Asked = Asked {
     nodes: 100_000,
     format: Format::Real,
     from: Format::Real,
+    to: Format::Qasm,
+    number: 0,
     bits: &[],
 };
 
@@ -186,6 +190,64 @@ const ORDERS: &[(&[&str], Asked)] = &[
             ..USUAL
         },
     ),
+    (
+        &["stat", "--from=qasm"],
+        Asked {
+            command: Command::Stat,
+            from: Format::Qasm,
+            ..USUAL
+        },
+    ),
+    (
+        &["convert"],
+        Asked {
+            command: Command::Convert,
+            ..USUAL
+        },
+    ),
+    (
+        &["convert", "--from", "qasm", "--to", "real"],
+        Asked {
+            command: Command::Convert,
+            from: Format::Qasm,
+            to: Format::Real,
+            ..USUAL
+        },
+    ),
+    (
+        &["gen", "200"],
+        Asked {
+            command: Command::Gen,
+            number: 200,
+            ..USUAL
+        },
+    ),
+    (
+        &["gen", "--", "5"],
+        Asked {
+            command: Command::Gen,
+            number: 5,
+            ..USUAL
+        },
+    ),
+    (
+        &["bench", "16", "--plan", "pebble"],
+        Asked {
+            command: Command::Bench,
+            plan: How::Pebble,
+            number: 16,
+            ..USUAL
+        },
+    ),
+    (
+        &["bench", "--lines=48", "16"],
+        Asked {
+            command: Command::Bench,
+            lines: 48,
+            number: 16,
+            ..USUAL
+        },
+    ),
 ];
 
 // Words that are no order.
@@ -232,9 +294,19 @@ const NO_ORDERS: &[&[&str]] = &[
     &["eval", "0", "1"],
     &["stat", "--format", "qasm"],
     &["stat", "--from", "x"],
-    &["stat", "--from", "qasm"],
+    &["stat", "--to", "qasm"],
     &["stat", "--from", "real", "--from=real"],
     &["stat", "--from", "qasm", "--from=real"],
+    &["convert", "x"],
+    &["convert", "--format", "real"],
+    &["gen"],
+    &["gen", "0"],
+    &["gen", "201"],
+    &["gen", "-1"],
+    &["gen", "1", "2"],
+    &["gen", "--lines", "5", "1"],
+    &["bench"],
+    &["bench", "16", "--format", "real"],
 ];
 
 fn strings(alloc: Global, words: &[&str]) -> Result<Vec<String>, AllocError> {
@@ -259,6 +331,8 @@ fn words_are_read(rt: HostRuntime) -> Result<(), Fail> {
         assert_eq!(rt; order.nodes, asked.nodes);
         assert_eq!(rt; order.format, asked.format);
         assert_eq!(rt; order.from, asked.from);
+        assert_eq!(rt; order.to, asked.to);
+        assert_eq!(rt; order.number, asked.number);
         assert_eq!(rt; order.bits, strings(alloc, asked.bits)?);
     }
     Ok(())

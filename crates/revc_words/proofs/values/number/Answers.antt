@@ -1,6 +1,6 @@
 use Rattle.std.proofs.Common.{rules, Some, None, ◌∙◌}
 use Rattle.revc_words.proofs.ValueLemmas.{is_number}
-use Rattle.revc_words.proofs.options.number.Goals as goal
+use Rattle.revc_words.proofs.values.number.Goals as goal
 
 pub returns-in_err-n : goal.returns-in_err-n
 returns-in_err-n c = c.from_residual.ensures ∙ is_number c.args.least c.args.most c.args.text.now None (search rules)

@@ -1,0 +1,215 @@
+-- What clap makes of the words of a command, and what the texts that it finds give.
+use Rattle.std.specs.Prelude.{ℕ, ◌==◌, nat_le, ◌&&◌, Bool, true, false, List, [], ◌∷◌, length, codes, Option, Some, None, cond}
+use Rattle.std.specs.Option.{option_map, option_and_then, unwrap_or}
+use Rattle.std.specs.Borrow.{Bor}
+use Rattle.std.specs.Str.{bytes_eq, all_ascii_digits}
+use Rattle.std.specs.Str.Parse.{digits_value}
+use Rattle.clap.specs.Words.{App, Kinds, Row, Rule, all_of, fault_of, first_of, matches_of, new_app, new_rule, with_rule}
+use Rattle.clap.specs.declared.builder.action.ArgAction.TheVariants.{Append}
+use Rattle.gate_split.specs.declared.plan.TheConstants.{MOST_LINES, MOST_GATES, MOST_BORROWED}
+use Rattle.plan_choice.specs.declared.choice.How.{How}
+use Rattle.plan_choice.specs.declared.choice.How.TheVariants.{Auto, Eager, Pebble}
+use Rattle.program_gen.specs.declared.adder.TheConstants.{MOST_BITS}
+use Rattle.revc_words.specs.declared.limits.TheConstants.{MOST_DIGITS, MOST_NODES, USUAL_LINES, USUAL_GATES, USUAL_NODES}
+use Rattle.revc_words.specs.declared.order.Command.{Command}
+use Rattle.revc_words.specs.declared.order.Command.TheVariants.{Compile, Check, Eval, Stat, Run, Convert, Gen, Bench}
+use Rattle.revc_words.specs.declared.order.Format.{Format}
+use Rattle.revc_words.specs.declared.order.Format.TheVariants.{Real, Qasm}
+use Rattle.revc_words.specs.declared.values.Values.{Values}
+use Rattle.revc_words.specs.Words.{OrderView, name_of, options_of, plan_word, format_word, first_word}
+
+-- ---- the command that clap reads by
+
+-- whether a command takes positional words
+abbrev pub takes_any : Command → Bool
+takes_any Compile = false
+takes_any Check = false
+takes_any Eval = true
+takes_any Stat = false
+takes_any Run = true
+takes_any Convert = false
+takes_any Gen = true
+takes_any Bench = true
+
+-- an option with this name
+abbrev pub option_rule : List ℕ → Rule
+option_rule name = record (new_rule name) { long = Some name }
+
+-- the positional words, each a use of one argument
+abbrev pub word_rule : Rule
+word_rule = record (new_rule (codes "word")) { action = Some Append }
+
+abbrev pub with_options : App → List (List ℕ) → App
+with_options app [] = app
+with_options app (name ∷ names) = with_options (with_rule app (option_rule name)) names
+
+abbrev pub bare : List ℕ → App
+bare name = record { top = record (new_app name).top { disable_help_flag = true }; subs = [] }
+
+abbrev pub with_words : Bool → App → App
+with_words takes app = cond takes (with_rule app word_rule) app
+
+abbrev pub app_for : Command → App
+app_for command =
+    with_words (takes_any command) (with_options (bare (name_of command)) (options_of command))
+
+abbrev pub unless : {A : Type 0} → Kinds → Option A → Option A
+unless [] found = found
+unless (kind ∷ kinds) found = None
+
+-- the rows of a parse, where it does not fail
+abbrev pub parsed : Command → List (List ℕ) → Option (List Row)
+parsed command words =
+    unless (fault_of (app_for command) words) (Some (matches_of (app_for command) words))
+
+abbrev pub words_in : List Row → List (List ℕ)
+words_in rows = unwrap_or (all_of (codes "word") rows) []
+
+-- the first of these that has the word as its text
+abbrev pub first_with : {A : Type 0} → (A → List ℕ) → List A → List ℕ → Option A
+first_with text [] word = None
+first_with text (one ∷ others) word =
+    cond (bytes_eq word (text one)) (Some one) (first_with text others word)
+
+-- ---- values
+
+abbrev pub is_number_in : ℕ → ℕ → List ℕ → Bool
+is_number_in least most word =
+    all_ascii_digits word && (nat_le 1 (length word) && (nat_le (length word) MOST_DIGITS
+    && (nat_le least (digits_value 10 word) && nat_le (digits_value 10 word) most)))
+
+abbrev pub number_of : ℕ → ℕ → List ℕ → Option ℕ
+number_of least most word =
+    cond (is_number_in least most word) (Some (digits_value 10 word)) None
+
+abbrev pub plan_of : List ℕ → Option How
+plan_of word = first_with plan_word (Auto ∷ Eager ∷ Pebble ∷ []) word
+
+abbrev pub format_of : List ℕ → Option Format
+format_of word = first_with format_word (Real ∷ Qasm ∷ []) word
+
+-- the text behind a reference, where there is one
+abbrev pub text_at : Option (Bor (List ℕ)) → Option (List ℕ)
+text_at text = option_map (λ s. s.now) text
+
+-- the value of the text that is given, or the usual one where none is
+abbrev pub value_or : {A : Type 0} → A → (List ℕ → Option A) → Option (List ℕ) → Option A
+value_or usual value None = Some usual
+value_or usual value (Some text) = value text
+
+-- the texts that are given to the options
+pub record Texts : Type 0 where
+  pub plan : Option (List ℕ)
+  pub lines : Option (List ℕ)
+  pub gates : Option (List ℕ)
+  pub borrow : Option (List ℕ)
+  pub nodes : Option (List ℕ)
+  pub format : Option (List ℕ)
+  pub from : Option (List ℕ)
+  pub to : Option (List ℕ)
+
+abbrev pub texts_in : List Row → Texts
+texts_in rows = record {
+  plan = first_of (codes "plan") rows;
+  lines = first_of (codes "lines") rows;
+  gates = first_of (codes "gates") rows;
+  borrow = first_of (codes "borrow") rows;
+  nodes = first_of (codes "nodes") rows;
+  format = first_of (codes "format") rows;
+  from = first_of (codes "from") rows;
+  to = first_of (codes "to") rows;
+}
+
+abbrev pub values_of : Texts → Option Values
+values_of texts =
+    option_and_then (λ plan.
+    option_and_then (λ lines.
+    option_and_then (λ gates.
+    option_and_then (λ borrow.
+    option_and_then (λ nodes.
+    option_and_then (λ format.
+    option_and_then (λ from.
+    option_and_then (λ to. Some (record {
+      plan = plan;
+      lines = lines;
+      gates = gates;
+      borrow = borrow;
+      nodes = nodes;
+      format = format;
+      from = from;
+      to = to;
+    }))
+    (value_or Qasm format_of texts.to))
+    (value_or Real format_of texts.from))
+    (value_or Real format_of texts.format))
+    (value_or USUAL_NODES (number_of 1 MOST_NODES) texts.nodes))
+    (value_or 0 (number_of 0 MOST_BORROWED) texts.borrow))
+    (value_or USUAL_GATES (number_of 1 MOST_GATES) texts.gates))
+    (value_or USUAL_LINES (number_of 1 MOST_LINES) texts.lines))
+    (value_or Auto plan_of texts.plan)
+
+-- ---- positional words
+
+-- whether a command takes so many
+abbrev pub takes_count : Command → ℕ → Bool
+takes_count Compile count = count == 0
+takes_count Check count = count == 0
+takes_count Eval count = count == 1
+takes_count Stat count = count == 0
+takes_count Run count = nat_le 1 count
+takes_count Convert count = count == 0
+takes_count Gen count = count == 1
+takes_count Bench count = count == 1
+
+-- whether it takes a number
+abbrev pub takes_number : Command → Bool
+takes_number Compile = false
+takes_number Check = false
+takes_number Eval = false
+takes_number Stat = false
+takes_number Run = false
+takes_number Convert = false
+takes_number Gen = true
+takes_number Bench = true
+
+-- the number and the bits that it takes them for
+abbrev pub number_for : Command → List (List ℕ) → Option ℕ
+number_for command plain =
+    cond (takes_number command) (number_of 1 MOST_BITS (first_word plain)) (Some 0)
+
+abbrev pub bits_for : Command → List (List ℕ) → List (List ℕ)
+bits_for command plain = cond (takes_number command) [] plain
+
+-- ---- the order
+
+-- the order of a command with these values, this number and these bits
+abbrev pub order_with : Command → Values → ℕ → List (List ℕ) → OrderView
+order_with command values number bits = record {
+  command = command;
+  plan = values.plan;
+  lines = values.lines;
+  gates = values.gates;
+  borrow = values.borrow;
+  nodes = values.nodes;
+  format = values.format;
+  from = values.from;
+  to = values.to;
+  number = number;
+  bits = bits;
+}
+
+-- with these values and positional words
+abbrev pub order_by : Command → List (List ℕ) → Values → Option OrderView
+order_by command plain values =
+    cond (takes_count command (length plain))
+    (option_map (λ number. order_with command values number (bits_for command plain))
+    (number_for command plain)) None
+
+-- with these texts and positional words
+abbrev pub order_of_texts : Command → Texts → List (List ℕ) → Option OrderView
+order_of_texts command texts plain =
+    option_and_then (order_by command plain) (values_of texts)
+
+-- with these rows
+abbrev pub order_for : Command → List Row → Option OrderView
+order_for command rows = order_of_texts command (texts_in rows) (words_in rows)

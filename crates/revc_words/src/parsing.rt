@@ -1,0 +1,81 @@
+// What clap makes of the words of a command.
+ghost use Rattle.std.specs.Prelude.{◌≡◌, IfOk, IsErrOf, None, Some, map};
+ghost use Rattle.clap.specs.Words.{app_of, found_of, rows_of};
+ghost use Rattle.revc_words.specs.Words.{name_of, options_of, words_of};
+ghost use Rattle.revc_words.specs.inside.Parsing.{app_for, parsed, takes_any};
+
+use crate::{Command, WordsFault};
+use clap::{Arg, ArgAction, ArgMatches};
+use revc_base::Memory;
+use std::alloc::Global;
+
+impl Command {
+    fn name<'a>(self) -> &'a str
+        ensures { result.now ≡ name_of self }
+    {
+        match self {
+            Command::Compile => "compile",
+            Command::Check => "check",
+            Command::Eval => "eval",
+            Command::Stat => "stat",
+            Command::Run => "run",
+            Command::Convert => "convert",
+            Command::Gen => "gen",
+            Command::Bench => "bench",
+        }
+    }
+
+    // The names of its options.
+    fn options<'a>(self) -> &'a [&'a str]
+        ensures { map (λ s. s.now) result.now ≡ options_of self }
+    {
+        match self {
+            Command::Compile => &["plan", "lines", "gates", "borrow", "nodes", "format"],
+            Command::Check => &["nodes"],
+            Command::Stat | Command::Run => &["from"],
+            Command::Convert => &["from", "to"],
+            Command::Bench => &["plan", "lines", "gates", "borrow", "nodes"],
+            Command::Eval | Command::Gen => &[],
+        }
+    }
+
+    // Whether it takes positional words.
+    fn takes_any(self) -> bool
+        ensures { result ≡ takes_any self }
+    {
+        matches!(
+            self,
+            Command::Eval | Command::Run | Command::Gen | Command::Bench
+        )
+    }
+}
+
+// The command that clap reads by. Each positional word is a use of one argument.
+fn app<'a>(alloc: Global, command: Command) -> Result<clap::Command<'a>, Memory>
+    ensures { IfOk result (λ app. app_of app ≡ app_for command) }
+{
+    let mut app = clap::Command::new(alloc, command.name()).disable_help_flag(true);
+    let names = command.options();
+    for name in names {
+        app = app.arg(Arg::new(alloc, name).long(name))?;
+    }
+    if !command.takes_any() {
+        return Ok(app);
+    }
+    let word = Arg::new(alloc, "word").action(ArgAction::Append);
+    Ok(app.arg(word)?)
+}
+
+/// What the words of a command are parsed to. The first of them is its name.
+pub fn matched<'a>(
+    alloc: Global,
+    command: Command,
+    words: &'a [String],
+) -> Result<ArgMatches<'a>, WordsFault>
+    ensures ok { IfOk result (λ matches.
+        parsed command (words_of words.now) ≡ Some (rows_of (found_of matches))) }
+    ensures usage { IsErrOf result WordsFault.Usage
+        → parsed command (words_of words.now) ≡ None }
+{
+    Ok(app(alloc, command)?.try_get_matches_from(words)?)
+}

@@ -1,0 +1,144 @@
+// The values of options, and the texts that give them.
+ghost use Rattle.std.specs.Prelude.{◌≡◌};
+ghost use Rattle.clap.specs.Words.{first_of, found_of, rows_of};
+ghost use Rattle.revc_words.specs.Words.{order_of, words_of};
+ghost use Rattle.revc_words.specs.inside.Parsing.{format_of, number_of, order_with, plan_of, text_at, texts_in};
+ghost use Rattle.revc_words.specs.inside.Parsing.{value_or, values_of};
+
+use crate::{
+    Command, Format, MOST_DIGITS, MOST_NODES, Order, USUAL_GATES, USUAL_LINES, USUAL_NODES,
+};
+use clap::ArgMatches;
+use gate_split::{MOST_BORROWED, MOST_GATES, MOST_LINES};
+use plan_choice::How;
+
+/// The values of all options.
+#[derive(Clone, Copy, Debug, PartialEq, Eq)]
+pub struct Values {
+    pub plan: How,
+    pub lines: u32,
+    pub gates: u64,
+    pub borrow: u32,
+    pub nodes: u32,
+    pub format: Format,
+    pub from: Format,
+    pub to: Format,
+}
+
+impl Values {
+    /// The values of the texts that are given: what has no text has its usual value.
+    pub fn given(matches: &ArgMatches) -> Option<Values>
+        ensures { result ≡ values_of (texts_in (rows_of (found_of matches.now))) }
+    {
+        let gates = number_or(
+            text(matches, "gates"),
+            1,
+            MOST_GATES as u32,
+            USUAL_GATES as u32,
+        );
+        Some(Values {
+            plan: plan_or(text(matches, "plan"), How::Auto)?,
+            lines: number_or(text(matches, "lines"), 1, MOST_LINES, USUAL_LINES)?,
+            gates: u64::from(gates?),
+            borrow: number_or(text(matches, "borrow"), 0, MOST_BORROWED, 0)?,
+            nodes: number_or(text(matches, "nodes"), 1, MOST_NODES, USUAL_NODES)?,
+            format: format_or(text(matches, "format"), Format::Real)?,
+            from: format_or(text(matches, "from"), Format::Real)?,
+            to: format_or(text(matches, "to"), Format::Qasm)?,
+        })
+    }
+
+    /// The order of a command with these values, this number and these bits.
+    pub fn order(self, command: Command, number: u32, bits: Vec<String>) -> Order
+        ensures { order_of result ≡ order_with command self number (words_of bits.items) }
+    {
+        Order {
+            command,
+            plan: self.plan,
+            lines: self.lines,
+            gates: self.gates,
+            borrow: self.borrow,
+            nodes: self.nodes,
+            format: self.format,
+            from: self.from,
+            to: self.to,
+            number,
+            bits,
+        }
+    }
+}
+
+// The text that is given to an option.
+fn text<'a>(matches: &ArgMatches<'a>, option: &str) -> Option<&'a str>
+    ensures { text_at result
+        ≡ first_of option.now (rows_of (found_of matches.now)) }
+{
+    matches.get_str(option)
+}
+
+// The number that a text writes, or the usual one where there is no text.
+fn number_or(text: Option<&str>, least: u32, most: u32, usual: u32) -> Option<u32>
+    ensures { result ≡ value_or usual (number_of least most) (text_at text.entry) }
+{
+    match text {
+        Some(text) => number(text, least, most),
+        None => Some(usual),
+    }
+}
+
+/// The number that a text of 1 to 7 digits writes, if it is in this range.
+pub fn number(text: &str, least: u32, most: u32) -> Option<u32>
+    ensures { result ≡ number_of least most text.now }
+{
+    if text.len() > MOST_DIGITS || text.starts_with('+') {
+        return None;
+    }
+    let n = text.parse::<u32>().ok()?;
+    if n < least || most < n {
+        return None;
+    }
+    Some(n)
+}
+
+// The choice of plans with this name, or the usual one where there is no name.
+fn plan_or(name: Option<&str>, usual: How) -> Option<How>
+    ensures { result ≡ value_or usual plan_of (text_at name.entry) }
+{
+    match name {
+        Some(name) => plan(name),
+        None => Some(usual),
+    }
+}
+
+// The choice of plans with this name.
+fn plan(name: &str) -> Option<How>
+    ensures { result ≡ plan_of name.now }
+{
+    match name {
+        "auto" => Some(How::Auto),
+        "eager" => Some(How::Eager),
+        "pebble" => Some(How::Pebble),
+        _ => None,
+    }
+}
+
+// The format with this name, or the usual one where there is no name.
+fn format_or(name: Option<&str>, usual: Format) -> Option<Format>
+    ensures { result ≡ value_or usual format_of (text_at name.entry) }
+{
+    match name {
+        Some(name) => format(name),
+        None => Some(usual),
+    }
+}
+
+// The format with this name.
+fn format(name: &str) -> Option<Format>
+    ensures { result ≡ format_of name.now }
+{
+    match name {
+        "real" => Some(Format::Real),
+        "qasm" => Some(Format::Qasm),
+        _ => None,
+    }
+}
