@@ -1,11 +1,1 @@
-pub mod RunLemmas
-pub mod RefusalLemmas
-pub mod EvalLemmas
-pub mod CompileLemmas
-pub mod TextLemmas
-pub mod PlanLemmas
 pub mod TopLemmas
-pub mod FormedLemmas
-pub mod SettlingLemmas
-pub mod CheckLemmas
-pub mod CircuitLemmas

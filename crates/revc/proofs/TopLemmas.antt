@@ -2,8 +2,8 @@
 use Rattle.std.proofs.Common.{◌≡◌, ◌≢◌, ℕ, ◌<◌, ◌≤◌, ◌⊎◌, inl, inr, codes, List, None, Some, Ok, Err, refl, sym, ap, ◌∙◌, subst, arith, length}
 use Rattle.std.specs.Prelude.{Option, IfSome, MatchOption, Contains, Result, OnOk, IfErr, IsErrOf}
 use Rattle.std.specs.Io.KnownBytes.{IsAtEnd}
-use Rattle.revc.specs.declared.fault.Fault.{Fault}
-use Rattle.revc.specs.declared.fault.Fault.TheVariants.{Usage, Refused, Claim, Diagram, Lines, Gates, Circuit, BadBits, Read, Write, Memory}
+use Rattle.command_answers.specs.declared.fault.Fault.{Fault}
+use Rattle.command_answers.specs.declared.fault.Fault.TheVariants.{Usage, Refused, Claim, Diagram, Lines, Gates, Circuit, BadBits, Read, Write, Memory}
 use Rattle.revc_io.specs.declared.reading.ReadFault.{ReadFault}
 use Rattle.revc_io.specs.declared.reading.ReadFault.TheVariants as reads
 use Rattle.revc.specs.inside.Mappings.{reading_fault, too_long, words_fault}
@@ -11,22 +11,24 @@ use Rattle.revc_words.specs.declared.fault.WordsFault.{WordsFault}
 use Rattle.revc_words.specs.declared.fault.WordsFault.TheVariants as words
 use Rattle.revc_words.specs.declared.order.Command.{Command}
 use Rattle.revc_words.specs.declared.order.Command.TheVariants.{Compile, Check, Eval, Stat, Run}
-use Rattle.revc.specs.Commands.{Gives, gives, IsCause, IsCausedBy, IsCauseOrMemory, Serves, HasOneOutcome, most_bytes, statuses_of}
-use Rattle.revc.specs.Faults.{status_of, line_of}
-use Rattle.revc.specs.Top.{Grows, GrowsByPrefix, IsReadAt, IsReadFor, IsReadWhole, IsStatusOfAll, MayEnd, Receives, RestsOnText, Served, Stopped}
+use Rattle.revc.specs.Commands.{Gives, gives, causes, serves, IsCause, IsExact, IsCausedBy, IsCauseOrMemory, Serves, most_bytes, statuses_of}
+use Rattle.command_answers.specs.Outcomes.{HasOneOutcome}
+use Rattle.command_answers.specs.Faults.{status_of, line_of}
+use Rattle.revc.specs.Top.{Grows, GrowsByPrefix, IsReadAt, IsReadFor, IsReadWhole, IsStatusOfAll, MayEnd, RestsOnText, Served, Stopped}
+use Rattle.command_answers.specs.Faults.{Receives}
 use Rattle.revc_words.specs.declared.limits.TheConstants.{MOST_NODES, USUAL_GATES, USUAL_LINES, USUAL_NODES}
 use Rattle.gate_split.specs.declared.plan.TheConstants.{MOST_BORROWED, MOST_GATES, MOST_LINES}
-use Rattle.revc.specs.inside.Outcomes.{HasLimits}
+use Rattle.program_commands.specs.Outcomes.{HasLimits}
 use Rattle.revc_words.specs.declared.order.Format.{Format}
 use Rattle.revc_words.specs.declared.order.Format.TheVariants.{Real}
 use Rattle.revc_words.specs.Words.{OrderView, IsOrder, HasNoOrder, IsNumberIn, format_word, value_of}
-use Rattle.revc.proofs.CompileLemmas as compile
-use Rattle.revc.proofs.EvalLemmas as eval
-use Rattle.revc.proofs.CheckLemmas as check
-use Rattle.revc.proofs.CircuitLemmas as circuit
+use Rattle.program_commands.proofs.CompileLemmas as compile
+use Rattle.program_commands.proofs.EvalLemmas as eval
+use Rattle.program_commands.proofs.CheckLemmas as check
+use Rattle.circuit_commands.proofs.CircuitLemmas as circuit
 use Rattle.revc_words.proofs.OrderLemmas.{one_order}
 
-one_outcome : (command : Command) → HasOneOutcome command
+one_outcome : (command : Command) → HasOneOutcome (IsExact command) (gives command) (causes command) (serves command)
 one_outcome Compile = compile.one_outcome
 one_outcome Check = check.one_outcome
 one_outcome Eval = eval.one_outcome

@@ -1,22 +1,18 @@
 -- Each command by three definitions: what it gives for a text, which fault it may end with for one, and where it serves.
-use Rattle.std.specs.Prelude.{◌≡◌, ℕ, List, [], ◌∷◌}
-use Rattle.revc.specs.declared.fault.Fault.{Fault}
-use Rattle.revc.specs.declared.fault.Fault.TheVariants.{Usage, Lines, Gates, Read, Write, Memory}
-use Rattle.revc.specs.declared.limits.TheConstants.{MOST_CIRCUIT_BYTES}
+use Rattle.std.specs.Prelude.{ℕ, List, [], ◌∷◌}
+use Rattle.command_answers.specs.Outcomes.{IsAnyFault, IsNoBudget}
+use Rattle.command_answers.specs.declared.fault.Fault.{Fault}
+use Rattle.command_answers.specs.declared.fault.Fault.TheVariants.{Usage, Read, Write, Memory}
+use Rattle.circuit_commands.specs.declared.limits.TheConstants.{MOST_CIRCUIT_BYTES}
 use Rattle.revc_words.specs.declared.order.Command.{Command}
 use Rattle.revc_words.specs.declared.order.Command.TheVariants as commands
 use Rattle.revc_words.specs.Words.{OrderView}
 use Rattle.revs_parser.specs.declared.limits.TheConstants.{MOST_BYTES}
-use Rattle.revc.specs.Commands.Compile as compile
-use Rattle.revc.specs.Commands.Check as check
-use Rattle.revc.specs.Commands.Eval as eval
-use Rattle.revc.specs.Commands.Stat as stat
-use Rattle.revc.specs.Commands.Run as run
-pub mod Check
-pub mod Compile
-pub mod Eval
-pub mod Run
-pub mod Stat
+use Rattle.program_commands.specs.Compile as compile
+use Rattle.program_commands.specs.Check as check
+use Rattle.program_commands.specs.Eval as eval
+use Rattle.circuit_commands.specs.Stat as stat
+use Rattle.circuit_commands.specs.Run as run
 
 -- these bytes are what the order asks for, with this text on the source
 abbrev pub gives : Command → OrderView → List ℕ → List ℕ → Type 0
@@ -56,12 +52,10 @@ most_bytes commands.Stat = MOST_CIRCUIT_BYTES
 most_bytes commands.Run = MOST_CIRCUIT_BYTES
 most_bytes _ = MOST_BYTES
 
--- A fault is exact where it comes wherever it has its cause. A budget is no such fault: it may be kept where it could
--- be passed.
-abbrev pub IsExact : Fault → Type 0
-IsExact (Lines need limit) = ⊥
-IsExact (Gates limit) = ⊥
-IsExact fault = Unit {0}
+-- the faults that come wherever they have their cause: all but the budgets of plans
+abbrev pub IsExact : Command → Fault → Type 0
+IsExact commands.Compile = IsNoBudget
+IsExact _ = IsAnyFault
 
 abbrev pub Gives : OrderView → List ℕ → List ℕ → Type 0
 Gives order = gives order.command order
@@ -71,16 +65,6 @@ IsCause order = causes order.command order
 
 abbrev pub Serves : OrderView → List ℕ → Type 0
 Serves order = serves order.command order
-
--- What a command gives, its exact causes and where it serves exclude one another, and exact causes are one.
-pub record HasOneOutcome (command : Command) : Type 0 where
-  pub never_both : (order : OrderView) (text written : List ℕ) (fault : Fault)
-      → gives command order text written → causes command order text fault → IsExact fault → ⊥
-  pub one_cause : (order : OrderView) (text : List ℕ) (fault exact : Fault)
-      → causes command order text fault → causes command order text exact → IsExact exact
-      → exact ≡ fault
-  pub free : (order : OrderView) (text : List ℕ) (fault : Fault)
-      → serves command order text → causes command order text fault → ⊥
 
 -- a fault that rests on the text has its cause there; the words, the devices and memory are no matter of the text
 abbrev pub IsCausedBy : OrderView → List ℕ → Fault → Type 0

@@ -1,12 +1,11 @@
 -- What the top call answers, and what it leaves on its source and sinks.
 use Rattle.std.specs.Prelude.{◌≡◌, ◌≢◌, ℕ, ◌≤◌, Option, IfSome, List, ◌⊎◌, Contains, length}
 use Rattle.std.specs.Io.KnownBytes.{Appends, IsAtEnd}
-use Rattle.revc_io.specs.Faults.{Rose}
 use Rattle.revc_io.specs.Passing.{AppendsFront}
-use Rattle.revc.specs.declared.fault.Fault.{Fault}
-use Rattle.revc.specs.declared.fault.Fault.TheVariants.{Usage, Read, Memory}
+use Rattle.command_answers.specs.declared.fault.Fault.{Fault}
+use Rattle.command_answers.specs.declared.fault.Fault.TheVariants.{Usage, Read, Memory}
 use Rattle.revc.specs.Commands.{IsCause, IsExact, most_bytes, statuses_of}
-use Rattle.revc.specs.Faults.{status_of, line_of}
+use Rattle.command_answers.specs.Faults.{Receives, status_of, line_of}
 use Rattle.revc_words.specs.declared.order.Command.{Command}
 use Rattle.revc_words.specs.Words.{OrderView, IsOrder}
 
@@ -30,11 +29,6 @@ pub record GrowsByPrefix (P : List ℕ → Type 0) (old new : Option (List ℕ))
   pub bytes : List ℕ
   pub is : P bytes
   pub grown : AppendsFront old new bytes
-
--- the sink received the whole line, or a prefix of it where its count of faults rose
-abbrev pub Receives : Option (List ℕ) → Option (List ℕ) → ℕ → ℕ → List ℕ → Type 0
-Receives old new before now line =
-    Appends old new line ⊎ (Rose before now × AppendsFront old new line)
 
 -- the sink received the line of a fault with this status
 pub record Reports (status : ℕ) (old new : Option (List ℕ)) (before now : ℕ) : Type 0 where
@@ -60,7 +54,7 @@ pub record RestsOnText (status : ℕ) : Type 0 where
 
 -- each exact fault that the text lets the order end with has this status
 pub record IsStatusOfAll (order : OrderView) (text : List ℕ) (status : ℕ) : Type 0 where
-  pub each : (fault : Fault) → IsExact fault → IsCause order text fault → status ≡ status_of fault
+  pub each : (fault : Fault) → IsExact order.command fault → IsCause order text fault → status ≡ status_of fault
 
 -- a source that told a text within the command's limit is at its end
 abbrev pub IsReadWhole : Command → List ℕ → Option (List ℕ) → Type 0

@@ -5,23 +5,18 @@ ghost use Rattle.revc_io.specs.Faults.{HasCause};
 ghost use Rattle.revc_io.specs.Passing.{Writes};
 ghost use Rattle.revc_words.specs.Words.{order_of};
 ghost use Rattle.revc.specs.Commands.{Gives, IsCauseOrMemory, most_bytes};
-ghost use Rattle.revc.specs.inside.Outcomes.{CanBeWritten, HasLimits, IsWritable, file_of, text_of};
+ghost use Rattle.revc.specs.inside.Outcomes.{CanBeWritten, text_of};
+ghost use Rattle.program_commands.specs.Outcomes.{HasLimits, IsWritable, file_of};
 
-pub mod check;
-pub mod compile;
-pub mod eval;
-pub mod run;
-pub mod stat;
-
-use crate::digits::{write_digits, write_lines, write_number};
-use crate::fault::Fault;
-use crate::limits::MOST_CIRCUIT_BYTES;
+use circuit_commands::stat::Sizes;
+use circuit_commands::{MOST_CIRCUIT_BYTES, run, stat};
+use command_answers::{Fault, write_digits, write_lines, write_number};
 use gate_split::Laid;
+use program_commands::{check, compile, eval};
 use revc_base::Bits;
 use revc_io::{Failed, Sink};
 use revc_words::{Command, Format, Order};
 use revs_parser::MOST_BYTES;
-use stat::Sizes;
 use std::alloc::Global;
 
 /// What waits to be written.
@@ -47,24 +42,12 @@ impl Prepared {
         ensures cause { HasCause (K.faults out.old) (K.faults out.new) result }
     {
         match self {
-            Prepared::File(format, laid) => write_file(*format, laid, out),
+            Prepared::File(format, laid) => compile::write(*format, laid, out),
             Prepared::Claims(count) => write_number(out, b"claims ", *count as u64, b"\n"),
             Prepared::Digits(bits) => write_digits(bits.bits(), out),
             Prepared::Lines(lines) => write_lines(lines, out),
             Prepared::Stat(sizes) => stat::write(sizes, out),
         }
-    }
-}
-
-// Writes the file of a compiled circuit.
-fn write_file<K: Sink>(format: Format, laid: &Laid, out: &mut K) -> Result<(), Failed>
-    requires { IsWritable laid.now }
-    ensures bytes { Writes result (K.held out.old) (K.held out.new) (file_of format laid.now) }
-    ensures cause { HasCause (K.faults out.old) (K.faults out.new) result }
-{
-    match format {
-        Format::Real => real_format::write(laid, out),
-        Format::Qasm => qasm_format::write(laid, out),
     }
 }
 

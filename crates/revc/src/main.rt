@@ -2,20 +2,13 @@
 //! of space-efficient reversible circuits, CAV 2017).
 #![tactic(auto)]
 
-mod circuit;
 #[cfg(test)]
 mod circuit_tests;
 #[cfg(test)]
 mod claim_tests;
 mod commands;
-mod digits;
-mod fault;
-mod limits;
 #[cfg(test)]
 mod plan_tests;
-mod program;
-mod report;
-mod settling;
 #[cfg(test)]
 mod tests;
 mod top;

@@ -3,16 +3,15 @@ ghost use Rattle.std.specs.Prelude.{◌≡◌, ◌≢◌, ◌↔◌, ◌≤◌, 
 ghost use Rattle.std.specs.Io.KnownBytes.{IsAtEnd};
 ghost use Rattle.revc_io.specs.Faults.{Rose};
 ghost use Rattle.revc.specs.Commands.{Gives, IsCausedBy, IsCauseOrMemory, Serves, most_bytes, statuses_of};
-ghost use Rattle.revc.specs.Faults.{status_of};
+ghost use Rattle.command_answers.specs.Faults.{status_of};
 ghost use Rattle.revc.specs.Top.{Grows, GrowsByPrefix, IsReadAt, IsReadFor, IsReadWhole, IsStatusOfAll, MayEnd};
 ghost use Rattle.revc.specs.Top.{Reports, RestsOnText, Served, Stopped};
 ghost use Rattle.revc_words.specs.Words.{HasNoOrder, order_of, words_of};
 ghost use Rattle.revc.specs.inside.Mappings.{reading_fault, too_long, words_fault};
-ghost use Rattle.revc.specs.inside.Outcomes.{HasLimits};
+ghost use Rattle.program_commands.specs.Outcomes.{HasLimits};
 
 use crate::commands::{most_bytes, prepare};
-use crate::fault::{CircuitRefusal, Fault, Refusal};
-use crate::report::report;
+use command_answers::{CircuitRefusal, Fault, Refusal, report};
 use revc_io::{ReadFault, Sink, Source, read_up_to};
 use revc_words::{Command, Order, WordsFault, read_words};
 use std::alloc::Global;

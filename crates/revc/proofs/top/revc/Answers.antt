@@ -1,6 +1,6 @@
 use Rattle.std.proofs.Common.{◌≡◌, Err, ap, map, string_bytes}
 use Rattle.std.specs.Prelude.{Result, IsErrOf}
-use Rattle.revc.specs.declared.fault.Fault.{Fault}
+use Rattle.command_answers.specs.declared.fault.Fault.{Fault}
 use Rattle.revc_io.specs.Faults.{Rose}
 use Rattle.revc.specs.Commands.{Gives}
 use Rattle.revc.specs.Top.{Grows, IsStatusOfAll}

@@ -1,7 +1,7 @@
 use Rattle.std.proofs.Common.{map, string_bytes}
 use Rattle.std.specs.Prelude.{IfSome, Contains}
 use Rattle.revc.specs.Commands.{Gives, IsCausedBy, statuses_of}
-use Rattle.revc.specs.Faults.{status_of}
+use Rattle.command_answers.specs.Faults.{status_of}
 use Rattle.revc.specs.Top.{Grows, GrowsByPrefix, IsReadAt, IsReadWhole}
 use Rattle.revc_words.specs.Words.{order_of}
 use Rattle.revc.proofs.TopLemmas.{serve, limits_of, may_end, read_for, words_caused, words_may_end, words_read, on_ok, if_err}

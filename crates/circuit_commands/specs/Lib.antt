@@ -1,0 +1,5 @@
+pub mod Circuits
+pub mod Stat
+pub mod Run
+pub mod Outcomes
+pub mod inside

@@ -1,0 +1,120 @@
+// `stat`: the counts and the depth of a circuit.
+ghost use Rattle.std.specs.Prelude.{◌≡◌, ◌++◌, ◌≤◌, codes, length, IfOk, IfErr};
+ghost use Rattle.revc_io.specs.Faults.{HasCause};
+ghost use Rattle.revc_io.specs.Passing.{Gathers, Writes};
+ghost use Rattle.circuit_commands.specs.declared.limits.TheConstants.{MOST_CIRCUIT_BYTES};
+ghost use Rattle.circuit_commands.specs.Circuits.{of_real};
+ghost use Rattle.command_answers.specs.Outcomes.{HasOneOutcome, IsAnyFault};
+ghost use Rattle.circuit_commands.specs.Stat.{Gives, IsCause, Serves, IsMeasured, flips_text, sizes_of, stat_text};
+ghost use Rattle.command_answers.specs.Lines.{number_line};
+ghost use Rattle.circuit_commands.specs.Outcomes.{IsCircuitFault};
+
+use crate::circuit::read_circuit;
+use command_answers::put_number;
+use command_answers::Fault;
+use mct_circuit::Counts;
+use real_format::RealFile;
+use revc_base::Memory;
+use revc_io::{Buffer, Failed, Sink};
+use revc_words::Format;
+use std::alloc::Global;
+
+/// The sizes of a circuit: how many lines it has, how many gates, how many of each kind, and how deep they stand.
+#[derive(Clone, Copy, Debug, PartialEq, Eq)]
+pub struct Sizes {
+    pub lines: u32,
+    pub gates: u64,
+    pub counts: Counts,
+    pub depth: u64,
+}
+
+/// What `stat` gives, its causes and where it serves exclude one another, and it has one cause at most.
+pub fn one_outcome()
+    ensures { HasOneOutcome IsAnyFault Gives IsCause Serves }
+{}
+
+/// The sizes of the circuit that a text means. A fault is exactly the text's, or want of memory.
+pub fn measure(alloc: Global, text: &[u8], from: Format) -> Result<Sizes, Fault>
+    requires short { length text.now ≤ MOST_CIRCUIT_BYTES }
+    requires from { from ≡ Format.Real }
+    ensures ok { IfOk result (λ sizes. IsMeasured from text.now (stat_text sizes)) }
+    ensures err { IfErr result (IsCircuitFault from text.now) }
+{
+    let file = read_circuit(alloc, text, from)?;
+    Ok(sizes_of(&file)?)
+}
+
+fn sizes_of(file: &RealFile) -> Result<Sizes, Memory>
+    ensures { IfOk result (λ sizes. sizes ≡ sizes_of (of_real file.now)) }
+{
+    let circuit = file.circuit();
+    // This call says that there is a mark for each line.
+    let _ = file.constants();
+    Ok(Sizes {
+        lines: circuit.lines(),
+        gates: circuit.len(),
+        counts: circuit.counts(),
+        depth: circuit.depth()?,
+    })
+}
+
+/// Writes the lines of the sizes. It takes no memory.
+pub fn write<K: Sink>(sizes: &Sizes, out: &mut K) -> Result<(), Failed>
+    ensures bytes { Writes result (K.held out.old) (K.held out.new) (stat_text sizes.now) }
+    ensures cause { HasCause (K.faults out.old) (K.faults out.new) result }
+{
+    let mut buffer = Buffer::new();
+    put(&mut buffer, out, sizes)?;
+    buffer.finish(out)
+}
+
+fn put<K: Sink>(buffer: &mut Buffer, out: &mut K, sizes: &Sizes) -> Result<(), Failed>
+    ensures bytes { Gathers result (K.held out.old) (K.held out.new) buffer.old buffer.new
+        (stat_text sizes.now) }
+    ensures cause { HasCause (K.faults out.old) (K.faults out.new) result }
+{
+    put_two(
+        buffer,
+        out,
+        b"lines ",
+        sizes.lines as u64,
+        b"gates ",
+        sizes.gates,
+    )?;
+    put_flips(buffer, out, sizes.counts)?;
+    put_two(
+        buffer,
+        out,
+        b"swap ",
+        sizes.counts.swap,
+        b"depth ",
+        sizes.depth,
+    )
+}
+
+// Puts the lines of the flips.
+fn put_flips<K: Sink>(buffer: &mut Buffer, out: &mut K, counts: Counts) -> Result<(), Failed>
+    ensures bytes { Gathers result (K.held out.old) (K.held out.new) buffer.old buffer.new
+        (flips_text counts) }
+    ensures cause { HasCause (K.faults out.old) (K.faults out.new) result }
+{
+    put_two(buffer, out, b"x ", counts.x, b"cx ", counts.cx)?;
+    put_two(buffer, out, b"ccx ", counts.ccx, b"wide ", counts.wide)
+}
+
+// Puts two words, each with a number, a line for each.
+fn put_two<K: Sink>(
+    buffer: &mut Buffer,
+    out: &mut K,
+    first: &[u8],
+    one: u64,
+    second: &[u8],
+    other: u64,
+) -> Result<(), Failed>
+    ensures bytes { Gathers result (K.held out.old) (K.held out.new) buffer.old buffer.new
+        (number_line first.now one ++ number_line second.now other) }
+    ensures cause { HasCause (K.faults out.old) (K.faults out.new) result }
+{
+    put_number(buffer, out, first, one, b"\n")?;
+    put_number(buffer, out, second, other, b"\n")
+}

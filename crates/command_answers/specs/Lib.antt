@@ -1,0 +1,4 @@
+pub mod BitWords
+pub mod Lines
+pub mod Faults
+pub mod Outcomes

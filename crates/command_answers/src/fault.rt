@@ -1,0 +1,126 @@
+ghost use Rattle.std.specs.Prelude.{◌≡◌};
+ghost use Rattle.command_answers.specs.Faults.{kind_text, status_of};
+
+use revc_base::{Bits, Place};
+use revs_terms::Cause;
+use thiserror::Error;
+
+/// Why a command did not end well. Each fault has a status and a line of its own, which `report` writes; it carries
+/// what the line shows.
+#[derive(Debug, Drop, Error)]
+pub enum Fault {
+    #[error("bad command line")]
+    Usage,
+    #[error("program refused")]
+    Refused(Refusal),
+    /// The claim with this number, counted from 1, fails on these bits. Its term is at the place.
+    #[error("claim fails")]
+    Claim { number: u32, at: Place, bits: Bits },
+    /// With the claim of this number, counted from 1, the claims rest on more functions than the limit. Its term is at
+    /// the place.
+    #[error("diagrams over budget")]
+    Diagram { number: u32, at: Place, limit: u32 },
+    /// A circuit needs so many lines, more than the limit.
+    #[error("lines over budget")]
+    Lines { need: u32, limit: u32 },
+    /// A circuit needs more gates than the limit.
+    #[error("gates over budget")]
+    Gates { limit: u64 },
+    #[error("circuit refused")]
+    Circuit(CircuitRefusal),
+    /// The word of bits with this number, counted from 1, does not fit.
+    #[error("bad bits")]
+    BadBits { word: usize },
+    #[error("read fault")]
+    Read,
+    #[error("write fault")]
+    Write,
+    #[error("out of memory")]
+    Memory,
+}
+
+/// Why a program text is refused.
+#[derive(Clone, Copy, Debug, PartialEq, Eq)]
+pub enum Refusal {
+    /// It has more than 1,048,576 bytes.
+    TooLong,
+    /// It is refused at this place.
+    At(Kind, Place),
+}
+
+/// Why a circuit text is refused. Lines are counted from 1.
+#[derive(Clone, Copy, Debug, PartialEq, Eq)]
+pub enum CircuitRefusal {
+    /// It has more than 134,217,728 bytes.
+    TooLong,
+    /// This line is the first that breaks a rule.
+    Line { number: u32 },
+    /// This line is the first that breaks a rule, and passes a limit.
+    Limit { number: u32 },
+}
+
+/// What is wrong at a place.
+#[derive(Clone, Copy, Debug, PartialEq, Eq)]
+pub enum Kind {
+    BadByte,
+    LongName,
+    LongNumber,
+    Syntax,
+    Nesting,
+    Inputs,
+    Unbound,
+    TwoParams,
+    /// The run is stuck.
+    Stuck(Cause),
+}
+
+impl Fault {
+    /// The status with which the program ends.
+    pub fn status(&self) -> u8
+        ensures { result ≡ status_of self.now }
+    {
+        match self {
+            Fault::Usage => 2,
+            Fault::Refused(_) => 3,
+            Fault::Claim { .. } => 4,
+            Fault::Diagram { .. } => 5,
+            Fault::Lines { .. } => 6,
+            Fault::Gates { .. } => 7,
+            Fault::Circuit(_) => 8,
+            Fault::Read => 9,
+            Fault::Write => 10,
+            Fault::Memory => 11,
+            Fault::BadBits { .. } => 12,
+        }
+    }
+}
+
+impl Kind {
+    /// The word for the kind in a line of standard error.
+    pub fn text(self) -> &'static [u8]
+        ensures { result.now ≡ kind_text self }
+    {
+        match self {
+            Kind::BadByte => b"BadByte",
+            Kind::LongName => b"LongName",
+            Kind::LongNumber => b"LongNumber",
+            Kind::Syntax => b"Syntax",
+            Kind::Nesting => b"Nesting",
+            Kind::Inputs => b"Inputs",
+            Kind::Unbound => b"Unbound",
+            Kind::TwoParams => b"TwoParams",
+            Kind::Stuck(cause) => cause.word(),
+        }
+    }
+}
+
+impl From<revc_base::Memory> for Fault {
+    ghost use Rattle.std.specs.Prelude.{◌≡◌};
+    ghost use Rattle.command_answers.specs.declared.fault.Fault.TheVariants as faults;
+
+    ghost from_gives = { λ _ e. e ≡ faults.Memory };
+
+    fn from(_: revc_base::Memory) -> Fault {
+        Fault::Memory
+    }
+}

@@ -1,0 +1,203 @@
+// The lines for standard error. They take no memory.
+ghost use Rattle.std.specs.Prelude.{◌≡◌, ◌++◌, codes};
+ghost use Rattle.std.specs.Fmt.{decimal};
+ghost use Rattle.revc_io.specs.Faults.{HasCause};
+ghost use Rattle.revc_io.specs.Passing.{Gathers, Writes};
+ghost use Rattle.command_answers.specs.Faults.{bits_line, circuit_line, claim_line, diagram_line, kind_text, line_of};
+ghost use Rattle.command_answers.specs.Lines.{digits_of};
+ghost use Rattle.command_answers.specs.Faults.{lines_line, place_text, refusal_line};
+ghost use Rattle.command_answers.specs.Faults.{Receives};
+
+use crate::digits::{put_line_of_digits, put_number};
+use crate::fault::{CircuitRefusal, Fault, Kind, Refusal};
+use revc_base::Place;
+use revc_io::{Buffer, Failed, Sink, put_decimal};
+
+/// Writes the line of a fault. A fault of the sink changes nothing.
+pub fn report<E: Sink>(err: &mut E, fault: &Fault)
+    ensures { Receives (E.held err.old) (E.held err.new) (E.faults err.old) (E.faults err.new)
+        (line_of fault.now) }
+{
+    let _ = write_line(err, fault);
+}
+
+fn write_line<E: Sink>(err: &mut E, fault: &Fault) -> Result<(), Failed>
+    ensures bytes { Writes result (E.held err.old) (E.held err.new) (line_of fault.now) }
+    ensures cause { HasCause (E.faults err.old) (E.faults err.new) result }
+{
+    let mut buffer = Buffer::new();
+    put_line(&mut buffer, err, fault)?;
+    buffer.finish(err)
+}
+
+fn put_line<E: Sink>(buffer: &mut Buffer, err: &mut E, fault: &Fault) -> Result<(), Failed>
+    ensures bytes { Gathers result (E.held err.old) (E.held err.new) buffer.old buffer.new
+        (line_of fault.now) }
+    ensures cause { HasCause (E.faults err.old) (E.faults err.new) result }
+{
+    match fault {
+        Fault::Usage => buffer.put(err, b"revc: bad command line\n"),
+        Fault::Refused(refusal) => put_refusal(buffer, err, *refusal),
+        Fault::Claim { number, at, bits } => put_claim(buffer, err, *number, *at, bits.bits()),
+        Fault::Diagram { number, at, limit } => put_diagram(buffer, err, *number, *at, *limit),
+        Fault::Lines { need, limit } => put_lines(buffer, err, *need, *limit),
+        Fault::Gates { limit } => {
+            put_number(buffer, err, b"revc: more than ", *limit, b" gates\n")
+        }
+        Fault::Circuit(refusal) => put_circuit(buffer, err, *refusal),
+        Fault::BadBits { word } => {
+            put_number(buffer, err, b"revc: bad bits in word ", *word as u64, b"\n")
+        }
+        Fault::Read => buffer.put(err, b"revc: read fault\n"),
+        Fault::Write => buffer.put(err, b"revc: write fault\n"),
+        Fault::Memory => buffer.put(err, b"revc: out of memory\n"),
+    }
+}
+
+fn put_refusal<E: Sink>(buffer: &mut Buffer, err: &mut E, refusal: Refusal) -> Result<(), Failed>
+    ensures bytes { Gathers result (E.held err.old) (E.held err.new) buffer.old buffer.new
+        (refusal_line refusal) }
+    ensures cause { HasCause (E.faults err.old) (E.faults err.new) result }
+{
+    match refusal {
+        Refusal::TooLong => buffer.put(err, b"revc: source over 1048576 bytes\n"),
+        Refusal::At(kind, at) => put_at(buffer, err, kind, at),
+    }
+}
+
+fn put_at<E: Sink>(buffer: &mut Buffer, err: &mut E, kind: Kind, at: Place) -> Result<(), Failed>
+    ensures bytes { Gathers result (E.held err.old) (E.held err.new) buffer.old buffer.new
+        (codes "revc: " ++ (place_text at ++ (codes " " ++ (kind_text kind ++ codes "\n")))) }
+    ensures cause { HasCause (E.faults err.old) (E.faults err.new) result }
+{
+    buffer.put(err, b"revc: ")?;
+    put_place(buffer, err, at)?;
+    put_kind(buffer, err, kind)
+}
+
+fn put_place<E: Sink>(buffer: &mut Buffer, err: &mut E, at: Place) -> Result<(), Failed>
+    ensures bytes { Gathers result (E.held err.old) (E.held err.new) buffer.old buffer.new
+        (place_text at) }
+    ensures cause { HasCause (E.faults err.old) (E.faults err.new) result }
+{
+    put_decimal(buffer, err, at.line as u64)?;
+    buffer.put(err, b":")?;
+    put_decimal(buffer, err, at.column as u64)
+}
+
+fn put_kind<E: Sink>(buffer: &mut Buffer, err: &mut E, kind: Kind) -> Result<(), Failed>
+    ensures bytes { Gathers result (E.held err.old) (E.held err.new) buffer.old buffer.new
+        (codes " " ++ (kind_text kind ++ codes "\n")) }
+    ensures cause { HasCause (E.faults err.old) (E.faults err.new) result }
+{
+    buffer.put(err, b" ")?;
+    buffer.put(err, kind.text())?;
+    buffer.put(err, b"\n")
+}
+
+fn put_claim<E: Sink>(
+    buffer: &mut Buffer,
+    err: &mut E,
+    number: u32,
+    at: Place,
+    bits: &[bool],
+) -> Result<(), Failed>
+    ensures bytes { Gathers result (E.held err.old) (E.held err.new) buffer.old buffer.new
+        (claim_line number at bits.now) }
+    ensures cause { HasCause (E.faults err.old) (E.faults err.new) result }
+{
+    buffer.put(err, b"revc: claim ")?;
+    put_decimal(buffer, err, number as u64)?;
+    put_claim_place(buffer, err, at, bits)
+}
+
+fn put_claim_place<E: Sink>(
+    buffer: &mut Buffer,
+    err: &mut E,
+    at: Place,
+    bits: &[bool],
+) -> Result<(), Failed>
+    ensures bytes { Gathers result (E.held err.old) (E.held err.new) buffer.old buffer.new
+        (codes " at " ++ (place_text at
+        ++ (codes " fails on " ++ (digits_of bits.now ++ codes "\n")))) }
+    ensures cause { HasCause (E.faults err.old) (E.faults err.new) result }
+{
+    buffer.put(err, b" at ")?;
+    put_place(buffer, err, at)?;
+    put_failing(buffer, err, bits)
+}
+
+fn put_failing<E: Sink>(buffer: &mut Buffer, err: &mut E, bits: &[bool]) -> Result<(), Failed>
+    ensures bytes { Gathers result (E.held err.old) (E.held err.new) buffer.old buffer.new
+        (codes " fails on " ++ (digits_of bits.now ++ codes "\n")) }
+    ensures cause { HasCause (E.faults err.old) (E.faults err.new) result }
+{
+    buffer.put(err, b" fails on ")?;
+    put_line_of_digits(buffer, err, bits)
+}
+
+fn put_diagram<E: Sink>(
+    buffer: &mut Buffer,
+    err: &mut E,
+    number: u32,
+    at: Place,
+    limit: u32,
+) -> Result<(), Failed>
+    ensures bytes { Gathers result (E.held err.old) (E.held err.new) buffer.old buffer.new
+        (diagram_line number at limit) }
+    ensures cause { HasCause (E.faults err.old) (E.faults err.new) result }
+{
+    buffer.put(err, b"revc: claim ")?;
+    put_decimal(buffer, err, number as u64)?;
+    put_diagram_place(buffer, err, at, limit)
+}
+
+fn put_diagram_place<E: Sink>(
+    buffer: &mut Buffer,
+    err: &mut E,
+    at: Place,
+    limit: u32,
+) -> Result<(), Failed>
+    ensures bytes { Gathers result (E.held err.old) (E.held err.new) buffer.old buffer.new
+        (codes " at " ++ (place_text at
+        ++ (codes " passes " ++ (decimal limit ++ codes " nodes\n")))) }
+    ensures cause { HasCause (E.faults err.old) (E.faults err.new) result }
+{
+    buffer.put(err, b" at ")?;
+    put_place(buffer, err, at)?;
+    put_number(buffer, err, b" passes ", limit as u64, b" nodes\n")
+}
+
+fn put_circuit<E: Sink>(
+    buffer: &mut Buffer,
+    err: &mut E,
+    refusal: CircuitRefusal,
+) -> Result<(), Failed>
+    ensures bytes { Gathers result (E.held err.old) (E.held err.new) buffer.old buffer.new
+        (circuit_line refusal) }
+    ensures cause { HasCause (E.faults err.old) (E.faults err.new) result }
+{
+    match refusal {
+        CircuitRefusal::TooLong => buffer.put(err, b"revc: circuit over 134217728 bytes\n"),
+        CircuitRefusal::Line { number } => {
+            put_number(buffer, err, b"revc: circuit line ", number as u64, b"\n")
+        }
+        CircuitRefusal::Limit { number } => put_number(
+            buffer,
+            err,
+            b"revc: circuit line ",
+            number as u64,
+            b" over a limit\n",
+        ),
+    }
+}
+
+fn put_lines<E: Sink>(buffer: &mut Buffer, err: &mut E, need: u32, limit: u32) -> Result<(), Failed>
+    ensures bytes { Gathers result (E.held err.old) (E.held err.new) buffer.old buffer.new
+        (lines_line need limit) }
+    ensures cause { HasCause (E.faults err.old) (E.faults err.new) result }
+{
+    buffer.put(err, b"revc: lines ")?;
+    put_decimal(buffer, err, need as u64)?;
+    put_number(buffer, err, b" over ", limit as u64, b"\n")
+}

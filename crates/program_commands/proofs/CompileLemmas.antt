@@ -1,0 +1,46 @@
+-- `compile` gives a file for a text, or has one exact cause, and serves each program whose claims hold and that keeps the budgets.
+use Rattle.std.proofs.Common.{◌≡◌, ℕ, List, sym, subst}
+use Rattle.claim_check.specs.Measures.{AreMeasuresOf}
+use Rattle.revc_base.specs.Tapes.{TapeView}
+use Rattle.command_answers.specs.declared.fault.Fault.{Fault}
+use Rattle.command_answers.specs.declared.fault.Fault.TheVariants as faults
+use Rattle.revc_words.specs.Words.{OrderView}
+use Rattle.command_answers.specs.Outcomes.{HasOneOutcome, IsNoBudget}
+use Rattle.program_commands.specs.Compile.{Gives, IsCause, Serves, IsCompiled, KeepsBudget, PassesGates, PassesLines}
+use Rattle.program_commands.proofs.SettlingLemmas.{one_left, one_stop, settled_or_stopped}
+
+-- the measures of one tape of a text are those of the other
+measures_of : (order : OrderView) (text : List ℕ) (k : KeepsBudget order text) (tape : TapeView) → tape ≡ k.tape → AreMeasuresOf tape k.measures
+measures_of order text k tape same = subst (λ (t : TapeView). AreMeasuresOf t k.measures) (sym same) k.are
+
+keeps_or_passes_lines : (order : OrderView) (text : List ℕ) (need limit : ℕ) → KeepsBudget order text → PassesLines order text need limit → ⊥
+keeps_or_passes_lines order text need limit k h =
+    h.no_row k.measures (measures_of order text k h.tape (one_left text k.tape h.tape k.settled.left h.settled.left)) k.fits
+
+keeps_or_passes_gates : (order : OrderView) (text : List ℕ) (limit : ℕ) → KeepsBudget order text → PassesGates order text limit → ⊥
+keeps_or_passes_gates order text limit k h =
+    h.no_row k.measures (measures_of order text k h.tape (one_left text k.tape h.tape k.settled.left h.settled.left)) k.fits
+
+never_both : (order : OrderView) (text file : List ℕ) (fault : Fault) → IsCompiled order text file → IsCause order text fault → IsNoBudget fault → ⊥
+never_both order text file (faults.Lines need limit) given cause exact = exact
+never_both order text file (faults.Gates limit) given cause exact = exact
+never_both order text file fault given cause exact = settled_or_stopped text order.nodes given.tape fault given.settled cause
+
+keeps_free : (order : OrderView) (text : List ℕ) (fault : Fault) → KeepsBudget order text → IsCause order text fault → ⊥
+keeps_free order text (faults.Lines need limit) served cause = keeps_or_passes_lines order text need limit served cause
+keeps_free order text (faults.Gates limit) served cause = keeps_or_passes_gates order text limit served cause
+keeps_free order text fault served cause = settled_or_stopped text order.nodes served.tape fault served.settled cause
+
+one_cause : (order : OrderView) (text : List ℕ) (fault exact : Fault) → IsCause order text fault → IsCause order text exact → IsNoBudget exact → exact ≡ fault
+one_cause order text fault (faults.Lines need limit) a b is = absurd is
+one_cause order text fault (faults.Gates limit) a b is = absurd is
+one_cause order text (faults.Lines need limit) exact a b is = absurd (settled_or_stopped text order.nodes a.tape exact a.settled b)
+one_cause order text (faults.Gates limit) exact a b is = absurd (settled_or_stopped text order.nodes a.tape exact a.settled b)
+one_cause order text fault exact a b is = one_stop text order.nodes exact fault b a
+
+pub one_outcome : HasOneOutcome IsNoBudget Gives IsCause Serves
+one_outcome = record {
+  never_both = λ order text written fault given cause exact. never_both order text written fault given cause exact;
+  one_cause = λ order text fault exact cause other is. one_cause order text fault exact cause other is;
+  free = λ order text fault served cause. keeps_free order text fault served cause;
+}

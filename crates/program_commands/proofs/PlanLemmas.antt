@@ -1,0 +1,161 @@
+-- The text of a clean plan is a clean file for the one program of a text, and why there is no plan.
+use Rattle.std.proofs.Common.{◌≡◌, ℕ, ◌+◌, ◌≤◌, suc, Bool, cond, List, length, sum, max, sym, ap, ◌∙◌, subst, inl, inr, arith}
+use Rattle.std.specs.Prelude.{Result, IsErrAnd, IfErr, nat_lt}
+use Rattle.std.proofs.lemmas.Bool.Decides.{leb_tells}
+use Rattle.std.proofs.lemmas.Result.{err_from_is_err_and}
+use Rattle.std.proofs.lemmas.List.{length-map}
+use Rattle.claim_check.specs.Budgets.{Measures}
+use Rattle.claim_check.specs.Measures.{AreMeasuresOf, IsNoLarger, IsWithin}
+use Rattle.claim_check.specs.Settled.{SettledView, IsSettledOf, settled_outputs}
+use Rattle.claim_check.proofs.BudgetLemmas.{settled_graphs_are_within}
+use Rattle.gate_split.specs.declared.plan.TheConstants.{MOST_LINES, MOST_GATES}
+use Rattle.gate_split.specs.Plans.{BudgetView, LaidView, PutsOutputs, roles_of, lines_in}
+use Rattle.held_nodes.specs.Held.{first_work}
+use Rattle.mct_circuit.specs.Gates.{AreGatesOn, AreNarrow}
+use Rattle.plan_choice.specs.Choices.{IsLaidFor}
+use Rattle.qasm_format.proofs.MeaningLemmas as qasm
+use Rattle.real_format.proofs.MeaningLemmas as real
+use Rattle.program_commands.specs.Outcomes.{IsCompileFault, IsSettlingFault, IsWritable, file_of}
+use Rattle.revc_words.specs.declared.order.Format.{Format}
+use Rattle.revc_words.specs.declared.order.Format.TheVariants.{Real, Qasm}
+use Rattle.revc_base.specs.Tapes.{TapeView, bit_on, outputs_on}
+use Rattle.revc_words.specs.Words.{OrderView}
+use Rattle.revs_parser.proofs.OneTextLemmas.{one_formed}
+use Rattle.revs_terms.specs.Runs.{IsInput}
+use Rattle.revs_terms.specs.Views.{ProgramView}
+use Rattle.revs_terms.proofs.TapeLemmas.{tape_gives_output}
+use Rattle.command_answers.specs.declared.fault.Fault.{Fault}
+use Rattle.command_answers.specs.declared.fault.Fault.TheVariants as faults
+use Rattle.program_commands.specs.Clean.{IsClean, ComputesOn, MeansIn}
+use Rattle.program_commands.specs.Compile.{IsCompiled, budget_of, least_lines}
+use Rattle.program_commands.specs.Settling.{LeavesTape, LeavesSettled}
+use Rattle.program_commands.specs.inside.Plans.{IsCleanPlan, IsPlanningFault}
+use Rattle.program_commands.proofs.FormedLemmas.{some_output}
+
+-- ---- the plan of the graph
+
+pub clean_plan : (text : List ℕ) (laid : LaidView) (tape : TapeView) (s : SettledView) (b : BudgetView) (l : LeavesTape text tape) → IsSettledOf tape s
+    → IsLaidFor s b laid → laid.inputs + laid.outputs + laid.work + laid.borrowed ≡ laid.circuit.lines → b.lines ≤ MOST_LINES → b.gates ≤ MOST_GATES
+    → IsCleanPlan laid l.program b
+clean_plan text laid tape s b l is plan sum_of lines gates =
+    let some = some_output text l.program tape l.formed l.tape_of in
+    let count = is.outputs in
+    let outputs = plan.outputs in
+    record { tape = tape; tape_of = l.tape_of; graph = s; graph_of = is; plan = plan; some = omega arith; most_lines = lines; most_gates = gates }
+
+computes_on : (laid : LaidView) (p : ProgramView) (b : BudgetView) → IsCleanPlan laid p b → (input rest : List Bool) → IsInput p.params input
+    → length rest ≡ b.borrow → ComputesOn p (roles_of laid) laid.circuit.gates input rest
+computes_on laid p b c input rest size many =
+    let gives : PutsOutputs (roles_of laid) laid.circuit.gates input (settled_outputs c.graph input) rest = c.plan.clean.puts input rest
+    (size ∙ ap sum (sym c.tape_of.widths) ∙ sym c.graph_of.inputs ∙ sym c.plan.inputs) (many ∙ sym c.plan.borrowed) in
+    record {
+      output = outputs_on c.tape input;
+      is = tape_gives_output p.params p.body c.tape c.tape_of input size;
+      size = length-map c.tape.outputs (bit_on c.tape input) ∙ sym c.graph_of.outputs ∙ sym c.plan.outputs;
+      puts = subst (λ bits. PutsOutputs (roles_of laid) laid.circuit.gates input bits rest) (c.graph_of.values input) gives;
+    }
+
+abbrev clean_file : (format : Format) (laid : LaidView) (p : ProgramView) (b : BudgetView) → IsCleanPlan laid p b → AreNarrow laid.circuit.gates
+    → (text : List ℕ) → MeansIn format text (roles_of laid) laid.circuit.gates → IsClean format text p b.borrow
+clean_file format laid p b c narrow text means = record {
+  roles = roles_of laid;
+  gates = laid.circuit.gates;
+  meaning = means;
+  inputs = c.plan.inputs ∙ c.graph_of.inputs ∙ ap sum c.tape_of.widths;
+  borrows = c.plan.borrowed;
+  narrow = narrow;
+  computes = computes_on laid p b c;
+}
+
+-- what a laid plan says of itself: its gates are narrow and on its lines, which are those of its roles
+pub record IsWhole (laid : LaidView) : Type 0 where
+  pub sum_of : laid.inputs + laid.outputs + laid.work + laid.borrowed ≡ laid.circuit.lines
+  pub narrow : AreNarrow laid.circuit.gates
+  pub on : AreGatesOn laid.circuit.lines laid.circuit.gates
+
+-- the file of a plan means the plan, in each format
+means_itself : (format : Format) (laid : LaidView) (p : ProgramView) (b : BudgetView) → IsCleanPlan laid p b → IsWhole laid
+    → MeansIn format (file_of format laid) (roles_of laid) laid.circuit.gates
+means_itself format laid p b c w =
+    let lines = c.plan.lines in
+    let some = c.some in
+    let most = c.most_lines in
+    let gates = c.plan.gates in
+    let most_gates = c.most_gates in
+    let sum_of = w.sum_of in
+    let same : laid.circuit.lines ≡ lines_in (roles_of laid) = sym w.sum_of in
+    of_format format (omega arith) (omega arith) (omega arith) (subst (λ n. AreGatesOn n laid.circuit.gates) same w.on)
+  where
+    of_format : (format : Format) → 1 ≤ lines_in (roles_of laid) → lines_in (roles_of laid) ≤ MOST_LINES → length laid.circuit.gates ≤ MOST_GATES
+        → AreGatesOn (lines_in (roles_of laid)) laid.circuit.gates → MeansIn format (file_of format laid) (roles_of laid) laid.circuit.gates
+    of_format Real some few gates on = real.compiled_has_meaning (roles_of laid) laid.circuit.gates some few gates on w.narrow
+    of_format Qasm some few gates on = qasm.compiled_has_meaning (roles_of laid) laid.circuit.gates some few gates on w.narrow
+
+pub compiled_file : (order : OrderView) (text : List ℕ) (laid : LaidView) (tape : TapeView) (l : LeavesSettled text order.nodes tape)
+    → IsCleanPlan laid l.left.program (budget_of order) → IsWhole laid → IsCompiled order text (file_of order.format laid)
+compiled_file order text laid tape l c w =
+    let p = l.left.program in
+    let lines = c.plan.lines in
+    let sum_of = w.sum_of in
+    record {
+      tape = tape;
+      settled = l;
+      only = λ q is. one_formed text q p is l.left.formed;
+      clean = clean_file order.format laid p (budget_of order) c w.narrow (file_of order.format laid)
+          (means_itself order.format laid p (budget_of order) c w);
+      few_lines = omega arith;
+      few_gates = c.plan.gates;
+    }
+
+pub writable : (laid : LaidView) (p : ProgramView) (b : BudgetView) → IsCleanPlan laid p b → IsWritable laid
+writable laid p b c =
+    let lines = c.plan.lines in
+    let gates = c.plan.gates in
+    let most = c.most_lines in
+    let most_gates = c.most_gates in
+    record { some = c.some; few = omega arith; few_gates = omega arith }
+
+-- ---- the budgets
+
+greatest : (a limit : ℕ) → cond (nat_lt limit a) a (limit + 1) ≡ max a (limit + 1)
+greatest a limit = elim (leb_tells (suc limit) a) [ inl t ↦ rw t.0 (omega arith) | inr t ↦ rw t.0 (omega arith) ]
+
+-- a settled graph has no plan only where the measures of its tape leave no row
+pub planning_fault : (order : OrderView) (text : List ℕ) (tape : TapeView) (s : SettledView) (fault : Fault) → LeavesSettled text order.nodes tape
+    → IsSettledOf tape s → IsNoLarger tape s → IsPlanningFault order.plan s (budget_of order) fault → IsCompileFault order text fault
+planning_fault order text tape s (faults.Lines need limit) l is no_larger h =
+    let within : (m : Measures) → AreMeasuresOf tape m → IsWithin s m = λ m are. settled_graphs_are_within tape s m is no_larger are in
+    let inputs = is.inputs in
+    let outputs = is.outputs in
+    let same : first_work s + order.borrow ≡ least_lines tape order = omega arith in
+    record {
+      tape = tape;
+      settled = l;
+      few = λ m are. h.0.few m (within m are);
+      no_row = λ m are. h.0.no_row m (within m are);
+      needed = h.1 ∙ greatest (first_work s + order.borrow) order.lines ∙ ap (λ n. max n (order.lines + 1)) same
+          ∙ ap (λ n. max (least_lines tape order) (n + 1)) (sym h.2);
+      limit_is = h.2;
+    }
+planning_fault order text tape s (faults.Gates limit) l is no_larger h =
+    let within : (m : Measures) → AreMeasuresOf tape m → IsWithin s m = λ m are. settled_graphs_are_within tape s m is no_larger are in
+    record {
+      tape = tape;
+      settled = l;
+      few = λ m are. h.0.few m (within m are);
+      no_row = λ m are. h.0.no_row m (within m are);
+      limit_is = h.1;
+    }
+planning_fault order text tape s faults.Memory l is no_larger h = tt
+planning_fault order text tape s fault l is no_larger h = absurd h
+
+-- what stops the claims stops the file
+pub settling_fault : (order : OrderView) (text : List ℕ) (fault : Fault) → IsSettlingFault text order.nodes fault → IsCompileFault order text fault
+settling_fault order text faults.Memory h = tt
+settling_fault order text (faults.Lines need limit) h = absurd h
+settling_fault order text (faults.Gates limit) h = absurd h
+settling_fault order text fault h = h
+
+-- what a called function's fault says, the fault that is passed on says
+pub passes_on : {T : Type 0} {fault : Fault} (Q : Fault → Type 0) (r : Result T Fault) → IsErrAnd r (λ e. e ≡ fault) → Q fault → IfErr r Q
+passes_on {T} {fault} Q r e q = let p = err_from_is_err_and r e in rw (p.1, p.2) q

@@ -1,0 +1,154 @@
+-- The claims of a text are settled, or one fault stops them.
+use Rattle.std.proofs.Common.{◌≡◌, ℕ, ◌+◌, List, Bool, None, Some, Option, refl, sym, ap, ◌∙◌, subst}
+use Rattle.std.specs.Prelude.{slice_get, slice_index_or, IfSome}
+use Rattle.std.proofs.lemmas.Option.{same_Some, get_or_from_slice_get}
+use Rattle.claim_check.specs.Claims.{HoldWithin, BreaksOn, PassesAt}
+use Rattle.claim_check.proofs.OneWayLemmas.{claims_end_in_one_way}
+use Rattle.revc_base.specs.declared.place.Place.{Place}
+use Rattle.revc_base.specs.declared.tape.Claim.{Claim}
+use Rattle.revc_base.specs.Tapes.{TapeView}
+use Rattle.revs_parser.proofs.OneTextLemmas.{one_formed}
+use Rattle.revs_terms.proofs.TapeLemmas.{one_tape_at_most}
+use Rattle.revs_terms.specs.Runs.{IsTapeOf}
+use Rattle.revs_terms.specs.Views.{ProgramView}
+use Rattle.command_answers.specs.declared.fault.Fault.{Fault}
+use Rattle.command_answers.specs.declared.fault.Fault.TheVariants as faults
+use Rattle.command_answers.specs.declared.fault.Refusal.{Refusal}
+use Rattle.program_commands.specs.Refusals.{IsRefusal}
+use Rattle.program_commands.specs.Settling.{LeavesTape, LeavesSettled, BreaksClaim, PassesNodes, StopsSettling}
+use Rattle.program_commands.proofs.RefusalLemmas.{one_refusal, never_refused}
+
+-- a text leaves one tape
+pub one_left : (text : List ℕ) (tape other : TapeView) → LeavesTape text tape → LeavesTape text other → other ≡ tape
+one_left text tape other l m = one_tape_at_most l.program.params l.program.body tape other l.tape_of
+    (subst (λ (p : ProgramView). IsTapeOf p.params p.body other) (one_formed text m.program l.program m.formed l.formed) m.tape_of)
+
+-- a well-formed text has no refusal
+left_or_refused : (text : List ℕ) (tape : TapeView) (refusal : Refusal) → LeavesTape text tape → IsRefusal text refusal → ⊥
+left_or_refused text tape refusal l h = never_refused text l.program refusal l.formed h
+
+-- ---- where the claims hold, none stops
+
+pub settled_or_stopped : (text : List ℕ) (nodes : ℕ) (tape : TapeView) (fault : Fault) → LeavesSettled text nodes tape → StopsSettling text nodes fault → ⊥
+settled_or_stopped text nodes tape (faults.Refused refusal) l h = left_or_refused text tape refusal l.left h
+settled_or_stopped text nodes tape (faults.Claim number at bits) l h =
+    let same : tape ≡ h.tape = one_left text h.tape tape h.left l.left in
+    (claims_end_in_one_way h.tape nodes).no_break (subst (λ (t : TapeView). HoldWithin t nodes) same l.hold) h.before bits h.breaks
+settled_or_stopped text nodes tape (faults.Diagram number at limit) l h =
+    let same : tape ≡ h.0.tape = one_left text h.0.tape tape h.0.left l.left in
+    (claims_end_in_one_way h.0.tape nodes).no_passing (subst (λ (t : TapeView). HoldWithin t nodes) same l.hold) h.0.before h.0.passes
+settled_or_stopped text nodes tape fault l h = h
+
+-- ---- one fault stops them
+
+-- the claim with this number stands at this place
+record StandsAt (t : TapeView) (number : ℕ) (at : Place) : Type 0 where
+  claim : Claim
+  is : slice_get t.claims number ≡ Some claim
+  place : at ≡ claim.at
+
+one_place : (t u : TapeView) (number other : ℕ) (at there : Place) → t ≡ u → number ≡ other → StandsAt t number at → StandsAt u other there → at ≡ there
+one_place t u number other at there same one a b =
+    let here : slice_get u.claims other ≡ Some a.claim = sym (ap (slice_get u.claims) one)
+    ∙ sym (ap (λ (x : TapeView). slice_get x.claims number) same) ∙ a.is in
+    let is : a.claim ≡ b.claim = same_Some a.claim b.claim (sym here ∙ b.is) in
+    a.place ∙ ap (λ (c : Claim). c.at) is ∙ sym b.place
+
+one_claim : (number other : ℕ) (at there : Place) (bits others : List Bool) → number ≡ other → at ≡ there → bits ≡ others
+    → faults.Claim number at bits ≡ faults.Claim other there others
+one_claim number other at there bits others n p b = cc
+
+one_diagram : (number other : ℕ) (at there : Place) (limit most : ℕ) → number ≡ other → at ≡ there → limit ≡ most
+    → faults.Diagram number at limit ≡ faults.Diagram other there most
+one_diagram number other at there limit most n p l = cc
+
+one_break : (text : List ℕ) (nodes number other : ℕ) (at there : Place) (bits others : List Bool) → BreaksClaim text nodes number at bits
+    → BreaksClaim text nodes other there others → faults.Claim number at bits ≡ faults.Claim other there others
+one_break text nodes number other at there bits others a b =
+    let same : a.tape ≡ b.tape = one_left text b.tape a.tape b.left a.left in
+    let one = (claims_end_in_one_way b.tape nodes).one_break a.before b.before bits others
+    (subst (λ (t : TapeView). BreaksOn t nodes a.before bits) same a.breaks) b.breaks in
+    let here : StandsAt a.tape a.before at = record { claim = a.breaks.claim; is = a.breaks.is_claim; place = a.place } in
+    let yonder : StandsAt b.tape b.before there = record { claim = b.breaks.claim; is = b.breaks.is_claim; place = b.place } in
+    one_claim number other at there bits others (a.count ∙ ap (λ n. n + 1) one.0 ∙ sym b.count)
+    (one_place a.tape b.tape a.before b.before at there same one.0 here yonder) one.1
+
+one_passing : (text : List ℕ) (nodes number other : ℕ) (at there : Place) (limit most : ℕ) → PassesNodes text nodes number at → limit ≡ nodes
+    → PassesNodes text nodes other there → most ≡ nodes → faults.Diagram number at limit ≡ faults.Diagram other there most
+one_passing text nodes number other at there limit most a l b m =
+    let same : a.tape ≡ b.tape = one_left text b.tape a.tape b.left a.left in
+    let one = (claims_end_in_one_way b.tape nodes).one_passing a.before b.before (subst (λ (t : TapeView). PassesAt t nodes a.before) same a.passes) b.passes in
+    let here : StandsAt a.tape a.before at = record { claim = a.passes.claim; is = a.passes.is_claim; place = a.place } in
+    let yonder : StandsAt b.tape b.before there = record { claim = b.passes.claim; is = b.passes.is_claim; place = b.place } in
+    one_diagram number other at there limit most (a.count ∙ ap (λ n. n + 1) one ∙ sym b.count)
+    (one_place a.tape b.tape a.before b.before at there same one here yonder) (l ∙ sym m)
+
+break_or_pass : (text : List ℕ) (nodes number other : ℕ) (at there : Place) (bits : List Bool) → BreaksClaim text nodes number at bits
+    → PassesNodes text nodes other there → ⊥
+break_or_pass text nodes number other at there bits a b =
+    let same : a.tape ≡ b.tape = one_left text b.tape a.tape b.left a.left in
+    (claims_end_in_one_way b.tape nodes).never_both a.before b.before bits (subst (λ (t : TapeView). BreaksOn t nodes a.before bits) same a.breaks) b.passes
+
+pub one_stop : (text : List ℕ) (nodes : ℕ) (fault other : Fault) → StopsSettling text nodes fault → StopsSettling text nodes other → fault ≡ other
+one_stop text nodes (faults.Refused refusal) (faults.Refused other) a b = ap (λ (r : Refusal). faults.Refused r) (one_refusal text refusal other a b)
+one_stop text nodes (faults.Refused refusal) (faults.Claim number at bits) a b = absurd (left_or_refused text b.tape refusal b.left a)
+one_stop text nodes (faults.Refused refusal) (faults.Diagram number at limit) a b = absurd (left_or_refused text b.0.tape refusal b.0.left a)
+one_stop text nodes (faults.Claim number at bits) (faults.Refused refusal) a b = absurd (left_or_refused text a.tape refusal a.left b)
+one_stop text nodes (faults.Claim number at bits) (faults.Claim other there others) a b = one_break text nodes number other at there bits others a b
+one_stop text nodes (faults.Claim number at bits) (faults.Diagram other there limit) a b =
+    absurd (break_or_pass text nodes number other at there bits a b.0)
+one_stop text nodes (faults.Diagram number at limit) (faults.Refused refusal) a b = absurd (left_or_refused text a.0.tape refusal a.0.left b)
+one_stop text nodes (faults.Diagram number at limit) (faults.Claim other there others) a b =
+    absurd (break_or_pass text nodes other number there at others b a.0)
+one_stop text nodes (faults.Diagram number at limit) (faults.Diagram other there most) a b =
+    one_passing text nodes number other at there limit most a.0 a.1 b.0 b.1
+one_stop text nodes faults.Usage other a b = absurd a
+one_stop text nodes (faults.Lines need limit) other a b = absurd a
+one_stop text nodes (faults.Gates limit) other a b = absurd a
+one_stop text nodes (faults.Circuit refusal) other a b = absurd a
+one_stop text nodes (faults.BadBits word) other a b = absurd a
+one_stop text nodes faults.Read other a b = absurd a
+one_stop text nodes faults.Write other a b = absurd a
+one_stop text nodes faults.Memory other a b = absurd a
+one_stop text nodes fault other a b = absurd b
+
+-- ---- from the fault of a tape's claims to that of its text
+
+placed : (t : TapeView) (number : ℕ) (claim : Claim) (at : Place) → slice_get t.claims number ≡ Some claim
+    → IfSome (slice_get t.claims number) (λ c. at ≡ c.at) → at ≡ claim.at
+placed t number claim at is h = subst (λ (o : Option Claim). IfSome o (λ c. at ≡ c.at)) is h
+
+pub broken_claim : (text : List ℕ) (tape : TapeView) (nodes before number : ℕ) (at : Place) (bits : List Bool) → LeavesTape text tape
+    → BreaksOn tape nodes before bits → number ≡ before + 1 → IfSome (slice_get tape.claims before) (λ c. at ≡ c.at)
+    → BreaksClaim text nodes number at bits
+broken_claim text tape nodes before number at bits l breaks count place = record {
+  tape = tape;
+  left = l;
+  before = before;
+  breaks = breaks;
+  count = count;
+  place = placed tape before breaks.claim at breaks.is_claim place;
+}
+
+pub passing_claim : (text : List ℕ) (tape : TapeView) (nodes before number : ℕ) (at : Place) → LeavesTape text tape
+    → PassesAt tape nodes before → number ≡ before + 1 → IfSome (slice_get tape.claims before) (λ c. at ≡ c.at)
+    → PassesNodes text nodes number at
+passing_claim text tape nodes before number at l passes count place = record {
+  tape = tape;
+  left = l;
+  before = before;
+  passes = passes;
+  count = count;
+  place = placed tape before passes.claim at passes.is_claim place;
+}
+
+-- what is read at the place of a claim
+pub place_of : (claims lent : List Claim) (number : ℕ) (d : Claim) → lent ≡ claims
+    → IfSome (slice_get claims number) (λ c. (slice_index_or lent number d).at ≡ c.at)
+place_of claims lent number d same = subst (λ (cs : List Claim). IfSome (slice_get claims number) (λ c. (slice_index_or cs number d).at ≡ c.at)) (sym same)
+    (at_number claims number (slice_get claims number) d refl)
+  where
+    at_number : (claims : List Claim) (number : ℕ) (found : Option Claim) (d : Claim) → slice_get claims number ≡ found
+        → IfSome found (λ c. (slice_index_or claims number d).at ≡ c.at)
+    at_number claims number None d e = tt
+    at_number claims number (Some claim) d e = ap (λ (c : Claim). c.at) (get_or_from_slice_get claims number claim d e)

@@ -1,0 +1,78 @@
+-- `compile`: the file of a program's clean circuit.
+use Rattle.std.specs.Prelude.{◌≡◌, ℕ, ◌+◌, ◌≤◌, List, length, max}
+use Rattle.claim_check.specs.Budgets.{Measures}
+use Rattle.claim_check.specs.Measures.{AreMeasuresOf}
+use Rattle.gate_split.specs.Plans.{BudgetView, lines_in}
+use Rattle.plan_choice.specs.Choices.{HasFewLines, HasFewGates, SomeRowFits}
+use Rattle.revc_base.specs.Measures.{inputs_of, outputs_of}
+use Rattle.revc_base.specs.Tapes.{TapeView}
+use Rattle.revc_words.specs.Words.{OrderView}
+use Rattle.revs_parser.specs.WellFormed.{IsWellFormed}
+use Rattle.revs_terms.specs.Views.{ProgramView}
+use Rattle.command_answers.specs.declared.fault.Fault.{Fault}
+use Rattle.command_answers.specs.declared.fault.Fault.TheVariants.{Lines, Gates}
+use Rattle.program_commands.specs.Clean.{IsClean}
+use Rattle.program_commands.specs.Settling.{LeavesSettled, StopsSettling}
+
+-- the budget that an order gives
+abbrev pub budget_of : OrderView → BudgetView
+budget_of order =
+    record { lines = order.lines; gates = order.gates; borrow = order.borrow }
+
+-- The text is well formed, and that of one program, whose claims hold on all inputs, within the nodes; the file is a
+-- clean one for it in the order's format, with its borrowed lines and within its budgets.
+pub record IsCompiled (order : OrderView) (text file : List ℕ) : Type 0 where
+  pub tape : TapeView
+  pub settled : LeavesSettled text order.nodes tape
+  pub only : (p : ProgramView) → IsWellFormed text p → p ≡ settled.left.program
+  pub clean : IsClean order.format file settled.left.program order.borrow
+  pub few_lines : lines_in clean.roles ≤ order.lines
+  pub few_gates : length clean.gates ≤ order.gates
+
+-- a line for each input, output and borrowed bit
+abbrev pub least_lines : TapeView → OrderView → ℕ
+least_lines tape order = inputs_of tape + outputs_of tape + order.borrow
+
+-- The claims hold, and by the measures of the program's tape the budget has too few lines, and no row that the order
+-- allows fits. Needed are at least the inputs, outputs and borrowed lines, and one line more than the limit.
+pub record PassesLines (order : OrderView) (text : List ℕ) (need limit : ℕ) : Type 0 where
+  pub tape : TapeView
+  pub settled : LeavesSettled text order.nodes tape
+  pub few : (m : Measures) → AreMeasuresOf tape m → HasFewLines order.plan (budget_of order) m
+  pub no_row : (m : Measures) → AreMeasuresOf tape m
+      → ¬ SomeRowFits order.plan (budget_of order) m
+  pub needed : need ≡ max (least_lines tape order) (limit + 1)
+  pub limit_is : limit ≡ order.lines
+
+-- The claims hold, and by the measures of the program's tape the budget has too few gates, and no row that the order
+-- allows fits.
+pub record PassesGates (order : OrderView) (text : List ℕ) (limit : ℕ) : Type 0 where
+  pub tape : TapeView
+  pub settled : LeavesSettled text order.nodes tape
+  pub few : (m : Measures) → AreMeasuresOf tape m → HasFewGates order.plan (budget_of order) m
+  pub no_row : (m : Measures) → AreMeasuresOf tape m
+      → ¬ SomeRowFits order.plan (budget_of order) m
+  pub limit_is : limit ≡ order.gates
+
+-- the claims hold, and by the measures of the program's tape a row that the order allows fits the budgets
+pub record KeepsBudget (order : OrderView) (text : List ℕ) : Type 0 where
+  pub tape : TapeView
+  pub settled : LeavesSettled text order.nodes tape
+  pub measures : Measures
+  pub are : AreMeasuresOf tape measures
+  pub fits : SomeRowFits order.plan (budget_of order) measures
+
+-- what is written
+abbrev pub Gives : OrderView → List ℕ → List ℕ → Type 0
+Gives order text written = IsCompiled order text written
+
+-- why nothing is: the text is refused, a claim stops, or a budget is passed
+abbrev pub IsCause : OrderView → List ℕ → Fault → Type 0
+IsCause order text (Lines need limit) = PassesLines order text need limit
+IsCause order text (Gates limit) = PassesGates order text limit
+IsCause order text fault = StopsSettling text order.nodes fault
+
+-- where something is, unless memory or a device is wanting: the claims hold on all inputs, within the nodes, and some
+-- row of the budget numbers that the order allows fits
+abbrev pub Serves : OrderView → List ℕ → Type 0
+Serves order text = KeepsBudget order text

@@ -1,0 +1,51 @@
+-- What the calls of the commands on programs take and answer.
+use Rattle.std.specs.Prelude.{◌≡◌, ℕ, ◌≤◌, List, length}
+use Rattle.gate_split.specs.declared.plan.TheConstants.{MOST_LINES, MOST_GATES, MOST_BORROWED}
+use Rattle.gate_split.specs.Plans.{LaidView, roles_of}
+use Rattle.qasm_format.specs.Compiled as qasm
+use Rattle.real_format.specs.Compiled as real
+use Rattle.command_answers.specs.declared.fault.Fault.{Fault}
+use Rattle.command_answers.specs.declared.fault.Fault.TheVariants as faults
+use Rattle.command_answers.specs.declared.fault.Fault.TheVariants.{Memory}
+use Rattle.revc_words.specs.declared.order.Format.{Format}
+use Rattle.revc_words.specs.declared.order.Format.TheVariants.{Real, Qasm}
+use Rattle.revc_words.specs.Words.{OrderView}
+use Rattle.program_commands.specs.Compile.{PassesLines, PassesGates}
+use Rattle.program_commands.specs.Eval.{Stops}
+use Rattle.program_commands.specs.Settling.{StopsSettling}
+
+-- the numbers of an order are within their limits, and it reads a format that is read so far
+pub record HasLimits (order : OrderView) : Type 0 where
+  pub nodes : 1 ≤ order.nodes
+  pub lines : order.lines ≤ MOST_LINES
+  pub gates : order.gates ≤ MOST_GATES
+  pub borrow : order.borrow ≤ MOST_BORROWED
+  pub from : order.from ≡ Real
+
+-- the file of a laid plan in a format
+abbrev pub file_of : Format → LaidView → List ℕ
+file_of Real laid = real.compiled_text (roles_of laid) laid.circuit.gates
+file_of Qasm laid = qasm.compiled_text (roles_of laid) laid.circuit.gates
+
+-- a circuit that is written has a line, and keeps the limits of the format
+pub record IsWritable (laid : LaidView) : Type 0 where
+  pub some : 1 ≤ laid.circuit.lines
+  pub few : laid.circuit.lines ≤ MOST_LINES
+  pub few_gates : length laid.circuit.gates ≤ MOST_GATES
+
+-- why the claims of a text are not settled, or there was no memory left
+abbrev pub IsSettlingFault : List ℕ → ℕ → Fault → Type 0
+IsSettlingFault text nodes Memory = Unit {0}
+IsSettlingFault text nodes fault = StopsSettling text nodes fault
+
+-- why a text has no clean plan, or there was no memory left
+abbrev pub IsCompileFault : OrderView → List ℕ → Fault → Type 0
+IsCompileFault order text Memory = Unit {0}
+IsCompileFault order text (faults.Lines need limit) = PassesLines order text need limit
+IsCompileFault order text (faults.Gates limit) = PassesGates order text limit
+IsCompileFault order text fault = StopsSettling text order.nodes fault
+
+-- why a text and a word give no value, or there was no memory left
+abbrev pub IsEvalFault : List ℕ → List ℕ → Fault → Type 0
+IsEvalFault text word Memory = Unit {0}
+IsEvalFault text word fault = Stops text word fault

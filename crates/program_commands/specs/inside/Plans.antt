@@ -1,0 +1,53 @@
+-- From a text to a plan that may be written as a clean file, and why there is none.
+use Rattle.std.specs.Prelude.{◌≡◌, ℕ, ◌≤◌, List}
+use Rattle.claim_check.specs.Settled.{SettledView, IsSettledOf}
+use Rattle.gate_split.specs.declared.plan.TheConstants.{MOST_LINES, MOST_GATES}
+use Rattle.gate_split.specs.Plans.{BudgetView, LaidView}
+use Rattle.held_nodes.specs.Plans.{wanted_lines}
+use Rattle.plan_choice.specs.declared.choice.How.{How}
+use Rattle.plan_choice.specs.Choices.{GatesAreFew, IsLaidFor, LinesAreFew}
+use Rattle.revc_base.specs.Tapes.{TapeView}
+use Rattle.revs_terms.specs.Runs.{IsTapeOf}
+use Rattle.revs_terms.specs.Scopes.{scope_verdict, bound_as}
+use Rattle.revs_terms.specs.Views.{ProgramView}
+use Rattle.command_answers.specs.declared.fault.Fault.{Fault}
+use Rattle.command_answers.specs.declared.fault.Fault.TheVariants.{Refused, Lines, Gates, BadBits, Memory}
+use Rattle.command_answers.specs.declared.fault.Refusal.TheVariants.{At}
+use Rattle.command_answers.specs.BitWords.{IsInputWord}
+use Rattle.program_commands.specs.Refusals.{IsRefusal}
+
+-- a plan of a program's settled graph, within a budget
+pub record IsCleanPlan (laid : LaidView) (p : ProgramView) (b : BudgetView) : Type 0 where
+  pub tape : TapeView
+  pub tape_of : IsTapeOf p.params p.body tape
+  pub graph : SettledView
+  pub graph_of : IsSettledOf tape graph
+  pub plan : IsLaidFor graph b laid
+  pub some : 1 ≤ laid.circuit.lines
+  pub most_lines : b.lines ≤ MOST_LINES
+  pub most_gates : b.gates ≤ MOST_GATES
+
+-- why a settled graph has no plan within the budget, or there was no memory left
+abbrev pub IsPlanningFault : How → SettledView → BudgetView → Fault → Type 0
+IsPlanningFault how s b (Lines need limit) =
+    LinesAreFew how s b × (need ≡ wanted_lines s b) × (limit ≡ b.lines)
+IsPlanningFault how s b (Gates limit) = GatesAreFew how s b × (limit ≡ b.gates)
+IsPlanningFault how s b Memory = Unit {0}
+IsPlanningFault how s b _ = ⊥
+
+-- the program with its names bound
+pub record IsBoundAs (p bound : ProgramView) : Type 0 where
+  pub params : bound.params ≡ p.params
+  pub body : scope_verdict p.params p.body ≡ bound_as bound.body
+
+-- why a text leaves no tape: it is refused at a place, or there was no memory left
+abbrev pub IsTextFault : List ℕ → Fault → Type 0
+IsTextFault text (Refused (At kind at)) = IsRefusal text (At kind at)
+IsTextFault text Memory = Unit {0}
+IsTextFault text _ = ⊥
+
+-- why a word gives no input of so many bits, or there was no memory left
+abbrev pub IsBitsFault : ℕ → List ℕ → Fault → Type 0
+IsBitsFault inputs word (BadBits number) = (number ≡ 1) × (¬ IsInputWord inputs word)
+IsBitsFault inputs word Memory = Unit {0}
+IsBitsFault inputs word _ = ⊥

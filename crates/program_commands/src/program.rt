@@ -1,0 +1,108 @@
+// From a text to its program, and to the tape that the program leaves.
+ghost use Rattle.std.specs.Prelude.{◌≡◌, ℕ, ◌≤◌, List, length, IfOk, IfErr};
+ghost use Rattle.revs_parser.specs.WellFormed.{IsProgramText, IsWellFormed};
+ghost use Rattle.revs_terms.specs.Runs.{IsTapeOf};
+ghost use Rattle.revs_terms.specs.Trees.{tree_of};
+ghost use Rattle.revs_terms.specs.Views.{view_of};
+ghost use Rattle.program_commands.specs.inside.Mappings.{lexing_fault, parsing_fault, scope_fault, run_fault};
+ghost use Rattle.program_commands.specs.inside.Plans.{IsTextFault, IsBoundAs};
+
+use command_answers::{Fault, Kind, Refusal};
+use inliner::{RunFault, unroll};
+use name_scope::{ScopeFault, Scoped, scope};
+use revc_base::{Place, Tape};
+use revs_lexer::{LexFault, tokens};
+use revs_parser::{MOST_BYTES, ParseFault, parse};
+use revs_terms::Program;
+use std::alloc::Global;
+
+/// The program of a well-formed text, with its names bound, and the tape that it leaves on every input. A fault is the
+/// text's refusal, or want of memory.
+pub fn tape_of_text(alloc: Global, text: &[u8]) -> Result<(Scoped, Tape), Fault>
+    requires { length text.now ≤ MOST_BYTES }
+    ensures formed { IfOk result (λ run. IsWellFormed text.now (view_of run.0.program)) }
+    ensures tape { IfOk result (λ run. IsTapeOf run.0.program.params.items
+        (tree_of run.0.program.body) run.1) }
+    ensures err { IfErr result (IsTextFault text.now) }
+{
+    let program = program_of_text(alloc, text)?;
+    let scoped = bind(alloc, program)?;
+    match unroll(alloc, &scoped) {
+        Ok(tape) => Ok((scoped, tape)),
+        Err(fault) => Err(run_fault(fault)),
+    }
+}
+
+// The program of a text, with no name bound.
+fn program_of_text(alloc: Global, text: &[u8]) -> Result<Program, Fault>
+    requires { length text.now ≤ MOST_BYTES }
+    ensures ok { IfOk result (λ program. IsProgramText text.now (view_of program)) }
+    ensures err { IfErr result (IsTextFault text.now) }
+{
+    match tokens(alloc, text) {
+        Ok(tokens) => match parse(alloc, &tokens) {
+            Ok(program) => Ok(program),
+            Err(fault) => Err(parsing_fault(fault)),
+        },
+        Err(fault) => Err(lexing_fault(fault)),
+    }
+}
+
+// The program with its names bound. A fault is one of each text of the program.
+fn bind(alloc: Global, program: Program) -> Result<Scoped, Fault>
+    ensures ok { IfOk result (λ scoped. IsBoundAs (view_of program) (view_of scoped.program)) }
+    ensures err { IfErr result (λ fault. (text : List ℕ) → IsProgramText text (view_of program)
+        → IsTextFault text fault) }
+{
+    match scope(alloc, program) {
+        Ok(scoped) => Ok(scoped),
+        Err(fault) => Err(scope_fault(fault)),
+    }
+}
+
+fn lexing_fault(fault: LexFault) -> Fault
+    ensures { result ≡ lexing_fault fault }
+{
+    match fault {
+        LexFault::BadByte(at) => refused(Kind::BadByte, at),
+        LexFault::LongName(at) => refused(Kind::LongName, at),
+        LexFault::LongNumber(at) => refused(Kind::LongNumber, at),
+        LexFault::Memory => Fault::Memory,
+    }
+}
+
+fn parsing_fault(fault: ParseFault) -> Fault
+    ensures { result ≡ parsing_fault fault }
+{
+    match fault {
+        ParseFault::Syntax { at, .. } => refused(Kind::Syntax, at),
+        ParseFault::Nesting(at) => refused(Kind::Nesting, at),
+        ParseFault::Inputs(at) => refused(Kind::Inputs, at),
+        ParseFault::Memory => Fault::Memory,
+    }
+}
+
+fn scope_fault(fault: ScopeFault) -> Fault
+    ensures { result ≡ scope_fault fault }
+{
+    match fault {
+        ScopeFault::Unbound(at) => refused(Kind::Unbound, at),
+        ScopeFault::TwoParams(at) => refused(Kind::TwoParams, at),
+        ScopeFault::Memory => Fault::Memory,
+    }
+}
+
+fn run_fault(fault: RunFault) -> Fault
+    ensures { result ≡ run_fault fault }
+{
+    match fault {
+        RunFault::Stuck { cause, at } => refused(Kind::Stuck(cause), at),
+        RunFault::Memory => Fault::Memory,
+    }
+}
+
+fn refused(kind: Kind, at: Place) -> Fault
+    ensures { result ≡ Fault.Refused (Refusal.At kind at) }
+{
+    Fault::Refused(Refusal::At(kind, at))
+}

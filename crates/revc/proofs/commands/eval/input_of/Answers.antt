@@ -1,6 +1,0 @@
-use Rattle.revc.proofs.EvalLemmas.{bits_refused}
-use Rattle.revc.proofs.commands.eval.input_of.Goals as goal
-
-pub returns-in-Err-clause-err : goal.returns-in-Err-clause-err
-returns-in-Err-clause-err c =
-    rw c.bits_fault.ensures (bits_refused _ c.args.word.now c.in-Err.fault (λ at is. c.in-Err.ensures.bad at cc))
