@@ -68,8 +68,11 @@ abbrev pub circuit_line : CircuitRefusal → List ℕ
 circuit_line circuits.TooLong = codes "revc: circuit over 134217728 bytes\n"
 circuit_line (circuits.Line number) =
     codes "revc: circuit line " ++ (decimal number ++ codes "\n")
-circuit_line (circuits.Limit number) =
+circuit_line (circuits.LineLimit number) =
     codes "revc: circuit line " ++ (decimal number ++ codes " over a limit\n")
+circuit_line (circuits.Token at) = codes "revc: circuit at " ++ (place_text at ++ codes "\n")
+circuit_line (circuits.TokenLimit at) =
+    codes "revc: circuit at " ++ (place_text at ++ codes " over a limit\n")
 
 -- the line of a budget of lines that is passed
 abbrev pub lines_line : ℕ → ℕ → List ℕ

@@ -5,8 +5,7 @@ ghost use Rattle.revc_io.specs.Faults.{HasCause};
 ghost use Rattle.revc_io.specs.Passing.{Gathers, Writes};
 ghost use Rattle.std.specs.List.{flat_map};
 ghost use Rattle.command_answers.specs.BitWords.{IsInputWord};
-ghost use Rattle.command_answers.specs.Lines.{bits_text};
-ghost use Rattle.command_answers.specs.Lines.{digits_of};
+ghost use Rattle.command_answers.specs.Lines.{bits_text, digits_of, number_line};
 
 use revc_base::Bits;
 use revc_io::{Buffer, Failed, Sink, put_decimal};
@@ -106,6 +105,23 @@ pub fn put_number<K: Sink>(
     buffer.put(out, head)?;
     put_decimal(buffer, out, number)?;
     buffer.put(out, tail)
+}
+
+/// Puts two words, each with a number, a line for each.
+pub fn put_two_numbers<K: Sink>(
+    buffer: &mut Buffer,
+    out: &mut K,
+    first: &[u8],
+    one: u64,
+    second: &[u8],
+    other: u64,
+) -> Result<(), Failed>
+    ensures bytes { Gathers result (K.held out.old) (K.held out.new) buffer.old buffer.new
+        (number_line first.now one ++ number_line second.now other) }
+    ensures cause { HasCause (K.faults out.old) (K.faults out.new) result }
+{
+    put_number(buffer, out, first, one, b"\n")?;
+    put_number(buffer, out, second, other, b"\n")
 }
 
 /// Whether a word has so many digits 0 and 1, and nothing else. It takes no memory.

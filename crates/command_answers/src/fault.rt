@@ -48,7 +48,7 @@ pub enum Refusal {
     At(Kind, Place),
 }
 
-/// Why a circuit text is refused. Lines are counted from 1.
+/// Why a circuit text is refused: a `.real` text at a line, counted from 1, an OpenQASM text at the place of a token.
 #[derive(Clone, Copy, Debug, PartialEq, Eq)]
 pub enum CircuitRefusal {
     /// It has more than 134,217,728 bytes.
@@ -56,7 +56,11 @@ pub enum CircuitRefusal {
     /// This line is the first that breaks a rule.
     Line { number: u32 },
     /// This line is the first that breaks a rule, and passes a limit.
-    Limit { number: u32 },
+    LineLimit { number: u32 },
+    /// The token at this place is the first that breaks a rule.
+    Token { at: Place },
+    /// The token at this place is the first that breaks a rule, and passes a limit.
+    TokenLimit { at: Place },
 }
 
 /// What is wrong at a place.

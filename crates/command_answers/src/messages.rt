@@ -182,14 +182,33 @@ fn put_circuit<E: Sink>(
         CircuitRefusal::Line { number } => {
             put_number(buffer, err, b"revc: circuit line ", number as u64, b"\n")
         }
-        CircuitRefusal::Limit { number } => put_number(
+        CircuitRefusal::LineLimit { number } => put_number(
             buffer,
             err,
             b"revc: circuit line ",
             number as u64,
             b" over a limit\n",
         ),
+        CircuitRefusal::Token { at } => put_circuit_place(buffer, err, at, b"\n"),
+        CircuitRefusal::TokenLimit { at } => {
+            put_circuit_place(buffer, err, at, b" over a limit\n")
+        }
     }
+}
+
+fn put_circuit_place<E: Sink>(
+    buffer: &mut Buffer,
+    err: &mut E,
+    at: Place,
+    tail: &[u8],
+) -> Result<(), Failed>
+    ensures bytes { Gathers result (E.held err.old) (E.held err.new) buffer.old buffer.new
+        (codes "revc: circuit at " ++ (place_text at ++ tail.now)) }
+    ensures cause { HasCause (E.faults err.old) (E.faults err.new) result }
+{
+    buffer.put(err, b"revc: circuit at ")?;
+    put_place(buffer, err, at)?;
+    buffer.put(err, tail)
 }
 
 fn put_lines<E: Sink>(buffer: &mut Buffer, err: &mut E, need: u32, limit: u32) -> Result<(), Failed>

@@ -6,7 +6,8 @@ use Rattle.command_answers.specs.declared.fault.Fault.{Fault}
 use Rattle.command_answers.specs.declared.fault.Fault.TheVariants as faults
 use Rattle.revc_words.specs.Words.{OrderView}
 use Rattle.command_answers.specs.Outcomes.{HasOneOutcome, IsNoBudget}
-use Rattle.program_commands.specs.Compile.{Gives, IsCause, Serves, IsCompiled, KeepsBudget, PassesGates, PassesLines}
+use Rattle.program_commands.specs.Compile.{Gives, IsCause, Serves, KeepsBudget, PassesGates, PassesLines}
+use Rattle.program_commands.specs.Settling.{LeavesSettled}
 use Rattle.program_commands.proofs.SettlingLemmas.{one_left, one_stop, settled_or_stopped}
 
 -- the measures of one tape of a text are those of the other
@@ -21,17 +22,19 @@ keeps_or_passes_gates : (order : OrderView) (text : List ℕ) (limit : ℕ) → 
 keeps_or_passes_gates order text limit k h =
     h.no_row k.measures (measures_of order text k h.tape (one_left text k.tape h.tape k.settled.left h.settled.left)) k.fits
 
-never_both : (order : OrderView) (text file : List ℕ) (fault : Fault) → IsCompiled order text file → IsCause order text fault → IsNoBudget fault → ⊥
-never_both order text file (faults.Lines need limit) given cause exact = exact
-never_both order text file (faults.Gates limit) given cause exact = exact
-never_both order text file fault given cause exact = settled_or_stopped text order.nodes given.tape fault given.settled cause
+-- where the claims hold, no exact fault has its cause
+pub planned_or_caused : (order : OrderView) (text : List ℕ) (tape : TapeView) (fault : Fault) → LeavesSettled text order.nodes tape
+    → IsCause order text fault → IsNoBudget fault → ⊥
+planned_or_caused order text tape (faults.Lines need limit) settled cause exact = exact
+planned_or_caused order text tape (faults.Gates limit) settled cause exact = exact
+planned_or_caused order text tape fault settled cause exact = settled_or_stopped text order.nodes tape fault settled cause
 
-keeps_free : (order : OrderView) (text : List ℕ) (fault : Fault) → KeepsBudget order text → IsCause order text fault → ⊥
+pub keeps_free : (order : OrderView) (text : List ℕ) (fault : Fault) → KeepsBudget order text → IsCause order text fault → ⊥
 keeps_free order text (faults.Lines need limit) served cause = keeps_or_passes_lines order text need limit served cause
 keeps_free order text (faults.Gates limit) served cause = keeps_or_passes_gates order text limit served cause
 keeps_free order text fault served cause = settled_or_stopped text order.nodes served.tape fault served.settled cause
 
-one_cause : (order : OrderView) (text : List ℕ) (fault exact : Fault) → IsCause order text fault → IsCause order text exact → IsNoBudget exact → exact ≡ fault
+pub one_cause : (order : OrderView) (text : List ℕ) (fault exact : Fault) → IsCause order text fault → IsCause order text exact → IsNoBudget exact → exact ≡ fault
 one_cause order text fault (faults.Lines need limit) a b is = absurd is
 one_cause order text fault (faults.Gates limit) a b is = absurd is
 one_cause order text (faults.Lines need limit) exact a b is = absurd (settled_or_stopped text order.nodes a.tape exact a.settled b)
@@ -40,7 +43,7 @@ one_cause order text fault exact a b is = one_stop text order.nodes exact fault 
 
 pub one_outcome : HasOneOutcome IsNoBudget Gives IsCause Serves
 one_outcome = record {
-  never_both = λ order text written fault given cause exact. never_both order text written fault given cause exact;
+  never_both = λ order text written fault given cause exact. planned_or_caused order text given.tape fault given.settled cause exact;
   one_cause = λ order text fault exact cause other is. one_cause order text fault exact cause other is;
   free = λ order text fault served cause. keeps_free order text fault served cause;
 }

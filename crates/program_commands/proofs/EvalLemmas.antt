@@ -1,5 +1,5 @@
 -- A text and a word have one value, or one reason that they have none.
-use Rattle.std.proofs.Common.{◌≡◌, ℕ, suc, ◌+◌, ◌==◌, Bool, List, [], ◌∷◌, ◌++◌, length, sum, refl, sym, ap, ◌∙◌, subst, arith}
+use Rattle.std.proofs.Common.{◌≡◌, ℕ, ◌+◌, ◌==◌, Bool, List, [], ◌∷◌, ◌++◌, length, sum, refl, sym, ap, ◌∙◌, subst, arith}
 use Rattle.std.specs.List.{AllByRecursion}
 use Rattle.std.proofs.lemmas.List.{length-map}
 use Rattle.revc_base.specs.Bits.{IsDigit, IsFirstOther}
@@ -26,7 +26,7 @@ use Rattle.program_commands.specs.inside.Mappings.{bits_fault}
 use Rattle.program_commands.specs.inside.Plans.{IsBitsFault}
 use Rattle.command_answers.specs.BitWords.{IsInputWord, bits_of}
 use Rattle.program_commands.specs.Eval.{Gives, IsCause, Serves, IsValueOf, IsBadWord, IsBroken, Stops}
-use Rattle.command_answers.proofs.FirstLemmas.{SameFirst, all_at, first_same}
+use Rattle.command_answers.proofs.FirstLemmas.{all_at, first_same}
 use Rattle.program_commands.proofs.RefusalLemmas.{one_refusal, never_refused}
 
 pub no_digits : (word : List ℕ) (at : ℕ) → IsFirstOther word at → AllByRecursion IsDigit word → ⊥

@@ -6,3 +6,5 @@ pub mod PlanLemmas
 pub mod FormedLemmas
 pub mod SettlingLemmas
 pub mod CheckLemmas
+pub mod BenchLemmas
+pub mod AdderLengthLemmas

@@ -26,10 +26,10 @@ use Rattle.revs_terms.specs.Views.{ProgramView}
 use Rattle.revs_terms.proofs.TapeLemmas.{tape_gives_output}
 use Rattle.command_answers.specs.declared.fault.Fault.{Fault}
 use Rattle.command_answers.specs.declared.fault.Fault.TheVariants as faults
-use Rattle.program_commands.specs.Clean.{IsClean, ComputesOn, MeansIn}
+use Rattle.program_commands.specs.Clean.{ComputesOn, MeansIn}
 use Rattle.program_commands.specs.Compile.{IsCompiled, budget_of, least_lines}
 use Rattle.program_commands.specs.Settling.{LeavesTape, LeavesSettled}
-use Rattle.program_commands.specs.inside.Plans.{IsCleanPlan, IsPlanningFault}
+use Rattle.program_commands.specs.inside.Plans.{IsCleanPlan, IsPlannedFor, IsPlanningFault, IsWhole}
 use Rattle.program_commands.proofs.FormedLemmas.{some_output}
 
 -- ---- the plan of the graph
@@ -55,57 +55,54 @@ computes_on laid p b c input rest size many =
       puts = subst (λ bits. PutsOutputs (roles_of laid) laid.circuit.gates input bits rest) (c.graph_of.values input) gives;
     }
 
-abbrev clean_file : (format : Format) (laid : LaidView) (p : ProgramView) (b : BudgetView) → IsCleanPlan laid p b → AreNarrow laid.circuit.gates
-    → (text : List ℕ) → MeansIn format text (roles_of laid) laid.circuit.gates → IsClean format text p b.borrow
-clean_file format laid p b c narrow text means = record {
-  roles = roles_of laid;
-  gates = laid.circuit.gates;
-  meaning = means;
-  inputs = c.plan.inputs ∙ c.graph_of.inputs ∙ ap sum c.tape_of.widths;
-  borrows = c.plan.borrowed;
-  narrow = narrow;
-  computes = computes_on laid p b c;
-}
-
--- what a laid plan says of itself: its gates are narrow and on its lines, which are those of its roles
-pub record IsWhole (laid : LaidView) : Type 0 where
-  pub sum_of : laid.inputs + laid.outputs + laid.work + laid.borrowed ≡ laid.circuit.lines
-  pub narrow : AreNarrow laid.circuit.gates
-  pub on : AreGatesOn laid.circuit.lines laid.circuit.gates
-
--- the file of a plan means the plan, in each format
-means_itself : (format : Format) (laid : LaidView) (p : ProgramView) (b : BudgetView) → IsCleanPlan laid p b → IsWhole laid
-    → MeansIn format (file_of format laid) (roles_of laid) laid.circuit.gates
-means_itself format laid p b c w =
-    let lines = c.plan.lines in
-    let some = c.some in
-    let most = c.most_lines in
-    let gates = c.plan.gates in
-    let most_gates = c.most_gates in
-    let sum_of = w.sum_of in
-    let same : laid.circuit.lines ≡ lines_in (roles_of laid) = sym w.sum_of in
-    of_format format (omega arith) (omega arith) (omega arith) (subst (λ n. AreGatesOn n laid.circuit.gates) same w.on)
-  where
-    of_format : (format : Format) → 1 ≤ lines_in (roles_of laid) → lines_in (roles_of laid) ≤ MOST_LINES → length laid.circuit.gates ≤ MOST_GATES
-        → AreGatesOn (lines_in (roles_of laid)) laid.circuit.gates → MeansIn format (file_of format laid) (roles_of laid) laid.circuit.gates
-    of_format Real some few gates on = real.compiled_has_meaning (roles_of laid) laid.circuit.gates some few gates on w.narrow
-    of_format Qasm some few gates on = qasm.compiled_has_meaning (roles_of laid) laid.circuit.gates some few gates on w.narrow
-
-pub compiled_file : (order : OrderView) (text : List ℕ) (laid : LaidView) (tape : TapeView) (l : LeavesSettled text order.nodes tape)
-    → IsCleanPlan laid l.left.program (budget_of order) → IsWhole laid → IsCompiled order text (file_of order.format laid)
-compiled_file order text laid tape l c w =
-    let p = l.left.program in
+pub planned : (order : OrderView) (text : List ℕ) (laid : LaidView) (tape : TapeView) (l : LeavesSettled text order.nodes tape)
+    → IsCleanPlan laid l.left.program (budget_of order) → IsWhole laid → AreNarrow laid.circuit.gates → IsPlannedFor order text tape laid
+planned order text laid tape l c w narrow =
     let lines = c.plan.lines in
     let sum_of = w.sum_of in
     record {
-      tape = tape;
       settled = l;
-      only = λ q is. one_formed text q p is l.left.formed;
-      clean = clean_file order.format laid p (budget_of order) c w.narrow (file_of order.format laid)
-          (means_itself order.format laid p (budget_of order) c w);
+      only = λ q is. one_formed text q l.left.program is l.left.formed;
+      clean = record {
+        inputs = c.plan.inputs ∙ c.graph_of.inputs ∙ ap sum c.tape_of.widths;
+        borrows = c.plan.borrowed;
+        narrow = narrow;
+        computes = computes_on laid l.left.program (budget_of order) c;
+      };
       few_lines = omega arith;
       few_gates = c.plan.gates;
     }
+
+-- the file of a plan means the plan, in each format
+means_itself : (format : Format) (laid : LaidView) → IsWritable laid → IsWhole laid → AreNarrow laid.circuit.gates
+    → MeansIn format (file_of format laid) (roles_of laid) laid.circuit.gates
+means_itself format laid can w narrow =
+    let some = can.some in
+    let few = can.few in
+    let sum_of = w.sum_of in
+    let same : laid.circuit.lines ≡ lines_in (roles_of laid) = sym w.sum_of in
+    of_format format (omega arith) (omega arith) can.few_gates (subst (λ n. AreGatesOn n laid.circuit.gates) same w.on)
+  where
+    of_format : (format : Format) → 1 ≤ lines_in (roles_of laid) → lines_in (roles_of laid) ≤ MOST_LINES → length laid.circuit.gates ≤ MOST_GATES
+        → AreGatesOn (lines_in (roles_of laid)) laid.circuit.gates → MeansIn format (file_of format laid) (roles_of laid) laid.circuit.gates
+    of_format Real some few gates on = real.compiled_has_meaning (roles_of laid) laid.circuit.gates some few gates on narrow
+    of_format Qasm some few gates on = qasm.compiled_has_meaning (roles_of laid) laid.circuit.gates some few gates on narrow
+
+pub compiled_file : (order : OrderView) (text : List ℕ) (laid : LaidView) (tape : TapeView) → IsPlannedFor order text tape laid → IsWritable laid
+    → IsWhole laid → IsCompiled order text (file_of order.format laid)
+compiled_file order text laid tape p can w = record {
+  tape = tape;
+  settled = p.settled;
+  only = p.only;
+  clean = record {
+    roles = roles_of laid;
+    gates = laid.circuit.gates;
+    meaning = means_itself order.format laid can w p.clean.narrow;
+    circuit = p.clean;
+  };
+  few_lines = p.few_lines;
+  few_gates = p.few_gates;
+}
 
 pub writable : (laid : LaidView) (p : ProgramView) (b : BudgetView) → IsCleanPlan laid p b → IsWritable laid
 writable laid p b c =

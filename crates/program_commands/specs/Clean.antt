@@ -24,15 +24,20 @@ pub record ComputesOn (p : ProgramView) (roles : Roles) (gates : List GateView)
   pub size : length output ≡ roles.outputs
   pub puts : PutsOutputs roles gates input output borrowed
 
--- A clean file for a program, with so many borrowed lines: by the meaning of its format its lines have these roles and
--- its gates are these, each a flip with at most two controls, all positive; and they compute the program on every input.
-pub record IsClean (format : Format) (text : List ℕ) (p : ProgramView) (borrowed : ℕ)
-    : Type 0 where
-  pub roles : Roles
-  pub gates : List GateView
-  pub meaning : MeansIn format text roles gates
+-- A clean circuit for a program, with so many borrowed lines: its gates, whose lines have these roles, are each a flip
+-- with at most two controls, all positive; and they compute the program on every input.
+pub record IsCleanCircuit (p : ProgramView) (borrowed : ℕ) (roles : Roles)
+    (gates : List GateView) : Type 0 where
   pub inputs : roles.inputs ≡ sum (widths_of p.params)
   pub borrows : roles.borrowed ≡ borrowed
   pub narrow : AreNarrow gates
   pub computes : (input bits : List Bool) → IsInput p.params input → length bits ≡ borrowed
       → ComputesOn p roles gates input bits
+
+-- a clean file for a program: by the meaning of its format it is a clean circuit for it
+pub record IsClean (format : Format) (text : List ℕ) (p : ProgramView) (borrowed : ℕ)
+    : Type 0 where
+  pub roles : Roles
+  pub gates : List GateView
+  pub meaning : MeansIn format text roles gates
+  pub circuit : IsCleanCircuit p borrowed roles gates

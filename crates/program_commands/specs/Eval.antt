@@ -1,14 +1,14 @@
 -- `eval`: the bits that a program gives on the bits of a word.
-use Rattle.std.specs.Prelude.{◌≡◌, ℕ, ◌+◌, ◌==◌, Bool, List, ◌++◌, length, map, sum, codes}
+use Rattle.std.specs.Prelude.{◌≡◌, ℕ, ◌+◌, Bool, List, sum}
 use Rattle.std.specs.List.{AllByRecursion}
-use Rattle.revc_base.specs.Bits.{IsDigit}
 use Rattle.revc_base.specs.Tapes.{TapeView, Holds, IsFirstBroken}
 use Rattle.revc_base.specs.declared.place.Place.{Place}
 use Rattle.revs_parser.specs.WellFormed.{IsWellFormed}
 use Rattle.revs_terms.specs.Programs.{widths_of}
 use Rattle.revs_terms.specs.Runs.{HasOutput, IsTapeOf}
 use Rattle.revs_terms.specs.Views.{ProgramView}
-use Rattle.command_answers.specs.Lines.{digits_of}
+use Rattle.command_answers.specs.BitWords.{IsInputWord, bits_of}
+use Rattle.command_answers.specs.Lines.{bits_text}
 use Rattle.program_commands.specs.Refusals.{IsRefusal}
 use Rattle.revc_words.specs.Words.{OrderView, first_word}
 use Rattle.command_answers.specs.declared.fault.Fault.{Fault}

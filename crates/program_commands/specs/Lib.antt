@@ -4,5 +4,7 @@ pub mod Settling
 pub mod Compile
 pub mod Check
 pub mod Eval
+pub mod Gen
+pub mod Bench
 pub mod Outcomes
 pub mod inside

@@ -1,7 +1,8 @@
 -- What the calls of the commands on programs take and answer.
-use Rattle.std.specs.Prelude.{◌≡◌, ℕ, ◌≤◌, List, length}
-use Rattle.gate_split.specs.declared.plan.TheConstants.{MOST_LINES, MOST_GATES, MOST_BORROWED}
+use Rattle.std.specs.Prelude.{ℕ, ◌≤◌, List, length}
+use Rattle.gate_split.specs.declared.plan.TheConstants.{MOST_LINES, MOST_GATES}
 use Rattle.gate_split.specs.Plans.{LaidView, roles_of}
+use Rattle.program_gen.specs.declared.adder.TheConstants.{MOST_BITS}
 use Rattle.qasm_format.specs.Compiled as qasm
 use Rattle.real_format.specs.Compiled as real
 use Rattle.command_answers.specs.declared.fault.Fault.{Fault}
@@ -14,13 +15,10 @@ use Rattle.program_commands.specs.Compile.{PassesLines, PassesGates}
 use Rattle.program_commands.specs.Eval.{Stops}
 use Rattle.program_commands.specs.Settling.{StopsSettling}
 
--- the numbers of an order are within their limits, and it reads a format that is read so far
-pub record HasLimits (order : OrderView) : Type 0 where
-  pub nodes : 1 ≤ order.nodes
-  pub lines : order.lines ≤ MOST_LINES
-  pub gates : order.gates ≤ MOST_GATES
-  pub borrow : order.borrow ≤ MOST_BORROWED
-  pub from : order.from ≡ Real
+-- an adder of so many bits is made
+pub record IsAdderSize (number : ℕ) : Type 0 where
+  pub some : 1 ≤ number
+  pub few : number ≤ MOST_BITS
 
 -- the file of a laid plan in a format
 abbrev pub file_of : Format → LaidView → List ℕ

@@ -4,8 +4,8 @@ ghost use Rattle.program_commands.specs.Check.{Gives, IsCause, Serves, IsChecked
 ghost use Rattle.command_answers.specs.Outcomes.{HasOneOutcome, IsAnyFault};
 ghost use Rattle.program_commands.specs.Outcomes.{IsSettlingFault};
 
-use command_answers::Fault;
 use crate::settling::settle_text;
+use command_answers::Fault;
 use revs_parser::MOST_BYTES;
 use std::alloc::Global;
 

@@ -8,8 +8,8 @@ ghost use Rattle.program_commands.specs.inside.Mappings.{bits_fault};
 ghost use Rattle.program_commands.specs.Outcomes.{IsEvalFault};
 ghost use Rattle.program_commands.specs.inside.Plans.{IsBitsFault};
 
-use command_answers::Fault;
 use crate::program::tape_of_text;
+use command_answers::Fault;
 use revc_base::{Bits, BitsFault, Tape, TapeEnd};
 use revs_parser::MOST_BYTES;
 use std::alloc::Global;

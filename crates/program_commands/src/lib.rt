@@ -1,8 +1,11 @@
-//! The commands that read a program: `compile`, `check` and `eval`.
+//! The commands that read a program, `compile`, `check` and `eval`, and those that make one, `gen` and `bench`.
 #![tactic(auto)]
 
+pub mod bench;
 pub mod check;
 pub mod compile;
 pub mod eval;
+pub mod generate;
+mod planning;
 mod program;
 mod settling;

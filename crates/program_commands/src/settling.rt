@@ -7,9 +7,9 @@ ghost use Rattle.revc_base.specs.Tapes.{IsTape};
 ghost use Rattle.program_commands.specs.Settling.{LeavesSettled, LeavesTape};
 ghost use Rattle.program_commands.specs.Outcomes.{IsSettlingFault};
 
-use command_answers::Fault;
 use crate::program::tape_of_text;
 use claim_check::{ClaimFault, Settled, settle};
+use command_answers::Fault;
 use dependency_graph::Graph;
 use revc_base::{Place, Tape};
 use revs_parser::MOST_BYTES;

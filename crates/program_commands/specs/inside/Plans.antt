@@ -1,12 +1,15 @@
 -- From a text to a plan that may be written as a clean file, and why there is none.
-use Rattle.std.specs.Prelude.{◌≡◌, ℕ, ◌≤◌, List}
+use Rattle.std.specs.Prelude.{◌≡◌, ℕ, ◌+◌, ◌≤◌, List, length}
 use Rattle.claim_check.specs.Settled.{SettledView, IsSettledOf}
 use Rattle.gate_split.specs.declared.plan.TheConstants.{MOST_LINES, MOST_GATES}
-use Rattle.gate_split.specs.Plans.{BudgetView, LaidView}
+use Rattle.gate_split.specs.Plans.{BudgetView, LaidView, lines_in, roles_of}
 use Rattle.held_nodes.specs.Plans.{wanted_lines}
+use Rattle.mct_circuit.specs.Gates.{AreGatesOn}
 use Rattle.plan_choice.specs.declared.choice.How.{How}
 use Rattle.plan_choice.specs.Choices.{GatesAreFew, IsLaidFor, LinesAreFew}
 use Rattle.revc_base.specs.Tapes.{TapeView}
+use Rattle.revc_words.specs.Words.{OrderView}
+use Rattle.revs_parser.specs.WellFormed.{IsWellFormed}
 use Rattle.revs_terms.specs.Runs.{IsTapeOf}
 use Rattle.revs_terms.specs.Scopes.{scope_verdict, bound_as}
 use Rattle.revs_terms.specs.Views.{ProgramView}
@@ -14,7 +17,9 @@ use Rattle.command_answers.specs.declared.fault.Fault.{Fault}
 use Rattle.command_answers.specs.declared.fault.Fault.TheVariants.{Refused, Lines, Gates, BadBits, Memory}
 use Rattle.command_answers.specs.declared.fault.Refusal.TheVariants.{At}
 use Rattle.command_answers.specs.BitWords.{IsInputWord}
+use Rattle.program_commands.specs.Clean.{IsCleanCircuit}
 use Rattle.program_commands.specs.Refusals.{IsRefusal}
+use Rattle.program_commands.specs.Settling.{LeavesSettled}
 
 -- a plan of a program's settled graph, within a budget
 pub record IsCleanPlan (laid : LaidView) (p : ProgramView) (b : BudgetView) : Type 0 where
@@ -26,6 +31,21 @@ pub record IsCleanPlan (laid : LaidView) (p : ProgramView) (b : BudgetView) : Ty
   pub some : 1 ≤ laid.circuit.lines
   pub most_lines : b.lines ≤ MOST_LINES
   pub most_gates : b.gates ≤ MOST_GATES
+
+-- The text is well formed, and that of one program, which leaves this tape and whose claims hold on all inputs, within
+-- the nodes; the plan is a clean circuit for it, with the order's borrowed lines and within its budgets.
+pub record IsPlannedFor (order : OrderView) (text : List ℕ) (tape : TapeView) (laid : LaidView)
+    : Type 0 where
+  pub settled : LeavesSettled text order.nodes tape
+  pub only : (p : ProgramView) → IsWellFormed text p → p ≡ settled.left.program
+  pub clean : IsCleanCircuit settled.left.program order.borrow (roles_of laid) laid.circuit.gates
+  pub few_lines : lines_in (roles_of laid) ≤ order.lines
+  pub few_gates : length laid.circuit.gates ≤ order.gates
+
+-- what a plan says of itself: its gates are on its lines, which are those of its roles
+pub record IsWhole (laid : LaidView) : Type 0 where
+  pub sum_of : laid.inputs + laid.outputs + laid.work + laid.borrowed ≡ laid.circuit.lines
+  pub on : AreGatesOn laid.circuit.lines laid.circuit.gates
 
 -- why a settled graph has no plan within the budget, or there was no memory left
 abbrev pub IsPlanningFault : How → SettledView → BudgetView → Fault → Type 0

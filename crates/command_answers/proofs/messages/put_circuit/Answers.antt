@@ -6,5 +6,11 @@ returns-in-TooLong-clause-bytes g c = rw c.in-TooLong.is c.put.ensures.bytes
 pub returns-in-Line-clause-bytes : goal.returns-in-Line-clause-bytes
 returns-in-Line-clause-bytes g c = rw c.in-Line.is c.put_number.ensures.bytes
 
-pub returns-in-Limit-clause-bytes : goal.returns-in-Limit-clause-bytes
-returns-in-Limit-clause-bytes g c = rw c.in-Limit.is c.put_number-in-Limit.ensures.bytes
+pub returns-in-LineLimit-clause-bytes : goal.returns-in-LineLimit-clause-bytes
+returns-in-LineLimit-clause-bytes g c = rw c.in-LineLimit.is c.put_number-in-LineLimit.ensures.bytes
+
+pub returns-in-Token-clause-bytes : goal.returns-in-Token-clause-bytes
+returns-in-Token-clause-bytes g c = rw c.in-Token.is c.put_circuit_place.ensures.bytes
+
+pub returns-in-TokenLimit-clause-bytes : goal.returns-in-TokenLimit-clause-bytes
+returns-in-TokenLimit-clause-bytes g c = rw c.in-TokenLimit.is c.put_circuit_place-in-TokenLimit.ensures.bytes

@@ -1,0 +1,47 @@
+-- `gen` gives a text always, and `bench` the sizes of what `compile` gives for that text, with the causes of `compile`.
+use Rattle.std.proofs.Common.{◌≡◌, List, ℕ, refl, subst}
+use Rattle.command_answers.specs.Outcomes.{HasOneOutcome, IsAnyFault, IsNoBudget}
+use Rattle.gate_split.specs.Plans.{LaidView, roles_of}
+use Rattle.program_commands.specs.declared.bench.BenchSizes.{BenchSizes}
+use Rattle.program_commands.specs.Bench as bench
+use Rattle.program_commands.specs.Bench.{AreSizesOf, IsBenched, bench_text}
+use Rattle.program_commands.specs.Gen as gen
+use Rattle.program_commands.specs.inside.Plans.{IsPlannedFor}
+use Rattle.program_commands.proofs.CompileLemmas.{keeps_free, one_cause, planned_or_caused}
+use Rattle.program_gen.specs.Adder.{adder_text}
+use Rattle.revc_base.specs.Tapes.{TapeView}
+use Rattle.revc_words.specs.Words.{OrderView}
+
+pub gen_outcome : HasOneOutcome IsAnyFault gen.Gives gen.IsCause gen.Serves
+gen_outcome = record {
+  never_both = λ order text written fault given cause exact. cause;
+  one_cause = λ order text fault exact cause other is. absurd cause;
+  free = λ order text fault served cause. cause;
+}
+
+pub bench_outcome : HasOneOutcome IsNoBudget bench.Gives bench.IsCause bench.Serves
+bench_outcome = record {
+  never_both = λ order text written fault given cause exact.
+      planned_or_caused order (adder_text order.number) given.tape fault given.settled cause exact;
+  one_cause = λ order text fault exact cause other is. one_cause order (adder_text order.number) fault exact cause other is;
+  free = λ order text fault served cause. keeps_free order (adder_text order.number) fault served cause;
+}
+
+-- the sizes of a plan of the adder's text are what `bench` gives
+pub benched : (order : OrderView) (text : List ℕ) (tape : TapeView) (laid : LaidView) (sizes : BenchSizes) → text ≡ adder_text order.number
+    → IsPlannedFor order text tape laid → AreSizesOf tape (roles_of laid) laid.circuit.gates sizes → IsBenched order (bench_text sizes)
+benched order text tape laid sizes same planned are =
+    let plan = subst (λ (t : List ℕ). IsPlannedFor order t tape laid) same planned in
+    record {
+      tape = tape;
+      settled = plan.settled;
+      only = plan.only;
+      roles = roles_of laid;
+      gates = laid.circuit.gates;
+      clean = plan.clean;
+      few_lines = plan.few_lines;
+      few_gates = plan.few_gates;
+      sizes = sizes;
+      are = are;
+      lines = refl;
+    }

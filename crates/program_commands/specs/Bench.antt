@@ -1,0 +1,72 @@
+-- `bench`: the sizes of an adder's program, and of its compiled circuit.
+use Rattle.std.specs.Prelude.{◌≡◌, ℕ, ◌≤◌, List, ◌++◌, length, codes}
+use Rattle.command_answers.specs.declared.fault.Fault.{Fault}
+use Rattle.command_answers.specs.Lines.{number_line}
+use Rattle.gate_split.specs.declared.roles.Roles.{Roles}
+use Rattle.gate_split.specs.Plans.{lines_in}
+use Rattle.mct_circuit.specs.Gates.{GateView}
+use Rattle.mct_circuit.specs.Sizes.{depth_of}
+use Rattle.program_commands.specs.declared.bench.BenchSizes.{BenchSizes}
+use Rattle.program_commands.specs.Clean.{IsCleanCircuit}
+use Rattle.program_commands.specs.Compile as compile
+use Rattle.program_commands.specs.Settling.{LeavesSettled}
+use Rattle.program_gen.specs.Adder.{adder_text}
+use Rattle.revc_base.specs.Measures.{HasWidth, inputs_of, outputs_of, writes_of}
+use Rattle.revc_base.specs.Tapes.{TapeView}
+use Rattle.revc_words.specs.Words.{OrderView}
+use Rattle.revs_parser.specs.WellFormed.{IsWellFormed}
+use Rattle.revs_terms.specs.Views.{ProgramView}
+
+-- these are the numbers of inputs, outputs and writes of a tape and its width, and the numbers of lines and gates of a
+-- circuit and its depth
+pub record AreSizesOf (tape : TapeView) (roles : Roles) (gates : List GateView)
+    (sizes : BenchSizes) : Type 0 where
+  pub inputs : sizes.inputs ≡ inputs_of tape
+  pub outputs : sizes.outputs ≡ outputs_of tape
+  pub writes : sizes.writes ≡ writes_of tape
+  pub width : HasWidth tape sizes.width
+  pub lines : sizes.lines ≡ lines_in roles
+  pub count : sizes.gates ≡ length gates
+  pub depth : sizes.depth ≡ depth_of gates
+
+-- the lines of the circuit's sizes
+abbrev pub circuit_lines : BenchSizes → List ℕ
+circuit_lines sizes =
+    (number_line (codes "lines ") sizes.lines ++ number_line (codes "gates ") sizes.gates)
+    ++ number_line (codes "depth ") sizes.depth
+
+-- seven lines
+abbrev pub bench_text : BenchSizes → List ℕ
+bench_text sizes =
+    (number_line (codes "inputs ") sizes.inputs ++ number_line (codes "outputs ") sizes.outputs)
+    ++ ((number_line (codes "writes ") sizes.writes ++ number_line (codes "width ") sizes.width)
+    ++ circuit_lines sizes)
+
+-- The text of the adder of so many bits is well formed, and that of one program, whose claims hold on all inputs, within
+-- the nodes; the gates are a clean circuit for it, with the order's borrowed lines and within its budgets; and these are
+-- the lines of the sizes of its tape and of the gates.
+pub record IsBenched (order : OrderView) (written : List ℕ) : Type 0 where
+  pub tape : TapeView
+  pub settled : LeavesSettled (adder_text order.number) order.nodes tape
+  pub only : (p : ProgramView) → IsWellFormed (adder_text order.number) p
+      → p ≡ settled.left.program
+  pub roles : Roles
+  pub gates : List GateView
+  pub clean : IsCleanCircuit settled.left.program order.borrow roles gates
+  pub few_lines : lines_in roles ≤ order.lines
+  pub few_gates : length gates ≤ order.gates
+  pub sizes : BenchSizes
+  pub are : AreSizesOf tape roles gates sizes
+  pub lines : written ≡ bench_text sizes
+
+-- what is written, whatever is on the source
+abbrev pub Gives : OrderView → List ℕ → List ℕ → Type 0
+Gives order text written = IsBenched order written
+
+-- why nothing is: why `compile` writes no file for the text of the adder
+abbrev pub IsCause : OrderView → List ℕ → Fault → Type 0
+IsCause order text fault = compile.IsCause order (adder_text order.number) fault
+
+-- where something is, unless memory or a device is wanting: where `compile` writes a file for the text of the adder
+abbrev pub Serves : OrderView → List ℕ → Type 0
+Serves order text = compile.Serves order (adder_text order.number)

@@ -1,0 +1,36 @@
+// `gen`: the program of an adder.
+ghost use Rattle.std.specs.Prelude.{◌≡◌, IfOk};
+ghost use Rattle.command_answers.specs.Outcomes.{HasOneOutcome, IsAnyFault};
+ghost use Rattle.program_commands.specs.Gen.{Gives, IsCause, Serves};
+ghost use Rattle.program_commands.specs.Outcomes.{IsAdderSize};
+ghost use Rattle.program_gen.specs.Adder.{adder_text};
+ghost use Rattle.revc_io.specs.Faults.{HasCause};
+ghost use Rattle.revc_io.specs.Passing.{Writes};
+
+use program_gen::program_text;
+use revc_base::Memory;
+use revc_io::{Buffer, Failed, Sink};
+use std::alloc::Global;
+
+/// What `gen` gives, its causes and where it serves exclude one another: it has no cause.
+pub fn one_outcome()
+    ensures { HasOneOutcome IsAnyFault Gives IsCause Serves }
+{}
+
+/// The text of the program of an adder of so many bits.
+pub fn program(alloc: Global, number: u32) -> Result<Vec<u8>, Memory>
+    requires { IsAdderSize number }
+    ensures { IfOk result (λ text. text.items ≡ adder_text number) }
+{
+    program_text(alloc, number)
+}
+
+/// Writes the text of a program. It takes no memory.
+pub fn write<K: Sink>(text: &[u8], out: &mut K) -> Result<(), Failed>
+    ensures bytes { Writes result (K.held out.old) (K.held out.new) text.now }
+    ensures cause { HasCause (K.faults out.old) (K.faults out.new) result }
+{
+    let mut buffer = Buffer::new();
+    buffer.put(out, text)?;
+    buffer.finish(out)
+}
