@@ -1,17 +1,31 @@
 -- A circuit text means one circuit, or has one refusal; words are inputs of it, or one is the first that is not.
-use Rattle.std.proofs.Common.{◌≡◌, ℕ, ◌+◌, List, refl, sym, ap, ◌∙◌, subst, arith}
+use Rattle.std.proofs.Common.{◌≡◌, ℕ, ◌+◌, ◌<◌, ◌≤◌, ◌⊎◌, inl, inr, List, length, refl, sym, ap, ◌∙◌, subst, arith}
 use Rattle.std.specs.List.{AllByRecursion}
-use Rattle.real_format.proofs.VerdictLemmas.{one_reading}
+use Rattle.std.proofs.lemmas.List.{length-replicate}
+use Rattle.real_format.proofs.VerdictLemmas as real
+use Rattle.real_format.specs.Faults.{IsRealFault, IsTextFault as IsRealTextFault}
+use Rattle.real_format.specs.Real.{RealView, RealMeaning}
 use Rattle.real_format.specs.declared.file.RealFault.{RealFault}
 use Rattle.real_format.specs.declared.file.RealFault.TheVariants as reals
+use Rattle.qasm_format.proofs.OneReadingLemmas as qasm
+use Rattle.qasm_format.specs.Faults.{IsQasmFault, IsTextFault as IsQasmTextFault}
+use Rattle.qasm_format.specs.Qasm.{QasmView, MeansFile}
+use Rattle.qasm_format.specs.Registers.{lines_of_all}
+use Rattle.qasm_format.specs.declared.file.QasmFault.{QasmFault}
+use Rattle.qasm_format.specs.declared.file.QasmFault.TheVariants as qasms
+use Rattle.real_format.specs.declared.file.Mark.TheVariants.{Free}
 use Rattle.revc_words.specs.declared.order.Format.{Format}
 use Rattle.revc_words.specs.declared.order.Format.TheVariants.{Real, Qasm}
 use Rattle.revc_words.specs.Words.{OrderView}
 use Rattle.command_answers.specs.declared.fault.CircuitRefusal.{CircuitRefusal}
-use Rattle.command_answers.specs.declared.fault.CircuitRefusal.TheVariants.{TooLong, Line, Limit}
+use Rattle.command_answers.specs.declared.fault.CircuitRefusal.TheVariants.{TooLong, Line, LineLimit, Token, TokenLimit}
 use Rattle.command_answers.specs.declared.fault.Fault.{Fault}
 use Rattle.command_answers.specs.declared.fault.Fault.TheVariants as faults
-use Rattle.circuit_commands.specs.Circuits.{ReadCircuit, of_real, Means, MeansCircuit, IsCircuitRefusal}
+use Rattle.circuit_commands.specs.declared.limits.TheConstants.{MOST_CIRCUIT_BYTES}
+use Rattle.circuit_commands.specs.Circuits.{ReadCircuit, of_qasm, of_real, Means, MeansIn, IsCircuitRefusal, IsRefusalIn, IsRefusedIn}
+use Rattle.circuit_commands.specs.Outcomes.{IsCircuitFault}
+use Rattle.circuit_commands.specs.inside.Mappings.{qasm_fault, real_fault}
+use Rattle.circuit_commands.specs.inside.Splitting.{HasLines}
 use Rattle.command_answers.specs.Outcomes.{HasOneOutcome, IsAnyFault}
 use Rattle.command_answers.specs.BitWords.{IsInputWord}
 use Rattle.circuit_commands.specs.Run as run
@@ -19,51 +33,119 @@ use Rattle.circuit_commands.specs.Run.{AreInputs, IsFirstUnfit, HasBadWord, free
 use Rattle.circuit_commands.specs.Stat as stat
 use Rattle.command_answers.proofs.FirstLemmas.{all_at, first_same}
 
+-- ---- refusals are those of the readers
+
+-- the refusal for a fault of a reader; none is for want of memory
+abbrev real_refusal : RealFault → CircuitRefusal
+real_refusal (reals.Line number) = Line number
+real_refusal (reals.Limit number) = LineLimit number
+real_refusal reals.Memory = TooLong
+
+abbrev qasm_refusal : QasmFault → CircuitRefusal
+qasm_refusal (qasms.Token at) = Token at
+qasm_refusal (qasms.Limit at) = TokenLimit at
+qasm_refusal qasms.Memory = TooLong
+
+-- a fault of the reader for which this is the refusal
+record IsRealCause (text : List ℕ) (refusal : CircuitRefusal) : Type 0 where
+  fault : RealFault
+  is : IsRealTextFault text fault
+  same : refusal ≡ real_refusal fault
+
+record IsQasmCause (text : List ℕ) (refusal : CircuitRefusal) : Type 0 where
+  fault : QasmFault
+  is : IsQasmTextFault text fault
+  same : refusal ≡ qasm_refusal fault
+
+real_cause : (text : List ℕ) (refusal : CircuitRefusal) → IsRefusalIn Real text refusal → IsRealCause text refusal
+real_cause text TooLong h = absurd h
+real_cause text (Line number) h = record { fault = reals.Line number; is = h; same = refl }
+real_cause text (LineLimit number) h = record { fault = reals.Limit number; is = h; same = refl }
+real_cause text (Token at) h = absurd h
+real_cause text (TokenLimit at) h = absurd h
+
+qasm_cause : (text : List ℕ) (refusal : CircuitRefusal) → IsRefusalIn Qasm text refusal → IsQasmCause text refusal
+qasm_cause text TooLong h = absurd h
+qasm_cause text (Line number) h = absurd h
+qasm_cause text (LineLimit number) h = absurd h
+qasm_cause text (Token at) h = record { fault = qasms.Token at; is = h; same = refl }
+qasm_cause text (TokenLimit at) h = record { fault = qasms.Limit at; is = h; same = refl }
+
+-- ---- one circuit or one refusal, by the meaning of a format
+
+one_in : (from : Format) (text : List ℕ) (circuit other : ReadCircuit) → MeansIn from text circuit → MeansIn from text other → circuit ≡ other
+one_in Real text circuit other m n = m.same ∙ ap of_real ((real.one_reading text).one_meaning m.file n.file m.meaning n.meaning) ∙ sym n.same
+one_in Qasm text circuit other m n = m.same ∙ ap of_qasm ((qasm.one_reading text).one_meaning m.file n.file m.meaning n.meaning) ∙ sym n.same
+
+in_or_refused : (from : Format) (text : List ℕ) (circuit : ReadCircuit) (refusal : CircuitRefusal) → MeansIn from text circuit
+    → IsRefusalIn from text refusal → ⊥
+in_or_refused Real text circuit refusal m h =
+    let cause = real_cause text refusal h in
+    (real.one_reading text).never_both m.file cause.fault m.meaning cause.is
+in_or_refused Qasm text circuit refusal m h =
+    let cause = qasm_cause text refusal h in
+    (qasm.one_reading text).never_both m.file cause.fault m.meaning cause.is
+
+one_refusal_in : (from : Format) (text : List ℕ) (refusal other : CircuitRefusal) → IsRefusalIn from text refusal → IsRefusalIn from text other
+    → refusal ≡ other
+one_refusal_in Real text refusal other a b =
+    let one = real_cause text refusal a in
+    let two = real_cause text other b in
+    one.same ∙ ap real_refusal ((real.one_reading text).one_fault one.fault two.fault one.is two.is) ∙ sym two.same
+one_refusal_in Qasm text refusal other a b =
+    let one = qasm_cause text refusal a in
+    let two = qasm_cause text other b in
+    one.same ∙ ap qasm_refusal ((qasm.one_reading text).one_fault one.fault two.fault one.is two.is) ∙ sym two.same
+
 -- ---- one circuit or one refusal
 
-real_or_refused : (text : List ℕ) (circuit : ReadCircuit) (refusal : CircuitRefusal) → MeansCircuit text circuit → IsCircuitRefusal Real text refusal → ⊥
-real_or_refused text circuit TooLong m h = let short = m.short in absurd (omega (arith, short, h))
-real_or_refused text circuit (Line number) m h = (one_reading text).never_both m.file (reals.Line number) m.meaning h.1
-real_or_refused text circuit (Limit number) m h = (one_reading text).never_both m.file (reals.Limit number) m.meaning h.1
+-- a refusal is the limit of bytes, or stands within it
+long_or_in : (from : Format) (text : List ℕ) (refusal : CircuitRefusal) → IsCircuitRefusal from text refusal
+    → ((refusal ≡ TooLong) × (MOST_CIRCUIT_BYTES < length text)) ⊎ IsRefusedIn from text refusal
+long_or_in from text TooLong h = inl (refl, h)
+long_or_in from text (Line number) h = inr h
+long_or_in from text (LineLimit number) h = inr h
+long_or_in from text (Token at) h = inr h
+long_or_in from text (TokenLimit at) h = inr h
 
 pub means_or_refused : (from : Format) (text : List ℕ) (circuit : ReadCircuit) (refusal : CircuitRefusal) → Means from text circuit
     → IsCircuitRefusal from text refusal → ⊥
-means_or_refused Real text circuit refusal m h = real_or_refused text circuit refusal m h
-means_or_refused Qasm text circuit refusal m h = absurd m
+means_or_refused from text circuit refusal m h = elim (long_or_in from text refusal h) [
+  | inl long ↦ (let short = m.short in omega (arith, long.1))
+  | inr refused ↦ in_or_refused from text circuit refusal m.meaning refused.cause
+]
 
-refusal_of : RealFault → CircuitRefusal
-refusal_of (reals.Line number) = Line number
-refusal_of (reals.Limit number) = Limit number
-refusal_of reals.Memory = TooLong
-
-one_real : (text : List ℕ) (refusal other : CircuitRefusal) → IsCircuitRefusal Real text refusal → IsCircuitRefusal Real text other → refusal ≡ other
-unfolding refusal_of
-one_real text TooLong TooLong a b = refl
-one_real text TooLong (Line number) a b = absurd (omega (arith, a, b.0))
-one_real text TooLong (Limit number) a b = absurd (omega (arith, a, b.0))
-one_real text (Line number) TooLong a b = absurd (omega (arith, a.0, b))
-one_real text (Limit number) TooLong a b = absurd (omega (arith, a.0, b))
-one_real text (Line number) (Line other) a b = ap refusal_of ((one_reading text).one_fault (reals.Line number) (reals.Line other) a.1 b.1)
-one_real text (Line number) (Limit other) a b = ap refusal_of ((one_reading text).one_fault (reals.Line number) (reals.Limit other) a.1 b.1)
-one_real text (Limit number) (Line other) a b = ap refusal_of ((one_reading text).one_fault (reals.Limit number) (reals.Line other) a.1 b.1)
-one_real text (Limit number) (Limit other) a b = ap refusal_of ((one_reading text).one_fault (reals.Limit number) (reals.Limit other) a.1 b.1)
-
-one_circuit_refusal : (from : Format) (text : List ℕ) (refusal other : CircuitRefusal) → IsCircuitRefusal from text refusal
+pub one_circuit_refusal : (from : Format) (text : List ℕ) (refusal other : CircuitRefusal) → IsCircuitRefusal from text refusal
     → IsCircuitRefusal from text other → refusal ≡ other
-one_circuit_refusal Real text refusal other a b = one_real text refusal other a b
-one_circuit_refusal Qasm text TooLong TooLong a b = refl
-one_circuit_refusal Qasm text TooLong (Line number) a b = absurd b
-one_circuit_refusal Qasm text TooLong (Limit number) a b = absurd b
-one_circuit_refusal Qasm text (Line number) other a b = absurd a
-one_circuit_refusal Qasm text (Limit number) other a b = absurd a
-
-one_real_circuit : (text : List ℕ) (circuit other : ReadCircuit) → MeansCircuit text circuit → MeansCircuit text other → circuit ≡ other
-one_real_circuit text circuit other m n = m.same ∙ ap of_real ((one_reading text).one_meaning m.file n.file m.meaning n.meaning) ∙ sym n.same
+one_circuit_refusal from text refusal other a b = elim (long_or_in from text refusal a) [
+  | inl long ↦ elim (long_or_in from text other b) [
+    | inl too ↦ long.0 ∙ sym too.0
+    | inr in_text ↦ (let short = in_text.short in absurd (omega (arith, long.1)))
+  ]
+  | inr refused ↦ elim (long_or_in from text other b) [
+    | inl long ↦ (let short = refused.short in absurd (omega (arith, long.1)))
+    | inr too ↦ one_refusal_in from text refusal other refused.cause too.cause
+  ]
+]
 
 -- a text means one circuit
 pub one_circuit : (from : Format) (text : List ℕ) (circuit other : ReadCircuit) → Means from text circuit → Means from text other → circuit ≡ other
-one_circuit Real text circuit other m n = one_real_circuit text circuit other m n
-one_circuit Qasm text circuit other m n = absurd m
+one_circuit from text circuit other m n = one_in from text circuit other m.meaning n.meaning
+
+-- each has a line, and keeps the limit of lines
+pub has_lines : (from : Format) (text : List ℕ) (circuit : ReadCircuit) → MeansIn from text circuit → HasLines circuit
+has_lines Real text circuit m =
+    let file = real.meanings_are_files text m.file m.meaning in
+    let marks = file.constants in
+    let some = file.some in
+    let few = file.few in
+    subst HasLines (sym m.same) (record { some = omega arith; few = omega arith })
+has_lines Qasm text circuit m =
+    let file = qasm.meanings_are_files text m.file m.meaning in
+    let marks = length-replicate (lines_of_all m.file.registers) Free in
+    let some = file.some in
+    let few = file.few in
+    subst HasLines (sym m.same) (record { some = omega arith; few = omega arith })
 
 -- ---- `stat`
 
@@ -145,3 +227,25 @@ run_outcome = record {
   one_cause = λ order text fault exact cause other is. run_cause order text fault exact cause other;
   free = λ order text fault served cause. run_stops order text served.circuit fault served.means served.fit cause;
 }
+
+-- ---- what the readers answer
+
+pub means_real : (text : List ℕ) (file : RealView) (circuit : ReadCircuit) → length text ≤ MOST_CIRCUIT_BYTES → RealMeaning text file → circuit ≡ of_real file
+    → Means Real text circuit
+means_real text file circuit short meaning same = record { short = short; meaning = record { file = file; meaning = meaning; same = same } }
+
+pub means_qasm : (text : List ℕ) (file : QasmView) (circuit : ReadCircuit) → length text ≤ MOST_CIRCUIT_BYTES → MeansFile text file → circuit ≡ of_qasm file
+    → Means Qasm text circuit
+means_qasm text file circuit short meaning same = record { short = short; meaning = record { file = file; meaning = meaning; same = same } }
+
+pub refused_real : (text : List ℕ) (fault : RealFault) → length text ≤ MOST_CIRCUIT_BYTES → IsRealFault text fault
+    → IsCircuitFault Real text (real_fault fault)
+refused_real text (reals.Line number) short h = record { short = short; cause = h }
+refused_real text (reals.Limit number) short h = record { short = short; cause = h }
+refused_real text reals.Memory short h = tt
+
+pub refused_qasm : (text : List ℕ) (fault : QasmFault) → length text ≤ MOST_CIRCUIT_BYTES → IsQasmFault text fault
+    → IsCircuitFault Qasm text (qasm_fault fault)
+refused_qasm text (qasms.Token at) short h = record { short = short; cause = h }
+refused_qasm text (qasms.Limit at) short h = record { short = short; cause = h }
+refused_qasm text qasms.Memory short h = tt

@@ -1,2 +1,4 @@
 pub mod RunLemmas
 pub mod CircuitLemmas
+mod WiderLemmas
+pub mod ConvertLemmas

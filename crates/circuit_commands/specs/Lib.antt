@@ -1,5 +1,6 @@
 pub mod Circuits
 pub mod Stat
 pub mod Run
+pub mod Convert
 pub mod Outcomes
 pub mod inside

@@ -1,10 +1,11 @@
 -- What the calls of the commands on circuits answer.
-use Rattle.std.specs.Prelude.{ℕ, List}
+use Rattle.std.specs.Prelude.{ℕ, Bool, List}
 use Rattle.command_answers.specs.declared.fault.Fault.{Fault}
-use Rattle.command_answers.specs.declared.fault.Fault.TheVariants.{Circuit, BadBits, Memory}
+use Rattle.command_answers.specs.declared.fault.Fault.TheVariants.{Circuit, Lines, Gates, BadBits, Memory}
 use Rattle.revc_words.specs.declared.order.Format.{Format}
 use Rattle.circuit_commands.specs.Circuits.{ReadCircuit, IsCircuitRefusal}
 use Rattle.circuit_commands.specs.Run.{HasBadWord, IsFirstUnfit}
+use Rattle.circuit_commands.specs.Convert.{IsConverted, PassesLines, PassesGates, file_text}
 
 -- why a text means no circuit, or there was no memory left
 abbrev pub IsCircuitFault : Format → List ℕ → Fault → Type 0
@@ -24,3 +25,20 @@ IsRunFault from words text (Circuit refusal) = IsCircuitRefusal from text refusa
 IsRunFault from words text (BadBits number) = HasBadWord from words text number
 IsRunFault from words text Memory = Unit {0}
 IsRunFault from words text _ = ⊥
+
+-- a circuit that waits to be written, and whether its last line was added
+pub record ConvertedView : Type 0 where
+  pub circuit : ReadCircuit
+  pub added : Bool
+
+-- the file that waits is, in each format, that of the text's circuit
+pub record IsConversion (from : Format) (text : List ℕ) (made : ConvertedView) : Type 0 where
+  pub in_each : (to : Format) → IsConverted from to text (file_text to made.circuit made.added)
+
+-- why a circuit text has no file, or there was no memory left
+abbrev pub IsConvertFault : Format → List ℕ → Fault → Type 0
+IsConvertFault from text (Circuit refusal) = IsCircuitRefusal from text refusal
+IsConvertFault from text (Lines need limit) = PassesLines from text need limit
+IsConvertFault from text (Gates limit) = PassesGates from text limit
+IsConvertFault from text Memory = Unit {0}
+IsConvertFault from text _ = ⊥

@@ -1,10 +1,10 @@
 -- `stat`: the counts and the depth of a circuit.
 use Rattle.std.specs.Prelude.{◌≡◌, ℕ, List, ◌++◌, length, codes}
-use Rattle.std.specs.Fmt.{decimal}
 use Rattle.mct_circuit.specs.declared.size.Counts.{Counts}
 use Rattle.mct_circuit.specs.Sizes.{counts_of, depth_of}
 use Rattle.revc_words.specs.declared.order.Format.{Format}
 use Rattle.revc_words.specs.Words.{OrderView}
+use Rattle.command_answers.specs.Lines.{number_line}
 use Rattle.command_answers.specs.declared.fault.Fault.{Fault}
 use Rattle.command_answers.specs.declared.fault.Fault.TheVariants.{Circuit}
 use Rattle.circuit_commands.specs.declared.stat.Sizes.{Sizes}

@@ -1,7 +1,8 @@
-//! The commands that read a circuit: `stat` and `run`.
+//! The commands that read a circuit: `stat`, `run` and `convert`.
 #![tactic(auto)]
 
 mod circuit;
+pub mod convert;
 mod limits;
 pub mod run;
 pub mod stat;

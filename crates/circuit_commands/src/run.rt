@@ -4,7 +4,6 @@ ghost use Rattle.std.specs.List.{flat_map};
 ghost use Rattle.circuit_sim.specs.Rows.{AreRows, contents};
 ghost use Rattle.revc_words.specs.Words.{words_of};
 ghost use Rattle.circuit_commands.specs.declared.limits.TheConstants.{MOST_CIRCUIT_BYTES};
-ghost use Rattle.circuit_commands.specs.Circuits.{of_real};
 ghost use Rattle.command_answers.specs.Outcomes.{HasOneOutcome, IsAnyFault};
 ghost use Rattle.command_answers.specs.BitWords.{bits_of};
 ghost use Rattle.command_answers.specs.Lines.{bits_text};
@@ -12,11 +11,10 @@ ghost use Rattle.circuit_commands.specs.Run.{Gives, IsCause, Serves, AreInputs, 
 ghost use Rattle.circuit_commands.specs.Outcomes.{IsRunFault, IsWordsFault};
 ghost use Rattle.circuit_commands.specs.inside.Started.{first_bit};
 
-use crate::circuit::read_circuit;
-use command_answers::is_input_word;
-use command_answers::Fault;
+use crate::circuit::{MarkedCircuit, read_circuit};
 use circuit_sim::run_all;
-use real_format::{Mark, RealFile};
+use command_answers::{Fault, is_input_word};
+use real_format::Mark;
 use revc_base::{Bits, Memory};
 use revc_words::Format;
 use std::alloc::Global;
@@ -30,23 +28,22 @@ pub fn one_outcome()
 /// free, and the last bits of the lines that are of use are given. A fault is exactly the text's or a word's, or want
 /// of memory.
 pub fn run(alloc: Global, text: &[u8], from: Format, words: &[String]) -> Result<Vec<Bits>, Fault>
-    requires short { length text.now ≤ MOST_CIRCUIT_BYTES }
-    requires from { from ≡ Format.Real }
+    requires { length text.now ≤ MOST_CIRCUIT_BYTES }
     ensures ok { IfOk result (λ lines. IsRun from (words_of words.now) text.now
         (flat_map bits_text lines.items)) }
     ensures err { IfErr result (IsRunFault from (words_of words.now) text.now) }
 {
-    let file = read_circuit(alloc, text, from)?;
-    check_words(&file, words)?;
-    Ok(run_words(alloc, &file, words)?)
+    let source = read_circuit(alloc, text, from)?;
+    check_words(&source, words)?;
+    Ok(run_words(alloc, &source, words)?)
 }
 
 // Whether each word has a digit for each free line.
-fn check_words(file: &RealFile, words: &[String]) -> Result<(), Fault>
-    ensures ok { OnOk result (AreInputs (of_real file.now) (words_of words.now)) }
-    ensures err { IfErr result (IsWordsFault (of_real file.now) (words_of words.now)) }
+fn check_words(source: &MarkedCircuit, words: &[String]) -> Result<(), Fault>
+    ensures ok { OnOk result (AreInputs source.now (words_of words.now)) }
+    ensures err { IfErr result (IsWordsFault source.now (words_of words.now)) }
 {
-    let inputs = free_lines(file.constants());
+    let inputs = free_lines(source.constants());
     for (place, word) in words.iter().enumerate() {
         if !is_input_word(word.as_str(), inputs) {
             return Err(Fault::BadBits { word: place + 1 });
@@ -73,13 +70,13 @@ fn is_free(mark: Mark) -> bool
 }
 
 // The bits that a circuit gives on the bits of each word.
-fn run_words(alloc: Global, file: &RealFile, words: &[String]) -> Result<Vec<Bits>, Memory>
+fn run_words(alloc: Global, source: &MarkedCircuit, words: &[String]) -> Result<Vec<Bits>, Memory>
     ensures { IfOk result (λ lines. flat_map bits_text lines.items
-        ≡ runs_text (of_real file.now) (words_of words.now)) }
+        ≡ runs_text source.now (words_of words.now)) }
 {
-    let mut rows = start_all(alloc, file.constants(), words)?;
-    run_all(alloc, file.circuit(), &mut rows)?;
-    keep_all(alloc, file.garbage(), &rows)
+    let mut rows = start_all(alloc, source.constants(), words)?;
+    run_all(alloc, source.circuit(), &mut rows)?;
+    keep_all(alloc, source.garbage(), &rows)
 }
 
 // The bits with which the lines start on each word.

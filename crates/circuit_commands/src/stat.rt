@@ -3,17 +3,13 @@ ghost use Rattle.std.specs.Prelude.{◌≡◌, ◌++◌, ◌≤◌, codes, lengt
 ghost use Rattle.revc_io.specs.Faults.{HasCause};
 ghost use Rattle.revc_io.specs.Passing.{Gathers, Writes};
 ghost use Rattle.circuit_commands.specs.declared.limits.TheConstants.{MOST_CIRCUIT_BYTES};
-ghost use Rattle.circuit_commands.specs.Circuits.{of_real};
 ghost use Rattle.command_answers.specs.Outcomes.{HasOneOutcome, IsAnyFault};
 ghost use Rattle.circuit_commands.specs.Stat.{Gives, IsCause, Serves, IsMeasured, flips_text, sizes_of, stat_text};
-ghost use Rattle.command_answers.specs.Lines.{number_line};
 ghost use Rattle.circuit_commands.specs.Outcomes.{IsCircuitFault};
 
-use crate::circuit::read_circuit;
-use command_answers::put_number;
-use command_answers::Fault;
+use crate::circuit::{MarkedCircuit, read_circuit};
+use command_answers::{Fault, put_two_numbers};
 use mct_circuit::Counts;
-use real_format::RealFile;
 use revc_base::Memory;
 use revc_io::{Buffer, Failed, Sink};
 use revc_words::Format;
@@ -35,21 +31,18 @@ pub fn one_outcome()
 
 /// The sizes of the circuit that a text means. A fault is exactly the text's, or want of memory.
 pub fn measure(alloc: Global, text: &[u8], from: Format) -> Result<Sizes, Fault>
-    requires short { length text.now ≤ MOST_CIRCUIT_BYTES }
-    requires from { from ≡ Format.Real }
+    requires { length text.now ≤ MOST_CIRCUIT_BYTES }
     ensures ok { IfOk result (λ sizes. IsMeasured from text.now (stat_text sizes)) }
     ensures err { IfErr result (IsCircuitFault from text.now) }
 {
-    let file = read_circuit(alloc, text, from)?;
-    Ok(sizes_of(&file)?)
+    let source = read_circuit(alloc, text, from)?;
+    Ok(sizes_of(&source)?)
 }
 
-fn sizes_of(file: &RealFile) -> Result<Sizes, Memory>
-    ensures { IfOk result (λ sizes. sizes ≡ sizes_of (of_real file.now)) }
+fn sizes_of(source: &MarkedCircuit) -> Result<Sizes, Memory>
+    ensures { IfOk result (λ sizes. sizes ≡ sizes_of source.now) }
 {
-    let circuit = file.circuit();
-    // This call says that there is a mark for each line.
-    let _ = file.constants();
+    let circuit = source.circuit();
     Ok(Sizes {
         lines: circuit.lines(),
         gates: circuit.len(),
@@ -73,7 +66,7 @@ fn put<K: Sink>(buffer: &mut Buffer, out: &mut K, sizes: &Sizes) -> Result<(), F
         (stat_text sizes.now) }
     ensures cause { HasCause (K.faults out.old) (K.faults out.new) result }
 {
-    put_two(
+    put_two_numbers(
         buffer,
         out,
         b"lines ",
@@ -82,7 +75,7 @@ fn put<K: Sink>(buffer: &mut Buffer, out: &mut K, sizes: &Sizes) -> Result<(), F
         sizes.gates,
     )?;
     put_flips(buffer, out, sizes.counts)?;
-    put_two(
+    put_two_numbers(
         buffer,
         out,
         b"swap ",
@@ -98,23 +91,6 @@ fn put_flips<K: Sink>(buffer: &mut Buffer, out: &mut K, counts: Counts) -> Resul
         (flips_text counts) }
     ensures cause { HasCause (K.faults out.old) (K.faults out.new) result }
 {
-    put_two(buffer, out, b"x ", counts.x, b"cx ", counts.cx)?;
-    put_two(buffer, out, b"ccx ", counts.ccx, b"wide ", counts.wide)
-}
-
-// Puts two words, each with a number, a line for each.
-fn put_two<K: Sink>(
-    buffer: &mut Buffer,
-    out: &mut K,
-    first: &[u8],
-    one: u64,
-    second: &[u8],
-    other: u64,
-) -> Result<(), Failed>
-    ensures bytes { Gathers result (K.held out.old) (K.held out.new) buffer.old buffer.new
-        (number_line first.now one ++ number_line second.now other) }
-    ensures cause { HasCause (K.faults out.old) (K.faults out.new) result }
-{
-    put_number(buffer, out, first, one, b"\n")?;
-    put_number(buffer, out, second, other, b"\n")
+    put_two_numbers(buffer, out, b"x ", counts.x, b"cx ", counts.cx)?;
+    put_two_numbers(buffer, out, b"ccx ", counts.ccx, b"wide ", counts.wide)
 }

@@ -1,5 +1,4 @@
 use Rattle.std.proofs.Common.{◌∙◌, ap}
-use Rattle.circuit_commands.specs.Circuits.{of_real}
 use Rattle.circuit_commands.specs.Run.{free_lines}
 use Rattle.circuit_commands.proofs.RunLemmas.{accepted_word, checked_more, checked_all, refused_word, unfit_at}
 use Rattle.circuit_commands.proofs.run.check_words.Goals as goal
@@ -9,17 +8,17 @@ loop-place-init c = tt
 
 pub returns-then-not-is_input_word-clause-err : goal.returns-then-not-is_input_word-clause-err
 returns-then-not-is_input_word-clause-err c =
-    unfit_at (of_real c.args.file.now) c.args.words.now c.loop-place.place c.index-words-place.result c.as_str.result.now c.loop-place-test.true
+    unfit_at c.args.source.now c.args.words.now c.loop-place.place c.index-words-place.result c.as_str.result.now c.loop-place-test.true
     c.index-words-place.is c.as_str.ensures.value c.loop-place.invariant
-    (refused_word (of_real c.args.file.now) c.free_lines-inputs.result c.as_str.result.now c.is_input_word.result
-    (c.free_lines-inputs.ensures ∙ ap free_lines c.constants.ensures.constants) c.is_input_word.ensures c.if-not-is_input_word.true)
+    (refused_word c.args.source.now c.free_lines-inputs.result c.as_str.result.now c.is_input_word.result
+    (c.free_lines-inputs.ensures ∙ ap free_lines c.constants.ensures) c.is_input_word.ensures c.if-not-is_input_word.true)
 
 pub loop-place-preserved : goal.loop-place-preserved
 loop-place-preserved c =
-    checked_more (of_real c.args.file.now) c.args.words.now c.loop-place.place c.index-words-place.result c.as_str.result.now c.loop-place-test.true
+    checked_more c.args.source.now c.args.words.now c.loop-place.place c.index-words-place.result c.as_str.result.now c.loop-place-test.true
     c.index-words-place.is c.as_str.ensures.value c.loop-place.invariant
-    (accepted_word (of_real c.args.file.now) c.free_lines-inputs.result c.as_str.result.now c.is_input_word.result
-    (c.free_lines-inputs.ensures ∙ ap free_lines c.constants.ensures.constants) c.is_input_word.ensures c.if-not-is_input_word.false)
+    (accepted_word c.args.source.now c.free_lines-inputs.result c.as_str.result.now c.is_input_word.result
+    (c.free_lines-inputs.ensures ∙ ap free_lines c.constants.ensures) c.is_input_word.ensures c.if-not-is_input_word.false)
 
 pub returns-clause-ok : goal.returns-clause-ok
-returns-clause-ok c = checked_all (of_real c.args.file.now) c.args.words.now c.loop-place.place c.loop-place-test.false c.loop-place.invariant
+returns-clause-ok c = checked_all c.args.source.now c.args.words.now c.loop-place.place c.loop-place-test.false c.loop-place.invariant

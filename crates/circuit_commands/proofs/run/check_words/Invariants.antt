@@ -1,7 +1,6 @@
 use Rattle.std.proofs.Common.{map, take, string_bytes}
-use Rattle.circuit_commands.specs.Circuits.{of_real}
 use Rattle.circuit_commands.specs.Run.{AreInputs}
 use Rattle.circuit_commands.proofs.run.check_words.Given as goal
 
 abbrev pub invariant-loop-place : goal.invariant-loop-place
-invariant-loop-place l = AreInputs (of_real l.file) (take l.place (map string_bytes l.words))
+invariant-loop-place l = AreInputs l.source (take l.place (map string_bytes l.words))

@@ -5,7 +5,6 @@ use Rattle.std.specs.Global.{Vec}
 use Rattle.mct_circuit.specs.Gates.{line_map}
 use Rattle.revc_words.specs.Words.{words_of}
 use Rattle.circuit_sim.specs.Rows.{contents}
-use Rattle.circuit_commands.specs.Circuits.{of_real}
 use Rattle.circuit_commands.specs.Run.{kept}
 use Rattle.circuit_commands.proofs.RunLemmas.{all_given}
 use Rattle.circuit_commands.proofs.run.run_words.Goals as goal
@@ -18,7 +17,7 @@ returns c =
     ∙ ap (λ (rs : List (Vec Bool)). map (line_map c.circuit.result.now.gates) (contents rs)) c.deref_mut.ensures.value in
     IfOk-weaker c.keep_all.result _ _
     (λ lines keeps.
-    all_given (of_real c.args.file.now) (words_of c.args.words.now) c.constants.result.now c.circuit.result.now.gates c.garbage.result.now
-    (contents c.in_ok-rows.rows.items) (contents rows) lines.items c.constants.ensures.constants c.circuit.ensures.gates c.garbage.ensures.garbage
+    all_given c.args.source.now (words_of c.args.words.now) c.constants.result.now c.circuit.result.now.gates c.garbage.result.now
+    (contents c.in_ok-rows.rows.items) (contents rows) lines.items c.constants.ensures c.circuit.ensures.gates c.garbage.ensures.garbage
     c.in_ok-rows.ensures.rows runs (keeps ∙ ap (λ (rs : List (Vec Bool)). map (kept c.garbage.result.now) (contents rs)) back))
     c.keep_all.ensures

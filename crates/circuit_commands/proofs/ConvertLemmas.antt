@@ -1,0 +1,173 @@
+-- `convert`: the split list of a text's circuit, and the file of it.
+use Rattle.std.proofs.Common.{◌≡◌, ℕ, ◌+◌, ◌-◌, ◌<◌, ◌≤◌, Bool, true, false, List, ◌++◌, length, Ok, Err, refl, sym, ap, ◌∙◌, subst, arith}
+use Rattle.std.proofs.lemmas.List.{length-append}
+use Rattle.mct_circuit.specs.Gates.{CircuitView, GateView, AreGatesOn, line_map}
+use Rattle.mct_circuit.proofs.MoreLinesLemmas.{more_lines}
+use Rattle.gate_split.specs.declared.fault.SplitFault.TheVariants as splits
+use Rattle.gate_split.specs.declared.plan.TheConstants.{MOST_LINES, MOST_GATES}
+use Rattle.gate_split.specs.Split.{split_list}
+use Rattle.real_format.specs.declared.file.Mark.{Mark}
+use Rattle.real_format.proofs.MeaningLemmas as real
+use Rattle.qasm_format.specs.declared.file.Register.{Register}
+use Rattle.qasm_format.specs.Registers.{lines_of_all}
+use Rattle.qasm_format.specs.Converted.{converted_registers}
+use Rattle.qasm_format.proofs.MeaningLemmas as qasm
+use Rattle.revc_words.specs.declared.order.Format.{Format}
+use Rattle.revc_words.specs.declared.order.Format.TheVariants.{Real, Qasm}
+use Rattle.revc_words.specs.Words.{OrderView}
+use Rattle.command_answers.specs.declared.fault.Fault.{Fault}
+use Rattle.command_answers.specs.declared.fault.Fault.TheVariants as faults
+use Rattle.command_answers.specs.declared.fault.CircuitRefusal.{CircuitRefusal}
+use Rattle.command_answers.specs.Outcomes.{HasOneOutcome, IsAnyFault}
+use Rattle.circuit_commands.specs.Circuits.{ReadCircuit, Means, MeansIn, line_count, unmarked}
+use Rattle.circuit_commands.specs.Convert.{Gives, IsCause, Serves, HasSplit, WantsLine, LacksLine, PassesLines, PassesGates, DoesTheSame, added_lines, converted, file_text, said_in}
+use Rattle.circuit_commands.specs.Outcomes.{ConvertedView, IsConversion}
+use Rattle.circuit_commands.specs.inside.Splitting.{IsSplitOf, IsWritable}
+use Rattle.circuit_commands.proofs.CircuitLemmas.{means_or_refused, one_circuit, one_circuit_refusal}
+
+-- ---- a split has one answer
+
+ok_or_many : (circuit : ReadCircuit) (added other : Bool) (gates : List GateView) → HasSplit circuit added (Ok gates)
+    → HasSplit circuit other (Err splits.Gates) → ⊥
+ok_or_many circuit false false gates a b = let both = sym a ∙ b in cc
+ok_or_many circuit false true gates a b = let both = sym a ∙ b.wants.none in cc
+ok_or_many circuit true false gates a b = let both = sym a.wants.none ∙ b in cc
+ok_or_many circuit true true gates a b = let both = sym a.split ∙ b.split in cc
+
+lacks_or_ok : (circuit : ReadCircuit) (need limit : ℕ) (added : Bool) (gates : List GateView) → LacksLine circuit need limit
+    → HasSplit circuit added (Ok gates) → ⊥
+lacks_or_ok circuit need limit false gates a b = let both = sym a.wants.none ∙ b in cc
+lacks_or_ok circuit need limit true gates a b = let full = a.full in let room = b.room in omega arith
+
+lacks_or_many : (circuit : ReadCircuit) (need limit : ℕ) (added : Bool) → LacksLine circuit need limit → HasSplit circuit added (Err splits.Gates) → ⊥
+lacks_or_many circuit need limit false a b = let both = sym a.wants.none ∙ b in cc
+lacks_or_many circuit need limit true a b = let full = a.full in let room = b.room in omega arith
+
+-- ---- one outcome
+
+convert_stops : (order : OrderView) (text : List ℕ) (circuit : ReadCircuit) (added : Bool) (gates : List GateView) (fault : Fault)
+    → Means order.from text circuit → HasSplit circuit added (Ok gates) → IsCause order text fault → ⊥
+convert_stops order text circuit added gates (faults.Circuit refusal) m split h = means_or_refused order.from text circuit refusal m h
+convert_stops order text circuit added gates (faults.Lines need limit) m split h =
+    let same = one_circuit order.from text h.circuit circuit h.means m in
+    lacks_or_ok circuit need limit added gates (subst (λ (c : ReadCircuit). LacksLine c need limit) same h.lacks) split
+convert_stops order text circuit added gates (faults.Gates limit) m split h =
+    let same = one_circuit order.from text circuit h.circuit m h.means in
+    ok_or_many h.circuit added h.many.added gates (subst (λ (c : ReadCircuit). HasSplit c added (Ok gates)) same split) h.many.split
+convert_stops order text circuit added gates fault m split h = h
+
+lines_or_gates : (order : OrderView) (text : List ℕ) (need limit most : ℕ) → PassesLines order.from text need limit → PassesGates order.from text most → ⊥
+lines_or_gates order text need limit most a b =
+    let same = one_circuit order.from text a.circuit b.circuit a.means b.means in
+    lacks_or_many b.circuit need limit b.many.added (subst (λ (c : ReadCircuit). LacksLine c need limit) same a.lacks) b.many.split
+
+same_lines : (need limit other most : ℕ) → need ≡ other → limit ≡ most → faults.Lines need limit ≡ faults.Lines other most
+same_lines need limit other most one two = ap (λ n. faults.Lines n limit) one ∙ ap (λ n. faults.Lines other n) two
+
+convert_cause : (order : OrderView) (text : List ℕ) (fault other : Fault) → IsCause order text fault → IsCause order text other → other ≡ fault
+convert_cause order text (faults.Circuit refusal) (faults.Circuit other) a b =
+    ap (λ (r : CircuitRefusal). faults.Circuit r) (one_circuit_refusal order.from text other refusal b a)
+convert_cause order text (faults.Circuit refusal) (faults.Lines need limit) a b = absurd (means_or_refused order.from text b.circuit refusal b.means a)
+convert_cause order text (faults.Circuit refusal) (faults.Gates limit) a b = absurd (means_or_refused order.from text b.circuit refusal b.means a)
+convert_cause order text (faults.Lines need limit) (faults.Circuit refusal) a b = absurd (means_or_refused order.from text a.circuit refusal a.means b)
+convert_cause order text (faults.Lines need limit) (faults.Lines other most) a b =
+    same_lines other most need limit (b.lacks.needs ∙ sym a.lacks.needs) (b.lacks.most ∙ sym a.lacks.most)
+convert_cause order text (faults.Lines need limit) (faults.Gates most) a b = absurd (lines_or_gates order text need limit most a b)
+convert_cause order text (faults.Gates limit) (faults.Circuit refusal) a b = absurd (means_or_refused order.from text a.circuit refusal a.means b)
+convert_cause order text (faults.Gates most) (faults.Lines need limit) a b = absurd (lines_or_gates order text need limit most b a)
+convert_cause order text (faults.Gates limit) (faults.Gates other) a b = ap (λ n. faults.Gates n) (b.many.most ∙ sym a.many.most)
+convert_cause order text faults.Usage other a b = absurd a
+convert_cause order text (faults.Refused refusal) other a b = absurd a
+convert_cause order text (faults.Claim number at bits) other a b = absurd a
+convert_cause order text (faults.Diagram number at limit) other a b = absurd a
+convert_cause order text (faults.BadBits word) other a b = absurd a
+convert_cause order text faults.Read other a b = absurd a
+convert_cause order text faults.Write other a b = absurd a
+convert_cause order text faults.Memory other a b = absurd a
+convert_cause order text fault other a b = absurd b
+
+pub convert_outcome : HasOneOutcome IsAnyFault Gives IsCause Serves
+convert_outcome = record {
+  never_both = λ order text written fault given cause exact. convert_stops order text given.circuit given.added given.gates fault given.means given.split cause;
+  one_cause = λ order text fault exact cause other is. convert_cause order text fault exact cause other;
+  free = λ order text fault served cause. convert_stops order text served.circuit served.added served.gates fault served.means served.split cause;
+}
+
+-- ---- what the file means
+
+lines_of_converted : (lines : ℕ) (added : Bool) → added_lines added < lines → lines_of_all (converted_registers lines added) ≡ lines
+lines_of_converted lines false own = omega arith
+lines_of_converted lines true own = omega arith
+
+two_lines : (lines : ℕ) (added : Bool) → added_lines added < lines → added ≡ true → 2 ≤ lines
+two_lines lines false own is = absurd cc
+two_lines lines true own is = omega arith
+
+means_written : (to : Format) (made : ConvertedView) → IsWritable made
+    → MeansIn to (file_text to made.circuit made.added) (said_in to made.circuit)
+means_written Real made w =
+    let own = w.own in
+    let circuit = made.circuit in
+    let m = real.converted_has_meaning circuit.constants circuit.garbage circuit.gates (omega arith) w.few w.garbage w.few_gates w.placed w.narrow in
+    let Parts : List Mark → List Bool → List GateView → ReadCircuit = λ marks useless gates. record { constants = marks; garbage = useless; gates = gates } in
+    record {
+      file = m.file;
+      meaning = m.meaning;
+      same = sym (ap (λ (marks : List Mark). Parts marks m.file.garbage m.file.gates) m.constants_are
+          ∙ ap (λ (useless : List Bool). Parts circuit.constants useless m.file.gates) m.garbage_are
+          ∙ ap (λ (gates : List GateView). Parts circuit.constants circuit.garbage gates) m.gates_are);
+    }
+means_written Qasm made w =
+    let own = w.own in
+    let lines = line_count made.circuit in
+    let m = qasm.converted_has_meaning lines made.added made.circuit.gates (omega arith) (two_lines lines made.added own) w.few w.few_gates w.placed w.narrow in
+    record {
+      file = m.file;
+      meaning = m.meaning;
+      same = sym (ap (λ (registers : List Register). unmarked (lines_of_all registers) m.file.gates) m.registers_are
+          ∙ ap (λ n. unmarked n m.file.gates) (lines_of_converted lines made.added own)
+          ∙ ap (unmarked lines) m.gates_are);
+    }
+
+-- what is split of a text's circuit is written in each format
+pub conversion : (from : Format) (text : List ℕ) (circuit : ReadCircuit) (made : ConvertedView) → Means from text circuit → IsSplitOf circuit made
+    → IsConversion from text made
+conversion from text circuit made m s = record {
+  in_each = λ to. record {
+    circuit = circuit;
+    means = m;
+    added = made.added;
+    gates = s.gates;
+    split = s.split;
+    lines = ap (λ (c : ReadCircuit). file_text to c made.added) s.are;
+    meaning = subst (λ (c : ReadCircuit). MeansIn to (file_text to made.circuit made.added) (said_in to c)) s.are (means_written to made s.writable);
+    same = s.same;
+  };
+}
+
+-- ---- splits
+
+same_on_more : (circuit : ReadCircuit) (gates : List GateView) → AreGatesOn (line_count circuit) circuit.gates
+    → ((bits : List Bool) → length bits ≡ line_count circuit + 1 → line_map gates bits ≡ line_map circuit.gates bits) → DoesTheSame circuit true gates
+same_on_more circuit gates placed same bits more long one =
+    let all = length-append bits more in
+    same (bits ++ more) (omega arith) ∙ more_lines circuit.gates bits more (subst (λ n. AreGatesOn n circuit.gates) (sym long) placed)
+
+-- on one line more
+pub wider_split : (source : ReadCircuit) (circuit narrow : CircuitView) (made : ConvertedView) (lines : ℕ) → circuit.lines ≡ line_count source
+    → circuit.gates ≡ source.gates → lines ≡ circuit.lines → AreGatesOn circuit.lines circuit.gates → WantsLine source → line_count source < MOST_LINES
+    → split_list (lines + 1) MOST_GATES circuit.gates ≡ Ok narrow.gates
+    → ((bits : List Bool) → length bits ≡ lines + 1 → line_map narrow.gates bits ≡ line_map circuit.gates bits)
+    → made ≡ record { circuit = converted source true narrow.gates; added = true } → IsWritable made → IsSplitOf source made
+wider_split source circuit narrow made lines own gates counted placed wants room split same is writable =
+    let whole : IsWritable (record { circuit = converted source true narrow.gates; added = true }) = subst IsWritable is writable in
+    let on : AreGatesOn (line_count source) source.gates = rw (← gates, ← own) placed in
+    let all : lines ≡ line_count source = counted ∙ own in
+    subst (IsSplitOf source) (sym is) (record {
+      gates = narrow.gates;
+      split = record { wants = wants; room = room; split = rw (← gates, ← all) split };
+      are = refl;
+      writable = whole;
+      same = same_on_more source narrow.gates on
+          (λ bits long. same bits (long ∙ ap (λ n. n + 1) (sym all)) ∙ ap (λ (gs : List GateView). line_map gs bits) gates);
+    })

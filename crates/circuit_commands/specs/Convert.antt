@@ -1,0 +1,134 @@
+-- `convert`: the file of the narrow gates in place of a circuit's gates, on its lines or on one more.
+use Rattle.std.specs.Prelude.{◌≡◌, ℕ, ◌+◌, ◌<◌, Bool, true, false, Result, Ok, Err, List, [], ◌∷◌, ◌++◌, length}
+use Rattle.mct_circuit.specs.Gates.{GateView, line_map}
+use Rattle.gate_split.specs.declared.fault.SplitFault.{SplitFault}
+use Rattle.gate_split.specs.declared.fault.SplitFault.TheVariants as splits
+use Rattle.gate_split.specs.declared.plan.TheConstants.{MOST_LINES, MOST_GATES}
+use Rattle.gate_split.specs.Split.{split_list}
+use Rattle.real_format.specs.declared.file.Mark.TheVariants.{Free}
+use Rattle.real_format.specs.Converted as real
+use Rattle.qasm_format.specs.Converted as qasm
+use Rattle.revc_words.specs.declared.order.Format.{Format}
+use Rattle.revc_words.specs.declared.order.Format.TheVariants.{Real, Qasm}
+use Rattle.revc_words.specs.Words.{OrderView}
+use Rattle.command_answers.specs.declared.fault.Fault.{Fault}
+use Rattle.command_answers.specs.declared.fault.Fault.TheVariants.{Circuit, Lines, Gates}
+use Rattle.circuit_commands.specs.Circuits.{ReadCircuit, Means, MeansIn, IsCircuitRefusal, line_count, unmarked}
+
+-- ---- the split list
+
+-- the split list of a circuit's gates on so many lines
+abbrev pub split_on : ℕ → ReadCircuit → Result (List GateView) SplitFault
+split_on lines circuit = split_list lines MOST_GATES circuit.gates
+
+-- on the circuit's own lines a gate wants an idle line
+pub record WantsLine (circuit : ReadCircuit) : Type 0 where
+  pub gate : ℕ
+  pub none : split_on (line_count circuit) circuit ≡ Err (splits.NoIdle gate)
+
+-- the split list on one line more, where the circuit's own lines are too few and there is room for one
+pub record HasWiderSplit (circuit : ReadCircuit) (answer : Result (List GateView) SplitFault)
+    : Type 0 where
+  pub wants : WantsLine circuit
+  pub room : line_count circuit < MOST_LINES
+  pub split : split_on (line_count circuit + 1) circuit ≡ answer
+
+-- the split list on the circuit's own lines, or exactly where a gate wants an idle line, on one more
+abbrev pub HasSplit : ReadCircuit → (added : Bool) → Result (List GateView) SplitFault → Type 0
+HasSplit circuit false answer = split_on (line_count circuit) circuit ≡ answer
+HasSplit circuit true answer = HasWiderSplit circuit answer
+
+-- a line is wanted where there are as many as there may be
+pub record LacksLine (circuit : ReadCircuit) (need limit : ℕ) : Type 0 where
+  pub wants : WantsLine circuit
+  pub full : line_count circuit ≡ MOST_LINES
+  pub needs : need ≡ MOST_LINES + 1
+  pub most : limit ≡ MOST_LINES
+
+-- the split list has more gates than it may have
+pub record HasManyGates (circuit : ReadCircuit) (limit : ℕ) : Type 0 where
+  pub added : Bool
+  pub split : HasSplit circuit added (Err splits.Gates)
+  pub most : limit ≡ MOST_GATES
+
+-- ---- the circuit that is written
+
+-- how many lines are added
+abbrev pub added_lines : Bool → ℕ
+added_lines false = 0
+added_lines true = 1
+
+-- these gates on a circuit's lines with their marks; a line that is added comes last, and has none
+abbrev pub converted : ReadCircuit → (added : Bool) → List GateView → ReadCircuit
+converted circuit false gates = record circuit { gates = gates }
+converted circuit true gates = record {
+  constants = circuit.constants ++ Free ∷ [];
+  garbage = circuit.garbage ++ false ∷ [];
+  gates = gates;
+}
+
+-- the gates do to a circuit's lines what its own do, and leave a line that is added as it is
+abbrev pub DoesTheSame : ReadCircuit → (added : Bool) → List GateView → Type 0
+DoesTheSame circuit added gates =
+    (bits more : List Bool) → length bits ≡ line_count circuit → length more ≡ added_lines added
+    → line_map gates (bits ++ more) ≡ line_map circuit.gates bits ++ more
+
+-- the text of the file of a circuit, whose last line was added or not
+abbrev pub file_text : Format → ReadCircuit → (added : Bool) → List ℕ
+file_text Real circuit added =
+    real.converted_text circuit.constants circuit.garbage circuit.gates
+file_text Qasm circuit added = qasm.converted_text (line_count circuit) added circuit.gates
+
+-- what a file of a format says of a circuit: OpenQASM leaves its marks out
+abbrev pub said_in : Format → ReadCircuit → ReadCircuit
+said_in Real circuit = circuit
+said_in Qasm circuit = unmarked (line_count circuit) circuit.gates
+
+-- ---- the command
+
+-- The text means a circuit, these are the lines of the file of its split list, and by the meaning of the format that is
+-- written they mean this list, which has the circuit's line map.
+pub record IsConverted (from to : Format) (text written : List ℕ) : Type 0 where
+  pub circuit : ReadCircuit
+  pub means : Means from text circuit
+  pub added : Bool
+  pub gates : List GateView
+  pub split : HasSplit circuit added (Ok gates)
+  pub lines : written ≡ file_text to (converted circuit added gates) added
+  pub meaning : MeansIn to written (said_in to (converted circuit added gates))
+  pub same : DoesTheSame circuit added gates
+
+-- the text means a circuit that wants a line more than there may be
+pub record PassesLines (from : Format) (text : List ℕ) (need limit : ℕ) : Type 0 where
+  pub circuit : ReadCircuit
+  pub means : Means from text circuit
+  pub lacks : LacksLine circuit need limit
+
+-- the text means a circuit whose split list has more gates than there may be
+pub record PassesGates (from : Format) (text : List ℕ) (limit : ℕ) : Type 0 where
+  pub circuit : ReadCircuit
+  pub means : Means from text circuit
+  pub many : HasManyGates circuit limit
+
+-- the text means a circuit that has a split list
+pub record CanConvert (from : Format) (text : List ℕ) : Type 0 where
+  pub circuit : ReadCircuit
+  pub means : Means from text circuit
+  pub added : Bool
+  pub gates : List GateView
+  pub split : HasSplit circuit added (Ok gates)
+
+-- what is written
+abbrev pub Gives : OrderView → List ℕ → List ℕ → Type 0
+Gives order text written = IsConverted order.from order.to text written
+
+-- why nothing is
+abbrev pub IsCause : OrderView → List ℕ → Fault → Type 0
+IsCause order text (Circuit refusal) = IsCircuitRefusal order.from text refusal
+IsCause order text (Lines need limit) = PassesLines order.from text need limit
+IsCause order text (Gates limit) = PassesGates order.from text limit
+IsCause order text _ = ⊥
+
+-- where something is, unless memory or a device is wanting
+abbrev pub Serves : OrderView → List ℕ → Type 0
+Serves order text = CanConvert order.from text

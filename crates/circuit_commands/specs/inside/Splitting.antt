@@ -1,0 +1,38 @@
+-- What a circuit's split comes to, without its text.
+use Rattle.std.specs.Prelude.{◌≡◌, ◌<◌, ◌≤◌, Ok, List, length}
+use Rattle.mct_circuit.specs.Gates.{GateView, AreGatesOn, AreNarrow}
+use Rattle.gate_split.specs.declared.plan.TheConstants.{MOST_LINES, MOST_GATES}
+use Rattle.command_answers.specs.declared.fault.Fault.{Fault}
+use Rattle.command_answers.specs.declared.fault.Fault.TheVariants.{Lines, Gates, Memory}
+use Rattle.circuit_commands.specs.Circuits.{ReadCircuit, line_count}
+use Rattle.circuit_commands.specs.Convert.{HasManyGates, HasSplit, LacksLine, DoesTheSame, added_lines, converted}
+use Rattle.circuit_commands.specs.Outcomes.{ConvertedView}
+
+-- a circuit has a line, and keeps the limit of lines
+pub record HasLines (circuit : ReadCircuit) : Type 0 where
+  pub some : 1 ≤ line_count circuit
+  pub few : line_count circuit ≤ MOST_LINES
+
+-- narrow gates on their lines, within the limits of the formats; the added line is not the only one
+pub record IsWritable (made : ConvertedView) : Type 0 where
+  pub own : added_lines made.added < line_count made.circuit
+  pub few : line_count made.circuit ≤ MOST_LINES
+  pub garbage : length made.circuit.garbage ≡ line_count made.circuit
+  pub narrow : AreNarrow made.circuit.gates
+  pub placed : AreGatesOn (line_count made.circuit) made.circuit.gates
+  pub few_gates : length made.circuit.gates ≤ MOST_GATES
+
+-- this is the circuit of the split list
+pub record IsSplitOf (circuit : ReadCircuit) (made : ConvertedView) : Type 0 where
+  pub gates : List GateView
+  pub split : HasSplit circuit made.added (Ok gates)
+  pub are : made.circuit ≡ converted circuit made.added gates
+  pub writable : IsWritable made
+  pub same : DoesTheSame circuit made.added gates
+
+-- why there is none, or there was no memory left
+abbrev pub IsSplitFault : ReadCircuit → Fault → Type 0
+IsSplitFault circuit (Lines need limit) = LacksLine circuit need limit
+IsSplitFault circuit (Gates limit) = HasManyGates circuit limit
+IsSplitFault circuit Memory = Unit {0}
+IsSplitFault circuit _ = ⊥

@@ -1,0 +1,173 @@
+// `convert`: the file of the narrow gates in place of a circuit's gates.
+ghost use Rattle.std.specs.Prelude.{◌≡◌, ◌+◌, ◌<◌, ◌≤◌, true, false, length, IfOk, IfErr};
+ghost use Rattle.gate_split.specs.declared.plan.TheConstants.{MOST_GATES, MOST_LINES};
+ghost use Rattle.revc_io.specs.Faults.{HasCause};
+ghost use Rattle.revc_io.specs.Passing.{Writes};
+ghost use Rattle.command_answers.specs.Outcomes.{HasOneOutcome, IsAnyFault};
+ghost use Rattle.circuit_commands.specs.declared.limits.TheConstants.{MOST_CIRCUIT_BYTES};
+ghost use Rattle.circuit_commands.specs.Circuits.{line_count};
+ghost use Rattle.circuit_commands.specs.Convert.{Gives, IsCause, Serves, WantsLine, converted, file_text};
+ghost use Rattle.circuit_commands.specs.Outcomes.{IsConversion, IsConvertFault};
+ghost use Rattle.circuit_commands.specs.inside.Splitting.{HasLines, IsSplitFault, IsSplitOf, IsWritable};
+
+use crate::circuit::{MarkedCircuit, read_circuit};
+use command_answers::Fault;
+use gate_split::{MOST_GATES, MOST_LINES, Narrow, SplitFault, split};
+use real_format::Mark;
+use revc_base::Memory;
+use revc_io::{Failed, Sink};
+use revc_words::Format;
+use std::alloc::Global;
+use std::marker::Model;
+
+/// A circuit of narrow gates that waits to be written, with the marks of its lines and whether the last one was added.
+/// Contracts see it as the marks and the gates, and whether a line was added.
+#[derive(Debug, Drop)]
+pub struct Converted {
+    circuit: Narrow,
+    constants: Vec<Mark>,
+    garbage: Vec<bool>,
+    added: bool,
+}
+
+impl Model for Converted {
+    ghost use Rattle.std.specs.Prelude.{◌≡◌, ◌<◌, ◌≤◌, length};
+    ghost use Rattle.gate_split.specs.declared.plan.TheConstants.{MOST_GATES, MOST_LINES};
+    ghost use Rattle.circuit_commands.specs.Convert.{added_lines};
+    ghost use Rattle.circuit_commands.specs.Outcomes.{ConvertedView};
+
+    ghost Value = { ConvertedView };
+
+    ghost view = { λ c. record {
+      circuit = record {
+        constants = c.constants.items;
+        garbage = c.garbage.items;
+        gates = c.circuit.gates;
+      };
+      added = c.added;
+    } };
+
+    ghost invariant = { λ c. (length c.constants.items ≡ c.circuit.lines)
+        × (length c.garbage.items ≡ c.circuit.lines)
+        × (added_lines c.added < c.circuit.lines)
+        × (c.circuit.lines ≤ MOST_LINES)
+        × (length c.circuit.gates ≤ MOST_GATES) };
+}
+
+/// What `convert` gives, its causes and where it serves exclude one another, and it has one cause at most.
+pub fn one_outcome()
+    ensures { HasOneOutcome IsAnyFault Gives IsCause Serves }
+{}
+
+/// The circuit of narrow gates in place of those of a text's circuit, on its lines, or exactly where a gate wants an idle
+/// line there, on one more. A fault is exactly that of the text or of the split, or want of memory.
+pub fn convert(alloc: Global, text: &[u8], from: Format) -> Result<Converted, Fault>
+    requires { length text.now ≤ MOST_CIRCUIT_BYTES }
+    ensures ok { IfOk result (IsConversion from text.now) }
+    ensures err { IfErr result (IsConvertFault from text.now) }
+{
+    let source = read_circuit(alloc, text, from)?;
+    split_source(alloc, source)
+}
+
+// On the lines of the circuit, or on one more.
+fn split_source(alloc: Global, source: MarkedCircuit) -> Result<Converted, Fault>
+    requires { HasLines source }
+    ensures ok { IfOk result (IsSplitOf source) }
+    ensures err { IfErr result (IsSplitFault source) }
+{
+    let circuit = source.circuit();
+    match split(alloc, circuit, circuit.lines(), MOST_GATES) {
+        Ok(narrow) => Ok(on_own_lines(source, narrow)),
+        Err(SplitFault::NoIdle { .. }) => split_wider(alloc, source),
+        Err(SplitFault::Gates) => Err(Fault::Gates { limit: MOST_GATES }),
+        Err(SplitFault::Memory) => Err(Fault::Memory),
+    }
+}
+
+// The narrow gates on the lines of the circuit.
+fn on_own_lines(source: MarkedCircuit, circuit: Narrow) -> Converted
+    requires own { circuit.lines ≡ line_count source }
+    requires lines { HasLines source }
+    requires few_gates { length circuit.gates ≤ MOST_GATES }
+    ensures made { result ≡ record {
+      circuit = converted source false circuit.gates;
+      added = false;
+    } }
+    ensures writable { IsWritable result }
+{
+    // This call says that the gates are on the lines.
+    let _ = circuit.circuit().lines();
+    let (constants, garbage) = source.into_marks();
+    Converted {
+        circuit,
+        constants,
+        garbage,
+        added: false,
+    }
+}
+
+// On one line more.
+fn split_wider(alloc: Global, source: MarkedCircuit) -> Result<Converted, Fault>
+    requires lines { HasLines source }
+    requires wants { WantsLine source }
+    ensures ok { IfOk result (IsSplitOf source) }
+    ensures err { IfErr result (IsSplitFault source) }
+{
+    let circuit = source.circuit();
+    let lines = circuit.lines();
+    if lines == MOST_LINES {
+        return Err(Fault::Lines {
+            need: MOST_LINES + 1,
+            limit: MOST_LINES,
+        });
+    }
+    match split(alloc, circuit, lines + 1, MOST_GATES) {
+        Ok(narrow) => Ok(with_line(source, narrow)?),
+        Err(SplitFault::NoIdle { .. }) => unreachable!(),
+        Err(SplitFault::Gates) => Err(Fault::Gates { limit: MOST_GATES }),
+        Err(SplitFault::Memory) => Err(Fault::Memory),
+    }
+}
+
+// The narrow gates on the lines of the circuit and one more, which has no mark.
+fn with_line(source: MarkedCircuit, circuit: Narrow) -> Result<Converted, Memory>
+    requires wider { circuit.lines ≡ line_count source + 1 }
+    requires some { 1 ≤ line_count source }
+    requires room { line_count source < MOST_LINES }
+    requires few_gates { length circuit.gates ≤ MOST_GATES }
+    ensures made { IfOk result (λ made. made ≡ record {
+      circuit = converted source true circuit.gates;
+      added = true;
+    }) }
+    ensures writable { IfOk result IsWritable }
+{
+    // This call says that the gates are on the lines.
+    let _ = circuit.circuit().lines();
+    let (mut constants, mut garbage) = source.into_marks();
+    constants.push(Mark::Free)?;
+    garbage.push(false)?;
+    Ok(Converted {
+        circuit,
+        constants,
+        garbage,
+        added: true,
+    })
+}
+
+/// Writes the file of a circuit in a format. It takes no memory.
+pub fn write<K: Sink>(converted: &Converted, to: Format, out: &mut K) -> Result<(), Failed>
+    ensures bytes { Writes result (K.held out.old) (K.held out.new)
+        (file_text to converted.now.circuit converted.now.added) }
+    ensures cause { HasCause (K.faults out.old) (K.faults out.new) result }
+{
+    match to {
+        Format::Real => real_format::write_lines(
+            &converted.circuit,
+            &converted.constants,
+            &converted.garbage,
+            out,
+        ),
+        Format::Qasm => qasm_format::write_lines(&converted.circuit, converted.added, out),
+    }
+}
