@@ -1,5 +1,5 @@
 -- The statuses of the top call, from the causes of its faults.
-use Rattle.std.proofs.Common.{◌≡◌, ◌≢◌, ℕ, ◌<◌, ◌≤◌, ◌⊎◌, inl, inr, codes, List, None, Some, Ok, Err, refl, sym, ap, ◌∙◌, subst, arith, length}
+use Rattle.std.proofs.Common.{◌≡◌, ◌≢◌, ℕ, ◌<◌, ◌≤◌, ◌⊎◌, inl, inr, codes, true, false, List, [], None, Some, Ok, Err, refl, sym, ap, ◌∙◌, subst, arith, length}
 use Rattle.std.specs.Prelude.{Option, IfSome, MatchOption, Contains, Result, OnOk, IfErr, IsErrOf}
 use Rattle.std.specs.Io.KnownBytes.{IsAtEnd}
 use Rattle.command_answers.specs.declared.fault.Fault.{Fault}
@@ -10,22 +10,21 @@ use Rattle.revc.specs.inside.Mappings.{reading_fault, too_long, words_fault}
 use Rattle.revc_words.specs.declared.fault.WordsFault.{WordsFault}
 use Rattle.revc_words.specs.declared.fault.WordsFault.TheVariants as words
 use Rattle.revc_words.specs.declared.order.Command.{Command}
-use Rattle.revc_words.specs.declared.order.Command.TheVariants.{Compile, Check, Eval, Stat, Run}
-use Rattle.revc.specs.Commands.{Gives, gives, causes, serves, IsCause, IsExact, IsCausedBy, IsCauseOrMemory, Serves, most_bytes, statuses_of}
+use Rattle.revc_words.specs.declared.order.Command.TheVariants.{Compile, Check, Eval, Stat, Run, Convert, Gen, Bench}
+use Rattle.revc.specs.Commands.{Gives, gives, causes, serves, IsCause, IsExact, IsCausedBy}
+use Rattle.revc.specs.Commands.{IsCauseOrMemory, Serves, most_bytes, reads_source, statuses_of, text_told}
 use Rattle.command_answers.specs.Outcomes.{HasOneOutcome}
 use Rattle.command_answers.specs.Faults.{status_of, line_of}
-use Rattle.revc.specs.Top.{Grows, GrowsByPrefix, IsReadAt, IsReadFor, IsReadWhole, IsStatusOfAll, MayEnd, RestsOnText, Served, Stopped}
+use Rattle.revc.specs.Top.{Grows, GrowsByPrefix, IsReadAt, IsReadFor, IsReadWhole, IsStatusOfAll, IsUnread, MayEnd, RestsOnText, Served, Stopped}
 use Rattle.command_answers.specs.Faults.{Receives}
-use Rattle.revc_words.specs.declared.limits.TheConstants.{MOST_NODES, USUAL_GATES, USUAL_LINES, USUAL_NODES}
-use Rattle.gate_split.specs.declared.plan.TheConstants.{MOST_BORROWED, MOST_GATES, MOST_LINES}
-use Rattle.program_commands.specs.Outcomes.{HasLimits}
-use Rattle.revc_words.specs.declared.order.Format.{Format}
-use Rattle.revc_words.specs.declared.order.Format.TheVariants.{Real}
-use Rattle.revc_words.specs.Words.{OrderView, IsOrder, HasNoOrder, IsNumberIn, format_word, value_of}
+use Rattle.program_commands.specs.Outcomes.{IsAdderSize}
+use Rattle.revc_words.specs.Words.{OrderView, IsOrder, HasNoOrder, HasBits, IsWithinLimits}
 use Rattle.program_commands.proofs.CompileLemmas as compile
 use Rattle.program_commands.proofs.EvalLemmas as eval
 use Rattle.program_commands.proofs.CheckLemmas as check
 use Rattle.circuit_commands.proofs.CircuitLemmas as circuit
+use Rattle.circuit_commands.proofs.ConvertLemmas.{convert_outcome}
+use Rattle.program_commands.proofs.BenchLemmas.{bench_outcome, gen_outcome}
 use Rattle.revc_words.proofs.OrderLemmas.{one_order}
 
 one_outcome : (command : Command) → HasOneOutcome (IsExact command) (gives command) (causes command) (serves command)
@@ -34,6 +33,9 @@ one_outcome Check = check.one_outcome
 one_outcome Eval = eval.one_outcome
 one_outcome Stat = circuit.stat_outcome
 one_outcome Run = circuit.run_outcome
+one_outcome Convert = convert_outcome
+one_outcome Gen = gen_outcome
+one_outcome Bench = bench_outcome
 
 -- ---- what is told
 
@@ -51,9 +53,11 @@ of_told None text P same p = tt
 of_told (Some told) text P same p = subst P same p
 
 -- what holds of one order of the words holds of each
-pub serve : (words : List (List ℕ)) (order : OrderView) (rest : Option (List ℕ)) (P : OrderView → List ℕ → Type 0) → IsOrder words order → IfSome rest (P order)
-    → Served words rest P
-serve words order rest P is holds = record { each = λ other also. subst (λ (o : OrderView). IfSome rest (P o)) (one_order words order other is also) holds }
+pub serve : (words : List (List ℕ)) (order : OrderView) (rest : Option (List ℕ)) (P : OrderView → List ℕ → Type 0) → IsOrder words order
+    → IfSome (text_told order.command rest) (P order) → Served words rest P
+serve words order rest P is holds = record {
+  each = λ other also. subst (λ (o : OrderView). IfSome (text_told o.command rest) (P o)) (one_order words order other is also) holds;
+}
 
 pub may_end : (words : List (List ℕ)) (order : OrderView) (status : ℕ) → IsOrder words order → Contains (statuses_of order.command) status → MayEnd words status
 may_end words order status is among = record {
@@ -66,11 +70,11 @@ none_served words rest P none = record { each = λ order is. absurd (none.refute
 
 pub served : (words : List (List ℕ)) (rest : Option (List ℕ)) (P Q : OrderView → List ℕ → Type 0) → ((order : OrderView) (text : List ℕ) → P order text
     → Q order text) → Served words rest P → Served words rest Q
-served words rest P Q h s = record { each = λ order is. if_some rest (P order) (Q order) (h order) (s.each order is) }
+served words rest P Q h s = record { each = λ order is. if_some (text_told order.command rest) (P order) (Q order) (h order) (s.each order is) }
 
 pub all_served : (words : List (List ℕ)) (rest : Option (List ℕ)) (P : OrderView → List ℕ → Type 0) → ((order : OrderView) (text : List ℕ) → P order text)
     → Served words rest P
-all_served words rest P h = record { each = λ order is. always rest (P order) (h order) }
+all_served words rest P h = record { each = λ order is. always (text_told order.command rest) (P order) (h order) }
 
 pub on_ok : {T E : Type 0} (result : Result T E) (P Q : Type 0) → (P → Q) → OnOk result P → OnOk result Q
 on_ok (Ok x) P Q h p = h p
@@ -113,11 +117,25 @@ among_of Stat order text Memory h = (4, omega arith, refl)
 among_of Run order text (Circuit refusal) h = (1, omega arith, refl)
 among_of Run order text Memory h = (4, omega arith, refl)
 among_of Run order text (BadBits word) h = (5, omega arith, refl)
+among_of Convert order text (Lines need limit) h = (1, omega arith, refl)
+among_of Convert order text (Gates limit) h = (2, omega arith, refl)
+among_of Convert order text (Circuit refusal) h = (3, omega arith, refl)
+among_of Convert order text Memory h = (6, omega arith, refl)
+among_of Gen order text Memory h = (2, omega arith, refl)
+among_of Bench order text (Refused refusal) h = (1, omega arith, refl)
+among_of Bench order text (Claim number at digits) h = (2, omega arith, refl)
+among_of Bench order text (Diagram number at limit) h = (3, omega arith, refl)
+among_of Bench order text (Lines need limit) h = (4, omega arith, refl)
+among_of Bench order text (Gates limit) h = (5, omega arith, refl)
+among_of Bench order text Memory h = (7, omega arith, refl)
 among_of Compile order text fault h = absurd h
 among_of Check order text fault h = absurd h
 among_of Eval order text fault h = absurd h
 among_of Stat order text fault h = absurd h
 among_of Run order text fault h = absurd h
+among_of Convert order text fault h = absurd h
+among_of Gen order text fault h = absurd h
+among_of Bench order text fault h = absurd h
 
 pub status_among : (order : OrderView) (text : List ℕ) (fault : Fault) → IsCauseOrMemory order text fault
     → Contains (statuses_of order.command) (status_of fault)
@@ -129,6 +147,9 @@ write_among Check = (5, omega arith, refl)
 write_among Eval = (4, omega arith, refl)
 write_among Stat = (3, omega arith, refl)
 write_among Run = (3, omega arith, refl)
+write_among Convert = (5, omega arith, refl)
+write_among Gen = (1, omega arith, refl)
+write_among Bench = (6, omega arith, refl)
 
 memory_among : (command : Command) → Contains (statuses_of command) 11
 memory_among Compile = (8, omega arith, refl)
@@ -136,77 +157,100 @@ memory_among Check = (6, omega arith, refl)
 memory_among Eval = (5, omega arith, refl)
 memory_among Stat = (4, omega arith, refl)
 memory_among Run = (4, omega arith, refl)
+memory_among Convert = (6, omega arith, refl)
+memory_among Gen = (2, omega arith, refl)
+memory_among Bench = (7, omega arith, refl)
 
-read_among : (command : Command) → Contains (statuses_of command) 9
-read_among Compile = (6, omega arith, refl)
-read_among Check = (4, omega arith, refl)
-read_among Eval = (3, omega arith, refl)
-read_among Stat = (2, omega arith, refl)
-read_among Run = (2, omega arith, refl)
+read_among : (command : Command) → reads_source command ≡ true → Contains (statuses_of command) 9
+read_among Compile reads = (6, omega arith, refl)
+read_among Check reads = (4, omega arith, refl)
+read_among Eval reads = (3, omega arith, refl)
+read_among Stat reads = (2, omega arith, refl)
+read_among Run reads = (2, omega arith, refl)
+read_among Convert reads = (4, omega arith, refl)
+read_among Gen reads = absurd cc
+read_among Bench reads = absurd cc
 
-long_among : (command : Command) → Contains (statuses_of command) (status_of (too_long command))
-long_among Compile = (1, omega arith, refl)
-long_among Check = (1, omega arith, refl)
-long_among Eval = (1, omega arith, refl)
-long_among Stat = (1, omega arith, refl)
-long_among Run = (1, omega arith, refl)
+long_among : (command : Command) → reads_source command ≡ true → Contains (statuses_of command) (status_of (too_long command))
+long_among Compile reads = (1, omega arith, refl)
+long_among Check reads = (1, omega arith, refl)
+long_among Eval reads = (1, omega arith, refl)
+long_among Stat reads = (1, omega arith, refl)
+long_among Run reads = (1, omega arith, refl)
+long_among Convert reads = (3, omega arith, refl)
+long_among Gen reads = absurd cc
+long_among Bench reads = absurd cc
 
-pub reading_among : (command : Command) (fault : ReadFault) → Contains (statuses_of command) (status_of (reading_fault command fault))
-reading_among command reads.Failed = read_among command
-reading_among command reads.TooLong = long_among command
-reading_among command reads.Memory = memory_among command
+pub reading_among : (command : Command) (fault : ReadFault) → reads_source command ≡ true
+    → Contains (statuses_of command) (status_of (reading_fault command fault))
+reading_among command reads.Failed is = read_among command is
+reading_among command reads.TooLong is = long_among command is
+reading_among command reads.Memory is = memory_among command
 
 -- a source that was read to its end, whatever the fault
-pub read_at : (fault : Fault) (command : Command) (old new : Option (List ℕ)) → IsAtEnd new → IsReadAt fault command old new
+pub read_at : (fault : Fault) (command : Command) (old new : Option (List ℕ)) → (reads_source command ≡ true → IsAtEnd new) → IsReadAt fault command old new
 read_at Usage command old new h = tt
 read_at Read command old new h = tt
 read_at Memory command old new h = tt
-read_at fault command old new h = always old (λ text. IsReadWhole command text new) (λ text short. h)
+read_at fault command old new h = always (text_told command old) (λ text. IsReadWhole command text new) (λ text reads short. h reads)
 
 -- a text over the limit is refused for that
-long_caused : (command : Command) (order : OrderView) (text : List ℕ) → most_bytes command < length text
+long_caused : (command : Command) (order : OrderView) (text : List ℕ) → reads_source command ≡ true → most_bytes command < length text
     → IsCausedBy (record order { command = command }) text (too_long command)
-long_caused Compile order text long = long
-long_caused Check order text long = long
-long_caused Eval order text long = long
-long_caused Stat order text long = long
-long_caused Run order text long = long
+long_caused Compile order text reads long = long
+long_caused Check order text reads long = long
+long_caused Eval order text reads long = long
+long_caused Stat order text reads long = long
+long_caused Run order text reads long = long
+long_caused Convert order text reads long = long
+long_caused Gen order text reads long = absurd cc
+long_caused Bench order text reads long = absurd cc
 
-pub reading_caused : (fault : ReadFault) (order : OrderView) (rest : Option (List ℕ))
+-- a command that reads the source is told what the source tells
+pub told_of : (command : Command) (rest : Option (List ℕ)) → reads_source command ≡ true → text_told command rest ≡ rest
+told_of command rest reads = rw reads refl
+
+reading_caused : (fault : ReadFault) (order : OrderView) (rest : Option (List ℕ)) → reads_source order.command ≡ true
     → (fault ≡ reads.TooLong → IfSome rest (λ text. most_bytes order.command < length text))
     → IfSome rest (λ text. IsCausedBy order text (reading_fault order.command fault))
-reading_caused reads.Failed order rest h = always rest (λ text. IsCausedBy order text Read) (λ text. tt)
-reading_caused reads.Memory order rest h = always rest (λ text. IsCausedBy order text Memory) (λ text. tt)
-reading_caused reads.TooLong order rest h =
+reading_caused reads.Failed order rest is h = always rest (λ text. IsCausedBy order text Read) (λ text. tt)
+reading_caused reads.Memory order rest is h = always rest (λ text. IsCausedBy order text Memory) (λ text. tt)
+reading_caused reads.TooLong order rest is h =
     if_some rest (λ text. most_bytes order.command < length text) (λ text. IsCausedBy order text (too_long order.command))
-    (λ text long. long_caused order.command order text long) (h refl)
+    (λ text long. long_caused order.command order text is long) (h refl)
 
 -- the same for an order of this command
-pub of_command : (order : OrderView) (command : Command) (fault : ReadFault) (rest : Option (List ℕ)) → order.command ≡ command
+pub of_command : (order : OrderView) (command : Command) (fault : ReadFault) (rest : Option (List ℕ)) → reads_source command ≡ true → order.command ≡ command
     → (fault ≡ reads.TooLong → IfSome rest (λ text. most_bytes command < length text))
-    → IfSome rest (λ text. IsCausedBy order text (reading_fault command fault))
-of_command order command fault rest is h =
-    subst (λ (c : Command). IfSome rest (λ text. IsCausedBy order text (reading_fault c fault))) is
-    (reading_caused fault order rest (subst (λ (c : Command). fault ≡ reads.TooLong → IfSome rest (λ text. most_bytes c < length text)) (sym is) h))
+    → IfSome (text_told command rest) (λ text. IsCausedBy order text (reading_fault command fault))
+of_command order command fault rest told is h =
+    let here = reading_caused fault order rest (ap reads_source is ∙ told)
+    (subst (λ (c : Command). fault ≡ reads.TooLong → IfSome rest (λ text. most_bytes c < length text)) (sym is) h) in
+    subst (λ (told : Option (List ℕ)). IfSome told (λ text. IsCausedBy order text (reading_fault command fault))) (sym (told_of command rest told))
+    (subst (λ (c : Command). IfSome rest (λ text. IsCausedBy order text (reading_fault c fault))) is here)
 
-read_long : (command : Command) (old new : Option (List ℕ)) → IfSome old (λ text. most_bytes command < length text)
-    → IfSome old (λ text. IsReadWhole command text new)
-read_long command old new h =
-    if_some old (λ text. most_bytes command < length text) (λ text. IsReadWhole command text new) (λ text long short. absurd (omega arith)) h
+read_long : (command : Command) (old new : Option (List ℕ)) → reads_source command ≡ true → IfSome old (λ text. most_bytes command < length text)
+    → IfSome (text_told command old) (λ text. IsReadWhole command text new)
+read_long command old new reads h =
+    subst (λ (told : Option (List ℕ)). IfSome told (λ text. IsReadWhole command text new)) (sym (told_of command old reads))
+    (if_some old (λ text. most_bytes command < length text) (λ text. IsReadWhole command text new) (λ text long is short. absurd (omega arith)) h)
 
-long_at : (command : Command) (old new : Option (List ℕ)) → IfSome old (λ text. most_bytes command < length text)
+long_at : (command : Command) (old new : Option (List ℕ)) → reads_source command ≡ true → IfSome old (λ text. most_bytes command < length text)
     → IsReadAt (too_long command) command old new
-long_at Compile old new h = read_long Compile old new h
-long_at Check old new h = read_long Check old new h
-long_at Eval old new h = read_long Eval old new h
-long_at Stat old new h = read_long Stat old new h
-long_at Run old new h = read_long Run old new h
+long_at Compile old new reads h = read_long Compile old new reads h
+long_at Check old new reads h = read_long Check old new reads h
+long_at Eval old new reads h = read_long Eval old new reads h
+long_at Stat old new reads h = read_long Stat old new reads h
+long_at Run old new reads h = read_long Run old new reads h
+long_at Convert old new reads h = read_long Convert old new reads h
+long_at Gen old new reads h = absurd cc
+long_at Bench old new reads h = absurd cc
 
-pub reading_at : (fault : ReadFault) (command : Command) (old new : Option (List ℕ))
+pub reading_at : (fault : ReadFault) (command : Command) (old new : Option (List ℕ)) → reads_source command ≡ true
     → (fault ≡ reads.TooLong → IfSome old (λ text. most_bytes command < length text)) → IsReadAt (reading_fault command fault) command old new
-reading_at reads.Failed command old new h = tt
-reading_at reads.Memory command old new h = tt
-reading_at reads.TooLong command old new h = long_at command old new (h refl)
+reading_at reads.Failed command old new is h = tt
+reading_at reads.Memory command old new is h = tt
+reading_at reads.TooLong command old new is h = long_at command old new is (h refl)
 
 -- ---- the words
 
@@ -291,7 +335,7 @@ completes_after words rest rose_in rose_out fault status u s i o e calm_in calm_
     (λ order text cause serves. absurd ((one_outcome order.command).free order text fault serves cause)) s
 
 read_so : (fault : Fault) (status : ℕ) (command : Command) (old new : Option (List ℕ)) → status ≡ status_of fault → IsReadAt fault command old new → status ≢ 2
-    → status ≢ 9 → status ≢ 11 → IfSome old (λ text. IsReadWhole command text new)
+    → status ≢ 9 → status ≢ 11 → IfSome (text_told command old) (λ text. IsReadWhole command text new)
 read_so Usage status command old new e h w r m = absurd (w e)
 read_so Read status command old new e h w r m = absurd (r e)
 read_so Memory status command old new e h w r m = absurd (m e)
@@ -323,32 +367,39 @@ may_succeed words = record { each = λ order is. success_among order.command }
     success_among Eval = (0, omega arith, refl)
     success_among Stat = (0, omega arith, refl)
     success_among Run = (0, omega arith, refl)
+    success_among Convert = (0, omega arith, refl)
+    success_among Gen = (0, omega arith, refl)
+    success_among Bench = (0, omega arith, refl)
 
 pub may_end_after : (words : List (List ℕ)) (fault : Fault) (status : ℕ) → status ≡ status_of fault → (status_of fault ≢ 2 → MayEnd words (status_of fault))
     → status ≢ 2 → MayEnd words status
 may_end_after words fault status e h other = subst (MayEnd words) (sym e) (h (λ two. other (e ∙ two)))
 
-pub read_whole : (command : Command) (old new : Option (List ℕ)) → IsAtEnd new → IfSome old (λ text. IsReadWhole command text new)
-read_whole command old new h = always old (λ text. IsReadWhole command text new) (λ text short. h)
+pub read_whole : (command : Command) (old new : Option (List ℕ)) → (reads_source command ≡ true → IsAtEnd new)
+    → IfSome (text_told command old) (λ text. IsReadWhole command text new)
+read_whole command old new h = always (text_told command old) (λ text. IsReadWhole command text new) (λ text reads short. h reads)
 
--- the numbers of an order are within their limits
-pub limits_of : (words : List (List ℕ)) (order : OrderView) → IsOrder words order → HasLimits order
-limits_of words order is = record {
-  nodes = (within 1 MOST_NODES USUAL_NODES order.nodes (value_of (codes "nodes") is.given) (omega arith) (omega arith) is.nodes).0;
-  lines = (within 1 MOST_LINES USUAL_LINES order.lines (value_of (codes "lines") is.given) (omega arith) (omega arith) is.lines).1;
-  gates = (within 1 MOST_GATES USUAL_GATES order.gates (value_of (codes "gates") is.given) (omega arith) (omega arith) is.gates).1;
-  borrow = (within 0 MOST_BORROWED 0 order.borrow (value_of (codes "borrow") is.given) (omega arith) (omega arith) is.borrow).1;
-  from = reads (value_of (codes "from") is.given) order.from is.from;
+-- an order of a command that reads no source leaves it, and so do all orders of its words
+pub unread : (words : List (List ℕ)) (order : OrderView) (P : Type 0) → IsOrder words order → (reads_source order.command ≡ false → P) → IsUnread words P
+unread words order P is h = record {
+  each = λ other also none. h (ap (λ (o : OrderView). reads_source o.command) (one_order words order other is also) ∙ none);
 }
-  where
-    within : (least most usual n : ℕ) (value : Option (List ℕ)) → least ≤ usual → usual ≤ most
-        → MatchOption value (n ≡ usual) (λ word. IsNumberIn least most word n) → (least ≤ n) × (n ≤ most)
-    within least most usual n None low high h = (omega (arith, h, low), omega (arith, h, high))
-    within least most usual n (Some word) low high h = (h.least_is, h.most_is)
 
-    reads : (value : Option (List ℕ)) (from : Format) → MatchOption value (from ≡ Real) (λ word. (word ≡ format_word from) × (from ≡ Real)) → from ≡ Real
-    reads None from h = h
-    reads (Some word) from h = h.1
+pub always_unread : (words : List (List ℕ)) (P : Type 0) → P → IsUnread words P
+always_unread words P p = record { each = λ order is none. p }
+
+-- where no text is read, none is told
+pub none_read : (command : Command) (rest : Option (List ℕ)) (items : List ℕ) → reads_source command ≡ false → items ≡ []
+    → IfSome (text_told command rest) (λ told. items ≡ told)
+none_read command rest items unread e = rw unread e
+
+-- the number of a command that makes an adder is a size of one
+pub adder_size : (order : OrderView) (command : Command) → IsWithinLimits order → order.command ≡ command → (HasBits command order.number → 1 ≤ order.number)
+    → IsAdderSize order.number
+adder_size order command limits is some = record {
+  some = some (subst (λ (c : Command). HasBits c order.number) is limits.some_bits);
+  few = limits.few_bits;
+}
 
 -- ---- what each command prepares is what its order gives
 

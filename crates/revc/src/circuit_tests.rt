@@ -285,7 +285,7 @@ fn circuits_of_the_examples_give_what_eval_gives(rt: HostRuntime) -> Result<(), 
 }
 
 // The last digits of a number, the least one first.
-fn digits(alloc: Global, number: u32, count: usize) -> Result<String, AllocError> {
+pub fn digits(alloc: Global, number: u32, count: usize) -> Result<String, AllocError> {
     let mut word = String::new(alloc);
     let mut rest = number;
     for _ in 0..count {

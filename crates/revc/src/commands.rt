@@ -3,16 +3,17 @@
 ghost use Rattle.std.specs.Prelude.{◌≡◌, ◌≤◌, length, IfOk, IfErr};
 ghost use Rattle.revc_io.specs.Faults.{HasCause};
 ghost use Rattle.revc_io.specs.Passing.{Writes};
-ghost use Rattle.revc_words.specs.Words.{order_of};
-ghost use Rattle.revc.specs.Commands.{Gives, IsCauseOrMemory, most_bytes};
+ghost use Rattle.revc_words.specs.Words.{IsWithinLimits, order_of};
+ghost use Rattle.revc.specs.Commands.{Gives, IsCauseOrMemory, most_bytes, reads_source};
 ghost use Rattle.revc.specs.inside.Outcomes.{CanBeWritten, text_of};
-ghost use Rattle.program_commands.specs.Outcomes.{HasLimits, IsWritable, file_of};
 
+use circuit_commands::convert::Converted;
 use circuit_commands::stat::Sizes;
-use circuit_commands::{MOST_CIRCUIT_BYTES, run, stat};
+use circuit_commands::{MOST_CIRCUIT_BYTES, convert, run, stat};
 use command_answers::{Fault, write_digits, write_lines, write_number};
 use gate_split::Laid;
-use program_commands::{check, compile, eval};
+use program_commands::bench::BenchSizes;
+use program_commands::{bench, check, compile, eval, generate};
 use revc_base::Bits;
 use revc_io::{Failed, Sink};
 use revc_words::{Command, Format, Order};
@@ -32,6 +33,12 @@ pub enum Prepared {
     Lines(Vec<Bits>),
     /// The lines of a circuit's sizes.
     Stat(Sizes),
+    /// The file of a circuit that was converted, in a format.
+    Converted(Format, Converted),
+    /// The text of a program.
+    Program(Vec<u8>),
+    /// The lines of the sizes of a program and its circuit.
+    Bench(BenchSizes),
 }
 
 impl Prepared {
@@ -47,8 +54,18 @@ impl Prepared {
             Prepared::Digits(bits) => write_digits(bits.bits(), out),
             Prepared::Lines(lines) => write_lines(lines, out),
             Prepared::Stat(sizes) => stat::write(sizes, out),
+            Prepared::Converted(format, converted) => convert::write(converted, *format, out),
+            Prepared::Program(text) => generate::write(text, out),
+            Prepared::Bench(sizes) => bench::write(sizes, out),
         }
     }
+}
+
+/// Whether a command reads the source.
+pub fn reads_source(command: Command) -> bool
+    ensures { result ≡ reads_source command }
+{
+    !matches!(command, Command::Gen | Command::Bench)
 }
 
 /// The most bytes of the text that a command reads.
@@ -56,15 +73,15 @@ pub fn most_bytes(command: Command) -> usize
     ensures { result ≡ most_bytes command }
 {
     match command {
-        Command::Stat | Command::Run => MOST_CIRCUIT_BYTES,
-        Command::Compile | Command::Check | Command::Eval => MOST_BYTES,
+        Command::Stat | Command::Run | Command::Convert => MOST_CIRCUIT_BYTES,
+        _ => MOST_BYTES,
     }
 }
 
 /// What an order gives for a text. A fault has its cause in the text, or is want of memory.
 pub fn prepare(alloc: Global, order: &Order, text: &[u8]) -> Result<Prepared, Fault>
     requires short { length text.now ≤ most_bytes order.now.command }
-    requires limits { HasLimits (order_of order.now) }
+    requires limits { IsWithinLimits (order_of order.now) }
     ensures ok { IfOk result (λ prepared. Gives (order_of order.now) text.now (text_of prepared)) }
     ensures writable { IfOk result CanBeWritten }
     ensures err { IfErr result (IsCauseOrMemory (order_of order.now) text.now) }
@@ -78,5 +95,11 @@ pub fn prepare(alloc: Global, order: &Order, text: &[u8]) -> Result<Prepared, Fa
         Command::Eval => Ok(Prepared::Digits(eval::evaluate(alloc, text, order.word())?)),
         Command::Stat => Ok(Prepared::Stat(stat::measure(alloc, text, order.from)?)),
         Command::Run => Ok(Prepared::Lines(run::run(alloc, text, order.from, &order.bits)?)),
+        Command::Convert => {
+            let converted = convert::convert(alloc, text, order.from)?;
+            Ok(Prepared::Converted(order.to, converted))
+        }
+        Command::Gen => Ok(Prepared::Program(generate::program(alloc, order.number)?)),
+        Command::Bench => Ok(Prepared::Bench(bench::measure(alloc, order)?)),
     }
 }

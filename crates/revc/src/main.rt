@@ -3,10 +3,16 @@
 #![tactic(auto)]
 
 #[cfg(test)]
+mod adder_tests;
+#[cfg(test)]
 mod circuit_tests;
 #[cfg(test)]
 mod claim_tests;
 mod commands;
+#[cfg(test)]
+mod convert_tests;
+#[cfg(test)]
+mod gallery_tests;
 #[cfg(test)]
 mod plan_tests;
 #[cfg(test)]

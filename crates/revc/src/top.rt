@@ -1,24 +1,23 @@
 // The top call: all that the program does.
-ghost use Rattle.std.specs.Prelude.{◌≡◌, ◌≢◌, ◌↔◌, ◌≤◌, ◌⊎◌, Contains, length, IfSome, IfOk, OnOk, OnErr, IfErr, IsErrOf};
+ghost use Rattle.std.specs.Prelude.{◌≡◌, ◌≢◌, ◌≤◌, ◌⊎◌, true, false, Contains, length, IfSome, IfOk, OnOk, OnErr, IfErr, IsErrOf};
 ghost use Rattle.std.specs.Io.KnownBytes.{IsAtEnd};
 ghost use Rattle.revc_io.specs.Faults.{Rose};
-ghost use Rattle.revc.specs.Commands.{Gives, IsCausedBy, IsCauseOrMemory, Serves, most_bytes, statuses_of};
+ghost use Rattle.revc.specs.Commands.{Gives, IsCausedBy, IsCauseOrMemory, Serves, most_bytes, reads_source, statuses_of, text_told};
 ghost use Rattle.command_answers.specs.Faults.{status_of};
 ghost use Rattle.revc.specs.Top.{Grows, GrowsByPrefix, IsReadAt, IsReadFor, IsReadWhole, IsStatusOfAll, MayEnd};
-ghost use Rattle.revc.specs.Top.{Reports, RestsOnText, Served, Stopped};
-ghost use Rattle.revc_words.specs.Words.{HasNoOrder, order_of, words_of};
+ghost use Rattle.revc.specs.Top.{IsUnread, Reports, RestsOnText, Served, Stopped};
+ghost use Rattle.revc_words.specs.Words.{HasNoOrder, IsWithinLimits, order_of, words_of};
 ghost use Rattle.revc.specs.inside.Mappings.{reading_fault, too_long, words_fault};
-ghost use Rattle.program_commands.specs.Outcomes.{HasLimits};
 
-use crate::commands::{most_bytes, prepare};
+use crate::commands::{most_bytes, prepare, reads_source};
 use command_answers::{CircuitRefusal, Fault, Refusal, report};
 use revc_io::{ReadFault, Sink, Source, read_up_to};
 use revc_words::{Command, Order, WordsFault, read_words};
 use std::alloc::Global;
 
-/// Does what the words of the command line ask for, without the program's own name, and answers the status.
-/// `compile` reads a program from the source and writes the file of its clean circuit. `eval BITS` reads a program, and
-/// writes the bits that it gives on these.
+/// Does what the words of the command line ask for, without the program's own name, and answers the status: what each
+/// command reads and writes, `revc_words::Command` says. Whatever the words, it writes to `out` at status 0 and 10
+/// alone, and one line to `err` at each other status.
 pub fn revc<S: Source, K: Sink, E: Sink>(
     alloc: Global,
     words: &[String],
@@ -35,7 +34,8 @@ pub fn revc<S: Source, K: Sink, E: Sink>(
 
     // Each other status has its cause, and its line is written.
     ensures statuses { result ≢ 2 → MayEnd (words_of words.now) result }
-    ensures usage { (result ≡ 2) ↔ HasNoOrder (words_of words.now) }
+    ensures usage { result ≡ 2 → HasNoOrder (words_of words.now) }
+    ensures no_order { HasNoOrder (words_of words.now) → (result ≡ 2) ⊎ (result ≡ 11) }
     ensures stops { RestsOnText result → Served (words_of words.now) (S.rest source.old)
         (λ order text.
         Stopped order text result (E.held err.old) (E.held err.new) (E.faults err.old)
@@ -57,8 +57,10 @@ pub fn revc<S: Source, K: Sink, E: Sink>(
         → Served (words_of words.now) (S.rest source.old)
         (λ order text. Serves order text → (result ≡ 0) ⊎ (result ≡ 11)) }
 
-    // Words that give no order leave the source as it is; a text within the limit is read to its end before all else.
+    // Words that give no order, or one that reads no source, leave it as it is; a text within the limit is read to its
+    // end before all else.
     ensures untouched { result ≡ 2 → source.new ≡ source.old }
+    ensures unread { IsUnread (words_of words.now) (source.new ≡ source.old) }
     ensures read_whole { result ≢ 2 → result ≢ 9 → result ≢ 11
         → Served (words_of words.now) (S.rest source.old)
         (λ order text. IsReadWhole order.command text (S.rest source.new)) }
@@ -85,7 +87,9 @@ fn run<S: Source, K: Sink>(
     ensures silent { OnErr result ((IsErrOf result Fault.Write → ⊥) → out.new ≡ out.old) }
     ensures may_end { IfErr result (λ fault. status_of fault ≢ 2
         → MayEnd (words_of words.now) (status_of fault)) }
-    ensures usage { IsErrOf result Fault.Usage ↔ HasNoOrder (words_of words.now) }
+    ensures usage { IsErrOf result Fault.Usage → HasNoOrder (words_of words.now) }
+    ensures no_order { HasNoOrder (words_of words.now)
+        → IsErrOf result Fault.Usage ⊎ IsErrOf result Fault.Memory }
     ensures causes { IfErr result (λ fault. Served (words_of words.now) (S.rest source.old)
         (λ order text. IsCausedBy order text fault)) }
     ensures read_fault { IsErrOf result Fault.Read
@@ -94,6 +98,7 @@ fn run<S: Source, K: Sink>(
     ensures calm_source { OnOk result (S.faults source.new ≡ S.faults source.old) }
     ensures calm_sink { OnOk result (K.faults out.new ≡ K.faults out.old) }
     ensures untouched { IsErrOf result Fault.Usage → source.new ≡ source.old }
+    ensures unread { IsUnread (words_of words.now) (source.new ≡ source.old) }
     ensures read_whole { OnOk result (Served (words_of words.now) (S.rest source.old)
         (λ order text. IsReadWhole order.command text (S.rest source.new))) }
     ensures read_at { IfErr result (λ fault. IsReadFor fault (words_of words.now)
@@ -105,23 +110,23 @@ fn run<S: Source, K: Sink>(
     }
 }
 
-// Reads the text of an order from the source, and writes what the order gives for it.
+// Reads the text of an order, and writes what the order gives for it.
 fn carry_out<S: Source, K: Sink>(
     alloc: Global,
     order: &Order,
     source: &mut S,
     out: &mut K,
 ) -> Result<(), Fault>
-    requires { HasLimits (order_of order.now) }
-    ensures gives { OnOk result (IfSome (S.rest source.old)
+    requires { IsWithinLimits (order_of order.now) }
+    ensures gives { OnOk result (IfSome (text_told order.now.command (S.rest source.old))
         (λ text. Grows (Gives (order_of order.now) text) (K.held out.old) (K.held out.new))) }
-    ensures begins { IsErrOf result Fault.Write → IfSome (S.rest source.old)
+    ensures begins { IsErrOf result Fault.Write → IfSome (text_told order.now.command (S.rest source.old))
         (λ text. GrowsByPrefix (Gives (order_of order.now) text) (K.held out.old)
         (K.held out.new)) }
     ensures silent { OnErr result ((IsErrOf result Fault.Write → ⊥) → out.new ≡ out.old) }
     ensures may_end { IfErr result (λ fault. Contains (statuses_of order.now.command)
         (status_of fault)) }
-    ensures causes { IfErr result (λ fault. IfSome (S.rest source.old)
+    ensures causes { IfErr result (λ fault. IfSome (text_told order.now.command (S.rest source.old))
         (λ text. IsCausedBy (order_of order.now) text fault)) }
     ensures no_usage { IsErrOf result Fault.Usage → ⊥ }
     ensures read_fault { IsErrOf result Fault.Read
@@ -129,7 +134,8 @@ fn carry_out<S: Source, K: Sink>(
     ensures write_fault { IsErrOf result Fault.Write → Rose (K.faults out.old) (K.faults out.new) }
     ensures calm_source { OnOk result (S.faults source.new ≡ S.faults source.old) }
     ensures calm_sink { OnOk result (K.faults out.new ≡ K.faults out.old) }
-    ensures read_whole { OnOk result (IfSome (S.rest source.old)
+    ensures unread { reads_source order.now.command ≡ false → source.new ≡ source.old }
+    ensures read_whole { OnOk result (IfSome (text_told order.now.command (S.rest source.old))
         (λ text. IsReadWhole order.now.command text (S.rest source.new))) }
     ensures read_at { IfErr result (λ fault. IsReadAt fault order.now.command
         (S.rest source.old) (S.rest source.new)) }
@@ -141,7 +147,7 @@ fn carry_out<S: Source, K: Sink>(
 // Writes what an order gives for a text.
 fn serve<K: Sink>(alloc: Global, order: &Order, text: &[u8], out: &mut K) -> Result<(), Fault>
     requires short { length text.now ≤ most_bytes order.now.command }
-    requires limits { HasLimits (order_of order.now) }
+    requires limits { IsWithinLimits (order_of order.now) }
     ensures gives { OnOk result (Grows (Gives (order_of order.now) text.now) (K.held out.old)
         (K.held out.new)) }
     ensures begins { IsErrOf result Fault.Write
@@ -162,13 +168,16 @@ fn serve<K: Sink>(alloc: Global, order: &Order, text: &[u8], out: &mut K) -> Res
     }
 }
 
-// Reads the whole text of a command.
+// The text of a command: that of the source, read to its end, or none where the source is not read.
 fn read_text<S: Source>(alloc: Global, command: Command, source: &mut S) -> Result<Vec<u8>, Fault>
-    ensures text { IfOk result (λ text. IfSome (S.rest source.old) (λ rest. text.items ≡ rest)) }
+    ensures text { IfOk result (λ text. IfSome (text_told command (S.rest source.old))
+        (λ told. text.items ≡ told)) }
     ensures fits { IfOk result (λ text. length text.items ≤ most_bytes command) }
-    ensures read_whole { OnOk result (IsAtEnd (S.rest source.new)) }
+    ensures unread { reads_source command ≡ false → source.new ≡ source.old }
+    ensures read_whole { OnOk result (reads_source command ≡ true → IsAtEnd (S.rest source.new)) }
     ensures causes { IfErr result (λ fault. (order : _) → order.command ≡ command
-        → IfSome (S.rest source.old) (λ rest. IsCausedBy order rest fault)) }
+        → IfSome (text_told command (S.rest source.old))
+        (λ told. IsCausedBy order told fault)) }
     ensures may_end { IfErr result (λ fault. Contains (statuses_of command) (status_of fault)) }
     ensures read_at { IfErr result (λ fault. IsReadAt fault command (S.rest source.old)
         (S.rest source.new)) }
@@ -178,6 +187,9 @@ fn read_text<S: Source>(alloc: Global, command: Command, source: &mut S) -> Resu
     ensures no_usage { IsErrOf result Fault.Usage → ⊥ }
     ensures no_write { IsErrOf result Fault.Write → ⊥ }
 {
+    if !reads_source(command) {
+        return Ok(Vec::new(alloc));
+    }
     match read_up_to(alloc, source, most_bytes(command)) {
         Ok(text) => Ok(text),
         Err(fault) => Err(reading_fault(command, fault)),
@@ -199,8 +211,10 @@ fn too_long(command: Command) -> Fault
     ensures { result ≡ too_long command }
 {
     match command {
-        Command::Stat | Command::Run => Fault::Circuit(CircuitRefusal::TooLong),
-        Command::Compile | Command::Check | Command::Eval => Fault::Refused(Refusal::TooLong),
+        Command::Stat | Command::Run | Command::Convert => {
+            Fault::Circuit(CircuitRefusal::TooLong)
+        }
+        _ => Fault::Refused(Refusal::TooLong),
     }
 }
 

@@ -18,9 +18,8 @@ words_fault words.Memory = Memory
 abbrev pub too_long : Command → Fault
 too_long commands.Stat = Circuit circuits.TooLong
 too_long commands.Run = Circuit circuits.TooLong
-too_long commands.Compile = Refused TooLong
-too_long commands.Check = Refused TooLong
-too_long commands.Eval = Refused TooLong
+too_long commands.Convert = Circuit circuits.TooLong
+too_long _ = Refused TooLong
 
 abbrev pub reading_fault : Command → ReadFault → Fault
 reading_fault command reads.Failed = Read

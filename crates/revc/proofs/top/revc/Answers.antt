@@ -29,7 +29,7 @@ returns-in-Err-clause-completes g c =
     let causes = c.in-Err.ensures in
     completes_after (map string_bytes c.args.words.now) (g.S.Source.rest c.args.source.now)
     (Rose (g.S.Source.faults c.args.source.now) (g.S.Source.faults c.run.new.source))
-    (Rose (g.K.Sink.faults c.args.out.now) (g.K.Sink.faults c.run.new.out)) c.in-Err.fault c.status.result (λ is. causes.usage.0 (as_err is)) causes.causes
+    (Rose (g.K.Sink.faults c.args.out.now) (g.K.Sink.faults c.run.new.out)) c.in-Err.fault c.status.result (λ is. causes.usage (as_err is)) causes.causes
     (λ is. causes.read_fault (as_err is))
     (λ is. causes.write_fault (as_err is)) c.status.ensures
 
@@ -37,7 +37,7 @@ pub returns-in-Err-clause-exact : goal.returns-in-Err-clause-exact
 returns-in-Err-clause-exact g c =
     let causes = c.in-Err.ensures in
     exact_after (map string_bytes c.args.words.now) (g.S.Source.rest c.args.source.now) _ _ c.in-Err.fault c.status.result
-    (λ is. causes.usage.0 (as_err is)) causes.causes
+    (λ is. causes.usage (as_err is)) causes.causes
     (λ is. causes.begins (as_err is)) c.status.ensures
 
 pub returns-in-Err-clause-stops : goal.returns-in-Err-clause-stops

@@ -1,10 +1,11 @@
 use Rattle.std.proofs.Common.{map, string_bytes}
 use Rattle.std.specs.Prelude.{IfSome, Contains}
-use Rattle.revc.specs.Commands.{Gives, IsCausedBy, statuses_of}
+use Rattle.revc.specs.Commands.{Gives, IsCausedBy, statuses_of, text_told}
 use Rattle.command_answers.specs.Faults.{status_of}
 use Rattle.revc.specs.Top.{Grows, GrowsByPrefix, IsReadAt, IsReadWhole}
 use Rattle.revc_words.specs.Words.{order_of}
-use Rattle.revc.proofs.TopLemmas.{serve, limits_of, may_end, read_for, words_caused, words_may_end, words_read, on_ok, if_err}
+use Rattle.revc.proofs.TopLemmas.{serve, may_end, read_for, words_caused, words_may_end, words_read, on_ok, if_err}
+use Rattle.revc_words.proofs.LimitLemmas.{orders_are_within_limits}
 use Rattle.revc.proofs.top.run.Goals as goal
 
 pub returns-in-Ok-clause-gives : goal.returns-in-Ok-clause-gives
@@ -22,7 +23,7 @@ returns-in-Ok-clause-begins g c = λ is.
 
 pub returns-in-Ok-clause-causes : goal.returns-in-Ok-clause-causes
 returns-in-Ok-clause-causes g c =
-    if_err c.carry_out.result (λ fault. IfSome (g.S.Source.rest c.args.source.now) (λ text. IsCausedBy (order_of c.in-Ok.order) text fault)) _
+    if_err c.carry_out.result (λ fault. IfSome (text_told c.in-Ok.order.command (g.S.Source.rest c.args.source.now)) (λ text. IsCausedBy (order_of c.in-Ok.order) text fault)) _
     (λ fault. serve (map string_bytes c.args.words.now) (order_of c.in-Ok.order) _ (λ order text. IsCausedBy order text fault) c.in-Ok.ensures.ok)
     c.carry_out.ensures.causes
 
@@ -33,10 +34,10 @@ returns-in-Ok-clause-may_end g c =
     c.carry_out.ensures.may_end
 
 pub returns-in-Ok-clause-usage : goal.returns-in-Ok-clause-usage
-returns-in-Ok-clause-usage g c = (
-  λ is. absurd (c.carry_out.ensures.no_usage is),
-  λ none. absurd (none.refuted (order_of c.in-Ok.order) c.in-Ok.ensures.ok),
-)
+returns-in-Ok-clause-usage g c = λ is. absurd (c.carry_out.ensures.no_usage is)
+
+pub returns-in-Ok-clause-no_order : goal.returns-in-Ok-clause-no_order
+returns-in-Ok-clause-no_order g c = λ none. absurd (none.refuted (order_of c.in-Ok.order) c.in-Ok.ensures.ok)
 
 pub returns-in-Err-clause-may_end : goal.returns-in-Err-clause-may_end
 returns-in-Err-clause-may_end g c = rw c.words_fault.ensures (words_may_end (map string_bytes c.args.words.now) c.in-Err.fault)
@@ -45,7 +46,7 @@ pub returns-in-Err-clause-causes : goal.returns-in-Err-clause-causes
 returns-in-Err-clause-causes g c = rw c.words_fault.ensures (words_caused (map string_bytes c.args.words.now) _ c.in-Err.fault)
 
 pub carry_out-requires : goal.carry_out-requires
-carry_out-requires g c = limits_of (map string_bytes c.args.words.now) (order_of c.in-Ok.order) c.in-Ok.ensures.ok
+carry_out-requires g c = orders_are_within_limits (map string_bytes c.args.words.now) (order_of c.in-Ok.order) c.in-Ok.ensures.ok
 
 pub returns-in-Ok-clause-read_whole : goal.returns-in-Ok-clause-read_whole
 returns-in-Ok-clause-read_whole g c =
