@@ -7,27 +7,37 @@ from typing import Iterable, List, NamedTuple, Sequence
 
 from language import Program, Run
 from plans import Plan
-from real import Circuit
+from real import Circuit, Gate
 
-# ---- The file of a plan
+# ---- Files that are written
+
+
+def written(names: Sequence[str], constants: str, garbage: str, gates: Sequence[Gate]) -> bytes:
+    joined = " ".join(names)
+    head = [
+        ".version 2.0",
+        ".numvars %d" % len(names),
+        ".variables " + joined,
+        ".inputs " + joined,
+        ".outputs " + joined,
+        ".constants " + constants,
+        ".garbage " + garbage,
+        ".begin",
+    ]
+    lines = ["t%d %s" % (len(gate.lines), " ".join(names[line] for line in gate.lines)) for gate in gates]
+    return "".join(line + "\n" for line in chain(head, lines, [".end"])).encode()
 
 
 def file_of(inputs: int, outputs: int, plan: Plan, borrow: int) -> bytes:
     kinds = [("x", inputs), ("y", outputs), ("w", plan.lines - inputs - outputs), ("b", borrow)]
-    lines = [kind + str(number) for kind, count in kinds for number in range(count)]
-    names = " ".join(lines)
-    head = [
-        ".version 2.0",
-        ".numvars %d" % len(lines),
-        ".variables " + names,
-        ".inputs " + names,
-        ".outputs " + names,
-        ".constants " + "-" * inputs + "0" * (plan.lines - inputs) + "-" * borrow,
-        ".garbage " + "-" * len(lines),
-        ".begin",
-    ]
-    gates = ["t%d %s" % (len(gate.lines), " ".join(lines[line] for line in gate.lines)) for gate in plan.gates]
-    return "".join(line + "\n" for line in chain(head, gates, [".end"])).encode()
+    names = [kind + str(number) for kind, count in kinds for number in range(count)]
+    constants = "-" * inputs + "0" * (plan.lines - inputs) + "-" * borrow
+    return written(names, constants, "-" * len(names), plan.gates)
+
+
+def converted(circuit: Circuit, gates: Sequence[Gate], added: int) -> bytes:
+    names = ["l%d" % line for line in range(len(circuit.names) + added)]
+    return written(names, circuit.constants + "-" * added, circuit.garbage + "-" * added, gates)
 
 
 # ---- Clean files

@@ -1,14 +1,15 @@
 """What each command answers for a text, by the models: docs/COMMANDS.md as functions."""
-from typing import List, NamedTuple, Optional
+from typing import List, NamedTuple, Optional, Tuple
 
 import circuits
 import language
 import qasm
 import real
 from claims import TooWide, settled
-from graphs import Graph
 from language import Run, program_of
-from plans import Budget, OverGates, OverLines, Settled, choose
+from generated import adder_text
+from graphs import Graph
+from plans import Budget, NoIdle, OverGates, OverLines, Plan, Settled, choose, split, width_of
 from words import Order, order_of
 
 
@@ -66,22 +67,28 @@ def sizes_of(text: bytes) -> List[int]:
 
 
 WRITERS = {"real": circuits.file_of, "qasm": qasm.file_of}
+READERS = {"real": real.circuit_of, "qasm": qasm.circuit_of}
+CONVERTERS = {"real": circuits.converted, "qasm": qasm.converted}
 
 
 def budget_of(order: Order) -> Budget:
     return Budget(*(order.values[name] for name in Budget._fields))
 
 
-def compile_text(order: Order, text: bytes) -> bytes:
+def planned(order: Order, text: bytes) -> Tuple[Run, Plan]:
+    """The run of a text's program, whose claims hold on all inputs, and the plan of its circuit."""
     run, budget = settled_run(order, text), budget_of(order)
-    inputs = len(run.bits)
     try:
-        plan = choose(Settled(inputs, Graph(run)), budget, order.values["plan"])
+        return run, choose(Settled(len(run.bits), Graph(run)), budget, order.values["plan"])
     except OverLines as over:
         raise Fault(6, "lines %d over %d" % (over.need, budget.lines)) from None
     except OverGates:
         raise Fault(7, "more than %d gates" % budget.gates) from None
-    return WRITERS[order.values["format"]](inputs, len(run.outputs), plan, budget.borrow)
+
+
+def compile_text(order: Order, text: bytes) -> bytes:
+    run, plan = planned(order, text)
+    return WRITERS[order.values["format"]](len(run.bits), len(run.outputs), plan, order.values["borrow"])
 
 
 def check_text(order: Order, text: bytes) -> bytes:
@@ -99,19 +106,58 @@ def eval_text(order: Order, text: bytes) -> bytes:
     return lines(["".join(str(bit) for bit, _ in run.outputs)])
 
 
+def circuit_of(order: Order, text: bytes) -> real.Circuit:
+    return READERS[order.values["from"]](text)
+
+
 def stat_text(order: Order, text: bytes) -> bytes:
-    return lines(real.counts_of(real.circuit_of(text)))
+    return lines(real.counts_of(circuit_of(order, text)))
 
 
 def run_text(order: Order, text: bytes) -> bytes:
-    circuit = real.circuit_of(text)
+    circuit = circuit_of(order, text)
     number = real.bad_word(circuit, order.bits)
     if number is not None:
         raise Fault(12, "bad bits in word %d" % number)
     return lines([real.line_of(circuit, word) for word in order.bits])
 
 
-TEXTS = {"compile": compile_text, "check": check_text, "eval": eval_text, "stat": stat_text, "run": run_text}
+def convert_text(order: Order, text: bytes) -> bytes:
+    circuit = circuit_of(order, text)
+    count = len(circuit.names)
+    try:
+        try:
+            gates, added = split(circuit.gates, count, real.MOST_GATES), 0
+        except NoIdle:
+            if count == real.MOST_LINES:
+                raise Fault(6, "lines %d over %d" % (count + 1, count)) from None
+            gates, added = split(circuit.gates, count + 1, real.MOST_GATES), 1
+    except OverGates:
+        raise Fault(7, "more than %d gates" % real.MOST_GATES) from None
+    return CONVERTERS[order.values["to"]](circuit, gates, added)
+
+
+def gen_text(order: Order, text: bytes) -> bytes:
+    return adder_text(order.number)
+
+
+def bench_text(order: Order, text: bytes) -> bytes:
+    run, plan = planned(order, adder_text(order.number))
+    count = plan.lines + order.values["borrow"]
+    numbers = {
+        "inputs": len(run.bits),
+        "outputs": len(run.outputs),
+        "writes": len(run.writes),
+        "width": width_of(run),
+        "lines": count,
+        "gates": len(plan.gates),
+        "depth": real.Circuit(names=[b""] * count, gates=plan.gates).depth,
+    }
+    return lines(["%s %d" % pair for pair in numbers.items()])
+
+
+TEXTS = {"compile": compile_text, "check": check_text, "eval": eval_text, "stat": stat_text, "run": run_text,
+         "convert": convert_text, "gen": gen_text, "bench": bench_text}
 
 
 def answer_of(words: List[str], text: bytes) -> Answer:

@@ -11,12 +11,18 @@ AND = b"main (a : bool) (b : bool) = a && b"
 UNBOUND = b"main (a : bool) = z"
 SECONDS = 60
 NO_ORDERS = [[], ["Compile"], ["compile", "x"], ["compile", "-"], ["eval"], ["eval", "1", "1"], ["eval", "-1"], ["run"],
-             ["stat", "--from", "qasm"], ["check", "--nodes", "0"], ["--help"], ["--", "compile"]]
+             ["stat", "--from", "x"], ["gen", "201"], ["check", "--nodes", "0"], ["--help"], ["--", "compile"]]
 COUNTS = (NO_GATES.replace(", ", "\n") + "\n").encode()
 LARGE = LEAST.replace(".end", "t1 a\n" * 200_000 + ".end").encode()
+LARGE_QASM = b"OPENQASM 2.0;\nqreg a[2];\n" + b"CX a[0],a[1];\n" * 200_000
 MOST_GATES = 4_000_000
 MOST_WRITES = 262_144
 MOST_CIRCUIT = 134_217_728
+
+
+def folder_of_root() -> int:
+    """A source that cannot be read."""
+    return os.open("/", os.O_RDONLY)
 
 
 def edges(program: str) -> Iterator[Tuple[str, bool]]:
@@ -41,14 +47,15 @@ def edges(program: str) -> Iterator[Tuple[str, bool]]:
 
     with open("/dev/full", "wb") as full:
         for words, text in ((["compile"], AND), (["check"], AND), (["eval", "11"], AND),
-                            (["stat"], FILE.encode()), (["run", "11"], FILE.encode())):
+                            (["stat"], FILE.encode()), (["run", "11"], FILE.encode()), (["convert"], FILE.encode()),
+                            (["gen", "1"], b""), (["bench", "1"], b"")):
             status, _, line = run(words, text, stdout=full)
             yield words[0] + " on a full device is a write fault", (status, line) == (10, b"revc: write fault\n")
         status, out, _ = run(["compile"], UNBOUND, stderr=full)
         yield "a full standard error changes no status", (status, out) == (3, b"")
 
-    folder = os.open("/", os.O_RDONLY)
-    for words in (["compile"], ["check"], ["eval", "11"], ["stat"], ["run", "11"]):
+    folder = folder_of_root()
+    for words in (["compile"], ["check"], ["eval", "11"], ["stat"], ["run", "11"], ["convert"]):
         faulty = is_fault(run(words, stdin=folder), 9, b"read fault")
         yield words[0] + " of a source that cannot be read is a read fault", faulty
     os.close(folder)
@@ -60,6 +67,14 @@ def edges(program: str) -> Iterator[Tuple[str, bool]]:
             done = run(words, stdin=source)
             untouched = os.lseek(source.fileno(), 0, os.SEEK_CUR) == 0
         yield "the words %s give no order" % words, is_fault(done, 2, b"bad command line") and untouched
+    for words in (["gen", "2"], ["bench", "2"]):
+        with tempfile.TemporaryFile() as source:
+            source.write(AND)
+            source.seek(0)
+            done = run(words, stdin=source)
+            untouched = os.lseek(source.fileno(), 0, os.SEEK_CUR) == 0
+        yield words[0] + " leaves the source untouched", done[0] == 0 and untouched
+        yield words[0] + " needs no source", run(words, stdin=folder_of_root()) == done
     yield "`--` ends the options", run(["compile", "--"]) == run(["compile"])
     yield "`--` ends the options of `eval`", run(["eval", "--", "11"]) == (0, b"1\n", b"")
     for words in (["eval", "-"], ["eval", "--", "-1"]):
@@ -87,7 +102,8 @@ def edges(program: str) -> Iterator[Tuple[str, bool]]:
     yield "and refused in time by all block sizes", is_fault(done, 7, b"more than 4000000 gates")
 
     text = b"main (a : bool) = {\n" + b"clean (a <> a);\n" * 4_096 + b"a }"
-    larges = [(["compile"], text), (["check"], text), (["eval", "1"], text), (["stat"], LARGE), (["run", "1"], LARGE)]
+    larges = [(["compile"], text), (["check"], text), (["eval", "1"], text), (["stat"], LARGE), (["run", "1"], LARGE),
+              (["convert"], LARGE), (["stat", "--from", "qasm"], LARGE_QASM), (["bench", "200", "--plan", "pebble"], b"")]
     for words, large in larges:
         answers, none = [run(words, large)], (11, b"", b"revc: out of memory\n")
         for size in range(4_000_000, 40_000_000, 1_500_000):
@@ -111,9 +127,20 @@ def edges(program: str) -> Iterator[Tuple[str, bool]]:
     text = least.replace(b".end", b"t1 a\n" * MOST_GATES + b"t0 a\n.end")
     yield "the word of a gate over the limit is read first", is_fault(run(["stat"], text), 8, b"circuit line 4000004")
 
+    for more in (0, 1):
+        text = b"OPENQASM 2.0; qreg a[2]; qreg b[2];" + b"CX a,b;" * (MOST_GATES // 2) + b"\nCX a[0],b[0];" * more
+        done = run(["stat", "--from", "qasm"], text)
+        fits = is_fault(done, 8, b"circuit at 2:13 over a limit") if more else b"\ngates 4000000\n" in done[1]
+        yield "%d gates in OpenQASM are %s" % (MOST_GATES + more, "over the limit" if more else "taken"), fits
+    text = b"OPENQASM 2.0; qreg a[2]; qreg b[2];" + b"CX a,b;" * (MOST_GATES // 2)
+    done = run(["convert", "--from", "qasm"], text)
+    yield "4,000,000 gates are converted in time", done[0] == 0 and done[1].count(b"\ncx ") == MOST_GATES
+
     names = b" ".join(b"l%d" % number for number in range(16_384))
     text = b".numvars 16384\n.variables %s\n.begin\nt16384 %s\n.end\n" % (names, names)
     counts = COUNTS.replace(b"lines 1\ngates 0", b"lines 16384\ngates 1").replace(b"wide 0", b"wide 1")
     yield "a gate over 16,384 lines is taken", run(["stat"], text) == (0, counts.replace(b"depth 0", b"depth 1"), b"")
     ones, last = "1" * 16_384, b"1" * 16_383 + b"0\n"
+    done = run(["convert"], text)
+    yield "and has no line that could be added", is_fault(done, 6, b"lines 16385 over 16384")
     yield "and flips the last", run(["run", ones, ones[:-1] + "0"], text) == (0, last + last.replace(b"0", b"1"), b"")

@@ -6,20 +6,24 @@ NAMES = ["nodes", "from", "node", "nodes1", "to", "lines", "gates", "format", "p
          "Nodes"]
 NUMBERS = ["1", "2", "3", "4", "5", "0", "100000", "1000000", "1000001", "9999999", "0000001", "0000005", "00000005",
            "+5", "-5", "5 ", "0x5", "", "real", "5=5", "\u0665", "1e3", "--", "-"]
-FORMATS = ["real", "real", "real", "qasm", "Real", "real ", "", "5", "=real", "--", "-"]
+FORMATS = ["real", "qasm", "real", "Real", "real ", "", "5", "=real", "--", "-"]
 VALUES = {  # of each option, the first three of which are taken
     "nodes": NUMBERS,
     "format": ["real", "qasm", "qasm"] + FORMATS,
     "from": FORMATS,
+    "to": FORMATS,
     "plan": ["auto", "eager", "pebble", "x", "Auto", "eager ", "", "=eager", "plain", "real", "auto,eager", "--", "-"],
     "lines": ["4", "5", "16384", "16385", "0016384"] + NUMBERS,
     "gates": ["3", "4", "4000000", "4000001", "04000000"] + NUMBERS,
     "borrow": ["0", "1", "64", "65", "0000064"] + NUMBERS,
 }
-OPTIONS = {"compile": ["nodes", "plan", "plan", "lines", "gates", "borrow", "format"], "check": ["nodes"]}
+OPTIONS = {"compile": ["nodes", "plan", "plan", "lines", "gates", "borrow", "format"], "check": ["nodes"],
+           "convert": ["from", "to"], "bench": ["nodes", "plan", "plan", "lines", "gates", "borrow"]}
+SIZES = ["1", "2", "3", "02", "0000002", "200", "201", "0", "-1", "+1", "00000002", "", "x", "2.0", "--", "-"]
 POSITIONAL = ["11", "10", "01", "00", "1", "0", "", "-", "x", "2", "110", "real", "compile", "\u00e9", "1\n"]
-COMMANDS = ["compile", "check", "eval", "stat", "run"]
-OTHERS = ["Compile", "", "-", "--", "convert", "gen", "bench", "verify", "--nodes", "check ", "--help", "help"]
+COMMANDS = ["compile", "check", "eval", "stat", "run", "convert", "gen", "bench"]
+NUMBERED = ["gen", "bench"]
+OTHERS = ["Compile", "", "-", "--", "Convert", "gen2", "verify", "--nodes", "check ", "--help", "help"]
 
 
 class Orders:
@@ -35,12 +39,13 @@ class Orders:
         if self.chance(0.06):
             return [self.random.choice(OTHERS) for _ in range(self.random.choice([0, 1, 1, 2]))]
         command = self.random.choice(COMMANDS)
-        most = 5 if command == "compile" else 2
+        most = 5 if command in ("compile", "bench") else 2
         pieces = [self.option(command) for _ in range(self.random.choice([0, 0, 1, 1, 1, 2, most]))]
-        count = {"eval": 1, "run": self.random.randint(1, 3)}.get(command, 0)
+        count = {"eval": 1, "gen": 1, "bench": 1, "run": self.random.randint(1, 3)}.get(command, 0)
         if self.chance(0.1):
             count = self.random.randint(0, 2)
-        pieces += [[self.random.choice(POSITIONAL[:4] if self.chance(0.7) else POSITIONAL)] for _ in range(count)]
+        words = SIZES if command in NUMBERED else POSITIONAL
+        pieces += [[self.random.choice(words[:4] if self.chance(0.7) else words)] for _ in range(count)]
         if self.chance(0.2):
             pieces.append(["--"])
         if self.chance(0.05):

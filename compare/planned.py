@@ -108,13 +108,13 @@ class Budgets:
     def chance(self, probability: float) -> bool:
         return self.random.random() < probability
 
-    def options(self, run: Optional[Run]) -> List[str]:
+    def options(self, run: Optional[Run], has_format: bool = True) -> List[str]:
         plan = self.random.choice(PLANS + ["pebble"])
         borrow = self.random.choice([0, 1, 1, 2, 3, 5, 64]) if self.chance(0.3) else 0
         values = {"plan": plan} if plan != "auto" or self.chance(0.3) else {}
         if borrow or self.chance(0.05):
             values["borrow"] = borrow
-        if self.chance(0.2):
+        if has_format and self.chance(0.2):
             values["format"] = self.random.choice(["qasm", "qasm", "real"])
         rows = needs(run, plan, borrow) if run else [Row(8, 30)]
         row = self.random.choice(rows)

@@ -336,13 +336,27 @@ def split(gates: List[Gate], lines: int, limit: int) -> List[Gate]:
     return narrow
 
 
+class NoIdle(Exception):
+    """A flip of three or more controls uses every line."""
+
+
 def split_gate(gate: Gate, lines: int) -> List[Gate]:
-    (target,), controls = gate.targets, [line for line, _ in gate.controls]
-    negative = [flip(line) for line, bit in gate.controls if bit == 0]
+    if len(gate.targets) == 2:
+        first, second = gate.targets
+        outer = [flip(first, second)]
+        return outer + split_controls(gate.controls + [(first, 1)], second, lines) + outer
+    return split_controls(gate.controls, gate.targets[0], lines)
+
+
+def split_controls(literals: List[Tuple[int, int]], target: int, lines: int) -> List[Gate]:
+    controls = [line for line, _ in literals]
+    negative = [flip(line) for line, bit in literals if bit == 0]
     if len(controls) <= 2:
         return negative + [flip(target, *controls)] + negative
     used = {target, *controls}
     idle = [line for line in reversed(range(lines)) if line not in used]
+    if not idle:
+        raise NoIdle()
     return negative + split_flip(controls, target, idle) + negative
 
 

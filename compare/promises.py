@@ -6,20 +6,23 @@ from typing import Iterator, List
 import qasm
 import real
 from circuits import is_clean
-from commands import Answer, answer_of, budget_of, run_on_zeros
+from commands import READERS as CIRCUITS
+from commands import Answer, answer_of, budget_of, circuit_of, run_on_zeros
 from language import Program, Run, program_of
 from plans import Budget, Numbers
 from words import Order, order_of
 
-READERS = {"real": real.circuit_of, "qasm": qasm.circuit_of}
+READERS = {"real": real.circuit_of, "qasm": qasm.compiled_circuit_of}
 MOST_TRIED = 7  # bits of inputs and borrowed lines that are tried on all their values
 TRIED = 4
 
 
 def is_sound(words: List[str], text: bytes, answer: Answer) -> bool:
-    """A compiled file is clean and within its budgets, a refused budget is too small, and a printed input breaks the
-    claim."""
+    """A compiled file is clean and within its budgets, a refused budget is too small, a printed input breaks the claim,
+    and a converted circuit has the line map of its source."""
     order = order_of(words)
+    if order is not None and order.command == "convert" and answer.status == 0:
+        return is_same(circuit_of(order, text), CIRCUITS[order.values["to"]](answer.out))
     if order is None or order.command not in ("compile", "check"):
         return True
     if answer.status == 4:
@@ -36,6 +39,16 @@ def is_fitting(order: Order, program: Program, file: bytes) -> bool:
     budget, circuit = budget_of(order), READERS[order.values["format"]](file)
     fits = len(circuit.names) <= budget.lines and len(circuit.gates) <= budget.gates
     return fits and is_clean(circuit, program, budget.borrow, words_of(program.inputs + budget.borrow))
+
+
+def is_same(circuit: real.Circuit, other: real.Circuit) -> bool:
+    """Whether another circuit of narrow gates, on one line more at most, does on all words, or some, what a circuit does,
+    and leaves the line that was added as it was."""
+    lines, more = len(circuit.names), len(other.names) - len(circuit.names)
+    narrow = all(len(gate.targets) == 1 and len(gate.controls) <= 2 for gate in other.gates)
+    positive = all(bit == 1 for gate in other.gates for _, bit in gate.controls)
+    return more in (0, 1) and narrow and positive and all(
+        other.run(list(word)) == circuit.run(list(word[:lines])) + list(word[lines:]) for word in words_of(lines + more))
 
 
 def words_of(bits: int) -> Iterator[List[int]]:

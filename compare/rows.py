@@ -241,6 +241,42 @@ FILES = [
     ("stat", "", "revc: circuit line 1"),
 ]
 
+# ---- OpenQASM files, and files that are converted
+
+HEAD = 'OPENQASM 2.0;\ninclude "qelib1.inc";\n'
+SPREAD = HEAD + "qreg a[2];\nqreg b[2];\ncreg m[2];\nx a;\ncx a,b;\nbarrier a,b;\nccx a[0],a[1],b;\n"
+FULL = ".version 2.0\n.numvars 4\n.variables a b c d\n.begin\nt4 a b c d\n.end\n"
+ROOMY = FULL.replace("numvars 4", "numvars 5").replace("b c d\n.begin", "b c d e\n.begin")
+NAMES = " ".join("v%d" % line for line in range(16_384))
+WIDEST = ".numvars 16384\n.variables %s\n.begin\nt16384 %s\n.end\n" % (NAMES, NAMES)
+QASM_HEAD = 'OPENQASM 2.0;, include "qelib1.inc";, '
+
+OTHERS = [
+    ("stat --from qasm", SPREAD, "lines 4, gates 6, x 2, cx 2, ccx 2, wide 0, swap 0, depth 4"),
+    ("run --from qasm 0000 0110", SPREAD, "1100, 1000"),
+    ("stat --from=qasm", SPREAD.replace("cx a,b", "cx a,a"), "revc: circuit at 7:7"),
+    ("convert --from=qasm", SPREAD.replace("cx a,b", "cx a,b[2]"), "revc: circuit at 7:8"),
+    ("run --from qasm 1", HEAD + "qreg q[16385];\n", "revc: circuit at 3:8 over a limit"),
+    ("stat --from qasm", HEAD, "revc: circuit at 3:1"),
+    ("convert", FULL, QASM_HEAD + "qreg q[4];, qreg dirty[1];, ccx q[2],dirty[0],q[3];, ccx q[0],q[1],dirty[0];, "
+     "ccx q[2],dirty[0],q[3];, ccx q[0],q[1],dirty[0];"),
+    ("convert", ROOMY, QASM_HEAD + "qreg q[5];, ccx q[2],q[4],q[3];, ccx q[0],q[1],q[4];, ccx q[2],q[4],q[3];, "
+     "ccx q[0],q[1],q[4];"),
+    ("convert --to real", FULL, "l0 l1 l2 l3 l4: t3 l2 l4 l3, t3 l0 l1 l4, t3 l2 l4 l3, t3 l0 l1 l4"),
+    ("convert", WIDEST, "revc: lines 16385 over 16384"),
+]
+
+# ---- Adders
+
+ADDERS = [
+    ("gen 1", "", "main (a : bool[1]) (b : bool[1]) = {, let carry x y c = (x && y) <> (c && (x <> y));, "
+     "let s0 = a.[0] <> b.[0];, let c1 = a.[0] && b.[0];, reg [s0; c1], }"),
+    ("bench 2", "", "inputs 4, outputs 3, writes 8, width 5, lines 13, gates 57, depth 40"),
+    ("bench 1", "", "inputs 2, outputs 2, writes 2, width 2, lines 6, gates 8, depth 7"),
+    ("bench 16 --plan pebble", "", "inputs 32, outputs 17, writes 92, width 19, lines 141, gates 323, depth 99"),
+    ("bench 16 --plan pebble --lines 48", "", "revc: lines 49 over 48"),
+]
+
 # ---- Words
 
 BAD = "revc: bad command line"
@@ -302,7 +338,18 @@ WORDS = [(words, BITS + "a && b", worked) for words, worked in [
     ("eval -- --", "revc: bad bits in word 1"),
     ("eval -- -1", "revc: bad bits in word 1"),
     ("stat x", BAD),
-    ("stat --from qasm", BAD),
+    ("stat --from qasm", "revc: circuit at 1:1"),
+    ("stat --from x", BAD),
+    ("convert --to", BAD),
+    ("convert 1", BAD),
+    ("convert --format real", BAD),
+    ("gen", BAD),
+    ("gen 0", BAD),
+    ("gen 201", BAD),
+    ("gen 1 1", BAD),
+    ("gen --nodes 5 1", BAD),
+    ("bench 1 --format real", BAD),
+    ("bench --lines=3 1", "revc: lines 4 over 3"),
     ("stat --nodes 5", BAD),
     ("stat", "revc: circuit line 1"),
     ("run", BAD),
@@ -314,7 +361,7 @@ WORDS = [(words, BITS + "a && b", worked) for words, worked in [
 ]]
 
 COMPILE = [("compile", text, worked) for text, worked in COMPILED]
-WORKED = COMPILE + PLANNED + CHECKED + EVALUATED + FILES + WORDS
+WORKED = COMPILE + PLANNED + CHECKED + EVALUATED + FILES + OTHERS + ADDERS + WORDS
 
 
 def shown(answer: Answer) -> str:

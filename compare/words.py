@@ -7,11 +7,12 @@ DIGITS = set("0123456789")
 
 @dataclass
 class Order:
-    """A command, the values of its options, and its positional words."""
+    """A command, the values of its options, and its positional words, or the number that is its one."""
 
     command: str
     values: Dict[str, object]
     bits: List[str]
+    number: int = 0
 
 
 class Option(NamedTuple):
@@ -42,7 +43,10 @@ PLANNED = {
     "gates": number(1_000_000, 1, 4_000_000),
     "borrow": number(0, 0, 64),
 }
-FROM = {"from": choice("real")}
+FROM = {"from": choice("real", "qasm")}
+TO = {"to": choice("qasm", "real")}
+NUMBERED = {"gen", "bench"}
+BITS = number(0, 1, 200)
 
 # Of each command its options, and the least and most positional words
 COMMANDS = {
@@ -51,6 +55,9 @@ COMMANDS = {
     "eval": ({}, 1, 1),
     "stat": (FROM, 0, 0),
     "run": (FROM, 1, None),
+    "convert": ({**FROM, **TO}, 0, 0),
+    "gen": ({}, 1, 1),
+    "bench": ({**NODES, **{name: PLANNED[name] for name in PLANNED if name != "format"}}, 1, 1),
 }
 
 
@@ -80,4 +87,8 @@ def order_of(words: List[str]) -> Optional[Order]:
             return None
     if len(positional) < least or (most is not None and len(positional) > most):
         return None
-    return Order(words[0], {name: given.get(name, option.default) for name, option in options.items()}, positional)
+    values = {name: given.get(name, option.default) for name, option in options.items()}
+    if words[0] not in NUMBERED:
+        return Order(words[0], values, positional)
+    bits = BITS.read(positional[0])
+    return None if bits is None else Order(words[0], values, [], bits)
