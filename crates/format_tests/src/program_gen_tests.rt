@@ -1,0 +1,1 @@
+// The tests of program_gen.

@@ -1,0 +1,1 @@
+// The tests of array_shapes.
