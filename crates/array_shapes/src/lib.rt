@@ -8,6 +8,3 @@ mod value;
 
 pub use shapes::{ShapeFault, append, index, rotate, slice};
 pub use value::{Value, bit, register};
-
-#[cfg(test)]
-mod tests;

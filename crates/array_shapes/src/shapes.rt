@@ -1,5 +1,6 @@
 // Registers as lists of locations.
-ghost use Rattle.std.specs.Prelude.{◌≡◌, ◌+◌, ◌-◌, ◌<◌, ◌≤◌, ◌++◌, ◌↔◌, length, take, drop, slice_get, IfOk, IsErrOf};
+ghost use Rattle.std.specs.Prelude.{◌≡◌, ◌+◌, ◌-◌, ◌<◌, ◌≤◌, ◌++◌, ◌↔◌, length, take, drop};
+ghost use Rattle.std.specs.Prelude.{slice_get, IfOk, IsErrOf};
 ghost use Rattle.revs_terms.specs.declared.limits.TheConstants.{MOST_PLACES};
 
 use revs_terms::limits::MOST_PLACES;
@@ -29,7 +30,8 @@ impl From<AllocError> for ShapeFault {
     }
 }
 
-/// The location at place `i`, counted from 0, and `None` exactly where `i` is not below the length. It takes no memory.
+/// The location at place `i`, counted from 0, and `None` exactly where `i` is not below the length.
+/// It takes no memory.
 pub fn index(r: &[u32], i: u32) -> Option<u32>
     ensures { result ≡ slice_get r.now i }
 {
@@ -65,7 +67,8 @@ pub fn append(alloc: Global, a: &[u32], b: &[u32]) -> Result<Vec<u32>, ShapeFaul
     joined(alloc, a, b)
 }
 
-/// The places `i` to the last, then 0 to `i - 1`. `Rotate` exactly where `i` is not below the length.
+/// The places `i` to the last, then 0 to `i - 1`. `Rotate` exactly where `i` is not below the
+/// length.
 pub fn rotate(alloc: Global, i: u32, r: &[u32]) -> Result<Vec<u32>, ShapeFault>
     ensures ok { IfOk result (λ made. made.items ≡ drop i r.now ++ take i r.now) }
     ensures rotate { IsErrOf result ShapeFault.Rotate ↔ (length r.now ≤ i) }

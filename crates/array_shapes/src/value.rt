@@ -6,9 +6,10 @@ use revc_base::Memory;
 use revs_terms::Lambda;
 use std::rc::Rc;
 
-/// A value of a run. A location is a number, and stands for the bit in it. A function has the number of the environment
-/// that it was made in, how many of its names are taken, and its names and body. The locations of a register are shared, so
-/// that a copy takes the same time at any length.
+/// A value of a run. A location is a number, and stands for the bit in it. A function has the
+/// number of the environment that it was made in, how many of its names are taken, and its names
+/// and body. The locations of a register are shared, so that a copy takes the same time at any
+/// length.
 #[derive(Debug, Drop)]
 pub enum Value<'t> {
     Unit,

@@ -1,11 +1,14 @@
 -- Binding names changes nothing but the `back` of used names, and puts each in range.
-use Rattle.std.proofs.Common.{◌≡◌, ℕ, ◌+◌, ◌<◌, leb, max, Bool, true, ◌&&◌, Option, Some, None, List, [], ◌∷◌, length, position, bytes_eq, refl, ap, subst, arith, add-one}
+use Rattle.std.proofs.Common.{◌≡◌, ℕ, ◌+◌, ◌<◌, leb, max, Bool, true, ◌&&◌, Option, Some, None, List, [], ◌∷◌, length, position, bytes_eq, refl, ap, subst}
+use Rattle.std.proofs.Common.{arith, add-one}
 use Rattle.std.proofs.lemmas.Bool.{le-leb}
 use Rattle.std.proofs.lemmas.List.Quantifiers.{position-Some}
 use Rattle.revs_terms.specs.declared.term.Name.{Name}
-use Rattle.revs_terms.specs.Trees.{Tree, Trees, ItemTrees, used, bool, reg, block, function, parts, apply, append, rotate, clean, assert, ands, xors, assign, nil, cons, no_items, item, bind, run, list_of}
+use Rattle.revs_terms.specs.Trees.{Tree, Trees, ItemTrees, used, bool, reg, block, function, parts, apply, append, rotate, clean, assert, ands, xors, assign}
+use Rattle.revs_terms.specs.Trees.{nil, cons, no_items, item, bind, run, list_of}
 use Rattle.revs_terms.specs.Scopes.{Scoped, unbound, scoped, bound_name, nearer, scoped_tree, scoped_trees, scoped_items}
-use Rattle.revs_terms.specs.Terms.{has_one, has_two, is_formed, are_formed, items_are_formed, form_of, levels_as, levels_of, levels_of_all, levels_of_item, levels_of_items, names_of, names_of_all, names_of_items, base, atom, application, product, sum, expression}
+use Rattle.revs_terms.specs.Terms.{has_one, has_two, is_formed, are_formed, items_are_formed, form_of, levels_as, levels_of, levels_of_all, levels_of_item}
+use Rattle.revs_terms.specs.Terms.{levels_of_items, names_of, names_of_all, names_of_items, base, atom, application, product, sum, expression}
 use Rattle.std.proofs.lemmas.Bool.{and_from}
 use Rattle.name_scope.specs.Bound.{is_bound, are_bound, items_are_bound, bindings_of}
 use Rattle.name_scope.proofs.VerdictLemmas.{first_is_bound}

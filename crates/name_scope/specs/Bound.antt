@@ -1,6 +1,7 @@
 -- Whether each used name in a tree is bound to one of the names in scope.
 use Rattle.std.specs.Prelude.{ℕ, ◌+◌, leb, Bool, true, ◌&&◌, length}
-use Rattle.revs_terms.specs.Trees.{Tree, Trees, ItemTrees, used, bool, reg, block, function, parts, apply, append, rotate, clean, assert, ands, xors, assign, nil, cons, bind, run, no_items, item}
+use Rattle.revs_terms.specs.Trees.{Tree, Trees, ItemTrees, used, bool, reg, block, function, parts, apply, append, rotate, clean, assert, ands, xors, assign}
+use Rattle.revs_terms.specs.Trees.{nil, cons, bind, run, no_items, item}
 
 -- how many names the items of a block bind
 abbrev pub bindings_of : ItemTrees → ℕ

@@ -32,16 +32,18 @@ impl From<Memory> for ScopeFault {
     }
 }
 
-/// Binds the names of a program: the `back` of each used name becomes the number of bindings between the use and its own
-/// binding. All else stays as it is.
+/// Binds the names of a program: the `back` of each used name becomes the number of bindings
+/// between the use and its own binding. All else stays as it is.
 ///
-/// A parameter is bound in the whole body, a function's names in its body, the last one nearest, and the name of a `let` in
-/// the later items and in the last expression of its block. A nearer binding hides a farther one.
+/// A parameter is bound in the whole body, a function's names in its body, the last one nearest,
+/// and the name of a `let` in the later items and in the last expression of its block. A nearer
+/// binding hides a farther one.
 ///
 /// # Errors
 ///
-/// The first in the order of the text: [`ScopeFault::TwoParams`] at the second of two parameters of one name, and
-/// [`ScopeFault::Unbound`] at a used name that has no binding. [`ScopeFault::Memory`] where there is no memory.
+/// The first in the order of the text: [`ScopeFault::TwoParams`] at the second of two parameters of
+/// one name, and [`ScopeFault::Unbound`] at a used name that has no binding. [`ScopeFault::Memory`]
+/// where there is no memory.
 pub fn scope(alloc: Global, program: Program) -> Result<Scoped, ScopeFault>
     ensures { Answers result program.params.items
         (scope_verdict program.params.items (tree_of program.body)) }
@@ -53,8 +55,8 @@ pub fn scope(alloc: Global, program: Program) -> Result<Scoped, ScopeFault>
     Ok(Scoped::new(Program { params, body }))
 }
 
-/// A used name is bound to the nearest binding of its name: the binding at its `back` has its name, and no nearer one has. A
-/// name is unbound only where no binding in scope has its name.
+/// A used name is bound to the nearest binding of its name: the binding at its `back` has its name,
+/// and no nearer one has. A name is unbound only where no binding in scope has its name.
 pub fn nearest_binding()
     ensures bound { BindsToNearest }
     ensures unbound { UnboundHasNone }

@@ -8,6 +8,3 @@ mod terms;
 
 pub use binding::{ScopeFault, nearest_binding, scope};
 pub use program::Scoped;
-
-#[cfg(test)]
-mod tests;

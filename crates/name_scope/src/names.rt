@@ -1,5 +1,6 @@
 // The names in scope.
-ghost use Rattle.std.specs.Prelude.{◌≡◌, ◌≤◌, ◌∷◌, ◌-◌, List, [], drop, length, position, bytes_eq, OnOk};
+ghost use Rattle.std.specs.Prelude.{◌≡◌, ◌≤◌, ◌∷◌, ◌-◌, List, [], drop, length, position, bytes_eq};
+ghost use Rattle.std.specs.Prelude.{OnOk};
 ghost use Rattle.indexmap.specs.IndexMap.{get};
 ghost use Rattle.revs_terms.specs.Scopes.{nearer};
 ghost use Rattle.name_scope.specs.inside.Bindings.{held};
@@ -10,7 +11,8 @@ use revs_terms::Name;
 use std::alloc::Global;
 use std::marker::Model;
 
-/// A name that was bound, with the depth at which the nearest one of the same name was bound before it.
+/// A name that was bound, with the depth at which the nearest one of the same name was bound before
+/// it.
 #[derive(Debug, Drop)]
 pub struct Bound {
     pub name: Text,
@@ -19,7 +21,8 @@ pub struct Bound {
 
 /// The names in scope, with their nesting. Contracts see them as a list, the nearest first.
 ///
-/// A table holds the depth at which each name was bound nearest, so that a look-up takes the same time at any depth.
+/// A table holds the depth at which each name was bound nearest, so that a look-up takes the same
+/// time at any depth.
 #[derive(Drop)]
 pub struct Names {
     bound: Vec<Bound>,

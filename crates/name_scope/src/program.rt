@@ -26,7 +26,8 @@ impl Scoped {
     /// The program. It takes no memory.
     pub fn program(&self) -> &Program
         ensures same { result.now ≡ self.now.program }
-        ensures bound { IsTrue (is_bound (length result.now.params.items) (tree_of result.now.body)) }
+        ensures bound { IsTrue
+            (is_bound (length result.now.params.items) (tree_of result.now.body)) }
         ensures inputs { AreParams result.now.params.items }
         ensures formed { IsBody (tree_of result.now.body) }
         ensures few_names { HasFewNames result.now.params.items (tree_of result.now.body) }

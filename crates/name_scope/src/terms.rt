@@ -1,6 +1,7 @@
 // The names of parameters and terms are bound.
 ghost use Rattle.std.specs.Prelude.{◌≡◌, ◌<◌, ◌+◌, ◌^◌, length, map, OnOk, IsErrOf};
-ghost use Rattle.revs_terms.specs.Scopes.{bound_name, nearer, second_of, scoped_tree, scoped_trees, scoped_items};
+ghost use Rattle.revs_terms.specs.Scopes.{bound_name, nearer, second_of, scoped_tree, scoped_trees};
+ghost use Rattle.revs_terms.specs.Scopes.{scoped_items};
 ghost use Rattle.revs_terms.specs.Terms.{names_of, names_of_all, names_of_item, names_of_items};
 ghost use Rattle.revs_terms.specs.Trees.{tree_of, trees, item_tree_of, item_trees, no_items};
 ghost use Rattle.revs_terms.specs.Trees as shape;

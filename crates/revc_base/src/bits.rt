@@ -1,6 +1,7 @@
 // Bit words.
 ghost use Rattle.std.specs.List.{AllByRecursion};
-ghost use Rattle.std.specs.Prelude.{◌≡◌, ◌↔◌, ◌==◌, ◌<◌, ◌^◌, length, map, IfOk, IfSome, IfNone, IsErrOf, IsTrue};
+ghost use Rattle.std.specs.Prelude.{◌≡◌, ◌↔◌, ◌==◌, ◌<◌, ◌^◌, length, map, IfOk, IfSome, IfNone};
+ghost use Rattle.std.specs.Prelude.{IsErrOf, IsTrue};
 ghost use Rattle.revc_base.specs.Bits.{IsDigit, IsWordOf, IsFirstOther};
 
 use crate::Memory;

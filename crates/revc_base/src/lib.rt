@@ -1,5 +1,5 @@
-//! What every crate of the compiler shares: want of memory, short texts, places in a source text, bit words, the
-//! limits of programs, and the tape of a program's run.
+//! What every crate of the compiler shares: want of memory, short texts, places in a source text,
+//! bit words, the limits of programs, and the tape of a program's run.
 #![tactic(auto)]
 
 mod bits;
@@ -22,6 +22,3 @@ pub use place::Place;
 pub use running::TapeEnd;
 pub use tape::{Claim, Entry, Kind, Ref, Tape};
 pub use text::Text;
-
-#[cfg(test)]
-mod tests;

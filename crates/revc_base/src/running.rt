@@ -1,8 +1,10 @@
 // The run of a tape on an input.
-ghost use Rattle.std.specs.Prelude.{◌≡◌, ◌↔◌, ◌≤◌, [], length, map, sum, IsTrue, IfOk, IfSome, IfNone};
+ghost use Rattle.std.specs.Prelude.{◌≡◌, ◌↔◌, ◌≤◌, [], length, map, sum, IsTrue, IfOk, IfSome};
+ghost use Rattle.std.specs.Prelude.{IfNone};
 ghost use Rattle.std.specs.List.{AllByRecursion};
 ghost use Rattle.revc_base.specs.declared.limits.TheConstants.{MOST_CLAIMS};
-ghost use Rattle.revc_base.specs.Tapes.{IsEndOf, IsFirstFailing, IsMet, bit_of, bit_at, claimed, entry_bit, written_by};
+ghost use Rattle.revc_base.specs.Tapes.{IsEndOf, IsFirstFailing, IsMet, bit_of, bit_at, claimed};
+ghost use Rattle.revc_base.specs.Tapes.{entry_bit, written_by};
 
 use crate::{Bits, Claim, Entry, Kind, Memory, Ref, Tape};
 use std::alloc::Global;
@@ -106,8 +108,9 @@ impl Tape {
         Ok(written)
     }
 
-    /// How the run of the tape ends on an input: with the output bits where every claim holds, else at the first claim
-    /// that fails. The bits of the input are those of the parameters in order, each from place 0 upwards.
+    /// How the run of the tape ends on an input: with the output bits where every claim holds, else
+    /// at the first claim that fails. The bits of the input are those of the parameters in order,
+    /// each from place 0 upwards.
     pub fn run(&self, input: &[bool]) -> Result<TapeEnd, Memory>
         requires { length input.now ≡ sum self.now.params }
         ensures { IfOk result (λ end. IsEndOf self.now input.now end) }

@@ -1,8 +1,10 @@
 // The writes of a program's run, with its claims and its outputs.
-ghost use Rattle.std.specs.Prelude.{◌≡◌, ◌+◌, ◌<◌, ◌≤◌, ◌∷◌, [], ◌++◌, length, sum, slice_get, Some, IfOk, OnOk, OnErr};
+ghost use Rattle.std.specs.Prelude.{◌≡◌, ◌+◌, ◌<◌, ◌≤◌, ◌∷◌, [], ◌++◌, length, sum, slice_get};
+ghost use Rattle.std.specs.Prelude.{Some, IfOk, OnOk, OnErr};
 ghost use Rattle.std.specs.List.{AllByRecursion};
 ghost use Rattle.revc_base.specs.Tapes.{AreWidths, IsKnown, IsKnownEntry, IsTape};
-ghost use Rattle.revc_base.specs.declared.limits.TheConstants.{MOST_CLAIMS, MOST_OUTPUTS, MOST_WRITES};
+ghost use Rattle.revc_base.specs.declared.limits.TheConstants.{MOST_CLAIMS, MOST_OUTPUTS};
+ghost use Rattle.revc_base.specs.declared.limits.TheConstants.{MOST_WRITES};
 
 use crate::{Memory, Place};
 use std::alloc::Global;
@@ -38,8 +40,9 @@ pub struct Claim {
     pub at: Place,
 }
 
-/// The writes of a run, each made of inputs and of earlier writes, with the claims and the outputs of the program.
-/// Contracts see it as the widths of the parameters and the lists of writes, claims and outputs.
+/// The writes of a run, each made of inputs and of earlier writes, with the claims and the outputs
+/// of the program. Contracts see it as the widths of the parameters and the lists of writes, claims
+/// and outputs.
 ///
 /// It keeps at most 1,024 inputs, 262,144 writes, 4,096 claims and 1,024 outputs.
 #[derive(Debug, Drop)]
@@ -73,7 +76,8 @@ impl Model for Tape {
 }
 
 impl Tape {
-    /// The tape of a program with parameters of these widths, without writes, claims and outputs. It takes no memory.
+    /// The tape of a program with parameters of these widths, without writes, claims and outputs.
+    /// It takes no memory.
     pub fn new(alloc: Global, params: Vec<u32>) -> Tape
         requires { AreWidths params.items }
         ensures { result ≡ record {

@@ -52,12 +52,13 @@ impl Tape {
         Ok(marks)
     }
 
-    /// The width of the tape: the greatest number, over j from 0 to the number of writes, of writes below j that are an
-    /// output or an operand of a write at or above j.
+    /// The width of the tape: the greatest number, over j from 0 to the number of writes, of writes
+    /// below j that are an output or an operand of a write at or above j.
     pub fn width(&self) -> Result<u64, Memory>
         ensures { IfOk result (λ width. HasWidth self.now width) }
     {
-        // From the last place down: what is marked is needed at the place or later, and stands below it.
+        // From the last place down: what is marked is needed at the place or later, and stands
+        // below it.
         let mut marks = self.output_marks()?;
         let mut live = count_marks(&marks);
         let mut width = live;

@@ -1,10 +1,12 @@
 -- What a token's first byte says of the token.
-use Rattle.std.proofs.Common.{◌≡◌, ◌≢◌, ℕ, ◌≤◌, ◌<◌, true, false, ◌||◌, cond, List, [], ◌∷◌, length, Option, Some, None, refl, ap, sym, ◌∙◌, subst, ◌⊎◌, ⊎_elim, arith}
+use Rattle.std.proofs.Common.{◌≡◌, ◌≢◌, ℕ, ◌≤◌, ◌<◌, true, false, ◌||◌, cond, List, [], ◌∷◌, length, Option, Some, None, refl, ap, sym, ◌∙◌, subst, ◌⊎◌, ⊎_elim}
+use Rattle.std.proofs.Common.{arith}
 use Rattle.std.specs.Prelude.{nat_le, ◌==◌}
 use Rattle.std.specs.List.{list_all}
 use Rattle.std.specs.Char.{is_ascii_digit}
 use Rattle.std.specs.Str.Parse.{IsNumeral, digits_value}
-use Rattle.std.proofs.lemmas.Bool.{false≢true, and_parts, leb-true, leb-false, eqb-false, and_from, or_left, or_parts, cond-true, cond-false, false_from_ne_true}
+use Rattle.std.proofs.lemmas.Bool.{false≢true, and_parts, leb-true, leb-false, eqb-false, and_from, or_left, or_parts, cond-true, cond-false}
+use Rattle.std.proofs.lemmas.Bool.{false_from_ne_true}
 use Rattle.text_places.specs.Bytes.{is_blank, is_letter, is_name_byte}
 use Rattle.text_places.proofs.ByteLemmas.{letter_is_high, blank_is_low, no_letter_digit, first_of}
 use Rattle.text_places.proofs.DigitLemmas.{digit_in_range, small_digit_value, all_digits}

@@ -1,5 +1,6 @@
 -- The longest token at the front of a text: there is at most one, and it is the run that its first byte begins, or a sign.
-use Rattle.std.proofs.Common.{◌≡◌, ℕ, ◌<◌, Bool, true, false, List, [], ◌∷◌, ◌++◌, length, take, drop, Some, None, refl, ap, sym, ◌∙◌, subst, inl, inr, ⊎_elim, arith}
+use Rattle.std.proofs.Common.{◌≡◌, ℕ, ◌<◌, Bool, true, false, List, [], ◌∷◌, ◌++◌, length, take, drop, Some, None, refl, ap, sym, ◌∙◌, subst, inl, inr, ⊎_elim}
+use Rattle.std.proofs.Common.{arith}
 use Rattle.std.specs.List.{list_all, prefix_len}
 use Rattle.std.specs.Char.{is_ascii_digit}
 use Rattle.std.specs.Str.Parse.{AllDigits, IsNumeral, digits_value}
@@ -18,7 +19,8 @@ use Rattle.revs_lexer.specs.declared.token.Tok.TheVariants as toks
 use Rattle.revs_lexer.proofs.TableLemmas.{sign_at, sign_at-some, sign_at-longest, sign_at-none}
 use Rattle.text_places.proofs.ByteLemmas.{first_of, same_first}
 use Rattle.text_places.proofs.DigitLemmas.{AllDigits-from_all}
-use Rattle.revs_lexer.proofs.FirstByteLemmas.{word_is_short, some_spelled, identifier_goes_on, spelled_by_letter, spelled_by_digit, spelled_by_other, spelled_by_blank, same_spelled}
+use Rattle.revs_lexer.proofs.FirstByteLemmas.{word_is_short, some_spelled, identifier_goes_on, spelled_by_letter, spelled_by_digit, spelled_by_other}
+use Rattle.revs_lexer.proofs.FirstByteLemmas.{spelled_by_blank, same_spelled}
 use Rattle.text_places.proofs.RunLemmas.{front_in_run, prefix_len-yes, run_of, some_run, same_split}
 use Rattle.text_places.proofs.GapLemmas.{gap_begins}
 

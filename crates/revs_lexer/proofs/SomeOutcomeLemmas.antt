@@ -1,5 +1,6 @@
 -- Each text is cut in some way: what stands at its front is a gap, a token or refused.
-use Rattle.std.proofs.Common.{◌≡◌, ℕ, zero, suc, ◌<◌, ◌≤◌, true, false, List, [], ◌∷◌, ◌++◌, length, take, drop, Option, Some, None, nat_eq, refl, sym, ap, ◌∙◌, ◌⊎◌, inl, inr, arith}
+use Rattle.std.proofs.Common.{◌≡◌, ℕ, zero, suc, ◌<◌, ◌≤◌, true, false, List, [], ◌∷◌, ◌++◌, length, take, drop, Option, Some, None, nat_eq, refl, sym, ap, ◌∙◌}
+use Rattle.std.proofs.Common.{◌⊎◌, inl, inr, arith}
 use Rattle.std.specs.Prelude.{codes}
 use Rattle.std.specs.Char.{is_ascii_digit}
 use Rattle.std.specs.List.{prefix_len, starts_with}
@@ -20,7 +21,8 @@ use Rattle.revs_lexer.specs.declared.token.Tok.TheVariants as toks
 use Rattle.revs_lexer.specs.declared.token.Token.{Token}
 use Rattle.text_places.proofs.ByteLemmas.{first_of}
 use Rattle.text_places.proofs.GapLemmas.{in_line, some_gap, blank_at_front, comment_at_front, no_gap_at_front}
-use Rattle.revs_lexer.proofs.LongestLemmas.{some_longest, identifier_at_front, longest_name, long_name_at_front, numeral_at_front, longest_number, long_number_at_front, longest_sign, no_token, bad_byte_at_front}
+use Rattle.revs_lexer.proofs.LongestLemmas.{some_longest, identifier_at_front, longest_name, long_name_at_front, numeral_at_front, longest_number}
+use Rattle.revs_lexer.proofs.LongestLemmas.{long_number_at_front, longest_sign, no_token, bad_byte_at_front}
 use Rattle.text_places.proofs.RunLemmas.{run_of}
 use Rattle.revs_lexer.proofs.TableLemmas.{word_of, word_of-some, word_of-none, sign_at}
 

@@ -1,12 +1,15 @@
 // One pass over the bytes of a text, piece by piece.
-ghost use Rattle.std.specs.Prelude.{◌≡◌, ◌≢◌, ◌⊎◌, ◌+◌, ◌<◌, ◌≤◌, ◌^◌, List, take, drop, length, IfOk, IfErr, IsErrOf, MatchResult, IsTrue, nat_eq, OnErr};
+ghost use Rattle.std.specs.Prelude.{◌≡◌, ◌≢◌, ◌⊎◌, ◌+◌, ◌<◌, ◌≤◌, ◌^◌, List, take, drop, length};
+ghost use Rattle.std.specs.Prelude.{IfOk, IfErr, IsErrOf, MatchResult, IsTrue, nat_eq, OnErr};
 ghost use Rattle.std.specs.List.{find, starts_with};
 ghost use Rattle.std.specs.Str.{bytes_eq};
 ghost use Rattle.revc_base.specs.declared.limits.TheConstants.{MOST_NAME_BYTES};
 ghost use Rattle.text_places.specs.Gaps.{HasNoGap};
 ghost use Rattle.revs_lexer.specs.inside.Pieces.{Takes};
-ghost use Rattle.revs_lexer.specs.Spelling.{word_text, sign_text, is_identifier, Spells, IsWithinLimits};
-ghost use Rattle.revs_lexer.specs.Tokens.{IsLongest, Refuses, IsTokens, IsRefused, closed, IsEnded, OneOutcome, SomeOutcome};
+ghost use Rattle.revs_lexer.specs.Spelling.{word_text, sign_text, is_identifier, Spells};
+ghost use Rattle.revs_lexer.specs.Spelling.{IsWithinLimits};
+ghost use Rattle.revs_lexer.specs.Tokens.{IsLongest, Refuses, IsTokens, IsRefused, closed, IsEnded};
+ghost use Rattle.revs_lexer.specs.Tokens.{OneOutcome, SomeOutcome};
 ghost use Rattle.revs_lexer.specs.declared.sign.Sign.{Sign};
 ghost use Rattle.revs_lexer.specs.declared.token.LexFault.{LexFault};
 ghost use Rattle.revs_lexer.specs.declared.token.Token.{Token};
@@ -80,7 +83,8 @@ fn token(alloc: Global, text: &[u8], at: Place) -> Result<(Tok, usize), LexFault
     }
 }
 
-// Takes the piece at the front of the text, and keeps it where it is a token. The result is its length.
+// Takes the piece at the front of the text, and keeps it where it is a token. The result is its
+// length.
 fn take_piece(tokens: &mut Vec<Token>, text: &[u8], at: Place) -> Result<usize, LexFault>
     requires { 0 < length text.now }
     ensures in_range { IfOk result (λ len. (0 < len) × (len ≤ length text.now)) }
@@ -118,10 +122,11 @@ fn cut(alloc: Global, text: &[u8]) -> Result<Vec<Token>, LexFault>
     Ok(tokens)
 }
 
-/// The tokens of the text, each with the place of its first byte, and then `End` at the place after the last byte.
+/// The tokens of the text, each with the place of its first byte, and then `End` at the place after
+/// the last byte.
 ///
-/// Lines and columns are counted from 1, a column in bytes; a line feed ends a line. The longest token is taken at each
-/// place. The first place at which the text cannot be cut so is refused.
+/// Lines and columns are counted from 1, a column in bytes; a line feed ends a line. The longest
+/// token is taken at each place. The first place at which the text cannot be cut so is refused.
 pub fn tokens(alloc: Global, text: &[u8]) -> Result<Vec<Token>, LexFault>
     requires { length text.now + 1 < 2 ^ 32 }
 

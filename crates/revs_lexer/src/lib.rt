@@ -1,7 +1,7 @@
 //! The tokens of a program text, each with its place.
 //!
-//! A text is any bytes. It is cut from the front into blanks, comments and longest tokens; what cannot be cut further is
-//! refused at its place.
+//! A text is any bytes. It is cut from the front into blanks, comments and longest tokens; what
+//! cannot be cut further is refused at its place.
 #![tactic(auto)]
 
 mod lexer;
@@ -13,6 +13,3 @@ pub use lexer::{MOST_DIGITS, one_outcome, some_outcome, tokens};
 pub use sign::Sign;
 pub use token::{LexFault, Tok, Token};
 pub use word::Word;
-
-#[cfg(test)]
-mod tests;

@@ -1,6 +1,7 @@
 -- The run without bits and the run on an input, side by side: both are stuck alike, or both go on with the same answer, the same log and
 -- the same stamps, and each bit is the bit of its stamp.
-use Rattle.std.proofs.Common.{◌≡◌, ℕ, zero, suc, ◌+◌, ◌-◌, ◌≤◌, leb, Bool, true, false, ◌&&◌, List, [], ◌∷◌, ◌++◌, length, take, drop, refl, sym, ap, ◌∙◌, subst, arith}
+use Rattle.std.proofs.Common.{◌≡◌, ℕ, zero, suc, ◌+◌, ◌-◌, ◌≤◌, leb, Bool, true, false, ◌&&◌, List, [], ◌∷◌, ◌++◌, length, take, drop, refl, sym, ap, ◌∙◌}
+use Rattle.std.proofs.Common.{subst, arith}
 use Rattle.std.specs.Prelude.{Option, Some, None, slice_get}
 use Rattle.std.specs.Bool.{xor}
 use Rattle.std.proofs.lemmas.List.{length-append}
@@ -17,9 +18,12 @@ use Rattle.revc_base.specs.Tapes.{bit_at, entry_bit, written_by, IsKnown, IsKnow
 use Rattle.revc_base.proofs.TapeLemmas.{IsKnown-later, AreKnown-push}
 use Rattle.revs_terms.specs.declared.term.Part.{Part}
 use Rattle.revs_terms.specs.declared.term.Part.TheVariants as part
-use Rattle.revs_terms.specs.Trees.{Tree, ItemTree, list_of, items_of, used, bool, reg, block, function, parts, apply, append, rotate, clean, assert, ands, xors, assign, bind, run}
+use Rattle.revs_terms.specs.Trees.{Tree, ItemTree, list_of, items_of, used, bool, reg, block, function, parts, apply, append, rotate, clean, assert, ands, xors}
+use Rattle.revs_terms.specs.Trees.{assign, bind, run}
 use Rattle.revs_terms.specs.Terms.{place_of}
-use Rattle.revs_terms.specs.Running.{Value, unit, bit, register, closure, Environment, bound, value_at, bound_length, Stamped, Met, State, Outcome, stuck, went, after, provided, given, worked, registered, written, read, as_bit, as_register, bit_of, bits_of, block_of, part_of, parts_of, apply_to, apply_all, left_by, claimed, chain_of, chain, term_of, run_of}
+use Rattle.revs_terms.specs.Running.{Value, unit, bit, register, closure, Environment, bound, value_at, bound_length, Stamped, Met, State, Outcome, stuck, went}
+use Rattle.revs_terms.specs.Running.{after, provided, given, worked, registered, written, read, as_bit, as_register, bit_of, bits_of, block_of, part_of}
+use Rattle.revs_terms.specs.Running.{parts_of, apply_to, apply_all, left_by, claimed, chain_of, chain, term_of, run_of}
 use Rattle.revs_terms.specs.Runs.{no_bits, real_bits}
 use Rattle.revs_terms.proofs.PairedLemmas.{OptionPaired, Paired, option_weaker, weaker, pushed, same_length, stored, found}
 use Rattle.revs_terms.proofs.LogLemmas.{bit_at-push, bit_at-newest}

@@ -1,5 +1,6 @@
 -- The start and the end of the two runs side by side, and what this says of the tape that they leave.
-use Rattle.std.proofs.Common.{◌≡◌, ℕ, suc, ◌+◌, ◌≤◌, leb, Bool, true, false, List, [], ◌∷◌, ◌++◌, length, map, sum, replicate, refl, sym, ap, ◌∙◌, subst, arith, append_assoc}
+use Rattle.std.proofs.Common.{◌≡◌, ℕ, suc, ◌+◌, ◌≤◌, leb, Bool, true, false, List, [], ◌∷◌, ◌++◌, length, map, sum, replicate, refl, sym, ap, ◌∙◌, subst, arith}
+use Rattle.std.proofs.Common.{append_assoc}
 use Rattle.std.specs.List.{AllByRecursion, list_all}
 use Rattle.std.proofs.lemmas.Bool.{leb-true}
 use Rattle.std.proofs.lemmas.List.{get_or_at, length-append, length-map, length-replicate}
@@ -13,10 +14,12 @@ use Rattle.revs_terms.specs.Programs.{widths_of, AreParams}
 use Rattle.revs_terms.specs.Trees.{Tree}
 use Rattle.revs_terms.specs.Terms.{place_of}
 use Rattle.revs_terms.specs.Running.{Value, unit, bit, register, closure, nothing, Stamped, Met, State, Outcome, stuck, went, after, run_of}
-use Rattle.revs_terms.specs.Runs.{inputs_from, start, params_in, locations_of, read_all, no_bits, real_bits, nothings, run_of_program, run_without_bits, IsInput, LeavesOn, tape_of, SameForAll, LeavesTape}
+use Rattle.revs_terms.specs.Runs.{inputs_from, start, params_in, locations_of, read_all, no_bits, real_bits, nothings, run_of_program, run_without_bits}
+use Rattle.revs_terms.specs.Runs.{IsInput, LeavesOn, tape_of, SameForAll, LeavesTape}
 use Rattle.std.proofs.lemmas.Bool.{and_parts}
 use Rattle.revs_terms.proofs.PairedLemmas.{OptionPaired, Paired, same_length}
-use Rattle.revs_terms.proofs.BitlessRunLemmas.{IsAlike, IsAlikeClaim, AreAlike, Answers, GoTogether, both_stuck, next, next_with, answers, both_provided, both_read, both_run_of}
+use Rattle.revs_terms.proofs.BitlessRunLemmas.{IsAlike, IsAlikeClaim, AreAlike, Answers, GoTogether, both_stuck, next, next_with, answers, both_provided}
+use Rattle.revs_terms.proofs.BitlessRunLemmas.{both_read, both_run_of}
 use Rattle.revs_terms.specs.declared.cause.Cause.{Cause}
 use Rattle.revs_terms.specs.declared.cause.Cause.TheVariants as causes
 

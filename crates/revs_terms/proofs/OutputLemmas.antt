@@ -1,5 +1,6 @@
 -- The registers of a run have a place at least, so a program has an output.
-use Rattle.std.proofs.Common.{◌≡◌, ℕ, zero, suc, ◌+◌, ◌-◌, ◌≤◌, leb, Bool, true, false, ◌&&◌, List, [], ◌∷◌, ◌++◌, length, take, drop, sum, refl, ap, subst, arith}
+use Rattle.std.proofs.Common.{◌≡◌, ℕ, zero, suc, ◌+◌, ◌-◌, ◌≤◌, leb, Bool, true, false, ◌&&◌, List, [], ◌∷◌, ◌++◌, length, take, drop, sum, refl, ap, subst}
+use Rattle.std.proofs.Common.{arith}
 use Rattle.std.specs.Prelude.{Option, Some, None, slice_get, ⊤}
 use Rattle.std.specs.List.{AllByRecursion, list_all}
 use Rattle.std.proofs.lemmas.Bool.{leb-true}
@@ -13,9 +14,12 @@ use Rattle.revs_terms.specs.declared.program.Param.{Param}
 use Rattle.revs_terms.specs.declared.term.Part.{Part}
 use Rattle.revs_terms.specs.declared.term.Part.TheVariants as part
 use Rattle.revs_terms.specs.Programs.{width_of, widths_of}
-use Rattle.revs_terms.specs.Trees.{Tree, Trees, ItemTree, ItemTrees, list_of, items_of, used, bool, reg, block, function, parts, apply, append, rotate, clean, assert, ands, xors, assign, nil, cons, bind, run, no_items, item}
+use Rattle.revs_terms.specs.Trees.{Tree, Trees, ItemTree, ItemTrees, list_of, items_of, used, bool, reg, block, function, parts, apply, append, rotate, clean}
+use Rattle.revs_terms.specs.Trees.{assert, ands, xors, assign, nil, cons, bind, run, no_items, item}
 use Rattle.revs_terms.specs.Terms.{place_of, has_one, is_formed, are_formed, item_is_formed, items_are_formed}
-use Rattle.revs_terms.specs.Running.{Value, unit, bit, register, closure, Environment, nothing, bound, value_at, bound_length, Bits, Stamped, State, Outcome, stuck, went, after, provided, given, worked, registered, written, read, as_register, bit_of, bits_of, block_of, part_of, parts_of, apply_to, apply_all, claimed, chain_of, chain, term_of, run_of}
+use Rattle.revs_terms.specs.Running.{Value, unit, bit, register, closure, Environment, nothing, bound, value_at, bound_length, Bits, Stamped, State, Outcome}
+use Rattle.revs_terms.specs.Running.{stuck, went, after, provided, given, worked, registered, written, read, as_register, bit_of, bits_of, block_of, part_of}
+use Rattle.revs_terms.specs.Running.{parts_of, apply_to, apply_all, claimed, chain_of, chain, term_of, run_of}
 use Rattle.revs_terms.specs.Runs.{start, from, param_value, params_in, locations_of, read_all, no_bits, nothings, run_without_bits, HasOutputs}
 use Rattle.std.proofs.lemmas.Bool.{and_parts}
 use Rattle.revs_terms.specs.declared.cause.Cause.{Cause}

@@ -3,7 +3,8 @@ use Rattle.std.proofs.Common.{◌≡◌, ℕ, Bool, map, sym, ap, ◌∙◌}
 use Rattle.std.specs.Prelude.{Vec, Box}
 use Rattle.std.specs.Global.{Global}
 use Rattle.revc_base.specs.declared.place.Place.{Place}
-use Rattle.revs_terms.specs.Trees.{ItemTree, Tree, FunctionTree, used, bool, reg, block, function, parts, apply, append, rotate, clean, assert, ands, xors, assign, bind, run, trees, item_trees, item_step, tree_step, function_step, tree_of, item_tree_of}
+use Rattle.revs_terms.specs.Trees.{ItemTree, Tree, FunctionTree, used, bool, reg, block, function, parts, apply, append, rotate, clean, assert, ands, xors}
+use Rattle.revs_terms.specs.Trees.{assign, bind, run, trees, item_trees, item_step, tree_step, function_step, tree_of, item_tree_of}
 use Rattle.revs_terms.specs.declared.term.Name.{Name}
 use Rattle.revs_terms.specs.declared.term.Part.{Part}
 use Rattle.revs_terms.specs.declared.term.Lambda.{Lambda, fold_out-Lambda}

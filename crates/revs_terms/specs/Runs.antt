@@ -10,7 +10,8 @@ use Rattle.revs_terms.specs.declared.program.Param.{Param}
 use Rattle.revs_terms.specs.Programs.{width_of, widths_of, AreParams}
 use Rattle.revs_terms.specs.Terms.{place_of, is_formed}
 use Rattle.revs_terms.specs.Trees.{Tree}
-use Rattle.revs_terms.specs.Running.{Value, bit, register, Environment, nothing, bound, Bits, Stamped, State, Outcome, stuck, went, after, provided, read, run_of}
+use Rattle.revs_terms.specs.Running.{Value, bit, register, Environment, nothing, bound, Bits, Stamped, State, Outcome, stuck, went, after, provided, read}
+use Rattle.revs_terms.specs.Running.{run_of}
 use Rattle.revs_terms.specs.declared.cause.Cause.{Cause}
 use Rattle.revs_terms.specs.declared.cause.Cause.TheVariants as causes
 

@@ -3,7 +3,8 @@ use Rattle.std.specs.Prelude.{◌≡◌, ◌≢◌, ◌<◌, ℕ, Option, Some, 
 use Rattle.revc_base.specs.declared.place.Place.{Place}
 use Rattle.revs_terms.specs.declared.term.Name.{Name}
 use Rattle.revs_terms.specs.declared.program.Param.{Param}
-use Rattle.revs_terms.specs.Trees.{Tree, Trees, ItemTrees, nil, cons, no_items, item, used, bool, reg, block, function, parts, apply, append, rotate, clean, assert, ands, xors, assign, bind, run}
+use Rattle.revs_terms.specs.Trees.{Tree, Trees, ItemTrees, nil, cons, no_items, item, used, bool, reg, block, function, parts, apply, append, rotate, clean}
+use Rattle.revs_terms.specs.Trees.{assert, ands, xors, assign, bind, run}
 
 -- A tree with each used name bound, or the place of the first name without a binding, in text order.
 pub data Scoped (A : Type 0) : Type 0 where

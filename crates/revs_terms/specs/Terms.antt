@@ -1,7 +1,8 @@
 -- What holds of a term: its place, its shape and its nesting.
 use Rattle.std.specs.Prelude.{ℕ, ◌+◌, leb, max, Bool, true, false, ◌&&◌, List, [], ◌∷◌, length, if◌then◌else◌}
 use Rattle.revc_base.specs.declared.place.Place.{Place}
-use Rattle.revs_terms.specs.Trees.{Tree, Trees, ItemTree, ItemTrees, used, bool, reg, block, function, parts, apply, append, rotate, clean, assert, ands, xors, assign, nil, cons, bind, run, no_items, item, list_of}
+use Rattle.revs_terms.specs.Trees.{Tree, Trees, ItemTree, ItemTrees, used, bool, reg, block, function, parts, apply, append, rotate, clean, assert, ands, xors}
+use Rattle.revs_terms.specs.Trees.{assign, nil, cons, bind, run, no_items, item, list_of}
 
 -- the place of a term: that of its first token, or of the first token inside where the term stood in brackets
 abbrev mutual

@@ -5,8 +5,8 @@ ghost use Rattle.revs_terms.specs.Trees.{tree_of};
 
 use revc_base::{Place, Text};
 
-/// A name in a program. `back` is the number of bindings between a use and its own binding; it is 0 where a
-/// name is bound, and at a use until the names were bound.
+/// A name in a program. `back` is the number of bindings between a use and its own binding; it is 0
+/// where a name is bound, and at a use until the names were bound.
 #[derive(Debug, Drop)]
 pub struct Name {
     pub text: Text,
@@ -14,7 +14,8 @@ pub struct Name {
     pub back: u32,
 }
 
-/// A part of a register: the element in one place, or the elements in the places `i` to `j`. Its place is that of its dot.
+/// A part of a register: the element in one place, or the elements in the places `i` to `j`. Its
+/// place is that of its dot.
 #[derive(Clone, Copy, Debug, PartialEq, Eq)]
 pub enum Part {
     Index { i: u32, at: Place },
@@ -58,8 +59,8 @@ pub enum Term {
 }
 
 impl Term {
-    /// The place of the term's first token. A bracketed term has the place of the term inside. A chain without parts has
-    /// none, and is said to stand at 0.
+    /// The place of the term's first token. A bracketed term has the place of the term inside. A
+    /// chain without parts has none, and is said to stand at 0.
     pub fn place(&self) -> Place
         ensures { result ≡ place_of (tree_of self.now) }
     {

@@ -1,5 +1,5 @@
-//! What the lexers of the compiler share: kinds of bytes, the runs that they make, gaps between tokens, places, and the
-//! values of digits.
+//! What the lexers of the compiler share: kinds of bytes, the runs that they make, gaps between
+//! tokens, places, and the values of digits.
 #![tactic(auto)]
 
 mod bytes;
@@ -11,6 +11,3 @@ pub use bytes::{digits_len, is_blank, is_letter, is_name_byte, name_len};
 pub use gaps::gap_len;
 pub use numbers::{FITTING_DIGITS, number};
 pub use places::place_after;
-
-#[cfg(test)]
-mod tests;

@@ -5,7 +5,8 @@ use Rattle.revs_terms.specs.declared.term.Term.{the_lemmas}
 use Rattle.std.specs.Vec.{with_items}
 use Rattle.std.specs.Box.{with_value}
 use Rattle.revs_terms.specs.Trees.{reg, parts, apply, append, rotate, clean, assert, ands, xors, assign, item_trees, tree_of, item_tree_of}
-use Rattle.revs_terms.proofs.ShapeLemmas.{tree_of-Reg, tree_of-Block, tree_of-Fun, tree_of-At, tree_of-Apply, tree_of-Append, tree_of-Rotate, tree_of-Clean, tree_of-Assert, tree_of-And, tree_of-Xor, tree_of-Assign}
+use Rattle.revs_terms.proofs.ShapeLemmas.{tree_of-Reg, tree_of-Block, tree_of-Fun, tree_of-At, tree_of-Apply, tree_of-Append, tree_of-Rotate, tree_of-Clean}
+use Rattle.revs_terms.proofs.ShapeLemmas.{tree_of-Assert, tree_of-And, tree_of-Xor, tree_of-Assign}
 use Rattle.name_scope.proofs.VerdictLemmas.{last_binds, next_binds, passed_on}
 use Rattle.name_scope.proofs.ScopeLemmas.{items_stand, names_stand, few_deeper, left_at_depth, depth_below}
 use Rattle.name_scope.proofs.LoopLemmas.{term_fits, terms_go_on, terms_stop, item_fits, items_go_on, items_end, unreached}

@@ -1,5 +1,6 @@
 use Rattle.std.proofs.Common.{ap, length, sym, ◌∙◌}
-use Rattle.revs_lexer.proofs.LongestLemmas.{identifier_at_front, longest_name, long_name_at_front, digits_at_front, numeral_at_front, longest_number, long_number_at_front, longest_sign, no_token, bad_byte_at_front}
+use Rattle.revs_lexer.proofs.LongestLemmas.{identifier_at_front, longest_name, long_name_at_front, digits_at_front, numeral_at_front, longest_number}
+use Rattle.revs_lexer.proofs.LongestLemmas.{long_number_at_front, longest_sign, no_token, bad_byte_at_front}
 use Rattle.revs_lexer.proofs.lexer.token.Goals as goal
 
 pub returns-then-len-gt-MOST-clause-refused : goal.returns-then-len-gt-MOST-clause-refused
