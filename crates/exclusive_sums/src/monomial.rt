@@ -5,17 +5,16 @@ ghost use Rattle.std.specs.Cmp.Lexicographic.{slice_cmp};
 ghost use Rattle.revc_base.specs.inside.Sums.{exclusive_sum_of, union_of};
 ghost use Rattle.exclusive_sums.specs.inside.Products.{MovesFront, order_of_fronts as fronts};
 
-use revc_base::Memory;
+use revc_base::{Key, Memory};
 use std::alloc::Global;
 use std::cmp::Ordering;
 use std::collections::VecDeque;
-use std::hash::{Hash, Hasher};
 use std::marker::Model;
 
 // A product of inputs, which rise. Contracts see it as the list of its inputs.
-#[derive(Debug, Drop)]
+#[derive(Debug, PartialEq, Eq, Hash, Drop)]
 pub struct Monomial {
-    inputs: Vec<u32>,
+    inputs: Key<u32>,
 }
 
 impl Model for Monomial {
@@ -23,7 +22,9 @@ impl Model for Monomial {
 
     ghost Value = { List ℕ };
 
-    ghost view = { λ m. m.inputs.items };
+    ghost view = { λ m. m.inputs };
+
+    ghost inverse = { λ m. record { inputs = m } };
 }
 
 impl Monomial {
@@ -32,7 +33,7 @@ impl Monomial {
         ensures { result ≡ [] }
     {
         Monomial {
-            inputs: Vec::new(alloc),
+            inputs: Key::new(Vec::new(alloc)),
         }
     }
 
@@ -40,14 +41,14 @@ impl Monomial {
         ensures { IfOk result (λ m. m ≡ input ∷ []) }
     {
         Ok(Monomial {
-            inputs: Vec::from_slice(alloc, &[input])?,
+            inputs: Key::new(Vec::from_slice(alloc, &[input])?),
         })
     }
 
     pub fn inputs(&self) -> &[u32]
         ensures { result.now ≡ self.now }
     {
-        &self.inputs
+        self.inputs.items()
     }
 
     pub fn copy(&self) -> Result<Monomial, Memory>
@@ -55,7 +56,7 @@ impl Monomial {
     {
         let alloc = *self.inputs.allocator();
         Ok(Monomial {
-            inputs: Vec::from_slice(alloc, &self.inputs)?,
+            inputs: Key::new(Vec::from_slice(alloc, self.inputs())?),
         })
     }
 
@@ -82,44 +83,9 @@ impl Monomial {
         }
         inputs.extend_from_slice(&left[i..])?;
         inputs.extend_from_slice(&right[j..])?;
-        Ok(Monomial { inputs })
-    }
-}
-
-impl PartialEq for Monomial {
-    ghost use Rattle.std.specs.Prelude.{◌==◌};
-    ghost use Rattle.std.specs.Cmp.Lexicographic.{pointwise};
-    ghost use Rattle.std.specs.Cmp.Rules.{comparing};
-    ghost use Rattle.std.proofs.Common.{rules};
-
-    ghost eq = { pointwise ◌==◌ };
-
-    ghost laws = { Prim.search (comparing, rules) };
-
-    fn eq(&self, other: &Monomial) -> bool {
-        self.inputs() == other.inputs()
-    }
-}
-
-impl Eq for Monomial {
-    ghost use Rattle.std.specs.Cmp.Rules.{comparing};
-    ghost use Rattle.std.proofs.Common.{rules};
-
-    ghost laws = { Prim.search (comparing, rules) };
-}
-
-// A monomial feeds a hasher what its inputs feed it.
-impl Hash for Monomial {
-    ghost use Rattle.std.specs.Hash.{slice, u32};
-    ghost use Rattle.std.specs.Cmp.Rules.{hashing};
-    ghost use Rattle.std.proofs.Common.{rules};
-
-    ghost hash_input = { slice u32 };
-
-    ghost respects_eq = { Prim.search (hashing, rules) };
-
-    fn hash<H: Hasher>(&self, state: &mut H) {
-        self.inputs().hash(state);
+        Ok(Monomial {
+            inputs: Key::new(inputs),
+        })
     }
 }
 

@@ -3,6 +3,7 @@
 #![tactic(auto)]
 
 mod bits;
+mod key;
 mod law;
 pub mod limits;
 mod memory;
@@ -13,6 +14,7 @@ mod text;
 mod width;
 
 pub use bits::{Bits, BitsFault};
+pub use key::Key;
 pub use law::{
     claim_functions, each_claim_is_settled, each_input_is_one_variable, one_number_of_levels,
     one_polynomial, one_set_of_monomials,

@@ -3,15 +3,15 @@ ghost use Rattle.std.specs.Prelude.{◌≡◌, ◌≤◌, length, IfOk};
 ghost use Rattle.revc_base.specs.declared.limits.TheConstants.{MOST_NAME_BYTES};
 
 use crate::Memory;
+use crate::key::Key;
 use crate::limits::MOST_NAME_BYTES;
 use std::alloc::Global;
-use std::hash::{Hash, Hasher};
 use std::marker::Model;
 
 /// A text of 1 to 64 bytes, which are any bytes. Contracts see it as the list of its bytes.
-#[derive(Debug, Drop)]
+#[derive(Debug, PartialEq, Eq, Hash, Drop)]
 pub struct Text {
-    bytes: Vec<u8>,
+    bytes: Key<u8>,
 }
 
 impl Model for Text {
@@ -20,10 +20,12 @@ impl Model for Text {
 
     ghost Value = { List ℕ };
 
-    ghost view = { λ t. t.bytes.items };
+    ghost view = { λ t. t.bytes };
+
+    ghost inverse = { λ t. record { bytes = t } };
 
     ghost invariant = { λ t.
-        (1 ≤ length t.bytes.items) × (length t.bytes.items ≤ MOST_NAME_BYTES) };
+        (1 ≤ length t.bytes) × (length t.bytes ≤ MOST_NAME_BYTES) };
 }
 
 impl Text {
@@ -37,7 +39,7 @@ impl Text {
         ensures { IfOk result (λ text. text ≡ bytes.now) }
     {
         Ok(Text {
-            bytes: Vec::from_slice(alloc, bytes)?,
+            bytes: Key::new(Vec::from_slice(alloc, bytes)?),
         })
     }
 
@@ -47,7 +49,7 @@ impl Text {
         ensures some { 1 ≤ length self.now }
         ensures few { length self.now ≤ MOST_NAME_BYTES }
     {
-        &self.bytes
+        self.bytes.items()
     }
 
     /// The same text once more, on the allocator of this one.
@@ -56,43 +58,5 @@ impl Text {
     {
         let alloc = *self.bytes.allocator();
         Text::new(alloc, self.bytes())
-    }
-}
-
-// Two texts are equal exactly where their bytes are.
-impl PartialEq for Text {
-    ghost use Rattle.std.specs.Prelude.{◌==◌};
-    ghost use Rattle.std.specs.Cmp.Lexicographic.{pointwise};
-    ghost use Rattle.std.specs.Cmp.Rules.{comparing};
-    ghost use Rattle.std.proofs.Common.{rules};
-
-    ghost eq = { pointwise ◌==◌ };
-
-    ghost laws = { Prim.search (comparing, rules) };
-
-    fn eq(&self, other: &Text) -> bool {
-        self.bytes() == other.bytes()
-    }
-}
-
-impl Eq for Text {
-    ghost use Rattle.std.specs.Cmp.Rules.{comparing};
-    ghost use Rattle.std.proofs.Common.{rules};
-
-    ghost laws = { Prim.search (comparing, rules) };
-}
-
-// A text feeds a hasher what its bytes feed it.
-impl Hash for Text {
-    ghost use Rattle.std.specs.Hash.{slice, u8};
-    ghost use Rattle.std.specs.Cmp.Rules.{hashing};
-    ghost use Rattle.std.proofs.Common.{rules};
-
-    ghost hash_input = { slice u8 };
-
-    ghost respects_eq = { Prim.search (hashing, rules) };
-
-    fn hash<H: Hasher>(&self, state: &mut H) {
-        self.bytes().hash(state);
     }
 }

@@ -11,6 +11,7 @@ returns c =
     let over = union_left_over c.inputs-left.result.now c.inputs-right.result.now c.loop-i.i c.loop-i.j ended in
     let done = rw over at c.loop-i.invariant.left_over in
     rw (
+      c.new.ensures,
       c.in_ok-extend_from_slice-2.ensures.items,
       c.in_ok-extend_from_slice.ensures.items,
       take_rest c.inputs-left.result.now c.loop-i.i,
