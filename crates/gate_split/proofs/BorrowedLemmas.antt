@@ -1,5 +1,5 @@
 -- Clean gates stay clean beside borrowed lines.
-use Rattle.std.proofs.Common.{◌≡◌, ℕ, ◌+◌, Bool, false, List, [], ◌++◌, length, replicate, refl, sym, ap, subst, ◌∙◌, arith, append-nil}
+use Rattle.std.proofs.Common.{◌≡◌, ◌+◌, Bool, false, List, [], ◌++◌, length, replicate, refl, sym, ap, subst, ◌∙◌, arith, append-nil}
 use Rattle.std.proofs.lemmas.List.{append_assoc, length-append, length-replicate}
 use Rattle.mct_circuit.specs.Gates.{GateView, AreGatesOn, line_map}
 use Rattle.mct_circuit.proofs.MoreLinesLemmas.{more_lines}

@@ -1,16 +1,19 @@
 -- What the gates in place of one do: they stand on the lines, are narrow, and have the gate's effect for every content of the lines.
-use Rattle.std.proofs.Common.{◌≡◌, ◌≢◌, ℕ, ◌+◌, ◌-◌, ◌<◌, ◌≤◌, Bool, List, [], ◌∷◌, ◌++◌, length, take, drop, reverse, Some, refl, sym, ap, ◌∙◌, subst, inl, inr, arith}
+use Rattle.std.proofs.Common.{◌≡◌, ◌≢◌, ℕ, ◌+◌, ◌-◌, ◌<◌, ◌≤◌, Bool, List, [], ◌∷◌, ◌++◌, length, take, drop, reverse, Some, refl, sym, ap, ◌∙◌, subst, inl}
+use Rattle.std.proofs.Common.{inr, arith}
 use Rattle.std.specs.List.{AllByRecursion}
 use Rattle.std.proofs.lemmas.List.{reverse-append, reverse-reverse, append_assoc, length-reverse, length-append, length-drop, length-take-le, take-append-drop}
 use Rattle.std.proofs.lemmas.Bool.Decides.{leb_tells}
-use Rattle.list_facts.proofs.AllLemmas.{AllByRecursion-append, AllByRecursion-both, AllByRecursion-drop, AllByRecursion-left, AllByRecursion-reverse, AllByRecursion-right, AllByRecursion-take, AllByRecursion-weaker}
+use Rattle.list_facts.proofs.AllLemmas.{AllByRecursion-append, AllByRecursion-both, AllByRecursion-drop, AllByRecursion-left, AllByRecursion-reverse}
+use Rattle.list_facts.proofs.AllLemmas.{AllByRecursion-right, AllByRecursion-take, AllByRecursion-weaker}
 use Rattle.list_facts.proofs.OrderLemmas.{AreDifferent-left, AreDifferent-parts, AreDifferent-push, AreDifferent-reverse, AreDifferent-take}
 use Rattle.mct_circuit.specs.Gates.{GateView, after_gate, line_map, flip_of, IsGateOn, AreGatesOn, IsNarrow, AreNarrow}
 use Rattle.list_facts.specs.Lists.{AreDifferent}
 use Rattle.mct_circuit.proofs.ReversalLemmas.{line_map-append, lines_of-flip_of}
 use Rattle.gate_split.specs.inside.Idle.{Serves}
 use Rattle.gate_split.specs.Split.{Avoids}
-use Rattle.gate_split.specs.Split.{idle_lines, in_falling_order, ladder, there_and_back, over_idle_lines, with_enough_idle, first_half, first_flips, second_flips, in_halves, over_few_lines, split_positive}
+use Rattle.gate_split.specs.Split.{idle_lines, in_falling_order, ladder, there_and_back, over_idle_lines, with_enough_idle, first_half, first_flips}
+use Rattle.gate_split.specs.Split.{second_flips, in_halves, over_few_lines, split_positive}
 use Rattle.gate_split.proofs.FlipLemmas.{length-flip_of, flip_of-flip_of, before_and_behind}
 use Rattle.gate_split.proofs.LadderLemmas.{Fits, fits, fits_gates, fits_narrow, ladders_flip, Avoids-flip, Avoids-back, heads_apart, tails_apart}
 use Rattle.gate_split.proofs.FallingLineLemmas.{falling_below, falling_different, idle_apart, falling_members, length-in_falling_order}

@@ -1,5 +1,6 @@
 -- Flips that have at most two controls or an idle line are split.
-use Rattle.std.proofs.Common.{◌≡◌, ℕ, zero, suc, ◌+◌, ◌-◌, ◌*◌, ◌<◌, ◌≤◌, ◌⊎◌, Bool, true, false, not, cond, leb, List, [], ◌∷◌, ◌++◌, length, take, Some, Option, Ok, Err, Result, refl, sym, ap, ◌∙◌, subst, inl, inr, arith}
+use Rattle.std.proofs.Common.{◌≡◌, ℕ, zero, suc, ◌+◌, ◌-◌, ◌*◌, ◌<◌, ◌≤◌, ◌⊎◌, Bool, true, false, not, cond, leb, List, [], ◌∷◌, ◌++◌, length, take, Some}
+use Rattle.std.proofs.Common.{Option, Ok, Err, Result, refl, sym, ap, ◌∙◌, subst, inl, inr, arith}
 use Rattle.std.specs.List.{AllByRecursion, sum_by}
 use Rattle.std.proofs.lemmas.Bool.{cases_lt}
 use Rattle.std.proofs.lemmas.Bool.Decides.{leb_tells}
@@ -14,7 +15,8 @@ use Rattle.list_facts.proofs.AllLemmas.{AllByRecursion-weaker}
 use Rattle.gate_split.specs.declared.fault.SplitFault.{SplitFault}
 use Rattle.gate_split.specs.declared.fault.SplitFault.TheVariants.{Gates, NoIdle}
 use Rattle.gate_split.specs.Costs.{most_gates, IsRoomyFlip, RoomyFlipsAreSplit}
-use Rattle.gate_split.specs.Split.{Avoids, falling_lines, idle_lines, flips_of_negatives, over_few_lines, over_idle_lines, in_halves, split_positive, split_op, split_gate, between, with_piece, split_from}
+use Rattle.gate_split.specs.Split.{Avoids, falling_lines, idle_lines, flips_of_negatives, over_few_lines, over_idle_lines, in_halves, split_positive, split_op}
+use Rattle.gate_split.specs.Split.{split_gate, between, with_piece, split_from}
 use Rattle.gate_split.proofs.CostLemmas.{costs}
 use Rattle.gate_split.proofs.FallingLineLemmas.{false_true, falling_yes, falling_no, no_member}
 use Rattle.gate_split.proofs.NegativeLemmas.{lines}

@@ -1,11 +1,15 @@
 -- One step of the walk, and its end.
-use Rattle.std.proofs.Common.{◌≡◌, ℕ, ◌+◌, ◌<◌, ◌≤◌, List, [], ◌∷◌, ◌++◌, length, get_or, drop, Some, Result, Err, refl, sym, ap, ◌∙◌, inl, inr, arith}
+use Rattle.std.proofs.Common.{◌≡◌, ℕ, ◌+◌, ◌<◌, ◌≤◌, List, [], ◌∷◌, ◌++◌, length, get_or, drop, Option, Some, None, Result, Ok, Err, refl, sym, ap, ◌∙◌, inl, inr, arith}
 use Rattle.std.proofs.lemmas.List.{drop_more, drop_all, length-append}
+use Rattle.std.proofs.lemmas.Option.{same_Some}
 use Rattle.std.proofs.lemmas.Bool.Decides.{leb_tells}
 use Rattle.list_facts.proofs.AllLemmas.{AllByRecursion-at, AllByRecursion-weaker}
 use Rattle.mct_circuit.specs.Gates.{GateView, IsGateOn, AreGatesOn, lines_of}
 use Rattle.gate_split.specs.declared.fault.SplitFault.{SplitFault}
-use Rattle.gate_split.specs.declared.fault.SplitFault.TheVariants.{Gates}
+use Rattle.gate_split.specs.declared.fault.SplitFault.TheVariants.{NoIdle, Gates}
+use Rattle.gate_split.specs.declared.fault.Refusal.{Refusal}
+use Rattle.gate_split.specs.declared.fault.Refusal.TheVariants as refusal
+use Rattle.gate_split.specs.inside.Steps.{IsOver, fault_at}
 use Rattle.gate_split.specs.Split.{split_gate, with_piece, split_from, split_list, behind}
 use Rattle.gate_split.proofs.NegativeLemmas.{split_gate_does, Walked, walk}
 use Rattle.gate_split.proofs.WideLemmas.{nothing_behind}
@@ -33,18 +37,55 @@ too_many n limit place done piece next h = elim (leb_tells (length (done ++ piec
   | inr t ↦ rw t.0 refl
 ]
 
-pub walk_over : (n limit place : ℕ) (done gates : List GateView) (i : ℕ) (gate : GateView) (held piece : List GateView)
-    (whole : Result (List GateView) SplitFault)
-    → i < length gates → gate ≡ get_or gates i gate → held ≡ [] → behind held (split_gate n gate) ≡ Some piece → limit < length done + length piece
-    → split_from n limit place done (drop i gates) ≡ whole → whole ≡ Err Gates
-walk_over n limit place done gates i gate held piece whole h e none s more w =
-    let found : split_gate n gate ≡ Some piece = nothing_behind (split_gate n gate) piece (rw none at s) in
+-- the walk at the gate of a place
+at_gate : (n limit place : ℕ) (done gates : List GateView) (i : ℕ) (gate : GateView) (whole : Result (List GateView) SplitFault)
+    → i < length gates → gate ≡ get_or gates i gate → split_from n limit place done (drop i gates) ≡ whole
+    → with_piece (split_gate n gate) limit place done (λ now. split_from n limit (place + 1) now (drop (i + 1) gates)) ≡ whole
+at_gate n limit place done gates i gate whole h e w =
     let at : drop i gates ≡ gate ∷ drop (i + 1) gates = drop_more gates i gate h ∙ ap (λ g. g ∷ drop (i + 1) gates) (sym e) in
-    sym w ∙ ap (split_from n limit place done) at ∙ ap (λ o. with_piece o limit place done (λ now. split_from n limit (place + 1) now (drop (i + 1) gates)))
-    found
-    ∙ too_many n limit place done piece (λ now. split_from n limit (place + 1) now (drop (i + 1) gates)) more
+    sym (ap (split_from n limit place done) at) ∙ w
+
+piece_fits : (limit place : ℕ) (done now : List GateView) (piece : Option (List GateView)) (next : List GateView → Result (List GateView) SplitFault)
+    → behind done piece ≡ Some now → length now ≤ limit → with_piece piece limit place done next ≡ next now
+piece_fits limit place done now None next e h = absurd (cc)
+piece_fits limit place done now (Some piece) next e h =
+    let same : done ++ piece ≡ now = same_Some _ _ e in
+    elim (leb_tells (length (done ++ piece)) limit) [
+      | inl t ↦ rw t.0 (ap next same)
+      | inr t ↦ absurd (let long = ap length same in omega (arith, long, t.1))
+    ]
+
+pub one_more : (n limit place : ℕ) (done now gates : List GateView) (i : ℕ) (gate : GateView) (whole : Result (List GateView) SplitFault)
+    → i < length gates → gate ≡ get_or gates i gate → behind done (split_gate n gate) ≡ Some now → length now ≤ limit
+    → split_from n limit place done (drop i gates) ≡ whole → split_from n limit (place + 1) now (drop (i + 1) gates) ≡ whole
+one_more n limit place done now gates i gate whole h e made fits w =
+    sym (piece_fits limit place done now (split_gate n gate) (λ now. split_from n limit (place + 1) now (drop (i + 1) gates)) made fits)
+    ∙ at_gate n limit place done gates i gate whole h e w
+
+pub no_idle_at : (n limit place : ℕ) (done gates : List GateView) (i : ℕ) (gate : GateView) (why : Refusal) (whole : Result (List GateView) SplitFault) (number : ℕ)
+    → i < length gates → gate ≡ get_or gates i gate → fault_at place why ≡ NoIdle number → (why ≡ refusal.NoIdle → split_gate n gate ≡ None)
+    → split_from n limit place done (drop i gates) ≡ whole → whole ≡ Err (NoIdle number)
+no_idle_at n limit place done gates i gate refusal.NoIdle whole number h e is none w =
+    sym (at_gate n limit place done gates i gate whole h e w)
+    ∙ ap (λ o. with_piece o limit place done (λ now. split_from n limit (place + 1) now (drop (i + 1) gates))) (none refl) ∙ ap Err is
+no_idle_at n limit place done gates i gate refusal.Full whole number h e is none w = absurd (cc)
+no_idle_at n limit place done gates i gate refusal.Memory whole number h e is none w = absurd (cc)
+
+pub over_at : (n limit place : ℕ) (done gates : List GateView) (i : ℕ) (gate : GateView) (why : Refusal) (whole : Result (List GateView) SplitFault)
+    → i < length gates → gate ≡ get_or gates i gate → fault_at place why ≡ Gates → (why ≡ refusal.Full → IsOver limit done (split_gate n gate))
+    → split_from n limit place done (drop i gates) ≡ whole → whole ≡ Err Gates
+over_at n limit place done gates i gate refusal.Full whole h e is over w =
+    let o = over refl in
+    sym (at_gate n limit place done gates i gate whole h e w)
+    ∙ ap (λ p. with_piece p limit place done (λ now. split_from n limit (place + 1) now (drop (i + 1) gates))) o.is
+    ∙ too_many n limit place done o.gates (λ now. split_from n limit (place + 1) now (drop (i + 1) gates)) o.over
+over_at n limit place done gates i gate refusal.NoIdle whole h e is over w = absurd (cc)
+over_at n limit place done gates i gate refusal.Memory whole h e is over w = absurd (cc)
+
+pub walk_ends : (n limit place : ℕ) (done gates : List GateView) (i : ℕ) → length gates ≤ i
+    → split_from n limit place done (drop i gates) ≡ split_list n limit gates → split_list n limit gates ≡ Ok done
+walk_ends n limit place done gates i h w = sym w ∙ ap (split_from n limit place done) (drop_all i gates h)
 
 pub walked : (n limit place : ℕ) (done gates : List GateView) (i : ℕ) → AreGatesOn n gates → length gates ≤ i
     → split_from n limit place done (drop i gates) ≡ split_list n limit gates → Walked n [] gates done
-walked n limit place done gates i g h w =
-    walk n limit 0 [] gates done g (sym w ∙ ap (split_from n limit place done) (drop_all i gates h))
+walked n limit place done gates i g h w = walk n limit 0 [] gates done g (walk_ends n limit place done gates i h w)

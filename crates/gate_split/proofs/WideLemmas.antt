@@ -1,5 +1,6 @@
 -- What the calls of the code need, and what their answers make.
-use Rattle.std.proofs.Common.{◌≡◌, ◌≢◌, ℕ, zero, suc, ◌+◌, ◌-◌, ◌<◌, ◌≤◌, leb, cond, List, [], ◌∷◌, ◌++◌, length, take, drop, reverse, Option, Some, None, refl, sym, ap, ◌∙◌, subst, inl, inr, arith, Ok, Err}
+use Rattle.std.proofs.Common.{◌≡◌, ◌≢◌, ℕ, zero, suc, ◌+◌, ◌-◌, ◌<◌, ◌≤◌, leb, cond, List, [], ◌∷◌, ◌++◌, length, take, drop, reverse, Option, Some, None, refl}
+use Rattle.std.proofs.Common.{sym, ap, ◌∙◌, subst, inl, inr, arith, Ok, Err}
 use Rattle.std.specs.List.{AllByRecursion}
 use Rattle.std.proofs.lemmas.List.{append_assoc, append-nil, length-append, length-take, length-take-le, length-drop, take-append-drop, take-take}
 use Rattle.std.proofs.lemmas.Bool.Decides.{leb_tells}
@@ -10,7 +11,8 @@ use Rattle.gate_split.specs.declared.fault.Refusal.{Refusal}
 use Rattle.gate_split.specs.inside.Steps.{first_idle}
 use Rattle.gate_split.specs.inside.Idle.{Serves}
 use Rattle.gate_split.specs.Split.{Avoids}
-use Rattle.gate_split.specs.Split.{idle_lines, in_falling_order, ladder, over_idle_lines, with_enough_idle, first_half, first_flips, second_flips, in_halves, over_few_lines, split_positive, behind}
+use Rattle.gate_split.specs.Split.{idle_lines, in_falling_order, ladder, over_idle_lines, with_enough_idle, first_half, first_flips, second_flips, in_halves}
+use Rattle.gate_split.specs.Split.{over_few_lines, split_positive, behind}
 use Rattle.gate_split.proofs.LadderLemmas.{fits_gates}
 use Rattle.gate_split.proofs.FallingLineLemmas.{length-in_falling_order}
 use Rattle.gate_split.proofs.EffectLemmas.{different_of, below_of, serves_fits, serves_take, idle_serves, Halves}

@@ -7,11 +7,12 @@ ghost use Rattle.gate_split.specs.inside.Steps.{refusal_of, fault_at};
 use mct_circuit::GateFault;
 use std::alloc::{AllocError, AllocFailed};
 
-/// Why a circuit was not split: a wide gate uses every line, there are more gates than the limit allows, or
-/// memory was refused.
+/// Why a circuit was not split: a wide gate uses every line, there are more gates than the limit
+/// allows, or memory was refused.
 #[derive(Clone, Copy, Debug, PartialEq, Eq)]
 pub enum SplitFault {
-    /// The gate at this place, counted from 0, is the first that uses every line and wants an idle one.
+    /// The gate at this place, counted from 0, is the first that uses every line and wants an idle
+    /// one.
     NoIdle { gate: u64 },
     Gates,
     Memory,
@@ -42,7 +43,7 @@ impl<T: Drop> From<AllocFailed<T>> for SplitFault {
 }
 
 // Why the gates in place of one gate were not appended.
-#[derive(Clone, Copy, Debug, PartialEq, Eq)]
+#[derive(Clone, Copy)]
 pub enum Refusal {
     NoIdle,
     Full,

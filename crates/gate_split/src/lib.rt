@@ -1,6 +1,6 @@
-//! Circuits of narrow gates: a circuit of multiply controlled flips and swaps is split into flips with at
-//! most two controls, all positive, over lines that may hold anything (Barenco and others, 1995); and the
-//! types that plans share.
+//! Circuits of narrow gates: a circuit of multiply controlled flips and swaps is split into flips
+//! with at most two controls, all positive, over lines that may hold anything (Barenco and others,
+//! 1995); and the types that plans share.
 #![tactic(auto)]
 
 mod fault;
@@ -17,6 +17,3 @@ pub use law::{clean_circuits_borrow, narrow_stay, roomy_flips_are_split, split_c
 pub use plan::{Budget, Laid, MOST_BORROWED, MOST_GATES, MOST_LINES, PlanFault, Planned};
 pub use roles::{Role, Roles};
 pub use walk::{Narrow, split};
-
-#[cfg(test)]
-mod tests;

@@ -1,7 +1,8 @@
 // The gates in place of one: swaps and negative controls.
 ghost use Rattle.std.specs.Prelude.{◌≡◌, ◌++◌, map, Some, IfOk, OnOk, IsErrOf};
 ghost use Rattle.mct_circuit.specs.Gates.{IsGateOn, flip_of};
-ghost use Rattle.gate_split.specs.Split.{flips_of_negatives, split_positive, split_gate, between, behind};
+ghost use Rattle.gate_split.specs.Split.{flips_of_negatives, split_positive, split_gate, between};
+ghost use Rattle.gate_split.specs.Split.{behind};
 
 use crate::fault::Refusal;
 use crate::idle::LineMarks;
@@ -38,8 +39,8 @@ pub fn push_piece(
     }
 }
 
-// Appends the gates in place of a flip where all lines of `lines` are 1, between flips of the lines of negative
-// controls.
+// Appends the gates in place of a flip where all lines of `lines` are 1, between flips of the lines
+// of negative controls.
 fn push_flip(
     alloc: Global,
     gates: &mut Vec<Gate>,

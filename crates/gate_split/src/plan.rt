@@ -1,6 +1,7 @@
 // What plans share: a budget, a plan before its gates are split, and after.
 ghost use Rattle.std.specs.Prelude.{◌≡◌, ◌+◌, ◌≤◌};
-ghost use Rattle.gate_split.specs.declared.plan.TheConstants.{MOST_LINES, MOST_GATES, MOST_BORROWED};
+ghost use Rattle.gate_split.specs.declared.plan.TheConstants.{MOST_LINES, MOST_GATES};
+ghost use Rattle.gate_split.specs.declared.plan.TheConstants.{MOST_BORROWED};
 ghost use Rattle.gate_split.specs.declared.plan.PlanFault.TheVariants.{Memory};
 ghost use Rattle.gate_split.specs.Plans.{roles_of};
 ghost use Rattle.mct_circuit.specs.Gates.{AreNarrow};
@@ -19,8 +20,9 @@ pub const MOST_GATES: u64 = 4_000_000;
 /// The most borrowed lines of a circuit.
 pub const MOST_BORROWED: u32 = 64;
 
-/// What a plan may use: so many lines and gates, and how many of the lines are borrowed, each within its most.
-#[derive(Debug, Drop)]
+/// What a plan may use: so many lines and gates, and how many of the lines are borrowed, each
+/// within its most.
+#[derive(Drop)]
 pub struct Budget {
     lines: u32,
     gates: u64,
@@ -29,7 +31,8 @@ pub struct Budget {
 
 impl Model for Budget {
     ghost use Rattle.std.specs.Prelude.{◌≤◌};
-    ghost use Rattle.gate_split.specs.declared.plan.TheConstants.{MOST_LINES, MOST_GATES, MOST_BORROWED};
+    ghost use Rattle.gate_split.specs.declared.plan.TheConstants.{MOST_LINES, MOST_GATES};
+    ghost use Rattle.gate_split.specs.declared.plan.TheConstants.{MOST_BORROWED};
     ghost use Rattle.gate_split.specs.Plans.{BudgetView};
 
     ghost Value = { BudgetView };
@@ -80,9 +83,9 @@ impl Budget {
     }
 }
 
-/// A plan whose gates are not split yet: its lines are those of the inputs, then those of the outputs, then
-/// the work lines.
-#[derive(Debug, Drop)]
+/// A plan whose gates are not split yet: its lines are those of the inputs, then those of the
+/// outputs, then the work lines.
+#[derive(Drop)]
 pub struct Planned {
     circuit: Circuit,
     inputs: u32,
@@ -156,9 +159,9 @@ impl Planned {
     }
 }
 
-/// A plan of narrow gates: its lines are those of the inputs, then those of the outputs, then the work lines,
-/// then the borrowed ones.
-#[derive(Debug, Drop)]
+/// A plan of narrow gates: its lines are those of the inputs, then those of the outputs, then the
+/// work lines, then the borrowed ones.
+#[derive(Drop)]
 pub struct Laid {
     circuit: Narrow,
     inputs: u32,
@@ -256,7 +259,8 @@ impl Laid {
     }
 }
 
-/// Why there is no plan: so many lines are needed, or more gates than the budget has, or memory was refused.
+/// Why there is no plan: so many lines are needed, or more gates than the budget has, or memory was
+/// refused.
 #[derive(Clone, Copy, Debug, PartialEq, Eq)]
 pub enum PlanFault {
     Lines { need: u32 },

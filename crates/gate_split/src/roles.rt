@@ -3,9 +3,10 @@ ghost use Rattle.std.specs.Prelude.{◌≡◌, ◌<◌, ◌≤◌};
 ghost use Rattle.gate_split.specs.declared.plan.TheConstants.{MOST_LINES};
 ghost use Rattle.gate_split.specs.Plans.{lines_in, role_at, number_at};
 
-/// How many lines have each role. The input lines come first, then the output lines, the work lines, which
-/// start at 0 and are left at 0, and the borrowed lines, which hold any bits and are left unchanged.
-#[derive(Clone, Copy, Debug, PartialEq, Eq)]
+/// How many lines have each role. The input lines come first, then the output lines, the work
+/// lines, which start at 0 and are left at 0, and the borrowed lines, which hold any bits and are
+/// left unchanged.
+#[derive(Clone, Copy)]
 pub struct Roles {
     pub inputs: u32,
     pub outputs: u32,
@@ -14,7 +15,7 @@ pub struct Roles {
 }
 
 /// The role of a line.
-#[derive(Clone, Copy, Debug, PartialEq, Eq)]
+#[derive(Clone, Copy)]
 pub enum Role {
     Input,
     Output,

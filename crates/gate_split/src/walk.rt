@@ -1,5 +1,6 @@
 // The walk over the gates of a circuit.
-ghost use Rattle.std.specs.Prelude.{◌≡◌, ◌↔◌, ℕ, ◌≤◌, List, [], Bool, length, Ok, Err, Some, None, IfOk, OnOk, IsErrOf, IsTrue};
+ghost use Rattle.std.specs.Prelude.{◌≡◌, ◌↔◌, ℕ, ◌≤◌, List, [], Bool, length, Ok, Err, Some, None};
+ghost use Rattle.std.specs.Prelude.{IfOk, OnOk, IsErrOf, IsTrue};
 ghost use Rattle.std.specs.List.{list_all};
 ghost use Rattle.gate_split.specs.declared.fault.SplitFault.TheVariants.{NoIdle, Gates};
 ghost use Rattle.mct_circuit.specs.Gates.{IsGateOn, IsNarrow, AreNarrow, line_map};
@@ -13,8 +14,8 @@ use mct_circuit::{Circuit, Control, Gate, Op};
 use std::alloc::Global;
 use std::marker::Model;
 
-/// A circuit whose gates are all flips with at most two controls, all positive. Only `split` makes one.
-/// Contracts see it as the circuit.
+/// A circuit whose gates are all flips with at most two controls, all positive. Only `split` makes
+/// one. Contracts see it as the circuit.
 #[derive(Debug, Drop)]
 pub struct Narrow {
     circuit: Circuit,
@@ -40,11 +41,12 @@ impl Narrow {
     }
 }
 
-/// The circuit of narrow gates on `lines` lines that does what `circuit` does, whatever the lines hold that
-/// `circuit` does not use. Each gate becomes the list of Barenco and others (1995): a swap is three flips,
-/// a negative control is a positive one between two flips of its line, and a flip of three or more controls
-/// takes as many idle lines as it can use, the greatest first. `NoIdle` names the first gate that uses every
-/// line and wants an idle one, `Gates` says that there are more than `limit` gates, whichever comes first.
+/// The circuit of narrow gates on `lines` lines that does what `circuit` does, whatever the lines
+/// hold that `circuit` does not use. Each gate becomes the list of Barenco and others (1995): a
+/// swap is three flips, a negative control is a positive one between two flips of its line, and a
+/// flip of three or more controls takes as many idle lines as it can use, the greatest first.
+/// `NoIdle` names the first gate that uses every line and wants an idle one, `Gates` says that
+/// there are more than `limit` gates, whichever comes first.
 pub fn split(alloc: Global, circuit: &Circuit, lines: u32, limit: u64) -> Result<Narrow, SplitFault>
     requires { circuit.now.lines ≤ lines }
     ensures gates { IfOk result (λ narrow. split_list lines limit circuit.now.gates
@@ -72,7 +74,8 @@ pub fn split(alloc: Global, circuit: &Circuit, lines: u32, limit: u64) -> Result
     Ok(Narrow { circuit: narrow })
 }
 
-// Appends the gates in place of one, by way of the empty `piece`. A narrow gate is copied once and at once.
+// Appends the gates in place of one, by way of the empty `piece`. A narrow gate is copied once and
+// at once.
 fn append_split(
     alloc: Global,
     narrow: &mut Circuit,

@@ -1,11 +1,14 @@
-// Flips under positive controls, split over idle lines (Barenco and others 1995, Lemmas 7.2 and 7.3).
-ghost use Rattle.std.specs.Prelude.{◌≡◌, ℕ, ◌+◌, ◌<◌, ◌≤◌, ◌∷◌, [], ◌++◌, length, reverse, take, Some, None, IfOk, OnOk, IsErrOf};
+// Flips under positive controls, split over idle lines (Barenco and others 1995, Lemmas 7.2 and
+// 7.3).
+ghost use Rattle.std.specs.Prelude.{◌≡◌, ℕ, ◌+◌, ◌<◌, ◌≤◌, ◌∷◌, [], ◌++◌, length, reverse, take};
+ghost use Rattle.std.specs.Prelude.{Some, None, IfOk, OnOk, IsErrOf};
 ghost use Rattle.std.specs.List.{AllByRecursion};
 ghost use Rattle.mct_circuit.specs.Gates.{HasDifferentLines, IsGateOn, flip_of};
 ghost use Rattle.gate_split.specs.inside.Idle.{Serves};
 ghost use Rattle.gate_split.specs.Split.{Avoids};
 ghost use Rattle.gate_split.specs.inside.Steps.{first_idle};
-ghost use Rattle.gate_split.specs.Split.{ladder, there_and_back, over_idle_lines, with_enough_idle, in_halves, split_positive, behind};
+ghost use Rattle.gate_split.specs.Split.{ladder, there_and_back, over_idle_lines, with_enough_idle};
+ghost use Rattle.gate_split.specs.Split.{in_halves, split_positive, behind};
 
 use crate::fault::Refusal;
 use crate::idle::LineMarks;
@@ -54,8 +57,9 @@ fn first_idle(idle: &[u32]) -> Result<u32, Refusal>
     }
 }
 
-// Appends a flip of four or more controls over one idle line: the flip of the target by the second half and
-// the idle line, the flip of the idle line by the first half, and both again, each among the gate's own lines.
+// Appends a flip of four or more controls over one idle line: the flip of the target by the second
+// half and the idle line, the flip of the idle line by the first half, and both again, each among
+// the gate's own lines.
 fn push_halves(
     alloc: Global,
     gates: &mut Vec<Gate>,
