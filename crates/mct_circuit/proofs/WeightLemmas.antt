@@ -1,5 +1,6 @@
 -- Weights of gates; a gate has at most as many controls as there are lines.
-use Rattle.std.proofs.Common.{◌≡◌, ◌≢◌, ℕ, ◌<◌, ◌≤◌, ◌^◌, ◌+◌, Bool, eqb, true, false, ◌||◌, List, [], ◌∷◌, length, get_or, take, map, reverse, arith, sym, refl, subst, inl, inr}
+use Rattle.std.proofs.Common.{◌≡◌, ◌≢◌, ℕ, ◌<◌, ◌≤◌, ◌^◌, ◌+◌, Bool, eqb, true, false, ◌||◌, List, [], ◌∷◌, length, get_or, take, map, reverse, arith, sym}
+use Rattle.std.proofs.Common.{refl, subst, inl, inr}
 use mir.Val.{bool_byte}
 use Rattle.std.specs.List.{AllByRecursion, list_any, IsDistinct, count_by}
 use Rattle.std.specs.List.{sum_by}

@@ -1,5 +1,7 @@
 // A circuit: a number of lines and a list of gates on them.
-ghost use Rattle.std.specs.Prelude.{◌≡◌, ◌+◌, ◌<◌, ◌≤◌, ◌↔◌, ◌++◌, ◌∷◌, [], length, reverse, take, slice_get, Some, OnOk, OnErr, IfOk, IsErrOf, IsTrue, false, ◌==◌};
+ghost use Rattle.std.specs.Prelude.{◌≡◌, ◌+◌, ◌<◌, ◌≤◌, ◌↔◌, ◌++◌, ◌∷◌, [], length, reverse, take};
+ghost use Rattle.std.specs.Prelude.{slice_get, Some, OnOk, OnErr, IfOk, IsErrOf, IsTrue, false};
+ghost use Rattle.std.specs.Prelude.{◌==◌};
 ghost use Rattle.std.specs.List.{AllByRecursion};
 ghost use Rattle.mct_circuit.specs.declared.circuit.GateFault.TheVariants.{Memory};
 ghost use Rattle.mct_circuit.specs.Sizes.{depth_of};
@@ -75,8 +77,8 @@ impl Circuit {
         }
     }
 
-    /// Appends a gate on lines of the circuit. `Full` comes exactly where the circuit holds `limit` gates.
-    /// After a refusal the circuit is unchanged.
+    /// Appends a gate on lines of the circuit. `Full` comes exactly where the circuit holds `limit`
+    /// gates. After a refusal the circuit is unchanged.
     pub fn push(&mut self, gate: Gate) -> Result<(), GateFault>
         requires { AllByRecursion (λ line. line < self.old.lines) (lines_of gate) }
         ensures ok { OnOk result (self.new ≡ record self.old
@@ -113,8 +115,8 @@ impl Circuit {
         self.push(gate)
     }
 
-    /// Appends copies of the first `count` gates in reversed order. `Full` comes exactly where the circuit
-    /// would hold more than `limit` gates. After a refusal the circuit is unchanged.
+    /// Appends copies of the first `count` gates in reversed order. `Full` comes exactly where the
+    /// circuit would hold more than `limit` gates. After a refusal the circuit is unchanged.
     pub fn append_reversed(&mut self, count: u64) -> Result<(), GateFault>
         requires { count ≤ length self.old.gates }
         ensures ok { OnOk result (self.new ≡ record self.old
@@ -132,8 +134,8 @@ impl Circuit {
         Ok(())
     }
 
-    /// Appends all gates, and leaves `gates` empty. `Full` comes exactly where the circuit would hold more
-    /// than `limit` gates. After a refusal the circuit and `gates` are unchanged.
+    /// Appends all gates, and leaves `gates` empty. `Full` comes exactly where the circuit would
+    /// hold more than `limit` gates. After a refusal the circuit and `gates` are unchanged.
     pub fn append(&mut self, gates: &mut Vec<Gate>) -> Result<(), GateFault>
         requires { AreGatesOn self.old.lines gates.old.items }
         ensures ok { OnOk result (self.new ≡ record self.old
@@ -161,9 +163,9 @@ impl Circuit {
         }
     }
 
-    /// The depth: a gate's depth is one more than the greatest depth of an earlier gate that shares a line
-    /// with it, and the circuit's is the greatest of them, or 0. It takes time and memory linear in the gates
-    /// and lines.
+    /// The depth: a gate's depth is one more than the greatest depth of an earlier gate that shares
+    /// a line with it, and the circuit's is the greatest of them, or 0. It takes time and memory
+    /// linear in the gates and lines.
     pub fn depth(&self) -> Result<u64, revc_base::Memory>
         ensures { IfOk result (λ depth. depth ≡ depth_of self.now.gates) }
     {

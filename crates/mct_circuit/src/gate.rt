@@ -2,7 +2,8 @@
 ghost use Rattle.std.specs.Prelude.{◌≡◌, ◌<◌, ◌∷◌, [], ◌++◌, length, map, IfOk};
 ghost use Rattle.std.specs.List.{AllByRecursion, list_all};
 ghost use Rattle.list_facts.specs.Lists.{AreDifferent};
-ghost use Rattle.mct_circuit.specs.Gates.{HasDifferentLines, flip_of, positive, lines_of, is_met, after_gate};
+ghost use Rattle.mct_circuit.specs.Gates.{HasDifferentLines, flip_of, positive, lines_of, is_met};
+ghost use Rattle.mct_circuit.specs.Gates.{after_gate};
 
 use revc_base::Memory;
 use std::alloc::{AllocError, Global};

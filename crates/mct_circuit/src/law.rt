@@ -3,13 +3,14 @@ ghost use Rattle.mct_circuit.specs.Laws.{FlipsSet, MoreLinesStay, Uncomputes, We
 
 // Each function here does nothing: its contract is the law.
 
-/// The law of reversal: each flip and each swap is its own inverse, so a list of gates followed by its
-/// reverse is the identity, and so is the reverse followed by the list.
+/// The law of reversal: each flip and each swap is its own inverse, so a list of gates followed by
+/// its reverse is the identity, and so is the reverse followed by the list.
 pub fn reversal()
     ensures { ReversedUndoes }
 {}
 
-/// The law of flips: a flip sets its target to the exclusive or of the target's bit and of whether all controls are met.
+/// The law of flips: a flip sets its target to the exclusive or of the target's bit and of whether
+/// all controls are met.
 pub fn flips_set()
     ensures { FlipsSet }
 {}
@@ -19,8 +20,9 @@ pub fn more_lines_stay()
     ensures { MoreLinesStay }
 {}
 
-/// The law of compute, copy, uncompute: where gates take s to u and s' to u', and copying takes u to u', these gates, the
-/// copying and these gates reversed take s to s' (Bennett, Logical reversibility of computation, 1973).
+/// The law of compute, copy, uncompute: where gates take s to u and s' to u', and copying takes u
+/// to u', these gates, the copying and these gates reversed take s to s' (Bennett, Logical
+/// reversibility of computation, 1973).
 pub fn uncomputes()
     ensures { Uncomputes }
 {}

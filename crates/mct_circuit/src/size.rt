@@ -2,13 +2,14 @@
 ghost use Rattle.std.specs.Prelude.{◌≡◌, ℕ, ◌+◌, ◌*◌, ◌^◌, ◌<◌, ◌≤◌, length, IfOk, slice_index};
 ghost use Rattle.std.specs.List.{AllByRecursion, count_by};
 ghost use Rattle.mct_circuit.specs.Gates.{GateView, lines_of};
-ghost use Rattle.mct_circuit.specs.Sizes.{weight_of, flip_weight, negative_controls, counts_of, is_flip_under, is_wide_flip, is_swap, depth_of};
+ghost use Rattle.mct_circuit.specs.Sizes.{weight_of, flip_weight, negative_controls, counts_of};
+ghost use Rattle.mct_circuit.specs.Sizes.{is_flip_under, is_wide_flip, is_swap, depth_of};
 
 use crate::{Circuit, Control, Gate, Op};
 use revc_base::Memory;
 
-/// How many gates of each kind a circuit has: flips with no control, one, two and more, the negative
-/// ones included, and swaps.
+/// How many gates of each kind a circuit has: flips with no control, one, two and more, the
+/// negative ones included, and swaps.
 #[derive(Clone, Copy, Debug, PartialEq, Eq)]
 pub struct Counts {
     pub x: u64,
@@ -19,9 +20,10 @@ pub struct Counts {
 }
 
 impl Gate {
-    /// How many flips with at most two positive controls stand for the gate, where enough lines are idle:
-    /// 1 for a flip with at most two controls and `4 * (k - 2)` for one with `k`, two more for each negative
-    /// control, and for a swap two more than for the flip with one more control. It takes no memory.
+    /// How many flips with at most two positive controls stand for the gate, where enough lines are
+    /// idle: 1 for a flip with at most two controls and `4 * (k - 2)` for one with `k`, two more
+    /// for each negative control, and for a swap two more than for the flip with one more control.
+    /// It takes no memory.
     pub fn weight(&self) -> u64
         ensures { result ≡ weight_of self.now }
     {
