@@ -1,6 +1,8 @@
-// The heap of work lines. Lines from `next` on were never out; those below it that are back wait in `free`.
+// The heap of work lines. Lines from `next` on were never out; those below it that are back wait in
+// `free`.
 ghost use Rattle.std.specs.Prelude.{◌≡◌, [], length, max, IfOk, IfSome, IfNone, IsNone, ◌↔◌, true};
-ghost use Rattle.ancilla_heap.specs.Lines.{IsLineHeap, IsLeastFree, contains, with_taken, without_line};
+ghost use Rattle.ancilla_heap.specs.Lines.{IsLineHeap, IsLeastFree, contains, with_taken};
+ghost use Rattle.ancilla_heap.specs.Lines.{without_line};
 
 use revc_base::Memory;
 use std::alloc::Global;
@@ -8,8 +10,8 @@ use std::cmp::Reverse;
 use std::collections::BinaryHeap;
 use std::marker::Model;
 
-/// A heap of the lines 0 to `limit - 1`, each of which is out or free. It hands out the least free line.
-/// Contracts see it as its limit, the list of the lines that are out, rising, and its peak.
+/// A heap of the lines 0 to `limit - 1`, each of which is out or free. It hands out the least free
+/// line. Contracts see it as its limit, the list of the lines that are out, rising, and its peak.
 #[derive(Drop)]
 pub struct Heap {
     limit: u32,
@@ -41,9 +43,9 @@ impl Heap {
         })
     }
 
-    /// Hands out the least free line; the peak is then the greater of the peak before and the number of lines that are
-    /// out. `None` comes exactly where all lines are out; then nothing changes. It takes no memory, and time
-    /// logarithmic in the limit.
+    /// Hands out the least free line; the peak is then the greater of the peak before and the
+    /// number of lines that are out. `None` comes exactly where all lines are out; then nothing
+    /// changes. It takes no memory, and time logarithmic in the limit.
     pub fn take(&mut self) -> Option<u32>
         ensures least { IfSome result (IsLeastFree self.old) }
         ensures taken { IfSome result (λ line. self.new ≡ with_taken self.old line) }
@@ -72,8 +74,8 @@ impl Heap {
         let _ = self.free.push(Reverse(line));
     }
 
-    /// One more than the greatest line that was ever out, or 0: the most lines that were out at one time. It takes no
-    /// memory.
+    /// One more than the greatest line that was ever out, or 0: the most lines that were out at one
+    /// time. It takes no memory.
     pub fn peak(&self) -> u32
         ensures peak { result ≡ self.now.peak }
         ensures lines { IsLineHeap self.now }

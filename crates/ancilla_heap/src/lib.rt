@@ -4,6 +4,3 @@
 mod heap;
 
 pub use heap::Heap;
-
-#[cfg(test)]
-mod tests;

@@ -1,1 +1,21 @@
 // The tests of ancilla_heap.
+use ancilla_heap::Heap;
+use std::test::Fail;
+
+// Four lines are asked of a heap of three; then the line 1 comes back and is handed out again.
+#[test]
+fn hands_out_the_least_free_line(rt: HostRuntime) -> Result<(), Fail> {
+    let mut heap = Heap::new(rt.alloc(), 3)?;
+    assert_eq!(rt; heap.peak(), 0);
+    assert_eq!(rt; heap.take(), Some(0));
+    let second = heap.take();
+    assert_eq!(rt; second, Some(1));
+    assert_eq!(rt; heap.take(), Some(2));
+    assert_eq!(rt; heap.take(), None);
+    if let Some(line) = second {
+        heap.give(line);
+    }
+    assert_eq!(rt; heap.take(), Some(1));
+    assert_eq!(rt; heap.peak(), 3);
+    Ok(())
+}
