@@ -12,17 +12,16 @@ fn hash_of<T: Hash>(value: &T) -> u64 {
     state.finish()
 }
 
-// Texts are made and copied, and compare and hash as their bytes do.
+fn copied(alloc: Global, bytes: &[u8; 2]) -> Result<Text, Memory> {
+    Text::new(alloc, bytes)?.copy()
+}
+
+// Texts are made and copied, and hash as their bytes do.
 #[test]
 fn texts_are_their_bytes(rt: HostRuntime) -> Result<(), Fail> {
-    let alloc = rt.alloc();
-    let text = Text::new(alloc, b"x0")?;
-    let copy = text.copy()?;
-    let other = Text::new(alloc, b"x1")?;
+    let copy = copied(rt.alloc(), b"x0")?;
     assert_eq!(rt; copy.bytes(), b"x0".as_slice());
-    assert_eq!(rt; text, copy);
-    assert_ne!(rt; text, other);
-    assert_eq!(rt; hash_of(&text), hash_of(&b"x0".as_slice()));
+    assert_eq!(rt; hash_of(&copy), hash_of(&b"x0".as_slice()));
     Ok(())
 }
 
@@ -39,17 +38,15 @@ fn words_are_read(rt: HostRuntime) -> Result<(), Fail> {
     Ok(())
 }
 
-// Five writes on two inputs: a constant, its XOR with the first input, the AND of the inputs, and two more on these.
-// The AND is claimed to be false, the XOR to be true.
-fn five_writes(alloc: Global) -> Result<Tape, Memory>
+// Three writes on two inputs: a constant, its XOR with the first input, and the AND of the inputs. The
+// AND is claimed to be false, the XOR to be true.
+fn three_writes(alloc: Global) -> Result<Tape, Memory>
     ensures { IfOk result (λ tape. sum tape.params ≡ 2) }
 {
     let mut tape = Tape::new(alloc, vec![in alloc; 1, 1]?);
     tape.push(Entry::Const(true))?;
     tape.push(Entry::Xor(Ref::Input(0), Ref::Write(0)))?;
     tape.push(Entry::And(Ref::Input(0), Ref::Input(1)))?;
-    tape.push(Entry::Xor(Ref::Write(1), Ref::Write(2)))?;
-    tape.push(Entry::And(Ref::Write(3), Ref::Input(1)))?;
     let at = Place { line: 1, column: 1 };
     tape.claim(Claim {
         kind: Kind::Clean,
@@ -61,7 +58,7 @@ fn five_writes(alloc: Global) -> Result<Tape, Memory>
         of: Ref::Write(1),
         at,
     })?;
-    tape.set_outputs(vec![in alloc; Ref::Write(0), Ref::Write(4), Ref::Input(0)]?);
+    tape.set_outputs(vec![in alloc; Ref::Write(0), Ref::Write(1), Ref::Input(1)]?);
     Ok(tape)
 }
 
@@ -73,19 +70,21 @@ fn ending(end: &TapeEnd) -> (Option<u32>, &[bool]) {
     }
 }
 
-// The tape ends as it should on each of its inputs: with both claims broken, at the first. The first write is an output,
-// and stands beside the second and the third in the widest cut.
+// The tape ends as it should on each of its inputs: with both claims broken, at the first. Both writes
+// that are outputs are needed at its end.
 #[test]
 fn tapes_are_run_and_measured(rt: HostRuntime) -> Result<(), Fail> {
-    let tape = five_writes(rt.alloc())?;
-    let none = tape.run(&[false, false])?;
-    assert_eq!(rt; ending(&none), (None, [true, false, false].as_slice()));
-    let second = tape.run(&[false, true])?;
-    assert_eq!(rt; ending(&second), (None, [true, true, false].as_slice()));
-    let first = tape.run(&[true, false])?;
-    assert_eq!(rt; ending(&first).0, Some(1));
-    let both = tape.run(&[true, true])?;
-    assert_eq!(rt; ending(&both).0, Some(0));
-    assert_eq!(rt; tape.width()?, 3);
+    let tape = three_writes(rt.alloc())?;
+    let rows: [([bool; 2], Option<u32>, &[bool]); 4] = [
+        ([false, false], None, &[true, true, false]),
+        ([false, true], None, &[true, true, true]),
+        ([true, false], Some(1), &[]),
+        ([true, true], Some(0), &[]),
+    ];
+    for (input, claim, outputs) in rows {
+        let end = tape.run(&input)?;
+        assert_eq!(rt; ending(&end), (claim, outputs));
+    }
+    assert_eq!(rt; tape.width()?, 2);
     Ok(())
 }

@@ -1,4 +1,5 @@
-//! Tests of the public calls of the crates of the language: tokens, terms, scopes, shapes, parsing and running.
+//! Tests of the public calls of the crates of the language: tokens, scopes, shapes, parsing and
+//! running.
 #![tactic(auto)]
 
 #[cfg(test)]
@@ -11,7 +12,5 @@ mod name_scope_tests;
 mod revs_lexer_tests;
 #[cfg(test)]
 mod revs_parser_tests;
-#[cfg(test)]
-mod revs_terms_tests;
 #[cfg(test)]
 mod text_places_tests;

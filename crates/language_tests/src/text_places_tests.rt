@@ -1,16 +1,13 @@
 // The tests of text_places.
 
 use revc_base::Place;
-use text_places::{digits_len, gap_len, name_len, number, place_after};
+use text_places::{digits_len, gap_len, name_len, place_after};
 
 // Line feeds alone end lines, and columns count bytes.
 #[test]
 fn bytes_lead_to_their_places(rt: HostRuntime) {
-    let rows: [(&[u8], u32, u32); 7] = [
+    let rows: [(&[u8], u32, u32); 4] = [
         (b"", 3, 5),
-        (b"a", 3, 6),
-        (b"\n", 4, 1),
-        (b"ab\n", 4, 1),
         (b"\n\nab", 5, 3),
         (b"\r\t", 3, 7),
         (b"\xC3\xA9", 3, 7),
@@ -24,17 +21,12 @@ fn bytes_lead_to_their_places(rt: HostRuntime) {
 // The blank or comment at the front of each text, and the name bytes and digits.
 #[test]
 fn texts_have_their_fronts(rt: HostRuntime) {
-    let rows: [(&[u8], usize, usize, usize); 12] = [
-        (b"", 0, 0, 0),
-        (b"  a", 1, 0, 0),
+    let rows: [(&[u8], usize, usize, usize); 7] = [
         (b"\r\n", 1, 0, 0),
         (b"\x0B", 0, 0, 0),
-        (b"//", 2, 0, 0),
-        (b"// a\nb", 4, 0, 0),
         (b"//\r\n", 3, 0, 0),
         (b"/ /", 0, 0, 0),
         (b"a_9-", 0, 3, 0),
-        (b"_", 0, 1, 0),
         (b"12ab;", 0, 4, 2),
         (b"@[`{/:", 0, 0, 0),
     ];
@@ -42,19 +34,5 @@ fn texts_have_their_fronts(rt: HostRuntime) {
         assert_eq!(rt; gap_len(text), gap);
         assert_eq!(rt; name_len(text), name);
         assert_eq!(rt; digits_len(text), digits);
-    }
-}
-
-#[test]
-fn digits_have_their_values(rt: HostRuntime) {
-    let rows: [(&[u8], u32); 5] = [
-        (b"", 0),
-        (b"0", 0),
-        (b"007", 7),
-        (b"9999", 9_999),
-        (b"987654321", 987_654_321),
-    ];
-    for (digits, value) in rows {
-        assert_eq!(rt; number(digits), value);
     }
 }

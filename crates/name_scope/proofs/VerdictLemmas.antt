@@ -8,7 +8,7 @@ use Rattle.name_scope.specs.declared.binding.ScopeFault.{ScopeFault}
 use Rattle.name_scope.specs.declared.binding.ScopeFault.TheVariants as fault
 use Rattle.name_scope.specs.inside.Verdicts.{IsUnbound, Binds}
 
--- ---- last_binds step
+-- ---- one step
 
 -- the last part of a term
 pub last_binds : {A C : Type 0} (f : A → C) (r : Result (Unit {0}) ScopeFault) (v : Scoped A) (a : A) → Binds r v a
@@ -23,19 +23,19 @@ pub next_binds : {A C : Type 0} (next : A → Scoped C) (r : Result (Unit {0}) S
     → Binds r (and_then v next) c
 next_binds next r v a c e h = rw e h
 
--- a part that was passed_on
+-- a part whose refusal is passed on
 pub first_is_unbound : {A C : Type 0} (next : A → Scoped C) (f : ScopeFault) (v : Scoped A) → IsUnbound f v → IsUnbound f (and_then v next)
 first_is_unbound next (fault.Unbound at) v e = rw e refl
 first_is_unbound next (fault.TwoParams at) v e = e
 first_is_unbound next fault.Memory v e = tt
 
--- a call that gives a refusal next_binds
+-- a call that passes on a refusal
 pub passed_on : {A : Type 0} (r : Result (Unit {0}) ScopeFault) (f : ScopeFault) (v : Scoped A) (a : A) → IsErrAnd r (λ e. e ≡ f) → IsUnbound f v
     → Binds r v a
 passed_on (Ok done) f v a e h = absurd e
 passed_on (Err g) f v a e h = rw e h
 
--- a tree is bound part_is_unbound where its first part is
+-- a tree is bound only where its first part is
 pub first_is_bound : {A C : Type 0} (v : Scoped A) (next : A → Scoped C) (c : C) → and_then v next ≡ scoped c
     → (a : A) × ((v ≡ scoped a) × (next a ≡ scoped c))
 first_is_bound (unbound at) next c e = cc
@@ -77,7 +77,7 @@ regroup (scoped a) (unbound at) c = refl
 regroup (scoped a) (scoped b) (unbound at) = refl
 regroup (scoped a) (scoped b) (scoped c) = refl
 
--- trees last_binds after another
+-- trees, one after another
 split_trees : (ts rest : List Tree) (s : List (List ℕ))
     → scoped_trees s (trees (ts ++ rest)) ≡ and_then (scoped_trees s (trees ts)) (λ us. and_then (scoped_trees s (trees rest)) (λ vs. scoped (join us vs)))
 unfolding join

@@ -11,7 +11,7 @@ use revs_terms::Program;
 use std::alloc::Global;
 
 /// Why the names of a program cannot be bound.
-#[derive(Debug, Drop)]
+#[derive(Drop)]
 pub enum ScopeFault {
     /// The name that is used here has no binding.
     Unbound(Place),

@@ -13,7 +13,7 @@ use std::marker::Model;
 
 /// A name that was bound, with the depth at which the nearest one of the same name was bound before
 /// it.
-#[derive(Debug, Drop)]
+#[derive(Drop)]
 pub struct Bound {
     pub name: Text,
     pub hidden: Option<usize>,

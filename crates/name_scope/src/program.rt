@@ -7,7 +7,7 @@ ghost use Rattle.name_scope.specs.Bound.{is_bound};
 use revs_terms::Program;
 
 /// A program whose names are bound: the `back` of each used name is in range at its use.
-#[derive(Debug, Drop)]
+#[derive(Drop)]
 pub struct Scoped {
     program: Program,
 

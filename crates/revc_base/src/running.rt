@@ -10,7 +10,7 @@ use crate::{Bits, Claim, Entry, Kind, Memory, Ref, Tape};
 use std::alloc::Global;
 
 /// How the run of a tape ends on an input.
-#[derive(Debug, Drop)]
+#[derive(Drop)]
 pub enum TapeEnd {
     /// Every claim holds, and these are the output bits.
     Out(Bits),

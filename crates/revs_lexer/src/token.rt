@@ -3,7 +3,7 @@ use revc_base::{Memory, Place, Text};
 use std::alloc::AllocFailed;
 
 /// What a token is.
-#[derive(Debug, PartialEq, Eq, Drop)]
+#[derive(Drop)]
 pub enum Tok {
     /// A letter or `_`, then letters, digits and `_`, and no word: 1 to 64 bytes.
     Name(Text),
@@ -16,7 +16,7 @@ pub enum Tok {
 }
 
 /// A token, and the place of its first byte.
-#[derive(Debug, PartialEq, Eq, Drop)]
+#[derive(Drop)]
 pub struct Token {
     pub tok: Tok,
     pub at: Place,

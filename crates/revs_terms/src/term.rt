@@ -16,7 +16,7 @@ pub struct Name {
 
 /// A part of a register: the element in one place, or the elements in the places `i` to `j`. Its
 /// place is that of its dot.
-#[derive(Clone, Copy, Debug, PartialEq, Eq)]
+#[derive(Clone, Copy, Debug)]
 pub enum Part {
     Index { i: u32, at: Place },
     Slice { i: u32, j: u32, at: Place },
