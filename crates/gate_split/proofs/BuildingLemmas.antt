@@ -111,14 +111,6 @@ turn_back gates d h =
     ap reverse (sym (take_all (length gates) gates (omega arith))) ∙ reverse_gates gates d (length gates) h (omega arith) in
     ap (drop 1) all
 
-pub one_back : (gates : List GateView) (gate : GateView) (i : ℕ) (made whole : List GateView) → 1 < i → i ≤ length gates → gate ≡ get_or gates (i - 1 - 1) gate
-    → made ++ reverse (take (i - 1) gates) ≡ whole
-    → (made ++ gate ∷ []) ++ reverse (take (i - 1 - 1) gates) ≡ whole
-one_back gates gate i made whole h l e q =
-    let here = reverse_gates gates gate (i - 1) (omega arith) (omega arith) in
-    append_assoc made (gate ∷ []) (reverse (take (i - 1 - 1) gates)) ∙ ap (λ g. made ++ g ∷ reverse (take (i - 1 - 1) gates)) e ∙ ap (λ g. made ++ g) (sym here)
-    ∙ q
-
 -- nothing comes back behind no gates
 pub started_back : (gates : List GateView) (made whole : List GateView) → made ≡ whole ++ gates
     → made ++ reverse (take (length gates - 1) gates) ≡ whole ++ there_and_back gates

@@ -30,11 +30,6 @@ pub set_more : (numbers : List ℕ) (k v line : ℕ) (lines : List ℕ) (old : �
 set_more numbers k v line lines old h e =
     rw (set_is numbers k v line h, e, list_any-append (λ other. eqb line other) lines (k ∷ [])) (chosen (has_line line lines) (eqb line k) v old)
 
-pub lines_more : (controls : List Control) (i : ℕ) (d : Control) → i < length controls
-    → map (λ (control : Control). control.line) (take (i + 1) controls) ≡ map (λ (control : Control). control.line) (take i controls)
-    ++ (get_or controls i d).line ∷ []
-lines_more controls i d h = rw (take_more controls i d h) (map-append (λ (control : Control). control.line) (take i controls) (get_or controls i d ∷ []))
-
 -- ---- depths
 
 pub depth_on-none : (gates : List GateView) → depth_on [] gates ≡ 0

@@ -155,8 +155,3 @@ pub AreGatesOn-mirror : (n count : ℕ) (gates : List GateView) → AreGatesOn n
 AreGatesOn-mirror n count gates g =
     AllByRecursion-append (IsGateOn n) gates (reverse (take count gates)) g
     (AllByRecursion-reverse (IsGateOn n) (take count gates) (AllByRecursion-take (IsGateOn n) count gates g))
-
-pub AreNarrow-push : (gates : List GateView) (controls : List ℕ) (target : ℕ) → length controls ≤ 2 → AreNarrow gates
-    → AreNarrow (gates ++ flip_of controls target ∷ [])
-AreNarrow-push gates controls target few n =
-    AllByRecursion-append IsNarrow gates (flip_of controls target ∷ []) n (record { controls = controls; target = target; few = few; is_flip = refl }, tt)
