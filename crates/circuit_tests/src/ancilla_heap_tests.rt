@@ -6,16 +6,16 @@ use std::test::Fail;
 #[test]
 fn hands_out_the_least_free_line(rt: HostRuntime) -> Result<(), Fail> {
     let mut heap = Heap::new(rt.alloc(), 3)?;
-    assert_eq!(rt; heap.peak(), 0);
-    assert_eq!(rt; heap.take(), Some(0));
+    assert!(rt; heap.peak() == 0);
+    assert!(rt; heap.take() == Some(0));
     let second = heap.take();
-    assert_eq!(rt; second, Some(1));
-    assert_eq!(rt; heap.take(), Some(2));
-    assert_eq!(rt; heap.take(), None);
+    assert!(rt; second == Some(1));
+    assert!(rt; heap.take() == Some(2));
+    assert!(rt; heap.take() == None);
     if let Some(line) = second {
         heap.give(line);
     }
-    assert_eq!(rt; heap.take(), Some(1));
-    assert_eq!(rt; heap.peak(), 3);
+    assert!(rt; heap.take() == Some(1));
+    assert!(rt; heap.peak() == 3);
     Ok(())
 }

@@ -1,37 +1,42 @@
 // The tests of mct_circuit.
+ghost use Rattle.std.specs.Prelude.{◌≡◌, false, true};
+
 use mct_circuit::{Circuit, Control, Counts, Gate, GateFault, Op};
 use std::test::Fail;
+
+fn on(line: u32) -> Control
+    ensures { result ≡ record { line = line; positive = true } }
+{
+    Control {
+        line,
+        positive: true,
+    }
+}
+
+fn off(line: u32) -> Control
+    ensures { result ≡ record { line = line; positive = false } }
+{
+    Control {
+        line,
+        positive: false,
+    }
+}
 
 // A Toffoli gate and a controlled swap, then both in reversed order; a third gate does not fit.
 #[test]
 fn gates_are_appended_and_mirrored(rt: HostRuntime) -> Result<(), Fail> {
     let alloc = rt.alloc();
     let mut circuit = Circuit::new(alloc, 3, 4);
-    circuit.push(Gate::flip(alloc, &[0, 1], 2)?)?;
-    let controls = vec![in alloc;
-        Control {
-            line: 2,
-            positive: false
-        },
-    ]?;
-    circuit.push(Gate::new(controls, Op::Swap(0, 1)).copy()?)?;
-    assert_eq!(rt; circuit.len(), 2);
+    circuit.push_flip(&[0, 1], 2)?;
+    circuit.push(Gate::new(vec![in alloc; off(2)]?, Op::Swap(0, 1)).copy()?)?;
     circuit.append_reversed(2)?;
-    assert_eq!(rt; circuit.len(), 4);
-    for (i, op) in [
-        (0, Op::Flip(2)),
-        (1, Op::Swap(0, 1)),
-        (2, Op::Swap(0, 1)),
-        (3, Op::Flip(2)),
-    ] {
-        assert!(rt; i < circuit.len());
-        assert_eq!(rt; circuit.gate(i).op(), op, "gate {i}");
+    assert!(rt; circuit.len() == 4);
+    let ops = [Op::Flip(2), Op::Swap(0, 1), Op::Swap(0, 1), Op::Flip(2)];
+    for (gate, op) in circuit.gates().iter().zip(ops) {
+        assert!(rt; gate.op() == op);
     }
-    assert_eq!(rt; circuit.append_reversed(1), Err(GateFault::Full));
-    assert_eq!(rt;
-        circuit.push(Gate::flip(alloc, &[], 0)?),
-        Err(GateFault::Full)
-    );
+    assert!(rt; circuit.append_reversed(1) == Err(GateFault::Full));
+    assert!(rt; circuit.push_flip(&[], 0) == Err(GateFault::Full));
     Ok(())
 }
 
@@ -41,24 +46,8 @@ fn gates_are_appended_and_mirrored(rt: HostRuntime) -> Result<(), Fail> {
 fn gates_change_bits(rt: HostRuntime) -> Result<(), Fail> {
     let alloc = rt.alloc();
     let mut circuit = Circuit::new(alloc, 3, 2);
-    let controls = vec![in alloc;
-        Control {
-            line: 0,
-            positive: true
-        },
-        Control {
-            line: 1,
-            positive: false
-        },
-    ]?;
-    circuit.push(Gate::new(controls, Op::Flip(2)))?;
-    let controls = vec![in alloc;
-        Control {
-            line: 2,
-            positive: true
-        },
-    ]?;
-    circuit.push(Gate::new(controls, Op::Swap(0, 1)))?;
+    circuit.push(Gate::new(vec![in alloc; on(0), off(1)]?, Op::Flip(2)))?;
+    circuit.push(Gate::new(vec![in alloc; on(2)]?, Op::Swap(0, 1)))?;
     for (before, after) in [
         ([false, false, false], [false, false, false]),
         ([true, false, false], [false, true, true]),
@@ -68,7 +57,7 @@ fn gates_change_bits(rt: HostRuntime) -> Result<(), Fail> {
     ] {
         let mut bits = before;
         circuit.apply(&mut bits);
-        assert_eq!(rt; bits, after);
+        assert!(rt; bits == after);
     }
     Ok(())
 }
@@ -83,28 +72,8 @@ fn sizes_are_counted(rt: HostRuntime) -> Result<(), Fail> {
     circuit.push_flip(&[], 0)?;
     circuit.push_flip(&[3], 2)?;
     circuit.push_flip(&[0, 2], 1)?;
-    let controls = vec![in alloc;
-        Control {
-            line: 2,
-            positive: false
-        },
-    ]?;
-    circuit.push(Gate::new(controls, Op::Swap(0, 1)))?;
-    let controls = vec![in alloc;
-        Control {
-            line: 0,
-            positive: false
-        },
-        Control {
-            line: 1,
-            positive: true
-        },
-        Control {
-            line: 2,
-            positive: true
-        },
-    ]?;
-    circuit.push(Gate::new(controls, Op::Flip(3)))?;
+    circuit.push(Gate::new(vec![in alloc; off(2)]?, Op::Swap(0, 1)))?;
+    circuit.push(Gate::new(vec![in alloc; off(0), on(1), on(2)]?, Op::Flip(3)))?;
     let counts = Counts {
         x: 1,
         cx: 1,
@@ -112,10 +81,10 @@ fn sizes_are_counted(rt: HostRuntime) -> Result<(), Fail> {
         wide: 1,
         swap: 1,
     };
-    assert_eq!(rt; circuit.counts(), counts);
-    assert_eq!(rt; circuit.depth()?, 4);
+    assert!(rt; circuit.counts() == counts);
+    assert!(rt; circuit.depth()? == 4);
     for (gate, weight) in circuit.gates().iter().zip([1, 1, 1, 5, 6]) {
-        assert_eq!(rt; gate.weight(), weight);
+        assert!(rt; gate.weight() == weight);
     }
     Ok(())
 }
