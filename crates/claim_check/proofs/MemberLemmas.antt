@@ -78,13 +78,6 @@ added t c ref f old new holds base same canonical kept from = record {
   ];
 }
 
--- a reference keeps its number
-pub numbered-kept : (t : TapeView) (ref : Ref) (old new : DiagramView) → KeepsNodes old new → IsNumbered t old.nodes ref → IsNumbered t new.nodes ref
-numbered-kept t ref old new kept numbered = record {
-  number = numbered.number;
-  stands = stands-kept old new kept numbered.number (function_at t ref) numbered.stands;
-}
-
 -- before the first claim none needs a number
 pub no_bases : (t : TapeView) (nodes : List Triple) → HoldsAllBases t 0 nodes
 no_bases t nodes = record { numbered = λ ref base. absurd base }

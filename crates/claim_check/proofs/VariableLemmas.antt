@@ -136,17 +136,6 @@ input_of_assignment t input size = sym (is_input_at t (assignment_at t input) in
 pub inputs_agree : (t : TapeView) (a b : Assignment) → ((k : ℕ) → k < inputs_of t → a k ≡ b k) → input_at t a ≡ input_at t b
 inputs_agree t a b same = is_input_at t b (input_at t a) (length-input_at t a) (λ k low. bit-input_at t a k low ∙ same k low)
 
--- bits for the variables, put into an input one after another in their order
-pub input_of_bits : (t : TapeView) (bits : List Bool) → length bits ≡ inputs_of t
-    → with_fixed (variable_order t.params) bits (zeros (inputs_of t)) ≡ input_at t (assignment_of bits)
-input_of_bits t bits size =
-    let n : ℕ = inputs_of t in
-    let order : IsOrderOf n (variable_order t.params) = is_order t.params in
-    is_input_at t (assignment_of bits) (with_fixed (variable_order t.params) bits (zeros n))
-    (length-with_fixed (variable_order t.params) bits (zeros n) ∙ length-replicate n false)
-    (λ k low. bit-fixed n (variable_order t.params) bits (zeros n) k order.different order.inputs (length-replicate n false)
-    (omega (arith, low, order.count)) (omega (arith, low, size)))
-
 -- each input has the bit of its variable
 pub placed_input : (t : TapeView) (a : Assignment) (place : ℕ → ℕ) (input : List Bool) → IsInputOf t input
     → ((i : ℕ) → i < inputs_of t → slice_get (variable_order t.params) (place i) ≡ Some i)

@@ -26,10 +26,6 @@ holds_everywhere t claim f same gives = λ input size.
     let a : Assignment = assignment_at t input in
     sym (function-input t claim.of input size) ∙ sym (same a) ∙ gives a
 
-pub gives_claimed : (t : TapeView) (claim : Claim) (f : Function) → AreSame f (function_at t claim.of) → HoldsEverywhere t claim
-    → GivesOnly f (claimed claim.kind)
-gives_claimed t claim f same holds = λ a. same a ∙ holds (input_at t a) (length-input_at t a)
-
 not_both : (b : Bool) → ¬ (b ≡ not b)
 not_both true e = true≢false e
 not_both false e = true≢false (sym e)

@@ -1,5 +1,6 @@
 // Claims settled on all inputs, one after another.
-ghost use Rattle.std.specs.Prelude.{◌≡◌, ◌≤◌, ◌<◌, ◌+◌, length, map, slice_get, IfErr, IfOk, MatchOption, OnOk, Some};
+ghost use Rattle.std.specs.Prelude.{◌≡◌, ◌≤◌, ◌<◌, ◌+◌, length, map, slice_get, IfErr, IfOk};
+ghost use Rattle.std.specs.Prelude.{MatchOption, OnOk, Some};
 ghost use Rattle.list_facts.specs.Bits.{bit_of};
 ghost use Rattle.revc_base.specs.Claims.{HoldsEverywhere, IsLeastBreaking};
 ghost use Rattle.revc_base.specs.Measures.{inputs_of};
@@ -9,7 +10,8 @@ ghost use Rattle.decision_diagram.specs.Diagrams.{IsNumber, function_of};
 ghost use Rattle.decision_diagram.specs.Functions.{GivesOnly};
 ghost use Rattle.claim_check.specs.Claims.{HoldWithin, IsClaimFault};
 ghost use Rattle.claim_check.specs.inside.Labels.{claims_of};
-ghost use Rattle.claim_check.specs.inside.Numbers.{AreSettled, HasNumber, IsLeastOther, IsScheduleOf, claim_fault};
+ghost use Rattle.claim_check.specs.inside.Numbers.{AreSettled, HasNumber, IsLeastOther};
+ghost use Rattle.claim_check.specs.inside.Numbers.{IsScheduleOf, claim_fault};
 ghost use Rattle.claim_check.specs.inside.Slots.{slots_of};
 ghost use Rattle.claim_check.specs.inside.Variables.{AreVariables};
 
@@ -166,6 +168,3 @@ pub fn settle_claims(tape: &Tape, limit: u32) -> Result<(), ClaimFault>
     }
     Ok(())
 }
-
-#[cfg(test)]
-mod tests;

@@ -8,7 +8,8 @@ ghost use Rattle.revc_base.specs.Measures.{inputs_of};
 ghost use Rattle.revc_base.specs.Tapes.{IsTape};
 ghost use Rattle.dependency_graph.specs.Folds.{graph_of};
 ghost use Rattle.dependency_graph.specs.Graphs.{base_of, operands};
-ghost use Rattle.claim_check.specs.Kept.{kept_nodes, rank, renumbered, renumbered_base, renumbered_sig};
+ghost use Rattle.claim_check.specs.Kept.{kept_nodes, rank, renumbered, renumbered_base};
+ghost use Rattle.claim_check.specs.Kept.{renumbered_sig};
 ghost use Rattle.claim_check.specs.inside.Marks.{number_in, with_mark, with_marks, with_nodes};
 ghost use Rattle.claim_check.specs.inside.Parts.{IsSettledPart};
 

@@ -2,7 +2,8 @@
 ghost use Rattle.std.specs.Prelude.{◌≡◌, ◌<◌, ◌∷◌, [], length, IfOk};
 ghost use Rattle.std.specs.List.{AllByRecursion};
 ghost use Rattle.revc_base.specs.Tapes.{operands};
-ghost use Rattle.claim_check.specs.inside.Labels.{AreLabels, AreLowered, AreSound, HaveClaims, claims_of};
+ghost use Rattle.claim_check.specs.inside.Labels.{AreLabels, AreLowered, AreSound, HaveClaims};
+ghost use Rattle.claim_check.specs.inside.Labels.{claims_of};
 ghost use Rattle.claim_check.specs.inside.Slots.{slot_of};
 
 use revc_base::{Entry, Memory, Ref, Tape};
@@ -62,7 +63,8 @@ fn label_operands(tape: &Tape, labels: &mut [u32])
     }
 }
 
-// The label of each input and write: the first claim that rests on it, or the number of claims where none does.
+// The label of each input and write: the first claim that rests on it, or the number of claims
+// where none does.
 pub fn labels(tape: &Tape) -> Result<Vec<u32>, Memory>
     ensures { IfOk result (λ labels. AreLabels tape.now labels.items) }
 {

@@ -4,14 +4,15 @@ ghost use Rattle.claim_check.specs.Measures.{SettledGraphsAreWithin, TapesHaveMe
 
 // Each function here does nothing: its contract is the law.
 
-/// The law of ends: for every limit, that all claims of a tape hold within it, that one breaks first and that one
-/// passes it first exclude one another, and the claim and the input that break and the claim that passes are the only
-/// ones.
+/// The law of ends: for every limit, that all claims of a tape hold within it, that one breaks
+/// first and that one passes it first exclude one another, and the claim and the input that break
+/// and the claim that passes are the only ones.
 pub fn claims_end_in_one_way()
     ensures { ClaimsEndInOneWay }
 {}
 
-/// The law of measures: each tape has measures, so what holds for all measures of a tape holds for some.
+/// The law of measures: each tape has measures, so what holds for all measures of a tape holds for
+/// some.
 pub fn tapes_have_measures()
     ensures { TapesHaveMeasures }
 {}
@@ -22,8 +23,8 @@ pub fn settled_graphs_are_within()
     ensures own { OwnMeasuresAreWithin }
 {}
 
-/// The law of budgets: no budget number of a settled graph is greater than that of measures within which it is. Those of
-/// its tape are such measures.
+/// The law of budgets: no budget number of a settled graph is greater than that of measures within
+/// which it is. Those of its tape are such measures.
 pub fn budgets_are_no_greater()
     ensures { BudgetsAreNoGreater }
 {}

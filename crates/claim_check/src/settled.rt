@@ -11,8 +11,8 @@ use dependency_graph::{Graph, Node, Sig, last_uses};
 use revc_base::{Memory, Tape};
 use std::marker::Model;
 
-/// The nodes of a graph on which an output rests, renumbered in their order, after every claim was settled. Contracts
-/// see it as the number of inputs and the lists of nodes and outputs.
+/// The nodes of a graph on which an output rests, renumbered in their order, after every claim was
+/// settled. Contracts see it as the number of inputs and the lists of nodes and outputs.
 #[derive(Drop)]
 pub struct Settled {
     inputs: u32,
@@ -108,6 +108,3 @@ impl Settled {
         self.last_uses[n as usize]
     }
 }
-
-#[cfg(test)]
-mod tests;

@@ -11,16 +11,16 @@ use crate::{ClaimFault, Settled};
 use dependency_graph::Graph;
 use revc_base::Tape;
 
-/// Settles each claim of a tape for all inputs, in their order, and answers the nodes of its graph on which an output
-/// rests.
+/// Settles each claim of a tape for all inputs, in their order, and answers the nodes of its graph
+/// on which an output rests.
 ///
-/// `limit` bounds the inner nodes of the diagrams, which are the functions on which the claims rest, with their first
-/// variables fixed and without constants.
+/// `limit` bounds the inner nodes of the diagrams, which are the functions on which the claims
+/// rest, with their first variables fixed and without constants.
 ///
 /// # Errors
 ///
-/// `Broken` where a claim fails on some input, `Diagram` where a claim passes the limit: the first of these in the order
-/// of the claims.
+/// `Broken` where a claim fails on some input, `Diagram` where a claim passes the limit: the first
+/// of these in the order of the claims.
 pub fn settle(graph: Graph, tape: &Tape, limit: u32) -> Result<Settled, ClaimFault>
     requires of_tape { graph ≡ graph_of tape.now }
     requires some { 1 ≤ limit }

@@ -1,5 +1,6 @@
 // The variables of a diagram, and the inputs that they are.
-ghost use Rattle.std.specs.Prelude.{◌≡◌, ◌<◌, ◌≤◌, ◌++◌, ◌^◌, length, slice_index, sum, EachIndex, IfOk, OnOk};
+ghost use Rattle.std.specs.Prelude.{◌≡◌, ◌<◌, ◌≤◌, ◌++◌, ◌^◌, length, slice_index, sum, EachIndex};
+ghost use Rattle.std.specs.Prelude.{IfOk, OnOk};
 ghost use Rattle.revc_base.specs.Tapes.{AreWidths};
 ghost use Rattle.revc_base.specs.VariableOrders.{IsOrderOf, inputs_at, variable_order};
 ghost use Rattle.claim_check.specs.inside.Variables.{AreVariables};

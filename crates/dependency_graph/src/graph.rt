@@ -13,8 +13,8 @@ use crate::{Node, Sig};
 use revc_base::{Memory, Ref, Tape};
 use std::marker::Model;
 
-/// The graph of a tape. Contracts see it as the number of inputs and the lists of nodes, of what each write became, and
-/// of what each output became.
+/// The graph of a tape. Contracts see it as the number of inputs and the lists of nodes, of what
+/// each write became, and of what each output became.
 #[derive(Drop)]
 pub struct Graph {
     inputs: u32,
@@ -52,9 +52,9 @@ impl Model for Graph {
 }
 
 impl Graph {
-    /// The graph of a tape, in time linear in it. Each write is folded by its own operands alone, and equal nodes are
-    /// not shared.
-    #[tactic(auto, using(crate::proofs::FoldLemmas::graph_is, crate::proofs::ValueLemmas::graph_of_tape))]
+    /// The graph of a tape, in time linear in it. Each write is folded by its own operands alone,
+    /// and equal nodes are not shared.
+    #[tactic(auto, using(crate::proofs::ValueLemmas::graphs))]
     pub fn of(tape: &Tape) -> Result<Graph, Memory>
         ensures fold { IfOk result (λ graph. graph ≡ graph_of tape.now) }
         ensures of_tape { IfOk result (λ graph. IsGraphOf tape.now graph) }

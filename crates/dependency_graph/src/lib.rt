@@ -1,5 +1,5 @@
-//! The dependency graph of a tape: each write and each output is a constant, an input or a node, after constants are
-//! folded away.
+//! The dependency graph of a tape: each write and each output is a constant, an input or a node,
+//! after constants are folded away.
 #![tactic(auto)]
 
 mod fold;
@@ -12,6 +12,3 @@ pub use graph::Graph;
 pub use law::{graphs_are_no_wider, last_uses_tell_cuts};
 pub use node::{Base, Node, Sig};
 pub use uses::last_uses;
-
-#[cfg(test)]
-mod tests;

@@ -4,7 +4,8 @@ ghost use Rattle.list_facts.specs.Lists.{below};
 ghost use Rattle.revc_base.specs.declared.limits.TheConstants.{MOST_WRITES};
 ghost use Rattle.dependency_graph.specs.Graphs.{operands};
 ghost use Rattle.dependency_graph.specs.Uses.{last_uses_of};
-ghost use Rattle.dependency_graph.specs.inside.Tables.{with_nodes, with_outputs, with_use, with_uses};
+ghost use Rattle.dependency_graph.specs.inside.Tables.{with_nodes, with_outputs, with_use};
+ghost use Rattle.dependency_graph.specs.inside.Tables.{with_uses};
 
 use crate::{Base, Node, Sig};
 use revc_base::Memory;
@@ -66,7 +67,8 @@ fn numbers(alloc: Global, count: u32) -> Result<Vec<u32>, Memory>
     Ok(numbers)
 }
 
-// First each node itself, then each node that has it as an operand, and at last the end where it is an output.
+// First each node itself, then each node that has it as an operand, and at last the end where it is
+// an output.
 fn filled_table(alloc: Global, nodes: &[Node], outputs: &[Sig]) -> Result<Vec<u32>, Memory>
     requires { length nodes.now ≤ MOST_WRITES }
     ensures { IfOk result (λ table. table.items
@@ -80,8 +82,9 @@ fn filled_table(alloc: Global, nodes: &[Node], outputs: &[Sig]) -> Result<Vec<u3
     Ok(table)
 }
 
-/// The last use of each of these nodes in a graph with these outputs, in time linear in both: the greatest node that
-/// has it as an operand, the number of nodes where it is an output, itself where neither.
+/// The last use of each of these nodes in a graph with these outputs, in time linear in both: the
+/// greatest node that has it as an operand, the number of nodes where it is an output, itself where
+/// neither.
 pub fn last_uses(alloc: Global, nodes: &[Node], outputs: &[Sig]) -> Result<Vec<u32>, Memory>
     requires { length nodes.now ≤ MOST_WRITES }
     ensures { IfOk result (λ table. table.items ≡ last_uses_of (record {

@@ -9,4 +9,5 @@ pub returns : goal.returns
 returns c =
     let params = c.args.params.now in
     let all : c.loop-place.place ≡ c.widest-place-end.result = omega (arith, c.loop-place-test.false, c.loop-place.auto.place-end) in
-    c.loop-place.invariant ∙ ap (λ (n : ℕ). flat_map (λ place. inputs_at place 0 params) (below n)) all ∙ order_is params c.widest-place-end.result c.widest-place-end.ensures
+    c.loop-place.invariant ∙ ap (λ (n : ℕ). flat_map (λ place. inputs_at place 0 params) (below n)) all
+    ∙ order_is params c.widest-place-end.result c.widest-place-end.ensures
