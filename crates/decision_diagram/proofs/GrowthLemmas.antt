@@ -66,9 +66,6 @@ KeepsNodes-trans d e h first second = record {
   nodes = second.nodes ∙ (ap (λ nodes. second.added ++ nodes) first.nodes ∙ sym (append_assoc second.added first.added d.nodes));
 }
 
-pub Grows-refl : (f : Function) (d : DiagramView) → IsCanonical d → Grows f d d
-Grows-refl f d canonical = record { canonical = canonical; kept = KeepsNodes-refl d; added = λ n from below. absurd (omega arith) }
-
 pub Grows-trans : (f : Function) (d e h : DiagramView) → Grows f d e → Grows f e h → Grows f d h
 Grows-trans f d e h first second = record {
   canonical = second.canonical;
@@ -204,17 +201,6 @@ splits_self vars nodes v n behind = record {
   high_most = omega arith;
   smaller = λ e. absurd (omega (arith, behind.behind));
   same = λ a. elim (a v) as (λ t. function_of nodes n a ≡ function_of nodes (if t then n else n) a) [ true ↦ refl | false ↦ refl ];
-}
-
-pub splits_inner : (vars : ℕ) (nodes : List Triple) (v n : ℕ) (node : Triple) → IsInner vars nodes n node → node.variable ≡ v
-    → Splits vars nodes v n node.low node.high
-splits_inner vars nodes v n node at e = record {
-  low_behind = subst (λ (w : ℕ). IsBehind vars nodes w node.low) e at.branches.low;
-  high_behind = subst (λ (w : ℕ). IsBehind vars nodes w node.high) e at.branches.high;
-  low_most = omega (arith, at.low_before);
-  high_most = omega (arith, at.high_before);
-  smaller = λ _. (at.low_before, at.high_before);
-  same = λ a. at.branches.same a ∙ ap (λ w. function_of nodes (if a w then node.high else node.low) a) e;
 }
 
 -- a constant asks no variable

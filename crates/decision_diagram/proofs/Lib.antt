@@ -5,6 +5,5 @@ pub mod LookupLemmas
 pub mod MemoLemmas
 pub mod PlaceLemmas
 pub mod RestrictionLemmas
-pub mod TableLemmas
 pub mod ValueLemmas
 pub mod WalkLemmas

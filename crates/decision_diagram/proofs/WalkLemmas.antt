@@ -19,16 +19,6 @@ pub record Underway (vars : ℕ) (nodes : List Triple) (f : ℕ) (want : Bool) (
   pub least : (b : Assignment) → function_of nodes f b ≡ want → (i : ℕ) → i < first_variable vars nodes at
       → ((k : ℕ) → k < i → a k ≡ b k) → b i ≡ false → a i ≡ false
 
-pub walk_starts : (vars : ℕ) (nodes : List Triple) (f : ℕ) (want : Bool) (a : Assignment) → IsNumber nodes f
-    → (f ≡ constant_number (not want) → ⊥) → ((i : ℕ) → a i ≡ false) → Underway vars nodes f want f a
-walk_starts vars nodes f want a known wanted blank = record {
-  known = known;
-  wanted = wanted;
-  blank = λ i from. blank i;
-  same = λ b agree. refl;
-  least = λ b gives i before agree low. blank i;
-}
-
 not_both : (want : Bool) → want ≡ not want → ⊥
 not_both true e = true≢false e
 not_both false e = false≢true e

@@ -1,9 +1,17 @@
 // The table of inner nodes, and the functions that it makes.
-ghost use Rattle.std.specs.Prelude.{◌≡◌, ◌≤◌, ◌<◌, ◌+◌, ◌⊎◌, ℕ, [], true, false, not, length, IsTrue, IsFalse, IfOk, IfErr, OnOk, IfSome, IfNone, MatchOption, Contains, slice_get, Some, if◌then◌else◌};
-ghost use Rattle.decision_diagram.specs.Functions.{variable_at, exclusive_or, conjunction, GivesOnly, Varies, IsLeast, assignment_of};
-ghost use Rattle.decision_diagram.specs.Diagrams.{IsNumber, function_of, first_variable, IsBehind, MayFollow, IsCanonical};
-ghost use Rattle.decision_diagram.specs.Growth.{KeepsNodes, KeepsFunctions, AddsOnlyFrom, StandsFor, HoldsAllFrom, MayRefuse, EqualFunctionsHaveOneNumber, InnerNodesVary, FunctionsAskTheVariables, DiagramsHoldWhatComes};
-ghost use Rattle.decision_diagram.specs.inside.Joining.{Grows, joined, IsInner, Splits, node_function};
+ghost use Rattle.std.specs.Prelude.{◌≡◌, ◌≤◌, ◌<◌, ◌+◌, ◌⊎◌, ℕ, [], true, false, not, length};
+ghost use Rattle.std.specs.Prelude.{IsTrue, IsFalse, IfOk, IfErr, OnOk, IfSome, IfNone};
+ghost use Rattle.std.specs.Prelude.{MatchOption, Contains, slice_get, Some, if◌then◌else◌};
+ghost use Rattle.decision_diagram.specs.Functions.{variable_at, exclusive_or, conjunction};
+ghost use Rattle.decision_diagram.specs.Functions.{GivesOnly, Varies, IsLeast, assignment_of};
+ghost use Rattle.decision_diagram.specs.Diagrams.{IsNumber, function_of, first_variable, IsBehind};
+ghost use Rattle.decision_diagram.specs.Diagrams.{MayFollow, IsCanonical};
+ghost use Rattle.decision_diagram.specs.Growth.{KeepsNodes, KeepsFunctions, AddsOnlyFrom};
+ghost use Rattle.decision_diagram.specs.Growth.{StandsFor, HoldsAllFrom, MayRefuse};
+ghost use Rattle.decision_diagram.specs.Growth.{EqualFunctionsHaveOneNumber, InnerNodesVary};
+ghost use Rattle.decision_diagram.specs.Growth.{FunctionsAskTheVariables, DiagramsHoldWhatComes};
+ghost use Rattle.decision_diagram.specs.inside.Joining.{Grows, joined, IsInner, Splits};
+ghost use Rattle.decision_diagram.specs.inside.Joining.{node_function};
 ghost use Rattle.decision_diagram.specs.inside.Memos.{HoldsJoins};
 
 use crate::memo::{Operands, note, recalled};
@@ -13,13 +21,13 @@ use revc_base::Memory;
 use std::alloc::Global;
 use std::marker::Model;
 
-/// Functions of `vars` Boolean variables in one order, with at most `limit` inner nodes. Contracts see the two
-/// numbers and the list of the inner nodes, newest first.
+/// Functions of `vars` Boolean variables in one order, with at most `limit` inner nodes. Contracts
+/// see the two numbers and the list of the inner nodes, newest first.
 ///
-/// A call that makes a number refuses with `DdFault::Full` only where it needs one more function than the limit
-/// allows, and with `DdFault::Memory` only where there is room for one more. Inner nodes that it made on the way may
-/// stay then; every earlier number keeps its function. A number that is passed to a call must be one that this
-/// diagram gave.
+/// A call that makes a number refuses with `DdFault::Full` only where it needs one more function
+/// than the limit allows, and with `DdFault::Memory` only where there is room for one more. Inner
+/// nodes that it made on the way may stay then; every earlier number keeps its function. A number
+/// that is passed to a call must be one that this diagram gave.
 #[derive(Drop)]
 pub struct Diagram {
     vars: u32,
@@ -40,8 +48,8 @@ impl Model for Diagram {
 }
 
 impl Diagram {
-    /// A diagram of `vars` variables with no inner node, which may come to have `limit` of them. Memory for them is
-    /// taken as they are made.
+    /// A diagram of `vars` variables with no inner node, which may come to have `limit` of them.
+    /// Memory for them is taken as they are made.
     pub fn new(alloc: Global, vars: u32, limit: u32) -> Result<Diagram, Memory>
         requires { 1 ≤ limit }
         ensures canonical { IfOk result IsCanonical }
@@ -139,9 +147,10 @@ impl Diagram {
         }
     }
 
-    /// The least assignment with the wanted bit, in the order of the variables and false before true; variables
-    /// that the function does not ask are false in it. Where no assignment gives that bit it answers false and
-    /// leaves `into`, which has a place for each variable. It takes no memory.
+    /// The least assignment with the wanted bit, in the order of the variables and false before
+    /// true; variables that the function does not ask are false in it. Where no assignment gives
+    /// that bit it answers false and leaves `into`, which has a place for each variable. It takes
+    /// no memory.
     pub fn least(&self, f: Dd, want: bool, into: &mut [bool]) -> bool
         requires number { IsNumber self.now.nodes f }
         requires places { length into.old ≡ self.now.vars }
@@ -206,8 +215,9 @@ impl Diagram {
         }
     }
 
-    // The join of two functions: of their branches at the first variable that one of them asks. It goes no deeper
-    // than there are variables, and joins a pair again only where the memo could not note it.
+    // The join of two functions: of their branches at the first variable that one of them asks. It
+    // goes no deeper than there are variables, and joins a pair again only where the memo could not
+    // note it.
     fn join(
         &mut self,
         memo: &mut IndexMap<Operands, Dd>,
@@ -328,9 +338,9 @@ fn place_of(nodes: &IndexSet<Node>, node: Node) -> Option<usize>
     nodes.get_index_of(&node)
 }
 
-/// What holds of every diagram that a call has left: equal functions have equal numbers, no inner node stands for a
-/// constant, a function asks the diagram's variables alone, and what comes from a function by fixing its first
-/// variables is constant or has an inner node.
+/// What holds of every diagram that a call has left: equal functions have equal numbers, no inner
+/// node stands for a constant, a function asks the diagram's variables alone, and what comes from a
+/// function by fixing its first variables is constant or has an inner node.
 pub fn canonical()
     ensures distinct { EqualFunctionsHaveOneNumber }
     ensures inner { InnerNodesVary }

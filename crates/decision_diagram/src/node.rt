@@ -5,9 +5,9 @@ ghost use Rattle.decision_diagram.specs.Diagrams.{side};
 use std::alloc::AllocFailed;
 use std::marker::Model;
 
-/// The number of a function in the diagram that gave it. Contracts see the number itself: 0 and 1 are the
-/// constants false and true, and the inner nodes have the numbers from 2 on.
-#[derive(Clone, Copy, Debug, PartialEq, Eq, Hash)]
+/// The number of a function in the diagram that gave it. Contracts see the number itself: 0 and 1
+/// are the constants false and true, and the inner nodes have the numbers from 2 on.
+#[derive(Clone, Copy, PartialEq, Eq, Hash)]
 pub struct Dd {
     pub(crate) number: usize,
 }
@@ -34,7 +34,8 @@ impl Dd {
 /// Why a diagram gave no number.
 #[derive(Clone, Copy, Debug, PartialEq, Eq)]
 pub enum DdFault {
-    /// The diagram has as many inner nodes as its limit allows, `nodes`, and the answer needs another one.
+    /// The diagram has as many inner nodes as its limit allows, `nodes`, and the answer needs
+    /// another one.
     Full { nodes: u32 },
     /// Want of memory.
     Memory,
@@ -51,7 +52,8 @@ impl<T: Drop> From<AllocFailed<T>> for DdFault {
     }
 }
 
-// An inner node: it asks a variable and goes to `low` where that is false, to `high` where it is true.
+// An inner node: it asks a variable and goes to `low` where that is false, to `high` where it is
+// true.
 #[derive(Clone, Copy, PartialEq, Eq, Hash)]
 pub struct Node {
     pub variable: u32,

@@ -3,7 +3,8 @@ use Rattle.decision_diagram.specs.Functions.{Function}
 use Rattle.decision_diagram.specs.Diagrams.{Triple, function_of}
 use Rattle.decision_diagram.specs.Growth.{MayRefuse}
 use Rattle.decision_diagram.specs.inside.Joining.{joined, node_function}
-use Rattle.decision_diagram.proofs.GrowthLemmas.{KeepsNodes-refl, KeepsNodes-trans, StandsFor-same, behind-kept, Grows-from, Grows-same, Grows-trans, MayRefuse-from, MayRefuse-same}
+use Rattle.decision_diagram.proofs.GrowthLemmas.{KeepsNodes-refl, KeepsNodes-trans, StandsFor-same, behind-kept, Grows-from, Grows-same, Grows-trans}
+use Rattle.decision_diagram.proofs.GrowthLemmas.{MayRefuse-from, MayRefuse-same}
 use Rattle.decision_diagram.proofs.JoinLemmas.{one_asks, settled_behind, later_comes, node_is_join, refused_at}
 use Rattle.decision_diagram.proofs.MemoLemmas.{made_join, holds-kept, holds-noted, recalled_behind}
 use Rattle.decision_diagram.proofs.diagram.Diagram.+join.Goals as goal

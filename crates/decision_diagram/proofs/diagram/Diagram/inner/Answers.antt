@@ -15,4 +15,5 @@ returns c =
     subst (λ (d : DiagramView). IsInner d.vars d.nodes c.args.f node) c.self.view_is
     (subst (λ (n : ℕ). IsInner c.self.inside.vars (reverse items) n node) number
     (inner_at_place c.self.inside.vars items place node c.self.invariant.ordered
-    (omega (arith, known, number, length-reverse items)) (subst (λ (xs : List Triple). get_or xs place node ≡ node) c.as_slice.ensures.keys (sym c.index-as_slice-f.is))))
+    (omega (arith, known, number, length-reverse items))
+    (subst (λ (xs : List Triple). get_or xs place node ≡ node) c.as_slice.ensures.keys (sym c.index-as_slice-f.is))))
