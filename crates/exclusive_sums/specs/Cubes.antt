@@ -1,6 +1,7 @@
 -- Cubes are products of literals, and sums (by exclusive or) of cubes are merged while two of them are at
 -- distance 0 or 1.
-use Rattle.std.specs.Prelude.{◌≡◌, ℕ, ◌+◌, ◌<◌, ◌≤◌, ◌==◌, Bool, true, false, not, if◌then◌else◌, List, [], ◌∷◌, ◌++◌, length, map, Option, Some, None, slice_index_or}
+use Rattle.std.specs.Prelude.{◌≡◌, ℕ, ◌+◌, ◌<◌, ◌≤◌, ◌==◌, Bool, true, false, not, if◌then◌else◌, List, [], ◌∷◌, ◌++◌, length, map, Option, Some, None}
+use Rattle.std.specs.Prelude.{slice_index_or}
 use Rattle.std.specs.Bool.{beq, xor}
 use Rattle.std.specs.List.{AllByRecursion, list_all, count_by, remove}
 use Rattle.std.specs.Option.{is_none}

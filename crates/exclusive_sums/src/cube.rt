@@ -10,14 +10,15 @@ use std::alloc::{AllocError, Global};
 use std::marker::Model;
 
 /// An input, counted from 0, or its negation.
-#[derive(Clone, Copy, Debug, PartialEq, Eq)]
+#[derive(Clone, Copy, PartialEq, Eq)]
 pub struct Literal {
     pub input: u32,
     pub positive: bool,
 }
 
-/// A product of literals of different inputs, which rise. Contracts see it as the list of its literals.
-#[derive(Debug, Drop)]
+/// A product of literals of different inputs, which rise. Contracts see it as the list of its
+/// literals.
+#[derive(Drop)]
 pub struct Cube {
     literals: Vec<Literal>,
 }

@@ -12,6 +12,3 @@ pub use cube::{Cube, Literal};
 pub use law::determinacy;
 pub use merging::merge;
 pub use poly::{MOST_MONOMIALS, Poly};
-
-#[cfg(test)]
-mod tests;

@@ -2,7 +2,8 @@
 ghost use Rattle.std.specs.Prelude.{◌≡◌, ℕ, ◌<◌, length, IfOk, IfSome, IsNone, OnOk};
 ghost use Rattle.std.specs.List.{AllByRecursion};
 ghost use Rattle.list_facts.specs.Lists.{IsRising};
-ghost use Rattle.exclusive_sums.specs.Cubes.{AreFarApart, IsExclusiveSumOf, IsFirstClosePair, Merges, cubes_of, distance_at};
+ghost use Rattle.exclusive_sums.specs.Cubes.{AreFarApart, IsExclusiveSumOf, IsFirstClosePair};
+ghost use Rattle.exclusive_sums.specs.Cubes.{Merges, cubes_of, distance_at};
 ghost use Rattle.exclusive_sums.specs.inside.Merging.{IsCloseBehind, IsStep};
 
 use crate::cube::{Cube, distance, joined, positive_cube};
@@ -11,13 +12,13 @@ use crate::poly::Poly;
 use revc_base::Memory;
 use std::alloc::Global;
 
-/// Cubes whose exclusive or is the polynomial's function. It begins with one cube for each monomial, all
-/// literals positive. As long as there are two cubes at distance 0 or 1 (the number of inputs that are absent,
-/// positive or negative otherwise in the one than in the other), the first such pair is taken out, by the least
-/// first place and then the least second place. At distance 0 nothing comes in its place; at distance 1 a cube
-/// is put at the end, with the third state for the input that differs. This is the
-/// simplification of exclusive sums of products by cubes at distance 0 and 1, as in EXORCISM (Mishchenko and
-/// Perkowski, 2001).
+/// Cubes whose exclusive or is the polynomial's function. It begins with one cube for each
+/// monomial, all literals positive. As long as there are two cubes at distance 0 or 1 (the number
+/// of inputs that are absent, positive or negative otherwise in the one than in the other), the
+/// first such pair is taken out, by the least first place and then the least second place. At
+/// distance 0 nothing comes in its place; at distance 1 a cube is put at the end, with the third
+/// state for the input that differs. This is the simplification of exclusive sums of products by
+/// cubes at distance 0 and 1, as in EXORCISM (Mishchenko and Perkowski, 2001).
 pub fn merge(alloc: Global, poly: &Poly) -> Result<Vec<Cube>, Memory>
     ensures recipe { IfOk result (λ cubes. Merges (cubes_of poly.now) cubes.items) }
     ensures sum { IfOk result (λ cubes. IsExclusiveSumOf poly.now cubes.items) }

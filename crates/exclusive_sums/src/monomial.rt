@@ -12,7 +12,7 @@ use std::collections::VecDeque;
 use std::marker::Model;
 
 // A product of inputs, which rise. Contracts see it as the list of its inputs.
-#[derive(Debug, PartialEq, Eq, Hash, Drop)]
+#[derive(PartialEq, Eq, Hash, Drop)]
 pub struct Monomial {
     inputs: Key<u32>,
 }

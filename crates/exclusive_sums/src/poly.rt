@@ -1,5 +1,6 @@
 // Polynomials of at most 64 monomials.
-ghost use Rattle.std.specs.Prelude.{◌≡◌, ◌*◌, ◌≤◌, ◌==◌, ◌&&◌, not, [], ◌∷◌, ◌++◌, length, IfOk, IfSome, if◌then◌else◌, nat_le, Some, None};
+ghost use Rattle.std.specs.Prelude.{◌≡◌, ◌*◌, ◌≤◌, ◌==◌, ◌&&◌, not, [], ◌∷◌, ◌++◌, length, IfOk};
+ghost use Rattle.std.specs.Prelude.{IfSome, if◌then◌else◌, nat_le, Some, None};
 ghost use Rattle.std.specs.Bool.{xor};
 ghost use Rattle.revc_base.specs.Polynomials.{IsPolynomial, IsPolynomialOf, value_of_polynomial};
 ghost use Rattle.exclusive_sums.specs.Inputs.{AreOverInputsOf};
@@ -17,11 +18,11 @@ use std::marker::Model;
 /// The most monomials of a polynomial.
 pub const MOST_MONOMIALS: usize = 64;
 
-/// A polynomial over the field of two elements (the algebraic normal form, or Zhegalkin polynomial, of a
-/// Boolean function): the exclusive or of at most 64 monomials, each the product of some inputs. Inputs are
-/// counted from 0. Contracts see it as the set of its monomials, each a set of inputs: a list in the
-/// dictionary's order of rising lists.
-#[derive(Debug, Drop)]
+/// A polynomial over the field of two elements (the algebraic normal form, or Zhegalkin polynomial,
+/// of a Boolean function): the exclusive or of at most 64 monomials, each the product of some
+/// inputs. Inputs are counted from 0. Contracts see it as the set of its monomials, each a set of
+/// inputs: a list in the dictionary's order of rising lists.
+#[derive(Drop)]
 pub struct Poly {
     monomials: Vec<Monomial>,
 }
@@ -51,8 +52,8 @@ impl Poly {
         })
     }
 
-    /// The polynomial of the negation. `None` comes exactly where it has more than 64 monomials. Its inputs are among
-    /// those of this one.
+    /// The polynomial of the negation. `None` comes exactly where it has more than 64 monomials.
+    /// Its inputs are among those of this one.
     pub fn not(&self) -> Result<Option<Poly>, Memory>
         ensures polynomial { IfOk result
             (IsPolynomialUpTo MOST_MONOMIALS (λ x. not (value_of_polynomial x self.now))) }
@@ -64,8 +65,8 @@ impl Poly {
         Ok(limited(sum))
     }
 
-    /// The polynomial of the exclusive or of both. `None` comes exactly where it has more than 64 monomials. Its inputs
-    /// are among those of both.
+    /// The polynomial of the exclusive or of both. `None` comes exactly where it has more than 64
+    /// monomials. Its inputs are among those of both.
     pub fn xor(&self, other: &Poly) -> Result<Option<Poly>, Memory>
         ensures polynomial { IfOk result (IsPolynomialUpTo MOST_MONOMIALS
             (λ x. xor (value_of_polynomial x self.now) (value_of_polynomial x other.now))) }
@@ -79,9 +80,10 @@ impl Poly {
         Ok(limited(sum))
     }
 
-    /// The polynomial of the conjunction of both: their product, multiplied out with cancellation. `None` comes
-    /// exactly where it has more than 64 monomials. Its inputs are among those of both. It multiplies at most 64 x 64
-    /// pairs of monomials, each in expected time linear in their lengths.
+    /// The polynomial of the conjunction of both: their product, multiplied out with cancellation.
+    /// `None` comes exactly where it has more than 64 monomials. Its inputs are among those of
+    /// both. It multiplies at most 64 x 64 pairs of monomials, each in expected time linear in
+    /// their lengths.
     pub fn and(&self, other: &Poly) -> Result<Option<Poly>, Memory>
         ensures polynomial { IfOk result (IsPolynomialUpTo MOST_MONOMIALS
             (λ x. value_of_polynomial x self.now && value_of_polynomial x other.now)) }
