@@ -38,8 +38,8 @@ fn words_are_read(rt: HostRuntime) -> Result<(), Fail> {
     Ok(())
 }
 
-// Three writes on two inputs: a constant, its XOR with the first input, and the AND of the inputs. The
-// AND is claimed to be false, the XOR to be true.
+// Three writes on two inputs: a constant, its XOR with the first input, and the AND of the inputs.
+// The AND is claimed to be false, the XOR to be true.
 fn three_writes(alloc: Global) -> Result<Tape, Memory>
     ensures { IfOk result (λ tape. sum tape.params ≡ 2) }
 {
@@ -70,8 +70,8 @@ fn ending(end: &TapeEnd) -> (Option<u32>, &[bool]) {
     }
 }
 
-// The tape ends as it should on each of its inputs: with both claims broken, at the first. Both writes
-// that are outputs are needed at its end.
+// The tape ends as it should on each of its inputs: with both claims broken, at the first. Both
+// writes that are outputs are needed at its end.
 #[test]
 fn tapes_are_run_and_measured(rt: HostRuntime) -> Result<(), Fail> {
     let tape = three_writes(rt.alloc())?;

@@ -48,8 +48,8 @@ fn texts_have_their_tokens(rt: HostRuntime) -> Result<(), Fail> {
         2:1 Let, 2:5 Fun, 2:9 Clean, 2:15 Assert, 2:22 Append, 2:29 Rotate, 2:36 Reg, 2:40 True, \
         2:45 False, 3:1 For, 3:5 In, 3:8 Do, 3:11 Revs, \
         4:1 OpenSquare, 4:2 CloseSquare, 4:3 OpenCurly, 4:4 CloseCurly, 4:5 Semi, 4:6 Xor, \
-        4:8 And, 4:10 DotDot, 4:12 Plus, 4:13 Assign, 4:15 Xor, 4:17 Arrow, 4:19 Minus, 4:21 DotDot, \
-        4:24 Dot, 4:26 DotDot, 4:28 Dot, \
+        4:8 And, 4:10 DotDot, 4:12 Plus, 4:13 Assign, 4:15 Xor, 4:17 Arrow, 4:19 Minus, \
+        4:21 DotDot, 4:24 Dot, 4:26 DotDot, 4:28 Dot, \
         5:1 mainx, 5:7 Main, 5:12 _a1, 5:16 _, 5:18 x9_, 5:22 0, 5:24 7, 5:28 9999, 5:33 12, \
         5:35 ab, 5:39 End, ";
     assert_eq!(rt; shown(alloc, &all)?.as_str(), expected);

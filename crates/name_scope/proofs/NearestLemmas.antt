@@ -8,7 +8,7 @@ use Rattle.std.proofs.lemmas.List.Quantifiers.{position-Some}
 use Rattle.std.proofs.lemmas.Slice.Eq.{bytes_eq-Decides}
 use Rattle.revc_base.specs.declared.place.Place.{Place}
 use Rattle.revs_terms.specs.declared.term.Name.{Name}
-use Rattle.revs_terms.specs.Scopes.{Scoped, unbound, scoped, bound_name, IsNearest, BindsToNearest, UnboundHasNone}
+use Rattle.revs_terms.specs.Scopes.{Scoped, unbound, scoped, IsNearest, BindsToNearest, UnboundHasNone}
 use Rattle.name_scope.proofs.TableLemmas.{by_cases}
 
 got : {A : Type 0} (xs : List A) (i : ℕ) (d : A) → i < length xs → slice_get xs i ≡ Some (get_or xs i d)
