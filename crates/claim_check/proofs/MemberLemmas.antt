@@ -13,7 +13,7 @@ use Rattle.decision_diagram.specs.Diagrams.{DiagramView, Triple, IsCanonical, Is
 use Rattle.decision_diagram.specs.Functions.{Function, AreSame, ComesFrom}
 use Rattle.decision_diagram.specs.Growth.{KeepsNodes, AddsOnlyFrom, IsFullFor, IsHeld}
 use Rattle.decision_diagram.proofs.DistinctLemmas.{distinct_functions}
-use Rattle.decision_diagram.proofs.GrowthLemmas.{function-kept, stands-kept}
+use Rattle.decision_diagram.proofs.GrowthLemmas.{function-kept}
 use Rattle.decision_diagram.proofs.RestrictionLemmas.{ComesFrom-of_same, inner_varies, holds_all}
 use Rattle.claim_check.specs.inside.Tables.{function_at, restricted_at, IsMemberNode, IsNumbered, HoldsOnlyMembers, HoldsAllBases}
 use Rattle.claim_check.proofs.BaseLemmas.{base_more}

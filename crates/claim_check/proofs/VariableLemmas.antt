@@ -17,7 +17,7 @@ use Rattle.revc_base.specs.Measures.{inputs_of}
 use Rattle.revc_base.specs.Tapes.{TapeView}
 use Rattle.revc_base.specs.VariableOrders.{IsOrderOf, variable_order}
 use Rattle.revc_base.proofs.VariableOrderLemmas.{is_order}
-use Rattle.decision_diagram.specs.Functions.{Assignment, assignment_of, fixed}
+use Rattle.decision_diagram.specs.Functions.{Assignment, fixed}
 use Rattle.decision_diagram.proofs.RestrictionLemmas.{fixed-below, fixed-from}
 use Rattle.claim_check.specs.inside.Tables.{input_at}
 

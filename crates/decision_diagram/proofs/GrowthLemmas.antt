@@ -11,7 +11,7 @@ use Rattle.decision_diagram.specs.Functions.{Assignment, Function, AreSame, Take
 use Rattle.decision_diagram.specs.Diagrams.{Triple, DiagramView, IsNumber, next_number, function_of, first_variable, IsBehind, MayFollow, AreOrdered}
 use Rattle.decision_diagram.specs.Diagrams.{IsCanonical}
 use Rattle.decision_diagram.specs.Growth.{KeepsNodes, KeepsFunctions, StandsFor, HoldsAllFrom, IsFullFor, MayRefuse}
-use Rattle.decision_diagram.specs.inside.Joining.{Grows, joined, IsInner, Splits, node_function}
+use Rattle.decision_diagram.specs.inside.Joining.{Grows, joined, Splits, node_function}
 use Rattle.decision_diagram.proofs.ValueLemmas.{function-newest, function-older, first-older, branch_behind, function-agree}
 use Rattle.decision_diagram.proofs.DistinctLemmas.{distinct_functions, new_function, first-constant}
 use Rattle.decision_diagram.proofs.RestrictionLemmas.{fixed-below, fixed-from, comes_same, ComesFrom-trans, ComesFrom-same, inner_varies, holds_all}

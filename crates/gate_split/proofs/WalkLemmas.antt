@@ -1,5 +1,6 @@
 -- One step of the walk, and its end.
-use Rattle.std.proofs.Common.{◌≡◌, ℕ, ◌+◌, ◌<◌, ◌≤◌, List, [], ◌∷◌, ◌++◌, length, get_or, drop, Option, Some, None, Result, Ok, Err, refl, sym, ap, ◌∙◌, inl, inr, arith}
+use Rattle.std.proofs.Common.{◌≡◌, ℕ, ◌+◌, ◌<◌, ◌≤◌, List, [], ◌∷◌, ◌++◌, length, get_or, drop, Option, Some, None, Result, Ok, Err}
+use Rattle.std.proofs.Common.{refl, sym, ap, ◌∙◌, inl, inr, arith}
 use Rattle.std.proofs.lemmas.List.{drop_more, drop_all, length-append}
 use Rattle.std.proofs.lemmas.Option.{same_Some}
 use Rattle.std.proofs.lemmas.Bool.Decides.{leb_tells}
@@ -62,7 +63,8 @@ one_more n limit place done now gates i gate whole h e made fits w =
     sym (piece_fits limit place done now (split_gate n gate) (λ now. split_from n limit (place + 1) now (drop (i + 1) gates)) made fits)
     ∙ at_gate n limit place done gates i gate whole h e w
 
-pub no_idle_at : (n limit place : ℕ) (done gates : List GateView) (i : ℕ) (gate : GateView) (why : Refusal) (whole : Result (List GateView) SplitFault) (number : ℕ)
+pub no_idle_at : (n limit place : ℕ) (done gates : List GateView) (i : ℕ) (gate : GateView) (why : Refusal)
+    (whole : Result (List GateView) SplitFault) (number : ℕ)
     → i < length gates → gate ≡ get_or gates i gate → fault_at place why ≡ NoIdle number → (why ≡ refusal.NoIdle → split_gate n gate ≡ None)
     → split_from n limit place done (drop i gates) ≡ whole → whole ≡ Err (NoIdle number)
 no_idle_at n limit place done gates i gate refusal.NoIdle whole number h e is none w =

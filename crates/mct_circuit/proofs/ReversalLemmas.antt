@@ -1,5 +1,5 @@
 -- A gate undoes itself, and a list of gates in reversed order undoes the list.
-use Rattle.std.proofs.Common.{◌≡◌, ◌≢◌, ℕ, ◌<◌, ◌≤◌, Bool, true, false, not, cond, List, [], ◌∷◌, ◌++◌, length, map, take, reverse, swap, set, refl, sym, ap}
+use Rattle.std.proofs.Common.{◌≡◌, ◌≢◌, ℕ, ◌<◌, Bool, true, false, not, cond, List, [], ◌∷◌, ◌++◌, length, map, take, reverse, swap, set, refl, sym, ap}
 use Rattle.std.proofs.Common.{◌∙◌, subst, arith}
 use Rattle.std.specs.List.{AllByRecursion, list_all}
 use Rattle.std.proofs.Math.Bool.{not-not}
@@ -11,7 +11,7 @@ use Rattle.mct_circuit.specs.declared.gate.Control.{Control}
 use Rattle.mct_circuit.specs.declared.gate.Op.{Op}
 use Rattle.mct_circuit.specs.declared.gate.Op.TheVariants.{Flip, Swap}
 use Rattle.mct_circuit.specs.Gates.{GateView, is_met, after_op, after_gate, line_map, targets_of, lines_of, HasDifferentLines, IsGateOn, AreGatesOn}
-use Rattle.mct_circuit.specs.Gates.{ReversedUndoes, flip_of, IsNarrow, AreNarrow}
+use Rattle.mct_circuit.specs.Gates.{ReversedUndoes, flip_of}
 use Rattle.list_facts.specs.Bits.{bit_of}
 use Rattle.list_facts.specs.Lists.{AreDifferent}
 
