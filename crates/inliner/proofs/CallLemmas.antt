@@ -8,15 +8,18 @@ use Rattle.revs_terms.specs.declared.term.Part.{Part}
 use Rattle.revs_terms.specs.Terms.{place_of}
 use Rattle.revs_terms.specs.Trees.{Tree, trees, list_of, ItemTree, item_trees, bind, run, block, parts, apply, append}
 use Rattle.revs_terms.specs.Running as runs
-use Rattle.revs_terms.specs.Running.{Environment, bound, bound_length, State, Outcome, stuck, went, after, run_of, term_of, block_of, part_of, parts_of, apply_all, apply_to, worked, appended}
+use Rattle.revs_terms.specs.Running.{Environment, bound, bound_length, State, Outcome, stuck, went, after, run_of, term_of}
+use Rattle.revs_terms.specs.Running.{block_of, part_of, parts_of, apply_all, apply_to, worked, appended}
 use Rattle.revs_terms.specs.Runs.{no_bits}
 use Rattle.array_shapes.specs.declared.value.Value.{Value}
 use Rattle.inliner.specs.declared.fault.RunFault.{RunFault}
 use Rattle.inliner.specs.declared.machine.Machine.{Machine}
-use Rattle.inliner.specs.inside.Machines.{env_in, value_in, envs_of, state_of, IsMachine, IsValue, Goes, Binds, AreWorkedFor, LeavesRoom, Grows, BindsOne, Calls}
+use Rattle.inliner.specs.inside.Machines.{env_in, value_in, envs_of, state_of, IsMachine, IsValue, Goes}
+use Rattle.inliner.specs.inside.Machines.{Binds, AreWorkedFor, LeavesRoom, Grows, BindsOne, Calls}
 use Rattle.inliner.proofs.FaultLemmas.{said_first, said_same}
 use Rattle.inliner.proofs.EnvironmentLemmas.{grown_env, grown_length, grown_value, grows_trans}
-use Rattle.inliner.proofs.ProgressLemmas.{Through, after_went, begun, ends_here, goes_in, items_of-item_trees, list_of-trees, regroup, said, same_next, same_rest, says_in, step, step_bound}
+use Rattle.inliner.proofs.ProgressLemmas.{Through, after_went, begun, ends_here, goes_in, items_of-item_trees, list_of-trees}
+use Rattle.inliner.proofs.ProgressLemmas.{regroup, said, same_next, same_rest, says_in, step, step_bound}
 use Rattle.inliner.specs.inside.Steps.{Going, Says, argument_step, bind_step, item_step}
 use Rattle.revs_terms.specs.declared.cause.Cause.TheVariants as causes
 

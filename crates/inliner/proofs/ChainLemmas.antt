@@ -5,13 +5,14 @@ use Rattle.revc_base.specs.declared.place.Place.{Place}
 use Rattle.revs_terms.specs.Terms.{place_of}
 use Rattle.revs_terms.specs.Trees.{Tree, trees, assign, reg}
 use Rattle.revs_terms.specs.Running as runs
-use Rattle.revs_terms.specs.Running.{Environment, State, Outcome, stuck, went, after, provided, run_of, term_of, bit_of, bits_of, chain, chain_of, worked, written, read, Stamped, assigned, short_register}
+use Rattle.revs_terms.specs.Running.{Environment, State, Outcome, stuck, went, after, provided, run_of, term_of, bit_of, bits_of}
+use Rattle.revs_terms.specs.Running.{chain, chain_of, worked, written, read, Stamped, assigned, short_register}
 use Rattle.revs_terms.specs.Runs.{no_bits}
 use Rattle.array_shapes.specs.declared.value.Value.TheVariants as variants
 use Rattle.inliner.specs.declared.fault.RunFault.{RunFault}
 use Rattle.inliner.specs.declared.machine.Machine.{Machine}
-use Rattle.inliner.specs.declared.machine.Operator.{Operator}
-use Rattle.inliner.specs.declared.machine.Operator.TheVariants as operators
+use Rattle.inliner.specs.declared.operators.Operator.{Operator}
+use Rattle.inliner.specs.declared.operators.Operator.TheVariants as operators
 use Rattle.inliner.specs.inside.Machines.{env_in, envs_of, state_of, IsMachine, Does, Goes}
 use Rattle.inliner.proofs.FaultLemmas.{said_first, said_same}
 use Rattle.inliner.specs.inside.Steps.{Going, Says, chain_tree, entry_of, join_step, link_step}

@@ -1,5 +1,6 @@
 -- Environments by their numbers, as bindings are added.
-use Rattle.std.proofs.Common.{◌≡◌, ℕ, zero, suc, ◌+◌, ◌-◌, ◌≤◌, ◌<◌, Some, List, [], ◌∷◌, ◌++◌, length, slice_index_or, slice_get, get_or, length-append, append_assoc, arith, refl, sym, ap, ◌∙◌, subst}
+use Rattle.std.proofs.Common.{◌≡◌, ℕ, zero, suc, ◌+◌, ◌-◌, ◌≤◌, ◌<◌, Some, List, [], ◌∷◌, ◌++◌, length, slice_index_or}
+use Rattle.std.proofs.Common.{slice_get, get_or, length-append, append_assoc, arith, refl, sym, ap, ◌∙◌, subst}
 use Rattle.std.proofs.lemmas.List.{append-nil}
 use Rattle.revs_terms.specs.Running as runs
 use Rattle.revs_terms.specs.Running.{Environment, nothing, bound, value_at, State, Outcome, went, worked}
@@ -14,7 +15,8 @@ use Rattle.revc_base.specs.declared.place.Place.{Place}
 use Rattle.revs_terms.specs.Runs.{no_bits}
 use Rattle.inliner.proofs.FaultLemmas.{goes_on}
 use Rattle.inliner.specs.inside.Steps.{bind_step}
-use Rattle.inliner.specs.inside.Machines.{view_length, env_in, spec_value, value_in, bound_in, envs_from, IsValueView, IsValue, AreBindings, AreLeaps, envs_of, state_of, IsMachine, Grows, Does, BindsOne}
+use Rattle.inliner.specs.inside.Machines.{view_length, env_in, spec_value, value_in, bound_in, envs_from, IsValueView, IsValue}
+use Rattle.inliner.specs.inside.Machines.{AreBindings, AreLeaps, envs_of, state_of, IsMachine, Grows, Does, BindsOne}
 
 -- ---- what stands in front stays
 

@@ -1,6 +1,6 @@
 -- A run on its way: what is left of it.
 use Rattle.std.proofs.Common.{◌≡◌, ℕ, ◌≤◌, List, [], ◌∷◌, length, refl, ap, ◌∙◌, subst, arith}
-use Rattle.std.specs.Prelude.{Result, Ok, Err, IfOk, OnOk, IfErr}
+use Rattle.std.specs.Prelude.{Result, Ok, Err, IfOk, OnOk}
 use Rattle.revs_terms.specs.Trees.{Tree, trees, list_of, ItemTree, item_trees, items_of}
 use Rattle.revs_terms.specs.Running as runs
 use Rattle.revs_terms.specs.Running.{Environment, State, Outcome, stuck, went, after, run_of, term_of, bit_of, bits_of, chain_of, worked}
@@ -13,14 +13,6 @@ use Rattle.inliner.specs.inside.Steps.{Says}
 use Rattle.inliner.proofs.EnvironmentLemmas.{grows_same, grows_trans, grown_env}
 
 -- ---- results that are passed on
-
-pub on_ok : {T E : Type 0} {P Q : T → Type 0} (r : Result T E) → ((x : T) → P x → Q x) → IfOk r P → IfOk r Q
-on_ok (Ok x) f h = f x h
-on_ok (Err e) f h = tt
-
-pub on_err : {T E : Type 0} {P Q : E → Type 0} (r : Result T E) → ((e : E) → P e → Q e) → IfErr r P → IfErr r Q
-on_err (Ok x) f h = tt
-on_err (Err e) f h = f e h
 
 pub on_ok_alone : {T E : Type 0} {P : T → Type 0} {Q : Type 0} (r : Result T E) → ((x : T) → P x → Q) → IfOk r P → OnOk r Q
 on_ok_alone (Ok x) f h = f x h

@@ -1,5 +1,6 @@
 -- What each write to the machine does to the state of the run.
-use Rattle.std.proofs.Common.{◌≡◌, ℕ, ◌+◌, ◌≤◌, ◌<◌, leb, true, Option, Some, None, List, [], ◌∷◌, ◌++◌, length, map, sum, slice_set, length-append, arith, refl, sym, ap, ◌∙◌, subst}
+use Rattle.std.proofs.Common.{◌≡◌, ℕ, ◌+◌, ◌≤◌, ◌<◌, leb, true, Option, Some, None, List, [], ◌∷◌, ◌++◌, length}
+use Rattle.std.proofs.Common.{map, sum, slice_set, length-append, arith, refl, sym, ap, ◌∙◌, subst}
 use Rattle.std.specs.List.{AllByRecursion}
 use Rattle.std.proofs.lemmas.List.{map-set, length-set, map-append, length-map}
 use Rattle.std.proofs.lemmas.Bool.Decides.{nat_tests}

@@ -21,10 +21,11 @@ use revs_terms::limits::MOST_DEPTH;
 use revs_terms::{Cause, Program, Term};
 use std::alloc::Global;
 
-/// Runs a program whose names are bound once for all inputs, to the tape that its run leaves on each of them.
+/// Runs a program whose names are bound once for all inputs, to the tape that its run leaves on
+/// each of them.
 ///
-/// A fault comes exactly where the run is stuck, with that cause and place, on every input; want of memory may come
-/// anywhere.
+/// A fault comes exactly where the run is stuck, with that cause and place, on every input; want of
+/// memory may come anywhere.
 pub fn unroll(alloc: Global, scoped: &Scoped) -> Result<Tape, RunFault>
     ensures ok { IfOk result (λ tape. IsTapeOf scoped.now.program.params.items
         (tree_of scoped.now.program.body) tape) }

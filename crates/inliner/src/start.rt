@@ -96,7 +96,8 @@ fn bound<'t>(alloc: Global, params: &[Param]) -> Result<Vec<Binding<'t>>, RunFau
     Ok(bindings)
 }
 
-/// The machine at the start of a program with these parameters. Its last environment is that of the body.
+/// The machine at the start of a program with these parameters. Its last environment is that of the
+/// body.
 pub fn start<'t>(alloc: Global, params: &[Param]) -> Result<Machine<'t>, RunFault>
     requires { AreParams params.now }
     ensures ok { IfOk result (λ machine. IsStart params.now machine) }

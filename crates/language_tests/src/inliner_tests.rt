@@ -1,1 +1,41 @@
 // The tests of inliner.
+ghost use Rattle.revs_terms.specs.Programs.{IsBody, HasFewNames};
+ghost use Rattle.revs_terms.specs.Trees.{tree_of};
+ghost use Rattle.std.specs.Prelude.{[]};
+
+use inliner::unroll;
+use name_scope::scope;
+use revc_base::{Entry, Place, Ref};
+use revs_terms::{Program, Term};
+use std::alloc::Global;
+use std::test::Fail;
+
+fn at(column: u32) -> Place {
+    Place { line: 1, column }
+}
+
+// A program without parameters.
+fn program(alloc: Global, body: Term) -> Program
+    requires formed { IsBody (tree_of body) }
+    requires few { HasFewNames [] (tree_of body) }
+{
+    Program {
+        params: Vec::new(alloc),
+        body,
+    }
+}
+
+// A constant is written, and is the output.
+#[test]
+#[tactic(auto, using(revs_terms::proofs::ShapeLemmas::shapes))]
+fn a_constant_is_a_write(rt: HostRuntime) -> Result<(), Fail> {
+    let alloc = rt.alloc();
+    let scoped = scope(alloc, program(alloc, Term::Bool(true, at(1))))
+        .ok()
+        .ok_or("refused")?;
+    let tape = unroll(alloc, &scoped)?;
+    assert_eq!(rt; tape.len(), 1);
+    assert_eq!(rt; tape.outputs(), [Ref::Write(0)].as_slice());
+    assert_eq!(rt; tape.entries(), [Entry::Const(true)].as_slice());
+    Ok(())
+}

@@ -9,7 +9,8 @@ use Rattle.revs_terms.specs.declared.cause.Cause.TheVariants as causes
 use Rattle.revs_terms.specs.declared.program.Param.{Param}
 use Rattle.revs_terms.specs.Trees.{Tree, ItemTree, bind, run, ands, xors, trees}
 use Rattle.revs_terms.specs.Terms.{place_of}
-use Rattle.revs_terms.specs.Running.{Value, Environment, bound, bound_length, Stamped, State, Outcome, stuck, went, Step, done, ◌>>=◌, read, written, worked, bit_of, apply_to}
+use Rattle.revs_terms.specs.Running.{Value, Environment, bound, bound_length, Stamped, State, Outcome, stuck}
+use Rattle.revs_terms.specs.Running.{went, Step, done, ◌>>=◌, read, written, worked, bit_of, apply_to}
 use Rattle.revs_terms.specs.Runs.{no_bits, run_without_bits, tape_of}
 use Rattle.array_shapes.specs.declared.shapes.ShapeFault.{ShapeFault}
 use Rattle.array_shapes.specs.declared.shapes.ShapeFault.TheVariants as shapes
@@ -18,8 +19,8 @@ use Rattle.array_shapes.specs.Values as values
 use Rattle.array_shapes.specs.Values.{seen}
 use Rattle.inliner.specs.declared.fault.RunFault.{RunFault}
 use Rattle.inliner.specs.declared.fault.RunFault.TheVariants as faults
-use Rattle.inliner.specs.declared.machine.Operator.{Operator}
-use Rattle.inliner.specs.declared.machine.Operator.TheVariants as operators
+use Rattle.inliner.specs.declared.operators.Operator.{Operator}
+use Rattle.inliner.specs.declared.operators.Operator.TheVariants as operators
 
 -- ---- steps
 

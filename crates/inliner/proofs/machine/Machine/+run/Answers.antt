@@ -7,16 +7,19 @@ use Rattle.revs_terms.proofs.ShapeLemmas.{tree_of-Block, item_tree_of-Let, item_
 use Rattle.array_shapes.specs.declared.value.Value.{Value}
 use Rattle.revs_terms.specs.Runs.{no_bits}
 use Rattle.inliner.specs.inside.Machines.{envs_of, env_in, value_in, state_of, Goes, Binds, Calls}
-use Rattle.inliner.proofs.ProgressLemmas.{on_ok, on_err, on_ok_alone, ends_goes, ends_calls, said, goes_in, says_in}
-use Rattle.inliner.proofs.ChainLemmas.{entered, assigns_from, assigns_stuck, reg_made, reg_stuck, bits_begun, bits_more, bits_stuck, bits_done, chain_begun, chain_more, chain_stuck, chain_done}
-use Rattle.inliner.proofs.CallLemmas.{mapped_at, mapped_end, passes_on, block_more, block_stuck, at_begun, append_second, append_stuck, apply_begun, apply_more, apply_stuck, argument_run, call_stuck, call_last, call_next, call_ends, call_said, item_bound, item_run, block_term}
+use Rattle.std.proofs.lemmas.Result.{IfOk-weaker, IfErr-weaker}
+use Rattle.inliner.proofs.ProgressLemmas.{on_ok_alone, ends_goes, ends_calls, said, goes_in, says_in}
+use Rattle.inliner.proofs.ChainLemmas.{entered, assigns_from, assigns_stuck, reg_made, reg_stuck, bits_begun, bits_more}
+use Rattle.inliner.proofs.ChainLemmas.{bits_stuck, bits_done, chain_begun, chain_more, chain_stuck, chain_done}
+use Rattle.inliner.proofs.CallLemmas.{mapped_at, mapped_end, passes_on, block_more, block_stuck, at_begun, append_second, append_stuck, apply_begun, apply_more}
+use Rattle.inliner.proofs.CallLemmas.{apply_stuck, argument_run, call_stuck, call_last, call_next, call_ends, call_said, item_bound, item_run, block_term}
 use Rattle.inliner.specs.inside.Steps.{Says, item_step}
 use Rattle.inliner.proofs.machine.Machine.+run.Goals as goal
 
 pub run-returns-clause-ok : goal.run-returns-clause-ok
 run-returns-clause-ok t c =
     let old = c.args.self.now in
-    on_ok c.term.result (λ v g. ends_goes (entered old c.enter.new.self c.args.left (env_in (envs_of old) c.args.env)
+    IfOk-weaker c.term.result _ _ (λ v g. ends_goes (entered old c.enter.new.self c.args.left (env_in (envs_of old) c.args.env)
     (tree_of c.args.term.now) c.requires.machine (omega arith) c.in_ok-enter.ensures.ok)
     (goes_in (λ e. term_of no_bits (run_of no_bits (c.args.left - 1)) e (tree_of c.args.term.now) (state_of c.enter.new.self)) old c.enter.new.self _
     c.args.env v c.in_ok-enter.ensures.ok.grows c.requires.env g)) c.term.ensures.ok
@@ -24,7 +27,7 @@ run-returns-clause-ok t c =
 pub run-returns-clause-err : goal.run-returns-clause-err
 run-returns-clause-err t c =
     let old = c.args.self.now in
-    on_err c.term.result (λ f s. said f (entered old c.enter.new.self c.args.left (env_in (envs_of old) c.args.env)
+    IfErr-weaker c.term.result _ _ (λ f s. said f (entered old c.enter.new.self c.args.left (env_in (envs_of old) c.args.env)
     (tree_of c.args.term.now) c.requires.machine (omega arith) c.in_ok-enter.ensures.ok)
     (says_in (λ e. term_of no_bits (run_of no_bits (c.args.left - 1)) e (tree_of c.args.term.now) (state_of c.enter.new.self)) old c.enter.new.self c.args.env
     f c.in_ok-enter.ensures.ok.grows c.requires.env s)) c.term.ensures.err
@@ -34,27 +37,28 @@ run-returns-clause-room t c = on_ok_alone c.term.result (λ v g. omega (arith, c
 
 pub assignment-returns-clause-ok : goal.assignment-returns-clause-ok
 assignment-returns-clause-ok t c =
-    on_ok c.assign.result (λ v g. ends_goes (assigns_from c.args.self.now c.bit.new.self c.bit-2.new.self c.args.left c.args.env c.in_ok-to.to
-    c.in_ok-from.from
-    (tree_of c.args.left_term.now) (tree_of c.args.right_term.now) c.requires.machine c.requires.env c.in_ok-to.ensures.ok c.in_ok-from.ensures.ok) g)
+    IfOk-weaker c.assign.result _ _ (λ v g. ends_goes (assigns_from c.args.self.now c.bit.new.self c.bit-2.new.self c.args.left c.args.env c.in_ok-to.to
+    c.in_ok-from.from (tree_of c.args.left_term.now) (tree_of c.args.right_term.now)
+    c.requires.machine c.requires.env c.in_ok-to.ensures.ok c.in_ok-from.ensures.ok) g)
     c.assign.ensures.ok
 
 pub assignment-returns-clause-err : goal.assignment-returns-clause-err
 assignment-returns-clause-err t c =
-    on_err c.assign.result (λ f s. said f (assigns_from c.args.self.now c.bit.new.self c.bit-2.new.self c.args.left c.args.env c.in_ok-to.to c.in_ok-from.from
-    (tree_of c.args.left_term.now) (tree_of c.args.right_term.now) c.requires.machine c.requires.env c.in_ok-to.ensures.ok c.in_ok-from.ensures.ok) s)
+    IfErr-weaker c.assign.result _ _ (λ f s. said f (assigns_from c.args.self.now c.bit.new.self c.bit-2.new.self c.args.left c.args.env c.in_ok-to.to
+    c.in_ok-from.from (tree_of c.args.left_term.now) (tree_of c.args.right_term.now)
+    c.requires.machine c.requires.env c.in_ok-to.ensures.ok c.in_ok-from.ensures.ok) s)
     c.assign.ensures.err
 
 pub reg-returns-clause-ok : goal.reg-returns-clause-ok
 reg-returns-clause-ok t c =
-    on_ok c.short_register.result (λ v g. ends_goes
+    IfOk-weaker c.short_register.result _ _ (λ v g. ends_goes
     (reg_made c.args.self.now c.bits.new.self c.args.left (env_in (envs_of c.args.self.now) c.args.env)
     (map tree_of c.args.terms.now) c.args.at c.in_ok-locations.locations.items c.requires.machine c.in_ok-locations.ensures.ok) g)
     c.short_register.ensures.ok
 
 pub reg-returns-clause-err : goal.reg-returns-clause-err
 reg-returns-clause-err t c =
-    on_err c.short_register.result (λ f s. said f
+    IfErr-weaker c.short_register.result _ _ (λ f s. said f
     (reg_made c.args.self.now c.bits.new.self c.args.left (env_in (envs_of c.args.self.now) c.args.env)
     (map tree_of c.args.terms.now) c.args.at c.in_ok-locations.locations.items c.requires.machine c.in_ok-locations.ensures.ok) s)
     c.short_register.ensures.err
@@ -121,13 +125,13 @@ append-returns-in_err-back-clause-err t c = passes_on _ c.from_residual-in_err-b
     c.in_err-back.ensures.err)
 
 pub append-returns-clause-ok : goal.append-returns-clause-ok
-append-returns-clause-ok t c = on_ok c.appended.result
+append-returns-clause-ok t c = IfOk-weaker c.appended.result _ _
     (λ v g. ends_goes (append_second c.args.self.now c.run.new.self c.run-2.new.self c.args.left c.args.env (tree_of c.args.first.now)
     (tree_of c.args.second.now) c.args.at c.in_ok-front.front c.in_ok-back.back c.requires.machine c.requires.env c.in_ok-front.ensures.ok
     c.in_ok-back.ensures.ok) g) c.appended.ensures.ok
 
 pub append-returns-clause-err : goal.append-returns-clause-err
-append-returns-clause-err t c = on_err c.appended.result
+append-returns-clause-err t c = IfErr-weaker c.appended.result _ _
     (λ f s. said f (append_second c.args.self.now c.run.new.self c.run-2.new.self c.args.left c.args.env (tree_of c.args.first.now)
     (tree_of c.args.second.now) c.args.at c.in_ok-front.front c.in_ok-back.back c.requires.machine c.requires.env c.in_ok-front.ensures.ok
     c.in_ok-back.ensures.ok) s) c.appended.ensures.err
@@ -150,24 +154,24 @@ apply-loop-term-preserved t c = apply_more c.args.self.now c.loop-term.self c.ar
     c.in_ok-value-2.ensures.ok
 
 pub argument-returns-clause-ok : goal.argument-returns-clause-ok
-argument-returns-clause-ok t c = on_ok c.call.result
+argument-returns-clause-ok t c = IfOk-weaker c.call.result _ _
     (λ v g. ends_calls (argument_run c.args.self.now c.run.new.self c.args.left c.args.env
     (tree_of c.args.term.now) c.args.callee c.in_ok-argument.argument c.requires.machine c.requires.made c.in_ok-argument.ensures.ok)
     c.in_ok-argument.ensures.room g) c.call.ensures.ok
 
 pub argument-returns-clause-err : goal.argument-returns-clause-err
-argument-returns-clause-err t c = on_err c.call.result
+argument-returns-clause-err t c = IfErr-weaker c.call.result _ _
     (λ f s. said f (argument_run c.args.self.now c.run.new.self c.args.left c.args.env
     (tree_of c.args.term.now) c.args.callee c.in_ok-argument.argument c.requires.machine c.requires.made c.in_ok-argument.ensures.ok) s) c.call.ensures.err
 
 pub at-returns-clause-ok : goal.at-returns-clause-ok
-at-returns-clause-ok t c = on_ok c.parts.result
+at-returns-clause-ok t c = IfOk-weaker c.parts.result _ _
     (λ v g. ends_goes (at_begun c.args.self.now c.run.new.self c.args.left c.args.env
     (tree_of c.args.base.now) c.args.inside.now c.in_ok-value.value c.place.result c.place.ensures c.requires.machine c.in_ok-value.ensures.ok) g)
     c.parts.ensures.ok
 
 pub at-returns-clause-err : goal.at-returns-clause-err
-at-returns-clause-err t c = on_err c.parts.result
+at-returns-clause-err t c = IfErr-weaker c.parts.result _ _
     (λ f s. said f (at_begun c.args.self.now c.run.new.self c.args.left c.args.env
     (tree_of c.args.base.now) c.args.inside.now c.in_ok-value.value c.place.result c.place.ensures c.requires.machine c.in_ok-value.ensures.ok) s)
     c.parts.ensures.err
@@ -195,7 +199,7 @@ call-returns-in_err-inner-clause-err t c = passes_on _ c.from_residual.result c.
     (state_of c.args.self.now) c.in_err-inner.field-0.0 (omega (arith, c.in-Fun.of.now.names.ok.0)) c.in_err-inner.ensures.err))
 
 pub call-returns-then-len-taken-2-clause-ok : goal.call-returns-then-len-taken-2-clause-ok
-call-returns-then-len-taken-2-clause-ok t c = on_ok c.run.result
+call-returns-then-len-taken-2-clause-ok t c = IfOk-weaker c.run.result _ _
     (λ v g. subst (λ (w : Value). Calls c.args.self.now c.run.new.self
     (apply_to no_bits (run_of no_bits c.args.left) (place_of (tree_of c.args.term.now)) (value_in (envs_of c.args.self.now) w)
     (value_in (envs_of c.args.self.now) c.args.argument) (state_of c.args.self.now)) v) (sym c.in-Fun.is)
@@ -205,7 +209,7 @@ call-returns-then-len-taken-2-clause-ok t c = on_ok c.run.result
     (omega (arith, c.in-Fun.of.now.names.ok.0)) c.in_ok-inner.ensures.ok) g)) c.run.ensures.ok
 
 pub call-returns-then-len-taken-2-clause-err : goal.call-returns-then-len-taken-2-clause-err
-call-returns-then-len-taken-2-clause-err t c = on_err c.run.result
+call-returns-then-len-taken-2-clause-err t c = IfErr-weaker c.run.result _ _
     (λ f s. subst (λ (w : Value). Says f (apply_to no_bits (run_of no_bits c.args.left) (place_of (tree_of c.args.term.now))
     (value_in (envs_of c.args.self.now) w) (value_in (envs_of c.args.self.now) c.args.argument) (state_of c.args.self.now))) (sym c.in-Fun.is)
     (call_said f (call_last c.args.self.now c.bind.new.self c.args.left c.in_ok-inner.inner
@@ -230,7 +234,7 @@ call-returns-clause-ok t c = record {
 }
 
 pub item-returns-in_ok-bound-in-Let-clause-ok : goal.item-returns-in_ok-bound-in-Let-clause-ok
-item-returns-in_ok-bound-in-Let-clause-ok t c = on_ok c.bind.result
+item-returns-in_ok-bound-in-Let-clause-ok t c = IfOk-weaker c.bind.result _ _
     (λ b g. subst (λ (i : ItemTree). Binds c.args.self.now c.bind.new.self
     (item_step (run_of no_bits c.args.left) (env_in (envs_of c.args.self.now) c.args.env) i (state_of c.args.self.now)) b)
     (sym (ap item_tree_of c.in-Let.is ∙ item_tree_of-Let c.in-Let.name c.in-Let.value))
@@ -247,7 +251,7 @@ item-returns-in_ok-run-in-Do-clause-ok t c = subst
     (tree_of c.in-Do.term) c.in_ok-run-in-Do.field-0 c.requires.machine c.requires.env c.in_ok-run-in-Do.ensures.ok)
 
 pub term-returns-in-Block-clause-ok : goal.term-returns-in-Block-clause-ok
-term-returns-in-Block-clause-ok t c = on_ok c.block.result
+term-returns-in-Block-clause-ok t c = IfOk-weaker c.block.result _ _
     (λ v g. subst (λ (o : Outcome (Unit {0}) runs.Value). Goes c.args.self.now c.block.new.self o v)
     (sym (block_term c.args.left (env_in (envs_of c.args.self.now) c.args.env) (map item_tree_of c.in-Block.items.items)
     (map item_tree_of c.deref-in-Block.result.now) (tree_of c.in-Block.last.value) (tree_of c.deref-in-Block-2.result.now) c.in-Block.field-2
@@ -256,7 +260,7 @@ term-returns-in-Block-clause-ok t c = on_ok c.block.result
     (ap tree_of c.deref-in-Block-2.ensures))) g) c.block.ensures.ok
 
 pub term-returns-in-Block-clause-err : goal.term-returns-in-Block-clause-err
-term-returns-in-Block-clause-err t c = on_err c.block.result
+term-returns-in-Block-clause-err t c = IfErr-weaker c.block.result _ _
     (λ f g. subst (λ (o : Outcome (Unit {0}) runs.Value). Says f o)
     (sym (block_term c.args.left (env_in (envs_of c.args.self.now) c.args.env) (map item_tree_of c.in-Block.items.items)
     (map item_tree_of c.deref-in-Block.result.now) (tree_of c.in-Block.last.value) (tree_of c.deref-in-Block-2.result.now) c.in-Block.field-2

@@ -1,0 +1,194 @@
+// Registers and their parts.
+ghost use Rattle.std.specs.Prelude.{◌≡◌, length, IfOk, IfErr};
+ghost use Rattle.revs_terms.specs.Running.{registered, short_register, part_of, parts_of, appended};
+ghost use Rattle.revs_terms.specs.Running.{rotated};
+ghost use Rattle.revs_terms.specs.Runs.{no_bits};
+ghost use Rattle.revs_terms.specs.Terms.{place_of};
+ghost use Rattle.revs_terms.specs.Trees.{tree_of};
+ghost use Rattle.inliner.specs.inside.Machines.{IsMachine, Goes, IsValue, value_of, state_of};
+ghost use Rattle.inliner.specs.inside.Steps.{Says, shape_fault};
+
+use crate::RunFault;
+use crate::machine::Machine;
+use array_shapes::{ShapeFault, Value, append, index, register, rotate, slice};
+use revc_base::Place;
+use revs_terms::limits::MOST_PLACES;
+use revs_terms::{Cause, Part, Term};
+use std::rc::Rc;
+
+impl<'t> Machine<'t> {
+    /// A register of these locations, whose length counts as work.
+    pub fn register(&mut self, locations: Vec<u32>, at: Place) -> Result<Value<'t>, RunFault>
+        requires { IsMachine self.old }
+        ensures ok { IfOk result (λ value. Goes self.old self.new
+            (registered no_bits locations.items at (state_of self.old)) value) }
+        ensures err { IfErr result (λ fault. Says fault
+            (registered no_bits locations.items at (state_of self.old))) }
+    {
+        self.work(locations.len(), at)?;
+        Ok(Value::Reg(Rc::new(self.allocator(), locations)?))
+    }
+
+    /// A register of these locations, of which there are at most 4,096.
+    pub fn short_register(&mut self, locations: Vec<u32>, at: Place) -> Result<Value<'t>, RunFault>
+        requires { IsMachine self.old }
+        ensures ok { IfOk result (λ value. Goes self.old self.new
+            (short_register no_bits locations.items at (state_of self.old)) value) }
+        ensures err { IfErr result (λ fault. Says fault
+            (short_register no_bits locations.items at (state_of self.old))) }
+    {
+        if locations.len() > MOST_PLACES {
+            return Err(RunFault::stuck(Cause::Length, at));
+        }
+        self.register(locations, at)
+    }
+
+    /// A register, the value of an operand, with its places turned: those from the `i`-th on come
+    /// first.
+    pub fn rotated(
+        &mut self,
+        i: u32,
+        operand: &Term,
+        value: &Value<'t>,
+        at: Place,
+    ) -> Result<Value<'t>, RunFault>
+        requires { IsMachine self.old }
+        ensures ok { IfOk result (λ made. Goes self.old self.new
+            (rotated no_bits i (place_of (tree_of operand.now)) at (value_of self.old value.now)
+            (state_of self.old)) made) }
+        ensures err { IfErr result (λ fault. Says fault
+            (rotated no_bits i (place_of (tree_of operand.now)) at (value_of self.old value.now)
+            (state_of self.old))) }
+    {
+        let Some(places) = register(value) else {
+            return Err(RunFault::stuck(Cause::NotRegister, operand.place()));
+        };
+        match rotate(self.allocator(), i, places) {
+            Ok(turned) => self.register(turned, at),
+            Err(fault) => Err(shape_fault(fault, at)),
+        }
+    }
+
+    /// Two registers, the values of two operands, one behind the other.
+    pub fn appended(
+        &mut self,
+        first: &Term,
+        second: &Term,
+        x: &Value<'t>,
+        y: &Value<'t>,
+        at: Place,
+    ) -> Result<Value<'t>, RunFault>
+        requires { IsMachine self.old }
+        ensures ok { IfOk result (λ made. Goes self.old self.new
+            (appended no_bits (place_of (tree_of first.now)) (place_of (tree_of second.now)) at
+            (value_of self.old x.now) (value_of self.old y.now) (state_of self.old)) made) }
+        ensures err { IfErr result (λ fault. Says fault
+            (appended no_bits (place_of (tree_of first.now)) (place_of (tree_of second.now)) at
+            (value_of self.old x.now) (value_of self.old y.now) (state_of self.old))) }
+    {
+        let Some(front) = register(x) else {
+            return Err(RunFault::stuck(Cause::NotRegister, first.place()));
+        };
+        let Some(back) = register(y) else {
+            return Err(RunFault::stuck(Cause::NotRegister, second.place()));
+        };
+        match append(self.allocator(), front, back) {
+            Ok(joined) => self.register(joined, at),
+            Err(fault) => Err(shape_fault(fault, at)),
+        }
+    }
+
+    /// The parts of a value, one after another. A slice counts its length at the whole term.
+    pub fn parts(
+        &mut self,
+        whole: Place,
+        parts: &[Part],
+        value: Value<'t>,
+    ) -> Result<Value<'t>, RunFault>
+        requires machine { IsMachine self.old }
+        requires made { IsValue (length self.old.bindings.items) value }
+        ensures ok { IfOk result (λ made. Goes self.old self.new
+            (parts_of no_bits whole parts.now (value_of self.old value.entry) (state_of self.old))
+            made) }
+        ensures err { IfErr result (λ fault. Says fault
+            (parts_of no_bits whole parts.now (value_of self.old value.entry)
+            (state_of self.old))) }
+    {
+        let mut made = value;
+        for part in parts {
+            made = self.part(whole, *part, &made)?;
+        }
+        Ok(made)
+    }
+
+    // One part of a register.
+    fn part(&mut self, whole: Place, part: Part, value: &Value<'t>) -> Result<Value<'t>, RunFault>
+        requires { IsMachine self.old }
+        ensures ok { IfOk result (λ made. Goes self.old self.new
+            (part_of no_bits whole part (value_of self.old value.now) (state_of self.old)) made) }
+        ensures err { IfErr result (λ fault. Says fault
+            (part_of no_bits whole part (value_of self.old value.now) (state_of self.old))) }
+    {
+        match part {
+            Part::Index { i, at } => self.indexed(i, at, value),
+            Part::Slice { i, j, at } => self.sliced(whole, i, j, at, value),
+        }
+    }
+
+    // The place of a register with a number.
+    fn indexed(&mut self, i: u32, at: Place, value: &Value<'t>) -> Result<Value<'t>, RunFault>
+        requires { IsMachine self.old }
+        ensures ok { IfOk result (λ made. Goes self.old self.new
+            (part_of no_bits at (Part.Index i at) (value_of self.old value.now) (state_of self.old))
+            made) }
+        ensures err { IfErr result (λ fault. Says fault
+            (part_of no_bits at (Part.Index i at) (value_of self.old value.now)
+            (state_of self.old))) }
+    {
+        let Some(places) = register(value) else {
+            return Err(RunFault::stuck(Cause::NotRegister, at));
+        };
+        match index(places, i) {
+            Some(location) => Ok(Value::Bit(location)),
+            None => Err(RunFault::stuck(Cause::Index, at)),
+        }
+    }
+
+    // The places of a register from the `i`-th to the `j`-th.
+    fn sliced(
+        &mut self,
+        whole: Place,
+        i: u32,
+        j: u32,
+        at: Place,
+        value: &Value<'t>,
+    ) -> Result<Value<'t>, RunFault>
+        requires { IsMachine self.old }
+        ensures ok { IfOk result (λ made. Goes self.old self.new
+            (part_of no_bits whole (Part.Slice i j at) (value_of self.old value.now)
+            (state_of self.old)) made) }
+        ensures err { IfErr result (λ fault. Says fault
+            (part_of no_bits whole (Part.Slice i j at) (value_of self.old value.now)
+            (state_of self.old))) }
+    {
+        let Some(places) = register(value) else {
+            return Err(RunFault::stuck(Cause::NotRegister, at));
+        };
+        match slice(self.allocator(), places, i, j) {
+            Ok(between) => self.register(between, whole),
+            Err(fault) => Err(shape_fault(fault, at)),
+        }
+    }
+}
+
+// The fault of a list call, for the term or part at this place.
+fn shape_fault(fault: ShapeFault, at: Place) -> RunFault
+    ensures { result ≡ shape_fault fault at }
+{
+    match fault {
+        ShapeFault::Slice => RunFault::stuck(Cause::Slice, at),
+        ShapeFault::Rotate => RunFault::stuck(Cause::Rotate, at),
+        ShapeFault::Length => RunFault::stuck(Cause::Length, at),
+        ShapeFault::Memory => RunFault::Memory,
+    }
+}

@@ -1,0 +1,78 @@
+// Constants, claims and assignments.
+ghost use Rattle.std.specs.Prelude.{IfOk, IfErr};
+ghost use Rattle.revs_terms.specs.Running.{constant_bit, claim_on, assigned};
+ghost use Rattle.revs_terms.specs.Runs.{no_bits};
+ghost use Rattle.revs_terms.specs.Terms.{place_of};
+ghost use Rattle.revs_terms.specs.Trees.{tree_of};
+ghost use Rattle.inliner.specs.inside.Machines.{IsMachine, Goes, state_of};
+ghost use Rattle.inliner.specs.inside.Steps.{Says};
+
+use crate::RunFault;
+use crate::machine::Machine;
+use array_shapes::Value;
+use revc_base::limits::MOST_CLAIMS;
+use revc_base::{Claim, Entry, Kind, Place};
+use revs_terms::{Cause, Term};
+
+impl<'t> Machine<'t> {
+    /// Writes a constant.
+    pub fn constant(&mut self, bit: bool, at: Place) -> Result<Value<'t>, RunFault>
+        requires { IsMachine self.old }
+        ensures ok { IfOk result (λ value. Goes self.old self.new
+            (constant_bit no_bits bit at (state_of self.old)) value) }
+        ensures err { IfErr result (λ fault. Says fault
+            (constant_bit no_bits bit at (state_of self.old))) }
+    {
+        Ok(Value::Bit(self.write(Entry::Const(bit), at)?))
+    }
+
+    /// A claim on the bit in a location. `clean` takes the bit out.
+    pub fn claim(
+        &mut self,
+        kind: Kind,
+        location: u32,
+        operand: &Term,
+        at: Place,
+    ) -> Result<Value<'t>, RunFault>
+        requires { IsMachine self.old }
+        ensures ok { IfOk result (λ value. Goes self.old self.new
+            (claim_on no_bits kind location (place_of (tree_of operand.now)) at (state_of self.old))
+            value) }
+        ensures err { IfErr result (λ fault. Says fault
+            (claim_on no_bits kind location (place_of (tree_of operand.now)) at
+            (state_of self.old))) }
+    {
+        let of = self.read(location, operand)?;
+        if self.tape.claims().len() >= MOST_CLAIMS {
+            return Err(RunFault::stuck(Cause::Claims, at));
+        }
+        self.tape.claim(Claim { kind, of, at })?;
+        if kind == Kind::Clean {
+            self.store[location as usize] = None;
+            return Ok(Value::Unit);
+        }
+        Ok(Value::Unit)
+    }
+
+    /// Puts the bit of one location into another.
+    pub fn assign(
+        &mut self,
+        to: u32,
+        from: u32,
+        left: &Term,
+        right: &Term,
+    ) -> Result<Value<'t>, RunFault>
+        requires { IsMachine self.old }
+        ensures ok { IfOk result (λ value. Goes self.old self.new
+            (assigned no_bits to from (place_of (tree_of left.now)) (place_of (tree_of right.now))
+            (state_of self.old)) value) }
+        ensures err { IfErr result (λ fault. Says fault
+            (assigned no_bits to from (place_of (tree_of left.now)) (place_of (tree_of right.now))
+            (state_of self.old))) }
+    {
+        self.read(to, left)?;
+        let made = self.read(from, right)?;
+        self.store[to as usize] = Some(made);
+        Ok(Value::Unit)
+    }
+}
