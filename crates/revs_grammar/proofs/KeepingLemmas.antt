@@ -3,7 +3,8 @@ use Rattle.std.proofs.Common.{◌≡◌, ℕ, ◌+◌, Bool, true, List, [], ◌
 use Rattle.revs_lexer.specs.declared.token.Token.{Token}
 use Rattle.revs_grammar.specs.Forms.{Held, Form, Val, level, Piece, one, kept, opening, sub, Builds, Production, IsOneOf}
 use Rattle.revs_grammar.specs.Productions.{productions}
-use Rattle.revs_grammar.specs.Sentences.{Symbol, token, kept_token, opening_token, form, symbols, Leads, done, read, keep, open_level, by_line, Vals, front_of, behind_of, fill, value}
+use Rattle.revs_grammar.specs.Sentences.{Symbol, token, kept_token, opening_token, form, symbols, Leads, done, read}
+use Rattle.revs_grammar.specs.Sentences.{keep, open_level, by_line, Vals, front_of, behind_of, fill, value}
 
 -- Keeps f l v n: the value of this form at this level, which n tokens stand for, keeps what is wanted.
 module _ (allowed : ℕ → Bool) (Keeps : (f : Form) → ℕ → Val f → ℕ → Type 0) where

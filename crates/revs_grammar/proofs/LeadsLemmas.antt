@@ -3,7 +3,8 @@ use Rattle.std.proofs.Common.{◌≡◌, ℕ, Bool, true, Some, List, [], ◌∷
 use Rattle.revs_lexer.specs.declared.token.Token.{Token}
 use Rattle.revs_grammar.specs.Forms.{Held, held, code, Form, Val, Piece, Production, IsOneOf}
 use Rattle.revs_grammar.specs.Productions.{productions}
-use Rattle.revs_grammar.specs.Sentences.{Symbol, form, symbols, Leads, done, read, keep, open_level, by_line, Vals, front_of, behind_of, fill, value, any_level, few_levels, at_start, IsSentenceOf, IsSentence, Begins, HasFewLevels, OneProgram}
+use Rattle.revs_grammar.specs.Sentences.{Symbol, form, symbols, Leads, done, read, keep, open_level, by_line, Vals, front_of, behind_of, fill}
+use Rattle.revs_grammar.specs.Sentences.{value, any_level, few_levels, at_start, IsSentenceOf, IsSentence, Begins, HasFewLevels, OneProgram}
 use Rattle.revs_grammar.specs.Answers.{HasSentence}
 use Rattle.revs_terms.specs.declared.program.Param.{Param}
 use Rattle.revs_terms.specs.Trees.{Tree}

@@ -1,5 +1,6 @@
 -- Lines of a form: tests of them, and what the table says of the line that a token begins.
-use Rattle.std.proofs.Common.{◌≡◌, ℕ, zero, suc, ◌+◌, ◌<◌, ◌≤◌, ◌==◌, Bool, true, false, ◌&&◌, ◌||◌, not, cond, leb, Option, Some, None, List, [], ◌∷◌, inl, inr, is_some, refl, sym, ◌∙◌, ap, subst, arith}
+use Rattle.std.proofs.Common.{◌≡◌, ℕ, zero, suc, ◌+◌, ◌<◌, ◌≤◌, ◌==◌, Bool, true, false, ◌&&◌, ◌||◌, not, cond, leb, Option}
+use Rattle.std.proofs.Common.{Some, None, List, [], ◌∷◌, inl, inr, is_some, refl, sym, ◌∙◌, ap, subst, arith}
 use Rattle.std.proofs.lemmas.Bool.Decides.{nat_tests}
 use Rattle.revs_lexer.specs.declared.sign.Sign.{Sign}
 use Rattle.revs_lexer.specs.declared.sign.Sign.TheVariants as signs
@@ -8,7 +9,8 @@ use Rattle.revs_lexer.specs.declared.word.Word.TheVariants as words
 use Rattle.revs_lexer.specs.declared.token.Tok.{Tok}
 use Rattle.revs_lexer.specs.declared.token.Tok.TheVariants as toks
 use Rattle.std.proofs.lemmas.Bool.{and_parts}
-use Rattle.revs_grammar.specs.Forms.{Mark, any_name, any_number, word, sign, word_code, sign_code, code, mark_code, Form, Val, Piece, one, kept, opening, sub, Production, IsOneOf}
+use Rattle.revs_grammar.specs.Forms.{Mark, any_name, any_number, word, sign, word_code, sign_code, code, mark_code}
+use Rattle.revs_grammar.specs.Forms.{Form, Val, Piece, one, kept, opening, sub, Production, IsOneOf}
 use Rattle.revs_grammar.specs.Productions.{productions}
 use Rattle.revs_grammar.specs.inside.Machine.{Opening, first_some, behind, begun, first_line, opened, table, is_optional}
 use Rattle.revs_grammar.proofs.CheckHints.{rank, may_follow}

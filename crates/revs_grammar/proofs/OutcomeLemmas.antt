@@ -1,5 +1,6 @@
 -- How the machine's outcome over a list of tokens tells where and why the list is refused.
-use Rattle.std.proofs.Common.{◌≡◌, ◌≢◌, ℕ, ◌+◌, ◌==◌, Bool, true, false, cond, Option, Some, None, List, [], ◌∷◌, ◌++◌, refl, sym, ◌∙◌, subst, length, append_assoc, arith}
+use Rattle.std.proofs.Common.{◌≡◌, ◌≢◌, ℕ, ◌+◌, ◌==◌, Bool, true, false, cond, Option, Some, None, List}
+use Rattle.std.proofs.Common.{[], ◌∷◌, ◌++◌, refl, sym, ◌∙◌, subst, length, append_assoc, arith}
 use Rattle.revs_lexer.specs.declared.token.Tok.{Tok}
 use Rattle.revs_lexer.specs.declared.token.Tok.TheVariants as toks
 use Rattle.revs_lexer.specs.declared.token.Token.{Token}
@@ -7,10 +8,12 @@ use Rattle.revs_lexer.specs.Tokens.{IsEnded}
 use Rattle.revs_terms.specs.declared.program.Param.{Param}
 use Rattle.revs_terms.specs.Trees.{Tree}
 use Rattle.revs_grammar.specs.Forms.{code, mark_code}
-use Rattle.revs_grammar.specs.Sentences.{token, kept_token, opening_token, form, Leads, value, any_level, few_levels, at_start, IsSentence, Begins, HasFewLevels, BeginsLow}
+use Rattle.revs_grammar.specs.Sentences.{token, kept_token, opening_token, form, Leads, value, any_level, few_levels}
+use Rattle.revs_grammar.specs.Sentences.{at_start, IsSentence, Begins, HasFewLevels, BeginsLow}
 use Rattle.revs_grammar.specs.Answers.{HasSentence}
 use Rattle.revs_grammar.specs.Faults.{CannotStandAs, CannotStand}
-use Rattle.revs_grammar.specs.inside.Machine.{Stack, Opening, table, is_optional, at_level, taken, step, is_done, run, Outcome, accepted, no_syntax, too_deep, is_end, at_token, outcome}
+use Rattle.revs_grammar.specs.inside.Machine.{Stack, Opening, table, is_optional, at_level, taken, step, is_done, run}
+use Rattle.revs_grammar.specs.inside.Machine.{Outcome, accepted, no_syntax, too_deep, is_end, at_token, outcome}
 use Rattle.revs_grammar.proofs.RunLemmas.{run_next, first_step}
 use Rattle.revs_grammar.proofs.LeadsLemmas.{IsDone, leads_accepted, accepted_leads, leads_on, run_begins, run_few}
 

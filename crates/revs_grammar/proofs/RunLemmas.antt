@@ -1,12 +1,15 @@
 -- The machine reads what leads from one stack to another, and nothing else.
-use Rattle.std.proofs.Common.{◌≡◌, ℕ, zero, suc, ◌+◌, ◌==◌, Bool, true, false, cond, Option, Some, None, List, [], ◌∷◌, ◌++◌, inl, inr, is_some, refl, sym, ap, subst, append_assoc, arith}
+use Rattle.std.proofs.Common.{◌≡◌, ℕ, zero, suc, ◌+◌, ◌==◌, Bool, true, false, cond, Option, Some, None, List}
+use Rattle.std.proofs.Common.{[], ◌∷◌, ◌++◌, inl, inr, is_some, refl, sym, ap, subst, append_assoc, arith}
 use Rattle.std.proofs.lemmas.Bool.Decides.{nat_tests}
 use Rattle.revs_lexer.specs.declared.token.Token.{Token}
 use Rattle.std.proofs.lemmas.Bool.{and_parts}
-use Rattle.revs_grammar.specs.Forms.{Mark, any_name, any_number, word, sign, code, mark_code, Form, Val, level, Piece, one, kept, opening, sub, Production, IsOneOf}
+use Rattle.revs_grammar.specs.Forms.{Mark, any_name, any_number, word, sign, code, mark_code, Form, Val}
+use Rattle.revs_grammar.specs.Forms.{level, Piece, one, kept, opening, sub, Production, IsOneOf}
 use Rattle.revs_grammar.specs.Productions.{productions}
 use Rattle.revs_grammar.specs.Sentences.{token, kept_token, opening_token, form, symbols, Leads, done, read, keep, open_level, by_line, any_level}
-use Rattle.revs_grammar.specs.inside.Machine.{Stack, Opening, first_some, behind, begun, first_line, opened, table, is_empty, has_empty, is_optional, at_level, taken, step, is_done, run}
+use Rattle.revs_grammar.specs.inside.Machine.{Stack, Opening, first_some, behind, begun, first_line, opened, table, is_empty}
+use Rattle.revs_grammar.specs.inside.Machine.{has_empty, is_optional, at_level, taken, step, is_done, run}
 use Rattle.revs_grammar.proofs.CheckLemmas.{sample, onto, both_lists, fill_pieces, first_filled, completion, completes}
 use Rattle.revs_grammar.proofs.LineLemmas.{code_low}
 use Rattle.revs_grammar.proofs.StepLemmas.{taken_if, opened_if, IsOrdered, ordered_line, line_step, empty_is}

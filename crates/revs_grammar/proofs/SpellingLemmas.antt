@@ -1,5 +1,6 @@
 -- What a sentence spells is formed, has few levels, and has no more names than tokens.
-use Rattle.std.proofs.Common.{◌≡◌, ℕ, ◌+◌, ◌≤◌, ◌<◌, Bool, true, false, leb, Option, Some, None, List, [], ◌∷◌, length, length-append, if◌then◌else◌, refl, ap, subst, arith}
+use Rattle.std.proofs.Common.{◌≡◌, ℕ, ◌+◌, ◌≤◌, ◌<◌, Bool, true, false, leb, Option, Some, None, List}
+use Rattle.std.proofs.Common.{[], ◌∷◌, length, length-append, if◌then◌else◌, refl, ap, subst, arith}
 use Rattle.std.proofs.lemmas.Bool.Decides.{nat_tests}
 use Rattle.revs_lexer.specs.declared.token.Token.{Token}
 use Rattle.revs_terms.specs.declared.term.Name.{Name}
@@ -7,7 +8,8 @@ use Rattle.revs_terms.specs.declared.term.Part.{Part}
 use Rattle.revs_terms.specs.declared.program.Param.{Param}
 use Rattle.revs_terms.specs.Trees.{Tree, ItemTree, trees, item_trees}
 use Rattle.revs_terms.specs.Trees as t
-use Rattle.revs_terms.specs.Terms.{is_formed, are_formed, items_are_formed, form_of, levels_as, levels_of, levels_of_all, levels_of_item, levels_of_items, names_of, names_of_all, names_of_items}
+use Rattle.revs_terms.specs.Terms.{is_formed, are_formed, items_are_formed, form_of, levels_as, levels_of, levels_of_all}
+use Rattle.revs_terms.specs.Terms.{levels_of_item, levels_of_items, names_of, names_of_all, names_of_items}
 use Rattle.revs_terms.specs.Terms as forms
 use Rattle.revs_terms.specs.Programs.{IsBody}
 use Rattle.std.proofs.lemmas.Bool.{and_from}

@@ -1,5 +1,6 @@
 -- Each list of tokens has one verdict.
-use Rattle.std.proofs.Common.{◌≡◌, ℕ, suc, ◌+◌, ◌==◌, Bool, true, false, cond, Option, Some, None, List, [], ◌∷◌, ◌++◌, ◌⊎◌, inl, inr, refl, sym, ◌∙◌, ap, subst, length, length-append, arith}
+use Rattle.std.proofs.Common.{◌≡◌, ℕ, suc, ◌+◌, ◌==◌, Bool, true, false, cond, Option, Some, None, List, [], ◌∷◌}
+use Rattle.std.proofs.Common.{◌++◌, ◌⊎◌, inl, inr, refl, sym, ◌∙◌, ap, subst, length, length-append, arith}
 use Rattle.std.proofs.lemmas.Bool.Decides.{nat_tests}
 use Rattle.revc_base.specs.declared.place.Place.{Place}
 use Rattle.revs_lexer.specs.declared.token.Tok.{Tok}
@@ -11,7 +12,8 @@ use Rattle.revs_terms.specs.Trees.{Tree}
 use Rattle.revs_grammar.specs.Forms.{Mark, code, mark_code}
 use Rattle.revs_grammar.specs.Sentences.{Leads, done, read, keep, open_level, by_line, at_start, any_level, few_levels, Begins}
 use Rattle.revs_grammar.specs.Answers.{HasSentence, IsInputs}
-use Rattle.revs_grammar.specs.Faults.{IsWithinLimits, CannotStandAs, IsSyntax, IsNesting, Verdict, within_limits, syntax, nesting, inputs, IsVerdict, SomeVerdict, OneVerdict}
+use Rattle.revs_grammar.specs.Faults.{IsWithinLimits, CannotStandAs, IsSyntax, IsNesting, Verdict, within_limits}
+use Rattle.revs_grammar.specs.Faults.{syntax, nesting, inputs, IsVerdict, SomeVerdict, OneVerdict}
 use Rattle.revs_grammar.specs.inside.Machine.{Stack, step, run, is_done, Outcome, accepted, no_syntax, too_deep, is_end, at_token, outcome}
 use Rattle.revs_grammar.proofs.LineLemmas.{no_end, true≢false}
 use Rattle.revs_grammar.proofs.RunLemmas.{run_next, step_leads}
@@ -159,13 +161,16 @@ one_nesting tokens at by f h =
 program_not_inputs : (tokens : List Token) (at : Place) → IsWithinLimits tokens → IsInputs tokens at → ⊥
 program_not_inputs tokens at w i =
     let same = same_program tokens w.params i.params w.body i.body w.program.sentence i.sentence in
-    i.passed (none_passes i.before i.named i.behind (subst (λ (z : List Param). AreParams z) (same.0 ∙ i.cut) w.program.inputs))
+    let a = i.passes in
+    a.passed (none_passes a.before a.named a.behind (subst (λ (z : List Param). AreParams z) (same.0 ∙ a.cut) w.program.inputs))
 
 one_inputs : (tokens : List Token) (at by : Place) → IsInputs tokens at → IsInputs tokens by → inputs at ≡ inputs by
 one_inputs tokens at by i k =
     let same = same_program tokens i.params k.params i.body k.body i.sentence k.sentence in
-    let named = one_passes i.before k.before i.named k.named i.behind k.behind (sym i.cut ∙ same.0 ∙ k.cut) i.fine i.passed k.fine k.passed in
-    let places : at ≡ by = sym i.place ∙ ap (λ (p : Param). p.name.at) named ∙ k.place in cc
+    let a = i.passes in
+    let b = k.passes in
+    let named = one_passes a.before b.before a.named b.named a.behind b.behind (sym a.cut ∙ same.0 ∙ b.cut) a.fine a.passed b.fine b.passed in
+    let places : at ≡ by = sym a.place ∙ ap (λ (p : Param). p.name.at) named ∙ b.place in cc
 
 pub one_verdict : OneVerdict
 one_verdict tokens within_limits within_limits v w = refl
@@ -197,13 +202,7 @@ limits_of tokens params term h = go (all_pass [] params AreParams-none)
         params = params;
         body = term;
         sentence = h;
-        before = k.fine;
-        named = k.named;
-        behind = k.behind;
-        cut = k.cut;
-        place = refl;
-        fine = k.keep;
-        passed = k.passed;
+        passes = record { before = k.fine; named = k.named; behind = k.behind; cut = k.cut; place = refl; fine = k.keep; passed = k.passed };
       },
     )
 

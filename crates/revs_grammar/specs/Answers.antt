@@ -21,12 +21,8 @@ pub record IsProgramOf (tokens : List Token) (params : List Param) (body : Tree)
   pub sentence : HasSentence tokens params body
   pub inputs : AreParams params
 
--- The tokens are a sentence with no level above 100, and the parameter whose name stands at this place is the first at which a
--- width is 0 or the sum of the widths passes 1,024.
-pub record IsInputs (tokens : List Token) (at : Place) : Type 0 where
-  pub params : List Param
-  pub body : Tree
-  pub sentence : HasSentence tokens params body
+-- The limits are passed first at the parameter whose name stands at this place: its width is 0, or the sum of the widths passes 1,024.
+pub record PassesAt (params : List Param) (at : Place) : Type 0 where
   pub before : List Param
   pub named : Param
   pub behind : List Param
@@ -34,3 +30,10 @@ pub record IsInputs (tokens : List Token) (at : Place) : Type 0 where
   pub place : named.name.at ≡ at
   pub fine : AreParams before
   pub passed : ¬ AreParams (before ++ named ∷ [])
+
+-- The tokens are a sentence with no level above 100, whose parameters pass their limits first at the one whose name stands at this place.
+pub record IsInputs (tokens : List Token) (at : Place) : Type 0 where
+  pub params : List Param
+  pub body : Tree
+  pub sentence : HasSentence tokens params body
+  pub passes : PassesAt params at

@@ -8,7 +8,9 @@ use Rattle.revs_terms.specs.declared.term.Part.TheVariants as part_of
 use Rattle.revc_base.specs.declared.place.Place.{Place}
 use Rattle.revs_terms.specs.Trees.{Tree, ItemTree, trees, item_trees}
 use Rattle.revs_terms.specs.Trees as t
-use Rattle.revs_grammar.specs.Forms.{any_name, any_number, word, sign, Form, program, parameter, parameters, width, names, expression, assigned, sum, sums, product, products, application, atom, atoms, part, part_end, parts, base, elements, body, body_end, BodyTree, Val, one, kept, opening, here, deeper, plain, Production, line}
+use Rattle.revs_grammar.specs.Forms.{any_name, any_number, word, sign, Form, program, parameter, parameters, width, names, expression, assigned}
+use Rattle.revs_grammar.specs.Forms.{sum, sums, product, products, application, atom, atoms, part, part_end, parts, base, elements, body}
+use Rattle.revs_grammar.specs.Forms.{body_end, BodyTree, Val, one, kept, opening, here, deeper, plain, Production, line}
 
 -- ---- chains: one operand alone is that operand, and more are one term
 
