@@ -1,1 +1,123 @@
 // The tests of revs_parser.
+use revc_base::Place;
+use revs_lexer::tokens;
+use revs_parser::{ParseFault, parse};
+use revs_terms::{Program, Term};
+use std::alloc::Global;
+use std::test::Fail;
+
+fn parsed(alloc: Global, text: &[u8]) -> Result<Result<Program, ParseFault>, Fail> {
+    if text.len() > 1_000 {
+        return Err(Fail::from("a long text"));
+    }
+    let all = tokens(alloc, text).ok().ok_or("no tokens")?;
+    Ok(parse(alloc, &all))
+}
+
+// The form of a term, and how many operands, names, items or parts it has; of a rotation, by how
+// many places it turns.
+fn form(term: &Term) -> (&'static str, usize) {
+    match term {
+        Term::Name(_) => ("name", 0),
+        Term::Bool(_, _) => ("bool", 0),
+        Term::Reg(elements, _) => ("reg", elements.len()),
+        Term::Block(items, _, _) => ("block", items.len()),
+        Term::Fun(function, _) => ("fun", function.names.len()),
+        Term::At(_, parts) => ("at", parts.len()),
+        Term::Apply(_, arguments) => ("apply", arguments.len()),
+        Term::Append(_, _, _) => ("append", 2),
+        Term::Rotate(by, _, _) => ("rotate", *by as usize),
+        Term::Clean(_, _) => ("clean", 1),
+        Term::Assert(_, _) => ("assert", 1),
+        Term::And(terms) => ("and", terms.len()),
+        Term::Xor(terms) => ("xor", terms.len()),
+        Term::Assign(_, _) => ("assign", 2),
+    }
+}
+
+// Each line of the grammar: the column of the body's term, its form and its size.
+#[test]
+fn sentences_have_their_terms(rt: HostRuntime) -> Result<(), Fail> {
+    let alloc = rt.alloc();
+    let rows: [(&[u8], u32, &str, usize); 14] = [
+        (b"main (a : bool[1024]) = a", 25, "name", 0),
+        (b"main (a : bool) = true", 19, "bool", 0),
+        (b"main (a : bool) = reg [a; b <> c]", 19, "reg", 2),
+        (b"main (a : bool) = { let f y z = y; f <- a; f }", 19, "block", 2),
+        (b"main (a : bool) = fun x y -> x <- y <> x", 19, "fun", 2),
+        (b"main (a : bool) = a.[0].[1 .. 2]", 19, "at", 2),
+        (b"main (a : bool) = f a (b) true false.[1]", 19, "apply", 4),
+        (b"main (a : bool) = append a b", 19, "append", 2),
+        (b"main (a : bool) = rotate 3 a", 19, "rotate", 3),
+        (b"main (a : bool) = clean a", 19, "clean", 1),
+        (b"main (a : bool) = assert a", 19, "assert", 1),
+        (b"main (a : bool) = (a <> b) && c && d", 20, "and", 3),
+        (b"main (a : bool) = a && b <> c && d && e <> f", 19, "xor", 3),
+        (b"main (a : bool) = a <- b <> c", 19, "assign", 2),
+    ];
+    for (text, column, kind, size) in rows {
+        let program = parsed(alloc, text)?.ok().ok_or("no program")?;
+        let found = form(&program.body);
+        assert_eq!(rt; found.0, kind);
+        assert_eq!(rt; found.1, size);
+        assert_eq!(rt; program.body.place().column, column);
+    }
+    Ok(())
+}
+
+fn syntax(token: u32, column: u32) -> ParseFault {
+    ParseFault::Syntax {
+        token,
+        at: Place { line: 1, column },
+    }
+}
+
+fn inputs(column: u32) -> ParseFault {
+    ParseFault::Inputs(Place { line: 1, column })
+}
+
+#[test]
+fn texts_are_refused_at_their_tokens(rt: HostRuntime) -> Result<(), Fail> {
+    let alloc = rt.alloc();
+    let rows: [(&[u8], ParseFault); 10] = [
+        (b"", syntax(0, 1)),
+        (b"main = a", syntax(1, 6)),
+        (b"main (a : bool) = a a <>", syntax(10, 25)),
+        (b"main (a : bool) = { a; }", syntax(10, 24)),
+        (b"main (a : bool) = (a))", syntax(10, 22)),
+        (b"main (a : bool) = clean clean a", syntax(8, 25)),
+        (b"main (a : bool) = a <- b <- c", syntax(10, 26)),
+        (b"main (a : bool[0]) = a &&", syntax(12, 26)),
+        (b"main (a : bool[0]) = a", inputs(7)),
+        (b"main (a : bool[1023]) (b : bool) (c : bool) = a", inputs(35)),
+    ];
+    for (text, fault) in rows {
+        assert_eq!(rt; parsed(alloc, text)?.err(), Some(fault));
+    }
+    Ok(())
+}
+
+fn brackets(alloc: Global, levels: usize) -> Result<Vec<u8>, Fail> {
+    let mut text = Vec::from_slice(alloc, b"main (a : bool) = ")?;
+    for _ in 0..levels {
+        text.push(b'(')?;
+    }
+    text.push(b'a')?;
+    for _ in 0..levels {
+        text.push(b')')?;
+    }
+    Ok(text)
+}
+
+// The body has level 1, so 99 brackets reach level 100, and the hundredth opens level 101.
+#[test]
+fn levels_end_at_100(rt: HostRuntime) -> Result<(), Fail> {
+    let alloc = rt.alloc();
+    let deep = ParseFault::Nesting(Place {
+        line: 1,
+        column: 118,
+    });
+    assert_eq!(rt; parsed(alloc, &brackets(alloc, 99)?)?.err(), None);
+    assert_eq!(rt; parsed(alloc, &brackets(alloc, 100)?)?.err(), Some(deep));
+    Ok(())
+}

@@ -1,35 +1,24 @@
 -- Readings put together, and where they halt.
 use Rattle.std.proofs.Common.{◌≡◌, ℕ, true, ◌<◌, ◌≤◌, List, [], ◌∷◌, ◌++◌, refl, sym, ◌∙◌, ap, subst, length, length-append, append_assoc, arith}
-use Rattle.std.specs.Prelude.{Result, Ok, Err, IfOk, IfErr, IsErrAnd}
+use Rattle.std.specs.Prelude.{Result, IfErr, IsErrAnd}
 use Rattle.std.proofs.lemmas.Result.{err_from_is_err_and}
 use Rattle.revc_base.specs.declared.place.Place.{Place}
 use Rattle.revs_lexer.specs.declared.token.Tok.{Tok}
 use Rattle.revs_lexer.specs.declared.token.Token.{Token}
 use Rattle.revs_grammar.specs.Forms.{Mark, held, code, mark_code, Form, Val, Production, IsOneOf}
 use Rattle.revs_grammar.specs.Productions.{productions}
-use Rattle.revs_grammar.specs.Sentences.{Symbol, token, kept_token, opening_token, form, symbols, Leads, done, read, keep, open_level, by_line, Vals, front_of, behind_of, fill, value, few_levels}
+use Rattle.revs_grammar.specs.Sentences.{Symbol, token, kept_token, opening_token, form, symbols, Leads, done, read, keep}
+use Rattle.revs_grammar.specs.Sentences.{open_level, by_line, Vals, front_of, behind_of, fill, value, few_levels}
 use Rattle.revs_grammar.specs.inside.Machine.{Stack, outcome}
 use Rattle.revs_grammar.proofs.LeadsLemmas.{leads-then, value-then}
 use Rattle.revs_parser.specs.declared.stop.Stop.{Stop}
 use Rattle.revs_parser.specs.inside.Reading.{put, Passes, Reads, Skips, Halts, Heads}
 
--- ---- results that are passed on
-
-pub on_ok : {T E : Type 0} {P Q : T → Type 0} (r : Result T E) → ((x : T) → P x → Q x) → IfOk r P → IfOk r Q
-on_ok (Ok x) f h = f x h
-on_ok (Err e) f h = tt
-
-pub on_err : {T E : Type 0} {P Q : E → Type 0} (r : Result T E) → ((e : E) → P e → Q e) → IfErr r P → IfErr r Q
-on_err (Ok x) f h = tt
-on_err (Err e) f h = f e h
+-- ---- lists
 
 -- the only element of a vector that was empty
 pub only : {A : Type 0} (old : List A) (x : A) {items : List A} → items ≡ old ++ x ∷ [] → old ≡ [] → items ≡ x ∷ []
 only old x e h = e ∙ ap (λ z. z ++ x ∷ []) h
-
-pub append_nil : {A : Type 0} (xs : List A) → xs ++ [] ≡ xs
-append_nil [] = refl
-append_nil (x ∷ xs) = ap (λ z. x ∷ z) (append_nil xs)
 
 -- ---- values of two lists of symbols
 

@@ -1,5 +1,6 @@
 -- Whole programs: their parameters, their end, and their limits.
-use Rattle.std.proofs.Common.{◌≡◌, ℕ, ◌+◌, ◌≤◌, Bool, true, false, ◌&&◌, leb, Option, Some, None, List, [], ◌∷◌, ◌++◌, refl, sym, ◌∙◌, ap, subst, length, append_assoc, sum, inl, inr, arith}
+use Rattle.std.proofs.Common.{◌≡◌, ℕ, ◌+◌, ◌≤◌, Bool, true, false, ◌&&◌, leb, Option, Some, None, List, [], ◌∷◌, append-nil}
+use Rattle.std.proofs.Common.{◌++◌, refl, sym, ◌∙◌, ap, subst, length, append_assoc, sum, inl, inr, arith}
 use Rattle.std.specs.Prelude.{Result, Ok, Err}
 use Rattle.std.specs.List.{list_all}
 use Rattle.std.proofs.lemmas.List.{map-append}
@@ -16,7 +17,7 @@ use Rattle.revs_lexer.specs.Tokens.{IsEnded}
 use Rattle.revs_grammar.specs.Forms.{any_name, any_number, word, sign}
 use Rattle.revs_grammar.specs.Forms as g
 use Rattle.revs_grammar.specs.Sentences.{token, kept_token, form, Vals, at_start}
-use Rattle.revs_grammar.specs.Answers.{HasSentence, IsProgramOf, IsInputs}
+use Rattle.revs_grammar.specs.Answers.{HasSentence, IsProgramOf, PassesAt, IsInputs}
 use Rattle.revs_grammar.specs.Faults.{Verdict, IsVerdict, within_limits, syntax, nesting, inputs}
 use Rattle.revs_grammar.specs.inside.Machine.{Stack, Outcome, no_syntax, is_end, outcome}
 use Rattle.revs_grammar.proofs.OutcomeLemmas.{outcome_says, Says}
@@ -31,11 +32,12 @@ use Rattle.revs_parser.specs.declared.stop.Stop.TheVariants as stops
 use Rattle.revs_parser.specs.declared.program.ParseFault.{ParseFault}
 use Rattle.revs_parser.specs.declared.program.ParseFault.TheVariants as faults
 use Rattle.revs_parser.specs.inside.Reading.{Reads, ReadsForm, IsHalt, Halts, HaltsIn, Heads, NotFirst, end_first}
-use Rattle.revs_parser.specs.inside.Forms.{ReadsParameters, ReadsProgram, PassesAt, IsRefusal}
+use Rattle.revs_parser.specs.inside.Forms.{ReadsParameters, ReadsProgram, IsRefusal}
 use Rattle.revs_parser.specs.Results.{IsAnswer, IsRefused}
 use Rattle.revs_parser.proofs.StepLemmas as m
-use Rattle.revs_parser.proofs.PassingLemmas.{append_nil, passes_then, beside, and_then, and_maybe, line_passes, halts_first, halts_there, halts_behind}
-use Rattle.revs_parser.proofs.ReadingLemmas.{a_sign, bare_word, by_pieces, by_token, halts_by_pieces, left_out, Repeats, repeats_begun, repeats_more, repeats_done, repeats_halts}
+use Rattle.revs_parser.proofs.PassingLemmas.{passes_then, beside, and_then, and_maybe, line_passes, halts_first, halts_there, halts_behind}
+use Rattle.revs_parser.proofs.ReadingLemmas.{a_sign, bare_word, by_pieces, by_token, halts_by_pieces, left_out, Repeats}
+use Rattle.revs_parser.proofs.ReadingLemmas.{repeats_begun, repeats_more, repeats_done, repeats_halts}
 
 -- ---- parameters
 
@@ -67,7 +69,7 @@ pub record Parameters (before all : List Param) (ts rest : List Token) : Type 0 
 pub parameters_begun : (params : List Param) (ts : List Token) → Parameters params params ts ts
 parameters_begun params ts = record {
   read = [];
-  all_params = sym (append_nil params);
+  all_params = sym (append-nil params);
   repeats = repeats_begun g.parameters 0 (λ more. [] ++ more) ts (λ v. refl);
 }
 
@@ -91,7 +93,7 @@ pub parameters_done : {before all : List Param} {ts rest : List Token} → Param
     → ReadsParameters before all ts rest
 parameters_done {rest} n k = record {
   more = n.read ++ [];
-  all_params = rw (n.all_params, append_nil);
+  all_params = rw (n.all_params, append-nil);
   skips = repeats_done [] n.repeats (left_out g.parameters 0 _ (inl refl) (m.no_parameters rest k));
 }
 
@@ -276,15 +278,4 @@ refusal_exactly tokens faults.Memory is = λ verdict other. inl refl
 
 pub inputs_at : {tokens : List Token} {params : List Param} {body : Tree} {at : Place} → HasSentence tokens params body → PassesAt params at
     → IsInputs tokens at
-inputs_at {params} {body} h k = record {
-  params = params;
-  body = body;
-  sentence = h;
-  before = k.before;
-  named = k.named;
-  behind = k.behind;
-  cut = k.cut;
-  place = k.place;
-  fine = k.fine;
-  passed = k.passed;
-}
+inputs_at {params} {body} h k = record { params = params; body = body; sentence = h; passes = k }

@@ -1,5 +1,6 @@
 -- What each way through a function reads, and where it halts.
-use Rattle.std.proofs.Common.{◌≡◌, ℕ, ◌+◌, ◌==◌, true, false, Some, None, List, [], ◌∷◌, ◌++◌, inl, inr, refl, sym, ap, length, append_assoc, map, arith}
+use Rattle.std.proofs.Common.{◌≡◌, ℕ, ◌+◌, ◌==◌, true, false, Some, None, List, [], ◌∷◌, ◌++◌, inl}
+use Rattle.std.proofs.Common.{inr, refl, sym, ap, length, append_assoc, map, arith, append-nil}
 use Rattle.std.proofs.lemmas.Bool.Decides.{nat_tests}
 use Rattle.std.proofs.lemmas.List.{map-append}
 use Rattle.revc_base.specs.declared.place.Place.{Place}
@@ -17,7 +18,8 @@ use Rattle.revs_grammar.specs.Sentences.{Symbol, token, kept_token, opening_toke
 use Rattle.revs_grammar.specs.inside.Machine.{Stack, is_empty, is_end, outcome}
 use Rattle.revs_grammar.proofs.CheckHints.{may_follow}
 use Rattle.revs_grammar.proofs.CheckLemmas.{begin}
-use Rattle.revs_terms.specs.Trees.{Tree, ItemTree, trees, item_trees, used, bool, reg, block, function, parts, apply, append, rotate, clean, assert, ands, xors, assign, bind, run, tree_of, item_tree_of}
+use Rattle.revs_terms.specs.Trees.{Tree, ItemTree, trees, item_trees, used, bool, reg, block, function, parts, apply, append}
+use Rattle.revs_terms.specs.Trees.{rotate, clean, assert, ands, xors, assign, bind, run, tree_of, item_tree_of}
 use Rattle.revs_terms.specs.declared.term.Name.{Name}
 use Rattle.revs_terms.specs.declared.term.Part.{Part}
 use Rattle.revs_terms.specs.declared.term.Part.TheVariants as part_of
@@ -26,8 +28,10 @@ use Rattle.revs_terms.specs.declared.term.Term.{Term}
 use Rattle.revs_parser.specs.declared.stop.Stop.{Stop}
 use Rattle.revs_parser.specs.declared.stop.Stop.TheVariants as stops
 use Rattle.revs_parser.specs.inside.Reading.{Passes, Reads, Skips, ReadsForm, Halts, HaltsIn, Heads, NotFirst, base_first, name_first}
-use Rattle.revs_parser.specs.inside.Forms.{ReadsNames, in_part, ReadsPart, in_function, ReadsFunction, in_application, ReadsAtoms, in_register, ReadsRegister, ReadsBlock, ReadsItem, in_binding, ReadsBinding}
-use Rattle.revs_parser.proofs.PassingLemmas.{append_nil, stays, passes_then, turned, beside, passes_reads, and_then, and_maybe, line_passes, token_passes, kept_passes, opening_passes, one_token, halts_first, halts_there, halts_behind, halts_past}
+use Rattle.revs_parser.specs.inside.Forms.{ReadsNames, in_part, ReadsPart, in_function, ReadsFunction, in_application, ReadsAtoms}
+use Rattle.revs_parser.specs.inside.Forms.{in_register, ReadsRegister, ReadsBlock, ReadsItem, in_binding, ReadsBinding}
+use Rattle.revs_parser.proofs.PassingLemmas.{stays, passes_then, turned, beside, passes_reads, and_then, and_maybe, line_passes, token_passes}
+use Rattle.revs_parser.proofs.PassingLemmas.{kept_passes, opening_passes, one_token, halts_first, halts_there, halts_behind, halts_past}
 use Rattle.revs_parser.proofs.StepLemmas as m
 use Rattle.revs_parser.proofs.StepLemmas.{by_first, token_goes, kept_goes, opening_goes, opening_deepens}
 
@@ -175,7 +179,7 @@ pub record Names (before all : List Name) (ts rest : List Token) : Type 0 where
   pub repeats : Repeats g.names 0 (λ more. read ++ more) ts rest
 
 pub names_begun : (names : List Name) (ts : List Token) → Names names names ts ts
-names_begun names ts = record { read = []; all_names = sym (append_nil names); repeats = repeats_begun g.names 0 (λ more. [] ++ more) ts (λ v. refl) }
+names_begun names ts = record { read = []; all_names = sym (append-nil names); repeats = repeats_begun g.names 0 (λ more. [] ++ more) ts (λ v. refl) }
 
 pub names_more : {before all new : List Name} {next : Name} {ts mid rest : List Token} → Names before all ts mid → name_first mid ≡ true
     → Reads (kept_token any_name ∷ []) (next, tt) mid rest → new ≡ all ++ next ∷ [] → Names before new ts rest
@@ -193,7 +197,7 @@ pub names_done : {before all : List Name} {ts rest : List Token} → Names befor
 names_done {rest} n f = record {
   more = n.read;
   all_names = n.all_names;
-  skips = rw (append_nil n.read) at (repeats_done [] n.repeats (left_out g.names 0 _ (inl refl) (m.no_names rest f)));
+  skips = rw (append-nil n.read) at (repeats_done [] n.repeats (left_out g.names 0 _ (inl refl) (m.no_names rest f)));
 }
 
 pub names_halt : {before all : List Name} {ts mid : List Token} {stop : Stop} → Names before all ts mid → name_first mid ≡ true
@@ -261,7 +265,7 @@ parts_halt r h k =
 
 pub parts_done : {items : List Part} {ts rest : List Token} → Parts items ts rest → NotFirst (toks.Sign signs.Dot) rest
     → Skips (form g.parts 0 ∷ []) (items, tt) ts rest
-parts_done {items} {rest} r k = rw (append_nil items) at (repeats_done [] r.repeats (left_out g.parts 0 _ (inl refl) (m.no_parts rest k)))
+parts_done {items} {rest} r k = rw (append-nil items) at (repeats_done [] r.repeats (left_out g.parts 0 _ (inl refl) (m.no_parts rest k)))
 
 -- ---- chains
 
@@ -494,7 +498,7 @@ pub block_done : (l : ℕ) (at : Place) {read : List ItemTree} {last whole : Tre
     → ReadsForm g.body l (record { items = []; last = last }) mid rest → whole ≡ block (item_trees read) last at → ReadsBlock l at whole ts rest
 block_done l at {read} {last} b r w = record {
   inside = record { items = read ++ []; last = last };
-  is = rw (w, append_nil);
+  is = rw (w, append-nil);
   reads = passes_reads b.repeats.passes r;
 }
 

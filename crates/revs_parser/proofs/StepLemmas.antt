@@ -1,5 +1,6 @@
 -- Single steps of the machine: a form is read as its line, or left out.
-use Rattle.std.proofs.Common.{◌≡◌, ℕ, ◌+◌, ◌==◌, Bool, true, false, not, ◌&&◌, ◌||◌, cond, is_some, leb, Option, Some, None, List, [], ◌∷◌, ◌++◌, inl, inr, refl, sym, ◌∙◌, ap, length, get_or, append_assoc, arith}
+use Rattle.std.proofs.Common.{◌≡◌, ℕ, ◌+◌, ◌==◌, Bool, true, false, not, ◌&&◌, ◌||◌, cond, is_some, leb, Option, Some, None}
+use Rattle.std.proofs.Common.{List, [], ◌∷◌, ◌++◌, inl, inr, refl, sym, ◌∙◌, ap, length, get_or, append_assoc, arith}
 use Rattle.std.proofs.lemmas.Bool.Decides.{nat_tests}
 use Rattle.revc_base.specs.declared.place.Place.{Place}
 use Rattle.revs_lexer.specs.declared.sign.Sign.{Sign}
@@ -10,11 +11,13 @@ use Rattle.revs_lexer.specs.declared.token.Tok.{Tok}
 use Rattle.revs_lexer.specs.declared.token.Tok.TheVariants as toks
 use Rattle.revs_lexer.specs.declared.token.Token.{Token}
 use Rattle.std.proofs.lemmas.Bool.{and_parts}
-use Rattle.revs_grammar.specs.Forms.{Mark, any_name, word, sign, word_code, sign_code, code, mark_code, Form, Val, Depth, level, Piece, one, kept, opening, sub, here, plain, Production, IsOneOf}
+use Rattle.revs_grammar.specs.Forms.{Mark, any_name, word, sign, word_code, sign_code, code, mark_code, Form, Val, Depth}
+use Rattle.revs_grammar.specs.Forms.{level, Piece, one, kept, opening, sub, here, plain, Production, IsOneOf}
 use Rattle.revs_grammar.specs.Forms as g
 use Rattle.revs_grammar.specs.Productions.{productions}
 use Rattle.revs_grammar.specs.Sentences.{token, kept_token, opening_token, form, symbols, any_level, few_levels}
-use Rattle.revs_grammar.specs.inside.Machine.{Stack, Opening, first_some, behind, begun, table, is_empty, is_optional, at_level, taken, step, is_done, too_deep, is_end, at_token, outcome}
+use Rattle.revs_grammar.specs.inside.Machine.{Stack, Opening, first_some, behind, begun, table, is_empty, is_optional}
+use Rattle.revs_grammar.specs.inside.Machine.{at_level, taken, step, is_done, too_deep, is_end, at_token, outcome}
 use Rattle.revs_grammar.proofs.CheckHints.{rank, may_follow}
 use Rattle.revs_grammar.proofs.CheckLemmas.{begin, starts_well, starts}
 use Rattle.revs_grammar.proofs.LineLemmas.{word_low, code_low, not_true, all_lines-at, table_is, table_line}

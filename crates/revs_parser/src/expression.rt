@@ -1,11 +1,16 @@
 // Expressions.
 
-ghost use Rattle.std.specs.Prelude.{◌≡◌, ◌+◌, ◌<◌, ◌≤◌, true, false, length, [], ◌∷◌, IfOk, IfErr, IsErrOf};
+ghost use Rattle.std.specs.Prelude.{◌≡◌, ◌+◌, ◌<◌, ◌≤◌, true, false, length};
+ghost use Rattle.std.specs.Prelude.{[], ◌∷◌, IfOk, IfErr, IsErrOf};
 ghost use Rattle.revs_grammar.specs.Forms as g;
 ghost use Rattle.revs_grammar.specs.Productions.{bound_of};
 ghost use Rattle.revs_grammar.specs.Sentences.{form, few_levels};
-ghost use Rattle.revs_parser.specs.inside.Reading.{ReadsForm, Skips, Reads, Halts, HaltsIn, base_first, name_first};
-ghost use Rattle.revs_parser.specs.inside.Forms.{ReadsNames, ReadsPart, ReadsAtoms, ReadsFunction, ReadsRegister, ReadsBlock, ReadsPiece, ReadsBinding, in_part, in_function, in_application, in_register, in_binding};
+ghost use Rattle.revs_parser.specs.inside.Reading.{ReadsForm, Skips, Reads, Halts, HaltsIn};
+ghost use Rattle.revs_parser.specs.inside.Reading.{base_first, name_first};
+ghost use Rattle.revs_parser.specs.inside.Forms.{ReadsNames, ReadsPart, ReadsAtoms, ReadsFunction};
+ghost use Rattle.revs_parser.specs.inside.Forms.{ReadsRegister, ReadsBlock, ReadsPiece};
+ghost use Rattle.revs_parser.specs.inside.Forms.{ReadsBinding, in_part, in_function};
+ghost use Rattle.revs_parser.specs.inside.Forms.{in_application, in_register, in_binding};
 ghost use Rattle.revs_parser.specs.declared.stop.Stop.{Stop};
 ghost use Rattle.revs_terms.specs.Trees.{tree_of, item_tree_of};
 
@@ -121,7 +126,8 @@ fn function(
     at: Place,
 ) -> Result<(Term, &[Token]), Stop>
     requires { level ≤ 100 }
-    ensures ok { IfOk result (λ read. ReadsFunction level at (tree_of read.0) tokens.now read.1.now) }
+    ensures ok { IfOk result (λ read. ReadsFunction level at
+        (tree_of read.0) tokens.now read.1.now) }
     ensures halts { IfErr result (λ stop. Halts (in_function level) tokens.now stop) }
 {
     let (first, rest) = name(tokens)?;
@@ -137,7 +143,8 @@ fn function(
 #[cycle(read)]
 fn sum(alloc: Global, tokens: &[Token], level: u32) -> Result<(Term, &[Token]), Stop>
     requires { level ≤ 100 }
-    ensures ok { IfOk result (λ read. ReadsForm g.sum level (tree_of read.0) tokens.now read.1.now) }
+    ensures ok { IfOk result (λ read. ReadsForm g.sum level
+        (tree_of read.0) tokens.now read.1.now) }
     ensures halts { IfErr result (λ stop. HaltsIn g.sum level tokens.now stop) }
 {
     let (first, rest) = product(alloc, tokens, level)?;
@@ -249,7 +256,8 @@ fn atoms(alloc: Global, tokens: &[Token], level: u32) -> Result<(Term, &[Token])
 #[cycle(read)]
 fn atom(alloc: Global, tokens: &[Token], level: u32) -> Result<(Term, &[Token]), Stop>
     requires { level ≤ 100 }
-    ensures ok { IfOk result (λ read. ReadsForm g.atom level (tree_of read.0) tokens.now read.1.now) }
+    ensures ok { IfOk result (λ read. ReadsForm g.atom level
+        (tree_of read.0) tokens.now read.1.now) }
     ensures halts { IfErr result (λ stop. HaltsIn g.atom level tokens.now stop) }
 {
     let (inner, rest) = base(alloc, tokens, level)?;
@@ -263,7 +271,8 @@ fn atom(alloc: Global, tokens: &[Token], level: u32) -> Result<(Term, &[Token]),
 #[cycle(read)]
 fn base(alloc: Global, tokens: &[Token], level: u32) -> Result<(Term, &[Token]), Stop>
     requires { level ≤ 100 }
-    ensures ok { IfOk result (λ read. ReadsForm g.base level (tree_of read.0) tokens.now read.1.now) }
+    ensures ok { IfOk result (λ read. ReadsForm g.base level
+        (tree_of read.0) tokens.now read.1.now) }
     ensures halts { IfErr result (λ stop. HaltsIn g.base level tokens.now stop) }
 {
     if let Some((at, behind)) = after_word(tokens, Word::True) {
@@ -299,7 +308,8 @@ fn register(
     at: Place,
 ) -> Result<(Term, &[Token]), Stop>
     requires { level ≤ 100 }
-    ensures ok { IfOk result (λ read. ReadsRegister level at (tree_of read.0) tokens.now read.1.now) }
+    ensures ok { IfOk result (λ read. ReadsRegister level at
+        (tree_of read.0) tokens.now read.1.now) }
     ensures halts { IfErr result (λ stop. Halts (in_register level) tokens.now stop) }
 {
     let mut behind = expect(tokens, Sign::OpenSquare)?;
@@ -377,7 +387,8 @@ fn binding(alloc: Global, tokens: &[Token], level: u32) -> Result<(Item, &[Token
     Ok((Item::Let { name: bound, value }, rest))
 }
 
-// The value that a `let` binds: the body, or with names the function of these names, which stands at the first of them.
+// The value that a `let` binds: the body, or with names the function of these names, which stands
+// at the first of them.
 fn bound_value(alloc: Global, names: Vec<Name>, body: Term) -> Result<Term, Stop>
     ensures ok { IfOk result (λ value. tree_of value ≡ bound_of names.items (tree_of body)) }
     ensures memory { IfErr result (λ stop. stop ≡ Stop.Memory) }

@@ -123,7 +123,8 @@ pub fn number(tokens: &[Token]) -> Result<(u32, &[Token]), Stop>
 
 /// The tokens behind the word `bool`, which has to stand first.
 pub fn bool_word(tokens: &[Token]) -> Result<&[Token], Stop>
-    ensures ok { IfOk result (λ rest. Reads (token (g.word words.Bool) ∷ []) tt tokens.now rest.now) }
+    ensures ok { IfOk result (λ rest. Reads (token (g.word words.Bool) ∷ [])
+        tt tokens.now rest.now) }
     ensures halts { IfErr result (λ stop. Halts (token (g.word words.Bool) ∷ []) tokens.now stop) }
     ensures exact { ¬ IsErrOf result Stop.Memory }
 {

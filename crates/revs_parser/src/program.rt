@@ -1,16 +1,18 @@
 // Programs, and why a list of tokens is none.
 
-ghost use Rattle.std.specs.Prelude.{◌≡◌, ◌<◌, ◌^◌, length, [], ◌∷◌, ℕ, IfOk, IfErr, IfSome, IfNone, IsErrOf};
+ghost use Rattle.std.specs.Prelude.{◌≡◌, ◌<◌, ◌^◌, length, [], ◌∷◌, ℕ, IfOk};
+ghost use Rattle.std.specs.Prelude.{IfErr, IfSome, IfNone, IsErrOf};
 ghost use Rattle.std.specs.Result.{ForOk, ForErr};
 ghost use Rattle.revc_base.specs.declared.place.Place.{Place};
 ghost use Rattle.revs_lexer.specs.Tokens.{IsEnded};
 ghost use Rattle.revs_grammar.specs.Forms as g;
-ghost use Rattle.revs_grammar.specs.Answers.{HasSentence, IsProgramOf, IsInputs};
+ghost use Rattle.revs_grammar.specs.Answers.{HasSentence, IsProgramOf, PassesAt, IsInputs};
 ghost use Rattle.revs_grammar.specs.Faults.{IsSyntax, IsNesting, Verdict, IsVerdict};
 ghost use Rattle.revs_terms.specs.Programs.{AreParams, width_of};
 ghost use Rattle.revs_terms.specs.Trees.{tree_of};
 ghost use Rattle.revs_parser.specs.inside.Reading.{ReadsForm, HaltsIn, end_first};
-ghost use Rattle.revs_parser.specs.inside.Forms.{ReadsParameters, ReadsProgram, PassesAt, IsRefusal};
+ghost use Rattle.revs_parser.specs.inside.Forms.{ReadsParameters, ReadsProgram};
+ghost use Rattle.revs_parser.specs.inside.Forms.{IsRefusal};
 ghost use Rattle.revs_parser.specs.Results.{IsRefused, IsRefusedFor, IsAnswer};
 ghost use Rattle.revs_parser.specs.declared.stop.Stop.{Stop};
 ghost use Rattle.revs_parser.specs.declared.program.ParseFault.{ParseFault};
@@ -194,10 +196,11 @@ fn answer(tokens: &[Token], read: Result<(Vec<Param>, Term), Stop>) -> Result<Pr
 
 /// The program of which the tokens before `End` are the sentence, with every `back` 0.
 ///
-/// The list ends with `End` and holds no other. Recursive descent with one token of look-ahead, linear in the tokens.
-/// A refusal names the first token at which no program can go on (`Syntax`), the first that opens level 101 (`Nesting`), or,
-/// in a whole sentence, the first parameter at which the widths pass their limits (`Inputs`). Each list of tokens has one of
-/// these answers, and beside it only `Memory`.
+/// The list ends with `End` and holds no other. Recursive descent with one token of look-ahead,
+/// linear in the tokens. A refusal names the first token at which no program can go on (`Syntax`),
+/// the first that opens level 101 (`Nesting`), or, in a whole sentence, the first parameter at
+/// which the widths pass their limits (`Inputs`). Each list of tokens has one of these answers, and
+/// beside it only `Memory`.
 pub fn parse(alloc: Global, tokens: &[Token]) -> Result<Program, ParseFault>
     requires ended { IsEnded tokens.now }
     requires few { length tokens.now < 2 ^ 32 }

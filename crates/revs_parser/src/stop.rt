@@ -1,7 +1,8 @@
 use revc_base::Memory;
 use std::alloc::{AllocError, AllocFailed};
 
-// Why the reading stops, with the number of tokens that are left then; the refused token is the first of them.
+// Why the reading stops, with the number of tokens that are left then; the refused token is the
+// first of them.
 #[derive(Clone, Copy)]
 pub enum Stop {
     Syntax(usize),

@@ -13,7 +13,6 @@ use Rattle.revs_terms.specs.Trees.{Tree, ItemTree, trees, item_trees, reg, block
 use Rattle.revs_terms.specs.declared.term.Name.{Name}
 use Rattle.revs_terms.specs.declared.term.Part.{Part}
 use Rattle.revs_terms.specs.declared.program.Param.{Param}
-use Rattle.revs_terms.specs.Programs.{AreParams}
 use Rattle.revs_parser.specs.declared.stop.Stop.{Stop}
 use Rattle.revs_parser.specs.declared.stop.Stop.TheVariants as stops
 use Rattle.revs_parser.specs.declared.expression.Piece.{Piece}
@@ -113,16 +112,6 @@ pub record ReadsParameters (before all : List Param) (ts rest : List Token) : Ty
 -- A whole sentence was read.
 abbrev pub ReadsProgram : List Param → Tree → List Token → List Token → Type 0
 ReadsProgram params term ts rest = ReadsForm g.program 0 (record { params = params; body = term }) ts rest
-
--- The limits are passed first at the parameter whose name stands at this place.
-pub record PassesAt (params : List Param) (at : Place) : Type 0 where
-  pub before : List Param
-  pub named : Param
-  pub behind : List Param
-  pub cut : params ≡ before ++ named ∷ behind
-  pub place : named.name.at ≡ at
-  pub fine : AreParams before
-  pub passed : ¬ AreParams (before ++ named ∷ [])
 
 -- So many tokens are left, the first of which has a number and a place.
 pub record Left (tokens : List Token) (left : ℕ) (Why : ℕ → Place → Type 0) : Type 0 where

@@ -1,8 +1,11 @@
 use Rattle.std.proofs.Common.{◌≡◌, sym, ◌∙◌, arith, length}
 use Rattle.revs_terms.specs.Trees.{tree_of}
-use Rattle.revs_terms.proofs.ShapeLemmas.{tree_of-Name, tree_of-Bool, tree_of-Reg, tree_of-Block, tree_of-Fun, tree_of-At, tree_of-Apply, tree_of-Append, tree_of-Rotate, tree_of-Clean, tree_of-Assert, tree_of-And, tree_of-Xor, tree_of-Assign, item_tree_of-Let, item_tree_of-Do}
+use Rattle.revs_terms.proofs.ShapeLemmas.{tree_of-Name, tree_of-Bool, tree_of-Reg, tree_of-Block, tree_of-Fun, tree_of-At, tree_of-Apply, tree_of-Append}
+use Rattle.revs_terms.proofs.ShapeLemmas.{tree_of-Rotate, tree_of-Clean, tree_of-Assert, tree_of-And, tree_of-Xor, tree_of-Assign, item_tree_of-Let}
+use Rattle.revs_terms.proofs.ShapeLemmas.{item_tree_of-Do}
 use Rattle.std.proofs.lemmas.Bool.{eqb-true, eqb-false}
-use Rattle.revs_parser.proofs.PassingLemmas.{stops_so, on_ok, on_err, only, smaller_behind, halts_first}
+use Rattle.std.proofs.lemmas.Result.{IfOk-weaker, IfErr-weaker}
+use Rattle.revs_parser.proofs.PassingLemmas.{stops_so, only, smaller_behind, halts_first}
 use Rattle.revs_parser.proofs.ReadingLemmas as r
 use Rattle.revs_parser.proofs.expression.+read.Goals as goal
 
@@ -14,12 +17,12 @@ expression-returns-in_err-inner-clause-halts t c =
     (r.expression_no_level c.args.level c.in-Some.ensures.found c.in_err-inner.ensures.deep _ c.in_err-inner.ensures.stops)
 
 pub expression-returns-in-Some-clause-ok : goal.expression-returns-in-Some-clause-ok
-expression-returns-in-Some-clause-ok t c = on_ok c.function.result
+expression-returns-in-Some-clause-ok t c = IfOk-weaker c.function.result _ _
     (λ x. r.expression_function c.args.level c.in-Some.ensures.found c.in_ok-inner.ensures.inner c.in_ok-inner.ensures.within)
     c.function.ensures.ok
 
 pub expression-returns-in-Some-clause-halts : goal.expression-returns-in-Some-clause-halts
-expression-returns-in-Some-clause-halts t c = on_err c.function.result
+expression-returns-in-Some-clause-halts t c = IfErr-weaker c.function.result _ _
     (λ x. r.expression_in_function c.args.level c.in-Some.ensures.found c.in_ok-inner.ensures.inner c.in_ok-inner.ensures.within)
     c.function.ensures.halts
 
@@ -176,7 +179,7 @@ application-returns-in-Some-after_word-3-clause-ok t c = r.application_rotate c.
     c.in_ok-operand-3.ensures.ok (rw (tree_of-Rotate, c.in_ok-new-5.ensures.ok))
 
 pub application-returns-clause-ok : goal.application-returns-clause-ok
-application-returns-clause-ok t c = on_ok c.atoms.result
+application-returns-clause-ok t c = IfOk-weaker c.atoms.result _ _
     (λ x. r.application_plain c.args.level
     (record {
       no_clean = c.in_default.ensures.none;
@@ -186,7 +189,7 @@ application-returns-clause-ok t c = on_ok c.atoms.result
     })) c.atoms.ensures.ok
 
 pub application-returns-clause-halts : goal.application-returns-clause-halts
-application-returns-clause-halts t c = on_err c.atoms.result
+application-returns-clause-halts t c = IfErr-weaker c.atoms.result _ _
     (λ x. r.plain_halts c.args.level
     (record {
       no_clean = c.in_default.ensures.none;
@@ -265,12 +268,12 @@ base-returns-in_err-inner-clause-halts t c =
     (r.register_no_level c.args.level c.in-Some-after_word-2.ensures.found c.in_err-inner.ensures.deep _ c.in_err-inner.ensures.stops)
 
 pub base-returns-in-Some-after_word-2-clause-ok : goal.base-returns-in-Some-after_word-2-clause-ok
-base-returns-in-Some-after_word-2-clause-ok t c = on_ok c.register.result
+base-returns-in-Some-after_word-2-clause-ok t c = IfOk-weaker c.register.result _ _
     (λ x. r.base_register c.args.level c.in-Some-after_word-2.ensures.found c.in_ok-inner.ensures.inner c.in_ok-inner.ensures.within)
     c.register.ensures.ok
 
 pub base-returns-in-Some-after_word-2-clause-halts : goal.base-returns-in-Some-after_word-2-clause-halts
-base-returns-in-Some-after_word-2-clause-halts t c = on_err c.register.result
+base-returns-in-Some-after_word-2-clause-halts t c = IfErr-weaker c.register.result _ _
     (λ x. r.in_register_halts c.args.level c.in-Some-after_word-2.ensures.found c.in_ok-inner.ensures.inner c.in_ok-inner.ensures.within)
     c.register.ensures.halts
 
@@ -301,12 +304,12 @@ base-returns-in_err-inner-3-clause-halts t c =
     (r.block_no_level c.args.level c.in-Some-after-2.ensures.found c.in_err-inner-3.ensures.deep _ c.in_err-inner-3.ensures.stops)
 
 pub base-returns-in-Some-after-2-clause-ok : goal.base-returns-in-Some-after-2-clause-ok
-base-returns-in-Some-after-2-clause-ok t c = on_ok c.block.result
+base-returns-in-Some-after-2-clause-ok t c = IfOk-weaker c.block.result _ _
     (λ x. r.base_block c.args.level c.in-Some-after-2.ensures.found c.in_ok-inner-3.ensures.inner c.in_ok-inner-3.ensures.within)
     c.block.ensures.ok
 
 pub base-returns-in-Some-after-2-clause-halts : goal.base-returns-in-Some-after-2-clause-halts
-base-returns-in-Some-after-2-clause-halts t c = on_err c.block.result
+base-returns-in-Some-after-2-clause-halts t c = IfErr-weaker c.block.result _ _
     (λ x. r.in_block_halts c.args.level c.in-Some-after-2.ensures.found c.in_ok-inner-3.ensures.inner c.in_ok-inner-3.ensures.within)
     c.block.ensures.halts
 

@@ -3,8 +3,7 @@ use Rattle.revs_terms.specs.declared.program.Param.{Param}
 use Rattle.revs_terms.specs.Programs.{AreParams}
 use Rattle.revs_terms.specs.Trees.{tree_of}
 use Rattle.revs_grammar.proofs.SpellingLemmas.{body_kept, names_kept}
-use Rattle.revs_grammar.specs.Answers.{HasSentence}
-use Rattle.revs_parser.specs.inside.Forms.{PassesAt}
+use Rattle.revs_grammar.specs.Answers.{HasSentence, PassesAt}
 use Rattle.revs_parser.proofs.ProgramLemmas.{program_exactly, inputs_exactly, refusal_exactly, inputs_at}
 use Rattle.revs_parser.proofs.program.answer.Goals as goal
 
