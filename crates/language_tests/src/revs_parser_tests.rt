@@ -35,32 +35,44 @@ fn form(term: &Term) -> (&'static str, usize) {
     }
 }
 
-// Each line of the grammar: the column of the body's term, its form and its size.
+// The column of the body of a text's program, its form and its size.
+fn body(alloc: Global, text: &[u8]) -> Result<(u32, &'static str, usize), Fail> {
+    let program = parsed(alloc, text)?.ok().ok_or("no program")?;
+    let (form, size) = form(&program.body);
+    Ok((program.body.place().column, form, size))
+}
+
+// Each line of the grammar.
 #[test]
 fn sentences_have_their_terms(rt: HostRuntime) -> Result<(), Fail> {
     let alloc = rt.alloc();
-    let rows: [(&[u8], u32, &str, usize); 14] = [
-        (b"main (a : bool[1024]) = a", 25, "name", 0),
-        (b"main (a : bool) = true", 19, "bool", 0),
-        (b"main (a : bool) = reg [a; b <> c]", 19, "reg", 2),
-        (b"main (a : bool) = { let f y z = y; f <- a; f }", 19, "block", 2),
-        (b"main (a : bool) = fun x y -> x <- y <> x", 19, "fun", 2),
-        (b"main (a : bool) = a.[0].[1 .. 2]", 19, "at", 2),
-        (b"main (a : bool) = f a (b) true false.[1]", 19, "apply", 4),
-        (b"main (a : bool) = append a b", 19, "append", 2),
-        (b"main (a : bool) = rotate 3 a", 19, "rotate", 3),
-        (b"main (a : bool) = clean a", 19, "clean", 1),
-        (b"main (a : bool) = assert a", 19, "assert", 1),
-        (b"main (a : bool) = (a <> b) && c && d", 20, "and", 3),
-        (b"main (a : bool) = a && b <> c && d && e <> f", 19, "xor", 3),
-        (b"main (a : bool) = a <- b <> c", 19, "assign", 2),
+    let rows: [(&[u8], (u32, &str, usize)); 14] = [
+        (b"main (a : bool[1024]) = a", (25, "name", 0)),
+        (b"main (a : bool) = true", (19, "bool", 0)),
+        (b"main (a : bool) = reg [a; b <> c]", (19, "reg", 2)),
+        (
+            b"main (a : bool) = { let f y z = y; f <- a; f }",
+            (19, "block", 2),
+        ),
+        (b"main (a : bool) = fun x y -> x <- y <> x", (19, "fun", 2)),
+        (b"main (a : bool) = a.[0].[1 .. 2]", (19, "at", 2)),
+        (
+            b"main (a : bool) = f a (b) true false.[1]",
+            (19, "apply", 4),
+        ),
+        (b"main (a : bool) = append a b", (19, "append", 2)),
+        (b"main (a : bool) = rotate 3 a", (19, "rotate", 3)),
+        (b"main (a : bool) = clean a", (19, "clean", 1)),
+        (b"main (a : bool) = assert a", (19, "assert", 1)),
+        (b"main (a : bool) = (a <> b) && c && d", (20, "and", 3)),
+        (
+            b"main (a : bool) = a && b <> c && d && e <> f",
+            (19, "xor", 3),
+        ),
+        (b"main (a : bool) = a <- b <> c", (19, "assign", 2)),
     ];
-    for (text, column, kind, size) in rows {
-        let program = parsed(alloc, text)?.ok().ok_or("no program")?;
-        let found = form(&program.body);
-        assert_eq!(rt; found.0, kind);
-        assert_eq!(rt; found.1, size);
-        assert_eq!(rt; program.body.place().column, column);
+    for (text, expected) in rows {
+        assert_eq!(rt; body(alloc, text)?, expected);
     }
     Ok(())
 }
@@ -89,7 +101,10 @@ fn texts_are_refused_at_their_tokens(rt: HostRuntime) -> Result<(), Fail> {
         (b"main (a : bool) = a <- b <- c", syntax(10, 26)),
         (b"main (a : bool[0]) = a &&", syntax(12, 26)),
         (b"main (a : bool[0]) = a", inputs(7)),
-        (b"main (a : bool[1023]) (b : bool) (c : bool) = a", inputs(35)),
+        (
+            b"main (a : bool[1023]) (b : bool) (c : bool) = a",
+            inputs(35),
+        ),
     ];
     for (text, fault) in rows {
         assert_eq!(rt; parsed(alloc, text)?.err(), Some(fault));
