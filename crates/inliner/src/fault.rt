@@ -3,7 +3,7 @@ use revs_terms::Cause;
 use std::alloc::{AllocError, AllocFailed};
 
 /// Why a program has no tape: its run is stuck, or memory is wanting.
-#[derive(Clone, Copy, Debug, PartialEq, Eq)]
+#[derive(Clone, Copy)]
 pub enum RunFault {
     /// The run is stuck for this cause, at the place of a term or part.
     Stuck { cause: Cause, at: Place },

@@ -1,5 +1,4 @@
 // The tests of revs_parser.
-use revc_base::Place;
 use revs_lexer::tokens;
 use revs_parser::{ParseFault, parse};
 use revs_terms::{Program, Term};
@@ -77,37 +76,37 @@ fn sentences_have_their_terms(rt: HostRuntime) -> Result<(), Fail> {
     Ok(())
 }
 
-fn syntax(token: u32, column: u32) -> ParseFault {
-    ParseFault::Syntax {
-        token,
-        at: Place { line: 1, column },
-    }
-}
-
-fn inputs(column: u32) -> ParseFault {
-    ParseFault::Inputs(Place { line: 1, column })
+// Why a text is refused, with the number of the token and the column.
+fn refusal(alloc: Global, text: &[u8]) -> Result<(&'static str, u32, u32), Fail> {
+    Ok(match parsed(alloc, text)? {
+        Ok(_) => ("none", 0, 0),
+        Err(ParseFault::Syntax { token, at }) => ("syntax", token, at.column),
+        Err(ParseFault::Nesting(at)) => ("nesting", 0, at.column),
+        Err(ParseFault::Inputs(at)) => ("inputs", 0, at.column),
+        Err(ParseFault::Memory) => ("memory", 0, 0),
+    })
 }
 
 #[test]
 fn texts_are_refused_at_their_tokens(rt: HostRuntime) -> Result<(), Fail> {
     let alloc = rt.alloc();
-    let rows: [(&[u8], ParseFault); 10] = [
-        (b"", syntax(0, 1)),
-        (b"main = a", syntax(1, 6)),
-        (b"main (a : bool) = a a <>", syntax(10, 25)),
-        (b"main (a : bool) = { a; }", syntax(10, 24)),
-        (b"main (a : bool) = (a))", syntax(10, 22)),
-        (b"main (a : bool) = clean clean a", syntax(8, 25)),
-        (b"main (a : bool) = a <- b <- c", syntax(10, 26)),
-        (b"main (a : bool[0]) = a &&", syntax(12, 26)),
-        (b"main (a : bool[0]) = a", inputs(7)),
+    let rows: [(&[u8], (&str, u32, u32)); 10] = [
+        (b"", ("syntax", 0, 1)),
+        (b"main = a", ("syntax", 1, 6)),
+        (b"main (a : bool) = a a <>", ("syntax", 10, 25)),
+        (b"main (a : bool) = { a; }", ("syntax", 10, 24)),
+        (b"main (a : bool) = (a))", ("syntax", 10, 22)),
+        (b"main (a : bool) = clean clean a", ("syntax", 8, 25)),
+        (b"main (a : bool) = a <- b <- c", ("syntax", 10, 26)),
+        (b"main (a : bool[0]) = a &&", ("syntax", 12, 26)),
+        (b"main (a : bool[0]) = a", ("inputs", 0, 7)),
         (
             b"main (a : bool[1023]) (b : bool) (c : bool) = a",
-            inputs(35),
+            ("inputs", 0, 35),
         ),
     ];
-    for (text, fault) in rows {
-        assert_eq!(rt; parsed(alloc, text)?.err(), Some(fault));
+    for (text, expected) in rows {
+        assert_eq!(rt; refusal(alloc, text)?, expected);
     }
     Ok(())
 }
@@ -128,11 +127,8 @@ fn brackets(alloc: Global, levels: usize) -> Result<Vec<u8>, Fail> {
 #[test]
 fn levels_end_at_100(rt: HostRuntime) -> Result<(), Fail> {
     let alloc = rt.alloc();
-    let deep = ParseFault::Nesting(Place {
-        line: 1,
-        column: 118,
-    });
-    assert_eq!(rt; parsed(alloc, &brackets(alloc, 99)?)?.err(), None);
-    assert_eq!(rt; parsed(alloc, &brackets(alloc, 100)?)?.err(), Some(deep));
+    for (levels, expected) in [(99, ("none", 0, 0)), (100, ("nesting", 0, 118))] {
+        assert_eq!(rt; refusal(alloc, &brackets(alloc, levels)?)?, expected);
+    }
     Ok(())
 }

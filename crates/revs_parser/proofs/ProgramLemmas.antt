@@ -1,6 +1,7 @@
 -- Whole programs: their parameters, their end, and their limits.
 use Rattle.std.proofs.Common.{◌≡◌, ℕ, ◌+◌, ◌≤◌, Bool, true, false, ◌&&◌, leb, Option, Some, None, List, [], ◌∷◌, append-nil}
-use Rattle.std.proofs.Common.{◌++◌, refl, sym, ◌∙◌, ap, subst, length, append_assoc, sum, inl, inr, arith}
+use Rattle.std.proofs.Common.{◌++◌, ◌-◌, ◌<◌, refl, sym, ◌∙◌, ap, subst, length, length-append, append_assoc, get_or, sum, inl, inr, arith}
+use Rattle.std.proofs.Math.Seq.{get_or-append_seam}
 use Rattle.std.specs.Prelude.{Result, Ok, Err}
 use Rattle.std.specs.List.{list_all}
 use Rattle.std.proofs.lemmas.List.{map-append}
@@ -32,7 +33,7 @@ use Rattle.revs_parser.specs.declared.stop.Stop.TheVariants as stops
 use Rattle.revs_parser.specs.declared.program.ParseFault.{ParseFault}
 use Rattle.revs_parser.specs.declared.program.ParseFault.TheVariants as faults
 use Rattle.revs_parser.specs.inside.Reading.{Reads, ReadsForm, IsHalt, Halts, HaltsIn, Heads, NotFirst, end_first}
-use Rattle.revs_parser.specs.inside.Forms.{ReadsParameters, ReadsProgram, IsRefusal}
+use Rattle.revs_parser.specs.inside.Forms.{ReadsParameters, ReadsProgram, IsRefusal, Left}
 use Rattle.revs_parser.specs.Results.{IsAnswer, IsRefused}
 use Rattle.revs_parser.proofs.StepLemmas as m
 use Rattle.revs_parser.proofs.PassingLemmas.{passes_then, beside, and_then, and_maybe, line_passes, halts_first, halts_there, halts_behind}
@@ -279,3 +280,16 @@ refusal_exactly tokens faults.Memory is = λ verdict other. inl refl
 pub inputs_at : {tokens : List Token} {params : List Param} {body : Tree} {at : Place} → HasSentence tokens params body → PassesAt params at
     → IsInputs tokens at
 inputs_at {params} {body} h k = record { params = params; body = body; sentence = h; passes = k }
+
+-- ---- the first of the tokens that are left
+
+pub left_within : {tokens : List Token} {left : ℕ} {Why : ℕ → Place → Type 0} → Left tokens left Why → length tokens - left < length tokens
+left_within k = omega (arith, ap length k.cut, length-append k.front (k.named ∷ k.rest), k.count)
+
+pub left_says : {tokens : List Token} {left : ℕ} {Why : ℕ → Place → Type 0} → Left tokens left Why → (other : Token)
+    → Why (length tokens - left) (get_or tokens (length tokens - left) other).at
+left_says {tokens} {left} {Why} k other =
+    let number : length tokens - left ≡ length k.front = omega (arith, ap length k.cut, length-append k.front (k.named ∷ k.rest), k.count) in
+    let first : get_or tokens (length k.front) other ≡ k.named = ap (λ (z : List Token). get_or z (length k.front) other) k.cut ∙ get_or-append_seam k.front
+    k.named k.rest other in
+    rw (number, first) k.why

@@ -30,7 +30,7 @@ use std::alloc::Global;
 const MOST_INPUTS: u32 = 1024;
 
 /// Why a list of tokens is no program.
-#[derive(Clone, Copy, Debug, PartialEq, Eq)]
+#[derive(Clone, Copy)]
 pub enum ParseFault {
     /// This token, counted from 0, cannot stand at this place.
     Syntax { token: u32, at: Place },
