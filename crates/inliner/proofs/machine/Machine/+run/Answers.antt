@@ -3,7 +3,8 @@ use Rattle.revs_terms.specs.Terms.{place_of}
 use Rattle.revs_terms.specs.Trees.{ItemTree, tree_of, item_tree_of}
 use Rattle.revs_terms.specs.Running as runs
 use Rattle.revs_terms.specs.Running.{run_of, term_of, apply_to, closure, went, Outcome}
-use Rattle.revs_terms.proofs.ShapeLemmas.{tree_of-Block, item_tree_of-Let, item_tree_of-Do}
+use Rattle.revs_terms.proofs.ShapeLemmas.{tree_of-Bool, tree_of-Reg, tree_of-Clean, tree_of-Assert, tree_of-And, tree_of-Xor, tree_of-Assign}
+use Rattle.revs_terms.proofs.ShapeLemmas.{tree_of-At, tree_of-Apply, tree_of-Append, tree_of-Rotate, tree_of-Block, item_tree_of-Let, item_tree_of-Do}
 use Rattle.array_shapes.specs.declared.value.Value.{Value}
 use Rattle.revs_terms.specs.Runs.{no_bits}
 use Rattle.inliner.specs.inside.Machines.{envs_of, env_in, value_in, state_of, Goes, Binds, Calls}
@@ -267,3 +268,93 @@ term-returns-in-Block-clause-err t c = IfErr-weaker c.block.result _ _
     (state_of c.args.self.now) (tree_of c.args.term.now)
     (ap tree_of c.in-Block.is ∙ tree_of-Block c.in-Block.items c.in-Block.last c.in-Block.field-2) (ap (map item_tree_of) c.deref-in-Block.ensures.value)
     (ap tree_of c.deref-in-Block-2.ensures))) g) c.block.ensures.err
+
+-- ---- terms by their forms
+
+pub term-returns-in-Bool-clause-ok : goal.term-returns-in-Bool-clause-ok
+term-returns-in-Bool-clause-ok t c = rw (c.in-Bool.is, tree_of-Bool c.in-Bool.bit c.in-Bool.at) c.constant.ensures.ok
+
+pub term-returns-in-Bool-clause-err : goal.term-returns-in-Bool-clause-err
+term-returns-in-Bool-clause-err t c = rw (c.in-Bool.is, tree_of-Bool c.in-Bool.bit c.in-Bool.at) c.constant.ensures.err
+
+pub term-returns-in-Reg-clause-ok : goal.term-returns-in-Reg-clause-ok
+term-returns-in-Reg-clause-ok t c = rw (c.in-Reg.is, tree_of-Reg c.in-Reg.terms c.in-Reg.at, ← c.deref.ensures.value) c.reg.ensures.ok
+
+pub term-returns-in-Reg-clause-err : goal.term-returns-in-Reg-clause-err
+term-returns-in-Reg-clause-err t c = rw (c.in-Reg.is, tree_of-Reg c.in-Reg.terms c.in-Reg.at, ← c.deref.ensures.value) c.reg.ensures.err
+
+pub term-returns-in-Clean-clause-ok : goal.term-returns-in-Clean-clause-ok
+term-returns-in-Clean-clause-ok t c = rw (c.in-Clean.is, tree_of-Clean c.in-Clean.operand c.in-Clean.at, ← c.deref-in-Clean.ensures) c.claimed.ensures.ok
+
+pub term-returns-in-Clean-clause-err : goal.term-returns-in-Clean-clause-err
+term-returns-in-Clean-clause-err t c = rw (c.in-Clean.is, tree_of-Clean c.in-Clean.operand c.in-Clean.at, ← c.deref-in-Clean.ensures) c.claimed.ensures.err
+
+pub term-returns-in-Assert-clause-ok : goal.term-returns-in-Assert-clause-ok
+term-returns-in-Assert-clause-ok t c =
+    rw (c.in-Assert.is, tree_of-Assert c.in-Assert.operand c.in-Assert.at, ← c.deref-in-Assert.ensures) c.claimed-in-Assert.ensures.ok
+
+pub term-returns-in-Assert-clause-err : goal.term-returns-in-Assert-clause-err
+term-returns-in-Assert-clause-err t c =
+    rw (c.in-Assert.is, tree_of-Assert c.in-Assert.operand c.in-Assert.at, ← c.deref-in-Assert.ensures) c.claimed-in-Assert.ensures.err
+
+pub term-returns-in-And-clause-ok : goal.term-returns-in-And-clause-ok
+term-returns-in-And-clause-ok t c = rw (c.in-And.is, tree_of-And c.in-And.terms, ← c.deref-in-And.ensures.value) c.chain.ensures.ok
+
+pub term-returns-in-And-clause-err : goal.term-returns-in-And-clause-err
+term-returns-in-And-clause-err t c = rw (c.in-And.is, tree_of-And c.in-And.terms, ← c.deref-in-And.ensures.value) c.chain.ensures.err
+
+pub term-returns-in-Xor-clause-ok : goal.term-returns-in-Xor-clause-ok
+term-returns-in-Xor-clause-ok t c = rw (c.in-Xor.is, tree_of-Xor c.in-Xor.terms, ← c.deref-in-Xor.ensures.value) c.chain-in-Xor.ensures.ok
+
+pub term-returns-in-Xor-clause-err : goal.term-returns-in-Xor-clause-err
+term-returns-in-Xor-clause-err t c = rw (c.in-Xor.is, tree_of-Xor c.in-Xor.terms, ← c.deref-in-Xor.ensures.value) c.chain-in-Xor.ensures.err
+
+pub term-returns-in-Assign-clause-ok : goal.term-returns-in-Assign-clause-ok
+term-returns-in-Assign-clause-ok t c =
+    rw (c.in-Assign.is, tree_of-Assign c.in-Assign.to c.in-Assign.from, ← c.deref-in-Assign.ensures, ← c.deref-in-Assign-2.ensures) c.assignment.ensures.ok
+
+pub term-returns-in-Assign-clause-err : goal.term-returns-in-Assign-clause-err
+term-returns-in-Assign-clause-err t c =
+    rw (c.in-Assign.is, tree_of-Assign c.in-Assign.to c.in-Assign.from, ← c.deref-in-Assign.ensures, ← c.deref-in-Assign-2.ensures) c.assignment.ensures.err
+
+pub term-returns-in-At-clause-ok : goal.term-returns-in-At-clause-ok
+term-returns-in-At-clause-ok t c =
+    rw (c.in-At.is, tree_of-At c.in-At.base c.in-At.parts, ← c.deref-in-At.ensures, ← c.deref-in-At-2.ensures.value) c.at.ensures.ok
+
+pub term-returns-in-At-clause-err : goal.term-returns-in-At-clause-err
+term-returns-in-At-clause-err t c =
+    rw (c.in-At.is, tree_of-At c.in-At.base c.in-At.parts, ← c.deref-in-At.ensures, ← c.deref-in-At-2.ensures.value) c.at.ensures.err
+
+pub term-returns-in-Apply-clause-ok : goal.term-returns-in-Apply-clause-ok
+term-returns-in-Apply-clause-ok t c =
+    rw (c.in-Apply.is, tree_of-Apply c.in-Apply.head c.in-Apply.terms, ← c.deref-in-Apply.ensures, ← c.deref-in-Apply-2.ensures.value) c.apply.ensures.ok
+
+pub term-returns-in-Apply-clause-err : goal.term-returns-in-Apply-clause-err
+term-returns-in-Apply-clause-err t c =
+    rw (c.in-Apply.is, tree_of-Apply c.in-Apply.head c.in-Apply.terms, ← c.deref-in-Apply.ensures, ← c.deref-in-Apply-2.ensures.value) c.apply.ensures.err
+
+pub term-returns-in-Append-clause-ok : goal.term-returns-in-Append-clause-ok
+term-returns-in-Append-clause-ok t c =
+    rw (
+      c.in-Append.is,
+      tree_of-Append c.in-Append.first c.in-Append.second c.in-Append.at,
+      ← c.deref-in-Append.ensures,
+      ← c.deref-in-Append-2.ensures,
+    ) c.append.ensures.ok
+
+pub term-returns-in-Append-clause-err : goal.term-returns-in-Append-clause-err
+term-returns-in-Append-clause-err t c =
+    rw (
+      c.in-Append.is,
+      tree_of-Append c.in-Append.first c.in-Append.second c.in-Append.at,
+      ← c.deref-in-Append.ensures,
+      ← c.deref-in-Append-2.ensures,
+    ) c.append.ensures.err
+
+pub term-returns-in-Rotate-clause-ok : goal.term-returns-in-Rotate-clause-ok
+term-returns-in-Rotate-clause-ok t c =
+    rw (c.in-Rotate.is, tree_of-Rotate c.in-Rotate.i c.in-Rotate.operand c.in-Rotate.at, ← c.deref-in-Rotate.ensures) c.rotation.ensures.ok
+
+pub term-returns-in-Rotate-clause-err : goal.term-returns-in-Rotate-clause-err
+term-returns-in-Rotate-clause-err t c =
+    rw (c.in-Rotate.is, tree_of-Rotate c.in-Rotate.i c.in-Rotate.operand c.in-Rotate.at, ← c.deref-in-Rotate.ensures) c.rotation.ensures.err
