@@ -1,5 +1,6 @@
 -- A held node is cleaned by cubes over the inputs.
-use Rattle.std.proofs.Common.{◌≡◌, ℕ, ◌+◌, ◌-◌, ◌*◌, ◌<◌, ◌≤◌, ◌⊎◌, Bool, List, [], ◌∷◌, ◌++◌, length, map, set, Option, refl, sym, ap, ◌∙◌, subst, inl, inr, arith}
+use Rattle.std.proofs.Common.{◌≡◌, ℕ, ◌+◌, ◌-◌, ◌*◌, ◌<◌, ◌≤◌, ◌⊎◌, Bool, List, [], ◌∷◌, ◌++◌, length, map, set, Option, refl, sym, ap, ◌∙◌, subst, inl, inr}
+use Rattle.std.proofs.Common.{arith}
 use Rattle.std.specs.Bool.{xor}
 use Rattle.std.specs.List.{AllByRecursion}
 use Rattle.std.proofs.lemmas.List.Sums.{sum_by-append}
@@ -40,7 +41,8 @@ last_below none m (x ∷ xs) low all = last_below x m xs all.0 all.1
 unread_last : (steps : List (List ℕ)) (i : ℕ) → i < length steps → last_use steps [] i < length steps
 unread_last steps i low =
     last_below i (length steps) (readers steps i) low
-    (AllByRecursion-filter (λ x. x < length steps) _ (below (length steps)) (all_from_among (λ x. x < length steps) (below (length steps)) (below_bound (length steps))))
+    (AllByRecursion-filter (λ x. x < length steps) _ (below (length steps))
+    (all_from_among (λ x. x < length steps) (below (length steps)) (below_bound (length steps))))
 
 no_outputs : (s : SettledView) → s.outputs ≡ [] → output_nodes (as_graph s) ≡ []
 no_outputs s e = ap (λ (sigs : List _). output_nodes (record { inputs = s.inputs; nodes = s.nodes; sigs = []; outputs = sigs })) e
@@ -156,6 +158,7 @@ clear_fault f w old k line cubes Gates g is = record {
   is = g.own;
   heavy =
       (let flips = cube_flips (first_work f.graph) line cubes in
-      subst (λ (n : ℕ). f.budget.gates < 2 * n) (sum_by-append weight_of f.gates flips) (over_half f.budget.gates w (weight_in (f.gates ++ flips)) g.kept.weights is));
+      subst (λ (n : ℕ). f.budget.gates < 2 * n) (sum_by-append weight_of f.gates flips)
+      (over_half f.budget.gates w (weight_in (f.gates ++ flips)) g.kept.weights is));
 }
 clear_fault f w old k line cubes Memory g is = tt

@@ -1,5 +1,6 @@
 -- Copies of the outputs.
-use Rattle.std.proofs.Common.{◌≡◌, ◌≢◌, ℕ, ◌+◌, ◌<◌, ◌≤◌, Bool, true, false, not, List, Option, [], ◌∷◌, ◌++◌, length, map, set, Some, refl, sym, ap, ◌∙◌, arith, append_assoc, length-append}
+use Rattle.std.proofs.Common.{◌≡◌, ◌≢◌, ℕ, ◌+◌, ◌<◌, ◌≤◌, Bool, true, false, not, List, Option, [], ◌∷◌, ◌++◌, length, map, set, Some, refl, sym, ap, ◌∙◌}
+use Rattle.std.proofs.Common.{arith, append_assoc, length-append}
 use Rattle.std.specs.Bool.{xor}
 use Rattle.std.specs.List.{AllByRecursion}
 use Rattle.std.proofs.lemmas.List.{get_or_at, set_at, length-replicate}
@@ -101,7 +102,8 @@ copies_roomy n first work k target lines (x ∷ xs) le fits below known ready =
     (copy_roomy n first work k target lines x le (omega (arith, fits)) below known.0 ready.0)
     (copies_roomy n first work k (target + 1) lines xs (omega (arith, le)) (omega (arith, fits)) below known.1 ready.1)
 
-weight-copy : (first : ℕ) (lines : List (Option ℕ)) (target : ℕ) (sig : Sig) → weight_in (copy_of first lines target sig) ≡ length (copy_of first lines target sig)
+weight-copy : (first : ℕ) (lines : List (Option ℕ)) (target : ℕ) (sig : Sig)
+    → weight_in (copy_of first lines target sig) ≡ length (copy_of first lines target sig)
 weight-copy first lines target (Const true) = refl
 weight-copy first lines target (Const false) = refl
 weight-copy first lines target (Is base) = refl
@@ -175,7 +177,8 @@ copied_from s lines work k target gates input done content (x ∷ xs) size many 
     line_map-append (copy_of (first_work s) lines target x) others (all_lines input (done ++ false ∷ rest) content)
     ∙ ap (line_map others) (copied_one s lines work k target gates input done rest content x size whole is e known.0 ready.0)
     ∙ ap (λ (outputs : List Bool). line_map others (all_lines input outputs content)) (sym (append_assoc done (value ∷ []) rest))
-    ∙ copied_from s lines work k (target + 1) gates input (done ++ value ∷ []) content xs size (omega (arith, longer, many)) is (omega (arith, longer, e)) known.1 ready.1
+    ∙ copied_from s lines work k (target + 1) gates input (done ++ value ∷ []) content xs size
+    (omega (arith, longer, many)) is (omega (arith, longer, e)) known.1 ready.1
     ∙ ap (λ (outputs : List Bool). all_lines input outputs content) (append_assoc done (value ∷ []) (map (settled_value s input) xs))
 
 -- the copies put the outputs on the output lines that hold zeros

@@ -1,5 +1,6 @@
 -- The lines of held nodes, and the heap that hands them out.
-use Rattle.std.proofs.Common.{◌≡◌, ◌≢◌, ℕ, zero, suc, ◌+◌, ◌<◌, Bool, true, false, not, ◌&&◌, ◌||◌, cond, eqb, List, [], ◌∷◌, length, set, Option, Some, None, is_some, refl, sym, ap, ◌∙◌, subst, inl, inr, arith}
+use Rattle.std.proofs.Common.{◌≡◌, ◌≢◌, ℕ, zero, suc, ◌+◌, ◌<◌, Bool, true, false, not, ◌&&◌, ◌||◌, cond, eqb, List, [], ◌∷◌, length, set, Option, Some, None}
+use Rattle.std.proofs.Common.{is_some, refl, sym, ap, ◌∙◌, subst, inl, inr, arith}
 use Rattle.std.specs.List.{AllByRecursion}
 use Rattle.std.proofs.lemmas.Bool.{cases_Bool, true≢false, both_ways, eqb-true, eqb-false, eq-eqb, ne_eqb, and_parts}
 use Rattle.std.proofs.lemmas.List.{get_or-set_other}
@@ -108,7 +109,8 @@ taken-given lines k own other different is =
 abbrev one_if_held : Option ℕ → ℕ
 one_if_held x = cond (is_some x) 1 0
 
-pub count-put : (lines : List (Option ℕ)) (k line : ℕ) → k < length lines → held_line lines k ≡ None → held_count (set lines k (Some line)) ≡ held_count lines + 1
+pub count-put : (lines : List (Option ℕ)) (k line : ℕ) → k < length lines → held_line lines k ≡ None
+    → held_count (set lines k (Some line)) ≡ held_count lines + 1
 count-put lines k line low none =
     let all = sum_by-set one_if_held lines k (Some line) None low in
     let was : one_if_held (held_line lines k) ≡ 0 = ap one_if_held none in
@@ -159,7 +161,8 @@ out-taken lines old new k line out is e low none =
           omega (arith, long, out.count, count-put lines k line low none));
     }
 
-pub out-given : (lines : List (Option ℕ)) (old new : HeapView) (k own : ℕ) → AreOut lines old → IsLineHeap new → new ≡ record old { out = without_line old.out own }
+pub out-given : (lines : List (Option ℕ)) (old new : HeapView) (k own : ℕ) → AreOut lines old → IsLineHeap new
+    → new ≡ record old { out = without_line old.out own }
     → AreOnDifferent lines → held_line lines k ≡ Some own → AreOut (set lines k None) new
 out-given lines old new k own out is e different held =
     let outs : new.out ≡ without_line old.out own = ap (λ (h : HeapView). h.out) e in

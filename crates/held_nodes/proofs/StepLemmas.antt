@@ -1,5 +1,6 @@
 -- A toggle, step by step: a line is taken or given back, the gates are appended.
-use Rattle.std.proofs.Common.{◌≡◌, ℕ, ◌+◌, ◌*◌, ◌/◌, ◌<◌, ◌≤◌, max, true, false, List, ◌++◌, length, get_or, set, Option, Some, None, is_some, slice_get, refl, sym, ap, ◌∙◌, subst, arith}
+use Rattle.std.proofs.Common.{◌≡◌, ℕ, ◌+◌, ◌*◌, ◌/◌, ◌<◌, ◌≤◌, max, true, false, List, ◌++◌, length, get_or, set, Option, Some, None, is_some, slice_get, refl}
+use Rattle.std.proofs.Common.{sym, ap, ◌∙◌, subst, arith}
 use Rattle.std.specs.List.{AllByRecursion}
 use Rattle.std.proofs.lemmas.Bool.{false≢true}
 use Rattle.std.proofs.lemmas.List.{get_or_default}
@@ -19,7 +20,8 @@ use Rattle.gate_split.specs.Costs.{IsRoomyFlip}
 use Rattle.mct_circuit.specs.Gates.{GateView}
 use Rattle.mct_circuit.specs.Sizes.{weight_of}
 use Rattle.held_nodes.specs.Held.{ForwardView, IsForward, IsLeastFree, first_work, held_line, held_count, is_held}
-use Rattle.held_nodes.specs.Moves.{IsReadyBase, IsReadyNode, IsToggled, IsToggleFault, IsToggleTooHeavy, HasNoLine, toggle_of, toggle_weight, weight_in, with_node}
+use Rattle.held_nodes.specs.Moves.{IsReadyBase, IsReadyNode, IsToggled, IsToggleFault, IsToggleTooHeavy, HasNoLine, toggle_of, toggle_weight, weight_in}
+use Rattle.held_nodes.specs.Moves.{with_node}
 use Rattle.held_nodes.specs.inside.Kept.{IsKept, IsWeightFault}
 use Rattle.held_nodes.proofs.ForwardLemmas.{AddNode, forward_put, forward_given}
 use Rattle.held_nodes.proofs.LineLemmas.{held_taken, held_within, least_free, out-taken, out-given, not_free, count-put, count-given}
@@ -58,7 +60,8 @@ pub record Takes (f : ForwardView) (w : ℕ) (old new : HeapView) (k line : ℕ)
   pub taken : new ≡ with_taken old line
   pub peak : new.peak ≡ max old.peak (length new.out)
 
-pub takes_of : (f entry : ForwardView) (w : ℕ) (old new : HeapView) (k line : ℕ) (node : Node) → f ≡ entry → IsKept f w old → IsReadyNode entry.graph entry.lines k
+pub takes_of : (f entry : ForwardView) (w : ℕ) (old new : HeapView) (k line : ℕ) (node : Node)
+    → f ≡ entry → IsKept f w old → IsReadyNode entry.graph entry.lines k
     → is_held entry.lines k ≡ false → slice_get f.graph.nodes k ≡ Some node → heaps.IsLeastFree old line → new ≡ with_taken old line
     → new.peak ≡ max old.peak (length new.out) → Takes f w old new k line node
 takes_of f entry w old new k line node e kept ready free is least taken peak = record {

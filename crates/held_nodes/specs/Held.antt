@@ -1,5 +1,6 @@
 -- Forward parts: the nodes of a settled graph that are held on work lines, and the gates that put their values there.
-use Rattle.std.specs.Prelude.{◌≡◌, ℕ, ◌+◌, ◌-◌, ◌*◌, ◌<◌, ◌≤◌, ◌==◌, Bool, false, true, List, ◌++◌, length, slice_index_or, Option, Some, None, is_some, sum_by, count_by}
+use Rattle.std.specs.Prelude.{◌≡◌, ℕ, ◌+◌, ◌-◌, ◌*◌, ◌<◌, ◌≤◌, ◌==◌, Bool, false, true, List, ◌++◌, length, slice_index_or, Option, Some, None, is_some, sum_by}
+use Rattle.std.specs.Prelude.{count_by}
 use Rattle.std.specs.List.{AllByRecursion, list_any}
 use Rattle.list_facts.specs.Bits.{bit_of, zeros}
 use Rattle.dependency_graph.specs.declared.node.Base.TheVariants as bases

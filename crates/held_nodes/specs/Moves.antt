@@ -1,5 +1,6 @@
 -- What can be done with a forward part: a toggle of a node, a clearing by cubes, and the finish.
-use Rattle.std.specs.Prelude.{◌≡◌, ℕ, ◌+◌, ◌*◌, ◌<◌, max, Bool, false, true, if◌then◌else◌, List, [], ◌∷◌, ◌++◌, length, map, reverse, slice_get, slice_set, Option, Some, None, unwrap_or, ⊤, sum_by}
+use Rattle.std.specs.Prelude.{◌≡◌, ℕ, ◌+◌, ◌*◌, ◌<◌, max, Bool, false, true, if◌then◌else◌, List, [], ◌∷◌, ◌++◌, length, map, reverse, slice_get, slice_set}
+use Rattle.std.specs.Prelude.{Option, Some, None, unwrap_or, ⊤, sum_by}
 use Rattle.std.specs.List.{AllByRecursion}
 use Rattle.list_facts.specs.Bits.{bit_of}
 use Rattle.dependency_graph.specs.declared.node.Base.{Base}

@@ -1,5 +1,6 @@
 // The gates that copy the outputs to their lines, and the circuit of a finished plan.
-ghost use Rattle.std.specs.Prelude.{◌≡◌, ◌+◌, ◌<◌, ◌≤◌, ◌∷◌, [], ◌++◌, ◌*◌, length, reverse, take, IfOk, OnOk};
+ghost use Rattle.std.specs.Prelude.{◌≡◌, ◌+◌, ◌<◌, ◌≤◌, ◌∷◌, [], ◌++◌, ◌*◌, length, reverse, take};
+ghost use Rattle.std.specs.Prelude.{IfOk, OnOk};
 ghost use Rattle.std.specs.List.{AllByRecursion};
 ghost use Rattle.gate_split.specs.declared.plan.TheConstants.{MOST_LINES};
 ghost use Rattle.list_facts.specs.Lists.{AreDifferent};

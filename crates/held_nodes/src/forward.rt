@@ -1,12 +1,14 @@
 // Forward parts: what is held, and the gates that hold it.
-ghost use Rattle.std.specs.Prelude.{◌≡◌, ◌+◌, ◌<◌, ◌≤◌, [], length, true, false, replicate, Option, None, IfOk, IfErr};
+ghost use Rattle.std.specs.Prelude.{◌≡◌, ◌+◌, ◌<◌, ◌≤◌, [], length, true, false, replicate, Option};
+ghost use Rattle.std.specs.Prelude.{None, IfOk, IfErr};
 ghost use Rattle.std.specs.List.{AllByRecursion};
 ghost use Rattle.claim_check.specs.Settled.{IsSettled, settled_outputs};
 ghost use Rattle.gate_split.specs.Costs.{IsRoomyFlip};
 ghost use Rattle.gate_split.specs.Plans.{MapsCleanly};
 ghost use Rattle.held_nodes.specs.Held.{IsForward, first_work, is_held};
-ghost use Rattle.held_nodes.specs.Moves.{CanClear, IsCleared, IsClearFault, IsFinishFault, IsReadyNode, IsReadySig};
-ghost use Rattle.held_nodes.specs.Moves.{IsStartFault, IsToggled, IsToggleFault, nothing_held, planned_of, roles_of_plan};
+ghost use Rattle.held_nodes.specs.Moves.{CanClear, IsCleared, IsClearFault, IsFinishFault};
+ghost use Rattle.held_nodes.specs.Moves.{IsReadyNode, IsReadySig, IsStartFault, IsToggled};
+ghost use Rattle.held_nodes.specs.Moves.{IsToggleFault, nothing_held, planned_of, roles_of_plan};
 ghost use Rattle.held_nodes.specs.Plans.{HasPorts, IsInBudget};
 
 use crate::copying::{copies_of, finished_circuit};
@@ -19,12 +21,13 @@ use gate_split::{Budget, PlanFault, Planned};
 use std::alloc::Global;
 use std::marker::Model;
 
-/// The forward part of a plan: gates that compute nodes of a settled graph onto work lines, and clean them there. A node
-/// whose value stands on a work line is held. Whatever the output lines hold, the gates take an input and zeros on the
-/// work lines to that input, each held node's value on its line, and zeros on the other work lines.
+/// The forward part of a plan: gates that compute nodes of a settled graph onto work lines, and
+/// clean them there. A node whose value stands on a work line is held. Whatever the output lines
+/// hold, the gates take an input and zeros on the work lines to that input, each held node's value
+/// on its line, and zeros on the other work lines.
 ///
-/// Contracts see it as the settled graph, the budget, the list of gates, for each node None or its work line, and the
-/// greatest number of nodes that were held at one time.
+/// Contracts see it as the settled graph, the budget, the list of gates, for each node None or its
+/// work line, and the greatest number of nodes that were held at one time.
 #[derive(Drop)]
 pub struct Forward<'s> {
     graph: &'s Settled,
@@ -58,13 +61,13 @@ impl<'s> Model for Forward<'s> {
 }
 
 impl<'s> Forward<'s> {
-    /// The forward part of no gates, within the budget. Its work lines are those behind the lines of the inputs and
-    /// outputs that the budget does not borrow.
+    /// The forward part of no gates, within the budget. Its work lines are those behind the lines
+    /// of the inputs and outputs that the budget does not borrow.
     ///
     /// # Errors
     ///
-    /// `Lines` exactly where the budget does not have a line for each input, output and borrowed bit; `need` is how many
-    /// these are.
+    /// `Lines` exactly where the budget does not have a line for each input, output and borrowed
+    /// bit; `need` is how many these are.
     pub fn new(alloc: Global, graph: &'s Settled, budget: &Budget) -> Result<Forward<'s>, PlanFault>
         ensures ok { IfOk result (λ forward. forward
             ≡ nothing_held graph.now budget.now (replicate (length graph.now.nodes) None)) }
@@ -95,14 +98,14 @@ impl<'s> Forward<'s> {
         self.lines[node as usize].is_some()
     }
 
-    /// Toggles a node: a held node is cleaned and gives its line back, another one takes the least free work line and is
-    /// held there.
+    /// Toggles a node: a held node is cleaned and gives its line back, another one takes the least
+    /// free work line and is held there.
     ///
     /// # Errors
     ///
-    /// `Lines` exactly where the node is not held and as many nodes are as the budget has work lines; `need` is one more
-    /// than the budget's lines. Otherwise `Gates` exactly where twice the weight of all gates, with the toggle's, passes
-    /// the budget.
+    /// `Lines` exactly where the node is not held and as many nodes are as the budget has work
+    /// lines; `need` is one more than the budget's lines. Otherwise `Gates` exactly where twice the
+    /// weight of all gates, with the toggle's, passes the budget.
     pub fn toggle(self, node: u32) -> Result<Forward<'s>, PlanFault>
         requires { IsReadyNode self.graph self.lines node }
         ensures ok { IfOk result (IsToggled self.entry node) }
@@ -182,7 +185,8 @@ impl<'s> Forward<'s> {
         })
     }
 
-    /// Cleans a held node by cubes whose exclusive or is its value: each flips the node's line, which is then given back.
+    /// Cleans a held node by cubes whose exclusive or is its value: each flips the node's line,
+    /// which is then given back.
     ///
     /// # Errors
     ///
@@ -215,13 +219,14 @@ impl<'s> Forward<'s> {
         })
     }
 
-    /// The plan of this forward part: its gates, a copy of each output to its line, and its gates reversed. The circuit
-    /// takes each input and zeros to that input, the outputs, and zeros. Its lines, with the borrowed ones, and the
-    /// weights of its gates are within the budget.
+    /// The plan of this forward part: its gates, a copy of each output to its line, and its gates
+    /// reversed. The circuit takes each input and zeros to that input, the outputs, and zeros. Its
+    /// lines, with the borrowed ones, and the weights of its gates are within the budget.
     ///
     /// # Errors
     ///
-    /// `Gates` exactly where twice the weight of the gates and once that of the copies passes the budget.
+    /// `Gates` exactly where twice the weight of the gates and once that of the copies passes the
+    /// budget.
     pub fn finish(self) -> Result<Planned, PlanFault>
         requires { AllByRecursion (IsReadySig self.lines) self.graph.outputs }
         ensures ok { IfOk result (λ planned. planned ≡ planned_of self.entry) }

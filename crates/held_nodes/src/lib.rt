@@ -1,5 +1,6 @@
-//! Forward parts of plans: the nodes of a settled graph are computed onto work lines and cleaned there again, the outputs
-//! are copied, and the forward part is undone (Bennett, Logical reversibility of computation, 1973).
+//! Forward parts of plans: the nodes of a settled graph are computed onto work lines and cleaned
+//! there again, the outputs are copied, and the forward part is undone (Bennett, Logical
+//! reversibility of computation, 1973).
 #![tactic(auto)]
 
 mod copying;

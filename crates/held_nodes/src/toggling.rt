@@ -6,7 +6,8 @@ ghost use Rattle.exclusive_sums.specs.declared.cube.Literal.{Literal};
 ghost use Rattle.exclusive_sums.specs.Cubes.{IsCube};
 ghost use Rattle.gate_split.specs.declared.plan.TheConstants.{MOST_LINES};
 ghost use Rattle.list_facts.specs.Lists.{AreDifferent};
-ghost use Rattle.held_nodes.specs.Moves.{base_line, control_of, cube_flip, cube_flips, toggle_of, weight_in};
+ghost use Rattle.held_nodes.specs.Moves.{base_line, control_of, cube_flip, cube_flips, toggle_of};
+ghost use Rattle.held_nodes.specs.Moves.{weight_in};
 ghost use Rattle.held_nodes.specs.inside.Kept.{IsPlacedBase, IsWeightFault};
 
 use crate::weighed::WeighedGates;

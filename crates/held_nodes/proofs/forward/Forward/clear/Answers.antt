@@ -12,7 +12,8 @@ append_cubes-requires-clause-target c =
     rw c.first_work.ensures.first (given_target _ _ _ _ _ gives)
 
 pub append_cubes-requires-clause-apart : goal.append_cubes-requires-clause-apart
-append_cubes-requires-clause-apart c = rw c.first_work.ensures.first (clear_low _ _ _ (subst (λ (f : ForwardView). CanClear f c.args.node c.args.cubes.now) (sym c.self.view_is) c.requires))
+append_cubes-requires-clause-apart c = rw c.first_work.ensures.first (clear_low _ _ _
+    (subst (λ (f : ForwardView). CanClear f c.args.node c.args.cubes.now) (sym c.self.view_is) c.requires))
 
 pub returns-in_err-append_cubes-clause-refused : goal.returns-in_err-append_cubes-clause-refused
 returns-in_err-append_cubes-clause-refused c =

@@ -1,5 +1,6 @@
 use Rattle.std.proofs.Common.{rules, ◌∙◌, length, ap}
-use Rattle.held_nodes.proofs.FinishLemmas.{done_of, done_apart, done_ports, done_in_budget, done_over, done_within, done_gates, done_copies, done_roomy, done_room, done_clean}
+use Rattle.held_nodes.proofs.FinishLemmas.{done_of, done_apart, done_ports, done_in_budget, done_over, done_within, done_gates, done_copies, done_roomy}
+use Rattle.held_nodes.proofs.FinishLemmas.{done_room, done_clean}
 use Rattle.held_nodes.proofs.forward.Forward.finish.Goals as goal
 
 pub copies_of-requires-clause-apart : goal.copies_of-requires-clause-apart
