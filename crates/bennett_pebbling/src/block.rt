@@ -1,8 +1,9 @@
 // A block of nodes, computed and cleaned node by node. The mark at place k is that of node lo + k.
 ghost use Rattle.std.specs.Prelude.{◌+◌, ◌<◌, ◌≤◌, length, IfOk, IfErr};
 ghost use Rattle.held_nodes.specs.Held.{IsForward};
-ghost use Rattle.bennett_pebbling.specs.inside.Changes.{CanLower, CanTurn, IsLowered, IsLowerFault, IsRaised, IsRaiseFault};
-ghost use Rattle.bennett_pebbling.specs.inside.Changes.{IsReadyBelow, IsTurned, IsTurnFault};
+ghost use Rattle.bennett_pebbling.specs.inside.Changes.{CanLower, CanTurn, IsLowered, IsLowerFault};
+ghost use Rattle.bennett_pebbling.specs.inside.Changes.{IsRaised, IsRaiseFault, IsReadyBelow};
+ghost use Rattle.bennett_pebbling.specs.inside.Changes.{IsTurned, IsTurnFault};
 ghost use Rattle.bennett_pebbling.specs.inside.Marks.{AreClosed};
 
 use gate_split::PlanFault;

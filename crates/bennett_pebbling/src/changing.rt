@@ -1,7 +1,8 @@
 // Work on a range of nodes: by halves, down to blocks. The mark at place k is that of node lo + k.
 ghost use Rattle.std.specs.Prelude.{◌≡◌, ◌+◌, ◌≤◌, length, IfOk, IfErr};
 ghost use Rattle.held_nodes.specs.Held.{IsForward};
-ghost use Rattle.bennett_pebbling.specs.inside.Changes.{IsChanged, IsChangeFault, IsReadyBelow, IsRisen, IsRiseFault};
+ghost use Rattle.bennett_pebbling.specs.inside.Changes.{IsChanged, IsChangeFault, IsReadyBelow};
+ghost use Rattle.bennett_pebbling.specs.inside.Changes.{IsRisen, IsRiseFault};
 ghost use Rattle.bennett_pebbling.specs.inside.Marks.{AreDifferences, IsHalf};
 
 use crate::block::{lower, raise};
@@ -18,7 +19,8 @@ fn half(count: usize) -> usize
     count - count / 2
 }
 
-// Holds exactly the wanted nodes of a range, within one block; the marks are those of the nodes that differ.
+// Holds exactly the wanted nodes of a range, within one block; the marks are those of the nodes
+// that differ.
 fn change_block<'s>(
     graph: &Settled,
     forward: Forward<'s>,
@@ -41,7 +43,8 @@ fn change_block<'s>(
     lower(forward, lo, wanted)
 }
 
-// Holds the wanted nodes of a range, and all nodes of the range on which they rest, within one block.
+// Holds the wanted nodes of a range, and all nodes of the range on which they rest, within one
+// block.
 fn rise_block<'s>(
     alloc: Global,
     graph: &Settled,

@@ -1,4 +1,5 @@
-//! Pebbling by halves (Bennett, Time/space trade-offs for reversible computation, 1989), down to blocks of nodes.
+//! Pebbling by halves (Bennett, Time/space trade-offs for reversible computation, 1989), down to
+//! blocks of nodes.
 #![tactic(auto)]
 
 mod block;
@@ -7,6 +8,3 @@ mod needs;
 mod planning;
 
 pub use planning::plan;
-
-#[cfg(test)]
-mod tests;

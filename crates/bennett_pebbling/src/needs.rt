@@ -1,10 +1,11 @@
-// Marks of the nodes of a range: those that are needed behind it, those that differ, and those on which they rest. The mark
-// at place k is that of node lo + k.
+// Marks of the nodes of a range: those that are needed behind it, those that differ, and those on
+// which they rest. The mark at place k is that of node lo + k.
 ghost use Rattle.std.specs.Prelude.{◌+◌, ◌≤◌, length, IfOk};
 ghost use Rattle.dependency_graph.specs.Graphs.{nodes_among, node_of, operands};
 ghost use Rattle.claim_check.specs.Settled.{IsSettled};
 ghost use Rattle.held_nodes.specs.Held.{IsForward};
-ghost use Rattle.bennett_pebbling.specs.inside.Marks.{AreDifferences, AreNeeded, AreNeeds, HasMarked};
+ghost use Rattle.bennett_pebbling.specs.inside.Marks.{AreDifferences, AreNeeded, AreNeeds};
+ghost use Rattle.bennett_pebbling.specs.inside.Marks.{HasMarked};
 
 use claim_check::Settled;
 use dependency_graph::{Base, Node};

@@ -14,16 +14,18 @@ use gate_split::{Budget, PlanFault, Planned};
 use held_nodes::Forward;
 use std::alloc::Global;
 
-/// The plan of a settled graph by halves, down to blocks of `block` nodes. The forward part holds what the second half of
-/// the nodes needs of the first, then the outputs in the second half, and then cleans the first half of what is no
-/// output; each half goes in the same way, and a block is computed node by node. The circuit takes each input and zeros
-/// to that input, the outputs, and zeros.
+/// The plan of a settled graph by halves, down to blocks of `block` nodes. The forward part holds
+/// what the second half of the nodes needs of the first, then the outputs in the second half, and
+/// then cleans the first half of what is no output; each half goes in the same way, and a block is
+/// computed node by node. The circuit takes each input and zeros to that input, the outputs, and
+/// zeros.
 ///
 /// # Errors
 ///
-/// `Lines` and `Gates` only where the budget has fewer of them than the numbers of the block, for a block of one node than
-/// the fine numbers, and where one block has all nodes than the plain numbers. `need` is the number of inputs, outputs
-/// and borrowed lines where that passes the budget, and one line more than the budget otherwise.
+/// `Lines` and `Gates` only where the budget has fewer of them than the numbers of the block, for a
+/// block of one node than the fine numbers, and where one block has all nodes than the plain
+/// numbers. `need` is the number of inputs, outputs and borrowed lines where that passes the
+/// budget, and one line more than the budget otherwise.
 pub fn plan(
     alloc: Global,
     graph: &Settled,

@@ -1,5 +1,6 @@
 -- The values of nodes are their polynomials, or some node has too many monomials.
-use Rattle.std.proofs.Common.{◌≡◌, ℕ, ◌+◌, ◌<◌, ◌≤◌, Bool, not, ◌&&◌, inl, inr, List, [], ◌∷◌, ◌++◌, length, set, slice_get, Option, Some, None, refl, sym, ap, ◌∙◌, subst, arith, length-append}
+use Rattle.std.proofs.Common.{◌≡◌, ℕ, ◌+◌, ◌<◌, ◌≤◌, Bool, not, ◌&&◌, inl, inr, List, [], ◌∷◌, ◌++◌, length, set, slice_get, Option, Some, None, refl, sym, ap}
+use Rattle.std.proofs.Common.{◌∙◌, subst, arith, length-append}
 use Rattle.std.specs.Bool.{xor}
 use Rattle.std.specs.List.{AllByRecursion}
 use Rattle.std.proofs.lemmas.Bool.{cases_lt}
@@ -26,7 +27,8 @@ use Rattle.revc_base.specs.Polynomials.{IsPolynomial, IsPolynomialOf, value_of_p
 use Rattle.revc_base.proofs.MonomialLemmas.{firsts, monomials_are_determined, value-monomials}
 use Rattle.revc_base.proofs.PolynomialLemmas.{polynomials_are_unique}
 use Rattle.revc_base.proofs.SumLemmas.{IsPolynomial-input, value-input}
-use Rattle.eager_cleanup.specs.inside.Known.{Polynomial, AreFirstValues, AreInputValues, HasLargeNode, IsJoin, IsKnownValue, IsNegation, IsValueOf, base_value, last_use_of, value_at}
+use Rattle.eager_cleanup.specs.inside.Known.{Polynomial, AreFirstValues, AreInputValues, HasLargeNode, IsJoin, IsKnownValue, IsNegation, IsValueOf, base_value}
+use Rattle.eager_cleanup.specs.inside.Known.{last_use_of, value_at}
 use Rattle.eager_cleanup.proofs.UserLemmas.{used_here}
 
 -- ---- polynomials of functions of the inputs

@@ -1,11 +1,13 @@
 // The cleaning of the nodes that a node uses for the last time.
-ghost use Rattle.std.specs.Prelude.{◌≡◌, ◌≢◌, ◌+◌, ◌<◌, [], ◌∷◌, length, true, if◌then◌else◌, IfOk, IfErr};
+ghost use Rattle.std.specs.Prelude.{◌≡◌, ◌≢◌, ◌+◌, ◌<◌, [], ◌∷◌, length, true, if◌then◌else◌, IfOk};
+ghost use Rattle.std.specs.Prelude.{IfErr};
 ghost use Rattle.std.specs.List.{AllByRecursion};
 ghost use Rattle.dependency_graph.specs.Graphs.{IsKnownBase, operands};
 ghost use Rattle.eager_cleanup.specs.Eager.{IsEagerFault};
 ghost use Rattle.eager_cleanup.specs.inside.Known.{AreFirstValues, IsKnownPolynomial, IsKnownValue};
-ghost use Rattle.eager_cleanup.specs.inside.Sweeps.{CanClean, IsCleaned, IsCleaningFault, IsMade, IsSwept, IsUsed, IsUseFault};
-ghost use Rattle.eager_cleanup.specs.inside.Sweeps.{are_ready, is_earlier, is_ready};
+ghost use Rattle.eager_cleanup.specs.inside.Sweeps.{CanClean, IsCleaned, IsCleaningFault, IsMade};
+ghost use Rattle.eager_cleanup.specs.inside.Sweeps.{IsSwept, IsUsed, IsUseFault, are_ready};
+ghost use Rattle.eager_cleanup.specs.inside.Sweeps.{is_earlier, is_ready};
 ghost use Rattle.held_nodes.specs.Held.{IsForward, is_held};
 
 use claim_check::Settled;
@@ -15,7 +17,8 @@ use gate_split::PlanFault;
 use held_nodes::Forward;
 use std::alloc::Global;
 
-// Cleans the nodes that node `user`, which was made last, uses for the last time, the later one first.
+// Cleans the nodes that node `user`, which was made last, uses for the last time, the later one
+// first.
 pub fn clean_operands<'s>(
     alloc: Global,
     forward: Forward<'s>,
@@ -98,7 +101,8 @@ fn clean_used<'s>(
     clean(alloc, forward, graph, k, &known[k as usize])
 }
 
-// Cleans a held node: by its operands where each is an input or held, else by its value where that is known.
+// Cleans a held node: by its operands where each is an input or held, else by its value where that
+// is known.
 fn clean<'s>(
     alloc: Global,
     forward: Forward<'s>,

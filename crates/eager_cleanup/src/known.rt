@@ -3,7 +3,8 @@ ghost use Rattle.std.specs.Prelude.{◌≡◌, ◌+◌, ◌<◌, length, Some, N
 ghost use Rattle.std.specs.List.{AllByRecursion};
 ghost use Rattle.claim_check.specs.Settled.{IsSettled};
 ghost use Rattle.dependency_graph.specs.Graphs.{IsKnownBase, operands};
-ghost use Rattle.eager_cleanup.specs.inside.Known.{AreFirstValues, AreInputValues, IsValueOf, base_value};
+ghost use Rattle.eager_cleanup.specs.inside.Known.{AreFirstValues, AreInputValues, IsValueOf};
+ghost use Rattle.eager_cleanup.specs.inside.Known.{base_value};
 
 use claim_check::Settled;
 use dependency_graph::{Base, Node};
@@ -11,8 +12,8 @@ use exclusive_sums::Poly;
 use revc_base::Memory;
 use std::alloc::Global;
 
-// Appends the value of the next node: its polynomial, where each operand is an input or known and the polynomial has at
-// most 64 monomials. The values that no later node needs are dropped.
+// Appends the value of the next node: its polynomial, where each operand is an input or known and
+// the polynomial has at most 64 monomials. The values that no later node needs are dropped.
 pub fn add_value(
     known: &mut Vec<Option<Poly>>,
     inputs: &[Poly],

@@ -1,4 +1,5 @@
-//! The eager plan: each node is computed once, and cleaned as soon as it was used for the last time.
+//! The eager plan: each node is computed once, and cleaned as soon as it was used for the last
+//! time.
 #![tactic(auto)]
 
 mod cleaning;
@@ -6,6 +7,3 @@ mod known;
 mod planning;
 
 pub use planning::plan;
-
-#[cfg(test)]
-mod tests;

@@ -18,15 +18,17 @@ use gate_split::{Budget, PlanFault, Planned};
 use held_nodes::Forward;
 use std::alloc::Global;
 
-/// The eager plan of a settled graph. Its forward part takes the nodes in order. Each is computed onto the least free
-/// work line; then each node that was used for the last time is cleaned, the later one first: by its operands where they
-/// are inputs or still stand on work lines, else by the merged cubes of its polynomial where that has at most 64
-/// monomials, and else at the end. The circuit takes each input and zeros to that input, the outputs, and zeros.
+/// The eager plan of a settled graph. Its forward part takes the nodes in order. Each is computed
+/// onto the least free work line; then each node that was used for the last time is cleaned, the
+/// later one first: by its operands where they are inputs or still stand on work lines, else by the
+/// merged cubes of its polynomial where that has at most 64 monomials, and else at the end. The
+/// circuit takes each input and zeros to that input, the outputs, and zeros.
 ///
 /// # Errors
 ///
-/// `Lines` and `Gates` only where the budget has fewer of them than the eager number of the graph. `need` is the number
-/// of inputs, outputs and borrowed lines where that passes the budget, and one line more than the budget otherwise.
+/// `Lines` and `Gates` only where the budget has fewer of them than the eager number of the graph.
+/// `need` is the number of inputs, outputs and borrowed lines where that passes the budget, and one
+/// line more than the budget otherwise.
 pub fn plan(alloc: Global, graph: &Settled, budget: &Budget) -> Result<Planned, PlanFault>
     ensures ports { IfOk result (HasPorts graph.now) }
     ensures clean { IfOk result (λ planned. MapsCleanly (roles_of_plan planned)
@@ -42,7 +44,8 @@ pub fn plan(alloc: Global, graph: &Settled, budget: &Budget) -> Result<Planned, 
     forward.finish()
 }
 
-// Takes the nodes in order. The value of each is worked out behind its gates, and kept up to its last use.
+// Takes the nodes in order. The value of each is worked out behind its gates, and kept up to its
+// last use.
 fn swept<'s>(
     alloc: Global,
     mut forward: Forward<'s>,

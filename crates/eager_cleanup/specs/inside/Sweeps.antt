@@ -1,5 +1,6 @@
 -- What is held and paid for while the nodes are gone through in order.
-use Rattle.std.specs.Prelude.{◌≡◌, ◌≢◌, ℕ, zero, suc, ◌+◌, ◌*◌, ◌<◌, ◌≤◌, nat_lt, Bool, true, false, if◌then◌else◌, List, length, Option, Some, None, is_some, slice_get, ⊤, sum_by}
+use Rattle.std.specs.Prelude.{◌≡◌, ◌≢◌, ℕ, zero, suc, ◌+◌, ◌*◌, ◌<◌, ◌≤◌, nat_lt, Bool, true, false, if◌then◌else◌, List, length, Option, Some, None, is_some}
+use Rattle.std.specs.Prelude.{slice_get, ⊤, sum_by}
 use Rattle.std.specs.List.{AllByRecursion, list_all}
 use Rattle.claim_check.specs.Settled.{SettledView, as_graph}
 use Rattle.dependency_graph.specs.declared.node.Base.{Base}
