@@ -1,11 +1,13 @@
 -- Gates on vectors of planes, a lane at a time.
-use Rattle.std.proofs.Common.{◌≡◌, ◌≢◌, ℕ, ◌+◌, ◌-◌, ◌*◌, ◌^◌, ◌<◌, ◌≤◌, min, bit_and, bit_xor, Bool, true, false, List, [], ◌∷◌, ◌++◌, length, length-append, length-drop, length-set, get_or, set, take, drop, refl, sym, ap, ◌∙◌, subst, arith, below_more}
+use Rattle.std.proofs.Common.{◌≡◌, ◌≢◌, ℕ, ◌+◌, ◌-◌, ◌*◌, ◌^◌, ◌<◌, ◌≤◌, min, bit_and, bit_xor, Bool, true, false, List, [], ◌∷◌, ◌++◌, length, length-append}
+use Rattle.std.proofs.Common.{length-drop, length-set, get_or, set, take, drop, refl, sym, ap, ◌∙◌, subst, arith, below_more}
 use Rattle.std.specs.Global.{Vec}
 use Rattle.std.specs.List.{take-map}
 use Rattle.std.specs.Simd.Lanes.{chunk, zip2}
 use Rattle.std.specs.Prelude.{replicate}
 use Rattle.std.proofs.Math.Seq.{map-set_same}
-use Rattle.std.proofs.lemmas.List.{get_or-append-add, get_or-map, get_or-set_other, get_or-set_same, get_or-take, get_or_append_left, length-map, length-take-le, map-append, map-set}
+use Rattle.std.proofs.lemmas.List.{get_or-append-add, get_or-map, get_or-set_other, get_or-set_same, get_or-take, get_or_append_left, length-map}
+use Rattle.std.proofs.lemmas.List.{length-take-le, map-append, map-set}
 use Rattle.std.proofs.lemmas.Simd.{get_or-chunk, get_or-replicate, get_or-zip2, length-chunk, length-zip2}
 use Rattle.list_facts.proofs.AllLemmas.{AllByRecursion-append, AllByRecursion-at, AllByRecursion-drop, AllByRecursion-set, AllByRecursion-take}
 use Rattle.mct_circuit.specs.declared.gate.Control.{Control}

@@ -1,8 +1,10 @@
 -- Rows that go through a circuit at once.
-use Rattle.std.proofs.Common.{◌≡◌, ℕ, ◌+◌, ◌-◌, ◌*◌, ◌/◌, ◌%◌, ◌<◌, ◌≤◌, Bool, List, [], ◌++◌, length, length-append, length-drop, append-nil, map, get_or, take, drop, sym, ap, ◌∙◌, subst, arith}
+use Rattle.std.proofs.Common.{◌≡◌, ℕ, ◌+◌, ◌-◌, ◌*◌, ◌/◌, ◌%◌, ◌<◌, ◌≤◌, Bool, List, [], ◌++◌, length, length-append, length-drop, append-nil, map, get_or}
+use Rattle.std.proofs.Common.{take, drop, sym, ap, ◌∙◌, subst, arith}
 use Rattle.std.specs.Global.{Vec}
 use Rattle.std.specs.List.{drop-map, take-map}
-use Rattle.std.proofs.lemmas.List.{append_assoc, drop_all, drop_at, get_or-map, get_or_default, length-map, length-take-le, map-append, same_lists, take-append-drop, take_all, take_at}
+use Rattle.std.proofs.lemmas.List.{append_assoc, drop_all, drop_at, get_or-map, get_or_default, length-map, length-take-le, map-append, same_lists}
+use Rattle.std.proofs.lemmas.List.{take-append-drop, take_all, take_at}
 use Rattle.list_facts.proofs.AllLemmas.{AllByRecursion-append, AllByRecursion-drop, AllByRecursion-take}
 use Rattle.mct_circuit.specs.Gates.{GateView, line_map}
 use Rattle.circuit_sim.specs.Planes.{AreMapped, AreMappedInLanes}

@@ -8,8 +8,9 @@ ghost use Rattle.circuit_sim.specs.inside.Masks.{IsChosenInLanes, IsMaskInLanes,
 use mct_circuit::{Circuit, Control, Gate, Op};
 use std::simd::u64x8;
 
-/// Runs a circuit on 512 contents of its lines at once: there is a vector of eight planes for each line, and each of the
-/// eight lanes goes through the circuit as by `run_planes`. It takes no memory.
+/// Runs a circuit on 512 contents of its lines at once: there is a vector of eight planes for each
+/// line, and each of the eight lanes goes through the circuit as by `run_planes`. It takes no
+/// memory.
 pub fn run_lanes(circuit: &Circuit, planes: &mut [u64x8])
     requires lines { length planes.old ≡ circuit.now.lines }
     requires vectors { AreVectors planes.old }

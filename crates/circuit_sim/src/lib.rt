@@ -1,4 +1,5 @@
-//! Circuits run on the bits of their lines: one content of the lines at a time, 64, 512, or any number.
+//! Circuits run on the bits of their lines: one content of the lines at a time, 64, 512, or any
+//! number.
 #![tactic(auto)]
 
 mod lanes;
@@ -11,6 +12,3 @@ pub use lanes::run_lanes;
 pub use plain::run_one;
 pub use planes::run_planes;
 pub use rows::run_all;
-
-#[cfg(test)]
-mod tests;

@@ -2,7 +2,8 @@
 ghost use Rattle.std.specs.Prelude.{◌≡◌, ◌<◌, ◌≤◌, length, slice_set};
 ghost use Rattle.circuit_sim.specs.Planes.{AreVectors, column, lane};
 ghost use Rattle.circuit_sim.specs.Rows.{AreRows, contents};
-ghost use Rattle.circuit_sim.specs.inside.Loaded.{HoldRows, HoldRowsInLanes, IsWithBit, IsWithLane, IsWithRow};
+ghost use Rattle.circuit_sim.specs.inside.Loaded.{HoldRows, HoldRowsInLanes, IsWithBit, IsWithLane};
+ghost use Rattle.circuit_sim.specs.inside.Loaded.{IsWithRow};
 
 use std::simd::u64x8;
 

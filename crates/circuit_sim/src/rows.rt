@@ -19,9 +19,10 @@ const LANE_ROWS: usize = 512;
 // How many rows go through the circuit at once.
 const MOST_ROWS: usize = 1_024;
 
-/// Runs a circuit on each row, which has a bit for each line, line 0 first: 1,024 rows at a time on the lanes of two
-/// vectors for each line, and the rest by one vector or plane where that holds them. Each row becomes its line map.
-/// Memory is taken for seventeen words for each line; where it is wanting, the rows are unchanged.
+/// Runs a circuit on each row, which has a bit for each line, line 0 first: 1,024 rows at a time on
+/// the lanes of two vectors for each line, and the rest by one vector or plane where that holds
+/// them. Each row becomes its line map. Memory is taken for seventeen words for each line; where it
+/// is wanting, the rows are unchanged.
 pub fn run_all(alloc: Global, circuit: &Circuit, rows: &mut [Vec<bool>]) -> Result<(), Memory>
     requires { AreRows circuit.now.lines rows.old }
     ensures ok { OnOk result (contents rows.new
