@@ -9,16 +9,17 @@ use claim_check::Settled;
 use gate_split::{Budget, Laid, PlanFault};
 use std::alloc::Global;
 
-/// The first plan that fits the budget, with its gates split on all its lines and the borrowed ones. The circuit takes
-/// each input, zeros, and anything on the borrowed lines to that input, the outputs, zeros, and the same on the borrowed
-/// lines.
+/// The first plan that fits the budget, with its gates split on all its lines and the borrowed
+/// ones. The circuit takes each input, zeros, and anything on the borrowed lines to that input, the
+/// outputs, zeros, and the same on the borrowed lines.
 ///
 /// # Errors
 ///
-/// The refusal of the last plan that was tried; want of memory ends the search. `Lines` and `Gates` come only where the
-/// budget has fewer of them than the fine number of the graph, or for `Eager` than its eager number, and never where both
-/// numbers of a row that `how` allows fit. `need` is the number of inputs, outputs and borrowed lines where that passes
-/// the budget, and one line more than the budget otherwise.
+/// The refusal of the last plan that was tried; want of memory ends the search. `Lines` and `Gates`
+/// come only where the budget has fewer of them than the fine number of the graph, or for `Eager`
+/// than its eager number, and never where both numbers of a row that `how` allows fit. `need` is
+/// the number of inputs, outputs and borrowed lines where that passes the budget, and one line more
+/// than the budget otherwise.
 pub fn choose(alloc: Global, graph: &Settled, budget: &Budget, how: How) -> Result<Laid, PlanFault>
     ensures ok { IfOk result (IsLaidFor graph.now budget.now) }
     ensures refused { IfErr result (IsChoiceFault how graph.now budget.now) }

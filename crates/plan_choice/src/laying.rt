@@ -55,8 +55,8 @@ fn lay(alloc: Global, planned: &Planned, budget: &Budget) -> Result<Laid, PlanFa
     ensures ok { IfOk result (IsLaidOf planned.now budget.now) }
     ensures refused { IfErr result (IsSplitFault planned.now.circuit.gates budget.now) }
 {
-    // These calls say that no flip wants an idle line, that the plan is clean beside borrowed lines, and that the budget
-    // has few lines.
+    // These calls say that no flip wants an idle line, that the plan is clean beside borrowed
+    // lines, and that the budget has few lines.
     roomy_flips_are_split();
     clean_circuits_borrow();
     let _ = budget.lines();

@@ -8,8 +8,8 @@ use claim_check::Settled;
 use gate_split::{Budget, Laid, PlanFault};
 use std::alloc::Global;
 
-// The first pebbling plan that fits the budget, of blocks from the least power of two that has all nodes down by halves
-// to 1.
+// The first pebbling plan that fits the budget, of blocks from the least power of two that has all
+// nodes down by halves to 1.
 pub fn lay_pebbling(alloc: Global, graph: &Settled, budget: &Budget) -> Result<Laid, PlanFault>
     ensures ok { IfOk result (IsLaidFor graph.now budget.now) }
     ensures refused { IfErr result (IsChoiceFault Pebble graph.now budget.now) }
