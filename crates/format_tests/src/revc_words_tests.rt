@@ -1,1 +1,191 @@
 // The tests of revc_words.
+use plan_choice::How;
+use revc_words::{Command, Format, WordsFault, read_words};
+use std::alloc::{AllocError, Global};
+use std::test::Fail;
+
+// What words ask for.
+struct Asked {
+    command: Command,
+    plan: How,
+    lines: u32,
+    gates: u64,
+    borrow: u32,
+    nodes: u32,
+    format: Format,
+    from: Format,
+    to: Format,
+    number: u32,
+    bits: &'static [&'static str],
+}
+
+// What a command asks for where no option is given.
+const USUAL: Asked = Asked {
+    command: Command::Compile,
+    plan: How::Auto,
+    lines: 4_096,
+    gates: 1_000_000,
+    borrow: 0,
+    nodes: 100_000,
+    format: Format::Real,
+    from: Format::Real,
+    to: Format::Qasm,
+    number: 0,
+    bits: &[],
+};
+
+// Words, and what they ask for.
+const ORDERS: &[(&[&str], Asked)] = &[
+    (&["compile"], USUAL),
+    (
+        &["compile", "--plan=pebble", "--gates", "4000000"],
+        Asked {
+            plan: How::Pebble,
+            gates: 4_000_000,
+            ..USUAL
+        },
+    ),
+    (
+        &["compile", "--lines", "16384", "--borrow=64"],
+        Asked {
+            lines: 16_384,
+            borrow: 64,
+            ..USUAL
+        },
+    ),
+    (
+        &["compile", "--nodes", "0000005", "--format", "qasm"],
+        Asked {
+            nodes: 5,
+            format: Format::Qasm,
+            ..USUAL
+        },
+    ),
+    (
+        &["check", "--nodes", "1", "--"],
+        Asked {
+            command: Command::Check,
+            nodes: 1,
+            ..USUAL
+        },
+    ),
+    (
+        &["eval", "--", "--"],
+        Asked {
+            command: Command::Eval,
+            bits: &["--"],
+            ..USUAL
+        },
+    ),
+    (
+        &["stat", "--from=qasm"],
+        Asked {
+            command: Command::Stat,
+            from: Format::Qasm,
+            ..USUAL
+        },
+    ),
+    (
+        &["run", "1", "--from", "real", ""],
+        Asked {
+            command: Command::Run,
+            bits: &["1", ""],
+            ..USUAL
+        },
+    ),
+    (
+        &["run", "-", "--", "--from=real"],
+        Asked {
+            command: Command::Run,
+            bits: &["-", "--from=real"],
+            ..USUAL
+        },
+    ),
+    (
+        &["convert", "--from", "qasm", "--to", "real"],
+        Asked {
+            command: Command::Convert,
+            from: Format::Qasm,
+            to: Format::Real,
+            ..USUAL
+        },
+    ),
+    (
+        &["gen", "--", "200"],
+        Asked {
+            command: Command::Gen,
+            number: 200,
+            ..USUAL
+        },
+    ),
+    (
+        &["bench", "16", "--plan", "eager"],
+        Asked {
+            command: Command::Bench,
+            plan: How::Eager,
+            number: 16,
+            ..USUAL
+        },
+    ),
+];
+
+// Words that are no order.
+const NO_ORDERS: &[&[&str]] = &[
+    &[],
+    &["Compile"],
+    &["--help"],
+    &["compile", "--nodes", "0"],
+    &["compile", "--nodes", "00000005"],
+    &["compile", "--nodes", "+5"],
+    &["compile", "--nodes="],
+    &["compile", "--nodes", "5", "--nodes=5"],
+    &["compile", "--nodes", "--"],
+    &["compile", "--nodes"],
+    &["compile", "-nodes", "5"],
+    &["compile", "--lines", "16385"],
+    &["compile", "--plan", "x"],
+    &["compile", ""],
+    &["check", "--format", "real"],
+    &["eval", "0", "1"],
+    &["stat", "--to", "qasm"],
+    &["run"],
+    &["run", "-1"],
+    &["gen", "201"],
+    &["bench"],
+];
+
+fn strings(alloc: Global, words: &[&str]) -> Result<Vec<String>, AllocError> {
+    let mut strings = Vec::new(alloc);
+    for word in words {
+        strings.push(String::from_str(alloc, word)?)?;
+    }
+    Ok(strings)
+}
+
+#[test]
+fn words_are_read(rt: HostRuntime) -> Result<(), Fail> {
+    let alloc = rt.alloc();
+    for (words, asked) in ORDERS {
+        let order = read_words(alloc, &strings(alloc, words)?)?;
+        assert!(rt; order.command == asked.command && order.plan == asked.plan);
+        assert!(rt; order.format == asked.format);
+        assert!(rt; order.from == asked.from && order.to == asked.to);
+        assert_eq!(rt; order.lines, asked.lines);
+        assert_eq!(rt; order.gates, asked.gates);
+        assert_eq!(rt; order.borrow, asked.borrow);
+        assert_eq!(rt; order.nodes, asked.nodes);
+        assert_eq!(rt; order.number, asked.number);
+        assert_eq!(rt; order.bits, strings(alloc, asked.bits)?);
+    }
+    Ok(())
+}
+
+#[test]
+fn other_words_are_no_order(rt: HostRuntime) -> Result<(), Fail> {
+    let alloc = rt.alloc();
+    for words in NO_ORDERS {
+        let order = read_words(alloc, &strings(alloc, words)?);
+        assert!(rt; matches!(order, Err(WordsFault::Usage)));
+    }
+    Ok(())
+}

@@ -1,11 +1,11 @@
 -- Loops over names and words: what is done, and what is left.
-use Rattle.std.proofs.Common.{◌≡◌, ℕ, zero, suc, ◌+◌, ◌<◌, List, [], ◌∷◌, ◌++◌, length, map, drop, refl, sym, ap, ◌∙◌, arith, append_assoc, append-nil, Bor}
+use Rattle.std.proofs.Common.{◌≡◌, ℕ, zero, suc, ◌+◌, ◌<◌, Bool, true, List, [], ◌∷◌, ◌++◌, length, map, drop, refl, sym, ap, ◌∙◌, arith, append_assoc, append-nil, Bor}
 use Rattle.std.specs.Prelude.{slice_index_or}
 use Rattle.std.proofs.lemmas.List.{drop_all}
-use Rattle.clap.specs.Words.{App, with_rule}
+use Rattle.clap.specs.Words.{App, Rule, with_rule}
 use Rattle.revc_words.specs.declared.order.Command.{Command}
 use Rattle.revc_words.specs.Words.{name_of, options_of}
-use Rattle.revc_words.specs.inside.Parsing.{bare, option_rule, with_options}
+use Rattle.revc_words.specs.inside.Parsing.{app_for, bare, option_rule, takes_any, with_options, with_words, word_rule}
 
 -- the texts from this place on
 abbrev pub left : List (Bor (List ℕ)) → ℕ → List (List ℕ)
@@ -32,19 +32,25 @@ pub building_begun : (command : Command) (app : App) (names : List (Bor (List �
     → map (λ s. s.now) names ≡ options_of command → IsBuilding command app names 0
 building_begun command app names is are = record { same = λ i. with_options (is i) (are i) }
 
-pub building_more : (command : Command) (app next : App) (names : List (Bor (List ℕ))) (place : ℕ) (name : Bor (List ℕ)) → place < length names
-    → IsBuilding command app names place → name ≡ slice_index_or names place name → next ≡ with_rule app (option_rule name.now)
+pub building_more : (command : Command) (app next : App) (names : List (Bor (List ℕ))) (place : ℕ) (any : Bor (List ℕ)) → place < length names
+    → IsBuilding command app names place → next ≡ with_rule app (option_rule (slice_index_or names place any).now)
     → IsBuilding command next names (place + 1)
-building_more command app next names place name lt inv is added = record {
+building_more command app next names place any lt inv added = record {
   same =
-      ap (λ a. with_options a (left names (place + 1)))
-      (added ∙ ap (λ (n : Bor (List ℕ)). with_rule app (option_rule n.now)) is)
-      ∙ sym (ap (with_options app) (text_left names place name lt)) ∙ inv.same;
+      ap (λ a. with_options a (left names (place + 1))) added
+      ∙ sym (ap (with_options app) (text_left names place any lt)) ∙ inv.same;
 }
 
 pub built_all : (command : Command) (app : App) (names : List (Bor (List ℕ))) (place : ℕ) → length names ≡ place → IsBuilding command app names place
     → app ≡ with_options (bare (name_of command)) (options_of command)
 built_all command app names place over inv = ap (with_options app) (sym (none_left names place over)) ∙ inv.same
+
+pub built_with_words : (command : Command) (app more : App) (names : List (Bor (List ℕ))) (place : ℕ) (rule : Rule) → length names ≡ place
+    → IsBuilding command app names place → true ≡ takes_any command → rule ≡ word_rule → more ≡ with_rule app rule → more ≡ app_for command
+built_with_words command app more names place rule over inv takes is added =
+    let whole : App = with_options (bare (name_of command)) (options_of command) in
+    added ∙ ap (with_rule app) is ∙ ap (λ (a : App). with_rule a word_rule) (built_all command app names place over inv)
+    ∙ ap (λ (t : Bool). with_words t whole) takes
 
 -- ---- words that are copied
 

@@ -1,7 +1,8 @@
 -- What a parse finds is the one order of the words.
 use Rattle.std.specs.Prelude.{slice_index_or, ◌↔◌, Result, Ok, Err, IfOk, IsErrOf, IsErrAnd}
 use Rattle.std.specs.declared.string.String.{String}
-use Rattle.std.proofs.Common.{drop, map, string_bytes, Global, ◌≤◌, ◌<◌, arith, ◌≡◌, ◌≢◌, ℕ, zero, suc, true, false, List, [], ◌∷◌, length, get_or, Option, Some, None, cond, refl, sym, ap, ◌∙◌, subst, codes, inl, inr}
+use Rattle.std.proofs.Common.{drop, map, string_bytes, Global, ◌≤◌, ◌<◌, arith, ◌≡◌, ◌≢◌, ℕ, zero, suc, true, false, List, [], ◌∷◌, length, get_or, Option}
+use Rattle.std.proofs.Common.{Some, None, cond, refl, sym, ap, ◌∙◌, subst, codes, inl, inr}
 use Rattle.std.specs.List.{AllByRecursion, list_all}
 use Rattle.std.specs.Option.{option_map, option_and_then}
 use Rattle.std.specs.Str.{bytes_eq}
@@ -22,9 +23,12 @@ use Rattle.revc_words.specs.declared.order.Command.TheVariants.{Compile, Check, 
 use Rattle.revc_words.specs.declared.order.Format.{Format}
 use Rattle.revc_words.specs.declared.order.Format.TheVariants.{Real, Qasm}
 use Rattle.revc_words.specs.declared.values.Values.{Values}
-use Rattle.revc_words.specs.Words.{order_of, OrderView, IsOrder, HasNoOrder, OneOrder, TakesWords, TakesNumber, Setting, Reads, nothing_left, all_behind, joined, parted, positional, IsOneOf, name_of, options_of, first_word, is_option, value_of, IsGivenOnce}
-use Rattle.revc_words.specs.inside.Parsing.{Texts, app_for, bits_for, first_with, number_for, number_of, order_by, order_for, order_of_texts, order_with, parsed, takes_any, takes_count, texts_in, values_of}
-use Rattle.revc_words.proofs.ValueLemmas.{plan_rule, lines_rule, gates_rule, borrow_rule, nodes_rule, format_rule, number_says, number_found, right, kept, text_is_no_option}
+use Rattle.revc_words.specs.Words.{order_of, OrderView, IsOrder, HasNoOrder, OneOrder, TakesWords, TakesNumber, Setting, Reads, nothing_left, all_behind}
+use Rattle.revc_words.specs.Words.{joined, parted, positional, IsOneOf, name_of, options_of, first_word, is_option, value_of, IsGivenOnce}
+use Rattle.revc_words.specs.inside.Parsing.{Texts, app_for, bits_for, first_with, number_for, number_of, order_by, order_for, order_of_texts, order_with}
+use Rattle.revc_words.specs.inside.Parsing.{parsed, takes_any, takes_count, texts_in, values_of}
+use Rattle.revc_words.proofs.ValueLemmas.{plan_rule, lines_rule, gates_rule, borrow_rule, nodes_rule, format_rule, number_says, number_found, right, kept}
+use Rattle.revc_words.proofs.ValueLemmas.{text_is_no_option}
 use Rattle.revc_words.proofs.WalkLemmas.{by_test, is_one_of, filled_app, run, clap_says, AreTexts}
 use Rattle.revc_words.proofs.SaidLemmas.{Said, said, read, reached, parsed as ends, Fits, AreNew, AreOnce, AreValues, IsNever}
 use Rattle.revc_words.proofs.ReadsLemmas.{is_name, known, reads, reads_so}
@@ -369,7 +373,8 @@ said_so words order is =
     (kept (format_rule Real) (value_of (codes "from") is.given) order.from is.from i)
     (kept (format_rule Qasm) (value_of (codes "to") is.given) order.to is.to i) in
     ap (option_and_then (order_by order.command is.plain)) valued
-    ∙ ap (λ t. cond t (option_map (λ number. order_with order.command values number (bits_for order.command is.plain)) (number_for order.command is.plain)) None)
+    ∙ ap (λ t. cond t (option_map (λ number. order_with order.command values number (bits_for order.command is.plain))
+    (number_for order.command is.plain)) None)
     taken.0
     ∙ ap (option_map (λ number. order_with order.command values number (bits_for order.command is.plain))) taken.1
     ∙ ap (λ bits. Some (order_with order.command values order.number bits)) (sym taken.2)

@@ -46,7 +46,8 @@ succeeds command app words rows is free found =
     ∙ ap (λ k. unless k (Some (matches_of app words))) (free (ap is_simple_and_free is ∙ simple_and_free command))
     ∙ ap Some (sym (found (ap is_simple is ∙ simple command)).0)
 
-some_kind : {A : Type 0} (kinds : Kinds) (error : Error) (found : Option A) → HasKind kinds error → kind_of error ≢ errors.OutOfMemory → unless kinds found ≡ None
+some_kind : {A : Type 0} (kinds : Kinds) (error : Error) (found : Option A) → HasKind kinds error
+    → kind_of error ≢ errors.OutOfMemory → unless kinds found ≡ None
 some_kind [] error found (inl memory) other = absurd (other memory)
 some_kind [] error found (inr among) other = absurd among
 some_kind (k ∷ ks) error found has other = refl

@@ -1,5 +1,6 @@
 -- What the words say is the one reading that they have.
-use Rattle.std.proofs.Common.{◌==◌, ◌≡◌, ◌≢◌, ◌⊎◌, ℕ, suc, zero, Bool, true, false, ◌||◌, not, List, [], ◌∷◌, ◌++◌, Option, Some, None, eqb, refl, sym, ap, ◌∙◌, subst, codes, inl, inr, arith}
+use Rattle.std.proofs.Common.{◌==◌, ◌≡◌, ◌≢◌, ◌⊎◌, ℕ, suc, zero, Bool, true, false, ◌||◌, not, List, [], ◌∷◌, ◌++◌, Option, Some, None, eqb, refl, sym, ap, ◌∙◌}
+use Rattle.std.proofs.Common.{subst, codes, inl, inr, arith}
 use Rattle.std.specs.List.{list_any, list_all}
 use Rattle.std.specs.Str.{bytes_eq}
 use Rattle.std.proofs.lemmas.Bool.{false≢true}
@@ -68,7 +69,11 @@ name_of_known (option ∷ options) name all (inr rest) = by_test (is_name option
 long_joined : (name value : Text) → HasName name → long_of (codes "--" ++ (name ++ (codes "=" ++ value))) ≡ Some (name, Some value)
 long_joined name value has =
     subst (λ (n : Text). long_of (codes "--" ++ (n ++ (codes "=" ++ value))) ≡ Some (n, Some value)) (sym has.is)
-    (rw (before_first-at 61 (has.first ∷ has.rest) value has.lacks, list_any-at 61 (has.first ∷ has.rest) value, after_first-at 61 (has.first ∷ has.rest) value has.lacks) refl)
+    (rw (
+      before_first-at 61 (has.first ∷ has.rest) value has.lacks,
+      list_any-at 61 (has.first ∷ has.rest) value,
+      after_first-at 61 (has.first ∷ has.rest) value has.lacks,
+    ) refl)
 
 long_parted : (name : Text) → HasName name → long_of (codes "--" ++ name) ≡ Some (name, None)
 long_parted name has =

@@ -75,7 +75,8 @@ abbrev pub Waits : Option Text → Type 0
 Waits None = Unit {0}
 Waits (Some name) = bytes_eq (codes "word") name ≡ false
 
-apart_from : (options : List Text) (name : Text) → is_one_of options (codes "word") ≡ false → is_one_of options name ≡ true → bytes_eq (codes "word") name ≡ false
+apart_from : (options : List Text) (name : Text) → is_one_of options (codes "word") ≡ false
+    → is_one_of options name ≡ true → bytes_eq (codes "word") name ≡ false
 apart_from options name none known = by_test (bytes_eq (codes "word") name)
     (λ t. absurd (false≢true (sym none ∙ subst (λ (n : Text). is_one_of options n ≡ true) (sym ((bytes_eq-Decides (codes "word") name).0 t)) known)))
     (λ f. f)
@@ -288,7 +289,8 @@ word_still_new : (word : Text) (rows : List Row) (given : List Setting) → AreN
 word_still_new word rows [] new = tt
 word_still_new word rows (first ∷ given) new = ((new.0.0, word_has word first.name rows new.0.0 ∙ new.0.1), word_still_new word rows given new.1)
 
-fits_behind : (takes : Bool) (rows : List Row) (name text : Text) (what rest : Said) → what ≡ said (one name text ∷ rest.given) rest.plain → Fits takes rows what
+fits_behind : (takes : Bool) (rows : List Row) (name text : Text) (what rest : Said) → what ≡ said (one name text ∷ rest.given) rest.plain
+    → Fits takes rows what
     → (has_row name rows ≡ false) × (is_option text ≡ false) × Fits takes (with_option name text rows) rest
 fits_behind takes rows name text what rest is fits =
     let new = subst (λ (w : Said). AreNew rows w.given) is fits.new in
@@ -314,7 +316,8 @@ ended_has false (word ∷ words) rows only = absurd (apart (only refl))
 ended_has true (word ∷ words) rows only = ended_has true words (with_word word rows) (λ none. absurd (false≢true (sym none)))
 
 fits_flag : (options : List Text) (takes : Bool) (words : List Text) (rows : List Row) (flag : Option (Text × Option Text)) (what : Said)
-    → ((waits : Option Text) (now : List Row) (rest : Said) → read options words waits ≡ Some rest → Fits takes now rest → HasEnd (run options takes words waits now))
+    → ((waits : Option Text) (now : List Row) (rest : Said) → read options words waits ≡ Some rest
+    → Fits takes now rest → HasEnd (run options takes words waits now))
     → read_flag options flag (read options words) ≡ Some what → Fits takes rows what
     → HasEnd (run_flag options flag rows (run options takes words))
 fits_flag options takes words rows None what behind e fits = absurd (no_said what e)
@@ -344,7 +347,8 @@ parsed options takes (word ∷ words) None rows what e fits = by_test (is_option
     (λ h.
     let same : said [] words ≡ what = same_Some _ _ (rw (t, h) at e) in
     rw (t, h) (ended_has takes words rows (λ none. ap (λ (w : Said). w.plain) same ∙ fits.only none)))
-    (λ h. rw (t, h) (fits_flag options takes words rows (long_of word) what (λ waits now rest. parsed options takes words waits now rest) (rw (t, h) at e) fits)))
+    (λ h. rw (t, h) (fits_flag options takes words rows (long_of word) what
+    (λ waits now rest. parsed options takes words waits now rest) (rw (t, h) at e) fits)))
     (λ f. plain_word takes f (with_plain_says word (read options words None) what (rw f at e)) fits
     (λ now rest. parsed options takes words None now rest))
   where

@@ -1,5 +1,6 @@
 -- The values of options: a number, a choice of plans and a format are what the relations say.
-use Rattle.std.proofs.Common.{◌≡◌, ℕ, leb, Bool, true, false, ◌&&◌, List, [], ◌∷◌, length, Option, Some, None, MatchOption, cond, refl, sym, ap, ◌∙◌, arith, eqb, subst}
+use Rattle.std.proofs.Common.{◌≡◌, ℕ, leb, Bool, true, false, ◌&&◌, List, [], ◌∷◌, length, Option, Some, None, MatchOption, cond, refl, sym, ap, ◌∙◌, arith}
+use Rattle.std.proofs.Common.{eqb, subst}
 use Rattle.std.proofs.lemmas.Bool.{and_parts, and_from, false≢true}
 use Rattle.std.proofs.lemmas.Bool.Decides.{Decides-eqb, nat_tests}
 use Rattle.std.proofs.lemmas.Option.{same_Some}

@@ -1,5 +1,6 @@
 -- What clap's walk over the words of a command with such options comes to.
-use Rattle.std.proofs.Common.{◌≡◌, ℕ, Bool, true, false, ◌&&◌, ◌||◌, not, List, [], ◌∷◌, ◌++◌, map, Option, Some, None, cond, eqb, refl, sym, ap, ◌∙◌, subst, codes}
+use Rattle.std.proofs.Common.{◌≡◌, ℕ, Bool, true, false, ◌&&◌, ◌||◌, not, List, [], ◌∷◌, ◌++◌, map, Option, Some, None, cond, eqb, refl, sym, ap, ◌∙◌, subst}
+use Rattle.std.proofs.Common.{codes}
 use Rattle.std.specs.Prelude.{fold}
 use Rattle.std.specs.List.{AllByRecursion, list_any}
 use Rattle.std.specs.Option.{option_and_then, is_some}
@@ -13,8 +14,10 @@ use Rattle.revc_words.specs.inside.Parsing.{unless}
 use lib.Utf8.{encodes}
 use Rattle.clap.specs.Lexer.{long_of, short_of, name_and_value}
 use Rattle.clap.specs.Kinds.{Kinds, or_else}
-use Rattle.clap.specs.Walk.{walk, walk_from, nothing_held, finished, rows_after, with_default, Rule, Row, Held, Walk, Waiting, idle, option, positional, Text, walked, has_row, settled, settled_rows, used, arg_by_id, arg_by_long, arg_by_short, arg_by_index, to_positional, value}
-use Rattle.clap.specs.Faults.{fault_of, built_fault, level_fault, entered_fault, check_fault, walk_fault, defaults_fault, turn_fault, settle_fault, use_fault, step_fault, bundle_fault, flags_fault}
+use Rattle.clap.specs.Walk.{walk, walk_from, nothing_held, finished, rows_after, with_default, Rule, Row, Held, Walk, Waiting, idle, option, positional, Text}
+use Rattle.clap.specs.Walk.{walked, has_row, settled, settled_rows, used, arg_by_id, arg_by_long, arg_by_short, arg_by_index, to_positional, value}
+use Rattle.clap.specs.Faults.{fault_of, built_fault, level_fault, entered_fault, check_fault, walk_fault, defaults_fault, turn_fault, settle_fault, use_fault}
+use Rattle.clap.specs.Faults.{step_fault, bundle_fault, flags_fault}
 use Rattle.clap.specs.Takes.{is_given}
 use Rattle.clap.specs.Simple.{built, entered, argument_words, matches_of, App, Shape, new_rule, new_shape}
 use Rattle.clap.specs.declared.builder.action.ArgAction.TheVariants.{Set, Append}
@@ -499,7 +502,8 @@ claims : (command : Text) (options : List Text) (takes : Bool) → is_one_of opt
     → Claims command options takes words
 unfolding ends run
 claims command options takes apart [] texts = record {
-  rests = λ rows pending several. sym (and_then_unless (fault_at options takes rows pending) (Some (settled_at options takes rows pending)) (run options takes [] None));
+  rests = λ rows pending several. sym (and_then_unless (fault_at options takes rows pending) (Some (settled_at options takes rows pending))
+      (run options takes [] None));
   waits = λ rows name known. settle_waiting command options takes name rows known;
 }
 claims command options takes apart (word ∷ words) texts =
@@ -552,7 +556,8 @@ no_check : (command : Text) (options : List Text) (takes : Bool) (rows : List Ro
 no_check command options takes rows true = rw (none_required options takes rows) refl
 no_check command options takes rows false = rw (none_required options takes rows) refl
 
-none_entered : (command : Text) (options : List Text) (takes : Bool) (stop : Option (Text × List Text)) → entered_fault (filled_app command options takes) stop ≡ []
+none_entered : (command : Text) (options : List Text) (takes : Bool) (stop : Option (Text × List Text))
+    → entered_fault (filled_app command options takes) stop ≡ []
 none_entered command options takes None = refl
 none_entered command options takes (Some p) = refl
 

@@ -3,7 +3,7 @@ use clap::error::ErrorKind;
 use revc_base::Memory;
 
 /// Why words are no order.
-#[derive(Clone, Copy, Debug, PartialEq, Eq)]
+#[derive(Clone, Copy, Debug)]
 pub enum WordsFault {
     /// They give none.
     Usage,

@@ -12,6 +12,3 @@ pub use fault::WordsFault;
 pub use limits::{MOST_DIGITS, MOST_NODES, USUAL_GATES, USUAL_LINES, USUAL_NODES};
 pub use order::{Command, Format, Order};
 pub use reading::{one_order, orders_are_within_limits, read_words};
-
-#[cfg(test)]
-mod tests;

@@ -5,7 +5,7 @@ ghost use Rattle.revc_words.specs.Words.{first_word, order_of};
 use plan_choice::How;
 
 /// What is to be done.
-#[derive(Clone, Copy, Debug, PartialEq, Eq)]
+#[derive(Clone, Copy, PartialEq, Eq)]
 pub enum Command {
     /// Reads a program and writes the file of its clean circuit.
     Compile,
@@ -26,7 +26,7 @@ pub enum Command {
 }
 
 /// A format of circuit files.
-#[derive(Clone, Copy, Debug, PartialEq, Eq)]
+#[derive(Clone, Copy, PartialEq, Eq)]
 pub enum Format {
     /// RevLib's `.real`.
     Real,
@@ -34,9 +34,9 @@ pub enum Format {
     Qasm,
 }
 
-/// What the words ask for: a command, its options, and its words of bits. What a command has no option for has its
-/// usual value. Contracts see it by `order_of`.
-#[derive(Debug, Drop)]
+/// What the words ask for: a command, its options, and its words of bits. What a command has no
+/// option for has its usual value. Contracts see it by `order_of`.
+#[derive(Drop)]
 pub struct Order {
     pub command: Command,
     /// Which plans are tried.

@@ -1,8 +1,9 @@
 // What clap makes of the words of a command.
-ghost use Rattle.std.specs.Prelude.{◌≡◌, IfOk, IsErrOf, None, Some, map};
-ghost use Rattle.clap.specs.Words.{app_of, found_of, rows_of};
+ghost use Rattle.std.specs.Prelude.{◌≡◌, IfOk, IsErrOf, None, Some, false, map};
+ghost use Rattle.clap.specs.Words.{app_of, found_of, rows_of, rule_of, with_rule};
 ghost use Rattle.revc_words.specs.Words.{name_of, options_of, words_of};
-ghost use Rattle.revc_words.specs.inside.Parsing.{app_for, parsed, takes_any};
+ghost use Rattle.revc_words.specs.inside.Parsing.{app_for, option_rule, parsed};
+ghost use Rattle.revc_words.specs.inside.Parsing.{takes_any, word_rule};
 
 use crate::{Command, WordsFault};
 use clap::{Arg, ArgAction, ArgMatches};
@@ -50,20 +51,44 @@ impl Command {
     }
 }
 
-// The command that clap reads by. Each positional word is a use of one argument.
+// The command that clap reads by.
 fn app<'a>(alloc: Global, command: Command) -> Result<clap::Command<'a>, Memory>
     ensures { IfOk result (λ app. app_of app ≡ app_for command) }
 {
     let mut app = clap::Command::new(alloc, command.name()).disable_help_flag(true);
     let names = command.options();
     for name in names {
-        app = app.arg(Arg::new(alloc, name).long(name))?;
+        app = with(app, option(alloc, name))?;
     }
     if !command.takes_any() {
         return Ok(app);
     }
-    let word = Arg::new(alloc, "word").action(ArgAction::Append);
-    Ok(app.arg(word)?)
+    with(app, any_words(alloc))
+}
+
+// The command with one more argument.
+fn with<'a>(app: clap::Command<'a>, arg: Arg<'a>) -> Result<clap::Command<'a>, Memory>
+    requires { arg.global ≡ false }
+    ensures { IfOk result (λ more.
+        app_of more ≡ with_rule (app_of app.entry) (rule_of arg.entry)) }
+{
+    Ok(app.arg(arg)?)
+}
+
+// An option with this name.
+fn option<'a>(alloc: Global, name: &'a str) -> Arg<'a>
+    ensures rule { rule_of result ≡ option_rule name.now }
+    ensures plain { result.global ≡ false }
+{
+    Arg::new(alloc, name).long(name)
+}
+
+// The positional words, each a use of one argument.
+fn any_words<'a>(alloc: Global) -> Arg<'a>
+    ensures rule { rule_of result ≡ word_rule }
+    ensures plain { result.global ≡ false }
+{
+    Arg::new(alloc, "word").action(ArgAction::Append)
 }
 
 /// What the words of a command are parsed to. The first of them is its name.

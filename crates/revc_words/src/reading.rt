@@ -1,10 +1,11 @@
 // From the words of the command line to what they ask for.
-ghost use Rattle.std.specs.Prelude.{◌≡◌, ◌≢◌, ◌↔◌, ◌∷◌, ◌++◌, [], None, Some, Err, MatchOption, IfOk, OnOk};
-ghost use Rattle.std.specs.Prelude.{IsErrOf, map};
+ghost use Rattle.std.specs.Prelude.{◌≡◌, ◌≢◌, ◌↔◌, ◌∷◌, ◌++◌, [], None, Some, Err, MatchOption};
+ghost use Rattle.std.specs.Prelude.{IfOk, OnOk, IsErrOf, map};
 ghost use Rattle.clap.specs.Words.{found_of, rows_of};
-ghost use Rattle.revc_words.specs.Words.{HasNoOrder, IsOrder, OneOrder, OrdersAreWithinLimits, name_of};
-ghost use Rattle.revc_words.specs.Words.{order_of, words_of};
-ghost use Rattle.revc_words.specs.inside.Parsing.{bits_for, number_for, order_by, order_for, takes_count, takes_number};
+ghost use Rattle.revc_words.specs.Words.{HasNoOrder, IsOrder, OneOrder, OrdersAreWithinLimits};
+ghost use Rattle.revc_words.specs.Words.{name_of, order_of, words_of};
+ghost use Rattle.revc_words.specs.inside.Parsing.{bits_for, number_for, order_by, order_for};
+ghost use Rattle.revc_words.specs.inside.Parsing.{takes_count, takes_number};
 
 use crate::parsing::matched;
 use crate::values::{Values, number};
@@ -65,7 +66,8 @@ pub fn orders_are_within_limits()
 ///
 /// # Errors
 ///
-/// `Usage` exactly where they give none, save for want of memory, which may come before that is known.
+/// `Usage` exactly where they give none, save for want of memory, which may come before that is
+/// known.
 pub fn read_words(alloc: Global, words: &[String]) -> Result<Order, WordsFault>
     ensures ok { IfOk result (λ order. IsOrder (words_of words.now) (order_of order)) }
     ensures usage { result ≢ Err WordsFault.Memory

@@ -2,8 +2,8 @@
 ghost use Rattle.std.specs.Prelude.{◌≡◌};
 ghost use Rattle.clap.specs.Words.{first_of, found_of, rows_of};
 ghost use Rattle.revc_words.specs.Words.{order_of, words_of};
-ghost use Rattle.revc_words.specs.inside.Parsing.{format_of, number_of, order_with, plan_of, text_at, texts_in};
-ghost use Rattle.revc_words.specs.inside.Parsing.{value_or, values_of};
+ghost use Rattle.revc_words.specs.inside.Parsing.{format_of, number_of, order_with, plan_of};
+ghost use Rattle.revc_words.specs.inside.Parsing.{text_at, texts_in, value_or, values_of};
 
 use crate::{
     Command, Format, MOST_DIGITS, MOST_NODES, Order, USUAL_GATES, USUAL_LINES, USUAL_NODES,
@@ -13,7 +13,7 @@ use gate_split::{MOST_BORROWED, MOST_GATES, MOST_LINES};
 use plan_choice::How;
 
 /// The values of all options.
-#[derive(Clone, Copy, Debug, PartialEq, Eq)]
+#[derive(Clone, Copy)]
 pub struct Values {
     pub plan: How,
     pub lines: u32,
