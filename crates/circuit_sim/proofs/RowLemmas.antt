@@ -5,7 +5,7 @@ use Rattle.std.specs.Global.{Vec}
 use Rattle.std.specs.List.{drop-map, take-map}
 use Rattle.std.proofs.lemmas.List.{append_assoc, drop_all, drop_at, get_or-map, get_or_default, length-map, length-take-le, map-append, same_lists}
 use Rattle.std.proofs.lemmas.List.{take-append-drop, take_all, take_at}
-use Rattle.list_facts.proofs.AllLemmas.{AllByRecursion-append, AllByRecursion-drop, AllByRecursion-take}
+use Rattle.list_facts.proofs.AllLemmas.{AllByRecursion-append, AllByRecursion-drop, AllByRecursion-left, AllByRecursion-right, AllByRecursion-take}
 use Rattle.mct_circuit.specs.Gates.{GateView, line_map}
 use Rattle.circuit_sim.specs.Planes.{AreMapped, AreMappedInLanes}
 use Rattle.circuit_sim.specs.Rows.{AreRows, contents}
@@ -81,6 +81,13 @@ front_fits lines count rows fit = AllByRecursion-take (λ (r : Vec Bool). length
 
 pub behind_fits : (lines start : ℕ) (rows : List (Vec Bool)) → AreRows lines rows → AreRows lines (drop start rows)
 behind_fits lines start rows fit = AllByRecursion-drop (λ (r : Vec Bool). length r.items ≡ lines) start rows fit
+
+pub part_fits : (lines count : ℕ) (rows front behind : List (Vec Bool)) → AreRows lines rows → rows ≡ front ++ behind → count ≡ lines
+    → AreRows count front × AreRows count behind
+part_fits lines count rows front behind fit parts same =
+    let fits : AreRows count (front ++ behind) = subst (λ (n : ℕ). AreRows n (front ++ behind)) (sym same) (subst (AreRows lines) parts fit) in
+    let one = λ (r : Vec Bool). length r.items ≡ count in
+    (AllByRecursion-left one front behind fits, AllByRecursion-right one front behind fits)
 
 pub joined_fits : (lines : ℕ) (front behind : List (Vec Bool)) → AreRows lines front → AreRows lines behind → AreRows lines (front ++ behind)
 joined_fits lines front behind fit same = AllByRecursion-append (λ (r : Vec Bool). length r.items ≡ lines) front behind fit same
