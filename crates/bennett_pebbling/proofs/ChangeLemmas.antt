@@ -1,11 +1,32 @@
 -- A block as a range.
-use Rattle.std.proofs.Common.{ℕ, ◌+◌, ◌≤◌, Bool, List, length, arith}
+use Rattle.std.proofs.Common.{◌≡◌, ℕ, ◌+◌, ◌≤◌, Bool, true, false, List, length, refl, sym, arith}
+use Rattle.std.proofs.lemmas.Bool.{false≢true}
+use Rattle.list_facts.specs.Bits.{bit_of}
 use Rattle.gate_split.specs.declared.plan.PlanFault.{PlanFault}
-use Rattle.held_nodes.specs.Held.{ForwardView}
+use Rattle.held_nodes.specs.Held.{ForwardView, is_held}
 use Rattle.bennett_pebbling.specs.inside.Changes.{IsChanged, IsChangeFault, IsRisen, IsRiseFault, IsThrifty}
 use Rattle.bennett_pebbling.specs.inside.Costs.{block_room, block_toggles, counted, reach_of, toggles_at}
+use Rattle.bennett_pebbling.specs.inside.Marks.{AreHeld, differ}
 use Rattle.bennett_pebbling.proofs.CostLemmas.{room_at-larger, toggles_at-larger}
-use Rattle.bennett_pebbling.proofs.MoveLemmas.{move-weaker, short-weaker}
+use Rattle.bennett_pebbling.proofs.MoveLemmas.{move-weaker, no_move, short-weaker}
+
+differ_none : (a b : Bool) → differ a b ≡ false → a ≡ b
+differ_none true true e = refl
+differ_none true false e = absurd (false≢true (sym e))
+differ_none false true e = absurd (false≢true (sym e))
+differ_none false false e = refl
+
+-- nothing is to be changed
+pub unchanged : (f : ForwardView) (block lo : ℕ) (wanted : List Bool) → AreHeld f.lines lo wanted → IsChanged f block lo wanted f
+unchanged f block lo wanted held = record {
+  graph = refl;
+  budget = refl;
+  exactly = record {
+    inside = λ k low. differ_none (is_held f.lines (lo + k)) (bit_of wanted k) (held.each k low);
+    outside = λ k out. refl;
+  };
+  thrifty = record { move = λ level width allowed c a. no_move f (reach_of f block level width allowed) (toggles_at block level) };
+}
 
 thrifty_block : (f next : ForwardView) (block lo : ℕ) (wanted : List Bool) → 1 ≤ block → length wanted ≤ block
     → IsThrifty f (length wanted) lo wanted next → IsThrifty f block lo wanted next

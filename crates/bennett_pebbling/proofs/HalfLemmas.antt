@@ -14,10 +14,10 @@ use Rattle.dependency_graph.proofs.UseLemmas.{last_uses_tell_cuts, needed_later,
 use Rattle.claim_check.specs.Settled.{SettledView, as_graph}
 use Rattle.claim_check.proofs.UsedLemmas.{is_in_from}
 use Rattle.gate_split.specs.declared.plan.PlanFault.{PlanFault}
-use Rattle.held_nodes.specs.Held.{ForwardView, is_held}
-use Rattle.bennett_pebbling.specs.inside.Changes.{IsChanged, IsChangeFault, IsReadyBelow, IsRisen, IsRiseFault, IsThrifty}
+use Rattle.held_nodes.specs.Held.{ForwardView, IsForward, is_held}
+use Rattle.bennett_pebbling.specs.inside.Changes.{CanWork, IsChanged, IsChangeFault, IsReadyBelow, IsRisen, IsRiseFault, IsThrifty}
 use Rattle.bennett_pebbling.specs.inside.Costs.{Allows, AllowsHeld, IsCovered, IsMove, IsShort, counted, reach_of, room_at, size_at, toggles_at}
-use Rattle.bennett_pebbling.specs.inside.Marks.{AreNeeded, IsHalf, IsOutside, RestsOn}
+use Rattle.bennett_pebbling.specs.inside.Marks.{AreHalves, AreNeeded, IsHalf, IsOutside, RestsOn}
 use Rattle.bennett_pebbling.proofs.CountLemmas.{counted-in, counted-or}
 use Rattle.bennett_pebbling.proofs.MoveLemmas.{move-then, move-weaker, need-then, short-then, short-weaker}
 use Rattle.bennett_pebbling.proofs.NeedLemmas.{bit_inside}
@@ -98,16 +98,27 @@ split_of wanted left right half halves front back =
       right_bits = λ k. ap (λ (xs : List Bool). bit_of xs k) back ∙ get_or-drop half wanted k false;
     }
 
-pub in_halves : (f : ForwardView) (block lo : ℕ) (wanted left right needed marks : List Bool) (half : ℕ) (s : SettledView) → s ≡ f.graph
-    → IsHalf (length wanted) half → left ≡ take half wanted → right ≡ drop half wanted → AreNeeded s lo left marks → needed ≡ marks
-    → lo + length wanted ≤ length f.graph.nodes → IsReadyBelow f lo (length wanted) → block < length wanted
-    → IsInHalves f block lo wanted left right needed half
-in_halves f block lo wanted left right needed marks half s same halves front back need is inside ready over = record {
-  halves = halves;
-  split = split_of wanted left right half halves front back;
-  need = subst (AreNeeded f.graph lo left) (sym is) (subst (λ (x : SettledView). AreNeeded x lo left marks) same need);
-  inside = inside;
-  ready = ready;
+-- a range that was split at a place is in halves there
+pub halved : (wanted left right : List Bool) (half : ℕ) → IsHalf (length wanted) half → left ≡ take half wanted → right ≡ drop half wanted
+    → AreHalves wanted left right
+halved wanted left right half is front back =
+    let low : half ≤ length wanted = omega (arith, is.less) in
+    let long : half ≡ length left = sym (ap length front ∙ length-take-le half wanted low) in
+    record {
+      half = subst (IsHalf (length wanted)) long is;
+      front = subst (λ (n : ℕ). left ≡ take n wanted) long front;
+      behind = subst (λ (n : ℕ). right ≡ drop n wanted) long back;
+    }
+
+pub in_halves : (f : ForwardView) (block lo : ℕ) (wanted left right needed marks : List Bool) (s : SettledView)
+    → CanWork s f lo (length wanted) → AreHalves wanted left right → AreNeeded s lo left marks → needed ≡ marks → block < length wanted
+    → IsInHalves f block lo wanted left right needed (length left)
+in_halves f block lo wanted left right needed marks s can halves need is over = record {
+  halves = halves.half;
+  split = split_of wanted left right (length left) halves.half halves.front halves.behind;
+  need = subst (AreNeeded f.graph lo left) (sym is) (subst (λ (x : SettledView). AreNeeded x lo left marks) can.graph need);
+  inside = can.inside;
+  ready = can.ready;
   over = over;
 }
 
@@ -141,6 +152,24 @@ module _ (f : ForwardView) (block lo : ℕ) (wanted left right needed : List Boo
   allows_first allowed a = record {
     held = record { held = λ k is. or_left_true (allowed k) (is_in (cut_in (as_graph f.graph) (lo + half)) k) (a.held.held k is) };
     marked = needed_allowed allowed a;
+  }
+
+  -- the first half is shorter, and so is the second
+  pub first_less : 1 ≤ block → length needed < length wanted
+  first_less some = omega (arith, needed_count, h.halves.less, h.over, some)
+
+  pub second_less : 1 ≤ block → length right < length wanted
+  second_less some = omega (arith, h.split.right_count, h.halves.more, h.over, some)
+
+  pub third_less : 1 ≤ block → length left < length wanted
+  third_less some = omega (arith, h.split.left_count, h.halves.less, h.over, some)
+
+  pub can_first : (s : SettledView) → CanWork s f lo (length wanted) → CanWork s f lo (length needed)
+  can_first s can = record {
+    graph = can.graph;
+    keeps = can.keeps;
+    inside = omega (arith, can.inside, needed_count, h.split.right_count);
+    ready = record { ready = λ k j above low. can.ready.ready k j above (omega (arith, low, needed_count, h.split.right_count)) };
   }
 
   -- ---- the numbers, one level up
@@ -195,14 +224,11 @@ module _ (f : ForwardView) (block lo : ℕ) (wanted left right needed : List Boo
     first_other : (k : ℕ) → IsOutside lo half k → is_held first.lines k ≡ is_held f.lines k
     first_other k out = one.exactly.outside k (subst (λ (c : ℕ). IsOutside lo c k) (sym needed_count) out)
 
-    pub graph_first : first.graph ≡ f.graph
-    graph_first = one.graph
-
-    pub inside_second : lo + half + length right ≤ length first.graph.nodes
+    inside_second : lo + half + length right ≤ length first.graph.nodes
     inside_second =
         let e = ap (λ (s : SettledView). length s.nodes) one.graph in omega (arith, e, h.inside, h.split.right_count)
 
-    pub ready_second : IsReadyBelow first (lo + half) (length right)
+    ready_second : IsReadyBelow first (lo + half) (length right)
     ready_second = record {
       ready = λ k j above low under rests.
           let rests_f : RestsOn f.graph k j = subst (λ (s : SettledView). RestsOn s k j) one.graph rests in
@@ -221,6 +247,14 @@ module _ (f : ForwardView) (block lo : ℕ) (wanted left right needed : List Boo
                 let below : j < lo = elim out [ inl l ↦ l | inr high ↦ absurd (omega (arith, high, under)) ] in
                 first_other j out ∙ h.ready.ready k j (omega (arith, above)) top below rests_f
           ];
+    }
+
+    pub can_second : (s : SettledView) → CanWork s f lo (length wanted) → IsForward first → CanWork s first (lo + half) (length right)
+    can_second s can keeps = record {
+      graph = can.graph ∙ sym one.graph;
+      keeps = keeps;
+      inside = inside_second;
+      ready = ready_second;
     }
 
     held_first : (allowed : ℕ → Bool) → Allows f lo wanted allowed → AllowsHeld first (wider f.graph (lo + half) allowed)
@@ -334,21 +368,29 @@ module _ (f : ForwardView) (block lo : ℕ) (wanted left right needed : List Boo
           ∙ h.split.right_bits (k - half)
           ∙ ap (bit_of wanted) number
 
-      pub graph_second : second.graph ≡ f.graph
+      graph_second : second.graph ≡ f.graph
       graph_second = two.graph ∙ one.graph
 
-      pub inside_third : lo + length left ≤ length second.graph.nodes
+      inside_third : lo + length left ≤ length second.graph.nodes
       inside_third =
           let e = ap (λ (s : SettledView). length s.nodes) graph_second in
           omega (arith, e, h.inside, h.split.left_count, h.split.right_count)
 
-      pub ready_third : IsReadyBelow second lo (length left)
+      ready_third : IsReadyBelow second lo (length left)
       ready_third = record {
         ready = λ k j above low under rests.
             let rests_f : RestsOn f.graph k j = subst (λ (s : SettledView). RestsOn s k j) graph_second rests in
             two.exactly.outside j (inl (omega (arith, under)))
             ∙ first_other j (inl under)
             ∙ h.ready.ready k j above (omega (arith, low, h.split.left_count, h.split.right_count)) under rests_f;
+      }
+
+      pub can_third : (s : SettledView) → CanWork s f lo (length wanted) → IsForward second → CanWork s second lo (length left)
+      can_third s can keeps = record {
+        graph = can.graph ∙ sym graph_second;
+        keeps = keeps;
+        inside = inside_third;
+        ready = ready_third;
       }
 
       held_second : (allowed : ℕ → Bool) → Allows f lo wanted allowed → AllowsHeld second (wider f.graph (lo + half) allowed)

@@ -25,7 +25,7 @@ use Rattle.held_nodes.specs.Plans.{wanted_lines}
 use Rattle.held_nodes.proofs.CopyLemmas.{weight-copies}
 use Rattle.held_nodes.proofs.NarrowLemmas.{narrow_toggles}
 use Rattle.bennett_pebbling.specs.Pebbling.{IsHalved, IsPebblingFault, IsWithinBlock}
-use Rattle.bennett_pebbling.specs.inside.Changes.{IsRisen, IsRiseFault}
+use Rattle.bennett_pebbling.specs.inside.Changes.{CanWork, IsRisen, IsRiseFault}
 use Rattle.bennett_pebbling.specs.inside.Costs.{Allows, IsCovered, IsMove, block_room, counted, reach_of, room_at, size_at, toggles_at}
 use Rattle.bennett_pebbling.specs.inside.Marks.{AreNeeded}
 use Rattle.bennett_pebbling.proofs.CostLemmas.{block_room-most, room_at-times, size_at-power, toggles_at-fine, toggles_at-gates}
@@ -43,23 +43,37 @@ pub record IsBegun (s : SettledView) (b : BudgetView) (start : ForwardView) (out
   pub count : length outputs ≡ length s.nodes
   pub marked : (k : ℕ) → k < length s.nodes → bit_of outputs k ≡ nat_le (length s.nodes) (last_use_in (as_graph s) k)
 
-pub begun : (s : SettledView) (b : BudgetView) (start : ForwardView) (none outputs : List Bool)
-    → start ≡ nothing_held s b (replicate (length s.nodes) None) → IsForward start → none ≡ replicate (length s.nodes) false
-    → AreNeeded s 0 none outputs → IsBegun s b start outputs
-begun s b start none outputs is keeps nothing needed =
-    let n = length s.nodes in
-    let long : length none ≡ n = ap length nothing ∙ length-replicate n false in
+pub begun : (s : SettledView) (b : BudgetView) (start : ForwardView) (outputs marks : List Bool)
+    → start ≡ nothing_held s b (replicate (length s.nodes) None) → IsForward start → outputs ≡ marks
+    → AreNeeded s 0 (replicate (length s.nodes) false) marks → IsBegun s b start outputs
+begun s b start outputs marks is keeps same marked =
+    let n = length s.nodes in let none = replicate n false in
+    let needed : AreNeeded s 0 none outputs = subst (AreNeeded s 0 none) (sym same) marked in
+    let long : length none ≡ n = length-replicate n false in
     record {
       is = is;
       keeps = keeps;
       count = needed.count ∙ long;
       marked = λ k low.
-          let blank : bit_of none k ≡ false = ap (λ (xs : List Bool). bit_of xs k) nothing ∙ get_or-replicate n k false false low in
+          let blank : bit_of none k ≡ false = get_or-replicate n k false false low in
           let end : 0 + length none ≡ n = omega (arith, long) in
           needed.marked k (omega (arith, low, long))
           ∙ ap (λ (x : Bool). x || nat_le (0 + length none) (last_use_in (as_graph s) (0 + k))) blank
           ∙ ap (λ (m : ℕ). nat_le m (last_use_in (as_graph s) (0 + k))) end
           ∙ ap (λ (m : ℕ). nat_le n (last_use_in (as_graph s) m)) (zero-add k);
+    }
+
+-- nothing stands below the first node
+pub begun_can : (s : SettledView) (b : BudgetView) (start : ForwardView) (outputs : List Bool) → IsBegun s b start outputs
+    → CanWork s start 0 (length outputs)
+begun_can s b start outputs begin =
+    let graph : start.graph ≡ s = ap (λ (f : ForwardView). f.graph) begin.is in
+    let long : length start.graph.nodes ≡ length s.nodes = ap (λ (x : SettledView). length x.nodes) graph in
+    record {
+      graph = sym graph;
+      keeps = begin.keeps;
+      inside = omega (arith, long, begin.count);
+      ready = record { ready = λ k j above low below rests. absurd (omega (arith, below)) };
     }
 
 none_held : (n k : ℕ) → is_held (replicate n None) k ≡ false

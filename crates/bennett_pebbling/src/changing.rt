@@ -1,43 +1,40 @@
 // Work on a range of nodes: by halves, down to blocks. The mark at place k is that of node lo + k.
-ghost use Rattle.std.specs.Prelude.{◌≡◌, ◌+◌, ◌≤◌, length, IfOk, IfErr};
+ghost use Rattle.std.specs.Prelude.{◌≤◌, length, IfOk, IfErr};
 ghost use Rattle.held_nodes.specs.Held.{IsForward};
-ghost use Rattle.bennett_pebbling.specs.inside.Changes.{IsChanged, IsChangeFault, IsReadyBelow};
+ghost use Rattle.bennett_pebbling.specs.inside.Changes.{CanWork, IsChanged, IsChangeFault};
 ghost use Rattle.bennett_pebbling.specs.inside.Changes.{IsRisen, IsRiseFault};
-ghost use Rattle.bennett_pebbling.specs.inside.Marks.{AreDifferences, IsHalf};
+ghost use Rattle.bennett_pebbling.specs.inside.Marks.{AreHalves};
 
 use crate::block::{lower, raise};
-use crate::needs::{differing, with_cut, with_needs};
+use crate::needs::{differing, is_held_so, with_cut, with_needs};
 use claim_check::Settled;
 use gate_split::PlanFault;
 use held_nodes::Forward;
 use std::alloc::Global;
 
-// How many nodes the first half of a range has: no fewer than the second.
-fn half(count: usize) -> usize
-    ensures { IsHalf count result }
+// The marks of a range in two halves: the first has no fewer than the second.
+fn halves(wanted: &[bool]) -> (&[bool], &[bool])
+    ensures { AreHalves wanted.now result.0.now result.1.now }
 {
-    count - count / 2
+    let half = wanted.len() - wanted.len() / 2;
+    wanted.split_at(half)
 }
 
-// Holds exactly the wanted nodes of a range, within one block; the marks are those of the nodes
-// that differ.
+// Holds exactly the wanted nodes of a range, within one block.
 fn change_block<'s>(
+    alloc: Global,
     graph: &Settled,
     forward: Forward<'s>,
     lo: u32,
     wanted: &[bool],
-    marks: Vec<bool>,
 ) -> Result<Forward<'s>, PlanFault>
-    requires graph { graph.now ≡ forward.graph }
-    requires keeps { IsForward forward }
-    requires inside { lo + length wanted.now ≤ length forward.graph.nodes }
-    requires ready { IsReadyBelow forward lo (length wanted.now) }
-    requires differ { AreDifferences forward.lines lo wanted.now marks.items }
+    requires can { CanWork graph.now forward lo (length wanted.now) }
     ensures changed { IfOk result (IsChanged forward.entry (length wanted.now) lo wanted.now) }
     ensures keeps { IfOk result IsForward }
     ensures refused { IfErr result (IsChangeFault forward.entry (length wanted.now) lo
         wanted.now) }
 {
+    let marks = differing(alloc, &forward, lo, wanted)?;
     let marks = with_needs(marks, graph, lo);
     let forward = raise(forward, lo, &marks)?;
     lower(forward, lo, wanted)
@@ -52,10 +49,7 @@ fn rise_block<'s>(
     lo: u32,
     wanted: &[bool],
 ) -> Result<Forward<'s>, PlanFault>
-    requires graph { graph.now ≡ forward.graph }
-    requires keeps { IsForward forward }
-    requires inside { lo + length wanted.now ≤ length forward.graph.nodes }
-    requires ready { IsReadyBelow forward lo (length wanted.now) }
+    requires can { CanWork graph.now forward lo (length wanted.now) }
     ensures risen { IfOk result (IsRisen forward.entry (length wanted.now) lo wanted.now) }
     ensures keeps { IfOk result IsForward }
     ensures refused { IfErr result (IsRiseFault forward.entry (length wanted.now) lo
@@ -74,27 +68,22 @@ pub fn change<'s>(
     lo: u32,
     wanted: &[bool],
 ) -> Result<Forward<'s>, PlanFault>
-    requires graph { graph.now ≡ forward.graph }
-    requires keeps { IsForward forward }
+    requires can { CanWork graph.now forward lo (length wanted.now) }
     requires some { 1 ≤ block }
-    requires inside { lo + length wanted.now ≤ length forward.graph.nodes }
-    requires ready { IsReadyBelow forward lo (length wanted.now) }
     ensures changed { IfOk result (IsChanged forward.entry block lo wanted.now) }
     ensures keeps { IfOk result IsForward }
     ensures refused { IfErr result (IsChangeFault forward.entry block lo wanted.now) }
 {
-    let marks = differing(alloc, &forward, lo, wanted)?;
-    if !marks.contains(&true) {
+    if is_held_so(&forward, lo, wanted) {
         return Ok(forward);
     }
     if wanted.len() <= block as usize {
-        return change_block(graph, forward, lo, wanted, marks);
+        return change_block(alloc, graph, forward, lo, wanted);
     }
-    let half = half(wanted.len());
-    let (left, right) = wanted.split_at(half);
+    let (left, right) = halves(wanted);
     let needed = with_cut(alloc, graph, lo, left)?;
     let forward = change(alloc, graph, block, forward, lo, &needed)?;
-    let forward = change(alloc, graph, block, forward, lo + half as u32, right)?;
+    let forward = change(alloc, graph, block, forward, lo + left.len() as u32, right)?;
     change(alloc, graph, block, forward, lo, left)
 }
 
@@ -107,11 +96,8 @@ pub fn rise<'s>(
     lo: u32,
     wanted: &[bool],
 ) -> Result<Forward<'s>, PlanFault>
-    requires graph { graph.now ≡ forward.graph }
-    requires keeps { IsForward forward }
+    requires can { CanWork graph.now forward lo (length wanted.now) }
     requires some { 1 ≤ block }
-    requires inside { lo + length wanted.now ≤ length forward.graph.nodes }
-    requires ready { IsReadyBelow forward lo (length wanted.now) }
     ensures risen { IfOk result (IsRisen forward.entry block lo wanted.now) }
     ensures keeps { IfOk result IsForward }
     ensures refused { IfErr result (IsRiseFault forward.entry block lo wanted.now) }
@@ -119,9 +105,8 @@ pub fn rise<'s>(
     if wanted.len() <= block as usize {
         return rise_block(alloc, graph, forward, lo, wanted);
     }
-    let half = half(wanted.len());
-    let (left, right) = wanted.split_at(half);
+    let (left, right) = halves(wanted);
     let needed = with_cut(alloc, graph, lo, left)?;
     let forward = change(alloc, graph, block, forward, lo, &needed)?;
-    rise(alloc, graph, block, forward, lo + half as u32, right)
+    rise(alloc, graph, block, forward, lo + left.len() as u32, right)
 }

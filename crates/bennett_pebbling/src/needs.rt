@@ -1,11 +1,11 @@
 // Marks of the nodes of a range: those that are needed behind it, those that differ, and those on
 // which they rest. The mark at place k is that of node lo + k.
-ghost use Rattle.std.specs.Prelude.{◌+◌, ◌≤◌, length, IfOk};
+ghost use Rattle.std.specs.Prelude.{◌≡◌, ◌+◌, ◌≤◌, false, true, length, replicate, IfOk};
 ghost use Rattle.dependency_graph.specs.Graphs.{nodes_among, node_of, operands};
 ghost use Rattle.claim_check.specs.Settled.{IsSettled};
 ghost use Rattle.held_nodes.specs.Held.{IsForward};
-ghost use Rattle.bennett_pebbling.specs.inside.Marks.{AreDifferences, AreNeeded, AreNeeds};
-ghost use Rattle.bennett_pebbling.specs.inside.Marks.{HasMarked};
+ghost use Rattle.bennett_pebbling.specs.inside.Marks.{AreDifferences, AreHeld, AreNeeded};
+ghost use Rattle.bennett_pebbling.specs.inside.Marks.{AreNeeds, HasMarked, differ};
 
 use claim_check::Settled;
 use dependency_graph::{Base, Node};
@@ -33,6 +33,29 @@ pub fn with_cut(
     Ok(marks)
 }
 
+// Marks the outputs: the nodes that are needed behind the last one.
+pub fn outputs_of(alloc: Global, graph: &Settled) -> Result<Vec<bool>, Memory>
+    ensures { IfOk result (λ marks.
+        AreNeeded graph.now 0 (replicate (length graph.now.nodes) false) marks.items) }
+{
+    let none = vec![in alloc; false; graph.nodes() as usize]?;
+    with_cut(alloc, graph, 0, &none)
+}
+
+// Whether exactly the wanted nodes of a range are held.
+pub fn is_held_so(forward: &Forward<'_>, lo: u32, wanted: &[bool]) -> bool
+    requires keeps { IsForward forward.now }
+    requires inside { lo + length wanted.now ≤ length forward.now.graph.nodes }
+    ensures { result ≡ true → AreHeld forward.now.lines lo wanted.now }
+{
+    for (k, want) in wanted.iter().enumerate() {
+        if differ(forward.held(lo + k as u32), *want) {
+            return false;
+        }
+    }
+    true
+}
+
 // Marks the nodes that are held and not wanted, or wanted and not held.
 pub fn differing(
     alloc: Global,
@@ -46,9 +69,15 @@ pub fn differing(
 {
     let mut marks = Vec::with_capacity(alloc, wanted.len())?;
     for (k, want) in wanted.iter().enumerate() {
-        marks.push(forward.held(lo + k as u32) != *want)?;
+        marks.push(differ(forward.held(lo + k as u32), *want))?;
     }
     Ok(marks)
+}
+
+fn differ(held: bool, wanted: bool) -> bool
+    ensures { result ≡ differ held wanted }
+{
+    held != wanted
 }
 
 // Marks a base, where it is a node of the range.

@@ -8,7 +8,7 @@ ghost use Rattle.held_nodes.specs.Plans.{HasPorts, IsInBudget};
 ghost use Rattle.mct_circuit.specs.Gates.{AreNarrow};
 
 use crate::changing::rise;
-use crate::needs::with_cut;
+use crate::needs::outputs_of;
 use claim_check::Settled;
 use gate_split::{Budget, PlanFault, Planned};
 use held_nodes::Forward;
@@ -42,8 +42,7 @@ pub fn plan(
     ensures refused { IfErr result (IsPebblingFault graph.now block budget.now) }
 {
     let forward = Forward::new(alloc, graph, budget)?;
-    let none = vec![in alloc; false; graph.nodes() as usize]?;
-    let outputs = with_cut(alloc, graph, 0, &none)?;
+    let outputs = outputs_of(alloc, graph)?;
     let forward = rise(alloc, graph, block, forward, 0, &outputs)?;
     forward.finish()
 }

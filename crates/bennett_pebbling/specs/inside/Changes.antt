@@ -2,7 +2,8 @@
 use Rattle.std.specs.Prelude.{◌≡◌, ℕ, ◌+◌, ◌<◌, ◌≤◌, Bool, true, false, not, ◌&&◌, ◌||◌, List, length}
 use Rattle.list_facts.specs.Bits.{bit_of}
 use Rattle.gate_split.specs.declared.plan.PlanFault.{PlanFault}
-use Rattle.held_nodes.specs.Held.{ForwardView, is_held}
+use Rattle.claim_check.specs.Settled.{SettledView}
+use Rattle.held_nodes.specs.Held.{ForwardView, IsForward, is_held}
 use Rattle.held_nodes.specs.Moves.{IsReadyNode}
 use Rattle.bennett_pebbling.specs.inside.Costs.{Allows, AllowsHeld, HasNeed, IsCovered, IsMove, IsMoveFault, IsShort}
 use Rattle.bennett_pebbling.specs.inside.Costs.{counted, one_if, reach_of, toggles_at}
@@ -45,6 +46,13 @@ pub record IsTurnFault (f : ForwardView) (node : ℕ) (turn : Bool) (e : PlanFau
 pub record IsReadyBelow (f : ForwardView) (lo count : ℕ) : Type 0 where
   pub ready : (k j : ℕ) → lo ≤ k → k < lo + count → j < lo → RestsOn f.graph k j
       → is_held f.lines j ≡ true
+
+-- a range of the graph can be worked on: each operand below it is held
+pub record CanWork (s : SettledView) (f : ForwardView) (lo count : ℕ) : Type 0 where
+  pub graph : s ≡ f.graph
+  pub keeps : IsForward f
+  pub inside : lo + count ≤ length f.graph.nodes
+  pub ready : IsReadyBelow f lo count
 
 -- the marked nodes that are not held
 abbrev pub is_missing : ForwardView → ℕ → List Bool → ℕ → Bool

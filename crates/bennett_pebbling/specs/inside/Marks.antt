@@ -1,6 +1,6 @@
 -- Marks of the nodes of a range: the mark at place k is that of node lo + k.
 use Rattle.std.specs.Prelude.{◌≡◌, ℕ, ◌+◌, ◌<◌, ◌≤◌, nat_le, Bool, true, false, not, ◌||◌, ◌⊎◌}
-use Rattle.std.specs.Prelude.{List, [], length, slice_index_or, Option}
+use Rattle.std.specs.Prelude.{List, [], length, take, drop, slice_index_or, Option}
 use Rattle.list_facts.specs.Bits.{bit_of}
 use Rattle.list_facts.specs.Lists.{IsAmong}
 use Rattle.dependency_graph.specs.Graphs.{steps_of}
@@ -17,6 +17,12 @@ pub record IsHalf (count half : ℕ) : Type 0 where
   pub less : half + half ≤ count + 1
   pub more : count ≤ half + half
 
+-- the marks of a range in two halves: the first has no fewer than the second
+pub record AreHalves (wanted left right : List Bool) : Type 0 where
+  pub half : IsHalf (length wanted) (length left)
+  pub front : left ≡ take (length left) wanted
+  pub behind : right ≡ drop (length left) wanted
+
 -- node k is not one of the range
 abbrev pub IsOutside : ℕ → ℕ → ℕ → Type 0
 IsOutside lo count k = (k < lo) ⊎ (lo + count ≤ k)
@@ -32,6 +38,10 @@ pub record AreNeeded (s : SettledView) (lo : ℕ) (wanted marks : List Bool) : T
 abbrev pub differ : Bool → Bool → Bool
 differ true b = not b
 differ false b = b
+
+-- exactly the wanted nodes are held
+pub record AreHeld (lines : List (Option ℕ)) (lo : ℕ) (wanted : List Bool) : Type 0 where
+  pub each : (k : ℕ) → k < length wanted → differ (is_held lines (lo + k)) (bit_of wanted k) ≡ false
 
 -- the nodes that are held and not wanted, or wanted and not held, are marked
 pub record AreDifferences (lines : List (Option ℕ)) (lo : ℕ) (wanted marks : List Bool)

@@ -1,9 +1,9 @@
-use Rattle.std.proofs.Common.{rules, ◌∙◌, sym}
+use Rattle.std.proofs.Common.{length, arith}
 use Rattle.std.proofs.lemmas.Result.{IfOk-weaker, IfErr-weaker, err_from_is_err_and}
 use Rattle.bennett_pebbling.specs.inside.Changes.{IsChanged, IsChangeFault}
-use Rattle.bennett_pebbling.proofs.ChangeLemmas.{changed_block, short_block}
-use Rattle.bennett_pebbling.proofs.HalfLemmas.{first_short, graph_first, graph_second, halves_changed, in_halves, inside_second, inside_third}
-use Rattle.bennett_pebbling.proofs.HalfLemmas.{ready_second, ready_third, second_short, third_short}
+use Rattle.bennett_pebbling.proofs.ChangeLemmas.{changed_block, short_block, unchanged}
+use Rattle.bennett_pebbling.proofs.HalfLemmas.{can_first, can_second, can_third, first_less, first_short, halves_changed, in_halves}
+use Rattle.bennett_pebbling.proofs.HalfLemmas.{second_less, second_short, third_less, third_short}
 use Rattle.bennett_pebbling.proofs.changing.+change.Goals as goal
 
 pub returns-then-wanted-block-clause-changed : goal.returns-then-wanted-block-clause-changed
@@ -18,35 +18,45 @@ returns-then-wanted-block-clause-refused t c =
     IfErr-weaker c.change_block.result _ (IsChangeFault f c.args.block lo wanted)
     (λ e. short_block f c.args.block lo wanted e c.requires.some c.if-wanted-block.true) c.change_block.ensures.refused
 
+pub change-requires : goal.change-requires
+change-requires t c =
+    let f = c.args.forward in let b = c.args.block in let lo = c.args.lo in let wanted = c.args.wanted.now in
+    let left = c.halves.result.0.now in let right = c.halves.result.1.now in let needed = c.deref.result.now in let half = length left in
+    let h = in_halves f b lo wanted left right needed c.in_ok-needed.needed.items c.args.graph.now c.requires.can c.halves.ensures
+    c.in_ok-needed.ensures c.deref.ensures.value c.if-wanted-block.false in (
+      omega (arith, c.decreases, first_less f b lo wanted left right needed half h c.requires.some),
+      (can_first f b lo wanted left right needed half h c.args.graph.now c.requires.can, c.requires.some),
+    )
+
 pub returns-in_err-forward-clause-refused : goal.returns-in_err-forward-clause-refused
 returns-in_err-forward-clause-refused t c =
     let f = c.args.forward in let b = c.args.block in let lo = c.args.lo in let wanted = c.args.wanted.now in
-    let left = c.split_at.result.0.now in let right = c.split_at.result.1.now in let needed = c.deref-2.result.now in let half = c.half-half.result in
-    let h = in_halves f b lo wanted left right needed c.in_ok-needed.needed.items half c.args.graph.now c.requires.graph c.half-half.ensures
-    c.split_at.ensures.front c.split_at.ensures.back c.in_ok-needed.ensures c.deref-2.ensures.value c.requires.inside c.requires.ready
-    c.if-wanted-block.false in
+    let left = c.halves.result.0.now in let right = c.halves.result.1.now in let needed = c.deref.result.now in let half = length left in
+    let h = in_halves f b lo wanted left right needed c.in_ok-needed.needed.items c.args.graph.now c.requires.can c.halves.ensures
+    c.in_ok-needed.ensures c.deref.ensures.value c.if-wanted-block.false in
     let p = err_from_is_err_and c.from_residual-in_err-forward.result c.from_residual-in_err-forward.ensures.1 in
     rw (p.1, p.2) (first_short f b lo wanted left right needed half h c.in_err-forward.field-0.0 c.in_err-forward.ensures.refused)
 
 pub change-requires-2 : goal.change-requires-2
 change-requires-2 t c =
     let f = c.args.forward in let b = c.args.block in let lo = c.args.lo in let wanted = c.args.wanted.now in
-    let left = c.split_at.result.0.now in let right = c.split_at.result.1.now in let needed = c.deref-2.result.now in let half = c.half-half.result in
-    let h = in_halves f b lo wanted left right needed c.in_ok-needed.needed.items half c.args.graph.now c.requires.graph c.half-half.ensures
-    c.split_at.ensures.front c.split_at.ensures.back c.in_ok-needed.ensures c.deref-2.ensures.value c.requires.inside c.requires.ready
-    c.if-wanted-block.false in
-    let same = graph_first f b lo wanted left right needed half h c.in_ok-forward.forward c.in_ok-forward.ensures.changed in
-    let inside = inside_second f b lo wanted left right needed half h c.in_ok-forward.forward c.in_ok-forward.ensures.changed in
-    let ready = ready_second f b lo wanted left right needed half h c.in_ok-forward.forward c.in_ok-forward.ensures.changed in
-    (search rules, (sym (same ∙ sym c.requires.graph), (c.in_ok-forward.ensures.keeps, (c.requires.some, (inside, ready)))))
+    let left = c.halves.result.0.now in let right = c.halves.result.1.now in let needed = c.deref.result.now in let half = length left in
+    let h = in_halves f b lo wanted left right needed c.in_ok-needed.needed.items c.args.graph.now c.requires.can c.halves.ensures
+    c.in_ok-needed.ensures c.deref.ensures.value c.if-wanted-block.false in (
+      omega (arith, c.decreases, second_less f b lo wanted left right needed half h c.requires.some),
+      (
+        can_second f b lo wanted left right needed half h c.in_ok-forward.forward c.in_ok-forward.ensures.changed
+            c.args.graph.now c.requires.can c.in_ok-forward.ensures.keeps,
+        c.requires.some,
+      ),
+    )
 
 pub returns-in_err-forward-2-clause-refused : goal.returns-in_err-forward-2-clause-refused
 returns-in_err-forward-2-clause-refused t c =
     let f = c.args.forward in let b = c.args.block in let lo = c.args.lo in let wanted = c.args.wanted.now in
-    let left = c.split_at.result.0.now in let right = c.split_at.result.1.now in let needed = c.deref-2.result.now in let half = c.half-half.result in
-    let h = in_halves f b lo wanted left right needed c.in_ok-needed.needed.items half c.args.graph.now c.requires.graph c.half-half.ensures
-    c.split_at.ensures.front c.split_at.ensures.back c.in_ok-needed.ensures c.deref-2.ensures.value c.requires.inside c.requires.ready
-    c.if-wanted-block.false in
+    let left = c.halves.result.0.now in let right = c.halves.result.1.now in let needed = c.deref.result.now in let half = length left in
+    let h = in_halves f b lo wanted left right needed c.in_ok-needed.needed.items c.args.graph.now c.requires.can c.halves.ensures
+    c.in_ok-needed.ensures c.deref.ensures.value c.if-wanted-block.false in
     let p = err_from_is_err_and c.from_residual-in_err-forward-2.result c.from_residual-in_err-forward-2.ensures.1 in
     rw (p.1, p.2) (second_short f b lo wanted left right needed half h c.in_ok-forward.forward c.in_ok-forward.ensures.changed
     c.in_err-forward-2.field-0.0 c.in_err-forward-2.ensures.refused)
@@ -54,25 +64,23 @@ returns-in_err-forward-2-clause-refused t c =
 pub change-requires-3 : goal.change-requires-3
 change-requires-3 t c =
     let f = c.args.forward in let b = c.args.block in let lo = c.args.lo in let wanted = c.args.wanted.now in
-    let left = c.split_at.result.0.now in let right = c.split_at.result.1.now in let needed = c.deref-2.result.now in let half = c.half-half.result in
-    let h = in_halves f b lo wanted left right needed c.in_ok-needed.needed.items half c.args.graph.now c.requires.graph c.half-half.ensures
-    c.split_at.ensures.front c.split_at.ensures.back c.in_ok-needed.ensures c.deref-2.ensures.value c.requires.inside c.requires.ready
-    c.if-wanted-block.false in
-    let same = graph_second f b lo wanted left right needed half h c.in_ok-forward.forward c.in_ok-forward.ensures.changed
-    c.in_ok-forward-2.forward c.in_ok-forward-2.ensures.changed in
-    let inside = inside_third f b lo wanted left right needed half h c.in_ok-forward.forward c.in_ok-forward.ensures.changed
-    c.in_ok-forward-2.forward c.in_ok-forward-2.ensures.changed in
-    let ready = ready_third f b lo wanted left right needed half h c.in_ok-forward.forward c.in_ok-forward.ensures.changed
-    c.in_ok-forward-2.forward c.in_ok-forward-2.ensures.changed in
-    (search rules, (sym (same ∙ sym c.requires.graph), (c.in_ok-forward-2.ensures.keeps, (c.requires.some, (inside, ready)))))
+    let left = c.halves.result.0.now in let right = c.halves.result.1.now in let needed = c.deref.result.now in let half = length left in
+    let h = in_halves f b lo wanted left right needed c.in_ok-needed.needed.items c.args.graph.now c.requires.can c.halves.ensures
+    c.in_ok-needed.ensures c.deref.ensures.value c.if-wanted-block.false in (
+      omega (arith, c.decreases, third_less f b lo wanted left right needed half h c.requires.some),
+      (
+        can_third f b lo wanted left right needed half h c.in_ok-forward.forward c.in_ok-forward.ensures.changed
+            c.in_ok-forward-2.forward c.in_ok-forward-2.ensures.changed c.args.graph.now c.requires.can c.in_ok-forward-2.ensures.keeps,
+        c.requires.some,
+      ),
+    )
 
 pub returns-clause-changed : goal.returns-clause-changed
 returns-clause-changed t c =
     let f = c.args.forward in let b = c.args.block in let lo = c.args.lo in let wanted = c.args.wanted.now in
-    let left = c.split_at.result.0.now in let right = c.split_at.result.1.now in let needed = c.deref-2.result.now in let half = c.half-half.result in
-    let h = in_halves f b lo wanted left right needed c.in_ok-needed.needed.items half c.args.graph.now c.requires.graph c.half-half.ensures
-    c.split_at.ensures.front c.split_at.ensures.back c.in_ok-needed.ensures c.deref-2.ensures.value c.requires.inside c.requires.ready
-    c.if-wanted-block.false in
+    let left = c.halves.result.0.now in let right = c.halves.result.1.now in let needed = c.deref.result.now in let half = length left in
+    let h = in_halves f b lo wanted left right needed c.in_ok-needed.needed.items c.args.graph.now c.requires.can c.halves.ensures
+    c.in_ok-needed.ensures c.deref.ensures.value c.if-wanted-block.false in
     IfOk-weaker c.change-3.result (IsChanged c.in_ok-forward-2.forward b lo left) (IsChanged f b lo wanted)
     (halves_changed f b lo wanted left right needed half h c.in_ok-forward.forward c.in_ok-forward.ensures.changed
     c.in_ok-forward-2.forward c.in_ok-forward-2.ensures.changed) c.change-3.ensures.changed
@@ -80,10 +88,9 @@ returns-clause-changed t c =
 pub returns-clause-refused : goal.returns-clause-refused
 returns-clause-refused t c =
     let f = c.args.forward in let b = c.args.block in let lo = c.args.lo in let wanted = c.args.wanted.now in
-    let left = c.split_at.result.0.now in let right = c.split_at.result.1.now in let needed = c.deref-2.result.now in let half = c.half-half.result in
-    let h = in_halves f b lo wanted left right needed c.in_ok-needed.needed.items half c.args.graph.now c.requires.graph c.half-half.ensures
-    c.split_at.ensures.front c.split_at.ensures.back c.in_ok-needed.ensures c.deref-2.ensures.value c.requires.inside c.requires.ready
-    c.if-wanted-block.false in
+    let left = c.halves.result.0.now in let right = c.halves.result.1.now in let needed = c.deref.result.now in let half = length left in
+    let h = in_halves f b lo wanted left right needed c.in_ok-needed.needed.items c.args.graph.now c.requires.can c.halves.ensures
+    c.in_ok-needed.ensures c.deref.ensures.value c.if-wanted-block.false in
     IfErr-weaker c.change-3.result (IsChangeFault c.in_ok-forward-2.forward b lo left) (IsChangeFault f b lo wanted)
     (third_short f b lo wanted left right needed half h c.in_ok-forward.forward c.in_ok-forward.ensures.changed
     c.in_ok-forward-2.forward c.in_ok-forward-2.ensures.changed) c.change-3.ensures.refused

@@ -1,9 +1,8 @@
-use Rattle.std.proofs.Common.{rules, ◌+◌, ◌∙◌, sym}
+use Rattle.std.proofs.Common.{◌+◌, length, arith}
 use Rattle.std.proofs.lemmas.Result.{IfOk-weaker, IfErr-weaker, err_from_is_err_and}
 use Rattle.bennett_pebbling.specs.inside.Changes.{IsRisen, IsRiseFault}
 use Rattle.bennett_pebbling.proofs.ChangeLemmas.{risen_block, rise_short_block}
-use Rattle.bennett_pebbling.proofs.HalfLemmas.{first_rise_short, graph_first, halves_rise_short, halves_risen, in_halves, inside_second}
-use Rattle.bennett_pebbling.proofs.HalfLemmas.{ready_second}
+use Rattle.bennett_pebbling.proofs.HalfLemmas.{can_first, can_second, first_rise_short, halves_rise_short, halves_risen, in_halves, second_less}
 use Rattle.bennett_pebbling.proofs.changing.+rise.Goals as goal
 
 pub returns-then-wanted-block-clause-risen : goal.returns-then-wanted-block-clause-risen
@@ -18,44 +17,51 @@ returns-then-wanted-block-clause-refused t c =
     IfErr-weaker c.rise_block.result _ (IsRiseFault f c.args.block lo wanted)
     (λ e. rise_short_block f c.args.block lo wanted e c.requires.some c.if-wanted-block.true) c.rise_block.ensures.refused
 
+pub change-requires-clause-can : goal.change-requires-clause-can
+change-requires-clause-can t c =
+    let f = c.args.forward in let b = c.args.block in let lo = c.args.lo in let wanted = c.args.wanted.now in
+    let left = c.halves.result.0.now in let right = c.halves.result.1.now in let needed = c.deref.result.now in let half = length left in
+    let h = in_halves f b lo wanted left right needed c.in_ok-needed.needed.items c.args.graph.now c.requires.can c.halves.ensures
+    c.in_ok-needed.ensures c.deref.ensures.value c.if-wanted-block.false in
+    can_first f b lo wanted left right needed half h c.args.graph.now c.requires.can
+
 pub returns-in_err-forward-clause-refused : goal.returns-in_err-forward-clause-refused
 returns-in_err-forward-clause-refused t c =
     let f = c.args.forward in let b = c.args.block in let lo = c.args.lo in let wanted = c.args.wanted.now in
-    let left = c.split_at.result.0.now in let right = c.split_at.result.1.now in let needed = c.deref.result.now in let half = c.half-half.result in
-    let h = in_halves f b lo wanted left right needed c.in_ok-needed.needed.items half c.args.graph.now c.requires.graph c.half-half.ensures
-    c.split_at.ensures.front c.split_at.ensures.back c.in_ok-needed.ensures c.deref.ensures.value c.requires.inside c.requires.ready
-    c.if-wanted-block.false in
+    let left = c.halves.result.0.now in let right = c.halves.result.1.now in let needed = c.deref.result.now in let half = length left in
+    let h = in_halves f b lo wanted left right needed c.in_ok-needed.needed.items c.args.graph.now c.requires.can c.halves.ensures
+    c.in_ok-needed.ensures c.deref.ensures.value c.if-wanted-block.false in
     let p = err_from_is_err_and c.from_residual-in_err-forward.result c.from_residual-in_err-forward.ensures.1 in
     rw (p.1, p.2) (first_rise_short f b lo wanted left right needed half h c.in_err-forward.field-0.0 c.in_err-forward.ensures.refused)
 
 pub rise-requires : goal.rise-requires
 rise-requires t c =
     let f = c.args.forward in let b = c.args.block in let lo = c.args.lo in let wanted = c.args.wanted.now in
-    let left = c.split_at.result.0.now in let right = c.split_at.result.1.now in let needed = c.deref.result.now in let half = c.half-half.result in
-    let h = in_halves f b lo wanted left right needed c.in_ok-needed.needed.items half c.args.graph.now c.requires.graph c.half-half.ensures
-    c.split_at.ensures.front c.split_at.ensures.back c.in_ok-needed.ensures c.deref.ensures.value c.requires.inside c.requires.ready
-    c.if-wanted-block.false in
-    let same = graph_first f b lo wanted left right needed half h c.in_ok-forward.forward c.in_ok-forward.ensures.changed in
-    let inside = inside_second f b lo wanted left right needed half h c.in_ok-forward.forward c.in_ok-forward.ensures.changed in
-    let ready = ready_second f b lo wanted left right needed half h c.in_ok-forward.forward c.in_ok-forward.ensures.changed in
-    (search rules, (sym (same ∙ sym c.requires.graph), (c.in_ok-forward.ensures.keeps, (c.requires.some, (inside, ready)))))
+    let left = c.halves.result.0.now in let right = c.halves.result.1.now in let needed = c.deref.result.now in let half = length left in
+    let h = in_halves f b lo wanted left right needed c.in_ok-needed.needed.items c.args.graph.now c.requires.can c.halves.ensures
+    c.in_ok-needed.ensures c.deref.ensures.value c.if-wanted-block.false in (
+      omega (arith, c.decreases, second_less f b lo wanted left right needed half h c.requires.some),
+      (
+        can_second f b lo wanted left right needed half h c.in_ok-forward.forward c.in_ok-forward.ensures.changed
+            c.args.graph.now c.requires.can c.in_ok-forward.ensures.keeps,
+        c.requires.some,
+      ),
+    )
 
 pub returns-clause-risen : goal.returns-clause-risen
 returns-clause-risen t c =
     let f = c.args.forward in let b = c.args.block in let lo = c.args.lo in let wanted = c.args.wanted.now in
-    let left = c.split_at.result.0.now in let right = c.split_at.result.1.now in let needed = c.deref.result.now in let half = c.half-half.result in
-    let h = in_halves f b lo wanted left right needed c.in_ok-needed.needed.items half c.args.graph.now c.requires.graph c.half-half.ensures
-    c.split_at.ensures.front c.split_at.ensures.back c.in_ok-needed.ensures c.deref.ensures.value c.requires.inside c.requires.ready
-    c.if-wanted-block.false in
+    let left = c.halves.result.0.now in let right = c.halves.result.1.now in let needed = c.deref.result.now in let half = length left in
+    let h = in_halves f b lo wanted left right needed c.in_ok-needed.needed.items c.args.graph.now c.requires.can c.halves.ensures
+    c.in_ok-needed.ensures c.deref.ensures.value c.if-wanted-block.false in
     IfOk-weaker c.rise.result (IsRisen c.in_ok-forward.forward b (lo + half) right) (IsRisen f b lo wanted)
     (halves_risen f b lo wanted left right needed half h c.in_ok-forward.forward c.in_ok-forward.ensures.changed) c.rise.ensures.risen
 
 pub returns-clause-refused : goal.returns-clause-refused
 returns-clause-refused t c =
     let f = c.args.forward in let b = c.args.block in let lo = c.args.lo in let wanted = c.args.wanted.now in
-    let left = c.split_at.result.0.now in let right = c.split_at.result.1.now in let needed = c.deref.result.now in let half = c.half-half.result in
-    let h = in_halves f b lo wanted left right needed c.in_ok-needed.needed.items half c.args.graph.now c.requires.graph c.half-half.ensures
-    c.split_at.ensures.front c.split_at.ensures.back c.in_ok-needed.ensures c.deref.ensures.value c.requires.inside c.requires.ready
-    c.if-wanted-block.false in
+    let left = c.halves.result.0.now in let right = c.halves.result.1.now in let needed = c.deref.result.now in let half = length left in
+    let h = in_halves f b lo wanted left right needed c.in_ok-needed.needed.items c.args.graph.now c.requires.can c.halves.ensures
+    c.in_ok-needed.ensures c.deref.ensures.value c.if-wanted-block.false in
     IfErr-weaker c.rise.result (IsRiseFault c.in_ok-forward.forward b (lo + half) right) (IsRiseFault f b lo wanted)
     (halves_rise_short f b lo wanted left right needed half h c.in_ok-forward.forward c.in_ok-forward.ensures.changed) c.rise.ensures.refused

@@ -7,39 +7,39 @@ use Rattle.bennett_pebbling.proofs.changing.change_block.Goals as goal
 
 pub returns-clause-changed : goal.returns-clause-changed
 returns-clause-changed c =
-    let f = c.args.forward in let lo = c.args.lo in let wanted = c.args.wanted.now in let start = c.args.marks.items in let marks = c.deref.result.now in
-    let needs : AreNeeds f.graph lo start marks = rw (← c.requires.graph, c.deref.ensures.value) c.with_needs-marks.ensures in
+    let f = c.args.forward in let lo = c.args.lo in let wanted = c.args.wanted.now in let start = c.in_ok-marks.marks.items in let marks = c.deref.result.now in
+    let needs : AreNeeds f.graph lo start marks = rw (← c.requires.can.graph, c.deref.ensures.value) c.with_needs-marks.ensures in
     IfOk-weaker c.lower.result (IsLowered c.in_ok-forward.forward lo wanted) (IsChanged f (length wanted) lo wanted)
-    (λ next l. block_changed f lo wanted start marks c.requires.differ needs c.in_ok-forward.forward c.in_ok-forward.ensures.raised
-    c.requires.ready c.in_ok-forward.ensures.keeps next l)
+    (λ next l. block_changed f lo wanted start marks c.in_ok-marks.ensures needs c.in_ok-forward.forward c.in_ok-forward.ensures.raised
+    c.requires.can.ready c.in_ok-forward.ensures.keeps next l)
     c.lower.ensures.lowered
 
 pub returns-clause-refused : goal.returns-clause-refused
 returns-clause-refused c =
-    let f = c.args.forward in let lo = c.args.lo in let wanted = c.args.wanted.now in let start = c.args.marks.items in let marks = c.deref.result.now in
-    let needs : AreNeeds f.graph lo start marks = rw (← c.requires.graph, c.deref.ensures.value) c.with_needs-marks.ensures in
+    let f = c.args.forward in let lo = c.args.lo in let wanted = c.args.wanted.now in let start = c.in_ok-marks.marks.items in let marks = c.deref.result.now in
+    let needs : AreNeeds f.graph lo start marks = rw (← c.requires.can.graph, c.deref.ensures.value) c.with_needs-marks.ensures in
     IfErr-weaker c.lower.result (IsLowerFault c.in_ok-forward.forward lo wanted) (IsChangeFault f (length wanted) lo wanted)
-    (λ e l. lower_short f lo wanted start marks c.requires.differ needs c.in_ok-forward.forward c.in_ok-forward.ensures.raised
-    c.requires.ready c.in_ok-forward.ensures.keeps e l)
+    (λ e l. lower_short f lo wanted start marks c.in_ok-marks.ensures needs c.in_ok-forward.forward c.in_ok-forward.ensures.raised
+    c.requires.can.ready c.in_ok-forward.ensures.keeps e l)
     c.lower.ensures.refused
 
 pub returns-in_err-forward-clause-refused : goal.returns-in_err-forward-clause-refused
 returns-in_err-forward-clause-refused c =
-    let f = c.args.forward in let lo = c.args.lo in let wanted = c.args.wanted.now in let start = c.args.marks.items in let marks = c.deref.result.now in
-    let needs : AreNeeds f.graph lo start marks = rw (← c.requires.graph, c.deref.ensures.value) c.with_needs-marks.ensures in
-    let p = err_from_is_err_and c.from_residual.result c.from_residual.ensures.1 in
-    rw (p.1, p.2) (raise_short f lo wanted start marks c.requires.differ needs c.in_err-forward.field-0.0 c.in_err-forward.ensures.refused)
+    let f = c.args.forward in let lo = c.args.lo in let wanted = c.args.wanted.now in let start = c.in_ok-marks.marks.items in let marks = c.deref.result.now in
+    let needs : AreNeeds f.graph lo start marks = rw (← c.requires.can.graph, c.deref.ensures.value) c.with_needs-marks.ensures in
+    let p = err_from_is_err_and c.from_residual-in_err-forward.result c.from_residual-in_err-forward.ensures.1 in
+    rw (p.1, p.2) (raise_short f lo wanted start marks c.in_ok-marks.ensures needs c.in_err-forward.field-0.0 c.in_err-forward.ensures.refused)
 
 pub lower-requires-clause-inside : goal.lower-requires-clause-inside
 lower-requires-clause-inside c =
-    let f = c.args.forward in let lo = c.args.lo in let wanted = c.args.wanted.now in let start = c.args.marks.items in let marks = c.deref.result.now in
-    let needs : AreNeeds f.graph lo start marks = rw (← c.requires.graph, c.deref.ensures.value) c.with_needs-marks.ensures in
-    rw (block_graph f lo wanted start marks c.requires.differ needs c.in_ok-forward.forward c.in_ok-forward.ensures.raised
-    c.requires.ready c.in_ok-forward.ensures.keeps) c.requires.inside
+    let f = c.args.forward in let lo = c.args.lo in let wanted = c.args.wanted.now in let start = c.in_ok-marks.marks.items in let marks = c.deref.result.now in
+    let needs : AreNeeds f.graph lo start marks = rw (← c.requires.can.graph, c.deref.ensures.value) c.with_needs-marks.ensures in
+    rw (block_graph f lo wanted start marks c.in_ok-marks.ensures needs c.in_ok-forward.forward c.in_ok-forward.ensures.raised
+    c.requires.can.ready c.in_ok-forward.ensures.keeps) c.requires.can.inside
 
 pub lower-requires-clause-can : goal.lower-requires-clause-can
 lower-requires-clause-can c =
-    let f = c.args.forward in let lo = c.args.lo in let wanted = c.args.wanted.now in let start = c.args.marks.items in let marks = c.deref.result.now in
-    let needs : AreNeeds f.graph lo start marks = rw (← c.requires.graph, c.deref.ensures.value) c.with_needs-marks.ensures in
-    block_can f lo wanted start marks c.requires.differ needs c.in_ok-forward.forward c.in_ok-forward.ensures.raised
-    c.requires.ready c.in_ok-forward.ensures.keeps
+    let f = c.args.forward in let lo = c.args.lo in let wanted = c.args.wanted.now in let start = c.in_ok-marks.marks.items in let marks = c.deref.result.now in
+    let needs : AreNeeds f.graph lo start marks = rw (← c.requires.can.graph, c.deref.ensures.value) c.with_needs-marks.ensures in
+    block_can f lo wanted start marks c.in_ok-marks.ensures needs c.in_ok-forward.forward c.in_ok-forward.ensures.raised
+    c.requires.can.ready c.in_ok-forward.ensures.keeps

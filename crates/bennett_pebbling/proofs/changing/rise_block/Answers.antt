@@ -10,7 +10,7 @@ returns-clause-risen c =
     let f = c.args.forward in let lo = c.args.lo in let wanted = c.args.wanted.now in let marks = c.deref.result.now in
     let same : c.in_ok-from_slice.field-0.items ≡ wanted = search rules in
     let needs : AreNeeds f.graph lo wanted marks =
-    rw (← c.requires.graph, c.deref.ensures.value) (subst (λ (xs : List Bool). AreNeeds c.args.graph.now lo xs c.with_needs-marks.result.items) same
+    rw (← c.requires.can.graph, c.deref.ensures.value) (subst (λ (xs : List Bool). AreNeeds c.args.graph.now lo xs c.with_needs-marks.result.items) same
     c.with_needs-marks.ensures) in
     IfOk-weaker c.raise.result (IsRaised f lo marks) (IsRisen f (length wanted) lo wanted) (block_risen f lo wanted marks needs) c.raise.ensures.raised
 
@@ -19,6 +19,6 @@ returns-clause-refused c =
     let f = c.args.forward in let lo = c.args.lo in let wanted = c.args.wanted.now in let marks = c.deref.result.now in
     let same : c.in_ok-from_slice.field-0.items ≡ wanted = search rules in
     let needs : AreNeeds f.graph lo wanted marks =
-    rw (← c.requires.graph, c.deref.ensures.value) (subst (λ (xs : List Bool). AreNeeds c.args.graph.now lo xs c.with_needs-marks.result.items) same
+    rw (← c.requires.can.graph, c.deref.ensures.value) (subst (λ (xs : List Bool). AreNeeds c.args.graph.now lo xs c.with_needs-marks.result.items) same
     c.with_needs-marks.ensures) in
     IfErr-weaker c.raise.result (IsRaiseFault f lo marks) (IsRiseFault f (length wanted) lo wanted) (rise_short f lo wanted marks needs) c.raise.ensures.refused

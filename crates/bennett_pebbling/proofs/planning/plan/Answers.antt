@@ -1,42 +1,39 @@
-use Rattle.std.proofs.Common.{rules, ◌≡◌, ◌∙◌, sym, subst, ap, replicate, false, length}
+use Rattle.std.proofs.Common.{◌≡◌, sym, subst}
 use Rattle.std.proofs.lemmas.Result.{IfOk-weaker, IfErr-weaker, err_from_is_err_and}
 use Rattle.gate_split.specs.Plans.{PlannedView}
 use Rattle.mct_circuit.specs.Gates.{AreNarrow}
 use Rattle.held_nodes.specs.Moves.{IsFinishFault, planned_of}
 use Rattle.bennett_pebbling.specs.Pebbling.{IsPebblingFault, IsWithinBlock}
-use Rattle.bennett_pebbling.specs.inside.Marks.{AreNeeded}
-use Rattle.bennett_pebbling.proofs.PlanLemmas.{IsBegun, begun, finish_refused, plan_few, plan_narrow, plan_ready, rise_refused}
+use Rattle.bennett_pebbling.proofs.PlanLemmas.{IsBegun, begun, begun_can, finish_refused, plan_few, plan_narrow, plan_ready, rise_refused}
 use Rattle.bennett_pebbling.proofs.planning.plan.Goals as goal
 
 pub finish-requires : goal.finish-requires
 finish-requires c =
-    let s = c.args.graph.now in let b = c.args.budget.now in let start = c.in_ok-forward.forward in let outputs = c.deref-2.result.now in
-    let nothing : c.deref.result.now ≡ replicate (length s.nodes) false =
-    c.deref.ensures.value ∙ c.in_ok-none.ensures.items_if_clones_equal (search rules) ∙ ap (λ n. replicate n false) c.nodes.ensures.nodes in
+    let s = c.args.graph.now in let b = c.args.budget.now in let start = c.in_ok-forward.forward in let outputs = c.deref.result.now in
     let begin : IsBegun s b start outputs =
-    begun s b start c.deref.result.now outputs c.in_ok-forward.ensures.ok c.in_ok-forward.ensures.keeps nothing
-    (subst (AreNeeded s 0 c.deref.result.now) (sym c.deref-2.ensures.value) c.in_ok-outputs.ensures) in
+    begun s b start outputs c.in_ok-outputs.outputs.items c.in_ok-forward.ensures.ok c.in_ok-forward.ensures.keeps c.deref.ensures.value c.in_ok-outputs.ensures in
     plan_ready s b c.args.block start outputs c.requires begin c.in_ok-forward-2.forward c.in_ok-forward-2.ensures.risen
+
+pub rise-requires-clause-can : goal.rise-requires-clause-can
+rise-requires-clause-can c =
+    let s = c.args.graph.now in let b = c.args.budget.now in let start = c.in_ok-forward.forward in let outputs = c.deref.result.now in
+    let begin : IsBegun s b start outputs =
+    begun s b start outputs c.in_ok-outputs.outputs.items c.in_ok-forward.ensures.ok c.in_ok-forward.ensures.keeps c.deref.ensures.value c.in_ok-outputs.ensures in
+    begun_can s b start outputs begin
 
 pub returns-in_err-forward-2-clause-refused : goal.returns-in_err-forward-2-clause-refused
 returns-in_err-forward-2-clause-refused c =
-    let s = c.args.graph.now in let b = c.args.budget.now in let start = c.in_ok-forward.forward in let outputs = c.deref-2.result.now in
-    let nothing : c.deref.result.now ≡ replicate (length s.nodes) false =
-    c.deref.ensures.value ∙ c.in_ok-none.ensures.items_if_clones_equal (search rules) ∙ ap (λ n. replicate n false) c.nodes.ensures.nodes in
+    let s = c.args.graph.now in let b = c.args.budget.now in let start = c.in_ok-forward.forward in let outputs = c.deref.result.now in
     let begin : IsBegun s b start outputs =
-    begun s b start c.deref.result.now outputs c.in_ok-forward.ensures.ok c.in_ok-forward.ensures.keeps nothing
-    (subst (AreNeeded s 0 c.deref.result.now) (sym c.deref-2.ensures.value) c.in_ok-outputs.ensures) in
+    begun s b start outputs c.in_ok-outputs.outputs.items c.in_ok-forward.ensures.ok c.in_ok-forward.ensures.keeps c.deref.ensures.value c.in_ok-outputs.ensures in
     let p = err_from_is_err_and c.from_residual-in_err-forward-2.result c.from_residual-in_err-forward-2.ensures.1 in
     rw (p.1, p.2) (rise_refused s b c.args.block start outputs c.requires begin c.in_err-forward-2.field-0.0 c.in_err-forward-2.ensures.refused)
 
 pub returns-clause-narrow : goal.returns-clause-narrow
 returns-clause-narrow c =
-    let s = c.args.graph.now in let b = c.args.budget.now in let start = c.in_ok-forward.forward in let outputs = c.deref-2.result.now in
-    let nothing : c.deref.result.now ≡ replicate (length s.nodes) false =
-    c.deref.ensures.value ∙ c.in_ok-none.ensures.items_if_clones_equal (search rules) ∙ ap (λ n. replicate n false) c.nodes.ensures.nodes in
+    let s = c.args.graph.now in let b = c.args.budget.now in let start = c.in_ok-forward.forward in let outputs = c.deref.result.now in
     let begin : IsBegun s b start outputs =
-    begun s b start c.deref.result.now outputs c.in_ok-forward.ensures.ok c.in_ok-forward.ensures.keeps nothing
-    (subst (AreNeeded s 0 c.deref.result.now) (sym c.deref-2.ensures.value) c.in_ok-outputs.ensures) in
+    begun s b start outputs c.in_ok-outputs.outputs.items c.in_ok-forward.ensures.ok c.in_ok-forward.ensures.keeps c.deref.ensures.value c.in_ok-outputs.ensures in
     let f = c.in_ok-forward-2.forward in
     IfOk-weaker c.finish.result (λ (p : PlannedView). p ≡ planned_of f) (λ (p : PlannedView). AreNarrow p.circuit.gates)
     (λ planned e. subst (λ (p : PlannedView). AreNarrow p.circuit.gates) (sym e)
@@ -44,12 +41,9 @@ returns-clause-narrow c =
 
 pub returns-clause-few : goal.returns-clause-few
 returns-clause-few c =
-    let s = c.args.graph.now in let b = c.args.budget.now in let start = c.in_ok-forward.forward in let outputs = c.deref-2.result.now in
-    let nothing : c.deref.result.now ≡ replicate (length s.nodes) false =
-    c.deref.ensures.value ∙ c.in_ok-none.ensures.items_if_clones_equal (search rules) ∙ ap (λ n. replicate n false) c.nodes.ensures.nodes in
+    let s = c.args.graph.now in let b = c.args.budget.now in let start = c.in_ok-forward.forward in let outputs = c.deref.result.now in
     let begin : IsBegun s b start outputs =
-    begun s b start c.deref.result.now outputs c.in_ok-forward.ensures.ok c.in_ok-forward.ensures.keeps nothing
-    (subst (AreNeeded s 0 c.deref.result.now) (sym c.deref-2.ensures.value) c.in_ok-outputs.ensures) in
+    begun s b start outputs c.in_ok-outputs.outputs.items c.in_ok-forward.ensures.ok c.in_ok-forward.ensures.keeps c.deref.ensures.value c.in_ok-outputs.ensures in
     let f = c.in_ok-forward-2.forward in
     IfOk-weaker c.finish.result (λ (p : PlannedView). p ≡ planned_of f) (IsWithinBlock s c.args.block)
     (λ planned e. subst (IsWithinBlock s c.args.block) (sym e)
@@ -57,11 +51,8 @@ returns-clause-few c =
 
 pub returns-clause-refused : goal.returns-clause-refused
 returns-clause-refused c =
-    let s = c.args.graph.now in let b = c.args.budget.now in let start = c.in_ok-forward.forward in let outputs = c.deref-2.result.now in
-    let nothing : c.deref.result.now ≡ replicate (length s.nodes) false =
-    c.deref.ensures.value ∙ c.in_ok-none.ensures.items_if_clones_equal (search rules) ∙ ap (λ n. replicate n false) c.nodes.ensures.nodes in
+    let s = c.args.graph.now in let b = c.args.budget.now in let start = c.in_ok-forward.forward in let outputs = c.deref.result.now in
     let begin : IsBegun s b start outputs =
-    begun s b start c.deref.result.now outputs c.in_ok-forward.ensures.ok c.in_ok-forward.ensures.keeps nothing
-    (subst (AreNeeded s 0 c.deref.result.now) (sym c.deref-2.ensures.value) c.in_ok-outputs.ensures) in
+    begun s b start outputs c.in_ok-outputs.outputs.items c.in_ok-forward.ensures.ok c.in_ok-forward.ensures.keeps c.deref.ensures.value c.in_ok-outputs.ensures in
     IfErr-weaker c.finish.result (IsFinishFault c.in_ok-forward-2.forward) (IsPebblingFault s c.args.block b)
     (finish_refused s b c.args.block start outputs c.requires begin c.in_ok-forward-2.forward c.in_ok-forward-2.ensures.risen) c.finish.ensures.refused
