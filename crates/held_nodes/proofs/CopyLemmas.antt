@@ -1,9 +1,9 @@
 -- Copies of the outputs.
-use Rattle.std.proofs.Common.{◌≡◌, ◌≢◌, ℕ, ◌+◌, ◌<◌, ◌≤◌, Bool, true, false, not, List, Option, [], ◌∷◌, ◌++◌, length, map, set, Some, refl, sym, ap, ◌∙◌}
+use Rattle.std.proofs.Common.{◌≡◌, ◌≢◌, ℕ, ◌+◌, ◌<◌, ◌≤◌, Bool, true, false, not, List, Option, [], ◌∷◌, ◌++◌, length, get_or, map, set, drop, Some, refl, sym, ap, ◌∙◌}
 use Rattle.std.proofs.Common.{arith, append_assoc, length-append}
 use Rattle.std.specs.Bool.{xor}
 use Rattle.std.specs.List.{AllByRecursion}
-use Rattle.std.proofs.lemmas.List.{get_or_at, set_at, length-replicate}
+use Rattle.std.proofs.lemmas.List.{drop_more, get_or_at, set_at, length-replicate}
 use Rattle.list_facts.specs.Bits.{bit_of, zeros}
 use Rattle.list_facts.proofs.AllLemmas.{AllByRecursion-append}
 use Rattle.list_facts.proofs.BitLemmas.{xor_nothing}
@@ -107,6 +107,19 @@ weight-copy : (first : ℕ) (lines : List (Option ℕ)) (target : ℕ) (sig : Si
 weight-copy first lines target (Const true) = refl
 weight-copy first lines target (Const false) = refl
 weight-copy first lines target (Is base) = refl
+
+-- the copies up to one output more
+pub copies_more : (first : ℕ) (lines : List (Option ℕ)) (target k : ℕ) (sigs : List Sig) (any : Sig) (before after whole : List GateView)
+    → k < length sigs → after ≡ before ++ copy_of first lines (target + k) (get_or sigs k any)
+    → before ++ copies_from first lines (target + k) (drop k sigs) ≡ whole
+    → after ++ copies_from first lines (target + (k + 1)) (drop (k + 1) sigs) ≡ whole
+copies_more first lines target k sigs any before after whole low added done =
+    let rest = drop (k + 1) sigs in let copy = copy_of first lines (target + k) (get_or sigs k any) in
+    let place : target + (k + 1) ≡ target + k + 1 = omega arith in
+    ap (λ (gates : List GateView). gates ++ copies_from first lines (target + (k + 1)) rest) added
+    ∙ ap (λ (n : ℕ). (before ++ copy) ++ copies_from first lines n rest) place
+    ∙ append_assoc before copy (copies_from first lines (target + k + 1) rest)
+    ∙ sym (ap (λ (xs : List Sig). before ++ copies_from first lines (target + k) xs) (drop_more sigs k any low)) ∙ done
 
 -- each copy weighs 1
 pub weight-copies : (first : ℕ) (lines : List (Option ℕ)) (target : ℕ) (sigs : List Sig)

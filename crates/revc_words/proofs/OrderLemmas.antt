@@ -25,8 +25,8 @@ use Rattle.revc_words.specs.declared.order.Format.TheVariants.{Real, Qasm}
 use Rattle.revc_words.specs.declared.values.Values.{Values}
 use Rattle.revc_words.specs.Words.{order_of, OrderView, IsOrder, HasNoOrder, OneOrder, TakesWords, TakesNumber, Setting, Reads, nothing_left, all_behind}
 use Rattle.revc_words.specs.Words.{joined, parted, positional, IsOneOf, name_of, options_of, first_word, is_option, value_of, IsGivenOnce}
-use Rattle.revc_words.specs.inside.Parsing.{Texts, app_for, bits_for, first_with, number_for, number_of, order_by, order_for, order_of_texts, order_with}
-use Rattle.revc_words.specs.inside.Parsing.{parsed, takes_any, takes_count, texts_in, values_of}
+use Rattle.revc_words.specs.inside.Parsing.{Texts, app_for, bits_for, first_with, number_for, number_of, order_by, order_for, order_of_texts}
+use Rattle.revc_words.specs.inside.Parsing.{order_with, parsed, takes_any, takes_count, texts_by, texts_in, values_of}
 use Rattle.revc_words.proofs.ValueLemmas.{plan_rule, lines_rule, gates_rule, borrow_rule, nodes_rule, format_rule, number_says, number_found, right, kept}
 use Rattle.revc_words.proofs.ValueLemmas.{text_is_no_option}
 use Rattle.revc_words.proofs.WalkLemmas.{by_test, is_one_of, filled_app, run, clap_says, AreTexts}
@@ -172,16 +172,7 @@ takes_none Bench plain bits number is none = absurd (false≢true (sym none))
 -- ---- the texts that are given
 
 abbrev texts_of : List Setting → Texts
-texts_of given = record {
-  plan = value_of (codes "plan") given;
-  lines = value_of (codes "lines") given;
-  gates = value_of (codes "gates") given;
-  borrow = value_of (codes "borrow") given;
-  nodes = value_of (codes "nodes") given;
-  format = value_of (codes "format") given;
-  from = value_of (codes "from") given;
-  to = value_of (codes "to") given;
-}
+texts_of given = texts_by (λ name. value_of name given)
 
 same_texts : (rows : List Row) (given : List Setting)
     → ((id : List ℕ) → bytes_eq (codes "word") id ≡ false → first_of id rows ≡ value_of id given) → texts_in rows ≡ texts_of given

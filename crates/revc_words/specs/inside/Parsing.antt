@@ -108,17 +108,21 @@ pub record Texts : Type 0 where
   pub from : Option (List ℕ)
   pub to : Option (List ℕ)
 
-abbrev pub texts_in : List Row → Texts
-texts_in rows = record {
-  plan = first_of (codes "plan") rows;
-  lines = first_of (codes "lines") rows;
-  gates = first_of (codes "gates") rows;
-  borrow = first_of (codes "borrow") rows;
-  nodes = first_of (codes "nodes") rows;
-  format = first_of (codes "format") rows;
-  from = first_of (codes "from") rows;
-  to = first_of (codes "to") rows;
+-- the texts by the names of their options
+abbrev pub texts_by : (List ℕ → Option (List ℕ)) → Texts
+texts_by text_of = record {
+  plan = text_of (codes "plan");
+  lines = text_of (codes "lines");
+  gates = text_of (codes "gates");
+  borrow = text_of (codes "borrow");
+  nodes = text_of (codes "nodes");
+  format = text_of (codes "format");
+  from = text_of (codes "from");
+  to = text_of (codes "to");
 }
+
+abbrev pub texts_in : List Row → Texts
+texts_in rows = texts_by (λ name. first_of name rows)
 
 abbrev pub values_of : Texts → Option Values
 values_of texts =

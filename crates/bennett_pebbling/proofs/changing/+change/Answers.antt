@@ -1,7 +1,7 @@
 use Rattle.std.proofs.Common.{length, arith}
 use Rattle.std.proofs.lemmas.Result.{IfOk-weaker, IfErr-weaker, err_from_is_err_and}
 use Rattle.bennett_pebbling.specs.inside.Changes.{IsChanged, IsChangeFault}
-use Rattle.bennett_pebbling.proofs.ChangeLemmas.{changed_block, short_block, unchanged}
+use Rattle.bennett_pebbling.proofs.ChangeLemmas.{changed_block, short_block}
 use Rattle.bennett_pebbling.proofs.HalfLemmas.{can_first, can_second, can_third, first_less, first_short, halves_changed, in_halves}
 use Rattle.bennett_pebbling.proofs.HalfLemmas.{second_less, second_short, third_less, third_short}
 use Rattle.bennett_pebbling.proofs.changing.+change.Goals as goal
