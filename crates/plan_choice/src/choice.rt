@@ -1,7 +1,7 @@
 // Which plans are tried.
 
 /// Which plans are tried, in which order.
-#[derive(Clone, Copy, Debug, PartialEq, Eq)]
+#[derive(Clone, Copy, PartialEq, Eq)]
 pub enum How {
     /// The eager plan, and then pebbling.
     Auto,
