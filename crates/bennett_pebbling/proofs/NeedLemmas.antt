@@ -1,9 +1,9 @@
 -- On what nodes rest, and the marks of all nodes on which marked ones rest.
 use Rattle.std.proofs.Common.{◌≡◌, ◌≢◌, ℕ, zero, suc, ◌+◌, ◌<◌, ◌≤◌, Bool, true, false, inl, inr, List, [], ◌∷◌, ◌++◌, length, map, take, drop, get_or, Some}
-use Rattle.std.proofs.Common.{sym, ◌∙◌, ap, subst, refl, arith}
+use Rattle.std.proofs.Common.{sym, ◌∙◌, ap, subst, refl, arith, below_more}
 use Rattle.std.specs.Prelude.{slice_get}
 use Rattle.std.proofs.lemmas.Bool.{cases_eq}
-use Rattle.std.proofs.lemmas.List.{take-append-le, take_all}
+use Rattle.std.proofs.lemmas.List.{get_or_append_left, get_or_at, take-append-le, take_all}
 use Rattle.std.proofs.lemmas.Option.{same_Some}
 use Rattle.list_facts.specs.Bits.{bit_of}
 use Rattle.list_facts.specs.Lists.{IsAmong}
@@ -142,3 +142,13 @@ module _ (s : SettledView) (lo : ℕ) (start marks after : List Bool) (k i : ℕ
 pub written : (n : ℕ) (old new : List Bool) → length new ≡ length old → length old ≡ n → take n (new ++ drop (length new) old) ≡ new
 written n old new same long =
     take-append-le n new (drop (length new) old) (omega (arith, same, long)) ∙ take_all n new (omega (arith, same, long))
+
+-- ---- marks that are pushed one after another
+
+pub marks_more : (marks next : List Bool) (k : ℕ) (bit : Bool) (test : ℕ → Bool) → length marks ≡ k → next ≡ marks ++ bit ∷ [] → bit ≡ test k
+    → ((j : ℕ) → j < k → bit_of marks j ≡ test j) → (j : ℕ) → j < k + 1 → bit_of next j ≡ test j
+marks_more marks next k bit test long is here below =
+    below_more (λ (j : ℕ). bit_of next j ≡ test j) k
+    (λ j low.
+    ap (λ (xs : List Bool). bit_of xs j) is ∙ get_or_append_left marks (bit ∷ []) false j (omega (arith, low, long)) ∙ below j low)
+    (ap (λ (xs : List Bool). bit_of xs k) is ∙ get_or_at marks bit [] false k long ∙ here)

@@ -11,21 +11,24 @@ pub finish-requires : goal.finish-requires
 finish-requires c =
     let s = c.args.graph.now in let b = c.args.budget.now in let start = c.in_ok-forward.forward in let outputs = c.deref.result.now in
     let begin : IsBegun s b start outputs =
-    begun s b start outputs c.in_ok-outputs.outputs.items c.in_ok-forward.ensures.ok c.in_ok-forward.ensures.keeps c.deref.ensures.value c.in_ok-outputs.ensures in
+    begun s b start outputs c.in_ok-outputs.outputs.items c.in_ok-forward.ensures.ok c.in_ok-forward.ensures.keeps
+    c.deref.ensures.value c.in_ok-outputs.ensures in
     plan_ready s b c.args.block start outputs c.requires begin c.in_ok-forward-2.forward c.in_ok-forward-2.ensures.risen
 
 pub rise-requires-clause-can : goal.rise-requires-clause-can
 rise-requires-clause-can c =
     let s = c.args.graph.now in let b = c.args.budget.now in let start = c.in_ok-forward.forward in let outputs = c.deref.result.now in
     let begin : IsBegun s b start outputs =
-    begun s b start outputs c.in_ok-outputs.outputs.items c.in_ok-forward.ensures.ok c.in_ok-forward.ensures.keeps c.deref.ensures.value c.in_ok-outputs.ensures in
+    begun s b start outputs c.in_ok-outputs.outputs.items c.in_ok-forward.ensures.ok c.in_ok-forward.ensures.keeps
+    c.deref.ensures.value c.in_ok-outputs.ensures in
     begun_can s b start outputs begin
 
 pub returns-in_err-forward-2-clause-refused : goal.returns-in_err-forward-2-clause-refused
 returns-in_err-forward-2-clause-refused c =
     let s = c.args.graph.now in let b = c.args.budget.now in let start = c.in_ok-forward.forward in let outputs = c.deref.result.now in
     let begin : IsBegun s b start outputs =
-    begun s b start outputs c.in_ok-outputs.outputs.items c.in_ok-forward.ensures.ok c.in_ok-forward.ensures.keeps c.deref.ensures.value c.in_ok-outputs.ensures in
+    begun s b start outputs c.in_ok-outputs.outputs.items c.in_ok-forward.ensures.ok c.in_ok-forward.ensures.keeps
+    c.deref.ensures.value c.in_ok-outputs.ensures in
     let p = err_from_is_err_and c.from_residual-in_err-forward-2.result c.from_residual-in_err-forward-2.ensures.1 in
     rw (p.1, p.2) (rise_refused s b c.args.block start outputs c.requires begin c.in_err-forward-2.field-0.0 c.in_err-forward-2.ensures.refused)
 
@@ -33,7 +36,8 @@ pub returns-clause-narrow : goal.returns-clause-narrow
 returns-clause-narrow c =
     let s = c.args.graph.now in let b = c.args.budget.now in let start = c.in_ok-forward.forward in let outputs = c.deref.result.now in
     let begin : IsBegun s b start outputs =
-    begun s b start outputs c.in_ok-outputs.outputs.items c.in_ok-forward.ensures.ok c.in_ok-forward.ensures.keeps c.deref.ensures.value c.in_ok-outputs.ensures in
+    begun s b start outputs c.in_ok-outputs.outputs.items c.in_ok-forward.ensures.ok c.in_ok-forward.ensures.keeps
+    c.deref.ensures.value c.in_ok-outputs.ensures in
     let f = c.in_ok-forward-2.forward in
     IfOk-weaker c.finish.result (λ (p : PlannedView). p ≡ planned_of f) (λ (p : PlannedView). AreNarrow p.circuit.gates)
     (λ planned e. subst (λ (p : PlannedView). AreNarrow p.circuit.gates) (sym e)
@@ -43,7 +47,8 @@ pub returns-clause-few : goal.returns-clause-few
 returns-clause-few c =
     let s = c.args.graph.now in let b = c.args.budget.now in let start = c.in_ok-forward.forward in let outputs = c.deref.result.now in
     let begin : IsBegun s b start outputs =
-    begun s b start outputs c.in_ok-outputs.outputs.items c.in_ok-forward.ensures.ok c.in_ok-forward.ensures.keeps c.deref.ensures.value c.in_ok-outputs.ensures in
+    begun s b start outputs c.in_ok-outputs.outputs.items c.in_ok-forward.ensures.ok c.in_ok-forward.ensures.keeps
+    c.deref.ensures.value c.in_ok-outputs.ensures in
     let f = c.in_ok-forward-2.forward in
     IfOk-weaker c.finish.result (λ (p : PlannedView). p ≡ planned_of f) (IsWithinBlock s c.args.block)
     (λ planned e. subst (IsWithinBlock s c.args.block) (sym e)
@@ -53,6 +58,7 @@ pub returns-clause-refused : goal.returns-clause-refused
 returns-clause-refused c =
     let s = c.args.graph.now in let b = c.args.budget.now in let start = c.in_ok-forward.forward in let outputs = c.deref.result.now in
     let begin : IsBegun s b start outputs =
-    begun s b start outputs c.in_ok-outputs.outputs.items c.in_ok-forward.ensures.ok c.in_ok-forward.ensures.keeps c.deref.ensures.value c.in_ok-outputs.ensures in
+    begun s b start outputs c.in_ok-outputs.outputs.items c.in_ok-forward.ensures.ok c.in_ok-forward.ensures.keeps
+    c.deref.ensures.value c.in_ok-outputs.ensures in
     IfErr-weaker c.finish.result (IsFinishFault c.in_ok-forward-2.forward) (IsPebblingFault s c.args.block b)
     (finish_refused s b c.args.block start outputs c.requires begin c.in_ok-forward-2.forward c.in_ok-forward-2.ensures.risen) c.finish.ensures.refused
