@@ -26,7 +26,8 @@ loop-gate-init c = record {
 pub loop-gate-preserved : goal.loop-gate-preserved
 loop-gate-preserved c = record {
   first = lanes_more _ _ _ c.args.first.now c.loop-gate.first _ c.loop-gate-test.true c.gate-item.is c.loop-gate.invariant.first c.run_gate.ensures;
-  second = lanes_more _ _ _ c.args.second.now c.loop-gate.second _ c.loop-gate-test.true c.gate-item.is c.loop-gate.invariant.second c.run_gate-in-loop-gate.ensures;
+  second = lanes_more _ _ _ c.args.second.now c.loop-gate.second _ c.loop-gate-test.true c.gate-item.is
+      c.loop-gate.invariant.second c.run_gate-in-loop-gate.ensures;
 }
 
 pub returns-clause-first : goal.returns-clause-first
