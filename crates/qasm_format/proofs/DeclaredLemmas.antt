@@ -16,7 +16,8 @@ use Rattle.qasm_format.specs.declared.words.Kind.{Kind}
 use Rattle.qasm_format.specs.declared.words.Kind.TheVariants.{Qubits, Bits}
 use Rattle.qasm_format.specs.Registers.{IsLaid, lines_of_all}
 use Rattle.qasm_format.specs.Stages.{HasRoom, kind_registers}
-use Rattle.qasm_format.specs.inside.Names.{has_word, registers_in, AreLaid, IsText, AreDeclared, DeclaredView}
+use Rattle.qasm_format.specs.inside.Names.{registers_in, AreLaid, AreDeclared, DeclaredView}
+use Rattle.format_parts.specs.Names.{has_word, IsText}
 use Rattle.qasm_format.proofs.ReadingLemmas.{other_word, same_word}
 use Rattle.qasm_format.proofs.RegisterLemmas.{lines_of_all-append}
 
@@ -308,22 +309,6 @@ pushed kind known names new_names spans new_spans view name lines size same h se
       seen = view_names
           ∙ ap (λ (rs : List Register). record { names = view.names ++ name ∷ []; registers = rs }) registers;
     })
-
-or_right : (a b : Bool) → b ≡ true → (a || b) ≡ true
-or_right true b e = refl
-or_right false b e = e
-
-any_at : (p : List ℕ → Bool) (xs : List (List ℕ)) (i : ℕ) → i < length xs → p (get_or xs i []) ≡ true → list_any p xs ≡ true
-any_at p [] i inside e = absurd (omega arith)
-any_at p (x ∷ xs) zero inside e = ap (λ (t : Bool). t || list_any p xs) e
-any_at p (x ∷ xs) (suc i) inside e = or_right (p x) (list_any p xs) (any_at p xs i (omega arith) e)
-
-pub position_is_some : (p : List ℕ → Bool) (xs : List (List ℕ)) → is_some (position p xs) ≡ list_any p xs
-position_is_some p xs = by (position p xs) refl
-  where
-    by : (o : Option ℕ) → position p xs ≡ o → is_some o ≡ list_any p xs
-    by None e = sym (position_none p xs e)
-    by (Some i) e = let at = position-Some p xs i [] e in sym (any_at p xs i at.0 at.1)
 
 -- ---- copies
 

@@ -1,6 +1,5 @@
 pub mod PassingLemmas
 pub mod ReadingLemmas
-pub mod NamesLemmas
 pub mod StageLemmas
 pub mod ArgumentLemmas
 pub mod SpreadLemmas

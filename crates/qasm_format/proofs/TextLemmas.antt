@@ -7,7 +7,9 @@ use Rattle.std.proofs.lemmas.List.Concat.{flat_map-append}
 use Rattle.std.proofs.lemmas.List.Folds.{concat-append}
 use Rattle.mct_circuit.specs.declared.gate.Control.{Control}
 use Rattle.mct_circuit.specs.declared.gate.Op.TheVariants.{Flip}
-use Rattle.mct_circuit.specs.Gates.{GateView, lines_of, targets_of}
+use Rattle.mct_circuit.specs.Gates.{GateView, AreNarrow, lines_of, targets_of}
+use Rattle.format_parts.specs.Flips.{controls_text, flip_text, gates_text}
+use Rattle.format_parts.proofs.FlipLemmas.{gates_are_lines}
 use Rattle.gate_split.specs.declared.roles.Roles.{Roles}
 use Rattle.gate_split.specs.declared.roles.Role.{Role}
 use Rattle.gate_split.specs.declared.roles.Role.TheVariants.{Input, Output, Work, Borrowed}
@@ -19,7 +21,7 @@ use Rattle.qasm_format.specs.Converted.{kept_lines, added_register, converted_re
 use Rattle.qasm_format.specs.declared.naming.Naming.{Naming}
 use Rattle.qasm_format.specs.declared.naming.Naming.TheVariants.{ByRole, ByNumber}
 use Rattle.qasm_format.specs.inside.Naming.{registers_by, place_by}
-use Rattle.qasm_format.specs.inside.Parts.{place_text, argument_text, declaration_text, register_text, role_registers_text, added_text, numbered_registers_text, head_text, header_text, controls_text, flip_text, gates_text}
+use Rattle.qasm_format.specs.inside.Parts.{place_text, argument_text, declaration_text, register_text, role_registers_text, added_text, numbered_registers_text, head_text, header_text, flip_texts}
 use Rattle.qasm_format.proofs.RoleLemmas.{one_register}
 
 -- ---- places
@@ -73,6 +75,43 @@ registers_text_is roles =
     ∙ in_pairs _ _ _ _ _ _ _ _ (register_text_is Input roles.inputs) (register_text_is Output roles.outputs) (register_text_is Work roles.work)
     (register_text_is Borrowed roles.borrowed)
 
+-- ---- a gate
+
+more_arguments : (a b : Argument) (bs : List Argument)
+    → concat (parted (a ∷ b ∷ bs)) ≡ (concat (argument_words a) ++ codes ",") ++ concat (parted (b ∷ bs))
+more_arguments a b bs =
+    concat-append (argument_words a) (codes "," ∷ parted (b ∷ bs)) ∙ sym (append_assoc (concat (argument_words a)) (codes ",") (concat (parted (b ∷ bs))))
+
+arguments_text : (place : ℕ → Argument) (controls : List Control) (target : ℕ)
+    → concat (parted (map place (map (λ (control : Control). control.line) controls ++ target ∷ [])))
+    ≡ controls_text (flip_texts place) controls ++ argument_text (place target)
+arguments_text place [] target = refl
+arguments_text place (c ∷ []) target =
+    more_arguments (place c.line) (place target) []
+    ∙ ap (λ (t : List ℕ). t ++ argument_text (place target)) (sym (append-nil (argument_text (place c.line) ++ codes ",")))
+arguments_text place (c ∷ d ∷ cs) target =
+    let rest = map place (map (λ (control : Control). control.line) cs ++ target ∷ []) in
+    more_arguments (place c.line) (place d.line) rest
+    ∙ ap (λ (t : List ℕ). (argument_text (place c.line) ++ codes ",") ++ t) (arguments_text place (d ∷ cs) target)
+    ∙ sym (append_assoc (argument_text (place c.line) ++ codes ",") (controls_text (flip_texts place) (d ∷ cs)) (argument_text (place target)))
+
+gate_parts : (word space controls target end feed : List ℕ)
+    → (word ++ space) ++ (controls ++ (target ++ (end ++ feed))) ≡ word ++ (space ++ (((controls ++ target) ++ end) ++ feed))
+gate_parts word space controls target end feed = simp append_assoc
+
+flip_text_is : (place : ℕ → Argument) (gate : GateView) (target : ℕ) → gate.op ≡ Flip target
+    → flip_text (flip_texts place) gate.controls target ≡ line_text (words_of (gate_statement place gate))
+flip_text_is place gate target e =
+    let lines : lines_of gate ≡ map (λ (control : Control). control.line) gate.controls ++ target ∷ [] =
+    ap (λ op. map (λ (control : Control). control.line) gate.controls ++ targets_of op) e in
+    let arguments : concat (parted (map place (lines_of gate)) ++ codes ";" ∷ []) ≡
+    (controls_text (flip_texts place) gate.controls ++ argument_text (place target)) ++ codes ";" =
+    concat-append (parted (map place (lines_of gate))) (codes ";" ∷ [])
+    ∙ ap (λ ls. concat (parted (map place ls)) ++ codes ";") lines
+    ∙ ap (λ (t : List ℕ). t ++ codes ";") (arguments_text place gate.controls target) in
+    gate_parts (gate_word (length gate.controls)) (codes " ") (controls_text (flip_texts place) gate.controls) (argument_text (place target)) (codes ";") (codes "\n")
+    ∙ ap (λ (t : List ℕ). gate_word (length gate.controls) ++ (codes " " ++ (t ++ codes "\n"))) (sym arguments)
+
 -- ---- registers and gates
 
 words_mapped : {X : Type 0} (f : X → Statement) (xs : List X) → map words_of (map f xs) ≡ map (λ x. words_of (f x)) xs
@@ -81,19 +120,21 @@ words_mapped f (x ∷ xs) = ap (λ rest. words_of (f x) ∷ rest) (words_mapped 
 
 -- the registers and the gates, behind the include
 body_is : (registers : List Register) (place : ℕ → Argument) (gates : List GateView)
-    → flat_map line_text (map words_of (map declaration registers ++ map (gate_statement place) gates))
-    ≡ flat_map line_text (map words_declared registers) ++ gates_text place gates
-body_is registers place gates =
+    → AreNarrow gates → flat_map line_text (map words_of (map declaration registers ++ map (gate_statement place) gates))
+    ≡ flat_map line_text (map words_declared registers) ++ gates_text (flip_texts place) gates
+body_is registers place gates narrow =
     ap (flat_map line_text) (map-append words_of (map declaration registers) (map (gate_statement place) gates)
     ∙ ap (λ ls. ls ++ map words_of (map (gate_statement place) gates)) (words_mapped declaration registers)
     ∙ ap (λ ls. map words_declared registers ++ ls) (words_mapped (gate_statement place) gates))
     ∙ flat_map-append line_text (map words_declared registers) (map (λ gate. words_of (gate_statement place gate)) gates)
+    ∙ ap (λ (t : List ℕ). flat_map line_text (map words_declared registers) ++ t)
+    (sym (gates_are_lines (flip_texts place) line_text (λ gate. words_of (gate_statement place gate)) (flip_text_is place) gates narrow))
 
-file_text_is : (registers : List Register) (place : ℕ → Argument) (gates : List GateView) (text : List ℕ)
-    → flat_map line_text (map words_declared registers) ≡ text → (head_text ++ text) ++ gates_text place gates ≡ file_text registers place gates
-file_text_is registers place gates text e =
-    append_assoc head_text text (gates_text place gates)
-    ∙ sym (ap (λ (t : List ℕ). head_text ++ t) (body_is registers place gates ∙ ap (λ (t : List ℕ). t ++ gates_text place gates) e))
+file_text_is : (registers : List Register) (place : ℕ → Argument) (gates : List GateView) (text : List ℕ) → AreNarrow gates
+    → flat_map line_text (map words_declared registers) ≡ text → (head_text ++ text) ++ gates_text (flip_texts place) gates ≡ file_text registers place gates
+file_text_is registers place gates text narrow e =
+    append_assoc head_text text (gates_text (flip_texts place) gates)
+    ∙ sym (ap (λ (t : List ℕ). head_text ++ t) (body_is registers place gates narrow ∙ ap (λ (t : List ℕ). t ++ gates_text (flip_texts place) gates) e))
 
 -- ---- numbered lines
 
@@ -109,53 +150,10 @@ numbered_registers_text_is count added =
 
 -- ---- the whole text
 
-pub text_is : (naming : Naming) (gates : List GateView)
-    → header_text naming ++ gates_text (place_by naming) gates ≡ file_text (registers_by naming) (place_by naming) gates
-text_is (ByRole roles) gates =
-    file_text_is (registers_of roles) (argument_of roles) gates (role_registers_text roles) (registers_text_is roles)
-text_is (ByNumber count added) gates =
-    file_text_is (converted_registers count added) (converted_place count added) gates (numbered_registers_text count added)
+pub text_is : (naming : Naming) (gates : List GateView) → AreNarrow gates
+    → header_text naming ++ gates_text (flip_texts (place_by naming)) gates ≡ file_text (registers_by naming) (place_by naming) gates
+text_is (ByRole roles) gates narrow =
+    file_text_is (registers_of roles) (argument_of roles) gates (role_registers_text roles) narrow (registers_text_is roles)
+text_is (ByNumber count added) gates narrow =
+    file_text_is (converted_registers count added) (converted_place count added) gates (numbered_registers_text count added) narrow
     (numbered_registers_text_is count added)
-
--- ---- a gate
-
-more_arguments : (a b : Argument) (bs : List Argument)
-    → concat (parted (a ∷ b ∷ bs)) ≡ (concat (argument_words a) ++ codes ",") ++ concat (parted (b ∷ bs))
-more_arguments a b bs =
-    concat-append (argument_words a) (codes "," ∷ parted (b ∷ bs)) ∙ sym (append_assoc (concat (argument_words a)) (codes ",") (concat (parted (b ∷ bs))))
-
-arguments_text : (place : ℕ → Argument) (controls : List Control) (target : ℕ)
-    → concat (parted (map place (map (λ (control : Control). control.line) controls ++ target ∷ [])))
-    ≡ controls_text place controls ++ argument_text (place target)
-arguments_text place [] target = refl
-arguments_text place (c ∷ []) target =
-    more_arguments (place c.line) (place target) []
-    ∙ ap (λ (t : List ℕ). t ++ argument_text (place target)) (sym (append-nil (argument_text (place c.line) ++ codes ",")))
-arguments_text place (c ∷ d ∷ cs) target =
-    let rest = map place (map (λ (control : Control). control.line) cs ++ target ∷ []) in
-    more_arguments (place c.line) (place d.line) rest
-    ∙ ap (λ (t : List ℕ). (argument_text (place c.line) ++ codes ",") ++ t) (arguments_text place (d ∷ cs) target)
-    ∙ sym (append_assoc (argument_text (place c.line) ++ codes ",") (controls_text place (d ∷ cs)) (argument_text (place target)))
-
-gate_parts : (word space controls target end feed : List ℕ)
-    → (word ++ space) ++ (controls ++ (target ++ (end ++ feed))) ≡ word ++ (space ++ (((controls ++ target) ++ end) ++ feed))
-gate_parts word space controls target end feed = simp append_assoc
-
-pub flip_text_is : (place : ℕ → Argument) (gate : GateView) (target : ℕ) → gate.op ≡ Flip target
-    → flip_text place gate.controls target ≡ line_text (words_of (gate_statement place gate))
-flip_text_is place gate target e =
-    let lines : lines_of gate ≡ map (λ (control : Control). control.line) gate.controls ++ target ∷ [] =
-    ap (λ op. map (λ (control : Control). control.line) gate.controls ++ targets_of op) e in
-    let arguments : concat (parted (map place (lines_of gate)) ++ codes ";" ∷ []) ≡
-    (controls_text place gate.controls ++ argument_text (place target)) ++ codes ";" =
-    concat-append (parted (map place (lines_of gate))) (codes ";" ∷ [])
-    ∙ ap (λ ls. concat (parted (map place ls)) ++ codes ";") lines
-    ∙ ap (λ (t : List ℕ). t ++ codes ";") (arguments_text place gate.controls target) in
-    gate_parts (gate_word (length gate.controls)) (codes " ") (controls_text place gate.controls) (argument_text (place target)) (codes ";") (codes "\n")
-    ∙ ap (λ (t : List ℕ). gate_word (length gate.controls) ++ (codes " " ++ (t ++ codes "\n"))) (sym arguments)
-
-pub controls_in_range : (n : ℕ) (controls : List Control) (targets : List ℕ)
-    → AllByRecursion (λ line. line < n) (map (λ (control : Control). control.line) controls ++ targets)
-    → AllByRecursion (λ (control : Control). control.line < n) controls × AllByRecursion (λ line. line < n) targets
-controls_in_range n [] targets h = (tt, h)
-controls_in_range n (c ∷ cs) targets h = let rest = controls_in_range n cs targets h.1 in ((h.0, rest.0), rest.1)

@@ -1,12 +1,12 @@
 -- The file of a compiled circuit: its registers by the roles of its lines, and its text.
-use Rattle.std.specs.Prelude.{◌≡◌, ◌==◌, ℕ, ◌≤◌, if◌then◌else◌, List, [], ◌∷◌, ◌++◌, length, codes}
+use Rattle.std.specs.Prelude.{◌≡◌, ◌==◌, ℕ, if◌then◌else◌, List, [], ◌∷◌, ◌++◌, codes}
 use Rattle.std.specs.Fmt.{decimal}
-use Rattle.gate_split.specs.declared.plan.TheConstants.{MOST_LINES, MOST_GATES}
 use Rattle.gate_split.specs.declared.roles.Roles.{Roles}
 use Rattle.gate_split.specs.declared.roles.Role.{Role}
 use Rattle.gate_split.specs.declared.roles.Role.TheVariants.{Input, Output, Work, Borrowed}
-use Rattle.gate_split.specs.Plans.{lines_in, role_at, number_at}
-use Rattle.mct_circuit.specs.Gates.{GateView, AreGatesOn, AreNarrow}
+use Rattle.gate_split.specs.Plans.{role_at, number_at}
+use Rattle.mct_circuit.specs.Gates.{GateView}
+use Rattle.format_parts.specs.Compiled.{ForEachCompiled}
 use Rattle.qasm_format.specs.Statements.{Argument, one_of}
 use Rattle.qasm_format.specs.declared.file.Register.{Register}
 use Rattle.qasm_format.specs.Qasm.{QasmView, MeansFile}
@@ -55,6 +55,4 @@ pub record MeansCompiled (text : List ℕ) (roles : Roles) (gates : List GateVie
 
 abbrev pub CompiledHasMeaning : Type 0
 CompiledHasMeaning =
-    (roles : Roles) (gates : List GateView) → 1 ≤ lines_in roles → lines_in roles ≤ MOST_LINES
-    → length gates ≤ MOST_GATES → AreGatesOn (lines_in roles) gates → AreNarrow gates
-    → MeansCompiled (compiled_text roles gates) roles gates
+    ForEachCompiled (λ roles gates. MeansCompiled (compiled_text roles gates) roles gates)

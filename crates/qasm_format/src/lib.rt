@@ -15,6 +15,3 @@ pub use file::{QasmFault, QasmFile, Register};
 pub use law::{compiled_meaning, converted_meaning, meanings_are_files, one_reading};
 pub use reader::read;
 pub use writer::{write, write_lines};
-
-#[cfg(test)]
-mod tests;

@@ -1,74 +1,18 @@
 // What was declared: names, and the registers among them, laid one after another.
-ghost use Rattle.std.specs.Prelude.{◌≡◌, ℕ, ◌+◌, ◌<◌, ◌≤◌, [], ◌∷◌, ◌++◌, length, position, not, false, if◌then◌else◌, slice_get, None, Some, IfOk, IfSome, OnOk, OnErr};
-ghost use Rattle.std.specs.Str.{bytes_eq};
+ghost use Rattle.std.specs.Prelude.{◌≡◌, ℕ, ◌+◌, ◌≤◌, [], ◌∷◌, ◌++◌, false};
+ghost use Rattle.std.specs.Prelude.{None, IfOk, IfSome, OnOk, OnErr};
 ghost use Rattle.list_facts.specs.Lists.{IsAmong};
 ghost use Rattle.gate_split.specs.declared.plan.TheConstants.{MOST_LINES};
 ghost use Rattle.qasm_format.specs.Registers.{IsLaid, lines_of_all};
 ghost use Rattle.qasm_format.specs.Stages.{HasRoom, kind_registers};
-ghost use Rattle.qasm_format.specs.inside.Names.{has_word, IsText};
+ghost use Rattle.format_parts.specs.Names.{has_word, IsText};
 
 use crate::file::Register;
 use crate::words::Kind;
-use indexmap::IndexSet;
+use format_parts::Names;
 use revc_base::{Memory, Text};
 use std::alloc::Global;
 use std::marker::Model;
-
-// Different names, in their order, lent by the text. Contracts see their list.
-#[derive(Drop)]
-pub struct Names<'t> {
-    set: IndexSet<&'t [u8]>,
-}
-
-impl<'t> Model for Names<'t> {
-    ghost use Rattle.std.specs.Prelude.{ℕ, List};
-    ghost use Rattle.qasm_format.specs.inside.Names.{names_in};
-
-    ghost Value = { List (List ℕ) };
-
-    ghost view = { λ n. names_in n.set.keys };
-}
-
-impl<'t> Names<'t> {
-    pub fn new(alloc: Global) -> Names<'t>
-        ensures { result ≡ [] }
-    {
-        Names {
-            set: IndexSet::new(alloc),
-        }
-    }
-
-    // Puts a new name last, and says whether it is new. After want of memory the names are unchanged.
-    pub fn push(&mut self, name: &'t [u8]) -> Result<bool, Memory>
-        ensures added { IfOk result (λ added. added ≡ not (has_word self.old name.now)) }
-        ensures names { IfOk result (λ added. self.new
-            ≡ (if added then self.old ++ name.now ∷ [] else self.old)) }
-        ensures err { OnErr result (self.new ≡ self.old) }
-    {
-        Ok(self.set.insert(name)?)
-    }
-
-    pub fn has(&self, name: &[u8]) -> bool
-        ensures { result ≡ has_word self.now name.now }
-    {
-        self.place(name).is_some()
-    }
-
-    // The place of a name, from 0.
-    pub fn place(&self, name: &[u8]) -> Option<usize>
-        ensures { result ≡ position (bytes_eq name.now) self.now }
-    {
-        self.set.get_index_of(name)
-    }
-
-    // The name at a place.
-    pub fn at(&self, place: usize) -> &'t [u8]
-        requires { place < length self.now }
-        ensures { slice_get self.now place ≡ Some result.now }
-    {
-        self.set.as_slice()[place]
-    }
-}
 
 // Where a register stands: its first line and its size.
 #[derive(Clone, Copy, Debug, PartialEq, Eq)]

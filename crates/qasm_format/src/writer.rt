@@ -1,21 +1,26 @@
 // The writer of files. Each function puts one part of the text through the buffer.
 ghost use Rattle.std.specs.Prelude.{◌≡◌, ◌<◌, ◌≤◌, ◌++◌, true, length, codes};
-ghost use Rattle.std.specs.List.{AllByRecursion};
-ghost use Rattle.mct_circuit.specs.Gates.{AreNarrow, IsNarrow, lines_of};
+ghost use Rattle.mct_circuit.specs.Gates.{AreNarrow};
 ghost use Rattle.gate_split.specs.declared.plan.TheConstants.{MOST_LINES, MOST_GATES};
 ghost use Rattle.gate_split.specs.Plans.{roles_of};
 ghost use Rattle.revc_io.specs.Faults.{HasCause};
 ghost use Rattle.revc_io.specs.Passing.{Gathers, Writes};
-ghost use Rattle.qasm_format.specs.Statements.{words_of};
-ghost use Rattle.qasm_format.specs.Written.{gate_statement, line_text, file_text};
+ghost use Rattle.format_parts.specs.Flips.{gates_text};
+ghost use Rattle.qasm_format.specs.Written.{file_text};
 ghost use Rattle.qasm_format.specs.Compiled.{register_name, compiled_text, MeansCompiled};
 ghost use Rattle.qasm_format.specs.Converted.{converted_text, MeansConverted};
 ghost use Rattle.qasm_format.specs.inside.Naming.{count_of, registers_by, place_by};
-ghost use Rattle.qasm_format.specs.inside.Parts.{index_text, place_text, argument_text, declaration_text, register_text, first_registers_text, last_registers_text, role_registers_text, added_text, numbered_registers_text, header_text, word_text, controls_text, flip_text, gates_text};
+ghost use Rattle.qasm_format.specs.inside.Parts.{index_text, place_text, argument_text};
+ghost use Rattle.qasm_format.specs.inside.Parts.{declaration_text, register_text};
+ghost use Rattle.qasm_format.specs.inside.Parts.{first_registers_text, last_registers_text};
+ghost use Rattle.qasm_format.specs.inside.Parts.{role_registers_text, added_text};
+ghost use Rattle.qasm_format.specs.inside.Parts.{numbered_registers_text, header_text, word_text};
+ghost use Rattle.qasm_format.specs.inside.Parts.{flip_texts};
 
 use crate::naming::{Naming, kept_lines, register_name};
+use format_parts::{FlipWriter, put_gates};
 use gate_split::{Laid, Narrow, Role, Roles};
-use mct_circuit::{Circuit, Control, Gate, Op};
+use mct_circuit::Circuit;
 use revc_io::{Buffer, Failed, Sink, put_decimal};
 
 /// Writes the file of a compiled circuit in OpenQASM 2.0: its lines are those of the registers `inp`, `outp`, `work`
@@ -81,7 +86,7 @@ fn put_text<K: Sink>(
     requires few { circuit.now.lines ≤ MOST_LINES }
     requires narrow { AreNarrow circuit.now.gates }
     ensures bytes { Gathers result (K.held out.old) (K.held out.new) buffer.old buffer.new
-        (header_text naming ++ gates_text (place_by naming) circuit.now.gates) }
+        (header_text naming ++ gates_text (flip_texts (place_by naming)) circuit.now.gates) }
     ensures cause { HasCause (K.faults out.old) (K.faults out.new) result }
 {
     put_header(buffer, out, naming)?;
@@ -238,66 +243,43 @@ fn put_argument<K: Sink>(
 
 // ---- the gates
 
-fn put_gates<K: Sink>(
-    buffer: &mut Buffer,
-    out: &mut K,
-    circuit: &Circuit,
-    naming: Naming,
-) -> Result<(), Failed>
-    requires fits { count_of naming ≡ circuit.now.lines }
-    requires few { circuit.now.lines ≤ MOST_LINES }
-    requires narrow { AreNarrow circuit.now.gates }
-    ensures bytes { Gathers result (K.held out.old) (K.held out.new) buffer.old buffer.new
-        (gates_text (place_by naming) circuit.now.gates) }
-    ensures cause { HasCause (K.faults out.old) (K.faults out.new) result }
-{
-    // This call says that the gates are on the circuit's lines.
-    let _ = circuit.lines();
-    for i in 0..circuit.len() {
-        put_gate(buffer, out, circuit.gate(i), naming)?;
+// A gate is its word, then the places of its lines, the target's last.
+impl FlipWriter for Naming {
+    ghost use Rattle.qasm_format.specs.inside.Naming.{count_of, place_by};
+    ghost use Rattle.qasm_format.specs.inside.Parts.{flip_texts};
+
+    ghost count = { count_of };
+
+    ghost texts = { λ naming. flip_texts (place_by naming) };
+
+    fn put_word<K: Sink>(
+        self,
+        buffer: &mut Buffer,
+        out: &mut K,
+        controls: usize,
+    ) -> Result<(), Failed> {
+        buffer.put(out, gate_word(controls))
     }
-    Ok(())
-}
 
-// The gate's word, then the places of its lines, the target's last.
-fn put_gate<K: Sink>(
-    buffer: &mut Buffer,
-    out: &mut K,
-    gate: &Gate,
-    naming: Naming,
-) -> Result<(), Failed>
-    requires few { count_of naming ≤ MOST_LINES }
-    requires narrow { IsNarrow gate.now }
-    requires in_range { AllByRecursion (λ line. line < count_of naming) (lines_of gate.now) }
-    ensures bytes { Gathers result (K.held out.old) (K.held out.new) buffer.old buffer.new
-        (line_text (words_of (gate_statement (place_by naming) gate.now))) }
-    ensures cause { HasCause (K.faults out.old) (K.faults out.new) result }
-{
-    let Op::Flip(target) = gate.op() else {
-        unreachable!()
-    };
-    put_flip(buffer, out, gate.controls(), target, naming)
-}
+    fn put_control<K: Sink>(
+        self,
+        buffer: &mut Buffer,
+        out: &mut K,
+        line: u32,
+    ) -> Result<(), Failed> {
+        put_argument(buffer, out, self, line)?;
+        buffer.put(out, b",")
+    }
 
-fn put_flip<K: Sink>(
-    buffer: &mut Buffer,
-    out: &mut K,
-    controls: &[Control],
-    target: u32,
-    naming: Naming,
-) -> Result<(), Failed>
-    requires few { count_of naming ≤ MOST_LINES }
-    requires short { length controls.now ≤ 2 }
-    requires controls_in_range { AllByRecursion
-        (λ control. control.line < count_of naming) controls.now }
-    requires target_in_range { target < count_of naming }
-    ensures bytes { Gathers result (K.held out.old) (K.held out.new) buffer.old buffer.new
-        (flip_text (place_by naming) controls.now target) }
-    ensures cause { HasCause (K.faults out.old) (K.faults out.new) result }
-{
-    buffer.put(out, gate_word(controls.len()))?;
-    put_controls(buffer, out, controls, naming)?;
-    put_target(buffer, out, naming, target)
+    fn put_target<K: Sink>(
+        self,
+        buffer: &mut Buffer,
+        out: &mut K,
+        line: u32,
+    ) -> Result<(), Failed> {
+        put_argument(buffer, out, self, line)?;
+        buffer.put(out, b";\n")
+    }
 }
 
 // The word of a gate with so many controls, and a space.
@@ -310,54 +292,4 @@ fn gate_word(controls: usize) -> &'static [u8]
         1 => b"cx ",
         _ => b"ccx ",
     }
-}
-
-fn put_controls<K: Sink>(
-    buffer: &mut Buffer,
-    out: &mut K,
-    controls: &[Control],
-    naming: Naming,
-) -> Result<(), Failed>
-    requires few { count_of naming ≤ MOST_LINES }
-    requires in_range { AllByRecursion (λ control. control.line < count_of naming) controls.now }
-    ensures bytes { Gathers result (K.held out.old) (K.held out.new) buffer.old buffer.new
-        (controls_text (place_by naming) controls.now) }
-    ensures cause { HasCause (K.faults out.old) (K.faults out.new) result }
-{
-    for control in controls {
-        put_control(buffer, out, naming, control.line)?;
-    }
-    Ok(())
-}
-
-fn put_control<K: Sink>(
-    buffer: &mut Buffer,
-    out: &mut K,
-    naming: Naming,
-    line: u32,
-) -> Result<(), Failed>
-    requires few { count_of naming ≤ MOST_LINES }
-    requires in_range { line < count_of naming }
-    ensures bytes { Gathers result (K.held out.old) (K.held out.new) buffer.old buffer.new
-        (argument_text (place_by naming line) ++ codes ",") }
-    ensures cause { HasCause (K.faults out.old) (K.faults out.new) result }
-{
-    put_argument(buffer, out, naming, line)?;
-    buffer.put(out, b",")
-}
-
-fn put_target<K: Sink>(
-    buffer: &mut Buffer,
-    out: &mut K,
-    naming: Naming,
-    target: u32,
-) -> Result<(), Failed>
-    requires few { count_of naming ≤ MOST_LINES }
-    requires in_range { target < count_of naming }
-    ensures bytes { Gathers result (K.held out.old) (K.held out.new) buffer.old buffer.new
-        (argument_text (place_by naming target) ++ codes ";\n") }
-    ensures cause { HasCause (K.faults out.old) (K.faults out.new) result }
-{
-    put_argument(buffer, out, naming, target)?;
-    buffer.put(out, b";\n")
 }

@@ -14,7 +14,8 @@ use Rattle.list_facts.specs.Lists.{AreApart}
 use Rattle.list_facts.proofs.AllLemmas.{AllByRecursion-append, AllByRecursion-left, AllByRecursion-right}
 use Rattle.real_format.specs.declared.refusal.Refusal.TheVariants.{Form, Limit}
 use Rattle.real_format.specs.Header.{IsNumber, IsName, IsBarred}
-use Rattle.real_format.specs.inside.Reading.{single, is_nil, number_of, begins_name, is_long, has_word, counted, count_of, more_names, names_from}
+use Rattle.real_format.specs.inside.Reading.{single, is_nil, number_of, begins_name, is_long, counted, count_of, more_names, names_from}
+use Rattle.format_parts.specs.Names.{has_word}
 use Rattle.real_format.proofs.InversionLemmas.{else_ok, then_ok, and_ok, or_ok, same_ok, else_limit, limit_else, then_limit, and_limit, ok_no_limit}
 use Rattle.real_format.proofs.NumberLemmas.{AllDigits-from_test, test-from_AllDigits}
 

@@ -1,14 +1,14 @@
 -- The file of a compiled circuit: its names and marks by the roles of its lines, and its text.
-use Rattle.std.specs.Prelude.{◌≡◌, ℕ, ◌+◌, ◌≤◌, false, List, ◌∷◌, ◌++◌, length, replicate}
+use Rattle.std.specs.Prelude.{◌≡◌, ℕ, ◌+◌, false, List, ◌∷◌, ◌++◌, replicate}
 use Rattle.std.specs.Fmt.{decimal}
 use Rattle.real_format.specs.declared.file.Mark.{Mark}
 use Rattle.real_format.specs.declared.file.Mark.TheVariants.{Free, Zero}
-use Rattle.gate_split.specs.declared.plan.TheConstants.{MOST_LINES, MOST_GATES}
 use Rattle.gate_split.specs.declared.roles.Roles.{Roles}
 use Rattle.gate_split.specs.declared.roles.Role.{Role}
 use Rattle.gate_split.specs.declared.roles.Role.TheVariants.{Input, Output, Work, Borrowed}
 use Rattle.gate_split.specs.Plans.{lines_in, role_at, number_at}
-use Rattle.mct_circuit.specs.Gates.{GateView, AreGatesOn, AreNarrow}
+use Rattle.mct_circuit.specs.Gates.{GateView}
+use Rattle.format_parts.specs.Compiled.{ForEachCompiled}
 use Rattle.real_format.specs.Real.{RealView, RealMeaning}
 use Rattle.real_format.specs.Written.{names_by, file_text}
 
@@ -59,6 +59,4 @@ pub record MeansCompiled (text : List ℕ) (roles : Roles) (gates : List GateVie
 
 abbrev pub CompiledHasMeaning : Type 0
 CompiledHasMeaning =
-    (roles : Roles) (gates : List GateView) → 1 ≤ lines_in roles → lines_in roles ≤ MOST_LINES
-    → length gates ≤ MOST_GATES → AreGatesOn (lines_in roles) gates → AreNarrow gates
-    → MeansCompiled (compiled_text roles gates) roles gates
+    ForEachCompiled (λ roles gates. MeansCompiled (compiled_text roles gates) roles gates)

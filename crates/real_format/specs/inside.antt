@@ -2,7 +2,6 @@
 pub mod Parts
 pub mod Reading
 pub mod Lines
-pub mod Names
 pub mod Labels
 pub mod Stamps
 pub mod Steps

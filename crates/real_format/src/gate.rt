@@ -5,9 +5,9 @@ ghost use Rattle.mct_circuit.specs.Gates.{IsGateOn};
 ghost use Rattle.real_format.specs.inside.Reading.{Refuses, alone, has_sign, targets_in, shape_of, line_of, control_of, controls_from, op_of, gate_of, lines_of_controls};
 ghost use Rattle.real_format.specs.inside.Stamps.{is_stamped, AreStamped};
 
-use crate::names::Names;
 use crate::refusal::Refusal;
 use crate::words::{Words, number};
+use format_parts::Names;
 use gate_split::MOST_LINES;
 use mct_circuit::{Control, Gate, Op};
 use revc_base::limits::MOST_NAME_BYTES;

@@ -7,9 +7,9 @@ ghost use Rattle.real_format.specs.inside.Reading.{Refuses, header_line, file_of
 ghost use Rattle.real_format.specs.inside.Steps.{HeaderSays, BeginsAs};
 
 use crate::file::{Mark, RealFault};
-use crate::names::Names;
 use crate::refusal::Refusal;
 use crate::words::{Words, number};
+use format_parts::Names;
 use gate_split::MOST_LINES;
 use revc_base::limits::MOST_NAME_BYTES;
 use std::alloc::Global;

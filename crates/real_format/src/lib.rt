@@ -6,7 +6,6 @@ mod gate;
 mod header;
 mod labels;
 mod law;
-mod names;
 mod reader;
 mod refusal;
 mod words;
@@ -19,6 +18,3 @@ pub use law::{
 };
 pub use reader::read;
 pub use writer::{write, write_lines};
-
-#[cfg(test)]
-mod tests;

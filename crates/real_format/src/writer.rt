@@ -1,23 +1,26 @@
 // The writer of files. Each function puts one part of the text through the buffer.
 ghost use Rattle.std.specs.Prelude.{◌≡◌, ◌<◌, ◌≤◌, ◌+◌, ◌∷◌, [], ◌++◌, length, codes};
-ghost use Rattle.std.specs.List.{flat_map, AllByRecursion};
+ghost use Rattle.std.specs.List.{flat_map};
 ghost use Rattle.std.specs.Fmt.{decimal};
-ghost use Rattle.mct_circuit.specs.Gates.{AreNarrow, IsNarrow, lines_of};
+ghost use Rattle.mct_circuit.specs.Gates.{AreNarrow};
 ghost use Rattle.gate_split.specs.declared.plan.TheConstants.{MOST_LINES, MOST_GATES};
 ghost use Rattle.gate_split.specs.Plans.{roles_of};
 ghost use Rattle.revc_io.specs.Faults.{HasCause};
 ghost use Rattle.revc_io.specs.Passing.{Gathers, Writes};
-ghost use Rattle.real_format.specs.Written.{line_text, gate_words, file_text};
+ghost use Rattle.real_format.specs.Written.{line_text, file_text};
 ghost use Rattle.real_format.specs.Compiled.{compiled_text, MeansCompiled};
 ghost use Rattle.real_format.specs.Converted.{converted_text, MeansConverted};
 ghost use Rattle.real_format.specs.declared.labels.Kind.TheVariants.{Constants, Garbage};
-ghost use Rattle.real_format.specs.inside.Labels.{count_of, name_by, all_names, constants_by, garbage_by, mark_bytes};
-ghost use Rattle.real_format.specs.inside.Parts.{size_text, names_text, front_text, mark_line_text, marks_text, flip_text, gates_text, rest_text};
+ghost use Rattle.real_format.specs.inside.Labels.{count_of, name_by, all_names};
+ghost use Rattle.real_format.specs.inside.Labels.{constants_by, garbage_by, mark_bytes};
+ghost use Rattle.real_format.specs.inside.Parts.{size_text, names_text, front_text};
+ghost use Rattle.real_format.specs.inside.Parts.{mark_line_text, marks_text, rest_text};
 
 use crate::file::Mark;
 use crate::labels::{Kind, Labels};
+use format_parts::{FlipWriter, put_gates};
 use gate_split::{Laid, Narrow};
-use mct_circuit::{Circuit, Control, Gate, Op};
+use mct_circuit::Circuit;
 use revc_io::{Buffer, Failed, Sink, put_decimal};
 
 /// Writes the file of a compiled circuit, whose lines have the roles that the plan gives them. Where it fails, the
@@ -272,107 +275,41 @@ fn put_rest<K: Sink>(
     buffer.put(out, b".end\n")
 }
 
-fn put_gates<K: Sink>(
-    buffer: &mut Buffer,
-    out: &mut K,
-    circuit: &Circuit,
-    labels: Labels<'_>,
-) -> Result<(), Failed>
-    requires fits { count_of labels ≡ circuit.now.lines }
-    requires few { circuit.now.lines ≤ MOST_LINES }
-    requires narrow { AreNarrow circuit.now.gates }
-    ensures bytes { Gathers result (K.held out.old) (K.held out.new) buffer.old buffer.new
-        (gates_text (name_by labels.entry) circuit.now.gates) }
-    ensures cause { HasCause (K.faults out.old) (K.faults out.new) result }
-{
-    // This call says that the gates are on the circuit's lines.
-    let _ = circuit.lines();
-    for i in 0..circuit.len() {
-        put_gate(buffer, out, circuit.gate(i), labels)?;
+// A gate is `t` and the number of its lines, then their names, the target's last.
+impl FlipWriter for Labels<'_> {
+    ghost use Rattle.real_format.specs.inside.Labels.{count_of, name_by};
+    ghost use Rattle.real_format.specs.inside.Parts.{flip_texts};
+
+    ghost count = { count_of };
+
+    ghost texts = { λ labels. flip_texts (name_by labels) };
+
+    fn put_word<K: Sink>(
+        self,
+        buffer: &mut Buffer,
+        out: &mut K,
+        controls: usize,
+    ) -> Result<(), Failed> {
+        buffer.put(out, b"t")?;
+        put_decimal(buffer, out, controls as u64 + 1)
     }
-    Ok(())
-}
 
-// `t` and the number of the gate's lines, then their names, the target's last.
-fn put_gate<K: Sink>(
-    buffer: &mut Buffer,
-    out: &mut K,
-    gate: &Gate,
-    labels: Labels<'_>,
-) -> Result<(), Failed>
-    requires few { count_of labels ≤ MOST_LINES }
-    requires narrow { IsNarrow gate.now }
-    requires in_range { AllByRecursion (λ line. line < count_of labels) (lines_of gate.now) }
-    ensures bytes { Gathers result (K.held out.old) (K.held out.new) buffer.old buffer.new
-        (line_text (gate_words (name_by labels.entry) gate.now)) }
-    ensures cause { HasCause (K.faults out.old) (K.faults out.new) result }
-{
-    let Op::Flip(target) = gate.op() else {
-        unreachable!()
-    };
-    put_flip(buffer, out, gate.controls(), target, labels)
-}
-
-fn put_flip<K: Sink>(
-    buffer: &mut Buffer,
-    out: &mut K,
-    controls: &[Control],
-    target: u32,
-    labels: Labels<'_>,
-) -> Result<(), Failed>
-    requires few { count_of labels ≤ MOST_LINES }
-    requires short { length controls.now ≤ 2 }
-    requires controls_in_range { AllByRecursion
-        (λ control. control.line < count_of labels) controls.now }
-    requires target_in_range { target < count_of labels }
-    ensures bytes { Gathers result (K.held out.old) (K.held out.new) buffer.old buffer.new
-        (flip_text (name_by labels.entry) controls.now target) }
-    ensures cause { HasCause (K.faults out.old) (K.faults out.new) result }
-{
-    put_gate_word(buffer, out, controls.len() as u64 + 1)?;
-    put_controls(buffer, out, controls, labels)?;
-    put_target(buffer, out, labels, target)
-}
-
-fn put_gate_word<K: Sink>(buffer: &mut Buffer, out: &mut K, lines: u64) -> Result<(), Failed>
-    ensures bytes { Gathers result (K.held out.old) (K.held out.new) buffer.old buffer.new
-        (116 ∷ decimal lines) }
-    ensures cause { HasCause (K.faults out.old) (K.faults out.new) result }
-{
-    buffer.put(out, b"t")?;
-    put_decimal(buffer, out, lines)
-}
-
-fn put_controls<K: Sink>(
-    buffer: &mut Buffer,
-    out: &mut K,
-    controls: &[Control],
-    labels: Labels<'_>,
-) -> Result<(), Failed>
-    requires few { count_of labels ≤ MOST_LINES }
-    requires in_range { AllByRecursion (λ control. control.line < count_of labels) controls.now }
-    ensures bytes { Gathers result (K.held out.old) (K.held out.new) buffer.old buffer.new
-        (flat_map (λ control. 32 ∷ name_by labels.entry control.line) controls.now) }
-    ensures cause { HasCause (K.faults out.old) (K.faults out.new) result }
-{
-    for control in controls {
-        put_spaced_name(buffer, out, labels, control.line)?;
+    fn put_control<K: Sink>(
+        self,
+        buffer: &mut Buffer,
+        out: &mut K,
+        line: u32,
+    ) -> Result<(), Failed> {
+        put_spaced_name(buffer, out, self, line)
     }
-    Ok(())
-}
 
-fn put_target<K: Sink>(
-    buffer: &mut Buffer,
-    out: &mut K,
-    labels: Labels<'_>,
-    target: u32,
-) -> Result<(), Failed>
-    requires few { count_of labels ≤ MOST_LINES }
-    requires in_range { target < count_of labels }
-    ensures bytes { Gathers result (K.held out.old) (K.held out.new) buffer.old buffer.new
-        ((32 ∷ name_by labels.entry target) ++ codes "\n") }
-    ensures cause { HasCause (K.faults out.old) (K.faults out.new) result }
-{
-    put_spaced_name(buffer, out, labels, target)?;
-    buffer.put(out, b"\n")
+    fn put_target<K: Sink>(
+        self,
+        buffer: &mut Buffer,
+        out: &mut K,
+        line: u32,
+    ) -> Result<(), Failed> {
+        put_spaced_name(buffer, out, self, line)?;
+        buffer.put(out, b"\n")
+    }
 }

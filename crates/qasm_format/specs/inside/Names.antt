@@ -1,21 +1,12 @@
--- Names that a text lends, and the registers among them.
-use Rattle.std.specs.Prelude.{◌≡◌, ℕ, ◌+◌, ◌≤◌, Bool, List, [], ◌∷◌, length, map, Option, Some, None}
-use Rattle.std.specs.Borrow.{Bor}
-use Rattle.std.specs.List.{AllByRecursion, list_any}
-use Rattle.std.specs.Str.{bytes_eq}
+-- What was declared: names, and the registers among them.
+use Rattle.std.specs.Prelude.{◌≡◌, ℕ, ◌+◌, ◌≤◌, List, [], ◌∷◌, length, Option, Some, None}
+use Rattle.std.specs.List.{AllByRecursion}
 use Rattle.list_facts.specs.Lists.{AreApart}
 use Rattle.gate_split.specs.declared.plan.TheConstants.{MOST_LINES}
-use Rattle.revc_base.specs.declared.limits.TheConstants.{MOST_NAME_BYTES}
+use Rattle.format_parts.specs.Names.{IsText}
 use Rattle.qasm_format.specs.declared.file.Register.{Register}
 use Rattle.qasm_format.specs.declared.names.Span.{Span}
 use Rattle.qasm_format.specs.Registers.{lines_of_all}
-
--- the bytes of each
-abbrev pub names_in : List (Bor (List ℕ)) → List (List ℕ)
-names_in keys = map (λ (key : Bor (List ℕ)). key.now) keys
-
-abbrev pub has_word : List (List ℕ) → List ℕ → Bool
-has_word names word = list_any (bytes_eq word) names
 
 -- the registers of qubits among what was declared
 abbrev pub registers_in : List (List ℕ) → List (Option Span) → List Register
@@ -30,9 +21,6 @@ abbrev pub AreLaid : ℕ → List (Option Span) → Type 0
 AreLaid at [] = Unit {0}
 AreLaid at (None ∷ spans) = AreLaid at spans
 AreLaid at (Some span ∷ spans) = (span.first ≡ at) × AreLaid (at + span.size) spans
-
-abbrev pub IsText : List ℕ → Type 0
-IsText name = (1 ≤ length name) × (length name ≤ MOST_NAME_BYTES)
 
 -- what was declared: all names, and the registers of qubits
 pub record DeclaredView : Type 0 where

@@ -1,15 +1,14 @@
 -- The parts of a file's text, as its writer puts them one after another.
-use Rattle.std.specs.Prelude.{ℕ, ◌==◌, Bool, if◌then◌else◌, List, [], ◌∷◌, ◌++◌, length, map, codes}
-use Rattle.std.specs.List.{flat_map, concat}
+use Rattle.std.specs.Prelude.{ℕ, ◌==◌, Bool, if◌then◌else◌, List, [], ◌∷◌, ◌++◌, codes}
+use Rattle.std.specs.List.{concat}
 use Rattle.std.specs.Fmt.{decimal}
 use Rattle.gate_split.specs.declared.roles.Roles.{Roles}
 use Rattle.gate_split.specs.declared.roles.Role.TheVariants.{Input, Output, Work, Borrowed}
-use Rattle.mct_circuit.specs.declared.gate.Control.{Control}
-use Rattle.mct_circuit.specs.Gates.{GateView}
+use Rattle.format_parts.specs.Flips.{FlipTexts}
 use Rattle.qasm_format.specs.declared.naming.Naming.{Naming}
 use Rattle.qasm_format.specs.declared.naming.Naming.TheVariants.{ByRole, ByNumber}
-use Rattle.qasm_format.specs.Statements.{Argument, argument_words, words_of}
-use Rattle.qasm_format.specs.Written.{gate_word, gate_statement, line_text}
+use Rattle.qasm_format.specs.Statements.{Argument, argument_words}
+use Rattle.qasm_format.specs.Written.{gate_word}
 use Rattle.qasm_format.specs.Compiled.{register_name}
 use Rattle.qasm_format.specs.Converted.{kept_lines}
 
@@ -64,17 +63,10 @@ argument_text argument = concat (argument_words argument)
 abbrev pub word_text : ℕ → List ℕ
 word_text controls = gate_word controls ++ 32 ∷ []
 
-abbrev pub controls_text : (ℕ → Argument) → List Control → List ℕ
-controls_text place controls =
-    flat_map (λ (control : Control). argument_text (place control.line) ++ codes ",") controls
-
--- the line of a flip of `target` under these controls
-abbrev pub flip_text : (ℕ → Argument) → List Control → ℕ → List ℕ
-flip_text place controls target =
-    word_text (length controls)
-    ++ (controls_text place controls ++ (argument_text (place target) ++ codes ";\n"))
-
--- the lines of gates
-abbrev pub gates_text : (ℕ → Argument) → List GateView → List ℕ
-gates_text place gates =
-    flat_map line_text (map (λ gate. words_of (gate_statement place gate)) gates)
+-- the parts of a gate's line: its word and a space, and each place with what stands behind it
+abbrev pub flip_texts : (ℕ → Argument) → FlipTexts
+flip_texts place = record {
+  word = word_text;
+  control = λ line. argument_text (place line) ++ codes ",";
+  target = λ line. argument_text (place line) ++ codes ";\n";
+}

@@ -1,10 +1,9 @@
 -- The parts of a file's text, as its writer puts them one after another.
-use Rattle.std.specs.Prelude.{ℕ, ◌+◌, List, ◌∷◌, ◌++◌, length, map, codes}
-use Rattle.std.specs.List.{flat_map}
+use Rattle.std.specs.Prelude.{ℕ, ◌+◌, List, ◌∷◌, ◌++◌, codes}
 use Rattle.std.specs.Fmt.{decimal}
-use Rattle.mct_circuit.specs.declared.gate.Control.{Control}
 use Rattle.mct_circuit.specs.Gates.{GateView}
-use Rattle.real_format.specs.Written.{line_text, names_by, gate_words}
+use Rattle.format_parts.specs.Flips.{FlipTexts, gates_text}
+use Rattle.real_format.specs.Written.{line_text, names_by}
 
 abbrev pub size_text : ℕ → List ℕ
 size_text count = codes ".version 2.0\n.numvars " ++ (decimal count ++ codes "\n")
@@ -28,16 +27,14 @@ marks_text constants garbage =
     mark_line_text (codes ".constants ") constants
     ++ (mark_line_text (codes ".garbage ") garbage ++ codes ".begin\n")
 
--- the line of a flip of `target` under these controls
-abbrev pub flip_text : (ℕ → List ℕ) → List Control → ℕ → List ℕ
-flip_text name controls target =
-    (116 ∷ decimal (length controls + 1))
-    ++ (flat_map (λ (control : Control). 32 ∷ name control.line) controls
-    ++ ((32 ∷ name target) ++ codes "\n"))
-
-abbrev pub gates_text : (ℕ → List ℕ) → List GateView → List ℕ
-gates_text name gates = flat_map line_text (map (gate_words name) gates)
+-- the parts of a gate's line: `t` and the number of its lines, and each name behind a space
+abbrev pub flip_texts : (ℕ → List ℕ) → FlipTexts
+flip_texts name = record {
+  word = λ controls. 116 ∷ decimal (controls + 1);
+  control = λ line. 32 ∷ name line;
+  target = λ line. (32 ∷ name line) ++ codes "\n";
+}
 
 -- the part behind the marks
 abbrev pub rest_text : (ℕ → List ℕ) → List GateView → List ℕ
-rest_text name gates = gates_text name gates ++ codes ".end\n"
+rest_text name gates = gates_text (flip_texts name) gates ++ codes ".end\n"

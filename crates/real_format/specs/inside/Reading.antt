@@ -1,7 +1,8 @@
 -- The reader as functions on lists of words: what each line adds, and what the lines that are left give.
 use Rattle.std.specs.Prelude.{◌==◌, ℕ, ◌+◌, ◌-◌, nat_lt, nat_le, Bool, true, false, not, ◌&&◌, ◌||◌, if◌then◌else◌, List, [], ◌∷◌, ◌++◌, length, map, replicate, codes, drop, position, ◌≡◌, Option, Some, None, unwrap_or, Result, Ok, Err}
 use Rattle.std.specs.Option.{is_some}
-use Rattle.std.specs.List.{find, list_all, list_any}
+use Rattle.std.specs.List.{find, list_all}
+use Rattle.format_parts.specs.Names.{has_word}
 use Rattle.std.specs.Char.{is_ascii_digit}
 use Rattle.std.specs.Str.{bytes_eq}
 use Rattle.std.specs.Str.Parse.{digits_value}
@@ -69,9 +70,6 @@ has_sign (b ∷ bs) = b == 45
 
 abbrev pub is_long : List ℕ → Bool
 is_long word = nat_lt MOST_NAME_BYTES (length word)
-
-abbrev pub has_word : List (List ℕ) → List ℕ → Bool
-has_word names word = list_any (bytes_eq word) names
 
 -- ---- the header
 

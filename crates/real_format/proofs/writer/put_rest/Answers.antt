@@ -1,15 +1,16 @@
 use Rattle.std.proofs.Common.{codes}
 use Rattle.revc_io.proofs.PassingLemmas.{begun, step, failed_call, last_call}
 use Rattle.real_format.specs.inside.Labels.{name_by}
-use Rattle.real_format.specs.inside.Parts.{gates_text}
+use Rattle.real_format.specs.inside.Parts.{flip_texts}
+use Rattle.format_parts.specs.Flips.{gates_text}
 use Rattle.real_format.proofs.writer.put_rest.Goals as goal
 
 pub returns-in_err-put_gates-clause-bytes : goal.returns-in_err-put_gates-clause-bytes
 returns-in_err-put_gates-clause-bytes g c =
-    failed_call c.args.buffer.now _ (gates_text (name_by c.args.labels) c.args.circuit.now.gates) (codes ".end\n") _ _ c.from_residual.ensures.1
+    failed_call c.args.buffer.now _ (gates_text (flip_texts (name_by c.args.labels)) c.args.circuit.now.gates) (codes ".end\n") _ _ c.from_residual.ensures.1
     c.in_err-put_gates.ensures.bytes (begun _ _ _)
 
 pub returns-clause-bytes : goal.returns-clause-bytes
 returns-clause-bytes g c =
-    last_call c.args.buffer.now _ _ _ _ c.put.ensures.bytes (step (gates_text (name_by c.args.labels) c.args.circuit.now.gates)
+    last_call c.args.buffer.now _ _ _ _ c.put.ensures.bytes (step (gates_text (flip_texts (name_by c.args.labels)) c.args.circuit.now.gates)
     (codes ".end\n") c.in_ok-put_gates.ensures.bytes (begun _ _ _))

@@ -1,7 +1,0 @@
-use Rattle.std.proofs.Common.{position, ap, ◌∙◌}
-use Rattle.std.specs.Str.{bytes_eq}
-use Rattle.real_format.proofs.NamesLemmas.{position_in}
-use Rattle.real_format.proofs.names.Names.place.Goals as goal
-
-pub returns : goal.returns
-returns c = c.get_index_of.ensures.index ∙ position_in c.args.name.now c.self.inside.set.keys ∙ ap (position (bytes_eq c.args.name.now)) c.self.view_is
