@@ -1,6 +1,7 @@
-use super::*;
+// The tests of qasm_format.
 use gate_split::{Laid, split};
 use mct_circuit::Circuit;
+use qasm_format::{QasmFault, read, write, write_lines};
 use revc_base::Place;
 use revc_io::MemorySink;
 use std::test::Fail;
@@ -9,21 +10,20 @@ const TEXT: &[u8] =
     b"OPENQASM 2.0;\ninclude \"qelib1.inc\";\nqreg inp[2];\nqreg outp[1];\nqreg work[1];\nqreg dirty[1];
 ccx inp[0],dirty[0],work[0];\ncx work[0],outp[0];\nx inp[1];\n";
 
-// A line of each role and a gate of each width; then with room for a part of the text.
+// A line of each role and a gate of each width.
 #[test]
 fn a_circuit_is_written(rt: HostRuntime) -> Result<(), Fail> {
     let alloc = rt.alloc();
-    let mut circuit = Circuit::new(alloc, 5, 10);
+    let mut circuit = Circuit::new(alloc, 5, 3);
     circuit.push_flip(&[0, 4], 3)?;
     circuit.push_flip(&[3], 2)?;
     circuit.push_flip(&[], 1)?;
-    let laid = Laid::new(split(alloc, &circuit, 5, 10)?, 2, 1, 1, 1);
-    for (room, written) in [(1000, true), (100, false)] {
-        let mut sink = MemorySink::new(alloc, room, Vec::new(alloc), 7)?;
-        assert_eq!(rt; write(&laid, &mut sink).is_ok(), written);
-        let held = &TEXT[..TEXT.len().min(room)];
-        assert_eq!(rt; sink.bytes(), held);
-    }
+    let mut sink = MemorySink::new(alloc, 1000, Vec::new(alloc), 50)?;
+    write(
+        &Laid::new(split(alloc, &circuit, 5, 3)?, 2, 1, 1, 1),
+        &mut sink,
+    )?;
+    assert_eq!(rt; sink.bytes(), TEXT);
     Ok(())
 }
 
@@ -91,8 +91,8 @@ fn a_file_is_read(rt: HostRuntime) -> Result<(), Fail> {
     Ok(())
 }
 
-// A text for each rule of the format, with the column of its first bad token behind the head and the include, and whether
-// that token passes a limit: by hand, from docs/FORMATS.md.
+// A text for each rule of the format, with the column of its first bad token behind the head and
+// the include, and whether that token passes a limit: by hand, from docs/FORMATS.md.
 const BAD_TEXTS: [(&[u8], u32, bool); 40] = [
     (b"", 1, false),
     (b"qreg q[1]; $", 12, false),

@@ -1,6 +1,7 @@
-use super::*;
+// The tests of real_format.
 use gate_split::{Laid, split};
 use mct_circuit::Circuit;
+use real_format::{Mark, RealFault, read, write, write_lines};
 use revc_io::MemorySink;
 use std::test::Fail;
 

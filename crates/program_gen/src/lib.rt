@@ -4,6 +4,3 @@
 mod adder;
 
 pub use adder::{MOST_BITS, program_text};
-
-#[cfg(test)]
-mod tests;

@@ -11,6 +11,3 @@ mod words;
 pub use law::{each_text_has_tokens, one_way_to_cut};
 pub use tokens::{Token, Tokens};
 pub use words::{MOST_DIGITS, is_identifier, is_number};
-
-#[cfg(test)]
-mod tests;

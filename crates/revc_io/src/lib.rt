@@ -24,6 +24,3 @@ pub use source::Source;
 pub use standard::{StdSink, StdSource};
 pub use sure::SureSource;
 pub use transfer::put_all;
-
-#[cfg(test)]
-mod tests;
