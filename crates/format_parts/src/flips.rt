@@ -5,12 +5,14 @@ ghost use Rattle.mct_circuit.specs.Gates.{AreNarrow, IsNarrow, lines_of};
 ghost use Rattle.gate_split.specs.declared.plan.TheConstants.{MOST_LINES};
 ghost use Rattle.revc_io.specs.Faults.{HasCause};
 ghost use Rattle.revc_io.specs.Passing.{Gathers};
-ghost use Rattle.format_parts.specs.Flips.{FlipTexts, controls_text, flip_text, gate_text, gates_text};
+ghost use Rattle.format_parts.specs.Flips.{FlipTexts, controls_text, flip_text, gate_text};
+ghost use Rattle.format_parts.specs.Flips.{gates_text};
 
 use mct_circuit::{Circuit, Control, Gate, Op};
 use revc_io::{Buffer, Failed, Sink};
 
-/// How a format writes a flip: the word of the gate, each control and then the target, through a buffer.
+/// How a format writes a flip: the word of the gate, each control and then the target, through a
+/// buffer.
 pub trait FlipWriter: Copy {
     // The number of lines.
     ghost count: { Self → ℕ };

@@ -1,5 +1,5 @@
-//! What the formats of circuits share: how the gates of a narrow circuit are written, and the set of names that a text
-//! lends.
+//! What the formats of circuits share: how the gates of a narrow circuit are written, and the set
+//! of names that a text lends.
 #![tactic(auto)]
 
 mod flips;

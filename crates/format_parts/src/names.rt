@@ -42,7 +42,8 @@ impl<'t> Names<'t> {
         self.set.len()
     }
 
-    /// Puts a new name last, and says whether it is new. After want of memory the names are unchanged.
+    /// Puts a new name last, and says whether it is new. After want of memory the names are
+    /// unchanged.
     pub fn push(&mut self, name: &'t [u8]) -> Result<bool, Memory>
         ensures added { IfOk result (λ added. added ≡ not (has_word self.old name.now)) }
         ensures names { IfOk result (λ added. self.new

@@ -1,4 +1,5 @@
-//! Tests of the public calls of the crates of texts: streams, file formats, generated programs and words.
+//! Tests of the public calls of the crates of texts: streams, file formats, generated programs and
+//! words.
 #![tactic(auto)]
 
 #[cfg(test)]

@@ -18,7 +18,8 @@ fn two_bits_are_added(rt: HostRuntime) -> Result<(), Fail> {
     Ok(())
 }
 
-// The greatest adder, by its last lines and by how many there are: 4 for place 0, 2 for each other place, and 2.
+// The greatest adder, by its last lines and by how many there are: 4 for place 0, 2 for each other
+// place, and 2.
 #[test]
 fn the_greatest_adder_is_written(rt: HostRuntime) -> Result<(), Fail> {
     let text = program_text(rt.alloc(), MOST_BITS)?;

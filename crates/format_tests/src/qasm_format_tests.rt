@@ -6,9 +6,8 @@ use revc_base::Place;
 use revc_io::MemorySink;
 use std::test::Fail;
 
-const TEXT: &[u8] =
-    b"OPENQASM 2.0;\ninclude \"qelib1.inc\";\nqreg inp[2];\nqreg outp[1];\nqreg work[1];\nqreg dirty[1];
-ccx inp[0],dirty[0],work[0];\ncx work[0],outp[0];\nx inp[1];\n";
+const TEXT: &[u8] = b"OPENQASM 2.0;\ninclude \"qelib1.inc\";\nqreg inp[2];\nqreg outp[1];
+qreg work[1];\nqreg dirty[1];\nccx inp[0],dirty[0],work[0];\ncx work[0],outp[0];\nx inp[1];\n";
 
 // A line of each role and a gate of each width.
 #[test]
@@ -42,9 +41,11 @@ fn empty_registers_are_left_out(rt: HostRuntime) -> Result<(), Fail> {
     Ok(())
 }
 
-// A flip with three controls on all lines, split beside an added line, by hand; and a circuit without one.
+// A flip with three controls on all lines, split beside an added line, by hand; and a circuit
+// without one.
 const ADDED: &[u8] = b"OPENQASM 2.0;\ninclude \"qelib1.inc\";\nqreg q[4];\nqreg dirty[1];
-ccx q[2],dirty[0],q[3];\nccx q[0],q[1],dirty[0];\nccx q[2],dirty[0],q[3];\nccx q[0],q[1],dirty[0];\n";
+ccx q[2],dirty[0],q[3];\nccx q[0],q[1],dirty[0];
+ccx q[2],dirty[0],q[3];\nccx q[0],q[1],dirty[0];\n";
 
 const KEPT: &[u8] = b"OPENQASM 2.0;\ninclude \"qelib1.inc\";\nqreg q[2];\ncx q[0],q[1];\n";
 
@@ -64,8 +65,8 @@ fn numbered_lines_are_written(rt: HostRuntime) -> Result<(), Fail> {
     Ok(())
 }
 
-// A file with comments, registers of both kinds, a barrier, `CX` before the include, and whole registers that are
-// spread; the last bits of the lines of a and b for some first bits, by hand.
+// A file with comments, registers of both kinds, a barrier, `CX` before the include, and whole
+// registers that are spread; the last bits of the lines of a and b for some first bits, by hand.
 const PART: &[u8] =
     b"OPENQASM 2.0; // part\r\nqreg a[2];\ncreg m[100000];CX a[0],a[1];\ninclude\t\"qelib1.inc\";
 qreg b[02];\nbarrier a,a[0] , b;cx a,b;\nccx a[0],b[1],b[0];x a;//";

@@ -32,7 +32,8 @@ fn texts_have_their_tokens(rt: HostRuntime) -> Result<(), Fail> {
         (b"", "1:1 End"),
         (
             b"OPENQASM 2.0;\nqreg a[02];",
-            "1:1 OPENQASM, 1:10 2.0, 1:13 ;, 2:1 qreg, 2:6 a, 2:7 [, 2:8 02, 2:10 ], 2:11 ;, 2:12 End",
+            "1:1 OPENQASM, 1:10 2.0, 1:13 ;, \
+             2:1 qreg, 2:6 a, 2:7 [, 2:8 02, 2:10 ], 2:11 ;, 2:12 End",
         ),
         (
             b"include\t\"qelib1.inc\";",

@@ -6,7 +6,8 @@ use revc_io::MemorySink;
 use std::test::Fail;
 
 const TEXT: &[u8] = b".version 2.0\n.numvars 5\n.variables x0 x1 y0 w0 b0\n.inputs x0 x1 y0 w0 b0
-.outputs x0 x1 y0 w0 b0\n.constants --00-\n.garbage -----\n.begin\nt3 x0 b0 w0\nt2 w0 y0\nt1 x1\n.end\n";
+.outputs x0 x1 y0 w0 b0\n.constants --00-\n.garbage -----\n.begin
+t3 x0 b0 w0\nt2 w0 y0\nt1 x1\n.end\n";
 
 // A line of each role and a gate of each width; then with room for a part of the text.
 #[test]
@@ -45,10 +46,11 @@ fn lines_of_any_marks_are_written(rt: HostRuntime) -> Result<(), Fail> {
     Ok(())
 }
 
-// A file with comments, blank lines, both kinds of gates and a negative control, each line ended by CR LF: the
-// last bits of c and d for the bits of a, b and c, by hand.
+// A file with comments, blank lines, both kinds of gates and a negative control, each line ended by
+// CR LF: the last bits of c and d for the bits of a, b and c, by hand.
 const PART: &[u8] = b"# full adder part\r\n.version 1.0\r\n.numvars 4\r\n.variables a b c d\r\n\r
-.inputs a b \"carry in\" 0\r\n.outputs g1 g2 \"sum out\" d\r\n.constants ---0 # d\r\n.garbage 11--\r\n.begin\r
+.inputs a b \"carry in\" 0\r\n.outputs g1 g2 \"sum out\" d\r
+.constants ---0 # d\r\n.garbage 11--\r\n.begin\r
 t3 a b d\r\nf3 -a b c\r\nt2 c d\r\n.end\r\n#\r\n";
 
 #[test]
@@ -76,8 +78,8 @@ fn a_file_is_read(rt: HostRuntime) -> Result<(), Fail> {
     Ok(())
 }
 
-// A text for each rule of the format, with its first bad line, and whether that passes a limit: by hand, from
-// docs/FORMATS.md.
+// A text for each rule of the format, with its first bad line, and whether that passes a limit: by
+// hand, from docs/FORMATS.md.
 const BAD_TEXTS: [(&[u8], u32, bool); 52] = [
     (b"", 1, false),
     (b".version 3.0\n", 1, false),
@@ -94,12 +96,14 @@ const BAD_TEXTS: [(&[u8], u32, bool); 52] = [
     (b".numvars 2\n.variables a a\n", 2, false),
     (b".numvars 1\n.variables -a\n", 2, false),
     (
-        b".numvars 1\n.variables nnnnnnnnnnnnnnnnnnnnnnnnnnnnnnnnnnnnnnnnnnnnnnnnnnnnnnnnnnnnnnnnn x\n",
+        b".numvars 1\n\
+          .variables nnnnnnnnnnnnnnnnnnnnnnnnnnnnnnnnnnnnnnnnnnnnnnnnnnnnnnnnnnnnnnnnn x\n",
         2,
         true,
     ),
     (
-        b".numvars 1\n.variables -nnnnnnnnnnnnnnnnnnnnnnnnnnnnnnnnnnnnnnnnnnnnnnnnnnnnnnnnnnnnnnnnn\n",
+        b".numvars 1\n\
+          .variables -nnnnnnnnnnnnnnnnnnnnnnnnnnnnnnnnnnnnnnnnnnnnnnnnnnnnnnnnnnnnnnnnn\n",
         2,
         false,
     ),
@@ -139,22 +143,26 @@ const BAD_TEXTS: [(&[u8], u32, bool); 52] = [
     (b".numvars 2\n.variables a b\n.begin\nt a\n", 4, false),
     (b".numvars 2\n.variables a b\n.begin\n.end x\n", 4, false),
     (
-        b".numvars 2\n.variables a b\n.begin\nt3 a b nnnnnnnnnnnnnnnnnnnnnnnnnnnnnnnnnnnnnnnnnnnnnnnnnnnnnnnnnnnnnnnnn\n",
+        b".numvars 2\n.variables a b\n.begin\n\
+          t3 a b nnnnnnnnnnnnnnnnnnnnnnnnnnnnnnnnnnnnnnnnnnnnnnnnnnnnnnnnnnnnnnnnn\n",
         4,
         true,
     ),
     (
-        b".numvars 2\n.variables a b\n.begin\nt2 -nnnnnnnnnnnnnnnnnnnnnnnnnnnnnnnnnnnnnnnnnnnnnnnnnnnnnnnnnnnnnnnnn x\n",
+        b".numvars 2\n.variables a b\n.begin\n\
+          t2 -nnnnnnnnnnnnnnnnnnnnnnnnnnnnnnnnnnnnnnnnnnnnnnnnnnnnnnnnnnnnnnnnn x\n",
         4,
         true,
     ),
     (
-        b".numvars 2\n.variables a b\n.begin\nt2 --nnnnnnnnnnnnnnnnnnnnnnnnnnnnnnnnnnnnnnnnnnnnnnnnnnnnnnnnnnnnnnnnn b\n",
+        b".numvars 2\n.variables a b\n.begin\n\
+          t2 --nnnnnnnnnnnnnnnnnnnnnnnnnnnnnnnnnnnnnnnnnnnnnnnnnnnnnnnnnnnnnnnnn b\n",
         4,
         false,
     ),
     (
-        b".numvars 2\n.variables a b\n.begin\nt1 -nnnnnnnnnnnnnnnnnnnnnnnnnnnnnnnnnnnnnnnnnnnnnnnnnnnnnnnnnnnnnnnnn\n",
+        b".numvars 2\n.variables a b\n.begin\n\
+          t1 -nnnnnnnnnnnnnnnnnnnnnnnnnnnnnnnnnnnnnnnnnnnnnnnnnnnnnnnnnnnnnnnnn\n",
         4,
         false,
     ),

@@ -64,7 +64,8 @@ fn texts_are_read_up_to_a_limit(rt: HostRuntime) -> Result<(), Fail> {
     Ok(())
 }
 
-// Room, failing call and most bytes a call, and then what `put_all` and a flush answer, and what the sink holds.
+// Room, failing call and most bytes a call, and then what `put_all` and a flush answer, and what
+// the sink holds.
 #[test]
 fn sinks_fail_where_they_are_told(rt: HostRuntime) -> Result<(), Fail> {
     let alloc = rt.alloc();
@@ -87,7 +88,8 @@ fn sinks_fail_where_they_are_told(rt: HostRuntime) -> Result<(), Fail> {
     Ok(())
 }
 
-// Three pieces that pass the buffer's size, one of them on its own, reach the sink in order, with one flush at the end.
+// Three pieces that pass the buffer's size, one of them on its own, reach the sink in order, with
+// one flush at the end.
 #[test]
 fn pieces_are_gathered(rt: HostRuntime) -> Result<(), Fail> {
     let alloc = rt.alloc();
@@ -121,7 +123,8 @@ fn numbers_are_written(rt: HostRuntime) -> Result<(), Fail> {
     Ok(())
 }
 
-// Over readers and writers of the standard library: bytes pass through, an error is a fault, and so is a written 0.
+// Over readers and writers of the standard library: bytes pass through, an error is a fault, and so
+// is a written 0.
 #[test]
 fn standard_ends_pass_bytes_and_count_faults(rt: HostRuntime) -> Result<(), Fail> {
     let alloc = rt.alloc();

@@ -1,7 +1,8 @@
 // The program of a ripple-carry adder, line by line.
 ghost use Rattle.std.specs.Prelude.{◌≡◌, ◌-◌, ◌≤◌, ◌++◌, string_bytes, IfOk, OnOk};
 ghost use Rattle.std.specs.List.{flat_map, range_with_len};
-ghost use Rattle.program_gen.specs.Adder.{adder_text, parameters, carry_function, first_place, place, outputs, sum_output};
+ghost use Rattle.program_gen.specs.Adder.{adder_text, parameters, carry_function, first_place};
+ghost use Rattle.program_gen.specs.Adder.{place, outputs, sum_output};
 
 use revc_base::Memory;
 use std::alloc::{AllocError, Global};
@@ -9,9 +10,10 @@ use std::alloc::{AllocError, Global};
 /// The most bits of each number that a program adds.
 pub const MOST_BITS: u32 = 200;
 
-/// The text of the program that adds two numbers of `n` bits, 1 to 200, as a ripple-carry adder of full adders does
-/// (Knuth, The Art of Computer Programming, volume 4A, section 7.1.2). It has 2n inputs, and its n + 1 outputs are the
-/// sum, its least bit first. Each line ends with a line feed. It answers `Memory` where memory is refused.
+/// The text of the program that adds two numbers of `n` bits, 1 to 200, as a ripple-carry adder of
+/// full adders does (Knuth, The Art of Computer Programming, volume 4A, section 7.1.2). It has 2n
+/// inputs, and its n + 1 outputs are the sum, its least bit first. Each line ends with a line feed.
+/// It answers `Memory` where memory is refused.
 pub fn program_text(alloc: Global, n: u32) -> Result<Vec<u8>, Memory>
     requires some { 1 ≤ n }
     requires few { n ≤ MOST_BITS }

@@ -19,11 +19,13 @@ use Rattle.qasm_format.specs.Stages.{Said, starts, wants, wants_argument, behind
 use Rattle.qasm_format.specs.Qasm.{Reads}
 use Rattle.qasm_format.specs.Faults.{IsStop, BreaksRule, BreaksLimit}
 use Rattle.qasm_lexer.specs.Tokens.{Takes}
-use Rattle.qasm_format.specs.inside.Says.{TakesName, IsNameFault, TakesNumber, IsNumberFault, ReadsWord, StopsAtWord, behind_spot, ReadsArgument, StopsAtArgument, ReadsControl, StopsAtControl, ReadsBarrier, StopsAtBarrier, SpotBelow, AddsGates, IsGateFault}
+use Rattle.qasm_format.specs.inside.Says.{TakesName, IsNameFault, TakesNumber, IsNumberFault, ReadsWord, StopsAtWord, behind_spot, ReadsArgument}
+use Rattle.qasm_format.specs.inside.Says.{StopsAtArgument, ReadsControl, StopsAtControl, ReadsBarrier, StopsAtBarrier, SpotBelow, AddsGates, IsGateFault}
 use Rattle.qasm_format.proofs.DeclaredLemmas.{laid_within}
 use Rattle.qasm_lexer.proofs.MoveLemmas.{moves_within, takes_within, takes_fewer}
 use Rattle.qasm_format.proofs.ReadingLemmas.{reads_none, reads_then, stops_later}
-use Rattle.qasm_format.proofs.StageLemmas.{some_identifier, fault_at_argument, unlaid_at_argument, reads_argument, opens_index, fault_at_index, beyond_at_index, reads_index, reads_comma, reads_end, stops_behind_argument, limit_behind_argument, comma_or_end}
+use Rattle.qasm_format.proofs.StageLemmas.{some_identifier, fault_at_argument, unlaid_at_argument, reads_argument, opens_index, fault_at_index, beyond_at_index}
+use Rattle.qasm_format.proofs.StageLemmas.{reads_index, reads_comma, reads_end, stops_behind_argument, limit_behind_argument, comma_or_end}
 
 is_line : Spot → Bool
 is_line (Line at) = true

@@ -1,5 +1,6 @@
 -- What was said fits wherever a text comes to, and each token leads from there to one stage at most.
-use Rattle.std.proofs.Common.{◌≡◌, ℕ, ◌+◌, ◌<◌, ◌≤◌, Bool, true, false, inl, inr, List, [], ◌∷◌, ◌++◌, length, map, get_or, codes, None, refl, sym, ap, ◌∙◌, subst, arith}
+use Rattle.std.proofs.Common.{◌≡◌, ℕ, ◌+◌, ◌<◌, ◌≤◌, Bool, true, false, inl, inr, List, [], ◌∷◌, ◌++◌, length, map, get_or, codes, None, refl, sym, ap, ◌∙◌}
+use Rattle.std.proofs.Common.{subst, arith}
 use Rattle.std.specs.List.{AllByRecursion, range_with_len}
 use Rattle.std.proofs.lemmas.Option.{none-some, same_Some}
 use Rattle.std.proofs.lemmas.List.{length-append, same_from_push}
@@ -15,7 +16,8 @@ use Rattle.qasm_format.specs.declared.words.Use.TheVariants.{Barrier, Flip}
 use Rattle.qasm_format.specs.declared.spots.Spot.{Spot}
 use Rattle.qasm_format.specs.declared.spots.Spot.TheVariants.{Line, Whole}
 use Rattle.qasm_format.specs.Registers.{IsName, IsLaid, IsRegister, HaveDifferentNames, lines_of_all}
-use Rattle.qasm_format.specs.Stages.{Said, Stage, starts, wants, wants_name, wants_size, wants_argument, behind_name, wants_index, behind_argument, kind_word, kind_registers, declared, HasRoom, IsUseWord, gate_at, StandForGates, Ends, Closes, Leads, LeadTo, nothing_left, one_more}
+use Rattle.qasm_format.specs.Stages.{Said, Stage, starts, wants, wants_name, wants_size, wants_argument, behind_name, wants_index, behind_argument, kind_word}
+use Rattle.qasm_format.specs.Stages.{kind_registers, declared, HasRoom, IsUseWord, gate_at, StandForGates, Ends, Closes, Leads, LeadTo, nothing_left, one_more}
 use Rattle.qasm_format.specs.inside.Tests.{kind_of, use_of}
 use Rattle.qasm_format.specs.inside.Says.{SpotBelow}
 use Rattle.qasm_format.proofs.RegisterLemmas.{lines_of_all-append}

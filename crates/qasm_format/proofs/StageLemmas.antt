@@ -12,7 +12,8 @@ use Rattle.qasm_format.specs.declared.spots.Spot.{Spot}
 use Rattle.qasm_format.specs.declared.spots.Spot.TheVariants.{Line, Whole}
 use Rattle.qasm_lexer.specs.Tokens.{is_identifier, is_number, Left}
 use Rattle.qasm_format.specs.Registers.{IsNumber, IsName, IsLaid, lines_of_all}
-use Rattle.qasm_format.specs.Stages.{Said, Stage, starts, wants, wants_name, wants_size, wants_argument, behind_name, wants_index, behind_argument, declared, HasRoom, Leads, PassesLimit, MayEnd, Closes, Ends, MayGoOn, HaveManyGates}
+use Rattle.qasm_format.specs.Stages.{Said, Stage, starts, wants, wants_name, wants_size, wants_argument, behind_name, wants_index, behind_argument, declared}
+use Rattle.qasm_format.specs.Stages.{HasRoom, Leads, PassesLimit, MayEnd, Closes, Ends, MayGoOn, HaveManyGates}
 use Rattle.qasm_format.specs.Qasm.{Reads}
 use Rattle.qasm_format.specs.Faults.{IsStop, BreaksRule, BreaksLimit}
 use Rattle.qasm_lexer.specs.Tokens.{Takes}

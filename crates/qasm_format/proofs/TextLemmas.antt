@@ -21,7 +21,8 @@ use Rattle.qasm_format.specs.Converted.{kept_lines, added_register, converted_re
 use Rattle.qasm_format.specs.declared.naming.Naming.{Naming}
 use Rattle.qasm_format.specs.declared.naming.Naming.TheVariants.{ByRole, ByNumber}
 use Rattle.qasm_format.specs.inside.Naming.{registers_by, place_by}
-use Rattle.qasm_format.specs.inside.Parts.{place_text, argument_text, declaration_text, register_text, role_registers_text, added_text, numbered_registers_text, head_text, header_text, flip_texts}
+use Rattle.qasm_format.specs.inside.Parts.{place_text, argument_text, declaration_text, register_text, role_registers_text, added_text, numbered_registers_text}
+use Rattle.qasm_format.specs.inside.Parts.{head_text, header_text, flip_texts}
 use Rattle.qasm_format.proofs.RoleLemmas.{one_register}
 
 -- ---- places
@@ -109,7 +110,8 @@ flip_text_is place gate target e =
     concat-append (parted (map place (lines_of gate))) (codes ";" ∷ [])
     ∙ ap (λ ls. concat (parted (map place ls)) ++ codes ";") lines
     ∙ ap (λ (t : List ℕ). t ++ codes ";") (arguments_text place gate.controls target) in
-    gate_parts (gate_word (length gate.controls)) (codes " ") (controls_text (flip_texts place) gate.controls) (argument_text (place target)) (codes ";") (codes "\n")
+    gate_parts (gate_word (length gate.controls)) (codes " ") (controls_text (flip_texts place) gate.controls) (argument_text (place target)) (codes ";")
+    (codes "\n")
     ∙ ap (λ (t : List ℕ). gate_word (length gate.controls) ++ (codes " " ++ (t ++ codes "\n"))) (sym arguments)
 
 -- ---- registers and gates

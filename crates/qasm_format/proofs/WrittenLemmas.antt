@@ -1,5 +1,6 @@
 -- The text of registers and narrow gates, each statement in a line of its own, means their file.
-use Rattle.std.proofs.Common.{◌≡◌, ℕ, ◌+◌, ◌<◌, ◌≤◌, true, inl, inr, List, [], ◌∷◌, ◌++◌, length, map, codes, refl, sym, ap, ◌∙◌, subst, arith, append_assoc, append-nil}
+use Rattle.std.proofs.Common.{◌≡◌, ℕ, ◌+◌, ◌<◌, ◌≤◌, true, inl, inr, List, [], ◌∷◌, ◌++◌, length, map, codes, refl, sym, ap, ◌∙◌, subst, arith, append_assoc}
+use Rattle.std.proofs.Common.{append-nil}
 use Rattle.std.specs.List.{AllByRecursion, flat_map}
 use Rattle.std.specs.Fmt.{decimal}
 use Rattle.std.proofs.lemmas.List.{length-map, length-append, map-append}
@@ -18,10 +19,12 @@ use Rattle.qasm_format.specs.declared.words.Use.TheVariants.{Flip}
 use Rattle.text_places.specs.Places.{place_after, start}
 use Rattle.qasm_format.specs.Statements.{Argument, one_of, includes, bracketed, argument_words, parted, words_of, head_words}
 use Rattle.qasm_format.specs.Registers.{IsName, IsLaid, IsRegister, HaveDifferentNames, lines_of_all, line_at, HasSize}
-use Rattle.qasm_format.specs.Stages.{Said, starts, head, nothing_said, wants_argument, behind_argument, IsUseWord, StandForGates, LeadTo, nothing_left, one_more}
+use Rattle.qasm_format.specs.Stages.{Said, starts, head, nothing_said, wants_argument, behind_argument, IsUseWord, StandForGates, LeadTo, nothing_left}
+use Rattle.qasm_format.specs.Stages.{one_more}
 use Rattle.qasm_format.specs.Qasm.{MeansFile}
 use Rattle.qasm_format.specs.Written.{gate_word, gate_statement, declaration, file_statements, file_text}
-use Rattle.qasm_format.proofs.CutLemmas.{AreCut, AreCut-append, AreCut-bracketed, AreCut-semicolon, AreCut-include, AreCut-parted, IsCutLine, is_cut_line, cut_file}
+use Rattle.qasm_format.proofs.CutLemmas.{AreCut, AreCut-append, AreCut-bracketed, AreCut-semicolon, AreCut-include, AreCut-parted, IsCutLine, is_cut_line}
+use Rattle.qasm_format.proofs.CutLemmas.{cut_file}
 use Rattle.qasm_format.proofs.WordLemmas.{is_number-decimal, IsNumber-decimal, is_identifier-gate_word, known_word}
 use Rattle.qasm_format.proofs.RegisterLemmas.{lines_of_all-append}
 use Rattle.qasm_format.proofs.ReadingLemmas.{leads_then}

@@ -14,8 +14,8 @@ pub struct Register {
     pub size: u32,
 }
 
-/// A file: its registers in the order of their declaration, and the circuit on their lines, laid one after another.
-/// Contracts see it as the registers and the gates.
+/// A file: its registers in the order of their declaration, and the circuit on their lines, laid
+/// one after another. Contracts see it as the registers and the gates.
 #[derive(Debug, Drop)]
 pub struct QasmFile {
     registers: Vec<Register>,
@@ -67,8 +67,9 @@ impl QasmFile {
     }
 }
 
-/// Why a text means no file: the place of the first token that breaks a rule (`Token`), or that passes a limit and
-/// else keeps the form (`Limit`). The end of the text counts as a token. `Memory` is want of memory.
+/// Why a text means no file: the place of the first token that breaks a rule (`Token`), or that
+/// passes a limit and else keeps the form (`Limit`). The end of the text counts as a token.
+/// `Memory` is want of memory.
 #[derive(Clone, Copy, Debug, PartialEq, Eq)]
 pub enum QasmFault {
     Token { at: Place },

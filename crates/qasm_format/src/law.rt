@@ -3,27 +3,29 @@ ghost use Rattle.qasm_format.specs.Converted.{ConvertedHasMeaning};
 ghost use Rattle.qasm_format.specs.Faults.{OneReading};
 ghost use Rattle.qasm_format.specs.Qasm.{MeaningsAreFiles};
 
-/// The law of compiled files: the text of a circuit of narrow gates means, by the format's own meaning,
-/// the file with those gates on the registers of the given roles. The function does nothing: its contract is the law.
+/// The law of compiled files: the text of a circuit of narrow gates means, by the format's own
+/// meaning, the file with those gates on the registers of the given roles. The function does
+/// nothing: its contract is the law.
 pub fn compiled_meaning()
     ensures { CompiledHasMeaning }
 {}
 
-/// The law of converted files: the text of narrow gates on so many lines means, by the format's own meaning, the file
-/// with those gates, whose lines are those of `q`, and of `dirty` where a line was added. The function does nothing:
-/// its contract is the law.
+/// The law of converted files: the text of narrow gates on so many lines means, by the format's own
+/// meaning, the file with those gates, whose lines are those of `q`, and of `dirty` where a line
+/// was added. The function does nothing: its contract is the law.
 pub fn converted_meaning()
     ensures { ConvertedHasMeaning }
 {}
 
-/// The law of one reading: a text means at most one file, has at most one fault, and never both. The function does
-/// nothing: its contract is the law.
+/// The law of one reading: a text means at most one file, has at most one fault, and never both.
+/// The function does nothing: its contract is the law.
 pub fn one_reading()
     ensures { OneReading }
 {}
 
-/// The law of files: what a text means has registers of different names, with 1 to 16,384 lines in all, and at most
-/// 4,000,000 gates on these lines. The function does nothing: its contract is the law.
+/// The law of files: what a text means has registers of different names, with 1 to 16,384 lines in
+/// all, and at most 4,000,000 gates on these lines. The function does nothing: its contract is the
+/// law.
 pub fn meanings_are_files()
     ensures { MeaningsAreFiles }
 {}

@@ -21,7 +21,8 @@ pub struct Span {
     pub size: u32,
 }
 
-// All names that were declared, the span of each that is a register of qubits, and the number of all lines.
+// All names that were declared, the span of each that is a register of qubits, and the number of
+// all lines.
 #[derive(Drop)]
 pub struct Declared<'t> {
     names: Names<'t>,
@@ -80,7 +81,8 @@ impl<'t> Declared<'t> {
         self.spans[place]
     }
 
-    // Declares a new name, a register of qubits behind the others or one of bits. After want of memory nothing is changed.
+    // Declares a new name, a register of qubits behind the others or one of bits. After want of
+    // memory nothing is changed.
     pub fn push(&mut self, kind: Kind, name: &'t [u8], size: u32) -> Result<(), Memory>
         requires text { IsText name.now }
         requires fresh { has_word self.old.names name.now ≡ false }

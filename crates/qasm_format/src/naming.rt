@@ -9,8 +9,8 @@ ghost use Rattle.qasm_format.specs.inside.Naming.{count_of, place_by};
 
 use gate_split::{Role, Roles};
 
-/// How many lines a file has, and in which registers they stand: by their roles, or by their numbers, the last one in
-/// a register of its own where it was added.
+/// How many lines a file has, and in which registers they stand: by their roles, or by their
+/// numbers, the last one in a register of its own where it was added.
 #[derive(Clone, Copy)]
 pub(crate) enum Naming {
     ByRole(Roles),

@@ -1,14 +1,22 @@
 // The reader of OpenQASM texts: one token after another.
-ghost use Rattle.std.specs.Prelude.{◌≡◌, ◌≢◌, ◌⊎◌, ℕ, ◌+◌, ◌<◌, ◌≤◌, ◌^◌, ◌∷◌, [], ◌++◌, true, false, length, codes, OnOk, IfOk, IfErr};
+ghost use Rattle.std.specs.Prelude.{◌≡◌, ◌≢◌, ◌⊎◌, ℕ, ◌+◌, ◌<◌, ◌≤◌, ◌^◌, ◌∷◌, [], ◌++◌, true};
+ghost use Rattle.std.specs.Prelude.{false, length, codes, OnOk, IfOk, IfErr};
 ghost use Rattle.std.specs.List.{AllByRecursion};
 ghost use Rattle.gate_split.specs.declared.plan.TheConstants.{MOST_LINES, MOST_GATES};
 ghost use Rattle.mct_circuit.specs.Gates.{HasDifferentLines};
 ghost use Rattle.qasm_format.specs.Registers.{lines_of_all};
-ghost use Rattle.qasm_format.specs.Stages.{starts, wants, wants_name, wants_argument, head, nothing_said, HasRoom, gate_at};
+ghost use Rattle.qasm_format.specs.Stages.{starts, wants, wants_name, wants_argument, head};
+ghost use Rattle.qasm_format.specs.Stages.{nothing_said, HasRoom, gate_at};
 ghost use Rattle.qasm_format.specs.Qasm.{MeansFile, Reads};
 ghost use Rattle.qasm_format.specs.Faults.{IsStop, IsQasmFault};
 ghost use Rattle.qasm_format.specs.inside.Spread.{AreAllDifferent, ArePushed};
-ghost use Rattle.qasm_format.specs.inside.Says.{ReadsWord, StopsAtWord, TakesName, IsNameFault, TakesNumber, IsNumberFault, ReadsWords, StopsAtWords, ReadsSize, StopsAtSize, ReadsArgument, StopsAtArgument, ReadsControl, StopsAtControl, ReadsBarrier, StopsAtBarrier, said_of, IsSound, GoesOn, AddsGates, IsGateFault, SpotBelow, ReadsBehind, StopsBehind};
+ghost use Rattle.qasm_format.specs.inside.Says.{ReadsWord, StopsAtWord, TakesName, IsNameFault};
+ghost use Rattle.qasm_format.specs.inside.Says.{TakesNumber, IsNumberFault, ReadsWords};
+ghost use Rattle.qasm_format.specs.inside.Says.{StopsAtWords, ReadsSize, StopsAtSize};
+ghost use Rattle.qasm_format.specs.inside.Says.{ReadsArgument, StopsAtArgument, ReadsControl};
+ghost use Rattle.qasm_format.specs.inside.Says.{StopsAtControl, ReadsBarrier, StopsAtBarrier};
+ghost use Rattle.qasm_format.specs.inside.Says.{said_of, IsSound, GoesOn, AddsGates, IsGateFault};
+ghost use Rattle.qasm_format.specs.inside.Says.{SpotBelow, ReadsBehind, StopsBehind};
 
 use crate::file::{QasmFault, QasmFile};
 use crate::names::Declared;
@@ -23,9 +31,10 @@ use revc_base::{Memory, Place};
 use std::alloc::Global;
 use text_places::number;
 
-/// Reads an OpenQASM text: the file that it means, or exactly the first token that breaks a rule or passes a limit, or
-/// want of memory. It takes one token after another. The format is that of OpenQASM (Cross, Bishop, Smolin, Gambetta:
-/// Open Quantum Assembly Language, 2017, arXiv:1707.03429).
+/// Reads an OpenQASM text: the file that it means, or exactly the first token that breaks a rule or
+/// passes a limit, or want of memory. It takes one token after another. The format is that of
+/// OpenQASM (Cross, Bishop, Smolin, Gambetta: Open Quantum Assembly Language, 2017,
+/// arXiv:1707.03429).
 pub fn read(alloc: Global, bytes: &[u8]) -> Result<QasmFile, QasmFault>
     requires { length bytes.now + 1 < 2 ^ 32 }
     ensures ok { IfOk result (MeansFile bytes.now) }

@@ -3,7 +3,8 @@ ghost use Rattle.std.specs.Prelude.{◌≡◌, ℕ, ◌<◌, ◌≤◌, ◌^◌,
 ghost use Rattle.std.specs.List.{AllByRecursion, list_any};
 ghost use Rattle.gate_split.specs.declared.plan.TheConstants.{MOST_LINES};
 ghost use Rattle.qasm_format.specs.Registers.{line_at, AreSpread};
-ghost use Rattle.qasm_format.specs.inside.Spread.{are_different, shared, shared_size, AreAllDifferent, MeetSomewhere};
+ghost use Rattle.qasm_format.specs.inside.Spread.{are_different, shared, shared_size};
+ghost use Rattle.qasm_format.specs.inside.Spread.{AreAllDifferent, MeetSomewhere};
 ghost use Rattle.qasm_format.specs.inside.Says.{SpotBelow};
 
 use gate_split::MOST_LINES;
@@ -29,7 +30,8 @@ impl Spot {
     }
 }
 
-// How many gates the arguments stand for: the size that the registers among them share, or one where none is a register.
+// How many gates the arguments stand for: the size that the registers among them share, or one
+// where none is a register.
 pub fn count_of(spots: &[Spot]) -> Option<u32>
     ensures some { IfSome result (AreSpread spots.now) }
     ensures none { result ≡ None → (count : ℕ) → ¬ AreSpread spots.now count }

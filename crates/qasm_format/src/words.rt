@@ -1,6 +1,7 @@
 // The words of statements, and tests of words.
 ghost use Rattle.std.specs.Prelude.{◌≡◌, ◌<◌, length};
-ghost use Rattle.qasm_format.specs.inside.Tests.{flip_of, is_free, is_kept, is_kept_first, is_kept_too, kind_of, use_of};
+ghost use Rattle.qasm_format.specs.inside.Tests.{flip_of, is_free, is_kept, is_kept_first};
+ghost use Rattle.qasm_format.specs.inside.Tests.{is_kept_too, kind_of, use_of};
 
 // A register of qubits, or of bits.
 #[derive(Clone, Copy, Debug, PartialEq, Eq)]

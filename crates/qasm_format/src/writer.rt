@@ -23,10 +23,10 @@ use gate_split::{Laid, Narrow, Role, Roles};
 use mct_circuit::Circuit;
 use revc_io::{Buffer, Failed, Sink, put_decimal};
 
-/// Writes the file of a compiled circuit in OpenQASM 2.0: its lines are those of the registers `inp`, `outp`, `work`
-/// and `dirty`, by the roles that the plan gives them. Where it fails, the sink took a front of the text. It takes no
-/// memory. The format is that of OpenQASM (Cross, Bishop, Smolin, Gambetta: Open Quantum Assembly Language, 2017,
-/// arXiv:1707.03429).
+/// Writes the file of a compiled circuit in OpenQASM 2.0: its lines are those of the registers
+/// `inp`, `outp`, `work` and `dirty`, by the roles that the plan gives them. Where it fails, the
+/// sink took a front of the text. It takes no memory. The format is that of OpenQASM (Cross,
+/// Bishop, Smolin, Gambetta: Open Quantum Assembly Language, 2017, arXiv:1707.03429).
 pub fn write<K: Sink>(laid: &Laid, out: &mut K) -> Result<(), Failed>
     requires some { 1 ≤ laid.now.circuit.lines }
     requires few { laid.now.circuit.lines ≤ MOST_LINES }
@@ -43,8 +43,9 @@ pub fn write<K: Sink>(laid: &Laid, out: &mut K) -> Result<(), Failed>
     write_text(circuit, Naming::ByRole(laid.roles()), out)
 }
 
-/// Writes the file of a circuit in OpenQASM 2.0: its lines are those of the register `q`, and where a line was added,
-/// the last one is that of the register `dirty`. Where it fails, the sink took a front of the text. It takes no memory.
+/// Writes the file of a circuit in OpenQASM 2.0: its lines are those of the register `q`, and where
+/// a line was added, the last one is that of the register `dirty`. Where it fails, the sink took a
+/// front of the text. It takes no memory.
 pub fn write_lines<K: Sink>(circuit: &Narrow, added: bool, out: &mut K) -> Result<(), Failed>
     requires some { 1 ≤ circuit.now.lines }
     requires two { added ≡ true → 2 ≤ circuit.now.lines }

@@ -1,7 +1,7 @@
 //! The tokens of an OpenQASM text, one after another, each with its place.
 //!
-//! A text is any bytes. It is cut from the front into blanks, comments and the longest words; a byte that begins none
-//! of these is a token of its own, so that a reader can say where it stands.
+//! A text is any bytes. It is cut from the front into blanks, comments and the longest words; a
+//! byte that begins none of these is a token of its own, so that a reader can say where it stands.
 #![tactic(auto)]
 
 mod law;

@@ -82,7 +82,8 @@ impl<'t> Tokens<'t> {
     }
 }
 
-// How many bytes the token at the front of the text has: 0 at its end, and 1 for a byte that begins none.
+// How many bytes the token at the front of the text has: 0 at its end, and 1 for a byte that begins
+// none.
 fn token_len(text: &[u8]) -> usize
     requires { HasNoGap text.now }
     ensures in_range { result ≤ length text.now }

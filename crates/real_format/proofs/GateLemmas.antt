@@ -1,5 +1,6 @@
 -- A gate line: what the reader's functions give is what the definitions say.
-use Rattle.std.proofs.Common.{◌≡◌, ◌≢◌, ℕ, zero, suc, ◌<◌, ◌≤◌, Bool, true, false, not, ◌||◌, if◌then◌else◌, eqb, ◌⊎◌, inl, inr, List, [], ◌∷◌, ◌++◌, length, get_or, drop, position, slice_get, Some, Result, Ok, Err, refl, sym, ap, ◌∙◌, subst, arith, append_assoc, append-nil}
+use Rattle.std.proofs.Common.{◌≡◌, ◌≢◌, ℕ, zero, suc, ◌<◌, ◌≤◌, Bool, true, false, not, ◌||◌, if◌then◌else◌, eqb, ◌⊎◌, inl, inr, List, [], ◌∷◌, ◌++◌, length}
+use Rattle.std.proofs.Common.{get_or, drop, position, slice_get, Some, Result, Ok, Err, refl, sym, ap, ◌∙◌, subst, arith, append_assoc, append-nil}
 use Rattle.std.specs.Prelude.{nat_lt}
 use Rattle.std.specs.List.{AllByRecursion, AllZip, prefix_len}
 use Rattle.std.specs.Str.{bytes_eq}
@@ -21,7 +22,8 @@ use Rattle.real_format.specs.declared.refusal.Refusal.TheVariants.{Form, Limit}
 use Rattle.real_format.specs.Header.{IsName}
 use Rattle.real_format.specs.Real.{NamesLine, NamesControl}
 use Rattle.real_format.specs.Faults.{IsLong}
-use Rattle.real_format.specs.inside.Reading.{and_then, is_nil, has_sign, is_long, line_of, lines_of_controls, control_on, control_of, controls_from, target_of, alone, op_of}
+use Rattle.real_format.specs.inside.Reading.{and_then, is_nil, has_sign, is_long, line_of, lines_of_controls, control_on, control_of, controls_from, target_of}
+use Rattle.real_format.specs.inside.Reading.{alone, op_of}
 use Rattle.real_format.proofs.InversionLemmas.{else_ok, then_ok, and_ok, or_ok, same_ok, else_limit, limit_else, then_limit, and_limit, or_limit, ok_no_limit}
 use Rattle.real_format.proofs.HeaderLemmas.{same_word, word_same, nil_is, AreNames, neither, long, not_long, so_long}
 use Rattle.real_format.proofs.StampLemmas.{has_line-more, lines_of_controls-more}

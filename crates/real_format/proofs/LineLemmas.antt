@@ -1,5 +1,6 @@
 -- What a line adds, as the reader's functions give it, is where it leads.
-use Rattle.std.proofs.Common.{◌≡◌, ℕ, ◌<◌, ◌≤◌, Bool, true, false, ◌&&◌, if◌then◌else◌, eqb, ◌⊎◌, inl, inr, List, [], ◌∷◌, ◌++◌, length, replicate, codes, Option, Some, None, IfSome, unwrap_or, Ok, Err, refl, sym, ap, ◌∙◌, subst, arith}
+use Rattle.std.proofs.Common.{◌≡◌, ℕ, ◌<◌, ◌≤◌, Bool, true, false, ◌&&◌, if◌then◌else◌, eqb, ◌⊎◌, inl, inr, List, [], ◌∷◌, ◌++◌, length, replicate, codes}
+use Rattle.std.proofs.Common.{Option, Some, None, IfSome, unwrap_or, Ok, Err, refl, sym, ap, ◌∙◌, subst, arith}
 use Rattle.std.specs.List.{AllByRecursion, find}
 use Rattle.std.specs.Str.{bytes_eq}
 use Rattle.std.proofs.lemmas.Bool.{ne_eqb, eq-eqb, eqb-true, eqb-false, and_parts}
@@ -13,10 +14,12 @@ use Rattle.real_format.specs.declared.header.Head.{Head}
 use Rattle.real_format.specs.declared.header.Head.TheVariants as heads
 use Rattle.real_format.specs.declared.refusal.Refusal.TheVariants.{Form, Limit}
 use Rattle.real_format.specs.Header.{HeaderView, IsName, spelling_of}
-use Rattle.real_format.specs.Real.{RealView, Place, in_header, in_gates, at_end, Leads, says_nothing, says_more, begins_gates, adds_gate, ends_file, Begins, ReadsGate, IsGateWord, IsFile}
+use Rattle.real_format.specs.Real.{RealView, Place, in_header, in_gates, at_end, Leads, says_nothing, says_more, begins_gates, adds_gate, ends_file, Begins}
+use Rattle.real_format.specs.Real.{ReadsGate, IsGateWord, IsFile}
 use Rattle.real_format.specs.Faults.{PassesLimit, HasManyLines, HasLongName, HasManyGates, HasLongGate}
 use Rattle.real_format.specs.inside.Steps.{IsSound}
-use Rattle.real_format.specs.inside.Reading.{and_then, or_form, is_nil, head_of, all_heads, add, headed, begin_gates, file_of, shape_of, gate_of, add_gate, with_gate, end_gates, gates_line, after_line}
+use Rattle.real_format.specs.inside.Reading.{and_then, or_form, is_nil, head_of, all_heads, add, headed, begin_gates, file_of, shape_of, gate_of, add_gate}
+use Rattle.real_format.specs.inside.Reading.{with_gate, end_gates, gates_line, after_line}
 use Rattle.real_format.proofs.InversionLemmas.{else_ok, then_ok, and_ok, or_ok, same_ok, limit_else, then_limit, and_limit, or_limit, ok_no_limit}
 use Rattle.real_format.proofs.HeaderLemmas.{AreNames, same_word, nil_is}
 use Rattle.real_format.proofs.SaysLemmas.{says_so, so_says, limit_so, limit_lines, limit_names, sound_so}

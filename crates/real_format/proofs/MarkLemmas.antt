@@ -1,5 +1,6 @@
 -- The marks of a written file's lines.
-use Rattle.std.proofs.Common.{◌≡◌, ℕ, zero, suc, ◌+◌, ◌-◌, ◌<◌, ◌≤◌, inl, inr, List, ◌++◌, length, map, replicate, slice_get, option_map, Some, refl, ap, ◌∙◌, arith}
+use Rattle.std.proofs.Common.{◌≡◌, ℕ, zero, suc, ◌+◌, ◌-◌, ◌<◌, ◌≤◌, inl, inr, List, ◌++◌, length, map, replicate, slice_get, option_map, Some, refl, ap, ◌∙◌}
+use Rattle.std.proofs.Common.{arith}
 use Rattle.std.proofs.lemmas.List.{length-map, length-append, length-replicate}
 use Rattle.std.proofs.lemmas.Bool.{cases_lt, lt-ltb}
 use Rattle.std.proofs.lemmas.Option.{slice_get-map}
@@ -61,7 +62,11 @@ start_at roles line below =
         | inl q ↦ rw (ltb-above line roles.inputs p, lt-ltb line (roles.inputs + roles.outputs) q)
             (in_row started (line - roles.inputs) Zero _ (omega arith))
         | inr q ↦ elim (cases_lt line (roles.inputs + roles.outputs + roles.work)) [
-          | inl r ↦ rw (ltb-above line roles.inputs p, ltb-above line (roles.inputs + roles.outputs) q, lt-ltb line (roles.inputs + roles.outputs + roles.work) r)
+          | inl r ↦ rw (
+            ltb-above line roles.inputs p,
+            ltb-above line (roles.inputs + roles.outputs) q,
+            lt-ltb line (roles.inputs + roles.outputs + roles.work) r,
+          )
               (in_row started (line - roles.inputs) Zero _ (omega arith))
           | inr r ↦ rw (
             ltb-above line roles.inputs p,

@@ -1,5 +1,6 @@
 -- The text of a written file means the file.
-use Rattle.std.proofs.Common.{◌≡◌, ℕ, ◌+◌, ◌<◌, ◌≤◌, Bool, true, false, List, [], ◌∷◌, ◌++◌, length, map, replicate, refl, sym, ap, ◌∙◌, subst, arith, inl, inr, Some, codes, append_assoc, append-nil}
+use Rattle.std.proofs.Common.{◌≡◌, ℕ, ◌+◌, ◌<◌, ◌≤◌, Bool, true, false, List, [], ◌∷◌, ◌++◌, length, map, replicate, refl, sym, ap, ◌∙◌, subst, arith, inl, inr}
+use Rattle.std.proofs.Common.{Some, codes, append_assoc, append-nil}
 use Rattle.std.specs.List.{AllByRecursion, AllZip, list_all}
 use Rattle.std.specs.Fmt.{decimal}
 use Rattle.std.proofs.lemmas.Fmt.{decimal_is_IsNumeral, length-decimal-le}
@@ -12,14 +13,16 @@ use Rattle.real_format.specs.declared.file.Mark.{Mark}
 use Rattle.real_format.specs.declared.file.Mark.TheVariants.{Free, Zero, One}
 use Rattle.real_format.specs.declared.header.Head.TheVariants.{Version, Lines, Names, Inputs, Outputs, Constants, Garbage}
 use Rattle.real_format.specs.Header.{constant_byte, garbage_byte, nothing_said}
-use Rattle.real_format.specs.Real.{RealView, RealMeaning, ReadsGate, NamesControl, Place, in_header, in_gates, at_end, LeadTo, one_more, nothing_left, says_more, begins_gates, adds_gate, ends_file}
+use Rattle.real_format.specs.Real.{RealView, RealMeaning, ReadsGate, NamesControl, Place, in_header, in_gates, at_end, LeadTo, one_more, nothing_left}
+use Rattle.real_format.specs.Real.{says_more, begins_gates, adds_gate, ends_file}
 use Rattle.gate_split.specs.Plans.{lines_in}
 use Rattle.real_format.specs.Written.{names_by, header_lines, gate_words, file_lines, file_text}
 use Rattle.real_format.specs.Compiled.{name_of_line, constants_of, CompiledHasMeaning}
 use Rattle.real_format.specs.Converted.{numbered_name, ConvertedHasMeaning}
 use Rattle.real_format.proofs.ReadingLemmas.{IsWord, words_of_lines}
 use Rattle.real_format.proofs.MarkLemmas.{length-constants_of}
-use Rattle.real_format.proofs.NameLemmas.{AreGood, good_by_role, good_by_number, names_are_words, IsWord-decimal, length-names_by, names_are_different, names_are_names, name_at}
+use Rattle.real_format.proofs.NameLemmas.{AreGood, good_by_role, good_by_number, names_are_words, IsWord-decimal, length-names_by, names_are_different}
+use Rattle.real_format.proofs.NameLemmas.{names_are_names, name_at}
 
 -- ---- words
 

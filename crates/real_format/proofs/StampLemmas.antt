@@ -1,5 +1,6 @@
 -- Lines of a gate, by their stamps.
-use Rattle.std.proofs.Common.{◌≡◌, ℕ, ◌<◌, Bool, true, false, ◌||◌, if◌then◌else◌, eqb, List, [], ◌∷◌, ◌++◌, length, drop, position, Option, Some, None, Ok, Err, refl, sym, ap, ◌∙◌, arith}
+use Rattle.std.proofs.Common.{◌≡◌, ℕ, ◌<◌, Bool, true, false, ◌||◌, if◌then◌else◌, eqb, List, [], ◌∷◌, ◌++◌, length, drop, position, Option, Some, None, Ok}
+use Rattle.std.proofs.Common.{Err, refl, sym, ap, ◌∙◌, arith}
 use Rattle.std.specs.Str.{bytes_eq}
 use Rattle.std.proofs.lemmas.Bool.{eq-eqb}
 use Rattle.std.proofs.lemmas.List.{map-append}
@@ -10,7 +11,8 @@ use Rattle.mct_circuit.specs.declared.gate.Op.TheVariants.{Flip, Swap}
 use Rattle.mct_circuit.specs.Sizes.{has_line}
 use Rattle.real_format.specs.declared.refusal.Refusal.{Refusal}
 use Rattle.real_format.specs.declared.refusal.Refusal.TheVariants.{Form, Limit, Memory}
-use Rattle.real_format.specs.inside.Reading.{and_then, or_form, Refuses, has_sign, is_long, line_of, control_of, control_on, controls_from, lines_of_controls, target_of, op_of, alone}
+use Rattle.real_format.specs.inside.Reading.{and_then, or_form, Refuses, has_sign, is_long, line_of, control_of, control_on, controls_from, lines_of_controls}
+use Rattle.real_format.specs.inside.Reading.{target_of, op_of, alone}
 use Rattle.real_format.specs.inside.Stamps.{is_stamped, AreStamped}
 
 -- only whether the lines of names are taken matters

@@ -15,9 +15,9 @@ pub enum Mark {
     One,
 }
 
-/// Why a text means no file: its first line that breaks a rule of form, or passes a limit. Lines are counted from 1,
-/// the empty ones too; a text that ends before `.end` is refused at one more than the number of its lines.
-/// `Memory` is want of memory.
+/// Why a text means no file: its first line that breaks a rule of form, or passes a limit. Lines
+/// are counted from 1, the empty ones too; a text that ends before `.end` is refused at one more
+/// than the number of its lines. `Memory` is want of memory.
 #[derive(Clone, Copy, Debug, PartialEq, Eq)]
 pub enum RealFault {
     Line { number: u32 },
@@ -41,8 +41,8 @@ impl From<revc_base::Memory> for RealFault {
     }
 }
 
-/// A file: for each line its name, the bit with which it starts and whether its last bit is of no use, and the
-/// circuit on these lines. Contracts see it as the names, the marks and the gates.
+/// A file: for each line its name, the bit with which it starts and whether its last bit is of no
+/// use, and the circuit on these lines. Contracts see it as the names, the marks and the gates.
 #[derive(Debug, Drop)]
 pub struct RealFile {
     names: Vec<Text>,

@@ -1,8 +1,11 @@
 // The gate lines of a `.real` text.
-ghost use Rattle.std.specs.Prelude.{◌≡◌, ℕ, ◌+◌, ◌<◌, ◌≤◌, List, [], ◌∷◌, length, Some, None, Ok, Err, OnOk, IfOk, IfErr, slice_set, slice_index};
+ghost use Rattle.std.specs.Prelude.{◌≡◌, ℕ, ◌+◌, ◌<◌, ◌≤◌, List, [], ◌∷◌, length, Some, None, Ok};
+ghost use Rattle.std.specs.Prelude.{Err, OnOk, IfOk, IfErr, slice_set, slice_index};
 ghost use Rattle.std.specs.List.{AllByRecursion};
 ghost use Rattle.mct_circuit.specs.Gates.{IsGateOn};
-ghost use Rattle.real_format.specs.inside.Reading.{Refuses, alone, has_sign, targets_in, shape_of, line_of, control_of, controls_from, op_of, gate_of, lines_of_controls};
+ghost use Rattle.real_format.specs.inside.Reading.{Refuses, alone, has_sign, targets_in, shape_of};
+ghost use Rattle.real_format.specs.inside.Reading.{line_of, control_of, controls_from, op_of};
+ghost use Rattle.real_format.specs.inside.Reading.{gate_of, lines_of_controls};
 ghost use Rattle.real_format.specs.inside.Stamps.{is_stamped, AreStamped};
 
 use crate::refusal::Refusal;

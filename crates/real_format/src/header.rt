@@ -1,9 +1,15 @@
 // The header of a `.real` text.
-ghost use Rattle.std.specs.Prelude.{◌≡◌, ◌≢◌, ℕ, ◌+◌, ◌<◌, ◌≤◌, List, [], ◌∷◌, length, Some, None, Ok, Err, OnOk, IfOk, IfErr, IsSome};
+ghost use Rattle.std.specs.Prelude.{◌≡◌, ◌≢◌, ℕ, ◌+◌, ◌<◌, ◌≤◌, List, [], ◌∷◌, length};
+ghost use Rattle.std.specs.Prelude.{Some, None, Ok, Err, OnOk, IfOk, IfErr, IsSome};
 ghost use Rattle.std.specs.List.{find};
 ghost use Rattle.std.specs.Str.{bytes_eq};
 ghost use Rattle.real_format.specs.Header.{HeaderView, nothing_said, spelling_of};
-ghost use Rattle.real_format.specs.inside.Reading.{Refuses, header_line, file_of, add, add_version, add_lines, add_names, add_inputs, add_outputs, add_constants, add_garbage, is_version, begins_name, count_of, names_from, more_names, marks_of, marks_from, constant_of, garbage_of};
+ghost use Rattle.real_format.specs.inside.Reading.{Refuses, header_line, file_of, add};
+ghost use Rattle.real_format.specs.inside.Reading.{add_version, add_lines, add_names, add_inputs};
+ghost use Rattle.real_format.specs.inside.Reading.{add_outputs, add_constants, add_garbage};
+ghost use Rattle.real_format.specs.inside.Reading.{is_version, begins_name, count_of, names_from};
+ghost use Rattle.real_format.specs.inside.Reading.{more_names, marks_of, marks_from, constant_of};
+ghost use Rattle.real_format.specs.inside.Reading.{garbage_of};
 ghost use Rattle.real_format.specs.inside.Steps.{HeaderSays, BeginsAs};
 
 use crate::file::{Mark, RealFault};

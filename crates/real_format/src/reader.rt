@@ -1,12 +1,14 @@
 // The reader of `.real` texts.
-ghost use Rattle.std.specs.Prelude.{◌≡◌, ℕ, ◌+◌, ◌<◌, ◌≤◌, ◌^◌, ◌++◌, ◌∷◌, [], length, None, Some, Ok, Err, OnOk, IfOk, IfErr};
+ghost use Rattle.std.specs.Prelude.{◌≡◌, ℕ, ◌+◌, ◌<◌, ◌≤◌, ◌^◌, ◌++◌, ◌∷◌, [], length, None, Some};
+ghost use Rattle.std.specs.Prelude.{Ok, Err, OnOk, IfOk, IfErr};
 ghost use Rattle.std.specs.List.{AllByRecursion};
 ghost use Rattle.gate_split.specs.declared.plan.TheConstants.{MOST_LINES, MOST_GATES};
 ghost use Rattle.mct_circuit.specs.Gates.{lines_of};
 ghost use Rattle.real_format.specs.Header.{nothing_said};
 ghost use Rattle.real_format.specs.Real.{RealMeaning, in_header, in_gates, at_end};
 ghost use Rattle.real_format.specs.Faults.{IsRealFault};
-ghost use Rattle.real_format.specs.inside.Reading.{Refuses, verdict, IsFaultOf, gates_line};
+ghost use Rattle.real_format.specs.inside.Reading.{Refuses, verdict, IsFaultOf};
+ghost use Rattle.real_format.specs.inside.Reading.{add_gate, gates_line};
 ghost use Rattle.real_format.specs.inside.Steps.{IsWhole, GatesSay, EndsWell, EndsIn};
 
 use crate::file::{RealFault, RealFile};
@@ -18,9 +20,10 @@ use gate_split::MOST_GATES;
 use mct_circuit::{Circuit, Gate};
 use std::alloc::Global;
 
-/// Reads a `.real` text: the file that it means, or exactly its first bad line and whether that line breaks a rule of
-/// form or passes a limit, or want of memory. The format is that of RevLib (Wille, Grosse, Teuber, Dueck, Drechsler:
-/// RevLib, an online resource for reversible functions and reversible circuits, ISMVL 2008).
+/// Reads a `.real` text: the file that it means, or exactly its first bad line and whether that
+/// line breaks a rule of form or passes a limit, or want of memory. The format is that of RevLib
+/// (Wille, Grosse, Teuber, Dueck, Drechsler: RevLib, an online resource for reversible functions
+/// and reversible circuits, ISMVL 2008).
 pub fn read(alloc: Global, bytes: &[u8]) -> Result<RealFile, RealFault>
     requires { length bytes.now + 1 < 2 ^ 32 }
     ensures ok { IfOk result (λ file. RealMeaning bytes.now file) }
@@ -130,13 +133,40 @@ fn read_gate_line<'t>(
         };
     }
     let shape = Shape::of(word).ok_or(Refusal::Form)?;
+    add_gate(alloc, begun, circuit, stamps, shape, words)?;
+    Ok(false)
+}
+
+// The gate of the words behind the first one, put behind the others.
+fn add_gate(
+    alloc: Global,
+    begun: &Begun,
+    circuit: &mut Circuit,
+    stamps: &mut Vec<u32>,
+    shape: Shape,
+    words: &mut Words,
+) -> Result<(), Refusal>
+    requires few { length begun.now.names ≤ MOST_LINES }
+    requires fits { circuit.old.lines ≡ length begun.now.names }
+    requires limit { circuit.old.limit ≡ MOST_GATES }
+    requires room { length stamps.old.items ≡ length begun.now.names }
+    requires stamps { AllByRecursion (λ s. s ≤ length circuit.old.gates) stamps.old.items }
+    ensures ok { OnOk result (add_gate
+        (record begun.now { gates = circuit.old.gates }) shape words.old
+        ≡ Ok (in_gates (record begun.now { gates = circuit.new.gates }))) }
+    ensures circuit { OnOk result (circuit.new ≡ record circuit.old { gates = circuit.new.gates }) }
+    ensures room { OnOk result (length stamps.new.items ≡ length stamps.old.items) }
+    ensures stamps { OnOk result
+        (AllByRecursion (λ s. s ≤ length circuit.new.gates) stamps.new.items) }
+    ensures err { IfErr result (Refuses (add_gate
+        (record begun.now { gates = circuit.old.gates }) shape words.old)) }
+{
     if circuit.is_full() {
         return Err(Refusal::Limit);
     }
     let stamp = circuit.len() as u32 + 1;
     let gate = gate_of(alloc, &begun.names, stamps, stamp, shape, words)?;
-    push_gate(circuit, gate)?;
-    Ok(false)
+    push_gate(circuit, gate)
 }
 
 // There is room, so only memory can be wanting.

@@ -6,7 +6,8 @@ ghost use Rattle.real_format.specs.inside.Reading.{fault_at};
 use crate::file::RealFault;
 use std::alloc::{AllocError, AllocFailed};
 
-// The first word of the line that breaks a rule breaks one of form, or passes a limit; or memory was refused.
+// The first word of the line that breaks a rule breaks one of form, or passes a limit; or memory
+// was refused.
 #[derive(Clone, Copy, Debug, PartialEq, Eq)]
 pub enum Refusal {
     Form,

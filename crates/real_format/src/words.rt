@@ -1,5 +1,6 @@
 // The lines of a text, and the words of a line.
-ghost use Rattle.std.specs.Prelude.{◌≡◌, ℕ, ◌+◌, ◌<◌, ◌≤◌, ◌^◌, ◌==◌, List, [], ◌∷◌, length, MatchOption, option_copied, not, min};
+ghost use Rattle.std.specs.Prelude.{◌≡◌, ℕ, ◌+◌, ◌<◌, ◌≤◌, ◌^◌, ◌==◌, List, [], ◌∷◌, length};
+ghost use Rattle.std.specs.Prelude.{MatchOption, option_copied, not, min};
 ghost use Rattle.std.specs.Option.{option_map};
 ghost use Rattle.std.specs.List.{prefix_len};
 ghost use Rattle.std.specs.Char.{is_ascii_digit};
@@ -85,8 +86,8 @@ fn word_len(text: &[u8]) -> usize
     text.iter().take_while(|byte| !is_blank(**byte)).count()
 }
 
-// The lines of a text that are left, and the number of the last one that was taken, from 1. Contracts see the number
-// and the words of each line.
+// The lines of a text that are left, and the number of the last one that was taken, from 1.
+// Contracts see the number and the words of each line.
 #[derive(Drop)]
 pub struct Lines<'t> {
     number: u32,
@@ -148,7 +149,8 @@ fn line_len(text: &[u8]) -> usize
     text.iter().take_while(|byte| **byte != b'\n').count()
 }
 
-// The number that the digits write, or the limit plus 1 where it is above the limit; nothing where a byte is no digit.
+// The number that the digits write, or the limit plus 1 where it is above the limit; nothing where
+// a byte is no digit.
 pub fn number(word: &[u8], most: u32) -> Option<u32>
     requires { most < 2 ^ 24 }
     ensures { result ≡ option_map (λ n. min n (most + 1)) (number_of word.now) }

@@ -23,9 +23,10 @@ use gate_split::{Laid, Narrow};
 use mct_circuit::Circuit;
 use revc_io::{Buffer, Failed, Sink, put_decimal};
 
-/// Writes the file of a compiled circuit, whose lines have the roles that the plan gives them. Where it fails, the
-/// sink took a front of the text. It takes no memory. The format is that of RevLib (Wille, Grosse, Teuber, Dueck,
-/// Drechsler: RevLib, an online resource for reversible functions and reversible circuits, ISMVL 2008).
+/// Writes the file of a compiled circuit, whose lines have the roles that the plan gives them.
+/// Where it fails, the sink took a front of the text. It takes no memory. The format is that of
+/// RevLib (Wille, Grosse, Teuber, Dueck, Drechsler: RevLib, an online resource for reversible
+/// functions and reversible circuits, ISMVL 2008).
 pub fn write<K: Sink>(laid: &Laid, out: &mut K) -> Result<(), Failed>
     requires some { 1 ≤ laid.now.circuit.lines }
     requires few { laid.now.circuit.lines ≤ MOST_LINES }
@@ -42,8 +43,8 @@ pub fn write<K: Sink>(laid: &Laid, out: &mut K) -> Result<(), Failed>
     write_text(circuit, Labels::ByRole(laid.roles()), out)
 }
 
-/// Writes the file of a circuit on lines `l0`, `l1` and so on, which have these marks. Where it fails, the sink took a
-/// front of the text. It takes no memory.
+/// Writes the file of a circuit on lines `l0`, `l1` and so on, which have these marks. Where it
+/// fails, the sink took a front of the text. It takes no memory.
 pub fn write_lines<K: Sink>(
     circuit: &Narrow,
     constants: &[Mark],

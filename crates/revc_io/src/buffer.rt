@@ -8,8 +8,9 @@ use std::marker::Model;
 // How many bytes a buffer holds.
 const SIZE: usize = 4096;
 
-/// Bytes that wait to be written, so that small pieces reach a sink together. It stands apart from the sink, which is
-/// passed beside it. Contracts see it as the list of the bytes that wait. After a fault of the sink nothing waits.
+/// Bytes that wait to be written, so that small pieces reach a sink together. It stands apart from
+/// the sink, which is passed beside it. Contracts see it as the list of the bytes that wait. After
+/// a fault of the sink nothing waits.
 #[derive(Drop)]
 pub struct Buffer {
     bytes: [u8; SIZE],
@@ -65,9 +66,9 @@ impl Buffer {
         put_all(out, &self.bytes[..waiting])
     }
 
-    /// Gathers the piece behind what waits, and hands whole buffers on to the sink; what is longer than a buffer goes
-    /// past it, after what waits. Where the sink fails, it took a front of what waited and the piece, and nothing
-    /// waits. It takes no memory.
+    /// Gathers the piece behind what waits, and hands whole buffers on to the sink; what is longer
+    /// than a buffer goes past it, after what waits. Where the sink fails, it took a front of what
+    /// waited and the piece, and nothing waits. It takes no memory.
     pub fn put<K: Sink>(&mut self, out: &mut K, piece: &[u8]) -> Result<(), Failed>
         ensures bytes { Gathers result (K.held out.old)
             (K.held out.new) self.old self.new piece.now }
@@ -86,8 +87,8 @@ impl Buffer {
         put_all(out, rest)
     }
 
-    /// Hands on all that waits, and then flushes the sink once. Where the sink fails, it took a front of what waited.
-    /// Nothing waits afterwards. It takes no memory.
+    /// Hands on all that waits, and then flushes the sink once. Where the sink fails, it took a
+    /// front of what waited. Nothing waits afterwards. It takes no memory.
     pub fn finish<K: Sink>(&mut self, out: &mut K) -> Result<(), Failed>
         ensures bytes { Writes result (K.held out.old) (K.held out.new) self.old }
         ensures empty { self.new ≡ [] }

@@ -1,6 +1,6 @@
-//! Where bytes come from and where they go: sources and sinks that tell their bytes where they can, and count their
-//! faults. Above them stand the writing of a whole piece, a buffer that gathers pieces, and the reading of a whole
-//! text.
+//! Where bytes come from and where they go: sources and sinks that tell their bytes where they can,
+//! and count their faults. Above them stand the writing of a whole piece, a buffer that gathers
+//! pieces, and the reading of a whole text.
 #![tactic(auto)]
 
 mod buffer;

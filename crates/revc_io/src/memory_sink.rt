@@ -1,4 +1,5 @@
-ghost use Rattle.std.specs.Prelude.{◌≡◌, ◌↔◌, ◌⊎◌, ◌<◌, ◌≤◌, ◌++◌, [], length, take, Some, IfOk, IsErr, IsTrue, MatchResult};
+ghost use Rattle.std.specs.Prelude.{◌≡◌, ◌↔◌, ◌⊎◌, ◌<◌, ◌≤◌, ◌++◌, [], length, take, Some, IfOk};
+ghost use Rattle.std.specs.Prelude.{IsErr, IsTrue, MatchResult};
 ghost use Rattle.std.specs.Io.{WritesAtMost};
 ghost use Rattle.std.specs.Io.KnownBytes.{Keeps, WriteAppends};
 ghost use Rattle.revc_io.specs.Faults.{HasCause, raised};
@@ -9,9 +10,9 @@ use revc_base::Memory;
 use std::alloc::Global;
 use std::marker::Model;
 
-/// A sink in memory with a fixed room. It fails at chosen calls, and where its room is full. Contracts see its room,
-/// the numbers of the failing calls, the most bytes that a call takes, how many calls of `write` and `flush` there
-/// were, the bytes that it took and its count of faults.
+/// A sink in memory with a fixed room. It fails at chosen calls, and where its room is full.
+/// Contracts see its room, the numbers of the failing calls, the most bytes that a call takes, how
+/// many calls of `write` and `flush` there were, the bytes that it took and its count of faults.
 #[derive(Drop)]
 pub struct MemorySink {
     bytes: Vec<u8>,
@@ -42,9 +43,9 @@ impl Model for MemorySink {
 }
 
 impl MemorySink {
-    /// An empty sink with this room in bytes. `write` and `flush` calls are counted together from 1, and a call fails
-    /// whose number is in `failing`. A call takes at most `most` bytes, which is at least 1. The room is taken here, so
-    /// that writes take no memory.
+    /// An empty sink with this room in bytes. `write` and `flush` calls are counted together from
+    /// 1, and a call fails whose number is in `failing`. A call takes at most `most` bytes, which
+    /// is at least 1. The room is taken here, so that writes take no memory.
     pub fn new(
         alloc: Global,
         room: usize,

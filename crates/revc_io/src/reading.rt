@@ -1,4 +1,5 @@
-ghost use Rattle.std.specs.Prelude.{◌≡◌, ◌<◌, ◌≤◌, length, vec_len, IfErr, IfOk, IfSome, IsErrOf, OnOk};
+ghost use Rattle.std.specs.Prelude.{◌≡◌, ◌<◌, ◌≤◌, length, vec_len, IfErr, IfOk, IfSome, IsErrOf};
+ghost use Rattle.std.specs.Prelude.{OnOk};
 ghost use Rattle.std.specs.Io.KnownBytes.{Consumes, IsAtEnd};
 ghost use Rattle.revc_io.specs.Faults.{Rose};
 ghost use Rattle.revc_io.specs.Reading.{CountsAt, TakenAt, TakesCount};
@@ -7,7 +8,8 @@ ghost use Rattle.revc_io.specs.declared.reading.ReadFault.TheVariants as faults;
 use crate::{Failed, Source};
 use std::alloc::{AllocError, Global};
 
-/// Why a whole text was not read: the source failed, the text is longer than the limit, or memory was refused.
+/// Why a whole text was not read: the source failed, the text is longer than the limit, or memory
+/// was refused.
 #[derive(Clone, Copy, Debug, PartialEq, Eq)]
 pub enum ReadFault {
     Failed,
@@ -34,8 +36,9 @@ impl From<AllocError> for ReadFault {
 // How many bytes are read at a time, at most.
 const CHUNK: usize = 4096;
 
-/// Reads a source to its end and answers all its bytes, which are at most `limit`. It answers `TooLong` exactly where
-/// `limit + 1` bytes were taken, and never takes more. Each call of the source takes at least one byte, or is the last.
+/// Reads a source to its end and answers all its bytes, which are at most `limit`. It answers
+/// `TooLong` exactly where `limit + 1` bytes were taken, and never takes more. Each call of the
+/// source takes at least one byte, or is the last.
 pub fn read_up_to<S: Source>(
     alloc: Global,
     source: &mut S,
@@ -44,7 +47,8 @@ pub fn read_up_to<S: Source>(
     requires { limit < usize.MAX }
 
     // The whole rest, read to its end.
-    ensures taken { IfOk result (λ all. Consumes (S.rest source.old) (S.rest source.new) all.items) }
+    ensures taken { IfOk result (λ all.
+        Consumes (S.rest source.old) (S.rest source.new) all.items) }
     ensures end { OnOk result (IsAtEnd (S.rest source.new)) }
     ensures text { IfOk result (λ all. IfSome (S.rest source.old) (λ rest. all.items ≡ rest)) }
     ensures fits { IfOk result (λ all. vec_len all ≤ limit) }

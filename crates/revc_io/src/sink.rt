@@ -13,8 +13,8 @@ pub trait Sink {
     // How many times it failed, from 0 to 2^64 - 1, where the count stays.
     ghost faults: { Self → ℕ };
 
-    /// Takes a front of `piece`, which is not empty, and answers how many bytes that is, at least 1. Where it fails,
-    /// it took none and the count of faults rose; else the count stays.
+    /// Takes a front of `piece`, which is not empty, and answers how many bytes that is, at least
+    /// 1. Where it fails, it took none and the count of faults rose; else the count stays.
     fn write(&mut self, piece: &[u8]) -> Result<usize, Failed>
         requires { 0 < length piece.now }
         ensures bound { WritesAtMost result piece.now }
@@ -22,8 +22,8 @@ pub trait Sink {
         ensures bytes { WriteAppends (held self.old) (held self.new) result piece.now }
         ensures cause { HasCause (faults self.old) (faults self.new) result };
 
-    /// Hands on what the sink itself may hold back. It takes no bytes. Where it fails, the count of faults rose; else
-    /// the count stays.
+    /// Hands on what the sink itself may hold back. It takes no bytes. Where it fails, the count of
+    /// faults rose; else the count stays.
     fn flush(&mut self) -> Result<(), Failed>
         ensures bytes { Keeps (held self.old) (held self.new) }
         ensures cause { HasCause (faults self.old) (faults self.new) result };

@@ -5,8 +5,9 @@ ghost use Rattle.revc_io.specs.Faults.{raised};
 use crate::{Failed, Sink, Source};
 use std::io::{Read, Write};
 
-/// A source over any reader of the standard library. It raises its count of faults at each error of the reader, and
-/// tells its bytes where the reader does: a reader in memory does, and a file, a pipe or a terminal does not.
+/// A source over any reader of the standard library. It raises its count of faults at each error of
+/// the reader, and tells its bytes where the reader does: a reader in memory does, and a file, a
+/// pipe or a terminal does not.
 #[derive(Drop)]
 pub struct StdSource<R> {
     inner: R,
@@ -36,8 +37,9 @@ impl<R: Read> Source for StdSource<R> {
     }
 }
 
-/// A sink over any writer of the standard library. It raises its count of faults at each error of the writer, and
-/// where the writer took nothing of a piece that is not empty. It tells its bytes where the writer does.
+/// A sink over any writer of the standard library. It raises its count of faults at each error of
+/// the writer, and where the writer took nothing of a piece that is not empty. It tells its bytes
+/// where the writer does.
 #[derive(Drop)]
 pub struct StdSink<W> {
     inner: W,

@@ -3,7 +3,8 @@ ghost use Rattle.std.specs.Prelude.{◌≡◌, Some};
 use crate::{Failed, Source};
 use std::marker::Model;
 
-/// A source over bytes in memory, which never fails. Contracts see it as the list of the bytes that are still to come.
+/// A source over bytes in memory, which never fails. Contracts see it as the list of the bytes that
+/// are still to come.
 #[derive(Drop)]
 pub struct SureSource {
     bytes: Vec<u8>,

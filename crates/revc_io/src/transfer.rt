@@ -4,8 +4,8 @@ ghost use Rattle.revc_io.specs.Passing.{Writes};
 
 use crate::{Failed, Sink};
 
-/// Writes the whole piece, in as many calls as the sink wants. Where a call fails, the sink took a front of the piece.
-/// It takes no memory.
+/// Writes the whole piece, in as many calls as the sink wants. Where a call fails, the sink took a
+/// front of the piece. It takes no memory.
 #[tactic(auto, using(crate::proofs::PassingLemmas::writing))]
 pub fn put_all<K: Sink>(out: &mut K, piece: &[u8]) -> Result<(), Failed>
     ensures bytes { Writes result (K.held out.old) (K.held out.new) piece.now }

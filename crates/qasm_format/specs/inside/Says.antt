@@ -18,7 +18,8 @@ use Rattle.gate_split.specs.declared.plan.TheConstants.{MOST_GATES}
 use Rattle.qasm_lexer.specs.Tokens.{is_identifier, is_number, Left, Takes}
 use Rattle.qasm_lexer.specs.declared.words.TheConstants.{MOST_DIGITS}
 use Rattle.qasm_format.specs.Registers.{lines_of_all}
-use Rattle.qasm_format.specs.Stages.{Said, Stage, starts, wants, wants_size, wants_argument, behind_name, behind_argument, declared, HasRoom, StandForGates, Leads}
+use Rattle.qasm_format.specs.Stages.{Said, Stage, starts, wants, wants_size, wants_argument, behind_name, behind_argument, declared, HasRoom, StandForGates}
+use Rattle.qasm_format.specs.Stages.{Leads}
 use Rattle.qasm_format.specs.Qasm.{Reads}
 use Rattle.qasm_format.specs.Faults.{IsStop}
 

@@ -9,7 +9,8 @@ use Rattle.qasm_format.specs.inside.Says.{said_of, AddsGates, IsGateFault, SpotB
 use Rattle.std.proofs.lemmas.List.{length-append}
 use Rattle.qasm_format.proofs.PassingLemmas.{passes_on, fault_becomes, ok_becomes}
 use Rattle.qasm_format.proofs.ReadingLemmas.{ne_word, eq_word}
-use Rattle.qasm_format.proofs.ArgumentLemmas.{InGate, gate_begun, gate_more, control_fails, target_fails, gate_open, gate_ends, gates_fail, all_below, all_below_most, sound_after}
+use Rattle.qasm_format.proofs.ArgumentLemmas.{InGate, gate_begun, gate_more, control_fails, target_fails, gate_open, gate_ends, gates_fail, all_below}
+use Rattle.qasm_format.proofs.ArgumentLemmas.{all_below_most, sound_after}
 use Rattle.qasm_format.proofs.reader.read_gate.Goals as goal
 
 pub loop-k-init : goal.loop-k-init

@@ -9,11 +9,13 @@ pub returns-in_err-put_text-clause-bytes : goal.returns-in_err-put_text-clause-b
 returns-in_err-put_text-clause-bytes g c =
     let front = rw c.new-buffer.ensures at c.in_err-put_text.ensures.bytes.0 in
     writes_fault _ _ c.from_residual.ensures.1 (subst (AppendsFront (g.K.Sink.held c.args.out.now) (g.K.Sink.held c.put_text.new.out))
-    (file_text_is (name_by c.args.labels) (count_of c.args.labels) (constants_by c.args.labels) (garbage_by c.args.labels) c.args.circuit.now.gates c.requires.narrow) front)
+    (file_text_is (name_by c.args.labels) (count_of c.args.labels) (constants_by c.args.labels) (garbage_by c.args.labels) c.args.circuit.now.gates
+    c.requires.narrow) front)
 
 pub returns-clause-bytes : goal.returns-clause-bytes
 returns-clause-bytes g c =
     let put = rw c.new-buffer.ensures at c.in_ok-put_text.ensures.bytes in
     let whole = subst (Gathered (g.K.Sink.held c.args.out.now) (g.K.Sink.held c.put_text.new.out) _ c.put_text.new.buffer)
-    (file_text_is (name_by c.args.labels) (count_of c.args.labels) (constants_by c.args.labels) (garbage_by c.args.labels) c.args.circuit.now.gates c.requires.narrow) put in
+    (file_text_is (name_by c.args.labels) (count_of c.args.labels) (constants_by c.args.labels) (garbage_by c.args.labels) c.args.circuit.now.gates
+    c.requires.narrow) put in
     finish_call _ _ c.finish.ensures.bytes (whole_gathered whole)

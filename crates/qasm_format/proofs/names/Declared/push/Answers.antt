@@ -11,7 +11,8 @@ invariant_of-self-in-Qubits c = (pushed c.args.kind Qubits c.self.inside.names c
     c.in_ok-put-in-Qubits.ensures.names c.in_ok-put-in-Qubits.ensures.spans).sound
 
 pub invariant_of-self-in-Continue-branch-2 : goal.invariant_of-self-in-Continue-branch-2
-invariant_of-self-in-Continue-branch-2 c = (pushed c.args.kind Bits c.self.inside.names c.put-in-Bits.new.names c.self.inside.spans.items c.put-in-Bits.new.spans.items
+invariant_of-self-in-Continue-branch-2 c =
+    (pushed c.args.kind Bits c.self.inside.names c.put-in-Bits.new.names c.self.inside.spans.items c.put-in-Bits.new.spans.items
     c.args.self.now c.args.name.now c.self.inside.lines c.args.size c.in-Bits.is c.self.invariant (ap (λ (v : DeclaredView). v.names) c.self.view_is)
     (ap (λ (v : DeclaredView). v.registers) c.self.view_is) c.requires.fresh c.requires.text c.requires.room
     c.in_ok-put-in-Bits.ensures.names c.in_ok-put-in-Bits.ensures.spans).sound
@@ -23,7 +24,8 @@ returns-in_ok-put-in-Qubits-clause-ok c = (pushed c.args.kind Qubits c.self.insi
     c.in_ok-put-in-Qubits.ensures.names c.in_ok-put-in-Qubits.ensures.spans).seen
 
 pub returns-in_ok-put-in-Bits-clause-ok : goal.returns-in_ok-put-in-Bits-clause-ok
-returns-in_ok-put-in-Bits-clause-ok c = (pushed c.args.kind Bits c.self.inside.names c.put-in-Bits.new.names c.self.inside.spans.items c.put-in-Bits.new.spans.items
+returns-in_ok-put-in-Bits-clause-ok c =
+    (pushed c.args.kind Bits c.self.inside.names c.put-in-Bits.new.names c.self.inside.spans.items c.put-in-Bits.new.spans.items
     c.args.self.now c.args.name.now c.self.inside.lines c.args.size c.in-Bits.is c.self.invariant (ap (λ (v : DeclaredView). v.names) c.self.view_is)
     (ap (λ (v : DeclaredView). v.registers) c.self.view_is) c.requires.fresh c.requires.text c.requires.room
     c.in_ok-put-in-Bits.ensures.names c.in_ok-put-in-Bits.ensures.spans).seen
