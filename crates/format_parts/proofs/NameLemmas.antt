@@ -1,7 +1,5 @@
 -- Names that a text lends, in a set.
-use Rattle.std.proofs.Common.{◌≡◌, ℕ, zero, suc, ◌+◌, ◌<◌, not, ◌||◌, cond, List, [], ◌∷◌, length, get_or, position, refl, sym, ap, arith, Bor, Bool, true}
-use Rattle.std.proofs.Common.{Option, Some, None}
-use Rattle.std.specs.Option.{is_some}
+use Rattle.std.proofs.Common.{◌≡◌, ℕ, zero, suc, ◌+◌, ◌<◌, not, ◌||◌, cond, List, [], ◌∷◌, length, get_or, position, refl, ap, arith, Bor}
 use Rattle.std.specs.List.{list_any, prefix_len, AllByRecursion}
 use Rattle.std.specs.Str.{bytes_eq}
 use Rattle.std.proofs.lemmas.List.{length-map}
