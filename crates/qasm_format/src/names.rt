@@ -15,7 +15,7 @@ use std::alloc::Global;
 use std::marker::Model;
 
 // Where a register stands: its first line and its size.
-#[derive(Clone, Copy, Debug, PartialEq, Eq)]
+#[derive(Clone, Copy)]
 pub struct Span {
     pub first: u32,
     pub size: u32,

@@ -10,7 +10,7 @@ ghost use Rattle.qasm_format.specs.inside.Says.{SpotBelow};
 use gate_split::MOST_LINES;
 
 // One line, or a register with its first line and its size.
-#[derive(Clone, Copy, Debug, PartialEq, Eq)]
+#[derive(Clone, Copy)]
 pub enum Spot {
     Line(u32),
     Whole(u32, u32),

@@ -4,14 +4,14 @@ ghost use Rattle.qasm_format.specs.inside.Tests.{flip_of, is_free, is_kept, is_k
 ghost use Rattle.qasm_format.specs.inside.Tests.{is_kept_too, kind_of, use_of};
 
 // A register of qubits, or of bits.
-#[derive(Clone, Copy, Debug, PartialEq, Eq)]
+#[derive(Clone, Copy)]
 pub enum Kind {
     Qubits,
     Bits,
 }
 
 // What arguments are for: a barrier, or a flip under so many controls.
-#[derive(Clone, Copy, Debug, PartialEq, Eq)]
+#[derive(Clone, Copy)]
 pub enum Use {
     Barrier,
     Flip(u32),
