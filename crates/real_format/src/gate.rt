@@ -17,7 +17,7 @@ use revc_base::limits::MOST_NAME_BYTES;
 use std::alloc::Global;
 
 // What the word of a gate says: how many controls and how many changed lines are named behind it.
-#[derive(Clone, Copy, Debug, PartialEq, Eq)]
+#[derive(Clone, Copy)]
 pub struct Shape {
     pub controls: u32,
     pub targets: u32,

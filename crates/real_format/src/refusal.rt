@@ -8,7 +8,7 @@ use std::alloc::{AllocError, AllocFailed};
 
 // The first word of the line that breaks a rule breaks one of form, or passes a limit; or memory
 // was refused.
-#[derive(Clone, Copy, Debug, PartialEq, Eq)]
+#[derive(Clone, Copy)]
 pub enum Refusal {
     Form,
     Limit,
