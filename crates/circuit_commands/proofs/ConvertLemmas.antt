@@ -20,7 +20,8 @@ use Rattle.command_answers.specs.declared.fault.Fault.TheVariants as faults
 use Rattle.command_answers.specs.declared.fault.CircuitRefusal.{CircuitRefusal}
 use Rattle.command_answers.specs.Outcomes.{HasOneOutcome, IsAnyFault}
 use Rattle.circuit_commands.specs.Circuits.{ReadCircuit, Means, MeansIn, line_count, unmarked}
-use Rattle.circuit_commands.specs.Convert.{Gives, IsCause, Serves, HasSplit, WantsLine, LacksLine, PassesLines, PassesGates, DoesTheSame, added_lines, converted, file_text, said_in}
+use Rattle.circuit_commands.specs.Convert.{Gives, IsCause, Serves, HasSplit, WantsLine, LacksLine, PassesLines, PassesGates, DoesTheSame, added_lines}
+use Rattle.circuit_commands.specs.Convert.{converted, file_text, said_in}
 use Rattle.circuit_commands.specs.Outcomes.{ConvertedView, IsConversion}
 use Rattle.circuit_commands.specs.inside.Splitting.{IsSplitOf, IsWritable}
 use Rattle.circuit_commands.proofs.CircuitLemmas.{means_or_refused, one_circuit, one_circuit_refusal}

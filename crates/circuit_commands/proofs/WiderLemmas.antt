@@ -1,5 +1,6 @@
 -- On one line more, no gate wants an idle line.
-use Rattle.std.proofs.Common.{◌≡◌, ◌≢◌, ℕ, suc, ◌+◌, ◌-◌, ◌<◌, Bool, true, false, not, cond, leb, List, [], ◌∷◌, ◌++◌, length, take, Some, Option, Err, Result, refl, sym, ap, ◌∙◌, subst, inl, inr, arith}
+use Rattle.std.proofs.Common.{◌≡◌, ◌≢◌, ℕ, suc, ◌+◌, ◌-◌, ◌<◌, Bool, true, false, not, cond, leb, List, [], ◌∷◌, ◌++◌, length, take, Some, Option, Err, Result}
+use Rattle.std.proofs.Common.{refl, sym, ap, ◌∙◌, subst, inl, inr, arith}
 use Rattle.std.specs.List.{AllByRecursion}
 use Rattle.std.specs.Prelude.{IsErrOf}
 use Rattle.std.proofs.lemmas.Bool.Decides.{leb_tells}
@@ -10,7 +11,8 @@ use Rattle.mct_circuit.specs.Gates.{GateView, AreGatesOn, IsGateOn, flip_of}
 use Rattle.mct_circuit.specs.Sizes.{has_line}
 use Rattle.gate_split.specs.declared.fault.SplitFault.{SplitFault}
 use Rattle.gate_split.specs.declared.fault.SplitFault.TheVariants.{Gates, NoIdle}
-use Rattle.gate_split.specs.Split.{Avoids, idle_lines, between, flips_of_negatives, over_few_lines, over_idle_lines, in_halves, split_positive, split_gate, split_from, split_list, with_piece}
+use Rattle.gate_split.specs.Split.{Avoids, idle_lines, between, flips_of_negatives, over_few_lines, over_idle_lines, in_halves, split_positive, split_gate}
+use Rattle.gate_split.specs.Split.{split_from, split_list, with_piece}
 use Rattle.gate_split.proofs.EffectLemmas.{below_of}
 use Rattle.gate_split.proofs.FallingLineLemmas.{falling_yes, no_member}
 use Rattle.gate_split.proofs.NegativeLemmas.{lines}

@@ -16,8 +16,9 @@ use revc_words::Format;
 use std::alloc::Global;
 use std::marker::Model;
 
-/// A circuit that was read, with the marks of its lines. Contracts see it as the marks and the gates.
-#[derive(Debug, Drop)]
+/// A circuit that was read, with the marks of its lines. Contracts see it as the marks and the
+/// gates.
+#[derive(Drop)]
 pub struct MarkedCircuit {
     constants: Vec<Mark>,
     garbage: Vec<bool>,

@@ -6,9 +6,11 @@ ghost use Rattle.revc_io.specs.Passing.{Writes};
 ghost use Rattle.command_answers.specs.Outcomes.{HasOneOutcome, IsAnyFault};
 ghost use Rattle.circuit_commands.specs.declared.limits.TheConstants.{MOST_CIRCUIT_BYTES};
 ghost use Rattle.circuit_commands.specs.Circuits.{line_count};
-ghost use Rattle.circuit_commands.specs.Convert.{Gives, IsCause, Serves, WantsLine, converted, file_text};
+ghost use Rattle.circuit_commands.specs.Convert.{Gives, IsCause, Serves, WantsLine, converted};
+ghost use Rattle.circuit_commands.specs.Convert.{file_text};
 ghost use Rattle.circuit_commands.specs.Outcomes.{IsConversion, IsConvertFault};
-ghost use Rattle.circuit_commands.specs.inside.Splitting.{HasLines, IsSplitFault, IsSplitOf, IsWritable};
+ghost use Rattle.circuit_commands.specs.inside.Splitting.{HasLines, IsSplitFault, IsSplitOf};
+ghost use Rattle.circuit_commands.specs.inside.Splitting.{IsWritable};
 
 use crate::circuit::{MarkedCircuit, read_circuit};
 use command_answers::Fault;
@@ -20,9 +22,9 @@ use revc_words::Format;
 use std::alloc::Global;
 use std::marker::Model;
 
-/// A circuit of narrow gates that waits to be written, with the marks of its lines and whether the last one was added.
-/// Contracts see it as the marks and the gates, and whether a line was added.
-#[derive(Debug, Drop)]
+/// A circuit of narrow gates that waits to be written, with the marks of its lines and whether the
+/// last one was added. Contracts see it as the marks and the gates, and whether a line was added.
+#[derive(Drop)]
 pub struct Converted {
     circuit: Narrow,
     constants: Vec<Mark>,
@@ -54,13 +56,15 @@ impl Model for Converted {
         × (length c.circuit.gates ≤ MOST_GATES) };
 }
 
-/// What `convert` gives, its causes and where it serves exclude one another, and it has one cause at most.
+/// What `convert` gives, its causes and where it serves exclude one another, and it has one cause
+/// at most.
 pub fn one_outcome()
     ensures { HasOneOutcome IsAnyFault Gives IsCause Serves }
 {}
 
-/// The circuit of narrow gates in place of those of a text's circuit, on its lines, or exactly where a gate wants an idle
-/// line there, on one more. A fault is exactly that of the text or of the split, or want of memory.
+/// The circuit of narrow gates in place of those of a text's circuit, on its lines, or exactly
+/// where a gate wants an idle line there, on one more. A fault is exactly that of the text or of
+/// the split, or want of memory.
 pub fn convert(alloc: Global, text: &[u8], from: Format) -> Result<Converted, Fault>
     requires { length text.now ≤ MOST_CIRCUIT_BYTES }
     ensures ok { IfOk result (IsConversion from text.now) }

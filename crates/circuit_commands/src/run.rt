@@ -1,5 +1,6 @@
 // `run`: the bits that a circuit gives on the bits of each word.
-ghost use Rattle.std.specs.Prelude.{◌≡◌, ◌≤◌, [], ◌∷◌, ◌++◌, cond, drop, length, map, IfOk, IfErr, OnOk};
+ghost use Rattle.std.specs.Prelude.{◌≡◌, ◌≤◌, [], ◌∷◌, ◌++◌, cond, drop, length, map, IfOk, IfErr};
+ghost use Rattle.std.specs.Prelude.{OnOk};
 ghost use Rattle.std.specs.List.{flat_map};
 ghost use Rattle.circuit_sim.specs.Rows.{AreRows, contents};
 ghost use Rattle.revc_words.specs.Words.{words_of};
@@ -7,7 +8,8 @@ ghost use Rattle.circuit_commands.specs.declared.limits.TheConstants.{MOST_CIRCU
 ghost use Rattle.command_answers.specs.Outcomes.{HasOneOutcome, IsAnyFault};
 ghost use Rattle.command_answers.specs.BitWords.{bits_of};
 ghost use Rattle.command_answers.specs.Lines.{bits_text};
-ghost use Rattle.circuit_commands.specs.Run.{Gives, IsCause, Serves, AreInputs, IsRun, free_lines, is_free, kept, runs_text, started};
+ghost use Rattle.circuit_commands.specs.Run.{Gives, IsCause, Serves, AreInputs, IsRun, free_lines};
+ghost use Rattle.circuit_commands.specs.Run.{is_free, kept, runs_text, started};
 ghost use Rattle.circuit_commands.specs.Outcomes.{IsRunFault, IsWordsFault};
 ghost use Rattle.circuit_commands.specs.inside.Started.{first_bit};
 
@@ -19,14 +21,15 @@ use revc_base::{Bits, Memory};
 use revc_words::Format;
 use std::alloc::Global;
 
-/// What `run` gives, its causes and where it serves exclude one another, and it has one cause at most.
+/// What `run` gives, its causes and where it serves exclude one another, and it has one cause at
+/// most.
 pub fn one_outcome()
     ensures { HasOneOutcome IsAnyFault Gives IsCause Serves }
 {}
 
-/// The bits that the circuit of a text gives on the bits of each word: these are the first bits of the lines that are
-/// free, and the last bits of the lines that are of use are given. A fault is exactly the text's or a word's, or want
-/// of memory.
+/// The bits that the circuit of a text gives on the bits of each word: these are the first bits of
+/// the lines that are free, and the last bits of the lines that are of use are given. A fault is
+/// exactly the text's or a word's, or want of memory.
 pub fn run(alloc: Global, text: &[u8], from: Format, words: &[String]) -> Result<Vec<Bits>, Fault>
     requires { length text.now ≤ MOST_CIRCUIT_BYTES }
     ensures ok { IfOk result (λ lines. IsRun from (words_of words.now) text.now

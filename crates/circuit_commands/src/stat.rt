@@ -1,22 +1,24 @@
 // `stat`: the counts and the depth of a circuit.
-ghost use Rattle.std.specs.Prelude.{◌≡◌, ◌++◌, ◌≤◌, codes, length, IfOk, IfErr};
+ghost use Rattle.std.specs.Prelude.{◌≡◌, ◌≤◌, length, IfOk, IfErr};
 ghost use Rattle.revc_io.specs.Faults.{HasCause};
-ghost use Rattle.revc_io.specs.Passing.{Gathers, Writes};
+ghost use Rattle.revc_io.specs.Passing.{Writes};
 ghost use Rattle.circuit_commands.specs.declared.limits.TheConstants.{MOST_CIRCUIT_BYTES};
 ghost use Rattle.command_answers.specs.Outcomes.{HasOneOutcome, IsAnyFault};
-ghost use Rattle.circuit_commands.specs.Stat.{Gives, IsCause, Serves, IsMeasured, flips_text, sizes_of, stat_text};
+ghost use Rattle.circuit_commands.specs.Stat.{Gives, IsCause, Serves, IsMeasured, sizes_of};
+ghost use Rattle.circuit_commands.specs.Stat.{stat_text};
 ghost use Rattle.circuit_commands.specs.Outcomes.{IsCircuitFault};
 
 use crate::circuit::{MarkedCircuit, read_circuit};
-use command_answers::{Fault, put_two_numbers};
+use command_answers::{Fault, write_numbers};
 use mct_circuit::Counts;
 use revc_base::Memory;
-use revc_io::{Buffer, Failed, Sink};
+use revc_io::{Failed, Sink};
 use revc_words::Format;
 use std::alloc::Global;
 
-/// The sizes of a circuit: how many lines it has, how many gates, how many of each kind, and how deep they stand.
-#[derive(Clone, Copy, Debug, PartialEq, Eq)]
+/// The sizes of a circuit: how many lines it has, how many gates, how many of each kind, and how
+/// deep they stand.
+#[derive(Clone, Copy)]
 pub struct Sizes {
     pub lines: u32,
     pub gates: u64,
@@ -24,7 +26,8 @@ pub struct Sizes {
     pub depth: u64,
 }
 
-/// What `stat` gives, its causes and where it serves exclude one another, and it has one cause at most.
+/// What `stat` gives, its causes and where it serves exclude one another, and it has one cause at
+/// most.
 pub fn one_outcome()
     ensures { HasOneOutcome IsAnyFault Gives IsCause Serves }
 {}
@@ -56,41 +59,18 @@ pub fn write<K: Sink>(sizes: &Sizes, out: &mut K) -> Result<(), Failed>
     ensures bytes { Writes result (K.held out.old) (K.held out.new) (stat_text sizes.now) }
     ensures cause { HasCause (K.faults out.old) (K.faults out.new) result }
 {
-    let mut buffer = Buffer::new();
-    put(&mut buffer, out, sizes)?;
-    buffer.finish(out)
-}
-
-fn put<K: Sink>(buffer: &mut Buffer, out: &mut K, sizes: &Sizes) -> Result<(), Failed>
-    ensures bytes { Gathers result (K.held out.old) (K.held out.new) buffer.old buffer.new
-        (stat_text sizes.now) }
-    ensures cause { HasCause (K.faults out.old) (K.faults out.new) result }
-{
-    put_two_numbers(
-        buffer,
+    let counts = sizes.counts;
+    write_numbers(
+        &[
+            (b"lines ", sizes.lines as u64),
+            (b"gates ", sizes.gates),
+            (b"x ", counts.x),
+            (b"cx ", counts.cx),
+            (b"ccx ", counts.ccx),
+            (b"wide ", counts.wide),
+            (b"swap ", counts.swap),
+            (b"depth ", sizes.depth),
+        ],
         out,
-        b"lines ",
-        sizes.lines as u64,
-        b"gates ",
-        sizes.gates,
-    )?;
-    put_flips(buffer, out, sizes.counts)?;
-    put_two_numbers(
-        buffer,
-        out,
-        b"swap ",
-        sizes.counts.swap,
-        b"depth ",
-        sizes.depth,
     )
-}
-
-// Puts the lines of the flips.
-fn put_flips<K: Sink>(buffer: &mut Buffer, out: &mut K, counts: Counts) -> Result<(), Failed>
-    ensures bytes { Gathers result (K.held out.old) (K.held out.new) buffer.old buffer.new
-        (flips_text counts) }
-    ensures cause { HasCause (K.faults out.old) (K.faults out.new) result }
-{
-    put_two_numbers(buffer, out, b"x ", counts.x, b"cx ", counts.cx)?;
-    put_two_numbers(buffer, out, b"ccx ", counts.ccx, b"wide ", counts.wide)
 }

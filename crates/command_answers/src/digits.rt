@@ -59,6 +59,32 @@ pub fn write_number<K: Sink>(
     buffer.finish(out)
 }
 
+/// Writes numbers behind words, a line for each.
+pub fn write_numbers<K: Sink>(lines: &[(&[u8], u64)], out: &mut K) -> Result<(), Failed>
+    ensures bytes { Writes result (K.held out.old) (K.held out.new)
+        (flat_map (λ line. number_line line.0.now line.1) lines.now) }
+    ensures cause { HasCause (K.faults out.old) (K.faults out.new) result }
+{
+    let mut buffer = Buffer::new();
+    put_numbers(&mut buffer, out, lines)?;
+    buffer.finish(out)
+}
+
+fn put_numbers<K: Sink>(
+    buffer: &mut Buffer,
+    out: &mut K,
+    lines: &[(&[u8], u64)],
+) -> Result<(), Failed>
+    ensures bytes { Gathers result (K.held out.old) (K.held out.new) buffer.old buffer.new
+        (flat_map (λ line. number_line line.0.now line.1) lines.now) }
+    ensures cause { HasCause (K.faults out.old) (K.faults out.new) result }
+{
+    for (word, number) in lines {
+        put_number(buffer, out, word, *number, b"\n")?;
+    }
+    Ok(())
+}
+
 /// Puts bits as digits, and a line feed.
 pub fn put_line_of_digits<K: Sink>(
     buffer: &mut Buffer,
@@ -105,23 +131,6 @@ pub fn put_number<K: Sink>(
     buffer.put(out, head)?;
     put_decimal(buffer, out, number)?;
     buffer.put(out, tail)
-}
-
-/// Puts two words, each with a number, a line for each.
-pub fn put_two_numbers<K: Sink>(
-    buffer: &mut Buffer,
-    out: &mut K,
-    first: &[u8],
-    one: u64,
-    second: &[u8],
-    other: u64,
-) -> Result<(), Failed>
-    ensures bytes { Gathers result (K.held out.old) (K.held out.new) buffer.old buffer.new
-        (number_line first.now one ++ number_line second.now other) }
-    ensures cause { HasCause (K.faults out.old) (K.faults out.new) result }
-{
-    put_number(buffer, out, first, one, b"\n")?;
-    put_number(buffer, out, second, other, b"\n")
 }
 
 /// Whether a word has so many digits 0 and 1, and nothing else. It takes no memory.

@@ -5,8 +5,8 @@ use revc_base::{Bits, Place};
 use revs_terms::Cause;
 use thiserror::Error;
 
-/// Why a command did not end well. Each fault has a status and a line of its own, which `report` writes; it carries
-/// what the line shows.
+/// Why a command did not end well. Each fault has a status and a line of its own, which `report`
+/// writes; it carries what the line shows.
 #[derive(Debug, Drop, Error)]
 pub enum Fault {
     #[error("bad command line")]
@@ -16,8 +16,8 @@ pub enum Fault {
     /// The claim with this number, counted from 1, fails on these bits. Its term is at the place.
     #[error("claim fails")]
     Claim { number: u32, at: Place, bits: Bits },
-    /// With the claim of this number, counted from 1, the claims rest on more functions than the limit. Its term is at
-    /// the place.
+    /// With the claim of this number, counted from 1, the claims rest on more functions than the
+    /// limit. Its term is at the place.
     #[error("diagrams over budget")]
     Diagram { number: u32, at: Place, limit: u32 },
     /// A circuit needs so many lines, more than the limit.
@@ -40,7 +40,7 @@ pub enum Fault {
 }
 
 /// Why a program text is refused.
-#[derive(Clone, Copy, Debug, PartialEq, Eq)]
+#[derive(Clone, Copy, Debug)]
 pub enum Refusal {
     /// It has more than 1,048,576 bytes.
     TooLong,
@@ -48,8 +48,9 @@ pub enum Refusal {
     At(Kind, Place),
 }
 
-/// Why a circuit text is refused: a `.real` text at a line, counted from 1, an OpenQASM text at the place of a token.
-#[derive(Clone, Copy, Debug, PartialEq, Eq)]
+/// Why a circuit text is refused: a `.real` text at a line, counted from 1, an OpenQASM text at the
+/// place of a token.
+#[derive(Clone, Copy, Debug)]
 pub enum CircuitRefusal {
     /// It has more than 134,217,728 bytes.
     TooLong,
@@ -64,7 +65,7 @@ pub enum CircuitRefusal {
 }
 
 /// What is wrong at a place.
-#[derive(Clone, Copy, Debug, PartialEq, Eq)]
+#[derive(Clone, Copy, Debug)]
 pub enum Kind {
     BadByte,
     LongName,

@@ -5,8 +5,6 @@ mod digits;
 mod fault;
 mod messages;
 
-pub use digits::{
-    is_input_word, put_number, put_two_numbers, write_digits, write_lines, write_number,
-};
+pub use digits::{is_input_word, write_digits, write_lines, write_number, write_numbers};
 pub use fault::{CircuitRefusal, Fault, Kind, Refusal};
 pub use messages::report;

@@ -34,7 +34,8 @@ keeps_free order text (faults.Lines need limit) served cause = keeps_or_passes_l
 keeps_free order text (faults.Gates limit) served cause = keeps_or_passes_gates order text limit served cause
 keeps_free order text fault served cause = settled_or_stopped text order.nodes served.tape fault served.settled cause
 
-pub one_cause : (order : OrderView) (text : List ℕ) (fault exact : Fault) → IsCause order text fault → IsCause order text exact → IsNoBudget exact → exact ≡ fault
+pub one_cause : (order : OrderView) (text : List ℕ) (fault exact : Fault) → IsCause order text fault → IsCause order text exact → IsNoBudget exact
+    → exact ≡ fault
 one_cause order text fault (faults.Lines need limit) a b is = absurd is
 one_cause order text fault (faults.Gates limit) a b is = absurd is
 one_cause order text (faults.Lines need limit) exact a b is = absurd (settled_or_stopped text order.nodes a.tape exact a.settled b)

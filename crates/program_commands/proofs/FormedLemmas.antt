@@ -6,7 +6,8 @@ use Rattle.revc_base.specs.declared.place.Place.{Place}
 use Rattle.revs_lexer.specs.Tokens.{closed}
 use Rattle.revs_terms.specs.declared.program.Param.{Param}
 use Rattle.revs_terms.specs.Programs.{IsBody}
-use Rattle.revs_terms.specs.Scopes.{Scoped, unbound, scoped, nearer, scoped_tree, second_of, params_scope, ScopeVerdict, two_params, unbound_name, bound_as, scope_verdict}
+use Rattle.revs_terms.specs.Scopes.{Scoped, unbound, scoped, nearer, scoped_tree, second_of, params_scope, ScopeVerdict, two_params, unbound_name, bound_as}
+use Rattle.revs_terms.specs.Scopes.{scope_verdict}
 use Rattle.revs_terms.specs.Trees.{Tree}
 use Rattle.revs_terms.specs.Views.{ProgramView}
 use Rattle.revs_grammar.proofs.SpellingLemmas.{body_kept}

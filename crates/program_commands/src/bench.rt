@@ -1,26 +1,28 @@
 // `bench`: the sizes of an adder's program, and of its compiled circuit.
-ghost use Rattle.std.specs.Prelude.{◌++◌, IfOk, IfErr};
+ghost use Rattle.std.specs.Prelude.{IfOk, IfErr};
 ghost use Rattle.command_answers.specs.Outcomes.{HasOneOutcome, IsNoBudget};
 ghost use Rattle.gate_split.specs.Plans.{roles_of};
-ghost use Rattle.program_commands.specs.Bench.{Gives, IsCause, Serves, AreSizesOf, IsBenched, bench_text, circuit_lines};
+ghost use Rattle.program_commands.specs.Bench.{Gives, IsCause, Serves, AreSizesOf, IsBenched};
+ghost use Rattle.program_commands.specs.Bench.{bench_text};
 ghost use Rattle.program_commands.specs.Outcomes.{IsAdderSize, IsCompileFault};
 ghost use Rattle.program_gen.specs.Adder.{adder_text};
 ghost use Rattle.revc_io.specs.Faults.{HasCause};
-ghost use Rattle.revc_io.specs.Passing.{Gathers, Writes};
+ghost use Rattle.revc_io.specs.Passing.{Writes};
 ghost use Rattle.revc_words.specs.Words.{IsWithinLimits, order_of};
 
 use crate::planning::plan_text;
-use command_answers::{Fault, put_number, put_two_numbers};
+use command_answers::{Fault, write_numbers};
 use gate_split::Laid;
 use program_gen::program_text;
 use revc_base::{Memory, Tape};
-use revc_io::{Buffer, Failed, Sink};
+use revc_io::{Failed, Sink};
 use revc_words::Order;
 use std::alloc::Global;
 
-/// The sizes of a program's tape, and of its compiled circuit: how many inputs, outputs and writes the tape has and how
-/// wide it is; how many lines and gates the circuit has and how deep the gates stand.
-#[derive(Clone, Copy, Debug, PartialEq, Eq)]
+/// The sizes of a program's tape, and of its compiled circuit: how many inputs, outputs and writes
+/// the tape has and how wide it is; how many lines and gates the circuit has and how deep the gates
+/// stand.
+#[derive(Clone, Copy)]
 pub struct BenchSizes {
     pub inputs: u32,
     pub outputs: u32,
@@ -31,13 +33,14 @@ pub struct BenchSizes {
     pub depth: u64,
 }
 
-/// What `bench` gives, its exact causes and where it serves exclude one another, and it has one exact cause at most.
+/// What `bench` gives, its exact causes and where it serves exclude one another, and it has one
+/// exact cause at most.
 pub fn one_outcome()
     ensures { HasOneOutcome IsNoBudget Gives IsCause Serves }
 {}
 
-/// The sizes of the program of an adder of the order's number of bits, and of the circuit that `compile` makes of it. A
-/// fault is one of `compile` for the adder's text.
+/// The sizes of the program of an adder of the order's number of bits, and of the circuit that
+/// `compile` makes of it. A fault is one of `compile` for the adder's text.
 pub fn measure(alloc: Global, order: &Order) -> Result<BenchSizes, Fault>
     requires limits { IsWithinLimits (order_of order.now) }
     requires size { IsAdderSize order.now.number }
@@ -70,48 +73,16 @@ pub fn write<K: Sink>(sizes: &BenchSizes, out: &mut K) -> Result<(), Failed>
     ensures bytes { Writes result (K.held out.old) (K.held out.new) (bench_text sizes.now) }
     ensures cause { HasCause (K.faults out.old) (K.faults out.new) result }
 {
-    let mut buffer = Buffer::new();
-    put(&mut buffer, out, sizes)?;
-    buffer.finish(out)
-}
-
-fn put<K: Sink>(buffer: &mut Buffer, out: &mut K, sizes: &BenchSizes) -> Result<(), Failed>
-    ensures bytes { Gathers result (K.held out.old) (K.held out.new) buffer.old buffer.new
-        (bench_text sizes.now) }
-    ensures cause { HasCause (K.faults out.old) (K.faults out.new) result }
-{
-    put_two_numbers(
-        buffer,
+    write_numbers(
+        &[
+            (b"inputs ", sizes.inputs as u64),
+            (b"outputs ", sizes.outputs as u64),
+            (b"writes ", sizes.writes as u64),
+            (b"width ", sizes.width),
+            (b"lines ", sizes.lines as u64),
+            (b"gates ", sizes.gates),
+            (b"depth ", sizes.depth),
+        ],
         out,
-        b"inputs ",
-        sizes.inputs as u64,
-        b"outputs ",
-        sizes.outputs as u64,
-    )?;
-    put_two_numbers(
-        buffer,
-        out,
-        b"writes ",
-        sizes.writes as u64,
-        b"width ",
-        sizes.width,
-    )?;
-    put_circuit(buffer, out, sizes)
-}
-
-// Puts the lines of the circuit's sizes.
-fn put_circuit<K: Sink>(buffer: &mut Buffer, out: &mut K, sizes: &BenchSizes) -> Result<(), Failed>
-    ensures bytes { Gathers result (K.held out.old) (K.held out.new) buffer.old buffer.new
-        (circuit_lines sizes.now) }
-    ensures cause { HasCause (K.faults out.old) (K.faults out.new) result }
-{
-    put_two_numbers(
-        buffer,
-        out,
-        b"lines ",
-        sizes.lines as u64,
-        b"gates ",
-        sizes.gates,
-    )?;
-    put_number(buffer, out, b"depth ", sizes.depth, b"\n")
+    )
 }

@@ -9,13 +9,14 @@ use command_answers::Fault;
 use revs_parser::MOST_BYTES;
 use std::alloc::Global;
 
-/// What `check` gives, its causes and where it serves exclude one another, and it has one cause at most.
+/// What `check` gives, its causes and where it serves exclude one another, and it has one cause at
+/// most.
 pub fn one_outcome()
     ensures { HasOneOutcome IsAnyFault Gives IsCause Serves }
 {}
 
-/// The number of claims of a text's program, all of which hold on all inputs. A fault is exactly the text's refusal or
-/// a claim that stops, or want of memory.
+/// The number of claims of a text's program, all of which hold on all inputs. A fault is exactly
+/// the text's refusal or a claim that stops, or want of memory.
 pub fn check(alloc: Global, text: &[u8], nodes: u32) -> Result<u32, Fault>
     requires short { length text.now ≤ MOST_BYTES }
     requires nodes { 1 ≤ nodes }

@@ -15,14 +15,16 @@ use revc_words::{Format, Order};
 use revs_parser::MOST_BYTES;
 use std::alloc::Global;
 
-/// What `compile` gives, its exact causes and where it serves exclude one another, and it has one exact cause at most.
+/// What `compile` gives, its exact causes and where it serves exclude one another, and it has one
+/// exact cause at most.
 pub fn one_outcome()
     ensures { HasOneOutcome IsNoBudget Gives IsCause Serves }
 {}
 
-/// The plan of the clean file of a text's program, whose claims hold on all inputs, within the budgets of an order. A
-/// text is refused exactly for its refusal, a claim stops exactly where it does; a budget is passed only where no row of
-/// the budget numbers that the order allows fits; no other fault comes but want of memory.
+/// The plan of the clean file of a text's program, whose claims hold on all inputs, within the
+/// budgets of an order. A text is refused exactly for its refusal, a claim stops exactly where it
+/// does; a budget is passed only where no row of the budget numbers that the order allows fits; no
+/// other fault comes but want of memory.
 pub fn compile(alloc: Global, text: &[u8], order: &Order) -> Result<Laid, Fault>
     requires short { length text.now ≤ MOST_BYTES }
     requires limits { IsWithinLimits (order_of order.now) }

@@ -14,13 +14,14 @@ use revc_base::{Bits, BitsFault, Tape, TapeEnd};
 use revs_parser::MOST_BYTES;
 use std::alloc::Global;
 
-/// What `eval` gives, its causes and where it serves exclude one another, and it has one cause at most.
+/// What `eval` gives, its causes and where it serves exclude one another, and it has one cause at
+/// most.
 pub fn one_outcome()
     ensures { HasOneOutcome IsAnyFault Gives IsCause Serves }
 {}
 
-/// The bits that a text's program gives on the bits of a word. A fault is exactly the text's, the word's or the
-/// claim's, or want of memory.
+/// The bits that a text's program gives on the bits of a word. A fault is exactly the text's, the
+/// word's or the claim's, or want of memory.
 pub fn evaluate(alloc: Global, text: &[u8], word: &str) -> Result<Bits, Fault>
     requires { length text.now ≤ MOST_BYTES }
     ensures ok { IfOk result (IsValueOf text.now word.now) }

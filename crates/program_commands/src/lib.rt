@@ -1,4 +1,5 @@
-//! The commands that read a program, `compile`, `check` and `eval`, and those that make one, `gen` and `bench`.
+//! The commands that read a program, `compile`, `check` and `eval`, and those that make one, `gen`
+//! and `bench`.
 #![tactic(auto)]
 
 pub mod bench;

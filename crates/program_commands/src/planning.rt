@@ -15,10 +15,10 @@ use revc_words::Order;
 use revs_parser::MOST_BYTES;
 use std::alloc::Global;
 
-/// The tape of a text's program, whose claims hold on all inputs, and the first plan that fits the budgets of an order,
-/// a clean circuit of the program. A text is refused exactly for its refusal, a claim stops exactly where it does; a
-/// budget is passed only where no row of the budget numbers that the order allows fits; no other fault comes but want
-/// of memory.
+/// The tape of a text's program, whose claims hold on all inputs, and the first plan that fits the
+/// budgets of an order, a clean circuit of the program. A text is refused exactly for its refusal,
+/// a claim stops exactly where it does; a budget is passed only where no row of the budget numbers
+/// that the order allows fits; no other fault comes but want of memory.
 pub fn plan_text(alloc: Global, text: &[u8], order: &Order) -> Result<(Tape, Laid), Fault>
     requires short { length text.now ≤ MOST_BYTES }
     requires limits { IsWithinLimits (order_of order.now) }

@@ -4,7 +4,8 @@ ghost use Rattle.revs_parser.specs.WellFormed.{IsProgramText, IsWellFormed};
 ghost use Rattle.revs_terms.specs.Runs.{IsTapeOf};
 ghost use Rattle.revs_terms.specs.Trees.{tree_of};
 ghost use Rattle.revs_terms.specs.Views.{view_of};
-ghost use Rattle.program_commands.specs.inside.Mappings.{lexing_fault, parsing_fault, scope_fault, run_fault};
+ghost use Rattle.program_commands.specs.inside.Mappings.{lexing_fault, parsing_fault, scope_fault};
+ghost use Rattle.program_commands.specs.inside.Mappings.{run_fault};
 ghost use Rattle.program_commands.specs.inside.Plans.{IsTextFault, IsBoundAs};
 
 use command_answers::{Fault, Kind, Refusal};
@@ -16,8 +17,8 @@ use revs_parser::{MOST_BYTES, ParseFault, parse};
 use revs_terms::Program;
 use std::alloc::Global;
 
-/// The program of a well-formed text, with its names bound, and the tape that it leaves on every input. A fault is the
-/// text's refusal, or want of memory.
+/// The program of a well-formed text, with its names bound, and the tape that it leaves on every
+/// input. A fault is the text's refusal, or want of memory.
 pub fn tape_of_text(alloc: Global, text: &[u8]) -> Result<(Scoped, Tape), Fault>
     requires { length text.now ≤ MOST_BYTES }
     ensures formed { IfOk result (λ run. IsWellFormed text.now (view_of run.0.program)) }

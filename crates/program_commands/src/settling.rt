@@ -1,5 +1,6 @@
 // From a text to the settled graph of its program.
-ghost use Rattle.std.specs.Prelude.{◌≡◌, ◌+◌, ◌<◌, ◌≤◌, List, ℕ, length, slice_get, IfOk, IfErr, IfSome};
+ghost use Rattle.std.specs.Prelude.{◌≡◌, ◌+◌, ◌<◌, ◌≤◌, List, ℕ, length, slice_get, IfOk, IfErr};
+ghost use Rattle.std.specs.Prelude.{IfSome};
 ghost use Rattle.claim_check.specs.Claims.{IsClaimFault};
 ghost use Rattle.claim_check.specs.Measures.{IsNoLarger};
 ghost use Rattle.claim_check.specs.Settled.{IsSettled, IsSettledOf};
@@ -15,8 +16,8 @@ use revc_base::{Place, Tape};
 use revs_parser::MOST_BYTES;
 use std::alloc::Global;
 
-/// The tape of a text's program, whose claims hold on all inputs, and its settled graph. A fault is exactly the text's
-/// refusal or a claim that stops, or want of memory.
+/// The tape of a text's program, whose claims hold on all inputs, and its settled graph. A fault is
+/// exactly the text's refusal or a claim that stops, or want of memory.
 pub fn settle_text(alloc: Global, text: &[u8], nodes: u32) -> Result<(Tape, Settled), Fault>
     requires short { length text.now ≤ MOST_BYTES }
     requires nodes { 1 ≤ nodes }

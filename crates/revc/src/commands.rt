@@ -1,5 +1,5 @@
-// What an order makes of a text before anything is written: it takes all memory, and meets every fault but that of
-// writing.
+// What an order makes of a text before anything is written: it takes all memory, and meets every
+// fault but that of writing.
 ghost use Rattle.std.specs.Prelude.{◌≡◌, ◌≤◌, length, IfOk, IfErr};
 ghost use Rattle.revc_io.specs.Faults.{HasCause};
 ghost use Rattle.revc_io.specs.Passing.{Writes};

@@ -1,5 +1,5 @@
-//! A compiler of Revs programs to clean reversible circuits (Amy, Roetteler, Svore: Verified compilation
-//! of space-efficient reversible circuits, CAV 2017).
+//! A compiler of Revs programs to clean reversible circuits (Amy, Roetteler, Svore: Verified
+//! compilation of space-efficient reversible circuits, CAV 2017).
 #![tactic(auto)]
 
 #[cfg(test)]

@@ -1,10 +1,13 @@
 // The top call: all that the program does.
-ghost use Rattle.std.specs.Prelude.{◌≡◌, ◌≢◌, ◌≤◌, ◌⊎◌, true, false, Contains, length, IfSome, IfOk, OnOk, OnErr, IfErr, IsErrOf};
+ghost use Rattle.std.specs.Prelude.{◌≡◌, ◌≢◌, ◌≤◌, ◌⊎◌, true, false, Contains, length, IfSome};
+ghost use Rattle.std.specs.Prelude.{IfOk, OnOk, OnErr, IfErr, IsErrOf};
 ghost use Rattle.std.specs.Io.KnownBytes.{IsAtEnd};
 ghost use Rattle.revc_io.specs.Faults.{Rose};
-ghost use Rattle.revc.specs.Commands.{Gives, IsCausedBy, IsCauseOrMemory, Serves, most_bytes, reads_source, statuses_of, text_told};
+ghost use Rattle.revc.specs.Commands.{Gives, IsCausedBy, IsCauseOrMemory, Serves, most_bytes};
+ghost use Rattle.revc.specs.Commands.{reads_source, statuses_of, text_told};
 ghost use Rattle.command_answers.specs.Faults.{status_of};
-ghost use Rattle.revc.specs.Top.{Grows, GrowsByPrefix, IsReadAt, IsReadFor, IsReadWhole, IsStatusOfAll, MayEnd};
+ghost use Rattle.revc.specs.Top.{Grows, GrowsByPrefix, IsReadAt, IsReadFor, IsReadWhole};
+ghost use Rattle.revc.specs.Top.{IsStatusOfAll, MayEnd};
 ghost use Rattle.revc.specs.Top.{IsUnread, Reports, RestsOnText, Served, Stopped};
 ghost use Rattle.revc_words.specs.Words.{HasNoOrder, IsWithinLimits, order_of, words_of};
 ghost use Rattle.revc.specs.inside.Mappings.{reading_fault, too_long, words_fault};
@@ -15,9 +18,9 @@ use revc_io::{ReadFault, Sink, Source, read_up_to};
 use revc_words::{Command, Order, WordsFault, read_words};
 use std::alloc::Global;
 
-/// Does what the words of the command line ask for, without the program's own name, and answers the status: what each
-/// command reads and writes, `revc_words::Command` says. Whatever the words, it writes to `out` at status 0 and 10
-/// alone, and one line to `err` at each other status.
+/// Does what the words of the command line ask for, without the program's own name, and answers the
+/// status: what each command reads and writes, `revc_words::Command` says. Whatever the words, it
+/// writes to `out` at status 0 and 10 alone, and one line to `err` at each other status.
 pub fn revc<S: Source, K: Sink, E: Sink>(
     alloc: Global,
     words: &[String],
@@ -48,8 +51,8 @@ pub fn revc<S: Source, K: Sink, E: Sink>(
     ensures calm { result ≡ 0
         → (S.faults source.new ≡ S.faults source.old) × (K.faults out.new ≡ K.faults out.old) }
 
-    // Where an exact cause holds, its status comes; where the order serves, success, unless memory or a device is
-    // wanting.
+    // Where an exact cause holds, its status comes; where the order serves, success, unless memory
+    // or a device is wanting.
     ensures exact { result ≢ 9 → result ≢ 11 → Served (words_of words.now) (S.rest source.old)
         (λ order text. IsStatusOfAll order text result) }
     ensures completes { ¬ Rose (S.faults source.old) (S.faults source.new)
@@ -57,8 +60,8 @@ pub fn revc<S: Source, K: Sink, E: Sink>(
         → Served (words_of words.now) (S.rest source.old)
         (λ order text. Serves order text → (result ≡ 0) ⊎ (result ≡ 11)) }
 
-    // Words that give no order, or one that reads no source, leave it as it is; a text within the limit is read to its
-    // end before all else.
+    // Words that give no order, or one that reads no source, leave it as it is; a text within the
+    // limit is read to its end before all else.
     ensures untouched { result ≡ 2 → source.new ≡ source.old }
     ensures unread { IsUnread (words_of words.now) (source.new ≡ source.old) }
     ensures read_whole { result ≢ 2 → result ≢ 9 → result ≢ 11
@@ -120,7 +123,8 @@ fn carry_out<S: Source, K: Sink>(
     requires { IsWithinLimits (order_of order.now) }
     ensures gives { OnOk result (IfSome (text_told order.now.command (S.rest source.old))
         (λ text. Grows (Gives (order_of order.now) text) (K.held out.old) (K.held out.new))) }
-    ensures begins { IsErrOf result Fault.Write → IfSome (text_told order.now.command (S.rest source.old))
+    ensures begins { IsErrOf result Fault.Write
+        → IfSome (text_told order.now.command (S.rest source.old))
         (λ text. GrowsByPrefix (Gives (order_of order.now) text) (K.held out.old)
         (K.held out.new)) }
     ensures silent { OnErr result ((IsErrOf result Fault.Write → ⊥) → out.new ≡ out.old) }

@@ -23,7 +23,8 @@ returns-in-Ok-clause-begins g c = λ is.
 
 pub returns-in-Ok-clause-causes : goal.returns-in-Ok-clause-causes
 returns-in-Ok-clause-causes g c =
-    if_err c.carry_out.result (λ fault. IfSome (text_told c.in-Ok.order.command (g.S.Source.rest c.args.source.now)) (λ text. IsCausedBy (order_of c.in-Ok.order) text fault)) _
+    if_err c.carry_out.result
+    (λ fault. IfSome (text_told c.in-Ok.order.command (g.S.Source.rest c.args.source.now)) (λ text. IsCausedBy (order_of c.in-Ok.order) text fault)) _
     (λ fault. serve (map string_bytes c.args.words.now) (order_of c.in-Ok.order) _ (λ order text. IsCausedBy order text fault) c.in-Ok.ensures.ok)
     c.carry_out.ensures.causes
 
