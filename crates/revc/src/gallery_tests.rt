@@ -1,21 +1,8 @@
-use crate::circuit_tests::digits;
-use crate::tests::{file_of, output_of};
-use std::alloc::{AllocError, Global};
+use crate::tests::{COMPARATOR, FULL_ADDER, MAJORITY, PRODUCT, TURNED, check, left_of};
+use revc_base::Memory;
+use std::alloc::Global;
 use std::process::Abort;
 use std::test::Fail;
-
-// Programs of `examples/` without their comments.
-const MAJORITY: &[u8] = b"main (a : bool) (b : bool) (c : bool) = a && b <> a && c <> b && c";
-
-const COMPARATOR: &[u8] = b"main (a : bool[3]) (b : bool[3]) = {
-  let not x = true <> x;
-  let same x y = not (x <> y);
-  let below x y = not x && y;
-  let s2 = same a.[2] b.[2];
-  let s1 = same a.[1] b.[1] && s2;
-  let s0 = same a.[0] b.[0] && s1;
-  reg [below a.[2] b.[2] <> s2 && below a.[1] b.[1] <> s1 && below a.[0] b.[0]; s0]
-}";
 
 const CHI: &[u8] = b"main (x : bool[5]) = {
   let chi a b c = a <> (true <> b) && c;
@@ -24,8 +11,9 @@ const CHI: &[u8] = b"main (x : bool[5]) = {
 }";
 
 const PRESENT: &[u8] = b"main (x : bool[4]) = {
-  let p01 = x.[0] && x.[1]; let p12 = x.[1] && x.[2]; let p03 = x.[0] && x.[3]; let p13 = x.[1] && x.[3];
-  let p23 = x.[2] && x.[3]; let p012 = x.[0] && p12; let p013 = x.[0] && p13; let p023 = x.[0] && p23;
+  let p01 = x.[0] && x.[1]; let p12 = x.[1] && x.[2]; let p03 = x.[0] && x.[3];
+  let p13 = x.[1] && x.[3]; let p23 = x.[2] && x.[3];
+  let p012 = x.[0] && p12; let p013 = x.[0] && p13; let p023 = x.[0] && p23;
   let y0 = x.[0] <> x.[2] <> x.[3] <> p12;
   let y1 = x.[1] <> x.[3] <> p13 <> p23 <> p012 <> p013 <> p023;
   let y2 = true <> x.[2] <> x.[3] <> p01 <> p03 <> p13 <> p013 <> p023;
@@ -33,10 +21,17 @@ const PRESENT: &[u8] = b"main (x : bool[4]) = {
   reg [y0; y1; y2; y3]
 }";
 
-// A program, how many inputs and outputs it has, and the number of its outputs for each number of its inputs, place 0
-// being the lowest bit: where at least two bits are set; below, and equal; a row of chi by FIPS 202; the S-box by its
-// published table.
-const FUNCTIONS: &[(&[u8], usize, usize, &[u32])] = &[
+const UNCOMPUTED: &[u8] =
+    b"main (a : bool) (b : bool) = { let t = a <> b; t <- t <> (a <> b); clean t; a && b }";
+
+// A program, how many inputs and outputs it has, and the number of its outputs for each number of
+// its inputs, place 0 being the lowest bit: the sum of three bits; where at least two bits are set;
+// below, and equal; a row of chi by FIPS 202; the S-box by its published table.
+const FUNCTIONS: &[(&[u8], usize, usize, &[usize])] = &[
+    (PRODUCT, 2, 1, &[0, 0, 0, 1]),
+    (UNCOMPUTED, 2, 1, &[0, 0, 0, 1]),
+    (FULL_ADDER, 3, 2, &[0, 1, 1, 2, 1, 2, 2, 3]),
+    (TURNED, 3, 4, &[0, 12, 9, 5, 10, 6, 3, 15]),
     (MAJORITY, 3, 1, &[0, 0, 0, 1, 0, 1, 1, 1]),
     (
         COMPARATOR,
@@ -65,46 +60,95 @@ const FUNCTIONS: &[(&[u8], usize, usize, &[u32])] = &[
     ),
 ];
 
-// An input, its outputs, and zeros up to so many bytes, the last of which is a line feed.
-fn line_of(alloc: Global, word: &str, outputs: &str, length: usize) -> Result<Vec<u8>, AllocError> {
-    let mut line = word.as_bytes().to_vec(alloc)?;
-    line.extend_from_slice(outputs.as_bytes())?;
-    for _ in line.len()..length.saturating_sub(1) {
-        line.push(b'0')?;
+// The last digits of a number, the least one first.
+fn digits(alloc: Global, number: usize, count: usize) -> Result<String, Memory> {
+    let mut text = String::new(alloc);
+    let mut rest = number;
+    for _ in 0..count {
+        text.push_str(if rest % 2 == 1 { "1" } else { "0" })?;
+        rest /= 2;
     }
-    line.push(b'\n')?;
-    Ok(line)
+    Ok(text)
 }
 
-// What the circuit of a plan does on all inputs.
+// Whether a line of `run` has an input, its outputs and zeros.
+fn is_clean(line: &[u8], word: &[u8], bits: &[u8]) -> bool {
+    match work_of(line, word, bits) {
+        Some(work) => work.iter().all(|digit| *digit == b'0'),
+        None => false,
+    }
+}
+
+// The bits of the work lines.
+fn work_of<'a>(line: &'a [u8], word: &[u8], bits: &[u8]) -> Option<&'a [u8]> {
+    line.strip_prefix(word)?
+        .strip_prefix(bits)?
+        .strip_suffix(b"\n")
+}
+
+// The circuit of a plan leaves an input, its outputs and zeros.
+fn leaves(
+    rt: &impl Abort,
+    alloc: Global,
+    text: &[u8],
+    plan: &str,
+    word: &str,
+    bits: &str,
+) -> Result<(), Fail> {
+    let calls = format!(in alloc; "compile --plan {plan} | run {word}")?;
+    let left = left_of(alloc, calls.as_str(), text)?;
+    assert!(rt;
+        is_clean(&left.out, word.as_bytes(), bits.as_bytes()),
+        "{plan} {word}"
+    );
+    Ok(())
+}
+
+// `eval` gives these outputs on an input.
+fn has_value(
+    rt: &impl Abort,
+    alloc: Global,
+    text: &[u8],
+    word: &str,
+    bits: &str,
+) -> Result<(), Fail> {
+    let calls = format!(in alloc; "eval {word}")?;
+    let line = format!(in alloc; "{bits}\n")?;
+    check(rt, alloc, calls.as_str(), text, 0, line.as_bytes())
+}
+
+// What the circuits do, and what `eval` gives, on an input.
 fn computes(
     rt: &impl Abort,
     alloc: Global,
-    plan: &str,
     text: &[u8],
-    inputs: usize,
-    outputs: usize,
-    values: &[u32],
+    word: &str,
+    bits: &str,
 ) -> Result<(), Fail> {
-    let file = file_of(rt, alloc, &["compile", "--plan", plan], &[(text, 1)])?;
-    let mut number = 0_u32;
-    for value in values {
-        let word = digits(alloc, number, inputs)?;
-        number = number.saturating_add(1);
-        let bits = digits(alloc, *value, outputs)?;
-        let words = ["run", word.as_str()];
-        let given = output_of(rt, alloc, &words, file.bytes().to_vec(alloc)?)?;
-        let wanted = line_of(alloc, word.as_str(), bits.as_str(), given.bytes().len())?;
-        assert_eq!(rt; given.bytes(), wanted.as_slice());
-    }
-    Ok(())
+    leaves(rt, alloc, text, "eager", word, bits)?;
+    leaves(rt, alloc, text, "pebble", word, bits)?;
+    has_value(rt, alloc, text, word, bits)
+}
+
+// The same on the inputs with this number.
+fn computes_at(
+    rt: &impl Abort,
+    alloc: Global,
+    text: &[u8],
+    (number, inputs): (usize, usize),
+    (value, outputs): (usize, usize),
+) -> Result<(), Fail> {
+    let word = digits(alloc, number, inputs)?;
+    let bits = digits(alloc, value, outputs)?;
+    computes(rt, alloc, text, word.as_str(), bits.as_str())
 }
 
 #[test]
 fn circuits_of_the_gallery_compute_their_functions(rt: HostRuntime) -> Result<(), Fail> {
     for (text, inputs, outputs, values) in FUNCTIONS {
-        for plan in ["eager", "pebble"] {
-            computes(&rt, rt.alloc(), plan, text, *inputs, *outputs, values)?;
+        for (number, value) in values.iter().enumerate() {
+            let (input, output) = ((number, *inputs), (*value, *outputs));
+            computes_at(&rt, rt.alloc(), text, input, output)?;
         }
     }
     Ok(())

@@ -10,7 +10,11 @@ mod circuit_tests;
 mod claim_tests;
 mod commands;
 #[cfg(test)]
+mod compile_tests;
+#[cfg(test)]
 mod convert_tests;
+#[cfg(test)]
+mod eval_tests;
 #[cfg(test)]
 mod gallery_tests;
 #[cfg(test)]
