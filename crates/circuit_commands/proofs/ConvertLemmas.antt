@@ -1,5 +1,5 @@
 -- `convert`: the split list of a text's circuit, and the file of it.
-use Rattle.std.proofs.Common.{◌≡◌, ℕ, ◌+◌, ◌-◌, ◌<◌, ◌≤◌, Bool, true, false, List, ◌++◌, length, Ok, Err, refl, sym, ap, ◌∙◌, subst, arith}
+use Rattle.std.proofs.Common.{◌≡◌, ℕ, ◌+◌, ◌<◌, ◌≤◌, Bool, true, false, List, ◌++◌, length, Ok, Err, refl, sym, ap, ◌∙◌, subst, arith}
 use Rattle.std.proofs.lemmas.List.{length-append}
 use Rattle.mct_circuit.specs.Gates.{CircuitView, GateView, AreGatesOn, line_map}
 use Rattle.mct_circuit.proofs.MoreLinesLemmas.{more_lines}

@@ -1,6 +1,5 @@
-use Rattle.std.proofs.Common.{◌≡◌, ℕ, List, [], ◌++◌, append_assoc, append-nil, codes, subst}
+use Rattle.std.proofs.Common.{◌≡◌, ℕ, List, [], ◌++◌, append_assoc, append-nil, codes}
 use Rattle.command_answers.specs.Lines.{number_line}
-use Rattle.revc_io.specs.Passing.{Writes}
 use Rattle.circuit_commands.proofs.stat.write.Goals as goal
 
 regrouped : (a b c d e f g h : List ℕ)
