@@ -3,6 +3,7 @@ ghost use Rattle.std.specs.Prelude.{◌≡◌, ◌<◌, ◌≤◌, length, map, 
 ghost use Rattle.mct_circuit.specs.Gates.{line_map};
 ghost use Rattle.circuit_sim.specs.Planes.{AreVectors};
 ghost use Rattle.circuit_sim.specs.Rows.{AreRows, contents};
+ghost use Rattle.circuit_sim.specs.declared.rows.TheConstants.{LANE_ROWS, MOST_ROWS};
 ghost use Rattle.circuit_sim.specs.inside.Loaded.{IsFrontChanged};
 
 use crate::lanes::{run_lanes, run_pair};
@@ -91,7 +92,7 @@ fn run_at_once(
     planes: &mut [u64],
     rows: &mut [Vec<bool>],
 )
-    requires few { length rows.old ≤ 1024 }
+    requires few { length rows.old ≤ MOST_ROWS }
     requires planes { length planes.old ≡ circuit.now.lines }
     requires lines { (length first.old ≡ circuit.now.lines)
         × (length second.old ≡ circuit.now.lines) }
@@ -128,7 +129,7 @@ fn run_by_lanes(
     planes: &mut [u64],
     rows: &mut [Vec<bool>],
 )
-    requires few { length rows.old ≤ 512 }
+    requires few { length rows.old ≤ LANE_ROWS }
     requires planes { length planes.old ≡ circuit.now.lines }
     requires lines { length vectors.old ≡ circuit.now.lines }
     requires vectors { AreVectors vectors.old }
@@ -149,8 +150,8 @@ fn run_by_pair(
     planes: &mut [u64],
     rows: &mut [Vec<bool>],
 )
-    requires many { 512 ≤ length rows.old }
-    requires few { length rows.old ≤ 1024 }
+    requires many { LANE_ROWS ≤ length rows.old }
+    requires few { length rows.old ≤ MOST_ROWS }
     requires planes { length planes.old ≡ circuit.now.lines }
     requires lines { (length first.old ≡ circuit.now.lines)
         × (length second.old ≡ circuit.now.lines) }

@@ -10,6 +10,7 @@ use Rattle.array_shapes.specs.Values.{ValueView, seen}
 use Rattle.inliner.specs.declared.leaps.Leap.{Leap}
 use Rattle.inliner.specs.declared.machine.Binding.{Binding}
 use Rattle.inliner.specs.declared.machine.Machine.{Machine}
+use Rattle.revc_base.specs.declared.limits.TheConstants.{MOST_INPUTS}
 use Rattle.revc_base.specs.Tapes.{TapeView}
 use Rattle.revc_base.specs.declared.place.Place.{Place}
 use Rattle.revs_terms.specs.Runs.{no_bits}
@@ -185,7 +186,7 @@ pub bound_done : (old mid now : Machine) (value : Value) (env made : ℕ) (leap 
     → count ≡ view_length (seen value) → Does old mid (worked no_bits count at (state_of old)) tt
     → now.bindings.items ≡ mid.bindings.items ++ record { value = value; parent = env; leap = leap } ∷ []
     → now.store.items ≡ mid.store.items → now.tape ≡ mid.tape → now.work ≡ mid.work → made ≡ length now.bindings.items
-    → length old.bindings.items + 1 ≤ 1024 + old.work → env ≤ length old.bindings.items → IsValue (length old.bindings.items) value
+    → length old.bindings.items + 1 ≤ MOST_INPUTS + old.work → env ≤ length old.bindings.items → IsValue (length old.bindings.items) value
     → AreLeaps [] now.bindings.items
     → BindsOne old now (bind_step (value_in (envs_of old) value) (env_in (envs_of old) env) there (state_of old)) made
 bound_done old mid now value env made leap at there p count n w b s t k m space h v leaps =

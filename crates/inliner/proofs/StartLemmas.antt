@@ -3,6 +3,7 @@ use Rattle.std.proofs.Common.{◌≡◌, ℕ, zero, suc, ◌+◌, ◌-◌, ◌�
 use Rattle.std.proofs.Common.{◌++◌, length, map, sum, refl, sym, ap, ◌∙◌, subst, arith, length-append}
 use Rattle.std.specs.List.{AllByRecursion, list_all, range_with_len, fold}
 use Rattle.std.proofs.lemmas.List.FromFn.{length-map-range_with_len}
+use Rattle.revc_base.specs.declared.limits.TheConstants.{MOST_INPUTS}
 use Rattle.revc_base.specs.declared.tape.Ref.{Ref}
 use Rattle.revc_base.specs.declared.tape.Ref.TheVariants as refs
 use Rattle.revc_base.specs.Tapes.{AreWidths}
@@ -78,7 +79,7 @@ pub record InBound (bs : List Binding) (first : ℕ) (rest params : List Param) 
   pub leaps : AreLeaps [] bs
   pub env : params_in first rest (env_in (envs_from [] bs) (length bs)) ≡ params_in 0 params nothing
   pub count : length bs + length rest ≡ length params
-  pub total : first + sum (widths_of rest) ≤ 1024
+  pub total : first + sum (widths_of rest) ≤ MOST_INPUTS
   pub few : length bs ≤ first
   pub wide : AllByRecursion (λ w. 1 ≤ w) (widths_of rest)
 
@@ -108,8 +109,8 @@ pub bound_more : (bs cs : List Binding) (first next parent : ℕ) (leap : Leap) 
 bound_more bs cs first next parent leap p ps rest params v cut s at n pushed l i =
     let b : Binding = record { value = v; parent = parent; leap = leap } in
     let longer : length cs ≡ length bs + 1 = ap length pushed ∙ length-append bs (b ∷ []) in
-    let whole : first + sum (widths_of (p ∷ ps)) ≤ 1024 = subst (λ (x : List Param). first + sum (widths_of x) ≤ 1024) cut i.total in
-    let total : first + (width_of p.width + sum (widths_of ps)) ≤ 1024 = omega (arith, whole, fold_more (0 + width_of p.width) (widths_of ps)) in
+    let whole : first + sum (widths_of (p ∷ ps)) ≤ MOST_INPUTS = subst (λ (x : List Param). first + sum (widths_of x) ≤ MOST_INPUTS) cut i.total in
+    let total : first + (width_of p.width + sum (widths_of ps)) ≤ MOST_INPUTS = omega (arith, whole, fold_more (0 + width_of p.width) (widths_of ps)) in
     let wide : AllByRecursion (λ w. 1 ≤ w) (widths_of (p ∷ ps)) = subst (λ (x : List Param). AllByRecursion (λ w. 1 ≤ w) (widths_of x)) cut i.wide in
     let last : env_in (envs_from [] cs) (length cs) ≡ bound (param_value first p.width) (env_in (envs_from [] bs) (length bs)) =
     ap (env_in (envs_from [] cs)) longer ∙ ap (λ (x : List Binding). env_in (envs_from [] x) (length bs + 1)) pushed ∙ pushed_at bs b

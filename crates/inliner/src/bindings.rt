@@ -1,4 +1,5 @@
 // Environments: values are bound, and found by how far out they were.
+ghost use Rattle.revc_base.specs.declared.limits.TheConstants.{MOST_INPUTS};
 ghost use Rattle.std.specs.Prelude.{◌≡◌, ◌+◌, ◌≤◌, length, IfOk, IfErr};
 ghost use Rattle.revs_terms.specs.Running.{value_at};
 ghost use Rattle.revs_terms.specs.Terms.{place_of};
@@ -19,7 +20,7 @@ impl<'t> Machine<'t> {
     /// register.
     pub fn bind(&mut self, env: u32, value: Value<'t>, term: &Term) -> Result<u32, RunFault>
         requires machine { IsMachine self.old }
-        requires room { length self.old.bindings.items + 1 ≤ 1024 + self.old.work }
+        requires room { length self.old.bindings.items + 1 ≤ MOST_INPUTS + self.old.work }
         requires env { env ≤ length self.old.bindings.items }
         requires made { IsValue (length self.old.bindings.items) value }
         ensures ok { IfOk result (λ bound. BindsOne self.old self.new

@@ -1,6 +1,7 @@
 // The run of a program.
 ghost use Rattle.std.specs.Prelude.{◌≡◌, ◌≤◌, length, sum, IfOk, IfErr};
 ghost use Rattle.std.specs.List.{AllByRecursion};
+ghost use Rattle.revc_base.specs.declared.limits.TheConstants.{MOST_OUTPUTS};
 ghost use Rattle.revc_base.specs.Tapes.{IsKnown};
 ghost use Rattle.revs_terms.specs.Runs.{no_bits, read_all, run_without_bits, IsTapeOf};
 ghost use Rattle.revs_terms.specs.Terms.{place_of};
@@ -90,7 +91,7 @@ fn read<'t>(machine: &Machine<'t>, locations: &[u32], body: &Term) -> Result<Vec
 fn finished(machine: Machine, outputs: Vec<Ref>) -> Tape
     requires known { AllByRecursion (IsKnown (sum machine.tape.params)
         (length machine.tape.entries)) outputs.items }
-    requires few { length outputs.items ≤ 1024 }
+    requires few { length outputs.items ≤ MOST_OUTPUTS }
     requires some { 1 ≤ length outputs.items }
     ensures { result ≡ record machine.entry.tape { outputs = outputs.items } }
 {

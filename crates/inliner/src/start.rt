@@ -1,4 +1,5 @@
 // The machine before a program's body is run.
+ghost use Rattle.revc_base.specs.declared.limits.TheConstants.{MOST_INPUTS};
 ghost use Rattle.std.specs.Prelude.{◌≡◌, ◌+◌, ◌-◌, ◌≤◌, map, Some, IfOk, IfErr};
 ghost use Rattle.std.specs.List.{range_with_len};
 ghost use Rattle.revs_terms.specs.Programs.{AreParams, width_of, widths_of};
@@ -61,7 +62,7 @@ fn inputs(alloc: Global, count: u32) -> Result<Vec<Option<Ref>>, RunFault>
 
 // The value of a parameter whose first input is this one.
 fn param_value<'t>(alloc: Global, first: u32, width: Option<u32>) -> Result<Value<'t>, RunFault>
-    requires { first + width_of width ≤ 1024 }
+    requires { first + width_of width ≤ MOST_INPUTS }
     ensures ok { IfOk result (λ value. seen value ≡ param_view first width) }
     ensures err { IfErr result (λ fault. fault ≡ RunFault.Memory) }
 {

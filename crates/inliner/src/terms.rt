@@ -1,4 +1,5 @@
 // Terms, run by their forms.
+ghost use Rattle.revc_base.specs.declared.limits.TheConstants.{MOST_INPUTS};
 ghost use Rattle.std.specs.Prelude.{◌+◌, ◌≤◌, length, map, IfOk, OnOk, IfErr};
 ghost use Rattle.revs_terms.specs.Running.{run_of, term_of, bit_of, bits_of, block_of, apply_to};
 ghost use Rattle.revs_terms.specs.Running.{claimed};
@@ -397,7 +398,7 @@ impl<'t> Machine<'t> {
         left: u32,
     ) -> Result<Value<'t>, RunFault>
         requires machine { IsMachine self.old }
-        requires room { length self.old.bindings.items + 1 ≤ 1024 + self.old.work }
+        requires room { length self.old.bindings.items + 1 ≤ MOST_INPUTS + self.old.work }
         requires callee { IsValue (length self.old.bindings.items) callee }
         requires argument { IsValue (length self.old.bindings.items) argument }
         ensures ok { IfOk result (λ value. Calls self.old self.new

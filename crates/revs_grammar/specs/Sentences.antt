@@ -1,5 +1,6 @@
 -- The sentences of the grammar, and the programs that they spell.
 use Rattle.std.specs.Prelude.{◌≡◌, ℕ, ◌+◌, leb, Bool, true, List, [], ◌∷◌, ◌++◌}
+use Rattle.revs_terms.specs.declared.limits.TheConstants.{MOST_LEVELS}
 use Rattle.revs_lexer.specs.declared.token.Token.{Token}
 use Rattle.revs_terms.specs.declared.program.Param.{Param}
 use Rattle.revs_terms.specs.Trees.{Tree}
@@ -95,7 +96,7 @@ any_level _ = true
 
 -- no level above 100
 abbrev pub few_levels : ℕ → Bool
-few_levels level = leb level 100
+few_levels level = leb level MOST_LEVELS
 
 -- The tokens are the sentence of a program with these parameters and this body, and the levels that it opens are among the allowed.
 pub record IsSentenceOf (allowed : ℕ → Bool) (ts : List Token) (params : List Param) (body : Tree) : Type 0 where

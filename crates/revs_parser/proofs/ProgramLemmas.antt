@@ -9,6 +9,7 @@ use Rattle.std.proofs.lemmas.List.Sums.{sum_by-append}
 use Rattle.std.proofs.lemmas.List.Folds.{list_all-append}
 use Rattle.std.proofs.lemmas.Bool.Decides.{nat_tests}
 use Rattle.revc_base.specs.declared.place.Place.{Place}
+use Rattle.revc_base.specs.declared.limits.TheConstants.{MOST_INPUTS}
 use Rattle.revs_lexer.specs.declared.sign.Sign.TheVariants as signs
 use Rattle.revs_lexer.specs.declared.word.Word.TheVariants as words
 use Rattle.revs_lexer.specs.declared.token.Tok.{Tok}
@@ -238,7 +239,7 @@ one_bit : (w : ℕ) → ¬ (w ≡ 0) → list_all (λ width. leb 1 width) (w ∷
 one_bit w h = grind (arith, nat_tests)
 
 pub limits_more : {params rest : List Param} {total : ℕ} (p : Param) (behind : List Param) (new : ℕ) → WithinLimits params rest total → rest ≡ p ∷ behind
-    → ¬ (width_of p.width ≡ 0) → total + width_of p.width ≤ 1024 → new ≡ total + width_of p.width → WithinLimits params behind new
+    → ¬ (width_of p.width ≡ 0) → total + width_of p.width ≤ MOST_INPUTS → new ≡ total + width_of p.width → WithinLimits params behind new
 limits_more {total} p behind new h e some few w =
     let t = h.total in
     let pushed = sum-push h.before p in record {

@@ -2,6 +2,7 @@
 
 ghost use Rattle.std.specs.Prelude.{◌≡◌, ◌+◌, ◌<◌, ◌≤◌, true, false, length};
 ghost use Rattle.std.specs.Prelude.{[], ◌∷◌, IfOk, IfErr, IsErrOf};
+ghost use Rattle.revs_terms.specs.declared.limits.TheConstants.{MOST_LEVELS};
 ghost use Rattle.revs_grammar.specs.Forms as g;
 ghost use Rattle.revs_grammar.specs.Productions.{bound_of};
 ghost use Rattle.revs_grammar.specs.Sentences.{form, few_levels};
@@ -18,11 +19,9 @@ use crate::leaf::{after, after_word, expect, name, number};
 use crate::stop::Stop;
 use revc_base::Place;
 use revs_lexer::{Sign, Tok, Token, Word};
+use revs_terms::limits::MOST_LEVELS;
 use revs_terms::{Item, Lambda, Name, Part, Term};
 use std::alloc::Global;
-
-/// The most levels that a sentence opens.
-const MOST_LEVELS: u32 = 100;
 
 // Whether a name stands first.
 fn begins_name(tokens: &[Token]) -> bool
@@ -83,7 +82,7 @@ fn all_parts(alloc: Global, tokens: &[Token]) -> Result<(Vec<Part>, &[Token]), S
 
 // The level inside, where it is at most 100; the tokens begin with the one that opens it.
 fn open(level: u32, tokens: &[Token]) -> Result<u32, Stop>
-    requires { level ≤ 100 }
+    requires { level ≤ MOST_LEVELS }
     ensures inner { IfOk result (λ inner. inner ≡ level + 1) }
     ensures within { IfOk result (λ inner. few_levels (level + 1) ≡ true) }
     ensures stops { IfErr result (λ stop. stop ≡ Stop.Nesting (length tokens.now)) }
@@ -99,7 +98,7 @@ fn open(level: u32, tokens: &[Token]) -> Result<u32, Stop>
 /// The expression at this level that stands first, and the tokens behind it.
 #[cycle(read)]
 pub fn expression(alloc: Global, tokens: &[Token], level: u32) -> Result<(Term, &[Token]), Stop>
-    requires { level ≤ 100 }
+    requires { level ≤ MOST_LEVELS }
     ensures ok { IfOk result (λ read. ReadsForm g.expression level
         (tree_of read.0) tokens.now read.1.now) }
     ensures halts { IfErr result (λ stop. HaltsIn g.expression level tokens.now stop) }
@@ -125,7 +124,7 @@ fn function(
     level: u32,
     at: Place,
 ) -> Result<(Term, &[Token]), Stop>
-    requires { level ≤ 100 }
+    requires { level ≤ MOST_LEVELS }
     ensures ok { IfOk result (λ read. ReadsFunction level at
         (tree_of read.0) tokens.now read.1.now) }
     ensures halts { IfErr result (λ stop. Halts (in_function level) tokens.now stop) }
@@ -142,7 +141,7 @@ fn function(
 
 #[cycle(read)]
 fn sum(alloc: Global, tokens: &[Token], level: u32) -> Result<(Term, &[Token]), Stop>
-    requires { level ≤ 100 }
+    requires { level ≤ MOST_LEVELS }
     ensures ok { IfOk result (λ read. ReadsForm g.sum level
         (tree_of read.0) tokens.now read.1.now) }
     ensures halts { IfErr result (λ stop. HaltsIn g.sum level tokens.now stop) }
@@ -165,7 +164,7 @@ fn sum(alloc: Global, tokens: &[Token], level: u32) -> Result<(Term, &[Token]), 
 
 #[cycle(read)]
 fn product(alloc: Global, tokens: &[Token], level: u32) -> Result<(Term, &[Token]), Stop>
-    requires { level ≤ 100 }
+    requires { level ≤ MOST_LEVELS }
     ensures ok { IfOk result (λ read. ReadsForm g.product level
         (tree_of read.0) tokens.now read.1.now) }
     ensures halts { IfErr result (λ stop. HaltsIn g.product level tokens.now stop) }
@@ -188,7 +187,7 @@ fn product(alloc: Global, tokens: &[Token], level: u32) -> Result<(Term, &[Token
 
 #[cycle(read)]
 fn application(alloc: Global, tokens: &[Token], level: u32) -> Result<(Term, &[Token]), Stop>
-    requires { level ≤ 100 }
+    requires { level ≤ MOST_LEVELS }
     ensures ok { IfOk result (λ read. ReadsForm g.application level
         (tree_of read.0) tokens.now read.1.now) }
     ensures halts { IfErr result (λ stop. HaltsIn g.application level tokens.now stop) }
@@ -233,7 +232,7 @@ fn begins_base(tokens: &[Token]) -> bool
 // An atom, and its arguments.
 #[cycle(read)]
 fn atoms(alloc: Global, tokens: &[Token], level: u32) -> Result<(Term, &[Token]), Stop>
-    requires { level ≤ 100 }
+    requires { level ≤ MOST_LEVELS }
     ensures ok { IfOk result (λ read. ReadsAtoms level (tree_of read.0) tokens.now read.1.now) }
     ensures halts { IfErr result (λ stop. Halts (in_application level) tokens.now stop) }
 {
@@ -255,7 +254,7 @@ fn atoms(alloc: Global, tokens: &[Token], level: u32) -> Result<(Term, &[Token])
 
 #[cycle(read)]
 fn atom(alloc: Global, tokens: &[Token], level: u32) -> Result<(Term, &[Token]), Stop>
-    requires { level ≤ 100 }
+    requires { level ≤ MOST_LEVELS }
     ensures ok { IfOk result (λ read. ReadsForm g.atom level
         (tree_of read.0) tokens.now read.1.now) }
     ensures halts { IfErr result (λ stop. HaltsIn g.atom level tokens.now stop) }
@@ -270,7 +269,7 @@ fn atom(alloc: Global, tokens: &[Token], level: u32) -> Result<(Term, &[Token]),
 
 #[cycle(read)]
 fn base(alloc: Global, tokens: &[Token], level: u32) -> Result<(Term, &[Token]), Stop>
-    requires { level ≤ 100 }
+    requires { level ≤ MOST_LEVELS }
     ensures ok { IfOk result (λ read. ReadsForm g.base level
         (tree_of read.0) tokens.now read.1.now) }
     ensures halts { IfErr result (λ stop. HaltsIn g.base level tokens.now stop) }
@@ -307,7 +306,7 @@ fn register(
     level: u32,
     at: Place,
 ) -> Result<(Term, &[Token]), Stop>
-    requires { level ≤ 100 }
+    requires { level ≤ MOST_LEVELS }
     ensures ok { IfOk result (λ read. ReadsRegister level at
         (tree_of read.0) tokens.now read.1.now) }
     ensures halts { IfErr result (λ stop. Halts (in_register level) tokens.now stop) }
@@ -334,7 +333,7 @@ enum Piece {
 // The items and the last expression of a block behind its `{`.
 #[cycle(read)]
 fn block(alloc: Global, tokens: &[Token], level: u32, at: Place) -> Result<(Term, &[Token]), Stop>
-    requires { level ≤ 100 }
+    requires { level ≤ MOST_LEVELS }
     ensures ok { IfOk result (λ read. ReadsBlock level at (tree_of read.0) tokens.now read.1.now) }
     ensures halts { IfErr result (λ stop. HaltsIn g.body level tokens.now stop) }
 {
@@ -354,7 +353,7 @@ fn block(alloc: Global, tokens: &[Token], level: u32, at: Place) -> Result<(Term
 
 #[cycle(read)]
 fn item_or_last(alloc: Global, tokens: &[Token], level: u32) -> Result<(Piece, &[Token]), Stop>
-    requires { level ≤ 100 }
+    requires { level ≤ MOST_LEVELS }
     ensures ok { IfOk result (λ read. ReadsPiece level read.0 tokens.now read.1.now) }
     ensures halts { IfErr result (λ stop. HaltsIn g.body level tokens.now stop) }
 {
@@ -373,7 +372,7 @@ fn item_or_last(alloc: Global, tokens: &[Token], level: u32) -> Result<(Piece, &
 // What a `let` binds, behind the word.
 #[cycle(read)]
 fn binding(alloc: Global, tokens: &[Token], level: u32) -> Result<(Item, &[Token]), Stop>
-    requires { level ≤ 100 }
+    requires { level ≤ MOST_LEVELS }
     ensures ok { IfOk result
         (λ read. ReadsBinding level (item_tree_of read.0) tokens.now read.1.now) }
     ensures halts { IfErr result (λ stop. Halts (in_binding level) tokens.now stop) }

@@ -22,12 +22,10 @@ use crate::expression::expression;
 use crate::leaf::{after, after_word, bool_word, expect, name, number};
 use crate::stop::Stop;
 use revc_base::Place;
+use revc_base::limits::MOST_INPUTS;
 use revs_lexer::{Sign, Tok, Token, Word};
 use revs_terms::{Param, Program, Term};
 use std::alloc::Global;
-
-/// The most inputs that a program has, in bits.
-const MOST_INPUTS: u32 = 1024;
 
 /// Why a list of tokens is no program.
 #[derive(Clone, Copy)]

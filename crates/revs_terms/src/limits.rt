@@ -1,7 +1,7 @@
 //! The limits of terms and of their runs.
 
 /// The most levels of a term.
-pub const MOST_LEVELS: usize = 100;
+pub const MOST_LEVELS: u32 = 100;
 
 /// The greatest depth at which a term is run.
 pub const MOST_DEPTH: u32 = 400;

@@ -1,6 +1,8 @@
 -- The machine that runs a program without bits: its environments in one list, in the order in which they were made.
 use Rattle.std.specs.Prelude.{◌≡◌, ℕ, zero, suc, ◌+◌, ◌≤◌, Option, Some, None, List, [], ◌∷◌, ◌++◌, length, drop, map, sum, option_map, slice_index_or, ⊤}
 use Rattle.std.specs.List.{AllByRecursion}
+use Rattle.revc_base.specs.declared.limits.TheConstants.{MOST_INPUTS}
+use Rattle.revs_terms.specs.declared.limits.TheConstants.{MOST_WORK}
 use Rattle.revc_base.specs.declared.tape.Ref.{Ref}
 use Rattle.revc_base.specs.declared.tape.Claim.{Claim}
 use Rattle.revc_base.specs.Tapes.{TapeView, IsKnown}
@@ -113,9 +115,9 @@ pub record IsMachine (m : Machine) : Type 0 where
   pub made : AreBindings 0 m.bindings.items
   pub leaps : AreLeaps [] m.bindings.items
   pub known : AllByRecursion (IsKnownIn m.tape) m.store.items
-  pub few : length m.store.items ≤ 1024 + length m.tape.entries
-  pub within : m.work ≤ 16777216
-  pub room : length m.bindings.items ≤ 1024 + m.work
+  pub few : length m.store.items ≤ MOST_INPUTS + length m.tape.entries
+  pub within : m.work ≤ MOST_WORK
+  pub room : length m.bindings.items ≤ MOST_INPUTS + m.work
 
 -- ---- what a call of the machine does
 

@@ -1,6 +1,7 @@
 -- The machine before a program's body is run, and its end.
 use Rattle.std.specs.Prelude.{◌≡◌, ℕ, ◌≤◌, Option, Some, None, List, [], length, map, sum, ⊤}
 use Rattle.std.specs.List.{AllByRecursion}
+use Rattle.revc_base.specs.declared.limits.TheConstants.{MOST_INPUTS, MOST_OUTPUTS}
 use Rattle.revc_base.specs.declared.tape.Ref.{Ref}
 use Rattle.revc_base.specs.Tapes.{IsKnown}
 use Rattle.revs_terms.specs.declared.program.Param.{Param}
@@ -35,7 +36,7 @@ pub record AreBound (params : List Param) (bs : List Binding) : Type 0 where
   pub leaps : AreLeaps [] bs
   pub env : env_in (envs_from [] bs) (length bs) ≡ params_in 0 params nothing
   pub count : length bs ≡ length params
-  pub few : length bs ≤ 1024
+  pub few : length bs ≤ MOST_INPUTS
 
 -- The machine is at the start of a program.
 pub record IsStart (params : List Param) (m : Machine) : Type 0 where
@@ -65,4 +66,4 @@ pub record Reads (m : Machine) (locations : List ℕ) (at : Place) (made : List 
 pub record Outputs (m : Machine) (value : Value) (at : Place) (made : List Ref) : Type 0 where
   pub read : outputs_step at value (state_of m) ≡ went (map stamped made) (state_of m)
   pub known : AllByRecursion (IsKnown (sum m.tape.params) (length m.tape.entries)) made
-  pub few : length made ≤ 1024
+  pub few : length made ≤ MOST_OUTPUTS

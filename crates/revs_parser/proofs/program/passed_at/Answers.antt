@@ -1,4 +1,5 @@
 use Rattle.std.proofs.Common.{◌≡◌, ℕ, ◌+◌, ◌≤◌, ◌∙◌, ap, arith}
+use Rattle.revc_base.specs.declared.limits.TheConstants.{MOST_INPUTS}
 use Rattle.revs_terms.specs.Programs.{width_of}
 use Rattle.revs_parser.proofs.ProgramLemmas.{limits_more}
 use Rattle.revs_parser.proofs.program.passed_at.Goals as goal
@@ -10,7 +11,7 @@ loop-param-preserved c =
     let fine = c.loop-param.invariant.so_far.fine.inputs in
     let total = c.loop-param.invariant.so_far.total in
     let room = c.if-inputs-bits.false in
-    let few : c.loop-param.inputs + width_of c.in-Some.param.now.width ≤ 1024 = omega (arith, fine, total, room, w) in
+    let few : c.loop-param.inputs + width_of c.in-Some.param.now.width ≤ MOST_INPUTS = omega (arith, fine, total, room, w) in
     record {
       so_far = limits_more c.in-Some.param.now c.in-Some.behind.now _ c.loop-param.invariant.so_far c.in-Some.ensures.cases.0 some few
           (ap (λ (z : ℕ). c.loop-param.inputs + z) w);
