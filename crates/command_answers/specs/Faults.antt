@@ -11,8 +11,8 @@ use Rattle.command_answers.specs.declared.fault.Fault.{Fault}
 use Rattle.command_answers.specs.declared.fault.Fault.TheVariants.{Usage, Refused, Claim, Diagram, Lines, Gates, Circuit, BadBits, Read, Write, Memory}
 use Rattle.command_answers.specs.declared.fault.CircuitRefusal.{CircuitRefusal}
 use Rattle.command_answers.specs.declared.fault.CircuitRefusal.TheVariants as circuits
-use Rattle.command_answers.specs.declared.fault.Kind.{Kind}
-use Rattle.command_answers.specs.declared.fault.Kind.TheVariants.{BadByte, LongName, LongNumber, Syntax, Nesting, Inputs, Unbound, TwoParams, Stuck}
+use Rattle.command_answers.specs.declared.fault.FaultKind.{FaultKind}
+use Rattle.command_answers.specs.declared.fault.FaultKind.TheVariants.{BadByte, LongName, LongNumber, Syntax, Nesting, Inputs, Unbound, TwoParams, Stuck}
 use Rattle.command_answers.specs.declared.fault.Refusal.{Refusal}
 use Rattle.command_answers.specs.declared.fault.Refusal.TheVariants.{TooLong, At}
 
@@ -30,7 +30,7 @@ status_of Write = 10
 status_of Memory = 11
 status_of (BadBits word) = 12
 
-abbrev pub kind_text : Kind → List ℕ
+abbrev pub kind_text : FaultKind → List ℕ
 kind_text BadByte = codes "BadByte"
 kind_text LongName = codes "LongName"
 kind_text LongNumber = codes "LongNumber"

@@ -45,7 +45,7 @@ pub enum Refusal {
     /// It has more than 1,048,576 bytes.
     TooLong,
     /// It is refused at this place.
-    At(Kind, Place),
+    At(FaultKind, Place),
 }
 
 /// Why a circuit text is refused: a `.real` text at a line, counted from 1, an OpenQASM text at the
@@ -66,7 +66,7 @@ pub enum CircuitRefusal {
 
 /// What is wrong at a place.
 #[derive(Clone, Copy, Debug)]
-pub enum Kind {
+pub enum FaultKind {
     BadByte,
     LongName,
     LongNumber,
@@ -100,21 +100,21 @@ impl Fault {
     }
 }
 
-impl Kind {
+impl FaultKind {
     /// The word for the kind in a line of standard error.
     pub fn text(self) -> &'static [u8]
         ensures { result.now ≡ kind_text self }
     {
         match self {
-            Kind::BadByte => b"BadByte",
-            Kind::LongName => b"LongName",
-            Kind::LongNumber => b"LongNumber",
-            Kind::Syntax => b"Syntax",
-            Kind::Nesting => b"Nesting",
-            Kind::Inputs => b"Inputs",
-            Kind::Unbound => b"Unbound",
-            Kind::TwoParams => b"TwoParams",
-            Kind::Stuck(cause) => cause.word(),
+            FaultKind::BadByte => b"BadByte",
+            FaultKind::LongName => b"LongName",
+            FaultKind::LongNumber => b"LongNumber",
+            FaultKind::Syntax => b"Syntax",
+            FaultKind::Nesting => b"Nesting",
+            FaultKind::Inputs => b"Inputs",
+            FaultKind::Unbound => b"Unbound",
+            FaultKind::TwoParams => b"TwoParams",
+            FaultKind::Stuck(cause) => cause.word(),
         }
     }
 }

@@ -6,5 +6,5 @@ mod fault;
 mod messages;
 
 pub use digits::{is_input_word, write_digits, write_lines, write_number, write_numbers};
-pub use fault::{CircuitRefusal, Fault, Kind, Refusal};
+pub use fault::{CircuitRefusal, Fault, FaultKind, Refusal};
 pub use messages::report;

@@ -10,7 +10,7 @@ ghost use Rattle.command_answers.specs.Faults.{lines_line, place_text, refusal_l
 ghost use Rattle.command_answers.specs.Faults.{Receives};
 
 use crate::digits::{put_line_of_digits, put_number};
-use crate::fault::{CircuitRefusal, Fault, Kind, Refusal};
+use crate::fault::{CircuitRefusal, Fault, FaultKind, Refusal};
 use revc_base::Place;
 use revc_io::{Buffer, Failed, Sink, put_decimal};
 
@@ -66,7 +66,12 @@ fn put_refusal<E: Sink>(buffer: &mut Buffer, err: &mut E, refusal: Refusal) -> R
     }
 }
 
-fn put_at<E: Sink>(buffer: &mut Buffer, err: &mut E, kind: Kind, at: Place) -> Result<(), Failed>
+fn put_at<E: Sink>(
+    buffer: &mut Buffer,
+    err: &mut E,
+    kind: FaultKind,
+    at: Place,
+) -> Result<(), Failed>
     ensures bytes { Gathers result (E.held err.old) (E.held err.new) buffer.old buffer.new
         (codes "revc: " ++ (place_text at ++ (codes " " ++ (kind_text kind ++ codes "\n")))) }
     ensures cause { HasCause (E.faults err.old) (E.faults err.new) result }
@@ -86,7 +91,7 @@ fn put_place<E: Sink>(buffer: &mut Buffer, err: &mut E, at: Place) -> Result<(),
     put_decimal(buffer, err, at.column as u64)
 }
 
-fn put_kind<E: Sink>(buffer: &mut Buffer, err: &mut E, kind: Kind) -> Result<(), Failed>
+fn put_kind<E: Sink>(buffer: &mut Buffer, err: &mut E, kind: FaultKind) -> Result<(), Failed>
     ensures bytes { Gathers result (E.held err.old) (E.held err.new) buffer.old buffer.new
         (codes " " ++ (kind_text kind ++ codes "\n")) }
     ensures cause { HasCause (E.faults err.old) (E.faults err.new) result }

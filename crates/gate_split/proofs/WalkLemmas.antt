@@ -8,9 +8,9 @@ use Rattle.list_facts.proofs.AllLemmas.{AllByRecursion-at, AllByRecursion-weaker
 use Rattle.mct_circuit.specs.Gates.{GateView, IsGateOn, AreGatesOn, lines_of}
 use Rattle.gate_split.specs.declared.fault.SplitFault.{SplitFault}
 use Rattle.gate_split.specs.declared.fault.SplitFault.TheVariants.{NoIdle, Gates}
-use Rattle.gate_split.specs.declared.fault.Refusal.{Refusal}
-use Rattle.gate_split.specs.declared.fault.Refusal.TheVariants as refusal
-use Rattle.gate_split.specs.inside.Steps.{IsOver, fault_at}
+use Rattle.gate_split.specs.declared.fault.GateRefusal.{GateRefusal}
+use Rattle.gate_split.specs.declared.fault.GateRefusal.TheVariants as refusal
+use Rattle.gate_split.specs.inside.Walks.{IsOver, fault_at}
 use Rattle.gate_split.specs.Split.{split_gate, with_piece, split_from, split_list, behind}
 use Rattle.gate_split.proofs.NegativeLemmas.{split_gate_does, Walked, walk}
 use Rattle.gate_split.proofs.WideLemmas.{nothing_behind}
@@ -63,7 +63,7 @@ one_more n limit place done now gates i gate whole h e made fits w =
     sym (piece_fits limit place done now (split_gate n gate) (λ now. split_from n limit (place + 1) now (drop (i + 1) gates)) made fits)
     ∙ at_gate n limit place done gates i gate whole h e w
 
-pub no_idle_at : (n limit place : ℕ) (done gates : List GateView) (i : ℕ) (gate : GateView) (why : Refusal)
+pub no_idle_at : (n limit place : ℕ) (done gates : List GateView) (i : ℕ) (gate : GateView) (why : GateRefusal)
     (whole : Result (List GateView) SplitFault) (number : ℕ)
     → i < length gates → gate ≡ get_or gates i gate → fault_at place why ≡ NoIdle number → (why ≡ refusal.NoIdle → split_gate n gate ≡ None)
     → split_from n limit place done (drop i gates) ≡ whole → whole ≡ Err (NoIdle number)
@@ -73,7 +73,7 @@ no_idle_at n limit place done gates i gate refusal.NoIdle whole number h e is no
 no_idle_at n limit place done gates i gate refusal.Full whole number h e is none w = absurd (cc)
 no_idle_at n limit place done gates i gate refusal.Memory whole number h e is none w = absurd (cc)
 
-pub over_at : (n limit place : ℕ) (done gates : List GateView) (i : ℕ) (gate : GateView) (why : Refusal) (whole : Result (List GateView) SplitFault)
+pub over_at : (n limit place : ℕ) (done gates : List GateView) (i : ℕ) (gate : GateView) (why : GateRefusal) (whole : Result (List GateView) SplitFault)
     → i < length gates → gate ≡ get_or gates i gate → fault_at place why ≡ Gates → (why ≡ refusal.Full → IsOver limit done (split_gate n gate))
     → split_from n limit place done (drop i gates) ≡ whole → whole ≡ Err Gates
 over_at n limit place done gates i gate refusal.Full whole h e is over w =

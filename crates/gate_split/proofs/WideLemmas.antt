@@ -7,8 +7,8 @@ use Rattle.std.proofs.lemmas.Bool.Decides.{leb_tells}
 use Rattle.list_facts.proofs.AllLemmas.{AllByRecursion-left, AllByRecursion-right, AllByRecursion-weaker}
 use Rattle.list_facts.proofs.OrderLemmas.{AreDifferent-left, AreDifferent-parts}
 use Rattle.mct_circuit.specs.Gates.{GateView, flip_of, HasDifferentLines, IsGateOn}
-use Rattle.gate_split.specs.declared.fault.Refusal.{Refusal}
-use Rattle.gate_split.specs.inside.Steps.{first_idle}
+use Rattle.gate_split.specs.declared.fault.GateRefusal.{GateRefusal}
+use Rattle.gate_split.specs.inside.Walks.{first_idle}
 use Rattle.gate_split.specs.inside.Idle.{Serves}
 use Rattle.gate_split.specs.Split.{Avoids}
 use Rattle.gate_split.specs.Split.{idle_lines, in_falling_order, ladder, over_idle_lines, with_enough_idle, first_half, first_flips, second_flips, in_halves}
@@ -207,7 +207,7 @@ line_found [] line e = absurd (cc)
 line_found (x ∷ xs) line e = let same : line ≡ x = cc in ap (λ k. k ∷ xs) (sym same)
 
 -- no idle line was found, so there is none
-pub no_line_found : (idle : List ℕ) (refused : Refusal) → Err refused ≡ first_idle idle → idle ≡ []
+pub no_line_found : (idle : List ℕ) (refused : GateRefusal) → Err refused ≡ first_idle idle → idle ≡ []
 no_line_found [] refused e = refl
 no_line_found (x ∷ xs) refused e = absurd (cc)
 

@@ -1,3 +1,3 @@
 -- What only private contracts and proofs cite.
 pub mod Idle
-pub mod Steps
+pub mod Walks

@@ -1,8 +1,8 @@
 // Why a circuit was not split.
 ghost use Rattle.std.specs.Prelude.{◌≡◌};
-ghost use Rattle.gate_split.specs.declared.fault.Refusal.TheVariants as refusal;
+ghost use Rattle.gate_split.specs.declared.fault.GateRefusal.TheVariants as refusal;
 ghost use Rattle.gate_split.specs.declared.fault.SplitFault.TheVariants.{Memory};
-ghost use Rattle.gate_split.specs.inside.Steps.{refusal_of, fault_at};
+ghost use Rattle.gate_split.specs.inside.Walks.{refusal_of, fault_at};
 
 use mct_circuit::GateFault;
 use std::alloc::{AllocError, AllocFailed};
@@ -44,56 +44,56 @@ impl<T: Drop> From<AllocFailed<T>> for SplitFault {
 
 // Why the gates in place of one gate were not appended.
 #[derive(Clone, Copy)]
-pub enum Refusal {
+pub enum GateRefusal {
     NoIdle,
     Full,
     Memory,
 }
 
-impl Refusal {
+impl GateRefusal {
     // Why the circuit was not split, where the gate at this place was refused so.
     pub fn at(self, gate: u64) -> SplitFault
         ensures { result ≡ fault_at gate self }
     {
         match self {
-            Refusal::NoIdle => SplitFault::NoIdle { gate },
-            Refusal::Full => SplitFault::Gates,
-            Refusal::Memory => SplitFault::Memory,
+            GateRefusal::NoIdle => SplitFault::NoIdle { gate },
+            GateRefusal::Full => SplitFault::Gates,
+            GateRefusal::Memory => SplitFault::Memory,
         }
     }
 }
 
-impl From<GateFault> for Refusal {
+impl From<GateFault> for GateRefusal {
     ghost from_gives = { λ fault e. e ≡ refusal_of fault };
 
-    fn from(fault: GateFault) -> Refusal {
+    fn from(fault: GateFault) -> GateRefusal {
         match fault {
-            GateFault::Full => Refusal::Full,
-            GateFault::Memory => Refusal::Memory,
+            GateFault::Full => GateRefusal::Full,
+            GateFault::Memory => GateRefusal::Memory,
         }
     }
 }
 
-impl From<revc_base::Memory> for Refusal {
+impl From<revc_base::Memory> for GateRefusal {
     ghost from_gives = { λ _ e. e ≡ refusal.Memory };
 
-    fn from(_: revc_base::Memory) -> Refusal {
-        Refusal::Memory
+    fn from(_: revc_base::Memory) -> GateRefusal {
+        GateRefusal::Memory
     }
 }
 
-impl From<AllocError> for Refusal {
+impl From<AllocError> for GateRefusal {
     ghost from_gives = { λ _ e. e ≡ refusal.Memory };
 
-    fn from(_: AllocError) -> Refusal {
-        Refusal::Memory
+    fn from(_: AllocError) -> GateRefusal {
+        GateRefusal::Memory
     }
 }
 
-impl<T: Drop> From<AllocFailed<T>> for Refusal {
+impl<T: Drop> From<AllocFailed<T>> for GateRefusal {
     ghost from_gives = { λ _ e. e ≡ refusal.Memory };
 
-    fn from(_: AllocFailed<T>) -> Refusal {
-        Refusal::Memory
+    fn from(_: AllocFailed<T>) -> GateRefusal {
+        GateRefusal::Memory
     }
 }

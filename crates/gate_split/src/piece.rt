@@ -4,7 +4,7 @@ ghost use Rattle.mct_circuit.specs.Gates.{IsGateOn, flip_of};
 ghost use Rattle.gate_split.specs.Split.{flips_of_negatives, split_positive, split_gate, between};
 ghost use Rattle.gate_split.specs.Split.{behind};
 
-use crate::fault::Refusal;
+use crate::fault::GateRefusal;
 use crate::idle::LineMarks;
 use crate::wide::push_positive;
 use mct_circuit::{Control, Gate, Op};
@@ -17,13 +17,13 @@ pub fn push_piece(
     gates: &mut Vec<Gate>,
     gate: &Gate,
     marks: &mut LineMarks,
-) -> Result<(), Refusal>
+) -> Result<(), GateRefusal>
     requires { IsGateOn marks.old gate.now }
     ensures split { OnOk result (behind gates.old.items (split_gate marks.old gate.now)
         ≡ Some gates.new.items) }
     ensures same { marks.new ≡ marks.old }
-    ensures refused { IsErrOf result Refusal.NoIdle → split_gate marks.old gate.now ≡ None }
-    ensures cause { IsErrOf result Refusal.Full → ⊥ }
+    ensures refused { IsErrOf result GateRefusal.NoIdle → split_gate marks.old gate.now ≡ None }
+    ensures cause { IsErrOf result GateRefusal.Full → ⊥ }
 {
     let controls = gate.controls();
     let mut lines = lines_of(alloc, controls)?;
@@ -48,15 +48,15 @@ fn push_flip(
     lines: &[u32],
     target: u32,
     marks: &mut LineMarks,
-) -> Result<(), Refusal>
+) -> Result<(), GateRefusal>
     requires { IsGateOn marks.old (flip_of lines.now target) }
     ensures split { OnOk result (behind gates.old.items
         (between (flips_of_negatives controls.now) (split_positive marks.old lines.now target))
         ≡ Some gates.new.items) }
     ensures same { marks.new ≡ marks.old }
-    ensures refused { IsErrOf result Refusal.NoIdle
+    ensures refused { IsErrOf result GateRefusal.NoIdle
         → split_positive marks.old lines.now target ≡ None }
-    ensures cause { IsErrOf result Refusal.Full → ⊥ }
+    ensures cause { IsErrOf result GateRefusal.Full → ⊥ }
 {
     push_negatives(alloc, gates, controls)?;
     push_positive(alloc, gates, lines, target, marks)?;

@@ -5,9 +5,9 @@ ghost use Rattle.std.specs.List.{list_all};
 ghost use Rattle.gate_split.specs.declared.fault.SplitFault.TheVariants.{NoIdle, Gates};
 ghost use Rattle.mct_circuit.specs.Gates.{IsGateOn, IsNarrow, AreNarrow, line_map};
 ghost use Rattle.gate_split.specs.Split.{split_gate, split_list, behind};
-ghost use Rattle.gate_split.specs.inside.Steps.{IsOver};
+ghost use Rattle.gate_split.specs.inside.Walks.{IsOver};
 
-use crate::fault::{Refusal, SplitFault};
+use crate::fault::{GateRefusal, SplitFault};
 use crate::idle::LineMarks;
 use crate::piece::push_piece;
 use mct_circuit::{Circuit, Control, Gate, Op};
@@ -82,7 +82,7 @@ fn append_split(
     piece: &mut Vec<Gate>,
     marks: &mut LineMarks,
     gate: &Gate,
-) -> Result<(), Refusal>
+) -> Result<(), GateRefusal>
     requires lines { marks.old ≡ narrow.old.lines }
     requires gate { IsGateOn marks.old gate.now }
     requires empty { piece.old.items ≡ [] }
@@ -92,8 +92,8 @@ fn append_split(
     ensures within { OnOk result (length narrow.new.gates ≤ narrow.old.limit) }
     ensures emptied { OnOk result (piece.new.items ≡ []) }
     ensures same { marks.new ≡ marks.old }
-    ensures no_idle { IsErrOf result Refusal.NoIdle → split_gate marks.old gate.now ≡ None }
-    ensures full { IsErrOf result Refusal.Full
+    ensures no_idle { IsErrOf result GateRefusal.NoIdle → split_gate marks.old gate.now ≡ None }
+    ensures full { IsErrOf result GateRefusal.Full
         → IsOver narrow.old.limit narrow.old.gates (split_gate marks.old gate.now) }
 {
     if is_narrow(gate) {

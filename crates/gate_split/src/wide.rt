@@ -6,11 +6,11 @@ ghost use Rattle.std.specs.List.{AllByRecursion};
 ghost use Rattle.mct_circuit.specs.Gates.{HasDifferentLines, IsGateOn, flip_of};
 ghost use Rattle.gate_split.specs.inside.Idle.{Serves};
 ghost use Rattle.gate_split.specs.Split.{Avoids};
-ghost use Rattle.gate_split.specs.inside.Steps.{first_idle};
+ghost use Rattle.gate_split.specs.inside.Walks.{first_idle};
 ghost use Rattle.gate_split.specs.Split.{ladder, there_and_back, over_idle_lines, with_enough_idle};
 ghost use Rattle.gate_split.specs.Split.{in_halves, split_positive, behind};
 
-use crate::fault::Refusal;
+use crate::fault::GateRefusal;
 use crate::idle::LineMarks;
 use mct_circuit::Gate;
 use revc_base::Memory;
@@ -23,14 +23,14 @@ pub fn push_positive(
     controls: &[u32],
     target: u32,
     marks: &mut LineMarks,
-) -> Result<(), Refusal>
+) -> Result<(), GateRefusal>
     requires { IsGateOn marks.old (flip_of controls.now target) }
     ensures split { OnOk result (behind gates.old.items
         (split_positive marks.old controls.now target) ≡ Some gates.new.items) }
     ensures same { marks.new ≡ marks.old }
-    ensures refused { IsErrOf result Refusal.NoIdle
+    ensures refused { IsErrOf result GateRefusal.NoIdle
         → split_positive marks.old controls.now target ≡ None }
-    ensures cause { IsErrOf result Refusal.Full → ⊥ }
+    ensures cause { IsErrOf result GateRefusal.Full → ⊥ }
 {
     if controls.len() <= 2 {
         gates.push(Gate::flip(alloc, controls, target)?)?;
@@ -48,11 +48,11 @@ pub fn push_positive(
 }
 
 // The first of the idle lines, if there is one.
-fn first_idle(idle: &[u32]) -> Result<u32, Refusal>
+fn first_idle(idle: &[u32]) -> Result<u32, GateRefusal>
     ensures { result ≡ first_idle idle.now }
 {
     match idle {
-        [] => Err(Refusal::NoIdle),
+        [] => Err(GateRefusal::NoIdle),
         [line, ..] => Ok(*line),
     }
 }

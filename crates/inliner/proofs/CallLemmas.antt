@@ -20,7 +20,7 @@ use Rattle.inliner.proofs.FaultLemmas.{said_first, said_same}
 use Rattle.inliner.proofs.EnvironmentLemmas.{grown_env, grown_length, grown_value, grows_trans}
 use Rattle.inliner.proofs.ProgressLemmas.{Through, after_went, begun, ends_here, goes_in, items_of-item_trees, list_of-trees}
 use Rattle.inliner.proofs.ProgressLemmas.{regroup, said, same_next, same_rest, says_in, step, step_bound}
-use Rattle.inliner.specs.inside.Steps.{Going, Says, argument_step, bind_step, item_step}
+use Rattle.inliner.specs.inside.Calls.{Going, Says, argument_step, bind_step, item_step}
 use Rattle.revs_terms.specs.declared.cause.Cause.TheVariants as causes
 
 -- ---- loops and exits

@@ -15,7 +15,7 @@ use Rattle.inliner.specs.declared.operators.Operator.{Operator}
 use Rattle.inliner.specs.declared.operators.Operator.TheVariants as operators
 use Rattle.inliner.specs.inside.Machines.{env_in, envs_of, state_of, IsMachine, Does, Goes}
 use Rattle.inliner.proofs.FaultLemmas.{said_first, said_same}
-use Rattle.inliner.specs.inside.Steps.{Going, Says, chain_tree, entry_of, join_step, link_step}
+use Rattle.inliner.specs.inside.Calls.{Going, Says, chain_tree, entry_of, join_step, link_step}
 use Rattle.inliner.proofs.ProgressLemmas.{Through, begun, step, same_rest, ends_here, said, does_in, says_in, regroup, same_next, after_went, list_of-trees}
 
 -- ---- a term is entered

@@ -29,7 +29,7 @@ use Rattle.std.proofs.lemmas.List.{length-map}
 use Rattle.inliner.specs.inside.Machines.{met_by, env_in, value_in, envs_of, state_of, Goes}
 use Rattle.inliner.specs.inside.Starts.{stamped, Reads, Outputs, outputs_step, IsStart}
 use Rattle.inliner.proofs.FaultLemmas.{said_first, said_same}
-use Rattle.inliner.specs.inside.Steps.{Going, IsStuckAs, Leaves, Says}
+use Rattle.inliner.specs.inside.Calls.{Going, IsStuckAs, Leaves, Says}
 use Rattle.inliner.proofs.ProgressLemmas.{regroup, same_next, after_went}
 
 -- ---- outputs are read one after another

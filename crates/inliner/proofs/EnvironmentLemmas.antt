@@ -15,7 +15,7 @@ use Rattle.revc_base.specs.Tapes.{TapeView}
 use Rattle.revc_base.specs.declared.place.Place.{Place}
 use Rattle.revs_terms.specs.Runs.{no_bits}
 use Rattle.inliner.proofs.FaultLemmas.{goes_on}
-use Rattle.inliner.specs.inside.Steps.{bind_step}
+use Rattle.inliner.specs.inside.Calls.{bind_step}
 use Rattle.inliner.specs.inside.Machines.{view_length, env_in, spec_value, value_in, bound_in, envs_from, IsValueView, IsValue}
 use Rattle.inliner.specs.inside.Machines.{AreBindings, AreLeaps, envs_of, state_of, IsMachine, Grows, Does, BindsOne}
 

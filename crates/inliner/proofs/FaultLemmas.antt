@@ -2,7 +2,7 @@
 use Rattle.std.proofs.Common.{◌≡◌, sym, ap, ◌∙◌, subst}
 use Rattle.revs_terms.specs.Running.{State, Outcome, went, after}
 use Rattle.inliner.specs.declared.fault.RunFault.{RunFault}
-use Rattle.inliner.specs.inside.Steps.{IsStuckAs, Says}
+use Rattle.inliner.specs.inside.Calls.{IsStuckAs, Says}
 use Rattle.inliner.specs.declared.fault.RunFault.TheVariants as faults
 
 pub goes_on : {A C : Type 0} (o : Outcome (Unit {0}) A) (a : A) (s : State (Unit {0})) (next : A → State (Unit {0}) → Outcome (Unit {0}) C)

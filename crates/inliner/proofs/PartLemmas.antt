@@ -10,7 +10,7 @@ use Rattle.inliner.specs.declared.fault.RunFault.{RunFault}
 use Rattle.inliner.specs.declared.machine.Machine.{Machine}
 use Rattle.inliner.specs.inside.Machines.{value_in, envs_of, state_of, IsMachine, IsValue, Goes}
 use Rattle.inliner.proofs.FaultLemmas.{said_first}
-use Rattle.inliner.specs.inside.Steps.{Going, Says}
+use Rattle.inliner.specs.inside.Calls.{Going, Says}
 use Rattle.inliner.proofs.ProgressLemmas.{Through, begun, step, same_rest, ends_here, said}
 
 pub record InParts (old now : Machine) (whole : Place) (ps : List Part) (v : Value) (run : Going runs.Value) : Type 0 where

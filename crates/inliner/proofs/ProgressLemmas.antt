@@ -9,7 +9,7 @@ use Rattle.inliner.specs.declared.fault.RunFault.{RunFault}
 use Rattle.inliner.specs.declared.machine.Machine.{Machine}
 use Rattle.inliner.specs.inside.Machines.{env_in, envs_of, state_of, IsMachine, AreWorkedFor, LeavesRoom, Grows, Does, Goes, BindsOne, Calls}
 use Rattle.inliner.proofs.FaultLemmas.{said_same}
-use Rattle.inliner.specs.inside.Steps.{Says}
+use Rattle.inliner.specs.inside.Calls.{Says}
 use Rattle.inliner.proofs.EnvironmentLemmas.{grows_same, grows_trans, grown_env}
 
 -- ---- results that are passed on

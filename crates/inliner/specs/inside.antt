@@ -1,4 +1,4 @@
 -- What only private contracts and proofs cite.
 pub mod Machines
 pub mod Starts
-pub mod Steps
+pub mod Calls

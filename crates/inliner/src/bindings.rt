@@ -7,7 +7,7 @@ ghost use Rattle.revs_terms.specs.Trees.{tree_of};
 ghost use Rattle.array_shapes.specs.Values.{seen};
 ghost use Rattle.inliner.specs.inside.Machines.{view_length, IsMachine, BindsOne, IsValue, env_of};
 ghost use Rattle.inliner.specs.inside.Machines.{value_of, state_of, farther};
-ghost use Rattle.inliner.specs.inside.Steps.{Says, bind_step};
+ghost use Rattle.inliner.specs.inside.Calls.{Says, bind_step};
 
 use crate::RunFault;
 use crate::leaps::leap_from;

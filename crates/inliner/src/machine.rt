@@ -5,7 +5,7 @@ ghost use Rattle.revs_terms.specs.Running.{went, worked, written, read};
 ghost use Rattle.revs_terms.specs.Runs.{no_bits};
 ghost use Rattle.revs_terms.specs.Terms.{place_of};
 ghost use Rattle.revs_terms.specs.Trees.{tree_of};
-ghost use Rattle.inliner.specs.inside.Steps.{Says};
+ghost use Rattle.inliner.specs.inside.Calls.{Says};
 
 use crate::RunFault;
 use crate::leaps::Leap;

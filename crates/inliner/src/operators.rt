@@ -3,7 +3,7 @@ ghost use Rattle.std.specs.Prelude.{◌≡◌, IfOk, IfErr};
 ghost use Rattle.revs_terms.specs.Terms.{place_of};
 ghost use Rattle.revs_terms.specs.Trees.{tree_of};
 ghost use Rattle.inliner.specs.inside.Machines.{IsMachine, Does, state_of};
-ghost use Rattle.inliner.specs.inside.Steps.{Says, entry_of, join_step};
+ghost use Rattle.inliner.specs.inside.Calls.{Says, entry_of, join_step};
 
 use crate::RunFault;
 use crate::machine::Machine;

@@ -7,7 +7,7 @@ ghost use Rattle.revs_terms.specs.Runs.{no_bits, read_all, run_without_bits, IsT
 ghost use Rattle.revs_terms.specs.Terms.{place_of};
 ghost use Rattle.revs_terms.specs.Trees.{tree_of};
 ghost use Rattle.inliner.specs.Faults.{IsRefused};
-ghost use Rattle.inliner.specs.inside.Steps.{Says, Leaves};
+ghost use Rattle.inliner.specs.inside.Calls.{Says, Leaves};
 ghost use Rattle.inliner.specs.inside.Machines.{IsMachine, state_of, value_of};
 ghost use Rattle.inliner.specs.inside.Starts.{Outputs, Reads, outputs_step};
 

@@ -6,7 +6,7 @@ ghost use Rattle.revs_terms.specs.Runs.{no_bits};
 ghost use Rattle.revs_terms.specs.Terms.{place_of};
 ghost use Rattle.revs_terms.specs.Trees.{tree_of};
 ghost use Rattle.inliner.specs.inside.Machines.{IsMachine, Goes, IsValue, value_of, state_of};
-ghost use Rattle.inliner.specs.inside.Steps.{Says, shape_fault};
+ghost use Rattle.inliner.specs.inside.Calls.{Says, shape_fault};
 
 use crate::RunFault;
 use crate::machine::Machine;

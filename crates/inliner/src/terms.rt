@@ -8,8 +8,8 @@ ghost use Rattle.revs_terms.specs.Terms.{place_of};
 ghost use Rattle.revs_terms.specs.Trees.{tree_of, item_tree_of, trees};
 ghost use Rattle.inliner.specs.inside.Machines.{IsMachine, Does, Goes, Binds, Calls, LeavesRoom};
 ghost use Rattle.inliner.specs.inside.Machines.{IsValue, env_of, value_of, state_of};
-ghost use Rattle.inliner.specs.inside.Steps.{Says, IsBitAt, NoBitAt, item_step, link_step};
-ghost use Rattle.inliner.specs.inside.Steps.{chain_tree, argument_step};
+ghost use Rattle.inliner.specs.inside.Calls.{Says, IsBitAt, NoBitAt, item_step, link_step};
+ghost use Rattle.inliner.specs.inside.Calls.{chain_tree, argument_step};
 ghost use Rattle.revs_terms.specs.Trees as shape;
 
 use crate::RunFault;

@@ -10,8 +10,8 @@ use Rattle.revs_terms.specs.declared.program.Param.{Param}
 use Rattle.revs_terms.specs.Trees.{Tree}
 use Rattle.revs_grammar.specs.Faults.{Verdict, within_limits, syntax, nesting, inputs, IsVerdict}
 use Rattle.revs_grammar.proofs.VerdictLemmas.{one_verdict}
-use Rattle.command_answers.specs.declared.fault.Kind.{Kind}
-use Rattle.command_answers.specs.declared.fault.Kind.TheVariants as kinds
+use Rattle.command_answers.specs.declared.fault.FaultKind.{FaultKind}
+use Rattle.command_answers.specs.declared.fault.FaultKind.TheVariants as kinds
 use Rattle.command_answers.specs.declared.fault.Refusal.{Refusal}
 use Rattle.command_answers.specs.declared.fault.Refusal.TheVariants as refusals
 use Rattle.revs_parser.specs.WellFormed.{IsProgramText, IsWellFormed}
@@ -131,7 +131,7 @@ refusal_of (ended (stuck_at cause at)) = refusals.At (kinds.Stuck cause) at
 refusal_of (ended (leaves tree)) = refusals.TooLong
 
 -- where a program is left, there is no place of a refusal
-no_place : (kind : Kind) (at : Place) (found : Found) {tree : Tree} → found ≡ ended (leaves tree) → refusal_of found ≡ refusals.At kind at → ⊥
+no_place : (kind : FaultKind) (at : Place) (found : Found) {tree : Tree} → found ≡ ended (leaves tree) → refusal_of found ≡ refusals.At kind at → ⊥
 unfolding refusal_of
 no_place kind at found {tree} e same = apart (sym (ap refusal_of e) ∙ same)
   where

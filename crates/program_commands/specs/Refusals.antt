@@ -6,8 +6,8 @@ use Rattle.revs_lexer.specs.declared.token.Token.{Token}
 use Rattle.revs_lexer.specs.Tokens.{IsTokens, IsRefused, closed}
 use Rattle.revs_grammar.specs.Answers.{IsInputs}
 use Rattle.revs_grammar.specs.Faults.{IsSyntax, IsNesting}
-use Rattle.command_answers.specs.declared.fault.Kind.{Kind}
-use Rattle.command_answers.specs.declared.fault.Kind.TheVariants.{BadByte, LongName, LongNumber, Syntax, Nesting, Inputs, Unbound, TwoParams, Stuck}
+use Rattle.command_answers.specs.declared.fault.FaultKind.{FaultKind}
+use Rattle.command_answers.specs.declared.fault.FaultKind.TheVariants.{BadByte, LongName, LongNumber, Syntax, Nesting, Inputs, Unbound, TwoParams, Stuck}
 use Rattle.command_answers.specs.declared.fault.Refusal.{Refusal}
 use Rattle.command_answers.specs.declared.fault.Refusal.TheVariants.{TooLong, At}
 use Rattle.revs_parser.specs.declared.limits.TheConstants.{MOST_BYTES}
@@ -33,7 +33,7 @@ IsStuckFor cause at p =
     × ((input : List Bool) → IsInput p.params input → IsStuck p.params tree input cause at)
 
 -- the lexer's first refusal, what refuses the list of the text's tokens, or what refuses the text's program
-abbrev pub IsRefusedAt : List ℕ → Kind → Place → Type 0
+abbrev pub IsRefusedAt : List ℕ → FaultKind → Place → Type 0
 IsRefusedAt text BadByte at = IsRefused text (lexer.BadByte at)
 IsRefusedAt text LongName at = IsRefused text (lexer.LongName at)
 IsRefusedAt text LongNumber at = IsRefused text (lexer.LongNumber at)

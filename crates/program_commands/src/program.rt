@@ -8,7 +8,7 @@ ghost use Rattle.program_commands.specs.inside.Mappings.{lexing_fault, parsing_f
 ghost use Rattle.program_commands.specs.inside.Mappings.{run_fault};
 ghost use Rattle.program_commands.specs.inside.Plans.{IsTextFault, IsBoundAs};
 
-use command_answers::{Fault, Kind, Refusal};
+use command_answers::{Fault, FaultKind, Refusal};
 use inliner::{RunFault, unroll};
 use name_scope::{ScopeFault, Scoped, scope};
 use revc_base::{Place, Tape};
@@ -65,9 +65,9 @@ fn lexing_fault(fault: LexFault) -> Fault
     ensures { result ≡ lexing_fault fault }
 {
     match fault {
-        LexFault::BadByte(at) => refused(Kind::BadByte, at),
-        LexFault::LongName(at) => refused(Kind::LongName, at),
-        LexFault::LongNumber(at) => refused(Kind::LongNumber, at),
+        LexFault::BadByte(at) => refused(FaultKind::BadByte, at),
+        LexFault::LongName(at) => refused(FaultKind::LongName, at),
+        LexFault::LongNumber(at) => refused(FaultKind::LongNumber, at),
         LexFault::Memory => Fault::Memory,
     }
 }
@@ -76,9 +76,9 @@ fn parsing_fault(fault: ParseFault) -> Fault
     ensures { result ≡ parsing_fault fault }
 {
     match fault {
-        ParseFault::Syntax { at, .. } => refused(Kind::Syntax, at),
-        ParseFault::Nesting(at) => refused(Kind::Nesting, at),
-        ParseFault::Inputs(at) => refused(Kind::Inputs, at),
+        ParseFault::Syntax { at, .. } => refused(FaultKind::Syntax, at),
+        ParseFault::Nesting(at) => refused(FaultKind::Nesting, at),
+        ParseFault::Inputs(at) => refused(FaultKind::Inputs, at),
         ParseFault::Memory => Fault::Memory,
     }
 }
@@ -87,8 +87,8 @@ fn scope_fault(fault: ScopeFault) -> Fault
     ensures { result ≡ scope_fault fault }
 {
     match fault {
-        ScopeFault::Unbound(at) => refused(Kind::Unbound, at),
-        ScopeFault::TwoParams(at) => refused(Kind::TwoParams, at),
+        ScopeFault::Unbound(at) => refused(FaultKind::Unbound, at),
+        ScopeFault::TwoParams(at) => refused(FaultKind::TwoParams, at),
         ScopeFault::Memory => Fault::Memory,
     }
 }
@@ -97,12 +97,12 @@ fn run_fault(fault: RunFault) -> Fault
     ensures { result ≡ run_fault fault }
 {
     match fault {
-        RunFault::Stuck { cause, at } => refused(Kind::Stuck(cause), at),
+        RunFault::Stuck { cause, at } => refused(FaultKind::Stuck(cause), at),
         RunFault::Memory => Fault::Memory,
     }
 }
 
-fn refused(kind: Kind, at: Place) -> Fault
+fn refused(kind: FaultKind, at: Place) -> Fault
     ensures { result ≡ Fault.Refused (Refusal.At kind at) }
 {
     Fault::Refused(Refusal::At(kind, at))

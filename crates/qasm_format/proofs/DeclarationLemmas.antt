@@ -9,8 +9,8 @@ use Rattle.list_facts.specs.Lists.{IsAmong}
 use Rattle.list_facts.proofs.AllLemmas.{AllByRecursion-weaker}
 use Rattle.mct_circuit.specs.Gates.{GateView, lines_of, IsGateOn, AreGatesOn}
 use Rattle.qasm_format.specs.declared.file.Register.{Register}
-use Rattle.qasm_format.specs.declared.words.Kind.{Kind}
-use Rattle.qasm_format.specs.declared.words.Kind.TheVariants.{Qubits, Bits}
+use Rattle.qasm_format.specs.declared.words.RegisterKind.{RegisterKind}
+use Rattle.qasm_format.specs.declared.words.RegisterKind.TheVariants.{Qubits, Bits}
 use Rattle.qasm_lexer.specs.Tokens.{is_identifier}
 use Rattle.qasm_format.specs.Registers.{IsName, kept_words, lines_of_all}
 use Rattle.qasm_format.specs.Stages.{kind_registers}
@@ -84,12 +84,13 @@ gates_stay n m gates le on = AllByRecursion-weaker (IsGateOn n) (IsGateOn m) (λ
   in_range = AllByRecursion-weaker (λ line. line < n) (λ line. line < m) (λ line low. omega arith) (lines_of gate) h.in_range;
 }) gates on
 
-more_lines : (kind : Kind) (name : List ℕ) (size : ℕ) (registers : List Register)
+more_lines : (kind : RegisterKind) (name : List ℕ) (size : ℕ) (registers : List Register)
     → lines_of_all registers ≤ lines_of_all (kind_registers kind name size registers)
 more_lines Qubits name size registers =
     let all = lines_of_all-append registers (record { name = name; size = size } ∷ []) in omega arith
 more_lines Bits name size registers = omega arith
 
-pub gates_stay_on : (kind : Kind) (name : List ℕ) (size : ℕ) (registers : List Register) (gates : List GateView) → AreGatesOn (lines_of_all registers) gates
+pub gates_stay_on : (kind : RegisterKind) (name : List ℕ) (size : ℕ) (registers : List Register) (gates : List GateView)
+    → AreGatesOn (lines_of_all registers) gates
     → AreGatesOn (lines_of_all (kind_registers kind name size registers)) gates
 gates_stay_on kind name size registers gates on = gates_stay _ _ gates (more_lines kind name size registers) on

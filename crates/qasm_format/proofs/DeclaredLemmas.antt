@@ -13,8 +13,8 @@ use Rattle.list_facts.specs.Lists.{IsAmong, AreApart}
 use Rattle.list_facts.proofs.AllLemmas.{AllByRecursion-push, AllByRecursion-at}
 use Rattle.qasm_format.specs.declared.file.Register.{Register}
 use Rattle.qasm_format.specs.declared.names.Span.{Span}
-use Rattle.qasm_format.specs.declared.words.Kind.{Kind}
-use Rattle.qasm_format.specs.declared.words.Kind.TheVariants.{Qubits, Bits}
+use Rattle.qasm_format.specs.declared.words.RegisterKind.{RegisterKind}
+use Rattle.qasm_format.specs.declared.words.RegisterKind.TheVariants.{Qubits, Bits}
 use Rattle.qasm_format.specs.Registers.{IsLaid, lines_of_all}
 use Rattle.qasm_format.specs.Stages.{HasRoom, kind_registers}
 use Rattle.qasm_format.specs.inside.Names.{registers_in, AreLaid, AreDeclared, DeclaredView}
@@ -75,39 +75,39 @@ laid_pushed at (n ∷ ns) (None ∷ ss) span same laid one = laid_pushed at ns s
 laid_pushed at (n ∷ ns) (Some s ∷ ss) span same laid one =
     (laid.0, laid_pushed (at + s.size) ns ss span (omega arith) laid.1 (subst (λ (k : ℕ). AreLaid k (span ∷ [])) (omega arith) one))
 
-abbrev pub span_of : Kind → (first size : ℕ) → Option Span
+abbrev pub span_of : RegisterKind → (first size : ℕ) → Option Span
 span_of Qubits first size = Some (record { first = first; size = size })
 span_of Bits first size = None
 
-abbrev pub lines_with : Kind → (lines size : ℕ) → ℕ
+abbrev pub lines_with : RegisterKind → (lines size : ℕ) → ℕ
 lines_with Qubits lines size = lines + size
 lines_with Bits lines size = lines
 
-one_laid : (kind : Kind) (lines size : ℕ) → AreLaid lines (span_of kind lines size ∷ [])
+one_laid : (kind : RegisterKind) (lines size : ℕ) → AreLaid lines (span_of kind lines size ∷ [])
 one_laid Qubits lines size = (refl, tt)
 one_laid Bits lines size = tt
 
-one_registered : (kind : Kind) (registers : List Register) (name : List ℕ) (lines size : ℕ)
+one_registered : (kind : RegisterKind) (registers : List Register) (name : List ℕ) (lines size : ℕ)
     → registers ++ registers_of_one name (span_of kind lines size) ≡ kind_registers kind name size registers
 one_registered Qubits registers name lines size = refl
 one_registered Bits registers name lines size = append-nil registers
 
-one_total : (kind : Kind) (registers : List Register) (name : List ℕ) (lines size : ℕ) → lines ≡ lines_of_all registers
+one_total : (kind : RegisterKind) (registers : List Register) (name : List ℕ) (lines size : ℕ) → lines ≡ lines_of_all registers
     → lines_with kind lines size ≡ lines_of_all (kind_registers kind name size registers)
 one_total Qubits registers name lines size same =
     let more = lines_of_all-append registers (record { name = name; size = size } ∷ []) in omega arith
 one_total Bits registers name lines size same = same
 
-one_few : (kind : Kind) (lines size : ℕ) → HasRoom kind size lines → lines ≤ 16384 → lines_with kind lines size ≤ 16384
+one_few : (kind : RegisterKind) (lines size : ℕ) → HasRoom kind size lines → lines ≤ 16384 → lines_with kind lines size ≤ 16384
 one_few Qubits lines size room few = room
 one_few Bits lines size room few = few
 
-pub registers_with : (kind : Kind) (names : List (List ℕ)) (spans : List (Option Span)) (name : List ℕ) (lines size : ℕ) → length spans ≡ length names
+pub registers_with : (kind : RegisterKind) (names : List (List ℕ)) (spans : List (Option Span)) (name : List ℕ) (lines size : ℕ) → length spans ≡ length names
     → registers_in (names ++ name ∷ []) (spans ++ span_of kind lines size ∷ []) ≡ kind_registers kind name size (registers_in names spans)
 registers_with kind names spans name lines size same =
     registers_pushed names spans name (span_of kind lines size) same ∙ one_registered kind (registers_in names spans) name lines size
 
-pub declared_with : (kind : Kind) (names : List (List ℕ)) (spans : List (Option Span)) (name : List ℕ) (lines size : ℕ) → AreDeclared names spans lines
+pub declared_with : (kind : RegisterKind) (names : List (List ℕ)) (spans : List (Option Span)) (name : List ℕ) (lines size : ℕ) → AreDeclared names spans lines
     → has_word names name ≡ false → IsText name → HasRoom kind size lines
     → AreDeclared (names ++ name ∷ []) (spans ++ span_of kind lines size ∷ []) (lines_with kind lines size)
 declared_with kind names spans name lines size h fresh text room =
@@ -280,21 +280,23 @@ found_none names spans name e =
 abbrev pub SameView : DeclaredView → DeclaredView → Type 0
 SameView one other = one ≡ other
 
-pub record Pushed (kind : Kind) (names : List (List ℕ)) (spans : List (Option Span)) (lines : ℕ) (view : DeclaredView) (name : List ℕ) (size : ℕ) : Type 0 where
+pub record Pushed (kind : RegisterKind) (names : List (List ℕ)) (spans : List (Option Span)) (lines : ℕ)
+    (view : DeclaredView) (name : List ℕ) (size : ℕ) : Type 0 where
   pub sound : AreDeclared names spans lines
   pub seen : SameView (record { names = names; registers = registers_in names spans })
       (record { names = view.names ++ name ∷ []; registers = kind_registers kind name size view.registers })
 
-pub pushed : (kind known : Kind) (names new_names : List (List ℕ)) (spans new_spans : List (Option Span)) (view : DeclaredView) (name : List ℕ) (lines size : ℕ)
+pub pushed : (kind known : RegisterKind) (names new_names : List (List ℕ)) (spans new_spans : List (Option Span))
+    (view : DeclaredView) (name : List ℕ) (lines size : ℕ)
     → kind ≡ known → AreDeclared names spans lines → names ≡ view.names → registers_in names spans ≡ view.registers → has_word view.names name ≡ false
     → IsText name → HasRoom kind size (lines_of_all view.registers) → new_names ≡ names ++ name ∷ [] → new_spans ≡ spans ++ span_of known lines size ∷ []
     → Pushed kind new_names new_spans (lines_with known lines size) view name size
 pushed kind known names new_names spans new_spans view name lines size same h seen_names seen_registers fresh text room e f =
     let new = ap (λ (ns : List (List ℕ)). has_word ns name) seen_names ∙ fresh in
     let total = h.total ∙ ap lines_of_all seen_registers in
-    let fits = subst (λ (k : Kind). HasRoom k size lines) same (subst (HasRoom kind size) (sym total) room) in
+    let fits = subst (λ (k : RegisterKind). HasRoom k size lines) same (subst (HasRoom kind size) (sym total) room) in
     let registers = registers_with known names spans name lines size h.counted ∙ ap (kind_registers known name size) seen_registers
-    ∙ ap (λ (k : Kind). kind_registers k name size view.registers) (sym same) in
+    ∙ ap (λ (k : RegisterKind). kind_registers k name size view.registers) (sym same) in
     let view_names : SameView (record {
       names = names ++ name ∷ [];
       registers = registers_in (names ++ name ∷ []) (spans ++ span_of known lines size ∷ []);

@@ -9,8 +9,8 @@ use Rattle.list_facts.proofs.AllLemmas.{AllByRecursion-push, AllByRecursion-appe
 use Rattle.list_facts.proofs.AmongLemmas.{among_left, among_right}
 use Rattle.mct_circuit.specs.Gates.{GateView, HasDifferentLines, IsGateOn, AreGatesOn}
 use Rattle.qasm_format.specs.declared.file.Register.{Register}
-use Rattle.qasm_format.specs.declared.words.Kind.{Kind}
-use Rattle.qasm_format.specs.declared.words.Kind.TheVariants.{Qubits, Bits}
+use Rattle.qasm_format.specs.declared.words.RegisterKind.{RegisterKind}
+use Rattle.qasm_format.specs.declared.words.RegisterKind.TheVariants.{Qubits, Bits}
 use Rattle.qasm_format.specs.declared.words.Use.{Use}
 use Rattle.qasm_format.specs.declared.words.Use.TheVariants.{Barrier, Flip}
 use Rattle.qasm_format.specs.declared.spots.Spot.{Spot}
@@ -59,7 +59,7 @@ more_names names name registers known =
     AllByRecursion-weaker (λ register. IsAmong register.name names) (λ register. IsAmong register.name (names ++ name ∷ []))
     (λ register among. among_left register.name names (name ∷ []) among) registers known
 
-pub declared_fits : (kind : Kind) (name : List ℕ) (size : ℕ) (names : List (List ℕ)) (registers : List Register) (gates : List GateView)
+pub declared_fits : (kind : RegisterKind) (name : List ℕ) (size : ℕ) (names : List (List ℕ)) (registers : List Register) (gates : List GateView)
     → Fits names registers gates → IsName name → ¬ IsAmong name names → 1 ≤ size → HasRoom kind size (lines_of_all registers)
     → Fits (names ++ name ∷ []) (kind_registers kind name size registers) gates
 declared_fits Bits name size names registers gates fits named fresh some room = record {
@@ -211,7 +211,7 @@ include_is_no_use : (included : Bool) → use_of (codes "include") included ≡ 
 include_is_no_use true = refl
 include_is_no_use false = refl
 
-kind_is_no_use : (kind : Kind) (included : Bool) → use_of (kind_word kind) included ≡ None
+kind_is_no_use : (kind : RegisterKind) (included : Bool) → use_of (kind_word kind) included ≡ None
 kind_is_no_use Qubits true = refl
 kind_is_no_use Qubits false = refl
 kind_is_no_use Bits true = refl
@@ -220,7 +220,7 @@ kind_is_no_use Bits false = refl
 no_use_word : (word : List ℕ) (included : Bool) (usage : Use) → use_of word included ≡ None → IsUseWord word included usage → ⊥
 no_use_word word included usage none spelled = none-some usage (sym none ∙ use_there word included usage spelled)
 
-one_kind : (word : List ℕ) (kind other : Kind) → word ≡ kind_word kind → word ≡ kind_word other → kind ≡ other
+one_kind : (word : List ℕ) (kind other : RegisterKind) → word ≡ kind_word kind → word ≡ kind_word other → kind ≡ other
 one_kind word kind other h k = same_Some kind other (sym (kind_there kind) ∙ ap kind_of (sym h ∙ k) ∙ kind_there other)
 
 one_use : (word : List ℕ) (included : Bool) (usage other : Use) → IsUseWord word included usage → IsUseWord word included other → usage ≡ other
@@ -250,7 +250,7 @@ starts_same word said a b (inl h) (inr (inr k)) =
     absurd (no_use_word word said.included k.usage (ap (λ w. use_of w said.included) h.spelled ∙ include_is_no_use said.included) k.spelled)
 starts_same word said a b (inr (inl h)) (inl k) = absurd (none-some h.kind (ap kind_of (sym k.spelled ∙ h.spelled) ∙ kind_there h.kind))
 starts_same word said a b (inr (inl h)) (inr (inl k)) =
-    h.leads ∙ ap (λ (kind : Kind). wants_name kind said) (one_kind word h.kind k.kind h.spelled k.spelled) ∙ sym k.leads
+    h.leads ∙ ap (λ (kind : RegisterKind). wants_name kind said) (one_kind word h.kind k.kind h.spelled k.spelled) ∙ sym k.leads
 starts_same word said a b (inr (inl h)) (inr (inr k)) =
     absurd (no_use_word word said.included k.usage (ap (λ w. use_of w said.included) h.spelled ∙ kind_is_no_use h.kind said.included) k.spelled)
 starts_same word said a b (inr (inr h)) (inl k) =

@@ -5,8 +5,8 @@ use Rattle.list_facts.specs.Lists.{IsAmong}
 use Rattle.revc_base.specs.declared.place.Place.{Place}
 use Rattle.qasm_format.specs.declared.file.QasmFault.{QasmFault}
 use Rattle.qasm_format.specs.declared.file.QasmFault.TheVariants.{Token, Limit, Memory}
-use Rattle.qasm_format.specs.declared.words.Kind.{Kind}
-use Rattle.qasm_format.specs.declared.words.Kind.TheVariants.{Qubits}
+use Rattle.qasm_format.specs.declared.words.RegisterKind.{RegisterKind}
+use Rattle.qasm_format.specs.declared.words.RegisterKind.TheVariants.{Qubits}
 use Rattle.qasm_format.specs.declared.words.Use.{Use}
 use Rattle.qasm_format.specs.declared.spots.Spot.{Spot}
 use Rattle.qasm_format.specs.declared.spots.Spot.TheVariants.{Line, Whole}
@@ -46,7 +46,7 @@ same_value taken n number = sym number.value ∙ taken.worth
 
 -- ---- sizes
 
-pub fault_at_size : (old : Left) (fault : QasmFault) (kind : Kind) (name : List ℕ) (said : Said) → IsNumberFault old fault
+pub fault_at_size : (old : Left) (fault : QasmFault) (kind : RegisterKind) (name : List ℕ) (said : Said) → IsNumberFault old fault
     → IsStop old (wants_size kind name said) fault
 fault_at_size old (Token at) kind name said h =
     breaks_rule (wants_size kind name said) h.takes (λ to leads. no_number h.word leads.size h.other leads.number) (λ e may. may)
@@ -59,7 +59,7 @@ fault_at_size old (Limit at) kind name said h =
     breaks_limit (wants_size kind name said) h.takes (λ to leads. long_number h.word leads.size h.long leads.number) (λ e may. may) (inl (h.spelled, h.long))
 fault_at_size old Memory kind name said h = tt
 
-pub zero_at_size : {old new : Left} {at : Place} (kind : Kind) (name : List ℕ) (said : Said) → TakesNumber old new 0 at
+pub zero_at_size : {old new : Left} {at : Place} (kind : RegisterKind) (name : List ℕ) (said : Said) → TakesNumber old new 0 at
     → BreaksRule old (wants_size kind name said) at
 zero_at_size kind name said taken =
     breaks_rule (wants_size kind name said) taken.takes
@@ -76,7 +76,7 @@ many_at_size size name said taken some many =
     (λ to leads. let same = same_value taken leads.size leads.number in let room = leads.room in absurd (omega arith)) (λ e may. may)
     (inr (record { size = size; number = is_number_taken taken; some = some; many = λ room. absurd (omega arith) }))
 
-pub reads_size : {old new : Left} {at : Place} (kind : Kind) (size : ℕ) (name : List ℕ) (said : Said) → TakesNumber old new size at → 1 ≤ size
+pub reads_size : {old new : Left} {at : Place} (kind : RegisterKind) (size : ℕ) (name : List ℕ) (said : Said) → TakesNumber old new size at → 1 ≤ size
     → HasRoom kind size (lines_of_all said.registers)
     → Reads old new (wants_size kind name said) (wants (codes "]") (wants (codes ";") (starts (declared kind name size said))))
 reads_size kind size name said taken some room =
@@ -111,7 +111,7 @@ reads_index index usage spots first size said taken inside =
 
 -- ---- names
 
-pub fault_at_name : (old : Left) (fault : QasmFault) (kind : Kind) (said : Said) → IsNameFault old fault → IsStop old (wants_name kind said) fault
+pub fault_at_name : (old : Left) (fault : QasmFault) (kind : RegisterKind) (said : Said) → IsNameFault old fault → IsStop old (wants_name kind said) fault
 fault_at_name old (Token at) kind said h =
     breaks_rule (wants_name kind said) h.takes (λ to leads. false≢true (sym h.other ∙ leads.named.spelled)) (λ e may. may)
     (λ long. false≢true (sym h.other ∙ long.0))
@@ -120,13 +120,13 @@ fault_at_name old (Limit at) kind said h =
     (h.spelled, h.long)
 fault_at_name old Memory kind said h = tt
 
-pub kept_at_name : {old new : Left} {word : List ℕ} {at : Place} (kind : Kind) (said : Said) → TakesName old new word at
+pub kept_at_name : {old new : Left} {word : List ℕ} {at : Place} (kind : RegisterKind) (said : Said) → TakesName old new word at
     → (IsName word → (¬ IsAmong word said.names) → ⊥) → BreaksRule old (wants_name kind said) at
 kept_at_name kind said taken other =
     breaks_rule (wants_name kind said) taken.takes (λ to leads. other leads.named leads.fresh) (λ e may. may)
     (λ long. absurd (omega (arith, long.1, taken.few)))
 
-pub reads_name : {old new : Left} {word : List ℕ} {at : Place} (kind : Kind) (said : Said) → TakesName old new word at → IsName word
+pub reads_name : {old new : Left} {word : List ℕ} {at : Place} (kind : RegisterKind) (said : Said) → TakesName old new word at → IsName word
     → ¬ IsAmong word said.names → Reads old new (wants_name kind said) (wants (codes "[") (wants_size kind word said))
 reads_name {word = word} kind said taken named fresh =
     reads_next (wants_name kind said) _ taken.takes (some_identifier word taken.spelled) (record { named = named; fresh = fresh; leads = refl })
@@ -239,18 +239,19 @@ limit_behind_argument {word = word} usage spots spot said takes same no_end_here
 
 -- ---- sizes in brackets
 
-pub size_stops : (old mid : Left) (fault : QasmFault) (kind : Kind) (count : ℕ) → ReadsWord old mid (codes "[")
+pub size_stops : (old mid : Left) (fault : QasmFault) (kind : RegisterKind) (count : ℕ) → ReadsWord old mid (codes "[")
     → ((name : List ℕ) (said : Said) → lines_of_all said.registers ≡ count → IsStop mid (wants_size kind name said) fault)
     → StopsAtSize old kind count fault
 size_stops old mid fault kind count opened stops =
     record { says = λ name said same. stops_later fault (opened.says (wants_size kind name said)) (stops name said same) }
 
-pub full_stops : (old new : Left) (at : Place) (kind : Kind) (size count : ℕ) (name : List ℕ) (said : Said) → lines_of_all said.registers ≡ count
+pub full_stops : (old new : Left) (at : Place) (kind : RegisterKind) (size count : ℕ) (name : List ℕ) (said : Said) → lines_of_all said.registers ≡ count
     → TakesNumber old new size at → 1 ≤ size → (kind ≡ Qubits) × (16384 < count + size) → IsStop old (wants_size kind name said) (Limit at)
 full_stops old new at kind size count name said same taken some full =
-    subst (λ (k : Kind). BreaksLimit old (wants_size k name said) at) (sym full.0) (many_at_size size name said taken some (omega (arith, same, full.1)))
+    subst (λ (k : RegisterKind). BreaksLimit old (wants_size k name said) at) (sym full.0)
+    (many_at_size size name said taken some (omega (arith, same, full.1)))
 
-pub sized : (old new : Left) (at : Place) (kind : Kind) (size count : ℕ) (name : List ℕ) (said : Said) → lines_of_all said.registers ≡ count
+pub sized : (old new : Left) (at : Place) (kind : RegisterKind) (size count : ℕ) (name : List ℕ) (said : Said) → lines_of_all said.registers ≡ count
     → TakesNumber old new size at → 1 ≤ size → HasRoom kind size count
     → Reads old new (wants_size kind name said) (wants (codes "]") (wants (codes ";") (starts (declared kind name size said))))
 sized old new at kind size count name said same taken some room =

@@ -7,8 +7,8 @@ use Rattle.std.specs.Str.{bytes_eq}
 use Rattle.std.proofs.lemmas.Slice.Eq.{bytes_eq-Decides}
 use Rattle.std.proofs.lemmas.Bool.{false≢true}
 use Rattle.std.proofs.lemmas.Option.{none-some, same_Some}
-use Rattle.qasm_format.specs.declared.words.Kind.{Kind}
-use Rattle.qasm_format.specs.declared.words.Kind.TheVariants.{Qubits, Bits}
+use Rattle.qasm_format.specs.declared.words.RegisterKind.{RegisterKind}
+use Rattle.qasm_format.specs.declared.words.RegisterKind.TheVariants.{Qubits, Bits}
 use Rattle.qasm_format.specs.declared.words.Use.{Use}
 use Rattle.qasm_format.specs.declared.words.Use.TheVariants.{Barrier, Flip}
 use Rattle.revc_base.specs.declared.place.Place.{Place}
@@ -38,7 +38,7 @@ chosen word wanted x y a e = by (bytes_eq word wanted) refl
 taken : {A : Type 0} (word wanted : List ℕ) (x y : Option A) → word ≡ wanted → cond (bytes_eq word wanted) x y ≡ x
 taken word wanted x y same = ap (λ (t : Bool). cond t x y) ((bytes_eq-Decides word wanted).1 same)
 
-pub kind_found : (word : List ℕ) (kind : Kind) → kind_of word ≡ Some kind → word ≡ kind_word kind
+pub kind_found : (word : List ℕ) (kind : RegisterKind) → kind_of word ≡ Some kind → word ≡ kind_word kind
 kind_found word kind e = by (chosen word (codes "qreg") (Some Qubits) (cond (bytes_eq word (codes "creg")) (Some Bits) None) kind e)
   where
     second : ((word ≡ codes "creg") × (Some Bits ≡ Some kind)) ⊎ (None ≡ Some kind) → word ≡ kind_word kind
@@ -49,7 +49,7 @@ kind_found word kind e = by (chosen word (codes "qreg") (Some Qubits) (cond (byt
     by (inl qubits) = qubits.0 ∙ ap kind_word (same_Some Qubits kind qubits.1)
     by (inr more) = second (chosen word (codes "creg") (Some Bits) None kind more)
 
-pub kind_there : (kind : Kind) → kind_of (kind_word kind) ≡ Some kind
+pub kind_there : (kind : RegisterKind) → kind_of (kind_word kind) ≡ Some kind
 kind_there Qubits = refl
 kind_there Bits = refl
 
@@ -115,7 +115,7 @@ pub use_begins : (word : List ℕ) (said : Said) (usage : Use) → use_of word s
     → Leads word (starts said) (wants_argument usage [] said)
 use_begins word said usage e = inr (inr (record { usage = usage; spelled = use_found word said.included usage e; leads = refl }))
 
-pub kind_begins : (word : List ℕ) (said : Said) (kind : Kind) → kind_of word ≡ Some kind → Leads word (starts said) (wants_name kind said)
+pub kind_begins : (word : List ℕ) (said : Said) (kind : RegisterKind) → kind_of word ≡ Some kind → Leads word (starts said) (wants_name kind said)
 kind_begins word said kind e = inr (inl (record { kind = kind; spelled = kind_found word kind e; leads = refl }))
 
 -- ---- statements, from their first word on

@@ -13,7 +13,7 @@ use Rattle.mct_circuit.proofs.ReversalLemmas.{lines_of-flip_of}
 use Rattle.qasm_format.specs.declared.file.Register.{Register}
 use Rattle.qasm_format.specs.declared.spots.Spot.{Spot}
 use Rattle.qasm_format.specs.declared.spots.Spot.TheVariants.{Line}
-use Rattle.qasm_format.specs.declared.words.Kind.TheVariants.{Qubits}
+use Rattle.qasm_format.specs.declared.words.RegisterKind.TheVariants.{Qubits}
 use Rattle.qasm_format.specs.declared.words.Use.{Use}
 use Rattle.qasm_format.specs.declared.words.Use.TheVariants.{Flip}
 use Rattle.text_places.specs.Places.{place_after, start}

@@ -5,8 +5,8 @@ use Rattle.list_facts.specs.Lists.{IsAmong}
 use Rattle.mct_circuit.specs.Gates.{GateView, HasDifferentLines, flip_of}
 use Rattle.gate_split.specs.declared.plan.TheConstants.{MOST_LINES, MOST_GATES}
 use Rattle.revc_base.specs.declared.limits.TheConstants.{MOST_NAME_BYTES}
-use Rattle.qasm_format.specs.declared.words.Kind.{Kind}
-use Rattle.qasm_format.specs.declared.words.Kind.TheVariants.{Qubits, Bits}
+use Rattle.qasm_format.specs.declared.words.RegisterKind.{RegisterKind}
+use Rattle.qasm_format.specs.declared.words.RegisterKind.TheVariants.{Qubits, Bits}
 use Rattle.qasm_format.specs.declared.words.Use.{Use}
 use Rattle.qasm_format.specs.declared.words.Use.TheVariants.{Barrier, Flip}
 use Rattle.qasm_format.specs.declared.spots.Spot.{Spot}
@@ -33,8 +33,8 @@ pub data Stage : Type 0 where
   -- this word comes next
   wants : List ℕ → Stage → Stage
   -- the name and the size of a register
-  wants_name : Kind → Said → Stage
-  wants_size : Kind → List ℕ → Said → Stage
+  wants_name : RegisterKind → Said → Stage
+  wants_size : RegisterKind → List ℕ → Said → Stage
   -- an argument behind these; a register was named, with its first line and its size; an index; behind an argument
   wants_argument : Use → List Spot → Said → Stage
   behind_name : Use → List Spot → (first size : ℕ) → Said → Stage
@@ -55,38 +55,38 @@ pub record Includes (word : List ℕ) (said : Said) (next : Stage) : Type 0 wher
 
 -- ---- declarations
 
-abbrev pub kind_word : Kind → List ℕ
+abbrev pub kind_word : RegisterKind → List ℕ
 kind_word Qubits = codes "qreg"
 kind_word Bits = codes "creg"
 
 pub record Declares (word : List ℕ) (said : Said) (next : Stage) : Type 0 where
-  pub kind : Kind
+  pub kind : RegisterKind
   pub spelled : word ≡ kind_word kind
   pub leads : next ≡ wants_name kind said
 
 -- the registers of qubits with one more of this kind: bits add none
-abbrev pub kind_registers : Kind → List ℕ → ℕ → List Register → List Register
+abbrev pub kind_registers : RegisterKind → List ℕ → ℕ → List Register → List Register
 kind_registers Qubits name size registers = registers ++ record { name = name; size = size } ∷ []
 kind_registers Bits name size registers = registers
 
 -- what is said with a register of this kind
-abbrev pub declared : Kind → List ℕ → ℕ → Said → Said
+abbrev pub declared : RegisterKind → List ℕ → ℕ → Said → Said
 declared kind name size said = record said {
   names = said.names ++ name ∷ [];
   registers = kind_registers kind name size said.registers;
 }
 
 -- with so many lines and a register of this size the lines stay within their limit; bits have no lines
-abbrev pub HasRoom : Kind → (size lines : ℕ) → Type 0
+abbrev pub HasRoom : RegisterKind → (size lines : ℕ) → Type 0
 HasRoom Qubits size lines = lines + size ≤ MOST_LINES
 HasRoom Bits size lines = Unit {0}
 
-pub record Names (word : List ℕ) (kind : Kind) (said : Said) (next : Stage) : Type 0 where
+pub record Names (word : List ℕ) (kind : RegisterKind) (said : Said) (next : Stage) : Type 0 where
   pub named : IsName word
   pub fresh : ¬ IsAmong word said.names
   pub leads : next ≡ wants (codes "[") (wants_size kind word said)
 
-pub record Sizes (word : List ℕ) (kind : Kind) (name : List ℕ) (said : Said)
+pub record Sizes (word : List ℕ) (kind : RegisterKind) (name : List ℕ) (said : Said)
     (next : Stage) : Type 0 where
   pub size : ℕ
   pub number : IsNumber word size
@@ -192,7 +192,7 @@ abbrev pub IsLongNumber : List ℕ → Type 0
 IsLongNumber word = (is_number word ≡ true) × (MOST_DIGITS < length word)
 
 -- a size by which the lines pass their limit
-pub record HasManyLines (word : List ℕ) (kind : Kind) (said : Said) : Type 0 where
+pub record HasManyLines (word : List ℕ) (kind : RegisterKind) (said : Said) : Type 0 where
   pub size : ℕ
   pub number : IsNumber word size
   pub some : 1 ≤ size

@@ -8,7 +8,7 @@ ghost use Rattle.qasm_format.specs.Stages.{HasRoom, kind_registers};
 ghost use Rattle.format_parts.specs.Names.{has_word, IsText};
 
 use crate::file::Register;
-use crate::words::Kind;
+use crate::words::RegisterKind;
 use format_parts::Names;
 use revc_base::{Memory, Text};
 use std::alloc::Global;
@@ -83,7 +83,7 @@ impl<'t> Declared<'t> {
 
     // Declares a new name, a register of qubits behind the others or one of bits. After want of
     // memory nothing is changed.
-    pub fn push(&mut self, kind: Kind, name: &'t [u8], size: u32) -> Result<(), Memory>
+    pub fn push(&mut self, kind: RegisterKind, name: &'t [u8], size: u32) -> Result<(), Memory>
         requires text { IsText name.now }
         requires fresh { has_word self.old.names name.now ≡ false }
         requires room { HasRoom kind size (lines_of_all self.old.registers) }
@@ -94,7 +94,7 @@ impl<'t> Declared<'t> {
         ensures err { OnErr result (self.new ≡ self.old) }
     {
         match kind {
-            Kind::Qubits => {
+            RegisterKind::Qubits => {
                 let span = Span {
                     first: self.lines,
                     size,
@@ -102,7 +102,7 @@ impl<'t> Declared<'t> {
                 put(&mut self.names, &mut self.spans, name, Some(span))?;
                 self.lines += size;
             }
-            Kind::Bits => put(&mut self.names, &mut self.spans, name, None)?,
+            RegisterKind::Bits => put(&mut self.names, &mut self.spans, name, None)?,
         }
         Ok(())
     }

@@ -22,7 +22,7 @@ use crate::file::{QasmFault, QasmFile};
 use crate::names::Declared;
 use crate::said::Said;
 use crate::spots::{Spot, all_different, count_of};
-use crate::words::{Kind, Use, is_free, kind_of, use_of};
+use crate::words::{RegisterKind, Use, is_free, kind_of, use_of};
 use gate_split::{MOST_GATES, MOST_LINES};
 use mct_circuit::{Circuit, Control, Gate, Op};
 use qasm_lexer::{MOST_DIGITS, Token, Tokens, is_identifier, is_number};
@@ -202,7 +202,7 @@ fn read_include(tokens: &mut Tokens) -> Result<(), QasmFault>
 fn read_declaration<'t>(
     said: &mut Said<'t>,
     tokens: &mut Tokens<'t>,
-    kind: Kind,
+    kind: RegisterKind,
 ) -> Result<(), QasmFault>
     requires { IsSound said.old }
     ensures ok { OnOk result (Reads tokens.old tokens.new
@@ -223,7 +223,7 @@ fn read_declaration<'t>(
 }
 
 // A size in square brackets, and the end of the statement.
-fn take_size(tokens: &mut Tokens, kind: Kind, lines: u32) -> Result<u32, QasmFault>
+fn take_size(tokens: &mut Tokens, kind: RegisterKind, lines: u32) -> Result<u32, QasmFault>
     requires { lines ≤ MOST_LINES }
     ensures ok { IfOk result (ReadsSize tokens.old tokens.new kind lines) }
     ensures err { IfErr result (StopsAtSize tokens.old kind lines) }
@@ -242,14 +242,14 @@ fn take_size(tokens: &mut Tokens, kind: Kind, lines: u32) -> Result<u32, QasmFau
 }
 
 // Whether the lines pass their limit with a register of this size.
-fn is_full(kind: Kind, size: u32, lines: u32) -> bool
+fn is_full(kind: RegisterKind, size: u32, lines: u32) -> bool
     requires { lines ≤ MOST_LINES }
     ensures room { result ≡ false → HasRoom kind size lines }
-    ensures full { result ≡ true → (kind ≡ Kind.Qubits) × (MOST_LINES < lines + size) }
+    ensures full { result ≡ true → (kind ≡ RegisterKind.Qubits) × (MOST_LINES < lines + size) }
 {
     match kind {
-        Kind::Qubits => size > MOST_LINES - lines,
-        Kind::Bits => false,
+        RegisterKind::Qubits => size > MOST_LINES - lines,
+        RegisterKind::Bits => false,
     }
 }
 

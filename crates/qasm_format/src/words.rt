@@ -5,7 +5,7 @@ ghost use Rattle.qasm_format.specs.inside.Tests.{is_kept_too, kind_of, use_of};
 
 // A register of qubits, or of bits.
 #[derive(Clone, Copy)]
-pub enum Kind {
+pub enum RegisterKind {
     Qubits,
     Bits,
 }
@@ -18,14 +18,14 @@ pub enum Use {
 }
 
 // The kind of register that a word declares.
-pub fn kind_of(word: &[u8]) -> Option<Kind>
+pub fn kind_of(word: &[u8]) -> Option<RegisterKind>
     ensures { result ≡ kind_of word.now }
 {
     if word == b"qreg".as_slice() {
-        return Some(Kind::Qubits);
+        return Some(RegisterKind::Qubits);
     }
     if word == b"creg".as_slice() {
-        return Some(Kind::Bits);
+        return Some(RegisterKind::Bits);
     }
     None
 }

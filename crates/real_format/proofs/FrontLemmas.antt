@@ -6,7 +6,7 @@ use Rattle.real_format.specs.Header.{HeaderView, nothing_said}
 use Rattle.real_format.specs.Real.{Place, in_header, in_gates, at_end, says_more, begins_gates, ends_file, LeadTo, nothing_left, one_more, GoesOn, FrontsGoOn}
 use Rattle.real_format.specs.Written.{names_by}
 use Rattle.real_format.specs.Converted.{numbered_name}
-use Rattle.real_format.specs.inside.Steps.{IsSound}
+use Rattle.real_format.specs.inside.Says.{IsSound}
 use Rattle.real_format.specs.inside.Reading.{file_of}
 use Rattle.real_format.proofs.NameLemmas.{good_by_number, length-names_by, names_are_different, names_are_names}
 use Rattle.real_format.proofs.LineLemmas.{IsFit}

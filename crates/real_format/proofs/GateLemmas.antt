@@ -17,8 +17,8 @@ use Rattle.mct_circuit.specs.declared.gate.Op.{Op}
 use Rattle.mct_circuit.specs.declared.gate.Op.TheVariants.{Flip, Swap}
 use Rattle.mct_circuit.specs.Gates.{targets_of}
 use Rattle.mct_circuit.specs.Sizes.{has_line}
-use Rattle.real_format.specs.declared.refusal.Refusal.{Refusal}
-use Rattle.real_format.specs.declared.refusal.Refusal.TheVariants.{Form, Limit}
+use Rattle.real_format.specs.declared.refusal.LineRefusal.{LineRefusal}
+use Rattle.real_format.specs.declared.refusal.LineRefusal.TheVariants.{Form, Limit}
 use Rattle.real_format.specs.Header.{IsName}
 use Rattle.real_format.specs.Real.{NamesLine, NamesControl}
 use Rattle.real_format.specs.Faults.{IsLong}
@@ -228,7 +228,7 @@ pub record AreControls (names : List (List ℕ)) (wanted : ℕ) (done : List Con
       → AllByRecursion (λ line. line < length names) (lines_of_controls controls)
 
 controls_none : (names : List (List ℕ)) (wanted : ℕ) (done : List Control) (words : List (List ℕ)) (controls : List Control) (rest : List (List ℕ))
-    → eqb (length done) wanted ≡ true → ◌≡◌ {A = Result (List Control × List (List ℕ)) Refusal} (Ok (done, words)) (Ok (controls, rest))
+    → eqb (length done) wanted ≡ true → ◌≡◌ {A = Result (List Control × List (List ℕ)) LineRefusal} (Ok (done, words)) (Ok (controls, rest))
     → AreControls names wanted done words controls rest
 controls_none names wanted done words controls rest all e =
     let same = same_ok (done, words) (controls, rest) e in

@@ -11,7 +11,7 @@ use Rattle.mct_circuit.specs.Gates.{GateView, targets_of, HasDifferentLines, IsG
 use Rattle.mct_circuit.specs.Sizes.{has_line}
 use Rattle.gate_split.specs.declared.plan.TheConstants.{MOST_GATES}
 use Rattle.real_format.specs.declared.gate.Shape.{Shape}
-use Rattle.real_format.specs.declared.refusal.Refusal.TheVariants.{Limit}
+use Rattle.real_format.specs.declared.refusal.LineRefusal.TheVariants.{Limit}
 use Rattle.real_format.specs.Real.{RealView, ReadsGate, NamesLine, NamesControl, IsGateWord}
 use Rattle.real_format.specs.Faults.{HasLongGate}
 use Rattle.real_format.specs.inside.Reading.{and_then, lines_of_controls, controls_from, op_of, gate_of, shape_of}

@@ -13,7 +13,7 @@ use Rattle.std.proofs.lemmas.List.{length-append}
 use Rattle.std.proofs.lemmas.Slice.Eq.{bytes_eq-Decides}
 use Rattle.list_facts.specs.Lists.{AreApart}
 use Rattle.list_facts.proofs.AllLemmas.{AllByRecursion-append, AllByRecursion-left, AllByRecursion-right}
-use Rattle.real_format.specs.declared.refusal.Refusal.TheVariants.{Form, Limit}
+use Rattle.real_format.specs.declared.refusal.LineRefusal.TheVariants.{Form, Limit}
 use Rattle.real_format.specs.Header.{IsNumber, IsName, IsBarred}
 use Rattle.real_format.specs.inside.Reading.{single, is_nil, number_of, begins_name, is_long, counted, count_of, more_names, names_from}
 use Rattle.format_parts.specs.Names.{has_word}

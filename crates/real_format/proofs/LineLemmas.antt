@@ -12,12 +12,12 @@ use Rattle.gate_split.specs.declared.plan.TheConstants.{MOST_LINES, MOST_GATES}
 use Rattle.real_format.specs.declared.file.Mark.TheVariants.{Free}
 use Rattle.real_format.specs.declared.header.Head.{Head}
 use Rattle.real_format.specs.declared.header.Head.TheVariants as heads
-use Rattle.real_format.specs.declared.refusal.Refusal.TheVariants.{Form, Limit}
+use Rattle.real_format.specs.declared.refusal.LineRefusal.TheVariants.{Form, Limit}
 use Rattle.real_format.specs.Header.{HeaderView, IsName, spelling_of}
 use Rattle.real_format.specs.Real.{RealView, Place, in_header, in_gates, at_end, Leads, says_nothing, says_more, begins_gates, adds_gate, ends_file, Begins}
 use Rattle.real_format.specs.Real.{ReadsGate, IsGateWord, IsFile}
 use Rattle.real_format.specs.Faults.{PassesLimit, HasManyLines, HasLongName, HasManyGates, HasLongGate}
-use Rattle.real_format.specs.inside.Steps.{IsSound}
+use Rattle.real_format.specs.inside.Says.{IsSound}
 use Rattle.real_format.specs.inside.Reading.{and_then, or_form, is_nil, head_of, all_heads, add, headed, begin_gates, file_of, shape_of, gate_of, add_gate}
 use Rattle.real_format.specs.inside.Reading.{with_gate, end_gates, gates_line, after_line}
 use Rattle.real_format.proofs.InversionLemmas.{else_ok, then_ok, and_ok, or_ok, same_ok, limit_else, then_limit, and_limit, or_limit, ok_no_limit}

@@ -9,8 +9,8 @@ use Rattle.gate_split.specs.Plans.{lines_in, role_at}
 use Rattle.real_format.specs.declared.file.Mark.TheVariants.{Free, Zero}
 use Rattle.real_format.specs.declared.labels.Labels.{Labels}
 use Rattle.real_format.specs.declared.labels.Labels.TheVariants.{ByRole, ByNumber}
-use Rattle.real_format.specs.declared.labels.Kind.{Kind}
-use Rattle.real_format.specs.declared.labels.Kind.TheVariants.{Constants, Garbage}
+use Rattle.real_format.specs.declared.labels.MarkKind.{MarkKind}
+use Rattle.real_format.specs.declared.labels.MarkKind.TheVariants.{Constants, Garbage}
 use Rattle.real_format.specs.Header.{constant_byte, garbage_byte}
 use Rattle.real_format.specs.Compiled.{constants_of}
 use Rattle.real_format.specs.inside.Labels.{count_of, constants_by, garbage_by, mark_bytes, start_of}
@@ -25,7 +25,7 @@ length-constants_by : (labels : Labels) → length (constants_by labels) ≡ cou
 length-constants_by (ByRole roles) = length-constants_of roles
 length-constants_by (ByNumber constants garbage) = refl
 
-pub length-mark_bytes : (labels : Labels) (kind : Kind) → length (garbage_by labels) ≡ count_of labels → length (mark_bytes labels kind) ≡ count_of labels
+pub length-mark_bytes : (labels : Labels) (kind : MarkKind) → length (garbage_by labels) ≡ count_of labels → length (mark_bytes labels kind) ≡ count_of labels
 length-mark_bytes labels Constants fit = length-map (constants_by labels) constant_byte ∙ length-constants_by labels
 length-mark_bytes labels Garbage fit = length-map (garbage_by labels) garbage_byte ∙ fit
 

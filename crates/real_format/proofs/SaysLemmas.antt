@@ -13,12 +13,12 @@ use Rattle.real_format.specs.declared.file.Mark.{Mark}
 use Rattle.real_format.specs.declared.file.Mark.TheVariants.{Free, Zero, One}
 use Rattle.real_format.specs.declared.header.Head.{Head}
 use Rattle.real_format.specs.declared.header.Head.TheVariants.{Version, Lines, Names, Inputs, Outputs, InputBus, OutputBus, Constants, Garbage}
-use Rattle.real_format.specs.declared.refusal.Refusal.TheVariants.{Form, Limit}
+use Rattle.real_format.specs.declared.refusal.LineRefusal.TheVariants.{Form, Limit}
 use Rattle.real_format.specs.Header.{HeaderView, IsNumber, IsName, Says, constant_byte, garbage_byte, spelling_of}
 use Rattle.real_format.specs.Faults.{HasManyLines, HasLongName}
 use Rattle.real_format.specs.inside.Reading.{and_then, or_form, single, is_nil, number_of, is_version, counted, count_of, names_from, marks_from, marks_of}
 use Rattle.real_format.specs.inside.Reading.{constant_of, garbage_of, add}
-use Rattle.real_format.specs.inside.Steps.{IsSound}
+use Rattle.real_format.specs.inside.Says.{IsSound}
 use Rattle.real_format.proofs.InversionLemmas.{else_ok, then_ok, and_ok, or_ok, same_ok, else_limit, limit_else, then_limit, and_limit, or_limit, ok_no_limit}
 use Rattle.real_format.proofs.HeaderLemmas.{single_is, is_none, number_is, is_number, same_word, either, IsCount, count_is, is_count, AreNames, names_are}
 use Rattle.real_format.proofs.HeaderLemmas.{are_names, IsLongName, names_long, long_names}

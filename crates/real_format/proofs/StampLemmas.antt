@@ -9,8 +9,8 @@ use Rattle.std.proofs.lemmas.List.Quantifiers.{position-Some}
 use Rattle.mct_circuit.specs.declared.gate.Control.{Control}
 use Rattle.mct_circuit.specs.declared.gate.Op.TheVariants.{Flip, Swap}
 use Rattle.mct_circuit.specs.Sizes.{has_line}
-use Rattle.real_format.specs.declared.refusal.Refusal.{Refusal}
-use Rattle.real_format.specs.declared.refusal.Refusal.TheVariants.{Form, Limit, Memory}
+use Rattle.real_format.specs.declared.refusal.LineRefusal.{LineRefusal}
+use Rattle.real_format.specs.declared.refusal.LineRefusal.TheVariants.{Form, Limit, Memory}
 use Rattle.real_format.specs.inside.Reading.{and_then, or_form, Refuses, has_sign, is_long, line_of, control_of, control_on, controls_from, lines_of_controls}
 use Rattle.real_format.specs.inside.Reading.{target_of, op_of, alone}
 use Rattle.real_format.specs.inside.Stamps.{is_stamped, AreStamped}
@@ -48,7 +48,7 @@ pub controls_end : (names : List (List ℕ)) (wanted : ℕ) (controls : List Con
 controls_end names wanted controls [] all = rw (eq-eqb (length controls) wanted all) refl
 controls_end names wanted controls (word ∷ words) all = rw (eq-eqb (length controls) wanted all) refl
 
-pub refused_control : (names : List (List ℕ)) (has : ℕ → Bool) (word name : List ℕ) (e : Refusal) → has_sign word ≡ true → name ≡ drop 1 word
+pub refused_control : (names : List (List ℕ)) (has : ℕ → Bool) (word name : List ℕ) (e : LineRefusal) → has_sign word ≡ true → name ≡ drop 1 word
     → Refuses (line_of names has name) e → Refuses (control_of names has word) e
 refused_control names has word name Form signed is refuses =
     rw signed (ap (λ r. and_then r (λ line. Ok (control_on false line))) (ap (line_of names has) (sym is) ∙ refuses))

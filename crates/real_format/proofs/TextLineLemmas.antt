@@ -6,7 +6,7 @@ use Rattle.real_format.specs.Real.{RealView, Place, in_header}
 use Rattle.real_format.specs.Header.{HeaderView}
 use Rattle.real_format.specs.inside.Lines.{LinesView, TakesLine}
 use Rattle.real_format.specs.inside.Reading.{after_line, verdict, verdict_after, verdict_at_last, IsFaultOf}
-use Rattle.real_format.specs.inside.Steps.{IsSound}
+use Rattle.real_format.specs.inside.Says.{IsSound}
 use Rattle.real_format.proofs.LineLemmas.{leads_so, fit_next}
 
 -- the verdict on the lines that are left to a reader

@@ -2,14 +2,14 @@
 use Rattle.std.proofs.Common.{◌≡◌, ℕ, ◌+◌, ◌⊎◌, inl, inr, List, [], ◌∷◌, ◌++◌, length, Result, Ok, Err, refl, sym, ap, ◌∙◌, subst, arith, add-zero, append-nil}
 use Rattle.real_format.specs.declared.file.RealFault.{RealFault}
 use Rattle.real_format.specs.declared.file.RealFault.TheVariants as faults
-use Rattle.real_format.specs.declared.refusal.Refusal.{Refusal}
-use Rattle.real_format.specs.declared.refusal.Refusal.TheVariants.{Form, Limit, Memory}
+use Rattle.real_format.specs.declared.refusal.LineRefusal.{LineRefusal}
+use Rattle.real_format.specs.declared.refusal.LineRefusal.TheVariants.{Form, Limit, Memory}
 use Rattle.real_format.specs.Words.{said_lines}
 use Rattle.real_format.specs.Header.{nothing_said}
 use Rattle.real_format.specs.Real.{RealView, RealMeaning, MeaningsAreFiles, Place, in_header, in_gates, at_end, Leads, LeadTo, nothing_left, one_more}
 use Rattle.real_format.specs.Faults.{PassesLimit, IsBadLine, HasNoEnd, BreaksForm, BreaksLimit, IsTextFault, IsRealFault, OneReading}
 use Rattle.real_format.specs.inside.Reading.{after_line, text_fault, verdict, verdict_after, verdict_at_last, IsFaultOf}
-use Rattle.real_format.specs.inside.Steps.{IsSound}
+use Rattle.real_format.specs.inside.Says.{IsSound}
 use Rattle.real_format.proofs.LineLemmas.{IsFit, leads_so, reads_so, fit_next, limit_line, line_limit}
 
 -- ---- a meaning
@@ -32,7 +32,7 @@ lead_so (in_gates other) k [] file fit e = absurd (cc)
 lead_so (at_end other) k [] file fit e = let same : other ≡ file = cc in subst (λ f. LeadTo [] (at_end other) (at_end f)) same nothing_left
 lead_so place k (l ∷ ls) file fit e = by (after_line place l) refl e (λ next. lead_so next (k + 1) ls file)
   where
-    by : (r : Result Place Refusal) → after_line place l ≡ r → verdict_after r k (λ p. verdict p (k + 1) ls) ≡ Ok file
+    by : (r : Result Place LineRefusal) → after_line place l ≡ r → verdict_after r k (λ p. verdict p (k + 1) ls) ≡ Ok file
         → ((next : Place) → IsFit next → verdict next (k + 1) ls ≡ Ok file → LeadTo ls next (at_end file)) → LeadTo (l ∷ ls) place (at_end file)
     by (Ok next) q f again =
         let leads = leads_so place next l fit q in
@@ -42,7 +42,7 @@ lead_so place k (l ∷ ls) file fit e = by (after_line place l) refl e (λ next.
 -- ---- a fault
 
 -- the first line that leads nowhere, and the kind of it
-record HasFault (place : Place) (k : ℕ) (lines : List (List (List ℕ))) (r : Refusal) (number : ℕ) : Type 0 where
+record HasFault (place : Place) (k : ℕ) (lines : List (List (List ℕ))) (r : LineRefusal) (number : ℕ) : Type 0 where
   at : Place
   line : List (List ℕ)
   before : List (List (List ℕ))
@@ -61,7 +61,7 @@ record HasNone (place : Place) (k : ℕ) (lines : List (List (List ℕ))) (numbe
   open_place : (file : RealView) → ¬ (at ≡ at_end file)
 
 abbrev Ends : Place → ℕ → List (List (List ℕ)) → RealFault → Type 0
-Ends place k lines fault = ((r : Refusal) × (number : ℕ) × (fault ≡ text_fault number r) × HasFault place k lines r number)
+Ends place k lines fault = ((r : LineRefusal) × (number : ℕ) × (fault ≡ text_fault number r) × HasFault place k lines r number)
     ⊎ ((number : ℕ) × (fault ≡ faults.Line number) × HasNone place k lines number)
 
 no_end_header : (said : _) (file : RealView) → ¬ (in_header said ≡ at_end file)
@@ -110,7 +110,7 @@ fault_so place k (l ∷ ls) fault fit e = by (after_line place l) refl e (λ nex
       },
     )
 
-    by : (r : Result Place Refusal) → after_line place l ≡ r → verdict_after r k (λ p. verdict p (k + 1) ls) ≡ Err fault
+    by : (r : Result Place LineRefusal) → after_line place l ≡ r → verdict_after r k (λ p. verdict p (k + 1) ls) ≡ Err fault
         → ((next : Place) → IsFit next → verdict next (k + 1) ls ≡ Err fault → Ends next (k + 1) ls fault) → Ends place k (l ∷ ls) fault
     by (Ok next) q f again =
         let leads = leads_so place next l fit q in
@@ -142,13 +142,13 @@ sound_at_first = record { some = tt; few = tt; counted = tt; named = tt; differe
 pub means_so : (text : List ℕ) (file : RealView) → verdict (in_header nothing_said) 1 (said_lines text) ≡ Ok file → RealMeaning text file
 means_so text file e = record { read = lead_so (in_header nothing_said) 1 (said_lines text) file sound_at_first e }
 
-nowhere_from : (place : Place) (line : List (List ℕ)) (r : Refusal) → IsFit place → after_line place line ≡ Err r → (next : Place) → ¬ Leads line place next
+nowhere_from : (place : Place) (line : List (List ℕ)) (r : LineRefusal) → IsFit place → after_line place line ≡ Err r → (next : Place) → ¬ Leads line place next
 nowhere_from place line r fit e next leads = let both : Ok next ≡ Err r = sym (reads_so place next line fit leads) ∙ e in cc
 
-no_limit : (place : Place) (line : List (List ℕ)) (r : Refusal) → IsFit place → after_line place line ≡ Err r → (r ≡ Limit → ⊥) → ¬ PassesLimit place line
+no_limit : (place : Place) (line : List (List ℕ)) (r : LineRefusal) → IsFit place → after_line place line ≡ Err r → (r ≡ Limit → ⊥) → ¬ PassesLimit place line
 no_limit place line r fit e other passes = other (let both : Err r ≡ Err Limit = sym e ∙ line_limit place line fit passes in cc)
 
-line_fault : (text : List ℕ) (number : ℕ) (r : Refusal) (n : ℕ) → faults.Line number ≡ text_fault n r
+line_fault : (text : List ℕ) (number : ℕ) (r : LineRefusal) (n : ℕ) → faults.Line number ≡ text_fault n r
     → HasFault (in_header nothing_said) 1 (said_lines text) r n → BreaksForm text number
 line_fault text number Limit n is h = absurd (cc)
 line_fault text number Form n is h =
@@ -184,7 +184,7 @@ line_fault text number Memory n is h =
       form = no_limit h.at h.line Memory h.fit h.refused (λ e. cc);
     }
 
-limit_fault : (text : List ℕ) (number : ℕ) (r : Refusal) (n : ℕ) → faults.Limit number ≡ text_fault n r
+limit_fault : (text : List ℕ) (number : ℕ) (r : LineRefusal) (n : ℕ) → faults.Limit number ≡ text_fault n r
     → HasFault (in_header nothing_said) 1 (said_lines text) r n → BreaksLimit text number
 limit_fault text number Form n is h = absurd (cc)
 limit_fault text number Memory n is h = absurd (cc)
@@ -229,7 +229,7 @@ meaning_verdict text file m =
     ap (verdict (in_header nothing_said) 1) (sym (append-nil (said_lines text)))
     ∙ (passed (in_header nothing_said) (at_end file) (said_lines text) [] 1 sound_at_first m.read).0
 
-bad_verdict : (text : List ℕ) (number : ℕ) (place : Place) (line : List (List ℕ)) (r : Refusal) → (bad : IsBadLine text number place line)
+bad_verdict : (text : List ℕ) (number : ℕ) (place : Place) (line : List (List ℕ)) (r : LineRefusal) → (bad : IsBadLine text number place line)
     → after_line place line ≡ Err r
     → verdict (in_header nothing_said) 1 (said_lines text) ≡ Err (text_fault number r)
 bad_verdict text number place line r bad e =
@@ -245,7 +245,7 @@ bad_is_fit text number place line bad = (passed (in_header nothing_said) place b
 form_verdict : (text : List ℕ) (number : ℕ) → BreaksForm text number → verdict (in_header nothing_said) 1 (said_lines text) ≡ Err (faults.Line number)
 form_verdict text number b = by (after_line b.place b.line) refl
   where
-    by : (r : Result Place Refusal) → after_line b.place b.line ≡ r → verdict (in_header nothing_said) 1 (said_lines text) ≡ Err (faults.Line number)
+    by : (r : Result Place LineRefusal) → after_line b.place b.line ≡ r → verdict (in_header nothing_said) 1 (said_lines text) ≡ Err (faults.Line number)
     by (Ok next) e = absurd (b.bad.nowhere next (leads_so b.place next b.line (bad_is_fit text number b.place b.line b.bad) e))
     by (Err Form) e = bad_verdict text number b.place b.line Form b.bad e
     by (Err Limit) e = absurd (b.form (limit_line b.place b.line (bad_is_fit text number b.place b.line b.bad) e))

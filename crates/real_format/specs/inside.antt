@@ -4,4 +4,4 @@ pub mod Reading
 pub mod Lines
 pub mod Labels
 pub mod Stamps
-pub mod Steps
+pub mod Says

@@ -8,7 +8,7 @@ ghost use Rattle.real_format.specs.inside.Reading.{line_of, control_of, controls
 ghost use Rattle.real_format.specs.inside.Reading.{gate_of, lines_of_controls};
 ghost use Rattle.real_format.specs.inside.Stamps.{is_stamped, AreStamped};
 
-use crate::refusal::Refusal;
+use crate::refusal::LineRefusal;
 use crate::words::{Words, number};
 use format_parts::Names;
 use gate_split::MOST_LINES;
@@ -65,7 +65,7 @@ pub fn gate_of(
     stamp: u32,
     shape: Shape,
     words: &mut Words,
-) -> Result<Gate, Refusal>
+) -> Result<Gate, LineRefusal>
     requires fit { length stamps.old ≡ length names.now }
     requires few { length names.now ≤ MOST_LINES }
     requires fresh { AllByRecursion (λ s. s < stamp) stamps.old }
@@ -87,7 +87,7 @@ fn controls_of(
     stamp: u32,
     wanted: u32,
     words: &mut Words,
-) -> Result<Vec<Control>, Refusal>
+) -> Result<Vec<Control>, LineRefusal>
     requires fit { length stamps.old ≡ length names.now }
     requires few { length names.now ≤ MOST_LINES }
     requires fresh { AllByRecursion (λ s. s < stamp) stamps.old }
@@ -99,7 +99,7 @@ fn controls_of(
 {
     let mut controls = Vec::new(alloc);
     'controls: while controls.len() < wanted as usize {
-        let word = words.next().ok_or(Refusal::Form)?;
+        let word = words.next().ok_or(LineRefusal::Form)?;
         controls.push(control_of(names, stamps, stamp, word)?)?;
     }
     Ok(controls)
@@ -111,7 +111,7 @@ fn control_of(
     stamps: &mut [u32],
     stamp: u32,
     word: &[u8],
-) -> Result<Control, Refusal>
+) -> Result<Control, LineRefusal>
     requires fit { length stamps.old ≡ length names.now }
     requires few { length names.now ≤ MOST_LINES }
     ensures ok { IfOk result (λ control.
@@ -138,7 +138,7 @@ fn control_of(
 }
 
 // The line of this name, which the gate did not have yet.
-fn line_of(names: &Names, stamps: &mut [u32], stamp: u32, word: &[u8]) -> Result<u32, Refusal>
+fn line_of(names: &Names, stamps: &mut [u32], stamp: u32, word: &[u8]) -> Result<u32, LineRefusal>
     requires fit { length stamps.old ≡ length names.now }
     requires few { length names.now ≤ MOST_LINES }
     ensures ok { IfOk result (λ line.
@@ -149,14 +149,14 @@ fn line_of(names: &Names, stamps: &mut [u32], stamp: u32, word: &[u8]) -> Result
         (line_of names.now (is_stamped stamps.old stamp) word.now)) }
 {
     if has_sign(word) {
-        return Err(Refusal::Form);
+        return Err(LineRefusal::Form);
     }
     if word.len() > MOST_NAME_BYTES {
-        return Err(Refusal::Limit);
+        return Err(LineRefusal::Limit);
     }
-    let line = names.place(word).ok_or(Refusal::Form)?;
+    let line = names.place(word).ok_or(LineRefusal::Form)?;
     if stamps[line] == stamp {
-        return Err(Refusal::Form);
+        return Err(LineRefusal::Form);
     }
     stamps[line] = stamp;
     Ok(line as u32)
@@ -175,7 +175,7 @@ fn op_of(
     stamp: u32,
     targets: u32,
     words: &mut Words,
-) -> Result<Op, Refusal>
+) -> Result<Op, LineRefusal>
     requires fit { length stamps.old ≡ length names.now }
     requires few { length names.now ≤ MOST_LINES }
     requires stamps { AllByRecursion (λ s. s ≤ stamp) stamps.old }
@@ -185,23 +185,23 @@ fn op_of(
     ensures err { IfErr result (Refuses
         (op_of names.now targets (is_stamped stamps.old stamp) words.old)) }
 {
-    let word = words.next().ok_or(Refusal::Form)?;
+    let word = words.next().ok_or(LineRefusal::Form)?;
     let first = line_of(names, stamps, stamp, word)?;
     if targets == 1 {
         return alone(Op::Flip(first), words);
     }
-    let word = words.next().ok_or(Refusal::Form)?;
+    let word = words.next().ok_or(LineRefusal::Form)?;
     let second = line_of(names, stamps, stamp, word)?;
     alone(Op::Swap(first, second), words)
 }
 
 // The operation, where no word is left.
-fn alone(op: Op, words: &mut Words) -> Result<Op, Refusal>
+fn alone(op: Op, words: &mut Words) -> Result<Op, LineRefusal>
     ensures ok { IfOk result (λ alone_op. alone op words.old ≡ Ok alone_op) }
     ensures err { IfErr result (Refuses (alone op words.old)) }
 {
     if !words.is_done() {
-        return Err(Refusal::Form);
+        return Err(LineRefusal::Form);
     }
     Ok(op)
 }

@@ -10,10 +10,10 @@ ghost use Rattle.real_format.specs.inside.Reading.{add_outputs, add_constants, a
 ghost use Rattle.real_format.specs.inside.Reading.{is_version, begins_name, count_of, names_from};
 ghost use Rattle.real_format.specs.inside.Reading.{more_names, marks_of, marks_from, constant_of};
 ghost use Rattle.real_format.specs.inside.Reading.{garbage_of};
-ghost use Rattle.real_format.specs.inside.Steps.{HeaderSays, BeginsAs};
+ghost use Rattle.real_format.specs.inside.Says.{HeaderSays, BeginsAs};
 
 use crate::file::{Mark, RealFault};
-use crate::refusal::Refusal;
+use crate::refusal::LineRefusal;
 use crate::words::{Words, number};
 use format_parts::Names;
 use gate_split::MOST_LINES;
@@ -145,7 +145,7 @@ impl<'t> Header<'t> {
     }
 
     // A line of the header, and whether it is the one that ends it.
-    pub fn read_line(&mut self, alloc: Global, words: &mut Words<'t>) -> Result<bool, Refusal>
+    pub fn read_line(&mut self, alloc: Global, words: &mut Words<'t>) -> Result<bool, LineRefusal>
         ensures ok { IfOk result (λ ends.
             HeaderSays ends (header_line self.old words.old) self.old self.new) }
         ensures err { IfErr result (Refuses (header_line self.old words.old)) }
@@ -160,7 +160,7 @@ impl<'t> Header<'t> {
         if word == b".begin".as_slice() && words.is_done() && self.names.is_some() {
             return Ok(true);
         }
-        Err(Refusal::Form)
+        Err(LineRefusal::Form)
     }
 
     // The file of the header; marks that are absent are all `-`.
@@ -190,7 +190,12 @@ impl<'t> Header<'t> {
     }
 
     // The words behind the first one of a line of this kind.
-    pub fn add(&mut self, alloc: Global, head: Head, words: &mut Words<'t>) -> Result<(), Refusal>
+    pub fn add(
+        &mut self,
+        alloc: Global,
+        head: Head,
+        words: &mut Words<'t>,
+    ) -> Result<(), LineRefusal>
         ensures ok { OnOk result (add head self.old words.old ≡ Ok self.new) }
         ensures err { IfErr result (Refuses (add head self.old words.old)) }
     {
@@ -207,86 +212,86 @@ impl<'t> Header<'t> {
         }
     }
 
-    fn add_version(&mut self, words: &mut Words<'t>) -> Result<(), Refusal>
+    fn add_version(&mut self, words: &mut Words<'t>) -> Result<(), LineRefusal>
         ensures ok { OnOk result (add_version self.old words.old ≡ Ok self.new) }
         ensures err { IfErr result (Refuses (add_version self.old words.old)) }
     {
         if self.version {
-            return Err(Refusal::Form);
+            return Err(LineRefusal::Form);
         }
-        let word = words.only().ok_or(Refusal::Form)?;
+        let word = words.only().ok_or(LineRefusal::Form)?;
         if !is_version(word) {
-            return Err(Refusal::Form);
+            return Err(LineRefusal::Form);
         }
         self.version = true;
         Ok(())
     }
 
-    fn add_lines(&mut self, words: &mut Words<'t>) -> Result<(), Refusal>
+    fn add_lines(&mut self, words: &mut Words<'t>) -> Result<(), LineRefusal>
         ensures ok { OnOk result (add_lines self.old words.old ≡ Ok self.new) }
         ensures err { IfErr result (Refuses (add_lines self.old words.old)) }
     {
         if self.lines.is_some() {
-            return Err(Refusal::Form);
+            return Err(LineRefusal::Form);
         }
         self.lines = Some(count_of(words)?);
         Ok(())
     }
 
-    fn add_names(&mut self, alloc: Global, words: &mut Words<'t>) -> Result<(), Refusal>
+    fn add_names(&mut self, alloc: Global, words: &mut Words<'t>) -> Result<(), LineRefusal>
         ensures ok { OnOk result (add_names self.old words.old ≡ Ok self.new) }
         ensures err { IfErr result (Refuses (add_names self.old words.old)) }
     {
         if self.names.is_some() {
-            return Err(Refusal::Form);
+            return Err(LineRefusal::Form);
         }
-        let lines = self.lines.ok_or(Refusal::Form)?;
+        let lines = self.lines.ok_or(LineRefusal::Form)?;
         self.names = Some(names_of(alloc, lines, words)?);
         Ok(())
     }
 
-    fn add_inputs(&mut self) -> Result<(), Refusal>
+    fn add_inputs(&mut self) -> Result<(), LineRefusal>
         ensures ok { OnOk result (add_inputs self.old ≡ Ok self.new) }
         ensures err { IfErr result (Refuses (add_inputs self.old)) }
     {
         if self.inputs {
-            return Err(Refusal::Form);
+            return Err(LineRefusal::Form);
         }
         self.inputs = true;
         Ok(())
     }
 
-    fn add_outputs(&mut self) -> Result<(), Refusal>
+    fn add_outputs(&mut self) -> Result<(), LineRefusal>
         ensures ok { OnOk result (add_outputs self.old ≡ Ok self.new) }
         ensures err { IfErr result (Refuses (add_outputs self.old)) }
     {
         if self.outputs {
-            return Err(Refusal::Form);
+            return Err(LineRefusal::Form);
         }
         self.outputs = true;
         Ok(())
     }
 
-    fn add_constants(&mut self, alloc: Global, words: &mut Words<'t>) -> Result<(), Refusal>
+    fn add_constants(&mut self, alloc: Global, words: &mut Words<'t>) -> Result<(), LineRefusal>
         ensures ok { OnOk result (add_constants self.old words.old ≡ Ok self.new) }
         ensures err { IfErr result (Refuses (add_constants self.old words.old)) }
     {
         if self.constants.is_some() {
-            return Err(Refusal::Form);
+            return Err(LineRefusal::Form);
         }
-        let lines = self.lines.ok_or(Refusal::Form)?;
+        let lines = self.lines.ok_or(LineRefusal::Form)?;
         self.constants = Some(constants_of(alloc, lines, words)?);
         Ok(())
     }
 
-    fn add_garbage(&mut self, alloc: Global, words: &mut Words<'t>) -> Result<(), Refusal>
+    fn add_garbage(&mut self, alloc: Global, words: &mut Words<'t>) -> Result<(), LineRefusal>
         ensures ok { OnOk result (add_garbage self.old words.old ≡ Ok self.new) }
         ensures err { IfErr result (Refuses (add_garbage self.old words.old)) }
     {
         if self.garbage.is_some() {
-            return Err(Refusal::Form);
+            return Err(LineRefusal::Form);
         }
-        let lines = self.lines.ok_or(Refusal::Form)?;
+        let lines = self.lines.ok_or(LineRefusal::Form)?;
         self.garbage = Some(garbage_of(alloc, lines, words)?);
         Ok(())
     }
@@ -299,55 +304,55 @@ fn is_version(word: &[u8]) -> bool
 }
 
 // The number of lines: the one word that is left.
-fn count_of(words: &mut Words) -> Result<u32, Refusal>
+fn count_of(words: &mut Words) -> Result<u32, LineRefusal>
     ensures ok { IfOk result (λ count. count_of words.old ≡ Ok count) }
     ensures few { IfOk result (λ count. count ≤ MOST_LINES) }
     ensures err { IfErr result (Refuses (count_of words.old)) }
 {
-    let word = words.next().ok_or(Refusal::Form)?;
-    let count = number(word, MOST_LINES).ok_or(Refusal::Form)?;
+    let word = words.next().ok_or(LineRefusal::Form)?;
+    let count = number(word, MOST_LINES).ok_or(LineRefusal::Form)?;
     if count == 0 {
-        return Err(Refusal::Form);
+        return Err(LineRefusal::Form);
     }
     if count > MOST_LINES {
-        return Err(Refusal::Limit);
+        return Err(LineRefusal::Limit);
     }
     if !words.is_done() {
-        return Err(Refusal::Form);
+        return Err(LineRefusal::Form);
     }
     Ok(count)
 }
 
 // So many names: all words that are left.
-fn names_of<'t>(alloc: Global, count: u32, words: &mut Words<'t>) -> Result<Names<'t>, Refusal>
+fn names_of<'t>(alloc: Global, count: u32, words: &mut Words<'t>) -> Result<Names<'t>, LineRefusal>
     ensures ok { IfOk result (λ names. names_from count [] words.old ≡ Ok names) }
     ensures err { IfErr result (Refuses (names_from count [] words.old)) }
 {
     let mut names = Names::new(alloc);
     while let Some(word) = words.next() {
         if names.len() == count as usize {
-            return Err(Refusal::Form);
+            return Err(LineRefusal::Form);
         }
         add_name(&mut names, word)?;
     }
     if names.len() != count as usize {
-        return Err(Refusal::Form);
+        return Err(LineRefusal::Form);
     }
     Ok(names)
 }
 
-fn add_name<'t>(names: &mut Names<'t>, word: &'t [u8]) -> Result<(), Refusal>
+fn add_name<'t>(names: &mut Names<'t>, word: &'t [u8]) -> Result<(), LineRefusal>
     ensures ok { OnOk result (more_names names.old word.now ≡ Ok names.new) }
     ensures err { IfErr result (Refuses (more_names names.old word.now)) }
 {
     if !begins_name(word) {
-        return Err(Refusal::Form);
+        return Err(LineRefusal::Form);
     }
     if word.len() > MOST_NAME_BYTES {
-        return Err(Refusal::Limit);
+        return Err(LineRefusal::Limit);
     }
     if !names.push(word)? {
-        return Err(Refusal::Form);
+        return Err(LineRefusal::Form);
     }
     Ok(())
 }
@@ -359,17 +364,17 @@ fn begins_name(word: &[u8]) -> bool
 }
 
 // So many marks: the one word that is left.
-fn constants_of(alloc: Global, count: u32, words: &mut Words) -> Result<Vec<Mark>, Refusal>
+fn constants_of(alloc: Global, count: u32, words: &mut Words) -> Result<Vec<Mark>, LineRefusal>
     ensures ok { IfOk result (λ marks. marks_of constant_of count words.old ≡ Ok marks.items) }
     ensures err { IfErr result (Refuses (marks_of constant_of count words.old)) }
 {
-    let word = words.only().ok_or(Refusal::Form)?;
+    let word = words.only().ok_or(LineRefusal::Form)?;
     if word.len() != count as usize {
-        return Err(Refusal::Form);
+        return Err(LineRefusal::Form);
     }
     let mut marks = Vec::with_capacity(alloc, word.len())?;
     for byte in word {
-        marks.push(constant_of(*byte).ok_or(Refusal::Form)?)?;
+        marks.push(constant_of(*byte).ok_or(LineRefusal::Form)?)?;
     }
     Ok(marks)
 }
@@ -385,17 +390,17 @@ fn constant_of(byte: u8) -> Option<Mark>
     }
 }
 
-fn garbage_of(alloc: Global, count: u32, words: &mut Words) -> Result<Vec<bool>, Refusal>
+fn garbage_of(alloc: Global, count: u32, words: &mut Words) -> Result<Vec<bool>, LineRefusal>
     ensures ok { IfOk result (λ marks. marks_of garbage_of count words.old ≡ Ok marks.items) }
     ensures err { IfErr result (Refuses (marks_of garbage_of count words.old)) }
 {
-    let word = words.only().ok_or(Refusal::Form)?;
+    let word = words.only().ok_or(LineRefusal::Form)?;
     if word.len() != count as usize {
-        return Err(Refusal::Form);
+        return Err(LineRefusal::Form);
     }
     let mut marks = Vec::with_capacity(alloc, word.len())?;
     for byte in word {
-        marks.push(is_garbage(*byte).ok_or(Refusal::Form)?)?;
+        marks.push(is_garbage(*byte).ok_or(LineRefusal::Form)?)?;
     }
     Ok(marks)
 }

@@ -22,7 +22,7 @@ pub(crate) enum Labels<'a> {
 
 /// The kinds of marks: with which bit a line starts, and whether its last bit is of no use.
 #[derive(Clone, Copy)]
-pub(crate) enum Kind {
+pub(crate) enum MarkKind {
     Constants,
     Garbage,
 }
@@ -55,15 +55,15 @@ impl Labels<'_> {
     }
 
     /// The byte that stands for a line's mark.
-    pub fn byte(self, kind: Kind, line: u32) -> u8
+    pub fn byte(self, kind: MarkKind, line: u32) -> u8
         requires few { count_of self ≤ MOST_LINES }
         requires fit { length (garbage_by self) ≡ count_of self }
         requires in_range { line < count_of self }
         ensures { slice_get (mark_bytes self.entry kind) line ≡ Some result }
     {
         match kind {
-            Kind::Constants => constant_byte(self.constant(line)),
-            Kind::Garbage => garbage_byte(self.garbage(line)),
+            MarkKind::Constants => constant_byte(self.constant(line)),
+            MarkKind::Garbage => garbage_byte(self.garbage(line)),
         }
     }
 

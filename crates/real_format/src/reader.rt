@@ -9,12 +9,12 @@ ghost use Rattle.real_format.specs.Real.{RealMeaning, in_header, in_gates, at_en
 ghost use Rattle.real_format.specs.Faults.{IsRealFault};
 ghost use Rattle.real_format.specs.inside.Reading.{Refuses, verdict, IsFaultOf};
 ghost use Rattle.real_format.specs.inside.Reading.{add_gate, gates_line};
-ghost use Rattle.real_format.specs.inside.Steps.{IsWhole, GatesSay, EndsWell, EndsIn};
+ghost use Rattle.real_format.specs.inside.Says.{IsWhole, GatesSay, EndsWell, EndsIn};
 
 use crate::file::{RealFault, RealFile};
 use crate::gate::{Shape, gate_of};
 use crate::header::{Begun, Header};
-use crate::refusal::Refusal;
+use crate::refusal::LineRefusal;
 use crate::words::{Lines, Words};
 use gate_split::MOST_GATES;
 use mct_circuit::{Circuit, Gate};
@@ -106,7 +106,7 @@ fn read_gate_line<'t>(
     circuit: &mut Circuit,
     stamps: &mut Vec<u32>,
     words: &mut Words<'t>,
-) -> Result<bool, Refusal>
+) -> Result<bool, LineRefusal>
     requires few { length begun.now.names ≤ MOST_LINES }
     requires fits { circuit.old.lines ≡ length begun.now.names }
     requires limit { circuit.old.limit ≡ MOST_GATES }
@@ -129,10 +129,10 @@ fn read_gate_line<'t>(
         return if words.is_done() {
             Ok(true)
         } else {
-            Err(Refusal::Form)
+            Err(LineRefusal::Form)
         };
     }
-    let shape = Shape::of(word).ok_or(Refusal::Form)?;
+    let shape = Shape::of(word).ok_or(LineRefusal::Form)?;
     add_gate(alloc, begun, circuit, stamps, shape, words)?;
     Ok(false)
 }
@@ -145,7 +145,7 @@ fn add_gate(
     stamps: &mut Vec<u32>,
     shape: Shape,
     words: &mut Words,
-) -> Result<(), Refusal>
+) -> Result<(), LineRefusal>
     requires few { length begun.now.names ≤ MOST_LINES }
     requires fits { circuit.old.lines ≡ length begun.now.names }
     requires limit { circuit.old.limit ≡ MOST_GATES }
@@ -162,7 +162,7 @@ fn add_gate(
         (record begun.now { gates = circuit.old.gates }) shape words.old)) }
 {
     if circuit.is_full() {
-        return Err(Refusal::Limit);
+        return Err(LineRefusal::Limit);
     }
     let stamp = circuit.len() as u32 + 1;
     let gate = gate_of(alloc, &begun.names, stamps, stamp, shape, words)?;
@@ -170,16 +170,16 @@ fn add_gate(
 }
 
 // There is room, so only memory can be wanting.
-fn push_gate(circuit: &mut Circuit, gate: Gate) -> Result<(), Refusal>
+fn push_gate(circuit: &mut Circuit, gate: Gate) -> Result<(), LineRefusal>
     requires room { length circuit.old.gates < circuit.old.limit }
     requires placed { AllByRecursion (λ line. line < circuit.old.lines) (lines_of gate) }
     ensures ok { OnOk result (circuit.new ≡ record circuit.old
         { gates = circuit.old.gates ++ gate ∷ [] }) }
-    ensures err { IfErr result (λ refusal. refusal ≡ Refusal.Memory) }
+    ensures err { IfErr result (λ refusal. refusal ≡ LineRefusal.Memory) }
 {
     match circuit.push(gate) {
         Ok(()) => Ok(()),
-        Err(_) => Err(Refusal::Memory),
+        Err(_) => Err(LineRefusal::Memory),
     }
 }
 

@@ -10,14 +10,14 @@ ghost use Rattle.revc_io.specs.Passing.{Gathers, Writes};
 ghost use Rattle.real_format.specs.Written.{line_text, file_text};
 ghost use Rattle.real_format.specs.Compiled.{compiled_text, MeansCompiled};
 ghost use Rattle.real_format.specs.Converted.{converted_text, MeansConverted};
-ghost use Rattle.real_format.specs.declared.labels.Kind.TheVariants.{Constants, Garbage};
+ghost use Rattle.real_format.specs.declared.labels.MarkKind.TheVariants.{Constants, Garbage};
 ghost use Rattle.real_format.specs.inside.Labels.{count_of, name_by, all_names};
 ghost use Rattle.real_format.specs.inside.Labels.{constants_by, garbage_by, mark_bytes};
 ghost use Rattle.real_format.specs.inside.Parts.{size_text, names_text, front_text};
 ghost use Rattle.real_format.specs.inside.Parts.{mark_line_text, marks_text, rest_text};
 
 use crate::file::Mark;
-use crate::labels::{Kind, Labels};
+use crate::labels::{Labels, MarkKind};
 use format_parts::{FlipWriter, put_gates};
 use gate_split::{Laid, Narrow};
 use mct_circuit::Circuit;
@@ -214,8 +214,8 @@ fn put_marks<K: Sink>(buffer: &mut Buffer, out: &mut K, labels: Labels<'_>) -> R
         (marks_text (mark_bytes labels.entry Constants) (mark_bytes labels.entry Garbage)) }
     ensures cause { HasCause (K.faults out.old) (K.faults out.new) result }
 {
-    put_mark_line(buffer, out, b".constants ", labels, Kind::Constants)?;
-    put_mark_line(buffer, out, b".garbage ", labels, Kind::Garbage)?;
+    put_mark_line(buffer, out, b".constants ", labels, MarkKind::Constants)?;
+    put_mark_line(buffer, out, b".garbage ", labels, MarkKind::Garbage)?;
     buffer.put(out, b".begin\n")
 }
 
@@ -225,7 +225,7 @@ fn put_mark_line<K: Sink>(
     out: &mut K,
     word: &[u8],
     labels: Labels<'_>,
-    kind: Kind,
+    kind: MarkKind,
 ) -> Result<(), Failed>
     requires few { count_of labels ≤ MOST_LINES }
     requires garbage { length (garbage_by labels) ≡ count_of labels }
@@ -242,7 +242,7 @@ fn put_mark_bytes<K: Sink>(
     buffer: &mut Buffer,
     out: &mut K,
     labels: Labels<'_>,
-    kind: Kind,
+    kind: MarkKind,
 ) -> Result<(), Failed>
     requires few { count_of labels ≤ MOST_LINES }
     requires garbage { length (garbage_by labels) ≡ count_of labels }

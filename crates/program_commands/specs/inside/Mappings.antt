@@ -11,7 +11,7 @@ use Rattle.revs_parser.specs.declared.program.ParseFault.{ParseFault}
 use Rattle.revs_parser.specs.declared.program.ParseFault.TheVariants as parser
 use Rattle.command_answers.specs.declared.fault.Fault.{Fault}
 use Rattle.command_answers.specs.declared.fault.Fault.TheVariants.{Refused, BadBits, Memory}
-use Rattle.command_answers.specs.declared.fault.Kind.TheVariants as kinds
+use Rattle.command_answers.specs.declared.fault.FaultKind.TheVariants as kinds
 use Rattle.command_answers.specs.declared.fault.Refusal.TheVariants.{At}
 
 abbrev pub lexing_fault : LexFault → Fault

@@ -12,7 +12,7 @@ use Rattle.qasm_format.specs.declared.spots.Spot.TheVariants.{Line, Whole}
 use Rattle.qasm_format.specs.declared.said.Said.{Said as Held}
 use Rattle.qasm_format.specs.declared.words.Use.{Use}
 use Rattle.qasm_format.specs.declared.words.Use.TheVariants.{Barrier, Flip}
-use Rattle.qasm_format.specs.declared.words.Kind.{Kind}
+use Rattle.qasm_format.specs.declared.words.RegisterKind.{RegisterKind}
 use Rattle.mct_circuit.specs.Gates.{GateView, AreGatesOn}
 use Rattle.gate_split.specs.declared.plan.TheConstants.{MOST_GATES}
 use Rattle.qasm_lexer.specs.Tokens.{is_identifier, is_number, Left, Takes}
@@ -90,14 +90,14 @@ pub record StopsAtWords (old : Left) (one other : List ℕ) (fault : QasmFault) 
   pub says : (after : Stage) → IsStop old (wants one (wants other after)) fault
 
 -- a size in square brackets and the end of the statement were read, where so many lines stand
-pub record ReadsSize (old new : Left) (kind : Kind) (count size : ℕ) : Type 0 where
+pub record ReadsSize (old new : Left) (kind : RegisterKind) (count size : ℕ) : Type 0 where
   pub says : (name : List ℕ) (said : Said) → lines_of_all said.registers ≡ count
       → Reads old new (wants (codes "[") (wants_size kind name said))
       (starts (declared kind name size said))
   pub some : 1 ≤ size
   pub room : HasRoom kind size count
 
-pub record StopsAtSize (old : Left) (kind : Kind) (count : ℕ) (fault : QasmFault) : Type 0 where
+pub record StopsAtSize (old : Left) (kind : RegisterKind) (count : ℕ) (fault : QasmFault) : Type 0 where
   pub says : (name : List ℕ) (said : Said) → lines_of_all said.registers ≡ count
       → IsStop old (wants (codes "[") (wants_size kind name said)) fault
 

@@ -7,8 +7,8 @@ use Rattle.real_format.specs.declared.file.Mark.{Mark}
 use Rattle.real_format.specs.declared.file.Mark.TheVariants.{Free, Zero}
 use Rattle.real_format.specs.declared.labels.Labels.{Labels}
 use Rattle.real_format.specs.declared.labels.Labels.TheVariants.{ByRole, ByNumber}
-use Rattle.real_format.specs.declared.labels.Kind.{Kind}
-use Rattle.real_format.specs.declared.labels.Kind.TheVariants.{Constants, Garbage}
+use Rattle.real_format.specs.declared.labels.MarkKind.{MarkKind}
+use Rattle.real_format.specs.declared.labels.MarkKind.TheVariants.{Constants, Garbage}
 use Rattle.real_format.specs.Header.{constant_byte, garbage_byte}
 use Rattle.real_format.specs.Written.{names_by}
 use Rattle.real_format.specs.Compiled.{name_of_line, constants_of}
@@ -34,7 +34,7 @@ garbage_by (ByRole roles) = replicate (lines_in roles) false
 garbage_by (ByNumber constants garbage) = garbage.now
 
 -- the bytes of the marks of a kind
-abbrev pub mark_bytes : Labels → Kind → List ℕ
+abbrev pub mark_bytes : Labels → MarkKind → List ℕ
 mark_bytes labels Constants = map constant_byte (constants_by labels)
 mark_bytes labels Garbage = map garbage_byte (garbage_by labels)
 

@@ -21,25 +21,25 @@ use Rattle.real_format.specs.declared.file.RealFault.TheVariants as faults
 use Rattle.real_format.specs.declared.header.Head.{Head}
 use Rattle.real_format.specs.declared.header.Head.TheVariants as heads
 use Rattle.real_format.specs.declared.gate.Shape.{Shape}
-use Rattle.real_format.specs.declared.refusal.Refusal.{Refusal}
-use Rattle.real_format.specs.declared.refusal.Refusal.TheVariants.{Form, Limit, Memory}
+use Rattle.real_format.specs.declared.refusal.LineRefusal.{LineRefusal}
+use Rattle.real_format.specs.declared.refusal.LineRefusal.TheVariants.{Form, Limit, Memory}
 use Rattle.real_format.specs.Header.{HeaderView, spelling_of}
 use Rattle.real_format.specs.Real.{RealView, Place, in_header, in_gates, at_end}
 
 -- ---- outcomes
 
 -- go on with what was made, or stop with the refusal
-abbrev pub and_then : {A B : Type 0} → Result A Refusal → (A → Result B Refusal) → Result B Refusal
+abbrev pub and_then : {A B : Type 0} → Result A LineRefusal → (A → Result B LineRefusal) → Result B LineRefusal
 and_then (Ok a) f = f a
 and_then (Err e) f = Err e
 
 -- go on with what is there, or refuse the form
-abbrev pub or_form : {A B : Type 0} → Option A → (A → Result B Refusal) → Result B Refusal
+abbrev pub or_form : {A B : Type 0} → Option A → (A → Result B LineRefusal) → Result B LineRefusal
 or_form (Some a) f = f a
 or_form None f = Err Form
 
 -- the refusal is the text's, or want of memory, which says nothing of the text
-abbrev pub Refuses : {A : Type 0} → Result A Refusal → Refusal → Type 0
+abbrev pub Refuses : {A : Type 0} → Result A LineRefusal → LineRefusal → Type 0
 Refuses said Form = said ≡ Err Form
 Refuses said Limit = said ≡ Err Limit
 Refuses said Memory = Unit {0}
@@ -77,30 +77,30 @@ is_long word = nat_lt MOST_NAME_BYTES (length word)
 abbrev pub is_version : List ℕ → Bool
 is_version word = bytes_eq word (codes "1.0") || bytes_eq word (codes "2.0")
 
-abbrev pub add_version : HeaderView → List (List ℕ) → Result HeaderView Refusal
+abbrev pub add_version : HeaderView → List (List ℕ) → Result HeaderView LineRefusal
 add_version said words =
     if said.version then Err Form
     else or_form (single words) (λ word. if is_version word then Ok (record said { version = true })
     else Err Form)
 
-abbrev pub counted : ℕ → List (List ℕ) → Result ℕ Refusal
+abbrev pub counted : ℕ → List (List ℕ) → Result ℕ LineRefusal
 counted n rest =
     if n == 0 then Err Form
     else (if nat_lt MOST_LINES n then Err Limit
     else (if is_nil rest then Ok n
     else Err Form))
 
-abbrev pub count_of : List (List ℕ) → Result ℕ Refusal
+abbrev pub count_of : List (List ℕ) → Result ℕ LineRefusal
 count_of [] = Err Form
 count_of (word ∷ rest) = or_form (number_of word) (λ n. counted n rest)
 
-abbrev pub add_lines : HeaderView → List (List ℕ) → Result HeaderView Refusal
+abbrev pub add_lines : HeaderView → List (List ℕ) → Result HeaderView LineRefusal
 add_lines said words =
     if is_some said.lines then Err Form
     else and_then (count_of words) (λ n. Ok (record said { lines = Some n }))
 
 -- the names with one more
-abbrev pub more_names : List (List ℕ) → List ℕ → Result (List (List ℕ)) Refusal
+abbrev pub more_names : List (List ℕ) → List ℕ → Result (List (List ℕ)) LineRefusal
 more_names names word =
     if not (begins_name word) then Err Form
     else (if is_long word then Err Limit
@@ -108,13 +108,13 @@ more_names names word =
     else Ok (names ++ word ∷ [])))
 
 -- n names: those that were read and those that are left
-abbrev pub names_from : ℕ → List (List ℕ) → List (List ℕ) → Result (List (List ℕ)) Refusal
+abbrev pub names_from : ℕ → List (List ℕ) → List (List ℕ) → Result (List (List ℕ)) LineRefusal
 names_from n names [] = if length names == n then Ok names else Err Form
 names_from n names (word ∷ words) =
     if length names == n then Err Form
     else and_then (more_names names word) (λ more. names_from n more words)
 
-abbrev pub add_names : HeaderView → List (List ℕ) → Result HeaderView Refusal
+abbrev pub add_names : HeaderView → List (List ℕ) → Result HeaderView LineRefusal
 add_names said words =
     if is_some said.names then Err Form
     else or_form said.lines (λ n. and_then (names_from n [] words)
@@ -131,34 +131,34 @@ abbrev pub garbage_of : ℕ → Option Bool
 garbage_of b = if b == 45 then Some false else (if b == 49 then Some true else None)
 
 -- the marks that were read and those of the bytes that are left
-abbrev pub marks_from : {M : Type 0} → (ℕ → Option M) → List M → List ℕ → Result (List M) Refusal
+abbrev pub marks_from : {M : Type 0} → (ℕ → Option M) → List M → List ℕ → Result (List M) LineRefusal
 marks_from f marks [] = Ok marks
 marks_from f marks (b ∷ bs) = or_form (f b) (λ mark. marks_from f (marks ++ mark ∷ []) bs)
 
 -- n marks, the one word of a list
-abbrev pub marks_of : {M : Type 0} → (ℕ → Option M) → ℕ → List (List ℕ) → Result (List M) Refusal
+abbrev pub marks_of : {M : Type 0} → (ℕ → Option M) → ℕ → List (List ℕ) → Result (List M) LineRefusal
 marks_of f n words =
     or_form (single words) (λ word. if length word == n then marks_from f [] word else Err Form)
 
-abbrev pub add_constants : HeaderView → List (List ℕ) → Result HeaderView Refusal
+abbrev pub add_constants : HeaderView → List (List ℕ) → Result HeaderView LineRefusal
 add_constants said words =
     if is_some said.constants then Err Form
     else or_form said.lines (λ n. and_then (marks_of constant_of n words)
     (λ marks. Ok (record said { constants = Some marks })))
 
-abbrev pub add_garbage : HeaderView → List (List ℕ) → Result HeaderView Refusal
+abbrev pub add_garbage : HeaderView → List (List ℕ) → Result HeaderView LineRefusal
 add_garbage said words =
     if is_some said.garbage then Err Form
     else or_form said.lines (λ n. and_then (marks_of garbage_of n words)
     (λ marks. Ok (record said { garbage = Some marks })))
 
-abbrev pub add_inputs : HeaderView → Result HeaderView Refusal
+abbrev pub add_inputs : HeaderView → Result HeaderView LineRefusal
 add_inputs said = if said.inputs then Err Form else Ok (record said { inputs = true })
 
-abbrev pub add_outputs : HeaderView → Result HeaderView Refusal
+abbrev pub add_outputs : HeaderView → Result HeaderView LineRefusal
 add_outputs said = if said.outputs then Err Form else Ok (record said { outputs = true })
 
-abbrev pub add : Head → HeaderView → List (List ℕ) → Result HeaderView Refusal
+abbrev pub add : Head → HeaderView → List (List ℕ) → Result HeaderView LineRefusal
 add heads.Version said words = add_version said words
 add heads.Lines said words = add_lines said words
 add heads.Names said words = add_names said words
@@ -187,16 +187,16 @@ file_of said names = record {
   gates = [];
 }
 
-abbrev pub begin_gates : HeaderView → List ℕ → List (List ℕ) → Result Place Refusal
+abbrev pub begin_gates : HeaderView → List ℕ → List (List ℕ) → Result Place LineRefusal
 begin_gates said word words =
     if bytes_eq word (codes ".begin") && is_nil words
     then or_form said.names (λ names. Ok (in_gates (file_of said names))) else Err Form
 
-abbrev pub headed : Option Head → HeaderView → List ℕ → List (List ℕ) → Result Place Refusal
+abbrev pub headed : Option Head → HeaderView → List ℕ → List (List ℕ) → Result Place LineRefusal
 headed (Some head) said word words = and_then (add head said words) (λ after. Ok (in_header after))
 headed None said word words = begin_gates said word words
 
-abbrev pub header_line : HeaderView → List (List ℕ) → Result Place Refusal
+abbrev pub header_line : HeaderView → List (List ℕ) → Result Place LineRefusal
 header_line said [] = Ok (in_header said)
 header_line said (word ∷ words) = headed (head_of word) said word words
 
@@ -222,7 +222,7 @@ shape_of [] = None
 shape_of (letter ∷ digits) = shape_of_digits (targets_in letter) digits
 
 -- the line of a name, which is none of those that the gate has
-abbrev pub line_of : List (List ℕ) → (ℕ → Bool) → List ℕ → Result ℕ Refusal
+abbrev pub line_of : List (List ℕ) → (ℕ → Bool) → List ℕ → Result ℕ LineRefusal
 line_of names has word =
     if has_sign word then Err Form
     else (if is_long word then Err Limit
@@ -234,7 +234,7 @@ lines_of_controls controls = map (λ (control : Control). control.line) controls
 abbrev pub control_on : Bool → ℕ → Control
 control_on positive line = record { line = line; positive = positive }
 
-abbrev pub control_of : List (List ℕ) → (ℕ → Bool) → List ℕ → Result Control Refusal
+abbrev pub control_of : List (List ℕ) → (ℕ → Bool) → List ℕ → Result Control LineRefusal
 control_of names has word =
     if has_sign word
     then and_then (line_of names has (drop 1 word)) (λ line. Ok (control_on false line))
@@ -242,7 +242,7 @@ control_of names has word =
 
 -- so many controls, those that were read and those that are left, and the words behind them
 abbrev pub controls_from : List (List ℕ) → ℕ → List Control → List (List ℕ)
-    → Result (List Control × List (List ℕ)) Refusal
+    → Result (List Control × List (List ℕ)) LineRefusal
 controls_from names wanted controls [] =
     if length controls == wanted then Ok (controls, []) else Err Form
 controls_from names wanted controls (word ∷ words) =
@@ -251,22 +251,22 @@ controls_from names wanted controls (word ∷ words) =
     (λ control. controls_from names wanted (controls ++ control ∷ []) words)
 
 abbrev pub target_of : List (List ℕ) → (ℕ → Bool) → List (List ℕ)
-    → Result (ℕ × List (List ℕ)) Refusal
+    → Result (ℕ × List (List ℕ)) LineRefusal
 target_of names has [] = Err Form
 target_of names has (word ∷ words) = and_then (line_of names has word) (λ line. Ok (line, words))
 
 -- the operation, where no words are left behind it
-abbrev pub alone : Op → List (List ℕ) → Result Op Refusal
+abbrev pub alone : Op → List (List ℕ) → Result Op LineRefusal
 alone op words = if is_nil words then Ok op else Err Form
 
-abbrev pub op_of : List (List ℕ) → ℕ → (ℕ → Bool) → List (List ℕ) → Result Op Refusal
+abbrev pub op_of : List (List ℕ) → ℕ → (ℕ → Bool) → List (List ℕ) → Result Op LineRefusal
 op_of names targets has words =
     and_then (target_of names has words) (λ first.
     if targets == 1 then alone (Flip first.0) first.1
     else and_then (target_of names (λ line. has line || line == first.0) first.1)
     (λ second. alone (Swap first.0 second.0) second.1))
 
-abbrev pub gate_of : List (List ℕ) → Shape → List (List ℕ) → Result GateView Refusal
+abbrev pub gate_of : List (List ℕ) → Shape → List (List ℕ) → Result GateView LineRefusal
 gate_of names shape words =
     and_then (controls_from names shape.controls [] words) (λ read.
     and_then (op_of names shape.targets (λ line. has_line line (lines_of_controls read.0)) read.1)
@@ -275,15 +275,15 @@ gate_of names shape words =
 abbrev pub with_gate : RealView → GateView → Place
 with_gate file gate = in_gates (record file { gates = file.gates ++ gate ∷ [] })
 
-abbrev pub add_gate : RealView → Shape → List (List ℕ) → Result Place Refusal
+abbrev pub add_gate : RealView → Shape → List (List ℕ) → Result Place LineRefusal
 add_gate file shape words =
     if length file.gates == MOST_GATES then Err Limit
     else and_then (gate_of file.names shape words) (λ gate. Ok (with_gate file gate))
 
-abbrev pub end_gates : RealView → List (List ℕ) → Result Place Refusal
+abbrev pub end_gates : RealView → List (List ℕ) → Result Place LineRefusal
 end_gates file words = if is_nil words then Ok (at_end file) else Err Form
 
-abbrev pub gates_line : RealView → List (List ℕ) → Result Place Refusal
+abbrev pub gates_line : RealView → List (List ℕ) → Result Place LineRefusal
 gates_line file [] = Ok (in_gates file)
 gates_line file (word ∷ words) =
     if bytes_eq word (codes ".end") then end_gates file words
@@ -291,19 +291,19 @@ gates_line file (word ∷ words) =
 
 -- ---- lines
 
-abbrev pub after_line : Place → List (List ℕ) → Result Place Refusal
+abbrev pub after_line : Place → List (List ℕ) → Result Place LineRefusal
 after_line (in_header said) words = header_line said words
 after_line (in_gates file) words = gates_line file words
 after_line (at_end file) words = if is_nil words then Ok (at_end file) else Err Form
 
 -- what is said of the line with this number
-abbrev pub fault_at : ℕ → Refusal → RealFault
+abbrev pub fault_at : ℕ → LineRefusal → RealFault
 fault_at number Form = faults.Line number
 fault_at number Limit = faults.Limit number
 fault_at number Memory = faults.Memory
 
 -- the text's fault; no line is refused for want of memory
-abbrev pub text_fault : ℕ → Refusal → RealFault
+abbrev pub text_fault : ℕ → LineRefusal → RealFault
 text_fault number Form = faults.Line number
 text_fault number Limit = faults.Limit number
 text_fault number Memory = faults.Line number
@@ -314,7 +314,7 @@ verdict_at_last (in_header said) number = Err (faults.Line number)
 verdict_at_last (in_gates file) number = Err (faults.Line number)
 verdict_at_last (at_end file) number = Ok file
 
-abbrev pub verdict_after : Result Place Refusal → ℕ → (Place → Result RealView RealFault)
+abbrev pub verdict_after : Result Place LineRefusal → ℕ → (Place → Result RealView RealFault)
     → Result RealView RealFault
 verdict_after (Ok place) number f = f place
 verdict_after (Err e) number f = Err (text_fault number e)

@@ -4,7 +4,7 @@ use Rattle.revs_terms.specs.Trees.{tree_of}
 use Rattle.revs_terms.specs.Runs.{run_without_bits}
 use Rattle.inliner.proofs.EndLemmas.{refused, left_on_all}
 use Rattle.std.proofs.lemmas.Result.{IfOk-weaker, IfErr-weaker}
-use Rattle.inliner.specs.inside.Steps.{Leaves, Says}
+use Rattle.inliner.specs.inside.Calls.{Leaves, Says}
 use Rattle.inliner.proofs.program.unroll.Goals as goal
 
 pub returns-clause-ok : goal.returns-clause-ok

@@ -1,5 +1,5 @@
 use Rattle.std.proofs.Common.{◌+◌, length}
-use Rattle.real_format.specs.inside.Steps.{EndsAs}
+use Rattle.real_format.specs.inside.Says.{EndsAs}
 use Rattle.real_format.proofs.reader.read_end.Given as goal
 
 abbrev pub invariant-loop-words : goal.invariant-loop-words

@@ -1,7 +1,7 @@
 use Rattle.std.proofs.Common.{◌≡◌, Ok, ◌∙◌, subst}
 use Rattle.real_format.specs.Real.{in_header}
 use Rattle.real_format.specs.inside.Reading.{header_line}
-use Rattle.real_format.specs.inside.Steps.{HeaderSays}
+use Rattle.real_format.specs.inside.Says.{HeaderSays}
 use Rattle.real_format.proofs.TextLineLemmas.{goes_on, keeps_sound}
 use Rattle.real_format.proofs.reader.read_header.Goals as goal
 

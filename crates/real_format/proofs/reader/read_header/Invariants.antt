@@ -2,7 +2,7 @@ use Rattle.std.proofs.Common.{◌≡◌, ◌+◌, length}
 use Rattle.real_format.specs.Header.{nothing_said}
 use Rattle.real_format.specs.Real.{in_header}
 use Rattle.real_format.specs.inside.Reading.{verdict}
-use Rattle.real_format.specs.inside.Steps.{IsSound}
+use Rattle.real_format.specs.inside.Says.{IsSound}
 use Rattle.real_format.proofs.reader.read_header.Given as goal
 
 abbrev pub invariant-loop-words : goal.invariant-loop-words

@@ -1,6 +1,6 @@
 use Rattle.std.proofs.Common.{◌++◌, codes}
 use Rattle.revc_io.proofs.PassingLemmas.{begun, step, failed_call, last_call}
-use Rattle.real_format.specs.declared.labels.Kind.TheVariants.{Constants, Garbage}
+use Rattle.real_format.specs.declared.labels.MarkKind.TheVariants.{Constants, Garbage}
 use Rattle.real_format.specs.inside.Labels.{mark_bytes}
 use Rattle.real_format.specs.inside.Parts.{mark_line_text}
 use Rattle.real_format.proofs.writer.put_marks.Goals as goal

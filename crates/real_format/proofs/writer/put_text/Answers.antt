@@ -1,6 +1,6 @@
 use Rattle.std.proofs.Common.{◌++◌}
 use Rattle.revc_io.proofs.PassingLemmas.{begun, step, failed_call, last_call}
-use Rattle.real_format.specs.declared.labels.Kind.TheVariants.{Constants, Garbage}
+use Rattle.real_format.specs.declared.labels.MarkKind.TheVariants.{Constants, Garbage}
 use Rattle.real_format.specs.inside.Labels.{count_of, name_by, mark_bytes}
 use Rattle.real_format.specs.inside.Parts.{front_text, marks_text, rest_text}
 use Rattle.real_format.proofs.writer.put_text.Goals as goal

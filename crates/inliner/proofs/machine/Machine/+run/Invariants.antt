@@ -7,7 +7,7 @@ use Rattle.inliner.specs.inside.Machines.{envs_of, env_in, state_of}
 use Rattle.inliner.proofs.ProgressLemmas.{Through}
 use Rattle.inliner.proofs.CallLemmas.{InBlock, InApply}
 use Rattle.inliner.proofs.ChainLemmas.{rest_of_bits, rest_of_chain}
-use Rattle.inliner.specs.inside.Steps.{chain_tree}
+use Rattle.inliner.specs.inside.Calls.{chain_tree}
 use Rattle.inliner.proofs.machine.Machine.+run.Given as goal
 
 abbrev pub decreases-run : goal.decreases-run

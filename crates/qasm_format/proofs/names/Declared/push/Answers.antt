@@ -1,6 +1,6 @@
 use Rattle.std.proofs.Common.{ap}
 use Rattle.qasm_format.specs.inside.Names.{DeclaredView}
-use Rattle.qasm_format.specs.declared.words.Kind.TheVariants.{Qubits, Bits}
+use Rattle.qasm_format.specs.declared.words.RegisterKind.TheVariants.{Qubits, Bits}
 use Rattle.qasm_format.proofs.DeclaredLemmas.{pushed}
 use Rattle.qasm_format.proofs.names.Declared.push.Goals as goal
 

@@ -1,0 +1,114 @@
+-- What the calls of the machine do to the run, beside the steps of the language.
+use Rattle.std.specs.Prelude.{◌≡◌, ℕ, None, List, ⊤}
+use Rattle.revc_base.specs.declared.place.Place.{Place}
+use Rattle.revc_base.specs.declared.tape.Ref.{Ref}
+use Rattle.revc_base.specs.declared.tape.Entry.{Entry}
+use Rattle.revc_base.specs.declared.tape.Entry.TheVariants as entries
+use Rattle.revc_base.specs.Tapes.{TapeView}
+use Rattle.revs_terms.specs.declared.cause.Cause.TheVariants as causes
+use Rattle.revs_terms.specs.declared.program.Param.{Param}
+use Rattle.revs_terms.specs.Trees.{Tree, ItemTree, bind, run, ands, xors, trees}
+use Rattle.revs_terms.specs.Terms.{place_of}
+use Rattle.revs_terms.specs.Running.{Value, Environment, bound, bound_length, Stamped, State, Outcome, stuck}
+use Rattle.revs_terms.specs.Running.{went, Step, done, ◌>>=◌, read, written, worked, bit_of, apply_to}
+use Rattle.revs_terms.specs.Runs.{no_bits, run_without_bits, tape_of}
+use Rattle.array_shapes.specs.declared.shapes.ShapeFault.{ShapeFault}
+use Rattle.array_shapes.specs.declared.shapes.ShapeFault.TheVariants as shapes
+use Rattle.array_shapes.specs.declared.value.Value as machine
+use Rattle.array_shapes.specs.Values as values
+use Rattle.array_shapes.specs.Values.{seen}
+use Rattle.inliner.specs.declared.fault.RunFault.{RunFault}
+use Rattle.inliner.specs.declared.fault.RunFault.TheVariants as faults
+use Rattle.inliner.specs.declared.operators.Operator.{Operator}
+use Rattle.inliner.specs.declared.operators.Operator.TheVariants as operators
+
+-- ---- steps
+
+-- a step of the run without bits
+abbrev pub Blind : Type 0 → Type 0
+Blind A = Step (Unit {0}) A
+
+-- an outcome of the run without bits
+abbrev pub Going : Type 0 → Type 0
+Going A = Outcome (Unit {0}) A
+
+-- the run of a term one deeper
+abbrev pub Deeper : Type 0
+Deeper = Environment → Tree → Blind Value
+
+abbrev pub entry_of : Operator → Ref → Ref → Entry
+entry_of operators.And = entries.And
+entry_of operators.Xor = entries.Xor
+
+abbrev pub chain_tree : Operator → List Tree → Tree
+chain_tree operators.And ts = ands (trees ts)
+chain_tree operators.Xor ts = xors (trees ts)
+
+-- two bits of a chain, the first read at the place of the chain's first operand
+abbrev pub join_step : Operator → ℕ → ℕ → Place → Place → Blind ℕ
+join_step op so_far next first at = do
+  a ← read no_bits so_far first
+  b ← read no_bits next at
+  written no_bits (entry_of op a.stamp b.stamp) tt at
+
+-- a bit of a chain with the next operand's
+abbrev pub link_step : Deeper → Operator → Environment → Place → ℕ → Tree → Blind ℕ
+link_step deeper op env first so_far t = do
+  next ← bit_of no_bits deeper env t
+  join_step op so_far next first (place_of t)
+
+-- a value is bound, and counts where it is a register
+abbrev pub bind_step : Value → Environment → Place → Blind Environment
+bind_step value env at = do
+  _ ← worked no_bits (bound_length value) at
+  done (bound value env)
+
+-- an item of a block, to the environment behind it
+abbrev pub item_step : Deeper → Environment → ItemTree → Blind Environment
+item_step deeper env (bind name t) = do
+  value ← deeper env t
+  bind_step value env (place_of t)
+item_step deeper env (run t) = do
+  _ ← deeper env t
+  done env
+
+-- a value takes an argument, the value of a term
+abbrev pub argument_step : Deeper → Environment → Value → Tree → Blind Value
+argument_step deeper env callee t = do
+  argument ← deeper env t
+  apply_to no_bits deeper (place_of t) callee argument
+
+-- ---- what a fault says
+
+abbrev pub IsStuckAs : {A : Type 0} → RunFault → Going A → Type 0
+IsStuckAs (faults.Stuck cause at) outcome = outcome ≡ stuck cause at
+IsStuckAs faults.Memory outcome = ⊤
+
+-- The run is stuck as the fault says; want of memory says nothing of the run.
+pub record Says {A : Type 0} (fault : RunFault) (outcome : Going A) : Type 0 where
+  pub stuck : IsStuckAs fault outcome
+
+-- the fault of a list call, for the term or part at this place
+abbrev pub shape_fault : ShapeFault → Place → RunFault
+shape_fault shapes.Slice at = faults.Stuck causes.Slice at
+shape_fault shapes.Rotate at = faults.Stuck causes.Rotate at
+shape_fault shapes.Length at = faults.Stuck causes.Length at
+shape_fault shapes.Memory at = faults.Memory
+
+-- The run of a program without bits leaves this tape.
+pub record Leaves (params : List Param) (body : Tree) (tape : TapeView) : Type 0 where
+  pub outputs : List (Stamped (Unit {0}))
+  pub state : State (Unit {0})
+  pub ends : run_without_bits params body ≡ went outputs state
+  pub left : tape ≡ tape_of params outputs state
+
+-- ---- bits
+
+-- the value is the bit in a location
+pub record IsBitAt (value : machine.Value) (location : ℕ) : Type 0 where
+  pub is : seen value ≡ values.bit location
+
+-- the value is no bit, as the fault says
+pub record NoBitAt (value : machine.Value) (at : Place) (fault : RunFault) : Type 0 where
+  pub is : values.bit_of (seen value) ≡ None
+  pub fault_is : fault ≡ faults.Stuck causes.NotBit at
