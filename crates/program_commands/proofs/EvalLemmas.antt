@@ -26,6 +26,7 @@ use Rattle.program_commands.specs.inside.Mappings.{bits_fault}
 use Rattle.program_commands.specs.inside.Plans.{IsBitsFault}
 use Rattle.command_answers.specs.BitWords.{IsInputWord, bits_of}
 use Rattle.program_commands.specs.Eval.{Gives, IsCause, Serves, IsValueOf, IsBadWord, IsBroken, Stops}
+use Rattle.program_commands.specs.Outcomes.{IsEvalFault}
 use Rattle.command_answers.proofs.FirstLemmas.{all_at, first_same}
 use Rattle.program_commands.proofs.RefusalLemmas.{one_refusal, never_refused}
 
@@ -171,3 +172,11 @@ pub bits_refused : (inputs : ℕ) (word : List ℕ) (fault : BitsFault) → ((at
     → IsBitsFault inputs word (bits_fault fault)
 bits_refused inputs word (bits.BadDigit at) h = (refl, λ fits. no_digits word at (h at refl) fits.digits)
 bits_refused inputs word bits.Memory h = tt
+
+-- a word that is no input of the tape is none of the program's
+pub word_stops : (text word : List ℕ) (p : ProgramView) (tape : TapeView) (fault : Fault) → IsWellFormed text p → IsTapeOf p.params p.body tape
+    → IsBitsFault (sum tape.params) word fault → IsEvalFault text word fault
+word_stops text word p tape (faults.BadBits number) formed of h =
+    (h.0, record { program = p; formed = formed; unfit = subst (λ widths. ¬ IsInputWord (sum widths) word) of.widths h.1 })
+word_stops text word p tape faults.Memory formed of h = tt
+word_stops text word p tape fault formed of h = absurd h
