@@ -1,2 +1,3 @@
+pub mod CompiledLemmas
 pub mod FlipLemmas
 pub mod NameLemmas

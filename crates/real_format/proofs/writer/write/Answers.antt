@@ -1,7 +1,7 @@
-use Rattle.std.proofs.Common.{◌≡◌, false, sym, subst, arith}
+use Rattle.std.proofs.Common.{false}
 use Rattle.std.proofs.lemmas.List.{length-replicate}
-use Rattle.mct_circuit.specs.Gates.{CircuitView, AreGatesOn}
-use Rattle.gate_split.specs.Plans.{lines_in, roles_of}
+use Rattle.format_parts.proofs.CompiledLemmas.{laid_has}
+use Rattle.real_format.specs.Compiled.{MeansCompiled, compiled_text}
 use Rattle.real_format.proofs.MeaningLemmas.{compiled_has_meaning}
 use Rattle.real_format.proofs.writer.write.Goals as goal
 
@@ -10,9 +10,6 @@ write_text-requires-clause-garbage g c = length-replicate _ false
 
 pub returns-clause-meaning : goal.returns-clause-meaning
 returns-clause-meaning g c =
-    let laid = c.args.laid.now in
-    let fits : lines_in (roles_of laid) ≡ laid.circuit.lines = c.circuit-circuit.ensures.lines in
-    let placed : AreGatesOn laid.circuit.lines laid.circuit.gates = subst
-    (λ (v : CircuitView). AreGatesOn v.lines v.gates) c.circuit-circuit.ensures.circuit c.lines.ensures.gates in
-    let on : AreGatesOn (lines_in (roles_of laid)) laid.circuit.gates = subst (λ n. AreGatesOn n laid.circuit.gates) (sym fits) placed in
-    compiled_has_meaning (roles_of laid) laid.circuit.gates (omega arith) (omega arith) c.requires.few_gates on c.circuit-circuit.ensures.narrow
+    laid_has (λ roles gates. MeansCompiled (compiled_text roles gates) roles gates) compiled_has_meaning c.args.laid.now _
+    c.circuit-circuit.ensures.lines c.circuit-circuit.ensures.circuit c.lines.ensures.gates c.circuit-circuit.ensures.narrow
+    c.requires.some c.requires.few c.requires.few_gates

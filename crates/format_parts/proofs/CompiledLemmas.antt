@@ -1,0 +1,17 @@
+-- The gates of a laid plan, as what its format's compiled files have to mean.
+use Rattle.std.proofs.Common.{◌≡◌, ◌≤◌, List, length, sym, subst}
+use Rattle.gate_split.specs.declared.plan.TheConstants.{MOST_LINES, MOST_GATES}
+use Rattle.gate_split.specs.declared.roles.Roles.{Roles}
+use Rattle.gate_split.specs.Plans.{LaidView, lines_in, roles_of}
+use Rattle.mct_circuit.specs.Gates.{CircuitView, GateView, AreGatesOn, AreNarrow}
+use Rattle.format_parts.specs.Compiled.{ForEachCompiled}
+
+-- what holds for all roles and narrow gates holds for those of a laid plan
+pub laid_has : (P : Roles → List GateView → Type 0) → ForEachCompiled P → (laid : LaidView) (circuit : CircuitView)
+    → lines_in (roles_of laid) ≡ laid.circuit.lines → circuit ≡ laid.circuit → AreGatesOn circuit.lines circuit.gates
+    → AreNarrow laid.circuit.gates → 1 ≤ laid.circuit.lines → laid.circuit.lines ≤ MOST_LINES → length laid.circuit.gates ≤ MOST_GATES
+    → P (roles_of laid) laid.circuit.gates
+laid_has P each laid circuit fits same on narrow some few few_gates =
+    let placed : AreGatesOn laid.circuit.lines laid.circuit.gates = subst (λ (v : CircuitView). AreGatesOn v.lines v.gates) same on in
+    each (roles_of laid) laid.circuit.gates (subst (λ n. 1 ≤ n) (sym fits) some) (subst (λ n. n ≤ MOST_LINES) (sym fits) few) few_gates
+    (subst (λ n. AreGatesOn n laid.circuit.gates) (sym fits) placed) narrow
