@@ -1,7 +1,5 @@
 -- Blocks, parts and functions, as the machine takes them.
 use Rattle.std.proofs.Common.{◌≡◌, ℕ, zero, suc, ◌+◌, ◌-◌, ◌≤◌, ◌<◌, List, [], ◌∷◌, length, drop, map, get_or, refl, sym, ap, ◌∙◌, subst, arith}
-use Rattle.std.specs.Prelude.{Result, IsErrAnd, IfErr}
-use Rattle.std.proofs.lemmas.Result.{err_from_is_err_and}
 use Rattle.revc_base.specs.declared.place.Place.{Place}
 use Rattle.revs_terms.specs.declared.term.Name.{Name}
 use Rattle.revs_terms.specs.declared.term.Part.{Part}
@@ -38,10 +36,6 @@ mapped_end f [] zero h = refl
 mapped_end f [] (suc i) h = refl
 mapped_end f (y ∷ ys) zero h = absurd (omega arith)
 mapped_end f (y ∷ ys) (suc i) h = mapped_end f ys i (omega arith)
-
--- What a called function's fault says, the fault that is passed on says.
-pub passes_on : {T : Type 0} {fault : RunFault} (Q : RunFault → Type 0) (r : Result T RunFault) → IsErrAnd r (λ e. e ≡ fault) → Q fault → IfErr r Q
-passes_on {T} {fault} Q r e q = let p = err_from_is_err_and r e in rw (p.1, p.2) q
 
 -- ---- a value of a part, later
 

@@ -1,8 +1,7 @@
 -- The text of a clean plan is a clean file for the one program of a text, and why there is no plan.
 use Rattle.std.proofs.Common.{◌≡◌, ℕ, ◌+◌, ◌≤◌, suc, Bool, cond, List, length, sum, max, sym, ap, ◌∙◌, subst, inl, inr, arith}
-use Rattle.std.specs.Prelude.{Result, IsErrAnd, IfErr, nat_lt}
+use Rattle.std.specs.Prelude.{nat_lt}
 use Rattle.std.proofs.lemmas.Bool.Decides.{leb_tells}
-use Rattle.std.proofs.lemmas.Result.{err_from_is_err_and}
 use Rattle.std.proofs.lemmas.List.{length-map}
 use Rattle.claim_check.specs.Budgets.{Measures}
 use Rattle.claim_check.specs.Measures.{AreMeasuresOf, IsNoLarger, IsWithin}
@@ -153,6 +152,3 @@ settling_fault order text (faults.Lines need limit) h = absurd h
 settling_fault order text (faults.Gates limit) h = absurd h
 settling_fault order text fault h = h
 
--- what a called function's fault says, the fault that is passed on says
-pub passes_on : {T : Type 0} {fault : Fault} (Q : Fault → Type 0) (r : Result T Fault) → IsErrAnd r (λ e. e ≡ fault) → Q fault → IfErr r Q
-passes_on {T} {fault} Q r e q = let p = err_from_is_err_and r e in rw (p.1, p.2) q

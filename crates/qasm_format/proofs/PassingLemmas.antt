@@ -1,11 +1,6 @@
 -- Faults that are passed on.
-use Rattle.std.proofs.Common.{◌≡◌, Result, Ok, Err}
-use Rattle.std.specs.Result.{IfErr, IsErrAnd, OnOk}
-use Rattle.std.proofs.lemmas.Result.{err_from_is_err_and}
-
--- what the exit of a `?` returns
-pub passes_on : {T E : Type 0} {fault : E} (Q : E → Type 0) (r : Result T E) → IsErrAnd r (λ e. e ≡ fault) → Q fault → IfErr r Q
-passes_on {T} {E} {fault} Q r e q = let p = err_from_is_err_and r e in rw (p.1, p.2) q
+use Rattle.std.proofs.Common.{Result, Ok, Err}
+use Rattle.std.specs.Result.{IfErr, OnOk}
 
 -- what the last call returns
 pub fault_becomes : {T E : Type 0} (P Q : E → Type 0) (r : Result T E) → IfErr r P → ((e : E) → P e → Q e) → IfErr r Q

@@ -6,7 +6,6 @@ pub mod ReadingLemmas
 pub mod TextLemmas
 pub mod CutLemmas
 pub mod NumberLemmas
-pub mod PassingLemmas
 pub mod StampLemmas
 pub mod InversionLemmas
 pub mod HeaderLemmas

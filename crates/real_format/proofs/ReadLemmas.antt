@@ -10,7 +10,7 @@ use Rattle.real_format.specs.Faults.{IsRealFault}
 use Rattle.real_format.specs.inside.Lines.{LinesView}
 use Rattle.real_format.specs.inside.Reading.{verdict, IsFaultOf}
 use Rattle.real_format.specs.inside.Says.{EndsWell, EndsIn}
-use Rattle.real_format.proofs.PassingLemmas.{passes_on}
+use Rattle.revc_base.proofs.ResultLemmas.{passes_on}
 use Rattle.real_format.proofs.TextLineLemmas.{verdict_on, fault_same}
 use Rattle.real_format.proofs.VerdictLemmas.{means_so, faults_so}
 

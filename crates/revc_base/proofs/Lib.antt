@@ -5,6 +5,7 @@ pub mod LevelLemmas
 pub mod MonomialLemmas
 pub mod PolynomialLemmas
 pub mod ProductLemmas
+pub mod ResultLemmas
 pub mod RunLemmas
 pub mod SumLemmas
 pub mod TapeLemmas

@@ -1,7 +1,5 @@
 -- Readings put together, and where they halt.
 use Rattle.std.proofs.Common.{◌≡◌, ℕ, true, ◌<◌, ◌≤◌, List, [], ◌∷◌, ◌++◌, refl, sym, ◌∙◌, ap, subst, length, length-append, append_assoc, arith}
-use Rattle.std.specs.Prelude.{Result, IfErr, IsErrAnd}
-use Rattle.std.proofs.lemmas.Result.{err_from_is_err_and}
 use Rattle.revc_base.specs.declared.place.Place.{Place}
 use Rattle.revs_lexer.specs.declared.token.Tok.{Tok}
 use Rattle.revs_lexer.specs.declared.token.Token.{Token}
@@ -205,10 +203,6 @@ pub one_token : {k : Tok} {at : Place} {s : Symbol} {vs : Vals (s ∷ [])} {ts r
 one_token h a = record { passes = a; shorter = let l = ap length h.cut in omega (arith, l) }
 
 -- ---- where reading stops
-
--- What the called function's halt says, the halt that is passed on says.
-pub stops_so : {T : Type 0} {stop : Stop} (Q : Stop → Type 0) (r : Result T Stop) → IsErrAnd r (λ e. e ≡ stop) → Q stop → IfErr r Q
-stops_so Q r e q = let p = err_from_is_err_and r e in rw (p.1, p.2) q
 
 pub halts_first : {es : Stack} {ts : List Token} {stop : Stop} (fs : Stack) → Halts es ts stop → Halts (es ++ fs) ts stop
 halts_first fs h = record {

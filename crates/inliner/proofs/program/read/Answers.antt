@@ -1,7 +1,7 @@
 use Rattle.std.proofs.Common.{arith, get_or}
 use Rattle.revs_terms.specs.Terms.{place_of}
 use Rattle.revs_terms.specs.Trees.{tree_of}
-use Rattle.inliner.proofs.CallLemmas.{passes_on}
+use Rattle.revc_base.proofs.ResultLemmas.{passes_on}
 use Rattle.inliner.proofs.EndLemmas.{reads_begun, reads_more, reads_stuck, reads_done, at_default, at_last}
 use Rattle.inliner.proofs.program.read.Goals as goal
 

@@ -3,7 +3,7 @@ use Rattle.revs_terms.specs.declared.program.Param.{Param}
 use Rattle.revs_terms.specs.Trees.{tree_of}
 use Rattle.inliner.specs.inside.Machines.{state_of}
 use Rattle.inliner.specs.inside.Starts.{IsStart, stamped}
-use Rattle.inliner.proofs.CallLemmas.{passes_on}
+use Rattle.revc_base.proofs.ResultLemmas.{passes_on}
 use Rattle.inliner.proofs.EndLemmas.{body_stuck, outputs_stuck, program_leaves, memory_says, some_made}
 use Rattle.inliner.proofs.program.run.Goals as goal
 

@@ -1,7 +1,7 @@
 use Rattle.std.proofs.Common.{◌∙◌}
 use Rattle.revs_terms.specs.Views.{view_of}
 use Rattle.program_commands.proofs.EvalLemmas.{broken_at, value_at, word_stops}
-use Rattle.program_commands.proofs.PlanLemmas.{passes_on}
+use Rattle.revc_base.proofs.ResultLemmas.{passes_on}
 use Rattle.program_commands.proofs.eval.evaluate.Goals as goal
 
 pub returns-in-Out-clause-ok : goal.returns-in-Out-clause-ok

@@ -1,7 +1,8 @@
 use Rattle.revc_words.specs.Words.{order_of}
 use Rattle.program_commands.specs.Compile.{budget_of}
 use Rattle.program_commands.specs.inside.Plans.{IsWhole}
-use Rattle.program_commands.proofs.PlanLemmas.{clean_plan, passes_on, planned, planning_fault, settling_fault, writable}
+use Rattle.program_commands.proofs.PlanLemmas.{clean_plan, planned, planning_fault, settling_fault, writable}
+use Rattle.revc_base.proofs.ResultLemmas.{passes_on}
 use Rattle.program_commands.proofs.planning.plan_text.Goals as goal
 
 pub returns-in_err-tape-clause-err : goal.returns-in_err-tape-clause-err

@@ -1,7 +1,7 @@
 use Rattle.std.proofs.Common.{subst}
 use Rattle.qasm_format.specs.Faults.{IsQasmFault}
 use Rattle.qasm_format.specs.inside.Says.{GoesOn}
-use Rattle.qasm_format.proofs.PassingLemmas.{passes_on}
+use Rattle.revc_base.proofs.ResultLemmas.{passes_on}
 use Rattle.qasm_format.proofs.ReadingLemmas.{reads_then, stops_later}
 use Rattle.qasm_format.proofs.FileLemmas.{ends_file, file_means}
 use Rattle.qasm_format.proofs.reader.read.Goals as goal

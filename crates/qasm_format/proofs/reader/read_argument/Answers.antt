@@ -1,6 +1,6 @@
 use Rattle.std.proofs.Common.{sym, ◌∙◌, arith, codes}
 use Rattle.qasm_format.specs.inside.Says.{StopsAtArgument}
-use Rattle.qasm_format.proofs.PassingLemmas.{passes_on}
+use Rattle.revc_base.proofs.ResultLemmas.{passes_on}
 use Rattle.qasm_format.proofs.ReadingLemmas.{ne_word, eq_word}
 use Rattle.qasm_format.proofs.ArgumentLemmas.{unnamed, no_name, whole_read, opened, no_index, beyond, unclosed, line_read}
 use Rattle.qasm_format.proofs.reader.read_argument.Goals as goal

@@ -1,6 +1,6 @@
 use Rattle.std.proofs.Common.{sym, ◌∙◌, codes}
 use Rattle.qasm_format.specs.inside.Says.{StopsAtBarrier}
-use Rattle.qasm_format.proofs.PassingLemmas.{passes_on}
+use Rattle.revc_base.proofs.ResultLemmas.{passes_on}
 use Rattle.qasm_format.proofs.ReadingLemmas.{ne_word, eq_word, is_word, no_word}
 use Rattle.qasm_format.proofs.ArgumentLemmas.{barrier_begun, barrier_more, barrier_fails, barrier_ends, barrier_open, barrier_stops}
 use Rattle.qasm_format.proofs.reader.read_barrier.Goals as goal

@@ -1,6 +1,6 @@
 use Rattle.std.proofs.Common.{sym, ◌∙◌, codes}
 use Rattle.qasm_format.specs.inside.Says.{StopsAtControl}
-use Rattle.qasm_format.proofs.PassingLemmas.{passes_on}
+use Rattle.revc_base.proofs.ResultLemmas.{passes_on}
 use Rattle.qasm_format.proofs.ReadingLemmas.{ne_word, eq_word}
 use Rattle.qasm_format.proofs.ArgumentLemmas.{control_read, no_control, control_stops}
 use Rattle.qasm_format.proofs.reader.read_control.Goals as goal

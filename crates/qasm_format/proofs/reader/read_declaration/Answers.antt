@@ -7,7 +7,7 @@ use Rattle.qasm_format.specs.Qasm.{Reads}
 use Rattle.qasm_format.specs.Faults.{IsStop}
 use Rattle.qasm_format.specs.inside.Names.{DeclaredView}
 use Rattle.qasm_format.specs.inside.Says.{said_of}
-use Rattle.qasm_format.proofs.PassingLemmas.{passes_on}
+use Rattle.revc_base.proofs.ResultLemmas.{passes_on}
 use Rattle.qasm_format.proofs.ReadingLemmas.{reads_then, stops_later}
 use Rattle.qasm_format.proofs.StageLemmas.{fault_at_name, kept_at_name, reads_name}
 use Rattle.qasm_format.proofs.DeclaredLemmas.{among_has, none_has, not_among}

@@ -7,7 +7,8 @@ use Rattle.qasm_format.specs.Stages.{wants_argument}
 use Rattle.qasm_format.specs.Faults.{IsStop}
 use Rattle.qasm_format.specs.inside.Says.{said_of, AddsGates, IsGateFault, SpotBelow}
 use Rattle.std.proofs.lemmas.List.{length-append}
-use Rattle.qasm_format.proofs.PassingLemmas.{passes_on, fault_becomes, ok_becomes}
+use Rattle.qasm_format.proofs.PassingLemmas.{fault_becomes, ok_becomes}
+use Rattle.revc_base.proofs.ResultLemmas.{passes_on}
 use Rattle.qasm_format.proofs.ReadingLemmas.{ne_word, eq_word}
 use Rattle.qasm_format.proofs.ArgumentLemmas.{InGate, gate_begun, gate_more, control_fails, target_fails, gate_open, gate_ends, gates_fail, all_below}
 use Rattle.qasm_format.proofs.ArgumentLemmas.{all_below_most, sound_after}

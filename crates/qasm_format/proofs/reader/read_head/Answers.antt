@@ -2,7 +2,8 @@ use Rattle.std.proofs.Common.{codes}
 use Rattle.qasm_format.specs.Stages.{head, starts, nothing_said}
 use Rattle.qasm_format.specs.Faults.{IsStop}
 use Rattle.qasm_format.specs.inside.Says.{ReadsWord}
-use Rattle.qasm_format.proofs.PassingLemmas.{passes_on, fault_becomes, ok_becomes}
+use Rattle.qasm_format.proofs.PassingLemmas.{fault_becomes, ok_becomes}
+use Rattle.revc_base.proofs.ResultLemmas.{passes_on}
 use Rattle.qasm_format.proofs.ReadingLemmas.{reads_then, stops_later}
 use Rattle.qasm_format.proofs.reader.read_head.Goals as goal
 

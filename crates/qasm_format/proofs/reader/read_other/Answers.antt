@@ -2,7 +2,7 @@ use Rattle.std.proofs.Common.{sym, ap, ◌∙◌, inr, refl, [], Some}
 use Rattle.qasm_format.specs.declared.words.Use.TheVariants.{Barrier}
 use Rattle.qasm_format.specs.Stages.{wants_argument}
 use Rattle.qasm_format.specs.inside.Says.{said_of, StopsBehind}
-use Rattle.qasm_format.proofs.PassingLemmas.{passes_on}
+use Rattle.revc_base.proofs.ResultLemmas.{passes_on}
 use Rattle.qasm_format.proofs.StatementLemmas.{use_begins}
 use Rattle.qasm_format.proofs.reader.read_other.Goals as goal
 

@@ -6,7 +6,8 @@ use Rattle.qasm_format.specs.Stages.{starts, wants}
 use Rattle.qasm_format.specs.Faults.{IsStop}
 use Rattle.qasm_lexer.specs.Tokens.{Takes}
 use Rattle.qasm_format.specs.inside.Says.{said_of}
-use Rattle.qasm_format.proofs.PassingLemmas.{passes_on, fault_becomes}
+use Rattle.qasm_format.proofs.PassingLemmas.{fault_becomes}
+use Rattle.revc_base.proofs.ResultLemmas.{passes_on}
 use Rattle.text_places.proofs.RunLemmas.{some_text}
 use Rattle.qasm_format.proofs.ReadingLemmas.{eq_word, reads_next, stops_later}
 use Rattle.qasm_format.proofs.StatementLemmas.{no_line, statement_read, statement_stops, include_begins, goes_on, read_behind}

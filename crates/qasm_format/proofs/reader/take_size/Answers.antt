@@ -1,7 +1,7 @@
 use Rattle.std.proofs.Common.{subst, arith}
 use Rattle.qasm_format.specs.declared.file.QasmFault.TheVariants.{Token, Limit}
 use Rattle.qasm_format.specs.inside.Says.{StopsAtSize, TakesNumber}
-use Rattle.qasm_format.proofs.PassingLemmas.{passes_on}
+use Rattle.revc_base.proofs.ResultLemmas.{passes_on}
 use Rattle.qasm_format.proofs.ReadingLemmas.{reads_then, stops_later}
 use Rattle.qasm_format.proofs.StageLemmas.{fault_at_size, zero_at_size, size_stops, full_stops, sized}
 use Rattle.qasm_format.proofs.reader.take_size.Goals as goal

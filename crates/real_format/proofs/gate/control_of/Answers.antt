@@ -1,7 +1,7 @@
 use Rattle.real_format.specs.inside.Reading.{Refuses, control_of}
 use Rattle.real_format.specs.inside.Stamps.{is_stamped}
 use Rattle.std.proofs.Common.{sym, ◌∙◌}
-use Rattle.real_format.proofs.PassingLemmas.{passes_on}
+use Rattle.revc_base.proofs.ResultLemmas.{passes_on}
 use Rattle.real_format.proofs.StampLemmas.{refused_control}
 use Rattle.real_format.proofs.gate.control_of.Goals as goal
 

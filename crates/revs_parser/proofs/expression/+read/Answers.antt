@@ -5,15 +5,16 @@ use Rattle.revs_terms.proofs.ShapeLemmas.{tree_of-Rotate, tree_of-Clean, tree_of
 use Rattle.revs_terms.proofs.ShapeLemmas.{item_tree_of-Do}
 use Rattle.std.proofs.lemmas.Bool.{eqb-true, eqb-false}
 use Rattle.std.proofs.lemmas.Result.{IfOk-weaker, IfErr-weaker}
-use Rattle.revs_parser.proofs.PassingLemmas.{stops_so, only, smaller_behind, halts_first}
+use Rattle.revs_parser.proofs.PassingLemmas.{only, smaller_behind, halts_first}
 use Rattle.revs_parser.proofs.ReadingLemmas as r
 use Rattle.revs_parser.proofs.expression.+read.Goals as goal
+use Rattle.revc_base.proofs.ResultLemmas.{passes_on}
 
 -- ---- expressions
 
 pub expression-returns-in_err-inner-clause-halts : goal.expression-returns-in_err-inner-clause-halts
 expression-returns-in_err-inner-clause-halts t c =
-    stops_so _ _ c.from_residual.ensures.1
+    passes_on _ _ c.from_residual.ensures.1
     (r.expression_no_level c.args.level c.in-Some.ensures.found c.in_err-inner.ensures.deep _ c.in_err-inner.ensures.stops)
 
 pub expression-returns-in-Some-clause-ok : goal.expression-returns-in-Some-clause-ok
@@ -28,7 +29,7 @@ expression-returns-in-Some-clause-halts t c = IfErr-weaker c.function.result _ _
 
 pub expression-returns-in_err-left-clause-halts : goal.expression-returns-in_err-left-clause-halts
 expression-returns-in_err-left-clause-halts t c =
-    stops_so _ _ c.from_residual-in_err-left.ensures.1 (r.expression_in_sum c.args.level c.in_default.ensures.none c.in_err-left.ensures.halts)
+    passes_on _ _ c.from_residual-in_err-left.ensures.1 (r.expression_in_sum c.args.level c.in_default.ensures.none c.in_err-left.ensures.halts)
 
 pub expression-returns-in_default-after-clause-ok : goal.expression-returns-in_default-after-clause-ok
 expression-returns-in_default-after-clause-ok t c = r.expression_sum c.args.level c.in_default.ensures.none c.in_ok-left.ensures.ok
@@ -36,7 +37,7 @@ expression-returns-in_default-after-clause-ok t c = r.expression_sum c.args.leve
 
 pub expression-returns-in_err-right-clause-halts : goal.expression-returns-in_err-right-clause-halts
 expression-returns-in_err-right-clause-halts t c =
-    stops_so _ _ c.from_residual-in_err-right.ensures.1
+    passes_on _ _ c.from_residual-in_err-right.ensures.1
     (r.expression_in_assigned c.args.level c.in_default.ensures.none c.in_ok-left.ensures.ok c.in-Some-after.ensures.found c.in_err-right.ensures.halts)
 
 pub expression-returns-clause-ok : goal.expression-returns-clause-ok
@@ -47,20 +48,20 @@ expression-returns-clause-ok t c = r.expression_assign c.args.level c.in_default
 
 pub function-returns-in_err-first-clause-halts : goal.function-returns-in_err-first-clause-halts
 function-returns-in_err-first-clause-halts t c =
-    stops_so _ _ c.from_residual.ensures.1 (halts_first (r.function_rest c.args.level) c.in_err-first.ensures.halts)
+    passes_on _ _ c.from_residual.ensures.1 (halts_first (r.function_rest c.args.level) c.in_err-first.ensures.halts)
 
 pub function-returns-in_err-names-clause-halts : goal.function-returns-in_err-names-clause-halts
 function-returns-in_err-names-clause-halts t c =
-    stops_so _ _ c.from_residual-in_err-names.ensures.1 (r.function_in_names c.args.level c.in_ok-first.ensures.ok c.in_err-names.ensures.halts)
+    passes_on _ _ c.from_residual-in_err-names.ensures.1 (r.function_in_names c.args.level c.in_ok-first.ensures.ok c.in_err-names.ensures.halts)
 
 pub function-returns-in_err-rest-clause-halts : goal.function-returns-in_err-rest-clause-halts
 function-returns-in_err-rest-clause-halts t c =
-    stops_so _ _ c.from_residual-in_err-rest.ensures.1
+    passes_on _ _ c.from_residual-in_err-rest.ensures.1
     (r.function_no_arrow c.args.level c.in_ok-first.ensures.ok c.in_ok-names.ensures.ok c.in_err-rest.ensures.halts)
 
 pub function-returns-in_err-body-clause-halts : goal.function-returns-in_err-body-clause-halts
 function-returns-in_err-body-clause-halts t c =
-    stops_so _ _ c.from_residual-in_err-body.ensures.1
+    passes_on _ _ c.from_residual-in_err-body.ensures.1
     (r.function_in_body c.args.level c.in_ok-first.ensures.ok c.in_ok-names.ensures.ok c.in_ok-rest.ensures.ok c.in_err-body.ensures.halts)
 
 pub function-returns-clause-ok : goal.function-returns-clause-ok
@@ -72,7 +73,7 @@ function-returns-clause-ok t c = r.function_reads c.args.level c.args.at c.in_ok
 
 pub sum-returns-in_err-first-clause-halts : goal.sum-returns-in_err-first-clause-halts
 sum-returns-in_err-first-clause-halts t c =
-    stops_so _ _ c.from_residual.ensures.1 (r.sum_no_first c.args.level c.in_err-first.ensures.halts)
+    passes_on _ _ c.from_residual.ensures.1 (r.sum_no_first c.args.level c.in_err-first.ensures.halts)
 
 pub sum-returns-in_default-clause-ok : goal.sum-returns-in_default-clause-ok
 sum-returns-in_default-clause-ok t c = r.sum_alone c.args.level c.in_ok-first.ensures.ok c.in_default.ensures.none
@@ -85,7 +86,7 @@ sum-products-init t c = record {
 
 pub sum-returns-in_err-next-clause-halts : goal.sum-returns-in_err-next-clause-halts
 sum-returns-in_err-next-clause-halts t c =
-    stops_so _ _ c.from_residual-in_err-next.ensures.1 (r.chain_halts c.products.invariant.read c.in_err-next.ensures.halts)
+    passes_on _ _ c.from_residual-in_err-next.ensures.1 (r.chain_halts c.products.invariant.read c.in_err-next.ensures.halts)
 
 pub sum-returns-in_default-after-clause-ok : goal.sum-returns-in_default-after-clause-ok
 sum-returns-in_default-after-clause-ok t c = r.sum_done c.args.level c.products.terms.items c.in_ok-next.next c.products.invariant.read c.in_ok-next.ensures.ok
@@ -105,7 +106,7 @@ sum-products-smaller t c = smaller_behind c.in_ok-next.ensures.ok c.in-Some-afte
 
 pub product-returns-in_err-first-clause-halts : goal.product-returns-in_err-first-clause-halts
 product-returns-in_err-first-clause-halts t c =
-    stops_so _ _ c.from_residual.ensures.1 (r.product_no_first c.args.level c.in_err-first.ensures.halts)
+    passes_on _ _ c.from_residual.ensures.1 (r.product_no_first c.args.level c.in_err-first.ensures.halts)
 
 pub product-returns-in_default-clause-ok : goal.product-returns-in_default-clause-ok
 product-returns-in_default-clause-ok t c = r.product_alone c.args.level c.in_ok-first.ensures.ok c.in_default.ensures.none
@@ -118,7 +119,7 @@ product-applications-init t c = record {
 
 pub product-returns-in_err-next-clause-halts : goal.product-returns-in_err-next-clause-halts
 product-returns-in_err-next-clause-halts t c =
-    stops_so _ _ c.from_residual-in_err-next.ensures.1 (r.chain_halts c.applications.invariant.read c.in_err-next.ensures.halts)
+    passes_on _ _ c.from_residual-in_err-next.ensures.1 (r.chain_halts c.applications.invariant.read c.in_err-next.ensures.halts)
 
 pub product-returns-in_default-after-clause-ok : goal.product-returns-in_default-after-clause-ok
 product-returns-in_default-after-clause-ok t c = r.product_done c.args.level c.applications.terms.items c.in_ok-next.next c.applications.invariant.read
@@ -138,7 +139,7 @@ product-applications-smaller t c = smaller_behind c.in_ok-next.ensures.ok c.in-S
 
 pub application-returns-in_err-operand-clause-halts : goal.application-returns-in_err-operand-clause-halts
 application-returns-in_err-operand-clause-halts t c =
-    stops_so _ _ c.from_residual.ensures.1 (r.clean_halts c.args.level c.in-Some.ensures.found c.in_err-operand.ensures.halts)
+    passes_on _ _ c.from_residual.ensures.1 (r.clean_halts c.args.level c.in-Some.ensures.found c.in_err-operand.ensures.halts)
 
 pub application-returns-in-Some-clause-ok : goal.application-returns-in-Some-clause-ok
 application-returns-in-Some-clause-ok t c = r.application_clean c.args.level c.in-Some.ensures.found c.in_ok-operand.ensures.ok
@@ -146,7 +147,7 @@ application-returns-in-Some-clause-ok t c = r.application_clean c.args.level c.i
 
 pub application-returns-in_err-operand-2-clause-halts : goal.application-returns-in_err-operand-2-clause-halts
 application-returns-in_err-operand-2-clause-halts t c =
-    stops_so _ _ c.from_residual-in_err-operand-2.ensures.1 (r.assert_halts c.args.level c.in-Some-after_word.ensures.found c.in_err-operand-2.ensures.halts)
+    passes_on _ _ c.from_residual-in_err-operand-2.ensures.1 (r.assert_halts c.args.level c.in-Some-after_word.ensures.found c.in_err-operand-2.ensures.halts)
 
 pub application-returns-in-Some-after_word-clause-ok : goal.application-returns-in-Some-after_word-clause-ok
 application-returns-in-Some-after_word-clause-ok t c = r.application_assert c.args.level c.in-Some-after_word.ensures.found c.in_ok-operand-2.ensures.ok
@@ -154,11 +155,11 @@ application-returns-in-Some-after_word-clause-ok t c = r.application_assert c.ar
 
 pub application-returns-in_err-first-clause-halts : goal.application-returns-in_err-first-clause-halts
 application-returns-in_err-first-clause-halts t c =
-    stops_so _ _ c.from_residual-in_err-first.ensures.1 (r.append_halts c.args.level c.in-Some-after_word-2.ensures.found c.in_err-first.ensures.halts)
+    passes_on _ _ c.from_residual-in_err-first.ensures.1 (r.append_halts c.args.level c.in-Some-after_word-2.ensures.found c.in_err-first.ensures.halts)
 
 pub application-returns-in_err-second-clause-halts : goal.application-returns-in_err-second-clause-halts
 application-returns-in_err-second-clause-halts t c =
-    stops_so _ _ c.from_residual-in_err-second.ensures.1
+    passes_on _ _ c.from_residual-in_err-second.ensures.1
     (r.append_halts_second c.args.level c.in-Some-after_word-2.ensures.found c.in_ok-first.ensures.ok c.in_err-second.ensures.halts)
 
 pub application-returns-in-Some-after_word-2-clause-ok : goal.application-returns-in-Some-after_word-2-clause-ok
@@ -167,11 +168,11 @@ application-returns-in-Some-after_word-2-clause-ok t c = r.application_append c.
 
 pub application-returns-in_err-by-clause-halts : goal.application-returns-in_err-by-clause-halts
 application-returns-in_err-by-clause-halts t c =
-    stops_so _ _ c.from_residual-in_err-by.ensures.1 (r.rotate_halts c.args.level c.in-Some-after_word-3.ensures.found c.in_err-by.ensures.halts)
+    passes_on _ _ c.from_residual-in_err-by.ensures.1 (r.rotate_halts c.args.level c.in-Some-after_word-3.ensures.found c.in_err-by.ensures.halts)
 
 pub application-returns-in_err-operand-3-clause-halts : goal.application-returns-in_err-operand-3-clause-halts
 application-returns-in_err-operand-3-clause-halts t c =
-    stops_so _ _ c.from_residual-in_err-operand-3.ensures.1
+    passes_on _ _ c.from_residual-in_err-operand-3.ensures.1
     (r.rotate_halts_second c.args.level c.in-Some-after_word-3.ensures.found c.in_ok-by.ensures.ok c.in_err-operand-3.ensures.halts)
 
 pub application-returns-in-Some-after_word-3-clause-ok : goal.application-returns-in-Some-after_word-3-clause-ok
@@ -202,7 +203,7 @@ application-returns-clause-halts t c = IfErr-weaker c.atoms.result _ _
 
 pub atoms-returns-in_err-head-clause-halts : goal.atoms-returns-in_err-head-clause-halts
 atoms-returns-in_err-head-clause-halts t c =
-    stops_so _ _ c.from_residual.ensures.1 (r.atoms_halt c.args.level c.in_err-head.ensures.halts)
+    passes_on _ _ c.from_residual.ensures.1 (r.atoms_halt c.args.level c.in_err-head.ensures.halts)
 
 pub atoms-returns-then-not-begins_base-clause-ok : goal.atoms-returns-then-not-begins_base-clause-ok
 atoms-returns-then-not-begins_base-clause-ok t c = r.atom_alone c.args.level c.in_ok-head.ensures.ok (sym c.begins_base.ensures ∙ c.if-not-begins_base.true)
@@ -215,7 +216,7 @@ atoms-arguments-init t c = record {
 
 pub atoms-returns-in_err-next-clause-halts : goal.atoms-returns-in_err-next-clause-halts
 atoms-returns-in_err-next-clause-halts t c =
-    stops_so _ _ c.from_residual-in_err-next.ensures.1 (r.chain_halts c.arguments.invariant.read c.in_err-next.ensures.halts)
+    passes_on _ _ c.from_residual-in_err-next.ensures.1 (r.chain_halts c.arguments.invariant.read c.in_err-next.ensures.halts)
 
 pub atoms-returns-then-not-begins_base-2-clause-ok : goal.atoms-returns-then-not-begins_base-2-clause-ok
 atoms-returns-then-not-begins_base-2-clause-ok t c = r.arguments_done c.args.level
@@ -235,11 +236,11 @@ atoms-arguments-smaller t c = c.in_ok-next.ensures.ok.shorter
 
 pub atom-returns-in_err-inner-clause-halts : goal.atom-returns-in_err-inner-clause-halts
 atom-returns-in_err-inner-clause-halts t c =
-    stops_so _ _ c.from_residual.ensures.1 (r.atom_in_base c.args.level c.in_err-inner.ensures.halts)
+    passes_on _ _ c.from_residual.ensures.1 (r.atom_in_base c.args.level c.in_err-inner.ensures.halts)
 
 pub atom-returns-in_err-parts-clause-halts : goal.atom-returns-in_err-parts-clause-halts
 atom-returns-in_err-parts-clause-halts t c =
-    stops_so _ _ c.from_residual-in_err-parts.ensures.1 (r.atom_in_parts c.args.level c.in_ok-inner.ensures.ok c.in_err-parts.ensures.halts)
+    passes_on _ _ c.from_residual-in_err-parts.ensures.1 (r.atom_in_parts c.args.level c.in_ok-inner.ensures.ok c.in_err-parts.ensures.halts)
 
 pub atom-returns-then-is_empty-clause-ok : goal.atom-returns-then-is_empty-clause-ok
 atom-returns-then-is_empty-clause-ok t c =
@@ -264,7 +265,7 @@ base-returns-in-Some-after_word-clause-ok t c = r.base_false c.args.level c.in-S
 
 pub base-returns-in_err-inner-clause-halts : goal.base-returns-in_err-inner-clause-halts
 base-returns-in_err-inner-clause-halts t c =
-    stops_so _ _ c.from_residual.ensures.1
+    passes_on _ _ c.from_residual.ensures.1
     (r.register_no_level c.args.level c.in-Some-after_word-2.ensures.found c.in_err-inner.ensures.deep _ c.in_err-inner.ensures.stops)
 
 pub base-returns-in-Some-after_word-2-clause-ok : goal.base-returns-in-Some-after_word-2-clause-ok
@@ -279,18 +280,18 @@ base-returns-in-Some-after_word-2-clause-halts t c = IfErr-weaker c.register.res
 
 pub base-returns-in_err-inner-2-clause-halts : goal.base-returns-in_err-inner-2-clause-halts
 base-returns-in_err-inner-2-clause-halts t c =
-    stops_so _ _ c.from_residual-in_err-inner-2.ensures.1
+    passes_on _ _ c.from_residual-in_err-inner-2.ensures.1
     (r.bracket_no_level c.args.level c.in-Some-after.ensures.found c.in_err-inner-2.ensures.deep _ c.in_err-inner-2.ensures.stops)
 
 pub base-returns-in_err-term-clause-halts : goal.base-returns-in_err-term-clause-halts
 base-returns-in_err-term-clause-halts t c =
-    stops_so _ _ c.from_residual-in_err-term.ensures.1
+    passes_on _ _ c.from_residual-in_err-term.ensures.1
     (r.in_bracket_halts c.args.level c.in-Some-after.ensures.found c.in_ok-inner-2.ensures.inner
     c.in_ok-inner-2.ensures.within c.in_err-term.ensures.halts)
 
 pub base-returns-in_err-rest-clause-halts : goal.base-returns-in_err-rest-clause-halts
 base-returns-in_err-rest-clause-halts t c =
-    stops_so _ _ c.from_residual-in_err-rest.ensures.1
+    passes_on _ _ c.from_residual-in_err-rest.ensures.1
     (r.bracket_unclosed c.args.level c.in-Some-after.ensures.found c.in_ok-inner-2.ensures.inner
     c.in_ok-inner-2.ensures.within c.in_ok-term.ensures.ok c.in_err-rest.ensures.halts)
 
@@ -300,7 +301,7 @@ base-returns-in-Some-after-clause-ok t c = r.base_bracket c.args.level c.in-Some
 
 pub base-returns-in_err-inner-3-clause-halts : goal.base-returns-in_err-inner-3-clause-halts
 base-returns-in_err-inner-3-clause-halts t c =
-    stops_so _ _ c.from_residual-in_err-inner-3.ensures.1
+    passes_on _ _ c.from_residual-in_err-inner-3.ensures.1
     (r.block_no_level c.args.level c.in-Some-after-2.ensures.found c.in_err-inner-3.ensures.deep _ c.in_err-inner-3.ensures.stops)
 
 pub base-returns-in-Some-after-2-clause-ok : goal.base-returns-in-Some-after-2-clause-ok
@@ -315,7 +316,7 @@ base-returns-in-Some-after-2-clause-halts t c = IfErr-weaker c.block.result _ _
 
 pub base-returns-in_err-used-clause-halts : goal.base-returns-in_err-used-clause-halts
 base-returns-in_err-used-clause-halts t c =
-    stops_so _ _ c.from_residual-in_err-used.ensures.1 (r.base_no_use c.args.level
+    passes_on _ _ c.from_residual-in_err-used.ensures.1 (r.base_no_use c.args.level
     (record {
       no_true = c.in_default.ensures.none;
       no_false = c.in_default-after_word.ensures.none;
@@ -338,18 +339,18 @@ base-returns-clause-ok t c = r.base_use c.args.level
 
 pub register-returns-in_err-behind-clause-halts : goal.register-returns-in_err-behind-clause-halts
 register-returns-in_err-behind-clause-halts t c =
-    stops_so _ _ c.from_residual.ensures.1 (halts_first (r.register_rest c.args.level) c.in_err-behind.ensures.halts)
+    passes_on _ _ c.from_residual.ensures.1 (halts_first (r.register_rest c.args.level) c.in_err-behind.ensures.halts)
 
 pub register-elements-init : goal.register-elements-init
 register-elements-init t c = record { read = r.register_begun c.args.level c.in_ok-behind.ensures.ok c.new-elements.ensures.items }
 
 pub register-returns-in_err-next-clause-halts : goal.register-returns-in_err-next-clause-halts
 register-returns-in_err-next-clause-halts t c =
-    stops_so _ _ c.from_residual-in_err-next.ensures.1 (r.register_halts c.args.level c.elements.invariant.read c.in_err-next.ensures.halts)
+    passes_on _ _ c.from_residual-in_err-next.ensures.1 (r.register_halts c.args.level c.elements.invariant.read c.in_err-next.ensures.halts)
 
 pub register-returns-in_err-rest-clause-halts : goal.register-returns-in_err-rest-clause-halts
 register-returns-in_err-rest-clause-halts t c =
-    stops_so _ _ c.from_residual-in_err-rest.ensures.1
+    passes_on _ _ c.from_residual-in_err-rest.ensures.1
     (r.register_unclosed c.args.level c.elements.invariant.read c.in_ok-next.ensures.ok c.in_default.ensures.none c.in_err-rest.ensures.halts)
 
 pub register-returns-in_default-clause-ok : goal.register-returns-in_default-clause-ok
@@ -373,7 +374,7 @@ block-items-init t c = record { read = r.block_begun c.args.level c.args.tokens.
 
 pub block-returns-in_err-next-clause-halts : goal.block-returns-in_err-next-clause-halts
 block-returns-in_err-next-clause-halts t c =
-    stops_so _ _ c.from_residual.ensures.1 (r.block_halts c.args.level c.items.invariant.read c.in_err-next.ensures.halts)
+    passes_on _ _ c.from_residual.ensures.1 (r.block_halts c.args.level c.items.invariant.read c.in_err-next.ensures.halts)
 
 pub block-items-preserved : goal.block-items-preserved
 block-items-preserved t c =
@@ -395,14 +396,14 @@ block-returns-in-Last-clause-ok t c =
 
 pub item_or_last-returns-in_err-item-clause-halts : goal.item_or_last-returns-in_err-item-clause-halts
 item_or_last-returns-in_err-item-clause-halts t c =
-    stops_so _ _ c.from_residual.ensures.1 (r.let_halts c.args.level c.in-Some.ensures.found c.in_err-item.ensures.halts)
+    passes_on _ _ c.from_residual.ensures.1 (r.let_halts c.args.level c.in-Some.ensures.found c.in_err-item.ensures.halts)
 
 pub item_or_last-returns-in-Some-clause-ok : goal.item_or_last-returns-in-Some-clause-ok
 item_or_last-returns-in-Some-clause-ok t c = r.item_let c.args.level c.in-Some.ensures.found c.in_ok-item.ensures.ok
 
 pub item_or_last-returns-in_err-term-clause-halts : goal.item_or_last-returns-in_err-term-clause-halts
 item_or_last-returns-in_err-term-clause-halts t c =
-    stops_so _ _ c.from_residual-in_err-term.ensures.1 (r.do_halts c.args.level c.in_default.ensures.none c.in_err-term.ensures.halts)
+    passes_on _ _ c.from_residual-in_err-term.ensures.1 (r.do_halts c.args.level c.in_default.ensures.none c.in_err-term.ensures.halts)
 
 pub item_or_last-returns-in-Some-after-clause-ok : goal.item_or_last-returns-in-Some-after-clause-ok
 item_or_last-returns-in-Some-after-clause-ok t c = r.item_do c.args.level c.in_default.ensures.none c.in_ok-term.ensures.ok c.in-Some-after.ensures.found
@@ -410,7 +411,7 @@ item_or_last-returns-in-Some-after-clause-ok t c = r.item_do c.args.level c.in_d
 
 pub item_or_last-returns-in_err-rest-clause-halts : goal.item_or_last-returns-in_err-rest-clause-halts
 item_or_last-returns-in_err-rest-clause-halts t c =
-    stops_so _ _ c.from_residual-in_err-rest.ensures.1
+    passes_on _ _ c.from_residual-in_err-rest.ensures.1
     (r.last_unclosed c.args.level c.in_default.ensures.none c.in_ok-term.ensures.ok c.in_default-after.ensures.none c.in_err-rest.ensures.halts)
 
 pub item_or_last-returns-clause-ok : goal.item_or_last-returns-clause-ok
@@ -421,25 +422,25 @@ item_or_last-returns-clause-ok t c = r.last_reads c.args.level c.in_default.ensu
 
 pub binding-returns-in_err-bound-clause-halts : goal.binding-returns-in_err-bound-clause-halts
 binding-returns-in_err-bound-clause-halts t c =
-    stops_so _ _ c.from_residual.ensures.1 (halts_first (r.binding_rest c.args.level) c.in_err-bound.ensures.halts)
+    passes_on _ _ c.from_residual.ensures.1 (halts_first (r.binding_rest c.args.level) c.in_err-bound.ensures.halts)
 
 pub binding-returns-in_err-names-clause-halts : goal.binding-returns-in_err-names-clause-halts
 binding-returns-in_err-names-clause-halts t c =
-    stops_so _ _ c.from_residual-in_err-names.ensures.1 (r.binding_in_names c.args.level c.in_ok-bound.ensures.ok c.in_err-names.ensures.halts)
+    passes_on _ _ c.from_residual-in_err-names.ensures.1 (r.binding_in_names c.args.level c.in_ok-bound.ensures.ok c.in_err-names.ensures.halts)
 
 pub binding-returns-in_err-rest-clause-halts : goal.binding-returns-in_err-rest-clause-halts
 binding-returns-in_err-rest-clause-halts t c =
-    stops_so _ _ c.from_residual-in_err-rest.ensures.1
+    passes_on _ _ c.from_residual-in_err-rest.ensures.1
     (r.binding_no_equal c.args.level c.in_ok-bound.ensures.ok c.in_ok-names.ensures.ok c.in_err-rest.ensures.halts)
 
 pub binding-returns-in_err-body-clause-halts : goal.binding-returns-in_err-body-clause-halts
 binding-returns-in_err-body-clause-halts t c =
-    stops_so _ _ c.from_residual-in_err-body.ensures.1
+    passes_on _ _ c.from_residual-in_err-body.ensures.1
     (r.binding_in_value c.args.level c.in_ok-bound.ensures.ok c.in_ok-names.ensures.ok c.in_ok-rest.ensures.ok c.in_err-body.ensures.halts)
 
 pub binding-returns-in_err-rest-2-clause-halts : goal.binding-returns-in_err-rest-2-clause-halts
 binding-returns-in_err-rest-2-clause-halts t c =
-    stops_so _ _ c.from_residual-in_err-rest-2.ensures.1
+    passes_on _ _ c.from_residual-in_err-rest-2.ensures.1
     (r.binding_no_semi c.args.level c.in_ok-bound.ensures.ok c.in_ok-names.ensures.ok c.in_ok-rest.ensures.ok c.in_ok-body.ensures.ok
     c.in_err-rest-2.ensures.halts)
 

@@ -1,6 +1,6 @@
-use Rattle.revs_parser.proofs.PassingLemmas.{stops_so}
 use Rattle.revs_parser.proofs.ReadingLemmas.{parts_begun, parts_more, parts_halt, parts_done}
 use Rattle.revs_parser.proofs.expression.all_parts.Goals as goal
+use Rattle.revc_base.proofs.ResultLemmas.{passes_on}
 
 pub loop-at-preserved : goal.loop-at-preserved
 loop-at-preserved c = record { read = parts_more c.loop-at.invariant.read c.in-Some.ensures.found c.in_ok-next.ensures.ok c.in_ok-push.ensures.items }
@@ -13,4 +13,4 @@ loop-at-init c = record { read = parts_begun c.new-parts.result.items c.args.tok
 
 pub returns-in_err-next-clause-halts : goal.returns-in_err-next-clause-halts
 returns-in_err-next-clause-halts c =
-    stops_so _ _ c.from_residual.ensures.1 (parts_halt c.loop-at.invariant.read c.in-Some.ensures.found c.in_err-next.ensures.halts)
+    passes_on _ _ c.from_residual.ensures.1 (parts_halt c.loop-at.invariant.read c.in-Some.ensures.found c.in_err-next.ensures.halts)

@@ -1,11 +1,11 @@
-use Rattle.revs_parser.proofs.PassingLemmas.{stops_so}
 use Rattle.std.proofs.Common.{sym, ◌∙◌}
 use Rattle.revs_parser.proofs.ReadingLemmas.{names_begun, names_more, names_done, names_halt}
 use Rattle.revs_parser.proofs.expression.more_names.Goals as goal
+use Rattle.revc_base.proofs.ResultLemmas.{passes_on}
 
 pub returns-in_err-next-clause-halts : goal.returns-in_err-next-clause-halts
 returns-in_err-next-clause-halts c =
-    stops_so _ _ c.from_residual.ensures.1
+    passes_on _ _ c.from_residual.ensures.1
     (names_halt c.loop-rest.invariant.read (sym c.begins_name.ensures ∙ c.loop-rest-test.true) c.in_err-next.ensures.halts)
 
 pub loop-rest-preserved : goal.loop-rest-preserved

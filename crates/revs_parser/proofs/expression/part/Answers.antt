@@ -1,10 +1,10 @@
-use Rattle.revs_parser.proofs.PassingLemmas.{stops_so}
 use Rattle.revs_parser.proofs.ReadingLemmas.{part_index, part_slice, part_unclosed}
 use Rattle.revs_parser.proofs.expression.part.Goals as goal
+use Rattle.revc_base.proofs.ResultLemmas.{passes_on}
 
 pub returns-in_err-rest-2-clause-halts : goal.returns-in_err-rest-2-clause-halts
 returns-in_err-rest-2-clause-halts c =
-    stops_so _ _ c.from_residual-in_err-rest-2.ensures.1
+    passes_on _ _ c.from_residual-in_err-rest-2.ensures.1
     (part_unclosed c.in_ok-rest.ensures.ok c.in_ok-i.ensures.ok c.in_default.ensures.none c.in_err-rest-2.ensures.halts)
 
 pub returns-in_default-clause-ok : goal.returns-in_default-clause-ok

@@ -1,6 +1,6 @@
-use Rattle.revs_parser.proofs.PassingLemmas.{stops_so}
 use Rattle.revs_parser.proofs.ProgramLemmas.{parameters_begun, parameters_more, parameters_done, parameters_halt}
 use Rattle.revs_parser.proofs.program.parameters.Goals as goal
+use Rattle.revc_base.proofs.ResultLemmas.{passes_on}
 
 pub loop-params-init : goal.loop-params-init
 loop-params-init c = record { read = parameters_begun c.args.params.items c.args.tokens.now }
@@ -13,7 +13,7 @@ loop-params-preserved c = record {
 
 pub returns-in_err-next-clause-halts : goal.returns-in_err-next-clause-halts
 returns-in_err-next-clause-halts c =
-    stops_so _ _ c.from_residual.ensures.1 (parameters_halt c.loop-params.invariant.read c.in-Some.ensures.found c.in_err-next.ensures.halts)
+    passes_on _ _ c.from_residual.ensures.1 (parameters_halt c.loop-params.invariant.read c.in-Some.ensures.found c.in_err-next.ensures.halts)
 
 pub returns-clause-ok : goal.returns-clause-ok
 returns-clause-ok c = parameters_done c.loop-params.invariant.read c.in_default.ensures.none

@@ -1,11 +1,11 @@
 use Rattle.std.proofs.Common.{sym, ◌∙◌}
-use Rattle.revs_parser.proofs.PassingLemmas.{stops_so}
 use Rattle.revs_parser.proofs.ProgramLemmas.{ended, not_at_end, halt_is_right}
 use Rattle.revs_parser.proofs.program.whole.Goals as goal
+use Rattle.revc_base.proofs.ResultLemmas.{passes_on}
 
 pub returns-in_err-params-clause-refused : goal.returns-in_err-params-clause-refused
 returns-in_err-params-clause-refused c =
-    stops_so _ _ c.from_residual.ensures.1 (halt_is_right c.args.tokens.now c.in_err-params.field-0.0 c.requires c.in_err-params.ensures.halts)
+    passes_on _ _ c.from_residual.ensures.1 (halt_is_right c.args.tokens.now c.in_err-params.field-0.0 c.requires c.in_err-params.ensures.halts)
 
 pub returns-then-not-ends-clause-refused : goal.returns-then-not-ends-clause-refused
 returns-then-not-ends-clause-refused c =

@@ -1,10 +1,10 @@
-use Rattle.revs_parser.proofs.PassingLemmas.{stops_so}
 use Rattle.revs_parser.proofs.ProgramLemmas.{no_width, some_width, width_unclosed}
 use Rattle.revs_parser.proofs.program.width.Goals as goal
+use Rattle.revc_base.proofs.ResultLemmas.{passes_on}
 
 pub returns-in_err-rest-clause-halts : goal.returns-in_err-rest-clause-halts
 returns-in_err-rest-clause-halts c =
-    stops_so _ _ c.from_residual.ensures.1 (width_unclosed c.in_default.ensures.none c.in_err-rest.ensures.halts)
+    passes_on _ _ c.from_residual.ensures.1 (width_unclosed c.in_default.ensures.none c.in_err-rest.ensures.halts)
 
 pub returns-clause-ok : goal.returns-clause-ok
 returns-clause-ok c = some_width c.in-Some.ensures.found c.in_ok-bits.ensures.ok c.in_ok-rest-2.ensures.ok c.in_ok-rest-3.ensures.ok

@@ -12,7 +12,8 @@ use Rattle.std.proofs.lemmas.Result.{IfOk-weaker, IfErr-weaker}
 use Rattle.inliner.proofs.ProgressLemmas.{on_ok_alone, ends_goes, ends_calls, said, goes_in, says_in}
 use Rattle.inliner.proofs.ChainLemmas.{entered, assigns_from, assigns_stuck, reg_made, reg_stuck, bits_begun, bits_more}
 use Rattle.inliner.proofs.ChainLemmas.{bits_stuck, bits_done, chain_begun, chain_more, chain_stuck, chain_done}
-use Rattle.inliner.proofs.CallLemmas.{mapped_at, mapped_end, passes_on, block_more, block_stuck, at_begun, append_second, append_stuck, apply_begun, apply_more}
+use Rattle.inliner.proofs.CallLemmas.{mapped_at, mapped_end, block_more, block_stuck, at_begun, append_second, append_stuck, apply_begun, apply_more}
+use Rattle.revc_base.proofs.ResultLemmas.{passes_on}
 use Rattle.inliner.proofs.CallLemmas.{apply_stuck, argument_run, call_stuck, call_last, call_next, call_ends, call_said, item_bound, item_run, block_term}
 use Rattle.inliner.specs.inside.Calls.{Says, item_step}
 use Rattle.inliner.proofs.machine.Machine.+run.Goals as goal
