@@ -1,5 +1,5 @@
 // The tests of revc_words.
-use plan_choice::How;
+use gate_split::How;
 use revc_words::{Command, Format, WordsFault, read_words};
 use std::alloc::{AllocError, Global};
 use std::test::Fail;

@@ -3,6 +3,7 @@
 //! 1995); and the types that plans share.
 #![tactic(auto)]
 
+mod choice;
 mod fault;
 mod idle;
 mod law;
@@ -12,6 +13,7 @@ mod roles;
 mod walk;
 mod wide;
 
+pub use choice::How;
 pub use fault::SplitFault;
 pub use law::{clean_circuits_borrow, narrow_stay, roomy_flips_are_split, split_costs};
 pub use plan::{Budget, Laid, MOST_BORROWED, MOST_GATES, MOST_LINES, PlanFault, Planned};

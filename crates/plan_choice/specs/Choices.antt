@@ -9,8 +9,8 @@ use Rattle.gate_split.specs.declared.plan.PlanFault.{PlanFault}
 use Rattle.gate_split.specs.declared.plan.PlanFault.TheVariants.{Lines, Gates, Memory}
 use Rattle.gate_split.specs.Plans.{BudgetView, LaidView, MapsCleanly, roles_of}
 use Rattle.held_nodes.specs.Plans.{wanted_lines}
-use Rattle.plan_choice.specs.declared.choice.How.{How}
-use Rattle.plan_choice.specs.declared.choice.How.TheVariants.{Auto, Eager, Pebble}
+use Rattle.gate_split.specs.declared.choice.How.{How}
+use Rattle.gate_split.specs.declared.choice.How.TheVariants.{Auto, Eager, Pebble}
 
 -- ---- rows of the budget numbers
 

@@ -2,11 +2,10 @@
 ghost use Rattle.std.specs.Prelude.{IfOk, IfErr};
 ghost use Rattle.plan_choice.specs.Choices.{IsChoiceFault, IsLaidFor};
 
-use crate::How;
 use crate::laying::{is_refused, lay_eager};
 use crate::search::lay_pebbling;
 use claim_check::Settled;
-use gate_split::{Budget, Laid, PlanFault};
+use gate_split::{Budget, How, Laid, PlanFault};
 use std::alloc::Global;
 
 /// The first plan that fits the budget, with its gates split on all its lines and the borrowed

@@ -1,6 +1,6 @@
 // The search for the size of a block.
 ghost use Rattle.std.specs.Prelude.{IfOk, IfErr};
-ghost use Rattle.plan_choice.specs.declared.choice.How.TheVariants.{Pebble};
+ghost use Rattle.gate_split.specs.declared.choice.How.TheVariants.{Pebble};
 ghost use Rattle.plan_choice.specs.Choices.{IsChoiceFault, IsLaidFor};
 
 use crate::laying::{is_refused, lay_blocks};

@@ -151,4 +151,3 @@ settling_fault order text faults.Memory h = tt
 settling_fault order text (faults.Lines need limit) h = absurd h
 settling_fault order text (faults.Gates limit) h = absurd h
 settling_fault order text fault h = h
-

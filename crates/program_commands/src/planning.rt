@@ -8,8 +8,8 @@ ghost use Rattle.program_commands.specs.inside.Plans.{IsPlannedFor, IsPlanningFa
 use crate::settling::settle_text;
 use claim_check::Settled;
 use command_answers::Fault;
-use gate_split::{Budget, Laid, PlanFault};
-use plan_choice::{How, choose};
+use gate_split::{Budget, How, Laid, PlanFault};
+use plan_choice::choose;
 use revc_base::Tape;
 use revc_words::Order;
 use revs_parser::MOST_BYTES;

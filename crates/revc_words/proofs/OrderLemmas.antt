@@ -13,7 +13,7 @@ use Rattle.std.proofs.lemmas.Slice.Eq.{bytes_eq-Decides}
 use Rattle.std.proofs.lemmas.Str.{IsUtf8-string_bytes}
 use Rattle.clap.specs.Simple.{argument_words, built}
 use Rattle.clap.specs.Words.{Row, first_of}
-use Rattle.plan_choice.specs.declared.choice.How.{How}
+use Rattle.gate_split.specs.declared.choice.How.{How}
 use Rattle.program_gen.specs.declared.adder.TheConstants.{MOST_BITS}
 use Rattle.revc_words.specs.declared.fault.WordsFault.{WordsFault}
 use Rattle.revc_words.specs.declared.fault.WordsFault.TheVariants as faults

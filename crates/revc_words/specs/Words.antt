@@ -7,8 +7,8 @@ use Rattle.std.specs.Str.Parse.{IsNumeral, digits_value}
 use Rattle.std.specs.Global.{Global}
 use Rattle.std.specs.declared.string.String.{String}
 use Rattle.gate_split.specs.declared.plan.TheConstants.{MOST_LINES, MOST_GATES, MOST_BORROWED}
-use Rattle.plan_choice.specs.declared.choice.How.{How}
-use Rattle.plan_choice.specs.declared.choice.How.TheVariants.{Auto, Eager, Pebble}
+use Rattle.gate_split.specs.declared.choice.How.{How}
+use Rattle.gate_split.specs.declared.choice.How.TheVariants.{Auto, Eager, Pebble}
 use Rattle.program_gen.specs.declared.adder.TheConstants.{MOST_BITS}
 use Rattle.revc_words.specs.declared.limits.TheConstants.{MOST_DIGITS, MOST_NODES, USUAL_LINES, USUAL_GATES, USUAL_NODES}
 use Rattle.revc_words.specs.declared.order.Command.{Command}

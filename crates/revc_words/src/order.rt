@@ -2,7 +2,7 @@
 ghost use Rattle.std.specs.Prelude.{◌≡◌};
 ghost use Rattle.revc_words.specs.Words.{first_word, order_of};
 
-use plan_choice::How;
+use gate_split::How;
 
 /// What is to be done.
 #[derive(Clone, Copy, PartialEq, Eq)]

@@ -9,8 +9,7 @@ use crate::{
     Command, Format, MOST_DIGITS, MOST_NODES, Order, USUAL_GATES, USUAL_LINES, USUAL_NODES,
 };
 use clap::ArgMatches;
-use gate_split::{MOST_BORROWED, MOST_GATES, MOST_LINES};
-use plan_choice::How;
+use gate_split::{How, MOST_BORROWED, MOST_GATES, MOST_LINES};
 
 /// The values of all options.
 #[derive(Clone, Copy)]

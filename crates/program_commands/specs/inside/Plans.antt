@@ -5,7 +5,7 @@ use Rattle.gate_split.specs.declared.plan.TheConstants.{MOST_LINES, MOST_GATES}
 use Rattle.gate_split.specs.Plans.{BudgetView, LaidView, lines_in, roles_of}
 use Rattle.held_nodes.specs.Plans.{wanted_lines}
 use Rattle.mct_circuit.specs.Gates.{AreGatesOn}
-use Rattle.plan_choice.specs.declared.choice.How.{How}
+use Rattle.gate_split.specs.declared.choice.How.{How}
 use Rattle.plan_choice.specs.Choices.{GatesAreFew, IsLaidFor, LinesAreFew}
 use Rattle.revc_base.specs.Tapes.{TapeView}
 use Rattle.revc_words.specs.Words.{OrderView}
