@@ -1,11 +1,11 @@
 use Rattle.std.proofs.Common.{rules, ◌≡◌, ◌∙◌, sym, refl, ℕ, ◌+◌, ◌-◌, not, ◌&&◌, subst, arith}
-use Rattle.std.proofs.lemmas.Result.{err_from_is_err_and}
 use Rattle.list_facts.specs.Bits.{bit_of}
 use Rattle.held_nodes.specs.Held.{is_held}
 use Rattle.bennett_pebbling.proofs.LowerLemmas.{IsLowering, lowering_begun, lowering_can, lowering_done, lowering_failed, lowering_more}
 use Rattle.bennett_pebbling.proofs.ReadyLemmas.{and_taken, and_left_out}
 use Rattle.bennett_pebbling.proofs.block.lower.Goals as goal
 use Rattle.bennett_pebbling.proofs.block.lower.Goals.{then-held, else-held}
+use Rattle.revc_base.proofs.ResultLemmas.{passes_on}
 
 pub toggle_if-requires-clause-can : goal.toggle_if-requires-clause-can
 toggle_if-requires-clause-can c =
@@ -28,8 +28,8 @@ returns-in_err-forward-clause-refused c =
       | then-held w ↦ and_taken _ _ _ _ (sym c.held-held.ensures.held ∙ w.if-held.true) refl w.toggle_if-is
       | else-held w ↦ and_left_out _ _ _ (sym c.held-held.ensures.held ∙ w.if-held.false) (w.toggle_if-is ∙ w.if-held.false)
     ] in
-    let p = err_from_is_err_and c.from_residual.result c.from_residual.ensures.1 in
-    rw (p.1, p.2) (lowering_failed c.args.forward c.args.lo c.args.wanted.now h k next now c.loop-k.invariant c.loop-k.auto.k c.requires.can
+    passes_on _ c.from_residual.result c.from_residual.ensures.1
+    (lowering_failed c.args.forward c.args.lo c.args.wanted.now h k next now c.loop-k.invariant c.loop-k.auto.k c.requires.can
     c.if-held.toggle_if turn c.in_err-forward.field-0.0 c.in_err-forward.ensures.refused)
 
 pub loop-k-preserved : goal.loop-k-preserved

@@ -1,11 +1,11 @@
 use Rattle.std.proofs.Common.{rules, ◌≡◌, ◌∙◌, ℕ, ◌+◌, suc, not, ◌&&◌, length, subst, arith}
-use Rattle.std.proofs.lemmas.Result.{err_from_is_err_and}
 use Rattle.list_facts.specs.Bits.{bit_of}
 use Rattle.held_nodes.specs.Held.{is_held}
 use Rattle.bennett_pebbling.proofs.RaiseLemmas.{IsRaising, raising_can, raising_done, raising_failed, raising_more}
 use Rattle.bennett_pebbling.proofs.ReadyLemmas.{and_taken, and_left_out}
 use Rattle.bennett_pebbling.proofs.block.raise.Goals as goal
 use Rattle.bennett_pebbling.proofs.block.raise.Goals.{then-marked, else-marked}
+use Rattle.revc_base.proofs.ResultLemmas.{passes_on}
 
 pub toggle_if-requires-clause-can : goal.toggle_if-requires-clause-can
 toggle_if-requires-clause-can c =
@@ -26,8 +26,8 @@ returns-in_err-forward-clause-refused c =
       | then-marked w ↦ and_taken _ _ c.held-held.result _ w.if-marked.true c.held-held.ensures.held w.toggle_if-is
       | else-marked w ↦ and_left_out _ _ _ w.if-marked.false (w.toggle_if-is ∙ w.if-marked.false)
     ] in
-    let p = err_from_is_err_and c.from_residual.result c.from_residual.ensures.1 in
-    rw (p.1, p.2) (raising_failed c.args.forward c.args.lo c.args.marks.now k now c.loop-k.invariant c.loop-k-test.true c.if-marked.toggle_if turn
+    passes_on _ c.from_residual.result c.from_residual.ensures.1
+    (raising_failed c.args.forward c.args.lo c.args.marks.now k now c.loop-k.invariant c.loop-k-test.true c.if-marked.toggle_if turn
     c.in_err-forward.field-0.0 c.in_err-forward.ensures.refused)
 
 pub loop-k-preserved : goal.loop-k-preserved

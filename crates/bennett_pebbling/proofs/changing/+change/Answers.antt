@@ -1,10 +1,11 @@
 use Rattle.std.proofs.Common.{length, arith}
-use Rattle.std.proofs.lemmas.Result.{IfOk-weaker, IfErr-weaker, err_from_is_err_and}
+use Rattle.std.proofs.lemmas.Result.{IfOk-weaker, IfErr-weaker}
 use Rattle.bennett_pebbling.specs.inside.Changes.{IsChanged, IsChangeFault}
 use Rattle.bennett_pebbling.proofs.ChangeLemmas.{changed_block, short_block}
 use Rattle.bennett_pebbling.proofs.HalfLemmas.{can_first, can_second, can_third, first_less, first_short, halves_changed, in_halves}
 use Rattle.bennett_pebbling.proofs.HalfLemmas.{second_less, second_short, third_less, third_short}
 use Rattle.bennett_pebbling.proofs.changing.+change.Goals as goal
+use Rattle.revc_base.proofs.ResultLemmas.{passes_on}
 
 pub returns-then-wanted-block-clause-changed : goal.returns-then-wanted-block-clause-changed
 returns-then-wanted-block-clause-changed t c =
@@ -34,8 +35,8 @@ returns-in_err-forward-clause-refused t c =
     let left = c.halves.result.0.now in let right = c.halves.result.1.now in let needed = c.deref.result.now in let half = length left in
     let h = in_halves f b lo wanted left right needed c.in_ok-needed.needed.items c.args.graph.now c.requires.can c.halves.ensures
     c.in_ok-needed.ensures c.deref.ensures.value c.if-wanted-block.false in
-    let p = err_from_is_err_and c.from_residual-in_err-forward.result c.from_residual-in_err-forward.ensures.1 in
-    rw (p.1, p.2) (first_short f b lo wanted left right needed half h c.in_err-forward.field-0.0 c.in_err-forward.ensures.refused)
+    passes_on _ c.from_residual-in_err-forward.result c.from_residual-in_err-forward.ensures.1
+    (first_short f b lo wanted left right needed half h c.in_err-forward.field-0.0 c.in_err-forward.ensures.refused)
 
 pub change-requires-2 : goal.change-requires-2
 change-requires-2 t c =
@@ -57,8 +58,8 @@ returns-in_err-forward-2-clause-refused t c =
     let left = c.halves.result.0.now in let right = c.halves.result.1.now in let needed = c.deref.result.now in let half = length left in
     let h = in_halves f b lo wanted left right needed c.in_ok-needed.needed.items c.args.graph.now c.requires.can c.halves.ensures
     c.in_ok-needed.ensures c.deref.ensures.value c.if-wanted-block.false in
-    let p = err_from_is_err_and c.from_residual-in_err-forward-2.result c.from_residual-in_err-forward-2.ensures.1 in
-    rw (p.1, p.2) (second_short f b lo wanted left right needed half h c.in_ok-forward.forward c.in_ok-forward.ensures.changed
+    passes_on _ c.from_residual-in_err-forward-2.result c.from_residual-in_err-forward-2.ensures.1
+    (second_short f b lo wanted left right needed half h c.in_ok-forward.forward c.in_ok-forward.ensures.changed
     c.in_err-forward-2.field-0.0 c.in_err-forward-2.ensures.refused)
 
 pub change-requires-3 : goal.change-requires-3

@@ -1,9 +1,10 @@
 use Rattle.std.proofs.Common.{◌+◌, length, arith}
-use Rattle.std.proofs.lemmas.Result.{IfOk-weaker, IfErr-weaker, err_from_is_err_and}
+use Rattle.std.proofs.lemmas.Result.{IfOk-weaker, IfErr-weaker}
 use Rattle.bennett_pebbling.specs.inside.Changes.{IsRisen, IsRiseFault}
 use Rattle.bennett_pebbling.proofs.ChangeLemmas.{risen_block, rise_short_block}
 use Rattle.bennett_pebbling.proofs.HalfLemmas.{can_first, can_second, first_rise_short, halves_rise_short, halves_risen, in_halves, second_less}
 use Rattle.bennett_pebbling.proofs.changing.+rise.Goals as goal
+use Rattle.revc_base.proofs.ResultLemmas.{passes_on}
 
 pub returns-then-wanted-block-clause-risen : goal.returns-then-wanted-block-clause-risen
 returns-then-wanted-block-clause-risen t c =
@@ -31,8 +32,8 @@ returns-in_err-forward-clause-refused t c =
     let left = c.halves.result.0.now in let right = c.halves.result.1.now in let needed = c.deref.result.now in let half = length left in
     let h = in_halves f b lo wanted left right needed c.in_ok-needed.needed.items c.args.graph.now c.requires.can c.halves.ensures
     c.in_ok-needed.ensures c.deref.ensures.value c.if-wanted-block.false in
-    let p = err_from_is_err_and c.from_residual-in_err-forward.result c.from_residual-in_err-forward.ensures.1 in
-    rw (p.1, p.2) (first_rise_short f b lo wanted left right needed half h c.in_err-forward.field-0.0 c.in_err-forward.ensures.refused)
+    passes_on _ c.from_residual-in_err-forward.result c.from_residual-in_err-forward.ensures.1
+    (first_rise_short f b lo wanted left right needed half h c.in_err-forward.field-0.0 c.in_err-forward.ensures.refused)
 
 pub rise-requires : goal.rise-requires
 rise-requires t c =

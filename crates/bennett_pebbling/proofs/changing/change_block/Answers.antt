@@ -1,9 +1,10 @@
 use Rattle.std.proofs.Common.{length}
-use Rattle.std.proofs.lemmas.Result.{IfOk-weaker, IfErr-weaker, err_from_is_err_and}
+use Rattle.std.proofs.lemmas.Result.{IfOk-weaker, IfErr-weaker}
 use Rattle.bennett_pebbling.specs.inside.Changes.{IsChanged, IsChangeFault, IsLowered, IsLowerFault}
 use Rattle.bennett_pebbling.specs.inside.Marks.{AreNeeds}
 use Rattle.bennett_pebbling.proofs.BlockLemmas.{block_can, block_changed, block_graph, lower_short, raise_short}
 use Rattle.bennett_pebbling.proofs.changing.change_block.Goals as goal
+use Rattle.revc_base.proofs.ResultLemmas.{passes_on}
 
 pub returns-clause-changed : goal.returns-clause-changed
 returns-clause-changed c =
@@ -27,8 +28,8 @@ pub returns-in_err-forward-clause-refused : goal.returns-in_err-forward-clause-r
 returns-in_err-forward-clause-refused c =
     let f = c.args.forward in let lo = c.args.lo in let wanted = c.args.wanted.now in let start = c.in_ok-marks.marks.items in let marks = c.deref.result.now in
     let needs : AreNeeds f.graph lo start marks = rw (← c.requires.can.graph, c.deref.ensures.value) c.with_needs-marks.ensures in
-    let p = err_from_is_err_and c.from_residual-in_err-forward.result c.from_residual-in_err-forward.ensures.1 in
-    rw (p.1, p.2) (raise_short f lo wanted start marks c.in_ok-marks.ensures needs c.in_err-forward.field-0.0 c.in_err-forward.ensures.refused)
+    passes_on _ c.from_residual-in_err-forward.result c.from_residual-in_err-forward.ensures.1
+    (raise_short f lo wanted start marks c.in_ok-marks.ensures needs c.in_err-forward.field-0.0 c.in_err-forward.ensures.refused)
 
 pub lower-requires-clause-inside : goal.lower-requires-clause-inside
 lower-requires-clause-inside c =

@@ -1,11 +1,12 @@
 use Rattle.std.proofs.Common.{◌≡◌, sym, subst}
-use Rattle.std.proofs.lemmas.Result.{IfOk-weaker, IfErr-weaker, err_from_is_err_and}
+use Rattle.std.proofs.lemmas.Result.{IfOk-weaker, IfErr-weaker}
 use Rattle.gate_split.specs.Plans.{PlannedView}
 use Rattle.mct_circuit.specs.Gates.{AreNarrow}
 use Rattle.held_nodes.specs.Moves.{IsFinishFault, planned_of}
 use Rattle.bennett_pebbling.specs.Pebbling.{IsPebblingFault, IsWithinBlock}
 use Rattle.bennett_pebbling.proofs.PlanLemmas.{IsBegun, begun, begun_can, finish_refused, plan_few, plan_narrow, plan_ready, rise_refused}
 use Rattle.bennett_pebbling.proofs.planning.plan.Goals as goal
+use Rattle.revc_base.proofs.ResultLemmas.{passes_on}
 
 pub finish-requires : goal.finish-requires
 finish-requires c =
@@ -29,8 +30,8 @@ returns-in_err-forward-2-clause-refused c =
     let begin : IsBegun s b start outputs =
     begun s b start outputs c.in_ok-outputs.outputs.items c.in_ok-forward.ensures.ok c.in_ok-forward.ensures.keeps
     c.deref.ensures.value c.in_ok-outputs.ensures in
-    let p = err_from_is_err_and c.from_residual-in_err-forward-2.result c.from_residual-in_err-forward-2.ensures.1 in
-    rw (p.1, p.2) (rise_refused s b c.args.block start outputs c.requires begin c.in_err-forward-2.field-0.0 c.in_err-forward-2.ensures.refused)
+    passes_on _ c.from_residual-in_err-forward-2.result c.from_residual-in_err-forward-2.ensures.1
+    (rise_refused s b c.args.block start outputs c.requires begin c.in_err-forward-2.field-0.0 c.in_err-forward-2.ensures.refused)
 
 pub returns-clause-narrow : goal.returns-clause-narrow
 returns-clause-narrow c =

@@ -1,16 +1,17 @@
 use Rattle.std.proofs.Common.{[], ◌+◌}
-use Rattle.std.proofs.lemmas.Result.{IfErr-weaker, IfOk-weaker, err_from_is_err_and}
+use Rattle.std.proofs.lemmas.Result.{IfErr-weaker, IfOk-weaker}
 use Rattle.eager_cleanup.specs.Eager.{IsEagerFault}
 use Rattle.eager_cleanup.specs.inside.Sweeps.{IsSwept, IsUsed, IsUseFault}
 use Rattle.eager_cleanup.proofs.BoundLemmas.{used_fault}
 use Rattle.eager_cleanup.proofs.SweepLemmas.{can_turned, swept_used}
 use Rattle.eager_cleanup.proofs.cleaning.clean_both.Goals as goal
+use Rattle.revc_base.proofs.ResultLemmas.{passes_on}
 
 pub returns-in_err-forward-clause-refused : goal.returns-in_err-forward-clause-refused
 returns-in_err-forward-clause-refused c =
-    let p = err_from_is_err_and c.from_residual.result c.from_residual.ensures.1 in
     let can = can_turned _ _ _ _ _ _ _ _ _ c.later_first-first.ensures.first c.later_first-first.ensures.second c.requires.can in
-    rw (p.1, p.2) (used_fault _ _ _ _ _ _ _ _ c.requires.values can.swept can.inside can.bases.0 c.in_err-forward.ensures.refused)
+    passes_on _ c.from_residual.result c.from_residual.ensures.1
+    (used_fault _ _ _ _ _ _ _ _ c.requires.values can.swept can.inside can.bases.0 c.in_err-forward.ensures.refused)
 
 pub clean_used-requires-2-clause-graph : goal.clean_used-requires-2-clause-graph
 clean_used-requires-2-clause-graph c =

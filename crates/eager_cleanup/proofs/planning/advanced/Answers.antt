@@ -1,10 +1,10 @@
 use Rattle.std.proofs.Common.{subst, sym}
-use Rattle.std.proofs.lemmas.Result.{err_from_is_err_and}
 use Rattle.gate_split.specs.Plans.{BudgetView}
 use Rattle.eager_cleanup.specs.inside.Sweeps.{IsMade}
 use Rattle.eager_cleanup.proofs.BoundLemmas.{next_fault, next_ready}
 use Rattle.eager_cleanup.proofs.SweepLemmas.{swept_toggled}
 use Rattle.eager_cleanup.proofs.planning.advanced.Goals as goal
+use Rattle.revc_base.proofs.ResultLemmas.{passes_on}
 
 pub toggle-requires : goal.toggle-requires
 toggle-requires c =
@@ -12,8 +12,8 @@ toggle-requires c =
 
 pub returns-in_err-forward-clause-refused : goal.returns-in_err-forward-clause-refused
 returns-in_err-forward-clause-refused c =
-    let p = err_from_is_err_and c.from_residual.result c.from_residual.ensures.1 in
-    rw (p.1, p.2) (next_fault c.args.graph.now c.args.forward.budget c.args.node c.args.forward _
+    passes_on _ c.from_residual.result c.from_residual.ensures.1
+    (next_fault c.args.graph.now c.args.forward.budget c.args.node c.args.forward _
     c.requires.swept c.requires.inside c.in_err-forward.ensures.refused)
 
 pub clean_operands-requires-clause-made : goal.clean_operands-requires-clause-made

@@ -1,10 +1,10 @@
 use Rattle.std.proofs.Common.{refl}
-use Rattle.std.proofs.lemmas.Result.{err_from_is_err_and}
 use Rattle.revc.specs.Commands.{Gives, IsCausedBy}
 use Rattle.revc.specs.Top.{Grows, GrowsByPrefix, IsReadAt}
 use Rattle.revc_words.specs.Words.{order_of}
 use Rattle.revc.proofs.TopLemmas.{of_read, on_ok, if_err, always_ok, always_err, read_at, read_whole}
 use Rattle.revc.proofs.top.carry_out.Goals as goal
+use Rattle.revc_base.proofs.ResultLemmas.{passes_on}
 
 pub returns-clause-gives : goal.returns-clause-gives
 returns-clause-gives g c =
@@ -34,8 +34,8 @@ returns-clause-read_whole g c = always_ok c.serve.result _ (read_whole c.args.or
 
 pub returns-in_err-text-clause-causes : goal.returns-in_err-text-clause-causes
 returns-in_err-text-clause-causes g c =
-    let p = err_from_is_err_and c.from_residual.result c.from_residual.ensures.1 in
-    rw (p.1, p.2) (c.in_err-text.ensures.causes (order_of c.args.order.now) refl)
+    passes_on _ c.from_residual.result c.from_residual.ensures.1
+    (c.in_err-text.ensures.causes (order_of c.args.order.now) refl)
 
 pub returns-clause-calm_source : goal.returns-clause-calm_source
 returns-clause-calm_source g c = always_ok c.serve.result _ c.in_ok-text.ensures.calm

@@ -1,16 +1,16 @@
 use Rattle.std.proofs.Common.{length, sym, ◌∙◌, subst, arith, []}
 use Rattle.std.proofs.lemmas.Bool.{eqb-true}
 use Rattle.std.proofs.lemmas.List.{nil_from_length}
-use Rattle.std.proofs.lemmas.Result.{err_from_is_err_and}
 use Rattle.revs_lexer.proofs.CutLemmas.{Underway, underway_past, underway_at_end, underway_at_refusal, closed_at_end}
 use Rattle.revs_lexer.proofs.lexer.cut.Goals as goal
 use Rattle.revs_lexer.proofs.lexer.cut.Goals.{In_ok-push}
+use Rattle.revc_base.proofs.ResultLemmas.{passes_on}
 
 -- the piece at the front is refused, and so the text is
 pub returns-in_err-len-clause-refused : goal.returns-in_err-len-clause-refused
 returns-in_err-len-clause-refused c =
-    let p = err_from_is_err_and c.from_residual.result c.from_residual.ensures.1 in
-    rw (p.1, p.2) (λ own. underway_at_refusal c.args.text.now c.loop-rest.tokens.items c.loop-rest.at c.loop-rest.rest.now c.in_err-len.field-0.0
+    passes_on _ c.from_residual.result c.from_residual.ensures.1
+    (λ own. underway_at_refusal c.args.text.now c.loop-rest.tokens.items c.loop-rest.at c.loop-rest.rest.now c.in_err-len.field-0.0
     c.loop-rest.invariant.underway (c.in_err-len.ensures.refused own))
 
 pub loop-rest-preserved : goal.loop-rest-preserved

@@ -1,10 +1,10 @@
 use Rattle.std.proofs.Common.{◌∙◌, sym, subst}
-use Rattle.std.proofs.lemmas.Result.{err_from_is_err_and}
 use Rattle.held_nodes.specs.Held.{ForwardView}
 use Rattle.held_nodes.specs.Moves.{CanClear}
 use Rattle.held_nodes.proofs.ClearLemmas.{clear_roomy, clear_adds, clear_low, clear_fault}
 use Rattle.held_nodes.proofs.StepLemmas.{gives_of, given_target, given_out, given_kept, given_becomes}
 use Rattle.held_nodes.proofs.forward.Forward.clear.Goals as goal
+use Rattle.revc_base.proofs.ResultLemmas.{passes_on}
 
 pub append_cubes-requires-clause-target : goal.append_cubes-requires-clause-target
 append_cubes-requires-clause-target c =
@@ -18,9 +18,9 @@ append_cubes-requires-clause-apart c = rw c.first_work.ensures.first (clear_low 
 pub returns-in_err-append_cubes-clause-refused : goal.returns-in_err-append_cubes-clause-refused
 returns-in_err-append_cubes-clause-refused c =
     let gives = gives_of _ _ _ _ _ _ _ c.self.view_is c.self.invariant (c.requires.held) c.index_mut.ensures.value (sym c.take.ensures.value ∙ c.in-Some.is) in
-    let p = err_from_is_err_and c.from_residual.result c.from_residual.ensures.1 in
     let fault = rw c.first_work.ensures.first at c.in_err-append_cubes.ensures.refused in
-    rw (p.1, p.2) (rw (← c.self.view_is) (clear_fault _ _ _ _ _ _ _ gives fault))
+    passes_on _ c.from_residual.result c.from_residual.ensures.1
+    (rw (← c.self.view_is) (clear_fault _ _ _ _ _ _ _ gives fault))
 
 pub give-requires : goal.give-requires
 give-requires c =

@@ -1,10 +1,10 @@
 use Rattle.std.proofs.Common.{sym, subst}
-use Rattle.std.proofs.lemmas.Result.{err_from_is_err_and}
 use Rattle.held_nodes.specs.Held.{ForwardView}
 use Rattle.held_nodes.specs.Moves.{IsReadyNode}
 use Rattle.held_nodes.proofs.PlaceLemmas.{toggle_placed, toggle_different, toggle_roomy}
 use Rattle.held_nodes.proofs.StepLemmas.{gives_of, given_few, given_out, given_can, given_fault, given_adds, given_kept, given_toggled}
 use Rattle.held_nodes.proofs.forward.Forward.put_down.Goals as goal
+use Rattle.revc_base.proofs.ResultLemmas.{passes_on}
 
 pub append_toggle-requires-clause-placed : goal.append_toggle-requires-clause-placed
 append_toggle-requires-clause-placed c =
@@ -22,9 +22,9 @@ append_toggle-requires-clause-different c =
 pub returns-in_err-append_toggle-clause-refused : goal.returns-in_err-append_toggle-clause-refused
 returns-in_err-append_toggle-clause-refused c =
     let gives = gives_of _ _ _ _ _ _ _ c.self.view_is c.self.invariant c.requires.held c.index.ensures c.in-Some.is in
-    let p = err_from_is_err_and c.from_residual.result c.from_residual.ensures.1 in
     let fault = rw (c.first_work-first.ensures.first, c.deref.ensures.value) at c.in_err-append_toggle.ensures.refused in
-    rw (p.1, p.2) (rw (← c.self.view_is) (given_fault _ _ _ _ _ gives _ _ c.node.ensures fault))
+    passes_on _ c.from_residual.result c.from_residual.ensures.1
+    (rw (← c.self.view_is) (given_fault _ _ _ _ _ gives _ _ c.node.ensures fault))
 
 pub give-requires : goal.give-requires
 give-requires c =

@@ -1,8 +1,8 @@
 use Rattle.std.proofs.Common.{arith}
-use Rattle.std.proofs.lemmas.Result.{err_from_is_err_and}
 use Rattle.held_nodes.proofs.PlaceLemmas.{toggle_placed, toggle_different}
 use Rattle.held_nodes.proofs.StepLemmas.{takes_of, taken_can, taken_few, taken_fault, taken_kept, taken_place, taken_toggled}
 use Rattle.held_nodes.proofs.forward.Forward.take_up.Goals as goal
+use Rattle.revc_base.proofs.ResultLemmas.{passes_on}
 
 pub append_toggle-requires-clause-placed : goal.append_toggle-requires-clause-placed
 append_toggle-requires-clause-placed c =
@@ -21,9 +21,9 @@ pub returns-in_err-append_toggle-clause-refused : goal.returns-in_err-append_tog
 returns-in_err-append_toggle-clause-refused c =
     let takes = takes_of _ _ _ _ _ _ _ _ c.self.view_is c.self.invariant c.requires.ready c.requires.free
     c.node.ensures c.in-Some.ensures.least c.in-Some.ensures.taken c.in-Some.ensures.peak in
-    let p = err_from_is_err_and c.from_residual.result c.from_residual.ensures.1 in
     let fault = rw (c.first_work-first.ensures.first, c.deref.ensures.value) at c.in_err-append_toggle.ensures.refused in
-    rw (p.1, p.2) (rw (← c.self.view_is) (taken_fault _ _ _ _ _ _ _ takes _ fault))
+    passes_on _ c.from_residual.result c.from_residual.ensures.1
+    (rw (← c.self.view_is) (taken_fault _ _ _ _ _ _ _ takes _ fault))
 
 pub index_mut-requires : goal.index_mut-requires
 index_mut-requires c =
