@@ -1,0 +1,21 @@
+//! Tests of the top call: rows that cross crates, a command each.
+#![tactic(auto)]
+
+#[cfg(test)]
+mod adder_tests;
+#[cfg(test)]
+mod circuit_tests;
+#[cfg(test)]
+mod claim_tests;
+#[cfg(test)]
+mod compile_tests;
+#[cfg(test)]
+mod convert_tests;
+#[cfg(test)]
+mod eval_tests;
+#[cfg(test)]
+mod gallery_tests;
+#[cfg(test)]
+mod plan_tests;
+#[cfg(test)]
+mod rows;
