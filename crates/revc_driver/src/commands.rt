@@ -91,15 +91,15 @@ pub fn prepare(alloc: Global, order: &Order, text: &[u8]) -> Result<Prepared, Fa
             let laid = compile::compile(alloc, text, order)?;
             Ok(Prepared::File(order.format, laid))
         }
-        Command::Check => Ok(Prepared::Claims(check::check(alloc, text, order.nodes)?)),
-        Command::Eval => Ok(Prepared::Digits(eval::evaluate(alloc, text, order.word())?)),
-        Command::Stat => Ok(Prepared::Stat(stat::measure(alloc, text, order.from)?)),
-        Command::Run => Ok(Prepared::Lines(run::run(alloc, text, order.from, &order.bits)?)),
+        Command::Check => check::check(alloc, text, order.nodes).map(Prepared::Claims),
+        Command::Eval => eval::evaluate(alloc, text, order.word()).map(Prepared::Digits),
+        Command::Stat => stat::measure(alloc, text, order.from).map(Prepared::Stat),
+        Command::Run => run::run(alloc, text, order.from, &order.bits).map(Prepared::Lines),
         Command::Convert => {
             let converted = convert::convert(alloc, text, order.from)?;
             Ok(Prepared::Converted(order.to, converted))
         }
         Command::Gen => Ok(Prepared::Program(generate::program(alloc, order.number)?)),
-        Command::Bench => Ok(Prepared::Bench(bench::measure(alloc, order)?)),
+        Command::Bench => bench::measure(alloc, order).map(Prepared::Bench),
     }
 }
