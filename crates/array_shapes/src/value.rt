@@ -10,7 +10,7 @@ use std::rc::Rc;
 /// number of the environment that it was made in, how many of its names are taken, and its names
 /// and body. The locations of a register are shared, so that a copy takes the same time at any
 /// length.
-#[derive(Debug, Drop)]
+#[derive(Drop)]
 pub enum Value<'t> {
     Unit,
     Bit(u32),

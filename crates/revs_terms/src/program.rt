@@ -17,7 +17,7 @@ pub struct Param {
 ///
 /// It keeps what a sentence within limits gives: widths of at least 1 that add up to at most 1,024,
 /// a body of well-formed terms with at most 100 levels, and fewer than 2^32 names.
-#[derive(Debug, Drop)]
+#[derive(Drop)]
 pub struct Program {
     pub params: Vec<Param>,
     pub body: Term,

@@ -24,7 +24,7 @@ pub enum Part {
 
 /// An item of a block: a value with a name, or a term that is run and whose value is dropped.
 #[cycle(terms)]
-#[derive(Debug, Drop)]
+#[derive(Drop)]
 pub enum Item {
     Let { name: Name, value: Term },
     Do(Term),
@@ -32,7 +32,7 @@ pub enum Item {
 
 /// The names and the body of a function.
 #[cycle(terms)]
-#[derive(Debug, Drop)]
+#[derive(Drop)]
 pub struct Lambda {
     pub names: Vec<Name>,
     pub body: Term,
@@ -40,7 +40,7 @@ pub struct Lambda {
 
 /// A term. Each place is that of the term's first token.
 #[cycle(terms)]
-#[derive(Debug, Drop)]
+#[derive(Drop)]
 pub enum Term {
     Name(Name),
     Bool(bool, Place),
