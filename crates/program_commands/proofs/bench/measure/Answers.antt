@@ -3,7 +3,17 @@ use Rattle.program_commands.proofs.AdderLengthLemmas.{adders_are_short}
 use Rattle.program_commands.proofs.BenchLemmas.{benched}
 use Rattle.revc_words.specs.Words.{order_of}
 use Rattle.revs_parser.specs.declared.limits.TheConstants.{MOST_BYTES}
+use Rattle.revc_base.proofs.ResultLemmas.{no_value}
 use Rattle.program_commands.proofs.bench.measure.Goals as goal
+
+pub returns-in_err-text-clause-ok : goal.returns-in_err-text-clause-ok
+returns-in_err-text-clause-ok c = no_value c.from_residual.result _ _ c.from_residual.ensures.1
+
+pub returns-in_err-tape-clause-ok : goal.returns-in_err-tape-clause-ok
+returns-in_err-tape-clause-ok c = no_value c.from_residual-in_err-tape.result _ _ c.from_residual-in_err-tape.ensures.1
+
+pub returns-in_err-sizes_of-clause-ok : goal.returns-in_err-sizes_of-clause-ok
+returns-in_err-sizes_of-clause-ok c = no_value c.from_residual-in_err-sizes_of.result _ _ c.from_residual-in_err-sizes_of.ensures.1
 
 pub plan_text-requires-clause-short : goal.plan_text-requires-clause-short
 plan_text-requires-clause-short c =

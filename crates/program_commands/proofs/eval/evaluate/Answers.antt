@@ -1,8 +1,17 @@
 use Rattle.std.proofs.Common.{◌∙◌}
 use Rattle.revs_terms.specs.Views.{view_of}
 use Rattle.program_commands.proofs.EvalLemmas.{broken_at, value_at, word_stops}
-use Rattle.revc_base.proofs.ResultLemmas.{passes_on}
+use Rattle.revc_base.proofs.ResultLemmas.{no_value, passes_on}
 use Rattle.program_commands.proofs.eval.evaluate.Goals as goal
+
+pub returns-in_err-tape-clause-ok : goal.returns-in_err-tape-clause-ok
+returns-in_err-tape-clause-ok c = no_value c.from_residual.result _ _ c.from_residual.ensures.1
+
+pub returns-in_err-input-clause-ok : goal.returns-in_err-input-clause-ok
+returns-in_err-input-clause-ok c = no_value c.from_residual-in_err-input.result _ _ c.from_residual-in_err-input.ensures.1
+
+pub returns-in_err-bits-clause-ok : goal.returns-in_err-bits-clause-ok
+returns-in_err-bits-clause-ok c = no_value c.from_residual-in_err-bits.result _ _ c.from_residual-in_err-bits.ensures.1
 
 pub returns-in-Out-clause-ok : goal.returns-in-Out-clause-ok
 returns-in-Out-clause-ok c =

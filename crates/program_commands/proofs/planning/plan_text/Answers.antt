@@ -2,8 +2,26 @@ use Rattle.revc_words.specs.Words.{order_of}
 use Rattle.program_commands.specs.Compile.{budget_of}
 use Rattle.program_commands.specs.inside.Plans.{IsWhole}
 use Rattle.program_commands.proofs.PlanLemmas.{clean_plan, planned, planning_fault, settling_fault, writable}
-use Rattle.revc_base.proofs.ResultLemmas.{passes_on}
+use Rattle.revc_base.proofs.ResultLemmas.{no_value, passes_on}
 use Rattle.program_commands.proofs.planning.plan_text.Goals as goal
+
+pub returns-in_err-tape-clause-ok : goal.returns-in_err-tape-clause-ok
+returns-in_err-tape-clause-ok c = no_value c.from_residual.result _ _ c.from_residual.ensures.1
+
+pub returns-in_err-tape-clause-writable : goal.returns-in_err-tape-clause-writable
+returns-in_err-tape-clause-writable c = no_value c.from_residual.result _ _ c.from_residual.ensures.1
+
+pub returns-in_err-tape-clause-whole : goal.returns-in_err-tape-clause-whole
+returns-in_err-tape-clause-whole c = no_value c.from_residual.result _ _ c.from_residual.ensures.1
+
+pub returns-in_err-laid-clause-ok : goal.returns-in_err-laid-clause-ok
+returns-in_err-laid-clause-ok c = no_value c.from_residual-in_err-laid.result _ _ c.from_residual-in_err-laid.ensures.1
+
+pub returns-in_err-laid-clause-writable : goal.returns-in_err-laid-clause-writable
+returns-in_err-laid-clause-writable c = no_value c.from_residual-in_err-laid.result _ _ c.from_residual-in_err-laid.ensures.1
+
+pub returns-in_err-laid-clause-whole : goal.returns-in_err-laid-clause-whole
+returns-in_err-laid-clause-whole c = no_value c.from_residual-in_err-laid.result _ _ c.from_residual-in_err-laid.ensures.1
 
 pub returns-in_err-tape-clause-err : goal.returns-in_err-tape-clause-err
 returns-in_err-tape-clause-err c =
