@@ -27,9 +27,16 @@ use Rattle.revs_terms.specs.declared.term.Item.{Item}
 use Rattle.revs_terms.specs.declared.term.Term.{Term}
 use Rattle.revs_parser.specs.declared.stop.Stop.{Stop}
 use Rattle.revs_parser.specs.declared.stop.Stop.TheVariants as stops
+use Rattle.revs_parser.specs.declared.front.Operator.{Operator}
+use Rattle.revs_parser.specs.declared.front.Operator.TheVariants as operators
+use Rattle.revs_parser.specs.declared.front.Opener.{Opener}
+use Rattle.revs_parser.specs.declared.front.Opener.TheVariants as openers
 use Rattle.revs_parser.specs.inside.Reading.{Passes, Reads, Skips, ReadsForm, Halts, HaltsIn, Heads, NotFirst, base_first, name_first}
+use Rattle.revs_parser.specs.inside.Reading.{ReadsAnywhere, HaltsAnywhere}
 use Rattle.revs_parser.specs.inside.Forms.{ReadsNames, in_part, ReadsPart, in_function, ReadsFunction, in_application, ReadsAtoms}
 use Rattle.revs_parser.specs.inside.Forms.{in_register, ReadsRegister, ReadsBlock, ReadsItem, in_binding, ReadsBinding}
+use Rattle.revs_parser.specs.inside.Forms.{ReadsFunctionNames, in_bound_names, closed_by, operated, ReadsOperator, NoOperator, in_append, ReadsAppend}
+use Rattle.revs_parser.specs.inside.Forms.{opening, NoOpener}
 use Rattle.revs_parser.proofs.PassingLemmas.{stays, passes_then, turned, beside, passes_reads, and_then, and_maybe, line_passes, token_passes}
 use Rattle.revs_parser.proofs.PassingLemmas.{kept_passes, opening_passes, one_token, halts_first, halts_there, halts_behind, halts_past}
 use Rattle.revs_parser.proofs.StepLemmas as m
@@ -508,103 +515,102 @@ block_halts l b h = repeats_halts b.repeats h
 
 -- ---- the rest of a function behind its `fun`, and of a binding behind its `let`
 
-pub function_reads : (l : ℕ) (at : Place) {t : Tree} {first : Name} {before all : List Name} {inner : Tree} {ts a b c rest : List Token}
-    → Reads (kept_token any_name ∷ []) (first, tt) ts a → before ≡ first ∷ [] → ReadsNames before all a b
-    → Reads (token (sign signs.Arrow) ∷ []) tt b c → ReadsForm g.expression l inner c rest → t ≡ function all inner at → ReadsFunction l at t ts rest
-function_reads l at {first} {inner} r e n k q w = record {
+-- the names behind the first, and the sign that ends them
+abbrev pub names_rest : Sign → Stack
+names_rest end = form g.names 0 ∷ token (sign end) ∷ []
+
+module _ (end : Sign) {first : Name} {ts a : List Token} (r : Reads (kept_token any_name ∷ []) (first, tt) ts a) where
+  pub names_in_names : {stop : Stop} → HaltsIn g.names 0 a stop → Halts (kept_token any_name ∷ names_rest end) ts stop
+  names_in_names h = halts_first (token (sign end) ∷ []) (halts_behind (form g.names 0 ∷ []) r h)
+
+  pub names_unended : {before all : List Name} {b : List Token} {stop : Stop} → ReadsNames before all a b → Halts (token (sign end) ∷ []) b stop
+      → Halts (kept_token any_name ∷ names_rest end) ts stop
+  names_unended n h = halts_behind (token (sign end) ∷ []) (and_maybe r n.skips) h
+
+pub function_names_read : {first : Name} {before all : List Name} {ts a b rest : List Token} → Reads (kept_token any_name ∷ []) (first, tt) ts a
+    → before ≡ first ∷ [] → ReadsNames before all a b → Reads (token (sign signs.Arrow) ∷ []) tt b rest → ReadsFunctionNames all ts rest
+function_names_read {first} r e n k = record {
   first = first;
   more = n.more;
-  inner = inner;
-  is = rw (w, n.all_names, e);
-  reads = and_then (and_then (and_maybe r n.skips) k) q;
+  all_names = rw (n.all_names, e);
+  reads = and_then (and_maybe r n.skips) k;
 }
 
-module _ (l : ℕ) {first : Name} {ts a : List Token} (r : Reads (kept_token any_name ∷ []) (first, tt) ts a) where
-  pub function_in_names : {stop : Stop} → HaltsIn g.names 0 a stop → Halts (in_function l) ts stop
-  function_in_names h = halts_first (token (sign signs.Arrow) ∷ form g.expression l ∷ []) (halts_behind (form g.names 0 ∷ []) r h)
+pub bound_names_read : {first : Name} {before all : List Name} {ts a b rest : List Token} → Reads (kept_token any_name ∷ []) (first, tt) ts a
+    → before ≡ [] → ReadsNames before all a b → Reads (token (sign signs.Equal) ∷ []) tt b rest → Reads in_bound_names (first, (all, tt)) ts rest
+bound_names_read r e n k = rw (n.all_names, e) (and_then (and_maybe r n.skips) k)
 
-  pub function_no_arrow : {before all : List Name} {b : List Token} {stop : Stop} → ReadsNames before all a b → Halts (token (sign signs.Arrow) ∷ []) b stop
-      → Halts (in_function l) ts stop
-  function_no_arrow n h = halts_first (form g.expression l ∷ []) (halts_behind (token (sign signs.Arrow) ∷ []) (and_maybe r n.skips) h)
+module _ (l : ℕ) {all : List Name} {ts a : List Token} (n : ReadsFunctionNames all ts a) where
+  pub function_reads : (at : Place) {t inner : Tree} {rest : List Token} → ReadsForm g.expression l inner a rest → t ≡ function all inner at
+      → ReadsFunction l at t ts rest
+  function_reads at {inner} q w = record { first = n.first; more = n.more; inner = inner; is = rw (w, n.all_names); reads = and_then n.reads q }
 
-  pub function_in_body : {before all : List Name} {b c : List Token} {stop : Stop} → ReadsNames before all a b → Reads (token (sign signs.Arrow) ∷ []) tt b c
-      → HaltsIn g.expression l c stop → Halts (in_function l) ts stop
-  function_in_body n k h = halts_behind (form g.expression l ∷ []) (and_then (and_maybe r n.skips) k) h
+  pub function_in_body : {stop : Stop} → HaltsIn g.expression l a stop → Halts (in_function l) ts stop
+  function_in_body h = halts_behind (form g.expression l ∷ []) n.reads h
 
-  pub binding_reads : {item : ItemTree} {before all : List Name} {inner : Tree} {b c d rest : List Token} → before ≡ [] → ReadsNames before all a b
-      → Reads (token (sign signs.Equal) ∷ []) tt b c → ReadsForm g.expression l inner c d → Reads (token (sign signs.Semi) ∷ []) tt d rest
-      → item ≡ bind first (bound_of all inner) → ReadsBinding l item ts rest
-  binding_reads {inner} e n k q z w = record {
-    bound = first;
-    more = n.more;
-    inner = inner;
-    is = rw (w, n.all_names, e);
-    reads = and_then (and_then (and_then (and_maybe r n.skips) k) q) z;
-  }
+module _ (l : ℕ) {bound : Name} {all : List Name} {ts a : List Token} (n : Reads in_bound_names (bound, (all, tt)) ts a) where
+  pub binding_reads : {item : ItemTree} {inner : Tree} {rest : List Token} → Reads (closed_by signs.Semi l) (inner, tt) a rest
+      → item ≡ bind bound (bound_of all inner) → ReadsBinding l item ts rest
+  binding_reads {inner} q w = record { bound = bound; more = all; inner = inner; is = w; reads = and_then n q }
 
-  pub binding_in_names : {stop : Stop} → HaltsIn g.names 0 a stop → Halts (in_binding l) ts stop
-  binding_in_names h = halts_first (token (sign signs.Equal) ∷ form g.expression l ∷ token (sign signs.Semi) ∷ []) (halts_behind (form g.names 0 ∷ []) r h)
-
-  pub binding_no_equal : {before all : List Name} {b : List Token} {stop : Stop} → ReadsNames before all a b → Halts (token (sign signs.Equal) ∷ []) b stop
-      → Halts (in_binding l) ts stop
-  binding_no_equal n h = halts_first (form g.expression l ∷ token (sign signs.Semi) ∷ []) (halts_behind (token (sign signs.Equal) ∷ []) (and_maybe r n.skips) h)
-
-  pub binding_in_value : {before all : List Name} {b c : List Token} {stop : Stop} → ReadsNames before all a b → Reads (token (sign signs.Equal) ∷ []) tt b c
-      → HaltsIn g.expression l c stop → Halts (in_binding l) ts stop
-  binding_in_value n k h = halts_first (token (sign signs.Semi) ∷ []) (halts_behind (form g.expression l ∷ []) (and_then (and_maybe r n.skips) k) h)
-
-  pub binding_no_semi : {before all : List Name} {inner : Tree} {b c d : List Token} {stop : Stop} → ReadsNames before all a b
-      → Reads (token (sign signs.Equal) ∷ []) tt b c → ReadsForm g.expression l inner c d → Halts (token (sign signs.Semi) ∷ []) d stop
-      → Halts (in_binding l) ts stop
-  binding_no_semi n k q h = halts_behind (token (sign signs.Semi) ∷ []) (and_then (and_then (and_maybe r n.skips) k) q) h
+  pub binding_in_value : {stop : Stop} → Halts (closed_by signs.Semi l) a stop → Halts (in_binding l) ts stop
+  binding_in_value h = halts_behind (closed_by signs.Semi l) n h
 
 -- ---- applications
 
-module _ (l : ℕ) {at : Place} {ts mid : List Token} (h : Heads (toks.Word words.Clean) at ts mid) where
-  pub application_clean : {t whole : Tree} {rest : List Token} → ReadsForm g.atom l t mid rest → whole ≡ clean t at → ReadsForm g.application l whole ts rest
-  application_clean r w = rw w (by_token g.application l _ (inl refl) h refl refl refl (and_then (a_word words.Clean h) r))
+module _ {at : Place} {ts mid : List Token} (h : Heads (toks.Word words.Clean) at ts mid) where
+  pub operator_clean : ReadsOperator (operators.Clean at) ts mid
+  operator_clean = record {
+    passes = λ l. passes_then (line_passes g.application l _ (inl refl) (by_first g.application l _ (inl refl) h refl refl refl))
+        (beside (form g.atom l ∷ []) (a_word words.Clean h).passes);
+  }
 
-  pub clean_halts : {stop : Stop} → HaltsIn g.atom l mid stop → HaltsIn g.application l ts stop
-  clean_halts k = halts_by_token g.application l _ (inl refl) h refl refl refl (halts_behind (form g.atom l ∷ []) (a_word words.Clean h) k)
+module _ {at : Place} {ts mid : List Token} (h : Heads (toks.Word words.Assert) at ts mid) where
+  pub operator_assert : ReadsOperator (operators.Assert at) ts mid
+  operator_assert = record {
+    passes = λ l. passes_then (line_passes g.application l _ (inr (inl refl)) (by_first g.application l _ (inr (inl refl)) h refl refl refl))
+        (beside (form g.atom l ∷ []) (a_word words.Assert h).passes);
+  }
 
-module _ (l : ℕ) {at : Place} {ts mid : List Token} (h : Heads (toks.Word words.Assert) at ts mid) where
-  pub application_assert : {t whole : Tree} {rest : List Token} → ReadsForm g.atom l t mid rest → whole ≡ assert t at → ReadsForm g.application l whole ts rest
-  application_assert r w = rw w (by_token g.application l _ (inr (inl refl)) h refl refl refl (and_then (a_word words.Assert h) r))
+module _ {at : Place} {ts a : List Token} (h : Heads (toks.Word words.Rotate) at ts a) where
+  pub operator_rotate : {by : ℕ} {rest : List Token} → Reads (kept_token any_number ∷ []) (by, tt) a rest → ReadsOperator (operators.Rotate by at) ts rest
+  operator_rotate r = record {
+    passes = λ l. passes_then (line_passes g.application l _ (inr (inr (inr (inl refl))))
+        (by_first g.application l _ (inr (inr (inr (inl refl)))) h refl refl refl))
+        (beside (form g.atom l ∷ []) (and_then (a_word words.Rotate h) r).passes);
+  }
 
-  pub assert_halts : {stop : Stop} → HaltsIn g.atom l mid stop → HaltsIn g.application l ts stop
-  assert_halts k = halts_by_token g.application l _ (inr (inl refl)) h refl refl refl (halts_behind (form g.atom l ∷ []) (a_word words.Assert h) k)
+  pub rotate_halts : {stop : Stop} → Halts (kept_token any_number ∷ []) a stop → HaltsAnywhere g.application ts stop
+  rotate_halts k = record {
+    at_level = λ l. halts_by_token g.application l _ (inr (inr (inr (inl refl)))) h refl refl refl
+        (halts_behind (kept_token any_number ∷ form g.atom l ∷ []) (a_word words.Rotate h) (halts_first (form g.atom l ∷ []) k));
+  }
+
+pub application_operator : (l : ℕ) {operator : Operator} {t whole : Tree} {ts mid rest : List Token} → ReadsOperator operator ts mid
+    → ReadsForm g.atom l t mid rest → whole ≡ operated operator t → ReadsForm g.application l whole ts rest
+application_operator l o r w = rw w (passes_reads (o.passes l) r)
+
+pub operand_halts : (l : ℕ) {operator : Operator} {ts mid : List Token} {stop : Stop} → ReadsOperator operator ts mid → HaltsIn g.atom l mid stop
+    → HaltsIn g.application l ts stop
+operand_halts l o k = halts_past (o.passes l) k
 
 module _ (l : ℕ) {at : Place} {ts a : List Token} (h : Heads (toks.Word words.Append) at ts a) where
-  pub application_append : {t u whole : Tree} {b rest : List Token} → ReadsForm g.atom l t a b → ReadsForm g.atom l u b rest → whole ≡ append t u at
-      → ReadsForm g.application l whole ts rest
-  application_append r q w = rw w (by_token g.application l _ (inr (inr (inl refl))) h refl refl refl (and_then (a_word words.Append h) (and_then r q)))
+  pub application_append : {t : Tree} {rest : List Token} → ReadsAppend l at t a rest → ReadsForm g.application l t ts rest
+  application_append r = rw r.is (by_token g.application l _ (inr (inr (inl refl))) h refl refl refl (and_then (a_word words.Append h) r.reads))
 
-  in_append : {stop : Stop} → Halts (form g.atom l ∷ form g.atom l ∷ []) a stop → HaltsIn g.application l ts stop
-  in_append k =
-      halts_by_token g.application l _ (inr (inr (inl refl))) h refl refl refl (halts_behind (form g.atom l ∷ form g.atom l ∷ []) (a_word words.Append h) k)
+  pub append_halts : {stop : Stop} → Halts (in_append l) a stop → HaltsIn g.application l ts stop
+  append_halts k = halts_by_token g.application l _ (inr (inr (inl refl))) h refl refl refl (halts_behind (in_append l) (a_word words.Append h) k)
 
-  pub append_halts : {stop : Stop} → HaltsIn g.atom l a stop → HaltsIn g.application l ts stop
-  append_halts k = in_append (halts_first (form g.atom l ∷ []) k)
+pub append_reads : (l : ℕ) (at : Place) {t u whole : Tree} {ts mid rest : List Token} → ReadsForm g.atom l t ts mid → ReadsForm g.atom l u mid rest
+    → whole ≡ append t u at → ReadsAppend l at whole ts rest
+append_reads l at {t} {u} r q w = record { first = t; second = u; is = w; reads = and_then r q }
 
-  pub append_halts_second : {t : Tree} {b : List Token} {stop : Stop} → ReadsForm g.atom l t a b → HaltsIn g.atom l b stop → HaltsIn g.application l ts stop
-  append_halts_second r k = in_append (halts_behind (form g.atom l ∷ []) r k)
+pub append_halts_second : (l : ℕ) {t : Tree} {ts mid : List Token} {stop : Stop} → ReadsForm g.atom l t ts mid → HaltsIn g.atom l mid stop
+    → Halts (in_append l) ts stop
+append_halts_second l r k = halts_behind (form g.atom l ∷ []) r k
 
-module _ (l : ℕ) {at : Place} {ts a : List Token} (h : Heads (toks.Word words.Rotate) at ts a) where
-  pub application_rotate : {by : ℕ} {t whole : Tree} {b rest : List Token} → Reads (kept_token any_number ∷ []) (by, tt) a b → ReadsForm g.atom l t b rest
-      → whole ≡ rotate by t at → ReadsForm g.application l whole ts rest
-  application_rotate r q w = rw w (by_token g.application l _ (inr (inr (inr (inl refl)))) h refl refl refl (and_then (a_word words.Rotate h) (and_then r q)))
-
-  in_rotate : {stop : Stop} → Halts (kept_token any_number ∷ form g.atom l ∷ []) a stop → HaltsIn g.application l ts stop
-  in_rotate k =
-      halts_by_token g.application l _ (inr (inr (inr (inl refl)))) h refl refl refl
-      (halts_behind (kept_token any_number ∷ form g.atom l ∷ []) (a_word words.Rotate h) k)
-
-  pub rotate_halts : {stop : Stop} → Halts (kept_token any_number ∷ []) a stop → HaltsIn g.application l ts stop
-  rotate_halts k = in_rotate (halts_first (form g.atom l ∷ []) k)
-
-  pub rotate_halts_second : {by : ℕ} {b : List Token} {stop : Stop} → Reads (kept_token any_number ∷ []) (by, tt) a b → HaltsIn g.atom l b stop
-      → HaltsIn g.application l ts stop
-  rotate_halts_second r k = in_rotate (halts_behind (form g.atom l ∷ []) r k)
+pub plain : {ts : List Token} → NotFirst (toks.Word words.Append) ts → NoOperator ts → m.IsPlain ts
+plain k n = record { no_clean = n.no_clean; no_assert = n.no_assert; no_append = k; no_rotate = n.no_rotate }
 
 pub application_plain : (l : ℕ) {t : Tree} {ts rest : List Token} → m.IsPlain ts → ReadsAtoms l t ts rest → ReadsForm g.application l t ts rest
 application_plain l {ts} p r = rw r.is (by_pieces g.application l _ (inr (inr (inr (inr (inl refl))))) (m.as_application l ts p) r.reads)
@@ -639,20 +645,24 @@ atom_in_parts l {ts} r h =
 
 -- ---- bases
 
-pub base_true : (l : ℕ) {at : Place} {whole : Tree} {ts rest : List Token} → Heads (toks.Word words.True) at ts rest → whole ≡ bool true at
-    → ReadsForm g.base l whole ts rest
-base_true l h w = rw w (by_token g.base l _ (inr (inl refl)) h refl refl refl (a_word words.True h))
+pub base_true : {at : Place} {whole : Tree} {ts rest : List Token} → Heads (toks.Word words.True) at ts rest → whole ≡ bool true at
+    → ReadsAnywhere g.base whole ts rest
+base_true h w = record { at_level = λ l. rw w (by_token g.base l _ (inr (inl refl)) h refl refl refl (a_word words.True h)) }
 
-pub base_false : (l : ℕ) {at : Place} {whole : Tree} {ts rest : List Token} → Heads (toks.Word words.False) at ts rest → whole ≡ bool false at
-    → ReadsForm g.base l whole ts rest
-base_false l h w = rw w (by_token g.base l _ (inr (inr (inl refl))) h refl refl refl (a_word words.False h))
+pub base_false : {at : Place} {whole : Tree} {ts rest : List Token} → Heads (toks.Word words.False) at ts rest → whole ≡ bool false at
+    → ReadsAnywhere g.base whole ts rest
+base_false h w = record { at_level = λ l. rw w (by_token g.base l _ (inr (inr (inl refl))) h refl refl refl (a_word words.False h)) }
 
-pub base_use : (l : ℕ) {n : Name} {whole : Tree} {ts rest : List Token} → m.IsUse ts → Reads (kept_token any_name ∷ []) (n, tt) ts rest → whole ≡ used n
-    → ReadsForm g.base l whole ts rest
-base_use l {ts} u r w = rw w (by_pieces g.base l _ (inl refl) (m.as_use l ts u) r)
+module _ {ts : List Token} (o : NoOpener ts) (no_true : NotFirst (toks.Word words.True) ts) (no_false : NotFirst (toks.Word words.False) ts) where
+  is_use : m.IsUse ts
+  is_use = record { no_true = no_true; no_false = no_false; no_reg = o.no_reg; no_round = o.no_round; no_curly = o.no_curly }
 
-pub base_no_use : (l : ℕ) {ts : List Token} {stop : Stop} → m.IsUse ts → Halts (kept_token any_name ∷ []) ts stop → HaltsIn g.base l ts stop
-base_no_use l {ts} u h = halts_there (form g.base l ∷ []) (kept_token any_name ∷ []) (m.as_use l ts u) h
+  pub base_use : {n : Name} {whole : Tree} {rest : List Token} → Reads (kept_token any_name ∷ []) (n, tt) ts rest → whole ≡ used n
+      → ReadsAnywhere g.base whole ts rest
+  base_use r w = record { at_level = λ l. rw w (by_pieces g.base l _ (inl refl) (m.as_use l ts is_use) r) }
+
+  pub base_no_use : {stop : Stop} → Halts (kept_token any_name ∷ []) ts stop → HaltsAnywhere g.base ts stop
+  base_no_use h = record { at_level = λ l. halts_there (form g.base l ∷ []) (kept_token any_name ∷ []) (m.as_use l ts is_use) h }
 
 -- a base that opens a level, with the level inside
 module _ (l : ℕ) {at : Place} {ts mid : List Token} (h : Heads (toks.Word words.Reg) at ts mid) where
@@ -673,37 +683,24 @@ module _ (l : ℕ) {at : Place} {ts mid : List Token} (h : Heads (toks.Word word
       halts_by_token g.base l _ (inr (inr (inr (inl refl)))) h refl refl refl
       (halts_behind (in_register (l + 1)) (opened (word words.Reg) (l + 1) ok h refl refl refl) (rw e at k))
 
--- what is expected of a bracket behind its `(`
-abbrev in_bracket : ℕ → Stack
-in_bracket l = form g.expression l ∷ token (sign signs.CloseRound) ∷ []
-
 module _ (l : ℕ) {at : Place} {ts mid : List Token} (h : Heads (toks.Sign signs.OpenRound) at ts mid) where
-  pub base_bracket : {inner : ℕ} → inner ≡ l + 1 → {t : Tree} {a rest : List Token} → few_levels (l + 1) ≡ true → ReadsForm g.expression inner t mid a
-      → Reads (token (sign signs.CloseRound) ∷ []) tt a rest → ReadsForm g.base l t ts rest
-  base_bracket e ok r q =
+  pub base_bracket : {inner : ℕ} → inner ≡ l + 1 → {t : Tree} {rest : List Token} → few_levels (l + 1) ≡ true
+      → Reads (closed_by signs.CloseRound inner) (t, tt) mid rest → ReadsForm g.base l t ts rest
+  base_bracket e ok r =
       let r' = rw e at r in
       by_token g.base l _ (inr (inr (inr (inr (inl refl))))) h refl refl refl
-      (and_then (opened (sign signs.OpenRound) (l + 1) ok h refl refl refl) (and_then r' q))
+      (and_then (opened (sign signs.OpenRound) (l + 1) ok h refl refl refl) r')
 
   pub bracket_no_level : few_levels (l + 1) ≡ false → (stop : Stop) → stop ≡ stops.Nesting (length ts) → HaltsIn g.base l ts stop
   bracket_no_level deep stop e =
       halts_by_token g.base l _ (inr (inr (inr (inr (inl refl))))) h refl refl refl
-      (opens_too_many (sign signs.OpenRound) (l + 1) (in_bracket (l + 1)) deep h refl refl stop e)
+      (opens_too_many (sign signs.OpenRound) (l + 1) (closed_by signs.CloseRound (l + 1)) deep h refl refl stop e)
 
-  inside_halts : {stop : Stop} → few_levels (l + 1) ≡ true → Halts (in_bracket (l + 1)) mid stop → HaltsIn g.base l ts stop
-  inside_halts ok k =
-      halts_by_token g.base l _ (inr (inr (inr (inr (inl refl))))) h refl refl refl
-      (halts_behind (in_bracket (l + 1)) (opened (sign signs.OpenRound) (l + 1) ok h refl refl refl) k)
-
-  pub in_bracket_halts : {inner : ℕ} → inner ≡ l + 1 → {stop : Stop} → few_levels (l + 1) ≡ true → HaltsIn g.expression inner mid stop
+  pub in_bracket_halts : {inner : ℕ} → inner ≡ l + 1 → {stop : Stop} → few_levels (l + 1) ≡ true → Halts (closed_by signs.CloseRound inner) mid stop
       → HaltsIn g.base l ts stop
   in_bracket_halts e ok k =
-      inside_halts ok (halts_first (token (sign signs.CloseRound) ∷ []) (rw e at k))
-
-  pub bracket_unclosed : {inner : ℕ} → inner ≡ l + 1 → {t : Tree} {a : List Token} {stop : Stop} → few_levels (l + 1) ≡ true
-      → ReadsForm g.expression inner t mid a → Halts (token (sign signs.CloseRound) ∷ []) a stop → HaltsIn g.base l ts stop
-  bracket_unclosed e ok r k =
-      inside_halts ok (halts_behind (token (sign signs.CloseRound) ∷ []) (rw e at r) k)
+      halts_by_token g.base l _ (inr (inr (inr (inr (inl refl))))) h refl refl refl
+      (halts_behind (closed_by signs.CloseRound (l + 1)) (opened (sign signs.OpenRound) (l + 1) ok h refl refl refl) (rw e at k))
 
 module _ (l : ℕ) {at : Place} {ts mid : List Token} (h : Heads (toks.Sign signs.OpenCurly) at ts mid) where
   pub base_block : {inner : ℕ} → inner ≡ l + 1 → {t : Tree} {rest : List Token} → few_levels (l + 1) ≡ true → ReadsBlock inner at t mid rest
@@ -722,6 +719,21 @@ module _ (l : ℕ) {at : Place} {ts mid : List Token} (h : Heads (toks.Sign sign
   in_block_halts e ok k =
       halts_by_token g.base l _ (inr (inr (inr (inr (inr (inl refl)))))) h refl refl refl
       (halts_behind (form g.body (l + 1) ∷ []) (opened (sign signs.OpenCurly) (l + 1) ok h refl refl refl) (rw e at k))
+
+-- A level too many is refused at any token that opens one.
+pub base_no_level : (l : ℕ) (o : Opener) {at : Place} {ts mid : List Token} → Heads (opening o) at ts mid → few_levels (l + 1) ≡ false
+    → (stop : Stop) → stop ≡ stops.Nesting (length ts) → HaltsIn g.base l ts stop
+base_no_level l openers.Register h = register_no_level l h
+base_no_level l openers.Bracket h = bracket_no_level l h
+base_no_level l openers.Block h = block_no_level l h
+
+pub closed_reads : (l : ℕ) {end : Sign} {t : Tree} {ts mid rest : List Token} → ReadsForm g.expression l t ts mid → Reads (token (sign end) ∷ []) tt mid rest
+    → Reads (closed_by end l) (t, tt) ts rest
+closed_reads l r q = and_then r q
+
+pub unclosed : (l : ℕ) {end : Sign} {t : Tree} {ts mid : List Token} {stop : Stop} → ReadsForm g.expression l t ts mid
+    → Halts (token (sign end) ∷ []) mid stop → Halts (closed_by end l) ts stop
+unclosed l {end} r k = halts_behind (token (sign end) ∷ []) r k
 
 -- ---- items
 
@@ -770,10 +782,17 @@ let_halts l h k =
 -- ---- what stands behind the first thing that a function expects
 
 abbrev pub function_rest : ℕ → Stack
-function_rest l = form g.names 0 ∷ token (sign signs.Arrow) ∷ form g.expression l ∷ []
+function_rest l = form g.expression l ∷ []
 
 abbrev pub register_rest : ℕ → Stack
 register_rest l = form g.expression l ∷ form g.elements l ∷ token (sign signs.CloseSquare) ∷ []
 
-abbrev pub binding_rest : ℕ → Stack
-binding_rest l = form g.names 0 ∷ token (sign signs.Equal) ∷ form g.expression l ∷ token (sign signs.Semi) ∷ []
+abbrev pub append_rest : ℕ → Stack
+append_rest l = form g.atom l ∷ []
+
+abbrev pub closed_rest : Sign → Stack
+closed_rest end = token (sign end) ∷ []
+
+-- what no memory was left for
+pub no_memory : {es : Stack} {ts : List Token} (stop : Stop) → stop ≡ stops.Memory → Halts es ts stop
+no_memory stop e = rw e (record { halt = λ ms. tt })

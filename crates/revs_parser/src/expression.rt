@@ -4,7 +4,6 @@ ghost use Rattle.std.specs.Prelude.{◌≡◌, ◌+◌, ◌<◌, ◌≤◌, true
 ghost use Rattle.std.specs.Prelude.{[], ◌∷◌, IfOk, IfErr, IsErrOf};
 ghost use Rattle.revs_terms.specs.declared.limits.TheConstants.{MOST_LEVELS};
 ghost use Rattle.revs_grammar.specs.Forms as g;
-ghost use Rattle.revs_grammar.specs.Productions.{bound_of};
 ghost use Rattle.revs_grammar.specs.Sentences.{form, few_levels};
 ghost use Rattle.revs_parser.specs.inside.Reading.{ReadsForm, Skips, Reads, Halts, HaltsIn};
 ghost use Rattle.revs_parser.specs.inside.Reading.{base_first, name_first};
@@ -12,15 +11,19 @@ ghost use Rattle.revs_parser.specs.inside.Forms.{ReadsNames, ReadsPart, ReadsAto
 ghost use Rattle.revs_parser.specs.inside.Forms.{ReadsRegister, ReadsBlock, ReadsPiece};
 ghost use Rattle.revs_parser.specs.inside.Forms.{ReadsBinding, in_part, in_function};
 ghost use Rattle.revs_parser.specs.inside.Forms.{in_application, in_register, in_binding};
+ghost use Rattle.revs_parser.specs.inside.Forms.{ReadsFunctionNames, in_function_names};
+ghost use Rattle.revs_parser.specs.inside.Forms.{in_bound_names, ReadsAppend, in_append, closed_by};
 ghost use Rattle.revs_parser.specs.declared.stop.Stop.{Stop};
 ghost use Rattle.revs_terms.specs.Trees.{tree_of, item_tree_of};
 
-use crate::leaf::{after, after_word, expect, name, number};
+use crate::build::{assignment, bound_value, function_of, joined, operation, with_parts};
+use crate::front::{Opener, first_opener, first_operator};
+use crate::leaf::{after, after_word, expect, name, number, single_base};
 use crate::stop::Stop;
 use revc_base::Place;
 use revs_lexer::{Sign, Tok, Token, Word};
 use revs_terms::limits::MOST_LEVELS;
-use revs_terms::{Item, Lambda, Name, Part, Term};
+use revs_terms::{Item, Name, Part, Term};
 use std::alloc::Global;
 
 // Whether a name stands first.
@@ -45,6 +48,31 @@ fn more_names(mut names: Vec<Name>, tokens: &[Token]) -> Result<(Vec<Name>, &[To
         rest = behind;
     }
     Ok((names, rest))
+}
+
+// The names of a function behind its `fun`, and its arrow.
+fn function_names(alloc: Global, tokens: &[Token]) -> Result<(Vec<Name>, &[Token]), Stop>
+    ensures ok { IfOk result (λ read. ReadsFunctionNames read.0.items tokens.now read.1.now) }
+    ensures halts { IfErr result (λ stop. Halts in_function_names tokens.now stop) }
+{
+    let (first, rest) = name(tokens)?;
+    let mut names = Vec::new(alloc);
+    names.push(first)?;
+    let (names, rest) = more_names(names, rest)?;
+    let rest = expect(rest, Sign::Arrow)?;
+    Ok((names, rest))
+}
+
+// The name that a `let` binds, the names behind it, and the `=`.
+fn bound_names(alloc: Global, tokens: &[Token]) -> Result<(Name, Vec<Name>, &[Token]), Stop>
+    ensures ok { IfOk result (λ read. Reads in_bound_names
+        (read.0, (read.1.items, tt)) tokens.now read.2.now) }
+    ensures halts { IfErr result (λ stop. Halts in_bound_names tokens.now stop) }
+{
+    let (bound, rest) = name(tokens)?;
+    let (names, rest) = more_names(Vec::new(alloc), rest)?;
+    let rest = expect(rest, Sign::Equal)?;
+    Ok((bound, names, rest))
 }
 
 // A part behind its dot, which has this place.
@@ -112,7 +140,7 @@ pub fn expression(alloc: Global, tokens: &[Token], level: u32) -> Result<(Term, 
         return Ok((left, rest));
     };
     let (right, rest) = sum(alloc, behind, level)?;
-    let term = Term::Assign(Box::new(alloc, left)?, Box::new(alloc, right)?);
+    let term = assignment(alloc, left, right)?;
     Ok((term, rest))
 }
 
@@ -129,14 +157,10 @@ fn function(
         (tree_of read.0) tokens.now read.1.now) }
     ensures halts { IfErr result (λ stop. Halts (in_function level) tokens.now stop) }
 {
-    let (first, rest) = name(tokens)?;
-    let mut names = Vec::new(alloc);
-    names.push(first)?;
-    let (names, rest) = more_names(names, rest)?;
-    let rest = expect(rest, Sign::Arrow)?;
+    let (names, rest) = function_names(alloc, tokens)?;
     let (body, rest) = expression(alloc, rest, level)?;
-    let function = Box::new(alloc, Lambda { names, body })?;
-    Ok((Term::Fun(function, at), rest))
+    let term = function_of(alloc, names, body, at)?;
+    Ok((term, rest))
 }
 
 #[cycle(read)]
@@ -192,26 +216,28 @@ fn application(alloc: Global, tokens: &[Token], level: u32) -> Result<(Term, &[T
         (tree_of read.0) tokens.now read.1.now) }
     ensures halts { IfErr result (λ stop. HaltsIn g.application level tokens.now stop) }
 {
-    if let Some((at, behind)) = after_word(tokens, Word::Clean) {
-        let (operand, rest) = atom(alloc, behind, level)?;
-        return Ok((Term::Clean(Box::new(alloc, operand)?, at), rest));
-    }
-    if let Some((at, behind)) = after_word(tokens, Word::Assert) {
-        let (operand, rest) = atom(alloc, behind, level)?;
-        return Ok((Term::Assert(Box::new(alloc, operand)?, at), rest));
-    }
     if let Some((at, behind)) = after_word(tokens, Word::Append) {
-        let (first, rest) = atom(alloc, behind, level)?;
-        let (second, rest) = atom(alloc, rest, level)?;
-        let term = Term::Append(Box::new(alloc, first)?, Box::new(alloc, second)?, at);
-        return Ok((term, rest));
+        return append(alloc, behind, level, at);
     }
-    if let Some((at, behind)) = after_word(tokens, Word::Rotate) {
-        let (by, rest) = number(behind)?;
-        let (operand, rest) = atom(alloc, rest, level)?;
-        return Ok((Term::Rotate(by, Box::new(alloc, operand)?, at), rest));
-    }
-    atoms(alloc, tokens, level)
+    let Some((operator, behind)) = first_operator(tokens)? else {
+        return atoms(alloc, tokens, level);
+    };
+    let (operand, rest) = atom(alloc, behind, level)?;
+    let term = operation(alloc, operator, operand)?;
+    Ok((term, rest))
+}
+
+// The two operands behind an `append`.
+#[cycle(read)]
+fn append(alloc: Global, tokens: &[Token], level: u32, at: Place) -> Result<(Term, &[Token]), Stop>
+    requires { level ≤ MOST_LEVELS }
+    ensures ok { IfOk result (λ read. ReadsAppend level at (tree_of read.0) tokens.now read.1.now) }
+    ensures halts { IfErr result (λ stop. Halts (in_append level) tokens.now stop) }
+{
+    let (first, rest) = atom(alloc, tokens, level)?;
+    let (second, rest) = atom(alloc, rest, level)?;
+    let term = joined(alloc, first, second, at)?;
+    Ok((term, rest))
 }
 
 // Whether the first token begins a base.
@@ -261,10 +287,8 @@ fn atom(alloc: Global, tokens: &[Token], level: u32) -> Result<(Term, &[Token]),
 {
     let (inner, rest) = base(alloc, tokens, level)?;
     let (parts, rest) = all_parts(alloc, rest)?;
-    if parts.is_empty() {
-        return Ok((inner, rest));
-    }
-    Ok((Term::At(Box::new(alloc, inner)?, parts), rest))
+    let term = with_parts(alloc, inner, parts)?;
+    Ok((term, rest))
 }
 
 #[cycle(read)]
@@ -274,28 +298,28 @@ fn base(alloc: Global, tokens: &[Token], level: u32) -> Result<(Term, &[Token]),
         (tree_of read.0) tokens.now read.1.now) }
     ensures halts { IfErr result (λ stop. HaltsIn g.base level tokens.now stop) }
 {
-    if let Some((at, behind)) = after_word(tokens, Word::True) {
-        return Ok((Term::Bool(true, at), behind));
+    let Some((opener, at, behind)) = first_opener(tokens) else {
+        return single_base(tokens);
+    };
+    let inner = open(level, tokens)?;
+    match opener {
+        Opener::Register => register(alloc, behind, inner, at),
+        Opener::Bracket => closed(alloc, behind, inner, Sign::CloseRound),
+        Opener::Block => block(alloc, behind, inner, at),
     }
-    if let Some((at, behind)) = after_word(tokens, Word::False) {
-        return Ok((Term::Bool(false, at), behind));
-    }
-    if let Some((at, behind)) = after_word(tokens, Word::Reg) {
-        let inner = open(level, tokens)?;
-        return register(alloc, behind, inner, at);
-    }
-    if let Some((_, behind)) = after(tokens, Sign::OpenRound) {
-        let inner = open(level, tokens)?;
-        let (term, rest) = expression(alloc, behind, inner)?;
-        let rest = expect(rest, Sign::CloseRound)?;
-        return Ok((term, rest));
-    }
-    if let Some((at, behind)) = after(tokens, Sign::OpenCurly) {
-        let inner = open(level, tokens)?;
-        return block(alloc, behind, inner, at);
-    }
-    let (used, rest) = name(tokens)?;
-    Ok((Term::Name(used), rest))
+}
+
+// An expression and the sign that ends it.
+#[cycle(read)]
+fn closed(alloc: Global, tokens: &[Token], level: u32, end: Sign) -> Result<(Term, &[Token]), Stop>
+    requires { level ≤ MOST_LEVELS }
+    ensures ok { IfOk result (λ read. Reads (closed_by end level)
+        (tree_of read.0, tt) tokens.now read.1.now) }
+    ensures halts { IfErr result (λ stop. Halts (closed_by end level) tokens.now stop) }
+{
+    let (term, rest) = expression(alloc, tokens, level)?;
+    let rest = expect(rest, end)?;
+    Ok((term, rest))
 }
 
 // The elements of a register behind its `reg`.
@@ -377,24 +401,8 @@ fn binding(alloc: Global, tokens: &[Token], level: u32) -> Result<(Item, &[Token
         (λ read. ReadsBinding level (item_tree_of read.0) tokens.now read.1.now) }
     ensures halts { IfErr result (λ stop. Halts (in_binding level) tokens.now stop) }
 {
-    let (bound, rest) = name(tokens)?;
-    let (names, rest) = more_names(Vec::new(alloc), rest)?;
-    let rest = expect(rest, Sign::Equal)?;
-    let (body, rest) = expression(alloc, rest, level)?;
-    let rest = expect(rest, Sign::Semi)?;
+    let (name, names, rest) = bound_names(alloc, tokens)?;
+    let (body, rest) = closed(alloc, rest, level, Sign::Semi)?;
     let value = bound_value(alloc, names, body)?;
-    Ok((Item::Let { name: bound, value }, rest))
-}
-
-// The value that a `let` binds: the body, or with names the function of these names, which stands
-// at the first of them.
-fn bound_value(alloc: Global, names: Vec<Name>, body: Term) -> Result<Term, Stop>
-    ensures ok { IfOk result (λ value. tree_of value ≡ bound_of names.items (tree_of body)) }
-    ensures memory { IfErr result (λ stop. stop ≡ Stop.Memory) }
-{
-    let Some(first) = names.first() else {
-        return Ok(body);
-    };
-    let at = first.at;
-    Ok(Term::Fun(Box::new(alloc, Lambda { names, body })?, at))
+    Ok((Item::Let { name, value }, rest))
 }

@@ -2,6 +2,9 @@
 
 ghost use Rattle.std.specs.Prelude.{◌≡◌, true, [], ◌∷◌, IfOk, IfErr, IsErrOf, IfSome, IfNone};
 ghost use Rattle.revs_parser.specs.inside.Reading.{Heads, NotFirst, Reads, Halts, name_first};
+ghost use Rattle.revs_parser.specs.inside.Reading.{ReadsAnywhere, HaltsAnywhere};
+ghost use Rattle.revs_parser.specs.inside.Forms.{NoOpener};
+ghost use Rattle.revs_terms.specs.Trees.{tree_of};
 ghost use Rattle.revs_grammar.specs.Forms as g;
 ghost use Rattle.revs_grammar.specs.Sentences.{token, kept_token};
 ghost use Rattle.revs_parser.specs.declared.stop.Stop.{Stop};
@@ -11,7 +14,7 @@ ghost use Rattle.revs_lexer.specs.declared.token.Tok.TheVariants as toks;
 use crate::stop::Stop;
 use revc_base::Place;
 use revs_lexer::{Sign, Tok, Token, Word};
-use revs_terms::Name;
+use revs_terms::{Name, Term};
 
 /// The place of a sign and the tokens behind it, where it stands first.
 pub fn after(tokens: &[Token], sign: Sign) -> Option<(Place, &[Token])>
@@ -132,4 +135,21 @@ pub fn bool_word(tokens: &[Token]) -> Result<&[Token], Stop>
         Some((_, rest)) => Ok(rest),
         None => Err(Stop::Syntax(tokens.len())),
     }
+}
+
+/// The base of one token that stands first, and the tokens behind it.
+pub fn single_base(tokens: &[Token]) -> Result<(Term, &[Token]), Stop>
+    requires { NoOpener tokens.now }
+    ensures ok { IfOk result (λ read. ReadsAnywhere g.base
+        (tree_of read.0) tokens.now read.1.now) }
+    ensures halts { IfErr result (λ stop. HaltsAnywhere g.base tokens.now stop) }
+{
+    if let Some((at, behind)) = after_word(tokens, Word::True) {
+        return Ok((Term::Bool(true, at), behind));
+    }
+    if let Some((at, behind)) = after_word(tokens, Word::False) {
+        return Ok((Term::Bool(false, at), behind));
+    }
+    let (used, rest) = name(tokens)?;
+    Ok((Term::Name(used), rest))
 }

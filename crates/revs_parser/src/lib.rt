@@ -5,7 +5,9 @@
 //! that opens level 101.
 #![tactic(auto)]
 
+mod build;
 mod expression;
+mod front;
 mod law;
 mod leaf;
 mod limits;

@@ -1,7 +1,11 @@
 -- What the functions read that are no form of the grammar by themselves.
 use Rattle.std.specs.Prelude.{◌≡◌, ℕ, ◌+◌, ◌<◌, Option, List, [], ◌∷◌, ◌++◌, length}
 use Rattle.revc_base.specs.declared.place.Place.{Place}
+use Rattle.revs_lexer.specs.declared.sign.Sign.{Sign}
 use Rattle.revs_lexer.specs.declared.sign.Sign.TheVariants as signs
+use Rattle.revs_lexer.specs.declared.word.Word.TheVariants as words
+use Rattle.revs_lexer.specs.declared.token.Tok.{Tok}
+use Rattle.revs_lexer.specs.declared.token.Tok.TheVariants as toks
 use Rattle.revs_lexer.specs.declared.token.Token.{Token}
 use Rattle.revs_grammar.specs.Forms.{any_name, any_number, sign, BodyTree}
 use Rattle.revs_grammar.specs.Forms as g
@@ -9,7 +13,7 @@ use Rattle.revs_grammar.specs.Productions.{apply_of, bound_of, index_of, in_fron
 use Rattle.revs_grammar.specs.Sentences.{token, kept_token, form}
 use Rattle.revs_grammar.specs.Faults.{IsSyntax, IsNesting}
 use Rattle.revs_grammar.specs.inside.Machine.{Stack}
-use Rattle.revs_terms.specs.Trees.{Tree, ItemTree, trees, item_trees, reg, block, function, bind, tree_of, item_tree_of}
+use Rattle.revs_terms.specs.Trees.{Tree, ItemTree, trees, item_trees, reg, block, function, append, rotate, clean, assert, bind, tree_of, item_tree_of}
 use Rattle.revs_terms.specs.declared.term.Name.{Name}
 use Rattle.revs_terms.specs.declared.term.Part.{Part}
 use Rattle.revs_terms.specs.declared.program.Param.{Param}
@@ -17,7 +21,11 @@ use Rattle.revs_parser.specs.declared.stop.Stop.{Stop}
 use Rattle.revs_parser.specs.declared.stop.Stop.TheVariants as stops
 use Rattle.revs_parser.specs.declared.expression.Piece.{Piece}
 use Rattle.revs_parser.specs.declared.expression.Piece.TheVariants as pieces
-use Rattle.revs_parser.specs.inside.Reading.{Passes, Reads, Skips, ReadsForm}
+use Rattle.revs_parser.specs.declared.front.Operator.{Operator}
+use Rattle.revs_parser.specs.declared.front.Operator.TheVariants as operators
+use Rattle.revs_parser.specs.declared.front.Opener.{Opener}
+use Rattle.revs_parser.specs.declared.front.Opener.TheVariants as openers
+use Rattle.revs_parser.specs.inside.Reading.{Passes, Reads, Skips, ReadsForm, NotFirst}
 
 -- { name } was read, and the names were put behind those before.
 pub record ReadsNames (before all : List Name) (ts rest : List Token) : Type 0 where
@@ -36,6 +44,17 @@ pub record ReadsPart (at : Place) (part : Part) (ts rest : List Token) : Type 0 
   pub is : part ≡ index_of at first last
   pub reads : Reads in_part (first, (last, tt)) ts rest
 
+-- what is expected of a function behind its `fun` and before its body
+abbrev pub in_function_names : Stack
+in_function_names = kept_token any_name ∷ form g.names 0 ∷ token (sign signs.Arrow) ∷ []
+
+-- The names of a function were read behind `fun`, and its arrow.
+pub record ReadsFunctionNames (all : List Name) (ts rest : List Token) : Type 0 where
+  pub first : Name
+  pub more : List Name
+  pub all_names : all ≡ first ∷ more
+  pub reads : Reads in_function_names (first, (more, tt)) ts rest
+
 -- what is expected of a function behind its `fun`
 abbrev pub in_function : ℕ → Stack
 in_function level = kept_token any_name ∷ form g.names 0 ∷ token (sign signs.Arrow) ∷ form g.expression level ∷ []
@@ -47,6 +66,50 @@ pub record ReadsFunction (level : ℕ) (at : Place) (term : Tree) (ts rest : Lis
   pub inner : Tree
   pub is : term ≡ function (first ∷ more) inner at
   pub reads : Reads (in_function level) (first, (more, (inner, tt))) ts rest
+
+-- the term of an operator with its operand
+abbrev pub operated : Operator → Tree → Tree
+operated (operators.Clean at) operand = clean operand at
+operated (operators.Assert at) operand = assert operand at
+operated (operators.Rotate by at) operand = rotate by operand at
+
+-- An operator was read in front of its operand.
+pub record ReadsOperator (operator : Operator) (ts rest : List Token) : Type 0 where
+  pub passes : (level : ℕ) → Passes (form g.application level ∷ []) (form g.atom level ∷ [])
+      (λ operand. (operated operator operand.0, tt)) ts rest
+
+-- No operator with one operand stands first.
+pub record NoOperator (ts : List Token) : Type 0 where
+  pub no_clean : NotFirst (toks.Word words.Clean) ts
+  pub no_assert : NotFirst (toks.Word words.Assert) ts
+  pub no_rotate : NotFirst (toks.Word words.Rotate) ts
+
+-- what is expected of an `append` behind the word
+abbrev pub in_append : ℕ → Stack
+in_append level = form g.atom level ∷ form g.atom level ∷ []
+
+-- The operands of an `append` were read behind the word, which has this place.
+pub record ReadsAppend (level : ℕ) (at : Place) (term : Tree) (ts rest : List Token) : Type 0 where
+  pub first : Tree
+  pub second : Tree
+  pub is : term ≡ append first second at
+  pub reads : Reads (in_append level) (first, (second, tt)) ts rest
+
+-- the token that opens a level
+abbrev pub opening : Opener → Tok
+opening openers.Register = toks.Word words.Reg
+opening openers.Bracket = toks.Sign signs.OpenRound
+opening openers.Block = toks.Sign signs.OpenCurly
+
+-- No token that opens a level in a base stands first.
+pub record NoOpener (ts : List Token) : Type 0 where
+  pub no_reg : NotFirst (toks.Word words.Reg) ts
+  pub no_round : NotFirst (toks.Sign signs.OpenRound) ts
+  pub no_curly : NotFirst (toks.Sign signs.OpenCurly) ts
+
+-- an expression and the sign that ends it
+abbrev pub closed_by : Sign → ℕ → Stack
+closed_by end level = form g.expression level ∷ token (sign end) ∷ []
 
 -- what is expected of an atom and its arguments
 abbrev pub in_application : ℕ → Stack
@@ -88,6 +151,10 @@ abbrev pub ReadsPiece : ℕ → Piece → List Token → List Token → Type 0
 ReadsPiece level (pieces.Item item) ts rest = ReadsItem level (item_tree_of item) ts rest
 ReadsPiece level (pieces.Last term) ts rest = ReadsForm g.body level
     (record { items = []; last = tree_of term }) ts rest
+
+-- what is expected of a `let` behind the word and before its value
+abbrev pub in_bound_names : Stack
+in_bound_names = kept_token any_name ∷ form g.names 0 ∷ token (sign signs.Equal) ∷ []
 
 -- what is expected of a `let` behind the word
 abbrev pub in_binding : ℕ → Stack

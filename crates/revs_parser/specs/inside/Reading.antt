@@ -56,6 +56,14 @@ pub record Halts (es : Stack) (ts : List Token) (stop : Stop) : Type 0 where
 abbrev pub HaltsIn : Form → ℕ → List Token → Stop → Type 0
 HaltsIn f l ts stop = Halts (form f l ∷ []) ts stop
 
+-- A form was read, whatever its level.
+pub record ReadsAnywhere (f : Form) (v : Val f) (ts rest : List Token) : Type 0 where
+  pub at_level : (level : ℕ) → ReadsForm f level v ts rest
+
+-- The machine that expects this form halts so, whatever the level.
+pub record HaltsAnywhere (f : Form) (ts : List Token) (stop : Stop) : Type 0 where
+  pub at_level : (level : ℕ) → HaltsIn f level ts stop
+
 -- A token of this kind and this place stands first, and the rest behind it.
 pub record Heads (k : Tok) (at : Place) (ts rest : List Token) : Type 0 where
   pub cut : ts ≡ record { tok = k; at = at } ∷ rest

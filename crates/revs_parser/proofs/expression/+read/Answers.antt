@@ -5,6 +5,8 @@ use Rattle.revs_terms.proofs.ShapeLemmas.{tree_of-Rotate, tree_of-Clean, tree_of
 use Rattle.revs_terms.proofs.ShapeLemmas.{item_tree_of-Do}
 use Rattle.std.proofs.lemmas.Bool.{eqb-true, eqb-false}
 use Rattle.std.proofs.lemmas.Result.{IfOk-weaker, IfErr-weaker}
+use Rattle.revs_lexer.specs.declared.sign.Sign.TheVariants as signs
+use Rattle.revs_parser.specs.inside.Forms.{closed_by}
 use Rattle.revs_parser.proofs.PassingLemmas.{only, smaller_behind, halts_first}
 use Rattle.revs_parser.proofs.ReadingLemmas as r
 use Rattle.revs_parser.proofs.expression.+read.Goals as goal
@@ -42,32 +44,23 @@ expression-returns-in_err-right-clause-halts t c =
 
 pub expression-returns-clause-ok : goal.expression-returns-clause-ok
 expression-returns-clause-ok t c = r.expression_assign c.args.level c.in_default.ensures.none c.in_ok-left.ensures.ok c.in-Some-after.ensures.found
-    c.in_ok-right.ensures.ok (rw (tree_of-Assign, c.in_ok-new.ensures.ok, c.in_ok-new-2.ensures.ok))
+    c.in_ok-right.ensures.ok c.in_ok-term.ensures.ok
 
 -- ---- functions
 
-pub function-returns-in_err-first-clause-halts : goal.function-returns-in_err-first-clause-halts
-function-returns-in_err-first-clause-halts t c =
-    passes_on _ _ c.from_residual.ensures.1 (halts_first (r.function_rest c.args.level) c.in_err-first.ensures.halts)
-
 pub function-returns-in_err-names-clause-halts : goal.function-returns-in_err-names-clause-halts
 function-returns-in_err-names-clause-halts t c =
-    passes_on _ _ c.from_residual-in_err-names.ensures.1 (r.function_in_names c.args.level c.in_ok-first.ensures.ok c.in_err-names.ensures.halts)
-
-pub function-returns-in_err-rest-clause-halts : goal.function-returns-in_err-rest-clause-halts
-function-returns-in_err-rest-clause-halts t c =
-    passes_on _ _ c.from_residual-in_err-rest.ensures.1
-    (r.function_no_arrow c.args.level c.in_ok-first.ensures.ok c.in_ok-names.ensures.ok c.in_err-rest.ensures.halts)
+    passes_on _ _ c.from_residual.ensures.1
+    (halts_first (r.function_rest c.args.level) c.in_err-names.ensures.halts)
 
 pub function-returns-in_err-body-clause-halts : goal.function-returns-in_err-body-clause-halts
 function-returns-in_err-body-clause-halts t c =
     passes_on _ _ c.from_residual-in_err-body.ensures.1
-    (r.function_in_body c.args.level c.in_ok-first.ensures.ok c.in_ok-names.ensures.ok c.in_ok-rest.ensures.ok c.in_err-body.ensures.halts)
+    (r.function_in_body c.args.level c.in_ok-names.ensures.ok c.in_err-body.ensures.halts)
 
 pub function-returns-clause-ok : goal.function-returns-clause-ok
-function-returns-clause-ok t c = r.function_reads c.args.level c.args.at c.in_ok-first.ensures.ok
-    (only c.new-names.result.items c.in_ok-first.first c.in_ok-push.ensures.items c.new-names.ensures.items)
-    c.in_ok-names.ensures.ok c.in_ok-rest.ensures.ok c.in_ok-body.ensures.ok (rw (tree_of-Fun, c.in_ok-function.ensures.ok))
+function-returns-clause-ok t c =
+    r.function_reads c.args.level c.in_ok-names.ensures.ok c.args.at c.in_ok-body.ensures.ok c.in_ok-term.ensures.ok
 
 -- ---- sums
 
@@ -137,67 +130,52 @@ product-applications-smaller t c = smaller_behind c.in_ok-next.ensures.ok c.in-S
 
 -- ---- applications
 
+pub application-returns-in-Some-clause-ok : goal.application-returns-in-Some-clause-ok
+application-returns-in-Some-clause-ok t c =
+    IfOk-weaker c.append.result _ _ (λ x. r.application_append c.args.level c.in-Some.ensures.found) c.append.ensures.ok
+
+pub application-returns-in-Some-clause-halts : goal.application-returns-in-Some-clause-halts
+application-returns-in-Some-clause-halts t c =
+    IfErr-weaker c.append.result _ _ (λ x. r.append_halts c.args.level c.in-Some.ensures.found) c.append.ensures.halts
+
+pub application-returns-in_default-2-clause-ok : goal.application-returns-in_default-2-clause-ok
+application-returns-in_default-2-clause-ok t c =
+    let none = rw c.in_default-2.is at c.in_ok-operator.ensures.none in
+    IfOk-weaker c.atoms.result _ _ (λ x. r.application_plain c.args.level (r.plain c.in_default.ensures.none none)) c.atoms.ensures.ok
+
+pub application-returns-in_default-2-clause-halts : goal.application-returns-in_default-2-clause-halts
+application-returns-in_default-2-clause-halts t c =
+    let none = rw c.in_default-2.is at c.in_ok-operator.ensures.none in
+    IfErr-weaker c.atoms.result _ _ (λ x. r.plain_halts c.args.level (r.plain c.in_default.ensures.none none)) c.atoms.ensures.halts
+
+pub application-returns-in_err-operator-clause-halts : goal.application-returns-in_err-operator-clause-halts
+application-returns-in_err-operator-clause-halts t c =
+    passes_on _ _ c.from_residual.ensures.1 (c.in_err-operator.ensures.halts.at_level c.args.level)
+
 pub application-returns-in_err-operand-clause-halts : goal.application-returns-in_err-operand-clause-halts
 application-returns-in_err-operand-clause-halts t c =
-    passes_on _ _ c.from_residual.ensures.1 (r.clean_halts c.args.level c.in-Some.ensures.found c.in_err-operand.ensures.halts)
-
-pub application-returns-in-Some-clause-ok : goal.application-returns-in-Some-clause-ok
-application-returns-in-Some-clause-ok t c = r.application_clean c.args.level c.in-Some.ensures.found c.in_ok-operand.ensures.ok
-    (rw (tree_of-Clean, c.in_ok-new.ensures.ok))
-
-pub application-returns-in_err-operand-2-clause-halts : goal.application-returns-in_err-operand-2-clause-halts
-application-returns-in_err-operand-2-clause-halts t c =
-    passes_on _ _ c.from_residual-in_err-operand-2.ensures.1 (r.assert_halts c.args.level c.in-Some-after_word.ensures.found c.in_err-operand-2.ensures.halts)
-
-pub application-returns-in-Some-after_word-clause-ok : goal.application-returns-in-Some-after_word-clause-ok
-application-returns-in-Some-after_word-clause-ok t c = r.application_assert c.args.level c.in-Some-after_word.ensures.found c.in_ok-operand-2.ensures.ok
-    (rw (tree_of-Assert, c.in_ok-new-2.ensures.ok))
-
-pub application-returns-in_err-first-clause-halts : goal.application-returns-in_err-first-clause-halts
-application-returns-in_err-first-clause-halts t c =
-    passes_on _ _ c.from_residual-in_err-first.ensures.1 (r.append_halts c.args.level c.in-Some-after_word-2.ensures.found c.in_err-first.ensures.halts)
-
-pub application-returns-in_err-second-clause-halts : goal.application-returns-in_err-second-clause-halts
-application-returns-in_err-second-clause-halts t c =
-    passes_on _ _ c.from_residual-in_err-second.ensures.1
-    (r.append_halts_second c.args.level c.in-Some-after_word-2.ensures.found c.in_ok-first.ensures.ok c.in_err-second.ensures.halts)
-
-pub application-returns-in-Some-after_word-2-clause-ok : goal.application-returns-in-Some-after_word-2-clause-ok
-application-returns-in-Some-after_word-2-clause-ok t c = r.application_append c.args.level c.in-Some-after_word-2.ensures.found c.in_ok-first.ensures.ok
-    c.in_ok-second.ensures.ok (rw (tree_of-Append, c.in_ok-new-3.ensures.ok, c.in_ok-new-4.ensures.ok))
-
-pub application-returns-in_err-by-clause-halts : goal.application-returns-in_err-by-clause-halts
-application-returns-in_err-by-clause-halts t c =
-    passes_on _ _ c.from_residual-in_err-by.ensures.1 (r.rotate_halts c.args.level c.in-Some-after_word-3.ensures.found c.in_err-by.ensures.halts)
-
-pub application-returns-in_err-operand-3-clause-halts : goal.application-returns-in_err-operand-3-clause-halts
-application-returns-in_err-operand-3-clause-halts t c =
-    passes_on _ _ c.from_residual-in_err-operand-3.ensures.1
-    (r.rotate_halts_second c.args.level c.in-Some-after_word-3.ensures.found c.in_ok-by.ensures.ok c.in_err-operand-3.ensures.halts)
-
-pub application-returns-in-Some-after_word-3-clause-ok : goal.application-returns-in-Some-after_word-3-clause-ok
-application-returns-in-Some-after_word-3-clause-ok t c = r.application_rotate c.args.level c.in-Some-after_word-3.ensures.found c.in_ok-by.ensures.ok
-    c.in_ok-operand-3.ensures.ok (rw (tree_of-Rotate, c.in_ok-new-5.ensures.ok))
+    let found = rw c.in-Some-2.is at c.in_ok-operator.ensures.found in
+    passes_on _ _ c.from_residual-in_err-operand.ensures.1
+    (r.operand_halts c.args.level found c.in_err-operand.ensures.halts)
 
 pub application-returns-clause-ok : goal.application-returns-clause-ok
-application-returns-clause-ok t c = IfOk-weaker c.atoms.result _ _
-    (λ x. r.application_plain c.args.level
-    (record {
-      no_clean = c.in_default.ensures.none;
-      no_assert = c.in_default-after_word.ensures.none;
-      no_append = c.in_default-after_word-2.ensures.none;
-      no_rotate = c.in_default-after_word-3.ensures.none;
-    })) c.atoms.ensures.ok
+application-returns-clause-ok t c =
+    let found = rw c.in-Some-2.is at c.in_ok-operator.ensures.found in
+    r.application_operator c.args.level found c.in_ok-operand.ensures.ok c.in_ok-term.ensures.ok
 
-pub application-returns-clause-halts : goal.application-returns-clause-halts
-application-returns-clause-halts t c = IfErr-weaker c.atoms.result _ _
-    (λ x. r.plain_halts c.args.level
-    (record {
-      no_clean = c.in_default.ensures.none;
-      no_assert = c.in_default-after_word.ensures.none;
-      no_append = c.in_default-after_word-2.ensures.none;
-      no_rotate = c.in_default-after_word-3.ensures.none;
-    })) c.atoms.ensures.halts
+pub append-returns-in_err-first-clause-halts : goal.append-returns-in_err-first-clause-halts
+append-returns-in_err-first-clause-halts t c =
+    passes_on _ _ c.from_residual.ensures.1
+    (halts_first (r.append_rest c.args.level) c.in_err-first.ensures.halts)
+
+pub append-returns-in_err-second-clause-halts : goal.append-returns-in_err-second-clause-halts
+append-returns-in_err-second-clause-halts t c =
+    passes_on _ _ c.from_residual-in_err-second.ensures.1
+    (r.append_halts_second c.args.level c.in_ok-first.ensures.ok c.in_err-second.ensures.halts)
+
+pub append-returns-clause-ok : goal.append-returns-clause-ok
+append-returns-clause-ok t c =
+    r.append_reads c.args.level c.args.at c.in_ok-first.ensures.ok c.in_ok-second.ensures.ok c.in_ok-term.ensures.ok
 
 -- ---- an atom and its arguments
 
@@ -242,98 +220,74 @@ pub atom-returns-in_err-parts-clause-halts : goal.atom-returns-in_err-parts-clau
 atom-returns-in_err-parts-clause-halts t c =
     passes_on _ _ c.from_residual-in_err-parts.ensures.1 (r.atom_in_parts c.args.level c.in_ok-inner.ensures.ok c.in_err-parts.ensures.halts)
 
-pub atom-returns-then-is_empty-clause-ok : goal.atom-returns-then-is_empty-clause-ok
-atom-returns-then-is_empty-clause-ok t c =
-    let e : c.in_ok-parts.parts.len ≡ 0 = eqb-true c.in_ok-parts.parts.len 0 (sym c.is_empty.ensures ∙ c.if-is_empty.true) in
-    let none : length c.in_ok-parts.parts.items ≡ 0 = omega arith in
-    r.atom_reads c.args.level c.in_ok-inner.ensures.ok c.in_ok-parts.ensures.ok (r.no_part (tree_of c.in_ok-inner.inner) c.in_ok-parts.parts.items none)
-
 pub atom-returns-clause-ok : goal.atom-returns-clause-ok
 atom-returns-clause-ok t c =
-    let e : ¬ (c.in_ok-parts.parts.len ≡ 0) = eqb-false c.in_ok-parts.parts.len 0 (sym c.is_empty.ensures ∙ c.if-is_empty.false) in
-    let some : ¬ (length c.in_ok-parts.parts.items ≡ 0) = λ none. e (omega arith) in
-    r.atom_reads c.args.level c.in_ok-inner.ensures.ok c.in_ok-parts.ensures.ok
-    (rw (tree_of-At, c.in_ok-new.ensures.ok) (r.some_part (tree_of c.in_ok-inner.inner) c.in_ok-parts.parts.items some))
+    r.atom_reads c.args.level c.in_ok-inner.ensures.ok c.in_ok-parts.ensures.ok c.in_ok-term.ensures.ok
 
 -- ---- bases
 
-pub base-returns-in-Some-clause-ok : goal.base-returns-in-Some-clause-ok
-base-returns-in-Some-clause-ok t c = r.base_true c.args.level c.in-Some.ensures.found (tree_of-Bool _ c.in-Some.at)
+pub base-returns-in_default-clause-ok : goal.base-returns-in_default-clause-ok
+base-returns-in_default-clause-ok t c =
+    IfOk-weaker c.single_base.result _ _ (λ x read. read.at_level c.args.level) c.single_base.ensures.ok
 
-pub base-returns-in-Some-after_word-clause-ok : goal.base-returns-in-Some-after_word-clause-ok
-base-returns-in-Some-after_word-clause-ok t c = r.base_false c.args.level c.in-Some-after_word.ensures.found (tree_of-Bool _ c.in-Some-after_word.at)
+pub base-returns-in_default-clause-halts : goal.base-returns-in_default-clause-halts
+base-returns-in_default-clause-halts t c =
+    IfErr-weaker c.single_base.result _ _ (λ x halt. halt.at_level c.args.level) c.single_base.ensures.halts
 
 pub base-returns-in_err-inner-clause-halts : goal.base-returns-in_err-inner-clause-halts
 base-returns-in_err-inner-clause-halts t c =
     passes_on _ _ c.from_residual.ensures.1
-    (r.register_no_level c.args.level c.in-Some-after_word-2.ensures.found c.in_err-inner.ensures.deep _ c.in_err-inner.ensures.stops)
+    (r.base_no_level c.args.level c.in-Some.opener c.in-Some.ensures.found c.in_err-inner.ensures.deep _ c.in_err-inner.ensures.stops)
 
-pub base-returns-in-Some-after_word-2-clause-ok : goal.base-returns-in-Some-after_word-2-clause-ok
-base-returns-in-Some-after_word-2-clause-ok t c = IfOk-weaker c.register.result _ _
-    (λ x. r.base_register c.args.level c.in-Some-after_word-2.ensures.found c.in_ok-inner.ensures.inner c.in_ok-inner.ensures.within)
+pub base-returns-in-Register-clause-ok : goal.base-returns-in-Register-clause-ok
+base-returns-in-Register-clause-ok t c =
+    let opened = rw c.in-Register.is at c.in-Some.ensures.found in
+    IfOk-weaker c.register.result _ _ (λ x. r.base_register c.args.level opened c.in_ok-inner.ensures.inner c.in_ok-inner.ensures.within)
     c.register.ensures.ok
 
-pub base-returns-in-Some-after_word-2-clause-halts : goal.base-returns-in-Some-after_word-2-clause-halts
-base-returns-in-Some-after_word-2-clause-halts t c = IfErr-weaker c.register.result _ _
-    (λ x. r.in_register_halts c.args.level c.in-Some-after_word-2.ensures.found c.in_ok-inner.ensures.inner c.in_ok-inner.ensures.within)
+pub base-returns-in-Register-clause-halts : goal.base-returns-in-Register-clause-halts
+base-returns-in-Register-clause-halts t c =
+    let opened = rw c.in-Register.is at c.in-Some.ensures.found in
+    IfErr-weaker c.register.result _ _ (λ x. r.in_register_halts c.args.level opened c.in_ok-inner.ensures.inner c.in_ok-inner.ensures.within)
     c.register.ensures.halts
 
-pub base-returns-in_err-inner-2-clause-halts : goal.base-returns-in_err-inner-2-clause-halts
-base-returns-in_err-inner-2-clause-halts t c =
-    passes_on _ _ c.from_residual-in_err-inner-2.ensures.1
-    (r.bracket_no_level c.args.level c.in-Some-after.ensures.found c.in_err-inner-2.ensures.deep _ c.in_err-inner-2.ensures.stops)
+pub base-returns-in-Bracket-clause-ok : goal.base-returns-in-Bracket-clause-ok
+base-returns-in-Bracket-clause-ok t c =
+    let opened = rw c.in-Bracket.is at c.in-Some.ensures.found in
+    IfOk-weaker c.closed.result _ _ (λ x. r.base_bracket c.args.level opened c.in_ok-inner.ensures.inner c.in_ok-inner.ensures.within)
+    c.closed.ensures.ok
 
-pub base-returns-in_err-term-clause-halts : goal.base-returns-in_err-term-clause-halts
-base-returns-in_err-term-clause-halts t c =
-    passes_on _ _ c.from_residual-in_err-term.ensures.1
-    (r.in_bracket_halts c.args.level c.in-Some-after.ensures.found c.in_ok-inner-2.ensures.inner
-    c.in_ok-inner-2.ensures.within c.in_err-term.ensures.halts)
+pub base-returns-in-Bracket-clause-halts : goal.base-returns-in-Bracket-clause-halts
+base-returns-in-Bracket-clause-halts t c =
+    let opened = rw c.in-Bracket.is at c.in-Some.ensures.found in
+    IfErr-weaker c.closed.result _ _ (λ x. r.in_bracket_halts c.args.level opened c.in_ok-inner.ensures.inner c.in_ok-inner.ensures.within)
+    c.closed.ensures.halts
 
-pub base-returns-in_err-rest-clause-halts : goal.base-returns-in_err-rest-clause-halts
-base-returns-in_err-rest-clause-halts t c =
-    passes_on _ _ c.from_residual-in_err-rest.ensures.1
-    (r.bracket_unclosed c.args.level c.in-Some-after.ensures.found c.in_ok-inner-2.ensures.inner
-    c.in_ok-inner-2.ensures.within c.in_ok-term.ensures.ok c.in_err-rest.ensures.halts)
-
-pub base-returns-in-Some-after-clause-ok : goal.base-returns-in-Some-after-clause-ok
-base-returns-in-Some-after-clause-ok t c = r.base_bracket c.args.level c.in-Some-after.ensures.found c.in_ok-inner-2.ensures.inner
-    c.in_ok-inner-2.ensures.within c.in_ok-term.ensures.ok c.in_ok-rest.ensures.ok
-
-pub base-returns-in_err-inner-3-clause-halts : goal.base-returns-in_err-inner-3-clause-halts
-base-returns-in_err-inner-3-clause-halts t c =
-    passes_on _ _ c.from_residual-in_err-inner-3.ensures.1
-    (r.block_no_level c.args.level c.in-Some-after-2.ensures.found c.in_err-inner-3.ensures.deep _ c.in_err-inner-3.ensures.stops)
-
-pub base-returns-in-Some-after-2-clause-ok : goal.base-returns-in-Some-after-2-clause-ok
-base-returns-in-Some-after-2-clause-ok t c = IfOk-weaker c.block.result _ _
-    (λ x. r.base_block c.args.level c.in-Some-after-2.ensures.found c.in_ok-inner-3.ensures.inner c.in_ok-inner-3.ensures.within)
+pub base-returns-in-Block-clause-ok : goal.base-returns-in-Block-clause-ok
+base-returns-in-Block-clause-ok t c =
+    let opened = rw c.in-Block.is at c.in-Some.ensures.found in
+    IfOk-weaker c.block.result _ _ (λ x. r.base_block c.args.level opened c.in_ok-inner.ensures.inner c.in_ok-inner.ensures.within)
     c.block.ensures.ok
 
-pub base-returns-in-Some-after-2-clause-halts : goal.base-returns-in-Some-after-2-clause-halts
-base-returns-in-Some-after-2-clause-halts t c = IfErr-weaker c.block.result _ _
-    (λ x. r.in_block_halts c.args.level c.in-Some-after-2.ensures.found c.in_ok-inner-3.ensures.inner c.in_ok-inner-3.ensures.within)
+pub base-returns-in-Block-clause-halts : goal.base-returns-in-Block-clause-halts
+base-returns-in-Block-clause-halts t c =
+    let opened = rw c.in-Block.is at c.in-Some.ensures.found in
+    IfErr-weaker c.block.result _ _ (λ x. r.in_block_halts c.args.level opened c.in_ok-inner.ensures.inner c.in_ok-inner.ensures.within)
     c.block.ensures.halts
 
-pub base-returns-in_err-used-clause-halts : goal.base-returns-in_err-used-clause-halts
-base-returns-in_err-used-clause-halts t c =
-    passes_on _ _ c.from_residual-in_err-used.ensures.1 (r.base_no_use c.args.level
-    (record {
-      no_true = c.in_default.ensures.none;
-      no_false = c.in_default-after_word.ensures.none;
-      no_reg = c.in_default-after_word-2.ensures.none;
-      no_round = c.in_default-after.ensures.none;
-      no_curly = c.in_default-after-2.ensures.none;
-    }) c.in_err-used.ensures.halts)
+pub closed-returns-in_err-term-clause-halts : goal.closed-returns-in_err-term-clause-halts
+closed-returns-in_err-term-clause-halts t c =
+    passes_on _ _ c.from_residual.ensures.1
+    (halts_first (r.closed_rest c.args.end) c.in_err-term.ensures.halts)
 
-pub base-returns-clause-ok : goal.base-returns-clause-ok
-base-returns-clause-ok t c = r.base_use c.args.level
-    (record {
-      no_true = c.in_default.ensures.none;
-      no_false = c.in_default-after_word.ensures.none;
-      no_reg = c.in_default-after_word-2.ensures.none;
-      no_round = c.in_default-after.ensures.none;
-      no_curly = c.in_default-after-2.ensures.none;
-    }) c.in_ok-used.ensures.ok (tree_of-Name c.in_ok-used.used)
+pub closed-returns-in_err-rest-clause-halts : goal.closed-returns-in_err-rest-clause-halts
+closed-returns-in_err-rest-clause-halts t c =
+    passes_on _ _ c.from_residual-in_err-rest.ensures.1
+    (r.unclosed c.args.level c.in_ok-term.ensures.ok c.in_err-rest.ensures.halts)
+
+pub closed-returns-clause-ok : goal.closed-returns-clause-ok
+closed-returns-clause-ok t c =
+    r.closed_reads c.args.level c.in_ok-term.ensures.ok c.in_ok-rest.ensures.ok
 
 -- ---- registers
 
@@ -420,30 +374,17 @@ item_or_last-returns-clause-ok t c = r.last_reads c.args.level c.in_default.ensu
 
 -- ---- bindings
 
-pub binding-returns-in_err-bound-clause-halts : goal.binding-returns-in_err-bound-clause-halts
-binding-returns-in_err-bound-clause-halts t c =
-    passes_on _ _ c.from_residual.ensures.1 (halts_first (r.binding_rest c.args.level) c.in_err-bound.ensures.halts)
-
-pub binding-returns-in_err-names-clause-halts : goal.binding-returns-in_err-names-clause-halts
-binding-returns-in_err-names-clause-halts t c =
-    passes_on _ _ c.from_residual-in_err-names.ensures.1 (r.binding_in_names c.args.level c.in_ok-bound.ensures.ok c.in_err-names.ensures.halts)
-
-pub binding-returns-in_err-rest-clause-halts : goal.binding-returns-in_err-rest-clause-halts
-binding-returns-in_err-rest-clause-halts t c =
-    passes_on _ _ c.from_residual-in_err-rest.ensures.1
-    (r.binding_no_equal c.args.level c.in_ok-bound.ensures.ok c.in_ok-names.ensures.ok c.in_err-rest.ensures.halts)
+pub binding-returns-in_err-name-clause-halts : goal.binding-returns-in_err-name-clause-halts
+binding-returns-in_err-name-clause-halts t c =
+    passes_on _ _ c.from_residual.ensures.1
+    (halts_first (closed_by signs.Semi c.args.level) c.in_err-name.ensures.halts)
 
 pub binding-returns-in_err-body-clause-halts : goal.binding-returns-in_err-body-clause-halts
 binding-returns-in_err-body-clause-halts t c =
     passes_on _ _ c.from_residual-in_err-body.ensures.1
-    (r.binding_in_value c.args.level c.in_ok-bound.ensures.ok c.in_ok-names.ensures.ok c.in_ok-rest.ensures.ok c.in_err-body.ensures.halts)
-
-pub binding-returns-in_err-rest-2-clause-halts : goal.binding-returns-in_err-rest-2-clause-halts
-binding-returns-in_err-rest-2-clause-halts t c =
-    passes_on _ _ c.from_residual-in_err-rest-2.ensures.1
-    (r.binding_no_semi c.args.level c.in_ok-bound.ensures.ok c.in_ok-names.ensures.ok c.in_ok-rest.ensures.ok c.in_ok-body.ensures.ok
-    c.in_err-rest-2.ensures.halts)
+    (r.binding_in_value c.args.level c.in_ok-name.ensures.ok c.in_err-body.ensures.halts)
 
 pub binding-returns-clause-ok : goal.binding-returns-clause-ok
-binding-returns-clause-ok t c = r.binding_reads c.args.level c.in_ok-bound.ensures.ok c.new.ensures.items c.in_ok-names.ensures.ok c.in_ok-rest.ensures.ok
-    c.in_ok-body.ensures.ok c.in_ok-rest-2.ensures.ok (rw (item_tree_of-Let, c.in_ok-value.ensures.ok))
+binding-returns-clause-ok t c =
+    r.binding_reads c.args.level c.in_ok-name.ensures.ok c.in_ok-body.ensures.ok
+    (rw (item_tree_of-Let, c.in_ok-value.ensures.ok))

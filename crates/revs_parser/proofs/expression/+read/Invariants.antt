@@ -6,6 +6,9 @@ use Rattle.revs_parser.proofs.expression.+read.Given as goal
 abbrev pub decreases-application : goal.decreases-application
 decreases-application l = (101 - l.level) * 16 + 4
 
+abbrev pub decreases-append : goal.decreases-append
+decreases-append l = (101 - l.level) * 16 + 3
+
 abbrev pub decreases-atom : goal.decreases-atom
 decreases-atom l = (101 - l.level) * 16 + 2
 
@@ -16,10 +19,13 @@ abbrev pub decreases-base : goal.decreases-base
 decreases-base l = (101 - l.level) * 16 + 1
 
 abbrev pub decreases-binding : goal.decreases-binding
-decreases-binding l = (101 - l.level) * 16 + 8
+decreases-binding l = (101 - l.level) * 16 + 9
 
 abbrev pub decreases-block : goal.decreases-block
-decreases-block l = (101 - l.level) * 16 + 10
+decreases-block l = (101 - l.level) * 16 + 11
+
+abbrev pub decreases-closed : goal.decreases-closed
+decreases-closed l = (101 - l.level) * 16 + 8
 
 abbrev pub decreases-expression : goal.decreases-expression
 decreases-expression l = (101 - l.level) * 16 + 7
@@ -28,7 +34,7 @@ abbrev pub decreases-function : goal.decreases-function
 decreases-function l = (101 - l.level) * 16 + 10
 
 abbrev pub decreases-item_or_last : goal.decreases-item_or_last
-decreases-item_or_last l = (101 - l.level) * 16 + 9
+decreases-item_or_last l = (101 - l.level) * 16 + 10
 
 abbrev pub decreases-product : goal.decreases-product
 decreases-product l = (101 - l.level) * 16 + 5

@@ -1,0 +1,77 @@
+// Terms made of their parts.
+
+ghost use Rattle.std.specs.Prelude.{◌≡◌, IfOk, IfErr};
+ghost use Rattle.revs_grammar.specs.Productions.{bound_of, parts_of};
+ghost use Rattle.revs_terms.specs.Trees.{tree_of, item_tree_of};
+ghost use Rattle.revs_terms.specs.Trees as shape;
+ghost use Rattle.revs_parser.specs.inside.Forms.{operated};
+ghost use Rattle.revs_parser.specs.declared.stop.Stop.{Stop};
+
+use crate::front::Operator;
+use crate::stop::Stop;
+use revc_base::Place;
+use revs_terms::{Lambda, Name, Part, Term};
+use std::alloc::Global;
+
+/// An assignment.
+pub fn assignment(alloc: Global, left: Term, right: Term) -> Result<Term, Stop>
+    ensures ok { IfOk result (λ term. tree_of term ≡ shape.assign (tree_of left) (tree_of right)) }
+    ensures memory { IfErr result (λ stop. stop ≡ Stop.Memory) }
+{
+    Ok(Term::Assign(Box::new(alloc, left)?, Box::new(alloc, right)?))
+}
+
+/// Two registers, one behind the other.
+pub fn joined(alloc: Global, first: Term, second: Term, at: Place) -> Result<Term, Stop>
+    ensures ok { IfOk result
+        (λ term. tree_of term ≡ shape.append (tree_of first) (tree_of second) at) }
+    ensures memory { IfErr result (λ stop. stop ≡ Stop.Memory) }
+{
+    let first = Box::new(alloc, first)?;
+    Ok(Term::Append(first, Box::new(alloc, second)?, at))
+}
+
+/// An operator with its operand.
+pub fn operation(alloc: Global, operator: Operator, operand: Term) -> Result<Term, Stop>
+    ensures ok { IfOk result (λ term. tree_of term ≡ operated operator (tree_of operand)) }
+    ensures memory { IfErr result (λ stop. stop ≡ Stop.Memory) }
+{
+    let operand = Box::new(alloc, operand)?;
+    Ok(match operator {
+        Operator::Clean(at) => Term::Clean(operand, at),
+        Operator::Assert(at) => Term::Assert(operand, at),
+        Operator::Rotate(by, at) => Term::Rotate(by, operand, at),
+    })
+}
+
+/// These parts of a term, or with no part the term.
+pub fn with_parts(alloc: Global, inner: Term, parts: Vec<Part>) -> Result<Term, Stop>
+    ensures ok { IfOk result (λ term. tree_of term ≡ parts_of (tree_of inner) parts.items) }
+    ensures memory { IfErr result (λ stop. stop ≡ Stop.Memory) }
+{
+    if parts.is_empty() {
+        return Ok(inner);
+    }
+    Ok(Term::At(Box::new(alloc, inner)?, parts))
+}
+
+/// The function of these names.
+pub fn function_of(alloc: Global, names: Vec<Name>, body: Term, at: Place) -> Result<Term, Stop>
+    ensures ok { IfOk result (λ term. tree_of term ≡ shape.function names.items (tree_of body) at) }
+    ensures memory { IfErr result (λ stop. stop ≡ Stop.Memory) }
+{
+    Ok(Term::Fun(Box::new(alloc, Lambda { names, body })?, at))
+}
+
+/// The value that a `let` binds: the body, or with names the function of these names, which stands
+/// at the first of them.
+pub fn bound_value(alloc: Global, names: Vec<Name>, body: Term) -> Result<Term, Stop>
+    ensures ok { IfOk result (λ value. tree_of value ≡ bound_of names.items (tree_of body)) }
+    ensures memory { IfErr result (λ stop. stop ≡ Stop.Memory) }
+{
+    let Some(first) = names.first() else {
+        return Ok(body);
+    };
+    let at = first.at;
+    function_of(alloc, names, body, at)
+}

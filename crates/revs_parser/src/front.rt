@@ -1,0 +1,63 @@
+// What stands in front: operators, and the tokens that open a level.
+
+ghost use Rattle.std.specs.Prelude.{IfOk, IfErr, IfSome, IfNone};
+ghost use Rattle.revs_grammar.specs.Forms as g;
+ghost use Rattle.revs_parser.specs.inside.Reading.{Heads, HaltsAnywhere};
+ghost use Rattle.revs_parser.specs.inside.Forms.{opening, NoOpener, ReadsOperator, NoOperator};
+
+use crate::leaf::{after, after_word, number};
+use crate::stop::Stop;
+use revc_base::Place;
+use revs_lexer::{Sign, Token, Word};
+
+/// An operator with one operand, and its place.
+#[derive(Clone, Copy)]
+pub enum Operator {
+    Clean(Place),
+    Assert(Place),
+    Rotate(u32, Place),
+}
+
+/// What opens a level in a base.
+#[derive(Clone, Copy)]
+pub enum Opener {
+    Register,
+    Bracket,
+    Block,
+}
+
+/// The operator that stands first, and the tokens of its operand.
+pub fn first_operator(tokens: &[Token]) -> Result<Option<(Operator, &[Token])>, Stop>
+    ensures found { IfOk result (λ read. IfSome read
+        (λ found. ReadsOperator found.0 tokens.now found.1.now)) }
+    ensures none { IfOk result (λ read. IfNone read (NoOperator tokens.now)) }
+    ensures halts { IfErr result (λ stop. HaltsAnywhere g.application tokens.now stop) }
+{
+    if let Some((at, behind)) = after_word(tokens, Word::Clean) {
+        return Ok(Some((Operator::Clean(at), behind)));
+    }
+    if let Some((at, behind)) = after_word(tokens, Word::Assert) {
+        return Ok(Some((Operator::Assert(at), behind)));
+    }
+    let Some((at, behind)) = after_word(tokens, Word::Rotate) else {
+        return Ok(None);
+    };
+    let (by, rest) = number(behind)?;
+    Ok(Some((Operator::Rotate(by, at), rest)))
+}
+
+/// The token that opens a level in a base, its place, and the tokens behind it.
+pub fn first_opener(tokens: &[Token]) -> Option<(Opener, Place, &[Token])>
+    ensures found { IfSome result (λ found. Heads (opening found.0) found.1
+        tokens.now found.2.now) }
+    ensures none { IfNone result (NoOpener tokens.now) }
+{
+    if let Some((at, behind)) = after_word(tokens, Word::Reg) {
+        return Some((Opener::Register, at, behind));
+    }
+    if let Some((at, behind)) = after(tokens, Sign::OpenRound) {
+        return Some((Opener::Bracket, at, behind));
+    }
+    let (at, behind) = after(tokens, Sign::OpenCurly)?;
+    Some((Opener::Block, at, behind))
+}
