@@ -1,5 +1,7 @@
 -- Readings put together, and where they halt.
-use Rattle.std.proofs.Common.{◌≡◌, ℕ, true, ◌<◌, ◌≤◌, List, [], ◌∷◌, ◌++◌, refl, sym, ◌∙◌, ap, subst, length, length-append, append_assoc, arith}
+use Rattle.std.proofs.Common.{◌≡◌, ℕ, true, Result, ◌<◌, ◌≤◌, List, [], ◌∷◌, ◌++◌, refl, sym, ◌∙◌, ap, subst, length, length-append, append_assoc, arith}
+use Rattle.std.specs.Result.{MatchResult, IsErrAnd}
+use Rattle.std.proofs.lemmas.Result.{err_from_is_err_and}
 use Rattle.revc_base.specs.declared.place.Place.{Place}
 use Rattle.revs_lexer.specs.declared.token.Tok.{Tok}
 use Rattle.revs_lexer.specs.declared.token.Token.{Token}
@@ -203,6 +205,10 @@ pub one_token : {k : Tok} {at : Place} {s : Symbol} {vs : Vals (s ∷ [])} {ts r
 one_token h a = record { passes = a; shorter = let l = ap length h.cut in omega (arith, l) }
 
 -- ---- where reading stops
+
+-- What a called function's halt says, the exit of its `?` returns.
+pub halts_on : {T E : Type 0} {halt : E} (P : T → Type 0) (Q : E → Type 0) (r : Result T E) → IsErrAnd r (λ e. e ≡ halt) → Q halt → MatchResult r P Q
+halts_on {T} {E} {halt} P Q r e q = let p = err_from_is_err_and r e in rw (p.1, p.2) q
 
 pub halts_first : {es : Stack} {ts : List Token} {stop : Stop} (fs : Stack) → Halts es ts stop → Halts (es ++ fs) ts stop
 halts_first fs h = record {

@@ -1,6 +1,6 @@
 -- What each way through a function reads, and where it halts.
 use Rattle.std.proofs.Common.{◌≡◌, ℕ, ◌+◌, ◌==◌, true, false, Some, None, List, [], ◌∷◌, ◌++◌, inl}
-use Rattle.std.proofs.Common.{inr, refl, sym, ap, length, append_assoc, map, arith, append-nil}
+use Rattle.std.proofs.Common.{inr, refl, sym, length, append_assoc, map, arith, append-nil}
 use Rattle.std.proofs.lemmas.Bool.Decides.{nat_tests}
 use Rattle.std.proofs.lemmas.List.{map-append}
 use Rattle.revc_base.specs.declared.place.Place.{Place}
@@ -19,7 +19,7 @@ use Rattle.revs_grammar.specs.inside.Machine.{Stack, is_empty, is_end, outcome}
 use Rattle.revs_grammar.proofs.CheckHints.{may_follow}
 use Rattle.revs_grammar.proofs.CheckLemmas.{begin}
 use Rattle.revs_terms.specs.Trees.{Tree, ItemTree, trees, item_trees, used, bool, reg, block, function, parts, apply, append}
-use Rattle.revs_terms.specs.Trees.{rotate, clean, assert, ands, xors, assign, bind, run, tree_of, item_tree_of}
+use Rattle.revs_terms.specs.Trees.{ands, xors, assign, bind, run, tree_of, item_tree_of}
 use Rattle.revs_terms.specs.declared.term.Name.{Name}
 use Rattle.revs_terms.specs.declared.term.Part.{Part}
 use Rattle.revs_terms.specs.declared.term.Part.TheVariants as part_of
@@ -36,8 +36,10 @@ use Rattle.revs_parser.specs.inside.Reading.{ReadsAnywhere, HaltsAnywhere}
 use Rattle.revs_parser.specs.inside.Forms.{ReadsNames, in_part, ReadsPart, in_function, ReadsFunction, in_application, ReadsAtoms}
 use Rattle.revs_parser.specs.inside.Forms.{in_register, ReadsRegister, ReadsBlock, ReadsItem, in_binding, ReadsBinding}
 use Rattle.revs_parser.specs.inside.Forms.{ReadsFunctionNames, in_bound_names, closed_by, operated, ReadsOperator, NoOperator, in_append, ReadsAppend}
-use Rattle.revs_parser.specs.inside.Forms.{opening, NoOpener}
-use Rattle.revs_parser.proofs.PassingLemmas.{stays, passes_then, turned, beside, passes_reads, and_then, and_maybe, line_passes, token_passes}
+use Rattle.revs_parser.specs.inside.Forms.{opening, NoOpener, EndsItem, EndsBlock, EndsPiece, ReadsPiece}
+use Rattle.revs_parser.specs.declared.expression.Piece.{Piece}
+use Rattle.revs_parser.specs.declared.expression.Piece.TheVariants as pieces
+use Rattle.revs_parser.proofs.PassingLemmas.{stays, passes_then, turned, beside, passes_reads, and_then, and_maybe, line_passes, no_longer, token_passes}
 use Rattle.revs_parser.proofs.PassingLemmas.{kept_passes, opening_passes, one_token, halts_first, halts_there, halts_behind, halts_past}
 use Rattle.revs_parser.proofs.StepLemmas as m
 use Rattle.revs_parser.proofs.StepLemmas.{by_first, token_goes, kept_goes, opening_goes, opening_deepens}
@@ -748,31 +750,43 @@ item_let l {ts} {rest} h r =
     whole : Reads (token (word words.Let) ∷ in_binding l) (r.bound, (r.more, (r.inner, tt))) ts rest
     whole = and_then (bare_word h) r.reads
 
-pub item_do : (l : ℕ) {item : ItemTree} {t : Tree} {at : Place} {ts mid rest : List Token} → NotFirst (toks.Word words.Let) ts
-    → ReadsForm g.expression l t ts mid
-    → Heads (toks.Sign signs.Semi) at mid rest → item ≡ run t → ReadsItem l item ts rest
-item_do l {ts} k r h w =
-    rw w (record {
-      passes = passes_then (line_passes g.body l _ (inr (inl refl)) (m.as_body l ts k)) (passes_then (beside (form g.body_end l ∷ []) r.passes)
-          (passes_then (line_passes g.body_end l _ (inl refl) (by_first g.body_end l _ (inl refl) h refl refl refl))
-          (beside (form g.body l ∷ []) (a_sign h).passes)));
-      shorter = let x = r.shorter in let y = ap length h.cut in omega (arith, x, y);
-    })
+-- a `;` behind a term, and a `}`
+pub ends_item : {item : ItemTree} {t : Tree} {at : Place} {ts rest : List Token} → Heads (toks.Sign signs.Semi) at ts rest → item ≡ run t
+    → EndsItem t item ts rest
+ends_item h w = record {
+  is = w;
+  passes = λ l. passes_then (line_passes g.body_end l _ (inl refl) (by_first g.body_end l _ (inl refl) h refl refl refl))
+      (beside (form g.body l ∷ []) (a_sign h).passes);
+}
+
+module _ {ts : List Token} (n : NotFirst (toks.Sign signs.Semi) ts) where
+  pub ends_block : (t : Tree) {rest : List Token} → Reads (token (sign signs.CloseCurly) ∷ []) tt ts rest → EndsBlock t t ts rest
+  ends_block t q = record {
+    is = refl;
+    reads = record { at_level = λ l. by_pieces g.body_end l _ (inr (inl refl)) (m.as_body_end l ts n) q };
+  }
+
+  pub block_unclosed : {stop : Stop} → Halts (token (sign signs.CloseCurly) ∷ []) ts stop → HaltsAnywhere g.body_end ts stop
+  block_unclosed h = record { at_level = λ l. halts_by_pieces g.body_end l _ (inr (inl refl)) (m.as_body_end l ts n) h }
 
 module _ (l : ℕ) {ts : List Token} (k : NotFirst (toks.Word words.Let) ts) where
-  pub last_reads : {t : Tree} {mid rest : List Token} → ReadsForm g.expression l t ts mid → NotFirst (toks.Sign signs.Semi) mid
-      → Reads (token (sign signs.CloseCurly) ∷ []) tt mid rest → ReadsForm g.body l (record { items = []; last = t }) ts rest
-  last_reads {mid} r n q =
-      by_pieces g.body l _ (inr (inl refl)) (m.as_body l ts k) (and_then r (by_pieces g.body_end l _ (inr (inl refl)) (m.as_body_end l mid n) q))
-
   pub do_halts : {stop : Stop} → HaltsIn g.expression l ts stop → HaltsIn g.body l ts stop
   do_halts h = halts_there (form g.body l ∷ []) (form g.expression l ∷ form g.body_end l ∷ []) (m.as_body l ts k) (halts_first (form g.body_end l ∷ []) h)
 
-  pub last_unclosed : {t : Tree} {mid : List Token} {stop : Stop} → ReadsForm g.expression l t ts mid → NotFirst (toks.Sign signs.Semi) mid
-      → Halts (token (sign signs.CloseCurly) ∷ []) mid stop → HaltsIn g.body l ts stop
-  last_unclosed {mid} r n h =
-      halts_there (form g.body l ∷ []) (form g.expression l ∷ form g.body_end l ∷ []) (m.as_body l ts k)
-      (halts_behind (form g.body_end l ∷ []) r (halts_by_pieces g.body_end l _ (inr (inl refl)) (m.as_body_end l mid n) h))
+  module _ {t : Tree} {mid : List Token} (r : ReadsForm g.expression l t ts mid) where
+    pub piece_reads : (p : Piece) (rest : List Token) → EndsPiece t p mid rest → ReadsPiece l p ts rest
+    piece_reads (pieces.Item item) rest e =
+        rw e.is (record {
+          passes = passes_then (line_passes g.body l _ (inr (inl refl)) (m.as_body l ts k))
+              (passes_then (beside (form g.body_end l ∷ []) r.passes) (e.passes l));
+          shorter = let x = r.shorter in let y = no_longer (e.passes l) in omega (arith, x, y);
+        })
+    piece_reads (pieces.Last last) rest e = rw e.is (by_pieces g.body l _ (inr (inl refl)) (m.as_body l ts k) (and_then r (e.reads.at_level l)))
+
+    pub piece_halts : {stop : Stop} → HaltsAnywhere g.body_end mid stop → HaltsIn g.body l ts stop
+    piece_halts h =
+        halts_there (form g.body l ∷ []) (form g.expression l ∷ form g.body_end l ∷ []) (m.as_body l ts k)
+        (halts_behind (form g.body_end l ∷ []) r (h.at_level l))
 
 pub let_halts : (l : ℕ) {at : Place} {ts mid : List Token} {stop : Stop} → Heads (toks.Word words.Let) at ts mid → Halts (in_binding l) mid stop
     → HaltsIn g.body l ts stop
@@ -792,7 +806,3 @@ append_rest l = form g.atom l ∷ []
 
 abbrev pub closed_rest : Sign → Stack
 closed_rest end = token (sign end) ∷ []
-
--- what no memory was left for
-pub no_memory : {es : Stack} {ts : List Token} (stop : Stop) → stop ≡ stops.Memory → Halts es ts stop
-no_memory stop e = rw e (record { halt = λ ms. tt })

@@ -1,18 +1,19 @@
 // Expressions.
 
 ghost use Rattle.std.specs.Prelude.{◌≡◌, ◌+◌, ◌<◌, ◌≤◌, true, false, length};
-ghost use Rattle.std.specs.Prelude.{[], ◌∷◌, IfOk, IfErr, IsErrOf};
+ghost use Rattle.std.specs.Prelude.{[], ◌∷◌, IfOk, IfErr, IsErrOf, MatchResult};
 ghost use Rattle.revs_terms.specs.declared.limits.TheConstants.{MOST_LEVELS};
 ghost use Rattle.revs_grammar.specs.Forms as g;
 ghost use Rattle.revs_grammar.specs.Sentences.{form, few_levels};
 ghost use Rattle.revs_parser.specs.inside.Reading.{ReadsForm, Skips, Reads, Halts, HaltsIn};
-ghost use Rattle.revs_parser.specs.inside.Reading.{base_first, name_first};
+ghost use Rattle.revs_parser.specs.inside.Reading.{base_first, name_first, HaltsAnywhere};
 ghost use Rattle.revs_parser.specs.inside.Forms.{ReadsNames, ReadsPart, ReadsAtoms, ReadsFunction};
 ghost use Rattle.revs_parser.specs.inside.Forms.{ReadsRegister, ReadsBlock, ReadsPiece};
 ghost use Rattle.revs_parser.specs.inside.Forms.{ReadsBinding, in_part, in_function};
 ghost use Rattle.revs_parser.specs.inside.Forms.{in_application, in_register, in_binding};
 ghost use Rattle.revs_parser.specs.inside.Forms.{ReadsFunctionNames, in_function_names};
 ghost use Rattle.revs_parser.specs.inside.Forms.{in_bound_names, ReadsAppend, in_append, closed_by};
+ghost use Rattle.revs_parser.specs.inside.Forms.{EndsPiece};
 ghost use Rattle.revs_parser.specs.declared.stop.Stop.{Stop};
 ghost use Rattle.revs_terms.specs.Trees.{tree_of, item_tree_of};
 
@@ -127,9 +128,9 @@ fn open(level: u32, tokens: &[Token]) -> Result<u32, Stop>
 #[cycle(read)]
 pub fn expression(alloc: Global, tokens: &[Token], level: u32) -> Result<(Term, &[Token]), Stop>
     requires { level ≤ MOST_LEVELS }
-    ensures ok { IfOk result (λ read. ReadsForm g.expression level
-        (tree_of read.0) tokens.now read.1.now) }
-    ensures halts { IfErr result (λ stop. HaltsIn g.expression level tokens.now stop) }
+    ensures { MatchResult result
+        (λ read. ReadsForm g.expression level (tree_of read.0) tokens.now read.1.now)
+        (λ stop. HaltsIn g.expression level tokens.now stop) }
 {
     if let Some((at, behind)) = after_word(tokens, Word::Fun) {
         let inner = open(level, tokens)?;
@@ -153,9 +154,9 @@ fn function(
     at: Place,
 ) -> Result<(Term, &[Token]), Stop>
     requires { level ≤ MOST_LEVELS }
-    ensures ok { IfOk result (λ read. ReadsFunction level at
-        (tree_of read.0) tokens.now read.1.now) }
-    ensures halts { IfErr result (λ stop. Halts (in_function level) tokens.now stop) }
+    ensures { MatchResult result
+        (λ read. ReadsFunction level at (tree_of read.0) tokens.now read.1.now)
+        (λ stop. Halts (in_function level) tokens.now stop) }
 {
     let (names, rest) = function_names(alloc, tokens)?;
     let (body, rest) = expression(alloc, rest, level)?;
@@ -166,9 +167,9 @@ fn function(
 #[cycle(read)]
 fn sum(alloc: Global, tokens: &[Token], level: u32) -> Result<(Term, &[Token]), Stop>
     requires { level ≤ MOST_LEVELS }
-    ensures ok { IfOk result (λ read. ReadsForm g.sum level
-        (tree_of read.0) tokens.now read.1.now) }
-    ensures halts { IfErr result (λ stop. HaltsIn g.sum level tokens.now stop) }
+    ensures { MatchResult result
+        (λ read. ReadsForm g.sum level (tree_of read.0) tokens.now read.1.now)
+        (λ stop. HaltsIn g.sum level tokens.now stop) }
 {
     let (first, rest) = product(alloc, tokens, level)?;
     let Some((_, mut behind)) = after(rest, Sign::Xor) else {
@@ -189,9 +190,9 @@ fn sum(alloc: Global, tokens: &[Token], level: u32) -> Result<(Term, &[Token]), 
 #[cycle(read)]
 fn product(alloc: Global, tokens: &[Token], level: u32) -> Result<(Term, &[Token]), Stop>
     requires { level ≤ MOST_LEVELS }
-    ensures ok { IfOk result (λ read. ReadsForm g.product level
-        (tree_of read.0) tokens.now read.1.now) }
-    ensures halts { IfErr result (λ stop. HaltsIn g.product level tokens.now stop) }
+    ensures { MatchResult result
+        (λ read. ReadsForm g.product level (tree_of read.0) tokens.now read.1.now)
+        (λ stop. HaltsIn g.product level tokens.now stop) }
 {
     let (first, rest) = application(alloc, tokens, level)?;
     let Some((_, mut behind)) = after(rest, Sign::And) else {
@@ -212,9 +213,9 @@ fn product(alloc: Global, tokens: &[Token], level: u32) -> Result<(Term, &[Token
 #[cycle(read)]
 fn application(alloc: Global, tokens: &[Token], level: u32) -> Result<(Term, &[Token]), Stop>
     requires { level ≤ MOST_LEVELS }
-    ensures ok { IfOk result (λ read. ReadsForm g.application level
-        (tree_of read.0) tokens.now read.1.now) }
-    ensures halts { IfErr result (λ stop. HaltsIn g.application level tokens.now stop) }
+    ensures { MatchResult result
+        (λ read. ReadsForm g.application level (tree_of read.0) tokens.now read.1.now)
+        (λ stop. HaltsIn g.application level tokens.now stop) }
 {
     if let Some((at, behind)) = after_word(tokens, Word::Append) {
         return append(alloc, behind, level, at);
@@ -231,8 +232,9 @@ fn application(alloc: Global, tokens: &[Token], level: u32) -> Result<(Term, &[T
 #[cycle(read)]
 fn append(alloc: Global, tokens: &[Token], level: u32, at: Place) -> Result<(Term, &[Token]), Stop>
     requires { level ≤ MOST_LEVELS }
-    ensures ok { IfOk result (λ read. ReadsAppend level at (tree_of read.0) tokens.now read.1.now) }
-    ensures halts { IfErr result (λ stop. Halts (in_append level) tokens.now stop) }
+    ensures { MatchResult result
+        (λ read. ReadsAppend level at (tree_of read.0) tokens.now read.1.now)
+        (λ stop. Halts (in_append level) tokens.now stop) }
 {
     let (first, rest) = atom(alloc, tokens, level)?;
     let (second, rest) = atom(alloc, rest, level)?;
@@ -259,8 +261,8 @@ fn begins_base(tokens: &[Token]) -> bool
 #[cycle(read)]
 fn atoms(alloc: Global, tokens: &[Token], level: u32) -> Result<(Term, &[Token]), Stop>
     requires { level ≤ MOST_LEVELS }
-    ensures ok { IfOk result (λ read. ReadsAtoms level (tree_of read.0) tokens.now read.1.now) }
-    ensures halts { IfErr result (λ stop. Halts (in_application level) tokens.now stop) }
+    ensures { MatchResult result (λ read. ReadsAtoms level (tree_of read.0) tokens.now read.1.now)
+        (λ stop. Halts (in_application level) tokens.now stop) }
 {
     let (head, mut rest) = atom(alloc, tokens, level)?;
     if !begins_base(rest) {
@@ -281,9 +283,9 @@ fn atoms(alloc: Global, tokens: &[Token], level: u32) -> Result<(Term, &[Token])
 #[cycle(read)]
 fn atom(alloc: Global, tokens: &[Token], level: u32) -> Result<(Term, &[Token]), Stop>
     requires { level ≤ MOST_LEVELS }
-    ensures ok { IfOk result (λ read. ReadsForm g.atom level
-        (tree_of read.0) tokens.now read.1.now) }
-    ensures halts { IfErr result (λ stop. HaltsIn g.atom level tokens.now stop) }
+    ensures { MatchResult result
+        (λ read. ReadsForm g.atom level (tree_of read.0) tokens.now read.1.now)
+        (λ stop. HaltsIn g.atom level tokens.now stop) }
 {
     let (inner, rest) = base(alloc, tokens, level)?;
     let (parts, rest) = all_parts(alloc, rest)?;
@@ -294,9 +296,9 @@ fn atom(alloc: Global, tokens: &[Token], level: u32) -> Result<(Term, &[Token]),
 #[cycle(read)]
 fn base(alloc: Global, tokens: &[Token], level: u32) -> Result<(Term, &[Token]), Stop>
     requires { level ≤ MOST_LEVELS }
-    ensures ok { IfOk result (λ read. ReadsForm g.base level
-        (tree_of read.0) tokens.now read.1.now) }
-    ensures halts { IfErr result (λ stop. HaltsIn g.base level tokens.now stop) }
+    ensures { MatchResult result
+        (λ read. ReadsForm g.base level (tree_of read.0) tokens.now read.1.now)
+        (λ stop. HaltsIn g.base level tokens.now stop) }
 {
     let Some((opener, at, behind)) = first_opener(tokens) else {
         return single_base(tokens);
@@ -313,9 +315,9 @@ fn base(alloc: Global, tokens: &[Token], level: u32) -> Result<(Term, &[Token]),
 #[cycle(read)]
 fn closed(alloc: Global, tokens: &[Token], level: u32, end: Sign) -> Result<(Term, &[Token]), Stop>
     requires { level ≤ MOST_LEVELS }
-    ensures ok { IfOk result (λ read. Reads (closed_by end level)
-        (tree_of read.0, tt) tokens.now read.1.now) }
-    ensures halts { IfErr result (λ stop. Halts (closed_by end level) tokens.now stop) }
+    ensures { MatchResult result
+        (λ read. Reads (closed_by end level) (tree_of read.0, tt) tokens.now read.1.now)
+        (λ stop. Halts (closed_by end level) tokens.now stop) }
 {
     let (term, rest) = expression(alloc, tokens, level)?;
     let rest = expect(rest, end)?;
@@ -331,9 +333,9 @@ fn register(
     at: Place,
 ) -> Result<(Term, &[Token]), Stop>
     requires { level ≤ MOST_LEVELS }
-    ensures ok { IfOk result (λ read. ReadsRegister level at
-        (tree_of read.0) tokens.now read.1.now) }
-    ensures halts { IfErr result (λ stop. Halts (in_register level) tokens.now stop) }
+    ensures { MatchResult result
+        (λ read. ReadsRegister level at (tree_of read.0) tokens.now read.1.now)
+        (λ stop. Halts (in_register level) tokens.now stop) }
 {
     let mut behind = expect(tokens, Sign::OpenSquare)?;
     let mut elements = Vec::new(alloc);
@@ -354,12 +356,25 @@ enum Piece {
     Last(Term),
 }
 
+// What an expression is in a block: an item before a `;`, and the last one before the `}`.
+fn piece_of(term: Term, tokens: &[Token]) -> Result<(Piece, &[Token]), Stop>
+    ensures { MatchResult result (λ read. EndsPiece (tree_of term) read.0 tokens.now read.1.now)
+        (λ stop. HaltsAnywhere g.body_end tokens.now stop) }
+{
+    if let Some((_, behind)) = after(tokens, Sign::Semi) {
+        return Ok((Piece::Item(Item::Do(term)), behind));
+    }
+    let rest = expect(tokens, Sign::CloseCurly)?;
+    Ok((Piece::Last(term), rest))
+}
+
 // The items and the last expression of a block behind its `{`.
 #[cycle(read)]
 fn block(alloc: Global, tokens: &[Token], level: u32, at: Place) -> Result<(Term, &[Token]), Stop>
     requires { level ≤ MOST_LEVELS }
-    ensures ok { IfOk result (λ read. ReadsBlock level at (tree_of read.0) tokens.now read.1.now) }
-    ensures halts { IfErr result (λ stop. HaltsIn g.body level tokens.now stop) }
+    ensures { MatchResult result
+        (λ read. ReadsBlock level at (tree_of read.0) tokens.now read.1.now)
+        (λ stop. HaltsIn g.body level tokens.now stop) }
 {
     let mut items = Vec::new(alloc);
     let mut rest = tokens;
@@ -378,28 +393,24 @@ fn block(alloc: Global, tokens: &[Token], level: u32, at: Place) -> Result<(Term
 #[cycle(read)]
 fn item_or_last(alloc: Global, tokens: &[Token], level: u32) -> Result<(Piece, &[Token]), Stop>
     requires { level ≤ MOST_LEVELS }
-    ensures ok { IfOk result (λ read. ReadsPiece level read.0 tokens.now read.1.now) }
-    ensures halts { IfErr result (λ stop. HaltsIn g.body level tokens.now stop) }
+    ensures { MatchResult result (λ read. ReadsPiece level read.0 tokens.now read.1.now)
+        (λ stop. HaltsIn g.body level tokens.now stop) }
 {
     if let Some((_, behind)) = after_word(tokens, Word::Let) {
         let (item, rest) = binding(alloc, behind, level)?;
         return Ok((Piece::Item(item), rest));
     }
     let (term, rest) = expression(alloc, tokens, level)?;
-    if let Some((_, behind)) = after(rest, Sign::Semi) {
-        return Ok((Piece::Item(Item::Do(term)), behind));
-    }
-    let rest = expect(rest, Sign::CloseCurly)?;
-    Ok((Piece::Last(term), rest))
+    piece_of(term, rest)
 }
 
 // What a `let` binds, behind the word.
 #[cycle(read)]
 fn binding(alloc: Global, tokens: &[Token], level: u32) -> Result<(Item, &[Token]), Stop>
     requires { level ≤ MOST_LEVELS }
-    ensures ok { IfOk result
-        (λ read. ReadsBinding level (item_tree_of read.0) tokens.now read.1.now) }
-    ensures halts { IfErr result (λ stop. Halts (in_binding level) tokens.now stop) }
+    ensures { MatchResult result
+        (λ read. ReadsBinding level (item_tree_of read.0) tokens.now read.1.now)
+        (λ stop. Halts (in_binding level) tokens.now stop) }
 {
     let (name, names, rest) = bound_names(alloc, tokens)?;
     let (body, rest) = closed(alloc, rest, level, Sign::Semi)?;

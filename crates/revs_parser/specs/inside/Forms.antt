@@ -1,5 +1,5 @@
 -- What the functions read that are no form of the grammar by themselves.
-use Rattle.std.specs.Prelude.{◌≡◌, ℕ, ◌+◌, ◌<◌, Option, List, [], ◌∷◌, ◌++◌, length}
+use Rattle.std.specs.Prelude.{◌≡◌, ℕ, ◌+◌, ◌<◌, Option, Some, None, List, [], ◌∷◌, ◌++◌, length}
 use Rattle.revc_base.specs.declared.place.Place.{Place}
 use Rattle.revs_lexer.specs.declared.sign.Sign.{Sign}
 use Rattle.revs_lexer.specs.declared.sign.Sign.TheVariants as signs
@@ -13,7 +13,7 @@ use Rattle.revs_grammar.specs.Productions.{apply_of, bound_of, index_of, in_fron
 use Rattle.revs_grammar.specs.Sentences.{token, kept_token, form}
 use Rattle.revs_grammar.specs.Faults.{IsSyntax, IsNesting}
 use Rattle.revs_grammar.specs.inside.Machine.{Stack}
-use Rattle.revs_terms.specs.Trees.{Tree, ItemTree, trees, item_trees, reg, block, function, append, rotate, clean, assert, bind, tree_of, item_tree_of}
+use Rattle.revs_terms.specs.Trees.{Tree, ItemTree, trees, item_trees, reg, block, function, append, rotate, clean, assert, bind, run, tree_of, item_tree_of}
 use Rattle.revs_terms.specs.declared.term.Name.{Name}
 use Rattle.revs_terms.specs.declared.term.Part.{Part}
 use Rattle.revs_terms.specs.declared.program.Param.{Param}
@@ -25,7 +25,7 @@ use Rattle.revs_parser.specs.declared.front.Operator.{Operator}
 use Rattle.revs_parser.specs.declared.front.Operator.TheVariants as operators
 use Rattle.revs_parser.specs.declared.front.Opener.{Opener}
 use Rattle.revs_parser.specs.declared.front.Opener.TheVariants as openers
-use Rattle.revs_parser.specs.inside.Reading.{Passes, Reads, Skips, ReadsForm, NotFirst}
+use Rattle.revs_parser.specs.inside.Reading.{Passes, Reads, Skips, ReadsForm, ReadsAnywhere, NotFirst}
 
 -- { name } was read, and the names were put behind those before.
 pub record ReadsNames (before all : List Name) (ts rest : List Token) : Type 0 where
@@ -151,6 +151,21 @@ abbrev pub ReadsPiece : ℕ → Piece → List Token → List Token → Type 0
 ReadsPiece level (pieces.Item item) ts rest = ReadsItem level (item_tree_of item) ts rest
 ReadsPiece level (pieces.Last term) ts rest = ReadsForm g.body level
     (record { items = []; last = tree_of term }) ts rest
+
+-- Behind a term stands a `;`, and it is an item of a block.
+pub record EndsItem (term : Tree) (item : ItemTree) (ts rest : List Token) : Type 0 where
+  pub is : item ≡ run term
+  pub passes : (level : ℕ) → Passes (form g.body_end level ∷ []) (form g.body level ∷ []) (λ inside. (Some inside.0, tt)) ts rest
+
+-- Behind a term stands a `}`, and it is the last expression of a block.
+pub record EndsBlock (term last : Tree) (ts rest : List Token) : Type 0 where
+  pub is : last ≡ term
+  pub reads : ReadsAnywhere g.body_end None ts rest
+
+-- A term ends as an item, or as the last expression.
+abbrev pub EndsPiece : Tree → Piece → List Token → List Token → Type 0
+EndsPiece term (pieces.Item item) ts rest = EndsItem term (item_tree_of item) ts rest
+EndsPiece term (pieces.Last last) ts rest = EndsBlock term (tree_of last) ts rest
 
 -- what is expected of a `let` behind the word and before its value
 abbrev pub in_bound_names : Stack

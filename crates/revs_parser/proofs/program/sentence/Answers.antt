@@ -20,10 +20,10 @@ returns-in_err-rest-clause-halts c =
 pub returns-in_err-body-clause-halts : goal.returns-in_err-body-clause-halts
 returns-in_err-body-clause-halts c =
     passes_on _ _ c.from_residual-in_err-body.ensures.1
-    (sentence_halts c.in-Some.ensures.found (in_body c.in_ok-first.ensures.ok c.in_ok-params.ensures.ok c.in_ok-rest.ensures.ok c.in_err-body.ensures.halts))
+    (sentence_halts c.in-Some.ensures.found (in_body c.in_ok-first.ensures.ok c.in_ok-params.ensures.ok c.in_ok-rest.ensures.ok c.in_err-body.ensures))
 
 pub returns-clause-ok : goal.returns-clause-ok
 returns-clause-ok c =
     a_sentence c.in-Some.ensures.found c.in_ok-first.ensures.ok
     (only c.new-params.result.items c.in_ok-first.first c.in_ok-push.ensures.items c.new-params.ensures.items)
-    c.in_ok-params.ensures.ok c.in_ok-rest.ensures.ok c.in_ok-body.ensures.ok
+    c.in_ok-params.ensures.ok c.in_ok-rest.ensures.ok c.in_ok-body.ensures
