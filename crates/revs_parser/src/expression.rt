@@ -39,8 +39,8 @@ fn begins_name(tokens: &[Token]) -> bool
 
 // { name } behind the names so far.
 fn more_names(mut names: Vec<Name>, tokens: &[Token]) -> Result<(Vec<Name>, &[Token]), Stop>
-    ensures ok { IfOk result (λ read. ReadsNames names.items read.0.items tokens.now read.1.now) }
-    ensures halts { IfErr result (λ stop. HaltsIn g.names 0 tokens.now stop) }
+    ensures { MatchResult result (λ read. ReadsNames names.items read.0.items tokens.now read.1.now)
+        (λ stop. HaltsIn g.names 0 tokens.now stop) }
 {
     let mut rest = tokens;
     while begins_name(rest) {
@@ -53,8 +53,8 @@ fn more_names(mut names: Vec<Name>, tokens: &[Token]) -> Result<(Vec<Name>, &[To
 
 // The names of a function behind its `fun`, and its arrow.
 fn function_names(alloc: Global, tokens: &[Token]) -> Result<(Vec<Name>, &[Token]), Stop>
-    ensures ok { IfOk result (λ read. ReadsFunctionNames read.0.items tokens.now read.1.now) }
-    ensures halts { IfErr result (λ stop. Halts in_function_names tokens.now stop) }
+    ensures { MatchResult result (λ read. ReadsFunctionNames read.0.items tokens.now read.1.now)
+        (λ stop. Halts in_function_names tokens.now stop) }
 {
     let (first, rest) = name(tokens)?;
     let mut names = Vec::new(alloc);
@@ -66,9 +66,9 @@ fn function_names(alloc: Global, tokens: &[Token]) -> Result<(Vec<Name>, &[Token
 
 // The name that a `let` binds, the names behind it, and the `=`.
 fn bound_names(alloc: Global, tokens: &[Token]) -> Result<(Name, Vec<Name>, &[Token]), Stop>
-    ensures ok { IfOk result (λ read. Reads in_bound_names
-        (read.0, (read.1.items, tt)) tokens.now read.2.now) }
-    ensures halts { IfErr result (λ stop. Halts in_bound_names tokens.now stop) }
+    ensures { MatchResult result
+        (λ read. Reads in_bound_names (read.0, (read.1.items, tt)) tokens.now read.2.now)
+        (λ stop. Halts in_bound_names tokens.now stop) }
 {
     let (bound, rest) = name(tokens)?;
     let (names, rest) = more_names(Vec::new(alloc), rest)?;
@@ -95,9 +95,9 @@ fn part(tokens: &[Token], at: Place) -> Result<(Part, &[Token]), Stop>
 
 // { part }
 fn all_parts(alloc: Global, tokens: &[Token]) -> Result<(Vec<Part>, &[Token]), Stop>
-    ensures ok { IfOk result (λ read. Skips (form g.parts 0 ∷ [])
-        (read.0.items, tt) tokens.now read.1.now) }
-    ensures halts { IfErr result (λ stop. HaltsIn g.parts 0 tokens.now stop) }
+    ensures { MatchResult result
+        (λ read. Skips (form g.parts 0 ∷ []) (read.0.items, tt) tokens.now read.1.now)
+        (λ stop. HaltsIn g.parts 0 tokens.now stop) }
 {
     let mut parts = Vec::new(alloc);
     let mut rest = tokens;

@@ -1,6 +1,7 @@
 // Single tokens.
 
 ghost use Rattle.std.specs.Prelude.{◌≡◌, true, [], ◌∷◌, IfOk, IfErr, IsErrOf, IfSome, IfNone};
+ghost use Rattle.std.specs.Prelude.{MatchResult};
 ghost use Rattle.revs_parser.specs.inside.Reading.{Heads, NotFirst, Reads, Halts, name_first};
 ghost use Rattle.revs_parser.specs.inside.Reading.{ReadsAnywhere, HaltsAnywhere};
 ghost use Rattle.revs_parser.specs.inside.Forms.{NoOpener};
@@ -140,9 +141,9 @@ pub fn bool_word(tokens: &[Token]) -> Result<&[Token], Stop>
 /// The base of one token that stands first, and the tokens behind it.
 pub fn single_base(tokens: &[Token]) -> Result<(Term, &[Token]), Stop>
     requires { NoOpener tokens.now }
-    ensures ok { IfOk result (λ read. ReadsAnywhere g.base
-        (tree_of read.0) tokens.now read.1.now) }
-    ensures halts { IfErr result (λ stop. HaltsAnywhere g.base tokens.now stop) }
+    ensures { MatchResult result
+        (λ read. ReadsAnywhere g.base (tree_of read.0) tokens.now read.1.now)
+        (λ stop. HaltsAnywhere g.base tokens.now stop) }
 {
     if let Some((at, behind)) = after_word(tokens, Word::True) {
         return Ok((Term::Bool(true, at), behind));

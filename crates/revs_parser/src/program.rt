@@ -1,7 +1,7 @@
 // Programs, and why a list of tokens is none.
 
 ghost use Rattle.std.specs.Prelude.{◌≡◌, ◌<◌, ◌^◌, length, [], ◌∷◌, ℕ, IfOk};
-ghost use Rattle.std.specs.Prelude.{IfErr, IfSome, IfNone, IsErrOf};
+ghost use Rattle.std.specs.Prelude.{IfErr, IfSome, IfNone, IsErrOf, MatchResult};
 ghost use Rattle.std.specs.Result.{ForOk, ForErr};
 ghost use Rattle.revc_base.specs.declared.place.Place.{Place};
 ghost use Rattle.revs_lexer.specs.Tokens.{IsEnded};
@@ -57,8 +57,8 @@ fn width(tokens: &[Token]) -> Result<(Option<u32>, &[Token]), Stop>
 }
 
 fn parameter(tokens: &[Token]) -> Result<(Param, &[Token]), Stop>
-    ensures ok { IfOk result (λ read. ReadsForm g.parameter 0 read.0 tokens.now read.1.now) }
-    ensures halts { IfErr result (λ stop. HaltsIn g.parameter 0 tokens.now stop) }
+    ensures { MatchResult result (λ read. ReadsForm g.parameter 0 read.0 tokens.now read.1.now)
+        (λ stop. HaltsIn g.parameter 0 tokens.now stop) }
 {
     let Some((_, behind)) = after(tokens, Sign::OpenRound) else {
         return Err(Stop::Syntax(tokens.len()));
@@ -72,9 +72,9 @@ fn parameter(tokens: &[Token]) -> Result<(Param, &[Token]), Stop>
 
 // { param } behind the parameters so far.
 fn parameters(mut params: Vec<Param>, tokens: &[Token]) -> Result<(Vec<Param>, &[Token]), Stop>
-    ensures ok { IfOk result
-        (λ read. ReadsParameters params.items read.0.items tokens.now read.1.now) }
-    ensures halts { IfErr result (λ stop. HaltsIn g.parameters 0 tokens.now stop) }
+    ensures { MatchResult result
+        (λ read. ReadsParameters params.items read.0.items tokens.now read.1.now)
+        (λ stop. HaltsIn g.parameters 0 tokens.now stop) }
 {
     let mut rest = tokens;
     while let Some((_, _)) = after(rest, Sign::OpenRound) {
@@ -87,9 +87,9 @@ fn parameters(mut params: Vec<Param>, tokens: &[Token]) -> Result<(Vec<Param>, &
 
 // A whole sentence.
 fn sentence(alloc: Global, tokens: &[Token]) -> Result<(Vec<Param>, Term, &[Token]), Stop>
-    ensures ok { IfOk result (λ read. ReadsProgram read.0.items
-        (tree_of read.1) tokens.now read.2.now) }
-    ensures halts { IfErr result (λ stop. HaltsIn g.program 0 tokens.now stop) }
+    ensures { MatchResult result
+        (λ read. ReadsProgram read.0.items (tree_of read.1) tokens.now read.2.now)
+        (λ stop. HaltsIn g.program 0 tokens.now stop) }
 {
     let Some((_, behind)) = after_word(tokens, Word::Main) else {
         return Err(Stop::Syntax(tokens.len()));

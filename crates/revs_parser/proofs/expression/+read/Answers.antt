@@ -2,7 +2,7 @@ use Rattle.std.proofs.Common.{sym, ◌∙◌}
 use Rattle.revs_terms.specs.Trees.{tree_of}
 use Rattle.revs_terms.proofs.ShapeLemmas.{tree_of-Reg, tree_of-Block, tree_of-Apply}
 use Rattle.revs_terms.proofs.ShapeLemmas.{tree_of-And, tree_of-Xor, item_tree_of-Let}
-use Rattle.std.proofs.lemmas.Result.{IfOk-weaker, IfErr-weaker, MatchResult-weaker, MatchResult-from_both}
+use Rattle.std.proofs.lemmas.Result.{MatchResult-weaker}
 use Rattle.revs_lexer.specs.declared.sign.Sign.TheVariants as signs
 use Rattle.revs_parser.specs.inside.Forms.{closed_by}
 use Rattle.revs_parser.proofs.PassingLemmas.{only, smaller_behind, halts_first, halts_on}
@@ -43,16 +43,16 @@ expression-returns t c = r.expression_assign c.args.level c.in_default.ensures.n
 pub function-returns-in_err-names : goal.function-returns-in_err-names
 function-returns-in_err-names t c =
     halts_on _ _ _ c.from_residual.ensures.1
-    (halts_first (r.function_rest c.args.level) c.in_err-names.ensures.halts)
+    (halts_first (r.function_rest c.args.level) c.in_err-names.ensures)
 
 pub function-returns-in_err-body : goal.function-returns-in_err-body
 function-returns-in_err-body t c =
     halts_on _ _ _ c.from_residual-in_err-body.ensures.1
-    (r.function_in_body c.args.level c.in_ok-names.ensures.ok c.in_err-body.ensures)
+    (r.function_in_body c.args.level c.in_ok-names.ensures c.in_err-body.ensures)
 
 pub function-returns : goal.function-returns
 function-returns t c =
-    r.function_reads c.args.level c.in_ok-names.ensures.ok c.args.at c.in_ok-body.ensures c.in_ok-term.ensures.ok
+    r.function_reads c.args.level c.in_ok-names.ensures c.args.at c.in_ok-body.ensures c.in_ok-term.ensures.ok
 
 -- ---- sums
 
@@ -205,19 +205,18 @@ atom-returns-in_err-inner t c =
 
 pub atom-returns-in_err-parts : goal.atom-returns-in_err-parts
 atom-returns-in_err-parts t c =
-    halts_on _ _ _ c.from_residual-in_err-parts.ensures.1 (r.atom_in_parts c.args.level c.in_ok-inner.ensures c.in_err-parts.ensures.halts)
+    halts_on _ _ _ c.from_residual-in_err-parts.ensures.1 (r.atom_in_parts c.args.level c.in_ok-inner.ensures c.in_err-parts.ensures)
 
 pub atom-returns : goal.atom-returns
 atom-returns t c =
-    r.atom_reads c.args.level c.in_ok-inner.ensures c.in_ok-parts.ensures.ok c.in_ok-term.ensures.ok
+    r.atom_reads c.args.level c.in_ok-inner.ensures c.in_ok-parts.ensures c.in_ok-term.ensures.ok
 
 -- ---- bases
 
 pub base-returns-in_default : goal.base-returns-in_default
-base-returns-in_default t c =
-    MatchResult-from_both c.single_base.result _ _
-    (IfOk-weaker c.single_base.result _ _ (λ x read. read.at_level c.args.level) c.single_base.ensures.ok)
-    (IfErr-weaker c.single_base.result _ _ (λ x halt. halt.at_level c.args.level) c.single_base.ensures.halts)
+base-returns-in_default t c = MatchResult-weaker c.single_base.result c.single_base.ensures
+    (λ x read. read.at_level c.args.level)
+    (λ x halt. halt.at_level c.args.level)
 
 pub base-returns-in_err-inner : goal.base-returns-in_err-inner
 base-returns-in_err-inner t c =
@@ -339,14 +338,14 @@ item_or_last-returns t c = MatchResult-weaker c.piece_of.result c.piece_of.ensur
 pub binding-returns-in_err-name : goal.binding-returns-in_err-name
 binding-returns-in_err-name t c =
     halts_on _ _ _ c.from_residual.ensures.1
-    (halts_first (closed_by signs.Semi c.args.level) c.in_err-name.ensures.halts)
+    (halts_first (closed_by signs.Semi c.args.level) c.in_err-name.ensures)
 
 pub binding-returns-in_err-body : goal.binding-returns-in_err-body
 binding-returns-in_err-body t c =
     halts_on _ _ _ c.from_residual-in_err-body.ensures.1
-    (r.binding_in_value c.args.level c.in_ok-name.ensures.ok c.in_err-body.ensures)
+    (r.binding_in_value c.args.level c.in_ok-name.ensures c.in_err-body.ensures)
 
 pub binding-returns : goal.binding-returns
 binding-returns t c =
-    r.binding_reads c.args.level c.in_ok-name.ensures.ok c.in_ok-body.ensures
+    r.binding_reads c.args.level c.in_ok-name.ensures c.in_ok-body.ensures
     (rw (item_tree_of-Let, c.in_ok-value.ensures.ok))
