@@ -2,7 +2,7 @@
 
 ghost use Rattle.std.specs.Prelude.{◌≡◌, IfOk, IfErr};
 ghost use Rattle.revs_grammar.specs.Productions.{bound_of, parts_of};
-ghost use Rattle.revs_terms.specs.Trees.{tree_of, item_tree_of};
+ghost use Rattle.revs_terms.specs.Trees.{tree_of};
 ghost use Rattle.revs_terms.specs.Trees as shape;
 ghost use Rattle.revs_parser.specs.inside.Forms.{operated};
 ghost use Rattle.revs_parser.specs.declared.stop.Stop.{Stop};

@@ -1,6 +1,6 @@
 // Programs, and why a list of tokens is none.
 
-ghost use Rattle.std.specs.Prelude.{◌≡◌, ◌<◌, ◌^◌, length, [], ◌∷◌, ℕ, IfOk};
+ghost use Rattle.std.specs.Prelude.{◌≡◌, ◌<◌, ◌^◌, length, ℕ, IfOk};
 ghost use Rattle.std.specs.Prelude.{IfErr, IfSome, IfNone, IsErrOf, MatchResult};
 ghost use Rattle.std.specs.Result.{ForOk, ForErr};
 ghost use Rattle.revc_base.specs.declared.place.Place.{Place};
