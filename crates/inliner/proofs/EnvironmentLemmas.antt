@@ -84,6 +84,9 @@ grown_value old now v g h =
 pub grown_length : (old now : Machine) → Grows old now → length old.bindings.items ≤ length now.bindings.items
 grown_length old now g = rw g.bindings (omega (arith, length-append old.bindings.items g.more))
 
+pub grown_within : {old now : Machine} {env : ℕ} → Grows old now → env ≤ length old.bindings.items → env ≤ length now.bindings.items
+grown_within {old} {now} {env} g h = omega (arith, grown_length old now g)
+
 pub grown_made : (old now : Machine) (v : Value) → Grows old now → IsValue (length old.bindings.items) v → IsValue (length now.bindings.items) v
 grown_made old now v g h = record { made = IsValueView-later _ _ (seen v) (grown_length old now g) h.made }
 

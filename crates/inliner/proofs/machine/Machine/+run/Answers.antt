@@ -1,21 +1,24 @@
-use Rattle.std.proofs.Common.{◌≡◌, ◌-◌, ◌+◌, drop, map, sym, ap, ◌∙◌, subst, arith}
+use Rattle.std.proofs.Common.{◌≡◌, ◌-◌, ◌+◌, drop, map, refl, sym, ap, ◌∙◌, subst, arith}
 use Rattle.revs_terms.specs.Terms.{place_of}
 use Rattle.revs_terms.specs.Trees.{ItemTree, tree_of, item_tree_of}
 use Rattle.revs_terms.specs.Running as runs
-use Rattle.revs_terms.specs.Running.{run_of, term_of, apply_to, closure, went, Outcome}
+use Rattle.revs_terms.specs.Running.{run_of, term_of, apply_to, claim_on, closure, rotated, went, Outcome}
 use Rattle.revs_terms.proofs.ShapeLemmas.{tree_of-Bool, tree_of-Reg, tree_of-Clean, tree_of-Assert, tree_of-And, tree_of-Xor, tree_of-Assign}
 use Rattle.revs_terms.proofs.ShapeLemmas.{tree_of-At, tree_of-Apply, tree_of-Append, tree_of-Rotate, tree_of-Block, item_tree_of-Let, item_tree_of-Do}
 use Rattle.array_shapes.specs.declared.value.Value.{Value}
 use Rattle.revs_terms.specs.Runs.{no_bits}
 use Rattle.inliner.specs.inside.Machines.{envs_of, env_in, value_in, state_of, Goes, Binds, Calls}
 use Rattle.std.proofs.lemmas.Result.{IfOk-weaker, IfErr-weaker}
-use Rattle.inliner.proofs.ProgressLemmas.{on_ok_alone, ends_goes, ends_calls, said, goes_in, says_in}
+use Rattle.inliner.proofs.EnvironmentLemmas.{grown_within}
+use Rattle.inliner.proofs.FaultLemmas.{no_value, said_first}
+use Rattle.inliner.proofs.ProgressLemmas.{on_ok_alone, begun, step, ends, ends_goes, ends_calls, said, goes_in, says_in}
 use Rattle.inliner.proofs.ChainLemmas.{entered, assigns_from, assigns_stuck, reg_made, reg_stuck, bits_begun, bits_more}
-use Rattle.inliner.proofs.ChainLemmas.{bits_stuck, bits_done, chain_begun, chain_more, chain_stuck, chain_done}
+use Rattle.inliner.proofs.ChainLemmas.{bits_stuck, bits_done, chain_begun, chain_more, chain_no_first, chain_stuck, chain_done}
 use Rattle.inliner.proofs.CallLemmas.{mapped_at, mapped_end, block_more, block_stuck, at_begun, append_second, append_stuck, apply_begun, apply_more}
+use Rattle.inliner.proofs.CallLemmas.{apply_done, block_last, value_behind}
 use Rattle.revc_base.proofs.ResultLemmas.{passes_on}
 use Rattle.inliner.proofs.CallLemmas.{apply_stuck, argument_run, call_stuck, call_last, call_next, call_ends, call_said, item_bound, item_run, block_term}
-use Rattle.inliner.specs.inside.Calls.{Says, item_step}
+use Rattle.inliner.specs.inside.Calls.{Says, item_step, join_step}
 use Rattle.inliner.proofs.machine.Machine.+run.Goals as goal
 
 pub run-returns-clause-ok : goal.run-returns-clause-ok
@@ -359,3 +362,263 @@ term-returns-in-Rotate-clause-ok t c =
 pub term-returns-in-Rotate-clause-err : goal.term-returns-in-Rotate-clause-err
 term-returns-in-Rotate-clause-err t c =
     rw (c.in-Rotate.is, tree_of-Rotate c.in-Rotate.i c.in-Rotate.operand c.in-Rotate.at, ← c.deref-in-Rotate.ensures) c.rotation.ensures.err
+
+-- ---- where a part fails
+
+pub append-returns-in_err-front-clause-ok : goal.append-returns-in_err-front-clause-ok
+append-returns-in_err-front-clause-ok t c = no_value c.from_residual.result _ _ c.from_residual.ensures.1
+
+pub append-returns-in_err-back-clause-ok : goal.append-returns-in_err-back-clause-ok
+append-returns-in_err-back-clause-ok t c = no_value c.from_residual-in_err-back.result _ _ c.from_residual-in_err-back.ensures.1
+
+pub apply-returns-in_err-value-clause-ok : goal.apply-returns-in_err-value-clause-ok
+apply-returns-in_err-value-clause-ok t c = no_value c.from_residual.result _ _ c.from_residual.ensures.1
+
+pub apply-returns-in_err-value-2-clause-ok : goal.apply-returns-in_err-value-2-clause-ok
+apply-returns-in_err-value-2-clause-ok t c = no_value c.from_residual-in_err-value-2.result _ _ c.from_residual-in_err-value-2.ensures.1
+
+pub argument-returns-in_err-argument-clause-ok : goal.argument-returns-in_err-argument-clause-ok
+argument-returns-in_err-argument-clause-ok t c = no_value c.from_residual.result _ _ c.from_residual.ensures.1
+
+pub assignment-returns-in_err-to-clause-ok : goal.assignment-returns-in_err-to-clause-ok
+assignment-returns-in_err-to-clause-ok t c = no_value c.from_residual.result _ _ c.from_residual.ensures.1
+
+pub assignment-returns-in_err-from-clause-ok : goal.assignment-returns-in_err-from-clause-ok
+assignment-returns-in_err-from-clause-ok t c = no_value c.from_residual-in_err-from.result _ _ c.from_residual-in_err-from.ensures.1
+
+pub at-returns-in_err-value-clause-ok : goal.at-returns-in_err-value-clause-ok
+at-returns-in_err-value-clause-ok t c = no_value c.from_residual.result _ _ c.from_residual.ensures.1
+
+pub bit-returns-in_err-value-clause-ok : goal.bit-returns-in_err-value-clause-ok
+bit-returns-in_err-value-clause-ok t c = no_value c.from_residual.result _ _ c.from_residual.ensures.1
+
+pub bits-returns-in_err-location-clause-ok : goal.bits-returns-in_err-location-clause-ok
+bits-returns-in_err-location-clause-ok t c = no_value c.from_residual.result _ _ c.from_residual.ensures.1
+
+pub bits-returns-in_err-push-clause-ok : goal.bits-returns-in_err-push-clause-ok
+bits-returns-in_err-push-clause-ok t c = no_value c.from_residual-in_err-push.result _ _ c.from_residual-in_err-push.ensures.1
+
+pub block-returns-in_err-inner-clause-ok : goal.block-returns-in_err-inner-clause-ok
+block-returns-in_err-inner-clause-ok t c = no_value c.from_residual.result _ _ c.from_residual.ensures.1
+
+pub call-returns-in_err-inner-clause-ok : goal.call-returns-in_err-inner-clause-ok
+call-returns-in_err-inner-clause-ok t c = no_value c.from_residual.result _ _ c.from_residual.ensures.1
+
+pub chain-returns-in_err-so_far-clause-ok : goal.chain-returns-in_err-so_far-clause-ok
+chain-returns-in_err-so_far-clause-ok t c = no_value c.from_residual.result _ _ c.from_residual.ensures.1
+
+pub chain-returns-in_err-so_far-2-clause-ok : goal.chain-returns-in_err-so_far-2-clause-ok
+chain-returns-in_err-so_far-2-clause-ok t c = no_value c.from_residual-in_err-so_far-2.result _ _ c.from_residual-in_err-so_far-2.ensures.1
+
+pub claimed-returns-in_err-location-clause-ok : goal.claimed-returns-in_err-location-clause-ok
+claimed-returns-in_err-location-clause-ok t c = no_value c.from_residual.result _ _ c.from_residual.ensures.1
+
+pub item-returns-in_err-bound-in-Let-clause-ok : goal.item-returns-in_err-bound-in-Let-clause-ok
+item-returns-in_err-bound-in-Let-clause-ok t c = no_value c.from_residual.result _ _ c.from_residual.ensures.1
+
+pub link-returns-in_err-next-clause-ok : goal.link-returns-in_err-next-clause-ok
+link-returns-in_err-next-clause-ok t c = no_value c.from_residual.result _ _ c.from_residual.ensures.1
+
+pub reg-returns-in_err-locations-clause-ok : goal.reg-returns-in_err-locations-clause-ok
+reg-returns-in_err-locations-clause-ok t c = no_value c.from_residual.result _ _ c.from_residual.ensures.1
+
+pub rotation-returns-in_err-value-clause-ok : goal.rotation-returns-in_err-value-clause-ok
+rotation-returns-in_err-value-clause-ok t c = no_value c.from_residual.result _ _ c.from_residual.ensures.1
+
+pub run-returns-in_err-enter-clause-ok : goal.run-returns-in_err-enter-clause-ok
+run-returns-in_err-enter-clause-ok t c = no_value c.from_residual.result _ _ c.from_residual.ensures.1
+
+pub append-returns-in_err-front-clause-err : goal.append-returns-in_err-front-clause-err
+append-returns-in_err-front-clause-err t c = passes_on _ c.from_residual.result c.from_residual.ensures.1
+    (said_first c.in_err-front.field-0.0 _ _ c.in_err-front.ensures.err)
+
+pub apply-returns-in_err-value-clause-err : goal.apply-returns-in_err-value-clause-err
+apply-returns-in_err-value-clause-err t c = passes_on _ c.from_residual.result c.from_residual.ensures.1
+    (said_first c.in_err-value.field-0.0 _ _ c.in_err-value.ensures.err)
+
+pub argument-returns-in_err-argument-clause-err : goal.argument-returns-in_err-argument-clause-err
+argument-returns-in_err-argument-clause-err t c = passes_on _ c.from_residual.result c.from_residual.ensures.1
+    (said_first c.in_err-argument.field-0.0 _ _ c.in_err-argument.ensures.err)
+
+pub assignment-returns-in_err-to-clause-err : goal.assignment-returns-in_err-to-clause-err
+assignment-returns-in_err-to-clause-err t c = passes_on _ c.from_residual.result c.from_residual.ensures.1
+    (said_first c.in_err-to.field-0.0 _ _ c.in_err-to.ensures.err)
+
+pub at-returns-in_err-value-clause-err : goal.at-returns-in_err-value-clause-err
+at-returns-in_err-value-clause-err t c = passes_on _ c.from_residual.result c.from_residual.ensures.1
+    (said_first c.in_err-value.field-0.0 _ _ c.in_err-value.ensures.err)
+
+pub bit-returns-in_err-value-clause-err : goal.bit-returns-in_err-value-clause-err
+bit-returns-in_err-value-clause-err t c = passes_on _ c.from_residual.result c.from_residual.ensures.1
+    (said_first c.in_err-value.field-0.0 _ _ c.in_err-value.ensures.err)
+
+pub claimed-returns-in_err-location-clause-err : goal.claimed-returns-in_err-location-clause-err
+claimed-returns-in_err-location-clause-err t c = passes_on _ c.from_residual.result c.from_residual.ensures.1
+    (said_first c.in_err-location.field-0.0 _ _ c.in_err-location.ensures.err)
+
+pub link-returns-in_err-next-clause-err : goal.link-returns-in_err-next-clause-err
+link-returns-in_err-next-clause-err t c = passes_on _ c.from_residual.result c.from_residual.ensures.1
+    (said_first c.in_err-next.field-0.0 _ _ c.in_err-next.ensures.err)
+
+pub rotation-returns-in_err-value-clause-err : goal.rotation-returns-in_err-value-clause-err
+rotation-returns-in_err-value-clause-err t c = passes_on _ c.from_residual.result c.from_residual.ensures.1
+    (said_first c.in_err-value.field-0.0 _ _ c.in_err-value.ensures.err)
+
+pub chain-returns-in_err-so_far-clause-err : goal.chain-returns-in_err-so_far-clause-err
+chain-returns-in_err-so_far-clause-err t c = passes_on _ c.from_residual.result c.from_residual.ensures.1
+    (chain_no_first c.args.self.now c.args.left c.args.op (env_in (envs_of c.args.self.now) c.args.env) (map tree_of c.args.terms.now)
+    (tree_of c.in-Some.first.now) (map tree_of c.in-Some.rest.now) c.in_err-so_far.field-0.0 (ap (map tree_of) c.in-Some.ensures.cases.0)
+    c.in_err-so_far.ensures.err)
+
+-- ---- the last step
+
+pub claimed-returns-clause-ok : goal.claimed-returns-clause-ok
+claimed-returns-clause-ok t c = IfOk-weaker c.claim.result _ _
+    (λ v g. ends_goes (step (λ l s. claim_on no_bits c.args.kind l (place_of (tree_of c.args.operand.now)) c.args.at s)
+    (begun c.args.self.now _ _ refl c.requires.machine) c.in_ok-location.ensures.ok) g) c.claim.ensures.ok
+
+pub claimed-returns-clause-err : goal.claimed-returns-clause-err
+claimed-returns-clause-err t c = IfErr-weaker c.claim.result _ _
+    (λ f s. said f (step (λ l s. claim_on no_bits c.args.kind l (place_of (tree_of c.args.operand.now)) c.args.at s)
+    (begun c.args.self.now _ _ refl c.requires.machine) c.in_ok-location.ensures.ok) s) c.claim.ensures.err
+
+pub link-returns-clause-ok : goal.link-returns-clause-ok
+link-returns-clause-ok t c = IfOk-weaker c.join.result _ _
+    (λ v g. ends (step (λ next s. join_step c.args.op c.args.so_far next (place_of (tree_of c.args.first.now)) (place_of (tree_of c.args.term.now)) s)
+    (begun c.args.self.now _ _ refl c.requires.machine) c.in_ok-next.ensures.ok) g) c.join.ensures.ok
+
+pub link-returns-clause-err : goal.link-returns-clause-err
+link-returns-clause-err t c = IfErr-weaker c.join.result _ _
+    (λ f s. said f (step (λ next s. join_step c.args.op c.args.so_far next (place_of (tree_of c.args.first.now)) (place_of (tree_of c.args.term.now)) s)
+    (begun c.args.self.now _ _ refl c.requires.machine) c.in_ok-next.ensures.ok) s) c.join.ensures.err
+
+pub rotation-returns-clause-ok : goal.rotation-returns-clause-ok
+rotation-returns-clause-ok t c = IfOk-weaker c.rotated.result _ _
+    (λ v g. ends_goes (value_behind c.args.self.now c.run.new.self c.args.left c.args.env (tree_of c.args.operand.now) c.in_ok-value.value
+    (λ x s. rotated no_bits c.args.i (place_of (tree_of c.args.operand.now)) c.args.at x s) c.requires.machine c.in_ok-value.ensures.ok) g)
+    c.rotated.ensures.ok
+
+pub rotation-returns-clause-err : goal.rotation-returns-clause-err
+rotation-returns-clause-err t c = IfErr-weaker c.rotated.result _ _
+    (λ f s. said f (value_behind c.args.self.now c.run.new.self c.args.left c.args.env (tree_of c.args.operand.now) c.in_ok-value.value
+    (λ x s. rotated no_bits c.args.i (place_of (tree_of c.args.operand.now)) c.args.at x s) c.requires.machine c.in_ok-value.ensures.ok) s)
+    c.rotated.ensures.err
+
+pub block-returns-clause-ok : goal.block-returns-clause-ok
+block-returns-clause-ok t c = IfOk-weaker c.run.result _ _
+    (λ v g. ends_goes (block_last c.args.self.now c.loop-item.self c.args.left c.loop-item.inner _ (tree_of c.args.last.now) _
+    (mapped_end item_tree_of c.args.items.now c.loop-item.item-index (omega arith)) c.loop-item.invariant) g) c.run.ensures.ok
+
+pub block-returns-clause-err : goal.block-returns-clause-err
+block-returns-clause-err t c = IfErr-weaker c.run.result _ _
+    (λ f s. said f (block_last c.args.self.now c.loop-item.self c.args.left c.loop-item.inner _ (tree_of c.args.last.now) _
+    (mapped_end item_tree_of c.args.items.now c.loop-item.item-index (omega arith)) c.loop-item.invariant) s) c.run.ensures.err
+
+pub apply-returns-clause-ok : goal.apply-returns-clause-ok
+apply-returns-clause-ok t c = apply_done c.args.self.now c.loop-term.self c.args.left (env_in (envs_of c.args.self.now) c.args.env) _ c.loop-term.value _
+    (mapped_end tree_of c.args.terms.now c.loop-term.term-index (omega arith)) c.loop-term.invariant
+
+-- ---- the parts' calls
+
+pub append-run-requires : goal.append-run-requires
+append-run-requires t c = (omega arith, (c.requires.machine, c.requires.env))
+
+pub apply-run-requires : goal.apply-run-requires
+apply-run-requires t c = (omega arith, (c.requires.machine, c.requires.env))
+
+pub argument-run-requires : goal.argument-run-requires
+argument-run-requires t c = (omega arith, (c.requires.machine, c.requires.env))
+
+pub assignment-bit-requires : goal.assignment-bit-requires
+assignment-bit-requires t c = (omega arith, (c.requires.machine, c.requires.env))
+
+pub at-run-requires : goal.at-run-requires
+at-run-requires t c = (omega arith, (c.requires.machine, c.requires.env))
+
+pub bit-run-requires : goal.bit-run-requires
+bit-run-requires t c = (omega arith, (c.requires.machine, c.requires.env))
+
+pub chain-bit-requires : goal.chain-bit-requires
+chain-bit-requires t c = (omega arith, (c.requires.machine, c.requires.env))
+
+pub claimed-bit-requires : goal.claimed-bit-requires
+claimed-bit-requires t c = (omega arith, (c.requires.machine, c.requires.env))
+
+pub item-run-requires : goal.item-run-requires
+item-run-requires t c = (omega arith, (c.requires.machine, c.requires.env))
+
+pub item-run-requires-in-Do : goal.item-run-requires-in-Do
+item-run-requires-in-Do t c = (omega arith, (c.requires.machine, c.requires.env))
+
+pub link-bit-requires : goal.link-bit-requires
+link-bit-requires t c = (omega arith, (c.requires.machine, c.requires.env))
+
+pub reg-bits-requires : goal.reg-bits-requires
+reg-bits-requires t c = (omega arith, (c.requires.machine, c.requires.env))
+
+pub rotation-run-requires : goal.rotation-run-requires
+rotation-run-requires t c = (omega arith, (c.requires.machine, c.requires.env))
+
+pub term-reg-requires : goal.term-reg-requires
+term-reg-requires t c = (omega arith, (c.requires.machine, c.requires.env))
+
+pub term-claimed-requires : goal.term-claimed-requires
+term-claimed-requires t c = (omega arith, (c.requires.machine, c.requires.env))
+
+pub term-chain-requires : goal.term-chain-requires
+term-chain-requires t c = (omega arith, (c.requires.machine, c.requires.env))
+
+pub term-assignment-requires : goal.term-assignment-requires
+term-assignment-requires t c = (omega arith, (c.requires.machine, c.requires.env))
+
+pub term-block-requires : goal.term-block-requires
+term-block-requires t c = (omega arith, (c.requires.machine, c.requires.env))
+
+pub term-at-requires : goal.term-at-requires
+term-at-requires t c = (omega arith, (c.requires.machine, c.requires.env))
+
+pub term-apply-requires : goal.term-apply-requires
+term-apply-requires t c = (omega arith, (c.requires.machine, c.requires.env))
+
+pub term-append-requires : goal.term-append-requires
+term-append-requires t c = (omega arith, (c.requires.machine, c.requires.env))
+
+pub term-rotation-requires : goal.term-rotation-requires
+term-rotation-requires t c = (omega arith, (c.requires.machine, c.requires.env))
+
+pub term-claimed-requires-in-Assert : goal.term-claimed-requires-in-Assert
+term-claimed-requires-in-Assert t c = (omega arith, (c.requires.machine, c.requires.env))
+
+pub term-chain-requires-in-Xor : goal.term-chain-requires-in-Xor
+term-chain-requires-in-Xor t c = (omega arith, (c.requires.machine, c.requires.env))
+
+pub append-run-requires-2 : goal.append-run-requires-2
+append-run-requires-2 t c = (omega arith, (c.in_ok-front.ensures.ok.does.kept, grown_within c.in_ok-front.ensures.ok.does.grows c.requires.env))
+
+pub assignment-bit-requires-2 : goal.assignment-bit-requires-2
+assignment-bit-requires-2 t c = (omega arith, (c.in_ok-to.ensures.ok.kept, grown_within c.in_ok-to.ensures.ok.grows c.requires.env))
+
+pub bits-bit-requires : goal.bits-bit-requires
+bits-bit-requires t c = (omega arith, (c.loop-term.invariant.kept, grown_within c.loop-term.invariant.grows c.requires.env))
+
+pub chain-link-requires : goal.chain-link-requires
+chain-link-requires t c = (omega arith, (c.loop-term.invariant.kept, grown_within c.loop-term.invariant.grows c.requires.env))
+
+pub run-term-requires : goal.run-term-requires
+run-term-requires t c = (omega arith, (c.in_ok-enter.ensures.ok.kept, grown_within c.in_ok-enter.ensures.ok.grows c.requires.env))
+
+pub block-item-requires : goal.block-item-requires
+block-item-requires t c = (omega arith, (c.loop-item.invariant.through.kept, c.loop-item.invariant.made))
+
+pub block-run-requires : goal.block-run-requires
+block-run-requires t c = (omega arith, (c.loop-item.invariant.through.kept, c.loop-item.invariant.made))
+
+pub call-run-requires : goal.call-run-requires
+call-run-requires t c = (omega arith, (c.in_ok-inner.ensures.ok.kept, c.in_ok-inner.ensures.ok.made))
+
+pub apply-argument-requires : goal.apply-argument-requires
+apply-argument-requires t c =
+    let through = c.loop-term.invariant.through in (
+      omega arith,
+      (through.kept, (grown_within through.grows c.requires.env, c.loop-term.invariant.made)),
+    )
