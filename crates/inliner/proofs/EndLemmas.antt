@@ -26,8 +26,8 @@ use Rattle.revs_terms.proofs.BitlessTapeLemmas.{same_for_all}
 use Rattle.revs_terms.proofs.OutputLemmas.{has_outputs}
 use Rattle.std.specs.Prelude.{IsTrue}
 use Rattle.std.proofs.lemmas.List.{length-map}
-use Rattle.inliner.specs.inside.Machines.{met_by, env_in, value_in, envs_of, state_of, Goes}
-use Rattle.inliner.specs.inside.Starts.{stamped, Reads, Outputs, outputs_step, IsStart}
+use Rattle.inliner.specs.inside.Machines.{met_by, env_in, value_in, envs_of, state_of, Goes, Grows}
+use Rattle.inliner.specs.inside.Starts.{stamped, Reads, Ends, Outputs, body_step, outputs_step, IsStart}
 use Rattle.inliner.proofs.FaultLemmas.{said_first, said_same}
 use Rattle.inliner.specs.inside.Calls.{Going, IsStuckAs, Leaves, Says}
 use Rattle.inliner.proofs.ProgressLemmas.{regroup, same_next, after_went}
@@ -95,48 +95,56 @@ stamps_back (r ∷ rs) = ap (λ (x : List Ref). r ∷ x) (stamps_back rs)
 
 -- the run of a program with so many levels of depth
 abbrev pub run_within : ℕ → List Param → Tree → Going (List (Stamped (Unit {0})))
-run_within left params body =
-    after (run_of no_bits left (params_in 0 params nothing) body (start (nothings (sum (widths_of params)))))
-    (λ value s. outputs_step (place_of body) value s)
+run_within left params body = body_step left (params_in 0 params nothing) body (start (nothings (sum (widths_of params))))
 
 at_start : (left : ℕ) (params : List Param) (body : Tree) (m : Machine) (env : ℕ) → IsStart params m → env ≡ length m.bindings.items
-    → run_within left params body ≡ after (run_of no_bits left (env_in (envs_of m) env) body (state_of m)) (λ value s. outputs_step (place_of body) value s)
+    → run_within left params body ≡ body_step left (env_in (envs_of m) env) body (state_of m)
 at_start left params body m env s e =
-    sym (ap (λ (x : Environment). after (run_of no_bits left x body (state_of m)) (λ value s. outputs_step (place_of body) value s))
-    (ap (env_in (envs_of m)) e ∙ s.env)
-    ∙ ap (λ (x : State (Unit {0})). after (run_of no_bits left (params_in 0 params nothing) body x) (λ value s. outputs_step (place_of body) value s))
-    s.state)
+    sym (ap (λ (x : Environment). body_step left x body (state_of m)) (ap (env_in (envs_of m)) e ∙ s.env)
+    ∙ ap (body_step left (params_in 0 params nothing) body) s.state)
 
-pub body_stuck : (left : ℕ) (params : List Param) (body : Tree) (m : Machine) (env : ℕ) (fault : RunFault) → IsStart params m → env ≡ length m.bindings.items
-    → Says fault (run_of no_bits left (env_in (envs_of m) env) body (state_of m)) → Says fault (run_within left params body)
-body_stuck left params body m env fault s e says =
-    said_same fault _ _ (at_start left params body m env s e)
-    (said_first fault (run_of no_bits left (env_in (envs_of m) env) body (state_of m)) (λ value s. outputs_step (place_of body) value s) says)
-
-body_run : (left : ℕ) (params : List Param) (body : Tree) (m now : Machine) (env : ℕ) (v : Value) → IsStart params m → env ≡ length m.bindings.items
-    → Goes m now (run_of no_bits left (env_in (envs_of m) env) body (state_of m)) v
-    → run_within left params body ≡ outputs_step (place_of body) (value_in (envs_of now) v) (state_of now)
-body_run left params body m now env v s e g =
-    at_start left params body m env s e ∙ ap (λ (o : Going runs.Value). after o (λ value s. outputs_step (place_of body) value s)) g.does.goes
-
-pub outputs_stuck : (left : ℕ) (params : List Param) (body : Tree) (m now : Machine) (env : ℕ) (v : Value) (fault : RunFault) → IsStart params m
+pub program_stuck : (left : ℕ) (params : List Param) (body : Tree) (m : Machine) (env : ℕ) (fault : RunFault) → IsStart params m
     → env ≡ length m.bindings.items
-    → Goes m now (run_of no_bits left (env_in (envs_of m) env) body (state_of m)) v
-    → Says fault (outputs_step (place_of body) (value_in (envs_of now) v) (state_of now)) → Says fault (run_within left params body)
-outputs_stuck left params body m now env v fault s e g says = said_same fault _ _ (body_run left params body m now env v s e g) says
+    → Says fault (body_step left (env_in (envs_of m) env) body (state_of m)) → Says fault (run_within left params body)
+program_stuck left params body m env fault s e says = said_same fault _ _ (at_start left params body m env s e) says
 
-pub program_leaves : (left : ℕ) (params : List Param) (body : Tree) (m now : Machine) (env : ℕ) (v : Value) (made : List Ref) (tape : TapeView)
+pub program_leaves : (left : ℕ) (params : List Param) (body : Tree) (m now : Machine) (env : ℕ) (made : List Ref) (tape : TapeView)
     → IsStart params m → env ≡ length m.bindings.items
-    → Goes m now (run_of no_bits left (env_in (envs_of m) env) body (state_of m)) v
-    → Outputs now (value_in (envs_of now) v) (place_of body) made → tape ≡ record now.tape { outputs = made }
+    → body_step left (env_in (envs_of m) env) body (state_of m) ≡ went (map stamped made) (state_of now) → Grows m now
+    → tape ≡ record now.tape { outputs = made }
     → (run_within left params body ≡ went (map stamped made) (state_of now)) × (tape ≡ tape_of params (map stamped made) (state_of now))
-program_leaves left params body m now env v made tape s e g o t =
-    let p : now.tape.params ≡ widths_of params = g.does.grows.params ∙ s.widths in
+program_leaves left params body m now env made tape s e runs grows t =
+    let p : now.tape.params ≡ widths_of params = grows.params ∙ s.widths in
     let c = claims_back now.tape.claims in
     let r = stamps_back made in (
-      body_run left params body m now env v s e g ∙ o.read,
+      at_start left params body m env s e ∙ runs,
       t ∙ (rw (p, c, r) refl),
     )
+
+-- ---- the body
+
+pub body_stuck : (left : ℕ) (env : Environment) (body : Tree) (m : Machine) (fault : RunFault) → Says fault (run_of no_bits left env body (state_of m))
+    → Says fault (body_step left env body (state_of m))
+body_stuck left env body m fault says = said_first fault (run_of no_bits left env body (state_of m)) (outputs_step (place_of body)) says
+
+body_run : (left : ℕ) (env : Environment) (body : Tree) (m now : Machine) (v : Value) → Goes m now (run_of no_bits left env body (state_of m)) v
+    → body_step left env body (state_of m) ≡ outputs_step (place_of body) (value_in (envs_of now) v) (state_of now)
+body_run left env body m now v g = ap (λ (o : Going runs.Value). after o (outputs_step (place_of body))) g.does.goes
+
+pub outputs_stuck : (left : ℕ) (env : Environment) (body : Tree) (m now : Machine) (v : Value) (fault : RunFault)
+    → Goes m now (run_of no_bits left env body (state_of m)) v
+    → Says fault (outputs_step (place_of body) (value_in (envs_of now) v) (state_of now)) → Says fault (body_step left env body (state_of m))
+outputs_stuck left env body m now v fault g says = said_same fault _ _ (body_run left env body m now v g) says
+
+pub body_ends : (m now : Machine) (env : ℕ) (body : Tree) (v : Value) (made : List Ref)
+    → Goes m now (run_of no_bits 400 (env_in (envs_of m) env) body (state_of m)) v
+    → Outputs now (value_in (envs_of now) v) (place_of body) made → Ends m now env body made
+body_ends m now env body v made g o = record {
+  runs = body_run 400 (env_in (envs_of m) env) body m now v g ∙ o.read;
+  grows = g.does.grows;
+  known = o.known;
+  few = o.few;
+}
 
 -- ---- what is left of a list
 
@@ -170,12 +178,12 @@ pub left_on_all : (params : List Param) (body : Tree) (tape : TapeView) → Leav
 left_on_all params body tape l = subst (IsTapeOf params body) (sym l.left) ((same_for_all params body).1 l.outputs l.state l.ends)
 
 -- a program has an output
-pub some_made : (left : ℕ) (params : List Param) (body : Tree) (m now : Machine) (env : ℕ) (v : Value) (made : List Ref)
+pub some_made : (left : ℕ) (params : List Param) (body : Tree) (m now : Machine) (env : ℕ) (made : List Ref)
     → run_within left params body ≡ run_without_bits params body
     → AreParams params → IsTrue (is_formed body) → IsStart params m → env ≡ length m.bindings.items
-    → Goes m now (run_of no_bits left (env_in (envs_of m) env) body (state_of m)) v → Outputs now (value_in (envs_of now) v) (place_of body) made
+    → body_step left (env_in (envs_of m) env) body (state_of m) ≡ went (map stamped made) (state_of now)
     → 1 ≤ length made
-some_made left params body m now env v made same are formed s e g o =
+some_made left params body m now env made same are formed s e runs =
     let some : 1 ≤ length (map stamped made) = has_outputs params body (map stamped made) (state_of now) are formed
-    (sym same ∙ body_run left params body m now env v s e g ∙ o.read) in
+    (sym same ∙ at_start left params body m env s e ∙ runs) in
     omega (arith, some, length-map made stamped)

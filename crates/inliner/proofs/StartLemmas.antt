@@ -14,17 +14,15 @@ use Rattle.std.proofs.lemmas.Bool.{and_parts}
 use Rattle.revs_terms.specs.Running as runs
 use Rattle.revs_terms.specs.Running.{Environment, nothing, bound}
 use Rattle.revs_terms.specs.Runs.{inputs_from, nothings, from, params_in, param_value}
-use Rattle.array_shapes.specs.declared.value.Value.{Value}
 use Rattle.array_shapes.specs.Values as values
 use Rattle.array_shapes.specs.Values.{ValueView, seen}
-use Rattle.inliner.specs.declared.leaps.Leap.{Leap}
 use Rattle.inliner.specs.declared.machine.Binding.{Binding}
 use Rattle.revc_base.specs.Tapes.{TapeView}
 use Rattle.list_facts.proofs.AllLemmas.{AllByRecursion-weaker}
 use Rattle.inliner.specs.declared.machine.Machine.{Machine}
 use Rattle.inliner.proofs.WriteLemmas.{state_is}
-use Rattle.inliner.specs.inside.Machines.{held_by, met_by, IsKnownIn, env_in, spec_value, envs_from, AreBindings, AreLeaps, Leaps, IsValueView}
-use Rattle.inliner.specs.inside.Starts.{param_view, IsInputBelow, AreInputs, AreBound, IsStart}
+use Rattle.inliner.specs.inside.Machines.{held_by, met_by, IsKnownIn, env_in, spec_value, envs_from, AreBindings, AreLeaps, IsValueView}
+use Rattle.inliner.specs.inside.Starts.{param_view, IsInputBelow, AreInputs, AreBound, IsParamBinding, IsStart}
 use Rattle.inliner.proofs.EnvironmentLemmas.{pushed_at, bindings_pushed}
 use Rattle.inliner.proofs.LeapLemmas.{leaps_pushed}
 
@@ -102,25 +100,24 @@ view_param : (n first : ℕ) (w : Option ℕ) → IsValueView n (param_view firs
 view_param n first None = tt
 view_param n first (Some w) = tt
 
-pub bound_more : (bs cs : List Binding) (first next parent : ℕ) (leap : Leap) (p : Param) (ps rest params : List Param) (v : Value) → rest ≡ p ∷ ps
-    → seen v ≡ param_view first p.width → parent ≡ length bs
-    → next ≡ first + width_of p.width → cs ≡ bs ++ record { value = v; parent = parent; leap = leap } ∷ [] → Leaps (envs_from [] bs) parent leap
-    → InBound bs first rest params → InBound cs next ps params
-bound_more bs cs first next parent leap p ps rest params v cut s at n pushed l i =
-    let b : Binding = record { value = v; parent = parent; leap = leap } in
+pub bound_more : (bs cs : List Binding) (first next : ℕ) (b : Binding) (p : Param) (ps rest params : List Param) → rest ≡ p ∷ ps
+    → IsParamBinding bs first p.width b → next ≡ first + width_of p.width → cs ≡ bs ++ b ∷ [] → InBound bs first rest params → InBound cs next ps params
+bound_more bs cs first next b p ps rest params cut is n pushed i =
+    let s = is.value in
+    let at = is.parent in
     let longer : length cs ≡ length bs + 1 = ap length pushed ∙ length-append bs (b ∷ []) in
     let whole : first + sum (widths_of (p ∷ ps)) ≤ MOST_INPUTS = subst (λ (x : List Param). first + sum (widths_of x) ≤ MOST_INPUTS) cut i.total in
     let total : first + (width_of p.width + sum (widths_of ps)) ≤ MOST_INPUTS = omega (arith, whole, fold_more (0 + width_of p.width) (widths_of ps)) in
     let wide : AllByRecursion (λ w. 1 ≤ w) (widths_of (p ∷ ps)) = subst (λ (x : List Param). AllByRecursion (λ w. 1 ≤ w) (widths_of x)) cut i.wide in
     let last : env_in (envs_from [] cs) (length cs) ≡ bound (param_value first p.width) (env_in (envs_from [] bs) (length bs)) =
     ap (env_in (envs_from [] cs)) longer ∙ ap (λ (x : List Binding). env_in (envs_from [] x) (length bs + 1)) pushed ∙ pushed_at bs b
-    ∙ ap (λ (x : ValueView). bound (spec_value (envs_from [] bs) x) (env_in (envs_from [] bs) parent)) s
-    ∙ ap (λ (x : runs.Value). bound x (env_in (envs_from [] bs) parent)) (spec_param (envs_from [] bs) first p.width)
+    ∙ ap (λ (x : ValueView). bound (spec_value (envs_from [] bs) x) (env_in (envs_from [] bs) b.parent)) s
+    ∙ ap (λ (x : runs.Value). bound x (env_in (envs_from [] bs) b.parent)) (spec_param (envs_from [] bs) first p.width)
     ∙ ap (λ (x : ℕ). bound (param_value first p.width) (env_in (envs_from [] bs) x)) at in
     record {
       are = rw pushed (bindings_pushed bs b i.are (omega (arith, at))
           (subst (λ (x : ValueView). IsValueView (length bs) x) (sym s) (view_param (length bs) first p.width)));
-      leaps = rw pushed (leaps_pushed [] bs b i.leaps l);
+      leaps = rw pushed (leaps_pushed [] bs b i.leaps is.leap);
       env = ap (params_in next ps) last ∙ ap (λ (x : ℕ). params_in x ps (bound (param_value first p.width) (env_in (envs_from [] bs) (length bs)))) n
           ∙ ap (λ (x : List Param). params_in first x (env_in (envs_from [] bs) (length bs))) (sym cut) ∙ i.env;
       count = omega (arith, longer, ap length cut, i.count);
@@ -128,6 +125,14 @@ bound_more bs cs first next parent leap p ps rest params v cut s at n pushed l i
       few = omega (arith, longer, n, i.few, wide.0);
       wide = wide.1;
     }
+
+-- there is room for the next parameter
+pub next_within : (bs : List Binding) (first : ℕ) (p : Param) (ps rest params : List Param) → rest ≡ p ∷ ps → InBound bs first rest params
+    → (length bs ≤ MOST_INPUTS) × (first + width_of p.width ≤ MOST_INPUTS)
+next_within bs first p ps rest params cut i =
+    let whole : first + sum (widths_of (p ∷ ps)) ≤ MOST_INPUTS = subst (λ (x : List Param). first + sum (widths_of x) ≤ MOST_INPUTS) cut i.total in
+    let within : first + width_of p.width ≤ MOST_INPUTS = omega (arith, whole, fold_more (0 + width_of p.width) (widths_of ps)) in
+    (omega (arith, i.few, within), within)
 
 pub bound_done : (bs : List Binding) (first : ℕ) (rest params : List Param) → rest ≡ [] → InBound bs first rest params → AreBound params bs
 bound_done bs first rest params none i = record {

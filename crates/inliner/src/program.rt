@@ -3,13 +3,14 @@ ghost use Rattle.std.specs.Prelude.{◌≡◌, ◌≤◌, length, sum, IfOk, IfE
 ghost use Rattle.std.specs.List.{AllByRecursion};
 ghost use Rattle.revc_base.specs.declared.limits.TheConstants.{MOST_OUTPUTS};
 ghost use Rattle.revc_base.specs.Tapes.{IsKnown};
+ghost use Rattle.revs_terms.specs.declared.limits.TheConstants.{MOST_DEPTH};
 ghost use Rattle.revs_terms.specs.Runs.{no_bits, read_all, run_without_bits, IsTapeOf};
 ghost use Rattle.revs_terms.specs.Terms.{place_of};
 ghost use Rattle.revs_terms.specs.Trees.{tree_of};
 ghost use Rattle.inliner.specs.Faults.{IsRefused};
 ghost use Rattle.inliner.specs.inside.Calls.{Says, Leaves};
-ghost use Rattle.inliner.specs.inside.Machines.{IsMachine, state_of, value_of};
-ghost use Rattle.inliner.specs.inside.Starts.{Outputs, Reads, outputs_step};
+ghost use Rattle.inliner.specs.inside.Machines.{IsMachine, env_of, state_of, value_of};
+ghost use Rattle.inliner.specs.inside.Starts.{Ends, Outputs, Reads, body_step, outputs_step};
 
 use crate::RunFault;
 use crate::machine::Machine;
@@ -45,9 +46,25 @@ fn run(alloc: Global, program: &Program) -> Result<Tape, RunFault>
 {
     let mut machine = start(alloc, &program.params)?;
     let env = machine.last_environment();
-    let value = machine.run(env, &program.body, MOST_DEPTH)?;
-    let outputs = outputs(&machine, &value, &program.body)?;
+    let outputs = body_outputs(&mut machine, env, &program.body)?;
     Ok(finished(machine, outputs))
+}
+
+// What made the bits of the value of a program's body, which is run in an environment.
+fn body_outputs<'t>(
+    machine: &mut Machine<'t>,
+    env: u32,
+    body: &'t Term,
+) -> Result<Vec<Ref>, RunFault>
+    requires machine { IsMachine machine.old }
+    requires env { env ≤ length machine.old.bindings.items }
+    ensures ok { IfOk result (λ made. Ends machine.old machine.new env (tree_of body.now)
+        made.items) }
+    ensures err { IfErr result (λ fault. Says fault (body_step MOST_DEPTH
+        (env_of machine.old env) (tree_of body.now) (state_of machine.old))) }
+{
+    let value = machine.run(env, body, MOST_DEPTH)?;
+    outputs(machine, &value, body)
 }
 
 // The outputs of a program: what made the bits of its value.

@@ -1,10 +1,11 @@
 // The machine before a program's body is run.
 ghost use Rattle.revc_base.specs.declared.limits.TheConstants.{MOST_INPUTS};
-ghost use Rattle.std.specs.Prelude.{◌≡◌, ◌+◌, ◌-◌, ◌≤◌, map, Some, IfOk, IfErr};
+ghost use Rattle.std.specs.Prelude.{◌≡◌, ◌+◌, ◌-◌, ◌≤◌, [], length, map, Some, IfOk, IfErr};
 ghost use Rattle.std.specs.List.{range_with_len};
 ghost use Rattle.revs_terms.specs.Programs.{AreParams, width_of, widths_of};
 ghost use Rattle.array_shapes.specs.Values.{seen};
-ghost use Rattle.inliner.specs.inside.Starts.{param_view, AreBound, IsStart};
+ghost use Rattle.inliner.specs.inside.Machines.{AreBindings, AreLeaps};
+ghost use Rattle.inliner.specs.inside.Starts.{param_view, AreBound, IsParamBinding, IsStart};
 
 use crate::RunFault;
 use crate::leaps::leap_from;
@@ -75,6 +76,29 @@ fn param_value<'t>(alloc: Global, first: u32, width: Option<u32>) -> Result<Valu
     }
 }
 
+// The binding of a parameter whose first input is this one, behind those of the parameters before.
+fn param_binding<'t>(
+    alloc: Global,
+    bindings: &[Binding<'t>],
+    first: u32,
+    width: Option<u32>,
+) -> Result<Binding<'t>, RunFault>
+    requires made { AreBindings 0 bindings.now }
+    requires leaps { AreLeaps [] bindings.now }
+    requires few { length bindings.now ≤ MOST_INPUTS }
+    requires inputs { first + width_of width ≤ MOST_INPUTS }
+    ensures ok { IfOk result (IsParamBinding bindings.now first width) }
+    ensures err { IfErr result (λ fault. fault ≡ RunFault.Memory) }
+{
+    let parent = bindings.len() as u32;
+    let leap = leap_from(bindings, parent);
+    Ok(Binding {
+        value: param_value(alloc, first, width)?,
+        parent,
+        leap,
+    })
+}
+
 // The parameters, bound one in the other.
 fn bound<'t>(alloc: Global, params: &[Param]) -> Result<Vec<Binding<'t>>, RunFault>
     requires { AreParams params.now }
@@ -84,14 +108,8 @@ fn bound<'t>(alloc: Global, params: &[Param]) -> Result<Vec<Binding<'t>>, RunFau
     let mut bindings = Vec::new(alloc);
     let mut first = 0;
     for param in params {
-        let value = param_value(alloc, first, param.width)?;
-        let parent = bindings.len() as u32;
-        let leap = leap_from(&bindings, parent);
-        bindings.push(Binding {
-            value,
-            parent,
-            leap,
-        })?;
+        let binding = param_binding(alloc, &bindings, first, param.width)?;
+        bindings.push(binding)?;
         first += width(param);
     }
     Ok(bindings)

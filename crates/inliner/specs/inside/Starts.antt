@@ -7,13 +7,16 @@ use Rattle.revc_base.specs.Tapes.{IsKnown}
 use Rattle.revs_terms.specs.declared.program.Param.{Param}
 use Rattle.revs_terms.specs.Programs.{widths_of}
 use Rattle.revc_base.specs.declared.place.Place.{Place}
-use Rattle.revs_terms.specs.Running.{Value, nothing, Stamped, State, Outcome, went, after}
+use Rattle.revs_terms.specs.declared.limits.TheConstants.{MOST_DEPTH}
+use Rattle.revs_terms.specs.Terms.{place_of}
+use Rattle.revs_terms.specs.Trees.{Tree}
+use Rattle.revs_terms.specs.Running.{Environment, Value, nothing, Stamped, State, Outcome, went, after, run_of}
 use Rattle.revs_terms.specs.Runs.{start, inputs_from, nothings, from, params_in, no_bits, locations_of, read_all}
 use Rattle.array_shapes.specs.Values as values
-use Rattle.array_shapes.specs.Values.{ValueView}
+use Rattle.array_shapes.specs.Values.{ValueView, seen}
 use Rattle.inliner.specs.declared.machine.Binding.{Binding}
 use Rattle.inliner.specs.declared.machine.Machine.{Machine}
-use Rattle.inliner.specs.inside.Machines.{held_by, IsMachine, AreBindings, AreLeaps, envs_from, envs_of, env_in, state_of}
+use Rattle.inliner.specs.inside.Machines.{held_by, IsMachine, AreBindings, AreLeaps, Leaps, Grows, envs_from, envs_of, env_of, env_in, state_of}
 
 -- the value of a parameter whose first input is this one
 abbrev pub param_view : ℕ → Option ℕ → ValueView
@@ -29,6 +32,13 @@ pub record AreInputs (n : ℕ) (store : List (Option Ref)) : Type 0 where
   pub held : map held_by store ≡ inputs_from 0 (nothings n)
   pub known : AllByRecursion (IsInputBelow n) store
   pub count : length store ≡ n
+
+-- the binding of a parameter whose first input is this one, behind these bindings
+pub record IsParamBinding (bs : List Binding) (first : ℕ) (width : Option ℕ) (b : Binding)
+    : Type 0 where
+  pub value : seen b.value ≡ param_view first width
+  pub parent : b.parent ≡ length bs
+  pub leap : Leaps (envs_from [] bs) b.parent b.leap
 
 -- The parameters are bound, the last one nearest.
 pub record AreBound (params : List Param) (bs : List Binding) : Type 0 where
@@ -66,4 +76,17 @@ pub record Reads (m : Machine) (locations : List ℕ) (at : Place) (made : List 
 pub record Outputs (m : Machine) (value : Value) (at : Place) (made : List Ref) : Type 0 where
   pub read : outputs_step at value (state_of m) ≡ went (map stamped made) (state_of m)
   pub known : AllByRecursion (IsKnown (sum m.tape.params) (length m.tape.entries)) made
+  pub few : length made ≤ MOST_OUTPUTS
+
+-- a body is run with so many levels of depth, and its outputs are read
+abbrev pub body_step : ℕ → Environment → Tree → State (Unit {0})
+    → Outcome (Unit {0}) (List (Stamped (Unit {0})))
+body_step left env body s = after (run_of no_bits left env body s) (outputs_step (place_of body))
+
+-- The body was run, and these made its outputs.
+pub record Ends (old now : Machine) (env : ℕ) (body : Tree) (made : List Ref) : Type 0 where
+  pub runs : body_step MOST_DEPTH (env_of old env) body (state_of old)
+      ≡ went (map stamped made) (state_of now)
+  pub grows : Grows old now
+  pub known : AllByRecursion (IsKnown (sum now.tape.params) (length now.tape.entries)) made
   pub few : length made ≤ MOST_OUTPUTS
