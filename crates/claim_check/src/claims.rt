@@ -158,13 +158,38 @@ pub fn settle_claims(tape: &Tape, limit: u32) -> Result<(), ClaimFault>
     ensures hold { OnOk result (HoldWithin tape.now limit) }
     ensures refused { IfErr result (IsClaimFault tape.now limit) }
 {
-    let alloc = *tape.allocator();
     let schedule = schedule_of(tape)?;
+    settle_by(tape, &schedule, limit)
+}
+
+// Settles each claim of a tape in a new diagram.
+fn settle_by(tape: &Tape, schedule: &Schedule, limit: u32) -> Result<(), ClaimFault>
+    requires schedule { IsScheduleOf tape.now schedule.now }
+    requires some { 1 ≤ limit }
+    ensures hold { OnOk result (HoldWithin tape.now limit) }
+    ensures refused { IfErr result (IsClaimFault tape.now limit) }
+{
+    let alloc = *tape.allocator();
     let mut diagram = Diagram::new(alloc, tape.inputs(), limit)?;
-    let mut table = no_numbers(alloc, &diagram, schedule.labels.len())?;
-    let numbers = table.as_mut_slice();
+    let mut numbers = no_numbers(alloc, &diagram, schedule.labels.len())?;
+    settle_in_order(&mut diagram, &mut numbers, tape, schedule)
+}
+
+// Settles each claim of a tape, after none.
+fn settle_in_order(
+    diagram: &mut Diagram,
+    numbers: &mut [Dd],
+    tape: &Tape,
+    schedule: &Schedule,
+) -> Result<(), ClaimFault>
+    requires schedule { IsScheduleOf tape.now schedule.now }
+    requires settled { AreSettled tape.now schedule.now.labels.items diagram.old.limit 0 diagram.old
+        numbers.old }
+    ensures hold { OnOk result (HoldWithin tape.now diagram.old.limit) }
+    ensures refused { IfErr result (IsClaimFault tape.now diagram.old.limit) }
+{
     for number in 0..tape.claims().len() as u32 {
-        settle_claim(&mut diagram, numbers, tape, &schedule, number)?;
+        settle_claim(diagram, numbers, tape, schedule, number)?;
     }
     Ok(())
 }

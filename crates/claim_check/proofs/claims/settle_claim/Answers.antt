@@ -2,6 +2,7 @@ use Rattle.std.proofs.Common.{Option, List, Bool, MatchOption, subst}
 use Rattle.revc_base.specs.Claims.{HoldsEverywhere, IsLeastBreaking}
 use Rattle.claim_check.proofs.MemberLemmas.{more_claims}
 use Rattle.claim_check.proofs.OutcomeLemmas.{broken, claim_numbered, settled_more}
+use Rattle.claim_check.proofs.FaultLemmas.{no_promise}
 use Rattle.claim_check.proofs.claims.settle_claim.Goals as goal
 
 pub number_claim-requires-clause-members : goal.number_claim-requires-clause-members
@@ -34,3 +35,6 @@ returns-in-Some-clause-refused c =
     c.in_ok-least_breaking.ensures)
     c.number_claim.new.diagram c.number_claim.new.numbers c.number_claim.ensures.members c.number_claim.ensures.limit
     c.in_default.ensures.made
+
+pub returns-in_err-least_breaking-clause-settled : goal.returns-in_err-least_breaking-clause-settled
+returns-in_err-least_breaking-clause-settled c = no_promise c.from_residual.result _ _ c.from_residual.ensures.1

@@ -3,6 +3,7 @@ use Rattle.std.specs.List.{flat_map}
 use Rattle.list_facts.specs.Lists.{below}
 use Rattle.revc_base.specs.VariableOrders.{inputs_at}
 use Rattle.claim_check.proofs.OrderTableLemmas.{order_is}
+use Rattle.claim_check.proofs.FaultLemmas.{no_value}
 use Rattle.claim_check.proofs.variables.variable_order.Goals as goal
 
 pub returns : goal.returns
@@ -11,3 +12,6 @@ returns c =
     let all : c.loop-place.place ≡ c.widest-place-end.result = omega (arith, c.loop-place-test.false, c.loop-place.auto.place-end) in
     c.loop-place.invariant ∙ ap (λ (n : ℕ). flat_map (λ place. inputs_at place 0 params) (below n)) all
     ∙ order_is params c.widest-place-end.result c.widest-place-end.ensures
+
+pub returns-in_err-push_inputs : goal.returns-in_err-push_inputs
+returns-in_err-push_inputs c = no_value c.from_residual.result _ _ c.from_residual.ensures.1
