@@ -1,6 +1,6 @@
 -- What stays when nodes are added, and what a new node adds.
 use Rattle.std.proofs.Common.{◌≡◌, ℕ, suc, ◌<◌, ◌≤◌, Bool, true, false, ◌&&◌, if◌then◌else◌, List, [], ◌∷◌, ◌++◌, length, length-append, append_assoc, Result}
-use Rattle.std.proofs.Common.{Ok, Err, IfOk, IfErr, refl, sym, ap, ap₂, ◌∙◌, subst, inl, inr, arith}
+use Rattle.std.proofs.Common.{Ok, Err, IfOk, IfErr, IsErrAnd, refl, sym, ap, ap₂, ◌∙◌, subst, inl, inr, arith}
 use Rattle.std.proofs.lemmas.Bool.{cases_lt}
 use Rattle.std.specs.Bool.{xor}
 use Rattle.decision_diagram.specs.declared.node.DdFault.{DdFault}
@@ -64,6 +64,14 @@ KeepsNodes-trans d e h first second = record {
   limit = second.limit ∙ first.limit;
   added = second.added ++ first.added;
   nodes = second.nodes ∙ (ap (λ nodes. second.added ++ nodes) first.nodes ∙ sym (append_assoc second.added first.added d.nodes));
+}
+
+-- nothing was added
+pub Grows-refl : (f : Function) (d : DiagramView) → IsCanonical d → Grows f d d
+Grows-refl f d canonical = record {
+  canonical = canonical;
+  kept = KeepsNodes-refl d;
+  added = λ n from below. absurd (omega arith);
 }
 
 pub Grows-trans : (f : Function) (d e h : DiagramView) → Grows f d e → Grows f e h → Grows f d h
@@ -192,6 +200,15 @@ module _ (d : DiagramView) (canonical : IsCanonical d) (operation : Operation) (
 pub StandsFor-same : (nodes : List Triple) (n : ℕ) (f g : Function) → AreSame f g → StandsFor nodes n f → StandsFor nodes n g
 StandsFor-same nodes n f g same stands = record { known = stands.known; same = λ a. stands.same a ∙ same a }
 
+-- a node that goes to one number at both bits
+pub one_side : (nodes : List Triple) (v low high : ℕ) → low ≡ high → IsNumber nodes low
+    → StandsFor nodes low (node_function nodes (record { variable = v; low = low; high = high }))
+one_side nodes v low high same known = record {
+  known = known;
+  same = λ a. elim (a v) as (λ t. function_of nodes low a ≡ function_of nodes (if t then high else low) a)
+      [ true ↦ ap (λ n. function_of nodes n a) same | false ↦ refl ];
+}
+
 -- a number that asks only later variables goes to itself
 pub splits_self : (vars : ℕ) (nodes : List Triple) (v n : ℕ) → IsBehind vars nodes v n → Splits vars nodes v n n n
 splits_self vars nodes v n behind = record {
@@ -228,6 +245,11 @@ MayRefuse-same f g d same fault cause = MayRefuse-from f g d (comes_same f g sam
 pub ok_from : (r : Result ℕ DdFault) (P Q : ℕ → Type 0) → ((h : ℕ) → P h → Q h) → IfOk r P → IfOk r Q
 ok_from (Ok h) P Q step p = step h p
 ok_from (Err e) P Q step p = p
+
+-- where there is a fault there is no answer
+pub no_answer : (r : Result ℕ DdFault) (P : ℕ → Type 0) (Q : DdFault → Type 0) → IsErrAnd r Q → IfOk r P
+no_answer (Ok h) P Q at = absurd at
+no_answer (Err e) P Q at = tt
 
 pub err_from : (r : Result ℕ DdFault) (P Q : DdFault → Type 0) → ((e : DdFault) → P e → Q e) → IfErr r P → IfErr r Q
 err_from (Ok h) P Q step p = p

@@ -3,12 +3,13 @@ use Rattle.std.proofs.Common.{◌≡◌, ℕ, zero, suc, ◌+◌, ◌-◌, ◌<�
 use Rattle.std.proofs.Common.{arith}
 use Rattle.std.proofs.lemmas.List.{get_or-reverse, length-reverse, reverse-append}
 use Rattle.std.proofs.lemmas.Option.{slice_get_within, get_or_from_slice_get}
+use Rattle.decision_diagram.specs.Functions.{Function}
 use Rattle.decision_diagram.specs.Diagrams.{Triple, DiagramView, next_number, first_variable, MayFollow, AreOrdered, IsCanonical}
 use Rattle.decision_diagram.specs.Growth.{StandsFor, IsFullFor}
 use Rattle.decision_diagram.specs.inside.Joining.{Grows, IsInner, node_function}
 use Rattle.decision_diagram.proofs.DistinctLemmas.{IsAt, inner_at}
 use Rattle.decision_diagram.proofs.ValueLemmas.{first-newest}
-use Rattle.decision_diagram.proofs.GrowthLemmas.{with_node, newest_stands, grows_by_node, full_for_node}
+use Rattle.decision_diagram.proofs.GrowthLemmas.{Grows-refl, with_node, newest_stands, grows_by_node, full_for_node}
 
 at_index : (nodes : List Triple) (n k : ℕ) (node : Triple) → n + k ≡ suc (length nodes) → k < length nodes
     → get_or nodes k node ≡ node → IsAt nodes n node
@@ -42,6 +43,16 @@ module _ (d : DiagramView) (vars limit : ℕ) (items : List Triple) where
       let e : node ∷ reverse items ≡ reverse after = sym (ap reverse pushed ∙ reverse-append items (node ∷ [])) in
       subst (λ (e : DiagramView). Grows (node_function e.nodes node) e (record { vars = vars; limit = limit; nodes = reverse after })) view
       (subst (λ (nodes : List Triple). Grows (node_function (reverse items) node) inside (record { vars = vars; limit = limit; nodes = nodes })) e here)
+
+  -- where memory was refused nothing was added
+  pub push_fails : (f : Function) (after : List Triple)
+      → record { vars = vars; limit = limit; nodes = reverse items } ≡ d
+      → IsCanonical (record { vars = vars; limit = limit; nodes = reverse items }) → after ≡ items
+      → Grows f d (record { vars = vars; limit = limit; nodes = reverse after })
+  push_fails f after view canonical same =
+      let inside : DiagramView = record { vars = vars; limit = limit; nodes = reverse items } in
+      subst (λ (e : DiagramView). Grows f e (record { vars = vars; limit = limit; nodes = reverse after })) view
+      (subst (λ (xs : List Triple). Grows f inside (record { vars = vars; limit = limit; nodes = reverse xs })) (sym same) (Grows-refl f inside canonical))
 
   pub push_stands : (after : List Triple) (node : Triple) (n : ℕ)
       → record { vars = vars; limit = limit; nodes = reverse items } ≡ d → after ≡ items ++ node ∷ [] → n ≡ length items + 2

@@ -1,5 +1,7 @@
-use Rattle.std.proofs.Common.{arith}
-use Rattle.decision_diagram.specs.Diagrams.{Triple}
+use Rattle.std.proofs.Common.{arith, eqb-true, subst, sym}
+use Rattle.decision_diagram.specs.Diagrams.{Triple, DiagramView, IsCanonical}
+use Rattle.decision_diagram.specs.inside.Joining.{node_function}
+use Rattle.decision_diagram.proofs.GrowthLemmas.{Grows-refl, ok_from, one_side}
 use Rattle.decision_diagram.proofs.PlaceLemmas.{found_inner}
 use Rattle.decision_diagram.proofs.diagram.Diagram.node.Goals as goal
 
@@ -16,3 +18,34 @@ returns-in-Some-clause-first c =
     let at = found_inner c.args.self.now c.self.inside.vars c.self.inside.limit c.self.inside.nodes.keys c.in-Some.place node
     c.self.view_is c.self.invariant c.in-Some.ensures in
     omega (arith, at.first)
+
+pub returns-then-eq-clause-grows : goal.returns-then-eq-clause-grows
+returns-then-eq-clause-grows c =
+    let d = c.args.self.now in
+    let node : Triple = record { variable = c.args.variable; low = c.args.low; high = c.args.high } in
+    Grows-refl (node_function d.nodes node) d (subst (λ (e : DiagramView). IsCanonical e) c.self.view_is c.self.invariant)
+
+pub returns-then-eq-clause-answer : goal.returns-then-eq-clause-answer
+returns-then-eq-clause-answer c =
+    one_side c.args.self.now.nodes c.args.variable c.args.low c.args.high (eqb-true c.args.low c.args.high (sym c.if-eq.ensures)) c.requires.low.known
+
+pub returns-then-eq-clause-first : goal.returns-then-eq-clause-first
+returns-then-eq-clause-first c = omega (arith, c.requires.low.behind)
+
+pub returns-in-Some-clause-grows : goal.returns-in-Some-clause-grows
+returns-in-Some-clause-grows c =
+    let d = c.args.self.now in
+    let node : Triple = record { variable = c.args.variable; low = c.args.low; high = c.args.high } in
+    Grows-refl (node_function d.nodes node) d (subst (λ (e : DiagramView). IsCanonical e) c.self.view_is c.self.invariant)
+
+pub returns-in-None-clause-grows : goal.returns-in-None-clause-grows
+returns-in-None-clause-grows c = c.push.ensures.grows
+
+pub returns-in-None-clause-answer : goal.returns-in-None-clause-answer
+returns-in-None-clause-answer c = c.push.ensures.answer
+
+pub returns-in-None-clause-refused : goal.returns-in-None-clause-refused
+returns-in-None-clause-refused c = c.push.ensures.refused
+
+pub returns-in-None-clause-first : goal.returns-in-None-clause-first
+returns-in-None-clause-first c = ok_from c.push.result _ _ (λ h e. omega (arith, e)) c.push.ensures.first
