@@ -1,4 +1,5 @@
 pub mod CubeLemmas
+pub mod FaultLemmas
 pub mod InputLemmas
 pub mod MergingLemmas
 pub mod MonomialSetLemmas

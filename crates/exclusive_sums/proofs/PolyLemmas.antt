@@ -1,5 +1,5 @@
 -- What is left of a monomial at the end of the other, and sums of at most so many monomials.
-use Rattle.std.proofs.Common.{◌≡◌, ◌⊎◌, ℕ, ◌≤◌, not, true, cond, leb, List, [], ◌∷◌, ◌++◌, length, map, drop, Option, Some, None, refl, sym, ap, subst, ◌∙◌}
+use Rattle.std.proofs.Common.{◌≡◌, ◌⊎◌, ℕ, ◌≤◌, not, true, cond, leb, List, [], ◌∷◌, ◌++◌, length, map, drop, Option, Some, None, refl, sym, ap, ap₂, subst, ◌∙◌}
 use Rattle.std.proofs.Common.{inl, inr}
 use Rattle.std.specs.Bool.{xor}
 use Rattle.std.specs.Ordering.{nat_cmp}
@@ -57,3 +57,7 @@ up_to_from_negation most p answer a e = record {
   };
   answers = e;
 }
+
+-- the sum of two lists that are known
+pub sum_of_equal : {sum left right p q : List (List ℕ)} → sum ≡ exclusive_sum_of left right → left ≡ p → right ≡ q → sum ≡ exclusive_sum_of p q
+sum_of_equal is l r = is ∙ ap₂ exclusive_sum_of l r

@@ -1,26 +1,48 @@
-use Rattle.std.proofs.Common.{◌≡◌, [], ◌∷◌, sym, subst}
+use Rattle.std.proofs.Common.{◌≡◌, ◌∙◌, ℕ, List, [], ◌∷◌, ap, sym, subst}
 use Rattle.revc_base.specs.Polynomials.{IsPolynomial}
 use Rattle.revc_base.specs.inside.Sums.{exclusive_sum_of}
 use Rattle.revc_base.proofs.SumLemmas.{IsPolynomial-exclusive_sum_of, IsPolynomial-one}
 use Rattle.exclusive_sums.specs.Inputs.{AreOverInputsOf}
 use Rattle.exclusive_sums.proofs.InputLemmas.{over_negation, if_answered}
-use Rattle.exclusive_sums.proofs.PolyLemmas.{up_to_from_negation}
+use Rattle.exclusive_sums.proofs.PolyLemmas.{sum_of_equal, up_to_from_negation}
+use Rattle.exclusive_sums.proofs.FaultLemmas.{no_value}
 use Rattle.exclusive_sums.proofs.poly.Poly.not.Goals as goal
 
 pub limited-requires : goal.limited-requires
 limited-requires c =
-    let sum : c.in_ok-sum.sum.items ≡ exclusive_sum_of ([] ∷ []) c.args.self.now = cc
-    (c.in_ok-sum.ensures, c.in_ok-one.ensures.items, c.in_ok-copies.ensures) in
+    let sum : c.in_ok-sum.sum.items ≡ exclusive_sum_of ([] ∷ []) c.args.self.now =
+    sum_of_equal c.in_ok-sum.ensures (c.in_ok-one.ensures.items ∙ ap (λ (m : List ℕ). m ∷ []) c.one.ensures)
+    (c.in_ok-copies.ensures ∙ c.deref.ensures.value ∙ c.self.view_is) in
     subst IsPolynomial (sym sum) (IsPolynomial-exclusive_sum_of _ _ IsPolynomial-one (subst IsPolynomial c.self.view_is c.self.invariant.0))
 
 pub returns-clause-polynomial : goal.returns-clause-polynomial
 returns-clause-polynomial c =
-    let sum : c.in_ok-sum.sum.items ≡ exclusive_sum_of ([] ∷ []) c.args.self.now = cc
-    (c.in_ok-sum.ensures, c.in_ok-one.ensures.items, c.in_ok-copies.ensures) in
+    let sum : c.in_ok-sum.sum.items ≡ exclusive_sum_of ([] ∷ []) c.args.self.now =
+    sum_of_equal c.in_ok-sum.ensures (c.in_ok-one.ensures.items ∙ ap (λ (m : List ℕ). m ∷ []) c.one.ensures)
+    (c.in_ok-copies.ensures ∙ c.deref.ensures.value ∙ c.self.view_is) in
     up_to_from_negation _ c.args.self.now _ (subst IsPolynomial c.self.view_is c.self.invariant.0) (rw sum at c.limited.ensures)
 
 pub returns-clause-inputs : goal.returns-clause-inputs
 returns-clause-inputs c =
-    let sum : c.in_ok-sum.sum.items ≡ exclusive_sum_of ([] ∷ []) c.args.self.now = cc
-    (c.in_ok-sum.ensures, c.in_ok-one.ensures.items, c.in_ok-copies.ensures) in
+    let sum : c.in_ok-sum.sum.items ≡ exclusive_sum_of ([] ∷ []) c.args.self.now =
+    sum_of_equal c.in_ok-sum.ensures (c.in_ok-one.ensures.items ∙ ap (λ (m : List ℕ). m ∷ []) c.one.ensures)
+    (c.in_ok-copies.ensures ∙ c.deref.ensures.value ∙ c.self.view_is) in
     if_answered (AreOverInputsOf c.args.self.now) _ (exclusive_sum_of ([] ∷ []) c.args.self.now) _ (rw sum at c.limited.ensures) (over_negation c.args.self.now)
+
+pub returns-in_err-one-clause-polynomial : goal.returns-in_err-one-clause-polynomial
+returns-in_err-one-clause-polynomial c = no_value c.from_residual.result _ _ c.from_residual.ensures.1
+
+pub returns-in_err-one-clause-inputs : goal.returns-in_err-one-clause-inputs
+returns-in_err-one-clause-inputs c = no_value c.from_residual.result _ _ c.from_residual.ensures.1
+
+pub returns-in_err-copies-clause-polynomial : goal.returns-in_err-copies-clause-polynomial
+returns-in_err-copies-clause-polynomial c = no_value c.from_residual-in_err-copies.result _ _ c.from_residual-in_err-copies.ensures.1
+
+pub returns-in_err-copies-clause-inputs : goal.returns-in_err-copies-clause-inputs
+returns-in_err-copies-clause-inputs c = no_value c.from_residual-in_err-copies.result _ _ c.from_residual-in_err-copies.ensures.1
+
+pub returns-in_err-sum-clause-polynomial : goal.returns-in_err-sum-clause-polynomial
+returns-in_err-sum-clause-polynomial c = no_value c.from_residual-in_err-sum.result _ _ c.from_residual-in_err-sum.ensures.1
+
+pub returns-in_err-sum-clause-inputs : goal.returns-in_err-sum-clause-inputs
+returns-in_err-sum-clause-inputs c = no_value c.from_residual-in_err-sum.result _ _ c.from_residual-in_err-sum.ensures.1

@@ -1,30 +1,52 @@
-use Rattle.std.proofs.Common.{◌≡◌, ◌++◌, sym, subst}
+use Rattle.std.proofs.Common.{◌≡◌, ◌∙◌, ◌++◌, sym, subst}
 use Rattle.revc_base.specs.Polynomials.{IsPolynomial}
 use Rattle.revc_base.specs.inside.Sums.{exclusive_sum_of}
 use Rattle.revc_base.proofs.SumLemmas.{IsPolynomial-exclusive_sum_of}
 use Rattle.exclusive_sums.specs.Inputs.{AreOverInputsOf}
 use Rattle.exclusive_sums.proofs.InputLemmas.{over_sum, if_answered}
-use Rattle.exclusive_sums.proofs.PolyLemmas.{up_to_from_sum}
+use Rattle.exclusive_sums.proofs.PolyLemmas.{sum_of_equal, up_to_from_sum}
+use Rattle.exclusive_sums.proofs.FaultLemmas.{no_value}
 use Rattle.exclusive_sums.proofs.poly.Poly.xor.Goals as goal
 
 pub limited-requires : goal.limited-requires
 limited-requires c =
-    let sum : c.in_ok-sum.sum.items ≡ exclusive_sum_of c.args.self.now c.args.other.now = cc
-    (c.in_ok-sum.ensures, c.in_ok-left.ensures, c.in_ok-right.ensures) in
+    let sum : c.in_ok-sum.sum.items ≡ exclusive_sum_of c.args.self.now c.args.other.now =
+    sum_of_equal c.in_ok-sum.ensures (c.in_ok-left.ensures ∙ c.deref.ensures.value ∙ c.self.view_is)
+    (c.in_ok-right.ensures ∙ c.deref-2.ensures.value ∙ c.other.view_is) in
     subst IsPolynomial (sym sum)
     (IsPolynomial-exclusive_sum_of _ _ (subst IsPolynomial c.self.view_is c.self.invariant.0) (subst IsPolynomial c.other.view_is c.other.invariant.0))
 
 pub returns-clause-polynomial : goal.returns-clause-polynomial
 returns-clause-polynomial c =
-    let sum : c.in_ok-sum.sum.items ≡ exclusive_sum_of c.args.self.now c.args.other.now = cc
-    (c.in_ok-sum.ensures, c.in_ok-left.ensures, c.in_ok-right.ensures) in
+    let sum : c.in_ok-sum.sum.items ≡ exclusive_sum_of c.args.self.now c.args.other.now =
+    sum_of_equal c.in_ok-sum.ensures (c.in_ok-left.ensures ∙ c.deref.ensures.value ∙ c.self.view_is)
+    (c.in_ok-right.ensures ∙ c.deref-2.ensures.value ∙ c.other.view_is) in
     up_to_from_sum _ c.args.self.now c.args.other.now _ (subst IsPolynomial c.self.view_is c.self.invariant.0)
     (subst IsPolynomial c.other.view_is c.other.invariant.0)
     (rw sum at c.limited.ensures)
 
 pub returns-clause-inputs : goal.returns-clause-inputs
 returns-clause-inputs c =
-    let sum : c.in_ok-sum.sum.items ≡ exclusive_sum_of c.args.self.now c.args.other.now = cc
-    (c.in_ok-sum.ensures, c.in_ok-left.ensures, c.in_ok-right.ensures) in
+    let sum : c.in_ok-sum.sum.items ≡ exclusive_sum_of c.args.self.now c.args.other.now =
+    sum_of_equal c.in_ok-sum.ensures (c.in_ok-left.ensures ∙ c.deref.ensures.value ∙ c.self.view_is)
+    (c.in_ok-right.ensures ∙ c.deref-2.ensures.value ∙ c.other.view_is) in
     if_answered (AreOverInputsOf (c.args.self.now ++ c.args.other.now)) _ (exclusive_sum_of c.args.self.now c.args.other.now) _ (rw sum at c.limited.ensures)
     (over_sum c.args.self.now c.args.other.now)
+
+pub returns-in_err-left-clause-polynomial : goal.returns-in_err-left-clause-polynomial
+returns-in_err-left-clause-polynomial c = no_value c.from_residual.result _ _ c.from_residual.ensures.1
+
+pub returns-in_err-left-clause-inputs : goal.returns-in_err-left-clause-inputs
+returns-in_err-left-clause-inputs c = no_value c.from_residual.result _ _ c.from_residual.ensures.1
+
+pub returns-in_err-right-clause-polynomial : goal.returns-in_err-right-clause-polynomial
+returns-in_err-right-clause-polynomial c = no_value c.from_residual-in_err-right.result _ _ c.from_residual-in_err-right.ensures.1
+
+pub returns-in_err-right-clause-inputs : goal.returns-in_err-right-clause-inputs
+returns-in_err-right-clause-inputs c = no_value c.from_residual-in_err-right.result _ _ c.from_residual-in_err-right.ensures.1
+
+pub returns-in_err-sum-clause-polynomial : goal.returns-in_err-sum-clause-polynomial
+returns-in_err-sum-clause-polynomial c = no_value c.from_residual-in_err-sum.result _ _ c.from_residual-in_err-sum.ensures.1
+
+pub returns-in_err-sum-clause-inputs : goal.returns-in_err-sum-clause-inputs
+returns-in_err-sum-clause-inputs c = no_value c.from_residual-in_err-sum.result _ _ c.from_residual-in_err-sum.ensures.1
