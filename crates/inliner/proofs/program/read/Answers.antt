@@ -3,6 +3,7 @@ use Rattle.revs_terms.specs.Terms.{place_of}
 use Rattle.revs_terms.specs.Trees.{tree_of}
 use Rattle.revc_base.proofs.ResultLemmas.{passes_on}
 use Rattle.inliner.proofs.EndLemmas.{reads_begun, reads_more, reads_stuck, reads_done, at_default, at_last}
+use Rattle.inliner.proofs.FaultLemmas.{no_value}
 use Rattle.inliner.proofs.program.read.Goals as goal
 
 pub loop-location-init : goal.loop-location-init
@@ -24,3 +25,9 @@ loop-location-preserved c = reads_more c.args.machine.now (place_of (tree_of c.a
 pub returns-clause-ok : goal.returns-clause-ok
 returns-clause-ok c = reads_done c.args.machine.now (place_of (tree_of c.args.body.now)) c.loop-location.made.items _ c.args.locations.now
     (at_last c.args.locations.now c.loop-location.location-index (omega arith)) c.loop-location.invariant
+
+pub returns-in_err-stamp-clause-ok : goal.returns-in_err-stamp-clause-ok
+returns-in_err-stamp-clause-ok c = no_value c.from_residual.result _ _ c.from_residual.ensures.1
+
+pub returns-in_err-push-clause-ok : goal.returns-in_err-push-clause-ok
+returns-in_err-push-clause-ok c = no_value c.from_residual-in_err-push.result _ _ c.from_residual-in_err-push.ensures.1

@@ -5,6 +5,7 @@ use Rattle.inliner.specs.inside.Machines.{state_of}
 use Rattle.inliner.specs.inside.Starts.{IsStart, stamped}
 use Rattle.revc_base.proofs.ResultLemmas.{passes_on}
 use Rattle.inliner.proofs.EndLemmas.{program_stuck, program_leaves, memory_says, some_made}
+use Rattle.inliner.proofs.FaultLemmas.{no_value}
 use Rattle.inliner.proofs.program.run.Goals as goal
 
 pub returns-in_err-machine-clause-err : goal.returns-in_err-machine-clause-err
@@ -36,3 +37,9 @@ finished-requires-clause-some c =
     c.args.program.now.inputs c.args.program.now.formed.formed
     (subst (λ (ps : List Param). IsStart ps m) c.deref.ensures.value c.in_ok-machine.ensures.ok) c.last_environment-env.ensures
     c.in_ok-outputs.ensures.ok.runs
+
+pub returns-in_err-machine-clause-ok : goal.returns-in_err-machine-clause-ok
+returns-in_err-machine-clause-ok c = no_value c.from_residual.result _ _ c.from_residual.ensures.1
+
+pub returns-in_err-outputs-clause-ok : goal.returns-in_err-outputs-clause-ok
+returns-in_err-outputs-clause-ok c = no_value c.from_residual-in_err-outputs.result _ _ c.from_residual-in_err-outputs.ensures.1

@@ -5,6 +5,7 @@ use Rattle.inliner.specs.inside.Starts.{IsParamBinding}
 use Rattle.inliner.proofs.StartLemmas.{bound_begun, bound_more, bound_done, next_within}
 use Rattle.list_facts.proofs.CutLemmas.{drop_read}
 use Rattle.inliner.proofs.EndLemmas.{at_last}
+use Rattle.inliner.proofs.FaultLemmas.{no_value}
 use Rattle.inliner.proofs.start.bound.Goals as goal
 
 pub loop-param-init : goal.loop-param-init
@@ -39,3 +40,9 @@ loop-param-preserved c =
 pub returns-clause-ok : goal.returns-clause-ok
 returns-clause-ok c = bound_done c.loop-param.bindings.items c.loop-param.first _ c.args.params.now
     (at_last c.args.params.now c.loop-param.param-index (omega arith)) c.loop-param.invariant
+
+pub returns-in_err-binding-clause-ok : goal.returns-in_err-binding-clause-ok
+returns-in_err-binding-clause-ok c = no_value c.from_residual.result _ _ c.from_residual.ensures.1
+
+pub returns-in_err-push-clause-ok : goal.returns-in_err-push-clause-ok
+returns-in_err-push-clause-ok c = no_value c.from_residual-in_err-push.result _ _ c.from_residual-in_err-push.ensures.1

@@ -1,6 +1,7 @@
 use Rattle.std.proofs.Common.{arith, ◌≡◌, ◌-◌, ◌+◌, ap, sym, ◌∙◌, List, ◌++◌, ◌∷◌, [], ℕ}
 use Rattle.std.specs.List.{range_with_len}
 use Rattle.inliner.proofs.StartLemmas.{range_more}
+use Rattle.inliner.proofs.FaultLemmas.{no_value}
 use Rattle.inliner.proofs.start.numbers.Goals as goal
 
 pub loop-number-init : goal.loop-number-init
@@ -14,3 +15,6 @@ loop-number-preserved c =
 
 pub returns-clause-ok : goal.returns-clause-ok
 returns-clause-ok c = c.loop-number.invariant ∙ ap (range_with_len c.args.from) (omega arith)
+
+pub returns-in_err-push-clause-ok : goal.returns-in_err-push-clause-ok
+returns-in_err-push-clause-ok c = no_value c.from_residual.result _ _ c.from_residual.ensures.1

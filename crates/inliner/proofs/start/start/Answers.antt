@@ -3,6 +3,7 @@ use Rattle.revc_base.specs.Tapes.{TapeView}
 use Rattle.revs_terms.specs.Programs.{widths_of}
 use Rattle.inliner.specs.inside.Starts.{AreInputs}
 use Rattle.inliner.proofs.StartLemmas.{started, are_inputs, are_widths}
+use Rattle.inliner.proofs.FaultLemmas.{no_value}
 use Rattle.inliner.proofs.start.start.Goals as goal
 
 pub new-tape-requires : goal.new-tape-requires
@@ -16,3 +17,12 @@ returns-clause-ok c =
     started c.args.params.now _ refl t (subst (λ (k : ℕ). AreInputs k c.in_ok-store.store.items) n
     (are_inputs c.inputs.result c.in_ok-store.store.items c.in_ok-store.ensures.ok))
     c.in_ok-bindings.ensures.ok c.requires
+
+pub returns-in_err-widths-clause-ok : goal.returns-in_err-widths-clause-ok
+returns-in_err-widths-clause-ok c = no_value c.from_residual.result _ _ c.from_residual.ensures.1
+
+pub returns-in_err-store-clause-ok : goal.returns-in_err-store-clause-ok
+returns-in_err-store-clause-ok c = no_value c.from_residual-in_err-store.result _ _ c.from_residual-in_err-store.ensures.1
+
+pub returns-in_err-bindings-clause-ok : goal.returns-in_err-bindings-clause-ok
+returns-in_err-bindings-clause-ok c = no_value c.from_residual-in_err-bindings.result _ _ c.from_residual-in_err-bindings.ensures.1

@@ -3,6 +3,7 @@ use Rattle.inliner.specs.declared.machine.Binding.{Binding}
 use Rattle.inliner.specs.inside.Machines.{AreBindings, AreLeaps, Leaps, envs_from}
 use Rattle.inliner.proofs.EnvironmentLemmas.{bound_done, grown_length}
 use Rattle.inliner.proofs.LeapLemmas.{leaps_pushed}
+use Rattle.inliner.proofs.FaultLemmas.{no_value}
 use Rattle.inliner.proofs.machine.Machine.bind.Goals as goal
 
 pub leap_from-leap-requires-clause-made : goal.leap_from-leap-requires-clause-made
@@ -26,3 +27,9 @@ returns-clause-ok c =
     bound_done c.args.self.now c.work.new.self _ c.args.value c.args.env _ leap c.place.result _ c.place.ensures c.bound_length.result c.bound_length.ensures
     c.in_ok-work.ensures.ok
     c.in_ok-push.ensures.items refl refl refl (search rules) c.requires.room c.requires.env c.requires.made leaps
+
+pub returns-in_err-work-clause-ok : goal.returns-in_err-work-clause-ok
+returns-in_err-work-clause-ok c = no_value c.from_residual.result _ _ c.from_residual.ensures.1
+
+pub returns-in_err-push-clause-ok : goal.returns-in_err-push-clause-ok
+returns-in_err-push-clause-ok c = no_value c.from_residual-in_err-push.result _ _ c.from_residual-in_err-push.ensures.1

@@ -1,0 +1,8 @@
+use Rattle.inliner.proofs.FaultLemmas.{no_value}
+use Rattle.inliner.proofs.machine.Machine.register.Goals as goal
+
+pub returns-in_err-work-clause-ok : goal.returns-in_err-work-clause-ok
+returns-in_err-work-clause-ok c = no_value c.from_residual.result _ _ c.from_residual.ensures.1
+
+pub returns-in_err-new-clause-ok : goal.returns-in_err-new-clause-ok
+returns-in_err-new-clause-ok c = no_value c.from_residual-in_err-new.result _ _ c.from_residual-in_err-new.ensures.1
