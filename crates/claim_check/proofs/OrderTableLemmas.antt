@@ -9,6 +9,7 @@ use Rattle.std.proofs.lemmas.List.{get_or-set_same, get_or-set_other}
 use Rattle.std.proofs.lemmas.List.Sums.{sum_by-cons}
 use Rattle.std.proofs.lemmas.Option.{slice_get-get_or}
 use Rattle.list_facts.specs.Lists.{IsAmong, AreDifferent, below}
+use Rattle.dependency_graph.proofs.TableLemmas.{below_next}
 use Rattle.list_facts.proofs.AllLemmas.{AllByRecursion-at}
 use Rattle.revc_base.specs.VariableOrders.{IsOrderOf, inputs_at, variable_order}
 use Rattle.claim_check.specs.inside.Variables.{AreVariables}
@@ -51,6 +52,15 @@ order_is params widest narrow =
     same_places (λ place. inputs_at place 0 params) widest (sum params)
     (λ p past. no_inputs p 0 params (λ k low. omega (arith, past, narrow k low)))
     (λ p past. no_inputs p 0 params (λ k low. omega (arith, past, one_width params k low)))
+
+-- the inputs at one more place
+pub order_more : (params so_far now : List ℕ) (place : ℕ) → now ≡ so_far ++ inputs_at place 0 params
+    → so_far ≡ flat_map (λ p. inputs_at p 0 params) (below place) → now ≡ flat_map (λ p. inputs_at p 0 params) (below (place + 1))
+order_more params so_far now place pushed is =
+    let at : ℕ → List ℕ = λ p. inputs_at p 0 params in
+    pushed ∙ ap (λ (z : List ℕ). z ++ at place) is
+    ∙ sym (ap (flat_map at) (below_next place) ∙ flat_map-append at (below place) (place ∷ [])
+    ∙ ap (λ (z : List ℕ). flat_map at (below place) ++ z) (append-nil (at place)))
 
 -- ---- the table of places
 

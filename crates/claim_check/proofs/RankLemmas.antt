@@ -1,6 +1,7 @@
 -- Ranks: the number of kept ones below a number.
 use Rattle.std.proofs.Common.{◌≡◌, ℕ, zero, suc, ◌+◌, ◌-◌, ◌<◌, ◌≤◌, Bool, true, false, inl, inr, List, [], ◌∷◌, ◌++◌, length, map, filter, get_or}
 use Rattle.std.proofs.Common.{refl, sym, ap, ◌∙◌, arith}
+use mir.Val.{bool_byte}
 use Rattle.std.proofs.lemmas.Bool.{cases_Bool, cases_lt, cases_eq}
 use Rattle.std.proofs.lemmas.List.{map_push, length-map, length_push, get_or_append_left, get_or_push}
 use Rattle.list_facts.specs.Lists.{below}
@@ -21,6 +22,23 @@ rank_kept kept k is = ap length (filter_kept kept k is) ∙ length_push (filter 
 
 pub rank_other : (kept : ℕ → Bool) (k : ℕ) → kept k ≡ false → rank kept (k + 1) ≡ rank kept k
 rank_other kept k is = ap length (filter_other kept k is)
+
+-- a table of ranks, with one more
+pub ranks_more : (kept : ℕ → Bool) (k count byte : ℕ) (table now : List ℕ) → byte ≡ bool_byte (kept k) → now ≡ table ++ count ∷ []
+    → (table ≡ map (rank kept) (below k)) × (count ≡ rank kept k) × (count ≤ k)
+    → (now ≡ map (rank kept) (below (k + 1))) × (count + byte ≡ rank kept (k + 1)) × (count + byte ≤ k + 1)
+ranks_more kept k count byte table now is pushed so_far =
+    let filled : now ≡ map (rank kept) (below (k + 1)) =
+    pushed ∙ ap (λ (z : List ℕ). z ++ count ∷ []) so_far.0 ∙ ap (λ (n : ℕ). map (rank kept) (below k) ++ n ∷ []) so_far.1
+    ∙ sym (ap (map (rank kept)) (below_next k) ∙ map_push (rank kept) (below k) k) in
+    elim (cases_Bool (kept k)) [
+      | inl marked ↦
+          let one : byte ≡ 1 = is ∙ ap bool_byte marked in
+          (filled, omega (arith, so_far.1, one, rank_kept kept k marked), omega (arith, so_far.2, one))
+      | inr other ↦
+          let none : byte ≡ 0 = is ∙ ap bool_byte other in
+          (filled, omega (arith, so_far.1, none, rank_other kept k other), omega (arith, so_far.2, none))
+    ]
 
 rank_next : (kept : ℕ → Bool) (k : ℕ) → (rank kept k ≤ rank kept (k + 1)) × (rank kept (k + 1) ≤ rank kept k + 1)
 rank_next kept k = elim (cases_Bool (kept k)) [

@@ -2,7 +2,7 @@ use Rattle.std.proofs.Common.{◌≡◌, ℕ, arith, ap, ◌∙◌}
 use Rattle.std.specs.List.{flat_map}
 use Rattle.list_facts.specs.Lists.{below}
 use Rattle.revc_base.specs.VariableOrders.{inputs_at}
-use Rattle.claim_check.proofs.OrderTableLemmas.{order_is}
+use Rattle.claim_check.proofs.OrderTableLemmas.{order_is, order_more}
 use Rattle.claim_check.proofs.FaultLemmas.{no_value}
 use Rattle.claim_check.proofs.variables.variable_order.Goals as goal
 
@@ -15,3 +15,7 @@ returns c =
 
 pub returns-in_err-push_inputs : goal.returns-in_err-push_inputs
 returns-in_err-push_inputs c = no_value c.from_residual.result _ _ c.from_residual.ensures.1
+
+pub loop-place-preserved : goal.loop-place-preserved
+loop-place-preserved c = order_more c.args.params.now c.loop-place.order.items c.push_inputs.new.order.items c.loop-place.place
+    c.in_ok-push_inputs.ensures c.loop-place.invariant
