@@ -1,13 +1,14 @@
 -- The node of a number, from the list of nodes in the order in which they were made.
 use Rattle.std.proofs.Common.{◌≡◌, ℕ, zero, suc, ◌+◌, ◌-◌, ◌<◌, List, [], ◌∷◌, ◌++◌, length, reverse, get_or, slice_get, Some, sym, ap, ◌∙◌, subst, inl, inr}
-use Rattle.std.proofs.Common.{arith}
-use Rattle.std.proofs.lemmas.List.{get_or-reverse, length-reverse, reverse-append}
+use Rattle.std.proofs.Common.{arith, ◌≢◌, Contains}
+use Rattle.std.proofs.lemmas.List.{get_or-reverse, length-reverse, reverse-append, reverse-reverse}
 use Rattle.std.proofs.lemmas.Option.{slice_get_within, get_or_from_slice_get}
 use Rattle.decision_diagram.specs.Functions.{Function}
-use Rattle.decision_diagram.specs.Diagrams.{Triple, DiagramView, next_number, first_variable, MayFollow, AreOrdered, IsCanonical}
+use Rattle.decision_diagram.specs.Diagrams.{Triple, DiagramView, IsBehind, next_number, first_variable, MayFollow, AreOrdered, IsCanonical}
 use Rattle.decision_diagram.specs.Growth.{StandsFor, IsFullFor}
 use Rattle.decision_diagram.specs.inside.Joining.{Grows, IsInner, node_function}
 use Rattle.decision_diagram.proofs.DistinctLemmas.{IsAt, inner_at}
+use Rattle.decision_diagram.proofs.LookupLemmas.{contained_in_reverse}
 use Rattle.decision_diagram.proofs.ValueLemmas.{first-newest}
 use Rattle.decision_diagram.proofs.GrowthLemmas.{Grows-refl, with_node, newest_stands, grows_by_node, full_for_node}
 
@@ -43,6 +44,17 @@ module _ (d : DiagramView) (vars limit : ℕ) (items : List Triple) where
       let e : node ∷ reverse items ≡ reverse after = sym (ap reverse pushed ∙ reverse-append items (node ∷ [])) in
       subst (λ (e : DiagramView). Grows (node_function e.nodes node) e (record { vars = vars; limit = limit; nodes = reverse after })) view
       (subst (λ (nodes : List Triple). Grows (node_function (reverse items) node) inside (record { vars = vars; limit = limit; nodes = nodes })) e here)
+
+  pub node_follows : (node : Triple) → record { vars = vars; limit = limit; nodes = reverse items } ≡ d
+      → node.low ≢ node.high → IsBehind d.vars d.nodes node.variable node.low → IsBehind d.vars d.nodes node.variable node.high
+      → (Contains items node → ⊥) → MayFollow d.vars d.nodes node
+  node_follows node view different low high absent = record {
+    different = different;
+    low = low;
+    high = high;
+    missing = subst (λ (e : DiagramView). Contains e.nodes node → ⊥) view
+        (λ there. absent (subst (λ (xs : List Triple). Contains xs node) (reverse-reverse items) (contained_in_reverse (reverse items) node there)));
+  }
 
   -- where memory was refused nothing was added
   pub push_fails : (f : Function) (after : List Triple)

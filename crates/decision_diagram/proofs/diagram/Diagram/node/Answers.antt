@@ -1,8 +1,9 @@
-use Rattle.std.proofs.Common.{arith, eqb-true, subst, sym}
+use Rattle.std.proofs.Common.{arith, eqb-true, subst, sym, ◌∙◌}
+use Rattle.std.proofs.lemmas.Bool.{eq-eqb, true≢false}
 use Rattle.decision_diagram.specs.Diagrams.{Triple, DiagramView, IsCanonical}
 use Rattle.decision_diagram.specs.inside.Joining.{node_function}
 use Rattle.decision_diagram.proofs.GrowthLemmas.{Grows-refl, ok_from, one_side}
-use Rattle.decision_diagram.proofs.PlaceLemmas.{found_inner}
+use Rattle.decision_diagram.proofs.PlaceLemmas.{found_inner, node_follows}
 use Rattle.decision_diagram.proofs.diagram.Diagram.node.Goals as goal
 
 pub returns-in-Some-clause-answer : goal.returns-in-Some-clause-answer
@@ -49,3 +50,9 @@ returns-in-None-clause-refused c = c.push.ensures.refused
 
 pub returns-in-None-clause-first : goal.returns-in-None-clause-first
 returns-in-None-clause-first c = ok_from c.push.result _ _ (λ h e. omega (arith, e)) c.push.ensures.first
+
+pub push-requires : goal.push-requires
+push-requires c =
+    let node : Triple = record { variable = c.args.variable; low = c.args.low; high = c.args.high } in
+    node_follows c.args.self.now c.self.inside.vars c.self.inside.limit c.self.inside.nodes.keys node c.self.view_is
+    (λ same. true≢false (sym (eq-eqb c.args.low c.args.high same) ∙ sym c.if-eq.ensures)) c.requires.low c.requires.high c.in-None.ensures
