@@ -18,3 +18,4 @@ pub mod VerdictLemmas
 pub mod TextLineLemmas
 pub mod ReadLemmas
 pub mod FrontLemmas
+pub mod GateListLemmas

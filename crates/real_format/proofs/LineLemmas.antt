@@ -62,7 +62,7 @@ is_head heads.Garbage = refl
 
 -- ---- a line that goes on
 
-begins_so : (said : HeaderView) (names : List (List ℕ)) → said.names ≡ Some names → Begins said (file_of said names)
+pub begins_so : (said : HeaderView) (names : List (List ℕ)) → said.names ≡ Some names → Begins said (file_of said names)
 begins_so said names e = record { names = e; constants = refl; garbage = refl; gates = refl }
 
 begin_leads : (said : HeaderView) (word : List ℕ) (words : List (List ℕ)) (next : Place) → begin_gates said word words ≡ Ok next
@@ -163,7 +163,7 @@ marks_fit : {M : Type 0} (o : Option (List M)) (lines : Option ℕ) (n : ℕ) (d
 marks_fit None lines n d e h = length-replicate n d
 marks_fit (Some marks) lines n d e h = let both : Some (length marks) ≡ Some n = sym h ∙ e in cc
 
-file_begins : (said : HeaderView) (file : RealView) → IsSound said → Begins said file → IsFile file
+pub file_begins : (said : HeaderView) (file : RealView) → IsSound said → Begins said file → IsFile file
 file_begins said file sound b =
     let lines : said.lines ≡ Some (length file.names) = subst (λ o. IfSome o (λ names. said.lines ≡ Some (length names))) b.names sound.counted in
     record {

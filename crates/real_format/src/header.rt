@@ -1,6 +1,8 @@
 // The header of a `.real` text.
 ghost use Rattle.std.specs.Prelude.{◌≡◌, ◌≢◌, ℕ, ◌+◌, ◌<◌, ◌≤◌, List, [], ◌∷◌, length};
 ghost use Rattle.std.specs.Prelude.{Some, None, Ok, Err, OnOk, IfOk, IfErr, IsSome};
+ghost use Rattle.std.specs.Prelude.{false, replicate, unwrap_or};
+ghost use Rattle.std.specs.Option.{option_map};
 ghost use Rattle.std.specs.List.{find};
 ghost use Rattle.std.specs.Str.{bytes_eq};
 ghost use Rattle.real_format.specs.Header.{HeaderView, nothing_said, spelling_of};
@@ -18,7 +20,7 @@ use crate::words::{Words, number};
 use format_parts::Names;
 use gate_split::MOST_LINES;
 use revc_base::limits::MOST_NAME_BYTES;
-use std::alloc::Global;
+use std::alloc::{AllocError, Global};
 use std::marker::Model;
 
 /// The kinds of lines of a header, each by its first word.
@@ -169,19 +171,16 @@ impl<'t> Header<'t> {
         ensures ok { IfOk result (BeginsAs self.entry) }
         ensures err { IfErr result (λ fault. fault ≡ RealFault.Memory) }
     {
-        let constants = self.constants;
-        let garbage = self.garbage;
-        let Some(names) = self.names else {
+        let Header {
+            names,
+            constants,
+            garbage,
+            ..
+        } = self;
+        let Some(names) = names else {
             unreachable!();
         };
-        let constants = match constants {
-            Some(marks) => marks,
-            None => vec![in alloc; Mark::Free; names.len()]?,
-        };
-        let garbage = match garbage {
-            Some(marks) => marks,
-            None => vec![in alloc; false; names.len()]?,
-        };
+        let (constants, garbage) = all_marks(alloc, constants, garbage, names.len())?;
         Ok(Begun {
             names,
             constants,
@@ -329,16 +328,29 @@ fn names_of<'t>(alloc: Global, count: u32, words: &mut Words<'t>) -> Result<Name
     ensures err { IfErr result (Refuses (names_from count [] words.old)) }
 {
     let mut names = Names::new(alloc);
+    add_names(&mut names, count, words)?;
+    Ok(names)
+}
+
+// Puts all words that are left behind the names, which are then so many.
+fn add_names<'t>(
+    names: &mut Names<'t>,
+    count: u32,
+    words: &mut Words<'t>,
+) -> Result<(), LineRefusal>
+    ensures ok { OnOk result (names_from count names.old words.old ≡ Ok names.new) }
+    ensures err { IfErr result (Refuses (names_from count names.old words.old)) }
+{
     while let Some(word) = words.next() {
         if names.len() == count as usize {
             return Err(LineRefusal::Form);
         }
-        add_name(&mut names, word)?;
+        add_name(names, word)?;
     }
     if names.len() != count as usize {
         return Err(LineRefusal::Form);
     }
-    Ok(names)
+    Ok(())
 }
 
 fn add_name<'t>(names: &mut Names<'t>, word: &'t [u8]) -> Result<(), LineRefusal>
@@ -412,5 +424,50 @@ fn is_garbage(byte: u8) -> Option<bool>
         b'-' => Some(false),
         b'1' => Some(true),
         _ => None,
+    }
+}
+
+// The marks of so many lines: those that were said, else all `-`.
+fn all_marks(
+    alloc: Global,
+    constants: Option<Vec<Mark>>,
+    garbage: Option<Vec<bool>>,
+    count: usize,
+) -> Result<(Vec<Mark>, Vec<bool>), AllocError>
+    ensures constants { IfOk result (λ marks. marks.0.items
+        ≡ unwrap_or (option_map (λ v. v.items) constants) (replicate count Mark.Free)) }
+    ensures garbage { IfOk result (λ marks. marks.1.items
+        ≡ unwrap_or (option_map (λ v. v.items) garbage) (replicate count false)) }
+{
+    let constants = all_constants(alloc, constants, count)?;
+    let garbage = all_garbage(alloc, garbage, count)?;
+    Ok((constants, garbage))
+}
+
+fn all_constants(
+    alloc: Global,
+    constants: Option<Vec<Mark>>,
+    count: usize,
+) -> Result<Vec<Mark>, AllocError>
+    ensures { IfOk result (λ all. all.items
+        ≡ unwrap_or (option_map (λ v. v.items) constants) (replicate count Mark.Free)) }
+{
+    match constants {
+        Some(marks) => Ok(marks),
+        None => vec![in alloc; Mark::Free; count],
+    }
+}
+
+fn all_garbage(
+    alloc: Global,
+    garbage: Option<Vec<bool>>,
+    count: usize,
+) -> Result<Vec<bool>, AllocError>
+    ensures { IfOk result (λ all. all.items
+        ≡ unwrap_or (option_map (λ v. v.items) garbage) (replicate count false)) }
+{
+    match garbage {
+        Some(marks) => Ok(marks),
+        None => vec![in alloc; false; count],
     }
 }

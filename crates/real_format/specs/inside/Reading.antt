@@ -272,6 +272,13 @@ gate_of names shape words =
     and_then (op_of names shape.targets (λ line. has_line line (lines_of_controls read.0)) read.1)
     (λ op. Ok (record { controls = read.0; op = op })))
 
+-- the gates with one more
+abbrev pub more_gates : List (List ℕ) → List GateView → Shape → List (List ℕ)
+    → Result (List GateView) LineRefusal
+more_gates names gates shape words =
+    if length gates == MOST_GATES then Err Limit
+    else and_then (gate_of names shape words) (λ gate. Ok (gates ++ gate ∷ []))
+
 abbrev pub with_gate : RealView → GateView → Place
 with_gate file gate = in_gates (record file { gates = file.gates ++ gate ∷ [] })
 

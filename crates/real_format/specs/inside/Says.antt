@@ -1,5 +1,5 @@
 -- What the parts of the reader say of the text.
-use Rattle.std.specs.Prelude.{◌≡◌, ℕ, ◌≤◌, Bool, true, false, List, length, Some, IfSome, Result, Ok, Err}
+use Rattle.std.specs.Prelude.{◌≡◌, ℕ, ◌+◌, ◌≤◌, Bool, true, false, List, [], length, Some, IfSome, Result, Ok, Err}
 use Rattle.std.specs.List.{AllByRecursion}
 use Rattle.list_facts.specs.Lists.{AreApart}
 use Rattle.gate_split.specs.declared.plan.TheConstants.{MOST_LINES}
@@ -7,7 +7,12 @@ use Rattle.real_format.specs.declared.file.RealFault.{RealFault}
 use Rattle.real_format.specs.declared.refusal.LineRefusal.{LineRefusal}
 use Rattle.real_format.specs.Header.{HeaderView, IsName}
 use Rattle.real_format.specs.Real.{RealView, Place, in_header, in_gates, at_end}
+use Rattle.real_format.specs.inside.Lines.{LinesView}
 use Rattle.real_format.specs.inside.Reading.{file_of, verdict}
+
+-- what comes of the lines that are left to a reader
+abbrev pub verdict_on : Place → LinesView → Result RealView RealFault
+verdict_on place lines = verdict place (lines.number + 1) lines.left
 
 -- a line ended the header, which has names
 pub record EndsHeader (said : Result Place LineRefusal) (old new : HeaderView) : Type 0 where
@@ -37,8 +42,17 @@ pub record BeginsAs (said : HeaderView) (file : RealView) : Type 0 where
   pub named : said.names ≡ Some names
   pub begins : file ≡ file_of said names
 
--- a file that a header begins: its names are names, and there are as many marks
+-- a header was read, and what came of its lines comes of those that are left
+pub record BeginsGates (said : Result RealView RealFault) (header : HeaderView)
+    (left : LinesView) : Type 0 where
+  pub sound : IsSound header
+  pub names : List (List ℕ)
+  pub named : header.names ≡ Some names
+  pub begins : said ≡ verdict_on (in_gates (file_of header names)) left
+
+-- a file that a header begins: its names are names, there are as many marks, and no gate
 pub record IsWhole (file : RealView) : Type 0 where
+  pub none : file.gates ≡ []
   pub named : AllByRecursion IsName file.names
   pub few : length file.names ≤ MOST_LINES
   pub constants : length file.constants ≡ length file.names

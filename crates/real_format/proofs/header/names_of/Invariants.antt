@@ -1,9 +1,0 @@
-use Rattle.std.proofs.Common.{◌≡◌, [], length}
-use Rattle.real_format.specs.inside.Reading.{names_from}
-use Rattle.real_format.proofs.header.names_of.Given as goal
-
-abbrev pub invariant-loop-word : goal.invariant-loop-word
-invariant-loop-word l = names_from l.count l.names l.words ≡ names_from l.count [] l.initial.words
-
-abbrev pub decreases-loop-word : goal.decreases-loop-word
-decreases-loop-word l = length l.words
