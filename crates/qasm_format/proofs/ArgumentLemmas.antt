@@ -13,6 +13,7 @@ use Rattle.qasm_format.specs.declared.words.Use.TheVariants.{Barrier, Flip}
 use Rattle.qasm_format.specs.declared.spots.Spot.{Spot}
 use Rattle.qasm_format.specs.declared.spots.Spot.TheVariants.{Line, Whole}
 use Rattle.mct_circuit.specs.Gates.{GateView, IsGateOn, AreGatesOn}
+use Rattle.gate_split.specs.declared.plan.TheConstants.{MOST_LINES}
 use Rattle.qasm_lexer.specs.Tokens.{Left}
 use Rattle.qasm_format.specs.Registers.{IsLaid, lines_of_all}
 use Rattle.qasm_format.specs.Stages.{Said, starts, wants, wants_argument, behind_name, wants_index, behind_argument, StandForGates, nothing_said}
@@ -21,6 +22,7 @@ use Rattle.qasm_format.specs.Faults.{IsStop, BreaksRule, BreaksLimit}
 use Rattle.qasm_lexer.specs.Tokens.{Takes}
 use Rattle.qasm_format.specs.inside.Says.{TakesName, IsNameFault, TakesNumber, IsNumberFault, ReadsWord, StopsAtWord, behind_spot, ReadsArgument}
 use Rattle.qasm_format.specs.inside.Says.{StopsAtArgument, ReadsControl, StopsAtControl, ReadsBarrier, StopsAtBarrier, SpotBelow, AddsGates, IsGateFault}
+use Rattle.qasm_format.specs.inside.Says.{ReadsSpots, StopsAtSpots}
 use Rattle.qasm_format.proofs.DeclaredLemmas.{laid_within}
 use Rattle.qasm_lexer.proofs.MoveLemmas.{moves_within, takes_within, takes_fewer}
 use Rattle.qasm_format.proofs.ReadingLemmas.{reads_none, reads_then, stops_later}
@@ -222,79 +224,84 @@ barrier_stops old fault registers h = record { says = λ said equal. h.says Barr
 -- ---- gates
 
 -- the controls so far
-pub record InGate (old new : Left) (controls : ℕ) (spots : List Spot) (said : Said) : Type 0 where
-  pub reads : Reads old new (wants_argument (Flip controls) [] said) (wants_argument (Flip controls) spots said)
-  pub below : AllByRecursion (SpotBelow (lines_of_all said.registers)) spots
+pub record InGate (old new : Left) (registers : List Register) (controls : ℕ) (spots : List Spot) : Type 0 where
+  pub reads : (said : Said) → said.registers ≡ registers → Reads old new (wants_argument (Flip controls) [] said) (wants_argument (Flip controls) spots said)
+  pub below : AllByRecursion (SpotBelow (lines_of_all registers)) spots
 
-pub gate_begun : (old : Left) (controls : ℕ) (said : Said) → InGate old old controls [] said
-gate_begun old controls said = record { reads = reads_none old (wants_argument (Flip controls) [] said); below = tt }
+pub gate_begun : (old : Left) (registers : List Register) (controls : ℕ) → InGate old old registers controls []
+gate_begun old registers controls = record { reads = λ said equal. reads_none old (wants_argument (Flip controls) [] said); below = tt }
 
-pub gate_more : (old mid new : Left) (controls : ℕ) (spots : List Spot) (spot : Spot) (registers : List Register) (said : Said)
-    → InGate old mid controls spots said → ReadsControl mid new registers spot → said.registers ≡ registers → length spots < controls
-    → InGate old new controls (spots ++ spot ∷ []) said
-gate_more old mid new controls spots spot registers said so_far read equal fewer = record {
-  reads = reads_then so_far.reads (read.reads controls spots said equal fewer);
-  below = AllByRecursion-push (SpotBelow (lines_of_all said.registers)) spots spot so_far.below
-      (subst (λ (rs : List Register). SpotBelow (lines_of_all rs) spot) (sym equal) read.below);
+pub gate_more : (old mid new : Left) (registers : List Register) (controls : ℕ) (spots : List Spot) (spot : Spot)
+    → InGate old mid registers controls spots → ReadsControl mid new registers spot → length spots < controls
+    → InGate old new registers controls (spots ++ spot ∷ [])
+gate_more old mid new registers controls spots spot so_far read fewer = record {
+  reads = λ said equal. reads_then (so_far.reads said equal) (read.reads controls spots said equal fewer);
+  below = AllByRecursion-push (SpotBelow (lines_of_all registers)) spots spot so_far.below read.below;
 }
 
-pub control_fails : (old mid : Left) (controls : ℕ) (spots : List Spot) (fault : QasmFault) (registers : List Register) (said : Said)
-    → InGate old mid controls spots said → StopsAtControl mid registers fault → said.registers ≡ registers → length spots < controls
-    → IsStop old (wants_argument (Flip controls) [] said) fault
-control_fails old mid controls spots fault registers said so_far stops equal fewer =
-    stops_later fault so_far.reads (stops.says controls spots said equal fewer)
+pub control_fails : (old mid : Left) (registers : List Register) (controls : ℕ) (spots : List Spot) (fault : QasmFault)
+    → InGate old mid registers controls spots → StopsAtControl mid registers fault → length spots < controls → StopsAtSpots old registers controls fault
+control_fails old mid registers controls spots fault so_far stops fewer =
+    record { says = λ said equal. stops_later fault (so_far.reads said equal) (stops.says controls spots said equal fewer) }
 
-pub target_fails : (old mid : Left) (controls : ℕ) (spots : List Spot) (fault : QasmFault) (registers : List Register) (said : Said)
-    → InGate old mid controls spots said → StopsAtArgument mid registers fault → said.registers ≡ registers
-    → IsStop old (wants_argument (Flip controls) [] said) fault
-target_fails old mid controls spots fault registers said so_far stops equal =
-    stops_later fault so_far.reads (stops.says (Flip controls) spots said equal)
+pub target_fails : (old mid : Left) (registers : List Register) (controls : ℕ) (spots : List Spot) (fault : QasmFault)
+    → InGate old mid registers controls spots → StopsAtArgument mid registers fault → StopsAtSpots old registers controls fault
+target_fails old mid registers controls spots fault so_far stops =
+    record { says = λ said equal. stops_later fault (so_far.reads said equal) (stops.says (Flip controls) spots said equal) }
 
 -- the gate has all arguments, and no end
-pub gate_open : (old mid new : Left) (controls : ℕ) (spots : List Spot) (spot : Spot) (word : List ℕ) (at : Place) (registers : List Register) (said : Said)
-    → InGate old mid controls spots said → ReadsArgument mid new registers spot word at → said.registers ≡ registers → length spots ≡ controls
-    → ¬ (word ≡ codes ";") → IsStop old (wants_argument (Flip controls) [] said) (Token at)
-gate_open old mid new controls spots spot word at registers said so_far read equal all other =
-    stops_later (Token at) (reads_then so_far.reads (read.reads (Flip controls) spots said equal))
-    (stops_behind_argument (Flip controls) spots spot said read.takes read.closed
-    (λ same more. let longer = one_longer spots spot in absurd (omega (arith, more, longer, all)))
-    (λ same after ends. other same) (λ same many. other same))
+pub gate_open : (old mid new : Left) (registers : List Register) (controls : ℕ) (spots : List Spot) (spot : Spot) (word : List ℕ) (at : Place)
+    → InGate old mid registers controls spots → ReadsArgument mid new registers spot word at → length spots ≡ controls → ¬ (word ≡ codes ";")
+    → StopsAtSpots old registers controls (Token at)
+gate_open old mid new registers controls spots spot word at so_far read all other = record {
+  says = λ said equal. stops_later (Token at) (reads_then (so_far.reads said equal) (read.reads (Flip controls) spots said equal))
+      (stops_behind_argument (Flip controls) spots spot said read.takes read.closed
+      (λ same more. let longer = one_longer spots spot in absurd (omega (arith, more, longer, all)))
+      (λ same after ends. other same) (λ same many. other same));
+}
 
-pub gate_ends : (old mid new : Left) (controls : ℕ) (spots : List Spot) (spot : Spot) (word : List ℕ) (at : Place) (registers : List Register) (said : Said)
-    (gates : List GateView) → InGate old mid controls spots said → ReadsArgument mid new registers spot word at → said.registers ≡ registers
-    → length spots ≡ controls → word ≡ codes ";" → AddsGates (spots ++ spot ∷ []) said.gates gates
+gate_ends : (old mid new : Left) (registers : List Register) (controls : ℕ) (spots : List Spot) (spot : Spot) (word : List ℕ) (at : Place)
+    (said : Said) (gates : List GateView) → InGate old mid registers controls spots → ReadsArgument mid new registers spot word at
+    → said.registers ≡ registers → length spots ≡ controls → word ≡ codes ";" → AddsGates (spots ++ spot ∷ []) said.gates gates
     → Reads old new (wants_argument (Flip controls) [] said) (starts (record said { gates = gates }))
-gate_ends old mid new controls spots spot word at registers said gates so_far read equal all same adds =
+gate_ends old mid new registers controls spots spot word at said gates so_far read equal all same adds =
     let longer = one_longer spots spot in
-    reads_then so_far.reads (reads_then (read.reads (Flip controls) spots said equal)
+    reads_then (so_far.reads said equal) (reads_then (read.reads (Flip controls) spots said equal)
     (reads_end (Flip controls) spots spot said (record said { gates = gates }) read.takes same
     (adds.more, adds.stand controls (omega arith), adds.few, ap (λ (gs : List GateView). record said { gates = gs }) adds.added)))
 
 -- the arguments stand for no gates, or for too many
-pub gates_fail : (old mid new : Left) (controls : ℕ) (spots : List Spot) (spot : Spot) (word : List ℕ) (at : Place) (registers : List Register) (said : Said)
-    (fault : QasmFault) → InGate old mid controls spots said → ReadsArgument mid new registers spot word at → said.registers ≡ registers
-    → length spots ≡ controls → word ≡ codes ";" → IsGateFault at (spots ++ spot ∷ []) said.gates fault
+gates_fail : (old mid new : Left) (registers : List Register) (controls : ℕ) (spots : List Spot) (spot : Spot) (word : List ℕ) (at : Place)
+    (said : Said) (fault : QasmFault) → InGate old mid registers controls spots → ReadsArgument mid new registers spot word at
+    → said.registers ≡ registers → length spots ≡ controls → word ≡ codes ";" → IsGateFault at (spots ++ spot ∷ []) said.gates fault
     → IsStop old (wants_argument (Flip controls) [] said) fault
-gates_fail old mid new controls spots spot word at registers said (Token place) so_far read equal all same h =
-    stops_later (Token place) (reads_then so_far.reads (read.reads (Flip controls) spots said equal))
+gates_fail old mid new registers controls spots spot word at said (Token place) so_far read equal all same h =
+    stops_later (Token place) (reads_then (so_far.reads said equal) (read.reads (Flip controls) spots said equal))
     (subst (λ (p : Place). BreaksRule read.mid (behind_spot (Flip controls) spots spot said) p) (sym h.0)
     (stops_behind_argument (Flip controls) spots spot said read.takes read.closed (λ comma more. comma_or_end word comma same)
     (λ semicolon after ends. h.1.says controls ends.0 ends.1) (λ semicolon many. h.1.says controls many.0 many.1)))
-gates_fail old mid new controls spots spot word at registers said (Limit place) so_far read equal all same h =
+gates_fail old mid new registers controls spots spot word at said (Limit place) so_far read equal all same h =
     let longer = one_longer spots spot in
-    stops_later (Limit place) (reads_then so_far.reads (read.reads (Flip controls) spots said equal))
+    stops_later (Limit place) (reads_then (so_far.reads said equal) (read.reads (Flip controls) spots said equal))
     (subst (λ (p : Place). BreaksLimit read.mid (behind_spot (Flip controls) spots spot said) p) (sym h.0)
     (limit_behind_argument (Flip controls) spots spot said read.takes same
     (λ after ends. let many = h.1.all controls ends.0 ends.1 in let few = ends.2 in absurd (omega (arith, many, few)))
     (h.1.more, h.1.stand controls (omega arith), h.1.many) read.closed))
-gates_fail old mid new controls spots spot word at registers said Memory so_far read equal all same h = tt
+gates_fail old mid new registers controls spots spot word at said Memory so_far read equal all same h = tt
 
--- all arguments of a gate are below the number of lines
-pub all_below : (old mid new : Left) (controls : ℕ) (spots : List Spot) (spot : Spot) (word : List ℕ) (at : Place) (said : Said)
-    → InGate old mid controls spots said → ReadsArgument mid new said.registers spot word at
-    → AllByRecursion (SpotBelow (lines_of_all said.registers)) (spots ++ spot ∷ [])
-all_below old mid new controls spots spot word at said so_far read =
-    AllByRecursion-push (SpotBelow (lines_of_all said.registers)) spots spot so_far.below read.below
+-- all arguments and the end of the statement were read
+pub spots_read : (old mid new : Left) (registers : List Register) (controls : ℕ) (spots all_spots : List Spot) (spot : Spot) (word : List ℕ) (at : Place)
+    → lines_of_all registers ≤ MOST_LINES → InGate old mid registers controls spots → ReadsArgument mid new registers spot word at
+    → length spots ≡ controls → all_spots ≡ spots ++ spot ∷ [] → word ≡ codes ";" → ReadsSpots old new registers controls all_spots at
+spots_read old mid new registers controls spots all_spots spot word at few so_far read all whole same =
+    let longer = one_longer spots spot in
+    subst (λ (ss : List Spot). ReadsSpots old new registers controls ss at) (sym whole) (record {
+      counted = omega arith;
+      below = AllByRecursion-push (SpotBelow (lines_of_all registers)) spots spot so_far.below read.below;
+      few = few;
+      ends = λ said gates equal adds. gate_ends old mid new registers controls spots spot word at said gates so_far read equal all same adds;
+      fails = λ said fault equal h. gates_fail old mid new registers controls spots spot word at said fault so_far read equal all same h;
+    })
 
 below_more : (n m : ℕ) → n ≤ m → (spot : Spot) → SpotBelow n spot → SpotBelow m spot
 below_more n m le (Line at) h = omega arith

@@ -6,7 +6,7 @@ use Rattle.std.specs.List.{AllByRecursion, list_any, prefix_len}
 use Rattle.std.proofs.lemmas.List.Quantifiers.{position-Some}
 use Rattle.std.specs.Str.{bytes_eq}
 use Rattle.std.proofs.lemmas.Bool.{false≢true, or_parts, cond-true, lt-ltb}
-use Rattle.std.proofs.lemmas.Option.{none-some, same_Some}
+use Rattle.std.proofs.lemmas.Option.{none-some, same_Some, slice_get_within, get_or_from_slice_get}
 use Rattle.std.proofs.lemmas.List.{length-append, drop_more}
 use Rattle.list_facts.proofs.CutLemmas.{drop_got}
 use Rattle.list_facts.specs.Lists.{IsAmong, AreApart}
@@ -17,7 +17,7 @@ use Rattle.qasm_format.specs.declared.words.RegisterKind.{RegisterKind}
 use Rattle.qasm_format.specs.declared.words.RegisterKind.TheVariants.{Qubits, Bits}
 use Rattle.qasm_format.specs.Registers.{IsLaid, lines_of_all}
 use Rattle.qasm_format.specs.Stages.{HasRoom, kind_registers}
-use Rattle.qasm_format.specs.inside.Names.{registers_in, AreLaid, AreDeclared, DeclaredView}
+use Rattle.qasm_format.specs.inside.Names.{registers_in, registers_at, AreLaid, AreDeclared, DeclaredView}
 use Rattle.format_parts.specs.Names.{has_word, IsText}
 use Rattle.qasm_format.proofs.ReadingLemmas.{other_word, same_word}
 use Rattle.qasm_format.proofs.RegisterLemmas.{lines_of_all-append}
@@ -315,7 +315,7 @@ pushed kind known names new_names spans new_spans view name lines size same h se
 
 -- ---- copies
 
-pub copied_one : (all copies : List Register) (names : List (List ℕ)) (spans : List (Option Span)) (i : ℕ) (name : List ℕ) (span : Span)
+copied_one : (all copies : List Register) (names : List (List ℕ)) (spans : List (Option Span)) (i : ℕ) (name : List ℕ) (span : Span)
     → slice_get names i ≡ Some name → i < length spans → get_or spans i None ≡ Some span
     → all ≡ copies ++ registers_in (drop i names) (drop i spans)
     → all ≡ (copies ++ record { name = name; size = span.size } ∷ []) ++ registers_in (drop (i + 1) names) (drop (i + 1) spans)
@@ -326,10 +326,24 @@ copied_one all copies names spans i name span named inside here so_far =
     ∙ ap (λ (ss : List (Option Span)). copies ++ registers_in (name ∷ drop (i + 1) names) ss) at_spans
     ∙ sym (append_assoc copies (record { name = name; size = span.size } ∷ []) (registers_in (drop (i + 1) names) (drop (i + 1) spans)))
 
-pub copied_none : (all copies : List Register) (names : List (List ℕ)) (spans : List (Option Span)) (i : ℕ) → i < length names → i < length spans
+copied_none : (all copies : List Register) (names : List (List ℕ)) (spans : List (Option Span)) (i : ℕ) → i < length names → i < length spans
     → get_or spans i None ≡ None → all ≡ copies ++ registers_in (drop i names) (drop i spans)
     → all ≡ copies ++ registers_in (drop (i + 1) names) (drop (i + 1) spans)
 copied_none all copies names spans i named inside here so_far =
     let at_spans = drop_more spans i None inside ∙ ap (λ (s : Option Span). s ∷ drop (i + 1) spans) here in
     so_far ∙ ap (λ (ns : List (List ℕ)). copies ++ registers_in ns (drop i spans)) (drop_more names i [] named)
     ∙ ap (λ (ss : List (Option Span)). copies ++ registers_in (get_or names i [] ∷ drop (i + 1) names) ss) at_spans
+
+pub copied_more : (all copies more : List Register) (names : List (List ℕ)) (spans : List (Option Span)) (i : ℕ) (name : List ℕ) (span : Option Span)
+    → slice_get names i ≡ Some name → i < length spans → get_or spans i None ≡ span → more ≡ copies ++ registers_at name span
+    → all ≡ copies ++ registers_in (drop i names) (drop i spans) → all ≡ more ++ registers_in (drop (i + 1) names) (drop (i + 1) spans)
+copied_more all copies more names spans i name (Some span) named low here is so_far =
+    copied_one all copies names spans i name span named low here so_far
+    ∙ ap (λ rs. rs ++ registers_in (drop (i + 1) names) (drop (i + 1) spans)) (sym is)
+copied_more all copies more names spans i name None named low here is so_far =
+    copied_none all copies names spans i (slice_get_within names i name named) low here so_far
+    ∙ ap (λ rs. rs ++ registers_in (drop (i + 1) names) (drop (i + 1) spans)) (sym (is ∙ append-nil copies))
+
+pub text_at : (names : List (List ℕ)) (i : ℕ) (name : List ℕ) → AllByRecursion IsText names → slice_get names i ≡ Some name → IsText name
+text_at names i name all named = subst IsText (get_or_from_slice_get names i name name named)
+    (AllByRecursion-at IsText names i name all (slice_get_within names i name named))

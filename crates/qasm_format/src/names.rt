@@ -5,6 +5,7 @@ ghost use Rattle.list_facts.specs.Lists.{IsAmong};
 ghost use Rattle.gate_split.specs.declared.plan.TheConstants.{MOST_LINES};
 ghost use Rattle.qasm_format.specs.Registers.{IsLaid, lines_of_all};
 ghost use Rattle.qasm_format.specs.Stages.{HasRoom, kind_registers};
+ghost use Rattle.qasm_format.specs.inside.Names.{registers_at};
 ghost use Rattle.format_parts.specs.Names.{has_word, IsText};
 
 use crate::file::Register;
@@ -113,16 +114,32 @@ impl<'t> Declared<'t> {
     {
         let mut copies = Vec::new(alloc);
         for (place, span) in self.spans.iter().enumerate() {
-            if let Some(span) = span {
-                let name = Text::new(alloc, self.names.at(place))?;
-                copies.push(Register {
-                    name,
-                    size: span.size,
-                })?;
-            }
+            push_register(alloc, &mut copies, self.names.at(place), *span)?;
         }
         Ok(copies)
     }
+}
+
+// Puts a copy of the register of a name behind the others, where it has a span.
+fn push_register(
+    alloc: Global,
+    copies: &mut Vec<Register>,
+    name: &[u8],
+    span: Option<Span>,
+) -> Result<(), Memory>
+    requires { IsText name.now }
+    ensures { OnOk result
+        (copies.new.items ≡ copies.old.items ++ registers_at name.now span) }
+{
+    let Some(span) = span else {
+        return Ok(());
+    };
+    let name = Text::new(alloc, name)?;
+    copies.push(Register {
+        name,
+        size: span.size,
+    })?;
+    Ok(())
 }
 
 // Puts a new name and its span last. After want of memory both are unchanged.

@@ -3,18 +3,19 @@ ghost use Rattle.std.specs.Prelude.{◌≡◌, ◌≢◌, ◌⊎◌, ℕ, ◌+�
 ghost use Rattle.std.specs.Prelude.{false, length, codes, OnOk, IfOk, IfErr};
 ghost use Rattle.std.specs.List.{AllByRecursion};
 ghost use Rattle.gate_split.specs.declared.plan.TheConstants.{MOST_LINES, MOST_GATES};
-ghost use Rattle.mct_circuit.specs.Gates.{HasDifferentLines};
+ghost use Rattle.mct_circuit.specs.Gates.{HasDifferentLines, AreGatesOn};
 ghost use Rattle.qasm_format.specs.Registers.{lines_of_all};
 ghost use Rattle.qasm_format.specs.Stages.{starts, wants, wants_name, wants_argument, head};
 ghost use Rattle.qasm_format.specs.Stages.{nothing_said, HasRoom, gate_at};
 ghost use Rattle.qasm_format.specs.Qasm.{MeansFile, Reads};
 ghost use Rattle.qasm_format.specs.Faults.{IsStop, IsQasmFault};
-ghost use Rattle.qasm_format.specs.inside.Spread.{AreAllDifferent, ArePushed};
+ghost use Rattle.qasm_format.specs.inside.Spread.{AreAllDifferent, ArePushed, controls_at};
 ghost use Rattle.qasm_format.specs.inside.Says.{ReadsWord, StopsAtWord, TakesName, IsNameFault};
 ghost use Rattle.qasm_format.specs.inside.Says.{TakesNumber, IsNumberFault, ReadsWords};
 ghost use Rattle.qasm_format.specs.inside.Says.{StopsAtWords, ReadsSize, StopsAtSize};
 ghost use Rattle.qasm_format.specs.inside.Says.{ReadsArgument, StopsAtArgument, ReadsControl};
 ghost use Rattle.qasm_format.specs.inside.Says.{StopsAtControl, ReadsBarrier, StopsAtBarrier};
+ghost use Rattle.qasm_format.specs.inside.Says.{ReadsSpots, StopsAtSpots, ReadsFile};
 ghost use Rattle.qasm_format.specs.inside.Says.{said_of, IsSound, GoesOn, AddsGates, IsGateFault};
 ghost use Rattle.qasm_format.specs.inside.Says.{SpotBelow, ReadsBehind, StopsBehind};
 
@@ -43,24 +44,47 @@ pub fn read(alloc: Global, bytes: &[u8]) -> Result<QasmFile, QasmFault>
     let mut tokens = Tokens::new(bytes);
     read_head(&mut tokens)?;
     let mut said = Said::new(alloc);
-    'statements: while read_statement(alloc, &mut said, &mut tokens)? {}
+    read_file(alloc, &mut said, &mut tokens)
+}
+
+// The statements up to the end of the text, and the file that they say.
+fn read_file<'t>(
+    alloc: Global,
+    said: &mut Said<'t>,
+    tokens: &mut Tokens<'t>,
+) -> Result<QasmFile, QasmFault>
+    requires { IsSound said.old }
+    ensures ok { IfOk result (ReadsFile tokens.old (starts (said_of said.old))) }
+    ensures err { IfErr result (IsStop tokens.old (starts (said_of said.old))) }
+{
+    'statements: while read_statement(alloc, said, tokens)? {}
     file_of(alloc, said)
 }
 
-fn file_of(alloc: Global, said: Said) -> Result<QasmFile, QasmFault>
-    requires { IsSound said }
+fn file_of(alloc: Global, said: &mut Said) -> Result<QasmFile, QasmFault>
+    requires { IsSound said.old }
     ensures ok { IfOk result (λ file. file ≡ record {
-      registers = said.entry.declared.registers;
-      gates = said.entry.gates.items;
+      registers = said.old.declared.registers;
+      gates = said.old.gates.items;
     }) }
     ensures err { IfErr result (λ fault. fault ≡ QasmFault.Memory) }
 {
     let registers = said.declared.copies(alloc)?;
-    let mut circuit = Circuit::new(alloc, said.declared.lines(), MOST_GATES);
-    let mut gates = said.gates;
-    match circuit.append(&mut gates) {
-        Ok(()) => Ok(QasmFile::new(registers, circuit)),
-        Err(_) => Err(QasmFault::Memory),
+    let circuit = circuit_of(alloc, said.declared.lines(), &mut said.gates)?;
+    Ok(QasmFile::new(registers, circuit))
+}
+
+// The circuit of these gates, which are taken out. There is room, so only memory can be wanting.
+fn circuit_of(alloc: Global, lines: u32, gates: &mut Vec<Gate>) -> Result<Circuit, Memory>
+    requires placed { AreGatesOn lines gates.old.items }
+    requires few { length gates.old.items ≤ MOST_GATES }
+    ensures lines { IfOk result (λ circuit. circuit.lines ≡ lines) }
+    ensures gates { IfOk result (λ circuit. circuit.gates ≡ gates.old.items) }
+{
+    let mut circuit = Circuit::new(alloc, lines, MOST_GATES);
+    match circuit.append(gates) {
+        Ok(()) => Ok(circuit),
+        Err(_) => Err(Memory),
     }
 }
 
@@ -310,18 +334,35 @@ fn read_gate<'t>(
     ensures err { IfErr result (IsStop tokens.old
         (wants_argument (Use.Flip controls) [] (said_of said.old))) }
 {
-    // This call says that the lines are within their limit.
-    let _ = said.declared.lines();
     let mut spots = Vec::new(alloc);
+    let end = read_spots(&said.declared, tokens, controls, &mut spots)?;
+    add_gates(alloc, &mut said.gates, &spots, end)
+}
+
+// Puts so many controls and the target behind no other arguments; the place where they end.
+fn read_spots<'t>(
+    declared: &Declared<'t>,
+    tokens: &mut Tokens<'t>,
+    controls: u32,
+    spots: &mut Vec<Spot>,
+) -> Result<Place, QasmFault>
+    requires few { controls ≤ 2 }
+    requires none { spots.old.items ≡ [] }
+    ensures ok { IfOk result
+        (ReadsSpots tokens.old tokens.new declared.now.registers controls spots.new.items) }
+    ensures err { IfErr result (StopsAtSpots tokens.old declared.now.registers controls) }
+{
+    // This call says that the lines are within their limit.
+    let _ = declared.lines();
     for _k in 0..controls {
-        spots.push(read_control(&said.declared, tokens)?)?;
+        spots.push(read_control(declared, tokens)?)?;
     }
-    let (target, behind) = read_argument(&said.declared, tokens)?;
+    let (target, behind) = read_argument(declared, tokens)?;
     spots.push(target)?;
     if behind.word != b";".as_slice() {
         return Err(QasmFault::Token { at: behind.at });
     }
-    add_gates(alloc, &mut said.gates, &spots, behind.at)
+    Ok(behind.at)
 }
 
 // An argument and the comma behind it.
@@ -391,6 +432,15 @@ fn gate_at(alloc: Global, spots: &[Spot], target: Spot, i: u32) -> Result<Gate, 
     requires different { HasDifferentLines (gate_at spots.now target i) }
     ensures { IfOk result (λ gate. gate ≡ gate_at spots.now target i) }
 {
+    let controls = controls_at(alloc, spots, i)?;
+    Ok(Gate::new(controls, Op::Flip(target.line_at(i))))
+}
+
+fn controls_at(alloc: Global, spots: &[Spot], i: u32) -> Result<Vec<Control>, Memory>
+    requires below { AllByRecursion (SpotBelow MOST_LINES) spots.now }
+    requires few { i ≤ MOST_LINES }
+    ensures { IfOk result (λ controls. controls.items ≡ controls_at spots.now i) }
+{
     let mut controls = Vec::with_capacity(alloc, spots.len())?;
     for spot in spots {
         controls.push(Control {
@@ -398,5 +448,5 @@ fn gate_at(alloc: Global, spots: &[Spot], target: Spot, i: u32) -> Result<Gate, 
             positive: true,
         })?;
     }
-    Ok(Gate::new(controls, Op::Flip(target.line_at(i))))
+    Ok(controls)
 }

@@ -16,6 +16,11 @@ registers_in (name ∷ names) (None ∷ spans) = registers_in names spans
 registers_in (name ∷ names) (Some span ∷ spans) =
     record { name = name; size = span.size } ∷ registers_in names spans
 
+-- the register of this name, where it has a span
+abbrev pub registers_at : List ℕ → Option Span → List Register
+registers_at name None = []
+registers_at name (Some span) = record { name = name; size = span.size } ∷ []
+
 -- the registers stand one after another, from this line on
 abbrev pub AreLaid : ℕ → List (Option Span) → Type 0
 AreLaid at [] = Unit {0}

@@ -14,13 +14,13 @@ use Rattle.qasm_format.specs.declared.words.Use.{Use}
 use Rattle.qasm_format.specs.declared.words.Use.TheVariants.{Barrier, Flip}
 use Rattle.qasm_format.specs.declared.words.RegisterKind.{RegisterKind}
 use Rattle.mct_circuit.specs.Gates.{GateView, AreGatesOn}
-use Rattle.gate_split.specs.declared.plan.TheConstants.{MOST_GATES}
+use Rattle.gate_split.specs.declared.plan.TheConstants.{MOST_LINES, MOST_GATES}
 use Rattle.qasm_lexer.specs.Tokens.{is_identifier, is_number, Left, Takes}
 use Rattle.qasm_lexer.specs.declared.words.TheConstants.{MOST_DIGITS}
 use Rattle.qasm_format.specs.Registers.{lines_of_all}
 use Rattle.qasm_format.specs.Stages.{Said, Stage, starts, wants, wants_size, wants_argument, behind_name, behind_argument, declared, HasRoom, StandForGates}
 use Rattle.qasm_format.specs.Stages.{Leads}
-use Rattle.qasm_format.specs.Qasm.{Reads}
+use Rattle.qasm_format.specs.Qasm.{Reads, QasmView}
 use Rattle.qasm_format.specs.Faults.{IsStop}
 
 -- this word led on, whatever comes behind it
@@ -191,6 +191,25 @@ IsGateFault end spots old (Token at) = (at ≡ end) × StandForNone spots
 IsGateFault end spots old (Limit at) = (at ≡ end) × PassGates spots old
 IsGateFault end spots old Memory = Unit {0}
 
+-- controls and a target were read, and the end of the statement behind them, at this place
+pub record ReadsSpots (old new : Left) (registers : List Register) (controls : ℕ)
+    (spots : List Spot) (end : Place) : Type 0 where
+  pub counted : length spots ≡ controls + 1
+  pub below : AllByRecursion (SpotBelow (lines_of_all registers)) spots
+  pub few : lines_of_all registers ≤ MOST_LINES
+  pub ends : (said : Said) (gates : List GateView) → said.registers ≡ registers
+      → AddsGates spots said.gates gates
+      → Reads old new (wants_argument (Flip controls) [] said)
+      (starts (record said { gates = gates }))
+  pub fails : (said : Said) (fault : QasmFault) → said.registers ≡ registers
+      → IsGateFault end spots said.gates fault
+      → IsStop old (wants_argument (Flip controls) [] said) fault
+
+pub record StopsAtSpots (old : Left) (registers : List Register) (controls : ℕ)
+    (fault : QasmFault) : Type 0 where
+  pub says : (said : Said) → said.registers ≡ registers
+      → IsStop old (wants_argument (Flip controls) [] said) fault
+
 -- no statement is left, and the text may end
 pub record EndsText (old new : Left) (said : Said) : Type 0 where
   pub at : Place
@@ -226,3 +245,13 @@ pub record StopsOn (old : Left) (word : List ℕ) (said : Said) (fault : QasmFau
 abbrev pub StopsBehind : Left → List ℕ → Place → Said → QasmFault → Type 0
 StopsBehind old word at said fault =
     ((fault ≡ Token at) × BeginsNone word said) ⊎ StopsOn old word said fault
+
+-- what is left leads from a stage to the end of a statement and of the text, and says this file
+pub record ReadsFile (old : Left) (from : Stage) (file : QasmView) : Type 0 where
+  pub last : Left
+  pub said : Said
+  pub reads : Reads old last from (starts said)
+  pub ended : last.bytes ≡ []
+  pub registers : file.registers ≡ said.registers
+  pub gates : file.gates ≡ said.gates
+  pub some : 1 ≤ lines_of_all said.registers

@@ -2,7 +2,8 @@
 use Rattle.std.specs.Prelude.{◌≡◌, ◌==◌, ℕ, ◌<◌, Bool, true, not, ◌&&◌, if◌then◌else◌, List, [], ◌∷◌, ◌++◌, map, Option, Some, None}
 use Rattle.std.specs.List.{list_any, range_with_len}
 use Rattle.list_facts.specs.Lists.{AreDifferent}
-use Rattle.mct_circuit.specs.Gates.{GateView}
+use Rattle.mct_circuit.specs.declared.gate.Control.{Control}
+use Rattle.mct_circuit.specs.Gates.{GateView, positive}
 use Rattle.qasm_format.specs.declared.spots.Spot.{Spot}
 use Rattle.qasm_format.specs.declared.spots.Spot.TheVariants.{Line, Whole}
 use Rattle.qasm_format.specs.Registers.{line_at}
@@ -46,3 +47,7 @@ pub record MeetSomewhere (spots : List Spot) (count : ℕ) : Type 0 where
 pub record ArePushed (spots : List Spot) (count : ℕ) (old new : List GateView) : Type 0 where
   pub says : (controls : List Spot) (target : Spot) → spots ≡ controls ++ target ∷ []
       → new ≡ old ++ map (gate_at controls target) (range_with_len 0 count)
+
+-- the controls of the i-th gate
+abbrev pub controls_at : List Spot → ℕ → List Control
+controls_at spots i = map positive (map (line_at i) spots)

@@ -1,25 +1,26 @@
-use Rattle.std.proofs.Common.{subst}
-use Rattle.qasm_format.specs.Faults.{IsQasmFault}
-use Rattle.qasm_format.specs.inside.Says.{GoesOn}
-use Rattle.revc_base.proofs.ResultLemmas.{passes_on}
-use Rattle.qasm_format.proofs.ReadingLemmas.{reads_then, stops_later}
-use Rattle.qasm_format.proofs.FileLemmas.{ends_file, file_means}
+use Rattle.std.proofs.Common.{sym, subst}
+use Rattle.qasm_lexer.specs.Tokens.{Left}
+use Rattle.qasm_format.specs.Stages.{Said, head, starts}
+use Rattle.qasm_format.specs.Qasm.{Reads}
+use Rattle.qasm_format.specs.inside.Says.{said_of}
+use Rattle.qasm_format.proofs.FileLemmas.{said_at_first, sound_at_first, file_means, file_stops}
 use Rattle.qasm_format.proofs.reader.read.Goals as goal
 
-pub returns-in_err-read_statement-clause-err : goal.returns-in_err-read_statement-clause-err
-returns-in_err-read_statement-clause-err c =
-    passes_on (IsQasmFault c.args.bytes.now) c.from_residual-in_err-read_statement.result c.from_residual-in_err-read_statement.ensures.1
-    (stops_later _ c.statements.invariant.reads c.in_err-read_statement.ensures.err)
-
-pub statements-preserved : goal.statements-preserved
-statements-preserved c =
-    let more = subst (λ m. GoesOn m c.statements.tokens c.read_statement.new.tokens c.statements.said c.read_statement.new.said) c.if-branch.true
-    c.in_ok-read_statement.ensures.ok in
-    record { reads = reads_then c.statements.invariant.reads more.reads; sound = c.in_ok-read_statement.ensures.sound }
+pub read_file-requires : goal.read_file-requires
+read_file-requires c = sound_at_first c.new-said.result c.new-said.ensures.gates
 
 pub returns-clause-ok : goal.returns-clause-ok
 returns-clause-ok c =
-    let ended = subst (λ m. GoesOn m c.statements.tokens c.read_statement.new.tokens c.statements.said c.read_statement.new.said) c.if-branch.false
-    c.in_ok-read_statement.ensures.ok in
-    file_means c.file_of.result c.args.bytes.now _ c.file_of.ensures.ok
-    (ends_file c.args.bytes.now _ _ c.statements.said c.read_statement.new.said c.statements.invariant.reads ended)
+    let first = said_at_first c.new-said.result c.new-said.ensures.included c.new-said.ensures.declared c.new-said.ensures.gates in
+    file_means c.args.bytes.now c.read_head.new.tokens (starts (said_of c.new-said.result)) c.read_file.result
+    (subst (λ (l : Left). Reads l c.read_head.new.tokens head (starts (said_of c.new-said.result))) c.new-tokens.ensures
+    (subst (λ (s : Said). Reads c.new-tokens.result c.read_head.new.tokens head (starts s)) (sym first) c.in_ok-read_head.ensures.ok))
+    c.read_file.ensures.ok
+
+pub returns-clause-err : goal.returns-clause-err
+returns-clause-err c =
+    let first = said_at_first c.new-said.result c.new-said.ensures.included c.new-said.ensures.declared c.new-said.ensures.gates in
+    file_stops c.args.bytes.now c.read_head.new.tokens (starts (said_of c.new-said.result)) c.read_file.result
+    (subst (λ (l : Left). Reads l c.read_head.new.tokens head (starts (said_of c.new-said.result))) c.new-tokens.ensures
+    (subst (λ (s : Said). Reads c.new-tokens.result c.read_head.new.tokens head (starts s)) (sym first) c.in_ok-read_head.ensures.ok))
+    c.read_file.ensures.err

@@ -1,13 +1,12 @@
 use Rattle.std.proofs.Common.{length}
-use Rattle.qasm_format.specs.Stages.{head, starts}
+use Rattle.qasm_format.specs.Stages.{starts}
 use Rattle.qasm_format.specs.Qasm.{Reads}
-use Rattle.qasm_lexer.specs.Tokens.{whole}
 use Rattle.qasm_format.specs.inside.Says.{said_of, IsSound}
-use Rattle.qasm_format.proofs.reader.read.Given as goal
+use Rattle.qasm_format.proofs.reader.read_file.Given as goal
 
 abbrev pub invariant-statements : goal.invariant-statements
 invariant-statements l = record {
-  reads : Reads (whole l.fn.bytes) l.tokens head (starts (said_of l.said));
+  reads : Reads l.fn.tokens l.tokens (starts (said_of l.fn.said)) (starts (said_of l.said));
   sound : IsSound l.said;
 }
 
