@@ -2,7 +2,6 @@
 use Rattle.std.proofs.Common.{◌≡◌, ℕ, zero, suc, ◌+◌, ◌<◌, ◌≤◌, Bool, true, false, if◌then◌else◌, List, [], ◌∷◌, ◌++◌, length, take, drop, replicate}
 use Rattle.std.proofs.Common.{Option, Some, None, Result, Ok, Err, OnOk, IfOk, IfErr, refl, sym, ap, ◌∙◌, subst, arith, codes, eqb, length-append, Vec, Global}
 use Rattle.std.specs.List.{AllByRecursion}
-use Rattle.std.specs.Option.{ok_or}
 use Rattle.std.specs.Str.{bytes_eq}
 use Rattle.std.proofs.lemmas.Bool.{ne_eqb, eq-eqb}
 use Rattle.std.proofs.lemmas.List.{length-replicate, take_all, drop_all, append-nil}
@@ -122,14 +121,10 @@ line_goes_on file line words word other parts same test =
     ap (gates_line file) parts ∙ ap (λ t. if t then end_gates file words else or_form (shape_of word) (λ shape. add_gate file shape words))
     (ap (bytes_eq word) (sym same) ∙ test)
 
-pub no_gate : (file : RealView) (line words : List (List ℕ)) (word other : List ℕ) (shape : Option Shape) (refusal : LineRefusal) → line ≡ word ∷ words
-    → other ≡ codes ".end" → bytes_eq word other ≡ false → shape ≡ shape_of word → shape ≡ None → Err refusal ≡ ok_or shape Form
-    → Refuses (gates_line file line) refusal
-no_gate file line words word other shape refusal parts same test is none refused =
-    let both : Err refusal ≡ (let r : Result Shape LineRefusal = Err Form in r) = refused ∙ ap (λ o. ok_or o Form) none in
-    let form : refusal ≡ Form = cc in
-    subst (Refuses (gates_line file line)) (sym form) (line_goes_on file line words word other parts same test
-    ∙ ap (λ o. or_form o (λ s. add_gate file s words)) (sym is ∙ none))
+pub no_gate : (file : RealView) (line words : List (List ℕ)) (word other : List ℕ) (shape : Option Shape) → line ≡ word ∷ words → other ≡ codes ".end"
+    → bytes_eq word other ≡ false → shape ≡ shape_of word → shape ≡ None → gates_line file line ≡ Err Form
+no_gate file line words word other shape parts same test is none =
+    line_goes_on file line words word other parts same test ∙ ap (λ o. or_form o (λ s. add_gate file s words)) (sym is ∙ none)
 
 line_is : (file : RealView) (old : List GateView) (shape : Shape) (words line : List (List ℕ)) (word other : List ℕ) → line ≡ word ∷ words
     → other ≡ codes ".end" → bytes_eq word other ≡ false → shape_of word ≡ Some shape

@@ -4,7 +4,7 @@ ghost use Rattle.std.specs.Prelude.{Err, OnOk, IfOk, IfErr, slice_set, slice_ind
 ghost use Rattle.std.specs.List.{AllByRecursion};
 ghost use Rattle.mct_circuit.specs.Gates.{IsGateOn};
 ghost use Rattle.real_format.specs.inside.Reading.{Refuses, alone, has_sign, targets_in, shape_of};
-ghost use Rattle.real_format.specs.inside.Reading.{line_of, control_of, controls_from, op_of};
+ghost use Rattle.real_format.specs.inside.Reading.{line_of, control_of, controls_from, target_of, op_of};
 ghost use Rattle.real_format.specs.inside.Reading.{gate_of, lines_of_controls};
 ghost use Rattle.real_format.specs.inside.Stamps.{is_stamped, AreStamped};
 
@@ -99,7 +99,9 @@ fn controls_of(
 {
     let mut controls = Vec::new(alloc);
     'controls: while controls.len() < wanted as usize {
-        let word = words.next().ok_or(LineRefusal::Form)?;
+        let Some(word) = words.next() else {
+            return Err(LineRefusal::Form);
+        };
         controls.push(control_of(names, stamps, stamp, word)?)?;
     }
     Ok(controls)
@@ -154,7 +156,9 @@ fn line_of(names: &Names, stamps: &mut [u32], stamp: u32, word: &[u8]) -> Result
     if word.len() > MOST_NAME_BYTES {
         return Err(LineRefusal::Limit);
     }
-    let line = names.place(word).ok_or(LineRefusal::Form)?;
+    let Some(line) = names.place(word) else {
+        return Err(LineRefusal::Form);
+    };
     if stamps[line] == stamp {
         return Err(LineRefusal::Form);
     }
@@ -185,14 +189,34 @@ fn op_of(
     ensures err { IfErr result (Refuses
         (op_of names.now targets (is_stamped stamps.old stamp) words.old)) }
 {
-    let word = words.next().ok_or(LineRefusal::Form)?;
-    let first = line_of(names, stamps, stamp, word)?;
+    let first = target_of(names, stamps, stamp, words)?;
     if targets == 1 {
         return alone(Op::Flip(first), words);
     }
-    let word = words.next().ok_or(LineRefusal::Form)?;
-    let second = line_of(names, stamps, stamp, word)?;
+    let second = target_of(names, stamps, stamp, words)?;
     alone(Op::Swap(first, second), words)
+}
+
+// The line that the next word names, which the gate did not have yet.
+fn target_of(
+    names: &Names,
+    stamps: &mut [u32],
+    stamp: u32,
+    words: &mut Words,
+) -> Result<u32, LineRefusal>
+    requires fit { length stamps.old ≡ length names.now }
+    requires few { length names.now ≤ MOST_LINES }
+    ensures ok { IfOk result (λ line.
+        target_of names.now (is_stamped stamps.old stamp) words.old ≡ Ok (line, words.new)) }
+    ensures stamped { IfOk result (λ line. stamps.new ≡ slice_set stamps.old line stamp) }
+    ensures in_range { IfOk result (λ line. line < length names.now) }
+    ensures err { IfErr result (Refuses
+        (target_of names.now (is_stamped stamps.old stamp) words.old)) }
+{
+    let Some(word) = words.next() else {
+        return Err(LineRefusal::Form);
+    };
+    line_of(names, stamps, stamp, word)
 }
 
 // The operation, where no word is left.

@@ -218,7 +218,9 @@ impl<'t> Header<'t> {
         if self.version {
             return Err(LineRefusal::Form);
         }
-        let word = words.only().ok_or(LineRefusal::Form)?;
+        let Some(word) = words.only() else {
+            return Err(LineRefusal::Form);
+        };
         if !is_version(word) {
             return Err(LineRefusal::Form);
         }
@@ -244,7 +246,9 @@ impl<'t> Header<'t> {
         if self.names.is_some() {
             return Err(LineRefusal::Form);
         }
-        let lines = self.lines.ok_or(LineRefusal::Form)?;
+        let Some(lines) = self.lines else {
+            return Err(LineRefusal::Form);
+        };
         self.names = Some(names_of(alloc, lines, words)?);
         Ok(())
     }
@@ -278,7 +282,9 @@ impl<'t> Header<'t> {
         if self.constants.is_some() {
             return Err(LineRefusal::Form);
         }
-        let lines = self.lines.ok_or(LineRefusal::Form)?;
+        let Some(lines) = self.lines else {
+            return Err(LineRefusal::Form);
+        };
         self.constants = Some(constants_of(alloc, lines, words)?);
         Ok(())
     }
@@ -290,7 +296,9 @@ impl<'t> Header<'t> {
         if self.garbage.is_some() {
             return Err(LineRefusal::Form);
         }
-        let lines = self.lines.ok_or(LineRefusal::Form)?;
+        let Some(lines) = self.lines else {
+            return Err(LineRefusal::Form);
+        };
         self.garbage = Some(garbage_of(alloc, lines, words)?);
         Ok(())
     }
@@ -308,8 +316,12 @@ fn count_of(words: &mut Words) -> Result<u32, LineRefusal>
     ensures few { IfOk result (λ count. count ≤ MOST_LINES) }
     ensures err { IfErr result (Refuses (count_of words.old)) }
 {
-    let word = words.next().ok_or(LineRefusal::Form)?;
-    let count = number(word, MOST_LINES).ok_or(LineRefusal::Form)?;
+    let Some(word) = words.next() else {
+        return Err(LineRefusal::Form);
+    };
+    let Some(count) = number(word, MOST_LINES) else {
+        return Err(LineRefusal::Form);
+    };
     if count == 0 {
         return Err(LineRefusal::Form);
     }
@@ -380,13 +392,18 @@ fn constants_of(alloc: Global, count: u32, words: &mut Words) -> Result<Vec<Mark
     ensures ok { IfOk result (λ marks. marks_of constant_of count words.old ≡ Ok marks.items) }
     ensures err { IfErr result (Refuses (marks_of constant_of count words.old)) }
 {
-    let word = words.only().ok_or(LineRefusal::Form)?;
+    let Some(word) = words.only() else {
+        return Err(LineRefusal::Form);
+    };
     if word.len() != count as usize {
         return Err(LineRefusal::Form);
     }
     let mut marks = Vec::with_capacity(alloc, word.len())?;
     for byte in word {
-        marks.push(constant_of(*byte).ok_or(LineRefusal::Form)?)?;
+        let Some(mark) = constant_of(*byte) else {
+            return Err(LineRefusal::Form);
+        };
+        marks.push(mark)?;
     }
     Ok(marks)
 }
@@ -406,13 +423,18 @@ fn garbage_of(alloc: Global, count: u32, words: &mut Words) -> Result<Vec<bool>,
     ensures ok { IfOk result (λ marks. marks_of garbage_of count words.old ≡ Ok marks.items) }
     ensures err { IfErr result (Refuses (marks_of garbage_of count words.old)) }
 {
-    let word = words.only().ok_or(LineRefusal::Form)?;
+    let Some(word) = words.only() else {
+        return Err(LineRefusal::Form);
+    };
     if word.len() != count as usize {
         return Err(LineRefusal::Form);
     }
     let mut marks = Vec::with_capacity(alloc, word.len())?;
     for byte in word {
-        marks.push(is_garbage(*byte).ok_or(LineRefusal::Form)?)?;
+        let Some(mark) = is_garbage(*byte) else {
+            return Err(LineRefusal::Form);
+        };
+        marks.push(mark)?;
     }
     Ok(marks)
 }

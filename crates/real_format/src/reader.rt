@@ -176,7 +176,9 @@ fn read_gate_line<'t>(
     if word == b".end".as_slice() {
         return ends_gates(words);
     }
-    let shape = Shape::of(word).ok_or(LineRefusal::Form)?;
+    let Some(shape) = Shape::of(word) else {
+        return Err(LineRefusal::Form);
+    };
     add_gate(alloc, &begun.names, circuit, stamps, shape, words)?;
     Ok(false)
 }

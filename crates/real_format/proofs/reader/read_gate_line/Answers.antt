@@ -21,25 +21,24 @@ returns-then-eq-clause-err c =
     gates_do_not_end file _ c.next.new.self c.ends_gates.result (line_ends file c.args.words.now c.next.new.self c.in-Some.word.now c.as_slice.result.now
     c.in-Some.ensures c.as_slice.ensures (sym c.eq.ensures ∙ c.if-eq.true)) c.ends_gates.ensures.err
 
-pub returns-in_err-shape-clause-err : goal.returns-in_err-shape-clause-err
-returns-in_err-shape-clause-err c =
-    let file : RealView = record c.args.begun.now { gates = c.args.circuit.now.gates } in
-    passes_on (Refuses (gates_line file c.args.words.now)) c.from_residual.result c.from_residual.ensures.1
-    (no_gate file c.args.words.now c.next.new.self c.in-Some.word.now c.as_slice.result.now c.of.result _ c.in-Some.ensures c.as_slice.ensures
-    (sym c.eq.ensures ∙ c.if-eq.false) c.of.ensures c.in_err-shape.ensures.ok_part c.in_err-shape.ensures.value)
+pub returns-in_default-of-clause-err : goal.returns-in_default-of-clause-err
+returns-in_default-of-clause-err c =
+    no_gate (let file : RealView = record c.args.begun.now { gates = c.args.circuit.now.gates } in file) c.args.words.now c.next.new.self
+    c.in-Some.word.now c.as_slice.result.now c.of.result c.in-Some.ensures c.as_slice.ensures (sym c.eq.ensures ∙ c.if-eq.false) c.of.ensures
+    c.in_default-of.is
 
 pub returns-in_err-add_gate-clause-err : goal.returns-in_err-add_gate-clause-err
 returns-in_err-add_gate-clause-err c =
     let file : RealView = record c.args.begun.now { gates = c.args.circuit.now.gates } in
-    passes_on (Refuses (gates_line file c.args.words.now)) c.from_residual-in_err-add_gate.result c.from_residual-in_err-add_gate.ensures.1
+    passes_on (Refuses (gates_line file c.args.words.now)) c.from_residual.result c.from_residual.ensures.1
     (line_refuses c.args.begun.now c.args.circuit.now.gates _ c.next.new.self _ c.args.words.now c.in-Some.word.now c.as_slice.result.now c.in-Some.ensures
-    c.as_slice.ensures (sym c.eq.ensures ∙ c.if-eq.false) (sym c.of.ensures ∙ c.in_ok-shape.ensures.ok_part)
-    (subst (λ (v : RealView). Refuses (more_gates v.names c.args.circuit.now.gates c.in_ok-shape.shape c.next.new.self) c.in_err-add_gate.field-0.0)
+    c.as_slice.ensures (sym c.eq.ensures ∙ c.if-eq.false) (sym c.of.ensures ∙ c.in-Some-of.is)
+    (subst (λ (v : RealView). Refuses (more_gates v.names c.args.circuit.now.gates c.in-Some-of.shape c.next.new.self) c.in_err-add_gate.field-0.0)
     c.begun.view_is c.in_err-add_gate.ensures.err))
 
 pub returns-clause-ok : goal.returns-clause-ok
 returns-clause-ok c =
     line_adds c.args.begun.now c.args.circuit.now.gates c.add_gate.new.circuit.gates _ c.next.new.self c.args.words.now c.in-Some.word.now
-    c.as_slice.result.now c.in-Some.ensures c.as_slice.ensures (sym c.eq.ensures ∙ c.if-eq.false) (sym c.of.ensures ∙ c.in_ok-shape.ensures.ok_part)
-    (ap (λ (v : RealView). more_gates v.names c.args.circuit.now.gates c.in_ok-shape.shape c.next.new.self) (sym c.begun.view_is)
+    c.as_slice.result.now c.in-Some.ensures c.as_slice.ensures (sym c.eq.ensures ∙ c.if-eq.false) (sym c.of.ensures ∙ c.in-Some-of.is)
+    (ap (λ (v : RealView). more_gates v.names c.args.circuit.now.gates c.in-Some-of.shape c.next.new.self) (sym c.begun.view_is)
     ∙ c.in_ok-add_gate.ensures.ok)
