@@ -1,10 +1,17 @@
 -- Gates in parts: their lines are in range, and their text is that of a format's lines.
-use Rattle.std.proofs.Common.{◌≡◌, ℕ, ◌<◌, List, [], ◌∷◌, ◌++◌, map, refl, ap, ◌∙◌}
+use Rattle.std.proofs.Common.{◌≡◌, ℕ, ◌<◌, List, [], ◌∷◌, ◌++◌, map, slice_get, Some, refl, ap, ◌∙◌, subst}
 use Rattle.std.specs.List.{flat_map, AllByRecursion}
+use Rattle.std.proofs.lemmas.Option.{slice_get_within, get_or_from_slice_get}
+use Rattle.list_facts.proofs.AllLemmas.{AllByRecursion-at}
 use Rattle.mct_circuit.specs.declared.gate.Control.{Control}
 use Rattle.mct_circuit.specs.declared.gate.Op.TheVariants.{Flip}
 use Rattle.mct_circuit.specs.Gates.{GateView, AreNarrow}
 use Rattle.format_parts.specs.Flips.{FlipTexts, flip_text, op_text, gate_text, gates_text}
+
+-- what holds of all elements holds of the one at a place
+pub at_place : {X : Type 0} (P : X → Type 0) (xs : List X) (i : ℕ) (x : X) → AllByRecursion P xs → slice_get xs i ≡ Some x → P x
+at_place P xs i x all at =
+    subst P (get_or_from_slice_get xs i x x at) (AllByRecursion-at P xs i x all (slice_get_within xs i x at))
 
 pub controls_in_range : (n : ℕ) (controls : List Control) (targets : List ℕ)
     → AllByRecursion (λ line. line < n) (map (λ (control : Control). control.line) controls ++ targets)

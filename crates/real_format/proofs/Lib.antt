@@ -2,6 +2,7 @@ pub mod LoopLemmas
 pub mod MeaningLemmas
 pub mod NameLemmas
 pub mod MarkLemmas
+pub mod MarkWordLemmas
 pub mod ReadingLemmas
 pub mod TextLemmas
 pub mod CutLemmas

@@ -1,12 +1,28 @@
-use Rattle.std.proofs.Common.{ap, refl, arith}
+use Rattle.std.proofs.Common.{◌<◌, ◌≤◌, ap, refl, sym, subst, arith}
+use Rattle.std.specs.List.{AllByRecursion}
 use Rattle.std.proofs.lemmas.List.{drop_all}
 use Rattle.list_facts.proofs.CutLemmas.{drop_got}
+use Rattle.mct_circuit.specs.Gates.{IsNarrow, IsGateOn, lines_of}
+use Rattle.gate_split.specs.declared.plan.TheConstants.{MOST_LINES}
 use Rattle.revc_io.proofs.WritingLoopLemmas.{writing_begun, writing_more, writing_done, writing_failed, fault_later, no_fault}
 use Rattle.format_parts.specs.Flips.{gate_text, gates_text}
+use Rattle.format_parts.proofs.FlipLemmas.{at_place}
 use Rattle.format_parts.proofs.flips.put_gates.Goals as goal
 
 pub loop-i-init : goal.loop-i-init
 loop-i-init g c = writing_begun _ _ _ _ _ refl
+
+pub put_gate-requires-clause-few : goal.put_gate-requires-clause-few
+put_gate-requires-clause-few g c = subst (λ n. n ≤ MOST_LINES) (sym c.requires.fits) c.requires.few
+
+pub put_gate-requires-clause-narrow : goal.put_gate-requires-clause-narrow
+put_gate-requires-clause-narrow g c =
+    at_place IsNarrow c.args.circuit.now.gates c.loop-i.i c.gate.result.now c.requires.narrow c.gate.ensures
+
+pub put_gate-requires-clause-in_range : goal.put_gate-requires-clause-in_range
+put_gate-requires-clause-in_range g c =
+    let on = at_place (IsGateOn c.args.circuit.now.lines) c.args.circuit.now.gates c.loop-i.i c.gate.result.now c.lines.ensures.gates c.gate.ensures in
+    subst (λ n. AllByRecursion (λ line. line < n) (lines_of c.gate.result.now)) (sym c.requires.fits) on.in_range
 
 pub returns-in_err-put_gate-clause-bytes : goal.returns-in_err-put_gate-clause-bytes
 returns-in_err-put_gate-clause-bytes g c =

@@ -1,0 +1,18 @@
+use Rattle.real_format.specs.inside.Reading.{constant_of}
+use Rattle.real_format.proofs.MarkWordLemmas.{mark_read, no_mark, all_read}
+use Rattle.real_format.proofs.header.constants_of.Goals as goal
+
+pub returns-in_default-constant_of-clause-err : goal.returns-in_default-constant_of-clause-err
+returns-in_default-constant_of-clause-err c =
+    no_mark constant_of c.args.count c.args.words.now c.in-Some.word.now c.loop-byte.marks.items c.loop-byte.byte-index c.constant_of.result c.in-Some.ensures
+    c.if-word-count.false c.loop-byte-test.true c.constant_of.ensures c.in_default-constant_of.is c.loop-byte.invariant
+
+pub loop-byte-preserved : goal.loop-byte-preserved
+loop-byte-preserved c =
+    mark_read constant_of c.in-Some.word.now c.loop-byte.marks.items c.push.new.self.items c.loop-byte.byte-index c.in-Some-constant_of.mark c.constant_of.result
+    c.loop-byte-test.true c.constant_of.ensures c.in-Some-constant_of.is c.in_ok-push.ensures.items c.loop-byte.invariant
+
+pub returns-clause-ok : goal.returns-clause-ok
+returns-clause-ok c =
+    all_read constant_of c.args.count c.args.words.now c.in-Some.word.now c.loop-byte.marks.items c.loop-byte.byte-index c.in-Some.ensures
+    c.if-word-count.false c.loop-byte-test.false c.loop-byte.invariant
