@@ -1,8 +1,8 @@
 // The reader of `.real` texts.
-ghost use Rattle.std.specs.Prelude.{◌≡◌, ℕ, ◌+◌, ◌<◌, ◌≤◌, ◌^◌, ◌++◌, ◌∷◌, [], length, None, Some};
+ghost use Rattle.std.specs.Prelude.{◌≡◌, ◌+◌, ◌<◌, ◌^◌, ◌++◌, ◌∷◌, [], length};
 ghost use Rattle.std.specs.Prelude.{true, false, Ok, Err, OnOk, IfOk, IfErr};
 ghost use Rattle.std.specs.List.{AllByRecursion};
-ghost use Rattle.gate_split.specs.declared.plan.TheConstants.{MOST_LINES, MOST_GATES};
+ghost use Rattle.gate_split.specs.declared.plan.TheConstants.{MOST_GATES};
 ghost use Rattle.mct_circuit.specs.Gates.{lines_of};
 ghost use Rattle.real_format.specs.Header.{nothing_said};
 ghost use Rattle.real_format.specs.Real.{RealMeaning, in_header, in_gates};

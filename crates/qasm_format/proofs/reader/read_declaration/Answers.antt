@@ -29,6 +29,9 @@ returns-then-has-clause-err c =
     kept_at_name c.args.kind (said_of c.args.said.now) c.in_ok-name.ensures.ok
     (λ named fresh. fresh (among_has _ _ (sym c.has.ensures ∙ c.if-has.true)))
 
+pub push-requires-clause-fresh : goal.push-requires-clause-fresh
+push-requires-clause-fresh c = sym c.has.ensures ∙ c.if-has.false
+
 pub returns-in_err-size-clause-err : goal.returns-in_err-size-clause-err
 returns-in_err-size-clause-err c =
     passes_on (IsStop c.args.tokens.now (wants_name c.args.kind (said_of c.args.said.now))) c.from_residual-in_err-size.result

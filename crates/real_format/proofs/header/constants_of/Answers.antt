@@ -9,8 +9,8 @@ returns-in_default-constant_of-clause-err c =
 
 pub loop-byte-preserved : goal.loop-byte-preserved
 loop-byte-preserved c =
-    mark_read constant_of c.in-Some.word.now c.loop-byte.marks.items c.push.new.self.items c.loop-byte.byte-index c.in-Some-constant_of.mark c.constant_of.result
-    c.loop-byte-test.true c.constant_of.ensures c.in-Some-constant_of.is c.in_ok-push.ensures.items c.loop-byte.invariant
+    mark_read constant_of c.in-Some.word.now c.loop-byte.marks.items c.push.new.self.items c.loop-byte.byte-index c.in-Some-constant_of.mark
+    c.constant_of.result c.loop-byte-test.true c.constant_of.ensures c.in-Some-constant_of.is c.in_ok-push.ensures.items c.loop-byte.invariant
 
 pub returns-clause-ok : goal.returns-clause-ok
 returns-clause-ok c =
