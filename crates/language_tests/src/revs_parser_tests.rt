@@ -42,36 +42,36 @@ fn body(alloc: Global, text: &[u8]) -> Result<(u32, &'static str, usize), Fail> 
 }
 
 // Each line of the grammar.
+const SENTENCES: &[(&[u8], (u32, &str, usize))] = &[
+    (b"main (a : bool[1024]) = a", (25, "name", 0)),
+    (b"main (a : bool) = true", (19, "bool", 0)),
+    (b"main (a : bool) = reg [a; b <> c]", (19, "reg", 2)),
+    (
+        b"main (a : bool) = { let f y z = y; f <- a; f }",
+        (19, "block", 2),
+    ),
+    (b"main (a : bool) = fun x y -> x <- y <> x", (19, "fun", 2)),
+    (b"main (a : bool) = a.[0].[1 .. 2]", (19, "at", 2)),
+    (
+        b"main (a : bool) = f a (b) true false.[1]",
+        (19, "apply", 4),
+    ),
+    (b"main (a : bool) = append a b", (19, "append", 2)),
+    (b"main (a : bool) = rotate 3 a", (19, "rotate", 3)),
+    (b"main (a : bool) = clean a", (19, "clean", 1)),
+    (b"main (a : bool) = assert a", (19, "assert", 1)),
+    (b"main (a : bool) = (a <> b) && c && d", (20, "and", 3)),
+    (
+        b"main (a : bool) = a && b <> c && d && e <> f",
+        (19, "xor", 3),
+    ),
+    (b"main (a : bool) = a <- b <> c", (19, "assign", 2)),
+];
+
 #[test]
 fn sentences_have_their_terms(rt: HostRuntime) -> Result<(), Fail> {
-    let alloc = rt.alloc();
-    let rows: [(&[u8], (u32, &str, usize)); 14] = [
-        (b"main (a : bool[1024]) = a", (25, "name", 0)),
-        (b"main (a : bool) = true", (19, "bool", 0)),
-        (b"main (a : bool) = reg [a; b <> c]", (19, "reg", 2)),
-        (
-            b"main (a : bool) = { let f y z = y; f <- a; f }",
-            (19, "block", 2),
-        ),
-        (b"main (a : bool) = fun x y -> x <- y <> x", (19, "fun", 2)),
-        (b"main (a : bool) = a.[0].[1 .. 2]", (19, "at", 2)),
-        (
-            b"main (a : bool) = f a (b) true false.[1]",
-            (19, "apply", 4),
-        ),
-        (b"main (a : bool) = append a b", (19, "append", 2)),
-        (b"main (a : bool) = rotate 3 a", (19, "rotate", 3)),
-        (b"main (a : bool) = clean a", (19, "clean", 1)),
-        (b"main (a : bool) = assert a", (19, "assert", 1)),
-        (b"main (a : bool) = (a <> b) && c && d", (20, "and", 3)),
-        (
-            b"main (a : bool) = a && b <> c && d && e <> f",
-            (19, "xor", 3),
-        ),
-        (b"main (a : bool) = a <- b <> c", (19, "assign", 2)),
-    ];
-    for (text, expected) in rows {
-        assert_eq!(rt; body(alloc, text)?, expected);
+    for (row, (text, expected)) in SENTENCES.iter().enumerate() {
+        assert!(rt; body(rt.alloc(), text)? == *expected, "row {row}");
     }
     Ok(())
 }
@@ -87,26 +87,26 @@ fn refusal(alloc: Global, text: &[u8]) -> Result<(&'static str, u32, u32), Fail>
     })
 }
 
+const REFUSED: &[(&[u8], (&str, u32, u32))] = &[
+    (b"", ("syntax", 0, 1)),
+    (b"main = a", ("syntax", 1, 6)),
+    (b"main (a : bool) = a a <>", ("syntax", 10, 25)),
+    (b"main (a : bool) = { a; }", ("syntax", 10, 24)),
+    (b"main (a : bool) = (a))", ("syntax", 10, 22)),
+    (b"main (a : bool) = clean clean a", ("syntax", 8, 25)),
+    (b"main (a : bool) = a <- b <- c", ("syntax", 10, 26)),
+    (b"main (a : bool[0]) = a &&", ("syntax", 12, 26)),
+    (b"main (a : bool[0]) = a", ("inputs", 0, 7)),
+    (
+        b"main (a : bool[1023]) (b : bool) (c : bool) = a",
+        ("inputs", 0, 35),
+    ),
+];
+
 #[test]
 fn texts_are_refused_at_their_tokens(rt: HostRuntime) -> Result<(), Fail> {
-    let alloc = rt.alloc();
-    let rows: [(&[u8], (&str, u32, u32)); 10] = [
-        (b"", ("syntax", 0, 1)),
-        (b"main = a", ("syntax", 1, 6)),
-        (b"main (a : bool) = a a <>", ("syntax", 10, 25)),
-        (b"main (a : bool) = { a; }", ("syntax", 10, 24)),
-        (b"main (a : bool) = (a))", ("syntax", 10, 22)),
-        (b"main (a : bool) = clean clean a", ("syntax", 8, 25)),
-        (b"main (a : bool) = a <- b <- c", ("syntax", 10, 26)),
-        (b"main (a : bool[0]) = a &&", ("syntax", 12, 26)),
-        (b"main (a : bool[0]) = a", ("inputs", 0, 7)),
-        (
-            b"main (a : bool[1023]) (b : bool) (c : bool) = a",
-            ("inputs", 0, 35),
-        ),
-    ];
-    for (text, expected) in rows {
-        assert_eq!(rt; refusal(alloc, text)?, expected);
+    for (row, (text, expected)) in REFUSED.iter().enumerate() {
+        assert!(rt; refusal(rt.alloc(), text)? == *expected, "row {row}");
     }
     Ok(())
 }
@@ -123,12 +123,15 @@ fn brackets(alloc: Global, levels: usize) -> Result<Vec<u8>, Fail> {
     Ok(text)
 }
 
+// The refusal of a name in so many brackets.
+fn refusal_in(alloc: Global, levels: usize) -> Result<(&'static str, u32, u32), Fail> {
+    refusal(alloc, &brackets(alloc, levels)?)
+}
+
 // The body has level 1, so 99 brackets reach level 100, and the hundredth opens level 101.
 #[test]
 fn levels_end_at_100(rt: HostRuntime) -> Result<(), Fail> {
-    let alloc = rt.alloc();
-    for (levels, expected) in [(99, ("none", 0, 0)), (100, ("nesting", 0, 118))] {
-        assert_eq!(rt; refusal(alloc, &brackets(alloc, levels)?)?, expected);
-    }
+    assert!(rt; refusal_in(rt.alloc(), 99)? == ("none", 0, 0));
+    assert!(rt; refusal_in(rt.alloc(), 100)? == ("nesting", 0, 118));
     Ok(())
 }
