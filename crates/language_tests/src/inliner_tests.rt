@@ -4,7 +4,7 @@ ghost use Rattle.revs_terms.specs.Trees.{tree_of};
 ghost use Rattle.std.specs.Prelude.{[]};
 
 use inliner::unroll;
-use name_scope::scope;
+use name_scope::{Scoped, scope};
 use revc_base::{Entry, Place, Ref};
 use revs_terms::{Program, Term};
 use std::alloc::Global;
@@ -25,16 +25,18 @@ fn program(alloc: Global, body: Term) -> Program
     }
 }
 
+#[tactic(auto, using(revs_terms::proofs::ShapeLemmas::shapes))]
+fn scoped(alloc: Global) -> Result<Scoped, Fail> {
+    let program = program(alloc, Term::Bool(true, at(1)));
+    Ok(scope(alloc, program).ok().ok_or("refused")?)
+}
+
 // A constant is written, and is the output.
 #[test]
-#[tactic(auto, using(revs_terms::proofs::ShapeLemmas::shapes))]
 fn a_constant_is_a_write(rt: HostRuntime) -> Result<(), Fail> {
-    let alloc = rt.alloc();
-    let scoped = scope(alloc, program(alloc, Term::Bool(true, at(1))))
-        .ok()
-        .ok_or("refused")?;
-    let tape = unroll(alloc, &scoped).ok().ok_or("no tape")?;
-    assert_eq!(rt; tape.outputs(), [Ref::Write(0)].as_slice());
-    assert_eq!(rt; tape.entries(), [Entry::Const(true)].as_slice());
+    let scoped = scoped(rt.alloc())?;
+    let tape = unroll(rt.alloc(), &scoped).ok().ok_or("no tape")?;
+    assert!(rt; tape.outputs() == [Ref::Write(0)].as_slice());
+    assert!(rt; tape.entries() == [Entry::Const(true)].as_slice());
     Ok(())
 }
