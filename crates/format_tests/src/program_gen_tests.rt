@@ -3,19 +3,26 @@ use program_gen::{MOST_BITS, program_text};
 use std::test::Fail;
 
 // The adder of two bits, by hand: the place above 0 takes the carry of place 0.
+const TWO_BITS: &[u8] = b"main (a : bool[2]) (b : bool[2]) = {
+let carry x y c = (x && y) <> (c && (x <> y));
+let s0 = a.[0] <> b.[0];
+let c1 = a.[0] && b.[0];
+let s1 = a.[1] <> b.[1] <> c1;
+let c2 = carry a.[1] b.[1] c1;
+reg [s0; s1; c2]
+}
+";
+
 #[test]
 fn two_bits_are_added(rt: HostRuntime) -> Result<(), Fail> {
-    let text = program_text(rt.alloc(), 2)?;
-    let lines = b"main (a : bool[2]) (b : bool[2]) = {\n\
-        let carry x y c = (x && y) <> (c && (x <> y));\n\
-        let s0 = a.[0] <> b.[0];\n\
-        let c1 = a.[0] && b.[0];\n\
-        let s1 = a.[1] <> b.[1] <> c1;\n\
-        let c2 = carry a.[1] b.[1] c1;\n\
-        reg [s0; s1; c2]\n\
-        }\n";
-    assert_eq!(rt; text.as_slice(), lines.as_slice());
+    assert!(rt; program_text(rt.alloc(), 2)?.as_slice() == TWO_BITS);
     Ok(())
+}
+
+// The number of lines of a text, and whether it ends as the greatest adder does.
+fn measured(text: &[u8]) -> (usize, bool) {
+    let line_feeds = text.iter().filter(|byte| **byte == b'\n').count();
+    (line_feeds, text.ends_with(b"; s198; s199; c200]\n}\n"))
 }
 
 // The greatest adder, by its last lines and by how many there are: 4 for place 0, 2 for each other
@@ -23,8 +30,6 @@ fn two_bits_are_added(rt: HostRuntime) -> Result<(), Fail> {
 #[test]
 fn the_greatest_adder_is_written(rt: HostRuntime) -> Result<(), Fail> {
     let text = program_text(rt.alloc(), MOST_BITS)?;
-    let line_feeds = text.iter().filter(|byte| **byte == b'\n').count();
-    assert_eq!(rt; line_feeds, 4 + 2 * 199 + 2);
-    assert!(rt; text.ends_with(b"; s198; s199; c200]\n}\n"));
+    assert!(rt; measured(&text) == (4 + 2 * 199 + 2, true));
     Ok(())
 }

@@ -1,43 +1,52 @@
 // The tests of qasm_format.
-use gate_split::{Laid, split};
+ghost use Rattle.std.specs.Prelude.{◌≡◌, ◌≤◌, length, true, IfOk};
+
+use crate::real_format_tests::each_role;
+use gate_split::{Laid, Narrow, split};
 use mct_circuit::Circuit;
-use qasm_format::{QasmFault, read, write, write_lines};
-use revc_base::Place;
+use qasm_format::{QasmFault, Register, read, write, write_lines};
+use revc_base::{Memory, Place};
 use revc_io::MemorySink;
+use std::alloc::Global;
+use std::process::Abort;
 use std::test::Fail;
 
 const TEXT: &[u8] = b"OPENQASM 2.0;\ninclude \"qelib1.inc\";\nqreg inp[2];\nqreg outp[1];
 qreg work[1];\nqreg dirty[1];\nccx inp[0],dirty[0],work[0];\ncx work[0],outp[0];\nx inp[1];\n";
 
+// Whether this is the text of a plan.
+fn is_text(alloc: Global, laid: Laid, text: &[u8]) -> Result<bool, Fail>
+    requires some { 1 ≤ laid.circuit.lines }
+    requires few { laid.circuit.lines ≤ 9 }
+    requires gates { length laid.circuit.gates ≤ 9 }
+{
+    let mut sink = MemorySink::new(alloc, 1000, Vec::new(alloc), 50)?;
+    let is_whole = write(&laid, &mut sink).is_ok();
+    Ok(is_whole && sink.bytes() == text)
+}
+
 // A line of each role and a gate of each width.
 #[test]
 fn a_circuit_is_written(rt: HostRuntime) -> Result<(), Fail> {
-    let alloc = rt.alloc();
-    let mut circuit = Circuit::new(alloc, 5, 3);
-    circuit.push_flip(&[0, 4], 3)?;
-    circuit.push_flip(&[3], 2)?;
-    circuit.push_flip(&[], 1)?;
-    let mut sink = MemorySink::new(alloc, 1000, Vec::new(alloc), 50)?;
-    write(
-        &Laid::new(split(alloc, &circuit, 5, 3)?, 2, 1, 1, 1),
-        &mut sink,
-    )?;
-    assert_eq!(rt; sink.bytes(), TEXT);
+    assert!(rt; is_text(rt.alloc(), each_role(rt.alloc())?, TEXT)?);
     Ok(())
 }
 
 // Registers without lines are left out.
 const NARROW: &[u8] = b"OPENQASM 2.0;\ninclude \"qelib1.inc\";\nqreg outp[1];\nx outp[0];\n";
 
+fn one_line(alloc: Global) -> Result<Laid, Fail>
+    ensures lines { IfOk result (λ laid. laid.circuit.lines ≡ 1) }
+    ensures gates { IfOk result (λ laid. length laid.circuit.gates ≤ 9) }
+{
+    let mut circuit = Circuit::new(alloc, 1, 9);
+    circuit.push_flip(&[], 0)?;
+    Ok(Laid::new(split(alloc, &circuit, 1, 9)?, 0, 1, 0, 0))
+}
+
 #[test]
 fn empty_registers_are_left_out(rt: HostRuntime) -> Result<(), Fail> {
-    let alloc = rt.alloc();
-    let mut circuit = Circuit::new(alloc, 1, 10);
-    circuit.push_flip(&[], 0)?;
-    let laid = Laid::new(split(alloc, &circuit, 1, 10)?, 0, 1, 0, 0);
-    let mut sink = MemorySink::new(alloc, 1000, Vec::new(alloc), 7)?;
-    write(&laid, &mut sink)?;
-    assert_eq!(rt; sink.bytes(), NARROW);
+    assert!(rt; is_text(rt.alloc(), one_line(rt.alloc())?, NARROW)?);
     Ok(())
 }
 
@@ -49,19 +58,40 @@ ccx q[2],dirty[0],q[3];\nccx q[0],q[1],dirty[0];\n";
 
 const KEPT: &[u8] = b"OPENQASM 2.0;\ninclude \"qelib1.inc\";\nqreg q[2];\ncx q[0],q[1];\n";
 
+// A flip of the last line by all others, split beside an added line.
+fn wide(alloc: Global) -> Result<Narrow, Fail>
+    ensures lines { IfOk result (λ narrow. narrow.lines ≡ 5) }
+    ensures gates { IfOk result (λ narrow. length narrow.gates ≤ 9) }
+{
+    let mut circuit = Circuit::new(alloc, 4, 9);
+    circuit.push_flip(&[0, 1, 2], 3)?;
+    Ok(split(alloc, &circuit, 5, 9)?)
+}
+
+fn short(alloc: Global) -> Result<Narrow, Fail>
+    ensures lines { IfOk result (λ narrow. narrow.lines ≡ 2) }
+    ensures gates { IfOk result (λ narrow. length narrow.gates ≤ 9) }
+{
+    let mut circuit = Circuit::new(alloc, 2, 9);
+    circuit.push_flip(&[0], 1)?;
+    Ok(split(alloc, &circuit, 2, 9)?)
+}
+
+// Whether this is the text of a circuit, whose last line may be an added one.
+fn is_listing(alloc: Global, narrow: Narrow, added: bool, text: &[u8]) -> Result<bool, Fail>
+    requires some { 2 ≤ narrow.lines }
+    requires few { narrow.lines ≤ 9 }
+    requires gates { length narrow.gates ≤ 9 }
+{
+    let mut sink = MemorySink::new(alloc, 1000, Vec::new(alloc), 7)?;
+    let is_whole = write_lines(&narrow, added, &mut sink).is_ok();
+    Ok(is_whole && sink.bytes() == text)
+}
+
 #[test]
 fn numbered_lines_are_written(rt: HostRuntime) -> Result<(), Fail> {
-    let alloc = rt.alloc();
-    let mut wide = Circuit::new(alloc, 4, 10);
-    wide.push_flip(&[0, 1, 2], 3)?;
-    let mut sink = MemorySink::new(alloc, 1000, Vec::new(alloc), 7)?;
-    write_lines(&split(alloc, &wide, 5, 10)?, true, &mut sink)?;
-    assert_eq!(rt; sink.bytes(), ADDED);
-    let mut short = Circuit::new(alloc, 2, 10);
-    short.push_flip(&[0], 1)?;
-    let mut sink = MemorySink::new(alloc, 1000, Vec::new(alloc), 7)?;
-    write_lines(&split(alloc, &short, 2, 10)?, false, &mut sink)?;
-    assert_eq!(rt; sink.bytes(), KEPT);
+    assert!(rt; is_listing(rt.alloc(), wide(rt.alloc())?, true, ADDED)?);
+    assert!(rt; is_listing(rt.alloc(), short(rt.alloc())?, false, KEPT)?);
     Ok(())
 }
 
@@ -71,30 +101,42 @@ const PART: &[u8] =
     b"OPENQASM 2.0; // part\r\nqreg a[2];\ncreg m[100000];CX a[0],a[1];\ninclude\t\"qelib1.inc\";
 qreg b[02];\nbarrier a,a[0] , b;cx a,b;\nccx a[0],b[1],b[0];x a;//";
 
+const REGISTERS: &[(&[u8], u32)] = &[(b"a", 2), (b"b", 2)];
+
+fn assert_registers(rt: &impl Abort, registers: &[Register]) {
+    for (register, (name, size)) in registers.iter().zip(REGISTERS) {
+        assert!(rt; register.name.bytes() == *name && register.size == *size);
+    }
+}
+
+const RUNS: &[([bool; 4], [bool; 4])] = &[
+    ([true, false, false, false], [false, false, false, true]),
+    ([false, true, true, true], [true, false, true, false]),
+];
+
+fn assert_runs(rt: &impl Abort, circuit: &Circuit) {
+    assert!(rt; circuit.lines() == 4);
+    for (bits, last) in RUNS {
+        let mut lines = *bits;
+        circuit.apply(&mut lines);
+        assert!(rt; lines == *last);
+    }
+}
+
 #[test]
 fn a_file_is_read(rt: HostRuntime) -> Result<(), Fail> {
-    let alloc = rt.alloc();
-    let file = read(alloc, PART)?;
-    for (register, letter) in file.registers().iter().zip(b"ab") {
-        assert_eq!(rt; register.name.bytes(), [*letter].as_slice());
-        assert_eq!(rt; register.size, 2);
-    }
-    assert_eq!(rt; file.circuit().lines(), 4);
-    assert_eq!(rt; file.circuit().len(), 6);
-    for (bits, last) in [
-        ([true, false, false, false], [false, false, false, true]),
-        ([false, true, true, true], [true, false, true, false]),
-    ] {
-        let mut lines = bits;
-        file.circuit().apply(&mut lines);
-        assert_eq!(rt; lines.as_slice(), last.as_slice());
-    }
+    let file = read(rt.alloc(), PART)?;
+    assert_registers(&rt, file.registers());
+    assert_runs(&rt, file.circuit());
+    assert!(rt; file.circuit().len() == 6);
     Ok(())
 }
 
+type BadText = (&'static [u8], u32, bool);
+
 // A text for each rule of the format, with the column of its first bad token behind the head and
 // the include, and whether that token passes a limit: by hand, from docs/FORMATS.md.
-const BAD_TEXTS: [(&[u8], u32, bool); 40] = [
+const BAD_TEXTS: &[BadText] = &[
     (b"", 1, false),
     (b"qreg q[1]; $", 12, false),
     (b"qreg q[1]; /", 12, false),
@@ -145,29 +187,43 @@ const BAD_TEXTS: [(&[u8], u32, bool); 40] = [
     (b"qreg q[1]; X q;", 12, false),
 ];
 
-#[test]
-fn the_first_bad_token_is_named(rt: HostRuntime) -> Result<(), Fail> {
-    let alloc = rt.alloc();
-    for (body, column, limit) in &BAD_TEXTS {
-        let mut text = Vec::from_slice(alloc, b"OPENQASM 2.0;\ninclude \"qelib1.inc\";\n")?;
-        text.extend_from_slice(body)?;
+// The place of the first bad token of a text, and whether that passes a limit.
+fn refusal(alloc: Global, text: &[u8]) -> Option<(Place, bool)>
+    requires { length text.now ≤ 1000 }
+{
+    match read(alloc, text) {
+        Err(QasmFault::Token { at }) => Some((at, false)),
+        Err(QasmFault::Limit { at }) => Some((at, true)),
+        Ok(_) | Err(QasmFault::Memory) => None,
+    }
+}
+
+// The same of a text of three lines, of which this is the last.
+fn refusal_behind_include(alloc: Global, body: &[u8]) -> Result<Option<(Place, bool)>, Memory> {
+    let mut text = Vec::from_slice(alloc, b"OPENQASM 2.0;\ninclude \"qelib1.inc\";\n")?;
+    text.extend_from_slice(body)?;
+    Ok(refusal(alloc, &text[..text.len().min(1000)]))
+}
+
+fn assert_refused(rt: &impl Abort, alloc: Global, rows: &[BadText]) -> Result<(), Memory> {
+    for (row, (body, column, is_limit)) in rows.iter().enumerate() {
         let at = Place {
             line: 3,
             column: *column,
         };
-        let fault = if *limit {
-            QasmFault::Limit { at }
-        } else {
-            QasmFault::Token { at }
-        };
-        let text = &text[..text.len().min(1000)];
-        assert_eq!(rt; read(alloc, text).err(), Some(fault));
+        let refused = refusal_behind_include(alloc, body)?;
+        assert!(rt; refused == Some((at, *is_limit)), "row {row}");
     }
     Ok(())
 }
 
+#[test]
+fn the_first_bad_token_is_named(rt: HostRuntime) -> Result<(), Fail> {
+    Ok(assert_refused(&rt, rt.alloc(), BAD_TEXTS)?)
+}
+
 // Texts that are refused before the include.
-const BAD_HEADS: [(&[u8], u32); 6] = [
+const BAD_HEADS: &[(&[u8], u32)] = &[
     (b"", 1),
     (b"OPENQASM2.0;", 1),
     (b"OPENQASM 2.01;", 13),
@@ -177,25 +233,26 @@ const BAD_HEADS: [(&[u8], u32); 6] = [
 ];
 
 #[test]
-fn bad_heads_are_named(rt: HostRuntime) -> Result<(), Fail> {
-    let alloc = rt.alloc();
-    for (text, column) in &BAD_HEADS {
+fn bad_heads_are_named(rt: HostRuntime) {
+    for (text, column) in BAD_HEADS {
         let at = Place {
             line: 1,
             column: *column,
         };
-        assert_eq!(rt; read(alloc, text).err(), Some(QasmFault::Token { at }));
+        assert!(rt; text.len() <= 1000);
+        assert!(rt;
+            refusal(rt.alloc(), text) == Some((at, false)),
+            "at {column}"
+        );
     }
-    Ok(())
 }
 
-// What is written is read.
+// What is written is read: how many registers, lines and gates the file has.
 #[test]
 fn a_compiled_file_is_read(rt: HostRuntime) -> Result<(), Fail> {
-    let alloc = rt.alloc();
-    let file = read(alloc, TEXT)?;
-    assert_eq!(rt; file.registers().len(), 4);
-    assert_eq!(rt; file.circuit().lines(), 5);
-    assert_eq!(rt; file.circuit().len(), 3);
+    let file = read(rt.alloc(), TEXT)?;
+    let circuit = file.circuit();
+    let sizes = (file.registers().len(), circuit.lines(), circuit.len());
+    assert!(rt; sizes == (4, 5, 3));
     Ok(())
 }

@@ -1,29 +1,52 @@
 // The tests of real_format.
-use gate_split::{Laid, split};
-use mct_circuit::Circuit;
+ghost use Rattle.std.specs.Prelude.{◌≡◌, ◌≤◌, length, IfOk};
+
+use gate_split::{Laid, Narrow, split};
+use mct_circuit::{Circuit, GateFault};
 use real_format::{Mark, RealFault, read, write, write_lines};
+use revc_base::Text;
 use revc_io::MemorySink;
+use std::alloc::Global;
+use std::process::Abort;
 use std::test::Fail;
 
 const TEXT: &[u8] = b".version 2.0\n.numvars 5\n.variables x0 x1 y0 w0 b0\n.inputs x0 x1 y0 w0 b0
 .outputs x0 x1 y0 w0 b0\n.constants --00-\n.garbage -----\n.begin
 t3 x0 b0 w0\nt2 w0 y0\nt1 x1\n.end\n";
 
-// A line of each role and a gate of each width; then with room for a part of the text.
-#[test]
-fn a_circuit_is_written(rt: HostRuntime) -> Result<(), Fail> {
-    let alloc = rt.alloc();
-    let mut circuit = Circuit::new(alloc, 5, 10);
+fn push_each_width(circuit: &mut Circuit) -> Result<(), GateFault>
+    requires { circuit.old.lines ≡ 5 }
+    ensures { circuit.new.lines ≡ 5 }
+{
     circuit.push_flip(&[0, 4], 3)?;
     circuit.push_flip(&[3], 2)?;
-    circuit.push_flip(&[], 1)?;
-    let laid = Laid::new(split(alloc, &circuit, 5, 10)?, 2, 1, 1, 1);
-    for (room, written) in [(1000, true), (100, false)] {
-        let mut sink = MemorySink::new(alloc, room, Vec::new(alloc), 7)?;
-        assert_eq!(rt; write(&laid, &mut sink).is_ok(), written);
-        let held = &TEXT[..TEXT.len().min(room)];
-        assert_eq!(rt; sink.bytes(), held);
-    }
+    circuit.push_flip(&[], 1)
+}
+
+// A line of each role and a gate of each width.
+pub fn each_role(alloc: Global) -> Result<Laid, Fail>
+    ensures lines { IfOk result (λ laid. laid.circuit.lines ≡ 5) }
+    ensures gates { IfOk result (λ laid. length laid.circuit.gates ≤ 3) }
+{
+    let mut circuit = Circuit::new(alloc, 5, 3);
+    push_each_width(&mut circuit)?;
+    Ok(Laid::new(split(alloc, &circuit, 5, 3)?, 2, 1, 1, 1))
+}
+
+// Whether a sink with this room takes the whole text, or else what fits.
+fn is_written(alloc: Global, laid: Laid, room: usize, whole: bool) -> Result<bool, Fail>
+    requires lines { laid.circuit.lines ≡ 5 }
+    requires gates { length laid.circuit.gates ≤ 3 }
+{
+    let mut sink = MemorySink::new(alloc, room, Vec::new(alloc), 7)?;
+    let is_whole = write(&laid, &mut sink).is_ok();
+    Ok(is_whole == whole && sink.bytes() == &TEXT[..TEXT.len().min(room)])
+}
+
+#[test]
+fn a_circuit_is_written(rt: HostRuntime) -> Result<(), Fail> {
+    assert!(rt; is_written(rt.alloc(), each_role(rt.alloc())?, 1000, true)?);
+    assert!(rt; is_written(rt.alloc(), each_role(rt.alloc())?, 100, false)?);
     Ok(())
 }
 
@@ -31,18 +54,36 @@ const LINES: &[u8] =
     b".version 2.0\n.numvars 3\n.variables l0 l1 l2\n.inputs l0 l1 l2\n.outputs l0 l1 l2
 .constants 0-1\n.garbage 1--\n.begin\nt3 l0 l2 l1\nt1 l0\n.end\n";
 
+fn push_two(circuit: &mut Circuit) -> Result<(), GateFault>
+    requires { circuit.old.lines ≡ 3 }
+    ensures { circuit.new.lines ≡ 3 }
+{
+    circuit.push_flip(&[0, 2], 1)?;
+    circuit.push_flip(&[], 0)
+}
+
+fn three_lines(alloc: Global) -> Result<Narrow, Fail>
+    ensures lines { IfOk result (λ narrow. narrow.lines ≡ 3) }
+    ensures gates { IfOk result (λ narrow. length narrow.gates ≤ 10) }
+{
+    let mut circuit = Circuit::new(alloc, 3, 10);
+    push_two(&mut circuit)?;
+    Ok(split(alloc, &circuit, 3, 10)?)
+}
+
+fn write_each_mark(alloc: Global, sink: &mut MemorySink) -> Result<(), Fail> {
+    let marks = [Mark::Zero, Mark::Free, Mark::One];
+    let narrow = three_lines(alloc)?;
+    Ok(write_lines(&narrow, &marks, &[true, false, false], sink)?)
+}
+
 // A line of each mark; the text by hand.
 #[test]
 fn lines_of_any_marks_are_written(rt: HostRuntime) -> Result<(), Fail> {
     let alloc = rt.alloc();
-    let mut circuit = Circuit::new(alloc, 3, 10);
-    circuit.push_flip(&[0, 2], 1)?;
-    circuit.push_flip(&[], 0)?;
-    let narrow = split(alloc, &circuit, 3, 10)?;
-    let marks = [Mark::Zero, Mark::Free, Mark::One];
     let mut sink = MemorySink::new(alloc, 1000, Vec::new(alloc), 7)?;
-    write_lines(&narrow, &marks, &[true, false, false], &mut sink)?;
-    assert_eq!(rt; sink.bytes(), LINES);
+    write_each_mark(alloc, &mut sink)?;
+    assert!(rt; sink.bytes() == LINES);
     Ok(())
 }
 
@@ -53,34 +94,48 @@ const PART: &[u8] = b"# full adder part\r\n.version 1.0\r\n.numvars 4\r\n.variab
 .constants ---0 # d\r\n.garbage 11--\r\n.begin\r
 t3 a b d\r\nf3 -a b c\r\nt2 c d\r\n.end\r\n#\r\n";
 
+const CONSTANTS: &[Mark] = &[Mark::Free, Mark::Free, Mark::Free, Mark::Zero];
+
+const GARBAGE: &[bool] = &[true, true, false, false];
+
+const NAMES: &[&[u8]] = &[b"a", b"b", b"c", b"d"];
+
+fn assert_names(rt: &impl Abort, names: &[Text]) {
+    for (text, name) in names.iter().zip(NAMES) {
+        assert!(rt; text.bytes() == *name);
+    }
+}
+
+const RUNS: &[([bool; 4], [bool; 2])] = &[
+    ([true, true, false, false], [false, true]),
+    ([false, true, false, false], [true, true]),
+    ([false, false, true, false], [false, false]),
+    ([false, true, true, false], [true, true]),
+];
+
+fn assert_runs(rt: &impl Abort, circuit: &Circuit) {
+    assert!(rt; circuit.lines() == 4);
+    for (bits, last) in RUNS {
+        let mut lines = *bits;
+        circuit.apply(&mut lines);
+        assert!(rt; &lines[2..] == last.as_slice());
+    }
+}
+
 #[test]
 fn a_file_is_read(rt: HostRuntime) -> Result<(), Fail> {
-    let alloc = rt.alloc();
-    let file = read(alloc, PART)?;
-    for (name, letter) in file.names().iter().zip(b"abcd") {
-        assert_eq!(rt; name.bytes(), [*letter].as_slice());
-    }
-    let constants = [Mark::Free, Mark::Free, Mark::Free, Mark::Zero];
-    assert_eq!(rt; file.constants(), constants.as_slice());
-    assert_eq!(rt; file.garbage(), [true, true, false, false].as_slice());
-    let circuit = file.circuit();
-    assert_eq!(rt; circuit.lines(), 4);
-    for (bits, last) in [
-        ([true, true, false, false], [false, true]),
-        ([false, true, false, false], [true, true]),
-        ([false, false, true, false], [false, false]),
-        ([false, true, true, false], [true, true]),
-    ] {
-        let mut lines = bits;
-        circuit.apply(&mut lines);
-        assert_eq!(rt; &lines[2..], last.as_slice());
-    }
+    let file = read(rt.alloc(), PART)?;
+    assert_names(&rt, file.names());
+    assert!(rt; file.constants() == CONSTANTS && file.garbage() == GARBAGE);
+    assert_runs(&rt, file.circuit());
     Ok(())
 }
 
+type BadText = (&'static [u8], u32, bool);
+
 // A text for each rule of the format, with its first bad line, and whether that passes a limit: by
 // hand, from docs/FORMATS.md.
-const BAD_TEXTS: [(&[u8], u32, bool); 52] = [
+const BAD_TEXTS: &[BadText] = &[
     (b"", 1, false),
     (b".version 3.0\n", 1, false),
     (b".version 1.0 x\n", 1, false),
@@ -173,17 +228,28 @@ const BAD_TEXTS: [(&[u8], u32, bool); 52] = [
     ),
 ];
 
-#[test]
-fn bad_lines_are_named(rt: HostRuntime) -> Result<(), Fail> {
-    let alloc = rt.alloc();
-    for (text, number, is_limit) in BAD_TEXTS {
-        assert!(rt; text.len() < 1_000);
-        let fault = if is_limit {
-            RealFault::Limit { number }
-        } else {
-            RealFault::Line { number }
-        };
-        assert_eq!(rt; read(alloc, text).err(), Some(fault));
+// The number of the first bad line of a text, and whether that passes a limit.
+fn refusal(alloc: Global, text: &[u8]) -> Option<(u32, bool)>
+    requires { length text.now ≤ 1000 }
+{
+    match read(alloc, text) {
+        Err(RealFault::Line { number }) => Some((number, false)),
+        Err(RealFault::Limit { number }) => Some((number, true)),
+        Ok(_) | Err(RealFault::Memory) => None,
     }
-    Ok(())
+}
+
+fn assert_refused(rt: &impl Abort, alloc: Global, rows: &[BadText]) {
+    for (row, (text, number, is_limit)) in rows.iter().enumerate() {
+        assert!(rt; text.len() <= 1000);
+        assert!(rt;
+            refusal(alloc, text) == Some((*number, *is_limit)),
+            "row {row}"
+        );
+    }
+}
+
+#[test]
+fn bad_lines_are_named(rt: HostRuntime) {
+    assert_refused(&rt, rt.alloc(), BAD_TEXTS);
 }

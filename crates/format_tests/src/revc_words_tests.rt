@@ -1,7 +1,9 @@
 // The tests of revc_words.
 use gate_split::How;
-use revc_words::{Command, Format, WordsFault, read_words};
-use std::alloc::{AllocError, Global};
+use revc_base::Memory;
+use revc_words::{Command, Format, Order, WordsFault, read_words};
+use std::alloc::Global;
+use std::process::Abort;
 use std::test::Fail;
 
 // What words ask for.
@@ -154,7 +156,7 @@ const NO_ORDERS: &[&[&str]] = &[
     &["bench"],
 ];
 
-fn strings(alloc: Global, words: &[&str]) -> Result<Vec<String>, AllocError> {
+fn strings(alloc: Global, words: &[&str]) -> Result<Vec<String>, Memory> {
     let mut strings = Vec::new(alloc);
     for word in words {
         strings.push(String::from_str(alloc, word)?)?;
@@ -162,30 +164,39 @@ fn strings(alloc: Global, words: &[&str]) -> Result<Vec<String>, AllocError> {
     Ok(strings)
 }
 
+fn order_of(alloc: Global, words: &[&str]) -> Result<Order, WordsFault> {
+    read_words(alloc, &strings(alloc, words)?)
+}
+
+fn are_same(bits: &[String], words: &[&str]) -> bool {
+    bits.len() == words.len()
+        && bits
+            .iter()
+            .zip(words)
+            .all(|(bit, word)| bit.as_str() == *word)
+}
+
+fn assert_asked(rt: &impl Abort, order: &Order, asked: &Asked) {
+    assert!(rt; order.command == asked.command && order.plan == asked.plan);
+    assert!(rt; order.lines == asked.lines && order.gates == asked.gates);
+    assert!(rt; order.borrow == asked.borrow && order.nodes == asked.nodes);
+    assert!(rt; order.format == asked.format && order.number == asked.number);
+    assert!(rt; order.from == asked.from && order.to == asked.to);
+    assert!(rt; are_same(&order.bits, asked.bits));
+}
+
 #[test]
 fn words_are_read(rt: HostRuntime) -> Result<(), Fail> {
-    let alloc = rt.alloc();
     for (words, asked) in ORDERS {
-        let order = read_words(alloc, &strings(alloc, words)?)?;
-        assert!(rt; order.command == asked.command && order.plan == asked.plan);
-        assert!(rt; order.format == asked.format);
-        assert!(rt; order.from == asked.from && order.to == asked.to);
-        assert_eq!(rt; order.lines, asked.lines);
-        assert_eq!(rt; order.gates, asked.gates);
-        assert_eq!(rt; order.borrow, asked.borrow);
-        assert_eq!(rt; order.nodes, asked.nodes);
-        assert_eq!(rt; order.number, asked.number);
-        assert_eq!(rt; order.bits, strings(alloc, asked.bits)?);
+        assert_asked(&rt, &order_of(rt.alloc(), words)?, asked);
     }
     Ok(())
 }
 
 #[test]
-fn other_words_are_no_order(rt: HostRuntime) -> Result<(), Fail> {
-    let alloc = rt.alloc();
-    for words in NO_ORDERS {
-        let order = read_words(alloc, &strings(alloc, words)?);
-        assert!(rt; matches!(order, Err(WordsFault::Usage)));
+fn other_words_are_no_order(rt: HostRuntime) {
+    for (row, words) in NO_ORDERS.iter().enumerate() {
+        let order = order_of(rt.alloc(), words);
+        assert!(rt; matches!(order, Err(WordsFault::Usage)), "row {row}");
     }
-    Ok(())
 }
