@@ -1,42 +1,58 @@
 // The tests of bennett_pebbling.
-ghost use Rattle.std.specs.Prelude.{◌≡◌, sum, IfOk};
+ghost use Rattle.std.specs.Prelude.{◌≡◌, ◌≤◌, sum, [], IfOk, OnOk};
 ghost use Rattle.revc_base.specs.Measures.{writes_of};
 
+use crate::eager_cleanup_tests::settled;
 use bennett_pebbling::plan;
-use claim_check::settle;
-use dependency_graph::Graph;
+use claim_check::Settled;
 use gate_split::Budget;
 use revc_base::{Entry, Memory, Ref, Tape};
 use std::alloc::Global;
 use std::test::Fail;
 
-// Four nodes of two inputs, each made of the one before; the last is the output.
-fn chain(alloc: Global) -> Result<Tape, Memory>
-    ensures inputs { IfOk result (λ tape. sum tape.params ≡ 2) }
-    ensures writes { IfOk result (λ tape. writes_of tape ≡ 4) }
+// Four writes of two inputs, each made of the one before.
+fn push_chain(tape: &mut Tape) -> Result<(), Memory>
+    requires inputs { sum tape.old.params ≡ 2 }
+    requires empty { tape.old.entries ≡ [] }
+    ensures params { tape.new.params ≡ tape.old.params }
+    ensures writes { OnOk result (writes_of tape.new ≡ 4) }
 {
     let (x, y) = (Ref::Input(0), Ref::Input(1));
-    let mut tape = Tape::new(alloc, vec![in alloc; 2]?);
     tape.push(Entry::And(x, y))?;
     tape.push(Entry::Xor(Ref::Write(0), x))?;
     tape.push(Entry::And(Ref::Write(1), y))?;
     tape.push(Entry::Xor(Ref::Write(2), x))?;
+    Ok(())
+}
+
+// The last write is the output.
+fn chain(alloc: Global) -> Result<Tape, Memory> {
+    let mut tape = Tape::new(alloc, vec![in alloc; 2]?);
+    push_chain(&mut tape)?;
     tape.set_outputs(vec![in alloc; Ref::Write(3)]?);
     Ok(tape)
 }
 
-// The lines and gates of the plan by the size of a block: at one node the first node is cleaned and
-// its line is used again.
+// The lines and gates of the plan with blocks of this size.
+fn sizes(alloc: Global, graph: &Settled, block: u32) -> Result<(u32, u64), Fail>
+    requires { 1 ≤ block }
+{
+    let planned = plan(alloc, graph, block, &Budget::new(7, 15, 0))?;
+    Ok((planned.circuit().lines(), planned.circuit().len()))
+}
+
+fn all_sizes(alloc: Global, graph: &Settled) -> Result<[(u32, u64); 3], Fail> {
+    Ok([
+        sizes(alloc, graph, 1)?,
+        sizes(alloc, graph, 2)?,
+        sizes(alloc, graph, 4)?,
+    ])
+}
+
+// At blocks of one node the first node is cleaned and its line is used again.
 #[test]
 fn chain_is_pebbled(rt: HostRuntime) -> Result<(), Fail> {
-    let alloc = rt.alloc();
-    let tape = chain(alloc)?;
-    let settled = settle(Graph::of(&tape)?, &tape, 1)?;
-    let budget = Budget::new(7, 15, 0);
-    for (block, lines, gates) in [(1, 6, 15), (2, 6, 15), (4, 7, 13)] {
-        let planned = plan(alloc, &settled, block, &budget)?;
-        assert_eq!(rt; planned.circuit().lines(), lines, "lines at {block}");
-        assert_eq!(rt; planned.circuit().len(), gates, "gates at {block}");
-    }
+    let graph = settled(chain(rt.alloc())?)?;
+    assert!(rt; all_sizes(rt.alloc(), &graph)? == [(6, 15), (6, 15), (7, 13)]);
     Ok(())
 }
