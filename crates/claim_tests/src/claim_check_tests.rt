@@ -1,11 +1,12 @@
 // The tests of claim_check.
-ghost use Rattle.std.specs.Prelude.{IsTrue};
+ghost use Rattle.std.specs.Prelude.{IsTrue, ◌≤◌};
 ghost use Rattle.revc_base.specs.Tapes.{IsKnown, IsKnownEntry};
 
-use claim_check::{ClaimFault, settle};
+use claim_check::{ClaimFault, Settled, settle};
 use dependency_graph::{Base, Graph, Node, Sig};
 use revc_base::limits::{MOST_CLAIMS, MOST_WRITES};
-use revc_base::{Claim, Entry, Kind, Place, Ref, Tape};
+use revc_base::{Claim, Entry, Kind, Memory, Place, Ref, Tape};
+use std::alloc::Global;
 use std::process::Abort;
 use std::test::Fail;
 
@@ -61,71 +62,97 @@ pub fn fill(
     Ok(())
 }
 
-// The claims of the tape end so under each of these limits.
-fn expect(rt: &impl Abort, tape: &Tape, rows: &[(u32, Outcome)]) -> Result<(), Fail> {
-    for (limit, outcome) in rows {
-        let graph = Graph::of(tape)?;
-        assert!(rt; *limit > 0);
-        match (settle(graph, tape, *limit), outcome) {
-            (Ok(_), Outcome::Hold) => {}
-            (Err(ClaimFault::Broken { claim, input }), Outcome::Breaks(number, bits)) => {
-                assert!(rt; claim == *number, "within {limit}");
-                assert!(rt; input.bits() == *bits, "within {limit}");
-            }
-            (Err(ClaimFault::Diagram { claim, nodes }), Outcome::Passes(number)) => {
-                assert!(rt; claim == *number, "within {limit}");
-                assert!(rt; nodes == *limit);
-            }
-            _ => assert!(rt; false, "within {limit}"),
+fn is_outcome(fault: &ClaimFault, limit: u32, outcome: &Outcome) -> bool {
+    match (fault, outcome) {
+        (ClaimFault::Broken { claim, input }, Outcome::Breaks(number, bits)) => {
+            claim == number && input.bits() == *bits
         }
+        (ClaimFault::Diagram { claim, nodes }, Outcome::Passes(number)) => {
+            claim == number && *nodes == limit
+        }
+        _ => false,
+    }
+}
+
+// Whether the claims of a tape end so within a limit.
+fn ends(tape: &Tape, limit: u32, outcome: &Outcome) -> Result<bool, Memory>
+    requires { 1 ≤ limit }
+{
+    Ok(match settle(Graph::of(tape)?, tape, limit) {
+        Ok(_) => matches!(outcome, Outcome::Hold),
+        Err(fault) => is_outcome(&fault, limit, outcome),
+    })
+}
+
+// The claims of the tape end so under each of these limits.
+fn expect(rt: &impl Abort, tape: &Tape, rows: &[(u32, Outcome)]) -> Result<(), Memory> {
+    for (limit, outcome) in rows {
+        assert!(rt; *limit > 0);
+        assert!(rt; ends(tape, *limit, outcome)?, "within {limit}");
     }
     Ok(())
 }
 
+// The claims of these writes end so.
+fn settles(
+    rt: &impl Abort,
+    mut tape: Tape,
+    entries: &[Entry],
+    claims: &[(Kind, Ref)],
+    rows: &[(u32, Outcome)],
+) -> Result<(), Fail> {
+    fill(rt, &mut tape, entries, claims)?;
+    Ok(expect(rt, &tape, rows)?)
+}
+
+const BOTH: &[Entry] = &[Entry::And(Ref::Input(0), Ref::Input(1))];
+
 // The conjunction of two bits has three functions: itself and the two bits.
+const BOTH_ROWS: &[(u32, Outcome)] = &[
+    (2, Outcome::Passes(0)),
+    (3, Outcome::Breaks(0, &[true, true])),
+];
+
 #[test]
 fn a_conjunction_is_not_clean(rt: HostRuntime) -> Result<(), Fail> {
-    let alloc = rt.alloc();
-    let mut tape = Tape::new(alloc, vec![in alloc; 1, 1]?);
-    let both = Entry::And(Ref::Input(0), Ref::Input(1));
-    fill(&rt, &mut tape, &[both], &[(Kind::Clean, Ref::Write(0))])?;
-    expect(
-        &rt,
-        &tape,
-        &[
-            (2, Outcome::Passes(0)),
-            (3, Outcome::Breaks(0, &[true, true])),
-        ],
-    )
+    let tape = Tape::new(rt.alloc(), vec![in rt.alloc(); 1, 1]?);
+    settles(&rt, tape, BOTH, &[(Kind::Clean, Ref::Write(0))], BOTH_ROWS)
 }
+
+const SECOND_PLACE: &[Entry] = &[
+    Entry::Xor(Ref::Input(0), Ref::Input(1)),
+    Entry::And(Ref::Write(0), Ref::Input(2)),
+    Entry::Const(true),
+];
+
+const SECOND_PLACE_CLAIMS: &[(Kind, Ref)] = &[
+    (Kind::Assert, Ref::Write(2)),
+    (Kind::Clean, Ref::Write(0)),
+];
 
 // A register of two places and a bit: the variables are the inputs 0, 2 and 1, so the least input
 // that breaks the second claim has the second place of the register. Constants need no node.
+const SECOND_PLACE_ROWS: &[(u32, Outcome)] = &[
+    (1, Outcome::Passes(1)),
+    (3, Outcome::Passes(1)),
+    (4, Outcome::Breaks(1, &[false, true, false])),
+];
+
 #[test]
 fn the_bit_comes_before_the_second_place(rt: HostRuntime) -> Result<(), Fail> {
-    let alloc = rt.alloc();
-    let mut tape = Tape::new(alloc, vec![in alloc; 2, 1]?);
-    let entries = [
-        Entry::Xor(Ref::Input(0), Ref::Input(1)),
-        Entry::And(Ref::Write(0), Ref::Input(2)),
-        Entry::Const(true),
-    ];
-    let claims = [(Kind::Assert, Ref::Write(2)), (Kind::Clean, Ref::Write(0))];
-    fill(&rt, &mut tape, &entries, &claims)?;
-    expect(
+    let tape = Tape::new(rt.alloc(), vec![in rt.alloc(); 2, 1]?);
+    settles(
         &rt,
-        &tape,
-        &[
-            (1, Outcome::Passes(1)),
-            (3, Outcome::Passes(1)),
-            (4, Outcome::Breaks(1, &[false, true, false])),
-        ],
+        tape,
+        SECOND_PLACE,
+        SECOND_PLACE_CLAIMS,
+        SECOND_PLACE_ROWS,
     )
 }
 
 // The carry of a full adder in two forms, whose difference is clean, and two writes on which no
 // claim rests.
-const CARRY: [Entry; 11] = [
+const CARRY: &[Entry] = &[
     Entry::Xor(Ref::Input(0), Ref::Input(1)),
     Entry::And(Ref::Write(0), Ref::Input(2)),
     Entry::And(Ref::Input(0), Ref::Input(1)),
@@ -139,69 +166,70 @@ const CARRY: [Entry; 11] = [
     Entry::Xor(Ref::Write(9), Ref::Input(2)),
 ];
 
+const CARRY_ROWS: &[(u32, Outcome)] = &[(11, Outcome::Passes(0)), (12, Outcome::Hold)];
+
 #[test]
 fn two_carries_are_one(rt: HostRuntime) -> Result<(), Fail> {
-    let alloc = rt.alloc();
-    let mut tape = Tape::new(alloc, vec![in alloc; 1, 1, 1]?);
-    fill(&rt, &mut tape, &CARRY, &[(Kind::Clean, Ref::Write(8))])?;
-    expect(&rt, &tape, &[(11, Outcome::Passes(0)), (12, Outcome::Hold)])
+    let tape = Tape::new(rt.alloc(), vec![in rt.alloc(); 1, 1, 1]?);
+    settles(
+        &rt,
+        tape,
+        CARRY,
+        &[(Kind::Clean, Ref::Write(8))],
+        CARRY_ROWS,
+    )
 }
 
 // The claim on the third input is the first that breaks; a later one breaks on an earlier input.
+const FIRST_CLAIMS: &[(Kind, Ref)] = &[
+    (Kind::Clean, Ref::Write(8)),
+    (Kind::Clean, Ref::Input(2)),
+    (Kind::Assert, Ref::Write(3)),
+];
+
+const FIRST_ROWS: &[(u32, Outcome)] = &[
+    (11, Outcome::Passes(0)),
+    (12, Outcome::Breaks(1, &[false, false, true])),
+];
+
 #[test]
 fn the_first_claim_that_breaks_is_named(rt: HostRuntime) -> Result<(), Fail> {
-    let alloc = rt.alloc();
-    let mut tape = Tape::new(alloc, vec![in alloc; 1, 1, 1]?);
-    let claims = [
-        (Kind::Clean, Ref::Write(8)),
-        (Kind::Clean, Ref::Input(2)),
-        (Kind::Assert, Ref::Write(3)),
-    ];
-    fill(&rt, &mut tape, &CARRY, &claims)?;
-    expect(
-        &rt,
-        &tape,
-        &[
-            (11, Outcome::Passes(0)),
-            (12, Outcome::Breaks(1, &[false, false, true])),
-        ],
-    )
+    let tape = Tape::new(rt.alloc(), vec![in rt.alloc(); 1, 1, 1]?);
+    settles(&rt, tape, CARRY, FIRST_CLAIMS, FIRST_ROWS)
 }
 
+const NINE: &[Entry] = &[
+    Entry::Xor(Ref::Input(0), Ref::Input(2)),
+    Entry::Xor(Ref::Write(0), Ref::Input(2)),
+    Entry::Xor(Ref::Write(1), Ref::Input(0)),
+    Entry::And(Ref::Input(1), Ref::Input(3)),
+    Entry::Const(true),
+    Entry::Xor(Ref::Write(3), Ref::Write(4)),
+];
+
+const NINE_CLAIMS: &[(Kind, Ref)] = &[
+    (Kind::Clean, Ref::Write(2)),
+    (Kind::Assert, Ref::Write(5)),
+    (Kind::Assert, Ref::Write(4)),
+    (Kind::Clean, Ref::Write(3)),
+];
+
 // Two registers of two places: the first claim rests on four functions, the first two on nine.
+const NINE_ROWS: &[(u32, Outcome)] = &[
+    (3, Outcome::Passes(0)),
+    (4, Outcome::Passes(1)),
+    (8, Outcome::Passes(1)),
+    (9, Outcome::Breaks(1, &[false, true, false, true])),
+];
+
 #[test]
 fn each_claim_adds_its_functions(rt: HostRuntime) -> Result<(), Fail> {
-    let alloc = rt.alloc();
-    let mut tape = Tape::new(alloc, vec![in alloc; 2, 2]?);
-    let entries = [
-        Entry::Xor(Ref::Input(0), Ref::Input(2)),
-        Entry::Xor(Ref::Write(0), Ref::Input(2)),
-        Entry::Xor(Ref::Write(1), Ref::Input(0)),
-        Entry::And(Ref::Input(1), Ref::Input(3)),
-        Entry::Const(true),
-        Entry::Xor(Ref::Write(3), Ref::Write(4)),
-    ];
-    let claims = [
-        (Kind::Clean, Ref::Write(2)),
-        (Kind::Assert, Ref::Write(5)),
-        (Kind::Assert, Ref::Write(4)),
-        (Kind::Clean, Ref::Write(3)),
-    ];
-    fill(&rt, &mut tape, &entries, &claims)?;
-    expect(
-        &rt,
-        &tape,
-        &[
-            (3, Outcome::Passes(0)),
-            (4, Outcome::Passes(1)),
-            (8, Outcome::Passes(1)),
-            (9, Outcome::Breaks(1, &[false, true, false, true])),
-        ],
-    )
+    let tape = Tape::new(rt.alloc(), vec![in rt.alloc(); 2, 2]?);
+    settles(&rt, tape, NINE, NINE_CLAIMS, NINE_ROWS)
 }
 
 // Six writes of two inputs: five nodes and a constant.
-const FIVE_NODES: [Entry; 6] = [
+const FIVE_NODES: &[Entry] = &[
     Entry::And(Ref::Input(0), Ref::Input(1)),
     Entry::Xor(Ref::Input(0), Ref::Input(1)),
     Entry::Xor(Ref::Input(1), Ref::Write(1)),
@@ -210,34 +238,51 @@ const FIVE_NODES: [Entry; 6] = [
     Entry::Xor(Ref::Write(4), Ref::Write(2)),
 ];
 
+fn set_four_outputs(rt: &impl Abort, alloc: Global, tape: &mut Tape) -> Result<(), Fail> {
+    assert!(rt; tape.inputs() == 2 && tape.len() == 6);
+    tape.set_outputs(vec![in alloc; Ref::Write(5), Ref::Write(1), Ref::Write(4), Ref::Input(0)]?);
+    Ok(())
+}
+
+fn five_nodes(rt: &impl Abort, alloc: Global) -> Result<Tape, Fail> {
+    let mut tape = Tape::new(alloc, vec![in alloc; 2]?);
+    fill(rt, &mut tape, FIVE_NODES, &[])?;
+    set_four_outputs(rt, alloc, &mut tape)?;
+    Ok(tape)
+}
+
+// The kept nodes with their last uses, and the outputs, over the two inputs.
+const KEPT: &[(Node, u32)] = &[
+    (Node::Xor(Base::Input(0), Base::Input(1)), 3),
+    (Node::Xor(Base::Input(1), Base::Node(0)), 2),
+    (Node::Not(Base::Node(1)), 3),
+];
+
+const KEPT_OUTPUTS: &[Sig] = &[
+    Sig::Is(Base::Node(2)),
+    Sig::Is(Base::Node(0)),
+    Sig::Const(true),
+    Sig::Is(Base::Input(0)),
+];
+
+fn assert_kept(rt: &impl Abort, settled: &Settled) {
+    assert!(rt; settled.inputs() == 2 && settled.nodes() == 3);
+    for (n, (node, last_use)) in KEPT.iter().enumerate() {
+        let n = n as u32;
+        assert!(rt; n < settled.nodes());
+        assert!(rt; settled.node(n) == *node && settled.last_use(n) == *last_use);
+    }
+    assert!(rt; settled.outputs() == KEPT_OUTPUTS);
+}
+
+fn kept(tape: Tape) -> Result<Settled, Fail> {
+    Ok(settle(Graph::of(&tape)?, &tape, 1)?)
+}
+
 // The first and the fourth node are left out: no output rests on them.
 #[test]
 fn nodes_of_no_output_are_left_out(rt: HostRuntime) -> Result<(), Fail> {
-    let alloc = rt.alloc();
-    let mut tape = Tape::new(alloc, vec![in alloc; 2]?);
-    fill(&rt, &mut tape, &FIVE_NODES, &[])?;
-    assert!(rt; tape.inputs() == 2 && tape.len() == 6);
-    tape.set_outputs(vec![in alloc; Ref::Write(5), Ref::Write(1), Ref::Write(4), Ref::Input(0)]?);
-    let settled = settle(Graph::of(&tape)?, &tape, 1)?;
-    let (x, y) = (Base::Input(0), Base::Input(1));
-    let nodes = [
-        Node::Xor(x, y),
-        Node::Xor(y, Base::Node(0)),
-        Node::Not(Base::Node(1)),
-    ];
-    let last_uses = [3, 2, 3];
-    assert!(rt; settled.inputs() == 2);
-    assert!(rt; settled.nodes() == 3);
-    for n in 0..settled.nodes().min(3) {
-        assert!(rt; settled.node(n) == nodes[n as usize]);
-        assert!(rt; settled.last_use(n) == last_uses[n as usize]);
-    }
-    let outputs = [
-        Sig::Is(Base::Node(2)),
-        Sig::Is(Base::Node(0)),
-        Sig::Const(true),
-        Sig::Is(x),
-    ];
-    assert!(rt; settled.outputs() == outputs.as_slice());
+    let settled = kept(five_nodes(&rt, rt.alloc())?)?;
+    assert_kept(&rt, &settled);
     Ok(())
 }

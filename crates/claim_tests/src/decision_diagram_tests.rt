@@ -3,6 +3,7 @@ ghost use Rattle.std.specs.Prelude.{◌≡◌, ◌≤◌, IfOk};
 ghost use Rattle.decision_diagram.specs.Diagrams.{IsNumber};
 
 use decision_diagram::{Dd, DdFault, Diagram};
+use std::process::Abort;
 use std::test::Fail;
 
 fn conjunction(diagram: &mut Diagram) -> Result<Dd, DdFault>
@@ -23,15 +24,30 @@ fn a_conjunction_needs_three_nodes(rt: HostRuntime) -> Result<(), Fail> {
     Ok(())
 }
 
-#[test]
-fn a_conjunction_fits_three_nodes(rt: HostRuntime) -> Result<(), Fail> {
-    let mut diagram = Diagram::new(rt.alloc(), 2, 3)?;
-    let both = conjunction(&mut diagram)?;
+// The least inputs at which the conjunction is true and false.
+fn assert_least(rt: &impl Abort, diagram: &Diagram, both: Dd)
+    requires vars { diagram.now.vars ≡ 2 }
+    requires known { IsNumber diagram.now.nodes both }
+{
     for (bit, least) in [(true, [true, true]), (false, [false, false])] {
         let mut bits = [true, false];
         assert!(rt; diagram.least(both, bit, &mut bits) && bits == least);
     }
+}
+
+// The conjunction and itself cancel.
+fn assert_cancels(rt: &impl Abort, diagram: &mut Diagram, both: Dd) -> Result<(), DdFault>
+    requires { IsNumber diagram.old.nodes both }
+{
     let none = diagram.xor(both, both)?;
     assert!(rt; none == diagram.truth(false) && diagram.constant(none) == Some(false));
     Ok(())
+}
+
+#[test]
+fn a_conjunction_fits_three_nodes(rt: HostRuntime) -> Result<(), Fail> {
+    let mut diagram = Diagram::new(rt.alloc(), 2, 3)?;
+    let both = conjunction(&mut diagram)?;
+    assert_least(&rt, &diagram, both);
+    Ok(assert_cancels(&rt, &mut diagram, both)?)
 }

@@ -1,16 +1,16 @@
 // The tests of dependency_graph.
-ghost use Rattle.std.specs.Prelude.{◌≡◌, sum, IfOk};
+ghost use Rattle.std.specs.Prelude.{◌≡◌, length, sum, IfOk, OnOk};
 ghost use Rattle.revc_base.specs.Measures.{writes_of};
 
 use crate::claim_check_tests::fill;
 use dependency_graph::{Base, Graph, Node, Sig};
-use revc_base::{Entry, Ref, Tape};
+use revc_base::{Entry, Memory, Ref, Tape};
 use std::alloc::Global;
 use std::process::Abort;
 use std::test::Fail;
 
 // A write of two inputs for each row of the fold.
-const ROWS: [Entry; 13] = [
+const ROWS: &[Entry] = &[
     Entry::Const(false),
     Entry::Const(true),
     Entry::Xor(Ref::Write(0), Ref::Write(1)),
@@ -26,64 +26,103 @@ const ROWS: [Entry; 13] = [
     Entry::Xor(Ref::Write(4), Ref::Input(0)),
 ];
 
+fn set_three_outputs(rt: &impl Abort, alloc: Global, tape: &mut Tape) -> Result<(), Fail>
+    ensures inputs { OnOk result (sum tape.new.params ≡ 2) }
+    ensures writes { OnOk result (writes_of tape.new ≡ 13) }
+{
+    assert!(rt; tape.inputs() == 2 && tape.len() == 13);
+    tape.set_outputs(vec![in alloc; Ref::Write(11), Ref::Write(6), Ref::Write(8)]?);
+    Ok(())
+}
+
 fn all_rows(rt: &impl Abort, alloc: Global) -> Result<Tape, Fail>
     ensures inputs { IfOk result (λ tape. sum tape.params ≡ 2) }
     ensures writes { IfOk result (λ tape. writes_of tape ≡ 13) }
 {
     let mut tape = Tape::new(alloc, vec![in alloc; 2]?);
-    fill(rt, &mut tape, &ROWS, &[])?;
-    assert!(rt; tape.inputs() == 2 && tape.len() == 13);
-    tape.set_outputs(vec![in alloc; Ref::Write(11), Ref::Write(6), Ref::Write(8)]?);
+    fill(rt, &mut tape, ROWS, &[])?;
+    set_three_outputs(rt, alloc, &mut tape)?;
     Ok(tape)
+}
+
+// The graph of the writes above.
+fn graph(rt: &impl Abort, alloc: Global) -> Result<Graph, Fail>
+    ensures { IfOk result (λ graph. length graph.sigs ≡ 13) }
+{
+    Ok(Graph::of(&all_rows(rt, alloc)?)?)
+}
+
+const BY_HAND: &[Sig] = &[
+    Sig::Const(false),
+    Sig::Const(true),
+    Sig::Const(true),
+    Sig::Is(Base::Input(0)),
+    Sig::Is(Base::Node(0)),
+    Sig::Const(false),
+    Sig::Is(Base::Node(1)),
+    Sig::Const(true),
+    Sig::Const(false),
+    Sig::Is(Base::Input(1)),
+    Sig::Is(Base::Input(0)),
+    Sig::Is(Base::Node(2)),
+    Sig::Is(Base::Node(3)),
+];
+
+const OUTPUTS: &[Sig] = &[
+    Sig::Is(Base::Node(2)),
+    Sig::Is(Base::Node(1)),
+    Sig::Const(false),
+];
+
+fn assert_sigs(rt: &impl Abort, graph: &Graph)
+    requires { length graph.now.sigs ≡ 13 }
+{
+    for (j, sig) in BY_HAND.iter().enumerate() {
+        assert!(rt; graph.sig(Ref::Write(j as u32)) == *sig);
+    }
 }
 
 // Each write is folded as it is by hand.
 #[test]
 fn writes_are_folded_by_hand(rt: HostRuntime) -> Result<(), Fail> {
-    let graph = Graph::of(&all_rows(&rt, rt.alloc())?)?;
-    let (x, y) = (Base::Input(0), Base::Input(1));
-    let by_hand = [
-        Sig::Const(false),
-        Sig::Const(true),
-        Sig::Const(true),
-        Sig::Is(x),
-        Sig::Is(Base::Node(0)),
-        Sig::Const(false),
-        Sig::Is(Base::Node(1)),
-        Sig::Const(true),
-        Sig::Const(false),
-        Sig::Is(y),
-        Sig::Is(x),
-        Sig::Is(Base::Node(2)),
-        Sig::Is(Base::Node(3)),
-    ];
-    for (j, sig) in by_hand.iter().enumerate() {
-        assert!(rt; graph.sig(Ref::Write(j as u32)) == *sig);
-    }
-    assert!(rt; graph.outputs() == [by_hand[11], by_hand[6], by_hand[8]].as_slice());
+    let graph = graph(&rt, rt.alloc())?;
+    assert_sigs(&rt, &graph);
+    assert!(rt; graph.outputs() == OUTPUTS);
     Ok(())
 }
 
-// The nodes of the table, their last uses, and each cut.
-#[test]
-fn nodes_are_used_and_cut(rt: HostRuntime) -> Result<(), Fail> {
-    let graph = Graph::of(&all_rows(&rt, rt.alloc())?)?;
-    let (x, y, negation) = (Base::Input(0), Base::Input(1), Base::Node(0));
-    let nodes = [
-        Node::Not(x),
-        Node::Xor(x, y),
-        Node::And(negation, y),
-        Node::Xor(negation, x),
-    ];
-    let last_uses = [3, 4, 4, 3];
+// The nodes of the table with their last uses, and the nodes that are cut before each and behind
+// the last.
+const NODES: &[(Node, u32)] = &[
+    (Node::Not(Base::Input(0)), 3),
+    (Node::Xor(Base::Input(0), Base::Input(1)), 4),
+    (Node::And(Base::Node(0), Base::Input(1)), 4),
+    (Node::Xor(Base::Node(0), Base::Input(0)), 3),
+];
+
+const CUTS: &[&[u32]] = &[&[], &[0], &[0, 1], &[0, 1, 2], &[1, 2]];
+
+fn assert_nodes(rt: &impl Abort, graph: &Graph) {
     assert!(rt; graph.nodes() == 4);
-    for n in 0..graph.nodes().min(4) {
-        assert!(rt; graph.node(n) == nodes[n as usize]);
-        assert!(rt; graph.last_use(n) == last_uses[n as usize]);
+    for (n, (node, last_use)) in NODES.iter().enumerate() {
+        let n = n as u32;
+        assert!(rt; n < graph.nodes());
+        assert!(rt; graph.node(n) == *node && graph.last_use(n) == *last_use);
     }
-    let cuts: [&[u32]; 5] = [&[], &[0], &[0, 1], &[0, 1, 2], &[1, 2]];
-    for j in 0..(graph.nodes() + 1).min(5) {
-        assert!(rt; graph.cut(j)?.as_slice() == cuts[j as usize]);
+}
+
+fn assert_cuts(rt: &impl Abort, graph: &Graph) -> Result<(), Memory> {
+    for (j, cut) in CUTS.iter().enumerate() {
+        let j = j as u32;
+        assert!(rt; j <= graph.nodes());
+        assert!(rt; graph.cut(j)?.as_slice() == *cut);
     }
     Ok(())
+}
+
+#[test]
+fn nodes_are_used_and_cut(rt: HostRuntime) -> Result<(), Fail> {
+    let graph = graph(&rt, rt.alloc())?;
+    assert_nodes(&rt, &graph);
+    Ok(assert_cuts(&rt, &graph)?)
 }

@@ -5,94 +5,128 @@ use std::alloc::Global;
 use std::process::Abort;
 use std::test::Fail;
 
-// The literals of the cubes as text, each cube behind a blank: "b" for the input 1, "!b" for its
-// negation.
+// Appends the literals of a cube behind a blank: "b" for the input 1, "!b" for its negation.
+fn show(text: &mut Vec<u8>, cube: &Cube) -> Result<(), Memory> {
+    text.push(b' ')?;
+    for literal in cube.literals() {
+        if !literal.positive {
+            text.push(b'!')?;
+        }
+        text.push(b"abcdefghijklm"[(literal.input % 13) as usize])?;
+    }
+    Ok(())
+}
+
 fn shown(alloc: Global, cubes: &[Cube]) -> Result<Vec<u8>, Memory> {
     let mut text = Vec::new(alloc);
     for cube in cubes {
-        text.push(b' ')?;
-        for literal in cube.literals() {
-            if !literal.positive {
-                text.push(b'!')?;
-            }
-            text.push(b"abcdefghijklm"[(literal.input % 13) as usize])?;
-        }
+        show(&mut text, cube)?;
     }
     Ok(text)
 }
 
-fn xor(rt: &impl Abort, f: &Poly, g: &Poly) -> Result<Poly, Memory> {
-    Ok(f.xor(g)?.expect(rt, "few monomials"))
+// Whether a sum is merged to these cubes.
+fn merges_to(alloc: Global, sum: Poly, cubes: &[u8]) -> Result<bool, Memory> {
+    Ok(shown(alloc, &merge(alloc, &sum)?)?.as_slice() == cubes)
 }
 
-fn and(rt: &impl Abort, f: &Poly, g: &Poly) -> Result<Poly, Memory> {
-    Ok(f.and(g)?.expect(rt, "few monomials"))
+fn xor(rt: &impl Abort, f: Poly, g: Poly) -> Result<Poly, Memory> {
+    Ok(f.xor(&g)?.expect(rt, "few monomials"))
 }
 
-fn not(rt: &impl Abort, f: &Poly) -> Result<Poly, Memory> {
+fn and(rt: &impl Abort, f: Poly, g: Poly) -> Result<Poly, Memory> {
+    Ok(f.and(&g)?.expect(rt, "few monomials"))
+}
+
+fn not(rt: &impl Abort, f: Poly) -> Result<Poly, Memory> {
     Ok(f.not()?.expect(rt, "few monomials"))
 }
 
-// The cubes to which a sum is merged.
-fn expect(rt: &impl Abort, alloc: Global, sum: &Poly, cubes: &[u8]) -> Result<(), Memory> {
-    let merged = merge(alloc, sum)?;
-    assert!(rt; shown(alloc, &merged)?.as_slice() == cubes);
-    Ok(())
+// The sum of two inputs.
+fn sum(rt: &impl Abort, alloc: Global, i: u32, j: u32) -> Result<Poly, Memory> {
+    xor(rt, Poly::input(alloc, i)?, Poly::input(alloc, j)?)
+}
+
+// The product of the inputs 0 and 1.
+fn both(rt: &impl Abort, alloc: Global) -> Result<Poly, Memory> {
+    and(rt, Poly::input(alloc, 0)?, Poly::input(alloc, 1)?)
+}
+
+fn either(rt: &impl Abort, alloc: Global) -> Result<Poly, Memory> {
+    xor(rt, sum(rt, alloc, 0, 1)?, both(rt, alloc)?)
 }
 
 // Sums are merged as they are by hand.
 #[test]
 fn sums_of_two_inputs_are_merged(rt: HostRuntime) -> Result<(), Fail> {
     let alloc = rt.alloc();
-    let (a, b) = (Poly::input(alloc, 0)?, Poly::input(alloc, 1)?);
-    let either = xor(&rt, &xor(&rt, &a, &b)?, &and(&rt, &a, &b)?)?;
-    expect(&rt, alloc, &either, b" b a!b")?;
-    expect(&rt, alloc, &not(&rt, &either)?, b" !a!b")?;
-    expect(&rt, alloc, &not(&rt, &a)?, b" !a")?;
-    expect(&rt, alloc, &xor(&rt, &a, &a)?, b"")?;
+    assert!(rt; merges_to(alloc, either(&rt, alloc)?, b" b a!b")?);
+    assert!(rt; merges_to(alloc, not(&rt, either(&rt, alloc)?)?, b" !a!b")?);
+    assert!(rt; merges_to(alloc, not(&rt, Poly::input(alloc, 0)?)?, b" !a")?);
+    assert!(rt; merges_to(alloc, sum(&rt, alloc, 0, 0)?, b"")?);
     Ok(())
+}
+
+// The product of the sum of the inputs 0 and 1, and the input 2.
+fn one_and_third(rt: &impl Abort, alloc: Global) -> Result<Poly, Memory> {
+    and(rt, sum(rt, alloc, 0, 1)?, Poly::input(alloc, 2)?)
+}
+
+fn majority(rt: &impl Abort, alloc: Global) -> Result<Poly, Memory> {
+    xor(rt, both(rt, alloc)?, one_and_third(rt, alloc)?)
 }
 
 #[test]
 fn the_majority_stays_as_it_is(rt: HostRuntime) -> Result<(), Fail> {
     let alloc = rt.alloc();
-    let (a, b) = (Poly::input(alloc, 0)?, Poly::input(alloc, 1)?);
-    let c = Poly::input(alloc, 2)?;
-    let one = and(&rt, &xor(&rt, &a, &b)?, &c)?;
-    expect(
-        &rt,
-        alloc,
-        &xor(&rt, &and(&rt, &a, &b)?, &one)?,
-        b" ab ac bc",
-    )?;
+    assert!(rt; merges_to(alloc, majority(&rt, alloc)?, b" ab ac bc")?);
     Ok(())
 }
 
 // The product of the six sums of two inputs each, from an input on.
 fn six_sums(rt: &impl Abort, alloc: Global, first: u8) -> Result<Poly, Memory> {
-    let zero = xor(rt, &Poly::input(alloc, 0)?, &Poly::input(alloc, 0)?)?;
-    let mut product = not(rt, &zero)?;
-    for k in 0..6u32 {
-        let i = u32::from(first) + 2 * k;
-        let sum = xor(rt, &Poly::input(alloc, i)?, &Poly::input(alloc, i + 1)?)?;
-        product = and(rt, &product, &sum)?;
+    let first = u32::from(first);
+    let mut product = sum(rt, alloc, first, first + 1)?;
+    for k in 1..6u32 {
+        let i = first + 2 * k;
+        product = and(rt, product, sum(rt, alloc, i, i + 1)?)?;
     }
     Ok(product)
 }
 
-// The product of six sums of two inputs each has 64 monomials, and one more is too many. The
-// largest product has 4,096.
+// How many monomials an answer has, if it is not that they are too many.
+fn len_of(answer: Option<Poly>) -> Option<u32> {
+    match answer {
+        Some(poly) => Some(poly.len()),
+        None => None,
+    }
+}
+
+// One monomial more than 64 is too many.
+fn assert_full(rt: &impl Abort, product: &Poly, thirteenth: &Poly) -> Result<(), Memory> {
+    assert!(rt; len_of(product.and(product)?) == Some(64));
+    assert!(rt; len_of(product.and(thirteenth)?) == Some(64));
+    assert!(rt; len_of(product.not()?) == None);
+    assert!(rt; len_of(product.xor(thirteenth)?) == None);
+    Ok(())
+}
+
+// The products with others have 128 and 4,096 monomials.
+fn assert_passed(rt: &impl Abort, alloc: Global, product: &Poly) -> Result<(), Memory> {
+    let negation = not(rt, Poly::input(alloc, 12)?)?;
+    assert!(rt; len_of(product.and(&negation)?) == None);
+    let others = six_sums(rt, alloc, 12)?;
+    assert!(rt; len_of(product.and(&others)?) == None);
+    Ok(())
+}
+
+// The product of six sums of two inputs each has 64 monomials.
 #[test]
 fn holds_64_monomials(rt: HostRuntime) -> Result<(), Fail> {
     let alloc = rt.alloc();
     let product = six_sums(&rt, alloc, 0)?;
-    let thirteenth = Poly::input(alloc, 12)?;
-    let negation = not(&rt, &thirteenth)?;
     assert!(rt; product.len() == 64);
-    assert!(rt; and(&rt, &product, &product)?.len() == 64);
-    assert!(rt; and(&rt, &product, &thirteenth)?.len() == 64);
-    assert!(rt; product.not()?.is_none() && product.xor(&thirteenth)?.is_none());
-    assert!(rt; product.and(&negation)?.is_none());
-    assert!(rt; product.and(&six_sums(&rt, alloc, 12)?)?.is_none());
+    assert_full(&rt, &product, &Poly::input(alloc, 12)?)?;
+    assert_passed(&rt, alloc, &product)?;
     Ok(())
 }

@@ -1,5 +1,6 @@
 // The tests of revc_base.
-ghost use Rattle.std.specs.Prelude.{◌≡◌, sum, IfOk};
+ghost use Rattle.std.specs.Prelude.{◌≡◌, sum, [], IfOk, OnOk};
+ghost use Rattle.revc_base.specs.Measures.{writes_of};
 
 use revc_base::{Bits, BitsFault, Claim, Entry, Kind, Memory, Place, Ref, Tape, TapeEnd, Text};
 use std::alloc::Global;
@@ -20,8 +21,8 @@ fn copied(alloc: Global, bytes: &[u8; 2]) -> Result<Text, Memory> {
 #[test]
 fn texts_are_their_bytes(rt: HostRuntime) -> Result<(), Fail> {
     let copy = copied(rt.alloc(), b"x0")?;
-    assert_eq!(rt; copy.bytes(), b"x0".as_slice());
-    assert_eq!(rt; hash_of(&copy), hash_of(&b"x0".as_slice()));
+    assert!(rt; copy.bytes() == b"x0".as_slice());
+    assert!(rt; hash_of(&copy) == hash_of(&b"x0".as_slice()));
     Ok(())
 }
 
@@ -29,24 +30,34 @@ fn texts_are_their_bytes(rt: HostRuntime) -> Result<(), Fail> {
 #[test]
 fn words_are_read(rt: HostRuntime) -> Result<(), Fail> {
     let alloc = rt.alloc();
-    let word = Bits::from_word(alloc, "01")?;
-    assert_eq!(rt; word.bits(), [false, true].as_slice());
-    let empty = Bits::from_word(alloc, "")?;
-    assert_eq!(rt; empty.bits().len(), 0);
+    assert!(rt; Bits::from_word(alloc, "01")?.bits() == [false, true].as_slice());
+    assert!(rt; Bits::from_word(alloc, "")?.bits().is_empty());
     let fault = Bits::from_word(alloc, "0x1").err();
-    assert_eq!(rt; fault, Some(BitsFault::BadDigit { at: 1 }));
+    assert!(rt; fault == Some(BitsFault::BadDigit { at: 1 }));
     Ok(())
 }
 
-// Three writes on two inputs: a constant, its XOR with the first input, and the AND of the inputs.
-// The AND is claimed to be false, the XOR to be true.
-fn three_writes(alloc: Global) -> Result<Tape, Memory>
-    ensures { IfOk result (λ tape. sum tape.params ≡ 2) }
+// Three writes of two inputs: a constant, its XOR with the first input, and the AND of the inputs.
+fn push_three(tape: &mut Tape) -> Result<(), Memory>
+    requires inputs { sum tape.old.params ≡ 2 }
+    requires empty { tape.old.entries ≡ [] }
+    ensures params { tape.new.params ≡ tape.old.params }
+    ensures claims { tape.new.claims ≡ tape.old.claims }
+    ensures writes { OnOk result (writes_of tape.new ≡ 3) }
 {
-    let mut tape = Tape::new(alloc, vec![in alloc; 1, 1]?);
     tape.push(Entry::Const(true))?;
     tape.push(Entry::Xor(Ref::Input(0), Ref::Write(0)))?;
     tape.push(Entry::And(Ref::Input(0), Ref::Input(1)))?;
+    Ok(())
+}
+
+// The claims that the AND is false and the XOR true.
+fn claim_two(tape: &mut Tape) -> Result<(), Memory>
+    requires writes { writes_of tape.old ≡ 3 }
+    requires empty { tape.old.claims ≡ [] }
+    ensures params { tape.new.params ≡ tape.old.params }
+    ensures entries { tape.new.entries ≡ tape.old.entries }
+{
     let at = Place { line: 1, column: 1 };
     tape.claim(Claim {
         kind: Kind::Clean,
@@ -57,7 +68,15 @@ fn three_writes(alloc: Global) -> Result<Tape, Memory>
         kind: Kind::Assert,
         of: Ref::Write(1),
         at,
-    })?;
+    })
+}
+
+fn three_writes(alloc: Global) -> Result<Tape, Memory>
+    ensures { IfOk result (λ tape. sum tape.params ≡ 2) }
+{
+    let mut tape = Tape::new(alloc, vec![in alloc; 1, 1]?);
+    push_three(&mut tape)?;
+    claim_two(&mut tape)?;
     tape.set_outputs(vec![in alloc; Ref::Write(0), Ref::Write(1), Ref::Input(1)]?);
     Ok(tape)
 }
@@ -70,21 +89,32 @@ fn ending(end: &TapeEnd) -> (Option<u32>, &[bool]) {
     }
 }
 
+// An input, the claim that it breaks, and the outputs if it breaks none.
+const ENDINGS: &[([bool; 2], Option<u32>, &[bool])] = &[
+    ([false, false], None, &[true, true, false]),
+    ([false, true], None, &[true, true, true]),
+    ([true, false], Some(1), &[]),
+    ([true, true], Some(0), &[]),
+];
+
+fn is_ending(
+    tape: &Tape,
+    input: &[bool; 2],
+    expected: (Option<u32>, &[bool]),
+) -> Result<bool, Memory>
+    requires { sum tape.now.params ≡ 2 }
+{
+    Ok(ending(&tape.run(input)?) == expected)
+}
+
 // The tape ends as it should on each of its inputs: with both claims broken, at the first. Both
 // writes that are outputs are needed at its end.
 #[test]
 fn tapes_are_run_and_measured(rt: HostRuntime) -> Result<(), Fail> {
     let tape = three_writes(rt.alloc())?;
-    let rows: [([bool; 2], Option<u32>, &[bool]); 4] = [
-        ([false, false], None, &[true, true, false]),
-        ([false, true], None, &[true, true, true]),
-        ([true, false], Some(1), &[]),
-        ([true, true], Some(0), &[]),
-    ];
-    for (input, claim, outputs) in rows {
-        let end = tape.run(&input)?;
-        assert_eq!(rt; ending(&end), (claim, outputs));
+    for (row, (input, claim, outputs)) in ENDINGS.iter().enumerate() {
+        assert!(rt; is_ending(&tape, input, (*claim, outputs))?, "row {row}");
     }
-    assert_eq!(rt; tape.width()?, 2);
+    assert!(rt; tape.width()? == 2);
     Ok(())
 }
