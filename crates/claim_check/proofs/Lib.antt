@@ -1,6 +1,5 @@
 pub mod BaseLemmas
 pub mod BudgetLemmas
-pub mod FaultLemmas
 pub mod FunctionLemmas
 pub mod KeptLemmas
 pub mod LabelLemmas

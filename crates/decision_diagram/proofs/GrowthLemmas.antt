@@ -1,6 +1,6 @@
 -- What stays when nodes are added, and what a new node adds.
 use Rattle.std.proofs.Common.{◌≡◌, ℕ, suc, ◌<◌, ◌≤◌, Bool, true, false, ◌&&◌, if◌then◌else◌, List, [], ◌∷◌, ◌++◌, length, length-append, append_assoc, Result}
-use Rattle.std.proofs.Common.{Ok, Err, IfOk, IfErr, IsErrAnd, refl, sym, ap, ap₂, ◌∙◌, subst, inl, inr, arith}
+use Rattle.std.proofs.Common.{Ok, Err, IfOk, IfErr, refl, sym, ap, ap₂, ◌∙◌, subst, inl, inr, arith}
 use Rattle.std.proofs.lemmas.Bool.{cases_lt}
 use Rattle.std.specs.Bool.{xor}
 use Rattle.decision_diagram.specs.declared.node.DdFault.{DdFault}
@@ -245,11 +245,6 @@ MayRefuse-same f g d same fault cause = MayRefuse-from f g d (comes_same f g sam
 pub ok_from : (r : Result ℕ DdFault) (P Q : ℕ → Type 0) → ((h : ℕ) → P h → Q h) → IfOk r P → IfOk r Q
 ok_from (Ok h) P Q step p = step h p
 ok_from (Err e) P Q step p = p
-
--- where there is a fault there is no answer
-pub no_answer : (r : Result ℕ DdFault) (P : ℕ → Type 0) (Q : DdFault → Type 0) → IsErrAnd r Q → IfOk r P
-no_answer (Ok h) P Q at = absurd at
-no_answer (Err e) P Q at = tt
 
 pub err_from : (r : Result ℕ DdFault) (P Q : DdFault → Type 0) → ((e : DdFault) → P e → Q e) → IfErr r P → IfErr r Q
 err_from (Ok h) P Q step p = p

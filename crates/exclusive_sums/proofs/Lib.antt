@@ -1,5 +1,4 @@
 pub mod CubeLemmas
-pub mod FaultLemmas
 pub mod FillingLemmas
 pub mod InputLemmas
 pub mod MergingLemmas

@@ -1,6 +1,5 @@
 -- A run goes on from step to step, or is stuck at the first that is stuck.
-use Rattle.std.proofs.Common.{◌≡◌, sym, ap, ◌∙◌, subst, Result, Ok, Err, IfOk}
-use Rattle.std.specs.Result.{IsErrAnd}
+use Rattle.std.proofs.Common.{◌≡◌, sym, ap, ◌∙◌, subst}
 use Rattle.revs_terms.specs.Running.{State, Outcome, went, after}
 use Rattle.inliner.specs.declared.fault.RunFault.{RunFault}
 use Rattle.inliner.specs.inside.Calls.{IsStuckAs, Says}
@@ -28,8 +27,3 @@ pub said_next : {A C : Type 0} (fault : RunFault) (o : Outcome (Unit {0}) A) (a 
     (next : A → State (Unit {0}) → Outcome (Unit {0}) C)
     → o ≡ went a s → Says fault (next a s) → Says fault (after o next)
 said_next fault o a s next e says = said_same fault (after o next) (next a s) (ap (λ (x : Outcome (Unit {0}) _). after x next) e) says
-
--- A call that failed gave nothing.
-pub no_value : {T E : Type 0} (r : Result T E) (P : T → Type 0) (Q : E → Type 0) → IsErrAnd r Q → IfOk r P
-no_value (Ok x) P Q failed = absurd failed
-no_value (Err e) P Q failed = tt

@@ -83,11 +83,11 @@ claim_or_bad : (text word : List ℕ) (number : ℕ) (at : Place) → IsBroken t
 claim_or_bad text word number at v b = b.unfit (subst (λ (p : ProgramView). IsInputWord (sum (widths_of p.params)) word)
     (one_formed text v.program b.program v.formed b.formed) v.fits)
 
-pub no_value : (text word : List ℕ) (value : List Bool) (fault : Fault) → IsValueOf text word value → Stops text word fault → ⊥
-no_value text word value (faults.Refused refusal) v s = never_refused text v.program refusal v.formed s
-no_value text word value (faults.Claim number at bits) v s = value_or_claim text word value number at v s.1
-no_value text word value (faults.BadBits number) v s = value_or_bad text word value v s.1
-no_value text word value fault v s = s
+pub value_excludes_fault : (text word : List ℕ) (value : List Bool) (fault : Fault) → IsValueOf text word value → Stops text word fault → ⊥
+value_excludes_fault text word value (faults.Refused refusal) v s = never_refused text v.program refusal v.formed s
+value_excludes_fault text word value (faults.Claim number at bits) v s = value_or_claim text word value number at v s.1
+value_excludes_fault text word value (faults.BadBits number) v s = value_or_bad text word value v s.1
+value_excludes_fault text word value fault v s = s
 
 pub one_stop : (text word : List ℕ) (fault other : Fault) → Stops text word fault → Stops text word other → fault ≡ other
 one_stop text word (faults.Refused refusal) (faults.Refused other) a b = ap (λ (r : Refusal). faults.Refused r) (one_refusal text refusal other a b)
@@ -112,9 +112,9 @@ one_stop text word fault other a b = absurd b
 
 pub one_outcome : HasOneOutcome IsAnyFault Gives IsCause Serves
 one_outcome = record {
-  never_both = λ order text written fault given cause exact. no_value text (first_word order.bits) given.value fault given.is cause;
+  never_both = λ order text written fault given cause exact. value_excludes_fault text (first_word order.bits) given.value fault given.is cause;
   one_cause = λ order text fault exact cause other is. one_stop text (first_word order.bits) exact fault other cause;
-  free = λ order text fault served cause. no_value text (first_word order.bits) served.0 fault served.1 cause;
+  free = λ order text fault served cause. value_excludes_fault text (first_word order.bits) served.0 fault served.1 cause;
 }
 
 -- ---- the claim that fails

@@ -2,7 +2,7 @@ use Rattle.std.proofs.Common.{Bool, subst, sym}
 use Rattle.decision_diagram.specs.Diagrams.{function_of}
 use Rattle.decision_diagram.specs.Functions.{GivesOnly}
 use Rattle.claim_check.proofs.OutcomeLemmas.{claim_breaks, claim_holds, constant_gives, constant_other}
-use Rattle.claim_check.proofs.FaultLemmas.{no_value}
+use Rattle.revc_base.proofs.ResultLemmas.{no_value}
 use Rattle.claim_check.proofs.claims.least_breaking.Goals as goal
 
 pub returns-then-eq : goal.returns-then-eq

@@ -2,7 +2,7 @@ use Rattle.std.proofs.Common.{◌≡◌, Bool, List, map, ap, ◌∙◌, arith}
 use Rattle.list_facts.specs.Bits.{bit_of}
 use Rattle.decision_diagram.specs.Diagrams.{function_of}
 use Rattle.claim_check.proofs.OutcomeLemmas.{least_found, whole_list}
-use Rattle.claim_check.proofs.FaultLemmas.{no_value}
+use Rattle.revc_base.proofs.ResultLemmas.{no_value}
 use Rattle.claim_check.proofs.claims.least_other.Goals as goal
 
 pub returns : goal.returns

@@ -3,7 +3,7 @@ use Rattle.decision_diagram.specs.Diagrams.{DiagramView}
 use Rattle.claim_check.specs.Claims.{HoldWithin, IsClaimFault}
 use Rattle.claim_check.specs.inside.Numbers.{AreSettled}
 use Rattle.claim_check.specs.inside.Slots.{slots_of}
-use Rattle.claim_check.proofs.FaultLemmas.{no_promise}
+use Rattle.revc_base.proofs.ResultLemmas.{no_promise}
 use Rattle.claim_check.proofs.OutcomeLemmas.{none_settled}
 use Rattle.claim_check.proofs.claims.settle_by.Goals as goal
 

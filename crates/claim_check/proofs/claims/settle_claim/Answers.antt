@@ -2,7 +2,7 @@ use Rattle.std.proofs.Common.{Option, List, Bool, MatchOption, subst}
 use Rattle.revc_base.specs.Claims.{HoldsEverywhere, IsLeastBreaking}
 use Rattle.claim_check.proofs.MemberLemmas.{more_claims}
 use Rattle.claim_check.proofs.OutcomeLemmas.{broken, claim_numbered, settled_more}
-use Rattle.claim_check.proofs.FaultLemmas.{no_promise}
+use Rattle.revc_base.proofs.ResultLemmas.{no_promise}
 use Rattle.claim_check.proofs.claims.settle_claim.Goals as goal
 
 pub number_claim-requires-clause-members : goal.number_claim-requires-clause-members

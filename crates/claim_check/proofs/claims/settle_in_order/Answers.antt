@@ -2,7 +2,7 @@ use Rattle.std.proofs.Common.{◌≡◌, ℕ, ◌+◌, ◌∙◌, ap, length, su
 use Rattle.claim_check.specs.inside.Labels.{claims_of}
 use Rattle.claim_check.specs.inside.Numbers.{AreSettled}
 use Rattle.claim_check.proofs.OutcomeLemmas.{all_settled}
-use Rattle.claim_check.proofs.FaultLemmas.{no_promise}
+use Rattle.revc_base.proofs.ResultLemmas.{no_promise}
 use Rattle.claim_check.proofs.claims.settle_in_order.Goals as goal
 
 pub loop-number-init : goal.loop-number-init

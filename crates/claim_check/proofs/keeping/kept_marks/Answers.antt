@@ -1,4 +1,4 @@
-use Rattle.claim_check.proofs.FaultLemmas.{no_value}
+use Rattle.revc_base.proofs.ResultLemmas.{no_value}
 use Rattle.claim_check.proofs.keeping.kept_marks.Goals as goal
 
 pub returns-in_err-marks-clause-one_each : goal.returns-in_err-marks-clause-one_each

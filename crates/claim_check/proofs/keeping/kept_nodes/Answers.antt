@@ -4,7 +4,7 @@ use Rattle.dependency_graph.specs.declared.node.Node.{Node}
 use Rattle.claim_check.specs.Kept.{kept_nodes, renumbered}
 use Rattle.claim_check.specs.inside.Marks.{number_in}
 use Rattle.claim_check.proofs.MarkLemmas.{kept_node, other_node}
-use Rattle.claim_check.proofs.FaultLemmas.{no_value}
+use Rattle.revc_base.proofs.ResultLemmas.{no_value}
 use Rattle.claim_check.proofs.keeping.kept_nodes.Goals as goal
 use Rattle.claim_check.proofs.keeping.kept_nodes.Goals.{then-marks-k+in_ok-push, else-marks-k}
 

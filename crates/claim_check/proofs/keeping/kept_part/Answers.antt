@@ -9,7 +9,7 @@ use Rattle.claim_check.specs.Settled.{SettledView}
 use Rattle.claim_check.specs.Kept.{kept_nodes, rank, renumbered_sig}
 use Rattle.claim_check.specs.inside.Marks.{number_in, with_marks, with_nodes}
 use Rattle.claim_check.proofs.PartLemmas.{IsMade, made_part}
-use Rattle.claim_check.proofs.FaultLemmas.{no_value}
+use Rattle.revc_base.proofs.ResultLemmas.{no_value}
 use Rattle.claim_check.proofs.keeping.kept_part.Goals as goal
 
 pub ranks-requires : goal.ranks-requires

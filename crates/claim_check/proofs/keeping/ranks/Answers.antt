@@ -1,4 +1,4 @@
-use Rattle.claim_check.proofs.FaultLemmas.{no_value}
+use Rattle.revc_base.proofs.ResultLemmas.{no_value}
 use Rattle.list_facts.specs.Bits.{bit_of}
 use Rattle.claim_check.proofs.RankLemmas.{ranks_more}
 use Rattle.claim_check.proofs.keeping.ranks.Goals as goal

@@ -1,4 +1,4 @@
-use Rattle.claim_check.proofs.FaultLemmas.{no_value}
+use Rattle.revc_base.proofs.ResultLemmas.{no_value}
 use Rattle.claim_check.proofs.labels.labels.Goals as goal
 
 pub returns-in_err-labels : goal.returns-in_err-labels

@@ -7,7 +7,7 @@ use Rattle.claim_check.specs.inside.Slots.{slots_of}
 use Rattle.claim_check.specs.inside.Tables.{HoldsOnlyMembers, function_at}
 use Rattle.claim_check.proofs.MemberLemmas.{added}
 use Rattle.claim_check.proofs.NumberLemmas.{base_here, made_kept, made_next, made_one, next_label, operands_made, pass_limit, refused_at}
-use Rattle.claim_check.proofs.FaultLemmas.{no_promise}
+use Rattle.revc_base.proofs.ResultLemmas.{no_promise}
 use Rattle.claim_check.proofs.numbers.number_claim.Goals as goal
 
 pub number_of-requires-clause-operands : goal.number_of-requires-clause-operands

@@ -1,4 +1,4 @@
-use Rattle.claim_check.proofs.FaultLemmas.{no_promise, no_value}
+use Rattle.revc_base.proofs.ResultLemmas.{no_promise, no_value}
 use Rattle.claim_check.proofs.settling.settle.Goals as goal
 
 pub returns-in_err-settle_claims-clause-hold : goal.returns-in_err-settle_claims-clause-hold

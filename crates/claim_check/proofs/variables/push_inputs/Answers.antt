@@ -1,4 +1,4 @@
-use Rattle.claim_check.proofs.FaultLemmas.{no_promise}
+use Rattle.revc_base.proofs.ResultLemmas.{no_promise}
 use Rattle.claim_check.proofs.variables.push_inputs.Goals as goal
 
 pub returns-in_err-push : goal.returns-in_err-push

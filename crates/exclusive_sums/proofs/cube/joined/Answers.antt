@@ -4,7 +4,7 @@ use Rattle.revc_base.specs.inside.Aligned.{aligned}
 use Rattle.exclusive_sums.specs.Cubes.{IsJoined}
 use Rattle.exclusive_sums.specs.inside.Merging.{by_input, thirds}
 use Rattle.exclusive_sums.proofs.CubeLemmas.{IsJoined-thirds, thirds_left_over}
-use Rattle.exclusive_sums.proofs.FaultLemmas.{no_value}
+use Rattle.revc_base.proofs.ResultLemmas.{no_value}
 use Rattle.exclusive_sums.proofs.cube.joined.Goals as goal
 use Rattle.exclusive_sums.proofs.cube.joined.Goals.{then-loop-i-test+else-j-right, else-loop-i-test}
 

@@ -1,7 +1,7 @@
 use Rattle.std.proofs.Common.{sym, subst}
 use Rattle.exclusive_sums.specs.Cubes.{IsCube}
 use Rattle.exclusive_sums.proofs.CubeLemmas.{IsCube-positive}
-use Rattle.exclusive_sums.proofs.FaultLemmas.{no_value}
+use Rattle.revc_base.proofs.ResultLemmas.{no_value}
 use Rattle.exclusive_sums.proofs.cube.positive_cube.Goals as goal
 
 pub invariant_of-result : goal.invariant_of-result

@@ -1,5 +1,5 @@
 use Rattle.std.proofs.Common.{false}
-use Rattle.exclusive_sums.proofs.FaultLemmas.{no_promise}
+use Rattle.revc_base.proofs.ResultLemmas.{no_promise}
 use Rattle.exclusive_sums.specs.inside.Merging.{flipped}
 use Rattle.exclusive_sums.proofs.FillingLemmas.{filled_more}
 use Rattle.exclusive_sums.proofs.cube.put_flipped.Goals as goal

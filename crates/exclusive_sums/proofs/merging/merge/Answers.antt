@@ -1,7 +1,7 @@
 use Rattle.std.proofs.Common.{◌≡◌, refl, ap, ◌∙◌, subst}
 use Rattle.exclusive_sums.specs.Cubes.{AreFarApart, Merges, done, cubes_of}
 use Rattle.exclusive_sums.proofs.MergingLemmas.{sum_from_merges}
-use Rattle.exclusive_sums.proofs.FaultLemmas.{no_value}
+use Rattle.revc_base.proofs.ResultLemmas.{no_value}
 use Rattle.exclusive_sums.proofs.merging.merge.Goals as goal
 
 pub returns-clause-recipe : goal.returns-clause-recipe

@@ -1,7 +1,7 @@
 use Rattle.std.proofs.Common.{◌≡◌, refl, sym, ◌∙◌}
 use Rattle.exclusive_sums.specs.Cubes.{IsJoined, distance_of}
 use Rattle.exclusive_sums.proofs.MergingLemmas.{HasRemoved, cancels, joins}
-use Rattle.exclusive_sums.proofs.FaultLemmas.{no_promise}
+use Rattle.revc_base.proofs.ResultLemmas.{no_promise}
 use Rattle.exclusive_sums.proofs.merging.merge_pair.Goals as goal
 
 pub returns-then-distance-eq0 : goal.returns-then-distance-eq0

@@ -1,4 +1,4 @@
-use Rattle.exclusive_sums.proofs.FaultLemmas.{no_value}
+use Rattle.revc_base.proofs.ResultLemmas.{no_value}
 use Rattle.std.proofs.Common.{[], map, ap, ◌∙◌}
 use Rattle.exclusive_sums.specs.Cubes.{positive}
 use Rattle.exclusive_sums.proofs.FillingLemmas.{filled_more}

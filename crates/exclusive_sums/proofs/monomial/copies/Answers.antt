@@ -1,4 +1,4 @@
-use Rattle.exclusive_sums.proofs.FaultLemmas.{no_value}
+use Rattle.revc_base.proofs.ResultLemmas.{no_value}
 use Rattle.exclusive_sums.proofs.FillingLemmas.{taken_more}
 use Rattle.exclusive_sums.proofs.monomial.copies.Goals as goal
 

@@ -1,4 +1,4 @@
-use Rattle.exclusive_sums.proofs.FaultLemmas.{no_promise}
+use Rattle.revc_base.proofs.ResultLemmas.{no_promise}
 use Rattle.exclusive_sums.proofs.monomial.move_front.Goals as goal
 
 pub returns-in_err-push : goal.returns-in_err-push

@@ -1,8 +1,7 @@
 use Rattle.revs_terms.specs.Trees.{tree_of}
 use Rattle.std.proofs.lemmas.Result.{IfOk-weaker, IfErr-weaker}
-use Rattle.revc_base.proofs.ResultLemmas.{passes_on}
+use Rattle.revc_base.proofs.ResultLemmas.{no_value, passes_on}
 use Rattle.inliner.specs.inside.Machines.{envs_of, env_in}
-use Rattle.inliner.proofs.FaultLemmas.{no_value}
 use Rattle.inliner.proofs.EndLemmas.{body_ends, body_stuck, outputs_stuck}
 use Rattle.inliner.proofs.program.body_outputs.Goals as goal
 

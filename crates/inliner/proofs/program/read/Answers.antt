@@ -1,9 +1,8 @@
 use Rattle.std.proofs.Common.{arith, get_or}
 use Rattle.revs_terms.specs.Terms.{place_of}
 use Rattle.revs_terms.specs.Trees.{tree_of}
-use Rattle.revc_base.proofs.ResultLemmas.{passes_on}
+use Rattle.revc_base.proofs.ResultLemmas.{no_value, passes_on}
 use Rattle.inliner.proofs.EndLemmas.{reads_begun, reads_more, reads_stuck, reads_done, at_default, at_last}
-use Rattle.inliner.proofs.FaultLemmas.{no_value}
 use Rattle.inliner.proofs.program.read.Goals as goal
 
 pub loop-location-init : goal.loop-location-init

@@ -5,7 +5,7 @@ use Rattle.inliner.specs.inside.Starts.{IsParamBinding}
 use Rattle.inliner.proofs.StartLemmas.{bound_begun, bound_more, bound_done, next_within}
 use Rattle.list_facts.proofs.CutLemmas.{drop_read}
 use Rattle.inliner.proofs.EndLemmas.{at_last}
-use Rattle.inliner.proofs.FaultLemmas.{no_value}
+use Rattle.revc_base.proofs.ResultLemmas.{no_value}
 use Rattle.inliner.proofs.start.bound.Goals as goal
 
 pub loop-param-init : goal.loop-param-init

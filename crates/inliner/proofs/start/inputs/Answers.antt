@@ -1,4 +1,4 @@
-use Rattle.inliner.proofs.FaultLemmas.{no_value}
+use Rattle.revc_base.proofs.ResultLemmas.{no_value}
 use Rattle.inliner.proofs.start.inputs.Goals as goal
 
 pub returns-in_err-numbers-clause-ok : goal.returns-in_err-numbers-clause-ok

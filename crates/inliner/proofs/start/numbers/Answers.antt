@@ -1,7 +1,7 @@
 use Rattle.std.proofs.Common.{arith, ◌≡◌, ◌-◌, ◌+◌, ap, sym, ◌∙◌, List, ◌++◌, ◌∷◌, [], ℕ}
 use Rattle.std.specs.List.{range_with_len}
 use Rattle.inliner.proofs.StartLemmas.{range_more}
-use Rattle.inliner.proofs.FaultLemmas.{no_value}
+use Rattle.revc_base.proofs.ResultLemmas.{no_value}
 use Rattle.inliner.proofs.start.numbers.Goals as goal
 
 pub loop-number-init : goal.loop-number-init

@@ -1,6 +1,6 @@
 use Rattle.std.proofs.Common.{ap, ◌∙◌, ℕ, Vec, Global}
 use Rattle.inliner.proofs.StartLemmas.{param_places}
-use Rattle.inliner.proofs.FaultLemmas.{no_value}
+use Rattle.revc_base.proofs.ResultLemmas.{no_value}
 use Rattle.inliner.proofs.start.param_value.Goals as goal
 
 pub returns-in_ok-new-in-Some-clause-ok : goal.returns-in_ok-new-in-Some-clause-ok

@@ -3,7 +3,7 @@ use Rattle.revc_base.specs.Tapes.{TapeView}
 use Rattle.revs_terms.specs.Programs.{widths_of}
 use Rattle.inliner.specs.inside.Starts.{AreInputs}
 use Rattle.inliner.proofs.StartLemmas.{started, are_inputs, are_widths}
-use Rattle.inliner.proofs.FaultLemmas.{no_value}
+use Rattle.revc_base.proofs.ResultLemmas.{no_value}
 use Rattle.inliner.proofs.start.start.Goals as goal
 
 pub new-tape-requires : goal.new-tape-requires

@@ -4,7 +4,8 @@ use Rattle.decision_diagram.specs.Diagrams.{Triple, function_of}
 use Rattle.decision_diagram.specs.Growth.{MayRefuse}
 use Rattle.decision_diagram.specs.inside.Joining.{joined, node_function}
 use Rattle.decision_diagram.proofs.GrowthLemmas.{KeepsNodes-refl, KeepsNodes-trans, StandsFor-same, behind-kept, Grows-from, Grows-same, Grows-trans}
-use Rattle.decision_diagram.proofs.GrowthLemmas.{Grows-refl, MayRefuse-from, MayRefuse-same, no_answer}
+use Rattle.decision_diagram.proofs.GrowthLemmas.{Grows-refl, MayRefuse-from, MayRefuse-same}
+use Rattle.revc_base.proofs.ResultLemmas.{no_value}
 use Rattle.decision_diagram.proofs.JoinLemmas.{one_asks, settled_behind, later_comes, node_is_join, refused_at}
 use Rattle.decision_diagram.proofs.MemoLemmas.{made_join, holds-kept, holds-noted, recalled_behind}
 use Rattle.decision_diagram.proofs.diagram.Diagram.+join.Goals as goal
@@ -199,19 +200,19 @@ returns-in-Some-recalled-clause-grows t c =
     Grows-refl (joined c.args.operation (function_of d.nodes c.args.f) (function_of d.nodes c.args.g)) d c.settled.ensures.canonical
 
 pub returns-in_err-low-clause-answer : goal.returns-in_err-low-clause-answer
-returns-in_err-low-clause-answer t c = no_answer c.from_residual.result _ _ c.from_residual.ensures.1
+returns-in_err-low-clause-answer t c = no_value c.from_residual.result _ _ c.from_residual.ensures.1
 
 pub returns-in_err-low-clause-behind : goal.returns-in_err-low-clause-behind
-returns-in_err-low-clause-behind t c = λ v f g. no_answer c.from_residual.result _ _ c.from_residual.ensures.1
+returns-in_err-low-clause-behind t c = λ v f g. no_value c.from_residual.result _ _ c.from_residual.ensures.1
 
 pub returns-in_err-high-clause-answer : goal.returns-in_err-high-clause-answer
-returns-in_err-high-clause-answer t c = no_answer c.from_residual-in_err-high.result _ _ c.from_residual-in_err-high.ensures.1
+returns-in_err-high-clause-answer t c = no_value c.from_residual-in_err-high.result _ _ c.from_residual-in_err-high.ensures.1
 
 pub returns-in_err-high-clause-behind : goal.returns-in_err-high-clause-behind
-returns-in_err-high-clause-behind t c = λ v f g. no_answer c.from_residual-in_err-high.result _ _ c.from_residual-in_err-high.ensures.1
+returns-in_err-high-clause-behind t c = λ v f g. no_value c.from_residual-in_err-high.result _ _ c.from_residual-in_err-high.ensures.1
 
 pub returns-in_err-joined-clause-answer : goal.returns-in_err-joined-clause-answer
-returns-in_err-joined-clause-answer t c = no_answer c.from_residual-in_err-joined.result _ _ c.from_residual-in_err-joined.ensures.1
+returns-in_err-joined-clause-answer t c = no_value c.from_residual-in_err-joined.result _ _ c.from_residual-in_err-joined.ensures.1
 
 pub returns-in_err-joined-clause-behind : goal.returns-in_err-joined-clause-behind
-returns-in_err-joined-clause-behind t c = λ v f g. no_answer c.from_residual-in_err-joined.result _ _ c.from_residual-in_err-joined.ensures.1
+returns-in_err-joined-clause-behind t c = λ v f g. no_value c.from_residual-in_err-joined.result _ _ c.from_residual-in_err-joined.ensures.1

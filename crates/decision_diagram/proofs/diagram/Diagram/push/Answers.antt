@@ -1,9 +1,9 @@
 use Rattle.std.proofs.Common.{◌∙◌, ◌+◌, ap, length, Contains, subst, sym, arith}
 use Rattle.std.proofs.lemmas.List.{length-reverse}
-use Rattle.revc_base.proofs.ResultLemmas.{passes_on}
+use Rattle.revc_base.proofs.ResultLemmas.{no_value, passes_on}
 use Rattle.decision_diagram.specs.Diagrams.{DiagramView, IsCanonical}
 use Rattle.decision_diagram.specs.inside.Joining.{node_function}
-use Rattle.decision_diagram.proofs.GrowthLemmas.{Grows-refl, no_answer}
+use Rattle.decision_diagram.proofs.GrowthLemmas.{Grows-refl}
 use Rattle.decision_diagram.proofs.LookupLemmas.{new_goes_last}
 use Rattle.decision_diagram.proofs.PlaceLemmas.{push_grows, push_fails, push_stands, push_full}
 use Rattle.decision_diagram.proofs.diagram.Diagram.push.Goals as goal
@@ -27,10 +27,10 @@ pub invariant_of-self : goal.invariant_of-self
 invariant_of-self c = let g = returns-in_err-insert-clause-grows c in g.canonical
 
 pub returns-in_err-insert-clause-answer : goal.returns-in_err-insert-clause-answer
-returns-in_err-insert-clause-answer c = no_answer c.from_residual.result _ _ c.from_residual.ensures.1
+returns-in_err-insert-clause-answer c = no_value c.from_residual.result _ _ c.from_residual.ensures.1
 
 pub returns-in_err-insert-clause-first : goal.returns-in_err-insert-clause-first
-returns-in_err-insert-clause-first c = no_answer c.from_residual.result _ _ c.from_residual.ensures.1
+returns-in_err-insert-clause-first c = no_value c.from_residual.result _ _ c.from_residual.ensures.1
 
 pub returns-in_err-insert-clause-refused : goal.returns-in_err-insert-clause-refused
 returns-in_err-insert-clause-refused c = passes_on _ c.from_residual.result c.from_residual.ensures.1

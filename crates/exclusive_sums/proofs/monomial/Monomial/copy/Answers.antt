@@ -1,4 +1,4 @@
-use Rattle.exclusive_sums.proofs.FaultLemmas.{no_value}
+use Rattle.revc_base.proofs.ResultLemmas.{no_value}
 use Rattle.exclusive_sums.proofs.monomial.Monomial.copy.Goals as goal
 
 pub returns-in_err-from_slice : goal.returns-in_err-from_slice

@@ -1,7 +1,7 @@
 use Rattle.std.proofs.Common.{◌⊎◌, ◌≤◌, length, refl, ◌∙◌, inl, inr, arith}
 use Rattle.std.proofs.lemmas.List.{take_rest, append_assoc}
 use Rattle.exclusive_sums.proofs.PolyLemmas.{union_left_over}
-use Rattle.exclusive_sums.proofs.FaultLemmas.{no_value}
+use Rattle.revc_base.proofs.ResultLemmas.{no_value}
 use Rattle.exclusive_sums.proofs.monomial.Monomial.union.Goals as goal
 use Rattle.exclusive_sums.proofs.monomial.Monomial.union.Goals.{then-loop-i-test+else-j-right, else-loop-i-test}
 

@@ -1,7 +1,7 @@
 use Rattle.std.proofs.Common.{refl, arith}
 use Rattle.std.proofs.lemmas.List.Sorted.{length_permutation}
 use Rattle.exclusive_sums.proofs.MonomialSetLemmas.{up_to_from_product, up_to_from_sorted, over_sorted}
-use Rattle.exclusive_sums.proofs.FaultLemmas.{no_value}
+use Rattle.revc_base.proofs.ResultLemmas.{no_value}
 use Rattle.exclusive_sums.proofs.poly.Poly.and.Goals as goal
 
 pub returns-then-len-gt-MOST_MONOMIALS-clause-polynomial : goal.returns-then-len-gt-MOST_MONOMIALS-clause-polynomial

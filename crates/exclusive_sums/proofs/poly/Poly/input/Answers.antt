@@ -1,6 +1,6 @@
 use Rattle.std.proofs.Common.{◌≡◌, [], ◌∷◌, rules}
 use Rattle.exclusive_sums.proofs.PolyLemmas.{input_polynomial}
-use Rattle.exclusive_sums.proofs.FaultLemmas.{no_value}
+use Rattle.revc_base.proofs.ResultLemmas.{no_value}
 use Rattle.exclusive_sums.proofs.poly.Poly.input.Goals as goal
 
 pub returns-clause-function : goal.returns-clause-function

@@ -5,7 +5,7 @@ use Rattle.revc_base.proofs.SumLemmas.{IsPolynomial-exclusive_sum_of, IsPolynomi
 use Rattle.exclusive_sums.specs.Inputs.{AreOverInputsOf}
 use Rattle.exclusive_sums.proofs.InputLemmas.{over_negation, if_answered}
 use Rattle.exclusive_sums.proofs.PolyLemmas.{sum_of_equal, up_to_from_negation}
-use Rattle.exclusive_sums.proofs.FaultLemmas.{no_value}
+use Rattle.revc_base.proofs.ResultLemmas.{no_value}
 use Rattle.exclusive_sums.proofs.poly.Poly.not.Goals as goal
 
 pub limited-requires : goal.limited-requires

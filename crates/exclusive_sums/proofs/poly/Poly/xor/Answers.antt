@@ -5,7 +5,7 @@ use Rattle.revc_base.proofs.SumLemmas.{IsPolynomial-exclusive_sum_of}
 use Rattle.exclusive_sums.specs.Inputs.{AreOverInputsOf}
 use Rattle.exclusive_sums.proofs.InputLemmas.{over_sum, if_answered}
 use Rattle.exclusive_sums.proofs.PolyLemmas.{sum_of_equal, up_to_from_sum}
-use Rattle.exclusive_sums.proofs.FaultLemmas.{no_value}
+use Rattle.revc_base.proofs.ResultLemmas.{no_value}
 use Rattle.exclusive_sums.proofs.poly.Poly.xor.Goals as goal
 
 pub limited-requires : goal.limited-requires

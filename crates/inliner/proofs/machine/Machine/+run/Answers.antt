@@ -10,13 +10,13 @@ use Rattle.revs_terms.specs.Runs.{no_bits}
 use Rattle.inliner.specs.inside.Machines.{envs_of, env_in, value_in, state_of, Goes, Binds, Calls}
 use Rattle.std.proofs.lemmas.Result.{IfOk-weaker, IfErr-weaker}
 use Rattle.inliner.proofs.EnvironmentLemmas.{grown_within}
-use Rattle.inliner.proofs.FaultLemmas.{no_value, said_first}
+use Rattle.inliner.proofs.FaultLemmas.{said_first}
+use Rattle.revc_base.proofs.ResultLemmas.{no_value, passes_on}
 use Rattle.inliner.proofs.ProgressLemmas.{on_ok_alone, begun, step, ends, ends_goes, ends_calls, said, goes_in, says_in}
 use Rattle.inliner.proofs.ChainLemmas.{entered, assigns_from, assigns_stuck, reg_made, reg_stuck, bits_begun, bits_more}
 use Rattle.inliner.proofs.ChainLemmas.{bits_stuck, bits_done, chain_begun, chain_more, chain_no_first, chain_stuck, chain_done}
 use Rattle.inliner.proofs.CallLemmas.{mapped_at, mapped_end, block_more, block_stuck, at_begun, append_second, append_stuck, apply_begun, apply_more}
 use Rattle.inliner.proofs.CallLemmas.{apply_done, block_last, value_behind}
-use Rattle.revc_base.proofs.ResultLemmas.{passes_on}
 use Rattle.inliner.proofs.CallLemmas.{apply_stuck, argument_run, call_stuck, call_last, call_next, call_ends, call_said, item_bound, item_run, block_term}
 use Rattle.inliner.specs.inside.Calls.{Says, item_step, join_step}
 use Rattle.inliner.proofs.machine.Machine.+run.Goals as goal

@@ -1,6 +1,6 @@
 use Rattle.std.proofs.Common.{refl}
 use Rattle.inliner.proofs.WriteLemmas.{assigned_goes}
-use Rattle.inliner.proofs.FaultLemmas.{no_value}
+use Rattle.revc_base.proofs.ResultLemmas.{no_value}
 use Rattle.inliner.proofs.machine.Machine.assign.Goals as goal
 
 pub returns-clause-ok : goal.returns-clause-ok

@@ -3,7 +3,7 @@ use Rattle.inliner.specs.declared.machine.Binding.{Binding}
 use Rattle.inliner.specs.inside.Machines.{AreBindings, AreLeaps, Leaps, envs_from}
 use Rattle.inliner.proofs.EnvironmentLemmas.{bound_done, grown_length}
 use Rattle.inliner.proofs.LeapLemmas.{leaps_pushed}
-use Rattle.inliner.proofs.FaultLemmas.{no_value}
+use Rattle.revc_base.proofs.ResultLemmas.{no_value}
 use Rattle.inliner.proofs.machine.Machine.bind.Goals as goal
 
 pub leap_from-leap-requires-clause-made : goal.leap_from-leap-requires-clause-made

@@ -1,6 +1,6 @@
 use Rattle.std.proofs.Common.{refl, rules, arith, length, ap}
 use Rattle.inliner.proofs.WriteLemmas.{asserted, cleaned}
-use Rattle.inliner.proofs.FaultLemmas.{no_value}
+use Rattle.revc_base.proofs.ResultLemmas.{no_value}
 use Rattle.inliner.proofs.machine.Machine.claim.Goals as goal
 
 pub returns-then-eq-clause-ok : goal.returns-then-eq-clause-ok

@@ -1,4 +1,4 @@
-use Rattle.inliner.proofs.FaultLemmas.{no_value}
+use Rattle.revc_base.proofs.ResultLemmas.{no_value}
 use Rattle.inliner.proofs.machine.Machine.constant.Goals as goal
 
 pub returns-in_err-write-clause-ok : goal.returns-in_err-write-clause-ok

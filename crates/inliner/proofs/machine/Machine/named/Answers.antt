@@ -3,7 +3,7 @@ use Rattle.array_shapes.specs.Values.{ValueView}
 use Rattle.inliner.specs.inside.Machines.{envs_of, spec_value, IsValueView}
 use Rattle.inliner.proofs.EnvironmentLemmas.{none_bound, nearest}
 use Rattle.inliner.proofs.LeapLemmas.{value_there}
-use Rattle.inliner.proofs.FaultLemmas.{no_value}
+use Rattle.revc_base.proofs.ResultLemmas.{no_value}
 use Rattle.inliner.proofs.machine.Machine.named.Goals as goal
 
 pub returns-then-there-eq0-clause-ok : goal.returns-then-there-eq0-clause-ok

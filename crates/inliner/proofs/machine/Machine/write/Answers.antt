@@ -1,6 +1,6 @@
 use Rattle.std.proofs.Common.{refl, rules, arith}
 use Rattle.inliner.proofs.WriteLemmas.{wrote}
-use Rattle.inliner.proofs.FaultLemmas.{no_value}
+use Rattle.revc_base.proofs.ResultLemmas.{no_value}
 use Rattle.inliner.proofs.machine.Machine.write.Goals as goal
 
 pub returns-clause-ok : goal.returns-clause-ok
