@@ -4,7 +4,8 @@ ghost use Rattle.std.specs.Prelude.{Err, OnOk, IfOk, IfErr, slice_set, slice_ind
 ghost use Rattle.std.specs.List.{AllByRecursion};
 ghost use Rattle.mct_circuit.specs.Gates.{IsGateOn};
 ghost use Rattle.real_format.specs.inside.Reading.{Refuses, alone, has_sign, targets_in, shape_of};
-ghost use Rattle.real_format.specs.inside.Reading.{line_of, control_of, controls_from, target_of, op_of};
+ghost use Rattle.real_format.specs.inside.Reading.{line_of, control_of, controls_from};
+ghost use Rattle.real_format.specs.inside.Reading.{target_of, op_of};
 ghost use Rattle.real_format.specs.inside.Reading.{gate_of, lines_of_controls};
 ghost use Rattle.real_format.specs.inside.Stamps.{is_stamped, AreStamped};
 

@@ -3,7 +3,8 @@ ghost use Rattle.std.specs.Prelude.{◌≡◌, ◌≢◌, ◌≤◌, ◌⊎◌, 
 ghost use Rattle.std.specs.Prelude.{IfOk, OnOk, OnErr, IfErr, IsErrOf};
 ghost use Rattle.std.specs.Io.KnownBytes.{IsAtEnd};
 ghost use Rattle.revc_io.specs.Faults.{Rose};
-ghost use Rattle.revc_driver.specs.Commands.{Gives, IsCausedBy, IsCauseOrMemory, Serves, most_bytes};
+ghost use Rattle.revc_driver.specs.Commands.{Gives, IsCausedBy, IsCauseOrMemory};
+ghost use Rattle.revc_driver.specs.Commands.{Serves, most_bytes};
 ghost use Rattle.revc_driver.specs.Commands.{reads_source, statuses_of, text_told};
 ghost use Rattle.command_answers.specs.Faults.{status_of};
 ghost use Rattle.revc_driver.specs.Top.{Grows, GrowsByPrefix, IsReadAt, IsReadFor, IsReadWhole};

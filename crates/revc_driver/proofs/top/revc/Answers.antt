@@ -4,7 +4,8 @@ use Rattle.command_answers.specs.declared.fault.Fault.{Fault}
 use Rattle.revc_io.specs.Faults.{Rose}
 use Rattle.revc_driver.specs.Commands.{Gives}
 use Rattle.revc_driver.specs.Top.{Grows, IsStatusOfAll}
-use Rattle.revc_driver.proofs.TopLemmas.{served, given_exact, ends_well, may_succeed, may_end_after, exact_after, completes_after, stopped_after, read_whole_after}
+use Rattle.revc_driver.proofs.TopLemmas.{served, given_exact, ends_well, may_succeed, may_end_after}
+use Rattle.revc_driver.proofs.TopLemmas.{exact_after, completes_after, stopped_after, read_whole_after}
 use Rattle.revc_driver.proofs.top.revc.Goals as goal
 
 as_err : {fault other : Fault} → fault ≡ other → IsErrOf {T = Unit {0}} {E = Fault} (Err fault) other

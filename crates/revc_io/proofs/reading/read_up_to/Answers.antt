@@ -11,10 +11,12 @@ pub returns-in_err-count-clause-stays : goal.returns-in_err-count-clause-stays
 returns-in_err-count-clause-stays g c = no_promise c.from_residual.result _ _ c.from_residual.ensures.1
 
 pub returns-in_err-extend_from_slice-clause-end : goal.returns-in_err-extend_from_slice-clause-end
-returns-in_err-extend_from_slice-clause-end g c = no_promise c.from_residual-in_err-extend_from_slice.result _ _ c.from_residual-in_err-extend_from_slice.ensures.1
+returns-in_err-extend_from_slice-clause-end g c =
+    no_promise c.from_residual-in_err-extend_from_slice.result _ _ c.from_residual-in_err-extend_from_slice.ensures.1
 
 pub returns-in_err-extend_from_slice-clause-stays : goal.returns-in_err-extend_from_slice-clause-stays
-returns-in_err-extend_from_slice-clause-stays g c = no_promise c.from_residual-in_err-extend_from_slice.result _ _ c.from_residual-in_err-extend_from_slice.ensures.1
+returns-in_err-extend_from_slice-clause-stays g c =
+    no_promise c.from_residual-in_err-extend_from_slice.result _ _ c.from_residual-in_err-extend_from_slice.ensures.1
 
 pub returns-in_err-count-clause-taken : goal.returns-in_err-count-clause-taken
 returns-in_err-count-clause-taken g c = no_value c.from_residual.result _ _ c.from_residual.ensures.1
@@ -26,13 +28,16 @@ pub returns-in_err-count-clause-fits : goal.returns-in_err-count-clause-fits
 returns-in_err-count-clause-fits g c = no_value c.from_residual.result _ _ c.from_residual.ensures.1
 
 pub returns-in_err-extend_from_slice-clause-taken : goal.returns-in_err-extend_from_slice-clause-taken
-returns-in_err-extend_from_slice-clause-taken g c = no_value c.from_residual-in_err-extend_from_slice.result _ _ c.from_residual-in_err-extend_from_slice.ensures.1
+returns-in_err-extend_from_slice-clause-taken g c =
+    no_value c.from_residual-in_err-extend_from_slice.result _ _ c.from_residual-in_err-extend_from_slice.ensures.1
 
 pub returns-in_err-extend_from_slice-clause-text : goal.returns-in_err-extend_from_slice-clause-text
-returns-in_err-extend_from_slice-clause-text g c = no_value c.from_residual-in_err-extend_from_slice.result _ _ c.from_residual-in_err-extend_from_slice.ensures.1
+returns-in_err-extend_from_slice-clause-text g c =
+    no_value c.from_residual-in_err-extend_from_slice.result _ _ c.from_residual-in_err-extend_from_slice.ensures.1
 
 pub returns-in_err-extend_from_slice-clause-fits : goal.returns-in_err-extend_from_slice-clause-fits
-returns-in_err-extend_from_slice-clause-fits g c = no_value c.from_residual-in_err-extend_from_slice.result _ _ c.from_residual-in_err-extend_from_slice.ensures.1
+returns-in_err-extend_from_slice-clause-fits g c =
+    no_value c.from_residual-in_err-extend_from_slice.result _ _ c.from_residual-in_err-extend_from_slice.ensures.1
 
 pub returns-then-count-limit-clause-refused : goal.returns-then-count-limit-clause-refused
 returns-then-count-limit-clause-refused g c =
