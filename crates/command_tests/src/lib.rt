@@ -1,4 +1,5 @@
-//! Tests of the top call: rows that cross crates, a command each.
+//! Tests of the words of a command line, and of the top call: rows that cross crates, a command
+//! each.
 #![tactic(auto)]
 
 #[cfg(test)]
@@ -19,3 +20,5 @@ mod gallery_tests;
 mod plan_tests;
 #[cfg(test)]
 mod rows;
+#[cfg(test)]
+mod words_tests;

@@ -1,5 +1,4 @@
-//! Tests of the public calls of the crates of texts: streams, file formats, generated programs and
-//! words.
+//! Tests of the public calls of the crates of texts: streams, file formats and generated programs.
 #![tactic(auto)]
 
 #[cfg(test)]
@@ -12,5 +11,3 @@ mod qasm_lexer_tests;
 mod real_format_tests;
 #[cfg(test)]
 mod revc_io_tests;
-#[cfg(test)]
-mod revc_words_tests;

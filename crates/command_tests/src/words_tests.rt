@@ -177,11 +177,11 @@ fn are_same(bits: &[String], words: &[&str]) -> bool {
 }
 
 fn assert_asked(rt: &impl Abort, order: &Order, asked: &Asked) {
+    let numbers = [order.lines, order.borrow, order.nodes, order.number];
+    let formats = [order.format, order.from, order.to];
     assert!(rt; order.command == asked.command && order.plan == asked.plan);
-    assert!(rt; order.lines == asked.lines && order.gates == asked.gates);
-    assert!(rt; order.borrow == asked.borrow && order.nodes == asked.nodes);
-    assert!(rt; order.format == asked.format && order.number == asked.number);
-    assert!(rt; order.from == asked.from && order.to == asked.to);
+    assert!(rt; numbers == [asked.lines, asked.borrow, asked.nodes, asked.number]);
+    assert!(rt; order.gates == asked.gates && formats == [asked.format, asked.from, asked.to]);
     assert!(rt; are_same(&order.bits, asked.bits));
 }
 
