@@ -44,10 +44,16 @@ fn assert_cancels(rt: &impl Abort, diagram: &mut Diagram, both: Dd) -> Result<()
     Ok(())
 }
 
+fn assert_conjunction(rt: &impl Abort, diagram: &mut Diagram) -> Result<(), Fail>
+    requires { diagram.old.vars ≡ 2 }
+{
+    let both = conjunction(diagram)?;
+    assert_least(rt, diagram, both);
+    Ok(assert_cancels(rt, diagram, both)?)
+}
+
 #[test]
 fn a_conjunction_fits_three_nodes(rt: HostRuntime) -> Result<(), Fail> {
     let mut diagram = Diagram::new(rt.alloc(), 2, 3)?;
-    let both = conjunction(&mut diagram)?;
-    assert_least(&rt, &diagram, both);
-    Ok(assert_cancels(&rt, &mut diagram, both)?)
+    assert_conjunction(&rt, &mut diagram)
 }

@@ -111,22 +111,26 @@ fn assert_full(rt: &impl Abort, product: &Poly, thirteenth: &Poly) -> Result<(),
     Ok(())
 }
 
+fn assert_too_many(rt: &impl Abort, f: &Poly, g: &Poly) -> Result<(), Memory> {
+    assert!(rt; len_of(f.and(g)?) == None);
+    Ok(())
+}
+
 // The products with others have 128 and 4,096 monomials.
 fn assert_passed(rt: &impl Abort, alloc: Global, product: &Poly) -> Result<(), Memory> {
-    let negation = not(rt, Poly::input(alloc, 12)?)?;
-    assert!(rt; len_of(product.and(&negation)?) == None);
-    let others = six_sums(rt, alloc, 12)?;
-    assert!(rt; len_of(product.and(&others)?) == None);
-    Ok(())
+    assert_too_many(rt, product, &not(rt, Poly::input(alloc, 12)?)?)?;
+    assert_too_many(rt, product, &six_sums(rt, alloc, 12)?)
+}
+
+fn assert_64(rt: &impl Abort, alloc: Global, product: &Poly) -> Result<(), Fail> {
+    assert!(rt; product.len() == 64);
+    assert_full(rt, product, &Poly::input(alloc, 12)?)?;
+    Ok(assert_passed(rt, alloc, product)?)
 }
 
 // The product of six sums of two inputs each has 64 monomials.
 #[test]
 fn holds_64_monomials(rt: HostRuntime) -> Result<(), Fail> {
-    let alloc = rt.alloc();
-    let product = six_sums(&rt, alloc, 0)?;
-    assert!(rt; product.len() == 64);
-    assert_full(&rt, &product, &Poly::input(alloc, 12)?)?;
-    assert_passed(&rt, alloc, &product)?;
-    Ok(())
+    let product = six_sums(&rt, rt.alloc(), 0)?;
+    assert_64(&rt, rt.alloc(), &product)
 }

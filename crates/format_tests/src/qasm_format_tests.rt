@@ -14,40 +14,38 @@ use std::test::Fail;
 const TEXT: &[u8] = b"OPENQASM 2.0;\ninclude \"qelib1.inc\";\nqreg inp[2];\nqreg outp[1];
 qreg work[1];\nqreg dirty[1];\nccx inp[0],dirty[0],work[0];\ncx work[0],outp[0];\nx inp[1];\n";
 
-// Whether this is the text of a plan.
-fn is_text(alloc: Global, laid: Laid, text: &[u8]) -> Result<bool, Fail>
-    requires some { 1 ≤ laid.circuit.lines }
-    requires few { laid.circuit.lines ≤ 9 }
-    requires gates { length laid.circuit.gates ≤ 9 }
+fn assert_text(rt: &impl Abort, alloc: Global, laid: &Laid, text: &[u8]) -> Result<(), Fail>
+    requires some { 1 ≤ laid.now.circuit.lines }
+    requires few { laid.now.circuit.lines ≤ 9 }
+    requires gates { length laid.now.circuit.gates ≤ 9 }
 {
     let mut sink = MemorySink::new(alloc, 1000, Vec::new(alloc), 50)?;
-    let is_whole = write(&laid, &mut sink).is_ok();
-    Ok(is_whole && sink.bytes() == text)
+    assert!(rt; write(laid, &mut sink).is_ok() && sink.bytes() == text);
+    Ok(())
 }
 
 // A line of each role and a gate of each width.
 #[test]
 fn a_circuit_is_written(rt: HostRuntime) -> Result<(), Fail> {
-    assert!(rt; is_text(rt.alloc(), each_role(rt.alloc())?, TEXT)?);
-    Ok(())
+    let laid = each_role(rt.alloc())?;
+    assert_text(&rt, rt.alloc(), &laid, TEXT)
 }
 
 // Registers without lines are left out.
 const NARROW: &[u8] = b"OPENQASM 2.0;\ninclude \"qelib1.inc\";\nqreg outp[1];\nx outp[0];\n";
 
-fn one_line(alloc: Global) -> Result<Laid, Fail>
-    ensures lines { IfOk result (λ laid. laid.circuit.lines ≡ 1) }
-    ensures gates { IfOk result (λ laid. length laid.circuit.gates ≤ 9) }
+fn assert_narrow(rt: &impl Abort, alloc: Global, circuit: &mut Circuit) -> Result<(), Fail>
+    requires { circuit.old.lines ≡ 1 }
 {
-    let mut circuit = Circuit::new(alloc, 1, 9);
     circuit.push_flip(&[], 0)?;
-    Ok(Laid::new(split(alloc, &circuit, 1, 9)?, 0, 1, 0, 0))
+    let laid = Laid::new(split(alloc, circuit, 1, 9)?, 0, 1, 0, 0);
+    assert_text(rt, alloc, &laid, NARROW)
 }
 
 #[test]
 fn empty_registers_are_left_out(rt: HostRuntime) -> Result<(), Fail> {
-    assert!(rt; is_text(rt.alloc(), one_line(rt.alloc())?, NARROW)?);
-    Ok(())
+    let mut circuit = Circuit::new(rt.alloc(), 1, 9);
+    assert_narrow(&rt, rt.alloc(), &mut circuit)
 }
 
 // A flip with three controls on all lines, split beside an added line, by hand; and a circuit
@@ -58,41 +56,50 @@ ccx q[2],dirty[0],q[3];\nccx q[0],q[1],dirty[0];\n";
 
 const KEPT: &[u8] = b"OPENQASM 2.0;\ninclude \"qelib1.inc\";\nqreg q[2];\ncx q[0],q[1];\n";
 
-// A flip of the last line by all others, split beside an added line.
-fn wide(alloc: Global) -> Result<Narrow, Fail>
-    ensures lines { IfOk result (λ narrow. narrow.lines ≡ 5) }
-    ensures gates { IfOk result (λ narrow. length narrow.gates ≤ 9) }
-{
-    let mut circuit = Circuit::new(alloc, 4, 9);
-    circuit.push_flip(&[0, 1, 2], 3)?;
-    Ok(split(alloc, &circuit, 5, 9)?)
-}
-
-fn short(alloc: Global) -> Result<Narrow, Fail>
-    ensures lines { IfOk result (λ narrow. narrow.lines ≡ 2) }
-    ensures gates { IfOk result (λ narrow. length narrow.gates ≤ 9) }
-{
-    let mut circuit = Circuit::new(alloc, 2, 9);
-    circuit.push_flip(&[0], 1)?;
-    Ok(split(alloc, &circuit, 2, 9)?)
-}
-
-// Whether this is the text of a circuit, whose last line may be an added one.
-fn is_listing(alloc: Global, narrow: Narrow, added: bool, text: &[u8]) -> Result<bool, Fail>
-    requires some { 2 ≤ narrow.lines }
-    requires few { narrow.lines ≤ 9 }
-    requires gates { length narrow.gates ≤ 9 }
+// The text of a circuit, whose last line may be an added one.
+fn assert_listing(
+    rt: &impl Abort,
+    alloc: Global,
+    narrow: &Narrow,
+    added: bool,
+    text: &[u8],
+) -> Result<(), Fail>
+    requires some { 2 ≤ narrow.now.lines }
+    requires few { narrow.now.lines ≤ 9 }
+    requires gates { length narrow.now.gates ≤ 9 }
 {
     let mut sink = MemorySink::new(alloc, 1000, Vec::new(alloc), 7)?;
-    let is_whole = write_lines(&narrow, added, &mut sink).is_ok();
-    Ok(is_whole && sink.bytes() == text)
+    assert!(rt; write_lines(narrow, added, &mut sink).is_ok() && sink.bytes() == text);
+    Ok(())
+}
+
+// A flip of the last line by all others, split beside an added line.
+fn assert_added(rt: &impl Abort, alloc: Global, circuit: &mut Circuit) -> Result<(), Fail>
+    requires { circuit.old.lines ≡ 4 }
+{
+    circuit.push_flip(&[0, 1, 2], 3)?;
+    let narrow = split(alloc, circuit, 5, 9)?;
+    assert_listing(rt, alloc, &narrow, true, ADDED)
+}
+
+#[test]
+fn an_added_line_is_written(rt: HostRuntime) -> Result<(), Fail> {
+    let mut circuit = Circuit::new(rt.alloc(), 4, 9);
+    assert_added(&rt, rt.alloc(), &mut circuit)
+}
+
+fn assert_kept(rt: &impl Abort, alloc: Global, circuit: &mut Circuit) -> Result<(), Fail>
+    requires { circuit.old.lines ≡ 2 }
+{
+    circuit.push_flip(&[0], 1)?;
+    let narrow = split(alloc, circuit, 2, 9)?;
+    assert_listing(rt, alloc, &narrow, false, KEPT)
 }
 
 #[test]
 fn numbered_lines_are_written(rt: HostRuntime) -> Result<(), Fail> {
-    assert!(rt; is_listing(rt.alloc(), wide(rt.alloc())?, true, ADDED)?);
-    assert!(rt; is_listing(rt.alloc(), short(rt.alloc())?, false, KEPT)?);
-    Ok(())
+    let mut circuit = Circuit::new(rt.alloc(), 2, 9);
+    assert_kept(&rt, rt.alloc(), &mut circuit)
 }
 
 // A file with comments, registers of both kinds, a barrier, `CX` before the include, and whole

@@ -33,21 +33,28 @@ pub fn each_role(alloc: Global) -> Result<Laid, Fail>
     Ok(Laid::new(split(alloc, &circuit, 5, 3)?, 2, 1, 1, 1))
 }
 
-// Whether a sink with this room takes the whole text, or else what fits.
-fn is_written(alloc: Global, laid: Laid, room: usize, whole: bool) -> Result<bool, Fail>
-    requires lines { laid.circuit.lines ≡ 5 }
-    requires gates { length laid.circuit.gates ≤ 3 }
+// A sink with this room takes the whole text, or else what fits.
+fn assert_written(
+    rt: &impl Abort,
+    alloc: Global,
+    laid: &Laid,
+    room: usize,
+    whole: bool,
+) -> Result<(), Fail>
+    requires lines { laid.now.circuit.lines ≡ 5 }
+    requires gates { length laid.now.circuit.gates ≤ 3 }
 {
     let mut sink = MemorySink::new(alloc, room, Vec::new(alloc), 7)?;
-    let is_whole = write(&laid, &mut sink).is_ok();
-    Ok(is_whole == whole && sink.bytes() == &TEXT[..TEXT.len().min(room)])
+    assert!(rt; write(laid, &mut sink).is_ok() == whole);
+    assert!(rt; sink.bytes() == &TEXT[..TEXT.len().min(room)]);
+    Ok(())
 }
 
 #[test]
 fn a_circuit_is_written(rt: HostRuntime) -> Result<(), Fail> {
-    assert!(rt; is_written(rt.alloc(), each_role(rt.alloc())?, 1000, true)?);
-    assert!(rt; is_written(rt.alloc(), each_role(rt.alloc())?, 100, false)?);
-    Ok(())
+    let laid = each_role(rt.alloc())?;
+    assert_written(&rt, rt.alloc(), &laid, 1000, true)?;
+    assert_written(&rt, rt.alloc(), &laid, 100, false)
 }
 
 const LINES: &[u8] =
