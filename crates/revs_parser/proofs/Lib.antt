@@ -1,5 +1,6 @@
 pub mod PassingLemmas
 pub mod StepLemmas
+pub mod TokenLemmas
 pub mod ReadingLemmas
 pub mod ProgramLemmas
 pub mod OneTextLemmas

@@ -38,7 +38,8 @@ use Rattle.revs_parser.specs.inside.Forms.{ReadsParameters, ReadsProgram, IsRefu
 use Rattle.revs_parser.specs.Results.{IsAnswer, IsRefused}
 use Rattle.revs_parser.proofs.StepLemmas as m
 use Rattle.revs_parser.proofs.PassingLemmas.{passes_then, beside, and_then, and_maybe, line_passes, halts_first, halts_there, halts_behind}
-use Rattle.revs_parser.proofs.ReadingLemmas.{a_sign, bare_word, by_pieces, by_token, halts_by_pieces, left_out, Repeats}
+use Rattle.revs_parser.proofs.TokenLemmas.{a_sign, bare_word, by_pieces, by_token, halts_by_pieces, left_out}
+use Rattle.revs_parser.proofs.ReadingLemmas.{Repeats}
 use Rattle.revs_parser.proofs.ReadingLemmas.{repeats_begun, repeats_more, repeats_done, repeats_halts}
 
 -- ---- parameters

@@ -1,23 +1,18 @@
 -- What each way through a function reads, and where it halts.
-use Rattle.std.proofs.Common.{◌≡◌, ℕ, ◌+◌, ◌==◌, true, false, Some, None, List, [], ◌∷◌, ◌++◌, inl}
+use Rattle.std.proofs.Common.{◌≡◌, ℕ, ◌+◌, true, false, Some, None, List, [], ◌∷◌, ◌++◌, inl}
 use Rattle.std.proofs.Common.{inr, refl, sym, length, append_assoc, map, arith, append-nil}
-use Rattle.std.proofs.lemmas.Bool.Decides.{nat_tests}
 use Rattle.std.proofs.lemmas.List.{map-append}
 use Rattle.revc_base.specs.declared.place.Place.{Place}
 use Rattle.revs_lexer.specs.declared.sign.Sign.{Sign}
 use Rattle.revs_lexer.specs.declared.sign.Sign.TheVariants as signs
-use Rattle.revs_lexer.specs.declared.word.Word.{Word}
 use Rattle.revs_lexer.specs.declared.word.Word.TheVariants as words
-use Rattle.revs_lexer.specs.declared.token.Tok.{Tok}
 use Rattle.revs_lexer.specs.declared.token.Tok.TheVariants as toks
 use Rattle.revs_lexer.specs.declared.token.Token.{Token}
-use Rattle.revs_grammar.specs.Forms.{Mark, any_name, any_number, word, sign, held, mark_code, code, Form, Val, BodyTree, Production, IsOneOf, name_of}
+use Rattle.revs_grammar.specs.Forms.{any_name, any_number, word, sign, held, Form, Val}
 use Rattle.revs_grammar.specs.Forms as g
-use Rattle.revs_grammar.specs.Productions.{productions, bound_of, parts_of, apply_of, in_front}
-use Rattle.revs_grammar.specs.Sentences.{Symbol, token, kept_token, opening_token, form, symbols, Vals, fill, few_levels}
-use Rattle.revs_grammar.specs.inside.Machine.{Stack, is_empty, is_end, outcome}
-use Rattle.revs_grammar.proofs.CheckHints.{may_follow}
-use Rattle.revs_grammar.proofs.CheckLemmas.{begin}
+use Rattle.revs_grammar.specs.Productions.{bound_of, parts_of, apply_of, in_front}
+use Rattle.revs_grammar.specs.Sentences.{Symbol, token, kept_token, form, Vals, few_levels}
+use Rattle.revs_grammar.specs.inside.Machine.{Stack}
 use Rattle.revs_terms.specs.Trees.{Tree, ItemTree, trees, item_trees, used, bool, reg, block, function, parts, apply, append}
 use Rattle.revs_terms.specs.Trees.{ands, xors, assign, bind, run, tree_of, item_tree_of}
 use Rattle.revs_terms.specs.declared.term.Name.{Name}
@@ -39,78 +34,12 @@ use Rattle.revs_parser.specs.inside.Forms.{ReadsFunctionNames, in_bound_names, c
 use Rattle.revs_parser.specs.inside.Forms.{opening, NoOpener, EndsItem, EndsBlock, EndsPiece, ReadsPiece}
 use Rattle.revs_parser.specs.declared.expression.Piece.{Piece}
 use Rattle.revs_parser.specs.declared.expression.Piece.TheVariants as pieces
-use Rattle.revs_parser.proofs.PassingLemmas.{stays, passes_then, turned, beside, passes_reads, and_then, and_maybe, line_passes, no_longer, token_passes}
-use Rattle.revs_parser.proofs.PassingLemmas.{kept_passes, opening_passes, one_token, halts_first, halts_there, halts_behind, halts_past}
+use Rattle.revs_parser.proofs.PassingLemmas.{stays, passes_then, turned, beside, passes_reads, and_then, and_maybe, line_passes, no_longer}
+use Rattle.revs_parser.proofs.PassingLemmas.{kept_passes, one_token, halts_first, halts_there, halts_behind, halts_past}
 use Rattle.revs_parser.proofs.StepLemmas as m
-use Rattle.revs_parser.proofs.StepLemmas.{by_first, token_goes, kept_goes, opening_goes, opening_deepens}
-
--- ---- single tokens
-
--- a code is itself
-same_code : (n : ℕ) → n == n ≡ true
-same_code n = grind (arith, nat_tests)
-
-pub a_sign : {k : Sign} {at : Place} {ts rest : List Token} → Heads (toks.Sign k) at ts rest → Reads (token (sign k) ∷ []) tt ts rest
-a_sign {k} h = one_token h (token_passes (sign k) refl h (token_goes (sign k) (same_code (18 + g.sign_code k)) refl h))
-
--- a word that stands for nothing
-pub bare_word : {w : Word} {at : Place} {ts rest : List Token} → Heads (toks.Word w) at ts rest → Reads (token (word w) ∷ []) tt ts rest
-bare_word {w} h = one_token h (token_passes (word w) refl h (token_goes (word w) (same_code (3 + g.word_code w)) refl h))
-
-pub a_number : {n : ℕ} {at : Place} {ts rest : List Token} → Heads (toks.Number n) at ts rest → Reads (kept_token any_number ∷ []) (n, tt) ts rest
-a_number h = one_token h (kept_passes any_number refl h (kept_goes any_number refl refl h))
-
-pub a_name : {text : List ℕ} {at : Place} {ts rest : List Token} → Heads (toks.Name text) at ts rest
-    → Reads (kept_token any_name ∷ []) (name_of text at, tt) ts rest
-a_name h = one_token h (kept_passes any_name refl h (kept_goes any_name refl refl h))
-
--- a word that counts, whose kind is known
-a_word : (w : Word) {at : Place} {ts rest : List Token} → Heads (toks.Word w) at ts rest → Reads (kept_token (word w) ∷ []) (at, tt) ts rest
-a_word w h = one_token h (kept_passes (word w) refl h (kept_goes (word w) (same_code (3 + g.word_code w)) refl h))
-
--- a token that opens an allowed level
-opened : {k : Tok} {at : Place} {ts rest : List Token} (m : Mark) (l : ℕ) → few_levels l ≡ true → Heads k at ts rest
-    → code k ≡ mark_code m → code k == mark_code m ≡ true → is_end k ≡ false → Reads (opening_token m l ∷ []) (held m (record { tok = k; at = at }), tt) ts rest
-opened m l ok h e same n = one_token h (opening_passes m l e ok h (opening_goes m same n h l ok))
-
--- The machine stops at a token that opens a level too many.
-opens_too_many : {k : Tok} {at : Place} {ts rest : List Token} (m : Mark) (l : ℕ) (ss : Stack) → few_levels l ≡ false → Heads k at ts rest
-    → code k == mark_code m ≡ true → is_end k ≡ false → (stop : Stop) → stop ≡ stops.Nesting (length ts) → Halts (opening_token m l ∷ ss) ts stop
-opens_too_many {ts = ts} m l ss deep h same n stop e =
-    rw e (record { halt = λ ms. opening_deepens m same n h l deep (ss ++ ms) })
-
--- ---- forms by their lines
-
--- A form is read where its line is.
-pub by_pieces : (f : Form) (l : ℕ) (p : Production (Val f)) {ts rest : List Token} {vs : Vals (symbols l p.pieces)} → IsOneOf p (productions f)
-    → ((ms : Stack) → outcome ts (form f l ∷ ms) ≡ outcome ts (symbols l p.pieces ++ ms)) → Reads (symbols l p.pieces) vs ts rest
-    → ReadsForm f l (fill l p.pieces p.build vs) ts rest
-by_pieces f l p i goes r = passes_reads (line_passes f l p i goes) r
-
--- So it is with the line that the first token begins.
-pub by_token : (f : Form) (l : ℕ) (p : Production (Val f)) {k : Tok} {at : Place} {ts mid rest : List Token} {vs : Vals (symbols l p.pieces)}
-    → IsOneOf p (productions f) → Heads k at ts mid → is_end k ≡ false → begin (may_follow f) (code k) p.pieces ≡ true → is_empty p.pieces ≡ false
-    → Reads (symbols l p.pieces) vs ts rest → ReadsForm f l (fill l p.pieces p.build vs) ts rest
-by_token f l p i h n b some r = by_pieces f l p i (by_first f l p i h n b some) r
-
--- A form halts where its line does.
-pub halts_by_pieces : (f : Form) (l : ℕ) (p : Production (Val f)) {ts : List Token} {stop : Stop} → IsOneOf p (productions f)
-    → ((ms : Stack) → outcome ts (form f l ∷ ms) ≡ outcome ts (symbols l p.pieces ++ ms)) → Halts (symbols l p.pieces) ts stop → HaltsIn f l ts stop
-halts_by_pieces f l p i goes h = halts_there (form f l ∷ []) (symbols l p.pieces) goes h
-
-pub halts_by_token : (f : Form) (l : ℕ) (p : Production (Val f)) {k : Tok} {at : Place} {ts mid : List Token} {stop : Stop}
-    → IsOneOf p (productions f) → Heads k at ts mid → is_end k ≡ false → begin (may_follow f) (code k) p.pieces ≡ true → is_empty p.pieces ≡ false
-    → Halts (symbols l p.pieces) ts stop → HaltsIn f l ts stop
-halts_by_token f l p i h n b some r = halts_by_pieces f l p i (by_first f l p i h n b some) r
-
--- An optional form is left out.
-pub left_out : (f : Form) (l : ℕ) (p : Production (Val f)) {ts : List Token} → IsOneOf p (productions f)
-    → ((ms : Stack) → outcome ts (form f l ∷ ms) ≡ outcome ts (symbols l p.pieces ++ ms))
-    → Passes (form f l ∷ []) (symbols l p.pieces) (λ vs. (fill l p.pieces p.build vs, tt)) ts ts
-left_out f l p i goes = line_passes f l p i goes
-
-skips : {es : Stack} {vs : Vals es} {ts rest : List Token} → Passes es [] (λ _. vs) ts rest → Skips es vs ts rest
-skips a = record { passes = a }
+use Rattle.revs_parser.proofs.StepLemmas.{by_first, kept_goes}
+use Rattle.revs_parser.proofs.TokenLemmas.{a_sign, bare_word, a_word, opened, opens_too_many}
+use Rattle.revs_parser.proofs.TokenLemmas.{by_pieces, by_token, halts_by_pieces, halts_by_token, left_out, skips}
 
 -- ---- expressions
 

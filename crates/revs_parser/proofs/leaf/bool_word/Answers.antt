@@ -1,4 +1,4 @@
-use Rattle.revs_parser.proofs.ReadingLemmas.{bare_word}
+use Rattle.revs_parser.proofs.TokenLemmas.{bare_word}
 use Rattle.revs_parser.proofs.leaf.bool_word.Goals as goal
 
 pub returns-in-Some-clause-ok : goal.returns-in-Some-clause-ok

@@ -1,4 +1,4 @@
-use Rattle.revs_parser.proofs.ReadingLemmas.{a_sign}
+use Rattle.revs_parser.proofs.TokenLemmas.{a_sign}
 use Rattle.revs_parser.proofs.leaf.expect.Goals as goal
 
 pub returns-in-Some-clause-ok : goal.returns-in-Some-clause-ok

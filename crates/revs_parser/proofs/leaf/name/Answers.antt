@@ -1,7 +1,7 @@
 use Rattle.std.proofs.Common.{rules}
 use Rattle.revs_lexer.specs.declared.token.Tok.TheVariants as toks
 use Rattle.revs_parser.specs.inside.Reading.{Heads}
-use Rattle.revs_parser.proofs.ReadingLemmas.{a_name}
+use Rattle.revs_parser.proofs.TokenLemmas.{a_name}
 use Rattle.revs_parser.proofs.leaf.name.Goals as goal
 
 pub returns-in_ok-text-in-Some-Name-default-clause-ok : goal.returns-in_ok-text-in-Some-Name-default-clause-ok

@@ -1,7 +1,7 @@
 use Rattle.std.proofs.Common.{rules}
 use Rattle.revs_lexer.specs.declared.token.Tok.TheVariants as toks
 use Rattle.revs_parser.specs.inside.Reading.{Heads}
-use Rattle.revs_parser.proofs.ReadingLemmas.{a_number}
+use Rattle.revs_parser.proofs.TokenLemmas.{a_number}
 use Rattle.revs_parser.proofs.leaf.number.Goals as goal
 
 pub returns-in-Some-Number-default-clause-ok : goal.returns-in-Some-Number-default-clause-ok
