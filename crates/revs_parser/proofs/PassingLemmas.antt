@@ -1,5 +1,6 @@
 -- Readings put together, and where they halt.
-use Rattle.std.proofs.Common.{◌≡◌, ℕ, true, Result, ◌<◌, ◌≤◌, List, [], ◌∷◌, ◌++◌, refl, sym, ◌∙◌, ap, subst, length, length-append, append_assoc, arith}
+use Rattle.std.proofs.Common.{◌≡◌, ℕ, suc, ◌+◌, true, Result, Ok, Err, ◌<◌, ◌≤◌, List}
+use Rattle.std.proofs.Common.{[], ◌∷◌, ◌++◌, refl, sym, ◌∙◌, ap, subst, length, length-append, append_assoc, arith}
 use Rattle.std.specs.Result.{MatchResult, IsErrAnd}
 use Rattle.std.proofs.lemmas.Result.{err_from_is_err_and}
 use Rattle.revc_base.specs.declared.place.Place.{Place}
@@ -12,6 +13,7 @@ use Rattle.revs_grammar.specs.Sentences.{open_level, by_line, Vals, front_of, be
 use Rattle.revs_grammar.specs.inside.Machine.{Stack, outcome}
 use Rattle.revs_grammar.proofs.LeadsLemmas.{leads-then, value-then}
 use Rattle.revs_parser.specs.declared.stop.Stop.{Stop}
+use Rattle.revs_parser.specs.declared.stop.Stop.TheVariants as stops
 use Rattle.revs_parser.specs.inside.Reading.{put, Passes, Reads, Skips, Halts, Heads}
 
 -- ---- lists
@@ -204,11 +206,30 @@ pub one_token : {k : Tok} {at : Place} {s : Symbol} {vs : Vals (s ∷ [])} {ts r
     → Reads (s ∷ []) vs ts rest
 one_token h a = record { passes = a; shorter = let l = ap length h.cut in omega (arith, l) }
 
+-- ---- the measure of the calls
+
+-- a call at the same level
+pub lower : (n a d t : ℕ) → n + (a + suc d) ≡ t → n + a < t
+lower n a d t e = omega arith
+
 -- ---- where reading stops
 
 -- What a called function's halt says, the exit of its `?` returns.
 pub halts_on : {T E : Type 0} {halt : E} (P : T → Type 0) (Q : E → Type 0) (r : Result T E) → IsErrAnd r (λ e. e ≡ halt) → Q halt → MatchResult r P Q
 halts_on {T} {E} {halt} P Q r e q = let p = err_from_is_err_and r e in rw (p.1, p.2) q
+
+-- A fault that a call does not have, the exit of its `?` has neither.
+pub still_exact : {T U E : Type 0} {fault : E} (r : Result T E) (other : E) → IsErrAnd r (λ e. e ≡ fault) → ¬ (◌≡◌ {A = Result U E} (Err fault) (Err other))
+    → ¬ (r ≡ Err other)
+still_exact (Ok x) other e n = absurd e
+still_exact {T} {U} {E} {fault} (Err g) other e n = λ same. let k : fault ≡ other = cc in n (ap Err k)
+
+-- Where memory is wanting, nothing is said of the tokens.
+pub no_memory : {es : Stack} {ts : List Token} → Halts es ts stops.Memory
+no_memory = record { halt = λ ms. tt }
+
+pub wants_memory : {es : Stack} {ts : List Token} {stop : Stop} → stop ≡ stops.Memory → Halts es ts stop
+wants_memory e = rw e no_memory
 
 pub halts_first : {es : Stack} {ts : List Token} {stop : Stop} (fs : Stack) → Halts es ts stop → Halts (es ++ fs) ts stop
 halts_first fs h = record {

@@ -5,7 +5,7 @@ use Rattle.revs_terms.proofs.ShapeLemmas.{tree_of-And, tree_of-Xor, item_tree_of
 use Rattle.std.proofs.lemmas.Result.{MatchResult-weaker}
 use Rattle.revs_lexer.specs.declared.sign.Sign.TheVariants as signs
 use Rattle.revs_parser.specs.inside.Forms.{closed_by}
-use Rattle.revs_parser.proofs.PassingLemmas.{only, smaller_behind, halts_first, halts_on}
+use Rattle.revs_parser.proofs.PassingLemmas.{only, smaller_behind, halts_first, halts_on, no_memory, wants_memory, lower}
 use Rattle.revs_parser.proofs.ReadingLemmas as r
 use Rattle.revs_parser.proofs.expression.+read.Goals as goal
 
@@ -34,6 +34,9 @@ expression-returns-in_err-right t c =
     halts_on _ _ _ c.from_residual-in_err-right.ensures.1
     (r.expression_in_assigned c.args.level c.in_default.ensures.none c.in_ok-left.ensures c.in-Some-after.ensures.found c.in_err-right.ensures)
 
+pub expression-returns-in_err-term : goal.expression-returns-in_err-term
+expression-returns-in_err-term t c = halts_on _ _ _ c.from_residual-in_err-term.ensures.1 (wants_memory c.in_err-term.ensures.memory)
+
 pub expression-returns : goal.expression-returns
 expression-returns t c = r.expression_assign c.args.level c.in_default.ensures.none c.in_ok-left.ensures c.in-Some-after.ensures.found
     c.in_ok-right.ensures c.in_ok-term.ensures.ok
@@ -50,6 +53,9 @@ function-returns-in_err-body t c =
     halts_on _ _ _ c.from_residual-in_err-body.ensures.1
     (r.function_in_body c.args.level c.in_ok-names.ensures c.in_err-body.ensures)
 
+pub function-returns-in_err-term : goal.function-returns-in_err-term
+function-returns-in_err-term t c = halts_on _ _ _ c.from_residual-in_err-term.ensures.1 (wants_memory c.in_err-term.ensures.memory)
+
 pub function-returns : goal.function-returns
 function-returns t c =
     r.function_reads c.args.level c.in_ok-names.ensures c.args.at c.in_ok-body.ensures c.in_ok-term.ensures.ok
@@ -62,6 +68,12 @@ sum-returns-in_err-first t c =
 
 pub sum-returns-in_default : goal.sum-returns-in_default
 sum-returns-in_default t c = r.sum_alone c.args.level c.in_ok-first.ensures c.in_default.ensures.none
+
+pub sum-returns-in_err-push : goal.sum-returns-in_err-push
+sum-returns-in_err-push t c = halts_on _ _ _ c.from_residual-in_err-push.ensures.1 no_memory
+
+pub sum-returns-in_err-push-2 : goal.sum-returns-in_err-push-2
+sum-returns-in_err-push-2 t c = halts_on _ _ _ c.from_residual-in_err-push-2.ensures.1 no_memory
 
 pub sum-products-init : goal.sum-products-init
 sum-products-init t c = record {
@@ -95,6 +107,12 @@ product-returns-in_err-first t c =
 
 pub product-returns-in_default : goal.product-returns-in_default
 product-returns-in_default t c = r.product_alone c.args.level c.in_ok-first.ensures c.in_default.ensures.none
+
+pub product-returns-in_err-push : goal.product-returns-in_err-push
+product-returns-in_err-push t c = halts_on _ _ _ c.from_residual-in_err-push.ensures.1 no_memory
+
+pub product-returns-in_err-push-2 : goal.product-returns-in_err-push-2
+product-returns-in_err-push-2 t c = halts_on _ _ _ c.from_residual-in_err-push-2.ensures.1 no_memory
 
 pub product-applications-init : goal.product-applications-init
 product-applications-init t c = record {
@@ -145,6 +163,9 @@ application-returns-in_err-operand t c =
     halts_on _ _ _ c.from_residual-in_err-operand.ensures.1
     (r.operand_halts c.args.level found c.in_err-operand.ensures)
 
+pub application-returns-in_err-term : goal.application-returns-in_err-term
+application-returns-in_err-term t c = halts_on _ _ _ c.from_residual-in_err-term.ensures.1 (wants_memory c.in_err-term.ensures.memory)
+
 pub application-returns : goal.application-returns
 application-returns t c =
     let found = rw c.in-Some-2.is at c.in_ok-operator.ensures.found in
@@ -160,6 +181,9 @@ append-returns-in_err-second t c =
     halts_on _ _ _ c.from_residual-in_err-second.ensures.1
     (r.append_halts_second c.args.level c.in_ok-first.ensures c.in_err-second.ensures)
 
+pub append-returns-in_err-term : goal.append-returns-in_err-term
+append-returns-in_err-term t c = halts_on _ _ _ c.from_residual-in_err-term.ensures.1 (wants_memory c.in_err-term.ensures.memory)
+
 pub append-returns : goal.append-returns
 append-returns t c =
     r.append_reads c.args.level c.args.at c.in_ok-first.ensures c.in_ok-second.ensures c.in_ok-term.ensures.ok
@@ -172,6 +196,12 @@ atoms-returns-in_err-head t c =
 
 pub atoms-returns-then-not-begins_base : goal.atoms-returns-then-not-begins_base
 atoms-returns-then-not-begins_base t c = r.atom_alone c.args.level c.in_ok-head.ensures (sym c.begins_base.ensures ∙ c.if-not-begins_base.true)
+
+pub atoms-returns-in_err-head-2 : goal.atoms-returns-in_err-head-2
+atoms-returns-in_err-head-2 t c = halts_on _ _ _ c.from_residual-in_err-head-2.ensures.1 no_memory
+
+pub atoms-returns-in_err-push : goal.atoms-returns-in_err-push
+atoms-returns-in_err-push t c = halts_on _ _ _ c.from_residual-in_err-push.ensures.1 no_memory
 
 pub atoms-arguments-init : goal.atoms-arguments-init
 atoms-arguments-init t c = record {
@@ -206,6 +236,9 @@ atom-returns-in_err-inner t c =
 pub atom-returns-in_err-parts : goal.atom-returns-in_err-parts
 atom-returns-in_err-parts t c =
     halts_on _ _ _ c.from_residual-in_err-parts.ensures.1 (r.atom_in_parts c.args.level c.in_ok-inner.ensures c.in_err-parts.ensures)
+
+pub atom-returns-in_err-term : goal.atom-returns-in_err-term
+atom-returns-in_err-term t c = halts_on _ _ _ c.from_residual-in_err-term.ensures.1 (wants_memory c.in_err-term.ensures.memory)
 
 pub atom-returns : goal.atom-returns
 atom-returns t c =
@@ -264,6 +297,9 @@ pub register-returns-in_err-behind : goal.register-returns-in_err-behind
 register-returns-in_err-behind t c =
     halts_on _ _ _ c.from_residual.ensures.1 (halts_first (r.register_rest c.args.level) c.in_err-behind.ensures.halts)
 
+pub register-returns-in_err-push : goal.register-returns-in_err-push
+register-returns-in_err-push t c = halts_on _ _ _ c.from_residual-in_err-push.ensures.1 no_memory
+
 pub register-elements-init : goal.register-elements-init
 register-elements-init t c = record { read = r.register_begun c.args.level c.in_ok-behind.ensures.ok c.new-elements.ensures.items }
 
@@ -298,6 +334,12 @@ block-items-init t c = record { read = r.block_begun c.args.level c.args.tokens.
 pub block-returns-in_err-next : goal.block-returns-in_err-next
 block-returns-in_err-next t c =
     halts_on _ _ _ c.from_residual.ensures.1 (r.block_halts c.args.level c.items.invariant.read c.in_err-next.ensures)
+
+pub block-returns-in_err-push-in-Item : goal.block-returns-in_err-push-in-Item
+block-returns-in_err-push-in-Item t c = halts_on _ _ _ c.from_residual-in_err-push-in-Item.ensures.1 no_memory
+
+pub block-returns-in_err-new-in-Last : goal.block-returns-in_err-new-in-Last
+block-returns-in_err-new-in-Last t c = halts_on _ _ _ c.from_residual-in_err-new-in-Last.ensures.1 no_memory
 
 pub block-items-preserved : goal.block-items-preserved
 block-items-preserved t c =
@@ -345,7 +387,66 @@ binding-returns-in_err-body t c =
     halts_on _ _ _ c.from_residual-in_err-body.ensures.1
     (r.binding_in_value c.args.level c.in_ok-name.ensures c.in_err-body.ensures)
 
+pub binding-returns-in_err-value : goal.binding-returns-in_err-value
+binding-returns-in_err-value t c = halts_on _ _ _ c.from_residual-in_err-value.ensures.1 (wants_memory c.in_err-value.ensures.memory)
+
 pub binding-returns : goal.binding-returns
 binding-returns t c =
     r.binding_reads c.args.level c.in_ok-name.ensures c.in_ok-body.ensures
     (rw (item_tree_of-Let, c.in_ok-value.ensures.ok))
+
+-- ---- calls at the same level
+
+pub expression-sum-requires : goal.expression-sum-requires
+expression-sum-requires t c = (lower _ 6 0 _ c.decreases, c.requires)
+
+pub expression-sum-requires-2 : goal.expression-sum-requires-2
+expression-sum-requires-2 t c = (lower _ 6 0 _ c.decreases, c.requires)
+
+pub function-expression-requires : goal.function-expression-requires
+function-expression-requires t c = (lower _ 7 2 _ c.decreases, c.requires)
+
+pub sum-product-requires : goal.sum-product-requires
+sum-product-requires t c = (lower _ 5 0 _ c.decreases, c.requires)
+
+pub product-application-requires : goal.product-application-requires
+product-application-requires t c = (lower _ 4 0 _ c.decreases, c.requires)
+
+pub application-append-requires : goal.application-append-requires
+application-append-requires t c = (lower _ 3 0 _ c.decreases, c.requires)
+
+pub application-atoms-requires : goal.application-atoms-requires
+application-atoms-requires t c = (lower _ 3 0 _ c.decreases, c.requires)
+
+pub application-atom-requires : goal.application-atom-requires
+application-atom-requires t c = (lower _ 2 1 _ c.decreases, c.requires)
+
+pub append-atom-requires : goal.append-atom-requires
+append-atom-requires t c = (lower _ 2 0 _ c.decreases, c.requires)
+
+pub append-atom-requires-2 : goal.append-atom-requires-2
+append-atom-requires-2 t c = (lower _ 2 0 _ c.decreases, c.requires)
+
+pub atoms-atom-requires : goal.atoms-atom-requires
+atoms-atom-requires t c = (lower _ 2 0 _ c.decreases, c.requires)
+
+pub atom-base-requires : goal.atom-base-requires
+atom-base-requires t c = (lower _ 1 0 _ c.decreases, c.requires)
+
+pub closed-expression-requires : goal.closed-expression-requires
+closed-expression-requires t c = (lower _ 7 0 _ c.decreases, c.requires)
+
+pub register-expression-requires : goal.register-expression-requires
+register-expression-requires t c = (lower _ 7 2 _ c.decreases, c.requires)
+
+pub block-item_or_last-requires : goal.block-item_or_last-requires
+block-item_or_last-requires t c = (lower _ 10 0 _ c.decreases, c.requires)
+
+pub item_or_last-binding-requires : goal.item_or_last-binding-requires
+item_or_last-binding-requires t c = (lower _ 9 0 _ c.decreases, c.requires)
+
+pub item_or_last-expression-requires : goal.item_or_last-expression-requires
+item_or_last-expression-requires t c = (lower _ 7 2 _ c.decreases, c.requires)
+
+pub binding-closed-requires : goal.binding-closed-requires
+binding-closed-requires t c = (lower _ 8 0 _ c.decreases, c.requires)
