@@ -1,5 +1,7 @@
 -- The names that a block or a function binds stand before those that were in scope.
-use Rattle.std.proofs.Common.{◌≡◌, ℕ, ◌+◌, ◌-◌, ◌≤◌, List, [], ◌∷◌, ◌++◌, length, drop, refl, sym, ap, ◌∙◌, arith, append_assoc, length-append}
+use Rattle.std.proofs.Common.{◌≡◌, ℕ, ◌+◌, ◌-◌, ◌*◌, ◌≤◌, ◌<◌, max, List, [], ◌∷◌, ◌++◌, length, get_or, drop, refl, sym, ap, ◌∙◌}
+use Rattle.std.proofs.Common.{arith, append_assoc, length-append}
+use denote.Param.Weighed.{most, at_most}
 use Rattle.std.proofs.Math.Seq.{drop-append_seam}
 use Rattle.revs_terms.specs.declared.term.Name.{Name}
 use Rattle.revs_terms.specs.Trees.{Tree, ItemTree, ItemTrees, no_items, item, bind, run, trees, item_trees}
@@ -78,3 +80,40 @@ left_at_depth s m n d most h e f = rw e (rw f (left_again s m most h))
 
 pub depth_below : (s m n : List (List ℕ)) (d most : ℕ) → Stands s m most → n ≡ m → d ≡ length s → d ≤ length n
 depth_below s m n d most h e f = rw e (rw f (deeper s m most h))
+
+-- ---- parts of a term, within what the term binds
+
+pub first_fits : (n a b most : ℕ) → n + (a + b) < most → n + a < most
+first_fits n a b most h = omega arith
+
+pub second_fits : (s m : List (List ℕ)) (a b most : ℕ) → m ≡ s → length s + (a + b) < most → length m + b < most
+second_fits s m a b most e h = rw e (omega (arith, h))
+
+pub behind_fits : (s m : List (List ℕ)) (a b most : ℕ) → Stands s m a → length s + (a + b) < most → length m + b < most
+behind_fits s m a b most stands h = omega (arith, few_deeper s m a stands, h)
+
+pub element_fits : (s m : List (List ℕ)) (a b most : ℕ) → m ≡ s → a ≤ b → length s + b < most → length m + a < most
+element_fits s m a b most e few h = rw e (omega (arith, few, h))
+
+pub within : (n m most : ℕ) → n ≤ m → m < most → n < most
+within n m most few h = omega arith
+
+pub itself : (n : ℕ) → n ≤ n
+itself n = omega arith
+
+-- ---- parts of a term, by the measure of the calls
+
+pub first_falls : (a b t : ℕ) → 3 * max a b + 2 ≡ t → 3 * a < t
+first_falls a b t e = omega arith
+
+pub second_falls : (a b t : ℕ) → 3 * max a b + 2 ≡ t → 3 * b < t
+second_falls a b t e = omega arith
+
+pub first_list_falls : (a b t : ℕ) → 3 * max a b + 2 ≡ t → 3 * a + 1 < t
+first_list_falls a b t e = omega arith
+
+pub second_list_falls : (a b t : ℕ) → 3 * max a b + 2 ≡ t → 3 * b + 1 < t
+second_list_falls a b t e = omega arith
+
+pub element_falls : {A : Type 0} (size : A → ℕ) (l : List A) (i t : ℕ) (d : A) → i < length l → 3 * most size l + 1 ≡ t → 3 * size (get_or l i d) < t
+element_falls size l i t d below e = omega (arith, at_most size l i d below)

@@ -2,26 +2,86 @@
 use Rattle.std.proofs.Common.{◌≡◌, ℕ, suc, ◌<◌, List, [], ◌∷◌, ◌++◌, length, get_or, take, drop, refl, sym, ap, ◌∙◌, Result, Ok, Err, IsErrAnd}
 use Rattle.std.proofs.Math.Seq.{drop-cons}
 use Rattle.std.proofs.lemmas.List.{take-append-drop}
-use Rattle.revs_terms.specs.Trees.{Tree, Trees, ItemTree, ItemTrees, nil, cons, no_items, item, bind, run, trees, item_trees}
+use Rattle.revc_base.specs.declared.place.Place.{Place}
+use Rattle.revs_terms.specs.declared.term.Name.{Name}
+use Rattle.revs_terms.specs.Trees.{Tree, Trees, ItemTree, ItemTrees, nil, cons, no_items, item, bind, run, trees, item_trees, used, block, function}
 use Rattle.revs_terms.specs.Scopes.{Scoped, unbound, scoped, and_then, scoped_tree, scoped_trees, scoped_items}
 use Rattle.name_scope.specs.declared.binding.ScopeFault.{ScopeFault}
 use Rattle.name_scope.specs.declared.binding.ScopeFault.TheVariants as fault
-use Rattle.name_scope.specs.inside.Verdicts.{IsUnbound, Binds}
+use Rattle.name_scope.specs.inside.Verdicts.{IsUnbound, Binds, BindsIn, in_turn, with_last, with_names}
 
 -- ---- one step
 
--- the last part of a term
-pub last_binds : {A C : Type 0} (f : A → C) (r : Result (Unit {0}) ScopeFault) (v : Scoped A) (a : A) → Binds r v a
-    → Binds r (and_then v (λ u. scoped (f u))) (f a)
-last_binds f (Ok done) v a e = rw e refl
-last_binds f (Err (fault.Unbound at)) v a e = rw e refl
-last_binds f (Err (fault.TwoParams at)) v a e = e
-last_binds f (Err fault.Memory) v a e = tt
+-- a part of a term, and the term
+pub part_binds : {A C : Type 0} (f : A → C) (r : Result (Unit {0}) ScopeFault) (v : Scoped A) (a : A) (s n : List (List ℕ)) → BindsIn r v a s n
+    → BindsIn r (and_then v (λ u. scoped (f u))) (f a) s n
+part_binds f (Ok done) v a s n e = (rw e.0 refl, e.1)
+part_binds f (Err (fault.Unbound at)) v a s n e = rw e refl
+part_binds f (Err (fault.TwoParams at)) v a s n e = e
+part_binds f (Err fault.Memory) v a s n e = tt
 
--- a part that was bound, before the rest
-pub next_binds : {A C : Type 0} (next : A → Scoped C) (r : Result (Unit {0}) ScopeFault) (v : Scoped A) (a : A) (c : C) → v ≡ scoped a → Binds r (next a) c
-    → Binds r (and_then v next) c
-next_binds next r v a c e h = rw e h
+-- a used name
+pub name_binds : (r : Result (Unit {0}) ScopeFault) (v : Scoped Name) (name : Name) (s : List (List ℕ)) → Binds r v name
+    → BindsIn r (and_then v (λ n. scoped (used n))) (used name) s s
+name_binds (Ok done) v name s e = (rw e refl, refl)
+name_binds (Err (fault.Unbound at)) v name s e = rw e refl
+name_binds (Err (fault.TwoParams at)) v name s e = e
+name_binds (Err fault.Memory) v name s e = tt
+
+-- a second part, among the same names
+pub second_binds : {A B : Type 0} (r : Result (Unit {0}) ScopeFault) (v : Scoped A) (w : Scoped B) (a : A) (b : B) (s n : List (List ℕ)) → v ≡ scoped a
+    → BindsIn r w b s n → BindsIn r (in_turn v w) (a, b) s n
+second_binds (Ok done) v w a b s n e h = (rw e (rw h.0 refl), h.1)
+second_binds (Err (fault.Unbound at)) v w a b s n e h = rw e (rw h refl)
+second_binds (Err (fault.TwoParams at)) v w a b s n e h = h
+second_binds (Err fault.Memory) v w a b s n e h = tt
+
+-- an item of a block, alone
+pub let_binds : (old value : Tree) (name : Name) (s m n : List (List ℕ)) → scoped_tree s old ≡ scoped value → m ≡ s → n ≡ name.text ∷ m
+    → scoped_items s (item (bind name old) no_items) ≡ scoped (item (bind name value) no_items, n)
+let_binds old value name s m n e f g = rw e (rw g (rw f refl))
+
+pub run_binds : (r : Result (Unit {0}) ScopeFault) (old term : Tree) (s n : List (List ℕ)) → BindsIn r (scoped_tree s old) term s n
+    → Binds r (scoped_items s (item (run old) no_items)) (item (run term) no_items, n)
+run_binds (Ok done) old term s n e = rw e.0 (rw e.1 refl)
+run_binds (Err (fault.Unbound at)) old term s n e = rw e refl
+run_binds (Err (fault.TwoParams at)) old term s n e = e
+run_binds (Err fault.Memory) old term s n e = tt
+
+onward : {A B C : Type 0} (x : Scoped A) (f : A → B) (g : B → C)
+    → and_then x (λ a. scoped (g (f a))) ≡ and_then (and_then x (λ a. scoped (f a))) (λ b. scoped (g b))
+onward (unbound at) f g = refl
+onward (scoped a) f g = refl
+
+of_both : {A B C : Type 0} (f : A → B → C) (v : Scoped A) (w : Scoped B)
+    → and_then v (λ a. and_then w (λ b. scoped (f a b))) ≡ and_then (in_turn v w) (λ p. scoped (f p.0 p.1))
+of_both f (unbound at) w = refl
+of_both f (scoped a) (unbound at) = refl
+of_both f (scoped a) (scoped b) = refl
+
+of_last : (v : Scoped (ItemTrees × List (List ℕ))) (last : Tree) (at : Place)
+    → and_then v (λ r. and_then (scoped_tree r.1 last) (λ l. scoped (block r.0 l at))) ≡ and_then (with_last v last) (λ p. scoped (block p.0 p.1 at))
+of_last (unbound from) last at = refl
+of_last (scoped q) last at = onward (scoped_tree q.1 last) (λ l. (q.0, l)) (λ p. block p.0 p.1 at)
+
+-- two parts of a term, and the term
+pub both_bind : {A B C : Type 0} (f : A → B → C) (r : Result (Unit {0}) ScopeFault) (v : Scoped A) (w : Scoped B) (a : A) (b : B) (s n : List (List ℕ))
+    → BindsIn r (in_turn v w) (a, b) s n → BindsIn r (and_then v (λ c. and_then w (λ d. scoped (f c d)))) (f a b) s n
+both_bind {A} {B} {C} f r v w a b s n h = rw (of_both f v w) (part_binds {A = A × B} {C = C} (λ p. f p.0 p.1) r (in_turn v w) (a, b) s n h)
+
+-- the items and the last expression of a block, and the block
+pub block_binds : (r : Result (Unit {0}) ScopeFault) (v : Scoped (ItemTrees × List (List ℕ))) (last : Tree) (items : ItemTrees) (l : Tree) (at : Place)
+    (s n : List (List ℕ)) → BindsIn r (with_last v last) (items, l) s n
+    → BindsIn r (and_then v (λ r. and_then (scoped_tree r.1 last) (λ l. scoped (block r.0 l at)))) (block items l at) s n
+block_binds r v last items l at s n h =
+    rw (of_last v last at) (part_binds {A = ItemTrees × Tree} {C = Tree} (λ p. block p.0 p.1 at) r (with_last v last) (items, l) s n h)
+
+-- the body of a function, and the function
+pub function_binds : (r : Result (Unit {0}) ScopeFault) (v : Scoped Tree) (old new : List Name) (body : Tree) (at : Place) (s n : List (List ℕ))
+    → BindsIn r (with_names old v) (new, body) s n → BindsIn r (and_then v (λ b. scoped (function old b at))) (function new body at) s n
+function_binds r v old new body at s n h =
+    rw (onward {A = Tree} {B = List Name × Tree} {C = Tree} v (λ b. (old, b)) (λ p. function p.0 p.1 at))
+    (part_binds {A = List Name × Tree} {C = Tree} (λ p. function p.0 p.1 at) r (with_names old v) (new, body) s n h)
 
 -- a part whose refusal is passed on
 pub first_is_unbound : {A C : Type 0} (next : A → Scoped C) (f : ScopeFault) (v : Scoped A) → IsUnbound f v → IsUnbound f (and_then v next)
@@ -34,6 +94,11 @@ pub passed_on : {A : Type 0} (r : Result (Unit {0}) ScopeFault) (f : ScopeFault)
     → Binds r v a
 passed_on (Ok done) f v a e h = absurd e
 passed_on (Err g) f v a e h = rw e h
+
+pub refused_in : {A : Type 0} (r : Result (Unit {0}) ScopeFault) (f : ScopeFault) (v : Scoped A) (a : A) (s n : List (List ℕ)) → IsErrAnd r (λ e. e ≡ f)
+    → IsUnbound f v → BindsIn r v a s n
+refused_in (Ok done) f v a s n e h = absurd e
+refused_in (Err g) f v a s n e h = rw e h
 
 -- a tree is bound only where its first part is
 pub first_is_bound : {A C : Type 0} (v : Scoped A) (next : A → Scoped C) (c : C) → and_then v next ≡ scoped c

@@ -5,11 +5,12 @@ ghost use Rattle.revs_terms.specs.Scopes.{scoped_items};
 ghost use Rattle.revs_terms.specs.Terms.{names_of, names_of_all, names_of_item, names_of_items};
 ghost use Rattle.revs_terms.specs.Trees.{tree_of, trees, item_tree_of, item_trees, no_items};
 ghost use Rattle.revs_terms.specs.Trees as shape;
-ghost use Rattle.name_scope.specs.inside.Verdicts.{Binds, Differ};
+ghost use Rattle.name_scope.specs.inside.Verdicts.{Binds, BindsIn, Differ};
+ghost use Rattle.name_scope.specs.inside.Verdicts.{in_turn, with_last, with_names};
 
 use crate::ScopeFault;
 use crate::names::Names;
-use revs_terms::{Item, Name, Param, Term};
+use revs_terms::{Item, Lambda, Name, Param, Term};
 
 /// Binds the names of parameters, each nearer than those before it.
 pub fn bind_params(names: &mut Names, params: &[Param]) -> Result<(), ScopeFault>
@@ -43,55 +44,99 @@ fn bind_name(names: &Names, name: &mut Name) -> Result<(), ScopeFault>
 #[tactic(auto, using(revs_terms::proofs::ShapeLemmas::shapes))]
 pub fn bind_term(names: &mut Names, term: &mut Term) -> Result<(), ScopeFault>
     requires { length names.old + names_of (tree_of term.old) < 2 ^ 32 }
-    ensures term { Binds result (scoped_tree names.old (tree_of term.old)) (tree_of term.new) }
-    ensures names { OnOk result (names.new ≡ names.old) }
+    ensures { BindsIn result (scoped_tree names.old (tree_of term.old)) (tree_of term.new)
+        names.old names.new }
 {
     match term {
         Term::Name(name) => bind_name(names, name),
         Term::Bool(_, _) => Ok(()),
         Term::Reg(elements, _) => bind_terms(names, elements),
-        Term::Block(items, last, _) => {
-            let depth = names.depth();
-            bind_items(names, items)?;
-            bind_term(names, last)?;
-            names.leave(depth);
-            Ok(())
-        }
-        Term::Fun(function, _) => {
-            let depth = names.depth();
-            names.bind_all(&function.names)?;
-            bind_term(names, &mut function.body)?;
-            names.leave(depth);
-            Ok(())
-        }
+        Term::Block(items, last, _) => bind_block(names, items, last),
+        Term::Fun(function, _) => bind_function(names, function),
         Term::At(inner, _) => bind_term(names, inner),
-        Term::Apply(head, arguments) => {
-            bind_term(names, head)?;
-            bind_terms(names, arguments)
-        }
-        Term::Append(first, second, _) => {
-            bind_term(names, first)?;
-            bind_term(names, second)
-        }
+        Term::Apply(head, arguments) => bind_application(names, head, arguments),
+        Term::Append(first, second, _) => bind_both(names, first, second),
         Term::Rotate(_, operand, _) => bind_term(names, operand),
         Term::Clean(operand, _) => bind_term(names, operand),
         Term::Assert(operand, _) => bind_term(names, operand),
         Term::And(operands) => bind_terms(names, operands),
         Term::Xor(operands) => bind_terms(names, operands),
-        Term::Assign(left, right) => {
-            bind_term(names, left)?;
-            bind_term(names, right)
-        }
+        Term::Assign(left, right) => bind_both(names, left, right),
     }
+}
+
+/// Binds the names of two terms among those in scope.
+#[cycle(bind)]
+fn bind_both(names: &mut Names, first: &mut Term, second: &mut Term) -> Result<(), ScopeFault>
+    requires { length names.old + (names_of (tree_of first.old) + names_of (tree_of second.old))
+        < 2 ^ 32 }
+    ensures { BindsIn result
+        (in_turn (scoped_tree names.old (tree_of first.old))
+        (scoped_tree names.old (tree_of second.old)))
+        (tree_of first.new, tree_of second.new) names.old names.new }
+{
+    bind_term(names, first)?;
+    bind_term(names, second)
+}
+
+/// Binds the names of a function and of its arguments among those in scope.
+#[cycle(bind)]
+fn bind_application(
+    names: &mut Names,
+    head: &mut Term,
+    arguments: &mut [Term],
+) -> Result<(), ScopeFault>
+    requires { length names.old + (names_of (tree_of head.old)
+        + names_of_all (trees (map tree_of arguments.old))) < 2 ^ 32 }
+    ensures { BindsIn result
+        (in_turn (scoped_tree names.old (tree_of head.old))
+        (scoped_trees names.old (trees (map tree_of arguments.old))))
+        (tree_of head.new, trees (map tree_of arguments.new)) names.old names.new }
+{
+    bind_term(names, head)?;
+    bind_terms(names, arguments)
+}
+
+/// Binds the names of a block, and lets those that it binds go out of scope.
+#[cycle(bind)]
+fn bind_block(names: &mut Names, items: &mut [Item], last: &mut Term) -> Result<(), ScopeFault>
+    requires { length names.old + (names_of_items (item_trees (map item_tree_of items.old))
+        + names_of (tree_of last.old)) < 2 ^ 32 }
+    ensures { BindsIn result
+        (with_last (scoped_items names.old (item_trees (map item_tree_of items.old)))
+        (tree_of last.old))
+        (item_trees (map item_tree_of items.new), tree_of last.new) names.old names.new }
+{
+    let depth = names.depth();
+    bind_items(names, items)?;
+    bind_term(names, last)?;
+    names.leave(depth);
+    Ok(())
+}
+
+/// Binds the names of a function's body, and lets those of the function go out of scope.
+#[cycle(bind)]
+fn bind_function(names: &mut Names, function: &mut Lambda) -> Result<(), ScopeFault>
+    requires { length names.old
+        + (length function.old.names.items + names_of (tree_of function.old.body)) < 2 ^ 32 }
+    ensures { BindsIn result
+        (with_names function.old.names.items
+        (scoped_tree (nearer function.old.names.items names.old) (tree_of function.old.body)))
+        (function.new.names.items, tree_of function.new.body) names.old names.new }
+{
+    let depth = names.depth();
+    names.bind_all(&function.names)?;
+    bind_term(names, &mut function.body)?;
+    names.leave(depth);
+    Ok(())
 }
 
 /// Binds the names of terms among those in scope.
 #[cycle(bind)]
 fn bind_terms(names: &mut Names, terms: &mut [Term]) -> Result<(), ScopeFault>
     requires { length names.old + names_of_all (trees (map tree_of terms.old)) < 2 ^ 32 }
-    ensures terms { Binds result (scoped_trees names.old (trees (map tree_of terms.old)))
-        (trees (map tree_of terms.new)) }
-    ensures names { OnOk result (names.new ≡ names.old) }
+    ensures { BindsIn result (scoped_trees names.old (trees (map tree_of terms.old)))
+        (trees (map tree_of terms.new)) names.old names.new }
 {
     for i in 0..terms.len() {
         bind_term(names, &mut terms[i])?;

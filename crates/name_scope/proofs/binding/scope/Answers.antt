@@ -11,7 +11,7 @@ bind_term-requires c =
 
 pub invariant_of-new : goal.invariant_of-new
 invariant_of-new c =
-    let k = keeps c.bind_params.new.names (tree_of c.args.program.body) _ (c.in_ok-bind_term.ensures {u = tt}).term in
+    let k = keeps c.bind_params.new.names (tree_of c.args.program.body) _ (c.in_ok-bind_term.ensures {u = tt}).0 in
     record {
       inputs = c.args.program.inputs;
       formed = record
@@ -23,6 +23,6 @@ invariant_of-new c =
 pub new-requires : goal.new-requires
 new-requires c =
     let e = rw c.deref.ensures.value at (rw c.new-names.ensures at (c.in_ok-bind_params.ensures {u = tt}).names) in
-    let k = keeps c.bind_params.new.names (tree_of c.args.program.body) _ (c.in_ok-bind_term.ensures {u = tt}).term in
+    let k = keeps c.bind_params.new.names (tree_of c.args.program.body) _ (c.in_ok-bind_term.ensures {u = tt}).0 in
     let b = rw e at k.bound in
     rw (params-length c.args.program.params.items) at b

@@ -1,219 +1,308 @@
-use Rattle.std.proofs.Common.{◌∙◌, arith, rules, map, refl}
+use Rattle.std.proofs.Common.{◌∙◌, rules, map, refl}
 use Rattle.std.proofs.lemmas.List.{with_items_is, places}
 use Rattle.revs_terms.specs.declared.term.Term.TheVariants as terms
 use Rattle.revs_terms.specs.declared.term.Term.{the_lemmas}
+use Rattle.revs_terms.proofs.term.Term.TheLaws.{the_size}
+use Rattle.revs_terms.proofs.term.Item.TheLaws as item_laws
 use Rattle.std.specs.Vec.{with_items}
 use Rattle.std.specs.Box.{with_value}
 use Rattle.revs_terms.specs.Trees.{reg, parts, apply, append, rotate, clean, assert, ands, xors, assign, item_trees, tree_of, item_tree_of}
+use Rattle.revs_terms.specs.Scopes.{scoped_items}
 use Rattle.revs_terms.proofs.ShapeLemmas.{tree_of-Reg, tree_of-Block, tree_of-Fun, tree_of-At, tree_of-Apply, tree_of-Append, tree_of-Rotate, tree_of-Clean}
 use Rattle.revs_terms.proofs.ShapeLemmas.{tree_of-Assert, tree_of-And, tree_of-Xor, tree_of-Assign}
-use Rattle.name_scope.proofs.VerdictLemmas.{last_binds, next_binds, passed_on}
-use Rattle.name_scope.proofs.ScopeLemmas.{items_stand, names_stand, few_deeper, left_at_depth, depth_below}
+use Rattle.revs_terms.proofs.ShapeLemmas.{tree_of-Name, tree_of-Bool, item_tree_of-Let, item_tree_of-Do}
+use Rattle.name_scope.proofs.VerdictLemmas.{part_binds, name_binds, second_binds, both_bind, block_binds, function_binds, let_binds, run_binds}
+use Rattle.name_scope.proofs.VerdictLemmas.{first_is_unbound, passed_on, refused_in}
+use Rattle.name_scope.proofs.ScopeLemmas.{items_stand, names_stand, left_at_depth, depth_below}
+use Rattle.name_scope.proofs.ScopeLemmas.{first_fits, second_fits, behind_fits, element_fits, within, itself}
+use Rattle.name_scope.proofs.ScopeLemmas.{first_falls, second_falls, first_list_falls, second_list_falls, element_falls}
 use Rattle.name_scope.proofs.LoopLemmas.{term_fits, terms_go_on, terms_stop, item_fits, items_go_on, items_end, unreached}
+use Rattle.name_scope.specs.declared.binding.ScopeFault.TheVariants as fault
 use Rattle.name_scope.proofs.terms.+bind.Goals as goal
 
-pub bind_term-returns-in-Reg-clause-term : goal.bind_term-returns-in-Reg-clause-term
-bind_term-returns-in-Reg-clause-term t c =
+pub bind_term-returns-in-Name : goal.bind_term-returns-in-Name
+bind_term-returns-in-Name t c =
+    rw c.in-Name.is (rw (terms.outs-Name c.in-Name.name) (rw (tree_of-Name c.in-Name.name) (rw (tree_of-Name c.bind_name.new.name)
+    (name_binds c.bind_name.result _ _ _ (rw c.in-Name.name-is at c.bind_name.ensures.binds)))))
+
+pub bind_term-returns-in-Bool : goal.bind_term-returns-in-Bool
+bind_term-returns-in-Bool t c =
+    rw c.in-Bool.is (rw (tree_of-Bool c.in-Bool.field-0 c.in-Bool.field-1) (refl, refl))
+
+pub bind_term-returns-in-Reg : goal.bind_term-returns-in-Reg
+bind_term-returns-in-Reg t c =
     rw c.in-Reg.is (rw (terms.outs-Reg c.in-Reg.elements c.in-Reg.field-1)
     (rw (tree_of-Reg c.in-Reg.elements c.in-Reg.field-1) (rw (tree_of-Reg (with_items c.in-Reg.elements c.bind_terms.new.terms) c.in-Reg.field-1)
     (rw (with_items_is c.in-Reg.elements c.bind_terms.new.terms (search (rules, places)))
-    (last_binds (λ us. reg us c.in-Reg.field-1) c.bind_terms.result _ _
-    (rw c.in-Reg.elements-is at (rw c.deref_mut.ensures.value at c.bind_terms.ensures.terms)))))))
+    (part_binds (λ us. reg us c.in-Reg.field-1) c.bind_terms.result _ _ _ _
+    (rw c.in-Reg.elements-is at (rw c.deref_mut.ensures.value at c.bind_terms.ensures)))))))
 
-pub bind_term-returns-in_ok-bind_term-in-Block-clause-term : goal.bind_term-returns-in_ok-bind_term-in-Block-clause-term
-bind_term-returns-in_ok-bind_term-in-Block-clause-term t c =
+pub bind_term-returns-in-Block : goal.bind_term-returns-in-Block
+bind_term-returns-in-Block t c =
     rw c.in-Block.is (rw (terms.outs-Block c.in-Block.items c.in-Block.last c.in-Block.field-2)
     (rw (tree_of-Block c.in-Block.items c.in-Block.last c.in-Block.field-2)
-    (rw (tree_of-Block (with_items c.in-Block.items c.bind_items.new.items) (with_value c.in-Block.last c.bind_term.new.term) c.in-Block.field-2)
-    (rw (with_items_is c.in-Block.items c.bind_items.new.items (search (rules, places))) (
-    let i = c.in_ok-bind_items-in-Block.ensures {u = tt} in
-    let l = c.in_ok-bind_term-in-Block.ensures {u = tt} in
-    rw (rw c.in-Block.items-is at (rw c.deref_mut-in-Block.ensures.value at i))
-    (rw (rw c.in-Block.last-is at (rw c.deref_mut-in-Block-2.ensures.value at l.term)) refl))))))
+    (rw (tree_of-Block (with_items c.in-Block.items c.bind_block.new.items) (with_value c.in-Block.last c.bind_block.new.last) c.in-Block.field-2)
+    (rw (with_items_is c.in-Block.items c.bind_block.new.items (search (rules, places)))
+    (block_binds c.bind_block.result (scoped_items c.args.names.now (item_trees (map item_tree_of c.in-Block.items.items)))
+    (tree_of c.in-Block.last.value) (item_trees (map item_tree_of c.bind_block.new.items)) (tree_of c.bind_block.new.last) c.in-Block.field-2
+    c.args.names.now c.bind_block.new.names
+    (rw c.in-Block.last-is at (rw c.deref_mut-in-Block-2.ensures.value at
+    (rw c.in-Block.items-is at (rw c.deref_mut-in-Block.ensures.value at c.bind_block.ensures)))))))))
 
-pub bind_term-returns-in_ok-bind_term-in-Fun-clause-term : goal.bind_term-returns-in_ok-bind_term-in-Fun-clause-term
-bind_term-returns-in_ok-bind_term-in-Fun-clause-term t c =
-    let d = rw c.in-Fun.function-is at c.deref_mut-in-Fun.ensures.value in
-    let e = rw c.in-Fun.function-is at (rw c.deref.ensures at (rw c.deref-in-Fun.ensures.value at (c.in_ok-bind_all-in-Fun.ensures {u = tt}))) in
-    let s = names_stand c.in-Fun.function.value.names.items c.args.names.now in
-    let b = c.in_ok-bind_term-in-Fun.ensures {u = tt} in
+pub bind_term-returns-in-Fun : goal.bind_term-returns-in-Fun
+bind_term-returns-in-Fun t c =
     rw c.in-Fun.is (rw (terms.outs-Fun c.in-Fun.function c.in-Fun.field-1) (rw (tree_of-Fun c.in-Fun.function c.in-Fun.field-1)
-    (rw (tree_of-Fun (with_value c.in-Fun.function (record { names = c.deref_mut-in-Fun.result.now.names; body = c.bind_term-in-Fun.new.term }))
-    c.in-Fun.field-1)
-    (rw d (rw (rw e at (rw d at b.term)) refl)))))
+    (rw (tree_of-Fun (with_value c.in-Fun.function c.bind_function.new.function) c.in-Fun.field-1)
+    (function_binds c.bind_function.result _ _ _ _ c.in-Fun.field-1 _ _
+    (rw c.in-Fun.function-is at (rw c.deref_mut-in-Fun.ensures.value at c.bind_function.ensures))))))
 
-pub bind_term-returns-in-At-clause-term : goal.bind_term-returns-in-At-clause-term
-bind_term-returns-in-At-clause-term t c =
+pub bind_term-returns-in-At : goal.bind_term-returns-in-At
+bind_term-returns-in-At t c =
     rw c.in-At.is (rw (terms.outs-At c.in-At.inner c.in-At.field-1)
-    (rw (tree_of-At c.in-At.inner c.in-At.field-1) (rw (tree_of-At (with_value c.in-At.inner c.bind_term-in-At.new.term) c.in-At.field-1)
-    (last_binds (λ u. parts u c.in-At.field-1.items) c.bind_term-in-At.result _ _
-    (rw c.in-At.inner-is at (rw c.deref_mut-in-At.ensures.value at c.bind_term-in-At.ensures.term))))))
+    (rw (tree_of-At c.in-At.inner c.in-At.field-1) (rw (tree_of-At (with_value c.in-At.inner c.bind_term.new.term) c.in-At.field-1)
+    (part_binds (λ u. parts u c.in-At.field-1.items) c.bind_term.result _ _ _ _
+    (rw c.in-At.inner-is at (rw c.deref_mut-in-At.ensures.value at c.bind_term.ensures))))))
 
-pub bind_term-returns-in_ok-bind_term-in-Apply-clause-term : goal.bind_term-returns-in_ok-bind_term-in-Apply-clause-term
-bind_term-returns-in_ok-bind_term-in-Apply-clause-term t c =
+pub bind_term-returns-in-Apply : goal.bind_term-returns-in-Apply
+bind_term-returns-in-Apply t c =
     rw c.in-Apply.is (rw (terms.outs-Apply c.in-Apply.head c.in-Apply.arguments)
     (rw (tree_of-Apply c.in-Apply.head c.in-Apply.arguments)
-    (rw (tree_of-Apply (with_value c.in-Apply.head c.bind_term-in-Apply.new.term) (with_items c.in-Apply.arguments c.bind_terms-in-Apply.new.terms))
-    (rw (with_items_is c.in-Apply.arguments c.bind_terms-in-Apply.new.terms (search (rules, places))) (
-    let a = c.in_ok-bind_term-in-Apply.ensures {u = tt} in
-    next_binds _ _ _ _ _ (rw c.in-Apply.head-is at (rw c.deref_mut-in-Apply.ensures.value at a.term))
-    (last_binds (λ u. apply (tree_of c.bind_term-in-Apply.new.term) u) c.bind_terms-in-Apply.result _ _
-    (rw a.names at (rw c.in-Apply.arguments-is at (rw c.deref_mut-in-Apply-2.ensures.value at c.bind_terms-in-Apply.ensures.terms)))))))))
+    (rw (tree_of-Apply (with_value c.in-Apply.head c.bind_application.new.head) (with_items c.in-Apply.arguments c.bind_application.new.arguments))
+    (rw (with_items_is c.in-Apply.arguments c.bind_application.new.arguments (search (rules, places)))
+    (both_bind apply c.bind_application.result _ _ _ _ _ _
+    (rw c.in-Apply.arguments-is at (rw c.deref_mut-in-Apply-2.ensures.value at
+    (rw c.in-Apply.head-is at (rw c.deref_mut-in-Apply.ensures.value at c.bind_application.ensures)))))))))
 
-pub bind_term-returns-in_ok-bind_term-in-Append-clause-term : goal.bind_term-returns-in_ok-bind_term-in-Append-clause-term
-bind_term-returns-in_ok-bind_term-in-Append-clause-term t c =
+pub bind_term-returns-in-Append : goal.bind_term-returns-in-Append
+bind_term-returns-in-Append t c =
     rw c.in-Append.is (rw (terms.outs-Append c.in-Append.first c.in-Append.second c.in-Append.field-2)
     (rw (tree_of-Append c.in-Append.first c.in-Append.second c.in-Append.field-2)
-    (rw (tree_of-Append (with_value c.in-Append.first c.bind_term-in-Append.new.term)
-    (with_value c.in-Append.second c.bind_term-in-Append-2.new.term) c.in-Append.field-2)
-    ((
-    let a = c.in_ok-bind_term-in-Append.ensures {u = tt} in
-    next_binds _ _ _ _ _ (rw c.in-Append.first-is at (rw c.deref_mut-in-Append.ensures.value at a.term))
-    (last_binds (λ u. append (tree_of c.bind_term-in-Append.new.term) u c.in-Append.field-2) c.bind_term-in-Append-2.result _ _
-    (rw a.names at (rw c.in-Append.second-is at (rw c.deref_mut-in-Append-2.ensures.value at c.bind_term-in-Append-2.ensures.term)))))))))
+    (rw (tree_of-Append (with_value c.in-Append.first c.bind_both.new.first) (with_value c.in-Append.second c.bind_both.new.second) c.in-Append.field-2)
+    (both_bind (λ a b. append a b c.in-Append.field-2) c.bind_both.result _ _ _ _ _ _
+    (rw (c.deref_mut-in-Append.ensures.value, c.in-Append.first-is, c.deref_mut-in-Append-2.ensures.value, c.in-Append.second-is) at c.bind_both.ensures)))))
 
-pub bind_term-returns-in-Rotate-clause-term : goal.bind_term-returns-in-Rotate-clause-term
-bind_term-returns-in-Rotate-clause-term t c =
+pub bind_term-returns-in-Rotate : goal.bind_term-returns-in-Rotate
+bind_term-returns-in-Rotate t c =
     rw c.in-Rotate.is (rw (terms.outs-Rotate c.in-Rotate.field-0 c.in-Rotate.operand c.in-Rotate.field-2)
     (rw (tree_of-Rotate c.in-Rotate.field-0 c.in-Rotate.operand c.in-Rotate.field-2)
     (rw (tree_of-Rotate c.in-Rotate.field-0 (with_value c.in-Rotate.operand c.bind_term-in-Rotate.new.term) c.in-Rotate.field-2)
-    (last_binds (λ u. rotate c.in-Rotate.field-0 u c.in-Rotate.field-2) c.bind_term-in-Rotate.result _ _
-    (rw c.in-Rotate.operand-is at (rw c.deref_mut-in-Rotate.ensures.value at c.bind_term-in-Rotate.ensures.term))))))
+    (part_binds (λ u. rotate c.in-Rotate.field-0 u c.in-Rotate.field-2) c.bind_term-in-Rotate.result _ _ _ _
+    (rw c.in-Rotate.operand-is at (rw c.deref_mut-in-Rotate.ensures.value at c.bind_term-in-Rotate.ensures))))))
 
-pub bind_term-returns-in-Clean-clause-term : goal.bind_term-returns-in-Clean-clause-term
-bind_term-returns-in-Clean-clause-term t c =
+pub bind_term-returns-in-Clean : goal.bind_term-returns-in-Clean
+bind_term-returns-in-Clean t c =
     rw c.in-Clean.is (rw (terms.outs-Clean c.in-Clean.operand c.in-Clean.field-1)
     (rw (tree_of-Clean c.in-Clean.operand c.in-Clean.field-1)
     (rw (tree_of-Clean (with_value c.in-Clean.operand c.bind_term-in-Clean.new.term) c.in-Clean.field-1)
-    (last_binds (λ u. clean u c.in-Clean.field-1) c.bind_term-in-Clean.result _ _
-    (rw c.in-Clean.operand-is at (rw c.deref_mut-in-Clean.ensures.value at c.bind_term-in-Clean.ensures.term))))))
+    (part_binds (λ u. clean u c.in-Clean.field-1) c.bind_term-in-Clean.result _ _ _ _
+    (rw c.in-Clean.operand-is at (rw c.deref_mut-in-Clean.ensures.value at c.bind_term-in-Clean.ensures))))))
 
-pub bind_term-returns-in-Assert-clause-term : goal.bind_term-returns-in-Assert-clause-term
-bind_term-returns-in-Assert-clause-term t c =
+pub bind_term-returns-in-Assert : goal.bind_term-returns-in-Assert
+bind_term-returns-in-Assert t c =
     rw c.in-Assert.is (rw (terms.outs-Assert c.in-Assert.operand c.in-Assert.field-1)
     (rw (tree_of-Assert c.in-Assert.operand c.in-Assert.field-1)
     (rw (tree_of-Assert (with_value c.in-Assert.operand c.bind_term-in-Assert.new.term) c.in-Assert.field-1)
-    (last_binds (λ u. assert u c.in-Assert.field-1) c.bind_term-in-Assert.result _ _
-    (rw c.in-Assert.operand-is at (rw c.deref_mut-in-Assert.ensures.value at c.bind_term-in-Assert.ensures.term))))))
+    (part_binds (λ u. assert u c.in-Assert.field-1) c.bind_term-in-Assert.result _ _ _ _
+    (rw c.in-Assert.operand-is at (rw c.deref_mut-in-Assert.ensures.value at c.bind_term-in-Assert.ensures))))))
 
-pub bind_term-returns-in-And-clause-term : goal.bind_term-returns-in-And-clause-term
-bind_term-returns-in-And-clause-term t c =
-    rw c.in-And.is (rw (terms.outs-And c.in-And.operands)
-    (rw (tree_of-And c.in-And.operands) (rw (tree_of-And (with_items c.in-And.operands c.bind_terms-in-And.new.terms))
+pub bind_term-returns-in-And : goal.bind_term-returns-in-And
+bind_term-returns-in-And t c =
+    rw c.in-And.is (rw (terms.outs-And c.in-And.operands) (rw (tree_of-And c.in-And.operands)
+    (rw (tree_of-And (with_items c.in-And.operands c.bind_terms-in-And.new.terms))
     (rw (with_items_is c.in-And.operands c.bind_terms-in-And.new.terms (search (rules, places)))
-    (last_binds ands c.bind_terms-in-And.result _ _
-    (rw c.in-And.operands-is at (rw c.deref_mut-in-And.ensures.value at c.bind_terms-in-And.ensures.terms)))))))
+    (part_binds ands c.bind_terms-in-And.result _ _ _ _
+    (rw c.in-And.operands-is at (rw c.deref_mut-in-And.ensures.value at c.bind_terms-in-And.ensures)))))))
 
-pub bind_term-returns-in-Xor-clause-term : goal.bind_term-returns-in-Xor-clause-term
-bind_term-returns-in-Xor-clause-term t c =
-    rw c.in-Xor.is (rw (terms.outs-Xor c.in-Xor.operands)
-    (rw (tree_of-Xor c.in-Xor.operands) (rw (tree_of-Xor (with_items c.in-Xor.operands c.bind_terms-in-Xor.new.terms))
+pub bind_term-returns-in-Xor : goal.bind_term-returns-in-Xor
+bind_term-returns-in-Xor t c =
+    rw c.in-Xor.is (rw (terms.outs-Xor c.in-Xor.operands) (rw (tree_of-Xor c.in-Xor.operands)
+    (rw (tree_of-Xor (with_items c.in-Xor.operands c.bind_terms-in-Xor.new.terms))
     (rw (with_items_is c.in-Xor.operands c.bind_terms-in-Xor.new.terms (search (rules, places)))
-    (last_binds xors c.bind_terms-in-Xor.result _ _
-    (rw c.in-Xor.operands-is at (rw c.deref_mut-in-Xor.ensures.value at c.bind_terms-in-Xor.ensures.terms)))))))
+    (part_binds xors c.bind_terms-in-Xor.result _ _ _ _
+    (rw c.in-Xor.operands-is at (rw c.deref_mut-in-Xor.ensures.value at c.bind_terms-in-Xor.ensures)))))))
 
-pub bind_term-returns-in_ok-bind_term-in-Assign-clause-term : goal.bind_term-returns-in_ok-bind_term-in-Assign-clause-term
-bind_term-returns-in_ok-bind_term-in-Assign-clause-term t c =
-    rw c.in-Assign.is (rw (terms.outs-Assign c.in-Assign.left c.in-Assign.right)
-    (rw (tree_of-Assign c.in-Assign.left c.in-Assign.right)
-    (rw (tree_of-Assign (with_value c.in-Assign.left c.bind_term-in-Assign.new.term) (with_value c.in-Assign.right c.bind_term-in-Assign-2.new.term))
-    ((
-    let a = c.in_ok-bind_term-in-Assign.ensures {u = tt} in
-    next_binds _ _ _ _ _ (rw c.in-Assign.left-is at (rw c.deref_mut-in-Assign.ensures.value at a.term))
-    (last_binds (λ u. assign (tree_of c.bind_term-in-Assign.new.term) u) c.bind_term-in-Assign-2.result _ _
-    (rw a.names at (rw c.in-Assign.right-is at (rw c.deref_mut-in-Assign-2.ensures.value at c.bind_term-in-Assign-2.ensures.term)))))))))
+pub bind_term-returns-in-Assign : goal.bind_term-returns-in-Assign
+bind_term-returns-in-Assign t c =
+    rw (
+      c.in-Assign.is,
+      terms.outs-Assign c.in-Assign.left c.in-Assign.right,
+      tree_of-Assign c.in-Assign.left c.in-Assign.right,
+      tree_of-Assign (with_value c.in-Assign.left c.bind_both-in-Assign.new.first) (with_value c.in-Assign.right c.bind_both-in-Assign.new.second),
+    )
+    (both_bind assign c.bind_both-in-Assign.result _ _ _ _ _ _
+    (rw c.in-Assign.right-is at (rw c.deref_mut-in-Assign-2.ensures.value at
+    (rw c.in-Assign.left-is at (rw c.deref_mut-in-Assign.ensures.value at c.bind_both-in-Assign.ensures)))))
 
-pub bind_term-bind_term-requires : goal.bind_term-bind_term-requires
-bind_term-bind_term-requires t c =
-    let i = rw c.in-Block.items-is at (rw c.deref_mut-in-Block.ensures.value at (c.in_ok-bind_items-in-Block.ensures {u = tt})) in
-    let s = items_stand (item_trees (map item_tree_of c.in-Block.items.items)) _ _ _ i in
-    let r = rw (tree_of-Block c.in-Block.items c.in-Block.last c.in-Block.field-2) at (rw c.in-Block.is at c.requires) in
-    (search (rules, the_lemmas), rw c.deref_mut-in-Block-2.ensures.value (rw c.in-Block.last-is (omega (arith, few_deeper _ _ _ s, r))))
+-- ---- two parts, one after the other
 
-pub bind_term-leave-requires : goal.bind_term-leave-requires
-bind_term-leave-requires t c =
-    let i = rw c.in-Block.items-is at (rw c.deref_mut-in-Block.ensures.value at (c.in_ok-bind_items-in-Block.ensures {u = tt})) in
-    let s = items_stand (item_trees (map item_tree_of c.in-Block.items.items)) _ _ _ i in
-    let b = c.in_ok-bind_term-in-Block.ensures {u = tt} in
-    depth_below _ _ _ _ _ s b.names c.depth-depth.ensures
+pub bind_both-bind_term-requires : goal.bind_both-bind_term-requires
+bind_both-bind_term-requires t c = (first_falls _ _ _ c.decreases, first_fits _ _ _ _ c.requires)
 
-pub bind_term-returns-in_ok-bind_term-in-Block-clause-names : goal.bind_term-returns-in_ok-bind_term-in-Block-clause-names
-bind_term-returns-in_ok-bind_term-in-Block-clause-names t c =
-    let i = rw c.in-Block.items-is at (rw c.deref_mut-in-Block.ensures.value at (c.in_ok-bind_items-in-Block.ensures {u = tt})) in
-    let s = items_stand (item_trees (map item_tree_of c.in-Block.items.items)) _ _ _ i in
-    let b = c.in_ok-bind_term-in-Block.ensures {u = tt} in
-    c.leave.ensures ∙ left_at_depth _ _ _ _ _ s b.names c.depth-depth.ensures
+pub bind_both-bind_term-requires-2 : goal.bind_both-bind_term-requires-2
+bind_both-bind_term-requires-2 t c =
+    let a = c.in_ok-bind_term.ensures {u = tt} in
+    (second_falls _ _ _ c.decreases, second_fits _ _ _ _ _ a.1 c.requires)
+
+pub bind_both-returns-in_err-bind_term : goal.bind_both-returns-in_err-bind_term
+bind_both-returns-in_err-bind_term t c =
+    refused_in c.from_residual.result _ _ _ _ _ c.from_residual.ensures.1 (first_is_unbound _ _ _ (c.in_err-bind_term.ensures {u = tt}))
+
+pub bind_both-returns : goal.bind_both-returns
+bind_both-returns t c = let a = c.in_ok-bind_term.ensures {u = tt} in second_binds c.bind_term-2.result _ _ _ _ _ _ a.0 (rw a.1 at c.bind_term-2.ensures)
+
+pub bind_application-bind_term-requires : goal.bind_application-bind_term-requires
+bind_application-bind_term-requires t c = (first_falls _ _ _ c.decreases, first_fits _ _ _ _ c.requires)
+
+pub bind_application-bind_terms-requires : goal.bind_application-bind_terms-requires
+bind_application-bind_terms-requires t c =
+    let a = c.in_ok-bind_term.ensures {u = tt} in
+    (second_list_falls _ _ _ c.decreases, second_fits _ _ _ _ _ a.1 c.requires)
+
+pub bind_application-returns-in_err-bind_term : goal.bind_application-returns-in_err-bind_term
+bind_application-returns-in_err-bind_term t c =
+    refused_in c.from_residual.result _ _ _ _ _ c.from_residual.ensures.1 (first_is_unbound _ _ _ (c.in_err-bind_term.ensures {u = tt}))
+
+pub bind_application-returns : goal.bind_application-returns
+bind_application-returns t c = let a = c.in_ok-bind_term.ensures {u = tt} in second_binds c.bind_terms.result _ _ _ _ _ _ a.0 (rw a.1 at c.bind_terms.ensures)
+
+-- ---- blocks
+
+pub bind_block-bind_items-requires : goal.bind_block-bind_items-requires
+bind_block-bind_items-requires t c = (first_list_falls _ _ _ c.decreases, first_fits _ _ _ _ c.requires)
+
+pub bind_block-bind_term-requires : goal.bind_block-bind_term-requires
+bind_block-bind_term-requires t c =
+    let s = items_stand (item_trees (map item_tree_of c.args.items.now)) _ _ _ (c.in_ok-bind_items.ensures {u = tt}) in
+    (second_falls _ _ _ c.decreases, behind_fits _ _ _ _ _ s c.requires)
+
+pub bind_block-leave-requires : goal.bind_block-leave-requires
+bind_block-leave-requires t c =
+    let s = items_stand (item_trees (map item_tree_of c.args.items.now)) _ _ _ (c.in_ok-bind_items.ensures {u = tt}) in
+    let b = c.in_ok-bind_term.ensures {u = tt} in
+    depth_below _ _ _ _ _ s b.1 c.depth-depth.ensures
+
+pub bind_block-returns-in_err-bind_items : goal.bind_block-returns-in_err-bind_items
+bind_block-returns-in_err-bind_items t c =
+    refused_in c.from_residual.result _ _ _ _ _ c.from_residual.ensures.1 (first_is_unbound _ _ _ (c.in_err-bind_items.ensures {u = tt}))
+
+pub bind_block-returns-in_err-bind_term : goal.bind_block-returns-in_err-bind_term
+bind_block-returns-in_err-bind_term t c =
+    refused_in c.from_residual-in_err-bind_term.result _ _ _ _ _ c.from_residual-in_err-bind_term.ensures.1
+    (rw (c.in_ok-bind_items.ensures {u = tt}) (first_is_unbound _ _ _ (c.in_err-bind_term.ensures {u = tt})))
+
+pub bind_block-returns : goal.bind_block-returns
+bind_block-returns t c =
+    let i = c.in_ok-bind_items.ensures {u = tt} in
+    let s = items_stand (item_trees (map item_tree_of c.args.items.now)) _ _ _ i in
+    let b = c.in_ok-bind_term.ensures {u = tt} in
+    (rw i (rw b.0 refl), c.leave.ensures ∙ left_at_depth _ _ _ _ _ s b.1 c.depth-depth.ensures)
+
+-- ---- functions
+
+pub bind_function-bind_term-requires : goal.bind_function-bind_term-requires
+bind_function-bind_term-requires t c =
+    let e = rw c.deref.ensures.value at (c.in_ok-bind_all.ensures {u = tt}) in
+    let s = names_stand c.args.function.now.names.items c.args.names.now in
+    (search (rules, the_lemmas), rw e (behind_fits _ _ _ _ _ s c.requires))
+
+pub bind_function-leave-requires : goal.bind_function-leave-requires
+bind_function-leave-requires t c =
+    let e = rw c.deref.ensures.value at (c.in_ok-bind_all.ensures {u = tt}) in
+    let s = names_stand c.args.function.now.names.items c.args.names.now in
+    let b = c.in_ok-bind_term.ensures {u = tt} in
+    depth_below _ _ _ _ _ s (b.1 ∙ e) c.depth-depth.ensures
+
+pub bind_function-returns-in_err-bind_all : goal.bind_function-returns-in_err-bind_all
+bind_function-returns-in_err-bind_all t c = refused_in c.from_residual.result fault.Memory _ _ _ _ c.from_residual.ensures.1 tt
+
+pub bind_function-returns-in_err-bind_term : goal.bind_function-returns-in_err-bind_term
+bind_function-returns-in_err-bind_term t c =
+    let e = rw c.deref.ensures.value at (c.in_ok-bind_all.ensures {u = tt}) in
+    refused_in c.from_residual-in_err-bind_term.result _ _ _ _ _ c.from_residual-in_err-bind_term.ensures.1
+    (first_is_unbound _ _ _ (rw e at (c.in_err-bind_term.ensures {u = tt})))
+
+pub bind_function-returns : goal.bind_function-returns
+bind_function-returns t c =
+    let e = rw c.deref.ensures.value at (c.in_ok-bind_all.ensures {u = tt}) in
+    let s = names_stand c.args.function.now.names.items c.args.names.now in
+    let b = c.in_ok-bind_term.ensures {u = tt} in
+    (rw (rw e at b.0) refl, c.leave.ensures ∙ left_at_depth _ _ _ _ _ s (b.1 ∙ e) c.depth-depth.ensures)
+
+-- ---- terms and items, one after another
 
 pub bind_terms-bind_term-requires : goal.bind_terms-bind_term-requires
 bind_terms-bind_term-requires t c =
-    let u = c.loop-i.invariant.0.1 c.loop-i.i c.index-terms-i.result (omega arith) in
-    let h = term_fits c.args.terms.now c.loop-i.i c.index-terms-i.result _ (omega arith) refl in
-    (search (rules, the_lemmas), rw u (rw c.loop-i.invariant.1.0 (omega (arith, h))))
+    let u = c.loop-i.invariant.0.1 c.loop-i.i c.index-terms-i.result (itself _) in
+    let h = term_fits c.args.terms.now c.loop-i.i c.index-terms-i.result _ c.loop-i-test.true refl in (
+      rw u (element_falls the_size c.args.terms.now c.loop-i.i _ c.index-terms-i.result c.loop-i-test.true c.decreases),
+      rw u
+          (element_fits _ _ _ _ _ c.loop-i.invariant.1.0 h c.requires),
+    )
 
-pub bind_terms-returns-in_err-bind_term-clause-terms : goal.bind_terms-returns-in_err-bind_term-clause-terms
-bind_terms-returns-in_err-bind_term-clause-terms t c =
-    let u = c.loop-i.invariant.0.1 c.loop-i.i c.index-terms-i.result (omega arith) in
+pub bind_terms-returns-in_err-bind_term : goal.bind_terms-returns-in_err-bind_term
+bind_terms-returns-in_err-bind_term t c =
+    let u = c.loop-i.invariant.0.1 c.loop-i.i c.index-terms-i.result (itself _) in
     let e = c.in_err-bind_term.ensures {u = tt} in
-    passed_on _ _ _ _ c.from_residual.ensures.1
-    (terms_stop c.args.names.now c.args.terms.now c.loop-i.terms c.loop-i.i c.index-terms-i.result _ _ (omega arith) refl c.loop-i.invariant.1.1
-    (rw c.loop-i.invariant.1.0 at (rw u at e.term)))
+    refused_in c.from_residual.result _ _ _ _ _ c.from_residual.ensures.1
+    (terms_stop c.args.names.now c.args.terms.now c.loop-i.terms c.loop-i.i c.index-terms-i.result _ _ c.loop-i-test.true refl c.loop-i.invariant.1.1
+    (rw c.loop-i.invariant.1.0 at (rw u at e)))
 
 pub bind_terms-loop-i-preserved : goal.bind_terms-loop-i-preserved
 bind_terms-loop-i-preserved t c =
-    let u = c.loop-i.invariant.0.1 c.loop-i.i c.index-terms-i.result (omega arith) in
+    let u = c.loop-i.invariant.0.1 c.loop-i.i c.index-terms-i.result (itself _) in
     let e = c.in_ok-bind_term.ensures {u = tt} in (
       unreached _ _ _ _ c.loop-i.invariant.0,
       (
-        e.names ∙ c.loop-i.invariant.1.0,
-        terms_go_on c.args.names.now c.args.terms.now c.loop-i.terms c.loop-i.i c.index-terms-i.result _ _ (omega arith)
-            (omega arith) refl c.loop-i.invariant.1.1 (rw c.loop-i.invariant.1.0 at (rw u at e.term)),
+        e.1 ∙ c.loop-i.invariant.1.0,
+        terms_go_on c.args.names.now c.args.terms.now c.loop-i.terms c.loop-i.i c.index-terms-i.result _ _ c.loop-i-test.true
+            c.loop-i.invariant.0.0 refl c.loop-i.invariant.1.1 (rw c.loop-i.invariant.1.0 at (rw u at e.0)),
       ),
     )
 
 pub bind_items-bind_item-requires : goal.bind_items-bind_item-requires
 bind_items-bind_item-requires t c =
-    let u = c.loop-i.invariant.0.1 c.loop-i.i c.index-items-i.result (omega arith) in
+    let u = c.loop-i.invariant.0.1 c.loop-i.i c.index-items-i.result (itself _) in
     let h = item_fits c.args.names.now c.loop-i.names c.args.items.now c.loop-i.items c.loop-i.i c.index-items-i.result _
-    (omega arith) refl c.loop-i.invariant.1 in
-    (search (rules, the_lemmas), rw u (omega (arith, h)))
+    c.loop-i-test.true refl c.loop-i.invariant.1 in (
+      rw u (element_falls item_laws.the_size c.args.items.now c.loop-i.i _
+          c.index-items-i.result c.loop-i-test.true c.decreases),
+      rw u (within _ _ _ h c.requires),
+    )
 
 pub bind_items-returns-in_err-bind_item : goal.bind_items-returns-in_err-bind_item
 bind_items-returns-in_err-bind_item t c =
-    let u = c.loop-i.invariant.0.1 c.loop-i.i c.index-items-i.result (omega arith) in
+    let u = c.loop-i.invariant.0.1 c.loop-i.i c.index-items-i.result (itself _) in
     let e = c.in_err-bind_item.ensures {u = tt} in
     passed_on _ _ _ _ c.from_residual.ensures.1
     (items_end c.args.names.now c.loop-i.names c.args.items.now c.loop-i.items c.loop-i.i c.index-items-i.result _ _
-    (omega arith) refl c.loop-i.invariant.1 (rw u at e))
+    c.loop-i-test.true refl c.loop-i.invariant.1 (rw u at e))
 
 pub bind_items-loop-i-preserved : goal.bind_items-loop-i-preserved
 bind_items-loop-i-preserved t c =
-    let u = c.loop-i.invariant.0.1 c.loop-i.i c.index-items-i.result (omega arith) in
+    let u = c.loop-i.invariant.0.1 c.loop-i.i c.index-items-i.result (itself _) in
     let e = c.in_ok-bind_item.ensures {u = tt} in (
       unreached _ _ _ _ c.loop-i.invariant.0,
       items_go_on c.args.names.now c.loop-i.names _ c.args.items.now c.loop-i.items c.loop-i.i c.index-items-i.result _
-          _ (omega arith) (omega arith) refl c.loop-i.invariant.1 (rw u at e),
+          _ c.loop-i-test.true c.loop-i.invariant.0.0 refl c.loop-i.invariant.1 (rw u at e),
     )
 
-pub bind_term-bind_term-requires-in-Fun : goal.bind_term-bind_term-requires-in-Fun
-bind_term-bind_term-requires-in-Fun t c =
-    let d = rw c.in-Fun.function-is at c.deref_mut-in-Fun.ensures.value in
-    let e = rw c.in-Fun.function-is at (rw c.deref.ensures at (rw c.deref-in-Fun.ensures.value at (c.in_ok-bind_all-in-Fun.ensures {u = tt}))) in
-    let s = names_stand c.in-Fun.function.value.names.items c.args.names.now in
-    let r = rw (tree_of-Fun c.in-Fun.function c.in-Fun.field-1) at (rw c.in-Fun.is at c.requires) in
-    (search (rules, the_lemmas), rw d (rw e (omega (arith, few_deeper _ _ _ s, r))))
+pub bind_item-returns-in_err-bind_term-in-Let : goal.bind_item-returns-in_err-bind_term-in-Let
+bind_item-returns-in_err-bind_term-in-Let t c =
+    rw c.in-Let.is (rw (item_tree_of-Let c.in-Let.name c.in-Let.value)
+    (passed_on c.from_residual.result _ _ _ c.from_residual.ensures.1 (first_is_unbound _ _ _ (c.in_err-bind_term-in-Let.ensures {u = tt}))))
 
-pub bind_term-leave-requires-in-Fun : goal.bind_term-leave-requires-in-Fun
-bind_term-leave-requires-in-Fun t c =
-    let d = rw c.in-Fun.function-is at c.deref_mut-in-Fun.ensures.value in
-    let e = rw c.in-Fun.function-is at (rw c.deref.ensures at (rw c.deref-in-Fun.ensures.value at (c.in_ok-bind_all-in-Fun.ensures {u = tt}))) in
-    let s = names_stand c.in-Fun.function.value.names.items c.args.names.now in
-    let b = c.in_ok-bind_term-in-Fun.ensures {u = tt} in
-    depth_below _ _ _ _ _ s (b.names ∙ e) c.depth-depth-in-Fun.ensures
+pub bind_item-returns-in_err-bind-in-Let : goal.bind_item-returns-in_err-bind-in-Let
+bind_item-returns-in_err-bind-in-Let t c =
+    passed_on c.from_residual-in_err-bind-in-Let.result fault.Memory _ _ c.from_residual-in_err-bind-in-Let.ensures.1 tt
 
-pub bind_term-returns-in_ok-bind_term-in-Fun-clause-names : goal.bind_term-returns-in_ok-bind_term-in-Fun-clause-names
-bind_term-returns-in_ok-bind_term-in-Fun-clause-names t c =
-    let d = rw c.in-Fun.function-is at c.deref_mut-in-Fun.ensures.value in
-    let e = rw c.in-Fun.function-is at (rw c.deref.ensures at (rw c.deref-in-Fun.ensures.value at (c.in_ok-bind_all-in-Fun.ensures {u = tt}))) in
-    let s = names_stand c.in-Fun.function.value.names.items c.args.names.now in
-    let b = c.in_ok-bind_term-in-Fun.ensures {u = tt} in
-    c.leave-in-Fun.ensures ∙ left_at_depth _ _ _ _ _ s (b.names ∙ e) c.depth-depth-in-Fun.ensures
+pub bind_item-returns-in_ok-bind-in-Let : goal.bind_item-returns-in_ok-bind-in-Let
+bind_item-returns-in_ok-bind-in-Let t c =
+    let b = c.in_ok-bind_term-in-Let.ensures {u = tt} in
+    rw c.in-Let.is (rw (item_tree_of-Let c.in-Let.name c.in-Let.value) (rw (item_tree_of-Let c.in-Let.name c.bind_term.new.term)
+    (let_binds (tree_of c.in-Let.value) (tree_of c.bind_term.new.term) c.in-Let.name _ _ _ b.0 b.1 (c.in_ok-bind-in-Let.ensures {u = tt}))))
+
+pub bind_item-returns-in-Do : goal.bind_item-returns-in-Do
+bind_item-returns-in-Do t c =
+    rw c.in-Do.is (rw (item_tree_of-Do c.in-Do.term) (rw (item_tree_of-Do c.bind_term-in-Do.new.term)
+    (run_binds c.bind_term-in-Do.result (tree_of c.in-Do.term) (tree_of c.bind_term-in-Do.new.term) c.args.names.now c.bind_term-in-Do.new.names
+    c.bind_term-in-Do.ensures)))

@@ -1,7 +1,36 @@
-use Rattle.std.proofs.Common.{◌≡◌, map, take}
+use Rattle.std.proofs.Common.{◌≡◌, ◌+◌, ◌*◌, max, map, take}
+use denote.Param.Weighed.{most}
+use Rattle.revs_terms.proofs.term.Term.TheLaws.{the_size}
+use Rattle.revs_terms.proofs.term.Item.TheLaws as items
+use Rattle.revs_terms.proofs.term.Lambda.TheLaws as functions
 use Rattle.revs_terms.specs.Scopes.{scoped, scoped_trees, scoped_items}
 use Rattle.revs_terms.specs.Trees.{tree_of, trees, item_tree_of, item_trees}
 use Rattle.name_scope.proofs.terms.+bind.Given as goal
+
+-- A function that takes two parts of a term stands between the term and its parts.
+abbrev pub decreases-bind_term : goal.decreases-bind_term
+decreases-bind_term l = 3 * the_size l.term.now
+
+abbrev pub decreases-bind_terms : goal.decreases-bind_terms
+decreases-bind_terms l = 3 * most the_size l.terms.now + 1
+
+abbrev pub decreases-bind_items : goal.decreases-bind_items
+decreases-bind_items l = 3 * most items.the_size l.items.now + 1
+
+abbrev pub decreases-bind_item : goal.decreases-bind_item
+decreases-bind_item l = 3 * items.the_size l.item.now
+
+abbrev pub decreases-bind_function : goal.decreases-bind_function
+decreases-bind_function l = 3 * functions.the_size l.function.now
+
+abbrev pub decreases-bind_both : goal.decreases-bind_both
+decreases-bind_both l = 3 * max (the_size l.first.now) (the_size l.second.now) + 2
+
+abbrev pub decreases-bind_application : goal.decreases-bind_application
+decreases-bind_application l = 3 * max (the_size l.head.now) (most the_size l.arguments.now) + 2
+
+abbrev pub decreases-bind_block : goal.decreases-bind_block
+decreases-bind_block l = 3 * max (most items.the_size l.items.now) (the_size l.last.now) + 2
 
 abbrev pub invariant-bind_terms-loop-i : goal.invariant-bind_terms-loop-i
 invariant-bind_terms-loop-i l =
