@@ -5,3 +5,4 @@ pub mod NearerLemmas
 pub mod KeepsLemmas
 pub mod TableLemmas
 pub mod NearestLemmas
+pub mod SettlingLemmas

@@ -2,7 +2,20 @@ use Rattle.std.proofs.Common.{arith}
 use Rattle.revs_terms.specs.Trees.{tree_of}
 use Rattle.name_scope.proofs.NearerLemmas.{params-length}
 use Rattle.name_scope.proofs.KeepsLemmas.{keeps}
+use Rattle.name_scope.proofs.SettlingLemmas.{params_refused, body_refused}
 use Rattle.name_scope.proofs.binding.scope.Goals as goal
+
+pub returns-in_err-bind_params : goal.returns-in_err-bind_params
+returns-in_err-bind_params c =
+    let e = rw c.deref.ensures.value at (rw c.new-names.ensures at (c.in_err-bind_params.ensures {u = tt}).second) in
+    params_refused c.from_residual.result _ c.args.program.params.items (tree_of c.args.program.body) c.from_residual.ensures.1 e
+
+pub returns-in_err-bind_term : goal.returns-in_err-bind_term
+returns-in_err-bind_term c =
+    let e = rw c.deref.ensures.value at (rw c.new-names.ensures at (c.in_ok-bind_params.ensures {u = tt}).second) in
+    let n = rw c.deref.ensures.value at (rw c.new-names.ensures at (c.in_ok-bind_params.ensures {u = tt}).names) in
+    body_refused c.from_residual-in_err-bind_term.result _ c.args.program.params.items (tree_of c.args.program.body)
+    c.from_residual-in_err-bind_term.ensures.1 e (rw n at (c.in_err-bind_term.ensures {u = tt}))
 
 pub bind_term-requires : goal.bind_term-requires
 bind_term-requires c =

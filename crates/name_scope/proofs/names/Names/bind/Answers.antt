@@ -1,9 +1,19 @@
-use Rattle.std.proofs.Common.{◌∙◌, sym, ap, reverse, bytes_eq, arith}
+use Rattle.std.proofs.Common.{◌∙◌, refl, sym, ap, reverse, bytes_eq, arith}
 use Rattle.std.proofs.lemmas.List.{length-reverse}
 use Rattle.indexmap.specs.IndexMap.{get}
+use Rattle.revc_base.proofs.ResultLemmas.{no_promise}
 use Rattle.name_scope.specs.declared.names.Bound.{Bound}
 use Rattle.name_scope.proofs.TableLemmas.{bound_more, reverse-push, succeeded}
 use Rattle.name_scope.proofs.names.Names.bind.Goals as goal
+
+pub returns-in_err-key : goal.returns-in_err-key
+returns-in_err-key c = no_promise c.from_residual.result _ _ c.from_residual.ensures.1
+
+pub returns-in_err-name : goal.returns-in_err-name
+returns-in_err-name c = no_promise c.from_residual-in_err-name.result _ _ c.from_residual-in_err-name.ensures.1
+
+pub returns-in_err-push : goal.returns-in_err-push
+returns-in_err-push c = no_promise c.from_residual-in_err-push.result _ _ c.from_residual-in_err-push.ensures.1
 
 pub invariant_of-self-else-is_err : goal.invariant_of-self-else-is_err
 invariant_of-self-else-is_err c =
@@ -17,3 +27,9 @@ invariant_of-self-else-is_err c =
       bound_more (get bytes_eq c.self.inside.nearest) (get bytes_eq c.insert.new.self) (reverse c.self.inside.bound.items) b c.len-depth.result
           (omega (arith, c.len-depth.ensures, length-reverse c.self.inside.bound.items)) v c.self.invariant.1,
     )
+
+pub returns : goal.returns
+returns c =
+    let b : Bound = record { name = c.in_ok-name.name; hidden = c.nearest_depth-hidden.result } in
+    let r = ap reverse c.in_ok-push.ensures.items ∙ reverse-push c.self.inside.bound.items b in
+    rw (sym c.self.view_is) (rw r (rw c.in_ok-name.ensures refl))
