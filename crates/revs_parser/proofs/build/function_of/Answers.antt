@@ -1,4 +1,5 @@
 use Rattle.std.proofs.Common.{refl}
+use Rattle.revs_terms.proofs.ShapeLemmas.{tree_of-Fun}
 use Rattle.revc_base.proofs.ResultLemmas.{no_value, passes_on}
 use Rattle.revs_parser.proofs.build.function_of.Goals as goal
 
@@ -7,3 +8,6 @@ returns-in_err-new-clause-ok c = no_value c.from_residual.result _ _ c.from_resi
 
 pub returns-in_err-new-clause-memory : goal.returns-in_err-new-clause-memory
 returns-in_err-new-clause-memory c = passes_on _ c.from_residual.result c.from_residual.ensures.1 refl
+
+pub returns-clause-ok : goal.returns-clause-ok
+returns-clause-ok c = rw (tree_of-Fun, c.in_ok-new.ensures.ok)

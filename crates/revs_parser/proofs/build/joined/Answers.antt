@@ -1,4 +1,5 @@
 use Rattle.std.proofs.Common.{refl}
+use Rattle.revs_terms.proofs.ShapeLemmas.{tree_of-Append}
 use Rattle.revc_base.proofs.ResultLemmas.{no_value, passes_on}
 use Rattle.revs_parser.proofs.build.joined.Goals as goal
 
@@ -13,3 +14,6 @@ returns-in_err-new-clause-ok c = no_value c.from_residual-in_err-new.result _ _ 
 
 pub returns-in_err-new-clause-memory : goal.returns-in_err-new-clause-memory
 returns-in_err-new-clause-memory c = passes_on _ c.from_residual-in_err-new.result c.from_residual-in_err-new.ensures.1 refl
+
+pub returns-clause-ok : goal.returns-clause-ok
+returns-clause-ok c = rw (tree_of-Append, c.in_ok-first.ensures.ok, c.in_ok-new.ensures.ok)

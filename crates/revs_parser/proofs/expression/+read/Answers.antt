@@ -1,11 +1,11 @@
-use Rattle.std.proofs.Common.{sym, ◌∙◌}
+use Rattle.std.proofs.Common.{refl, sym, ◌∙◌}
 use Rattle.revs_terms.specs.Trees.{tree_of}
 use Rattle.revs_terms.proofs.ShapeLemmas.{tree_of-Reg, tree_of-Block, tree_of-Apply}
 use Rattle.revs_terms.proofs.ShapeLemmas.{tree_of-And, tree_of-Xor, item_tree_of-Let}
 use Rattle.std.proofs.lemmas.Result.{MatchResult-weaker}
 use Rattle.revs_lexer.specs.declared.sign.Sign.TheVariants as signs
 use Rattle.revs_parser.specs.inside.Forms.{closed_by}
-use Rattle.revs_parser.proofs.PassingLemmas.{only, smaller_behind, halts_first, halts_on, no_memory, wants_memory, lower}
+use Rattle.revs_parser.proofs.PassingLemmas.{only, smaller_behind, halts_first, halts_on, no_memory, wants_memory, lower, deeper}
 use Rattle.revs_parser.proofs.ReadingLemmas as r
 use Rattle.revs_parser.proofs.expression.+read.Goals as goal
 
@@ -450,3 +450,23 @@ item_or_last-expression-requires t c = (lower _ 7 2 _ c.decreases, c.requires)
 
 pub binding-closed-requires : goal.binding-closed-requires
 binding-closed-requires t c = (lower _ 8 0 _ c.decreases, c.requires)
+
+-- ---- calls one level deeper
+
+pub expression-function-requires : goal.expression-function-requires
+expression-function-requires t c = deeper _ _ 10 7 5 _ c.in_ok-inner.ensures.inner c.in_ok-inner.ensures.within refl c.decreases
+
+pub base-register-requires : goal.base-register-requires
+base-register-requires t c = deeper _ _ 10 1 5 _ c.in_ok-inner.ensures.inner c.in_ok-inner.ensures.within refl c.decreases
+
+pub base-closed-requires : goal.base-closed-requires
+base-closed-requires t c = deeper _ _ 8 1 7 _ c.in_ok-inner.ensures.inner c.in_ok-inner.ensures.within refl c.decreases
+
+pub base-block-requires : goal.base-block-requires
+base-block-requires t c = deeper _ _ 11 1 4 _ c.in_ok-inner.ensures.inner c.in_ok-inner.ensures.within refl c.decreases
+
+pub sum-product-requires-in-products : goal.sum-product-requires-in-products
+sum-product-requires-in-products t c = (lower _ 5 0 _ c.decreases, c.requires)
+
+pub product-application-requires-in-applications : goal.product-application-requires-in-applications
+product-application-requires-in-applications t c = (lower _ 4 0 _ c.decreases, c.requires)
