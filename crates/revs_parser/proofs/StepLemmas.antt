@@ -106,6 +106,10 @@ IsRead f ps t = table (code t) f ≡ begun (table (code t)) (code t) ps
 abbrev pub IsLeftOut : Form → Tok → Type 0
 IsLeftOut f t = table (code t) f ≡ None
 
+-- a test that says both
+impossible : {P : Type 0} → true ≡ false → P
+impossible e = cc
+
 -- A form that may not be left out is read as the one line that is left.
 pub as_line : (f : Form) (l : ℕ) (p : Production (Val f)) → IsOneOf p (productions f) → is_optional f ≡ false → is_empty p.pieces ≡ false
     → (ts : List Token) → AtFirst (IsRead f p.pieces) ts → (ms : Stack) → outcome ts (form f l ∷ ms) ≡ outcome ts (symbols l p.pieces ++ ms)
@@ -118,7 +122,7 @@ as_line f l p i must some (t ∷ ts) h ms =
     starts_so = all_lines-at (starts_well (rank f)) (productions f) p (starts f) i
 
     not_done : (ps : List Piece) → starts_well (rank f) ps ≡ true → is_empty ps ≡ false → is_done (symbols l ps ++ ms) ≡ false
-    not_done [] w e = cc
+    not_done [] w e = impossible e
     not_done (one m ∷ ps) w e = refl
     not_done (kept m ∷ ps) w e = refl
     not_done (opening m ∷ ps) w e = refl
@@ -378,12 +382,12 @@ more_names (t ∷ ts) h ms =
 
 -- { atom }
 not_base : (t : Tok) → begins_base t ≡ false → IsLeftOut g.atoms t
-not_base (toks.Name text) h = cc
-not_base (toks.Word words.True) h = cc
-not_base (toks.Word words.False) h = cc
-not_base (toks.Word words.Reg) h = cc
-not_base (toks.Sign signs.OpenRound) h = cc
-not_base (toks.Sign signs.OpenCurly) h = cc
+not_base (toks.Name text) h = impossible h
+not_base (toks.Word words.True) h = impossible h
+not_base (toks.Word words.False) h = impossible h
+not_base (toks.Word words.Reg) h = impossible h
+not_base (toks.Sign signs.OpenRound) h = impossible h
+not_base (toks.Sign signs.OpenCurly) h = impossible h
 not_base _ h = refl
 
 pub no_atoms : (l : ℕ) (ts : List Token) → base_first ts ≡ false → (ms : Stack) → outcome ts (form g.atoms l ∷ ms) ≡ outcome ts ms
@@ -397,7 +401,7 @@ atoms_begin (toks.Word words.False) h = (refl, refl)
 atoms_begin (toks.Word words.Reg) h = (refl, refl)
 atoms_begin (toks.Sign signs.OpenRound) h = (refl, refl)
 atoms_begin (toks.Sign signs.OpenCurly) h = (refl, refl)
-atoms_begin _ h = cc
+atoms_begin _ h = impossible (sym h)
 
 pub more_atoms : (l : ℕ) (ts : List Token) → base_first ts ≡ true → (ms : Stack)
     → outcome ts (form g.atoms l ∷ ms) ≡ outcome ts (form g.atom l ∷ form g.atoms l ∷ ms)
