@@ -1,6 +1,6 @@
 -- Single tokens, and forms by the lines that they begin.
-use Rattle.std.proofs.Common.{◌≡◌, ℕ, ◌+◌, ◌==◌, true, false, List, [], ◌∷◌, ◌++◌}
-use Rattle.std.proofs.Common.{refl, length, arith}
+use Rattle.std.proofs.Common.{◌≡◌, ℕ, ◌+◌, ◌==◌, Bool, true, false, cond, List, [], ◌∷◌, ◌++◌}
+use Rattle.std.proofs.Common.{refl, ap, ◌∙◌, length, arith}
 use Rattle.std.proofs.lemmas.Bool.Decides.{nat_tests}
 use Rattle.revc_base.specs.declared.place.Place.{Place}
 use Rattle.revs_lexer.specs.declared.sign.Sign.{Sign}
@@ -12,15 +12,15 @@ use Rattle.revs_grammar.specs.Forms.{Mark, any_name, any_number, word, sign, hel
 use Rattle.revs_grammar.specs.Forms as g
 use Rattle.revs_grammar.specs.Productions.{productions}
 use Rattle.revs_grammar.specs.Sentences.{token, kept_token, opening_token, form, symbols, Vals, fill, few_levels}
-use Rattle.revs_grammar.specs.inside.Machine.{Stack, is_empty, is_end, outcome}
+use Rattle.revs_grammar.specs.inside.Machine.{Stack, Outcome, no_syntax, is_empty, is_end, outcome}
 use Rattle.revs_grammar.proofs.CheckHints.{may_follow}
 use Rattle.revs_grammar.proofs.CheckLemmas.{begin}
 use Rattle.revs_parser.specs.declared.stop.Stop.{Stop}
 use Rattle.revs_parser.specs.declared.stop.Stop.TheVariants as stops
-use Rattle.revs_parser.specs.inside.Reading.{Passes, Reads, Skips, ReadsForm, Halts, HaltsIn, Heads}
+use Rattle.revs_parser.specs.inside.Reading.{Passes, Reads, Skips, ReadsForm, Halts, HaltsIn, Heads, NotFirst}
 use Rattle.revs_parser.proofs.PassingLemmas.{passes_reads, line_passes, token_passes}
 use Rattle.revs_parser.proofs.PassingLemmas.{kept_passes, opening_passes, one_token, halts_there}
-use Rattle.revs_parser.proofs.StepLemmas.{by_first, token_goes, kept_goes, opening_goes, opening_deepens}
+use Rattle.revs_parser.proofs.StepLemmas.{no_sign, no_word, by_first, token_goes, kept_goes, opening_goes, opening_deepens}
 
 -- ---- single tokens
 
@@ -56,6 +56,19 @@ pub opens_too_many : {k : Tok} {at : Place} {ts rest : List Token} (m : Mark) (l
     → code k == mark_code m ≡ true → is_end k ≡ false → (stop : Stop) → stop ≡ stops.Nesting (length ts) → Halts (opening_token m l ∷ ss) ts stop
 opens_too_many {ts = ts} m l ss deep h same n stop e =
     rw e (record { halt = λ ms. opening_deepens m same n h l deep (ss ++ ms) })
+
+both : (b : Bool) {x : Outcome} → cond b x x ≡ x
+both true = refl
+both false = refl
+
+-- The machine stops where a sign or a word is wanted that does not stand first.
+pub sign_stops : (s : Sign) (ts : List Token) → NotFirst (toks.Sign s) ts → Halts (token (sign s) ∷ []) ts (stops.Syntax (length ts))
+sign_stops s [] h = record { halt = λ ms. refl }
+sign_stops s (t ∷ ts) h = record { halt = λ ms. rw (no_sign t.tok s h) (both (is_end t.tok) ∙ ap no_syntax (omega arith)) }
+
+pub word_stops : (w : Word) (ts : List Token) → NotFirst (toks.Word w) ts → Halts (token (word w) ∷ []) ts (stops.Syntax (length ts))
+word_stops w [] h = record { halt = λ ms. refl }
+word_stops w (t ∷ ts) h = record { halt = λ ms. rw (no_word t.tok w h) (both (is_end t.tok) ∙ ap no_syntax (omega arith)) }
 
 -- ---- forms by their lines
 

@@ -18,3 +18,6 @@ returns c = names_done c.loop-rest.invariant.read (sym c.begins_name.ensures ∙
 
 pub loop-rest-init : goal.loop-rest-init
 loop-rest-init c = record { read = names_begun c.args.names.items c.args.tokens.now }
+
+pub loop-rest-smaller : goal.loop-rest-smaller
+loop-rest-smaller c = c.in_ok-next.ensures.ok.shorter

@@ -17,3 +17,6 @@ returns-in_err-next c =
 
 pub returns : goal.returns
 returns c = parameters_done c.loop-params.invariant.read c.in_default.ensures.none
+
+pub loop-params-smaller : goal.loop-params-smaller
+loop-params-smaller c = c.in_ok-next.ensures.shorter
