@@ -3,7 +3,7 @@ use Rattle.std.proofs.Common.{◌≡◌, List, [], None, Result, Ok, Err, refl}
 use Rattle.std.specs.Result.{IsErrAnd}
 use Rattle.revs_terms.specs.declared.program.Param.{Param}
 use Rattle.revs_terms.specs.Trees.{Tree}
-use Rattle.revs_terms.specs.Scopes.{scoped_tree, second_of, params_scope, scope_verdict}
+use Rattle.revs_terms.specs.Scopes.{scoped, scoped_tree, second_of, params_scope, bound_as, scope_verdict}
 use Rattle.name_scope.specs.Answers.{Answers}
 use Rattle.name_scope.specs.declared.binding.ScopeFault.{ScopeFault}
 use Rattle.name_scope.specs.declared.binding.ScopeFault.TheVariants as fault
@@ -25,3 +25,8 @@ body_refused (Ok done) f params tree e d u = absurd e
 body_refused (Err g) (fault.Unbound at) params tree e d u = rw e (rw (d, scope_verdict) (rw u refl))
 body_refused (Err g) (fault.TwoParams at) params tree e d u = absurd u
 body_refused (Err g) fault.Memory params tree e d u = rw e tt
+
+-- a body whose names are bound
+pub body_bound : (params : List Param) (tree now : Tree) → second_of [] params ≡ None → scoped_tree (params_scope params) tree ≡ scoped now
+    → scope_verdict params tree ≡ bound_as now
+body_bound params tree now d e = rw (d, scope_verdict) (rw e refl)

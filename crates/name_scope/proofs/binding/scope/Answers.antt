@@ -1,8 +1,8 @@
-use Rattle.std.proofs.Common.{arith}
+use Rattle.std.proofs.Common.{refl, arith}
 use Rattle.revs_terms.specs.Trees.{tree_of}
 use Rattle.name_scope.proofs.NearerLemmas.{params-length}
 use Rattle.name_scope.proofs.KeepsLemmas.{keeps}
-use Rattle.name_scope.proofs.SettlingLemmas.{params_refused, body_refused}
+use Rattle.name_scope.proofs.SettlingLemmas.{params_refused, body_refused, body_bound}
 use Rattle.name_scope.proofs.binding.scope.Goals as goal
 
 pub returns-in_err-bind_params : goal.returns-in_err-bind_params
@@ -39,3 +39,10 @@ new-requires c =
     let k = keeps c.bind_params.new.names (tree_of c.args.program.body) _ (c.in_ok-bind_term.ensures {u = tt}).0 in
     let b = rw e at k.bound in
     rw (params-length c.args.program.params.items) at b
+
+pub returns : goal.returns
+returns c =
+    let e = rw c.deref.ensures.value at (rw c.new-names.ensures at (c.in_ok-bind_params.ensures {u = tt}).second) in
+    let n = rw c.deref.ensures.value at (rw c.new-names.ensures at (c.in_ok-bind_params.ensures {u = tt}).names) in
+    let b = c.in_ok-bind_term.ensures {u = tt} in
+    rw c.new.ensures (refl, body_bound c.args.program.params.items (tree_of c.args.program.body) (tree_of c.bind_term.new.term) e (rw n at b.0))
