@@ -8,6 +8,7 @@ pub mod LadderLemmas
 pub mod MarkLemmas
 pub mod NegativeLemmas
 pub mod PieceLemmas
+mod RefusalLemmas
 pub mod RoomyFlipLemmas
 pub mod WalkLemmas
 pub mod WideLemmas

@@ -1,8 +1,8 @@
 -- The gates in place of one: a flip, a swap, or a gate that is narrow already.
 use Rattle.std.proofs.Common.{◌≡◌, ℕ, ◌+◌, ◌<◌, ◌≤◌, Bool, true, false, ◌&&◌, List, [], ◌∷◌, ◌++◌, length, map, Option, Some, None, Result, Ok, refl, sym, ap}
-use Rattle.std.proofs.Common.{◌∙◌, inl, inr, arith}
+use Rattle.std.proofs.Common.{◌∙◌, inl, inr, cond, get_or, drop, arith}
 use Rattle.std.specs.List.{AllByRecursion, list_all}
-use Rattle.std.proofs.lemmas.List.{append_assoc, append-nil, length-append, map-append, length-map}
+use Rattle.std.proofs.lemmas.List.{append_assoc, append-nil, length-append, map-append, length-map, drop_more, drop_all}
 use Rattle.std.proofs.lemmas.Bool.Decides.{leb_tells}
 use Rattle.mct_circuit.specs.declared.gate.Control.{Control}
 use Rattle.mct_circuit.specs.declared.gate.Op.{Op}
@@ -120,7 +120,7 @@ lines_back : (ls : List ℕ) → lines (map positive ls) ≡ ls
 lines_back [] = refl
 lines_back (l ∷ ls) = ap (λ r. l ∷ r) (lines_back ls)
 
-few_stay : (n : ℕ) (controls : List ℕ) (target : ℕ) → length controls ≤ 2 → split_positive n controls target ≡ Some (flip_of controls target ∷ [])
+pub few_stay : (n : ℕ) (controls : List ℕ) (target : ℕ) → length controls ≤ 2 → split_positive n controls target ≡ Some (flip_of controls target ∷ [])
 few_stay n controls target few = elim (leb_tells (length controls) 2) [ inl t ↦ rw t.0 refl | inr t ↦ absurd (omega (arith, t.1)) ]
 
 -- a narrow gate stays as it is
@@ -149,3 +149,24 @@ stays_from n limit place done (g ∷ gs) s h =
 
 pub stay : NarrowStay
 stay n limit gates s h = stays_from n limit 0 [] gates s (omega arith)
+
+-- ---- the loop over the controls
+
+pub negatives_passed : (done whole : List GateView) (cs : List Control) (i : ℕ) (d : Control) → i < length cs → (get_or cs i d).positive ≡ true
+    → done ++ flips_of_negatives (drop i cs) ≡ whole → done ++ flips_of_negatives (drop (i + 1) cs) ≡ whole
+negatives_passed done whole cs i d h p e =
+    let rest = flips_of_negatives (drop (i + 1) cs) in
+    let same : flips_of_negatives (get_or cs i d ∷ drop (i + 1) cs) ≡ rest = ap (λ t. cond t rest (flip_of [] (get_or cs i d).line ∷ rest)) p in
+    ap (λ l. done ++ l) (sym (ap flips_of_negatives (drop_more cs i d h) ∙ same)) ∙ e
+
+pub negatives_taken : (done now whole : List GateView) (cs : List Control) (i : ℕ) (d : Control) → i < length cs → (get_or cs i d).positive ≡ false
+    → now ≡ done ++ flip_of [] (get_or cs i d).line ∷ [] → done ++ flips_of_negatives (drop i cs) ≡ whole
+    → now ++ flips_of_negatives (drop (i + 1) cs) ≡ whole
+negatives_taken done now whole cs i d h p n e =
+    let rest = flips_of_negatives (drop (i + 1) cs) in
+    let flip = flip_of [] (get_or cs i d).line in
+    let same : flips_of_negatives (get_or cs i d ∷ drop (i + 1) cs) ≡ flip ∷ rest = ap (λ t. cond t rest (flip ∷ rest)) p in
+    ap (λ l. l ++ rest) n ∙ append_assoc done (flip ∷ []) rest ∙ ap (λ l. done ++ l) (sym (ap flips_of_negatives (drop_more cs i d h) ∙ same)) ∙ e
+
+pub negatives_done : (done whole : List GateView) (cs : List Control) (i : ℕ) → length cs ≤ i → done ++ flips_of_negatives (drop i cs) ≡ whole → done ≡ whole
+negatives_done done whole cs i h e = sym (ap (λ c. done ++ flips_of_negatives c) (drop_all i cs h) ∙ append-nil done) ∙ e

@@ -5,14 +5,18 @@ use Rattle.std.proofs.lemmas.List.{drop_more, drop_all, length-append}
 use Rattle.std.proofs.lemmas.Option.{same_Some}
 use Rattle.std.proofs.lemmas.Bool.Decides.{leb_tells}
 use Rattle.list_facts.proofs.AllLemmas.{AllByRecursion-at, AllByRecursion-weaker}
-use Rattle.mct_circuit.specs.Gates.{GateView, IsGateOn, AreGatesOn, lines_of}
+use Rattle.std.specs.Result.{OnOk}
+use Rattle.mct_circuit.specs.declared.circuit.GateFault.{GateFault}
+use Rattle.mct_circuit.specs.declared.circuit.GateFault.TheVariants as gate_fault
+use Rattle.mct_circuit.specs.Gates.{GateView, CircuitView, IsGateOn, AreGatesOn, IsNarrow, lines_of}
 use Rattle.gate_split.specs.declared.fault.SplitFault.{SplitFault}
 use Rattle.gate_split.specs.declared.fault.SplitFault.TheVariants.{NoIdle, Gates}
 use Rattle.gate_split.specs.declared.fault.GateRefusal.{GateRefusal}
 use Rattle.gate_split.specs.declared.fault.GateRefusal.TheVariants as refusal
-use Rattle.gate_split.specs.inside.Walks.{IsOver, fault_at}
+use Rattle.gate_split.specs.inside.Walks.{IsOver, fault_at, refusal_of}
 use Rattle.gate_split.specs.Split.{split_gate, with_piece, split_from, split_list, behind}
 use Rattle.gate_split.proofs.NegativeLemmas.{split_gate_does, Walked, walk}
+use Rattle.gate_split.proofs.PieceLemmas.{narrow_stays}
 use Rattle.gate_split.proofs.WideLemmas.{nothing_behind}
 
 -- a circuit's gates on more lines
@@ -91,3 +95,38 @@ walk_ends n limit place done gates i h w = sym w ∙ ap (split_from n limit plac
 pub walked : (n limit place : ℕ) (done gates : List GateView) (i : ℕ) → AreGatesOn n gates → length gates ≤ i
     → split_from n limit place done (drop i gates) ≡ split_list n limit gates → Walked n [] gates done
 walked n limit place done gates i g h w = walk n limit 0 [] gates done g (walk_ends n limit place done gates i h w)
+
+-- ---- one gate
+
+pub no_line_wanted : {A : Type 0} (fault : GateFault) → refusal_of fault ≡ refusal.NoIdle → A
+no_line_wanted gate_fault.Full e = absurd (cc)
+no_line_wanted gate_fault.Memory e = absurd (cc)
+
+pub is_full : (fault : GateFault) → refusal_of fault ≡ refusal.Full → fault ≡ gate_fault.Full
+is_full gate_fault.Full e = refl
+is_full gate_fault.Memory e = absurd (cc)
+
+pub over_by_one : (n limit : ℕ) (done : List GateView) (gate : GateView) → IsNarrow gate → length done ≡ limit → IsOver limit done (split_gate n gate)
+over_by_one n limit done gate s e = record { gates = gate ∷ []; is = narrow_stays n gate s; over = omega arith }
+
+pub over_by : (n limit : ℕ) (done held piece : List GateView) (gate : GateView) → held ≡ [] → behind held (split_gate n gate) ≡ Some piece
+    → limit < length done + length piece → IsOver limit done (split_gate n gate)
+over_by n limit done held piece gate none e over = record { gates = piece; is = nothing_behind (split_gate n gate) piece (rw none at e); over = over }
+
+pub put_behind : (n : ℕ) (done held piece now : List GateView) (gate : GateView) → held ≡ [] → behind held (split_gate n gate) ≡ Some piece
+    → now ≡ done ++ piece → behind done (split_gate n gate) ≡ Some now
+put_behind n done held piece now gate none e is =
+    ap (behind done) (nothing_behind (split_gate n gate) piece (rw none at e)) ∙ ap Some (sym is)
+
+pub rest_stays : (old now : CircuitView) (gates : List GateView) → now ≡ record old { gates = gates } → now ≡ record old { gates = now.gates }
+rest_stays old now gates e = e ∙ ap (λ g. record old { gates = g }) (sym (ap (λ v. v.gates) e))
+
+pub one_fits : (done now : List GateView) (gate : GateView) (limit : ℕ) → now ≡ done ++ gate ∷ [] → length done + 1 ≤ limit → length now ≤ limit
+one_fits done now gate limit e h = let long = ap length e ∙ length-append done (gate ∷ []) in omega arith
+
+pub room_left : (r : Result Unit GateFault) (a limit : ℕ) → a ≤ limit → (a ≡ limit → r ≡ Err gate_fault.Full) → OnOk r (a + 1 ≤ limit)
+room_left (Err e) a limit h f = tt
+room_left (Ok x) a limit h f = elim (leb_tells (a + 1) limit) [
+  | inl t ↦ t.1
+  | inr t ↦ absurd (let full = f (omega (arith, t.1)) in cc)
+]

@@ -8,6 +8,7 @@ use Rattle.list_facts.proofs.AllLemmas.{AllByRecursion-left, AllByRecursion-righ
 use Rattle.list_facts.proofs.OrderLemmas.{AreDifferent-left, AreDifferent-parts}
 use Rattle.mct_circuit.specs.Gates.{GateView, flip_of, HasDifferentLines, IsGateOn}
 use Rattle.gate_split.specs.declared.fault.GateRefusal.{GateRefusal}
+use Rattle.gate_split.specs.declared.fault.GateRefusal.TheVariants as refusal
 use Rattle.gate_split.specs.inside.Walks.{first_idle}
 use Rattle.gate_split.specs.inside.Idle.{Serves}
 use Rattle.gate_split.specs.Split.{Avoids}
@@ -15,7 +16,7 @@ use Rattle.gate_split.specs.Split.{idle_lines, in_falling_order, ladder, over_id
 use Rattle.gate_split.specs.Split.{over_few_lines, split_positive, behind}
 use Rattle.gate_split.proofs.LadderLemmas.{fits_gates}
 use Rattle.gate_split.proofs.FallingLineLemmas.{length-in_falling_order}
-use Rattle.gate_split.proofs.EffectLemmas.{different_of, below_of, serves_fits, serves_take, idle_serves, Halves}
+use Rattle.gate_split.proofs.EffectLemmas.{different_of, below_of, serves_fits, serves_take, idle_serves, Halves, first_serves, second_serves}
 
 pub rungs_differ : (n : ℕ) (controls : List ℕ) (target : ℕ) (idle : List ℕ) → Serves n controls target idle → length controls ≡ length idle + 2
     → AllByRecursion HasDifferentLines (ladder target (reverse controls) (reverse idle))
@@ -45,7 +46,7 @@ halves_of n controls target idle g low off =
       apart = rw grouped off;
     }
 
-at_most : (k : ℕ) (ls : List ℕ) → k ≤ length ls + 2 → k ≤ length (take k ls) + 2
+pub at_most : (k : ℕ) (ls : List ℕ) → k ≤ length ls + 2 → k ≤ length (take k ls) + 2
 at_most k ls h = let cut = length-take k ls in omega arith
 
 cut_le : (k : ℕ) (ls : List ℕ) → length (take k ls) ≡ k → k ≤ length ls
@@ -65,13 +66,6 @@ second_length n controls target idle s four =
     let long = length-append second (idle ∷ []) in
     omega arith
 
-pub second_enough : (n : ℕ) (controls : List ℕ) (target idle : ℕ) → Halves n (take (first_half controls) controls)
-    (drop (first_half controls) controls) target idle → 4 ≤ length controls
-    → length (drop (first_half controls) controls ++ idle ∷ []) ≤ length
-    (take (length (drop (first_half controls) controls ++ idle ∷ [])) (in_falling_order n (take (first_half controls) controls))) + 2
-second_enough n controls target idle s four = at_most (length (drop (first_half controls) controls ++ idle ∷ []))
-    (in_falling_order n (take (first_half controls) controls)) (second_length n controls target idle s four)
-
 pub first_length : (n : ℕ) (controls : List ℕ) (target idle : ℕ) → Halves n (take (first_half controls) controls)
     (drop (first_half controls) controls) target idle → 4 ≤ length controls
     → length (take (first_half controls) controls) ≤ length (in_falling_order n (drop (first_half controls) controls ++ target ∷ [])) + 2
@@ -86,50 +80,53 @@ first_length n controls target idle s four =
     let long = length-append second (target ∷ []) in
     omega arith
 
-pub first_enough : (n : ℕ) (controls : List ℕ) (target idle : ℕ) → Halves n (take (first_half controls) controls)
-    (drop (first_half controls) controls) target idle → 4 ≤ length controls
-    → length (take (first_half controls) controls) ≤ length (take (length (take (first_half controls) controls))
-    (in_falling_order n (drop (first_half controls) controls ++ target ∷ []))) + 2
-first_enough n controls target idle s four = at_most (length (take (first_half controls) controls))
-    (in_falling_order n (drop (first_half controls) controls ++ target ∷ [])) (first_length n controls target idle s four)
-
 pub same_cut : (controls : List ℕ) (target : ℕ) (idle : List ℕ) → with_enough_idle controls target (take (length controls) idle)
     ≡ with_enough_idle controls target idle
 same_cut controls target idle = ap (λ ls. cond (leb (length controls) 2) (flip_of controls target ∷ []) (over_idle_lines controls target ls))
     (take-take (length controls - 2) (length controls) idle (omega arith))
 
--- the list of both halves, twice
-pub halves_made : (n : ℕ) (controls : List ℕ) (target idle : ℕ) (done once second first : List GateView)
-    → second ≡ with_enough_idle (drop (first_half controls) controls ++ idle ∷ []) target
-    (take (length (drop (first_half controls) controls ++ idle ∷ [])) (in_falling_order n (take (first_half controls) controls)))
-    → first ≡ with_enough_idle (take (first_half controls) controls) idle
-    (take (length (take (first_half controls) controls)) (in_falling_order n (drop (first_half controls) controls ++ target ∷ [])))
-    → once ≡ second ++ first → (done ++ once) ++ once ≡ done ++ in_halves n controls target idle
-halves_made n controls target idle done once second first es ef e =
-    let both : once ≡ second_flips n controls target idle ++ first_flips n controls target idle =
-    e ∙ ap (λ s. s ++ first) (es ∙ same_cut (drop (first_half controls) controls ++ idle ∷ []) target
-    (in_falling_order n (take (first_half controls) controls)))
-    ∙ ap (λ f. second_flips n controls target idle ++ f) (ef ∙ same_cut (take (first_half controls) controls) idle
-    (in_falling_order n (drop (first_half controls) controls ++ target ∷ []))) in
-    append_assoc done once once ∙ ap (λ o. done ++ (o ++ o)) both
-
--- the lines of a half, as the code finds them
-pub second_found : (n m : ℕ) (controls front back found : List ℕ) (idle : ℕ) → front ≡ take (first_half controls) controls
-    → back ≡ drop (first_half controls) controls → m ≡ n → found ≡ take (length back + 1) (in_falling_order m (front ++ []))
-    → found ≡ take (length (drop (first_half controls) controls ++ idle ∷ [])) (in_falling_order n (take (first_half controls) controls))
-second_found n m controls front back found idle f b s e =
+-- the half with the idle line, as the code puts it together, among the first half
+pub second_goes : (n : ℕ) (controls front back more : List ℕ) (target idle : ℕ) → Halves n (take (first_half controls) controls)
+    (drop (first_half controls) controls) target idle → front ≡ take (first_half controls) controls → back ≡ drop (first_half controls) controls
+    → more ≡ back ++ idle ∷ [] → 4 ≤ length controls
+    → Serves n more target (in_falling_order n (front ++ [])) × (length more ≤ length (in_falling_order n (front ++ [])) + 2)
+second_goes n controls front back more target idle s f b e four =
     let first = take (first_half controls) controls in
     let second = drop (first_half controls) controls in
-    let count : length back + 1 ≡ length (second ++ idle ∷ []) = ap (λ (l : List ℕ). length l + 1) b ∙ sym (length-append second (idle ∷ [])) in
-    e ∙ ap (λ l. take (length back + 1) (in_falling_order m l)) (append-nil front ∙ f) ∙ ap (λ k. take (length back + 1) (in_falling_order k first)) s
-    ∙ ap (λ k. take k (in_falling_order n first)) count
+    rw (e, b, append-nil front, f) (second_serves n first second target idle s, second_length n controls target idle s four)
 
-pub first_found : (n : ℕ) (controls front back found : List ℕ) (target : ℕ) → front ≡ take (first_half controls) controls
-    → back ≡ drop (first_half controls) controls → found ≡ take (length front) (in_falling_order n (back ++ target ∷ []))
-    → found ≡ take (length (take (first_half controls) controls)) (in_falling_order n (drop (first_half controls) controls ++ target ∷ []))
-first_found n controls front back found target f b e =
-    e ∙ ap (λ (l : List ℕ). take (length l) (in_falling_order n (back ++ target ∷ []))) f
-    ∙ ap (λ l. take (length (take (first_half controls) controls)) (in_falling_order n (l ++ target ∷ []))) b
+-- the first half, among the other lines of the gate
+pub first_goes : (n m : ℕ) (controls front back : List ℕ) (target idle : ℕ) → Halves n (take (first_half controls) controls)
+    (drop (first_half controls) controls) target idle → front ≡ take (first_half controls) controls → back ≡ drop (first_half controls) controls
+    → m ≡ n → 4 ≤ length controls
+    → Serves m front idle (in_falling_order m (back ++ target ∷ [])) × (length front ≤ length (in_falling_order m (back ++ target ∷ [])) + 2)
+first_goes n m controls front back target idle s f b e four =
+    let first = take (first_half controls) controls in
+    let second = drop (first_half controls) controls in
+    rw (e, b, f) (first_serves n first second target idle s, first_length n controls target idle s four)
+
+-- both halves behind what is done
+pub halves_put : (n m : ℕ) (controls front back more : List ℕ) (target idle : ℕ) (done half now : List GateView)
+    → front ≡ take (first_half controls) controls → back ≡ drop (first_half controls) controls → more ≡ back ++ idle ∷ [] → m ≡ n
+    → half ≡ done ++ with_enough_idle more target (in_falling_order n (front ++ []))
+    → now ≡ half ++ with_enough_idle front idle (in_falling_order m (back ++ target ∷ []))
+    → now ≡ done ++ (second_flips n controls target idle ++ first_flips n controls target idle)
+halves_put n m controls front back more target idle done half now f b e same p q =
+    let one : List GateView = with_enough_idle more target (in_falling_order n (front ++ [])) in
+    let other : List GateView = with_enough_idle front idle (in_falling_order m (back ++ target ∷ [])) in
+    let one_is : one ≡ second_flips n controls target idle =
+    ap (λ l. with_enough_idle more target (in_falling_order n l)) (append-nil front ∙ f)
+    ∙ ap (λ l. with_enough_idle l target (in_falling_order n (take (first_half controls) controls))) (e ∙ ap (λ l. l ++ idle ∷ []) b) in
+    let other_is : other ≡ first_flips n controls target idle =
+    ap (λ k. with_enough_idle front idle (in_falling_order k (back ++ target ∷ []))) same
+    ∙ ap (λ l. with_enough_idle front idle (in_falling_order n (l ++ target ∷ []))) b
+    ∙ ap (λ l. with_enough_idle l idle (in_falling_order n (drop (first_half controls) controls ++ target ∷ []))) f in
+    q ∙ ap (λ h. h ++ other) p ∙ append_assoc done one other ∙ ap (λ l. done ++ (l ++ other)) one_is
+    ∙ ap (λ l. done ++ (second_flips n controls target idle ++ l)) other_is
+
+-- both halves, twice
+pub put_twice : (done once both now : List GateView) → once ≡ both → now ≡ (done ++ once) ++ once → now ≡ done ++ (both ++ both)
+put_twice done once both now is e = e ∙ append_assoc done once once ∙ ap (λ o. done ++ (o ++ o)) is
 
 pub back_below : (n : ℕ) (first second back : List ℕ) (target idle : ℕ) → Halves n first second target idle → back ≡ second
     → AllByRecursion (λ x. x < n) (back ++ target ∷ [])
@@ -210,6 +207,10 @@ line_found (x ∷ xs) line e = let same : line ≡ x = cc in ap (λ k. k ∷ xs)
 pub no_line_found : (idle : List ℕ) (refused : GateRefusal) → Err refused ≡ first_idle idle → idle ≡ []
 no_line_found [] refused e = refl
 no_line_found (x ∷ xs) refused e = absurd (cc)
+
+pub no_line_full : {A : Type 0} (idle : List ℕ) (refused : GateRefusal) → Err refused ≡ first_idle idle → refused ≡ refusal.Full → A
+no_line_full [] refused e is = absurd (cc)
+no_line_full (x ∷ xs) refused e is = absurd (cc)
 
 -- ---- the walk
 

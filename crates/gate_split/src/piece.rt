@@ -1,12 +1,13 @@
 // The gates in place of one: swaps and negative controls.
-ghost use Rattle.std.specs.Prelude.{◌≡◌, ◌++◌, map, Some, IfOk, OnOk, IsErrOf};
+ghost use Rattle.std.specs.Prelude.{◌≡◌, ◌∷◌, [], ◌++◌, map, Some, None, IfOk, OnOk, IsErrOf};
+ghost use Rattle.list_facts.specs.Lists.{AreDifferent};
 ghost use Rattle.mct_circuit.specs.Gates.{IsGateOn, flip_of};
 ghost use Rattle.gate_split.specs.Split.{flips_of_negatives, split_positive, split_gate, between};
 ghost use Rattle.gate_split.specs.Split.{behind};
 
 use crate::fault::GateRefusal;
 use crate::idle::LineMarks;
-use crate::wide::push_positive;
+use crate::wide::{push_one_flip, push_positive};
 use mct_circuit::{Control, Gate, Op};
 use revc_base::Memory;
 use std::alloc::Global;
@@ -30,13 +31,38 @@ pub fn push_piece(
     match gate.op() {
         Op::Flip(target) => push_flip(alloc, gates, controls, &lines, target, marks),
         Op::Swap(first, second) => {
-            lines.push(first)?;
-            gates.push(Gate::flip(alloc, &[second], first)?)?;
-            push_flip(alloc, gates, controls, &lines, second, marks)?;
-            gates.push(Gate::flip(alloc, &[second], first)?)?;
-            Ok(())
+            push_swap(alloc, gates, controls, &mut lines, first, second, marks)
         }
     }
+}
+
+// Appends the gates in place of a swap of two lines where all lines of `lines` are 1: a flip of the
+// second by the first, between flips of the first by the second.
+fn push_swap(
+    alloc: Global,
+    gates: &mut Vec<Gate>,
+    controls: &[Control],
+    lines: &mut Vec<u32>,
+    first: u32,
+    second: u32,
+    marks: &mut LineMarks,
+) -> Result<(), GateRefusal>
+    requires gate { IsGateOn marks.old (flip_of (lines.old.items ++ first ∷ []) second) }
+    requires apart { AreDifferent (second ∷ first ∷ []) }
+    ensures split { OnOk result (behind gates.old.items (between (flip_of (second ∷ []) first ∷ [])
+        (between (flips_of_negatives controls.now)
+        (split_positive marks.old (lines.old.items ++ first ∷ []) second)))
+        ≡ Some gates.new.items) }
+    ensures same { marks.new ≡ marks.old }
+    ensures refused { IsErrOf result GateRefusal.NoIdle
+        → split_positive marks.old (lines.old.items ++ first ∷ []) second ≡ None }
+    ensures cause { IsErrOf result GateRefusal.Full → ⊥ }
+{
+    lines.push(first)?;
+    push_one_flip(alloc, gates, &[second], first)?;
+    push_flip(alloc, gates, controls, lines, second, marks)?;
+    push_one_flip(alloc, gates, &[second], first)?;
+    Ok(())
 }
 
 // Appends the gates in place of a flip where all lines of `lines` are 1, between flips of the lines
@@ -72,8 +98,7 @@ fn push_negatives(alloc: Global, gates: &mut Vec<Gate>, controls: &[Control]) ->
         if control.positive {
             continue;
         }
-        let flip = Gate::flip(alloc, &[], control.line)?;
-        gates.push(flip)?;
+        push_one_flip(alloc, gates, &[], control.line)?;
     }
     Ok(())
 }

@@ -1,22 +1,22 @@
 // The walk over the gates of a circuit.
 ghost use Rattle.std.specs.Prelude.{◌≡◌, ◌↔◌, ℕ, ◌≤◌, List, [], Bool, length, Ok, Err, Some, None};
-ghost use Rattle.std.specs.Prelude.{IfOk, OnOk, IsErrOf, IsTrue};
-ghost use Rattle.std.specs.List.{list_all};
+ghost use Rattle.std.specs.Prelude.{◌+◌, ◌<◌, ◌∷◌, ◌++◌, IfOk, OnOk, IsErrOf, IsTrue};
+ghost use Rattle.std.specs.List.{AllByRecursion, list_all};
 ghost use Rattle.gate_split.specs.declared.fault.SplitFault.TheVariants.{NoIdle, Gates};
-ghost use Rattle.mct_circuit.specs.Gates.{IsGateOn, IsNarrow, AreNarrow, line_map};
+ghost use Rattle.mct_circuit.specs.Gates.{IsGateOn, IsNarrow, AreNarrow, line_map, lines_of};
 ghost use Rattle.gate_split.specs.Split.{split_gate, split_list, behind};
 ghost use Rattle.gate_split.specs.inside.Walks.{IsOver};
 
 use crate::fault::{GateRefusal, SplitFault};
 use crate::idle::LineMarks;
 use crate::piece::push_piece;
-use mct_circuit::{Circuit, Control, Gate, Op};
+use mct_circuit::{Circuit, Control, Gate, GateFault, Op};
 use std::alloc::Global;
 use std::marker::Model;
 
 /// A circuit whose gates are all flips with at most two controls, all positive. Only `split` makes
 /// one. Contracts see it as the circuit.
-#[derive(Debug, Drop)]
+#[derive(Drop)]
 pub struct Narrow {
     circuit: Circuit,
 }
@@ -97,14 +97,26 @@ fn append_split(
         → IsOver narrow.old.limit narrow.old.gates (split_gate marks.old gate.now) }
 {
     if is_narrow(gate) {
-        // This call says that the gates are within their limit.
-        let _ = narrow.len();
-        narrow.push(gate.copy()?)?;
+        push_copy(narrow, gate)?;
         return Ok(());
     }
     push_piece(alloc, piece, gate, marks)?;
     narrow.append(piece)?;
     Ok(())
+}
+
+// Appends a copy of a gate.
+fn push_copy(narrow: &mut Circuit, gate: &Gate) -> Result<(), GateFault>
+    requires { AllByRecursion (λ line. line < narrow.old.lines) (lines_of gate.now) }
+    ensures ok { OnOk result (narrow.new ≡ record narrow.old
+        { gates = narrow.old.gates ++ gate.now ∷ [] }) }
+    ensures within { OnOk result (length narrow.old.gates + 1 ≤ narrow.old.limit) }
+    ensures full { IsErrOf result GateFault.Full → (length narrow.old.gates ≡ narrow.old.limit) }
+{
+    // This call says that the gates are within their limit.
+    let _ = narrow.len();
+    let copy = gate.copy()?;
+    narrow.push(copy)
 }
 
 // Whether the gate is a flip with at most two controls, all positive.

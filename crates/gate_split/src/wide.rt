@@ -1,14 +1,16 @@
 // Flips under positive controls, split over idle lines (Barenco and others 1995, Lemmas 7.2 and
 // 7.3).
-ghost use Rattle.std.specs.Prelude.{◌≡◌, ℕ, ◌+◌, ◌<◌, ◌≤◌, ◌∷◌, [], ◌++◌, length, reverse, take};
-ghost use Rattle.std.specs.Prelude.{Some, None, IfOk, OnOk, IsErrOf};
+ghost use Rattle.std.specs.Prelude.{◌≡◌, ℕ, ◌+◌, ◌-◌, ◌<◌, ◌≤◌, ◌∷◌, [], ◌++◌, length, reverse};
+ghost use Rattle.std.specs.Prelude.{take, Some, None, IfOk, OnOk, IsErrOf};
 ghost use Rattle.std.specs.List.{AllByRecursion};
+ghost use Rattle.list_facts.specs.Lists.{AreDifferent};
 ghost use Rattle.mct_circuit.specs.Gates.{HasDifferentLines, IsGateOn, flip_of};
 ghost use Rattle.gate_split.specs.inside.Idle.{Serves};
 ghost use Rattle.gate_split.specs.Split.{Avoids};
 ghost use Rattle.gate_split.specs.inside.Walks.{first_idle};
 ghost use Rattle.gate_split.specs.Split.{ladder, there_and_back, over_idle_lines, with_enough_idle};
-ghost use Rattle.gate_split.specs.Split.{in_halves, split_positive, behind};
+ghost use Rattle.gate_split.specs.Split.{first_flips, second_flips, in_halves, in_falling_order};
+ghost use Rattle.gate_split.specs.Split.{idle_lines, split_positive, behind};
 
 use crate::fault::GateRefusal;
 use crate::idle::LineMarks;
@@ -33,16 +35,54 @@ pub fn push_positive(
     ensures cause { IsErrOf result GateRefusal.Full → ⊥ }
 {
     if controls.len() <= 2 {
-        gates.push(Gate::flip(alloc, controls, target)?)?;
+        push_one_flip(alloc, gates, controls, target)?;
         return Ok(());
     }
-    let wanted = controls.len() - 2;
-    let idle = marks.falling_lines(controls, &[target], false, wanted)?;
-    if idle.len() == wanted {
-        push_over_idle(alloc, gates, controls, target, &idle)?;
+    let idle = marks.falling_lines(controls, &[target], false, controls.len() - 2)?;
+    push_wide(alloc, gates, controls, target, &idle, marks)
+}
+
+// Appends one flip under positive controls.
+pub fn push_one_flip(
+    alloc: Global,
+    gates: &mut Vec<Gate>,
+    controls: &[u32],
+    target: u32,
+) -> Result<(), Memory>
+    requires { AreDifferent (controls.now ++ target ∷ []) }
+    ensures { OnOk result (gates.new.items ≡ gates.old.items ++ flip_of controls.now target ∷ []) }
+{
+    let flip = Gate::flip(alloc, controls, target)?;
+    gates.push(flip)?;
+    Ok(())
+}
+
+// Appends the gates in place of a flip under three or more positive controls, of which these are
+// the first idle lines.
+fn push_wide(
+    alloc: Global,
+    gates: &mut Vec<Gate>,
+    controls: &[u32],
+    target: u32,
+    idle: &[u32],
+    marks: &mut LineMarks,
+) -> Result<(), GateRefusal>
+    requires gate { IsGateOn marks.old (flip_of controls.now target) }
+    requires wide { 2 < length controls.now }
+    requires found { idle.now ≡ take (length controls.now - 2)
+        (idle_lines marks.old (controls.now ++ target ∷ [])) }
+    ensures split { OnOk result (behind gates.old.items
+        (split_positive marks.old controls.now target) ≡ Some gates.new.items) }
+    ensures same { marks.new ≡ marks.old }
+    ensures refused { IsErrOf result GateRefusal.NoIdle
+        → split_positive marks.old controls.now target ≡ None }
+    ensures cause { IsErrOf result GateRefusal.Full → ⊥ }
+{
+    if idle.len() == controls.len() - 2 {
+        push_over_idle(alloc, gates, controls, target, idle)?;
         return Ok(());
     }
-    let line = first_idle(&idle)?;
+    let line = first_idle(idle)?;
     push_halves(alloc, gates, controls, target, line, marks)?;
     Ok(())
 }
@@ -76,15 +116,66 @@ fn push_halves(
         ++ in_halves marks.old controls.now target idle) }
     ensures same { marks.new ≡ marks.old }
 {
-    let (first, second) = controls.split_at(controls.len() - controls.len() / 2);
-    let first_idle = marks.falling_lines(second, &[target], true, first.len())?;
-    let second_idle = marks.falling_lines(first, &[], true, second.len() + 1)?;
-    let with_idle = with_line(alloc, second, idle)?;
     let mut once = Vec::new(alloc);
-    push_enough(alloc, &mut once, &with_idle, target, &second_idle)?;
-    push_enough(alloc, &mut once, first, idle, &first_idle)?;
-    push_copies(gates, &once)?;
-    gates.append(&mut once)?;
+    push_both_halves(alloc, &mut once, controls, target, idle, marks)?;
+    append_twice(gates, &mut once)
+}
+
+// Appends the flip of the target by the second half and the idle line, and the flip of the idle
+// line by the first half.
+fn push_both_halves(
+    alloc: Global,
+    gates: &mut Vec<Gate>,
+    controls: &[u32],
+    target: u32,
+    idle: u32,
+    marks: &mut LineMarks,
+) -> Result<(), Memory>
+    requires gate { IsGateOn marks.old (flip_of controls.now target) }
+    requires four { 4 ≤ length controls.now }
+    requires below { idle < marks.old }
+    requires apart { Avoids idle (controls.now ++ target ∷ []) }
+    ensures made { OnOk result (gates.new.items ≡ gates.old.items
+        ++ (second_flips marks.old controls.now target idle
+        ++ first_flips marks.old controls.now target idle)) }
+    ensures same { marks.new ≡ marks.old }
+{
+    let (first, second) = controls.split_at(controls.len() - controls.len() / 2);
+    let with_idle = with_line(alloc, second, idle)?;
+    push_among(alloc, gates, &with_idle, target, first, &[], marks)?;
+    push_among(alloc, gates, first, idle, second, &[target], marks)
+}
+
+// Appends a flip over lines that are among those of `front` and `back`.
+fn push_among(
+    alloc: Global,
+    gates: &mut Vec<Gate>,
+    controls: &[u32],
+    target: u32,
+    front: &[u32],
+    back: &[u32],
+    marks: &mut LineMarks,
+) -> Result<(), Memory>
+    requires below { AllByRecursion (λ line. line < marks.old) (front.now ++ back.now) }
+    requires serves { Serves marks.old controls.now target
+        (in_falling_order marks.old (front.now ++ back.now)) }
+    requires enough { length controls.now
+        ≤ length (in_falling_order marks.old (front.now ++ back.now)) + 2 }
+    ensures made { OnOk result (gates.new.items ≡ gates.old.items ++ with_enough_idle controls.now
+        target (in_falling_order marks.old (front.now ++ back.now))) }
+    ensures same { marks.new ≡ marks.old }
+{
+    let idle = marks.falling_lines(front, back, true, controls.len())?;
+    push_enough(alloc, gates, controls, target, &idle)
+}
+
+// Appends the gates twice, and leaves `once` empty.
+fn append_twice(gates: &mut Vec<Gate>, once: &mut Vec<Gate>) -> Result<(), Memory>
+    ensures { OnOk result (gates.new.items
+        ≡ (gates.old.items ++ once.old.items) ++ once.old.items) }
+{
+    push_copies(gates, once)?;
+    gates.append(once)?;
     Ok(())
 }
 
@@ -102,8 +193,7 @@ fn push_enough(
         ++ with_enough_idle controls.now target idle.now) }
 {
     if controls.len() <= 2 {
-        gates.push(Gate::flip(alloc, controls, target)?)?;
-        return Ok(());
+        return push_one_flip(alloc, gates, controls, target);
     }
     push_over_idle(alloc, gates, controls, target, &idle[..controls.len() - 2])
 }
@@ -141,12 +231,10 @@ fn rungs(alloc: Global, controls: &[u32], target: u32, idle: &[u32]) -> Result<V
     let mut i = idle.len();
     while i > 0 {
         i -= 1;
-        let gate = Gate::flip(alloc, &[controls[i + 2], idle[i]], top)?;
-        rungs.push(gate)?;
+        push_one_flip(alloc, &mut rungs, &[controls[i + 2], idle[i]], top)?;
         top = idle[i];
     }
-    let last = Gate::flip(alloc, &controls[..2], top)?;
-    rungs.push(last)?;
+    push_one_flip(alloc, &mut rungs, &controls[..2], top)?;
     Ok(rungs)
 }
 

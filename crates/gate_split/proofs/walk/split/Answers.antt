@@ -1,6 +1,7 @@
 use Rattle.std.proofs.Common.{◌≡◌, ◌+◌, Err, ap, sym, ◌∙◌}
 use Rattle.gate_split.specs.declared.fault.SplitFault.TheVariants.{NoIdle, Gates}
 use Rattle.gate_split.proofs.WalkLemmas.{on_more, gate_at, one_more, no_idle_at, over_at, walk_ends, walked}
+use Rattle.revc_base.proofs.ResultLemmas.{no_value}
 use Rattle.gate_split.proofs.walk.split.Goals as goal
 
 pub invariant_of-result : goal.invariant_of-result
@@ -54,3 +55,15 @@ pub returns-clause-gates : goal.returns-clause-gates
 returns-clause-gates c =
     rw (← c.gates-gate-items.ensures.gates) (walk_ends c.args.lines c.args.limit c.loop-gate.place c.loop-gate.narrow.gates c.gates-gate-items.result.now
     c.loop-gate.gate-index c.loop-gate-test.false c.loop-gate.invariant.0)
+
+pub returns-in_err-marks-clause-gates : goal.returns-in_err-marks-clause-gates
+returns-in_err-marks-clause-gates c = no_value c.from_residual.result _ _ c.from_residual.ensures.1
+
+pub returns-in_err-marks-clause-size : goal.returns-in_err-marks-clause-size
+returns-in_err-marks-clause-size c = no_value c.from_residual.result _ _ c.from_residual.ensures.1
+
+pub returns-in_err-marks-clause-within : goal.returns-in_err-marks-clause-within
+returns-in_err-marks-clause-within c = no_value c.from_residual.result _ _ c.from_residual.ensures.1
+
+pub returns-in_err-marks-clause-map : goal.returns-in_err-marks-clause-map
+returns-in_err-marks-clause-map c = no_value c.from_residual.result _ _ c.from_residual.ensures.1
