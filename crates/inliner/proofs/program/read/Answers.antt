@@ -30,3 +30,6 @@ returns-in_err-stamp-clause-ok c = no_value c.from_residual.result _ _ c.from_re
 
 pub returns-in_err-push-clause-ok : goal.returns-in_err-push-clause-ok
 returns-in_err-push-clause-ok c = no_value c.from_residual-in_err-push.result _ _ c.from_residual-in_err-push.ensures.1
+
+pub returns-in_err-push-clause-err : goal.returns-in_err-push-clause-err
+returns-in_err-push-clause-err c = passes_on _ c.from_residual-in_err-push.result c.from_residual-in_err-push.ensures.1 (record { stuck = tt })

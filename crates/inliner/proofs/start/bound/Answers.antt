@@ -1,11 +1,11 @@
-use Rattle.std.proofs.Common.{arith, List, sym, subst, ap, length, []}
+use Rattle.std.proofs.Common.{arith, List, sym, subst, ap, length, [], refl}
 use Rattle.inliner.specs.declared.machine.Binding.{Binding}
 use Rattle.inliner.specs.inside.Machines.{AreBindings, AreLeaps}
 use Rattle.inliner.specs.inside.Starts.{IsParamBinding}
 use Rattle.inliner.proofs.StartLemmas.{bound_begun, bound_more, bound_done, next_within}
 use Rattle.list_facts.proofs.CutLemmas.{drop_read}
 use Rattle.inliner.proofs.EndLemmas.{at_last}
-use Rattle.revc_base.proofs.ResultLemmas.{no_value}
+use Rattle.revc_base.proofs.ResultLemmas.{no_value, passes_on}
 use Rattle.inliner.proofs.start.bound.Goals as goal
 
 pub loop-param-init : goal.loop-param-init
@@ -46,3 +46,9 @@ returns-in_err-binding-clause-ok c = no_value c.from_residual.result _ _ c.from_
 
 pub returns-in_err-push-clause-ok : goal.returns-in_err-push-clause-ok
 returns-in_err-push-clause-ok c = no_value c.from_residual-in_err-push.result _ _ c.from_residual-in_err-push.ensures.1
+
+pub returns-in_err-binding-clause-err : goal.returns-in_err-binding-clause-err
+returns-in_err-binding-clause-err c = passes_on _ c.from_residual.result c.from_residual.ensures.1 c.in_err-binding.ensures.err
+
+pub returns-in_err-push-clause-err : goal.returns-in_err-push-clause-err
+returns-in_err-push-clause-err c = passes_on _ c.from_residual-in_err-push.result c.from_residual-in_err-push.ensures.1 refl

@@ -3,7 +3,7 @@ use Rattle.revc_base.specs.Tapes.{TapeView}
 use Rattle.revs_terms.specs.Programs.{widths_of}
 use Rattle.inliner.specs.inside.Starts.{AreInputs}
 use Rattle.inliner.proofs.StartLemmas.{started, are_inputs, are_widths}
-use Rattle.revc_base.proofs.ResultLemmas.{no_value}
+use Rattle.revc_base.proofs.ResultLemmas.{no_value, passes_on}
 use Rattle.inliner.proofs.start.start.Goals as goal
 
 pub new-tape-requires : goal.new-tape-requires
@@ -26,3 +26,13 @@ returns-in_err-store-clause-ok c = no_value c.from_residual-in_err-store.result 
 
 pub returns-in_err-bindings-clause-ok : goal.returns-in_err-bindings-clause-ok
 returns-in_err-bindings-clause-ok c = no_value c.from_residual-in_err-bindings.result _ _ c.from_residual-in_err-bindings.ensures.1
+
+pub returns-in_err-widths-clause-err : goal.returns-in_err-widths-clause-err
+returns-in_err-widths-clause-err c = passes_on _ c.from_residual.result c.from_residual.ensures.1 c.in_err-widths.ensures.err
+
+pub returns-in_err-store-clause-err : goal.returns-in_err-store-clause-err
+returns-in_err-store-clause-err c = passes_on _ c.from_residual-in_err-store.result c.from_residual-in_err-store.ensures.1 c.in_err-store.ensures.err
+
+pub returns-in_err-bindings-clause-err : goal.returns-in_err-bindings-clause-err
+returns-in_err-bindings-clause-err c =
+    passes_on _ c.from_residual-in_err-bindings.result c.from_residual-in_err-bindings.ensures.1 c.in_err-bindings.ensures.err

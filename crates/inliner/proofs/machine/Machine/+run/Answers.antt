@@ -11,7 +11,7 @@ use Rattle.inliner.specs.inside.Machines.{envs_of, env_in, value_in, state_of, G
 use Rattle.std.proofs.lemmas.Result.{IfOk-weaker, IfErr-weaker}
 use Rattle.inliner.proofs.EnvironmentLemmas.{grown_within}
 use Rattle.inliner.proofs.FaultLemmas.{said_first}
-use Rattle.revc_base.proofs.ResultLemmas.{no_value, passes_on}
+use Rattle.revc_base.proofs.ResultLemmas.{no_value, no_promise, passes_on}
 use Rattle.inliner.proofs.ProgressLemmas.{on_ok_alone, begun, step, ends, ends_goes, ends_calls, said, goes_in, says_in}
 use Rattle.inliner.proofs.ChainLemmas.{entered, assigns_from, assigns_stuck, reg_made, reg_stuck, bits_begun, bits_more}
 use Rattle.inliner.proofs.ChainLemmas.{bits_stuck, bits_done, chain_begun, chain_more, chain_no_first, chain_stuck, chain_done}
@@ -622,3 +622,68 @@ apply-argument-requires t c =
       omega arith,
       (through.kept, (grown_within through.grows c.requires.env, c.loop-term.invariant.made)),
     )
+
+pub append-appended-requires : goal.append-appended-requires
+append-appended-requires t c = c.in_ok-back.ensures.ok.does.kept
+
+pub assignment-assign-requires : goal.assignment-assign-requires
+assignment-assign-requires t c = c.in_ok-from.ensures.ok.kept
+
+pub at-parts-requires-clause-machine : goal.at-parts-requires-clause-machine
+at-parts-requires-clause-machine t c = c.in_ok-value.ensures.ok.does.kept
+
+pub at-parts-requires-clause-made : goal.at-parts-requires-clause-made
+at-parts-requires-clause-made t c = c.in_ok-value.ensures.ok.made
+
+pub claimed-claim-requires : goal.claimed-claim-requires
+claimed-claim-requires t c = c.in_ok-location.ensures.ok.kept
+
+pub link-join-requires : goal.link-join-requires
+link-join-requires t c = c.in_ok-next.ensures.ok.kept
+
+pub reg-short_register-requires : goal.reg-short_register-requires
+reg-short_register-requires t c = c.in_ok-locations.ensures.ok.kept
+
+pub rotation-rotated-requires : goal.rotation-rotated-requires
+rotation-rotated-requires t c = c.in_ok-value.ensures.ok.does.kept
+
+pub run-enter-requires : goal.run-enter-requires
+run-enter-requires t c = c.requires.machine
+
+pub term-constant-requires : goal.term-constant-requires
+term-constant-requires t c = c.requires.machine
+
+pub term-named-requires-clause-machine : goal.term-named-requires-clause-machine
+term-named-requires-clause-machine t c = c.requires.machine
+
+pub term-named-requires-clause-env : goal.term-named-requires-clause-env
+term-named-requires-clause-env t c = c.requires.env
+
+pub call-bind-requires-clause-machine : goal.call-bind-requires-clause-machine
+call-bind-requires-clause-machine t c = c.requires.machine
+
+pub call-bind-requires-clause-room : goal.call-bind-requires-clause-room
+call-bind-requires-clause-room t c = c.requires.room
+
+pub call-bind-requires-clause-made : goal.call-bind-requires-clause-made
+call-bind-requires-clause-made t c = c.requires.argument
+
+pub item-bind-requires-clause-machine : goal.item-bind-requires-clause-machine
+item-bind-requires-clause-machine t c = c.in_ok-bound-in-Let.ensures.ok.does.kept
+
+pub item-bind-requires-clause-env : goal.item-bind-requires-clause-env
+item-bind-requires-clause-env t c = grown_within c.in_ok-bound-in-Let.ensures.ok.does.grows c.requires.env
+
+pub item-bind-requires-clause-made : goal.item-bind-requires-clause-made
+item-bind-requires-clause-made t c = c.in_ok-bound-in-Let.ensures.ok.made
+
+-- ---- the exits
+
+pub run-returns-in_err-enter-clause-room : goal.run-returns-in_err-enter-clause-room
+run-returns-in_err-enter-clause-room t c = no_promise c.from_residual.result _ _ c.from_residual.ensures.1
+
+pub item-returns-in_err-run-in-Do-clause-ok : goal.item-returns-in_err-run-in-Do-clause-ok
+item-returns-in_err-run-in-Do-clause-ok t c = no_value c.from_residual-in_err-run-in-Do.result _ _ c.from_residual-in_err-run-in-Do.ensures.1
+
+pub bits-returns-in_err-push-clause-err : goal.bits-returns-in_err-push-clause-err
+bits-returns-in_err-push-clause-err t c = passes_on _ c.from_residual-in_err-push.result c.from_residual-in_err-push.ensures.1 (record { stuck = tt })

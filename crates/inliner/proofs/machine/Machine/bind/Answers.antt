@@ -3,7 +3,7 @@ use Rattle.inliner.specs.declared.machine.Binding.{Binding}
 use Rattle.inliner.specs.inside.Machines.{AreBindings, AreLeaps, Leaps, envs_from}
 use Rattle.inliner.proofs.EnvironmentLemmas.{bound_done, grown_length}
 use Rattle.inliner.proofs.LeapLemmas.{leaps_pushed}
-use Rattle.revc_base.proofs.ResultLemmas.{no_value}
+use Rattle.revc_base.proofs.ResultLemmas.{no_value, passes_on}
 use Rattle.inliner.proofs.machine.Machine.bind.Goals as goal
 
 pub leap_from-leap-requires-clause-made : goal.leap_from-leap-requires-clause-made
@@ -33,3 +33,6 @@ returns-in_err-work-clause-ok c = no_value c.from_residual.result _ _ c.from_res
 
 pub returns-in_err-push-clause-ok : goal.returns-in_err-push-clause-ok
 returns-in_err-push-clause-ok c = no_value c.from_residual-in_err-push.result _ _ c.from_residual-in_err-push.ensures.1
+
+pub returns-in_err-push-clause-err : goal.returns-in_err-push-clause-err
+returns-in_err-push-clause-err c = passes_on _ c.from_residual-in_err-push.result c.from_residual-in_err-push.ensures.1 (record { stuck = tt })

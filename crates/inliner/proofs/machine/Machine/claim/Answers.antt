@@ -1,6 +1,7 @@
 use Rattle.std.proofs.Common.{refl, rules, arith, length, ap}
 use Rattle.inliner.proofs.WriteLemmas.{asserted, cleaned}
-use Rattle.revc_base.proofs.ResultLemmas.{no_value}
+use Rattle.revc_base.proofs.ResultLemmas.{no_value, passes_on}
+use Rattle.inliner.proofs.FaultLemmas.{said_first}
 use Rattle.inliner.proofs.machine.Machine.claim.Goals as goal
 
 pub returns-then-eq-clause-ok : goal.returns-then-eq-clause-ok
@@ -16,3 +17,10 @@ returns-in_err-of-clause-ok c = no_value c.from_residual.result _ _ c.from_resid
 
 pub returns-in_err-claim-clause-ok : goal.returns-in_err-claim-clause-ok
 returns-in_err-claim-clause-ok c = no_value c.from_residual-in_err-claim.result _ _ c.from_residual-in_err-claim.ensures.1
+
+pub returns-in_err-of-clause-err : goal.returns-in_err-of-clause-err
+returns-in_err-of-clause-err c = passes_on _ c.from_residual.result c.from_residual.ensures.1
+    (said_first c.in_err-of.field-0.0 _ _ c.in_err-of.ensures.err)
+
+pub returns-in_err-claim-clause-err : goal.returns-in_err-claim-clause-err
+returns-in_err-claim-clause-err c = passes_on _ c.from_residual-in_err-claim.result c.from_residual-in_err-claim.ensures.1 (record { stuck = tt })

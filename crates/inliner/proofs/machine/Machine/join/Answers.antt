@@ -1,4 +1,5 @@
-use Rattle.revc_base.proofs.ResultLemmas.{no_value}
+use Rattle.revc_base.proofs.ResultLemmas.{no_value, passes_on}
+use Rattle.inliner.proofs.FaultLemmas.{said_first, said_next}
 use Rattle.inliner.proofs.machine.Machine.join.Goals as goal
 
 pub returns-in_err-a-clause-ok : goal.returns-in_err-a-clause-ok
@@ -6,3 +7,11 @@ returns-in_err-a-clause-ok c = no_value c.from_residual.result _ _ c.from_residu
 
 pub returns-in_err-b-clause-ok : goal.returns-in_err-b-clause-ok
 returns-in_err-b-clause-ok c = no_value c.from_residual-in_err-b.result _ _ c.from_residual-in_err-b.ensures.1
+
+pub returns-in_err-a-clause-err : goal.returns-in_err-a-clause-err
+returns-in_err-a-clause-err c = passes_on _ c.from_residual.result c.from_residual.ensures.1
+    (said_first c.in_err-a.field-0.0 _ _ c.in_err-a.ensures.err)
+
+pub returns-in_err-b-clause-err : goal.returns-in_err-b-clause-err
+returns-in_err-b-clause-err c = passes_on _ c.from_residual-in_err-b.result c.from_residual-in_err-b.ensures.1
+    (said_next c.in_err-b.field-0.0 _ _ _ _ c.in_ok-a.ensures.ok (said_first c.in_err-b.field-0.0 _ _ c.in_err-b.ensures.err))

@@ -3,7 +3,7 @@ use Rattle.array_shapes.specs.Values.{ValueView}
 use Rattle.inliner.specs.inside.Machines.{envs_of, spec_value, IsValueView}
 use Rattle.inliner.proofs.EnvironmentLemmas.{none_bound, nearest}
 use Rattle.inliner.proofs.LeapLemmas.{value_there}
-use Rattle.revc_base.proofs.ResultLemmas.{no_value}
+use Rattle.revc_base.proofs.ResultLemmas.{no_value, passes_on}
 use Rattle.inliner.proofs.machine.Machine.named.Goals as goal
 
 pub returns-then-there-eq0-clause-ok : goal.returns-then-there-eq0-clause-ok
@@ -29,3 +29,6 @@ returns-in_err-copy-clause-ok c = no_value c.from_residual.result _ _ c.from_res
 
 pub returns-in_err-copy-clause-made : goal.returns-in_err-copy-clause-made
 returns-in_err-copy-clause-made c = no_value c.from_residual.result _ _ c.from_residual.ensures.1
+
+pub returns-in_err-copy-clause-err : goal.returns-in_err-copy-clause-err
+returns-in_err-copy-clause-err c = passes_on _ c.from_residual.result c.from_residual.ensures.1 refl

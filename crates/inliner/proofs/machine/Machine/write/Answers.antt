@@ -1,6 +1,6 @@
 use Rattle.std.proofs.Common.{refl, rules, arith}
 use Rattle.inliner.proofs.WriteLemmas.{wrote}
-use Rattle.revc_base.proofs.ResultLemmas.{no_value}
+use Rattle.revc_base.proofs.ResultLemmas.{no_value, passes_on}
 use Rattle.inliner.proofs.machine.Machine.write.Goals as goal
 
 pub returns-clause-ok : goal.returns-clause-ok
@@ -13,3 +13,9 @@ returns-in_err-made-clause-ok c = no_value c.from_residual.result _ _ c.from_res
 
 pub returns-in_err-push-clause-ok : goal.returns-in_err-push-clause-ok
 returns-in_err-push-clause-ok c = no_value c.from_residual-in_err-push.result _ _ c.from_residual-in_err-push.ensures.1
+
+pub returns-in_err-made-clause-err : goal.returns-in_err-made-clause-err
+returns-in_err-made-clause-err c = passes_on _ c.from_residual.result c.from_residual.ensures.1 (record { stuck = tt })
+
+pub returns-in_err-push-clause-err : goal.returns-in_err-push-clause-err
+returns-in_err-push-clause-err c = passes_on _ c.from_residual-in_err-push.result c.from_residual-in_err-push.ensures.1 (record { stuck = tt })
