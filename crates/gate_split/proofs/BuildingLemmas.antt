@@ -118,3 +118,11 @@ started_back [] made whole e = append-nil made ∙ e
 started_back (g ∷ gs) made whole e =
     ap (λ r. made ++ r) (sym (turn_back (g ∷ gs) g (omega arith))) ∙ ap (λ m. m ++ drop 1 (reverse (g ∷ gs))) e
     ∙ append_assoc whole (g ∷ gs) (drop 1 (reverse (g ∷ gs)))
+
+-- ---- copies
+
+pub copied_more : (done now made : List GateView) (copy gate : GateView) (gates : List GateView) (i : ℕ) → i < length gates → gate ≡ get_or gates i gate
+    → copy ≡ gate → now ≡ made ++ copy ∷ [] → made ≡ done ++ take i gates → now ≡ done ++ take (i + 1) gates
+copied_more done now made copy gate gates i h is same n e =
+    n ∙ ap (λ l. l ++ copy ∷ []) e ∙ append_assoc done (take i gates) (copy ∷ []) ∙ ap (λ g. done ++ (take i gates ++ g ∷ [])) (same ∙ is)
+    ∙ ap (λ l. done ++ l) (sym (take_more gates i gate h))

@@ -130,3 +130,8 @@ room_left (Ok x) a limit h f = elim (leb_tells (a + 1) limit) [
   | inl t ↦ t.1
   | inr t ↦ absurd (let full = f (omega (arith, t.1)) in cc)
 ]
+
+pub all_fit : (done piece now : List GateView) (limit : ℕ) → now ≡ done ++ piece → (limit < length done + length piece → ⊥) → length now ≤ limit
+all_fit done piece now limit e over =
+    let long = ap length e ∙ length-append done piece in
+    elim (leb_tells (length now) limit) [ inl t ↦ t.1 | inr t ↦ absurd (over (omega (arith, t.1))) ]

@@ -3,7 +3,7 @@ use Rattle.revc_base.proofs.ResultLemmas.{no_promise}
 use Rattle.gate_split.specs.declared.fault.GateRefusal.TheVariants as refusal
 use Rattle.gate_split.proofs.PieceLemmas.{narrow_behind}
 use Rattle.gate_split.proofs.RefusalLemmas.{still}
-use Rattle.gate_split.proofs.WalkLemmas.{piece_placed, no_line_wanted, is_full, over_by_one, over_by, put_behind, rest_stays, one_fits}
+use Rattle.gate_split.proofs.WalkLemmas.{piece_placed, no_line_wanted, is_full, over_by_one, over_by, put_behind, rest_stays, one_fits, all_fit}
 use Rattle.gate_split.proofs.walk.append_split.Goals as goal
 
 pub returns-then-is_narrow-clause-split : goal.returns-then-is_narrow-clause-split
@@ -17,6 +17,12 @@ pub returns-then-is_narrow-clause-within : goal.returns-then-is_narrow-clause-wi
 returns-then-is_narrow-clause-within c = one_fits c.args.narrow.now.gates _ c.args.gate.now _ (ap (λ v. v.gates) c.in_ok-push_copy.ensures.ok)
     c.in_ok-push_copy.ensures.within
 
+pub push_copy-requires : goal.push_copy-requires
+push_copy-requires c = rw (← c.requires.lines) c.requires.gate.in_range
+
+pub push_piece-requires : goal.push_piece-requires
+push_piece-requires c = c.requires.gate
+
 pub append-requires : goal.append-requires
 append-requires c = rw (← c.requires.lines) (piece_placed c.args.marks.now c.args.gate.now c.args.piece.now.items c.push_piece.new.gates.items c.requires.gate
     c.requires.empty c.in_ok-push_piece.ensures.split)
@@ -27,6 +33,19 @@ returns-clause-split c = put_behind c.args.marks.now c.args.narrow.now.gates c.a
 
 pub returns-clause-rest : goal.returns-clause-rest
 returns-clause-rest c = rest_stays c.args.narrow.now c.append.new.self _ c.in_ok-append.ensures.ok
+
+pub returns-clause-within : goal.returns-clause-within
+returns-clause-within c = all_fit c.args.narrow.now.gates c.push_piece.new.gates.items c.append.new.self.gates c.args.narrow.now.limit
+    (ap (λ v. v.gates) c.in_ok-append.ensures.ok) (λ o. let e = c.in_ok-append.ensures.full.1 o in cc)
+
+pub returns-clause-same : goal.returns-clause-same
+returns-clause-same c = c.push_piece.ensures.same
+
+pub returns-in_err-append-clause-same : goal.returns-in_err-append-clause-same
+returns-in_err-append-clause-same c = c.push_piece.ensures.same
+
+pub returns-in_err-push_piece-clause-same : goal.returns-in_err-push_piece-clause-same
+returns-in_err-push_piece-clause-same c = c.push_piece.ensures.same
 
 pub returns-clause-emptied : goal.returns-clause-emptied
 returns-clause-emptied c = c.in_ok-append.ensures.emptied
