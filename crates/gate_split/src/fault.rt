@@ -5,7 +5,7 @@ ghost use Rattle.gate_split.specs.declared.fault.SplitFault.TheVariants.{Memory}
 ghost use Rattle.gate_split.specs.inside.Walks.{refusal_of, fault_at};
 
 use mct_circuit::GateFault;
-use std::alloc::{AllocError, AllocFailed};
+use std::alloc::AllocFailed;
 
 /// Why a circuit was not split: a wide gate uses every line, there are more gates than the limit
 /// allows, or memory was refused.
@@ -22,22 +22,6 @@ impl From<revc_base::Memory> for SplitFault {
     ghost from_gives = { λ _ e. e ≡ Memory };
 
     fn from(_: revc_base::Memory) -> SplitFault {
-        SplitFault::Memory
-    }
-}
-
-impl From<AllocError> for SplitFault {
-    ghost from_gives = { λ _ e. e ≡ Memory };
-
-    fn from(_: AllocError) -> SplitFault {
-        SplitFault::Memory
-    }
-}
-
-impl<T: Drop> From<AllocFailed<T>> for SplitFault {
-    ghost from_gives = { λ _ e. e ≡ Memory };
-
-    fn from(_: AllocFailed<T>) -> SplitFault {
         SplitFault::Memory
     }
 }
@@ -78,14 +62,6 @@ impl From<revc_base::Memory> for GateRefusal {
     ghost from_gives = { λ _ e. e ≡ refusal.Memory };
 
     fn from(_: revc_base::Memory) -> GateRefusal {
-        GateRefusal::Memory
-    }
-}
-
-impl From<AllocError> for GateRefusal {
-    ghost from_gives = { λ _ e. e ≡ refusal.Memory };
-
-    fn from(_: AllocError) -> GateRefusal {
         GateRefusal::Memory
     }
 }
