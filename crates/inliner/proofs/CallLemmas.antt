@@ -1,24 +1,27 @@
 -- Blocks, parts and functions, as the machine takes them.
-use Rattle.std.proofs.Common.{◌≡◌, ℕ, zero, suc, ◌+◌, ◌-◌, ◌≤◌, ◌<◌, List, [], ◌∷◌, length, drop, map, get_or, refl, sym, ap, ◌∙◌, subst, arith}
+use Rattle.std.proofs.Common.{◌≡◌, ℕ, zero, suc, ◌+◌, ◌-◌, ◌≤◌, ◌<◌, None, List, [], ◌∷◌, length, drop, map, get_or, refl, sym, ap, ◌∙◌, subst, arith}
 use Rattle.revc_base.specs.declared.place.Place.{Place}
 use Rattle.revs_terms.specs.declared.term.Name.{Name}
 use Rattle.revs_terms.specs.declared.term.Part.{Part}
 use Rattle.revs_terms.specs.Terms.{place_of}
 use Rattle.revs_terms.specs.Trees.{Tree, trees, list_of, ItemTree, item_trees, bind, run, block, parts, apply, append}
 use Rattle.revs_terms.specs.Running as runs
-use Rattle.revs_terms.specs.Running.{Environment, bound, bound_length, State, Outcome, stuck, went, after, run_of, term_of}
+use Rattle.revs_terms.specs.Running.{Environment, bound, bound_length, State, Outcome, stuck, went, after, run_of, term_of, as_bit, bit_of}
 use Rattle.revs_terms.specs.Running.{block_of, part_of, parts_of, apply_all, apply_to, worked, appended}
 use Rattle.revs_terms.specs.Runs.{no_bits}
 use Rattle.array_shapes.specs.declared.value.Value.{Value}
+use Rattle.array_shapes.specs.Values as values
+use Rattle.array_shapes.specs.Values.{ValueView, seen}
 use Rattle.inliner.specs.declared.fault.RunFault.{RunFault}
+use Rattle.inliner.specs.declared.fault.RunFault.TheVariants as faults
 use Rattle.inliner.specs.declared.machine.Machine.{Machine}
-use Rattle.inliner.specs.inside.Machines.{env_in, value_in, envs_of, state_of, IsMachine, IsValue, Goes}
+use Rattle.inliner.specs.inside.Machines.{env_in, spec_value, value_in, envs_of, state_of, IsMachine, IsValue, Does, Goes}
 use Rattle.inliner.specs.inside.Machines.{Binds, AreWorkedFor, LeavesRoom, Grows, BindsOne, Calls}
 use Rattle.inliner.proofs.FaultLemmas.{said_first, said_same}
 use Rattle.inliner.proofs.EnvironmentLemmas.{grown_env, grown_length, grown_value, grows_trans}
 use Rattle.inliner.proofs.ProgressLemmas.{Through, after_went, begun, ends_here, goes_in, items_of-item_trees, list_of-trees}
 use Rattle.inliner.proofs.ProgressLemmas.{regroup, said, same_next, same_rest, says_in, step, step_bound}
-use Rattle.inliner.specs.inside.Calls.{Going, Says, argument_step, bind_step, item_step}
+use Rattle.inliner.specs.inside.Calls.{Going, Says, IsBitAt, NoBitAt, argument_step, bind_step, item_step}
 use Rattle.revs_terms.specs.declared.cause.Cause.TheVariants as causes
 
 -- ---- loops and exits
@@ -333,3 +336,43 @@ block_term left e is js last end at s t cut i l =
     ap (λ (x : Tree). term_of no_bits (run_of no_bits left) e x s) cut ∙ block_is left e is last at s
     ∙ ap (λ (x : List ItemTree). block_of no_bits (run_of no_bits left) e x last s) (sym i) ∙ ap
     (λ (x : Tree). block_of no_bits (run_of no_bits left) e js x s) (sym l)
+
+-- ---- a bit
+
+pub bit_ends : (old mid : Machine) (left env location : ℕ) (t : Tree) (v : Value) → IsMachine old
+    → Goes old mid (run_of no_bits left (env_in (envs_of old) env) t (state_of old)) v → IsBitAt v location
+    → Does old mid (bit_of no_bits (run_of no_bits left) (env_in (envs_of old) env) t (state_of old)) location
+bit_ends old mid left env location t v is g b =
+    ends_here location (step (λ value s. as_bit no_bits (place_of t) value s) (begun old _ _ refl is) g.does)
+    (ap (λ (x : ValueView). as_bit no_bits (place_of t) (spec_value (envs_of mid) x) (state_of mid)) b.is)
+
+no_bit : (envs : List Environment) (v : ValueView) (at : Place) (s : State (Unit {0})) → values.bit_of v ≡ None
+    → Says (faults.Stuck causes.NotBit at) (as_bit no_bits at (spec_value envs v) s)
+no_bit envs values.unit at s e = record { stuck = refl }
+no_bit envs (values.bit l) at s e = absurd (cc)
+no_bit envs (values.register ls) at s e = record { stuck = refl }
+no_bit envs (values.function n k of) at s e = record { stuck = refl }
+
+pub bit_stuck : (old mid : Machine) (left env : ℕ) (t : Tree) (v : Value) (fault : RunFault) → IsMachine old
+    → Goes old mid (run_of no_bits left (env_in (envs_of old) env) t (state_of old)) v → NoBitAt v (place_of t) fault
+    → Says fault (bit_of no_bits (run_of no_bits left) (env_in (envs_of old) env) t (state_of old))
+bit_stuck old mid left env t v fault is g b =
+    said fault (step (λ value s. as_bit no_bits (place_of t) value s) (begun old _ _ refl is) g.does)
+    (rw b.fault_is (no_bit (envs_of mid) (seen v) (place_of t) (state_of mid) b.is))
+
+-- ---- the first step of a term, and a binding, that are stuck
+
+pub enter_stuck : (left : ℕ) (e : Environment) (t : Tree) (s : State (Unit {0})) (fault : RunFault) → 0 < left
+    → Says fault (worked no_bits 1 (place_of t) s) → Says fault (run_of no_bits left e t s)
+enter_stuck left e t s fault some says =
+    let k : left ≡ suc (left - 1) = omega arith in
+    subst (λ (n : ℕ). Says fault (run_of no_bits n e t s)) (sym k)
+    (said_first fault (worked no_bits 1 (place_of t) s) (λ _ s. term_of no_bits (run_of no_bits (left - 1)) e t s) says)
+
+pub item_stuck : (old mid : Machine) (left env : ℕ) (name : Name) (t : Tree) (v : Value) (fault : RunFault) → IsMachine old
+    → env ≤ length old.bindings.items → Goes old mid (run_of no_bits left (env_in (envs_of old) env) t (state_of old)) v
+    → Says fault (bind_step (value_in (envs_of mid) v) (env_in (envs_of mid) env) (place_of t) (state_of mid))
+    → Says fault (item_step (run_of no_bits left) (env_in (envs_of old) env) (bind name t) (state_of old))
+item_stuck old mid left env name t v fault is h g says =
+    said fault (step (λ value s. bind_step value (env_in (envs_of old) env) (place_of t) s) (begun old _ _ refl is) g.does)
+    (says_in (λ e. bind_step (value_in (envs_of mid) v) e (place_of t) (state_of mid)) old mid env fault g.does.grows h says)

@@ -9,14 +9,14 @@ use Rattle.array_shapes.specs.declared.value.Value.{Value}
 use Rattle.revs_terms.specs.Runs.{no_bits}
 use Rattle.inliner.specs.inside.Machines.{envs_of, env_in, value_in, state_of, Goes, Binds, Calls}
 use Rattle.std.proofs.lemmas.Result.{IfOk-weaker, IfErr-weaker}
-use Rattle.inliner.proofs.EnvironmentLemmas.{grown_within}
+use Rattle.inliner.proofs.EnvironmentLemmas.{grown_within, grown_made}
 use Rattle.inliner.proofs.FaultLemmas.{said_first}
 use Rattle.revc_base.proofs.ResultLemmas.{no_value, no_promise, passes_on}
 use Rattle.inliner.proofs.ProgressLemmas.{on_ok_alone, begun, step, ends, ends_goes, ends_calls, said, goes_in, says_in}
 use Rattle.inliner.proofs.ChainLemmas.{entered, assigns_from, assigns_stuck, reg_made, reg_stuck, bits_begun, bits_more}
 use Rattle.inliner.proofs.ChainLemmas.{bits_stuck, bits_done, chain_begun, chain_more, chain_no_first, chain_stuck, chain_done}
 use Rattle.inliner.proofs.CallLemmas.{mapped_at, mapped_end, block_more, block_stuck, at_begun, append_second, append_stuck, apply_begun, apply_more}
-use Rattle.inliner.proofs.CallLemmas.{apply_done, block_last, value_behind}
+use Rattle.inliner.proofs.CallLemmas.{apply_done, block_last, value_behind, bit_ends, bit_stuck, enter_stuck, item_stuck}
 use Rattle.inliner.proofs.CallLemmas.{apply_stuck, argument_run, call_stuck, call_last, call_next, call_ends, call_said, item_bound, item_run, block_term}
 use Rattle.inliner.specs.inside.Calls.{Says, item_step, join_step}
 use Rattle.inliner.proofs.machine.Machine.+run.Goals as goal
@@ -687,3 +687,56 @@ item-returns-in_err-run-in-Do-clause-ok t c = no_value c.from_residual-in_err-ru
 
 pub bits-returns-in_err-push-clause-err : goal.bits-returns-in_err-push-clause-err
 bits-returns-in_err-push-clause-err t c = passes_on _ c.from_residual-in_err-push.result c.from_residual-in_err-push.ensures.1 (record { stuck = tt })
+
+pub run-returns-in_err-enter-clause-err : goal.run-returns-in_err-enter-clause-err
+run-returns-in_err-enter-clause-err t c = passes_on _ c.from_residual.result c.from_residual.ensures.1
+    (enter_stuck c.args.left (env_in (envs_of c.args.self.now) c.args.env) (tree_of c.args.term.now) (state_of c.args.self.now)
+    c.in_err-enter.field-0.0 (omega arith) c.in_err-enter.ensures.err)
+
+pub item-returns-in_err-bound-in-Let-clause-err : goal.item-returns-in_err-bound-in-Let-clause-err
+item-returns-in_err-bound-in-Let-clause-err t c = passes_on _ c.from_residual.result c.from_residual.ensures.1
+    (subst (λ (i : ItemTree). Says c.in_err-bound-in-Let.field-0.0
+    (item_step (run_of no_bits c.args.left) (env_in (envs_of c.args.self.now) c.args.env) i (state_of c.args.self.now)))
+    (sym (ap item_tree_of c.in-Let.is ∙ item_tree_of-Let c.in-Let.name c.in-Let.value))
+    (said_first c.in_err-bound-in-Let.field-0.0 _ _ c.in_err-bound-in-Let.ensures.err))
+
+pub item-returns-in_err-run-in-Do-clause-err : goal.item-returns-in_err-run-in-Do-clause-err
+item-returns-in_err-run-in-Do-clause-err t c = passes_on _ c.from_residual-in_err-run-in-Do.result c.from_residual-in_err-run-in-Do.ensures.1
+    (subst (λ (i : ItemTree). Says c.in_err-run-in-Do.field-0.0
+    (item_step (run_of no_bits c.args.left) (env_in (envs_of c.args.self.now) c.args.env) i (state_of c.args.self.now)))
+    (sym (ap item_tree_of c.in-Do.is ∙ item_tree_of-Do c.in-Do.term))
+    (said_first c.in_err-run-in-Do.field-0.0 _ _ c.in_err-run-in-Do.ensures.err))
+
+pub item-returns-in_ok-bound-in-Let-clause-err : goal.item-returns-in_ok-bound-in-Let-clause-err
+item-returns-in_ok-bound-in-Let-clause-err t c = IfErr-weaker c.bind.result _ _
+    (λ f s. subst (λ (i : ItemTree). Says f
+    (item_step (run_of no_bits c.args.left) (env_in (envs_of c.args.self.now) c.args.env) i (state_of c.args.self.now)))
+    (sym (ap item_tree_of c.in-Let.is ∙ item_tree_of-Let c.in-Let.name c.in-Let.value))
+    (item_stuck c.args.self.now c.run.new.self c.args.left c.args.env c.in-Let.name (tree_of c.in-Let.value) c.in_ok-bound-in-Let.bound f
+    c.requires.machine c.requires.env c.in_ok-bound-in-Let.ensures.ok s)) c.bind.ensures.err
+
+pub bit-returns-clause-ok : goal.bit-returns-clause-ok
+bit-returns-clause-ok t c = IfOk-weaker c.bit_at.result _ _
+    (λ l b. bit_ends c.args.self.now c.run.new.self c.args.left c.args.env l (tree_of c.args.term.now) c.in_ok-value.value c.requires.machine
+    c.in_ok-value.ensures.ok b) c.bit_at.ensures.ok
+
+pub bit-returns-clause-err : goal.bit-returns-clause-err
+bit-returns-clause-err t c = IfErr-weaker c.bit_at.result _ _
+    (λ f b. bit_stuck c.args.self.now c.run.new.self c.args.left c.args.env (tree_of c.args.term.now) c.in_ok-value.value f c.requires.machine
+    c.in_ok-value.ensures.ok b) c.bit_at.ensures.err
+
+pub argument-call-requires : goal.argument-call-requires
+argument-call-requires t c =
+    let g = c.in_ok-argument.ensures.ok in (
+      omega arith,
+      (
+        g.does.kept,
+        (
+          omega (arith, c.in_ok-argument.ensures.room, c.requires.machine.room),
+          (grown_made c.args.self.now c.run.new.self c.args.callee g.does.grows c.requires.made, g.made),
+        ),
+      ),
+    )
+
+pub item-bind-requires-clause-room : goal.item-bind-requires-clause-room
+item-bind-requires-clause-room t c = omega (arith, c.in_ok-bound-in-Let.ensures.room, c.requires.machine.room)
