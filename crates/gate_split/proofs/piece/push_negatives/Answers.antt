@@ -1,4 +1,3 @@
-use Rattle.std.proofs.Common.{arith}
 use Rattle.revc_base.proofs.ResultLemmas.{no_promise}
 use Rattle.gate_split.proofs.PieceLemmas.{negatives_passed, negatives_taken, negatives_done}
 use Rattle.gate_split.proofs.piece.push_negatives.Goals as goal

@@ -1,7 +1,7 @@
-use Rattle.std.proofs.Common.{◌≡◌, ◌++◌, ◌∷◌, [], Some, None, rules, Option, List, ap, sym, subst, ◌∙◌}
+use Rattle.std.proofs.Common.{◌≡◌, ◌++◌, ◌∷◌, [], Some, Option, List, ap, sym, subst, ◌∙◌}
 use Rattle.mct_circuit.specs.Gates.{GateView, targets_of, flip_of}
 use Rattle.list_facts.proofs.OrderLemmas.{AreDifferent-parts}
-use Rattle.gate_split.specs.Split.{behind, flips_of_negatives, split_positive}
+use Rattle.gate_split.specs.Split.{behind, flips_of_negatives}
 use Rattle.gate_split.proofs.NegativeLemmas.{lines}
 use Rattle.gate_split.proofs.PieceLemmas.{flip_on, swap_on, flip_piece, swap_piece, between_none}
 use Rattle.std.specs.Result.{OnOk}

@@ -1,4 +1,4 @@
-use Rattle.std.proofs.Common.{◌++◌, Err, refl, ap}
+use Rattle.std.proofs.Common.{Err, refl, ap}
 use Rattle.revc_base.proofs.ResultLemmas.{no_promise}
 use Rattle.gate_split.specs.declared.fault.GateRefusal.TheVariants as refusal
 use Rattle.gate_split.proofs.PieceLemmas.{narrow_behind}

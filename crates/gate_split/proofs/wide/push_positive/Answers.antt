@@ -1,4 +1,4 @@
-use Rattle.std.proofs.Common.{sym, ap, ◌∙◌, Some, arith}
+use Rattle.std.proofs.Common.{sym, ap, ◌∙◌, Some}
 use Rattle.revc_base.proofs.ResultLemmas.{no_promise}
 use Rattle.gate_split.specs.Split.{behind}
 use Rattle.gate_split.proofs.EffectLemmas.{different_of, below_of}
