@@ -8,7 +8,7 @@ use std::alloc::{AllocError, AllocFailed};
 use std::marker::Model;
 
 /// A register: its name and its number of lines.
-#[derive(Debug, Drop)]
+#[derive(Drop)]
 pub struct Register {
     pub name: Text,
     pub size: u32,
@@ -16,7 +16,7 @@ pub struct Register {
 
 /// A file: its registers in the order of their declaration, and the circuit on their lines, laid
 /// one after another. Contracts see it as the registers and the gates.
-#[derive(Debug, Drop)]
+#[derive(Drop)]
 pub struct QasmFile {
     registers: Vec<Register>,
     circuit: Circuit,
@@ -70,7 +70,7 @@ impl QasmFile {
 /// Why a text means no file: the place of the first token that breaks a rule (`Token`), or that
 /// passes a limit and else keeps the form (`Limit`). The end of the text counts as a token.
 /// `Memory` is want of memory.
-#[derive(Clone, Copy, Debug, PartialEq, Eq)]
+#[derive(Clone, Copy, Debug)]
 pub enum QasmFault {
     Token { at: Place },
     Limit { at: Place },
