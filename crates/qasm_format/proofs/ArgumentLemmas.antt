@@ -16,12 +16,13 @@ use Rattle.mct_circuit.specs.Gates.{GateView, IsGateOn, AreGatesOn}
 use Rattle.gate_split.specs.declared.plan.TheConstants.{MOST_LINES}
 use Rattle.qasm_lexer.specs.Tokens.{Left}
 use Rattle.qasm_format.specs.Registers.{IsLaid, lines_of_all}
-use Rattle.qasm_format.specs.Stages.{Said, starts, wants, wants_argument, behind_name, wants_index, behind_argument, StandForGates, nothing_said}
+use Rattle.qasm_format.specs.Stages.{Said, starts, wants_argument, behind_name, wants_index, behind_argument, StandForGates, nothing_said}
 use Rattle.qasm_format.specs.Qasm.{Reads}
 use Rattle.qasm_format.specs.Faults.{IsStop, BreaksRule, BreaksLimit}
 use Rattle.qasm_lexer.specs.Tokens.{Takes}
 use Rattle.qasm_format.specs.inside.Says.{TakesName, IsNameFault, TakesNumber, IsNumberFault, ReadsWord, StopsAtWord, behind_spot, ReadsArgument}
-use Rattle.qasm_format.specs.inside.Says.{StopsAtArgument, ReadsControl, StopsAtControl, ReadsBarrier, StopsAtBarrier, SpotBelow, AddsGates, IsGateFault}
+use Rattle.qasm_format.specs.inside.Says.{StopsAtArgument, ReadsIndex, StopsAtIndex, ReadsBarrier, StopsAtBarrier}
+use Rattle.qasm_format.specs.inside.Says.{SpotBelow, AddsGates, IsGateFault}
 use Rattle.qasm_format.specs.inside.Says.{ReadsSpots, StopsAtSpots}
 use Rattle.qasm_format.proofs.DeclaredLemmas.{laid_within}
 use Rattle.qasm_lexer.proofs.MoveLemmas.{moves_within, takes_within, takes_fewer}
@@ -87,48 +88,52 @@ opened old mid new word bracket at place first size registers taken laid takes s
   fewer = let fewer = name_fewer old mid word at taken in let within = takes_within mid new bracket place takes in omega arith;
 }
 
-pub no_index : (old mid : Left) (fault : QasmFault) (registers : List Register) (first size : ℕ) → Opens old mid registers first size
-    → IsNumberFault mid fault → StopsAtArgument old registers fault
-no_index old mid fault registers first size open_bracket h = record {
-  says = λ usage spots said same. stops_later fault (open_bracket.says usage spots said same) (fault_at_index mid fault usage spots first size said h);
-}
+-- ---- an index behind its bracket
 
-pub beyond : (old mid new : Left) (at : Place) (index : ℕ) (registers : List Register) (first size : ℕ) → Opens old mid registers first size
-    → TakesNumber mid new index at → size ≤ index → StopsAtArgument old registers (Token at)
-beyond old mid new at index registers first size open_bracket taken over = record {
-  says = λ usage spots said same. stops_later (Token at) (open_bracket.says usage spots said same)
-      (beyond_at_index index usage spots first size said taken over);
-}
+pub no_index : (old : Left) (fault : QasmFault) (first size : ℕ) → IsNumberFault old fault → StopsAtIndex old first size fault
+no_index old fault first size h = record { says = λ usage spots said. fault_at_index old fault usage spots first size said h }
 
-indexed : (old mid new : Left) (at : Place) (index : ℕ) (registers : List Register) (first size : ℕ) (usage : Use) (spots : List Spot) (said : Said)
-    → Opens old mid registers first size → TakesNumber mid new index at → index < size → said.registers ≡ registers
-    → Reads old new (wants_argument usage spots said) (wants (codes "]") (behind_argument usage (spots ++ Line (first + index) ∷ []) said))
-indexed old mid new at index registers first size usage spots said open_bracket taken inside same =
-    reads_then (open_bracket.says usage spots said same) (reads_index index usage spots first size said taken inside)
+pub beyond : (old new : Left) (at : Place) (index first size : ℕ) → TakesNumber old new index at → size ≤ index → StopsAtIndex old first size (Token at)
+beyond old new at index first size taken over = record { says = λ usage spots said. beyond_at_index index usage spots first size said taken over }
 
-pub unclosed : (old mid last : Left) (at : Place) (index : ℕ) (fault : QasmFault) (registers : List Register) (first size : ℕ)
-    → Opens old mid registers first size → TakesNumber mid last index at → index < size → StopsAtWord last (codes "]") fault
-    → StopsAtArgument old registers fault
-unclosed old mid last at index fault registers first size open_bracket taken inside stops = record {
-  says = λ usage spots said same. stops_later fault (indexed old mid last at index registers first size usage spots said open_bracket taken inside same)
+pub unclosed : (old mid : Left) (at : Place) (index first size : ℕ) (fault : QasmFault) → TakesNumber old mid index at → index < size
+    → StopsAtWord mid (codes "]") fault → StopsAtIndex old first size fault
+unclosed old mid at index first size fault taken inside stops = record {
+  says = λ usage spots said. stops_later fault (reads_index index usage spots first size said taken inside)
       (stops.says (behind_argument usage (spots ++ Line (first + index) ∷ []) said));
 }
 
-pub line_read : (old mid last end new : Left) (at place : Place) (index : ℕ) (behind : List ℕ) (registers : List Register) (first size : ℕ)
-    → Opens old mid registers first size → TakesNumber mid last index at → index < size → ReadsWord last end (codes "]") → Takes end new behind place
-    → ReadsArgument old new registers (Line (first + index)) behind place
-line_read old mid last end new at place index behind registers first size open_bracket taken inside closed takes = record {
-  below = let within = open_bracket.within in omega arith;
-  mid = end;
-  reads = λ usage spots said same. reads_then (indexed old mid last at index registers first size usage spots said open_bracket taken inside same)
+pub index_read : (old mid last new : Left) (at place : Place) (index first size : ℕ) (behind : List ℕ) → TakesNumber old mid index at → index < size
+    → ReadsWord mid last (codes "]") → Takes last new behind place → ReadsIndex old new first size (Line (first + index)) behind place
+index_read old mid last new at place index first size behind taken inside closed takes = record {
+  index = index;
+  line = refl;
+  inside = inside;
+  mid = last;
+  reads = λ usage spots said. reads_then (reads_index index usage spots first size said taken inside)
       (closed.says (behind_argument usage (spots ++ Line (first + index) ∷ []) said));
   takes = takes;
-  closed = λ f s e. absurd (line_is_no_register (first + index) f s e);
-  fewer = let fewer = open_bracket.fewer in let number = takes_within mid last taken.word at taken.takes in
-      let bracket = moves_within (closed.says (starts nothing_said)).moves in let within = takes_within end new behind place takes in omega arith;
 }
 
--- ---- controls
+pub line_read : (old mid new : Left) (registers : List Register) (first size : ℕ) (spot : Spot) (behind : List ℕ) (place : Place)
+    → Opens old mid registers first size → ReadsIndex mid new first size spot behind place → ReadsArgument old new registers spot behind place
+line_read old mid new registers first size spot behind place open_bracket read =
+    subst (λ (s : Spot). ReadsArgument old new registers s behind place) (sym read.line) (record {
+      below = let within = open_bracket.within in let inside = read.inside in omega arith;
+      mid = read.mid;
+      reads = λ usage spots said same. reads_then (open_bracket.says usage spots said same) (read.reads usage spots said);
+      takes = read.takes;
+      closed = λ f s e. absurd (line_is_no_register (first + read.index) f s e);
+      fewer = let fewer = open_bracket.fewer in let number = moves_within (read.reads Barrier [] nothing_said).moves in
+          let within = takes_within read.mid new behind place read.takes in omega arith;
+    })
+
+pub index_stops : (old mid : Left) (registers : List Register) (first size : ℕ) (fault : QasmFault) → Opens old mid registers first size
+    → StopsAtIndex mid first size fault → StopsAtArgument old registers fault
+index_stops old mid registers first size fault open_bracket stops =
+    record { says = λ usage spots said same. stops_later fault (open_bracket.says usage spots said same) (stops.says usage spots said) }
+
+-- ---- numbers of arguments
 
 one_longer : (spots : List Spot) (spot : Spot) → length (spots ++ spot ∷ []) ≡ length spots + 1
 one_longer spots spot = length-append spots (spot ∷ [])
@@ -138,88 +143,48 @@ stand_counted : {controls : ℕ} {spots : List Spot} {gates : List GateView} →
 stand_counted {controls} {spots} h =
     ap length h.parts ∙ length-append h.controlling (h.target ∷ []) ∙ ap (λ (n : ℕ). n + 1) h.counted
 
-pub control_read : (old new : Left) (registers : List Register) (spot : Spot) (word : List ℕ) (at : Place) → ReadsArgument old new registers spot word at
-    → word ≡ codes "," → ReadsControl old new registers spot
-control_read old new registers spot word at read same = record {
-  below = read.below;
-  reads = λ controls spots said equal fewer. reads_then (read.reads (Flip controls) spots said equal)
-      (reads_comma (Flip controls) spots spot said read.takes same (let longer = one_longer spots spot in omega arith));
-}
-
 too_few : (controls : ℕ) (spots : List Spot) (spot : Spot) (gates : List GateView) → length spots < controls
     → ¬ StandForGates controls (spots ++ spot ∷ []) gates
 too_few controls spots spot gates fewer stand =
     let counted = stand_counted stand in let longer = one_longer spots spot in absurd (omega arith)
 
-pub no_control : (old new : Left) (registers : List Register) (spot : Spot) (word : List ℕ) (at : Place) → ReadsArgument old new registers spot word at
-    → ¬ (word ≡ codes ",") → StopsAtControl old registers (Token at)
-no_control old new registers spot word at read other = record {
-  says = λ controls spots said equal fewer. stops_later (Token at) (read.reads (Flip controls) spots said equal)
-      (stops_behind_argument (Flip controls) spots spot said read.takes read.closed (λ same more. other same)
-      (λ same after ends. too_few controls spots spot ends.0 fewer ends.1)
-      (λ same many. too_few controls spots spot many.0 fewer many.1));
-}
-
-pub control_stops : (old : Left) (fault : QasmFault) (registers : List Register) → StopsAtArgument old registers fault → StopsAtControl old registers fault
-control_stops old fault registers h = record { says = λ controls spots said equal fewer. h.says (Flip controls) spots said equal }
-
 -- ---- barriers
 
--- the last argument so far and the token behind it
-pub record InBarrier (old new : Left) (registers : List Register) (word : List ℕ) (at : Place) : Type 0 where
-  pub mid : Left
+-- the arguments so far, each with the comma behind it
+pub record InBarrier (old new : Left) (registers : List Register) : Type 0 where
   pub spots : List Spot
-  pub spot : Spot
-  pub reads : (said : Said) → said.registers ≡ registers → Reads old mid (wants_argument Barrier [] said) (behind_spot Barrier spots spot said)
-  pub takes : Takes mid new word at
-  pub closed : (first size : ℕ) → spot ≡ Whole first size → ¬ (word ≡ codes "[")
+  pub reads : (said : Said) → said.registers ≡ registers → Reads old new (wants_argument Barrier [] said) (wants_argument Barrier spots said)
 
-pub barrier_begun : (old new : Left) (registers : List Register) (spot : Spot) (word : List ℕ) (at : Place) → ReadsArgument old new registers spot word at
-    → InBarrier old new registers word at
-barrier_begun old new registers spot word at read = record {
-  mid = read.mid;
-  spots = [];
-  spot = spot;
-  reads = λ said equal. read.reads Barrier [] said equal;
-  takes = read.takes;
-  closed = read.closed;
+pub barrier_begun : (old : Left) (registers : List Register) → InBarrier old old registers
+barrier_begun old registers = record { spots = []; reads = λ said equal. reads_none old (wants_argument Barrier [] said) }
+
+pub barrier_fails : (old mid : Left) (registers : List Register) (fault : QasmFault) → InBarrier old mid registers → StopsAtArgument mid registers fault
+    → StopsAtBarrier old registers fault
+barrier_fails old mid registers fault so_far stops =
+    record { says = λ said equal. stops_later fault (so_far.reads said equal) (stops.says Barrier so_far.spots said equal) }
+
+pub barrier_more : (old mid new : Left) (registers : List Register) (spot : Spot) (word : List ℕ) (at : Place) → InBarrier old mid registers
+    → ReadsArgument mid new registers spot word at → word ≡ codes "," → InBarrier old new registers
+barrier_more old mid new registers spot word at so_far read same = record {
+  spots = so_far.spots ++ spot ∷ [];
+  reads = λ said equal. reads_then (so_far.reads said equal)
+      (reads_then (read.reads Barrier so_far.spots said equal) (reads_comma Barrier so_far.spots spot said read.takes same tt));
 }
 
-pub barrier_more : (old mid new : Left) (registers : List Register) (spot : Spot) (comma word : List ℕ) (place at : Place)
-    → InBarrier old mid registers comma place → comma ≡ codes "," → ReadsArgument mid new registers spot word at → InBarrier old new registers word at
-barrier_more old mid new registers spot comma word place at so_far same read = record {
-  mid = read.mid;
-  spots = so_far.spots ++ so_far.spot ∷ [];
-  spot = spot;
-  reads = λ said equal. reads_then (so_far.reads said equal) (reads_then (reads_comma Barrier so_far.spots so_far.spot said so_far.takes same tt)
-      (read.reads Barrier (so_far.spots ++ so_far.spot ∷ []) said equal));
-  takes = read.takes;
-  closed = read.closed;
+pub barrier_ends : (old mid new : Left) (registers : List Register) (spot : Spot) (word : List ℕ) (at : Place) → InBarrier old mid registers
+    → ReadsArgument mid new registers spot word at → word ≡ codes ";" → ReadsBarrier old new registers
+barrier_ends old mid new registers spot word at so_far read same = record {
+  reads = λ said equal. reads_then (so_far.reads said equal)
+      (reads_then (read.reads Barrier so_far.spots said equal) (reads_end Barrier so_far.spots spot said said read.takes same refl));
 }
 
-pub barrier_fails : (old mid : Left) (registers : List Register) (comma : List ℕ) (place : Place) (fault : QasmFault)
-    → InBarrier old mid registers comma place → comma ≡ codes "," → StopsAtArgument mid registers fault → StopsAtBarrier old registers fault
-barrier_fails old mid registers comma place fault so_far same stops = record {
-  says = λ said equal. stops_later fault (reads_then (so_far.reads said equal) (reads_comma Barrier so_far.spots so_far.spot said so_far.takes same tt))
-      (stops.says Barrier (so_far.spots ++ so_far.spot ∷ []) said equal);
+pub barrier_open : (old mid new : Left) (registers : List Register) (spot : Spot) (word : List ℕ) (at : Place) → InBarrier old mid registers
+    → ReadsArgument mid new registers spot word at → ¬ (word ≡ codes ",") → ¬ (word ≡ codes ";") → StopsAtBarrier old registers (Token at)
+barrier_open old mid new registers spot word at so_far read no_comma no_end = record {
+  says = λ said equal. stops_later (Token at) (reads_then (so_far.reads said equal) (read.reads Barrier so_far.spots said equal))
+      (stops_behind_argument Barrier so_far.spots spot said read.takes read.closed (λ same more. no_comma same) (λ same after ends. no_end same)
+      (λ same many. many));
 }
-
-pub barrier_ends : (old new : Left) (registers : List Register) (word : List ℕ) (at : Place) → InBarrier old new registers word at → word ≡ codes ";"
-    → ReadsBarrier old new registers
-barrier_ends old new registers word at so_far same = record {
-  reads = λ said equal. reads_then (so_far.reads said equal) (reads_end Barrier so_far.spots so_far.spot said said so_far.takes same refl);
-}
-
-pub barrier_open : (old new : Left) (registers : List Register) (word : List ℕ) (at : Place) → InBarrier old new registers word at
-    → ¬ (word ≡ codes ",") → ¬ (word ≡ codes ";") → StopsAtBarrier old registers (Token at)
-barrier_open old new registers word at so_far no_comma no_end = record {
-  says = λ said equal. stops_later (Token at) (so_far.reads said equal)
-      (stops_behind_argument Barrier so_far.spots so_far.spot said so_far.takes so_far.closed (λ same more. no_comma same)
-      (λ same after ends. no_end same) (λ same many. many));
-}
-
-pub barrier_stops : (old : Left) (fault : QasmFault) (registers : List Register) → StopsAtArgument old registers fault → StopsAtBarrier old registers fault
-barrier_stops old fault registers h = record { says = λ said equal. h.says Barrier [] said equal }
 
 -- ---- gates
 
@@ -231,22 +196,28 @@ pub record InGate (old new : Left) (registers : List Register) (controls : ℕ) 
 pub gate_begun : (old : Left) (registers : List Register) (controls : ℕ) → InGate old old registers controls []
 gate_begun old registers controls = record { reads = λ said equal. reads_none old (wants_argument (Flip controls) [] said); below = tt }
 
-pub gate_more : (old mid new : Left) (registers : List Register) (controls : ℕ) (spots : List Spot) (spot : Spot)
-    → InGate old mid registers controls spots → ReadsControl mid new registers spot → length spots < controls
+pub gate_more : (old mid new : Left) (registers : List Register) (controls : ℕ) (spots : List Spot) (spot : Spot) (word : List ℕ) (at : Place)
+    → InGate old mid registers controls spots → ReadsArgument mid new registers spot word at → word ≡ codes "," → length spots < controls
     → InGate old new registers controls (spots ++ spot ∷ [])
-gate_more old mid new registers controls spots spot so_far read fewer = record {
-  reads = λ said equal. reads_then (so_far.reads said equal) (read.reads controls spots said equal fewer);
+gate_more old mid new registers controls spots spot word at so_far read same fewer = record {
+  reads = λ said equal. reads_then (so_far.reads said equal) (reads_then (read.reads (Flip controls) spots said equal)
+      (reads_comma (Flip controls) spots spot said read.takes same (let longer = one_longer spots spot in omega arith)));
   below = AllByRecursion-push (SpotBelow (lines_of_all registers)) spots spot so_far.below read.below;
 }
 
-pub control_fails : (old mid : Left) (registers : List Register) (controls : ℕ) (spots : List Spot) (fault : QasmFault)
-    → InGate old mid registers controls spots → StopsAtControl mid registers fault → length spots < controls → StopsAtSpots old registers controls fault
-control_fails old mid registers controls spots fault so_far stops fewer =
-    record { says = λ said equal. stops_later fault (so_far.reads said equal) (stops.says controls spots said equal fewer) }
+-- no comma behind a control
+pub gate_stops : (old mid new : Left) (registers : List Register) (controls : ℕ) (spots : List Spot) (spot : Spot) (word : List ℕ) (at : Place)
+    → InGate old mid registers controls spots → ReadsArgument mid new registers spot word at → ¬ (word ≡ codes ",") → length spots < controls
+    → StopsAtSpots old registers controls (Token at)
+gate_stops old mid new registers controls spots spot word at so_far read other fewer = record {
+  says = λ said equal. stops_later (Token at) (reads_then (so_far.reads said equal) (read.reads (Flip controls) spots said equal))
+      (stops_behind_argument (Flip controls) spots spot said read.takes read.closed (λ same more. other same)
+      (λ same after ends. too_few controls spots spot ends.0 fewer ends.1) (λ same many. too_few controls spots spot many.0 fewer many.1));
+}
 
-pub target_fails : (old mid : Left) (registers : List Register) (controls : ℕ) (spots : List Spot) (fault : QasmFault)
+pub argument_fails : (old mid : Left) (registers : List Register) (controls : ℕ) (spots : List Spot) (fault : QasmFault)
     → InGate old mid registers controls spots → StopsAtArgument mid registers fault → StopsAtSpots old registers controls fault
-target_fails old mid registers controls spots fault so_far stops =
+argument_fails old mid registers controls spots fault so_far stops =
     record { says = λ said equal. stops_later fault (so_far.reads said equal) (stops.says (Flip controls) spots said equal) }
 
 -- the gate has all arguments, and no end

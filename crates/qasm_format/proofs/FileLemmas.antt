@@ -1,31 +1,40 @@
 -- The whole text, as the reader takes it.
 use Rattle.std.proofs.Common.{◌≡◌, ℕ, ◌≤◌, false, List, [], length, Result, Ok, Err, inl, inr, sym, ap, ◌∙◌, subst, arith}
-use Rattle.std.specs.Result.{IfOk, IfErr}
+use Rattle.std.specs.Result.{IfOk}
 use Rattle.mct_circuit.specs.Gates.{GateView, AreGatesOn}
 use Rattle.gate_split.specs.declared.plan.TheConstants.{MOST_GATES}
 use Rattle.qasm_format.specs.declared.file.QasmFault.{QasmFault}
 use Rattle.qasm_format.specs.declared.said.Said.{Said as Held}
 use Rattle.qasm_lexer.specs.Tokens.{Left, whole, BeginsWith}
 use Rattle.qasm_format.specs.Registers.{lines_of_all}
-use Rattle.qasm_format.specs.Stages.{Said, Stage, starts, head, nothing_left, nothing_said}
+use Rattle.qasm_format.specs.Stages.{Said, starts, head, nothing_left, nothing_said}
 use Rattle.qasm_format.specs.Qasm.{Reads, QasmView, MeansFile}
 use Rattle.qasm_format.specs.Faults.{IsStop, IsQasmFault}
-use Rattle.qasm_format.specs.inside.Says.{said_of, IsSound, GoesOn, ReadsFile}
+use Rattle.qasm_format.specs.inside.Says.{said_of, IsFirst, IsSound, GoesOn}
 use Rattle.qasm_lexer.proofs.CutLemmas.{some_next}
-use Rattle.qasm_format.proofs.ReadingLemmas.{reads_then, stops_later}
+use Rattle.qasm_format.proofs.ReadingLemmas.{reads_then}
 
 -- ---- before the first statement
 
-pub said_at_first : (held : Held) → held.included ≡ false → held.declared ≡ record { names = []; registers = [] } → held.gates.items ≡ []
-    → said_of held ≡ nothing_said
-said_at_first held included declared gates =
-    λ i. let said : Said = record { included = included i; names = (declared i).names; registers = (declared i).registers; gates = gates i } in said
+pub said_at_first : (held : Held) → IsFirst held → said_of held ≡ nothing_said
+said_at_first held h = λ i.
+    let said : Said = record { included = h.included i; names = (h.declared i).names; registers = (h.declared i).registers; gates = h.gates i } in said
 
-pub sound_at_first : (held : Held) → held.gates.items ≡ [] → IsSound held
-sound_at_first held none = record {
-  placed = subst (AreGatesOn (lines_of_all held.declared.registers)) (sym none) tt;
-  few = subst (λ (gs : List GateView). length gs ≤ MOST_GATES) (sym none) (omega arith);
+pub sound_at_first : (held : Held) → IsFirst held → IsSound held
+sound_at_first held h = record {
+  placed = subst (AreGatesOn (lines_of_all held.declared.registers)) (sym h.gates) tt;
+  few = subst (λ (gs : List GateView). length gs ≤ MOST_GATES) (sym h.gates) (omega arith);
 }
+
+-- the head was read
+pub head_read : (text : List ℕ) (old new : Left) (held : Held) → IsFirst held → old ≡ whole text → Reads old new head (starts nothing_said)
+    → Reads (whole text) new head (starts (said_of held))
+head_read text old new held first same reads =
+    subst (λ (l : Left). Reads l new head (starts (said_of held))) same
+    (subst (λ (s : Said). Reads old new head (starts s)) (sym (said_at_first held first)) reads)
+
+pub head_stops : (text : List ℕ) (old : Left) (fault : QasmFault) → old ≡ whole text → IsStop old head fault → IsQasmFault text fault
+head_stops text old fault same stops = subst (λ (l : Left). IsStop l head fault) same stops
 
 -- ---- the end
 
@@ -33,10 +42,11 @@ at_end : (text : List ℕ) → BeginsWith text [] → text ≡ []
 at_end text (inl h) = h.1
 at_end text (inr (rest, next)) = let some = some_next text [] rest next in absurd (omega arith)
 
-pub file_ends : {E : Type 0} (old mid new : Left) (from : Stage) (before after : Held) (r : Result QasmView E) → Reads old mid from (starts (said_of before))
+pub file_ends : {E : Type 0} (text : List ℕ) (mid new : Left) (before after : Held) (r : Result QasmView E)
+    → Reads (whole text) mid head (starts (said_of before))
     → GoesOn false mid new before after → IfOk r (λ file. file ≡ record { registers = after.declared.registers; gates = after.gates.items })
-    → IfOk r (ReadsFile old from)
-file_ends old mid new from before after (Ok file) reads h is = record {
+    → IfOk r (MeansFile text)
+file_ends text mid new before after (Ok file) reads h is = record {
   last = h.1.takes.mid;
   said = said_of before;
   reads = reads_then reads (record { tokens = []; moves = h.1.takes.gaps; lead = nothing_left });
@@ -45,24 +55,4 @@ file_ends old mid new from before after (Ok file) reads h is = record {
   gates = ap (λ (f : QasmView). f.gates) is ∙ ap (λ (held : Held). held.gates.items) h.0;
   some = h.1.may;
 }
-file_ends old mid new from before after (Err e) reads h is = tt
-
--- ---- the file behind the head
-
-pub file_means : {E : Type 0} (text : List ℕ) (mid : Left) (from : Stage) (r : Result QasmView E) → Reads (whole text) mid head from
-    → IfOk r (ReadsFile mid from) → IfOk r (MeansFile text)
-file_means text mid from (Ok file) reads is = record {
-  last = is.last;
-  said = is.said;
-  reads = reads_then reads is.reads;
-  ended = is.ended;
-  registers = is.registers;
-  gates = is.gates;
-  some = is.some;
-}
-file_means text mid from (Err e) reads is = tt
-
-pub file_stops : {T : Type 0} (text : List ℕ) (mid : Left) (from : Stage) (r : Result T QasmFault) → Reads (whole text) mid head from
-    → IfErr r (IsStop mid from) → IfErr r (IsQasmFault text)
-file_stops text mid from (Ok file) reads is = tt
-file_stops text mid from (Err fault) reads is = stops_later fault reads is
+file_ends text mid new before after (Err e) reads h is = tt

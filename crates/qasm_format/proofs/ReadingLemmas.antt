@@ -1,6 +1,6 @@
 -- Readings of a text, one after another, and where they stop.
-use Rattle.std.proofs.Common.{◌≡◌, ℕ, ◌<◌, List, [], ◌∷◌, ◌++◌, length, refl, sym, ◌∙◌, subst, true, false, not}
-use Rattle.std.proofs.lemmas.Bool.{false≢true, not-true, not-false}
+use Rattle.std.proofs.Common.{◌≡◌, ℕ, ◌<◌, List, [], ◌∷◌, ◌++◌, length, refl, sym, ◌∙◌, subst, true, false}
+use Rattle.std.proofs.lemmas.Bool.{false≢true}
 use Rattle.std.specs.Str.{bytes_eq}
 use Rattle.std.proofs.lemmas.Slice.Eq.{bytes_eq-Decides}
 use Rattle.revc_base.specs.declared.place.Place.{Place}
@@ -89,15 +89,3 @@ same_word word other e = (bytes_eq-Decides word other).0 e
 
 pub other_word : (word other : List ℕ) → bytes_eq word other ≡ false → ¬ (word ≡ other)
 other_word word other e same = false≢true (sym e ∙ (bytes_eq-Decides word other).1 same)
-
-pub ne_word : (word slice wanted : List ℕ) → slice ≡ wanted → not (bytes_eq word slice) ≡ true → ¬ (word ≡ wanted)
-ne_word word slice wanted same e = subst (λ (w : List ℕ). ¬ (word ≡ w)) same (other_word word slice (not-true (bytes_eq word slice) e))
-
-pub eq_word : (word slice wanted : List ℕ) → slice ≡ wanted → not (bytes_eq word slice) ≡ false → word ≡ wanted
-eq_word word slice wanted same e = same_word word slice (not-false (bytes_eq word slice) e) ∙ same
-
-pub is_word : (word slice wanted : List ℕ) → slice ≡ wanted → bytes_eq word slice ≡ true → word ≡ wanted
-is_word word slice wanted same e = same_word word slice e ∙ same
-
-pub no_word : (word slice wanted : List ℕ) → slice ≡ wanted → bytes_eq word slice ≡ false → ¬ (word ≡ wanted)
-no_word word slice wanted same e = subst (λ (w : List ℕ). ¬ (word ≡ w)) same (other_word word slice e)

@@ -2,7 +2,7 @@
 use Rattle.std.proofs.Common.{◌≡◌, ℕ, ◌<◌, Bool, true, false, cond, ◌⊎◌, inl, inr, List, [], length, codes, Option, Some, None, Result, Ok, Err, refl, sym, ap}
 use Rattle.std.proofs.Common.{◌∙◌, subst, arith}
 use Rattle.std.specs.Prelude.{◌≢◌}
-use Rattle.std.specs.Result.{IfOk, OnOk}
+use Rattle.std.specs.Result.{OnOk, IfErr}
 use Rattle.std.specs.Str.{bytes_eq}
 use Rattle.std.proofs.lemmas.Slice.Eq.{bytes_eq-Decides}
 use Rattle.std.proofs.lemmas.Bool.{false≢true}
@@ -16,12 +16,12 @@ use Rattle.qasm_format.specs.declared.file.QasmFault.{QasmFault}
 use Rattle.qasm_format.specs.declared.file.QasmFault.TheVariants.{Token}
 use Rattle.qasm_lexer.specs.Tokens.{Left}
 use Rattle.qasm_format.specs.Registers.{lines_of_all}
+use Rattle.qasm_format.specs.Qasm.{Reads}
 use Rattle.qasm_format.specs.Faults.{IsStop}
 use Rattle.qasm_format.specs.Stages.{Said, Stage, starts, wants, wants_name, wants_argument, kind_word, IsUseWord, Leads}
 use Rattle.qasm_format.specs.inside.Tests.{kind_of, use_of, flip_of}
 use Rattle.qasm_lexer.specs.Tokens.{Takes}
-use Rattle.qasm_format.specs.inside.Says.{BeginsNone, ReadsBehind, StopsBehind, ReadsStatement, GoesOn, said_of}
-use Rattle.qasm_format.specs.declared.said.Said.{Said as Held}
+use Rattle.qasm_format.specs.inside.Says.{BeginsNone, ReadsBehind, StopsBehind, ReadsStatement}
 use Rattle.qasm_format.proofs.ReadingLemmas.{same_word, reads_next, reads_then, breaks_rule, stops_later}
 use Rattle.qasm_lexer.proofs.MoveLemmas.{moves_within, takes_fewer}
 
@@ -153,12 +153,13 @@ pub include_begins : (word : List ℕ) (said : Said) → said.included ≡ false
     → Leads word (starts said) (wants (codes "\"qelib1.inc\"") (wants (codes ";") (starts (record said { included = true }))))
 include_begins word said once same = inl (record { spelled = same; once = once; leads = refl })
 
-pub goes_on : {E : Type 0} (r : Result Bool E) (old new : Left) (before after : Held) → IfOk r (λ more. more ≡ true)
-    → OnOk r (ReadsStatement old new (said_of before) (said_of after)) → IfOk r (λ more. GoesOn more old new before after)
-goes_on (Ok more) old new before after h k = subst (λ (m : Bool). GoesOn m old new before after) (sym h) k
-goes_on (Err e) old new before after h k = tt
+-- what a call behind the first word reads, or why it stops
+pub goes_behind : {T E : Type 0} (r : Result T E) (old new : Left) (word : List ℕ) (before after : Said) (next : Stage) → Leads word (starts before) next
+    → OnOk r (Reads old new next (starts after)) → OnOk r (ReadsBehind old new word before after)
+goes_behind (Ok x) old new word before after next begins h = record { next = next; begins = begins; reads = h }
+goes_behind (Err e) old new word before after next begins h = tt
 
-pub read_behind : {T E : Type 0} (r : Result T E) (old mid new : Left) (word : List ℕ) (at : Place) (before after : Said) → Takes old mid word at
-    → 0 < length word → OnOk r (ReadsBehind mid new word before after) → OnOk r (ReadsStatement old new before after)
-read_behind (Ok x) old mid new word at before after takes some h = statement_read old mid new word at before after takes some h
-read_behind (Err e) old mid new word at before after takes some h = tt
+pub stops_on : {T : Type 0} (r : Result T QasmFault) (old : Left) (word : List ℕ) (at : Place) (said : Said) (next : Stage) → Leads word (starts said) next
+    → IfErr r (IsStop old next) → IfErr r (StopsBehind old word at said)
+stops_on (Ok x) old word at said next begins h = tt
+stops_on (Err e) old word at said next begins h = inr (record { next = next; begins = begins; stops = h })

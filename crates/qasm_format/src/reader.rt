@@ -13,17 +13,17 @@ ghost use Rattle.qasm_format.specs.inside.Spread.{AreAllDifferent, ArePushed, co
 ghost use Rattle.qasm_format.specs.inside.Says.{ReadsWord, StopsAtWord, TakesName, IsNameFault};
 ghost use Rattle.qasm_format.specs.inside.Says.{TakesNumber, IsNumberFault, ReadsWords};
 ghost use Rattle.qasm_format.specs.inside.Says.{StopsAtWords, ReadsSize, StopsAtSize};
-ghost use Rattle.qasm_format.specs.inside.Says.{ReadsArgument, StopsAtArgument, ReadsControl};
-ghost use Rattle.qasm_format.specs.inside.Says.{StopsAtControl, ReadsBarrier, StopsAtBarrier};
-ghost use Rattle.qasm_format.specs.inside.Says.{ReadsSpots, StopsAtSpots, ReadsFile};
+ghost use Rattle.qasm_format.specs.inside.Says.{ReadsArgument, StopsAtArgument, ReadsIndex};
+ghost use Rattle.qasm_format.specs.inside.Says.{StopsAtIndex, ReadsBarrier, StopsAtBarrier};
+ghost use Rattle.qasm_format.specs.inside.Says.{PushesSpot, ReadsSpots, StopsAtSpots, IsFirst};
 ghost use Rattle.qasm_format.specs.inside.Says.{said_of, IsSound, GoesOn, AddsGates, IsGateFault};
 ghost use Rattle.qasm_format.specs.inside.Says.{SpotBelow, ReadsBehind, StopsBehind};
 
 use crate::file::{QasmFault, QasmFile};
-use crate::names::Declared;
+use crate::names::{Declared, Span};
 use crate::said::Said;
 use crate::spots::{Spot, all_different, count_of};
-use crate::words::{RegisterKind, Use, is_free, kind_of, use_of};
+use crate::words::{RegisterKind, Use, is_free, is_word, kind_of, use_of};
 use gate_split::{MOST_GATES, MOST_LINES};
 use mct_circuit::{Circuit, Control, Gate, Op};
 use qasm_lexer::{MOST_DIGITS, Token, Tokens, is_identifier, is_number};
@@ -41,23 +41,20 @@ pub fn read(alloc: Global, bytes: &[u8]) -> Result<QasmFile, QasmFault>
     ensures ok { IfOk result (MeansFile bytes.now) }
     ensures err { IfErr result (IsQasmFault bytes.now) }
 {
-    let mut tokens = Tokens::new(bytes);
-    read_head(&mut tokens)?;
     let mut said = Said::new(alloc);
-    read_file(alloc, &mut said, &mut tokens)
+    read_text(alloc, &mut said, bytes)
 }
 
-// The statements up to the end of the text, and the file that they say.
-fn read_file<'t>(
-    alloc: Global,
-    said: &mut Said<'t>,
-    tokens: &mut Tokens<'t>,
-) -> Result<QasmFile, QasmFault>
-    requires { IsSound said.old }
-    ensures ok { IfOk result (ReadsFile tokens.old (starts (said_of said.old))) }
-    ensures err { IfErr result (IsStop tokens.old (starts (said_of said.old))) }
+// The file that a text says, where nothing was said before.
+fn read_text<'t>(alloc: Global, said: &mut Said<'t>, bytes: &'t [u8]) -> Result<QasmFile, QasmFault>
+    requires few { length bytes.now + 1 < 2 ^ 32 }
+    requires first { IsFirst said.old }
+    ensures ok { IfOk result (MeansFile bytes.now) }
+    ensures err { IfErr result (IsQasmFault bytes.now) }
 {
-    'statements: while read_statement(alloc, said, tokens)? {}
+    let mut tokens = Tokens::new(bytes);
+    read_head(&mut tokens)?;
+    'statements: while read_statement(alloc, said, &mut tokens)? {}
     file_of(alloc, said)
 }
 
@@ -97,10 +94,21 @@ fn take_word(tokens: &mut Tokens, wanted: &[u8]) -> Result<(), QasmFault>
     ensures err { IfErr result (StopsAtWord tokens.old wanted.now) }
 {
     let token = tokens.next();
-    if token.word != wanted {
+    if !is_word(token.word, wanted) {
         return Err(QasmFault::Token { at: token.at });
     }
     Ok(())
+}
+
+// Two words that are wanted next.
+fn take_words(tokens: &mut Tokens, one: &[u8], other: &[u8]) -> Result<(), QasmFault>
+    requires one { 0 < length one.now }
+    requires other { 0 < length other.now }
+    ensures ok { OnOk result (ReadsWords tokens.old tokens.new one.now other.now) }
+    ensures err { IfErr result (StopsAtWords tokens.old one.now other.now) }
+{
+    take_word(tokens, one)?;
+    take_word(tokens, other)
 }
 
 // An identifier of at most 64 bytes.
@@ -139,8 +147,7 @@ fn read_head(tokens: &mut Tokens) -> Result<(), QasmFault>
     ensures err { IfErr result (IsStop tokens.old head) }
 {
     take_word(tokens, b"OPENQASM")?;
-    take_word(tokens, b"2.0")?;
-    take_word(tokens, b";")
+    take_words(tokens, b"2.0", b";")
 }
 
 // ---- statements
@@ -160,11 +167,7 @@ fn read_statement<'t>(
     if token.word.is_empty() {
         return end_of(said, token.at);
     }
-    if said.included || token.word != b"include".as_slice() {
-        return read_other(alloc, said, tokens, token);
-    }
-    read_include(tokens)?;
-    said.included = true;
+    read_begun(alloc, said, tokens, token)?;
     Ok(true)
 }
 
@@ -181,16 +184,37 @@ fn end_of(said: &Said, at: Place) -> Result<bool, QasmFault>
     Ok(false)
 }
 
+// A statement behind its first word.
+fn read_begun<'t>(
+    alloc: Global,
+    said: &mut Said<'t>,
+    tokens: &mut Tokens<'t>,
+    token: Token<'t>,
+) -> Result<(), QasmFault>
+    requires { IsSound said.old }
+    ensures ok { OnOk result (ReadsBehind tokens.old tokens.new token.entry.word.now
+        (said_of said.old) (said_of said.new)) }
+    ensures sound { OnOk result (IsSound said.new) }
+    ensures err { IfErr result (StopsBehind tokens.old token.entry.word.now token.entry.at
+        (said_of said.old)) }
+{
+    if said.included || !is_word(token.word, b"include") {
+        return read_other(alloc, said, tokens, token);
+    }
+    take_words(tokens, b"\"qelib1.inc\"", b";")?;
+    said.included = true;
+    Ok(())
+}
+
 // A statement other than the first include, behind its first word.
 fn read_other<'t>(
     alloc: Global,
     said: &mut Said<'t>,
     tokens: &mut Tokens<'t>,
     token: Token<'t>,
-) -> Result<bool, QasmFault>
+) -> Result<(), QasmFault>
     requires sound { IsSound said.old }
     requires other { (said.old.included ≡ true) ⊎ (token.word.now ≢ codes "include") }
-    ensures more { IfOk result (λ more. more ≡ true) }
     ensures ok { OnOk result (ReadsBehind tokens.old tokens.new token.entry.word.now
         (said_of said.old) (said_of said.new)) }
     ensures sound { OnOk result (IsSound said.new) }
@@ -198,29 +222,13 @@ fn read_other<'t>(
         (said_of said.old)) }
 {
     if let Some(kind) = kind_of(token.word) {
-        read_declaration(said, tokens, kind)?;
-        return Ok(true);
+        return read_declaration(said, tokens, kind);
     }
     match use_of(token.word, said.included) {
-        Some(Use::Barrier) => {
-            read_barrier(&said.declared, tokens)?;
-            Ok(true)
-        }
-        Some(Use::Flip(controls)) => {
-            read_gate(alloc, said, tokens, controls)?;
-            Ok(true)
-        }
+        Some(Use::Barrier) => read_barrier(&said.declared, tokens),
+        Some(Use::Flip(controls)) => read_gate(alloc, said, tokens, controls),
         None => Err(QasmFault::Token { at: token.at }),
     }
-}
-
-fn read_include(tokens: &mut Tokens) -> Result<(), QasmFault>
-    ensures ok { OnOk result (ReadsWords tokens.old tokens.new
-        (codes "\"qelib1.inc\"") (codes ";")) }
-    ensures err { IfErr result (StopsAtWords tokens.old (codes "\"qelib1.inc\"") (codes ";")) }
-{
-    take_word(tokens, b"\"qelib1.inc\"")?;
-    take_word(tokens, b";")
 }
 
 fn read_declaration<'t>(
@@ -260,8 +268,7 @@ fn take_size(tokens: &mut Tokens, kind: RegisterKind, lines: u32) -> Result<u32,
     if is_full(kind, size, lines) {
         return Err(QasmFault::Limit { at });
     }
-    take_word(tokens, b"]")?;
-    take_word(tokens, b";")?;
+    take_words(tokens, b"]", b";")?;
     Ok(size)
 }
 
@@ -293,9 +300,19 @@ fn read_argument<'t>(
         return Err(QasmFault::Token { at: name.at });
     };
     let behind = tokens.next();
-    if behind.word != b"[".as_slice() {
-        return Ok((Spot::Whole(span.first, span.size), behind));
+    if is_word(behind.word, b"[") {
+        return read_index(tokens, span);
     }
+    Ok((Spot::Whole(span.first, span.size), behind))
+}
+
+// The line of an index behind its bracket, and the token behind the argument.
+fn read_index<'t>(tokens: &mut Tokens<'t>, span: Span) -> Result<(Spot, Token<'t>), QasmFault>
+    requires { span.first + span.size ≤ MOST_LINES }
+    ensures ok { IfOk result (λ read. ReadsIndex tokens.old tokens.new span.first span.size
+        read.0 read.1.word.now read.1.at) }
+    ensures err { IfErr result (StopsAtIndex tokens.old span.first span.size) }
+{
     let (index, at) = take_number(tokens)?;
     if index >= span.size {
         return Err(QasmFault::Token { at });
@@ -308,15 +325,15 @@ fn read_barrier<'t>(declared: &Declared<'t>, tokens: &mut Tokens<'t>) -> Result<
     ensures ok { OnOk result (ReadsBarrier tokens.old tokens.new declared.now.registers) }
     ensures err { IfErr result (StopsAtBarrier tokens.old declared.now.registers) }
 {
-    let (_, mut behind) = read_argument(declared, tokens)?;
-    while behind.word == b",".as_slice() {
-        let (_, token) = read_argument(declared, tokens)?;
-        behind = token;
+    'arguments: loop {
+        let (_, behind) = read_argument(declared, tokens)?;
+        if is_word(behind.word, b";") {
+            return Ok(());
+        }
+        if !is_word(behind.word, b",") {
+            return Err(QasmFault::Token { at: behind.at });
+        }
     }
-    if behind.word != b";".as_slice() {
-        return Err(QasmFault::Token { at: behind.at });
-    }
-    Ok(())
 }
 
 // So many controls and the target.
@@ -355,26 +372,31 @@ fn read_spots<'t>(
     // This call says that the lines are within their limit.
     let _ = declared.lines();
     for _k in 0..controls {
-        spots.push(read_control(declared, tokens)?)?;
+        let comma = push_spot(declared, tokens, spots)?;
+        if !is_word(comma.word, b",") {
+            return Err(QasmFault::Token { at: comma.at });
+        }
     }
-    let (target, behind) = read_argument(declared, tokens)?;
-    spots.push(target)?;
-    if behind.word != b";".as_slice() {
-        return Err(QasmFault::Token { at: behind.at });
+    let end = push_spot(declared, tokens, spots)?;
+    if !is_word(end.word, b";") {
+        return Err(QasmFault::Token { at: end.at });
     }
-    Ok(behind.at)
+    Ok(end.at)
 }
 
-// An argument and the comma behind it.
-fn read_control<'t>(declared: &Declared<'t>, tokens: &mut Tokens<'t>) -> Result<Spot, QasmFault>
-    ensures ok { IfOk result (ReadsControl tokens.old tokens.new declared.now.registers) }
-    ensures err { IfErr result (StopsAtControl tokens.old declared.now.registers) }
+// Puts an argument behind the others; the token behind it.
+fn push_spot<'t>(
+    declared: &Declared<'t>,
+    tokens: &mut Tokens<'t>,
+    spots: &mut Vec<Spot>,
+) -> Result<Token<'t>, QasmFault>
+    ensures ok { IfOk result (λ behind. PushesSpot tokens.old tokens.new declared.now.registers
+        spots.old.items spots.new.items behind.word.now behind.at) }
+    ensures err { IfErr result (StopsAtArgument tokens.old declared.now.registers) }
 {
     let (spot, behind) = read_argument(declared, tokens)?;
-    if behind.word != b",".as_slice() {
-        return Err(QasmFault::Token { at: behind.at });
-    }
-    Ok(spot)
+    spots.push(spot)?;
+    Ok(behind)
 }
 
 // ---- gates

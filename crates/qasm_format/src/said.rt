@@ -1,5 +1,5 @@
 // What statements said so far.
-ghost use Rattle.std.specs.Prelude.{◌≡◌, [], false};
+ghost use Rattle.qasm_format.specs.inside.Says.{IsFirst};
 
 use crate::names::Declared;
 use mct_circuit::Gate;
@@ -15,9 +15,7 @@ pub struct Said<'t> {
 
 impl<'t> Said<'t> {
     pub fn new(alloc: Global) -> Said<'t>
-        ensures included { result.included ≡ false }
-        ensures declared { result.declared ≡ record { names = []; registers = [] } }
-        ensures gates { result.gates.items ≡ [] }
+        ensures { IsFirst result }
     {
         Said {
             included: false,

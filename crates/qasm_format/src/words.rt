@@ -1,5 +1,6 @@
 // The words of statements, and tests of words.
 ghost use Rattle.std.specs.Prelude.{◌≡◌, ◌<◌, length};
+ghost use Rattle.std.specs.Str.{bytes_eq};
 ghost use Rattle.qasm_format.specs.inside.Tests.{flip_of, is_free, is_kept, is_kept_first};
 ghost use Rattle.qasm_format.specs.inside.Tests.{is_kept_too, kind_of, use_of};
 
@@ -17,14 +18,21 @@ pub enum Use {
     Flip(u32),
 }
 
+// Whether a word is the wanted one.
+pub fn is_word(word: &[u8], wanted: &[u8]) -> bool
+    ensures { result ≡ bytes_eq word.now wanted.now }
+{
+    word == wanted
+}
+
 // The kind of register that a word declares.
 pub fn kind_of(word: &[u8]) -> Option<RegisterKind>
     ensures { result ≡ kind_of word.now }
 {
-    if word == b"qreg".as_slice() {
+    if is_word(word, b"qreg") {
         return Some(RegisterKind::Qubits);
     }
-    if word == b"creg".as_slice() {
+    if is_word(word, b"creg") {
         return Some(RegisterKind::Bits);
     }
     None
@@ -34,10 +42,10 @@ pub fn kind_of(word: &[u8]) -> Option<RegisterKind>
 pub fn use_of(word: &[u8], included: bool) -> Option<Use>
     ensures { result ≡ use_of word.now included }
 {
-    if word == b"barrier".as_slice() {
+    if is_word(word, b"barrier") {
         return Some(Use::Barrier);
     }
-    if word == b"CX".as_slice() {
+    if is_word(word, b"CX") {
         return Some(Use::Flip(1));
     }
     if !included {
@@ -50,13 +58,13 @@ pub fn use_of(word: &[u8], included: bool) -> Option<Use>
 fn flip_of(word: &[u8]) -> Option<Use>
     ensures { result ≡ flip_of word.now }
 {
-    if word == b"x".as_slice() {
+    if is_word(word, b"x") {
         return Some(Use::Flip(0));
     }
-    if word == b"cx".as_slice() {
+    if is_word(word, b"cx") {
         return Some(Use::Flip(1));
     }
-    if word == b"ccx".as_slice() {
+    if is_word(word, b"ccx") {
         return Some(Use::Flip(2));
     }
     None
@@ -80,17 +88,15 @@ fn is_kept(word: &[u8]) -> bool
 fn is_kept_first(word: &[u8]) -> bool
     ensures { result ≡ is_kept_first word.now }
 {
-    word == b"barrier".as_slice()
-        || (word == b"creg".as_slice()
-            || (word == b"gate".as_slice()
-                || (word == b"if".as_slice() || word == b"include".as_slice())))
+    is_word(word, b"barrier")
+        || (is_word(word, b"creg")
+            || (is_word(word, b"gate") || (is_word(word, b"if") || is_word(word, b"include"))))
 }
 
 fn is_kept_too(word: &[u8]) -> bool
     ensures { result ≡ is_kept_too word.now }
 {
-    word == b"measure".as_slice()
-        || (word == b"opaque".as_slice()
-            || (word == b"qreg".as_slice()
-                || (word == b"reset".as_slice() || word == b"pi".as_slice())))
+    is_word(word, b"measure")
+        || (is_word(word, b"opaque")
+            || (is_word(word, b"qreg") || (is_word(word, b"reset") || is_word(word, b"pi"))))
 }

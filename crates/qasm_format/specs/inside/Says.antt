@@ -18,9 +18,10 @@ use Rattle.gate_split.specs.declared.plan.TheConstants.{MOST_LINES, MOST_GATES}
 use Rattle.qasm_lexer.specs.Tokens.{is_identifier, is_number, Left, Takes}
 use Rattle.qasm_lexer.specs.declared.words.TheConstants.{MOST_DIGITS}
 use Rattle.qasm_format.specs.Registers.{lines_of_all}
-use Rattle.qasm_format.specs.Stages.{Said, Stage, starts, wants, wants_size, wants_argument, behind_name, behind_argument, declared, HasRoom, StandForGates}
+use Rattle.qasm_format.specs.Stages.{Said, Stage, starts, wants, wants_size, wants_argument, behind_name, wants_index, behind_argument}
+use Rattle.qasm_format.specs.Stages.{declared, HasRoom, StandForGates}
 use Rattle.qasm_format.specs.Stages.{Leads}
-use Rattle.qasm_format.specs.Qasm.{Reads, QasmView}
+use Rattle.qasm_format.specs.Qasm.{Reads}
 use Rattle.qasm_format.specs.Faults.{IsStop}
 
 -- this word led on, whatever comes behind it
@@ -127,19 +128,28 @@ pub record StopsAtArgument (old : Left) (registers : List Register)
   pub says : (usage : Use) (spots : List Spot) (said : Said) → said.registers ≡ registers
       → IsStop old (wants_argument usage spots said) fault
 
--- a control and the comma behind it were read
-pub record ReadsControl (old new : Left) (registers : List Register) (spot : Spot) : Type 0 where
-  pub below : SpotBelow (lines_of_all registers) spot
-  pub reads : (controls : ℕ) (spots : List Spot) (said : Said) → said.registers ≡ registers
-      → length spots < controls
-      → Reads old new (wants_argument (Flip controls) spots said)
-      (wants_argument (Flip controls) (spots ++ spot ∷ []) said)
+-- the index behind a bracket was read, and the token behind the argument was taken
+pub record ReadsIndex (old new : Left) (first size : ℕ) (spot : Spot) (word : List ℕ)
+    (at : Place) : Type 0 where
+  pub index : ℕ
+  pub line : spot ≡ Line (first + index)
+  pub inside : index < size
+  pub mid : Left
+  pub reads : (usage : Use) (spots : List Spot) (said : Said)
+      → Reads old mid (wants_index usage spots first size said)
+      (behind_argument usage (spots ++ Line (first + index) ∷ []) said)
+  pub takes : Takes mid new word at
 
-pub record StopsAtControl (old : Left) (registers : List Register)
-    (fault : QasmFault) : Type 0 where
-  pub says : (controls : ℕ) (spots : List Spot) (said : Said) → said.registers ≡ registers
-      → length spots < controls
-      → IsStop old (wants_argument (Flip controls) spots said) fault
+pub record StopsAtIndex (old : Left) (first size : ℕ) (fault : QasmFault) : Type 0 where
+  pub says : (usage : Use) (spots : List Spot) (said : Said)
+      → IsStop old (wants_index usage spots first size said) fault
+
+-- an argument was read and put behind the others, and the token behind it was taken
+pub record PushesSpot (old new : Left) (registers : List Register) (before after : List Spot)
+    (word : List ℕ) (at : Place) : Type 0 where
+  pub spot : Spot
+  pub reads : ReadsArgument old new registers spot word at
+  pub pushed : after ≡ before ++ spot ∷ []
 
 -- a barrier was read, behind its word
 pub record ReadsBarrier (old new : Left) (registers : List Register) : Type 0 where
@@ -159,6 +169,12 @@ said_of held = record {
   registers = held.declared.registers;
   gates = held.gates.items;
 }
+
+-- nothing was said before
+pub record IsFirst (held : Held) : Type 0 where
+  pub included : held.included ≡ false
+  pub declared : held.declared ≡ record { names = []; registers = [] }
+  pub gates : held.gates.items ≡ []
 
 -- the gates stand on the lines of the registers, within their limit
 pub record IsSound (held : Held) : Type 0 where
@@ -245,13 +261,3 @@ pub record StopsOn (old : Left) (word : List ℕ) (said : Said) (fault : QasmFau
 abbrev pub StopsBehind : Left → List ℕ → Place → Said → QasmFault → Type 0
 StopsBehind old word at said fault =
     ((fault ≡ Token at) × BeginsNone word said) ⊎ StopsOn old word said fault
-
--- what is left leads from a stage to the end of a statement and of the text, and says this file
-pub record ReadsFile (old : Left) (from : Stage) (file : QasmView) : Type 0 where
-  pub last : Left
-  pub said : Said
-  pub reads : Reads old last from (starts said)
-  pub ended : last.bytes ≡ []
-  pub registers : file.registers ≡ said.registers
-  pub gates : file.gates ≡ said.gates
-  pub some : 1 ≤ lines_of_all said.registers

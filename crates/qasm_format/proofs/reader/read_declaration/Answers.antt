@@ -2,12 +2,12 @@ use Rattle.std.proofs.Common.{sym, ◌∙◌, subst}
 use Rattle.std.proofs.lemmas.Bool.{false≢true}
 use Rattle.mct_circuit.specs.Gates.{AreGatesOn}
 use Rattle.qasm_format.specs.Registers.{lines_of_all}
-use Rattle.qasm_format.specs.Stages.{wants_name, starts}
+use Rattle.qasm_format.specs.Stages.{wants_name, starts, HasRoom}
 use Rattle.qasm_format.specs.Qasm.{Reads}
 use Rattle.qasm_format.specs.Faults.{IsStop}
 use Rattle.qasm_format.specs.inside.Names.{DeclaredView}
 use Rattle.qasm_format.specs.inside.Says.{said_of}
-use Rattle.revc_base.proofs.ResultLemmas.{passes_on}
+use Rattle.revc_base.proofs.ResultLemmas.{passes_on, no_promise}
 use Rattle.qasm_format.proofs.ReadingLemmas.{reads_then, stops_later}
 use Rattle.qasm_format.proofs.StageLemmas.{fault_at_name, kept_at_name, reads_name}
 use Rattle.qasm_format.proofs.DeclaredLemmas.{among_has, none_has, not_among}
@@ -56,3 +56,29 @@ returns-clause-sound c = record {
       c.requires.placed);
   few = c.requires.few;
 }
+
+pub returns-in_err-name-clause-ok : goal.returns-in_err-name-clause-ok
+returns-in_err-name-clause-ok c = no_promise c.from_residual.result _ _ c.from_residual.ensures.1
+
+pub returns-in_err-name-clause-sound : goal.returns-in_err-name-clause-sound
+returns-in_err-name-clause-sound c = no_promise c.from_residual.result _ _ c.from_residual.ensures.1
+
+pub returns-in_err-size-clause-ok : goal.returns-in_err-size-clause-ok
+returns-in_err-size-clause-ok c = no_promise c.from_residual-in_err-size.result _ _ c.from_residual-in_err-size.ensures.1
+
+pub returns-in_err-size-clause-sound : goal.returns-in_err-size-clause-sound
+returns-in_err-size-clause-sound c = no_promise c.from_residual-in_err-size.result _ _ c.from_residual-in_err-size.ensures.1
+
+pub returns-in_err-push-clause-ok : goal.returns-in_err-push-clause-ok
+returns-in_err-push-clause-ok c = no_promise c.from_residual-in_err-push.result _ _ c.from_residual-in_err-push.ensures.1
+
+pub returns-in_err-push-clause-sound : goal.returns-in_err-push-clause-sound
+returns-in_err-push-clause-sound c = no_promise c.from_residual-in_err-push.result _ _ c.from_residual-in_err-push.ensures.1
+
+pub returns-in_err-push-clause-err : goal.returns-in_err-push-clause-err
+returns-in_err-push-clause-err c =
+    passes_on (IsStop c.args.tokens.now (wants_name c.args.kind (said_of c.args.said.now))) c.from_residual-in_err-push.result
+    c.from_residual-in_err-push.ensures.1 tt
+
+pub push-requires-clause-room : goal.push-requires-clause-room
+push-requires-clause-room c = subst (HasRoom c.args.kind c.in_ok-size.size) c.lines.ensures.lines c.in_ok-size.ensures.ok.room

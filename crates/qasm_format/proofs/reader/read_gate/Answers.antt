@@ -7,7 +7,7 @@ use Rattle.qasm_format.specs.Stages.{wants_argument}
 use Rattle.qasm_format.specs.Faults.{IsStop}
 use Rattle.qasm_format.specs.inside.Says.{said_of, AddsGates, IsGateFault, SpotBelow}
 use Rattle.qasm_format.proofs.PassingLemmas.{fault_becomes, ok_becomes}
-use Rattle.revc_base.proofs.ResultLemmas.{passes_on}
+use Rattle.revc_base.proofs.ResultLemmas.{passes_on, no_promise}
 use Rattle.qasm_format.proofs.ArgumentLemmas.{all_below_most, sound_after}
 use Rattle.qasm_format.proofs.reader.read_gate.Goals as goal
 
@@ -46,3 +46,9 @@ returns-clause-err c =
     fault_becomes _ _ c.add_gates.result c.add_gates.ensures.err
     (λ (fault : QasmFault) stops. c.in_ok-end.ensures.ok.fails (said_of c.args.said.now) fault refl
     (subst (λ (ss : List Spot). IsGateFault c.in_ok-end.end ss c.args.said.now.gates.items fault) c.deref.ensures.value stops))
+
+pub returns-in_err-end-clause-ok : goal.returns-in_err-end-clause-ok
+returns-in_err-end-clause-ok c = no_promise c.from_residual.result _ _ c.from_residual.ensures.1
+
+pub returns-in_err-end-clause-sound : goal.returns-in_err-end-clause-sound
+returns-in_err-end-clause-sound c = no_promise c.from_residual.result _ _ c.from_residual.ensures.1

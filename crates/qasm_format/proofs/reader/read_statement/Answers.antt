@@ -1,16 +1,15 @@
-use Rattle.std.proofs.Common.{List, ℕ, length, sym, ◌∙◌, subst, codes, true}
+use Rattle.std.proofs.Common.{List, ℕ, length, sym, ◌∙◌, subst}
 use Rattle.std.proofs.lemmas.Bool.{eqb-true}
 use Rattle.std.proofs.lemmas.List.{nil_from_length}
 use Rattle.qasm_format.specs.declared.file.QasmFault.{QasmFault}
-use Rattle.qasm_format.specs.Stages.{starts, wants}
+use Rattle.qasm_format.specs.Stages.{starts}
 use Rattle.qasm_format.specs.Faults.{IsStop}
 use Rattle.qasm_lexer.specs.Tokens.{Takes}
 use Rattle.qasm_format.specs.inside.Says.{said_of}
 use Rattle.qasm_format.proofs.PassingLemmas.{fault_becomes}
-use Rattle.revc_base.proofs.ResultLemmas.{passes_on}
+use Rattle.revc_base.proofs.ResultLemmas.{passes_on, no_value, no_promise}
 use Rattle.text_places.proofs.RunLemmas.{some_text}
-use Rattle.qasm_format.proofs.ReadingLemmas.{eq_word, reads_next, stops_later}
-use Rattle.qasm_format.proofs.StatementLemmas.{no_line, statement_read, statement_stops, include_begins, goes_on, read_behind}
+use Rattle.qasm_format.proofs.StatementLemmas.{no_line, statement_read, statement_stops}
 use Rattle.qasm_format.proofs.reader.read_statement.Goals as goal
 
 pub returns-then-is_empty-clause-err : goal.returns-then-is_empty-clause-err
@@ -20,33 +19,21 @@ returns-then-is_empty-clause-err c =
     fault_becomes _ _ c.end_of.result c.end_of.ensures.err (λ (fault : QasmFault) h. subst (IsStop c.args.tokens.now (starts (said_of c.args.said.now)))
     (sym h.0) (no_line _ _ c.next-token.result.at (said_of c.args.said.now) takes h.1))
 
-pub returns-then-said-clause-ok : goal.returns-then-said-clause-ok
-returns-then-said-clause-ok c =
-    let some = some_text c.next-token.result.word.now (sym c.is_empty.ensures ∙ c.if-is_empty.false) in
-    goes_on c.read_other.result _ _ _ _ c.read_other.ensures.more
-    (read_behind c.read_other.result _ _ _ c.next-token.result.word.now c.next-token.result.at _ _ c.next-token.ensures some c.read_other.ensures.ok)
+pub returns-in_err-read_begun-clause-ok : goal.returns-in_err-read_begun-clause-ok
+returns-in_err-read_begun-clause-ok c = no_value c.from_residual.result _ _ c.from_residual.ensures.1
 
-pub returns-then-said-clause-err : goal.returns-then-said-clause-err
-returns-then-said-clause-err c =
-    let some = some_text c.next-token.result.word.now (sym c.is_empty.ensures ∙ c.if-is_empty.false) in
-    fault_becomes _ _ c.read_other.result c.read_other.ensures.err
-    (λ (fault : QasmFault) h. statement_stops _ _ c.next-token.result.word.now c.next-token.result.at (said_of c.args.said.now) fault
-    c.next-token.ensures some h)
+pub returns-in_err-read_begun-clause-sound : goal.returns-in_err-read_begun-clause-sound
+returns-in_err-read_begun-clause-sound c = no_promise c.from_residual.result _ _ c.from_residual.ensures.1
 
-pub returns-in_err-read_include-clause-err : goal.returns-in_err-read_include-clause-err
-returns-in_err-read_include-clause-err c =
+pub returns-in_err-read_begun-clause-err : goal.returns-in_err-read_begun-clause-err
+returns-in_err-read_begun-clause-err c =
     let some = some_text c.next-token.result.word.now (sym c.is_empty.ensures ∙ c.if-is_empty.false) in
-    let same = eq_word c.next-token.result.word.now c.as_slice.result.now (codes "include") c.as_slice.ensures (sym c.ne.ensures ∙ c.if-ne.false) in
     passes_on (IsStop c.args.tokens.now (starts (said_of c.args.said.now))) c.from_residual.result c.from_residual.ensures.1
-    (stops_later _ (reads_next (starts (said_of c.args.said.now)) _ c.next-token.ensures some
-    (include_begins c.next-token.result.word.now (said_of c.args.said.now) c.if-said.false same)) (c.in_err-read_include.ensures.err.says _))
+    (statement_stops _ _ c.next-token.result.word.now c.next-token.result.at (said_of c.args.said.now) _ c.next-token.ensures some
+    c.in_err-read_begun.ensures.err)
 
 pub returns-clause-ok : goal.returns-clause-ok
 returns-clause-ok c =
     let some = some_text c.next-token.result.word.now (sym c.is_empty.ensures ∙ c.if-is_empty.false) in
-    let same = eq_word c.next-token.result.word.now c.as_slice.result.now (codes "include") c.as_slice.ensures (sym c.ne.ensures ∙ c.if-ne.false) in
-    statement_read _ _ _ c.next-token.result.word.now c.next-token.result.at (said_of c.args.said.now) _ c.next-token.ensures some (record {
-      next = wants (codes "\"qelib1.inc\"") (wants (codes ";") (starts (record (said_of c.args.said.now) { included = true })));
-      begins = include_begins c.next-token.result.word.now (said_of c.args.said.now) c.if-said.false same;
-      reads = c.in_ok-read_include.ensures.ok.says _;
-    })
+    statement_read _ _ _ c.next-token.result.word.now c.next-token.result.at (said_of c.args.said.now) _ c.next-token.ensures some
+    c.in_ok-read_begun.ensures.ok

@@ -1,12 +1,13 @@
 use Rattle.std.proofs.Common.{length}
-use Rattle.qasm_format.specs.Stages.{starts}
+use Rattle.qasm_format.specs.Stages.{starts, head}
+use Rattle.qasm_lexer.specs.Tokens.{whole}
 use Rattle.qasm_format.specs.Qasm.{Reads}
 use Rattle.qasm_format.specs.inside.Says.{said_of, IsSound}
-use Rattle.qasm_format.proofs.reader.read_file.Given as goal
+use Rattle.qasm_format.proofs.reader.read_text.Given as goal
 
 abbrev pub invariant-statements : goal.invariant-statements
 invariant-statements l = record {
-  reads : Reads l.fn.tokens l.tokens (starts (said_of l.fn.said)) (starts (said_of l.said));
+  reads : Reads (whole l.bytes) l.tokens head (starts (said_of l.said));
   sound : IsSound l.said;
 }
 
