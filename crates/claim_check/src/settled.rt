@@ -2,9 +2,8 @@
 ghost use Rattle.std.specs.Prelude.{◌≡◌, ◌<◌, length, slice_get, Some, IfOk};
 ghost use Rattle.dependency_graph.specs.Folds.{graph_of};
 ghost use Rattle.dependency_graph.specs.Uses.{last_use_in};
-ghost use Rattle.claim_check.specs.Kept.{IsKeptPart};
-ghost use Rattle.claim_check.specs.Measures.{IsNoLarger};
-ghost use Rattle.claim_check.specs.Settled.{IsSettled, IsSettledOf, as_graph};
+ghost use Rattle.claim_check.specs.Settled.{IsSettled, as_graph};
+ghost use Rattle.claim_check.specs.inside.Parts.{IsSettledPart};
 
 use crate::keeping::kept_part;
 use dependency_graph::{Graph, Node, Sig, last_uses};
@@ -49,10 +48,7 @@ impl Settled {
     /// The nodes of a tape's graph on which an output rests, in time linear in the graph.
     pub(crate) fn of(graph: &Graph, tape: &Tape) -> Result<Settled, Memory>
         requires { graph.now ≡ graph_of tape.now }
-        ensures part { IfOk result (IsKeptPart graph.now) }
-        ensures settled { IfOk result IsSettled }
-        ensures of_tape { IfOk result (IsSettledOf tape.now) }
-        ensures no_larger { IfOk result (IsNoLarger tape.now) }
+        ensures { IfOk result (IsSettledPart tape.now graph.now) }
     {
         let inputs = tape.inputs();
         let (nodes, outputs) = kept_part(graph, tape)?;

@@ -1,26 +1,24 @@
+use Rattle.std.proofs.Common.{sym, subst}
+use Rattle.claim_check.specs.inside.Parts.{IsSettledPart}
 use Rattle.revc_base.proofs.ResultLemmas.{no_value}
 use Rattle.claim_check.proofs.settled.Settled.of.Goals as goal
 
-pub returns-in_err-nodes-clause-part : goal.returns-in_err-nodes-clause-part
-returns-in_err-nodes-clause-part c = no_value c.from_residual.result _ _ c.from_residual.ensures.1
+pub kept_part-requires-clause-of_tape : goal.kept_part-requires-clause-of_tape
+kept_part-requires-clause-of_tape c = c.requires
 
-pub returns-in_err-nodes-clause-settled : goal.returns-in_err-nodes-clause-settled
-returns-in_err-nodes-clause-settled c = no_value c.from_residual.result _ _ c.from_residual.ensures.1
+pub kept_part-requires-clause-tape : goal.kept_part-requires-clause-tape
+kept_part-requires-clause-tape c = c.inputs-inputs.ensures.tape
 
-pub returns-in_err-nodes-clause-of_tape : goal.returns-in_err-nodes-clause-of_tape
-returns-in_err-nodes-clause-of_tape c = no_value c.from_residual.result _ _ c.from_residual.ensures.1
+pub returns-in_err-nodes : goal.returns-in_err-nodes
+returns-in_err-nodes c = no_value c.from_residual.result _ _ c.from_residual.ensures.1
 
-pub returns-in_err-nodes-clause-no_larger : goal.returns-in_err-nodes-clause-no_larger
-returns-in_err-nodes-clause-no_larger c = no_value c.from_residual.result _ _ c.from_residual.ensures.1
+pub returns-in_err-last_uses : goal.returns-in_err-last_uses
+returns-in_err-last_uses c = no_value c.from_residual-in_err-last_uses.result _ _ c.from_residual-in_err-last_uses.ensures.1
 
-pub returns-in_err-last_uses-clause-part : goal.returns-in_err-last_uses-clause-part
-returns-in_err-last_uses-clause-part c = no_value c.from_residual-in_err-last_uses.result _ _ c.from_residual-in_err-last_uses.ensures.1
-
-pub returns-in_err-last_uses-clause-settled : goal.returns-in_err-last_uses-clause-settled
-returns-in_err-last_uses-clause-settled c = no_value c.from_residual-in_err-last_uses.result _ _ c.from_residual-in_err-last_uses.ensures.1
-
-pub returns-in_err-last_uses-clause-of_tape : goal.returns-in_err-last_uses-clause-of_tape
-returns-in_err-last_uses-clause-of_tape c = no_value c.from_residual-in_err-last_uses.result _ _ c.from_residual-in_err-last_uses.ensures.1
-
-pub returns-in_err-last_uses-clause-no_larger : goal.returns-in_err-last_uses-clause-no_larger
-returns-in_err-last_uses-clause-no_larger c = no_value c.from_residual-in_err-last_uses.result _ _ c.from_residual-in_err-last_uses.ensures.1
+pub returns : goal.returns
+returns c =
+    subst (λ n. IsSettledPart c.args.tape.now c.args.graph.now (record {
+      inputs = n;
+      nodes = c.in_ok-nodes.nodes.items;
+      outputs = c.in_ok-nodes.outputs.items;
+    })) (sym c.inputs-inputs.ensures.inputs) c.in_ok-nodes.ensures
