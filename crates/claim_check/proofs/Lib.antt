@@ -1,5 +1,6 @@
 pub mod BaseLemmas
 pub mod BudgetLemmas
+pub mod ChainLemmas
 pub mod FunctionLemmas
 pub mod KeptLemmas
 pub mod LabelLemmas

@@ -1,11 +1,12 @@
 -- The order of the variables as a table, and the place of each input in it.
 use Rattle.std.proofs.Common.{◌≡◌, ◌≢◌, ℕ, zero, suc, ◌+◌, ◌-◌, ◌<◌, ◌≤◌, inl, inr, List, [], ◌∷◌, ◌++◌, length, get_or, set, sum, slice_get, Some, refl, sym}
+use Rattle.std.proofs.Common.{Bool, true, false, cond, nat_lt, drop}
 use Rattle.std.proofs.Common.{ap}
 use Rattle.std.proofs.Common.{◌∙◌, append-nil, subst, arith}
 use Rattle.std.specs.List.{AllByRecursion, flat_map}
 use Rattle.std.proofs.lemmas.Bool.{cases_eq, cases_lt, le-ltb}
 use Rattle.std.proofs.lemmas.Grind.{flat_map-append}
-use Rattle.std.proofs.lemmas.List.{get_or-set_same, get_or-set_other}
+use Rattle.std.proofs.lemmas.List.{append_assoc, drop_more, get_or-set_same, get_or-set_other}
 use Rattle.std.proofs.lemmas.List.Sums.{sum_by-cons}
 use Rattle.std.proofs.lemmas.Option.{slice_get-get_or}
 use Rattle.list_facts.specs.Lists.{IsAmong, AreDifferent, below}
@@ -61,6 +62,31 @@ order_more params so_far now place pushed is =
     pushed ∙ ap (λ (z : List ℕ). z ++ at place) is
     ∙ sym (ap (flat_map at) (below_next place) ∙ flat_map-append at (below place) (place ∷ [])
     ∙ ap (λ (z : List ℕ). flat_map at (below place) ++ z) (append-nil (at place)))
+
+-- ---- one more parameter
+
+pub sum_next : (params : List ℕ) (k : ℕ) → k < length params → sum (drop k params) ≡ get_or params k 0 + sum (drop (k + 1) params)
+sum_next params k inside = ap sum (drop_more params k 0 inside) ∙ sum_by-cons (λ (n : ℕ). n) (get_or params k 0) (drop (k + 1) params)
+
+inputs_next : (params : List ℕ) (place first k : ℕ) (here : List ℕ) → k < length params
+    → cond (nat_lt place (get_or params k 0)) ((first + place) ∷ []) [] ≡ here
+    → inputs_at place first (drop k params) ≡ here ++ inputs_at place (first + get_or params k 0) (drop (k + 1) params)
+inputs_next params place first k here inside is =
+    let later = inputs_at place (first + get_or params k 0) (drop (k + 1) params) in
+    ap (inputs_at place first) (drop_more params k 0 inside) ∙ by (nat_lt place (get_or params k 0)) later ∙ ap (λ (z : List ℕ). z ++ later) is
+  where
+    by : (t : Bool) (later : List ℕ) → cond t ((first + place) ∷ later) later ≡ cond t ((first + place) ∷ []) [] ++ later
+    by true later = refl
+    by false later = refl
+
+-- what a parameter gives was put behind the others
+pub inputs_more : (params so_far now all : List ℕ) (place first k : ℕ) (here : List ℕ) → k < length params
+    → cond (nat_lt place (get_or params k 0)) ((first + place) ∷ []) [] ≡ here → now ≡ so_far ++ here → so_far ++ inputs_at place first (drop k params) ≡ all
+    → now ++ inputs_at place (first + get_or params k 0) (drop (k + 1) params) ≡ all
+inputs_more params so_far now all place first k here inside gives is before =
+    let later = inputs_at place (first + get_or params k 0) (drop (k + 1) params) in
+    ap (λ (z : List ℕ). z ++ later) is ∙ append_assoc so_far here later
+    ∙ sym (ap (λ (z : List ℕ). so_far ++ z) (inputs_next params place first k here inside gives)) ∙ before
 
 -- ---- the table of places
 

@@ -83,3 +83,21 @@ chain-preserved c =
 
 pub returns-in_err-numbers-clause-made : goal.returns-in_err-numbers-clause-made
 returns-in_err-numbers-clause-made c = no_promise c.from_residual.result _ _ c.from_residual.ensures.1
+
+pub number_of-requires-clause-tape : goal.number_of-requires-clause-tape
+number_of-requires-clause-tape c = c.inputs.ensures.tape
+
+pub number_of-requires-clause-known : goal.number_of-requires-clause-known
+number_of-requires-clause-known c = c.ref_at-made.ensures.known
+
+pub returns-in_err-numbers-clause-limit : goal.returns-in_err-numbers-clause-limit
+returns-in_err-numbers-clause-limit c = c.number_of.ensures.kept.limit ∙ c.chain.invariant.3
+
+pub ref_at-made-requires : goal.ref_at-made-requires
+ref_at-made-requires c = omega (arith, c.chain-test.true, c.inputs.ensures.inputs, c.len.ensures.len)
+
+pub returns-clause-limit : goal.returns-clause-limit
+returns-clause-limit c = c.chain.invariant.3
+
+pub returns-clause-members : goal.returns-clause-members
+returns-clause-members c = c.chain.invariant.0
