@@ -74,8 +74,9 @@ fn kept_marks(alloc: Global, graph: &Graph) -> Result<Vec<bool>, Memory>
         (flat_map base_of graph.now.outputs)) 0 graph.now.nodes) }
 {
     let mut marks = vec![in alloc; false; graph.nodes() as usize]?;
-    mark_outputs(&mut marks, graph.outputs());
-    mark_nodes(&mut marks, graph);
+    let all = marks.as_mut_slice();
+    mark_outputs(all, graph.outputs());
+    mark_nodes(all, graph);
     Ok(marks)
 }
 

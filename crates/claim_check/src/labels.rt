@@ -71,7 +71,8 @@ pub fn labels(tape: &Tape) -> Result<Vec<u32>, Memory>
     let none = tape.claims().len() as u32;
     let slots = (tape.inputs() + tape.len()) as usize;
     let mut labels = vec![in *tape.allocator(); none; slots]?;
-    label_claims(tape, &mut labels);
-    label_operands(tape, &mut labels);
+    let all = labels.as_mut_slice();
+    label_claims(tape, all);
+    label_operands(tape, all);
     Ok(labels)
 }
