@@ -1,4 +1,4 @@
-use Rattle.std.proofs.Common.{sym, ◌∙◌, subst}
+use Rattle.std.proofs.Common.{sym, ◌∙◌, subst, arith}
 use Rattle.std.proofs.lemmas.Bool.{false≢true}
 use Rattle.mct_circuit.specs.Gates.{AreGatesOn}
 use Rattle.qasm_format.specs.Registers.{lines_of_all}
@@ -9,7 +9,7 @@ use Rattle.qasm_format.specs.inside.Names.{DeclaredView}
 use Rattle.qasm_format.specs.inside.Says.{said_of}
 use Rattle.revc_base.proofs.ResultLemmas.{passes_on, no_promise}
 use Rattle.qasm_format.proofs.ReadingLemmas.{reads_then, stops_later}
-use Rattle.qasm_format.proofs.StageLemmas.{fault_at_name, kept_at_name, reads_name}
+use Rattle.qasm_format.proofs.StageLemmas.{some_identifier, fault_at_name, kept_at_name, reads_name}
 use Rattle.qasm_format.proofs.DeclaredLemmas.{among_has, none_has, not_among}
 use Rattle.qasm_format.proofs.DeclarationLemmas.{free_is_name, name_is_free, gates_stay_on}
 use Rattle.qasm_format.proofs.reader.read_declaration.Goals as goal
@@ -82,3 +82,9 @@ returns-in_err-push-clause-err c =
 
 pub push-requires-clause-room : goal.push-requires-clause-room
 push-requires-clause-room c = subst (HasRoom c.args.kind c.in_ok-size.size) c.lines.ensures.lines c.in_ok-size.ensures.ok.room
+
+pub is_free-requires : goal.is_free-requires
+is_free-requires c = some_identifier _ c.in_ok-name.ensures.ok.spelled
+
+pub take_size-requires : goal.take_size-requires
+take_size-requires c = omega (arith, c.lines.ensures.lines, c.lines.ensures.few)
