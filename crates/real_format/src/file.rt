@@ -8,7 +8,7 @@ use std::alloc::AllocError;
 use std::marker::Model;
 
 /// What a `.real` file says of the bit with which a line starts: nothing (`-`), 0 or 1.
-#[derive(Clone, Copy, Debug, PartialEq, Eq)]
+#[derive(Clone, Copy, PartialEq)]
 pub enum Mark {
     Free,
     Zero,
@@ -18,7 +18,7 @@ pub enum Mark {
 /// Why a text means no file: its first line that breaks a rule of form, or passes a limit. Lines
 /// are counted from 1, the empty ones too; a text that ends before `.end` is refused at one more
 /// than the number of its lines. `Memory` is want of memory.
-#[derive(Clone, Copy, Debug, PartialEq, Eq)]
+#[derive(Clone, Copy, Debug)]
 pub enum RealFault {
     Line { number: u32 },
     Limit { number: u32 },
@@ -43,7 +43,7 @@ impl From<revc_base::Memory> for RealFault {
 
 /// A file: for each line its name, the bit with which it starts and whether its last bit is of no
 /// use, and the circuit on these lines. Contracts see it as the names, the marks and the gates.
-#[derive(Debug, Drop)]
+#[derive(Drop)]
 pub struct RealFile {
     names: Vec<Text>,
     constants: Vec<Mark>,
