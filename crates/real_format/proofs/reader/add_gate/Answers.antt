@@ -1,7 +1,7 @@
-use Rattle.std.proofs.Common.{◌+◌, ◌<◌, refl, sym, ap, ◌∙◌, subst}
+use Rattle.std.proofs.Common.{◌+◌, ◌<◌, length, refl, sym, ap, ◌∙◌, subst}
 use Rattle.std.specs.List.{AllByRecursion}
 use Rattle.real_format.specs.inside.Reading.{Refuses, more_gates}
-use Rattle.revc_base.proofs.ResultLemmas.{passes_on}
+use Rattle.revc_base.proofs.ResultLemmas.{passes_on, no_promise}
 use Rattle.real_format.proofs.GateListLemmas.{no_room, gate_refused, gate_added, memory_refuses, fits_fresh, fits_more}
 use Rattle.real_format.proofs.reader.add_gate.Goals as goal
 
@@ -38,3 +38,12 @@ returns-clause-fits c =
 pub returns-clause-err : goal.returns-clause-err
 returns-clause-err c = memory_refuses (more_gates c.args.names.now c.args.circuit.now.gates c.args.shape c.args.words.now) c.push_gate.result
     c.push_gate.ensures.err
+
+pub gate_of-requires-clause-fit : goal.gate_of-requires-clause-fit
+gate_of-requires-clause-fit c = ap length c.deref_mut.ensures.value ∙ c.requires.room
+
+pub returns-in_err-gate-clause-ok : goal.returns-in_err-gate-clause-ok
+returns-in_err-gate-clause-ok c = no_promise c.from_residual.result _ _ c.from_residual.ensures.1
+
+pub returns-in_err-gate-clause-fits : goal.returns-in_err-gate-clause-fits
+returns-in_err-gate-clause-fits c = no_promise c.from_residual.result _ _ c.from_residual.ensures.1
