@@ -2,7 +2,6 @@
 use Rattle.std.proofs.Common.{◌≡◌, ℕ, suc, ◌+◌, ◌<◌, Bool, true, false, not, ◌==◌, ◌⊎◌, inl, inr, eqb, if◌then◌else◌, List, [], ◌∷◌, length, get_or, take, drop}
 use Rattle.std.proofs.Common.{refl, sym, ap, ◌∙◌, subst, arith, min, map}
 use Rattle.std.specs.List.{prefix_len}
-use Rattle.std.proofs.lemmas.Grind.{common_steps}
 use Rattle.std.proofs.lemmas.Bool.{cases_Bool, eq-eqb}
 use Rattle.real_format.specs.Words.{lines_of_text, onto_first, words_of_line, before_comment, said_words, said_lines, is_blank, is_comment}
 
@@ -113,7 +112,7 @@ one_dropped : (text : List ℕ) → drop (min (length text) 1) text ≡ behind_f
 unfolding behind_feed
 one_dropped [] = refl
 one_dropped (b ∷ bs) =
-    let one : min (length (b ∷ bs)) 1 ≡ suc 0 = grind (arith, common_steps) in
+    let one : min (length (b ∷ bs)) 1 ≡ suc 0 = omega arith in
     ap (λ k. drop k (b ∷ bs)) one
 
 line_cut : (text : List ℕ) (len : ℕ) → 0 < length text → len ≡ prefix_len (λ b. not (b == 10)) text
