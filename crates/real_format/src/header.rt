@@ -249,8 +249,8 @@ impl<'t> Header<'t> {
         let Some(lines) = self.lines else {
             return Err(LineRefusal::Form);
         };
-        self.names = Some(names_of(alloc, lines, words)?);
-        Ok(())
+        let names = self.names.get_or_insert(Names::new(alloc));
+        add_names(names, lines, words)
     }
 
     fn add_inputs(&mut self) -> Result<(), LineRefusal>
@@ -332,16 +332,6 @@ fn count_of(words: &mut Words) -> Result<u32, LineRefusal>
         return Err(LineRefusal::Form);
     }
     Ok(count)
-}
-
-// So many names: all words that are left.
-fn names_of<'t>(alloc: Global, count: u32, words: &mut Words<'t>) -> Result<Names<'t>, LineRefusal>
-    ensures ok { IfOk result (λ names. names_from count [] words.old ≡ Ok names) }
-    ensures err { IfErr result (Refuses (names_from count [] words.old)) }
-{
-    let mut names = Names::new(alloc);
-    add_names(&mut names, count, words)?;
-    Ok(names)
 }
 
 // Puts all words that are left behind the names, which are then so many.
