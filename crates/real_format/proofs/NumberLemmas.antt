@@ -1,10 +1,11 @@
 -- The number that a word's digits write, which is kept below a limit as it is read.
-use Rattle.std.proofs.Common.{◌≡◌, ℕ, ◌+◌, ◌-◌, ◌*◌, ◌<◌, ◌≤◌, Bool, true, false, ◌&&◌, if◌then◌else◌, List, [], ◌∷◌, length, Option, Some, None, refl, sym, ap}
-use Rattle.std.proofs.Common.{◌∙◌, arith, min, inl, inr}
+use Rattle.std.proofs.Common.{◌≡◌, ℕ, ◌+◌, ◌-◌, ◌*◌, ◌<◌, ◌≤◌, Bool, true, false, ◌&&◌, if◌then◌else◌, List, [], ◌∷◌, length, drop, get_or, Option, Some, None, refl}
+use Rattle.std.proofs.Common.{sym, ap, ◌∙◌, arith, min, inl, inr}
 use Rattle.std.specs.Option.{option_map}
 use Rattle.std.specs.List.{list_all}
 use Rattle.std.specs.Char.{is_ascii_digit, digit_value}
 use Rattle.std.specs.Str.Parse.{digits_value, digits_value_after, AllDigits}
+use Rattle.std.proofs.lemmas.List.{drop_more}
 use Rattle.std.proofs.lemmas.Str.{digit_value_digit}
 use Rattle.std.proofs.lemmas.Bool.{cases_Bool, and_parts}
 use Rattle.std.proofs.lemmas.Bool.Decides.{nat_tests}
@@ -15,6 +16,26 @@ abbrev pub capped_from : ℕ → ℕ → List ℕ → Option ℕ
 capped_from most n [] = Some n
 capped_from most n (b ∷ bs) =
     if is_ascii_digit b then capped_from most (min (10 * n + (b - 48)) (most + 1)) bs else None
+
+at_byte : (most value : ℕ) (word : List ℕ) (k : ℕ) → k < length word → capped_from most value (drop k word)
+    ≡ (if is_ascii_digit (get_or word k 0) then capped_from most (min (10 * value + (get_or word k 0 - 48)) (most + 1)) (drop (k + 1) word) else None)
+at_byte most value word k low = ap (capped_from most value) (drop_more word k 0 low)
+
+-- a digit was read
+pub one_digit : (most value next : ℕ) (word : List ℕ) (k : ℕ) → k < length word → is_ascii_digit (get_or word k 0) ≡ true
+    → next ≡ min (10 * value + (get_or word k 0 - 48)) (most + 1) → capped_from most value (drop k word) ≡ capped_from most 0 word
+    → capped_from most next (drop (k + 1) word) ≡ capped_from most 0 word
+one_digit most value next word k low digit is so_far =
+    ap (λ n. capped_from most n (drop (k + 1) word)) is
+    ∙ sym (at_byte most value word k low ∙ ap (λ t. if t then capped_from most (min (10 * value + (get_or word k 0 - 48)) (most + 1)) (drop (k + 1) word)
+    else None) digit) ∙ so_far
+
+-- a byte is none
+pub no_digit : (most value : ℕ) (word : List ℕ) (k : ℕ) → k < length word → is_ascii_digit (get_or word k 0) ≡ false
+    → capped_from most value (drop k word) ≡ capped_from most 0 word → capped_from most 0 word ≡ None
+no_digit most value word k low other so_far =
+    sym so_far ∙ at_byte most value word k low
+    ∙ ap (λ t. if t then capped_from most (min (10 * value + (get_or word k 0 - 48)) (most + 1)) (drop (k + 1) word) else None) other
 
 pub digit_range : (b : ℕ) → is_ascii_digit b ≡ true → (48 ≤ b) × (b ≤ 57) × (digit_value b + 48 ≡ b)
 digit_range b e =

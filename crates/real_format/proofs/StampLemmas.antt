@@ -137,12 +137,12 @@ one_stamped stamps more stamp controls after control low is grown are = rw (is, 
 -- ---- steps one after another
 
 -- where the first step refuses, all does
-refuses_on : {A B : Type 0} (said : Result A LineRefusal) (f : A → Result B LineRefusal) (e : LineRefusal) → Refuses said e → Refuses (and_then said f) e
+pub refuses_on : {A B : Type 0} (said : Result A LineRefusal) (f : A → Result B LineRefusal) (e : LineRefusal) → Refuses said e → Refuses (and_then said f) e
 refuses_on said f Form is = ap (λ s. and_then s f) is
 refuses_on said f Limit is = ap (λ s. and_then s f) is
 refuses_on said f Memory is = tt
 
-refuses_same : {A : Type 0} (said other : Result A LineRefusal) (e : LineRefusal) → said ≡ other → Refuses other e → Refuses said e
+pub refuses_same : {A : Type 0} (said other : Result A LineRefusal) (e : LineRefusal) → said ≡ other → Refuses other e → Refuses said e
 refuses_same said other Form same is = same ∙ is
 refuses_same said other Limit same is = same ∙ is
 refuses_same said other Memory same is = tt
@@ -154,6 +154,16 @@ refused_plain names has word e plain refuses =
     let same : control_of names has word ≡ positive =
     ap (λ t. if t then and_then (line_of names has (drop 1 word)) (λ line. Ok (control_on false line)) else positive) plain in
     refuses_same (control_of names has word) positive e same (refuses_on (line_of names has word) (λ line. Ok (control_on true line)) e refuses)
+
+-- ---- a line
+
+-- what comes of a name, by the tests of its line
+pub line_is : (names : List (List ℕ)) (has : ℕ → Bool) (word : List ℕ) (signed long : Bool) (place : Option ℕ) → has_sign word ≡ signed
+    → is_long word ≡ long → position (bytes_eq word) names ≡ place
+    → line_of names has word
+    ≡ (if signed then Err Form else (if long then Err Limit else or_form place (λ line. if has line then Err Form else Ok line)))
+line_is names has word signed long place e f g =
+    λ i. if e i then Err Form else (if f i then Err Limit else or_form (g i) (λ line. if has line then Err Form else Ok line))
 
 -- ---- controls
 

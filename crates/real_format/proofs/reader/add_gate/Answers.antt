@@ -1,5 +1,6 @@
 use Rattle.std.proofs.Common.{◌+◌, ◌<◌, length, refl, sym, ap, ◌∙◌, subst}
 use Rattle.std.specs.List.{AllByRecursion}
+use Rattle.mct_circuit.specs.Gates.{lines_of}
 use Rattle.real_format.specs.inside.Reading.{Refuses, more_gates}
 use Rattle.revc_base.proofs.ResultLemmas.{passes_on, no_promise}
 use Rattle.real_format.proofs.GateListLemmas.{no_room, gate_refused, gate_added, memory_refuses, fits_fresh, fits_more}
@@ -47,3 +48,7 @@ returns-in_err-gate-clause-ok c = no_promise c.from_residual.result _ _ c.from_r
 
 pub returns-in_err-gate-clause-fits : goal.returns-in_err-gate-clause-fits
 returns-in_err-gate-clause-fits c = no_promise c.from_residual.result _ _ c.from_residual.ensures.1
+
+pub push_gate-requires-clause-placed : goal.push_gate-requires-clause-placed
+push_gate-requires-clause-placed c =
+    subst (λ n. AllByRecursion (λ line. line < n) (lines_of c.in_ok-gate.gate)) (sym c.requires.lines) c.in_ok-gate.ensures.placed.in_range

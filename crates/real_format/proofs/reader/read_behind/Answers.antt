@@ -6,7 +6,7 @@ use Rattle.real_format.specs.Header.{IsName}
 use Rattle.real_format.specs.Real.{RealView, in_gates}
 use Rattle.real_format.specs.inside.Reading.{IsFaultOf}
 use Rattle.real_format.specs.inside.Says.{verdict_on}
-use Rattle.revc_base.proofs.ResultLemmas.{passes_on}
+use Rattle.revc_base.proofs.ResultLemmas.{passes_on, no_value}
 use Rattle.real_format.proofs.reader.read_behind.Goals as goal
 
 pub returns-in_err-circuit-clause-err : goal.returns-in_err-circuit-clause-err
@@ -28,3 +28,21 @@ returns-clause-ok c = c.in_ok-circuit.ensures.ok
 
 pub returns-clause-lines : goal.returns-clause-lines
 returns-clause-lines c = c.in_ok-circuit.ensures.lines
+
+pub returns-in_err-circuit-clause-ok : goal.returns-in_err-circuit-clause-ok
+returns-in_err-circuit-clause-ok c = no_value c.from_residual.result _ _ c.from_residual.ensures.1
+
+pub returns-in_err-circuit-clause-names : goal.returns-in_err-circuit-clause-names
+returns-in_err-circuit-clause-names c = no_value c.from_residual.result _ _ c.from_residual.ensures.1
+
+pub returns-in_err-circuit-clause-lines : goal.returns-in_err-circuit-clause-lines
+returns-in_err-circuit-clause-lines c = no_value c.from_residual.result _ _ c.from_residual.ensures.1
+
+pub returns-in_err-texts-clause-ok : goal.returns-in_err-texts-clause-ok
+returns-in_err-texts-clause-ok c = no_value c.from_residual-in_err-texts.result _ _ c.from_residual-in_err-texts.ensures.1
+
+pub returns-in_err-texts-clause-names : goal.returns-in_err-texts-clause-names
+returns-in_err-texts-clause-names c = no_value c.from_residual-in_err-texts.result _ _ c.from_residual-in_err-texts.ensures.1
+
+pub returns-in_err-texts-clause-lines : goal.returns-in_err-texts-clause-lines
+returns-in_err-texts-clause-lines c = no_value c.from_residual-in_err-texts.result _ _ c.from_residual-in_err-texts.ensures.1

@@ -1,7 +1,7 @@
 use Rattle.std.proofs.Common.{sym, ap, ◌∙◌, subst}
 use Rattle.real_format.specs.Real.{RealView}
 use Rattle.real_format.specs.inside.Reading.{Refuses, gates_line, more_gates}
-use Rattle.revc_base.proofs.ResultLemmas.{passes_on}
+use Rattle.revc_base.proofs.ResultLemmas.{passes_on, no_value, no_promise}
 use Rattle.real_format.proofs.GateListLemmas.{line_ends, no_gate, line_adds, line_refuses, gates_end, gates_do_not_end}
 use Rattle.real_format.proofs.reader.read_gate_line.Goals as goal
 
@@ -42,3 +42,9 @@ returns-clause-ok c =
     c.as_slice.result.now c.in-Some.ensures c.as_slice.ensures (sym c.eq.ensures ∙ c.if-eq.false) (sym c.of.ensures ∙ c.in-Some-of.is)
     (ap (λ (v : RealView). more_gates v.names c.args.circuit.now.gates c.in-Some-of.shape c.next.new.self) (sym c.begun.view_is)
     ∙ c.in_ok-add_gate.ensures.ok)
+
+pub returns-in_err-add_gate-clause-ok : goal.returns-in_err-add_gate-clause-ok
+returns-in_err-add_gate-clause-ok c = no_value c.from_residual.result _ _ c.from_residual.ensures.1
+
+pub returns-in_err-add_gate-clause-fits : goal.returns-in_err-add_gate-clause-fits
+returns-in_err-add_gate-clause-fits c = no_promise c.from_residual.result _ _ c.from_residual.ensures.1
