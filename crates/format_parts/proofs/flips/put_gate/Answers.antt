@@ -21,3 +21,6 @@ returns-clause-bytes g c =
     let put = rw c.controls.ensures.controls at c.put_flip.ensures.bytes in
     subst (Gathers c.put_flip.result (g.K.Sink.held c.args.out.now) (g.K.Sink.held c.put_flip.new.out) c.args.buffer.now c.put_flip.new.buffer)
     (ap (op_text (g.W.FlipWriter.texts c.args.writer) c.args.gate.now.controls) c.in-Flip.ensures.op) put
+
+pub returns-clause-cause : goal.returns-clause-cause
+returns-clause-cause g c = c.put_flip.ensures.cause
