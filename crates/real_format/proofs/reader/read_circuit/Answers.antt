@@ -2,7 +2,7 @@ use Rattle.std.proofs.Common.{length, sym, ap, ◌∙◌, subst}
 use Rattle.real_format.specs.Real.{RealView, in_gates}
 use Rattle.real_format.specs.inside.Reading.{IsFaultOf}
 use Rattle.real_format.specs.inside.Says.{verdict_on}
-use Rattle.revc_base.proofs.ResultLemmas.{passes_on}
+use Rattle.revc_base.proofs.ResultLemmas.{passes_on, no_value}
 use Rattle.mct_circuit.specs.Gates.{CircuitView}
 use Rattle.real_format.proofs.GateListLemmas.{fits_at_first, without_gates}
 use Rattle.real_format.proofs.reader.read_circuit.Goals as goal
@@ -33,3 +33,15 @@ returns-clause-ok c =
 
 pub returns-clause-lines : goal.returns-clause-lines
 returns-clause-lines c = c.in_ok-read_gates.ensures.lines
+
+pub returns-in_err-stamps-clause-ok : goal.returns-in_err-stamps-clause-ok
+returns-in_err-stamps-clause-ok c = no_value c.from_residual.result _ _ c.from_residual.ensures.1
+
+pub returns-in_err-stamps-clause-lines : goal.returns-in_err-stamps-clause-lines
+returns-in_err-stamps-clause-lines c = no_value c.from_residual.result _ _ c.from_residual.ensures.1
+
+pub returns-in_err-read_gates-clause-ok : goal.returns-in_err-read_gates-clause-ok
+returns-in_err-read_gates-clause-ok c = no_value c.from_residual-in_err-read_gates.result _ _ c.from_residual-in_err-read_gates.ensures.1
+
+pub returns-in_err-read_gates-clause-lines : goal.returns-in_err-read_gates-clause-lines
+returns-in_err-read_gates-clause-lines c = no_value c.from_residual-in_err-read_gates.result _ _ c.from_residual-in_err-read_gates.ensures.1

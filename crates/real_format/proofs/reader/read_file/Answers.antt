@@ -2,7 +2,7 @@ use Rattle.std.proofs.Common.{Ok, length, sym, ap, ◌∙◌}
 use Rattle.real_format.specs.Real.{RealView, in_gates}
 use Rattle.real_format.specs.inside.Reading.{IsFaultOf}
 use Rattle.real_format.specs.inside.Says.{verdict_on}
-use Rattle.revc_base.proofs.ResultLemmas.{passes_on}
+use Rattle.revc_base.proofs.ResultLemmas.{passes_on, no_value}
 use Rattle.real_format.proofs.GateListLemmas.{file_made}
 use Rattle.real_format.proofs.reader.read_file.Goals as goal
 
@@ -26,3 +26,6 @@ pub returns-clause-ok : goal.returns-clause-ok
 returns-clause-ok c =
     c.in_ok-names.ensures.ok
     ∙ ap Ok (file_made c.args.begun _ c.new.result _ c.in_ok-names.circuit.gates c.in_ok-names.ensures.names c.begun.view_is c.new.ensures)
+
+pub returns-in_err-names-clause-ok : goal.returns-in_err-names-clause-ok
+returns-in_err-names-clause-ok c = no_value c.from_residual.result _ _ c.from_residual.ensures.1

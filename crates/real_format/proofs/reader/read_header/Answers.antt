@@ -4,7 +4,7 @@ use Rattle.real_format.specs.Header.{HeaderView, nothing_said}
 use Rattle.real_format.specs.Real.{in_header}
 use Rattle.real_format.specs.inside.Reading.{IsFaultOf}
 use Rattle.real_format.specs.inside.Says.{verdict_on, IsSound, BeginsGates}
-use Rattle.revc_base.proofs.ResultLemmas.{passes_on}
+use Rattle.revc_base.proofs.ResultLemmas.{passes_on, no_value}
 use Rattle.real_format.proofs.VerdictLemmas.{sound_at_first}
 use Rattle.real_format.proofs.TextLineLemmas.{file_begun, file_is_whole, memory_is_fault}
 use Rattle.real_format.proofs.reader.read_header.Goals as goal
@@ -33,3 +33,9 @@ returns-clause-whole c =
 
 pub returns-clause-err : goal.returns-clause-err
 returns-clause-err c = memory_is_fault (verdict_on (in_header nothing_said) c.args.lines.now) c.begin.result c.begin.ensures.err
+
+pub returns-in_err-read_header_lines-clause-ok : goal.returns-in_err-read_header_lines-clause-ok
+returns-in_err-read_header_lines-clause-ok c = no_value c.from_residual.result _ _ c.from_residual.ensures.1
+
+pub returns-in_err-read_header_lines-clause-whole : goal.returns-in_err-read_header_lines-clause-whole
+returns-in_err-read_header_lines-clause-whole c = no_value c.from_residual.result _ _ c.from_residual.ensures.1
