@@ -1,5 +1,6 @@
 -- Names that a text lends, in a set.
-use Rattle.std.proofs.Common.{◌≡◌, ℕ, zero, suc, ◌+◌, ◌<◌, not, ◌||◌, cond, List, [], ◌∷◌, ◌++◌, length, take, get_or, position, slice_get, Some, refl, sym, ap, ◌∙◌, arith, Bor}
+use Rattle.std.proofs.Common.{◌≡◌, ℕ, zero, suc, ◌+◌, ◌<◌, not, ◌||◌, cond, List, [], ◌∷◌, ◌++◌, length, take}
+use Rattle.std.proofs.Common.{get_or, position, slice_get, Some, refl, sym, ap, ◌∙◌, arith, Bor}
 use Rattle.std.specs.List.{list_any, prefix_len, AllByRecursion}
 use Rattle.std.specs.Str.{bytes_eq}
 use Rattle.std.proofs.lemmas.List.{length-map, get_or-map, take_more, map-append}

@@ -30,7 +30,7 @@ returns-clause-one_each c =
     ap length filled ∙ length-replicate (length c.args.graph.now.nodes) false in
     let rest = drop (length c.mark_nodes.new.marks) c.in_ok-marks.marks.items in
     let whole = whole_list c.in_ok-marks.marks.len _ c.mark_nodes.new.marks rest refl
-        (omega (arith, c.in_ok-marks.marks.ok.0, ap length c.as_mut_slice-all.ensures.value, c.mark_outputs.auto.marks, c.mark_nodes.auto.marks)) in
+    (omega (arith, c.in_ok-marks.marks.ok.0, ap length c.as_mut_slice-all.ensures.value, c.mark_outputs.auto.marks, c.mark_nodes.auto.marks)) in
     ap length whole ∙ omega (arith, size, ap length c.as_mut_slice-all.ensures.value, c.mark_outputs.auto.marks, c.mark_nodes.auto.marks)
 
 pub returns-clause-marks : goal.returns-clause-marks
@@ -39,7 +39,7 @@ returns-clause-marks c =
     c.in_ok-marks.ensures.items_if_clones_equal (λ y same. same) ∙ ap (λ (n : ℕ). replicate n false) c.nodes.ensures.nodes in
     let rest = drop (length c.mark_nodes.new.marks) c.in_ok-marks.marks.items in
     let whole = whole_list c.in_ok-marks.marks.len _ c.mark_nodes.new.marks rest refl
-        (omega (arith, c.in_ok-marks.marks.ok.0, ap length c.as_mut_slice-all.ensures.value, c.mark_outputs.auto.marks, c.mark_nodes.auto.marks)) in
+    (omega (arith, c.in_ok-marks.marks.ok.0, ap length c.as_mut_slice-all.ensures.value, c.mark_outputs.auto.marks, c.mark_nodes.auto.marks)) in
     let bases = flat_map base_of c.outputs.result.now in
     whole ∙ c.mark_nodes.ensures
     ∙ ap (λ (m : List Bool). with_nodes m 0 c.args.graph.now.nodes) (c.mark_outputs.ensures

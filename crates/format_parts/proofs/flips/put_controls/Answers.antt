@@ -25,7 +25,8 @@ loop-control-preserved g c =
     let first : Control = record { line = 0; positive = false } in
     let left = drop_more c.args.controls.now c.loop-control.control-index first (omega arith) in
     let texts : FlipTexts = g.W.FlipWriter.texts c.args.writer in
-    writing_more {piece = texts.control (get_or c.args.controls.now c.loop-control.control-index first).line} _ _ _ (ap (controls_text (g.W.FlipWriter.texts c.args.writer)) left) c.in_ok-put_control.ensures.bytes
+    writing_more {piece = texts.control (get_or c.args.controls.now c.loop-control.control-index first).line} _ _ _
+    (ap (controls_text (g.W.FlipWriter.texts c.args.writer)) left) c.in_ok-put_control.ensures.bytes
     c.in_ok-put_control.ensures.cause.stays c.loop-control.invariant
 
 pub returns-clause-bytes : goal.returns-clause-bytes
