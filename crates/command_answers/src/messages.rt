@@ -1,6 +1,7 @@
 // The lines for standard error. They take no memory.
 ghost use Rattle.std.specs.Prelude.{◌≡◌, ◌++◌, codes};
 ghost use Rattle.std.specs.Fmt.{decimal};
+ghost use Rattle.std.specs.List.{flat_map};
 ghost use Rattle.revc_io.specs.Faults.{HasCause};
 ghost use Rattle.revc_io.specs.Passing.{Gathers, Writes};
 ghost use Rattle.command_answers.specs.Faults.{bits_line, circuit_line, claim_line, diagram_line};
@@ -12,7 +13,7 @@ ghost use Rattle.command_answers.specs.Faults.{Receives};
 use crate::digits::{put_line_of_digits, put_number};
 use crate::fault::{CircuitRefusal, Fault, FaultKind, Refusal};
 use revc_base::Place;
-use revc_io::{Buffer, Failed, Sink, put_decimal};
+use revc_io::{Buffer, Failed, Sink};
 
 /// Writes the line of a fault. A fault of the sink changes nothing.
 pub fn report<E: Sink>(err: &mut E, fault: &Fault)
@@ -66,6 +67,7 @@ fn put_refusal<E: Sink>(buffer: &mut Buffer, err: &mut E, refusal: Refusal) -> R
     }
 }
 
+// Puts a kind of fault and its place.
 fn put_at<E: Sink>(
     buffer: &mut Buffer,
     err: &mut E,
@@ -76,31 +78,26 @@ fn put_at<E: Sink>(
         (codes "revc: " ++ (place_text at ++ (codes " " ++ (kind_text kind ++ codes "\n")))) }
     ensures cause { HasCause (E.faults err.old) (E.faults err.new) result }
 {
-    buffer.put(err, b"revc: ")?;
-    put_place(buffer, err, at)?;
+    put_numbered(
+        buffer,
+        err,
+        b"revc: ",
+        &[(at.line as u64, b":"), (at.column as u64, b" ")],
+    )?;
     put_kind(buffer, err, kind)
 }
 
-fn put_place<E: Sink>(buffer: &mut Buffer, err: &mut E, at: Place) -> Result<(), Failed>
-    ensures bytes { Gathers result (E.held err.old) (E.held err.new) buffer.old buffer.new
-        (place_text at) }
-    ensures cause { HasCause (E.faults err.old) (E.faults err.new) result }
-{
-    put_decimal(buffer, err, at.line as u64)?;
-    buffer.put(err, b":")?;
-    put_decimal(buffer, err, at.column as u64)
-}
-
+// Puts the word of a kind, and a line feed.
 fn put_kind<E: Sink>(buffer: &mut Buffer, err: &mut E, kind: FaultKind) -> Result<(), Failed>
     ensures bytes { Gathers result (E.held err.old) (E.held err.new) buffer.old buffer.new
-        (codes " " ++ (kind_text kind ++ codes "\n")) }
+        (kind_text kind ++ codes "\n") }
     ensures cause { HasCause (E.faults err.old) (E.faults err.new) result }
 {
-    buffer.put(err, b" ")?;
     buffer.put(err, kind.text())?;
     buffer.put(err, b"\n")
 }
 
+// Puts the line of a claim that fails.
 fn put_claim<E: Sink>(
     buffer: &mut Buffer,
     err: &mut E,
@@ -112,36 +109,20 @@ fn put_claim<E: Sink>(
         (claim_line number at bits.now) }
     ensures cause { HasCause (E.faults err.old) (E.faults err.new) result }
 {
-    buffer.put(err, b"revc: claim ")?;
-    put_decimal(buffer, err, number as u64)?;
-    put_claim_place(buffer, err, at, bits)
-}
-
-fn put_claim_place<E: Sink>(
-    buffer: &mut Buffer,
-    err: &mut E,
-    at: Place,
-    bits: &[bool],
-) -> Result<(), Failed>
-    ensures bytes { Gathers result (E.held err.old) (E.held err.new) buffer.old buffer.new
-        (codes " at " ++ (place_text at
-        ++ (codes " fails on " ++ (digits_of bits.now ++ codes "\n")))) }
-    ensures cause { HasCause (E.faults err.old) (E.faults err.new) result }
-{
-    buffer.put(err, b" at ")?;
-    put_place(buffer, err, at)?;
-    put_failing(buffer, err, bits)
-}
-
-fn put_failing<E: Sink>(buffer: &mut Buffer, err: &mut E, bits: &[bool]) -> Result<(), Failed>
-    ensures bytes { Gathers result (E.held err.old) (E.held err.new) buffer.old buffer.new
-        (codes " fails on " ++ (digits_of bits.now ++ codes "\n")) }
-    ensures cause { HasCause (E.faults err.old) (E.faults err.new) result }
-{
-    buffer.put(err, b" fails on ")?;
+    put_numbered(
+        buffer,
+        err,
+        b"revc: claim ",
+        &[
+            (number as u64, b" at "),
+            (at.line as u64, b":"),
+            (at.column as u64, b" fails on "),
+        ],
+    )?;
     put_line_of_digits(buffer, err, bits)
 }
 
+// Puts the line of a claim with which the diagrams pass the limit.
 fn put_diagram<E: Sink>(
     buffer: &mut Buffer,
     err: &mut E,
@@ -153,27 +134,20 @@ fn put_diagram<E: Sink>(
         (diagram_line number at limit) }
     ensures cause { HasCause (E.faults err.old) (E.faults err.new) result }
 {
-    buffer.put(err, b"revc: claim ")?;
-    put_decimal(buffer, err, number as u64)?;
-    put_diagram_place(buffer, err, at, limit)
+    put_numbered(
+        buffer,
+        err,
+        b"revc: claim ",
+        &[
+            (number as u64, b" at "),
+            (at.line as u64, b":"),
+            (at.column as u64, b" passes "),
+            (limit as u64, b" nodes\n"),
+        ],
+    )
 }
 
-fn put_diagram_place<E: Sink>(
-    buffer: &mut Buffer,
-    err: &mut E,
-    at: Place,
-    limit: u32,
-) -> Result<(), Failed>
-    ensures bytes { Gathers result (E.held err.old) (E.held err.new) buffer.old buffer.new
-        (codes " at " ++ (place_text at
-        ++ (codes " passes " ++ (decimal limit ++ codes " nodes\n")))) }
-    ensures cause { HasCause (E.faults err.old) (E.faults err.new) result }
-{
-    buffer.put(err, b" at ")?;
-    put_place(buffer, err, at)?;
-    put_number(buffer, err, b" passes ", limit as u64, b" nodes\n")
-}
-
+// Puts the line of a circuit text that is refused.
 fn put_circuit<E: Sink>(
     buffer: &mut Buffer,
     err: &mut E,
@@ -202,6 +176,7 @@ fn put_circuit<E: Sink>(
     }
 }
 
+// Puts the line of a circuit text that is refused at a token.
 fn put_circuit_place<E: Sink>(
     buffer: &mut Buffer,
     err: &mut E,
@@ -212,17 +187,55 @@ fn put_circuit_place<E: Sink>(
         (codes "revc: circuit at " ++ (place_text at ++ tail.now)) }
     ensures cause { HasCause (E.faults err.old) (E.faults err.new) result }
 {
-    buffer.put(err, b"revc: circuit at ")?;
-    put_place(buffer, err, at)?;
-    buffer.put(err, tail)
+    put_numbered(
+        buffer,
+        err,
+        b"revc: circuit at ",
+        &[(at.line as u64, b":"), (at.column as u64, tail)],
+    )
 }
 
+// Puts the line of a budget of lines that is passed.
 fn put_lines<E: Sink>(buffer: &mut Buffer, err: &mut E, need: u32, limit: u32) -> Result<(), Failed>
     ensures bytes { Gathers result (E.held err.old) (E.held err.new) buffer.old buffer.new
         (lines_line need limit) }
     ensures cause { HasCause (E.faults err.old) (E.faults err.new) result }
 {
-    buffer.put(err, b"revc: lines ")?;
-    put_decimal(buffer, err, need as u64)?;
-    put_number(buffer, err, b" over ", limit as u64, b"\n")
+    put_numbered(
+        buffer,
+        err,
+        b"revc: lines ",
+        &[(need as u64, b" over "), (limit as u64, b"\n")],
+    )
+}
+
+// Puts a text, and then numbers, each with the text behind it.
+fn put_numbered<E: Sink>(
+    buffer: &mut Buffer,
+    err: &mut E,
+    head: &[u8],
+    parts: &[(u64, &[u8])],
+) -> Result<(), Failed>
+    ensures bytes { Gathers result (E.held err.old) (E.held err.new) buffer.old buffer.new
+        (head.now ++ flat_map (λ part. decimal part.0 ++ part.1.now) parts.now) }
+    ensures cause { HasCause (E.faults err.old) (E.faults err.new) result }
+{
+    buffer.put(err, head)?;
+    put_parts(buffer, err, parts)
+}
+
+// Puts numbers, each with the text behind it.
+fn put_parts<E: Sink>(
+    buffer: &mut Buffer,
+    err: &mut E,
+    parts: &[(u64, &[u8])],
+) -> Result<(), Failed>
+    ensures bytes { Gathers result (E.held err.old) (E.held err.new) buffer.old buffer.new
+        (flat_map (λ part. decimal part.0 ++ part.1.now) parts.now) }
+    ensures cause { HasCause (E.faults err.old) (E.faults err.new) result }
+{
+    for (number, text) in parts {
+        put_number(buffer, err, b"", *number, text)?;
+    }
+    Ok(())
 }

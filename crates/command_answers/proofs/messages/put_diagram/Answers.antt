@@ -1,29 +1,10 @@
-use Rattle.std.proofs.Common.{◌++◌, codes}
+use Rattle.std.proofs.Common.{codes}
 use Rattle.std.specs.Fmt.{decimal}
-use Rattle.revc_io.proofs.PassingLemmas.{begun, step, failed_call, last_call}
-use Rattle.command_answers.specs.Faults.{place_text}
+use Rattle.command_answers.proofs.PartLemmas.{regrouped, number_place_number}
 use Rattle.command_answers.proofs.messages.put_diagram.Goals as goal
-
-pub returns-in_err-put-clause-bytes : goal.returns-in_err-put-clause-bytes
-returns-in_err-put-clause-bytes g c =
-    failed_call c.args.buffer.now _ (codes "revc: claim ")
-    (decimal c.args.number ++ (codes " at " ++ (place_text c.args.at ++ (codes " passes " ++ (decimal c.args.limit ++ codes " nodes\n"))))) _ _
-    c.from_residual.ensures.1 c.in_err-put.ensures.bytes (begun _ _ _)
-
-pub returns-in_err-put_decimal-clause-bytes : goal.returns-in_err-put_decimal-clause-bytes
-returns-in_err-put_decimal-clause-bytes g c =
-    failed_call c.args.buffer.now _ (decimal c.args.number)
-    (codes " at " ++ (place_text c.args.at ++ (codes " passes " ++ (decimal c.args.limit ++ codes " nodes\n")))) _ _
-    c.from_residual-in_err-put_decimal.ensures.1 c.in_err-put_decimal.ensures.bytes
-    (step (codes "revc: claim ")
-    (decimal c.args.number ++ (codes " at " ++ (place_text c.args.at ++ (codes " passes " ++ (decimal c.args.limit ++ codes " nodes\n")))))
-    c.in_ok-put.ensures.bytes (begun _ _ _))
 
 pub returns-clause-bytes : goal.returns-clause-bytes
 returns-clause-bytes g c =
-    last_call c.args.buffer.now _ _ _ _ c.put_diagram_place.ensures.bytes
-    (step (decimal c.args.number) (codes " at " ++ (place_text c.args.at ++ (codes " passes " ++ (decimal c.args.limit ++ codes " nodes\n"))))
-    c.in_ok-put_decimal.ensures.bytes
-    (step (codes "revc: claim ")
-    (decimal c.args.number ++ (codes " at " ++ (place_text c.args.at ++ (codes " passes " ++ (decimal c.args.limit ++ codes " nodes\n")))))
-    c.in_ok-put.ensures.bytes (begun _ _ _)))
+    let at = c.args.at in
+    regrouped _ _ _ _ _ (number_place_number (codes "revc: claim ") (decimal c.args.number) (codes " at ") (decimal at.line) (codes ":") (decimal at.column)
+    (codes " passes ") (decimal c.args.limit) (codes " nodes\n")) c.put_numbered.ensures.bytes

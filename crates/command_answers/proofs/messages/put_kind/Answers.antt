@@ -1,19 +1,12 @@
-use Rattle.std.proofs.Common.{◌++◌, codes}
+use Rattle.std.proofs.Common.{codes}
 use Rattle.revc_io.proofs.PassingLemmas.{begun, step, failed_call, last_call}
-use Rattle.command_answers.specs.Faults.{kind_text}
 use Rattle.command_answers.proofs.messages.put_kind.Goals as goal
 
 pub returns-in_err-put-clause-bytes : goal.returns-in_err-put-clause-bytes
-returns-in_err-put-clause-bytes g c = failed_call c.args.buffer.now _ (codes " ")
-    (kind_text c.args.kind ++ codes "\n") _ _ c.from_residual.ensures.1 c.in_err-put.ensures.bytes (begun _ _ _)
-
-pub returns-in_err-put-2-clause-bytes : goal.returns-in_err-put-2-clause-bytes
-returns-in_err-put-2-clause-bytes g c =
-    rw (← c.text.ensures)
-    (failed_call c.args.buffer.now _ c.text.result.now (codes "\n") _ _ c.from_residual-in_err-put-2.ensures.1 c.in_err-put-2.ensures.bytes
-    (step (codes " ") (c.text.result.now ++ codes "\n") c.in_ok-put.ensures.bytes (begun _ _ _)))
+returns-in_err-put-clause-bytes g c =
+    rw (← c.text.ensures) (failed_call c.args.buffer.now _ c.text.result.now (codes "\n") _ _ c.from_residual.ensures.1 c.in_err-put.ensures.bytes (begun _ _ _))
 
 pub returns-clause-bytes : goal.returns-clause-bytes
 returns-clause-bytes g c =
-    rw (← c.text.ensures) (last_call c.args.buffer.now _ _ _ _ c.put-3.ensures.bytes (step c.text.result.now (codes "\n") c.in_ok-put-2.ensures.bytes
-    (step (codes " ") (c.text.result.now ++ codes "\n") c.in_ok-put.ensures.bytes (begun _ _ _))))
+    rw (← c.text.ensures) (last_call c.args.buffer.now _ _ _ _ c.put-2.ensures.bytes (step c.text.result.now (codes "\n") c.in_ok-put.ensures.bytes
+    (begun _ _ _)))
