@@ -1,13 +1,16 @@
 // The scope rule over a whole program.
+ghost use Rattle.std.specs.Prelude.{◌≡◌, []};
+ghost use Rattle.revs_terms.specs.Programs.{HasFewNames};
 ghost use Rattle.revs_terms.specs.Scopes.{scope_verdict, BindsToNearest, UnboundHasNone};
 ghost use Rattle.revs_terms.specs.Trees.{tree_of};
 ghost use Rattle.name_scope.specs.Answers.{Answers};
+ghost use Rattle.name_scope.specs.inside.Verdicts.{Settles};
 
 use crate::Scoped;
 use crate::names::Names;
 use crate::terms::{bind_params, bind_term};
 use revc_base::{Memory, Place};
-use revs_terms::Program;
+use revs_terms::{Param, Program, Term};
 use std::alloc::Global;
 
 /// Why the names of a program cannot be bound.
@@ -49,10 +52,27 @@ pub fn scope(alloc: Global, program: Program) -> Result<Scoped, ScopeFault>
         (scope_verdict program.params.items (tree_of program.body)) }
 {
     let Program { params, mut body } = program;
-    let mut names = Names::new(alloc);
-    bind_params(&mut names, &params)?;
-    bind_term(&mut names, &mut body)?;
+    bind_program(alloc, &params, &mut body)?;
     Ok(Scoped::new(Program { params, body }))
+}
+
+// Binds the names of parameters and of a body.
+fn bind_program(alloc: Global, params: &[Param], body: &mut Term) -> Result<(), ScopeFault>
+    requires { HasFewNames params.now (tree_of body.old) }
+    ensures { Settles result params.now (tree_of body.old) (tree_of body.new) }
+{
+    let mut names = Names::new(alloc);
+    bind_in_turn(&mut names, params, body)
+}
+
+// Binds the names of parameters, where none is in scope, and then those of a body.
+fn bind_in_turn(names: &mut Names, params: &[Param], body: &mut Term) -> Result<(), ScopeFault>
+    requires none { names.old ≡ [] }
+    requires few { HasFewNames params.now (tree_of body.old) }
+    ensures { Settles result params.now (tree_of body.old) (tree_of body.new) }
+{
+    bind_params(names, params)?;
+    bind_term(names, body)
 }
 
 /// A used name is bound to the nearest binding of its name: the binding at its `back` has its name,

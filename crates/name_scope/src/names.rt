@@ -1,9 +1,9 @@
 // The names in scope.
 ghost use Rattle.std.specs.Prelude.{◌≡◌, ◌≤◌, ◌∷◌, ◌-◌, List, [], drop, length, position, bytes_eq};
-ghost use Rattle.std.specs.Prelude.{OnOk};
-ghost use Rattle.indexmap.specs.IndexMap.{get};
+ghost use Rattle.std.specs.Prelude.{OnOk, OnErr};
+ghost use Rattle.indexmap.specs.IndexMap.{get, IsUnchanged};
 ghost use Rattle.revs_terms.specs.Scopes.{nearer};
-ghost use Rattle.name_scope.specs.inside.Bindings.{held};
+ghost use Rattle.name_scope.specs.inside.Bindings.{held, IsNoted};
 
 use indexmap::IndexMap;
 use revc_base::{Memory, Text};
@@ -50,6 +50,21 @@ fn nearest_depth(nearest: &IndexMap<Text, Option<usize>>, name: &Text) -> Option
     *nearest.get(name)?
 }
 
+/// A name is bound nearest at this depth. A refusal changes nothing.
+fn note(
+    nearest: &mut IndexMap<Text, Option<usize>>,
+    name: &Text,
+    depth: usize,
+) -> Result<(), Memory>
+    ensures noted { OnOk result (IsNoted (get bytes_eq nearest.old) (get bytes_eq nearest.new)
+        name.now depth) }
+    ensures err { OnErr result (IsUnchanged nearest.old nearest.new) }
+{
+    let key = name.copy()?;
+    nearest.insert(key, Some(depth))?;
+    Ok(())
+}
+
 impl Names {
     /// No names.
     pub fn new(alloc: Global) -> Names
@@ -82,10 +97,11 @@ impl Names {
     {
         let depth = self.bound.len();
         let hidden = nearest_depth(&self.nearest, name);
-        let key = name.copy()?;
-        let name = name.copy()?;
-        self.bound.push(Bound { name, hidden })?;
-        if self.nearest.insert(key, Some(depth)).is_err() {
+        self.bound.push(Bound {
+            name: name.copy()?,
+            hidden,
+        })?;
+        if note(&mut self.nearest, name, depth).is_err() {
             let _ = self.bound.pop();
             return Err(Memory);
         }

@@ -16,3 +16,7 @@ Hide (b ∷ bs) = (b.hidden ≡ depth_of b.name bs) × Hide bs
 abbrev pub held : Option (Option ℕ) → Option ℕ
 held None = None
 held (Some depth) = depth
+
+-- a table that holds this depth for a name, and stays as it was for all others
+pub record IsNoted (before after : List ℕ → Option (Option ℕ)) (name : List ℕ) (depth : ℕ) : Type 0 where
+  pub entries : (other : List ℕ) → after other ≡ (if bytes_eq name other then Some (Some depth) else before other)

@@ -1,7 +1,8 @@
 -- What a call that binds names answers.
-use Rattle.std.specs.Prelude.{◌≡◌, ℕ, List, Option, Some, None, Result, Ok, Err}
+use Rattle.std.specs.Prelude.{◌≡◌, ℕ, List, [], Option, Some, None, Result, Ok, Err}
 use Rattle.revc_base.specs.declared.place.Place.{Place}
-use Rattle.revs_terms.specs.Scopes.{Scoped, unbound, scoped, and_then, scoped_tree}
+use Rattle.revs_terms.specs.Scopes.{Scoped, unbound, scoped, and_then, scoped_tree, second_of, params_scope, scope_verdict, unbound_name, two_params}
+use Rattle.revs_terms.specs.declared.program.Param.{Param}
 use Rattle.revs_terms.specs.declared.term.Name.{Name}
 use Rattle.revs_terms.specs.Trees.{Tree, ItemTrees}
 use Rattle.name_scope.specs.declared.binding.ScopeFault.{ScopeFault}
@@ -41,3 +42,10 @@ Differ (Ok done) second = second ≡ None
 Differ (Err (fault.Unbound at)) second = ⊥
 Differ (Err (fault.TwoParams at)) second = second ≡ Some at
 Differ (Err fault.Memory) second = Unit {0}
+
+-- The names of parameters and of a body are bound, or the first that cannot be is refused.
+abbrev pub Settles : Result (Unit {0}) ScopeFault → List Param → (before now : Tree) → Type 0
+Settles (Ok done) params before now = (second_of [] params ≡ None) × (scoped_tree (params_scope params) before ≡ scoped now)
+Settles (Err (fault.Unbound at)) params before now = scope_verdict params before ≡ unbound_name at
+Settles (Err (fault.TwoParams at)) params before now = scope_verdict params before ≡ two_params at
+Settles (Err fault.Memory) params before now = Unit {0}
