@@ -13,12 +13,22 @@ use revc_base::Place;
 use revs_terms::{Lambda, Name, Part, Term};
 use std::alloc::Global;
 
+// Two terms, each in a box of its own.
+fn boxed(alloc: Global, first: Term, second: Term) -> Result<(Box<Term>, Box<Term>), Stop>
+    ensures ok { IfOk result (λ made. (made.0.value ≡ first) × (made.1.value ≡ second)) }
+    ensures memory { IfErr result (λ stop. stop ≡ Stop.Memory) }
+{
+    let first = Box::new(alloc, first)?;
+    Ok((first, Box::new(alloc, second)?))
+}
+
 /// An assignment.
 pub fn assignment(alloc: Global, left: Term, right: Term) -> Result<Term, Stop>
     ensures ok { IfOk result (λ term. tree_of term ≡ shape.assign (tree_of left) (tree_of right)) }
     ensures memory { IfErr result (λ stop. stop ≡ Stop.Memory) }
 {
-    Ok(Term::Assign(Box::new(alloc, left)?, Box::new(alloc, right)?))
+    let (left, right) = boxed(alloc, left, right)?;
+    Ok(Term::Assign(left, right))
 }
 
 /// Two registers, one behind the other.
@@ -27,8 +37,8 @@ pub fn joined(alloc: Global, first: Term, second: Term, at: Place) -> Result<Ter
         (λ term. tree_of term ≡ shape.append (tree_of first) (tree_of second) at) }
     ensures memory { IfErr result (λ stop. stop ≡ Stop.Memory) }
 {
-    let first = Box::new(alloc, first)?;
-    Ok(Term::Append(first, Box::new(alloc, second)?, at))
+    let (first, second) = boxed(alloc, first, second)?;
+    Ok(Term::Append(first, second, at))
 }
 
 /// An operator with its operand.

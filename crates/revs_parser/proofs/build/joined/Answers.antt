@@ -1,4 +1,3 @@
-use Rattle.std.proofs.Common.{refl}
 use Rattle.revs_terms.proofs.ShapeLemmas.{tree_of-Append}
 use Rattle.revc_base.proofs.ResultLemmas.{no_value, passes_on}
 use Rattle.revs_parser.proofs.build.joined.Goals as goal
@@ -7,13 +6,7 @@ pub returns-in_err-first-clause-ok : goal.returns-in_err-first-clause-ok
 returns-in_err-first-clause-ok c = no_value c.from_residual.result _ _ c.from_residual.ensures.1
 
 pub returns-in_err-first-clause-memory : goal.returns-in_err-first-clause-memory
-returns-in_err-first-clause-memory c = passes_on _ c.from_residual.result c.from_residual.ensures.1 refl
-
-pub returns-in_err-new-clause-ok : goal.returns-in_err-new-clause-ok
-returns-in_err-new-clause-ok c = no_value c.from_residual-in_err-new.result _ _ c.from_residual-in_err-new.ensures.1
-
-pub returns-in_err-new-clause-memory : goal.returns-in_err-new-clause-memory
-returns-in_err-new-clause-memory c = passes_on _ c.from_residual-in_err-new.result c.from_residual-in_err-new.ensures.1 refl
+returns-in_err-first-clause-memory c = passes_on _ c.from_residual.result c.from_residual.ensures.1 c.in_err-first.ensures.memory
 
 pub returns-clause-ok : goal.returns-clause-ok
-returns-clause-ok c = rw (tree_of-Append, c.in_ok-first.ensures.ok, c.in_ok-new.ensures.ok)
+returns-clause-ok c = rw (tree_of-Append, c.in_ok-first.ensures.ok.0, c.in_ok-first.ensures.ok.1)
