@@ -22,104 +22,141 @@ use Rattle.name_scope.proofs.terms.+bind.Goals as goal
 
 pub bind_term-returns-in-Name : goal.bind_term-returns-in-Name
 bind_term-returns-in-Name t c =
-    rw c.in-Name.is (rw (terms.outs-Name c.in-Name.name) (rw (tree_of-Name c.in-Name.name) (rw (tree_of-Name c.bind_name.new.name)
-    (name_binds c.bind_name.result _ _ _ (rw c.in-Name.name-is at c.bind_name.ensures.binds)))))
+    rw (
+      c.in-Name.is,
+      terms.outs-Name c.in-Name.name,
+      tree_of-Name c.in-Name.name,
+      tree_of-Name c.bind_name.new.name,
+    )
+    (name_binds c.bind_name.result _ _ _ (rw c.in-Name.name-is at c.bind_name.ensures.binds))
 
 pub bind_term-returns-in-Bool : goal.bind_term-returns-in-Bool
 bind_term-returns-in-Bool t c =
-    rw c.in-Bool.is (rw (tree_of-Bool c.in-Bool.field-0 c.in-Bool.field-1) (refl, refl))
+    rw (c.in-Bool.is, tree_of-Bool c.in-Bool.field-0 c.in-Bool.field-1) (refl, refl)
 
 pub bind_term-returns-in-Reg : goal.bind_term-returns-in-Reg
 bind_term-returns-in-Reg t c =
-    rw c.in-Reg.is (rw (terms.outs-Reg c.in-Reg.elements c.in-Reg.field-1)
-    (rw (tree_of-Reg c.in-Reg.elements c.in-Reg.field-1) (rw (tree_of-Reg (with_items c.in-Reg.elements c.bind_terms.new.terms) c.in-Reg.field-1)
-    (rw (with_items_is c.in-Reg.elements c.bind_terms.new.terms (search (rules, places)))
-    (part_binds (λ us. reg us c.in-Reg.field-1) c.bind_terms.result _ _ _ _
-    (rw c.in-Reg.elements-is at (rw c.deref_mut.ensures.value at c.bind_terms.ensures)))))))
+    rw (
+      c.in-Reg.is,
+      terms.outs-Reg c.in-Reg.elements c.in-Reg.field-1,
+      tree_of-Reg c.in-Reg.elements c.in-Reg.field-1,
+      tree_of-Reg (with_items c.in-Reg.elements c.bind_terms.new.terms) c.in-Reg.field-1,
+      with_items_is c.in-Reg.elements c.bind_terms.new.terms (search (rules, places)),
+    )
+    (part_binds (λ us. reg us c.in-Reg.field-1) c.bind_terms.result _ _ _ _ (rw (c.deref_mut.ensures.value, c.in-Reg.elements-is) at c.bind_terms.ensures))
 
 pub bind_term-returns-in-Block : goal.bind_term-returns-in-Block
 bind_term-returns-in-Block t c =
-    rw c.in-Block.is (rw (terms.outs-Block c.in-Block.items c.in-Block.last c.in-Block.field-2)
-    (rw (tree_of-Block c.in-Block.items c.in-Block.last c.in-Block.field-2)
-    (rw (tree_of-Block (with_items c.in-Block.items c.bind_block.new.items) (with_value c.in-Block.last c.bind_block.new.last) c.in-Block.field-2)
-    (rw (with_items_is c.in-Block.items c.bind_block.new.items (search (rules, places)))
+    rw (
+      c.in-Block.is,
+      terms.outs-Block c.in-Block.items c.in-Block.last c.in-Block.field-2,
+      tree_of-Block c.in-Block.items c.in-Block.last c.in-Block.field-2,
+      tree_of-Block (with_items c.in-Block.items c.bind_block.new.items) (with_value c.in-Block.last c.bind_block.new.last) c.in-Block.field-2,
+      with_items_is c.in-Block.items c.bind_block.new.items (search (rules, places)),
+    )
     (block_binds c.bind_block.result (scoped_items c.args.names.now (item_trees (map item_tree_of c.in-Block.items.items)))
     (tree_of c.in-Block.last.value) (item_trees (map item_tree_of c.bind_block.new.items)) (tree_of c.bind_block.new.last) c.in-Block.field-2
     c.args.names.now c.bind_block.new.names
-    (rw c.in-Block.last-is at (rw c.deref_mut-in-Block-2.ensures.value at
-    (rw c.in-Block.items-is at (rw c.deref_mut-in-Block.ensures.value at c.bind_block.ensures)))))))))
+    (rw (c.deref_mut-in-Block.ensures.value, c.in-Block.items-is, c.deref_mut-in-Block-2.ensures.value, c.in-Block.last-is) at c.bind_block.ensures))
 
 pub bind_term-returns-in-Fun : goal.bind_term-returns-in-Fun
 bind_term-returns-in-Fun t c =
-    rw c.in-Fun.is (rw (terms.outs-Fun c.in-Fun.function c.in-Fun.field-1) (rw (tree_of-Fun c.in-Fun.function c.in-Fun.field-1)
-    (rw (tree_of-Fun (with_value c.in-Fun.function c.bind_function.new.function) c.in-Fun.field-1)
+    rw (
+      c.in-Fun.is,
+      terms.outs-Fun c.in-Fun.function c.in-Fun.field-1,
+      tree_of-Fun c.in-Fun.function c.in-Fun.field-1,
+      tree_of-Fun (with_value c.in-Fun.function c.bind_function.new.function) c.in-Fun.field-1,
+    )
     (function_binds c.bind_function.result _ _ _ _ c.in-Fun.field-1 _ _
-    (rw c.in-Fun.function-is at (rw c.deref_mut-in-Fun.ensures.value at c.bind_function.ensures))))))
+    (rw (c.deref_mut-in-Fun.ensures.value, c.in-Fun.function-is) at c.bind_function.ensures))
 
 pub bind_term-returns-in-At : goal.bind_term-returns-in-At
 bind_term-returns-in-At t c =
-    rw c.in-At.is (rw (terms.outs-At c.in-At.inner c.in-At.field-1)
-    (rw (tree_of-At c.in-At.inner c.in-At.field-1) (rw (tree_of-At (with_value c.in-At.inner c.bind_term.new.term) c.in-At.field-1)
-    (part_binds (λ u. parts u c.in-At.field-1.items) c.bind_term.result _ _ _ _
-    (rw c.in-At.inner-is at (rw c.deref_mut-in-At.ensures.value at c.bind_term.ensures))))))
+    rw (
+      c.in-At.is,
+      terms.outs-At c.in-At.inner c.in-At.field-1,
+      tree_of-At c.in-At.inner c.in-At.field-1,
+      tree_of-At (with_value c.in-At.inner c.bind_term.new.term) c.in-At.field-1,
+    )
+    (part_binds (λ u. parts u c.in-At.field-1.items) c.bind_term.result _ _ _ _ (rw (c.deref_mut-in-At.ensures.value, c.in-At.inner-is) at c.bind_term.ensures))
 
 pub bind_term-returns-in-Apply : goal.bind_term-returns-in-Apply
 bind_term-returns-in-Apply t c =
-    rw c.in-Apply.is (rw (terms.outs-Apply c.in-Apply.head c.in-Apply.arguments)
-    (rw (tree_of-Apply c.in-Apply.head c.in-Apply.arguments)
-    (rw (tree_of-Apply (with_value c.in-Apply.head c.bind_application.new.head) (with_items c.in-Apply.arguments c.bind_application.new.arguments))
-    (rw (with_items_is c.in-Apply.arguments c.bind_application.new.arguments (search (rules, places)))
+    rw (
+      c.in-Apply.is,
+      terms.outs-Apply c.in-Apply.head c.in-Apply.arguments,
+      tree_of-Apply c.in-Apply.head c.in-Apply.arguments,
+      tree_of-Apply (with_value c.in-Apply.head c.bind_application.new.head) (with_items c.in-Apply.arguments c.bind_application.new.arguments),
+      with_items_is c.in-Apply.arguments c.bind_application.new.arguments (search (rules, places)),
+    )
     (both_bind apply c.bind_application.result _ _ _ _ _ _
-    (rw c.in-Apply.arguments-is at (rw c.deref_mut-in-Apply-2.ensures.value at
-    (rw c.in-Apply.head-is at (rw c.deref_mut-in-Apply.ensures.value at c.bind_application.ensures)))))))))
+    (rw (c.deref_mut-in-Apply.ensures.value, c.in-Apply.head-is, c.deref_mut-in-Apply-2.ensures.value, c.in-Apply.arguments-is) at c.bind_application.ensures))
 
 pub bind_term-returns-in-Append : goal.bind_term-returns-in-Append
 bind_term-returns-in-Append t c =
-    rw c.in-Append.is (rw (terms.outs-Append c.in-Append.first c.in-Append.second c.in-Append.field-2)
-    (rw (tree_of-Append c.in-Append.first c.in-Append.second c.in-Append.field-2)
-    (rw (tree_of-Append (with_value c.in-Append.first c.bind_both.new.first) (with_value c.in-Append.second c.bind_both.new.second) c.in-Append.field-2)
+    rw (
+      c.in-Append.is,
+      terms.outs-Append c.in-Append.first c.in-Append.second c.in-Append.field-2,
+      tree_of-Append c.in-Append.first c.in-Append.second c.in-Append.field-2,
+      tree_of-Append (with_value c.in-Append.first c.bind_both.new.first) (with_value c.in-Append.second c.bind_both.new.second) c.in-Append.field-2,
+    )
     (both_bind (λ a b. append a b c.in-Append.field-2) c.bind_both.result _ _ _ _ _ _
-    (rw (c.deref_mut-in-Append.ensures.value, c.in-Append.first-is, c.deref_mut-in-Append-2.ensures.value, c.in-Append.second-is) at c.bind_both.ensures)))))
+    (rw (c.deref_mut-in-Append.ensures.value, c.in-Append.first-is, c.deref_mut-in-Append-2.ensures.value, c.in-Append.second-is) at c.bind_both.ensures))
 
 pub bind_term-returns-in-Rotate : goal.bind_term-returns-in-Rotate
 bind_term-returns-in-Rotate t c =
-    rw c.in-Rotate.is (rw (terms.outs-Rotate c.in-Rotate.field-0 c.in-Rotate.operand c.in-Rotate.field-2)
-    (rw (tree_of-Rotate c.in-Rotate.field-0 c.in-Rotate.operand c.in-Rotate.field-2)
-    (rw (tree_of-Rotate c.in-Rotate.field-0 (with_value c.in-Rotate.operand c.bind_term-in-Rotate.new.term) c.in-Rotate.field-2)
+    rw (
+      c.in-Rotate.is,
+      terms.outs-Rotate c.in-Rotate.field-0 c.in-Rotate.operand c.in-Rotate.field-2,
+      tree_of-Rotate c.in-Rotate.field-0 c.in-Rotate.operand c.in-Rotate.field-2,
+      tree_of-Rotate c.in-Rotate.field-0 (with_value c.in-Rotate.operand c.bind_term-in-Rotate.new.term) c.in-Rotate.field-2,
+    )
     (part_binds (λ u. rotate c.in-Rotate.field-0 u c.in-Rotate.field-2) c.bind_term-in-Rotate.result _ _ _ _
-    (rw c.in-Rotate.operand-is at (rw c.deref_mut-in-Rotate.ensures.value at c.bind_term-in-Rotate.ensures))))))
+    (rw (c.deref_mut-in-Rotate.ensures.value, c.in-Rotate.operand-is) at c.bind_term-in-Rotate.ensures))
 
 pub bind_term-returns-in-Clean : goal.bind_term-returns-in-Clean
 bind_term-returns-in-Clean t c =
-    rw c.in-Clean.is (rw (terms.outs-Clean c.in-Clean.operand c.in-Clean.field-1)
-    (rw (tree_of-Clean c.in-Clean.operand c.in-Clean.field-1)
-    (rw (tree_of-Clean (with_value c.in-Clean.operand c.bind_term-in-Clean.new.term) c.in-Clean.field-1)
+    rw (
+      c.in-Clean.is,
+      terms.outs-Clean c.in-Clean.operand c.in-Clean.field-1,
+      tree_of-Clean c.in-Clean.operand c.in-Clean.field-1,
+      tree_of-Clean (with_value c.in-Clean.operand c.bind_term-in-Clean.new.term) c.in-Clean.field-1,
+    )
     (part_binds (λ u. clean u c.in-Clean.field-1) c.bind_term-in-Clean.result _ _ _ _
-    (rw c.in-Clean.operand-is at (rw c.deref_mut-in-Clean.ensures.value at c.bind_term-in-Clean.ensures))))))
+    (rw (c.deref_mut-in-Clean.ensures.value, c.in-Clean.operand-is) at c.bind_term-in-Clean.ensures))
 
 pub bind_term-returns-in-Assert : goal.bind_term-returns-in-Assert
 bind_term-returns-in-Assert t c =
-    rw c.in-Assert.is (rw (terms.outs-Assert c.in-Assert.operand c.in-Assert.field-1)
-    (rw (tree_of-Assert c.in-Assert.operand c.in-Assert.field-1)
-    (rw (tree_of-Assert (with_value c.in-Assert.operand c.bind_term-in-Assert.new.term) c.in-Assert.field-1)
+    rw (
+      c.in-Assert.is,
+      terms.outs-Assert c.in-Assert.operand c.in-Assert.field-1,
+      tree_of-Assert c.in-Assert.operand c.in-Assert.field-1,
+      tree_of-Assert (with_value c.in-Assert.operand c.bind_term-in-Assert.new.term) c.in-Assert.field-1,
+    )
     (part_binds (λ u. assert u c.in-Assert.field-1) c.bind_term-in-Assert.result _ _ _ _
-    (rw c.in-Assert.operand-is at (rw c.deref_mut-in-Assert.ensures.value at c.bind_term-in-Assert.ensures))))))
+    (rw (c.deref_mut-in-Assert.ensures.value, c.in-Assert.operand-is) at c.bind_term-in-Assert.ensures))
 
 pub bind_term-returns-in-And : goal.bind_term-returns-in-And
 bind_term-returns-in-And t c =
-    rw c.in-And.is (rw (terms.outs-And c.in-And.operands) (rw (tree_of-And c.in-And.operands)
-    (rw (tree_of-And (with_items c.in-And.operands c.bind_terms-in-And.new.terms))
-    (rw (with_items_is c.in-And.operands c.bind_terms-in-And.new.terms (search (rules, places)))
-    (part_binds ands c.bind_terms-in-And.result _ _ _ _
-    (rw c.in-And.operands-is at (rw c.deref_mut-in-And.ensures.value at c.bind_terms-in-And.ensures)))))))
+    rw (
+      c.in-And.is,
+      terms.outs-And c.in-And.operands,
+      tree_of-And c.in-And.operands,
+      tree_of-And (with_items c.in-And.operands c.bind_terms-in-And.new.terms),
+      with_items_is c.in-And.operands c.bind_terms-in-And.new.terms (search (rules, places)),
+    )
+    (part_binds ands c.bind_terms-in-And.result _ _ _ _ (rw (c.deref_mut-in-And.ensures.value, c.in-And.operands-is) at c.bind_terms-in-And.ensures))
 
 pub bind_term-returns-in-Xor : goal.bind_term-returns-in-Xor
 bind_term-returns-in-Xor t c =
-    rw c.in-Xor.is (rw (terms.outs-Xor c.in-Xor.operands) (rw (tree_of-Xor c.in-Xor.operands)
-    (rw (tree_of-Xor (with_items c.in-Xor.operands c.bind_terms-in-Xor.new.terms))
-    (rw (with_items_is c.in-Xor.operands c.bind_terms-in-Xor.new.terms (search (rules, places)))
-    (part_binds xors c.bind_terms-in-Xor.result _ _ _ _
-    (rw c.in-Xor.operands-is at (rw c.deref_mut-in-Xor.ensures.value at c.bind_terms-in-Xor.ensures)))))))
+    rw (
+      c.in-Xor.is,
+      terms.outs-Xor c.in-Xor.operands,
+      tree_of-Xor c.in-Xor.operands,
+      tree_of-Xor (with_items c.in-Xor.operands c.bind_terms-in-Xor.new.terms),
+      with_items_is c.in-Xor.operands c.bind_terms-in-Xor.new.terms (search (rules, places)),
+    )
+    (part_binds xors c.bind_terms-in-Xor.result _ _ _ _ (rw (c.deref_mut-in-Xor.ensures.value, c.in-Xor.operands-is) at c.bind_terms-in-Xor.ensures))
 
 pub bind_term-returns-in-Assign : goal.bind_term-returns-in-Assign
 bind_term-returns-in-Assign t c =
