@@ -4,7 +4,8 @@ use Rattle.command_answers.proofs.messages.put_kind.Goals as goal
 
 pub returns-in_err-put-clause-bytes : goal.returns-in_err-put-clause-bytes
 returns-in_err-put-clause-bytes g c =
-    rw (← c.text.ensures) (failed_call c.args.buffer.now _ c.text.result.now (codes "\n") _ _ c.from_residual.ensures.1 c.in_err-put.ensures.bytes (begun _ _ _))
+    rw (← c.text.ensures)
+    (failed_call c.args.buffer.now _ c.text.result.now (codes "\n") _ _ c.from_residual.ensures.1 c.in_err-put.ensures.bytes (begun _ _ _))
 
 pub returns-clause-bytes : goal.returns-clause-bytes
 returns-clause-bytes g c =

@@ -5,4 +5,5 @@ use Rattle.command_answers.proofs.messages.put_lines.Goals as goal
 
 pub returns-clause-bytes : goal.returns-clause-bytes
 returns-clause-bytes g c =
-    regrouped _ _ _ _ _ (two_parts (codes "revc: lines ") (decimal c.args.need) (codes " over ") (decimal c.args.limit) (codes "\n")) c.put_numbered.ensures.bytes
+    regrouped _ _ _ _ _ (two_parts (codes "revc: lines ") (decimal c.args.need) (codes " over ") (decimal c.args.limit) (codes "\n"))
+    c.put_numbered.ensures.bytes
