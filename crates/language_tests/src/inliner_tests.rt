@@ -37,6 +37,6 @@ fn a_constant_is_a_write(rt: HostRuntime) -> Result<(), Fail> {
     let scoped = scoped(rt.alloc())?;
     let tape = unroll(rt.alloc(), &scoped).ok().ok_or("no tape")?;
     assert!(rt; tape.outputs() == [Ref::Write(0)].as_slice());
-    assert!(rt; tape.entries() == [Entry::Const(true)].as_slice());
+    assert!(rt; matches!(tape.entries(), [Entry::Const(true)]));
     Ok(())
 }

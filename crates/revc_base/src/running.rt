@@ -1,13 +1,13 @@
 // The run of a tape on an input.
 ghost use Rattle.std.specs.Prelude.{◌≡◌, ◌↔◌, ◌≤◌, [], length, map, sum, IsTrue, IfOk, IfSome};
-ghost use Rattle.std.specs.Prelude.{IfNone};
+ghost use Rattle.std.specs.Prelude.{IfNone, OnOk};
 ghost use Rattle.std.specs.List.{AllByRecursion};
 ghost use Rattle.revc_base.specs.declared.limits.TheConstants.{MOST_CLAIMS};
 ghost use Rattle.revc_base.specs.Tapes.{IsEndOf, IsFirstFailing, IsMet, bit_of, bit_at, claimed};
 ghost use Rattle.revc_base.specs.Tapes.{entry_bit, written_by};
 
 use crate::{Bits, Claim, Entry, Kind, Memory, Ref, Tape};
-use std::alloc::Global;
+use std::alloc::{AllocError, Global};
 
 /// How the run of a tape ends on an input.
 #[derive(Drop)]
@@ -84,14 +84,24 @@ fn bits_of(
     made: &[Ref],
     input: &[bool],
     written: &[bool],
-) -> Result<Vec<bool>, Memory>
+) -> Result<Vec<bool>, AllocError>
     ensures { IfOk result (λ bits. bits.items ≡ map (bit_at input.now written.now) made.now) }
 {
-    Ok(
-        made.iter()
-            .map(|made| bit_at(input, written, *made))
-            .collect(alloc)?,
-    )
+    made.iter()
+        .map(|made| bit_at(input, written, *made))
+        .collect(alloc)
+}
+
+// Appends the bits of these writes to the bits of those before them.
+fn append_bits(entries: &[Entry], input: &[bool], written: &mut Vec<bool>) -> Result<(), Memory>
+    ensures { OnOk result
+        (written.new.items ≡ written_by input.now written.old.items entries.now) }
+{
+    for entry in entries {
+        let bit = entry_bit(input, written, *entry);
+        written.push(bit)?;
+    }
+    Ok(())
 }
 
 impl Tape {
@@ -101,11 +111,20 @@ impl Tape {
             written.items ≡ written_by input.now [] self.now.entries) }
     {
         let mut written = Vec::with_capacity(*self.allocator(), self.entries().len())?;
-        for entry in self.entries() {
-            let bit = entry_bit(input, &written, *entry);
-            written.push(bit)?;
-        }
+        append_bits(self.entries(), input, &mut written)?;
         Ok(written)
+    }
+
+    // How the run ends with these bits of the writes.
+    fn end(&self, input: &[bool], written: &[bool]) -> Result<TapeEnd, Memory>
+        requires { written.now ≡ written_by input.now [] self.now.entries }
+        ensures { IfOk result (λ end. IsEndOf self.now input.now end) }
+    {
+        if let Some(claim) = first_failing(self.claims(), input, written) {
+            return Ok(TapeEnd::Broken { claim });
+        }
+        let outputs = bits_of(*self.allocator(), self.outputs(), input, written)?;
+        Ok(TapeEnd::Out(Bits::new(outputs)))
     }
 
     /// How the run of the tape ends on an input: with the output bits where every claim holds, else
@@ -116,10 +135,6 @@ impl Tape {
         ensures { IfOk result (λ end. IsEndOf self.now input.now end) }
     {
         let written = self.written(input)?;
-        if let Some(claim) = first_failing(self.claims(), input, &written) {
-            return Ok(TapeEnd::Broken { claim });
-        }
-        let outputs = bits_of(*self.allocator(), self.outputs(), input, &written)?;
-        Ok(TapeEnd::Out(Bits::new(outputs)))
+        self.end(input, &written)
     }
 }

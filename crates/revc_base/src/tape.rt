@@ -18,7 +18,7 @@ pub enum Ref {
 }
 
 /// A write: a constant, or the XOR or the AND of two earlier bits.
-#[derive(Clone, Copy, Debug, PartialEq, Eq)]
+#[derive(Clone, Copy, Debug)]
 pub enum Entry {
     Const(bool),
     Xor(Ref, Ref),
@@ -33,7 +33,7 @@ pub enum Kind {
 }
 
 /// A claim of a program on a bit, and the place of its term.
-#[derive(Clone, Copy, Debug, PartialEq, Eq)]
+#[derive(Clone, Copy)]
 pub struct Claim {
     pub kind: Kind,
     pub of: Ref,
@@ -45,7 +45,7 @@ pub struct Claim {
 /// and outputs.
 ///
 /// It keeps at most 1,024 inputs, 262,144 writes, 4,096 claims and 1,024 outputs.
-#[derive(Debug, Drop)]
+#[derive(Drop)]
 pub struct Tape {
     params: Vec<u32>,
     inputs: u32,

@@ -9,7 +9,7 @@ use std::alloc::Global;
 use std::marker::Model;
 
 /// A text of 1 to 64 bytes, which are any bytes. Contracts see it as the list of its bytes.
-#[derive(Debug, PartialEq, Eq, Hash, Drop)]
+#[derive(PartialEq, Eq, Hash, Drop)]
 pub struct Text {
     bytes: Key<u8>,
 }

@@ -33,23 +33,37 @@ fn mark_operands(marks: &mut [bool], entry: Entry) -> u64
     }
 }
 
-fn count_marks(marks: &[bool]) -> u64
-    ensures { result ≡ marked marks.now }
+// Marks these writes, and answers how many marks that adds.
+fn mark_all(marks: &mut [bool], all: &[Ref]) -> u64
+    ensures marks { marks.new ≡ with_marks marks.old all.now }
+    ensures added { marked marks.old + result ≡ marked marks.new }
 {
-    marks.iter().filter(|mark| **mark).count() as u64
+    let mut added = 0;
+    for made in all {
+        added += mark(marks, *made);
+    }
+    added
 }
 
 impl Tape {
-    // A mark for each write, set at the outputs.
-    fn output_marks(&self) -> Result<Vec<bool>, Memory>
-        ensures { IfOk result (λ marks.
-            marks.items ≡ with_marks (zeros (length self.now.entries)) self.now.outputs) }
+    // The width, with a mark for each write, set at the outputs, and with how many are set.
+    fn widest(&self, marks: &mut Vec<bool>, set: u64) -> u64
+        requires marks { marks.old.items
+            ≡ with_marks (zeros (length self.now.entries)) self.now.outputs }
+        requires set { set ≡ marked marks.old.items }
+        ensures { HasWidth self.now result }
     {
-        let mut marks = vec![in *self.allocator(); false; self.entries().len()]?;
-        for output in self.outputs() {
-            mark(&mut marks, *output);
+        // From the last place down: what is marked is needed at the place or later, and stands
+        // below it.
+        let mut live = set;
+        let mut width = set;
+        while let Some(is_needed) = marks.pop() {
+            live -= u64::from(is_needed);
+            let entry = self.entries()[marks.len()];
+            live += mark_operands(marks, entry);
+            width = width.max(live);
         }
-        Ok(marks)
+        width
     }
 
     /// The width of the tape: the greatest number, over j from 0 to the number of writes, of writes
@@ -57,17 +71,8 @@ impl Tape {
     pub fn width(&self) -> Result<u64, Memory>
         ensures { IfOk result (λ width. HasWidth self.now width) }
     {
-        // From the last place down: what is marked is needed at the place or later, and stands
-        // below it.
-        let mut marks = self.output_marks()?;
-        let mut live = count_marks(&marks);
-        let mut width = live;
-        while let Some(is_needed) = marks.pop() {
-            live -= u64::from(is_needed);
-            let entry = self.entries()[marks.len()];
-            live += mark_operands(&mut marks, entry);
-            width = width.max(live);
-        }
-        Ok(width)
+        let mut marks = vec![in *self.allocator(); false; self.entries().len()]?;
+        let set = mark_all(&mut marks, self.outputs());
+        Ok(self.widest(&mut marks, set))
     }
 }

@@ -7,7 +7,7 @@ ghost use Rattle.revs_terms.specs.Trees.{tree_of};
 use crate::{Name, Term};
 
 /// A parameter of a program: a bit, or a register of `width` bits.
-#[derive(Debug, Drop)]
+#[derive(Drop)]
 pub struct Param {
     pub name: Name,
     pub width: Option<u32>,

@@ -7,7 +7,7 @@ use revc_base::{Place, Text};
 
 /// A name in a program. `back` is the number of bindings between a use and its own binding; it is 0
 /// where a name is bound, and at a use until the names were bound.
-#[derive(Debug, Drop)]
+#[derive(Drop)]
 pub struct Name {
     pub text: Text,
     pub at: Place,

@@ -1,15 +1,11 @@
-use Rattle.std.proofs.Common.{rules, ◌≡◌, ℕ, ◌<◌, ◌+◌, ◌-◌, suc, List, [], Bool, false, ◌∷◌, ◌++◌, length, take, drop, slice_index_or, subst, sym, arith}
+use Rattle.std.proofs.Common.{rules, ◌≡◌, ◌<◌, ◌+◌, ◌-◌, suc, List, [], Bool, false, ◌∷◌, ◌++◌, length, take, drop, slice_index_or, subst, sym, arith}
 use Rattle.std.proofs.lemmas.Grind.{common_steps}
 use Rattle.revc_base.specs.declared.tape.Entry.TheVariants as entries
-use Rattle.revc_base.specs.inside.Marks.{marked}
 use Rattle.revc_base.proofs.WidthLemmas.{IsCounted, counted_begin, counted_again, counted_end, cut_where, written_back}
-use Rattle.revc_base.proofs.tape.Tape.width.Goals as goal
+use Rattle.revc_base.proofs.tape.Tape.widest.Goals as goal
 
 pub loop-is_needed-init : goal.loop-is_needed-init
-loop-is_needed-init c =
-    let marks = c.in_ok-marks.marks.items in
-    let count : c.count_marks-live.result ≡ marked marks = search rules in
-    subst (λ (n : ℕ). IsCounted c.args.self.now marks n n) (sym count) (counted_begin c.args.self.now marks c.in_ok-marks.ensures)
+loop-is_needed-init c = rw c.requires.set (counted_begin c.args.self.now c.args.marks.now.items c.requires.marks)
 
 pub loop-is_needed-preserved : goal.loop-is_needed-preserved
 loop-is_needed-preserved c =
