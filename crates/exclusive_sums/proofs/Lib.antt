@@ -4,3 +4,4 @@ pub mod InputLemmas
 pub mod MergingLemmas
 pub mod MonomialSetLemmas
 pub mod PolyLemmas
+pub mod StepLemmas

@@ -5,6 +5,7 @@ use Rattle.exclusive_sums.specs.Cubes.{IsJoined}
 use Rattle.exclusive_sums.specs.inside.Merging.{by_input, thirds}
 use Rattle.exclusive_sums.proofs.CubeLemmas.{IsJoined-thirds, thirds_left_over}
 use Rattle.revc_base.proofs.ResultLemmas.{no_value}
+use Rattle.exclusive_sums.proofs.StepLemmas.{at_most_one, thirds_step}
 use Rattle.exclusive_sums.proofs.cube.joined.Goals as goal
 use Rattle.exclusive_sums.proofs.cube.joined.Goals.{then-loop-i-test+else-j-right, else-loop-i-test}
 
@@ -39,3 +40,13 @@ returns-in_err-put_flipped c = no_value c.from_residual-in_err-put_flipped.resul
 
 pub returns-in_err-put_flipped-2 : goal.returns-in_err-put_flipped-2
 returns-in_err-put_flipped-2 c = no_value c.from_residual-in_err-put_flipped-2.result _ _ c.from_residual-in_err-put_flipped-2.ensures.1
+
+pub loop-i-preserved : goal.loop-i-preserved
+loop-i-preserved c =
+    let more = c.in_ok-put.ensures in
+    record {
+      in_left = at_most_one _ _ _ _ c.loop-i-test.true c.from-i.ensures;
+      in_right = at_most_one _ _ _ _ c.if-j-right.true c.from-j.ensures;
+      left_over = thirds_step _ _ _ _ _ _ _ _ _ c.loop-i-test.true c.if-j-right.true c.from-i.ensures c.from-j.ensures
+          (rw c.third.ensures at more) c.loop-i.invariant.left_over;
+    }

@@ -1,7 +1,8 @@
-use Rattle.std.proofs.Common.{◌⊎◌, ◌≤◌, length, refl, ◌∙◌, inl, inr, arith}
+use Rattle.std.proofs.Common.{◌⊎◌, ◌≤◌, ℕ, [], ◌∷◌, ◌++◌, length, refl, ap, ◌∙◌, inl, inr, arith}
 use Rattle.std.proofs.lemmas.List.{take_rest, append_assoc}
 use Rattle.exclusive_sums.proofs.PolyLemmas.{union_left_over}
 use Rattle.revc_base.proofs.ResultLemmas.{no_value}
+use Rattle.exclusive_sums.proofs.StepLemmas.{at_most_one, union_step}
 use Rattle.exclusive_sums.proofs.monomial.Monomial.union.Goals as goal
 use Rattle.exclusive_sums.proofs.monomial.Monomial.union.Goals.{then-loop-i-test+else-j-right, else-loop-i-test}
 
@@ -29,3 +30,13 @@ returns-in_err-extend_from_slice c = no_value c.from_residual-in_err-extend_from
 
 pub returns-in_err-extend_from_slice-2 : goal.returns-in_err-extend_from_slice-2
 returns-in_err-extend_from_slice-2 c = no_value c.from_residual-in_err-extend_from_slice-2.result _ _ c.from_residual-in_err-extend_from_slice-2.ensures.1
+
+pub loop-i-preserved : goal.loop-i-preserved
+loop-i-preserved c =
+    let more = c.in_ok-push.ensures.items in
+    record {
+      in_left = at_most_one _ _ _ _ c.loop-i-test.true c.from-i.ensures;
+      in_right = at_most_one _ _ _ _ c.if-j-right.true c.from-j.ensures;
+      left_over = union_step _ _ _ _ _ _ _ _ _ c.loop-i-test.true c.if-j-right.true c.from-i.ensures c.from-j.ensures
+          (more ∙ ap (λ (n : ℕ). c.loop-i.inputs.items ++ n ∷ []) c.min.ensures) c.loop-i.invariant.left_over;
+    }
