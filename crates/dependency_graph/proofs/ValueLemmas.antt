@@ -23,7 +23,7 @@ use Rattle.dependency_graph.specs.declared.node.Sig.{Sig}
 use Rattle.dependency_graph.specs.declared.node.Sig.TheVariants.{Const, Is}
 use Rattle.dependency_graph.specs.Graphs.{IsKnownSig, IsGraphOf, sig_of, base_bit, sig_bit, node_bit, made_by, value_on}
 use Rattle.dependency_graph.specs.Folds.{FoldView, is_same, xor_of, and_of, folded, with_folded, with_write, folded_by, nothing_folded, graph_of}
-use Rattle.dependency_graph.proofs.FoldLemmas.{IsFolded, same_bases, write_is, nothing_is, length-all, graph_is}
+use Rattle.dependency_graph.proofs.FoldLemmas.{IsFolded, same_bases, write_is, nothing_is, length-all}
 
 -- ---- one write
 
@@ -165,6 +165,3 @@ graph_of_tape t is = record {
   outputs = refl;
   values = graph_values t is;
 }
-
--- what a tape's graph is
-pub ruleset graphs = (graph_is, graph_of_tape)

@@ -7,7 +7,7 @@ ghost use Rattle.dependency_graph.specs.Folds.{nothing_folded, with_write, xor_c
 
 use crate::{Base, Node, Sig};
 use revc_base::{Entry, Memory, Ref, Tape};
-use std::alloc::Global;
+use std::alloc::{AllocError, Global};
 use std::marker::Model;
 
 // What a write is folded to: a constant or a base that is there already, or a new node.
@@ -82,10 +82,10 @@ pub fn sig_of(sigs: &[Sig], made: Ref) -> Sig
 }
 
 // What these bits of the tape are.
-pub fn sigs_of(alloc: Global, sigs: &[Sig], made: &[Ref]) -> Result<Vec<Sig>, Memory>
+pub fn sigs_of(alloc: Global, sigs: &[Sig], made: &[Ref]) -> Result<Vec<Sig>, AllocError>
     ensures { IfOk result (λ found. found.items ≡ map (sig_of sigs.now) made.now) }
 {
-    Ok(made.iter().map(|made| sig_of(sigs, *made)).collect(alloc)?)
+    made.iter().map(|made| sig_of(sigs, *made)).collect(alloc)
 }
 
 fn folded(sigs: &[Sig], entry: Entry) -> Reduct

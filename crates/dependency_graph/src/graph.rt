@@ -54,7 +54,6 @@ impl Model for Graph {
 impl Graph {
     /// The graph of a tape, in time linear in it. Each write is folded by its own operands alone,
     /// and equal nodes are not shared.
-    #[tactic(auto, using(crate::proofs::ValueLemmas::graphs))]
     pub fn of(tape: &Tape) -> Result<Graph, Memory>
         ensures fold { IfOk result (λ graph. graph ≡ graph_of tape.now) }
         ensures of_tape { IfOk result (λ graph. IsGraphOf tape.now graph) }

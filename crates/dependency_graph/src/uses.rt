@@ -56,7 +56,6 @@ fn set_output_uses(table: &mut [u32], outputs: &[Sig], place: u32)
 }
 
 // The numbers of so many nodes.
-#[tactic(auto, using(crate::proofs::TableLemmas::below_next))]
 fn numbers(alloc: Global, count: u32) -> Result<Vec<u32>, Memory>
     ensures { IfOk result (λ numbers. numbers.items ≡ below count) }
 {
