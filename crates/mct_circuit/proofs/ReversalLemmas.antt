@@ -1,10 +1,10 @@
 -- A gate undoes itself, and a list of gates in reversed order undoes the list.
-use Rattle.std.proofs.Common.{◌≡◌, ◌≢◌, ℕ, ◌<◌, Bool, true, false, not, cond, List, [], ◌∷◌, ◌++◌, length, map, take, reverse, swap, set, refl, sym, ap}
-use Rattle.std.proofs.Common.{◌∙◌, subst, arith}
+use Rattle.std.proofs.Common.{◌≡◌, ◌≢◌, ℕ, ◌<◌, Bool, true, false, not, cond, List, [], ◌∷◌, ◌++◌, length, map, take, get_or, reverse, swap, set, refl, sym, ap}
+use Rattle.std.proofs.Common.{◌+◌, ◌∙◌, subst, arith}
 use Rattle.std.specs.List.{AllByRecursion, list_all}
 use Rattle.std.proofs.Math.Bool.{not-not}
 use Rattle.std.proofs.lemmas.List.{length-set, get_or-set_same, get_or-set_other, set-set, set_comm, set-get_or, get_or_default, reverse-append}
-use Rattle.std.proofs.lemmas.List.{reverse-reverse}
+use Rattle.std.proofs.lemmas.List.{reverse-reverse, take_more}
 use Rattle.list_facts.proofs.AllLemmas.{AllByRecursion-append, AllByRecursion-right, AllByRecursion-reverse, AllByRecursion-take}
 use Rattle.list_facts.proofs.OrderLemmas.{AreDifferent-parts}
 use Rattle.mct_circuit.specs.declared.gate.Control.{Control}
@@ -151,7 +151,12 @@ pub AreGatesOn-push : (n : ℕ) (gates : List GateView) (gate : GateView) → Ar
     → AllByRecursion (λ line. line < n) (lines_of gate) → AreGatesOn n (gates ++ gate ∷ [])
 AreGatesOn-push n gates gate g d r = AllByRecursion-append (IsGateOn n) gates (gate ∷ []) g (record { different = d; in_range = r }, tt)
 
-pub AreGatesOn-mirror : (n count : ℕ) (gates : List GateView) → AreGatesOn n gates → AreGatesOn n (gates ++ reverse (take count gates))
-AreGatesOn-mirror n count gates g =
-    AllByRecursion-append (IsGateOn n) gates (reverse (take count gates)) g
-    (AllByRecursion-reverse (IsGateOn n) (take count gates) (AllByRecursion-take (IsGateOn n) count gates g))
+pub AreGatesOn-mirror : (n count : ℕ) (gates : List GateView) → AreGatesOn n gates → AreGatesOn n (reverse (take count gates))
+AreGatesOn-mirror n count gates g = AllByRecursion-reverse (IsGateOn n) (take count gates) (AllByRecursion-take (IsGateOn n) count gates g)
+
+-- one more gate was copied
+pub copied_more : (gates : List GateView) (place : ℕ) (gate copy : GateView) (so_far now : List GateView) → place < length gates
+    → gate ≡ get_or gates place gate → copy ≡ gate → now ≡ so_far ++ copy ∷ [] → so_far ≡ take place gates → now ≡ take (place + 1) gates
+copied_more gates place gate copy so_far now inside at is pushed copied =
+    pushed ∙ ap (λ (front : List GateView). front ++ copy ∷ []) copied ∙ ap (λ (g : GateView). take place gates ++ g ∷ []) (is ∙ at)
+    ∙ sym (take_more gates place gate inside)

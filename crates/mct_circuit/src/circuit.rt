@@ -130,8 +130,7 @@ impl Circuit {
         }
         let alloc = *self.gates.allocator();
         let mut mirrored = reversed_copies(alloc, &self.gates[..count as usize])?;
-        self.gates.append(&mut mirrored)?;
-        Ok(())
+        self.append(&mut mirrored)
     }
 
     /// Appends all gates, and leaves `gates` empty. `Full` comes exactly where the circuit would
