@@ -125,7 +125,8 @@ thirds_step left right so_far now whole i j a b low high by_a by_b put was =
 
 pub differences_step : (left right : List Literal) (count more whole : ℕ) (i j a b : ℕ) → i < length left → j < length right
     → a ≡ bool_byte (leb (get_or left i none).input (get_or right j none).input) → b ≡ bool_byte (leb (get_or right j none).input (get_or left i none).input)
-    → more ≡ bool_byte (not (eqb (get_or left i none).input (get_or right j none).input && same_sign (get_or left i none).positive (get_or right j none).positive))
+    → more ≡ bool_byte (not (eqb (get_or left i none).input (get_or right j none).input
+    && same_sign (get_or left i none).positive (get_or right j none).positive))
     → count + differences (aligned by_input (drop i left) (drop j right)) ≡ whole
     → count + more + differences (aligned by_input (drop (i + a) left) (drop (j + b) right)) ≡ whole
 differences_step left right count more whole i j a b low high by_a by_b put was =
