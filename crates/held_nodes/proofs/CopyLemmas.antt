@@ -5,7 +5,7 @@ use Rattle.std.specs.Bool.{xor}
 use Rattle.std.specs.List.{AllByRecursion}
 use Rattle.std.proofs.lemmas.List.{drop_more, get_or_at, set_at, length-replicate}
 use Rattle.list_facts.specs.Bits.{bit_of, zeros}
-use Rattle.list_facts.proofs.AllLemmas.{AllByRecursion-append}
+use Rattle.list_facts.proofs.AllLemmas.{AllByRecursion-append, AllByRecursion-at}
 use Rattle.list_facts.proofs.BitLemmas.{xor_nothing}
 use Rattle.claim_check.specs.Settled.{SettledView, settled_value, settled_outputs}
 use Rattle.dependency_graph.specs.declared.node.Base.{Base}
@@ -27,11 +27,17 @@ use Rattle.held_nodes.proofs.PlaceLemmas.{held_own, low_base, narrow_is_roomy, p
 use Rattle.held_nodes.proofs.SetLemmas.{flip_always, flip_by_one}
 
 -- an output's line stays apart where it is a later one
-pub later_apart : (first : ℕ) (lines : List (Option ℕ)) (output later : ℕ) (sig : Sig) → output ≤ later → later < first → IsApartSig first lines output sig
+later_apart : (first : ℕ) (lines : List (Option ℕ)) (output later : ℕ) (sig : Sig) → output ≤ later → later < first → IsApartSig first lines output sig
     → IsApartSig first lines later sig
 later_apart first lines output later (Const bit) le low apart = tt
 later_apart first lines output later (Is (bases.Input i)) le low apart = omega (arith, le, apart)
 later_apart first lines output later (Is (bases.Node k)) le low apart = (apart.0, low)
+
+pub output_apart : (inputs k : ℕ) (lines : List (Option ℕ)) (sigs : List Sig) (any : Sig) → k < length sigs
+    → AllByRecursion (IsApartSig (inputs + length sigs) lines inputs) sigs → IsApartSig (inputs + length sigs) lines (inputs + k) (get_or sigs k any)
+output_apart inputs k lines sigs any low apart =
+    later_apart (inputs + length sigs) lines inputs (inputs + k) (get_or sigs k any) (omega arith) (omega (arith, low))
+    (AllByRecursion-at (IsApartSig (inputs + length sigs) lines inputs) sigs k any apart low)
 
 -- ---- the outputs that are copied
 

@@ -1,5 +1,6 @@
 -- A finished plan: the gates, the copies, and the gates reversed.
-use Rattle.std.proofs.Common.{◌≡◌, ℕ, ◌+◌, ◌-◌, ◌*◌, ◌<◌, ◌≤◌, Bool, false, List, [], ◌++◌, length, reverse, refl, sym, ap, ◌∙◌, subst, arith, append-nil}
+use Rattle.std.proofs.Common.{◌≡◌, ℕ, ◌+◌, ◌-◌, ◌*◌, ◌<◌, ◌≤◌, Bool, false, List, [], ◌++◌, length, reverse, refl, sym, ap, ◌∙◌, subst, arith, append-nil, Result, Ok, Err}
+use Rattle.std.specs.Result.{IfOk, IfErr}
 use Rattle.std.specs.List.{AllByRecursion}
 use Rattle.std.proofs.lemmas.List.{nil_from_length, length-map, length-replicate}
 use Rattle.std.proofs.lemmas.List.Sums.{sum_by-append}
@@ -8,13 +9,16 @@ use Rattle.list_facts.proofs.AllLemmas.{AllByRecursion-append, AllByRecursion-re
 use Rattle.ancilla_heap.specs.Lines.{HeapView}
 use Rattle.claim_check.specs.Settled.{settled_outputs, settled_value}
 use Rattle.gate_split.specs.Costs.{IsRoomyFlip}
-use Rattle.gate_split.specs.Plans.{MapsCleanly}
+use Rattle.gate_split.specs.declared.plan.PlanFault.{PlanFault}
+use Rattle.gate_split.specs.declared.plan.PlanFault.TheVariants.{Memory}
+use Rattle.gate_split.specs.declared.plan.TheConstants.{MOST_LINES}
+use Rattle.gate_split.specs.Plans.{MapsCleanly, PlannedView}
 use Rattle.mct_circuit.specs.Gates.{AreGatesOn, line_map}
 use Rattle.mct_circuit.specs.Sizes.{weight_of}
 use Rattle.mct_circuit.proofs.ReversalLemmas.{conjugated}
 use Rattle.mct_circuit.proofs.WeightLemmas.{length-le-weight, weight-reverse}
 use Rattle.held_nodes.specs.Held.{ForwardView, first_work}
-use Rattle.held_nodes.specs.Moves.{IsReadySig, copies_of, finished_gates, finished_weight, planned_of, roles_of_plan, weight_in}
+use Rattle.held_nodes.specs.Moves.{IsFinishFault, IsReadySig, copies_of, finished_gates, finished_weight, planned_of, roles_of_plan, weight_in}
 use Rattle.held_nodes.specs.Plans.{HasPorts, IsInBudget}
 use Rattle.held_nodes.specs.inside.Kept.{IsApartSig, IsKept}
 use Rattle.held_nodes.proofs.ContentLemmas.{all_lines, length-all_lines}
@@ -124,3 +128,15 @@ module _ (f : ForwardView) (w : ℕ) (heap : HeapView) (d : IsDone f w heap) whe
 
   pub done_ports : HasPorts f.graph (planned_of f)
   done_ports = record { inputs = refl; outputs = refl; lines = refl }
+
+  pub done_few : first_work f.graph + f.most ≤ MOST_LINES
+  done_few = omega (arith, d.kept.forward.within, d.kept.few)
+
+-- what is said of the plan, where there is one
+pub of_plan : (r : Result PlannedView PlanFault) (p : PlannedView) (Q : PlannedView → Type 0) → IfOk r (λ planned. planned ≡ p) → Q p → IfOk r Q
+of_plan (Ok x) p Q is q = subst Q (sym is) q
+of_plan (Err e) p Q is q = tt
+
+pub memory_refuses : (r : Result PlannedView PlanFault) (f : ForwardView) → IfErr r (λ fault. fault ≡ Memory) → IfErr r (IsFinishFault f)
+memory_refuses (Ok x) f is = tt
+memory_refuses (Err e) f is = subst (IsFinishFault f) (sym is) tt

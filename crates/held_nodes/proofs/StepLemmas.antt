@@ -1,5 +1,5 @@
 -- A toggle, step by step: a line is taken or given back, the gates are appended.
-use Rattle.std.proofs.Common.{◌≡◌, ℕ, ◌+◌, ◌*◌, ◌/◌, ◌<◌, ◌≤◌, max, true, false, List, ◌++◌, length, get_or, set, Option, Some, None, is_some, slice_get, refl}
+use Rattle.std.proofs.Common.{◌≡◌, ℕ, ◌+◌, ◌*◌, ◌/◌, ◌<◌, ◌≤◌, max, true, List, ◌++◌, length, get_or, set, Option, Some, None, is_some, slice_get, refl, IfSome}
 use Rattle.std.proofs.Common.{sym, ap, ◌∙◌, subst, arith}
 use Rattle.std.specs.List.{AllByRecursion}
 use Rattle.std.proofs.lemmas.Bool.{false≢true}
@@ -19,13 +19,13 @@ use Rattle.gate_split.specs.declared.plan.TheConstants.{MOST_LINES}
 use Rattle.gate_split.specs.Costs.{IsRoomyFlip}
 use Rattle.mct_circuit.specs.Gates.{GateView}
 use Rattle.mct_circuit.specs.Sizes.{weight_of}
-use Rattle.held_nodes.specs.Held.{ForwardView, IsForward, IsLeastFree, first_work, held_line, held_count, is_held}
+use Rattle.held_nodes.specs.Held.{ForwardView, IsForward, IsLeastFree, first_work, held_line, held_count}
 use Rattle.held_nodes.specs.Moves.{IsReadyBase, IsReadyNode, IsToggled, IsToggleFault, IsToggleTooHeavy, HasNoLine, toggle_of, toggle_weight, weight_in}
 use Rattle.held_nodes.specs.Moves.{with_node}
-use Rattle.held_nodes.specs.inside.Kept.{IsKept, IsWeightFault}
+use Rattle.held_nodes.specs.inside.Kept.{IsKept, IsLineAfter, IsLineFor, IsWeightFault}
 use Rattle.held_nodes.proofs.ForwardLemmas.{AddNode, forward_put, forward_given}
 use Rattle.held_nodes.proofs.LineLemmas.{held_taken, held_within, least_free, out-taken, out-given, not_free, count-put, count-given}
-use Rattle.held_nodes.proofs.PlaceLemmas.{CanToggleOn, held_own, toggle_adds, toggle_roomy, unheld_none}
+use Rattle.held_nodes.proofs.PlaceLemmas.{CanToggleOn, toggle_adds, toggle_roomy}
 use Rattle.held_nodes.proofs.ValueLemmas.{known_at}
 
 -- ---- weights
@@ -59,20 +59,6 @@ pub record Takes (f : ForwardView) (w : ℕ) (old new : HeapView) (k line : ℕ)
   pub least : heaps.IsLeastFree old line
   pub taken : new ≡ with_taken old line
   pub peak : new.peak ≡ max old.peak (length new.out)
-
-pub takes_of : (f entry : ForwardView) (w : ℕ) (old new : HeapView) (k line : ℕ) (node : Node)
-    → f ≡ entry → IsKept f w old → IsReadyNode entry.graph entry.lines k
-    → is_held entry.lines k ≡ false → slice_get f.graph.nodes k ≡ Some node → heaps.IsLeastFree old line → new ≡ with_taken old line
-    → new.peak ≡ max old.peak (length new.out) → Takes f w old new k line node
-takes_of f entry w old new k line node e kept ready free is least taken peak = record {
-  kept = kept;
-  ready = subst (λ (g : ForwardView). IsReadyNode g.graph g.lines k) (sym e) ready;
-  node_is = is;
-  none = unheld_none f.lines k (ap (λ (g : ForwardView). is_held g.lines k) e ∙ free);
-  least = least;
-  taken = taken;
-  peak = peak;
-}
 
 node_place : (f : ForwardView) (k : ℕ) (node : Node) → IsForward f → slice_get f.graph.nodes k ≡ Some node → k < length f.lines
 node_place f k node is at = omega (arith, is.nodes, slice_get_within f.graph.nodes k node at)
@@ -177,23 +163,9 @@ module _ (f : ForwardView) (w : ℕ) (old new : HeapView) (k line : ℕ) (node :
 
 -- ---- a line is given back
 
--- what was read of the lines
-pub read_own : (lines : List (Option ℕ)) (k line : ℕ) (read : Option ℕ) → k < length lines → read ≡ get_or lines k read → read ≡ Some line
-    → held_line lines k ≡ Some line
-read_own lines k line read low e is = get_or_default lines k None read low ∙ sym e ∙ is
-
 pub record Gives (f : ForwardView) (w : ℕ) (old : HeapView) (k line : ℕ) : Type 0 where
   pub kept : IsKept f w old
   pub own : held_line f.lines k ≡ Some line
-
-pub gives_of : (f entry : ForwardView) (w : ℕ) (old : HeapView) (k line : ℕ) (read : Option ℕ) → f ≡ entry → IsKept f w old → is_held entry.lines k ≡ true
-    → read ≡ get_or f.lines k read → read ≡ Some line → Gives f w old k line
-gives_of f entry w old k line read e kept held reads is = record {
-  kept = kept;
-  own =
-      (let own = held_own f.lines k (ap (λ (g : ForwardView). is_held g.lines k) e ∙ held) in
-      read_own f.lines k line read (held_within f.lines k own.own own.is) reads is);
-}
 
 module _ (f : ForwardView) (w : ℕ) (old : HeapView) (k line : ℕ) (g : Gives f w old k line) where
   pub given_place : k < length f.lines
@@ -279,3 +251,112 @@ module _ (f : ForwardView) (w : ℕ) (old : HeapView) (k line : ℕ) (g : Gives 
     takes = rw g.own (refl, refl);
     becomes = given_becomes new (toggle_on f line node) e;
   }
+
+-- ---- a toggle of either kind
+
+pub record Toggles (f : ForwardView) (w : ℕ) (old out : HeapView) (k line : ℕ) (own : Option ℕ) (node : Node) : Type 0 where
+  pub kept : IsKept f w old
+  pub ready : IsReadyNode f.graph f.lines k
+  pub node_is : slice_get f.graph.nodes k ≡ Some node
+  pub own_is : held_line f.lines k ≡ own
+  pub line_is : IsLineFor own old out line
+
+pub toggles_of : (f entry : ForwardView) (w : ℕ) (old out : HeapView) (k line : ℕ) (own : Option ℕ) (node : Node) → f ≡ entry → IsKept f w old
+    → IsReadyNode entry.graph entry.lines k → slice_get f.graph.nodes k ≡ Some node → own ≡ get_or f.lines k own → IsLineFor own old out line
+    → Toggles f w old out k line own node
+toggles_of f entry w old out k line own node e kept ready is read line_is = record {
+  kept = kept;
+  ready = subst (λ (g : ForwardView). IsReadyNode g.graph g.lines k) (sym e) ready;
+  node_is = is;
+  own_is = get_or_default f.lines k None own (node_place f k node kept.forward is) ∙ sym read;
+  line_is = line_is;
+}
+
+takes_line : (f : ForwardView) (w : ℕ) (old out : HeapView) (k line : ℕ) (node : Node) → Toggles f w old out k line None node → Takes f w old out k line node
+takes_line f w old out k line node t = record {
+  kept = t.kept;
+  ready = t.ready;
+  node_is = t.node_is;
+  none = t.own_is;
+  least = t.line_is.0;
+  taken = t.line_is.1;
+  peak = t.line_is.2;
+}
+
+gives_line : (f : ForwardView) (w : ℕ) (old out : HeapView) (k line own : ℕ) (node : Node) → Toggles f w old out k line (Some own) node → Gives f w old k line
+gives_line f w old out k line own node t = record { kept = t.kept; own = t.own_is ∙ ap (λ (n : ℕ). Some n) (sym t.line_is.0) }
+
+same_peak : (f : ForwardView) (w : ℕ) (old out : HeapView) (k line own : ℕ) (node : Node) → Toggles f w old out k line (Some own) node → f.most ≡ out.peak
+same_peak f w old out k line own node t = sym (ap (λ (h : HeapView). h.peak) t.line_is.1 ∙ t.kept.peak)
+
+-- the line can be toggled, and is no more than the most lines
+pub record HasLine (f : ForwardView) (work k line : ℕ) (node : Node) : Type 0 where
+  pub can : CanToggleOn f.graph f.lines work k line node
+  pub few : first_work f.graph + work ≤ MOST_LINES
+
+pub toggles_on : (f : ForwardView) (w : ℕ) (old out : HeapView) (k line : ℕ) (own : Option ℕ) (node : Node) → Toggles f w old out k line own node
+    → HasLine f out.peak k line node
+toggles_on f w old out k line None node t =
+    let takes = takes_line f w old out k line node t in
+    record { can = taken_can f w old out k line node takes; few = taken_few f w old out k line node takes }
+toggles_on f w old out k line (Some own) node t =
+    let gives = gives_line f w old out k line own node t in
+    subst (λ (m : ℕ). HasLine f m k line node) (same_peak f w old out k line own node t)
+    (record { can = given_can f w old k line gives node t.ready t.node_is; few = given_few f w old k line gives })
+
+pub toggle_place : (f : ForwardView) (w : ℕ) (old out : HeapView) (k line : ℕ) (own : Option ℕ) (node : Node) → Toggles f w old out k line own node
+    → k < length f.lines
+toggle_place f w old out k line own node t = node_place f k node t.kept.forward t.node_is
+
+pub toggle_target : (f : ForwardView) (work k line : ℕ) (node : Node) → HasLine f work k line node → first_work f.graph + line ≤ MOST_LINES
+toggle_target f work k line node has = omega (arith, has.few, has.can.inside)
+
+pub toggle_fault : (f : ForwardView) (w : ℕ) (old out : HeapView) (k line : ℕ) (own : Option ℕ) (node : Node) → Toggles f w old out k line own node
+    → (fault : PlanFault) → IsWeightFault w (weight_in (f.gates ++ toggle_on f line node)) fault → IsToggleFault f k fault
+toggle_fault f w old out k line None node t fault is = taken_fault f w old out k line node (takes_line f w old out k line node t) fault is
+toggle_fault f w old out k line (Some own) node t fault is =
+    given_fault f w old k line (gives_line f w old out k line own node t) node fault t.node_is is
+
+pub toggle_out : (f : ForwardView) (w : ℕ) (old out : HeapView) (k line : ℕ) (own : Option ℕ) (node : Node) → Toggles f w old out k line own node
+    → IfSome own (λ own. contains out.out own ≡ true)
+toggle_out f w old out k line None node t = tt
+toggle_out f w old out k line (Some own) node t =
+    subst (λ (h : HeapView). contains h.out own ≡ true) (sym t.line_is.1) (t.kept.out.out own ∙ held_taken f.lines k own t.own_is)
+
+-- the forward part once it is toggled
+abbrev pub with_toggle : ForwardView → ℕ → Node → ℕ → Option ℕ → HeapView → ForwardView
+with_toggle f line node k after new = record f { gates = f.gates ++ toggle_on f line node; lines = set f.lines k after; most = new.peak }
+
+pub record ToggleEnds (f : ForwardView) (w : ℕ) (new : HeapView) (k line : ℕ) (after : Option ℕ) (node : Node) : Type 0 where
+  pub kept : IsKept (with_toggle f line node k after new) w new
+  pub toggled : IsToggled f k (with_toggle f line node k after new)
+
+put_ends : (f : ForwardView) (w : ℕ) (old out new : HeapView) (k line : ℕ) (after : Option ℕ) (node : Node) → Takes f w old out k line node
+    → IsLineAfter None line out new after → IsLineHeap new → weight_in (f.gates ++ toggle_on f line node) ≤ w → ToggleEnds f w new k line after node
+put_ends f w old out new k line after node t is heap light =
+    let same : (out ≡ new) × (Some line ≡ after) = (sym is.0, sym is.1) in
+    subst (λ (h : HeapView). ToggleEnds f w h k line after node) same.0
+    (subst (λ (x : Option ℕ). ToggleEnds f w out k line x node) same.1 (record {
+      kept = taken_kept f w old out k line node t (subst IsLineHeap is.0 heap) light;
+      toggled = taken_toggled f w old out k line node t;
+    }))
+
+give_ends : (f : ForwardView) (w : ℕ) (old new : HeapView) (k line : ℕ) (after : Option ℕ) (node : Node) → Gives f w old k line
+    → IsReadyNode f.graph f.lines k → slice_get f.graph.nodes k ≡ Some node → new ≡ record old { out = without_line old.out line } → after ≡ None
+    → IsLineHeap new → weight_in (f.gates ++ toggle_on f line node) ≤ w → ToggleEnds f w new k line after node
+give_ends f w old new k line after node g ready at e is heap light =
+    subst (λ (x : Option ℕ). ToggleEnds f w new k line x node) (sym is) (record {
+      kept = given_kept f w old k line g new (toggle_on f line node) e heap light
+          (toggle_roomy f.graph f.lines f.most k line node (given_can f w old k line g node ready at)) (given_adds f w old k line g node ready at);
+      toggled = given_toggled f w old k line g new node e at;
+    })
+
+pub toggle_ends : (f : ForwardView) (w : ℕ) (old out new : HeapView) (k line : ℕ) (own after : Option ℕ) (node : Node) → Toggles f w old out k line own node
+    → IsLineAfter own line out new after → IsLineHeap new → weight_in (f.gates ++ toggle_on f line node) ≤ w → ToggleEnds f w new k line after node
+toggle_ends f w old out new k line None after node t is heap light =
+    put_ends f w old out new k line after node (takes_line f w old out k line node t) is heap light
+toggle_ends f w old out new k line (Some own) after node t is heap light =
+    let back : new ≡ record old { out = without_line old.out line } =
+    is.0 ∙ ap (λ (h : HeapView). record h { out = without_line h.out own }) t.line_is.1
+    ∙ ap (λ (n : ℕ). record old { out = without_line old.out n }) (sym t.line_is.0) in
+    give_ends f w old new k line after node (gives_line f w old out k line own node t) t.ready t.node_is back is.1 heap light

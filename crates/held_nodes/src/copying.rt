@@ -1,15 +1,19 @@
 // The gates that copy the outputs to their lines, and the circuit of a finished plan.
 ghost use Rattle.std.specs.Prelude.{◌≡◌, ◌+◌, ◌<◌, ◌≤◌, ◌∷◌, [], ◌++◌, ◌*◌, length, reverse, take};
-ghost use Rattle.std.specs.Prelude.{IfOk, OnOk};
+ghost use Rattle.std.specs.Prelude.{IfOk, IfErr, OnOk};
 ghost use Rattle.std.specs.List.{AllByRecursion};
+ghost use Rattle.claim_check.specs.Settled.{IsSettled};
 ghost use Rattle.gate_split.specs.declared.plan.TheConstants.{MOST_LINES};
 ghost use Rattle.list_facts.specs.Lists.{AreDifferent};
 ghost use Rattle.mct_circuit.specs.Gates.{AreGatesOn, flip_of};
+ghost use Rattle.held_nodes.specs.Held.{first_work};
 ghost use Rattle.held_nodes.specs.Moves.{copies_from, copy_of};
 ghost use Rattle.held_nodes.specs.inside.Kept.{IsApartSig};
 
 use crate::toggling::base_line;
+use claim_check::Settled;
 use dependency_graph::Sig;
+use gate_split::{PlanFault, Planned};
 use mct_circuit::{Circuit, Gate, GateFault};
 use revc_base::Memory;
 use std::alloc::Global;
@@ -65,39 +69,71 @@ fn push_flip(copies: &mut Vec<Gate>, controls: &[u32], target: u32) -> Result<()
     Ok(())
 }
 
-// The circuit of the gates, the copies, and the gates reversed.
-pub fn finished_circuit(
-    alloc: Global,
-    lines: u32,
-    limit: u64,
-    gates: Vec<Gate>,
-    copies: Vec<Gate>,
-) -> Result<Circuit, Memory>
-    requires gates { AreGatesOn lines gates.items }
-    requires copies { AreGatesOn lines copies.items }
-    requires room { 2 * length gates.items + length copies.items ≤ limit }
-    ensures { IfOk result (λ circuit. circuit ≡ record {
-      lines = lines;
-      limit = limit;
-      gates = gates.items ++ copies.items ++ reverse gates.items;
-    }) }
+// The first work line.
+pub fn first_work(graph: &Settled) -> u32
+    ensures first { result ≡ first_work graph.now }
+    ensures settled { IsSettled graph.now }
 {
-    let mut circuit = Circuit::new(alloc, lines, limit);
-    append(&mut circuit, gates)?;
+    graph.inputs() + graph.outputs().len() as u32
+}
+
+// The plan of the gates, the copies, and the gates reversed.
+pub fn plan_of(
+    graph: &Settled,
+    limit: u64,
+    work: u32,
+    mut gates: Vec<Gate>,
+    mut copies: Vec<Gate>,
+) -> Result<Planned, PlanFault>
+    requires few { first_work graph.now + work ≤ MOST_LINES }
+    requires gates { AreGatesOn (first_work graph.now + work) gates.items }
+    requires copies { AreGatesOn (first_work graph.now + work) copies.items }
+    requires room { 2 * length gates.items + length copies.items ≤ limit }
+    ensures ok { IfOk result (λ planned. planned ≡ record {
+      circuit = record {
+        lines = first_work graph.now + work;
+        limit = limit;
+        gates = gates.items ++ copies.items ++ reverse gates.items;
+      };
+      inputs = graph.now.inputs;
+      outputs = length graph.now.outputs;
+      work = work;
+    }) }
+    ensures refused { IfErr result (λ fault. fault ≡ PlanFault.Memory) }
+{
+    let mut circuit = Circuit::new(*gates.allocator(), first_work(graph) + work, limit);
+    append_all(&mut circuit, &mut gates, &mut copies)?;
+    let outputs = graph.outputs().len() as u32;
+    Ok(Planned::new(circuit, graph.inputs(), outputs, work))
+}
+
+// Appends the gates, the copies, and the gates reversed, where there is room for them.
+fn append_all(
+    circuit: &mut Circuit,
+    gates: &mut Vec<Gate>,
+    copies: &mut Vec<Gate>,
+) -> Result<(), Memory>
+    requires empty { circuit.old.gates ≡ [] }
+    requires gates { AreGatesOn circuit.old.lines gates.old.items }
+    requires copies { AreGatesOn circuit.old.lines copies.old.items }
+    requires room { 2 * length gates.old.items + length copies.old.items ≤ circuit.old.limit }
+    ensures { OnOk result (circuit.new ≡ record circuit.old
+        { gates = gates.old.items ++ copies.old.items ++ reverse gates.old.items }) }
+{
+    append(circuit, gates)?;
     let count = circuit.len();
-    append(&mut circuit, copies)?;
-    mirror(&mut circuit, count)?;
-    Ok(circuit)
+    append(circuit, copies)?;
+    mirror(circuit, count)
 }
 
 // Appends gates where there is room for them.
-fn append(circuit: &mut Circuit, mut gates: Vec<Gate>) -> Result<(), Memory>
-    requires on { AreGatesOn circuit.old.lines gates.items }
-    requires room { length circuit.old.gates + length gates.items ≤ circuit.old.limit }
+fn append(circuit: &mut Circuit, gates: &mut Vec<Gate>) -> Result<(), Memory>
+    requires on { AreGatesOn circuit.old.lines gates.old.items }
+    requires room { length circuit.old.gates + length gates.old.items ≤ circuit.old.limit }
     ensures { OnOk result (circuit.new
-        ≡ record circuit.old { gates = circuit.old.gates ++ gates.items }) }
+        ≡ record circuit.old { gates = circuit.old.gates ++ gates.old.items }) }
 {
-    match circuit.append(&mut gates) {
+    match circuit.append(gates) {
         Ok(()) => Ok(()),
         Err(GateFault::Memory) => Err(Memory),
         Err(GateFault::Full) => unreachable!(),

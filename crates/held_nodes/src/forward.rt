@@ -1,23 +1,27 @@
 // Forward parts: what is held, and the gates that hold it.
 ghost use Rattle.std.specs.Prelude.{◌≡◌, ◌+◌, ◌<◌, ◌≤◌, [], length, true, false, replicate, Option};
-ghost use Rattle.std.specs.Prelude.{None, IfOk, IfErr};
+ghost use Rattle.std.specs.Prelude.{None, Some, IfOk, IfErr, IfSome, IfNone};
 ghost use Rattle.std.specs.List.{AllByRecursion};
+ghost use Rattle.ancilla_heap.specs.Lines.{IsLineHeap, contains};
 ghost use Rattle.claim_check.specs.Settled.{IsSettled, settled_outputs};
 ghost use Rattle.gate_split.specs.Costs.{IsRoomyFlip};
 ghost use Rattle.gate_split.specs.Plans.{MapsCleanly};
-ghost use Rattle.held_nodes.specs.Held.{IsForward, first_work, is_held};
+ghost use Rattle.held_nodes.specs.Held.{IsForward, first_work, held_line, is_held};
 ghost use Rattle.held_nodes.specs.Moves.{CanClear, IsCleared, IsClearFault, IsFinishFault};
 ghost use Rattle.held_nodes.specs.Moves.{IsReadyNode, IsReadySig, IsStartFault, IsToggled};
-ghost use Rattle.held_nodes.specs.Moves.{IsToggleFault, nothing_held, planned_of, roles_of_plan};
+ghost use Rattle.held_nodes.specs.Moves.{IsToggleFault, copies_of, finished_weight, nothing_held};
+ghost use Rattle.held_nodes.specs.Moves.{planned_of, roles_of_plan};
 ghost use Rattle.held_nodes.specs.Plans.{HasPorts, IsInBudget};
+ghost use Rattle.held_nodes.specs.inside.Kept.{HasNoLineFor, IsLineFor, IsLineAfter};
 
-use crate::copying::{copies_of, finished_circuit};
+use crate::copying::{copies_of, first_work, plan_of};
 use crate::toggling::{append_cubes, append_toggle};
 use crate::weighed::WeighedGates;
 use ancilla_heap::Heap;
 use claim_check::Settled;
 use exclusive_sums::Cube;
 use gate_split::{Budget, PlanFault, Planned};
+use mct_circuit::Gate;
 use std::alloc::Global;
 use std::marker::Model;
 
@@ -112,21 +116,6 @@ impl<'s> Forward<'s> {
         ensures keeps { IfOk result IsForward }
         ensures refused { IfErr result (IsToggleFault self.entry node) }
     {
-        if self.held(node) {
-            self.put_down(node)
-        } else {
-            self.take_up(node)
-        }
-    }
-
-    // Toggles a node that is not held.
-    fn take_up(self, node: u32) -> Result<Forward<'s>, PlanFault>
-        requires ready { IsReadyNode self.graph self.lines node }
-        requires free { is_held self.lines node ≡ false }
-        ensures ok { IfOk result (IsToggled self.entry node) }
-        ensures keeps { IfOk result IsForward }
-        ensures refused { IfErr result (IsToggleFault self.entry node) }
-    {
         let Forward {
             graph,
             budget,
@@ -134,48 +123,20 @@ impl<'s> Forward<'s> {
             mut lines,
             mut heap,
         } = self;
-        let Some(line) = heap.take() else {
+        let own = lines[node as usize];
+        let Some(line) = line_for(own, &mut heap) else {
             return Err(PlanFault::Lines {
                 need: budget.lines() + 1,
             });
         };
-        let first = first_work(graph);
-        append_toggle(&mut gates, first, &lines, line, graph.node(node))?;
-        // These calls say what a heap keeps, and that the gates are light enough.
-        let _ = (heap.peak(), gates.weight());
-        lines[node as usize] = Some(line);
-        Ok(Forward {
-            graph,
-            budget,
-            gates,
-            lines,
-            heap,
-        })
-    }
-
-    // Toggles a node that is held.
-    fn put_down(self, node: u32) -> Result<Forward<'s>, PlanFault>
-        requires ready { IsReadyNode self.graph self.lines node }
-        requires held { is_held self.lines node ≡ true }
-        ensures ok { IfOk result (IsToggled self.entry node) }
-        ensures keeps { IfOk result IsForward }
-        ensures refused { IfErr result (IsToggleFault self.entry node) }
-    {
-        let Forward {
-            graph,
-            budget,
-            mut gates,
-            mut lines,
-            mut heap,
-        } = self;
-        let Some(line) = lines[node as usize] else {
-            unreachable!()
-        };
-        let first = first_work(graph);
-        append_toggle(&mut gates, first, &lines, line, graph.node(node))?;
-        heap.give(line);
-        let _ = (heap.peak(), gates.weight());
-        lines[node as usize] = None;
+        append_toggle(
+            &mut gates,
+            first_work(graph),
+            &lines,
+            line,
+            graph.node(node),
+        )?;
+        lines[node as usize] = line_after(own, line, &mut heap);
         Ok(Forward {
             graph,
             budget,
@@ -204,12 +165,12 @@ impl<'s> Forward<'s> {
             mut lines,
             mut heap,
         } = self;
-        let Some(line) = lines[node as usize].take() else {
-            unreachable!()
-        };
+        let line = held_line(&lines, node);
         append_cubes(&mut gates, first_work(graph), line, cubes)?;
         heap.give(line);
-        let _ = (heap.peak(), gates.weight());
+        // This call says what a heap keeps.
+        let _ = heap.peak();
+        lines[node as usize] = None;
         Ok(Forward {
             graph,
             budget,
@@ -238,31 +199,72 @@ impl<'s> Forward<'s> {
             AllByRecursion (IsRoomyFlip planned.circuit.lines) planned.circuit.gates) }
         ensures refused { IfErr result (IsFinishFault self.entry) }
     {
+        let copies = self.copies()?;
+        let work = self.heap.peak();
         let Forward {
             graph,
             budget,
             gates,
-            lines,
-            heap,
+            ..
         } = self;
-        let alloc = gates.allocator();
-        let outputs = graph.outputs();
-        let copies = copies_of(alloc, graph.inputs(), &lines, outputs)?;
+        plan_of(graph, budget.gates(), work, gates.into_gates(), copies)
+    }
+
+    // The copies of the outputs, where the plan with them is light enough.
+    fn copies(&self) -> Result<Vec<Gate>, PlanFault>
+        requires { AllByRecursion (IsReadySig self.now.lines) self.now.graph.outputs }
+        ensures ok { IfOk result (λ copies. copies.items ≡ copies_of self.now) }
+        ensures light { IfOk result (λ _. finished_weight self.now ≤ self.now.budget.gates) }
+        ensures refused { IfErr result (IsFinishFault self.now) }
+    {
+        let alloc = self.gates.allocator();
+        let inputs = self.graph.inputs();
+        let copies = copies_of(alloc, inputs, &self.lines, self.graph.outputs())?;
         // A copy weighs 1.
-        if copies.len() as u64 > budget.gates() - 2 * gates.weight() {
+        if copies.len() as u64 > self.budget.gates() - 2 * self.gates.weight() {
             return Err(PlanFault::Gates);
         }
-        let work = heap.peak();
-        let lines = first_work(graph) + work;
-        let circuit = finished_circuit(alloc, lines, budget.gates(), gates.into_gates(), copies)?;
-        Ok(Planned::new(circuit, graph.inputs(), outputs.len() as u32, work))
+        Ok(copies)
     }
 }
 
-// The first work line.
-fn first_work(graph: &Settled) -> u32
-    ensures first { result ≡ first_work graph.now }
-    ensures settled { IsSettled graph.now }
+// The work line of a node that is held.
+fn held_line(lines: &[Option<u32>], node: u32) -> u32
+    requires place { node < length lines.now }
+    requires held { is_held lines.now node ≡ true }
+    ensures { held_line lines.now node ≡ Some result }
 {
-    graph.inputs() + graph.outputs().len() as u32
+    match lines[node as usize] {
+        Some(line) => line,
+        None => unreachable!(),
+    }
+}
+
+// The line on which a node is toggled: its own, or the least free one, which is then out.
+fn line_for(own: Option<u32>, heap: &mut Heap) -> Option<u32>
+    ensures line { IfSome result (IsLineFor own heap.old heap.new) }
+    ensures none { IfNone result (HasNoLineFor own heap.old) }
+{
+    match own {
+        Some(line) => Some(line),
+        None => heap.take(),
+    }
+}
+
+// Where a node is held that was toggled on this line: one that was held gives the line back.
+fn line_after(own: Option<u32>, line: u32, heap: &mut Heap) -> Option<u32>
+    requires { IfSome own (λ own. contains heap.old.out own ≡ true) }
+    ensures line { IsLineAfter own line heap.old heap.new result }
+    ensures heap { IsLineHeap heap.new }
+{
+    let after = match own {
+        Some(line) => {
+            heap.give(line);
+            None
+        }
+        None => Some(line),
+    };
+    // This call says what a heap keeps.
+    let _ = heap.peak();
+    after
 }

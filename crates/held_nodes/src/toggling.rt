@@ -45,19 +45,19 @@ pub fn append_toggle(
         { gates = gates.old.gates ++ toggle_of first lines.now line node }) }
     ensures refused { IfErr result (IsWeightFault gates.old.most
         (weight_in (gates.old.gates ++ toggle_of first lines.now line node))) }
+    ensures light { OnOk result (weight_in gates.new.gates ≤ gates.new.most) }
 {
     let target = first + line;
     match node {
-        Node::Not(a) => {
-            gates.push_flip(&[base_line(first, lines, a)], target)?;
-            gates.push_flip(&[], target)
-        }
+        Node::Not(a) => gates.push_flips(&[base_line(first, lines, a)], &[], target),
         Node::Xor(a, b) => {
-            gates.push_flip(&[base_line(first, lines, a)], target)?;
-            gates.push_flip(&[base_line(first, lines, b)], target)
+            let a = base_line(first, lines, a);
+            let b = base_line(first, lines, b);
+            gates.push_flips(&[a], &[b], target)
         }
         Node::And(a, b) => {
-            let (a, b) = (base_line(first, lines, a), base_line(first, lines, b));
+            let a = base_line(first, lines, a);
+            let b = base_line(first, lines, b);
             gates.push_flip(&[a, b], target)
         }
     }
@@ -77,6 +77,7 @@ pub fn append_cubes(
     ensures refused { IfErr result (IsWeightFault gates.old.most
         (weight_in (gates.old.gates ++ cube_flips first line cubes.now))) }
     ensures cubes { OnOk result (AllByRecursion IsCube cubes.now) }
+    ensures light { OnOk result (weight_in gates.new.gates ≤ gates.new.most) }
 {
     let alloc = gates.allocator();
     for cube in cubes {

@@ -41,7 +41,10 @@ impl WeighedGates {
         }
     }
 
-    pub fn allocator(&self) -> Global {
+    pub fn allocator(&self) -> Global
+        ensures light { sum_by weight_of self.now.gates ≤ self.now.most }
+    {
+        let _ = self.weight;
         *self.gates.allocator()
     }
 
@@ -59,6 +62,7 @@ impl WeighedGates {
             ≡ record self.old { gates = self.old.gates ++ gate ∷ [] }) }
         ensures refused { IfErr result (IsWeightFault self.old.most
             (sum_by weight_of (self.old.gates ++ gate ∷ []))) }
+        ensures light { OnOk result (sum_by weight_of self.new.gates ≤ self.new.most) }
     {
         let weight = gate.weight();
         if weight > self.most - self.weight {
@@ -76,9 +80,24 @@ impl WeighedGates {
             ≡ record self.old { gates = self.old.gates ++ flip_of controls.now target ∷ [] }) }
         ensures refused { IfErr result (IsWeightFault self.old.most
             (sum_by weight_of (self.old.gates ++ flip_of controls.now target ∷ []))) }
+        ensures light { OnOk result (sum_by weight_of self.new.gates ≤ self.new.most) }
     {
         let gate = Gate::flip(self.allocator(), controls, target)?;
         self.push(gate)
+    }
+
+    // Appends two flips of `target`, as `push_flip` does.
+    pub fn push_flips(&mut self, a: &[u32], b: &[u32], target: u32) -> Result<(), PlanFault>
+        requires a { AreDifferent (a.now ++ target ∷ []) }
+        requires b { AreDifferent (b.now ++ target ∷ []) }
+        ensures ok { OnOk result (self.new ≡ record self.old
+            { gates = self.old.gates ++ flip_of a.now target ∷ flip_of b.now target ∷ [] }) }
+        ensures refused { IfErr result (IsWeightFault self.old.most (sum_by weight_of
+            (self.old.gates ++ flip_of a.now target ∷ flip_of b.now target ∷ []))) }
+        ensures light { OnOk result (sum_by weight_of self.new.gates ≤ self.new.most) }
+    {
+        self.push_flip(a, target)?;
+        self.push_flip(b, target)
     }
 
     // The gates.

@@ -1,6 +1,7 @@
 -- What the fields of a forward part keep.
-use Rattle.std.specs.Prelude.{◌≡◌, ℕ, ◌+◌, ◌/◌, ◌<◌, ◌≤◌, List, length, Option, unwrap_or, ⊤}
-use Rattle.ancilla_heap.specs.Lines.{HeapView, contains, IsLineHeap}
+use Rattle.std.specs.Prelude.{◌≡◌, ℕ, ◌+◌, ◌/◌, ◌<◌, ◌≤◌, max, List, length, Option, Some, None, unwrap_or, ⊤}
+use Rattle.ancilla_heap.specs.Lines as heaps
+use Rattle.ancilla_heap.specs.Lines.{HeapView, contains, IsLineHeap, with_taken, without_line}
 use Rattle.dependency_graph.specs.declared.node.Base.{Base}
 use Rattle.dependency_graph.specs.declared.node.Base.TheVariants as bases
 use Rattle.dependency_graph.specs.declared.node.Sig.{Sig}
@@ -49,3 +50,20 @@ IsApartSig first lines output (Const bit) = ⊤
 IsApartSig first lines output (Is (bases.Input i)) = i < output
 IsApartSig first lines output (Is (bases.Node k)) =
     IsPlacedBase first lines (bases.Node k) × (output < first)
+
+-- the line on which a node is toggled, and the heap then: its own line, or the least free one
+abbrev pub IsLineFor : Option ℕ → HeapView → HeapView → ℕ → Type 0
+IsLineFor (Some own) old new line = (line ≡ own) × (new ≡ old)
+IsLineFor None old new line =
+    heaps.IsLeastFree old line × (new ≡ with_taken old line)
+    × (new.peak ≡ max old.peak (length new.out))
+
+-- there is none
+abbrev pub HasNoLineFor : Option ℕ → HeapView → Type 0
+HasNoLineFor own heap = (own ≡ None) × (length heap.out ≡ heap.limit)
+
+-- the node's line once it is toggled, and the heap then: a line of its own is given back
+abbrev pub IsLineAfter : Option ℕ → ℕ → HeapView → HeapView → Option ℕ → Type 0
+IsLineAfter (Some own) line old new after =
+    (new ≡ record old { out = without_line old.out own }) × (after ≡ None)
+IsLineAfter None line old new after = (new ≡ old) × (after ≡ Some line)
