@@ -1,5 +1,5 @@
 -- A held node is cleaned by cubes over the inputs.
-use Rattle.std.proofs.Common.{◌≡◌, ℕ, ◌+◌, ◌-◌, ◌*◌, ◌<◌, ◌≤◌, ◌⊎◌, Bool, List, [], ◌∷◌, ◌++◌, length, map, set, Option, refl, sym, ap, ◌∙◌, subst, inl, inr}
+use Rattle.std.proofs.Common.{true, ◌≡◌, ℕ, ◌+◌, ◌-◌, ◌*◌, ◌<◌, ◌≤◌, ◌⊎◌, Bool, List, [], ◌∷◌, ◌++◌, length, map, set, Option, refl, sym, ap, ◌∙◌, subst, inl, inr}
 use Rattle.std.proofs.Common.{arith}
 use Rattle.std.specs.Bool.{xor}
 use Rattle.std.specs.List.{AllByRecursion}
@@ -22,7 +22,9 @@ use Rattle.gate_split.specs.declared.plan.PlanFault.{PlanFault}
 use Rattle.gate_split.specs.declared.plan.PlanFault.TheVariants.{Lines, Gates, Memory}
 use Rattle.mct_circuit.specs.Gates.{GateView, lines_of}
 use Rattle.mct_circuit.specs.Sizes.{weight_of}
-use Rattle.held_nodes.specs.Held.{ForwardView, first_work, node_value}
+use Rattle.held_nodes.specs.Held.{ForwardView, first_work, is_held, node_value}
+use Rattle.held_nodes.proofs.LineLemmas.{held_within}
+use Rattle.held_nodes.proofs.PlaceLemmas.{held_own}
 use Rattle.held_nodes.specs.Moves.{CanClear, IsClearFault, cube_flip, cube_flips, weight_in}
 use Rattle.held_nodes.specs.inside.Kept.{IsWeightFault}
 use Rattle.held_nodes.proofs.ContentLemmas.{all_lines, length-all_lines, input_bit, work_bit, set_work}
@@ -162,3 +164,10 @@ clear_fault f w old k line cubes Gates g is = record {
       (over_half f.budget.gates w (weight_in (f.gates ++ flips)) g.kept.weights is));
 }
 clear_fault f w old k line cubes Memory g is = tt
+
+pub clear_held : (f entry : ForwardView) (k : ℕ) (cubes : List (List Literal)) → f ≡ entry → CanClear entry k cubes → is_held f.lines k ≡ true
+clear_held f entry k cubes e can = ap (λ (g : ForwardView). is_held g.lines k) e ∙ can.held
+
+pub clear_place : (f entry : ForwardView) (k : ℕ) (cubes : List (List Literal)) → f ≡ entry → CanClear entry k cubes → k < length f.lines
+clear_place f entry k cubes e can =
+    let own = held_own f.lines k (clear_held f entry k cubes e can) in held_within f.lines k own.own own.is

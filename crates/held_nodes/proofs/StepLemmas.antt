@@ -22,7 +22,7 @@ use Rattle.mct_circuit.specs.Sizes.{weight_of}
 use Rattle.held_nodes.specs.Held.{ForwardView, IsForward, IsLeastFree, first_work, held_line, held_count}
 use Rattle.held_nodes.specs.Moves.{IsReadyBase, IsReadyNode, IsToggled, IsToggleFault, IsToggleTooHeavy, HasNoLine, toggle_of, toggle_weight, weight_in}
 use Rattle.held_nodes.specs.Moves.{with_node}
-use Rattle.held_nodes.specs.inside.Kept.{IsKept, IsLineAfter, IsLineFor, IsWeightFault}
+use Rattle.held_nodes.specs.inside.Kept.{HasNoLineFor, IsKept, IsLineAfter, IsLineFor, IsWeightFault}
 use Rattle.held_nodes.proofs.ForwardLemmas.{AddNode, forward_put, forward_given}
 use Rattle.held_nodes.proofs.LineLemmas.{held_taken, held_within, least_free, out-taken, out-given, not_free, count-put, count-given}
 use Rattle.held_nodes.proofs.PlaceLemmas.{CanToggleOn, toggle_adds, toggle_roomy}
@@ -270,6 +270,25 @@ toggles_of f entry w old out k line own node e kept ready is read line_is = reco
   node_is = is;
   own_is = get_or_default f.lines k None own (node_place f k node kept.forward is) ∙ sym read;
   line_is = line_is;
+}
+
+pub ready_node : (f entry : ForwardView) (k : ℕ) → f ≡ entry → IsReadyNode entry.graph entry.lines k → k < length f.graph.nodes
+ready_node f entry k e ready =
+    let here = subst (λ (g : ForwardView). IsReadyNode g.graph g.lines k) (sym e) ready in
+    slice_get_within f.graph.nodes k here.node here.is
+
+pub ready_place : (f entry : ForwardView) (w : ℕ) (old : HeapView) (k : ℕ) → f ≡ entry → IsKept f w old → IsReadyNode entry.graph entry.lines k
+    → k < length f.lines
+ready_place f entry w old k e kept ready = omega (arith, kept.forward.nodes, ready_node f entry k e ready)
+
+-- no line is left
+pub no_line : (f entry : ForwardView) (w : ℕ) (old : HeapView) (k : ℕ) (own : Option ℕ) → f ≡ entry → IsKept f w old
+    → IsReadyNode entry.graph entry.lines k → own ≡ get_or f.lines k own → HasNoLineFor own old → HasNoLine f k
+no_line f entry w old k own e kept ready read none = record {
+  free =
+      (let here = get_or_default f.lines k None own (ready_place f entry w old k e kept ready) ∙ sym read ∙ none.0 in
+      ap (λ (x : Option ℕ). is_some x) here);
+  full = sym kept.out.count ∙ none.1 ∙ kept.limit;
 }
 
 takes_line : (f : ForwardView) (w : ℕ) (old out : HeapView) (k line : ℕ) (node : Node) → Toggles f w old out k line None node → Takes f w old out k line node

@@ -1,10 +1,19 @@
 use Rattle.std.proofs.Common.{sym, subst}
 use Rattle.held_nodes.specs.Held.{ForwardView}
 use Rattle.held_nodes.specs.Moves.{CanClear}
-use Rattle.held_nodes.proofs.ClearLemmas.{clear_roomy, clear_adds, clear_low, clear_fault}
+use Rattle.held_nodes.proofs.ClearLemmas.{clear_held, clear_place, clear_roomy, clear_adds, clear_low, clear_fault}
 use Rattle.held_nodes.proofs.StepLemmas.{Gives, given_target, given_out, given_kept, given_becomes}
 use Rattle.held_nodes.proofs.forward.Forward.clear.Goals as goal
 use Rattle.revc_base.proofs.ResultLemmas.{no_value, passes_on}
+
+pub held_line-line-requires-clause-place : goal.held_line-line-requires-clause-place
+held_line-line-requires-clause-place c = rw c.deref.ensures.value (clear_place _ _ _ _ c.self.view_is c.requires)
+
+pub held_line-line-requires-clause-held : goal.held_line-line-requires-clause-held
+held_line-line-requires-clause-held c = rw c.deref.ensures.value (clear_held _ _ _ _ c.self.view_is c.requires)
+
+pub index_mut-requires : goal.index_mut-requires
+index_mut-requires c = rw c.self.inside.lines.ok.0 (clear_place _ _ _ _ c.self.view_is c.requires)
 
 pub append_cubes-requires-clause-target : goal.append_cubes-requires-clause-target
 append_cubes-requires-clause-target c =

@@ -1,7 +1,20 @@
+use Rattle.std.proofs.Common.{ℕ, ◌+◌, ap}
 use Rattle.held_nodes.proofs.PlaceLemmas.{toggle_placed, toggle_different}
+use Rattle.held_nodes.proofs.StepLemmas.{no_line, ready_node, ready_place}
 use Rattle.held_nodes.proofs.StepLemmas.{toggles_of, toggles_on, toggle_target, toggle_fault, toggle_out, toggle_ends, toggle_place}
 use Rattle.held_nodes.proofs.forward.Forward.toggle.Goals as goal
 use Rattle.revc_base.proofs.ResultLemmas.{no_value, passes_on}
+
+pub index-own-requires : goal.index-own-requires
+index-own-requires c = rw c.self.inside.lines.ok.0 (ready_place _ _ _ _ _ c.self.view_is c.self.invariant c.requires)
+
+pub node-requires : goal.node-requires
+node-requires c = ready_node _ _ _ c.self.view_is c.requires
+
+pub returns-in_default-clause-refused : goal.returns-in_default-clause-refused
+returns-in_default-clause-refused c =
+    let none = no_line _ _ _ _ _ _ c.self.view_is c.self.invariant c.requires c.index-own.ensures c.in_default.ensures.none in
+    rw (← c.self.view_is) (none, ap (λ (n : ℕ). n + 1) c.lines.ensures.lines)
 
 pub append_toggle-requires-clause-placed : goal.append_toggle-requires-clause-placed
 append_toggle-requires-clause-placed c =
