@@ -1,4 +1,5 @@
 use Rattle.std.proofs.Common.{[], ◌∷◌, ◌+◌}
+use Rattle.std.proofs.lemmas.Option.{slice_get_within}
 use Rattle.std.proofs.lemmas.Result.{IfErr-weaker, IfOk-weaker}
 use Rattle.dependency_graph.specs.declared.node.Node.TheVariants.{Not, Xor, And}
 use Rattle.eager_cleanup.specs.Eager.{IsEagerFault}
@@ -42,3 +43,33 @@ pub clean_both-requires-in-And-clause-can : goal.clean_both-requires-in-And-clau
 clean_both-requires-in-And-clause-can c =
     can_clean c.args.graph.now c.args.forward.budget c.args.user (And c.in-And.a c.in-And.b) c.args.forward c.requires.made
     c.in-And.ensures
+
+pub node-requires : goal.node-requires
+node-requires c = slice_get_within c.args.graph.now.nodes c.args.user _ c.requires.made.is
+
+pub clean_used-requires-clause-values : goal.clean_used-requires-clause-values
+clean_used-requires-clause-values c = c.requires.values
+
+pub clean_used-requires-clause-graph : goal.clean_used-requires-clause-graph
+clean_used-requires-clause-graph c = c.requires.made.swept.graph
+
+pub clean_used-requires-clause-inside : goal.clean_used-requires-clause-inside
+clean_used-requires-clause-inside c = slice_get_within c.args.graph.now.nodes c.args.user _ c.requires.made.is
+
+pub clean_both-requires-clause-values : goal.clean_both-requires-clause-values
+clean_both-requires-clause-values c = c.requires.values
+
+pub clean_both-requires-in-And-clause-values : goal.clean_both-requires-in-And-clause-values
+clean_both-requires-in-And-clause-values c = c.requires.values
+
+pub returns-in-Xor-clause-swept : goal.returns-in-Xor-clause-swept
+returns-in-Xor-clause-swept c = c.clean_both.ensures.swept
+
+pub returns-in-Xor-clause-refused : goal.returns-in-Xor-clause-refused
+returns-in-Xor-clause-refused c = c.clean_both.ensures.refused
+
+pub returns-in-And-clause-swept : goal.returns-in-And-clause-swept
+returns-in-And-clause-swept c = c.clean_both-in-And.ensures.swept
+
+pub returns-in-And-clause-refused : goal.returns-in-And-clause-refused
+returns-in-And-clause-refused c = c.clean_both-in-And.ensures.refused
