@@ -1,5 +1,9 @@
 -- `gen` gives a text always, and `bench` the sizes of what `compile` gives for that text, with the causes of `compile`.
-use Rattle.std.proofs.Common.{◌≡◌, List, ℕ, refl, subst}
+use Rattle.std.proofs.Common.{◌≡◌, List, ℕ, Result, Ok, Err, refl, sym, subst}
+use Rattle.std.specs.Result.{IfOk, IfErr}
+use Rattle.command_answers.specs.declared.fault.Fault.{Fault}
+use Rattle.command_answers.specs.declared.fault.Fault.TheVariants as faults
+use Rattle.program_commands.specs.Outcomes.{IsCompileFault}
 use Rattle.command_answers.specs.Outcomes.{HasOneOutcome, IsAnyFault, IsNoBudget}
 use Rattle.gate_split.specs.Plans.{LaidView, roles_of}
 use Rattle.program_commands.specs.declared.bench.BenchSizes.{BenchSizes}
@@ -28,20 +32,26 @@ bench_outcome = record {
 }
 
 -- the sizes of a plan of the adder's text are what `bench` gives
-pub benched : (order : OrderView) (text : List ℕ) (tape : TapeView) (laid : LaidView) (sizes : BenchSizes) → text ≡ adder_text order.number
-    → IsPlannedFor order text tape laid → AreSizesOf tape (roles_of laid) laid.circuit.gates sizes → IsBenched order (bench_text sizes)
-benched order text tape laid sizes same planned are =
-    let plan = subst (λ (t : List ℕ). IsPlannedFor order t tape laid) same planned in
-    record {
-      tape = tape;
-      settled = plan.settled;
-      only = plan.only;
-      roles = roles_of laid;
-      gates = laid.circuit.gates;
-      clean = plan.clean;
-      few_lines = plan.few_lines;
-      few_gates = plan.few_gates;
-      sizes = sizes;
-      are = are;
-      lines = refl;
-    }
+pub benched : {E : Type 0} (order : OrderView) (tape : TapeView) (laid : LaidView) (r : Result BenchSizes E)
+    → IsPlannedFor order (adder_text order.number) tape laid → IfOk r (AreSizesOf tape (roles_of laid) laid.circuit.gates)
+    → IfOk r (λ sizes. IsBenched order (bench_text sizes))
+benched order tape laid (Err e) plan h = tt
+benched order tape laid (Ok sizes) plan are = record {
+  tape = tape;
+  settled = plan.settled;
+  only = plan.only;
+  roles = roles_of laid;
+  gates = laid.circuit.gates;
+  clean = plan.clean;
+  few_lines = plan.few_lines;
+  few_gates = plan.few_gates;
+  sizes = sizes;
+  are = are;
+  lines = refl;
+}
+
+-- want of memory is a fault of `bench`
+pub memory_stops : {T : Type 0} (order : OrderView) (text : List ℕ) (r : Result T Fault) → IfErr r (λ fault. fault ≡ faults.Memory)
+    → IfErr r (IsCompileFault order text)
+memory_stops order text (Ok x) h = tt
+memory_stops order text (Err fault) h = subst (IsCompileFault order text) (sym h) tt

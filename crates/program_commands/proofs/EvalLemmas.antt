@@ -1,7 +1,7 @@
 -- A text and a word have one value, or one reason that they have none.
 use Rattle.std.proofs.Common.{◌≡◌, ℕ, ◌+◌, ◌==◌, Bool, List, [], ◌∷◌, ◌++◌, length, sum, refl, sym, ap, ◌∙◌, subst, arith}
 use Rattle.std.specs.List.{AllByRecursion}
-use Rattle.std.proofs.lemmas.List.{length-map}
+use Rattle.std.proofs.lemmas.List.{length-append, length-map}
 use Rattle.revc_base.specs.Bits.{IsDigit, IsFirstOther}
 use Rattle.revc_base.specs.declared.place.Place.{Place}
 use Rattle.revc_base.specs.declared.tape.Claim.{Claim}
@@ -11,7 +11,7 @@ use Rattle.revc_base.specs.Tapes.{TapeView, IsEndOf, IsFirstBroken, Holds}
 use Rattle.command_answers.specs.declared.fault.Fault.{Fault}
 use Rattle.command_answers.specs.declared.fault.Fault.TheVariants as faults
 use Rattle.command_answers.specs.declared.fault.Refusal.{Refusal}
-use Rattle.std.specs.Prelude.{slice_index_or}
+use Rattle.std.specs.Prelude.{◌<◌, Option, Some, slice_get, IfSome}
 use Rattle.revs_parser.specs.WellFormed.{IsWellFormed}
 use Rattle.revs_parser.proofs.OneTextLemmas.{one_formed}
 use Rattle.revs_terms.specs.Programs.{widths_of}
@@ -23,7 +23,8 @@ use Rattle.revc_words.specs.Words.{first_word}
 use Rattle.revc_base.specs.declared.bits.BitsFault.{BitsFault}
 use Rattle.revc_base.specs.declared.bits.BitsFault.TheVariants as bits
 use Rattle.program_commands.specs.inside.Mappings.{bits_fault}
-use Rattle.program_commands.specs.inside.Plans.{IsBitsFault}
+use Rattle.program_commands.specs.inside.Plans.{ForTexts, IsBitsFault}
+use Rattle.program_commands.specs.Settling.{LeavesTape}
 use Rattle.command_answers.specs.BitWords.{IsInputWord, bits_of}
 use Rattle.program_commands.specs.Eval.{Gives, IsCause, Serves, IsValueOf, IsBadWord, IsBroken, Stops}
 use Rattle.program_commands.specs.Outcomes.{IsEvalFault}
@@ -119,51 +120,75 @@ one_outcome = record {
 
 -- ---- the claim that fails
 
-named_in : {A : Type 0} (before behind : List A) (named d : A) → slice_index_or (before ++ named ∷ behind) (length before) d ≡ named
-named_in [] behind named d = refl
-named_in (b ∷ before) behind named d = named_in before behind named d
+named_in : {A : Type 0} (before behind : List A) (named : A) → slice_get (before ++ named ∷ behind) (length before) ≡ Some named
+named_in [] behind named = refl
+named_in (b ∷ before) behind named = named_in before behind named
 
-named_at : {A : Type 0} (all before behind : List A) (named d : A) (number : ℕ) → all ≡ before ++ named ∷ behind → length before ≡ number
-    → slice_index_or all number d ≡ named
-named_at all before behind named d number cut count =
-    ap (λ xs. slice_index_or xs number d) cut ∙ ap (λ n. slice_index_or (before ++ named ∷ behind) n d) (sym count) ∙ named_in before behind named d
+named_at : {A : Type 0} (all before behind : List A) (named : A) (number : ℕ) → all ≡ before ++ named ∷ behind → length before ≡ number
+    → slice_get all number ≡ Some named
+named_at all before behind named number cut count =
+    ap (λ xs. slice_get xs number) cut ∙ ap (λ n. slice_get (before ++ named ∷ behind) n) (sym count) ∙ named_in before behind named
 
-pub broken_at : (text word : List ℕ) (p : ProgramView) (tape : TapeView) (input : List Bool) (claims : List Claim) (end : TapeEnd) (number : ℕ) (d : Claim)
-    → IsWellFormed text p → IsTapeOf p.params p.body tape
-    → IsInputWord (sum tape.params) word → input ≡ bits_of word → IsEndOf tape input end → end ≡ ends.Broken number → claims ≡ tape.claims
-    → IsBroken text word (number + 1) (slice_index_or claims number d).at
-broken_at text word p tape input claims end number d formed of fits bits ended which same =
-    let first : IsFirstBroken tape (bits_of word) number = subst (λ (i : List Bool). IsFirstBroken tape i number) bits
-    (subst (IsEndOf tape input) which ended) in
+first_of : (tape : TapeView) (input : List Bool) (end : TapeEnd) (number : ℕ) → IsEndOf tape input end → end ≡ ends.Broken number
+    → IsFirstBroken tape input number
+first_of tape input end number ended which = subst (IsEndOf tape input) which ended
+
+-- the claim that fails is one of the tape
+pub is_claim : (tape : TapeView) (input : List Bool) (end : TapeEnd) (number : ℕ) → IsEndOf tape input end → end ≡ ends.Broken number
+    → number < length tape.claims
+is_claim tape input end number ended which =
+    let first = first_of tape input end number ended which in
+    let cut : length tape.claims ≡ length (first.before ++ first.named ∷ first.behind) = ap (λ (cs : List Claim). length cs) first.cut in
+    let whole = length-append first.before (first.named ∷ first.behind) in
+    let count = first.count in
+    omega arith
+
+pub broken_at : (tape : TapeView) (word : List ℕ) (lent input : List Bool) (end : TapeEnd) (number : ℕ) (fault : Fault) → IsInputWord (sum tape.params) word
+    → lent ≡ input → input ≡ bits_of word → IsEndOf tape lent end → end ≡ ends.Broken number
+    → IfSome (slice_get tape.claims number) (λ c. fault ≡ faults.Claim (number + 1) c.at input) → ForTexts tape (λ text. IsEvalFault text word fault)
+broken_at tape word lent input end number fault fits same_bits bits ended which is =
+    let first : IsFirstBroken tape (bits_of word) number = subst (λ (i : List Bool). IsFirstBroken tape i number) (same_bits ∙ bits)
+    (first_of tape lent end number ended which) in
+    let found = named_at tape.claims first.before first.behind first.named number first.cut first.count in
+    let same : fault ≡ faults.Claim (number + 1) first.named.at input = subst
+    (λ (o : Option Claim). IfSome o (λ c. fault ≡ faults.Claim (number + 1) c.at input)) found is in
     record {
-      program = p;
-      formed = formed;
-      tape = tape;
-      tape_of = of;
-      fits = subst (λ widths. IsInputWord (sum widths) word) of.widths fits;
-      before = number;
-      first = first;
-      count = refl;
-      place = ap (λ (c : Claim). c.at) (named_at claims first.before first.behind first.named d number (same ∙ first.cut) first.count);
+      of_text = λ text left. subst (IsEvalFault text word) (sym same) (
+        bits,
+        record {
+          program = left.program;
+          formed = left.formed;
+          tape = tape;
+          tape_of = left.tape_of;
+          fits = subst (λ widths. IsInputWord (sum widths) word) left.tape_of.widths fits;
+          before = number;
+          first = first;
+          count = refl;
+          place = refl;
+        },
+      );
     }
 
--- the end of a tape, where every claim holds, is the value of its text
-pub value_at : (text word : List ℕ) (p : ProgramView) (tape : TapeView) (input value : List Bool) (end : TapeEnd) → IsWellFormed text p
-    → IsTapeOf p.params p.body tape
-    → IsInputWord (sum tape.params) word → input ≡ bits_of word → IsEndOf tape input end → end ≡ ends.Out value → IsValueOf text word value
-value_at text word p tape input value end formed of fits bits ended which =
+-- the end of a tape, where every claim holds, is the value of each text that leaves it
+pub value_at : (tape : TapeView) (word : List ℕ) (input value : List Bool) (end : TapeEnd) → IsInputWord (sum tape.params) word → input ≡ bits_of word
+    → IsEndOf tape input end → end ≡ ends.Out value → ForTexts tape (λ text. IsValueOf text word value)
+value_at tape word input value end fits bits ended which =
     let over : IsEndOf tape (bits_of word) (ends.Out value) = subst (λ (i : List Bool). IsEndOf tape i (ends.Out value)) bits
     (subst (IsEndOf tape input) which ended) in
-    let word_fits = subst (λ widths. IsInputWord (sum widths) word) of.widths fits in
     record {
-      program = p;
-      formed = formed;
-      tape = tape;
-      tape_of = of;
-      fits = word_fits;
-      hold = over.0;
-      output = subst (HasOutput p.params p.body (bits_of word)) (sym over.1)
-          (tape_gives_output p.params p.body tape of (bits_of word) (length-map word (λ byte. byte == 49) ∙ word_fits.size));
+      of_text = λ text left.
+          let word_fits = subst (λ widths. IsInputWord (sum widths) word) left.tape_of.widths fits in
+          record {
+            program = left.program;
+            formed = left.formed;
+            tape = tape;
+            tape_of = left.tape_of;
+            fits = word_fits;
+            hold = over.0;
+            output = subst (HasOutput left.program.params left.program.body (bits_of word)) (sym over.1)
+                (tape_gives_output left.program.params left.program.body tape left.tape_of (bits_of word)
+                (length-map word (λ byte. byte == 49) ∙ word_fits.size));
+          };
     }
 
 -- ---- the word
@@ -174,9 +199,23 @@ bits_refused inputs word (bits.BadDigit at) h = (refl, λ fits. no_digits word a
 bits_refused inputs word bits.Memory h = tt
 
 -- a word that is no input of the tape is none of the program's
-pub word_stops : (text word : List ℕ) (p : ProgramView) (tape : TapeView) (fault : Fault) → IsWellFormed text p → IsTapeOf p.params p.body tape
-    → IsBitsFault (sum tape.params) word fault → IsEvalFault text word fault
-word_stops text word p tape (faults.BadBits number) formed of h =
-    (h.0, record { program = p; formed = formed; unfit = subst (λ widths. ¬ IsInputWord (sum widths) word) of.widths h.1 })
-word_stops text word p tape faults.Memory formed of h = tt
-word_stops text word p tape fault formed of h = absurd h
+pub word_stops : (tape : TapeView) (word : List ℕ) (fault : Fault) → IsBitsFault (sum tape.params) word fault
+    → ForTexts tape (λ text. IsEvalFault text word fault)
+word_stops tape word fault h = record { of_text = λ text left. stops text word tape fault left h }
+  where
+    stops : (text word : List ℕ) (tape : TapeView) (fault : Fault) → LeavesTape text tape → IsBitsFault (sum tape.params) word fault
+        → IsEvalFault text word fault
+    stops text word tape (faults.BadBits number) left h = (
+      h.0,
+      record {
+        program = left.program;
+        formed = left.formed;
+        unfit = subst (λ widths. ¬ IsInputWord (sum widths) word) left.tape_of.widths h.1;
+      },
+    )
+    stops text word tape faults.Memory left h = tt
+    stops text word tape fault left h = absurd h
+
+-- want of memory is no fault of a text
+pub memory_stops : (tape : TapeView) (word : List ℕ) → ForTexts tape (λ text. IsEvalFault text word faults.Memory)
+memory_stops tape word = record { of_text = λ text left. tt }

@@ -1,6 +1,7 @@
 -- The text of a clean plan is a clean file for the one program of a text, and why there is no plan.
-use Rattle.std.proofs.Common.{◌≡◌, ℕ, ◌+◌, ◌≤◌, suc, Bool, cond, List, length, sum, max, sym, ap, ◌∙◌, subst, inl, inr, arith}
+use Rattle.std.proofs.Common.{◌≡◌, ℕ, ◌+◌, ◌≤◌, suc, Bool, cond, List, Result, Ok, Err, length, sum, max, sym, ap, ◌∙◌, subst, inl, inr, arith}
 use Rattle.std.specs.Prelude.{nat_lt}
+use Rattle.std.specs.Result.{IfOk, IfErr}
 use Rattle.std.proofs.lemmas.Bool.Decides.{leb_tells}
 use Rattle.std.proofs.lemmas.List.{length-map}
 use Rattle.claim_check.specs.Budgets.{Measures}
@@ -11,14 +12,13 @@ use Rattle.gate_split.specs.declared.plan.TheConstants.{MOST_LINES, MOST_GATES}
 use Rattle.gate_split.specs.Plans.{BudgetView, LaidView, PutsOutputs, roles_of, lines_in}
 use Rattle.held_nodes.specs.Held.{first_work}
 use Rattle.mct_circuit.specs.Gates.{AreGatesOn, AreNarrow}
-use Rattle.plan_choice.specs.Choices.{IsLaidFor}
 use Rattle.qasm_format.proofs.MeaningLemmas as qasm
 use Rattle.real_format.proofs.MeaningLemmas as real
 use Rattle.program_commands.specs.Outcomes.{IsCompileFault, IsSettlingFault, IsWritable, file_of}
 use Rattle.revc_words.specs.declared.order.Format.{Format}
 use Rattle.revc_words.specs.declared.order.Format.TheVariants.{Real, Qasm}
 use Rattle.revc_base.specs.Tapes.{TapeView, bit_on, outputs_on}
-use Rattle.revc_words.specs.Words.{OrderView}
+use Rattle.revc_words.specs.Words.{OrderView, IsWithinLimits}
 use Rattle.revs_parser.proofs.OneTextLemmas.{one_formed}
 use Rattle.revs_terms.specs.Runs.{IsInput}
 use Rattle.revs_terms.specs.Views.{ProgramView}
@@ -28,19 +28,19 @@ use Rattle.command_answers.specs.declared.fault.Fault.TheVariants as faults
 use Rattle.program_commands.specs.Clean.{ComputesOn, MeansIn}
 use Rattle.program_commands.specs.Compile.{IsCompiled, budget_of, least_lines}
 use Rattle.program_commands.specs.Settling.{LeavesTape, LeavesSettled}
-use Rattle.program_commands.specs.inside.Plans.{IsCleanPlan, IsPlannedFor, IsPlanningFault, IsWhole}
+use Rattle.program_commands.specs.inside.Plans.{ForTexts, IsCleanPlan, IsPlanOf, IsPlannedFor, IsPlanningFault, IsSettledWithin}
 use Rattle.program_commands.proofs.FormedLemmas.{some_output}
 
 -- ---- the plan of the graph
 
-pub clean_plan : (text : List ℕ) (laid : LaidView) (tape : TapeView) (s : SettledView) (b : BudgetView) (l : LeavesTape text tape) → IsSettledOf tape s
-    → IsLaidFor s b laid → laid.inputs + laid.outputs + laid.work + laid.borrowed ≡ laid.circuit.lines → b.lines ≤ MOST_LINES → b.gates ≤ MOST_GATES
-    → IsCleanPlan laid l.program b
-clean_plan text laid tape s b l is plan sum_of lines gates =
+clean_plan : (text : List ℕ) (laid : LaidView) (tape : TapeView) (s : SettledView) (b : BudgetView) (l : LeavesTape text tape) → IsSettledOf tape s
+    → IsPlanOf s b laid → b.lines ≤ MOST_LINES → b.gates ≤ MOST_GATES → IsCleanPlan laid l.program b
+clean_plan text laid tape s b l is plan lines gates =
     let some = some_output text l.program tape l.formed l.tape_of in
     let count = is.outputs in
-    let outputs = plan.outputs in
-    record { tape = tape; tape_of = l.tape_of; graph = s; graph_of = is; plan = plan; some = omega arith; most_lines = lines; most_gates = gates }
+    let outputs = plan.is.outputs in
+    let sum_of = plan.sum_of in
+    record { tape = tape; tape_of = l.tape_of; graph = s; graph_of = is; plan = plan.is; some = omega arith; most_lines = lines; most_gates = gates }
 
 computes_on : (laid : LaidView) (p : ProgramView) (b : BudgetView) → IsCleanPlan laid p b → (input rest : List Bool) → IsInput p.params input
     → length rest ≡ b.borrow → ComputesOn p (roles_of laid) laid.circuit.gates input rest
@@ -54,62 +54,77 @@ computes_on laid p b c input rest size many =
       puts = subst (λ bits. PutsOutputs (roles_of laid) laid.circuit.gates input bits rest) (c.graph_of.values input) gives;
     }
 
-pub planned : (order : OrderView) (text : List ℕ) (laid : LaidView) (tape : TapeView) (l : LeavesSettled text order.nodes tape)
-    → IsCleanPlan laid l.left.program (budget_of order) → IsWhole laid → AreNarrow laid.circuit.gates → IsPlannedFor order text tape laid
-planned order text laid tape l c w narrow =
-    let lines = c.plan.lines in
-    let sum_of = w.sum_of in
-    record {
-      settled = l;
-      only = λ q is. one_formed text q l.left.program is l.left.formed;
-      clean = record {
-        inputs = c.plan.inputs ∙ c.graph_of.inputs ∙ ap sum c.tape_of.widths;
-        borrows = c.plan.borrowed;
-        narrow = narrow;
-        computes = computes_on laid l.left.program (budget_of order) c;
-      };
-      few_lines = omega arith;
-      few_gates = c.plan.gates;
-    }
-
--- the file of a plan means the plan, in each format
-means_itself : (format : Format) (laid : LaidView) → IsWritable laid → IsWhole laid → AreNarrow laid.circuit.gates
-    → MeansIn format (file_of format laid) (roles_of laid) laid.circuit.gates
-means_itself format laid can w narrow =
-    let some = can.some in
-    let few = can.few in
-    let sum_of = w.sum_of in
-    let same : laid.circuit.lines ≡ lines_in (roles_of laid) = sym w.sum_of in
-    of_format format (omega arith) (omega arith) can.few_gates (subst (λ n. AreGatesOn n laid.circuit.gates) same w.on)
-  where
-    of_format : (format : Format) → 1 ≤ lines_in (roles_of laid) → lines_in (roles_of laid) ≤ MOST_LINES → length laid.circuit.gates ≤ MOST_GATES
-        → AreGatesOn (lines_in (roles_of laid)) laid.circuit.gates → MeansIn format (file_of format laid) (roles_of laid) laid.circuit.gates
-    of_format Real some few gates on = real.compiled_has_meaning (roles_of laid) laid.circuit.gates some few gates on narrow
-    of_format Qasm some few gates on = qasm.compiled_has_meaning (roles_of laid) laid.circuit.gates some few gates on narrow
-
-pub compiled_file : (order : OrderView) (text : List ℕ) (laid : LaidView) (tape : TapeView) → IsPlannedFor order text tape laid → IsWritable laid
-    → IsWhole laid → IsCompiled order text (file_of order.format laid)
-compiled_file order text laid tape p can w = record {
-  tape = tape;
-  settled = p.settled;
-  only = p.only;
-  clean = record {
-    roles = roles_of laid;
-    gates = laid.circuit.gates;
-    meaning = means_itself order.format laid can w p.clean.narrow;
-    circuit = p.clean;
-  };
-  few_lines = p.few_lines;
-  few_gates = p.few_gates;
-}
-
-pub writable : (laid : LaidView) (p : ProgramView) (b : BudgetView) → IsCleanPlan laid p b → IsWritable laid
+writable : (laid : LaidView) (p : ProgramView) (b : BudgetView) → IsCleanPlan laid p b → IsWritable laid
 writable laid p b c =
     let lines = c.plan.lines in
     let gates = c.plan.gates in
     let most = c.most_lines in
     let most_gates = c.most_gates in
     record { some = c.some; few = omega arith; few_gates = omega arith }
+
+planned : (order : OrderView) (text : List ℕ) (laid : LaidView) (tape : TapeView) (s : SettledView) (l : LeavesSettled text order.nodes tape)
+    → IsPlanOf s (budget_of order) laid → IsCleanPlan laid l.left.program (budget_of order) → IsPlannedFor order text tape laid
+planned order text laid tape s l plan c =
+    let lines = c.plan.lines in
+    let sum_of = plan.sum_of in
+    record {
+      settled = l;
+      only = λ q is. one_formed text q l.left.program is l.left.formed;
+      clean = record {
+        inputs = c.plan.inputs ∙ c.graph_of.inputs ∙ ap sum c.tape_of.widths;
+        borrows = c.plan.borrowed;
+        narrow = plan.narrow;
+        computes = computes_on laid l.left.program (budget_of order) c;
+      };
+      few_lines = omega arith;
+      few_gates = c.plan.gates;
+      can = writable laid l.left.program (budget_of order) c;
+      sum_of = plan.sum_of;
+      on = plan.on;
+    }
+
+-- a plan of a tape's settled graph is one of each text that leaves the tape
+pub plan_of_texts : {E : Type 0} (order : OrderView) (tape : TapeView) (s : SettledView) (r : Result LaidView E) → IsWithinLimits order
+    → IsSettledWithin tape order.nodes s → IfOk r (IsPlanOf s (budget_of order))
+    → IfOk r (λ laid. ForTexts tape (λ text. IsPlannedFor order text tape laid))
+plan_of_texts order tape s (Err e) limits settled h = tt
+plan_of_texts order tape s (Ok laid) limits settled plan = record {
+  of_text = λ text left.
+      let l : LeavesSettled text order.nodes tape = record { left = left; hold = settled.hold } in
+      planned order text laid tape s l plan
+      (clean_plan text laid tape s (budget_of order) left settled.of_tape plan limits.lines limits.gates);
+}
+
+-- the file of a plan means the plan, in each format
+means_itself : (format : Format) (laid : LaidView) → IsWritable laid → laid.inputs + laid.outputs + laid.work + laid.borrowed ≡ laid.circuit.lines
+    → AreGatesOn laid.circuit.lines laid.circuit.gates → AreNarrow laid.circuit.gates
+    → MeansIn format (file_of format laid) (roles_of laid) laid.circuit.gates
+means_itself format laid can sum_of on narrow =
+    let some = can.some in
+    let few = can.few in
+    let same : laid.circuit.lines ≡ lines_in (roles_of laid) = sym sum_of in
+    of_format format (omega arith) (omega arith) can.few_gates (subst (λ n. AreGatesOn n laid.circuit.gates) same on)
+  where
+    of_format : (format : Format) → 1 ≤ lines_in (roles_of laid) → lines_in (roles_of laid) ≤ MOST_LINES → length laid.circuit.gates ≤ MOST_GATES
+        → AreGatesOn (lines_in (roles_of laid)) laid.circuit.gates → MeansIn format (file_of format laid) (roles_of laid) laid.circuit.gates
+    of_format Real some few gates on = real.compiled_has_meaning (roles_of laid) laid.circuit.gates some few gates on narrow
+    of_format Qasm some few gates on = qasm.compiled_has_meaning (roles_of laid) laid.circuit.gates some few gates on narrow
+
+pub compiled_file : (order : OrderView) (text : List ℕ) (laid : LaidView) (tape : TapeView) → IsPlannedFor order text tape laid
+    → IsCompiled order text (file_of order.format laid)
+compiled_file order text laid tape p = record {
+  tape = tape;
+  settled = p.settled;
+  only = p.only;
+  clean = record {
+    roles = roles_of laid;
+    gates = laid.circuit.gates;
+    meaning = means_itself order.format laid p.can p.sum_of p.on p.clean.narrow;
+    circuit = p.clean;
+  };
+  few_lines = p.few_lines;
+  few_gates = p.few_gates;
+}
 
 -- ---- the budgets
 
@@ -151,3 +166,28 @@ settling_fault order text faults.Memory h = tt
 settling_fault order text (faults.Lines need limit) h = absurd h
 settling_fault order text (faults.Gates limit) h = absurd h
 settling_fault order text fault h = h
+
+pub settling_stops : (order : OrderView) (tape : TapeView) (fault : Fault) → ForTexts tape (λ text. IsSettlingFault text order.nodes fault)
+    → ForTexts tape (λ text. IsCompileFault order text fault)
+settling_stops order tape fault h = record { of_text = λ text left. settling_fault order text fault (h.of_text text left) }
+
+-- and so does what leaves a settled graph without a plan
+pub planning_stops : {T : Type 0} (order : OrderView) (tape : TapeView) (s : SettledView) (r : Result T Fault) → IsSettledWithin tape order.nodes s
+    → IfErr r (IsPlanningFault order.plan s (budget_of order)) → IfErr r (λ fault. ForTexts tape (λ text. IsCompileFault order text fault))
+planning_stops order tape s (Ok laid) settled h = tt
+planning_stops order tape s (Err fault) settled h = record {
+  of_text = λ text left.
+      planning_fault order text tape s fault (record { left = left; hold = settled.hold }) settled.of_tape settled.no_larger h;
+}
+
+-- ---- the file
+
+pub compiled : {E : Type 0} (order : OrderView) (text : List ℕ) (tape : TapeView) (r : Result LaidView E) → LeavesTape text tape
+    → IfOk r (λ laid. ForTexts tape (λ text. IsPlannedFor order text tape laid)) → IfOk r (λ laid. IsCompiled order text (file_of order.format laid))
+compiled order text tape (Err e) left h = tt
+compiled order text tape (Ok laid) left h = compiled_file order text laid tape (h.of_text text left)
+
+pub may_be_written : {E : Type 0} (order : OrderView) (text : List ℕ) (tape : TapeView) (r : Result LaidView E) → LeavesTape text tape
+    → IfOk r (λ laid. ForTexts tape (λ text. IsPlannedFor order text tape laid)) → IfOk r IsWritable
+may_be_written order text tape (Err e) left h = tt
+may_be_written order text tape (Ok laid) left h = (h.of_text text left).can

@@ -1,5 +1,5 @@
 -- The claims of a text are settled, or one fault stops them.
-use Rattle.std.proofs.Common.{◌≡◌, ℕ, ◌+◌, List, Bool, None, Some, Option, refl, sym, ap, ◌∙◌, subst}
+use Rattle.std.proofs.Common.{◌≡◌, ℕ, zero, suc, ◌+◌, ◌<◌, List, [], ◌∷◌, Bool, None, Some, Option, length, refl, sym, ap, ◌∙◌, subst, arith}
 use Rattle.std.specs.Prelude.{slice_get, slice_index_or, IfSome}
 use Rattle.std.proofs.lemmas.Option.{same_Some, get_or_from_slice_get}
 use Rattle.claim_check.specs.Claims.{HoldWithin, BreaksOn, PassesAt}
@@ -16,6 +16,8 @@ use Rattle.command_answers.specs.declared.fault.Fault.TheVariants as faults
 use Rattle.command_answers.specs.declared.fault.Refusal.{Refusal}
 use Rattle.program_commands.specs.Refusals.{IsRefusal}
 use Rattle.program_commands.specs.Settling.{LeavesTape, LeavesSettled, BreaksClaim, PassesNodes, StopsSettling}
+use Rattle.program_commands.specs.Outcomes.{IsSettlingFault}
+use Rattle.program_commands.specs.inside.Plans.{ForTexts}
 use Rattle.program_commands.proofs.RefusalLemmas.{one_refusal, never_refused}
 
 -- a text leaves one tape
@@ -112,35 +114,63 @@ one_stop text nodes faults.Write other a b = absurd a
 one_stop text nodes faults.Memory other a b = absurd a
 one_stop text nodes fault other a b = absurd b
 
--- ---- from the fault of a tape's claims to that of its text
+-- ---- from the fault of a tape's claims to that of its texts
 
-placed : (t : TapeView) (number : ℕ) (claim : Claim) (at : Place) → slice_get t.claims number ≡ Some claim
-    → IfSome (slice_get t.claims number) (λ c. at ≡ c.at) → at ≡ claim.at
-placed t number claim at is h = subst (λ (o : Option Claim). IfSome o (λ c. at ≡ c.at)) is h
+is_inside : {A : Type 0} (xs : List A) (i : ℕ) (x : A) → slice_get xs i ≡ Some x → i < length xs
+is_inside [] i x e = absurd cc
+is_inside (y ∷ ys) zero x e = omega arith
+is_inside (y ∷ ys) (suc i) x e = let rest = is_inside ys i x e in omega arith
 
-pub broken_claim : (text : List ℕ) (tape : TapeView) (nodes before number : ℕ) (at : Place) (bits : List Bool) → LeavesTape text tape
-    → BreaksOn tape nodes before bits → number ≡ before + 1 → IfSome (slice_get tape.claims before) (λ c. at ≡ c.at)
-    → BreaksClaim text nodes number at bits
-broken_claim text tape nodes before number at bits l breaks count place = record {
-  tape = tape;
-  left = l;
-  before = before;
-  breaks = breaks;
-  count = count;
-  place = placed tape before breaks.claim at breaks.is_claim place;
-}
+pub breaks_inside : (tape : TapeView) (nodes before : ℕ) (bits : List Bool) → BreaksOn tape nodes before bits → before < length tape.claims
+breaks_inside tape nodes before bits b = is_inside tape.claims before b.claim b.is_claim
 
-pub passing_claim : (text : List ℕ) (tape : TapeView) (nodes before number : ℕ) (at : Place) → LeavesTape text tape
-    → PassesAt tape nodes before → number ≡ before + 1 → IfSome (slice_get tape.claims before) (λ c. at ≡ c.at)
-    → PassesNodes text nodes number at
-passing_claim text tape nodes before number at l passes count place = record {
-  tape = tape;
-  left = l;
-  before = before;
-  passes = passes;
-  count = count;
-  place = placed tape before passes.claim at passes.is_claim place;
-}
+pub passes_inside : (tape : TapeView) (nodes before : ℕ) → PassesAt tape nodes before → before < length tape.claims
+passes_inside tape nodes before p = is_inside tape.claims before p.claim p.is_claim
+
+pub broken_stops : (tape : TapeView) (nodes before : ℕ) (bits : List Bool) (fault : Fault) → BreaksOn tape nodes before bits
+    → IfSome (slice_get tape.claims before) (λ c. fault ≡ faults.Claim (before + 1) c.at bits) → ForTexts tape (λ text. IsSettlingFault text nodes fault)
+broken_stops tape nodes before bits fault breaks is =
+    let same : fault ≡ faults.Claim (before + 1) breaks.claim.at bits = subst
+    (λ (o : Option Claim). IfSome o (λ c. fault ≡ faults.Claim (before + 1) c.at bits)) breaks.is_claim is in
+    record {
+      of_text = λ text left. subst (IsSettlingFault text nodes) (sym same) (record {
+        tape = tape;
+        left = left;
+        before = before;
+        breaks = breaks;
+        count = refl;
+        place = refl;
+      });
+    }
+
+pub passing_stops : (tape : TapeView) (nodes before number : ℕ) (at : Place) → PassesAt tape nodes before → number ≡ before + 1
+    → IfSome (slice_get tape.claims before) (λ c. at ≡ c.at) → ForTexts tape (λ text. IsSettlingFault text nodes (faults.Diagram number at nodes))
+passing_stops tape nodes before number at passes count place =
+    record {
+      of_text = λ text left. (
+        record {
+          tape = tape;
+          left = left;
+          before = before;
+          passes = passes;
+          count = count;
+          place = subst (λ (o : Option Claim). IfSome o (λ c. at ≡ c.at)) passes.is_claim place;
+        },
+        refl,
+      );
+    }
+
+pub memory_stops : (tape : TapeView) (nodes : ℕ) → ForTexts tape (λ text. IsSettlingFault text nodes faults.Memory)
+memory_stops tape nodes = record { of_text = λ text left. tt }
+
+-- the fault of a claim that fails, from its number and its place
+pub claim_named : (claims : List Claim) (claim number : ℕ) (at : Place) (bits : List Bool) → number ≡ claim + 1
+    → IfSome (slice_get claims claim) (λ c. at ≡ c.at) → IfSome (slice_get claims claim) (λ c. faults.Claim number at bits ≡ faults.Claim (claim + 1) c.at bits)
+claim_named claims claim number at bits count place = of_found (slice_get claims claim) place
+  where
+    of_found : (found : Option Claim) → IfSome found (λ c. at ≡ c.at) → IfSome found (λ c. faults.Claim number at bits ≡ faults.Claim (claim + 1) c.at bits)
+    of_found None h = tt
+    of_found (Some c) h = one_claim number (claim + 1) at c.at bits bits count h refl
 
 -- what is read at the place of a claim
 pub place_of : (claims lent : List Claim) (number : ℕ) (d : Claim) → lent ≡ claims

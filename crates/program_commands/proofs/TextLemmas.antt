@@ -1,5 +1,10 @@
 -- Each layer's fault, as a refusal of the text.
-use Rattle.std.proofs.Common.{◌≡◌, ◌≢◌, ℕ, ◌≤◌, List, Err, length, refl, sym, subst}
+use Rattle.std.proofs.Common.{◌≡◌, ◌≢◌, ℕ, ◌≤◌, List, Result, Ok, Err, length, refl, sym, subst}
+use Rattle.std.specs.Result.{IfOk, IfErr}
+use Rattle.command_answers.specs.declared.fault.Fault.{Fault}
+use Rattle.command_answers.specs.declared.fault.Fault.TheVariants as faults
+use Rattle.command_answers.specs.declared.fault.Refusal.TheVariants as refusals
+use Rattle.revc_words.specs.Words.{OrderView}
 use Rattle.name_scope.specs.Answers.{Answers}
 use Rattle.name_scope.specs.declared.binding.ScopeFault.{ScopeFault}
 use Rattle.name_scope.specs.declared.binding.ScopeFault.TheVariants as scopes
@@ -25,7 +30,9 @@ use Rattle.revs_parser.specs.WellFormed.{IsProgramText, IsWellFormed}
 use Rattle.revs_terms.specs.Runs.{IsTapeOf}
 use Rattle.revs_terms.proofs.TapeLemmas.{tape_ends}
 use Rattle.revc_base.specs.Tapes.{TapeView}
-use Rattle.program_commands.specs.inside.Plans.{IsTextFault, IsBoundAs}
+use Rattle.program_commands.specs.Outcomes.{IsCompileFault, IsEvalFault, IsSettlingFault}
+use Rattle.program_commands.specs.Settling.{LeavesTape}
+use Rattle.program_commands.specs.inside.Plans.{ForTexts, ForTextsOf, IsRunFault, IsTextFault, IsBoundAs}
 use Rattle.revs_terms.specs.Views.{ProgramView}
 
 -- ---- each layer's fault refuses the text
@@ -50,7 +57,7 @@ parsed text all (parser.Nesting at) short given s n i = (short, of_tokens text a
 parsed text all (parser.Inputs at) short given s n i = (short, of_tokens text all (λ tokens. IsInputs tokens at) given (i at refl))
 parsed text all parser.Memory short given s n i = tt
 
-pub unbound : (p : ProgramView) (fault : ScopeFault) → Answers (Err fault) p.params (scope_verdict p.params p.body) → (text : List ℕ) → IsProgramText text p
+unbound : (p : ProgramView) (fault : ScopeFault) → Answers (Err fault) p.params (scope_verdict p.params p.body) → (text : List ℕ) → IsProgramText text p
     → IsTextFault text (scope_fault fault)
 unbound p (scopes.Unbound at) h text is = (is.short, (p, is, h))
 unbound p (scopes.TwoParams at) h text is = (is.short, (p, is, h))
@@ -63,12 +70,12 @@ stuck_fault p tree (runs.Stuck cause at) e r text is = (is.short, (p, is, (tree,
 stuck_fault p tree runs.Memory e r text is = tt
 
 -- the run of a program with its names bound is stuck
-pub stuck : (text : List ℕ) (p bound : ProgramView) (fault : RunFault) → IsProgramText text p → IsBoundAs p bound → IsStuckAlways bound.params bound.body fault
+stuck : (text : List ℕ) (p bound : ProgramView) (fault : RunFault) → IsProgramText text p → IsBoundAs p bound → IsStuckAlways bound.params bound.body fault
     → IsTextFault text (run_fault fault)
 stuck text p bound fault is b r = stuck_fault p bound.body fault b.body (subst (λ (ps : List Param). IsStuckAlways ps bound.body fault) b.params r) text is
 
 -- the program of a text with its names bound leaves a tape, and so the text is well formed
-pub formed : (text : List ℕ) (p bound : ProgramView) (tape : TapeView) → IsProgramText text p → IsBoundAs p bound → IsTapeOf bound.params bound.body tape
+formed : (text : List ℕ) (p bound : ProgramView) (tape : TapeView) → IsProgramText text p → IsBoundAs p bound → IsTapeOf bound.params bound.body tape
     → IsWellFormed text bound
 formed text p bound tape is b of = record {
   unbound = p.body;
@@ -76,3 +83,67 @@ formed text p bound tape is b of = record {
   bound = subst (λ (params : List Param). scope_verdict params p.body ≡ bound_as bound.body) (sym b.params) b.body;
   run = tape_ends bound.params bound.body tape of;
 }
+
+-- ---- what holds for each text holds for one
+
+pub leaves_tape : {E : Type 0} (p bound : ProgramView) (r : Result TapeView E) → bound.params ≡ p.params → scope_verdict p.params p.body ≡ bound_as bound.body
+    → IfOk r (IsTapeOf bound.params bound.body) → IfOk r (λ tape. ForTextsOf p (λ text. LeavesTape text tape))
+leaves_tape p bound (Err e) params body h = tt
+leaves_tape p bound (Ok tape) params body of = record {
+  of_text = λ text is. record {
+    program = bound;
+    formed = formed text p bound tape is (record { params = params; body = body }) of;
+    tape_of = of;
+  };
+}
+
+pub stuck_stops : {T : Type 0} (p bound : ProgramView) (r : Result T Fault) → bound.params ≡ p.params → scope_verdict p.params p.body ≡ bound_as bound.body
+    → IfErr r (IsRunFault bound) → IfErr r (λ fault. ForTextsOf p (λ text. IsTextFault text fault))
+stuck_stops p bound (Ok tape) params body h = tt
+stuck_stops p bound (Err fault) params body h = record {
+  of_text = λ text is. subst (IsTextFault text) (sym h.is) (stuck text p bound h.why is (record { params = params; body = body }) h.stuck);
+}
+
+pub scope_stops : (p : ProgramView) (fault : ScopeFault) → Answers (Err fault) p.params (scope_verdict p.params p.body)
+    → ForTextsOf p (λ text. IsTextFault text (scope_fault fault))
+scope_stops p fault h = record { of_text = unbound p fault h }
+
+pub value_of_program : {T E : Type 0} (P : T → List ℕ → Type 0) (r : Result T E) (text : List ℕ) (p : ProgramView) → IsProgramText text p
+    → IfOk r (λ x. ForTextsOf p (P x)) → IfOk r (λ x. P x text)
+value_of_program P (Ok x) text p is h = h.of_text text is
+value_of_program P (Err e) text p is h = tt
+
+pub fault_of_program : {T E : Type 0} (P : E → List ℕ → Type 0) (r : Result T E) (text : List ℕ) (p : ProgramView) → IsProgramText text p
+    → IfErr r (λ e. ForTextsOf p (P e)) → IfErr r (λ e. P e text)
+fault_of_program P (Ok x) text p is h = tt
+fault_of_program P (Err e) text p is h = h.of_text text is
+
+pub value_of_text : {T E : Type 0} (P : T → List ℕ → Type 0) (r : Result T E) (text : List ℕ) (tape : TapeView) → LeavesTape text tape
+    → IfOk r (λ x. ForTexts tape (P x)) → IfOk r (λ x. P x text)
+value_of_text P (Ok x) text tape l h = h.of_text text l
+value_of_text P (Err e) text tape l h = tt
+
+pub fault_of_text : {T E : Type 0} (P : E → List ℕ → Type 0) (r : Result T E) (text : List ℕ) (tape : TapeView) → LeavesTape text tape
+    → IfErr r (λ e. ForTexts tape (P e)) → IfErr r (λ e. P e text)
+fault_of_text P (Ok x) text tape l h = tt
+fault_of_text P (Err e) text tape l h = h.of_text text l
+
+-- ---- the fault of a text is one of each command
+
+pub stops_settling : (text : List ℕ) (nodes : ℕ) (fault : Fault) → IsTextFault text fault → IsSettlingFault text nodes fault
+stops_settling text nodes (faults.Refused (refusals.At kind at)) h = h
+stops_settling text nodes (faults.Refused refusals.TooLong) h = absurd h
+stops_settling text nodes faults.Memory h = tt
+stops_settling text nodes fault h = absurd h
+
+pub stops_compile : (order : OrderView) (text : List ℕ) (fault : Fault) → IsTextFault text fault → IsCompileFault order text fault
+stops_compile order text (faults.Refused (refusals.At kind at)) h = h
+stops_compile order text (faults.Refused refusals.TooLong) h = absurd h
+stops_compile order text faults.Memory h = tt
+stops_compile order text fault h = absurd h
+
+pub stops_eval : (text word : List ℕ) (fault : Fault) → IsTextFault text fault → IsEvalFault text word fault
+stops_eval text word (faults.Refused (refusals.At kind at)) h = h
+stops_eval text word (faults.Refused refusals.TooLong) h = absurd h
+stops_eval text word faults.Memory h = tt
+stops_eval text word fault h = absurd h

@@ -1,20 +1,22 @@
 // `bench`: the sizes of an adder's program, and of its compiled circuit.
-ghost use Rattle.std.specs.Prelude.{IfOk, IfErr};
+ghost use Rattle.std.specs.Prelude.{◌≡◌, IfOk, IfErr};
 ghost use Rattle.command_answers.specs.Outcomes.{HasOneOutcome, IsNoBudget};
 ghost use Rattle.gate_split.specs.Plans.{roles_of};
 ghost use Rattle.program_commands.specs.Bench.{Gives, IsCause, Serves, AreSizesOf, IsBenched};
 ghost use Rattle.program_commands.specs.Bench.{bench_text};
 ghost use Rattle.program_commands.specs.Outcomes.{IsAdderSize, IsCompileFault};
+ghost use Rattle.program_commands.specs.Settling.{LeavesTape};
 ghost use Rattle.program_gen.specs.Adder.{adder_text};
 ghost use Rattle.revc_io.specs.Faults.{HasCause};
 ghost use Rattle.revc_io.specs.Passing.{Writes};
 ghost use Rattle.revc_words.specs.Words.{IsWithinLimits, order_of};
 
-use crate::planning::plan_text;
+use crate::planning::plan_tape;
+use crate::program::tape_of_text;
 use command_answers::{Fault, write_numbers};
 use gate_split::Laid;
 use program_gen::program_text;
-use revc_base::{Memory, Tape};
+use revc_base::Tape;
 use revc_io::{Failed, Sink};
 use revc_words::Order;
 use std::alloc::Global;
@@ -48,13 +50,26 @@ pub fn measure(alloc: Global, order: &Order) -> Result<BenchSizes, Fault>
     ensures err { IfErr result (IsCompileFault (order_of order.now) (adder_text order.now.number)) }
 {
     let text = program_text(alloc, order.number)?;
-    let (tape, laid) = plan_text(alloc, text.as_slice(), order)?;
-    Ok(sizes_of(&tape, &laid)?)
+    let tape = tape_of_text(alloc, text.as_slice())?;
+    measure_tape(alloc, &tape, order)
 }
 
-fn sizes_of(tape: &Tape, laid: &Laid) -> Result<BenchSizes, Memory>
-    ensures { IfOk result
+// The sizes of the tape of an adder of the order's number of bits, and of its circuit.
+fn measure_tape(alloc: Global, tape: &Tape, order: &Order) -> Result<BenchSizes, Fault>
+    requires limits { IsWithinLimits (order_of order.now) }
+    requires left { LeavesTape (adder_text order.now.number) tape.now }
+    ensures ok { IfOk result (λ sizes. IsBenched (order_of order.now) (bench_text sizes)) }
+    ensures err { IfErr result (IsCompileFault (order_of order.now) (adder_text order.now.number)) }
+{
+    let laid = plan_tape(alloc, tape, order)?;
+    sizes_of(tape, &laid)
+}
+
+// The sizes of a tape, and of a plan's circuit. A fault is want of memory.
+fn sizes_of(tape: &Tape, laid: &Laid) -> Result<BenchSizes, Fault>
+    ensures ok { IfOk result
         (λ sizes. AreSizesOf tape.now (roles_of laid.now) laid.now.circuit.gates sizes) }
+    ensures err { IfErr result (λ fault. fault ≡ Fault.Memory) }
 {
     let circuit = laid.circuit();
     Ok(BenchSizes {

@@ -4,7 +4,8 @@ ghost use Rattle.program_commands.specs.Check.{Gives, IsCause, Serves, IsChecked
 ghost use Rattle.command_answers.specs.Outcomes.{HasOneOutcome, IsAnyFault};
 ghost use Rattle.program_commands.specs.Outcomes.{IsSettlingFault};
 
-use crate::settling::settle_text;
+use crate::program::tape_of_text;
+use crate::settling::settle_tape;
 use command_answers::Fault;
 use revs_parser::MOST_BYTES;
 use std::alloc::Global;
@@ -23,6 +24,7 @@ pub fn check(alloc: Global, text: &[u8], nodes: u32) -> Result<u32, Fault>
     ensures ok { IfOk result (λ count. IsChecked text.now nodes (claims_text count)) }
     ensures err { IfErr result (IsSettlingFault text.now nodes) }
 {
-    let (tape, _) = settle_text(alloc, text, nodes)?;
+    let tape = tape_of_text(alloc, text)?;
+    settle_tape(&tape, nodes)?;
     Ok(tape.claims().len() as u32)
 }

@@ -7,7 +7,8 @@ ghost use Rattle.revc_io.specs.Faults.{HasCause};
 ghost use Rattle.revc_io.specs.Passing.{Writes};
 ghost use Rattle.revc_words.specs.Words.{IsWithinLimits, order_of};
 
-use crate::planning::plan_text;
+use crate::planning::plan_tape;
+use crate::program::tape_of_text;
 use command_answers::Fault;
 use gate_split::Laid;
 use revc_io::{Failed, Sink};
@@ -33,8 +34,8 @@ pub fn compile(alloc: Global, text: &[u8], order: &Order) -> Result<Laid, Fault>
     ensures writable { IfOk result IsWritable }
     ensures err { IfErr result (IsCompileFault (order_of order.now) text.now) }
 {
-    let (_, laid) = plan_text(alloc, text, order)?;
-    Ok(laid)
+    let tape = tape_of_text(alloc, text)?;
+    plan_tape(alloc, &tape, order)
 }
 
 /// Writes the file of a clean plan in a format. It takes no memory.

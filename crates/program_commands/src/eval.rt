@@ -6,9 +6,10 @@ ghost use Rattle.program_commands.specs.Eval.{Gives, IsCause, Serves, IsValueOf}
 ghost use Rattle.revc_words.specs.Words.{first_word, order_of};
 ghost use Rattle.program_commands.specs.inside.Mappings.{bits_fault};
 ghost use Rattle.program_commands.specs.Outcomes.{IsEvalFault};
-ghost use Rattle.program_commands.specs.inside.Plans.{IsBitsFault};
+ghost use Rattle.program_commands.specs.inside.Plans.{ForTexts, IsBitsFault};
 
 use crate::program::tape_of_text;
+use crate::settling::broken_claim;
 use command_answers::Fault;
 use revc_base::{Bits, BitsFault, Tape, TapeEnd};
 use revs_parser::MOST_BYTES;
@@ -27,15 +28,21 @@ pub fn evaluate(alloc: Global, text: &[u8], word: &str) -> Result<Bits, Fault>
     ensures ok { IfOk result (IsValueOf text.now word.now) }
     ensures err { IfErr result (IsEvalFault text.now word.now) }
 {
-    let (_, tape) = tape_of_text(alloc, text)?;
-    let input = input_of(alloc, &tape, word)?;
+    let tape = tape_of_text(alloc, text)?;
+    run_on(alloc, &tape, word)
+}
+
+// The bits that a tape gives on the bits of a word.
+fn run_on(alloc: Global, tape: &Tape, word: &str) -> Result<Bits, Fault>
+    ensures ok { IfOk result
+        (λ bits. ForTexts tape.now (λ text. IsValueOf text word.now bits)) }
+    ensures err { IfErr result
+        (λ fault. ForTexts tape.now (λ text. IsEvalFault text word.now fault)) }
+{
+    let input = input_of(alloc, tape, word)?;
     match tape.run(input.bits())? {
         TapeEnd::Out(bits) => Ok(bits),
-        TapeEnd::Broken { claim } => Err(Fault::Claim {
-            number: claim + 1,
-            at: tape.claims()[claim as usize].at,
-            bits: input,
-        }),
+        TapeEnd::Broken { claim } => Err(broken_claim(tape, claim, input)),
     }
 }
 

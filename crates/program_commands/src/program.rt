@@ -1,12 +1,13 @@
 // From a text to its program, and to the tape that the program leaves.
-ghost use Rattle.std.specs.Prelude.{◌≡◌, ℕ, ◌≤◌, List, length, IfOk, IfErr};
-ghost use Rattle.revs_parser.specs.WellFormed.{IsProgramText, IsWellFormed};
+ghost use Rattle.std.specs.Prelude.{◌≡◌, ◌≤◌, length, IfOk, IfErr};
+ghost use Rattle.revs_parser.specs.WellFormed.{IsProgramText};
 ghost use Rattle.revs_terms.specs.Runs.{IsTapeOf};
 ghost use Rattle.revs_terms.specs.Trees.{tree_of};
 ghost use Rattle.revs_terms.specs.Views.{view_of};
 ghost use Rattle.program_commands.specs.inside.Mappings.{lexing_fault, parsing_fault, scope_fault};
 ghost use Rattle.program_commands.specs.inside.Mappings.{run_fault};
-ghost use Rattle.program_commands.specs.inside.Plans.{IsTextFault, IsBoundAs};
+ghost use Rattle.program_commands.specs.inside.Plans.{ForTextsOf, IsRunFault, IsTextFault};
+ghost use Rattle.program_commands.specs.Settling.{LeavesTape};
 
 use command_answers::{Fault, FaultKind, Refusal};
 use inliner::{RunFault, unroll};
@@ -17,21 +18,15 @@ use revs_parser::{MOST_BYTES, ParseFault, parse};
 use revs_terms::Program;
 use std::alloc::Global;
 
-/// The program of a well-formed text, with its names bound, and the tape that it leaves on every
-/// input. A fault is the text's refusal, or want of memory.
-pub fn tape_of_text(alloc: Global, text: &[u8]) -> Result<(Scoped, Tape), Fault>
+/// The tape that the program of a well-formed text leaves on every input. A fault is the text's
+/// refusal, or want of memory.
+pub fn tape_of_text(alloc: Global, text: &[u8]) -> Result<Tape, Fault>
     requires { length text.now ≤ MOST_BYTES }
-    ensures formed { IfOk result (λ run. IsWellFormed text.now (view_of run.0.program)) }
-    ensures tape { IfOk result (λ run. IsTapeOf run.0.program.params.items
-        (tree_of run.0.program.body) run.1) }
+    ensures left { IfOk result (LeavesTape text.now) }
     ensures err { IfErr result (IsTextFault text.now) }
 {
     let program = program_of_text(alloc, text)?;
-    let scoped = bind(alloc, program)?;
-    match unroll(alloc, &scoped) {
-        Ok(tape) => Ok((scoped, tape)),
-        Err(fault) => Err(run_fault(fault)),
-    }
+    tape_of_program(alloc, program)
 }
 
 // The program of a text, with no name bound.
@@ -49,15 +44,28 @@ fn program_of_text(alloc: Global, text: &[u8]) -> Result<Program, Fault>
     }
 }
 
-// The program with its names bound. A fault is one of each text of the program.
-fn bind(alloc: Global, program: Program) -> Result<Scoped, Fault>
-    ensures ok { IfOk result (λ scoped. IsBoundAs (view_of program) (view_of scoped.program)) }
-    ensures err { IfErr result (λ fault. (text : List ℕ) → IsProgramText text (view_of program)
-        → IsTextFault text fault) }
+// The tape that a program leaves. It, or a fault, is that of each text of the program.
+fn tape_of_program(alloc: Global, program: Program) -> Result<Tape, Fault>
+    ensures left { IfOk result (λ tape. ForTextsOf (view_of program)
+        (λ text. LeavesTape text tape)) }
+    ensures err { IfErr result (λ fault. ForTextsOf (view_of program)
+        (λ text. IsTextFault text fault)) }
 {
     match scope(alloc, program) {
-        Ok(scoped) => Ok(scoped),
+        Ok(scoped) => run(alloc, &scoped),
         Err(fault) => Err(scope_fault(fault)),
+    }
+}
+
+// The tape that a program leaves, its names bound.
+fn run(alloc: Global, scoped: &Scoped) -> Result<Tape, Fault>
+    ensures ok { IfOk result (IsTapeOf scoped.now.program.params.items
+        (tree_of scoped.now.program.body)) }
+    ensures err { IfErr result (IsRunFault (view_of scoped.now.program)) }
+{
+    match unroll(alloc, scoped) {
+        Ok(tape) => Ok(tape),
+        Err(fault) => Err(run_fault(fault)),
     }
 }
 

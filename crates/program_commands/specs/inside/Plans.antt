@@ -1,15 +1,19 @@
 -- From a text to a plan that may be written as a clean file, and why there is none.
 use Rattle.std.specs.Prelude.{◌≡◌, ℕ, ◌+◌, ◌≤◌, List, length}
+use Rattle.claim_check.specs.Claims.{HoldWithin}
+use Rattle.claim_check.specs.Measures.{IsNoLarger}
 use Rattle.claim_check.specs.Settled.{SettledView, IsSettledOf}
 use Rattle.gate_split.specs.declared.plan.TheConstants.{MOST_LINES, MOST_GATES}
 use Rattle.gate_split.specs.Plans.{BudgetView, LaidView, lines_in, roles_of}
 use Rattle.held_nodes.specs.Plans.{wanted_lines}
-use Rattle.mct_circuit.specs.Gates.{AreGatesOn}
+use Rattle.inliner.specs.Faults.{IsRefused}
+use Rattle.inliner.specs.declared.fault.RunFault.{RunFault}
+use Rattle.mct_circuit.specs.Gates.{AreGatesOn, AreNarrow}
 use Rattle.gate_split.specs.declared.choice.How.{How}
 use Rattle.plan_choice.specs.Choices.{GatesAreFew, IsLaidFor, LinesAreFew}
 use Rattle.revc_base.specs.Tapes.{TapeView}
 use Rattle.revc_words.specs.Words.{OrderView}
-use Rattle.revs_parser.specs.WellFormed.{IsWellFormed}
+use Rattle.revs_parser.specs.WellFormed.{IsProgramText, IsWellFormed}
 use Rattle.revs_terms.specs.Runs.{IsTapeOf}
 use Rattle.revs_terms.specs.Scopes.{scope_verdict, bound_as}
 use Rattle.revs_terms.specs.Views.{ProgramView}
@@ -18,8 +22,10 @@ use Rattle.command_answers.specs.declared.fault.Fault.TheVariants.{Refused, Line
 use Rattle.command_answers.specs.declared.fault.Refusal.TheVariants.{At}
 use Rattle.command_answers.specs.BitWords.{IsInputWord}
 use Rattle.program_commands.specs.Clean.{IsCleanCircuit}
+use Rattle.program_commands.specs.Outcomes.{IsWritable}
 use Rattle.program_commands.specs.Refusals.{IsRefusal}
-use Rattle.program_commands.specs.Settling.{LeavesSettled}
+use Rattle.program_commands.specs.Settling.{LeavesSettled, LeavesTape}
+use Rattle.program_commands.specs.inside.Mappings.{run_fault}
 
 -- a plan of a program's settled graph, within a budget
 pub record IsCleanPlan (laid : LaidView) (p : ProgramView) (b : BudgetView) : Type 0 where
@@ -32,8 +38,26 @@ pub record IsCleanPlan (laid : LaidView) (p : ProgramView) (b : BudgetView) : Ty
   pub most_lines : b.lines ≤ MOST_LINES
   pub most_gates : b.gates ≤ MOST_GATES
 
+-- this holds of each text that leaves the tape
+pub record ForTexts (tape : TapeView) (OfText : List ℕ → Type 0) : Type 0 where
+  pub of_text : (text : List ℕ) → LeavesTape text tape → OfText text
+
+-- the claims of the tape hold on all inputs, within the nodes, and this is its settled graph
+pub record IsSettledWithin (tape : TapeView) (nodes : ℕ) (graph : SettledView) : Type 0 where
+  pub hold : HoldWithin tape nodes
+  pub of_tape : IsSettledOf tape graph
+  pub no_larger : IsNoLarger tape graph
+
+-- a plan of the settled graph within the budget: its gates are narrow, and on its lines, which are those of its roles
+pub record IsPlanOf (graph : SettledView) (b : BudgetView) (laid : LaidView) : Type 0 where
+  pub is : IsLaidFor graph b laid
+  pub sum_of : laid.inputs + laid.outputs + laid.work + laid.borrowed ≡ laid.circuit.lines
+  pub on : AreGatesOn laid.circuit.lines laid.circuit.gates
+  pub narrow : AreNarrow laid.circuit.gates
+
 -- The text is well formed, and that of one program, which leaves this tape and whose claims hold on all inputs, within
--- the nodes; the plan is a clean circuit for it, with the order's borrowed lines and within its budgets.
+-- the nodes; the plan is a clean circuit for it, with the order's borrowed lines and within its budgets, and it may be
+-- written: its gates are on its lines, which are those of its roles.
 pub record IsPlannedFor (order : OrderView) (text : List ℕ) (tape : TapeView) (laid : LaidView)
     : Type 0 where
   pub settled : LeavesSettled text order.nodes tape
@@ -41,9 +65,7 @@ pub record IsPlannedFor (order : OrderView) (text : List ℕ) (tape : TapeView) 
   pub clean : IsCleanCircuit settled.left.program order.borrow (roles_of laid) laid.circuit.gates
   pub few_lines : lines_in (roles_of laid) ≤ order.lines
   pub few_gates : length laid.circuit.gates ≤ order.gates
-
--- what a plan says of itself: its gates are on its lines, which are those of its roles
-pub record IsWhole (laid : LaidView) : Type 0 where
+  pub can : IsWritable laid
   pub sum_of : laid.inputs + laid.outputs + laid.work + laid.borrowed ≡ laid.circuit.lines
   pub on : AreGatesOn laid.circuit.lines laid.circuit.gates
 
@@ -59,6 +81,16 @@ IsPlanningFault how s b _ = ⊥
 pub record IsBoundAs (p bound : ProgramView) : Type 0 where
   pub params : bound.params ≡ p.params
   pub body : scope_verdict p.params p.body ≡ bound_as bound.body
+
+-- this holds of each text of the program
+pub record ForTextsOf (p : ProgramView) (OfText : List ℕ → Type 0) : Type 0 where
+  pub of_text : (text : List ℕ) → IsProgramText text p → OfText text
+
+-- the run of a program with its names bound is stuck on every input, or there was no memory left
+pub record IsRunFault (bound : ProgramView) (fault : Fault) : Type 0 where
+  pub why : RunFault
+  pub is : fault ≡ run_fault why
+  pub stuck : IsRefused bound.params bound.body why
 
 -- why a text leaves no tape: it is refused at a place, or there was no memory left
 abbrev pub IsTextFault : List ℕ → Fault → Type 0

@@ -1,8 +1,30 @@
 use Rattle.revc_words.specs.Words.{order_of}
-use Rattle.program_commands.proofs.PlanLemmas.{compiled_file}
+use Rattle.program_commands.specs.Outcomes.{IsCompileFault}
+use Rattle.program_commands.proofs.PlanLemmas.{compiled, may_be_written}
+use Rattle.program_commands.proofs.TextLemmas.{fault_of_text, stops_compile}
+use Rattle.revc_base.proofs.ResultLemmas.{no_value, passes_on}
 use Rattle.program_commands.proofs.compile.compile.Goals as goal
+
+pub returns-in_err-tape-clause-ok : goal.returns-in_err-tape-clause-ok
+returns-in_err-tape-clause-ok c = no_value c.from_residual.result _ _ c.from_residual.ensures.1
+
+pub returns-in_err-tape-clause-writable : goal.returns-in_err-tape-clause-writable
+returns-in_err-tape-clause-writable c = no_value c.from_residual.result _ _ c.from_residual.ensures.1
+
+pub returns-in_err-tape-clause-err : goal.returns-in_err-tape-clause-err
+returns-in_err-tape-clause-err c =
+    passes_on _ c.from_residual.result c.from_residual.ensures.1
+    (stops_compile (order_of c.args.order.now) c.args.text.now c.in_err-tape.field-0.0 c.in_err-tape.ensures.err)
 
 pub returns-clause-ok : goal.returns-clause-ok
 returns-clause-ok c =
-    compiled_file (order_of c.args.order.now) c.args.text.now c.in_ok-laid.laid c.in_ok-laid.field-0-0 c.in_ok-laid.ensures.ok
-    c.in_ok-laid.ensures.writable c.in_ok-laid.ensures.whole
+    compiled (order_of c.args.order.now) c.args.text.now c.in_ok-tape.tape c.plan_tape.result c.in_ok-tape.ensures.left c.plan_tape.ensures.ok
+
+pub returns-clause-writable : goal.returns-clause-writable
+returns-clause-writable c =
+    may_be_written (order_of c.args.order.now) c.args.text.now c.in_ok-tape.tape c.plan_tape.result c.in_ok-tape.ensures.left c.plan_tape.ensures.ok
+
+pub returns-clause-err : goal.returns-clause-err
+returns-clause-err c =
+    fault_of_text (λ fault text. IsCompileFault (order_of c.args.order.now) text fault) c.plan_tape.result c.args.text.now c.in_ok-tape.tape
+    c.in_ok-tape.ensures.left c.plan_tape.ensures.err

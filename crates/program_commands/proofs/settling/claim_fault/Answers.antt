@@ -1,15 +1,21 @@
-use Rattle.std.proofs.Common.{refl}
-use Rattle.program_commands.proofs.SettlingLemmas.{broken_claim, passing_claim}
+use Rattle.program_commands.proofs.SettlingLemmas.{breaks_inside, broken_stops, memory_stops, passes_inside, passing_stops}
 use Rattle.program_commands.proofs.settling.claim_fault.Goals as goal
 
+pub broken_claim-requires : goal.broken_claim-requires
+broken_claim-requires c = breaks_inside c.args.tape.now c.args.nodes c.in-Broken.claim c.in-Broken.input (rw c.in-Broken.is at c.requires)
+
+pub counted-number-requires : goal.counted-number-requires
+counted-number-requires c = passes_inside c.args.tape.now c.args.nodes c.in-Diagram.claim ((rw c.in-Diagram.is at c.requires).0)
+
 pub returns-in-Broken : goal.returns-in-Broken
-returns-in-Broken c = λ text left.
-    broken_claim text c.args.tape.now c.args.nodes c.in-Broken.claim _ _ c.in-Broken.input left (rw c.in-Broken.is at c.requires)
-    c.counted-number.ensures.number c.counted-number.ensures.place
+returns-in-Broken c =
+    broken_stops c.args.tape.now c.args.nodes c.in-Broken.claim c.in-Broken.input c.broken_claim.result (rw c.in-Broken.is at c.requires)
+    c.broken_claim.ensures
 
 pub returns-in-Diagram : goal.returns-in-Diagram
-returns-in-Diagram c = λ text left. (
-  passing_claim text c.args.tape.now c.args.nodes c.in-Diagram.claim _ _ left ((rw c.in-Diagram.is at c.requires).0)
-      c.counted-number-in-Diagram.ensures.number c.counted-number-in-Diagram.ensures.place,
-  refl,
-)
+returns-in-Diagram c =
+    passing_stops c.args.tape.now c.args.nodes c.in-Diagram.claim _ _ ((rw c.in-Diagram.is at c.requires).0)
+    c.counted-number.ensures.number c.counted-number.ensures.place
+
+pub returns-in-Memory : goal.returns-in-Memory
+returns-in-Memory c = memory_stops c.args.tape.now c.args.nodes
