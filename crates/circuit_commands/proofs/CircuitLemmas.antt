@@ -1,6 +1,7 @@
 -- A circuit text means one circuit, or has one refusal; words are inputs of it, or one is the first that is not.
-use Rattle.std.proofs.Common.{◌≡◌, ℕ, ◌+◌, ◌<◌, ◌≤◌, ◌⊎◌, inl, inr, List, length, refl, sym, ap, ◌∙◌, subst, arith}
+use Rattle.std.proofs.Common.{◌≡◌, ℕ, ◌+◌, ◌<◌, ◌≤◌, ◌⊎◌, inl, inr, List, Result, Ok, Err, length, refl, sym, ap, ◌∙◌, subst, arith}
 use Rattle.std.specs.List.{AllByRecursion}
+use Rattle.std.specs.Result.{IfOk, IfErr}
 use Rattle.std.proofs.lemmas.List.{length-replicate}
 use Rattle.real_format.proofs.VerdictLemmas as real
 use Rattle.real_format.specs.Faults.{IsRealFault, IsTextFault as IsRealTextFault}
@@ -31,6 +32,7 @@ use Rattle.command_answers.specs.BitWords.{IsInputWord}
 use Rattle.circuit_commands.specs.Run as run
 use Rattle.circuit_commands.specs.Run.{AreInputs, IsFirstUnfit, HasBadWord, free_lines}
 use Rattle.circuit_commands.specs.Stat as stat
+use Rattle.circuit_commands.specs.declared.stat.Sizes.{Sizes}
 use Rattle.command_answers.proofs.FirstLemmas.{all_at, first_same}
 
 -- ---- refusals are those of the readers
@@ -174,6 +176,16 @@ stat_outcome = record {
   one_cause = λ order text fault exact cause other is. stat_cause order text fault exact cause other;
   free = λ order text fault served cause. stat_stops order text served.0 fault served.1 cause;
 }
+
+pub measured_of : {E : Type 0} (from : Format) (text : List ℕ) (circuit : ReadCircuit) (r : Result Sizes E) → Means from text circuit
+    → IfOk r (λ sizes. sizes ≡ stat.sizes_of circuit) → IfOk r (λ sizes. stat.IsMeasured from text (stat.stat_text sizes))
+measured_of from text circuit (Ok sizes) means is = record { circuit = circuit; means = means; lines = ap stat.stat_text is }
+measured_of from text circuit (Err fault) means is = tt
+
+pub memory_stops : {T : Type 0} (from : Format) (text : List ℕ) (r : Result T Fault) → IfErr r (λ fault. fault ≡ faults.Memory)
+    → IfErr r (IsCircuitFault from text)
+memory_stops from text (Ok sizes) is = tt
+memory_stops from text (Err fault) is = subst (IsCircuitFault from text) (sym is) tt
 
 -- ---- `run`
 

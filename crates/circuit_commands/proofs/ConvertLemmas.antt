@@ -1,5 +1,6 @@
 -- `convert`: the split list of a text's circuit, and the file of it.
-use Rattle.std.proofs.Common.{◌≡◌, ℕ, ◌+◌, ◌<◌, ◌≤◌, Bool, true, false, List, ◌++◌, length, Ok, Err, refl, sym, ap, ◌∙◌, subst, arith}
+use Rattle.std.proofs.Common.{◌≡◌, ℕ, ◌+◌, ◌<◌, ◌≤◌, Bool, true, false, List, [], ◌∷◌, ◌++◌, append-nil, length, Result, Ok, Err, sym, ap, ◌∙◌, subst, arith}
+use Rattle.std.specs.Result.{IfErr}
 use Rattle.std.proofs.lemmas.List.{length-append}
 use Rattle.mct_circuit.specs.Gates.{CircuitView, GateView, AreGatesOn, line_map}
 use Rattle.mct_circuit.proofs.MoreLinesLemmas.{more_lines}
@@ -21,9 +22,9 @@ use Rattle.command_answers.specs.declared.fault.CircuitRefusal.{CircuitRefusal}
 use Rattle.command_answers.specs.Outcomes.{HasOneOutcome, IsAnyFault}
 use Rattle.circuit_commands.specs.Circuits.{ReadCircuit, Means, MeansIn, line_count, unmarked}
 use Rattle.circuit_commands.specs.Convert.{Gives, IsCause, Serves, HasSplit, WantsLine, LacksLine, PassesLines, PassesGates, DoesTheSame, added_lines}
-use Rattle.circuit_commands.specs.Convert.{converted, file_text, said_in}
+use Rattle.circuit_commands.specs.Convert.{file_text, said_in}
 use Rattle.circuit_commands.specs.Outcomes.{ConvertedView, IsConversion}
-use Rattle.circuit_commands.specs.inside.Splitting.{IsSplitOf, IsWritable}
+use Rattle.circuit_commands.specs.inside.Splitting.{IsNarrowOf, IsSplitFault, IsSplitOf, IsWritable}
 use Rattle.circuit_commands.proofs.CircuitLemmas.{means_or_refused, one_circuit, one_circuit_refusal}
 
 -- ---- a split has one answer
@@ -154,21 +155,49 @@ same_on_more circuit gates placed same bits more long one =
     let all = length-append bits more in
     same (bits ++ more) (omega arith) ∙ more_lines circuit.gates bits more (subst (λ n. AreGatesOn n circuit.gates) (sym long) placed)
 
+same_on_own : (circuit : ReadCircuit) (gates : List GateView)
+    → ((bits : List Bool) → length bits ≡ line_count circuit → line_map gates bits ≡ line_map circuit.gates bits) → DoesTheSame circuit false gates
+same_on_own circuit gates same bits [] long none =
+    ap (line_map gates) (append-nil bits) ∙ same bits long ∙ sym (append-nil (line_map circuit.gates bits))
+same_on_own circuit gates same bits (bit ∷ more) long none = absurd cc
+
+-- on the circuit's own lines
+pub own_split : (source : ReadCircuit) (circuit narrow : CircuitView) (lines : ℕ) → circuit.lines ≡ line_count source → circuit.gates ≡ source.gates
+    → lines ≡ circuit.lines → split_list lines MOST_GATES circuit.gates ≡ Ok narrow.gates
+    → narrow ≡ record { lines = lines; limit = MOST_GATES; gates = narrow.gates } → length narrow.gates ≤ MOST_GATES
+    → ((bits : List Bool) → length bits ≡ lines → line_map narrow.gates bits ≡ line_map circuit.gates bits) → IsNarrowOf source narrow
+own_split source circuit narrow lines own gates counted split size few same =
+    let all : lines ≡ line_count source = counted ∙ own in
+    let wide : narrow.lines ≡ lines = ap (λ (c : CircuitView). c.lines) size in
+    record {
+      added = false;
+      lines = omega (arith, wide, all);
+      split = rw (← gates, ← all) split;
+      few_gates = few;
+      same = same_on_own source narrow.gates
+          (λ bits long. same bits (long ∙ sym all) ∙ ap (λ (gs : List GateView). line_map gs bits) gates);
+    }
+
 -- on one line more
-pub wider_split : (source : ReadCircuit) (circuit narrow : CircuitView) (made : ConvertedView) (lines : ℕ) → circuit.lines ≡ line_count source
+pub wider_split : (source : ReadCircuit) (circuit narrow : CircuitView) (lines : ℕ) → circuit.lines ≡ line_count source
     → circuit.gates ≡ source.gates → lines ≡ circuit.lines → AreGatesOn circuit.lines circuit.gates → WantsLine source → line_count source < MOST_LINES
     → split_list (lines + 1) MOST_GATES circuit.gates ≡ Ok narrow.gates
-    → ((bits : List Bool) → length bits ≡ lines + 1 → line_map narrow.gates bits ≡ line_map circuit.gates bits)
-    → made ≡ record { circuit = converted source true narrow.gates; added = true } → IsWritable made → IsSplitOf source made
-wider_split source circuit narrow made lines own gates counted placed wants room split same is writable =
-    let whole : IsWritable (record { circuit = converted source true narrow.gates; added = true }) = subst IsWritable is writable in
+    → narrow ≡ record { lines = lines + 1; limit = MOST_GATES; gates = narrow.gates } → length narrow.gates ≤ MOST_GATES
+    → ((bits : List Bool) → length bits ≡ lines + 1 → line_map narrow.gates bits ≡ line_map circuit.gates bits) → IsNarrowOf source narrow
+wider_split source circuit narrow lines own gates counted placed wants room split size few same =
     let on : AreGatesOn (line_count source) source.gates = rw (← gates, ← own) placed in
     let all : lines ≡ line_count source = counted ∙ own in
-    subst (IsSplitOf source) (sym is) (record {
-      gates = narrow.gates;
+    let wide : narrow.lines ≡ lines + 1 = ap (λ (c : CircuitView). c.lines) size in
+    record {
+      added = true;
+      lines = omega (arith, wide, all);
       split = record { wants = wants; room = room; split = rw (← gates, ← all) split };
-      are = refl;
-      writable = whole;
+      few_gates = few;
       same = same_on_more source narrow.gates on
           (λ bits long. same bits (long ∙ ap (λ n. n + 1) (sym all)) ∙ ap (λ (gs : List GateView). line_map gs bits) gates);
-    })
+    }
+
+-- want of memory leaves no split
+pub memory_stops : {T : Type 0} (source : ReadCircuit) (r : Result T Fault) → IfErr r (λ fault. fault ≡ faults.Memory) → IfErr r (IsSplitFault source)
+memory_stops source (Ok made) h = tt
+memory_stops source (Err fault) h = subst (IsSplitFault source) (sym h) tt

@@ -1,7 +1,8 @@
 -- The words of `run` one after another, and the bits of the lines before and behind the circuit.
 use Rattle.std.proofs.Common.{◌≡◌, ℕ, zero, suc, ◌+◌, ◌==◌, ◌<◌, ◌≤◌, Bool, true, false, List, [], ◌∷◌, ◌++◌, length, map, take, drop, get_or, string_bytes}
 use Rattle.std.proofs.Common.{Global, cond, refl, sym, ap, ◌∙◌, subst, arith, append_assoc, append-nil}
-use Rattle.std.specs.Prelude.{slice_index_or, IsTrue}
+use Rattle.std.specs.Prelude.{slice_index_or, IsTrue, Result, Ok, Err}
+use Rattle.std.specs.Result.{IfOk, IfErr, OnOk}
 use mir.Val.{bool_byte}
 use Rattle.std.specs.Global.{Vec}
 use Rattle.std.specs.List.{flat_map}
@@ -15,10 +16,14 @@ use Rattle.list_facts.proofs.CutLemmas.{cut_at, length-take_below}
 use Rattle.mct_circuit.specs.Gates.{GateView, line_map}
 use Rattle.real_format.specs.declared.file.Mark.{Mark}
 use Rattle.real_format.specs.declared.file.Mark.TheVariants.{Free, Zero, One}
-use Rattle.circuit_commands.specs.Circuits.{ReadCircuit}
+use Rattle.circuit_commands.specs.Circuits.{ReadCircuit, Means}
+use Rattle.circuit_commands.specs.Outcomes.{IsRunFault, IsWordsFault}
 use Rattle.command_answers.specs.BitWords.{IsInputWord, bits_of}
 use Rattle.command_answers.specs.Lines.{bits_text}
-use Rattle.circuit_commands.specs.Run.{AreInputs, IsFirstUnfit, free_lines, given_by, is_free, kept, runs_text, started}
+use Rattle.command_answers.specs.declared.fault.Fault.{Fault}
+use Rattle.command_answers.specs.declared.fault.Fault.TheVariants as faults
+use Rattle.revc_words.specs.declared.order.Format.{Format}
+use Rattle.circuit_commands.specs.Run.{AreInputs, IsFirstUnfit, IsRun, free_lines, given_by, is_free, kept, runs_text, started}
 use Rattle.circuit_commands.specs.inside.Started.{first_bit, rest_bits}
 
 -- ---- the words
@@ -226,3 +231,18 @@ length-started (Zero ∷ marks) bits = ap suc (length-started marks bits)
 length-started (One ∷ marks) bits = ap suc (length-started marks bits)
 length-started (Free ∷ marks) [] = ap suc (length-started marks [])
 length-started (Free ∷ marks) (bit ∷ bits) = ap suc (length-started marks bits)
+
+-- ---- from a circuit to its text
+
+pub run_of : {T E : Type 0} (from : Format) (words : List (List ℕ)) (text : List ℕ) (circuit : ReadCircuit) (text_of : T → List ℕ) (r : Result T E)
+    → Means from text circuit → OnOk r (AreInputs circuit words) → IfOk r (λ lines. text_of lines ≡ runs_text circuit words)
+    → IfOk r (λ lines. IsRun from words text (text_of lines))
+run_of from words text circuit text_of (Ok lines) means fit is = record { circuit = circuit; means = means; fit = fit; lines = is }
+run_of from words text circuit text_of (Err fault) means fit is = tt
+
+pub run_stops : {T : Type 0} (from : Format) (words : List (List ℕ)) (text : List ℕ) (circuit : ReadCircuit) (r : Result T Fault) → Means from text circuit
+    → IfErr r (IsWordsFault circuit words) → IfErr r (IsRunFault from words text)
+run_stops from words text circuit (Ok lines) means h = tt
+run_stops from words text circuit (Err (faults.BadBits number)) means h = record { circuit = circuit; means = means; first = h }
+run_stops from words text circuit (Err faults.Memory) means h = tt
+run_stops from words text circuit (Err fault) means h = absurd h

@@ -9,8 +9,8 @@ ghost use Rattle.circuit_commands.specs.Circuits.{line_count};
 ghost use Rattle.circuit_commands.specs.Convert.{Gives, IsCause, Serves, WantsLine, converted};
 ghost use Rattle.circuit_commands.specs.Convert.{file_text};
 ghost use Rattle.circuit_commands.specs.Outcomes.{IsConversion, IsConvertFault};
-ghost use Rattle.circuit_commands.specs.inside.Splitting.{HasLines, IsSplitFault, IsSplitOf};
-ghost use Rattle.circuit_commands.specs.inside.Splitting.{IsWritable};
+ghost use Rattle.circuit_commands.specs.inside.Splitting.{HasLines, IsNarrowOf, IsSplitFault};
+ghost use Rattle.circuit_commands.specs.inside.Splitting.{IsSplitOf, IsWritable};
 
 use crate::circuit::{MarkedCircuit, read_circuit};
 use command_answers::Fault;
@@ -80,13 +80,61 @@ fn split_source(alloc: Global, source: MarkedCircuit) -> Result<Converted, Fault
     ensures ok { IfOk result (IsSplitOf source) }
     ensures err { IfErr result (IsSplitFault source) }
 {
+    let narrow = split_gates(alloc, &source)?;
+    marked(source, narrow)
+}
+
+// The narrow gates on the lines of a circuit, or on one more.
+fn split_gates(alloc: Global, source: &MarkedCircuit) -> Result<Narrow, Fault>
+    requires { HasLines source.now }
+    ensures ok { IfOk result (IsNarrowOf source.now) }
+    ensures err { IfErr result (IsSplitFault source.now) }
+{
     let circuit = source.circuit();
     match split(alloc, circuit, circuit.lines(), MOST_GATES) {
-        Ok(narrow) => Ok(on_own_lines(source, narrow)),
+        Ok(narrow) => Ok(narrow),
         Err(SplitFault::NoIdle { .. }) => split_wider(alloc, source),
         Err(SplitFault::Gates) => Err(Fault::Gates { limit: MOST_GATES }),
         Err(SplitFault::Memory) => Err(Fault::Memory),
     }
+}
+
+// The narrow gates on one line more.
+fn split_wider(alloc: Global, source: &MarkedCircuit) -> Result<Narrow, Fault>
+    requires lines { HasLines source.now }
+    requires wants { WantsLine source.now }
+    ensures ok { IfOk result (IsNarrowOf source.now) }
+    ensures err { IfErr result (IsSplitFault source.now) }
+{
+    let circuit = source.circuit();
+    let lines = circuit.lines();
+    if lines == MOST_LINES {
+        return Err(Fault::Lines {
+            need: MOST_LINES + 1,
+            limit: MOST_LINES,
+        });
+    }
+    match split(alloc, circuit, lines + 1, MOST_GATES) {
+        Ok(narrow) => Ok(narrow),
+        Err(SplitFault::NoIdle { .. }) => unreachable!(),
+        Err(SplitFault::Gates) => Err(Fault::Gates { limit: MOST_GATES }),
+        Err(SplitFault::Memory) => Err(Fault::Memory),
+    }
+}
+
+// The narrow gates of a circuit with its marks, and none on a line that was added.
+fn marked(source: MarkedCircuit, narrow: Narrow) -> Result<Converted, Fault>
+    requires lines { HasLines source }
+    requires split { IsNarrowOf source narrow }
+    ensures ok { IfOk result (IsSplitOf source) }
+    ensures err { IfErr result (λ fault. fault ≡ Fault.Memory) }
+{
+    let own_lines = source.circuit().lines();
+    let lines = narrow.circuit().lines();
+    if lines == own_lines {
+        return Ok(on_own_lines(source, narrow));
+    }
+    Ok(with_line(source, narrow)?)
 }
 
 // The narrow gates on the lines of the circuit.
@@ -108,29 +156,6 @@ fn on_own_lines(source: MarkedCircuit, circuit: Narrow) -> Converted
         constants,
         garbage,
         added: false,
-    }
-}
-
-// On one line more.
-fn split_wider(alloc: Global, source: MarkedCircuit) -> Result<Converted, Fault>
-    requires lines { HasLines source }
-    requires wants { WantsLine source }
-    ensures ok { IfOk result (IsSplitOf source) }
-    ensures err { IfErr result (IsSplitFault source) }
-{
-    let circuit = source.circuit();
-    let lines = circuit.lines();
-    if lines == MOST_LINES {
-        return Err(Fault::Lines {
-            need: MOST_LINES + 1,
-            limit: MOST_LINES,
-        });
-    }
-    match split(alloc, circuit, lines + 1, MOST_GATES) {
-        Ok(narrow) => Ok(with_line(source, narrow)?),
-        Err(SplitFault::NoIdle { .. }) => unreachable!(),
-        Err(SplitFault::Gates) => Err(Fault::Gates { limit: MOST_GATES }),
-        Err(SplitFault::Memory) => Err(Fault::Memory),
     }
 }
 

@@ -37,8 +37,18 @@ pub fn run(alloc: Global, text: &[u8], from: Format, words: &[String]) -> Result
     ensures err { IfErr result (IsRunFault from (words_of words.now) text.now) }
 {
     let source = read_circuit(alloc, text, from)?;
-    check_words(&source, words)?;
-    Ok(run_words(alloc, &source, words)?)
+    run_source(alloc, &source, words)
+}
+
+// The bits that a circuit gives on the bits of each word, where each is an input of the circuit.
+fn run_source(alloc: Global, source: &MarkedCircuit, words: &[String]) -> Result<Vec<Bits>, Fault>
+    ensures fit { OnOk result (AreInputs source.now (words_of words.now)) }
+    ensures ok { IfOk result (λ lines. flat_map bits_text lines.items
+        ≡ runs_text source.now (words_of words.now)) }
+    ensures err { IfErr result (IsWordsFault source.now (words_of words.now)) }
+{
+    check_words(source, words)?;
+    Ok(run_words(alloc, source, words)?)
 }
 
 // Whether each word has a digit for each free line.

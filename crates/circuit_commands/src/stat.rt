@@ -11,7 +11,6 @@ ghost use Rattle.circuit_commands.specs.Outcomes.{IsCircuitFault};
 use crate::circuit::{MarkedCircuit, read_circuit};
 use command_answers::{Fault, write_numbers};
 use mct_circuit::Counts;
-use revc_base::Memory;
 use revc_io::{Failed, Sink};
 use revc_words::Format;
 use std::alloc::Global;
@@ -39,11 +38,13 @@ pub fn measure(alloc: Global, text: &[u8], from: Format) -> Result<Sizes, Fault>
     ensures err { IfErr result (IsCircuitFault from text.now) }
 {
     let source = read_circuit(alloc, text, from)?;
-    Ok(sizes_of(&source)?)
+    sizes_of(&source)
 }
 
-fn sizes_of(source: &MarkedCircuit) -> Result<Sizes, Memory>
-    ensures { IfOk result (λ sizes. sizes ≡ sizes_of source.now) }
+// The sizes of a circuit. A fault is want of memory.
+fn sizes_of(source: &MarkedCircuit) -> Result<Sizes, Fault>
+    ensures ok { IfOk result (λ sizes. sizes ≡ sizes_of source.now) }
+    ensures err { IfErr result (λ fault. fault ≡ Fault.Memory) }
 {
     let circuit = source.circuit();
     Ok(Sizes {

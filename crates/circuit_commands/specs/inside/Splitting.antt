@@ -1,6 +1,6 @@
 -- What a circuit's split comes to, without its text.
-use Rattle.std.specs.Prelude.{◌≡◌, ◌<◌, ◌≤◌, Ok, List, length}
-use Rattle.mct_circuit.specs.Gates.{GateView, AreGatesOn, AreNarrow}
+use Rattle.std.specs.Prelude.{◌≡◌, ◌+◌, ◌<◌, ◌≤◌, Bool, Ok, List, length}
+use Rattle.mct_circuit.specs.Gates.{CircuitView, GateView, AreGatesOn, AreNarrow}
 use Rattle.gate_split.specs.declared.plan.TheConstants.{MOST_LINES, MOST_GATES}
 use Rattle.command_answers.specs.declared.fault.Fault.{Fault}
 use Rattle.command_answers.specs.declared.fault.Fault.TheVariants.{Lines, Gates, Memory}
@@ -21,6 +21,14 @@ pub record IsWritable (made : ConvertedView) : Type 0 where
   pub narrow : AreNarrow made.circuit.gates
   pub placed : AreGatesOn (line_count made.circuit) made.circuit.gates
   pub few_gates : length made.circuit.gates ≤ MOST_GATES
+
+-- these are the gates of the split list, on the circuit's own lines or on one more
+pub record IsNarrowOf (circuit : ReadCircuit) (narrow : CircuitView) : Type 0 where
+  pub added : Bool
+  pub lines : narrow.lines ≡ line_count circuit + added_lines added
+  pub split : HasSplit circuit added (Ok narrow.gates)
+  pub few_gates : length narrow.gates ≤ MOST_GATES
+  pub same : DoesTheSame circuit added narrow.gates
 
 -- this is the circuit of the split list
 pub record IsSplitOf (circuit : ReadCircuit) (made : ConvertedView) : Type 0 where

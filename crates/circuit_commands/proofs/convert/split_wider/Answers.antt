@@ -10,9 +10,8 @@ returns-in-Ok-clause-ok c =
     let other = c.if-lines-eq-MOST_LINES.false in
     let own = c.circuit-circuit.ensures.lines in
     let counted = c.lines-lines.ensures.lines in
-    wider_split c.args.source c.circuit-circuit.result.now c.in-Ok.narrow _ c.lines-lines.result own c.circuit-circuit.ensures.gates counted
-    c.lines-lines.ensures.gates c.requires.wants (omega arith) c.in-Ok.ensures.gates c.in-Ok.ensures.map
-    c.in_ok-with_line-in-Ok.ensures.made c.in_ok-with_line-in-Ok.ensures.writable
+    wider_split c.args.source.now c.circuit-circuit.result.now c.in-Ok.narrow c.lines-lines.result own c.circuit-circuit.ensures.gates counted
+    c.lines-lines.ensures.gates c.requires.wants (omega arith) c.in-Ok.ensures.gates c.in-Ok.ensures.size c.in-Ok.ensures.within c.in-Ok.ensures.map
 
 pub unreachable-requires : goal.unreachable-requires
 unreachable-requires c =
