@@ -138,16 +138,11 @@ one_circuit from text circuit other m n = one_in from text circuit other m.meani
 pub has_lines : (from : Format) (text : List ℕ) (circuit : ReadCircuit) → MeansIn from text circuit → HasLines circuit
 has_lines Real text circuit m =
     let file = real.meanings_are_files text m.file m.meaning in
-    let marks = file.constants in
-    let some = file.some in
-    let few = file.few in
-    subst HasLines (sym m.same) (record { some = omega arith; few = omega arith })
+    subst HasLines (sym m.same) (record { some = omega (arith, file.constants, file.some); few = omega (arith, file.constants, file.few) })
 has_lines Qasm text circuit m =
     let file = qasm.meanings_are_files text m.file m.meaning in
     let marks = length-replicate (lines_of_all m.file.registers) Free in
-    let some = file.some in
-    let few = file.few in
-    subst HasLines (sym m.same) (record { some = omega arith; few = omega arith })
+    subst HasLines (sym m.same) (record { some = omega (arith, marks, file.some); few = omega (arith, marks, file.few) })
 
 -- ---- `stat`
 
