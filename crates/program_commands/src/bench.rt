@@ -72,14 +72,16 @@ fn sizes_of(tape: &Tape, laid: &Laid) -> Result<BenchSizes, Fault>
     ensures err { IfErr result (λ fault. fault ≡ Fault.Memory) }
 {
     let circuit = laid.circuit();
+    let width = tape.width()?;
+    let depth = circuit.depth()?;
     Ok(BenchSizes {
         inputs: tape.inputs(),
         outputs: tape.outputs().len() as u32,
         writes: tape.len(),
-        width: tape.width()?,
+        width,
         lines: circuit.lines(),
         gates: circuit.len(),
-        depth: circuit.depth()?,
+        depth,
     })
 }
 
