@@ -104,7 +104,8 @@ impl Left {
     }
 }
 
-fn words_of(alloc: Global, words: &str) -> Result<Vec<String>, Memory> {
+// The words of a call, parted by blanks.
+pub fn words_of(alloc: Global, words: &str) -> Result<Vec<String>, Memory> {
     let mut all = Vec::new(alloc);
     if words.is_empty() {
         return Ok(all);

@@ -1,6 +1,6 @@
 // The tests of revc_words.
+use crate::rows::words_of;
 use gate_split::How;
-use revc_base::Memory;
 use revc_words::{Command, Format, Order, WordsFault, read_words};
 use std::alloc::Global;
 use std::process::Abort;
@@ -37,10 +37,10 @@ const USUAL: Asked = Asked {
 };
 
 // Words, and what they ask for.
-const ORDERS: &[(&[&str], Asked)] = &[
-    (&["compile"], USUAL),
+const ORDERS: &[(&str, Asked)] = &[
+    ("compile", USUAL),
     (
-        &["compile", "--plan=pebble", "--gates", "4000000"],
+        "compile --plan=pebble --gates 4000000",
         Asked {
             plan: How::Pebble,
             gates: 4_000_000,
@@ -48,7 +48,7 @@ const ORDERS: &[(&[&str], Asked)] = &[
         },
     ),
     (
-        &["compile", "--lines", "16384", "--borrow=64"],
+        "compile --lines 16384 --borrow=64",
         Asked {
             lines: 16_384,
             borrow: 64,
@@ -56,7 +56,7 @@ const ORDERS: &[(&[&str], Asked)] = &[
         },
     ),
     (
-        &["compile", "--nodes", "0000005", "--format", "qasm"],
+        "compile --nodes 0000005 --format qasm",
         Asked {
             nodes: 5,
             format: Format::Qasm,
@@ -64,7 +64,7 @@ const ORDERS: &[(&[&str], Asked)] = &[
         },
     ),
     (
-        &["check", "--nodes", "1", "--"],
+        "check --nodes 1 --",
         Asked {
             command: Command::Check,
             nodes: 1,
@@ -72,7 +72,7 @@ const ORDERS: &[(&[&str], Asked)] = &[
         },
     ),
     (
-        &["eval", "--", "--"],
+        "eval -- --",
         Asked {
             command: Command::Eval,
             bits: &["--"],
@@ -80,7 +80,7 @@ const ORDERS: &[(&[&str], Asked)] = &[
         },
     ),
     (
-        &["stat", "--from=qasm"],
+        "stat --from=qasm",
         Asked {
             command: Command::Stat,
             from: Format::Qasm,
@@ -88,7 +88,7 @@ const ORDERS: &[(&[&str], Asked)] = &[
         },
     ),
     (
-        &["run", "1", "--from", "real", ""],
+        "run 1 --from real ",
         Asked {
             command: Command::Run,
             bits: &["1", ""],
@@ -96,7 +96,7 @@ const ORDERS: &[(&[&str], Asked)] = &[
         },
     ),
     (
-        &["run", "-", "--", "--from=real"],
+        "run - -- --from=real",
         Asked {
             command: Command::Run,
             bits: &["-", "--from=real"],
@@ -104,7 +104,7 @@ const ORDERS: &[(&[&str], Asked)] = &[
         },
     ),
     (
-        &["convert", "--from", "qasm", "--to", "real"],
+        "convert --from qasm --to real",
         Asked {
             command: Command::Convert,
             from: Format::Qasm,
@@ -113,7 +113,7 @@ const ORDERS: &[(&[&str], Asked)] = &[
         },
     ),
     (
-        &["gen", "--", "200"],
+        "gen -- 200",
         Asked {
             command: Command::Gen,
             number: 200,
@@ -121,7 +121,7 @@ const ORDERS: &[(&[&str], Asked)] = &[
         },
     ),
     (
-        &["bench", "16", "--plan", "eager"],
+        "bench 16 --plan eager",
         Asked {
             command: Command::Bench,
             plan: How::Eager,
@@ -132,40 +132,32 @@ const ORDERS: &[(&[&str], Asked)] = &[
 ];
 
 // Words that are no order.
-const NO_ORDERS: &[&[&str]] = &[
-    &[],
-    &["Compile"],
-    &["--help"],
-    &["compile", "--nodes", "0"],
-    &["compile", "--nodes", "00000005"],
-    &["compile", "--nodes", "+5"],
-    &["compile", "--nodes="],
-    &["compile", "--nodes", "5", "--nodes=5"],
-    &["compile", "--nodes", "--"],
-    &["compile", "--nodes"],
-    &["compile", "-nodes", "5"],
-    &["compile", "--lines", "16385"],
-    &["compile", "--plan", "x"],
-    &["compile", ""],
-    &["check", "--format", "real"],
-    &["eval", "0", "1"],
-    &["stat", "--to", "qasm"],
-    &["run"],
-    &["run", "-1"],
-    &["gen", "201"],
-    &["bench"],
+const NO_ORDERS: &[&str] = &[
+    "",
+    "Compile",
+    "--help",
+    "compile --nodes 0",
+    "compile --nodes 00000005",
+    "compile --nodes +5",
+    "compile --nodes=",
+    "compile --nodes 5 --nodes=5",
+    "compile --nodes --",
+    "compile --nodes",
+    "compile -nodes 5",
+    "compile --lines 16385",
+    "compile --plan x",
+    "compile ",
+    "check --format real",
+    "eval 0 1",
+    "stat --to qasm",
+    "run",
+    "run -1",
+    "gen 201",
+    "bench",
 ];
 
-fn strings(alloc: Global, words: &[&str]) -> Result<Vec<String>, Memory> {
-    let mut strings = Vec::new(alloc);
-    for word in words {
-        strings.push(String::from_str(alloc, word)?)?;
-    }
-    Ok(strings)
-}
-
-fn order_of(alloc: Global, words: &[&str]) -> Result<Order, WordsFault> {
-    read_words(alloc, &strings(alloc, words)?)
+fn order_of(alloc: Global, words: &str) -> Result<Order, WordsFault> {
+    read_words(alloc, &words_of(alloc, words)?)
 }
 
 fn are_same(bits: &[String], words: &[&str]) -> bool {
@@ -195,8 +187,8 @@ fn words_are_read(rt: HostRuntime) -> Result<(), Fail> {
 
 #[test]
 fn other_words_are_no_order(rt: HostRuntime) {
-    for (row, words) in NO_ORDERS.iter().enumerate() {
+    for words in NO_ORDERS {
         let order = order_of(rt.alloc(), words);
-        assert!(rt; matches!(order, Err(WordsFault::Usage)), "row {row}");
+        assert!(rt; matches!(order, Err(WordsFault::Usage)), "{words}");
     }
 }

@@ -5,7 +5,7 @@ ghost use Rattle.std.specs.Prelude.{[]};
 
 use inliner::unroll;
 use name_scope::{Scoped, scope};
-use revc_base::{Entry, Place, Ref};
+use revc_base::{Entry, Place, Ref, Tape};
 use revs_terms::{Program, Term};
 use std::alloc::Global;
 use std::test::Fail;
@@ -31,12 +31,19 @@ fn scoped(alloc: Global) -> Result<Scoped, Fail> {
     Ok(scope(alloc, program).ok().ok_or("refused")?)
 }
 
+fn is_a_constant(tape: &Tape) -> bool {
+    tape.outputs() == [Ref::Write(0)].as_slice() && matches!(tape.entries(), [Entry::Const(true)])
+}
+
+fn writes_a_constant(alloc: Global, scoped: &Scoped) -> Result<bool, Fail> {
+    let tape = unroll(alloc, scoped).ok().ok_or("no tape")?;
+    Ok(is_a_constant(&tape))
+}
+
 // A constant is written, and is the output.
 #[test]
 fn a_constant_is_a_write(rt: HostRuntime) -> Result<(), Fail> {
     let scoped = scoped(rt.alloc())?;
-    let tape = unroll(rt.alloc(), &scoped).ok().ok_or("no tape")?;
-    assert!(rt; tape.outputs() == [Ref::Write(0)].as_slice());
-    assert!(rt; matches!(tape.entries(), [Entry::Const(true)]));
+    assert!(rt; writes_a_constant(rt.alloc(), &scoped)?);
     Ok(())
 }

@@ -1,6 +1,6 @@
 // The tests of claim_check.
 ghost use Rattle.std.specs.Prelude.{IsTrue, ◌≤◌};
-ghost use Rattle.revc_base.specs.Tapes.{IsKnown, IsKnownEntry};
+ghost use Rattle.revc_base.specs.Tapes.{AreWidths, IsKnown, IsKnownEntry};
 
 use claim_check::{ClaimFault, Settled, settle};
 use dependency_graph::{Base, Graph, Node, Sig};
@@ -37,27 +37,24 @@ fn is_known_entry(inputs: u32, writes: u32, entry: Entry) -> bool
     }
 }
 
-// Appends writes and claims, each of inputs and of earlier writes.
-pub fn fill(
-    rt: &impl Abort,
-    tape: &mut Tape,
-    entries: &[Entry],
-    claims: &[(Kind, Ref)],
-) -> Result<(), Fail> {
+// Appends writes, each of inputs and of earlier writes.
+pub fn push_all(rt: &impl Abort, tape: &mut Tape, entries: &[Entry]) -> Result<(), Fail> {
     for entry in entries {
         assert!(rt; is_known_entry(tape.inputs(), tape.len(), *entry));
         assert!(rt; tape.entries().len() < MOST_WRITES);
         tape.push(*entry)?;
     }
+    Ok(())
+}
+
+// Appends claims, each of an input or of a write.
+fn claim_all(rt: &impl Abort, tape: &mut Tape, claims: &[(Kind, Ref)]) -> Result<(), Fail> {
+    let at = Place { line: 1, column: 1 };
     for (kind, of) in claims {
-        assert!(rt; is_known(tape.inputs(), tape.len(), *of));
+        let (kind, of) = (*kind, *of);
+        assert!(rt; is_known(tape.inputs(), tape.len(), of));
         assert!(rt; tape.claims().len() < MOST_CLAIMS);
-        let at = Place { line: 1, column: 1 };
-        tape.claim(Claim {
-            kind: *kind,
-            of: *of,
-            at,
-        })?;
+        tape.claim(Claim { kind, of, at })?;
     }
     Ok(())
 }
@@ -94,15 +91,31 @@ fn expect(rt: &impl Abort, tape: &Tape, rows: &[(u32, Outcome)]) -> Result<(), M
 }
 
 // The claims of these writes end so.
-fn settles(
+fn settle_all(
     rt: &impl Abort,
-    mut tape: Tape,
+    tape: &mut Tape,
     entries: &[Entry],
     claims: &[(Kind, Ref)],
     rows: &[(u32, Outcome)],
 ) -> Result<(), Fail> {
-    fill(rt, &mut tape, entries, claims)?;
-    Ok(expect(rt, &tape, rows)?)
+    push_all(rt, tape, entries)?;
+    claim_all(rt, tape, claims)?;
+    Ok(expect(rt, tape, rows)?)
+}
+
+// The claims of these writes end so, where the parameters have these widths.
+fn settles(
+    rt: &impl Abort,
+    alloc: Global,
+    widths: &[u32],
+    entries: &[Entry],
+    claims: &[(Kind, Ref)],
+    rows: &[(u32, Outcome)],
+) -> Result<(), Fail>
+    requires { AreWidths widths.now }
+{
+    let mut tape = Tape::new(alloc, Vec::from_slice(alloc, widths)?);
+    settle_all(rt, &mut tape, entries, claims, rows)
 }
 
 const BOTH: &[Entry] = &[Entry::And(Ref::Input(0), Ref::Input(1))];
@@ -115,8 +128,14 @@ const BOTH_ROWS: &[(u32, Outcome)] = &[
 
 #[test]
 fn a_conjunction_is_not_clean(rt: HostRuntime) -> Result<(), Fail> {
-    let tape = Tape::new(rt.alloc(), vec![in rt.alloc(); 1, 1]?);
-    settles(&rt, tape, BOTH, &[(Kind::Clean, Ref::Write(0))], BOTH_ROWS)
+    settles(
+        &rt,
+        rt.alloc(),
+        &[1, 1],
+        BOTH,
+        &[(Kind::Clean, Ref::Write(0))],
+        BOTH_ROWS,
+    )
 }
 
 const SECOND_PLACE: &[Entry] = &[
@@ -140,10 +159,10 @@ const SECOND_PLACE_ROWS: &[(u32, Outcome)] = &[
 
 #[test]
 fn the_bit_comes_before_the_second_place(rt: HostRuntime) -> Result<(), Fail> {
-    let tape = Tape::new(rt.alloc(), vec![in rt.alloc(); 2, 1]?);
     settles(
         &rt,
-        tape,
+        rt.alloc(),
+        &[2, 1],
         SECOND_PLACE,
         SECOND_PLACE_CLAIMS,
         SECOND_PLACE_ROWS,
@@ -170,10 +189,10 @@ const CARRY_ROWS: &[(u32, Outcome)] = &[(11, Outcome::Passes(0)), (12, Outcome::
 
 #[test]
 fn two_carries_are_one(rt: HostRuntime) -> Result<(), Fail> {
-    let tape = Tape::new(rt.alloc(), vec![in rt.alloc(); 1, 1, 1]?);
     settles(
         &rt,
-        tape,
+        rt.alloc(),
+        &[1, 1, 1],
         CARRY,
         &[(Kind::Clean, Ref::Write(8))],
         CARRY_ROWS,
@@ -194,8 +213,7 @@ const FIRST_ROWS: &[(u32, Outcome)] = &[
 
 #[test]
 fn the_first_claim_that_breaks_is_named(rt: HostRuntime) -> Result<(), Fail> {
-    let tape = Tape::new(rt.alloc(), vec![in rt.alloc(); 1, 1, 1]?);
-    settles(&rt, tape, CARRY, FIRST_CLAIMS, FIRST_ROWS)
+    settles(&rt, rt.alloc(), &[1, 1, 1], CARRY, FIRST_CLAIMS, FIRST_ROWS)
 }
 
 const NINE: &[Entry] = &[
@@ -224,8 +242,7 @@ const NINE_ROWS: &[(u32, Outcome)] = &[
 
 #[test]
 fn each_claim_adds_its_functions(rt: HostRuntime) -> Result<(), Fail> {
-    let tape = Tape::new(rt.alloc(), vec![in rt.alloc(); 2, 2]?);
-    settles(&rt, tape, NINE, NINE_CLAIMS, NINE_ROWS)
+    settles(&rt, rt.alloc(), &[2, 2], NINE, NINE_CLAIMS, NINE_ROWS)
 }
 
 // Six writes of two inputs: five nodes and a constant.
@@ -246,7 +263,7 @@ fn set_four_outputs(rt: &impl Abort, alloc: Global, tape: &mut Tape) -> Result<(
 
 fn five_nodes(rt: &impl Abort, alloc: Global) -> Result<Tape, Fail> {
     let mut tape = Tape::new(alloc, vec![in alloc; 2]?);
-    fill(rt, &mut tape, FIVE_NODES, &[])?;
+    push_all(rt, &mut tape, FIVE_NODES)?;
     set_four_outputs(rt, alloc, &mut tape)?;
     Ok(tape)
 }
@@ -265,12 +282,15 @@ const KEPT_OUTPUTS: &[Sig] = &[
     Sig::Is(Base::Input(0)),
 ];
 
+// Whether a settled graph has this node, with this last use.
+fn is_node(settled: &Settled, n: u32, node: Node, last_use: u32) -> bool {
+    n < settled.nodes() && settled.node(n) == node && settled.last_use(n) == last_use
+}
+
 fn assert_kept(rt: &impl Abort, settled: &Settled) {
     assert!(rt; settled.inputs() == 2 && settled.nodes() == 3);
     for (n, (node, last_use)) in KEPT.iter().enumerate() {
-        let n = n as u32;
-        assert!(rt; n < settled.nodes());
-        assert!(rt; settled.node(n) == *node && settled.last_use(n) == *last_use);
+        assert!(rt; is_node(settled, n as u32, *node, *last_use));
     }
     assert!(rt; settled.outputs() == KEPT_OUTPUTS);
 }

@@ -2,7 +2,7 @@
 ghost use Rattle.std.specs.Prelude.{◌≡◌, length, sum, IfOk, OnOk};
 ghost use Rattle.revc_base.specs.Measures.{writes_of};
 
-use crate::claim_check_tests::fill;
+use crate::claim_check_tests::push_all;
 use dependency_graph::{Base, Graph, Node, Sig};
 use revc_base::{Entry, Memory, Ref, Tape};
 use std::alloc::Global;
@@ -40,7 +40,7 @@ fn all_rows(rt: &impl Abort, alloc: Global) -> Result<Tape, Fail>
     ensures writes { IfOk result (λ tape. writes_of tape ≡ 13) }
 {
     let mut tape = Tape::new(alloc, vec![in alloc; 2]?);
-    fill(rt, &mut tape, ROWS, &[])?;
+    push_all(rt, &mut tape, ROWS)?;
     set_three_outputs(rt, alloc, &mut tape)?;
     Ok(tape)
 }

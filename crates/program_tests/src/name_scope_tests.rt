@@ -1,6 +1,6 @@
 // The tests of name_scope.
 
-use name_scope::scope;
+use name_scope::{Scoped, scope};
 use revc_base::{Place, Text};
 use revs_terms::{Name, Param, Program, Term};
 use std::alloc::Global;
@@ -37,12 +37,14 @@ fn back(program: &Program) -> Option<u32> {
     }
 }
 
+fn bound(alloc: Global) -> Result<Scoped, Fail> {
+    Ok(scope(alloc, program(alloc)?).ok().ok_or("refused")?)
+}
+
 // A parameter is bound in the body, the last one nearest.
 #[test]
 fn names_of_parameters_are_bound(rt: HostRuntime) -> Result<(), Fail> {
-    let bound = scope(rt.alloc(), program(rt.alloc())?)
-        .ok()
-        .ok_or("refused")?;
+    let bound = bound(rt.alloc())?;
     assert!(rt; back(bound.program()) == Some(1));
     Ok(())
 }
