@@ -4,7 +4,7 @@ ghost use Rattle.std.specs.Prelude.{◌≡◌, ◌≤◌, length, true, IfOk};
 use crate::real_format_tests::each_role;
 use gate_split::{Laid, Narrow, split};
 use mct_circuit::Circuit;
-use qasm_format::{QasmFault, Register, read, write, write_lines};
+use qasm_format::{QasmFault, QasmFile, Register, read, write, write_lines};
 use revc_base::{Memory, Place};
 use revc_io::MemorySink;
 use std::alloc::Global;
@@ -110,8 +110,8 @@ qreg b[02];\nbarrier a,a[0] , b;cx a,b;\nccx a[0],b[1],b[0];x a;//";
 
 const REGISTERS: &[(&[u8], u32)] = &[(b"a", 2), (b"b", 2)];
 
-fn assert_registers(rt: &impl Abort, registers: &[Register]) {
-    for (register, (name, size)) in registers.iter().zip(REGISTERS) {
+fn assert_registers(rt: &impl Abort, registers: &[Register], sizes: &[(&[u8], u32)]) {
+    for (register, (name, size)) in registers.iter().zip(sizes) {
         assert!(rt; register.name.bytes() == *name && register.size == *size);
     }
 }
@@ -130,12 +130,16 @@ fn assert_runs(rt: &impl Abort, circuit: &Circuit) {
     }
 }
 
+fn assert_part(rt: &impl Abort, file: &QasmFile) {
+    assert_registers(rt, file.registers(), REGISTERS);
+    assert_runs(rt, file.circuit());
+    assert!(rt; file.circuit().len() == 6);
+}
+
 #[test]
 fn a_file_is_read(rt: HostRuntime) -> Result<(), Fail> {
     let file = read(rt.alloc(), PART)?;
-    assert_registers(&rt, file.registers());
-    assert_runs(&rt, file.circuit());
-    assert!(rt; file.circuit().len() == 6);
+    assert_part(&rt, &file);
     Ok(())
 }
 
@@ -239,19 +243,20 @@ const BAD_HEADS: &[(&[u8], u32)] = &[
     (b"OPENQASM 2.0; qreg q[2]; CX q[0],q[1]; ccx q,q,q;", 40),
 ];
 
-#[test]
-fn bad_heads_are_named(rt: HostRuntime) {
-    for (text, column) in BAD_HEADS {
+fn assert_heads(rt: &impl Abort, alloc: Global, rows: &[(&[u8], u32)]) {
+    for (text, column) in rows {
         let at = Place {
             line: 1,
             column: *column,
         };
         assert!(rt; text.len() <= 1000);
-        assert!(rt;
-            refusal(rt.alloc(), text) == Some((at, false)),
-            "at {column}"
-        );
+        assert!(rt; refusal(alloc, text) == Some((at, false)), "at {column}");
     }
+}
+
+#[test]
+fn bad_heads_are_named(rt: HostRuntime) {
+    assert_heads(&rt, rt.alloc(), BAD_HEADS);
 }
 
 // What is written is read: how many registers, lines and gates the file has.

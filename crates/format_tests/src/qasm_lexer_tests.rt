@@ -114,11 +114,15 @@ fn assert_tokens(rt: &impl Abort, text: &[u8], spots: &[Spot]) {
     }
 }
 
+fn assert_texts(rt: &impl Abort, texts: &[(&[u8], &[Spot])]) {
+    for (text, spots) in texts {
+        assert_tokens(rt, text, spots);
+    }
+}
+
 #[test]
 fn texts_have_their_tokens(rt: HostRuntime) {
-    for (text, spots) in TEXTS {
-        assert_tokens(&rt, text, spots);
-    }
+    assert_texts(&rt, TEXTS);
 }
 
 // Words, and whether they are identifiers and numbers.

@@ -3,7 +3,7 @@ ghost use Rattle.std.specs.Prelude.{◌≡◌, ◌≤◌, length, IfOk};
 
 use gate_split::{Laid, Narrow, split};
 use mct_circuit::{Circuit, GateFault};
-use real_format::{Mark, RealFault, read, write, write_lines};
+use real_format::{Mark, RealFault, RealFile, read, write, write_lines};
 use revc_base::Text;
 use revc_io::MemorySink;
 use std::alloc::Global;
@@ -107,8 +107,8 @@ const GARBAGE: &[bool] = &[true, true, false, false];
 
 const NAMES: &[&[u8]] = &[b"a", b"b", b"c", b"d"];
 
-fn assert_names(rt: &impl Abort, names: &[Text]) {
-    for (text, name) in names.iter().zip(NAMES) {
+fn assert_names(rt: &impl Abort, texts: &[Text], names: &[&[u8]]) {
+    for (text, name) in texts.iter().zip(names) {
         assert!(rt; text.bytes() == *name);
     }
 }
@@ -129,12 +129,16 @@ fn assert_runs(rt: &impl Abort, circuit: &Circuit) {
     }
 }
 
+fn assert_part(rt: &impl Abort, file: &RealFile) {
+    assert_names(rt, file.names(), NAMES);
+    assert!(rt; file.constants() == CONSTANTS && file.garbage() == GARBAGE);
+    assert_runs(rt, file.circuit());
+}
+
 #[test]
 fn a_file_is_read(rt: HostRuntime) -> Result<(), Fail> {
     let file = read(rt.alloc(), PART)?;
-    assert_names(&rt, file.names());
-    assert!(rt; file.constants() == CONSTANTS && file.garbage() == GARBAGE);
-    assert_runs(&rt, file.circuit());
+    assert_part(&rt, &file);
     Ok(())
 }
 

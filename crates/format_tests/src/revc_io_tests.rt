@@ -9,6 +9,7 @@ use revc_io::{
 use std::alloc::Global;
 use std::io;
 use std::io::{Cursor, Error, ErrorKind, Read, Write};
+use std::process::Abort;
 use std::test::Fail;
 
 // A reader that fails at its first call, and is at its end after that.
@@ -80,7 +81,9 @@ fn ends(
     Ok((writes, flushes, sink.bytes() == held))
 }
 
-const SINKS: &[(usize, u64, usize, bool, bool, &[u8])] = &[
+type SinkRow = (usize, u64, usize, bool, bool, &'static [u8]);
+
+const SINKS: &[SinkRow] = &[
     (9, 0, 9, true, true, b"version"),
     (9, 0, 1, true, true, b"version"),
     (9, 1, 9, false, true, b""),
@@ -90,14 +93,18 @@ const SINKS: &[(usize, u64, usize, bool, bool, &[u8])] = &[
     (5, 0, 2, false, true, b"versi"),
 ];
 
-#[test]
-fn sinks_fail_where_they_are_told(rt: HostRuntime) -> Result<(), Fail> {
-    for (room, failing, most, writes, flushes, held) in SINKS {
+fn assert_ends(rt: &impl Abort, alloc: Global, sinks: &[SinkRow]) -> Result<(), Memory> {
+    for (room, failing, most, writes, flushes, held) in sinks {
         assert!(rt; *most > 0);
-        let ended = ends(rt.alloc(), *room, *failing, *most, held)?;
+        let ended = ends(alloc, *room, *failing, *most, held)?;
         assert!(rt; ended == (*writes, *flushes, true), "at {failing}");
     }
     Ok(())
+}
+
+#[test]
+fn sinks_fail_where_they_are_told(rt: HostRuntime) -> Result<(), Fail> {
+    Ok(assert_ends(&rt, rt.alloc(), SINKS)?)
 }
 
 // Puts three pieces that pass the buffer's size, one of them on its own.
@@ -116,9 +123,13 @@ fn are_pieces(bytes: &[u8]) -> bool {
 fn gathers(alloc: Global, failing: u64) -> Result<(bool, bool), Fail> {
     let long = vec![in alloc; b'b'; 9000]?;
     let mut sink = MemorySink::new(alloc, 20000, vec![in alloc; failing; 1]?, 20000)?;
+    Ok(gathers_pieces(&mut sink, &long)?)
+}
+
+fn gathers_pieces(sink: &mut MemorySink, long: &[u8]) -> Result<(bool, bool), Failed> {
     let mut buffer = Buffer::new();
-    put_pieces(&mut buffer, &mut sink, &long)?;
-    let is_flushed = buffer.finish(&mut sink).is_ok();
+    put_pieces(&mut buffer, sink, long)?;
+    let is_flushed = buffer.finish(sink).is_ok();
     Ok((are_pieces(sink.bytes()), is_flushed))
 }
 
