@@ -8,6 +8,7 @@ use claim_check::Settled;
 use gate_split::Budget;
 use revc_base::{Entry, Memory, Ref, Tape};
 use std::alloc::Global;
+use std::process::Abort;
 use std::test::Fail;
 
 // Four writes of two inputs, each made of the one before.
@@ -41,18 +42,25 @@ fn sizes(alloc: Global, graph: &Settled, block: u32) -> Result<(u32, u64), Fail>
     Ok((planned.circuit().lines(), planned.circuit().len()))
 }
 
-fn all_sizes(alloc: Global, graph: &Settled) -> Result<[(u32, u64); 3], Fail> {
-    Ok([
-        sizes(alloc, graph, 1)?,
-        sizes(alloc, graph, 2)?,
-        sizes(alloc, graph, 4)?,
-    ])
+// The size of the blocks, and the lines and gates. At blocks of one node the first node is cleaned
+// and its line is used again.
+const SIZES: &[(u32, u32, u64)] = &[(1, 6, 15), (2, 6, 15), (4, 7, 13)];
+
+fn assert_sizes(
+    rt: &impl Abort,
+    alloc: Global,
+    graph: &Settled,
+    rows: &[(u32, u32, u64)],
+) -> Result<(), Fail> {
+    for (block, lines, gates) in rows {
+        assert!(rt; *block > 0);
+        assert!(rt; sizes(alloc, graph, *block)? == (*lines, *gates), "{block}");
+    }
+    Ok(())
 }
 
-// At blocks of one node the first node is cleaned and its line is used again.
 #[test]
 fn chain_is_pebbled(rt: HostRuntime) -> Result<(), Fail> {
     let graph = settled(chain(rt.alloc())?)?;
-    assert!(rt; all_sizes(rt.alloc(), &graph)? == [(6, 15), (6, 15), (7, 13)]);
-    Ok(())
+    assert_sizes(&rt, rt.alloc(), &graph, SIZES)
 }

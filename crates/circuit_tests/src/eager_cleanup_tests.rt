@@ -6,7 +6,7 @@ use claim_check::{Settled, settle};
 use dependency_graph::Graph;
 use eager_cleanup::plan;
 use gate_split::{Budget, PlanFault, Planned};
-use mct_circuit::{Circuit, Op};
+use mct_circuit::{Circuit, Gate, Op};
 use revc_base::{Entry, Memory, Ref, Tape};
 use std::alloc::Global;
 use std::process::Abort;
@@ -59,9 +59,13 @@ const GATES: &[(usize, u32)] = &[
     (2, 4),
 ];
 
+fn is_flip(gate: &Gate, controls: usize, target: u32) -> bool {
+    gate.controls().len() == controls && gate.op() == Op::Flip(target)
+}
+
 fn assert_gates(rt: &impl Abort, circuit: &Circuit, gates: &[(usize, u32)]) {
     for (gate, (controls, target)) in circuit.gates().iter().zip(gates) {
-        assert!(rt; gate.controls().len() == *controls && gate.op() == Op::Flip(*target));
+        assert!(rt; is_flip(gate, *controls, *target));
     }
 }
 

@@ -1,5 +1,5 @@
 // The tests of mct_circuit.
-ghost use Rattle.std.specs.Prelude.{◌≡◌, ◌<◌, false, true, IfOk};
+ghost use Rattle.std.specs.Prelude.{◌≡◌, ◌+◌, ◌<◌, false, length, true, IfOk, OnOk};
 ghost use Rattle.std.specs.List.{AllByRecursion};
 ghost use Rattle.mct_circuit.specs.Gates.{HasDifferentLines, lines_of};
 
@@ -40,13 +40,31 @@ pub fn push_gate(
     Ok(circuit.push(Gate::new(controls.to_vec(alloc)?, op))?)
 }
 
+fn push_copy(circuit: &mut Circuit, gate: &Gate) -> Result<(), Fail>
+    requires different { HasDifferentLines gate.now }
+    requires in_range { AllByRecursion (λ line. line < circuit.old.lines) (lines_of gate.now) }
+    ensures lines { circuit.new.lines ≡ circuit.old.lines }
+    ensures longer { OnOk result (length circuit.new.gates ≡ length circuit.old.gates + 1) }
+{
+    Ok(circuit.push(gate.copy()?)?)
+}
+
+fn push_swap_copy(alloc: Global, circuit: &mut Circuit) -> Result<(), Fail>
+    requires { circuit.old.lines ≡ 3 }
+    ensures lines { circuit.new.lines ≡ 3 }
+    ensures longer { OnOk result (length circuit.new.gates ≡ length circuit.old.gates + 1) }
+{
+    let swap = Gate::new(vec![in alloc; off(2)]?, Op::Swap(0, 1));
+    push_copy(circuit, &swap)
+}
+
 // Pushes a Toffoli gate and the copy of a controlled swap, then both in reversed order.
 fn push_mirrored(alloc: Global, circuit: &mut Circuit) -> Result<(), Fail>
     requires { circuit.old.lines ≡ 3 }
     ensures { circuit.new.lines ≡ 3 }
 {
     circuit.push_flip(&[0, 1], 2)?;
-    circuit.push(Gate::new(vec![in alloc; off(2)]?, Op::Swap(0, 1)).copy()?)?;
+    push_swap_copy(alloc, circuit)?;
     Ok(circuit.append_reversed(2)?)
 }
 
@@ -111,13 +129,20 @@ fn gates_change_bits(rt: HostRuntime) -> Result<(), Fail> {
     Ok(())
 }
 
+fn push_narrow(circuit: &mut Circuit) -> Result<(), GateFault>
+    requires { circuit.old.lines ≡ 4 }
+    ensures { circuit.new.lines ≡ 4 }
+{
+    circuit.push_flip(&[], 0)?;
+    circuit.push_flip(&[3], 2)?;
+    circuit.push_flip(&[0, 2], 1)
+}
+
 // A circuit of 4 lines that has each kind of gate.
 fn push_each_kind(alloc: Global, circuit: &mut Circuit) -> Result<(), Fail>
     requires { circuit.old.lines ≡ 4 }
 {
-    push_gate(alloc, circuit, &[], Op::Flip(0))?;
-    push_gate(alloc, circuit, &[on(3)], Op::Flip(2))?;
-    push_gate(alloc, circuit, &[on(0), on(2)], Op::Flip(1))?;
+    push_narrow(circuit)?;
     push_gate(alloc, circuit, &[off(2)], Op::Swap(0, 1))?;
     push_gate(alloc, circuit, &[off(0), on(1), on(2)], Op::Flip(3))
 }

@@ -82,93 +82,27 @@ fn agrees(measured: &[u8], counted: &[u8]) -> bool {
         == line(counted, *other))
 }
 
-// `bench` measures the circuit that `compile` makes of the text of `gen`.
-const MEASURED: &[(&str, &str)] = &[
-    ("bench 1 --plan auto", "gen 1 | compile --plan auto | stat"),
-    (
-        "bench 1 --plan eager",
-        "gen 1 | compile --plan eager | stat",
-    ),
-    (
-        "bench 1 --plan pebble",
-        "gen 1 | compile --plan pebble | stat",
-    ),
-    ("bench 2 --plan auto", "gen 2 | compile --plan auto | stat"),
-    (
-        "bench 2 --plan eager",
-        "gen 2 | compile --plan eager | stat",
-    ),
-    (
-        "bench 2 --plan pebble",
-        "gen 2 | compile --plan pebble | stat",
-    ),
-    ("bench 3 --plan auto", "gen 3 | compile --plan auto | stat"),
-    (
-        "bench 3 --plan eager",
-        "gen 3 | compile --plan eager | stat",
-    ),
-    (
-        "bench 3 --plan pebble",
-        "gen 3 | compile --plan pebble | stat",
-    ),
-    ("bench 4 --plan auto", "gen 4 | compile --plan auto | stat"),
-    (
-        "bench 4 --plan eager",
-        "gen 4 | compile --plan eager | stat",
-    ),
-    (
-        "bench 4 --plan pebble",
-        "gen 4 | compile --plan pebble | stat",
-    ),
-    ("bench 5 --plan auto", "gen 5 | compile --plan auto | stat"),
-    (
-        "bench 5 --plan eager",
-        "gen 5 | compile --plan eager | stat",
-    ),
-    (
-        "bench 5 --plan pebble",
-        "gen 5 | compile --plan pebble | stat",
-    ),
-    ("bench 6 --plan auto", "gen 6 | compile --plan auto | stat"),
-    (
-        "bench 6 --plan eager",
-        "gen 6 | compile --plan eager | stat",
-    ),
-    (
-        "bench 6 --plan pebble",
-        "gen 6 | compile --plan pebble | stat",
-    ),
-    ("bench 7 --plan auto", "gen 7 | compile --plan auto | stat"),
-    (
-        "bench 7 --plan eager",
-        "gen 7 | compile --plan eager | stat",
-    ),
-    (
-        "bench 7 --plan pebble",
-        "gen 7 | compile --plan pebble | stat",
-    ),
-    ("bench 8 --plan auto", "gen 8 | compile --plan auto | stat"),
-    (
-        "bench 8 --plan eager",
-        "gen 8 | compile --plan eager | stat",
-    ),
-    (
-        "bench 8 --plan pebble",
-        "gen 8 | compile --plan pebble | stat",
-    ),
-];
-
-fn is_measured(rt: &impl Abort, alloc: Global, bench: &str, stat: &str) -> Result<(), Fail> {
+// Two calls give the same lines, gates and depth.
+fn agree(rt: &impl Abort, alloc: Global, bench: &str, stat: &str) -> Result<(), Fail> {
     let measured = left_of(alloc, bench, b"")?;
     let counted = left_of(alloc, stat, b"")?;
     assert!(rt; agrees(&measured.out, &counted.out), "{bench}");
     Ok(())
 }
 
+// `bench` measures the circuit that `compile` makes of the text of `gen`.
+fn is_measured(rt: &impl Abort, alloc: Global, number: u32, plan: &str) -> Result<(), Fail> {
+    let bench = format!(in alloc; "bench {number} --plan {plan}")?;
+    let stat = format!(in alloc; "gen {number} | compile --plan {plan} | stat")?;
+    agree(rt, alloc, bench.as_str(), stat.as_str())
+}
+
 #[test]
 fn the_measured_circuit_is_the_compiled_one(rt: HostRuntime) -> Result<(), Fail> {
-    for (bench, stat) in MEASURED {
-        is_measured(&rt, rt.alloc(), bench, stat)?;
+    for number in 1..=8 {
+        is_measured(&rt, rt.alloc(), number, "auto")?;
+        is_measured(&rt, rt.alloc(), number, "eager")?;
+        is_measured(&rt, rt.alloc(), number, "pebble")?;
     }
     Ok(())
 }

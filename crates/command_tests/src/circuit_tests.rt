@@ -1,4 +1,5 @@
 use crate::rows::{PRODUCT, PRODUCT_FILE, Row, check, check_all};
+use revc_base::Memory;
 use std::alloc::Global;
 use std::process::Abort;
 use std::test::Fail;
@@ -132,8 +133,24 @@ fn compiled_files_are_read(rt: HostRuntime) -> Result<(), Fail> {
 // The words and lines of the file of a product.
 const PRODUCT_WORDS: &[(&str, &[u8])] = &[("11", b"1110\n"), ("10", b"1000\n")];
 
-// `run` writes these lines for these words, which come again and again: as many as go by lanes, by
-// whole planes, and by a plane that is not full.
+// Appends words to a call, and the lines for them, which come again and again: as many as go by
+// lanes, by whole planes, and by a plane that is not full.
+fn push_many(
+    calls: &mut String,
+    wanted: &mut Vec<u8>,
+    lines: &[(&str, &[u8])],
+) -> Result<(), Memory> {
+    for k in 0..577 {
+        if let Some((word, line)) = lines.get((7 * k + k / 16) % lines.len().max(1)) {
+            calls.push_str(" ")?;
+            calls.push_str(word)?;
+            wanted.extend_from_slice(line)?;
+        }
+    }
+    Ok(())
+}
+
+// `run` writes these lines for these words.
 fn many_are_run(
     rt: &impl Abort,
     alloc: Global,
@@ -142,13 +159,7 @@ fn many_are_run(
 ) -> Result<(), Fail> {
     let mut calls = String::from_str(alloc, "run")?;
     let mut wanted = Vec::new(alloc);
-    for k in 0..577 {
-        if let Some((word, line)) = lines.get((7 * k + k / 16) % lines.len().max(1)) {
-            calls.push_str(" ")?;
-            calls.push_str(word)?;
-            wanted.extend_from_slice(line)?;
-        }
-    }
+    push_many(&mut calls, &mut wanted, lines)?;
     check(rt, alloc, calls.as_str(), text, 0, &wanted)
 }
 
@@ -174,12 +185,19 @@ const FRONTS: &[(usize, &[u8])] = &[
     (158, b"revc: circuit line 12\n"),
 ];
 
-#[test]
-fn fronts_of_a_file_are_refused(rt: HostRuntime) -> Result<(), Fail> {
-    for (count, line) in FRONTS {
-        let mut front = PRODUCT_FILE.to_vec(rt.alloc())?;
-        front.truncate(*count);
-        check(&rt, rt.alloc(), "stat", &front, 8, line)?;
+fn check_fronts(
+    rt: &impl Abort,
+    alloc: Global,
+    file: &[u8],
+    fronts: &[(usize, &[u8])],
+) -> Result<(), Fail> {
+    for (count, line) in fronts {
+        check(rt, alloc, "stat", &file[..file.len().min(*count)], 8, line)?;
     }
     Ok(())
+}
+
+#[test]
+fn fronts_of_a_file_are_refused(rt: HostRuntime) -> Result<(), Fail> {
+    check_fronts(&rt, rt.alloc(), PRODUCT_FILE, FRONTS)
 }

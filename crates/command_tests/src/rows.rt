@@ -1,4 +1,6 @@
 // What the tests share: calls over texts in memory, and rows of what they write.
+ghost use Rattle.std.specs.Prelude.{◌≤◌};
+
 use revc_base::Memory;
 use revc_driver::revc;
 use revc_io::{MemorySink, StdSource, SureSource};
@@ -197,13 +199,25 @@ fn other_words_are_no_order(rt: HostRuntime) -> Result<(), Fail> {
     Ok(())
 }
 
+// A sink with room for 1,000 bytes that takes so many a call, and whose call with this number fails.
+fn sink(alloc: Global, failing: u64, most: usize) -> Result<MemorySink, Memory>
+    requires { 1 ≤ most }
+{
+    MemorySink::new(alloc, 1000, vec![in alloc; failing]?, most)
+}
+
 // The sink takes 8 bytes a call, and the call with this number fails. The first call of standard
 // error fails too.
 fn left_until(alloc: Global, words: &str, failing: u64) -> Result<Left, Memory> {
-    let words = words_of(alloc, words)?;
-    let out = MemorySink::new(alloc, 1000, vec![in alloc; failing]?, 8)?;
-    let err = MemorySink::new(alloc, 100, vec![in alloc; 1]?, 100)?;
-    call_with(alloc, &words, PRODUCT.to_vec(alloc)?, out, err)
+    let out = sink(alloc, failing, 8)?;
+    let err = sink(alloc, 1, 100)?;
+    call_with(
+        alloc,
+        &words_of(alloc, words)?,
+        PRODUCT.to_vec(alloc)?,
+        out,
+        err,
+    )
 }
 
 // Words, the number of the call that fails, the status, and how many bytes of the text were taken.
@@ -220,16 +234,20 @@ const FAULTS: &[(&str, u64, u8, &[u8], usize)] = &[
     ("eval -- 11", 3, 0, b"1\n", 2),
 ];
 
+// Whether a call ended with this status and wrote so many of the first bytes of a text.
+fn is_torn(left: &Left, status: u8, text: &[u8], held: usize) -> bool {
+    left.status == status
+        && left.err.is_empty()
+        && left.out.len() == held
+        && text.starts_with(&left.out)
+}
+
 // A text goes out in one piece, and is flushed at the end.
 #[test]
 fn faults_of_the_sink_end_the_writing(rt: HostRuntime) -> Result<(), Fail> {
     for (words, failing, status, text, held) in FAULTS {
         let left = left_until(rt.alloc(), words, *failing)?;
-        let is_right = left.status == *status && left.err.is_empty();
-        assert!(rt;
-            is_right && left.out.len() == *held && text.starts_with(&left.out),
-            "at {failing}"
-        );
+        assert!(rt; is_torn(&left, *status, text, *held), "at {failing}");
     }
     Ok(())
 }
