@@ -30,6 +30,11 @@ fn merges_to(alloc: Global, sum: Poly, cubes: &[u8]) -> Result<bool, Memory> {
     Ok(shown(alloc, &merge(alloc, &sum)?)?.as_slice() == cubes)
 }
 
+fn assert_merges(rt: &impl Abort, alloc: Global, sum: Poly, cubes: &[u8]) -> Result<(), Fail> {
+    assert!(rt; merges_to(alloc, sum, cubes)?);
+    Ok(())
+}
+
 fn xor(rt: &impl Abort, f: Poly, g: Poly) -> Result<Poly, Memory> {
     Ok(f.xor(&g)?.expect(rt, "few monomials"))
 }
@@ -60,11 +65,10 @@ fn either(rt: &impl Abort, alloc: Global) -> Result<Poly, Memory> {
 #[test]
 fn sums_of_two_inputs_are_merged(rt: HostRuntime) -> Result<(), Fail> {
     let alloc = rt.alloc();
-    assert!(rt; merges_to(alloc, either(&rt, alloc)?, b" b a!b")?);
-    assert!(rt; merges_to(alloc, not(&rt, either(&rt, alloc)?)?, b" !a!b")?);
-    assert!(rt; merges_to(alloc, not(&rt, Poly::input(alloc, 0)?)?, b" !a")?);
-    assert!(rt; merges_to(alloc, sum(&rt, alloc, 0, 0)?, b"")?);
-    Ok(())
+    assert_merges(&rt, alloc, either(&rt, alloc)?, b" b a!b")?;
+    assert_merges(&rt, alloc, not(&rt, either(&rt, alloc)?)?, b" !a!b")?;
+    assert_merges(&rt, alloc, not(&rt, Poly::input(alloc, 0)?)?, b" !a")?;
+    assert_merges(&rt, alloc, sum(&rt, alloc, 0, 0)?, b"")
 }
 
 // The product of the sum of the inputs 0 and 1, and the input 2.
@@ -79,8 +83,7 @@ fn majority(rt: &impl Abort, alloc: Global) -> Result<Poly, Memory> {
 #[test]
 fn the_majority_stays_as_it_is(rt: HostRuntime) -> Result<(), Fail> {
     let alloc = rt.alloc();
-    assert!(rt; merges_to(alloc, majority(&rt, alloc)?, b" ab ac bc")?);
-    Ok(())
+    assert_merges(&rt, alloc, majority(&rt, alloc)?, b" ab ac bc")
 }
 
 // The product of the six sums of two inputs each, from an input on.

@@ -5,6 +5,7 @@ ghost use Rattle.revc_base.specs.Measures.{writes_of};
 use revc_base::{Bits, BitsFault, Claim, Entry, Kind, Memory, Place, Ref, Tape, TapeEnd, Text};
 use std::alloc::Global;
 use std::hash::{DefaultHasher, Hash, Hasher};
+use std::process::Abort;
 use std::test::Fail;
 
 fn hash_of<T: Hash>(value: &T) -> u64 {
@@ -90,7 +91,9 @@ fn ending(end: &TapeEnd) -> (Option<u32>, &[bool]) {
 }
 
 // An input, the claim that it breaks, and the outputs if it breaks none.
-const ENDINGS: &[([bool; 2], Option<u32>, &[bool])] = &[
+type EndingRow = ([bool; 2], Option<u32>, &'static [bool]);
+
+const ENDINGS: &[EndingRow] = &[
     ([false, false], None, &[true, true, false]),
     ([false, true], None, &[true, true, true]),
     ([true, false], Some(1), &[]),
@@ -107,14 +110,21 @@ fn is_ending(
     Ok(ending(&tape.run(input)?) == expected)
 }
 
+fn assert_endings(rt: &impl Abort, tape: &Tape, rows: &[EndingRow]) -> Result<(), Memory>
+    requires { sum tape.now.params ≡ 2 }
+{
+    for (row, (input, claim, outputs)) in rows.iter().enumerate() {
+        assert!(rt; is_ending(tape, input, (*claim, outputs))?, "row {row}");
+    }
+    Ok(())
+}
+
 // The tape ends as it should on each of its inputs: with both claims broken, at the first. Both
 // writes that are outputs are needed at its end.
 #[test]
 fn tapes_are_run_and_measured(rt: HostRuntime) -> Result<(), Fail> {
     let tape = three_writes(rt.alloc())?;
-    for (row, (input, claim, outputs)) in ENDINGS.iter().enumerate() {
-        assert!(rt; is_ending(&tape, input, (*claim, outputs))?, "row {row}");
-    }
+    assert_endings(&rt, &tape, ENDINGS)?;
     assert!(rt; tape.width()? == 2);
     Ok(())
 }

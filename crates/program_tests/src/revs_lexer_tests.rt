@@ -6,22 +6,30 @@ use std::alloc::Global;
 use std::fmt::Write;
 use std::test::Fail;
 
+fn show_name(out: &mut String, name: &[u8]) -> Result<(), Fail> {
+    for byte in name {
+        out.push(char::from(*byte))?;
+    }
+    Ok(())
+}
+
+// How a token reads.
+fn show_tok(out: &mut String, tok: &Tok) -> Result<(), Fail> {
+    match tok {
+        Tok::Name(name) => show_name(out, name.bytes()),
+        Tok::Number(value) => Ok(write!(out, "{value}")?),
+        Tok::Word(word) => Ok(write!(out, "{word:?}")?),
+        Tok::Sign(sign) => Ok(write!(out, "{sign:?}")?),
+        Tok::End => Ok(out.push_str("End")?),
+    }
+}
+
 // The place of a token, and how it reads.
 fn show(out: &mut String, token: &Token) -> Result<(), Fail> {
     let line = token.at.line;
     let column = token.at.column;
     write!(out, "{line}:{column} ")?;
-    match &token.tok {
-        Tok::Name(name) => {
-            for byte in name.bytes() {
-                out.push(char::from(*byte))?;
-            }
-        }
-        Tok::Number(value) => write!(out, "{value}")?,
-        Tok::Word(word) => write!(out, "{word:?}")?,
-        Tok::Sign(sign) => write!(out, "{sign:?}")?,
-        Tok::End => out.push_str("End")?,
-    }
+    show_tok(out, &token.tok)?;
     Ok(out.push_str(", ")?)
 }
 
