@@ -199,7 +199,7 @@ fn other_words_are_no_order(rt: HostRuntime) -> Result<(), Fail> {
     Ok(())
 }
 
-// A sink with room for 1,000 bytes that takes so many a call, and whose call with this number fails.
+// A sink with room for 1,000 bytes that takes so many a call. The call with this number fails.
 fn sink(alloc: Global, failing: u64, most: usize) -> Result<MemorySink, Memory>
     requires { 1 ≤ most }
 {
