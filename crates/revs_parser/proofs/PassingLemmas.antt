@@ -5,6 +5,7 @@ use Rattle.std.specs.Result.{MatchResult, IsErrAnd}
 use Rattle.std.proofs.lemmas.Bool.{leb-true}
 use Rattle.std.proofs.lemmas.Result.{err_from_is_err_and}
 use Rattle.revc_base.specs.declared.place.Place.{Place}
+use Rattle.revc_base.proofs.ResultLemmas.{one_fault}
 use Rattle.revs_lexer.specs.declared.token.Tok.{Tok}
 use Rattle.revs_lexer.specs.declared.token.Token.{Token}
 use Rattle.revs_grammar.specs.Forms.{Mark, held, code, mark_code, Form, Val, Production, IsOneOf}
@@ -229,8 +230,7 @@ halts_on {T} {E} {halt} P Q r e q = let p = err_from_is_err_and r e in rw (p.1, 
 -- A fault that a call does not have, the exit of its `?` has neither.
 pub still_exact : {T U E : Type 0} {fault : E} (r : Result T E) (other : E) → IsErrAnd r (λ e. e ≡ fault) → ¬ (◌≡◌ {A = Result U E} (Err fault) (Err other))
     → ¬ (r ≡ Err other)
-still_exact (Ok x) other e n = absurd e
-still_exact {T} {U} {E} {fault} (Err g) other e n = λ same. let k : fault ≡ other = cc in n (ap Err k)
+still_exact r other e n = one_fault other r e (λ same. n (ap Err same))
 
 -- Where memory is wanting, nothing is said of the tokens.
 pub no_memory : {es : Stack} {ts : List Token} → Halts es ts stops.Memory

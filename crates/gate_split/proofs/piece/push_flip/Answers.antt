@@ -1,9 +1,9 @@
 use Rattle.std.proofs.Common.{Some, Err, refl, sym, ap, ◌∙◌}
-use Rattle.revc_base.proofs.ResultLemmas.{no_promise}
+use Rattle.revc_base.proofs.ResultLemmas.{no_promise, one_fault}
 use Rattle.gate_split.specs.declared.fault.GateRefusal.TheVariants as refusal
 use Rattle.gate_split.specs.Split.{flips_of_negatives, split_positive, between}
 use Rattle.gate_split.proofs.PieceLemmas.{surrounded_piece}
-use Rattle.gate_split.proofs.RefusalLemmas.{still, memory_alone, memory_not_full}
+use Rattle.gate_split.proofs.RefusalLemmas.{memory_alone, memory_not_full}
 use Rattle.gate_split.proofs.piece.push_flip.Goals as goal
 
 pub push_positive-requires : goal.push_positive-requires
@@ -38,11 +38,11 @@ pub returns-in_err-push_positive-clause-split : goal.returns-in_err-push_positiv
 returns-in_err-push_positive-clause-split c = no_promise c.from_residual-in_err-push_positive.result _ _ c.from_residual-in_err-push_positive.ensures.1
 
 pub returns-in_err-push_positive-clause-refused : goal.returns-in_err-push_positive-clause-refused
-returns-in_err-push_positive-clause-refused c = still refusal.NoIdle c.from_residual-in_err-push_positive.result c.from_residual-in_err-push_positive.ensures.1
+returns-in_err-push_positive-clause-refused c = one_fault refusal.NoIdle c.from_residual-in_err-push_positive.result c.from_residual-in_err-push_positive.ensures.1
     (λ e. c.in_err-push_positive.ensures.refused (ap Err e))
 
 pub returns-in_err-push_positive-clause-cause : goal.returns-in_err-push_positive-clause-cause
-returns-in_err-push_positive-clause-cause c = still refusal.Full c.from_residual-in_err-push_positive.result c.from_residual-in_err-push_positive.ensures.1
+returns-in_err-push_positive-clause-cause c = one_fault refusal.Full c.from_residual-in_err-push_positive.result c.from_residual-in_err-push_positive.ensures.1
     (λ e. c.in_err-push_positive.ensures.cause (ap Err e))
 
 pub returns-in_err-push_negatives-2-clause-split : goal.returns-in_err-push_negatives-2-clause-split

@@ -1,10 +1,10 @@
 use Rattle.std.proofs.Common.{Some, Err, [], ◌∷◌, ◌++◌, refl, sym, ap, ◌∙◌}
 use Rattle.mct_circuit.specs.Gates.{flip_of}
-use Rattle.revc_base.proofs.ResultLemmas.{no_promise}
+use Rattle.revc_base.proofs.ResultLemmas.{no_promise, one_fault}
 use Rattle.gate_split.specs.declared.fault.GateRefusal.TheVariants as refusal
 use Rattle.gate_split.specs.Split.{flips_of_negatives, split_positive, between}
 use Rattle.gate_split.proofs.PieceLemmas.{surrounded_piece}
-use Rattle.gate_split.proofs.RefusalLemmas.{still, memory_alone, memory_not_full}
+use Rattle.gate_split.proofs.RefusalLemmas.{memory_alone, memory_not_full}
 use Rattle.gate_split.proofs.piece.push_swap.Goals as goal
 
 pub push_one_flip-requires : goal.push_one_flip-requires
@@ -48,11 +48,11 @@ pub returns-in_err-push_flip-clause-split : goal.returns-in_err-push_flip-clause
 returns-in_err-push_flip-clause-split c = no_promise c.from_residual-in_err-push_flip.result _ _ c.from_residual-in_err-push_flip.ensures.1
 
 pub returns-in_err-push_flip-clause-refused : goal.returns-in_err-push_flip-clause-refused
-returns-in_err-push_flip-clause-refused c = still refusal.NoIdle c.from_residual-in_err-push_flip.result c.from_residual-in_err-push_flip.ensures.1
+returns-in_err-push_flip-clause-refused c = one_fault refusal.NoIdle c.from_residual-in_err-push_flip.result c.from_residual-in_err-push_flip.ensures.1
     (λ e. rw (c.deref.ensures.value, c.in_ok-push.ensures.items) at (c.in_err-push_flip.ensures.refused (ap Err e)))
 
 pub returns-in_err-push_flip-clause-cause : goal.returns-in_err-push_flip-clause-cause
-returns-in_err-push_flip-clause-cause c = still refusal.Full c.from_residual-in_err-push_flip.result c.from_residual-in_err-push_flip.ensures.1
+returns-in_err-push_flip-clause-cause c = one_fault refusal.Full c.from_residual-in_err-push_flip.result c.from_residual-in_err-push_flip.ensures.1
     (λ e. c.in_err-push_flip.ensures.cause (ap Err e))
 
 pub returns-in_err-push_one_flip-2-clause-split : goal.returns-in_err-push_one_flip-2-clause-split

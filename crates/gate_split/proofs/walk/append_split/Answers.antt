@@ -1,8 +1,7 @@
 use Rattle.std.proofs.Common.{Err, refl, ap}
-use Rattle.revc_base.proofs.ResultLemmas.{no_promise}
+use Rattle.revc_base.proofs.ResultLemmas.{no_promise, one_fault}
 use Rattle.gate_split.specs.declared.fault.GateRefusal.TheVariants as refusal
 use Rattle.gate_split.proofs.PieceLemmas.{narrow_behind}
-use Rattle.gate_split.proofs.RefusalLemmas.{still}
 use Rattle.gate_split.proofs.WalkLemmas.{piece_placed, no_line_wanted, is_full, over_by_one, over_by, put_behind, rest_stays, one_fits, all_fit}
 use Rattle.gate_split.proofs.walk.append_split.Goals as goal
 
@@ -51,27 +50,27 @@ pub returns-clause-emptied : goal.returns-clause-emptied
 returns-clause-emptied c = c.in_ok-append.ensures.emptied
 
 pub returns-in_err-push_copy-clause-no_idle : goal.returns-in_err-push_copy-clause-no_idle
-returns-in_err-push_copy-clause-no_idle c = still refusal.NoIdle c.from_residual.result c.from_residual.ensures.1 (no_line_wanted c.in_err-push_copy.field-0.0)
+returns-in_err-push_copy-clause-no_idle c = one_fault refusal.NoIdle c.from_residual.result c.from_residual.ensures.1 (no_line_wanted c.in_err-push_copy.field-0.0)
 
 pub returns-in_err-push_copy-clause-full : goal.returns-in_err-push_copy-clause-full
-returns-in_err-push_copy-clause-full c = still refusal.Full c.from_residual.result c.from_residual.ensures.1
+returns-in_err-push_copy-clause-full c = one_fault refusal.Full c.from_residual.result c.from_residual.ensures.1
     (λ e. over_by_one c.args.marks.now c.args.narrow.now.limit c.args.narrow.now.gates c.args.gate.now (c.if-is_narrow.ensures.0 refl)
     (c.in_err-push_copy.ensures.full (ap Err (is_full c.in_err-push_copy.field-0.0 e))))
 
 pub returns-in_err-push_piece-clause-no_idle : goal.returns-in_err-push_piece-clause-no_idle
-returns-in_err-push_piece-clause-no_idle c = still refusal.NoIdle c.from_residual-in_err-push_piece.result c.from_residual-in_err-push_piece.ensures.1
+returns-in_err-push_piece-clause-no_idle c = one_fault refusal.NoIdle c.from_residual-in_err-push_piece.result c.from_residual-in_err-push_piece.ensures.1
     (λ e. c.in_err-push_piece.ensures.refused (ap Err e))
 
 pub returns-in_err-push_piece-clause-full : goal.returns-in_err-push_piece-clause-full
-returns-in_err-push_piece-clause-full c = still refusal.Full c.from_residual-in_err-push_piece.result c.from_residual-in_err-push_piece.ensures.1
+returns-in_err-push_piece-clause-full c = one_fault refusal.Full c.from_residual-in_err-push_piece.result c.from_residual-in_err-push_piece.ensures.1
     (λ e. absurd (c.in_err-push_piece.ensures.cause (ap Err e)))
 
 pub returns-in_err-append-clause-no_idle : goal.returns-in_err-append-clause-no_idle
-returns-in_err-append-clause-no_idle c = still refusal.NoIdle c.from_residual-in_err-append.result c.from_residual-in_err-append.ensures.1
+returns-in_err-append-clause-no_idle c = one_fault refusal.NoIdle c.from_residual-in_err-append.result c.from_residual-in_err-append.ensures.1
     (no_line_wanted c.in_err-append.field-0.0)
 
 pub returns-in_err-append-clause-full : goal.returns-in_err-append-clause-full
-returns-in_err-append-clause-full c = still refusal.Full c.from_residual-in_err-append.result c.from_residual-in_err-append.ensures.1
+returns-in_err-append-clause-full c = one_fault refusal.Full c.from_residual-in_err-append.result c.from_residual-in_err-append.ensures.1
     (λ e. over_by c.args.marks.now c.args.narrow.now.limit c.args.narrow.now.gates c.args.piece.now.items c.push_piece.new.gates.items c.args.gate.now
     c.requires.empty c.in_ok-push_piece.ensures.split (c.in_err-append.ensures.full.0 (ap Err (is_full c.in_err-append.field-0.0 e))))
 

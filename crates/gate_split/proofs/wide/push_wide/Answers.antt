@@ -1,10 +1,10 @@
 use Rattle.std.proofs.Common.{◌-◌, [], ◌∷◌, ◌++◌, length, Some, sym, ap, ◌∙◌, arith}
-use Rattle.revc_base.proofs.ResultLemmas.{no_promise}
+use Rattle.revc_base.proofs.ResultLemmas.{no_promise, one_fault}
 use Rattle.gate_split.specs.declared.fault.GateRefusal.TheVariants as refusal
 use Rattle.gate_split.specs.inside.Idle.{Serves}
 use Rattle.gate_split.specs.Split.{idle_lines, behind}
 use Rattle.gate_split.proofs.EffectLemmas.{idle_serves, serves_take}
-use Rattle.gate_split.proofs.RefusalLemmas.{still, memory_alone, memory_not_full}
+use Rattle.gate_split.proofs.RefusalLemmas.{memory_alone, memory_not_full}
 use Rattle.gate_split.proofs.WideLemmas.{rungs_differ, positive_over, positive_none, positive_halves, first_idle_apart, line_found, no_line_found, no_line_full}
 use Rattle.gate_split.proofs.wide.push_wide.Goals as goal
 
@@ -54,7 +54,7 @@ pub returns-in_err-line-clause-split : goal.returns-in_err-line-clause-split
 returns-in_err-line-clause-split c = no_promise c.from_residual-in_err-line.result _ _ c.from_residual-in_err-line.ensures.1
 
 pub returns-in_err-line-clause-cause : goal.returns-in_err-line-clause-cause
-returns-in_err-line-clause-cause c = still refusal.Full c.from_residual-in_err-line.result c.from_residual-in_err-line.ensures.1
+returns-in_err-line-clause-cause c = one_fault refusal.Full c.from_residual-in_err-line.result c.from_residual-in_err-line.ensures.1
     (no_line_full c.args.idle.now _ c.in_err-line.ensures)
 
 pub returns-in_err-push_halves-clause-split : goal.returns-in_err-push_halves-clause-split
