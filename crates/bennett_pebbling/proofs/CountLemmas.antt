@@ -4,7 +4,7 @@ use Rattle.std.proofs.Common.{Option, Some, None, is_some, refl, sym, ap, ◌∙
 use Rattle.std.specs.Prelude.{nat_le, nat_lt, min, max}
 use Rattle.std.proofs.lemmas.Bool.{cases_Bool, cases_eq, eqb-true, leb-true, le-leb}
 use Rattle.std.proofs.lemmas.List.Recursion.{is_count_by}
-use Rattle.revc_base.specs.Cuts.{is_in}
+use Rattle.revs_tape.specs.Cuts.{is_in}
 use Rattle.held_nodes.specs.Held.{held_count, is_held}
 use Rattle.bennett_pebbling.specs.inside.Costs.{counted, one_if}
 

@@ -6,7 +6,7 @@ use Rattle.std.specs.List.{list_any}
 use Rattle.std.proofs.lemmas.Bool.{cases_lt, leb-true, le-leb}
 use Rattle.std.proofs.lemmas.List.{get_or-drop, get_or-take, length-drop, length-take-le}
 use Rattle.list_facts.specs.Bits.{bit_of}
-use Rattle.revc_base.specs.Cuts.{is_in}
+use Rattle.revs_tape.specs.Cuts.{is_in}
 use Rattle.dependency_graph.specs.Graphs.{output_nodes, steps_of}
 use Rattle.dependency_graph.specs.Uses.{cut_in, last_use_in}
 use Rattle.dependency_graph.proofs.TableLemmas.{length-steps_of}

@@ -9,7 +9,7 @@ use Rattle.std.proofs.lemmas.List.Sums.{count_by-le-length, length-filter}
 use Rattle.list_facts.proofs.OrderLemmas.{length-below}
 use Rattle.list_facts.specs.Bits.{bit_of}
 use Rattle.list_facts.specs.Lists.{below}
-use Rattle.revc_base.specs.Cuts.{is_in, is_needed}
+use Rattle.revs_tape.specs.Cuts.{is_in, is_needed}
 use Rattle.dependency_graph.specs.Graphs.{output_nodes, steps_of}
 use Rattle.dependency_graph.specs.Uses.{cut_in, last_use_in}
 use Rattle.claim_check.specs.Budgets.{Measures}

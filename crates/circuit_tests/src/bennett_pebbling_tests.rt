@@ -1,12 +1,13 @@
 // The tests of bennett_pebbling.
 ghost use Rattle.std.specs.Prelude.{◌≡◌, ◌≤◌, sum, [], IfOk, OnOk};
-ghost use Rattle.revc_base.specs.Measures.{writes_of};
+ghost use Rattle.revs_tape.specs.Measures.{writes_of};
 
 use crate::eager_cleanup_tests::settled;
 use bennett_pebbling::plan;
 use claim_check::Settled;
 use gate_split::Budget;
-use revc_base::{Entry, Memory, Ref, Tape};
+use revc_base::Memory;
+use revs_tape::{Entry, Ref, Tape};
 use std::alloc::Global;
 use std::process::Abort;
 use std::test::Fail;

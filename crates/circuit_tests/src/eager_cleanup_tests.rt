@@ -1,13 +1,14 @@
 // The tests of eager_cleanup.
 ghost use Rattle.std.specs.Prelude.{◌≡◌, sum, [], OnOk};
-ghost use Rattle.revc_base.specs.Measures.{writes_of};
+ghost use Rattle.revs_tape.specs.Measures.{writes_of};
 
 use claim_check::{Settled, settle};
 use dependency_graph::Graph;
 use eager_cleanup::plan;
 use gate_split::{Budget, PlanFault, Planned};
 use mct_circuit::{Circuit, Gate, Op};
-use revc_base::{Entry, Memory, Ref, Tape};
+use revc_base::Memory;
+use revs_tape::{Entry, Ref, Tape};
 use std::alloc::Global;
 use std::process::Abort;
 use std::test::Fail;

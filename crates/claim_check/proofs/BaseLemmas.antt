@@ -2,11 +2,11 @@
 use Rattle.std.proofs.Common.{◌≡◌, ℕ, zero, suc, ◌<◌, ◌≤◌, inl, inr, List, [], ◌∷◌, take, slice_get, Some, refl, sym, subst, arith}
 use Rattle.std.proofs.lemmas.Option.{same_Some}
 use Rattle.list_facts.specs.Lists.{IsAmong, AnyByRecursion}
-use Rattle.revc_base.specs.declared.tape.Claim.{Claim}
-use Rattle.revc_base.specs.declared.tape.Ref.{Ref}
-use Rattle.revc_base.specs.ClaimFunctions as sets
-use Rattle.revc_base.specs.ClaimFunctions.{RestsOn, IsBase, operands_of}
-use Rattle.revc_base.specs.Tapes.{TapeView}
+use Rattle.revs_tape.specs.declared.tape.Claim.{Claim}
+use Rattle.revs_tape.specs.declared.tape.Ref.{Ref}
+use Rattle.revs_tape.specs.ClaimFunctions as sets
+use Rattle.revs_tape.specs.ClaimFunctions.{RestsOn, IsBase, operands_of}
+use Rattle.revs_tape.specs.Tapes.{TapeView}
 
 -- ---- some of the first
 

@@ -6,9 +6,9 @@ use Rattle.std.proofs.Math.Nat.{le-min, min-le_left, min-le_right, mul-le-mul_le
 use Rattle.std.proofs.lemmas.Bool.{cases_Bool}
 use Rattle.std.proofs.lemmas.List.{ext_get_or, length-map}
 use Rattle.list_facts.proofs.AllLemmas.{AllByRecursion-at, AllByRecursion-weaker}
-use Rattle.revc_base.specs.Levels.{IsLevels}
-use Rattle.revc_base.specs.Measures.{writes_of}
-use Rattle.revc_base.proofs.MonomialLemmas.{monomials_are_determined}
+use Rattle.revs_tape.specs.Levels.{IsLevels}
+use Rattle.revs_tape.specs.Measures.{writes_of}
+use Rattle.revs_tape.proofs.MonomialLemmas.{monomials_are_determined}
 use Rattle.dependency_graph.proofs.TableLemmas.{length-steps_of}
 use Rattle.claim_check.specs.Settled.{SettledView, as_graph}
 use Rattle.claim_check.specs.Budgets.{Measures, is_cleaned, step_gates}

@@ -6,11 +6,11 @@ use Rattle.list_facts.specs.Bits.{bit_of}
 use Rattle.list_facts.specs.Lists.{below}
 use Rattle.list_facts.proofs.OrderLemmas.{length-below}
 use Rattle.list_facts.proofs.SearchLemmas.{same_or_differ}
-use Rattle.revc_base.specs.declared.tape.Ref.{Ref}
-use Rattle.revc_base.specs.ClaimFunctions.{Restriction, value_on, IsSameFunction, IsConstant}
-use Rattle.revc_base.specs.Claims.{IsInputOf}
-use Rattle.revc_base.specs.Measures.{inputs_of}
-use Rattle.revc_base.specs.Tapes.{TapeView, bit_on}
+use Rattle.revs_tape.specs.declared.tape.Ref.{Ref}
+use Rattle.revs_tape.specs.ClaimFunctions.{Restriction, value_on, IsSameFunction, IsConstant}
+use Rattle.revs_tape.specs.Claims.{IsInputOf}
+use Rattle.revs_tape.specs.Measures.{inputs_of}
+use Rattle.revs_tape.specs.Tapes.{TapeView, bit_on}
 use Rattle.decision_diagram.specs.Functions.{Assignment, Function, AreSame, Takes, Varies, fixed, ComesFrom}
 use Rattle.decision_diagram.proofs.RestrictionLemmas.{fixed-below, fixed-from}
 use Rattle.claim_check.specs.inside.Tables.{input_at, function_at, restricted_at}

@@ -7,14 +7,14 @@ use Rattle.std.proofs.lemmas.Option.{same_Some, slice_get-get_or}
 use Rattle.list_facts.proofs.AllLemmas.{AllByRecursion-at}
 use Rattle.list_facts.specs.Lists.{IsAmong}
 use Rattle.list_facts.proofs.AmongLemmas.{all_among, all_from_among, some_of}
-use Rattle.revc_base.specs.declared.tape.Claim.{Claim}
-use Rattle.revc_base.specs.declared.tape.Ref.{Ref}
-use Rattle.revc_base.specs.declared.tape.Ref.TheVariants as refs
-use Rattle.revc_base.specs.declared.tape.Entry.{Entry}
-use Rattle.revc_base.specs.declared.tape.Entry.TheVariants as entries
-use Rattle.revc_base.specs.ClaimFunctions.{IsBase, operands_of, operands_at}
-use Rattle.revc_base.specs.Measures.{inputs_of, writes_of}
-use Rattle.revc_base.specs.Tapes.{TapeView, IsTape, IsKnown, IsKnownEntry, AreKnown, operands}
+use Rattle.revs_tape.specs.declared.tape.Claim.{Claim}
+use Rattle.revs_tape.specs.declared.tape.Ref.{Ref}
+use Rattle.revs_tape.specs.declared.tape.Ref.TheVariants as refs
+use Rattle.revs_tape.specs.declared.tape.Entry.{Entry}
+use Rattle.revs_tape.specs.declared.tape.Entry.TheVariants as entries
+use Rattle.revs_tape.specs.ClaimFunctions.{IsBase, operands_of, operands_at}
+use Rattle.revs_tape.specs.Measures.{inputs_of, writes_of}
+use Rattle.revs_tape.specs.Tapes.{TapeView, IsTape, IsKnown, IsKnownEntry, AreKnown, operands}
 use Rattle.claim_check.specs.inside.Labels.{claims_of, label_of, AreSound, HaveClaims, ArePassedOn, AreLowered}
 use Rattle.claim_check.specs.inside.Slots.{slot_of, slots_of, IsRefOf}
 use Rattle.claim_check.proofs.BaseLemmas.{base_of_claim, base_of_operand}

@@ -3,9 +3,9 @@ use Rattle.std.proofs.Common.{◌≡◌, ℕ, zero, suc, ◌<◌, ◌≤◌, Boo
 use Rattle.std.specs.List.{range_with_len}
 use Rattle.std.proofs.lemmas.Bool.{cases_lt}
 use Rattle.std.proofs.lemmas.List.FromFn.{get_or-map-range_with_len, length-map-range_with_len}
-use Rattle.revc_base.specs.Cuts.{IsWidth, cut_at}
-use Rattle.revc_base.specs.Measures.{inputs_of, outputs_of, steps_of, writes_among, writes_of}
-use Rattle.revc_base.proofs.MonomialLemmas.{monomials_are_determined}
+use Rattle.revs_tape.specs.Cuts.{IsWidth, cut_at}
+use Rattle.revs_tape.specs.Measures.{inputs_of, outputs_of, steps_of, writes_among, writes_of}
+use Rattle.revs_tape.proofs.MonomialLemmas.{monomials_are_determined}
 use Rattle.claim_check.specs.Measures.{HasMonomials, HaveMonomials, TapesHaveMeasures, write_function}
 
 -- ---- the width

@@ -5,10 +5,10 @@ use Rattle.std.proofs.lemmas.Bool.{cases_lt, cases_eq}
 use Rattle.list_facts.specs.Lists.{AnyByRecursion, AreApart}
 use Rattle.list_facts.proofs.AllLemmas.{AllByRecursion-weaker}
 use Rattle.list_facts.proofs.AmongLemmas.{any_of, some_of}
-use Rattle.revc_base.specs.declared.tape.Ref.{Ref}
-use Rattle.revc_base.specs.ClaimFunctions.{IsBase, IsMember, IsSameFunction, Restriction, HasAtMost, HasMore}
-use Rattle.revc_base.specs.Measures.{inputs_of}
-use Rattle.revc_base.specs.Tapes.{TapeView}
+use Rattle.revs_tape.specs.declared.tape.Ref.{Ref}
+use Rattle.revs_tape.specs.ClaimFunctions.{IsBase, IsMember, IsSameFunction, Restriction, HasAtMost, HasMore}
+use Rattle.revs_tape.specs.Measures.{inputs_of}
+use Rattle.revs_tape.specs.Tapes.{TapeView}
 use Rattle.decision_diagram.specs.Diagrams.{DiagramView, Triple, IsCanonical, IsNumber, next_number, function_of}
 use Rattle.decision_diagram.specs.Functions.{Function, AreSame, ComesFrom}
 use Rattle.decision_diagram.specs.Growth.{KeepsNodes, AddsOnlyFrom, IsFullFor, IsHeld}

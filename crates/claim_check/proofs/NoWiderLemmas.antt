@@ -9,7 +9,7 @@ use Rattle.list_facts.specs.Lists.{IsAmong, AnyByRecursion, AreApart, AreDiffere
 use Rattle.list_facts.proofs.AmongLemmas.{any_of, all_among, all_from_among, among_map, among_image}
 use Rattle.list_facts.proofs.CountingLemmas.{no_more}
 use Rattle.list_facts.proofs.OrderLemmas.{AreDifferent-rising, among_below, below_bound}
-use Rattle.revc_base.specs.Cuts.{is_in, is_needed}
+use Rattle.revs_tape.specs.Cuts.{is_in, is_needed}
 use Rattle.dependency_graph.specs.declared.node.Node.{Node}
 use Rattle.dependency_graph.specs.Graphs.{GraphView, output_nodes, steps_of}
 use Rattle.dependency_graph.specs.Uses.{cut_in}

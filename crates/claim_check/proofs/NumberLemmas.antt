@@ -8,14 +8,14 @@ use Rattle.std.proofs.lemmas.Option.{get_or_from_slice_get, slice_get_cases}
 use Rattle.list_facts.specs.Lists.{IsAmong}
 use Rattle.list_facts.proofs.AllLemmas.{AllByRecursion-at}
 use Rattle.list_facts.proofs.AmongLemmas.{all_among, all_from_among}
-use Rattle.revc_base.specs.declared.tape.Claim.{Claim}
-use Rattle.revc_base.specs.declared.tape.Entry.{Entry}
-use Rattle.revc_base.specs.declared.tape.Entry.TheVariants as entries
-use Rattle.revc_base.specs.declared.tape.Ref.{Ref}
-use Rattle.revc_base.specs.declared.tape.Ref.TheVariants as refs
-use Rattle.revc_base.specs.ClaimFunctions.{IsBase, operands_of}
-use Rattle.revc_base.specs.Measures.{inputs_of, writes_of}
-use Rattle.revc_base.specs.Tapes.{TapeView, IsKnown, IsTape, operands}
+use Rattle.revs_tape.specs.declared.tape.Claim.{Claim}
+use Rattle.revs_tape.specs.declared.tape.Entry.{Entry}
+use Rattle.revs_tape.specs.declared.tape.Entry.TheVariants as entries
+use Rattle.revs_tape.specs.declared.tape.Ref.{Ref}
+use Rattle.revs_tape.specs.declared.tape.Ref.TheVariants as refs
+use Rattle.revs_tape.specs.ClaimFunctions.{IsBase, operands_of}
+use Rattle.revs_tape.specs.Measures.{inputs_of, writes_of}
+use Rattle.revs_tape.specs.Tapes.{TapeView, IsKnown, IsTape, operands}
 use Rattle.decision_diagram.specs.declared.node.DdFault.{DdFault}
 use Rattle.decision_diagram.specs.declared.node.DdFault.TheVariants as faults
 use Rattle.decision_diagram.specs.Diagrams.{DiagramView, IsCanonical, Triple, function_of}

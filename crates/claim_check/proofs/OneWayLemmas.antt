@@ -4,14 +4,14 @@ use Rattle.std.specs.List.{AllByRecursion}
 use Rattle.std.proofs.lemmas.Bool.{cases_lt, cases_order}
 use Rattle.std.proofs.lemmas.List.{take_all}
 use Rattle.std.proofs.lemmas.Option.{same_Some, slice_get_within}
-use Rattle.revc_base.specs.declared.tape.Claim.{Claim}
+use Rattle.revs_tape.specs.declared.tape.Claim.{Claim}
 use Rattle.list_facts.specs.Lists.{AnyByRecursion}
 use Rattle.list_facts.proofs.AllLemmas.{AllByRecursion-weaker}
 use Rattle.list_facts.proofs.CountingLemmas.{no_more}
-use Rattle.revc_base.specs.ClaimFunctions.{HasAtMost, HasMore, IsMember, IsSameFunction, Restriction}
-use Rattle.revc_base.specs.Claims.{HoldsEverywhere, IsLeastBreaking}
-use Rattle.revc_base.specs.Tapes.{TapeView}
-use Rattle.revc_base.proofs.ClaimLemmas.{one_least}
+use Rattle.revs_tape.specs.ClaimFunctions.{HasAtMost, HasMore, IsMember, IsSameFunction, Restriction}
+use Rattle.revs_tape.specs.Claims.{HoldsEverywhere, IsLeastBreaking}
+use Rattle.revs_tape.specs.Tapes.{TapeView}
+use Rattle.revs_tape.proofs.ClaimLemmas.{one_least}
 use Rattle.claim_check.specs.Claims.{HoldBefore, HoldWithin, BreaksOn, PassesAt, ClaimsEndInOneWay}
 use Rattle.claim_check.proofs.MemberLemmas.{HasMore-more}
 

@@ -7,12 +7,12 @@ use Rattle.std.specs.Option.{option_eq}
 use Rattle.std.proofs.lemmas.Bool.{true≢false}
 use Rattle.std.proofs.lemmas.List.{get_or-map, length-map, take-append-le, take_all}
 use Rattle.list_facts.specs.Bits.{bit_of}
-use Rattle.revc_base.specs.declared.tape.Claim.{Claim}
-use Rattle.revc_base.specs.ClaimFunctions.{HasAtMost}
-use Rattle.revc_base.specs.Claims.{HoldsEverywhere, IsLeastBreaking}
-use Rattle.revc_base.specs.Measures.{inputs_of}
-use Rattle.revc_base.specs.Tapes.{IsTape, TapeView, claimed}
-use Rattle.revc_base.specs.VariableOrders.{variable_order}
+use Rattle.revs_tape.specs.declared.tape.Claim.{Claim}
+use Rattle.revs_tape.specs.ClaimFunctions.{HasAtMost}
+use Rattle.revs_tape.specs.Claims.{HoldsEverywhere, IsLeastBreaking}
+use Rattle.revs_tape.specs.Measures.{inputs_of}
+use Rattle.revs_tape.specs.Tapes.{IsTape, TapeView, claimed}
+use Rattle.revs_tape.specs.VariableOrders.{variable_order}
 use Rattle.decision_diagram.specs.declared.node.DdFault.{DdFault}
 use Rattle.decision_diagram.specs.declared.node.DdFault.TheVariants as faults
 use Rattle.decision_diagram.specs.Diagrams.{DiagramView, IsCanonical, Triple, function_of}

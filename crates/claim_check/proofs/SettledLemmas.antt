@@ -9,11 +9,11 @@ use Rattle.list_facts.specs.Lists.{IsAmong, AreDifferent, below}
 use Rattle.list_facts.proofs.AllLemmas.{AllByRecursion-at, AllByRecursion-both, AllByRecursion-map, AllByRecursion-weaker}
 use Rattle.list_facts.proofs.AmongLemmas.{all_from_among}
 use Rattle.list_facts.proofs.OrderLemmas.{AreDifferent-rising, below_bound}
-use Rattle.revc_base.specs.declared.limits.TheConstants.{MOST_INPUTS, MOST_OUTPUTS}
-use Rattle.revc_base.specs.declared.tape.Ref.{Ref}
-use Rattle.revc_base.specs.declared.tape.Ref.TheVariants as refs
-use Rattle.revc_base.specs.Measures.{writes_of}
-use Rattle.revc_base.specs.Tapes.{TapeView, bit_on}
+use Rattle.revs_tape.specs.declared.limits.TheConstants.{MOST_INPUTS, MOST_OUTPUTS}
+use Rattle.revs_tape.specs.declared.tape.Ref.{Ref}
+use Rattle.revs_tape.specs.declared.tape.Ref.TheVariants as refs
+use Rattle.revs_tape.specs.Measures.{writes_of}
+use Rattle.revs_tape.specs.Tapes.{TapeView, bit_on}
 use Rattle.dependency_graph.specs.declared.node.Base.TheVariants as bases
 use Rattle.dependency_graph.specs.declared.node.Sig.{Sig}
 use Rattle.dependency_graph.specs.declared.node.Sig.TheVariants.{Const, Is}

@@ -6,7 +6,7 @@ use Rattle.std.proofs.lemmas.Bool.{cases_Bool, cases_lt, eqb-true, eq-eqb}
 use Rattle.list_facts.specs.Lists.{IsAmong}
 use Rattle.list_facts.proofs.AmongLemmas.{among_map, all_among}
 use Rattle.list_facts.proofs.CutLemmas.{cut_at, length-take_below}
-use Rattle.revc_base.specs.Cuts.{is_in}
+use Rattle.revs_tape.specs.Cuts.{is_in}
 use Rattle.dependency_graph.specs.declared.node.Base.{Base}
 use Rattle.dependency_graph.specs.declared.node.Base.TheVariants as bases
 use Rattle.dependency_graph.specs.declared.node.Node.{Node}

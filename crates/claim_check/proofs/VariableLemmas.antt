@@ -11,12 +11,12 @@ use Rattle.list_facts.specs.Bits.{bit_of, zeros}
 use Rattle.list_facts.specs.Lists.{IsAmong, AreDifferent, below}
 use Rattle.list_facts.proofs.AllLemmas.{AllByRecursion-at}
 use Rattle.list_facts.proofs.OrderLemmas.{length-below}
-use Rattle.revc_base.specs.ClaimFunctions.{with_fixed}
-use Rattle.revc_base.specs.Claims.{IsInputOf}
-use Rattle.revc_base.specs.Measures.{inputs_of}
-use Rattle.revc_base.specs.Tapes.{TapeView}
-use Rattle.revc_base.specs.VariableOrders.{IsOrderOf, variable_order}
-use Rattle.revc_base.proofs.VariableOrderLemmas.{is_order}
+use Rattle.revs_tape.specs.ClaimFunctions.{with_fixed}
+use Rattle.revs_tape.specs.Claims.{IsInputOf}
+use Rattle.revs_tape.specs.Measures.{inputs_of}
+use Rattle.revs_tape.specs.Tapes.{TapeView}
+use Rattle.revs_tape.specs.VariableOrders.{IsOrderOf, variable_order}
+use Rattle.revs_tape.proofs.VariableOrderLemmas.{is_order}
 use Rattle.decision_diagram.specs.Functions.{Assignment, fixed}
 use Rattle.decision_diagram.proofs.RestrictionLemmas.{fixed-below, fixed-from}
 use Rattle.claim_check.specs.inside.Tables.{input_at}

@@ -6,12 +6,12 @@ use Rattle.std.proofs.lemmas.Bool.{true≢false}
 use Rattle.std.proofs.lemmas.List.{get_or_at, take_all}
 use Rattle.std.proofs.lemmas.Option.{same_Some}
 use Rattle.list_facts.specs.Bits.{bit_of}
-use Rattle.revc_base.specs.declared.tape.Claim.{Claim}
-use Rattle.revc_base.specs.Claims.{HoldsEverywhere, IsLeastBreaking}
-use Rattle.revc_base.specs.Measures.{inputs_of}
-use Rattle.revc_base.specs.Tapes.{TapeView, claimed, Holds}
-use Rattle.revc_base.specs.VariableOrders.{IsBefore, IsOrderOf, variable_order}
-use Rattle.revc_base.proofs.VariableOrderLemmas.{is_order}
+use Rattle.revs_tape.specs.declared.tape.Claim.{Claim}
+use Rattle.revs_tape.specs.Claims.{HoldsEverywhere, IsLeastBreaking}
+use Rattle.revs_tape.specs.Measures.{inputs_of}
+use Rattle.revs_tape.specs.Tapes.{TapeView, claimed, Holds}
+use Rattle.revs_tape.specs.VariableOrders.{IsBefore, IsOrderOf, variable_order}
+use Rattle.revs_tape.proofs.VariableOrderLemmas.{is_order}
 use Rattle.decision_diagram.specs.Functions.{Assignment, Function, AreSame, GivesOnly, IsLeast}
 use Rattle.claim_check.specs.Claims.{HoldBefore}
 use Rattle.claim_check.specs.inside.Tables.{input_at, function_at}

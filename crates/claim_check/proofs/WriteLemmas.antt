@@ -5,12 +5,12 @@ use Rattle.std.specs.Bool.{xor}
 use Rattle.std.proofs.lemmas.List.{get_or_append_left, get_or_at, length-append}
 use Rattle.std.proofs.lemmas.Option.{same_Some}
 use Rattle.list_facts.specs.Bits.{bit_of}
-use Rattle.revc_base.specs.declared.tape.Ref.{Ref}
-use Rattle.revc_base.specs.declared.tape.Ref.TheVariants as refs
-use Rattle.revc_base.specs.declared.tape.Entry.{Entry}
-use Rattle.revc_base.specs.declared.tape.Entry.TheVariants as entries
-use Rattle.revc_base.specs.Measures.{inputs_of}
-use Rattle.revc_base.specs.Tapes.{TapeView, IsTape, IsKnown, IsKnownEntry, AreKnown, bit_at, bit_on, entry_bit, written_by}
+use Rattle.revs_tape.specs.declared.tape.Ref.{Ref}
+use Rattle.revs_tape.specs.declared.tape.Ref.TheVariants as refs
+use Rattle.revs_tape.specs.declared.tape.Entry.{Entry}
+use Rattle.revs_tape.specs.declared.tape.Entry.TheVariants as entries
+use Rattle.revs_tape.specs.Measures.{inputs_of}
+use Rattle.revs_tape.specs.Tapes.{TapeView, IsTape, IsKnown, IsKnownEntry, AreKnown, bit_at, bit_on, entry_bit, written_by}
 use Rattle.decision_diagram.specs.Functions.{Function, AreSame, variable_at, exclusive_or, conjunction}
 use Rattle.claim_check.specs.inside.Tables.{input_at, function_at}
 use Rattle.claim_check.proofs.VariableLemmas.{variable_of, bit-input_at}

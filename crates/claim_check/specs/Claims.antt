@@ -1,10 +1,10 @@
 -- The claims of a tape on all inputs, one after another, within a limit on the functions on which they rest.
 use Rattle.std.specs.Prelude.{◌≡◌, ℕ, ◌+◌, Bool, List, length, take, slice_get, Some}
 use Rattle.std.specs.List.{AllByRecursion}
-use Rattle.revc_base.specs.declared.tape.Claim.{Claim}
-use Rattle.revc_base.specs.ClaimFunctions.{HasAtMost, HasMore}
-use Rattle.revc_base.specs.Claims.{HoldsEverywhere, IsLeastBreaking}
-use Rattle.revc_base.specs.Tapes.{TapeView}
+use Rattle.revs_tape.specs.declared.tape.Claim.{Claim}
+use Rattle.revs_tape.specs.ClaimFunctions.{HasAtMost, HasMore}
+use Rattle.revs_tape.specs.Claims.{HoldsEverywhere, IsLeastBreaking}
+use Rattle.revs_tape.specs.Tapes.{TapeView}
 use Rattle.claim_check.specs.declared.fault.ClaimFault.{ClaimFault}
 use Rattle.claim_check.specs.declared.fault.ClaimFault.TheVariants.{Broken, Diagram, Memory}
 

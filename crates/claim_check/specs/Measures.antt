@@ -2,11 +2,11 @@
 use Rattle.std.specs.Prelude.{◌≡◌, ℕ, ◌<◌, ◌≤◌, Bool, List, length, map, slice_index}
 use Rattle.std.specs.List.{AllByRecursion}
 use Rattle.list_facts.specs.Lists.{AreDifferent}
-use Rattle.revc_base.specs.declared.tape.Ref.TheVariants as refs
-use Rattle.revc_base.specs.Levels.{IsLevels}
-use Rattle.revc_base.specs.Measures.{HasWidth, inputs_of, outputs_of, writes_of}
-use Rattle.revc_base.specs.Monomials.{AreMonomialsOf}
-use Rattle.revc_base.specs.Tapes.{TapeView, bit_on}
+use Rattle.revs_tape.specs.declared.tape.Ref.TheVariants as refs
+use Rattle.revs_tape.specs.Levels.{IsLevels}
+use Rattle.revs_tape.specs.Measures.{HasWidth, inputs_of, outputs_of, writes_of}
+use Rattle.revs_tape.specs.Monomials.{AreMonomialsOf}
+use Rattle.revs_tape.specs.Tapes.{TapeView, bit_on}
 use Rattle.dependency_graph.specs.declared.node.Base.TheVariants as bases
 use Rattle.dependency_graph.specs.declared.node.Sig.TheVariants.{Is}
 use Rattle.dependency_graph.specs.Uses.{cut_in}

@@ -2,10 +2,10 @@
 use Rattle.std.specs.Prelude.{◌≡◌, ℕ, ◌<◌, ◌≤◌, Bool, List, [], length, map}
 use Rattle.std.specs.List.{AllByRecursion}
 use Rattle.list_facts.specs.Bits.{bit_of}
-use Rattle.revc_base.specs.declared.limits.TheConstants.{MOST_INPUTS, MOST_OUTPUTS, MOST_WRITES}
-use Rattle.revc_base.specs.declared.tape.Ref.TheVariants as refs
-use Rattle.revc_base.specs.Measures.{inputs_of, outputs_of, writes_of}
-use Rattle.revc_base.specs.Tapes.{TapeView, bit_on, outputs_on}
+use Rattle.revs_tape.specs.declared.limits.TheConstants.{MOST_INPUTS, MOST_OUTPUTS, MOST_WRITES}
+use Rattle.revs_tape.specs.declared.tape.Ref.TheVariants as refs
+use Rattle.revs_tape.specs.Measures.{inputs_of, outputs_of, writes_of}
+use Rattle.revs_tape.specs.Tapes.{TapeView, bit_on, outputs_on}
 use Rattle.dependency_graph.specs.declared.node.Base.TheVariants as bases
 use Rattle.dependency_graph.specs.declared.node.Node.{Node}
 use Rattle.dependency_graph.specs.declared.node.Sig.{Sig}

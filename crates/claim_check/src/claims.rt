@@ -2,10 +2,10 @@
 ghost use Rattle.std.specs.Prelude.{◌≡◌, ◌≤◌, ◌<◌, ◌+◌, length, map, slice_get, IfErr, IfOk};
 ghost use Rattle.std.specs.Prelude.{MatchOption, OnOk, Some};
 ghost use Rattle.list_facts.specs.Bits.{bit_of};
-ghost use Rattle.revc_base.specs.Claims.{HoldsEverywhere, IsLeastBreaking};
-ghost use Rattle.revc_base.specs.Measures.{inputs_of};
-ghost use Rattle.revc_base.specs.Tapes.{IsTape, claimed};
-ghost use Rattle.revc_base.specs.VariableOrders.{variable_order};
+ghost use Rattle.revs_tape.specs.Claims.{HoldsEverywhere, IsLeastBreaking};
+ghost use Rattle.revs_tape.specs.Measures.{inputs_of};
+ghost use Rattle.revs_tape.specs.Tapes.{IsTape, claimed};
+ghost use Rattle.revs_tape.specs.VariableOrders.{variable_order};
 ghost use Rattle.decision_diagram.specs.Diagrams.{IsNumber, function_of};
 ghost use Rattle.decision_diagram.specs.Functions.{GivesOnly};
 ghost use Rattle.claim_check.specs.Claims.{HoldWithin, IsClaimFault};
@@ -19,7 +19,8 @@ use crate::ClaimFault;
 use crate::numbers::{number_at, number_claim};
 use crate::schedule::{Schedule, schedule_of};
 use decision_diagram::{Dd, DdFault, Diagram};
-use revc_base::{Bits, Claim, Kind, Memory, Tape};
+use revc_base::{Bits, Memory};
+use revs_tape::{Claim, Kind, Tape};
 use std::alloc::Global;
 
 // The bit that a claim claims.

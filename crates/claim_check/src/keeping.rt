@@ -3,9 +3,9 @@ ghost use Rattle.std.specs.Prelude.{◌≡◌, ◌≤◌, length, map, replicate
 ghost use Rattle.std.specs.List.{flat_map};
 ghost use Rattle.list_facts.specs.Bits.{bit_of};
 ghost use Rattle.list_facts.specs.Lists.{below};
-ghost use Rattle.revc_base.specs.declared.limits.TheConstants.{MOST_WRITES};
-ghost use Rattle.revc_base.specs.Measures.{inputs_of};
-ghost use Rattle.revc_base.specs.Tapes.{IsTape};
+ghost use Rattle.revs_tape.specs.declared.limits.TheConstants.{MOST_WRITES};
+ghost use Rattle.revs_tape.specs.Measures.{inputs_of};
+ghost use Rattle.revs_tape.specs.Tapes.{IsTape};
 ghost use Rattle.dependency_graph.specs.Folds.{graph_of};
 ghost use Rattle.dependency_graph.specs.Graphs.{base_of, operands};
 ghost use Rattle.claim_check.specs.Kept.{kept_nodes, rank, renumbered, renumbered_base};
@@ -14,7 +14,8 @@ ghost use Rattle.claim_check.specs.inside.Marks.{number_in, with_mark, with_mark
 ghost use Rattle.claim_check.specs.inside.Parts.{IsSettledPart};
 
 use dependency_graph::{Base, Graph, Node, Sig};
-use revc_base::{Memory, Tape};
+use revc_base::Memory;
+use revs_tape::Tape;
 use std::alloc::Global;
 
 // ---- marks

@@ -1,12 +1,13 @@
 // The first claim that rests on each input and write of a tape.
 ghost use Rattle.std.specs.Prelude.{◌≡◌, ◌<◌, ◌∷◌, [], length, IfOk};
 ghost use Rattle.std.specs.List.{AllByRecursion};
-ghost use Rattle.revc_base.specs.Tapes.{operands};
+ghost use Rattle.revs_tape.specs.Tapes.{operands};
 ghost use Rattle.claim_check.specs.inside.Labels.{AreLabels, AreLowered, AreSound, HaveClaims};
 ghost use Rattle.claim_check.specs.inside.Labels.{claims_of};
 ghost use Rattle.claim_check.specs.inside.Slots.{slot_of};
 
-use revc_base::{Entry, Memory, Ref, Tape};
+use revc_base::Memory;
+use revs_tape::{Entry, Ref, Tape};
 
 // The slot of an input or a write in a table of them all: the inputs stand first.
 pub fn slot_of(inputs: u32, made: Ref) -> usize

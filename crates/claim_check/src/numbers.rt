@@ -1,10 +1,10 @@
 // The numbers of the inputs and writes of a tape in a diagram.
 ghost use Rattle.std.specs.Prelude.{◌≡◌, ◌<◌, ◌+◌, length, slice_index, IfErr, OnOk};
 ghost use Rattle.std.specs.List.{AllByRecursion};
-ghost use Rattle.revc_base.specs.ClaimFunctions.{operands_of};
-ghost use Rattle.revc_base.specs.Measures.{inputs_of, writes_of};
-ghost use Rattle.revc_base.specs.Tapes.{IsTape};
-ghost use Rattle.revc_base.specs.VariableOrders.{variable_order};
+ghost use Rattle.revs_tape.specs.ClaimFunctions.{operands_of};
+ghost use Rattle.revs_tape.specs.Measures.{inputs_of, writes_of};
+ghost use Rattle.revs_tape.specs.Tapes.{IsTape};
+ghost use Rattle.revs_tape.specs.VariableOrders.{variable_order};
 ghost use Rattle.claim_check.specs.inside.Labels.{claims_of};
 ghost use Rattle.claim_check.specs.inside.Numbers.{AreMade, HasNumber, IsAnswerOf, IsScheduleOf};
 ghost use Rattle.claim_check.specs.inside.Numbers.{PassLimit};
@@ -15,7 +15,7 @@ ghost use Rattle.claim_check.specs.inside.Variables.{AreVariables};
 use crate::labels::slot_of;
 use crate::schedule::Schedule;
 use decision_diagram::{Dd, DdFault, Diagram};
-use revc_base::{Entry, Ref, Tape};
+use revs_tape::{Entry, Ref, Tape};
 
 // The input or write at a slot.
 fn ref_at(tape: &Tape, slot: u32) -> Ref

@@ -7,7 +7,8 @@ ghost use Rattle.claim_check.specs.inside.Parts.{IsSettledPart};
 
 use crate::keeping::kept_part;
 use dependency_graph::{Graph, Node, Sig, last_uses};
-use revc_base::{Memory, Tape};
+use revc_base::Memory;
+use revs_tape::Tape;
 use std::marker::Model;
 
 /// The nodes of a graph on which an output rests, renumbered in their order, after every claim was

@@ -9,7 +9,7 @@ ghost use Rattle.claim_check.specs.Settled.{IsSettled, IsSettledOf};
 use crate::claims::settle_claims;
 use crate::{ClaimFault, Settled};
 use dependency_graph::Graph;
-use revc_base::Tape;
+use revs_tape::Tape;
 
 /// Settles each claim of a tape for all inputs, in their order, and answers the nodes of its graph
 /// on which an output rests.

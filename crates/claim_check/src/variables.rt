@@ -1,8 +1,8 @@
 // The variables of a diagram, and the inputs that they are.
 ghost use Rattle.std.specs.Prelude.{◌≡◌, ◌<◌, ◌≤◌, ◌++◌, ◌^◌, length, slice_index, sum, EachIndex};
 ghost use Rattle.std.specs.Prelude.{IfOk, OnOk};
-ghost use Rattle.revc_base.specs.Tapes.{AreWidths};
-ghost use Rattle.revc_base.specs.VariableOrders.{IsOrderOf, inputs_at, variable_order};
+ghost use Rattle.revs_tape.specs.Tapes.{AreWidths};
+ghost use Rattle.revs_tape.specs.VariableOrders.{IsOrderOf, inputs_at, variable_order};
 ghost use Rattle.claim_check.specs.inside.Variables.{AreVariables};
 
 use revc_base::Memory;

@@ -9,14 +9,14 @@ use Rattle.list_facts.proofs.AllLemmas.{AllByRecursion-weaker, AllByRecursion-ma
 use Rattle.list_facts.proofs.AmongLemmas.{any_of, among_map, all_from_among}
 use Rattle.list_facts.proofs.OrderLemmas.{AreDifferent-rising, among_below, below_bound}
 use Rattle.list_facts.proofs.CountingLemmas.{no_more}
-use Rattle.revc_base.specs.declared.tape.Ref.{Ref}
-use Rattle.revc_base.specs.declared.tape.Ref.TheVariants as refs
-use Rattle.revc_base.specs.declared.tape.Entry.{Entry}
-use Rattle.revc_base.specs.Cuts.{is_in, is_needed, cut_at}
-use Rattle.revc_base.specs.Measures.{HasWidth, writes_among}
-use Rattle.revc_base.specs.Measures as tapes
-use Rattle.revc_base.specs.Tapes.{TapeView, IsTape}
-use Rattle.revc_base.specs.Tapes as tape
+use Rattle.revs_tape.specs.declared.tape.Ref.{Ref}
+use Rattle.revs_tape.specs.declared.tape.Ref.TheVariants as refs
+use Rattle.revs_tape.specs.declared.tape.Entry.{Entry}
+use Rattle.revs_tape.specs.Cuts.{is_in, is_needed, cut_at}
+use Rattle.revs_tape.specs.Measures.{HasWidth, writes_among}
+use Rattle.revs_tape.specs.Measures as tapes
+use Rattle.revs_tape.specs.Tapes.{TapeView, IsTape}
+use Rattle.revs_tape.specs.Tapes as tape
 use Rattle.dependency_graph.specs.declared.node.Base.{Base}
 use Rattle.dependency_graph.specs.declared.node.Base.TheVariants as bases
 use Rattle.dependency_graph.specs.declared.node.Node.{Node}

@@ -4,11 +4,11 @@ use Rattle.std.proofs.Common.{refl, sym, ap, ◌∙◌}
 use Rattle.std.specs.Bool.{xor}
 use Rattle.std.proofs.lemmas.Bool.{cases_Bool}
 use Rattle.list_facts.specs.Lists.{IsAmong}
-use Rattle.revc_base.specs.declared.tape.Ref.{Ref}
-use Rattle.revc_base.specs.declared.tape.Entry.{Entry}
-use Rattle.revc_base.specs.declared.tape.Entry.TheVariants as entries
-use Rattle.revc_base.specs.Tapes.{TapeView, IsTape}
-use Rattle.revc_base.specs.Tapes as tape
+use Rattle.revs_tape.specs.declared.tape.Ref.{Ref}
+use Rattle.revs_tape.specs.declared.tape.Entry.{Entry}
+use Rattle.revs_tape.specs.declared.tape.Entry.TheVariants as entries
+use Rattle.revs_tape.specs.Tapes.{TapeView, IsTape}
+use Rattle.revs_tape.specs.Tapes as tape
 use Rattle.dependency_graph.specs.declared.fold.Reduct.{Reduct}
 use Rattle.dependency_graph.specs.declared.fold.Reduct.TheVariants.{Known, New}
 use Rattle.dependency_graph.specs.declared.node.Base.{Base}

@@ -5,11 +5,11 @@ use Rattle.std.proofs.lemmas.Bool.{cases_lt}
 use Rattle.std.proofs.lemmas.List.{append-nil, append_assoc, get_or_past}
 use Rattle.list_facts.specs.Lists.{IsAmong, AnyByRecursion}
 use Rattle.list_facts.proofs.AmongLemmas.{among_append, among_image}
-use Rattle.revc_base.specs.declared.tape.Ref.{Ref}
-use Rattle.revc_base.specs.declared.tape.Ref.TheVariants as refs
-use Rattle.revc_base.specs.declared.tape.Entry.{Entry}
-use Rattle.revc_base.specs.Tapes.{TapeView, IsTape}
-use Rattle.revc_base.specs.Tapes as tape
+use Rattle.revs_tape.specs.declared.tape.Ref.{Ref}
+use Rattle.revs_tape.specs.declared.tape.Ref.TheVariants as refs
+use Rattle.revs_tape.specs.declared.tape.Entry.{Entry}
+use Rattle.revs_tape.specs.Tapes.{TapeView, IsTape}
+use Rattle.revs_tape.specs.Tapes as tape
 use Rattle.dependency_graph.specs.declared.fold.Reduct.{Reduct}
 use Rattle.dependency_graph.specs.declared.fold.Reduct.TheVariants.{Known, New}
 use Rattle.dependency_graph.specs.declared.node.Base.TheVariants as bases

@@ -8,7 +8,7 @@ use Rattle.std.proofs.lemmas.Bool.{cases_lt}
 use Rattle.std.proofs.lemmas.List.{append_assoc, map_push, length-map, get_or_append_left, get_or_push}
 use Rattle.list_facts.specs.Lists.{below}
 use Rattle.list_facts.proofs.OrderLemmas.{length-below}
-use Rattle.revc_base.specs.Cuts.{is_in, is_needed}
+use Rattle.revs_tape.specs.Cuts.{is_in, is_needed}
 use Rattle.dependency_graph.specs.declared.node.Base.{Base}
 use Rattle.dependency_graph.specs.declared.node.Base.TheVariants as bases
 use Rattle.dependency_graph.specs.declared.node.Node.{Node}

@@ -7,7 +7,7 @@ use Rattle.list_facts.specs.Lists.{IsAmong, IsRising, below}
 use Rattle.list_facts.proofs.AllLemmas.{AllByRecursion-push}
 use Rattle.list_facts.proofs.AmongLemmas.{all_from_among}
 use Rattle.list_facts.proofs.OrderLemmas.{IsRising-filter, among_below, below_bound}
-use Rattle.revc_base.specs.Cuts.{is_in, is_needed, cut_at}
+use Rattle.revs_tape.specs.Cuts.{is_in, is_needed, cut_at}
 use Rattle.dependency_graph.specs.Uses.{last_of, last_use, LastUsesTellCuts}
 
 -- ---- the last reader so far

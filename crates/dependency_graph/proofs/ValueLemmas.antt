@@ -8,12 +8,12 @@ use Rattle.std.proofs.lemmas.List.{map_push}
 use Rattle.std.proofs.Math.ListN.{get_or-map}
 use Rattle.list_facts.specs.Bits.{bit_of}
 use Rattle.list_facts.proofs.BitLemmas.{xor_one, xor_none, xor_nothing, xor_same, xor_swap, and_nothing}
-use Rattle.revc_base.specs.declared.tape.Ref.{Ref}
-use Rattle.revc_base.specs.declared.tape.Ref.TheVariants as refs
-use Rattle.revc_base.specs.declared.tape.Entry.{Entry}
-use Rattle.revc_base.specs.declared.tape.Entry.TheVariants as entries
-use Rattle.revc_base.specs.Measures.{inputs_of}
-use Rattle.revc_base.specs.Tapes.{TapeView, IsTape, AreKnown, bit_at, bit_on, entry_bit, written_by}
+use Rattle.revs_tape.specs.declared.tape.Ref.{Ref}
+use Rattle.revs_tape.specs.declared.tape.Ref.TheVariants as refs
+use Rattle.revs_tape.specs.declared.tape.Entry.{Entry}
+use Rattle.revs_tape.specs.declared.tape.Entry.TheVariants as entries
+use Rattle.revs_tape.specs.Measures.{inputs_of}
+use Rattle.revs_tape.specs.Tapes.{TapeView, IsTape, AreKnown, bit_at, bit_on, entry_bit, written_by}
 use Rattle.dependency_graph.specs.declared.fold.Reduct.{Reduct}
 use Rattle.dependency_graph.specs.declared.fold.Reduct.TheVariants.{Known, New}
 use Rattle.dependency_graph.specs.declared.node.Base.{Base}

@@ -1,10 +1,10 @@
 -- How a graph comes from a tape: each write is folded by its own operands alone.
 use Rattle.std.specs.Prelude.{◌==◌, Bool, true, false, cond, ◌&&◌, List, [], ◌∷◌, ◌++◌, length, map}
 use Rattle.std.specs.Bool.{xor}
-use Rattle.revc_base.specs.declared.tape.Entry.{Entry}
-use Rattle.revc_base.specs.declared.tape.Entry.TheVariants as entries
-use Rattle.revc_base.specs.Measures.{inputs_of}
-use Rattle.revc_base.specs.Tapes.{TapeView}
+use Rattle.revs_tape.specs.declared.tape.Entry.{Entry}
+use Rattle.revs_tape.specs.declared.tape.Entry.TheVariants as entries
+use Rattle.revs_tape.specs.Measures.{inputs_of}
+use Rattle.revs_tape.specs.Tapes.{TapeView}
 use Rattle.dependency_graph.specs.declared.fold.Reduct.{Reduct}
 use Rattle.dependency_graph.specs.declared.fold.Reduct.TheVariants.{Known, New}
 use Rattle.dependency_graph.specs.declared.node.Base.{Base}

@@ -5,11 +5,11 @@ use Rattle.std.specs.Bool.{xor}
 use Rattle.std.specs.List.{AllByRecursion, flat_map}
 use Rattle.list_facts.specs.Bits.{bit_of}
 use Rattle.list_facts.specs.Lists.{IsAmong}
-use Rattle.revc_base.specs.declared.limits.TheConstants.{MOST_WRITES}
-use Rattle.revc_base.specs.declared.tape.Ref.{Ref}
-use Rattle.revc_base.specs.declared.tape.Ref.TheVariants as refs
-use Rattle.revc_base.specs.Measures.{inputs_of, writes_of}
-use Rattle.revc_base.specs.Tapes.{TapeView, bit_on}
+use Rattle.revs_tape.specs.declared.limits.TheConstants.{MOST_WRITES}
+use Rattle.revs_tape.specs.declared.tape.Ref.{Ref}
+use Rattle.revs_tape.specs.declared.tape.Ref.TheVariants as refs
+use Rattle.revs_tape.specs.Measures.{inputs_of, writes_of}
+use Rattle.revs_tape.specs.Tapes.{TapeView, bit_on}
 use Rattle.dependency_graph.specs.declared.node.Base.{Base}
 use Rattle.dependency_graph.specs.declared.node.Base.TheVariants as bases
 use Rattle.dependency_graph.specs.declared.node.Node.{Node}

@@ -2,7 +2,7 @@
 use Rattle.std.specs.Prelude.{◌↔◌, ℕ, ◌<◌, ◌≤◌, cond, List}
 use Rattle.std.specs.Prelude.{[], ◌∷◌, length, map, filter, slice_index_or}
 use Rattle.list_facts.specs.Lists.{IsAmong, below}
-use Rattle.revc_base.specs.Cuts.{is_in, cut_at}
+use Rattle.revs_tape.specs.Cuts.{is_in, cut_at}
 use Rattle.dependency_graph.specs.Graphs.{GraphView, output_nodes, steps_of}
 
 -- the last number of a list; the given one where there is none

@@ -1,8 +1,8 @@
 -- How wide a graph is beside its tape.
 use Rattle.std.specs.Prelude.{ℕ, ◌≤◌, length}
-use Rattle.revc_base.specs.Cuts.{IsWidth}
-use Rattle.revc_base.specs.Measures.{HasWidth}
-use Rattle.revc_base.specs.Tapes.{TapeView}
+use Rattle.revs_tape.specs.Cuts.{IsWidth}
+use Rattle.revs_tape.specs.Measures.{HasWidth}
+use Rattle.revs_tape.specs.Tapes.{TapeView}
 use Rattle.dependency_graph.specs.Folds.{graph_of}
 use Rattle.dependency_graph.specs.Graphs.{GraphView, output_nodes, steps_of}
 use Rattle.dependency_graph.specs.Uses.{cut_in}

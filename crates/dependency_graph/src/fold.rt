@@ -1,12 +1,13 @@
 // The fold of the writes of a tape, each by its own operands alone.
 ghost use Rattle.std.specs.Prelude.{◌≡◌, ◌<◌, length, map, IfOk, OnOk, OnErr};
-ghost use Rattle.revc_base.specs.declared.limits.TheConstants.{MOST_WRITES};
+ghost use Rattle.revs_tape.specs.declared.limits.TheConstants.{MOST_WRITES};
 ghost use Rattle.dependency_graph.specs.Graphs.{sig_of};
 ghost use Rattle.dependency_graph.specs.Folds.{and_constant, and_of, folded, folded_by};
 ghost use Rattle.dependency_graph.specs.Folds.{nothing_folded, with_write, xor_constant, xor_of};
 
 use crate::{Base, Node, Sig};
-use revc_base::{Entry, Memory, Ref, Tape};
+use revc_base::Memory;
+use revs_tape::{Entry, Ref, Tape};
 use std::alloc::{AllocError, Global};
 use std::marker::Model;
 

@@ -1,7 +1,7 @@
 // The graph of a tape.
 ghost use Rattle.std.specs.Prelude.{◌≡◌, ◌<◌, ◌≤◌, length, slice_get, Some, IfOk};
-ghost use Rattle.revc_base.specs.Measures.{inputs_of, writes_of};
-ghost use Rattle.revc_base.specs.Tapes.{IsKnown};
+ghost use Rattle.revs_tape.specs.Measures.{inputs_of, writes_of};
+ghost use Rattle.revs_tape.specs.Tapes.{IsKnown};
 ghost use Rattle.dependency_graph.specs.Graphs.{IsGraph, IsGraphOf, sig_of};
 ghost use Rattle.dependency_graph.specs.Folds.{graph_of};
 ghost use Rattle.dependency_graph.specs.Uses.{cut_in, last_use_in};
@@ -10,7 +10,8 @@ ghost use Rattle.list_facts.specs.Lists.{IsRising};
 use crate::fold::{fold, sig_of, sigs_of};
 use crate::uses::last_uses;
 use crate::{Node, Sig};
-use revc_base::{Memory, Ref, Tape};
+use revc_base::Memory;
+use revs_tape::{Ref, Tape};
 use std::marker::Model;
 
 /// The graph of a tape. Contracts see it as the number of inputs and the lists of nodes, of what

@@ -1,7 +1,7 @@
 // The table of last uses.
 ghost use Rattle.std.specs.Prelude.{◌≡◌, ◌≤◌, [], length, IfOk};
 ghost use Rattle.list_facts.specs.Lists.{below};
-ghost use Rattle.revc_base.specs.declared.limits.TheConstants.{MOST_WRITES};
+ghost use Rattle.revs_tape.specs.declared.limits.TheConstants.{MOST_WRITES};
 ghost use Rattle.dependency_graph.specs.Graphs.{operands};
 ghost use Rattle.dependency_graph.specs.Uses.{last_uses_of};
 ghost use Rattle.dependency_graph.specs.inside.Tables.{with_nodes, with_outputs, with_use};

@@ -22,8 +22,8 @@ use Rattle.held_nodes.specs.Moves.{IsReadyBase, IsReadyNode, IsStartFault, IsTog
 use Rattle.held_nodes.specs.Plans.{wanted_lines}
 use Rattle.list_facts.specs.Lists.{IsAmong}
 use Rattle.list_facts.proofs.AmongLemmas.{all_among, all_from_among}
-use Rattle.revc_base.specs.Monomials.{AreMonomialsOf}
-use Rattle.revc_base.proofs.MonomialLemmas.{monomials_are_determined}
+use Rattle.revs_tape.specs.Monomials.{AreMonomialsOf}
+use Rattle.revs_tape.proofs.MonomialLemmas.{monomials_are_determined}
 use Rattle.eager_cleanup.specs.Eager.{HasFewGates, IsEagerFault}
 use Rattle.eager_cleanup.specs.inside.Known.{AreFirstValues, HasLargeNode, IsKnownValue, Polynomial, last_use_of, value_at}
 use Rattle.eager_cleanup.specs.inside.Sweeps.{BoundsCleanings, BoundsCuts, HasHeavy, IsSwept, IsUseFault, all_paid, cleaning_gates, gates_in, paid_gates, total}

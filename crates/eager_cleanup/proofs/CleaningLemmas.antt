@@ -23,7 +23,7 @@ use Rattle.list_facts.specs.Lists.{IsAmong}
 use Rattle.list_facts.proofs.AllLemmas.{AllByRecursion-weaker}
 use Rattle.list_facts.proofs.AmongLemmas.{all_among, some_of}
 use Rattle.mct_circuit.specs.Gates.{GateView}
-use Rattle.revc_base.specs.Monomials.{AreOverInputs}
+use Rattle.revs_tape.specs.Monomials.{AreOverInputs}
 use Rattle.eager_cleanup.specs.inside.Known.{IsKnownPolynomial, Polynomial}
 use Rattle.eager_cleanup.specs.inside.Sweeps.{IsCleaned, IsCleaningFault, cleaning_gates, gates_in, paid_gates}
 use Rattle.eager_cleanup.proofs.CostLemmas.{light_cubes, light_forward, most-cubes, most-toggle, most_in}

@@ -22,11 +22,11 @@ use Rattle.dependency_graph.specs.Graphs.{AreKnownNodes, IsKnownBase, IsKnownNod
 use Rattle.exclusive_sums.specs.Limits.{IsPolynomialUpTo}
 use Rattle.held_nodes.proofs.ValueLemmas.{known_at, value_of_node}
 use Rattle.list_facts.specs.Bits.{bit_of}
-use Rattle.revc_base.specs.Monomials.{AreMonomialsOf}
-use Rattle.revc_base.specs.Polynomials.{IsPolynomial, IsPolynomialOf, value_of_polynomial}
-use Rattle.revc_base.proofs.MonomialLemmas.{firsts, monomials_are_determined, value-monomials}
-use Rattle.revc_base.proofs.PolynomialLemmas.{polynomials_are_unique}
-use Rattle.revc_base.proofs.SumLemmas.{IsPolynomial-input, value-input}
+use Rattle.revs_tape.specs.Monomials.{AreMonomialsOf}
+use Rattle.revs_tape.specs.Polynomials.{IsPolynomial, IsPolynomialOf, value_of_polynomial}
+use Rattle.revs_tape.proofs.MonomialLemmas.{firsts, monomials_are_determined, value-monomials}
+use Rattle.revs_tape.proofs.PolynomialLemmas.{polynomials_are_unique}
+use Rattle.revs_tape.proofs.SumLemmas.{IsPolynomial-input, value-input}
 use Rattle.eager_cleanup.specs.inside.Known.{Polynomial, AreFirstValues, AreInputValues, HasLargeNode, IsJoin, IsKnownValue, IsNegation, IsValueOf, base_value}
 use Rattle.eager_cleanup.specs.inside.Known.{last_use_of, value_at}
 use Rattle.eager_cleanup.proofs.UserLemmas.{used_here}

@@ -17,7 +17,7 @@ use Rattle.dependency_graph.proofs.TableLemmas.{length-steps_of}
 use Rattle.dependency_graph.proofs.UseLemmas.{needed_later, later_needed, or_right, some_from, reads}
 use Rattle.list_facts.specs.Lists.{IsAmong}
 use Rattle.list_facts.proofs.AmongLemmas.{among_append, among_left, among_right}
-use Rattle.revc_base.specs.Cuts.{is_in, is_needed}
+use Rattle.revs_tape.specs.Cuts.{is_in, is_needed}
 use Rattle.eager_cleanup.specs.inside.Known.{last_use_of}
 
 -- ---- nodes among bases

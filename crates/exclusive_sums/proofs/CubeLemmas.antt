@@ -12,15 +12,15 @@ use Rattle.std.proofs.lemmas.List.Sums.{sum_by-cons}
 use Rattle.std.proofs.Math.ListN.{drop_of_length-le}
 use Rattle.std.proofs.lemmas.Option.{same_Some}
 use Rattle.exclusive_sums.specs.declared.cube.Literal.{Literal}
-use Rattle.revc_base.specs.inside.Aligned.{Pair, left, right, both, aligned, key_of}
+use Rattle.revs_tape.specs.inside.Aligned.{Pair, left, right, both, aligned, key_of}
 use Rattle.list_facts.specs.Lists.{IsRising}
-use Rattle.revc_base.specs.Polynomials.{IsInOrder}
+use Rattle.revs_tape.specs.Polynomials.{IsInOrder}
 use Rattle.exclusive_sums.specs.Cubes.{value_of_literal, value_of_cube, input_of, IsCube, state_of, same_sign, same_state, distance_of, third_state, IsJoined}
 use Rattle.exclusive_sums.specs.Cubes.{positive}
 use Rattle.exclusive_sums.specs.inside.Merging.{by_input, differences, flipped, thirds}
-use Rattle.revc_base.proofs.AlignmentLemmas.{lefts, rights, lefts-aligned, rights-aligned, IsTied, tied-aligned, by_key, in_order-aligned}
+use Rattle.revs_tape.proofs.AlignmentLemmas.{lefts, rights, lefts-aligned, rights-aligned, IsTied, tied-aligned, by_key, in_order-aligned}
 use Rattle.list_facts.proofs.BitLemmas.{xor-and_right}
-use Rattle.revc_base.proofs.SumLemmas.{eq_from_equal, less_from_lt, lt_from_less}
+use Rattle.revs_tape.proofs.SumLemmas.{eq_from_equal, less_from_lt, lt_from_less}
 use Rattle.list_facts.proofs.AllLemmas.{AllByRecursion-weaker}
 
 -- ---- what going through two cubes gives

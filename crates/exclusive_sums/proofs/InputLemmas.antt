@@ -3,8 +3,8 @@ use Rattle.std.proofs.Common.{◌≡◌, ℕ, Bool, true, false, cond, List, [],
 use Rattle.std.specs.List.{AllByRecursion}
 use Rattle.list_facts.specs.Lists.{IsAmong}
 use Rattle.list_facts.proofs.AmongLemmas.{among_left, among_right, any_of, all_from_among}
-use Rattle.revc_base.specs.inside.Sums.{exclusive_sum_of}
-use Rattle.revc_base.proofs.SumLemmas.{All-exclusive_sum_of}
+use Rattle.revs_tape.specs.inside.Sums.{exclusive_sum_of}
+use Rattle.revs_tape.proofs.SumLemmas.{All-exclusive_sum_of}
 use Rattle.exclusive_sums.specs.Inputs.{StandsIn, AreOverInputsOf}
 
 -- the inputs of a monomial stand in a sum that has it

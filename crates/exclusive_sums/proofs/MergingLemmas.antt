@@ -7,7 +7,7 @@ use Rattle.std.proofs.lemmas.Bool.{cases_order}
 use Rattle.std.proofs.lemmas.List.Edits.{length-remove, get_or-remove_below}
 use Rattle.exclusive_sums.specs.declared.cube.Literal.{Literal}
 use Rattle.list_facts.specs.Lists.{IsRising}
-use Rattle.revc_base.specs.Polynomials.{value_of_monomial, value_of_polynomial}
+use Rattle.revs_tape.specs.Polynomials.{value_of_monomial, value_of_polynomial}
 use Rattle.exclusive_sums.specs.Cubes.{value_of_cube, value_of_cubes, IsCube, distance_of, IsJoined, cube_at, distance_at, AreFarApart, IsFirstClosePair}
 use Rattle.exclusive_sums.specs.Cubes.{without_pair, Merges, done, cancelled, joined, positive, cubes_of, IsExclusiveSumOf}
 use Rattle.exclusive_sums.specs.Inputs.{StandsIn}

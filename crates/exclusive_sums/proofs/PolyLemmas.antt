@@ -5,11 +5,11 @@ use Rattle.std.specs.Bool.{xor}
 use Rattle.std.specs.Ordering.{nat_cmp}
 use Rattle.std.proofs.lemmas.List.{append-nil}
 use Rattle.std.proofs.Math.ListN.{drop_of_length-le}
-use Rattle.revc_base.specs.inside.Aligned.{right, aligned, key_of}
-use Rattle.revc_base.specs.Polynomials.{value_of_polynomial, IsPolynomial, IsPolynomialOf}
-use Rattle.revc_base.specs.inside.Sums.{union_of, exclusive_sum_of}
+use Rattle.revs_tape.specs.inside.Aligned.{right, aligned, key_of}
+use Rattle.revs_tape.specs.Polynomials.{value_of_polynomial, IsPolynomial, IsPolynomialOf}
+use Rattle.revs_tape.specs.inside.Sums.{union_of, exclusive_sum_of}
 use Rattle.list_facts.proofs.BitLemmas.{xor_one, xor_nothing}
-use Rattle.revc_base.proofs.SumLemmas.{value-exclusive_sum_of, IsPolynomial-exclusive_sum_of, IsPolynomial-one, IsPolynomial-input, value-input}
+use Rattle.revs_tape.proofs.SumLemmas.{value-exclusive_sum_of, IsPolynomial-exclusive_sum_of, IsPolynomial-one, IsPolynomial-input, value-input}
 use Rattle.exclusive_sums.specs.Limits.{IsPolynomialUpTo}
 
 -- ---- what is left of a monomial at the end of the other

@@ -6,8 +6,8 @@ use Rattle.std.specs.Option.{option_to_list}
 use Rattle.std.proofs.lemmas.Bool.{cases_Bool, cases_lt, lt-ltb, le-ltb, le-leb, lt-leb, eq-eqb, ne_eqb}
 use Rattle.std.proofs.lemmas.List.{append_assoc}
 use Rattle.std.proofs.Math.Seq.{drop-cons}
-use Rattle.revc_base.specs.inside.Aligned.{aligned}
-use Rattle.revc_base.specs.inside.Sums.{union_of}
+use Rattle.revs_tape.specs.inside.Aligned.{aligned}
+use Rattle.revs_tape.specs.inside.Sums.{union_of}
 use Rattle.exclusive_sums.specs.declared.cube.Literal.{Literal}
 use Rattle.exclusive_sums.specs.Cubes.{same_sign}
 use Rattle.exclusive_sums.specs.inside.Merging.{by_input, differences, third_of, thirds}

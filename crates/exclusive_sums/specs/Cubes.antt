@@ -7,7 +7,7 @@ use Rattle.std.specs.List.{AllByRecursion, list_all, count_by, remove}
 use Rattle.std.specs.Option.{is_none}
 use Rattle.exclusive_sums.specs.declared.cube.Literal.{Literal}
 use Rattle.list_facts.specs.Lists.{IsRising}
-use Rattle.revc_base.specs.Polynomials.{value_of_polynomial}
+use Rattle.revs_tape.specs.Polynomials.{value_of_polynomial}
 use Rattle.exclusive_sums.specs.Inputs.{StandsIn}
 
 -- ---- values

@@ -1,6 +1,6 @@
 -- Polynomials of at most so many monomials.
 use Rattle.std.specs.Prelude.{◌≡◌, ℕ, nat_le, Bool, if◌then◌else◌, List, length, Option, Some, None}
-use Rattle.revc_base.specs.Polynomials.{IsPolynomialOf}
+use Rattle.revs_tape.specs.Polynomials.{IsPolynomialOf}
 
 -- the function's polynomial, where it has at most so many monomials
 pub record IsPolynomialUpTo (most : ℕ) (function : (ℕ → Bool) → Bool)

@@ -2,7 +2,7 @@
 ghost use Rattle.std.specs.Prelude.{◌≡◌, ◌+◌, ◌<◌, [], ◌∷◌, ◌++◌, length, Some, IfOk, OnOk};
 ghost use Rattle.std.specs.Ordering.{nat_cmp};
 ghost use Rattle.std.specs.Cmp.Lexicographic.{slice_cmp};
-ghost use Rattle.revc_base.specs.inside.Sums.{exclusive_sum_of, union_of};
+ghost use Rattle.revs_tape.specs.inside.Sums.{exclusive_sum_of, union_of};
 ghost use Rattle.exclusive_sums.specs.inside.Products.{MovesFront, order_of_fronts as fronts};
 
 use revc_base::{Key, Memory};

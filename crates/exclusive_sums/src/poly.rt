@@ -2,7 +2,7 @@
 ghost use Rattle.std.specs.Prelude.{◌≡◌, ◌*◌, ◌≤◌, ◌==◌, ◌&&◌, not, [], ◌∷◌, ◌++◌, length, IfOk};
 ghost use Rattle.std.specs.Prelude.{IfSome, if◌then◌else◌, nat_le, Some, None};
 ghost use Rattle.std.specs.Bool.{xor};
-ghost use Rattle.revc_base.specs.Polynomials.{IsPolynomial, IsPolynomialOf, value_of_polynomial};
+ghost use Rattle.revs_tape.specs.Polynomials.{IsPolynomial, IsPolynomialOf, value_of_polynomial};
 ghost use Rattle.exclusive_sums.specs.Inputs.{AreOverInputsOf};
 ghost use Rattle.exclusive_sums.specs.Limits.{IsPolynomialUpTo};
 ghost use Rattle.exclusive_sums.specs.declared.poly.TheConstants.{MOST_MONOMIALS};
@@ -29,7 +29,7 @@ pub struct Poly {
 
 impl Model for Poly {
     ghost use Rattle.std.specs.Prelude.{List, ℕ, ◌≤◌, length};
-    ghost use Rattle.revc_base.specs.Polynomials.{IsPolynomial};
+    ghost use Rattle.revs_tape.specs.Polynomials.{IsPolynomial};
     ghost use Rattle.exclusive_sums.specs.declared.poly.TheConstants.{MOST_MONOMIALS};
 
     ghost Value = { List (List ℕ) };

@@ -10,8 +10,8 @@ use Rattle.array_shapes.specs.Values.{ValueView, seen}
 use Rattle.inliner.specs.declared.leaps.Leap.{Leap}
 use Rattle.inliner.specs.declared.machine.Binding.{Binding}
 use Rattle.inliner.specs.declared.machine.Machine.{Machine}
-use Rattle.revc_base.specs.declared.limits.TheConstants.{MOST_INPUTS}
-use Rattle.revc_base.specs.Tapes.{TapeView}
+use Rattle.revs_tape.specs.declared.limits.TheConstants.{MOST_INPUTS}
+use Rattle.revs_tape.specs.Tapes.{TapeView}
 use Rattle.revc_base.specs.declared.place.Place.{Place}
 use Rattle.revs_terms.specs.Runs.{no_bits}
 use Rattle.inliner.proofs.FaultLemmas.{goes_on}

@@ -3,10 +3,10 @@ use Rattle.std.proofs.Common.{◌≡◌, ℕ, zero, suc, ◌+◌, ◌-◌, ◌�
 use Rattle.std.proofs.Common.{◌++◌, length, map, sum, refl, sym, ap, ◌∙◌, subst, arith, length-append}
 use Rattle.std.specs.List.{AllByRecursion, list_all, range_with_len, fold}
 use Rattle.std.proofs.lemmas.List.FromFn.{length-map-range_with_len}
-use Rattle.revc_base.specs.declared.limits.TheConstants.{MOST_INPUTS}
-use Rattle.revc_base.specs.declared.tape.Ref.{Ref}
-use Rattle.revc_base.specs.declared.tape.Ref.TheVariants as refs
-use Rattle.revc_base.specs.Tapes.{AreWidths}
+use Rattle.revs_tape.specs.declared.limits.TheConstants.{MOST_INPUTS}
+use Rattle.revs_tape.specs.declared.tape.Ref.{Ref}
+use Rattle.revs_tape.specs.declared.tape.Ref.TheVariants as refs
+use Rattle.revs_tape.specs.Tapes.{AreWidths}
 use Rattle.revs_terms.specs.declared.program.Param.{Param}
 use Rattle.revs_terms.specs.Programs.{AreParams, width_of, widths_of}
 use Rattle.std.proofs.lemmas.Bool.Decides.{nat_tests}
@@ -17,7 +17,7 @@ use Rattle.revs_terms.specs.Runs.{inputs_from, nothings, from, params_in, param_
 use Rattle.array_shapes.specs.Values as values
 use Rattle.array_shapes.specs.Values.{ValueView, seen}
 use Rattle.inliner.specs.declared.machine.Binding.{Binding}
-use Rattle.revc_base.specs.Tapes.{TapeView}
+use Rattle.revs_tape.specs.Tapes.{TapeView}
 use Rattle.list_facts.proofs.AllLemmas.{AllByRecursion-weaker}
 use Rattle.inliner.specs.declared.machine.Machine.{Machine}
 use Rattle.inliner.proofs.WriteLemmas.{state_is}

@@ -5,15 +5,15 @@ use Rattle.std.specs.List.{AllByRecursion}
 use Rattle.std.proofs.lemmas.List.{map-set, length-set, map-append, length-map}
 use Rattle.std.proofs.lemmas.Bool.Decides.{nat_tests}
 use Rattle.revc_base.specs.declared.place.Place.{Place}
-use Rattle.revc_base.specs.declared.tape.Ref.{Ref}
-use Rattle.revc_base.specs.declared.tape.Ref.TheVariants as refs
-use Rattle.revc_base.specs.declared.tape.Entry.{Entry}
-use Rattle.revc_base.specs.declared.tape.Kind.{Kind}
-use Rattle.revc_base.specs.declared.tape.Kind.TheVariants as kinds
-use Rattle.revc_base.specs.declared.tape.Claim.{Claim}
-use Rattle.revc_base.specs.Tapes.{TapeView, IsKnown}
+use Rattle.revs_tape.specs.declared.tape.Ref.{Ref}
+use Rattle.revs_tape.specs.declared.tape.Ref.TheVariants as refs
+use Rattle.revs_tape.specs.declared.tape.Entry.{Entry}
+use Rattle.revs_tape.specs.declared.tape.Kind.{Kind}
+use Rattle.revs_tape.specs.declared.tape.Kind.TheVariants as kinds
+use Rattle.revs_tape.specs.declared.tape.Claim.{Claim}
+use Rattle.revs_tape.specs.Tapes.{TapeView, IsKnown}
 use Rattle.list_facts.proofs.AllLemmas.{AllByRecursion-push, AllByRecursion-set, AllByRecursion-weaker}
-use Rattle.revc_base.proofs.TapeLemmas.{IsKnown-later}
+use Rattle.revs_tape.proofs.TapeLemmas.{IsKnown-later}
 use Rattle.revs_terms.specs.Running.{Stamped, Met, went, read, unit, left_by, written, assigned, claim_on}
 use Rattle.revs_terms.specs.Runs.{no_bits}
 use Rattle.array_shapes.specs.declared.value.Value.TheVariants as variants

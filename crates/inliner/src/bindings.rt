@@ -1,5 +1,5 @@
 // Environments: values are bound, and found by how far out they were.
-ghost use Rattle.revc_base.specs.declared.limits.TheConstants.{MOST_INPUTS};
+ghost use Rattle.revs_tape.specs.declared.limits.TheConstants.{MOST_INPUTS};
 ghost use Rattle.std.specs.Prelude.{◌≡◌, ◌+◌, ◌≤◌, length, IfOk, IfErr};
 ghost use Rattle.revs_terms.specs.Running.{value_at};
 ghost use Rattle.revs_terms.specs.Terms.{place_of};

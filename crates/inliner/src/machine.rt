@@ -1,6 +1,6 @@
 // The machine that runs a program without bits.
 ghost use Rattle.std.specs.Prelude.{◌≡◌, length, sum, IfOk, OnOk, IfErr, IsErrOf};
-ghost use Rattle.revc_base.specs.Tapes.{IsKnown, IsKnownEntry};
+ghost use Rattle.revs_tape.specs.Tapes.{IsKnown, IsKnownEntry};
 ghost use Rattle.revs_terms.specs.Running.{went, worked, written, read};
 ghost use Rattle.revs_terms.specs.Runs.{no_bits};
 ghost use Rattle.revs_terms.specs.Terms.{place_of};
@@ -10,8 +10,9 @@ ghost use Rattle.inliner.specs.inside.Calls.{Says};
 use crate::RunFault;
 use crate::leaps::Leap;
 use array_shapes::Value;
-use revc_base::limits::MOST_WRITES;
-use revc_base::{Entry, Place, Ref, Tape};
+use revc_base::Place;
+use revs_tape::limits::MOST_WRITES;
+use revs_tape::{Entry, Ref, Tape};
 use revs_terms::limits::MOST_WORK;
 use revs_terms::{Cause, Term};
 use std::alloc::Global;

@@ -7,7 +7,7 @@ ghost use Rattle.inliner.specs.inside.Calls.{Says, entry_of, join_step};
 
 use crate::RunFault;
 use crate::machine::Machine;
-use revc_base::{Entry, Ref};
+use revs_tape::{Entry, Ref};
 use revs_terms::Term;
 
 /// The operator of a chain.

@@ -1,8 +1,8 @@
 // The run of a program.
 ghost use Rattle.std.specs.Prelude.{◌≡◌, ◌≤◌, length, sum, IfOk, IfErr};
 ghost use Rattle.std.specs.List.{AllByRecursion};
-ghost use Rattle.revc_base.specs.declared.limits.TheConstants.{MOST_OUTPUTS};
-ghost use Rattle.revc_base.specs.Tapes.{IsKnown};
+ghost use Rattle.revs_tape.specs.declared.limits.TheConstants.{MOST_OUTPUTS};
+ghost use Rattle.revs_tape.specs.Tapes.{IsKnown};
 ghost use Rattle.revs_terms.specs.declared.limits.TheConstants.{MOST_DEPTH};
 ghost use Rattle.revs_terms.specs.Runs.{no_bits, read_all, run_without_bits, IsTapeOf};
 ghost use Rattle.revs_terms.specs.Terms.{place_of};
@@ -17,8 +17,8 @@ use crate::machine::Machine;
 use crate::start::start;
 use array_shapes::Value;
 use name_scope::Scoped;
-use revc_base::limits::MOST_OUTPUTS;
-use revc_base::{Ref, Tape};
+use revs_tape::limits::MOST_OUTPUTS;
+use revs_tape::{Ref, Tape};
 use revs_terms::limits::MOST_DEPTH;
 use revs_terms::{Cause, Program, Term};
 use std::alloc::Global;

@@ -1,5 +1,5 @@
 // The machine before a program's body is run.
-ghost use Rattle.revc_base.specs.declared.limits.TheConstants.{MOST_INPUTS};
+ghost use Rattle.revs_tape.specs.declared.limits.TheConstants.{MOST_INPUTS};
 ghost use Rattle.std.specs.Prelude.{◌≡◌, ◌+◌, ◌-◌, ◌≤◌, [], length, map, Some, IfOk, IfErr};
 ghost use Rattle.std.specs.List.{range_with_len};
 ghost use Rattle.revs_terms.specs.Programs.{AreParams, width_of, widths_of};
@@ -11,7 +11,7 @@ use crate::RunFault;
 use crate::leaps::leap_from;
 use crate::machine::{Binding, Machine};
 use array_shapes::Value;
-use revc_base::{Ref, Tape};
+use revs_tape::{Ref, Tape};
 use revs_terms::Param;
 use std::alloc::Global;
 use std::rc::Rc;

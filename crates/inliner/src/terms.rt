@@ -1,5 +1,5 @@
 // Terms, run by their forms.
-ghost use Rattle.revc_base.specs.declared.limits.TheConstants.{MOST_INPUTS};
+ghost use Rattle.revs_tape.specs.declared.limits.TheConstants.{MOST_INPUTS};
 ghost use Rattle.std.specs.Prelude.{◌+◌, ◌≤◌, length, map, IfOk, OnOk, IfErr};
 ghost use Rattle.revs_terms.specs.Running.{run_of, term_of, bit_of, bits_of, block_of, apply_to};
 ghost use Rattle.revs_terms.specs.Running.{claimed};
@@ -16,7 +16,8 @@ use crate::RunFault;
 use crate::machine::Machine;
 use crate::operators::Operator;
 use array_shapes::{Value, bit};
-use revc_base::{Kind, Place};
+use revc_base::Place;
+use revs_tape::Kind;
 use revs_terms::{Cause, Item, Part, Term};
 
 impl<'t> Machine<'t> {

@@ -10,8 +10,9 @@ ghost use Rattle.inliner.specs.inside.Calls.{Says};
 use crate::RunFault;
 use crate::machine::Machine;
 use array_shapes::Value;
-use revc_base::limits::MOST_CLAIMS;
-use revc_base::{Claim, Entry, Kind, Place};
+use revc_base::Place;
+use revs_tape::limits::MOST_CLAIMS;
+use revs_tape::{Claim, Entry, Kind};
 use revs_terms::{Cause, Term};
 
 impl<'t> Machine<'t> {

@@ -12,7 +12,7 @@ use Rattle.gate_split.specs.declared.plan.PlanFault.{PlanFault}
 use Rattle.gate_split.specs.declared.plan.PlanFault.TheVariants.{Lines, Gates, Memory}
 use Rattle.gate_split.specs.Plans.{BudgetView, LaidView}
 use Rattle.held_nodes.specs.Held.{first_work}
-use Rattle.revc_base.specs.Levels.{IsLevels}
+use Rattle.revs_tape.specs.Levels.{IsLevels}
 use Rattle.gate_split.specs.declared.choice.How.TheVariants.{Pebble}
 use Rattle.plan_choice.specs.Choices.{Fit, FineFits, GatesAreFew, IsChoiceFault, IsLaidFor, LinesAreFew, PlainFits, PebblingFits}
 use Rattle.plan_choice.specs.inside.Tried.{IsSearchFault, NoLargerFits, is_refusal}

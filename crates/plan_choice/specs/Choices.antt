@@ -1,6 +1,6 @@
 -- Which budgets are enough for a choice of plans, and what is laid.
 use Rattle.std.specs.Prelude.{◌≡◌, ℕ, ◌^◌, ◌<◌, ◌≤◌, ◌⊎◌, ⊤, length}
-use Rattle.revc_base.specs.Levels.{IsLevels}
+use Rattle.revs_tape.specs.Levels.{IsLevels}
 use Rattle.claim_check.specs.Budgets.{Measures, plain_lines, plain_gates, fine_lines, fine_gates}
 use Rattle.claim_check.specs.Budgets.{block_lines, block_gates, eager_lines, eager_gates}
 use Rattle.claim_check.specs.Measures.{IsWithin}

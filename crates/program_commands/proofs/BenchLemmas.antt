@@ -13,7 +13,7 @@ use Rattle.program_commands.specs.Gen as gen
 use Rattle.program_commands.specs.inside.Plans.{IsPlannedFor}
 use Rattle.program_commands.proofs.CompileLemmas.{keeps_free, one_cause, planned_or_caused}
 use Rattle.program_gen.specs.Adder.{adder_text}
-use Rattle.revc_base.specs.Tapes.{TapeView}
+use Rattle.revs_tape.specs.Tapes.{TapeView}
 use Rattle.revc_words.specs.Words.{OrderView}
 
 pub gen_outcome : HasOneOutcome IsAnyFault gen.Gives gen.IsCause gen.Serves

@@ -1,7 +1,7 @@
 -- `compile` gives a file for a text, or has one exact cause, and serves each program whose claims hold and that keeps the budgets.
 use Rattle.std.proofs.Common.{◌≡◌, ℕ, List, sym, subst}
 use Rattle.claim_check.specs.Measures.{AreMeasuresOf}
-use Rattle.revc_base.specs.Tapes.{TapeView}
+use Rattle.revs_tape.specs.Tapes.{TapeView}
 use Rattle.command_answers.specs.declared.fault.Fault.{Fault}
 use Rattle.command_answers.specs.declared.fault.Fault.TheVariants as faults
 use Rattle.revc_words.specs.Words.{OrderView}

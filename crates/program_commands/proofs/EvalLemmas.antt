@@ -4,10 +4,10 @@ use Rattle.std.specs.List.{AllByRecursion}
 use Rattle.std.proofs.lemmas.List.{length-append, length-map}
 use Rattle.revc_base.specs.Bits.{IsDigit, IsFirstOther}
 use Rattle.revc_base.specs.declared.place.Place.{Place}
-use Rattle.revc_base.specs.declared.tape.Claim.{Claim}
-use Rattle.revc_base.specs.declared.running.TapeEnd.{TapeEnd}
-use Rattle.revc_base.specs.declared.running.TapeEnd.TheVariants as ends
-use Rattle.revc_base.specs.Tapes.{TapeView, IsEndOf, IsFirstBroken, Holds}
+use Rattle.revs_tape.specs.declared.tape.Claim.{Claim}
+use Rattle.revs_tape.specs.declared.running.TapeEnd.{TapeEnd}
+use Rattle.revs_tape.specs.declared.running.TapeEnd.TheVariants as ends
+use Rattle.revs_tape.specs.Tapes.{TapeView, IsEndOf, IsFirstBroken, Holds}
 use Rattle.command_answers.specs.declared.fault.Fault.{Fault}
 use Rattle.command_answers.specs.declared.fault.Fault.TheVariants as faults
 use Rattle.command_answers.specs.declared.fault.Refusal.{Refusal}

@@ -14,7 +14,7 @@ use Rattle.revs_grammar.proofs.SpellingLemmas.{body_kept}
 use Rattle.name_scope.proofs.KeepsLemmas.{Keeps, keeps}
 use Rattle.name_scope.proofs.NearerLemmas.{nearer-length}
 use Rattle.revs_parser.specs.WellFormed.{IsWellFormed}
-use Rattle.revc_base.specs.Tapes.{TapeView}
+use Rattle.revs_tape.specs.Tapes.{TapeView}
 use Rattle.revs_terms.specs.Programs.{AreParams, widths_of}
 use Rattle.revs_terms.specs.Running.{Stamped, State, Outcome, stuck, went}
 use Rattle.revs_terms.specs.Runs.{IsInput, IsTapeOf, EndsOnAll, IsStuck, run_of_program, run_without_bits, tape_of}

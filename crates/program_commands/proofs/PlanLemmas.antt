@@ -17,7 +17,7 @@ use Rattle.real_format.proofs.MeaningLemmas as real
 use Rattle.program_commands.specs.Outcomes.{IsCompileFault, IsSettlingFault, IsWritable, file_of}
 use Rattle.revc_words.specs.declared.order.Format.{Format}
 use Rattle.revc_words.specs.declared.order.Format.TheVariants.{Real, Qasm}
-use Rattle.revc_base.specs.Tapes.{TapeView, bit_on, outputs_on}
+use Rattle.revs_tape.specs.Tapes.{TapeView, bit_on, outputs_on}
 use Rattle.revc_words.specs.Words.{OrderView, IsWithinLimits}
 use Rattle.revs_parser.proofs.OneTextLemmas.{one_formed}
 use Rattle.revs_terms.specs.Runs.{IsInput}

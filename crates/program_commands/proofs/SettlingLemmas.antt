@@ -5,8 +5,8 @@ use Rattle.std.proofs.lemmas.Option.{same_Some, get_or_from_slice_get}
 use Rattle.claim_check.specs.Claims.{HoldWithin, BreaksOn, PassesAt}
 use Rattle.claim_check.proofs.OneWayLemmas.{claims_end_in_one_way}
 use Rattle.revc_base.specs.declared.place.Place.{Place}
-use Rattle.revc_base.specs.declared.tape.Claim.{Claim}
-use Rattle.revc_base.specs.Tapes.{TapeView}
+use Rattle.revs_tape.specs.declared.tape.Claim.{Claim}
+use Rattle.revs_tape.specs.Tapes.{TapeView}
 use Rattle.revs_parser.proofs.OneTextLemmas.{one_formed}
 use Rattle.revs_terms.proofs.TapeLemmas.{one_tape_at_most}
 use Rattle.revs_terms.specs.Runs.{IsTapeOf}

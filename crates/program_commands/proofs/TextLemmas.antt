@@ -29,7 +29,7 @@ use Rattle.revs_terms.specs.declared.program.Param.{Param}
 use Rattle.revs_parser.specs.WellFormed.{IsProgramText, IsWellFormed}
 use Rattle.revs_terms.specs.Runs.{IsTapeOf}
 use Rattle.revs_terms.proofs.TapeLemmas.{tape_ends}
-use Rattle.revc_base.specs.Tapes.{TapeView}
+use Rattle.revs_tape.specs.Tapes.{TapeView}
 use Rattle.program_commands.specs.Outcomes.{IsCompileFault, IsEvalFault, IsSettlingFault}
 use Rattle.program_commands.specs.Settling.{LeavesTape}
 use Rattle.program_commands.specs.inside.Plans.{ForTexts, ForTextsOf, IsRunFault, IsTextFault, IsBoundAs}

@@ -11,8 +11,8 @@ use Rattle.program_commands.specs.Clean.{IsCleanCircuit}
 use Rattle.program_commands.specs.Compile as compile
 use Rattle.program_commands.specs.Settling.{LeavesSettled}
 use Rattle.program_gen.specs.Adder.{adder_text}
-use Rattle.revc_base.specs.Measures.{HasWidth, inputs_of, outputs_of, writes_of}
-use Rattle.revc_base.specs.Tapes.{TapeView}
+use Rattle.revs_tape.specs.Measures.{HasWidth, inputs_of, outputs_of, writes_of}
+use Rattle.revs_tape.specs.Tapes.{TapeView}
 use Rattle.revc_words.specs.Words.{OrderView}
 use Rattle.revs_parser.specs.WellFormed.{IsWellFormed}
 use Rattle.revs_terms.specs.Views.{ProgramView}

@@ -1,7 +1,7 @@
 -- `check`: how many claims a program has, each of which holds on all inputs.
 use Rattle.std.specs.Prelude.{◌≡◌, ℕ, List, ◌++◌, length, codes}
 use Rattle.std.specs.Fmt.{decimal}
-use Rattle.revc_base.specs.Tapes.{TapeView}
+use Rattle.revs_tape.specs.Tapes.{TapeView}
 use Rattle.revc_words.specs.Words.{OrderView}
 use Rattle.command_answers.specs.declared.fault.Fault.{Fault}
 use Rattle.program_commands.specs.Settling.{LeavesSettled, StopsSettling}

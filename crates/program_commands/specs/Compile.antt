@@ -4,8 +4,8 @@ use Rattle.claim_check.specs.Budgets.{Measures}
 use Rattle.claim_check.specs.Measures.{AreMeasuresOf}
 use Rattle.gate_split.specs.Plans.{BudgetView, lines_in}
 use Rattle.plan_choice.specs.Choices.{HasFewLines, HasFewGates, SomeRowFits}
-use Rattle.revc_base.specs.Measures.{inputs_of, outputs_of}
-use Rattle.revc_base.specs.Tapes.{TapeView}
+use Rattle.revs_tape.specs.Measures.{inputs_of, outputs_of}
+use Rattle.revs_tape.specs.Tapes.{TapeView}
 use Rattle.revc_words.specs.Words.{OrderView}
 use Rattle.revs_parser.specs.WellFormed.{IsWellFormed}
 use Rattle.revs_terms.specs.Views.{ProgramView}

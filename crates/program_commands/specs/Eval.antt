@@ -1,7 +1,7 @@
 -- `eval`: the bits that a program gives on the bits of a word.
 use Rattle.std.specs.Prelude.{◌≡◌, ℕ, ◌+◌, Bool, List, sum}
 use Rattle.std.specs.List.{AllByRecursion}
-use Rattle.revc_base.specs.Tapes.{TapeView, Holds, IsFirstBroken}
+use Rattle.revs_tape.specs.Tapes.{TapeView, Holds, IsFirstBroken}
 use Rattle.revc_base.specs.declared.place.Place.{Place}
 use Rattle.revs_parser.specs.WellFormed.{IsWellFormed}
 use Rattle.revs_terms.specs.Programs.{widths_of}

@@ -2,7 +2,7 @@
 use Rattle.std.specs.Prelude.{◌≡◌, ℕ, ◌+◌, Bool, List}
 use Rattle.claim_check.specs.Claims.{HoldWithin, BreaksOn, PassesAt}
 use Rattle.revc_base.specs.declared.place.Place.{Place}
-use Rattle.revc_base.specs.Tapes.{TapeView}
+use Rattle.revs_tape.specs.Tapes.{TapeView}
 use Rattle.revs_parser.specs.WellFormed.{IsWellFormed}
 use Rattle.revs_terms.specs.Runs.{IsTapeOf}
 use Rattle.revs_terms.specs.Views.{ProgramView}

@@ -16,9 +16,9 @@ use crate::program::tape_of_text;
 use command_answers::{Fault, write_numbers};
 use gate_split::Laid;
 use program_gen::program_text;
-use revc_base::Tape;
 use revc_io::{Failed, Sink};
 use revc_words::Order;
+use revs_tape::Tape;
 use std::alloc::Global;
 
 /// The sizes of a program's tape, and of its compiled circuit: how many inputs, outputs and writes

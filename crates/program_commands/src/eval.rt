@@ -11,8 +11,9 @@ ghost use Rattle.program_commands.specs.inside.Plans.{ForTexts, IsBitsFault};
 use crate::program::tape_of_text;
 use crate::settling::broken_claim;
 use command_answers::Fault;
-use revc_base::{Bits, BitsFault, Tape, TapeEnd};
+use revc_base::{Bits, BitsFault};
 use revs_parser::MOST_BYTES;
+use revs_tape::{Tape, TapeEnd};
 use std::alloc::Global;
 
 /// What `eval` gives, its causes and where it serves exclude one another, and it has one cause at

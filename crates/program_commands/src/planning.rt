@@ -11,8 +11,8 @@ use claim_check::Settled;
 use command_answers::Fault;
 use gate_split::{Budget, Laid, PlanFault};
 use plan_choice::choose;
-use revc_base::Tape;
 use revc_words::Order;
+use revs_tape::Tape;
 use std::alloc::Global;
 
 /// The first plan of a tape that fits the budgets of an order, a clean circuit of each text that

@@ -12,9 +12,10 @@ ghost use Rattle.program_commands.specs.Settling.{LeavesTape};
 use command_answers::{Fault, FaultKind, Refusal};
 use inliner::{RunFault, unroll};
 use name_scope::{ScopeFault, Scoped, scope};
-use revc_base::{Place, Tape};
+use revc_base::Place;
 use revs_lexer::{LexFault, tokens};
 use revs_parser::{MOST_BYTES, ParseFault, parse};
+use revs_tape::Tape;
 use revs_terms::Program;
 use std::alloc::Global;
 

@@ -8,7 +8,8 @@ ghost use Rattle.program_commands.specs.inside.Plans.{ForTexts, IsSettledWithin}
 use claim_check::{ClaimFault, Settled, settle};
 use command_answers::Fault;
 use dependency_graph::Graph;
-use revc_base::{Bits, Place, Tape};
+use revc_base::{Bits, Place};
+use revs_tape::Tape;
 
 /// The settled graph of a tape, whose claims hold on all inputs. A fault is exactly a claim that
 /// stops each text that leaves the tape, or want of memory.

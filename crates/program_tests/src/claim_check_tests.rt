@@ -1,11 +1,12 @@
 // The tests of claim_check.
 ghost use Rattle.std.specs.Prelude.{IsTrue, ◌≤◌};
-ghost use Rattle.revc_base.specs.Tapes.{AreWidths, IsKnown, IsKnownEntry};
+ghost use Rattle.revs_tape.specs.Tapes.{AreWidths, IsKnown, IsKnownEntry};
 
 use claim_check::{ClaimFault, Settled, settle};
 use dependency_graph::{Base, Graph, Node, Sig};
-use revc_base::limits::{MOST_CLAIMS, MOST_WRITES};
-use revc_base::{Claim, Entry, Kind, Memory, Place, Ref, Tape};
+use revc_base::{Memory, Place};
+use revs_tape::limits::{MOST_CLAIMS, MOST_WRITES};
+use revs_tape::{Claim, Entry, Kind, Ref, Tape};
 use std::alloc::Global;
 use std::process::Abort;
 use std::test::Fail;

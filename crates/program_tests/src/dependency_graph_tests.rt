@@ -1,10 +1,11 @@
 // The tests of dependency_graph.
 ghost use Rattle.std.specs.Prelude.{◌≡◌, length, sum, IfOk, OnOk};
-ghost use Rattle.revc_base.specs.Measures.{writes_of};
+ghost use Rattle.revs_tape.specs.Measures.{writes_of};
 
 use crate::claim_check_tests::push_all;
 use dependency_graph::{Base, Graph, Node, Sig};
-use revc_base::{Entry, Memory, Ref, Tape};
+use revc_base::Memory;
+use revs_tape::{Entry, Ref, Tape};
 use std::alloc::Global;
 use std::process::Abort;
 use std::test::Fail;

@@ -5,7 +5,8 @@ ghost use Rattle.std.specs.Prelude.{[]};
 
 use inliner::unroll;
 use name_scope::{Scoped, scope};
-use revc_base::{Entry, Place, Ref, Tape};
+use revc_base::Place;
+use revs_tape::{Entry, Ref, Tape};
 use revs_terms::{Program, Term};
 use std::alloc::Global;
 use std::test::Fail;

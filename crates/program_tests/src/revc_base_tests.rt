@@ -1,8 +1,9 @@
 // The tests of revc_base.
 ghost use Rattle.std.specs.Prelude.{◌≡◌, sum, [], IfOk, OnOk};
-ghost use Rattle.revc_base.specs.Measures.{writes_of};
+ghost use Rattle.revs_tape.specs.Measures.{writes_of};
 
-use revc_base::{Bits, BitsFault, Claim, Entry, Kind, Memory, Place, Ref, Tape, TapeEnd, Text};
+use revc_base::{Bits, BitsFault, Memory, Place, Text};
+use revs_tape::{Claim, Entry, Kind, Ref, Tape, TapeEnd};
 use std::alloc::Global;
 use std::hash::{DefaultHasher, Hash, Hasher};
 use std::process::Abort;

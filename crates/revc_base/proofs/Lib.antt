@@ -1,14 +1,2 @@
-pub mod AlignmentLemmas
-pub mod ClaimFunctionLemmas
-pub mod ClaimLemmas
-pub mod LevelLemmas
-pub mod MonomialLemmas
-pub mod PolynomialLemmas
-pub mod ProductLemmas
 pub mod ResultLemmas
-pub mod RunLemmas
-pub mod SumLemmas
-pub mod TapeLemmas
-pub mod VariableOrderLemmas
-pub mod WidthLemmas
 pub mod WordLemmas

@@ -1,11 +1,1 @@
 pub mod Bits
-pub mod ClaimFunctions
-pub mod Claims
-pub mod Cuts
-pub mod Levels
-pub mod Measures
-pub mod Monomials
-pub mod Polynomials
-pub mod Tapes
-pub mod VariableOrders
-pub mod inside

@@ -9,7 +9,7 @@ use Rattle.std.proofs.lemmas.List.Sums.{sum_by-append}
 use Rattle.std.proofs.lemmas.List.Folds.{list_all-append}
 use Rattle.std.proofs.lemmas.Bool.Decides.{nat_tests}
 use Rattle.revc_base.specs.declared.place.Place.{Place}
-use Rattle.revc_base.specs.declared.limits.TheConstants.{MOST_INPUTS}
+use Rattle.revs_tape.specs.declared.limits.TheConstants.{MOST_INPUTS}
 use Rattle.revs_lexer.specs.declared.sign.Sign.TheVariants as signs
 use Rattle.revs_lexer.specs.declared.word.Word.TheVariants as words
 use Rattle.revs_lexer.specs.declared.token.Tok.{Tok}

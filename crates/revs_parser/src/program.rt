@@ -22,8 +22,8 @@ use crate::expression::expression;
 use crate::leaf::{after, after_word, bool_word, expect, name, number};
 use crate::stop::Stop;
 use revc_base::Place;
-use revc_base::limits::MOST_INPUTS;
 use revs_lexer::{Sign, Tok, Token, Word};
+use revs_tape::limits::MOST_INPUTS;
 use revs_terms::{Param, Program, Term};
 use std::alloc::Global;
 

@@ -7,15 +7,15 @@ use Rattle.std.specs.Bool.{xor}
 use Rattle.std.proofs.lemmas.List.{length-append}
 use Rattle.std.proofs.lemmas.Bool.{leb-true}
 use Rattle.revc_base.specs.declared.place.Place.{Place}
-use Rattle.revc_base.specs.declared.tape.Ref.{Ref}
-use Rattle.revc_base.specs.declared.tape.Ref.TheVariants as refs
-use Rattle.revc_base.specs.declared.tape.Entry.{Entry}
-use Rattle.revc_base.specs.declared.tape.Entry.TheVariants as entries
-use Rattle.revc_base.specs.declared.tape.Kind.{Kind}
-use Rattle.revc_base.specs.declared.tape.Kind.TheVariants as kinds
-use Rattle.revc_base.specs.declared.tape.Claim.{Claim}
-use Rattle.revc_base.specs.Tapes.{bit_at, entry_bit, written_by, IsKnown, IsKnownEntry, AreKnown}
-use Rattle.revc_base.proofs.TapeLemmas.{IsKnown-later, AreKnown-push}
+use Rattle.revs_tape.specs.declared.tape.Ref.{Ref}
+use Rattle.revs_tape.specs.declared.tape.Ref.TheVariants as refs
+use Rattle.revs_tape.specs.declared.tape.Entry.{Entry}
+use Rattle.revs_tape.specs.declared.tape.Entry.TheVariants as entries
+use Rattle.revs_tape.specs.declared.tape.Kind.{Kind}
+use Rattle.revs_tape.specs.declared.tape.Kind.TheVariants as kinds
+use Rattle.revs_tape.specs.declared.tape.Claim.{Claim}
+use Rattle.revs_tape.specs.Tapes.{bit_at, entry_bit, written_by, IsKnown, IsKnownEntry, AreKnown}
+use Rattle.revs_tape.proofs.TapeLemmas.{IsKnown-later, AreKnown-push}
 use Rattle.revs_terms.specs.declared.term.Part.{Part}
 use Rattle.revs_terms.specs.declared.term.Part.TheVariants as part
 use Rattle.revs_terms.specs.Trees.{Tree, ItemTree, list_of, items_of, used, bool, reg, block, function, parts, apply, append, rotate, clean, assert, ands, xors}

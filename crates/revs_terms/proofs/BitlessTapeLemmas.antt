@@ -5,10 +5,10 @@ use Rattle.std.specs.List.{AllByRecursion, list_all}
 use Rattle.std.proofs.lemmas.Bool.{leb-true}
 use Rattle.std.proofs.lemmas.List.{get_or_at, length-append, length-map, length-replicate}
 use Rattle.revc_base.specs.declared.place.Place.{Place}
-use Rattle.revc_base.specs.declared.tape.Ref.{Ref}
-use Rattle.revc_base.specs.declared.tape.Entry.{Entry}
-use Rattle.revc_base.specs.declared.tape.Claim.{Claim}
-use Rattle.revc_base.specs.Tapes.{IsTape, bit_of, bit_at, bit_on, written_by, IsKnown, AreKnown}
+use Rattle.revs_tape.specs.declared.tape.Ref.{Ref}
+use Rattle.revs_tape.specs.declared.tape.Entry.{Entry}
+use Rattle.revs_tape.specs.declared.tape.Claim.{Claim}
+use Rattle.revs_tape.specs.Tapes.{IsTape, bit_of, bit_at, bit_on, written_by, IsKnown, AreKnown}
 use Rattle.revs_terms.specs.declared.program.Param.{Param}
 use Rattle.revs_terms.specs.Programs.{widths_of, AreParams}
 use Rattle.revs_terms.specs.Trees.{Tree}

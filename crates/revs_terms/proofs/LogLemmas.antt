@@ -1,10 +1,10 @@
 -- The bits of references stay as the log grows.
 use Rattle.std.proofs.Common.{◌≡◌, ℕ, ◌+◌, Bool, false, List, [], ◌∷◌, ◌++◌, length, refl, ap, ◌∙◌, arith}
 use Rattle.std.proofs.lemmas.List.{get_or_append_left, get_or_at, length-append}
-use Rattle.revc_base.specs.declared.tape.Ref.{Ref}
-use Rattle.revc_base.specs.declared.tape.Ref.TheVariants as refs
-use Rattle.revc_base.specs.declared.tape.Entry.{Entry}
-use Rattle.revc_base.specs.Tapes.{bit_of, bit_at, entry_bit, written_by, IsKnown}
+use Rattle.revs_tape.specs.declared.tape.Ref.{Ref}
+use Rattle.revs_tape.specs.declared.tape.Ref.TheVariants as refs
+use Rattle.revs_tape.specs.declared.tape.Entry.{Entry}
+use Rattle.revs_tape.specs.Tapes.{bit_of, bit_at, entry_bit, written_by, IsKnown}
 
 pub length-written_by : (input written : List Bool) (es : List Entry) → length (written_by input written es) ≡ length written + length es
 length-written_by input written [] = omega arith

@@ -6,10 +6,10 @@ use Rattle.std.specs.List.{AllByRecursion, list_all}
 use Rattle.std.proofs.lemmas.Bool.{leb-true}
 use Rattle.std.proofs.lemmas.List.{length-append, length-take, length-drop}
 use Rattle.revc_base.specs.declared.place.Place.{Place}
-use Rattle.revc_base.specs.declared.tape.Ref.{Ref}
-use Rattle.revc_base.specs.declared.tape.Entry.{Entry}
-use Rattle.revc_base.specs.declared.tape.Kind.{Kind}
-use Rattle.revc_base.specs.declared.tape.Kind.TheVariants as kinds
+use Rattle.revs_tape.specs.declared.tape.Ref.{Ref}
+use Rattle.revs_tape.specs.declared.tape.Entry.{Entry}
+use Rattle.revs_tape.specs.declared.tape.Kind.{Kind}
+use Rattle.revs_tape.specs.declared.tape.Kind.TheVariants as kinds
 use Rattle.revs_terms.specs.declared.program.Param.{Param}
 use Rattle.revs_terms.specs.declared.term.Part.{Part}
 use Rattle.revs_terms.specs.declared.term.Part.TheVariants as part

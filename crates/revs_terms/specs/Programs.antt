@@ -1,7 +1,7 @@
 -- What a program keeps.
 use Rattle.std.specs.Prelude.{ℕ, ◌+◌, ◌<◌, ◌≤◌, ◌^◌, leb, Option, Some, None, List, length, map, sum, IsTrue}
 use Rattle.std.specs.List.{list_all}
-use Rattle.revc_base.specs.declared.limits.TheConstants.{MOST_INPUTS}
+use Rattle.revs_tape.specs.declared.limits.TheConstants.{MOST_INPUTS}
 use Rattle.revs_terms.specs.declared.limits.TheConstants.{MOST_LEVELS}
 use Rattle.revs_terms.specs.Terms.{is_formed, levels_of, names_of}
 use Rattle.revs_terms.specs.declared.program.Param.{Param}

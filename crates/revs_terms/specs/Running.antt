@@ -3,15 +3,15 @@
 -- It is written once for every type of bits that has constants, an XOR and an AND: no case asks for a bit.
 use Rattle.std.specs.Prelude.{ℕ, zero, suc, ◌+◌, ◌-◌, leb, Bool, true, false, ◌&&◌, Option, Some, None, List, [], ◌∷◌, ◌++◌, length, take, drop, slice_get}
 use Rattle.std.specs.Prelude.{slice_set}
-use Rattle.revc_base.specs.declared.limits.TheConstants.{MOST_WRITES, MOST_CLAIMS}
+use Rattle.revs_tape.specs.declared.limits.TheConstants.{MOST_WRITES, MOST_CLAIMS}
 use Rattle.revc_base.specs.declared.place.Place.{Place}
-use Rattle.revc_base.specs.declared.tape.Ref.{Ref}
-use Rattle.revc_base.specs.declared.tape.Ref.TheVariants as refs
-use Rattle.revc_base.specs.declared.tape.Entry.{Entry}
-use Rattle.revc_base.specs.declared.tape.Entry.TheVariants as entries
-use Rattle.revc_base.specs.declared.tape.Kind.{Kind}
-use Rattle.revc_base.specs.declared.tape.Kind.TheVariants as kinds
-use Rattle.revc_base.specs.declared.tape.Claim.{Claim}
+use Rattle.revs_tape.specs.declared.tape.Ref.{Ref}
+use Rattle.revs_tape.specs.declared.tape.Ref.TheVariants as refs
+use Rattle.revs_tape.specs.declared.tape.Entry.{Entry}
+use Rattle.revs_tape.specs.declared.tape.Entry.TheVariants as entries
+use Rattle.revs_tape.specs.declared.tape.Kind.{Kind}
+use Rattle.revs_tape.specs.declared.tape.Kind.TheVariants as kinds
+use Rattle.revs_tape.specs.declared.tape.Claim.{Claim}
 use Rattle.revs_terms.specs.declared.cause.Cause.{Cause}
 use Rattle.revs_terms.specs.declared.cause.Cause.TheVariants as causes
 use Rattle.revs_terms.specs.declared.limits.TheConstants.{MOST_PLACES, MOST_WORK}

@@ -1,10 +1,10 @@
 -- The run of a program on an input, and the tape that it leaves.
 use Rattle.std.specs.Prelude.{◌≡◌, ℕ, zero, suc, ◌+◌, ◌≤◌, leb, IsTrue, Bool, ◌&&◌, Option, Some, None, List, [], ◌∷◌, length, map, sum}
 use Rattle.std.specs.Bool.{xor}
-use Rattle.revc_base.specs.declared.limits.TheConstants.{MOST_OUTPUTS}
+use Rattle.revs_tape.specs.declared.limits.TheConstants.{MOST_OUTPUTS}
 use Rattle.revc_base.specs.declared.place.Place.{Place}
-use Rattle.revc_base.specs.declared.tape.Ref.TheVariants as refs
-use Rattle.revc_base.specs.Tapes.{TapeView, IsTape, bit_on, outputs_on}
+use Rattle.revs_tape.specs.declared.tape.Ref.TheVariants as refs
+use Rattle.revs_tape.specs.Tapes.{TapeView, IsTape, bit_on, outputs_on}
 use Rattle.revs_terms.specs.declared.limits.TheConstants.{MOST_DEPTH}
 use Rattle.revs_terms.specs.declared.program.Param.{Param}
 use Rattle.revs_terms.specs.Programs.{width_of, widths_of, AreParams}

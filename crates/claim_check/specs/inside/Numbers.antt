@@ -1,11 +1,11 @@
 -- The numbers of inputs and writes in a diagram, in a table with a slot for each.
 use Rattle.std.specs.Prelude.{◌≡◌, ℕ, ◌+◌, ◌<◌, ◌≤◌, ◌⊎◌, List, length, slice_index, map}
 use Rattle.std.specs.Prelude.{not, Bool, Result, IfOk, IfErr}
-use Rattle.revc_base.specs.declared.tape.Ref.{Ref}
-use Rattle.revc_base.specs.ClaimFunctions.{HasAtMost, HasMore}
-use Rattle.revc_base.specs.Measures.{inputs_of}
-use Rattle.revc_base.specs.Tapes.{TapeView}
-use Rattle.revc_base.specs.VariableOrders.{variable_order}
+use Rattle.revs_tape.specs.declared.tape.Ref.{Ref}
+use Rattle.revs_tape.specs.ClaimFunctions.{HasAtMost, HasMore}
+use Rattle.revs_tape.specs.Measures.{inputs_of}
+use Rattle.revs_tape.specs.Tapes.{TapeView}
+use Rattle.revs_tape.specs.VariableOrders.{variable_order}
 use Rattle.decision_diagram.specs.declared.node.DdFault.{DdFault}
 use Rattle.decision_diagram.specs.declared.node.DdFault.TheVariants as faults
 use Rattle.decision_diagram.specs.Diagrams.{DiagramView, IsCanonical, Triple}

@@ -1,5 +1,5 @@
 -- What is promised of the kept part of a tape's graph.
-use Rattle.revc_base.specs.Tapes.{TapeView}
+use Rattle.revs_tape.specs.Tapes.{TapeView}
 use Rattle.dependency_graph.specs.Graphs.{GraphView}
 use Rattle.claim_check.specs.Kept.{IsKeptPart}
 use Rattle.claim_check.specs.Measures.{IsNoLarger}

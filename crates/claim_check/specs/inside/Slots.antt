@@ -1,9 +1,9 @@
 -- Tables with a slot for each input and each write of a tape.
 use Rattle.std.specs.Prelude.{ℕ, ◌+◌}
-use Rattle.revc_base.specs.declared.tape.Ref.{Ref}
-use Rattle.revc_base.specs.declared.tape.Ref.TheVariants as refs
-use Rattle.revc_base.specs.Measures.{inputs_of, writes_of}
-use Rattle.revc_base.specs.Tapes.{TapeView, IsKnown}
+use Rattle.revs_tape.specs.declared.tape.Ref.{Ref}
+use Rattle.revs_tape.specs.declared.tape.Ref.TheVariants as refs
+use Rattle.revs_tape.specs.Measures.{inputs_of, writes_of}
+use Rattle.revs_tape.specs.Tapes.{TapeView, IsKnown}
 
 -- the slot of an input or a write, where the inputs are so many: the writes stand behind them
 abbrev pub slot_of : ℕ → Ref → ℕ

@@ -2,11 +2,11 @@
 use Rattle.std.specs.Prelude.{◌≡◌, ℕ, ◌≤◌, Bool, List, map}
 use Rattle.list_facts.specs.Bits.{zeros}
 use Rattle.list_facts.specs.Lists.{below}
-use Rattle.revc_base.specs.declared.tape.Ref.{Ref}
-use Rattle.revc_base.specs.ClaimFunctions.{IsBase, IsMember, Restriction, value_on, with_fixed}
-use Rattle.revc_base.specs.Measures.{inputs_of}
-use Rattle.revc_base.specs.Tapes.{TapeView, bit_on}
-use Rattle.revc_base.specs.VariableOrders.{variable_order}
+use Rattle.revs_tape.specs.declared.tape.Ref.{Ref}
+use Rattle.revs_tape.specs.ClaimFunctions.{IsBase, IsMember, Restriction, value_on, with_fixed}
+use Rattle.revs_tape.specs.Measures.{inputs_of}
+use Rattle.revs_tape.specs.Tapes.{TapeView, bit_on}
+use Rattle.revs_tape.specs.VariableOrders.{variable_order}
 use Rattle.decision_diagram.specs.Diagrams.{DiagramView, IsCanonical, IsNumber, Triple, function_of}
 use Rattle.decision_diagram.specs.Functions.{AreSame, Assignment, Function}
 use Rattle.decision_diagram.specs.Growth.{StandsFor}

@@ -10,8 +10,8 @@ use Rattle.dependency_graph.specs.declared.node.Node.{Node}
 use Rattle.dependency_graph.specs.declared.node.Node.TheVariants.{Not, Xor, And}
 use Rattle.dependency_graph.specs.Uses.{last_use_in}
 use Rattle.exclusive_sums.specs.Limits.{IsPolynomialUpTo}
-use Rattle.revc_base.specs.Monomials.{AreMonomialsOf}
-use Rattle.revc_base.specs.Polynomials.{value_of_polynomial}
+use Rattle.revs_tape.specs.Monomials.{AreMonomialsOf}
+use Rattle.revs_tape.specs.Polynomials.{value_of_polynomial}
 
 -- ---- values
 

@@ -1,10 +1,10 @@
 -- What the calls of the machine do to the run, beside the steps of the language.
 use Rattle.std.specs.Prelude.{◌≡◌, ℕ, None, List, ⊤}
 use Rattle.revc_base.specs.declared.place.Place.{Place}
-use Rattle.revc_base.specs.declared.tape.Ref.{Ref}
-use Rattle.revc_base.specs.declared.tape.Entry.{Entry}
-use Rattle.revc_base.specs.declared.tape.Entry.TheVariants as entries
-use Rattle.revc_base.specs.Tapes.{TapeView}
+use Rattle.revs_tape.specs.declared.tape.Ref.{Ref}
+use Rattle.revs_tape.specs.declared.tape.Entry.{Entry}
+use Rattle.revs_tape.specs.declared.tape.Entry.TheVariants as entries
+use Rattle.revs_tape.specs.Tapes.{TapeView}
 use Rattle.revs_terms.specs.declared.cause.Cause.TheVariants as causes
 use Rattle.revs_terms.specs.declared.program.Param.{Param}
 use Rattle.revs_terms.specs.Trees.{Tree, ItemTree, bind, run, ands, xors, trees}

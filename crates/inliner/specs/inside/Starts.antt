@@ -1,9 +1,9 @@
 -- The machine before a program's body is run, and its end.
 use Rattle.std.specs.Prelude.{◌≡◌, ℕ, ◌≤◌, Option, Some, None, List, [], length, map, sum, ⊤}
 use Rattle.std.specs.List.{AllByRecursion}
-use Rattle.revc_base.specs.declared.limits.TheConstants.{MOST_INPUTS, MOST_OUTPUTS}
-use Rattle.revc_base.specs.declared.tape.Ref.{Ref}
-use Rattle.revc_base.specs.Tapes.{IsKnown}
+use Rattle.revs_tape.specs.declared.limits.TheConstants.{MOST_INPUTS, MOST_OUTPUTS}
+use Rattle.revs_tape.specs.declared.tape.Ref.{Ref}
+use Rattle.revs_tape.specs.Tapes.{IsKnown}
 use Rattle.revs_terms.specs.declared.program.Param.{Param}
 use Rattle.revs_terms.specs.Programs.{widths_of}
 use Rattle.revc_base.specs.declared.place.Place.{Place}

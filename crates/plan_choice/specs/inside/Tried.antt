@@ -10,7 +10,7 @@ use Rattle.gate_split.specs.Costs.{most_gates}
 use Rattle.gate_split.specs.Plans.{BudgetView, PlannedView, LaidView, MapsCleanly, roles_of}
 use Rattle.held_nodes.specs.Moves.{roles_of_plan}
 use Rattle.mct_circuit.specs.Gates.{GateView}
-use Rattle.revc_base.specs.Levels.{IsLevels}
+use Rattle.revs_tape.specs.Levels.{IsLevels}
 use Rattle.plan_choice.specs.Choices.{Fit, PlainFits}
 
 -- whether there is no plan though memory was not wanting

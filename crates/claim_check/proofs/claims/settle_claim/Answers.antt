@@ -1,5 +1,5 @@
 use Rattle.std.proofs.Common.{Option, List, Bool, MatchOption, subst}
-use Rattle.revc_base.specs.Claims.{HoldsEverywhere, IsLeastBreaking}
+use Rattle.revs_tape.specs.Claims.{HoldsEverywhere, IsLeastBreaking}
 use Rattle.claim_check.proofs.MemberLemmas.{more_claims}
 use Rattle.claim_check.proofs.OutcomeLemmas.{broken, claim_numbered, settled_more}
 use Rattle.revc_base.proofs.ResultLemmas.{no_promise}

@@ -2,7 +2,7 @@ use Rattle.std.proofs.Common.{rules, arith, ◌≡◌, length, map, replicate, f
 use Rattle.std.specs.List.{flat_map}
 use Rattle.list_facts.specs.Bits.{bit_of}
 use Rattle.list_facts.specs.Lists.{below}
-use Rattle.revc_base.specs.Measures.{inputs_of}
+use Rattle.revs_tape.specs.Measures.{inputs_of}
 use Rattle.dependency_graph.specs.Graphs.{GraphView, IsGraph, base_of}
 use Rattle.dependency_graph.proofs.FoldLemmas.{graph_is}
 use Rattle.claim_check.specs.Settled.{SettledView}

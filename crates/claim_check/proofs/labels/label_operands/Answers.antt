@@ -1,5 +1,5 @@
 use Rattle.std.proofs.Common.{◌≡◌, ◌+◌, ◌-◌, ◌<◌, length, subst, arith, ℕ, get_or, refl}
-use Rattle.revc_base.specs.Measures.{inputs_of}
+use Rattle.revs_tape.specs.Measures.{inputs_of}
 use Rattle.claim_check.specs.inside.Labels.{ArePassedOn}
 use Rattle.claim_check.proofs.LabelLemmas.{write_passed, operands_have_slots}
 use Rattle.claim_check.proofs.labels.label_operands.Goals as goal

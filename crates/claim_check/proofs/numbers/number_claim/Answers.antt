@@ -1,6 +1,6 @@
 use Rattle.std.proofs.Common.{◌≡◌, ℕ, ◌+◌, ◌<◌, length, get_or, set, refl, sym, ◌∙◌, subst, arith}
 use Rattle.std.proofs.lemmas.List.{get_or_read}
-use Rattle.revc_base.specs.ClaimFunctions.{IsBase}
+use Rattle.revs_tape.specs.ClaimFunctions.{IsBase}
 use Rattle.claim_check.specs.inside.Chains.{IsNext}
 use Rattle.claim_check.specs.inside.Numbers.{AreMade, PassLimit}
 use Rattle.claim_check.specs.inside.Slots.{slots_of}

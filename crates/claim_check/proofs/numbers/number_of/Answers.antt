@@ -1,6 +1,6 @@
 use Rattle.std.proofs.Common.{ℕ, get_or, arith, sym, subst}
-use Rattle.revc_base.specs.declared.tape.Ref.{Ref}
-use Rattle.revc_base.specs.declared.tape.Ref.TheVariants as refs
+use Rattle.revs_tape.specs.declared.tape.Ref.{Ref}
+use Rattle.revs_tape.specs.declared.tape.Ref.TheVariants as refs
 use Rattle.claim_check.specs.inside.Numbers.{IsAnswerOf}
 use Rattle.claim_check.specs.inside.Slots.{IsRefOf}
 use Rattle.claim_check.specs.inside.Tables.{function_at}

@@ -1,5 +1,5 @@
 use Rattle.std.proofs.Common.{Some, ap, ◌∙◌}
-use Rattle.revc_base.specs.declared.tape.Ref.TheVariants as refs
+use Rattle.revs_tape.specs.declared.tape.Ref.TheVariants as refs
 use Rattle.claim_check.specs.inside.Tables.{function_at}
 use Rattle.claim_check.proofs.NumberLemmas.{answer_and, answer_constant, answer_xor}
 use Rattle.claim_check.proofs.WriteLemmas.{function-Const}

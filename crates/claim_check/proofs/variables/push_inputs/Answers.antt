@@ -1,6 +1,6 @@
 use Rattle.std.proofs.Common.{rules, ◌≡◌, ◌+◌, Bool, cond, [], ◌∷◌, ◌++◌, append-nil, get_or, drop, sym, ap, ◌∙◌, arith}
 use Rattle.std.proofs.lemmas.Bool.{lt-ltb, le-ltb}
-use Rattle.revc_base.specs.VariableOrders.{inputs_at}
+use Rattle.revs_tape.specs.VariableOrders.{inputs_at}
 use Rattle.claim_check.proofs.OrderTableLemmas.{sum_next, inputs_more}
 use Rattle.revc_base.proofs.ResultLemmas.{no_promise}
 use Rattle.claim_check.proofs.variables.push_inputs.Goals as goal

@@ -1,5 +1,5 @@
 use Rattle.std.proofs.Common.{◌≡◌, ◌+◌, ◌++◌, drop, sum}
-use Rattle.revc_base.specs.VariableOrders.{inputs_at}
+use Rattle.revs_tape.specs.VariableOrders.{inputs_at}
 use Rattle.claim_check.proofs.variables.push_inputs.Given as goal
 
 abbrev pub invariant-loop-width : goal.invariant-loop-width

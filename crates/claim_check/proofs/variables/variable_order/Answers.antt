@@ -1,7 +1,7 @@
 use Rattle.std.proofs.Common.{◌≡◌, ℕ, arith, ap, ◌∙◌}
 use Rattle.std.specs.List.{flat_map}
 use Rattle.list_facts.specs.Lists.{below}
-use Rattle.revc_base.specs.VariableOrders.{inputs_at}
+use Rattle.revs_tape.specs.VariableOrders.{inputs_at}
 use Rattle.claim_check.proofs.OrderTableLemmas.{order_is, order_more}
 use Rattle.revc_base.proofs.ResultLemmas.{no_value}
 use Rattle.claim_check.proofs.variables.variable_order.Goals as goal

@@ -1,7 +1,7 @@
 use Rattle.std.proofs.Common.{◌≡◌}
 use Rattle.std.specs.List.{flat_map}
 use Rattle.list_facts.specs.Lists.{below}
-use Rattle.revc_base.specs.VariableOrders.{inputs_at}
+use Rattle.revs_tape.specs.VariableOrders.{inputs_at}
 use Rattle.claim_check.proofs.variables.variable_order.Given as goal
 
 abbrev pub invariant-loop-place : goal.invariant-loop-place

@@ -1,6 +1,6 @@
 use Rattle.std.proofs.Common.{◌∙◌, ap, arith, length, Vec, ℕ, Global}
 use Rattle.std.proofs.lemmas.Result.{IfOk-weaker}
-use Rattle.revc_base.proofs.VariableOrderLemmas.{is_order}
+use Rattle.revs_tape.proofs.VariableOrderLemmas.{is_order}
 use Rattle.claim_check.proofs.OrderTableLemmas.{order_of_list, variables_are}
 use Rattle.revc_base.proofs.ResultLemmas.{no_value}
 use Rattle.claim_check.proofs.variables.variables.Goals as goal

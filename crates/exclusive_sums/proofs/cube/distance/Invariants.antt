@@ -1,5 +1,5 @@
 use Rattle.std.proofs.Common.{◌≡◌, ◌+◌, ◌-◌, ◌≤◌, length, drop}
-use Rattle.revc_base.specs.inside.Aligned.{aligned}
+use Rattle.revs_tape.specs.inside.Aligned.{aligned}
 use Rattle.exclusive_sums.specs.inside.Merging.{by_input, differences}
 use Rattle.exclusive_sums.proofs.cube.distance.Given as goal
 

@@ -1,6 +1,6 @@
 use Rattle.std.proofs.Common.{◌≡◌, ◌⊎◌, ◌≤◌, length, refl, sym, subst, inl, inr, ◌∙◌, arith}
 use Rattle.std.proofs.lemmas.List.{take_rest, append_assoc}
-use Rattle.revc_base.specs.inside.Aligned.{aligned}
+use Rattle.revs_tape.specs.inside.Aligned.{aligned}
 use Rattle.exclusive_sums.specs.Cubes.{IsJoined}
 use Rattle.exclusive_sums.specs.inside.Merging.{by_input, thirds}
 use Rattle.exclusive_sums.proofs.CubeLemmas.{IsJoined-thirds, thirds_left_over}

@@ -1,5 +1,5 @@
 use Rattle.std.proofs.Common.{◌≡◌, ◌+◌, ◌++◌, length}
-use Rattle.revc_base.specs.inside.Sums.{exclusive_sum_of}
+use Rattle.revs_tape.specs.inside.Sums.{exclusive_sum_of}
 use Rattle.exclusive_sums.proofs.monomial.exclusive_sum.Given as goal
 
 abbrev pub invariant-loop-order : goal.invariant-loop-order

@@ -1,5 +1,5 @@
 use Rattle.std.proofs.Common.{refl, ap, ◌∙◌, subst, ℕ, List, [], sum, ◌≡◌}
-use Rattle.revc_base.specs.Tapes.{TapeView}
+use Rattle.revs_tape.specs.Tapes.{TapeView}
 use Rattle.revs_terms.specs.Programs.{widths_of}
 use Rattle.inliner.specs.inside.Starts.{AreInputs}
 use Rattle.inliner.proofs.StartLemmas.{started, are_inputs, are_widths}

@@ -1,5 +1,5 @@
 use Rattle.std.proofs.Common.{◌≡◌, ℕ, ◌+◌, ◌≤◌, ◌∙◌, ap, arith}
-use Rattle.revc_base.specs.declared.limits.TheConstants.{MOST_INPUTS}
+use Rattle.revs_tape.specs.declared.limits.TheConstants.{MOST_INPUTS}
 use Rattle.revs_terms.specs.Programs.{width_of}
 use Rattle.revs_parser.proofs.ProgramLemmas.{limits_more}
 use Rattle.revs_parser.proofs.program.passed_at.Goals as goal

@@ -1,6 +1,6 @@
 use Rattle.std.proofs.Common.{◌≡◌, filter}
 use Rattle.list_facts.specs.Lists.{below}
-use Rattle.revc_base.specs.Cuts.{is_needed}
+use Rattle.revs_tape.specs.Cuts.{is_needed}
 use Rattle.dependency_graph.specs.Graphs.{output_nodes, steps_of}
 use Rattle.dependency_graph.proofs.graph.Graph.cut.Given as goal
 

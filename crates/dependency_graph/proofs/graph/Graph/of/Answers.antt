@@ -4,9 +4,9 @@ use Rattle.dependency_graph.specs.Folds.{FoldView, folded_by, nothing_folded, gr
 use Rattle.dependency_graph.specs.Uses.{last_uses_of}
 use Rattle.dependency_graph.proofs.FoldLemmas.{parts_are, graph_is}
 use Rattle.dependency_graph.proofs.ValueLemmas.{graph_of_tape}
-use Rattle.revc_base.specs.Measures.{inputs_of}
-use Rattle.revc_base.specs.Tapes.{TapeView}
-use Rattle.revc_base.specs.declared.limits.TheConstants.{MOST_WRITES}
+use Rattle.revs_tape.specs.Measures.{inputs_of}
+use Rattle.revs_tape.specs.Tapes.{TapeView}
+use Rattle.revs_tape.specs.declared.limits.TheConstants.{MOST_WRITES}
 use Rattle.revc_base.proofs.ResultLemmas.{no_value}
 use Rattle.dependency_graph.proofs.graph.Graph.of.Goals as goal
 

@@ -1,5 +1,5 @@
 use Rattle.std.proofs.Common.{◌≡◌, ◌+◌, ◌-◌, ◌≤◌, ◌++◌, length, drop}
-use Rattle.revc_base.specs.inside.Sums.{union_of}
+use Rattle.revs_tape.specs.inside.Sums.{union_of}
 use Rattle.exclusive_sums.proofs.monomial.Monomial.union.Given as goal
 
 abbrev pub invariant-loop-i : goal.invariant-loop-i

@@ -1,7 +1,7 @@
 use Rattle.std.proofs.Common.{◌≡◌, ◌∙◌, ◌++◌, sym, subst}
-use Rattle.revc_base.specs.Polynomials.{IsPolynomial}
-use Rattle.revc_base.specs.inside.Sums.{exclusive_sum_of}
-use Rattle.revc_base.proofs.SumLemmas.{IsPolynomial-exclusive_sum_of}
+use Rattle.revs_tape.specs.Polynomials.{IsPolynomial}
+use Rattle.revs_tape.specs.inside.Sums.{exclusive_sum_of}
+use Rattle.revs_tape.proofs.SumLemmas.{IsPolynomial-exclusive_sum_of}
 use Rattle.exclusive_sums.specs.Inputs.{AreOverInputsOf}
 use Rattle.exclusive_sums.proofs.InputLemmas.{over_sum, if_answered}
 use Rattle.exclusive_sums.proofs.PolyLemmas.{sum_of_equal, up_to_from_sum}

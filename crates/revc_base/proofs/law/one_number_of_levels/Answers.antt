@@ -1,5 +1,0 @@
-use Rattle.revc_base.proofs.LevelLemmas.{levels_are_determined}
-use Rattle.revc_base.proofs.law.one_number_of_levels.Goals as goal
-
-pub returns : goal.returns
-returns c = levels_are_determined

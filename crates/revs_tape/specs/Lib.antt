@@ -1,0 +1,10 @@
+pub mod ClaimFunctions
+pub mod Claims
+pub mod Cuts
+pub mod Levels
+pub mod Measures
+pub mod Monomials
+pub mod Polynomials
+pub mod Tapes
+pub mod VariableOrders
+pub mod inside

@@ -1,0 +1,48 @@
+-- Measures of a tape.
+use Rattle.std.specs.Prelude.{ℕ, List, [], ◌∷◌, length, map, sum}
+use Rattle.std.specs.List.{flat_map}
+use Rattle.revs_tape.specs.declared.tape.Ref.{Ref}
+use Rattle.revs_tape.specs.declared.tape.Ref.TheVariants as refs
+use Rattle.revs_tape.specs.declared.tape.Entry.{Entry}
+use Rattle.revs_tape.specs.Cuts.{IsWidth}
+use Rattle.revs_tape.specs.Levels.{IsLevels}
+use Rattle.revs_tape.specs.Tapes.{TapeView, operands}
+
+-- ---- counts
+
+-- the number of inputs, one for each place of each parameter
+abbrev pub inputs_of : TapeView → ℕ
+inputs_of t = sum t.params
+
+-- the number of outputs
+abbrev pub outputs_of : TapeView → ℕ
+outputs_of t = length t.outputs
+
+-- the number of writes
+abbrev pub writes_of : TapeView → ℕ
+writes_of t = length t.entries
+
+-- ---- width
+
+-- the write of a reference, where it is one
+abbrev pub write_of : Ref → List ℕ
+write_of (refs.Input i) = []
+write_of (refs.Write j) = j ∷ []
+
+-- the writes among these
+abbrev pub writes_among : List Ref → List ℕ
+writes_among made = flat_map write_of made
+
+-- the writes of a tape as steps: each with the writes that it is made of
+abbrev pub steps_of : TapeView → List (List ℕ)
+steps_of t = map (λ (entry : Entry). writes_among (operands entry)) t.entries
+
+-- The width of a tape: the most writes that are needed at one place.
+abbrev pub HasWidth : TapeView → ℕ → Type 0
+HasWidth t width = IsWidth (steps_of t) (writes_among t.outputs) width
+
+-- ---- levels
+
+-- The number of levels of a tape, in blocks of one write.
+abbrev pub HasLevels : TapeView → ℕ → Type 0
+HasLevels t levels = IsLevels 1 (writes_of t) levels
