@@ -1,3 +1,4 @@
+use Rattle.std.proofs.Common.{refl}
 use Rattle.held_nodes.proofs.CubeLemmas.{different_lines}
 use Rattle.held_nodes.proofs.toggling.cube_flip.Goals as goal
 
@@ -6,3 +7,6 @@ new-requires c =
     let first = c.args.first in
     let line = c.args.line in
     rw (c.in_ok-controls.ensures, c.literals.ensures.literals) (different_lines first line c.args.cube.now c.literals.ensures.cube c.requires.apart)
+
+pub returns-clause-gate : goal.returns-clause-gate
+returns-clause-gate c = rw (c.new.ensures, c.in_ok-controls.ensures, c.literals.ensures.literals) refl

@@ -1,4 +1,4 @@
-use Rattle.std.proofs.Common.{◌<◌, length}
+use Rattle.std.proofs.Common.{◌<◌, length, refl, sym, ◌∙◌}
 use Rattle.mct_circuit.specs.Gates.{targets_of}
 use Rattle.list_facts.proofs.AllLemmas.{AllByRecursion-right}
 use Rattle.mct_circuit.proofs.GateListLemmas.{controls_below}
@@ -22,3 +22,6 @@ swap-requires-clause-a_in_bounds c = (rw c.in-Swap.is at (AllByRecursion-right (
 pub swap-requires-clause-b_in_bounds : goal.swap-requires-clause-b_in_bounds
 swap-requires-clause-b_in_bounds c = (rw c.in-Swap.is at (AllByRecursion-right (λ line. line < length c.args.lines.now) _ (targets_of c.self.inside.op)
     (rw (← c.self.view_is) at c.requires))).1.0
+
+pub returns-in-Swap : goal.returns-in-Swap
+returns-in-Swap c = c.swap.ensures.after ∙ rw (← c.self.view_is, ← c.deref.ensures.value, sym c.are_met.ensures ∙ c.if-not-are_met.false, c.in-Swap.is) refl
