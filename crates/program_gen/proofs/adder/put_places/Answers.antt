@@ -1,4 +1,4 @@
-use Rattle.std.proofs.Common.{◌-◌, ◌+◌, ◌++◌, ◌∙◌, ap, arith, string_bytes}
+use Rattle.std.proofs.Common.{◌-◌, ◌+◌, ◌++◌, ◌∙◌, ap, arith, rules, string_bytes}
 use Rattle.program_gen.specs.Adder.{place}
 use Rattle.program_gen.proofs.PlaceLemmas.{one_more}
 use Rattle.program_gen.proofs.adder.put_places.Goals as goal
@@ -9,3 +9,6 @@ loop-i-preserved c = let i = c.loop-i.i in record {
   written = c.in_ok-put_place.ensures ∙ ap (λ text. text ++ place i) c.loop-i.invariant.written
       ∙ one_more place (string_bytes c.args.text.now) 1 (i - 1) (i + 1 - 1) i (omega arith) (omega arith);
 }
+
+pub loop-i-init : goal.loop-i-init
+loop-i-init c = search rules
