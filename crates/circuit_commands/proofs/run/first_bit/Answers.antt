@@ -10,3 +10,6 @@ returns-in-Some c =
 
 pub returns-in-None : goal.returns-in-None
 returns-in-None c = rw c.in-Free.is (sym (first_none c.args.digits.now c.args.place (ltb-false _ _ (sym c.in-None.ensures.lookup.0))))
+
+pub returns-in-One : goal.returns-in-One
+returns-in-One c = rw c.in-One.is
