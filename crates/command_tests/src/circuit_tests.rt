@@ -67,6 +67,25 @@ const CASES: &[Row] = &[
         b"revc: circuit line 5\n",
     ),
     ("stat", b"", 8, b"revc: circuit line 1\n"),
+    (
+        "stat",
+        EACH_KIND,
+        0,
+        b"lines 4\ngates 7\nx 1\ncx 1\nccx 1\nwide 1\nswap 3\ndepth 7\n",
+    ),
+    // The wide flip borrows a fifth line, and gives it back as it was.
+    (
+        "convert --to real | stat",
+        EACH_KIND,
+        0,
+        b"lines 5\ngates 27\nx 9\ncx 8\nccx 10\nwide 0\nswap 0\ndepth 21\n",
+    ),
+    (
+        "convert --to real | run 10000 11100 10001",
+        EACH_KIND,
+        0,
+        b"00000\n01100\n00001\n",
+    ),
 ];
 
 const COMPILED: &[Row] = &[

@@ -153,6 +153,81 @@ const SUM_CASES: &[Row] = &[
     ),
 ];
 
+// How many functions claims rest on, and what they come to, worked out from truth tables.
+const LIMIT_CASES: &[Row] = &[
+    (
+        "check --nodes 2",
+        b"main (a : bool) (b : bool) = { let t = a && b; clean t; a }",
+        5,
+        b"revc: claim 1 at 1:48 passes 2 nodes\n",
+    ),
+    (
+        "check --nodes 3",
+        b"main (a : bool) (b : bool) = { let t = a && b; clean t; a }",
+        4,
+        BROKEN,
+    ),
+    // Constants need no node, and the bit comes before the second place of the register.
+    (
+        "check --nodes 3",
+        b"main (r : bool[2]) (s : bool) = { assert true; clean (r.[0] <> r.[1]); s }",
+        5,
+        b"revc: claim 2 at 1:48 passes 3 nodes\n",
+    ),
+    (
+        "check --nodes 4",
+        b"main (r : bool[2]) (s : bool) = { assert true; clean (r.[0] <> r.[1]); s }",
+        4,
+        b"revc: claim 2 at 1:48 fails on 010\n",
+    ),
+    // The carry of a full adder in two forms.
+    (
+        "check --nodes 11",
+        CARRIES,
+        5,
+        b"revc: claim 1 at 2:1 passes 11 nodes\n",
+    ),
+    (
+        "check --nodes 12",
+        CARRIES,
+        4,
+        b"revc: claim 2 at 2:17 fails on 001\n",
+    ),
+    // The first claim rests on four functions, the first two on nine.
+    (
+        "check --nodes 3",
+        NINE,
+        5,
+        b"revc: claim 1 at 2:1 passes 3 nodes\n",
+    ),
+    (
+        "check --nodes 4",
+        NINE,
+        5,
+        b"revc: claim 2 at 3:1 passes 4 nodes\n",
+    ),
+    (
+        "check --nodes 8",
+        NINE,
+        5,
+        b"revc: claim 2 at 3:1 passes 8 nodes\n",
+    ),
+    (
+        "check --nodes 9",
+        NINE,
+        4,
+        b"revc: claim 2 at 3:1 fails on 0101\n",
+    ),
+];
+
+const CARRIES: &[u8] = b"main (a : bool) (b : bool) (c : bool) = { \
+    let p = (a <> b) && c <> (a && b); let q = a && c <> (b && c) <> (a && b);
+clean (p <> q); clean c; assert p; a }";
+
+const NINE: &[u8] = b"main (r : bool[2]) (s : bool[2]) = {
+clean (r.[0] <> s.[0] <> s.[0] <> r.[0]);
+assert (r.[1] && s.[1] <> true); assert true; clean (r.[1] && s.[1]); r }";
+
 #[test]
 fn claims_are_settled_on_all_inputs(rt: HostRuntime) -> Result<(), Fail> {
     check_all(&rt, rt.alloc(), CASES)
@@ -166,4 +241,9 @@ fn the_first_claim_that_fails_is_named(rt: HostRuntime) -> Result<(), Fail> {
 #[test]
 fn a_sum_is_settled_within_its_functions(rt: HostRuntime) -> Result<(), Fail> {
     check_all(&rt, rt.alloc(), SUM_CASES)
+}
+
+#[test]
+fn claims_pass_their_limits(rt: HostRuntime) -> Result<(), Fail> {
+    check_all(&rt, rt.alloc(), LIMIT_CASES)
 }

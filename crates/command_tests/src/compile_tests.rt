@@ -90,6 +90,48 @@ const REFUSED: &[Row] = &[
     ),
     (
         "compile",
+        b"main (a : bool) = { a; }",
+        3,
+        b"revc: 1:24 Syntax\n",
+    ),
+    (
+        "compile",
+        b"main (a : bool) = (a))",
+        3,
+        b"revc: 1:22 Syntax\n",
+    ),
+    (
+        "compile",
+        b"main (a : bool) = clean clean a",
+        3,
+        b"revc: 1:25 Syntax\n",
+    ),
+    (
+        "compile",
+        b"main (a : bool) = a <- b <- c",
+        3,
+        b"revc: 1:26 Syntax\n",
+    ),
+    (
+        "compile",
+        b"main (a : bool[0]) = a &&",
+        3,
+        b"revc: 1:26 Syntax\n",
+    ),
+    (
+        "compile",
+        b"main (a : bool[0]) = a",
+        3,
+        b"revc: 1:7 Inputs\n",
+    ),
+    (
+        "compile",
+        b"main (a : bool[1023]) (b : bool) (c : bool) = a",
+        3,
+        b"revc: 1:35 Inputs\n",
+    ),
+    (
+        "compile",
         b"main (a : bool[1025]) = a.[0]",
         3,
         b"revc: 1:7 Inputs\n",

@@ -29,6 +29,21 @@ const BRACKETS_FILE: &[u8] =
 t2 x1 w1\nt2 x0 w1
 t3 w0 w1 w2\nt2 w2 y0\nt3 w0 w1 w2\nt2 x0 w1\nt2 x1 w1\nt2 x1 w0\nt2 x0 w0\n.end\n";
 
+// The first node is cleaned by its operands, and gives its line to the third; the second by its two
+// monomials, ab and c.
+const THREE: &[u8] =
+    b"main (a : bool) (b : bool) (c : bool) = { let t = a && b; let u = t <> c; u && a }";
+
+const THREE_FILE: &[u8] =
+    b".version 2.0\n.numvars 6\n.variables x0 x1 x2 y0 w0 w1\n.inputs x0 x1 x2 y0 w0 w1
+.outputs x0 x1 x2 y0 w0 w1\n.constants ---000\n.garbage ------\n.begin\nt3 x0 x1 w0\nt2 w0 w1
+t2 x2 w1\nt3 x0 x1 w0\nt3 w1 x0 w0\nt3 x0 x1 w1\nt2 x2 w1\nt2 w0 y0\nt2 x2 w1\nt3 x0 x1 w1
+t3 w1 x0 w0\nt3 x0 x1 w0\nt2 x2 w1\nt2 w0 w1\nt3 x0 x1 w0\n.end\n";
+
+// Four nodes, each made of the one before.
+const CHAIN: &[u8] =
+    b"main (x : bool) (y : bool) = { let t = x && y; let u = t <> x; let v = u && y; v <> x }";
+
 const SIXTY_FIVE: &[u8] = b"main (a : bool[65]) = a.[0]";
 
 // The factors behind the first one of the product of 65 inputs.
@@ -40,6 +55,11 @@ const FACTORS: &[u8] =
 && a.[40] && a.[41] && a.[42] && a.[43] && a.[44] && a.[45] && a.[46] && a.[47] && a.[48] && a.[49]
 && a.[50] && a.[51] && a.[52] && a.[53] && a.[54] && a.[55] && a.[56] && a.[57] && a.[58] && a.[59]
 && a.[60] && a.[61] && a.[62] && a.[63] && a.[64]";
+
+// The value of `t` has 64 monomials.
+const KNOWN: &[u8] = b"main (a : bool[6]) (b : bool[6]) (c : bool) (d : bool) = {
+let t = (a.[0] <> b.[0]) && (a.[1] <> b.[1]) && (a.[2] <> b.[2]) && (a.[3] <> b.[3])
+&& (a.[4] <> b.[4]) && (a.[5] <> b.[5]); t && d }";
 
 // The value of `t` has 65 monomials.
 const UNKNOWN: &[u8] = b"main (a : bool[6]) (b : bool[6]) (c : bool) (d : bool) = {
@@ -80,6 +100,43 @@ const CASES: &[Row] = &[
         b"main (a : bool) (b : bool) = (a <> b) && (b <> (a))",
         0,
         BRACKETS_FILE,
+    ),
+    (
+        "compile --plan eager --lines 6 --gates 15",
+        THREE,
+        0,
+        THREE_FILE,
+    ),
+    (
+        "compile --plan eager --lines 5 --gates 15",
+        THREE,
+        6,
+        b"revc: lines 6 over 5\n",
+    ),
+    (
+        "compile --plan eager --lines 6 --gates 14",
+        THREE,
+        7,
+        b"revc: more than 14 gates\n",
+    ),
+    // One block of four nodes, and blocks of two, where the first node's line is used again.
+    (
+        "compile --plan pebble | stat",
+        CHAIN,
+        0,
+        b"lines 7\ngates 13\nx 0\ncx 9\nccx 4\nwide 0\nswap 0\ndepth 13\n",
+    ),
+    (
+        "compile --plan pebble --lines 6 | stat",
+        CHAIN,
+        0,
+        b"lines 6\ngates 15\nx 0\ncx 9\nccx 6\nwide 0\nswap 0\ndepth 15\n",
+    ),
+    (
+        "compile --plan eager | stat",
+        KNOWN,
+        0,
+        b"lines 18\ngates 3205\nx 0\ncx 49\nccx 3156\nwide 0\nswap 0\ndepth 3178\n",
     ),
     (
         "compile --plan eager | stat",

@@ -1,14 +1,45 @@
 // The tests of dependency_graph.
-ghost use Rattle.std.specs.Prelude.{◌≡◌, length, sum, IfOk, OnOk};
+ghost use Rattle.std.specs.Prelude.{◌≡◌, length, sum, IfOk, IsTrue, OnOk};
 ghost use Rattle.revs_tape.specs.Measures.{writes_of};
+ghost use Rattle.revs_tape.specs.Tapes.{IsKnown, IsKnownEntry};
 
-use crate::claim_check_tests::push_all;
 use dependency_graph::{Base, Graph, Node, Sig};
 use revc_base::Memory;
+use revs_tape::limits::MOST_WRITES;
 use revs_tape::{Entry, Ref, Tape};
 use std::alloc::Global;
 use std::process::Abort;
 use std::test::Fail;
+
+fn is_known(inputs: u32, writes: u32, made: Ref) -> bool
+    ensures { IsTrue result → IsKnown inputs writes made }
+{
+    match made {
+        Ref::Input(i) => i < inputs,
+        Ref::Write(j) => j < writes,
+    }
+}
+
+fn is_known_entry(inputs: u32, writes: u32, entry: Entry) -> bool
+    ensures { IsTrue result → IsKnownEntry inputs writes entry }
+{
+    match entry {
+        Entry::Const(_) => true,
+        Entry::Xor(a, b) | Entry::And(a, b) => {
+            is_known(inputs, writes, a) && is_known(inputs, writes, b)
+        }
+    }
+}
+
+// Appends writes, each of inputs and of earlier writes.
+fn push_all(rt: &impl Abort, tape: &mut Tape, entries: &[Entry]) -> Result<(), Fail> {
+    for entry in entries {
+        assert!(rt; is_known_entry(tape.inputs(), tape.len(), *entry));
+        assert!(rt; tape.entries().len() < MOST_WRITES);
+        tape.push(*entry)?;
+    }
+    Ok(())
+}
 
 // A write of two inputs for each row of the fold.
 const ROWS: &[Entry] = &[
