@@ -186,7 +186,7 @@ class Reader:
             positive = not name.startswith(b"-")
             if not positive:
                 name = name[1:]
-                if number >= count - targets or name.startswith(b"-"):
+                if number >= count - targets or name.startswith((b"-", b"#")):
                     raise Bad()
             if len(name) > MOST_NAME_BYTES:
                 raise Over()

@@ -4,7 +4,7 @@ use Rattle.std.proofs.Common.{get_or, drop, position, slice_get, Some, Result, O
 use Rattle.std.specs.Prelude.{nat_lt}
 use Rattle.std.specs.List.{AllByRecursion, AllZip, prefix_len}
 use Rattle.std.specs.Str.{bytes_eq}
-use Rattle.std.proofs.lemmas.Bool.{cases_Bool, ne_eqb, eq-eqb, eqb-true, eqb-false, true≢false}
+use Rattle.std.proofs.lemmas.Bool.{cases_Bool, ne_eqb, eq-eqb, eqb-true, eqb-false}
 use Rattle.std.proofs.lemmas.Bool.Decides.{nat_tests}
 use Rattle.std.proofs.lemmas.List.{length-append, map-append}
 use Rattle.std.proofs.lemmas.List.Quantifiers.{position-Some}
@@ -22,10 +22,10 @@ use Rattle.real_format.specs.declared.refusal.LineRefusal.TheVariants.{Form, Lim
 use Rattle.real_format.specs.Header.{IsName}
 use Rattle.real_format.specs.Real.{NamesLine, NamesControl}
 use Rattle.real_format.specs.Faults.{IsLong}
-use Rattle.real_format.specs.inside.Reading.{and_then, is_nil, has_sign, is_long, line_of, lines_of_controls, control_on, control_of, controls_from, target_of}
+use Rattle.real_format.specs.inside.Reading.{and_then, is_nil, begins_name, has_sign, is_long, line_of, lines_of_controls, control_on, control_of, controls_from, target_of}
 use Rattle.real_format.specs.inside.Reading.{alone, op_of}
 use Rattle.real_format.proofs.InversionLemmas.{else_ok, then_ok, and_ok, or_ok, same_ok, else_limit, limit_else, then_limit, and_limit, or_limit, ok_no_limit}
-use Rattle.real_format.proofs.HeaderLemmas.{same_word, word_same, nil_is, AreNames, neither, long, not_long, so_long}
+use Rattle.real_format.proofs.HeaderLemmas.{same_word, word_same, nil_is, AreNames, begins_so, neither, long, not_false, not_long, so_begins, so_long}
 use Rattle.real_format.proofs.StampLemmas.{has_line-more, lines_of_controls-more}
 
 -- ---- a name's line
@@ -64,7 +64,7 @@ record IsLine (names : List (List ℕ)) (has : ℕ → Bool) (word : List ℕ) (
 
 line_is : (names : List (List ℕ)) (has : ℕ → Bool) (word : List ℕ) (line : ℕ) → line_of names has word ≡ Ok line → IsLine names has word line
 line_is names has word line e =
-    let p = else_ok (has_sign word) Form _ line e in
+    let p = else_ok (not (begins_name word)) Form _ line e in
     let q = else_ok (is_long word) Limit _ line p.1 in
     let r = or_ok (position (bytes_eq word) names) (λ l. if has l then Err Form else Ok l) line q.1 in
     let s = else_ok (has r.0) Form (Ok r.0) line r.2 in
@@ -85,10 +85,6 @@ sign : (word : List ℕ) → has_sign word ≡ true → word ≡ 45 ∷ drop 1 w
 sign [] e = absurd (cc)
 sign (b ∷ bs) e = ap (λ x. x ∷ bs) (eqb-true b 45 e)
 
-unsigned : (word : List ℕ) → has_sign word ≡ false → ¬ (get_or word 0 0 ≡ 45)
-unsigned [] e h = absurd (let both : 0 ≡ 45 = h in omega arith)
-unsigned (b ∷ bs) e h = true≢false (sym (eq-eqb b 45 h) ∙ e)
-
 is_name : (names : List (List ℕ)) (word : List ℕ) (line : ℕ) → AreNames names → NamesLine names word line → IsName word
 is_name names word line are at =
     let inside = (prefix_is names word line are.different at).1 in
@@ -98,13 +94,13 @@ is_line : (names : List (List ℕ)) (has : ℕ → Bool) (word : List ℕ) (line
     → line_of names has word ≡ Ok line
 is_line names has word line are at free =
     let name = is_name names word line are at in
-    rw (no_sign word (λ minus. name.begins (inl minus)), not_long word name.few, place_of names word line are.different at, free) refl
+    rw (so_begins word name.some name.begins, not_long word name.few, place_of names word line are.different at, free) refl
 
 line_long : (names : List (List ℕ)) (has : ℕ → Bool) (word : List ℕ) → line_of names has word ≡ Err Limit → IsLong word
 line_long names has word e =
-    let p = else_limit (has_sign word) _ e in
+    let p = else_limit (not (begins_name word)) _ e in
     elim (limit_else (is_long word) _ p.1) [
-      | inl l ↦ record { long = long word l; unsigned = unsigned word p.0 }
+      | inl l ↦ record { long = long word l; begins = (begins_so word (not_false (begins_name word) p.0)).1 }
       | inr q ↦
           let r = or_limit (position (bytes_eq word) names) (λ l. if has l then Err Form else Ok l) q.1 in
           let s = else_limit (has r.0) (Ok r.0) r.2 in
@@ -112,7 +108,7 @@ line_long names has word e =
     ]
 
 long_line : (names : List (List ℕ)) (has : ℕ → Bool) (word : List ℕ) → IsLong word → line_of names has word ≡ Err Limit
-long_line names has word is = rw (no_sign word is.unsigned, so_long word is.long) refl
+long_line names has word is = rw (so_begins word (omega (arith, is.long)) is.begins, so_long word is.long) refl
 
 -- ---- a control
 
@@ -190,7 +186,7 @@ long_control : (names : List (List ℕ)) (has : ℕ → Bool) (word : List ℕ) 
 long_control names has word (inl is) =
     pick_else (has_sign word) (and_then (line_of names has (drop 1 word)) (λ l. Ok (control_on false l))) (and_then (line_of names has word) (λ l. Ok
     (control_on true l)))
-    (no_sign word is.unsigned) ∙ ap (λ r. and_then r (λ l. Ok (control_on true l))) (long_line names has word is)
+    (no_sign word (λ minus. is.begins (inl minus))) ∙ ap (λ r. and_then r (λ l. Ok (control_on true l))) (long_line names has word is)
 long_control names has word (inr is) = ap (control_of names has) is.1 ∙ ap (λ r. and_then r (λ l. Ok (control_on false l))) (long_line names has is.0 is.2)
 
 -- ---- lines of a gate

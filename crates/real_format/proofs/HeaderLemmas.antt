@@ -139,7 +139,7 @@ apart_front : (names rest : List (List ℕ)) → AreApart (λ one other. one ≡
 apart_front [] rest apart = tt
 apart_front (n ∷ ns) rest apart = (AllByRecursion-left (λ y. ¬ (n ≡ y)) ns rest apart.0, apart_front ns rest apart.1)
 
-begins_so : (word : List ℕ) → begins_name word ≡ true → (1 ≤ length word) × (¬ IsBarred (get_or word 0 0))
+pub begins_so : (word : List ℕ) → begins_name word ≡ true → (1 ≤ length word) × (¬ IsBarred (get_or word 0 0))
 begins_so [] e = absurd (cc)
 begins_so (b ∷ bs) e = (
   omega arith,
@@ -155,11 +155,11 @@ begins_so (b ∷ bs) e = (
     clash false true e f = cc
     clash false false e f = cc
 
-so_begins : (word : List ℕ) → 1 ≤ length word → ¬ IsBarred (get_or word 0 0) → begins_name word ≡ true
+pub so_begins : (word : List ℕ) → 1 ≤ length word → ¬ IsBarred (get_or word 0 0) → begins_name word ≡ true
 so_begins [] some free = absurd (omega arith)
 so_begins (b ∷ bs) some free = rw (ne_eqb b 45 (λ e. free (inl e)), ne_eqb b 35 (λ e. free (inr e))) refl
 
-not_false : (t : Bool) → not t ≡ false → t ≡ true
+pub not_false : (t : Bool) → not t ≡ false → t ≡ true
 not_false true e = refl
 not_false false e = absurd (cc)
 

@@ -1,5 +1,5 @@
 -- Lines of a gate, by their stamps.
-use Rattle.std.proofs.Common.{◌≡◌, ℕ, ◌<◌, Bool, true, false, ◌||◌, if◌then◌else◌, eqb, List, [], ◌∷◌, ◌++◌, length, drop, position, Option, Some, None, Ok}
+use Rattle.std.proofs.Common.{◌≡◌, ℕ, ◌<◌, Bool, true, false, not, ◌||◌, if◌then◌else◌, eqb, List, [], ◌∷◌, ◌++◌, length, drop, position, Option, Some, None, Ok}
 use Rattle.std.proofs.Common.{Err, Result, ◌≤◌, ◌==◌, refl, sym, ap, ◌∙◌, arith, inl, inr, get_or, set}
 use Rattle.std.specs.List.{AllByRecursion}
 use Rattle.std.specs.Str.{bytes_eq}
@@ -14,7 +14,7 @@ use Rattle.mct_circuit.specs.declared.gate.Op.TheVariants.{Flip, Swap}
 use Rattle.mct_circuit.specs.Sizes.{has_line}
 use Rattle.real_format.specs.declared.refusal.LineRefusal.{LineRefusal}
 use Rattle.real_format.specs.declared.refusal.LineRefusal.TheVariants.{Form, Limit, Memory}
-use Rattle.real_format.specs.inside.Reading.{and_then, or_form, Refuses, has_sign, is_long, line_of, control_of, control_on, controls_from, lines_of_controls}
+use Rattle.real_format.specs.inside.Reading.{and_then, or_form, Refuses, begins_name, has_sign, is_long, line_of, control_of, control_on, controls_from, lines_of_controls}
 use Rattle.real_format.specs.inside.Reading.{target_of, op_of, alone, gate_of}
 use Rattle.real_format.specs.declared.gate.Shape.{Shape}
 use Rattle.mct_circuit.specs.Gates.{GateView}
@@ -24,7 +24,7 @@ use Rattle.real_format.specs.inside.Stamps.{is_stamped, AreStamped}
 pub line_of-same : (names : List (List ℕ)) (has other : ℕ → Bool) (word : List ℕ) → ((line : ℕ) → line < length names → has line ≡ other line)
     → line_of names has word ≡ line_of names other word
 line_of-same names has other word same =
-    ap (λ r. if has_sign word then Err Form else (if is_long word then Err Limit else r)) (by (position (bytes_eq word) names) refl)
+    ap (λ r. if not (begins_name word) then Err Form else (if is_long word then Err Limit else r)) (by (position (bytes_eq word) names) refl)
   where
     by : (r : Option ℕ) → position (bytes_eq word) names ≡ r → or_form r (λ line. if has line then Err Form else Ok line)
         ≡ or_form r (λ line. if other line then Err Form else Ok line)
@@ -158,12 +158,12 @@ refused_plain names has word e plain refuses =
 -- ---- a line
 
 -- what comes of a name, by the tests of its line
-pub line_is : (names : List (List ℕ)) (has : ℕ → Bool) (word : List ℕ) (signed long : Bool) (place : Option ℕ) → has_sign word ≡ signed
+pub line_is : (names : List (List ℕ)) (has : ℕ → Bool) (word : List ℕ) (begins long : Bool) (place : Option ℕ) → begins_name word ≡ begins
     → is_long word ≡ long → position (bytes_eq word) names ≡ place
     → line_of names has word
-    ≡ (if signed then Err Form else (if long then Err Limit else or_form place (λ line. if has line then Err Form else Ok line)))
-line_is names has word signed long place e f g =
-    λ i. if e i then Err Form else (if f i then Err Limit else or_form (g i) (λ line. if has line then Err Form else Ok line))
+    ≡ (if not begins then Err Form else (if long then Err Limit else or_form place (λ line. if has line then Err Form else Ok line)))
+line_is names has word begins long place e f g =
+    λ i. if not (e i) then Err Form else (if f i then Err Limit else or_form (g i) (λ line. if has line then Err Form else Ok line))
 
 -- ---- controls
 

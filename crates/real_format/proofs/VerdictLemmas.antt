@@ -7,7 +7,7 @@ use Rattle.real_format.specs.declared.refusal.LineRefusal.TheVariants.{Form, Lim
 use Rattle.real_format.specs.Words.{said_lines}
 use Rattle.real_format.specs.Header.{nothing_said}
 use Rattle.real_format.specs.Real.{RealView, RealMeaning, MeaningsAreFiles, Place, in_header, in_gates, at_end, Leads, LeadTo, nothing_left, one_more}
-use Rattle.real_format.specs.Faults.{PassesLimit, IsBadLine, HasNoEnd, BreaksForm, BreaksLimit, IsTextFault, IsRealFault, OneReading}
+use Rattle.real_format.specs.Faults.{PassesLimit, IsBadLine, HasNoEnd, BreaksForm, BreaksLimit, IsTextFault, IsRealFault, OneReading, SomeReading}
 use Rattle.real_format.specs.inside.Reading.{after_line, text_fault, verdict, verdict_after, verdict_at_last, IsFaultOf}
 use Rattle.real_format.specs.inside.Says.{IsSound}
 use Rattle.real_format.proofs.LineLemmas.{IsFit, leads_so, reads_so, fit_next, limit_line, line_limit}
@@ -280,6 +280,28 @@ one_reading text = record {
   one_fault = λ fault other f g. let same : Err fault ≡ Err other = sym (fault_verdict text fault f) ∙ fault_verdict text other g in cc;
   never_both = λ file fault m f. let both : Ok file ≡ Err fault = sym (meaning_verdict text file m) ∙ fault_verdict text fault f in cc;
 }
+
+-- a verdict is no want of memory
+no_memory : (number : ℕ) (r : LineRefusal) → ¬ (faults.Memory ≡ text_fault number r)
+no_memory number Form e = cc
+no_memory number Limit e = cc
+no_memory number Memory e = cc
+
+fault_is : (text : List ℕ) (fault : RealFault) → verdict (in_header nothing_said) 1 (said_lines text) ≡ Err fault → IsTextFault text fault
+fault_is text (faults.Line number) e = faults_so text (faults.Line number) e
+fault_is text (faults.Limit number) e = faults_so text (faults.Limit number) e
+fault_is text faults.Memory e = elim (fault_so (in_header nothing_said) 1 (said_lines text) faults.Memory sound_at_first e) [
+  | inl h ↦ absurd (no_memory h.1 h.0 h.2)
+  | inr h ↦ absurd (let is : faults.Memory ≡ faults.Line h.0 = h.1 in cc)
+]
+
+pub some_reading : SomeReading
+some_reading text = by (verdict (in_header nothing_said) 1 (said_lines text)) refl
+  where
+    by : (r : Result RealView RealFault) → verdict (in_header nothing_said) 1 (said_lines text) ≡ r
+        → ((file : RealView) × RealMeaning text file) ⊎ ((fault : RealFault) × IsTextFault text fault)
+    by (Ok file) e = inl (file, means_so text file e)
+    by (Err fault) e = inr (fault, fault_is text fault e)
 
 pub meanings_are_files : MeaningsAreFiles
 meanings_are_files text file m = (passed (in_header nothing_said) (at_end file) (said_lines text) [] 1 sound_at_first m.read).1

@@ -13,10 +13,10 @@ use Rattle.real_format.specs.Real.{RealView, RealMeaning, Place, in_header, in_g
 
 -- ---- limits
 
--- a word that would be a name, but for its length: it has no sign, and more than 64 bytes
+-- a word that would be a name, but for its length: it begins as a name does, and has more than 64 bytes
 pub record IsLong (word : List ℕ) : Type 0 where
   pub long : MOST_NAME_BYTES < length word
-  pub unsigned : ¬ (slice_index word 0 ≡ 45)
+  pub begins : ¬ IsBarred (slice_index word 0)
 
 -- `.numvars` with a number above 16,384
 pub record HasManyLines (said : HeaderView) (line : List (List ℕ)) : Type 0 where
@@ -140,3 +140,9 @@ pub record HasOneReading (text : List ℕ) : Type 0 where
 
 abbrev pub OneReading : Type 0
 OneReading = (text : List ℕ) → HasOneReading text
+
+-- each text means a file, or has a fault
+abbrev pub SomeReading : Type 0
+SomeReading =
+    (text : List ℕ)
+    → ((file : RealView) × RealMeaning text file) ⊎ ((fault : RealFault) × IsTextFault text fault)

@@ -1,6 +1,6 @@
 // The gate lines of a `.real` text.
 ghost use Rattle.std.specs.Prelude.{◌≡◌, ℕ, ◌+◌, ◌<◌, ◌≤◌, List, [], ◌∷◌, length, Some, None, Ok};
-ghost use Rattle.std.specs.Prelude.{Err, OnOk, IfOk, IfErr, slice_set, slice_index};
+ghost use Rattle.std.specs.Prelude.{Err, OnOk, IfOk, IfErr, IsErrOf, slice_set, slice_index};
 ghost use Rattle.std.specs.List.{AllByRecursion};
 ghost use Rattle.mct_circuit.specs.Gates.{IsGateOn};
 ghost use Rattle.real_format.specs.inside.Reading.{Refuses, alone, has_sign, targets_in, shape_of};
@@ -10,7 +10,7 @@ ghost use Rattle.real_format.specs.inside.Reading.{gate_of, lines_of_controls};
 ghost use Rattle.real_format.specs.inside.Stamps.{is_stamped, AreStamped};
 
 use crate::refusal::LineRefusal;
-use crate::words::{Words, number};
+use crate::words::{Words, begins_name, number};
 use format_parts::Names;
 use gate_split::MOST_LINES;
 use mct_circuit::{Control, Gate, Op};
@@ -124,6 +124,7 @@ fn control_of(
     ensures in_range { IfOk result (λ control. control.line < length names.now) }
     ensures err { IfErr result (Refuses
         (control_of names.now (is_stamped stamps.old stamp) word.now)) }
+    ensures no_memory { ¬ IsErrOf result LineRefusal.Memory }
 {
     if has_sign(word) {
         let (_, name) = word.split_at(1);
@@ -150,8 +151,9 @@ fn line_of(names: &Names, stamps: &mut [u32], stamp: u32, word: &[u8]) -> Result
     ensures in_range { IfOk result (λ line. line < length names.now) }
     ensures err { IfErr result (Refuses
         (line_of names.now (is_stamped stamps.old stamp) word.now)) }
+    ensures no_memory { ¬ IsErrOf result LineRefusal.Memory }
 {
-    if has_sign(word) {
+    if !begins_name(word) {
         return Err(LineRefusal::Form);
     }
     if word.len() > MOST_NAME_BYTES {
@@ -189,6 +191,7 @@ fn op_of(
     ensures stamps { OnOk result (AllByRecursion (λ s. s ≤ stamp) stamps.new) }
     ensures err { IfErr result (Refuses
         (op_of names.now targets (is_stamped stamps.old stamp) words.old)) }
+    ensures no_memory { ¬ IsErrOf result LineRefusal.Memory }
 {
     let first = target_of(names, stamps, stamp, words)?;
     if targets == 1 {
@@ -213,6 +216,7 @@ fn target_of(
     ensures in_range { IfOk result (λ line. line < length names.now) }
     ensures err { IfErr result (Refuses
         (target_of names.now (is_stamped stamps.old stamp) words.old)) }
+    ensures no_memory { ¬ IsErrOf result LineRefusal.Memory }
 {
     let Some(word) = words.next() else {
         return Err(LineRefusal::Form);
@@ -224,6 +228,7 @@ fn target_of(
 fn alone(op: Op, words: &mut Words) -> Result<Op, LineRefusal>
     ensures ok { IfOk result (λ alone_op. alone op words.old ≡ Ok alone_op) }
     ensures err { IfErr result (Refuses (alone op words.old)) }
+    ensures no_memory { ¬ IsErrOf result LineRefusal.Memory }
 {
     if !words.is_done() {
         return Err(LineRefusal::Form);

@@ -1,22 +1,22 @@
 // The header of a `.real` text.
 ghost use Rattle.std.specs.Prelude.{◌≡◌, ◌≢◌, ℕ, ◌+◌, ◌<◌, ◌≤◌, List, [], ◌∷◌, length};
-ghost use Rattle.std.specs.Prelude.{Some, None, Ok, Err, OnOk, IfOk, IfErr, IsSome};
+ghost use Rattle.std.specs.Prelude.{Some, None, Ok, Err, OnOk, IfOk, IfErr, IsErrOf, IsSome};
 ghost use Rattle.std.specs.Prelude.{false, replicate, unwrap_or};
 ghost use Rattle.std.specs.Option.{option_map};
 ghost use Rattle.std.specs.List.{find};
 ghost use Rattle.std.specs.Str.{bytes_eq};
-ghost use Rattle.real_format.specs.Header.{HeaderView, nothing_said, spelling_of};
+ghost use Rattle.real_format.specs.Header.{HeaderView, IsName, nothing_said, spelling_of};
 ghost use Rattle.real_format.specs.inside.Reading.{Refuses, header_line, file_of, add};
 ghost use Rattle.real_format.specs.inside.Reading.{add_version, add_lines, add_names, add_inputs};
 ghost use Rattle.real_format.specs.inside.Reading.{add_outputs, add_constants, add_garbage};
-ghost use Rattle.real_format.specs.inside.Reading.{is_version, begins_name, count_of, names_from};
+ghost use Rattle.real_format.specs.inside.Reading.{is_version, count_of, names_from};
 ghost use Rattle.real_format.specs.inside.Reading.{more_names, marks_of, marks_from, constant_of};
 ghost use Rattle.real_format.specs.inside.Reading.{garbage_of};
 ghost use Rattle.real_format.specs.inside.Says.{HeaderSays, BeginsAs};
 
 use crate::file::{Mark, RealFault};
 use crate::refusal::LineRefusal;
-use crate::words::{Words, number};
+use crate::words::{Words, begins_name, number};
 use format_parts::Names;
 use gate_split::MOST_LINES;
 use revc_base::limits::MOST_NAME_BYTES;
@@ -214,6 +214,7 @@ impl<'t> Header<'t> {
     fn add_version(&mut self, words: &mut Words<'t>) -> Result<(), LineRefusal>
         ensures ok { OnOk result (add_version self.old words.old ≡ Ok self.new) }
         ensures err { IfErr result (Refuses (add_version self.old words.old)) }
+        ensures no_memory { ¬ IsErrOf result LineRefusal.Memory }
     {
         if self.version {
             return Err(LineRefusal::Form);
@@ -231,6 +232,7 @@ impl<'t> Header<'t> {
     fn add_lines(&mut self, words: &mut Words<'t>) -> Result<(), LineRefusal>
         ensures ok { OnOk result (add_lines self.old words.old ≡ Ok self.new) }
         ensures err { IfErr result (Refuses (add_lines self.old words.old)) }
+        ensures no_memory { ¬ IsErrOf result LineRefusal.Memory }
     {
         if self.lines.is_some() {
             return Err(LineRefusal::Form);
@@ -256,6 +258,7 @@ impl<'t> Header<'t> {
     fn add_inputs(&mut self) -> Result<(), LineRefusal>
         ensures ok { OnOk result (add_inputs self.old ≡ Ok self.new) }
         ensures err { IfErr result (Refuses (add_inputs self.old)) }
+        ensures no_memory { ¬ IsErrOf result LineRefusal.Memory }
     {
         if self.inputs {
             return Err(LineRefusal::Form);
@@ -267,6 +270,7 @@ impl<'t> Header<'t> {
     fn add_outputs(&mut self) -> Result<(), LineRefusal>
         ensures ok { OnOk result (add_outputs self.old ≡ Ok self.new) }
         ensures err { IfErr result (Refuses (add_outputs self.old)) }
+        ensures no_memory { ¬ IsErrOf result LineRefusal.Memory }
     {
         if self.outputs {
             return Err(LineRefusal::Form);
@@ -315,6 +319,7 @@ fn count_of(words: &mut Words) -> Result<u32, LineRefusal>
     ensures ok { IfOk result (λ count. count_of words.old ≡ Ok count) }
     ensures few { IfOk result (λ count. count ≤ MOST_LINES) }
     ensures err { IfErr result (Refuses (count_of words.old)) }
+    ensures no_memory { ¬ IsErrOf result LineRefusal.Memory }
 {
     let Some(word) = words.next() else {
         return Err(LineRefusal::Form);
@@ -358,6 +363,7 @@ fn add_names<'t>(
 fn add_name<'t>(names: &mut Names<'t>, word: &'t [u8]) -> Result<(), LineRefusal>
     ensures ok { OnOk result (more_names names.old word.now ≡ Ok names.new) }
     ensures err { IfErr result (Refuses (more_names names.old word.now)) }
+    ensures memory { IsErrOf result LineRefusal.Memory → IsName word.now }
 {
     if !begins_name(word) {
         return Err(LineRefusal::Form);
@@ -369,12 +375,6 @@ fn add_name<'t>(names: &mut Names<'t>, word: &'t [u8]) -> Result<(), LineRefusal
         return Err(LineRefusal::Form);
     }
     Ok(())
-}
-
-fn begins_name(word: &[u8]) -> bool
-    ensures { result ≡ begins_name word.now }
-{
-    !word.is_empty() && !(word[0] == b'-' || word[0] == b'#')
 }
 
 // So many marks: the one word that is left.

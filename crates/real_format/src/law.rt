@@ -1,6 +1,6 @@
 ghost use Rattle.real_format.specs.Compiled.{CompiledHasMeaning};
 ghost use Rattle.real_format.specs.Converted.{ConvertedHasMeaning};
-ghost use Rattle.real_format.specs.Faults.{OneReading};
+ghost use Rattle.real_format.specs.Faults.{OneReading, SomeReading};
 ghost use Rattle.real_format.specs.Real.{FrontsGoOn, MeaningsAreFiles, OneMeaning};
 
 /// The law of compiled files: the text of a circuit of narrow gates means, by the format's own
@@ -27,6 +27,12 @@ pub fn one_meaning()
 /// The function does nothing: its contract is the law.
 pub fn one_reading()
     ensures { OneReading }
+{}
+
+/// The law of some reading: each text means a file or has a fault. The function does nothing: its
+/// contract is the law.
+pub fn some_reading()
+    ensures { SomeReading }
 {}
 
 /// The law of files: what a text means has different names for its lines, a mark of each kind for

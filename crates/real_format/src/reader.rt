@@ -1,6 +1,6 @@
 // The reader of `.real` texts.
 ghost use Rattle.std.specs.Prelude.{◌≡◌, ◌+◌, ◌<◌, ◌^◌, ◌++◌, ◌∷◌, [], length};
-ghost use Rattle.std.specs.Prelude.{true, false, Ok, Err, OnOk, IfOk, IfErr};
+ghost use Rattle.std.specs.Prelude.{true, false, Ok, Err, OnOk, IfOk, IfErr, IsErrOf};
 ghost use Rattle.std.specs.List.{AllByRecursion};
 ghost use Rattle.gate_split.specs.declared.plan.TheConstants.{MOST_GATES};
 ghost use Rattle.mct_circuit.specs.Gates.{lines_of};
@@ -210,6 +210,7 @@ fn add_gate(
     ensures fits { OnOk result (FitsNames names.now circuit.new stamps.new.items) }
     ensures err { IfErr result (Refuses
         (more_gates names.now circuit.old.gates shape words.old)) }
+    ensures full { length circuit.old.gates ≡ MOST_GATES → IsErrOf result LineRefusal.Limit }
 {
     if circuit.is_full() {
         return Err(LineRefusal::Limit);

@@ -6,7 +6,7 @@ ghost use Rattle.std.specs.List.{prefix_len};
 ghost use Rattle.std.specs.Char.{is_ascii_digit};
 ghost use Rattle.std.specs.Str.Parse.{AllDigits, digits_value};
 ghost use Rattle.real_format.specs.Words.{is_blank, is_comment, said_lines, said_words};
-ghost use Rattle.real_format.specs.inside.Reading.{single, is_nil, number_of};
+ghost use Rattle.real_format.specs.inside.Reading.{begins_name, single, is_nil, number_of};
 ghost use Rattle.real_format.specs.inside.Lines.{TakesLine};
 
 use std::marker::Model;
@@ -21,6 +21,13 @@ fn is_comment(word: &[u8]) -> bool
     ensures { result ≡ is_comment word.now }
 {
     !word.is_empty() && word[0] == b'#'
+}
+
+// Whether a name may begin so: with a byte that is no sign and no `#`.
+pub fn begins_name(word: &[u8]) -> bool
+    ensures { result ≡ begins_name word.now }
+{
+    !word.is_empty() && !(word[0] == b'-' || word[0] == b'#')
 }
 
 // The words of a line that are left, up to its comment. Contracts see their list.

@@ -224,7 +224,7 @@ shape_of (letter ∷ digits) = shape_of_digits (targets_in letter) digits
 -- the line of a name, which is none of those that the gate has
 abbrev pub line_of : List (List ℕ) → (ℕ → Bool) → List ℕ → Result ℕ LineRefusal
 line_of names has word =
-    if has_sign word then Err Form
+    if not (begins_name word) then Err Form
     else (if is_long word then Err Limit
     else or_form (position (bytes_eq word) names) (λ line. if has line then Err Form else Ok line))
 
