@@ -1,4 +1,5 @@
 ghost use Rattle.gate_split.specs.Costs.{SplitCosts, NarrowStay, RoomyFlipsAreSplit};
+ghost use Rattle.gate_split.specs.Limits.{LimitsAre};
 ghost use Rattle.gate_split.specs.Plans.{CleanCircuitsBorrow};
 
 /// The law of costs: a flip of `k` positive controls, at least 3, takes `4 * (k - 2)` gates where
@@ -25,4 +26,9 @@ pub fn roomy_flips_are_split()
 /// number of them. The function does nothing: its contract is the law.
 pub fn clean_circuits_borrow()
     ensures { CleanCircuitsBorrow }
+{}
+
+/// The law of limits: what number each is. The function does nothing: its contract is the law.
+pub fn limits_are()
+    ensures { LimitsAre }
 {}

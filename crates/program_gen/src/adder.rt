@@ -3,12 +3,18 @@ ghost use Rattle.std.specs.Prelude.{◌≡◌, ◌-◌, ◌≤◌, ◌++◌, str
 ghost use Rattle.std.specs.List.{flat_map, range_with_len};
 ghost use Rattle.program_gen.specs.Adder.{adder_text, parameters, carry_function, first_place};
 ghost use Rattle.program_gen.specs.Adder.{place, outputs, sum_output};
+ghost use Rattle.program_gen.specs.Limits.{LimitsAre};
 
 use revc_base::Memory;
 use std::alloc::{AllocError, Global};
 
 /// The most bits of each number that a program adds.
 pub const MOST_BITS: u32 = 200;
+
+/// The law of limits: what number each is. The function does nothing: its contract is the law.
+pub fn limits_are()
+    ensures { LimitsAre }
+{}
 
 /// The text of the program that adds two numbers of `n` bits, 1 to 200, as a ripple-carry adder of
 /// full adders does (Knuth, The Art of Computer Programming, volume 4A, section 7.1.2). It has 2n

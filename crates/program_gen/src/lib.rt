@@ -3,4 +3,4 @@
 
 mod adder;
 
-pub use adder::{MOST_BITS, program_text};
+pub use adder::{MOST_BITS, limits_are, program_text};

@@ -8,6 +8,6 @@ mod law;
 mod tokens;
 mod words;
 
-pub use law::{each_text_has_tokens, one_way_to_cut};
+pub use law::{each_text_has_tokens, limits_are, one_way_to_cut};
 pub use tokens::{Token, Tokens};
 pub use words::{MOST_DIGITS, is_identifier, is_number};

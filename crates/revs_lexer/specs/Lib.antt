@@ -1,3 +1,4 @@
 pub mod inside
+pub mod Limits
 pub mod Spelling
 pub mod Tokens

@@ -14,6 +14,7 @@ ghost use Rattle.revs_lexer.specs.declared.sign.Sign.{Sign};
 ghost use Rattle.revs_lexer.specs.declared.token.LexFault.{LexFault};
 ghost use Rattle.revs_lexer.specs.declared.token.Token.{Token};
 ghost use Rattle.revs_lexer.specs.declared.word.Word.{Word};
+ghost use Rattle.revs_lexer.specs.Limits.{LimitsAre};
 
 use crate::{LexFault, Sign, Tok, Token, Word};
 use revc_base::{Memory, Place, Text};
@@ -22,6 +23,11 @@ use text_places::{digits_len, gap_len, is_letter, name_len, number, place_after}
 
 /// The most digits that a number has.
 pub const MOST_DIGITS: usize = 4;
+
+/// The law of limits: what number each is. The function does nothing: its contract is the law.
+pub fn limits_are()
+    ensures { LimitsAre }
+{}
 
 // The word that the bytes spell.
 fn word_of(bytes: &[u8]) -> Option<Word>

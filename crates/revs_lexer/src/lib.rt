@@ -9,7 +9,7 @@ mod sign;
 mod token;
 mod word;
 
-pub use lexer::{MOST_DIGITS, one_outcome, some_outcome, tokens};
+pub use lexer::{MOST_DIGITS, limits_are, one_outcome, some_outcome, tokens};
 pub use sign::Sign;
 pub use token::{LexFault, Tok, Token};
 pub use word::Word;

@@ -15,5 +15,5 @@ mod program;
 mod stop;
 
 pub use law::one_program_of_text;
-pub use limits::MOST_BYTES;
+pub use limits::{MOST_BYTES, limits_are};
 pub use program::{ParseFault, parse};

@@ -2,6 +2,7 @@ pub mod ClaimFunctions
 pub mod Claims
 pub mod Cuts
 pub mod Levels
+pub mod Limits
 pub mod Measures
 pub mod Monomials
 pub mod Polynomials

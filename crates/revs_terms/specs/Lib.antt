@@ -6,3 +6,4 @@ pub mod Terms
 pub mod Programs
 pub mod Views
 pub mod Causes
+pub mod Limits

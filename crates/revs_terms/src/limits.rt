@@ -1,5 +1,7 @@
 //! The limits of terms and of their runs.
 
+ghost use Rattle.revs_terms.specs.Limits.{LimitsAre};
+
 /// The most levels of a term.
 pub const MOST_LEVELS: u32 = 100;
 
@@ -11,3 +13,8 @@ pub const MOST_WORK: u32 = 16_777_216;
 
 /// The most places of a register.
 pub const MOST_PLACES: usize = 4_096;
+
+/// The law of limits: what number each is. The function does nothing: its contract is the law.
+pub fn limits_are()
+    ensures { LimitsAre }
+{}

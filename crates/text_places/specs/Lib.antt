@@ -1,3 +1,4 @@
 pub mod Bytes
 pub mod Gaps
+pub mod Limits
 pub mod Places

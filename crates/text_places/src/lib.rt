@@ -9,5 +9,5 @@ mod places;
 
 pub use bytes::{digits_len, is_blank, is_letter, is_name_byte, name_len};
 pub use gaps::gap_len;
-pub use numbers::{FITTING_DIGITS, number};
+pub use numbers::{FITTING_DIGITS, limits_are, number};
 pub use places::place_after;

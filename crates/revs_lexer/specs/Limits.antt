@@ -1,0 +1,7 @@
+-- The limits as numbers.
+use Rattle.std.specs.Prelude.{◌≡◌}
+use Rattle.revs_lexer.specs.declared.lexer.TheConstants.{MOST_DIGITS}
+
+-- the number of each limit
+pub record LimitsAre : Type 0 where
+  pub digits : MOST_DIGITS ≡ 4

@@ -1,0 +1,10 @@
+-- The limits as numbers.
+use Rattle.std.specs.Prelude.{◌≡◌}
+use Rattle.revs_terms.specs.declared.limits.TheConstants.{MOST_LEVELS, MOST_DEPTH, MOST_WORK, MOST_PLACES}
+
+-- the number of each limit
+pub record LimitsAre : Type 0 where
+  pub levels : MOST_LEVELS ≡ 100
+  pub depth : MOST_DEPTH ≡ 400
+  pub work : MOST_WORK ≡ 16777216
+  pub places : MOST_PLACES ≡ 4096
