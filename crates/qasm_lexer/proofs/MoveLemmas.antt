@@ -54,6 +54,10 @@ pub record IsGapLen (bytes : List ℕ) (len : ℕ) : Type 0 where
 pub same_left : (a b : Left) → a.at ≡ b.at → a.bytes ≡ b.bytes → a ≡ b
 same_left a b p q = ap (λ (at : Place). record { at = at; bytes = a.bytes }) p ∙ ap (λ (bytes : List ℕ). record { at = b.at; bytes = bytes }) q
 
+taken_front : (mid new : Left) (word : List ℕ) (len : ℕ) → word ≡ take len mid.bytes → new.bytes ≡ drop len mid.bytes → mid.bytes ≡ word ++ new.bytes
+taken_front mid new word len spelled rest =
+    sym (take-append-drop len mid.bytes) ∙ ap (λ (w : List ℕ). w ++ drop len mid.bytes) (sym spelled) ∙ ap (λ (bs : List ℕ). word ++ bs) (sym rest)
+
 -- the bytes of the token at the front were taken, behind the gaps
 pub token_taken_out : (old mid new : Left) (word : List ℕ) (at : Place) (len : ℕ) → Moves old mid [] → at ≡ mid.at → word ≡ take len mid.bytes
     → new.bytes ≡ drop len mid.bytes → new.at ≡ place_after mid.at (take len mid.bytes) → len ≤ length mid.bytes → (len ≡ 0 → mid.bytes ≡ [])
@@ -63,6 +67,8 @@ token_taken_out old mid new word at zero gaps here spelled rest place within end
   gaps = gaps;
   place = here;
   begins = inl (spelled, end refl);
+  behind = taken_front mid new word zero spelled rest;
+  moved = place ∙ ap (place_after mid.at) (sym spelled);
   taken = λ some. let none = ap length spelled in absurd (omega arith);
   ended = λ e. same_left new mid place rest;
 }
@@ -72,6 +78,8 @@ token_taken_out old mid new word at (suc k) gaps here spelled rest place within 
       mid = mid;
       gaps = gaps;
       place = here;
+      behind = taken_front mid new word (suc k) spelled rest;
+      moved = place ∙ ap (place_after mid.at) (sym spelled);
       begins = inr (drop (suc k) mid.bytes, subst (λ (w : List ℕ). IsNext mid.bytes w (drop (suc k) mid.bytes)) (sym spelled) found);
       taken = λ some. moves_then gaps (subst (λ (w : List ℕ). Moves mid new (w ∷ [])) (sym spelled) (token_moved mid new (suc k) rest place found));
       ended = λ e. let long = length-take-le (suc k) mid.bytes within in let none = ap length (sym spelled ∙ e) in absurd (omega arith);

@@ -84,12 +84,15 @@ pub record Moves (old new : Left) (tokens : List (List ℕ)) : Type 0 where
 abbrev pub BeginsWith : List ℕ → List ℕ → Type 0
 BeginsWith text word = ((word ≡ []) × (text ≡ [])) ⊎ ((rest : List ℕ) × IsNext text word rest)
 
--- the token at the front, at this place, is taken; at the end nothing is
+-- The token at the front, at this place, is taken, so that exactly the bytes behind it are left; at the end nothing is
+-- taken.
 pub record Takes (old new : Left) (word : List ℕ) (at : Place) : Type 0 where
   pub mid : Left
   pub gaps : Moves old mid []
   pub place : at ≡ mid.at
   pub begins : BeginsWith mid.bytes word
+  pub behind : mid.bytes ≡ word ++ new.bytes
+  pub moved : new.at ≡ place_after mid.at word
   pub taken : 0 < length word → Moves old new (word ∷ [])
   pub ended : word ≡ [] → new ≡ mid
 
