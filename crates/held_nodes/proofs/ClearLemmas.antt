@@ -27,7 +27,7 @@ use Rattle.held_nodes.specs.Held.{ForwardView, first_work, is_held, node_value}
 use Rattle.held_nodes.proofs.LineLemmas.{held_within}
 use Rattle.held_nodes.proofs.PlaceLemmas.{held_own}
 use Rattle.held_nodes.specs.Moves.{CanClear, IsClearFault, cube_flip, cube_flips, weight_in}
-use Rattle.held_nodes.specs.inside.Kept.{IsWeightFault}
+use Rattle.held_nodes.specs.inside.Kept.{AreTooHeavy}
 use Rattle.held_nodes.proofs.ContentLemmas.{all_lines, length-all_lines, input_bit, work_bit, set_work}
 use Rattle.held_nodes.proofs.CubeLemmas.{control_lines, different_lines}
 use Rattle.held_nodes.proofs.ForwardLemmas.{AddNode}
@@ -154,7 +154,7 @@ clear_low f k cubes can =
     (λ l less. omega (arith, less)) cube low) cubes can.inputs
 
 pub clear_fault : (f : ForwardView) (w : ℕ) (old : HeapView) (k line : ℕ) (cubes : List (List Literal)) (fault : PlanFault) → Gives f w old k line
-    → IsWeightFault w (weight_in (f.gates ++ cube_flips (first_work f.graph) line cubes)) fault → IsClearFault f k cubes fault
+    → AreTooHeavy w (weight_in (f.gates ++ cube_flips (first_work f.graph) line cubes)) fault → IsClearFault f k cubes fault
 clear_fault f w old k line cubes (Lines need) g is = absurd is
 clear_fault f w old k line cubes Gates g is = record {
   line = line;

@@ -1,6 +1,6 @@
 -- Copies of the outputs.
-use Rattle.std.proofs.Common.{◌≡◌, ◌≢◌, ℕ, ◌+◌, ◌<◌, ◌≤◌, Bool, true, false, not, List, Option, [], ◌∷◌, ◌++◌, length, get_or, map, set, drop, Some, refl, sym}
-use Rattle.std.proofs.Common.{ap, ◌∙◌, arith, append_assoc, length-append}
+use Rattle.std.proofs.Common.{◌≡◌, ◌≢◌, ℕ, cond, ◌+◌, ◌<◌, ◌≤◌, Bool, true, false, not, List, Option, [], ◌∷◌, ◌++◌, length, get_or, map, set, drop, Some, refl, sym}
+use Rattle.std.proofs.Common.{ap, ◌∙◌, arith, append_assoc, length-append, count_by}
 use Rattle.std.specs.Bool.{xor}
 use Rattle.std.specs.List.{AllByRecursion}
 use Rattle.std.proofs.lemmas.List.{drop_more, get_or_at, set_at, length-replicate}
@@ -18,10 +18,11 @@ use Rattle.gate_split.specs.declared.plan.TheConstants.{MOST_LINES}
 use Rattle.mct_circuit.specs.Gates.{GateView, line_map}
 use Rattle.mct_circuit.specs.Sizes.{weight_of}
 use Rattle.mct_circuit.proofs.ReversalLemmas.{line_map-append}
+use Rattle.std.proofs.lemmas.List.Recursion.{is_count_by}
 use Rattle.std.proofs.lemmas.List.Sums.{sum_by-append}
 use Rattle.held_nodes.specs.Held.{IsContent, first_work, held_line}
 use Rattle.held_nodes.specs.Moves.{IsReadyBase, IsReadySig, base_line, copy_of, copies_from, weight_in}
-use Rattle.held_nodes.specs.inside.Kept.{IsApartSig}
+use Rattle.held_nodes.specs.inside.Kept.{IsApartSig, is_copied}
 use Rattle.held_nodes.proofs.ContentLemmas.{all_lines}
 use Rattle.held_nodes.proofs.PlaceLemmas.{held_own, low_base, narrow_is_roomy, placed, shown_base, work_line_is}
 use Rattle.held_nodes.proofs.SetLemmas.{flip_always, flip_by_one}
@@ -137,6 +138,21 @@ weight-copies first lines target (x ∷ xs) =
     let sum = sum_by-append weight_of one rest in
     let count = length-append one rest in
     omega (arith, sum, count, weight-copy first lines target x, weight-copies first lines (target + 1) xs)
+
+abbrev copied_in : List Sig → ℕ
+copied_in [] = 0
+copied_in (x ∷ xs) = cond (is_copied x) (1 + copied_in xs) (copied_in xs)
+
+-- a gate for each output that is copied
+length-copied : (first : ℕ) (lines : List (Option ℕ)) (target : ℕ) (sigs : List Sig) → length (copies_from first lines target sigs) ≡ copied_in sigs
+length-copied first lines target [] = refl
+length-copied first lines target (Const true ∷ xs) = omega (arith, length-copied first lines (target + 1) xs)
+length-copied first lines target (Const false ∷ xs) = length-copied first lines (target + 1) xs
+length-copied first lines target (Is base ∷ xs) = omega (arith, length-copied first lines (target + 1) xs)
+
+pub length-copies : (first : ℕ) (lines : List (Option ℕ)) (target : ℕ) (sigs : List Sig)
+    → length (copies_from first lines target sigs) ≡ count_by is_copied sigs
+length-copies first lines target sigs = length-copied first lines target sigs ∙ is_count_by copied_in is_copied refl (λ x xs. refl) sigs
 
 -- ---- what copies do
 

@@ -11,7 +11,7 @@ use Rattle.gate_split.specs.declared.plan.PlanFault.TheVariants.{Lines, Gates, M
 use Rattle.mct_circuit.specs.declared.gate.Control.{Control}
 use Rattle.mct_circuit.specs.Gates.{GateView, HasDifferentLines}
 use Rattle.held_nodes.specs.Moves.{control_of, cube_flip, weight_in}
-use Rattle.held_nodes.specs.inside.Kept.{IsWeightFault}
+use Rattle.held_nodes.specs.inside.Kept.{AreTooHeavy}
 
 -- ---- the lines of a flip
 
@@ -35,8 +35,8 @@ different_lines first line cube rising low =
 -- ---- weights
 
 -- what some of the gates are too heavy for, all of them are
-pub heavier : (most : ℕ) (some more : List GateView) (fault : PlanFault) → IsWeightFault most (weight_in some) fault
-    → IsWeightFault most (weight_in (some ++ more)) fault
+pub heavier : (most : ℕ) (some more : List GateView) (fault : PlanFault) → AreTooHeavy most (weight_in some) fault
+    → AreTooHeavy most (weight_in (some ++ more)) fault
 heavier most some more (Lines need) is = is
 heavier most some more Gates is = omega (arith, is, sum_by-append Rattle.mct_circuit.specs.Sizes.weight_of some more)
 heavier most some more Memory is = tt

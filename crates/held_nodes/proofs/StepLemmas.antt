@@ -79,6 +79,16 @@ too_heavy f w k line old node kept is over = record {
       subst (λ (n : ℕ). f.budget.gates < 2 * n) whole (over_half f.budget.gates w (weight_in (f.gates ++ toggle_on f line node)) kept.weights over));
 }
 
+-- gates that are light enough
+not_heavy : (f : ForwardView) (w k line : ℕ) (old : HeapView) (node : Node) → IsKept f w old → slice_get f.graph.nodes k ≡ Some node
+    → weight_in (f.gates ++ toggle_on f line node) ≤ w → ¬ IsToggleTooHeavy f k
+not_heavy f w k line old node kept is light over =
+    let whole : weight_in (f.gates ++ toggle_on f line node) ≡ weight_in f.gates + toggle_weight node =
+    sum_by-append weight_of f.gates (toggle_on f line node) ∙ ap (λ (n : ℕ). weight_in f.gates + n) (weight-toggle (first_work f.graph) f.lines line node) in
+    let same : toggle_weight over.node ≡ toggle_weight node = ap toggle_weight (same_Some over.node node (sym over.is ∙ is)) in
+    let within = within_half f.budget.gates w (weight_in (f.gates ++ toggle_on f line node)) kept.weights light in
+    absurd (omega (arith, whole, same, within, over.heavy))
+
 module _ (f : ForwardView) (w : ℕ) (old new : HeapView) (k line : ℕ) (node : Node) (t : Takes f w old new k line node) where
   taken_peak : new.peak ≡ max f.most (line + 1)
   taken_peak = let e : new.peak ≡ max old.peak (line + 1) = ap (λ (h : HeapView). h.peak) t.taken in omega (arith, e, t.kept.peak)
@@ -121,7 +131,7 @@ module _ (f : ForwardView) (w : ℕ) (old new : HeapView) (k line : ℕ) (node :
   pub taken_fault : (fault : PlanFault) → IsWeightFault w (weight_in (f.gates ++ toggle_on f line node)) fault → IsToggleFault f k fault
   taken_fault (Lines need) is = absurd is
   taken_fault Gates is = (taken_room, too_heavy f w k line old node t.kept t.node_is is)
-  taken_fault Memory is = tt
+  taken_fault Memory is = (taken_room, not_heavy f w k line old node t.kept t.node_is is)
 
   pub taken_place : k < length f.lines
   taken_place = node_place f k node t.kept.forward t.node_is
@@ -199,7 +209,8 @@ module _ (f : ForwardView) (w : ℕ) (old : HeapView) (k line : ℕ) (g : Gives 
   given_fault node (Lines need) at is = absurd is
   given_fault node Gates at is =
       ((λ full. false≢true (sym full.free ∙ ap (λ (x : Option ℕ). is_some x) g.own)), too_heavy f w k line old node g.kept at is)
-  given_fault node Memory at is = tt
+  given_fault node Memory at is =
+      ((λ full. false≢true (sym full.free ∙ ap (λ (x : Option ℕ). is_some x) g.own)), not_heavy f w k line old node g.kept at is)
 
   pub given_adds : (node : Node) → IsReadyNode f.graph f.lines k → slice_get f.graph.nodes k ≡ Some node
       → AddNode f.graph f.lines f.most f.gates (toggle_on f line node) k line

@@ -1,5 +1,5 @@
 -- What can be done with a forward part: a toggle of a node, a clearing by cubes, and the finish.
-use Rattle.std.specs.Prelude.{◌≡◌, ℕ, ◌+◌, ◌*◌, ◌<◌, max, Bool, false, true, if◌then◌else◌, List, [], ◌∷◌, ◌++◌, length, map, reverse, slice_get, slice_set}
+use Rattle.std.specs.Prelude.{◌≡◌, ℕ, ◌+◌, ◌*◌, ◌<◌, ◌≤◌, max, Bool, false, true, if◌then◌else◌, List, [], ◌∷◌, ◌++◌, length, map, reverse, slice_get, slice_set}
 use Rattle.std.specs.Prelude.{Option, Some, None, unwrap_or, ⊤, sum_by}
 use Rattle.std.specs.List.{AllByRecursion}
 use Rattle.list_facts.specs.Bits.{bit_of}
@@ -90,7 +90,7 @@ nothing_held s b lines =
 abbrev pub IsStartFault : SettledView → BudgetView → PlanFault → Type 0
 IsStartFault s b (Lines need) = (b.lines < need) × (need ≡ first_work s + b.borrow)
 IsStartFault s b Gates = ⊥
-IsStartFault s b Memory = ⊤
+IsStartFault s b Memory = first_work s + b.borrow ≤ b.lines
 
 -- ---- a toggle
 
@@ -140,7 +140,7 @@ pub record IsToggleTooHeavy (f : ForwardView) (k : ℕ) : Type 0 where
 abbrev pub IsToggleFault : ForwardView → ℕ → PlanFault → Type 0
 IsToggleFault f k (Lines need) = HasNoLine f k × (need ≡ f.budget.lines + 1)
 IsToggleFault f k Gates = (¬ HasNoLine f k) × IsToggleTooHeavy f k
-IsToggleFault f k Memory = ⊤
+IsToggleFault f k Memory = (¬ HasNoLine f k) × (¬ IsToggleTooHeavy f k)
 
 -- ---- a clearing by cubes
 
@@ -164,6 +164,7 @@ pub record IsClearTooHeavy (f : ForwardView) (k : ℕ) (cubes : List (List Liter
   pub heavy : f.budget.gates
       < 2 * (weight_in f.gates + weight_in (cube_flips (first_work f.graph) line cubes))
 
+-- memory may be wanted for a flip before the one that is too heavy
 abbrev pub IsClearFault : ForwardView → ℕ → List (List Literal) → PlanFault → Type 0
 IsClearFault f k cubes (Lines need) = ⊥
 IsClearFault f k cubes Gates = IsClearTooHeavy f k cubes
@@ -205,4 +206,4 @@ finished_weight f = 2 * weight_in f.gates + weight_in (copies_of f)
 abbrev pub IsFinishFault : ForwardView → PlanFault → Type 0
 IsFinishFault f (Lines need) = ⊥
 IsFinishFault f Gates = f.budget.gates < finished_weight f
-IsFinishFault f Memory = ⊤
+IsFinishFault f Memory = finished_weight f ≤ f.budget.gates

@@ -1,6 +1,6 @@
 // The gates that copy the outputs to their lines, and the circuit of a finished plan.
 ghost use Rattle.std.specs.Prelude.{◌≡◌, ◌+◌, ◌<◌, ◌≤◌, ◌∷◌, [], ◌++◌, ◌*◌, length, reverse, take};
-ghost use Rattle.std.specs.Prelude.{IfOk, IfErr, OnOk};
+ghost use Rattle.std.specs.Prelude.{IfOk, IfErr, OnOk, count_by};
 ghost use Rattle.std.specs.List.{AllByRecursion};
 ghost use Rattle.claim_check.specs.Settled.{IsSettled};
 ghost use Rattle.gate_split.specs.declared.plan.TheConstants.{MOST_LINES};
@@ -8,7 +8,7 @@ ghost use Rattle.list_facts.specs.Lists.{AreDifferent};
 ghost use Rattle.mct_circuit.specs.Gates.{AreGatesOn, flip_of};
 ghost use Rattle.held_nodes.specs.Held.{first_work};
 ghost use Rattle.held_nodes.specs.Moves.{copies_from, copy_of};
-ghost use Rattle.held_nodes.specs.inside.Kept.{IsApartSig};
+ghost use Rattle.held_nodes.specs.inside.Kept.{IsApartSig, is_copied};
 
 use crate::toggling::base_line;
 use claim_check::Settled;
@@ -37,6 +37,23 @@ pub fn copies_of(
         push_copy(&mut copies, first, lines, inputs + k as u32, *sig)?;
     }
     Ok(copies)
+}
+
+// How many gates put the outputs on their lines. It takes no memory.
+pub fn copy_count(outputs: &[Sig]) -> u64
+    ensures { result ≡ count_by is_copied outputs.now }
+{
+    outputs.iter().filter(|sig| is_copied(**sig)).count() as u64
+}
+
+// Whether a gate puts the output on its line.
+fn is_copied(sig: Sig) -> bool
+    ensures { result ≡ is_copied sig }
+{
+    match sig {
+        Sig::Const(bit) => bit,
+        Sig::Is(_) => true,
+    }
 }
 
 // Appends the gate that puts an output on its line, where it wants one.

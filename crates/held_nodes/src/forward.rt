@@ -14,7 +14,7 @@ ghost use Rattle.held_nodes.specs.Moves.{planned_of, roles_of_plan};
 ghost use Rattle.held_nodes.specs.Plans.{HasPorts, IsInBudget};
 ghost use Rattle.held_nodes.specs.inside.Kept.{HasNoLineFor, IsLineFor, IsLineAfter};
 
-use crate::copying::{copies_of, first_work, plan_of};
+use crate::copying::{copies_of, copy_count, first_work, plan_of};
 use crate::toggling::{append_cubes, append_toggle};
 use crate::weighed::WeighedGates;
 use ancilla_heap::Heap;
@@ -217,13 +217,13 @@ impl<'s> Forward<'s> {
         ensures light { IfOk result (λ _. finished_weight self.now ≤ self.now.budget.gates) }
         ensures refused { IfErr result (IsFinishFault self.now) }
     {
-        let alloc = self.gates.allocator();
-        let inputs = self.graph.inputs();
-        let copies = copies_of(alloc, inputs, &self.lines, self.graph.outputs())?;
+        let outputs = self.graph.outputs();
         // A copy weighs 1.
-        if copies.len() as u64 > self.budget.gates() - 2 * self.gates.weight() {
+        if copy_count(outputs) > self.budget.gates() - 2 * self.gates.weight() {
             return Err(PlanFault::Gates);
         }
+        let alloc = self.gates.allocator();
+        let copies = copies_of(alloc, self.graph.inputs(), &self.lines, outputs)?;
         Ok(copies)
     }
 }

@@ -7,8 +7,8 @@ ghost use Rattle.exclusive_sums.specs.Cubes.{IsCube};
 ghost use Rattle.gate_split.specs.declared.plan.TheConstants.{MOST_LINES};
 ghost use Rattle.list_facts.specs.Lists.{AreDifferent};
 ghost use Rattle.held_nodes.specs.Moves.{base_line, control_of, cube_flip, cube_flips, toggle_of};
-ghost use Rattle.held_nodes.specs.Moves.{weight_in};
-ghost use Rattle.held_nodes.specs.inside.Kept.{IsPlacedBase, IsWeightFault};
+ghost use Rattle.held_nodes.specs.Moves.{toggle_weight, weight_in};
+ghost use Rattle.held_nodes.specs.inside.Kept.{AreTooHeavy, IsPlacedBase, IsWeightFault};
 
 use crate::weighed::WeighedGates;
 use dependency_graph::{Base, Node};
@@ -29,7 +29,18 @@ pub fn base_line(first: u32, lines: &[Option<u32>], base: Base) -> u32
     }
 }
 
-// Appends the gates that flip the work line `line` by the node's value.
+// What a toggle of the node weighs, on any line.
+fn toggle_weight(node: Node) -> u64
+    ensures { result ≡ toggle_weight node }
+{
+    match node {
+        Node::Not(_) | Node::Xor(_, _) => 2,
+        Node::And(_, _) => 1,
+    }
+}
+
+// Appends the gates that flip the work line `line` by the node's value, where they are light
+// enough.
 pub fn append_toggle(
     gates: &mut WeighedGates,
     first: u32,
@@ -46,6 +57,30 @@ pub fn append_toggle(
     ensures refused { IfErr result (IsWeightFault gates.old.most
         (weight_in (gates.old.gates ++ toggle_of first lines.now line node))) }
     ensures light { OnOk result (weight_in gates.new.gates ≤ gates.new.most) }
+{
+    if toggle_weight(node) > gates.room() {
+        return Err(PlanFault::Gates);
+    }
+    put_toggle(gates, first, lines, line, node)?;
+    Ok(())
+}
+
+// Appends these gates, for which there is room.
+fn put_toggle(
+    gates: &mut WeighedGates,
+    first: u32,
+    lines: &[Option<u32>],
+    line: u32,
+    node: Node,
+) -> Result<(), Memory>
+    requires placed { AllByRecursion (IsPlacedBase first lines.now) (operands node) }
+    requires target { first + line ≤ MOST_LINES }
+    requires different { AreDifferent (map (base_line first lines.now) (operands node)
+        ++ (first + line) ∷ []) }
+    requires room { weight_in (gates.old.gates ++ toggle_of first lines.now line node)
+        ≤ gates.old.most }
+    ensures { OnOk result (gates.new ≡ record gates.old
+        { gates = gates.old.gates ++ toggle_of first lines.now line node }) }
 {
     let target = first + line;
     match node {
@@ -74,7 +109,7 @@ pub fn append_cubes(
     requires apart { AllByRecursion (AllByRecursion (λ (l : Literal). l.input < first)) cubes.now }
     ensures ok { OnOk result (gates.new ≡ record gates.old
         { gates = gates.old.gates ++ cube_flips first line cubes.now }) }
-    ensures refused { IfErr result (IsWeightFault gates.old.most
+    ensures refused { IfErr result (AreTooHeavy gates.old.most
         (weight_in (gates.old.gates ++ cube_flips first line cubes.now))) }
     ensures cubes { OnOk result (AllByRecursion IsCube cubes.now) }
     ensures light { OnOk result (weight_in gates.new.gates ≤ gates.new.most) }

@@ -1,5 +1,5 @@
 // Gates that may weigh so much together.
-ghost use Rattle.std.specs.Prelude.{◌≡◌, ◌+◌, ◌≤◌, ◌∷◌, [], ◌++◌, OnOk, IfErr, sum_by};
+ghost use Rattle.std.specs.Prelude.{◌≡◌, ◌-◌, ◌≤◌, ◌∷◌, [], ◌++◌, OnOk, IfErr, sum_by};
 ghost use Rattle.list_facts.specs.Lists.{AreDifferent};
 ghost use Rattle.mct_circuit.specs.Gates.{flip_of};
 ghost use Rattle.mct_circuit.specs.Sizes.{weight_of};
@@ -7,6 +7,7 @@ ghost use Rattle.held_nodes.specs.inside.Kept.{IsWeightFault};
 
 use gate_split::PlanFault;
 use mct_circuit::Gate;
+use revc_base::Memory;
 use std::alloc::Global;
 use std::marker::Model;
 
@@ -56,6 +57,13 @@ impl WeighedGates {
         self.weight
     }
 
+    // How much more the gates may weigh.
+    pub fn room(&self) -> u64
+        ensures { result ≡ self.now.most - sum_by weight_of self.now.gates }
+    {
+        self.most - self.weight
+    }
+
     // Appends a gate, where it is light enough.
     pub fn push(&mut self, gate: Gate) -> Result<(), PlanFault>
         ensures ok { OnOk result (self.new
@@ -64,37 +72,46 @@ impl WeighedGates {
             (sum_by weight_of (self.old.gates ++ gate ∷ []))) }
         ensures light { OnOk result (sum_by weight_of self.new.gates ≤ self.new.most) }
     {
-        let weight = gate.weight();
-        if weight > self.most - self.weight {
+        if gate.weight() > self.room() {
             return Err(PlanFault::Gates);
         }
+        self.put(gate)?;
+        Ok(())
+    }
+
+    // Appends a gate, for which there is room.
+    fn put(&mut self, gate: Gate) -> Result<(), Memory>
+        requires { sum_by weight_of (self.old.gates ++ gate ∷ []) ≤ self.old.most }
+        ensures { OnOk result (self.new
+            ≡ record self.old { gates = self.old.gates ++ gate ∷ [] }) }
+    {
+        let weight = gate.weight();
         self.gates.push(gate)?;
         self.weight += weight;
         Ok(())
     }
 
-    // Appends the flip of `target` where all lines of `controls` are 1, as `push` does.
-    pub fn push_flip(&mut self, controls: &[u32], target: u32) -> Result<(), PlanFault>
-        requires { AreDifferent (controls.now ++ target ∷ []) }
-        ensures ok { OnOk result (self.new
+    // Appends the flip of `target` where all lines of `controls` are 1, for which there is room.
+    pub fn push_flip(&mut self, controls: &[u32], target: u32) -> Result<(), Memory>
+        requires different { AreDifferent (controls.now ++ target ∷ []) }
+        requires room { sum_by weight_of (self.old.gates ++ flip_of controls.now target ∷ [])
+            ≤ self.old.most }
+        ensures { OnOk result (self.new
             ≡ record self.old { gates = self.old.gates ++ flip_of controls.now target ∷ [] }) }
-        ensures refused { IfErr result (IsWeightFault self.old.most
-            (sum_by weight_of (self.old.gates ++ flip_of controls.now target ∷ []))) }
-        ensures light { OnOk result (sum_by weight_of self.new.gates ≤ self.new.most) }
     {
         let gate = Gate::flip(self.allocator(), controls, target)?;
-        self.push(gate)
+        self.put(gate)
     }
 
-    // Appends two flips of `target`, as `push_flip` does.
-    pub fn push_flips(&mut self, a: &[u32], b: &[u32], target: u32) -> Result<(), PlanFault>
+    // Appends two flips of `target`, for which there is room.
+    pub fn push_flips(&mut self, a: &[u32], b: &[u32], target: u32) -> Result<(), Memory>
         requires a { AreDifferent (a.now ++ target ∷ []) }
         requires b { AreDifferent (b.now ++ target ∷ []) }
-        ensures ok { OnOk result (self.new ≡ record self.old
+        requires room { sum_by weight_of
+            (self.old.gates ++ flip_of a.now target ∷ flip_of b.now target ∷ [])
+            ≤ self.old.most }
+        ensures { OnOk result (self.new ≡ record self.old
             { gates = self.old.gates ++ flip_of a.now target ∷ flip_of b.now target ∷ [] }) }
-        ensures refused { IfErr result (IsWeightFault self.old.most (sum_by weight_of
-            (self.old.gates ++ flip_of a.now target ∷ flip_of b.now target ∷ []))) }
-        ensures light { OnOk result (sum_by weight_of self.new.gates ≤ self.new.most) }
     {
         self.push_flip(a, target)?;
         self.push_flip(b, target)

@@ -1,5 +1,5 @@
 -- What the fields of a forward part keep.
-use Rattle.std.specs.Prelude.{◌≡◌, ℕ, ◌+◌, ◌/◌, ◌<◌, ◌≤◌, max, List, length, Option, Some, None, unwrap_or, ⊤}
+use Rattle.std.specs.Prelude.{◌≡◌, ℕ, ◌+◌, ◌/◌, ◌<◌, ◌≤◌, max, Bool, true, List, length, Option, Some, None, unwrap_or, ⊤}
 use Rattle.ancilla_heap.specs.Lines as heaps
 use Rattle.ancilla_heap.specs.Lines.{HeapView, contains, IsLineHeap, with_taken, without_line}
 use Rattle.dependency_graph.specs.declared.node.Base.{Base}
@@ -17,11 +17,22 @@ pub record WeighedView : Type 0 where
   pub gates : List GateView
   pub most : ℕ
 
--- gates of this weight are too heavy
+-- gates of this weight are too heavy, or memory is wanting for gates that are not
 abbrev pub IsWeightFault : ℕ → ℕ → PlanFault → Type 0
 IsWeightFault most weight (Lines need) = ⊥
 IsWeightFault most weight Gates = most < weight
-IsWeightFault most weight Memory = ⊤
+IsWeightFault most weight Memory = weight ≤ most
+
+-- gates of this weight are too heavy, or memory is wanting for one of them
+abbrev pub AreTooHeavy : ℕ → ℕ → PlanFault → Type 0
+AreTooHeavy most weight (Lines need) = ⊥
+AreTooHeavy most weight Gates = most < weight
+AreTooHeavy most weight Memory = ⊤
+
+-- an output that is put on its line by a gate: all but the constant false
+abbrev pub is_copied : Sig → Bool
+is_copied (Const bit) = bit
+is_copied (Is base) = true
 
 -- the lines that are out are those on which nodes are held
 pub record AreOut (lines : List (Option ℕ)) (heap : HeapView) : Type 0 where

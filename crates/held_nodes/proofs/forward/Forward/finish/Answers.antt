@@ -53,4 +53,6 @@ returns-clause-roomy c =
     of_plan _ _ _ (returns-clause-ok c) (rw (← c.self.view_is) (done_roomy _ _ _ done))
 
 pub returns-clause-refused : goal.returns-clause-refused
-returns-clause-refused c = memory_refuses _ c.args.self c.plan_of.ensures.refused
+returns-clause-refused c =
+    let light = c.in_ok-copies.ensures.light in
+    memory_refuses _ c.args.self light c.plan_of.ensures.refused
