@@ -14,7 +14,7 @@ use Rattle.dependency_graph.specs.declared.node.Node.TheVariants.{Not, Xor, And}
 use Rattle.dependency_graph.specs.Graphs.{IsKnownBase, IsKnownNode, node_of, nodes_among, operands}
 use Rattle.claim_check.specs.Settled.{SettledView, IsSettled}
 use Rattle.held_nodes.proofs.ValueLemmas.{known_at}
-use Rattle.bennett_pebbling.specs.inside.Marks.{AreNeeds, HasMarked, RestsOn}
+use Rattle.bennett_pebbling.specs.inside.Marks.{AreNeeds, HasMarked, IsNeeded, RestsOn, marked_itself, rested_on}
 
 -- ---- operands
 
@@ -75,6 +75,7 @@ pub record IsMarking (s : SettledView) (lo : ℕ) (start : List Bool) (k : ℕ) 
   pub count : length marks ≡ length start
   pub more : (i : ℕ) → bit_of start i ≡ true → bit_of marks i ≡ true
   pub closed : (i j : ℕ) → k ≤ i → bit_of marks i ≡ true → j < length marks → RestsOn s (lo + i) (lo + j) → bit_of marks j ≡ true
+  pub only : (i : ℕ) → bit_of marks i ≡ true → IsNeeded s lo start i
   pub last : (i : ℕ) → i + 1 ≡ length start → bit_of marks i ≡ bit_of start i
 
 pub bit_inside : (marks : List Bool) (i : ℕ) → bit_of marks i ≡ true → i < length marks
@@ -87,6 +88,7 @@ marking_begun s lo start = record {
   count = refl;
   more = λ i is. is;
   closed = λ i j above is low rests. absurd (omega (arith, above, bit_inside start i is));
+  only = λ i is. marked_itself i is;
   last = λ i e. refl;
 }
 
@@ -95,6 +97,7 @@ marking_done s lo start marks m = record {
   count = m.count;
   more = m.more;
   closed = record { closed = λ i j is low rests. m.closed i j (omega arith) is low rests };
+  only = m.only;
   last = m.last;
 }
 
@@ -107,6 +110,7 @@ marking_over s lo start marks k i next none m = record {
     | inl e ↦ absurd (let clash : false ≡ true = sym none ∙ ap (bit_of marks) (sym e) ∙ is in cc)
     | inr ne ↦ let other : h ≢ i = ne in m.closed h j (omega (arith, above, next)) is low rests
   ];
+  only = m.only;
   last = m.last;
 }
 
@@ -121,8 +125,8 @@ module _ (s : SettledView) (lo : ℕ) (start marks after : List Bool) (k i : ℕ
         absurd (omega (arith, low, above))
   ]
 
-  pub marking_more : i < length start → IsMarking s lo start i after
-  marking_more inside = record {
+  pub marking_more : i < length start → bit_of marks i ≡ true → IsMarking s lo start i after
+  marking_more inside here = record {
     count = h.count ∙ m.count;
     more = λ l is. h.more l (m.more l is);
     closed = λ l j above is low rests. elim (cases_eq l i) as (λ _. bit_of after j ≡ true) [
@@ -132,6 +136,10 @@ module _ (s : SettledView) (lo : ℕ) (start marks after : List Bool) (k i : ℕ
       | inr ne ↦
           let other : l ≢ i = ne in
           h.more j (m.closed l j (omega (arith, above, next)) (was_marked l above is) (subst (λ (n : ℕ). j < n) h.count low) rests)
+    ];
+    only = λ l is. elim (h.only l is) as (λ _. IsNeeded s lo start l) [
+      | inl was ↦ m.only l was
+      | inr among ↦ rested_on i l (m.only i here) (rests_on s (lo + i) (lo + l) node is_node among)
     ];
     last = λ l e.
         let above : i ≤ l = omega (arith, e, inside) in

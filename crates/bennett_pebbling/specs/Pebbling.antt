@@ -14,20 +14,23 @@ pub record IsHalved (s : SettledView) (block levels : ℕ) (m : Measures) : Type
   pub within : IsWithin s m
   pub enough : length s.nodes ≤ block * 2 ^ levels
 
--- The plan's lines and gates are within the numbers of the block, for a block of one node within the fine numbers, and
--- where one block has all nodes, within one work line and four gates for each node.
-pub record IsWithinBlock (s : SettledView) (block : ℕ) (p : PlannedView) : Type 0 where
+-- So many lines, of which some are borrowed, and gates are within the numbers of the block, for a block of one node
+-- within the fine numbers, and where one block has all nodes, within one work line and four gates for each node.
+pub record AreWithinBlock (s : SettledView) (block borrowed lines gates : ℕ) : Type 0 where
   pub block_lines : (m : Measures) (levels : ℕ) → IsHalved s block levels m
-      → p.circuit.lines ≤ block_lines m block levels 0
+      → lines ≤ block_lines m block levels borrowed
   pub block_gates : (m : Measures) (levels : ℕ) → IsHalved s block levels m
-      → length p.circuit.gates ≤ block_gates m block levels
+      → gates ≤ block_gates m block levels
   pub fine_lines : (m : Measures) (levels : ℕ) → block ≡ 1 → IsHalved s 1 levels m
-      → p.circuit.lines ≤ fine_lines m levels 0
+      → lines ≤ fine_lines m levels borrowed
   pub fine_gates : (m : Measures) (levels : ℕ) → block ≡ 1 → IsHalved s 1 levels m
-      → length p.circuit.gates ≤ fine_gates m levels
-  pub plain_lines : length s.nodes ≤ block → p.circuit.lines ≤ first_work s + length s.nodes
-  pub plain_gates : length s.nodes ≤ block
-      → length p.circuit.gates ≤ 4 * length s.nodes + length s.outputs
+      → gates ≤ fine_gates m levels
+  pub plain_lines : length s.nodes ≤ block → lines ≤ first_work s + length s.nodes + borrowed
+  pub plain_gates : length s.nodes ≤ block → gates ≤ 4 * length s.nodes + length s.outputs
+
+-- the plan's lines and gates are
+abbrev pub IsWithinBlock : SettledView → ℕ → PlannedView → Type 0
+IsWithinBlock s block p = AreWithinBlock s block 0 p.circuit.lines (length p.circuit.gates)
 
 -- the budget has fewer lines than each of these numbers
 pub record HasFewLines (s : SettledView) (block : ℕ) (b : BudgetView) : Type 0 where

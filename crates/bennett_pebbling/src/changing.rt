@@ -1,9 +1,9 @@
 // Work on a range of nodes: by halves, down to blocks. The mark at place k is that of node lo + k.
-ghost use Rattle.std.specs.Prelude.{◌≤◌, length, IfOk, IfErr};
+ghost use Rattle.std.specs.Prelude.{◌≡◌, ◌≤◌, length, Ok, IfOk, IfErr};
 ghost use Rattle.held_nodes.specs.Held.{IsForward};
 ghost use Rattle.bennett_pebbling.specs.inside.Changes.{CanWork, IsChanged, IsChangeFault};
 ghost use Rattle.bennett_pebbling.specs.inside.Changes.{IsRisen, IsRiseFault};
-ghost use Rattle.bennett_pebbling.specs.inside.Marks.{AreHalves};
+ghost use Rattle.bennett_pebbling.specs.inside.Marks.{AreHalves, AreHeld};
 
 use crate::block::{lower, raise};
 use crate::needs::{differing, is_held_so, with_cut, with_needs};
@@ -59,7 +59,7 @@ fn rise_block<'s>(
     raise(forward, lo, &marks)
 }
 
-// Holds exactly the wanted nodes of a range.
+// Holds exactly the wanted nodes of a range; where exactly these are held, nothing is changed.
 pub fn change<'s>(
     alloc: Global,
     graph: &Settled,
@@ -71,6 +71,7 @@ pub fn change<'s>(
     requires can { CanWork graph.now forward lo (length wanted.now) }
     requires some { 1 ≤ block }
     ensures changed { IfOk result (IsChanged forward.entry block lo wanted.now) }
+    ensures unchanged { AreHeld forward.entry.lines lo wanted.now → result ≡ Ok forward.entry }
     ensures keeps { IfOk result IsForward }
     ensures refused { IfErr result (IsChangeFault forward.entry block lo wanted.now) }
 {

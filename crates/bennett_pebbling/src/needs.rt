@@ -46,7 +46,8 @@ pub fn outputs_of(alloc: Global, graph: &Settled) -> Result<Vec<bool>, Memory>
 pub fn is_held_so(forward: &Forward<'_>, lo: u32, wanted: &[bool]) -> bool
     requires keeps { IsForward forward.now }
     requires inside { lo + length wanted.now ≤ length forward.now.graph.nodes }
-    ensures { result ≡ true → AreHeld forward.now.lines lo wanted.now }
+    ensures held { result ≡ true → AreHeld forward.now.lines lo wanted.now }
+    ensures differ { result ≡ false → ¬ AreHeld forward.now.lines lo wanted.now }
 {
     for (k, want) in wanted.iter().enumerate() {
         if differ(forward.held(lo + k as u32), *want) {

@@ -78,10 +78,10 @@ gates_enough s b f m is within =
 planned_within : (s : SettledView) (b : BudgetView) (f : ForwardView)
     → IsSwept s b (length s.nodes) [] f → IsWithinEager s (planned_of f)
 planned_within s b f is = record {
-  lines = λ m within.
+  few_lines = λ m within.
       let first = ap first_work is.graph in
       omega (arith, first, lines_enough s m f.most 0 within is.most is.few);
-  gates = λ m within. omega (
+  few_gates = λ m within. omega (
     arith,
     most-finished f.gates (copies_of f),
     most-copies (first_work f.graph) f.lines f.graph.inputs f.graph.outputs,

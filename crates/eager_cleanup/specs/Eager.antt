@@ -1,5 +1,5 @@
 -- What the eager plan needs: no more than the eager numbers.
-use Rattle.std.specs.Prelude.{◌≡◌, ◌<◌, ◌≤◌, ⊤, sum_by}
+use Rattle.std.specs.Prelude.{◌≡◌, ℕ, ◌<◌, ◌≤◌, ⊤, sum_by}
 use Rattle.claim_check.specs.Budgets.{Measures, eager_lines, eager_gates}
 use Rattle.claim_check.specs.Measures.{IsWithin}
 use Rattle.claim_check.specs.Settled.{SettledView}
@@ -9,10 +9,15 @@ use Rattle.gate_split.specs.Costs.{most_gates}
 use Rattle.gate_split.specs.Plans.{BudgetView, PlannedView}
 use Rattle.held_nodes.specs.Plans.{wanted_lines}
 
--- the plan's lines and its split gates are within the eager numbers of all measures within which the settled graph is
-pub record IsWithinEager (s : SettledView) (p : PlannedView) : Type 0 where
-  pub lines : (m : Measures) → IsWithin s m → p.circuit.lines ≤ eager_lines m 0
-  pub gates : (m : Measures) → IsWithin s m → sum_by most_gates p.circuit.gates ≤ eager_gates m
+-- so many lines, of which some are borrowed, and gates are within the eager numbers of all measures within which the
+-- settled graph is
+pub record AreWithinEager (s : SettledView) (borrowed lines gates : ℕ) : Type 0 where
+  pub few_lines : (m : Measures) → IsWithin s m → lines ≤ eager_lines m borrowed
+  pub few_gates : (m : Measures) → IsWithin s m → gates ≤ eager_gates m
+
+-- the plan's lines and its split gates are
+abbrev pub IsWithinEager : SettledView → PlannedView → Type 0
+IsWithinEager s p = AreWithinEager s 0 p.circuit.lines (sum_by most_gates p.circuit.gates)
 
 -- the budget has fewer lines than each such eager number
 pub record HasFewLines (s : SettledView) (b : BudgetView) : Type 0 where

@@ -55,11 +55,19 @@ pub record AreClosed (s : SettledView) (lo : ℕ) (marks : List Bool) : Type 0 w
   pub closed : (k j : ℕ) → bit_of marks k ≡ true → j < length marks
       → RestsOn s (lo + k) (lo + j) → bit_of marks j ≡ true
 
--- the marked nodes and all nodes of the range on which they rest are marked; the last node has the mark that it had
+-- a marked node, or one on which a needed node rests
+pub data IsNeeded (s : SettledView) (lo : ℕ) (start : List Bool) : ℕ → Type 0 where
+  marked_itself : (k : ℕ) → bit_of start k ≡ true → IsNeeded s lo start k
+  rested_on : (k j : ℕ) → IsNeeded s lo start k → RestsOn s (lo + k) (lo + j)
+      → IsNeeded s lo start j
+
+-- the marked nodes and all nodes of the range on which they rest are marked, and nothing else; the last node has the
+-- mark that it had
 pub record AreNeeds (s : SettledView) (lo : ℕ) (start marks : List Bool) : Type 0 where
   pub count : length marks ≡ length start
   pub more : (k : ℕ) → bit_of start k ≡ true → bit_of marks k ≡ true
   pub closed : AreClosed s lo marks
+  pub only : (k : ℕ) → bit_of marks k ≡ true → IsNeeded s lo start k
   pub last : (k : ℕ) → k + 1 ≡ length start → bit_of marks k ≡ bit_of start k
 
 -- these nodes were marked, and nothing else

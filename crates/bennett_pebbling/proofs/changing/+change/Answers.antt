@@ -95,3 +95,18 @@ returns-clause-refused t c =
     IfErr-weaker c.change-3.result (IsChangeFault c.in_ok-forward-2.forward b lo left) (IsChangeFault f b lo wanted)
     (third_short f b lo wanted left right needed half h c.in_ok-forward.forward c.in_ok-forward.ensures.changed
     c.in_ok-forward-2.forward c.in_ok-forward-2.ensures.changed) c.change-3.ensures.refused
+
+pub returns-then-wanted-block-clause-unchanged : goal.returns-then-wanted-block-clause-unchanged
+returns-then-wanted-block-clause-unchanged t c = λ held. absurd (c.is_held_so.ensures.differ c.if-is_held_so.false held)
+
+pub returns-in_err-needed-clause-unchanged : goal.returns-in_err-needed-clause-unchanged
+returns-in_err-needed-clause-unchanged t c = λ held. absurd (c.is_held_so.ensures.differ c.if-is_held_so.false held)
+
+pub returns-in_err-forward-clause-unchanged : goal.returns-in_err-forward-clause-unchanged
+returns-in_err-forward-clause-unchanged t c = λ held. absurd (c.is_held_so.ensures.differ c.if-is_held_so.false held)
+
+pub returns-in_err-forward-2-clause-unchanged : goal.returns-in_err-forward-2-clause-unchanged
+returns-in_err-forward-2-clause-unchanged t c = λ held. absurd (c.is_held_so.ensures.differ c.if-is_held_so.false held)
+
+pub returns-clause-unchanged : goal.returns-clause-unchanged
+returns-clause-unchanged t c = λ held. absurd (c.is_held_so.ensures.differ c.if-is_held_so.false held)

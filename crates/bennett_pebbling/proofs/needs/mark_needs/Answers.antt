@@ -22,4 +22,4 @@ loop-k-preserved-then-marks-k c =
     let next : c.loop-k.k - 1 + 1 ≡ c.loop-k.k = omega (arith, c.loop-k-test.true) in
     let inside : c.loop-k.k - 1 < length c.args.marks.now = omega (arith, c.loop-k-test.true, c.loop-k.auto.k) in
     marking_more c.args.graph.now c.args.lo c.args.marks.now c.loop-k.marks c.mark_operands.new.marks c.loop-k.k (c.loop-k.k - 1) c.node.result
-    c.requires.settled next c.node.ensures c.mark_operands.ensures c.loop-k.invariant inside
+    c.requires.settled next c.node.ensures c.mark_operands.ensures c.loop-k.invariant inside c.if-marks-k.true
