@@ -1,9 +1,10 @@
 -- What is known while blocks are tried, from one block of all nodes down to blocks of one node.
-use Rattle.std.proofs.Common.{◌≡◌, ℕ, zero, suc, ◌+◌, ◌*◌, ◌/◌, ◌^◌, ◌<◌, ◌≤◌, true, length, Ok, Err, inl, inr, refl, sym, subst, ◌∙◌, pow_mono, arith}
+use Rattle.std.proofs.Common.{◌≡◌, ℕ, zero, suc, ◌+◌, ◌*◌, ◌/◌, ◌^◌, ◌<◌, ◌≤◌, ◌⊎◌, true, length, Ok, Err, inl, inr, refl, sym, subst, ◌∙◌, pow_mono, arith}
 use Rattle.std.specs.Prelude.{IfErr, IfOk, Result}
 use Rattle.std.proofs.lemmas.Bool.{cases_lt}
 use Rattle.std.proofs.lemmas.Nat.{pow_pos}
 use Rattle.std.proofs.Math.Nat.{mul-le-mul_left, one-le-pow, pow-succ'}
+use Rattle.eager_cleanup.specs.Eager.{IsEagerFault}
 use Rattle.bennett_pebbling.specs.Pebbling.{HasFewGates, HasFewLines, IsHalved, IsPebblingFault}
 use Rattle.claim_check.specs.Budgets.{Measures, block_gates, block_lines}
 use Rattle.claim_check.specs.Measures.{IsWithin}
@@ -14,8 +15,8 @@ use Rattle.gate_split.specs.Plans.{BudgetView, LaidView}
 use Rattle.held_nodes.specs.Held.{first_work}
 use Rattle.revs_tape.specs.Levels.{IsLevels}
 use Rattle.gate_split.specs.declared.choice.How.TheVariants.{Pebble}
-use Rattle.plan_choice.specs.Choices.{Fit, FineFits, GatesAreFew, IsChoiceFault, IsLaidFor, LinesAreFew, PlainFits, PebblingFits}
-use Rattle.plan_choice.specs.inside.Tried.{IsSearchFault, NoLargerFits, is_refusal}
+use Rattle.plan_choice.specs.Choices.{Fit, FineFits, GatesAreFew, IsChoiceFault, IsLaidFor, IsPebbling, LinesAreFew, NoEagerFits, NoLargerFits, PlainFits, PebblingFits}
+use Rattle.plan_choice.specs.inside.Tried.{IsLaidInBlocks, IsSearchFault, is_refusal}
 
 -- ---- one block
 
@@ -100,6 +101,7 @@ pub record IsSearching (s : SettledView) (b : BudgetView) (block : ℕ) (tried :
   pub power : ℕ
   pub is : block ≡ 2 ^ power
   pub ok : IfOk tried (IsLaidFor s b)
+  pub pebbling : IfOk tried (IsPebbling s b)
   pub refused : IfErr tried (IsSearchFault s block b)
 
 -- the fault of a block is that of the search, where no larger numbers fit if the block's do not
@@ -110,10 +112,22 @@ search_fault s block b (Err (Lines need)) larger h = (larger (few_lines s block 
 search_fault s block b (Err Gates) larger h = (larger (few_gates s block b h), h)
 search_fault s block b (Err Memory) larger h = tt
 
+-- the first plan that was not refused
+is_pebbling : (s : SettledView) (b : BudgetView) (block power : ℕ) (tried : Result LaidView PlanFault) → block ≡ 2 ^ power
+    → (length s.nodes ≤ 2 ^ power) ⊎ NoLargerFits s (2 ^ suc power) b → IfOk tried (IsLaidInBlocks s block b) → IfOk tried (IsPebbling s b)
+is_pebbling s b block power (Ok laid) is first within =
+    record { power = power; within = subst (λ n. IsLaidInBlocks s n b laid) is within; first = first }
+is_pebbling s b block power (Err e) is first within = tt
+
 pub begun : (s : SettledView) (b : BudgetView) (block power : ℕ) (tried : Result LaidView PlanFault) → block ≡ 2 ^ power → length s.nodes ≤ block
-    → IfOk tried (IsLaidFor s b) → IfErr tried (IsPebblingFault s block b) → IsSearching s b block tried
-begun s b block power tried is covers ok refused =
-    record { power = power; is = is; ok = ok; refused = search_fault s block b tried (at_first s block b covers) refused }
+    → IfOk tried (IsLaidFor s b) → IfOk tried (IsLaidInBlocks s block b) → IfErr tried (IsPebblingFault s block b) → IsSearching s b block tried
+begun s b block power tried is covers ok within refused = record {
+  power = power;
+  is = is;
+  ok = ok;
+  pebbling = is_pebbling s b block power tried is (inl (subst (λ n. length s.nodes ≤ n) is covers)) within;
+  refused = search_fault s block b tried (at_first s block b covers) refused;
+}
 
 -- a refusal says that nothing larger fits
 none_larger : (s : SettledView) (block : ℕ) (b : BudgetView) (tried : Result LaidView PlanFault) → is_refusal tried ≡ true
@@ -124,24 +138,37 @@ none_larger s block b (Err Gates) e h = h.0
 none_larger s block b (Err Memory) e h = absurd (cc)
 
 halved_power : (s : SettledView) (b : BudgetView) (block half power : ℕ) (next : Result LaidView PlanFault) → block ≡ 2 ^ power → 1 < block
-    → NoLargerFits s block b → half ≡ block / 2 → IfOk next (IsLaidFor s b) → IfErr next (IsPebblingFault s half b) → IsSearching s b half next
-halved_power s b block half zero next is more before e ok refused = absurd (omega arith)
-halved_power s b block half (suc power) next is more before e ok refused =
+    → NoLargerFits s block b → half ≡ block / 2 → IfOk next (IsLaidFor s b) → IfOk next (IsLaidInBlocks s half b) → IfErr next (IsPebblingFault s half b)
+    → IsSearching s b half next
+halved_power s b block half zero next is more before e ok within refused = absurd (omega arith)
+halved_power s b block half (suc power) next is more before e ok within refused =
     let twice : block ≡ 2 * 2 ^ power = is ∙ pow-succ' 2 power in
     let same : half ≡ 2 ^ power = omega arith in
     record {
       power = power;
       is = same;
       ok = ok;
+      pebbling = is_pebbling s b half power next same (inr (subst (λ size. NoLargerFits s size b) is before)) within;
       refused = subst (λ size. IfErr next (IsSearchFault s size b)) (sym same)
           (search_fault s (2 ^ power) b next (at_half s power b (subst (λ size. NoLargerFits s size b) is before))
           (subst (λ size. IfErr next (IsPebblingFault s size b)) same refused));
     }
 
 pub halved : (s : SettledView) (b : BudgetView) (block half : ℕ) (tried next : Result LaidView PlanFault) → IsSearching s b block tried → 1 < block
-    → is_refusal tried ≡ true → half ≡ block / 2 → IfOk next (IsLaidFor s b) → IfErr next (IsPebblingFault s half b) → IsSearching s b half next
-halved s b block half tried next h more e is ok refused =
-    halved_power s b block half h.power next h.is more (none_larger s block b tried e h.refused) is ok refused
+    → is_refusal tried ≡ true → half ≡ block / 2 → IfOk next (IsLaidFor s b) → IfOk next (IsLaidInBlocks s half b)
+    → IfErr next (IsPebblingFault s half b) → IsSearching s b half next
+halved s b block half tried next h more e is ok within refused =
+    halved_power s b block half h.power next h.is more (none_larger s block b tried e h.refused) is ok within refused
+
+-- ---- the eager plan
+
+-- where an eager plan was refused, the eager numbers do not fit
+pub no_eager : (s : SettledView) (b : BudgetView) (tried : Result LaidView PlanFault) → is_refusal tried ≡ true → IfErr tried (IsEagerFault s b)
+    → NoEagerFits s b
+no_eager s b (Ok laid) e h = absurd (cc)
+no_eager s b (Err (Lines need)) e h = record { none = λ m within fit. (let few = h.0.few m within in let lines = fit.few_lines in omega arith) }
+no_eager s b (Err Gates) e h = record { none = λ m within fit. (let few = h.few m within in let gates = fit.few_gates in omega arith) }
+no_eager s b (Err Memory) e h = absurd (cc)
 
 -- ---- the end
 

@@ -1,5 +1,5 @@
 -- What the split of a plan keeps, and when it is refused.
-use Rattle.std.proofs.Common.{◌≡◌, ℕ, ◌+◌, ◌<◌, ◌≤◌, Bool, false, List, [], ◌∷◌, ◌++◌, length, replicate, Ok, Err, inl, inr, refl, ap, subst, ◌∙◌, arith}
+use Rattle.std.proofs.Common.{◌≡◌, ℕ, ◌+◌, ◌<◌, ◌≤◌, Bool, false, List, [], ◌∷◌, ◌++◌, length, replicate, Ok, Err, inl, inr, refl, sym, ap, subst, ◌∙◌, arith}
 use Rattle.std.specs.List.{AllByRecursion, sum_by}
 use Rattle.std.specs.Prelude.{IfErr, Result}
 use Rattle.std.proofs.lemmas.Bool.{cases_lt}
@@ -7,17 +7,20 @@ use Rattle.std.proofs.lemmas.Bool.Decides.{leb_tells}
 use Rattle.std.proofs.lemmas.List.{length-append, length-map, length-replicate}
 use Rattle.std.proofs.lemmas.List.Sums.{sum_by-cons}
 use Rattle.claim_check.specs.Settled.{SettledView}
-use Rattle.bennett_pebbling.specs.Pebbling.{IsPebblingFault}
+use Rattle.bennett_pebbling.specs.Pebbling.{IsPebblingFault, IsWithinBlock}
+use Rattle.eager_cleanup.specs.Eager.{IsWithinEager}
 use Rattle.gate_split.specs.declared.fault.SplitFault.TheVariants as split
 use Rattle.gate_split.specs.declared.plan.PlanFault.{PlanFault}
 use Rattle.gate_split.specs.declared.plan.PlanFault.TheVariants.{Lines, Gates, Memory}
-use Rattle.gate_split.specs.Costs.{IsRoomyFlip, RoomyFlipsAreSplit, most_gates}
+use Rattle.gate_split.specs.Costs.{IsRoomyFlip, NarrowStay, RoomyFlipsAreSplit, most_gates}
 use Rattle.gate_split.specs.Plans.{BudgetView, CleanCircuitsBorrow, LaidView, MapsCleanly, PlannedView, lines_in, with_borrowed}
 use Rattle.gate_split.specs.Split.{split_list}
 use Rattle.held_nodes.specs.Moves.{roles_of_plan, weight_in}
 use Rattle.mct_circuit.specs.Gates.{AreGatesOn, AreNarrow, CircuitView, GateView, IsGateOn, IsNarrow, flip_of, line_map, positive}
 use Rattle.mct_circuit.specs.Sizes.{weight_of}
-use Rattle.plan_choice.specs.inside.Tried.{IsLaidOf, IsSplitFault}
+use Rattle.mct_circuit.proofs.WeightLemmas.{length-le-weight}
+use Rattle.plan_choice.specs.Choices.{IsEager}
+use Rattle.plan_choice.specs.inside.Tried.{IsLaidInBlocks, IsLaidOf, IsSplitFault}
 
 -- ---- narrow gates
 
@@ -65,6 +68,51 @@ blocks_refused s block b gates (Err (Lines need)) narrow within h = absurd h
 blocks_refused s block b gates (Err Gates) narrow within h = (let stay = narrow_stay gates narrow in absurd (omega arith))
 blocks_refused s block b gates (Err Memory) narrow within h = tt
 
+-- ---- the numbers of a laid plan
+
+-- gates with room become no more than their most gates
+few_split : (n more limit : ℕ) (gates narrow : List GateView) → RoomyFlipsAreSplit → n ≤ more → AllByRecursion (IsRoomyFlip n) gates
+    → split_list more limit gates ≡ Ok narrow → length narrow ≤ limit → length narrow ≤ sum_by most_gates gates
+few_split n more limit gates narrow law few roomy is within = elim (cases_lt limit (sum_by most_gates gates)) [
+  | inl over ↦ omega (arith, over, within)
+  | inr light ↦ (let made = law.split more limit gates (law.wider n more gates few roomy) light in
+      let both : Ok made.narrow ≡ Ok narrow = sym made.is ∙ is in
+      let same : made.narrow ≡ narrow = cc in
+      omega (arith, ap (λ (gs : List GateView). length gs) same, made.few))
+]
+
+pub laid_eager : (s : SettledView) (b : BudgetView) (p : PlannedView) (laid : LaidView) → RoomyFlipsAreSplit
+    → AllByRecursion (IsRoomyFlip p.circuit.lines) p.circuit.gates → IsWithinEager s p → IsLaidOf p b laid → IsEager s b laid
+laid_eager s b p laid law roomy within is =
+    let few = few_split p.circuit.lines (p.circuit.lines + b.borrow) b.gates p.circuit.gates laid.circuit.gates law (omega arith) roomy is.split is.gates in
+    record {
+      few_lines = λ m w. omega (arith, within.few_lines m w, is.size);
+      few_gates = λ m w. omega (arith, within.few_gates m w, few);
+    }
+
+-- narrow gates are laid as they are
+same_gates : (b : BudgetView) (p : PlannedView) (laid : LaidView) → NarrowStay → AreNarrow p.circuit.gates → weight_in p.circuit.gates ≤ b.gates
+    → IsLaidOf p b laid → length laid.circuit.gates ≡ length p.circuit.gates
+same_gates b p laid law narrow light is =
+    let few = length-le-weight p.circuit.gates in
+    let stay = law (p.circuit.lines + b.borrow) b.gates p.circuit.gates narrow (omega (arith, few, light)) in
+    let both : Ok p.circuit.gates ≡ Ok laid.circuit.gates = sym stay ∙ is.split in
+    let same : laid.circuit.gates ≡ p.circuit.gates = cc in
+    ap (λ (gs : List GateView). length gs) same
+
+pub laid_blocks : (s : SettledView) (block : ℕ) (b : BudgetView) (p : PlannedView) (laid : LaidView) → NarrowStay → AreNarrow p.circuit.gates
+    → weight_in p.circuit.gates ≤ b.gates → IsWithinBlock s block p → IsLaidOf p b laid → IsLaidInBlocks s block b laid
+laid_blocks s block b p laid law narrow light within is =
+    let same = same_gates b p laid law narrow light is in
+    record {
+      block_lines = λ m levels h. omega (arith, within.block_lines m levels h, is.size);
+      block_gates = λ m levels h. omega (arith, within.block_gates m levels h, same);
+      fine_lines = λ m levels one h. omega (arith, within.fine_lines m levels one h, is.size);
+      fine_gates = λ m levels one h. omega (arith, within.fine_gates m levels one h, same);
+      plain_lines = λ covers. omega (arith, within.plain_lines covers, is.size);
+      plain_gates = λ covers. omega (arith, within.plain_gates covers, same);
+    }
+
 -- ---- the laid plan
 
 -- the lines of a plan and the borrowed ones
@@ -105,14 +153,16 @@ laid_as p borrowed narrow = record { circuit = narrow; inputs = p.inputs; output
 
 pub is_laid_of : (p : PlannedView) (b : BudgetView) (narrow : CircuitView) → CleanCircuitsBorrow → p.inputs + p.outputs + p.work ≡ p.circuit.lines
     → AreGatesOn p.circuit.lines p.circuit.gates → p.circuit.lines + b.borrow ≤ b.lines → narrow.lines ≡ p.circuit.lines + b.borrow
-    → length narrow.gates ≤ b.gates
+    → split_list (p.circuit.lines + b.borrow) b.gates p.circuit.gates ≡ Ok narrow.gates → length narrow.gates ≤ b.gates
     → ((bits : List Bool) → length bits ≡ p.circuit.lines + b.borrow → line_map narrow.gates bits ≡ line_map p.circuit.gates bits)
     → IsLaidOf p b (laid_as p b.borrow narrow)
-is_laid_of p b narrow law lines on within size few map = record {
+is_laid_of p b narrow law lines on within size split few map = record {
   inputs = refl;
   outputs = refl;
   borrowed = refl;
+  size = size;
   lines = omega arith;
+  split = split;
   gates = few;
   clean = λ value clean. clean_too p b.borrow narrow.gates value law lines on map clean;
 }

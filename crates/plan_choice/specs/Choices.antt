@@ -1,5 +1,5 @@
 -- Which budgets are enough for a choice of plans, and what is laid.
-use Rattle.std.specs.Prelude.{◌≡◌, ℕ, ◌^◌, ◌<◌, ◌≤◌, ◌⊎◌, ⊤, length}
+use Rattle.std.specs.Prelude.{◌≡◌, ℕ, suc, ◌^◌, ◌<◌, ◌≤◌, ◌⊎◌, ⊤, length}
 use Rattle.revs_tape.specs.Levels.{IsLevels}
 use Rattle.claim_check.specs.Budgets.{Measures, plain_lines, plain_gates, fine_lines, fine_gates}
 use Rattle.claim_check.specs.Budgets.{block_lines, block_gates, eager_lines, eager_gates}
@@ -9,6 +9,8 @@ use Rattle.gate_split.specs.declared.plan.PlanFault.{PlanFault}
 use Rattle.gate_split.specs.declared.plan.PlanFault.TheVariants.{Lines, Gates, Memory}
 use Rattle.gate_split.specs.Plans.{BudgetView, LaidView, MapsCleanly, roles_of}
 use Rattle.held_nodes.specs.Plans.{wanted_lines}
+use Rattle.eager_cleanup.specs.Eager.{AreWithinEager}
+use Rattle.bennett_pebbling.specs.Pebbling.{AreWithinBlock}
 use Rattle.gate_split.specs.declared.choice.How.{How}
 use Rattle.gate_split.specs.declared.choice.How.TheVariants.{Auto, Eager, Pebble}
 
@@ -46,6 +48,14 @@ abbrev pub SomeRowFits : How → BudgetView → Measures → Type 0
 SomeRowFits Auto b m = EagerFits b m ⊎ PebblingFits b m
 SomeRowFits Eager b m = EagerFits b m
 SomeRowFits Pebble b m = PebblingFits b m
+
+-- neither the plain numbers fit, nor those of a block of this size or more
+pub record NoLargerFits (s : SettledView) (block : ℕ) (b : BudgetView) : Type 0 where
+  pub plain : (m : Measures) → IsWithin s m → ¬ PlainFits b m
+  pub blocks : (m : Measures) (power levels : ℕ) → IsWithin s m → block ≤ 2 ^ power
+      → IsLevels (2 ^ power) m.steps levels
+      → ¬ Fit b (block_lines m (2 ^ power) levels b.borrow)
+      (block_gates m (2 ^ power) levels)
 
 -- ---- refusals
 
@@ -96,3 +106,27 @@ pub record IsLaidFor (s : SettledView) (b : BudgetView) (laid : LaidView) : Type
   pub lines : laid.circuit.lines ≤ b.lines
   pub gates : length laid.circuit.gates ≤ b.gates
   pub clean : MapsCleanly (roles_of laid) laid.circuit.gates (settled_outputs s)
+
+-- ---- which plan is laid
+
+-- its lines and gates are within the eager numbers
+abbrev pub IsEager : SettledView → BudgetView → LaidView → Type 0
+IsEager s b laid =
+    AreWithinEager s b.borrow laid.circuit.lines (length laid.circuit.gates)
+
+-- they are within the numbers of a block, where one block has all nodes or no row of larger blocks fits
+pub record IsPebbling (s : SettledView) (b : BudgetView) (laid : LaidView) : Type 0 where
+  pub power : ℕ
+  pub within : AreWithinBlock s (2 ^ power) b.borrow laid.circuit.lines
+      (length laid.circuit.gates)
+  pub first : (length s.nodes ≤ 2 ^ power) ⊎ NoLargerFits s (2 ^ suc power) b
+
+-- the eager numbers do not both fit
+pub record NoEagerFits (s : SettledView) (b : BudgetView) : Type 0 where
+  pub none : (m : Measures) → IsWithin s m → ¬ EagerFits b m
+
+-- a plan that the choice allows; pebbling comes only where the eager numbers do not fit, or where it alone is allowed
+abbrev pub IsChosen : How → SettledView → BudgetView → LaidView → Type 0
+IsChosen Auto s b laid = IsEager s b laid ⊎ (NoEagerFits s b × IsPebbling s b laid)
+IsChosen Eager s b laid = IsEager s b laid
+IsChosen Pebble s b laid = IsPebbling s b laid

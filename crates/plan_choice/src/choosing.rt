@@ -1,6 +1,6 @@
 // The first plan that fits.
 ghost use Rattle.std.specs.Prelude.{IfOk, IfErr};
-ghost use Rattle.plan_choice.specs.Choices.{IsChoiceFault, IsLaidFor};
+ghost use Rattle.plan_choice.specs.Choices.{IsChoiceFault, IsChosen, IsLaidFor};
 
 use crate::laying::{is_refused, lay_eager};
 use crate::search::lay_pebbling;
@@ -10,7 +10,9 @@ use std::alloc::Global;
 
 /// The first plan that fits the budget, with its gates split on all its lines and the borrowed
 /// ones. The circuit takes each input, zeros, and anything on the borrowed lines to that input, the
-/// outputs, zeros, and the same on the borrowed lines.
+/// outputs, zeros, and the same on the borrowed lines. An eager plan is within the eager numbers, a
+/// pebbling within those of its block; it is that of the largest block that fits, and `Auto` takes
+/// one only where the eager numbers do not fit.
 ///
 /// # Errors
 ///
@@ -21,6 +23,7 @@ use std::alloc::Global;
 /// than the budget otherwise.
 pub fn choose(alloc: Global, graph: &Settled, budget: &Budget, how: How) -> Result<Laid, PlanFault>
     ensures ok { IfOk result (IsLaidFor graph.now budget.now) }
+    ensures chosen { IfOk result (IsChosen how graph.now budget.now) }
     ensures refused { IfErr result (IsChoiceFault how graph.now budget.now) }
 {
     match how {

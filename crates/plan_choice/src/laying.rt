@@ -4,21 +4,25 @@ ghost use Rattle.std.specs.List.{AllByRecursion};
 ghost use Rattle.bennett_pebbling.specs.Pebbling.{IsPebblingFault};
 ghost use Rattle.eager_cleanup.specs.Eager.{IsEagerFault};
 ghost use Rattle.gate_split.specs.Costs.{IsRoomyFlip};
-ghost use Rattle.plan_choice.specs.Choices.{IsLaidFor};
-ghost use Rattle.plan_choice.specs.inside.Tried.{IsLaidOf, IsSplitFault, is_refusal};
+ghost use Rattle.plan_choice.specs.Choices.{IsEager, IsLaidFor};
+ghost use Rattle.plan_choice.specs.inside.Tried.{IsLaidInBlocks, IsLaidOf, IsSplitFault};
+ghost use Rattle.plan_choice.specs.inside.Tried.{is_refusal};
 
 use claim_check::Settled;
 use gate_split::{
-    Budget, Laid, PlanFault, Planned, SplitFault, clean_circuits_borrow, roomy_flips_are_split,
-    split,
+    Budget, Laid, PlanFault, Planned, SplitFault, clean_circuits_borrow, narrow_stay,
+    roomy_flips_are_split, split,
 };
 use std::alloc::Global;
 
 // The eager plan, laid.
 pub fn lay_eager(alloc: Global, graph: &Settled, budget: &Budget) -> Result<Laid, PlanFault>
     ensures ok { IfOk result (IsLaidFor graph.now budget.now) }
+    ensures eager { IfOk result (IsEager graph.now budget.now) }
     ensures refused { IfErr result (IsEagerFault graph.now budget.now) }
 {
+    // This call says into how many gates flips with room are split.
+    roomy_flips_are_split();
     let planned = eager_cleanup::plan(alloc, graph, budget)?;
     lay(alloc, &planned, budget)
 }
@@ -32,8 +36,11 @@ pub fn lay_blocks(
 ) -> Result<Laid, PlanFault>
     requires { 1 ≤ block }
     ensures ok { IfOk result (IsLaidFor graph.now budget.now) }
+    ensures within { IfOk result (IsLaidInBlocks graph.now block budget.now) }
     ensures refused { IfErr result (IsPebblingFault graph.now block budget.now) }
 {
+    // This call says that narrow gates stay as they are.
+    narrow_stay();
     let planned = bennett_pebbling::plan(alloc, graph, block, budget)?;
     // This call says that the gates are on the circuit's lines.
     let _ = planned.circuit().lines();

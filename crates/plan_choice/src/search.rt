@@ -1,7 +1,7 @@
 // The search for the size of a block.
 ghost use Rattle.std.specs.Prelude.{IfOk, IfErr};
 ghost use Rattle.gate_split.specs.declared.choice.How.TheVariants.{Pebble};
-ghost use Rattle.plan_choice.specs.Choices.{IsChoiceFault, IsLaidFor};
+ghost use Rattle.plan_choice.specs.Choices.{IsChoiceFault, IsLaidFor, IsPebbling};
 
 use crate::laying::{is_refused, lay_blocks};
 use claim_check::Settled;
@@ -12,6 +12,7 @@ use std::alloc::Global;
 // nodes down by halves to 1.
 pub fn lay_pebbling(alloc: Global, graph: &Settled, budget: &Budget) -> Result<Laid, PlanFault>
     ensures ok { IfOk result (IsLaidFor graph.now budget.now) }
+    ensures pebbling { IfOk result (IsPebbling graph.now budget.now) }
     ensures refused { IfErr result (IsChoiceFault Pebble graph.now budget.now) }
 {
     let mut block = graph.nodes().next_power_of_two();

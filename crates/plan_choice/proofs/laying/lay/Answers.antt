@@ -1,4 +1,4 @@
-use Rattle.std.proofs.Common.{◌≡◌, ◌+◌, Bool, List, length, Err, sym, ap, ◌∙◌, arith}
+use Rattle.std.proofs.Common.{◌≡◌, ℕ, ◌+◌, Bool, List, length, Ok, Err, sym, ap, ◌∙◌, arith}
 use Rattle.gate_split.specs.declared.fault.SplitFault.TheVariants.{Gates}
 use Rattle.gate_split.specs.Split.{split_list}
 use Rattle.mct_circuit.specs.Gates.{AreGatesOn, CircuitView, line_map}
@@ -19,8 +19,14 @@ returns-in-Ok-clause-ok c =
     let limit = c.gates.ensures.gates in
     let map : (bits : List Bool) → length bits ≡ p.circuit.lines + b.borrow → line_map narrow.gates bits ≡ line_map p.circuit.gates bits =
     λ bits many. c.in-Ok.ensures.map bits (many ∙ omega arith) ∙ ap (λ (n : CircuitView). line_map n.gates bits) c.circuit-2.ensures.circuit in
+    let more : c.lines-2.result + c.borrow.result ≡ p.circuit.lines + b.borrow = omega arith in
+    let split : split_list (p.circuit.lines + b.borrow) b.gates p.circuit.gates ≡ Ok narrow.gates =
+    ap (λ (n : ℕ). split_list n b.gates p.circuit.gates) (sym more)
+    ∙ ap (λ (n : ℕ). split_list (c.lines-2.result + c.borrow.result) n p.circuit.gates) (sym limit)
+    ∙ ap (λ (n : CircuitView). split_list (c.lines-2.result + c.borrow.result) c.gates.result n.gates) (sym c.circuit-2.ensures.circuit)
+    ∙ c.in-Ok.ensures.gates in
     rw (c.new.ensures, c.inputs.ensures, c.outputs.ensures, c.work.ensures, c.borrow-in-Ok.ensures.borrow)
-    (is_laid_of p b narrow c.clean_circuits_borrow.ensures c.circuit.ensures.lines on c.requires.lines size (omega arith) map)
+    (is_laid_of p b narrow c.clean_circuits_borrow.ensures c.circuit.ensures.lines on c.requires.lines size split (omega arith) map)
 
 pub returns-in-Err-Gates-clause-refused : goal.returns-in-Err-Gates-clause-refused
 returns-in-Err-Gates-clause-refused c =
