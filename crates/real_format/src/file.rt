@@ -1,5 +1,6 @@
 // A file as it was read, and why a text means none.
 ghost use Rattle.std.specs.Prelude.{◌≡◌, length};
+ghost use Rattle.gate_split.specs.declared.plan.TheConstants.{MOST_GATES};
 ghost use Rattle.real_format.specs.declared.file.RealFault.TheVariants.{Memory};
 
 use mct_circuit::Circuit;
@@ -53,6 +54,7 @@ pub struct RealFile {
 
 impl Model for RealFile {
     ghost use Rattle.std.specs.Prelude.{◌≡◌, length};
+    ghost use Rattle.gate_split.specs.declared.plan.TheConstants.{MOST_GATES};
     ghost use Rattle.real_format.specs.Real.{RealView};
 
     ghost Value = { RealView };
@@ -65,7 +67,7 @@ impl Model for RealFile {
     } };
 
     ghost invariant = { λ f. (f.circuit.lines ≡ length f.names.items)
-        × (length f.constants.items ≡ length f.names.items)
+        × (f.circuit.limit ≡ MOST_GATES) × (length f.constants.items ≡ length f.names.items)
         × (length f.garbage.items ≡ length f.names.items) };
 }
 
@@ -78,6 +80,7 @@ impl RealFile {
         circuit: Circuit,
     ) -> RealFile
         requires lines { circuit.lines ≡ length names.items }
+        requires limit { circuit.limit ≡ MOST_GATES }
         requires constants { length constants.items ≡ length names.items }
         requires garbage { length garbage.items ≡ length names.items }
         ensures { result ≡ record {
@@ -118,9 +121,10 @@ impl RealFile {
         &self.garbage
     }
 
-    /// The circuit on the lines. It takes no memory.
+    /// The circuit on the lines; its limit is that of gates. It takes no memory.
     pub fn circuit(&self) -> &Circuit
         ensures lines { result.now.lines ≡ length self.now.names }
+        ensures limit { result.now.limit ≡ MOST_GATES }
         ensures gates { result.now.gates ≡ self.now.gates }
     {
         &self.circuit
@@ -132,6 +136,7 @@ impl RealFile {
         ensures garbage { result.1.items ≡ self.garbage }
         ensures gates { result.2.gates ≡ self.gates }
         ensures lines { result.2.lines ≡ length self.constants }
+        ensures limit { result.2.limit ≡ MOST_GATES }
         ensures fit { length self.garbage ≡ length self.constants }
     {
         let RealFile {

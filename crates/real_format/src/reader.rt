@@ -63,6 +63,7 @@ fn read_behind<'t>(
         ≡ Ok (record begun.now { gates = read.1.gates })) }
     ensures names { IfOk result (λ read. read.0.items ≡ begun.now.names) }
     ensures lines { IfOk result (λ read. read.1.lines ≡ length begun.now.names) }
+    ensures limit { IfOk result (λ read. read.1.limit ≡ MOST_GATES) }
     ensures err { IfErr result (IsFaultOf (verdict_on (in_gates begun.now) lines.old)) }
 {
     let circuit = read_circuit(alloc, begun, lines)?;
@@ -117,6 +118,7 @@ fn read_circuit<'t>(
     ensures ok { IfOk result (λ circuit. verdict_on (in_gates begun.now) lines.old
         ≡ Ok (record begun.now { gates = circuit.gates })) }
     ensures lines { IfOk result (λ circuit. circuit.lines ≡ length begun.now.names) }
+    ensures limit { IfOk result (λ circuit. circuit.limit ≡ MOST_GATES) }
     ensures err { IfErr result (IsFaultOf (verdict_on (in_gates begun.now) lines.old)) }
 {
     let count = begun.names.len();
@@ -139,6 +141,7 @@ fn read_gates<'t>(
         (in_gates (record begun.now { gates = circuit.old.gates })) lines.old
         ≡ Ok (record begun.now { gates = circuit.new.gates })) }
     ensures lines { OnOk result (circuit.new.lines ≡ length begun.now.names) }
+    ensures limit { OnOk result (circuit.new.limit ≡ MOST_GATES) }
     ensures err { IfErr result (IsFaultOf (verdict_on
         (in_gates (record begun.now { gates = circuit.old.gates })) lines.old)) }
 {

@@ -46,3 +46,12 @@ returns-in_err-texts-clause-names c = no_value c.from_residual-in_err-texts.resu
 
 pub returns-in_err-texts-clause-lines : goal.returns-in_err-texts-clause-lines
 returns-in_err-texts-clause-lines c = no_value c.from_residual-in_err-texts.result _ _ c.from_residual-in_err-texts.ensures.1
+
+pub returns-clause-limit : goal.returns-clause-limit
+returns-clause-limit c = c.in_ok-circuit.ensures.limit
+
+pub returns-in_err-circuit-clause-limit : goal.returns-in_err-circuit-clause-limit
+returns-in_err-circuit-clause-limit c = no_value c.from_residual.result _ _ c.from_residual.ensures.1
+
+pub returns-in_err-texts-clause-limit : goal.returns-in_err-texts-clause-limit
+returns-in_err-texts-clause-limit c = no_value c.from_residual-in_err-texts.result _ _ c.from_residual-in_err-texts.ensures.1

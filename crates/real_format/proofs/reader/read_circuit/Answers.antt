@@ -45,3 +45,12 @@ returns-in_err-read_gates-clause-ok c = no_value c.from_residual-in_err-read_gat
 
 pub returns-in_err-read_gates-clause-lines : goal.returns-in_err-read_gates-clause-lines
 returns-in_err-read_gates-clause-lines c = no_value c.from_residual-in_err-read_gates.result _ _ c.from_residual-in_err-read_gates.ensures.1
+
+pub returns-clause-limit : goal.returns-clause-limit
+returns-clause-limit c = c.in_ok-read_gates.ensures.limit
+
+pub returns-in_err-stamps-clause-limit : goal.returns-in_err-stamps-clause-limit
+returns-in_err-stamps-clause-limit c = no_value c.from_residual.result _ _ c.from_residual.ensures.1
+
+pub returns-in_err-read_gates-clause-limit : goal.returns-in_err-read_gates-clause-limit
+returns-in_err-read_gates-clause-limit c = no_value c.from_residual-in_err-read_gates.result _ _ c.from_residual-in_err-read_gates.ensures.1

@@ -48,3 +48,6 @@ pub returns-clause-err : goal.returns-clause-err
 returns-clause-err c =
     text_ended _ (in_gates (let file : RealView = record c.args.begun.now { gates = c.loop-words.circuit.gates } in file)) c.loop-words.lines
     c.next.new.self c.number-2.result (λ k. refl) c.loop-words.invariant.left c.in_default.ensures c.number-2.ensures.number
+
+pub returns-in-Ok-true-clause-limit : goal.returns-in-Ok-true-clause-limit
+returns-in-Ok-true-clause-limit c = on_ok c.read_end.result c.in-Ok-true.ensures.fits.limit
