@@ -1,11 +1,12 @@
 -- Ways out of environments.
 use Rattle.std.proofs.Common.{◌≡◌, ℕ, zero, suc, ◌+◌, ◌-◌, ◌≤◌, ◌<◌, Some, List, [], ◌∷◌, ◌++◌, length, slice_get}
-use Rattle.std.proofs.Common.{slice_index_or, get_or, length-append, arith, refl, sym, ap, ◌∙◌, subst}
+use Rattle.std.proofs.Common.{Option, None, slice_index_or, get_or, length-append, arith, refl, sym, ap, ◌∙◌, subst}
+use Rattle.std.proofs.lemmas.Bool.{eq-eqb, ne_eqb}
 use Rattle.revs_terms.specs.Running.{Environment, nothing, bound, value_at}
 use Rattle.inliner.specs.declared.leaps.Leap.{Leap}
 use Rattle.inliner.specs.declared.machine.Binding.{Binding}
 use Rattle.inliner.specs.declared.machine.Machine.{Machine}
-use Rattle.inliner.specs.inside.Machines.{env_in, bound_in, envs_from, envs_of, farther, Leaps, AreLeaps, AreBindings, IsMachine}
+use Rattle.inliner.specs.inside.Machines.{env_in, bound_in, envs_from, envs_of, farther, Leaps, AreLeaps, AreBindings, IsMachine, joined_leap, leap_at, leap_behind, leap_of}
 use Rattle.inliner.proofs.EnvironmentLemmas.{env_in-front, envs_from-front, added_by, at_place, placed, got}
 
 -- ---- farther out
@@ -95,6 +96,26 @@ passed_twice bs env b c are ls some within e further f =
     let o = out bs env b are ls some within e in
     let q = out bs b.leap.to c are ls further (omega (arith, o.1)) f in
     omega (arith, o.1, q.1)
+
+-- ---- where a leap leads
+
+pub leaps_none : (bs : List Binding) (env : ℕ) → env ≡ 0 → leap_at bs env ≡ None
+leaps_none bs env e = rw (eq-eqb env 0 e) refl
+
+pub leaps_some : (bs : List Binding) (env : ℕ) (b : Binding) → ¬ (env ≡ 0) → slice_get bs (env - 1) ≡ Some b → leap_at bs env ≡ Some b.leap
+leaps_some bs env b some is = rw (ne_eqb env 0 some, is) refl
+
+pub leap_is : (bs : List Binding) (env : ℕ) (near next : Option Leap) → leap_at bs env ≡ near → leap_behind bs near ≡ next
+    → leap_of bs env ≡ joined_leap env near next
+leap_is bs env near next e f = ap (λ (n : Option Leap). joined_leap env n (leap_behind bs n)) e ∙ ap (joined_leap env near) f
+
+pub leap_stays : (env : ℕ) (near next : Leap) → ¬ (near.passed ≡ next.passed)
+    → joined_leap env (Some near) (Some next) ≡ record { to = env; passed = 0 }
+leap_stays env near next differ = rw (ne_eqb near.passed next.passed differ) refl
+
+pub leap_joins : (env : ℕ) (near next : Leap) → near.passed ≡ next.passed
+    → joined_leap env (Some near) (Some next) ≡ record { to = next.to; passed = near.passed + next.passed + 2 }
+leap_joins env near next same = rw (eq-eqb near.passed next.passed same) refl
 
 -- ---- an environment farther out
 

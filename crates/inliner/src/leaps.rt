@@ -1,6 +1,6 @@
 // Ways out of an environment, past many bindings at once.
-ghost use Rattle.std.specs.Prelude.{◌≤◌, [], length};
-ghost use Rattle.inliner.specs.inside.Machines.{AreBindings, AreLeaps, Leaps, envs_from};
+ghost use Rattle.std.specs.Prelude.{◌≡◌, ◌≤◌, [], length};
+ghost use Rattle.inliner.specs.inside.Machines.{AreBindings, AreLeaps, Leaps, envs_from, leap_of};
 
 use crate::machine::Binding;
 
@@ -20,7 +20,8 @@ pub fn leap_from(bindings: &[Binding], env: u32) -> Leap
     requires made { AreBindings 0 bindings.now }
     requires leaps { AreLeaps [] bindings.now }
     requires env { env ≤ length bindings.now }
-    ensures { Leaps (envs_from [] bindings.now) env result }
+    ensures leaps { Leaps (envs_from [] bindings.now) env result }
+    ensures is { result ≡ leap_of bindings.now env }
 {
     let here = Leap { to: env, passed: 0 };
     if env == 0 {

@@ -1,5 +1,5 @@
 -- The machine that runs a program without bits: its environments in one list, in the order in which they were made.
-use Rattle.std.specs.Prelude.{◌≡◌, ℕ, zero, suc, ◌+◌, ◌≤◌, Option, Some, None, List, [], ◌∷◌, ◌++◌, length, drop, map, sum, option_map, slice_index_or, ⊤}
+use Rattle.std.specs.Prelude.{◌≡◌, ℕ, zero, suc, ◌+◌, ◌-◌, ◌≤◌, ◌==◌, if◌then◌else◌, slice_get, Option, Some, None, List, [], ◌∷◌, ◌++◌, length, drop, map, sum, option_map, slice_index_or, ⊤}
 use Rattle.std.specs.List.{AllByRecursion}
 use Rattle.revs_tape.specs.declared.limits.TheConstants.{MOST_INPUTS}
 use Rattle.revs_terms.specs.declared.limits.TheConstants.{MOST_WORK}
@@ -71,6 +71,31 @@ farther (suc n) (bound value far) = farther n far
 pub record Leaps (envs : List Environment) (env : ℕ) (leap : Leap) : Type 0 where
   pub reached : env_in envs leap.to ≡ farther leap.passed (env_in envs env)
   pub before : leap.to + leap.passed ≤ env
+
+-- the leap of an environment's own binding; the empty environment has none
+abbrev pub leap_at : List Binding → ℕ → Option Leap
+leap_at bindings env =
+    if env == 0 then None
+    else option_map (λ (b : Binding). b.leap) (slice_get bindings (env - 1))
+
+-- the leap there, where this one leads
+abbrev pub leap_behind : List Binding → Option Leap → Option Leap
+leap_behind bindings None = None
+leap_behind bindings (Some near) = leap_at bindings near.to
+
+-- two leaps, one behind the other, are one where both pass equally many bindings; else the leap stays
+abbrev pub joined_leap : ℕ → Option Leap → Option Leap → Leap
+joined_leap env None next = record { to = env; passed = 0 }
+joined_leap env (Some near) None = record { to = env; passed = 0 }
+joined_leap env (Some near) (Some next) =
+    if near.passed == next.passed
+    then record { to = next.to; passed = near.passed + next.passed + 2 }
+    else record { to = env; passed = 0 }
+
+-- the leap of a binding in this environment
+abbrev pub leap_of : List Binding → ℕ → Leap
+leap_of bindings env =
+    joined_leap env (leap_at bindings env) (leap_behind bindings (leap_at bindings env))
 
 -- each binding has a leap out of its parent
 abbrev pub AreLeaps : List Environment → List Binding → Type 0

@@ -21,7 +21,7 @@ returns-clause-ok c =
     let bs = c.work.new.self.bindings.items in
     let leap = c.leap_from-leap.result in
     let l : Leaps (envs_from [] bs) c.args.env leap = subst
-    (λ (x : List Binding). Leaps (envs_from [] x) c.args.env leap) c.deref.ensures.value c.leap_from-leap.ensures in
+    (λ (x : List Binding). Leaps (envs_from [] x) c.args.env leap) c.deref.ensures.value c.leap_from-leap.ensures.leaps in
     let leaps : AreLeaps [] c.push.new.self.items = subst (AreLeaps []) (sym c.in_ok-push.ensures.items)
     (leaps_pushed [] bs (record { value = c.args.value; parent = c.args.env; leap = leap }) c.in_ok-work.ensures.ok.kept.leaps l) in
     bound_done c.args.self.now c.work.new.self _ c.args.value c.args.env _ leap c.place.result _ c.place.ensures c.bound_length.result c.bound_length.ensures
