@@ -111,10 +111,11 @@ fn push_copy(narrow: &mut Circuit, gate: &Gate) -> Result<(), GateFault>
     ensures ok { OnOk result (narrow.new ≡ record narrow.old
         { gates = narrow.old.gates ++ gate.now ∷ [] }) }
     ensures within { OnOk result (length narrow.old.gates + 1 ≤ narrow.old.limit) }
-    ensures full { IsErrOf result GateFault.Full → (length narrow.old.gates ≡ narrow.old.limit) }
+    ensures full { IsErrOf result GateFault.Full ↔ (length narrow.old.gates ≡ narrow.old.limit) }
 {
-    // This call says that the gates are within their limit.
-    let _ = narrow.len();
+    if narrow.is_full() {
+        return Err(GateFault::Full);
+    }
     let copy = gate.copy()?;
     narrow.push(copy)
 }

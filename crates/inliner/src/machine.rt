@@ -1,5 +1,6 @@
 // The machine that runs a program without bits.
-ghost use Rattle.std.specs.Prelude.{◌≡◌, length, sum, IfOk, OnOk, IfErr, IsErrOf};
+ghost use Rattle.std.specs.Prelude.{◌≡◌, ◌<◌, length, sum, IfOk, OnOk, IfErr, IsErrOf};
+ghost use Rattle.revs_tape.specs.declared.limits.TheConstants.{MOST_WRITES};
 ghost use Rattle.revs_tape.specs.Tapes.{IsKnown, IsKnownEntry};
 ghost use Rattle.revs_terms.specs.Running.{went, worked, written, read};
 ghost use Rattle.revs_terms.specs.Runs.{no_bits};
@@ -113,6 +114,8 @@ impl<'t> Machine<'t> {
             (written no_bits entry tt at (state_of self.old)) made) }
         ensures err { IfErr result (λ fault. Says fault
             (written no_bits entry tt at (state_of self.old))) }
+        ensures memory { IsErrOf result RunFault.Memory
+            → length self.old.tape.entries < MOST_WRITES }
     {
         if self.tape.len() as usize >= MOST_WRITES {
             return Err(RunFault::stuck(Cause::Writes, at));

@@ -1,5 +1,6 @@
 // Registers and their parts.
-ghost use Rattle.std.specs.Prelude.{◌≡◌, length, IfOk, IfErr};
+ghost use Rattle.std.specs.Prelude.{◌≡◌, ◌≤◌, length, IfOk, IfErr, IsErrOf};
+ghost use Rattle.revs_terms.specs.declared.limits.TheConstants.{MOST_PLACES};
 ghost use Rattle.revs_terms.specs.Running.{registered, short_register, part_of, parts_of, appended};
 ghost use Rattle.revs_terms.specs.Running.{rotated};
 ghost use Rattle.revs_terms.specs.Runs.{no_bits};
@@ -36,6 +37,7 @@ impl<'t> Machine<'t> {
             (short_register no_bits locations.items at (state_of self.old)) value) }
         ensures err { IfErr result (λ fault. Says fault
             (short_register no_bits locations.items at (state_of self.old))) }
+        ensures memory { IsErrOf result RunFault.Memory → length locations.items ≤ MOST_PLACES }
     {
         if locations.len() > MOST_PLACES {
             return Err(RunFault::stuck(Cause::Length, at));
@@ -144,6 +146,7 @@ impl<'t> Machine<'t> {
         ensures err { IfErr result (λ fault. Says fault
             (part_of no_bits at (Part.Index i at) (value_of self.old value.now)
             (state_of self.old))) }
+        ensures exact { ¬ IsErrOf result RunFault.Memory }
     {
         let Some(places) = register(value) else {
             return Err(RunFault::stuck(Cause::NotRegister, at));

@@ -1,6 +1,6 @@
 // Terms, run by their forms.
 ghost use Rattle.revs_tape.specs.declared.limits.TheConstants.{MOST_INPUTS};
-ghost use Rattle.std.specs.Prelude.{◌+◌, ◌≤◌, length, map, IfOk, OnOk, IfErr};
+ghost use Rattle.std.specs.Prelude.{◌+◌, ◌≤◌, length, map, IfOk, OnOk, IfErr, IsErrOf};
 ghost use Rattle.revs_terms.specs.Running.{run_of, term_of, bit_of, bits_of, block_of, apply_to};
 ghost use Rattle.revs_terms.specs.Running.{claimed};
 ghost use Rattle.revs_terms.specs.Runs.{no_bits};
@@ -433,6 +433,7 @@ impl<'t> Machine<'t> {
 fn bit_at(value: &Value, term: &Term) -> Result<u32, RunFault>
     ensures ok { IfOk result (λ location. IsBitAt value.now location) }
     ensures err { IfErr result (λ fault. NoBitAt value.now (place_of (tree_of term.now)) fault) }
+    ensures exact { ¬ IsErrOf result RunFault.Memory }
 {
     match bit(value) {
         Some(location) => Ok(location),

@@ -1,5 +1,6 @@
 // Constants, claims and assignments.
-ghost use Rattle.std.specs.Prelude.{IfOk, IfErr};
+ghost use Rattle.std.specs.Prelude.{◌<◌, length, IfOk, IfErr, IsErrOf};
+ghost use Rattle.revs_tape.specs.declared.limits.TheConstants.{MOST_CLAIMS};
 ghost use Rattle.revs_terms.specs.Running.{constant_bit, claim_on, assigned};
 ghost use Rattle.revs_terms.specs.Runs.{no_bits};
 ghost use Rattle.revs_terms.specs.Terms.{place_of};
@@ -42,6 +43,8 @@ impl<'t> Machine<'t> {
         ensures err { IfErr result (λ fault. Says fault
             (claim_on no_bits kind location (place_of (tree_of operand.now)) at
             (state_of self.old))) }
+        ensures memory { IsErrOf result RunFault.Memory
+            → length self.old.tape.claims < MOST_CLAIMS }
     {
         let of = self.read(location, operand)?;
         if self.tape.claims().len() >= MOST_CLAIMS {
@@ -70,6 +73,7 @@ impl<'t> Machine<'t> {
         ensures err { IfErr result (λ fault. Says fault
             (assigned no_bits to from (place_of (tree_of left.now)) (place_of (tree_of right.now))
             (state_of self.old))) }
+        ensures exact { ¬ IsErrOf result RunFault.Memory }
     {
         self.read(to, left)?;
         let made = self.read(from, right)?;

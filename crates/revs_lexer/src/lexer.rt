@@ -5,7 +5,7 @@ ghost use Rattle.std.specs.List.{find, starts_with};
 ghost use Rattle.std.specs.Str.{bytes_eq};
 ghost use Rattle.revc_base.specs.declared.limits.TheConstants.{MOST_NAME_BYTES};
 ghost use Rattle.text_places.specs.Gaps.{HasNoGap};
-ghost use Rattle.revs_lexer.specs.inside.Pieces.{Takes};
+ghost use Rattle.revs_lexer.specs.inside.Pieces.{BeginsShortName, Takes};
 ghost use Rattle.revs_lexer.specs.Spelling.{word_text, sign_text, is_identifier, Spells};
 ghost use Rattle.revs_lexer.specs.Spelling.{IsWithinLimits};
 ghost use Rattle.revs_lexer.specs.Tokens.{IsLongest, Refuses, IsTokens, IsRefused, closed, IsEnded};
@@ -68,6 +68,7 @@ fn token(alloc: Global, text: &[u8], at: Place) -> Result<(Tok, usize), LexFault
         (drop found.1 text.now) found.0) }
     ensures within { IfOk result (λ found. IsWithinLimits (take found.1 text.now) found.0) }
     ensures refused { IfErr result (λ fault. fault ≢ LexFault.Memory → Refuses at text.now fault) }
+    ensures memory { IsErrOf result LexFault.Memory → BeginsShortName text.now }
 {
     if is_letter(text[0]) {
         let len = name_len(text);

@@ -55,7 +55,7 @@ returns-in_err-push_copy-clause-no_idle c = one_fault refusal.NoIdle c.from_resi
 pub returns-in_err-push_copy-clause-full : goal.returns-in_err-push_copy-clause-full
 returns-in_err-push_copy-clause-full c = one_fault refusal.Full c.from_residual.result c.from_residual.ensures.1
     (λ e. over_by_one c.args.marks.now c.args.narrow.now.limit c.args.narrow.now.gates c.args.gate.now (c.if-is_narrow.ensures.0 refl)
-    (c.in_err-push_copy.ensures.full (ap Err (is_full c.in_err-push_copy.field-0.0 e))))
+    (c.in_err-push_copy.ensures.full.0 (ap Err (is_full c.in_err-push_copy.field-0.0 e))))
 
 pub returns-in_err-push_piece-clause-no_idle : goal.returns-in_err-push_piece-clause-no_idle
 returns-in_err-push_piece-clause-no_idle c = one_fault refusal.NoIdle c.from_residual-in_err-push_piece.result c.from_residual-in_err-push_piece.ensures.1
