@@ -97,7 +97,7 @@ stand_on n lines spots gates h below =
     (λ i from low. gate_on h.controlling h.target spots lines h.count i h.parts (omega (arith, low)) h.spread below
     (lines_are_different h.controlling h.target spots i h.parts (stand_different n i spots gates h (omega (arith, low))))))
 
-stand_same : (n : ℕ) (spots : List Spot) (gates others : List GateView) → StandForGates n spots gates → StandForGates n spots others → gates ≡ others
+pub stand_same : (n : ℕ) (spots : List Spot) (gates others : List GateView) → StandForGates n spots gates → StandForGates n spots others → gates ≡ others
 stand_same n spots gates others h k =
     let parts = same_from_push h.controlling k.controlling h.target k.target (sym h.parts ∙ k.parts) in
     let count = one_count spots h.count k.count h.spread k.spread in

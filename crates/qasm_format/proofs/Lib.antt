@@ -9,6 +9,7 @@ pub mod StatementLemmas
 pub mod FileLemmas
 pub mod FitLemmas
 pub mod OneReadingLemmas
+pub mod SomeReadingLemmas
 pub mod CutLemmas
 pub mod WordLemmas
 pub mod RegisterLemmas

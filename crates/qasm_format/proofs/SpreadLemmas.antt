@@ -17,7 +17,7 @@ use Rattle.qasm_format.specs.declared.spots.Spot.TheVariants.{Line, Whole}
 use Rattle.qasm_format.specs.Registers.{line_at, HasSize, IsLine, AreSpread}
 use Rattle.qasm_format.specs.Stages.{gate_at, StandForGates}
 use Rattle.qasm_format.specs.inside.Spread.{shared, shared_on, shared_by, are_different, AreAllDifferent, MeetSomewhere, ArePushed, controls_at}
-use Rattle.qasm_format.specs.inside.Says.{SpotBelow, AddsGates, StandForNone, PassGates}
+use Rattle.qasm_format.specs.inside.Says.{SpotBelow, AddsGates, StandForFew, StandForNone, PassGates}
 
 -- ---- how many gates
 
@@ -197,12 +197,12 @@ gate_on controls target spots lines count i parts low spread below different = r
       spots below spread.shared));
 }
 
-split_off : (spots : List Spot) → 1 ≤ length spots → (controls : List Spot) × (target : Spot) × (spots ≡ controls ++ target ∷ [])
+pub split_off : (spots : List Spot) → 1 ≤ length spots → (controls : List Spot) × (target : Spot) × (spots ≡ controls ++ target ∷ [])
 split_off [] some = absurd (omega arith)
 split_off (s ∷ []) some = ([], s, refl)
 split_off (s ∷ t ∷ ss) some = let more = split_off (t ∷ ss) (omega arith) in (s ∷ more.0, more.1, ap (λ xs. s ∷ xs) more.2)
 
-stand : (controls : List Spot) (target : Spot) (spots : List Spot) (count n : ℕ) → spots ≡ controls ++ target ∷ [] → length spots ≡ n + 1
+pub stand : (controls : List Spot) (target : Spot) (spots : List Spot) (count n : ℕ) → spots ≡ controls ++ target ∷ [] → length spots ≡ n + 1
     → AreSpread spots count → AreAllDifferent spots count → StandForGates n spots (map (gate_at controls target) (range_with_len 0 count))
 stand controls target spots count n parts long spread different = record {
   controlling = controls;
@@ -241,6 +241,20 @@ added spots count old new some spread different few pushed =
       placed = λ lines below. AllByRecursion-range (IsGateOn lines) (gate_at controls target) 0 count
           (λ i from low. gate_on controls target spots lines count i parts (omega (arith, low)) spread below (different.says i (omega (arith, low))));
       added = pushed.says controls target parts;
+    }
+
+-- gates within their limit, for which memory was wanting
+pub wanted : (spots : List Spot) (count : ℕ) (old : List GateView) → 1 ≤ length spots → AreSpread spots count → AreAllDifferent spots count
+    → length old + count ≤ 4000000 → StandForFew spots old
+wanted spots count old some spread different few =
+    let split = split_off spots some in
+    let controls = split.0 in
+    let target = split.1 in
+    let long = length-map-range_with_len (gate_at controls target) 0 count in
+    record {
+      more = map (gate_at controls target) (range_with_len 0 count);
+      stand = λ n counted. stand controls target spots count n split.2 counted spread different;
+      few = omega arith;
     }
 
 pub passed : (spots : List Spot) (count : ℕ) (old : List GateView) → 1 ≤ length spots → AreSpread spots count → AreAllDifferent spots count

@@ -1,5 +1,5 @@
 -- Why an OpenQASM text means no file: the first token that breaks a rule or passes a limit.
-use Rattle.std.specs.Prelude.{◌≡◌, ℕ, List, []}
+use Rattle.std.specs.Prelude.{◌≡◌, ℕ, ◌⊎◌, List, []}
 use Rattle.revc_base.specs.declared.place.Place.{Place}
 use Rattle.qasm_format.specs.declared.file.QasmFault.{QasmFault}
 use Rattle.qasm_format.specs.declared.file.QasmFault.TheVariants.{Token, Limit, Memory}
@@ -56,3 +56,9 @@ pub record HasOneReading (text : List ℕ) : Type 0 where
 
 abbrev pub OneReading : Type 0
 OneReading = (text : List ℕ) → HasOneReading text
+
+-- each text means a file, or has a fault
+abbrev pub SomeReading : Type 0
+SomeReading =
+    (text : List ℕ)
+    → ((file : QasmView) × MeansFile text file) ⊎ ((fault : QasmFault) × IsTextFault text fault)

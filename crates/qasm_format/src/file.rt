@@ -1,5 +1,6 @@
 // A file as it was read, and why a text means none.
 ghost use Rattle.std.specs.Prelude.{◌≡◌};
+ghost use Rattle.gate_split.specs.declared.plan.TheConstants.{MOST_GATES};
 ghost use Rattle.qasm_format.specs.Registers.{lines_of_all};
 
 use mct_circuit::Circuit;
@@ -24,6 +25,7 @@ pub struct QasmFile {
 
 impl Model for QasmFile {
     ghost use Rattle.std.specs.Prelude.{◌≡◌};
+    ghost use Rattle.gate_split.specs.declared.plan.TheConstants.{MOST_GATES};
     ghost use Rattle.qasm_format.specs.Qasm.{QasmView};
     ghost use Rattle.qasm_format.specs.Registers.{lines_of_all};
 
@@ -31,12 +33,14 @@ impl Model for QasmFile {
 
     ghost view = { λ f. record { registers = f.registers.items; gates = f.circuit.gates } };
 
-    ghost invariant = { λ f. f.circuit.lines ≡ lines_of_all f.registers.items };
+    ghost invariant = { λ f. (f.circuit.lines ≡ lines_of_all f.registers.items)
+        × (f.circuit.limit ≡ MOST_GATES) };
 }
 
 impl QasmFile {
     pub(crate) fn new(registers: Vec<Register>, circuit: Circuit) -> QasmFile
-        requires { circuit.lines ≡ lines_of_all registers.items }
+        requires lines { circuit.lines ≡ lines_of_all registers.items }
+        requires limit { circuit.limit ≡ MOST_GATES }
         ensures { result ≡ record { registers = registers.items; gates = circuit.gates } }
     {
         QasmFile { registers, circuit }
@@ -49,10 +53,11 @@ impl QasmFile {
         &self.registers
     }
 
-    /// The circuit.
+    /// The circuit; its limit is that of gates.
     pub fn circuit(&self) -> &Circuit
         ensures gates { result.now.gates ≡ self.now.gates }
         ensures lines { result.now.lines ≡ lines_of_all self.now.registers }
+        ensures limit { result.now.limit ≡ MOST_GATES }
     {
         &self.circuit
     }
@@ -61,6 +66,7 @@ impl QasmFile {
     pub fn into_circuit(self) -> Circuit
         ensures gates { result.gates ≡ self.gates }
         ensures lines { result.lines ≡ lines_of_all self.registers }
+        ensures limit { result.limit ≡ MOST_GATES }
     {
         let QasmFile { circuit, .. } = self;
         circuit

@@ -1,6 +1,6 @@
 ghost use Rattle.qasm_format.specs.Compiled.{CompiledHasMeaning};
 ghost use Rattle.qasm_format.specs.Converted.{ConvertedHasMeaning};
-ghost use Rattle.qasm_format.specs.Faults.{OneReading};
+ghost use Rattle.qasm_format.specs.Faults.{OneReading, SomeReading};
 ghost use Rattle.qasm_format.specs.Qasm.{MeaningsAreFiles};
 
 /// The law of compiled files: the text of a circuit of narrow gates means, by the format's own
@@ -21,6 +21,12 @@ pub fn converted_meaning()
 /// The function does nothing: its contract is the law.
 pub fn one_reading()
     ensures { OneReading }
+{}
+
+/// The law of some reading: each text means a file or has a fault. The function does nothing: its
+/// contract is the law.
+pub fn some_reading()
+    ensures { SomeReading }
 {}
 
 /// The law of files: what a text means has registers of different names, with 1 to 16,384 lines in

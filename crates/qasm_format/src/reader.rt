@@ -1,6 +1,6 @@
 // The reader of OpenQASM texts: one token after another.
 ghost use Rattle.std.specs.Prelude.{◌≡◌, ◌≢◌, ◌⊎◌, ℕ, ◌+◌, ◌<◌, ◌≤◌, ◌^◌, ◌∷◌, [], ◌++◌, true};
-ghost use Rattle.std.specs.Prelude.{false, length, codes, OnOk, IfOk, IfErr};
+ghost use Rattle.std.specs.Prelude.{false, length, codes, OnOk, IfOk, IfErr, IsErrOf};
 ghost use Rattle.std.specs.List.{AllByRecursion};
 ghost use Rattle.gate_split.specs.declared.plan.TheConstants.{MOST_LINES, MOST_GATES};
 ghost use Rattle.mct_circuit.specs.Gates.{HasDifferentLines, AreGatesOn};
@@ -76,6 +76,7 @@ fn circuit_of(alloc: Global, lines: u32, gates: &mut Vec<Gate>) -> Result<Circui
     requires placed { AreGatesOn lines gates.old.items }
     requires few { length gates.old.items ≤ MOST_GATES }
     ensures lines { IfOk result (λ circuit. circuit.lines ≡ lines) }
+    ensures limit { IfOk result (λ circuit. circuit.limit ≡ MOST_GATES) }
     ensures gates { IfOk result (λ circuit. circuit.gates ≡ gates.old.items) }
 {
     let mut circuit = Circuit::new(alloc, lines, MOST_GATES);
@@ -92,6 +93,7 @@ fn take_word(tokens: &mut Tokens, wanted: &[u8]) -> Result<(), QasmFault>
     requires { 0 < length wanted.now }
     ensures ok { OnOk result (ReadsWord tokens.old tokens.new wanted.now) }
     ensures err { IfErr result (StopsAtWord tokens.old wanted.now) }
+    ensures exact { ¬ IsErrOf result QasmFault.Memory }
 {
     let token = tokens.next();
     if !is_word(token.word, wanted) {
@@ -106,6 +108,7 @@ fn take_words(tokens: &mut Tokens, one: &[u8], other: &[u8]) -> Result<(), QasmF
     requires other { 0 < length other.now }
     ensures ok { OnOk result (ReadsWords tokens.old tokens.new one.now other.now) }
     ensures err { IfErr result (StopsAtWords tokens.old one.now other.now) }
+    ensures exact { ¬ IsErrOf result QasmFault.Memory }
 {
     take_word(tokens, one)?;
     take_word(tokens, other)
@@ -116,6 +119,7 @@ fn take_name<'t>(tokens: &mut Tokens<'t>) -> Result<Token<'t>, QasmFault>
     ensures ok { IfOk result (λ token.
         TakesName tokens.old tokens.new token.word.now token.at) }
     ensures err { IfErr result (IsNameFault tokens.old) }
+    ensures exact { ¬ IsErrOf result QasmFault.Memory }
 {
     let token = tokens.next();
     if !is_identifier(token.word) {
@@ -131,6 +135,7 @@ fn take_name<'t>(tokens: &mut Tokens<'t>) -> Result<Token<'t>, QasmFault>
 fn take_number(tokens: &mut Tokens) -> Result<(u32, Place), QasmFault>
     ensures ok { IfOk result (λ found. TakesNumber tokens.old tokens.new found.0 found.1) }
     ensures err { IfErr result (IsNumberFault tokens.old) }
+    ensures exact { ¬ IsErrOf result QasmFault.Memory }
 {
     let token = tokens.next();
     if !is_number(token.word) {
@@ -145,6 +150,7 @@ fn take_number(tokens: &mut Tokens) -> Result<(u32, Place), QasmFault>
 fn read_head(tokens: &mut Tokens) -> Result<(), QasmFault>
     ensures ok { OnOk result (Reads tokens.old tokens.new head (starts nothing_said)) }
     ensures err { IfErr result (IsStop tokens.old head) }
+    ensures exact { ¬ IsErrOf result QasmFault.Memory }
 {
     take_word(tokens, b"OPENQASM")?;
     take_words(tokens, b"2.0", b";")
@@ -177,6 +183,7 @@ fn end_of(said: &Said, at: Place) -> Result<bool, QasmFault>
         × (1 ≤ lines_of_all said.now.declared.registers)) }
     ensures err { IfErr result (λ fault. (fault ≡ QasmFault.Token at)
         × (lines_of_all said.now.declared.registers ≡ 0)) }
+    ensures exact { ¬ IsErrOf result QasmFault.Memory }
 {
     if said.declared.lines() == 0 {
         return Err(QasmFault::Token { at });
@@ -259,6 +266,7 @@ fn take_size(tokens: &mut Tokens, kind: RegisterKind, lines: u32) -> Result<u32,
     requires { lines ≤ MOST_LINES }
     ensures ok { IfOk result (ReadsSize tokens.old tokens.new kind lines) }
     ensures err { IfErr result (StopsAtSize tokens.old kind lines) }
+    ensures exact { ¬ IsErrOf result QasmFault.Memory }
 {
     take_word(tokens, b"[")?;
     let (size, at) = take_number(tokens)?;
@@ -294,6 +302,7 @@ fn read_argument<'t>(
     ensures ok { IfOk result (λ read. ReadsArgument tokens.old tokens.new declared.now.registers
         read.0 read.1.word.now read.1.at) }
     ensures err { IfErr result (StopsAtArgument tokens.old declared.now.registers) }
+    ensures exact { ¬ IsErrOf result QasmFault.Memory }
 {
     let name = take_name(tokens)?;
     let Some(span) = declared.find(name.word) else {
@@ -312,6 +321,7 @@ fn read_index<'t>(tokens: &mut Tokens<'t>, span: Span) -> Result<(Spot, Token<'t
     ensures ok { IfOk result (λ read. ReadsIndex tokens.old tokens.new span.first span.size
         read.0 read.1.word.now read.1.at) }
     ensures err { IfErr result (StopsAtIndex tokens.old span.first span.size) }
+    ensures exact { ¬ IsErrOf result QasmFault.Memory }
 {
     let (index, at) = take_number(tokens)?;
     if index >= span.size {
@@ -324,6 +334,7 @@ fn read_index<'t>(tokens: &mut Tokens<'t>, span: Span) -> Result<(Spot, Token<'t
 fn read_barrier<'t>(declared: &Declared<'t>, tokens: &mut Tokens<'t>) -> Result<(), QasmFault>
     ensures ok { OnOk result (ReadsBarrier tokens.old tokens.new declared.now.registers) }
     ensures err { IfErr result (StopsAtBarrier tokens.old declared.now.registers) }
+    ensures exact { ¬ IsErrOf result QasmFault.Memory }
 {
     'arguments: loop {
         let (_, behind) = read_argument(declared, tokens)?;

@@ -201,11 +201,17 @@ pub record PassGates (spots : List Spot) (old : List GateView) : Type 0 where
   pub all : (controls : ℕ) (gates : List GateView) → StandForGates controls spots gates
       → MOST_GATES < length old + length gates
 
--- why gates that end at a place were not added
+-- the arguments stand for gates within their limit
+pub record StandForFew (spots : List Spot) (old : List GateView) : Type 0 where
+  pub more : List GateView
+  pub stand : (controls : ℕ) → length spots ≡ controls + 1 → StandForGates controls spots more
+  pub few : length old + length more ≤ MOST_GATES
+
+-- why gates that end at a place were not added; memory is wanted for gates within their limit alone
 abbrev pub IsGateFault : Place → List Spot → List GateView → QasmFault → Type 0
 IsGateFault end spots old (Token at) = (at ≡ end) × StandForNone spots
 IsGateFault end spots old (Limit at) = (at ≡ end) × PassGates spots old
-IsGateFault end spots old Memory = Unit {0}
+IsGateFault end spots old Memory = StandForFew spots old
 
 -- controls and a target were read, and the end of the statement behind them, at this place
 pub record ReadsSpots (old new : Left) (registers : List Register) (controls : ℕ)

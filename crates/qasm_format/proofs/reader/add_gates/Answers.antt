@@ -1,5 +1,6 @@
 use Rattle.std.proofs.Common.{refl, arith}
-use Rattle.qasm_format.proofs.SpreadLemmas.{none_stand, meeting_stand, count_below, added, passed}
+use Rattle.revc_base.proofs.ResultLemmas.{passes_on}
+use Rattle.qasm_format.proofs.SpreadLemmas.{none_stand, meeting_stand, count_below, added, passed, wanted}
 use Rattle.qasm_format.proofs.reader.add_gates.Goals as goal
 
 pub returns-in_default-clause-err : goal.returns-in_default-clause-err
@@ -28,3 +29,9 @@ pub returns-clause-ok : goal.returns-clause-ok
 returns-clause-ok c =
     added c.args.spots.now c.in-Some.count _ _ c.requires.some c.in-Some.ensures.some (c.all_different.ensures.all c.if-not-all_different.false)
     (omega arith) c.in_ok-push_gates.ensures
+
+pub returns-in_err-push_gates-clause-err : goal.returns-in_err-push_gates-clause-err
+returns-in_err-push_gates-clause-err c =
+    passes_on _ c.from_residual.result c.from_residual.ensures.1
+    (wanted c.args.spots.now c.in-Some.count c.args.gates.now.items c.requires.some c.in-Some.ensures.some
+    (c.all_different.ensures.all c.if-not-all_different.false) (omega arith))
