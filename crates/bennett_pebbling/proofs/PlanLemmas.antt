@@ -217,7 +217,7 @@ module _ (s : SettledView) (b : BudgetView) (block : ℕ) (start : ForwardView) 
           let short = fault.plain (omega (arith, low, begin.count)) in
           omega (arith, short, gates_is, start_weight, begin.count);
     }
-    rise_refused Memory fault = tt
+    rise_refused Memory fault = room
 
     -- ---- planned
 
@@ -303,4 +303,4 @@ module _ (s : SettledView) (b : BudgetView) (block : ℕ) (start : ForwardView) 
             let move = (plain_move low).weight in
             omega (arith, fault, f_gates, finished_few, move, start_weight, begin.count);
       }
-      finish_refused Memory fault = tt
+      finish_refused Memory fault = room

@@ -1,5 +1,5 @@
 -- What pebbling by halves down to blocks of nodes needs: no more than the block's numbers.
-use Rattle.std.specs.Prelude.{◌≡◌, ℕ, ◌+◌, ◌*◌, ◌^◌, ◌<◌, ◌≤◌, ⊤, length}
+use Rattle.std.specs.Prelude.{◌≡◌, ℕ, ◌+◌, ◌*◌, ◌^◌, ◌<◌, ◌≤◌, length}
 use Rattle.claim_check.specs.Budgets.{Measures, block_lines, block_gates, fine_lines, fine_gates}
 use Rattle.claim_check.specs.Measures.{IsWithin}
 use Rattle.claim_check.specs.Settled.{SettledView}
@@ -7,7 +7,7 @@ use Rattle.gate_split.specs.declared.plan.PlanFault.{PlanFault}
 use Rattle.gate_split.specs.declared.plan.PlanFault.TheVariants.{Lines, Gates, Memory}
 use Rattle.gate_split.specs.Plans.{BudgetView, PlannedView}
 use Rattle.held_nodes.specs.Held.{first_work}
-use Rattle.held_nodes.specs.Plans.{wanted_lines}
+use Rattle.held_nodes.specs.Plans.{HasPortLines, wanted_lines}
 
 -- all nodes are in blocks of this size after so many halvings, and the settled graph is within the measures
 pub record IsHalved (s : SettledView) (block levels : ℕ) (m : Measures) : Type 0 where
@@ -48,8 +48,8 @@ pub record HasFewGates (s : SettledView) (block : ℕ) (b : BudgetView) : Type 0
       → b.gates < fine_gates m levels
   pub plain : length s.nodes ≤ block → b.gates < 4 * length s.nodes + length s.outputs
 
--- why there is no plan; want of memory has no cause
+-- why there is no plan; memory is wanted only where the budget has the lines of the inputs and outputs
 abbrev pub IsPebblingFault : SettledView → ℕ → BudgetView → PlanFault → Type 0
 IsPebblingFault s block b (Lines need) = HasFewLines s block b × (need ≡ wanted_lines s b)
 IsPebblingFault s block b Gates = HasFewGates s block b
-IsPebblingFault s block b Memory = ⊤
+IsPebblingFault s block b Memory = HasPortLines s b

@@ -19,7 +19,7 @@ use Rattle.gate_split.specs.declared.plan.PlanFault.TheVariants.{Lines, Gates, M
 use Rattle.gate_split.specs.Plans.{BudgetView}
 use Rattle.held_nodes.specs.Held.{ForwardView, first_work, held_count, is_held, work_lines}
 use Rattle.held_nodes.specs.Moves.{IsReadyBase, IsReadyNode, IsStartFault, IsToggleFault}
-use Rattle.held_nodes.specs.Plans.{wanted_lines}
+use Rattle.held_nodes.specs.Plans.{HasPortLines, wanted_lines}
 use Rattle.list_facts.specs.Lists.{IsAmong}
 use Rattle.list_facts.proofs.AmongLemmas.{all_among, all_from_among}
 use Rattle.revs_tape.specs.Monomials.{AreMonomialsOf}
@@ -171,7 +171,15 @@ start_fault s b (Lines need) is = (
   is.1 ∙ wanted_sum s b (omega (arith, is.0, is.1)),
 )
 start_fault s b Gates is = absurd is
-start_fault s b Memory is = tt
+start_fault s b Memory is = is
+
+-- what was begun has the lines of the inputs and outputs
+pub has_port_lines : (s : SettledView) (b : BudgetView) (j : ℕ) (used : List Base) (f : ForwardView) → IsSwept s b j used f → HasPortLines s b
+has_port_lines s b j used f is =
+    let lines = ap (λ (x : BudgetView). x.lines) is.budget in
+    let borrow = ap (λ (x : BudgetView). x.borrow) is.budget in
+    let first = ap first_work is.graph in
+    omega (arith, is.forward.within, lines, borrow, first)
 
 -- a toggle of the next node that is refused
 pub next_fault : (s : SettledView) (b : BudgetView) (j : ℕ) (f : ForwardView) (fault : PlanFault)
@@ -203,7 +211,7 @@ next_fault s b j f Gates is inside fault =
     few_gates s b (gates_in f + 2)
     (omega (arith, gates, fault.1.heavy, toggle_light fault.1.node, light_forward f is.forward))
     (λ cost bounds. omega (arith, is.gates cost bounds, paid_more s cost f.lines j inside))
-next_fault s b j f Memory is inside fault = tt
+next_fault s b j f Memory is inside fault = has_port_lines s b j [] f is
 
 heavy_fault : (s : SettledView) (b : BudgetView) (known : List (Option Polynomial)) (user : ℕ) (base : Base) (used : List Base) (f : ForwardView)
     → AreFirstValues s user known → IsSwept s b (user + 1) used f → user < length s.nodes → IsKnownBase s.inputs user base
@@ -231,7 +239,7 @@ pub used_fault : (s : SettledView) (b : BudgetView) (known : List (Option Polyno
     → IsUseFault s known user base f fault → IsEagerFault s b fault
 used_fault s b known user base used f (Lines need) values is inside low fault = absurd fault
 used_fault s b known user base used f Gates values is inside low fault = heavy_fault s b known user base used f values is inside low fault
-used_fault s b known user base used f Memory values is inside low fault = tt
+used_fault s b known user base used f Memory values is inside low fault = has_port_lines s b (user + 1) used f is
 
 -- ---- the next node
 

@@ -18,7 +18,7 @@ use Rattle.list_facts.specs.Lists.{IsAmong}
 use Rattle.list_facts.proofs.AmongLemmas.{all_among, all_from_among}
 use Rattle.eager_cleanup.specs.Eager.{IsEagerFault, IsWithinEager}
 use Rattle.eager_cleanup.specs.inside.Sweeps.{IsSwept, gates_in}
-use Rattle.eager_cleanup.proofs.BoundLemmas.{cost_in, costs_bound, lines_enough, paid_all, total_within}
+use Rattle.eager_cleanup.proofs.BoundLemmas.{cost_in, costs_bound, has_port_lines, lines_enough, paid_all, total_within}
 use Rattle.eager_cleanup.proofs.CostLemmas.{light_forward, most-copies, most-finished, weight-copies-le}
 use Rattle.eager_cleanup.proofs.SweepLemmas.{settled_of}
 use Rattle.eager_cleanup.proofs.UserLemmas.{output_last}
@@ -106,4 +106,4 @@ finish_fault s b f Gates is fault = record {
     gates_enough s b f m is within,
   );
 }
-finish_fault s b f Memory is fault = tt
+finish_fault s b f Memory is fault = has_port_lines s b (length s.nodes) [] f is

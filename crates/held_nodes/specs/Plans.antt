@@ -17,6 +17,10 @@ pub record IsInBudget (b : BudgetView) (p : PlannedView) : Type 0 where
   pub lines : p.circuit.lines + b.borrow ≤ b.lines
   pub gates : weight_in p.circuit.gates ≤ b.gates
 
+-- the budget has a line for each input, output and borrowed bit
+abbrev pub HasPortLines : SettledView → BudgetView → Type 0
+HasPortLines s b = first_work s + b.borrow ≤ b.lines
+
 -- how many lines a refused plan wants: one for each input, output and borrowed bit where that passes the budget, and
 -- otherwise one more than the budget has
 abbrev pub wanted_lines : SettledView → BudgetView → ℕ

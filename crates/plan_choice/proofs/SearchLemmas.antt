@@ -110,7 +110,7 @@ search_fault : (s : SettledView) (block : ℕ) (b : BudgetView) (tried : Result 
 search_fault s block b (Ok laid) larger h = tt
 search_fault s block b (Err (Lines need)) larger h = (larger (few_lines s block b h.0), h)
 search_fault s block b (Err Gates) larger h = (larger (few_gates s block b h), h)
-search_fault s block b (Err Memory) larger h = tt
+search_fault s block b (Err Memory) larger h = h
 
 -- the first plan that was not refused
 is_pebbling : (s : SettledView) (b : BudgetView) (block power : ℕ) (tried : Result LaidView PlanFault) → block ≡ 2 ^ power
@@ -197,7 +197,7 @@ last_fault : (s : SettledView) (b : BudgetView) (tried : Result LaidView PlanFau
 last_fault s b (Ok laid) h = tt
 last_fault s b (Err (Lines need)) h = (last_lines s b h.0 h.1.0, h.1.1)
 last_fault s b (Err Gates) h = last_gates s b h.0 h.1
-last_fault s b (Err Memory) h = tt
+last_fault s b (Err Memory) h = h
 
 -- blocks of one node are the last
 pub ended : (s : SettledView) (b : BudgetView) (block : ℕ) (tried : Result LaidView PlanFault) → IsSearching s b block tried → block ≤ 1

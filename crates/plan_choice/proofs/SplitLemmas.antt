@@ -16,6 +16,7 @@ use Rattle.gate_split.specs.Costs.{IsRoomyFlip, NarrowStay, RoomyFlipsAreSplit, 
 use Rattle.gate_split.specs.Plans.{BudgetView, CleanCircuitsBorrow, LaidView, MapsCleanly, PlannedView, lines_in, with_borrowed}
 use Rattle.gate_split.specs.Split.{split_list}
 use Rattle.held_nodes.specs.Moves.{roles_of_plan, weight_in}
+use Rattle.held_nodes.specs.Plans.{HasPortLines, HasPorts}
 use Rattle.mct_circuit.specs.Gates.{AreGatesOn, AreNarrow, CircuitView, GateView, IsGateOn, IsNarrow, flip_of, line_map, positive}
 use Rattle.mct_circuit.specs.Sizes.{weight_of}
 use Rattle.mct_circuit.proofs.WeightLemmas.{length-le-weight}
@@ -61,12 +62,12 @@ many_gates n more limit gates law few roomy refused = elim (cases_lt limit (sum_
 ]
 
 -- the split of narrow gates within the budget is refused only for want of memory
-pub blocks_refused : (s : SettledView) (block : ℕ) (b : BudgetView) (gates : List GateView) (tried : Result LaidView PlanFault) → AreNarrow gates
-    → weight_in gates ≤ b.gates → IfErr tried (IsSplitFault gates b) → IfErr tried (IsPebblingFault s block b)
-blocks_refused s block b gates (Ok laid) narrow within h = tt
-blocks_refused s block b gates (Err (Lines need)) narrow within h = absurd h
-blocks_refused s block b gates (Err Gates) narrow within h = (let stay = narrow_stay gates narrow in absurd (omega arith))
-blocks_refused s block b gates (Err Memory) narrow within h = tt
+pub blocks_refused : (s : SettledView) (block : ℕ) (b : BudgetView) (gates : List GateView) (tried : Result LaidView PlanFault) → HasPortLines s b
+    → AreNarrow gates → weight_in gates ≤ b.gates → IfErr tried (IsSplitFault gates b) → IfErr tried (IsPebblingFault s block b)
+blocks_refused s block b gates (Ok laid) lines narrow within h = tt
+blocks_refused s block b gates (Err (Lines need)) lines narrow within h = absurd h
+blocks_refused s block b gates (Err Gates) lines narrow within h = (let stay = narrow_stay gates narrow in absurd (omega arith))
+blocks_refused s block b gates (Err Memory) lines narrow within h = lines
 
 -- ---- the numbers of a laid plan
 
@@ -112,6 +113,10 @@ laid_blocks s block b p laid law narrow light within is =
       plain_lines = λ covers. omega (arith, within.plain_lines covers, is.size);
       plain_gates = λ covers. omega (arith, within.plain_gates covers, same);
     }
+
+-- a plan within the budget has the lines of the inputs and outputs
+pub port_lines : (s : SettledView) (b : BudgetView) (p : PlannedView) → HasPorts s p → p.circuit.lines + b.borrow ≤ b.lines → HasPortLines s b
+port_lines s b p ports within = omega (arith, ports.lines, within)
 
 -- ---- the laid plan
 

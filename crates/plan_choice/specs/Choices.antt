@@ -1,5 +1,5 @@
 -- Which budgets are enough for a choice of plans, and what is laid.
-use Rattle.std.specs.Prelude.{◌≡◌, ℕ, suc, ◌^◌, ◌<◌, ◌≤◌, ◌⊎◌, ⊤, length}
+use Rattle.std.specs.Prelude.{◌≡◌, ℕ, suc, ◌^◌, ◌<◌, ◌≤◌, ◌⊎◌, length}
 use Rattle.revs_tape.specs.Levels.{IsLevels}
 use Rattle.claim_check.specs.Budgets.{Measures, plain_lines, plain_gates, fine_lines, fine_gates}
 use Rattle.claim_check.specs.Budgets.{block_lines, block_gates, eager_lines, eager_gates}
@@ -8,7 +8,7 @@ use Rattle.claim_check.specs.Settled.{SettledView, settled_outputs}
 use Rattle.gate_split.specs.declared.plan.PlanFault.{PlanFault}
 use Rattle.gate_split.specs.declared.plan.PlanFault.TheVariants.{Lines, Gates, Memory}
 use Rattle.gate_split.specs.Plans.{BudgetView, LaidView, MapsCleanly, roles_of}
-use Rattle.held_nodes.specs.Plans.{wanted_lines}
+use Rattle.held_nodes.specs.Plans.{HasPortLines, wanted_lines}
 use Rattle.eager_cleanup.specs.Eager.{AreWithinEager}
 use Rattle.bennett_pebbling.specs.Pebbling.{AreWithinBlock}
 use Rattle.gate_split.specs.declared.choice.How.{How}
@@ -89,11 +89,11 @@ pub record GatesAreFew (how : How) (s : SettledView) (b : BudgetView) : Type 0 w
   pub few : (m : Measures) → IsWithin s m → HasFewGates how b m
   pub no_row : (m : Measures) → IsWithin s m → ¬ SomeRowFits how b m
 
--- why no plan is laid; want of memory has no cause
+-- why no plan is laid; memory is wanted only where the budget has the lines of the inputs and outputs
 abbrev pub IsChoiceFault : How → SettledView → BudgetView → PlanFault → Type 0
 IsChoiceFault how s b (Lines need) = LinesAreFew how s b × (need ≡ wanted_lines s b)
 IsChoiceFault how s b Gates = GatesAreFew how s b
-IsChoiceFault how s b Memory = ⊤
+IsChoiceFault how s b Memory = HasPortLines s b
 
 -- ---- what is laid
 

@@ -52,4 +52,4 @@ abbrev pub IsSearchFault : SettledView → ℕ → BudgetView → PlanFault → 
 IsSearchFault s block b (Lines need) =
     NoLargerFits s block b × IsPebblingFault s block b (Lines need)
 IsSearchFault s block b Gates = NoLargerFits s block b × IsPebblingFault s block b Gates
-IsSearchFault s block b Memory = ⊤
+IsSearchFault s block b Memory = IsPebblingFault s block b Memory

@@ -1,5 +1,6 @@
 use Rattle.std.proofs.Common.{[], ◌+◌, subst, sym}
 use Rattle.eager_cleanup.specs.inside.Sweeps.{IsSwept}
+use Rattle.eager_cleanup.proofs.BoundLemmas.{has_port_lines}
 use Rattle.gate_split.specs.Plans.{BudgetView}
 use Rattle.revc_base.proofs.ResultLemmas.{no_value, passes_on}
 use Rattle.eager_cleanup.proofs.planning.swept_on.Goals as goal
@@ -24,7 +25,8 @@ pub returns-in_err-add_value-clause-swept : goal.returns-in_err-add_value-clause
 returns-in_err-add_value-clause-swept c = no_value c.from_residual-in_err-add_value.result _ _ c.from_residual-in_err-add_value.ensures.1
 
 pub returns-in_err-add_value-clause-refused : goal.returns-in_err-add_value-clause-refused
-returns-in_err-add_value-clause-refused c = passes_on _ c.from_residual-in_err-add_value.result c.from_residual-in_err-add_value.ensures.1 tt
+returns-in_err-add_value-clause-refused c = passes_on _ c.from_residual-in_err-add_value.result c.from_residual-in_err-add_value.ensures.1
+    (has_port_lines _ _ _ _ _ c.loop-node.invariant.0)
 
 pub loop-node-preserved : goal.loop-node-preserved
 loop-node-preserved c =
