@@ -214,7 +214,7 @@ impl<'t> Header<'t> {
     fn add_version(&mut self, words: &mut Words<'t>) -> Result<(), LineRefusal>
         ensures ok { OnOk result (add_version self.old words.old ≡ Ok self.new) }
         ensures err { IfErr result (Refuses (add_version self.old words.old)) }
-        ensures no_memory { ¬ IsErrOf result LineRefusal.Memory }
+        ensures exact { ¬ IsErrOf result LineRefusal.Memory }
     {
         if self.version {
             return Err(LineRefusal::Form);
@@ -232,7 +232,7 @@ impl<'t> Header<'t> {
     fn add_lines(&mut self, words: &mut Words<'t>) -> Result<(), LineRefusal>
         ensures ok { OnOk result (add_lines self.old words.old ≡ Ok self.new) }
         ensures err { IfErr result (Refuses (add_lines self.old words.old)) }
-        ensures no_memory { ¬ IsErrOf result LineRefusal.Memory }
+        ensures exact { ¬ IsErrOf result LineRefusal.Memory }
     {
         if self.lines.is_some() {
             return Err(LineRefusal::Form);
@@ -258,7 +258,7 @@ impl<'t> Header<'t> {
     fn add_inputs(&mut self) -> Result<(), LineRefusal>
         ensures ok { OnOk result (add_inputs self.old ≡ Ok self.new) }
         ensures err { IfErr result (Refuses (add_inputs self.old)) }
-        ensures no_memory { ¬ IsErrOf result LineRefusal.Memory }
+        ensures exact { ¬ IsErrOf result LineRefusal.Memory }
     {
         if self.inputs {
             return Err(LineRefusal::Form);
@@ -270,7 +270,7 @@ impl<'t> Header<'t> {
     fn add_outputs(&mut self) -> Result<(), LineRefusal>
         ensures ok { OnOk result (add_outputs self.old ≡ Ok self.new) }
         ensures err { IfErr result (Refuses (add_outputs self.old)) }
-        ensures no_memory { ¬ IsErrOf result LineRefusal.Memory }
+        ensures exact { ¬ IsErrOf result LineRefusal.Memory }
     {
         if self.outputs {
             return Err(LineRefusal::Form);
@@ -319,7 +319,7 @@ fn count_of(words: &mut Words) -> Result<u32, LineRefusal>
     ensures ok { IfOk result (λ count. count_of words.old ≡ Ok count) }
     ensures few { IfOk result (λ count. count ≤ MOST_LINES) }
     ensures err { IfErr result (Refuses (count_of words.old)) }
-    ensures no_memory { ¬ IsErrOf result LineRefusal.Memory }
+    ensures exact { ¬ IsErrOf result LineRefusal.Memory }
 {
     let Some(word) = words.next() else {
         return Err(LineRefusal::Form);
