@@ -73,6 +73,7 @@ planned order text laid tape s l plan c =
       clean = record {
         inputs = c.plan.inputs ∙ c.graph_of.inputs ∙ ap sum c.tape_of.widths;
         borrows = c.plan.borrowed;
+        placed = subst (λ n. AreGatesOn n laid.circuit.gates) (sym plan.sum_of) plan.on;
         narrow = plan.narrow;
         computes = computes_on laid l.left.program (budget_of order) c;
       };

@@ -1,8 +1,8 @@
 -- What a clean file is, in each format: what it computes, and what its lines hold before and behind.
 use Rattle.std.specs.Prelude.{◌≡◌, ℕ, Bool, List, length, sum}
-use Rattle.gate_split.specs.Plans.{PutsOutputs}
+use Rattle.gate_split.specs.Plans.{PutsOutputs, lines_in}
 use Rattle.gate_split.specs.declared.roles.Roles.{Roles}
-use Rattle.mct_circuit.specs.Gates.{GateView, AreNarrow}
+use Rattle.mct_circuit.specs.Gates.{GateView, AreGatesOn, AreNarrow}
 use Rattle.qasm_format.specs.Compiled as qasm
 use Rattle.real_format.specs.Compiled as real
 use Rattle.revc_words.specs.declared.order.Format.{Format}
@@ -24,12 +24,13 @@ pub record ComputesOn (p : ProgramView) (roles : Roles) (gates : List GateView)
   pub size : length output ≡ roles.outputs
   pub puts : PutsOutputs roles gates input output borrowed
 
--- A clean circuit for a program, with so many borrowed lines: its gates, whose lines have these roles, are each a flip
--- with at most two controls, all positive; and they compute the program on every input.
+-- A clean circuit for a program, with so many borrowed lines: its gates are on lines of these roles, each a flip with at
+-- most two controls, all positive, on different lines; and they compute the program on every input.
 pub record IsCleanCircuit (p : ProgramView) (borrowed : ℕ) (roles : Roles)
     (gates : List GateView) : Type 0 where
   pub inputs : roles.inputs ≡ sum (widths_of p.params)
   pub borrows : roles.borrowed ≡ borrowed
+  pub placed : AreGatesOn (lines_in roles) gates
   pub narrow : AreNarrow gates
   pub computes : (input bits : List Bool) → IsInput p.params input → length bits ≡ borrowed
       → ComputesOn p roles gates input bits
