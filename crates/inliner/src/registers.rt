@@ -1,5 +1,6 @@
 // Registers and their parts.
-ghost use Rattle.std.specs.Prelude.{◌≡◌, ◌≤◌, length, IfOk, IfErr, IsErrOf};
+ghost use Rattle.std.specs.Prelude.{◌≡◌, ◌≤◌, length, IfOk, IfErr, IsErrOf, IsSome};
+ghost use Rattle.array_shapes.specs.Values.{register_of, seen};
 ghost use Rattle.revs_terms.specs.declared.limits.TheConstants.{MOST_PLACES};
 ghost use Rattle.revs_terms.specs.Running.{registered, short_register, part_of, parts_of, appended};
 ghost use Rattle.revs_terms.specs.Running.{rotated};
@@ -61,6 +62,7 @@ impl<'t> Machine<'t> {
         ensures err { IfErr result (λ fault. Says fault
             (rotated no_bits i (place_of (tree_of operand.now)) at (value_of self.old value.now)
             (state_of self.old))) }
+        ensures memory { IsErrOf result RunFault.Memory → IsSome (register_of (seen value.now)) }
     {
         let Some(places) = register(value) else {
             return Err(RunFault::stuck(Cause::NotRegister, operand.place()));
@@ -87,6 +89,8 @@ impl<'t> Machine<'t> {
         ensures err { IfErr result (λ fault. Says fault
             (appended no_bits (place_of (tree_of first.now)) (place_of (tree_of second.now)) at
             (value_of self.old x.now) (value_of self.old y.now) (state_of self.old))) }
+        ensures memory { IsErrOf result RunFault.Memory
+            → IsSome (register_of (seen x.now)) × IsSome (register_of (seen y.now)) }
     {
         let Some(front) = register(x) else {
             return Err(RunFault::stuck(Cause::NotRegister, first.place()));
@@ -173,6 +177,7 @@ impl<'t> Machine<'t> {
         ensures err { IfErr result (λ fault. Says fault
             (part_of no_bits whole (Part.Slice i j at) (value_of self.old value.now)
             (state_of self.old))) }
+        ensures memory { IsErrOf result RunFault.Memory → IsSome (register_of (seen value.now)) }
     {
         let Some(places) = register(value) else {
             return Err(RunFault::stuck(Cause::NotRegister, at));
