@@ -1,6 +1,6 @@
 use Rattle.std.proofs.Common.{◌≡◌, ◌+◌, ◌++◌, drop, sum}
 use Rattle.revs_tape.specs.VariableOrders.{inputs_at}
-use Rattle.claim_check.proofs.variables.push_inputs.Given as goal
+use Rattle.claim_check.proofs.assignments.push_inputs.Given as goal
 
 abbrev pub invariant-loop-width : goal.invariant-loop-width
 invariant-loop-width l =

@@ -4,7 +4,7 @@ use Rattle.list_facts.specs.Lists.{below}
 use Rattle.revs_tape.specs.VariableOrders.{inputs_at}
 use Rattle.claim_check.proofs.OrderTableLemmas.{order_is, order_more}
 use Rattle.revc_base.proofs.ResultLemmas.{no_value}
-use Rattle.claim_check.proofs.variables.variable_order.Goals as goal
+use Rattle.claim_check.proofs.assignments.variable_order.Goals as goal
 
 pub returns : goal.returns
 returns c =

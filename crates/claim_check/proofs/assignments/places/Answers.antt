@@ -2,7 +2,7 @@ use Rattle.std.proofs.Common.{get_or, ◌∙◌, arith}
 use Rattle.std.proofs.lemmas.List.{length-set}
 use Rattle.claim_check.proofs.OrderTableLemmas.{place_written, places_are}
 use Rattle.revc_base.proofs.ResultLemmas.{no_value}
-use Rattle.claim_check.proofs.variables.places.Goals as goal
+use Rattle.claim_check.proofs.assignments.places.Goals as goal
 
 pub loop-place-preserved : goal.loop-place-preserved
 loop-place-preserved c =

@@ -3,7 +3,7 @@ use Rattle.std.proofs.lemmas.Result.{IfOk-weaker}
 use Rattle.revs_tape.proofs.VariableOrderLemmas.{is_order}
 use Rattle.claim_check.proofs.OrderTableLemmas.{order_of_list, variables_are}
 use Rattle.revc_base.proofs.ResultLemmas.{no_value}
-use Rattle.claim_check.proofs.variables.variables.Goals as goal
+use Rattle.claim_check.proofs.assignments.variables.Goals as goal
 
 pub places-requires-clause-few : goal.places-requires-clause-few
 places-requires-clause-few c =

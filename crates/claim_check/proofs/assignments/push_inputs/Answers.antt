@@ -3,8 +3,8 @@ use Rattle.std.proofs.lemmas.Bool.{lt-ltb, le-ltb}
 use Rattle.revs_tape.specs.VariableOrders.{inputs_at}
 use Rattle.claim_check.proofs.OrderTableLemmas.{sum_next, inputs_more}
 use Rattle.revc_base.proofs.ResultLemmas.{no_promise}
-use Rattle.claim_check.proofs.variables.push_inputs.Goals as goal
-use Rattle.claim_check.proofs.variables.push_inputs.Goals.{then-place-width+in_ok-push, else-place-width}
+use Rattle.claim_check.proofs.assignments.push_inputs.Goals as goal
+use Rattle.claim_check.proofs.assignments.push_inputs.Goals.{then-place-width+in_ok-push, else-place-width}
 
 pub returns-in_err-push : goal.returns-in_err-push
 returns-in_err-push c = no_promise c.from_residual.result _ _ c.from_residual.ensures.1

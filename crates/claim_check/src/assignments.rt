@@ -1,9 +1,10 @@
 // The variables of a diagram, and the inputs that they are.
 ghost use Rattle.std.specs.Prelude.{◌≡◌, ◌<◌, ◌≤◌, ◌++◌, ◌^◌, length, slice_index, sum, EachIndex};
-ghost use Rattle.std.specs.Prelude.{IfOk, OnOk};
+ghost use Rattle.std.specs.Prelude.{IfOk, OnOk, map};
+ghost use Rattle.list_facts.specs.Bits.{bit_of};
 ghost use Rattle.revs_tape.specs.Tapes.{AreWidths};
 ghost use Rattle.revs_tape.specs.VariableOrders.{IsOrderOf, inputs_at, variable_order};
-ghost use Rattle.claim_check.specs.inside.Variables.{AreVariables};
+ghost use Rattle.claim_check.specs.Variables.{AreVariables};
 
 use revc_base::Memory;
 use std::alloc::Global;
@@ -55,7 +56,8 @@ fn places(alloc: Global, order: &[u32]) -> Result<Vec<u32>, Memory>
     Ok(places)
 }
 
-// The variable of each input.
+/// The variable of each input, by its place in the order of the variables of parameters with these
+/// widths.
 pub fn variables(alloc: Global, params: &[u32]) -> Result<Vec<u32>, Memory>
     requires { AreWidths params.now }
     ensures { IfOk result (λ variables.
@@ -63,4 +65,23 @@ pub fn variables(alloc: Global, params: &[u32]) -> Result<Vec<u32>, Memory>
 {
     let order = variable_order(alloc, params)?;
     places(alloc, &order)
+}
+
+// The bit at a place; past the end it is false.
+fn bit_of(bits: &[bool], place: u32) -> bool
+    ensures { result ≡ bit_of bits.now place }
+{
+    bits.get(place as usize).copied().unwrap_or(false)
+}
+
+/// The bits that an assignment of the variables gives, where each has its variable.
+pub fn bits_of(alloc: Global, assignment: &[bool], variables: &[u32]) -> Result<Vec<bool>, Memory>
+    ensures { IfOk result (λ bits. bits.items ≡ map (bit_of assignment.now) variables.now) }
+{
+    Ok(
+        variables
+            .iter()
+            .map(|variable| bit_of(assignment, *variable))
+            .collect(alloc)?,
+    )
 }
