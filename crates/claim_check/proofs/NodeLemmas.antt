@@ -11,7 +11,7 @@ use Rattle.dependency_graph.specs.declared.node.Base.TheVariants as bases
 use Rattle.dependency_graph.specs.declared.node.Node.{Node}
 use Rattle.dependency_graph.specs.declared.node.Node.TheVariants.{Not, Xor, And}
 use Rattle.dependency_graph.specs.Graphs.{AreKnownNodes, IsKnownBase, IsKnownNode, base_bit, node_bit, made_by}
-use Rattle.held_nodes.specs.Held.{node_value}
+use Rattle.claim_check.specs.Measures.{node_function}
 
 -- the values of all nodes on an input
 abbrev pub values_on : SettledView → List Bool → List Bool
@@ -75,7 +75,7 @@ bit_at n assignment made (y ∷ ys) (suc i) x known is =
 
 -- a node's value is that of its form over the values of all nodes
 pub value_of_node : (s : SettledView) (input : List Bool) (k : ℕ) (node : Node) → AreKnownNodes s.inputs 0 s.nodes → slice_get s.nodes k ≡ Some node
-    → node_value s input k ≡ node_bit (bit_of input) (values_on s input) node
+    → node_function s k input ≡ node_bit (bit_of input) (values_on s input) node
 value_of_node s input k node known is =
     let same : k ≡ 0 + k = omega arith in
     ap (bit_of (values_on s input)) same ∙ bit_at s.inputs (bit_of input) [] s.nodes k node known is
