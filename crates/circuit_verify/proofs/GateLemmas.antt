@@ -2,7 +2,7 @@
 use Rattle.std.proofs.Common.{ℕ, ◌<◌, List, length, take, drop, suc, get_or}
 use Rattle.std.specs.List.{AllByRecursion}
 use Rattle.list_facts.proofs.CutLemmas.{cut_at, length-take_below}
-use Rattle.mct_circuit.specs.Gates.{GateView, IsNarrow, AreNarrow}
+use Rattle.mct_circuit.specs.Gates.{GateView, IsNarrow}
 use Rattle.circuit_verify.specs.Verdicts.{IsFirstWide}
 
 pub first_wide : (gates : List GateView) (place : ℕ) (d : GateView) → place < length gates → AllByRecursion IsNarrow (take place gates)

@@ -1,8 +1,10 @@
 -- What is said of a circuit that is compared with a program.
-use Rattle.std.specs.Prelude.{◌≡◌, ◌≢◌, ℕ, ◌<◌, ◌≤◌, Bool, List, ◌∷◌, ◌++◌, length}
+use Rattle.std.specs.Prelude.{◌≡◌, ℕ, ◌<◌, ◌≤◌, Bool, List, ◌∷◌, ◌++◌, length}
 use Rattle.list_facts.specs.Bits.{bit_of}
 use Rattle.revs_tape.specs.Tapes.{TapeView}
 use Rattle.revs_tape.specs.VariableOrders.{IsBefore}
+use Rattle.decision_diagram.specs.declared.node.DdFault.{DdFault}
+use Rattle.decision_diagram.specs.declared.node.DdFault.TheVariants as dd
 use Rattle.claim_check.specs.Settled.{SettledView, IsSettledOf}
 use Rattle.mct_circuit.specs.Gates.{CircuitView, GateView, IsNarrow, AreNarrow, line_map}
 use Rattle.circuit_verify.specs.declared.fault.VerifyFault.{VerifyFault}
@@ -67,6 +69,11 @@ IsVerifyFault q limit (faults.Gate gate) = HasEnoughLines q × IsFirstWide q.cir
 IsVerifyFault q limit (faults.Diagram nodes) = IsComparable q × HasMore q limit × (nodes ≡ limit)
 IsVerifyFault q limit (faults.Differs line bits) = IsComparable q × DiffersFirst q line bits
 IsVerifyFault q limit faults.Memory = IsComparable q
+
+-- the fault of a diagram as that of a comparison
+abbrev pub verify_fault : DdFault → VerifyFault
+verify_fault (dd.Full nodes) = faults.Diagram nodes
+verify_fault dd.Memory = faults.Memory
 
 -- ---- laws
 

@@ -1,7 +1,9 @@
 // Why a circuit is not verified.
 ghost use Rattle.std.specs.Prelude.{◌≡◌};
 
+use decision_diagram::DdFault;
 use revc_base::{Bits, Memory};
+use std::alloc::{AllocError, AllocFailed};
 
 /// Why a circuit is not verified against a program. Lines and gates are counted from 0.
 #[derive(Debug, Drop)]
@@ -29,6 +31,42 @@ impl From<Memory> for VerifyFault {
     ghost from_gives = { λ _ fault. fault ≡ Memory };
 
     fn from(_: Memory) -> VerifyFault {
+        VerifyFault::Memory
+    }
+}
+
+impl From<DdFault> for VerifyFault {
+    ghost use Rattle.std.specs.Prelude.{◌≡◌};
+    ghost use Rattle.circuit_verify.specs.Verdicts.{verify_fault};
+
+    ghost from_gives = { λ dd fault. fault ≡ verify_fault dd };
+
+    fn from(fault: DdFault) -> VerifyFault {
+        match fault {
+            DdFault::Full { nodes } => VerifyFault::Diagram { nodes },
+            DdFault::Memory => VerifyFault::Memory,
+        }
+    }
+}
+
+impl From<AllocError> for VerifyFault {
+    ghost use Rattle.std.specs.Prelude.{◌≡◌};
+    ghost use Rattle.circuit_verify.specs.declared.fault.VerifyFault.TheVariants.{Memory};
+
+    ghost from_gives = { λ _ fault. fault ≡ Memory };
+
+    fn from(_: AllocError) -> VerifyFault {
+        VerifyFault::Memory
+    }
+}
+
+impl<T: Drop> From<AllocFailed<T>> for VerifyFault {
+    ghost use Rattle.std.specs.Prelude.{◌≡◌};
+    ghost use Rattle.circuit_verify.specs.declared.fault.VerifyFault.TheVariants.{Memory};
+
+    ghost from_gives = { λ _ fault. fault ≡ Memory };
+
+    fn from(_: AllocFailed<T>) -> VerifyFault {
         VerifyFault::Memory
     }
 }

@@ -3,7 +3,7 @@ ghost use Rattle.std.specs.Prelude.{MatchOption};
 ghost use Rattle.mct_circuit.specs.Gates.{AreNarrow};
 ghost use Rattle.circuit_verify.specs.Verdicts.{IsFirstWide};
 
-use crate::narrow::is_narrow;
+use gate_split::is_narrow;
 use mct_circuit::Gate;
 
 // The first gate that is no flip with at most two controls, all positive.

@@ -3,11 +3,17 @@ ghost use Rattle.std.specs.Prelude.{◌≡◌, ◌≤◌, sum, IfErr, OnOk};
 ghost use Rattle.revs_tape.specs.Tapes.{AreWidths};
 ghost use Rattle.gate_split.specs.declared.plan.TheConstants.{MOST_BORROWED};
 ghost use Rattle.circuit_verify.specs.Comparisons.{of_settled};
-ghost use Rattle.circuit_verify.specs.Verdicts.{IsVerified, IsVerifyFault, IsComparable};
+ghost use Rattle.circuit_verify.specs.Verdicts.{IsVerified, IsVerifyFault};
+ghost use Rattle.circuit_verify.specs.inside.Compared.{comparison};
 
 use crate::VerifyFault;
+use crate::compared::Compared;
 use crate::gates::first_wide;
+use crate::judging::judge;
+use crate::places::all_variables;
+use crate::walking::ends_of;
 use claim_check::Settled;
+use decision_diagram::Diagram;
 use mct_circuit::Circuit;
 use std::alloc::Global;
 
@@ -56,37 +62,24 @@ pub fn verify(
     if let Some(gate) = first_wide(c.gates()) {
         return Err(VerifyFault::Gate { gate });
     }
-    compare(alloc, s, params, c, borrow, limit)
+    let compared = Compared {
+        graph: s,
+        params,
+        circuit: c,
+        borrow,
+    };
+    compare(alloc, &compared, limit)
 }
 
-// Verifies a circuit that can be compared.
-fn compare(
-    _alloc: Global,
-    s: &Settled,
-    params: &[u32],
-    c: &Circuit,
-    borrow: u32,
-    limit: u32,
-) -> Result<(), VerifyFault>
-    requires widths { AreWidths params.now }
-    requires inputs { sum params.now ≡ s.now.inputs }
-    requires borrow { borrow ≤ MOST_BORROWED }
-    requires some { 1 ≤ limit }
-    requires comparable { IsComparable (record {
-      program = of_settled params.now s.now;
-      circuit = c.now;
-      borrow = borrow;
-    }) }
-    ensures verified { OnOk result (IsVerified (record {
-      program = of_settled params.now s.now;
-      circuit = c.now;
-      borrow = borrow;
-    })) }
-    ensures refused { IfErr result (IsVerifyFault (record {
-      program = of_settled params.now s.now;
-      circuit = c.now;
-      borrow = borrow;
-    }) limit) }
+// Verifies a circuit that can be compared, in a new diagram.
+fn compare(alloc: Global, compared: &Compared, limit: u32) -> Result<(), VerifyFault>
+    requires { 1 ≤ limit }
+    ensures verified { OnOk result (IsVerified (comparison compared.now)) }
+    ensures refused { IfErr result (IsVerifyFault (comparison compared.now) limit) }
 {
-    Err(VerifyFault::Memory)
+    let count = compared.variables();
+    let variables = all_variables(alloc, compared)?;
+    let mut diagram = Diagram::new(alloc, count, limit)?;
+    let ends = ends_of(alloc, &mut diagram, compared, &variables)?;
+    judge(alloc, &diagram, compared, &variables, &ends)
 }

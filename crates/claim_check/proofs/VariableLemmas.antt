@@ -112,7 +112,7 @@ same_bits v one other size size2 same = ext_get_or false one other (omega (arith
     let at = some_variable v i (omega (arith, lt, size)) in
     ap (bit_of one) (sym at.is) ∙ same at.place at.inside ∙ ap (bit_of other) at.is)
 
-at_below : (n k : ℕ) → k < n → get_or (below n) k 0 ≡ k
+pub at_below : (n k : ℕ) → k < n → get_or (below n) k 0 ≡ k
 at_below zero k low = absurd (omega (arith, low))
 at_below (suc n) k low = elim (cases_lt k n) as (λ _. get_or (below (suc n)) k 0 ≡ k) [
   | inl less ↦ get_or_append_left (below n) (n ∷ []) 0 k (omega (arith, length-below n, less)) ∙ at_below n k less
