@@ -1,0 +1,152 @@
+-- A comparison ends in one way.
+use Rattle.std.proofs.Common.{◌≡◌, ℕ, zero, suc, ◌<◌, ◌≤◌, ◌⊎◌, inl, inr, Bool, true, false, List, [], ◌∷◌, length, take, drop, get_or, sym, ap, ◌∙◌}
+use Rattle.std.proofs.Common.{subst, arith}
+use Rattle.std.specs.List.{AllByRecursion}
+use Rattle.std.proofs.lemmas.Bool.{cases_Bool, cases_lt}
+use Rattle.std.proofs.lemmas.List.{get_or_append_left, get_or_at, length-drop, length-take-le}
+use Rattle.list_facts.specs.Bits.{bit_of}
+use Rattle.list_facts.proofs.AllLemmas.{AllByRecursion-at, AllByRecursion-right}
+use Rattle.list_facts.proofs.CutLemmas.{cut_at}
+use Rattle.revs_tape.specs.VariableOrders.{IsBefore}
+use Rattle.claim_check.proofs.VariableLemmas.{AreBits, Ordered, assignment_at, same_bits}
+use Rattle.mct_circuit.specs.Gates.{AreNarrow, GateView, IsNarrow}
+use Rattle.circuit_verify.specs.Comparisons.{Comparison, Agrees, inputs_in}
+use Rattle.circuit_verify.specs.Verdicts.{ComparisonsEndInOneWay, DiffersFirst, IsFirstWide}
+use Rattle.circuit_verify.proofs.OrderLemmas.{ordered_in}
+
+-- ---- the first wide gate
+
+no_wide : (gates : List GateView) (at : ℕ) → AreNarrow gates → IsFirstWide gates at → ⊥
+no_wide gates at narrow first =
+    first.is_wide (AllByRecursion-right IsNarrow first.before (first.wide ∷ first.behind) (subst AreNarrow first.cut narrow)).0
+
+no_later : (gates : List GateView) (at other : ℕ) → IsFirstWide gates at → IsFirstWide gates other → at < other → ⊥
+no_later gates at other first second less =
+    let d : GateView = first.wide in
+    let inside : at < length second.before = omega (arith, less, second.count) in
+    let here : get_or gates at d ≡ first.wide =
+    ap (λ (gs : List GateView). get_or gs at d) first.cut ∙ get_or_at first.before first.wide first.behind d at first.count in
+    let there : get_or gates at d ≡ get_or second.before at d =
+    ap (λ (gs : List GateView). get_or gs at d) second.cut ∙ get_or_append_left second.before (second.wide ∷ second.behind) d at inside in
+    first.is_wide (subst IsNarrow (sym there ∙ here) (AllByRecursion-at IsNarrow second.before at d second.narrow inside))
+
+one_wide : (gates : List GateView) (at other : ℕ) → IsFirstWide gates at → IsFirstWide gates other → at ≡ other
+one_wide gates at other first second =
+    elim (cases_lt at other) as (λ _. at ≡ other) [
+      | inl less ↦ absurd (no_later gates at other first second less)
+      | inr most ↦ elim (cases_lt other at) as (λ _. at ≡ other) [
+        | inl less ↦ absurd (no_later gates other at second first less)
+        | inr more ↦ omega (arith, most, more)
+      ]
+    ]
+
+-- ---- bits in an order
+
+-- where two functions of numbers first differ
+record IsApart (n : ℕ) (f g : ℕ → Bool) : Type 0 where
+  at : ℕ
+  inside : at < n
+  same : (k : ℕ) → k < at → f k ≡ g k
+  low : f at ≡ false
+  high : g at ≡ true
+
+apart_more : (n : ℕ) (f g : ℕ → Bool) → IsApart n f g → IsApart (suc n) f g
+apart_more n f g a = record { at = a.at; inside = omega (arith, a.inside); same = a.same; low = a.low; high = a.high }
+
+abbrev Compared : ℕ → (ℕ → Bool) → (ℕ → Bool) → Type 0
+Compared n f g = ((k : ℕ) → k < n → f k ≡ g k) ⊎ (IsApart n f g ⊎ IsApart n g f)
+
+same_more : (n : ℕ) (f g : ℕ → Bool) → ((k : ℕ) → k < n → f k ≡ g k) → f n ≡ g n → (k : ℕ) → k < suc n → f k ≡ g k
+same_more n f g all here k low = elim (cases_lt k n) as (λ _. f k ≡ g k) [
+  | inl less ↦ all k less
+  | inr last ↦ let e : k ≡ n = omega (arith, low, last) in ap f e ∙ here ∙ sym (ap g e)
+]
+
+compared : (n : ℕ) (f g : ℕ → Bool) → Compared n f g
+compared zero f g = inl (λ k low. absurd (omega (arith, low)))
+compared (suc n) f g = elim (compared n f g) as (λ _. Compared (suc n) f g) [
+  | inr differ ↦ elim differ as (λ _. Compared (suc n) f g) [
+    | inl first ↦ inr (inl (apart_more n f g first))
+    | inr second ↦ inr (inr (apart_more n g f second))
+  ]
+  | inl all ↦ elim (cases_Bool (f n)) as (λ _. Compared (suc n) f g) [
+    | inl f_high ↦ elim (cases_Bool (g n)) as (λ _. Compared (suc n) f g) [
+      | inl g_high ↦ inl (same_more n f g all (f_high ∙ sym g_high))
+      | inr g_low ↦ inr (inr (record { at = n; inside = omega arith; same = λ k low. sym (all k low); low = g_low; high = f_high }))
+    ]
+    | inr f_low ↦ elim (cases_Bool (g n)) as (λ _. Compared (suc n) f g) [
+      | inl g_high ↦ inr (inl (record { at = n; inside = omega arith; same = all; low = f_low; high = g_high }))
+      | inr g_low ↦ inl (same_more n f g all (f_low ∙ sym g_low))
+    ]
+  ]
+]
+
+all_of_first : (P : ℕ → Type 0) (xs : List ℕ) (n : ℕ) → n ≤ length xs → ((k : ℕ) → k < n → P (get_or xs k 0)) → AllByRecursion P (take n xs)
+all_of_first P xs zero most each = tt
+all_of_first P [] (suc n) most each = absurd (omega (arith, most))
+all_of_first P (x ∷ xs) (suc n) most each =
+    (each 0 (omega arith), all_of_first P xs n (omega (arith, most)) (λ k low. each (suc k) (omega (arith, low))))
+
+before_at : (v : Ordered) (one other : List Bool) → IsApart v.count (assignment_at v one) (assignment_at v other) → IsBefore v.order one other
+before_at v one other apart =
+    let inside : apart.at < length v.order = omega (arith, apart.inside, v.is.count) in
+    record {
+      before = take apart.at v.order;
+      at = get_or v.order apart.at 0;
+      behind = drop (suc apart.at) v.order;
+      cut = cut_at v.order apart.at 0 inside;
+      same = all_of_first (λ i. bit_of one i ≡ bit_of other i) v.order apart.at (omega (arith, inside)) apart.same;
+      low = apart.low;
+      high = apart.high;
+    }
+
+same_or_before : (v : Ordered) (one other : List Bool) → AreBits v one → AreBits v other
+    → (one ≡ other) ⊎ (IsBefore v.order one other ⊎ IsBefore v.order other one)
+same_or_before v one other size size2 =
+    elim (compared v.count (assignment_at v one) (assignment_at v other))
+    as (λ _. (one ≡ other) ⊎ (IsBefore v.order one other ⊎ IsBefore v.order other one)) [
+      | inl all ↦ inl (same_bits v one other size size2 all)
+      | inr differ ↦ elim differ as (λ _. (one ≡ other) ⊎ (IsBefore v.order one other ⊎ IsBefore v.order other one)) [
+        | inl first ↦ inr (inl (before_at v one other first))
+        | inr second ↦ inr (inr (before_at v other one second))
+      ]
+    ]
+
+-- ---- where a circuit differs
+
+none_differs : (q : Comparison) (line : ℕ) (bits : List Bool) → Agrees q → DiffersFirst q line bits → ⊥
+none_differs q line bits agrees first =
+    let n : ℕ = inputs_in q in
+    let puts = agrees.puts (take n bits) (drop n bits) (length-take-le n bits (omega (arith, first.are_bits)))
+    (length-drop n bits ∙ omega (arith, first.are_bits)) in
+    first.differs (ap (λ (z : List Bool). bit_of z line) puts.mapped)
+
+one_line : (q : Comparison) (line other : ℕ) (bits others : List Bool) → DiffersFirst q line bits → DiffersFirst q other others → line ≡ other
+one_line q line other bits others first second =
+    elim (cases_lt line other) as (λ _. line ≡ other) [
+      | inl less ↦ absurd (first.differs (second.before line less bits first.are_bits))
+      | inr most ↦ elim (cases_lt other line) as (λ _. line ≡ other) [
+        | inl less ↦ absurd (second.differs (first.before other less others second.are_bits))
+        | inr more ↦ omega (arith, most, more)
+      ]
+    ]
+
+one_list : (q : Comparison) (line : ℕ) (bits others : List Bool) → DiffersFirst q line bits → DiffersFirst q line others → bits ≡ others
+one_list q line bits others first second =
+    elim (same_or_before (ordered_in q) bits others first.are_bits second.are_bits) as (λ _. bits ≡ others) [
+      | inl same ↦ same
+      | inr differ ↦ elim differ as (λ _. bits ≡ others) [
+        | inl before ↦ absurd (first.differs (second.least bits first.are_bits before))
+        | inr behind ↦ absurd (second.differs (first.least others second.are_bits behind))
+      ]
+    ]
+
+pub comparisons_end_in_one_way : ComparisonsEndInOneWay
+comparisons_end_in_one_way q = record {
+  no_gate = λ gate narrow first. no_wide q.circuit.gates gate narrow first;
+  one_gate = λ gate other first second. one_wide q.circuit.gates gate other first second;
+  no_difference = none_differs q;
+  one_difference = λ line other bits others first second.
+      let same : line ≡ other = one_line q line other bits others first second in
+      (same, one_list q line bits others first (subst (λ (l : ℕ). DiffersFirst q l others) (sym same) second));
+}

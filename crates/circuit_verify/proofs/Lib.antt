@@ -1,0 +1,10 @@
+pub mod AskLemmas
+pub mod GateLemmas
+pub mod LawLemmas
+pub mod LineLemmas
+pub mod NumberLemmas
+pub mod OrderLemmas
+pub mod StepLemmas
+pub mod TapeLemmas
+pub mod ValueLemmas
+pub mod VerdictLemmas

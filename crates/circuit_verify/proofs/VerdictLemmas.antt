@@ -1,0 +1,142 @@
+-- What the numbers of the lines say of a circuit.
+use Rattle.std.proofs.Common.{◌≡◌, ◌≢◌, ℕ, ◌<◌, Bool, true, false, List, ◌++◌, length, map, take, drop, get_or, refl, sym, ap, ap₂, ◌∙◌, subst, arith}
+use Rattle.std.proofs.Common.{IsFalse, IsTrue, length-append}
+use Rattle.std.specs.Bool.{xor}
+use Rattle.std.proofs.lemmas.Bool.{true≢false}
+use Rattle.std.proofs.lemmas.List.{get_or-map, get_or-take, length-drop, length-map, length-replicate, length-take-le}
+use Rattle.std.proofs.Math.Seq.{drop-append_seam, take-append_seam}
+use Rattle.list_facts.specs.Bits.{bit_of, zeros}
+use Rattle.list_facts.proofs.BitLemmas.{xor_same}
+use Rattle.decision_diagram.specs.Diagrams.{DiagramView, IsCanonical, IsNumber, Triple, function_of}
+use Rattle.decision_diagram.proofs.DistinctLemmas.{distinct_functions}
+use Rattle.decision_diagram.specs.Functions.{AreSame, Assignment, IsLeast, exclusive_or}
+use Rattle.claim_check.specs.Variables.{AreVariables}
+use Rattle.claim_check.proofs.VariableLemmas.{assignment_at, bits_of_assignment, placed_bits}
+use Rattle.claim_check.proofs.VerdictLemmas.{least_on}
+use Rattle.mct_circuit.specs.Gates.{AreGatesOn, line_map}
+use Rattle.mct_circuit.proofs.ReversalLemmas.{length-line_map}
+use Rattle.circuit_verify.specs.Comparisons.{Comparison, Agrees, AreBitsFor, inputs_in, order_in, start_on, variables_in, wanted_on, work_lines}
+use Rattle.circuit_verify.specs.Verdicts.{DiffersFirst, HasEnoughLines, IsRight}
+use Rattle.circuit_verify.specs.inside.Numbers.{AreEnds, DifferAt, IsLeastApart, bits_in}
+use Rattle.circuit_verify.proofs.NumberLemmas.{bit-at, length-bits_in, length-numbers}
+use Rattle.circuit_verify.proofs.OrderLemmas.{ordered_in}
+
+-- ---- how many lines
+
+pub length-start_on : (q : Comparison) (bits : List Bool) → HasEnoughLines q → AreBitsFor q bits → length (start_on q bits) ≡ q.circuit.lines
+length-start_on q bits enough size =
+    let n : ℕ = inputs_in q in
+    let o : ℕ = q.program.outputs in
+    let w : ℕ = work_lines q in
+    length-append (take n bits) (zeros o ++ (zeros w ++ drop n bits))
+    ∙ omega (
+      arith,
+      length-take-le n bits (omega (arith, size)),
+      length-append (zeros o) (zeros w ++ drop n bits),
+      length-append (zeros w) (drop n bits),
+      length-replicate o false,
+      length-replicate w false,
+      length-drop n bits,
+      size,
+      enough,
+    )
+
+-- ---- where all numbers are the same
+
+-- bits are those of their assignment
+at_assignment : (q : Comparison) (bits : List Bool) → AreBitsFor q bits → bits_in q (assignment_at (ordered_in q) bits) ≡ bits
+at_assignment q bits size = bits_of_assignment (ordered_in q) bits size
+
+pub agrees : (q : Comparison) (nodes : List Triple) (now want : List ℕ) → AreEnds q nodes now want → now ≡ want → Agrees q
+agrees q nodes now want ends same = record {
+  puts = λ input borrowed size more.
+      let bits : List Bool = input ++ borrowed in
+      let a : Assignment = assignment_at (ordered_in q) bits in
+      let are : AreBitsFor q bits = length-append input borrowed ∙ omega (arith, size, more) in
+      let front : take (inputs_in q) bits ≡ input = ap (λ (n : ℕ). take n bits) (sym size) ∙ take-append_seam input borrowed in
+      let back : drop (inputs_in q) bits ≡ borrowed = ap (λ (n : ℕ). drop n bits) (sym size) ∙ drop-append_seam input borrowed in
+      let ended : line_map q.circuit.gates (start_on q (bits_in q a)) ≡ wanted_on q (bits_in q a) =
+      sym (ends.now_are.same a) ∙ ap (λ (ns : List ℕ). map (λ n. function_of nodes n a) ns) same ∙ ends.want_are.same a in
+      let here : line_map q.circuit.gates (start_on q bits) ≡ wanted_on q bits =
+      subst (λ (z : List Bool). line_map q.circuit.gates (start_on q z) ≡ wanted_on q z) (at_assignment q bits are) ended in
+      let parts : (f g : List Bool) → take (inputs_in q) bits ≡ f → drop (inputs_in q) bits ≡ g
+      → line_map q.circuit.gates (f ++ (zeros q.program.outputs ++ (zeros (work_lines q) ++ g)))
+      ≡ f ++ (q.program.value f ++ (zeros (work_lines q) ++ g)) =
+      λ f g is_f is_g. subst (λ (z : List Bool). line_map q.circuit.gates (z ++ (zeros q.program.outputs ++ (zeros (work_lines q) ++ g)))
+      ≡ z ++ (q.program.value z ++ (zeros (work_lines q) ++ g))) is_f
+      (subst (λ (z : List Bool). line_map q.circuit.gates (take (inputs_in q) bits ++ (zeros q.program.outputs ++ (zeros (work_lines q) ++ z)))
+      ≡ take (inputs_in q) bits ++ (q.program.value (take (inputs_in q) bits) ++ (zeros (work_lines q) ++ z))) is_g here) in
+      record { mapped = parts input borrowed front back };
+}
+
+-- ---- where two numbers differ
+
+xor_apart : (x y : Bool) → xor x y ≡ true → x ≡ y → ⊥
+xor_apart x y apart same = true≢false (sym apart ∙ ap (λ z. xor z y) same ∙ xor_same y)
+
+not_apart : (x y : Bool) → ¬ (xor x y ≡ true) → x ≡ y
+unfolding mathlib.Core.Bool.xor
+not_apart true true no_xor = refl
+not_apart true false no_xor = absurd (no_xor refl)
+not_apart false true no_xor = absurd (no_xor refl)
+not_apart false false no_xor = refl
+
+-- a line below the first that differs is right
+right_before : (q : Comparison) (nodes : List Triple) (now want : List ℕ) → AreEnds q nodes now want → length want ≡ length now → (line : ℕ)
+    → DifferAt now want line → (earlier : ℕ) → earlier < line → IsRight q earlier
+right_before q nodes now want ends size line differ earlier low = λ bits are.
+    let a : Assignment = assignment_at (ordered_in q) bits in
+    let same : get_or now earlier 0 ≡ get_or want earlier 0 =
+    sym (get_or-take line now earlier 0 low) ∙ ap (λ (ns : List ℕ). get_or ns earlier 0) differ.same ∙ get_or-take line want earlier 0 low in
+    let ended : bit_of (line_map q.circuit.gates (start_on q (bits_in q a))) earlier ≡ bit_of (wanted_on q (bits_in q a)) earlier =
+    sym (ap (λ (z : List Bool). bit_of z earlier) (ends.now_are.same a))
+    ∙ sym (bit-at nodes now earlier a (omega (arith, low, differ.inside)))
+    ∙ ap (λ (n : ℕ). function_of nodes n a) same
+    ∙ bit-at nodes want earlier a (omega (arith, low, differ.inside, size))
+    ∙ ap (λ (z : List Bool). bit_of z earlier) (ends.want_are.same a) in
+    subst (λ (z : List Bool). bit_of (line_map q.circuit.gates (start_on q z)) earlier ≡ bit_of (wanted_on q z) earlier) (at_assignment q bits are) ended
+
+pub differs : (q : Comparison) (nodes : List Triple) (now want variables : List ℕ) (line : ℕ) (bits : List Bool) → HasEnoughLines q
+    → AreGatesOn q.circuit.lines q.circuit.gates → AreEnds q nodes now want → length want ≡ length now → DifferAt now want line
+    → AreVariables (variables_in q) (order_in q) variables
+    → IsLeastApart (exclusive_or (function_of nodes (get_or now line 0)) (function_of nodes (get_or want line 0))) variables bits
+    → DiffersFirst q line bits
+differs q nodes now want variables line bits enough placed ends size differ are least =
+    let a : Assignment = least.assignment in
+    let f : List Bool → Bool = λ z. xor (bit_of (line_map q.circuit.gates (start_on q z)) line) (bit_of (wanted_on q z) line) in
+    let same : AreSame (exclusive_or (function_of nodes (get_or now line 0)) (function_of nodes (get_or want line 0))) (λ v. f (bits_in q v)) = λ v.
+    ap₂ xor
+    (bit-at nodes now line v differ.inside ∙ ap (λ (z : List Bool). bit_of z line) (ends.now_are.same v))
+    (bit-at nodes want line v (omega (arith, differ.inside, size)) ∙ ap (λ (z : List Bool). bit_of z line) (ends.want_are.same v)) in
+    let on = least_on (ordered_in q) f (exclusive_or (function_of nodes (get_or now line 0)) (function_of nodes (get_or want line 0))) true a same
+    least.least in
+    let count : length bits ≡ variables_in q = ap length least.are ∙ length-map variables a ∙ are.size in
+    let there : bits ≡ bits_in q a = placed_bits (ordered_in q) a (λ i. get_or variables i 0) bits count are.at
+    (λ i low. ap (λ (z : List Bool). bit_of z i) least.are ∙ get_or-map a variables i 0 false (omega (arith, low, are.size))) in
+    let start : List Bool = start_on q (bits_in q a) in
+    let long : length start ≡ q.circuit.lines = length-start_on q (bits_in q a) enough (length-bits_in q a) in
+    let ended : length (line_map q.circuit.gates start) ≡ length start =
+    length-line_map q.circuit.gates start (subst (λ (n : ℕ). AreGatesOn n q.circuit.gates) (sym long) placed) in
+    subst (DiffersFirst q line) (sym there) (record {
+      in_range = omega (
+        arith,
+        differ.inside,
+        ended,
+        long,
+        length-numbers q nodes now (λ z. line_map q.circuit.gates (start_on q z)) a ends.now_are,
+      );
+      before = right_before q nodes now want ends size line differ;
+      are_bits = on.are_bits;
+      differs = xor_apart (bit_of (line_map q.circuit.gates start) line) (bit_of (wanted_on q (bits_in q a)) line) on.gives;
+      least = λ other other_size before. not_apart (bit_of (line_map q.circuit.gates (start_on q other)) line) (bit_of (wanted_on q other) line)
+          (on.least other other_size before);
+    })
+
+-- two numbers that differ are found to differ
+pub found_apart : (d : DiagramView) (f g : ℕ) (found : Bool) (a : Assignment) → IsCanonical d → IsNumber d.nodes f → IsNumber d.nodes g → f ≢ g
+    → (IsTrue found → IsLeast (exclusive_or (function_of d.nodes f) (function_of d.nodes g)) true a)
+    → (IsFalse found → AreSame (function_of d.nodes f) (function_of d.nodes g))
+    → IsLeast (exclusive_or (function_of d.nodes f) (function_of d.nodes g)) true a
+found_apart d f g true a canonical left right apart least none = least refl
+found_apart d f g false a canonical left right apart least none =
+    absurd (apart (distinct_functions d.vars d.nodes canonical.ordered f g left right (none refl)))

@@ -1,0 +1,4 @@
+pub mod Comparisons
+pub mod LineFunctions
+pub mod Verdicts
+pub mod inside

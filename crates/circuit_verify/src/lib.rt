@@ -1,0 +1,20 @@
+//! A circuit verified against a program, for every input and whatever its borrowed lines hold.
+//!
+//! The functions of the program and those of the circuit's lines are made in one decision diagram,
+//! one call for each gate. The circuit agrees exactly where each line ends with the number that it
+//! should have.
+#![tactic(auto)]
+
+mod compared;
+mod fault;
+mod gates;
+mod judging;
+mod law;
+mod nodes;
+mod places;
+mod verifying;
+mod walking;
+
+pub use fault::VerifyFault;
+pub use law::{comparisons_end_in_one_way, said_of_tapes};
+pub use verifying::verify;

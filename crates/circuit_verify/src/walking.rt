@@ -1,0 +1,142 @@
+// The numbers of the lines, gate by gate.
+ghost use Rattle.std.specs.Prelude.{◌≡◌, ◌++◌, ◌<◌, ◌≤◌, length, take, drop, replicate, IfErr, IfOk};
+ghost use Rattle.std.specs.Prelude.{OnOk};
+ghost use Rattle.std.specs.List.{AllByRecursion};
+ghost use Rattle.decision_diagram.specs.Growth.{Computes};
+ghost use Rattle.mct_circuit.specs.declared.gate.Op.TheVariants.{Flip};
+ghost use Rattle.mct_circuit.specs.Gates.{IsGateOn, IsNarrow, line_map};
+ghost use Rattle.circuit_verify.specs.Comparisons.{start_on};
+ghost use Rattle.circuit_verify.specs.Verdicts.{IsVerifyFault};
+ghost use Rattle.circuit_verify.specs.inside.Compared.{comparison};
+ghost use Rattle.circuit_verify.specs.inside.Numbers.{AreEnds, AreKnown, AreNumbersOf, GrowsBy};
+ghost use Rattle.circuit_verify.specs.inside.Numbers.{HoldsLines, control_numbers};
+ghost use Rattle.circuit_verify.specs.inside.Numbers.{line_function_of};
+ghost use Rattle.claim_check.specs.Variables.{AreVariables};
+ghost use Rattle.circuit_verify.specs.Comparisons.{order_in, variables_in};
+
+use crate::VerifyFault;
+use crate::compared::Compared;
+use crate::nodes::{number_nodes, number_outputs};
+use crate::places::number_bits;
+use decision_diagram::{Dd, DdFault, Diagram};
+use mct_circuit::{Control, Gate, Op};
+use std::alloc::{AllocError, Global};
+
+// The numbers of the lines behind all gates, and those that they should have.
+#[derive(Drop)]
+pub struct Ends {
+    pub now: Vec<Dd>,
+    pub want: Vec<Dd>,
+}
+
+// The numbers of input bits, of output lines, of work lines that hold `never`, and of borrowed bits.
+fn laid(
+    alloc: Global,
+    bits: &[Dd],
+    inputs: u32,
+    outputs: &[Dd],
+    work: u32,
+    never: Dd,
+) -> Result<Vec<Dd>, AllocError>
+    requires { inputs ≤ length bits.now }
+    ensures { IfOk result (λ lines. lines.items ≡ take inputs bits.now ++ (outputs.now
+        ++ (replicate work never ++ drop inputs bits.now))) }
+{
+    let (input, borrowed) = bits.split_at(inputs as usize);
+    let idle = vec![in alloc; never; work as usize]?;
+    let mut lines = Vec::new(alloc);
+    lines.extend_from_slice(input)?;
+    lines.extend_from_slice(outputs)?;
+    lines.extend_from_slice(&idle)?;
+    lines.extend_from_slice(borrowed)?;
+    Ok(lines)
+}
+
+// The line that a narrow gate flips.
+fn target_of(gate: &Gate) -> u32
+    requires { IsNarrow gate.now }
+    ensures { gate.now.op ≡ Flip result }
+{
+    match gate.op() {
+        Op::Flip(target) => target,
+        Op::Swap(first, _) => first, // no narrow gate swaps
+    }
+}
+
+// The numbers of the controls of a narrow gate, each `always` where there is none.
+fn control_numbers(lines: &[Dd], always: Dd, controls: &[Control]) -> (Dd, Dd)
+    requires { AllByRecursion (λ control. control.line < length lines.now) controls.now }
+    ensures { result ≡ control_numbers lines.now always controls.now }
+{
+    match controls {
+        [] => (always, always),
+        [first] => (lines[first.line as usize], always),
+        [first, second, ..] => (lines[first.line as usize], lines[second.line as usize]),
+    }
+}
+
+// The number of the line that a narrow gate flips, behind the gate.
+fn flipped_line(
+    diagram: &mut Diagram,
+    lines: &[Dd],
+    gate: &Gate,
+    target: u32,
+) -> Result<Dd, DdFault>
+    requires lines { AreKnown diagram.old.nodes lines.now }
+    requires narrow { IsNarrow gate.now }
+    requires placed { IsGateOn (length lines.now) gate.now }
+    requires target { gate.now.op ≡ Flip target }
+    ensures { Computes (line_function_of diagram.old.nodes lines.now gate.now target) diagram.old
+        diagram.new result }
+{
+    let always = diagram.truth(true);
+    let (left, right) = control_numbers(lines, always, gate.controls());
+    diagram.flip(lines[target as usize], left, right)
+}
+
+// Takes the numbers of the lines through all gates.
+fn walk(diagram: &mut Diagram, compared: &Compared, lines: &mut [Dd]) -> Result<(), VerifyFault>
+    requires holds { HoldsLines (comparison compared.now) diagram.old }
+    requires start { AreNumbersOf (comparison compared.now) diagram.old.nodes lines.old
+        (start_on (comparison compared.now)) }
+    ensures grows { GrowsBy (comparison compared.now) diagram.old diagram.new }
+    ensures ends { OnOk result (AreNumbersOf (comparison compared.now) diagram.new.nodes lines.new
+        (λ bits. line_map compared.now.circuit.gates (start_on (comparison compared.now) bits))) }
+    ensures refused { IfErr result (IsVerifyFault (comparison compared.now) diagram.new.limit) }
+{
+    let _ = compared.variables(); // shows what is known of both
+    for gate in compared.circuit.gates() {
+        let target = target_of(gate);
+        lines[target as usize] = flipped_line(diagram, lines, gate, target)?;
+    }
+    Ok(())
+}
+
+// The numbers of the lines behind all gates, and those that they should have. All diagrams are made
+// before any two numbers are compared.
+pub fn ends_of(
+    alloc: Global,
+    diagram: &mut Diagram,
+    compared: &Compared,
+    variables: &[u32],
+) -> Result<Ends, VerifyFault>
+    requires variables { AreVariables (variables_in (comparison compared.now))
+        (order_in (comparison compared.now)) variables.now }
+    requires holds { HoldsLines (comparison compared.now) diagram.old }
+    ensures grows { GrowsBy (comparison compared.now) diagram.old diagram.new }
+    ensures ends { IfOk result (λ ends. AreEnds (comparison compared.now) diagram.new.nodes
+        ends.now.items ends.want.items) }
+    ensures refused { IfErr result (IsVerifyFault (comparison compared.now) diagram.new.limit) }
+{
+    let inputs = compared.graph.inputs();
+    let work = compared.work();
+    let bits = number_bits(alloc, diagram, compared, variables)?;
+    let nodes = number_nodes(alloc, diagram, compared, &bits)?;
+    let never = diagram.truth(false);
+    let outputs = number_outputs(alloc, diagram, compared, &bits, &nodes)?;
+    let blank = vec![in alloc; never; outputs.len()]?;
+    let want = laid(alloc, &bits, inputs, &outputs, work, never)?;
+    let mut now = laid(alloc, &bits, inputs, &blank, work, never)?;
+    walk(diagram, compared, &mut now)?;
+    Ok(Ends { now, want })
+}
