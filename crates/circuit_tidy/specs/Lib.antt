@@ -1,0 +1,5 @@
+pub mod Blocks
+pub mod Elimination
+pub mod Flips
+pub mod Pairs
+pub mod Tidied
