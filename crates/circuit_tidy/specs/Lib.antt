@@ -3,3 +3,4 @@ pub mod Elimination
 pub mod Flips
 pub mod Pairs
 pub mod Tidied
+pub mod inside

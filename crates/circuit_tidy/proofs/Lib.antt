@@ -1,0 +1,2 @@
+pub mod FlipLemmas
+pub mod PairLemmas
