@@ -1,2 +1,4 @@
+pub mod EliminationLemmas
 pub mod FlipLemmas
 pub mod PairLemmas
+pub mod ParityLemmas
