@@ -4,6 +4,7 @@
 
 mod blocks;
 mod flip;
+mod index;
 mod tidying;
 
 pub use tidying::tidy;
