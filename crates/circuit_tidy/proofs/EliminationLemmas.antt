@@ -1,5 +1,5 @@
 -- The elimination of a list of additions has its line map.
-use Rattle.std.proofs.Common.{◌≡◌, ◌≢◌, ℕ, zero, suc, ◌<◌, ◌+◌, Bool, true, false, not, ◌&&◌, ◌||◌, eqb, cond, List, [], ◌∷◌, ◌++◌, length, map, filter, reverse, set, get_or, refl, sym, ap, ◌∙◌, subst, ◌⊎◌, inl, inr}
+use Rattle.std.proofs.Common.{◌≡◌, ◌≢◌, ℕ, ◌<◌, Bool, true, false, not, ◌&&◌, ◌||◌, eqb, cond, List, [], ◌∷◌, ◌++◌, length, map, filter, reverse, set, refl, sym, ap, ◌∙◌, subst, ◌⊎◌, inl, inr}
 use Rattle.std.proofs.Common.{arith}
 use Rattle.std.specs.Bool.{xor}
 use Rattle.std.specs.List.{AllByRecursion}
@@ -19,7 +19,7 @@ use Rattle.circuit_tidy.specs.Blocks.{cx}
 use Rattle.circuit_tidy.specs.Elimination.{Addition, Rows, own_rows, with_addition, with_additions, first_with, first_step, second_step, steps_at, noted, eliminated}
 use Rattle.circuit_tidy.specs.Flips.{gate_of, gates_of}
 use Rattle.circuit_tidy.proofs.FlipLemmas.{after}
-use Rattle.circuit_tidy.proofs.ParityLemmas.{parity, parity-same, parity-none, parity-xor, parity-one}
+use Rattle.circuit_tidy.proofs.ParityLemmas.{parity, parity-same, parity-xor, parity-one}
 
 -- ---- one addition
 
@@ -269,10 +269,10 @@ first_steps n lines c later rows are to_come reduced = elim (cases_Bool (rows c 
 
 -- ---- the second step
 
-abbrev from_to : ℕ → ℕ → Addition
+abbrev pub from_to : ℕ → ℕ → Addition
 from_to c line = record { from = c; onto = line }
 
-has_line-filter : (x : ℕ) (test : ℕ → Bool) (lines : List ℕ) → has_line x (filter test lines) ≡ (has_line x lines && test x)
+pub has_line-filter : (x : ℕ) (test : ℕ → Bool) (lines : List ℕ) → has_line x (filter test lines) ≡ (has_line x lines && test x)
 has_line-filter x test [] = refl
 has_line-filter x test (y ∷ ys) = elim (cases_Bool (test y)) [
   | inl passes ↦ rw passes (taken (eqb x y) (has_line x (filter test ys)) (has_line x ys) (test x) (has_line-filter x test ys)

@@ -1,10 +1,9 @@
 -- Flips that are alike, and flips that are free of each other.
-use Rattle.std.proofs.Common.{◌≡◌, ◌≢◌, ℕ, ◌<◌, Bool, true, false, not, ◌&&◌, ◌||◌, eqb, cond, List, [], ◌∷◌, ◌++◌, length, map, refl, sym, ap, ◌∙◌, subst, inl, inr}
-use Rattle.std.specs.List.{AllByRecursion, list_all}
-use Rattle.std.proofs.lemmas.Bool.{cases_Bool, cases_eq, and_parts, and_from, or_cases, or_parts, or_left, or_right, not-true, not_from_false, both_ways, false≢true}
+use Rattle.std.proofs.Common.{◌≡◌, ℕ, Bool, true, false, not, ◌&&◌, eqb, List, [], ◌∷◌, length, refl, sym, ap, ◌∙◌, subst, inl, inr}
+use Rattle.std.proofs.lemmas.Bool.{cases_eq, and_parts, and_from, or_cases, or_parts, not-true, not_from_false, both_ways, false≢true}
 use Rattle.std.proofs.lemmas.Bool.{false_from_ne_true, eqb-true, eqb-false, eq-eqb}
 use Rattle.list_facts.specs.Bits.{bit_of}
-use Rattle.mct_circuit.specs.Gates.{after_gate, is_met, positive, IsGateOn}
+use Rattle.mct_circuit.specs.Gates.{after_gate, IsGateOn}
 use Rattle.mct_circuit.specs.Sizes.{has_line}
 use Rattle.mct_circuit.proofs.ReversalLemmas.{after_gate-after_gate}
 use Rattle.gate_split.specs.Split.{Avoids}

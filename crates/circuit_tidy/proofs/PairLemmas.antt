@@ -1,11 +1,11 @@
 -- One pass, which puts each flip once, leaves no cancelling pair and keeps the line map.
-use Rattle.std.proofs.Common.{◌≡◌, ◌≢◌, ℕ, ◌+◌, ◌≤◌, Bool, true, false, cond, Option, Some, None, List, [], ◌∷◌, ◌++◌, length, map, reverse, refl, sym, ap, ◌∙◌, subst, inl, inr}
+use Rattle.std.proofs.Common.{◌≡◌, ◌≢◌, ℕ, ◌+◌, ◌≤◌, Bool, true, false, cond, Option, Some, None, List, [], ◌∷◌, ◌++◌, length, reverse, refl, sym, ap, ◌∙◌, subst, inl, inr}
 use Rattle.std.proofs.Common.{arith}
 use Rattle.std.specs.List.{AllByRecursion}
 use Rattle.std.proofs.lemmas.Bool.{cases_Bool}
 use Rattle.std.proofs.lemmas.List.{reverse-append, reverse-reverse, append_assoc, map-append}
 use Rattle.list_facts.proofs.AllLemmas.{AllByRecursion-reverse, AllByRecursion-weaker}
-use Rattle.mct_circuit.specs.Gates.{GateView, IsGateOn, line_map}
+use Rattle.mct_circuit.specs.Gates.{IsGateOn, line_map}
 use Rattle.mct_circuit.proofs.ReversalLemmas.{line_map-append, length-after_gate}
 use Rattle.circuit_tidy.specs.declared.flip.Flip.{Flip}
 use Rattle.circuit_tidy.specs.Flips.{gate_of, gates_of, are_alike, are_free}

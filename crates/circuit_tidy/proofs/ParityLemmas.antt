@@ -1,8 +1,8 @@
 -- The parity of the numbers below a bound that pass a test.
-use Rattle.std.proofs.Common.{◌≡◌, ◌≢◌, ℕ, zero, suc, ◌<◌, ◌+◌, Bool, true, false, not, ◌&&◌, eqb, refl, sym, ap, ◌∙◌, inl, inr, arith}
+use Rattle.std.proofs.Common.{◌≡◌, ◌≢◌, ℕ, zero, suc, ◌<◌, Bool, false, ◌&&◌, eqb, refl, sym, ap, ◌∙◌, inl, inr, arith}
 use Rattle.std.specs.Bool.{xor}
 use Rattle.std.proofs.lemmas.Bool.{cases_eq, eq-eqb, ne_eqb}
-use Rattle.list_facts.proofs.BitLemmas.{xor_none, xor_nothing, xor_same, xor_swap, xor_left, xor_right}
+use Rattle.list_facts.proofs.BitLemmas.{xor_none, xor_nothing, xor_same, xor_left, xor_right}
 
 abbrev pub parity : (ℕ → Bool) → ℕ → Bool
 parity test zero = false

@@ -5,6 +5,7 @@
 mod blocks;
 mod flip;
 mod index;
+mod rows;
 mod tidying;
 
 pub use tidying::tidy;

@@ -7,7 +7,7 @@ use Rattle.list_facts.specs.Lists.{IsAmong, IsRising}
 use Rattle.mct_circuit.specs.Sizes.{has_line}
 use Rattle.circuit_tidy.specs.declared.flip.Flip.{Flip}
 use Rattle.circuit_tidy.specs.declared.index.Index.{Index}
-use Rattle.circuit_tidy.specs.Flips.{are_alike, are_free, controls_of}
+use Rattle.circuit_tidy.specs.Flips.{are_alike, controls_of}
 use Rattle.circuit_tidy.specs.inside.Settling.{with_flip}
 
 -- ---- slots

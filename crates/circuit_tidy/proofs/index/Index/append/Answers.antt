@@ -1,4 +1,4 @@
-use Rattle.std.proofs.Common.{◌≡◌, ◌∙◌, ℕ, List, length, map, set, ◌++◌, ◌∷◌, [], ap, subst}
+use Rattle.std.proofs.Common.{◌≡◌, ◌∙◌, length, set, ◌++◌, ◌∷◌, [], subst}
 use Rattle.circuit_tidy.specs.Flips.{controls_of}
 use Rattle.circuit_tidy.specs.inside.Index.{ArePushed, contents, places_at}
 use Rattle.circuit_tidy.proofs.IndexLemmas.{appended, lines_of_flip}

@@ -1,4 +1,4 @@
-use Rattle.std.proofs.Common.{◌<◌, ◌∙◌, length, sym, ap, arith, subst}
+use Rattle.std.proofs.Common.{◌<◌, ◌∙◌, length, ap, arith, subst}
 use Rattle.circuit_tidy.specs.inside.Index.{IsPartner, HasNoPartner, flips_in}
 use Rattle.circuit_tidy.specs.inside.Settling.{with_flip}
 use Rattle.circuit_tidy.proofs.IndexLemmas.{partner_places, emptied, put_out, put_behind, slot_within, on_ok_both, lines_of_flip}
