@@ -1,0 +1,22 @@
+use Rattle.std.proofs.Common.{◌≡◌, ◌∙◌, Ok, ap, length, subst, sym}
+use Rattle.mct_circuit.specs.Gates.{AreGatesOn, CircuitView}
+use Rattle.gate_split.specs.Split.{split_list}
+use Rattle.circuit_tidy.specs.Flips.{gates_of}
+use Rattle.circuit_tidy.specs.Tidied.{IsTidied}
+use Rattle.circuit_tidy.proofs.TidyLemmas.{on_lines_from, tidied_from}
+use Rattle.circuit_tidy.proofs.tidying.tidy.Goals as goal
+
+pub tidied-requires : goal.tidied-requires
+tidied-requires c =
+    on_lines_from c.lines-lines.result c.in_ok-flips.flips.items c.circuit-circuit.result.now.gates (c.in_ok-flips.ensures ∙ c.gates.ensures.gates)
+    (subst (λ n. AreGatesOn n c.circuit-circuit.result.now.gates) (sym c.lines-lines.ensures.lines) c.lines-lines.ensures.gates)
+
+pub returns-in-Ok-clause-tidied : goal.returns-in-Ok-clause-tidied
+returns-in-Ok-clause-tidied c =
+    let seen = c.circuit-circuit.ensures.circuit in
+    subst (λ n. IsTidied n c.args.narrow.now.gates c.in-Ok.narrow.gates) (c.lines-lines.ensures.lines ∙ ap (λ (v : CircuitView). v.lines) seen)
+    (tidied_from c.lines-lines.result c.len-limit.result c.args.narrow.now.gates c.in_ok-flips.flips.items c.in_ok-flips-2.flips.items c.in-Ok.narrow.gates
+    (c.in_ok-flips.ensures ∙ (c.gates.ensures.gates ∙ ap (λ (v : CircuitView). v.gates) seen))
+    (c.len-limit.ensures.len ∙ ap (λ (v : CircuitView). length v.gates) seen) c.in_ok-flips-2.ensures
+    (subst (λ gs. split_list c.lines-lines.result c.len-limit.result gs ≡ Ok c.in-Ok.narrow.gates)
+    (ap (λ (v : CircuitView). v.gates) c.in_ok-tidied.ensures ∙ ap gates_of c.deref.ensures.value) c.in-Ok.ensures.gates))

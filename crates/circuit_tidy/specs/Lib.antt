@@ -1,0 +1,6 @@
+pub mod Blocks
+pub mod Elimination
+pub mod Flips
+pub mod Pairs
+pub mod Tidied
+pub mod inside

@@ -1,0 +1,6 @@
+-- What only private contracts and proofs cite.
+pub mod BitRows
+pub mod Index
+pub mod Settling
+pub mod Walking
+pub mod Work

@@ -1,0 +1,18 @@
+-- What the work on the flips leaves.
+use Rattle.std.specs.Prelude.{◌≡◌, ℕ, ◌≤◌, Bool, List, length}
+use Rattle.mct_circuit.specs.Gates.{line_map}
+use Rattle.circuit_tidy.specs.declared.flip.Flip.{Flip}
+use Rattle.circuit_tidy.specs.Flips.{gates_of}
+use Rattle.circuit_tidy.specs.Tidied.{IsTidy}
+use Rattle.circuit_tidy.specs.inside.Walking.{AreOnLines}
+
+-- flips on n lines with the same line map, at most as many
+pub record Follows (n : ℕ) (old new : List Flip) : Type 0 where
+  pub on : AreOnLines n new
+  pub few : length new ≤ length old
+  pub same : (bits : List Bool) → length bits ≡ n
+      → line_map (gates_of new) bits ≡ line_map (gates_of old) bits
+
+pub record IsDone (n : ℕ) (old new : List Flip) : Type 0 where
+  pub follows : Follows n old new
+  pub tidy : IsTidy n new

@@ -1,0 +1,230 @@
+// A list of flips to which one is put after another, with an index of their lines.
+ghost use Rattle.std.specs.Prelude.{◌≡◌, ℕ, ◌<◌, ◌++◌, ◌∷◌, [], length, max, not, replicate, reverse, IfOk, OnOk};
+ghost use Rattle.std.specs.Prelude.{slice_set, if◌then◌else◌, MatchOption};
+ghost use Rattle.std.specs.List.{AllByRecursion};
+ghost use Rattle.mct_circuit.specs.Gates.{IsGateOn};
+ghost use Rattle.mct_circuit.specs.Sizes.{has_line};
+ghost use Rattle.circuit_tidy.specs.Flips.{are_free, gate_of, lines_in};
+ghost use Rattle.list_facts.specs.Lists.{AreDifferent};
+ghost use Rattle.circuit_tidy.specs.inside.Index.{ArePlaces, ArePushed, FindsLast, HasNoPartner};
+ghost use Rattle.circuit_tidy.specs.inside.Index.{IsBehindLast, IsIndex, IsPartner, IsPut};
+ghost use Rattle.circuit_tidy.specs.inside.Index.{KeepsSlots, contents, flips_in, has_target};
+ghost use Rattle.circuit_tidy.specs.inside.Index.{is_like_in, places_at, slot_at};
+ghost use Rattle.circuit_tidy.specs.inside.Settling.{with_flips};
+
+use crate::flip::{Controls, Flip};
+use revc_base::Memory;
+use std::alloc::Global;
+
+/// Flips in slots, one behind another, of which some are emptied; and for each line the places of
+/// the flips that have it as target, and of those that have it as a control.
+#[derive(Drop)]
+pub struct Index {
+    slots: Vec<Option<Flip>>,
+    by_target: Places,
+    by_control: Places,
+}
+
+/// For each line the places of flips in rising order. Places of emptied slots stay until a look
+/// passes over them.
+#[derive(Drop)]
+pub struct Places {
+    lists: Vec<Vec<usize>>,
+}
+
+// The flips, where each is put in order: it goes out with the latest one like it that only flips
+// free of it are behind, or stays.
+pub fn settled(alloc: Global, lines: u32, flips: &[Flip]) -> Result<Vec<Flip>, Memory>
+    requires { AllByRecursion (λ flip. IsGateOn lines (gate_of flip)) flips.now }
+    ensures { IfOk result (λ settled. settled.items ≡ reverse (with_flips flips.now [])) }
+{
+    let mut index = Index::new(alloc, lines)?;
+    for flip in flips {
+        index.put(lines, *flip)?;
+    }
+    flips_of(alloc, &index.slots)
+}
+
+impl Index {
+    fn new(alloc: Global, lines: u32) -> Result<Index, Memory>
+        ensures index { IfOk result (IsIndex lines) }
+        ensures empty { IfOk result (λ index. index.slots.items ≡ []) }
+    {
+        let by_target = Places::new(alloc, lines)?;
+        let by_control = Places::new(alloc, lines)?;
+        Ok(Index {
+            slots: Vec::new(alloc),
+            by_target,
+            by_control,
+        })
+    }
+
+    // Puts a flip behind the others, or takes it out with one of them.
+    fn put(&mut self, lines: u32, flip: Flip) -> Result<(), Memory>
+        requires index { IsIndex lines self.old }
+        requires flip { IsGateOn lines (gate_of flip) }
+        ensures { OnOk result (IsPut lines flip self.old self.new) }
+    {
+        let bound = self.bound(lines, flip);
+        let places = &self.by_target.lists[flip.target as usize];
+        match partner(places, &self.slots, flip, bound) {
+            Some(place) => {
+                self.slots[place] = None;
+                Ok(())
+            }
+            None => self.append(lines, flip),
+        }
+    }
+
+    // One more than the latest place of a flip that is not free of this one, or 0.
+    fn bound(&mut self, lines: u32, flip: Flip) -> usize
+        requires index { IsIndex lines self.old }
+        requires flip { IsGateOn lines (gate_of flip) }
+        ensures kept { KeepsSlots lines self.old self.new }
+        ensures bound { IsBehindLast self.new.slots.items (λ other. not (are_free flip other)) result }
+    {
+        let as_control = self.by_control.behind_last(flip.target, &self.slots);
+        match flip.controls {
+            Controls::Zero => as_control,
+            Controls::One(one) => {
+                let as_target = self.by_target.behind_last(one, &self.slots);
+                as_control.max(as_target)
+            }
+            Controls::Two(first, second) => {
+                let as_first = self.by_target.behind_last(first, &self.slots);
+                let as_second = self.by_target.behind_last(second, &self.slots);
+                as_control.max(as_first.max(as_second))
+            }
+        }
+    }
+
+    fn append(&mut self, lines: u32, flip: Flip) -> Result<(), Memory>
+        requires index { IsIndex lines self.old }
+        requires flip { IsGateOn lines (gate_of flip) }
+        ensures index { OnOk result (IsIndex lines self.new) }
+        ensures slots { OnOk result (self.new.slots.items
+            ≡ self.old.slots.items ++ Some flip ∷ []) }
+    {
+        let place = self.slots.len();
+        self.by_target.push(flip.target, place)?;
+        self.by_control.push_each(flip.controls, place)?;
+        self.slots.push(Some(flip))?;
+        Ok(())
+    }
+}
+
+impl Places {
+    fn new(alloc: Global, lines: u32) -> Result<Places, Memory>
+        ensures { IfOk result (λ places. contents places.lists.items ≡ replicate lines []) }
+    {
+        let lists = empty_lists(alloc, lines)?;
+        Ok(Places { lists })
+    }
+
+    // One more than the latest place of a line whose slot has a flip, or 0.
+    fn behind_last(&mut self, line: u32, slots: &[Option<Flip>]) -> usize
+        requires line { line < length self.old.lists.items }
+        requires below { AllByRecursion (λ place. place < length slots.now)
+            (places_at self.old.lists.items line) }
+        ensures found { FindsLast slots.now (places_at self.old.lists.items line)
+            (places_at self.new.lists.items line) result }
+        ensures others { contents self.new.lists.items
+            ≡ slice_set (contents self.old.lists.items) line (places_at self.new.lists.items line) }
+    {
+        behind_last(&mut self.lists[line as usize], slots)
+    }
+
+    fn push(&mut self, line: u32, place: usize) -> Result<(), Memory>
+        requires { line < length self.old.lists.items }
+        ensures { OnOk result (contents self.new.lists.items
+            ≡ slice_set (contents self.old.lists.items) line
+            (places_at self.old.lists.items line ++ place ∷ [])) }
+    {
+        self.lists[line as usize].push(place)?;
+        Ok(())
+    }
+
+    fn push_each(&mut self, lines: Controls, place: usize) -> Result<(), Memory>
+        requires below { AllByRecursion (λ line. line < length self.old.lists.items)
+            (lines_in lines) }
+        requires different { AreDifferent (lines_in lines) }
+        ensures { OnOk result (ArePushed (lines_in lines) place self.old.lists.items
+            self.new.lists.items) }
+    {
+        match lines {
+            Controls::Zero => Ok(()),
+            Controls::One(one) => self.push(one, place),
+            Controls::Two(first, second) => {
+                self.push(first, place)?;
+                self.push(second, place)
+            }
+        }
+    }
+}
+
+fn empty_lists(alloc: Global, count: u32) -> Result<Vec<Vec<usize>>, Memory>
+    ensures { IfOk result (λ lists. contents lists.items ≡ replicate count []) }
+{
+    let mut lists = Vec::with_capacity(alloc, count as usize)?;
+    for _list in 0..count {
+        lists.push(Vec::new(alloc))?;
+    }
+    Ok(lists)
+}
+
+// One more than the latest place whose slot has a flip, or 0. Places behind it go off the list.
+fn behind_last(places: &mut Vec<usize>, slots: &[Option<Flip>]) -> usize
+    requires { AllByRecursion (λ place. place < length slots.now) places.old.items }
+    ensures { FindsLast slots.now places.old.items places.new.items result }
+{
+    'emptied: while !places.is_empty() {
+        let place = places[places.len() - 1];
+        if slots[place].is_some() {
+            return place + 1;
+        }
+        places.pop();
+    }
+    0
+}
+
+// The latest place, not before the bound, of a flip like this one, among the places of its target.
+fn partner(places: &[usize], slots: &[Option<Flip>], flip: Flip, bound: usize) -> Option<usize>
+    requires { ArePlaces slots.now (has_target flip.target) places.now }
+    ensures { MatchOption result (HasNoPartner slots.now flip bound)
+        (IsPartner slots.now flip bound) }
+{
+    let mut left = places.len();
+    'search: while left > 0 {
+        let place = places[left - 1];
+        if place < bound {
+            return None;
+        }
+        if is_like(flip, slots[place]) {
+            return Some(place);
+        }
+        left -= 1;
+    }
+    None
+}
+
+fn is_like(flip: Flip, slot: Option<Flip>) -> bool
+    ensures { result ≡ is_like_in flip slot }
+{
+    match slot {
+        None => false,
+        Some(other) => flip.is_like(other),
+    }
+}
+
+// The flips in the slots, in order.
+fn flips_of(alloc: Global, slots: &[Option<Flip>]) -> Result<Vec<Flip>, Memory>
+    ensures { IfOk result (λ flips. flips.items ≡ reverse (flips_in slots.now)) }
+{
+    let mut flips = Vec::new(alloc);
+    for slot in slots {
+        if let Some(flip) = slot {
+            flips.push(*flip)?;
+        }
+    }
+    Ok(flips)
+}

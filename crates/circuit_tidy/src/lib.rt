@@ -1,0 +1,11 @@
+//! Fewer gates with the same map: cancelling pairs go out of a list of narrow gates, and runs of CX
+//! gates give way to their Gaussian elimination where that is shorter.
+#![tactic(auto)]
+
+mod blocks;
+mod flip;
+mod index;
+mod rows;
+mod tidying;
+
+pub use tidying::tidy;
