@@ -1,8 +1,8 @@
 -- What a clean file is, in each format: what it computes, and what its lines hold before and behind.
 use Rattle.std.specs.Prelude.{◌≡◌, ℕ, Bool, List, length, sum}
-use Rattle.gate_split.specs.Plans.{PutsOutputs}
+use Rattle.gate_split.specs.Plans.{PutsOutputs, lines_in}
 use Rattle.gate_split.specs.declared.roles.Roles.{Roles}
-use Rattle.mct_circuit.specs.Gates.{GateView, AreNarrow}
+use Rattle.mct_circuit.specs.Gates.{GateView, AreGatesOn, AreNarrow}
 use Rattle.qasm_format.specs.Compiled as qasm
 use Rattle.real_format.specs.Compiled as real
 use Rattle.revc_words.specs.declared.order.Format.{Format}
@@ -16,6 +16,11 @@ abbrev pub MeansIn : Format → List ℕ → Roles → List GateView → Type 0
 MeansIn Real text roles gates = real.MeansCompiled text roles gates
 MeansIn Qasm text roles gates = qasm.MeansCompiled text roles gates
 
+-- the text of the file of such gates in a format: header, comments and all
+abbrev pub file_text : Format → Roles → List GateView → List ℕ
+file_text Real roles gates = real.compiled_text roles gates
+file_text Qasm roles gates = qasm.compiled_text roles gates
+
 -- on this input, whatever the borrowed lines hold, the gates put the program's output on the output lines
 pub record ComputesOn (p : ProgramView) (roles : Roles) (gates : List GateView)
     (input borrowed : List Bool) : Type 0 where
@@ -24,12 +29,13 @@ pub record ComputesOn (p : ProgramView) (roles : Roles) (gates : List GateView)
   pub size : length output ≡ roles.outputs
   pub puts : PutsOutputs roles gates input output borrowed
 
--- A clean circuit for a program, with so many borrowed lines: its gates, whose lines have these roles, are each a flip
--- with at most two controls, all positive; and they compute the program on every input.
+-- A clean circuit for a program, with so many borrowed lines: its gates stand on lines of these roles, and are each a
+-- flip with at most two controls, all positive; and they compute the program on every input.
 pub record IsCleanCircuit (p : ProgramView) (borrowed : ℕ) (roles : Roles)
     (gates : List GateView) : Type 0 where
   pub inputs : roles.inputs ≡ sum (widths_of p.params)
   pub borrows : roles.borrowed ≡ borrowed
+  pub placed : AreGatesOn (lines_in roles) gates
   pub narrow : AreNarrow gates
   pub computes : (input bits : List Bool) → IsInput p.params input → length bits ≡ borrowed
       → ComputesOn p roles gates input bits
