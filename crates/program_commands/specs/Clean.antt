@@ -29,8 +29,8 @@ pub record ComputesOn (p : ProgramView) (roles : Roles) (gates : List GateView)
   pub size : length output ≡ roles.outputs
   pub puts : PutsOutputs roles gates input output borrowed
 
--- A clean circuit for a program, with so many borrowed lines: its gates stand on lines of these roles, and are each a
--- flip with at most two controls, all positive; and they compute the program on every input.
+-- A clean circuit for a program, with so many borrowed lines: its gates are on lines of these roles, each a flip with at
+-- most two controls, all positive, on different lines; and they compute the program on every input.
 pub record IsCleanCircuit (p : ProgramView) (borrowed : ℕ) (roles : Roles)
     (gates : List GateView) : Type 0 where
   pub inputs : roles.inputs ≡ sum (widths_of p.params)
