@@ -1,5 +1,5 @@
 -- A circuit text means one circuit, or has one refusal; words are inputs of it, or one is the first that is not.
-use Rattle.std.proofs.Common.{◌≡◌, ℕ, ◌+◌, ◌<◌, ◌≤◌, ◌⊎◌, inl, inr, List, Result, Ok, Err, length, refl, sym, ap, ◌∙◌, subst, arith}
+use Rattle.std.proofs.Common.{◌≡◌, ℕ, ◌+◌, ◌<◌, ◌≤◌, ◌⊎◌, inl, inr, List, [], ◌∷◌, Result, Ok, Err, length, refl, sym, ap, ◌∙◌, subst, arith}
 use Rattle.std.specs.List.{AllByRecursion}
 use Rattle.std.specs.Result.{IfOk, IfErr}
 use Rattle.std.proofs.lemmas.List.{length-replicate}
@@ -27,7 +27,7 @@ use Rattle.circuit_commands.specs.Circuits.{ReadCircuit, of_qasm, of_real, Means
 use Rattle.circuit_commands.specs.Outcomes.{IsCircuitFault}
 use Rattle.circuit_commands.specs.inside.Mappings.{qasm_fault, real_fault}
 use Rattle.circuit_commands.specs.inside.Splitting.{HasLines}
-use Rattle.command_answers.specs.Outcomes.{HasOneOutcome, IsAnyFault}
+use Rattle.command_answers.specs.Outcomes.{HasOneOutcome, IsFaultOfText}
 use Rattle.command_answers.specs.BitWords.{IsInputWord}
 use Rattle.circuit_commands.specs.Run as run
 use Rattle.circuit_commands.specs.Run.{AreInputs, IsFirstUnfit, HasBadWord, free_lines}
@@ -165,11 +165,17 @@ stat_cause order text faults.Write other a b = absurd a
 stat_cause order text faults.Memory other a b = absurd a
 stat_cause order text fault other a b = absurd b
 
-pub stat_outcome : HasOneOutcome IsAnyFault stat.Gives stat.IsCause stat.Serves
+stat_among : (order : OrderView) (text : List ℕ) (fault : Fault) → stat.IsCause order text fault → IsFaultOfText (8 ∷ []) fault
+stat_among order text (faults.Circuit refusal) cause = record { of_text = tt; status = (0, omega arith, refl) }
+stat_among order text fault cause = absurd cause
+
+pub stat_outcome : HasOneOutcome stat.promise
 stat_outcome = record {
   never_both = λ order text written fault given cause exact. stat_stops order text given.circuit fault given.means cause;
-  one_cause = λ order text fault exact cause other is. stat_cause order text fault exact cause other;
+  one_cause = λ order text fault exact cause other is. inl (stat_cause order text fault exact cause other);
   free = λ order text fault served cause. stat_stops order text served.0 fault served.1 cause;
+  long = λ order text over. over;
+  among = λ order text fault cause. stat_among order text fault cause;
 }
 
 pub measured_of : {E : Type 0} (from : Format) (text : List ℕ) (circuit : ReadCircuit) (r : Result Sizes E) → Means from text circuit
@@ -228,11 +234,18 @@ run_cause order text faults.Write other a b = absurd a
 run_cause order text faults.Memory other a b = absurd a
 run_cause order text fault other a b = absurd b
 
-pub run_outcome : HasOneOutcome IsAnyFault run.Gives run.IsCause run.Serves
+run_among : (order : OrderView) (text : List ℕ) (fault : Fault) → run.IsCause order text fault → IsFaultOfText (8 ∷ 12 ∷ []) fault
+run_among order text (faults.Circuit refusal) cause = record { of_text = tt; status = (0, omega arith, refl) }
+run_among order text (faults.BadBits number) cause = record { of_text = tt; status = (1, omega arith, refl) }
+run_among order text fault cause = absurd cause
+
+pub run_outcome : HasOneOutcome run.promise
 run_outcome = record {
   never_both = λ order text written fault given cause exact. run_stops order text given.circuit fault given.means given.fit cause;
-  one_cause = λ order text fault exact cause other is. run_cause order text fault exact cause other;
+  one_cause = λ order text fault exact cause other is. inl (run_cause order text fault exact cause other);
   free = λ order text fault served cause. run_stops order text served.circuit fault served.means served.fit cause;
+  long = λ order text over. over;
+  among = λ order text fault cause. run_among order text fault cause;
 }
 
 -- ---- what the readers answer

@@ -1,8 +1,8 @@
 -- `convert`: the split list of a text's circuit, and the file of it.
-use Rattle.std.proofs.Common.{◌≡◌, ℕ, ◌+◌, ◌<◌, ◌≤◌, Bool, true, false, List, [], ◌∷◌, ◌++◌, append-nil, length, Result, Ok, Err, sym, ap, ◌∙◌, subst, arith}
+use Rattle.std.proofs.Common.{◌≡◌, ℕ, ◌+◌, ◌<◌, ◌≤◌, Bool, true, false, List, [], ◌∷◌, ◌++◌, append-nil, length, Result, Ok, Err, inl, refl, sym, ap, ◌∙◌, subst, arith}
 use Rattle.std.specs.Result.{IfErr}
 use Rattle.std.proofs.lemmas.List.{length-append}
-use Rattle.mct_circuit.specs.Gates.{CircuitView, GateView, AreGatesOn, line_map}
+use Rattle.mct_circuit.specs.Gates.{CircuitView, GateView, AreGatesOn, AreNarrow, line_map}
 use Rattle.mct_circuit.proofs.MoreLinesLemmas.{more_lines}
 use Rattle.gate_split.specs.declared.fault.SplitFault.TheVariants as splits
 use Rattle.gate_split.specs.declared.plan.TheConstants.{MOST_LINES, MOST_GATES}
@@ -19,49 +19,51 @@ use Rattle.revc_words.specs.Words.{OrderView}
 use Rattle.command_answers.specs.declared.fault.Fault.{Fault}
 use Rattle.command_answers.specs.declared.fault.Fault.TheVariants as faults
 use Rattle.command_answers.specs.declared.fault.CircuitRefusal.{CircuitRefusal}
-use Rattle.command_answers.specs.Outcomes.{HasOneOutcome, IsAnyFault}
+use Rattle.command_answers.specs.Outcomes.{HasOneOutcome, IsFaultOfText}
 use Rattle.circuit_commands.specs.Circuits.{ReadCircuit, Means, MeansIn, line_count, unmarked}
-use Rattle.circuit_commands.specs.Convert.{Gives, IsCause, Serves, HasSplit, WantsLine, LacksLine, PassesLines, PassesGates, DoesTheSame, added_lines}
-use Rattle.circuit_commands.specs.Convert.{file_text, said_in}
+use Rattle.circuit_commands.specs.Convert.{IsCause, HasSplit, promise, WantsLine, LacksLine, PassesLines, PassesGates, DoesTheSame, added_lines}
+use Rattle.circuit_commands.specs.Convert.{converted, file_text, said_in}
 use Rattle.circuit_commands.specs.Outcomes.{ConvertedView, IsConversion}
 use Rattle.circuit_commands.specs.inside.Splitting.{IsNarrowOf, IsSplitFault, IsSplitOf, IsWritable}
 use Rattle.circuit_commands.proofs.CircuitLemmas.{means_or_refused, one_circuit, one_circuit_refusal}
 
 -- ---- a split has one answer
 
-ok_or_many : (circuit : ReadCircuit) (added other : Bool) (gates : List GateView) → HasSplit circuit added (Ok gates)
-    → HasSplit circuit other (Err splits.Gates) → ⊥
-ok_or_many circuit false false gates a b = let both = sym a ∙ b in cc
-ok_or_many circuit false true gates a b = let both = sym a ∙ b.wants.none in cc
-ok_or_many circuit true false gates a b = let both = sym a.wants.none ∙ b in cc
-ok_or_many circuit true true gates a b = let both = sym a.split ∙ b.split in cc
+pub ok_or_many : (most : ℕ) (circuit : ReadCircuit) (added other : Bool) (gates : List GateView) → HasSplit most circuit added (Ok gates)
+    → HasSplit most circuit other (Err splits.Gates) → ⊥
+ok_or_many most circuit false false gates a b = let both = sym a ∙ b in cc
+ok_or_many most circuit false true gates a b = let both = sym a ∙ b.wants.none in cc
+ok_or_many most circuit true false gates a b = let both = sym a.wants.none ∙ b in cc
+ok_or_many most circuit true true gates a b = let both = sym a.split ∙ b.split in cc
 
-lacks_or_ok : (circuit : ReadCircuit) (need limit : ℕ) (added : Bool) (gates : List GateView) → LacksLine circuit need limit
-    → HasSplit circuit added (Ok gates) → ⊥
-lacks_or_ok circuit need limit false gates a b = let both = sym a.wants.none ∙ b in cc
-lacks_or_ok circuit need limit true gates a b = let full = a.full in let room = b.room in omega arith
+pub lacks_or_ok : (most : ℕ) (circuit : ReadCircuit) (need limit : ℕ) (added : Bool) (gates : List GateView) → LacksLine most circuit need limit
+    → HasSplit most circuit added (Ok gates) → ⊥
+lacks_or_ok most circuit need limit false gates a b = let both = sym a.wants.none ∙ b in cc
+lacks_or_ok most circuit need limit true gates a b = let full = a.full in let room = b.room in omega arith
 
-lacks_or_many : (circuit : ReadCircuit) (need limit : ℕ) (added : Bool) → LacksLine circuit need limit → HasSplit circuit added (Err splits.Gates) → ⊥
-lacks_or_many circuit need limit false a b = let both = sym a.wants.none ∙ b in cc
-lacks_or_many circuit need limit true a b = let full = a.full in let room = b.room in omega arith
+pub lacks_or_many : (most : ℕ) (circuit : ReadCircuit) (need limit : ℕ) (added : Bool) → LacksLine most circuit need limit
+    → HasSplit most circuit added (Err splits.Gates) → ⊥
+lacks_or_many most circuit need limit false a b = let both = sym a.wants.none ∙ b in cc
+lacks_or_many most circuit need limit true a b = let full = a.full in let room = b.room in omega arith
 
 -- ---- one outcome
 
 convert_stops : (order : OrderView) (text : List ℕ) (circuit : ReadCircuit) (added : Bool) (gates : List GateView) (fault : Fault)
-    → Means order.from text circuit → HasSplit circuit added (Ok gates) → IsCause order text fault → ⊥
+    → Means order.from text circuit → HasSplit MOST_GATES circuit added (Ok gates) → IsCause order text fault → ⊥
 convert_stops order text circuit added gates (faults.Circuit refusal) m split h = means_or_refused order.from text circuit refusal m h
 convert_stops order text circuit added gates (faults.Lines need limit) m split h =
     let same = one_circuit order.from text h.circuit circuit h.means m in
-    lacks_or_ok circuit need limit added gates (subst (λ (c : ReadCircuit). LacksLine c need limit) same h.lacks) split
+    lacks_or_ok MOST_GATES circuit need limit added gates (subst (λ (c : ReadCircuit). LacksLine MOST_GATES c need limit) same h.lacks) split
 convert_stops order text circuit added gates (faults.Gates limit) m split h =
     let same = one_circuit order.from text circuit h.circuit m h.means in
-    ok_or_many h.circuit added h.many.added gates (subst (λ (c : ReadCircuit). HasSplit c added (Ok gates)) same split) h.many.split
+    ok_or_many MOST_GATES h.circuit added h.many.added gates (subst (λ (c : ReadCircuit). HasSplit MOST_GATES c added (Ok gates)) same split) h.many.split
 convert_stops order text circuit added gates fault m split h = h
 
-lines_or_gates : (order : OrderView) (text : List ℕ) (need limit most : ℕ) → PassesLines order.from text need limit → PassesGates order.from text most → ⊥
+lines_or_gates : (order : OrderView) (text : List ℕ) (need limit most : ℕ) → PassesLines MOST_GATES order.from text need limit
+    → PassesGates MOST_GATES order.from text most → ⊥
 lines_or_gates order text need limit most a b =
     let same = one_circuit order.from text a.circuit b.circuit a.means b.means in
-    lacks_or_many b.circuit need limit b.many.added (subst (λ (c : ReadCircuit). LacksLine c need limit) same a.lacks) b.many.split
+    lacks_or_many MOST_GATES b.circuit need limit b.many.added (subst (λ (c : ReadCircuit). LacksLine MOST_GATES c need limit) same a.lacks) b.many.split
 
 same_lines : (need limit other most : ℕ) → need ≡ other → limit ≡ most → faults.Lines need limit ≡ faults.Lines other most
 same_lines need limit other most one two = ap (λ n. faults.Lines n limit) one ∙ ap (λ n. faults.Lines other n) two
@@ -73,11 +75,11 @@ convert_cause order text (faults.Circuit refusal) (faults.Lines need limit) a b 
 convert_cause order text (faults.Circuit refusal) (faults.Gates limit) a b = absurd (means_or_refused order.from text b.circuit refusal b.means a)
 convert_cause order text (faults.Lines need limit) (faults.Circuit refusal) a b = absurd (means_or_refused order.from text a.circuit refusal a.means b)
 convert_cause order text (faults.Lines need limit) (faults.Lines other most) a b =
-    same_lines other most need limit (b.lacks.needs ∙ sym a.lacks.needs) (b.lacks.most ∙ sym a.lacks.most)
+    same_lines other most need limit (b.lacks.needs ∙ sym a.lacks.needs) (b.lacks.limit_is ∙ sym a.lacks.limit_is)
 convert_cause order text (faults.Lines need limit) (faults.Gates most) a b = absurd (lines_or_gates order text need limit most a b)
 convert_cause order text (faults.Gates limit) (faults.Circuit refusal) a b = absurd (means_or_refused order.from text a.circuit refusal a.means b)
 convert_cause order text (faults.Gates most) (faults.Lines need limit) a b = absurd (lines_or_gates order text need limit most b a)
-convert_cause order text (faults.Gates limit) (faults.Gates other) a b = ap (λ n. faults.Gates n) (b.many.most ∙ sym a.many.most)
+convert_cause order text (faults.Gates limit) (faults.Gates other) a b = ap (λ n. faults.Gates n) (b.many.limit_is ∙ sym a.many.limit_is)
 convert_cause order text faults.Usage other a b = absurd a
 convert_cause order text (faults.Refused refusal) other a b = absurd a
 convert_cause order text (faults.Claim number at bits) other a b = absurd a
@@ -88,11 +90,19 @@ convert_cause order text faults.Write other a b = absurd a
 convert_cause order text faults.Memory other a b = absurd a
 convert_cause order text fault other a b = absurd b
 
-pub convert_outcome : HasOneOutcome IsAnyFault Gives IsCause Serves
+among : (order : OrderView) (text : List ℕ) (fault : Fault) → IsCause order text fault → IsFaultOfText (6 ∷ 7 ∷ 8 ∷ []) fault
+among order text (faults.Lines need limit) cause = record { of_text = tt; status = (0, omega arith, refl) }
+among order text (faults.Gates limit) cause = record { of_text = tt; status = (1, omega arith, refl) }
+among order text (faults.Circuit refusal) cause = record { of_text = tt; status = (2, omega arith, refl) }
+among order text fault cause = absurd cause
+
+pub convert_outcome : HasOneOutcome promise
 convert_outcome = record {
   never_both = λ order text written fault given cause exact. convert_stops order text given.circuit given.added given.gates fault given.means given.split cause;
-  one_cause = λ order text fault exact cause other is. convert_cause order text fault exact cause other;
+  one_cause = λ order text fault exact cause other is. inl (convert_cause order text fault exact cause other);
   free = λ order text fault served cause. convert_stops order text served.circuit served.added served.gates fault served.means served.split cause;
+  long = λ order text over. over;
+  among = λ order text fault cause. among order text fault cause;
 }
 
 -- ---- what the file means
@@ -131,6 +141,10 @@ means_written Qasm made w =
           ∙ ap (unmarked lines) m.gates_are);
     }
 
+converted_gates : (circuit : ReadCircuit) (added : Bool) (gates : List GateView) → (converted circuit added gates).gates ≡ gates
+converted_gates circuit false gates = refl
+converted_gates circuit true gates = refl
+
 -- what is split of a text's circuit is written in each format
 pub conversion : (from : Format) (text : List ℕ) (circuit : ReadCircuit) (made : ConvertedView) → Means from text circuit → IsSplitOf circuit made
     → IsConversion from text made
@@ -143,6 +157,7 @@ conversion from text circuit made m s = record {
     split = s.split;
     lines = ap (λ (c : ReadCircuit). file_text to c made.added) s.are;
     meaning = subst (λ (c : ReadCircuit). MeansIn to (file_text to made.circuit made.added) (said_in to c)) s.are (means_written to made s.writable);
+    narrow = subst AreNarrow (ap (λ (c : ReadCircuit). c.gates) s.are ∙ converted_gates circuit made.added s.gates) s.writable.narrow;
     same = s.same;
   };
 }
@@ -162,11 +177,11 @@ same_on_own circuit gates same bits [] long none =
 same_on_own circuit gates same bits (bit ∷ more) long none = absurd cc
 
 -- on the circuit's own lines
-pub own_split : (source : ReadCircuit) (circuit narrow : CircuitView) (lines : ℕ) → circuit.lines ≡ line_count source → circuit.gates ≡ source.gates
-    → lines ≡ circuit.lines → split_list lines MOST_GATES circuit.gates ≡ Ok narrow.gates
-    → narrow ≡ record { lines = lines; limit = MOST_GATES; gates = narrow.gates } → length narrow.gates ≤ MOST_GATES
-    → ((bits : List Bool) → length bits ≡ lines → line_map narrow.gates bits ≡ line_map circuit.gates bits) → IsNarrowOf source narrow
-own_split source circuit narrow lines own gates counted split size few same =
+pub own_split : (most : ℕ) (source : ReadCircuit) (circuit narrow : CircuitView) (lines : ℕ) → circuit.lines ≡ line_count source → circuit.gates ≡ source.gates
+    → lines ≡ circuit.lines → split_list lines most circuit.gates ≡ Ok narrow.gates
+    → narrow ≡ record { lines = lines; limit = most; gates = narrow.gates } → length narrow.gates ≤ most
+    → ((bits : List Bool) → length bits ≡ lines → line_map narrow.gates bits ≡ line_map circuit.gates bits) → IsNarrowOf most source narrow
+own_split most source circuit narrow lines own gates counted split size few same =
     let all : lines ≡ line_count source = counted ∙ own in
     let wide : narrow.lines ≡ lines = ap (λ (c : CircuitView). c.lines) size in
     record {
@@ -179,12 +194,12 @@ own_split source circuit narrow lines own gates counted split size few same =
     }
 
 -- on one line more
-pub wider_split : (source : ReadCircuit) (circuit narrow : CircuitView) (lines : ℕ) → circuit.lines ≡ line_count source
-    → circuit.gates ≡ source.gates → lines ≡ circuit.lines → AreGatesOn circuit.lines circuit.gates → WantsLine source → line_count source < MOST_LINES
-    → split_list (lines + 1) MOST_GATES circuit.gates ≡ Ok narrow.gates
-    → narrow ≡ record { lines = lines + 1; limit = MOST_GATES; gates = narrow.gates } → length narrow.gates ≤ MOST_GATES
-    → ((bits : List Bool) → length bits ≡ lines + 1 → line_map narrow.gates bits ≡ line_map circuit.gates bits) → IsNarrowOf source narrow
-wider_split source circuit narrow lines own gates counted placed wants room split size few same =
+pub wider_split : (most : ℕ) (source : ReadCircuit) (circuit narrow : CircuitView) (lines : ℕ) → circuit.lines ≡ line_count source
+    → circuit.gates ≡ source.gates → lines ≡ circuit.lines → AreGatesOn circuit.lines circuit.gates → WantsLine most source → line_count source < MOST_LINES
+    → split_list (lines + 1) most circuit.gates ≡ Ok narrow.gates
+    → narrow ≡ record { lines = lines + 1; limit = most; gates = narrow.gates } → length narrow.gates ≤ most
+    → ((bits : List Bool) → length bits ≡ lines + 1 → line_map narrow.gates bits ≡ line_map circuit.gates bits) → IsNarrowOf most source narrow
+wider_split most source circuit narrow lines own gates counted placed wants room split size few same =
     let on : AreGatesOn (line_count source) source.gates = rw (← gates, ← own) placed in
     let all : lines ≡ line_count source = counted ∙ own in
     let wide : narrow.lines ≡ lines + 1 = ap (λ (c : CircuitView). c.lines) size in
@@ -198,6 +213,7 @@ wider_split source circuit narrow lines own gates counted placed wants room spli
     }
 
 -- want of memory leaves no split
-pub memory_stops : {T : Type 0} (source : ReadCircuit) (r : Result T Fault) → IfErr r (λ fault. fault ≡ faults.Memory) → IfErr r (IsSplitFault source)
-memory_stops source (Ok made) h = tt
-memory_stops source (Err fault) h = subst (IsSplitFault source) (sym h) tt
+pub memory_stops : {T : Type 0} (most : ℕ) (source : ReadCircuit) (r : Result T Fault) → IfErr r (λ fault. fault ≡ faults.Memory)
+    → IfErr r (IsSplitFault most source)
+memory_stops most source (Ok made) h = tt
+memory_stops most source (Err fault) h = subst (IsSplitFault most source) (sym h) tt

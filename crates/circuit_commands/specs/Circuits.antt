@@ -14,7 +14,13 @@ use Rattle.revc_words.specs.declared.order.Format.{Format}
 use Rattle.revc_words.specs.declared.order.Format.TheVariants.{Real, Qasm}
 use Rattle.command_answers.specs.declared.fault.CircuitRefusal.{CircuitRefusal}
 use Rattle.command_answers.specs.declared.fault.CircuitRefusal.TheVariants.{TooLong, Line, LineLimit, Token, TokenLimit}
+use Rattle.command_answers.specs.declared.fault.Fault.TheVariants.{Circuit}
+use Rattle.command_answers.specs.declared.limit.TextLimit.{TextLimit}
 use Rattle.circuit_commands.specs.declared.limits.TheConstants.{MOST_CIRCUIT_BYTES}
+
+-- the limit of the text of a circuit
+abbrev pub circuit_limit : TextLimit
+circuit_limit = record { bytes = MOST_CIRCUIT_BYTES; fault = Circuit TooLong }
 
 -- ---- circuits
 

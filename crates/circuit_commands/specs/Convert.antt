@@ -1,6 +1,7 @@
 -- `convert`: the file of the narrow gates in place of a circuit's gates, on its lines or on one more.
-use Rattle.std.specs.Prelude.{◌≡◌, ℕ, ◌+◌, ◌<◌, Bool, true, false, Result, Ok, Err, List, [], ◌∷◌, ◌++◌, length}
-use Rattle.mct_circuit.specs.Gates.{GateView, line_map}
+use Rattle.std.specs.Prelude.{◌≡◌, ℕ, ◌+◌, ◌<◌, Bool, true, false, Result, Ok, Err, List, [], ◌∷◌, ◌++◌, length, Some}
+use Rattle.command_answers.specs.Outcomes.{Promise, IsAnyFault, IsNoFault}
+use Rattle.mct_circuit.specs.Gates.{GateView, AreNarrow, line_map}
 use Rattle.gate_split.specs.declared.fault.SplitFault.{SplitFault}
 use Rattle.gate_split.specs.declared.fault.SplitFault.TheVariants as splits
 use Rattle.gate_split.specs.declared.plan.TheConstants.{MOST_LINES, MOST_GATES}
@@ -13,43 +14,44 @@ use Rattle.revc_words.specs.declared.order.Format.TheVariants.{Real, Qasm}
 use Rattle.revc_words.specs.Words.{OrderView}
 use Rattle.command_answers.specs.declared.fault.Fault.{Fault}
 use Rattle.command_answers.specs.declared.fault.Fault.TheVariants.{Circuit, Lines, Gates}
-use Rattle.circuit_commands.specs.Circuits.{ReadCircuit, Means, MeansIn, IsCircuitRefusal, line_count, unmarked}
+use Rattle.circuit_commands.specs.Circuits.{ReadCircuit, Means, MeansIn, IsCircuitRefusal, line_count, unmarked, circuit_limit}
 
--- ---- the split list
+-- ---- the split list, of at most so many gates
 
 -- the split list of a circuit's gates on so many lines
-abbrev pub split_on : ℕ → ReadCircuit → Result (List GateView) SplitFault
-split_on lines circuit = split_list lines MOST_GATES circuit.gates
+abbrev pub split_on : (most lines : ℕ) → ReadCircuit → Result (List GateView) SplitFault
+split_on most lines circuit = split_list lines most circuit.gates
 
 -- on the circuit's own lines a gate wants an idle line
-pub record WantsLine (circuit : ReadCircuit) : Type 0 where
+pub record WantsLine (most : ℕ) (circuit : ReadCircuit) : Type 0 where
   pub gate : ℕ
-  pub none : split_on (line_count circuit) circuit ≡ Err (splits.NoIdle gate)
+  pub none : split_on most (line_count circuit) circuit ≡ Err (splits.NoIdle gate)
 
 -- the split list on one line more, where the circuit's own lines are too few and there is room for one
-pub record HasWiderSplit (circuit : ReadCircuit) (answer : Result (List GateView) SplitFault)
-    : Type 0 where
-  pub wants : WantsLine circuit
+pub record HasWiderSplit (most : ℕ) (circuit : ReadCircuit)
+    (answer : Result (List GateView) SplitFault) : Type 0 where
+  pub wants : WantsLine most circuit
   pub room : line_count circuit < MOST_LINES
-  pub split : split_on (line_count circuit + 1) circuit ≡ answer
+  pub split : split_on most (line_count circuit + 1) circuit ≡ answer
 
 -- the split list on the circuit's own lines, or exactly where a gate wants an idle line, on one more
-abbrev pub HasSplit : ReadCircuit → (added : Bool) → Result (List GateView) SplitFault → Type 0
-HasSplit circuit false answer = split_on (line_count circuit) circuit ≡ answer
-HasSplit circuit true answer = HasWiderSplit circuit answer
+abbrev pub HasSplit : (most : ℕ) → ReadCircuit → (added : Bool)
+    → Result (List GateView) SplitFault → Type 0
+HasSplit most circuit false answer = split_on most (line_count circuit) circuit ≡ answer
+HasSplit most circuit true answer = HasWiderSplit most circuit answer
 
 -- a line is wanted where there are as many as there may be
-pub record LacksLine (circuit : ReadCircuit) (need limit : ℕ) : Type 0 where
-  pub wants : WantsLine circuit
+pub record LacksLine (most : ℕ) (circuit : ReadCircuit) (need limit : ℕ) : Type 0 where
+  pub wants : WantsLine most circuit
   pub full : line_count circuit ≡ MOST_LINES
   pub needs : need ≡ MOST_LINES + 1
-  pub most : limit ≡ MOST_LINES
+  pub limit_is : limit ≡ MOST_LINES
 
 -- the split list has more gates than it may have
-pub record HasManyGates (circuit : ReadCircuit) (limit : ℕ) : Type 0 where
+pub record HasManyGates (most : ℕ) (circuit : ReadCircuit) (limit : ℕ) : Type 0 where
   pub added : Bool
-  pub split : HasSplit circuit added (Err splits.Gates)
-  pub most : limit ≡ MOST_GATES
+  pub split : HasSplit most circuit added (Err splits.Gates)
+  pub limit_is : limit ≡ most
 
 -- ---- the circuit that is written
 
@@ -87,36 +89,37 @@ said_in Qasm circuit = unmarked (line_count circuit) circuit.gates
 -- ---- the command
 
 -- The text means a circuit, these are the lines of the file of its split list, and by the meaning of the format that is
--- written they mean this list, which has the circuit's line map.
+-- written they mean this list, whose gates are narrow, and which has the circuit's line map.
 pub record IsConverted (from to : Format) (text written : List ℕ) : Type 0 where
   pub circuit : ReadCircuit
   pub means : Means from text circuit
   pub added : Bool
   pub gates : List GateView
-  pub split : HasSplit circuit added (Ok gates)
+  pub split : HasSplit MOST_GATES circuit added (Ok gates)
   pub lines : written ≡ file_text to (converted circuit added gates) added
   pub meaning : MeansIn to written (said_in to (converted circuit added gates))
+  pub narrow : AreNarrow gates
   pub same : DoesTheSame circuit added gates
 
 -- the text means a circuit that wants a line more than there may be
-pub record PassesLines (from : Format) (text : List ℕ) (need limit : ℕ) : Type 0 where
+pub record PassesLines (most : ℕ) (from : Format) (text : List ℕ) (need limit : ℕ) : Type 0 where
   pub circuit : ReadCircuit
   pub means : Means from text circuit
-  pub lacks : LacksLine circuit need limit
+  pub lacks : LacksLine most circuit need limit
 
 -- the text means a circuit whose split list has more gates than there may be
-pub record PassesGates (from : Format) (text : List ℕ) (limit : ℕ) : Type 0 where
+pub record PassesGates (most : ℕ) (from : Format) (text : List ℕ) (limit : ℕ) : Type 0 where
   pub circuit : ReadCircuit
   pub means : Means from text circuit
-  pub many : HasManyGates circuit limit
+  pub many : HasManyGates most circuit limit
 
 -- the text means a circuit that has a split list
-pub record CanConvert (from : Format) (text : List ℕ) : Type 0 where
+pub record CanSplit (most : ℕ) (from : Format) (text : List ℕ) : Type 0 where
   pub circuit : ReadCircuit
   pub means : Means from text circuit
   pub added : Bool
   pub gates : List GateView
-  pub split : HasSplit circuit added (Ok gates)
+  pub split : HasSplit most circuit added (Ok gates)
 
 -- what is written
 abbrev pub Gives : OrderView → List ℕ → List ℕ → Type 0
@@ -125,10 +128,21 @@ Gives order text written = IsConverted order.from order.to text written
 -- why nothing is
 abbrev pub IsCause : OrderView → List ℕ → Fault → Type 0
 IsCause order text (Circuit refusal) = IsCircuitRefusal order.from text refusal
-IsCause order text (Lines need limit) = PassesLines order.from text need limit
-IsCause order text (Gates limit) = PassesGates order.from text limit
+IsCause order text (Lines need limit) = PassesLines MOST_GATES order.from text need limit
+IsCause order text (Gates limit) = PassesGates MOST_GATES order.from text limit
 IsCause order text _ = ⊥
 
 -- where something is, unless memory or a device is wanting
 abbrev pub Serves : OrderView → List ℕ → Type 0
-Serves order text = CanConvert order.from text
+Serves order text = CanSplit MOST_GATES order.from text
+
+abbrev pub promise : Promise
+promise = record {
+  reads = Some circuit_limit;
+  statuses = 6 ∷ 7 ∷ 8 ∷ [];
+  Gives = Gives;
+  IsCause = IsCause;
+  Serves = Serves;
+  IsExact = IsAnyFault;
+  MayPrecede = IsNoFault;
+}

@@ -1,4 +1,5 @@
 pub mod Circuits
+pub mod Limits
 pub mod Stat
 pub mod Run
 pub mod Convert

@@ -2,9 +2,10 @@
 use Rattle.std.specs.Prelude.{ℕ, Bool, List}
 use Rattle.command_answers.specs.declared.fault.Fault.{Fault}
 use Rattle.command_answers.specs.declared.fault.Fault.TheVariants.{Circuit, Lines, Gates, BadBits, Memory}
+use Rattle.gate_split.specs.declared.plan.TheConstants.{MOST_GATES}
 use Rattle.revc_words.specs.declared.order.Format.{Format}
 use Rattle.circuit_commands.specs.Circuits.{ReadCircuit, IsCircuitRefusal}
-use Rattle.circuit_commands.specs.Run.{HasBadWord, IsFirstUnfit}
+use Rattle.circuit_commands.specs.Run.{AreInputs, HasBadWord, IsFirstUnfit}
 use Rattle.circuit_commands.specs.Convert.{IsConverted, PassesLines, PassesGates, file_text}
 
 -- why a text means no circuit, or there was no memory left
@@ -13,10 +14,11 @@ IsCircuitFault from text (Circuit refusal) = IsCircuitRefusal from text refusal
 IsCircuitFault from text Memory = Unit {0}
 IsCircuitFault from text _ = ⊥
 
--- why words give no bits: this word is the first that is no input of the circuit, or there was no memory left
+-- why words give no bits: this word is the first that is no input of the circuit, or there was no memory left, which is
+-- asked for only where each word is an input
 abbrev pub IsWordsFault : ReadCircuit → List (List ℕ) → Fault → Type 0
 IsWordsFault circuit words (BadBits number) = IsFirstUnfit circuit words number
-IsWordsFault circuit words Memory = Unit {0}
+IsWordsFault circuit words Memory = AreInputs circuit words
 IsWordsFault circuit words _ = ⊥
 
 -- why a circuit text and words give no bits, or there was no memory left
@@ -38,7 +40,7 @@ pub record IsConversion (from : Format) (text : List ℕ) (made : ConvertedView)
 -- why a circuit text has no file, or there was no memory left
 abbrev pub IsConvertFault : Format → List ℕ → Fault → Type 0
 IsConvertFault from text (Circuit refusal) = IsCircuitRefusal from text refusal
-IsConvertFault from text (Lines need limit) = PassesLines from text need limit
-IsConvertFault from text (Gates limit) = PassesGates from text limit
+IsConvertFault from text (Lines need limit) = PassesLines MOST_GATES from text need limit
+IsConvertFault from text (Gates limit) = PassesGates MOST_GATES from text limit
 IsConvertFault from text Memory = Unit {0}
 IsConvertFault from text _ = ⊥

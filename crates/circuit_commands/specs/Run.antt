@@ -1,5 +1,6 @@
 -- `run`: the bits that a circuit gives on the bits of each word.
-use Rattle.std.specs.Prelude.{◌≡◌, ℕ, ◌+◌, Bool, true, false, List, [], ◌∷◌, ◌++◌, length, cond, count_by}
+use Rattle.std.specs.Prelude.{◌≡◌, ℕ, ◌+◌, Bool, true, false, List, [], ◌∷◌, ◌++◌, length, cond, count_by, Some}
+use Rattle.command_answers.specs.Outcomes.{Promise, IsAnyFault, IsNoFault}
 use Rattle.std.specs.List.{AllByRecursion, flat_map}
 use Rattle.mct_circuit.specs.Gates.{line_map}
 use Rattle.real_format.specs.declared.file.Mark.{Mark}
@@ -8,7 +9,7 @@ use Rattle.revc_words.specs.declared.order.Format.{Format}
 use Rattle.revc_words.specs.Words.{OrderView}
 use Rattle.command_answers.specs.declared.fault.Fault.{Fault}
 use Rattle.command_answers.specs.declared.fault.Fault.TheVariants.{Circuit, BadBits}
-use Rattle.circuit_commands.specs.Circuits.{ReadCircuit, Means, IsCircuitRefusal}
+use Rattle.circuit_commands.specs.Circuits.{ReadCircuit, Means, IsCircuitRefusal, circuit_limit}
 use Rattle.command_answers.specs.BitWords.{IsInputWord, bits_of}
 use Rattle.command_answers.specs.Lines.{bits_text}
 
@@ -94,3 +95,14 @@ pub record CanRun (order : OrderView) (text : List ℕ) : Type 0 where
 -- where something is, unless memory or a device is wanting
 abbrev pub Serves : OrderView → List ℕ → Type 0
 Serves order text = CanRun order text
+
+abbrev pub promise : Promise
+promise = record {
+  reads = Some circuit_limit;
+  statuses = 8 ∷ 12 ∷ [];
+  Gives = Gives;
+  IsCause = IsCause;
+  Serves = Serves;
+  IsExact = IsAnyFault;
+  MayPrecede = IsNoFault;
+}

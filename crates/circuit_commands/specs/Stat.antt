@@ -1,5 +1,6 @@
 -- `stat`: the counts and the depth of a circuit.
-use Rattle.std.specs.Prelude.{◌≡◌, ℕ, List, ◌++◌, length, codes}
+use Rattle.std.specs.Prelude.{◌≡◌, ℕ, List, ◌++◌, length, codes, Some, [], ◌∷◌}
+use Rattle.command_answers.specs.Outcomes.{Promise, IsAnyFault, IsNoFault}
 use Rattle.mct_circuit.specs.declared.size.Counts.{Counts}
 use Rattle.mct_circuit.specs.Sizes.{counts_of, depth_of}
 use Rattle.revc_words.specs.declared.order.Format.{Format}
@@ -8,7 +9,7 @@ use Rattle.command_answers.specs.Lines.{number_line}
 use Rattle.command_answers.specs.declared.fault.Fault.{Fault}
 use Rattle.command_answers.specs.declared.fault.Fault.TheVariants.{Circuit}
 use Rattle.circuit_commands.specs.declared.stat.Sizes.{Sizes}
-use Rattle.circuit_commands.specs.Circuits.{ReadCircuit, Means, IsCircuitRefusal}
+use Rattle.circuit_commands.specs.Circuits.{ReadCircuit, Means, IsCircuitRefusal, circuit_limit}
 
 -- the number of lines, the number of gates, that of each kind, and the depth
 abbrev pub sizes_of : ReadCircuit → Sizes
@@ -50,3 +51,14 @@ IsCause order text _ = ⊥
 -- where something is, unless memory or a device is wanting: the text means a circuit
 abbrev pub Serves : OrderView → List ℕ → Type 0
 Serves order text = (circuit : ReadCircuit) × Means order.from text circuit
+
+abbrev pub promise : Promise
+promise = record {
+  reads = Some circuit_limit;
+  statuses = 8 ∷ [];
+  Gives = Gives;
+  IsCause = IsCause;
+  Serves = Serves;
+  IsExact = IsAnyFault;
+  MayPrecede = IsNoFault;
+}

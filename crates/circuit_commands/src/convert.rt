@@ -3,14 +3,14 @@ ghost use Rattle.std.specs.Prelude.{◌≡◌, ◌+◌, ◌<◌, ◌≤◌, true
 ghost use Rattle.gate_split.specs.declared.plan.TheConstants.{MOST_GATES, MOST_LINES};
 ghost use Rattle.revc_io.specs.Faults.{HasCause};
 ghost use Rattle.revc_io.specs.Passing.{Writes};
-ghost use Rattle.command_answers.specs.Outcomes.{HasOneOutcome, IsAnyFault};
+ghost use Rattle.command_answers.specs.Outcomes.{HasOneOutcome};
 ghost use Rattle.circuit_commands.specs.declared.limits.TheConstants.{MOST_CIRCUIT_BYTES};
 ghost use Rattle.circuit_commands.specs.Circuits.{line_count};
-ghost use Rattle.circuit_commands.specs.Convert.{Gives, IsCause, Serves, WantsLine, converted};
+ghost use Rattle.circuit_commands.specs.Convert.{WantsLine, converted, promise};
 ghost use Rattle.circuit_commands.specs.Convert.{file_text};
 ghost use Rattle.circuit_commands.specs.Outcomes.{IsConversion, IsConvertFault};
 ghost use Rattle.circuit_commands.specs.inside.Splitting.{HasLines, IsNarrowOf, IsSplitFault};
-ghost use Rattle.circuit_commands.specs.inside.Splitting.{IsSplitOf, IsWritable};
+ghost use Rattle.circuit_commands.specs.inside.Splitting.{IsSplitOf, IsWiderFault, IsWritable};
 
 use crate::circuit::{MarkedCircuit, read_circuit};
 use command_answers::Fault;
@@ -59,7 +59,7 @@ impl Model for Converted {
 /// What `convert` gives, its causes and where it serves exclude one another, and it has one cause
 /// at most.
 pub fn one_outcome()
-    ensures { HasOneOutcome IsAnyFault Gives IsCause Serves }
+    ensures { HasOneOutcome promise }
 {}
 
 /// The circuit of narrow gates in place of those of a text's circuit, on its lines, or exactly
@@ -78,33 +78,33 @@ pub fn convert(alloc: Global, text: &[u8], from: Format) -> Result<Converted, Fa
 fn split_source(alloc: Global, source: MarkedCircuit) -> Result<Converted, Fault>
     requires { HasLines source }
     ensures ok { IfOk result (IsSplitOf source) }
-    ensures err { IfErr result (IsSplitFault source) }
+    ensures err { IfErr result (IsSplitFault MOST_GATES source) }
 {
-    let narrow = split_gates(alloc, &source)?;
+    let narrow = split_gates(alloc, &source, MOST_GATES)?;
     marked(source, narrow)
 }
 
-// The narrow gates on the lines of a circuit, or on one more.
-fn split_gates(alloc: Global, source: &MarkedCircuit) -> Result<Narrow, Fault>
+// At most so many narrow gates on the lines of a circuit, or on one more.
+fn split_gates(alloc: Global, source: &MarkedCircuit, most: u64) -> Result<Narrow, Fault>
     requires { HasLines source.now }
-    ensures ok { IfOk result (IsNarrowOf source.now) }
-    ensures err { IfErr result (IsSplitFault source.now) }
+    ensures ok { IfOk result (IsNarrowOf most source.now) }
+    ensures err { IfErr result (IsSplitFault most source.now) }
 {
     let circuit = source.circuit();
-    match split(alloc, circuit, circuit.lines(), MOST_GATES) {
+    match split(alloc, circuit, circuit.lines(), most) {
         Ok(narrow) => Ok(narrow),
-        Err(SplitFault::NoIdle { .. }) => split_wider(alloc, source),
-        Err(SplitFault::Gates) => Err(Fault::Gates { limit: MOST_GATES }),
+        Err(SplitFault::NoIdle { .. }) => split_wider(alloc, source, most),
+        Err(SplitFault::Gates) => Err(Fault::Gates { limit: most }),
         Err(SplitFault::Memory) => Err(Fault::Memory),
     }
 }
 
 // The narrow gates on one line more.
-fn split_wider(alloc: Global, source: &MarkedCircuit) -> Result<Narrow, Fault>
+fn split_wider(alloc: Global, source: &MarkedCircuit, most: u64) -> Result<Narrow, Fault>
     requires lines { HasLines source.now }
-    requires wants { WantsLine source.now }
-    ensures ok { IfOk result (IsNarrowOf source.now) }
-    ensures err { IfErr result (IsSplitFault source.now) }
+    requires wants { WantsLine most source.now }
+    ensures ok { IfOk result (IsNarrowOf most source.now) }
+    ensures err { IfErr result (IsWiderFault most source.now) }
 {
     let circuit = source.circuit();
     let lines = circuit.lines();
@@ -114,10 +114,10 @@ fn split_wider(alloc: Global, source: &MarkedCircuit) -> Result<Narrow, Fault>
             limit: MOST_LINES,
         });
     }
-    match split(alloc, circuit, lines + 1, MOST_GATES) {
+    match split(alloc, circuit, lines + 1, most) {
         Ok(narrow) => Ok(narrow),
         Err(SplitFault::NoIdle { .. }) => unreachable!(),
-        Err(SplitFault::Gates) => Err(Fault::Gates { limit: MOST_GATES }),
+        Err(SplitFault::Gates) => Err(Fault::Gates { limit: most }),
         Err(SplitFault::Memory) => Err(Fault::Memory),
     }
 }
@@ -125,7 +125,7 @@ fn split_wider(alloc: Global, source: &MarkedCircuit) -> Result<Narrow, Fault>
 // The narrow gates of a circuit with its marks, and none on a line that was added.
 fn marked(source: MarkedCircuit, narrow: Narrow) -> Result<Converted, Fault>
     requires lines { HasLines source }
-    requires split { IsNarrowOf source narrow }
+    requires split { IsNarrowOf MOST_GATES source narrow }
     ensures ok { IfOk result (IsSplitOf source) }
     ensures err { IfErr result (λ fault. fault ≡ Fault.Memory) }
 {

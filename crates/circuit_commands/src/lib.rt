@@ -7,4 +7,4 @@ mod limits;
 pub mod run;
 pub mod stat;
 
-pub use limits::MOST_CIRCUIT_BYTES;
+pub use limits::{MOST_CIRCUIT_BYTES, limits_are};

@@ -1,14 +1,14 @@
 // `run`: the bits that a circuit gives on the bits of each word.
 ghost use Rattle.std.specs.Prelude.{◌≡◌, ◌≤◌, [], ◌∷◌, ◌++◌, cond, drop, length, map, IfOk, IfErr};
-ghost use Rattle.std.specs.Prelude.{OnOk};
+ghost use Rattle.std.specs.Prelude.{MatchOption, OnOk};
 ghost use Rattle.std.specs.List.{flat_map};
 ghost use Rattle.circuit_sim.specs.Rows.{AreRows, contents};
 ghost use Rattle.revc_words.specs.Words.{words_of};
 ghost use Rattle.circuit_commands.specs.declared.limits.TheConstants.{MOST_CIRCUIT_BYTES};
-ghost use Rattle.command_answers.specs.Outcomes.{HasOneOutcome, IsAnyFault};
+ghost use Rattle.command_answers.specs.Outcomes.{HasOneOutcome};
 ghost use Rattle.command_answers.specs.BitWords.{bits_of};
 ghost use Rattle.command_answers.specs.Lines.{bits_text};
-ghost use Rattle.circuit_commands.specs.Run.{Gives, IsCause, Serves, AreInputs, IsRun, free_lines};
+ghost use Rattle.circuit_commands.specs.Run.{AreInputs, IsFirstUnfit, IsRun, free_lines, promise};
 ghost use Rattle.circuit_commands.specs.Run.{is_free, kept, runs_text, started};
 ghost use Rattle.circuit_commands.specs.Outcomes.{IsRunFault, IsWordsFault};
 ghost use Rattle.circuit_commands.specs.inside.Started.{first_bit};
@@ -24,7 +24,7 @@ use std::alloc::Global;
 /// What `run` gives, its causes and where it serves exclude one another, and it has one cause at
 /// most.
 pub fn one_outcome()
-    ensures { HasOneOutcome IsAnyFault Gives IsCause Serves }
+    ensures { HasOneOutcome promise }
 {}
 
 /// The bits that the circuit of a text gives on the bits of each word: these are the first bits of
@@ -47,22 +47,24 @@ fn run_source(alloc: Global, source: &MarkedCircuit, words: &[String]) -> Result
         ≡ runs_text source.now (words_of words.now)) }
     ensures err { IfErr result (IsWordsFault source.now (words_of words.now)) }
 {
-    check_words(source, words)?;
-    Ok(run_words(alloc, source, words)?)
+    match first_unfit(source, words) {
+        Some(word) => Err(Fault::BadBits { word }),
+        None => Ok(run_words(alloc, source, words)?),
+    }
 }
 
-// Whether each word has a digit for each free line.
-fn check_words(source: &MarkedCircuit, words: &[String]) -> Result<(), Fault>
-    ensures ok { OnOk result (AreInputs source.now (words_of words.now)) }
-    ensures err { IfErr result (IsWordsFault source.now (words_of words.now)) }
+// The number of the first word, counted from 1, that has not a digit for each free line.
+fn first_unfit(source: &MarkedCircuit, words: &[String]) -> Option<usize>
+    ensures { MatchOption result (AreInputs source.now (words_of words.now))
+        (IsFirstUnfit source.now (words_of words.now)) }
 {
     let inputs = free_lines(source.constants());
     for (place, word) in words.iter().enumerate() {
         if !is_input_word(word.as_str(), inputs) {
-            return Err(Fault::BadBits { word: place + 1 });
+            return Some(place + 1);
         }
     }
-    Ok(())
+    None
 }
 
 // How many lines start with a bit of a word.

@@ -3,8 +3,8 @@ ghost use Rattle.std.specs.Prelude.{◌≡◌, ◌≤◌, length, IfOk, IfErr};
 ghost use Rattle.revc_io.specs.Faults.{HasCause};
 ghost use Rattle.revc_io.specs.Passing.{Writes};
 ghost use Rattle.circuit_commands.specs.declared.limits.TheConstants.{MOST_CIRCUIT_BYTES};
-ghost use Rattle.command_answers.specs.Outcomes.{HasOneOutcome, IsAnyFault};
-ghost use Rattle.circuit_commands.specs.Stat.{Gives, IsCause, Serves, IsMeasured, sizes_of};
+ghost use Rattle.command_answers.specs.Outcomes.{HasOneOutcome};
+ghost use Rattle.circuit_commands.specs.Stat.{IsMeasured, promise, sizes_of};
 ghost use Rattle.circuit_commands.specs.Stat.{stat_text};
 ghost use Rattle.circuit_commands.specs.Outcomes.{IsCircuitFault};
 
@@ -28,7 +28,7 @@ pub struct Sizes {
 /// What `stat` gives, its causes and where it serves exclude one another, and it has one cause at
 /// most.
 pub fn one_outcome()
-    ensures { HasOneOutcome IsAnyFault Gives IsCause Serves }
+    ensures { HasOneOutcome promise }
 {}
 
 /// The sizes of the circuit that a text means. A fault is exactly the text's, or want of memory.

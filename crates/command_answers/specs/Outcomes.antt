@@ -1,28 +1,67 @@
--- That a command has one outcome, by three definitions: what it gives for an order and a text, which fault it may end with,
--- and where it serves.
-use Rattle.std.specs.Prelude.{◌≡◌, ℕ, List}
+-- What the top call promises of a command, and that a command has one outcome.
+use Rattle.std.specs.Prelude.{◌≡◌, ◌⊎◌, ℕ, ◌<◌, List, Option, IfSome, Contains, length}
+use Rattle.command_answers.specs.Faults.{status_of}
 use Rattle.command_answers.specs.declared.fault.Fault.{Fault}
-use Rattle.command_answers.specs.declared.fault.Fault.TheVariants.{Lines, Gates}
+use Rattle.command_answers.specs.declared.fault.Fault.TheVariants.{Usage, Lines, Gates, Read, Write, Memory}
+use Rattle.command_answers.specs.declared.limit.TextLimit.{TextLimit}
 use Rattle.revc_words.specs.Words.{OrderView}
 
--- A fault is exact where it comes wherever it has its cause. Budgets of plans are no such faults: one may be kept where
--- it could be passed.
+-- what the top call promises of a command
+pub record Promise : Type 1 where
+  -- the limit of the text that it reads, if it reads one
+  pub reads : Option TextLimit
+  -- the statuses of its causes
+  pub statuses : List ℕ
+  -- these bytes are what the order asks for, with this text on the source
+  pub Gives : OrderView → List ℕ → List ℕ → Type 0
+  -- the text lets the order end with this fault
+  pub IsCause : OrderView → List ℕ → Fault → Type 0
+  -- the order ends well with this text, unless memory or a device is wanting
+  pub Serves : OrderView → List ℕ → Type 0
+  -- the fault comes wherever it has its cause
+  pub IsExact : Fault → Type 0
+  -- but for one that has its cause and may come in its place
+  pub MayPrecede : Fault → Type 0
+
+abbrev pub IsAnyFault : Fault → Type 0
+IsAnyFault fault = Unit {0}
+
+abbrev pub IsNoFault : Fault → Type 0
+IsNoFault fault = ⊥
+
+-- budgets of plans are not exact: one may be kept where it could be passed
 abbrev pub IsNoBudget : Fault → Type 0
 IsNoBudget (Lines need limit) = ⊥
 IsNoBudget (Gates limit) = ⊥
 IsNoBudget fault = Unit {0}
 
-abbrev pub IsAnyFault : Fault → Type 0
-IsAnyFault fault = Unit {0}
+-- a fault that rests on the text, and not on the words, a device or memory
+abbrev pub IsOfText : Fault → Type 0
+IsOfText Usage = ⊥
+IsOfText Read = ⊥
+IsOfText Write = ⊥
+IsOfText Memory = ⊥
+IsOfText fault = Unit {0}
 
--- What a command gives, its exact causes and where it serves exclude one another, and exact causes are one.
-pub record HasOneOutcome (IsExact : Fault → Type 0)
-    (Gives : OrderView → List ℕ → List ℕ → Type 0)
-    (IsCause : OrderView → List ℕ → Fault → Type 0)
-    (Serves : OrderView → List ℕ → Type 0) : Type 0 where
+-- a fault that rests on the text, with one of these statuses
+pub record IsFaultOfText (statuses : List ℕ) (fault : Fault) : Type 0 where
+  pub of_text : IsOfText fault
+  pub status : Contains statuses (status_of fault)
+
+-- The law of each command: what it gives, its exact causes and where it serves exclude one another.
+pub record HasOneOutcome (promise : Promise) : Type 0 where
   pub never_both : (order : OrderView) (text written : List ℕ) (fault : Fault)
-      → Gives order text written → IsCause order text fault → IsExact fault → ⊥
+      → promise.Gives order text written → promise.IsCause order text fault
+      → promise.IsExact fault → ⊥
+  -- an exact cause is the only one, but for those that may come in its place
   pub one_cause : (order : OrderView) (text : List ℕ) (fault exact : Fault)
-      → IsCause order text fault → IsCause order text exact → IsExact exact → exact ≡ fault
+      → promise.IsCause order text fault → promise.IsCause order text exact
+      → promise.IsExact exact → (exact ≡ fault) ⊎ promise.MayPrecede fault
   pub free : (order : OrderView) (text : List ℕ) (fault : Fault)
-      → Serves order text → IsCause order text fault → ⊥
+      → promise.Serves order text → promise.IsCause order text fault → ⊥
+  -- a text over the limit is refused for that
+  pub long : IfSome promise.reads (λ limit. (order : OrderView) (text : List ℕ)
+      → limit.bytes < length text → promise.IsCause order text limit.fault)
+  -- each cause is a text's, and has one of the statuses
+  pub among : (order : OrderView) (text : List ℕ) (fault : Fault)
+      → promise.IsCause order text fault → IsFaultOfText promise.statuses fault

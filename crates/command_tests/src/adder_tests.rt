@@ -34,6 +34,20 @@ const CASES: &[Row] = &[
         0,
         b"inputs 32\noutputs 17\nwrites 92\nwidth 19\nlines 141\ngates 323\ndepth 99\n",
     ),
+    // Needs are those nodes that are used behind them, and no others.
+    (
+        "bench 3 --plan pebble --lines 19",
+        b"",
+        0,
+        b"inputs 6\noutputs 4\nwrites 14\nwidth 6\nlines 19\ngates 68\ndepth 47\n",
+    ),
+    // Ranges whose nodes are held as wanted are passed over: else there are 517 gates.
+    (
+        "bench 10 --plan pebble --lines 51",
+        b"",
+        0,
+        b"inputs 20\noutputs 11\nwrites 56\nwidth 13\nlines 51\ngates 493\ndepth 331\n",
+    ),
     (
         "bench 16 --plan pebble --lines 48",
         b"",

@@ -44,6 +44,13 @@ t3 w1 x0 w0\nt3 x0 x1 w0\nt2 x2 w1\nt2 w0 w1\nt3 x0 x1 w0\n.end\n";
 const CHAIN: &[u8] =
     b"main (x : bool) (y : bool) = { let t = x && y; let u = t <> x; let v = u && y; v <> x }";
 
+// Three nodes, each made of the one before.
+const FACTORS_OF_FOUR: &[u8] = b"main (a : bool[4]) = a.[0] && a.[1] && a.[2] && a.[3]";
+
+// The last node takes two nodes before it, one of which is made of the other.
+const TAKEN_BACK: &[u8] =
+    b"main (a : bool) (b : bool) = { let t = a <> b; let u = t && b; u <> t }";
+
 const SIXTY_FIVE: &[u8] = b"main (a : bool[65]) = a.[0]";
 
 // The factors behind the first one of the product of 65 inputs.
@@ -79,6 +86,13 @@ const CASES: &[Row] = &[
         PRODUCT,
         7,
         b"revc: more than 2 gates\n",
+    ),
+    // The forward part alone is too heavy.
+    (
+        "compile --gates 1",
+        PRODUCT,
+        7,
+        b"revc: more than 1 gates\n",
     ),
     ("compile --lines 4 --gates 3", PRODUCT, 0, PRODUCT_FILE),
     ("compile --borrow 1", PRODUCT, 0, BORROWING_FILE),
@@ -118,6 +132,20 @@ const CASES: &[Row] = &[
         THREE,
         7,
         b"revc: more than 14 gates\n",
+    ),
+    // The lower half has one node more than the upper one.
+    (
+        "compile --plan pebble --lines 7 | stat",
+        FACTORS_OF_FOUR,
+        0,
+        b"lines 7\ngates 9\nx 0\ncx 1\nccx 8\nwide 0\nswap 0\ndepth 9\n",
+    ),
+    // The greater operand is cleaned first.
+    (
+        "compile --plan eager | stat",
+        TAKEN_BACK,
+        0,
+        b"lines 6\ngates 17\nx 0\ncx 13\nccx 4\nwide 0\nswap 0\ndepth 16\n",
     ),
     // One block of four nodes, and blocks of two, where the first node's line is used again.
     (

@@ -1,34 +1,38 @@
 -- `gen` gives a text always, and `bench` the sizes of what `compile` gives for that text, with the causes of `compile`.
-use Rattle.std.proofs.Common.{◌≡◌, List, ℕ, Result, Ok, Err, refl, sym, subst}
+use Rattle.std.proofs.Common.{◌≡◌, List, ℕ, Result, Ok, Err, inl, refl, sym, subst}
 use Rattle.std.specs.Result.{IfOk, IfErr}
 use Rattle.command_answers.specs.declared.fault.Fault.{Fault}
 use Rattle.command_answers.specs.declared.fault.Fault.TheVariants as faults
 use Rattle.program_commands.specs.Outcomes.{IsCompileFault}
-use Rattle.command_answers.specs.Outcomes.{HasOneOutcome, IsAnyFault, IsNoBudget}
+use Rattle.command_answers.specs.Outcomes.{HasOneOutcome}
 use Rattle.gate_split.specs.Plans.{LaidView, roles_of}
 use Rattle.program_commands.specs.declared.bench.BenchSizes.{BenchSizes}
 use Rattle.program_commands.specs.Bench as bench
 use Rattle.program_commands.specs.Bench.{AreSizesOf, IsBenched, bench_text}
 use Rattle.program_commands.specs.Gen as gen
 use Rattle.program_commands.specs.inside.Plans.{IsPlannedFor}
-use Rattle.program_commands.proofs.CompileLemmas.{keeps_free, one_cause, planned_or_caused}
+use Rattle.program_commands.proofs.CompileLemmas.{among, keeps_free, one_cause, planned_or_caused}
 use Rattle.program_gen.specs.Adder.{adder_text}
 use Rattle.revs_tape.specs.Tapes.{TapeView}
 use Rattle.revc_words.specs.Words.{OrderView}
 
-pub gen_outcome : HasOneOutcome IsAnyFault gen.Gives gen.IsCause gen.Serves
+pub gen_outcome : HasOneOutcome gen.promise
 gen_outcome = record {
   never_both = λ order text written fault given cause exact. cause;
   one_cause = λ order text fault exact cause other is. absurd cause;
   free = λ order text fault served cause. cause;
+  long = tt;
+  among = λ order text fault cause. absurd cause;
 }
 
-pub bench_outcome : HasOneOutcome IsNoBudget bench.Gives bench.IsCause bench.Serves
+pub bench_outcome : HasOneOutcome bench.promise
 bench_outcome = record {
   never_both = λ order text written fault given cause exact.
       planned_or_caused order (adder_text order.number) given.tape fault given.settled cause exact;
-  one_cause = λ order text fault exact cause other is. one_cause order (adder_text order.number) fault exact cause other is;
+  one_cause = λ order text fault exact cause other is. inl (one_cause order (adder_text order.number) fault exact cause other is);
   free = λ order text fault served cause. keeps_free order (adder_text order.number) fault served cause;
+  long = tt;
+  among = λ order text fault cause. among order (adder_text order.number) fault cause;
 }
 
 -- the sizes of a plan of the adder's text are what `bench` gives

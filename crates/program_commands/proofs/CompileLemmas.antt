@@ -1,12 +1,12 @@
 -- `compile` gives a file for a text, or has one exact cause, and serves each program whose claims hold and that keeps the budgets.
-use Rattle.std.proofs.Common.{◌≡◌, ℕ, List, sym, subst}
+use Rattle.std.proofs.Common.{◌≡◌, ℕ, List, [], ◌∷◌, inl, refl, sym, subst, arith}
 use Rattle.claim_check.specs.Measures.{AreMeasuresOf}
 use Rattle.revs_tape.specs.Tapes.{TapeView}
 use Rattle.command_answers.specs.declared.fault.Fault.{Fault}
 use Rattle.command_answers.specs.declared.fault.Fault.TheVariants as faults
 use Rattle.revc_words.specs.Words.{OrderView}
-use Rattle.command_answers.specs.Outcomes.{HasOneOutcome, IsNoBudget}
-use Rattle.program_commands.specs.Compile.{Gives, IsCause, Serves, KeepsBudget, PassesGates, PassesLines}
+use Rattle.command_answers.specs.Outcomes.{HasOneOutcome, IsFaultOfText, IsNoBudget}
+use Rattle.program_commands.specs.Compile.{IsCause, KeepsBudget, PassesGates, PassesLines, promise}
 use Rattle.program_commands.specs.Settling.{LeavesSettled}
 use Rattle.program_commands.proofs.SettlingLemmas.{one_left, one_stop, settled_or_stopped}
 
@@ -42,9 +42,20 @@ one_cause order text (faults.Lines need limit) exact a b is = absurd (settled_or
 one_cause order text (faults.Gates limit) exact a b is = absurd (settled_or_stopped text order.nodes a.tape exact a.settled b)
 one_cause order text fault exact a b is = one_stop text order.nodes exact fault b a
 
-pub one_outcome : HasOneOutcome IsNoBudget Gives IsCause Serves
+-- the statuses of the causes
+pub among : (order : OrderView) (text : List ℕ) (fault : Fault) → IsCause order text fault → IsFaultOfText (3 ∷ 4 ∷ 5 ∷ 6 ∷ 7 ∷ []) fault
+among order text (faults.Refused refusal) cause = record { of_text = tt; status = (0, omega arith, refl) }
+among order text (faults.Claim number at digits) cause = record { of_text = tt; status = (1, omega arith, refl) }
+among order text (faults.Diagram number at limit) cause = record { of_text = tt; status = (2, omega arith, refl) }
+among order text (faults.Lines need limit) cause = record { of_text = tt; status = (3, omega arith, refl) }
+among order text (faults.Gates limit) cause = record { of_text = tt; status = (4, omega arith, refl) }
+among order text fault cause = absurd cause
+
+pub one_outcome : HasOneOutcome promise
 one_outcome = record {
   never_both = λ order text written fault given cause exact. planned_or_caused order text given.tape fault given.settled cause exact;
-  one_cause = λ order text fault exact cause other is. one_cause order text fault exact cause other is;
+  one_cause = λ order text fault exact cause other is. inl (one_cause order text fault exact cause other is);
   free = λ order text fault served cause. keeps_free order text fault served cause;
+  long = λ order text over. over;
+  among = λ order text fault cause. among order text fault cause;
 }

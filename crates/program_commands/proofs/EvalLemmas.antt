@@ -1,6 +1,8 @@
 -- A text and a word have one value, or one reason that they have none.
-use Rattle.std.proofs.Common.{◌≡◌, ℕ, ◌+◌, ◌==◌, Bool, List, [], ◌∷◌, ◌++◌, length, sum, refl, sym, ap, ◌∙◌, subst, arith}
+use Rattle.std.proofs.Common.{◌≡◌, ℕ, ◌+◌, ◌==◌, Bool, true, false, eqb, ◌⊎◌, List, [], ◌∷◌, ◌++◌, length, sum, inl, inr, refl, sym, ap, ◌∙◌, subst, arith}
 use Rattle.std.specs.List.{AllByRecursion}
+use Rattle.std.proofs.lemmas.Bool.{false≢true}
+use Rattle.std.proofs.lemmas.Bool.Decides.{Decides-eqb}
 use Rattle.std.proofs.lemmas.List.{length-append, length-map}
 use Rattle.revc_base.specs.Bits.{IsDigit, IsFirstOther}
 use Rattle.revc_base.specs.declared.place.Place.{Place}
@@ -18,7 +20,7 @@ use Rattle.revs_terms.specs.Programs.{widths_of}
 use Rattle.revs_terms.specs.Runs.{IsTapeOf, HasOutput}
 use Rattle.revs_terms.proofs.TapeLemmas.{one_tape_at_most, tape_gives_output}
 use Rattle.revs_terms.specs.Views.{ProgramView}
-use Rattle.command_answers.specs.Outcomes.{HasOneOutcome, IsAnyFault}
+use Rattle.command_answers.specs.Outcomes.{HasOneOutcome, IsFaultOfText}
 use Rattle.revc_words.specs.Words.{first_word}
 use Rattle.revc_base.specs.declared.bits.BitsFault.{BitsFault}
 use Rattle.revc_base.specs.declared.bits.BitsFault.TheVariants as bits
@@ -26,7 +28,7 @@ use Rattle.program_commands.specs.inside.Mappings.{bits_fault}
 use Rattle.program_commands.specs.inside.Plans.{ForTexts, IsBitsFault}
 use Rattle.program_commands.specs.Settling.{LeavesTape}
 use Rattle.command_answers.specs.BitWords.{IsInputWord, bits_of}
-use Rattle.program_commands.specs.Eval.{Gives, IsCause, Serves, IsValueOf, IsBadWord, IsBroken, Stops}
+use Rattle.program_commands.specs.Eval.{promise, IsValueOf, IsBadWord, IsBroken, Stops}
 use Rattle.program_commands.specs.Outcomes.{IsEvalFault}
 use Rattle.command_answers.proofs.FirstLemmas.{all_at, first_same}
 use Rattle.program_commands.proofs.RefusalLemmas.{one_refusal, never_refused}
@@ -111,11 +113,19 @@ one_stop text word faults.Write other a b = absurd a
 one_stop text word faults.Memory other a b = absurd a
 one_stop text word fault other a b = absurd b
 
-pub one_outcome : HasOneOutcome IsAnyFault Gives IsCause Serves
+among : (text word : List ℕ) (fault : Fault) → Stops text word fault → IsFaultOfText (3 ∷ 4 ∷ 12 ∷ []) fault
+among text word (faults.Refused refusal) stops = record { of_text = tt; status = (0, omega arith, refl) }
+among text word (faults.Claim number at bits) stops = record { of_text = tt; status = (1, omega arith, refl) }
+among text word (faults.BadBits number) stops = record { of_text = tt; status = (2, omega arith, refl) }
+among text word fault stops = absurd stops
+
+pub one_outcome : HasOneOutcome promise
 one_outcome = record {
   never_both = λ order text written fault given cause exact. value_excludes_fault text (first_word order.bits) given.value fault given.is cause;
-  one_cause = λ order text fault exact cause other is. one_stop text (first_word order.bits) exact fault other cause;
+  one_cause = λ order text fault exact cause other is. inl (one_stop text (first_word order.bits) exact fault other cause);
   free = λ order text fault served cause. value_excludes_fault text (first_word order.bits) served.0 fault served.1 cause;
+  long = λ order text over. over;
+  among = λ order text fault cause. among text (first_word order.bits) fault cause;
 }
 
 -- ---- the claim that fails
@@ -193,10 +203,52 @@ value_at tape word input value end fits bits ended which =
 
 -- ---- the word
 
+by_test : {A : Type 0} (test : Bool) → (test ≡ true → A) → (test ≡ false → A) → A
+by_test true f g = f refl
+by_test false f g = g refl
+
+digit_or_not : (byte : ℕ) → IsDigit byte ⊎ (IsDigit byte → ⊥)
+digit_or_not byte = by_test (eqb byte 48)
+    (λ t. inl (inl ((Decides-eqb byte 48).0 t)))
+    (λ f. by_test (eqb byte 49)
+    (λ t. inl (inr ((Decides-eqb byte 49).0 t)))
+    (λ g. inr (λ is. elim is [
+      | inl e ↦ false≢true (sym f ∙ (Decides-eqb byte 48).1 e)
+      | inr e ↦ false≢true (sym g ∙ (Decides-eqb byte 49).1 e)
+    ])))
+
+-- a word has digits alone, or a first byte that is none
+digits_or_other : (word : List ℕ) → AllByRecursion IsDigit word ⊎ ((at : ℕ) × IsFirstOther word at)
+digits_or_other [] = inl tt
+digits_or_other (byte ∷ word) = elim (digit_or_not byte) [
+  | inr no_digit ↦ inr (0, record { before = []; other = byte; behind = word; cut = refl; count = refl; digits = tt; no_digit = no_digit })
+  | inl digit ↦ elim (digits_or_other word) [
+    | inl digits ↦ inl (digit, digits)
+    | inr at ↦ (let first = at.1 in inr (
+      at.0 + 1,
+      record {
+        before = byte ∷ first.before;
+        other = first.other;
+        behind = first.behind;
+        cut = ap (λ (bytes : List ℕ). byte ∷ bytes) first.cut;
+        count = (let count = first.count in omega arith);
+        digits = (digit, first.digits);
+        no_digit = first.no_digit;
+      },
+    ))
+  ]
+]
+
 pub bits_refused : (inputs : ℕ) (word : List ℕ) (fault : BitsFault) → ((at : ℕ) → fault ≡ bits.BadDigit at → IsFirstOther word at)
-    → IsBitsFault inputs word (bits_fault fault)
-bits_refused inputs word (bits.BadDigit at) h = (refl, λ fits. no_digits word at (h at refl) fits.digits)
-bits_refused inputs word bits.Memory h = tt
+    → ((at : ℕ) → IsFirstOther word at → fault ≡ bits.BadDigit at) → length word ≡ inputs → IsBitsFault inputs word (bits_fault fault)
+bits_refused inputs word (bits.BadDigit at) h named size = (refl, λ fits. no_digits word at (h at refl) fits.digits)
+bits_refused inputs word bits.Memory h named size = record { digits = digits; size = size }
+  where
+    digits : AllByRecursion IsDigit word
+    digits = elim (digits_or_other word) [
+      | inl all ↦ all
+      | inr at ↦ (let is = named at.0 at.1 in absurd cc)
+    ]
 
 -- a word that is no input of the tape is none of the program's
 pub word_stops : (tape : TapeView) (word : List ℕ) (fault : Fault) → IsBitsFault (sum tape.params) word fault

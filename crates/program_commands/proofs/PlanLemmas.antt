@@ -1,5 +1,5 @@
 -- The text of a clean plan is a clean file for the one program of a text, and why there is no plan.
-use Rattle.std.proofs.Common.{◌≡◌, ℕ, ◌+◌, ◌≤◌, suc, Bool, cond, List, Result, Ok, Err, length, sum, max, sym, ap, ◌∙◌, subst, inl, inr, arith}
+use Rattle.std.proofs.Common.{◌≡◌, ℕ, ◌+◌, ◌≤◌, suc, Bool, cond, List, Result, Ok, Err, length, sum, max, refl, sym, ap, ◌∙◌, subst, inl, inr, arith}
 use Rattle.std.specs.Prelude.{nat_lt}
 use Rattle.std.specs.Result.{IfOk, IfErr}
 use Rattle.std.proofs.lemmas.Bool.Decides.{leb_tells}
@@ -125,6 +125,7 @@ compiled_file order text laid tape p = record {
   };
   few_lines = p.few_lines;
   few_gates = p.few_gates;
+  written = refl;
 }
 
 -- ---- the budgets

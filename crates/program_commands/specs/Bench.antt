@@ -1,5 +1,6 @@
 -- `bench`: the sizes of an adder's program, and of its compiled circuit.
-use Rattle.std.specs.Prelude.{◌≡◌, ℕ, ◌≤◌, List, ◌++◌, length, codes}
+use Rattle.std.specs.Prelude.{◌≡◌, ℕ, ◌≤◌, List, ◌++◌, length, codes, None, [], ◌∷◌}
+use Rattle.command_answers.specs.Outcomes.{Promise, IsNoBudget, IsNoFault}
 use Rattle.command_answers.specs.declared.fault.Fault.{Fault}
 use Rattle.command_answers.specs.Lines.{number_line}
 use Rattle.gate_split.specs.declared.roles.Roles.{Roles}
@@ -70,3 +71,14 @@ IsCause order text fault = compile.IsCause order (adder_text order.number) fault
 -- where something is, unless memory or a device is wanting: where `compile` writes a file for the text of the adder
 abbrev pub Serves : OrderView → List ℕ → Type 0
 Serves order text = compile.Serves order (adder_text order.number)
+
+abbrev pub promise : Promise
+promise = record {
+  reads = None;
+  statuses = 3 ∷ 4 ∷ 5 ∷ 6 ∷ 7 ∷ [];
+  Gives = Gives;
+  IsCause = IsCause;
+  Serves = Serves;
+  IsExact = IsNoBudget;
+  MayPrecede = IsNoFault;
+}

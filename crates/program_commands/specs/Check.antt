@@ -1,5 +1,7 @@
 -- `check`: how many claims a program has, each of which holds on all inputs.
-use Rattle.std.specs.Prelude.{◌≡◌, ℕ, List, ◌++◌, length, codes}
+use Rattle.std.specs.Prelude.{◌≡◌, ℕ, List, ◌++◌, length, codes, Some, [], ◌∷◌}
+use Rattle.command_answers.specs.Outcomes.{Promise, IsAnyFault, IsNoFault}
+use Rattle.program_commands.specs.Refusals.{program_limit}
 use Rattle.std.specs.Fmt.{decimal}
 use Rattle.revs_tape.specs.Tapes.{TapeView}
 use Rattle.revc_words.specs.Words.{OrderView}
@@ -27,3 +29,14 @@ IsCause order text fault = StopsSettling text order.nodes fault
 -- where something is, unless memory or a device is wanting: every claim holds on all inputs, within the nodes
 abbrev pub Serves : OrderView → List ℕ → Type 0
 Serves order text = (tape : TapeView) × LeavesSettled text order.nodes tape
+
+abbrev pub promise : Promise
+promise = record {
+  reads = Some program_limit;
+  statuses = 3 ∷ 4 ∷ 5 ∷ [];
+  Gives = Gives;
+  IsCause = IsCause;
+  Serves = Serves;
+  IsExact = IsAnyFault;
+  MayPrecede = IsNoFault;
+}

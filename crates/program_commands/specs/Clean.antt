@@ -16,6 +16,11 @@ abbrev pub MeansIn : Format → List ℕ → Roles → List GateView → Type 0
 MeansIn Real text roles gates = real.MeansCompiled text roles gates
 MeansIn Qasm text roles gates = qasm.MeansCompiled text roles gates
 
+-- the text of the file of such gates in a format: header, comments and all
+abbrev pub file_text : Format → Roles → List GateView → List ℕ
+file_text Real roles gates = real.compiled_text roles gates
+file_text Qasm roles gates = qasm.compiled_text roles gates
+
 -- on this input, whatever the borrowed lines hold, the gates put the program's output on the output lines
 pub record ComputesOn (p : ProgramView) (roles : Roles) (gates : List GateView)
     (input borrowed : List Bool) : Type 0 where

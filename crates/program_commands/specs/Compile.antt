@@ -1,5 +1,7 @@
 -- `compile`: the file of a program's clean circuit.
-use Rattle.std.specs.Prelude.{◌≡◌, ℕ, ◌+◌, ◌≤◌, List, length, max}
+use Rattle.std.specs.Prelude.{◌≡◌, ℕ, ◌+◌, ◌≤◌, List, length, max, Some, [], ◌∷◌}
+use Rattle.command_answers.specs.Outcomes.{Promise, IsNoBudget, IsNoFault}
+use Rattle.program_commands.specs.Refusals.{program_limit}
 use Rattle.claim_check.specs.Budgets.{Measures}
 use Rattle.claim_check.specs.Measures.{AreMeasuresOf}
 use Rattle.gate_split.specs.Plans.{BudgetView, lines_in}
@@ -11,7 +13,7 @@ use Rattle.revs_parser.specs.WellFormed.{IsWellFormed}
 use Rattle.revs_terms.specs.Views.{ProgramView}
 use Rattle.command_answers.specs.declared.fault.Fault.{Fault}
 use Rattle.command_answers.specs.declared.fault.Fault.TheVariants.{Lines, Gates}
-use Rattle.program_commands.specs.Clean.{IsClean}
+use Rattle.program_commands.specs.Clean.{IsClean, file_text}
 use Rattle.program_commands.specs.Settling.{LeavesSettled, StopsSettling}
 
 -- the budget that an order gives
@@ -20,7 +22,7 @@ budget_of order =
     record { lines = order.lines; gates = order.gates; borrow = order.borrow }
 
 -- The text is well formed, and that of one program, whose claims hold on all inputs, within the nodes; the file is a
--- clean one for it in the order's format, with its borrowed lines and within its budgets.
+-- clean one for it in the order's format, with its borrowed lines and within its budgets, and the text of its gates.
 pub record IsCompiled (order : OrderView) (text file : List ℕ) : Type 0 where
   pub tape : TapeView
   pub settled : LeavesSettled text order.nodes tape
@@ -28,6 +30,7 @@ pub record IsCompiled (order : OrderView) (text file : List ℕ) : Type 0 where
   pub clean : IsClean order.format file settled.left.program order.borrow
   pub few_lines : lines_in clean.roles ≤ order.lines
   pub few_gates : length clean.gates ≤ order.gates
+  pub written : file ≡ file_text order.format clean.roles clean.gates
 
 -- a line for each input, output and borrowed bit
 abbrev pub least_lines : TapeView → OrderView → ℕ
@@ -76,3 +79,14 @@ IsCause order text fault = StopsSettling text order.nodes fault
 -- row of the budget numbers that the order allows fits
 abbrev pub Serves : OrderView → List ℕ → Type 0
 Serves order text = KeepsBudget order text
+
+abbrev pub promise : Promise
+promise = record {
+  reads = Some program_limit;
+  statuses = 3 ∷ 4 ∷ 5 ∷ 6 ∷ 7 ∷ [];
+  Gives = Gives;
+  IsCause = IsCause;
+  Serves = Serves;
+  IsExact = IsNoBudget;
+  MayPrecede = IsNoFault;
+}

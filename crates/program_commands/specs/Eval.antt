@@ -1,5 +1,6 @@
 -- `eval`: the bits that a program gives on the bits of a word.
-use Rattle.std.specs.Prelude.{◌≡◌, ℕ, ◌+◌, Bool, List, sum}
+use Rattle.std.specs.Prelude.{◌≡◌, ℕ, ◌+◌, Bool, List, sum, Some, [], ◌∷◌}
+use Rattle.command_answers.specs.Outcomes.{Promise, IsAnyFault, IsNoFault}
 use Rattle.std.specs.List.{AllByRecursion}
 use Rattle.revs_tape.specs.Tapes.{TapeView, Holds, IsFirstBroken}
 use Rattle.revc_base.specs.declared.place.Place.{Place}
@@ -9,7 +10,7 @@ use Rattle.revs_terms.specs.Runs.{HasOutput, IsTapeOf}
 use Rattle.revs_terms.specs.Views.{ProgramView}
 use Rattle.command_answers.specs.BitWords.{IsInputWord, bits_of}
 use Rattle.command_answers.specs.Lines.{bits_text}
-use Rattle.program_commands.specs.Refusals.{IsRefusal}
+use Rattle.program_commands.specs.Refusals.{IsRefusal, program_limit}
 use Rattle.revc_words.specs.Words.{OrderView, first_word}
 use Rattle.command_answers.specs.declared.fault.Fault.{Fault}
 use Rattle.command_answers.specs.declared.fault.Fault.TheVariants.{Refused, Claim, BadBits}
@@ -68,3 +69,14 @@ IsCause order text fault = Stops text (first_word order.bits) fault
 -- where something is, unless memory or a device is wanting: the text and the word have a value
 abbrev pub Serves : OrderView → List ℕ → Type 0
 Serves order text = (value : List Bool) × IsValueOf text (first_word order.bits) value
+
+abbrev pub promise : Promise
+promise = record {
+  reads = Some program_limit;
+  statuses = 3 ∷ 4 ∷ 12 ∷ [];
+  Gives = Gives;
+  IsCause = IsCause;
+  Serves = Serves;
+  IsExact = IsAnyFault;
+  MayPrecede = IsNoFault;
+}

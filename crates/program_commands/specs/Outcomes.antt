@@ -3,14 +3,12 @@ use Rattle.std.specs.Prelude.{ℕ, ◌≤◌, List, length}
 use Rattle.gate_split.specs.declared.plan.TheConstants.{MOST_LINES, MOST_GATES}
 use Rattle.gate_split.specs.Plans.{LaidView, roles_of}
 use Rattle.program_gen.specs.declared.adder.TheConstants.{MOST_BITS}
-use Rattle.qasm_format.specs.Compiled as qasm
-use Rattle.real_format.specs.Compiled as real
 use Rattle.command_answers.specs.declared.fault.Fault.{Fault}
 use Rattle.command_answers.specs.declared.fault.Fault.TheVariants as faults
 use Rattle.command_answers.specs.declared.fault.Fault.TheVariants.{Memory}
 use Rattle.revc_words.specs.declared.order.Format.{Format}
-use Rattle.revc_words.specs.declared.order.Format.TheVariants.{Real, Qasm}
 use Rattle.revc_words.specs.Words.{OrderView}
+use Rattle.program_commands.specs.Clean.{file_text}
 use Rattle.program_commands.specs.Compile.{PassesLines, PassesGates}
 use Rattle.program_commands.specs.Eval.{Stops}
 use Rattle.program_commands.specs.Settling.{StopsSettling}
@@ -22,8 +20,7 @@ pub record IsAdderSize (number : ℕ) : Type 0 where
 
 -- the file of a laid plan in a format
 abbrev pub file_of : Format → LaidView → List ℕ
-file_of Real laid = real.compiled_text (roles_of laid) laid.circuit.gates
-file_of Qasm laid = qasm.compiled_text (roles_of laid) laid.circuit.gates
+file_of format laid = file_text format (roles_of laid) laid.circuit.gates
 
 -- a circuit that is written has a line, and keeps the limits of the format
 pub record IsWritable (laid : LaidView) : Type 0 where

@@ -6,6 +6,8 @@ use Rattle.revs_lexer.specs.declared.token.Token.{Token}
 use Rattle.revs_lexer.specs.Tokens.{IsTokens, IsRefused, closed}
 use Rattle.revs_grammar.specs.Answers.{IsInputs}
 use Rattle.revs_grammar.specs.Faults.{IsSyntax, IsNesting}
+use Rattle.command_answers.specs.declared.fault.Fault.TheVariants.{Refused}
+use Rattle.command_answers.specs.declared.limit.TextLimit.{TextLimit}
 use Rattle.command_answers.specs.declared.fault.FaultKind.{FaultKind}
 use Rattle.command_answers.specs.declared.fault.FaultKind.TheVariants.{BadByte, LongName, LongNumber, Syntax, Nesting, Inputs, Unbound, TwoParams, Stuck}
 use Rattle.command_answers.specs.declared.fault.Refusal.{Refusal}
@@ -17,6 +19,10 @@ use Rattle.revs_terms.specs.declared.cause.Cause.{Cause}
 use Rattle.revs_terms.specs.Runs.{IsInput, IsStuck}
 use Rattle.revs_terms.specs.Scopes.{scope_verdict, bound_as, two_params, unbound_name}
 use Rattle.revs_terms.specs.Trees.{Tree}
+
+-- the limit of the text of a program
+abbrev pub program_limit : TextLimit
+program_limit = record { bytes = MOST_BYTES; fault = Refused TooLong }
 
 -- this holds of the tokens of the text, with `End` behind them
 abbrev pub OfTokens : List ℕ → (List Token → Type 0) → Type 0

@@ -1,8 +1,8 @@
 // `bench`: the sizes of an adder's program, and of its compiled circuit.
 ghost use Rattle.std.specs.Prelude.{◌≡◌, IfOk, IfErr};
-ghost use Rattle.command_answers.specs.Outcomes.{HasOneOutcome, IsNoBudget};
+ghost use Rattle.command_answers.specs.Outcomes.{HasOneOutcome};
 ghost use Rattle.gate_split.specs.Plans.{roles_of};
-ghost use Rattle.program_commands.specs.Bench.{Gives, IsCause, Serves, AreSizesOf, IsBenched};
+ghost use Rattle.program_commands.specs.Bench.{promise, AreSizesOf, IsBenched};
 ghost use Rattle.program_commands.specs.Bench.{bench_text};
 ghost use Rattle.program_commands.specs.Outcomes.{IsAdderSize, IsCompileFault};
 ghost use Rattle.program_commands.specs.Settling.{LeavesTape};
@@ -38,7 +38,7 @@ pub struct BenchSizes {
 /// What `bench` gives, its exact causes and where it serves exclude one another, and it has one
 /// exact cause at most.
 pub fn one_outcome()
-    ensures { HasOneOutcome IsNoBudget Gives IsCause Serves }
+    ensures { HasOneOutcome promise }
 {}
 
 /// The sizes of the program of an adder of the order's number of bits, and of the circuit that

@@ -1,7 +1,7 @@
 // `check`: how many claims a program has, each of which holds on all inputs.
 ghost use Rattle.std.specs.Prelude.{◌≡◌, ◌≤◌, length, IfOk, IfErr};
-ghost use Rattle.program_commands.specs.Check.{Gives, IsCause, Serves, IsChecked, claims_text};
-ghost use Rattle.command_answers.specs.Outcomes.{HasOneOutcome, IsAnyFault};
+ghost use Rattle.program_commands.specs.Check.{promise, IsChecked, claims_text};
+ghost use Rattle.command_answers.specs.Outcomes.{HasOneOutcome};
 ghost use Rattle.program_commands.specs.Outcomes.{IsSettlingFault};
 
 use crate::program::tape_of_text;
@@ -13,7 +13,7 @@ use std::alloc::Global;
 /// What `check` gives, its causes and where it serves exclude one another, and it has one cause at
 /// most.
 pub fn one_outcome()
-    ensures { HasOneOutcome IsAnyFault Gives IsCause Serves }
+    ensures { HasOneOutcome promise }
 {}
 
 /// The number of claims of a text's program, all of which hold on all inputs. A fault is exactly

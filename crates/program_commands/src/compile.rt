@@ -1,7 +1,7 @@
 // `compile`: from a program text to the file of a clean circuit.
 ghost use Rattle.std.specs.Prelude.{◌≤◌, length, IfOk, IfErr};
-ghost use Rattle.command_answers.specs.Outcomes.{HasOneOutcome, IsNoBudget};
-ghost use Rattle.program_commands.specs.Compile.{Gives, IsCause, Serves, IsCompiled};
+ghost use Rattle.command_answers.specs.Outcomes.{HasOneOutcome};
+ghost use Rattle.program_commands.specs.Compile.{promise, IsCompiled};
 ghost use Rattle.program_commands.specs.Outcomes.{IsCompileFault, IsWritable, file_of};
 ghost use Rattle.revc_io.specs.Faults.{HasCause};
 ghost use Rattle.revc_io.specs.Passing.{Writes};
@@ -19,7 +19,7 @@ use std::alloc::Global;
 /// What `compile` gives, its exact causes and where it serves exclude one another, and it has one
 /// exact cause at most.
 pub fn one_outcome()
-    ensures { HasOneOutcome IsNoBudget Gives IsCause Serves }
+    ensures { HasOneOutcome promise }
 {}
 
 /// The plan of the clean file of a text's program, whose claims hold on all inputs, within the

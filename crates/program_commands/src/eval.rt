@@ -1,8 +1,8 @@
 // `eval`: the bits that a program gives on the bits of a word.
 ghost use Rattle.std.specs.Prelude.{◌≡◌, ◌≤◌, length, sum, IfOk, IfErr};
-ghost use Rattle.command_answers.specs.Outcomes.{HasOneOutcome, IsAnyFault};
+ghost use Rattle.command_answers.specs.Outcomes.{HasOneOutcome};
 ghost use Rattle.command_answers.specs.BitWords.{IsInputWord, bits_of};
-ghost use Rattle.program_commands.specs.Eval.{Gives, IsCause, Serves, IsValueOf};
+ghost use Rattle.program_commands.specs.Eval.{promise, IsValueOf};
 ghost use Rattle.revc_words.specs.Words.{first_word, order_of};
 ghost use Rattle.program_commands.specs.inside.Mappings.{bits_fault};
 ghost use Rattle.program_commands.specs.Outcomes.{IsEvalFault};
@@ -19,7 +19,7 @@ use std::alloc::Global;
 /// What `eval` gives, its causes and where it serves exclude one another, and it has one cause at
 /// most.
 pub fn one_outcome()
-    ensures { HasOneOutcome IsAnyFault Gives IsCause Serves }
+    ensures { HasOneOutcome promise }
 {}
 
 /// The bits that a text's program gives on the bits of a word. A fault is exactly the text's, the

@@ -1,7 +1,7 @@
 // `gen`: the program of an adder.
 ghost use Rattle.std.specs.Prelude.{◌≡◌, IfOk};
-ghost use Rattle.command_answers.specs.Outcomes.{HasOneOutcome, IsAnyFault};
-ghost use Rattle.program_commands.specs.Gen.{Gives, IsCause, Serves};
+ghost use Rattle.command_answers.specs.Outcomes.{HasOneOutcome};
+ghost use Rattle.program_commands.specs.Gen.{promise};
 ghost use Rattle.program_commands.specs.Outcomes.{IsAdderSize};
 ghost use Rattle.program_gen.specs.Adder.{adder_text};
 ghost use Rattle.revc_io.specs.Faults.{HasCause};
@@ -14,7 +14,7 @@ use std::alloc::Global;
 
 /// What `gen` gives, its causes and where it serves exclude one another: it has no cause.
 pub fn one_outcome()
-    ensures { HasOneOutcome IsAnyFault Gives IsCause Serves }
+    ensures { HasOneOutcome promise }
 {}
 
 /// The text of the program of an adder of so many bits.

@@ -1,8 +1,9 @@
 // From a tape to the plan of a clean circuit.
-ghost use Rattle.std.specs.Prelude.{IfOk, IfErr};
+ghost use Rattle.std.specs.Prelude.{◌≡◌, IfOk, IfErr};
 ghost use Rattle.revc_words.specs.Words.{IsWithinLimits, order_of};
 ghost use Rattle.program_commands.specs.Compile.{budget_of};
 ghost use Rattle.program_commands.specs.Outcomes.{IsCompileFault};
+ghost use Rattle.program_commands.specs.inside.Mappings.{plan_fault};
 ghost use Rattle.program_commands.specs.inside.Plans.{ForTexts, IsPlanOf, IsPlannedFor};
 ghost use Rattle.program_commands.specs.inside.Plans.{IsPlanningFault};
 
@@ -44,11 +45,19 @@ fn lay(alloc: Global, settled: &Settled, order: &Order) -> Result<Laid, Fault>
             let _ = laid.circuit().lines();
             Ok(laid)
         }
-        Err(PlanFault::Lines { need }) => Err(Fault::Lines {
+        Err(fault) => Err(plan_fault(fault, order)),
+    }
+}
+
+fn plan_fault(fault: PlanFault, order: &Order) -> Fault
+    ensures { result ≡ plan_fault (budget_of (order_of order.now)) fault }
+{
+    match fault {
+        PlanFault::Lines { need } => Fault::Lines {
             need,
             limit: order.lines,
-        }),
-        Err(PlanFault::Gates) => Err(Fault::Gates { limit: order.gates }),
-        Err(PlanFault::Memory) => Err(Fault::Memory),
+        },
+        PlanFault::Gates => Fault::Gates { limit: order.gates },
+        PlanFault::Memory => Fault::Memory,
     }
 }

@@ -29,7 +29,8 @@ pub fn settle_tape(tape: &Tape, nodes: u32) -> Result<Settled, Fault>
 // The fault of the program for a fault of its claims.
 fn claim_fault(tape: &Tape, fault: ClaimFault, nodes: u32) -> Fault
     requires { IsClaimFault tape.now nodes fault }
-    ensures { ForTexts tape.now (λ text. IsSettlingFault text nodes result) }
+    ensures stops { ForTexts tape.now (λ text. IsSettlingFault text nodes result) }
+    ensures memory { result ≡ Fault.Memory → fault ≡ ClaimFault.Memory }
 {
     match fault {
         ClaimFault::Broken { claim, input } => broken_claim(tape, claim, input),

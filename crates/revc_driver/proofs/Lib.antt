@@ -1,1 +1,4 @@
+pub mod ServedLemmas
+pub mod EndLemmas
 pub mod TopLemmas
+pub mod CommandLemmas

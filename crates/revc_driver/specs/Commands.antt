@@ -1,13 +1,11 @@
--- Each command by three definitions: what it gives for a text, which fault it may end with for one, and where it serves.
-use Rattle.std.specs.Prelude.{ℕ, Bool, true, false, Option, Some, cond, List, [], ◌∷◌}
-use Rattle.command_answers.specs.Outcomes.{IsAnyFault, IsNoBudget}
+-- What the top call promises of each command.
+use Rattle.std.specs.Prelude.{ℕ, Option, Some, None, List, [], ◌∷◌}
+use Rattle.command_answers.specs.Outcomes.{Promise}
 use Rattle.command_answers.specs.declared.fault.Fault.{Fault}
-use Rattle.command_answers.specs.declared.fault.Fault.TheVariants.{Usage, Read, Write, Memory}
-use Rattle.circuit_commands.specs.declared.limits.TheConstants.{MOST_CIRCUIT_BYTES}
-use Rattle.revc_words.specs.declared.order.Command.{Command}
-use Rattle.revc_words.specs.declared.order.Command.TheVariants as commands
+use Rattle.command_answers.specs.declared.limit.TextLimit.{TextLimit}
+use Rattle.revc_words.specs.declared.commands.Command.{Command}
+use Rattle.revc_words.specs.declared.commands.Command.TheVariants as commands
 use Rattle.revc_words.specs.Words.{OrderView}
-use Rattle.revs_parser.specs.declared.limits.TheConstants.{MOST_BYTES}
 use Rattle.program_commands.specs.Compile as compile
 use Rattle.program_commands.specs.Check as check
 use Rattle.program_commands.specs.Eval as eval
@@ -17,91 +15,51 @@ use Rattle.circuit_commands.specs.Stat as stat
 use Rattle.circuit_commands.specs.Run as run
 use Rattle.circuit_commands.specs.Convert as convert
 
--- these bytes are what the order asks for, with this text on the source
-abbrev pub gives : Command → OrderView → List ℕ → List ℕ → Type 0
-gives commands.Compile = compile.Gives
-gives commands.Check = check.Gives
-gives commands.Eval = eval.Gives
-gives commands.Stat = stat.Gives
-gives commands.Run = run.Gives
-gives commands.Convert = convert.Gives
-gives commands.Gen = gen.Gives
-gives commands.Bench = bench.Gives
+abbrev pub promise_of : Command → Promise
+promise_of commands.Compile = compile.promise
+promise_of commands.Check = check.promise
+promise_of commands.Eval = eval.promise
+promise_of commands.Stat = stat.promise
+promise_of commands.Run = run.promise
+promise_of commands.Convert = convert.promise
+promise_of commands.Gen = gen.promise
+promise_of commands.Bench = bench.promise
 
--- the text lets the order end with this fault
-abbrev pub causes : Command → OrderView → List ℕ → Fault → Type 0
-causes commands.Compile = compile.IsCause
-causes commands.Check = check.IsCause
-causes commands.Eval = eval.IsCause
-causes commands.Stat = stat.IsCause
-causes commands.Run = run.IsCause
-causes commands.Convert = convert.IsCause
-causes commands.Gen = gen.IsCause
-causes commands.Bench = bench.IsCause
+-- ---- the promise of an order
 
--- the order ends well with this text, unless memory or a device is wanting
-abbrev pub serves : Command → OrderView → List ℕ → Type 0
-serves commands.Compile = compile.Serves
-serves commands.Check = check.Serves
-serves commands.Eval = eval.Serves
-serves commands.Stat = stat.Serves
-serves commands.Run = run.Serves
-serves commands.Convert = convert.Serves
-serves commands.Gen = gen.Serves
-serves commands.Bench = bench.Serves
+-- the limit of the text that it reads, if it reads one
+abbrev pub reads_of : OrderView → Option TextLimit
+reads_of order = (promise_of order.command).reads
 
--- the statuses with which a command may end
-abbrev pub statuses_of : Command → List ℕ
-statuses_of commands.Compile = 0 ∷ 3 ∷ 4 ∷ 5 ∷ 6 ∷ 7 ∷ 9 ∷ 10 ∷ 11 ∷ []
-statuses_of commands.Check = 0 ∷ 3 ∷ 4 ∷ 5 ∷ 9 ∷ 10 ∷ 11 ∷ []
-statuses_of commands.Eval = 0 ∷ 3 ∷ 4 ∷ 9 ∷ 10 ∷ 11 ∷ 12 ∷ []
-statuses_of commands.Stat = 0 ∷ 8 ∷ 9 ∷ 10 ∷ 11 ∷ []
-statuses_of commands.Run = 0 ∷ 8 ∷ 9 ∷ 10 ∷ 11 ∷ 12 ∷ []
-statuses_of commands.Convert = 0 ∷ 6 ∷ 7 ∷ 8 ∷ 9 ∷ 10 ∷ 11 ∷ []
-statuses_of commands.Gen = 0 ∷ 10 ∷ 11 ∷ []
-statuses_of commands.Bench = 0 ∷ 3 ∷ 4 ∷ 5 ∷ 6 ∷ 7 ∷ 10 ∷ 11 ∷ []
+-- these bytes are what it asks for, with this text on the source
+abbrev pub Gives : OrderView → List ℕ → List ℕ → Type 0
+Gives order = (promise_of order.command).Gives order
 
--- whether a command reads the source: `gen` and `bench` make their text from a number
-abbrev pub reads_source : Command → Bool
-reads_source commands.Gen = false
-reads_source commands.Bench = false
-reads_source _ = true
+-- the text lets it end with this fault
+abbrev pub IsCause : OrderView → List ℕ → Fault → Type 0
+IsCause order = (promise_of order.command).IsCause order
+
+-- it ends well with this text, unless memory or a device is wanting
+abbrev pub Serves : OrderView → List ℕ → Type 0
+Serves order = (promise_of order.command).Serves order
+
+-- ---- statuses and texts
+
+-- that of a fault of the source, where it is read, before these
+abbrev pub with_reading : Option TextLimit → List ℕ → List ℕ
+with_reading None statuses = statuses
+with_reading (Some limit) statuses = 9 ∷ statuses
+
+-- the statuses with which a command may end: success, faults of devices and memory, and those of its causes
+abbrev pub statuses_of : Promise → List ℕ
+statuses_of promise = 0 ∷ 10 ∷ 11 ∷ with_reading promise.reads promise.statuses
 
 -- the text of a command, where it is told: that of the source, and none where the source is not read
-abbrev pub text_told : Command → Option (List ℕ) → Option (List ℕ)
-text_told command rest = cond (reads_source command) rest (Some [])
+abbrev pub text_told : Option TextLimit → Option (List ℕ) → Option (List ℕ)
+text_told None rest = Some []
+text_told (Some limit) rest = rest
 
--- the most bytes of the text that a command reads: of a circuit, or of a program
-abbrev pub most_bytes : Command → ℕ
-most_bytes commands.Stat = MOST_CIRCUIT_BYTES
-most_bytes commands.Run = MOST_CIRCUIT_BYTES
-most_bytes commands.Convert = MOST_CIRCUIT_BYTES
-most_bytes _ = MOST_BYTES
-
--- the faults that come wherever they have their cause: all but the budgets of plans
-abbrev pub IsExact : Command → Fault → Type 0
-IsExact commands.Compile = IsNoBudget
-IsExact commands.Bench = IsNoBudget
-IsExact _ = IsAnyFault
-
-abbrev pub Gives : OrderView → List ℕ → List ℕ → Type 0
-Gives order = gives order.command order
-
-abbrev pub IsCause : OrderView → List ℕ → Fault → Type 0
-IsCause order = causes order.command order
-
-abbrev pub Serves : OrderView → List ℕ → Type 0
-Serves order = serves order.command order
-
--- a fault that rests on the text has its cause there; the words, the devices and memory are no matter of the text
-abbrev pub IsCausedBy : OrderView → List ℕ → Fault → Type 0
-IsCausedBy order text Usage = Unit {0}
-IsCausedBy order text Read = Unit {0}
-IsCausedBy order text Write = Unit {0}
-IsCausedBy order text Memory = Unit {0}
-IsCausedBy order text fault = IsCause order text fault
-
--- a fault of a prepared order has its cause in the text, or is want of memory
-abbrev pub IsCauseOrMemory : OrderView → List ℕ → Fault → Type 0
-IsCauseOrMemory order text Memory = Unit {0}
-IsCauseOrMemory order text fault = IsCause order text fault
+-- the most bytes of that text
+abbrev pub most_bytes : Option TextLimit → ℕ
+most_bytes None = 0
+most_bytes (Some limit) = limit.bytes

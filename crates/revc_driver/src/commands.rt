@@ -1,16 +1,22 @@
-// What an order makes of a text before anything is written: it takes all memory, and meets every
-// fault but that of writing.
-ghost use Rattle.std.specs.Prelude.{◌≡◌, ◌≤◌, length, IfOk, IfErr};
+// The commands, each by its law, the limit of its text, and what an order of it makes of a text
+// before anything is written: that takes all memory, and meets every fault but that of writing.
+ghost use Rattle.std.specs.Prelude.{◌≡◌, ◌<◌, ◌≤◌, length, IfOk, IfErr};
 ghost use Rattle.revc_io.specs.Faults.{HasCause};
 ghost use Rattle.revc_io.specs.Passing.{Writes};
 ghost use Rattle.revc_words.specs.Words.{IsWithinLimits, order_of};
-ghost use Rattle.revc_driver.specs.Commands.{Gives, IsCauseOrMemory, most_bytes, reads_source};
+ghost use Rattle.command_answers.specs.Outcomes.{HasOneOutcome};
+ghost use Rattle.program_commands.specs.Refusals.{program_limit};
+ghost use Rattle.circuit_commands.specs.Circuits.{circuit_limit};
+ghost use Rattle.revc_driver.specs.Commands.{Gives, most_bytes, promise_of, reads_of};
+ghost use Rattle.revc_driver.specs.inside.Ends.{IsCauseOrMemory};
 ghost use Rattle.revc_driver.specs.inside.Outcomes.{CanBeWritten, text_of};
 
 use circuit_commands::convert::Converted;
 use circuit_commands::stat::Sizes;
 use circuit_commands::{MOST_CIRCUIT_BYTES, convert, run, stat};
-use command_answers::{Fault, write_digits, write_lines, write_number};
+use command_answers::{
+    CircuitRefusal, Fault, Refusal, TextLimit, write_digits, write_lines, write_number,
+};
 use gate_split::Laid;
 use program_commands::bench::BenchSizes;
 use program_commands::{bench, check, compile, eval, generate};
@@ -61,26 +67,60 @@ impl Prepared {
     }
 }
 
-/// Whether a command reads the source.
-pub fn reads_source(command: Command) -> bool
-    ensures { result ≡ reads_source command }
-{
-    !matches!(command, Command::Gen | Command::Bench)
-}
-
-/// The most bytes of the text that a command reads.
-pub fn most_bytes(command: Command) -> usize
-    ensures { result ≡ most_bytes command }
+/// A command has one outcome.
+pub fn one_outcome(command: Command)
+    ensures { HasOneOutcome (promise_of command) }
 {
     match command {
-        Command::Stat | Command::Run | Command::Convert => MOST_CIRCUIT_BYTES,
-        _ => MOST_BYTES,
+        Command::Compile => compile::one_outcome(),
+        Command::Check => check::one_outcome(),
+        Command::Eval => eval::one_outcome(),
+        Command::Stat => stat::one_outcome(),
+        Command::Run => run::one_outcome(),
+        Command::Convert => convert::one_outcome(),
+        Command::Gen => generate::one_outcome(),
+        Command::Bench => bench::one_outcome(),
+    }
+}
+
+/// The limit of the text that a command reads, if it reads one.
+pub fn limit_of(command: Command) -> Option<TextLimit>
+    ensures limit { result ≡ (promise_of command).reads }
+    ensures fits { most_bytes result < usize.MAX }
+{
+    match command {
+        Command::Compile => Some(program_limit()),
+        Command::Check => Some(program_limit()),
+        Command::Eval => Some(program_limit()),
+        Command::Stat => Some(circuit_limit()),
+        Command::Run => Some(circuit_limit()),
+        Command::Convert => Some(circuit_limit()),
+        Command::Gen => None,
+        Command::Bench => None,
+    }
+}
+
+fn program_limit() -> TextLimit
+    ensures { result ≡ program_limit }
+{
+    TextLimit {
+        bytes: MOST_BYTES,
+        fault: Fault::Refused(Refusal::TooLong),
+    }
+}
+
+fn circuit_limit() -> TextLimit
+    ensures { result ≡ circuit_limit }
+{
+    TextLimit {
+        bytes: MOST_CIRCUIT_BYTES,
+        fault: Fault::Circuit(CircuitRefusal::TooLong),
     }
 }
 
 /// What an order gives for a text. A fault has its cause in the text, or is want of memory.
 pub fn prepare(alloc: Global, order: &Order, text: &[u8]) -> Result<Prepared, Fault>
-    requires short { length text.now ≤ most_bytes order.now.command }
+    requires short { length text.now ≤ most_bytes (reads_of (order_of order.now)) }
     requires limits { IsWithinLimits (order_of order.now) }
     ensures ok { IfOk result (λ prepared. Gives (order_of order.now) text.now (text_of prepared)) }
     ensures writable { IfOk result CanBeWritten }

@@ -4,8 +4,8 @@ use Rattle.std.proofs.Common.{append-nil, Bor}
 use Rattle.std.specs.Prelude.{slice_index_or}
 use Rattle.std.proofs.lemmas.List.{drop_all}
 use Rattle.clap.specs.Words.{App, Rule, with_rule}
-use Rattle.revc_words.specs.declared.order.Command.{Command}
-use Rattle.revc_words.specs.Words.{name_of, options_of}
+use Rattle.revc_words.specs.declared.commands.Command.{Command}
+use Rattle.revc_words.specs.Commands.{name_of, options_of, takes_of}
 use Rattle.revc_words.specs.inside.Parsing.{app_for, bare, option_rule, takes_any, with_options, with_words, word_rule}
 
 -- the texts from this place on
@@ -47,7 +47,7 @@ pub built_all : (command : Command) (app : App) (names : List (Bor (List ℕ))) 
 built_all command app names place over inv = ap (with_options app) (sym (none_left names place over)) ∙ inv.same
 
 pub built_with_words : (command : Command) (app more : App) (names : List (Bor (List ℕ))) (place : ℕ) (rule : Rule) → length names ≡ place
-    → IsBuilding command app names place → true ≡ takes_any command → rule ≡ word_rule → more ≡ with_rule app rule → more ≡ app_for command
+    → IsBuilding command app names place → true ≡ takes_any (takes_of command) → rule ≡ word_rule → more ≡ with_rule app rule → more ≡ app_for command
 built_with_words command app more names place rule over inv takes is added =
     let whole : App = with_options (bare (name_of command)) (options_of command) in
     added ∙ ap (with_rule app) is ∙ ap (λ (a : App). with_rule a word_rule) (built_all command app names place over inv)

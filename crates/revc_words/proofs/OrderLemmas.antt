@@ -2,8 +2,8 @@
 use Rattle.std.specs.Prelude.{slice_index_or, ◌↔◌, Result, Ok, Err, IfOk, IsErrOf, IsErrAnd}
 use Rattle.std.specs.declared.string.String.{String}
 use Rattle.std.proofs.Common.{drop, map, string_bytes, Global, ◌≤◌, ◌<◌, arith, ◌≡◌, ◌≢◌, ℕ, zero, suc, true, false, List, [], ◌∷◌, length, get_or, Option}
-use Rattle.std.proofs.Common.{Some, None, cond, refl, sym, ap, ◌∙◌, subst, codes, inl, inr}
-use Rattle.std.specs.List.{AllByRecursion, list_all}
+use Rattle.std.proofs.Common.{Some, None, Bool, if◌then◌else◌, cond, refl, sym, ap, ◌∙◌, subst, codes, inl, inr}
+use Rattle.std.specs.List.{AllByRecursion, find, list_all}
 use Rattle.std.specs.Option.{option_map, option_and_then}
 use Rattle.std.specs.Str.{bytes_eq}
 use Rattle.std.proofs.lemmas.Bool.{false≢true}
@@ -18,40 +18,49 @@ use Rattle.program_gen.specs.declared.adder.TheConstants.{MOST_BITS}
 use Rattle.revc_words.specs.declared.fault.WordsFault.{WordsFault}
 use Rattle.revc_words.specs.declared.fault.WordsFault.TheVariants as faults
 use Rattle.revc_words.specs.declared.order.Order.{Order}
-use Rattle.revc_words.specs.declared.order.Command.{Command}
-use Rattle.revc_words.specs.declared.order.Command.TheVariants.{Compile, Check, Eval, Stat, Run, Convert, Gen, Bench}
+use Rattle.revc_words.specs.declared.commands.Command.{Command}
+use Rattle.revc_words.specs.declared.commands.Command.TheVariants.{Compile}
+use Rattle.revc_words.specs.declared.commands.TheConstants.Command.{ALL}
+use Rattle.revc_words.specs.declared.commands.Positional.{Positional}
+use Rattle.revc_words.specs.declared.commands.Positional.TheVariants.{Nothing, Word, Words, Number}
+use Rattle.revc_words.specs.Commands.{name_of, options_of, takes_of}
 use Rattle.revc_words.specs.declared.order.Format.{Format}
 use Rattle.revc_words.specs.declared.order.Format.TheVariants.{Real, Qasm}
 use Rattle.revc_words.specs.declared.values.Values.{Values}
 use Rattle.revc_words.specs.Words.{order_of, OrderView, IsOrder, HasNoOrder, OneOrder, TakesWords, TakesNumber, Setting, Reads, nothing_left, all_behind}
-use Rattle.revc_words.specs.Words.{joined, parted, positional, IsOneOf, name_of, options_of, first_word, is_option, value_of, IsGivenOnce}
-use Rattle.revc_words.specs.inside.Parsing.{Texts, app_for, bits_for, first_with, number_for, number_of, order_by, order_for, order_of_texts}
+use Rattle.revc_words.specs.Words.{joined, parted, positional, IsOneOf, first_word, is_option, value_of, IsGivenOnce}
+use Rattle.revc_words.specs.inside.Parsing.{Texts, app_for, bits_for, command_named, number_for, number_of, order_by, order_for, order_of_texts}
 use Rattle.revc_words.specs.inside.Parsing.{order_with, parsed, takes_any, takes_count, texts_by, texts_in, values_of}
 use Rattle.revc_words.proofs.ValueLemmas.{plan_rule, lines_rule, gates_rule, borrow_rule, nodes_rule, format_rule, number_says, number_found, right, kept}
 use Rattle.revc_words.proofs.ValueLemmas.{text_is_no_option}
 use Rattle.revc_words.proofs.WalkLemmas.{by_test, is_one_of, filled_app, run, clap_says, AreTexts}
 use Rattle.revc_words.proofs.SaidLemmas.{Said, said, read, reached, parsed as ends, Fits, AreNew, AreOnce, AreValues, IsNever}
-use Rattle.revc_words.proofs.ReadsLemmas.{is_name, known, reads, reads_so}
+use Rattle.revc_words.proofs.ReadsLemmas.{is_name, known, known_says, reads, reads_so}
 
 -- ---- commands
 
--- the command with this name
-command_of : List ℕ → Option Command
-command_of name = first_with name_of (Compile ∷ Check ∷ Eval ∷ Stat ∷ Run ∷ Convert ∷ Gen ∷ Bench ∷ []) name
+-- What is found by a name has it. Each line `command = refl` is checked for each of the others.
+find_passes : {A : Type 0} (p : A → Bool) (xs : List A) (x : A) → find p xs ≡ Some x → p x ≡ true
+find_passes p [] x e = absurd cc
+find_passes p (y ∷ ys) x e = by_test (p y)
+    (λ t. ap p (sym (same_Some _ _ (sym (ap (λ b. if b then Some y else find p ys) t) ∙ e))) ∙ t)
+    (λ f. find_passes p ys x (sym (ap (λ b. if b then Some y else find p ys) f) ∙ e))
 
-command_of_name : (command : Command) → command_of (name_of command) ≡ Some command
-unfolding command_of
-command_of_name Compile = refl
-command_of_name Check = refl
-command_of_name Eval = refl
-command_of_name Stat = refl
-command_of_name Run = refl
-command_of_name Convert = refl
-command_of_name Gen = refl
-command_of_name Bench = refl
+named_is : (name : List ℕ) (command : Command) → command_named name ≡ Some command → name ≡ name_of command
+named_is name command e = sym ((bytes_eq-Decides (name_of command) name).0 (find_passes (λ c. bytes_eq (name_of c) name) ALL command e))
+
+is_named : (command : Command) → command_named (name_of command) ≡ Some command
+is_named Compile = refl
+is_named command = refl
+
+none_named : (name : List ℕ) → command_named name ≡ None → (command : Command) → name ≢ name_of command
+none_named name e command is = apart (sym e ∙ ap command_named is ∙ is_named command)
+  where
+    apart : None ≡ Some command → ⊥
+    apart e = absurd cc
 
 one_command : (one other : Command) → name_of one ≡ name_of other → one ≡ other
-one_command one other e = same_Some _ _ (sym (command_of_name one) ∙ ap command_of e ∙ command_of_name other)
+one_command one other e = same_Some _ _ (sym (is_named one) ∙ ap command_named e ∙ is_named other)
 
 heads : {A : Type 0} {a b : A} {xs ys : List A} → a ∷ xs ≡ b ∷ ys → (a ≡ b) × (xs ≡ ys)
 heads e = (cc, cc)
@@ -59,49 +68,25 @@ heads e = (cc, cc)
 -- its options have good names
 option_names : (command : Command) → list_all is_name (options_of command) ≡ true
 option_names Compile = refl
-option_names Check = refl
-option_names Eval = refl
-option_names Stat = refl
-option_names Run = refl
-option_names Convert = refl
-option_names Gen = refl
-option_names Bench = refl
+option_names command = refl
 
 no_word_option : (command : Command) → is_one_of (options_of command) (codes "word") ≡ false
 no_word_option Compile = refl
-no_word_option Check = refl
-no_word_option Eval = refl
-no_word_option Stat = refl
-no_word_option Run = refl
-no_word_option Convert = refl
-no_word_option Gen = refl
-no_word_option Bench = refl
+no_word_option command = refl
 
 -- the command that clap builds of it
-builds : (command : Command) → built (app_for command) ≡ filled_app (name_of command) (options_of command) (takes_any command)
+builds : (command : Command) → built (app_for command) ≡ filled_app (name_of command) (options_of command) (takes_any (takes_of command))
 builds Compile = refl
-builds Check = refl
-builds Eval = refl
-builds Stat = refl
-builds Run = refl
-builds Convert = refl
-builds Gen = refl
-builds Bench = refl
+builds command = refl
 
 arguments : (command : Command) (words behind : List (List ℕ)) → words ≡ name_of command ∷ behind → argument_words (app_for command) words ≡ behind
 arguments Compile words behind e = ap (drop 1) e
-arguments Check words behind e = ap (drop 1) e
-arguments Eval words behind e = ap (drop 1) e
-arguments Stat words behind e = ap (drop 1) e
-arguments Run words behind e = ap (drop 1) e
-arguments Convert words behind e = ap (drop 1) e
-arguments Gen words behind e = ap (drop 1) e
-arguments Bench words behind e = ap (drop 1) e
+arguments command words behind e = ap (drop 1) e
 
 parsed_so : (command : Command) (words behind : List (List ℕ)) → words ≡ name_of command ∷ behind → AreTexts behind
-    → parsed command words ≡ run (options_of command) (takes_any command) behind None []
+    → parsed command words ≡ run (options_of command) (takes_any (takes_of command)) behind None []
 parsed_so command words behind e texts =
-    clap_says (app_for command) (name_of command) (options_of command) (takes_any command) (builds command) (no_word_option command) words behind
+    clap_says (app_for command) (name_of command) (options_of command) (takes_any (takes_of command)) (builds command) (no_word_option command) words behind
     (arguments command words behind e) texts
 
 -- ---- what a command takes its positional words for
@@ -130,44 +115,32 @@ number_gives plain bits number is = (
 zero_is : (number : ℕ) → Some 0 ≡ Some number → number ≡ 0
 zero_is number e = sym (same_Some _ _ e)
 
-takes_so : (command : Command) (plain : List (List ℕ)) (number : ℕ) → takes_count command (length plain) ≡ true → number_for command plain ≡ Some number
-    → TakesWords command plain (bits_for command plain) number
-takes_so Compile plain number count is = (grind (arith, nat_tests, count), record { same = refl; no_number = zero_is number is })
-takes_so Check plain number count is = (grind (arith, nat_tests, count), record { same = refl; no_number = zero_is number is })
-takes_so Eval plain number count is = (grind (arith, nat_tests, count), record { same = refl; no_number = zero_is number is })
-takes_so Stat plain number count is = (grind (arith, nat_tests, count), record { same = refl; no_number = zero_is number is })
-takes_so Run plain number count is = (grind (arith, nat_tests, count), record { same = refl; no_number = zero_is number is })
-takes_so Convert plain number count is = (grind (arith, nat_tests, count), record { same = refl; no_number = zero_is number is })
-takes_so Gen plain number count is = number_so plain number (grind (arith, nat_tests, count)) is
-takes_so Bench plain number count is = number_so plain number (grind (arith, nat_tests, count)) is
+takes_so : (takes : Positional) (given : List Setting) (plain : List (List ℕ)) (number : ℕ) → takes_count takes (length plain) ≡ true
+    → number_for takes plain ≡ Some number → TakesWords takes given plain (bits_for takes plain) number
+takes_so Nothing given plain number count is = (grind (arith, nat_tests, count), record { same = refl; no_number = zero_is number is })
+takes_so Word given plain number count is = (grind (arith, nat_tests, count), record { same = refl; no_number = zero_is number is })
+takes_so Words given plain number count is = (grind (arith, nat_tests, count), record { same = refl; no_number = zero_is number is })
+takes_so Number given plain number count is = number_so plain number (grind (arith, nat_tests, count)) is
 
 -- the count, the number and the bits
-takes_gives : (command : Command) (plain bits : List (List ℕ)) (number : ℕ) → TakesWords command plain bits number
-    → (takes_count command (length plain) ≡ true) × (number_for command plain ≡ Some number) × (bits ≡ bits_for command plain)
-takes_gives Compile plain bits number is = let n = is.0 in (grind (arith, nat_tests), ap Some (sym is.1.no_number), is.1.same)
-takes_gives Check plain bits number is = let n = is.0 in (grind (arith, nat_tests), ap Some (sym is.1.no_number), is.1.same)
-takes_gives Eval plain bits number is = let n = is.0 in (grind (arith, nat_tests), ap Some (sym is.1.no_number), is.1.same)
-takes_gives Stat plain bits number is = let n = is.0 in (grind (arith, nat_tests), ap Some (sym is.1.no_number), is.1.same)
-takes_gives Run plain bits number is = let n = is.0 in (grind (arith, nat_tests), ap Some (sym is.1.no_number), is.1.same)
-takes_gives Convert plain bits number is = let n = is.0 in (grind (arith, nat_tests), ap Some (sym is.1.no_number), is.1.same)
-takes_gives Gen plain bits number is =
-    let said = number_gives plain bits number is in let n = said.0 in (grind (arith, nat_tests), said.1, is.no_bits)
-takes_gives Bench plain bits number is =
+takes_gives : (takes : Positional) (given : List Setting) (plain bits : List (List ℕ)) (number : ℕ) → TakesWords takes given plain bits number
+    → (takes_count takes (length plain) ≡ true) × (number_for takes plain ≡ Some number) × (bits ≡ bits_for takes plain)
+takes_gives Nothing given plain bits number is = let n = is.0 in (grind (arith, nat_tests), ap Some (sym is.1.no_number), is.1.same)
+takes_gives Word given plain bits number is = let n = is.0 in (grind (arith, nat_tests), ap Some (sym is.1.no_number), is.1.same)
+takes_gives Words given plain bits number is = let n = is.0 in (grind (arith, nat_tests), ap Some (sym is.1.no_number), is.1.same)
+takes_gives Number given plain bits number is =
     let said = number_gives plain bits number is in let n = said.0 in (grind (arith, nat_tests), said.1, is.no_bits)
 
 no_length : (plain : List (List ℕ)) → length plain ≡ 0 → plain ≡ []
 no_length [] e = refl
 no_length (word ∷ plain) e = absurd (omega arith)
 
-takes_none : (command : Command) (plain bits : List (List ℕ)) (number : ℕ) → TakesWords command plain bits number → takes_any command ≡ false → plain ≡ []
-takes_none Compile plain bits number is none = no_length plain is.0
-takes_none Check plain bits number is none = no_length plain is.0
-takes_none Eval plain bits number is none = absurd (false≢true (sym none))
-takes_none Stat plain bits number is none = no_length plain is.0
-takes_none Run plain bits number is none = absurd (false≢true (sym none))
-takes_none Convert plain bits number is none = no_length plain is.0
-takes_none Gen plain bits number is none = absurd (false≢true (sym none))
-takes_none Bench plain bits number is none = absurd (false≢true (sym none))
+takes_none : (takes : Positional) (given : List Setting) (plain bits : List (List ℕ)) (number : ℕ) → TakesWords takes given plain bits number
+    → takes_any takes ≡ false → plain ≡ []
+takes_none Nothing given plain bits number is none = no_length plain is.0
+takes_none Word given plain bits number is none = absurd (false≢true (sym none))
+takes_none Words given plain bits number is none = absurd (false≢true (sym none))
+takes_none Number given plain bits number is none = absurd (false≢true (sym none))
 
 -- ---- the texts that are given
 
@@ -200,7 +173,7 @@ record IsFound (command : Command) (behind : List (List ℕ)) (rows : List Row) 
 found_rows : (command : Command) (words behind : List (List ℕ)) (rows : List Row) → words ≡ name_of command ∷ behind → AreTexts behind
     → parsed command words ≡ Some rows → IsFound command behind rows
 found_rows command words behind rows named texts e =
-    let it = reached (options_of command) (takes_any command) (no_word_option command) behind None tt [] rows
+    let it = reached (options_of command) (takes_any (takes_of command)) (no_word_option command) behind None tt [] rows
     (sym (parsed_so command words behind named texts) ∙ e) in
     record {
       what = it.what;
@@ -311,19 +284,20 @@ order_is words behind command what order named found once e =
     let valued = and_says (order_by command what.plain) (values_of (texts_of what.given)) order e in
     let values = valued.0 in
     let all = all_values _ _ _ _ _ _ _ _ values valued.1 in
-    by_test (takes_count command (length what.plain))
+    let takes = takes_of command in
+    by_test (takes_count takes (length what.plain))
     (λ t.
-    let numbered = map_says (λ number. order_with command values number (bits_for command what.plain)) (number_for command what.plain) order
+    let numbered = map_says (λ number. order_with command values number (bits_for takes what.plain)) (number_for takes what.plain) order
     (rw t at valued.2) in
     let number = numbered.0 in
-    let here : IsOrder words (order_with command values number (bits_for command what.plain)) = record {
+    let here : IsOrder words (order_with command values number (bits_for takes what.plain)) = record {
       behind = behind;
       given = what.given;
       plain = what.plain;
       named = named;
       read = reads (options_of command) behind what found;
       once = gives_once what.given once;
-      takes = takes_so command what.plain number t numbered.1;
+      takes = takes_so takes what.given what.plain number t numbered.1;
       plan = right plan_rule (value_of (codes "plan") what.given) values.plan all.plan_is;
       lines = right lines_rule (value_of (codes "lines") what.given) values.lines all.lines_is;
       gates = right gates_rule (value_of (codes "gates") what.given) values.gates all.gates_is;
@@ -343,7 +317,8 @@ order_is words behind command what order named found once e =
 
 said_so : (words : List (List ℕ)) (order : OrderView) → (is : IsOrder words order) → order_said order.command (said is.given is.plain) ≡ Some order
 said_so words order is =
-    let taken = takes_gives order.command is.plain order.bits order.number is.takes in
+    let takes = takes_of order.command in
+    let taken = takes_gives takes is.given is.plain order.bits order.number is.takes in
     let values : Values = record {
       plan = order.plan;
       lines = order.lines;
@@ -364,10 +339,10 @@ said_so words order is =
     (kept (format_rule Real) (value_of (codes "from") is.given) order.from is.from i)
     (kept (format_rule Qasm) (value_of (codes "to") is.given) order.to is.to i) in
     ap (option_and_then (order_by order.command is.plain)) valued
-    ∙ ap (λ t. cond t (option_map (λ number. order_with order.command values number (bits_for order.command is.plain))
-    (number_for order.command is.plain)) None)
+    ∙ ap (λ t. cond t (option_map (λ number. order_with order.command values number (bits_for takes is.plain))
+    (number_for takes is.plain)) None)
     taken.0
-    ∙ ap (option_map (λ number. order_with order.command values number (bits_for order.command is.plain))) taken.1
+    ∙ ap (option_map (λ number. order_with order.command values number (bits_for takes is.plain))) taken.1
     ∙ ap (λ bits. Some (order_with order.command values order.number bits)) (sym taken.2)
 
 reads_it : (words : List (List ℕ)) (order : OrderView) → (is : IsOrder words order)
@@ -417,8 +392,25 @@ among P [] name all is = absurd is
 among P (option ∷ options) name all (inl same) = subst P (sym same) all.0
 among P (option ∷ options) name all (inr rest) = among P options name all.1 rest
 
+-- the names of all options
+abbrev all_options : List (List ℕ)
+all_options =
+    codes "plan" ∷ codes "lines" ∷ codes "gates" ∷ codes "borrow" ∷ codes "nodes" ∷ codes "format" ∷ codes "from" ∷ codes "to" ∷ []
+
+known_options : (command : Command) → list_all (is_one_of all_options) (options_of command) ≡ true
+known_options Compile = refl
+known_options command = refl
+
+each_of : (P : List ℕ → Type 0) (all options : List (List ℕ)) → AllByRecursion P all → list_all (is_one_of all) options ≡ true → AllByRecursion P options
+each_of P all [] each e = tt
+each_of P all (option ∷ options) each e = by_test (is_one_of all option)
+    (λ t. (among P all option each (known_says all option t), each_of P all options each (rw t at e)))
+    (λ f. absurd (false≢true (rw f at e)))
+
 safe : (words : List (List ℕ)) (order : OrderView) → (is : IsOrder words order) → AllByRecursion (IsSafe is.given) (options_of order.command)
-safe words order is = all order.command
+safe words order is =
+    each_of (IsSafe is.given) all_options (options_of order.command)
+    (plan, (lines, (gates, (borrow, (nodes, (format, (from, (to, tt)))))))) (known_options order.command)
   where
     plan : IsSafe is.given (codes "plan")
     plan = record { each = λ word e. text_is_no_option plan_rule (value_of (codes "plan") is.given) order.plan word is.plan e }
@@ -443,16 +435,6 @@ safe words order is = all order.command
 
     to : IsSafe is.given (codes "to")
     to = record { each = λ word e. text_is_no_option (format_rule Qasm) (value_of (codes "to") is.given) order.to word is.to e }
-
-    all : (command : Command) → AllByRecursion (IsSafe is.given) (options_of command)
-    all Compile = (plan, (lines, (gates, (borrow, (nodes, (format, tt))))))
-    all Check = (nodes, tt)
-    all Eval = tt
-    all Stat = (from, tt)
-    all Run = (from, tt)
-    all Convert = (from, (to, tt))
-    all Gen = tt
-    all Bench = (plan, (lines, (gates, (borrow, (nodes, tt)))))
 
 safe_values : (command : Command) (all given : List Setting) → AllByRecursion (IsSafe all) (options_of command)
     → AllByRecursion (λ one. IsOneOf (options_of command) one.name) given → AllByRecursion (λ one. value_of one.name all ≡ Some one.value) given
@@ -482,7 +464,7 @@ record IsParsed (words : List (List ℕ)) (order : OrderView) : Type 0 where
 parses_it : (words : List (List ℕ)) (order : OrderView) → (is : IsOrder words order) → AreTexts is.behind → IsParsed words order
 parses_it words order is texts =
     let options = options_of order.command in
-    let takes = takes_any order.command in
+    let takes = takes_any (takes_of order.command) in
     let names = given_known options is.read in
     let once = once_gives is.given is.once in
     let what = said is.given is.plain in
@@ -490,7 +472,7 @@ parses_it words order is texts =
       new = new_names order.command is.given names;
       once = once;
       texts = safe_values order.command is.given is.given (safe words order is) names (own_values is.given once);
-      only = takes_none order.command is.plain order.bits order.number is.takes;
+      only = takes_none (takes_of order.command) is.given is.plain order.bits order.number is.takes;
     } in
     let end = ends options takes is.behind None [] what (reads_it words order is) fits in
     let here = parsed_so order.command words is.behind is.named texts ∙ end.1 in
@@ -571,10 +553,10 @@ begun (w ∷ ws) name some is = ap (λ (s : String Global). string_bytes s ∷ m
 
 -- the words begin with this one
 pub begins_with : (words : List (String Global)) (name : String Global) (text : List ℕ) (command : Command) → 1 ≤ length words
-    → name ≡ slice_index_or words 0 name → text ≡ string_bytes name → text ≡ name_of command
+    → name ≡ slice_index_or words 0 name → text ≡ string_bytes name → command_named text ≡ Some command
     → map string_bytes words ≡ name_of command ∷ drop 1 (map string_bytes words)
 begins_with words name text command some is same found =
-    begun words name some is ∙ ap (λ (n : List ℕ). n ∷ drop 1 (map string_bytes words)) (sym same ∙ found)
+    begun words name some is ∙ ap (λ (n : List ℕ). n ∷ drop 1 (map string_bytes words)) (sym same ∙ named_is text command found)
 
 -- ---- `Usage` comes exactly where there is no order, save for want of memory
 

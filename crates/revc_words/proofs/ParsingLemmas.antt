@@ -9,32 +9,20 @@ use Rattle.clap.specs.declared.parser.matches.Found.{Found}
 use Rattle.clap.proofs.WalkLemmas.{raw_values-rows}
 use Rattle.revc_words.specs.declared.fault.WordsFault.{WordsFault}
 use Rattle.revc_words.specs.declared.fault.WordsFault.TheVariants as faults
-use Rattle.revc_words.specs.declared.order.Command.{Command}
-use Rattle.revc_words.specs.declared.order.Command.TheVariants.{Compile, Check, Eval, Stat, Run, Convert, Gen, Bench}
+use Rattle.revc_words.specs.declared.commands.Command.{Command}
+use Rattle.revc_words.specs.declared.commands.Command.TheVariants.{Compile}
 use Rattle.revc_words.specs.declared.values.Values.{Values}
 use Rattle.revc_words.specs.inside.Parsing.{app_for, order_by, order_for, parsed, texts_in, unless, values_of, words_in}
 
--- ---- the command
+-- ---- the command: each line `command = refl` is checked for each of the others
 
 simple_and_free : (command : Command) → is_simple_and_free (app_for command) ≡ true
 simple_and_free Compile = refl
-simple_and_free Check = refl
-simple_and_free Eval = refl
-simple_and_free Stat = refl
-simple_and_free Run = refl
-simple_and_free Convert = refl
-simple_and_free Gen = refl
-simple_and_free Bench = refl
+simple_and_free command = refl
 
 simple : (command : Command) → is_simple (app_for command) ≡ true
 simple Compile = refl
-simple Check = refl
-simple Eval = refl
-simple Stat = refl
-simple Run = refl
-simple Convert = refl
-simple Gen = refl
-simple Bench = refl
+simple command = refl
 
 -- ---- how a parse ends
 

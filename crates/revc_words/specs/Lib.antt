@@ -1,2 +1,4 @@
+pub mod Commands
+pub mod Limits
 pub mod Words
 pub mod inside

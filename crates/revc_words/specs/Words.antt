@@ -11,8 +11,10 @@ use Rattle.gate_split.specs.declared.choice.How.{How}
 use Rattle.gate_split.specs.declared.choice.How.TheVariants.{Auto, Eager, Pebble}
 use Rattle.program_gen.specs.declared.adder.TheConstants.{MOST_BITS}
 use Rattle.revc_words.specs.declared.limits.TheConstants.{MOST_DIGITS, MOST_NODES, USUAL_LINES, USUAL_GATES, USUAL_NODES}
-use Rattle.revc_words.specs.declared.order.Command.{Command}
-use Rattle.revc_words.specs.declared.order.Command.TheVariants.{Compile, Check, Eval, Stat, Run, Convert, Gen, Bench}
+use Rattle.revc_words.specs.Commands.{name_of, options_of, takes_of}
+use Rattle.revc_words.specs.declared.commands.Command.{Command}
+use Rattle.revc_words.specs.declared.commands.Positional.{Positional}
+use Rattle.revc_words.specs.declared.commands.Positional.TheVariants.{Nothing, Word, Words, Number}
 use Rattle.revc_words.specs.declared.order.Format.{Format}
 use Rattle.revc_words.specs.declared.order.Format.TheVariants.{Real, Qasm}
 use Rattle.revc_words.specs.declared.order.Order.{Order}
@@ -59,32 +61,6 @@ order_of order = record {
 abbrev pub first_word : List (List ℕ) → List ℕ
 first_word [] = []
 first_word (word ∷ rest) = word
-
--- ---- commands
-
-abbrev pub name_of : Command → List ℕ
-name_of Compile = codes "compile"
-name_of Check = codes "check"
-name_of Eval = codes "eval"
-name_of Stat = codes "stat"
-name_of Run = codes "run"
-name_of Convert = codes "convert"
-name_of Gen = codes "gen"
-name_of Bench = codes "bench"
-
--- the names of the options that a command has
-abbrev pub options_of : Command → List (List ℕ)
-options_of Compile =
-    codes "plan" ∷ codes "lines" ∷ codes "gates" ∷ codes "borrow" ∷ codes "nodes"
-    ∷ codes "format" ∷ []
-options_of Check = codes "nodes" ∷ []
-options_of Eval = []
-options_of Stat = codes "from" ∷ []
-options_of Run = codes "from" ∷ []
-options_of Convert = codes "from" ∷ codes "to" ∷ []
-options_of Gen = []
-options_of Bench =
-    codes "plan" ∷ codes "lines" ∷ codes "gates" ∷ codes "borrow" ∷ codes "nodes" ∷ []
 
 -- ---- reading
 
@@ -213,14 +189,14 @@ pub record TakesNumber (plain bits : List (List ℕ)) (number : ℕ) : Type 0 wh
   pub in_range : IsNumberIn 1 MOST_BITS word number
   pub no_bits : bits ≡ []
 
--- what a command takes its positional words for: `eval` one and `run` one or more as bits, `gen`
--- and `bench` one as a number; the others take none
-abbrev pub TakesWords : Command → List (List ℕ) → List (List ℕ) → ℕ → Type 0
-TakesWords Eval plain bits number = (length plain ≡ 1) × AreBits plain bits number
-TakesWords Run plain bits number = (1 ≤ length plain) × AreBits plain bits number
-TakesWords Gen plain bits number = TakesNumber plain bits number
-TakesWords Bench plain bits number = TakesNumber plain bits number
-TakesWords _ plain bits number = (length plain ≡ 0) × AreBits plain bits number
+-- what a command takes its positional words for, behind these options: nothing, one word of bits, one or more words of
+-- bits, or a number
+abbrev pub TakesWords
+    : Positional → List Setting → List (List ℕ) → List (List ℕ) → ℕ → Type 0
+TakesWords Nothing given plain bits number = (length plain ≡ 0) × AreBits plain bits number
+TakesWords Word given plain bits number = (length plain ≡ 1) × AreBits plain bits number
+TakesWords Words given plain bits number = (1 ≤ length plain) × AreBits plain bits number
+TakesWords Number given plain bits number = TakesNumber plain bits number
 
 -- ---- the order of the words
 
@@ -233,7 +209,7 @@ pub record IsOrder (words : List (List ℕ)) (order : OrderView) : Type 0 where
   pub named : words ≡ name_of order.command ∷ behind
   pub read : Reads (options_of order.command) behind given plain
   pub once : IsGivenOnce given
-  pub takes : TakesWords order.command plain order.bits order.number
+  pub takes : TakesWords (takes_of order.command) given plain order.bits order.number
   pub plan : IsPlan given order.plan
   pub lines : AreLines given order.lines
   pub gates : AreGates given order.gates
@@ -246,16 +222,12 @@ pub record IsOrder (words : List (List ℕ)) (order : OrderView) : Type 0 where
 pub record HasNoOrder (words : List (List ℕ)) : Type 0 where
   pub refuted : (order : OrderView) → ¬ IsOrder words order
 
--- the bits of an adder's numbers, where a command makes one
-abbrev pub HasBits : Command → ℕ → Type 0
-HasBits Compile number = Unit {0}
-HasBits Check number = Unit {0}
-HasBits Eval number = Unit {0}
-HasBits Stat number = Unit {0}
-HasBits Run number = Unit {0}
-HasBits Convert number = Unit {0}
-HasBits Gen number = 1 ≤ number
-HasBits Bench number = 1 ≤ number
+-- the number is one, where a command takes a number
+abbrev pub HasNumber : Positional → ℕ → Type 0
+HasNumber Nothing number = Unit {0}
+HasNumber Word number = Unit {0}
+HasNumber Words number = Unit {0}
+HasNumber Number number = 1 ≤ number
 
 -- the numbers of an order are within their limits
 pub record IsWithinLimits (order : OrderView) : Type 0 where
@@ -264,7 +236,7 @@ pub record IsWithinLimits (order : OrderView) : Type 0 where
   pub borrow : order.borrow ≤ MOST_BORROWED
   pub nodes : 1 ≤ order.nodes
   pub few_bits : order.number ≤ MOST_BITS
-  pub some_bits : HasBits order.command order.number
+  pub some_bits : HasNumber (takes_of order.command) order.number
 
 -- The law: every order is within the limits.
 abbrev pub OrdersAreWithinLimits : Type 0

@@ -1,6 +1,7 @@
 //! The words of the command line.
 #![tactic(auto)]
 
+mod commands;
 mod fault;
 mod limits;
 mod order;
@@ -8,7 +9,8 @@ mod parsing;
 mod reading;
 mod values;
 
+pub use commands::{Command, Positional};
 pub use fault::WordsFault;
-pub use limits::{MOST_DIGITS, MOST_NODES, USUAL_GATES, USUAL_LINES, USUAL_NODES};
-pub use order::{Command, Format, Order};
+pub use limits::{MOST_DIGITS, MOST_NODES, USUAL_GATES, USUAL_LINES, USUAL_NODES, limits_are};
+pub use order::{Format, Order};
 pub use reading::{one_order, orders_are_within_limits, read_words};

@@ -1,4 +1,5 @@
 //! The limits and the usual values of options.
+ghost use Rattle.revc_words.specs.Limits.{LimitsAre};
 
 /// The most digits of a number.
 pub const MOST_DIGITS: usize = 7;
@@ -14,3 +15,8 @@ pub const USUAL_GATES: u64 = 1_000_000;
 
 /// The most inner nodes where no option says another number.
 pub const USUAL_NODES: u32 = 100_000;
+
+/// The limits are these numbers.
+pub fn limits_are()
+    ensures { LimitsAre }
+{}

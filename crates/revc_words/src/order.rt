@@ -2,28 +2,8 @@
 ghost use Rattle.std.specs.Prelude.{◌≡◌};
 ghost use Rattle.revc_words.specs.Words.{first_word, order_of};
 
+use crate::Command;
 use gate_split::How;
-
-/// What is to be done.
-#[derive(Clone, Copy, PartialEq, Eq)]
-pub enum Command {
-    /// Reads a program and writes the file of its clean circuit.
-    Compile,
-    /// Reads a program and writes how many claims it has, each of which holds on all inputs.
-    Check,
-    /// Reads a program and writes the bits that it gives on the bits of a word.
-    Eval,
-    /// Reads a circuit and writes its counts.
-    Stat,
-    /// Reads a circuit and writes the bits that it gives on the bits of each word.
-    Run,
-    /// Reads a circuit and writes the file of a narrow one with the same line map.
-    Convert,
-    /// Writes the program of an adder.
-    Gen,
-    /// Compiles the program of an adder and writes its sizes.
-    Bench,
-}
 
 /// A format of circuit files.
 #[derive(Clone, Copy, PartialEq, Eq)]

@@ -1,66 +1,25 @@
 // What clap makes of the words of a command.
-ghost use Rattle.std.specs.Prelude.{◌≡◌, IfOk, IsErrOf, None, Some, false, map};
+ghost use Rattle.std.specs.Prelude.{◌≡◌, IfOk, IsErrOf, None, Some, false};
 ghost use Rattle.clap.specs.Words.{app_of, found_of, rows_of, rule_of, with_rule};
-ghost use Rattle.revc_words.specs.Words.{name_of, options_of, words_of};
-ghost use Rattle.revc_words.specs.inside.Parsing.{app_for, option_rule, parsed};
-ghost use Rattle.revc_words.specs.inside.Parsing.{takes_any, word_rule};
+ghost use Rattle.revc_words.specs.Words.{words_of};
+ghost use Rattle.revc_words.specs.inside.Parsing.{app_for, option_rule, parsed, word_rule};
 
 use crate::{Command, WordsFault};
 use clap::{Arg, ArgAction, ArgMatches};
 use revc_base::Memory;
 use std::alloc::Global;
 
-impl Command {
-    fn name<'a>(self) -> &'a str
-        ensures { result.now ≡ name_of self }
-    {
-        match self {
-            Command::Compile => "compile",
-            Command::Check => "check",
-            Command::Eval => "eval",
-            Command::Stat => "stat",
-            Command::Run => "run",
-            Command::Convert => "convert",
-            Command::Gen => "gen",
-            Command::Bench => "bench",
-        }
-    }
-
-    // The names of its options.
-    fn options<'a>(self) -> &'a [&'a str]
-        ensures { map (λ s. s.now) result.now ≡ options_of self }
-    {
-        match self {
-            Command::Compile => &["plan", "lines", "gates", "borrow", "nodes", "format"],
-            Command::Check => &["nodes"],
-            Command::Stat | Command::Run => &["from"],
-            Command::Convert => &["from", "to"],
-            Command::Bench => &["plan", "lines", "gates", "borrow", "nodes"],
-            Command::Eval | Command::Gen => &[],
-        }
-    }
-
-    // Whether it takes positional words.
-    fn takes_any(self) -> bool
-        ensures { result ≡ takes_any self }
-    {
-        matches!(
-            self,
-            Command::Eval | Command::Run | Command::Gen | Command::Bench
-        )
-    }
-}
-
 // The command that clap reads by.
 fn app<'a>(alloc: Global, command: Command) -> Result<clap::Command<'a>, Memory>
     ensures { IfOk result (λ app. app_of app ≡ app_for command) }
 {
-    let mut app = clap::Command::new(alloc, command.name()).disable_help_flag(true);
-    let names = command.options();
+    let spelling = command.spelling();
+    let mut app = clap::Command::new(alloc, spelling.name).disable_help_flag(true);
+    let names = spelling.options;
     for name in names {
         app = with(app, option(alloc, name))?;
     }
-    if !command.takes_any() {
+    if !spelling.takes.takes_any() {
         return Ok(app);
     }
     with(app, any_words(alloc))

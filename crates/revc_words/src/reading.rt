@@ -1,56 +1,18 @@
 // From the words of the command line to what they ask for.
-ghost use Rattle.std.specs.Prelude.{◌≡◌, ◌≢◌, ◌↔◌, ◌∷◌, ◌++◌, [], None, Some, Err, MatchOption};
+ghost use Rattle.std.specs.Prelude.{◌≡◌, ◌≢◌, ◌↔◌, ◌∷◌, ◌++◌, [], None, Some, Err};
 ghost use Rattle.std.specs.Prelude.{IfOk, OnOk, IsErrOf, map};
 ghost use Rattle.clap.specs.Words.{found_of, rows_of};
 ghost use Rattle.revc_words.specs.Words.{HasNoOrder, IsOrder, OneOrder, OrdersAreWithinLimits};
-ghost use Rattle.revc_words.specs.Words.{name_of, order_of, words_of};
+ghost use Rattle.revc_words.specs.Words.{order_of, words_of};
 ghost use Rattle.revc_words.specs.inside.Parsing.{bits_for, number_for, order_by, order_for};
-ghost use Rattle.revc_words.specs.inside.Parsing.{takes_count, takes_number};
 
 use crate::parsing::matched;
 use crate::values::{Values, number};
-use crate::{Command, Order, WordsFault};
+use crate::{Command, Order, Positional, WordsFault};
 use clap::ArgMatches;
 use program_gen::MOST_BITS;
 use revc_base::Memory;
 use std::alloc::Global;
-
-impl Command {
-    // The command with this name.
-    fn named(name: &str) -> Option<Command>
-        ensures { MatchOption result ((c : _) → name.now ≢ name_of c) (λ c. name.now ≡ name_of c) }
-    {
-        match name {
-            "compile" => Some(Command::Compile),
-            "check" => Some(Command::Check),
-            "eval" => Some(Command::Eval),
-            "stat" => Some(Command::Stat),
-            "run" => Some(Command::Run),
-            "convert" => Some(Command::Convert),
-            "gen" => Some(Command::Gen),
-            "bench" => Some(Command::Bench),
-            _ => None,
-        }
-    }
-
-    // Whether it takes so many positional words.
-    fn takes_count(self, count: usize) -> bool
-        ensures { result ≡ takes_count self count }
-    {
-        match self {
-            Command::Compile | Command::Check | Command::Stat | Command::Convert => count == 0,
-            Command::Eval | Command::Gen | Command::Bench => count == 1,
-            Command::Run => 1 <= count,
-        }
-    }
-
-    // Whether its positional word is a number.
-    fn takes_number(self) -> bool
-        ensures { result ≡ takes_number self }
-    {
-        matches!(self, Command::Gen | Command::Bench)
-    }
-}
 
 /// The words of the command line, without the program's own name, give one order at most.
 pub fn one_order()
@@ -111,21 +73,22 @@ fn order_by(
     ensures usage { IsErrOf result WordsFault.Usage
         → order_by command (map (λ s. s.now) words.now) values ≡ None }
 {
-    if !command.takes_count(words.len()) {
+    let takes = command.spelling().takes;
+    if !takes.takes_count(words.len()) {
         return Err(WordsFault::Usage);
     }
-    let Some(number) = number_asked(command, words) else {
+    let Some(number) = number_asked(takes, words) else {
         return Err(WordsFault::Usage);
     };
-    let bits = bits_asked(alloc, command, words)?;
+    let bits = bits_asked(alloc, takes, words)?;
     Ok(values.order(command, number, bits))
 }
 
-// The number that the command takes its positional word for, and 0 where it takes none.
-fn number_asked(command: Command, words: &[&str]) -> Option<u32>
-    ensures { result ≡ number_for command (map (λ s. s.now) words.now) }
+// The number that a command takes its positional word for, and 0 where it takes none.
+fn number_asked(takes: Positional, words: &[&str]) -> Option<u32>
+    ensures { result ≡ number_for takes (map (λ s. s.now) words.now) }
 {
-    if !command.takes_number() {
+    if !takes.takes_number() {
         return Some(0);
     }
     match words {
@@ -134,13 +97,13 @@ fn number_asked(command: Command, words: &[&str]) -> Option<u32>
     }
 }
 
-// The words of bits: the positional words, where the command takes them so.
-fn bits_asked(alloc: Global, command: Command, words: &[&str]) -> Result<Vec<String>, Memory>
+// The words of bits: the positional words, where a command takes them so.
+fn bits_asked(alloc: Global, takes: Positional, words: &[&str]) -> Result<Vec<String>, Memory>
     ensures { IfOk result (λ bits.
-        words_of bits.items ≡ bits_for command (map (λ s. s.now) words.now)) }
+        words_of bits.items ≡ bits_for takes (map (λ s. s.now) words.now)) }
 {
     let mut bits = Vec::new(alloc);
-    if command.takes_number() {
+    if takes.takes_number() {
         return Ok(bits);
     }
     for word in words {

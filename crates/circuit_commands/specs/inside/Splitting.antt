@@ -1,5 +1,5 @@
 -- What a circuit's split comes to, without its text.
-use Rattle.std.specs.Prelude.{◌≡◌, ◌+◌, ◌<◌, ◌≤◌, Bool, Ok, List, length}
+use Rattle.std.specs.Prelude.{◌≡◌, ◌+◌, ◌<◌, ◌≤◌, ℕ, Bool, Ok, List, length}
 use Rattle.mct_circuit.specs.Gates.{CircuitView, GateView, AreGatesOn, AreNarrow}
 use Rattle.gate_split.specs.declared.plan.TheConstants.{MOST_LINES, MOST_GATES}
 use Rattle.command_answers.specs.declared.fault.Fault.{Fault}
@@ -22,25 +22,30 @@ pub record IsWritable (made : ConvertedView) : Type 0 where
   pub placed : AreGatesOn (line_count made.circuit) made.circuit.gates
   pub few_gates : length made.circuit.gates ≤ MOST_GATES
 
--- these are the gates of the split list, on the circuit's own lines or on one more
-pub record IsNarrowOf (circuit : ReadCircuit) (narrow : CircuitView) : Type 0 where
+-- these are the gates of the split list of at most so many, on the circuit's own lines or on one more
+pub record IsNarrowOf (most : ℕ) (circuit : ReadCircuit) (narrow : CircuitView) : Type 0 where
   pub added : Bool
   pub lines : narrow.lines ≡ line_count circuit + added_lines added
-  pub split : HasSplit circuit added (Ok narrow.gates)
-  pub few_gates : length narrow.gates ≤ MOST_GATES
+  pub split : HasSplit most circuit added (Ok narrow.gates)
+  pub few_gates : length narrow.gates ≤ most
   pub same : DoesTheSame circuit added narrow.gates
 
 -- this is the circuit of the split list
 pub record IsSplitOf (circuit : ReadCircuit) (made : ConvertedView) : Type 0 where
   pub gates : List GateView
-  pub split : HasSplit circuit made.added (Ok gates)
+  pub split : HasSplit MOST_GATES circuit made.added (Ok gates)
   pub are : made.circuit ≡ converted circuit made.added gates
   pub writable : IsWritable made
   pub same : DoesTheSame circuit made.added gates
 
 -- why there is none, or there was no memory left
-abbrev pub IsSplitFault : ReadCircuit → Fault → Type 0
-IsSplitFault circuit (Lines need limit) = LacksLine circuit need limit
-IsSplitFault circuit (Gates limit) = HasManyGates circuit limit
-IsSplitFault circuit Memory = Unit {0}
-IsSplitFault circuit _ = ⊥
+abbrev pub IsSplitFault : (most : ℕ) → ReadCircuit → Fault → Type 0
+IsSplitFault most circuit (Lines need limit) = LacksLine most circuit need limit
+IsSplitFault most circuit (Gates limit) = HasManyGates most circuit limit
+IsSplitFault most circuit Memory = Unit {0}
+IsSplitFault most circuit _ = ⊥
+
+-- why there is none on one line more: memory is asked for only where there is room for the line
+abbrev pub IsWiderFault : (most : ℕ) → ReadCircuit → Fault → Type 0
+IsWiderFault most circuit Memory = line_count circuit < MOST_LINES
+IsWiderFault most circuit fault = IsSplitFault most circuit fault

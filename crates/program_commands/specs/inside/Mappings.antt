@@ -1,4 +1,7 @@
 -- The fault of a command for each fault of a layer. Want of memory comes from want of memory alone.
+use Rattle.gate_split.specs.Plans.{BudgetView}
+use Rattle.gate_split.specs.declared.plan.PlanFault.{PlanFault}
+use Rattle.gate_split.specs.declared.plan.PlanFault.TheVariants as plans
 use Rattle.inliner.specs.declared.fault.RunFault.{RunFault}
 use Rattle.inliner.specs.declared.fault.RunFault.TheVariants as runs
 use Rattle.name_scope.specs.declared.binding.ScopeFault.{ScopeFault}
@@ -10,7 +13,7 @@ use Rattle.revs_lexer.specs.declared.token.LexFault.TheVariants as lexer
 use Rattle.revs_parser.specs.declared.program.ParseFault.{ParseFault}
 use Rattle.revs_parser.specs.declared.program.ParseFault.TheVariants as parser
 use Rattle.command_answers.specs.declared.fault.Fault.{Fault}
-use Rattle.command_answers.specs.declared.fault.Fault.TheVariants.{Refused, BadBits, Memory}
+use Rattle.command_answers.specs.declared.fault.Fault.TheVariants.{Refused, Lines, Gates, BadBits, Memory}
 use Rattle.command_answers.specs.declared.fault.FaultKind.TheVariants as kinds
 use Rattle.command_answers.specs.declared.fault.Refusal.TheVariants.{At}
 
@@ -34,6 +37,11 @@ scope_fault scopes.Memory = Memory
 abbrev pub run_fault : RunFault → Fault
 run_fault (runs.Stuck cause at) = Refused (At (kinds.Stuck cause) at)
 run_fault runs.Memory = Memory
+
+abbrev pub plan_fault : BudgetView → PlanFault → Fault
+plan_fault budget (plans.Lines need) = Lines need budget.lines
+plan_fault budget plans.Gates = Gates budget.gates
+plan_fault budget plans.Memory = Memory
 
 -- the fault of the only word of bits
 abbrev pub bits_fault : BitsFault → Fault

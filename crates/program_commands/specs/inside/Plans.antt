@@ -98,8 +98,8 @@ IsTextFault text (Refused (At kind at)) = IsRefusal text (At kind at)
 IsTextFault text Memory = Unit {0}
 IsTextFault text _ = ⊥
 
--- why a word gives no input of so many bits, or there was no memory left
+-- why a word gives no input of so many bits, or there was no memory left, which is asked for only where it gives one
 abbrev pub IsBitsFault : ℕ → List ℕ → Fault → Type 0
 IsBitsFault inputs word (BadBits number) = (number ≡ 1) × (¬ IsInputWord inputs word)
-IsBitsFault inputs word Memory = Unit {0}
+IsBitsFault inputs word Memory = IsInputWord inputs word
 IsBitsFault inputs word _ = ⊥

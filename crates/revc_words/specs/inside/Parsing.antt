@@ -1,5 +1,6 @@
 -- What clap makes of the words of a command, and what the texts that it finds give.
 use Rattle.std.specs.Prelude.{ℕ, ◌==◌, nat_le, ◌&&◌, Bool, true, false, List, [], ◌∷◌, length, codes, Option, Some, None, cond}
+use Rattle.std.specs.List.{find}
 use Rattle.std.specs.Option.{option_map, option_and_then, unwrap_or}
 use Rattle.std.specs.Borrow.{Bor}
 use Rattle.std.specs.Str.{bytes_eq, all_ascii_digits}
@@ -11,25 +12,30 @@ use Rattle.gate_split.specs.declared.choice.How.{How}
 use Rattle.gate_split.specs.declared.choice.How.TheVariants.{Auto, Eager, Pebble}
 use Rattle.program_gen.specs.declared.adder.TheConstants.{MOST_BITS}
 use Rattle.revc_words.specs.declared.limits.TheConstants.{MOST_DIGITS, MOST_NODES, USUAL_LINES, USUAL_GATES, USUAL_NODES}
-use Rattle.revc_words.specs.declared.order.Command.{Command}
-use Rattle.revc_words.specs.declared.order.Command.TheVariants.{Compile, Check, Eval, Stat, Run, Convert, Gen, Bench}
+use Rattle.revc_words.specs.Commands.{name_of, options_of, takes_of}
+use Rattle.revc_words.specs.declared.commands.Command.{Command}
+use Rattle.revc_words.specs.declared.commands.TheConstants.Command.{ALL}
+use Rattle.revc_words.specs.declared.commands.Positional.{Positional}
+use Rattle.revc_words.specs.declared.commands.Positional.TheVariants.{Nothing, Word, Words, Number}
 use Rattle.revc_words.specs.declared.order.Format.{Format}
 use Rattle.revc_words.specs.declared.order.Format.TheVariants.{Real, Qasm}
 use Rattle.revc_words.specs.declared.values.Values.{Values}
-use Rattle.revc_words.specs.Words.{OrderView, name_of, options_of, plan_word, format_word, first_word}
+use Rattle.revc_words.specs.Words.{OrderView, plan_word, format_word, first_word}
+
+-- ---- the command
+
+-- the command with this name
+abbrev pub command_named : List ℕ → Option Command
+command_named name = find (λ command. bytes_eq (name_of command) name) ALL
 
 -- ---- the command that clap reads by
 
--- whether a command takes positional words
-abbrev pub takes_any : Command → Bool
-takes_any Compile = false
-takes_any Check = false
-takes_any Eval = true
-takes_any Stat = false
-takes_any Run = true
-takes_any Convert = false
-takes_any Gen = true
-takes_any Bench = true
+-- whether there are positional words
+abbrev pub takes_any : Positional → Bool
+takes_any Nothing = false
+takes_any Word = true
+takes_any Words = true
+takes_any Number = true
 
 -- an option with this name
 abbrev pub option_rule : List ℕ → Rule
@@ -51,7 +57,7 @@ with_words takes app = cond takes (with_rule app word_rule) app
 
 abbrev pub app_for : Command → App
 app_for command =
-    with_words (takes_any command) (with_options (bare (name_of command)) (options_of command))
+    with_words (takes_any (takes_of command)) (with_options (bare (name_of command)) (options_of command))
 
 abbrev pub unless : {A : Type 0} → Kinds → Option A → Option A
 unless [] found = found
@@ -154,35 +160,27 @@ values_of texts =
 
 -- ---- positional words
 
--- whether a command takes so many
-abbrev pub takes_count : Command → ℕ → Bool
-takes_count Compile count = count == 0
-takes_count Check count = count == 0
-takes_count Eval count = count == 1
-takes_count Stat count = count == 0
-takes_count Run count = nat_le 1 count
-takes_count Convert count = count == 0
-takes_count Gen count = count == 1
-takes_count Bench count = count == 1
+-- whether there may be so many
+abbrev pub takes_count : Positional → ℕ → Bool
+takes_count Nothing count = count == 0
+takes_count Word count = count == 1
+takes_count Words count = nat_le 1 count
+takes_count Number count = count == 1
 
--- whether it takes a number
-abbrev pub takes_number : Command → Bool
-takes_number Compile = false
-takes_number Check = false
-takes_number Eval = false
-takes_number Stat = false
-takes_number Run = false
-takes_number Convert = false
-takes_number Gen = true
-takes_number Bench = true
+-- whether there is a number
+abbrev pub takes_number : Positional → Bool
+takes_number Nothing = false
+takes_number Word = false
+takes_number Words = false
+takes_number Number = true
 
--- the number and the bits that it takes them for
-abbrev pub number_for : Command → List (List ℕ) → Option ℕ
-number_for command plain =
-    cond (takes_number command) (number_of 1 MOST_BITS (first_word plain)) (Some 0)
+-- the number and the bits for which they are taken
+abbrev pub number_for : Positional → List (List ℕ) → Option ℕ
+number_for takes plain =
+    cond (takes_number takes) (number_of 1 MOST_BITS (first_word plain)) (Some 0)
 
-abbrev pub bits_for : Command → List (List ℕ) → List (List ℕ)
-bits_for command plain = cond (takes_number command) [] plain
+abbrev pub bits_for : Positional → List (List ℕ) → List (List ℕ)
+bits_for takes plain = cond (takes_number takes) [] plain
 
 -- ---- the order
 
@@ -205,9 +203,9 @@ order_with command values number bits = record {
 -- with these values and positional words
 abbrev pub order_by : Command → List (List ℕ) → Values → Option OrderView
 order_by command plain values =
-    cond (takes_count command (length plain))
-    (option_map (λ number. order_with command values number (bits_for command plain))
-    (number_for command plain)) None
+    cond (takes_count (takes_of command) (length plain))
+    (option_map (λ number. order_with command values number (bits_for (takes_of command) plain))
+    (number_for (takes_of command) plain)) None
 
 -- with these texts and positional words
 abbrev pub order_of_texts : Command → Texts → List (List ℕ) → Option OrderView

@@ -1,3 +1,4 @@
+use Rattle.gate_split.specs.declared.plan.TheConstants.{MOST_GATES}
 use Rattle.circuit_commands.proofs.ConvertLemmas.{memory_stops}
 use Rattle.revc_base.proofs.ResultLemmas.{no_value, passes_on}
 use Rattle.circuit_commands.proofs.convert.split_source.Goals as goal
@@ -9,4 +10,4 @@ pub returns-in_err-narrow-clause-err : goal.returns-in_err-narrow-clause-err
 returns-in_err-narrow-clause-err c = passes_on _ c.from_residual.result c.from_residual.ensures.1 c.in_err-narrow.ensures.err
 
 pub returns-clause-err : goal.returns-clause-err
-returns-clause-err c = memory_stops c.args.source c.marked.result c.marked.ensures.err
+returns-clause-err c = memory_stops MOST_GATES c.args.source c.marked.result c.marked.ensures.err

@@ -1,6 +1,6 @@
-use Rattle.revc_words.specs.declared.order.Command.TheVariants as commands
+use Rattle.revc_words.specs.declared.commands.Command.TheVariants as commands
 use Rattle.revc_words.specs.Words.{order_of}
-use Rattle.revc_driver.proofs.TopLemmas.{given_of}
+use Rattle.revc_driver.proofs.CommandLemmas.{given_of}
 use Rattle.revc_driver.proofs.commands.prepare.Goals as goal
 
 pub returns-in_ok-laid-in-Compile-clause-ok : goal.returns-in_ok-laid-in-Compile-clause-ok

@@ -1,7 +1,8 @@
-use Rattle.std.proofs.Common.{◌≡◌, ◌∙◌, ap, length, arith}
+use Rattle.std.proofs.Common.{◌≡◌, ◌∙◌, sym, ap, length, arith}
 use Rattle.std.proofs.lemmas.Result.{IfOk-weaker}
 use Rattle.clap.specs.Words.{app_of, with_rule}
 use Rattle.revc_words.proofs.LoopLemmas.{building_more, built_with_words}
+use Rattle.revc_words.specs.inside.Parsing.{takes_any}
 use Rattle.revc_words.proofs.parsing.app.Goals as goal
 
 pub loop-name-preserved : goal.loop-name-preserved
@@ -11,6 +12,8 @@ loop-name-preserved c =
 
 pub returns : goal.returns
 returns c =
-    let over : length c.options-names.result.now ≡ c.loop-name.name-index = omega (arith, c.loop-name-test.false, c.loop-name.auto.name-index-end) in
+    let over : length c.spelling-spelling.result.options.now ≡ c.loop-name.name-index =
+    omega (arith, c.loop-name-test.false, c.loop-name.auto.name-index-end) in
     IfOk-weaker c.with-2.result _ _
-    (λ more. built_with_words _ _ _ _ _ _ over c.loop-name.invariant c.if-not-takes_any.ensures c.any_words.ensures.rule) c.with-2.ensures
+    (λ more. built_with_words _ _ _ _ _ _ over c.loop-name.invariant
+    (sym c.if-not-takes_any.false ∙ c.takes_any.ensures ∙ ap takes_any c.spelling-spelling.ensures.takes) c.any_words.ensures.rule) c.with-2.ensures

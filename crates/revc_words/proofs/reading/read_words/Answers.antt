@@ -1,4 +1,4 @@
-use Rattle.std.proofs.Common.{Err, ap}
+use Rattle.std.proofs.Common.{Err, ap, sym, ◌∙◌}
 use Rattle.std.proofs.lemmas.Result.{IfOk-weaker}
 use Rattle.revc_words.specs.Words.{order_of}
 use Rattle.revc_words.proofs.OrderLemmas.{begins_with, texts_behind, not_parsed, not_given, gives_order, exactly, exactly_err}
@@ -8,7 +8,7 @@ use Rattle.revc_words.proofs.reading.read_words.Goals as goal
 pub returns-in_err-matches-clause-usage : goal.returns-in_err-matches-clause-usage
 returns-in_err-matches-clause-usage c =
     let begun = begins_with c.args.words.now c.name-item.result c.as_str.result.now c.in-Some.command c.in-len1-up.len_at_least c.name-item.is
-    c.as_str.ensures.value c.in-Some.ensures in
+    c.as_str.ensures.value (sym c.named.ensures ∙ c.in-Some.is) in
     exactly_err _ _ c.from_residual.result c.from_residual.ensures.1
     (λ is. not_parsed _ _ c.in-Some.command begun (texts_behind c.args.words.now _ _ begun)
     (c.in_err-matches.ensures.usage (ap Err (passed c.in_err-matches.field-0.0 c.from_residual.result is c.from_residual.ensures.1))))
@@ -16,7 +16,7 @@ returns-in_err-matches-clause-usage c =
 pub returns-clause-ok : goal.returns-clause-ok
 returns-clause-ok c =
     let begun = begins_with c.args.words.now c.name-item.result c.as_str.result.now c.in-Some.command c.in-len1-up.len_at_least c.name-item.is
-    c.as_str.ensures.value c.in-Some.ensures in
+    c.as_str.ensures.value (sym c.named.ensures ∙ c.in-Some.is) in
     IfOk-weaker c.order.result _ _
     (λ o h. gives_order _ _ c.in-Some.command _ (order_of o) begun (texts_behind c.args.words.now _ _ begun) c.in_ok-matches.ensures.ok h)
     c.order.ensures.ok
@@ -24,7 +24,7 @@ returns-clause-ok c =
 pub returns-clause-usage : goal.returns-clause-usage
 returns-clause-usage c =
     let begun = begins_with c.args.words.now c.name-item.result c.as_str.result.now c.in-Some.command c.in-len1-up.len_at_least c.name-item.is
-    c.as_str.ensures.value c.in-Some.ensures in
+    c.as_str.ensures.value (sym c.named.ensures ∙ c.in-Some.is) in
     let texts = texts_behind c.args.words.now _ _ begun in
     exactly _ c.order.result
     (IfOk-weaker c.order.result _ _

@@ -1,0 +1,46 @@
+-- What the words of the command line see of each command.
+use Rattle.std.specs.Prelude.{ℕ, List, [], ◌∷◌, codes}
+use Rattle.revc_words.specs.declared.commands.Command.{Command}
+use Rattle.revc_words.specs.declared.commands.Command.TheVariants.{Compile, Check, Eval, Stat, Run, Convert, Gen, Bench}
+use Rattle.revc_words.specs.declared.commands.Positional.{Positional}
+use Rattle.revc_words.specs.declared.commands.Positional.TheVariants.{Nothing, Word, Words, Number}
+
+-- a command's name, which is the first word; the names of its options; and what it takes its positional words for
+pub record SpellingView : Type 0 where
+  pub name : List ℕ
+  pub options : List (List ℕ)
+  pub takes : Positional
+
+abbrev pub spelling_of : Command → SpellingView
+spelling_of Compile = record {
+  name = codes "compile";
+  options =
+      codes "plan" ∷ codes "lines" ∷ codes "gates" ∷ codes "borrow" ∷ codes "nodes"
+      ∷ codes "format" ∷ [];
+  takes = Nothing;
+}
+spelling_of Check = record { name = codes "check"; options = codes "nodes" ∷ []; takes = Nothing }
+spelling_of Eval = record { name = codes "eval"; options = []; takes = Word }
+spelling_of Stat = record { name = codes "stat"; options = codes "from" ∷ []; takes = Nothing }
+spelling_of Run = record { name = codes "run"; options = codes "from" ∷ []; takes = Words }
+spelling_of Convert = record {
+  name = codes "convert";
+  options = codes "from" ∷ codes "to" ∷ [];
+  takes = Nothing;
+}
+spelling_of Gen = record { name = codes "gen"; options = []; takes = Number }
+spelling_of Bench = record {
+  name = codes "bench";
+  options =
+      codes "plan" ∷ codes "lines" ∷ codes "gates" ∷ codes "borrow" ∷ codes "nodes" ∷ [];
+  takes = Number;
+}
+
+abbrev pub name_of : Command → List ℕ
+name_of command = (spelling_of command).name
+
+abbrev pub options_of : Command → List (List ℕ)
+options_of command = (spelling_of command).options
+
+abbrev pub takes_of : Command → Positional
+takes_of command = (spelling_of command).takes

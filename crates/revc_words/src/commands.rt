@@ -1,0 +1,156 @@
+// The commands, each by one record of what the words of the command line see of it.
+ghost use Rattle.std.specs.Prelude.{◌≡◌, map};
+ghost use Rattle.revc_words.specs.Commands.{name_of, options_of, takes_of};
+ghost use Rattle.revc_words.specs.inside.Parsing.{command_named, takes_any, takes_count};
+ghost use Rattle.revc_words.specs.inside.Parsing.{takes_number};
+
+/// What is to be done.
+#[derive(Clone, Copy, PartialEq, Eq)]
+pub enum Command {
+    /// Reads a program and writes the file of its clean circuit.
+    Compile,
+    /// Reads a program and writes how many claims it has, each of which holds on all inputs.
+    Check,
+    /// Reads a program and writes the bits that it gives on the bits of a word.
+    Eval,
+    /// Reads a circuit and writes its counts.
+    Stat,
+    /// Reads a circuit and writes the bits that it gives on the bits of each word.
+    Run,
+    /// Reads a circuit and writes the file of a narrow one with the same line map.
+    Convert,
+    /// Writes the program of an adder.
+    Gen,
+    /// Compiles the program of an adder and writes its sizes.
+    Bench,
+}
+
+/// What a command takes its positional words for.
+#[derive(Clone, Copy, PartialEq, Eq)]
+pub enum Positional {
+    /// There are none.
+    Nothing,
+    /// One word of bits.
+    Word,
+    /// One or more words of bits.
+    Words,
+    /// One number, 1 to 200.
+    Number,
+}
+
+// What words see of a command.
+#[derive(Clone, Copy)]
+pub struct Spelling<'a> {
+    // The first word.
+    pub name: &'a str,
+    // The names of its options.
+    pub options: &'a [&'a str],
+    pub takes: Positional,
+}
+
+impl Command {
+    // All commands.
+    const ALL: [Command; 8] = [
+        Command::Compile,
+        Command::Check,
+        Command::Eval,
+        Command::Stat,
+        Command::Run,
+        Command::Convert,
+        Command::Gen,
+        Command::Bench,
+    ];
+
+    // What words see of it.
+    pub fn spelling<'a>(self) -> Spelling<'a>
+        ensures name { result.name.now ≡ name_of self }
+        ensures options { map (λ s. s.now) result.options.now ≡ options_of self }
+        ensures takes { result.takes ≡ takes_of self }
+    {
+        match self {
+            Command::Compile => Spelling {
+                name: "compile",
+                options: &["plan", "lines", "gates", "borrow", "nodes", "format"],
+                takes: Positional::Nothing,
+            },
+            Command::Check => Spelling {
+                name: "check",
+                options: &["nodes"],
+                takes: Positional::Nothing,
+            },
+            Command::Eval => Spelling {
+                name: "eval",
+                options: &[],
+                takes: Positional::Word,
+            },
+            Command::Stat => Spelling {
+                name: "stat",
+                options: &["from"],
+                takes: Positional::Nothing,
+            },
+            Command::Run => Spelling {
+                name: "run",
+                options: &["from"],
+                takes: Positional::Words,
+            },
+            Command::Convert => Spelling {
+                name: "convert",
+                options: &["from", "to"],
+                takes: Positional::Nothing,
+            },
+            Command::Gen => Spelling {
+                name: "gen",
+                options: &[],
+                takes: Positional::Number,
+            },
+            Command::Bench => Spelling {
+                name: "bench",
+                options: &["plan", "lines", "gates", "borrow", "nodes"],
+                takes: Positional::Number,
+            },
+        }
+    }
+
+    // The command with this name.
+    pub fn named(name: &str) -> Option<Command>
+        ensures { result ≡ command_named name.now }
+    {
+        Command::ALL
+            .iter()
+            .copied()
+            .find(|command| command.spelling().name == name)
+    }
+}
+
+impl Positional {
+    // Whether there are any.
+    pub fn takes_any(self) -> bool
+        ensures { result ≡ takes_any self }
+    {
+        match self {
+            Positional::Nothing => false,
+            Positional::Word | Positional::Words | Positional::Number => true,
+        }
+    }
+
+    // Whether there may be so many.
+    pub fn takes_count(self, count: usize) -> bool
+        ensures { result ≡ takes_count self count }
+    {
+        match self {
+            Positional::Nothing => count == 0,
+            Positional::Word | Positional::Number => count == 1,
+            Positional::Words => 1 <= count,
+        }
+    }
+
+    // Whether it is a number.
+    pub fn takes_number(self) -> bool
+        ensures { result ≡ takes_number self }
+    {
+        match self {
+            Positional::Nothing | Positional::Word | Positional::Words => false,
+            Positional::Number => true,
+        }
+    }
+}
