@@ -110,6 +110,7 @@ CIRCUITS = [
     Circuit("adder", [1, 1, 1], [2], added),
     Circuit("rotated", [3], [3, 1], lambda r: (rotated_right(r, 1, 3), parity(r))),
     Circuit("claimed", [1, 1, 1], [1], lambda a, b, c: (a & b ^ c,)),
+    Circuit("weight7", [7], [3], lambda x: (bin(x).count("1"),)),
     Circuit("majority", [1, 1, 1], [1], majority, "majority of three bits", [7]),
     Circuit("comparator", [3, 3], [1, 1], compared, "comparator of three bits", [16]),
     Circuit("adder8", [8, 8], [9], added, "ripple adder of eight bits", [54, 46]),
