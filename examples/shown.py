@@ -8,7 +8,7 @@ import shutil
 import subprocess
 from pathlib import Path
 from tempfile import TemporaryDirectory
-from typing import Iterator, List, NamedTuple, Tuple
+from typing import Iterator, List, NamedTuple, Optional, Tuple
 
 HERE = Path(__file__).resolve().parent
 DOCUMENTS = ["README.md", "docs/GUIDE.md", "docs/COMMANDS.md"]
@@ -24,9 +24,9 @@ def shown_in(text: str) -> List[Shown]:
     return [Shown(call[1], re.sub(r"^    ", "", call[2], flags=re.MULTILINE)) for call in CALL.finditer(text)]
 
 
-def run_in(document: str, program: str) -> Iterator[Tuple[Shown, str]]:
+def run_in(document: str, program: str) -> Iterator[Tuple[Shown, Optional[str]]]:
     """Each command of a document with its answer, in a folder in which `./revc` is the program. One whose tool is not
-    installed is passed over: it has the answer that is shown."""
+    installed has none."""
     with TemporaryDirectory() as folder:
         room = Path(folder)
         (room / "revc").symlink_to(os.path.abspath(program))
@@ -37,8 +37,8 @@ def run_in(document: str, program: str) -> Iterator[Tuple[Shown, str]]:
             yield shown, answer_of(shown, room)
 
 
-def answer_of(shown: Shown, room: Path) -> str:
+def answer_of(shown: Shown, room: Path) -> Optional[str]:
     if shown.command.startswith("yosys ") and not shutil.which("yosys"):
-        return shown.answer
+        return None
     streams = {"stdout": subprocess.PIPE, "stderr": subprocess.STDOUT}
     return subprocess.run(["bash", "-c", shown.command], cwd=str(room), **streams).stdout.decode("utf-8")
