@@ -1,8 +1,8 @@
 """A foreign judge of compiled files: ABC's `cec` decides whether a circuit does, for all inputs, what a netlist says.
 
-The netlists are some of ABC's generators, and random ones. examples/from_blif makes programs of them; a file that was
-compiled of one is written as a netlist too, each gate a net, and has to have the outputs of the first, its own inputs,
-zeros on its work lines, and its borrowed lines as they were.
+The netlists are those of examples/, some of ABC's generators, and random ones. examples/from_blif makes programs of
+them; a file that was compiled of one is written as a netlist too, each gate a net, and has to have the outputs of the
+first, its own inputs, zeros on its work lines, and its borrowed lines unchanged.
 """
 import itertools
 import re
@@ -14,7 +14,8 @@ from tempfile import TemporaryDirectory
 from typing import Dict, Iterator, List, Sequence, Tuple
 
 ABC = "berkeley-abc"  # as Debian names it
-FROM_BLIF = Path(__file__).resolve().parent.parent / "examples" / "from_blif"
+EXAMPLES = Path(__file__).resolve().parent.parent / "examples"
+FROM_BLIF = EXAMPLES / "from_blif"
 GENERATED = ["-a -N 2", "-a -N 5", "-m -N 3", "-s -N 5", "-e -N 2", "-b -N 3", "-n -N 5", "-r -N 5"]
 RANDOM = 40
 ORDERS = [["--plan", plan, "--format", form] for plan in ("auto", "eager", "pebble") for form in ("real", "qasm")]
@@ -31,7 +32,8 @@ def judged(program: str, seed: int) -> Iterator[Tuple[str, str, List[List[str]]]
     """A title of each netlist, its program, and the words of `compile` under which the judge finds another file."""
     random = Random(seed)
     with TemporaryDirectory() as folder:
-        netlists = [("gen " + options, generated(folder, options)) for options in GENERATED]
+        netlists = [(file.name, file.read_text()) for file in sorted(EXAMPLES.glob("*.blif"))]
+        netlists += [("gen " + options, generated(folder, options)) for options in GENERATED]
         netlists += [("netlist %d of seed %d" % (number, seed), random_netlist(random)) for number in range(RANDOM)]
         for title, netlist in netlists:
             text = output_of([str(FROM_BLIF)], netlist)
