@@ -50,8 +50,8 @@ def is_strict(program: str) -> bool:
         return is_equal(folder, netlist, file) and not is_equal(folder, netlist, "".join(lines[:-2] + lines[-1:]))
 
 
-def output_of(words: List[str], text: str) -> str:
-    return subprocess.run(words, input=text, stdout=subprocess.PIPE, check=True, universal_newlines=True).stdout
+def output_of(words: List[str], text: str, check: bool = True) -> str:
+    return subprocess.run(words, input=text, stdout=subprocess.PIPE, check=check, universal_newlines=True).stdout
 
 
 def is_equal(folder: str, netlist: str, file: str) -> bool:
@@ -60,7 +60,7 @@ def is_equal(folder: str, netlist: str, file: str) -> bool:
     names = ["%s/%s.blif" % (folder, kind) for kind in ("wanted", "found")]
     for name, text in zip(names, (wanted(netlist, lines), found(lines, gates))):
         Path(name).write_text(text)
-    return "Networks are equivalent" in output_of([ABC, "-c", "cec " + " ".join(names)], "")
+    return "Networks are equivalent" in output_of([ABC, "-c", "cec " + " ".join(names)], "", check=False)
 
 
 # ---- Netlists

@@ -15,7 +15,7 @@ MOST_LINEAR = 8  # inputs of a node that is looked at on all their values
 GOOD_NAME = re.compile(r"[A-Za-z_][A-Za-z0-9_]{0,63}\Z")
 PLACE = re.compile(r"([A-Za-z_][A-Za-z0-9_]{0,63})\[([0-9]{1,4})\]\Z")
 WORDS = set("main let fun clean assert append rotate reg true false bool for in do revs".split())
-FLATTEN = "flatten the netlist first, as `synth -flatten` of yosys does, or `read` and `write_blif` of ABC"
+FLATTEN = "flatten it and map its cells to gates, as `synth -flatten` of yosys does; ABC flattens what it reads"
 ADVICE = {".latch": "a circuit here has no memory", ".subckt": FLATTEN, ".gate": FLATTEN, ".model": FLATTEN}
 
 
@@ -63,7 +63,8 @@ class Netlist:
         elif words[0] == ".outputs":
             self.outputs += words[1:]
         else:
-            raise Refused("line %d: no `%s` here: %s" % (number, words[0], ADVICE.get(words[0], "it is not known")))
+            said = " ".join(words[:2])
+            raise Refused("line %d: no `%s` here: %s" % (number, said, ADVICE.get(words[0], "it is not known")))
 
     def begin(self, number: int, names: List[str]) -> None:
         if not names:
