@@ -8,6 +8,8 @@ from typing import Callable, List, NamedTuple, Sequence, Tuple
 HERE = Path(__file__).resolve().parent
 PRESENT = [0xC, 5, 6, 0xB, 9, 0, 0xA, 0xD, 3, 0xE, 0xF, 8, 4, 7, 1, 2]  # the published table of its S-box
 
+GRAIN = [[1], [4], [0, 3], [2, 3], [3, 4], [0, 1, 2], [0, 2, 3], [0, 2, 4], [1, 2, 4], [2, 3, 4]]  # its published sum
+
 
 class Circuit(NamedTuple):
     """A program: the widths of its parameters and of its outputs, and the outputs for the parameters' numbers."""
@@ -87,6 +89,10 @@ def present(nibble: int) -> Tuple[int]:
     return (PRESENT[nibble],)
 
 
+def grain(x: int) -> Tuple[int]:
+    return (sum(all(x >> place & 1 for place in product) for product in GRAIN) % 2,)
+
+
 def speck(x: int, y: int, key: int) -> Tuple[int, int]:
     x = (rotated_right(x, 7, 16) + y) % (1 << 16) ^ key
     return x, rotated_right(y, 14, 16) ^ x
@@ -110,6 +116,9 @@ CIRCUITS = [
     Circuit("adder", [1, 1, 1], [2], added),
     Circuit("rotated", [3], [3, 1], lambda r: (rotated_right(r, 1, 3), parity(r))),
     Circuit("claimed", [1, 1, 1], [1], lambda a, b, c: (a & b ^ c,)),
+    Circuit("weight7", [7], [3], lambda x: (bin(x).count("1"),)),
+    Circuit("sat3", [3], [1], lambda x: (int(x in (0b000, 0b101, 0b011)),)),
+    Circuit("grain", [5], [1], grain),
     Circuit("majority", [1, 1, 1], [1], majority, "majority of three bits", [7]),
     Circuit("comparator", [3, 3], [1, 1], compared, "comparator of three bits", [16]),
     Circuit("adder8", [8, 8], [9], added, "ripple adder of eight bits", [54, 46]),
