@@ -5,7 +5,7 @@ import subprocess
 import tempfile
 from typing import Iterator, Tuple
 
-from rows import FILE, LEAST, NO_GATES
+from cases.rows import FILE, LEAST, NO_GATES
 
 AND = b"main (a : bool) (b : bool) = a && b"
 UNBOUND = b"main (a : bool) = z"

@@ -3,14 +3,13 @@ import itertools
 from random import Random
 from typing import Iterator, List
 
-import qasm
-import real
-from circuits import is_clean
-from commands import READERS as CIRCUITS
-from commands import Answer, answer_of, budget_of, circuit_of, run_on_zeros
-from language import Program, Run, program_of
-from plans import Budget, Numbers
-from words import Order, order_of
+from models import qasm, real
+from models.circuits import is_clean
+from models.commands import READERS as CIRCUITS
+from models.commands import Answer, answer_of, budget_of, circuit_of, run_on_zeros
+from models.language import Program, Run, program_of
+from models.plans import Budget, Numbers
+from models.words import Order, order_of
 
 READERS = {"real": real.circuit_of, "qasm": qasm.compiled_circuit_of}
 MOST_TRIED = 7  # bits of inputs and borrowed lines that are tried on all their values

@@ -1,6 +1,6 @@
 """Texts whose answers were worked out by hand, each with its words: the lines and gates of a file, the lines that
 another command writes, or the line of a fault."""
-from commands import Answer
+from models.commands import Answer
 
 BIT = "main (a : bool) = "
 BITS = "main (a : bool) (b : bool) = "

@@ -1,16 +1,13 @@
 """What each command answers for a text, by the models: docs/COMMANDS.md as functions."""
 from typing import List, NamedTuple, Optional, Tuple
 
-import circuits
-import language
-import qasm
-import real
-from claims import TooWide, settled
-from language import Run, program_of
-from generated import adder_text
-from graphs import Graph
-from plans import Budget, NoIdle, OverGates, OverLines, Plan, Settled, choose, split, width_of
-from words import Order, order_of
+from models import circuits, language, qasm, real
+from models.adders import adder_text
+from models.claims import TooWide, settled
+from models.graphs import Graph
+from models.language import Run, program_of
+from models.plans import Budget, NoIdle, OverGates, OverLines, Plan, Settled, choose, split, width_of
+from models.words import Order, order_of
 
 
 class Answer(NamedTuple):

@@ -6,7 +6,7 @@ the variables, 0 before 1: so the first variable is the greatest digit of an ass
 """
 from typing import Dict, Iterable, Iterator, List, NamedTuple, Optional, Set
 
-from language import Program, Run
+from models.language import Program, Run
 
 MOST_VARIABLES = 10
 
