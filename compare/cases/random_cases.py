@@ -3,6 +3,7 @@ from random import Random
 from typing import List, NamedTuple
 
 from cases.command_words import Orders
+from cases.foreign_circuits import ForeignCircuits, Lines, flip
 from cases.plan_programs import Budgets
 from cases.programs import Programs
 from cases.qasm_files import QasmFiles
@@ -10,7 +11,11 @@ from cases.real_files import RealFiles
 from cases.rows import FILE, FIVE
 from models import qasm
 from models.adders import adder_text
-from models.commands import answer_of, run_of, sizes_of
+from models.claims import TooWide
+from models.commands import READERS, Fault, answer_of, run_of, sizes_of, verdict_of
+from models.language import Refused as RefusedProgram
+from models.real import Refused as RefusedCircuit
+from models.words import order_of
 
 
 class Case(NamedTuple):
@@ -108,6 +113,83 @@ class Convert(Stat):
         return self.programs.random.choice([[], ["--to", "real"], ["--to=qasm"]])
 
 
+class Tidy(Convert):
+    """Mostly circuits of few lines, of whose flips many cancel."""
+
+    name = "tidy"
+
+    def __init__(self, seed: int):
+        super().__init__(seed)
+        self.circuits = ForeignCircuits(seed)
+
+    def case(self) -> Case:
+        if self.programs.chance(0.4):
+            return super().case()
+        is_real, count, random = self.programs.chance(0.5), self.programs.random.randint(2, 6), self.programs.random
+        sizes, gates = random.choice([[2], [2, 2, 2, 1], [2, 2, 3], [1, 2, 3]]), random.choice([2, 5, 12, 30])
+        drawn = [random.sample(range(count), min(count, random.choice(sizes))) for _ in range(gates)]
+        lines = Lines(count, 0, [flip(controls, target) for target, *controls in drawn])
+        return Case([self.name] + self.source(is_real) + self.rest(0), self.circuits.file(lines, is_real))
+
+
+class Verify:
+    """A command on random programs with circuits that were compiled, and then mostly rewritten or changed."""
+
+    name = "verify"
+    kinds = {"claimed": 24, "unclaimed": 24, "planned": 40, "plain": 4, "typed": 3, "loose": 1}
+    marks = [b"\n---\n"] * 120 + [b"\n---\r\n", b"\r\n---\r\n", b"---\n", b"\n--- \n", b"\n ---\n", b"\n----\n",
+                                b"\n--\n", b"\n---\r\r\n", b"\n", b"\n---", b"\n---\n---\n", b"\n\n---\n\n",
+                                b"\n//---\n---\n"]
+
+    def __init__(self, seed: int):
+        self.programs, self.circuits = Programs(seed), ForeignCircuits(seed)
+        self.random = self.programs.random
+
+    def case(self) -> Case:
+        is_real, borrow = self.random.random() < 0.6, self.random.choice([0, 0, 0, 1, 2, 3])
+        text, _ = self.programs.case(self.kinds)
+        source = text + self.random.choice(self.marks) + self.file(text, borrow, is_real)
+        if self.random.random() < 0.03:
+            source = source[: self.random.randint(0, len(source))]
+        words = self.words(borrow, is_real)
+        return Case(words + self.nodes(words, source), source)
+
+    def file(self, text: bytes, borrow: int, is_real: bool) -> bytes:
+        """A circuit that was made of a program, where it compiles, and else any file."""
+        form = "real" if is_real else "qasm"
+        plan = self.random.choice(["auto", "eager", "pebble", "pebble"])
+        compiled = answer_of(["compile", "--format", form, "--plan", plan, "--borrow", str(borrow)], text)
+        if compiled.status != 0 or self.random.random() < 0.02:
+            files = self.circuits.real_files if is_real else self.circuits.qasm_files
+            return files.file().text
+        if self.random.random() < 0.1:
+            return compiled.out
+        circuit = READERS[form](compiled.out)
+        lines = Lines(len(circuit.names), borrow, circuit.gates)
+        return self.circuits.file(self.circuits.edited(lines, is_real), is_real)
+
+    def words(self, borrow: int, is_real: bool) -> List[str]:
+        if self.random.random() < 0.02:
+            is_real = not is_real
+        if self.random.random() < 0.08:
+            borrow = self.random.choice([0, 1, 2, 3, 4, 64])
+        options = [["--from", "real"]] if is_real and self.random.random() < 0.1 else []
+        options += [] if is_real else [self.random.choice([["--from=qasm"], ["--from", "qasm"]])]
+        options += [["--borrow", str(borrow)]] if borrow or self.random.random() < 0.1 else []
+        self.random.shuffle(options)
+        return [self.name] + [word for option in options for word in option]
+
+    def nodes(self, words: List[str], source: bytes) -> List[str]:
+        """Now and then a limit on nodes, mostly about as many functions as there are."""
+        if self.random.random() < 0.6:
+            return []
+        try:
+            verdict = verdict_of(order_of(words), source)
+        except (Fault, RefusedProgram, RefusedCircuit, TooWide):
+            return []
+        return self.programs.nodes([verdict.least, verdict.most])
+
+
 class Bench:
     """Adders, with limits near to what they need."""
 
@@ -135,7 +217,9 @@ class Words:
 
     def case(self) -> Case:
         words = self.orders.words()
-        return Case(words, (FILE if words[:1] in (["stat"], ["run"], ["convert"]) else FIVE).encode())
+        texts = dict.fromkeys(("stat", "run", "convert", "tidy"), FILE)
+        texts["verify"] = FIVE + "\n---\n" + FILE
+        return Case(words, texts.get("".join(words[:1]), FIVE).encode())
 
 
-COMPARED = [Compile, Check, Eval, Stat, Run, Convert, Bench, Words]
+COMPARED = [Compile, Check, Eval, Stat, Run, Convert, Tidy, Verify, Bench, Words]
