@@ -189,9 +189,11 @@ CIRCUITS = [
           "lines 16385 over 16384"),
     Limit("gates of 16,383 lines that are split", said("convert"),
           lambda more: real(MOST_LINES, gate(MOST_LINES - 1) * (30 + more)), 7, "more than 4000000 gates"),
-    Limit("words of the most bits", lambda more: ["run"] + [word(MOST_LINES)] * 99 + [word(MOST_LINES) + "1" * more],
+    Limit("100 words of 16,384 bits, 1,000,000 gates",
+          lambda more: ["run"] + [word(MOST_LINES)] * 99 + [word(MOST_LINES) + "1" * more],
           lambda more: real(MOST_LINES, gate(3) * 1_000_000), 12, "bad bits in word 100"),
-    Limit("1,024 words", lambda more: ["run"] + [word(1_000)] * 1_023 + [word(1_000) + "1" * more],
+    Limit("1,024 words of 1,000 bits, 1,000,000 gates",
+          lambda more: ["run"] + [word(1_000)] * 1_023 + [word(1_000) + "1" * more],
           lambda more: real(1_000, gate(3) * 1_000_000), 12, "bad bits in word 1024"),
 ]
 
