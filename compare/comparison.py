@@ -30,7 +30,7 @@ class Comparison:
 
     def __init__(self, program: str, commands: Optional[Container[str]] = None):
         self.program, self.known = program, known(program) if commands is None else commands
-        self.different, self.passed_over, self.free = 0, 0, 0
+        self.different, self.unmodelled, self.free = 0, 0, 0
 
     def answer(self, case: Case) -> Answer:
         """The program's answer; a status of text says what it should not do."""
@@ -69,8 +69,8 @@ class Comparison:
         try:
             model = self.model_of(case)
         except (TooWide, NoModel):
-            self.passed_over += 1
-            return "passed over"
+            self.unmodelled += 1
+            model = answer
         if answer != model and is_free(case.words, case.text, answer):
             self.free += 1
         elif answer != model:

@@ -38,9 +38,8 @@ def at_depth(more: int) -> Tuple[str, int]:
 
 
 def at_work(more: int) -> Tuple[str, int]:
-    """A rotation takes 4,098 units of work, and a name one."""
-    steps = "rotate 0 t; " * 4_090 + "r; " * (4_099 + more)
-    return head([("r", 1024)]) + "{ let s = append r r; let t = append s s; " + steps + "r.[0] }", 1024
+    items = "rotate 0 t; " * 4091 + "r; " * (1 + more)
+    return head([("r", 1024)]) + "{ let s = append r r; let t = append s s; " + items + "r.[0] }", 1024
 
 
 def at_writes(more: int) -> Tuple[str, int]:
