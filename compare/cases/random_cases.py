@@ -137,6 +137,7 @@ class Verify:
 
     name = "verify"
     kinds = {"claimed": 24, "unclaimed": 24, "planned": 40, "plain": 4, "typed": 3, "loose": 1}
+    most_inputs = 8
     marks = [b"\n---\n"] * 120 + [b"\n---\r\n", b"\r\n---\r\n", b"---\n", b"\n--- \n", b"\n ---\n", b"\n----\n",
                                 b"\n--\n", b"\n---\r\r\n", b"\n", b"\n---", b"\n---\n---\n", b"\n\n---\n\n",
                                 b"\n//---\n---\n"]
@@ -147,7 +148,9 @@ class Verify:
 
     def case(self) -> Case:
         is_real, borrow = self.random.random() < 0.6, self.random.choice([0, 0, 0, 1, 2, 3])
-        text, _ = self.programs.case(self.kinds)
+        text, inputs = self.programs.case(self.kinds)
+        while inputs > self.most_inputs:
+            text, inputs = self.programs.case(self.kinds)
         source = text + self.random.choice(self.marks) + self.file(text, borrow, is_real)
         if self.random.random() < 0.03:
             source = source[: self.random.randint(0, len(source))]
