@@ -3,14 +3,14 @@ import itertools
 from random import Random
 from typing import Iterator, List
 
-import qasm
-import real
-from circuits import is_clean
-from commands import READERS as CIRCUITS
-from commands import Answer, answer_of, budget_of, circuit_of, run_on_zeros
-from language import Program, Run, program_of
-from plans import Budget, Numbers
-from words import Order, order_of
+from models import qasm, real
+from models.circuits import is_clean
+from models.claims import variable_order
+from models.commands import READERS as CIRCUITS
+from models.commands import Answer, answer_of, budget_of, circuit_of, parts_of, run_on_zeros
+from models.language import Program, Run, program_of
+from models.plans import Budget, Numbers
+from models.words import Order, order_of
 
 READERS = {"real": real.circuit_of, "qasm": qasm.compiled_circuit_of}
 MOST_TRIED = 7  # bits of inputs and borrowed lines that are tried on all their values
@@ -19,10 +19,12 @@ TRIED = 4
 
 def is_sound(words: List[str], text: bytes, answer: Answer) -> bool:
     """A compiled file is clean and within its budgets, a refused budget is too small, a printed input breaks the claim,
-    and a converted circuit has the line map of its source."""
+    a converted circuit has the line map of its source, and a verdict is right on words that are run."""
     order = order_of(words)
     if order is not None and order.command == "convert" and answer.status == 0:
         return is_same(circuit_of(order, text), CIRCUITS[order.values["to"]](answer.out))
+    if order is not None and order.command == "verify" and answer.status in (0, 15):
+        return is_verdict(order, text, answer)
     if order is None or order.command not in ("compile", "check"):
         return True
     if answer.status == 4:
@@ -49,6 +51,36 @@ def is_same(circuit: real.Circuit, other: real.Circuit) -> bool:
     positive = all(bit == 1 for gate in other.gates for _, bit in gate.controls)
     return more in (0, 1) and narrow and positive and all(
         other.run(list(word)) == circuit.run(list(word[:lines])) + list(word[lines:]) for word in words_of(lines + more))
+
+
+def is_verdict(order: Order, source: bytes, answer: Answer) -> bool:
+    """Whether a circuit that is verified does what its program says on all words, or some; and one that differs does so
+    on the printed word, at the printed line and at none before it, and on no word, of these, before it or at a line
+    before."""
+    run, circuit = parts_of(order, source)
+    borrow = order.values["borrow"]
+    inputs, work = len(run.bits), len(circuit.names) - len(run.bits) - len(run.outputs) - borrow
+    names = ["x%d" % number for number in range(inputs)] + ["b%d" % number for number in range(borrow)]
+    places = [names.index(name) for name in variable_order(run.program)] + list(range(inputs, inputs + borrow))
+
+    def first_differing(word: List[int]) -> int:
+        """The first line, counted from 1, that differs on a word, or one more than there are."""
+        outputs = [bit for bit, _ in Run(run.program, word[:inputs]).outputs]
+        before = word[:inputs] + [0] * (len(outputs) + work) + word[inputs:]
+        wanted = word[:inputs] + outputs + [0] * work + word[inputs:]
+        pairs = zip(circuit.run(before), wanted)
+        return next((line for line, (bit, right) in enumerate(pairs, 1) if bit != right), len(wanted) + 1)
+
+    words = [list(word) for word in words_of(inputs + borrow)]
+    if answer.status == 0:
+        return all(first_differing(word) > len(circuit.names) for word in words)
+    line, printed = int(answer.err.split()[5]), [int(bit) for bit in answer.err.split()[-1].decode()]
+
+    def is_before(word: List[int]) -> bool:
+        return [word[place] for place in places] < [printed[place] for place in places]
+
+    return first_differing(printed) == line and all(
+        first_differing(word) > line - (not is_before(word)) for word in words)
 
 
 def words_of(bits: int) -> Iterator[List[int]]:

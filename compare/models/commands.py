@@ -1,16 +1,14 @@
 """What each command answers for a text, by the models: docs/COMMANDS.md as functions."""
-from typing import List, NamedTuple, Optional, Tuple
+from typing import Callable, List, NamedTuple, Optional, Tuple
 
-import circuits
-import language
-import qasm
-import real
-from claims import TooWide, settled
-from language import Run, program_of
-from generated import adder_text
-from graphs import Graph
-from plans import Budget, NoIdle, OverGates, OverLines, Plan, Settled, choose, split, width_of
-from words import Order, order_of
+from models import circuits, language, qasm, real
+from models.adders import adder_text
+from models.claims import TooWide, settled
+from models.graphs import Graph
+from models.language import Run, program_of
+from models.plans import Budget, NoIdle, OverGates, OverLines, Plan, Settled, choose, split, width_of
+from models.verdicts import MOST_BYTES, Verdict, first_wide, parted, verdict_on
+from models.words import Order, order_of
 
 
 class Answer(NamedTuple):
@@ -19,12 +17,19 @@ class Answer(NamedTuple):
     err: bytes = b""
 
 
+class NoModel(Exception):
+    """The command has no model here."""
+
+
 class Fault(Exception):
     """A status with its line on standard error."""
 
     def __init__(self, status: int, line: str):
         super().__init__(line)
         self.answer = Answer(status, b"", ("revc: %s\n" % line).encode())
+
+
+NO_ORDER = Fault(2, "bad command line").answer
 
 
 def lines(texts: List[str]) -> bytes:
@@ -37,9 +42,8 @@ def run_on_zeros(text: bytes) -> Run:
     return Run(program, [0] * program.inputs)
 
 
-def settled_run(order: Order, text: bytes) -> Run:
-    """The run of a text's program, whose claims hold on all inputs."""
-    run = run_on_zeros(text)
+def settled_run(order: Order, run: Run) -> Run:
+    """A run whose claims hold on all inputs."""
     for number, (claim, (size, broken)) in enumerate(zip(run.claims, settled(run)), 1):
         named = "claim %d at %d:%d" % (number, *claim.place)
         if size > order.values["nodes"]:
@@ -77,7 +81,7 @@ def budget_of(order: Order) -> Budget:
 
 def planned(order: Order, text: bytes) -> Tuple[Run, Plan]:
     """The run of a text's program, whose claims hold on all inputs, and the plan of its circuit."""
-    run, budget = settled_run(order, text), budget_of(order)
+    run, budget = settled_run(order, run_on_zeros(text)), budget_of(order)
     try:
         return run, choose(Settled(len(run.bits), Graph(run)), budget, order.values["plan"])
     except OverLines as over:
@@ -92,7 +96,7 @@ def compile_text(order: Order, text: bytes) -> bytes:
 
 
 def check_text(order: Order, text: bytes) -> bytes:
-    return lines(["claims %d" % len(settled_run(order, text).claims)])
+    return lines(["claims %d" % len(settled_run(order, run_on_zeros(text)).claims)])
 
 
 def eval_text(order: Order, text: bytes) -> bytes:
@@ -122,19 +126,65 @@ def run_text(order: Order, text: bytes) -> bytes:
     return lines([real.line_of(circuit, word) for word in order.bits])
 
 
-def convert_text(order: Order, text: bytes) -> bytes:
-    circuit = circuit_of(order, text)
+def split_of(circuit: real.Circuit, most: int) -> Tuple[List[real.Gate], int]:
+    """The split list of a circuit's gates, of which there are at most so many, and how many lines were added."""
     count = len(circuit.names)
     try:
         try:
-            gates, added = split(circuit.gates, count, real.MOST_GATES), 0
+            return split(circuit.gates, count, most), 0
         except NoIdle:
             if count == real.MOST_LINES:
                 raise Fault(6, "lines %d over %d" % (count + 1, count)) from None
-            gates, added = split(circuit.gates, count + 1, real.MOST_GATES), 1
+            return split(circuit.gates, count + 1, most), 1
     except OverGates:
-        raise Fault(7, "more than %d gates" % real.MOST_GATES) from None
+        raise Fault(7, "more than %d gates" % most) from None
+
+
+def convert_text(order: Order, text: bytes) -> bytes:
+    circuit = circuit_of(order, text)
+    gates, added = split_of(circuit, real.MOST_GATES)
     return CONVERTERS[order.values["to"]](circuit, gates, added)
+
+
+def parts_of(order: Order, source: bytes) -> Tuple[Run, real.Circuit]:
+    """The run of the program that stands before the parting line, and the circuit that stands behind it."""
+    over = real.Refused("circuit over %d bytes" % real.MOST_BYTES)
+    if len(source) > MOST_BYTES:
+        raise over
+    parts = parted(source)
+    if parts is None:
+        raise Fault(16, "no parting line")
+    program, file = parts
+    if len(program) <= language.MOST_BYTES and len(file) > real.MOST_BYTES:
+        raise over
+    return run_on_zeros(program), circuit_of(order, file)
+
+
+def verdict_of(order: Order, source: bytes) -> Verdict:
+    """The verdict on a source's circuit, which has the lines and gates that it may have."""
+    run, circuit = parts_of(order, source)
+    settled_run(order, run)
+    count, wide = len(circuit.names), first_wide(circuit)
+    need = len(run.bits) + len(run.outputs) + order.values["borrow"]
+    if count < need:
+        raise Fault(13, "circuit has %d lines, needs %d" % (count, need))
+    if wide is not None:
+        raise Fault(14, "gate %d is not X, CX or CCX" % wide)
+    return verdict_on(run, circuit, order.values["borrow"])
+
+
+def said(verdict: Verdict) -> bytes:
+    """What is written where no limit on nodes is passed."""
+    if verdict.line is not None:
+        raise Fault(15, "circuit differs at line %d on %s" % (verdict.line, verdict.bits))
+    return lines(["verified"])
+
+
+def verify_text(order: Order, source: bytes) -> bytes:
+    verdict, limit = verdict_of(order, source), order.values["nodes"]
+    if verdict.least > limit:
+        raise Fault(5, "circuit passes %d nodes" % limit)
+    return said(verdict)
 
 
 def gen_text(order: Order, text: bytes) -> bytes:
@@ -157,19 +207,37 @@ def bench_text(order: Order, text: bytes) -> bytes:
 
 
 TEXTS = {"compile": compile_text, "check": check_text, "eval": eval_text, "stat": stat_text, "run": run_text,
-         "convert": convert_text, "gen": gen_text, "bench": bench_text}
+         "convert": convert_text, "verify": verify_text, "gen": gen_text, "bench": bench_text}
 
 
-def answer_of(words: List[str], text: bytes) -> Answer:
-    """What the program answers for these words and this text."""
-    order = order_of(words)
-    if order is None:
-        return Fault(2, "bad command line").answer
+def answered(make: Callable[[], bytes]) -> Answer:
+    """What is written, or the fault that is met."""
     try:
-        return Answer(0, TEXTS[order.command](order, text))
+        return Answer(0, make())
     except Fault as fault:
         return fault.answer
     except language.Refused as refused:
         return Fault(3, str(refused)).answer
     except real.Refused as refused:
         return Fault(8, str(refused)).answer
+
+
+def answer_of(words: List[str], text: bytes) -> Answer:
+    """What the program answers for these words and this text."""
+    order = order_of(words)
+    if order is None:
+        return NO_ORDER
+    if order.command not in TEXTS:
+        raise NoModel()
+    return answered(lambda: TEXTS[order.command](order, text))
+
+
+def is_free(words: List[str], source: bytes, answer: Answer) -> bool:
+    """Whether an answer is allowed that is not the model's: `verify` may say that a circuit passes its limit on nodes
+    where its functions do, and need not."""
+    order = order_of(words)
+    if order is None or order.command != "verify":
+        return False
+    passed, verdicts = Fault(5, "circuit passes %d nodes" % order.values["nodes"]).answer, []
+    other = answered(lambda: verdicts.append(verdict_of(order, source)) or said(verdicts[0]))
+    return bool(verdicts) and verdicts[0].most > order.values["nodes"] and answer in (passed, other)

@@ -6,7 +6,7 @@ It is written from docs/LANGUAGE.md, and shares nothing with the compiler. A bit
 from dataclasses import dataclass
 from typing import Dict, List, Tuple, Union
 
-from language import Run, Write
+from models.language import Run, Write
 
 Folded = Union[int, str]
 

@@ -18,12 +18,13 @@ VALUES = {  # of each option, the first three of which are taken
     "borrow": ["0", "1", "64", "65", "0000064"] + NUMBERS,
 }
 OPTIONS = {"compile": ["nodes", "plan", "plan", "lines", "gates", "borrow", "format"], "check": ["nodes"],
-           "convert": ["from", "to"], "bench": ["nodes", "plan", "plan", "lines", "gates", "borrow"]}
+           "convert": ["from", "to"], "tidy": ["from", "to"], "verify": ["from", "nodes", "borrow"],
+           "bench": ["nodes", "plan", "plan", "lines", "gates", "borrow"]}
 SIZES = ["1", "2", "3", "02", "0000002", "200", "201", "0", "-1", "+1", "00000002", "", "x", "2.0", "--", "-"]
 POSITIONAL = ["11", "10", "01", "00", "1", "0", "", "-", "x", "2", "110", "real", "compile", "\u00e9", "1\n"]
-COMMANDS = ["compile", "check", "eval", "stat", "run", "convert", "gen", "bench"]
+COMMANDS = ["compile", "check", "eval", "stat", "run", "convert", "verify", "tidy", "gen", "bench"]
 NUMBERED = ["gen", "bench"]
-OTHERS = ["Compile", "", "-", "--", "Convert", "gen2", "verify", "--nodes", "check ", "--help", "help"]
+OTHERS = ["Compile", "", "-", "--", "Convert", "gen2", "Verify", "--nodes", "check ", "--help", "help"]
 
 
 class Orders:

@@ -2,8 +2,8 @@
 from random import Random
 from typing import List, NamedTuple, Tuple
 
-from claimed import claimed
-from planned import planned
+from cases.claim_programs import claimed
+from cases.plan_programs import planned
 
 BIT, REGISTER, UNIT = "bit", "register", "unit"
 

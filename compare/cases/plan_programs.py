@@ -3,9 +3,9 @@ near to what their plans need."""
 from random import Random
 from typing import List, Optional, Tuple
 
-from graphs import Graph
-from language import Run
-from plans import Budget, Numbers, OverGates, OverLines, Row, Settled, split, tries, weight
+from models.graphs import Graph
+from models.language import Run
+from models.plans import Budget, Numbers, OverGates, OverLines, Row, Settled, split, tries, weight
 
 PLANS = ["auto", "eager", "pebble"]
 GREATEST = Budget(16_384, 4_000_000)

@@ -4,15 +4,15 @@ The variables are the inputs on which some claim rests, in their order: place 0 
 that has one, and so on. A function of them is a number with a bit for each assignment, the assignments in the order of
 the variables, 0 before 1: so the first variable is the greatest digit of an assignment's number.
 """
-from typing import Dict, Iterable, Iterator, List, NamedTuple, Optional, Set
+from typing import Dict, Iterable, Iterator, List, NamedTuple, Optional, Set, Tuple
 
-from language import Program, Run
+from models.language import Program, Run, Write
 
 MOST_VARIABLES = 10
 
 
 class TooWide(Exception):
-    """The claims rest on more inputs than truth tables are made for."""
+    """There are more variables than truth tables are made for."""
 
 
 def variable_order(program: Program) -> List[str]:
@@ -28,8 +28,8 @@ def variable_order(program: Program) -> List[str]:
 class Tables:
     """The functions of some variables."""
 
-    def __init__(self, variables: List[str]):
-        if len(variables) > MOST_VARIABLES:
+    def __init__(self, variables: List[str], most: int = MOST_VARIABLES):
+        if len(variables) > most:
             raise TooWide()
         self.variables = variables
         self.true = (1 << (1 << len(variables))) - 1
@@ -76,18 +76,20 @@ def rests_on(run: Run, names: Iterable[str], known: Set[str]) -> Set[str]:
     return found
 
 
-def functions_of(run: Run, bases: Set[str]) -> Iterator:
+def value_of(write: Write, tables: Tables, functions: Dict[str, int]) -> int:
+    """The function of a write, by those of its operands."""
+    if not write.operands:
+        return tables.true * int(write.operator)
+    left, right = (functions[operand] for operand in write.operands)
+    return left & right if write.operator == "&&" else left ^ right
+
+
+def functions_of(run: Run, bases: Set[str]) -> Tuple[Tables, Dict[str, int]]:
     """The tables, and the function of each of these inputs and writes."""
     tables = Tables([name for name in variable_order(run.program) if name in bases])
     functions = dict(zip(tables.variables, tables.inputs))
     for number in sorted(int(name[1:]) for name in bases if name[0] == "w"):
-        write = run.writes[number]
-        operands = [functions[operand] for operand in write.operands]
-        if not operands:
-            functions["w%d" % number] = tables.true * int(write.operator)
-        else:
-            left, right = operands
-            functions["w%d" % number] = left & right if write.operator == "&&" else left ^ right
+        functions["w%d" % number] = value_of(run.writes[number], tables, functions)
     return tables, functions
 
 

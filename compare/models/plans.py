@@ -9,9 +9,9 @@ import heapq
 from functools import partial
 from typing import Callable, Dict, FrozenSet, List, NamedTuple, Optional, Sequence, Set, Tuple
 
-from graphs import Graph
-from language import Run
-from real import Gate
+from models.graphs import Graph
+from models.language import Run
+from models.real import Gate
 
 MOST_MONOMIALS = 64
 MOST_COUNTED = 512  # of a write, for the eager numbers

@@ -6,8 +6,8 @@ rest of its line on standard error.
 import re
 from typing import Dict, Iterator, List, NamedTuple, Sequence, Tuple
 
-from plans import Plan
-from real import MOST_BYTES, MOST_GATES, MOST_LINES, MOST_NAME_BYTES, Circuit, Gate, Refused
+from models.plans import Plan
+from models.real import MOST_BYTES, MOST_GATES, MOST_LINES, MOST_NAME_BYTES, Circuit, Gate, Refused
 
 MOST_DIGITS = 9
 REGISTERS = {b"inp": b"x", b"outp": b"y", b"work": b"w", b"dirty": b"b"}

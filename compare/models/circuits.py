@@ -5,9 +5,9 @@ It is written from docs/LANGUAGE.md and docs/FORMATS.md, and shares nothing with
 from itertools import chain
 from typing import Iterable, List, NamedTuple, Sequence
 
-from language import Program, Run
-from plans import Plan
-from real import Circuit, Gate
+from models.language import Program, Run
+from models.plans import Plan
+from models.real import Circuit, Gate
 
 # ---- Files that are written
 

@@ -1,11 +1,7 @@
-"""A model of the programs that are made from a number: ripple-carry adders.
-
-Run by itself, it checks that they add, by the model of the language.
-"""
-import sys
+"""A model of the programs that are made from a number: ripple-carry adders."""
 from typing import List
 
-from language import Run, program_of
+from models.language import Run, program_of
 
 MOST_BITS = 200
 MOST_TRIED = 4  # bits of the adders that are tried on all inputs
@@ -38,14 +34,11 @@ def adds(bits: int, one: int, other: int) -> bool:
     return outputs == bits_of(one + other, bits + 1) and len(run.writes) == 6 * bits - 4
 
 
-def main() -> int:
+def sums_differ() -> int:
+    """How many sums the adders do not give: all of few bits, and of every size one whose carry goes through it."""
     tried = [(bits, one, other) for bits in range(1, MOST_TRIED + 1)
              for one in range(1 << bits) for other in range(1 << bits)]
-    tried += [(bits, (1 << bits) - 1, 1) for bits in range(1, MOST_BITS + 1)]  # the carry goes through every place
+    tried += [(bits, (1 << bits) - 1, 1) for bits in range(1, MOST_BITS + 1)]
     different = sum(not adds(*case) for case in tried)
     print("adders: %d sums, different: %d" % (len(tried), different))
-    return 1 if different else 0
-
-
-if __name__ == "__main__":
-    sys.exit(main())
+    return different

@@ -17,14 +17,14 @@ LIMITED = {"long word": [[b".variables"]] + [[b"%s%d" % (kind, count)] for kind 
 BYTES = [0, 9, 10, 11, 12, 13, 32, 35, 45, 46, 48, 49, 116, 102, 128, 255]
 
 
-class File(NamedTuple):
+class RealFile(NamedTuple):
     """A text, and the number of lines that `run` asks bits for, where the text is as it was made."""
 
     text: bytes
     free: int
 
 
-class Files:
+class RealFiles:
     """Random files from one seed."""
 
     def __init__(self, seed: int):
@@ -33,7 +33,7 @@ class Files:
     def chance(self, probability: float) -> bool:
         return self.random.random() < probability
 
-    def file(self) -> File:
+    def file(self) -> RealFile:
         names = self.names()
         marks = bytes(self.random.choice(b"---01") for _ in names)
         header = self.header(names, marks)
@@ -48,7 +48,7 @@ class Files:
         if broken and self.chance(0.4):
             for _ in range(self.random.choice([1, 1, 2])):
                 text = self.changed(text)
-        return File(text, free)
+        return RealFile(text, free)
 
     # ---- Lines, each a list of words
 

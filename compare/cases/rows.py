@@ -1,6 +1,6 @@
 """Texts whose answers were worked out by hand, each with its words: the lines and gates of a file, the lines that
 another command writes, or the line of a fault."""
-from commands import Answer
+from models.commands import Answer
 
 BIT = "main (a : bool) = "
 BITS = "main (a : bool) (b : bool) = "
@@ -266,6 +266,53 @@ OTHERS = [
     ("convert", WIDEST, "revc: lines 16385 over 16384"),
 ]
 
+# ---- Circuits against programs
+
+PARTED = BITS + "a && b\n---\n"
+TWO_LINES = ".version 2.0\n.numvars 2\n.variables x0 y0\n.constants -0\n.begin\nt2 x0 y0\n.end\n"
+UNDONE = FILE.replace("t2 w0 y0\nt3 x0 x1 w0", "t2 w0 y0")
+IN_QASM = HEAD + "qreg q[4];\nccx q[0],q[1],q[2];\n"
+
+VERIFIED = [
+    ("verify", PARTED + FILE, "verified"),
+    ("verify", PARTED + UNDONE, "revc: circuit differs at line 4 on 11"),
+    ("verify --borrow 1", PARTED + FILE, "revc: circuit differs at line 3 on 001"),
+    # Three functions: a, b, and a && b
+    ("verify --nodes 3", PARTED + FILE, "verified"),
+    ("verify --nodes 2", PARTED + FILE, "revc: circuit passes 2 nodes"),
+    ("verify", BITS + "a && b", "revc: no parting line"),
+    ("verify", PARTED + TWO_LINES, "revc: circuit has 2 lines, needs 3"),
+    ("verify", PARTED + FULL, "revc: gate 1 is not X, CX or CCX"),
+    ("verify --from qasm", PARTED + IN_QASM, "verified"),
+    ("verify --from qasm --borrow=1", PARTED + IN_QASM, "verified"),
+    ("verify --from qasm --borrow=2", PARTED + IN_QASM, "revc: circuit has 4 lines, needs 5"),
+    ("verify --from qasm", PARTED + IN_QASM + "x q[0];x q[3];x q[2];", "revc: circuit differs at line 1 on 00"),
+    ("verify --from qasm", PARTED + IN_QASM + "cx q[1],q[3];x q[0];x q[0];", "revc: circuit differs at line 4 on 01"),
+    # The parting line is the first that is `---` alone, and ends
+    ("verify", "---\n" + FILE, "revc: 1:1 Syntax"),
+    ("verify", PARTED[:-1], "revc: no parting line"),
+    ("verify", "---", "revc: no parting line"),
+    ("verify", "", "revc: no parting line"),
+    ("verify", BITS + "a && b---\n" + FILE, "revc: no parting line"),
+    ("verify", PARTED.replace("---", " ---") + FILE, "revc: no parting line"),
+    ("verify", PARTED.replace("---", "--- ") + FILE, "revc: no parting line"),
+    ("verify", PARTED.replace("---", "----") + FILE, "revc: no parting line"),
+    ("verify", PARTED.replace("---\n", "---\r\r\n") + FILE, "revc: no parting line"),
+    ("verify", PARTED.replace("---\n", "---\r\n") + FILE, "verified"),
+    ("verify", (PARTED + FILE).replace("\n", "\r\n"), "verified"),
+    ("verify", PARTED + "---\n" + FILE, "revc: circuit line 1"),
+    ("verify", PARTED, "revc: circuit line 1"),
+    # The first fault is that of the program's length, its text, the circuit's text, the claims, the lines, the gates
+    ("verify", " " * 1_048_577 + "\n---\n", "revc: source over 1048576 bytes"),
+    ("verify", BITS + "z\n---\nx", "revc: 1:30 Unbound"),
+    ("verify", BITS + UNCLEANED + "\n---\nx", "revc: circuit line 1"),
+    ("verify", BITS + UNCLEANED + "\n---\n" + LEAST, "revc: claim 1 at 1:48 fails on 11"),
+    ("verify --nodes 2", FIVE + "\n---\n" + LEAST, "revc: claim 1 at 1:48 passes 2 nodes"),
+    ("verify", BITS + "reg [a; b]\n---\n" + FULL.replace(".begin", ".begin\nt1 a"), "revc: gate 2 is not X, CX or CCX"),
+    ("verify --borrow 1", BITS + "reg [a; b]\n---\n" + FULL, "revc: circuit has 4 lines, needs 5"),
+    ("verify --nodes 2", PARTED + UNDONE, "revc: circuit passes 2 nodes"),
+]
+
 # ---- Adders
 
 ADDERS = [
@@ -356,12 +403,19 @@ WORDS = [(words, BITS + "a && b", worked) for words, worked in [
     ("run -1", BAD),
     ("run --", BAD),
     ("run --from=real", BAD),
+    ("verify x", BAD),
+    ("verify --plan eager", BAD),
+    ("verify --to qasm", BAD),
+    ("verify --lines 4", BAD),
+    ("verify --borrow 65", BAD),
+    ("tidy x", BAD),
+    ("tidy --nodes 5", BAD),
     ("run 1 --from=real -- -1", "revc: circuit line 1"),
     ("run ", "revc: circuit line 1"),
 ]]
 
 COMPILE = [("compile", text, worked) for text, worked in COMPILED]
-WORKED = COMPILE + PLANNED + CHECKED + EVALUATED + FILES + OTHERS + ADDERS + WORDS
+WORKED = COMPILE + PLANNED + CHECKED + EVALUATED + FILES + OTHERS + VERIFIED + ADDERS + WORDS
 
 
 def shown(answer: Answer) -> str:

@@ -1,0 +1,38 @@
+"""One call of each command that answers what it was asked for, and which commands a built program knows."""
+from subprocess import DEVNULL
+from subprocess import run as run_process
+from typing import Dict, List, NamedTuple
+
+from cases.rows import FILE
+
+AND = b"main (a : bool) (b : bool) = a && b"
+
+
+class Call(NamedTuple):
+    words: List[str]
+    text: bytes
+
+
+CALLS: Dict[str, Call] = {
+    "compile": Call(["compile"], AND),
+    "check": Call(["check"], AND),
+    "eval": Call(["eval", "11"], AND),
+    "stat": Call(["stat"], FILE.encode()),
+    "run": Call(["run", "11"], FILE.encode()),
+    "convert": Call(["convert"], FILE.encode()),
+    "gen": Call(["gen", "1"], b""),
+    "bench": Call(["bench", "1"], b""),
+    "verify": Call(["verify"], AND + b"\n---\n" + FILE.encode()),
+    "tidy": Call(["tidy"], FILE.encode()),
+}
+UNREAD = ("gen", "bench")  # the commands that read no source
+
+
+def known(program: str) -> Dict[str, Call]:
+    """The calls of the commands that the program knows: the others give no order."""
+
+    def gives_order(call: Call) -> bool:
+        done = run_process([program] + call.words, input=call.text, stdout=DEVNULL, stderr=DEVNULL)
+        return done.returncode != 2
+
+    return {command: call for command, call in CALLS.items() if gives_order(call)}

@@ -1,0 +1,228 @@
+"""Random cases of each command: its words, and the text that it reads."""
+from random import Random
+from typing import List, NamedTuple
+
+from cases.command_words import Orders
+from cases.foreign_circuits import ForeignCircuits, Lines, flip
+from cases.plan_programs import Budgets
+from cases.programs import Programs
+from cases.qasm_files import QasmFiles
+from cases.real_files import RealFiles
+from cases.rows import FILE, FIVE
+from models import qasm
+from models.adders import adder_text
+from models.claims import TooWide
+from models.commands import READERS, Fault, answer_of, run_of, sizes_of, verdict_of
+from models.language import Refused as RefusedProgram
+from models.real import Refused as RefusedCircuit
+from models.words import order_of
+
+
+class Case(NamedTuple):
+    words: List[str]
+    text: bytes
+
+
+class OnPrograms:
+    """A command on random programs of some kinds, each with its weight."""
+
+    name = ""
+    kinds = {}
+
+    def __init__(self, seed: int):
+        self.programs = Programs(seed)
+
+    def case(self) -> Case:
+        text, inputs = self.programs.case(self.kinds)
+        return Case([self.name] + self.rest(text, inputs), text)
+
+    def rest(self, text: bytes, inputs: int) -> List[str]:
+        """The words behind the command's name: a limit near to what the claims need."""
+        return self.programs.nodes(sizes_of(text))
+
+
+class Compile(OnPrograms):
+    name = "compile"
+    kinds = {"claimed": 20, "unclaimed": 14, "planned": 50, "plain": 6, "loose": 3, "typed": 3, "deep": 1, "long": 1,
+             "wide": 1, "limit": 1}
+
+    def __init__(self, seed: int):
+        super().__init__(seed)
+        self.budgets = Budgets(self.programs.random)
+
+    def rest(self, text: bytes, inputs: int) -> List[str]:
+        """Limits near to what the claims, the lines and the gates need."""
+        nodes = super().rest(text, inputs) if self.programs.chance(0.6) else []
+        return nodes + (self.budgets.options(run_of(text)) if self.programs.chance(0.8) else [])
+
+
+class Check(OnPrograms):
+    name = "check"
+    kinds = {"claimed": 78, "typed": 12, "loose": 4, "unclaimed": 2, "plain": 1, "deep": 1, "wide": 1, "limit": 1}
+
+
+class Eval(OnPrograms):
+    name = "eval"
+    kinds = {"typed": 60, "claimed": 20, "loose": 9, "plain": 5, "deep": 2, "long": 1, "wide": 1, "limit": 1}
+
+    def rest(self, text: bytes, inputs: int) -> List[str]:
+        return [self.programs.word(inputs)]
+
+
+class Stat:
+    """A command on random circuit files of both formats, some of which were compiled."""
+
+    name = "stat"
+
+    def __init__(self, seed: int):
+        self.real_files, self.qasm_files, self.programs = RealFiles(seed), QasmFiles(seed), Programs(seed)
+
+    def case(self) -> Case:
+        is_real = self.programs.chance(0.5)
+        text, free = self.real_files.file() if is_real else self.qasm_files.file()
+        if self.programs.chance(0.1):
+            program = self.programs.case({"claimed": 1, "unclaimed": 1})
+            compiled = answer_of(["compile", "--format", "real" if is_real else "qasm"], program.text)
+            if compiled.status == 0:
+                text, free = compiled.out, program.inputs if is_real else len(qasm.circuit_of(compiled.out).names)
+        if self.programs.chance(0.02):
+            is_real = not is_real
+        return Case([self.name] + self.source(is_real) + self.rest(free), text)
+
+    def source(self, is_real: bool) -> List[str]:
+        if is_real:
+            return ["--from", "real"] if self.programs.chance(0.1) else []
+        return ["--from=qasm"] if self.programs.chance(0.5) else ["--from", "qasm"]
+
+    def rest(self, free: int) -> List[str]:
+        return []
+
+
+class Run(Stat):
+    name = "run"
+
+    def rest(self, free: int) -> List[str]:
+        words = [self.programs.word(free) for _ in range(self.programs.random.choice([1, 1, 2, 3, 5, 64, 65]))]
+        return (["--"] if words[0].startswith("-") else []) + words
+
+
+class Convert(Stat):
+    name = "convert"
+
+    def rest(self, free: int) -> List[str]:
+        return self.programs.random.choice([[], ["--to", "real"], ["--to=qasm"]])
+
+
+class Tidy(Convert):
+    """Mostly circuits of few lines, of whose flips many cancel."""
+
+    name = "tidy"
+
+    def __init__(self, seed: int):
+        super().__init__(seed)
+        self.circuits = ForeignCircuits(seed)
+
+    def case(self) -> Case:
+        if self.programs.chance(0.4):
+            return super().case()
+        is_real, count, random = self.programs.chance(0.5), self.programs.random.randint(2, 6), self.programs.random
+        sizes, gates = random.choice([[2], [2, 2, 2, 1], [2, 2, 3], [1, 2, 3]]), random.choice([2, 5, 12, 30])
+        drawn = [random.sample(range(count), min(count, random.choice(sizes))) for _ in range(gates)]
+        lines = Lines(count, 0, [flip(controls, target) for target, *controls in drawn])
+        return Case([self.name] + self.source(is_real) + self.rest(0), self.circuits.file(lines, is_real))
+
+
+class Verify:
+    """A command on random programs with circuits that were compiled, and then mostly rewritten or changed."""
+
+    name = "verify"
+    kinds = {"claimed": 24, "unclaimed": 24, "planned": 40, "plain": 4, "typed": 3, "loose": 1}
+    most_inputs = 8
+    marks = [b"\n---\n"] * 120 + [b"\n---\r\n", b"\r\n---\r\n", b"---\n", b"\n--- \n", b"\n ---\n", b"\n----\n",
+                                b"\n--\n", b"\n---\r\r\n", b"\n", b"\n---", b"\n---\n---\n", b"\n\n---\n\n",
+                                b"\n//---\n---\n"]
+
+    def __init__(self, seed: int):
+        self.programs, self.circuits = Programs(seed), ForeignCircuits(seed)
+        self.random = self.programs.random
+
+    def case(self) -> Case:
+        is_real, borrow = self.random.random() < 0.6, self.random.choice([0, 0, 0, 1, 2, 3])
+        text, inputs = self.programs.case(self.kinds)
+        while inputs > self.most_inputs:
+            text, inputs = self.programs.case(self.kinds)
+        source = text + self.random.choice(self.marks) + self.file(text, borrow, is_real)
+        if self.random.random() < 0.03:
+            source = source[: self.random.randint(0, len(source))]
+        words = self.words(borrow, is_real)
+        return Case(words + self.nodes(words, source), source)
+
+    def file(self, text: bytes, borrow: int, is_real: bool) -> bytes:
+        """A circuit that was made of a program, where it compiles, and else any file."""
+        form = "real" if is_real else "qasm"
+        plan = self.random.choice(["auto", "eager", "pebble", "pebble"])
+        compiled = answer_of(["compile", "--format", form, "--plan", plan, "--borrow", str(borrow)], text)
+        if compiled.status != 0 or self.random.random() < 0.02:
+            files = self.circuits.real_files if is_real else self.circuits.qasm_files
+            return files.file().text
+        if self.random.random() < 0.1:
+            return compiled.out
+        circuit = READERS[form](compiled.out)
+        lines = Lines(len(circuit.names), borrow, circuit.gates)
+        return self.circuits.file(self.circuits.edited(lines, is_real), is_real)
+
+    def words(self, borrow: int, is_real: bool) -> List[str]:
+        if self.random.random() < 0.02:
+            is_real = not is_real
+        if self.random.random() < 0.08:
+            borrow = self.random.choice([0, 1, 2, 3, 4, 64])
+        options = [["--from", "real"]] if is_real and self.random.random() < 0.1 else []
+        options += [] if is_real else [self.random.choice([["--from=qasm"], ["--from", "qasm"]])]
+        options += [["--borrow", str(borrow)]] if borrow or self.random.random() < 0.1 else []
+        self.random.shuffle(options)
+        return [self.name] + [word for option in options for word in option]
+
+    def nodes(self, words: List[str], source: bytes) -> List[str]:
+        """Now and then a limit on nodes, mostly about as many functions as there are."""
+        if self.random.random() < 0.6:
+            return []
+        try:
+            verdict = verdict_of(order_of(words), source)
+        except (Fault, RefusedProgram, RefusedCircuit, TooWide):
+            return []
+        return self.programs.nodes([verdict.least, verdict.most])
+
+
+class Bench:
+    """Adders, with limits near to what they need."""
+
+    name = "bench"
+
+    def __init__(self, seed: int):
+        self.random = Random(seed)
+        self.budgets = Budgets(self.random)
+
+    def case(self) -> Case:
+        number = self.random.choice([1, 2, 3, 4, 5, 6, 8, 12, 16])
+        if self.random.random() < 0.2:
+            return Case(["gen", str(self.random.randint(1, 200))], b"")
+        words = self.budgets.options(run_of(adder_text(number)), False) if self.random.random() < 0.8 else []
+        return Case(["bench", str(number)] + words, b"")
+
+
+class Words:
+    """Random words on texts that suit them."""
+
+    name = "words"
+
+    def __init__(self, seed: int):
+        self.orders = Orders(seed)
+
+    def case(self) -> Case:
+        words = self.orders.words()
+        texts = dict.fromkeys(("stat", "run", "convert", "tidy"), FILE)
+        texts["verify"] = FIVE + "\n---\n" + FILE
+        return Case(words, texts.get("".join(words[:1]), FIVE).encode())
+
+
+COMPARED = [Compile, Check, Eval, Stat, Run, Convert, Tidy, Verify, Bench, Words]

@@ -1,0 +1,80 @@
+"""The built program beside the models: what it answers, and where that differs."""
+import os
+import shlex
+import tempfile
+from subprocess import PIPE, TimeoutExpired
+from subprocess import run as run_process
+from typing import Container, Optional
+
+from cases.happy_calls import CALLS, UNREAD, known
+from cases.random_cases import Case
+from models.claims import TooWide
+from models.commands import NO_ORDER, Answer, NoModel, answer_of, is_free
+from promises import is_sound
+
+SHOWN = 10
+SECONDS = 60
+
+
+def name_of(answer: Answer) -> str:
+    """A short name of an answer: its status, the kind of a refusal, and whether it is that of a limit."""
+    last = answer.err.decode("latin-1").strip().rpartition(" ")[2]
+    if answer.status == 3:
+        return last
+    return "status %s%s" % (answer.status, ", limit" if answer.status == 8 and last == "limit" else "")
+
+
+class Comparison:
+    """A built program, the commands that it knows, and how many of its answers so far were not those of the models,
+    were of a text that is too wide for them, and were others that are allowed."""
+
+    def __init__(self, program: str, commands: Optional[Container[str]] = None):
+        self.program, self.known = program, known(program) if commands is None else commands
+        self.different, self.unmodelled, self.free = 0, 0, 0
+
+    def answer(self, case: Case) -> Answer:
+        """The program's answer; a status of text says what it should not do."""
+        words = [word.encode() for word in case.words]
+        with tempfile.TemporaryFile() as source:
+            source.write(case.text)
+            source.seek(0)
+            try:
+                done = run_process([self.program] + words, stdin=source, stdout=PIPE, stderr=PIPE, timeout=SECONDS)
+            except TimeoutExpired:
+                return Answer("no end in %d seconds" % SECONDS)
+            is_read = os.lseek(source.fileno(), 0, os.SEEK_CUR) != 0
+            if is_read and (done.returncode == 2 or case.words[0] in UNREAD):
+                return Answer("%d, and the source was read" % done.returncode)
+        return Answer(done.returncode, done.stdout, done.stderr)
+
+    def differs(self, case: Case, title: str, *notes) -> None:
+        self.different += 1
+        if self.different > SHOWN:
+            return
+        with tempfile.NamedTemporaryFile(prefix="revc-differs-", delete=False) as kept:
+            kept.write(case.text)
+        print("DIFFERS: %s\n    %s < %s" % (title, shlex.join([self.program] + case.words), kept.name))
+        for note in notes:
+            print("    " + str(note)[:2_000])
+
+    def is_unknown(self, case: Case) -> bool:
+        """Whether the case is one of a command that the program does not know."""
+        return bool(case.words) and case.words[0] in CALLS and case.words[0] not in self.known
+
+    def model_of(self, case: Case) -> Answer:
+        return NO_ORDER if self.is_unknown(case) else answer_of(case.words, case.text)
+
+    def try_on(self, case: Case, title: str) -> str:
+        answer = self.answer(case)
+        try:
+            model = self.model_of(case)
+        except (TooWide, NoModel):
+            self.unmodelled += 1
+            model = answer
+        if answer != model and is_free(case.words, case.text, answer):
+            self.free += 1
+        elif answer != model:
+            self.differs(case, title, repr(case.text[:300]), answer, "the model: %s" % (model,))
+        elif not is_sound(case.words, case.text, answer):
+            self.differs(case, title + ", by its meaning", repr(case.text[:300]), answer)
+        return name_of(answer)
