@@ -71,8 +71,11 @@ rising-with_line line (y ∷ ys) up = elim (cases_Bool (eqb line y)) [
         let less = ltb-true line y lt in
         rw (ne, lt) ((less, AllByRecursion-weaker (λ z. y < z) (λ z. line < z) (λ z above. omega (arith, less, above)) ys up.0), up)
     | inr ge ↦
-        rw (ne, ge) (all_from_has (λ z. y < z) (with_line line ys) (λ z has. above z (or_cases (eqb z line) (has_line z ys) (sym (has_line-with_line z line ys) ∙ has))
-        (ltb-false line y ge) (eqb-false line y ne)), rising-with_line line ys up.1)
+        rw (ne, ge) (
+          all_from_has (λ z. y < z) (with_line line ys) (λ z has. above z (or_cases (eqb z line) (has_line z ys) (sym (has_line-with_line z line ys) ∙ has))
+              (ltb-false line y ge) (eqb-false line y ne)),
+          rising-with_line line ys up.1,
+        )
   ]
 ]
   where
