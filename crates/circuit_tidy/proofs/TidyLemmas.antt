@@ -3,7 +3,7 @@ use Rattle.std.proofs.Common.{◌≡◌, ℕ, ◌+◌, ◌-◌, ◌<◌, ◌≤�
 use Rattle.std.proofs.Common.{refl, sym, ap, ◌∙◌, subst, arith}
 use Rattle.std.specs.List.{AllByRecursion, list_any}
 use Rattle.std.proofs.lemmas.Bool.{and_parts, and_from, or_left, or_right, false≢true, eq-eqb}
-use Rattle.std.proofs.lemmas.List.{append_assoc, length-take, drop-drop, take-append-drop, length-reverse, length-append, length-map, map-append}
+use Rattle.std.proofs.lemmas.List.{append_assoc, drop-drop, take-append-drop, length-reverse, length-append, length-map, map-append}
 use Rattle.list_facts.specs.Lists.{below}
 use Rattle.list_facts.proofs.AllLemmas.{AllByRecursion-append, AllByRecursion-drop, AllByRecursion-reverse, AllByRecursion-take}
 use Rattle.list_facts.proofs.OrderLemmas.{IsRising-filter}
@@ -33,9 +33,6 @@ use Rattle.circuit_tidy.proofs.IndexLemmas.{lines_of_flip}
 use Rattle.circuit_tidy.proofs.PairLemmas.{run-reverse, run-with_flips, length-with_flips, on-with_flips, settled-with_flips, settled_has_no_pair}
 
 -- ---- one after another
-
-pub follows_itself : (n : ℕ) (flips : List Flip) → AreOnLines n flips → Follows n flips flips
-follows_itself n flips on = record { on = on; few = omega arith; same = λ bits long. refl }
 
 pub follows_further : (n : ℕ) (old mid new : List Flip) → Follows n old mid → Follows n mid new → Follows n old new
 follows_further n old mid new these this = record {
@@ -333,10 +330,3 @@ next_replaced flips done rest shorter now at start stop same le swept longer is 
   goes_on = λ n on. subst (λ l. GoesOn n flips (now ++ l)) (ap (drop stop) same ∙ drop-drop stop at flips)
       (one_more_replaced n flips done rest shorter now start stop le (subst (λ l. GoesOn n flips (done ++ l)) (sym same) (swept.goes_on n on)) longer is);
 }
-
--- a block that is longer has a flip
-pub some_walked : (flips shorter : List Flip) (start stop : ℕ) → IsLonger (take (stop - start) (drop start flips)) shorter → start < stop
-some_walked flips shorter start stop longer =
-    let few = longer.few in
-    let most = length-take (stop - start) (drop start flips) in
-    omega (arith, few, most)
