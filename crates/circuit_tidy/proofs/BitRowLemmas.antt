@@ -96,9 +96,6 @@ adds_row lines old from onto value a up long lf lo is at_from at_onto = record {
   };
 }
 
-pub none_added : (lines words : List ℕ) → AddRows lines words words []
-none_added lines words = record { holds = λ rows hold. hold }
-
 pub one_more_added : (lines old mid new : List ℕ) (adds : List Addition) (a : Addition) → AddRows lines old mid adds → AddsRow lines mid new a
     → AddRows lines old new (adds ++ a ∷ [])
 one_more_added lines old mid new adds a these this =
@@ -150,13 +147,6 @@ first_with-passed lines words c place rows hold lc lp lacks =
 
 abbrev keeps_column : Rows → ℕ → ℕ → Bool
 keeps_column rows c line = not (eqb line c) && rows line c
-
-pub second-itself : (rows : Rows) (c line : ℕ) → line ≡ c → second_step rows c (line ∷ []) ≡ []
-second-itself rows c line e = ap (λ b. map (from_to c) (cond (not b && rows line c) (line ∷ []) [])) (eq-eqb line c e)
-
-pub second-lacks : (rows : Rows) (c line : ℕ) → line ≢ c → rows line c ≡ false → second_step rows c (line ∷ []) ≡ []
-second-lacks rows c line ne lacks =
-    ap (λ b. map (from_to c) (cond (not b && rows line c) (line ∷ []) [])) (ne_eqb line c ne) ∙ ap (λ b. map (from_to c) (cond b (line ∷ []) [])) lacks
 
 pub second-has : (rows : Rows) (c line : ℕ) → line ≢ c → rows line c ≡ true → second_step rows c (line ∷ []) ≡ from_to c line ∷ []
 second-has rows c line ne has =

@@ -3,9 +3,9 @@ use Rattle.std.proofs.Common.{◌≡◌, ◌≢◌, ℕ, zero, suc, ◌+◌, ◌
 use Rattle.std.proofs.Common.{length, map, take, drop, get_or, refl, sym, ap, ◌∙◌, subst, arith}
 use Rattle.std.specs.List.{AllByRecursion, list_any}
 use mir.Val.{bool_byte}
-use Rattle.std.proofs.lemmas.Bool.{cases_Bool, cases_eq, cases_lt, both_ways, false≢true, eqb-true, eqb-false, eq-eqb, ne_eqb, ltb-true, ltb-false, lt-ltb, le-ltb, leb-true, leb-false, le-leb}
+use Rattle.std.proofs.lemmas.Bool.{cases_Bool, cases_eq, both_ways, false≢true, eqb-true, eqb-false, eq-eqb, ne_eqb, ltb-true, ltb-false, leb-true, leb-false, le-leb}
 use Rattle.std.proofs.lemmas.Bool.{or_cases, or_left, or_right, and_parts, false_from_ne_true}
-use Rattle.std.proofs.lemmas.List.{append_assoc, drop_more, drop_all, drop-drop, length-drop, take-append-drop, take_more, length-take-le}
+use Rattle.std.proofs.lemmas.List.{drop_more, drop_all, drop-drop, length-drop, take-append-drop, take_more, length-take-le}
 use Rattle.std.proofs.lemmas.List.Folds.{list_any-append}
 use Rattle.list_facts.specs.Lists.{IsRising, below}
 use Rattle.list_facts.proofs.AllLemmas.{AllByRecursion-append, AllByRecursion-left, AllByRecursion-right, AllByRecursion-take, AllByRecursion-drop, AllByRecursion-weaker, AllByRecursion-push}
@@ -19,7 +19,7 @@ use Rattle.circuit_tidy.specs.Blocks.{AreBlocks, EndsBefore, IsBlock, IsNoLonger
 use Rattle.circuit_tidy.specs.Elimination.{eliminated}
 use Rattle.circuit_tidy.specs.Flips.{controls_of, gate_of, lines_in, touches}
 use Rattle.circuit_tidy.specs.inside.BitRows.{IsCxOn}
-use Rattle.circuit_tidy.specs.inside.Walking.{AreOnLines, AreShort, AreTouched, HaveShortBlocks, IsFirstCx, IsLonger, IsPassed, IsPlaceFor, IsBlockOf, StopsBefore, takes, with_line, with_lines_of}
+use Rattle.circuit_tidy.specs.inside.Walking.{AreOnLines, AreShort, AreTouched, HaveShortBlocks, IsFirstCx, IsLonger, IsPassed, IsBlockOf, StopsBefore, takes, with_line, with_lines_of}
 use Rattle.circuit_tidy.specs.declared.blocks.Block.{Block}
 use Rattle.circuit_tidy.proofs.EliminationLemmas.{has_line-filter}
 use Rattle.circuit_tidy.proofs.IndexLemmas.{lines_of_flip}
@@ -71,8 +71,11 @@ rising-with_line line (y ∷ ys) up = elim (cases_Bool (eqb line y)) [
         let less = ltb-true line y lt in
         rw (ne, lt) ((less, AllByRecursion-weaker (λ z. y < z) (λ z. line < z) (λ z above. omega (arith, less, above)) ys up.0), up)
     | inr ge ↦
-        rw (ne, ge) (all_from_has (λ z. y < z) (with_line line ys) (λ z has. above z (or_cases (eqb z line) (has_line z ys) (sym (has_line-with_line z line ys) ∙ has))
-        (ltb-false line y ge) (eqb-false line y ne)), rising-with_line line ys up.1)
+        rw (ne, ge) (
+          all_from_has (λ z. y < z) (with_line line ys) (λ z has. above z (or_cases (eqb z line) (has_line z ys) (sym (has_line-with_line z line ys) ∙ has))
+              (ltb-false line y ge) (eqb-false line y ne)),
+          rising-with_line line ys up.1,
+        )
   ]
 ]
   where
@@ -179,9 +182,6 @@ touched_is n flips lines on are =
     by x (inl any) = ap (λ b. b && list_any (touches x) flips) (has_line-below n x (any_low n x flips on any))
     by x (inr none) = ap (λ b. has_line x (below n) && b) none ∙ nothing (has_line x (below n)) ∙ sym none
 
-pub none_touched : AreTouched [] []
-none_touched = record { rising = tt; each = λ line. refl }
-
 touches_cx : (line : ℕ) (flip : Flip) → is_cx flip ≡ true → touches line flip ≡ (eqb line flip.target || eqb line (one_line flip.controls))
 touches_cx line flip is = ap (λ b. eqb line flip.target || b) (by flip.controls is)
   where
@@ -227,53 +227,6 @@ length-with_lines_of flip lines up =
     ∙ ap (λ k. k + cond (eqb flip.target (one_line flip.controls) || has_line flip.target lines) 0 1) (length-with_line (one_line flip.controls) lines up)
 
 -- ---- the place for a line
-
-pub place_begun : (line : ℕ) (lines : List ℕ) → with_line line lines ≡ take 0 lines ++ with_line line (drop 0 lines)
-place_begun line lines = refl
-
-pub place_more : (line : ℕ) (lines : List ℕ) (place : ℕ) → place < length lines → get_or lines place 0 < line
-    → with_line line lines ≡ take place lines ++ with_line line (drop place lines)
-    → with_line line lines ≡ take (place + 1) lines ++ with_line line (drop (place + 1) lines)
-place_more line lines place lt less same =
-    let here = get_or lines place 0 in
-    let rest = drop (place + 1) lines in
-    let passes : with_line line (here ∷ rest) ≡ here ∷ with_line line rest =
-    ap (λ b. cond b (here ∷ rest) (cond (ltb line here) (line ∷ (here ∷ rest)) (here ∷ with_line line rest))) (ne_eqb line here (λ e. absurd (omega (arith, e, less))))
-    ∙ ap (λ b. cond b (line ∷ (here ∷ rest)) (here ∷ with_line line rest)) (le-ltb line here (omega (arith, less))) in
-    same ∙ ap (λ l. take place lines ++ with_line line l) (drop_more lines place 0 lt) ∙ ap (λ l. take place lines ++ l) passes
-    ∙ sym (append_assoc (take place lines) (here ∷ []) (with_line line rest)) ∙ ap (λ l. l ++ with_line line rest) (sym (take_more lines place 0 lt))
-
--- the line is there
-pub line_there : (line : ℕ) (lines : List ℕ) (place : ℕ) → IsPlaceFor line lines place → place < length lines → get_or lines place 0 ≡ line
-    → lines ≡ with_line line lines
-line_there line lines place is lt here =
-    let cut = drop_more lines place 0 lt in
-    sym (is.same ∙ ap (λ l. take place lines ++ with_line line l) cut
-    ∙ ap (λ b. take place lines ++ cond b (get_or lines place 0 ∷ drop (place + 1) lines) (cond (ltb line (get_or lines place 0)) (line ∷ (get_or lines place 0 ∷ drop (place + 1) lines)) (get_or lines place 0 ∷ with_line line (drop (place + 1) lines))))
-    (eq-eqb line (get_or lines place 0) (sym here))
-    ∙ ap (λ l. take place lines ++ l) (sym cut) ∙ take-append-drop place lines)
-
--- the line is new
-pub line_new : (line : ℕ) (lines : List ℕ) (place : ℕ) → IsPlaceFor line lines place → (length lines ≤ place) ⊎ (get_or lines place 0 ≢ line)
-    → take place lines ++ line ∷ drop place lines ≡ with_line line lines
-line_new line lines place is new = elim (cases_lt place (length lines)) [
-  | inr past ↦
-      let none = drop_all place lines past in
-      ap (λ l. take place lines ++ line ∷ l) none ∙ sym (is.same ∙ ap (λ l. take place lines ++ with_line line l) none)
-  | inl lt ↦ by lt new
-]
-  where
-    by : place < length lines → (length lines ≤ place) ⊎ (get_or lines place 0 ≢ line) → take place lines ++ line ∷ drop place lines ≡ with_line line lines
-    by lt (inl past) = absurd (omega (arith, lt, past))
-    by lt (inr ne) =
-        let cut = drop_more lines place 0 lt in
-        let here = get_or lines place 0 in
-        let rest = drop (place + 1) lines in
-        let less : line < here = let le = is.least lt in let other : here ≢ line = ne in omega arith in
-        sym (is.same ∙ ap (λ l. take place lines ++ with_line line l) cut
-        ∙ ap (λ b. take place lines ++ cond b (here ∷ rest) (cond (ltb line here) (line ∷ (here ∷ rest)) (here ∷ with_line line rest))) (ne_eqb line here (λ e. ne (sym e)))
-        ∙ ap (λ b. take place lines ++ cond b (line ∷ (here ∷ rest)) (here ∷ with_line line rest)) (lt-ltb line here less)
-        ∙ ap (λ l. take place lines ++ line ∷ l) (sym cut))
 
 -- ---- a block
 

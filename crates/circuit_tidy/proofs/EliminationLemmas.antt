@@ -150,7 +150,7 @@ reduced_kept n lines todo rows a within reduced = record {
     | inl e ↦ added-onto rows a line x e
         ∙ ap (λ b. xor b (rows a.from x)) (reduced.clear x line lacks lt less)
         ∙ ap (xor (eqb line x)) (reduced.clear x a.from lacks within.is.from less
-            ∙ ne_eqb a.from x (λ same. lacks_other x a.from todo lacks within.from (sym same)))
+        ∙ ne_eqb a.from x (λ same. lacks_other x a.from todo lacks within.from (sym same)))
         ∙ xor_nothing (eqb line x)
     | inr ne ↦ added-other rows a line x ne ∙ reduced.clear x line lacks lt less
   ];
@@ -258,11 +258,14 @@ first_steps n lines c later rows are to_come reduced = elim (cases_Bool (rows c 
         let behind : has_line line (c ∷ later) ≡ true = or_right (eqb line c) (has_line line later) among in
         let differ : line ≢ c = λ e. both_ways (has_line line later) (subst (λ z. has_line z later ≡ false) (sym e) (lacks_from c later to_come.different.0)) among in
         subst (IsStep n lines (c ∷ later) c rows) (sym same) (record {
-          within = (record {
-            is = record { from = are.low line (to_come.part line behind); onto = are.low c here; differ = differ };
-            from = behind;
-            onto = here;
-          }, tt);
+          within = (
+            record {
+              is = record { from = are.low line (to_come.part line behind); onto = are.low c here; differ = differ };
+              from = behind;
+              onto = here;
+            },
+            tt,
+          );
           has = added-onto rows (record { from = line; onto = c }) c c refl ∙ ap (λ b. xor b (rows line c)) lacks ∙ xor_none (rows line c) ∙ is;
         })
     by lacks (lacking none) = absurd (some_row_has n lines c later rows reduced (are.low c here) lacks none)
@@ -373,9 +376,9 @@ steps_reduce n lines c later rows are to_come reduced =
     let reduced_now = kept (AreReduced n lines (c ∷ later)) (IsWithin n lines (c ∷ later)) (reduced_kept n lines (c ∷ later)) rows first one.within reduced in
     let second = second_step now c lines in
     let within = second_within n lines (c ∷ later) c now low here (losing now c lines)
-        (all_that_has (λ m. (has_line m lines ≡ true) × (m < n) × (c ≢ m)) (losing now c lines) (λ m has.
-        let parts = and_parts (has_line m lines) (not (eqb m c) && now m c) (sym (loses now c m lines) ∙ has) in
-        (parts.0, are.low m parts.0, λ e. eqb-false m c (not-true (eqb m c) (and_parts (not (eqb m c)) (now m c) parts.1).0) (sym e)))) in
+    (all_that_has (λ m. (has_line m lines ≡ true) × (m < n) × (c ≢ m)) (losing now c lines) (λ m has.
+    let parts = and_parts (has_line m lines) (not (eqb m c) && now m c) (sym (loses now c m lines) ∙ has) in
+    (parts.0, are.low m parts.0, λ e. eqb-false m c (not-true (eqb m c) (and_parts (not (eqb m c)) (now m c) parts.1).0) (sym e)))) in
     let reduced_then = kept (AreReduced n lines (c ∷ later)) (IsWithin n lines (c ∷ later)) (reduced_kept n lines (c ∷ later)) now second within reduced_now in
     record {
       all = AllByRecursion-append (IsAddition n) first second (is_addition n lines (c ∷ later) first one.within) (is_addition n lines (c ∷ later) second within);
@@ -401,7 +404,7 @@ noted_clears n lines are (c ∷ later) rows to_come reduced =
     let steps = steps_at rows lines c later in
     let done = steps_reduce n lines c later rows are to_come reduced in
     let rest = noted_clears n lines are later (with_additions rows steps)
-        (record { different = to_come.different.1; part = λ x has. to_come.part x (or_right (eqb x c) (has_line x later) has) }) done.reduced in
+    (record { different = to_come.different.1; part = λ x has. to_come.part x (or_right (eqb x c) (has_line x later) has) }) done.reduced in
     record {
       all = AllByRecursion-append (IsAddition n) steps (noted (with_additions rows steps) lines later) done.all rest.all;
       own = λ line x lt less.
@@ -440,7 +443,7 @@ eliminated_replaces n lines adds are within =
     let rows = with_additions own_rows adds in
     let notes = noted rows lines lines in
     let done = noted_clears n lines are lines rows (record { different = AreDifferent-rising lines are.rising; part = λ x has. has })
-        (kept (AreReduced n lines lines) (IsWithin n lines lines) (reduced_kept n lines lines) own_rows adds within (reduced_at_first n lines)) in
+    (kept (AreReduced n lines lines) (IsWithin n lines lines) (reduced_kept n lines lines) own_rows adds within (reduced_at_first n lines)) in
     record {
       all = AllByRecursion-reverse (IsAddition n) notes done.all;
       same = λ bits long.

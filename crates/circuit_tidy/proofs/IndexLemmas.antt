@@ -1,12 +1,12 @@
 -- What the index of lines tells of the flips in the slots.
 use Rattle.std.proofs.Common.{◌≡◌, ◌≢◌, ℕ, zero, suc, ◌+◌, ◌-◌, ◌<◌, ◌≤◌, max, ◌⊎◌, inl, inr, Bool, true, false, not, ◌&&◌, ◌||◌, eqb, cond, Option, Some, None, Result, Ok, Err, List, [], ◌∷◌, ◌++◌}
-use Rattle.std.proofs.Common.{length, take, drop, set, get_or, replicate, refl, sym, ap, ◌∙◌, subst, add-one, arith}
+use Rattle.std.proofs.Common.{length, take, drop, set, get_or, refl, sym, ap, ◌∙◌, subst, add-one, arith}
 use Rattle.std.specs.List.{AllByRecursion}
 use Rattle.std.specs.Global.{Vec}
 use Rattle.std.specs.Option.{is_some}
 use Rattle.std.specs.Result.{OnOk}
 use Rattle.std.proofs.lemmas.Bool.{cases_eq, cases_lt, cases_order, both_ways, false_from_ne_true, or_from, or_left, or_right, eqb-false, eq-eqb, ne_eqb}
-use Rattle.std.proofs.lemmas.List.{get_or_append_left, get_or_push, get_or_past, get_or-set_same, get_or-set_other, length_push, length-set, length-map, map-set, get_or-map, take_more, take_all, take-append-drop, drop_more, get_or-replicate, length-replicate}
+use Rattle.std.proofs.lemmas.List.{get_or_append_left, get_or_push, get_or_past, get_or-set_same, get_or-set_other, length_push, length-set, length-map, map-set, get_or-map, take_more, take_all, take-append-drop, drop_more}
 use Rattle.list_facts.specs.Lists.{IsAmong, IsRising, AreDifferent}
 use Rattle.list_facts.proofs.OrderLemmas.{AreDifferent-left, AreDifferent-parts}
 use Rattle.list_facts.proofs.AllLemmas.{AllByRecursion-left, AllByRecursion-right, AllByRecursion-push, AllByRecursion-weaker}
@@ -42,10 +42,6 @@ slot-push slots new place flip is = elim (cases_order place (length slots)) [
     | inr gt ↦ absurd (never_some flip (sym (get_or_past (slots ++ new ∷ []) place None (omega (arith, length_push slots new))) ∙ is))
   ]
 ]
-
-pub slot-kept : (slots : List (Option Flip)) (new : Option Flip) (place : ℕ) (flip : Flip) → slot_at slots place ≡ Some flip
-    → slot_at (slots ++ new ∷ []) place ≡ Some flip
-slot-kept slots new place flip is = get_or_append_left slots (new ∷ []) None place (slot_within slots place flip is) ∙ is
 
 pub slot-emptied : (slots : List (Option Flip)) (emptied place : ℕ) (flip : Flip) → emptied < length slots
     → slot_at (set slots emptied None) place ≡ Some flip → (place ≢ emptied) × (slot_at slots place ≡ Some flip)
@@ -413,46 +409,6 @@ appended n slots now flip targets controls new_targets new_controls are inside i
       control_lines = pushed.long ∙ are.control_lines;
     })
 
-pub none_pushed : (place : ℕ) (places : List (Vec ℕ)) → ArePushed [] place places places
-none_pushed place places = record { long = refl; each = λ line lt. refl }
-
-pub one_pushed : (one place : ℕ) (old new : List (Vec ℕ)) → one < length old → contents new ≡ set (contents old) one (places_at old one ++ place ∷ [])
-    → ArePushed (one ∷ []) place old new
-one_pushed one place old new inside e = record {
-  long = same_length old new one (places_at old one ++ place ∷ []) e;
-  each = λ line lt. elim (cases_eq line one) as (λ _. places_at new line ≡ cond (eqb line one || false) (places_at old line ++ place ∷ []) (places_at old line)) [
-    | inl same ↦
-        ap (places_at new) same ∙ changed_at old new one (places_at old one ++ place ∷ []) e inside ∙ ap (λ k. places_at old k ++ place ∷ []) (sym same)
-        ∙ sym (ap (λ b. cond (b || false) (places_at old line ++ place ∷ []) (places_at old line)) (eq-eqb line one same))
-    | inr ne ↦
-        kept_at old new one line (places_at old one ++ place ∷ []) e ne
-        ∙ sym (ap (λ b. cond (b || false) (places_at old line ++ place ∷ []) (places_at old line)) (ne_eqb line one ne))
-  ];
-}
-
-pub two_pushed : (first second place : ℕ) (old mid new : List (Vec ℕ)) → first < length old → second < length old → first ≢ second
-    → contents mid ≡ set (contents old) first (places_at old first ++ place ∷ []) → contents new ≡ set (contents mid) second (places_at mid second ++ place ∷ [])
-    → ArePushed (first ∷ second ∷ []) place old new
-two_pushed first second place old mid new inside_first inside_second differ one two =
-    let long_mid = same_length old mid first (places_at old first ++ place ∷ []) one in
-    let early = one_pushed first place old mid inside_first one in
-    let late = one_pushed second place mid new (omega (arith, inside_second, long_mid)) two in
-    record {
-      long = late.long ∙ early.long;
-      each = λ line lt. late.each line (omega (arith, lt, long_mid))
-          ∙ elim (cases_eq line second) as (λ _. cond (eqb line second || false) (places_at mid line ++ place ∷ []) (places_at mid line)
-          ≡ cond (eqb line first || (eqb line second || false)) (places_at old line ++ place ∷ []) (places_at old line)) [
-            | inl same ↦
-                ap (λ b. cond (b || false) (places_at mid line ++ place ∷ []) (places_at mid line)) (eq-eqb line second same)
-                ∙ ap (λ l. l ++ place ∷ []) (kept_at old mid first line (places_at old first ++ place ∷ []) one (λ e. differ (sym e ∙ same)))
-                ∙ sym (ap (λ b. cond b (places_at old line ++ place ∷ []) (places_at old line)) (or_right (eqb line first) (eqb line second || false) (or_left (eqb line second) false (eq-eqb line second same))))
-            | inr ne ↦
-                ap (λ b. cond (b || false) (places_at mid line ++ place ∷ []) (places_at mid line)) (ne_eqb line second ne)
-                ∙ early.each line lt
-                ∙ sym (ap (λ b. cond (eqb line first || (b || false)) (places_at old line ++ place ∷ []) (places_at old line)) (ne_eqb line second ne))
-          ];
-    }
-
 -- ---- the loops
 
 cut_before_last : (xs : List ℕ) (n last : ℕ) → n ≡ length xs → 0 < n → last ≡ get_or xs (n - 1) last → xs ≡ take (n - 1) xs ++ last ∷ []
@@ -666,24 +622,4 @@ lines_of_flip n flip on =
       apart = lacks_from_apart (controls_of flip) flip.target (AreDifferent-parts (controls_of flip) (flip.target ∷ []) different).0;
       low = AllByRecursion-left (λ line. line < n) (controls_of flip) (flip.target ∷ []) low;
       different = AreDifferent-left (controls_of flip) (flip.target ∷ []) different;
-    }
-
-pub nothing_indexed : (n : ℕ) (slots : List (Option Flip)) (targets controls : List (Vec ℕ)) → slots ≡ [] → contents targets ≡ replicate n []
-    → contents controls ≡ replicate n [] → AreIndexes n slots targets controls
-nothing_indexed n slots targets controls none t c = record {
-  of_targets = empty_index slots has_target targets none t;
-  of_controls = empty_index slots has_control controls none c;
-  target_lines = sym (length-contents targets) ∙ ap length t ∙ length-replicate n [];
-  control_lines = sym (length-contents controls) ∙ ap length c ∙ length-replicate n [];
-}
-  where
-    no_slot : (slots : List (Option Flip)) (place : ℕ) (flip : Flip) → slots ≡ [] → slot_at slots place ≡ Some flip → ⊥
-    no_slot slots place flip none is = let lt = slot_within slots place flip is in omega (arith, lt, ap length none)
-
-    empty_index : (slots : List (Option Flip)) (test : ℕ → Flip → Bool) (places : List (Vec ℕ)) → slots ≡ [] → contents places ≡ replicate n []
-        → AreIndexed slots test places
-    empty_index slots test places none e = record {
-      each = λ line lt. subst (ArePlaces slots (test line))
-          (sym (ap (λ l. get_or l line []) e ∙ get_or-replicate n line [] [] (omega (arith, lt, sym (length-contents places), ap length e, length-replicate {A = List ℕ} n []))))
-          (record { rising = tt; below = tt; pass = λ place flip among. absurd among; all = λ place flip is passes. absurd (no_slot slots place flip none is) });
     }

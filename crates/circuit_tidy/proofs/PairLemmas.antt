@@ -209,10 +209,6 @@ settled_has_no_pair l settled pair =
 
 -- ---- one pass over a list
 
-pub record Passed (n : ℕ) (old now : List Flip) : Type 0 where
-  pub settled : IsSettled now
-  pub on : AreOn n now
-
 pub length-with_flips : (flips earlier : List Flip) → length (with_flips flips earlier) ≤ length earlier + length flips
 length-with_flips [] earlier = omega arith
 length-with_flips (flip ∷ flips) earlier =

@@ -36,7 +36,7 @@ parity-one test i (suc n) lt = elim (cases_eq i n) [
   | inl e ↦
       ap (λ b. xor (b && test n) (parity (λ x. eqb i x && test x) n)) (eq-eqb i n e)
       ∙ ap (xor (test n)) (parity-none (λ x. eqb i x && test x) n
-          (λ x below. ap (λ b. b && test x) (ne_eqb i x (λ same. absurd (omega (arith, e, same, below))))))
+      (λ x below. ap (λ b. b && test x) (ne_eqb i x (λ same. absurd (omega (arith, e, same, below))))))
       ∙ xor_nothing (test n) ∙ ap test (sym e)
   | inr ne ↦
       ap (λ b. xor (b && test n) (parity (λ x. eqb i x && test x) n)) (ne_eqb i n ne)

@@ -25,7 +25,7 @@ impl Controls {
     }
 
     // Whether each control is one of the others.
-    fn are_among(self, others: Controls) -> bool
+    pub fn are_among(self, others: Controls) -> bool
         ensures { result ≡ are_among (lines_in self) (lines_in others) }
     {
         match self {

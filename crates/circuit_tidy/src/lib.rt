@@ -6,6 +6,7 @@ mod blocks;
 mod flip;
 mod index;
 mod rows;
+mod sweep;
 mod tidying;
 
 pub use tidying::tidy;

@@ -1,15 +1,16 @@
 // The whole work on a circuit.
-ghost use Rattle.std.specs.Prelude.{◌≡◌, ◌≤◌, ◌<◌, ◌++◌, ◌∷◌, [], length, map, take, drop, IfOk, OnOk};
+ghost use Rattle.std.specs.Prelude.{◌≡◌, ◌≤◌, ◌<◌, ◌++◌, ◌∷◌, [], length, map, IfOk, OnOk};
 ghost use Rattle.std.specs.List.{AllByRecursion};
 ghost use Rattle.mct_circuit.specs.Gates.{AreNarrow, IsGateOn, IsNarrow};
 ghost use Rattle.circuit_tidy.specs.Flips.{gate_of, gates_of, lines_in};
 ghost use Rattle.circuit_tidy.specs.Tidied.{IsTidied};
-ghost use Rattle.circuit_tidy.specs.inside.Walking.{AreOnLines, IsLongerIn};
+ghost use Rattle.circuit_tidy.specs.inside.Walking.{AreOnLines};
 ghost use Rattle.circuit_tidy.specs.inside.Work.{IsDone};
 
-use crate::blocks::{Longer, first_longer};
+use crate::blocks::first_longer;
 use crate::flip::{Controls, Flip};
 use crate::index::settled;
+use crate::sweep::swept;
 use gate_split::{Narrow, split};
 use mct_circuit::{Circuit, Control, Gate, GateFault, Op};
 use revc_base::Memory;
@@ -50,22 +51,9 @@ fn tidied(alloc: Global, lines: u32, mut flips: Vec<Flip>) -> Result<Vec<Flip>, 
         let found = first_longer(alloc, &settled)?;
         match found {
             None => return Ok(settled),
-            Some(longer) => flips = replaced(alloc, &settled, &longer)?,
+            Some(longer) => flips = swept(alloc, &settled, &longer)?,
         }
     }
-}
-
-// The flips with the elimination in place of a block.
-fn replaced(alloc: Global, flips: &[Flip], longer: &Longer) -> Result<Vec<Flip>, Memory>
-    requires { IsLongerIn flips.now longer.now }
-    ensures { IfOk result (λ replaced. replaced.items ≡ take longer.now.start flips.now
-        ++ (longer.now.shorter.items ++ drop longer.now.end flips.now)) }
-{
-    let mut replaced = Vec::with_capacity(alloc, flips.len())?;
-    replaced.extend_from_slice(&flips[..longer.start])?;
-    replaced.extend_from_slice(&longer.shorter)?;
-    replaced.extend_from_slice(&flips[longer.end..])?;
-    Ok(replaced)
 }
 
 fn flips_of(alloc: Global, gates: &[Gate]) -> Result<Vec<Flip>, Memory>

@@ -6,7 +6,7 @@ use Rattle.circuit_tidy.proofs.blocks.block_of.Goals.{then-block-test+else-takes
 pub block-preserved : goal.block-preserved
 block-preserved c =
     let grown = block_grows c.args.flips.now c.block.length c.block.lines.items c.deref.result.now c.add_lines_of.new.lines.items _ c.block-test.true
-        c.block.invariant.1 c.block.invariant.2 c.deref.ensures.value (sym c.takes.ensures ∙ c.if-takes.true) c.in_ok-add_lines_of.ensures in
+    c.block.invariant.1 c.block.invariant.2 c.deref.ensures.value (sym c.takes.ensures ∙ c.if-takes.true) c.in_ok-add_lines_of.ensures in
     (omega arith, grown.0, grown.1, grown.2)
 
 pub returns : goal.returns

@@ -13,9 +13,13 @@ returns-in-Some c =
     let front = c.in_ok-front.ensures in
     let longer = subst (IsFrontAnswer c.split_at.result.1.now c.in_ok-front.front.length) c.in-Some.is front.answer in
     let placed = longer_in c.args.flips.now c.split_at.result.1.now c.in-Some.shorter.items c.walk.start c.in_ok-front.front.length c.walk.invariant.0
-        c.split_at.ensures.back front.within longer in
-    record { ordered = omega arith; within = placed.0; is = subst (IsLonger (take (c.walk.start + c.in_ok-front.front.length - c.walk.start) (drop c.walk.start c.args.flips.now)))
-        (ap (λ (v : Vec Flip). v.items) (sym c.in-Some.shorter-is)) placed.1 }
+    c.split_at.ensures.back front.within longer in
+    record {
+      ordered = omega arith;
+      within = placed.0;
+      is = subst (IsLonger (take (c.walk.start + c.in_ok-front.front.length - c.walk.start) (drop c.walk.start c.args.flips.now)))
+          (ap (λ (v : Vec Flip). v.items) (sym c.in-Some.shorter-is)) placed.1;
+    }
 
 pub walk-preserved : goal.walk-preserved
 walk-preserved c =

@@ -1,7 +1,8 @@
-use Rattle.std.proofs.Common.{◌∙◌, ◌++◌, [], ap, drop, reverse, subst, take}
+use Rattle.std.proofs.Common.{◌∙◌, [], ap, reverse, subst}
 use Rattle.circuit_tidy.specs.inside.Settling.{with_flips}
 use Rattle.circuit_tidy.specs.inside.Walking.{AreShort, IsLongerIn}
-use Rattle.circuit_tidy.proofs.TidyLemmas.{at_none, at_some, block_replaced, settled_on, turn_goes_on, turn_less, work_done}
+use Rattle.circuit_tidy.specs.inside.Work.{IsSwept}
+use Rattle.circuit_tidy.proofs.TidyLemmas.{at_none, settled_on, turn_goes_on, turn_less, work_done}
 use Rattle.circuit_tidy.proofs.tidying.tidied.Goals as goal
 
 pub returns-in-None : goal.returns-in-None
@@ -15,22 +16,14 @@ pub work-smaller : goal.work-smaller
 work-smaller c =
     let settled = c.in_ok-settled.settled.items in
     let is = c.in_ok-settled.ensures ∙ ap (λ fs. reverse (with_flips fs [])) c.deref.ensures.value in
-    let longer = subst (λ fs. IsLongerIn fs c.in-Some.longer) c.deref-in-work.ensures.value
-        (at_some c.in_ok-found.found c.in-Some.longer (AreShort c.deref-in-work.result.now) (IsLongerIn c.deref-in-work.result.now) c.in-Some.is
-        c.in_ok-found.ensures) in
+    let swept = subst (λ fs. IsSwept fs c.in_ok-flips-in-Some.flips.items) c.deref-in-Some.ensures.value c.in_ok-flips-in-Some.ensures in
     turn_less c.args.lines c.work.flips.items settled c.in_ok-flips-in-Some.flips.items c.work.invariant.on is
-    (block_replaced c.args.lines settled c.in-Some.longer.shorter.items c.in_ok-flips-in-Some.flips.items c.in-Some.longer.start c.in-Some.longer.end
-    (settled_on c.args.lines c.work.flips.items settled c.work.invariant.on is) longer.ordered longer.is
-    (c.in_ok-flips-in-Some.ensures ∙ ap (λ fs. take c.in-Some.longer.start fs ++ (c.in-Some.longer.shorter.items ++ drop c.in-Some.longer.end fs)) c.deref-in-Some.ensures.value))
+    (swept.goes_on c.args.lines (settled_on c.args.lines c.work.flips.items settled c.work.invariant.on is))
 
 pub work-preserved : goal.work-preserved
 work-preserved c =
     let settled = c.in_ok-settled.settled.items in
     let is = c.in_ok-settled.ensures ∙ ap (λ fs. reverse (with_flips fs [])) c.deref.ensures.value in
-    let longer = subst (λ fs. IsLongerIn fs c.in-Some.longer) c.deref-in-work.ensures.value
-        (at_some c.in_ok-found.found c.in-Some.longer (AreShort c.deref-in-work.result.now) (IsLongerIn c.deref-in-work.result.now) c.in-Some.is
-        c.in_ok-found.ensures) in
+    let swept = subst (λ fs. IsSwept fs c.in_ok-flips-in-Some.flips.items) c.deref-in-Some.ensures.value c.in_ok-flips-in-Some.ensures in
     turn_goes_on c.args.lines c.args.flips.items c.work.flips.items settled c.in_ok-flips-in-Some.flips.items c.work.invariant is
-    (block_replaced c.args.lines settled c.in-Some.longer.shorter.items c.in_ok-flips-in-Some.flips.items c.in-Some.longer.start c.in-Some.longer.end
-    (settled_on c.args.lines c.work.flips.items settled c.work.invariant.on is) longer.ordered longer.is
-    (c.in_ok-flips-in-Some.ensures ∙ ap (λ fs. take c.in-Some.longer.start fs ++ (c.in-Some.longer.shorter.items ++ drop c.in-Some.longer.end fs)) c.deref-in-Some.ensures.value))
+    (swept.goes_on c.args.lines (settled_on c.args.lines c.work.flips.items settled c.work.invariant.on is))
