@@ -1,0 +1,5 @@
+pub mod GrowingLemmas
+pub mod OwnLemmas
+pub mod PartLemmas
+pub mod SetLemmas
+pub mod TotalLemmas
