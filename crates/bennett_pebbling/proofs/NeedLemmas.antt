@@ -13,7 +13,7 @@ use Rattle.dependency_graph.specs.declared.node.Node.{Node}
 use Rattle.dependency_graph.specs.declared.node.Node.TheVariants.{Not, Xor, And}
 use Rattle.dependency_graph.specs.Graphs.{IsKnownBase, IsKnownNode, node_of, nodes_among, operands}
 use Rattle.claim_check.specs.Settled.{SettledView, IsSettled}
-use Rattle.held_nodes.proofs.ValueLemmas.{known_at}
+use Rattle.claim_check.proofs.NodeLemmas.{known_at}
 use Rattle.bennett_pebbling.specs.inside.Marks.{AreNeeds, HasMarked, RestsOn}
 
 -- ---- operands

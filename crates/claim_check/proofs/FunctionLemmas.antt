@@ -1,4 +1,4 @@
--- Restrictions of a tape as functions over its variables: which come from a reference, which vary, which are one.
+-- Functions of bits as functions over their variables: which come from one, which vary, which are one.
 use Rattle.std.proofs.Common.{◌≡◌, ℕ, ◌<◌, ◌≤◌, inl, inr, Bool, true, false, not, List, length, map, min, refl, sym, ap, ◌∙◌, arith}
 use Rattle.std.proofs.lemmas.Bool.{cases_lt, false≢true}
 use Rattle.std.proofs.lemmas.List.{length-map}
@@ -6,48 +6,49 @@ use Rattle.list_facts.specs.Bits.{bit_of}
 use Rattle.list_facts.specs.Lists.{below}
 use Rattle.list_facts.proofs.OrderLemmas.{length-below}
 use Rattle.list_facts.proofs.SearchLemmas.{same_or_differ}
-use Rattle.revs_tape.specs.declared.tape.Ref.{Ref}
-use Rattle.revs_tape.specs.ClaimFunctions.{Restriction, value_on, IsSameFunction, IsConstant}
-use Rattle.revs_tape.specs.Claims.{IsInputOf}
-use Rattle.revs_tape.specs.Measures.{inputs_of}
-use Rattle.revs_tape.specs.Tapes.{TapeView, bit_on}
+use Rattle.revs_tape.specs.ClaimFunctions.{with_fixed}
 use Rattle.decision_diagram.specs.Functions.{Assignment, Function, AreSame, Takes, Varies, fixed, ComesFrom}
 use Rattle.decision_diagram.proofs.RestrictionLemmas.{fixed-below, fixed-from}
-use Rattle.claim_check.specs.inside.Tables.{input_at, function_at, restricted_at}
-use Rattle.claim_check.proofs.VariableLemmas.{assignment_at, length-input_at, input_of_assignment, inputs_agree, input_fixed, bit-map}
+use Rattle.claim_check.specs.Variables.{bits_at, over}
+use Rattle.claim_check.proofs.VariableLemmas.{Ordered, AreBits, assignment_at, length-bits_at, bits_of_assignment, bits_agree, bits_fixed, bit-map}
+
+-- a function of the bits, over the variables
+abbrev pub over_in : Ordered → (List Bool → Bool) → Function
+over_in v f = over v.count v.order f
 
 -- ---- values
 
--- a function of a tape asks its variables alone
-pub function-variables : (t : TapeView) (ref : Ref) (a b : Assignment) → ((k : ℕ) → k < inputs_of t → a k ≡ b k) → function_at t ref a ≡ function_at t ref b
-function-variables t ref a b same = ap (λ (input : List Bool). bit_on t input ref) (inputs_agree t a b same)
+-- it asks the variables alone
+pub function-variables : (v : Ordered) (f : List Bool → Bool) (a b : Assignment) → ((k : ℕ) → k < v.count → a k ≡ b k)
+    → over_in v f a ≡ over_in v f b
+function-variables v f a b same = ap f (bits_agree v a b same)
 
--- the bit on an input is that of its assignment
-pub function-input : (t : TapeView) (ref : Ref) (input : List Bool) → IsInputOf t input → function_at t ref (assignment_at t input) ≡ bit_on t input ref
-function-input t ref input size = ap (λ (z : List Bool). bit_on t z ref) (input_of_assignment t input size)
+-- its bit on some bits is that of their assignment
+pub function-bits : (v : Ordered) (f : List Bool → Bool) (bits : List Bool) → AreBits v bits → over_in v f (assignment_at v bits) ≡ f bits
+function-bits v f bits size = ap f (bits_of_assignment v bits size)
 
-restricted-input : (t : TapeView) (r : Restriction) (input : List Bool) → IsInputOf t input
-    → restricted_at t r (assignment_at t input) ≡ value_on t r input
-restricted-input t r input size = ap (value_on t r) (input_of_assignment t input size)
+-- ---- what comes from it
 
--- ---- what comes from the function of a reference
+-- the function with the first variables fixed to these bits
+abbrev pub restricted : Ordered → (List Bool → Bool) → List Bool → List Bool → Bool
+restricted v f first bits = f (with_fixed v.order first bits)
 
-restricted_is : (t : TapeView) (r : Restriction) (a : Assignment)
-    → restricted_at t r a ≡ function_at t r.of (fixed (length r.fixed) (bit_of r.fixed) a)
-restricted_is t r a = ap (λ (input : List Bool). bit_on t input r.of) (input_fixed t r.fixed a)
+restricted_is : (v : Ordered) (f : List Bool → Bool) (first : List Bool) (a : Assignment)
+    → over_in v (restricted v f first) a ≡ over_in v f (fixed (length first) (bit_of first) a)
+restricted_is v f first a = ap f (bits_fixed v first a)
 
-pub restriction_comes : (t : TapeView) (r : Restriction) → ComesFrom (function_at t r.of) (restricted_at t r)
-restriction_comes t r = record { count = length r.fixed; bits = bit_of r.fixed; same = λ a. restricted_is t r a }
+pub restriction_comes : (v : Ordered) (f : List Bool → Bool) (first : List Bool) → ComesFrom (over_in v f) (over_in v (restricted v f first))
+restriction_comes v f first = record { count = length first; bits = bit_of first; same = λ a. restricted_is v f first a }
 
--- the function is that of the reference with the first variables fixed to these bits
-pub record IsRestriction (t : TapeView) (ref : Ref) (g : Function) : Type 0 where
+-- the function is f with the first variables fixed to these bits
+pub record IsRestriction (v : Ordered) (f : List Bool → Bool) (g : Function) : Type 0 where
   pub fixed : List Bool
-  pub few : length fixed ≤ inputs_of t
-  pub same : AreSame g (restricted_at t (record { of = ref; fixed = fixed }))
+  pub few : length fixed ≤ v.count
+  pub same : AreSame g (over_in v (restricted v f fixed))
 
-pub some_restriction : (t : TapeView) (ref : Ref) (g : Function) → ComesFrom (function_at t ref) g → IsRestriction t ref g
-some_restriction t ref g comes =
-    let n : ℕ = inputs_of t in
+pub some_restriction : (v : Ordered) (f : List Bool → Bool) (g : Function) → ComesFrom (over_in v f) g → IsRestriction v f g
+some_restriction v f g comes =
+    let n : ℕ = v.count in
     let count : ℕ = min comes.count n in
     let bits : List Bool = map comes.bits (below count) in
     let size : length bits ≡ count = length-map (below count) comes.bits ∙ length-below count in
@@ -58,7 +59,7 @@ some_restriction t ref g comes =
           let before : Assignment = fixed comes.count comes.bits a in
           let now : Assignment = fixed (length bits) (bit_of bits) a in
           comes.same a
-          ∙ function-variables t ref before now (λ k low. elim (cases_lt k comes.count) as (λ _. before k ≡ now k) [
+          ∙ function-variables v f before now (λ k low. elim (cases_lt k comes.count) as (λ _. before k ≡ now k) [
             | inl early ↦
                 let inside : k < count = omega (arith, early, low) in
                 fixed-below comes.count comes.bits a k early
@@ -66,38 +67,42 @@ some_restriction t ref g comes =
                 ∙ sym (fixed-below (length bits) (bit_of bits) a k (omega (arith, inside, size)))
             | inr late ↦ fixed-from comes.count comes.bits a k late ∙ sym (fixed-from (length bits) (bit_of bits) a k (omega (arith, late, size)))
           ])
-          ∙ sym (restricted_is t (record { of = ref; fixed = bits }) a);
+          ∙ sym (restricted_is v f bits a);
     }
 
 -- ---- constants
 
-pub varies_not_constant : (t : TapeView) (r : Restriction) (g : Function) → AreSame g (restricted_at t r) → Varies g → ¬ IsConstant t r
-varies_not_constant t r g same varies constant =
+-- the function has one bit on all lists of bits
+abbrev pub IsSteady : Ordered → (List Bool → Bool) → Type 0
+IsSteady v f = (one other : List Bool) → AreBits v one → AreBits v other → f one ≡ f other
+
+pub varies_not_steady : (v : Ordered) (f : List Bool → Bool) (g : Function) → AreSame g (over_in v f) → Varies g → ¬ IsSteady v f
+varies_not_steady v f g same varies steady =
     let low : Assignment = varies.0.0 in
     let high : Assignment = varies.1.0 in
-    false≢true (sym varies.0.1 ∙ same low ∙ constant (input_at t low) (input_at t high) (length-input_at t low) (length-input_at t high)
-    ∙ sym (same high) ∙ varies.1.1)
+    let one : f (bits_at v.count v.order low) ≡ f (bits_at v.count v.order high) =
+    steady (bits_at v.count v.order low) (bits_at v.count v.order high) (length-bits_at v low) (length-bits_at v high) in
+    false≢true (sym varies.0.1 ∙ same low ∙ one ∙ sym (same high) ∙ varies.1.1)
 
-other_bit : (bit value : Bool) → ¬ (value ≡ not bit) → value ≡ bit
+other_bit : (bit value : Bool) → (value ≡ not bit → ⊥) → value ≡ bit
 other_bit true true differs = refl
 other_bit true false differs = absurd (differs refl)
 other_bit false true differs = absurd (differs refl)
 other_bit false false differs = refl
 
-takes_bit : (t : TapeView) (r : Restriction) → ¬ IsConstant t r → (bit : Bool) → Takes (restricted_at t r) bit
-takes_bit t r varies bit = elim (same_or_differ (inputs_of t) (value_on t r) (λ _. not bit)) as (λ _. Takes (restricted_at t r) bit) [
+takes_bit : (v : Ordered) (f : List Bool → Bool) → ¬ IsSteady v f → (bit : Bool) → Takes (over_in v f) bit
+takes_bit v f varies bit = elim (same_or_differ v.count f (λ _. not bit)) as (λ _. Takes (over_in v f) bit) [
   | inl all ↦ absurd (varies (λ one other size size2. all one size ∙ sym (all other size2)))
-  | inr found ↦ (assignment_at t found.0, restricted-input t r found.0 found.1 ∙ other_bit bit (value_on t r found.0) found.2)
+  | inr found ↦ (assignment_at v found.0, function-bits v f found.0 found.1 ∙ other_bit bit (f found.0) found.2)
 ]
 
-pub restriction_varies : (t : TapeView) (r : Restriction) → ¬ IsConstant t r → Varies (restricted_at t r)
-restriction_varies t r varies = (takes_bit t r varies false, takes_bit t r varies true)
+pub not_steady_varies : (v : Ordered) (f : List Bool → Bool) → ¬ IsSteady v f → Varies (over_in v f)
+not_steady_varies v f varies = (takes_bit v f varies false, takes_bit v f varies true)
 
 -- ---- one function
 
-pub same_function : (t : TapeView) (r s : Restriction) → AreSame (restricted_at t r) (restricted_at t s) → IsSameFunction t r s
-same_function t r s same = λ input size.
-    sym (restricted-input t r input size) ∙ same (assignment_at t input) ∙ restricted-input t s input size
+pub same_on_bits : (v : Ordered) (f g : List Bool → Bool) → AreSame (over_in v f) (over_in v g) → (bits : List Bool) → AreBits v bits → f bits ≡ g bits
+same_on_bits v f g same bits size = sym (function-bits v f bits size) ∙ same (assignment_at v bits) ∙ function-bits v g bits size
 
-pub same_restricted : (t : TapeView) (r s : Restriction) → IsSameFunction t r s → AreSame (restricted_at t r) (restricted_at t s)
-same_restricted t r s same = λ a. same (input_at t a) (length-input_at t a)
+pub same_over : (v : Ordered) (f g : List Bool → Bool) → ((bits : List Bool) → AreBits v bits → f bits ≡ g bits) → AreSame (over_in v f) (over_in v g)
+same_over v f g same = λ a. same (bits_at v.count v.order a) (length-bits_at v a)

@@ -8,6 +8,7 @@ pub mod MarkLemmas
 pub mod MeasureLemmas
 pub mod MemberLemmas
 pub mod NoWiderLemmas
+pub mod NodeLemmas
 pub mod NumberLemmas
 pub mod OneWayLemmas
 pub mod OrderTableLemmas

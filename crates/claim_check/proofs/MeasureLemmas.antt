@@ -1,4 +1,4 @@
--- Each tape has measures: a cut of the greatest length, and the number of the monomials of each write.
+-- Each tape and each settled graph has measures: a cut of the greatest length, and the number of the monomials of each write.
 use Rattle.std.proofs.Common.{◌≡◌, ℕ, zero, suc, ◌<◌, ◌≤◌, Bool, inl, inr, List, length, map, refl, sym, ap, subst, arith}
 use Rattle.std.specs.List.{range_with_len}
 use Rattle.std.proofs.lemmas.Bool.{cases_lt}
@@ -6,7 +6,10 @@ use Rattle.std.proofs.lemmas.List.FromFn.{get_or-map-range_with_len, length-map-
 use Rattle.revs_tape.specs.Cuts.{IsWidth, cut_at}
 use Rattle.revs_tape.specs.Measures.{inputs_of, outputs_of, steps_of, writes_among, writes_of}
 use Rattle.revs_tape.proofs.MonomialLemmas.{monomials_are_determined}
-use Rattle.claim_check.specs.Measures.{HasMonomials, HaveMonomials, TapesHaveMeasures, write_function}
+use Rattle.dependency_graph.specs.Graphs.{output_nodes}
+use Rattle.dependency_graph.specs.Graphs as graphs
+use Rattle.claim_check.specs.Measures.{HasMonomials, HaveMonomials, SettledGraphsHaveMeasures, TapesHaveMeasures, node_function, write_function}
+use Rattle.claim_check.specs.Settled.{as_graph}
 
 -- ---- the width
 
@@ -99,5 +102,26 @@ tapes_have_measures t =
         width = cuts.is;
         one_each = length-counts_of (inputs_of t) (write_function t) (writes_of t);
         monomials = have_counts (inputs_of t) (write_function t) (writes_of t);
+      };
+    }
+
+pub settled_graphs_have_measures : SettledGraphsHaveMeasures
+settled_graphs_have_measures s =
+    let cuts = some_width (graphs.steps_of (as_graph s)) (output_nodes (as_graph s)) in
+    record {
+      measures = record {
+        inputs = s.inputs;
+        outputs = length s.outputs;
+        steps = length s.nodes;
+        width = cuts.width;
+        monomials = counts_of s.inputs (node_function s) (length s.nodes);
+      };
+      are = record {
+        inputs = refl;
+        outputs = refl;
+        steps = refl;
+        width = cuts.is;
+        one_each = length-counts_of s.inputs (node_function s) (length s.nodes);
+        monomials = have_counts s.inputs (node_function s) (length s.nodes);
       };
     }

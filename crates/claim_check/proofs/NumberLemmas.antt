@@ -1,5 +1,5 @@
 -- The numbers of inputs and writes: one more, the next of a claim, and all of them.
-use Rattle.std.proofs.Common.{◌≡◌, ℕ, ◌+◌, ◌<◌, ◌≤◌, inl, inr, List, [], ◌∷◌, length, Result, Ok, Err, IfOk, IfErr, IsErrAnd, get_or, set, slice_get, Some}
+use Rattle.std.proofs.Common.{◌≡◌, ℕ, ◌+◌, ◌<◌, ◌≤◌, inl, inr, List, [], ◌∷◌, length, Result, Ok, Err, IfErr, IsErrAnd, get_or, set, slice_get, Some}
 use Rattle.std.proofs.Common.{None, refl, sym, ap, ◌∙◌, subst, arith}
 use Rattle.std.specs.List.{AllByRecursion}
 use Rattle.std.proofs.lemmas.Bool.{cases_lt, cases_eq}
@@ -20,12 +20,11 @@ use Rattle.decision_diagram.specs.declared.node.DdFault.{DdFault}
 use Rattle.decision_diagram.specs.declared.node.DdFault.TheVariants as faults
 use Rattle.decision_diagram.specs.Diagrams.{DiagramView, IsCanonical, Triple, function_of}
 use Rattle.decision_diagram.specs.Functions.{AreSame, Function, conjunction, exclusive_or}
-use Rattle.decision_diagram.specs.Growth.{AddsOnlyFrom, KeepsNodes, MayRefuse, StandsFor}
-use Rattle.decision_diagram.proofs.GrowthLemmas.{KeepsNodes-refl, MayRefuse-same, StandsFor-same, err_from, ok_from, stands-kept}
-use Rattle.decision_diagram.proofs.RestrictionLemmas.{ComesFrom-trans, comes_same}
+use Rattle.decision_diagram.specs.Growth.{Computes, KeepsNodes, MayRefuse, StandsFor}
+use Rattle.decision_diagram.proofs.GrowthLemmas.{Grows-refl, StandsFor-same, computes, computes_same, stands-kept}
 use Rattle.claim_check.specs.inside.Chains.{IsNext}
 use Rattle.claim_check.specs.inside.Labels.{AreLabels, claims_of, label_of}
-use Rattle.claim_check.specs.inside.Numbers.{AreMade, ComesBefore, HasLabel, HasNumber, IsAnswerOf, PassLimit}
+use Rattle.claim_check.specs.inside.Numbers.{AreMade, ComesBefore, HasLabel, HasNumber, PassLimit}
 use Rattle.claim_check.specs.inside.Slots.{IsRefOf, slot_of, slots_of}
 use Rattle.claim_check.specs.inside.Tables.{HoldsAllBases, HoldsOnlyMembers, function_at}
 use Rattle.claim_check.proofs.BaseLemmas.{bases_within}
@@ -100,24 +99,8 @@ two_operands t P j entry a b at two all =
 
 -- ---- answers
 
-pub answer : (f g : Function) (old new : DiagramView) (r : Result ℕ DdFault) → AreSame g f → IsCanonical new → KeepsNodes old new
-    → AddsOnlyFrom g old.nodes new.nodes → IfOk r (λ n. StandsFor new.nodes n g) → IfErr r (MayRefuse g new) → IsAnswerOf f old new r
-answer f g old new r same canonical kept added number refused = record {
-  canonical = canonical;
-  kept = kept;
-  added = λ n from below. ComesFrom-trans f g (function_of new.nodes n) (comes_same f g same) (added n from below);
-  number = ok_from r (λ n. StandsFor new.nodes n g) (λ n. StandsFor new.nodes n f) (λ n stands. StandsFor-same new.nodes n g f same stands) number;
-  refused = err_from r (MayRefuse g new) (MayRefuse f new) (MayRefuse-same f g new same) refused;
-}
-
-pub answer_constant : (f g : Function) (d : DiagramView) (n : ℕ) → AreSame g f → IsCanonical d → StandsFor d.nodes n g → IsAnswerOf f d d (Ok n)
-answer_constant f g d n same canonical stands = record {
-  canonical = canonical;
-  kept = KeepsNodes-refl d;
-  added = λ m from below. absurd (omega (arith, from, below));
-  number = StandsFor-same d.nodes n g f same stands;
-  refused = tt;
-}
+pub answer_constant : (f g : Function) (d : DiagramView) (n : ℕ) → AreSame g f → IsCanonical d → StandsFor d.nodes n g → Computes f d d (Ok n)
+answer_constant f g d n same canonical stands = computes f d d (Ok n) (Grows-refl f d canonical) (StandsFor-same d.nodes n g f same stands) tt
 
 -- ---- one more number
 
@@ -225,38 +208,30 @@ operands_in entry = operands entry
 pub answer_xor : (t : TapeView) → IsTape t → (j : ℕ) (entry : Entry) (a b : Ref) (old new : DiagramView) (numbers : List ℕ) (f g : ℕ)
     (r : Result ℕ DdFault) → slice_get t.entries j ≡ Some entry → entry ≡ entries.Xor a b
     → f ≡ get_or numbers (slot_of (inputs_of t) a) 0 → g ≡ get_or numbers (slot_of (inputs_of t) b) 0
-    → AllByRecursion (HasNumber t old.nodes numbers) (operands_of t (refs.Write j)) → IsCanonical new → KeepsNodes old new
-    → AddsOnlyFrom (exclusive_or (function_of old.nodes f) (function_of old.nodes g)) old.nodes new.nodes
-    → IfOk r (λ n. StandsFor new.nodes n (exclusive_or (function_of old.nodes f) (function_of old.nodes g)))
-    → IfErr r (MayRefuse (exclusive_or (function_of old.nodes f) (function_of old.nodes g)) new)
-    → IsAnswerOf (function_at t (refs.Write j)) old new r
-answer_xor t is j entry a b old new numbers f g r at xor left right all canonical kept added number refused =
+    → AllByRecursion (HasNumber t old.nodes numbers) (operands_of t (refs.Write j))
+    → Computes (exclusive_or (function_of old.nodes f) (function_of old.nodes g)) old new r → Computes (function_at t (refs.Write j)) old new r
+answer_xor t is j entry a b old new numbers f g r at xor left right all made =
     let both = two_operands t (HasNumber t old.nodes numbers) j entry a b at (ap operands_in xor) all in
     let one : AreSame (function_of old.nodes f) (function_at t a) =
     subst (λ (n : ℕ). AreSame (function_of old.nodes n) (function_at t a)) (sym left) ((both.0).stands).same in
     let other : AreSame (function_of old.nodes g) (function_at t b) =
     subst (λ (n : ℕ). AreSame (function_of old.nodes n) (function_at t b)) (sym right) ((both.1).stands).same in
-    answer (function_at t (refs.Write j)) (exclusive_or (function_of old.nodes f) (function_of old.nodes g)) old new r
-    (function-Xor t is j a b (function_of old.nodes f) (function_of old.nodes g) (at ∙ ap Some xor) one other)
-    canonical kept added number refused
+    computes_same (function_at t (refs.Write j)) (exclusive_or (function_of old.nodes f) (function_of old.nodes g)) old new r
+    (function-Xor t is j a b (function_of old.nodes f) (function_of old.nodes g) (at ∙ ap Some xor) one other) made
 
 pub answer_and : (t : TapeView) → IsTape t → (j : ℕ) (entry : Entry) (a b : Ref) (old new : DiagramView) (numbers : List ℕ) (f g : ℕ)
     (r : Result ℕ DdFault) → slice_get t.entries j ≡ Some entry → entry ≡ entries.And a b
     → f ≡ get_or numbers (slot_of (inputs_of t) a) 0 → g ≡ get_or numbers (slot_of (inputs_of t) b) 0
-    → AllByRecursion (HasNumber t old.nodes numbers) (operands_of t (refs.Write j)) → IsCanonical new → KeepsNodes old new
-    → AddsOnlyFrom (conjunction (function_of old.nodes f) (function_of old.nodes g)) old.nodes new.nodes
-    → IfOk r (λ n. StandsFor new.nodes n (conjunction (function_of old.nodes f) (function_of old.nodes g)))
-    → IfErr r (MayRefuse (conjunction (function_of old.nodes f) (function_of old.nodes g)) new)
-    → IsAnswerOf (function_at t (refs.Write j)) old new r
-answer_and t is j entry a b old new numbers f g r at both_are left right all canonical kept added number refused =
+    → AllByRecursion (HasNumber t old.nodes numbers) (operands_of t (refs.Write j))
+    → Computes (conjunction (function_of old.nodes f) (function_of old.nodes g)) old new r → Computes (function_at t (refs.Write j)) old new r
+answer_and t is j entry a b old new numbers f g r at both_are left right all made =
     let both = two_operands t (HasNumber t old.nodes numbers) j entry a b at (ap operands_in both_are) all in
     let one : AreSame (function_of old.nodes f) (function_at t a) =
     subst (λ (n : ℕ). AreSame (function_of old.nodes n) (function_at t a)) (sym left) ((both.0).stands).same in
     let other : AreSame (function_of old.nodes g) (function_at t b) =
     subst (λ (n : ℕ). AreSame (function_of old.nodes n) (function_at t b)) (sym right) ((both.1).stands).same in
-    answer (function_at t (refs.Write j)) (conjunction (function_of old.nodes f) (function_of old.nodes g)) old new r
-    (function-And t is j a b (function_of old.nodes f) (function_of old.nodes g) (at ∙ ap Some both_are) one other)
-    canonical kept added number refused
+    computes_same (function_at t (refs.Write j)) (conjunction (function_of old.nodes f) (function_of old.nodes g)) old new r
+    (function-And t is j a b (function_of old.nodes f) (function_of old.nodes g) (at ∙ ap Some both_are) one other) made
 
 -- ---- the limit
 

@@ -13,7 +13,7 @@ use Rattle.list_facts.specs.Lists.{IsAmong, AreDifferent, below}
 use Rattle.dependency_graph.proofs.TableLemmas.{below_next}
 use Rattle.list_facts.proofs.AllLemmas.{AllByRecursion-at}
 use Rattle.revs_tape.specs.VariableOrders.{IsOrderOf, inputs_at, variable_order}
-use Rattle.claim_check.specs.inside.Variables.{AreVariables}
+use Rattle.claim_check.specs.Variables.{AreVariables}
 
 -- ---- the places past the widest parameter
 

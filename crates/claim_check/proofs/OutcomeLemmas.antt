@@ -22,10 +22,10 @@ use Rattle.claim_check.specs.inside.Labels.{AreLabels, claims_of}
 use Rattle.claim_check.specs.inside.Numbers.{AreMade, AreSettled, HasNumber, IsLeastOther, PassLimit, claim_fault}
 use Rattle.claim_check.specs.inside.Slots.{slot_of, slots_of}
 use Rattle.claim_check.specs.inside.Tables.{HoldsOnlyMembers, function_at, input_at}
-use Rattle.claim_check.specs.inside.Variables.{AreVariables}
+use Rattle.claim_check.specs.Variables.{AreVariables}
 use Rattle.claim_check.proofs.MemberLemmas.{at_most, begun, no_bases}
 use Rattle.claim_check.proofs.NumberLemmas.{all_bases, claim_known, made_none}
-use Rattle.claim_check.proofs.VariableLemmas.{placed_input}
+use Rattle.claim_check.proofs.VariableLemmas.{ordered, placed_bits}
 use Rattle.claim_check.proofs.VerdictLemmas.{all_hold, hold_more, holds_everywhere, least_breaking}
 
 -- ---- constant, or not
@@ -89,7 +89,7 @@ claim_breaks t claim nodes numbers variables f bit input has is claims are other
     let least : IsLeast (function_of nodes f) (not (claimed claim.kind)) a =
     subst (λ (b : Bool). IsLeast (function_of nodes f) (not b) a) claims other.least in
     let size : length input ≡ inputs_of t = ap length other.bits ∙ length-map variables a ∙ are.size in
-    let there : input ≡ input_at t a = placed_input t a (λ i. get_or variables i 0) input size are.at
+    let there : input ≡ input_at t a = placed_bits (ordered t) a (λ i. get_or variables i 0) input size are.at
     (λ i low. ap (λ (z : List Bool). bit_of z i) other.bits ∙ get_or-map a variables i 0 false (omega (arith, low, are.size))) in
     subst (IsLeastBreaking t claim) (sym there) (least_breaking t claim (function_of nodes f) a same least)
 

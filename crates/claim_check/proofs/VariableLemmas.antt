@@ -1,4 +1,4 @@
--- Inputs of a tape and assignments of its variables, and the functions over them.
+-- Bits in some order and assignments of variables, one for each bit.
 use Rattle.std.proofs.Common.{◌≡◌, ◌≢◌, ℕ, zero, suc, ◌<◌, ◌≤◌, inl, inr, Bool, false, List, [], ◌∷◌, length, map, set, get_or, slice_get, Some, refl, sym}
 use Rattle.std.proofs.Common.{ap, ◌∙◌}
 use Rattle.std.proofs.Common.{arith}
@@ -12,14 +12,13 @@ use Rattle.list_facts.specs.Lists.{IsAmong, AreDifferent, below}
 use Rattle.list_facts.proofs.AllLemmas.{AllByRecursion-at}
 use Rattle.list_facts.proofs.OrderLemmas.{length-below}
 use Rattle.revs_tape.specs.ClaimFunctions.{with_fixed}
-use Rattle.revs_tape.specs.Claims.{IsInputOf}
 use Rattle.revs_tape.specs.Measures.{inputs_of}
 use Rattle.revs_tape.specs.Tapes.{TapeView}
 use Rattle.revs_tape.specs.VariableOrders.{IsOrderOf, variable_order}
 use Rattle.revs_tape.proofs.VariableOrderLemmas.{is_order}
 use Rattle.decision_diagram.specs.Functions.{Assignment, fixed}
 use Rattle.decision_diagram.proofs.RestrictionLemmas.{fixed-below, fixed-from}
-use Rattle.claim_check.specs.inside.Tables.{input_at}
+use Rattle.claim_check.specs.Variables.{bits_at}
 
 -- ---- an input with its first variables fixed
 
@@ -58,13 +57,26 @@ bit-behind (i ∷ order) (bit ∷ bits) input (suc k) different low few =
 
 -- ---- the variables
 
+-- an order of so many bits
+pub record Ordered : Type 0 where
+  pub count : ℕ
+  pub order : List ℕ
+  pub is : IsOrderOf count order
+
+-- that of the inputs of a tape
+abbrev pub ordered : TapeView → Ordered
+ordered t = record { count = inputs_of t; order = variable_order t.params; is = is_order t.params }
+
+abbrev pub AreBits : Ordered → List Bool → Type 0
+AreBits v bits = length bits ≡ v.count
+
 -- the input that is the variable at this place of the order
-abbrev pub variable_of : TapeView → ℕ → ℕ
-variable_of t k = get_or (variable_order t.params) k 0
+abbrev pub variable_of : Ordered → ℕ → ℕ
+variable_of v k = get_or v.order k 0
 
 -- the bits of the variables on an input
-abbrev pub assignment_at : TapeView → List Bool → Assignment
-assignment_at t input k = bit_of input (variable_of t k)
+abbrev pub assignment_at : Ordered → List Bool → Assignment
+assignment_at v input k = bit_of input (variable_of v k)
 
 among_place : (i : ℕ) (xs : List ℕ) → IsAmong i xs → (k : ℕ) × (k < length xs) × (get_or xs k 0 ≡ i)
 among_place i [] among = absurd among
@@ -74,30 +86,30 @@ among_place i (x ∷ xs) among = elim among as (λ _. (k : ℕ) × (k < length (
 ]
 
 -- an input stands at this place of the order
-pub record IsVariable (t : TapeView) (i : ℕ) : Type 0 where
+pub record IsVariable (v : Ordered) (i : ℕ) : Type 0 where
   pub place : ℕ
-  pub inside : place < inputs_of t
-  pub is : variable_of t place ≡ i
+  pub inside : place < v.count
+  pub is : variable_of v place ≡ i
 
-pub some_variable : (t : TapeView) (i : ℕ) → i < inputs_of t → IsVariable t i
-some_variable t i lt =
-    let order : IsOrderOf (inputs_of t) (variable_order t.params) = is_order t.params in
-    let found = among_place i (variable_order t.params) (order.all i lt) in
+pub some_variable : (v : Ordered) (i : ℕ) → i < v.count → IsVariable v i
+some_variable v i lt =
+    let order : IsOrderOf v.count v.order = v.is in
+    let found = among_place i v.order (order.all i lt) in
     record { place = found.0; inside = omega (arith, found.1, order.count); is = found.2 }
 
 -- the place is that of the input
-pub variable_at : (t : TapeView) (k i : ℕ) → slice_get (variable_order t.params) k ≡ Some i → (k < inputs_of t) × (variable_of t k ≡ i)
-variable_at t k i is = (
-  omega (arith, slice_get_within (variable_order t.params) k i is, (is_order t.params).count),
-  get_or_from_slice_get (variable_order t.params) k i 0 is,
+pub variable_at : (v : Ordered) (k i : ℕ) → slice_get v.order k ≡ Some i → (k < v.count) × (variable_of v k ≡ i)
+variable_at v k i is = (
+  omega (arith, slice_get_within v.order k i is, v.is.count),
+  get_or_from_slice_get v.order k i 0 is,
 )
 
 -- ---- inputs and assignments
 
-pub same_input : (t : TapeView) (one other : List Bool) → IsInputOf t one → IsInputOf t other
-    → ((k : ℕ) → k < inputs_of t → bit_of one (variable_of t k) ≡ bit_of other (variable_of t k)) → one ≡ other
-same_input t one other size size2 same = ext_get_or false one other (omega (arith, size, size2)) (λ i lt.
-    let at = some_variable t i (omega (arith, lt, size)) in
+pub same_bits : (v : Ordered) (one other : List Bool) → AreBits v one → AreBits v other
+    → ((k : ℕ) → k < v.count → bit_of one (variable_of v k) ≡ bit_of other (variable_of v k)) → one ≡ other
+same_bits v one other size size2 same = ext_get_or false one other (omega (arith, size, size2)) (λ i lt.
+    let at = some_variable v i (omega (arith, lt, size)) in
     ap (bit_of one) (sym at.is) ∙ same at.place at.inside ∙ ap (bit_of other) at.is)
 
 at_below : (n k : ℕ) → k < n → get_or (below n) k 0 ≡ k
@@ -110,54 +122,54 @@ at_below (suc n) k low = elim (cases_lt k n) as (λ _. get_or (below (suc n)) k 
 pub bit-map : (a : Assignment) (n k : ℕ) → k < n → bit_of (map a (below n)) k ≡ a k
 bit-map a n k low = get_or-map a (below n) k 0 false (omega (arith, low, length-below n)) ∙ ap a (at_below n k low)
 
-pub length-input_at : (t : TapeView) (a : Assignment) → IsInputOf t (input_at t a)
-length-input_at t a =
-    length-with_fixed (variable_order t.params) (map a (below (inputs_of t))) (zeros (inputs_of t)) ∙ length-replicate (inputs_of t) false
+pub length-bits_at : (v : Ordered) (a : Assignment) → AreBits v (bits_at v.count v.order a)
+length-bits_at v a =
+    length-with_fixed v.order (map a (below v.count)) (zeros v.count) ∙ length-replicate v.count false
 
 -- each variable has its bit
-pub bit-input_at : (t : TapeView) (a : Assignment) (k : ℕ) → k < inputs_of t → bit_of (input_at t a) (variable_of t k) ≡ a k
-bit-input_at t a k low =
-    let n : ℕ = inputs_of t in
-    let order : IsOrderOf n (variable_order t.params) = is_order t.params in
+pub bit-bits_at : (v : Ordered) (a : Assignment) (k : ℕ) → k < v.count → bit_of (bits_at v.count v.order a) (variable_of v k) ≡ a k
+bit-bits_at v a k low =
+    let n : ℕ = v.count in
+    let order : IsOrderOf n v.order = v.is in
     let size : length (map a (below n)) ≡ n = length-map (below n) a ∙ length-below n in
-    bit-fixed n (variable_order t.params) (map a (below n)) (zeros n) k order.different order.inputs (length-replicate n false)
+    bit-fixed n v.order (map a (below n)) (zeros n) k order.different order.inputs (length-replicate n false)
     (omega (arith, low, order.count)) (omega (arith, low, size))
     ∙ bit-map a n k low
 
 -- the input is the only one with these bits
-pub is_input_at : (t : TapeView) (a : Assignment) (input : List Bool) → IsInputOf t input
-    → ((k : ℕ) → k < inputs_of t → bit_of input (variable_of t k) ≡ a k) → input ≡ input_at t a
-is_input_at t a input size same =
-    same_input t input (input_at t a) size (length-input_at t a) (λ k low. same k low ∙ sym (bit-input_at t a k low))
+pub is_bits_at : (v : Ordered) (a : Assignment) (input : List Bool) → AreBits v input
+    → ((k : ℕ) → k < v.count → bit_of input (variable_of v k) ≡ a k) → input ≡ bits_at v.count v.order a
+is_bits_at v a input size same =
+    same_bits v input (bits_at v.count v.order a) size (length-bits_at v a) (λ k low. same k low ∙ sym (bit-bits_at v a k low))
 
-pub input_of_assignment : (t : TapeView) (input : List Bool) → IsInputOf t input → input_at t (assignment_at t input) ≡ input
-input_of_assignment t input size = sym (is_input_at t (assignment_at t input) input size (λ k low. refl))
+pub bits_of_assignment : (v : Ordered) (input : List Bool) → AreBits v input → bits_at v.count v.order (assignment_at v input) ≡ input
+bits_of_assignment v input size = sym (is_bits_at v (assignment_at v input) input size (λ k low. refl))
 
-pub inputs_agree : (t : TapeView) (a b : Assignment) → ((k : ℕ) → k < inputs_of t → a k ≡ b k) → input_at t a ≡ input_at t b
-inputs_agree t a b same = is_input_at t b (input_at t a) (length-input_at t a) (λ k low. bit-input_at t a k low ∙ same k low)
+pub bits_agree : (v : Ordered) (a b : Assignment) → ((k : ℕ) → k < v.count → a k ≡ b k) → bits_at v.count v.order a ≡ bits_at v.count v.order b
+bits_agree v a b same = is_bits_at v b (bits_at v.count v.order a) (length-bits_at v a) (λ k low. bit-bits_at v a k low ∙ same k low)
 
 -- each input has the bit of its variable
-pub placed_input : (t : TapeView) (a : Assignment) (place : ℕ → ℕ) (input : List Bool) → IsInputOf t input
-    → ((i : ℕ) → i < inputs_of t → slice_get (variable_order t.params) (place i) ≡ Some i)
-    → ((i : ℕ) → i < inputs_of t → bit_of input i ≡ a (place i)) → input ≡ input_at t a
-placed_input t a place input size places bits = ext_get_or false input (input_at t a) (omega (arith, size, length-input_at t a)) (λ i lt.
-    let low : i < inputs_of t = omega (arith, lt, size) in
-    let at = variable_at t (place i) i (places i low) in
-    bits i low ∙ sym (bit-input_at t a (place i) at.0) ∙ ap (bit_of (input_at t a)) at.1)
+pub placed_bits : (v : Ordered) (a : Assignment) (place : ℕ → ℕ) (input : List Bool) → AreBits v input
+    → ((i : ℕ) → i < v.count → slice_get v.order (place i) ≡ Some i)
+    → ((i : ℕ) → i < v.count → bit_of input i ≡ a (place i)) → input ≡ bits_at v.count v.order a
+placed_bits v a place input size places bits = ext_get_or false input (bits_at v.count v.order a) (omega (arith, size, length-bits_at v a)) (λ i lt.
+    let low : i < v.count = omega (arith, lt, size) in
+    let at = variable_at v (place i) i (places i low) in
+    bits i low ∙ sym (bit-bits_at v a (place i) at.0) ∙ ap (bit_of (bits_at v.count v.order a)) at.1)
 
 -- fixing the first variables of an input is fixing them in its assignment
-pub input_fixed : (t : TapeView) (bits : List Bool) (a : Assignment)
-    → with_fixed (variable_order t.params) bits (input_at t a) ≡ input_at t (fixed (length bits) (bit_of bits) a)
-input_fixed t bits a =
-    let n : ℕ = inputs_of t in
-    let order : IsOrderOf n (variable_order t.params) = is_order t.params in
-    let input : List Bool = with_fixed (variable_order t.params) bits (input_at t a) in
+pub bits_fixed : (v : Ordered) (bits : List Bool) (a : Assignment)
+    → with_fixed v.order bits (bits_at v.count v.order a) ≡ bits_at v.count v.order (fixed (length bits) (bit_of bits) a)
+bits_fixed v bits a =
+    let n : ℕ = v.count in
+    let order : IsOrderOf n v.order = v.is in
+    let input : List Bool = with_fixed v.order bits (bits_at v.count v.order a) in
     let now : Assignment = fixed (length bits) (bit_of bits) a in
-    is_input_at t now input
-    (length-with_fixed (variable_order t.params) bits (input_at t a) ∙ length-input_at t a)
-    (λ k low. elim (cases_lt k (length bits)) as (λ _. bit_of input (variable_of t k) ≡ now k) [
-      | inl few ↦ bit-fixed n (variable_order t.params) bits (input_at t a) k order.different order.inputs (length-input_at t a)
+    is_bits_at v now input
+    (length-with_fixed v.order bits (bits_at v.count v.order a) ∙ length-bits_at v a)
+    (λ k low. elim (cases_lt k (length bits)) as (λ _. bit_of input (variable_of v k) ≡ now k) [
+      | inl few ↦ bit-fixed n v.order bits (bits_at v.count v.order a) k order.different order.inputs (length-bits_at v a)
           (omega (arith, low, order.count)) few ∙ sym (fixed-below (length bits) (bit_of bits) a k few)
-      | inr from ↦ bit-behind (variable_order t.params) bits (input_at t a) k order.different (omega (arith, low, order.count)) from
-          ∙ bit-input_at t a k low ∙ sym (fixed-from (length bits) (bit_of bits) a k from)
+      | inr from ↦ bit-behind v.order bits (bits_at v.count v.order a) k order.different (omega (arith, low, order.count)) from
+          ∙ bit-bits_at v a k low ∙ sym (fixed-from (length bits) (bit_of bits) a k from)
     ])

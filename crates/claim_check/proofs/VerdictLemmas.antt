@@ -8,23 +8,22 @@ use Rattle.std.proofs.lemmas.Option.{same_Some}
 use Rattle.list_facts.specs.Bits.{bit_of}
 use Rattle.revs_tape.specs.declared.tape.Claim.{Claim}
 use Rattle.revs_tape.specs.Claims.{HoldsEverywhere, IsLeastBreaking}
-use Rattle.revs_tape.specs.Measures.{inputs_of}
-use Rattle.revs_tape.specs.Tapes.{TapeView, claimed, Holds}
-use Rattle.revs_tape.specs.VariableOrders.{IsBefore, IsOrderOf, variable_order}
-use Rattle.revs_tape.proofs.VariableOrderLemmas.{is_order}
+use Rattle.revs_tape.specs.Tapes.{TapeView, bit_on, claimed, Holds}
+use Rattle.revs_tape.specs.VariableOrders.{IsBefore}
 use Rattle.decision_diagram.specs.Functions.{Assignment, Function, AreSame, GivesOnly, IsLeast}
 use Rattle.claim_check.specs.Claims.{HoldBefore}
 use Rattle.claim_check.specs.inside.Tables.{input_at, function_at}
-use Rattle.claim_check.proofs.FunctionLemmas.{function-input}
-use Rattle.claim_check.proofs.VariableLemmas.{variable_of, assignment_at, length-input_at, bit-input_at}
+use Rattle.claim_check.specs.Variables.{bits_at}
+use Rattle.claim_check.proofs.FunctionLemmas.{function-bits, over_in}
+use Rattle.claim_check.proofs.VariableLemmas.{AreBits, Ordered, assignment_at, bit-bits_at, length-bits_at, ordered, variable_of}
 
 -- ---- one claim
 
 pub holds_everywhere : (t : TapeView) (claim : Claim) (f : Function) → AreSame f (function_at t claim.of) → GivesOnly f (claimed claim.kind)
     → HoldsEverywhere t claim
 holds_everywhere t claim f same gives = λ input size.
-    let a : Assignment = assignment_at t input in
-    sym (function-input t claim.of input size) ∙ sym (same a) ∙ gives a
+    let a : Assignment = assignment_at (ordered t) input in
+    sym (function-bits (ordered t) (λ bits. bit_on t bits claim.of) input size) ∙ sym (same a) ∙ gives a
 
 not_both : (b : Bool) → ¬ (b ≡ not b)
 not_both true e = true≢false e
@@ -46,36 +45,51 @@ place_inside : (before : List ℕ) (at : ℕ) (behind : List ℕ) → length bef
 place_inside [] at behind = omega arith
 place_inside (x ∷ before) at behind = omega (arith, place_inside before at behind)
 
--- an input before that of the least assignment does not have its bit
-parts_from : (t : TapeView) (a : Assignment) (other : List Bool) → IsBefore (variable_order t.params) other (input_at t a)
-    → ((i : ℕ) → ((k : ℕ) → k < i → a k ≡ assignment_at t other k) → assignment_at t other i ≡ false → a i ≡ false) → ⊥
-parts_from t a other b least =
-    let order : List ℕ = variable_order t.params in
-    let is : IsOrderOf (inputs_of t) order = is_order t.params in
+-- bits before those of the least assignment do not have its bit
+parts_from : (v : Ordered) (a : Assignment) (other : List Bool) → IsBefore v.order other (bits_at v.count v.order a)
+    → ((i : ℕ) → ((k : ℕ) → k < i → a k ≡ assignment_at v other k) → assignment_at v other i ≡ false → a i ≡ false) → ⊥
+parts_from v a other b least =
+    let bits : List Bool = bits_at v.count v.order a in
     let i : ℕ = length b.before in
-    let inside : i < inputs_of t = omega (arith, ap length b.cut, is.count, place_inside b.before b.at b.behind) in
-    let here : variable_of t i ≡ b.at = ap (λ (z : List ℕ). get_or z i 0) b.cut ∙ get_or_at b.before b.at b.behind 0 i refl in
-    let same : (k : ℕ) → k < i → a k ≡ assignment_at t other k = λ k low.
-    let there : variable_of t k ≡ get_or (b.before ++ b.at ∷ b.behind) k 0 = ap (λ (z : List ℕ). get_or z k 0) b.cut in
-    let shared = all_at_place (λ j. bit_of other j ≡ bit_of (input_at t a) j) b.before b.at b.behind k b.same low in
-    sym (bit-input_at t a k (omega (arith, low, inside)))
-    ∙ ap (bit_of (input_at t a)) there ∙ sym shared ∙ ap (bit_of other) (sym there) in
-    let low : assignment_at t other i ≡ false = ap (bit_of other) here ∙ b.low in
-    let high : a i ≡ true = sym (bit-input_at t a i inside) ∙ ap (bit_of (input_at t a)) here ∙ b.high in
+    let inside : i < v.count = omega (arith, ap length b.cut, v.is.count, place_inside b.before b.at b.behind) in
+    let here : variable_of v i ≡ b.at = ap (λ (z : List ℕ). get_or z i 0) b.cut ∙ get_or_at b.before b.at b.behind 0 i refl in
+    let same : (k : ℕ) → k < i → a k ≡ assignment_at v other k = λ k low.
+    let there : variable_of v k ≡ get_or (b.before ++ b.at ∷ b.behind) k 0 = ap (λ (z : List ℕ). get_or z k 0) b.cut in
+    let shared = all_at_place (λ j. bit_of other j ≡ bit_of bits j) b.before b.at b.behind k b.same low in
+    sym (bit-bits_at v a k (omega (arith, low, inside)))
+    ∙ ap (bit_of bits) there ∙ sym shared ∙ ap (bit_of other) (sym there) in
+    let low : assignment_at v other i ≡ false = ap (bit_of other) here ∙ b.low in
+    let high : a i ≡ true = sym (bit-bits_at v a i inside) ∙ ap (bit_of bits) here ∙ b.high in
     true≢false (sym high ∙ least i same low)
+
+-- where a function is that of some bits, it takes the bit on those of the least assignment, and on none before them
+pub record IsLeastOn (v : Ordered) (f : List Bool → Bool) (bit : Bool) (bits : List Bool) : Type 0 where
+  pub are_bits : AreBits v bits
+  pub gives : f bits ≡ bit
+  pub least : (other : List Bool) → AreBits v other → IsBefore v.order other bits → ¬ (f other ≡ bit)
+
+pub least_on : (v : Ordered) (f : List Bool → Bool) (g : Function) (bit : Bool) (a : Assignment) → AreSame g (over_in v f) → IsLeast g bit a
+    → IsLeastOn v f bit (bits_at v.count v.order a)
+least_on v f g bit a same least = record {
+  are_bits = length-bits_at v a;
+  gives = sym (same a) ∙ least.gives;
+  least = λ other size before gives.
+      let there : Assignment = assignment_at v other in
+      parts_from v a other before (least.least there (same there ∙ function-bits v f other size ∙ gives));
+}
 
 pub least_breaking : (t : TapeView) (claim : Claim) (f : Function) (a : Assignment) → AreSame f (function_at t claim.of)
     → IsLeast f (not (claimed claim.kind)) a → IsLeastBreaking t claim (input_at t a)
-least_breaking t claim f a same least = record {
-  is_input = length-input_at t a;
-  fails = λ holds. not_both (claimed claim.kind) (sym holds ∙ sym (same a) ∙ least.gives);
-  least = λ other size before.
-      let v : Assignment = assignment_at t other in
-      elim (either_bit (f v) (claimed claim.kind)) as (λ _. Holds t other claim) [
-        | inl met ↦ sym (function-input t claim.of other size) ∙ sym (same v) ∙ met
-        | inr breaks ↦ absurd (parts_from t a other before (least.least v breaks))
+least_breaking t claim f a same least =
+    let on = least_on (ordered t) (λ bits. bit_on t bits claim.of) f (not (claimed claim.kind)) a same least in
+    record {
+      is_input = on.are_bits;
+      fails = λ holds. not_both (claimed claim.kind) (sym holds ∙ on.gives);
+      least = λ other size before. elim (either_bit (bit_on t other claim.of) (claimed claim.kind)) as (λ _. Holds t other claim) [
+        | inl met ↦ met
+        | inr breaks ↦ absurd (on.least other size before breaks)
       ];
-}
+    }
 
 -- ---- one claim after another
 

@@ -13,7 +13,7 @@ use Rattle.revs_tape.specs.Measures.{inputs_of}
 use Rattle.revs_tape.specs.Tapes.{TapeView, IsTape, IsKnown, IsKnownEntry, AreKnown, bit_at, bit_on, entry_bit, written_by}
 use Rattle.decision_diagram.specs.Functions.{Function, AreSame, variable_at, exclusive_or, conjunction}
 use Rattle.claim_check.specs.inside.Tables.{input_at, function_at}
-use Rattle.claim_check.proofs.VariableLemmas.{variable_of, bit-input_at}
+use Rattle.claim_check.proofs.VariableLemmas.{bit-bits_at, ordered, variable_of}
 
 -- ---- bits stay as more is written
 
@@ -64,8 +64,8 @@ bit_of_write t is input j e at =
 -- ---- functions over the variables
 
 -- the function of an input is its variable
-pub function-Input : (t : TapeView) (i k : ℕ) → k < inputs_of t → variable_of t k ≡ i → AreSame (variable_at k) (function_at t (refs.Input i))
-function-Input t i k low is = λ a. sym (bit-input_at t a k low) ∙ ap (bit_of (input_at t a)) is
+pub function-Input : (t : TapeView) (i k : ℕ) → k < inputs_of t → variable_of (ordered t) k ≡ i → AreSame (variable_at k) (function_at t (refs.Input i))
+function-Input t i k low is = λ a. sym (bit-bits_at (ordered t) a k low) ∙ ap (bit_of (input_at t a)) is
 
 pub function-Const : (t : TapeView) → IsTape t → (j : ℕ) (bit : Bool) → slice_get t.entries j ≡ Some (entries.Const bit)
     → AreSame (λ _. bit) (function_at t (refs.Write j))

@@ -74,6 +74,11 @@ pub record AreMeasuresOfSettled (s : SettledView) (m : Measures) : Type 0 where
   pub one_each : length m.monomials ≡ length s.nodes
   pub monomials : HaveMonomials s.inputs (node_function s) m.monomials
 
+-- some measures are those of the settled graph
+pub record HasMeasuresOfSettled (s : SettledView) : Type 0 where
+  pub measures : Measures
+  pub are : AreMeasuresOfSettled s measures
+
 -- ---- within measures
 
 -- these numbers stand at different places of a list
@@ -100,6 +105,10 @@ pub record IsWithin (s : SettledView) (m : Measures) : Type 0 where
 -- The law: each tape has measures.
 abbrev pub TapesHaveMeasures : Type 0
 TapesHaveMeasures = (t : TapeView) → HasMeasures t
+
+-- The law: each settled graph has measures.
+abbrev pub SettledGraphsHaveMeasures : Type 0
+SettledGraphsHaveMeasures = (s : SettledView) → HasMeasuresOfSettled s
 
 -- a settled graph is within the measures of its tape
 abbrev pub SettledGraphsAreWithin : Type 0

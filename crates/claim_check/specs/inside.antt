@@ -6,4 +6,3 @@ pub mod Numbers
 pub mod Parts
 pub mod Slots
 pub mod Tables
-pub mod Variables

@@ -1,7 +1,6 @@
 // Claims settled on all inputs, one after another.
-ghost use Rattle.std.specs.Prelude.{◌≡◌, ◌≤◌, ◌<◌, ◌+◌, length, map, slice_get, IfErr, IfOk};
+ghost use Rattle.std.specs.Prelude.{◌≡◌, ◌≤◌, ◌<◌, ◌+◌, length, slice_get, IfErr, IfOk};
 ghost use Rattle.std.specs.Prelude.{MatchOption, OnOk, Some};
-ghost use Rattle.list_facts.specs.Bits.{bit_of};
 ghost use Rattle.revs_tape.specs.Claims.{HoldsEverywhere, IsLeastBreaking};
 ghost use Rattle.revs_tape.specs.Measures.{inputs_of};
 ghost use Rattle.revs_tape.specs.Tapes.{IsTape, claimed};
@@ -13,9 +12,10 @@ ghost use Rattle.claim_check.specs.inside.Labels.{claims_of};
 ghost use Rattle.claim_check.specs.inside.Numbers.{AreSettled, HasNumber, IsLeastOther};
 ghost use Rattle.claim_check.specs.inside.Numbers.{IsScheduleOf, claim_fault};
 ghost use Rattle.claim_check.specs.inside.Slots.{slots_of};
-ghost use Rattle.claim_check.specs.inside.Variables.{AreVariables};
+ghost use Rattle.claim_check.specs.Variables.{AreVariables};
 
 use crate::ClaimFault;
+use crate::assignments::bits_of;
 use crate::numbers::{number_at, number_claim};
 use crate::schedule::{Schedule, schedule_of};
 use decision_diagram::{Dd, DdFault, Diagram};
@@ -41,25 +41,6 @@ fn claim_fault(claim: u32, fault: DdFault) -> ClaimFault
         DdFault::Full { nodes } => ClaimFault::Diagram { claim, nodes },
         DdFault::Memory => ClaimFault::Memory,
     }
-}
-
-// The bit at a place; past the end it is false.
-fn bit_of(bits: &[bool], place: u32) -> bool
-    ensures { result ≡ bit_of bits.now place }
-{
-    bits.get(place as usize).copied().unwrap_or(false)
-}
-
-// The bits of the input that an assignment of the variables gives.
-fn bits_of(alloc: Global, assignment: &[bool], variables: &[u32]) -> Result<Vec<bool>, Memory>
-    ensures { IfOk result (λ bits. bits.items ≡ map (bit_of assignment.now) variables.now) }
-{
-    Ok(
-        variables
-            .iter()
-            .map(|variable| bit_of(assignment, *variable))
-            .collect(alloc)?,
-    )
 }
 
 // The least input on which a function does not give a bit, where there is one.

@@ -1,6 +1,8 @@
 ghost use Rattle.claim_check.specs.Claims.{ClaimsEndInOneWay};
 ghost use Rattle.claim_check.specs.Measures.{BudgetsAreNoGreater, OwnMeasuresAreWithin};
+ghost use Rattle.claim_check.specs.Limits.{LimitsAre};
 ghost use Rattle.claim_check.specs.Measures.{SettledGraphsAreWithin, TapesHaveMeasures};
+ghost use Rattle.claim_check.specs.Measures.{SettledGraphsHaveMeasures};
 
 // Each function here does nothing: its contract is the law.
 
@@ -15,6 +17,16 @@ pub fn claims_end_in_one_way()
 /// some.
 pub fn tapes_have_measures()
     ensures { TapesHaveMeasures }
+{}
+
+/// The law of the measures of settled graphs: each has some.
+pub fn settled_graphs_have_measures()
+    ensures { SettledGraphsHaveMeasures }
+{}
+
+/// The limits of this crate, as numbers.
+pub fn limits_are()
+    ensures { LimitsAre }
 {}
 
 /// The law of settled graphs: each is within the measures of its tape, and within its own.

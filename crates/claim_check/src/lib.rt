@@ -1,6 +1,7 @@
 //! Claims settled on all inputs, and the graph that is left to plan.
 #![tactic(auto)]
 
+mod assignments;
 mod chains;
 mod claims;
 mod fault;
@@ -11,11 +12,12 @@ mod numbers;
 mod schedule;
 mod settled;
 mod settling;
-mod variables;
 
+pub use assignments::{bits_of, variables};
 pub use fault::ClaimFault;
 pub use law::{
-    budgets_are_no_greater, claims_end_in_one_way, settled_graphs_are_within, tapes_have_measures,
+    budgets_are_no_greater, claims_end_in_one_way, limits_are, settled_graphs_are_within,
+    settled_graphs_have_measures, tapes_have_measures,
 };
 pub use settled::Settled;
 pub use settling::settle;

@@ -5,12 +5,13 @@ ghost use Rattle.revs_tape.specs.ClaimFunctions.{operands_of};
 ghost use Rattle.revs_tape.specs.Measures.{inputs_of, writes_of};
 ghost use Rattle.revs_tape.specs.Tapes.{IsTape};
 ghost use Rattle.revs_tape.specs.VariableOrders.{variable_order};
+ghost use Rattle.decision_diagram.specs.Growth.{Computes};
 ghost use Rattle.claim_check.specs.inside.Labels.{claims_of};
-ghost use Rattle.claim_check.specs.inside.Numbers.{AreMade, HasNumber, IsAnswerOf, IsScheduleOf};
+ghost use Rattle.claim_check.specs.inside.Numbers.{AreMade, HasNumber, IsScheduleOf};
 ghost use Rattle.claim_check.specs.inside.Numbers.{PassLimit};
 ghost use Rattle.claim_check.specs.inside.Slots.{IsRefOf, slot_of, slots_of};
 ghost use Rattle.claim_check.specs.inside.Tables.{HoldsOnlyMembers, function_at};
-ghost use Rattle.claim_check.specs.inside.Variables.{AreVariables};
+ghost use Rattle.claim_check.specs.Variables.{AreVariables};
 
 use crate::labels::slot_of;
 use crate::schedule::Schedule;
@@ -52,7 +53,7 @@ fn number_of_write(
     requires size { length numbers.now ≡ slots_of tape.now }
     requires operands { AllByRecursion (HasNumber tape.now diagram.old.nodes numbers.now)
         (operands_of tape.now (Ref.Write write)) }
-    ensures { IsAnswerOf (function_at tape.now (Ref.Write write)) diagram.old diagram.new result }
+    ensures { Computes (function_at tape.now (Ref.Write write)) diagram.old diagram.new result }
 {
     match tape.entry(write) {
         Entry::Const(bit) => Ok(diagram.truth(bit)),
@@ -83,7 +84,7 @@ fn number_of(
         variables.now }
     requires operands { AllByRecursion (HasNumber tape.now diagram.old.nodes numbers.now)
         (operands_of tape.now made) }
-    ensures { IsAnswerOf (function_at tape.now made) diagram.old diagram.new result }
+    ensures { Computes (function_at tape.now made) diagram.old diagram.new result }
 {
     match made {
         Ref::Input(i) => diagram.input(variables[i as usize]),

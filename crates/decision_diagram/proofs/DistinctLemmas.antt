@@ -3,7 +3,7 @@ use Rattle.std.proofs.Common.{◌≡◌, ℕ, suc, ◌<◌, ◌≤◌, Bool, tru
 use Rattle.std.proofs.Common.{eq-eqb, ne_eqb, eqb-true}
 use Rattle.std.proofs.lemmas.Bool.{cases_eq, cases_lt, cases_order, eqb-false}
 use Rattle.decision_diagram.specs.Functions.{Assignment, Function, AreSame}
-use Rattle.decision_diagram.specs.inside.Joining.{Branches, IsInner}
+use Rattle.decision_diagram.specs.inside.Flipping.{Branches, IsInner}
 use Rattle.decision_diagram.specs.Diagrams.{Triple, IsNumber, next_number, side, branch, function_of, first_variable, IsBehind, MayFollow, AreOrdered}
 use Rattle.decision_diagram.proofs.ValueLemmas.{cases_number, function-newest, function-older, first-newest, first-older, branch_behind, first_most, set_at}
 use Rattle.decision_diagram.proofs.ValueLemmas.{set_at-same, set_at-other, function-set_at}

@@ -5,14 +5,13 @@ use Rattle.std.proofs.lemmas.Bool.{cases_lt}
 use Rattle.std.specs.Bool.{xor}
 use Rattle.decision_diagram.specs.declared.node.DdFault.{DdFault}
 use Rattle.decision_diagram.specs.declared.node.DdFault.TheVariants.{Full, Memory}
-use Rattle.decision_diagram.specs.declared.node.Operation.{Operation}
-use Rattle.decision_diagram.specs.declared.node.Operation.TheVariants.{Xor, And}
+use Rattle.decision_diagram.specs.declared.memo.Operands.{Operands}
 use Rattle.decision_diagram.specs.Functions.{Assignment, Function, AreSame, Takes, fixed, ComesFrom}
 use Rattle.decision_diagram.specs.Diagrams.{Triple, DiagramView, IsNumber, next_number, function_of, first_variable, IsBehind, MayFollow, AreOrdered}
 use Rattle.decision_diagram.specs.Diagrams.{IsCanonical}
-use Rattle.decision_diagram.specs.Growth.{KeepsNodes, KeepsFunctions, StandsFor, HoldsAllFrom, IsFullFor, MayRefuse}
-use Rattle.decision_diagram.specs.inside.Joining.{Grows, joined, Splits, node_function}
-use Rattle.decision_diagram.proofs.ValueLemmas.{function-newest, function-older, first-older, branch_behind, function-agree}
+use Rattle.decision_diagram.specs.Growth.{Computes, KeepsNodes, KeepsFunctions, StandsFor, HoldsAllFrom, IsFullFor, MayRefuse}
+use Rattle.decision_diagram.specs.inside.Flipping.{AreBehind, Grows, SplitAll, Splits, flipped_at, node_function}
+use Rattle.decision_diagram.proofs.ValueLemmas.{function-newest, function-older, first-older, function-agree}
 use Rattle.decision_diagram.proofs.DistinctLemmas.{distinct_functions, new_function, first-constant}
 use Rattle.decision_diagram.proofs.RestrictionLemmas.{fixed-below, fixed-from, comes_same, ComesFrom-trans, ComesFrom-same, inner_varies, holds_all}
 
@@ -149,53 +148,48 @@ full_for_node d node canonical follows full =
       };
     }
 
--- a branch comes from the function by fixing all variables up to the node's
-pub function-split : (vars : ℕ) (nodes : List Triple) → AreOrdered vars nodes → (v n low high : ℕ) → Splits vars nodes v n low high
-    → (t : Bool) (a : Assignment)
-    → function_of nodes (if t then high else low) a ≡ function_of nodes n (fixed (suc v) (λ i. t) a)
-function-split vars nodes ordered v n low high splits t a =
-    let there : Assignment = fixed (suc v) (λ i. t) a in
-    let side : IsBehind vars nodes v (if t then high else low) =
-    branch_behind vars nodes (record { variable = v; low = low; high = high }) splits.low_behind splits.high_behind t in
-    function-agree vars nodes ordered (if t then high else low) side.known a there
-    (λ i from within. sym (fixed-from (suc v) (λ k. t) a i (omega (arith, side.behind))))
-    ∙ (ap (λ s. function_of nodes (if s then high else low) there) (sym (fixed-below (suc v) (λ k. t) a v (omega arith)))
-    ∙ sym (splits.same there))
+-- operands with equal parts
+pub flipped-same : (nodes others : List Triple) (o p : Operands) (a b : Assignment) → function_of nodes o.target a ≡ function_of others p.target b
+    → function_of nodes o.left a ≡ function_of others p.left b → function_of nodes o.right a ≡ function_of others p.right b
+    → flipped_at nodes o a ≡ flipped_at others p b
+flipped-same nodes others o p a b target left right = ap₂ xor target (ap₂ ◌&&◌ left right)
 
-pub joined-same : (operation : Operation) (f g h k : Function) (a b : Assignment) → f a ≡ h b → g a ≡ k b
-    → joined operation f g a ≡ joined operation h k b
-joined-same Xor f g h k a b left right = ap₂ xor left right
-joined-same And f g h k a b left right = ap₂ ◌&&◌ left right
+-- operands do not see variables before those that they ask
+flipped-agree : (vars : ℕ) (nodes : List Triple) → AreOrdered vars nodes → (v : ℕ) (o : Operands) → AreBehind vars nodes v o → (a b : Assignment)
+    → ((i : ℕ) → v < i → i < vars → a i ≡ b i) → flipped_at nodes o a ≡ flipped_at nodes o b
+flipped-agree vars nodes ordered v o behind a b agree =
+    flipped-same nodes nodes o o a b
+    (function-agree vars nodes ordered o.target behind.target.known a b (λ i from. agree i (omega (arith, behind.target.behind))))
+    (function-agree vars nodes ordered o.left behind.left.known a b (λ i from. agree i (omega (arith, behind.left.behind))))
+    (function-agree vars nodes ordered o.right behind.right.known a b (λ i from. agree i (omega (arith, behind.right.behind))))
 
--- A join of two numbers, and of their branches at a variable.
-module _ (d : DiagramView) (canonical : IsCanonical d) (operation : Operation) (v f g f_low f_high g_low g_high : ℕ)
-    (f_splits : Splits d.vars d.nodes v f f_low f_high) (g_splits : Splits d.vars d.nodes v g g_low g_high) where
-  pub side_comes : (t : Bool)
-      → ComesFrom (joined operation (function_of d.nodes f) (function_of d.nodes g))
-      (joined operation (function_of d.nodes (if t then f_high else f_low)) (function_of d.nodes (if t then g_high else g_low)))
+-- Operands, and where they go at a variable.
+module _ (d : DiagramView) (canonical : IsCanonical d) (v : ℕ) (o low high : Operands) (split : SplitAll d.vars d.nodes v o low high) where
+  pub side_behind : (t : Bool) → AreBehind d.vars d.nodes v (if t then high else low)
+  side_behind true = split.high_behind
+  side_behind false = split.low_behind
+
+  -- a side comes from the operands by fixing all variables up to the one at which they go apart
+  pub side_comes : (t : Bool) → ComesFrom (flipped_at d.nodes o) (flipped_at d.nodes (if t then high else low))
   side_comes t = record {
     count = suc v;
     bits = λ i. t;
-    same = λ a. joined-same operation (function_of d.nodes (if t then f_high else f_low)) (function_of d.nodes (if t then g_high else g_low))
-        (function_of d.nodes f) (function_of d.nodes g) a (fixed (suc v) (λ i. t) a)
-        (function-split d.vars d.nodes canonical.ordered v f f_low f_high f_splits t a)
-        (function-split d.vars d.nodes canonical.ordered v g g_low g_high g_splits t a);
+    same = λ a.
+        let there : Assignment = fixed (suc v) (λ i. t) a in
+        flipped-agree d.vars d.nodes canonical.ordered v (if t then high else low) (side_behind t) a there
+        (λ i from below. sym (fixed-from (suc v) (λ k. t) a i (omega (arith, from))))
+        ∙ (ap (λ s. flipped_at d.nodes (if s then high else low) there) (sym (fixed-below (suc v) (λ k. t) a v (omega arith)))
+        ∙ sym (split.same there));
   }
 
-  pub node_joins : (nodes : List Triple) (low high : ℕ)
-      → StandsFor nodes low (joined operation (function_of d.nodes f_low) (function_of d.nodes g_low))
-      → StandsFor nodes high (joined operation (function_of d.nodes f_high) (function_of d.nodes g_high))
-      → AreSame (node_function nodes (record { variable = v; low = low; high = high }))
-      (joined operation (function_of d.nodes f) (function_of d.nodes g))
-  node_joins nodes low high at_low at_high = λ a.
-      let sides : (t : Bool) → function_of nodes (if t then high else low) a
-      ≡ joined operation (function_of d.nodes (if t then f_high else f_low)) (function_of d.nodes (if t then g_high else g_low)) a =
-      λ t. elim t as (λ s. function_of nodes (if s then high else low) a
-      ≡ joined operation (function_of d.nodes (if s then f_high else f_low)) (function_of d.nodes (if s then g_high else g_low)) a)
-      [ true ↦ at_high.same a | false ↦ at_low.same a ] in
-      sides (a v) ∙ joined-same operation (function_of d.nodes (if a v then f_high else f_low)) (function_of d.nodes (if a v then g_high else g_low))
-      (function_of d.nodes f) (function_of d.nodes g) a a
-      (sym (f_splits.same a)) (sym (g_splits.same a))
+  pub node_flips : (nodes : List Triple) (at_low at_high : ℕ) → StandsFor nodes at_low (flipped_at d.nodes low)
+      → StandsFor nodes at_high (flipped_at d.nodes high)
+      → AreSame (node_function nodes (record { variable = v; low = at_low; high = at_high })) (flipped_at d.nodes o)
+  node_flips nodes at_low at_high is_low is_high = λ a.
+      let sides : (t : Bool) → function_of nodes (if t then at_high else at_low) a ≡ flipped_at d.nodes (if t then high else low) a =
+      λ t. elim t as (λ s. function_of nodes (if s then at_high else at_low) a ≡ flipped_at d.nodes (if s then high else low) a)
+      [ true ↦ is_high.same a | false ↦ is_low.same a ] in
+      sides (a v) ∙ sym (split.same a)
 
 pub StandsFor-same : (nodes : List Triple) (n : ℕ) (f g : Function) → AreSame f g → StandsFor nodes n f → StandsFor nodes n g
 StandsFor-same nodes n f g same stands = record { known = stands.known; same = λ a. stands.same a ∙ same a }
@@ -255,3 +249,24 @@ pub held_of : (d : DiagramView) (f : Function) (r : Result ℕ DdFault) → IsCa
     → IfOk r (λ h. HoldsAllFrom (function_of d.nodes h) d.nodes)
 held_of d f r canonical ok = ok_from r (λ h. StandsFor d.nodes h f) (λ h. HoldsAllFrom (function_of d.nodes h) d.nodes)
     (λ h stands. holds_all d.vars d.nodes canonical.ordered h stands.known) ok
+
+-- a call that grew the diagram as it was asked computes what it was asked for
+pub computes : (f : Function) (old now : DiagramView) (r : Result ℕ DdFault) → Grows f old now → IfOk r (λ h. StandsFor now.nodes h f)
+    → IfErr r (MayRefuse f now) → Computes f old now r
+computes f old now r grows answer refused = record {
+  canonical = grows.canonical;
+  kept = grows.kept;
+  earlier = keeps_functions old now grows.kept;
+  added = grows.added;
+  answer = answer;
+  held = held_of now f r grows.canonical answer;
+  refused = refused;
+}
+
+-- it computes each function that is the same
+pub computes_same : (f g : Function) (old now : DiagramView) (r : Result ℕ DdFault) → AreSame g f → Computes g old now r → Computes f old now r
+computes_same f g old now r same made =
+    computes f old now r
+    (Grows-same f g old now same (record { canonical = made.canonical; kept = made.kept; added = made.added }))
+    (ok_from r (λ h. StandsFor now.nodes h g) (λ h. StandsFor now.nodes h f) (λ h. StandsFor-same now.nodes h g f same) made.answer)
+    (err_from r (MayRefuse g now) (MayRefuse f now) (MayRefuse-same f g now same) made.refused)

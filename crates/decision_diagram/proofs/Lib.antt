@@ -1,8 +1,9 @@
 pub mod DistinctLemmas
 pub mod GrowthLemmas
-pub mod JoinLemmas
+pub mod FlipLemmas
 pub mod LookupLemmas
 pub mod MemoLemmas
+pub mod NamedLemmas
 pub mod PlaceLemmas
 pub mod RestrictionLemmas
 pub mod ValueLemmas

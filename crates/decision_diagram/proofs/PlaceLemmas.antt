@@ -6,7 +6,7 @@ use Rattle.std.proofs.lemmas.Option.{slice_get_within, get_or_from_slice_get}
 use Rattle.decision_diagram.specs.Functions.{Function}
 use Rattle.decision_diagram.specs.Diagrams.{Triple, DiagramView, IsBehind, next_number, first_variable, MayFollow, AreOrdered, IsCanonical}
 use Rattle.decision_diagram.specs.Growth.{StandsFor, IsFullFor}
-use Rattle.decision_diagram.specs.inside.Joining.{Grows, IsInner, node_function}
+use Rattle.decision_diagram.specs.inside.Flipping.{Grows, IsInner, node_function}
 use Rattle.decision_diagram.proofs.DistinctLemmas.{IsAt, inner_at}
 use Rattle.decision_diagram.proofs.LookupLemmas.{contained_in_reverse}
 use Rattle.decision_diagram.proofs.ValueLemmas.{first-newest}

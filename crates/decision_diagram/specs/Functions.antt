@@ -30,6 +30,10 @@ exclusive_or f g a = xor (f a) (g a)
 abbrev pub conjunction : Function → Function → Function
 conjunction f g a = f a && g a
 
+-- t, flipped where f and g both hold
+abbrev pub flipped : Function → Function → Function → Function
+flipped t f g a = xor (t a) (f a && g a)
+
 -- every assignment gives the bit
 abbrev pub GivesOnly : Function → Bool → Type 0
 GivesOnly f bit = (a : Assignment) → f a ≡ bit

@@ -1,5 +1,5 @@
 -- What a call adds to a diagram, and what its answer and its refusal mean.
-use Rattle.std.specs.Prelude.{◌≡◌, ℕ, ◌<◌, ◌≤◌, List, ◌++◌, length}
+use Rattle.std.specs.Prelude.{◌≡◌, ℕ, ◌<◌, ◌≤◌, List, ◌++◌, length, Result, IfErr, IfOk}
 use Rattle.decision_diagram.specs.declared.node.DdFault.{DdFault}
 use Rattle.decision_diagram.specs.declared.node.DdFault.TheVariants.{Full, Memory}
 use Rattle.decision_diagram.specs.Functions.{Assignment, Function, AreSame, Varies, ComesFrom}
@@ -54,6 +54,17 @@ pub record IsFullFor (f : Function) (d : DiagramView) (nodes : ℕ) : Type 0 whe
 abbrev pub MayRefuse : Function → DiagramView → DdFault → Type 0
 MayRefuse f d (Full nodes) = IsFullFor f d nodes
 MayRefuse f d Memory = length d.nodes < d.limit
+
+-- A call that is asked for f: what it leaves of the diagram and adds to it, and that its answer is the number of f. Each
+-- inner node that it adds comes from f; at an answer these are nodes of f.
+pub record Computes (f : Function) (old now : DiagramView) (result : Result ℕ DdFault) : Type 0 where
+  pub canonical : IsCanonical now
+  pub kept : KeepsNodes old now
+  pub earlier : KeepsFunctions old.nodes now.nodes
+  pub added : AddsOnlyFrom f old.nodes now.nodes
+  pub answer : IfOk result (λ h. StandsFor now.nodes h f)
+  pub held : IfOk result (λ h. HoldsAllFrom (function_of now.nodes h) now.nodes)
+  pub refused : IfErr result (MayRefuse f now)
 
 -- Equal functions have equal numbers.
 abbrev pub EqualFunctionsHaveOneNumber : Type 0

@@ -1,4 +1,5 @@
 pub mod Diagrams
 pub mod Functions
 pub mod Growth
+pub mod Limits
 pub mod inside

@@ -1,3 +1,3 @@
 -- What only private contracts and proofs cite.
-pub mod Joining
+pub mod Flipping
 pub mod Memos

@@ -3,19 +3,22 @@ ghost use Rattle.std.specs.Prelude.{◌≡◌, ◌≤◌, ◌<◌, ◌+◌, ◌�
 ghost use Rattle.std.specs.Prelude.{IsTrue, IsFalse, IfOk, IfErr, OnOk, IfSome, IfNone};
 ghost use Rattle.std.specs.Prelude.{MatchOption, Contains, slice_get, Some, if◌then◌else◌};
 ghost use Rattle.decision_diagram.specs.Functions.{variable_at, exclusive_or, conjunction};
-ghost use Rattle.decision_diagram.specs.Functions.{GivesOnly, Varies, IsLeast, assignment_of};
+ghost use Rattle.decision_diagram.specs.Functions.{flipped, AreSame, GivesOnly, Varies, IsLeast};
+ghost use Rattle.decision_diagram.specs.Functions.{assignment_of};
 ghost use Rattle.decision_diagram.specs.Diagrams.{IsNumber, function_of, first_variable, IsBehind};
 ghost use Rattle.decision_diagram.specs.Diagrams.{MayFollow, IsCanonical};
-ghost use Rattle.decision_diagram.specs.Growth.{KeepsNodes, KeepsFunctions, AddsOnlyFrom};
-ghost use Rattle.decision_diagram.specs.Growth.{StandsFor, HoldsAllFrom, MayRefuse};
+ghost use Rattle.decision_diagram.specs.Growth.{Computes, StandsFor, MayRefuse};
 ghost use Rattle.decision_diagram.specs.Growth.{EqualFunctionsHaveOneNumber, InnerNodesVary};
 ghost use Rattle.decision_diagram.specs.Growth.{FunctionsAskTheVariables, DiagramsHoldWhatComes};
-ghost use Rattle.decision_diagram.specs.inside.Joining.{Grows, joined, IsInner, Splits};
-ghost use Rattle.decision_diagram.specs.inside.Joining.{node_function};
-ghost use Rattle.decision_diagram.specs.inside.Memos.{HoldsJoins};
+ghost use Rattle.decision_diagram.specs.Limits.{LimitsAre};
+ghost use Rattle.decision_diagram.specs.inside.Flipping.{Grows, IsInner, Splits, node_function};
+ghost use Rattle.decision_diagram.specs.inside.Flipping.{AreNumbers, AreBehind, SplitAll};
+ghost use Rattle.decision_diagram.specs.inside.Flipping.{flipped_at, first_asked, total, IsOneOf};
+ghost use Rattle.decision_diagram.specs.inside.Flipping.{IsProduct, AreUnlike};
+ghost use Rattle.decision_diagram.specs.inside.Memos.{HoldsFlips};
 
 use crate::memo::{Operands, note, recalled};
-use crate::node::{Dd, DdFault, Node, Operation};
+use crate::node::{Dd, DdFault, Node};
 use indexmap::{IndexMap, IndexSet};
 use revc_base::Memory;
 use std::alloc::Global;
@@ -77,14 +80,7 @@ impl Diagram {
     /// The function of one variable, by its place in the order, which counts from 0.
     pub fn input(&mut self, var: u32) -> Result<Dd, DdFault>
         requires { var < self.old.vars }
-        ensures canonical { IsCanonical self.new }
-        ensures kept { KeepsNodes self.old self.new }
-        ensures earlier { KeepsFunctions self.old.nodes self.new.nodes }
-        ensures added { AddsOnlyFrom (variable_at var) self.old.nodes self.new.nodes }
-        ensures answer { IfOk result (λ h. StandsFor self.new.nodes h (variable_at var)) }
-        ensures held { IfOk result (λ h.
-            HoldsAllFrom (function_of self.new.nodes h) self.new.nodes) }
-        ensures refused { IfErr result (MayRefuse (variable_at var) self.new) }
+        ensures { Computes (variable_at var) self.old self.new result }
     {
         let (low, high) = (self.truth(false), self.truth(true));
         self.node(var, low, high)
@@ -94,42 +90,44 @@ impl Diagram {
     pub fn xor(&mut self, f: Dd, g: Dd) -> Result<Dd, DdFault>
         requires left { IsNumber self.old.nodes f }
         requires right { IsNumber self.old.nodes g }
-        ensures canonical { IsCanonical self.new }
-        ensures kept { KeepsNodes self.old self.new }
-        ensures earlier { KeepsFunctions self.old.nodes self.new.nodes }
-        ensures added { AddsOnlyFrom
+        ensures { Computes
             (exclusive_or (function_of self.old.nodes f) (function_of self.old.nodes g))
-            self.old.nodes self.new.nodes }
-        ensures answer { IfOk result (λ h. StandsFor self.new.nodes h
-            (exclusive_or (function_of self.old.nodes f) (function_of self.old.nodes g))) }
-        ensures held { IfOk result (λ h.
-            HoldsAllFrom (function_of self.new.nodes h) self.new.nodes) }
-        ensures refused { IfErr result (MayRefuse
-            (exclusive_or (function_of self.old.nodes f) (function_of self.old.nodes g)) self.new) }
+            self.old self.new result }
     {
-        let mut memo = IndexMap::new(*self.nodes.allocator());
-        self.join(&mut memo, Operation::Xor, f, g)
+        let always = self.truth(true);
+        self.flip(f, g, always)
     }
 
     /// The conjunction of two functions.
     pub fn and(&mut self, f: Dd, g: Dd) -> Result<Dd, DdFault>
         requires left { IsNumber self.old.nodes f }
         requires right { IsNumber self.old.nodes g }
-        ensures canonical { IsCanonical self.new }
-        ensures kept { KeepsNodes self.old self.new }
-        ensures earlier { KeepsFunctions self.old.nodes self.new.nodes }
-        ensures added { AddsOnlyFrom
+        ensures { Computes
             (conjunction (function_of self.old.nodes f) (function_of self.old.nodes g))
-            self.old.nodes self.new.nodes }
-        ensures answer { IfOk result (λ h. StandsFor self.new.nodes h
-            (conjunction (function_of self.old.nodes f) (function_of self.old.nodes g))) }
-        ensures held { IfOk result (λ h.
-            HoldsAllFrom (function_of self.new.nodes h) self.new.nodes) }
-        ensures refused { IfErr result (MayRefuse
-            (conjunction (function_of self.old.nodes f) (function_of self.old.nodes g)) self.new) }
+            self.old self.new result }
+    {
+        let never = self.truth(false);
+        self.flip(never, f, g)
+    }
+
+    /// The target flipped where both controls hold, which is the exclusive or of `target` and of
+    /// the conjunction of `left` and `right`. The conjunction gets no number of its own.
+    pub fn flip(&mut self, target: Dd, left: Dd, right: Dd) -> Result<Dd, DdFault>
+        requires target { IsNumber self.old.nodes target }
+        requires left { IsNumber self.old.nodes left }
+        requires right { IsNumber self.old.nodes right }
+        ensures { Computes
+            (flipped (function_of self.old.nodes target) (function_of self.old.nodes left)
+            (function_of self.old.nodes right))
+            self.old self.new result }
     {
         let mut memo = IndexMap::new(*self.nodes.allocator());
-        self.join(&mut memo, Operation::And, f, g)
+        let operands = Operands {
+            target,
+            left,
+            right,
+        };
+        self.flip_by(&mut memo, &operands)
     }
 
     /// The bit that the function always has, if it is constant. It takes no memory.
@@ -176,6 +174,41 @@ impl Diagram {
         true
     }
 
+    /// Whether two functions differ. Where they do, `into`, which has a place for each variable,
+    /// holds the least assignment on which they do, in the order of the variables and false before
+    /// true; variables that neither asks are false in it. Where they do not, `into` is left. It
+    /// takes no memory.
+    pub fn differ(&self, f: Dd, g: Dd, into: &mut [bool]) -> bool
+        requires left { IsNumber self.now.nodes f }
+        requires right { IsNumber self.now.nodes g }
+        requires places { length into.old ≡ self.now.vars }
+        ensures canonical { IsCanonical self.now }
+        ensures found { IsTrue result
+            → IsLeast (exclusive_or (function_of self.now.nodes f) (function_of self.now.nodes g))
+            true (assignment_of into.new) }
+        ensures none { IsFalse result
+            → AreSame (function_of self.now.nodes f) (function_of self.now.nodes g) }
+        ensures unchanged { IsFalse result → into.new ≡ into.old }
+    {
+        let _ = &self.nodes; // shows what every diagram keeps
+        if f == g {
+            return false;
+        }
+        into.fill(false);
+        let (mut left, mut right) = (f, g);
+        let mut variable = self.first(left).min(self.first(right));
+        'walk: while variable < self.vars {
+            let (left_low, left_high) = self.branches(left, variable);
+            let (right_low, right_high) = self.branches(right, variable);
+            let bit = left_low == right_low;
+            into[variable as usize] = bit;
+            left = chosen(bit, left_low, left_high);
+            right = chosen(bit, right_low, right_high);
+            variable = self.first(left).min(self.first(right));
+        }
+        true
+    }
+
     // The node of a number that is no constant.
     fn inner(&self, f: Dd) -> Node
         requires number { IsNumber self.now.nodes f }
@@ -215,68 +248,131 @@ impl Diagram {
         }
     }
 
-    // The join of two functions: of their branches at the first variable that one of them asks. It
-    // goes no deeper than there are variables, and joins a pair again only where the memo could not
-    // note it.
-    fn join(
-        &mut self,
-        memo: &mut IndexMap<Operands, Dd>,
-        operation: Operation,
-        f: Dd,
-        g: Dd,
-    ) -> Result<Dd, DdFault>
-        requires memo { HoldsJoins operation self.old memo.old.entries }
-        requires left { IsNumber self.old.nodes f }
-        requires right { IsNumber self.old.nodes g }
-        ensures grows { Grows
-            (joined operation (function_of self.old.nodes f) (function_of self.old.nodes g))
-            self.old self.new }
-        ensures answer { IfOk result (λ h. StandsFor self.new.nodes h
-            (joined operation (function_of self.old.nodes f) (function_of self.old.nodes g))) }
-        ensures refused { IfErr result (MayRefuse
-            (joined operation (function_of self.old.nodes f) (function_of self.old.nodes g))
-            self.new) }
-        ensures behind { (v : ℕ)
-            → IsBehind self.old.vars self.old.nodes v f → IsBehind self.old.vars self.old.nodes v g
-            → IfOk result (IsBehind self.new.vars self.new.nodes v) }
-        ensures memo { OnOk result (HoldsJoins operation self.new memo.new.entries) }
+    // The first variable that one of the operands asks.
+    fn first_of(&self, operands: &Operands) -> u32
+        requires { AreNumbers self.now.nodes operands.now }
+        ensures { result ≡ first_asked self.now.vars self.now.nodes operands.now }
     {
-        if let Some(settled) = self.settled(operation, f, g) {
-            return Ok(settled);
-        }
-        if let Some(known) = recalled(memo, f, g) {
-            return Ok(known);
-        }
-        let variable = self.first(f).min(self.first(g));
-        let (f_low, f_high) = self.branches(f, variable);
-        let (g_low, g_high) = self.branches(g, variable);
-        let low = self.join(memo, operation, f_low, g_low)?;
-        let high = self.join(memo, operation, f_high, g_high)?;
-        let joined = self.node(variable, low, high)?;
-        note(memo, f, g, joined);
-        Ok(joined)
+        let of_target = self.first(operands.target);
+        of_target
+            .min(self.first(operands.left))
+            .min(self.first(operands.right))
     }
 
-    // The join where no node has to be looked at.
-    fn settled(&self, operation: Operation, f: Dd, g: Dd) -> Option<Dd>
+    // Where the operands go at false and at true of the first variable that one of them asks.
+    fn split(&self, operands: &Operands, variable: u32) -> (Operands, Operands)
+        requires numbers { AreNumbers self.now.nodes operands.now }
+        requires variable { variable < self.now.vars }
+        requires first { variable ≡ first_asked self.now.vars self.now.nodes operands.now }
+        ensures { SplitAll self.now.vars self.now.nodes variable operands.now
+            result.0 result.1 }
+    {
+        let (target_low, target_high) = self.branches(operands.target, variable);
+        let (left_low, left_high) = self.branches(operands.left, variable);
+        let (right_low, right_high) = self.branches(operands.right, variable);
+        let low = Operands {
+            target: target_low,
+            left: left_low,
+            right: right_low,
+        };
+        let high = Operands {
+            target: target_high,
+            left: left_high,
+            right: right_high,
+        };
+        (low, high)
+    }
+
+    // What operands ask for: from their branches at the first variable that one of them asks. It
+    // goes no deeper than there are variables, and flips the same operands again only where the
+    // memo forgot them.
+    fn flip_by(
+        &mut self,
+        memo: &mut IndexMap<Operands, Dd>,
+        operands: &Operands,
+    ) -> Result<Dd, DdFault>
+        requires memo { HoldsFlips self.old memo.old.entries }
+        requires numbers { AreNumbers self.old.nodes operands.now }
+        ensures grows { Grows (flipped_at self.old.nodes operands.now) self.old self.new }
+        ensures answer { IfOk result (λ h.
+            StandsFor self.new.nodes h (flipped_at self.old.nodes operands.now)) }
+        ensures refused { IfErr result
+            (MayRefuse (flipped_at self.old.nodes operands.now) self.new) }
+        ensures behind { (v : ℕ) → AreBehind self.old.vars self.old.nodes v operands.now
+            → IfOk result (IsBehind self.new.vars self.new.nodes v) }
+        ensures memo { OnOk result (HoldsFlips self.new memo.new.entries) }
+    {
+        if let Some(settled) = self.settled(operands) {
+            return Ok(settled);
+        }
+        if let Some(known) = recalled(memo, operands) {
+            return Ok(known);
+        }
+        let variable = self.first_of(operands);
+        let (at_low, at_high) = self.split(operands, variable);
+        let low = self.flip_by(memo, &at_low)?;
+        let high = self.flip_by(memo, &at_high)?;
+        let flipped = self.node(variable, low, high)?;
+        note(memo, operands, flipped);
+        Ok(flipped)
+    }
+
+    // What operands ask for where no node has to be looked at.
+    fn settled(&self, operands: &Operands) -> Option<Dd>
+        requires { AreNumbers self.now.nodes operands.now }
+        ensures canonical { IsCanonical self.now }
+        ensures stands { IfSome result (λ h.
+            StandsFor self.now.nodes h (flipped_at self.now.nodes operands.now)) }
+        ensures one_of { IfSome result (IsOneOf operands.now) }
+        ensures none { IfNone result (3 < total operands.now) }
+    {
+        let product = self.product(operands.left, operands.right)?;
+        self.sum(operands.target, product)
+    }
+
+    // The conjunction of two functions where no node has to be looked at.
+    fn product(&self, f: Dd, g: Dd) -> Option<Dd>
         requires left { IsNumber self.now.nodes f }
         requires right { IsNumber self.now.nodes g }
         ensures canonical { IsCanonical self.now }
         ensures stands { IfSome result (λ h. StandsFor self.now.nodes h
-            (joined operation (function_of self.now.nodes f) (function_of self.now.nodes g))) }
-        ensures one_of { IfSome result (λ h. (h ≡ f) ⊎ ((h ≡ g) ⊎ (h < 2))) }
-        ensures none { IfNone result (2 < f + g) }
+            (conjunction (function_of self.now.nodes f) (function_of self.now.nodes g))) }
+        ensures one_of { IfSome result (IsProduct f g) }
+        ensures none { IfNone result (3 < f + g) }
     {
         let _ = &self.nodes; // shows what every diagram keeps
         let (no, yes) = (self.truth(false), self.truth(true));
-        match operation {
-            Operation::Xor if f == g => Some(no),
-            Operation::Xor if f == no => Some(g),
-            Operation::Xor if g == no => Some(f),
-            Operation::And if f == g || g == yes => Some(f),
-            Operation::And if f == yes => Some(g),
-            Operation::And if f == no || g == no => Some(no),
-            _ => None,
+        if f == no || g == no {
+            Some(no)
+        } else if f == g || g == yes {
+            Some(f)
+        } else if f == yes {
+            Some(g)
+        } else {
+            None
+        }
+    }
+
+    // The exclusive or of two functions where no node has to be looked at.
+    fn sum(&self, f: Dd, g: Dd) -> Option<Dd>
+        requires left { IsNumber self.now.nodes f }
+        requires right { IsNumber self.now.nodes g }
+        ensures canonical { IsCanonical self.now }
+        ensures stands { IfSome result (λ h. StandsFor self.now.nodes h
+            (exclusive_or (function_of self.now.nodes f) (function_of self.now.nodes g))) }
+        ensures one_of { IfSome result (λ h. (h ≡ f) ⊎ ((h ≡ g) ⊎ (h ≡ 0))) }
+        ensures none { IfNone result (AreUnlike f g) }
+    {
+        let _ = &self.nodes; // shows what every diagram keeps
+        let no = self.truth(false);
+        if f == g {
+            Some(no)
+        } else if f == no {
+            Some(g)
+        } else if g == no {
+            Some(f)
+        } else {
+            None
         }
     }
 
@@ -330,6 +426,13 @@ impl Diagram {
     }
 }
 
+// The one of two numbers to which a bit goes.
+fn chosen(bit: bool, low: Dd, high: Dd) -> Dd
+    ensures { result ≡ (if bit then high else low) }
+{
+    if bit { high } else { low }
+}
+
 // Where a node stands among these.
 fn place_of(nodes: &IndexSet<Node>, node: Node) -> Option<usize>
     ensures { MatchOption result (Contains nodes.now.keys node → ⊥)
@@ -346,4 +449,9 @@ pub fn canonical()
     ensures inner { InnerNodesVary }
     ensures asks { FunctionsAskTheVariables }
     ensures held { DiagramsHoldWhatComes }
+{}
+
+/// The limits of this crate, as numbers.
+pub fn limits_are()
+    ensures { LimitsAre }
 {}

@@ -1,39 +1,50 @@
-// What one call has joined so far: from pairs of numbers to results.
-ghost use Rattle.std.specs.Prelude.{◌≡◌, ◌≤◌, ◌<◌, ◌⊎◌, length};
+// What one call has flipped so far: from operands to results.
+ghost use Rattle.std.specs.Prelude.{◌≡◌, ◌≤◌, ◌<◌, ◌⊎◌, length, [], Some};
 ghost use Rattle.indexmap.specs.IndexMap.{spare};
-ghost use Rattle.decision_diagram.specs.declared.memo.TheConstants.{MOST_PAIRS};
-ghost use Rattle.decision_diagram.specs.inside.Memos.{recalled_from, Notes};
+ghost use Rattle.decision_diagram.specs.declared.memo.TheConstants.{MOST_RESULTS};
+ghost use Rattle.decision_diagram.specs.inside.Memos.{recalled_from, KeepsOrNotes, StaysOrIsEmptied};
 
 use crate::node::Dd;
 use indexmap::IndexMap;
 
-/// The most pairs that a memo holds. A pair that finds it full is computed again.
-pub const MOST_PAIRS: usize = 1_000_000;
+/// The most results that a memo holds. One that is full is emptied before the next is noted.
+pub const MOST_RESULTS: usize = 1_000_000;
 
-// The two numbers that are joined.
+// The number that is flipped, and the two under which it is.
 #[derive(Clone, Copy, PartialEq, Eq, Hash)]
 pub struct Operands {
+    pub target: Dd,
     pub left: Dd,
     pub right: Dd,
 }
 
-// The result for a pair, where it is known.
-pub fn recalled(memo: &IndexMap<Operands, Dd>, f: Dd, g: Dd) -> Option<Dd>
-    ensures { result ≡ recalled_from memo.now.entries f g }
+// The result for these operands, where it is known.
+pub fn recalled(memo: &IndexMap<Operands, Dd>, operands: &Operands) -> Option<Dd>
+    ensures { result ≡ recalled_from memo.now.entries operands.now }
 {
-    memo.get(&Operands { left: f, right: g }).copied()
+    memo.get(operands).copied()
 }
 
-// Notes a result. Where the memo is full, or gets no memory, it stays as it is.
-pub fn note(memo: &mut IndexMap<Operands, Dd>, f: Dd, g: Dd, joined: Dd)
-    requires { length memo.old.entries ≤ MOST_PAIRS }
-    ensures most { length memo.new.entries ≤ MOST_PAIRS }
-    ensures noted { (memo.new.entries ≡ memo.old.entries)
-        ⊎ Notes f g joined memo.old.entries memo.new.entries }
-    ensures room { length memo.old.entries < MOST_PAIRS → 0 < spare memo.old
-        → Notes f g joined memo.old.entries memo.new.entries }
+// Notes a result, in an emptied memo where it was full. Where the memo gets no memory nothing is
+// noted.
+pub fn note(memo: &mut IndexMap<Operands, Dd>, operands: &Operands, flipped: Dd)
+    requires { length memo.old.entries ≤ MOST_RESULTS }
+    ensures most { length memo.new.entries ≤ MOST_RESULTS }
+    ensures noted { KeepsOrNotes operands.now flipped memo.old.entries memo.new.entries }
+    ensures room { 0 < spare memo.old → recalled_from memo.new.entries operands.now ≡ Some flipped }
 {
-    if memo.len() < MOST_PAIRS {
-        let _ = memo.insert(Operands { left: f, right: g }, joined);
+    make_room(memo);
+    let _ = memo.insert(*operands, flipped);
+}
+
+// Empties a memo that is full.
+fn make_room(memo: &mut IndexMap<Operands, Dd>)
+    requires { length memo.old.entries ≤ MOST_RESULTS }
+    ensures few { length memo.new.entries < MOST_RESULTS }
+    ensures kept { StaysOrIsEmptied memo.old.entries memo.new.entries }
+    ensures room { spare memo.old ≤ spare memo.new }
+{
+    if memo.len() == MOST_RESULTS {
+        memo.clear();
     }
 }

@@ -79,10 +79,3 @@ impl Node {
         if bit { self.high } else { self.low }
     }
 }
-
-// How two functions are joined.
-#[derive(Clone, Copy)]
-pub enum Operation {
-    Xor,
-    And,
-}

@@ -20,7 +20,7 @@ use Rattle.dependency_graph.specs.declared.node.Node.TheVariants.{Not, Xor, And}
 use Rattle.dependency_graph.specs.declared.node.Sig.TheVariants.{Is}
 use Rattle.dependency_graph.specs.Graphs.{AreKnownNodes, IsKnownBase, IsKnownNode, operands}
 use Rattle.exclusive_sums.specs.Limits.{IsPolynomialUpTo}
-use Rattle.held_nodes.proofs.ValueLemmas.{known_at, value_of_node}
+use Rattle.claim_check.proofs.NodeLemmas.{known_at, value_of_node}
 use Rattle.list_facts.specs.Bits.{bit_of}
 use Rattle.revs_tape.specs.Monomials.{AreMonomialsOf}
 use Rattle.revs_tape.specs.Polynomials.{IsPolynomial, IsPolynomialOf, value_of_polynomial}

@@ -18,4 +18,4 @@ pub use fault::SplitFault;
 pub use law::{clean_circuits_borrow, narrow_stay, roomy_flips_are_split, split_costs};
 pub use plan::{Budget, Laid, MOST_BORROWED, MOST_GATES, MOST_LINES, PlanFault, Planned};
 pub use roles::{Role, Roles};
-pub use walk::{Narrow, split};
+pub use walk::{Narrow, is_narrow, split};

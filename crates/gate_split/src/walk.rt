@@ -119,8 +119,8 @@ fn push_copy(narrow: &mut Circuit, gate: &Gate) -> Result<(), GateFault>
     narrow.push(copy)
 }
 
-// Whether the gate is a flip with at most two controls, all positive.
-fn is_narrow(gate: &Gate) -> bool
+/// Whether the gate is a flip with at most two controls, all positive. It takes no memory.
+pub fn is_narrow(gate: &Gate) -> bool
     ensures { IsTrue result ↔ IsNarrow gate.now }
 {
     match gate.op() {

@@ -10,4 +10,3 @@ pub mod NarrowLemmas
 pub mod PlaceLemmas
 pub mod SetLemmas
 pub mod StepLemmas
-pub mod ValueLemmas

@@ -23,7 +23,7 @@ use Rattle.held_nodes.specs.inside.Kept.{IsPlacedBase}
 use Rattle.held_nodes.proofs.ContentLemmas.{AddsValue, all_lines, length-all_lines, input_bit, work_bit, set_work}
 use Rattle.held_nodes.proofs.LineLemmas.{AreOnDifferent, held_within}
 use Rattle.held_nodes.proofs.SetLemmas.{ShowOperands, toggle_sets}
-use Rattle.held_nodes.proofs.ValueLemmas.{values_on, value_of_node}
+use Rattle.claim_check.proofs.NodeLemmas.{values_on, value_of_node}
 
 -- ---- flips of few controls
 

@@ -26,7 +26,7 @@ use Rattle.held_nodes.specs.inside.Kept.{HasNoLineFor, IsKept, IsLineAfter, IsLi
 use Rattle.held_nodes.proofs.ForwardLemmas.{AddNode, forward_put, forward_given}
 use Rattle.held_nodes.proofs.LineLemmas.{held_taken, held_within, least_free, out-taken, out-given, not_free, count-put, count-given}
 use Rattle.held_nodes.proofs.PlaceLemmas.{CanToggleOn, toggle_adds, toggle_roomy}
-use Rattle.held_nodes.proofs.ValueLemmas.{known_at}
+use Rattle.claim_check.proofs.NodeLemmas.{known_at}
 
 -- ---- weights
 

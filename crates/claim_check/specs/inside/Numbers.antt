@@ -1,6 +1,6 @@
 -- The numbers of inputs and writes in a diagram, in a table with a slot for each.
 use Rattle.std.specs.Prelude.{◌≡◌, ℕ, ◌+◌, ◌<◌, ◌≤◌, ◌⊎◌, List, length, slice_index, map}
-use Rattle.std.specs.Prelude.{not, Bool, Result, IfOk, IfErr}
+use Rattle.std.specs.Prelude.{not, Bool}
 use Rattle.revs_tape.specs.declared.tape.Ref.{Ref}
 use Rattle.revs_tape.specs.ClaimFunctions.{HasAtMost, HasMore}
 use Rattle.revs_tape.specs.Measures.{inputs_of}
@@ -8,9 +8,9 @@ use Rattle.revs_tape.specs.Tapes.{TapeView}
 use Rattle.revs_tape.specs.VariableOrders.{variable_order}
 use Rattle.decision_diagram.specs.declared.node.DdFault.{DdFault}
 use Rattle.decision_diagram.specs.declared.node.DdFault.TheVariants as faults
-use Rattle.decision_diagram.specs.Diagrams.{DiagramView, IsCanonical, Triple}
+use Rattle.decision_diagram.specs.Diagrams.{DiagramView, Triple}
 use Rattle.decision_diagram.specs.Functions.{Assignment, Function, IsLeast}
-use Rattle.decision_diagram.specs.Growth.{AddsOnlyFrom, KeepsNodes, MayRefuse, StandsFor}
+use Rattle.decision_diagram.specs.Growth.{StandsFor}
 use Rattle.claim_check.specs.Claims.{HoldBefore}
 use Rattle.claim_check.specs.declared.fault.ClaimFault.{ClaimFault}
 use Rattle.claim_check.specs.declared.fault.ClaimFault.TheVariants as claim_faults
@@ -19,7 +19,7 @@ use Rattle.claim_check.specs.inside.Chains.{AreChains}
 use Rattle.claim_check.specs.inside.Labels.{AreLabels, claims_of, label_of}
 use Rattle.claim_check.specs.inside.Slots.{IsRefOf, slot_of, slots_of}
 use Rattle.claim_check.specs.inside.Tables.{HoldsOnlyMembers, function_at}
-use Rattle.claim_check.specs.inside.Variables.{AreVariables}
+use Rattle.claim_check.specs.Variables.{AreVariables}
 
 -- ---- the order of the work
 
@@ -52,15 +52,6 @@ pub record AreMade (t : TapeView) (labels : List ℕ) (number slot : ℕ) (nodes
   pub size : length numbers ≡ slots_of t
   pub made : (ref : Ref) → IsRefOf t ref → ComesBefore t labels number slot ref
       → HasNumber t nodes numbers ref
-
--- What a diagram that is asked for a function adds, and its answer.
-pub record IsAnswerOf (f : Function) (old new : DiagramView) (answer : Result ℕ DdFault)
-    : Type 0 where
-  pub canonical : IsCanonical new
-  pub kept : KeepsNodes old new
-  pub added : AddsOnlyFrom f old.nodes new.nodes
-  pub number : IfOk answer (λ n. StandsFor new.nodes n f)
-  pub refused : IfErr answer (MayRefuse f new)
 
 -- the slot has the label, or is the end
 pub record HasLabel (labels : List ℕ) (label slot : ℕ) : Type 0 where

@@ -1,22 +1,20 @@
 -- What a diagram's numbers stand for while the claims of a tape are settled.
-use Rattle.std.specs.Prelude.{◌≡◌, ℕ, ◌≤◌, Bool, List, map}
-use Rattle.list_facts.specs.Bits.{zeros}
-use Rattle.list_facts.specs.Lists.{below}
+use Rattle.std.specs.Prelude.{◌≡◌, ℕ, ◌≤◌, Bool, List}
 use Rattle.revs_tape.specs.declared.tape.Ref.{Ref}
-use Rattle.revs_tape.specs.ClaimFunctions.{IsBase, IsMember, Restriction, value_on, with_fixed}
+use Rattle.revs_tape.specs.ClaimFunctions.{IsBase, IsMember, Restriction, value_on}
 use Rattle.revs_tape.specs.Measures.{inputs_of}
 use Rattle.revs_tape.specs.Tapes.{TapeView, bit_on}
 use Rattle.revs_tape.specs.VariableOrders.{variable_order}
 use Rattle.decision_diagram.specs.Diagrams.{DiagramView, IsCanonical, IsNumber, Triple, function_of}
 use Rattle.decision_diagram.specs.Functions.{AreSame, Assignment, Function}
 use Rattle.decision_diagram.specs.Growth.{StandsFor}
+use Rattle.claim_check.specs.Variables.{bits_at}
 
 -- ---- functions over the variables
 
 -- the input that an assignment of the variables gives
 abbrev pub input_at : TapeView → Assignment → List Bool
-input_at t a =
-    with_fixed (variable_order t.params) (map a (below (inputs_of t))) (zeros (inputs_of t))
+input_at t a = bits_at (inputs_of t) (variable_order t.params) a
 
 -- the function of a reference over the variables
 abbrev pub function_at : TapeView → Ref → Function

@@ -72,7 +72,7 @@ chain-preserved c =
     (c.requires.schedule.chains.nexts c.chain.slot (omega arith) inside)) in
     let one : AreMade t labels c.args.claim (c.chain.slot + 1) new.nodes (set c.chain.numbers c.chain.slot h) =
     made_one t labels c.args.claim c.chain.slot new.nodes c.chain.numbers h ref c.ref_at-made.ensures.known c.ref_at-made.ensures.slot
-    (omega (arith, inside, size)) c.in_ok-numbers.ensures.number
+    (omega (arith, inside, size)) c.in_ok-numbers.ensures.answer
     (made_kept t labels c.args.claim c.chain.slot old new c.chain.numbers c.number_of.ensures.kept c.chain.invariant.1) in (
       added t (c.args.claim + 1) ref (function_at t ref) old new c.chain.invariant.0 base (λ a. refl)
           c.number_of.ensures.canonical c.number_of.ensures.kept c.number_of.ensures.added,

@@ -16,12 +16,10 @@ pub returns-in-Xor : goal.returns-in-Xor
 returns-in-Xor c =
     answer_xor c.args.tape.now c.requires.tape c.args.write c.entry.result c.in-Xor.a c.in-Xor.b c.args.diagram.now c.xor.new.self
     c.args.numbers.now c.number_at-f.result c.number_at-g.result c.xor.result c.entry.ensures c.in-Xor.is
-    c.number_at-f.ensures c.number_at-g.ensures c.requires.operands c.xor.ensures.canonical c.xor.ensures.kept c.xor.ensures.added
-    c.xor.ensures.answer c.xor.ensures.refused
+    c.number_at-f.ensures c.number_at-g.ensures c.requires.operands c.xor.ensures
 
 pub returns-in-And : goal.returns-in-And
 returns-in-And c =
     answer_and c.args.tape.now c.requires.tape c.args.write c.entry.result c.in-And.a c.in-And.b c.args.diagram.now c.and.new.self
     c.args.numbers.now c.number_at-f-in-And.result c.number_at-g-in-And.result c.and.result c.entry.ensures c.in-And.is
-    c.number_at-f-in-And.ensures c.number_at-g-in-And.ensures c.requires.operands c.and.ensures.canonical c.and.ensures.kept
-    c.and.ensures.added c.and.ensures.answer c.and.ensures.refused
+    c.number_at-f-in-And.ensures c.number_at-g-in-And.ensures c.requires.operands c.and.ensures

@@ -1,7 +1,7 @@
 use Rattle.std.proofs.Common.{◌≡◌, ℕ, ◌+◌, ◌-◌, ◌<◌, List, get_or, length, reverse, arith, sym, subst}
 use Rattle.std.proofs.lemmas.List.{length-reverse}
 use Rattle.decision_diagram.specs.Diagrams.{Triple, DiagramView}
-use Rattle.decision_diagram.specs.inside.Joining.{IsInner}
+use Rattle.decision_diagram.specs.inside.Flipping.{IsInner}
 use Rattle.decision_diagram.proofs.PlaceLemmas.{inner_at_place}
 use Rattle.decision_diagram.proofs.diagram.Diagram.inner.Goals as goal
 

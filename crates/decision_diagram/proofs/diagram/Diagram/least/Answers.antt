@@ -4,7 +4,7 @@ use Rattle.decision_diagram.specs.Diagrams.{Triple, DiagramView, IsCanonical}
 use Rattle.decision_diagram.specs.Functions.{assignment_of}
 use Rattle.decision_diagram.proofs.ValueLemmas.{first_most, set_at}
 use Rattle.decision_diagram.proofs.RestrictionLemmas.{small_from}
-use Rattle.decision_diagram.proofs.WalkLemmas.{Underway, walk_steps, walk_ends, assignment-set}
+use Rattle.decision_diagram.proofs.WalkLemmas.{UnderwayTo, walk_steps, walk_ends, assignment-set}
 use Rattle.decision_diagram.proofs.diagram.Diagram.least.Goals as goal
 
 pub bounds-into-node-inside : goal.bounds-into-node-inside
@@ -26,7 +26,7 @@ walk-preserved c =
     let within : c.node.inside.variable < length c.walk.into =
     omega (arith, below, c.inner-node.ensures.branches.low.behind, here, c.fill.ensures.len, c.requires.places) in
     let after : Assignment = assignment_of (slice_set c.walk.into c.node.inside.variable c.eq-bit.result) in
-    subst (λ (n : ℕ). Underway d.vars d.nodes c.args.f c.args.want n after) (sym c.side-at.ensures)
+    subst (λ (n : ℕ). UnderwayTo d.vars d.nodes c.args.f c.args.want n after) (sym c.side-at.ensures)
     (walk_steps d.vars d.nodes c.args.f c.args.want c.walk.at (assignment_of c.walk.into) c.walk.invariant
     node c.inner-node.ensures c.truth-never.result (c.truth-never.ensures.number)
     c.eq-bit.result (c.eq-bit.ensures ∙ ap (λ k. nat_eq k c.truth-never.result) low) after

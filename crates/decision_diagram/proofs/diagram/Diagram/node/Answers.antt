@@ -1,7 +1,7 @@
 use Rattle.std.proofs.Common.{arith, eqb-true, subst, sym, ◌∙◌}
 use Rattle.std.proofs.lemmas.Bool.{eq-eqb, true≢false}
 use Rattle.decision_diagram.specs.Diagrams.{Triple, DiagramView, IsCanonical}
-use Rattle.decision_diagram.specs.inside.Joining.{node_function}
+use Rattle.decision_diagram.specs.inside.Flipping.{node_function}
 use Rattle.decision_diagram.proofs.GrowthLemmas.{Grows-refl, ok_from, one_side}
 use Rattle.decision_diagram.proofs.PlaceLemmas.{found_inner, node_follows}
 use Rattle.decision_diagram.proofs.diagram.Diagram.node.Goals as goal

@@ -2,7 +2,7 @@ use Rattle.std.proofs.Common.{◌∙◌, ◌+◌, ap, length, Contains, subst, s
 use Rattle.std.proofs.lemmas.List.{length-reverse}
 use Rattle.revc_base.proofs.ResultLemmas.{no_value, passes_on}
 use Rattle.decision_diagram.specs.Diagrams.{DiagramView, IsCanonical}
-use Rattle.decision_diagram.specs.inside.Joining.{node_function}
+use Rattle.decision_diagram.specs.inside.Flipping.{node_function}
 use Rattle.decision_diagram.proofs.GrowthLemmas.{Grows-refl}
 use Rattle.decision_diagram.proofs.LookupLemmas.{new_goes_last}
 use Rattle.decision_diagram.proofs.PlaceLemmas.{push_grows, push_fails, push_stands, push_full}

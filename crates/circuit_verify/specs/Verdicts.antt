@@ -1,0 +1,99 @@
+-- What is said of a circuit that is compared with a program.
+use Rattle.std.specs.Prelude.{◌≡◌, ◌≢◌, ℕ, ◌<◌, ◌≤◌, Bool, List, ◌∷◌, ◌++◌, length}
+use Rattle.list_facts.specs.Bits.{bit_of}
+use Rattle.revs_tape.specs.Tapes.{TapeView}
+use Rattle.revs_tape.specs.VariableOrders.{IsBefore}
+use Rattle.claim_check.specs.Settled.{SettledView, IsSettledOf}
+use Rattle.mct_circuit.specs.Gates.{CircuitView, GateView, IsNarrow, AreNarrow, line_map}
+use Rattle.circuit_verify.specs.declared.fault.VerifyFault.{VerifyFault}
+use Rattle.circuit_verify.specs.declared.fault.VerifyFault.TheVariants as faults
+use Rattle.circuit_verify.specs.Comparisons.{Comparison, Agrees, AreBitsFor, least_lines}
+use Rattle.circuit_verify.specs.Comparisons.{of_settled, of_tape, order_in, start_on, wanted_on}
+use Rattle.circuit_verify.specs.LineFunctions.{HasMore}
+
+-- ---- what can be compared
+
+-- the circuit has a line for each input, each output and each borrowed line
+abbrev pub HasEnoughLines : Comparison → Type 0
+HasEnoughLines q = least_lines q ≤ q.circuit.lines
+
+-- the circuit has enough lines, and its gates are flips with at most two controls, all positive
+pub record IsComparable (q : Comparison) : Type 0 where
+  pub lines : HasEnoughLines q
+  pub narrow : AreNarrow q.circuit.gates
+
+-- the gate at this place, counted from 0, is the first that is no such flip
+pub record IsFirstWide (gates : List GateView) (at : ℕ) : Type 0 where
+  pub before : List GateView
+  pub wide : GateView
+  pub behind : List GateView
+  pub cut : gates ≡ before ++ wide ∷ behind
+  pub count : length before ≡ at
+  pub narrow : AreNarrow before
+  pub is_wide : ¬ IsNarrow wide
+
+-- ---- where the circuit differs
+
+-- on these bits a line ends with the bit that it should have
+abbrev pub IsRightOn : Comparison → ℕ → List Bool → Type 0
+IsRightOn q line bits =
+    bit_of (line_map q.circuit.gates (start_on q bits)) line ≡ bit_of (wanted_on q bits) line
+
+-- a line always ends with the bit that it should have
+abbrev pub IsRight : Comparison → ℕ → Type 0
+IsRight q line = (bits : List Bool) → AreBitsFor q bits → IsRightOn q line bits
+
+-- This line, counted from 0, is the first that is not always right, and these bits are the least on which it is not, in
+-- the order of the variables and false before true.
+pub record DiffersFirst (q : Comparison) (line : ℕ) (bits : List Bool) : Type 0 where
+  pub in_range : line < q.circuit.lines
+  pub before : (earlier : ℕ) → earlier < line → IsRight q earlier
+  pub are_bits : AreBitsFor q bits
+  pub differs : ¬ IsRightOn q line bits
+  pub least : (other : List Bool) → AreBitsFor q other → IsBefore (order_in q) other bits
+      → IsRightOn q line other
+
+-- ---- verdicts
+
+-- the circuit can be compared, and agrees with the program
+pub record IsVerified (q : Comparison) : Type 0 where
+  pub comparable : IsComparable q
+  pub agrees : Agrees q
+
+-- why a circuit is not verified; memory is wanted only for a circuit that can be compared
+abbrev pub IsVerifyFault : Comparison → ℕ → VerifyFault → Type 0
+IsVerifyFault q limit (faults.Lines need) = (q.circuit.lines < need) × (need ≡ least_lines q)
+IsVerifyFault q limit (faults.Gate gate) = HasEnoughLines q × IsFirstWide q.circuit.gates gate
+IsVerifyFault q limit (faults.Diagram nodes) = IsComparable q × HasMore q limit × (nodes ≡ limit)
+IsVerifyFault q limit (faults.Differs line bits) = IsComparable q × DiffersFirst q line bits
+IsVerifyFault q limit faults.Memory = IsComparable q
+
+-- ---- laws
+
+-- a circuit that is verified differs nowhere and has no wide gate, and what is named is the only one
+pub record EndsInOneWay (q : Comparison) : Type 0 where
+  pub no_gate : (gate : ℕ) → AreNarrow q.circuit.gates → IsFirstWide q.circuit.gates gate → ⊥
+  pub one_gate : (gate other : ℕ) → IsFirstWide q.circuit.gates gate
+      → IsFirstWide q.circuit.gates other → gate ≡ other
+  pub no_difference : (line : ℕ) (bits : List Bool) → Agrees q → DiffersFirst q line bits → ⊥
+  pub one_difference : (line other : ℕ) (bits others : List Bool)
+      → DiffersFirst q line bits → DiffersFirst q other others
+      → (line ≡ other) × (bits ≡ others)
+
+-- The law: a comparison ends in one way.
+abbrev pub ComparisonsEndInOneWay : Type 0
+ComparisonsEndInOneWay = (q : Comparison) → EndsInOneWay q
+
+-- what is said of the settled graph of a tape is said of the tape
+pub record IsSaidOfTape (t : TapeView) (s : SettledView) (c : CircuitView) (borrow limit : ℕ)
+    : Type 0 where
+  pub verified : IsVerified (record { program = of_settled t.params s; circuit = c; borrow = borrow })
+      → IsVerified (record { program = of_tape t; circuit = c; borrow = borrow })
+  pub refused : (fault : VerifyFault)
+      → IsVerifyFault (record { program = of_settled t.params s; circuit = c; borrow = borrow }) limit fault
+      → IsVerifyFault (record { program = of_tape t; circuit = c; borrow = borrow }) limit fault
+
+-- The law: what is said of settled graphs is said of their tapes, whose steps are the writes.
+abbrev pub SaidOfTapes : Type 0
+SaidOfTapes = (t : TapeView) (s : SettledView) → IsSettledOf t s
+    → (c : CircuitView) (borrow limit : ℕ) → IsSaidOfTape t s c borrow limit

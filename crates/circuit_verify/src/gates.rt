@@ -1,0 +1,20 @@
+// The gates of a circuit that is to be verified.
+ghost use Rattle.std.specs.Prelude.{MatchOption};
+ghost use Rattle.mct_circuit.specs.Gates.{AreNarrow};
+ghost use Rattle.circuit_verify.specs.Verdicts.{IsFirstWide};
+
+use crate::narrow::is_narrow;
+use mct_circuit::Gate;
+
+// The first gate that is no flip with at most two controls, all positive.
+#[tactic(auto, using(crate::proofs::GateLemmas::first_wide))]
+pub fn first_wide(gates: &[Gate]) -> Option<u64>
+    ensures { MatchOption result (AreNarrow gates.now) (IsFirstWide gates.now) }
+{
+    for (at, gate) in gates.iter().enumerate() {
+        if !is_narrow(gate) {
+            return Some(at as u64);
+        }
+    }
+    None
+}

@@ -1,0 +1,92 @@
+// A circuit against a settled graph.
+ghost use Rattle.std.specs.Prelude.{◌≡◌, ◌≤◌, sum, IfErr, OnOk};
+ghost use Rattle.revs_tape.specs.Tapes.{AreWidths};
+ghost use Rattle.gate_split.specs.declared.plan.TheConstants.{MOST_BORROWED};
+ghost use Rattle.circuit_verify.specs.Comparisons.{of_settled};
+ghost use Rattle.circuit_verify.specs.Verdicts.{IsVerified, IsVerifyFault, IsComparable};
+
+use crate::VerifyFault;
+use crate::gates::first_wide;
+use claim_check::Settled;
+use mct_circuit::Circuit;
+use std::alloc::Global;
+
+/// Verifies that a circuit computes the outputs of a settled graph, whose inputs are the bits of
+/// parameters of these widths: on every input, with 0 on the output lines and the work lines and
+/// whatever the last `borrow` lines hold, the outputs come to stand on the output lines, and every
+/// other line is left as it was. The lines are those of the inputs, then those of the outputs, then
+/// the work lines, then the borrowed ones.
+///
+/// `limit` bounds the inner nodes of the decision diagram of all functions that the nodes and the
+/// lines come to hold. One gate is one call of the diagram.
+///
+/// # Errors
+///
+/// In this order: `Lines` exactly where there are too few, `Gate` exactly where a gate is no flip
+/// with at most two controls, all positive, `Diagram` only where the functions are more than the
+/// limit, `Differs` exactly where a line ends with another bit than it should. `Memory` comes only
+/// where neither of the first two does.
+pub fn verify(
+    alloc: Global,
+    s: &Settled,
+    params: &[u32],
+    c: &Circuit,
+    borrow: u32,
+    limit: u32,
+) -> Result<(), VerifyFault>
+    requires widths { AreWidths params.now }
+    requires inputs { sum params.now ≡ s.now.inputs }
+    requires borrow { borrow ≤ MOST_BORROWED }
+    requires some { 1 ≤ limit }
+    ensures verified { OnOk result (IsVerified (record {
+      program = of_settled params.now s.now;
+      circuit = c.now;
+      borrow = borrow;
+    })) }
+    ensures refused { IfErr result (IsVerifyFault (record {
+      program = of_settled params.now s.now;
+      circuit = c.now;
+      borrow = borrow;
+    }) limit) }
+{
+    let need = s.inputs() + s.outputs().len() as u32 + borrow;
+    if c.lines() < need {
+        return Err(VerifyFault::Lines { need });
+    }
+    if let Some(gate) = first_wide(c.gates()) {
+        return Err(VerifyFault::Gate { gate });
+    }
+    compare(alloc, s, params, c, borrow, limit)
+}
+
+// Verifies a circuit that can be compared.
+fn compare(
+    _alloc: Global,
+    s: &Settled,
+    params: &[u32],
+    c: &Circuit,
+    borrow: u32,
+    limit: u32,
+) -> Result<(), VerifyFault>
+    requires widths { AreWidths params.now }
+    requires inputs { sum params.now ≡ s.now.inputs }
+    requires borrow { borrow ≤ MOST_BORROWED }
+    requires some { 1 ≤ limit }
+    requires comparable { IsComparable (record {
+      program = of_settled params.now s.now;
+      circuit = c.now;
+      borrow = borrow;
+    }) }
+    ensures verified { OnOk result (IsVerified (record {
+      program = of_settled params.now s.now;
+      circuit = c.now;
+      borrow = borrow;
+    })) }
+    ensures refused { IfErr result (IsVerifyFault (record {
+      program = of_settled params.now s.now;
+      circuit = c.now;
+      borrow = borrow;
+    }) limit) }
+{
+    Err(VerifyFault::Memory)
+}

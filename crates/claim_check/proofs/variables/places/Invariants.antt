@@ -1,6 +1,0 @@
-use Rattle.std.proofs.Common.{◌≡◌, ℕ, ◌<◌, length, get_or}
-use Rattle.claim_check.proofs.variables.places.Given as goal
-
-abbrev pub invariant-loop-place : goal.invariant-loop-place
-invariant-loop-place l =
-    (length l.places.items ≡ length l.order) × ((k : ℕ) → k < l.place → get_or l.places.items (get_or l.order k 0) 0 ≡ k)
