@@ -1,3 +1,4 @@
+pub mod EqualityLemmas
 pub mod GrowingLemmas
 pub mod OwnLemmas
 pub mod PartLemmas

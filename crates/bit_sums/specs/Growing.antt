@@ -1,5 +1,5 @@
 -- What sums give that grow: sums of two, products of two, and a product put into a sum.
-use Rattle.std.specs.Prelude.{◌≡◌, ◌+◌, ◌≤◌, Bool, ◌&&◌, List, [], length}
+use Rattle.std.specs.Prelude.{◌≡◌, ◌⊎◌, ◌+◌, ◌<◌, ◌≤◌, Bool, ◌&&◌, List, [], length, Option, Some, None}
 use Rattle.std.specs.Bool.{xor}
 use Rattle.dependency_graph.specs.declared.node.Base.{Base}
 use Rattle.bit_sums.specs.Bits.{AreRising}
@@ -52,3 +52,8 @@ pub record IsFinished (grown sum : SumView) : Type 0 where
   pub few : length sum.products ≡ length grown.products
   pub light : weight_of sum ≤ weight_of grown
   pub one : sum.one ≡ grown.one
+
+-- the sum as a factor; none exactly where it has a product or too many bits
+abbrev pub IsFactorOrLong : SumView → Option FactorView → Type 0
+IsFactorOrLong sum None = (1 ≤ length sum.products) ⊎ (MOST_FACTOR_BITS < length sum.bits)
+IsFactorOrLong sum (Some factor) = IsShort factor × (sum ≡ sum_of_factor factor)

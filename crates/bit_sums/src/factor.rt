@@ -41,6 +41,17 @@ impl Factor {
         Ok(Factor { bits, one: negated })
     }
 
+    /// The same factor.
+    pub fn copy(&self) -> Result<Factor, Memory>
+        ensures { IfOk result (λ factor. factor ≡ self.now) }
+    {
+        let bits = Vec::from_slice(*self.bits.allocator(), &self.bits)?;
+        Ok(Factor {
+            bits,
+            one: self.one,
+        })
+    }
+
     /// The bits, rising. It takes no memory.
     pub fn bits(&self) -> &[Base]
         ensures bits { result.now ≡ self.now.bits }

@@ -4,7 +4,7 @@ ghost use Rattle.std.specs.Prelude.{IfSome, List};
 ghost use Rattle.std.specs.Prelude.{◌⊎◌, ◌++◌, cond};
 ghost use Rattle.std.specs.List.Sorted.{IsPermutation};
 ghost use Rattle.std.specs.Option.{option_to_list};
-ghost use Rattle.bit_sums.specs.Growing.{IsFinished, IsPut, IsSumOf, IsTimes, sum_of_factor};
+ghost use Rattle.bit_sums.specs.Growing.{IsFinished, IsPut, IsShort, IsSumOf, IsTimes, sum_of_factor};
 ghost use Rattle.bit_sums.specs.Sums.{ProductView};
 ghost use Rattle.bit_sums.specs.inside.Putting.{ArePut, IsJoinAt, IsPutOnce, WithBits};
 
@@ -70,7 +70,8 @@ impl GrowingSum {
 
     /// The sum of a factor.
     pub fn of(factor: &Factor) -> Result<GrowingSum, Memory>
-        ensures { IfOk result (λ sum. sum ≡ sum_of_factor factor.now) }
+        ensures sum { IfOk result (λ sum. sum ≡ sum_of_factor factor.now) }
+        ensures short { IsShort factor.now }
     {
         let alloc = factor.allocator();
         Ok(GrowingSum {

@@ -1,11 +1,11 @@
 // Sums that are finished.
-ghost use Rattle.std.specs.Prelude.{◌≡◌, MatchResult};
+ghost use Rattle.std.specs.Prelude.{◌≡◌, IfOk, false};
 ghost use Rattle.bit_sums.specs.Bits.{AreRising};
-ghost use Rattle.bit_sums.specs.Growing.{sum_of_factor};
+ghost use Rattle.bit_sums.specs.Growing.{IsFactorOrLong};
 
 use crate::{Factor, MOST_FACTOR_BITS, Product};
 use dependency_graph::Base;
-use revc_base::Key;
+use revc_base::{Key, Memory};
 use std::marker::Model;
 
 /// The exclusive sum of some bits, of some products, and of the constant 1 where it has that.
@@ -50,6 +50,30 @@ impl Sum {
         ensures { result.now ≡ self.now.products }
     {
         self.products.items()
+    }
+
+    /// The sum as a factor, where it has no product and at most four bits; its bits rise.
+    pub fn factor(&self) -> Result<Option<Factor>, Memory>
+        requires { AreRising self.now.bits }
+        ensures { IfOk result (IsFactorOrLong self.now) }
+    {
+        if !self.products().is_empty() || self.bits().len() > MOST_FACTOR_BITS {
+            return Ok(None);
+        }
+        let bits = Vec::from_slice(*self.bits.allocator(), self.bits())?;
+        Ok(Some(Factor::new(bits, self.one)))
+    }
+
+    /// The sum without the constant. It takes no memory.
+    pub fn without_one(self) -> Sum
+        ensures { result ≡ record self { one = false } }
+    {
+        let Sum { bits, products, .. } = self;
+        Sum {
+            bits,
+            products,
+            one: false,
+        }
     }
 
     /// Whether it has the constant 1. It takes no memory.
