@@ -29,7 +29,10 @@ same_one true false e = cc
 same_one false true e = cc
 same_one false false e = refl
 
-sums_equal : (a b : List Base) → a ≡ b → (p q : List ProductView) → p ≡ q → (m n : Bool) → m ≡ n → let x : SumView = record { bits = a; products = p; one = m } in let y : SumView = record { bits = b; products = q; one = n } in x ≡ y
+abbrev sum : List Base → List ProductView → Bool → SumView
+sum bits products one = record { bits = bits; products = products; one = one }
+
+sums_equal : (a b : List Base) → a ≡ b → (p q : List ProductView) → p ≡ q → (m n : Bool) → m ≡ n → sum a p m ≡ sum b q n
 sums_equal a b e p q f m n g = rw (e, f, g) refl
 
 pub same_sum : (a b : SumView) → sum_eq a b ≡ true → a ≡ b

@@ -10,7 +10,8 @@ use Rattle.std.proofs.lemmas.Bool.{and_parts, cases_Bool, lt-ltb, true≢false}
 use Rattle.std.proofs.lemmas.List.{length-append}
 use Rattle.std.proofs.lemmas.Option.{get_or_from_slice_get, slice_get_within}
 use Rattle.std.proofs.lemmas.List.Elements.{All-from_recursion, recursion_from_All}
-use Rattle.std.proofs.lemmas.List.Sorted.{All-permutation, IsPermutation-swap_remove, IsPermutation-sym, IsPermutation-to_front, length_permutation, sum_by-IsPermutation}
+use Rattle.std.proofs.lemmas.List.Sorted.{All-permutation, IsPermutation-swap_remove, IsPermutation-sym, IsPermutation-to_front, length_permutation}
+use Rattle.std.proofs.lemmas.List.Sorted.{sum_by-IsPermutation}
 use Rattle.std.proofs.lemmas.List.Sums.{passes_at_first, sum_by-cons}
 use Rattle.indexmap.specs.IndexMap.{swap_remove_by}
 use Rattle.indexmap.specs.IndexSet.{insert_key}

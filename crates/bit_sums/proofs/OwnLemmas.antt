@@ -17,7 +17,10 @@ use Rattle.bit_sums.proofs.SetLemmas.{base_total, same_base}
 
 -- a bit is not below itself
 not_below : (x y : Base) → x ≡ y → base_cmp x y ≡ Less → ⊥
-not_below x y e h = let same : base_cmp x x ≡ Equal = tied_itself base_total x in let less : base_cmp x x ≡ Less = subst (λ z. base_cmp x z ≡ Less) (sym e) h in cc
+not_below x y e h =
+    let same : base_cmp x x ≡ Equal = tied_itself base_total x in
+    let less : base_cmp x x ≡ Less = subst (λ z. base_cmp x z ≡ Less) (sym e) h in
+    cc
 
 -- two pairs of one key are one
 same_pair : (ps : List (Pair Base)) → IsInOrder (by_key base_cmp) ps → (p q : Pair Base) → IsAmong p ps → IsAmong q ps → key_of p ≡ key_of q → p ≡ q

@@ -1,5 +1,6 @@
 -- Bits with at most one product, as products of sums of bits.
-use Rattle.std.proofs.Common.{◌≡◌, ◌≢◌, ◌⊎◌, ℕ, ◌+◌, ◌≤◌, Bool, true, false, ◌&&◌, List, [], ◌∷◌, ◌++◌, length, Option, Some, None, refl, sym, ap, ◌∙◌, subst, inl, inr, arith}
+use Rattle.std.proofs.Common.{◌≡◌, ◌≢◌, ◌⊎◌, ℕ, ◌+◌, ◌≤◌, Bool, true, false, ◌&&◌, List, [], ◌∷◌, ◌++◌, length, Option, Some, None, refl, sym, ap, ◌∙◌}
+use Rattle.std.proofs.Common.{subst, inl, inr, arith}
 use Rattle.std.specs.Bool.{◌==◌, xor}
 use Rattle.std.specs.Option.{option_to_list}
 use Rattle.std.proofs.lemmas.Bool.{eq-eqb, true≢false}
@@ -254,22 +255,26 @@ turned_factors_of p = inr refl
 pub join_ac_bc : (p q : ProductView) (bits : List Base) (product : Option ProductView) → p.second ≡ q.second
     → IsFactored p.first q.first p.second bits product → IsJoinOf p q bits product
 join_ac_bc p q bits product e f =
-    join_factored p q p.first q.first p.second bits product (own_factors_of p) (subst (λ (l : List Base). HasFactors q.first l q) (sym e) (own_factors_of q)) f
+    join_factored p q p.first q.first p.second bits product (own_factors_of p)
+    (subst (λ (l : List Base). HasFactors q.first l q) (sym e) (own_factors_of q)) f
 
 pub join_ac_cb : (p q : ProductView) (bits : List Base) (product : Option ProductView) → p.second ≡ q.first
     → IsFactored p.first q.second p.second bits product → IsJoinOf p q bits product
 join_ac_cb p q bits product e f =
-    join_factored p q p.first q.second p.second bits product (own_factors_of p) (subst (λ (l : List Base). HasFactors q.second l q) (sym e) (turned_factors_of q)) f
+    join_factored p q p.first q.second p.second bits product (own_factors_of p)
+    (subst (λ (l : List Base). HasFactors q.second l q) (sym e) (turned_factors_of q)) f
 
 pub join_ca_bc : (p q : ProductView) (bits : List Base) (product : Option ProductView) → p.first ≡ q.second
     → IsFactored p.second q.first p.first bits product → IsJoinOf p q bits product
 join_ca_bc p q bits product e f =
-    join_factored p q p.second q.first p.first bits product (turned_factors_of p) (subst (λ (l : List Base). HasFactors q.first l q) (sym e) (own_factors_of q)) f
+    join_factored p q p.second q.first p.first bits product (turned_factors_of p)
+    (subst (λ (l : List Base). HasFactors q.first l q) (sym e) (own_factors_of q)) f
 
 pub join_ca_cb : (p q : ProductView) (bits : List Base) (product : Option ProductView) → p.first ≡ q.first
     → IsFactored p.second q.second p.first bits product → IsJoinOf p q bits product
 join_ca_cb p q bits product e f =
-    join_factored p q p.second q.second p.first bits product (turned_factors_of p) (subst (λ (l : List Base). HasFactors q.second l q) (sym e) (turned_factors_of q)) f
+    join_factored p q p.second q.second p.first bits product (turned_factors_of p)
+    (subst (λ (l : List Base). HasFactors q.second l q) (sym e) (turned_factors_of q)) f
 
 pub join_by_first : (p q : ProductView) (sum bits : List Base) (product : Option ProductView) → sum ≡ apart p.first p.second → q.second ≡ sum
     → IsCrossed p.first p.second q.first bits product → IsJoinOf p q bits product

@@ -4,7 +4,8 @@ ghost use Rattle.std.specs.Prelude.{IfSome, List};
 ghost use Rattle.std.specs.Prelude.{◌⊎◌, ◌++◌, cond};
 ghost use Rattle.std.specs.List.Sorted.{IsPermutation};
 ghost use Rattle.std.specs.Option.{option_to_list};
-ghost use Rattle.bit_sums.specs.Growing.{IsFinished, IsPut, IsShort, IsSumOf, IsTimes, sum_of_factor};
+ghost use Rattle.bit_sums.specs.Growing.{IsFinished, IsPut, IsShort, IsSumOf, IsTimes};
+ghost use Rattle.bit_sums.specs.Growing.{sum_of_factor};
 ghost use Rattle.bit_sums.specs.Sums.{ProductView};
 ghost use Rattle.bit_sums.specs.inside.Putting.{ArePut, IsJoinAt, IsPutOnce, WithBits};
 

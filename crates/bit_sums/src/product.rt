@@ -3,7 +3,8 @@ ghost use Rattle.std.specs.Prelude.{◌≡◌, ◌⊎◌, ◌≤◌, ◌+◌, le
 ghost use Rattle.std.specs.Bool.{xor};
 ghost use Rattle.bit_sums.specs.Bits.{AreRising, HasOwn, apart};
 ghost use Rattle.bit_sums.specs.Products.{IsFactor, IsJoinOf, IsProduct, IsProductOf};
-ghost use Rattle.bit_sums.specs.inside.Steps.{AreApart, HasFactors, IsCrossed, IsFactored, IsWithin};
+ghost use Rattle.bit_sums.specs.inside.Steps.{AreApart, HasFactors, IsCrossed, IsFactored};
+ghost use Rattle.bit_sums.specs.inside.Steps.{IsWithin};
 
 use crate::MOST_FACTOR_BITS;
 use crate::bits::apart;

@@ -1,5 +1,6 @@
 -- Marks tell how often nodes are used.
-use Rattle.std.proofs.Common.{◌≡◌, ◌≢◌, ℕ, zero, suc, ◌+◌, ◌≤◌, ◌<◌, Bool, true, false, cond, List, [], ◌∷◌, ◌++◌, length, map, take, slice_get, slice_set, Some}
+use Rattle.std.proofs.Common.{◌≡◌, ◌≢◌, ℕ, zero, suc, ◌+◌, ◌≤◌, ◌<◌, Bool, true, false, cond, List, [], ◌∷◌, ◌++◌, length, map, take, slice_get, slice_set}
+use Rattle.std.proofs.Common.{Some}
 use Rattle.std.proofs.Common.{refl, sym, ap, ap₂, ◌∙◌, subst, inl, inr, arith, append_assoc, append-nil, replicate}
 use Rattle.std.specs.List.{AllByRecursion, flat_map}
 use Rattle.std.proofs.lemmas.Bool.{cases_eq, cases_lt, ne_eqb}
@@ -18,7 +19,8 @@ use Rattle.claim_check.specs.Settled.{IsSettled, SettledView}
 use Rattle.claim_check.proofs.NodeLemmas.{known_at}
 use Rattle.lean_graph.specs.declared.shared.Use.{Use}
 use Rattle.lean_graph.specs.declared.shared.Use.TheVariants.{Never, Once, Shared}
-use Rattle.lean_graph.specs.inside.Marks.{AreMarked, AreNodesMarked, AreOutputsMarked, AreWithin, IsMark, after_use, is_shared_mark, mark_at, marked, marked_factor, marked_node, marked_output}
+use Rattle.lean_graph.specs.inside.Marks.{AreMarked, AreNodesMarked, AreOutputsMarked, AreWithin, IsMark, after_use, is_shared_mark, mark_at, marked}
+use Rattle.lean_graph.specs.inside.Marks.{marked_factor, marked_node, marked_output}
 use Rattle.lean_graph.specs.inside.Walks.{AreShared, factors_of, is_shared, times_in, uses_in}
 use Rattle.lean_graph.proofs.UseLemmas.{times-append, times_first}
 
@@ -61,7 +63,8 @@ stays_shared marks k x keeps j e = elim (cases_eq j k) as (λ _. mark_at (slice_
 
 -- ---- a base
 
-pub after_marked : (base : Base) (uses wanted : List ℕ) (marks : List Use) → AreMarked uses wanted marks → AreMarked (uses ++ node_of base) wanted (marked base marks)
+pub after_marked : (base : Base) (uses wanted : List ℕ) (marks : List Use) → AreMarked uses wanted marks
+    → AreMarked (uses ++ node_of base) wanted (marked base marks)
 after_marked (bases.Input i) uses wanted marks are = subst (λ l. AreMarked l wanted marks) (sym (append-nil uses)) are
 after_marked (bases.Node k) uses wanted marks are =
     let x = after_use (mark_at marks k) in

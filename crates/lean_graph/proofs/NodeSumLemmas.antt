@@ -22,7 +22,8 @@ use Rattle.lean_graph.specs.inside.Walks.{AreSlots, IsAnd, IsFactorOf, IsNodeSum
 use Rattle.lean_graph.proofs.TakeLemmas.{slots_less, taken_keeps, taken_products, taken_stands, taken_weight}
 
 -- What making the sum of a node keeps.
-pub record IsStep (s : SettledView) (nodes : List SumView) (shared : List Bool) (left : List ℕ) (node : Node) (old new : List Slot) (sum : SumView) : Type 0 where
+pub record IsStep (s : SettledView) (nodes : List SumView) (shared : List Bool) (left : List ℕ) (node : Node) (old new : List Slot) (sum : SumView)
+    : Type 0 where
   pub slots : AreSlots s nodes shared left new
   pub known : IsKnownSum s.inputs (length nodes) sum
   pub values : (input : List Bool) → sum_on nodes input sum ≡ node_bit (bit_of input) (values_on s input) node

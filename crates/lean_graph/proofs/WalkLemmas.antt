@@ -26,7 +26,8 @@ use Rattle.lean_graph.specs.Graphs.{IsKnownSum, and_count, is_known, sum_on, sum
 use Rattle.lean_graph.specs.declared.slot.Slot.{Slot}
 use Rattle.lean_graph.specs.declared.slot.Slot.TheVariants as slots
 use Rattle.lean_graph.specs.inside.Placing.{IsPlaced}
-use Rattle.lean_graph.specs.inside.Walks.{AreShared, AreSlots, CanOutput, CanSum, HasFactor, IsEnded, IsNodeSum, IsOutputSum, IsSlot, IsStanding, IsTaken, IsWalked}
+use Rattle.lean_graph.specs.inside.Walks.{AreShared, AreSlots, CanOutput, CanSum, HasFactor, IsEnded, IsNodeSum, IsOutputSum, IsSlot, IsStanding, IsTaken}
+use Rattle.lean_graph.specs.inside.Walks.{IsWalked}
 use Rattle.lean_graph.specs.inside.Walks.{factors_of, is_shared, slot_products, slot_weight, uses_in}
 use Rattle.lean_graph.proofs.NodeSumLemmas.{IsStep, node_step}
 use Rattle.lean_graph.proofs.PlaceLemmas.{IsAtHome, at_home, slots_still, still_known, same_value}
@@ -53,10 +54,11 @@ last_or_before : {A : Type 0} (xs : List A) (x : A) (j : ℕ) (y : A) → slice_
 last_or_before [] x zero y e = inr (refl, same_Some x y e)
 last_or_before [] x (suc j) y e = absurd (none-some y e)
 last_or_before (z ∷ zs) x zero y e = inl e
-last_or_before (z ∷ zs) x (suc j) y e = elim (last_or_before zs x j y e) as (λ _. (slice_get (z ∷ zs) (suc j) ≡ Some y) ⊎ ((suc j ≡ length (z ∷ zs)) × (x ≡ y))) [
-  | inl before ↦ inl before
-  | inr last ↦ inr (ap suc last.0, last.1)
-]
+last_or_before (z ∷ zs) x (suc j) y e =
+    elim (last_or_before zs x j y e) as (λ _. (slice_get (z ∷ zs) (suc j) ≡ Some y) ⊎ ((suc j ≡ length (z ∷ zs)) × (x ≡ y))) [
+      | inl before ↦ inl before
+      | inr last ↦ inr (ap suc last.0, last.1)
+    ]
 
 -- ---- the operands of a node can be taken
 
@@ -107,8 +109,8 @@ can_sum s nodes shared left k (And a b) some known long all are =
 uses_from : (nodes : List Node) (outputs : List Sig) (k : ℕ) (node : Node) → slice_get nodes k ≡ Some node
     → uses_in (drop k nodes) outputs ≡ nodes_among (operands node) ++ uses_in (drop (k + 1) nodes) outputs
 uses_from nodes outputs k node e =
-    ap (λ l. uses_in l outputs) (drop_at nodes k node e)
-    ∙ append_assoc (nodes_among (operands node)) (flat_map (λ (n : Node). nodes_among (operands n)) (drop (k + 1) nodes)) (nodes_among (flat_map base_of outputs))
+    let rest = flat_map (λ (n : Node). nodes_among (operands n)) (drop (k + 1) nodes) in
+    ap (λ l. uses_in l outputs) (drop_at nodes k node e) ∙ append_assoc (nodes_among (operands node)) rest (nodes_among (flat_map base_of outputs))
 
 pub can_step : (s : SettledView) (shared : List Bool) (some : List Slot) (nodes : List SumView) (k : ℕ) (node : Node) → AreShared s.nodes s.outputs shared
     → IsWalked s shared some nodes k → slice_get s.nodes k ≡ Some node → CanSum some node

@@ -3,7 +3,8 @@ ghost use Rattle.std.specs.Prelude.{◌≡◌, ◌<◌, ◌≤◌, length, map, 
 ghost use Rattle.claim_check.specs.Settled.{IsSettled};
 ghost use Rattle.dependency_graph.specs.Graphs.{base_of, node_of, nodes_among, operands};
 ghost use Rattle.lean_graph.specs.inside.Marks.{after_use, is_shared_mark, marked, marked_factor};
-ghost use Rattle.lean_graph.specs.inside.Marks.{AreNodesMarked, AreOutputsMarked, AreWithin, marked_node};
+ghost use Rattle.lean_graph.specs.inside.Marks.{AreNodesMarked, AreOutputsMarked, AreWithin};
+ghost use Rattle.lean_graph.specs.inside.Marks.{marked_node};
 ghost use Rattle.lean_graph.specs.inside.Marks.{mark_at, marked_output};
 ghost use Rattle.lean_graph.specs.inside.Walks.{AreShared};
 

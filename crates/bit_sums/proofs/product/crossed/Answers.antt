@@ -9,7 +9,8 @@ use Rattle.bit_sums.proofs.product.crossed.Goals as goal
 pub returns-then-eq : goal.returns-then-eq
 returns-then-eq c =
     let same : c.args.q.now.second ≡ c.in_ok-sum.sum.items = search (rules, pointwise_decides, c.if-eq.ensures) in
-    let is : c.in_ok-sum.sum.items ≡ apart c.args.p.now.first c.args.p.now.second = rw (c.first.ensures.first, c.second.ensures.second) at c.in_ok-sum.ensures in
+    let is : c.in_ok-sum.sum.items ≡ apart c.args.p.now.first c.args.p.now.second =
+    rw (c.first.ensures.first, c.second.ensures.second) at c.in_ok-sum.ensures in
     IfOk-weaker c.crossed_by.result _ _
     (λ found w. IfSome_then found w
     (λ part x. join_by_first c.args.p.now c.args.q.now c.in_ok-sum.sum.items part.bits.items part.product is same x))
@@ -18,7 +19,8 @@ returns-then-eq c =
 pub returns-then-eq-2 : goal.returns-then-eq-2
 returns-then-eq-2 c =
     let same : c.args.q.now.first ≡ c.in_ok-sum.sum.items = search (rules, pointwise_decides, c.if-eq-2.ensures) in
-    let is : c.in_ok-sum.sum.items ≡ apart c.args.p.now.first c.args.p.now.second = rw (c.first.ensures.first, c.second.ensures.second) at c.in_ok-sum.ensures in
+    let is : c.in_ok-sum.sum.items ≡ apart c.args.p.now.first c.args.p.now.second =
+    rw (c.first.ensures.first, c.second.ensures.second) at c.in_ok-sum.ensures in
     IfOk-weaker c.crossed_by-then-eq-2.result _ _
     (λ found w. IfSome_then found w
     (λ part x. join_by_second c.args.p.now c.args.q.now c.in_ok-sum.sum.items part.bits.items part.product is same x))
