@@ -1,0 +1,6 @@
+pub mod EqualityLemmas
+pub mod GrowingLemmas
+pub mod OwnLemmas
+pub mod PartLemmas
+pub mod SetLemmas
+pub mod TotalLemmas

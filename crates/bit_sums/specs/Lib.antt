@@ -1,0 +1,5 @@
+pub mod Bits
+pub mod Growing
+pub mod Products
+pub mod Sums
+pub mod inside

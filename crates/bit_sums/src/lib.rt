@@ -1,0 +1,15 @@
+//! Exclusive sums of bits and of products of two sums of bits, of which lean circuits are made.
+#![tactic(auto)]
+
+mod bits;
+mod factor;
+mod growing;
+mod limits;
+mod product;
+mod sum;
+
+pub use factor::Factor;
+pub use growing::{GrowingSum, MOST_JOINED};
+pub use limits::MOST_FACTOR_BITS;
+pub use product::Product;
+pub use sum::Sum;
