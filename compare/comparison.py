@@ -9,7 +9,7 @@ from typing import Container, Optional
 from cases.happy_calls import CALLS, UNREAD, known
 from cases.random_cases import Case
 from models.claims import TooWide
-from models.commands import NO_ORDER, Answer, NoModel, answer_of, is_free
+from models.commands import NO_ORDER, Answer, answer_of, is_free
 from promises import is_sound
 
 SHOWN = 10
@@ -68,7 +68,7 @@ class Comparison:
         answer = self.answer(case)
         try:
             model = self.model_of(case)
-        except (TooWide, NoModel):
+        except TooWide:
             self.unmodelled += 1
             model = answer
         if answer != model and is_free(case.words, case.text, answer):

@@ -19,9 +19,9 @@ TRIED = 4
 
 def is_sound(words: List[str], text: bytes, answer: Answer) -> bool:
     """A compiled file is clean and within its budgets, a refused budget is too small, a printed input breaks the claim,
-    a converted circuit has the line map of its source, and a verdict is right on words that are run."""
+    a converted or tidied circuit has the line map of its source, and a verdict is right on words that are run."""
     order = order_of(words)
-    if order is not None and order.command == "convert" and answer.status == 0:
+    if order is not None and order.command in ("convert", "tidy") and answer.status == 0:
         return is_same(circuit_of(order, text), CIRCUITS[order.values["to"]](answer.out))
     if order is not None and order.command == "verify" and answer.status in (0, 15):
         return is_verdict(order, text, answer)

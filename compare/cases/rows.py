@@ -266,6 +266,18 @@ OTHERS = [
     ("convert", WIDEST, "revc: lines 16385 over 16384"),
 ]
 
+# ---- Circuits that are tidied
+
+PAIR = ".version 2.0\n.numvars 4\n.variables a b c d\n.begin\nt3 a b c\nt2 a d\nt3 b a c\n.end\n"
+TWICE = ".version 2.0\n.numvars 2\n.variables a b\n.begin\n%s.end\n"
+BACK = "t2 a b\nt2 b a\n"
+
+TIDIED = [
+    ("tidy --to real", PAIR, "l0 l1 l2 l3: t2 l0 l3"),
+    ("tidy --to real", TWICE % (BACK * 2), "l0 l1: t2 l1 l0, t2 l0 l1"),
+    ("tidy --to real", TWICE % (BACK * 3), "l0 l1: "),
+]
+
 # ---- Circuits against programs
 
 PARTED = BITS + "a && b\n---\n"
@@ -415,7 +427,7 @@ WORDS = [(words, BITS + "a && b", worked) for words, worked in [
 ]]
 
 COMPILE = [("compile", text, worked) for text, worked in COMPILED]
-WORKED = COMPILE + PLANNED + CHECKED + EVALUATED + FILES + OTHERS + VERIFIED + ADDERS + WORDS
+WORKED = COMPILE + PLANNED + CHECKED + EVALUATED + FILES + OTHERS + TIDIED + VERIFIED + ADDERS + WORDS
 
 
 def shown(answer: Answer) -> str:

@@ -7,18 +7,18 @@ from models.claims import TooWide, settled
 from models.graphs import Graph
 from models.language import Run, program_of
 from models.plans import Budget, NoIdle, OverGates, OverLines, Plan, Settled, choose, split, width_of
+from models.tidied import tidied
 from models.verdicts import MOST_BYTES, Verdict, first_wide, parted, verdict_on
 from models.words import Order, order_of
+
+
+MOST_TIDIED = 65_536  # gates of a circuit that is tidied
 
 
 class Answer(NamedTuple):
     status: int
     out: bytes = b""
     err: bytes = b""
-
-
-class NoModel(Exception):
-    """The command has no model here."""
 
 
 class Fault(Exception):
@@ -146,6 +146,14 @@ def convert_text(order: Order, text: bytes) -> bytes:
     return CONVERTERS[order.values["to"]](circuit, gates, added)
 
 
+def tidy_text(order: Order, text: bytes) -> bytes:
+    circuit = circuit_of(order, text)
+    gates, added = split_of(circuit, MOST_TIDIED)
+    flips = tidied([(tuple(line for line, _ in controls), target) for controls, (target,) in gates])
+    tidy = [real.Gate([(line, 1) for line in controls], [target]) for controls, target in flips]
+    return CONVERTERS[order.values["to"]](circuit, tidy, added)
+
+
 def parts_of(order: Order, source: bytes) -> Tuple[Run, real.Circuit]:
     """The run of the program that stands before the parting line, and the circuit that stands behind it."""
     over = real.Refused("circuit over %d bytes" % real.MOST_BYTES)
@@ -207,7 +215,7 @@ def bench_text(order: Order, text: bytes) -> bytes:
 
 
 TEXTS = {"compile": compile_text, "check": check_text, "eval": eval_text, "stat": stat_text, "run": run_text,
-         "convert": convert_text, "verify": verify_text, "gen": gen_text, "bench": bench_text}
+         "convert": convert_text, "tidy": tidy_text, "verify": verify_text, "gen": gen_text, "bench": bench_text}
 
 
 def answered(make: Callable[[], bytes]) -> Answer:
@@ -227,8 +235,6 @@ def answer_of(words: List[str], text: bytes) -> Answer:
     order = order_of(words)
     if order is None:
         return NO_ORDER
-    if order.command not in TEXTS:
-        raise NoModel()
     return answered(lambda: TEXTS[order.command](order, text))
 
 

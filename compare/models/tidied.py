@@ -1,8 +1,8 @@
 """`tidy`: fewer flips with the same line map, by its recipe as it is told, and nothing cleverer.
 
-A flip is a pair of its controls, in their order, and its target. The recipe has two steps. While a pair of flips cancels,
-the one with the least first place, and then the least second place, goes out. Then the first block that is longer than
-its elimination is replaced by it, and all begins again.
+A flip is a pair of its controls, in their order, and its target. The recipe has two steps. While a pair of flips
+cancels, the one with the least first place, and then the least second place, goes out. Then the first block that is
+longer than its elimination is replaced by it, and all begins again.
 """
 from itertools import product
 from typing import List, Optional, Tuple
@@ -33,13 +33,17 @@ def lines_of(flips: List[Flip]) -> List[int]:
     return sorted({line for controls, target in flips for line in controls + (target,)})
 
 
+def is_block(flips: List[Flip]) -> bool:
+    return all(len(controls) == 1 for controls, _ in flips) and len(lines_of(flips)) <= MOST_BLOCK_LINES
+
+
 def blocks_of(flips: List[Flip]) -> List[Tuple[int, int]]:
     """Where each block begins, and where it ends."""
     blocks = []
     start = 0
     while start < len(flips):
         end = start
-        while end < len(flips) and len(flips[end][0]) == 1 and len(lines_of(flips[start : end + 1])) <= MOST_BLOCK_LINES:
+        while end < len(flips) and is_block(flips[start : end + 1]):
             end += 1
         if end > start:
             blocks.append((start, end))
@@ -83,7 +87,8 @@ def tidied(flips: List[Flip]) -> List[Flip]:
 
 
 def is_tidy(flips: List[Flip]) -> bool:
-    return first_pair(flips) is None and all(end - start <= len(elimination(flips[start:end])) for start, end in blocks_of(flips))
+    blocks = (flips[start:end] for start, end in blocks_of(flips))
+    return first_pair(flips) is None and all(len(block) <= len(elimination(block)) for block in blocks)
 
 
 def line_map(flips: List[Flip], bits: Tuple[bool, ...]) -> Tuple[bool, ...]:
