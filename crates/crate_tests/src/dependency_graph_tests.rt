@@ -32,7 +32,7 @@ fn is_known_entry(inputs: u32, writes: u32, entry: Entry) -> bool
 }
 
 // Appends writes, each of inputs and of earlier writes.
-fn push_all(rt: &impl Abort, tape: &mut Tape, entries: &[Entry]) -> Result<(), Fail> {
+pub fn push_all(rt: &impl Abort, tape: &mut Tape, entries: &[Entry]) -> Result<(), Fail> {
     for entry in entries {
         assert!(rt; is_known_entry(tape.inputs(), tape.len(), *entry));
         assert!(rt; tape.entries().len() < MOST_WRITES);

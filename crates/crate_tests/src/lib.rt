@@ -10,6 +10,8 @@ mod circuit_tidy_tests;
 #[cfg(test)]
 mod dependency_graph_tests;
 #[cfg(test)]
+mod lean_graph_tests;
+#[cfg(test)]
 mod program_gen_tests;
 #[cfg(test)]
 mod qasm_format_tests;
