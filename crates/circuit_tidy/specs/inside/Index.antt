@@ -104,6 +104,13 @@ pub record KeepsSlots (n : ℕ) (old new : Index) : Type 0 where
   pub index : IsIndex n new
   pub slots : new.slots.items ≡ old.slots.items
 
+-- rising places, among them those of all flips like this one
+pub record HoldLikes (slots : List (Option Flip)) (flip : Flip) (places : List ℕ) : Type 0 where
+  pub rising : IsRising places
+  pub below : AllByRecursion (λ place. place < length slots) places
+  pub all : (place : ℕ) (other : Flip) → slot_at slots place ≡ Some other
+      → are_alike flip other ≡ true → IsAmong place places
+
 pub record IsPartner (slots : List (Option Flip)) (flip : Flip) (bound place : ℕ) : Type 0 where
   pub other : Flip
   pub within : bound ≤ place
