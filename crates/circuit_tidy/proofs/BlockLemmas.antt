@@ -1,25 +1,30 @@
 -- Blocks: the lines that they touch, and what a walk over them finds.
-use Rattle.std.proofs.Common.{◌≡◌, ◌≢◌, ℕ, zero, suc, ◌+◌, ◌-◌, ◌<◌, ◌≤◌, ◌⊎◌, inl, inr, Bool, true, false, not, ◌&&◌, ◌||◌, eqb, ltb, leb, cond, List, [], ◌∷◌, ◌++◌}
+use Rattle.std.proofs.Common.{◌≡◌, ◌≢◌, ℕ, zero, suc, ◌+◌, ◌-◌, ◌<◌, ◌≤◌, ◌⊎◌, inl, inr, Bool, true, false, not, ◌&&◌, ◌||◌, eqb, ltb, leb, cond, List, [], ◌∷◌}
+use Rattle.std.proofs.Common.{◌++◌}
 use Rattle.std.proofs.Common.{length, map, take, drop, get_or, refl, sym, ap, ◌∙◌, subst, arith}
 use Rattle.std.specs.List.{AllByRecursion, list_any}
 use mir.Val.{bool_byte}
-use Rattle.std.proofs.lemmas.Bool.{cases_Bool, cases_eq, both_ways, false≢true, eqb-true, eqb-false, eq-eqb, ne_eqb, ltb-true, ltb-false, leb-true, leb-false, le-leb}
+use Rattle.std.proofs.lemmas.Bool.{cases_Bool, cases_eq, both_ways, false≢true, eqb-true, eqb-false, eq-eqb, ne_eqb, ltb-true, ltb-false, leb-true, leb-false}
+use Rattle.std.proofs.lemmas.Bool.{le-leb}
 use Rattle.std.proofs.lemmas.Bool.{or_cases, or_left, or_right, and_parts, false_from_ne_true}
 use Rattle.std.proofs.lemmas.List.{drop_more, drop_all, drop-drop, length-drop, take-append-drop, take_more, length-take-le}
 use Rattle.std.proofs.lemmas.List.Folds.{list_any-append}
 use Rattle.list_facts.specs.Lists.{IsRising, below}
-use Rattle.list_facts.proofs.AllLemmas.{AllByRecursion-append, AllByRecursion-left, AllByRecursion-right, AllByRecursion-take, AllByRecursion-drop, AllByRecursion-weaker, AllByRecursion-push}
+use Rattle.list_facts.proofs.AllLemmas.{AllByRecursion-append, AllByRecursion-left, AllByRecursion-right, AllByRecursion-take, AllByRecursion-drop}
+use Rattle.list_facts.proofs.AllLemmas.{AllByRecursion-weaker, AllByRecursion-push}
 use Rattle.list_facts.proofs.OrderLemmas.{IsRising-filter}
 use Rattle.mct_circuit.specs.Gates.{IsGateOn}
 use Rattle.mct_circuit.specs.Sizes.{has_line}
 use Rattle.circuit_tidy.specs.declared.flip.Controls.{Controls}
 use Rattle.circuit_tidy.specs.declared.flip.Controls.TheVariants.{Zero, One, Two}
 use Rattle.circuit_tidy.specs.declared.flip.Flip.{Flip}
-use Rattle.circuit_tidy.specs.Blocks.{AreBlocks, EndsBefore, IsBlock, IsNoLonger, addition_of, all_walked, block_taken, cx, elimination_of, is_cx, is_one, one_line, passed_over, touched}
+use Rattle.circuit_tidy.specs.Blocks.{AreBlocks, EndsBefore, IsBlock, IsNoLonger, addition_of, all_walked, block_taken, cx, elimination_of, is_cx, is_one}
+use Rattle.circuit_tidy.specs.Blocks.{one_line, passed_over, touched}
 use Rattle.circuit_tidy.specs.Elimination.{eliminated}
 use Rattle.circuit_tidy.specs.Flips.{controls_of, gate_of, lines_in, touches}
 use Rattle.circuit_tidy.specs.inside.BitRows.{IsCxOn}
-use Rattle.circuit_tidy.specs.inside.Walking.{AreOnLines, AreShort, AreTouched, HaveShortBlocks, IsFirstCx, IsLonger, IsPassed, IsBlockOf, StopsBefore, takes, with_line, with_lines_of}
+use Rattle.circuit_tidy.specs.inside.Walking.{AreOnLines, AreShort, AreTouched, HaveShortBlocks, IsFirstCx, IsLonger, IsPassed, IsBlockOf, StopsBefore, takes}
+use Rattle.circuit_tidy.specs.inside.Walking.{with_line, with_lines_of}
 use Rattle.circuit_tidy.specs.declared.blocks.Block.{Block}
 use Rattle.circuit_tidy.proofs.EliminationLemmas.{has_line-filter}
 use Rattle.circuit_tidy.proofs.IndexLemmas.{lines_of_flip}

@@ -1,9 +1,11 @@
 -- The elimination of a list of additions has its line map.
-use Rattle.std.proofs.Common.{◌≡◌, ◌≢◌, ℕ, ◌<◌, Bool, true, false, not, ◌&&◌, ◌||◌, eqb, cond, List, [], ◌∷◌, ◌++◌, length, map, filter, reverse, set, refl, sym, ap, ◌∙◌, subst, ◌⊎◌, inl, inr}
+use Rattle.std.proofs.Common.{◌≡◌, ◌≢◌, ℕ, ◌<◌, Bool, true, false, not, ◌&&◌, ◌||◌, eqb, cond, List, [], ◌∷◌, ◌++◌, length, map, filter, reverse, set, refl}
+use Rattle.std.proofs.Common.{sym, ap, ◌∙◌, subst, ◌⊎◌, inl, inr}
 use Rattle.std.proofs.Common.{arith}
 use Rattle.std.specs.Bool.{xor}
 use Rattle.std.specs.List.{AllByRecursion}
-use Rattle.std.proofs.lemmas.Bool.{cases_Bool, cases_eq, eq-eqb, ne_eqb, eqb-true, eqb-false, and_parts, or_parts, not-true, both_ways, false≢true, or_left, or_right, or_cases}
+use Rattle.std.proofs.lemmas.Bool.{cases_Bool, cases_eq, eq-eqb, ne_eqb, eqb-true, eqb-false, and_parts, or_parts, not-true, both_ways, false≢true, or_left}
+use Rattle.std.proofs.lemmas.Bool.{or_right, or_cases}
 use Rattle.std.proofs.lemmas.Bool.{false_from_ne_true}
 use Rattle.std.proofs.lemmas.List.{ext_get_or, get_or-set_same, get_or-set_other, length-set, map-append, reverse-append}
 use Rattle.list_facts.specs.Bits.{bit_of}
@@ -16,7 +18,8 @@ use Rattle.mct_circuit.specs.Sizes.{has_line}
 use Rattle.mct_circuit.proofs.FlipLemmas.{flip_sets}
 use Rattle.mct_circuit.proofs.ReversalLemmas.{reversed_behind}
 use Rattle.circuit_tidy.specs.Blocks.{cx}
-use Rattle.circuit_tidy.specs.Elimination.{Addition, Rows, own_rows, with_addition, with_additions, first_with, first_step, second_step, steps_at, noted, eliminated}
+use Rattle.circuit_tidy.specs.Elimination.{Addition, Rows, own_rows, with_addition, with_additions, first_with, first_step, second_step, steps_at, noted}
+use Rattle.circuit_tidy.specs.Elimination.{eliminated}
 use Rattle.circuit_tidy.specs.Flips.{gate_of, gates_of}
 use Rattle.circuit_tidy.proofs.FlipLemmas.{after}
 use Rattle.circuit_tidy.proofs.ParityLemmas.{parity, parity-same, parity-xor, parity-one}

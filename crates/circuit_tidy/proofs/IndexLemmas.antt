@@ -1,12 +1,14 @@
 -- What the index of lines tells of the flips in the slots.
-use Rattle.std.proofs.Common.{◌≡◌, ◌≢◌, ℕ, zero, suc, ◌+◌, ◌-◌, ◌<◌, ◌≤◌, max, ◌⊎◌, inl, inr, Bool, true, false, not, ◌&&◌, ◌||◌, eqb, cond, Option, Some, None, Result, Ok, Err, List, [], ◌∷◌, ◌++◌}
+use Rattle.std.proofs.Common.{◌≡◌, ◌≢◌, ℕ, zero, suc, ◌+◌, ◌-◌, ◌<◌, ◌≤◌, max, ◌⊎◌, inl, inr, Bool, true, false, not, ◌&&◌, ◌||◌, eqb, cond, Option, Some, None}
+use Rattle.std.proofs.Common.{Result, Ok, Err, List, [], ◌∷◌, ◌++◌}
 use Rattle.std.proofs.Common.{length, take, drop, set, get_or, refl, sym, ap, ◌∙◌, subst, add-one, arith}
 use Rattle.std.specs.List.{AllByRecursion}
 use Rattle.std.specs.Global.{Vec}
 use Rattle.std.specs.Option.{is_some}
 use Rattle.std.specs.Result.{OnOk}
 use Rattle.std.proofs.lemmas.Bool.{cases_eq, cases_lt, cases_order, both_ways, false_from_ne_true, or_from, or_left, or_right, eqb-false, eq-eqb, ne_eqb}
-use Rattle.std.proofs.lemmas.List.{get_or_append_left, get_or_push, get_or_past, get_or-set_same, get_or-set_other, length_push, length-set, length-map, map-set, get_or-map, take_more, take_all, take-append-drop, drop_more}
+use Rattle.std.proofs.lemmas.List.{get_or_append_left, get_or_push, get_or_past, get_or-set_same, get_or-set_other, length_push, length-set, length-map}
+use Rattle.std.proofs.lemmas.List.{map-set, get_or-map, take_more, take_all, take-append-drop, drop_more}
 use Rattle.list_facts.specs.Lists.{IsAmong, IsRising, AreDifferent}
 use Rattle.list_facts.proofs.OrderLemmas.{AreDifferent-left, AreDifferent-parts}
 use Rattle.list_facts.proofs.AllLemmas.{AllByRecursion-left, AllByRecursion-right, AllByRecursion-push, AllByRecursion-weaker}
@@ -16,7 +18,8 @@ use Rattle.mct_circuit.specs.Sizes.{has_line}
 use Rattle.mct_circuit.proofs.ReversalLemmas.{lines_of-flip_of}
 use Rattle.circuit_tidy.specs.declared.flip.Flip.{Flip}
 use Rattle.circuit_tidy.specs.Flips.{are_alike, are_free, controls_of, gate_of}
-use Rattle.circuit_tidy.specs.inside.Index.{slot_at, with_slot, flips_below, flips_in, is_like_in, ArePlaces, IsThere, IsBehindLast, FindsLast, contents, places_at, AreIndexed}
+use Rattle.circuit_tidy.specs.inside.Index.{slot_at, with_slot, flips_below, flips_in, is_like_in, ArePlaces, IsThere, IsBehindLast, FindsLast, contents}
+use Rattle.circuit_tidy.specs.inside.Index.{places_at, AreIndexed}
 use Rattle.circuit_tidy.specs.inside.Index.{has_target, has_control, IsPartner, HasNoPartner, HoldLikes, ArePushed, AreIndexes}
 use Rattle.circuit_tidy.specs.inside.Settling.{onto, without, or_with, with_flip}
 use Rattle.circuit_tidy.proofs.FlipLemmas.{alike_says, among_has, among_lacks, free_from}
