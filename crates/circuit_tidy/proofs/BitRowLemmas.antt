@@ -1,12 +1,14 @@
 -- Rows as bits of words: what the steps on words do to the rows that they hold.
-use Rattle.std.proofs.Common.{◌≡◌, ◌≢◌, ℕ, zero, suc, ◌+◌, ◌*◌, ◌%◌, ◌^◌, ◌<◌, ◌≤◌, ◌==◌, bit_xor, ◌⊎◌, inl, inr, Bool, true, false, not, ◌&&◌, eqb, cond, List, [], ◌∷◌, ◌++◌}
+use Rattle.std.proofs.Common.{◌≡◌, ◌≢◌, ℕ, zero, suc, ◌+◌, ◌*◌, ◌%◌, ◌^◌, ◌<◌, ◌≤◌, ◌==◌, bit_xor, ◌⊎◌, inl, inr, Bool, true, false, not, ◌&&◌, eqb, cond, List}
+use Rattle.std.proofs.Common.{[], ◌∷◌, ◌++◌}
 use Rattle.std.proofs.Common.{length, map, filter, take, drop, reverse, Result, set, get_or, refl, sym, ap, ◌∙◌, subst, arith}
 use Rattle.std.specs.Bool.{xor}
 use Rattle.std.specs.List.{AllByRecursion}
 use Rattle.std.specs.Result.{OnOk}
 use Rattle.std.proofs.lemmas.Result.{on_ok_weaker}
 use Rattle.std.proofs.lemmas.Bool.{cases_Bool, cases_eq, eq-eqb, ne_eqb}
-use Rattle.std.proofs.lemmas.List.{append_assoc, append-nil, drop_more, drop_all, get_or-set_same, get_or-set_other, get_or_append_left, get_or_push, length-set, map-append, map_more, reverse-append, take_more, take_all}
+use Rattle.std.proofs.lemmas.List.{append_assoc, append-nil, drop_more, drop_all, get_or-set_same, get_or-set_other, get_or_append_left, get_or_push}
+use Rattle.std.proofs.lemmas.List.{length-set, map-append, map_more, reverse-append, take_more, take_all}
 use Rattle.std.proofs.lemmas.List.Elements.{filter-append}
 use Rattle.std.proofs.lemmas.Nat.{one_shl}
 use Rattle.std.proofs.lemmas.Nat.Bits.{bit_at_xor, bit_at-lt, bit_at-pow_same, bit_at-pow_other}
@@ -64,7 +66,8 @@ own_words_hold lines words up own = record {
   ];
 }
 
-pub own_more : (count : ℕ) (words now : List ℕ) (word : ℕ) → count < 64 → word ≡ 1 * 2 ^ count % 2 ^ 64 → now ≡ words ++ word ∷ [] → ((p q : ℕ) → p < count → q < 64 → bit_at_place q (get_or words p 0) ≡ eqb p q)
+pub own_more : (count : ℕ) (words now : List ℕ) (word : ℕ) → count < 64 → word ≡ 1 * 2 ^ count % 2 ^ 64 → now ≡ words ++ word ∷ [] → ((p q : ℕ) → p < count
+    → q < 64 → bit_at_place q (get_or words p 0) ≡ eqb p q)
     → length words ≡ count → (p q : ℕ) → p < count + 1 → q < 64 → bit_at_place q (get_or now p 0) ≡ eqb p q
 own_more count words now word small is pushed each long p q lp lq = ap (λ l. bit_at_place q (get_or l p 0)) pushed ∙ elim (cases_eq p count) [
   | inl e ↦ ap (bit_at_place q) (get_or_push words word 0 p (long ∙ sym e) ∙ is ∙ one_shl count 64 small) ∙ bit-power count q ∙ ap (λ i. eqb i q) (sym e)
@@ -75,31 +78,36 @@ own_more count words now word small is pushed each long p q lp lq = ap (λ l. bi
 
 -- ---- one addition
 
-pub adds_row : (lines old : List ℕ) (from onto value : ℕ) (a : Addition) → IsRising lines → length old ≡ length lines → from < length lines → onto < length lines
+pub adds_row : (lines old : List ℕ) (from onto value : ℕ) (a : Addition) → IsRising lines → length old ≡ length lines → from < length lines
+    → onto < length lines
     → value ≡ bit_xor (get_or old onto 0) (get_or old from 0) → a.from ≡ get_or lines from 0 → a.onto ≡ get_or lines onto 0
     → AddsRow lines old (set old onto value) a
 adds_row lines old from onto value a up long lf lo is at_from at_onto = record {
   holds = λ rows hold. record {
     long = length-set old onto value ∙ long;
-    each = λ p q lp lq. elim (cases_eq p onto) as (λ _. bit_at_place q (get_or (set old onto value) p 0) ≡ with_addition rows a (get_or lines p 0) (get_or lines q 0)) [
-      | inl e ↦
-          ap (bit_at_place q) (ap (λ i. get_or (set old onto value) i 0) e ∙ get_or-set_same old onto value 0 (omega (arith, lo, long)) ∙ is)
-          ∙ bit-xor q (get_or old onto 0) (get_or old from 0)
-          ∙ ap (λ b. xor b (bit_at_place q (get_or old from 0))) (ap (λ i. bit_at_place q (get_or old i 0)) (sym e) ∙ hold.each p q lp lq)
-          ∙ ap (xor (rows (get_or lines p 0) (get_or lines q 0))) (hold.each from q lf lq ∙ ap (λ l. rows l (get_or lines q 0)) (sym at_from))
-          ∙ sym (added-onto rows a (get_or lines p 0) (get_or lines q 0) (ap (λ i. get_or lines i 0) e ∙ sym at_onto))
-      | inr ne ↦
-          ap (bit_at_place q) (get_or-set_other old onto p value 0 ne) ∙ hold.each p q lp lq
-          ∙ sym (added-other rows a (get_or lines p 0) (get_or lines q 0)
-          (λ same. line_at_differs lines (AreDifferent-rising lines up) p onto lp lo ne (same ∙ at_onto)))
-    ];
+    each = λ p q lp lq. elim (cases_eq p onto) as (λ _. bit_at_place q (get_or (set old onto value) p 0) ≡ with_addition rows a (get_or lines p 0)
+        (get_or lines q 0)) [
+          | inl e ↦
+              ap (bit_at_place q) (ap (λ i. get_or (set old onto value) i 0) e ∙ get_or-set_same old onto value 0 (omega (arith, lo, long)) ∙ is)
+              ∙ bit-xor q (get_or old onto 0) (get_or old from 0)
+              ∙ ap (λ b. xor b (bit_at_place q (get_or old from 0))) (ap (λ i. bit_at_place q (get_or old i 0)) (sym e) ∙ hold.each p q lp lq)
+              ∙ ap (xor (rows (get_or lines p 0) (get_or lines q 0))) (hold.each from q lf lq ∙ ap (λ l. rows l (get_or lines q 0)) (sym at_from))
+              ∙ sym (added-onto rows a (get_or lines p 0) (get_or lines q 0) (ap (λ i. get_or lines i 0) e ∙ sym at_onto))
+          | inr ne ↦
+              ap (bit_at_place q) (get_or-set_other old onto p value 0 ne) ∙ hold.each p q lp lq
+              ∙ sym (added-other rows a (get_or lines p 0) (get_or lines q 0)
+              (λ same. line_at_differs lines (AreDifferent-rising lines up) p onto lp lo ne (same ∙ at_onto)))
+        ];
   };
 }
 
 pub one_more_added : (lines old mid new : List ℕ) (adds : List Addition) (a : Addition) → AddRows lines old mid adds → AddsRow lines mid new a
     → AddRows lines old new (adds ++ a ∷ [])
 one_more_added lines old mid new adds a these this =
-    record { holds = λ rows hold. subst (HoldRows lines new) (sym (with_additions-append rows adds (a ∷ []))) (this.holds (with_additions rows adds) (these.holds rows hold)) }
+    record {
+      holds = λ rows hold. subst (HoldRows lines new) (sym (with_additions-append rows adds (a ∷ []))) (this.holds (with_additions rows adds)
+          (these.holds rows hold));
+    }
 
 -- ---- the first step
 
@@ -119,12 +127,14 @@ noted_one lines old new before behind a steps one adds is = record {
   notes = λ rows hold. is ∙ sym (ap (λ l. before ++ map cx l) (one rows hold));
 }
 
-pub first_has : (lines words : List ℕ) (c : ℕ) (later : List ℕ) (rows : Rows) → HoldRows lines words rows → c < length lines → bit_at_place c (get_or words c 0) ≡ true
+pub first_has : (lines words : List ℕ) (c : ℕ) (later : List ℕ) (rows : Rows) → HoldRows lines words rows → c < length lines
+    → bit_at_place c (get_or words c 0) ≡ true
     → first_step rows (get_or lines c 0) later ≡ []
 first_has lines words c later rows hold lt has =
     ap (λ b. cond b [] (first_with rows (get_or lines c 0) later)) (sym (hold.each c c lt lt) ∙ has)
 
-pub first_lacks : (lines words : List ℕ) (c : ℕ) (later : List ℕ) (rows : Rows) → HoldRows lines words rows → c < length lines → bit_at_place c (get_or words c 0) ≡ false
+pub first_lacks : (lines words : List ℕ) (c : ℕ) (later : List ℕ) (rows : Rows) → HoldRows lines words rows → c < length lines
+    → bit_at_place c (get_or words c 0) ≡ false
     → first_step rows (get_or lines c 0) later ≡ first_with rows (get_or lines c 0) later
 first_lacks lines words c later rows hold lt lacks =
     ap (λ b. cond b [] (first_with rows (get_or lines c 0) later)) (sym (hold.each c c lt lt) ∙ lacks)
@@ -176,7 +186,8 @@ apart_before (x ∷ xs) different (suc place) lt = (
 
 second_step-append : (rows : Rows) (c : ℕ) (xs ys : List ℕ) → second_step rows c (xs ++ ys) ≡ second_step rows c xs ++ second_step rows c ys
 second_step-append rows c xs ys =
-    ap (map (from_to c)) (filter-append (keeps_column rows c) xs ys) ∙ map-append (from_to c) (filter (keeps_column rows c) xs) (filter (keeps_column rows c) ys)
+    ap (map (from_to c)) (filter-append (keeps_column rows c) xs ys)
+    ∙ map-append (from_to c) (filter (keeps_column rows c) xs) (filter (keeps_column rows c) ys)
 
 second-same : (rows other : Rows) (c line : ℕ) → other line c ≡ rows line c → second_step other c (line ∷ []) ≡ second_step rows c (line ∷ [])
 second-same rows other c line e = ap (λ b. map (from_to c) (cond (not (eqb line c) && b) (line ∷ []) [])) e
@@ -191,7 +202,8 @@ pub second_more : (lines old mid new : List ℕ) (before between behind : List F
 second_more lines old mid new before between behind c place up lt these this = record {
   holds = λ rows hold.
       let now = with_additions rows (second_step rows c (take place lines)) in
-      subst (HoldRows lines new) (sym (ap (with_additions rows) (whole rows) ∙ with_additions-append rows (second_step rows c (take place lines)) (second_step rows c (get_or lines place 0 ∷ []))))
+      subst (HoldRows lines new) (sym (ap (with_additions rows) (whole rows)
+      ∙ with_additions-append rows (second_step rows c (take place lines)) (second_step rows c (get_or lines place 0 ∷ []))))
       (subst (λ adds. HoldRows lines new (with_additions now adds)) (still rows) (this.holds now (these.holds rows hold)));
   notes = λ rows hold.
       let now = with_additions rows (second_step rows c (take place lines)) in
@@ -203,10 +215,12 @@ second_more lines old mid new before between behind c place up lt these this = r
       ∙ sym (ap (λ adds. before ++ map cx adds) (whole rows));
 }
   where
-    whole : (rows : Rows) → second_step rows c (take (place + 1) lines) ≡ second_step rows c (take place lines) ++ second_step rows c (get_or lines place 0 ∷ [])
+    whole : (rows : Rows) → second_step rows c (take (place + 1) lines) ≡ second_step rows c (take place lines) ++ second_step rows c
+        (get_or lines place 0 ∷ [])
     whole rows = ap (second_step rows c) (take_more lines place 0 lt) ∙ second_step-append rows c (take place lines) (get_or lines place 0 ∷ [])
 
-    still : (rows : Rows) → second_step (with_additions rows (second_step rows c (take place lines))) c (get_or lines place 0 ∷ []) ≡ second_step rows c (get_or lines place 0 ∷ [])
+    still : (rows : Rows) → second_step (with_additions rows (second_step rows c (take place lines))) c (get_or lines place 0 ∷ []) ≡ second_step rows c
+        (get_or lines place 0 ∷ [])
     still rows = second-same rows (with_additions rows (second_step rows c (take place lines))) c (get_or lines place 0)
         (row_stays c (get_or lines place 0) c (filter (keeps_column rows c) (take place lines)) rows
         (filter_apart (keeps_column rows c) (get_or lines place 0) (take place lines) (apart_before lines (AreDifferent-rising lines up) place lt)))
@@ -244,12 +258,14 @@ noting_more lines old mid new whole column before between behind lt noting one t
       left =
           ap (λ l. l ++ map cx rest) (two.notes then held ∙ ap (λ l. l ++ map cx second) (one.notes rows noting.hold))
           ∙ append_assoc (before ++ map cx first) (map cx second) (map cx rest) ∙ append_assoc before (map cx first) (map cx second ++ map cx rest)
-          ∙ ap (λ l. before ++ l) (sym (append_assoc (map cx first) (map cx second) (map cx rest)) ∙ ap (λ l. l ++ map cx rest) (sym (map-append cx first second)) ∙ sym (map-append cx steps rest))
+          ∙ ap (λ l. before ++ l) (sym (append_assoc (map cx first) (map cx second) (map cx rest))
+          ∙ ap (λ l. l ++ map cx rest) (sym (map-append cx first second)) ∙ sym (map-append cx steps rest))
           ∙ ap (λ l. before ++ map cx (noted rows lines l)) (sym (drop_more lines column 0 lt))
           ∙ noting.left;
     }
 
-pub noting_done : (lines words : List ℕ) (whole : List Addition) (column : ℕ) (notes : List Flip) → length lines ≤ column → IsNoting lines words whole column notes
+pub noting_done : (lines words : List ℕ) (whole : List Addition) (column : ℕ) (notes : List Flip) → length lines ≤ column
+    → IsNoting lines words whole column notes
     → notes ≡ map cx whole
 noting_done lines words whole column notes le noting =
     sym (append-nil notes) ∙ sym (ap (λ l. notes ++ map cx (noted noting.rows lines l)) (drop_all column lines le)) ∙ noting.left
@@ -260,7 +276,8 @@ map_cx-reverse (a ∷ adds) =
     reverse-append (cx a ∷ []) (map cx adds) ∙ ap (λ l. l ++ cx a ∷ []) (map_cx-reverse adds)
     ∙ sym (ap (map cx) (reverse-append (a ∷ []) adds) ∙ map-append cx (reverse adds) (a ∷ []))
 
-pub noting_reversed : (lines words : List ℕ) (whole : List Addition) (column : ℕ) (notes : List Flip) → length lines ≤ column → IsNoting lines words whole column notes
+pub noting_reversed : (lines words : List ℕ) (whole : List Addition) (column : ℕ) (notes : List Flip) → length lines ≤ column
+    → IsNoting lines words whole column notes
     → reverse notes ≡ map cx (reverse whole)
 noting_reversed lines words whole column notes le noting = ap reverse (noting_done lines words whole column notes le noting) ∙ map_cx-reverse whole
 
@@ -271,9 +288,11 @@ block_more lines old mid new block i d lt these this =
     (one_more_added lines old mid new (map addition_of (take i block)) (addition_of (get_or block i d)) these this)
 
 -- a row of a later line was found
-pub found_first : (lines old now new : List ℕ) (before between behind : List Flip) (c place : ℕ) {E : Type 0} (r : Result (Unit {0}) E) → c < length lines → place < length lines
+pub found_first : (lines old now new : List ℕ) (before between behind : List Flip) (c place : ℕ) {E : Type 0} (r : Result (Unit {0}) E) → c < length lines
+    → place < length lines
     → false ≡ bit_at_place c (get_or old c 0) → now ≡ old → between ≡ before
-    → ((rows : Rows) → HoldRows lines now rows → first_with rows (get_or lines c 0) (drop (c + 1) lines) ≡ first_with rows (get_or lines c 0) (drop place lines))
+    → ((rows : Rows) → HoldRows lines now rows → first_with rows (get_or lines c 0) (drop (c + 1) lines) ≡ first_with rows (get_or lines c 0)
+    (drop place lines))
     → true ≡ bit_at_place c (get_or now place 0) → AddsRow lines now new (between_places lines place c)
     → OnOk r (behind ≡ between ++ cx (between_places lines place c) ∷ [])
     → OnOk r (IsNoted lines old new before behind (λ rows. first_step rows (get_or lines c 0) (drop (c + 1) lines)))
@@ -287,7 +306,8 @@ found_first lines old now new before between behind c place r lc lp lacks same k
 
 pub found_no_first : (lines old now : List ℕ) (before behind : List Flip) (c place : ℕ) → c < length lines → length lines ≤ place
     → false ≡ bit_at_place c (get_or old c 0) → now ≡ old → behind ≡ before
-    → ((rows : Rows) → HoldRows lines now rows → first_with rows (get_or lines c 0) (drop (c + 1) lines) ≡ first_with rows (get_or lines c 0) (drop place lines))
+    → ((rows : Rows) → HoldRows lines now rows → first_with rows (get_or lines c 0) (drop (c + 1) lines) ≡ first_with rows (get_or lines c 0)
+    (drop place lines))
     → IsNoted lines old now before behind (λ rows. first_step rows (get_or lines c 0) (drop (c + 1) lines))
 found_no_first lines old now before behind c place lc past lacks same kept passed =
     subst (λ w. IsNoted lines old w before behind (λ rows. first_step rows (get_or lines c 0) (drop (c + 1) lines))) (sym same)
@@ -296,16 +316,19 @@ found_no_first lines old now before behind c place lc past lacks same kept passe
     (λ rows hold. first_lacks lines old c (drop (c + 1) lines) rows hold lc (sym lacks) ∙ passed rows (subst (λ w. HoldRows lines w rows) (sym same) hold)
     ∙ ap (first_with rows (get_or lines c 0)) (drop_all place lines past))))
 
-pub found_other : (lines old new : List ℕ) (before behind : List Flip) (c place : ℕ) {E : Type 0} (r : Result (Unit {0}) E) → IsRising lines → c < length lines → place < length lines
+pub found_other : (lines old new : List ℕ) (before behind : List Flip) (c place : ℕ) {E : Type 0} (r : Result (Unit {0}) E) → IsRising lines
+    → c < length lines → place < length lines
     → place ≢ c → true ≡ bit_at_place c (get_or old place 0) → AddsRow lines old new (between_places lines c place)
     → OnOk r (behind ≡ before ++ cx (between_places lines c place) ∷ [])
     → OnOk r (IsNoted lines old new before behind (λ rows. second_step rows (get_or lines c 0) (get_or lines place 0 ∷ [])))
 found_other lines old new before behind c place r up lc lp ne has adds notes =
-    on_ok_weaker r (λ is. noted_one lines old new before behind (between_places lines c place) (λ rows. second_step rows (get_or lines c 0) (get_or lines place 0 ∷ []))
+    on_ok_weaker r (λ is. noted_one lines old new before behind (between_places lines c place) (λ rows. second_step rows (get_or lines c 0)
+    (get_or lines place 0 ∷ []))
     (λ rows hold. second-has rows (get_or lines c 0) (get_or lines place 0)
     (line_at_differs lines (AreDifferent-rising lines up) place c lp lc ne) (sym (hold.each place c lp lc) ∙ sym has)) adds is) notes
 
 pub second_done : (lines old new : List ℕ) (before behind : List Flip) (c place : ℕ) → length lines ≤ place
-    → IsNoted lines old new before behind (λ rows. second_step rows c (take place lines)) → IsNoted lines old new before behind (λ rows. second_step rows c lines)
+    → IsNoted lines old new before behind (λ rows. second_step rows c (take place lines))
+    → IsNoted lines old new before behind (λ rows. second_step rows c lines)
 second_done lines old new before behind c place le noted =
     subst (λ l. IsNoted lines old new before behind (λ rows. second_step rows c l)) (take_all place lines le) noted

@@ -1,25 +1,30 @@
 -- Blocks: the lines that they touch, and what a walk over them finds.
-use Rattle.std.proofs.Common.{◌≡◌, ◌≢◌, ℕ, zero, suc, ◌+◌, ◌-◌, ◌<◌, ◌≤◌, ◌⊎◌, inl, inr, Bool, true, false, not, ◌&&◌, ◌||◌, eqb, ltb, leb, cond, List, [], ◌∷◌, ◌++◌}
+use Rattle.std.proofs.Common.{◌≡◌, ◌≢◌, ℕ, zero, suc, ◌+◌, ◌-◌, ◌<◌, ◌≤◌, ◌⊎◌, inl, inr, Bool, true, false, not, ◌&&◌, ◌||◌, eqb, ltb, leb, cond, List, [], ◌∷◌}
+use Rattle.std.proofs.Common.{◌++◌}
 use Rattle.std.proofs.Common.{length, map, take, drop, get_or, refl, sym, ap, ◌∙◌, subst, arith}
 use Rattle.std.specs.List.{AllByRecursion, list_any}
 use mir.Val.{bool_byte}
-use Rattle.std.proofs.lemmas.Bool.{cases_Bool, cases_eq, both_ways, false≢true, eqb-true, eqb-false, eq-eqb, ne_eqb, ltb-true, ltb-false, leb-true, leb-false, le-leb}
+use Rattle.std.proofs.lemmas.Bool.{cases_Bool, cases_eq, both_ways, false≢true, eqb-true, eqb-false, eq-eqb, ne_eqb, ltb-true, ltb-false, leb-true, leb-false}
+use Rattle.std.proofs.lemmas.Bool.{le-leb}
 use Rattle.std.proofs.lemmas.Bool.{or_cases, or_left, or_right, and_parts, false_from_ne_true}
 use Rattle.std.proofs.lemmas.List.{drop_more, drop_all, drop-drop, length-drop, take-append-drop, take_more, length-take-le}
 use Rattle.std.proofs.lemmas.List.Folds.{list_any-append}
 use Rattle.list_facts.specs.Lists.{IsRising, below}
-use Rattle.list_facts.proofs.AllLemmas.{AllByRecursion-append, AllByRecursion-left, AllByRecursion-right, AllByRecursion-take, AllByRecursion-drop, AllByRecursion-weaker, AllByRecursion-push}
+use Rattle.list_facts.proofs.AllLemmas.{AllByRecursion-append, AllByRecursion-left, AllByRecursion-right, AllByRecursion-take, AllByRecursion-drop}
+use Rattle.list_facts.proofs.AllLemmas.{AllByRecursion-weaker, AllByRecursion-push}
 use Rattle.list_facts.proofs.OrderLemmas.{IsRising-filter}
 use Rattle.mct_circuit.specs.Gates.{IsGateOn}
 use Rattle.mct_circuit.specs.Sizes.{has_line}
 use Rattle.circuit_tidy.specs.declared.flip.Controls.{Controls}
 use Rattle.circuit_tidy.specs.declared.flip.Controls.TheVariants.{Zero, One, Two}
 use Rattle.circuit_tidy.specs.declared.flip.Flip.{Flip}
-use Rattle.circuit_tidy.specs.Blocks.{AreBlocks, EndsBefore, IsBlock, IsNoLonger, addition_of, all_walked, block_taken, cx, elimination_of, is_cx, is_one, one_line, passed_over, touched}
+use Rattle.circuit_tidy.specs.Blocks.{AreBlocks, EndsBefore, IsBlock, IsNoLonger, addition_of, all_walked, block_taken, cx, elimination_of, is_cx, is_one}
+use Rattle.circuit_tidy.specs.Blocks.{one_line, passed_over, touched}
 use Rattle.circuit_tidy.specs.Elimination.{eliminated}
 use Rattle.circuit_tidy.specs.Flips.{controls_of, gate_of, lines_in, touches}
 use Rattle.circuit_tidy.specs.inside.BitRows.{IsCxOn}
-use Rattle.circuit_tidy.specs.inside.Walking.{AreOnLines, AreShort, AreTouched, HaveShortBlocks, IsFirstCx, IsLonger, IsPassed, IsBlockOf, StopsBefore, takes, with_line, with_lines_of}
+use Rattle.circuit_tidy.specs.inside.Walking.{AreOnLines, AreShort, AreTouched, HaveShortBlocks, IsFirstCx, IsLonger, IsPassed, IsBlockOf, StopsBefore, takes}
+use Rattle.circuit_tidy.specs.inside.Walking.{with_line, with_lines_of}
 use Rattle.circuit_tidy.specs.declared.blocks.Block.{Block}
 use Rattle.circuit_tidy.proofs.EliminationLemmas.{has_line-filter}
 use Rattle.circuit_tidy.proofs.IndexLemmas.{lines_of_flip}
@@ -90,7 +95,8 @@ length-with_line line (y ∷ ys) up = elim (cases_Bool (eqb line y)) [
   | inr ne ↦ elim (cases_Bool (ltb line y)) [
     | inl lt ↦
         let less = ltb-true line y lt in
-        let none : has_line line ys ≡ false = false_from_ne_true (has_line line ys) (λ has. let more = all_at_has (λ z. y < z) ys line up.0 has in absurd (omega (arith, less, more))) in
+        let none : has_line line ys ≡ false = false_from_ne_true (has_line line ys) (λ has. let more = all_at_has (λ z. y < z) ys line up.0 has in absurd
+        (omega (arith, less, more))) in
         rw (ne, lt, none) (omega arith)
     | inr ge ↦ rw (ne, ge) (omega (arith, length-with_line line ys up.1))
   ]
@@ -148,7 +154,8 @@ below_rises n = (rises n).0
     rises (suc n) =
         let rest = rises n in (
           push (below n) n rest.0 rest.1,
-          AllByRecursion-push (λ x. x < suc n) (below n) n (AllByRecursion-weaker (λ x. x < n) (λ x. x < suc n) (λ x lt. omega (arith, lt)) (below n) rest.1) (omega arith),
+          AllByRecursion-push (λ x. x < suc n) (below n) n (AllByRecursion-weaker (λ x. x < n) (λ x. x < suc n) (λ x lt. omega (arith, lt))
+              (below n) rest.1) (omega arith),
         )
 
 -- ---- the lines that flips touch
@@ -202,7 +209,8 @@ one_more_touched flips flip lines is are =
       rising = rising-with_line flip.target one (rising-with_line (one_line flip.controls) lines are.rising);
       each = λ line.
           has_line-with_line line flip.target one
-          ∙ ap (λ b. eqb line flip.target || b) (has_line-with_line line (one_line flip.controls) lines ∙ ap (λ b. eqb line (one_line flip.controls) || b) (are.each line))
+          ∙ ap (λ b. eqb line flip.target || b) (has_line-with_line line (one_line flip.controls) lines
+          ∙ ap (λ b. eqb line (one_line flip.controls) || b) (are.each line))
           ∙ turn (eqb line flip.target) (eqb line (one_line flip.controls)) (list_any (touches line) flips)
           ∙ ap (λ b. list_any (touches line) flips || (b || false)) (sym (touches_cx line flip is))
           ∙ sym (list_any-append (touches line) flips (flip ∷ []));
@@ -237,14 +245,16 @@ cxs_on lines flips (f ∷ fs) cxs all = (
   record {
     is = cxs.0;
     from = all (one_line f.controls) (or_left (touches (one_line f.controls) f) (list_any (touches (one_line f.controls)) fs)
-        (touches_cx (one_line f.controls) f cxs.0 ∙ or_right (eqb (one_line f.controls) f.target) (eqb (one_line f.controls) (one_line f.controls)) (eq-eqb (one_line f.controls) (one_line f.controls) refl)));
+        (touches_cx (one_line f.controls) f cxs.0 ∙ or_right (eqb (one_line f.controls) f.target) (eqb (one_line f.controls) (one_line f.controls)) (eq-eqb
+        (one_line f.controls) (one_line f.controls) refl)));
     onto = all f.target (or_left (touches f.target f) (list_any (touches f.target) fs)
         (or_left (eqb f.target f.target) (has_line f.target (controls_of f)) (eq-eqb f.target f.target refl)));
   },
   cxs_on lines flips fs cxs.1 (λ line any. all line (or_right (touches line f) (list_any (touches line) fs) any)),
 )
 
-pub block_on : (block : List Flip) (lines : List ℕ) → AllByRecursion (λ flip. is_cx flip ≡ true) block → AreTouched block lines → AllByRecursion (IsCxOn lines) block
+pub block_on : (block : List Flip) (lines : List ℕ) → AllByRecursion (λ flip. is_cx flip ≡ true) block → AreTouched block lines
+    → AllByRecursion (IsCxOn lines) block
 block_on block lines cxs are = cxs_on lines block block cxs (λ line any. are.each line ∙ any)
 
 -- ---- what a walk passes over
@@ -258,7 +268,8 @@ all_short flips start le passed = record { blocks = λ n on. passed.blocks n on 
 pub passed_begun : (flips : List Flip) → IsPassed flips 0
 passed_begun flips = record { blocks = λ n on rest. rest }
 
-pub passed_more : (flips rest : List Flip) (start count : ℕ) → rest ≡ drop start flips → IsPassed flips start → IsPassed rest count → IsPassed flips (start + count)
+pub passed_more : (flips rest : List Flip) (start count : ℕ) → rest ≡ drop start flips → IsPassed flips start → IsPassed rest count
+    → IsPassed flips (start + count)
 passed_more flips rest start count is these this = record {
   blocks = λ n on behind.
       let on_rest : AreOnLines n rest = subst (AreOnLines n) (sym is) (AllByRecursion-drop (λ f. IsGateOn n (gate_of f)) start flips on) in
@@ -272,7 +283,8 @@ no_cx_passed (f ∷ fs) first some is = record {
   blocks = λ n on behind. record { blocks = behind.blocks; are = passed_over f fs behind.blocks is behind.are; short = behind.short };
 }
 
-ends_before : (n : ℕ) (block rest : List Flip) (lines : List ℕ) → AreOnLines n (block ++ rest) → AreTouched block lines → StopsBefore lines rest → EndsBefore n block rest
+ends_before : (n : ℕ) (block rest : List Flip) (lines : List ℕ) → AreOnLines n (block ++ rest) → AreTouched block lines → StopsBefore lines rest
+    → EndsBefore n block rest
 ends_before n block [] lines on are stops = tt
 ends_before n block (next ∷ rest) lines on are stops = by (cases_Bool (is_cx next))
   where
@@ -295,7 +307,8 @@ pub record IsCut (flips : List Flip) (count : ℕ) (lines : List ℕ) : Type 0 w
   pub few : length lines ≤ 64
   pub stops : StopsBefore lines (drop count flips)
 
-cut_is_block : (n : ℕ) (flips : List Flip) (count : ℕ) (lines : List ℕ) → IsCut flips count lines → AreOnLines n (take count flips) → IsBlock n (take count flips)
+cut_is_block : (n : ℕ) (flips : List Flip) (count : ℕ) (lines : List ℕ) → IsCut flips count lines → AreOnLines n (take count flips)
+    → IsBlock n (take count flips)
 cut_is_block n flips count lines cut on = record {
   some = let long = length-take-le count flips cut.within in let some = cut.some in omega arith;
   cxs = cut.cxs;
@@ -337,7 +350,8 @@ block_longer flips count lines shorter cut is less = record {
 pub takes_so : (lines : List ℕ) (flip : Flip) (from one two : ℕ) → One from ≡ flip.controls → IsRising lines → one ≡ bool_byte (not (has_line from lines))
     → two ≡ bool_byte (not (eqb flip.target from || has_line flip.target lines)) → leb (length lines + one + two) 64 ≡ takes lines flip
 takes_so lines flip from one two is up first second =
-    ap (λ k. leb k 64) (ap (λ k. length lines + k + two) (first ∙ turned (has_line from lines)) ∙ ap (λ k. length lines + cond (has_line from lines) 0 1 + k) (second ∙ turned (eqb flip.target from || has_line flip.target lines)))
+    ap (λ k. leb k 64) (ap (λ k. length lines + k + two) (first ∙ turned (has_line from lines))
+    ∙ ap (λ k. length lines + cond (has_line from lines) 0 1 + k) (second ∙ turned (eqb flip.target from || has_line flip.target lines)))
     ∙ sym (ap (λ b. b && leb (length (with_lines_of flip lines)) 64) (sym (ap is_one is))
     ∙ ap (λ k. leb k 64) (length-with_lines_of flip lines up
     ∙ ap (λ l. length lines + cond (has_line l lines) 0 1 + cond (eqb flip.target l || has_line flip.target lines) 0 1) (sym (ap one_line is))))
@@ -346,7 +360,8 @@ takes_so lines flip from one two is up first second =
     turned true = refl
     turned false = refl
 
-pub block_grows : (flips : List Flip) (count : ℕ) (lines seen now : List ℕ) (d : Flip) → count < length flips → AllByRecursion (λ flip. is_cx flip ≡ true) (take count flips)
+pub block_grows : (flips : List Flip) (count : ℕ) (lines seen now : List ℕ) (d : Flip) → count < length flips
+    → AllByRecursion (λ flip. is_cx flip ≡ true) (take count flips)
     → AreTouched (take count flips) lines → seen ≡ lines → takes seen (get_or flips count d) ≡ true → now ≡ with_lines_of (get_or flips count d) lines
     → AllByRecursion (λ flip. is_cx flip ≡ true) (take (count + 1) flips) × AreTouched (take (count + 1) flips) now × (length now ≤ 64)
 block_grows flips count lines seen now d lt cxs are same take_it is =
@@ -354,7 +369,8 @@ block_grows flips count lines seen now d lt cxs are same take_it is =
     let parts = and_parts (is_cx next) (leb (length (with_lines_of next lines)) 64) (subst (λ l. takes l next ≡ true) same take_it) in
     let more = take_more flips count d lt in (
       subst (AllByRecursion (λ flip. is_cx flip ≡ true)) (sym more) (AllByRecursion-push (λ flip. is_cx flip ≡ true) (take count flips) next cxs parts.0),
-      subst (AreTouched (take (count + 1) flips)) (sym is) (subst (λ l. AreTouched l (with_lines_of next lines)) (sym more) (one_more_touched (take count flips) next lines parts.0 are)),
+      subst (AreTouched (take (count + 1) flips)) (sym is) (subst (λ l. AreTouched l (with_lines_of next lines)) (sym more) (one_more_touched
+          (take count flips) next lines parts.0 are)),
       subst (λ l. length l ≤ 64) (sym is) (leb-true (length (with_lines_of next lines)) 64 parts.1),
     )
 
@@ -377,7 +393,8 @@ length-with_line_most line (y ∷ ys) = elim (cases_Bool (eqb line y)) [
 ]
 
 -- a first CX is always taken
-some_taken : (flips : List Flip) (count : ℕ) (lines : List ℕ) → 1 ≤ length flips → IsFirstCx flips → AreTouched (take count flips) lines → Stops flips count lines → 1 ≤ count
+some_taken : (flips : List Flip) (count : ℕ) (lines : List ℕ) → 1 ≤ length flips → IsFirstCx flips → AreTouched (take count flips) lines
+    → Stops flips count lines → 1 ≤ count
 some_taken flips (suc count) lines some first are stops = omega arith
 some_taken [] zero lines some first are stops = absurd (omega (arith, some))
 some_taken (f ∷ fs) zero lines some first are (at_end le) = absurd (omega (arith, le))
@@ -389,7 +406,8 @@ some_taken (f ∷ fs) zero lines some first are (at_next seen d lt same refused)
     absurd (both_ways (takes [] f) (subst (λ l. takes l f ≡ false) (same ∙ none) refused) taken)
 
 pub block_ends : (flips : List Flip) (block : Block) → 1 ≤ length flips → IsFirstCx flips → block.length ≤ length flips
-    → AllByRecursion (λ flip. is_cx flip ≡ true) (take block.length flips) → AreTouched (take block.length flips) block.lines.items → length block.lines.items ≤ 64
+    → AllByRecursion (λ flip. is_cx flip ≡ true) (take block.length flips) → AreTouched (take block.length flips) block.lines.items
+    → length block.lines.items ≤ 64
     → Stops flips block.length block.lines.items → IsBlockOf flips block
 block_ends flips block some first within cxs are few stops = record {
   some = some_taken flips block.length block.lines.items some first are stops;
@@ -415,5 +433,6 @@ longer_in flips rest shorter start count le is few longer =
       subst (λ k. IsLonger (take k (drop start flips)) shorter) (sym size) (subst (λ r. IsLonger (take count r) shorter) is longer),
     )
 
-pub still_within : (flips rest : List Flip) (start count : ℕ) → start ≤ length flips → rest ≡ drop start flips → count ≤ length rest → start + count ≤ length flips
+pub still_within : (flips rest : List Flip) (start count : ℕ) → start ≤ length flips → rest ≡ drop start flips → count ≤ length rest
+    → start + count ≤ length flips
 still_within flips rest start count le is few = omega (arith, le, few, ap length is, length-drop start flips)

@@ -1,9 +1,11 @@
 -- The elimination of a list of additions has its line map.
-use Rattle.std.proofs.Common.{◌≡◌, ◌≢◌, ℕ, ◌<◌, Bool, true, false, not, ◌&&◌, ◌||◌, eqb, cond, List, [], ◌∷◌, ◌++◌, length, map, filter, reverse, set, refl, sym, ap, ◌∙◌, subst, ◌⊎◌, inl, inr}
+use Rattle.std.proofs.Common.{◌≡◌, ◌≢◌, ℕ, ◌<◌, Bool, true, false, not, ◌&&◌, ◌||◌, eqb, cond, List, [], ◌∷◌, ◌++◌, length, map, filter, reverse, set, refl}
+use Rattle.std.proofs.Common.{sym, ap, ◌∙◌, subst, ◌⊎◌, inl, inr}
 use Rattle.std.proofs.Common.{arith}
 use Rattle.std.specs.Bool.{xor}
 use Rattle.std.specs.List.{AllByRecursion}
-use Rattle.std.proofs.lemmas.Bool.{cases_Bool, cases_eq, eq-eqb, ne_eqb, eqb-true, eqb-false, and_parts, or_parts, not-true, both_ways, false≢true, or_left, or_right, or_cases}
+use Rattle.std.proofs.lemmas.Bool.{cases_Bool, cases_eq, eq-eqb, ne_eqb, eqb-true, eqb-false, and_parts, or_parts, not-true, both_ways, false≢true, or_left}
+use Rattle.std.proofs.lemmas.Bool.{or_right, or_cases}
 use Rattle.std.proofs.lemmas.Bool.{false_from_ne_true}
 use Rattle.std.proofs.lemmas.List.{ext_get_or, get_or-set_same, get_or-set_other, length-set, map-append, reverse-append}
 use Rattle.list_facts.specs.Bits.{bit_of}
@@ -16,7 +18,8 @@ use Rattle.mct_circuit.specs.Sizes.{has_line}
 use Rattle.mct_circuit.proofs.FlipLemmas.{flip_sets}
 use Rattle.mct_circuit.proofs.ReversalLemmas.{reversed_behind}
 use Rattle.circuit_tidy.specs.Blocks.{cx}
-use Rattle.circuit_tidy.specs.Elimination.{Addition, Rows, own_rows, with_addition, with_additions, first_with, first_step, second_step, steps_at, noted, eliminated}
+use Rattle.circuit_tidy.specs.Elimination.{Addition, Rows, own_rows, with_addition, with_additions, first_with, first_step, second_step, steps_at, noted}
+use Rattle.circuit_tidy.specs.Elimination.{eliminated}
 use Rattle.circuit_tidy.specs.Flips.{gate_of, gates_of}
 use Rattle.circuit_tidy.proofs.FlipLemmas.{after}
 use Rattle.circuit_tidy.proofs.ParityLemmas.{parity, parity-same, parity-xor, parity-one}
@@ -82,11 +85,12 @@ one_more : (n : ℕ) (rows : Rows) (a : Addition) (bits now : List Bool) → IsA
     → AreRowsOf n (with_addition rows a) bits (after (cx a) now)
 one_more n rows a bits now is are = record {
   long = ap length (after-cx a now) ∙ length-set now a.onto (xor (bit_of now a.from) (bit_of now a.onto)) ∙ are.long;
-  each = λ line lt. ap (λ l. bit_of l line) (after-cx a now) ∙ elim (cases_eq line a.onto) as (λ _. bit_of (set now a.onto (xor (bit_of now a.from) (bit_of now a.onto))) line ≡ value (with_addition rows a) (bit_of bits) n line) [
-    | inl e ↦ here line e lt
-    | inr ne ↦ get_or-set_other now a.onto line (xor (bit_of now a.from) (bit_of now a.onto)) false ne ∙ are.each line lt
-        ∙ sym (value-other rows a (bit_of bits) n line ne)
-  ];
+  each = λ line lt. ap (λ l. bit_of l line) (after-cx a now) ∙ elim (cases_eq line a.onto) as (λ _. bit_of (set now a.onto (xor (bit_of now a.from)
+      (bit_of now a.onto))) line ≡ value (with_addition rows a) (bit_of bits) n line) [
+        | inl e ↦ here line e lt
+        | inr ne ↦ get_or-set_other now a.onto line (xor (bit_of now a.from) (bit_of now a.onto)) false ne ∙ are.each line lt
+            ∙ sym (value-other rows a (bit_of bits) n line ne)
+      ];
 }
   where
     here : (line : ℕ) → line ≡ a.onto → line < n
@@ -105,7 +109,8 @@ rows_after n [] rows bits now all are = are
 rows_after n (a ∷ adds) rows bits now all are =
     rows_after n adds (with_addition rows a) bits (after (cx a) now) all.1 (one_more n rows a bits now all.0 are)
 
-pub own_is_nothing : (n : ℕ) (rows : Rows) (bits now : List Bool) → length bits ≡ n → AreRowsOf n rows bits now → ((line x : ℕ) → line < n → x < n → rows line x ≡ eqb line x)
+pub own_is_nothing : (n : ℕ) (rows : Rows) (bits now : List Bool) → length bits ≡ n → AreRowsOf n rows bits now → ((line x : ℕ) → line < n → x < n
+    → rows line x ≡ eqb line x)
     → now ≡ bits
 own_is_nothing n rows bits now long are own =
     ext_get_or false now bits (are.long ∙ sym long)
@@ -256,7 +261,8 @@ first_steps n lines c later rows are to_come reduced = elim (cases_Bool (rows c 
     by : rows c c ≡ false → FirstWith rows c later → IsStep n lines (c ∷ later) c rows (first_with rows c later)
     by lacks (found line among is same) =
         let behind : has_line line (c ∷ later) ≡ true = or_right (eqb line c) (has_line line later) among in
-        let differ : line ≢ c = λ e. both_ways (has_line line later) (subst (λ z. has_line z later ≡ false) (sym e) (lacks_from c later to_come.different.0)) among in
+        let differ : line ≢ c = λ e. both_ways (has_line line later) (subst (λ z. has_line z later ≡ false) (sym e)
+        (lacks_from c later to_come.different.0)) among in
         subst (IsStep n lines (c ∷ later) c rows) (sym same) (record {
           within = (
             record {
@@ -381,7 +387,8 @@ steps_reduce n lines c later rows are to_come reduced =
     (parts.0, are.low m parts.0, λ e. eqb-false m c (not-true (eqb m c) (and_parts (not (eqb m c)) (now m c) parts.1).0) (sym e)))) in
     let reduced_then = kept (AreReduced n lines (c ∷ later)) (IsWithin n lines (c ∷ later)) (reduced_kept n lines (c ∷ later)) now second within reduced_now in
     record {
-      all = AllByRecursion-append (IsAddition n) first second (is_addition n lines (c ∷ later) first one.within) (is_addition n lines (c ∷ later) second within);
+      all = AllByRecursion-append (IsAddition n) first second (is_addition n lines (c ∷ later) first one.within) (is_addition n lines
+          (c ∷ later) second within);
       reduced = subst (AreReduced n lines later) (sym (with_additions-append rows first second)) (record {
         clear = λ x line lacks lt less. elim (cases_eq x c) as (λ _. with_additions now second line x ≡ eqb line x) [
           | inl e ↦ subst (λ z. with_additions now second line z ≡ eqb line z) (sym e)
@@ -450,8 +457,10 @@ eliminated_replaces n lines adds are within =
           let now = line_map (gates_of (map cx adds)) bits in
           let rows_now = rows_after n adds own_rows bits bits (is_addition n lines lines adds within) (own_rows_are n bits long) in
           let back : line_map (gates_of (map cx notes)) now ≡ bits =
-          own_is_nothing n (with_additions rows notes) bits (line_map (gates_of (map cx notes)) now) long (rows_after n notes rows bits now done.all rows_now) done.own in
+          own_is_nothing n (with_additions rows notes) bits (line_map (gates_of (map cx notes)) now) long
+          (rows_after n notes rows bits now done.all rows_now) done.own in
           ap (λ gs. line_map gs bits) (gates-reverse notes)
           ∙ ap (line_map (reverse (gates_of (map cx notes)))) (sym back)
-          ∙ reversed_behind (gates_of (map cx notes)) now (subst (λ m. AreGatesOn m (gates_of (map cx notes))) (sym rows_now.long) (gates_of_cxs n notes done.all));
+          ∙ reversed_behind (gates_of (map cx notes)) now (subst (λ m. AreGatesOn m (gates_of (map cx notes))) (sym rows_now.long)
+          (gates_of_cxs n notes done.all));
     }

@@ -61,7 +61,8 @@ pub record AreAlike (one other : Flip) : Type 0 where
 
 pub alike_says : (one other : Flip) → are_alike one other ≡ true → AreAlike one other
 alike_says one other alike =
-    let parts = and_parts (eqb one.target other.target) (are_among (controls_of one) (controls_of other) && are_among (controls_of other) (controls_of one)) alike in
+    let parts = and_parts (eqb one.target other.target) (are_among (controls_of one) (controls_of other) && are_among (controls_of other)
+    (controls_of one)) alike in
     let sets = and_parts (are_among (controls_of one) (controls_of other)) (are_among (controls_of other) (controls_of one)) parts.1 in
     record { target = eqb-true one.target other.target parts.0; forth = sets.0; back = sets.1 }
 

@@ -1,12 +1,14 @@
 -- What the index of lines tells of the flips in the slots.
-use Rattle.std.proofs.Common.{◌≡◌, ◌≢◌, ℕ, zero, suc, ◌+◌, ◌-◌, ◌<◌, ◌≤◌, max, ◌⊎◌, inl, inr, Bool, true, false, not, ◌&&◌, ◌||◌, eqb, cond, Option, Some, None, Result, Ok, Err, List, [], ◌∷◌, ◌++◌}
+use Rattle.std.proofs.Common.{◌≡◌, ◌≢◌, ℕ, zero, suc, ◌+◌, ◌-◌, ◌<◌, ◌≤◌, max, ◌⊎◌, inl, inr, Bool, true, false, not, ◌&&◌, ◌||◌, eqb, cond, Option, Some, None}
+use Rattle.std.proofs.Common.{Result, Ok, Err, List, [], ◌∷◌, ◌++◌}
 use Rattle.std.proofs.Common.{length, take, drop, set, get_or, refl, sym, ap, ◌∙◌, subst, add-one, arith}
 use Rattle.std.specs.List.{AllByRecursion}
 use Rattle.std.specs.Global.{Vec}
 use Rattle.std.specs.Option.{is_some}
 use Rattle.std.specs.Result.{OnOk}
 use Rattle.std.proofs.lemmas.Bool.{cases_eq, cases_lt, cases_order, both_ways, false_from_ne_true, or_from, or_left, or_right, eqb-false, eq-eqb, ne_eqb}
-use Rattle.std.proofs.lemmas.List.{get_or_append_left, get_or_push, get_or_past, get_or-set_same, get_or-set_other, length_push, length-set, length-map, map-set, get_or-map, take_more, take_all, take-append-drop, drop_more}
+use Rattle.std.proofs.lemmas.List.{get_or_append_left, get_or_push, get_or_past, get_or-set_same, get_or-set_other, length_push, length-set, length-map}
+use Rattle.std.proofs.lemmas.List.{map-set, get_or-map, take_more, take_all, take-append-drop, drop_more}
 use Rattle.list_facts.specs.Lists.{IsAmong, IsRising, AreDifferent}
 use Rattle.list_facts.proofs.OrderLemmas.{AreDifferent-left, AreDifferent-parts}
 use Rattle.list_facts.proofs.AllLemmas.{AllByRecursion-left, AllByRecursion-right, AllByRecursion-push, AllByRecursion-weaker}
@@ -16,10 +18,11 @@ use Rattle.mct_circuit.specs.Sizes.{has_line}
 use Rattle.mct_circuit.proofs.ReversalLemmas.{lines_of-flip_of}
 use Rattle.circuit_tidy.specs.declared.flip.Flip.{Flip}
 use Rattle.circuit_tidy.specs.Flips.{are_alike, are_free, controls_of, gate_of}
-use Rattle.circuit_tidy.specs.inside.Index.{slot_at, with_slot, flips_below, flips_in, is_like_in, ArePlaces, IsThere, IsBehindLast, FindsLast, contents, places_at, AreIndexed}
-use Rattle.circuit_tidy.specs.inside.Index.{has_target, has_control, IsPartner, HasNoPartner, ArePushed, AreIndexes}
+use Rattle.circuit_tidy.specs.inside.Index.{slot_at, with_slot, flips_below, flips_in, is_like_in, ArePlaces, IsThere, IsBehindLast, FindsLast, contents}
+use Rattle.circuit_tidy.specs.inside.Index.{places_at, AreIndexed}
+use Rattle.circuit_tidy.specs.inside.Index.{has_target, has_control, IsPartner, HasNoPartner, HoldLikes, ArePushed, AreIndexes}
 use Rattle.circuit_tidy.specs.inside.Settling.{onto, without, or_with, with_flip}
-use Rattle.circuit_tidy.proofs.FlipLemmas.{alike_says, among_lacks, free_from}
+use Rattle.circuit_tidy.proofs.FlipLemmas.{alike_says, among_has, among_lacks, free_from}
 use Rattle.circuit_tidy.proofs.PairLemmas.{without-meets, without-passes, without-stops}
 
 -- ---- slots
@@ -66,7 +69,8 @@ flips_in-push slots flip =
     ∙ ap (λ l. flip ∷ l) (flips_below-same (slots ++ Some flip ∷ []) slots (length slots) (λ place lt. get_or_append_left slots (Some flip ∷ []) None place lt))
 
 -- a flip like this one is there, and what is behind it is free and not like it
-taken_from : (slots : List (Option Flip)) (flip other : Flip) (place : ℕ) → place < length slots → slot_at slots place ≡ Some other → are_alike flip other ≡ true
+taken_from : (slots : List (Option Flip)) (flip other : Flip) (place : ℕ) → place < length slots → slot_at slots place ≡ Some other
+    → are_alike flip other ≡ true
     → ((later : ℕ) (one : Flip) → place < later → slot_at slots later ≡ Some one → (are_alike flip one ≡ false) × (are_free flip one ≡ true))
     → (n : ℕ) → place < n → without flip (flips_below slots n) ≡ Some (flips_below (set slots place None) n)
 taken_from slots flip other place inside is alike behind zero lt = absurd (omega (arith, lt))
@@ -74,8 +78,10 @@ taken_from slots flip other place inside is alike behind (suc n) lt = elim (case
   | inl e ↦
       ap (λ s. without flip (with_slot s (flips_below slots n))) (ap (slot_at slots) e ∙ is)
       ∙ without-meets flip other (flips_below slots n) alike
-      ∙ ap Some (flips_below-same slots (set slots place None) n (λ q below. sym (get_or-set_other slots place q None None (λ same. absurd (omega (arith, e, same, below))))))
-      ∙ sym (ap (λ s. Some (with_slot s (flips_below (set slots place None) n))) (ap (slot_at (set slots place None)) e ∙ get_or-set_same slots place None None inside))
+      ∙ ap Some (flips_below-same slots (set slots place None) n (λ q below. sym (get_or-set_other slots place q None None (λ same. absurd (omega
+      (arith, e, same, below))))))
+      ∙ sym (ap (λ s. Some (with_slot s (flips_below (set slots place None) n))) (ap (slot_at (set slots place None)) e
+      ∙ get_or-set_same slots place None None inside))
   | inr ne ↦
       let below : place < n = let other : n ≢ place = ne in omega arith in
       let rest = taken_from slots flip other place inside is alike behind n below in
@@ -84,7 +90,8 @@ taken_from slots flip other place inside is alike behind (suc n) lt = elim (case
   where
     by : (s : Option Flip) → slot_at slots n ≡ s → without flip (flips_below slots n) ≡ Some (flips_below (set slots place None) n)
         → ((one : Flip) → place < n → slot_at slots n ≡ Some one → (are_alike flip one ≡ false) × (are_free flip one ≡ true)) → place < n → n ≢ place
-        → without flip (with_slot (slot_at slots n) (flips_below slots n)) ≡ Some (with_slot (slot_at (set slots place None) n) (flips_below (set slots place None) n))
+        → without flip (with_slot (slot_at slots n) (flips_below slots n)) ≡ Some (with_slot (slot_at (set slots place None) n) (flips_below
+        (set slots place None) n))
     by None at rest free below ne =
         ap (λ s. without flip (with_slot s (flips_below slots n))) at ∙ rest
         ∙ sym (ap (λ s. Some (with_slot s (flips_below (set slots place None) n))) (get_or-set_other slots place n None None ne ∙ at))
@@ -98,7 +105,8 @@ taken_from slots flip other place inside is alike behind (suc n) lt = elim (case
 nothing_from : (slots : List (Option Flip)) (flip : Flip) (bound : ℕ)
     → ((place : ℕ) (one : Flip) → bound ≤ place → slot_at slots place ≡ Some one → (are_alike flip one ≡ false) × (are_free flip one ≡ true))
     → without flip (flips_below slots bound) ≡ None → (n : ℕ) → bound ≤ n → without flip (flips_below slots n) ≡ None
-nothing_from slots flip bound behind stopped zero le = let none : bound ≡ 0 = omega (arith, le) in subst (λ b. without flip (flips_below slots b) ≡ None) none stopped
+nothing_from slots flip bound behind stopped zero le = let none : bound ≡ 0 = omega (arith, le) in subst (λ b. without flip
+    (flips_below slots b) ≡ None) none stopped
 nothing_from slots flip bound behind stopped (suc n) le = elim (cases_eq bound (suc n)) [
   | inl e ↦ subst (λ b. without flip (flips_below slots b) ≡ None) e stopped
   | inr ne ↦
@@ -235,7 +243,8 @@ pub places-pushed : (slots : List (Option Flip)) (test : Flip → Bool) (places 
 places-pushed slots test places new passes are = record {
   rising = rising_push places (length slots) are.rising are.below;
   below = AllByRecursion-push (λ place. place < length (slots ++ Some new ∷ [])) places (length slots)
-      (AllByRecursion-weaker (λ place. place < length slots) (λ place. place < length (slots ++ Some new ∷ [])) (λ place lt. omega (arith, lt, length_push slots (Some new))) places are.below)
+      (AllByRecursion-weaker (λ place. place < length slots) (λ place. place < length (slots ++ Some new ∷ [])) (λ place lt. omega
+      (arith, lt, length_push slots (Some new))) places are.below)
       (omega (arith, length_push slots (Some new)));
   pass = λ place flip among is. elim (slot-push slots (Some new) place flip is) [
     | inr here ↦ let same : new ≡ flip = let e = here.1 in cc in subst (λ f. test f ≡ true) same passes
@@ -257,7 +266,8 @@ pub places-other : (slots : List (Option Flip)) (test : Flip → Bool) (places :
     → ArePlaces slots test places → ArePlaces (slots ++ Some new ∷ []) test places
 places-other slots test places new fails are = record {
   rising = are.rising;
-  below = AllByRecursion-weaker (λ place. place < length slots) (λ place. place < length (slots ++ Some new ∷ [])) (λ place lt. omega (arith, lt, length_push slots (Some new))) places are.below;
+  below = AllByRecursion-weaker (λ place. place < length slots) (λ place. place < length (slots ++ Some new ∷ [])) (λ place lt. omega
+      (arith, lt, length_push slots (Some new))) places are.below;
   pass = λ place flip among is. elim (slot-push slots (Some new) place flip is) [
     | inr here ↦ absurd (let lt = all_among (λ p. p < length slots) places are.below place among in omega (arith, here.0, lt))
     | inl early ↦ are.pass place flip among early
@@ -285,14 +295,30 @@ pub bound-either : (slots : List (Option Flip)) (these those : Flip → Bool) (o
 bound-either slots these those one other first second = record {
   none = λ place flip le at. or_from (these flip) (those flip) (first.none place flip (omega (arith, le)) at) (second.none place flip (omega (arith, le)) at);
   last = elim (cases_lt one other) as (λ _. (max one other ≡ 0) ⊎ IsThere slots (λ flip. these flip || those flip) (max one other)) [
-    | inl lt ↦ let greatest : max one other ≡ other = omega arith in elim second.last as (λ _. (max one other ≡ 0) ⊎ IsThere slots (λ flip. these flip || those flip) (max one other)) [
-      | inl none ↦ inl (greatest ∙ none)
-      | inr there ↦ inr (record { place = there.place; flip = there.flip; at = greatest ∙ there.at; is = there.is; passes = or_right (these there.flip) (those there.flip) there.passes })
-    ]
-    | inr le ↦ let greatest : max one other ≡ one = omega arith in elim first.last as (λ _. (max one other ≡ 0) ⊎ IsThere slots (λ flip. these flip || those flip) (max one other)) [
-      | inl none ↦ inl (greatest ∙ none)
-      | inr there ↦ inr (record { place = there.place; flip = there.flip; at = greatest ∙ there.at; is = there.is; passes = or_left (these there.flip) (those there.flip) there.passes })
-    ]
+    | inl lt ↦ let greatest : max one other ≡ other = omega arith in elim second.last as (λ _. (max one other ≡ 0) ⊎ IsThere slots
+        (λ flip. these flip || those flip) (max one other)) [
+          | inl none ↦ inl (greatest ∙ none)
+          | inr there ↦ inr (record {
+            place = there.place;
+            flip = there.flip;
+            at = greatest
+                ∙ there.at;
+            is = there.is;
+            passes = or_right (these there.flip) (those there.flip) there.passes;
+          })
+        ]
+    | inr le ↦ let greatest : max one other ≡ one = omega arith in elim first.last as (λ _. (max one other ≡ 0) ⊎ IsThere slots
+        (λ flip. these flip || those flip) (max one other)) [
+          | inl none ↦ inl (greatest ∙ none)
+          | inr there ↦ inr (record {
+            place = there.place;
+            flip = there.flip;
+            at = greatest
+                ∙ there.at;
+            is = there.is;
+            passes = or_left (these there.flip) (those there.flip) there.passes;
+          })
+        ]
   ];
 }
 
@@ -374,7 +400,8 @@ targets-pushed : (slots : List (Option Flip)) (flip : Flip) (old new : List (Vec
 targets-pushed slots flip old new are inside e = record {
   each = λ line lt. elim (cases_eq line flip.target) as (λ _. ArePlaces (slots ++ Some flip ∷ []) (has_target line) (places_at new line)) [
     | inl same ↦ subst (λ k. ArePlaces (slots ++ Some flip ∷ []) (has_target k) (places_at new k)) (sym same)
-        (subst (ArePlaces (slots ++ Some flip ∷ []) (has_target flip.target)) (sym (changed_at old new flip.target (places_at old flip.target ++ length slots ∷ []) e inside))
+        (subst (ArePlaces (slots ++ Some flip ∷ []) (has_target flip.target)) (sym (changed_at old new flip.target
+        (places_at old flip.target ++ length slots ∷ []) e inside))
         (places-pushed slots (has_target flip.target) (places_at old flip.target) flip (eq-eqb flip.target flip.target refl) (are.each flip.target inside)))
     | inr ne ↦ subst (ArePlaces (slots ++ Some flip ∷ []) (has_target line))
         (sym (kept_at old new flip.target line (places_at old flip.target ++ length slots ∷ []) e ne))
@@ -397,7 +424,8 @@ controls-pushed slots flip old new are pushed = record {
     by line true e places = places-pushed slots (has_control line) (places_at old line) flip e places
     by line false e places = places-other slots (has_control line) (places_at old line) flip e places
 
-pub appended : (n : ℕ) (slots now : List (Option Flip)) (flip : Flip) (targets controls new_targets new_controls : List (Vec ℕ)) → AreIndexes n slots targets controls
+pub appended : (n : ℕ) (slots now : List (Option Flip)) (flip : Flip) (targets controls new_targets new_controls : List (Vec ℕ))
+    → AreIndexes n slots targets controls
     → flip.target < n → now ≡ slots ++ Some flip ∷ []
     → contents new_targets ≡ set (contents targets) flip.target (places_at targets flip.target ++ length slots ∷ [])
     → ArePushed (controls_of flip) (length slots) controls new_controls → AreIndexes n now new_targets new_controls
@@ -434,7 +462,8 @@ finds_there slots old now n last long some e there kept =
     let found = has_flip (slot_at slots last) there in
     record {
       kept = kept;
-      is = λ test are. last_there slots test (take (n - 1) now) last found.flip found.is (subst (ArePlaces slots test) (cut_before_last now n last long some e) (kept test are));
+      is = λ test are. last_there slots test (take (n - 1) now) last found.flip found.is (subst (ArePlaces slots test)
+          (cut_before_last now n last long some e) (kept test are));
     }
 
 pub finds_none : (slots : List (Option Flip)) (old now : List ℕ) → now ≡ [] → ((test : Flip → Bool) → ArePlaces slots test old → ArePlaces slots test now)
@@ -454,13 +483,13 @@ passes_last slots old now left n last long some e gone is low kept =
     )
 
 -- where a flip like this one may be
-like_is_among : (slots : List (Option Flip)) (flip : Flip) (places : List ℕ) (left : ℕ) → ArePlaces slots (has_target flip.target) places
+like_is_among : (slots : List (Option Flip)) (flip : Flip) (places : List ℕ) (left : ℕ) → HoldLikes slots flip places
     → AllByRecursion (λ place. is_like_in flip (slot_at slots place) ≡ false) (drop left places)
     → (place : ℕ) (other : Flip) → slot_at slots place ≡ Some other → are_alike flip other ≡ true → IsAmong place (take left places)
 like_is_among slots flip places left are unlike place other is alike =
-    let says = alike_says flip other alike in
-    let among = are.all place other is (eq-eqb other.target flip.target (sym says.target)) in
-    elim (among_append place (take left places) (drop left places) (subst (IsAmong place) (sym (take-append-drop left places)) among)) as (λ _. IsAmong place (take left places)) [
+    let among = are.all place other is alike in
+    elim (among_append place (take left places) (drop left places) (subst (IsAmong place) (sym (take-append-drop left places)) among)) as
+    (λ _. IsAmong place (take left places)) [
       | inl front ↦ front
       | inr behind ↦ absurd (both_ways (are_alike flip other)
           (ap (is_like_in flip) (sym is) ∙ all_among (λ p. is_like_in flip (slot_at slots p) ≡ false) (drop left places) unlike place behind) alike)
@@ -477,7 +506,7 @@ most_before places left q up some few among =
     (subst IsRising cut (rising_front (take left places) (drop left places) (subst IsRising (sym (take-append-drop left places)) up)))
     (subst (IsAmong q) cut among)
 
-pub none_before : (slots : List (Option Flip)) (flip : Flip) (bound : ℕ) (places : List ℕ) (left : ℕ) → ArePlaces slots (has_target flip.target) places
+pub none_before : (slots : List (Option Flip)) (flip : Flip) (bound : ℕ) (places : List ℕ) (left : ℕ) → HoldLikes slots flip places
     → 0 < left → left ≤ length places → AllByRecursion (λ place. is_like_in flip (slot_at slots place) ≡ false) (drop left places)
     → get_or places (left - 1) 0 < bound → HasNoPartner slots flip bound
 none_before slots flip bound places left are some few unlike before = record {
@@ -486,7 +515,7 @@ none_before slots flip bound places left are some few unlike before = record {
       absurd (omega (arith, most, before, le)));
 }
 
-pub none_at_all : (slots : List (Option Flip)) (flip : Flip) (bound : ℕ) (places : List ℕ) (left : ℕ) → ArePlaces slots (has_target flip.target) places
+pub none_at_all : (slots : List (Option Flip)) (flip : Flip) (bound : ℕ) (places : List ℕ) (left : ℕ) → HoldLikes slots flip places
     → left ≡ 0 → AllByRecursion (λ place. is_like_in flip (slot_at slots place) ≡ false) (drop left places) → HasNoPartner slots flip bound
 none_at_all slots flip bound places left are none unlike = record {
   none = λ place other le is. false_from_ne_true (are_alike flip other) (λ alike.
@@ -503,7 +532,7 @@ has_like : (flip : Flip) (o : Option Flip) → is_like_in flip o ≡ true → Ha
 has_like flip None e = cc
 has_like flip (Some other) e = record { other = other; is = refl; alike = e }
 
-pub partner_at : (slots : List (Option Flip)) (flip : Flip) (bound : ℕ) (places : List ℕ) (left : ℕ) → ArePlaces slots (has_target flip.target) places
+pub partner_at : (slots : List (Option Flip)) (flip : Flip) (bound : ℕ) (places : List ℕ) (left : ℕ) → HoldLikes slots flip places
     → 0 < left → left ≤ length places → AllByRecursion (λ place. is_like_in flip (slot_at slots place) ≡ false) (drop left places)
     → bound ≤ get_or places (left - 1) 0 → is_like_in flip (slot_at slots (get_or places (left - 1) 0)) ≡ true
     → IsPartner slots flip bound (get_or places (left - 1) 0)
@@ -539,12 +568,6 @@ pub looked_at : (slots seen : List (Option Flip)) (test : ℕ → Flip → Bool)
     → Looked slots test old new line bound
 looked_at slots seen test old new line bound same are lt finds e =
     looked slots test old new line bound are lt (subst (λ s. FindsLast s (places_at old line) (places_at new line) bound) same finds) e
-
-pub partner_places : (slots seen : List (Option Flip)) (targets : List (Vec ℕ)) (line : ℕ) (d : Vec ℕ) (places : List ℕ) → seen ≡ slots → AreIndexed slots has_target targets
-    → line < length targets → d ≡ get_or targets line d → places ≡ d.items → ArePlaces seen (has_target line) places
-partner_places slots seen targets line d places same are lt read is =
-    subst (λ s. ArePlaces s (has_target line) places) (sym same)
-    (subst (ArePlaces slots (has_target line)) (places_at-read targets line d lt read ∙ sym is) (are.each line lt))
 
 pub on_ok_both : {T E A B C : Type 0} (r : Result T E) → (A → B → C) → OnOk r A → OnOk r B → OnOk r C
 on_ok_both (Ok x) f a b = f a b
@@ -582,7 +605,8 @@ pub bound_zero : (slots : List (Option Flip)) (flip : Flip) (bound : ℕ) → []
     → IsBehindLast slots (λ other. not (are_free flip other)) bound
 bound_zero slots flip bound none is =
     bound-same slots (has_control flip.target) (λ other. not (are_free flip other)) bound
-    (λ other. sym (or_nothing (has_control flip.target other)) ∙ ap (λ l. has_control flip.target other || has_line other.target l) none ∙ blocked_by flip other) is
+    (λ other. sym (or_nothing (has_control flip.target other)) ∙ ap (λ l. has_control flip.target other || has_line other.target l) none
+    ∙ blocked_by flip other) is
 
 pub bound_one : (slots : List (Option Flip)) (flip : Flip) (one a b : ℕ) → one ∷ [] ≡ controls_of flip → IsBehindLast slots (has_control flip.target) a
     → IsBehindLast slots (has_target one) b → IsBehindLast slots (λ other. not (are_free flip other)) (max a b)
@@ -592,10 +616,12 @@ bound_one slots flip one a b is first second =
     ∙ ap (λ l. has_control flip.target other || has_line other.target l) is ∙ blocked_by flip other)
     (bound-either slots (has_control flip.target) (has_target one) a b first second)
 
-pub bound_two : (slots : List (Option Flip)) (flip : Flip) (one two a b d : ℕ) → one ∷ two ∷ [] ≡ controls_of flip → IsBehindLast slots (has_control flip.target) a
+pub bound_two : (slots : List (Option Flip)) (flip : Flip) (one two a b d : ℕ) → one ∷ two ∷ [] ≡ controls_of flip
+    → IsBehindLast slots (has_control flip.target) a
     → IsBehindLast slots (has_target one) b → IsBehindLast slots (has_target two) d → IsBehindLast slots (λ other. not (are_free flip other)) (max a (max b d))
 bound_two slots flip one two a b d is first second third =
-    bound-same slots (λ other. has_control flip.target other || (has_target one other || has_target two other)) (λ other. not (are_free flip other)) (max a (max b d))
+    bound-same slots (λ other. has_control flip.target other || (has_target one other || has_target two other)) (λ other. not (are_free flip other)) (max a
+    (max b d))
     (λ other. ap (λ t. has_control flip.target other || (has_target one other || t)) (sym (or_nothing (has_target two other)))
     ∙ ap (λ l. has_control flip.target other || has_line other.target l) is ∙ blocked_by flip other)
     (bound-either slots (has_control flip.target) (λ other. has_target one other || has_target two other) a (max b d) first
@@ -615,7 +641,8 @@ lacks_from_apart (x ∷ xs) target apart =
 
 pub lines_of_flip : (n : ℕ) (flip : Flip) → IsGateOn n (gate_of flip) → HasLines n flip
 lines_of_flip n flip on =
-    let low : AllByRecursion (λ line. line < n) (controls_of flip ++ flip.target ∷ []) = subst (AllByRecursion (λ line. line < n)) (lines_of-flip_of (controls_of flip) flip.target) on.in_range in
+    let low : AllByRecursion (λ line. line < n) (controls_of flip ++ flip.target ∷ []) = subst (AllByRecursion (λ line. line < n)) (lines_of-flip_of
+    (controls_of flip) flip.target) on.in_range in
     let different : AreDifferent (controls_of flip ++ flip.target ∷ []) = subst AreDifferent (lines_of-flip_of (controls_of flip) flip.target) on.different in
     record {
       target = (AllByRecursion-right (λ line. line < n) (controls_of flip) (flip.target ∷ []) low).0;
@@ -623,3 +650,43 @@ lines_of_flip n flip on =
       low = AllByRecursion-left (λ line. line < n) (controls_of flip) (flip.target ∷ []) low;
       different = AreDifferent-left (controls_of flip) (flip.target ∷ []) different;
     }
+
+-- ---- places of the flips like one
+
+pub likes_by_target : (slots : List (Option Flip)) (flip : Flip) (places : List ℕ) → ArePlaces slots (has_target flip.target) places
+    → HoldLikes slots flip places
+likes_by_target slots flip places are = record {
+  rising = are.rising;
+  below = are.below;
+  all = λ place other is alike. are.all place other is (eq-eqb other.target flip.target (sym (alike_says flip other alike).target));
+}
+
+pub likes_by_control : (slots : List (Option Flip)) (flip : Flip) (line : ℕ) (places : List ℕ) → has_line line (controls_of flip) ≡ true
+    → ArePlaces slots (has_control line) places → HoldLikes slots flip places
+likes_by_control slots flip line places has are = record {
+  rising = are.rising;
+  below = are.below;
+  all = λ place other is alike. are.all place other is (among_has line (controls_of flip) (controls_of other) (alike_says flip other alike).forth has);
+}
+
+pub either_likes : (slots : List (Option Flip)) (flip : Flip) (one other answer : List ℕ) → (answer ≡ one) ⊎ (answer ≡ other) → HoldLikes slots flip one
+    → HoldLikes slots flip other → HoldLikes slots flip answer
+either_likes slots flip one other answer (inl e) first second = subst (HoldLikes slots flip) (sym e) first
+either_likes slots flip one other answer (inr e) first second = subst (HoldLikes slots flip) (sym e) second
+
+-- as the code reads the lists
+pub likes_at_target : (n : ℕ) (slots : List (Option Flip)) (targets controls : List (Vec ℕ)) (flip : Flip) (d : Vec ℕ) (places : List ℕ)
+    → AreIndexes n slots targets controls → IsGateOn n (gate_of flip) → d ≡ get_or targets flip.target d → places ≡ d.items → HoldLikes slots flip places
+likes_at_target n slots targets controls flip d places are on read is =
+    let lines = lines_of_flip n flip on in
+    let low : flip.target < length targets = let lt = lines.target in let long = are.target_lines in omega arith in
+    subst (HoldLikes slots flip) (places_at-read targets flip.target d low read ∙ sym is)
+    (likes_by_target slots flip (places_at targets flip.target) (are.of_targets.each flip.target low))
+
+pub likes_at_control : (n : ℕ) (slots : List (Option Flip)) (targets controls : List (Vec ℕ)) (flip : Flip) (line : ℕ) (d : Vec ℕ) (places : List ℕ)
+    → AreIndexes n slots targets controls → line < n → has_line line (controls_of flip) ≡ true → d ≡ get_or controls line d → places ≡ d.items
+    → HoldLikes slots flip places
+likes_at_control n slots targets controls flip line d places are below has read is =
+    let low : line < length controls = let long = are.control_lines in omega arith in
+    subst (HoldLikes slots flip) (places_at-read controls line d low read ∙ sym is)
+    (likes_by_control slots flip line (places_at controls line) has (are.of_controls.each line low))

@@ -1,5 +1,6 @@
 -- The work on a list of flips: its steps keep the line map, and its end is tidy.
-use Rattle.std.proofs.Common.{◌≡◌, ℕ, ◌+◌, ◌-◌, ◌<◌, ◌≤◌, Bool, true, false, eqb, Option, Some, None, Result, Ok, List, [], ◌∷◌, ◌++◌, length, map, take, drop, reverse}
+use Rattle.std.proofs.Common.{◌≡◌, ℕ, ◌+◌, ◌-◌, ◌<◌, ◌≤◌, Bool, true, false, eqb, Option, Some, None, Result, Ok, List, [], ◌∷◌, ◌++◌, length, map, take, drop}
+use Rattle.std.proofs.Common.{reverse}
 use Rattle.std.proofs.Common.{refl, sym, ap, ◌∙◌, subst, arith}
 use Rattle.std.specs.List.{AllByRecursion, list_any}
 use Rattle.std.proofs.lemmas.Bool.{and_parts, and_from, or_left, or_right, false≢true, eq-eqb}
@@ -57,10 +58,12 @@ gates_are_on : (n : ℕ) (flips : List Flip) → AreOnLines n flips → AreGates
 gates_are_on n [] on = tt
 gates_are_on n (f ∷ fs) on = (on.0, gates_are_on n fs on.1)
 
-map_append : (these those : List Flip) (bits : List Bool) → line_map (gates_of (these ++ those)) bits ≡ line_map (gates_of those) (line_map (gates_of these) bits)
+map_append : (these those : List Flip) (bits : List Bool) → line_map (gates_of (these ++ those)) bits ≡ line_map (gates_of those) (line_map
+    (gates_of these) bits)
 map_append these those bits = ap (λ gs. line_map gs bits) (map-append gate_of these those) ∙ line_map-append (gates_of these) (gates_of those) bits
 
-pub replaced_follows : (n : ℕ) (front block shorter behind : List Flip) → AreOnLines n (front ++ (block ++ behind)) → AreOnLines n shorter → length shorter ≤ length block
+pub replaced_follows : (n : ℕ) (front block shorter behind : List Flip) → AreOnLines n (front ++ (block ++ behind)) → AreOnLines n shorter
+    → length shorter ≤ length block
     → ((bits : List Bool) → length bits ≡ n → line_map (gates_of shorter) bits ≡ line_map (gates_of block) bits)
     → Follows n (front ++ (block ++ behind)) (front ++ (shorter ++ behind))
 replaced_follows n front block shorter behind on on_shorter less same =
@@ -70,10 +73,19 @@ replaced_follows n front block shorter behind on on_shorter less same =
     let on_behind = all_right P block behind on_rest in
     record {
       on = AllByRecursion-append P front (shorter ++ behind) on_front (AllByRecursion-append P shorter behind on_shorter on_behind);
-      few = omega (arith, length-append front (shorter ++ behind), length-append shorter behind, length-append front (block ++ behind), length-append block behind, less);
+      few = omega (
+        arith,
+        length-append front (shorter ++ behind),
+        length-append shorter behind,
+        length-append front
+            (block ++ behind),
+        length-append block behind,
+        less,
+      );
       same = λ bits long.
           let now = line_map (gates_of front) bits in
-          let long_now : length now ≡ n = length-line_map (gates_of front) bits (subst (λ m. AreGatesOn m (gates_of front)) (sym long) (gates_are_on n front on_front)) ∙ long in
+          let long_now : length now ≡ n = length-line_map (gates_of front) bits (subst (λ m. AreGatesOn m (gates_of front)) (sym long)
+          (gates_are_on n front on_front)) ∙ long in
           map_append front (shorter ++ behind) bits ∙ map_append shorter behind now ∙ ap (line_map (gates_of behind)) (same now long_now)
           ∙ sym (map_append front (block ++ behind) bits ∙ map_append block behind now);
     }
@@ -127,7 +139,8 @@ additions_within n lines [] on cxs all = tt
 additions_within n lines (f ∷ fs) on cxs all =
     let has = lines_of_flip n f on.0 in
     let from = touches_from f cxs.0 in
-    let at_from : touches (one_line f.controls) f ≡ true = or_right (eqb (one_line f.controls) f.target) (has_line (one_line f.controls) (controls_of f)) from in
+    let at_from : touches (one_line f.controls) f ≡ true = or_right (eqb (one_line f.controls) f.target) (has_line (one_line f.controls)
+    (controls_of f)) from in
     let at_onto : touches f.target f ≡ true = or_left (eqb f.target f.target) (has_line f.target (controls_of f)) (eq-eqb f.target f.target refl) in (
       record {
         is = record {
@@ -188,19 +201,32 @@ block_replaced n flips shorter now start stop on le longer is =
       follows = subst (Follows n flips) (sym is) (subst (λ l. Follows n l (take start flips ++ (shorter ++ drop stop flips))) whole
           (replaced_follows n (take start flips) block shorter (drop stop flips) (subst (AreOnLines n) (sym whole) on) on_shorter (omega (arith, few))
           (λ bits long. ap (λ fs. line_map (gates_of fs) bits) says.1 ∙ does.same bits long)));
-      less = omega (arith, ap length is, length-append (take start flips) (shorter ++ drop stop flips), length-append shorter (drop stop flips), sym (ap length whole), length-append (take start flips) (block ++ drop stop flips), length-append block (drop stop flips), few);
+      less = omega (
+        arith,
+        ap length is,
+        length-append (take start flips) (shorter ++ drop stop flips),
+        length-append shorter (drop stop flips),
+        sym
+            (ap length whole),
+        length-append (take start flips) (block ++ drop stop flips),
+        length-append block (drop stop flips),
+        few,
+      );
     }
 
 pub turn_goes_on : (n : ℕ) (start flips settled now : List Flip) → Follows n start flips → settled ≡ reverse (with_flips flips []) → GoesOn n settled now
     → Follows n start now
 turn_goes_on n start flips settled now so_far is goes =
-    follows_further n start settled now (follows_further n start flips settled so_far (subst (Follows n flips) (sym is) (settled_follows n flips so_far.on))) goes.follows
+    follows_further n start settled now (follows_further n start flips settled so_far (subst (Follows n flips) (sym is)
+    (settled_follows n flips so_far.on))) goes.follows
 
-pub turn_less : (n : ℕ) (flips settled now : List Flip) → AreOnLines n flips → settled ≡ reverse (with_flips flips []) → GoesOn n settled now → length now < length flips
+pub turn_less : (n : ℕ) (flips settled now : List Flip) → AreOnLines n flips → settled ≡ reverse (with_flips flips []) → GoesOn n settled now
+    → length now < length flips
 turn_less n flips settled now on is goes =
     let few = (settled_follows n flips on).few in let less = goes.less in omega (arith, ap length is, few, less)
 
-pub work_done : (n : ℕ) (start flips settled : List Flip) → Follows n start flips → settled ≡ reverse (with_flips flips []) → AreShort settled → IsDone n start settled
+pub work_done : (n : ℕ) (start flips settled : List Flip) → Follows n start flips → settled ≡ reverse (with_flips flips []) → AreShort settled
+    → IsDone n start settled
 work_done n start flips settled so_far is short =
     let follows = subst (Follows n flips) (sym is) (settled_follows n flips so_far.on) in
     let found = short.blocks n follows.on in
@@ -238,12 +264,14 @@ on_lines_from n flips gates e on = back flips (subst (AreGatesOn n) (sym e) on)
 same_ok : {A E : Type 0} (r : Result A E) (x y : A) → r ≡ Ok x → r ≡ Ok y → x ≡ y
 same_ok r x y e f = let both : Ok x ≡ Ok y = sym e ∙ f in cc
 
-pub split_again : (n limit : ℕ) (flips : List Flip) (gates : List GateView) → length flips ≤ limit → split_list n limit (gates_of flips) ≡ Ok gates → gates ≡ gates_of flips
+pub split_again : (n limit : ℕ) (flips : List Flip) (gates : List GateView) → length flips ≤ limit → split_list n limit (gates_of flips) ≡ Ok gates
+    → gates ≡ gates_of flips
 split_again n limit flips gates few is =
     same_ok (split_list n limit (gates_of flips)) gates (gates_of flips) is
     (stay n limit (gates_of flips) (flips_are_narrow flips) (omega (arith, few, length-map flips gate_of)))
 
-pub tidied_from : (n limit : ℕ) (old : List GateView) (flips done : List Flip) (gates : List GateView) → gates_of flips ≡ old → limit ≡ length old → IsDone n flips done
+pub tidied_from : (n limit : ℕ) (old : List GateView) (flips done : List Flip) (gates : List GateView) → gates_of flips ≡ old → limit ≡ length old
+    → IsDone n flips done
     → split_list n limit (gates_of done) ≡ Ok gates → IsTidied n old gates
 tidied_from n limit old flips done gates are size is split =
     let few = is.follows.few in
@@ -266,7 +294,8 @@ lines_again (x ∷ xs) = ap (λ l. x ∷ l) (lines_again xs)
 same_flip : (t u : ℕ) (op : Op) → Op_flip t ≡ op → Op_flip u ≡ op → t ≡ u
 same_flip t u op e f = let both : Op_flip t ≡ Op_flip u = e ∙ sym f in cc
 
-pub flip_is : (gate : GateView) (controls : Controls) (target : ℕ) (seen : List Control) → IsNarrow gate → lines_in controls ≡ map (λ (control : Control). control.line) seen
+pub flip_is : (gate : GateView) (controls : Controls) (target : ℕ) (seen : List Control) → IsNarrow gate
+    → lines_in controls ≡ map (λ (control : Control). control.line) seen
     → seen ≡ gate.controls → Op_flip target ≡ gate.op → gate_of (record { controls = controls; target = target }) ≡ gate
 flip_is gate controls target seen narrow lines same op =
     let all : lines_in controls ≡ narrow.controls =
@@ -294,7 +323,8 @@ one_more_replaced n flips done rest shorter now start stop le goes longer is =
     let block = take (stop - start) (drop start rest) in
     let behind = drop stop rest in
     let front = done ++ take start rest in
-    let whole : front ++ (block ++ behind) ≡ done ++ rest = append_assoc done (take start rest) (block ++ behind) ∙ ap (λ l. done ++ l) (cut_in_three rest start stop le) in
+    let whole : front ++ (block ++ behind) ≡ done ++ rest = append_assoc done (take start rest) (block ++ behind)
+    ∙ ap (λ l. done ++ l) (cut_in_three rest start stop le) in
     let on = goes.follows.on in
     let on_rest = all_right (λ f. IsGateOn n (gate_of f)) done rest on in
     let on_block : AreOnLines n block =
@@ -304,13 +334,25 @@ one_more_replaced n flips done rest shorter now start stop le goes longer is =
     let few = longer.few in
     let grouped : now ++ behind ≡ front ++ (shorter ++ behind) =
     ap (λ l. l ++ behind) is ∙ simp append_assoc in
-    let step = replaced_follows n front block shorter behind (subst (AreOnLines n) (sym whole) on) (subst (AreOnLines n) (sym says.1) does.on) (omega (arith, few))
+    let step = replaced_follows n front block shorter behind (subst (AreOnLines n) (sym whole) on) (subst (AreOnLines n) (sym says.1) does.on) (omega
+    (arith, few))
     (λ bits long. ap (λ fs. line_map (gates_of fs) bits) says.1 ∙ does.same bits long) in
     let less = goes.less in
     record {
       follows = follows_further n flips (done ++ rest) (now ++ behind) goes.follows
           (subst (Follows n (done ++ rest)) (sym grouped) (subst (λ l. Follows n l (front ++ (shorter ++ behind))) whole step));
-      less = omega (arith, ap length grouped, length-append front (shorter ++ behind), length-append shorter behind, sym (ap length whole), length-append front (block ++ behind), length-append block behind, few, less);
+      less = omega (
+        arith,
+        ap length grouped,
+        length-append front (shorter ++ behind),
+        length-append shorter behind,
+        sym
+            (ap length whole),
+        length-append front (block ++ behind),
+        length-append block behind,
+        few,
+        less,
+      );
     }
   where
     all_right : (P : Flip → Type 0) (xs ys : List Flip) → AllByRecursion P (xs ++ ys) → AllByRecursion P ys

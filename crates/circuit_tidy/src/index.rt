@@ -1,14 +1,14 @@
 // A list of flips to which one is put after another, with an index of their lines.
-ghost use Rattle.std.specs.Prelude.{◌≡◌, ℕ, ◌<◌, ◌++◌, ◌∷◌, [], length, max, not, replicate, reverse, IfOk, OnOk};
-ghost use Rattle.std.specs.Prelude.{slice_set, if◌then◌else◌, MatchOption};
+ghost use Rattle.std.specs.Prelude.{◌≡◌, ◌⊎◌, ◌<◌, ◌++◌, ◌∷◌, [], length, not, replicate, reverse};
+ghost use Rattle.std.specs.Prelude.{IfOk, OnOk};
+ghost use Rattle.std.specs.Prelude.{slice_set, MatchOption};
 ghost use Rattle.std.specs.List.{AllByRecursion};
 ghost use Rattle.mct_circuit.specs.Gates.{IsGateOn};
-ghost use Rattle.mct_circuit.specs.Sizes.{has_line};
 ghost use Rattle.circuit_tidy.specs.Flips.{are_free, gate_of, lines_in};
 ghost use Rattle.list_facts.specs.Lists.{AreDifferent};
-ghost use Rattle.circuit_tidy.specs.inside.Index.{ArePlaces, ArePushed, FindsLast, HasNoPartner};
+ghost use Rattle.circuit_tidy.specs.inside.Index.{ArePushed, FindsLast, HasNoPartner, HoldLikes};
 ghost use Rattle.circuit_tidy.specs.inside.Index.{IsBehindLast, IsIndex, IsPartner, IsPut};
-ghost use Rattle.circuit_tidy.specs.inside.Index.{KeepsSlots, contents, flips_in, has_target};
+ghost use Rattle.circuit_tidy.specs.inside.Index.{KeepsSlots, contents, flips_in};
 ghost use Rattle.circuit_tidy.specs.inside.Index.{is_like_in, places_at, slot_at};
 ghost use Rattle.circuit_tidy.specs.inside.Settling.{with_flips};
 
@@ -66,7 +66,7 @@ impl Index {
         ensures { OnOk result (IsPut lines flip self.old self.new) }
     {
         let bound = self.bound(lines, flip);
-        let places = &self.by_target.lists[flip.target as usize];
+        let places = self.likely_places(lines, flip);
         match partner(places, &self.slots, flip, bound) {
             Some(place) => {
                 self.slots[place] = None;
@@ -81,7 +81,8 @@ impl Index {
         requires index { IsIndex lines self.old }
         requires flip { IsGateOn lines (gate_of flip) }
         ensures kept { KeepsSlots lines self.old self.new }
-        ensures bound { IsBehindLast self.new.slots.items (λ other. not (are_free flip other)) result }
+        ensures bound { IsBehindLast self.new.slots.items (λ other. not (are_free flip other))
+            result }
     {
         let as_control = self.by_control.behind_last(flip.target, &self.slots);
         match flip.controls {
@@ -94,6 +95,28 @@ impl Index {
                 let as_first = self.by_target.behind_last(first, &self.slots);
                 let as_second = self.by_target.behind_last(second, &self.slots);
                 as_control.max(as_first.max(as_second))
+            }
+        }
+    }
+
+    // The shortest list that has the places of all flips like this one: those of its target, or of
+    // one of its controls.
+    fn likely_places(&self, lines: u32, flip: Flip) -> &[usize]
+        requires index { IsIndex lines self.now }
+        requires flip { IsGateOn lines (gate_of flip) }
+        ensures { HoldLikes self.now.slots.items flip result.now }
+    {
+        let of_target = self.by_target.lists[flip.target as usize].as_slice();
+        match flip.controls {
+            Controls::Zero => of_target,
+            Controls::One(one) => {
+                let of_one = self.by_control.lists[one as usize].as_slice();
+                shorter(of_target, of_one)
+            }
+            Controls::Two(first, second) => {
+                let of_first = self.by_control.lists[first as usize].as_slice();
+                let of_second = self.by_control.lists[second as usize].as_slice();
+                shorter(of_target, shorter(of_first, of_second))
             }
         }
     }
@@ -187,9 +210,15 @@ fn behind_last(places: &mut Vec<usize>, slots: &[Option<Flip>]) -> usize
     0
 }
 
-// The latest place, not before the bound, of a flip like this one, among the places of its target.
+fn shorter<'a>(one: &'a [usize], other: &'a [usize]) -> &'a [usize]
+    ensures { (result.now ≡ one.now) ⊎ (result.now ≡ other.now) }
+{
+    if other.len() < one.len() { other } else { one }
+}
+
+// The latest place, not before the bound, of a flip like this one, among places with all of them.
 fn partner(places: &[usize], slots: &[Option<Flip>], flip: Flip, bound: usize) -> Option<usize>
-    requires { ArePlaces slots.now (has_target flip.target) places.now }
+    requires { HoldLikes slots.now flip places.now }
     ensures { MatchOption result (HasNoPartner slots.now flip bound)
         (IsPartner slots.now flip bound) }
 {

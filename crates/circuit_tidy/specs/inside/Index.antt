@@ -1,6 +1,7 @@
 -- A list of flips with an index: each flip has a slot, which is emptied where it goes out; for each line there are the places
 -- of the flips with that target, and of those with that control.
-use Rattle.std.specs.Prelude.{◌≡◌, ℕ, zero, suc, ◌+◌, ◌<◌, ◌≤◌, ◌⊎◌, ◌==◌, Bool, true, false, if◌then◌else◌, Option, Some, None, List, [], ◌∷◌, ◌++◌, length, map, slice_index_or}
+use Rattle.std.specs.Prelude.{◌≡◌, ℕ, zero, suc, ◌+◌, ◌<◌, ◌≤◌, ◌⊎◌, ◌==◌, Bool, true, false, if◌then◌else◌, Option, Some, None, List, [], ◌∷◌, ◌++◌, length}
+use Rattle.std.specs.Prelude.{map, slice_index_or}
 use Rattle.std.specs.List.{AllByRecursion}
 use Rattle.std.specs.Global.{Vec}
 use Rattle.list_facts.specs.Lists.{IsAmong, IsRising}
@@ -103,6 +104,13 @@ IsIndex n index = AreIndexes n index.slots.items index.by_target.lists.items ind
 pub record KeepsSlots (n : ℕ) (old new : Index) : Type 0 where
   pub index : IsIndex n new
   pub slots : new.slots.items ≡ old.slots.items
+
+-- rising places, among them those of all flips like this one
+pub record HoldLikes (slots : List (Option Flip)) (flip : Flip) (places : List ℕ) : Type 0 where
+  pub rising : IsRising places
+  pub below : AllByRecursion (λ place. place < length slots) places
+  pub all : (place : ℕ) (other : Flip) → slot_at slots place ≡ Some other
+      → are_alike flip other ≡ true → IsAmong place places
 
 pub record IsPartner (slots : List (Option Flip)) (flip : Flip) (bound place : ℕ) : Type 0 where
   pub other : Flip

@@ -1,5 +1,6 @@
 -- What a walk over the blocks of a list finds.
-use Rattle.std.specs.Prelude.{◌≡◌, ℕ, ◌<◌, ◌≤◌, ◌==◌, ◌&&◌, nat_lt, nat_le, if◌then◌else◌, Bool, true, false, Option, Some, None, List, [], ◌∷◌, ◌++◌, length, take, drop, slice_index, ◌-◌, ⊤}
+use Rattle.std.specs.Prelude.{◌≡◌, ℕ, ◌<◌, ◌≤◌, ◌==◌, ◌&&◌, nat_lt, nat_le, if◌then◌else◌, Bool, true, false, Option, Some, None, List, [], ◌∷◌, ◌++◌, length}
+use Rattle.std.specs.Prelude.{take, drop, slice_index, ◌-◌, ⊤}
 use Rattle.std.specs.List.{AllByRecursion, list_any}
 use Rattle.std.specs.Global.{Vec}
 use Rattle.list_facts.specs.Lists.{IsRising}

@@ -25,5 +25,6 @@ loop-column-preserved c = (
 pub returns : goal.returns
 returns c =
     c.reverse.ensures.items
-    ∙ noting_reversed c.args.lines.now c.loop-column.words (noted (with_additions own_rows (map addition_of c.args.block.now)) c.args.lines.now c.args.lines.now)
+    ∙ noting_reversed c.args.lines.now c.loop-column.words (noted (with_additions own_rows
+    (map addition_of c.args.block.now)) c.args.lines.now c.args.lines.now)
     c.loop-column.column c.loop-column.notes.items c.loop-column-test.false c.loop-column.invariant.0

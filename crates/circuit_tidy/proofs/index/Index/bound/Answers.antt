@@ -37,7 +37,8 @@ returns-in-One-clause-kept c =
     let control = looked_at c.args.self.now.slots.items c.deref.result.now has_control c.args.self.now.by_control.lists.items
     c.behind_last-as_control.new.self.lists.items c.args.flip.target c.behind_last-as_control.result c.deref.ensures.value index.of_controls target
     c.behind_last-as_control.ensures.found c.behind_last-as_control.ensures.others in
-    let one : c.in-One.one < length c.args.self.now.by_target.lists.items = let low = (subst (λ l. AllByRecursion (λ x. x < c.args.lines) (lines_in l)) c.in-One.is lines.low).0 in let long = index.target_lines in omega arith in
+    let one : c.in-One.one < length c.args.self.now.by_target.lists.items = let low = (subst (λ l. AllByRecursion (λ x. x < c.args.lines)
+    (lines_in l)) c.in-One.is lines.low).0 in let long = index.target_lines in omega arith in
     let first = looked_at c.args.self.now.slots.items c.deref-in-One.result.now has_target c.args.self.now.by_target.lists.items
     c.behind_last-as_target.new.self.lists.items c.in-One.one c.behind_last-as_target.result c.deref-in-One.ensures.value index.of_targets one
     c.behind_last-as_target.ensures.found c.behind_last-as_target.ensures.others in
@@ -57,12 +58,14 @@ returns-in-One-clause-bound c =
     let control = looked_at c.args.self.now.slots.items c.deref.result.now has_control c.args.self.now.by_control.lists.items
     c.behind_last-as_control.new.self.lists.items c.args.flip.target c.behind_last-as_control.result c.deref.ensures.value index.of_controls target
     c.behind_last-as_control.ensures.found c.behind_last-as_control.ensures.others in
-    let one : c.in-One.one < length c.args.self.now.by_target.lists.items = let low = (subst (λ l. AllByRecursion (λ x. x < c.args.lines) (lines_in l)) c.in-One.is lines.low).0 in let long = index.target_lines in omega arith in
+    let one : c.in-One.one < length c.args.self.now.by_target.lists.items = let low = (subst (λ l. AllByRecursion (λ x. x < c.args.lines)
+    (lines_in l)) c.in-One.is lines.low).0 in let long = index.target_lines in omega arith in
     let first = looked_at c.args.self.now.slots.items c.deref-in-One.result.now has_target c.args.self.now.by_target.lists.items
     c.behind_last-as_target.new.self.lists.items c.in-One.one c.behind_last-as_target.result c.deref-in-One.ensures.value index.of_targets one
     c.behind_last-as_target.ensures.found c.behind_last-as_target.ensures.others in
     subst (IsBehindLast c.args.self.now.slots.items (λ other. not (are_free c.args.flip other))) (sym c.max.ensures)
-    (bound_one c.args.self.now.slots.items c.args.flip c.in-One.one c.behind_last-as_control.result c.behind_last-as_target.result (sym (ap lines_in c.in-One.is)) control.is first.is)
+    (bound_one c.args.self.now.slots.items c.args.flip c.in-One.one c.behind_last-as_control.result c.behind_last-as_target.result (sym
+    (ap lines_in c.in-One.is)) control.is first.is)
 
 pub returns-in-Two-clause-kept : goal.returns-in-Two-clause-kept
 returns-in-Two-clause-kept c =

@@ -1,22 +1,17 @@
-use Rattle.std.proofs.Common.{◌<◌, ◌∙◌, length, ap, arith, subst}
-use Rattle.circuit_tidy.specs.inside.Index.{IsPartner, HasNoPartner, flips_in}
+use Rattle.std.proofs.Common.{◌∙◌, ap, sym, subst}
+use Rattle.circuit_tidy.specs.inside.Index.{IsPartner, HasNoPartner, HoldLikes, flips_in}
 use Rattle.circuit_tidy.specs.inside.Settling.{with_flip}
-use Rattle.circuit_tidy.proofs.IndexLemmas.{partner_places, emptied, put_out, put_behind, slot_within, on_ok_both, lines_of_flip}
+use Rattle.circuit_tidy.proofs.IndexLemmas.{emptied, put_out, put_behind, slot_within, on_ok_both, lines_of_flip}
 use Rattle.circuit_tidy.proofs.index.Index.put.Goals as goal
 
 pub partner-requires : goal.partner-requires
-partner-requires c =
-    let index = c.bound-bound.ensures.kept.index in
-    let lines = lines_of_flip c.args.lines c.args.flip c.requires.flip in
-    let target : c.args.flip.target < length c.bound-bound.new.self.by_target.lists.items = let low = lines.target in let long = index.target_lines in omega arith in
-    partner_places c.bound-bound.new.self.slots.items c.deref-2.result.now c.bound-bound.new.self.by_target.lists.items c.args.flip.target
-    c.index-places.result.now c.deref.result.now c.deref-2.ensures.value index.of_targets target c.index-places.ensures c.deref.ensures.value
+partner-requires c = subst (λ s. HoldLikes s c.args.flip c.likely_places-places.result.now) (sym c.deref.ensures.value) c.likely_places-places.ensures
 
 pub returns-in-Some : goal.returns-in-Some
 returns-in-Some c =
     let index = c.bound-bound.ensures.kept.index in
     let slots = c.bound-bound.new.self.slots.items in
-    let partner = subst (λ s. IsPartner s c.args.flip c.bound-bound.result c.in-Some.place) c.deref-2.ensures.value c.in-Some.ensures in
+    let partner = subst (λ s. IsPartner s c.args.flip c.bound-bound.result c.in-Some.place) c.deref.ensures.value c.in-Some.ensures in
     record {
       index = emptied c.args.lines slots c.bound-bound.new.self.by_target.lists.items c.bound-bound.new.self.by_control.lists.items c.in-Some.place
           (slot_within slots c.in-Some.place partner.other partner.is) index;
@@ -28,7 +23,7 @@ pub returns-in-None : goal.returns-in-None
 returns-in-None c =
     let lines = lines_of_flip c.args.lines c.args.flip c.requires.flip in
     let slots = c.bound-bound.new.self.slots.items in
-    let alone = subst (λ s. HasNoPartner s c.args.flip c.bound-bound.result) c.deref-2.ensures.value c.in-None.ensures in
+    let alone = subst (λ s. HasNoPartner s c.args.flip c.bound-bound.result) c.deref.ensures.value c.in-None.ensures in
     on_ok_both c.append.result
     (λ index is. record {
       index = index;
