@@ -21,10 +21,10 @@ use Rattle.command_answers.specs.declared.fault.Fault.TheVariants as faults
 use Rattle.command_answers.specs.declared.fault.CircuitRefusal.{CircuitRefusal}
 use Rattle.command_answers.specs.Outcomes.{HasOneOutcome, IsFaultOfText}
 use Rattle.circuit_commands.specs.Circuits.{ReadCircuit, Means, MeansIn, line_count, unmarked}
-use Rattle.circuit_commands.specs.Convert.{IsCause, HasSplit, promise, WantsLine, LacksLine, PassesLines, PassesGates, DoesTheSame, added_lines}
-use Rattle.circuit_commands.specs.Convert.{converted, file_text, said_in}
+use Rattle.circuit_commands.specs.Convert.{IsCause, CanSplit, HasSplit, promise, promise_within, WantsLine, LacksLine, PassesLines, PassesGates, DoesTheSame}
+use Rattle.circuit_commands.specs.Convert.{IsFileOf, added_lines, converted, file_text, said_in}
 use Rattle.circuit_commands.specs.Outcomes.{ConvertedView, IsConversion}
-use Rattle.circuit_commands.specs.inside.Splitting.{IsNarrowOf, IsSplitFault, IsSplitOf, IsWritable}
+use Rattle.circuit_commands.specs.inside.Splitting.{IsMarked, IsNarrowOf, IsPlaced, IsSplitFault, IsSplitOf, IsWritable}
 use Rattle.circuit_commands.proofs.CircuitLemmas.{means_or_refused, one_circuit, one_circuit_refusal}
 
 -- ---- a split has one answer
@@ -48,62 +48,75 @@ lacks_or_many most circuit need limit true a b = let full = a.full in let room =
 
 -- ---- one outcome
 
-convert_stops : (order : OrderView) (text : List ℕ) (circuit : ReadCircuit) (added : Bool) (gates : List GateView) (fault : Fault)
-    → Means order.from text circuit → HasSplit MOST_GATES circuit added (Ok gates) → IsCause order text fault → ⊥
-convert_stops order text circuit added gates (faults.Circuit refusal) m split h = means_or_refused order.from text circuit refusal m h
-convert_stops order text circuit added gates (faults.Lines need limit) m split h =
+split_stops : (most : ℕ) (order : OrderView) (text : List ℕ) (circuit : ReadCircuit) (added : Bool) (gates : List GateView) (fault : Fault)
+    → Means order.from text circuit → HasSplit most circuit added (Ok gates) → IsCause most order text fault → ⊥
+split_stops most order text circuit added gates (faults.Circuit refusal) m split h = means_or_refused order.from text circuit refusal m h
+split_stops most order text circuit added gates (faults.Lines need limit) m split h =
     let same = one_circuit order.from text h.circuit circuit h.means m in
-    lacks_or_ok MOST_GATES circuit need limit added gates (subst (λ (c : ReadCircuit). LacksLine MOST_GATES c need limit) same h.lacks) split
-convert_stops order text circuit added gates (faults.Gates limit) m split h =
+    lacks_or_ok most circuit need limit added gates (subst (λ (c : ReadCircuit). LacksLine most c need limit) same h.lacks) split
+split_stops most order text circuit added gates (faults.Gates limit) m split h =
     let same = one_circuit order.from text circuit h.circuit m h.means in
-    ok_or_many MOST_GATES h.circuit added h.many.added gates (subst (λ (c : ReadCircuit). HasSplit MOST_GATES c added (Ok gates)) same split) h.many.split
-convert_stops order text circuit added gates fault m split h = h
+    ok_or_many most h.circuit added h.many.added gates (subst (λ (c : ReadCircuit). HasSplit most c added (Ok gates)) same split) h.many.split
+split_stops most order text circuit added gates fault m split h = h
 
-lines_or_gates : (order : OrderView) (text : List ℕ) (need limit most : ℕ) → PassesLines MOST_GATES order.from text need limit
-    → PassesGates MOST_GATES order.from text most → ⊥
-lines_or_gates order text need limit most a b =
+lines_or_gates : (most : ℕ) (order : OrderView) (text : List ℕ) (need limit other : ℕ) → PassesLines most order.from text need limit
+    → PassesGates most order.from text other → ⊥
+lines_or_gates most order text need limit other a b =
     let same = one_circuit order.from text a.circuit b.circuit a.means b.means in
-    lacks_or_many MOST_GATES b.circuit need limit b.many.added (subst (λ (c : ReadCircuit). LacksLine MOST_GATES c need limit) same a.lacks) b.many.split
+    lacks_or_many most b.circuit need limit b.many.added (subst (λ (c : ReadCircuit). LacksLine most c need limit) same a.lacks) b.many.split
 
 same_lines : (need limit other most : ℕ) → need ≡ other → limit ≡ most → faults.Lines need limit ≡ faults.Lines other most
 same_lines need limit other most one two = ap (λ n. faults.Lines n limit) one ∙ ap (λ n. faults.Lines other n) two
 
-convert_cause : (order : OrderView) (text : List ℕ) (fault other : Fault) → IsCause order text fault → IsCause order text other → other ≡ fault
-convert_cause order text (faults.Circuit refusal) (faults.Circuit other) a b =
+split_cause : (most : ℕ) (order : OrderView) (text : List ℕ) (fault other : Fault) → IsCause most order text fault → IsCause most order text other
+    → other ≡ fault
+split_cause most order text (faults.Circuit refusal) (faults.Circuit other) a b =
     ap (λ (r : CircuitRefusal). faults.Circuit r) (one_circuit_refusal order.from text other refusal b a)
-convert_cause order text (faults.Circuit refusal) (faults.Lines need limit) a b = absurd (means_or_refused order.from text b.circuit refusal b.means a)
-convert_cause order text (faults.Circuit refusal) (faults.Gates limit) a b = absurd (means_or_refused order.from text b.circuit refusal b.means a)
-convert_cause order text (faults.Lines need limit) (faults.Circuit refusal) a b = absurd (means_or_refused order.from text a.circuit refusal a.means b)
-convert_cause order text (faults.Lines need limit) (faults.Lines other most) a b =
-    same_lines other most need limit (b.lacks.needs ∙ sym a.lacks.needs) (b.lacks.limit_is ∙ sym a.lacks.limit_is)
-convert_cause order text (faults.Lines need limit) (faults.Gates most) a b = absurd (lines_or_gates order text need limit most a b)
-convert_cause order text (faults.Gates limit) (faults.Circuit refusal) a b = absurd (means_or_refused order.from text a.circuit refusal a.means b)
-convert_cause order text (faults.Gates most) (faults.Lines need limit) a b = absurd (lines_or_gates order text need limit most b a)
-convert_cause order text (faults.Gates limit) (faults.Gates other) a b = ap (λ n. faults.Gates n) (b.many.limit_is ∙ sym a.many.limit_is)
-convert_cause order text faults.Usage other a b = absurd a
-convert_cause order text (faults.Refused refusal) other a b = absurd a
-convert_cause order text (faults.Claim number at bits) other a b = absurd a
-convert_cause order text (faults.Diagram number at limit) other a b = absurd a
-convert_cause order text (faults.BadBits word) other a b = absurd a
-convert_cause order text faults.Read other a b = absurd a
-convert_cause order text faults.Write other a b = absurd a
-convert_cause order text faults.Memory other a b = absurd a
-convert_cause order text fault other a b = absurd b
+split_cause most order text (faults.Circuit refusal) (faults.Lines need limit) a b =
+    absurd (means_or_refused order.from text b.circuit refusal b.means a)
+split_cause most order text (faults.Circuit refusal) (faults.Gates limit) a b = absurd (means_or_refused order.from text b.circuit refusal b.means a)
+split_cause most order text (faults.Lines need limit) (faults.Circuit refusal) a b =
+    absurd (means_or_refused order.from text a.circuit refusal a.means b)
+split_cause most order text (faults.Lines need limit) (faults.Lines other many) a b =
+    same_lines other many need limit (b.lacks.needs ∙ sym a.lacks.needs) (b.lacks.limit_is ∙ sym a.lacks.limit_is)
+split_cause most order text (faults.Lines need limit) (faults.Gates other) a b = absurd (lines_or_gates most order text need limit other a b)
+split_cause most order text (faults.Gates limit) (faults.Circuit refusal) a b = absurd (means_or_refused order.from text a.circuit refusal a.means b)
+split_cause most order text (faults.Gates other) (faults.Lines need limit) a b = absurd (lines_or_gates most order text need limit other b a)
+split_cause most order text (faults.Gates limit) (faults.Gates other) a b = ap (λ n. faults.Gates n) (b.many.limit_is ∙ sym a.many.limit_is)
+split_cause most order text faults.Usage other a b = absurd a
+split_cause most order text (faults.Refused refusal) other a b = absurd a
+split_cause most order text (faults.Claim number at bits) other a b = absurd a
+split_cause most order text (faults.Diagram number at limit) other a b = absurd a
+split_cause most order text (faults.BadBits word) other a b = absurd a
+split_cause most order text faults.Read other a b = absurd a
+split_cause most order text faults.Write other a b = absurd a
+split_cause most order text faults.Memory other a b = absurd a
+split_cause most order text fault other a b = absurd b
 
-among : (order : OrderView) (text : List ℕ) (fault : Fault) → IsCause order text fault → IsFaultOfText (6 ∷ 7 ∷ 8 ∷ []) fault
-among order text (faults.Lines need limit) cause = record { of_text = tt; status = (0, omega arith, refl) }
-among order text (faults.Gates limit) cause = record { of_text = tt; status = (1, omega arith, refl) }
-among order text (faults.Circuit refusal) cause = record { of_text = tt; status = (2, omega arith, refl) }
-among order text fault cause = absurd cause
+among : (most : ℕ) (order : OrderView) (text : List ℕ) (fault : Fault) → IsCause most order text fault → IsFaultOfText (6 ∷ 7 ∷ 8 ∷ []) fault
+among most order text (faults.Lines need limit) cause = record { of_text = tt; status = (0, omega arith, refl) }
+among most order text (faults.Gates limit) cause = record { of_text = tt; status = (1, omega arith, refl) }
+among most order text (faults.Circuit refusal) cause = record { of_text = tt; status = (2, omega arith, refl) }
+among most order text fault cause = absurd cause
+
+can_stop : (most : ℕ) (order : OrderView) (text : List ℕ) (fault : Fault) → CanSplit most order.from text → IsCause most order text fault → ⊥
+can_stop most order text fault can cause = split_stops most order text can.circuit can.added can.gates fault can.means can.split cause
+
+-- of each command that gives something only where there is a split list
+pub split_outcome : (most : ℕ) (Gives : OrderView → List ℕ → List ℕ → Type 0)
+    → ((order : OrderView) (text written : List ℕ) → Gives order text written → CanSplit most order.from text) → HasOneOutcome (promise_within most Gives)
+split_outcome most Gives can = record {
+  never_both = λ order text written fault given cause exact. can_stop most order text fault (can order text written given) cause;
+  one_cause = λ order text fault exact cause other is. inl (split_cause most order text fault exact cause other);
+  free = λ order text fault served cause. can_stop most order text fault served cause;
+  long = λ order text over. over;
+  among = λ order text fault cause. among most order text fault cause;
+}
 
 pub convert_outcome : HasOneOutcome promise
-convert_outcome = record {
-  never_both = λ order text written fault given cause exact. convert_stops order text given.circuit given.added given.gates fault given.means given.split cause;
-  one_cause = λ order text fault exact cause other is. inl (convert_cause order text fault exact cause other);
-  free = λ order text fault served cause. convert_stops order text served.circuit served.added served.gates fault served.means served.split cause;
-  long = λ order text over. over;
-  among = λ order text fault cause. among order text fault cause;
-}
+convert_outcome =
+    split_outcome MOST_GATES promise.Gives
+    (λ order text written given. record { circuit = given.circuit; means = given.means; added = given.added; gates = given.gates; split = given.split })
 
 -- ---- what the file means
 
@@ -145,6 +158,16 @@ converted_gates : (circuit : ReadCircuit) (added : Bool) (gates : List GateView)
 converted_gates circuit false gates = refl
 converted_gates circuit true gates = refl
 
+-- the file of gates that wait to be written, in each format
+pub file_of : (to : Format) (circuit : ReadCircuit) (gates : List GateView) (made : ConvertedView) → IsPlaced circuit gates made
+    → IsFileOf to circuit made.added gates (file_text to made.circuit made.added)
+file_of to circuit gates made p = record {
+  lines = ap (λ (c : ReadCircuit). file_text to c made.added) p.are;
+  meaning = subst (λ (c : ReadCircuit). MeansIn to (file_text to made.circuit made.added) (said_in to c)) p.are (means_written to made p.writable);
+  narrow = subst AreNarrow (ap (λ (c : ReadCircuit). c.gates) p.are ∙ converted_gates circuit made.added gates) p.writable.narrow;
+  same = p.same;
+}
+
 -- what is split of a text's circuit is written in each format
 pub conversion : (from : Format) (text : List ℕ) (circuit : ReadCircuit) (made : ConvertedView) → Means from text circuit → IsSplitOf circuit made
     → IsConversion from text made
@@ -155,10 +178,7 @@ conversion from text circuit made m s = record {
     added = made.added;
     gates = s.gates;
     split = s.split;
-    lines = ap (λ (c : ReadCircuit). file_text to c made.added) s.are;
-    meaning = subst (λ (c : ReadCircuit). MeansIn to (file_text to made.circuit made.added) (said_in to c)) s.are (means_written to made s.writable);
-    narrow = subst AreNarrow (ap (λ (c : ReadCircuit). c.gates) s.are ∙ converted_gates circuit made.added s.gates) s.writable.narrow;
-    same = s.same;
+    file = file_of to circuit s.gates made s.placed;
   };
 }
 
@@ -217,3 +237,27 @@ pub memory_stops : {T : Type 0} (most : ℕ) (source : ReadCircuit) (r : Result 
     → IfErr r (IsSplitFault most source)
 memory_stops most source (Ok made) h = tt
 memory_stops most source (Err fault) h = subst (IsSplitFault most source) (sym h) tt
+
+-- ---- marks
+
+-- whether a line was added is seen by the number of lines
+pub same_added : (lines : ℕ) (added other : Bool) → lines + added_lines added ≡ lines + added_lines other → added ≡ other
+same_added lines false false e = refl
+same_added lines false true e = absurd (omega (arith, e))
+same_added lines true false e = absurd (omega (arith, e))
+same_added lines true true e = refl
+
+-- the split list with its marks
+pub split_marked : (source : ReadCircuit) (narrow : CircuitView) (made : ConvertedView) → IsNarrowOf MOST_GATES source narrow → IsMarked source narrow made
+    → IsSplitOf source made
+split_marked source narrow made n m =
+    let as_made = same_added (line_count source) n.added made.added (sym n.lines ∙ m.lines) in
+    record {
+      gates = narrow.gates;
+      split = subst (λ (b : Bool). HasSplit MOST_GATES source b (Ok narrow.gates)) as_made n.split;
+      placed = record {
+        are = m.are;
+        writable = m.writable;
+        same = subst (λ (b : Bool). DoesTheSame source b narrow.gates) as_made n.same;
+      };
+    }

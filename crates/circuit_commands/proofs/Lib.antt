@@ -2,3 +2,4 @@ pub mod RunLemmas
 pub mod CircuitLemmas
 mod WiderLemmas
 pub mod ConvertLemmas
+mod TidyLemmas

@@ -86,20 +86,16 @@ abbrev pub said_in : Format → ReadCircuit → ReadCircuit
 said_in Real circuit = circuit
 said_in Qasm circuit = unmarked (line_count circuit) circuit.gates
 
--- ---- the command
-
--- The text means a circuit, these are the lines of the file of its split list, and by the meaning of the format that is
--- written they mean this list, whose gates are narrow, and which has the circuit's line map.
-pub record IsConverted (from to : Format) (text written : List ℕ) : Type 0 where
-  pub circuit : ReadCircuit
-  pub means : Means from text circuit
-  pub added : Bool
-  pub gates : List GateView
-  pub split : HasSplit MOST_GATES circuit added (Ok gates)
+-- These are the lines of the file of these gates in place of a circuit's, and by the meaning of the format they mean
+-- them. The gates are narrow, and do to the circuit's lines what its own do.
+pub record IsFileOf (to : Format) (circuit : ReadCircuit) (added : Bool) (gates : List GateView)
+    (written : List ℕ) : Type 0 where
   pub lines : written ≡ file_text to (converted circuit added gates) added
   pub meaning : MeansIn to written (said_in to (converted circuit added gates))
   pub narrow : AreNarrow gates
   pub same : DoesTheSame circuit added gates
+
+-- ---- a text's split list
 
 -- the text means a circuit that wants a line more than there may be
 pub record PassesLines (most : ℕ) (from : Format) (text : List ℕ) (need limit : ℕ) : Type 0 where
@@ -121,28 +117,39 @@ pub record CanSplit (most : ℕ) (from : Format) (text : List ℕ) : Type 0 wher
   pub gates : List GateView
   pub split : HasSplit most circuit added (Ok gates)
 
+-- why it has none
+abbrev pub IsCause : (most : ℕ) → OrderView → List ℕ → Fault → Type 0
+IsCause most order text (Circuit refusal) = IsCircuitRefusal order.from text refusal
+IsCause most order text (Lines need limit) = PassesLines most order.from text need limit
+IsCause most order text (Gates limit) = PassesGates most order.from text limit
+IsCause most order text _ = ⊥
+
+-- where it has one, a command serves: these bytes are what it gives
+abbrev pub promise_within : (most : ℕ) → (OrderView → List ℕ → List ℕ → Type 0) → Promise
+promise_within most Gives = record {
+  reads = Some circuit_limit;
+  statuses = 6 ∷ 7 ∷ 8 ∷ [];
+  Gives = Gives;
+  IsCause = IsCause most;
+  Serves = λ order text. CanSplit most order.from text;
+  IsExact = IsAnyFault;
+  MayPrecede = IsNoFault;
+}
+
+-- ---- the command
+
+-- the text means a circuit, and this is the file of its split list
+pub record IsConverted (from to : Format) (text written : List ℕ) : Type 0 where
+  pub circuit : ReadCircuit
+  pub means : Means from text circuit
+  pub added : Bool
+  pub gates : List GateView
+  pub split : HasSplit MOST_GATES circuit added (Ok gates)
+  pub file : IsFileOf to circuit added gates written
+
 -- what is written
 abbrev pub Gives : OrderView → List ℕ → List ℕ → Type 0
 Gives order text written = IsConverted order.from order.to text written
 
--- why nothing is
-abbrev pub IsCause : OrderView → List ℕ → Fault → Type 0
-IsCause order text (Circuit refusal) = IsCircuitRefusal order.from text refusal
-IsCause order text (Lines need limit) = PassesLines MOST_GATES order.from text need limit
-IsCause order text (Gates limit) = PassesGates MOST_GATES order.from text limit
-IsCause order text _ = ⊥
-
--- where something is, unless memory or a device is wanting
-abbrev pub Serves : OrderView → List ℕ → Type 0
-Serves order text = CanSplit MOST_GATES order.from text
-
 abbrev pub promise : Promise
-promise = record {
-  reads = Some circuit_limit;
-  statuses = 6 ∷ 7 ∷ 8 ∷ [];
-  Gives = Gives;
-  IsCause = IsCause;
-  Serves = Serves;
-  IsExact = IsAnyFault;
-  MayPrecede = IsNoFault;
-}
+promise = promise_within MOST_GATES Gives

@@ -3,5 +3,6 @@ pub mod Limits
 pub mod Stat
 pub mod Run
 pub mod Convert
+pub mod Tidy
 pub mod Outcomes
 pub mod inside

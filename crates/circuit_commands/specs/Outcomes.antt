@@ -2,11 +2,11 @@
 use Rattle.std.specs.Prelude.{ℕ, Bool, List}
 use Rattle.command_answers.specs.declared.fault.Fault.{Fault}
 use Rattle.command_answers.specs.declared.fault.Fault.TheVariants.{Circuit, Lines, Gates, BadBits, Memory}
-use Rattle.gate_split.specs.declared.plan.TheConstants.{MOST_GATES}
 use Rattle.revc_words.specs.declared.order.Format.{Format}
 use Rattle.circuit_commands.specs.Circuits.{ReadCircuit, IsCircuitRefusal}
 use Rattle.circuit_commands.specs.Run.{AreInputs, HasBadWord, IsFirstUnfit}
 use Rattle.circuit_commands.specs.Convert.{IsConverted, PassesLines, PassesGates, file_text}
+use Rattle.circuit_commands.specs.Tidy.{IsTidiedFile}
 
 -- why a text means no circuit, or there was no memory left
 abbrev pub IsCircuitFault : Format → List ℕ → Fault → Type 0
@@ -37,10 +37,14 @@ pub record ConvertedView : Type 0 where
 pub record IsConversion (from : Format) (text : List ℕ) (made : ConvertedView) : Type 0 where
   pub in_each : (to : Format) → IsConverted from to text (file_text to made.circuit made.added)
 
--- why a circuit text has no file, or there was no memory left
-abbrev pub IsConvertFault : Format → List ℕ → Fault → Type 0
-IsConvertFault from text (Circuit refusal) = IsCircuitRefusal from text refusal
-IsConvertFault from text (Lines need limit) = PassesLines MOST_GATES from text need limit
-IsConvertFault from text (Gates limit) = PassesGates MOST_GATES from text limit
-IsConvertFault from text Memory = Unit {0}
-IsConvertFault from text _ = ⊥
+-- the same of the gates that are tidied from its split list
+pub record IsTidying (from : Format) (text : List ℕ) (made : ConvertedView) : Type 0 where
+  pub in_each : (to : Format) → IsTidiedFile from to text (file_text to made.circuit made.added)
+
+-- why a circuit text has no split list of at most so many gates, or there was no memory left
+abbrev pub IsConvertFault : (most : ℕ) → Format → List ℕ → Fault → Type 0
+IsConvertFault most from text (Circuit refusal) = IsCircuitRefusal from text refusal
+IsConvertFault most from text (Lines need limit) = PassesLines most from text need limit
+IsConvertFault most from text (Gates limit) = PassesGates most from text limit
+IsConvertFault most from text Memory = Unit {0}
+IsConvertFault most from text _ = ⊥

@@ -9,8 +9,9 @@ ghost use Rattle.circuit_commands.specs.Circuits.{line_count};
 ghost use Rattle.circuit_commands.specs.Convert.{WantsLine, converted, promise};
 ghost use Rattle.circuit_commands.specs.Convert.{file_text};
 ghost use Rattle.circuit_commands.specs.Outcomes.{IsConversion, IsConvertFault};
-ghost use Rattle.circuit_commands.specs.inside.Splitting.{HasLines, IsNarrowOf, IsSplitFault};
-ghost use Rattle.circuit_commands.specs.inside.Splitting.{IsSplitOf, IsWiderFault, IsWritable};
+ghost use Rattle.circuit_commands.specs.inside.Splitting.{HasLines, IsMarked, IsNarrowOf};
+ghost use Rattle.circuit_commands.specs.inside.Splitting.{IsOnLinesOf, IsSplitFault, IsSplitOf};
+ghost use Rattle.circuit_commands.specs.inside.Splitting.{IsWiderFault, IsWritable};
 
 use crate::circuit::{MarkedCircuit, read_circuit};
 use command_answers::Fault;
@@ -68,7 +69,7 @@ pub fn one_outcome()
 pub fn convert(alloc: Global, text: &[u8], from: Format) -> Result<Converted, Fault>
     requires { length text.now ≤ MOST_CIRCUIT_BYTES }
     ensures ok { IfOk result (IsConversion from text.now) }
-    ensures err { IfErr result (IsConvertFault from text.now) }
+    ensures err { IfErr result (IsConvertFault MOST_GATES from text.now) }
 {
     let source = read_circuit(alloc, text, from)?;
     split_source(alloc, source)
@@ -85,7 +86,7 @@ fn split_source(alloc: Global, source: MarkedCircuit) -> Result<Converted, Fault
 }
 
 // At most so many narrow gates on the lines of a circuit, or on one more.
-fn split_gates(alloc: Global, source: &MarkedCircuit, most: u64) -> Result<Narrow, Fault>
+pub(crate) fn split_gates(alloc: Global, source: &MarkedCircuit, most: u64) -> Result<Narrow, Fault>
     requires { HasLines source.now }
     ensures ok { IfOk result (IsNarrowOf most source.now) }
     ensures err { IfErr result (IsSplitFault most source.now) }
@@ -123,10 +124,10 @@ fn split_wider(alloc: Global, source: &MarkedCircuit, most: u64) -> Result<Narro
 }
 
 // The narrow gates of a circuit with its marks, and none on a line that was added.
-fn marked(source: MarkedCircuit, narrow: Narrow) -> Result<Converted, Fault>
+pub(crate) fn marked(source: MarkedCircuit, narrow: Narrow) -> Result<Converted, Fault>
     requires lines { HasLines source }
-    requires split { IsNarrowOf MOST_GATES source narrow }
-    ensures ok { IfOk result (IsSplitOf source) }
+    requires on_lines { IsOnLinesOf source narrow }
+    ensures ok { IfOk result (IsMarked source narrow) }
     ensures err { IfErr result (λ fault. fault ≡ Fault.Memory) }
 {
     let own_lines = source.circuit().lines();

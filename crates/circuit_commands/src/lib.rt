@@ -1,4 +1,4 @@
-//! The commands that read a circuit: `stat`, `run` and `convert`.
+//! The commands that read a circuit: `stat`, `run`, `convert` and `tidy`.
 #![tactic(auto)]
 
 mod circuit;
@@ -6,5 +6,6 @@ pub mod convert;
 mod limits;
 pub mod run;
 pub mod stat;
+pub mod tidy;
 
-pub use limits::{MOST_CIRCUIT_BYTES, limits_are};
+pub use limits::{MOST_CIRCUIT_BYTES, MOST_TIDIED_GATES, limits_are};

@@ -6,6 +6,7 @@ use Rattle.command_answers.specs.declared.fault.Fault.{Fault}
 use Rattle.command_answers.specs.declared.fault.Fault.TheVariants.{Lines, Gates, Memory}
 use Rattle.circuit_commands.specs.Circuits.{ReadCircuit, line_count}
 use Rattle.circuit_commands.specs.Convert.{HasManyGates, HasSplit, LacksLine, DoesTheSame, added_lines, converted}
+use Rattle.circuit_commands.specs.Tidy.{IsTidiedFrom}
 use Rattle.circuit_commands.specs.Outcomes.{ConvertedView}
 
 -- a circuit has a line, and keeps the limit of lines
@@ -30,13 +31,36 @@ pub record IsNarrowOf (most : ℕ) (circuit : ReadCircuit) (narrow : CircuitView
   pub few_gates : length narrow.gates ≤ most
   pub same : DoesTheSame circuit added narrow.gates
 
+-- narrow gates on a circuit's lines or on one more, within the limits of the formats
+pub record IsOnLinesOf (circuit : ReadCircuit) (narrow : CircuitView) : Type 0 where
+  pub added : Bool
+  pub lines : narrow.lines ≡ line_count circuit + added_lines added
+  pub few : narrow.lines ≤ MOST_LINES
+  pub few_gates : length narrow.gates ≤ MOST_GATES
+
+-- these gates with the circuit's marks, on its lines or on one more
+pub record IsMarked (circuit : ReadCircuit) (narrow : CircuitView) (made : ConvertedView) : Type 0 where
+  pub lines : narrow.lines ≡ line_count circuit + added_lines made.added
+  pub are : made.circuit ≡ converted circuit made.added narrow.gates
+  pub writable : IsWritable made
+
+-- these gates, which do what the circuit's do, with its marks
+pub record IsPlaced (circuit : ReadCircuit) (gates : List GateView) (made : ConvertedView) : Type 0 where
+  pub are : made.circuit ≡ converted circuit made.added gates
+  pub writable : IsWritable made
+  pub same : DoesTheSame circuit made.added gates
+
 -- this is the circuit of the split list
 pub record IsSplitOf (circuit : ReadCircuit) (made : ConvertedView) : Type 0 where
   pub gates : List GateView
   pub split : HasSplit MOST_GATES circuit made.added (Ok gates)
-  pub are : made.circuit ≡ converted circuit made.added gates
-  pub writable : IsWritable made
-  pub same : DoesTheSame circuit made.added gates
+  pub placed : IsPlaced circuit gates made
+
+-- this is the circuit of gates that are tidied from the split list
+pub record IsTidyOf (circuit : ReadCircuit) (made : ConvertedView) : Type 0 where
+  pub gates : List GateView
+  pub from_split : IsTidiedFrom circuit made.added gates
+  pub placed : IsPlaced circuit gates made
 
 -- why there is none, or there was no memory left
 abbrev pub IsSplitFault : (most : ℕ) → ReadCircuit → Fault → Type 0

@@ -1,5 +1,6 @@
 use Rattle.gate_split.specs.declared.plan.TheConstants.{MOST_GATES}
-use Rattle.circuit_commands.proofs.ConvertLemmas.{memory_stops}
+use Rattle.std.proofs.lemmas.Result.{IfOk-weaker}
+use Rattle.circuit_commands.proofs.ConvertLemmas.{memory_stops, split_marked}
 use Rattle.revc_base.proofs.ResultLemmas.{no_value, passes_on}
 use Rattle.circuit_commands.proofs.convert.split_source.Goals as goal
 
@@ -8,6 +9,10 @@ returns-in_err-narrow-clause-ok c = no_value c.from_residual.result _ _ c.from_r
 
 pub returns-in_err-narrow-clause-err : goal.returns-in_err-narrow-clause-err
 returns-in_err-narrow-clause-err c = passes_on _ c.from_residual.result c.from_residual.ensures.1 c.in_err-narrow.ensures.err
+
+pub returns-clause-ok : goal.returns-clause-ok
+returns-clause-ok c =
+    IfOk-weaker c.marked.result _ _ (λ made m. split_marked c.args.source c.in_ok-narrow.narrow made c.in_ok-narrow.ensures.ok m) c.marked.ensures.ok
 
 pub returns-clause-err : goal.returns-clause-err
 returns-clause-err c = memory_stops MOST_GATES c.args.source c.marked.result c.marked.ensures.err
