@@ -7,9 +7,11 @@ from models import qasm, real
 from models.circuits import is_clean
 from models.claims import variable_order
 from models.commands import READERS as CIRCUITS
-from models.commands import Answer, answer_of, budget_of, circuit_of, parts_of, run_on_zeros
+from models.commands import MOST_TIDIED, Answer, answer_of, budget_of, circuit_of, flips_of, parts_of, run_on_zeros
+from models.commands import split_of
 from models.language import Program, Run, program_of
 from models.plans import Budget, Numbers
+from models.tidied import is_tidy
 from models.words import Order, order_of
 
 READERS = {"real": real.circuit_of, "qasm": qasm.compiled_circuit_of}
@@ -19,10 +21,12 @@ TRIED = 4
 
 def is_sound(words: List[str], text: bytes, answer: Answer) -> bool:
     """A compiled file is clean and within its budgets, a refused budget is too small, a printed input breaks the claim,
-    a converted or tidied circuit has the line map of its source, and a verdict is right on words that are run."""
+    a converted circuit has the line map of its source, a tidied one too and is tidy, and a verdict is right on words
+    that are run."""
     order = order_of(words)
     if order is not None and order.command in ("convert", "tidy") and answer.status == 0:
-        return is_same(circuit_of(order, text), CIRCUITS[order.values["to"]](answer.out))
+        circuit, other = circuit_of(order, text), CIRCUITS[order.values["to"]](answer.out)
+        return is_same(circuit, other) and (order.command == "convert" or is_tidied(circuit, other))
     if order is not None and order.command == "verify" and answer.status in (0, 15):
         return is_verdict(order, text, answer)
     if order is None or order.command not in ("compile", "check"):
@@ -51,6 +55,11 @@ def is_same(circuit: real.Circuit, other: real.Circuit) -> bool:
     positive = all(bit == 1 for gate in other.gates for _, bit in gate.controls)
     return more in (0, 1) and narrow and positive and all(
         other.run(list(word)) == circuit.run(list(word[:lines])) + list(word[lines:]) for word in words_of(lines + more))
+
+
+def is_tidied(circuit: real.Circuit, other: real.Circuit) -> bool:
+    """Whether another circuit is tidy, and has at most as many gates as the split list of a circuit."""
+    return is_tidy(flips_of(other.gates)) and len(other.gates) <= len(split_of(circuit, MOST_TIDIED)[0])
 
 
 def is_verdict(order: Order, source: bytes, answer: Answer) -> bool:

@@ -268,14 +268,27 @@ OTHERS = [
 
 # ---- Circuits that are tidied
 
-PAIR = ".version 2.0\n.numvars 4\n.variables a b c d\n.begin\nt3 a b c\nt2 a d\nt3 b a c\n.end\n"
-TWICE = ".version 2.0\n.numvars 2\n.variables a b\n.begin\n%s.end\n"
-BACK = "t2 a b\nt2 b a\n"
 
+def on_lines(names: str, *gates: str) -> str:
+    head = ".version 2.0\n.numvars %d\n.variables %s\n.begin\n" % (len(names.split(" ")), names)
+    return head + "".join(gate + "\n" for gate in gates) + ".end\n"
+
+
+BACK_AND_FORTH = ["t2 a b", "t2 b a"]
 TIDIED = [
-    ("tidy --to real", PAIR, "l0 l1 l2 l3: t2 l0 l3"),
-    ("tidy --to real", TWICE % (BACK * 2), "l0 l1: t2 l1 l0, t2 l0 l1"),
-    ("tidy --to real", TWICE % (BACK * 3), "l0 l1: "),
+    # Alike flips, over one that is free of them
+    ("tidy --to real", on_lines("a b c d", "t3 a b c", "t2 a d", "t3 b a c"), "l0 l1 l2 l3: t2 l0 l3"),
+    ("tidy --to real", on_lines("a b", *BACK_AND_FORTH * 2), "l0 l1: t2 l1 l0, t2 l0 l1"),
+    ("tidy --to=real", on_lines("a b", *BACK_AND_FORTH * 3), "l0 l1: "),
+    # Two X gates of two negative controls cancel
+    ("tidy --to real", on_lines("a b c", "t2 -a b", "t2 -a c"), "l0 l1 l2: t1 l0, t2 l0 l1, t2 l0 l2, t1 l0"),
+    ("tidy", FULL, QASM_HEAD + "qreg q[4];, qreg dirty[1];, ccx q[2],dirty[0],q[3];, ccx q[0],q[1],dirty[0];, "
+     "ccx q[2],dirty[0],q[3];, ccx q[0],q[1],dirty[0];"),
+    ("tidy --to real", on_lines("a", *["t1 a"] * 65_536), "l0: "),
+    ("tidy --to real", on_lines("a", *["t1 a"] * 65_537), "revc: more than 65536 gates"),
+    ("tidy", WIDEST, "revc: lines 16385 over 16384"),
+    ("tidy --from qasm", FULL, "revc: circuit at 1:1"),
+    ("tidy", ".end\n", "revc: circuit line 1"),
 ]
 
 # ---- Circuits against programs

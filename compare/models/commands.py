@@ -6,8 +6,8 @@ from models.adders import adder_text
 from models.claims import TooWide, settled
 from models.graphs import Graph
 from models.language import Run, program_of
-from models.plans import Budget, NoIdle, OverGates, OverLines, Plan, Settled, choose, split, width_of
-from models.tidied import tidied
+from models.plans import Budget, NoIdle, OverGates, OverLines, Plan, Settled, choose, flip, split, width_of
+from models.tidied import Flip, tidied
 from models.verdicts import MOST_BYTES, Verdict, first_wide, parted, verdict_on
 from models.words import Order, order_of
 
@@ -146,12 +146,15 @@ def convert_text(order: Order, text: bytes) -> bytes:
     return CONVERTERS[order.values["to"]](circuit, gates, added)
 
 
+def flips_of(gates: List[real.Gate]) -> List[Flip]:
+    return [(tuple(line for line, _ in gate.controls), gate.targets[0]) for gate in gates]
+
+
 def tidy_text(order: Order, text: bytes) -> bytes:
     circuit = circuit_of(order, text)
     gates, added = split_of(circuit, MOST_TIDIED)
-    flips = tidied([(tuple(line for line, _ in controls), target) for controls, (target,) in gates])
-    tidy = [real.Gate([(line, 1) for line in controls], [target]) for controls, target in flips]
-    return CONVERTERS[order.values["to"]](circuit, tidy, added)
+    flips = tidied(flips_of(gates))
+    return CONVERTERS[order.values["to"]](circuit, [flip(target, *controls) for controls, target in flips], added)
 
 
 def parts_of(order: Order, source: bytes) -> Tuple[Run, real.Circuit]:
