@@ -21,4 +21,6 @@ mod plan_tests;
 #[cfg(test)]
 mod rows;
 #[cfg(test)]
+mod tidy_tests;
+#[cfg(test)]
 mod words_tests;

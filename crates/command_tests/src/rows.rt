@@ -59,6 +59,7 @@ const NO_ORDERS: &[&str] = &[
     "run",
     "run -1",
     "convert --to x",
+    "tidy x",
     "gen 2 --nodes 5",
     "compile -- x",
     "eval 1 -- --",

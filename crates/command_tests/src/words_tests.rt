@@ -113,6 +113,14 @@ const ORDERS: &[(&str, Asked)] = &[
         },
     ),
     (
+        "tidy --to=real --",
+        Asked {
+            command: Command::Tidy,
+            to: Format::Real,
+            ..USUAL
+        },
+    ),
+    (
         "gen -- 200",
         Asked {
             command: Command::Gen,

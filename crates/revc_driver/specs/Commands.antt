@@ -14,6 +14,7 @@ use Rattle.program_commands.specs.Bench as bench
 use Rattle.circuit_commands.specs.Stat as stat
 use Rattle.circuit_commands.specs.Run as run
 use Rattle.circuit_commands.specs.Convert as convert
+use Rattle.circuit_commands.specs.Tidy as tidy
 
 abbrev pub promise_of : Command → Promise
 promise_of commands.Compile = compile.promise
@@ -22,6 +23,7 @@ promise_of commands.Eval = eval.promise
 promise_of commands.Stat = stat.promise
 promise_of commands.Run = run.promise
 promise_of commands.Convert = convert.promise
+promise_of commands.Tidy = tidy.promise
 promise_of commands.Gen = gen.promise
 promise_of commands.Bench = bench.promise
 

@@ -13,7 +13,7 @@ ghost use Rattle.revc_driver.specs.inside.Outcomes.{CanBeWritten, text_of};
 
 use circuit_commands::convert::Converted;
 use circuit_commands::stat::Sizes;
-use circuit_commands::{MOST_CIRCUIT_BYTES, convert, run, stat};
+use circuit_commands::{MOST_CIRCUIT_BYTES, convert, run, stat, tidy};
 use command_answers::{
     CircuitRefusal, Fault, Refusal, TextLimit, write_digits, write_lines, write_number,
 };
@@ -39,7 +39,7 @@ pub enum Prepared {
     Lines(Vec<Bits>),
     /// The lines of a circuit's sizes.
     Stat(Sizes),
-    /// The file of a circuit that was converted, in a format.
+    /// The file of a circuit that was converted or tidied, in a format.
     Converted(Format, Converted),
     /// The text of a program.
     Program(Vec<u8>),
@@ -78,6 +78,7 @@ pub fn one_outcome(command: Command)
         Command::Stat => stat::one_outcome(),
         Command::Run => run::one_outcome(),
         Command::Convert => convert::one_outcome(),
+        Command::Tidy => tidy::one_outcome(),
         Command::Gen => generate::one_outcome(),
         Command::Bench => bench::one_outcome(),
     }
@@ -95,6 +96,7 @@ pub fn limit_of(command: Command) -> Option<TextLimit>
         Command::Stat => Some(circuit_limit()),
         Command::Run => Some(circuit_limit()),
         Command::Convert => Some(circuit_limit()),
+        Command::Tidy => Some(circuit_limit()),
         Command::Gen => None,
         Command::Bench => None,
     }
@@ -138,6 +140,10 @@ pub fn prepare(alloc: Global, order: &Order, text: &[u8]) -> Result<Prepared, Fa
         Command::Convert => {
             let converted = convert::convert(alloc, text, order.from)?;
             Ok(Prepared::Converted(order.to, converted))
+        }
+        Command::Tidy => {
+            let tidied = tidy::tidy(alloc, text, order.from)?;
+            Ok(Prepared::Converted(order.to, tidied))
         }
         Command::Gen => Ok(Prepared::Program(generate::program(alloc, order.number)?)),
         Command::Bench => bench::measure(alloc, order).map(Prepared::Bench),

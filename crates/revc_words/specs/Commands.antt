@@ -1,7 +1,7 @@
 -- What the words of the command line see of each command.
 use Rattle.std.specs.Prelude.{ℕ, List, [], ◌∷◌, codes}
 use Rattle.revc_words.specs.declared.commands.Command.{Command}
-use Rattle.revc_words.specs.declared.commands.Command.TheVariants.{Compile, Check, Eval, Stat, Run, Convert, Gen, Bench}
+use Rattle.revc_words.specs.declared.commands.Command.TheVariants.{Compile, Check, Eval, Stat, Run, Convert, Tidy, Gen, Bench}
 use Rattle.revc_words.specs.declared.commands.Positional.{Positional}
 use Rattle.revc_words.specs.declared.commands.Positional.TheVariants.{Nothing, Word, Words, Number}
 
@@ -25,6 +25,11 @@ spelling_of Stat = record { name = codes "stat"; options = codes "from" ∷ []; 
 spelling_of Run = record { name = codes "run"; options = codes "from" ∷ []; takes = Words }
 spelling_of Convert = record {
   name = codes "convert";
+  options = codes "from" ∷ codes "to" ∷ [];
+  takes = Nothing;
+}
+spelling_of Tidy = record {
+  name = codes "tidy";
   options = codes "from" ∷ codes "to" ∷ [];
   takes = Nothing;
 }

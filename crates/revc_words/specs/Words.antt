@@ -27,8 +27,8 @@ words_of words = map string_bytes words
 
 -- a command, the plans that it tries, the most lines and gates of its circuit, how many lines it
 -- borrows, the most nodes of its diagrams, the format of the circuit of a program, the formats
--- that `convert` reads and writes, the bits of each number that an adder adds, and its words of
--- bits
+-- that `convert` and `tidy` read and write, the bits of each number that an adder adds, and its
+-- words of bits
 pub record OrderView : Type 0 where
   pub command : Command
   pub plan : How
@@ -170,7 +170,7 @@ abbrev pub IsFrom : List Setting → Format → Type 0
 IsFrom given from =
     MatchOption (value_of (codes "from") given) (from ≡ Real) (λ word. word ≡ format_word from)
 
--- the format that `convert` writes: the one given, or OpenQASM
+-- the format that `convert` and `tidy` write: the one given, or OpenQASM
 abbrev pub IsTo : List Setting → Format → Type 0
 IsTo given to =
     MatchOption (value_of (codes "to") given) (to ≡ Qasm) (λ word. word ≡ format_word to)

@@ -19,6 +19,8 @@ pub enum Command {
     Run,
     /// Reads a circuit and writes the file of a narrow one with the same line map.
     Convert,
+    /// Reads a circuit and writes the file of fewer narrow gates with the same line map.
+    Tidy,
     /// Writes the program of an adder.
     Gen,
     /// Compiles the program of an adder and writes its sizes.
@@ -50,13 +52,14 @@ pub struct Spelling<'a> {
 
 impl Command {
     // All commands.
-    const ALL: [Command; 8] = [
+    const ALL: [Command; 9] = [
         Command::Compile,
         Command::Check,
         Command::Eval,
         Command::Stat,
         Command::Run,
         Command::Convert,
+        Command::Tidy,
         Command::Gen,
         Command::Bench,
     ];
@@ -95,6 +98,11 @@ impl Command {
             },
             Command::Convert => Spelling {
                 name: "convert",
+                options: &["from", "to"],
+                takes: Positional::Nothing,
+            },
+            Command::Tidy => Spelling {
+                name: "tidy",
                 options: &["from", "to"],
                 takes: Positional::Nothing,
             },
