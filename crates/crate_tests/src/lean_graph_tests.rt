@@ -40,8 +40,11 @@ fn settled(rt: &impl Abort, alloc: Global) -> Result<Settled, Fail> {
 }
 
 const SUM: &[Base] = &[Base::Input(0), Base::Input(1), Base::Input(2)];
+
 const LAST: &[Base] = &[Base::Input(2)];
+
 const FIRST_AND_LAST: &[Base] = &[Base::Input(0), Base::Input(2)];
+
 const SECOND_AND_LAST: &[Base] = &[Base::Input(1), Base::Input(2)];
 
 // The carry is c + (a + c) (b + c).
