@@ -20,9 +20,9 @@ use std::alloc::Global;
 /// no cancelling pair, and no block of CX gates that is longer than its elimination. Two flips
 /// cancel where they have the same target and the same set of controls, and each flip between them
 /// is free of them: the target of neither is a control of the other. A block is a run of CX gates
-/// on at most 64 lines; its elimination is that of Gauss and Jordan on the rows of its lines (Patel,
-/// Markov and Hayes, 2008, without sections). The pair with the first gate goes first, and then the
-/// first block that gets shorter, and so on.
+/// on at most 64 lines; its elimination is that of Gauss and Jordan on the rows of its lines
+/// (Patel, Markov and Hayes, 2008, without sections). The pair with the first gate goes first, and
+/// then the first block that gets shorter, and so on.
 pub fn tidy(alloc: Global, narrow: &Narrow) -> Result<Narrow, Memory>
     ensures tidied { IfOk result (λ tidied.
         IsTidied narrow.now.lines narrow.now.gates tidied.gates) }

@@ -29,7 +29,8 @@ pub struct Ends {
     pub want: Vec<Dd>,
 }
 
-// The numbers of input bits, of output lines, of work lines that hold `never`, and of borrowed bits.
+// The numbers of input bits, of output lines, of work lines that hold `never`, and of borrowed
+// bits.
 fn laid(
     alloc: Global,
     bits: &[Dd],
