@@ -10,6 +10,6 @@ mod sum;
 
 pub use factor::Factor;
 pub use growing::{GrowingSum, MOST_JOINED};
-pub use limits::MOST_FACTOR_BITS;
+pub use limits::{MOST_FACTOR_BITS, limits_are};
 pub use product::Product;
 pub use sum::Sum;

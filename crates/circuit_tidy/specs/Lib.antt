@@ -1,6 +1,7 @@
 pub mod Blocks
 pub mod Elimination
 pub mod Flips
+pub mod Limits
 pub mod Pairs
 pub mod Tidied
 pub mod inside

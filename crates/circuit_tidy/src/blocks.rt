@@ -2,6 +2,7 @@
 ghost use Rattle.std.specs.Prelude.{◌≡◌, ◌≤◌, ◌==◌, ◌||◌, length, true, IfOk, OnOk, MatchOption};
 ghost use Rattle.list_facts.specs.Lists.{IsRising};
 ghost use Rattle.mct_circuit.specs.Sizes.{has_line};
+ghost use Rattle.circuit_tidy.specs.Limits.{LimitsAre};
 ghost use Rattle.circuit_tidy.specs.Blocks.{is_cx};
 ghost use Rattle.circuit_tidy.specs.inside.Walking.{AreShort, IsBlockOf, IsFront, IsFirstCx};
 ghost use Rattle.circuit_tidy.specs.inside.Walking.{IsLongerIn, IsPlaceFor, takes, with_line};
@@ -14,6 +15,11 @@ use std::alloc::Global;
 
 /// The most lines that a block of CX gates touches.
 pub const MOST_BLOCK_LINES: usize = 64;
+
+/// The limit of this crate, as a number.
+pub fn limits_are()
+    ensures { LimitsAre }
+{}
 
 // A block at the start of some flips: how many it takes, and the lines that they touch, which rise.
 #[derive(Drop)]

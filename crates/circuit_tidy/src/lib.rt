@@ -9,4 +9,5 @@ mod rows;
 mod sweep;
 mod tidying;
 
+pub use blocks::limits_are;
 pub use tidying::tidy;

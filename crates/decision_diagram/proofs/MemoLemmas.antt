@@ -96,8 +96,8 @@ holds-noted d o h old new holds flip noted within = record {
   each = noted_in d o h noted.kept new
       (λ p k given. elim noted.before as (λ _. IsFlip d p k) [
         | inl same ↦ holds.each p k (subst (λ (memo : List (Operands × ℕ)). recalled_from memo p ≡ Some k) same given)
-        | inr empty ↦
-            let given_none : recalled_from [] p ≡ Some k = subst (λ (memo : List (Operands × ℕ)). recalled_from memo p ≡ Some k) empty given in
+        | inr emptied ↦
+            let given_none : recalled_from [] p ≡ Some k = subst (λ (memo : List (Operands × ℕ)). recalled_from memo p ≡ Some k) emptied.1 given in
             cc
       ]) flip noted.noted;
   within = within;

@@ -2,7 +2,7 @@
 ghost use Rattle.std.specs.Prelude.{◌≡◌, ◌≤◌, ◌<◌, ◌⊎◌, length, [], Some};
 ghost use Rattle.indexmap.specs.IndexMap.{spare};
 ghost use Rattle.decision_diagram.specs.declared.memo.TheConstants.{MOST_RESULTS};
-ghost use Rattle.decision_diagram.specs.inside.Memos.{recalled_from, KeepsOrNotes, StaysOrIsEmptied};
+ghost use Rattle.decision_diagram.specs.inside.Memos.{recalled_from, IsEmptiedWhereFull, KeepsOrNotes};
 
 use crate::node::Dd;
 use indexmap::IndexMap;
@@ -25,8 +25,8 @@ pub fn recalled(memo: &IndexMap<Operands, Dd>, operands: &Operands) -> Option<Dd
     memo.get(operands).copied()
 }
 
-// Notes a result, in an emptied memo where it was full. Where the memo gets no memory nothing is
-// noted.
+// Notes a result, in an emptied memo exactly where it was full. Where the memo gets no memory
+// nothing is noted.
 pub fn note(memo: &mut IndexMap<Operands, Dd>, operands: &Operands, flipped: Dd)
     requires { length memo.old.entries ≤ MOST_RESULTS }
     ensures most { length memo.new.entries ≤ MOST_RESULTS }
@@ -41,7 +41,7 @@ pub fn note(memo: &mut IndexMap<Operands, Dd>, operands: &Operands, flipped: Dd)
 fn make_room(memo: &mut IndexMap<Operands, Dd>)
     requires { length memo.old.entries ≤ MOST_RESULTS }
     ensures few { length memo.new.entries < MOST_RESULTS }
-    ensures kept { StaysOrIsEmptied memo.old.entries memo.new.entries }
+    ensures kept { IsEmptiedWhereFull memo.old.entries memo.new.entries }
     ensures room { spare memo.old ≤ spare memo.new }
 {
     if memo.len() == MOST_RESULTS {

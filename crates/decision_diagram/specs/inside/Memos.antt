@@ -33,11 +33,12 @@ Notes o flipped old new =
     (m : Operands) → recalled_from new m
     ≡ (if same_operands o m then Some flipped else recalled_from old m)
 
-abbrev pub StaysOrIsEmptied : List (Operands × ℕ) → List (Operands × ℕ) → Type 0
-StaysOrIsEmptied old new = (new ≡ old) ⊎ (new ≡ [])
+-- a full memo is emptied, and each other one stays
+abbrev pub IsEmptiedWhereFull : List (Operands × ℕ) → List (Operands × ℕ) → Type 0
+IsEmptiedWhereFull old new = (new ≡ old) ⊎ ((length old ≡ MOST_RESULTS) × (new ≡ []))
 
--- a memo that stays or is emptied, and then the result is noted, or nothing
+-- a memo that is emptied where it is full, and then the result is noted, or nothing
 pub record KeepsOrNotes (o : Operands) (flipped : ℕ) (old new : List (Operands × ℕ)) : Type 0 where
   pub kept : List (Operands × ℕ)
-  pub before : StaysOrIsEmptied old kept
+  pub before : IsEmptiedWhereFull old kept
   pub noted : (new ≡ kept) ⊎ Notes o flipped kept new
