@@ -49,6 +49,7 @@ benched order tape laid (Ok sizes) plan are = record {
   clean = plan.clean;
   few_lines = plan.few_lines;
   few_gates = plan.few_gates;
+  planned = plan.planned;
   sizes = sizes;
   are = are;
   lines = refl;

@@ -9,6 +9,7 @@ use Rattle.claim_check.specs.Measures.{AreMeasuresOf, IsNoLarger, IsWithin}
 use Rattle.claim_check.specs.Settled.{SettledView, IsSettledOf, settled_outputs}
 use Rattle.claim_check.proofs.BudgetLemmas.{settled_graphs_are_within}
 use Rattle.gate_split.specs.declared.plan.TheConstants.{MOST_LINES, MOST_GATES}
+use Rattle.gate_split.specs.declared.choice.How.{How}
 use Rattle.gate_split.specs.Plans.{BudgetView, LaidView, PutsOutputs, roles_of, lines_in}
 use Rattle.held_nodes.specs.Held.{first_work}
 use Rattle.mct_circuit.specs.Gates.{AreGatesOn, AreNarrow}
@@ -33,9 +34,9 @@ use Rattle.program_commands.proofs.FormedLemmas.{some_output}
 
 -- ---- the plan of the graph
 
-clean_plan : (text : List ℕ) (laid : LaidView) (tape : TapeView) (s : SettledView) (b : BudgetView) (l : LeavesTape text tape) → IsSettledOf tape s
-    → IsPlanOf s b laid → b.lines ≤ MOST_LINES → b.gates ≤ MOST_GATES → IsCleanPlan laid l.program b
-clean_plan text laid tape s b l is plan lines gates =
+clean_plan : (how : How) (text : List ℕ) (laid : LaidView) (tape : TapeView) (s : SettledView) (b : BudgetView) (l : LeavesTape text tape)
+    → IsSettledOf tape s → IsPlanOf how s b laid → b.lines ≤ MOST_LINES → b.gates ≤ MOST_GATES → IsCleanPlan laid l.program b
+clean_plan how text laid tape s b l is plan lines gates =
     let some = some_output text l.program tape l.formed l.tape_of in
     let count = is.outputs in
     let outputs = plan.is.outputs in
@@ -63,8 +64,9 @@ writable laid p b c =
     record { some = c.some; few = omega arith; few_gates = omega arith }
 
 planned : (order : OrderView) (text : List ℕ) (laid : LaidView) (tape : TapeView) (s : SettledView) (l : LeavesSettled text order.nodes tape)
-    → IsPlanOf s (budget_of order) laid → IsCleanPlan laid l.left.program (budget_of order) → IsPlannedFor order text tape laid
-planned order text laid tape s l plan c =
+    → IsSettledWithin tape order.nodes s → IsPlanOf order.plan s (budget_of order) laid → IsCleanPlan laid l.left.program (budget_of order)
+    → IsPlannedFor order text tape laid
+planned order text laid tape s l settled plan c =
     let lines = c.plan.lines in
     let sum_of = plan.sum_of in
     record {
@@ -79,6 +81,16 @@ planned order text laid tape s l plan c =
       };
       few_lines = omega arith;
       few_gates = c.plan.gates;
+      planned = record {
+        graph = s;
+        graph_of = settled.of_tape;
+        no_larger = settled.no_larger;
+        laid = laid;
+        roles_are = refl;
+        lines_are = plan.sum_of;
+        gates_are = refl;
+        chosen = plan.chosen;
+      };
       can = writable laid l.left.program (budget_of order) c;
       sum_of = plan.sum_of;
       on = plan.on;
@@ -86,14 +98,14 @@ planned order text laid tape s l plan c =
 
 -- a plan of a tape's settled graph is one of each text that leaves the tape
 pub plan_of_texts : {E : Type 0} (order : OrderView) (tape : TapeView) (s : SettledView) (r : Result LaidView E) → IsWithinLimits order
-    → IsSettledWithin tape order.nodes s → IfOk r (IsPlanOf s (budget_of order))
+    → IsSettledWithin tape order.nodes s → IfOk r (IsPlanOf order.plan s (budget_of order))
     → IfOk r (λ laid. ForTexts tape (λ text. IsPlannedFor order text tape laid))
 plan_of_texts order tape s (Err e) limits settled h = tt
 plan_of_texts order tape s (Ok laid) limits settled plan = record {
   of_text = λ text left.
       let l : LeavesSettled text order.nodes tape = record { left = left; hold = settled.hold } in
-      planned order text laid tape s l plan
-      (clean_plan text laid tape s (budget_of order) left settled.of_tape plan limits.lines limits.gates);
+      planned order text laid tape s l settled plan
+      (clean_plan order.plan text laid tape s (budget_of order) left settled.of_tape plan limits.lines limits.gates);
 }
 
 -- the file of a plan means the plan, in each format
@@ -125,6 +137,7 @@ compiled_file order text laid tape p = record {
   };
   few_lines = p.few_lines;
   few_gates = p.few_gates;
+  planned = p.planned;
   written = refl;
 }
 

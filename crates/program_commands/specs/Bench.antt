@@ -10,6 +10,7 @@ use Rattle.mct_circuit.specs.Sizes.{depth_of}
 use Rattle.program_commands.specs.declared.bench.BenchSizes.{BenchSizes}
 use Rattle.program_commands.specs.Clean.{IsCleanCircuit}
 use Rattle.program_commands.specs.Compile as compile
+use Rattle.program_commands.specs.Compile.{IsPlannedAs}
 use Rattle.program_commands.specs.Settling.{LeavesSettled}
 use Rattle.program_gen.specs.Adder.{adder_text}
 use Rattle.revs_tape.specs.Measures.{HasWidth, inputs_of, outputs_of, writes_of}
@@ -44,8 +45,8 @@ bench_text sizes =
     ++ circuit_lines sizes)
 
 -- The text of the adder of so many bits is well formed, and that of one program, whose claims hold on all inputs, within
--- the nodes; the gates are a clean circuit for it, with the order's borrowed lines and within its budgets; and these are
--- the lines of the sizes of its tape and of the gates.
+-- the nodes; the gates are a clean circuit for it, with the order's borrowed lines, within its budgets, and of a plan
+-- that it allows; and these are the lines of the sizes of its tape and of the gates.
 pub record IsBenched (order : OrderView) (written : List ℕ) : Type 0 where
   pub tape : TapeView
   pub settled : LeavesSettled (adder_text order.number) order.nodes tape
@@ -56,6 +57,7 @@ pub record IsBenched (order : OrderView) (written : List ℕ) : Type 0 where
   pub clean : IsCleanCircuit settled.left.program order.borrow roles gates
   pub few_lines : lines_in roles ≤ order.lines
   pub few_gates : length gates ≤ order.gates
+  pub planned : IsPlannedAs order tape roles gates
   pub sizes : BenchSizes
   pub are : AreSizesOf tape roles gates sizes
   pub lines : written ≡ bench_text sizes

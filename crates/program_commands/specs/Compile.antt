@@ -3,9 +3,12 @@ use Rattle.std.specs.Prelude.{◌≡◌, ℕ, ◌+◌, ◌≤◌, List, length, 
 use Rattle.command_answers.specs.Outcomes.{Promise, IsNoBudget, IsNoFault}
 use Rattle.program_commands.specs.Refusals.{program_limit}
 use Rattle.claim_check.specs.Budgets.{Measures}
-use Rattle.claim_check.specs.Measures.{AreMeasuresOf}
-use Rattle.gate_split.specs.Plans.{BudgetView, lines_in}
-use Rattle.plan_choice.specs.Choices.{HasFewLines, HasFewGates, SomeRowFits}
+use Rattle.claim_check.specs.Measures.{AreMeasuresOf, IsNoLarger}
+use Rattle.claim_check.specs.Settled.{SettledView, IsSettledOf}
+use Rattle.gate_split.specs.declared.roles.Roles.{Roles}
+use Rattle.gate_split.specs.Plans.{BudgetView, LaidView, lines_in, roles_of}
+use Rattle.mct_circuit.specs.Gates.{GateView}
+use Rattle.plan_choice.specs.Choices.{HasFewLines, HasFewGates, IsChosen, SomeRowFits}
 use Rattle.revs_tape.specs.Measures.{inputs_of, outputs_of}
 use Rattle.revs_tape.specs.Tapes.{TapeView}
 use Rattle.revc_words.specs.Words.{OrderView}
@@ -21,8 +24,23 @@ abbrev pub budget_of : OrderView → BudgetView
 budget_of order =
     record { lines = order.lines; gates = order.gates; borrow = order.borrow }
 
+-- These lines and gates are those of a plan that the order asks for, of a settled graph of the tape: an eager one within
+-- the graph's eager numbers, or a pebbling within the numbers of the largest block that fits, which comes without
+-- `--plan` only where the eager numbers do not fit.
+pub record IsPlannedAs (order : OrderView) (tape : TapeView) (roles : Roles)
+    (gates : List GateView) : Type 0 where
+  pub graph : SettledView
+  pub graph_of : IsSettledOf tape graph
+  pub no_larger : IsNoLarger tape graph
+  pub laid : LaidView
+  pub roles_are : roles ≡ roles_of laid
+  pub lines_are : lines_in roles ≡ laid.circuit.lines
+  pub gates_are : gates ≡ laid.circuit.gates
+  pub chosen : IsChosen order.plan graph (budget_of order) laid
+
 -- The text is well formed, and that of one program, whose claims hold on all inputs, within the nodes; the file is a
--- clean one for it in the order's format, with its borrowed lines and within its budgets, and the text of its gates.
+-- clean one for it in the order's format, with its borrowed lines and within its budgets, and the text of its gates,
+-- which the order's plan allows.
 pub record IsCompiled (order : OrderView) (text file : List ℕ) : Type 0 where
   pub tape : TapeView
   pub settled : LeavesSettled text order.nodes tape
@@ -30,6 +48,7 @@ pub record IsCompiled (order : OrderView) (text file : List ℕ) : Type 0 where
   pub clean : IsClean order.format file settled.left.program order.borrow
   pub few_lines : lines_in clean.roles ≤ order.lines
   pub few_gates : length clean.gates ≤ order.gates
+  pub planned : IsPlannedAs order tape clean.roles clean.gates
   pub written : file ≡ file_text order.format clean.roles clean.gates
 
 -- a line for each input, output and borrowed bit

@@ -34,7 +34,8 @@ pub fn plan_tape(alloc: Global, tape: &Tape, order: &Order) -> Result<Laid, Faul
 // The first plan of a settled graph that fits the budgets of an order.
 fn lay(alloc: Global, settled: &Settled, order: &Order) -> Result<Laid, Fault>
     requires { IsWithinLimits (order_of order.now) }
-    ensures ok { IfOk result (IsPlanOf settled.now (budget_of (order_of order.now))) }
+    ensures ok { IfOk result
+        (IsPlanOf order.now.plan settled.now (budget_of (order_of order.now))) }
     ensures err { IfErr result
         (IsPlanningFault order.now.plan settled.now (budget_of (order_of order.now))) }
 {

@@ -10,7 +10,7 @@ use Rattle.inliner.specs.Faults.{IsRefused}
 use Rattle.inliner.specs.declared.fault.RunFault.{RunFault}
 use Rattle.mct_circuit.specs.Gates.{AreGatesOn, AreNarrow}
 use Rattle.gate_split.specs.declared.choice.How.{How}
-use Rattle.plan_choice.specs.Choices.{GatesAreFew, IsLaidFor, LinesAreFew}
+use Rattle.plan_choice.specs.Choices.{GatesAreFew, IsChosen, IsLaidFor, LinesAreFew}
 use Rattle.revs_tape.specs.Tapes.{TapeView}
 use Rattle.revc_words.specs.Words.{OrderView}
 use Rattle.revs_parser.specs.WellFormed.{IsProgramText, IsWellFormed}
@@ -22,6 +22,7 @@ use Rattle.command_answers.specs.declared.fault.Fault.TheVariants.{Refused, Line
 use Rattle.command_answers.specs.declared.fault.Refusal.TheVariants.{At}
 use Rattle.command_answers.specs.BitWords.{IsInputWord}
 use Rattle.program_commands.specs.Clean.{IsCleanCircuit}
+use Rattle.program_commands.specs.Compile.{IsPlannedAs}
 use Rattle.program_commands.specs.Outcomes.{IsWritable}
 use Rattle.program_commands.specs.Refusals.{IsRefusal}
 use Rattle.program_commands.specs.Settling.{LeavesSettled, LeavesTape}
@@ -48,16 +49,19 @@ pub record IsSettledWithin (tape : TapeView) (nodes : ℕ) (graph : SettledView)
   pub of_tape : IsSettledOf tape graph
   pub no_larger : IsNoLarger tape graph
 
--- a plan of the settled graph within the budget: its gates are narrow, and on its lines, which are those of its roles
-pub record IsPlanOf (graph : SettledView) (b : BudgetView) (laid : LaidView) : Type 0 where
+-- a plan of the settled graph that is allowed, within the budget: its gates are narrow, and on its lines, which are
+-- those of its roles
+pub record IsPlanOf (how : How) (graph : SettledView) (b : BudgetView) (laid : LaidView)
+    : Type 0 where
   pub is : IsLaidFor graph b laid
+  pub chosen : IsChosen how graph b laid
   pub sum_of : laid.inputs + laid.outputs + laid.work + laid.borrowed ≡ laid.circuit.lines
   pub on : AreGatesOn laid.circuit.lines laid.circuit.gates
   pub narrow : AreNarrow laid.circuit.gates
 
 -- The text is well formed, and that of one program, which leaves this tape and whose claims hold on all inputs, within
--- the nodes; the plan is a clean circuit for it, with the order's borrowed lines and within its budgets, and it may be
--- written: its gates are on its lines, which are those of its roles.
+-- the nodes; the plan is a clean circuit for it, with the order's borrowed lines and within its budgets, one that the
+-- order asks for, and it may be written: its gates are on its lines, which are those of its roles.
 pub record IsPlannedFor (order : OrderView) (text : List ℕ) (tape : TapeView) (laid : LaidView)
     : Type 0 where
   pub settled : LeavesSettled text order.nodes tape
@@ -65,6 +69,7 @@ pub record IsPlannedFor (order : OrderView) (text : List ℕ) (tape : TapeView) 
   pub clean : IsCleanCircuit settled.left.program order.borrow (roles_of laid) laid.circuit.gates
   pub few_lines : lines_in (roles_of laid) ≤ order.lines
   pub few_gates : length laid.circuit.gates ≤ order.gates
+  pub planned : IsPlannedAs order tape (roles_of laid) laid.circuit.gates
   pub can : IsWritable laid
   pub sum_of : laid.inputs + laid.outputs + laid.work + laid.borrowed ≡ laid.circuit.lines
   pub on : AreGatesOn laid.circuit.lines laid.circuit.gates
