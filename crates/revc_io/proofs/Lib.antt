@@ -1,2 +1,3 @@
 pub mod PassingLemmas
 pub mod WritingLoopLemmas
+pub mod GivingLemmas

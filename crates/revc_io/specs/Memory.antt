@@ -1,29 +1,53 @@
--- A sink in memory, as contracts see it.
+-- Sources and sinks in memory, as contracts see them.
 use Rattle.std.specs.Prelude.{◌≡◌, ℕ, ◌+◌, ◌-◌, ◌^◌, ◌<◌, min, List, length, Contains}
 use Rattle.revc_io.specs.Faults.{raised}
 
--- its room in bytes, the numbers of the calls that fail, the most bytes that one call takes, how many calls there were
--- (up to the greatest 64-bit number), the bytes that it took, and its count of faults
-pub record MemoryView : Type 0 where
-  pub room : ℕ
+-- ---- calls
+
+-- the numbers of the calls that fail, how many calls there were (up to the greatest 64-bit number), and the count of
+-- faults
+pub record CallsView : Type 0 where
   pub failing : List ℕ
-  pub most : ℕ
-  pub calls : ℕ
-  pub held : List ℕ
+  pub made : ℕ
   pub faults : ℕ
 
 -- the next call has a number, which is one of those that fail; calls have numbers from 1 to the greatest 64-bit number
-abbrev pub FailsNext : MemoryView → Type 0
-FailsNext sink = (sink.calls < 2 ^ 64 - 1) × Contains sink.failing (sink.calls + 1)
+abbrev pub FailsNext : CallsView → Type 0
+FailsNext calls = (calls.made < 2 ^ 64 - 1) × Contains calls.failing (calls.made + 1)
+
+-- one more call
+abbrev pub counted : CallsView → CallsView
+counted calls = record calls { made = raised calls.made }
+
+-- one more call, and one more fault
+abbrev pub failed : CallsView → CallsView
+failed calls = record (counted calls) { faults = raised calls.faults }
+
+-- ---- a source
+
+-- the bytes that are still to come, the most bytes that one call gives, and its calls
+pub record SourceView : Type 0 where
+  pub rest : List ℕ
+  pub most : ℕ
+  pub calls : CallsView
+
+-- how many bytes a call gives into a buffer of this length: as many as `most`, the rest and the buffer allow
+abbrev pub given_of : SourceView → ℕ → ℕ
+given_of source len = min (min source.most (length source.rest)) len
+
+-- ---- a sink
+
+-- its room in bytes, the most bytes that one call takes, the bytes that it took, and its calls
+pub record SinkView : Type 0 where
+  pub room : ℕ
+  pub most : ℕ
+  pub held : List ℕ
+  pub calls : CallsView
 
 -- no byte more has room
-abbrev pub IsFull : MemoryView → Type 0
+abbrev pub IsFull : SinkView → Type 0
 IsFull sink = length sink.held ≡ sink.room
 
 -- how many bytes of a piece of this length a call takes: as many as `most`, the piece and the room allow
-abbrev pub taken_of : MemoryView → ℕ → ℕ
+abbrev pub taken_of : SinkView → ℕ → ℕ
 taken_of sink len = min sink.most (min len (sink.room - length sink.held))
-
--- the sink after one more call
-abbrev pub counted : MemoryView → MemoryView
-counted sink = record sink { calls = raised sink.calls }

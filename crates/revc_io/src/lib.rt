@@ -4,9 +4,11 @@
 #![tactic(auto)]
 
 mod buffer;
+mod calls;
 mod decimal;
 mod failed;
 mod memory_sink;
+mod memory_source;
 mod reading;
 mod sink;
 mod source;
@@ -18,6 +20,7 @@ pub use buffer::Buffer;
 pub use decimal::put_decimal;
 pub use failed::Failed;
 pub use memory_sink::MemorySink;
+pub use memory_source::MemorySource;
 pub use reading::{ReadFault, read_up_to};
 pub use sink::Sink;
 pub use source::Source;
