@@ -15,6 +15,8 @@ mod convert_tests;
 #[cfg(test)]
 mod eval_tests;
 #[cfg(test)]
+mod fault_tests;
+#[cfg(test)]
 mod gallery_tests;
 #[cfg(test)]
 mod plan_tests;

@@ -139,7 +139,7 @@ fn call_with(
     left_by(alloc, status, out.bytes(), err.bytes())
 }
 
-fn left_by(alloc: Global, status: u8, out: &[u8], err: &[u8]) -> Result<Left, Memory> {
+pub fn left_by(alloc: Global, status: u8, out: &[u8], err: &[u8]) -> Result<Left, Memory> {
     let out = out.to_vec(alloc)?;
     let err = err.to_vec(alloc)?;
     Ok(Left { status, out, err })

@@ -1,0 +1,269 @@
+// Calls whose devices fail at each point in turn, and files that are cut.
+use crate::rows::{Left, PRODUCT, PRODUCT_FILE, left_by, left_of, words_of};
+use revc_base::Memory;
+use revc_driver::revc;
+use revc_io::{MemorySink, MemorySource};
+use std::alloc::Global;
+use std::process::Abort;
+use std::test::Fail;
+
+// A call of each command that ends well: its words, and its text, which is empty where none is read.
+const CALLS: &[(&str, &[u8])] = &[
+    ("compile", PRODUCT),
+    ("compile --format qasm", PRODUCT),
+    ("check", PRODUCT),
+    ("eval 11", PRODUCT),
+    ("stat", PRODUCT_FILE),
+    ("run 11 10", PRODUCT_FILE),
+    ("convert", PRODUCT_FILE),
+    ("convert --to real", PRODUCT_FILE),
+    ("tidy", PRODUCT_FILE),
+    ("gen 1", b""),
+    ("bench 1", b""),
+];
+
+const READ_FAULT: &[u8] = b"revc: read fault\n";
+
+const WRITE_FAULT: &[u8] = b"revc: write fault\n";
+
+// The most bytes of one call of a source or of standard output, of which the last is more than any
+// text here; and of standard error the number of the write that fails, none where it is 0, and the
+// most bytes of one write.
+const PIECES: &[(usize, u64, usize)] = &[
+    (1, 0, 100),
+    (1, 1, 100),
+    (1, 3, 1),
+    (7, 0, 1),
+    (7, 1, 1),
+    (7, 2, 5),
+    (4096, 0, 100),
+    (4096, 1, 100),
+    (4096, 4, 3),
+];
+
+// The devices of a call: the numbers of the read and of the write that fail, none where they are 0;
+// the most bytes of one read and of one write; the room of standard output; the failing write of
+// standard error, and the most bytes of one.
+#[derive(Clone, Copy)]
+struct Devices {
+    failing_read: u64,
+    most_read: usize,
+    failing_write: u64,
+    most_written: usize,
+    room: usize,
+    failing_err: u64,
+    most_told: usize,
+}
+
+const SOUND: Devices = Devices {
+    failing_read: 0,
+    most_read: 4096,
+    failing_write: 0,
+    most_written: 4096,
+    room: 10_000,
+    failing_err: 0,
+    most_told: 100,
+};
+
+// What a call over these devices leaves.
+fn left_over(alloc: Global, words: &str, text: &[u8], on: Devices) -> Result<Left, Memory> {
+    let failing = vec![in alloc; on.failing_read]?;
+    let mut source = MemorySource::new(text.to_vec(alloc)?, failing, on.most_read.max(1));
+    let mut out = sink(alloc, on.room, on.failing_write, on.most_written)?;
+    let mut err = sink(alloc, 100, on.failing_err, on.most_told)?;
+    let words = words_of(alloc, words)?;
+    let status = revc(alloc, &words, &mut source, &mut out, &mut err);
+    left_by(alloc, status, out.bytes(), err.bytes())
+}
+
+fn sink(alloc: Global, room: usize, failing: u64, most: usize) -> Result<MemorySink, Memory> {
+    MemorySink::new(alloc, room, vec![in alloc; failing]?, most.max(1))
+}
+
+// How many bytes of a message reach standard error.
+fn told(message: &[u8], on: Devices) -> usize {
+    if on.failing_err == 0 {
+        return message.len();
+    }
+    let writes = (on.failing_err - 1) as usize;
+    message.len().min(writes.saturating_mul(on.most_told))
+}
+
+// Whether the call ended with this status, so many of the first bytes of its text, and what reached
+// standard error of the message.
+fn is_ended(
+    left: &Left,
+    status: u8,
+    text: &[u8],
+    held: usize,
+    message: &[u8],
+    on: Devices,
+) -> bool {
+    left.status == status
+        && left.out.len() == held
+        && text.starts_with(&left.out)
+        && left.err.len() == told(message, on)
+        && message.starts_with(&left.err)
+}
+
+// How many reads a text takes, the last of which finds its end.
+fn reads_of(text: &[u8], most: usize) -> u64 {
+    if text.is_empty() {
+        return 0;
+    }
+    text.len().div_ceil(most.max(1)) as u64 + 1
+}
+
+// Each read fails in turn: nothing is written. One number further, none does.
+fn fail_reads(
+    rt: &impl Abort,
+    alloc: Global,
+    words: &str,
+    text: &[u8],
+    on: Devices,
+) -> Result<(), Memory> {
+    let reads = reads_of(text, on.most_read);
+    for failing_read in 1..=reads {
+        let on = Devices { failing_read, ..on };
+        let left = left_over(alloc, words, text, on)?;
+        assert!(rt;
+            is_ended(&left, 9, b"", 0, READ_FAULT, on),
+            "{words}: read {failing_read}"
+        );
+    }
+    let past = Devices {
+        failing_read: reads.saturating_add(1),
+        ..on
+    };
+    assert!(rt; left_over(alloc, words, text, past)?.status == 0, "{words}");
+    Ok(())
+}
+
+#[test]
+fn each_read_may_fail(rt: HostRuntime) -> Result<(), Fail> {
+    for (words, text) in CALLS {
+        for (most_read, failing_err, most_told) in PIECES {
+            let on = Devices {
+                most_read: *most_read,
+                failing_err: *failing_err,
+                most_told: *most_told,
+                ..SOUND
+            };
+            fail_reads(&rt, rt.alloc(), words, text, on)?;
+        }
+    }
+    Ok(())
+}
+
+// Each write and the flush fail in turn: the bytes of the writes before are there. One number
+// further, none fails.
+fn fail_writes(
+    rt: &impl Abort,
+    alloc: Global,
+    words: &str,
+    text: &[u8],
+    on: Devices,
+) -> Result<(), Memory> {
+    let whole = left_over(alloc, words, text, SOUND)?.out;
+    let calls = whole.len().div_ceil(on.most_written.max(1)) as u64 + 1;
+    for failing_write in 1..=calls {
+        let on = Devices {
+            failing_write,
+            ..on
+        };
+        let left = left_over(alloc, words, text, on)?;
+        let held = on
+            .most_written
+            .saturating_mul(failing_write as usize - 1)
+            .min(whole.len());
+        let is_right = is_ended(&left, 10, &whole, held, WRITE_FAULT, on);
+        assert!(rt; is_right, "{words}: write {failing_write}");
+    }
+    let past = Devices {
+        failing_write: calls.saturating_add(1),
+        ..on
+    };
+    assert!(rt;
+        left_over(alloc, words, text, past)?.is(0, &whole),
+        "{words}"
+    );
+    Ok(())
+}
+
+#[test]
+fn each_write_may_fail(rt: HostRuntime) -> Result<(), Fail> {
+    for (words, text) in CALLS {
+        for (most_written, failing_err, most_told) in PIECES {
+            let on = Devices {
+                most_written: *most_written,
+                failing_err: *failing_err,
+                most_told: *most_told,
+                ..SOUND
+            };
+            fail_writes(&rt, rt.alloc(), words, text, on)?;
+        }
+    }
+    Ok(())
+}
+
+// The room ends at each length of what is written: it is full then.
+fn fill_rooms(rt: &impl Abort, alloc: Global, words: &str, text: &[u8]) -> Result<(), Memory> {
+    let whole = left_over(alloc, words, text, SOUND)?.out;
+    for room in 0..whole.len() {
+        let on = Devices { room, ..SOUND };
+        let left = left_over(alloc, words, text, on)?;
+        assert!(rt;
+            is_ended(&left, 10, &whole, room, WRITE_FAULT, on),
+            "{words}: room {room}"
+        );
+    }
+    let enough = Devices {
+        room: whole.len(),
+        ..SOUND
+    };
+    assert!(rt;
+        left_over(alloc, words, text, enough)?.is(0, &whole),
+        "{words}"
+    );
+    Ok(())
+}
+
+#[test]
+fn each_room_may_be_too_small(rt: HostRuntime) -> Result<(), Fail> {
+    for (words, text) in CALLS {
+        fill_rooms(&rt, rt.alloc(), words, text)?;
+    }
+    Ok(())
+}
+
+// How many prefixes of a file mean a circuit; all others are refused, with status 8.
+fn count_prefixes(rt: &impl Abort, alloc: Global, words: &str, file: &[u8]) -> Result<u64, Memory> {
+    let mut count = 0;
+    for len in 0..=file.len() {
+        let status = left_of(alloc, words, &file[..len])?.status;
+        assert!(rt; status == 0 || status == 8, "{words}: {len} bytes");
+        count += u64::from(status == 0);
+    }
+    Ok(count)
+}
+
+const QASM_FILE: &[u8] = b"OPENQASM 2.0;
+include \"qelib1.inc\";
+qreg inp[2];
+qreg outp[1];
+qreg work[1];
+ccx inp[0],inp[1],work[0];
+cx work[0],outp[0];
+ccx inp[0],inp[1],work[0];
+";
+
+// A `.real` file is whole with its last word; an OpenQASM file may end after any of the registers
+// and gates.
+#[test]
+fn files_that_are_cut_are_refused(rt: HostRuntime) -> Result<(), Fail> {
+    let alloc = rt.alloc();
+    assert!(rt; count_prefixes(&rt, alloc, "stat", PRODUCT_FILE)? == 2);
+    assert!(rt; left_of(alloc, "stat", &PRODUCT_FILE[..162])?.status == 0);
+    assert!(rt; count_prefixes(&rt, alloc, "stat --from qasm", QASM_FILE)? == 12);
+    Ok(())
+}
