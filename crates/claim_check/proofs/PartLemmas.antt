@@ -4,6 +4,7 @@ use Rattle.std.proofs.Common.{refl, sym, ap, ◌∙◌, subst, arith}
 use Rattle.std.specs.List.{AllByRecursion, flat_map}
 use Rattle.std.proofs.lemmas.Bool.{cases_Bool}
 use Rattle.std.proofs.lemmas.List.{length-map}
+use Rattle.std.proofs.lemmas.List.Sums.{sum_by-cons}
 use Rattle.list_facts.specs.Bits.{bit_of}
 use Rattle.list_facts.specs.Lists.{below}
 use Rattle.revs_tape.specs.Measures.{inputs_of}
@@ -15,7 +16,8 @@ use Rattle.dependency_graph.specs.declared.node.Node.TheVariants.{Not, Xor, And}
 use Rattle.dependency_graph.specs.declared.node.Sig.{Sig}
 use Rattle.dependency_graph.specs.declared.node.Sig.TheVariants.{Const, Is}
 use Rattle.dependency_graph.specs.Folds.{graph_of}
-use Rattle.dependency_graph.specs.Graphs.{GraphView, IsGraph, IsKnownBase, IsKnownNode, IsKnownSig, AreKnownNodes, base_of, sig_of}
+use Rattle.dependency_graph.specs.Graphs.{GraphView, IsGraph, IsKnownBase, IsKnownNode, IsKnownSig, AreKnownNodes, and_count, ands_in, base_of, sig_of}
+use Rattle.dependency_graph.proofs.AndLemmas.{graph_ands}
 use Rattle.dependency_graph.proofs.CutLemmas.{graphs_are_no_wider}
 use Rattle.dependency_graph.proofs.FoldLemmas.{graph_is}
 use Rattle.dependency_graph.proofs.TableLemmas.{at_below}
@@ -68,6 +70,28 @@ same_sigs f g inputs n (Is base ∷ sigs) one known =
     ap (λ (z : Base). Is z ∷ map (renumbered_sig f) sigs) (same_base f g inputs n n base one (omega arith) known.0)
     ∙ ap (λ (z : List Sig). Is (renumbered_base g base) ∷ z) (same_sigs f g inputs n sigs one known.1)
 
+-- ---- the ANDs
+
+same_count : (numbers : ℕ → ℕ) (node : Node) → and_count (renumbered numbers node) ≡ and_count node
+same_count numbers (Not a) = refl
+same_count numbers (Xor a b) = refl
+same_count numbers (And a b) = refl
+
+kept_ands : (kept : ℕ → Bool) (numbers : ℕ → ℕ) (k : ℕ) (nodes : List Node) → ands_in (kept_nodes kept numbers k nodes) ≤ ands_in nodes
+kept_ands kept numbers k [] = omega arith
+kept_ands kept numbers k (node ∷ rest) =
+    let later = kept_nodes kept numbers (k + 1) rest in
+    elim (cases_Bool (kept k)) [
+      | inl is ↦ rw is (omega (
+        arith,
+        kept_ands kept numbers (k + 1) rest,
+        same_count numbers node,
+        sum_by-cons and_count (renumbered numbers node) later,
+        sum_by-cons and_count node rest,
+      ))
+      | inr other ↦ rw other (omega (arith, kept_ands kept numbers (k + 1) rest, sum_by-cons and_count node rest))
+    ]
+
 -- ---- the kept part of a tape's graph
 
 whole_part : (t : TapeView) (kept : ℕ → Bool) → IsTape t → IsClosed (graph_of t) kept → IsSettledPart t (graph_of t) (kept_part (graph_of t) kept)
@@ -86,6 +110,7 @@ whole_part t kept is closed =
       no_larger = record {
         cuts = λ width has. part_is_no_wider g kept width closed (graphs_are_no_wider t width has);
         writes = own_writes t g kept of graph closed;
+        ands = omega (arith, kept_ands kept (rank kept) 0 g.nodes, graph_ands t);
       };
     }
 

@@ -4,11 +4,12 @@ use Rattle.std.specs.List.{AllByRecursion}
 use Rattle.list_facts.specs.Lists.{AreDifferent}
 use Rattle.revs_tape.specs.declared.tape.Ref.TheVariants as refs
 use Rattle.revs_tape.specs.Levels.{IsLevels}
-use Rattle.revs_tape.specs.Measures.{HasWidth, inputs_of, outputs_of, writes_of}
+use Rattle.revs_tape.specs.Measures.{HasWidth, ands_of, inputs_of, outputs_of, writes_of}
 use Rattle.revs_tape.specs.Monomials.{AreMonomialsOf}
 use Rattle.revs_tape.specs.Tapes.{TapeView, bit_on}
 use Rattle.dependency_graph.specs.declared.node.Base.TheVariants as bases
 use Rattle.dependency_graph.specs.declared.node.Sig.TheVariants.{Is}
+use Rattle.dependency_graph.specs.Graphs.{ands_in}
 use Rattle.dependency_graph.specs.Uses.{cut_in}
 use Rattle.dependency_graph.specs.Widths.{HasNodeWidth, IsNoWider}
 use Rattle.claim_check.specs.Budgets.{Measures, plain_lines, plain_gates, fine_lines, fine_gates}
@@ -27,10 +28,12 @@ pub record HaveOwnWrites (t : TapeView) (s : SettledView) : Type 0 where
       → settled_value s input (Is (bases.Node k))
       ≡ bit_on t input (refs.Write (slice_index writes k))
 
--- No cut of a settled graph has more nodes than the width of the tape, and each node stands for a write of its own.
+-- No cut of a settled graph has more nodes than the width of the tape, each node stands for a write of its own, and it
+-- has no more ANDs than the tape.
 pub record IsNoLarger (t : TapeView) (s : SettledView) : Type 0 where
   pub cuts : (width : ℕ) → HasWidth t width → IsNoWider (as_graph s) width
   pub writes : HaveOwnWrites t s
+  pub ands : ands_in s.nodes ≤ ands_of t
 
 -- ---- measures
 

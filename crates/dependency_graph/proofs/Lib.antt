@@ -1,3 +1,4 @@
+pub mod AndLemmas
 pub mod CutLemmas
 pub mod FoldLemmas
 pub mod OriginLemmas

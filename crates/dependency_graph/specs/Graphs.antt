@@ -2,7 +2,7 @@
 use Rattle.std.specs.Prelude.{◌≡◌, ◌≢◌, ℕ, ◌+◌, ◌<◌, ◌≤◌, Bool, false, not}
 use Rattle.std.specs.Prelude.{◌&&◌, List, [], ◌∷◌, ◌++◌, length, map, slice_index_or, ⊤}
 use Rattle.std.specs.Bool.{xor}
-use Rattle.std.specs.List.{AllByRecursion, flat_map}
+use Rattle.std.specs.List.{AllByRecursion, flat_map, sum_by}
 use Rattle.list_facts.specs.Bits.{bit_of}
 use Rattle.list_facts.specs.Lists.{IsAmong}
 use Rattle.revs_tape.specs.declared.limits.TheConstants.{MOST_WRITES}
@@ -30,6 +30,15 @@ abbrev pub operands : Node → List Base
 operands (Not a) = a ∷ []
 operands (Xor a b) = a ∷ b ∷ []
 operands (And a b) = a ∷ b ∷ []
+
+abbrev pub and_count : Node → ℕ
+and_count (Not a) = 0
+and_count (Xor a b) = 0
+and_count (And a b) = 1
+
+-- how many of the nodes are ANDs
+abbrev pub ands_in : List Node → ℕ
+ands_in nodes = sum_by and_count nodes
 
 -- what a bit of the tape is, with what each write became
 abbrev pub sig_of : List Sig → Ref → Sig

@@ -1,9 +1,10 @@
 -- Measures of a tape.
 use Rattle.std.specs.Prelude.{ℕ, List, [], ◌∷◌, length, map, sum}
-use Rattle.std.specs.List.{flat_map}
+use Rattle.std.specs.List.{flat_map, sum_by}
 use Rattle.revs_tape.specs.declared.tape.Ref.{Ref}
 use Rattle.revs_tape.specs.declared.tape.Ref.TheVariants as refs
 use Rattle.revs_tape.specs.declared.tape.Entry.{Entry}
+use Rattle.revs_tape.specs.declared.tape.Entry.TheVariants as entries
 use Rattle.revs_tape.specs.Cuts.{IsWidth}
 use Rattle.revs_tape.specs.Levels.{IsLevels}
 use Rattle.revs_tape.specs.Tapes.{TapeView, operands}
@@ -21,6 +22,15 @@ outputs_of t = length t.outputs
 -- the number of writes
 abbrev pub writes_of : TapeView → ℕ
 writes_of t = length t.entries
+
+abbrev pub and_count : Entry → ℕ
+and_count (entries.Const bit) = 0
+and_count (entries.Xor a b) = 0
+and_count (entries.And a b) = 1
+
+-- the number of writes that are ANDs
+abbrev pub ands_of : TapeView → ℕ
+ands_of t = sum_by and_count t.entries
 
 -- ---- width
 
