@@ -1,18 +1,21 @@
 """The built program beside the models: what it answers, and where that differs."""
 import os
+import re
 import shlex
 import tempfile
+from functools import cached_property
 from subprocess import PIPE, TimeoutExpired
 from subprocess import run as run_process
 from typing import Container, Optional
 
-from cases.happy_calls import CALLS, UNREAD, known
+from cases.happy_calls import CALLS, UNREAD, known, knows_loops
 from cases.random_cases import Case
 from models.claims import TooWide
 from models.commands import NO_ORDER, Answer, answer_of, is_free
 from promises import is_sound
 
 SHOWN = 10
+LOOPED = re.compile(rb"(?:[ \t\r\n]|//[^\n]*)*revs\b")
 SECONDS = 60
 
 
@@ -22,6 +25,11 @@ def name_of(answer: Answer) -> str:
     if answer.status == 3:
         return last
     return "status %s%s" % (answer.status, ", limit" if answer.status == 8 and last == "limit" else "")
+
+
+def is_looped(text: bytes) -> bool:
+    """Whether a text begins as one of profile 2 does."""
+    return LOOPED.match(text) is not None
 
 
 class Comparison:
@@ -56,6 +64,15 @@ class Comparison:
         print("DIFFERS: %s\n    %s < %s" % (title, shlex.join([self.program] + case.words), kept.name))
         for note in notes:
             print("    " + str(note)[:2_000])
+
+    @cached_property
+    def has_loops(self) -> bool:
+        """Whether the program knows profile 2."""
+        return knows_loops(self.program)
+
+    def is_passed_over(self, case: Case) -> bool:
+        """Whether the case is one of a command or of a profile that the program does not know."""
+        return self.is_unknown(case) or is_looped(case.text) and not self.has_loops
 
     def is_unknown(self, case: Case) -> bool:
         """Whether the case is one of a command that the program does not know."""

@@ -25,7 +25,13 @@ CALLS: Dict[str, Call] = {
     "verify": Call(["verify"], AND + b"\n---\n" + FILE.encode()),
     "tidy": Call(["tidy"], FILE.encode()),
 }
+LOOPS = Call(["eval", "1"], b"revs 2 main (a : bool) = a")
 UNREAD = ("gen", "bench")  # the commands that read no source
+
+
+def knows_loops(program: str) -> bool:
+    """Whether the program takes texts of profile 2."""
+    return run_process([program] + LOOPS.words, input=LOOPS.text, stdout=DEVNULL, stderr=DEVNULL).returncode == 0
 
 
 def known(program: str) -> Dict[str, Call]:

@@ -69,6 +69,21 @@ class Eval(OnPrograms):
         return [self.programs.word(inputs)]
 
 
+class Loops:
+    """The commands on random programs of profile 2."""
+
+    name = "loops"
+
+    def __init__(self, seed: int):
+        self.random, self.commands = Random(seed), [each(seed) for each in (Eval, Compile, Check)]
+        for command in self.commands:
+            command.kinds = {"looped": 1}
+
+    def case(self) -> Case:
+        (command,) = self.random.choices(self.commands, [2, 2, 1])
+        return command.case()
+
+
 class Stat:
     """A command on random circuit files of both formats, some of which were compiled."""
 
@@ -225,4 +240,4 @@ class Words:
         return Case(words, texts.get("".join(words[:1]), FIVE).encode())
 
 
-COMPARED = [Compile, Check, Eval, Stat, Run, Convert, Tidy, Verify, Bench, Words]
+COMPARED = [Compile, Check, Eval, Loops, Stat, Run, Convert, Tidy, Verify, Bench, Words]
