@@ -26,12 +26,13 @@ CALLS: Dict[str, Call] = {
     "tidy": Call(["tidy"], FILE.encode()),
 }
 LOOPS = Call(["eval", "1"], b"revs 2 main (a : bool) = a")
+LEAN = Call(["compile", "--plan", "lean"], AND)
 UNREAD = ("gen", "bench")  # the commands that read no source
 
 
-def knows_loops(program: str) -> bool:
-    """Whether the program takes texts of profile 2."""
-    return run_process([program] + LOOPS.words, input=LOOPS.text, stdout=DEVNULL, stderr=DEVNULL).returncode == 0
+def answers(program: str, call: Call) -> bool:
+    """Whether the program gives what it is asked for."""
+    return run_process([program] + call.words, input=call.text, stdout=DEVNULL, stderr=DEVNULL).returncode == 0
 
 
 def known(program: str) -> Dict[str, Call]:

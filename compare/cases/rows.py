@@ -141,6 +141,48 @@ PLANNED = [
      "t3 w1 x3 w0, t3 x0 x1 w0, t3 w0 x2 w1, t3 x0 x1 w0"),
 ]
 
+# ---- Lean plans
+
+LEAN = "compile --plan lean"
+AND_OF_5 = "main (a : bool[5]) = a.[0] && a.[1] && a.[2] && a.[3] && a.[4]"
+OF_FIVE = ("main (a : bool[6]) = { let s = a.[0] <> a.[1] <> a.[2] <> a.[3] <> a.[4]; reg [s && a.[5]; s] }")
+FULL_ADDER = ("main (a : bool) (b : bool) (c : bool) = { let sum x y c = x <> y <> c; "
+              "let carry x y c = (x && y) <> (c && (x <> y)); reg [sum a b c; carry a b c] }")
+
+LEANED = [
+    (LEAN, BITS + "a && b", "x0 x1 y0: t3 x0 x1 y0"),
+    (LEAN, "main (a : bool) (b : bool) (c : bool) = (a && b) <> (b && c) <> (a && c)",
+     "x0 x1 x2 y0: t2 x1 y0, t2 x1 x0, t2 x1 x2, t3 x0 x2 y0, t2 x1 x2, t2 x1 x0"),
+    (LEAN, BITS + "true <> ((true <> a) && (true <> b))", "x0 x1 y0: t2 x0 y0, t2 x1 y0, t3 x0 x1 y0"),
+    (LEAN, "main (a : bool[4]) = a.[0] && a.[1] && a.[2] && a.[3]",
+     "x0 x1 x2 x3 y0 w0 w1: t3 x0 x1 w0, t3 x2 w0 w1, t3 x3 w1 y0, t3 x2 w0 w1, t3 x0 x1 w0"),
+    (LEAN, OF_FIVE, "x0 x1 x2 x3 x4 x5 y0 y1 w0: t2 x0 w0, t2 x1 w0, t2 x2 w0, t2 x3 w0, t2 x4 w0, t3 x5 w0 y0, "
+     "t2 w0 y1, t2 x4 w0, t2 x3 w0, t2 x2 w0, t2 x1 w0, t2 x0 w0"),
+    (LEAN, "main (a : bool[2]) = true", "x0 x1 y0: t1 y0"),
+    (LEAN, FULL_ADDER, "x0 x1 x2 y0 y1: t2 x0 y0, t2 x1 y0, t2 x2 y0, t2 x2 y1, t2 x2 x0, t2 x2 x1, t3 x0 x1 y1, "
+     "t2 x2 x1, t2 x2 x0"),
+    # A product, a part of it, and the same sum twice
+    (LEAN, BITS + "a && (a <> b)", "x0 x1 y0: t2 x0 y0, t3 x0 x1 y0"),
+    (LEAN, BITS + "reg [a && b; b && a; true <> a && b]",
+     "x0 x1 y0 y1 y2: t3 x0 x1 y0, t3 x0 x1 y1, t3 x0 x1 y2, t1 y2"),
+    (LEAN, BITS + "a && b <> b && a", "x0 x1 y0: "),
+    # With a line for each of three products, and with one line less
+    (LEAN, AND_OF_5, "x0 x1 x2 x3 x4 y0 w0 w1 w2: t3 x0 x1 w0, t3 x2 w0 w1, t3 x3 w1 w2, t3 x4 w2 y0, t3 x3 w1 w2, "
+     "t3 x2 w0 w1, t3 x0 x1 w0"),
+    (LEAN + " --lines 8", AND_OF_5, "x0 x1 x2 x3 x4 y0 w0 w1: t3 x0 x1 w0, t3 x2 w0 w1, t3 x0 x1 w0, t3 x3 w1 w0, "
+     "t3 x4 w0 y0, t3 x3 w1 w0, t3 x0 x1 w0, t3 x2 w0 w1, t3 x0 x1 w0"),
+    (LEAN + " --lines 7", AND_OF_5, "revc: lines 8 over 7"),
+    (LEAN + " --gates 8 --lines 8", AND_OF_5, "revc: more than 8 gates"),
+    (LEAN + " --gates 6", AND_OF_5, "revc: more than 6 gates"),
+    (LEAN + " --gates 1 --lines 5", AND_OF_5, "revc: lines 6 over 5"),
+    (LEAN + " --borrow 2 --lines 8", AND_OF_5, "revc: lines 9 over 8"),
+]
+
+# Lines, gates and Toffoli gates of examples
+LEAN_SIZES = {"adder": (5, 9, 1), "majority": (4, 6, 1), "chi5": (10, 15, 5), "present": (14, 40, 13),
+              "comparator": (11, 41, 9), "multiplier4": (44, 195, 54), "speck": (95, 312, 30),
+              "sha256": (878, 4_851, 496)}
+
 # ---- Claims
 
 PLACES = ["a.[%d]" % place for place in range(64)]
@@ -537,7 +579,7 @@ WORDS = [(words, BITS + "a && b", worked) for words, worked in [
 ]]
 
 COMPILE = [("compile", text, worked) for text, worked in COMPILED]
-WORKED = COMPILE + PLANNED + CHECKED + EVALUATED + LOOPED + FILES + OTHERS + TIDIED + VERIFIED + ADDERS + WORDS
+WORKED = COMPILE + PLANNED + LEANED + CHECKED + EVALUATED + LOOPED + FILES + OTHERS + TIDIED + VERIFIED + ADDERS + WORDS
 
 
 def shown(answer: Answer) -> str:
