@@ -1,18 +1,22 @@
 """The built program beside the models: what it answers, and where that differs."""
 import os
+import re
 import shlex
 import tempfile
+from functools import cached_property
 from subprocess import PIPE, TimeoutExpired
 from subprocess import run as run_process
-from typing import Container, Optional
+from typing import Container, List, Optional
 
-from cases.happy_calls import CALLS, UNREAD, known
+from cases.happy_calls import CALLS, LEAN, LOOPS, UNREAD, answers, known
 from cases.random_cases import Case
 from models.claims import TooWide
 from models.commands import NO_ORDER, Answer, answer_of, is_free
+from models.words import order_of
 from promises import is_sound
 
 SHOWN = 10
+LOOPED = re.compile(rb"(?:[ \t\r\n]|//[^\n]*)*revs\b")
 SECONDS = 60
 
 
@@ -22,6 +26,17 @@ def name_of(answer: Answer) -> str:
     if answer.status == 3:
         return last
     return "status %s%s" % (answer.status, ", limit" if answer.status == 8 and last == "limit" else "")
+
+
+def is_looped(text: bytes) -> bool:
+    """Whether a text begins as one of profile 2 does."""
+    return LOOPED.match(text) is not None
+
+
+def is_lean(words: List[str]) -> bool:
+    """Whether words order a lean plan."""
+    order = order_of(words)
+    return order is not None and order.values.get("plan") == "lean"
 
 
 class Comparison:
@@ -56,6 +71,21 @@ class Comparison:
         print("DIFFERS: %s\n    %s < %s" % (title, shlex.join([self.program] + case.words), kept.name))
         for note in notes:
             print("    " + str(note)[:2_000])
+
+    @cached_property
+    def has_loops(self) -> bool:
+        """Whether the program knows profile 2."""
+        return answers(self.program, LOOPS)
+
+    @cached_property
+    def has_lean(self) -> bool:
+        """Whether the program knows lean plans."""
+        return answers(self.program, LEAN)
+
+    def is_passed_over(self, case: Case) -> bool:
+        """Whether the case is one of a command, of a profile or of a plan that the program does not know."""
+        is_of_unknown = is_looped(case.text) and not self.has_loops or is_lean(case.words) and not self.has_lean
+        return self.is_unknown(case) or is_of_unknown
 
     def is_unknown(self, case: Case) -> bool:
         """Whether the case is one of a command that the program does not know."""

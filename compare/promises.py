@@ -38,13 +38,24 @@ def is_sound(words: List[str], text: bytes, answer: Answer) -> bool:
         return True
     if answer.status in (6, 7):
         return may_refuse(order, run_on_zeros(text), answer)
-    return answer.status != 0 or is_fitting(order, program_of(text), answer.out)
+    return answer.status != 0 or is_fitting(order, program_of(text), answer.out) and has_few(order, text, answer.out)
 
 
 def is_fitting(order: Order, program: Program, file: bytes) -> bool:
     budget, circuit = budget_of(order), READERS[order.values["format"]](file)
     fits = len(circuit.names) <= budget.lines and len(circuit.gates) <= budget.gates
     return fits and is_clean(circuit, program, budget.borrow, words_of(program.inputs + budget.borrow))
+
+
+def has_few(order: Order, text: bytes, file: bytes) -> bool:
+    """Whether a lean circuit has two Toffoli gates at most for each AND of its program, where the row of lean plans
+    fits."""
+    run = run_on_zeros(text)
+    if order.values["plan"] != "lean" or not Numbers(run).lean.fits(budget_of(order)):
+        return True
+    gates = READERS[order.values["format"]](file).gates
+    products = sum(write.operator == "&&" for write in run.writes)
+    return sum(len(gate.controls) == 2 for gate in gates) <= 2 * products
 
 
 def is_same(circuit: real.Circuit, other: real.Circuit) -> bool:
@@ -106,9 +117,9 @@ def may_refuse(order: Order, run: Run, answer: Answer) -> bool:
     budget, plan, numbers = budget_of(order), order.values["plan"], Numbers(run)
     if any(row.fits(budget) for row in numbers.rows(plan)):
         return False
-    cause = numbers.eager if plan == "eager" else numbers.fine
+    cause = {"eager": numbers.eager, "lean": numbers.lean}.get(plan, numbers.fine)
     if answer.status == 7:
-        return budget.gates < cause.gates
+        return plan == "lean" or budget.gates < cause.gates
     return needed(answer) == need(run, budget) and budget.lines < cause.lines + budget.borrow
 
 

@@ -20,6 +20,7 @@ class Circuit(NamedTuple):
     compute: Callable[..., Tuple[int, ...]]
     title: str = ""  # in the table of docs/GALLERY.md, where it stands there
     lines: Sequence[int] = ()  # budgets that are shown there, beside those without a limit
+    unrolled: str = ""  # the program that its loops stand for, and whose circuits it has
 
     @property
     def text(self) -> bytes:
@@ -85,6 +86,10 @@ def chi(row: int) -> Tuple[int]:
     return (row ^ ~rotated_right(row, 1, 5) & rotated_right(row, 2, 5),)
 
 
+def chi_of_rows(state: int) -> Tuple[int]:
+    return (sum(chi(state >> at & 31)[0] << at for at in range(0, 100, 5)),)
+
+
 def present(nibble: int) -> Tuple[int]:
     return (PRESENT[nibble],)
 
@@ -124,6 +129,10 @@ CIRCUITS = [
     Circuit("adder8", [8, 8], [9], added, "ripple adder of eight bits", [54, 46]),
     Circuit("multiplier4", [4, 4], [8], multiplied, "multiplier, four by four bits", [67, 54]),
     Circuit("chi5", [5], [5], chi, "a row of Keccak's chi", [20]),
+    Circuit("chi100", [100], [100], chi_of_rows, "Keccak's chi, five by five lanes of four bits", [400, 350]),
+    Circuit("adder_loop", [8, 8], [9], added, unrolled="adder8"),
+    Circuit("multiplier_loop", [4, 4], [8], multiplied, unrolled="multiplier4"),
+    Circuit("chi_loop", [100], [100], chi_of_rows, unrolled="chi100"),
     Circuit("present", [4], [4], present, "S-box of PRESENT", [32, 26]),
     Circuit("speck", [16, 16, 16], [16, 16], speck, "a round of Speck32/64", [156, 142]),
     Circuit("sha256", [32] * 9, [32] * 8, sha256, "a round of SHA-256", [1312, 994, 831]),

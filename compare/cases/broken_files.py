@@ -12,6 +12,15 @@ assert (true <> t.[2..3].[1] <> t.[3]);
 let u = a <> a; clean u;
 t.[0..4] }
 """
+LOOPED = """revs 2 main (a : bool) (r : bool[3]) = {
+let t = reg [false; a; true];
+let get k = r.[2 - k];
+for i in 0 .. 2 do {
+let k = i;
+for j in i - 1 .. 0 + i do { t.[i] <- t.[i] <> get k; };
+t.[i] <- (rotate i r).[0] && t.[i..2].[0]; };
+t }
+"""
 
 
 class Whole(NamedTuple):
@@ -30,6 +39,7 @@ def on_file(bits: str, source: str = "") -> List[str]:
 WHOLE: Dict[str, Whole] = {
     "a program": Whole(PROGRAM.encode(), ["eval 1011", "check", "compile", "compile --plan pebble --format qasm"]),
     "a program with claims": Whole(FIVE.encode(), ["eval 01", "check --nodes 5", "compile"]),
+    "a program with loops": Whole(LOOPED.encode(), ["eval 1011", "compile"]),
     "a file that was compiled": Whole(FILE.encode(), on_file("11")),
     "a file in another hand": Whole(SUM.encode(), on_file("110")),
     "a file in OpenQASM": Whole(SPREAD.encode(), on_file("0110", "--from qasm")),

@@ -25,7 +25,14 @@ CALLS: Dict[str, Call] = {
     "verify": Call(["verify"], AND + b"\n---\n" + FILE.encode()),
     "tidy": Call(["tidy"], FILE.encode()),
 }
+LOOPS = Call(["eval", "1"], b"revs 2 main (a : bool) = a")
+LEAN = Call(["compile", "--plan", "lean"], AND)
 UNREAD = ("gen", "bench")  # the commands that read no source
+
+
+def answers(program: str, call: Call) -> bool:
+    """Whether the program gives what it is asked for."""
+    return run_process([program] + call.words, input=call.text, stdout=DEVNULL, stderr=DEVNULL).returncode == 0
 
 
 def known(program: str) -> Dict[str, Call]:

@@ -1,10 +1,11 @@
 """Random programs whose plans differ, with products of many inputs and values of about 64 monomials, and random budgets
 near to what their plans need."""
 from random import Random
-from typing import List, Optional, Tuple
+from typing import List, Optional, Sequence, Tuple
 
 from models.graphs import Graph
 from models.language import Run
+from models.lean import lean_tries
 from models.plans import Budget, Numbers, OverGates, OverLines, Row, Settled, split, tries, weight
 
 PLANS = ["auto", "eager", "pebble"]
@@ -88,8 +89,10 @@ def planned(random: Random) -> Tuple[str, int]:
 
 def needs(run: Run, plan: str, borrow: int) -> List[Row]:
     """What the plans that are tried take, before and after the split, and the rows that are enough by the numbers."""
-    taken, settled = [], Settled(len(run.bits), Graph(run))
-    for make in tries(settled, GREATEST, plan) if len(run.writes) <= MOST_WRITES else []:
+    taken, settled, makes = [], Settled(len(run.bits), Graph(run)), []
+    if len(run.writes) <= MOST_WRITES:
+        makes = lean_tries(settled, GREATEST) if plan == "lean" else tries(settled, GREATEST, plan)
+    for make in makes:
         try:
             made = make()
             taken.append(Row(made.lines, sum(map(weight, made.gates))))
@@ -102,14 +105,14 @@ def needs(run: Run, plan: str, borrow: int) -> List[Row]:
 class Budgets:
     """Random options of `compile`, near to what a run's plans need."""
 
-    def __init__(self, random: Random):
-        self.random = random
+    def __init__(self, random: Random, plans: Sequence[str] = (*PLANS, "pebble")):
+        self.random, self.plans = random, plans
 
     def chance(self, probability: float) -> bool:
         return self.random.random() < probability
 
     def options(self, run: Optional[Run], has_format: bool = True) -> List[str]:
-        plan = self.random.choice(PLANS + ["pebble"])
+        plan = self.random.choice(self.plans)
         borrow = self.random.choice([0, 1, 1, 2, 3, 5, 64]) if self.chance(0.3) else 0
         values = {"plan": plan} if plan != "auto" or self.chance(0.3) else {}
         if borrow or self.chance(0.05):

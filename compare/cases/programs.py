@@ -3,6 +3,7 @@ from random import Random
 from typing import List, NamedTuple, Tuple
 
 from cases.claim_programs import claimed
+from cases.loop_programs import looped
 from cases.plan_programs import planned
 
 BIT, REGISTER, UNIT = "bit", "register", "unit"
@@ -219,6 +220,10 @@ class Programs:
     def claimed(self) -> Tuple[str, int]:
         """Claims, many of which hold on all inputs."""
         return claimed(self.random)
+
+    def looped(self) -> Tuple[str, int]:
+        """Loops and sums of numbers."""
+        return looped(self.random)
 
     def planned(self) -> Tuple[str, int]:
         """Values whose plans differ, without claims."""

@@ -56,6 +56,23 @@ class Compile(OnPrograms):
         return nodes + (self.budgets.options(run_of(text)) if self.programs.chance(0.8) else [])
 
 
+class Lean(Compile):
+    """`compile --plan lean`."""
+
+    name = "lean"
+
+    def __init__(self, seed: int):
+        super().__init__(seed)
+        self.budgets = Budgets(self.programs.random, ["lean"])
+
+    def rest(self, text: bytes, inputs: int) -> List[str]:
+        return self.budgets.options(run_of(text))
+
+    def case(self) -> Case:
+        words, text = super().case()
+        return Case(["compile"] + words[1:], text)
+
+
 class Check(OnPrograms):
     name = "check"
     kinds = {"claimed": 78, "typed": 12, "loose": 4, "unclaimed": 2, "plain": 1, "deep": 1, "wide": 1, "limit": 1}
@@ -67,6 +84,21 @@ class Eval(OnPrograms):
 
     def rest(self, text: bytes, inputs: int) -> List[str]:
         return [self.programs.word(inputs)]
+
+
+class Loops:
+    """The commands on random programs of profile 2."""
+
+    name = "loops"
+
+    def __init__(self, seed: int):
+        self.random, self.commands = Random(seed), [each(seed) for each in (Eval, Compile, Check)]
+        for command in self.commands:
+            command.kinds = {"looped": 1}
+
+    def case(self) -> Case:
+        (command,) = self.random.choices(self.commands, [2, 2, 1])
+        return command.case()
 
 
 class Stat:
@@ -225,4 +257,4 @@ class Words:
         return Case(words, texts.get("".join(words[:1]), FIVE).encode())
 
 
-COMPARED = [Compile, Check, Eval, Stat, Run, Convert, Tidy, Verify, Bench, Words]
+COMPARED = [Compile, Lean, Check, Eval, Loops, Stat, Run, Convert, Tidy, Verify, Bench, Words]

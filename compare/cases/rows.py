@@ -141,6 +141,48 @@ PLANNED = [
      "t3 w1 x3 w0, t3 x0 x1 w0, t3 w0 x2 w1, t3 x0 x1 w0"),
 ]
 
+# ---- Lean plans
+
+LEAN = "compile --plan lean"
+AND_OF_5 = "main (a : bool[5]) = a.[0] && a.[1] && a.[2] && a.[3] && a.[4]"
+OF_FIVE = ("main (a : bool[6]) = { let s = a.[0] <> a.[1] <> a.[2] <> a.[3] <> a.[4]; reg [s && a.[5]; s] }")
+FULL_ADDER = ("main (a : bool) (b : bool) (c : bool) = { let sum x y c = x <> y <> c; "
+              "let carry x y c = (x && y) <> (c && (x <> y)); reg [sum a b c; carry a b c] }")
+
+LEANED = [
+    (LEAN, BITS + "a && b", "x0 x1 y0: t3 x0 x1 y0"),
+    (LEAN, "main (a : bool) (b : bool) (c : bool) = (a && b) <> (b && c) <> (a && c)",
+     "x0 x1 x2 y0: t2 x1 y0, t2 x1 x0, t2 x1 x2, t3 x0 x2 y0, t2 x1 x2, t2 x1 x0"),
+    (LEAN, BITS + "true <> ((true <> a) && (true <> b))", "x0 x1 y0: t2 x0 y0, t2 x1 y0, t3 x0 x1 y0"),
+    (LEAN, "main (a : bool[4]) = a.[0] && a.[1] && a.[2] && a.[3]",
+     "x0 x1 x2 x3 y0 w0 w1: t3 x0 x1 w0, t3 x2 w0 w1, t3 x3 w1 y0, t3 x2 w0 w1, t3 x0 x1 w0"),
+    (LEAN, OF_FIVE, "x0 x1 x2 x3 x4 x5 y0 y1 w0: t2 x0 w0, t2 x1 w0, t2 x2 w0, t2 x3 w0, t2 x4 w0, t3 x5 w0 y0, "
+     "t2 w0 y1, t2 x4 w0, t2 x3 w0, t2 x2 w0, t2 x1 w0, t2 x0 w0"),
+    (LEAN, "main (a : bool[2]) = true", "x0 x1 y0: t1 y0"),
+    (LEAN, FULL_ADDER, "x0 x1 x2 y0 y1: t2 x0 y0, t2 x1 y0, t2 x2 y0, t2 x2 y1, t2 x2 x0, t2 x2 x1, t3 x0 x1 y1, "
+     "t2 x2 x1, t2 x2 x0"),
+    # A product, a part of it, and the same sum twice
+    (LEAN, BITS + "a && (a <> b)", "x0 x1 y0: t2 x0 y0, t3 x0 x1 y0"),
+    (LEAN, BITS + "reg [a && b; b && a; true <> a && b]",
+     "x0 x1 y0 y1 y2: t3 x0 x1 y0, t3 x0 x1 y1, t3 x0 x1 y2, t1 y2"),
+    (LEAN, BITS + "a && b <> b && a", "x0 x1 y0: "),
+    # With a line for each of three products, and with one line less
+    (LEAN, AND_OF_5, "x0 x1 x2 x3 x4 y0 w0 w1 w2: t3 x0 x1 w0, t3 x2 w0 w1, t3 x3 w1 w2, t3 x4 w2 y0, t3 x3 w1 w2, "
+     "t3 x2 w0 w1, t3 x0 x1 w0"),
+    (LEAN + " --lines 8", AND_OF_5, "x0 x1 x2 x3 x4 y0 w0 w1: t3 x0 x1 w0, t3 x2 w0 w1, t3 x0 x1 w0, t3 x3 w1 w0, "
+     "t3 x4 w0 y0, t3 x3 w1 w0, t3 x0 x1 w0, t3 x2 w0 w1, t3 x0 x1 w0"),
+    (LEAN + " --lines 7", AND_OF_5, "revc: lines 8 over 7"),
+    (LEAN + " --gates 8 --lines 8", AND_OF_5, "revc: more than 8 gates"),
+    (LEAN + " --gates 6", AND_OF_5, "revc: more than 6 gates"),
+    (LEAN + " --gates 1 --lines 5", AND_OF_5, "revc: lines 6 over 5"),
+    (LEAN + " --borrow 2 --lines 8", AND_OF_5, "revc: lines 9 over 8"),
+]
+
+# Lines, gates and Toffoli gates of examples
+LEAN_SIZES = {"adder": (5, 9, 1), "majority": (4, 6, 1), "chi5": (10, 15, 5), "present": (14, 40, 13),
+              "comparator": (11, 41, 9), "multiplier4": (44, 195, 54), "speck": (95, 312, 30),
+              "sha256": (878, 4_851, 496)}
+
 # ---- Claims
 
 PLACES = ["a.[%d]" % place for place in range(64)]
@@ -190,6 +232,103 @@ EVALUATED = [("eval " + word, text, worked) for word, text, worked in [
     ("2", ALIASED, "revc: bad bits in word 1"),
     ("1", ALIASED, "revc: bad bits in word 1"),
 ]]
+
+# ---- Loops and sums of numbers
+
+LOOP = "revs 2 main (a : bool) = "
+LOOP_OF_2 = "revs 2 main (a : bool[2]) = "
+LOOP_OF_4 = "revs 2 main (a : bool[4]) = "
+PARITY = LOOP_OF_4 + "{ let t = reg [false]; for i in 0 .. 3 do { t.[0] <- t.[0] <> a.[i]; }; t.[0] }"
+BACKWARD = ("revs 2 main (a : bool[3]) = { let get i = a.[2 - i]; let t = reg [false]; "
+            "for i in 0 .. 1 do { t.[0] <- t.[0] <> get i; }; t.[0] }")
+RIPPLED = ("revs 2 main (a : bool[3]) (b : bool[3]) = { let s = reg [false; false; false; false]; for i in 0 .. 2 do "
+           "{ let c = s.[i]; s.[i + 1] <- (a.[i] <> c) && (b.[i] <> c) <> c; s.[i] <- a.[i] <> b.[i] <> c; }; s }")
+CLAIMED_TWICE = LOOP_OF_2 + "{ for i in 0 .. 1 do { clean a.[i]; }; true }"
+TURNED = ("revs 2 main (r : bool[1024]) = { let s = append r r; let t = append s s; "
+          "for i in 1 .. 4090 do { rotate i t; }; r.[0%s] }")
+
+
+def nested(loops: int) -> str:
+    """Loops within loops, the items of the last of 98 having level 100."""
+    return LOOP + "{ " + "for i in 0 .. 0 do { " * loops + "a;" + " };" * loops + " a }"
+
+
+def deep(last: int, loop: str) -> str:
+    """A loop at depth `last` + 4."""
+    functions = ["let f0 x = { %s x };" % loop] + ["let f%d x = f%d x;" % (k + 1, k) for k in range(last)]
+    return LOOP + "{ " + " ".join(functions) + " f%d a }" % last
+
+
+LOOPED = [
+    ("eval 1011", PARITY, "1"),
+    ("compile", PARITY,
+     "x0 x1 x2 x3 y0 w0 w1: t2 x0 w0, t2 x1 w0, t2 w0 w1, t2 x2 w1, t2 x0 w0, t2 x1 w0, t2 w1 w0, t2 x3 w0, t2 x0 w1, "
+     "t2 x1 w1, t2 x2 w1, t2 w0 y0, t2 x2 w1, t2 x1 w1, t2 x0 w1, t2 x3 w0, t2 w1 w0, t2 x1 w0, t2 x0 w0, t2 x2 w1, "
+     "t2 w0 w1, t2 x1 w0, t2 x0 w0"),
+    ("eval 001", BACKWARD, "1"),
+    ("eval 011", BACKWARD, "0"),
+    ("eval 110011", RIPPLED, "1001"),
+    ("eval 111111", RIPPLED, "0111"),
+    ("compile", LOOP + "{ for i in 1 .. 0 do { clean a; }; a }", "x0 y0: t2 x0 y0"),
+    ("compile", LOOP + "a", "x0 y0: t2 x0 y0"),
+    ("compile", "revs 0002 main (a : bool) = a", "x0 y0: t2 x0 y0"),
+    ("compile", LOOP_OF_2 + "rotate 2 - 1 a", "x0 x1 y0 y1: t2 x1 y0, t2 x0 y1"),
+    ("compile", LOOP_OF_2 + "a.[0 - 9999 + 9999]", "x0 x1 y0: t2 x0 y0"),
+    ("compile", LOOP_OF_4 + "{ for i in 0 - 1 .. 1 do { a.[i + 1] <- a.[i + 2]; }; a.[0..2] }",
+     "x0 x1 x2 x3 y0 y1 y2: t2 x1 y0, t2 x2 y1, t2 x3 y2"),
+    # Sentences
+    ("compile", "revs 1 main (a : bool) = a", "revc: 1:6 Syntax"),
+    ("compile", "revs main (a : bool) = a", "revc: 1:6 Syntax"),
+    ("compile", "revs 2", "revc: 1:7 Syntax"),
+    ("compile", BIT + "{ for i in 0 .. 0 do { a; }; a }", "revc: 1:21 Syntax"),
+    ("compile", "main (a : bool[2]) = a.[0+1]", "revc: 1:26 Syntax"),
+    ("compile", BIT + "{ let i = a; a.[i] }", "revc: 1:35 Syntax"),
+    ("compile", LOOP + "{ for i in 0 .. 0 do { }; a }", "revc: 1:49 Syntax"),
+    ("compile", LOOP + "{ for i in 0 .. 0 do { a }; a }", "revc: 1:51 Syntax"),
+    ("compile", LOOP + "{ for i in 0 .. 0 do { a; } a }", "revc: 1:54 Syntax"),
+    ("compile", LOOP + "{ for i in 0 .. 0 do { a; }; }", "revc: 1:55 Syntax"),
+    ("compile", "revs 2 main (a : bool[1 + 1]) = a", "revc: 1:25 Syntax"),
+    ("compile", LOOP_OF_2 + "a.[-1]", "revc: 1:32 Syntax"),
+    ("check", nested(98), "claims 0"),
+    ("check", nested(99), "revc: 1:2105 Nesting"),
+    ("check", nested(98).replace("a;", "(a);"), "revc: 1:2086 Nesting"),
+    # Scope
+    ("compile", LOOP + "{ for i in i .. 1 do { a; }; a }", "revc: 1:37 Unbound"),
+    ("compile", LOOP + "{ for i in 0 .. 0 do { a; }; i }", "revc: 1:55 Unbound"),
+    ("compile", LOOP + "{ for i in 0 .. 0 do { let t = a; t; }; t }", "revc: 1:66 Unbound"),
+    ("compile", LOOP + "{ for a in 0 .. 0 do { let b = a; }; a }", "x0 y0: t2 x0 y0"),
+    # Numbers
+    ("compile", LOOP_OF_2 + "{ for i in 0 .. 2 do { a.[i]; }; a.[0] }", "revc: 1:53 Index"),
+    ("compile", LOOP_OF_2 + "a.[a]", "revc: 1:32 NotNumber"),
+    ("compile", LOOP_OF_2 + "a.[9999 + 1]", "revc: 1:39 Range"),
+    ("compile", LOOP_OF_2 + "a.[9999 + 1 - 9999]", "revc: 1:39 Range"),
+    ("compile", LOOP_OF_2 + "a.[0 - 9999 - 1 + 9999]", "revc: 1:43 Range"),
+    ("compile", LOOP_OF_2 + "a.[0 - 1]", "revc: 1:30 Index"),
+    ("compile", LOOP_OF_2 + "a.[1 .. 1 - 1]", "revc: 1:30 Slice"),
+    ("compile", LOOP_OF_2 + "rotate 0 - 1 a", "revc: 1:29 Rotate"),
+    ("compile", LOOP_OF_2 + "rotate 1 + 1 a", "revc: 1:29 Rotate"),
+    ("compile", LOOP + "{ for i in 1 + a .. 0 do { a; }; a }", "revc: 1:41 NotNumber"),
+    ("compile", LOOP + "{ for i in 0 .. 0 do { i <> a; }; a }", "revc: 1:49 NotBit"),
+    ("compile", LOOP + "{ for i in 0 .. 0 do { i.[0]; }; a }", "revc: 1:50 NotRegister"),
+    ("compile", LOOP + "{ for i in 0 .. 0 do { i a; }; a }", "revc: 1:51 NotFunction"),
+    # A part's numbers are read behind its base, and that of a rotation before its operand
+    ("compile", LOOP + "a.[9999 + 1]", "revc: 1:27 NotRegister"),
+    ("compile", LOOP + "rotate 9999 + 1 a", "revc: 1:40 Range"),
+    ("compile", LOOP + "rotate 5 a", "revc: 1:35 NotRegister"),
+    # The turns of a claim have one place
+    ("check", CLAIMED_TWICE, "revc: claim 1 at 1:52 fails on 10"),
+    ("eval 01", CLAIMED_TWICE, "revc: claim 2 at 1:52 fails on 01"),
+    ("eval 00", CLAIMED_TWICE, "1"),
+    ("compile", LOOP + "{ for i in 0 .. 1 do { clean a; }; true }", "revc: 1:55 Gone"),
+    # The loop, and then its item, at depth 401
+    ("check", deep(396, "for i in 1 .. 0 do { x; };"), "claims 0"),
+    ("check", deep(396, "for i in 0 .. 0 do { x; };"), "revc: 1:62 Depth"),
+    ("check", deep(397, "for i in 1 .. 0 do { x; };"), "revc: 1:41 Depth"),
+    # 10 units of work are left behind the loop: 12,295 come before it, 1 is its own, and each turn has 4,099
+    ("check", TURNED % (" + 0" * 8), "claims 0"),
+    ("check", TURNED % (" + 0" * 9), "revc: 1:152 Work"),
+    ("compile", LOOP + "{ for i in 0 .. 9999 do { for j in 0 .. 9999 do { a; }; }; a }", "revc: 1:52 Work"),
+]
 
 # ---- Circuit files
 
@@ -440,7 +579,7 @@ WORDS = [(words, BITS + "a && b", worked) for words, worked in [
 ]]
 
 COMPILE = [("compile", text, worked) for text, worked in COMPILED]
-WORKED = COMPILE + PLANNED + CHECKED + EVALUATED + FILES + OTHERS + TIDIED + VERIFIED + ADDERS + WORDS
+WORKED = COMPILE + PLANNED + LEANED + CHECKED + EVALUATED + LOOPED + FILES + OTHERS + TIDIED + VERIFIED + ADDERS + WORDS
 
 
 def shown(answer: Answer) -> str:

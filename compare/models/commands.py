@@ -6,6 +6,7 @@ from models.adders import adder_text
 from models.claims import TooWide, settled
 from models.graphs import Graph
 from models.language import Run, program_of
+from models.lean import lean
 from models.plans import Budget, NoIdle, OverGates, OverLines, Plan, Settled, choose, flip, split, width_of
 from models.tidied import Flip, tidied
 from models.verdicts import MOST_BYTES, Verdict, first_wide, parted, verdict_on
@@ -81,9 +82,10 @@ def budget_of(order: Order) -> Budget:
 
 def planned(order: Order, text: bytes) -> Tuple[Run, Plan]:
     """The run of a text's program, whose claims hold on all inputs, and the plan of its circuit."""
-    run, budget = settled_run(order, run_on_zeros(text)), budget_of(order)
+    run, budget, plan = settled_run(order, run_on_zeros(text)), budget_of(order), order.values["plan"]
+    settled = Settled(len(run.bits), Graph(run))
     try:
-        return run, choose(Settled(len(run.bits), Graph(run)), budget, order.values["plan"])
+        return run, lean(settled, budget) if plan == "lean" else choose(settled, budget, plan)
     except OverLines as over:
         raise Fault(6, "lines %d over %d" % (over.need, budget.lines)) from None
     except OverGates:

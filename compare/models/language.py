@@ -5,7 +5,7 @@ It is written from docs/LANGUAGE.md, and shares nothing with the compiler. A tex
 import re
 from collections import Counter
 from dataclasses import dataclass, field
-from typing import List, Optional, Tuple
+from typing import List, Optional, Tuple, Union
 
 MOST_BYTES = 1_048_576
 MOST_NAME_BYTES = 64
@@ -18,6 +18,7 @@ MOST_DEPTH = 400
 MOST_WORK = 16_777_216
 MOST_WRITES = 262_144
 MOST_CLAIMS = 4_096
+MOST_NUMBER = 9_999
 
 Place = Tuple[int, int]
 
@@ -107,12 +108,29 @@ class Function:
 
 
 @dataclass
+class Digits:
+    place: Place
+    number: int
+
+
+@dataclass
+class Step:
+    """A unit of a number, which is added or taken away."""
+
+    sign: int
+    unit: Union[Digits, Used]
+
+
+Number = List[Step]
+
+
+@dataclass
 class Part:
     """`.[first]`, or `.[first..last]`."""
 
     place: Place
-    first: int
-    last: Optional[int]
+    first: Number
+    last: Optional[Number]
 
 
 @dataclass
@@ -139,7 +157,7 @@ class Append:
 @dataclass
 class Rotate:
     place: Place
-    number: int
+    number: Number
     operand: object
 
 
@@ -167,6 +185,17 @@ class Assign:
 
 
 @dataclass
+class Loop:
+    """A `for`, which stands among items alone; its place is that of the word."""
+
+    place: Place
+    name: str
+    first: Number
+    last: Number
+    items: list
+
+
+@dataclass
 class Parameter:
     place: Place
     name: str
@@ -187,7 +216,7 @@ class Program:
         return sum(parameter.bits for parameter in self.parameters)
 
 
-# ---- Sentences: a method for each line of the grammar
+# ---- Sentences: a method for each line of the grammar. Sums of numbers and loops are those of profile 2 alone.
 
 
 class Parser:
@@ -196,6 +225,7 @@ class Parser:
     def __init__(self, tokens: List[Token]):
         self.tokens = tokens
         self.at = 0
+        self.has_loops = False
 
     @property
     def next(self) -> Token:
@@ -215,13 +245,21 @@ class Parser:
 
     def open(self, kind: str, level: int) -> int:
         """Takes a token that opens a level, and answers that level."""
-        if level == MOST_LEVELS:
+        if self.next.kind == kind and level == MOST_LEVELS:
             raise Refused("Nesting", self.next.place)
         self.take(kind)
         return level + 1
 
-    def number(self) -> int:
-        return int(self.take("number").text)
+    def number(self) -> Number:
+        steps = [Step(1, self.unit())]
+        while self.has_loops and self.next.kind in ("+", "-"):
+            sign = 1 if self.take(self.next.kind).kind == "+" else -1
+            steps.append(Step(sign, self.unit()))
+        return steps
+
+    def unit(self) -> Union[Digits, Used]:
+        token = self.take("name" if self.has_loops and self.next.kind == "name" else "number")
+        return Used(token.place, token.text) if token.kind == "name" else Digits(token.place, int(token.text))
 
     def names(self) -> List[Token]:
         names = []
@@ -229,7 +267,16 @@ class Parser:
             names.append(self.take("name"))
         return names
 
+    def profile(self) -> None:
+        """A text that begins with `revs` is one of profile 2."""
+        if self.took("revs"):
+            self.has_loops = True
+            if self.next.kind == "number" and int(self.next.text) != 2:
+                raise Refused("Syntax", self.next.place)
+            self.take("number")
+
     def program(self) -> Program:
+        self.profile()
         self.take("main")
         parameters = [self.parameter()]
         while self.next.kind == "(":
@@ -250,7 +297,7 @@ class Parser:
         self.take(":")
         self.take("bool")
         if self.took("["):
-            width = self.number()
+            width = int(self.take("number").text)
             self.take("]")
         self.take(")")
         return Parameter(name.place, name.text, width)
@@ -331,14 +378,42 @@ class Parser:
     def block(self, place: Place, level: int) -> Block:
         items = []
         while True:
-            if self.took("let"):
-                items.append(self.let(level))
+            if self.is_at_item():
+                items.append(self.item(level))
                 continue
             term = self.expression(level)
             if not self.took(";"):
                 self.take("}")
                 return Block(place, items, term)
             items.append((None, term))
+
+    def is_at_item(self) -> bool:
+        """Whether an item begins here that is no expression."""
+        return self.next.kind == "let" or self.has_loops and self.next.kind == "for"
+
+    def item(self, level: int):
+        if self.took("let"):
+            return self.let(level)
+        if self.next.kind == "for" and self.has_loops:
+            return None, self.loop(level)
+        term = self.expression(level)
+        self.take(";")
+        return None, term
+
+    def loop(self, level: int) -> Loop:
+        place = self.take("for").place
+        name = self.take("name")
+        self.take("in")
+        first = self.number()
+        self.take("..")
+        last = self.number()
+        self.take("do")
+        level = self.open("{", level)
+        items = [self.item(level)]
+        while not self.took("}"):
+            items.append(self.item(level))
+        self.take(";")
+        return Loop(place, name.text, first, last, items)
 
     def let(self, level: int):
         name, names = self.take("name"), self.names()
@@ -364,16 +439,17 @@ def check_scope(program: Program) -> None:
 
 
 def check_names(term, bound: Counter) -> None:
-    """`bound` counts how often each name is bound around the term."""
+    """`bound` counts how often each name is bound around the term, or the unit of a number."""
     if isinstance(term, Used) and not bound[term.name]:
         raise Refused("Unbound", term.place)
     names = []
     if isinstance(term, Block):
-        for name, value in term.items:
-            check_names(value, bound)
-            if name is not None:
-                names.append(name)
-                bound[name] += 1
+        names = check_items(term.items, bound)
+    elif isinstance(term, Loop):
+        for unit in units(term.first) + units(term.last):
+            check_names(unit, bound)
+        bound[term.name] += 1
+        names = [term.name] + check_items(term.items, bound)
     elif isinstance(term, Function):
         names = term.names
         bound.update(names)
@@ -382,8 +458,23 @@ def check_names(term, bound: Counter) -> None:
     bound.subtract(names)
 
 
+def check_items(items: list, bound: Counter) -> List[str]:
+    """The names that the items bind, each of which counts as bound from there on."""
+    names = []
+    for name, term in items:
+        check_names(term, bound)
+        if name is not None:
+            names.append(name)
+            bound[name] += 1
+    return names
+
+
+def units(number: Number) -> list:
+    return [step.unit for step in number]
+
+
 def subterms(term) -> list:
-    """The terms inside one that is no block, in text order."""
+    """The terms and the units of numbers inside a term that has no items, in text order."""
     if isinstance(term, (Register, Chain)):
         return term.operands
     if isinstance(term, Apply):
@@ -391,8 +482,10 @@ def subterms(term) -> list:
     if isinstance(term, (Append, Assign)):
         return [term.left, term.right]
     if isinstance(term, Parts):
-        return [term.base]
-    if isinstance(term, (Rotate, Claim)):
+        return [term.base] + [unit for part in term.parts for unit in units(part.first) + units(part.last or [])]
+    if isinstance(term, Rotate):
+        return units(term.number) + [term.operand]
+    if isinstance(term, Claim):
         return [term.operand]
     return [term.body] if isinstance(term, Function) else []
 
@@ -408,6 +501,13 @@ class Bit:
 @dataclass
 class Places:
     locations: List[int]
+
+
+@dataclass
+class Sum:
+    """A number, as a value."""
+
+    number: int
 
 
 @dataclass
@@ -519,11 +619,39 @@ class Run:
         return self.register([self.bit(operand, scope, depth) for operand in term.operands], term.place)
 
     def run_block(self, term: Block, scope, depth):
-        for name, item in term.items:
+        return self.value(term.last, self.items(term.items, scope, depth), depth)
+
+    def items(self, items: list, scope, depth: int):
+        """The scope behind the items."""
+        for name, item in items:
             value = self.value(item, scope, depth)
             if name is not None:
                 scope = (name, self.bound(value, item.place), scope)
-        return self.value(term.last, scope, depth)
+        return scope
+
+    def run_loop(self, term: Loop, scope, depth):
+        first, last = self.number(term.first, scope), self.number(term.last, scope)
+        for number in range(first, last + 1):
+            self.count(1, term.place)
+            self.items(term.items, (term.name, Sum(number), scope), depth)
+        return UNIT
+
+    def number(self, steps: Number, scope) -> int:
+        total = 0
+        for place, step in enumerate(steps):
+            self.count(min(place, 1), step.unit.place)
+            total += step.sign * self.unit(step.unit, scope)
+            if abs(total) > MOST_NUMBER:
+                raise Refused("Range", step.unit.place)
+        return total
+
+    def unit(self, unit: Union[Digits, Used], scope) -> int:
+        if isinstance(unit, Digits):
+            return unit.number
+        value = self.run_used(unit, scope, 0)
+        if not isinstance(value, Sum):
+            raise Refused("NotNumber", unit.place)
+        return value.number
 
     def run_function(self, term: Function, scope, _):
         return Closure(term.names, term.body, scope)
@@ -533,15 +661,16 @@ class Run:
         for part in term.parts:
             if not isinstance(value, Places):
                 raise Refused("NotRegister", part.place)
-            places = value.locations
+            places, first = value.locations, self.number(part.first, scope)
             if part.last is None:
-                if part.first >= len(places):
+                if not 0 <= first < len(places):
                     raise Refused("Index", part.place)
-                value = Bit(places[part.first])
+                value = Bit(places[first])
             else:
-                if not part.first <= part.last < len(places):
+                last = self.number(part.last, scope)
+                if not 0 <= first <= last < len(places):
                     raise Refused("Slice", part.place)
-                value = self.register(places[part.first : part.last + 1], term.place)
+                value = self.register(places[first : last + 1], term.place)
         return value
 
     def run_apply(self, term: Apply, scope, depth):
@@ -563,12 +692,12 @@ class Run:
         return self.register(sides[0][1].locations + sides[1][1].locations, term.place)
 
     def run_rotate(self, term: Rotate, scope, depth):
-        value = self.value(term.operand, scope, depth)
+        number, value = self.number(term.number, scope), self.value(term.operand, scope, depth)
         if not isinstance(value, Places):
             raise Refused("NotRegister", term.operand.place)
-        if term.number >= len(value.locations):
+        if not 0 <= number < len(value.locations):
             raise Refused("Rotate", term.place)
-        return self.register(value.locations[term.number :] + value.locations[: term.number], term.place)
+        return self.register(value.locations[number:] + value.locations[:number], term.place)
 
     def run_claim(self, term: Claim, scope, depth):
         location = self.bit(term.operand, scope, depth)

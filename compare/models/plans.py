@@ -66,6 +66,24 @@ class Settled:
         """The nodes from `low` to below `at` that are an output, or an operand of a node from `at` on."""
         return {number for number in range(low, at) if self.last_uses[number] >= at}
 
+    def toggle(self, number: int, target: int, line: Callable[[int], int]) -> List[Gate]:
+        """The gates that put a node on a line or take it off, by the lines of bases."""
+        node = self.nodes[number]
+        lines = [line(base) for base in node.operands]
+        if node.operator == "&&":
+            return [flip(target, *lines)]
+        return [flip(target, each) for each in lines] + [flip(target)] * (node.operator == "not")
+
+    def copies(self, line: Callable[[int], int]) -> List[Gate]:
+        """The gates that put the outputs on their lines."""
+        copies = []
+        for target, (base, constant) in enumerate(self.outputs, self.inputs):
+            if base is not None:
+                copies.append(flip(target, line(base)))
+            elif constant:
+                copies.append(flip(target))
+        return copies
+
 
 # ---- Polynomials, each a set of monomials, and a monomial the set of its inputs as the bits of a number
 
@@ -201,14 +219,10 @@ class Forward:
 
     def toggle(self, number: int) -> None:
         assert self.is_ready(number)
-        was_held, node = number in self.held, self.settled.nodes[number]
+        was_held = number in self.held
         if not was_held:
             self.held[number] = self.take()
-        target, lines = self.held[number], [self.line(base) for base in node.operands]
-        if node.operator == "&&":
-            self.put([flip(target, *lines)])
-        else:
-            self.put([flip(target, line) for line in lines] + [flip(target)] * (node.operator == "not"))
+        self.put(self.settled.toggle(number, self.held[number], self.line))
         if was_held:
             self.give(number)
 
@@ -218,12 +232,7 @@ class Forward:
 
     def finish(self) -> Plan:
         """The gates, the outputs copied to their lines, and the gates reversed."""
-        copies = []
-        for target, (base, constant) in enumerate(self.settled.outputs, self.settled.inputs):
-            if base is not None:
-                copies.append(flip(target, self.line(base)))
-            elif constant:
-                copies.append(flip(target))
+        copies = self.settled.copies(self.line)
         if self.weights + len(copies) > self.budget.gates:
             raise OverGates()
         return Plan(self.gates + copies + self.gates[::-1], self.ends + self.peak)
@@ -470,10 +479,11 @@ class Numbers:
         held = min(writes, width + 1) if all(count <= MOST_MONOMIALS for count in monomials) else writes
         steps = sum(4 + min(count, MOST_MONOMIALS) * (10 * inputs + 1) for count in monomials)
         self.eager = Row(ends + held, outputs + 2 * steps)
+        self.lean = Row(ends + writes, 58 * writes + 5 * outputs)
 
     def rows(self, plan: str) -> List[Row]:
         """The rows of which one that fits is enough under a plan."""
-        if plan == "eager":
-            return [self.eager]
+        if plan in ("eager", "lean"):
+            return [self.eager if plan == "eager" else self.lean]
         pebbled = [self.plain, self.fine, *self.blocks]
         return pebbled + [self.eager] if plan == "auto" else pebbled
