@@ -8,4 +8,5 @@ pub mod run;
 pub mod stat;
 pub mod tidy;
 
+pub use circuit::{MarkedCircuit, read_circuit};
 pub use limits::{MOST_CIRCUIT_BYTES, MOST_TIDIED_GATES, limits_are};

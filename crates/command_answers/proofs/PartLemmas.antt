@@ -7,6 +7,10 @@ use Rattle.revc_io.specs.Passing.{Gathers}
 pub two_parts : (head first s second t : List ℕ) → head ++ (first ++ s ++ (second ++ t ++ [])) ≡ head ++ (first ++ (s ++ (second ++ t)))
 two_parts head first s second t = simp (append_assoc, append-nil)
 
+-- a number, and what is left of the line
+pub number_part_left : (head number s left : List ℕ) → (head ++ (number ++ s)) ++ left ≡ head ++ (number ++ (s ++ left))
+number_part_left head number s left = simp append_assoc
+
 -- a place
 pub place_part : (head line s column t : List ℕ) → head ++ (line ++ s ++ (column ++ t ++ [])) ≡ head ++ (line ++ (s ++ column) ++ t)
 place_part head line s column t = simp (append_assoc, append-nil)

@@ -8,7 +8,7 @@ use Rattle.revc_io.specs.Passing.{AppendsFront}
 use Rattle.revs_terms.specs.Causes.{cause_word}
 use Rattle.command_answers.specs.Lines.{digits_of}
 use Rattle.command_answers.specs.declared.fault.Fault.{Fault}
-use Rattle.command_answers.specs.declared.fault.Fault.TheVariants.{Usage, Refused, Claim, Diagram, Lines, Gates, Circuit, BadBits, Read, Write, Memory}
+use Rattle.command_answers.specs.declared.fault.Fault.TheVariants.{Usage, Refused, Claim, Diagram, CircuitDiagram, Lines, Gates, Circuit, BadBits, FewLines, WideGate, Differs, NoPart, Read, Write, Memory}
 use Rattle.command_answers.specs.declared.fault.CircuitRefusal.{CircuitRefusal}
 use Rattle.command_answers.specs.declared.fault.CircuitRefusal.TheVariants as circuits
 use Rattle.command_answers.specs.declared.fault.FaultKind.{FaultKind}
@@ -22,6 +22,7 @@ status_of Usage = 2
 status_of (Refused refusal) = 3
 status_of (Claim number at bits) = 4
 status_of (Diagram number at limit) = 5
+status_of (CircuitDiagram limit) = 5
 status_of (Lines need limit) = 6
 status_of (Gates limit) = 7
 status_of (Circuit refusal) = 8
@@ -29,6 +30,10 @@ status_of Read = 9
 status_of Write = 10
 status_of Memory = 11
 status_of (BadBits word) = 12
+status_of (FewLines lines need) = 13
+status_of (WideGate number) = 14
+status_of (Differs line bits) = 15
+status_of NoPart = 16
 
 abbrev pub kind_text : FaultKind → List ℕ
 kind_text BadByte = codes "BadByte"
@@ -87,16 +92,41 @@ gates_line limit = codes "revc: more than " ++ (decimal limit ++ codes " gates\n
 abbrev pub bits_line : ℕ → List ℕ
 bits_line word = codes "revc: bad bits in word " ++ (decimal word ++ codes "\n")
 
+-- the line of a circuit with which the diagrams pass the limit
+abbrev pub circuit_diagram_line : ℕ → List ℕ
+circuit_diagram_line limit = codes "revc: circuit passes " ++ (decimal limit ++ codes " nodes\n")
+
+-- the line of a circuit that has too few lines
+abbrev pub few_lines_line : ℕ → ℕ → List ℕ
+few_lines_line lines need =
+    codes "revc: circuit has "
+    ++ (decimal lines ++ (codes " lines, needs " ++ (decimal need ++ codes "\n")))
+
+-- the line of a gate that is no flip with at most two controls, all positive
+abbrev pub wide_gate_line : ℕ → List ℕ
+wide_gate_line number = codes "revc: gate " ++ (decimal number ++ codes " is not X, CX or CCX\n")
+
+-- the line of a circuit that differs from a program on these bits
+abbrev pub differs_line : ℕ → List Bool → List ℕ
+differs_line line bits =
+    codes "revc: circuit differs at line "
+    ++ (decimal line ++ (codes " on " ++ (digits_of bits ++ codes "\n")))
+
 -- the line of each fault
 abbrev pub line_of : Fault → List ℕ
 line_of Usage = codes "revc: bad command line\n"
 line_of (Refused refusal) = refusal_line refusal
 line_of (Claim number at bits) = claim_line number at bits
 line_of (Diagram number at limit) = diagram_line number at limit
+line_of (CircuitDiagram limit) = circuit_diagram_line limit
 line_of (Lines need limit) = lines_line need limit
 line_of (Gates limit) = gates_line limit
 line_of (Circuit refusal) = circuit_line refusal
 line_of (BadBits word) = bits_line word
+line_of (FewLines lines need) = few_lines_line lines need
+line_of (WideGate number) = wide_gate_line number
+line_of (Differs line bits) = differs_line line bits
+line_of NoPart = codes "revc: no parting line\n"
 line_of Read = codes "revc: read fault\n"
 line_of Write = codes "revc: write fault\n"
 line_of Memory = codes "revc: out of memory\n"

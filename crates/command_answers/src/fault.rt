@@ -20,6 +20,9 @@ pub enum Fault {
     /// limit. Its term is at the place.
     #[error("diagrams over budget")]
     Diagram { number: u32, at: Place, limit: u32 },
+    /// A program and a circuit rest on more functions than the limit.
+    #[error("diagrams of a circuit over budget")]
+    CircuitDiagram { limit: u32 },
     /// A circuit needs so many lines, more than the limit.
     #[error("lines over budget")]
     Lines { need: u32, limit: u32 },
@@ -31,6 +34,19 @@ pub enum Fault {
     /// The word of bits with this number, counted from 1, does not fit.
     #[error("bad bits")]
     BadBits { word: usize },
+    /// The circuit has so many lines, and needs more for a program and its borrowed lines.
+    #[error("circuit lacks lines")]
+    FewLines { lines: u32, need: u32 },
+    /// The gate with this number, counted from 1, is no flip with at most two controls, all
+    /// positive.
+    #[error("gate is wide")]
+    WideGate { number: u64 },
+    /// The line with this number, counted from 1, ends on these bits as it should not.
+    #[error("circuit differs")]
+    Differs { line: u32, bits: Bits },
+    /// The source has no parting line.
+    #[error("no parting line")]
+    NoPart,
     #[error("read fault")]
     Read,
     #[error("write fault")]
@@ -89,6 +105,7 @@ impl Fault {
             Fault::Refused(_) => 3,
             Fault::Claim { .. } => 4,
             Fault::Diagram { .. } => 5,
+            Fault::CircuitDiagram { .. } => 5,
             Fault::Lines { .. } => 6,
             Fault::Gates { .. } => 7,
             Fault::Circuit(_) => 8,
@@ -96,6 +113,10 @@ impl Fault {
             Fault::Write => 10,
             Fault::Memory => 11,
             Fault::BadBits { .. } => 12,
+            Fault::FewLines { .. } => 13,
+            Fault::WideGate { .. } => 14,
+            Fault::Differs { .. } => 15,
+            Fault::NoPart => 16,
         }
     }
 }

@@ -5,6 +5,7 @@ ghost use Rattle.std.specs.List.{flat_map};
 ghost use Rattle.revc_io.specs.Faults.{HasCause};
 ghost use Rattle.revc_io.specs.Passing.{Gathers, Writes};
 ghost use Rattle.command_answers.specs.Faults.{bits_line, circuit_line, claim_line, diagram_line};
+ghost use Rattle.command_answers.specs.Faults.{differs_line, few_lines_line};
 ghost use Rattle.command_answers.specs.Faults.{kind_text, line_of};
 ghost use Rattle.command_answers.specs.Lines.{digits_of};
 ghost use Rattle.command_answers.specs.Faults.{lines_line, place_text, refusal_line};
@@ -42,6 +43,13 @@ fn put_line<E: Sink>(buffer: &mut Buffer, err: &mut E, fault: &Fault) -> Result<
         Fault::Refused(refusal) => put_refusal(buffer, err, *refusal),
         Fault::Claim { number, at, bits } => put_claim(buffer, err, *number, *at, bits.bits()),
         Fault::Diagram { number, at, limit } => put_diagram(buffer, err, *number, *at, *limit),
+        Fault::CircuitDiagram { limit } => put_number(
+            buffer,
+            err,
+            b"revc: circuit passes ",
+            *limit as u64,
+            b" nodes\n",
+        ),
         Fault::Lines { need, limit } => put_lines(buffer, err, *need, *limit),
         Fault::Gates { limit } => {
             put_number(buffer, err, b"revc: more than ", *limit, b" gates\n")
@@ -50,6 +58,16 @@ fn put_line<E: Sink>(buffer: &mut Buffer, err: &mut E, fault: &Fault) -> Result<
         Fault::BadBits { word } => {
             put_number(buffer, err, b"revc: bad bits in word ", *word as u64, b"\n")
         }
+        Fault::FewLines { lines, need } => put_few_lines(buffer, err, *lines, *need),
+        Fault::WideGate { number } => put_number(
+            buffer,
+            err,
+            b"revc: gate ",
+            *number,
+            b" is not X, CX or CCX\n",
+        ),
+        Fault::Differs { line, bits } => put_differs(buffer, err, *line, bits.bits()),
+        Fault::NoPart => buffer.put(err, b"revc: no parting line\n"),
         Fault::Read => buffer.put(err, b"revc: read fault\n"),
         Fault::Write => buffer.put(err, b"revc: write fault\n"),
         Fault::Memory => buffer.put(err, b"revc: out of memory\n"),
@@ -207,6 +225,46 @@ fn put_lines<E: Sink>(buffer: &mut Buffer, err: &mut E, need: u32, limit: u32) -
         b"revc: lines ",
         &[(need as u64, b" over "), (limit as u64, b"\n")],
     )
+}
+
+// Puts the line of a circuit that has too few lines.
+fn put_few_lines<E: Sink>(
+    buffer: &mut Buffer,
+    err: &mut E,
+    lines: u32,
+    need: u32,
+) -> Result<(), Failed>
+    ensures bytes { Gathers result (E.held err.old) (E.held err.new) buffer.old buffer.new
+        (few_lines_line lines need) }
+    ensures cause { HasCause (E.faults err.old) (E.faults err.new) result }
+{
+    put_numbered(
+        buffer,
+        err,
+        b"revc: circuit has ",
+        &[(lines as u64, b" lines, needs "), (need as u64, b"\n")],
+    )
+}
+
+// Puts the line of a circuit that differs from a program.
+fn put_differs<E: Sink>(
+    buffer: &mut Buffer,
+    err: &mut E,
+    line: u32,
+    bits: &[bool],
+) -> Result<(), Failed>
+    ensures bytes { Gathers result (E.held err.old) (E.held err.new) buffer.old buffer.new
+        (differs_line line bits.now) }
+    ensures cause { HasCause (E.faults err.old) (E.faults err.new) result }
+{
+    put_number(
+        buffer,
+        err,
+        b"revc: circuit differs at line ",
+        line as u64,
+        b" on ",
+    )?;
+    put_line_of_digits(buffer, err, bits)
 }
 
 // Puts a text, and then numbers, each with the text behind it.

@@ -25,8 +25,8 @@ use Rattle.revc_words.specs.Words.{first_word}
 use Rattle.revc_base.specs.declared.bits.BitsFault.{BitsFault}
 use Rattle.revc_base.specs.declared.bits.BitsFault.TheVariants as bits
 use Rattle.program_commands.specs.inside.Mappings.{bits_fault}
-use Rattle.program_commands.specs.inside.Plans.{ForTexts, IsBitsFault}
-use Rattle.program_commands.specs.Settling.{LeavesTape}
+use Rattle.program_commands.specs.inside.Plans.{IsBitsFault}
+use Rattle.program_commands.specs.Settling.{ForTexts, LeavesTape}
 use Rattle.command_answers.specs.BitWords.{IsInputWord, bits_of}
 use Rattle.program_commands.specs.Eval.{promise, IsValueOf, IsBadWord, IsBroken, Stops}
 use Rattle.program_commands.specs.Outcomes.{IsEvalFault}
@@ -108,6 +108,11 @@ one_stop text word (faults.Diagram number at limit) other a b = absurd a
 one_stop text word (faults.Lines need limit) other a b = absurd a
 one_stop text word (faults.Gates limit) other a b = absurd a
 one_stop text word (faults.Circuit refusal) other a b = absurd a
+one_stop text word (faults.CircuitDiagram limit) other a b = absurd a
+one_stop text word (faults.FewLines lines need) other a b = absurd a
+one_stop text word (faults.WideGate number) other a b = absurd a
+one_stop text word (faults.Differs line bits) other a b = absurd a
+one_stop text word faults.NoPart other a b = absurd a
 one_stop text word faults.Read other a b = absurd a
 one_stop text word faults.Write other a b = absurd a
 one_stop text word faults.Memory other a b = absurd a

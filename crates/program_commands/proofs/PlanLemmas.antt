@@ -28,8 +28,8 @@ use Rattle.command_answers.specs.declared.fault.Fault.{Fault}
 use Rattle.command_answers.specs.declared.fault.Fault.TheVariants as faults
 use Rattle.program_commands.specs.Clean.{ComputesOn, MeansIn}
 use Rattle.program_commands.specs.Compile.{IsCompiled, budget_of, least_lines}
-use Rattle.program_commands.specs.Settling.{LeavesTape, LeavesSettled}
-use Rattle.program_commands.specs.inside.Plans.{ForTexts, IsCleanPlan, IsPlanOf, IsPlannedFor, IsPlanningFault, IsSettledWithin}
+use Rattle.program_commands.specs.Settling.{LeavesTape, LeavesSettled, ForTexts, IsSettledWithin}
+use Rattle.program_commands.specs.inside.Plans.{IsCleanPlan, IsPlanOf, IsPlannedFor, IsPlanningFault}
 use Rattle.program_commands.proofs.FormedLemmas.{some_output}
 
 -- ---- the plan of the graph

@@ -15,9 +15,8 @@ use Rattle.command_answers.specs.declared.fault.Fault.{Fault}
 use Rattle.command_answers.specs.declared.fault.Fault.TheVariants as faults
 use Rattle.command_answers.specs.declared.fault.Refusal.{Refusal}
 use Rattle.program_commands.specs.Refusals.{IsRefusal}
-use Rattle.program_commands.specs.Settling.{LeavesTape, LeavesSettled, BreaksClaim, PassesNodes, StopsSettling}
+use Rattle.program_commands.specs.Settling.{LeavesTape, LeavesSettled, BreaksClaim, PassesNodes, StopsSettling, ForTexts}
 use Rattle.program_commands.specs.Outcomes.{IsSettlingFault}
-use Rattle.program_commands.specs.inside.Plans.{ForTexts}
 use Rattle.program_commands.proofs.RefusalLemmas.{one_refusal, never_refused}
 
 -- a text leaves one tape
@@ -109,6 +108,11 @@ one_stop text nodes (faults.Lines need limit) other a b = absurd a
 one_stop text nodes (faults.Gates limit) other a b = absurd a
 one_stop text nodes (faults.Circuit refusal) other a b = absurd a
 one_stop text nodes (faults.BadBits word) other a b = absurd a
+one_stop text nodes (faults.CircuitDiagram limit) other a b = absurd a
+one_stop text nodes (faults.FewLines lines need) other a b = absurd a
+one_stop text nodes (faults.WideGate number) other a b = absurd a
+one_stop text nodes (faults.Differs line bits) other a b = absurd a
+one_stop text nodes faults.NoPart other a b = absurd a
 one_stop text nodes faults.Read other a b = absurd a
 one_stop text nodes faults.Write other a b = absurd a
 one_stop text nodes faults.Memory other a b = absurd a

@@ -30,9 +30,9 @@ use Rattle.revs_parser.specs.WellFormed.{IsProgramText, IsWellFormed}
 use Rattle.revs_terms.specs.Runs.{IsTapeOf}
 use Rattle.revs_terms.proofs.TapeLemmas.{tape_ends}
 use Rattle.revs_tape.specs.Tapes.{TapeView}
-use Rattle.program_commands.specs.Outcomes.{IsCompileFault, IsEvalFault, IsSettlingFault}
-use Rattle.program_commands.specs.Settling.{LeavesTape}
-use Rattle.program_commands.specs.inside.Plans.{ForTexts, ForTextsOf, IsRunFault, IsTextFault, IsBoundAs}
+use Rattle.program_commands.specs.Outcomes.{IsCompileFault, IsEvalFault, IsSettlingFault, IsTextFault}
+use Rattle.program_commands.specs.Settling.{LeavesTape, ForTexts}
+use Rattle.program_commands.specs.inside.Plans.{ForTextsOf, IsRunFault, IsBoundAs}
 use Rattle.revs_terms.specs.Views.{ProgramView}
 
 -- ---- each layer's fault refuses the text

@@ -5,12 +5,14 @@ use Rattle.gate_split.specs.Plans.{LaidView, roles_of}
 use Rattle.program_gen.specs.declared.adder.TheConstants.{MOST_BITS}
 use Rattle.command_answers.specs.declared.fault.Fault.{Fault}
 use Rattle.command_answers.specs.declared.fault.Fault.TheVariants as faults
-use Rattle.command_answers.specs.declared.fault.Fault.TheVariants.{Memory}
+use Rattle.command_answers.specs.declared.fault.Fault.TheVariants.{Memory, Refused}
+use Rattle.command_answers.specs.declared.fault.Refusal.TheVariants.{At}
 use Rattle.revc_words.specs.declared.order.Format.{Format}
 use Rattle.revc_words.specs.Words.{OrderView}
 use Rattle.program_commands.specs.Clean.{file_text}
 use Rattle.program_commands.specs.Compile.{PassesLines, PassesGates}
 use Rattle.program_commands.specs.Eval.{Stops}
+use Rattle.program_commands.specs.Refusals.{IsRefusal}
 use Rattle.program_commands.specs.Settling.{StopsSettling}
 
 -- an adder of so many bits is made
@@ -27,6 +29,12 @@ pub record IsWritable (laid : LaidView) : Type 0 where
   pub some : 1 ≤ laid.circuit.lines
   pub few : laid.circuit.lines ≤ MOST_LINES
   pub few_gates : length laid.circuit.gates ≤ MOST_GATES
+
+-- why a text leaves no tape: it is refused at a place, or there was no memory left
+abbrev pub IsTextFault : List ℕ → Fault → Type 0
+IsTextFault text (Refused (At kind at)) = IsRefusal text (At kind at)
+IsTextFault text Memory = Unit {0}
+IsTextFault text _ = ⊥
 
 -- why the claims of a text are not settled, or there was no memory left
 abbrev pub IsSettlingFault : List ℕ → ℕ → Fault → Type 0

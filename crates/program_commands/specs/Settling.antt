@@ -1,6 +1,8 @@
 -- The claims of a program on all inputs: where all hold, and which one stops a command.
 use Rattle.std.specs.Prelude.{◌≡◌, ℕ, ◌+◌, Bool, List}
 use Rattle.claim_check.specs.Claims.{HoldWithin, BreaksOn, PassesAt}
+use Rattle.claim_check.specs.Measures.{IsNoLarger}
+use Rattle.claim_check.specs.Settled.{SettledView, IsSettledOf}
 use Rattle.revc_base.specs.declared.place.Place.{Place}
 use Rattle.revs_tape.specs.Tapes.{TapeView}
 use Rattle.revs_parser.specs.WellFormed.{IsWellFormed}
@@ -49,3 +51,13 @@ StopsSettling text nodes (Claim number at bits) = BreaksClaim text nodes number 
 StopsSettling text nodes (Diagram number at limit) =
     PassesNodes text nodes number at × (limit ≡ nodes)
 StopsSettling text nodes _ = ⊥
+
+-- this holds of each text that leaves the tape
+pub record ForTexts (tape : TapeView) (OfText : List ℕ → Type 0) : Type 0 where
+  pub of_text : (text : List ℕ) → LeavesTape text tape → OfText text
+
+-- the claims of the tape hold on all inputs, within the nodes, and this is its settled graph
+pub record IsSettledWithin (tape : TapeView) (nodes : ℕ) (graph : SettledView) : Type 0 where
+  pub hold : HoldWithin tape nodes
+  pub of_tape : IsSettledOf tape graph
+  pub no_larger : IsNoLarger tape graph

@@ -6,7 +6,8 @@ ghost use Rattle.program_commands.specs.Eval.{promise, IsValueOf};
 ghost use Rattle.revc_words.specs.Words.{first_word, order_of};
 ghost use Rattle.program_commands.specs.inside.Mappings.{bits_fault};
 ghost use Rattle.program_commands.specs.Outcomes.{IsEvalFault};
-ghost use Rattle.program_commands.specs.inside.Plans.{ForTexts, IsBitsFault};
+ghost use Rattle.program_commands.specs.inside.Plans.{IsBitsFault};
+ghost use Rattle.program_commands.specs.Settling.{ForTexts};
 
 use crate::program::tape_of_text;
 use crate::settling::broken_claim;

@@ -10,3 +10,6 @@ pub mod generate;
 mod planning;
 mod program;
 mod settling;
+
+pub use program::tape_of_text;
+pub use settling::settle_tape;

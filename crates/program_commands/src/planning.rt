@@ -4,7 +4,8 @@ ghost use Rattle.revc_words.specs.Words.{IsWithinLimits, order_of};
 ghost use Rattle.program_commands.specs.Compile.{budget_of};
 ghost use Rattle.program_commands.specs.Outcomes.{IsCompileFault};
 ghost use Rattle.program_commands.specs.inside.Mappings.{plan_fault};
-ghost use Rattle.program_commands.specs.inside.Plans.{ForTexts, IsPlanOf, IsPlannedFor};
+ghost use Rattle.program_commands.specs.inside.Plans.{IsPlanOf, IsPlannedFor};
+ghost use Rattle.program_commands.specs.Settling.{ForTexts};
 ghost use Rattle.program_commands.specs.inside.Plans.{IsPlanningFault};
 
 use crate::settling::settle_tape;

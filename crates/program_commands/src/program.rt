@@ -6,7 +6,8 @@ ghost use Rattle.revs_terms.specs.Trees.{tree_of};
 ghost use Rattle.revs_terms.specs.Views.{view_of};
 ghost use Rattle.program_commands.specs.inside.Mappings.{lexing_fault, parsing_fault, scope_fault};
 ghost use Rattle.program_commands.specs.inside.Mappings.{run_fault};
-ghost use Rattle.program_commands.specs.inside.Plans.{ForTextsOf, IsRunFault, IsTextFault};
+ghost use Rattle.program_commands.specs.inside.Plans.{ForTextsOf, IsRunFault};
+ghost use Rattle.program_commands.specs.Outcomes.{IsTextFault};
 ghost use Rattle.program_commands.specs.Settling.{LeavesTape};
 
 use command_answers::{Fault, FaultKind, Refusal};

@@ -3,7 +3,7 @@ ghost use Rattle.std.specs.Prelude.{◌≡◌, ◌+◌, ◌<◌, ◌≤◌, leng
 ghost use Rattle.std.specs.Prelude.{IfSome};
 ghost use Rattle.claim_check.specs.Claims.{IsClaimFault};
 ghost use Rattle.program_commands.specs.Outcomes.{IsSettlingFault};
-ghost use Rattle.program_commands.specs.inside.Plans.{ForTexts, IsSettledWithin};
+ghost use Rattle.program_commands.specs.Settling.{ForTexts, IsSettledWithin};
 
 use claim_check::{ClaimFault, Settled, settle};
 use command_answers::Fault;

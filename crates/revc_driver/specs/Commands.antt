@@ -15,6 +15,7 @@ use Rattle.circuit_commands.specs.Stat as stat
 use Rattle.circuit_commands.specs.Run as run
 use Rattle.circuit_commands.specs.Convert as convert
 use Rattle.circuit_commands.specs.Tidy as tidy
+use Rattle.verify_command.specs.Verify as verify
 
 abbrev pub promise_of : Command → Promise
 promise_of commands.Compile = compile.promise
@@ -26,6 +27,7 @@ promise_of commands.Convert = convert.promise
 promise_of commands.Tidy = tidy.promise
 promise_of commands.Gen = gen.promise
 promise_of commands.Bench = bench.promise
+promise_of commands.Verify = verify.promise
 
 -- ---- the promise of an order
 

@@ -25,6 +25,7 @@ use revc_io::{Failed, Sink};
 use revc_words::{Command, Format, Order};
 use revs_parser::MOST_BYTES;
 use std::alloc::Global;
+use verify_command::verify;
 
 /// What waits to be written.
 #[derive(Drop)]
@@ -45,6 +46,8 @@ pub enum Prepared {
     Program(Vec<u8>),
     /// The lines of the sizes of a program and its circuit.
     Bench(BenchSizes),
+    /// The line that says that a circuit is verified.
+    Verified,
 }
 
 impl Prepared {
@@ -63,6 +66,7 @@ impl Prepared {
             Prepared::Converted(format, converted) => convert::write(converted, *format, out),
             Prepared::Program(text) => generate::write(text, out),
             Prepared::Bench(sizes) => bench::write(sizes, out),
+            Prepared::Verified => verify::write(out),
         }
     }
 }
@@ -81,6 +85,7 @@ pub fn one_outcome(command: Command)
         Command::Tidy => tidy::one_outcome(),
         Command::Gen => generate::one_outcome(),
         Command::Bench => bench::one_outcome(),
+        Command::Verify => verify::one_outcome(),
     }
 }
 
@@ -99,6 +104,7 @@ pub fn limit_of(command: Command) -> Option<TextLimit>
         Command::Tidy => Some(circuit_limit()),
         Command::Gen => None,
         Command::Bench => None,
+        Command::Verify => Some(verify::source_limit()),
     }
 }
 
@@ -147,5 +153,9 @@ pub fn prepare(alloc: Global, order: &Order, text: &[u8]) -> Result<Prepared, Fa
         }
         Command::Gen => Ok(Prepared::Program(generate::program(alloc, order.number)?)),
         Command::Bench => bench::measure(alloc, order).map(Prepared::Bench),
+        Command::Verify => {
+            verify::verify(alloc, text, order)?;
+            Ok(Prepared::Verified)
+        }
     }
 }

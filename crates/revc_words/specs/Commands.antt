@@ -1,7 +1,7 @@
 -- What the words of the command line see of each command.
 use Rattle.std.specs.Prelude.{ℕ, List, [], ◌∷◌, codes}
 use Rattle.revc_words.specs.declared.commands.Command.{Command}
-use Rattle.revc_words.specs.declared.commands.Command.TheVariants.{Compile, Check, Eval, Stat, Run, Convert, Tidy, Gen, Bench}
+use Rattle.revc_words.specs.declared.commands.Command.TheVariants.{Compile, Check, Eval, Stat, Run, Convert, Tidy, Gen, Bench, Verify}
 use Rattle.revc_words.specs.declared.commands.Positional.{Positional}
 use Rattle.revc_words.specs.declared.commands.Positional.TheVariants.{Nothing, Word, Words, Number}
 
@@ -39,6 +39,11 @@ spelling_of Bench = record {
   options =
       codes "plan" ∷ codes "lines" ∷ codes "gates" ∷ codes "borrow" ∷ codes "nodes" ∷ [];
   takes = Number;
+}
+spelling_of Verify = record {
+  name = codes "verify";
+  options = codes "from" ∷ codes "nodes" ∷ codes "borrow" ∷ [];
+  takes = Nothing;
 }
 
 abbrev pub name_of : Command → List ℕ

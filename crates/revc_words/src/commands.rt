@@ -25,6 +25,8 @@ pub enum Command {
     Gen,
     /// Compiles the program of an adder and writes its sizes.
     Bench,
+    /// Reads a program and a circuit and writes that the circuit computes the program.
+    Verify,
 }
 
 /// What a command takes its positional words for.
@@ -52,7 +54,7 @@ pub struct Spelling<'a> {
 
 impl Command {
     // All commands.
-    const ALL: [Command; 9] = [
+    const ALL: [Command; 10] = [
         Command::Compile,
         Command::Check,
         Command::Eval,
@@ -62,6 +64,7 @@ impl Command {
         Command::Tidy,
         Command::Gen,
         Command::Bench,
+        Command::Verify,
     ];
 
     // What words see of it.
@@ -115,6 +118,11 @@ impl Command {
                 name: "bench",
                 options: &["plan", "lines", "gates", "borrow", "nodes"],
                 takes: Positional::Number,
+            },
+            Command::Verify => Spelling {
+                name: "verify",
+                options: &["from", "nodes", "borrow"],
+                takes: Positional::Nothing,
             },
         }
     }

@@ -1,7 +1,5 @@
 -- From a text to a plan that may be written as a clean file, and why there is none.
 use Rattle.std.specs.Prelude.{◌≡◌, ℕ, ◌+◌, ◌≤◌, List, length}
-use Rattle.claim_check.specs.Claims.{HoldWithin}
-use Rattle.claim_check.specs.Measures.{IsNoLarger}
 use Rattle.claim_check.specs.Settled.{SettledView, IsSettledOf}
 use Rattle.gate_split.specs.declared.plan.TheConstants.{MOST_LINES, MOST_GATES}
 use Rattle.gate_split.specs.Plans.{BudgetView, LaidView, lines_in, roles_of}
@@ -18,14 +16,12 @@ use Rattle.revs_terms.specs.Runs.{IsTapeOf}
 use Rattle.revs_terms.specs.Scopes.{scope_verdict, bound_as}
 use Rattle.revs_terms.specs.Views.{ProgramView}
 use Rattle.command_answers.specs.declared.fault.Fault.{Fault}
-use Rattle.command_answers.specs.declared.fault.Fault.TheVariants.{Refused, Lines, Gates, BadBits, Memory}
-use Rattle.command_answers.specs.declared.fault.Refusal.TheVariants.{At}
+use Rattle.command_answers.specs.declared.fault.Fault.TheVariants.{Lines, Gates, BadBits, Memory}
 use Rattle.command_answers.specs.BitWords.{IsInputWord}
 use Rattle.program_commands.specs.Clean.{IsCleanCircuit}
 use Rattle.program_commands.specs.Compile.{IsPlannedAs}
 use Rattle.program_commands.specs.Outcomes.{IsWritable}
-use Rattle.program_commands.specs.Refusals.{IsRefusal}
-use Rattle.program_commands.specs.Settling.{LeavesSettled, LeavesTape}
+use Rattle.program_commands.specs.Settling.{LeavesSettled}
 use Rattle.program_commands.specs.inside.Mappings.{run_fault}
 
 -- a plan of a program's settled graph, within a budget
@@ -38,16 +34,6 @@ pub record IsCleanPlan (laid : LaidView) (p : ProgramView) (b : BudgetView) : Ty
   pub some : 1 ≤ laid.circuit.lines
   pub most_lines : b.lines ≤ MOST_LINES
   pub most_gates : b.gates ≤ MOST_GATES
-
--- this holds of each text that leaves the tape
-pub record ForTexts (tape : TapeView) (OfText : List ℕ → Type 0) : Type 0 where
-  pub of_text : (text : List ℕ) → LeavesTape text tape → OfText text
-
--- the claims of the tape hold on all inputs, within the nodes, and this is its settled graph
-pub record IsSettledWithin (tape : TapeView) (nodes : ℕ) (graph : SettledView) : Type 0 where
-  pub hold : HoldWithin tape nodes
-  pub of_tape : IsSettledOf tape graph
-  pub no_larger : IsNoLarger tape graph
 
 -- a plan of the settled graph that is allowed, within the budget: its gates are narrow, and on its lines, which are
 -- those of its roles
@@ -96,12 +82,6 @@ pub record IsRunFault (bound : ProgramView) (fault : Fault) : Type 0 where
   pub why : RunFault
   pub is : fault ≡ run_fault why
   pub stuck : IsRefused bound.params bound.body why
-
--- why a text leaves no tape: it is refused at a place, or there was no memory left
-abbrev pub IsTextFault : List ℕ → Fault → Type 0
-IsTextFault text (Refused (At kind at)) = IsRefusal text (At kind at)
-IsTextFault text Memory = Unit {0}
-IsTextFault text _ = ⊥
 
 -- why a word gives no input of so many bits, or there was no memory left, which is asked for only where it gives one
 abbrev pub IsBitsFault : ℕ → List ℕ → Fault → Type 0

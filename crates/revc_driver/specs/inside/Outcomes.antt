@@ -2,13 +2,14 @@
 use Rattle.std.specs.Prelude.{ℕ, List}
 use Rattle.std.specs.List.{flat_map}
 use Rattle.revc_driver.specs.declared.commands.Prepared.{Prepared}
-use Rattle.revc_driver.specs.declared.commands.Prepared.TheVariants.{File, Claims, Digits, Lines, Stat, Converted, Program, Bench}
+use Rattle.revc_driver.specs.declared.commands.Prepared.TheVariants.{File, Claims, Digits, Lines, Stat, Converted, Program, Bench, Verified}
 use Rattle.circuit_commands.specs.Convert.{file_text}
 use Rattle.circuit_commands.specs.Stat.{stat_text}
 use Rattle.command_answers.specs.Lines.{bits_text}
 use Rattle.program_commands.specs.Bench.{bench_text}
 use Rattle.program_commands.specs.Check.{claims_text}
 use Rattle.program_commands.specs.Outcomes.{IsWritable, file_of}
+use Rattle.verify_command.specs.Verify.{verified_text}
 
 -- the text of what waits to be written
 abbrev pub text_of : Prepared → List ℕ
@@ -20,6 +21,7 @@ text_of (Stat sizes) = stat_text sizes
 text_of (Converted format converted) = file_text format converted.circuit converted.added
 text_of (Program text) = text.items
 text_of (Bench sizes) = bench_text sizes
+text_of Verified = verified_text
 
 abbrev pub CanBeWritten : Prepared → Type 0
 CanBeWritten (File format laid) = IsWritable laid
@@ -30,3 +32,4 @@ CanBeWritten (Stat sizes) = Unit {0}
 CanBeWritten (Converted format converted) = Unit {0}
 CanBeWritten (Program text) = Unit {0}
 CanBeWritten (Bench sizes) = Unit {0}
+CanBeWritten Verified = Unit {0}

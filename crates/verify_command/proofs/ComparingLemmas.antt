@@ -1,0 +1,195 @@
+-- What the comparison of a settled graph with a circuit says of the tape and of the two texts.
+use Rattle.std.proofs.Common.{◌≡◌, inr, ℕ, ◌+◌, ◌<◌, ◌≤◌, Bool, List, [], ◌∷◌, ◌++◌, Result, Ok, Err, length, sum, refl, sym, ap, ◌∙◌, subst, arith, length-append}
+use Rattle.std.specs.Prelude.{OnOk}
+use Rattle.std.specs.Result.{IfErr}
+use Rattle.std.proofs.lemmas.List.{length-map}
+use Rattle.circuit_commands.specs.Circuits.{ReadCircuit, Means, line_count}
+use Rattle.circuit_commands.specs.Outcomes.{IsCircuitFault}
+use Rattle.circuit_commands.specs.declared.limits.TheConstants.{MOST_CIRCUIT_BYTES}
+use Rattle.circuit_verify.specs.Comparisons.{Comparison, of_settled, of_tape, roles_in}
+use Rattle.circuit_verify.specs.Verdicts.{IsFirstWide, IsVerified, IsVerifyFault}
+use Rattle.circuit_verify.specs.declared.fault.VerifyFault.{VerifyFault}
+use Rattle.circuit_verify.specs.declared.fault.VerifyFault.TheVariants as verdicts
+use Rattle.circuit_verify.proofs.TapeLemmas.{said_of_tapes}
+use Rattle.claim_check.specs.Settled.{SettledView, IsSettledOf}
+use Rattle.command_answers.specs.declared.fault.CircuitRefusal.TheVariants as circuits
+use Rattle.command_answers.specs.declared.fault.Fault.{Fault}
+use Rattle.command_answers.specs.declared.fault.Fault.TheVariants as faults
+use Rattle.command_answers.specs.declared.fault.Refusal.TheVariants as refusals
+use Rattle.gate_split.specs.Plans.{lines_in}
+use Rattle.mct_circuit.specs.Gates.{AreGatesOn, CircuitView}
+use Rattle.program_commands.specs.Clean.{ComputesOn, IsCleanCircuit}
+use Rattle.program_commands.specs.Outcomes.{IsSettlingFault, IsTextFault}
+use Rattle.program_commands.specs.Settling.{ForTexts, IsSettledWithin, LeavesSettled, LeavesTape}
+use Rattle.revc_words.specs.Words.{OrderView}
+use Rattle.revs_tape.specs.Tapes.{TapeView, bit_on, outputs_on}
+use Rattle.revs_terms.proofs.TapeLemmas.{tape_gives_output}
+use Rattle.verify_command.specs.Parting.{HasNoPart, IsParted}
+use Rattle.verify_command.specs.Outcomes.{IsVerifyingFault}
+use Rattle.verify_command.specs.Verify.{AreVerified, Gives, HasParts, IsCause, StopsParts, comparison_of, verified_text}
+use Rattle.verify_command.specs.declared.limits.TheConstants.{MOST_SOURCE_BYTES}
+use Rattle.verify_command.specs.inside.Mappings.{IsNamedIn, comparing_fault}
+use Rattle.verify_command.specs.inside.Stages.{IsComparingFault, IsPartsFault}
+use Rattle.verify_command.proofs.LimitLemmas.{stops_circuit, verified_circuit}
+
+-- ---- the comparison of a tape
+
+comparing : (q : Comparison) (limit : ℕ) (fault : VerifyFault) → IsVerifyFault q limit fault → IsComparingFault limit (comparing_fault q.circuit fault) q
+comparing q limit (verdicts.Lines need) is = (refl, is.0, is.1)
+comparing q limit (verdicts.Gate gate) is = record { enough = is.0; before = gate; first = is.1; count = refl }
+comparing q limit (verdicts.Diagram nodes) is = is
+comparing q limit (verdicts.Differs line bits) is = record { comparable = is.0; before = line; first = is.1; count = refl }
+comparing q limit verdicts.Memory is = tt
+
+named_gate : (circuit : CircuitView) (gate : ℕ) → IsFirstWide circuit.gates gate → gate < length circuit.gates
+named_gate circuit gate first =
+    let long = ap length first.cut ∙ length-append first.before (first.wide ∷ first.behind) in
+    let count = first.count in
+    omega arith
+
+pub named : (q : Comparison) (limit : ℕ) (fault : VerifyFault) → IsVerifyFault q limit fault → IsNamedIn q.circuit fault
+named q limit (verdicts.Lines need) is = tt
+named q limit (verdicts.Gate gate) is = named_gate q.circuit gate is.1
+named q limit (verdicts.Diagram nodes) is = tt
+named q limit (verdicts.Differs line bits) is = is.1.in_range
+named q limit verdicts.Memory is = tt
+
+pub tape_verified : (t : TapeView) (s : SettledView) (params : List ℕ) (circuit : CircuitView) (borrow : ℕ) → params ≡ t.params
+    → IsSettledOf t s → IsVerified (record { program = of_settled params s; circuit = circuit; borrow = borrow })
+    → IsVerified (record { program = of_tape t; circuit = circuit; borrow = borrow })
+tape_verified t s params circuit borrow same is h =
+    (said_of_tapes t s is circuit borrow 0).verified
+    (subst (λ (ps : List ℕ). IsVerified (record { program = of_settled ps s; circuit = circuit; borrow = borrow })) same h)
+
+pub tape_stops : (t : TapeView) (s : SettledView) (params : List ℕ) (circuit : CircuitView) (borrow nodes : ℕ) (fault : VerifyFault) (given : Fault)
+    → params ≡ t.params → IsSettledOf t s → given ≡ comparing_fault circuit fault
+    → IsVerifyFault (record { program = of_settled params s; circuit = circuit; borrow = borrow }) nodes fault
+    → IsComparingFault nodes given (record { program = of_tape t; circuit = circuit; borrow = borrow })
+tape_stops t s params circuit borrow nodes fault given same is named h =
+    let q : Comparison = record { program = of_tape t; circuit = circuit; borrow = borrow } in
+    let said = (said_of_tapes t s is circuit borrow nodes).refused fault
+    (subst (λ (ps : List ℕ). IsVerifyFault (record { program = of_settled ps s; circuit = circuit; borrow = borrow }) nodes fault) same h) in
+    subst (λ (f : Fault). IsComparingFault nodes f q) (sym named) (comparing q nodes fault said)
+
+-- ---- the comparison of two texts
+
+clean_of : (order : OrderView) (program : List ℕ) (tape : TapeView) (read : ReadCircuit) (settled : LeavesSettled program order.nodes tape)
+    → AreGatesOn (line_count read) read.gates → IsVerified (comparison_of order tape read)
+    → IsCleanCircuit settled.left.program order.borrow (roles_in (comparison_of order tape read)) read.gates
+clean_of order program tape read settled on v =
+    let p = settled.left.program in
+    let of = settled.left.tape_of in
+    let enough = v.comparable.lines in
+    let same : line_count read ≡ lines_in (roles_in (comparison_of order tape read)) = omega arith in
+    record {
+      inputs = ap sum of.widths;
+      borrows = refl;
+      placed = subst (λ n. AreGatesOn n read.gates) same on;
+      narrow = v.comparable.narrow;
+      computes = λ input bits size many. record {
+        output = outputs_on tape input;
+        is = tape_gives_output p.params p.body tape of input size;
+        size = length-map tape.outputs (bit_on tape input);
+        puts = v.agrees.puts input bits (size ∙ ap sum (sym of.widths)) many;
+      };
+    }
+
+pub texts_verified : {T E : Type 0} (order : OrderView) (program text : List ℕ) (tape : TapeView) (graph : SettledView) (read : ReadCircuit)
+    (circuit : CircuitView) (r : Result T E) → LeavesTape program tape → Means order.from text read → IsSettledWithin tape order.nodes graph
+    → circuit.lines ≡ line_count read → circuit.gates ≡ read.gates → AreGatesOn circuit.lines circuit.gates
+    → OnOk r (IsVerified (record { program = of_tape tape; circuit = circuit; borrow = order.borrow })) → OnOk r (AreVerified order program text)
+texts_verified {T} {E} order program text tape graph read circuit (Ok x) left means within lines gates on h =
+    let settled : LeavesSettled program order.nodes tape = record { left = left; hold = within.hold } in
+    let v : IsVerified (comparison_of order tape read) =
+    verified_circuit (of_tape tape) circuit (line_count read) (length read.gates) read.gates order.borrow lines gates h in
+    record {
+      compared = record { tape = tape; settled = settled; read = read; means = means; holds = v };
+      clean = clean_of order program tape read settled
+          (subst (λ gs. AreGatesOn (line_count read) gs) gates (subst (λ n. AreGatesOn n circuit.gates) lines on)) v;
+    }
+texts_verified {T} {E} order program text tape graph read circuit (Err e) left means within lines gates on h = tt
+
+-- ---- why they are not
+
+pub text_stops : (order : OrderView) (program text : List ℕ) (fault : Fault) → length text ≤ MOST_CIRCUIT_BYTES → IsTextFault program fault
+    → IsPartsFault order program text fault
+text_stops order program text (faults.Refused (refusals.At kind at)) short h = (short, h)
+text_stops order program text (faults.Refused refusals.TooLong) short h = absurd h
+text_stops order program text faults.Memory short h = tt
+text_stops order program text fault short h = absurd h
+
+pub circuit_stops : (order : OrderView) (program text : List ℕ) (tape : TapeView) (fault : Fault) → length text ≤ MOST_CIRCUIT_BYTES
+    → LeavesTape program tape → IsCircuitFault order.from text fault → IsPartsFault order program text fault
+circuit_stops order program text tape (faults.Circuit circuits.TooLong) short left h = absurd (omega (arith, h, short))
+circuit_stops order program text tape (faults.Circuit (circuits.Line number)) short left h = (tape, left, h)
+circuit_stops order program text tape (faults.Circuit (circuits.LineLimit number)) short left h = (tape, left, h)
+circuit_stops order program text tape (faults.Circuit (circuits.Token at)) short left h = (tape, left, h)
+circuit_stops order program text tape (faults.Circuit (circuits.TokenLimit at)) short left h = (tape, left, h)
+circuit_stops order program text tape faults.Memory short left h = tt
+circuit_stops order program text tape fault short left h = absurd h
+
+settling_stops : (order : OrderView) (program text : List ℕ) (read : ReadCircuit) (fault : Fault) → Means order.from text read
+    → IsSettlingFault program order.nodes fault → IsPartsFault order program text fault
+settling_stops order program text read (faults.Refused refusals.TooLong) means h = h
+settling_stops order program text read (faults.Refused (refusals.At kind at)) means h = (means.short, h)
+settling_stops order program text read (faults.Claim number at bits) means h = (read, means, h)
+settling_stops order program text read (faults.Diagram number at limit) means h = (read, means, h)
+settling_stops order program text read faults.Memory means h = tt
+settling_stops order program text read fault means h = absurd h
+
+pub claims_stop : (order : OrderView) (program text : List ℕ) (tape : TapeView) (read : ReadCircuit) (fault : Fault) → LeavesTape program tape
+    → Means order.from text read → ForTexts tape (λ own. IsSettlingFault own order.nodes fault) → IsPartsFault order program text fault
+claims_stop order program text tape read fault left means h = settling_stops order program text read fault means (h.of_text program left)
+
+comparison_stops : (order : OrderView) (program text : List ℕ) (tape : TapeView) (read : ReadCircuit) (fault : Fault) → LeavesSettled program order.nodes tape
+    → Means order.from text read → IsComparingFault order.nodes fault (comparison_of order tape read) → IsPartsFault order program text fault
+comparison_stops order program text tape read (faults.FewLines lines need) settled means h =
+    record { tape = tape; settled = settled; read = read; means = means; holds = h }
+comparison_stops order program text tape read (faults.WideGate number) settled means h =
+    record { tape = tape; settled = settled; read = read; means = means; holds = h }
+comparison_stops order program text tape read (faults.CircuitDiagram limit) settled means h =
+    record { tape = tape; settled = settled; read = read; means = means; holds = h }
+comparison_stops order program text tape read (faults.Differs number bits) settled means h =
+    record { tape = tape; settled = settled; read = read; means = means; holds = h }
+comparison_stops order program text tape read faults.Memory settled means h = tt
+comparison_stops order program text tape read fault settled means h = absurd h
+
+pub texts_stop : {T : Type 0} (order : OrderView) (program text : List ℕ) (tape : TapeView) (graph : SettledView) (read : ReadCircuit)
+    (circuit : CircuitView) (r : Result T Fault) → LeavesTape program tape → Means order.from text read → IsSettledWithin tape order.nodes graph
+    → circuit.lines ≡ line_count read → circuit.gates ≡ read.gates
+    → IfErr r (λ fault. IsComparingFault order.nodes fault (record { program = of_tape tape; circuit = circuit; borrow = order.borrow }))
+    → IfErr r (IsPartsFault order program text)
+texts_stop {T} order program text tape graph read circuit (Ok x) left means within lines gates h = tt
+texts_stop {T} order program text tape graph read circuit (Err fault) left means within lines gates h =
+    comparison_stops order program text tape read fault (record { left = left; hold = within.hold }) means
+    (stops_circuit (of_tape tape) circuit (line_count read) (length read.gates) read.gates order.borrow order.nodes fault lines gates h)
+
+-- ---- a source
+
+pub source_verified : {T E : Type 0} (order : OrderView) (source program circuit : List ℕ) (r : Result T E) → length source ≤ MOST_SOURCE_BYTES
+    → IsParted source program circuit → OnOk r (AreVerified order program circuit) → OnOk r (Gives order source verified_text)
+source_verified {T} {E} order source program circuit (Ok x) short parted h =
+    (record { short = short; program = program; circuit = circuit; parted = parted; holds = h }, refl)
+source_verified {T} {E} order source program circuit (Err e) short parted h = tt
+
+source_stops : (order : OrderView) (source program circuit : List ℕ) (fault : Fault) → length source ≤ MOST_SOURCE_BYTES → IsParted source program circuit
+    → IsPartsFault order program circuit fault → IsVerifyingFault order source fault
+source_stops order source program circuit faults.Memory short parted h = tt
+source_stops order source program circuit faults.NoPart short parted h = absurd h.holds
+source_stops order source program circuit (faults.Circuit circuits.TooLong) short parted h =
+    inr (record { short = short; program = program; circuit = circuit; parted = parted; holds = h })
+source_stops order source program circuit (faults.Circuit (circuits.Line number)) short parted h =
+    record { short = short; program = program; circuit = circuit; parted = parted; holds = h }
+source_stops order source program circuit (faults.Circuit (circuits.LineLimit number)) short parted h =
+    record { short = short; program = program; circuit = circuit; parted = parted; holds = h }
+source_stops order source program circuit (faults.Circuit (circuits.Token at)) short parted h =
+    record { short = short; program = program; circuit = circuit; parted = parted; holds = h }
+source_stops order source program circuit (faults.Circuit (circuits.TokenLimit at)) short parted h =
+    record { short = short; program = program; circuit = circuit; parted = parted; holds = h }
+source_stops order source program circuit fault short parted h =
+    record { short = short; program = program; circuit = circuit; parted = parted; holds = h }
+
+pub source_stopped : {T : Type 0} (order : OrderView) (source program circuit : List ℕ) (r : Result T Fault) → length source ≤ MOST_SOURCE_BYTES
+    → IsParted source program circuit → IfErr r (IsPartsFault order program circuit) → IfErr r (IsVerifyingFault order source)
+source_stopped {T} order source program circuit (Ok x) short parted h = tt
+source_stopped {T} order source program circuit (Err fault) short parted h = source_stops order source program circuit fault short parted h

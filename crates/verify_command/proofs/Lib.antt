@@ -1,0 +1,4 @@
+pub mod PartingLemmas
+pub mod LimitLemmas
+pub mod ComparingLemmas
+pub mod OutcomeLemmas
