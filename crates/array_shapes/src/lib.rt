@@ -7,4 +7,4 @@ mod shapes;
 mod value;
 
 pub use shapes::{ShapeFault, append, index, rotate, slice};
-pub use value::{Value, bit, register};
+pub use value::{Value, bit, number, register};

@@ -1,15 +1,15 @@
 // Values of a run.
 ghost use Rattle.std.specs.Prelude.{◌≡◌, IfOk, option_map};
-ghost use Rattle.array_shapes.specs.Values.{seen, bit_of, register_of};
+ghost use Rattle.array_shapes.specs.Values.{seen, bit_of, register_of, number_of};
 
 use revc_base::Memory;
 use revs_terms::Lambda;
 use std::rc::Rc;
 
-/// A value of a run. A location is a number, and stands for the bit in it. A function has the
+/// A value of a run. A location is counted from 0, and stands for the bit in it. A function has the
 /// number of the environment that it was made in, how many of its names are taken, and its names
-/// and body. The locations of a register are shared, so that a copy takes the same time at any
-/// length.
+/// and body. A number, to which a `for` binds its name, is from -9,999 to 9,999. The locations of a
+/// register are shared, so that a copy takes the same time at any length.
 #[derive(Drop)]
 pub enum Value<'t> {
     Unit,
@@ -20,6 +20,7 @@ pub enum Value<'t> {
         taken: usize,
         of: &'t Lambda,
     },
+    Num(i32),
 }
 
 impl<'t> Value<'t> {
@@ -36,6 +37,7 @@ impl<'t> Value<'t> {
                 taken: *taken,
                 of,
             },
+            Value::Num(number) => Value::Num(*number),
         })
     }
 }
@@ -56,6 +58,16 @@ pub fn register<'a, 't>(value: &'a Value<'t>) -> Option<&'a [u32]>
 {
     match value {
         Value::Reg(locations) => Some(locations.as_slice()),
+        _ => None,
+    }
+}
+
+/// The number that a value is, and `None` at any other value. It takes no memory.
+pub fn number(value: &Value) -> Option<i32>
+    ensures { result ≡ number_of (seen value.now) }
+{
+    match value {
+        Value::Num(number) => Some(*number),
         _ => None,
     }
 }

@@ -1,13 +1,15 @@
 -- Blocks, parts and functions, as the machine takes them.
 use Rattle.std.proofs.Common.{◌≡◌, ℕ, zero, suc, ◌+◌, ◌-◌, ◌≤◌, ◌<◌, None, List, [], ◌∷◌, length, drop, map, get_or, refl, sym, ap, ◌∙◌, subst, arith}
 use Rattle.revc_base.specs.declared.place.Place.{Place}
+use Rattle.std.specs.Prelude.{ℤ}
 use Rattle.revs_terms.specs.declared.term.Name.{Name}
+use Rattle.revs_terms.specs.declared.term.Step.{Step}
 use Rattle.revs_terms.specs.declared.term.Part.{Part}
 use Rattle.revs_terms.specs.Terms.{place_of}
-use Rattle.revs_terms.specs.Trees.{Tree, trees, list_of, ItemTree, item_trees, bind, run, block, parts, apply, append}
+use Rattle.revs_terms.specs.Trees.{Tree, trees, list_of, ItemTree, item_trees, bind, run, block, parts, apply, append, rotate}
 use Rattle.revs_terms.specs.Running as runs
 use Rattle.revs_terms.specs.Running.{Environment, bound, bound_length, State, Outcome, stuck, went, after, run_of, term_of, as_bit, bit_of}
-use Rattle.revs_terms.specs.Running.{block_of, part_of, parts_of, apply_all, apply_to, worked, appended}
+use Rattle.revs_terms.specs.Running.{items_run, block_of, parts_of, apply_all, apply_to, worked, appended, rotated, number_of}
 use Rattle.revs_terms.specs.Runs.{no_bits}
 use Rattle.array_shapes.specs.declared.value.Value.{Value}
 use Rattle.array_shapes.specs.Values as values
@@ -49,46 +51,55 @@ value_behind old mid left env t v next is g = step next (begun old _ _ refl is) 
 
 -- ---- blocks
 
-block_next : (left : ℕ) (e : Environment) (i : ItemTree) (is : List ItemTree) (last : Tree) (s : State (Unit {0}))
-    → block_of no_bits (run_of no_bits left) e (i ∷ is) last s ≡ after (item_step (run_of no_bits left) e i s)
-    (λ f s. block_of no_bits (run_of no_bits left) f is last s)
-block_next left e (bind name t) is last s =
-    let k : Environment → State (Unit {0}) → Going runs.Value = λ f s. block_of no_bits (run_of no_bits left) f is last s in
+items_next : (left : ℕ) (e : Environment) (i : ItemTree) (is : List ItemTree) (s : State (Unit {0}))
+    → items_run no_bits (run_of no_bits left) e (i ∷ is) s ≡ after (item_step (run_of no_bits left) e i s)
+    (λ f s. items_run no_bits (run_of no_bits left) f is s)
+items_next left e (bind name t) is s =
+    let k : Environment → State (Unit {0}) → Going Environment = λ f s. items_run no_bits (run_of no_bits left) f is s in
     sym (regroup (run_of no_bits left e t s) (λ value s. bind_step value e (place_of t) s) k
     ∙ same_next (run_of no_bits left e t s) _ _ (λ value s. regroup (worked no_bits (bound_length value) (place_of t) s) (λ _ s. went (bound value e) s) k))
-block_next left e (run t) is last s =
-    sym (regroup (run_of no_bits left e t s) (λ _ s. went e s) (λ f s. block_of no_bits (run_of no_bits left) f is last s))
+items_next left e (run t) is s =
+    sym (regroup (run_of no_bits left e t s) (λ _ s. went e s) (λ f s. items_run no_bits (run_of no_bits left) f is s))
 
-pub record InBlock (old now : Machine) (left inner : ℕ) (is : List ItemTree) (last : Tree) (whole : Going runs.Value) : Type 0 where
-  pub through : Through old now whole (block_of no_bits (run_of no_bits left) (env_in (envs_of now) inner) is last (state_of now))
+pub record InItems (old now : Machine) (left inner : ℕ) (is : List ItemTree) (whole : Going Environment) : Type 0 where
+  pub through : Through old now whole (items_run no_bits (run_of no_bits left) (env_in (envs_of now) inner) is (state_of now))
   pub made : inner ≤ length now.bindings.items
 
-pub block_more : (old now later : Machine) (left inner behind : ℕ) (i : ItemTree) (is js : List ItemTree) (last : Tree) (whole : Going runs.Value)
+pub items_more : (old now later : Machine) (left inner behind : ℕ) (i : ItemTree) (is js : List ItemTree) (whole : Going Environment)
     → js ≡ i ∷ is
-    → InBlock old now left inner js last whole
+    → InItems old now left inner js whole
     → Binds now later (item_step (run_of no_bits left) (env_in (envs_of now) inner) i (state_of now)) behind
-    → InBlock old later left behind is last whole
-block_more old now later left inner behind i is js last whole cut w b = record {
-  through = step (λ f s. block_of no_bits (run_of no_bits left) f is last s)
-      (same_rest _ (ap (λ (x : List ItemTree). block_of no_bits (run_of no_bits left) (env_in (envs_of now) inner) x last (state_of now)) cut ∙ block_next
-      left (env_in (envs_of now) inner) i is last (state_of now)) w.through) b.does;
+    → InItems old later left behind is whole
+items_more old now later left inner behind i is js whole cut w b = record {
+  through = step (λ f s. items_run no_bits (run_of no_bits left) f is s)
+      (same_rest _ (ap (λ (x : List ItemTree). items_run no_bits (run_of no_bits left) (env_in (envs_of now) inner) x (state_of now)) cut ∙ items_next
+      left (env_in (envs_of now) inner) i is (state_of now)) w.through) b.does;
   made = b.made;
 }
 
-pub block_stuck : (old now : Machine) (left inner : ℕ) (i : ItemTree) (is js : List ItemTree) (last : Tree) (whole : Going runs.Value) (fault : RunFault)
+pub items_stuck : (old now : Machine) (left inner : ℕ) (i : ItemTree) (is js : List ItemTree) (whole : Going Environment) (fault : RunFault)
     → js ≡ i ∷ is
-    → InBlock old now left inner js last whole
+    → InItems old now left inner js whole
     → Says fault (item_step (run_of no_bits left) (env_in (envs_of now) inner) i (state_of now)) → Says fault whole
-block_stuck old now left inner i is js last whole fault cut w s =
-    said fault (same_rest _ (ap (λ (x : List ItemTree). block_of no_bits (run_of no_bits left) (env_in (envs_of now) inner) x last (state_of now)) cut ∙
-    block_next left (env_in (envs_of now) inner) i is last (state_of now)) w.through)
-    (said_first fault _ (λ f s. block_of no_bits (run_of no_bits left) f is last s) s)
+items_stuck old now left inner i is js whole fault cut w s =
+    said fault (same_rest _ (ap (λ (x : List ItemTree). items_run no_bits (run_of no_bits left) (env_in (envs_of now) inner) x (state_of now)) cut ∙
+    items_next left (env_in (envs_of now) inner) i is (state_of now)) w.through)
+    (said_first fault _ (λ f s. items_run no_bits (run_of no_bits left) f is s) s)
 
-pub block_last : (old now : Machine) (left inner : ℕ) (js : List ItemTree) (last : Tree) (whole : Going runs.Value) → js ≡ []
-    → InBlock old now left inner js last whole
-    → Through old now whole (run_of no_bits left (env_in (envs_of now) inner) last (state_of now))
-block_last old now left inner js last whole none w =
-    same_rest _ (ap (λ (x : List ItemTree). block_of no_bits (run_of no_bits left) (env_in (envs_of now) inner) x last (state_of now)) none) w.through
+pub items_done : (old now : Machine) (left inner : ℕ) (js : List ItemTree) (whole : Going Environment) → js ≡ []
+    → InItems old now left inner js whole → Binds old now whole inner
+items_done old now left inner js whole none w = record {
+  does = ends_here (env_in (envs_of now) inner) w.through
+      (ap (λ (x : List ItemTree). items_run no_bits (run_of no_bits left) (env_in (envs_of now) inner) x (state_of now)) none);
+  made = w.made;
+}
+
+-- the last expression, behind the items
+pub block_last : (old mid : Machine) (left env inner : ℕ) (is : List ItemTree) (last : Tree) → IsMachine old
+    → Binds old mid (items_run no_bits (run_of no_bits left) (env_in (envs_of old) env) is (state_of old)) inner
+    → Through old mid (block_of no_bits (run_of no_bits left) (env_in (envs_of old) env) is last (state_of old))
+    (run_of no_bits left (env_in (envs_of mid) inner) last (state_of mid))
+block_last old mid left env inner is last m b = step (λ f s. run_of no_bits left f last s) (begun old _ _ refl m) b.does
 
 pub block_is : (left : ℕ) (e : Environment) (is : List ItemTree) (last : Tree) (at : Place) (s : State (Unit {0}))
     → term_of no_bits (run_of no_bits left) e (block (item_trees is) last at) s ≡ block_of no_bits (run_of no_bits left) e is last s
@@ -97,12 +108,39 @@ block_is left e is last at s = ap (λ (x : List ItemTree). block_of no_bits (run
 -- ---- parts
 
 pub at_begun : (old mid : Machine) (left env : ℕ) (t : Tree) (ps : List Part) (v : Value) (at : Place) → at ≡ place_of t → IsMachine old
-    → Goes old mid (run_of no_bits left (env_in (envs_of old) env) t (state_of old)) v
+    → env ≤ length old.bindings.items → Goes old mid (run_of no_bits left (env_in (envs_of old) env) t (state_of old)) v
     → Through old mid (term_of no_bits (run_of no_bits left) (env_in (envs_of old) env) (parts t ps) (state_of old))
-    (parts_of no_bits at ps (value_in (envs_of mid) v) (state_of mid))
-at_begun old mid left env t ps v at e is g =
-    same_rest _ (ap (λ (x : Place). parts_of no_bits x ps (value_in (envs_of mid) v) (state_of mid)) (sym e))
-    (value_behind old mid left env t v (parts_of no_bits (place_of t) ps) is g)
+    (parts_of no_bits (env_in (envs_of mid) env) at ps (value_in (envs_of mid) v) (state_of mid))
+at_begun old mid left env t ps v at e is h g =
+    same_rest _ (ap (λ (x : Place). parts_of no_bits (env_in (envs_of old) env) x ps (value_in (envs_of mid) v) (state_of mid)) (sym e)
+    ∙ ap (λ (x : Environment). parts_of no_bits x at ps (value_in (envs_of mid) v) (state_of mid)) (sym (grown_env old mid env g.does.grows h)))
+    (value_behind old mid left env t v (parts_of no_bits (env_in (envs_of old) env) (place_of t) ps) is g)
+
+-- ---- rotations
+
+rotation_begun : (old mid : Machine) (left env : ℕ) (by : List Step) (t : Tree) (at : Place) (k : ℤ) → IsMachine old
+    → Does old mid (number_of no_bits (env_in (envs_of old) env) by (state_of old)) k
+    → Through old mid (term_of no_bits (run_of no_bits left) (env_in (envs_of old) env) (rotate by t at) (state_of old))
+    (after (run_of no_bits left (env_in (envs_of old) env) t (state_of mid)) (λ x s. rotated no_bits k (place_of t) at x s))
+rotation_begun old mid left env by t at k is d =
+    step (λ k s. after (run_of no_bits left (env_in (envs_of old) env) t s) (λ x s. rotated no_bits k (place_of t) at x s)) (begun old _ _ refl is) d
+
+pub rotation_run : (old mid later : Machine) (left env : ℕ) (by : List Step) (t : Tree) (at : Place) (k : ℤ) (v : Value) → IsMachine old
+    → env ≤ length old.bindings.items → Does old mid (number_of no_bits (env_in (envs_of old) env) by (state_of old)) k
+    → Goes mid later (run_of no_bits left (env_in (envs_of mid) env) t (state_of mid)) v
+    → Through old later (term_of no_bits (run_of no_bits left) (env_in (envs_of old) env) (rotate by t at) (state_of old))
+    (rotated no_bits k (place_of t) at (value_in (envs_of later) v) (state_of later))
+rotation_run old mid later left env by t at k v is h d g =
+    step (λ x s. rotated no_bits k (place_of t) at x s) (rotation_begun old mid left env by t at k is d)
+    (goes_in (λ e. run_of no_bits left e t (state_of mid)) old mid later env v d.grows h g).does
+
+pub rotation_stuck : (old mid : Machine) (left env : ℕ) (by : List Step) (t : Tree) (at : Place) (k : ℤ) (fault : RunFault) → IsMachine old
+    → env ≤ length old.bindings.items → Does old mid (number_of no_bits (env_in (envs_of old) env) by (state_of old)) k
+    → Says fault (run_of no_bits left (env_in (envs_of mid) env) t (state_of mid))
+    → Says fault (term_of no_bits (run_of no_bits left) (env_in (envs_of old) env) (rotate by t at) (state_of old))
+rotation_stuck old mid left env by t at k fault is h d s =
+    said fault (rotation_begun old mid left env by t at k is d)
+    (said_first fault _ _ (says_in (λ e. run_of no_bits left e t (state_of mid)) old mid env fault d.grows h s))
 
 -- ---- append
 
@@ -351,6 +389,7 @@ no_bit : (envs : List Environment) (v : ValueView) (at : Place) (s : State (Unit
 no_bit envs values.unit at s e = record { stuck = refl }
 no_bit envs (values.bit l) at s e = absurd (cc)
 no_bit envs (values.register ls) at s e = record { stuck = refl }
+no_bit envs (values.number k) at s e = record { stuck = refl }
 no_bit envs (values.function n k of) at s e = record { stuck = refl }
 
 pub bit_stuck : (old mid : Machine) (left env : ℕ) (t : Tree) (v : Value) (fault : RunFault) → IsMachine old

@@ -34,12 +34,14 @@ pub spec_value-front : (d r : List Environment) (v : ValueView) → IsValueView 
 spec_value-front d r values.unit h = refl
 spec_value-front d r (values.bit location) h = refl
 spec_value-front d r (values.register locations) h = refl
+spec_value-front d r (values.number k) h = refl
 spec_value-front d r (values.function env taken of) h = rw (env_in-front d r env h) refl
 
 IsValueView-later : (n m : ℕ) (v : ValueView) → n ≤ m → IsValueView n v → IsValueView m v
 IsValueView-later n m values.unit le h = tt
 IsValueView-later n m (values.bit location) le h = tt
 IsValueView-later n m (values.register locations) le h = tt
+IsValueView-later n m (values.number k) le h = tt
 IsValueView-later n m (values.function env taken of) le h = omega (arith, le, h)
 
 -- ---- the environments of bindings
@@ -183,40 +185,54 @@ bound_length-view : (envs : List Environment) (v : ValueView) → runs.bound_len
 bound_length-view envs values.unit = refl
 bound_length-view envs (values.bit location) = refl
 bound_length-view envs (values.register locations) = refl
+bound_length-view envs (values.number k) = refl
 bound_length-view envs (values.function env taken of) = refl
 
-pub bound_done : (old mid now : Machine) (value : Value) (env made : ℕ) (leap : Leap) (at there : Place) → at ≡ there → (count : ℕ)
-    → count ≡ view_length (seen value) → Does old mid (worked no_bits count at (state_of old)) tt
-    → now.bindings.items ≡ mid.bindings.items ++ record { value = value; parent = env; leap = leap } ∷ []
-    → now.store.items ≡ mid.store.items → now.tape ≡ mid.tape → now.work ≡ mid.work → made ≡ length now.bindings.items
+-- one more binding, which counts no work
+pub pushed_done : (old now : Machine) (value : Value) (env made : ℕ) (leap : Leap) → IsMachine old
+    → now.bindings.items ≡ old.bindings.items ++ record { value = value; parent = env; leap = leap } ∷ []
+    → now.store.items ≡ old.store.items → now.tape ≡ old.tape → now.work ≡ old.work → made ≡ length now.bindings.items
     → length old.bindings.items + 1 ≤ MOST_INPUTS + old.work → env ≤ length old.bindings.items → IsValue (length old.bindings.items) value
     → AreLeaps [] now.bindings.items
-    → BindsOne old now (bind_step (value_in (envs_of old) value) (env_in (envs_of old) env) there (state_of old)) made
-bound_done old mid now value env made leap at there p count n w b s t k m space h v leaps =
-    let v2 : IsValue (length mid.bindings.items) value = grown_made old mid value w.grows v in
-    let h2 : env ≤ length mid.bindings.items = omega (arith, grown_length old mid w.grows) in
-    let longer : length now.bindings.items ≡ length mid.bindings.items + 1 = ap length b ∙ length-append mid.bindings.items
+    → BindsOne old now (went (bound (value_in (envs_of old) value) (env_in (envs_of old) env)) (state_of old)) made
+pushed_done old now value env made leap is b s t k m space h v leaps =
+    let longer : length now.bindings.items ≡ length old.bindings.items + 1 = ap length b ∙ length-append old.bindings.items
     (record { value = value; parent = env; leap = leap } ∷ []) in
-    let state : state_of mid ≡ state_of now = cc in
-    let counted : runs.bound_length (value_in (envs_of old) value) ≡ count = bound_length-view (envs_of old) (seen value) ∙ sym n in
+    let state : state_of old ≡ state_of now = cc in
     let last : env_in (envs_of now) made ≡ bound (value_in (envs_of old) value) (env_in (envs_of old) env) =
-    ap (env_in (envs_of now)) (m ∙ longer) ∙ pushed_env mid now (record { value = value; parent = env; leap = leap }) b
-    ∙ ap (λ (x : runs.Value). bound x (env_in (envs_of mid) env)) (grown_value old mid value w.grows v)
+    ap (env_in (envs_of now)) (m ∙ longer) ∙ pushed_env old now (record { value = value; parent = env; leap = leap }) b in
+    record {
+      goes = rw (last, state) refl;
+      grows = record { more = record { value = value; parent = env; leap = leap } ∷ []; bindings = b; params = ap (λ (x : TapeView). x.params) t };
+      kept = record {
+        made = rw b (bindings_pushed old.bindings.items (record { value = value; parent = env; leap = leap }) is.made h v.made);
+        leaps = leaps;
+        known = rw (s, t) is.known;
+        few = rw (s, t) is.few;
+        within = rw k is.within;
+        room = omega (arith, longer, k, space);
+      };
+      worked = omega (arith, longer, k);
+      made = omega (arith, m);
+    }
+
+-- a binding, behind the work that its value counts
+pub bound_done : (old mid now : Machine) (value : Value) (env made : ℕ) (at there : Place) → at ≡ there → (count : ℕ)
+    → count ≡ view_length (seen value) → Does old mid (worked no_bits count at (state_of old)) tt
+    → BindsOne mid now (went (bound (value_in (envs_of mid) value) (env_in (envs_of mid) env)) (state_of mid)) made
+    → env ≤ length old.bindings.items → IsValue (length old.bindings.items) value
+    → BindsOne old now (bind_step (value_in (envs_of old) value) (env_in (envs_of old) env) there (state_of old)) made
+bound_done old mid now value env made at there p count n w b h v =
+    let counted : runs.bound_length (value_in (envs_of old) value) ≡ count = bound_length-view (envs_of old) (seen value) ∙ sym n in
+    let same : bound (value_in (envs_of mid) value) (env_in (envs_of mid) env) ≡ bound (value_in (envs_of old) value) (env_in (envs_of old) env) =
+    ap (λ (x : runs.Value). bound x (env_in (envs_of mid) env)) (grown_value old mid value w.grows v)
     ∙ ap (bound (value_in (envs_of old) value)) (grown_env old mid env w.grows h) in
     record {
-      goes = rw (← p, counted) (goes_on _ _ _ _ _ w.goes (rw (last, state) refl));
-      grows = grows_trans old mid now w.grows (record
-          { more = record { value = value; parent = env; leap = leap } ∷ []; bindings = b; params = ap (λ (x : TapeView). x.params) t });
-      kept = record {
-        made = rw b (bindings_pushed mid.bindings.items (record { value = value; parent = env; leap = leap }) w.kept.made h2 v2.made);
-        leaps = leaps;
-        known = rw (s, t) w.kept.known;
-        few = rw (s, t) w.kept.few;
-        within = rw k w.kept.within;
-        room = omega (arith, longer, k, w.worked, space);
-      };
-      worked = omega (arith, longer, k, w.worked);
-      made = omega (arith, m);
+      goes = rw (← p, counted) (goes_on _ _ _ _ _ w.goes (rw (← same) b.goes));
+      grows = grows_trans old mid now w.grows b.grows;
+      kept = b.kept;
+      worked = omega (arith, w.worked, b.worked);
+      made = b.made;
     }
 
 -- ---- the value of a name

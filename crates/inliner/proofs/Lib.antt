@@ -8,3 +8,5 @@ pub mod PartLemmas
 pub mod CallLemmas
 pub mod StartLemmas
 pub mod EndLemmas
+pub mod NumberLemmas
+pub mod LoopLemmas

@@ -2,3 +2,4 @@
 pub mod Machines
 pub mod Starts
 pub mod Calls
+pub mod Numbers

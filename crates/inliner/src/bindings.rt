@@ -1,18 +1,19 @@
 // Environments: values are bound, and found by how far out they were.
 ghost use Rattle.revs_tape.specs.declared.limits.TheConstants.{MOST_INPUTS};
 ghost use Rattle.std.specs.Prelude.{◌≡◌, ◌+◌, ◌≤◌, length, IfOk, IfErr};
-ghost use Rattle.revs_terms.specs.Running.{value_at};
+ghost use Rattle.revs_terms.specs.Running.{bound, went, value_at};
 ghost use Rattle.revs_terms.specs.Terms.{place_of};
 ghost use Rattle.revs_terms.specs.Trees.{tree_of};
 ghost use Rattle.array_shapes.specs.Values.{seen};
 ghost use Rattle.inliner.specs.inside.Machines.{view_length, IsMachine, BindsOne, IsValue, env_of};
 ghost use Rattle.inliner.specs.inside.Machines.{value_of, state_of, farther};
 ghost use Rattle.inliner.specs.inside.Calls.{Says, bind_step};
+ghost use Rattle.inliner.specs.inside.Numbers.{number_in};
 
 use crate::RunFault;
 use crate::leaps::leap_from;
 use crate::machine::{Binding, Machine};
-use array_shapes::Value;
+use array_shapes::{Value, number};
 use revs_terms::Term;
 
 impl<'t> Machine<'t> {
@@ -31,6 +32,20 @@ impl<'t> Machine<'t> {
             (place_of (tree_of term.now)) (state_of self.old))) }
     {
         self.work(bound_length(&value), term.place())?;
+        self.push(env, value)
+    }
+
+    /// The environment with one more value. It counts no work.
+    pub fn push(&mut self, env: u32, value: Value<'t>) -> Result<u32, RunFault>
+        requires machine { IsMachine self.old }
+        requires room { length self.old.bindings.items + 1 ≤ MOST_INPUTS + self.old.work }
+        requires env { env ≤ length self.old.bindings.items }
+        requires made { IsValue (length self.old.bindings.items) value }
+        ensures ok { IfOk result (λ made. BindsOne self.old self.new
+            (went (bound (value_of self.old value.entry) (env_of self.old env)) (state_of self.old))
+            made) }
+        ensures err { IfErr result (λ fault. fault ≡ RunFault.Memory) }
+    {
         let leap = leap_from(&self.bindings, env);
         self.bindings.push(Binding {
             value,
@@ -71,6 +86,20 @@ impl<'t> Machine<'t> {
             return Ok(Value::Unit);
         }
         Ok(self.bindings[there as usize - 1].value.copy()?)
+    }
+
+    /// The number that a name has for its value, so many bindings back, and `None` where that is no
+    /// number. It takes no memory.
+    pub fn number_named(&self, env: u32, back: u32) -> Option<i32>
+        requires machine { IsMachine self.now }
+        requires env { env ≤ length self.now.bindings.items }
+        ensures { result ≡ number_in (value_at (env_of self.now env) back) }
+    {
+        let there = self.outward(env, back);
+        if there == 0 {
+            return None;
+        }
+        number(&self.bindings[there as usize - 1].value)
     }
 }
 

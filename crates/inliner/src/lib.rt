@@ -6,6 +6,7 @@ mod bindings;
 mod fault;
 mod leaps;
 mod machine;
+mod numbers;
 mod operators;
 mod program;
 mod registers;

@@ -40,7 +40,7 @@ pub struct Machine<'t> {
 }
 
 impl<'t> Machine<'t> {
-    ghost use Rattle.inliner.specs.inside.Machines.{IsMachine, Does, LeavesRoom, state_of};
+    ghost use Rattle.inliner.specs.inside.Machines.{IsMachine, Does, LeavesRoom, AddsWork, state_of};
 
     /// Where the machine takes its memory from.
     pub fn allocator(&self) -> Global {
@@ -77,6 +77,7 @@ impl<'t> Machine<'t> {
         requires { IsMachine self.old }
         ensures ok { OnOk result (Does self.old self.new
             (worked no_bits count at (state_of self.old)) tt) }
+        ensures added { OnOk result (AddsWork count self.old self.new) }
         ensures err { IfErr result (λ fault. Says fault
             (worked no_bits count at (state_of self.old))) }
         ensures exact { ¬ IsErrOf result RunFault.Memory }

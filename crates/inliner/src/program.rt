@@ -84,7 +84,9 @@ fn outputs<'t>(machine: &Machine<'t>, value: &Value<'t>, body: &Term) -> Result<
             }
             read(machine, locations, body)
         }
-        Value::Unit | Value::Fun { .. } => Err(RunFault::stuck(Cause::NoOutput, body.place())),
+        Value::Unit | Value::Fun { .. } | Value::Num(_) => {
+            Err(RunFault::stuck(Cause::NoOutput, body.place()))
+        }
     }
 }
 

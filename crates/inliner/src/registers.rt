@@ -3,19 +3,24 @@ ghost use Rattle.std.specs.Prelude.{◌≡◌, ◌≤◌, length, IfOk, IfErr, I
 ghost use Rattle.array_shapes.specs.Values.{register_of, seen};
 ghost use Rattle.revs_terms.specs.declared.limits.TheConstants.{MOST_PLACES};
 ghost use Rattle.revs_terms.specs.Running.{registered, short_register, part_of, parts_of, appended};
-ghost use Rattle.revs_terms.specs.Running.{rotated};
+ghost use Rattle.revs_terms.specs.Running as runs;
+ghost use Rattle.revs_terms.specs.Running.{rotated, element, turned};
 ghost use Rattle.revs_terms.specs.Runs.{no_bits};
 ghost use Rattle.revs_terms.specs.Terms.{place_of};
 ghost use Rattle.revs_terms.specs.Trees.{tree_of};
-ghost use Rattle.inliner.specs.inside.Machines.{IsMachine, Goes, IsValue, value_of, state_of};
+ghost use Rattle.inliner.specs.inside.Machines.{IsMachine, Goes, IsValue, env_of, value_of};
+ghost use Rattle.inliner.specs.inside.Machines.{state_of};
 ghost use Rattle.inliner.specs.inside.Calls.{Says, shape_fault};
+ghost use Rattle.inliner.specs.inside.Numbers.{Takes, slice_step, turn_step};
 
 use crate::RunFault;
 use crate::machine::Machine;
+use crate::numbers::as_index;
 use array_shapes::{ShapeFault, Value, append, index, register, rotate, slice};
 use revc_base::Place;
 use revs_terms::limits::MOST_PLACES;
-use revs_terms::{Cause, Part, Term};
+use revs_terms::{Cause, Num, Part, Term};
+use std::alloc::Global;
 use std::rc::Rc;
 
 impl<'t> Machine<'t> {
@@ -46,28 +51,39 @@ impl<'t> Machine<'t> {
         self.register(locations, at)
     }
 
-    /// A register, the value of an operand, with its places turned: those from the `i`-th on come
+    /// A register, the value of an operand, with its places turned: those from the `k`-th on come
     /// first.
     pub fn rotated(
         &mut self,
-        i: u32,
+        k: i32,
         operand: &Term,
         value: &Value<'t>,
         at: Place,
     ) -> Result<Value<'t>, RunFault>
         requires { IsMachine self.old }
         ensures ok { IfOk result (λ made. Goes self.old self.new
-            (rotated no_bits i (place_of (tree_of operand.now)) at (value_of self.old value.now)
+            (rotated no_bits k (place_of (tree_of operand.now)) at (value_of self.old value.now)
             (state_of self.old)) made) }
         ensures err { IfErr result (λ fault. Says fault
-            (rotated no_bits i (place_of (tree_of operand.now)) at (value_of self.old value.now)
+            (rotated no_bits k (place_of (tree_of operand.now)) at (value_of self.old value.now)
             (state_of self.old))) }
         ensures memory { IsErrOf result RunFault.Memory → IsSome (register_of (seen value.now)) }
     {
         let Some(places) = register(value) else {
             return Err(RunFault::stuck(Cause::NotRegister, operand.place()));
         };
-        match rotate(self.allocator(), i, places) {
+        self.turned(places, k, at)
+    }
+
+    // The places of a register from the `k`-th on, and then those before it.
+    fn turned(&mut self, places: &[u32], k: i32, at: Place) -> Result<Value<'t>, RunFault>
+        requires { IsMachine self.old }
+        ensures ok { IfOk result (λ made. Goes self.old self.new
+            (turn_step places.now k at (state_of self.old)) made) }
+        ensures err { IfErr result (λ fault. Says fault
+            (turn_step places.now k at (state_of self.old))) }
+    {
+        match places_turned(self.allocator(), places, k) {
             Ok(turned) => self.register(turned, at),
             Err(fault) => Err(shape_fault(fault, at)),
         }
@@ -107,85 +123,158 @@ impl<'t> Machine<'t> {
     /// The parts of a value, one after another. A slice counts its length at the whole term.
     pub fn parts(
         &mut self,
+        env: u32,
         whole: Place,
         parts: &[Part],
         value: Value<'t>,
     ) -> Result<Value<'t>, RunFault>
         requires machine { IsMachine self.old }
+        requires env { env ≤ length self.old.bindings.items }
         requires made { IsValue (length self.old.bindings.items) value }
         ensures ok { IfOk result (λ made. Goes self.old self.new
-            (parts_of no_bits whole parts.now (value_of self.old value.entry) (state_of self.old))
-            made) }
+            (parts_of no_bits (env_of self.old env) whole parts.now
+            (value_of self.old value.entry) (state_of self.old)) made) }
         ensures err { IfErr result (λ fault. Says fault
-            (parts_of no_bits whole parts.now (value_of self.old value.entry)
-            (state_of self.old))) }
+            (parts_of no_bits (env_of self.old env) whole parts.now
+            (value_of self.old value.entry) (state_of self.old))) }
     {
         let mut made = value;
         for part in parts {
-            made = self.part(whole, *part, &made)?;
+            made = self.part(env, whole, part, &made)?;
         }
         Ok(made)
     }
 
     // One part of a register.
-    fn part(&mut self, whole: Place, part: Part, value: &Value<'t>) -> Result<Value<'t>, RunFault>
-        requires { IsMachine self.old }
+    fn part(
+        &mut self,
+        env: u32,
+        whole: Place,
+        part: &Part,
+        value: &Value<'t>,
+    ) -> Result<Value<'t>, RunFault>
+        requires machine { IsMachine self.old }
+        requires env { env ≤ length self.old.bindings.items }
         ensures ok { IfOk result (λ made. Goes self.old self.new
-            (part_of no_bits whole part (value_of self.old value.now) (state_of self.old)) made) }
+            (part_of no_bits (env_of self.old env) whole part.now (value_of self.old value.now)
+            (state_of self.old)) made) }
         ensures err { IfErr result (λ fault. Says fault
-            (part_of no_bits whole part (value_of self.old value.now) (state_of self.old))) }
+            (part_of no_bits (env_of self.old env) whole part.now (value_of self.old value.now)
+            (state_of self.old))) }
     {
         match part {
-            Part::Index { i, at } => self.indexed(i, at, value),
-            Part::Slice { i, j, at } => self.sliced(whole, i, j, at, value),
+            Part::Index { i, at } => self.indexed(env, i, *at, value),
+            Part::Slice { i, j, at } => self.sliced(env, whole, i, j, *at, value),
         }
     }
 
     // The place of a register with a number.
-    fn indexed(&mut self, i: u32, at: Place, value: &Value<'t>) -> Result<Value<'t>, RunFault>
-        requires { IsMachine self.old }
+    fn indexed(
+        &mut self,
+        env: u32,
+        i: &Num,
+        at: Place,
+        value: &Value<'t>,
+    ) -> Result<Value<'t>, RunFault>
+        requires machine { IsMachine self.old }
+        requires env { env ≤ length self.old.bindings.items }
         ensures ok { IfOk result (λ made. Goes self.old self.new
-            (part_of no_bits at (Part.Index i at) (value_of self.old value.now) (state_of self.old))
-            made) }
+            (part_of no_bits (env_of self.old env) at (Part.Index i.now at)
+            (value_of self.old value.now) (state_of self.old)) made) }
         ensures err { IfErr result (λ fault. Says fault
-            (part_of no_bits at (Part.Index i at) (value_of self.old value.now)
-            (state_of self.old))) }
+            (part_of no_bits (env_of self.old env) at (Part.Index i.now at)
+            (value_of self.old value.now) (state_of self.old))) }
         ensures exact { ¬ IsErrOf result RunFault.Memory }
     {
         let Some(places) = register(value) else {
             return Err(RunFault::stuck(Cause::NotRegister, at));
         };
-        match index(places, i) {
+        let k = self.number(env, i)?;
+        match element(places, k) {
             Some(location) => Ok(Value::Bit(location)),
             None => Err(RunFault::stuck(Cause::Index, at)),
         }
     }
 
-    // The places of a register from the `i`-th to the `j`-th.
+    // The places of a register from one to another.
     fn sliced(
         &mut self,
+        env: u32,
         whole: Place,
-        i: u32,
-        j: u32,
+        i: &Num,
+        j: &Num,
         at: Place,
         value: &Value<'t>,
     ) -> Result<Value<'t>, RunFault>
-        requires { IsMachine self.old }
+        requires machine { IsMachine self.old }
+        requires env { env ≤ length self.old.bindings.items }
         ensures ok { IfOk result (λ made. Goes self.old self.new
-            (part_of no_bits whole (Part.Slice i j at) (value_of self.old value.now)
-            (state_of self.old)) made) }
+            (part_of no_bits (env_of self.old env) whole (Part.Slice i.now j.now at)
+            (value_of self.old value.now) (state_of self.old)) made) }
         ensures err { IfErr result (λ fault. Says fault
-            (part_of no_bits whole (Part.Slice i j at) (value_of self.old value.now)
-            (state_of self.old))) }
+            (part_of no_bits (env_of self.old env) whole (Part.Slice i.now j.now at)
+            (value_of self.old value.now) (state_of self.old))) }
         ensures memory { IsErrOf result RunFault.Memory → IsSome (register_of (seen value.now)) }
     {
         let Some(places) = register(value) else {
             return Err(RunFault::stuck(Cause::NotRegister, at));
         };
-        match slice(self.allocator(), places, i, j) {
+        let first = self.number(env, i)?;
+        let last = self.number(env, j)?;
+        self.between(places, first, last, at, whole)
+    }
+
+    // The places of a register from the `first`-th to the `last`-th.
+    fn between(
+        &mut self,
+        places: &[u32],
+        first: i32,
+        last: i32,
+        at: Place,
+        whole: Place,
+    ) -> Result<Value<'t>, RunFault>
+        requires { IsMachine self.old }
+        ensures ok { IfOk result (λ made. Goes self.old self.new
+            (slice_step places.now first last at whole (state_of self.old)) made) }
+        ensures err { IfErr result (λ fault. Says fault
+            (slice_step places.now first last at whole (state_of self.old))) }
+    {
+        match places_between(self.allocator(), places, first, last) {
             Ok(between) => self.register(between, whole),
             Err(fault) => Err(shape_fault(fault, at)),
         }
+    }
+}
+
+// The location in a place of a register.
+fn element(places: &[u32], k: i32) -> Option<u32>
+    ensures { result ≡ element places.now k }
+{
+    index(places, as_index(k)?)
+}
+
+// The places of a register from the `first`-th to the `last`-th.
+fn places_between(
+    alloc: Global,
+    places: &[u32],
+    first: i32,
+    last: i32,
+) -> Result<Vec<u32>, ShapeFault>
+    ensures { Takes ShapeFault.Slice (runs.places places.now first last) result }
+{
+    match (as_index(first), as_index(last)) {
+        (Some(i), Some(j)) => slice(alloc, places, i, j),
+        _ => Err(ShapeFault::Slice),
+    }
+}
+
+// The places of a register from the `k`-th on, and then those before it.
+fn places_turned(alloc: Global, places: &[u32], k: i32) -> Result<Vec<u32>, ShapeFault>
+    ensures { Takes ShapeFault.Rotate (turned places.now k) result }
+{
+    match as_index(k) {
+        Some(i) => rotate(alloc, i, places),
+        None => Err(ShapeFault::Rotate),
     }
 }
 

@@ -2,7 +2,7 @@
 ghost use Rattle.revs_tape.specs.declared.limits.TheConstants.{MOST_INPUTS};
 ghost use Rattle.std.specs.Prelude.{◌+◌, ◌≤◌, length, map, IfOk, OnOk, IfErr, IsErrOf};
 ghost use Rattle.revs_terms.specs.Running.{run_of, term_of, bit_of, bits_of, block_of, apply_to};
-ghost use Rattle.revs_terms.specs.Running.{claimed};
+ghost use Rattle.revs_terms.specs.Running.{claimed, items_run, turn_of, turns_of, turns};
 ghost use Rattle.revs_terms.specs.Runs.{no_bits};
 ghost use Rattle.revs_terms.specs.Terms.{place_of};
 ghost use Rattle.revs_terms.specs.Trees.{tree_of, item_tree_of, trees};
@@ -10,15 +10,17 @@ ghost use Rattle.inliner.specs.inside.Machines.{IsMachine, Does, Goes, Binds, Ca
 ghost use Rattle.inliner.specs.inside.Machines.{IsValue, env_of, value_of, state_of};
 ghost use Rattle.inliner.specs.inside.Calls.{Says, IsBitAt, NoBitAt, item_step, link_step};
 ghost use Rattle.inliner.specs.inside.Calls.{chain_tree, argument_step};
+ghost use Rattle.inliner.specs.inside.Numbers.{loop_run};
 ghost use Rattle.revs_terms.specs.Trees as shape;
 
 use crate::RunFault;
 use crate::machine::Machine;
+use crate::numbers::{number_at, turn_count};
 use crate::operators::Operator;
 use array_shapes::{Value, bit};
 use revc_base::Place;
 use revs_tape::Kind;
-use revs_terms::{Cause, Item, Part, Term};
+use revs_terms::{Cause, Item, Num, Part, Term};
 
 impl<'t> Machine<'t> {
     /// Runs a term in an environment, with so many levels of depth left.
@@ -66,7 +68,7 @@ impl<'t> Machine<'t> {
             Term::At(base, parts) => self.at(env, base, parts, left),
             Term::Apply(head, terms) => self.apply(env, head, terms, left),
             Term::Append(first, second, at) => self.append(env, first, second, *at, left),
-            Term::Rotate(i, operand, at) => self.rotation(env, *i, operand, *at, left),
+            Term::Rotate(by, operand, at) => self.rotation(env, by, operand, *at, left),
         }
     }
 
@@ -241,14 +243,30 @@ impl<'t> Machine<'t> {
             (block_of no_bits (run_of no_bits left) (env_of self.old env)
             (map item_tree_of items.now) (tree_of last.now) (state_of self.old))) }
     {
+        let inner = self.items(env, items, left)?;
+        self.run(inner, last, left)
+    }
+
+    // The items of a block or a `for` in order, to the environment behind them.
+    #[cycle(run)]
+    fn items(&mut self, env: u32, items: &'t [Item], left: u32) -> Result<u32, RunFault>
+        requires machine { IsMachine self.old }
+        requires env { env ≤ length self.old.bindings.items }
+        ensures ok { IfOk result (λ behind. Binds self.old self.new
+            (items_run no_bits (run_of no_bits left) (env_of self.old env)
+            (map item_tree_of items.now) (state_of self.old)) behind) }
+        ensures err { IfErr result (λ fault. Says fault
+            (items_run no_bits (run_of no_bits left) (env_of self.old env)
+            (map item_tree_of items.now) (state_of self.old))) }
+    {
         let mut inner = env;
         for item in items {
             inner = self.item(inner, item, left)?;
         }
-        self.run(inner, last, left)
+        Ok(inner)
     }
 
-    // An item of a block, to the environment behind it.
+    // An item of a block or a `for`, to the environment behind it.
     #[cycle(run)]
     fn item(&mut self, env: u32, item: &'t Item, left: u32) -> Result<u32, RunFault>
         requires machine { IsMachine self.old }
@@ -269,7 +287,96 @@ impl<'t> Machine<'t> {
                 self.run(env, term, left)?;
                 Ok(env)
             }
+            Item::For {
+                first,
+                last,
+                items,
+                at,
+                ..
+            } => {
+                self.repeat(env, first, last, items, *at, left)?;
+                Ok(env)
+            }
         }
+    }
+
+    // A `for`, with so many levels of depth left.
+    #[cycle(run)]
+    fn repeat(
+        &mut self,
+        env: u32,
+        first: &'t Num,
+        last: &'t Num,
+        items: &'t [Item],
+        at: Place,
+        left: u32,
+    ) -> Result<Value<'t>, RunFault>
+        requires machine { IsMachine self.old }
+        requires env { env ≤ length self.old.bindings.items }
+        ensures ok { IfOk result (λ value. Goes self.old self.new
+            (loop_run left (env_of self.old env) first.now last.now (map item_tree_of items.now) at
+            (state_of self.old)) value) }
+        ensures err { IfErr result (λ fault. Says fault
+            (loop_run left (env_of self.old env) first.now last.now (map item_tree_of items.now) at
+            (state_of self.old))) }
+    {
+        if left == 0 {
+            return Err(RunFault::stuck(Cause::Depth, at));
+        }
+        self.work(1, at)?;
+        let low = self.number(env, first)?;
+        let high = self.number(env, last)?;
+        self.turns(env, items, at, low, high, left - 1)
+    }
+
+    // The items of a `for` at this place, once for each number from the first to the last.
+    #[cycle(run)]
+    fn turns(
+        &mut self,
+        env: u32,
+        items: &'t [Item],
+        at: Place,
+        low: i32,
+        high: i32,
+        left: u32,
+    ) -> Result<Value<'t>, RunFault>
+        requires machine { IsMachine self.old }
+        requires env { env ≤ length self.old.bindings.items }
+        ensures ok { IfOk result (λ value. Goes self.old self.new
+            (turns_of no_bits (run_of no_bits left) (env_of self.old env)
+            (map item_tree_of items.now) at low (turns low high) (state_of self.old)) value) }
+        ensures err { IfErr result (λ fault. Says fault
+            (turns_of no_bits (run_of no_bits left) (env_of self.old env)
+            (map item_tree_of items.now) at low (turns low high) (state_of self.old))) }
+    {
+        for turn in 0..turn_count(low, high) {
+            self.turn(env, items, at, number_at(low, turn), left)?;
+        }
+        Ok(Value::Unit)
+    }
+
+    // The items of a `for` at this place, with its name bound to a number.
+    #[cycle(run)]
+    fn turn(
+        &mut self,
+        env: u32,
+        items: &'t [Item],
+        at: Place,
+        number: i32,
+        left: u32,
+    ) -> Result<u32, RunFault>
+        requires machine { IsMachine self.old }
+        requires env { env ≤ length self.old.bindings.items }
+        ensures ok { IfOk result (λ behind. Binds self.old self.new
+            (turn_of no_bits (run_of no_bits left) (env_of self.old env)
+            (map item_tree_of items.now) at number (state_of self.old)) behind) }
+        ensures err { IfErr result (λ fault. Says fault
+            (turn_of no_bits (run_of no_bits left) (env_of self.old env)
+            (map item_tree_of items.now) at number (state_of self.old))) }
+    {
+        self.work(1, at)?;
+        let inner = self.push(env, Value::Num(number))?;
+        self.items(inner, items, left)
     }
 
     // The parts of a register.
@@ -291,14 +398,14 @@ impl<'t> Machine<'t> {
             (shape.parts (tree_of base.now) inside.now) (state_of self.old))) }
     {
         let value = self.run(env, base, left)?;
-        self.parts(base.place(), inside, value)
+        self.parts(env, base.place(), inside, value)
     }
 
     #[cycle(run)]
     fn rotation(
         &mut self,
         env: u32,
-        i: u32,
+        by: &'t Num,
         operand: &'t Term,
         at: Place,
         left: u32,
@@ -307,13 +414,14 @@ impl<'t> Machine<'t> {
         requires env { env ≤ length self.old.bindings.items }
         ensures ok { IfOk result (λ value. Goes self.old self.new
             (term_of no_bits (run_of no_bits left) (env_of self.old env)
-            (shape.rotate i (tree_of operand.now) at) (state_of self.old)) value) }
+            (shape.rotate by.now (tree_of operand.now) at) (state_of self.old)) value) }
         ensures err { IfErr result (λ fault. Says fault
             (term_of no_bits (run_of no_bits left) (env_of self.old env)
-            (shape.rotate i (tree_of operand.now) at) (state_of self.old))) }
+            (shape.rotate by.now (tree_of operand.now) at) (state_of self.old))) }
     {
+        let k = self.number(env, by)?;
         let value = self.run(env, operand, left)?;
-        self.rotated(i, operand, &value, at)
+        self.rotated(k, operand, &value, at)
     }
 
     #[cycle(run)]

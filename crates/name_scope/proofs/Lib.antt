@@ -1,6 +1,7 @@
 pub mod VerdictLemmas
 pub mod ScopeLemmas
 pub mod LoopLemmas
+pub mod InOrderLemmas
 pub mod NearerLemmas
 pub mod KeepsLemmas
 pub mod TableLemmas

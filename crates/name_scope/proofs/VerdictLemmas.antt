@@ -4,11 +4,12 @@ use Rattle.std.proofs.Math.Seq.{drop-cons}
 use Rattle.std.proofs.lemmas.List.{take-append-drop}
 use Rattle.revc_base.specs.declared.place.Place.{Place}
 use Rattle.revs_terms.specs.declared.term.Name.{Name}
-use Rattle.revs_terms.specs.Trees.{Tree, Trees, ItemTree, ItemTrees, nil, cons, no_items, item, bind, run, trees, item_trees, used, block, function}
-use Rattle.revs_terms.specs.Scopes.{Scoped, unbound, scoped, and_then, scoped_tree, scoped_trees, scoped_items}
+use Rattle.revs_terms.specs.declared.term.Step.{Step}
+use Rattle.revs_terms.specs.Trees.{Tree, Trees, ItemTree, ItemTrees, nil, cons, no_items, item, bind, run, trees, item_trees, used, block, function, loop}
+use Rattle.revs_terms.specs.Scopes.{Scoped, unbound, scoped, and_then, scoped_tree, scoped_trees, scoped_items, scoped_num}
 use Rattle.name_scope.specs.declared.binding.ScopeFault.{ScopeFault}
 use Rattle.name_scope.specs.declared.binding.ScopeFault.TheVariants as fault
-use Rattle.name_scope.specs.inside.Verdicts.{IsUnbound, Binds, BindsIn, in_turn, with_last, with_names}
+use Rattle.name_scope.specs.inside.Verdicts.{IsUnbound, Binds, BindsIn, in_turn, with_last, with_names, alone}
 
 -- ---- one step
 
@@ -27,6 +28,14 @@ name_binds (Ok done) v name s e = (rw e refl, refl)
 name_binds (Err (fault.Unbound at)) v name s e = rw e refl
 name_binds (Err (fault.TwoParams at)) v name s e = e
 name_binds (Err fault.Memory) v name s e = tt
+
+-- a second part that leaves the names in scope alone
+pub same_binds : {A B : Type 0} (r : Result (Unit {0}) ScopeFault) (v : Scoped A) (w : Scoped B) (a : A) (b : B) (s m : List (List ℕ)) → v ≡ scoped a
+    → m ≡ s → Binds r w b → BindsIn r (in_turn v w) (a, b) s m
+same_binds (Ok done) v w a b s m e f h = (rw e (rw h refl), f)
+same_binds (Err (fault.Unbound at)) v w a b s m e f h = rw e (rw h refl)
+same_binds (Err (fault.TwoParams at)) v w a b s m e f h = h
+same_binds (Err fault.Memory) v w a b s m e f h = tt
 
 -- a second part, among the same names
 pub second_binds : {A B : Type 0} (r : Result (Unit {0}) ScopeFault) (v : Scoped A) (w : Scoped B) (a : A) (b : B) (s n : List (List ℕ)) → v ≡ scoped a
@@ -64,6 +73,14 @@ of_last : (v : Scoped (ItemTrees × List (List ℕ))) (last : Tree) (at : Place)
 of_last (unbound from) last at = refl
 of_last (scoped q) last at = onward (scoped_tree q.1 last) (λ l. (q.0, l)) (λ p. block p.0 p.1 at)
 
+of_loop : {A B C D : Type 0} (f : A → B → C → D) (v : Scoped A) (w : Scoped B) (x : Scoped (C × List (List ℕ)))
+    → and_then v (λ a. and_then w (λ b. and_then x (λ r. scoped (f a b r.0)))) ≡ and_then (in_turn (in_turn v w) (and_then x (λ r. scoped r.0)))
+    (λ p. scoped (f p.0.0 p.0.1 p.1))
+of_loop f (unbound at) w x = refl
+of_loop f (scoped a) (unbound at) x = refl
+of_loop f (scoped a) (scoped b) (unbound at) = refl
+of_loop f (scoped a) (scoped b) (scoped c) = refl
+
 -- two parts of a term, and the term
 pub both_bind : {A B C : Type 0} (f : A → B → C) (r : Result (Unit {0}) ScopeFault) (v : Scoped A) (w : Scoped B) (a : A) (b : B) (s n : List (List ℕ))
     → BindsIn r (in_turn v w) (a, b) s n → BindsIn r (and_then v (λ c. and_then w (λ d. scoped (f c d)))) (f a b) s n
@@ -75,6 +92,20 @@ pub block_binds : (r : Result (Unit {0}) ScopeFault) (v : Scoped (ItemTrees × L
     → BindsIn r (and_then v (λ r. and_then (scoped_tree r.1 last) (λ l. scoped (block r.0 l at)))) (block items l at) s n
 block_binds r v last items l at s n h =
     rw (of_last v last at) (part_binds {A = ItemTrees × Tree} {C = Tree} (λ p. block p.0 p.1 at) r (with_last v last) (items, l) s n h)
+
+-- the numbers and the items of a `for`, and the `for` as an item
+pub loop_binds : (r : Result (Unit {0}) ScopeFault) (s n : List (List ℕ)) (name : Name) (a b c d : List Step) (is js : ItemTrees) (at : Place)
+    → BindsIn r (in_turn (in_turn (scoped_num s a) (scoped_num s b)) (alone (scoped_items (name.text ∷ s) is))) ((c, d), js) s n
+    → Binds r (scoped_items s (item (run (loop name a b is at)) no_items)) (item (run (loop name c d js at)) no_items, n)
+loop_binds r s n name a b c d is js at h =
+    let v = scoped_num s a in
+    let w = scoped_num s b in
+    let x = scoped_items (name.text ∷ s) is in
+    let whole : BindsIn r (scoped_tree s (loop name a b is at)) (loop name c d js at) s n =
+    rw (of_loop (λ k l ks. loop name k l ks at) v w x)
+    (part_binds {A = (List Step × List Step) × ItemTrees} {C = Tree} (λ p. loop name p.0.0 p.0.1 p.1 at) r (in_turn (in_turn v w) (alone x))
+    ((c, d), js) s n h) in
+    run_binds r (loop name a b is at) (loop name c d js at) s n whole
 
 -- the body of a function, and the function
 pub function_binds : (r : Result (Unit {0}) ScopeFault) (v : Scoped Tree) (old new : List Name) (body : Tree) (at : Place) (s n : List (List ℕ))
@@ -88,6 +119,15 @@ pub first_is_unbound : {A C : Type 0} (next : A → Scoped C) (f : ScopeFault) (
 first_is_unbound next (fault.Unbound at) v e = rw e refl
 first_is_unbound next (fault.TwoParams at) v e = e
 first_is_unbound next fault.Memory v e = tt
+
+-- the items of a `for`, behind its numbers
+pub items_refused : {A : Type 0} (f : ScopeFault) (v : Scoped A) (a : A) (s m : List (List ℕ)) (name : List ℕ) (is : ItemTrees) → v ≡ scoped a → m ≡ name ∷ s
+    → IsUnbound f (scoped_items m is) → IsUnbound f (in_turn v (alone (scoped_items (name ∷ s) is)))
+items_refused f v a s m name is e b h = rw e (first_is_unbound _ f _ (first_is_unbound _ f (scoped_items (name ∷ s) is) (rw b at h)))
+
+pub items_bound : {A : Type 0} (v : Scoped A) (a : A) (s m n : List (List ℕ)) (name : List ℕ) (is js : ItemTrees) → v ≡ scoped a → m ≡ name ∷ s
+    → scoped_items m is ≡ scoped (js, n) → in_turn v (alone (scoped_items (name ∷ s) is)) ≡ scoped (a, js)
+items_bound v a s m n name is js e b h = rw e (rw (← b) (rw h refl))
 
 -- a call that passes on a refusal
 pub passed_on : {A : Type 0} (r : Result (Unit {0}) ScopeFault) (f : ScopeFault) (v : Scoped A) (a : A) → IsErrAnd r (λ e. e ≡ f) → IsUnbound f v

@@ -39,8 +39,8 @@ impl From<Memory> for ScopeFault {
 /// between the use and its own binding. All else stays as it is.
 ///
 /// A parameter is bound in the whole body, a function's names in its body, the last one nearest,
-/// and the name of a `let` in the later items and in the last expression of its block. A nearer
-/// binding hides a farther one.
+/// the name of a `let` in the later items of its block or `for` and in the last expression of its
+/// block, and the name of a `for` in its items. A nearer binding hides a farther one.
 ///
 /// # Errors
 ///

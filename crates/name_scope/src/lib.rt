@@ -3,6 +3,7 @@
 
 mod binding;
 mod names;
+mod numbers;
 mod program;
 mod terms;
 

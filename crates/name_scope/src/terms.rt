@@ -1,16 +1,19 @@
 // The names of parameters and terms are bound.
-ghost use Rattle.std.specs.Prelude.{◌≡◌, ◌<◌, ◌+◌, ◌^◌, length, map, OnOk, IsErrOf};
-ghost use Rattle.revs_terms.specs.Scopes.{bound_name, nearer, second_of, scoped_tree, scoped_trees};
-ghost use Rattle.revs_terms.specs.Scopes.{scoped_items};
+ghost use Rattle.std.specs.Prelude.{◌≡◌, ◌<◌, ◌+◌, ◌^◌, ◌∷◌, length, map, OnOk};
+ghost use Rattle.revs_terms.specs.Scopes.{nearer, second_of, scoped_tree, scoped_trees};
+ghost use Rattle.revs_terms.specs.Scopes.{scoped_items, scoped_num, scoped_parts};
 ghost use Rattle.revs_terms.specs.Terms.{names_of, names_of_all, names_of_item, names_of_items};
+ghost use Rattle.revs_terms.specs.Terms.{names_of_num, names_of_parts};
 ghost use Rattle.revs_terms.specs.Trees.{tree_of, trees, item_tree_of, item_trees, no_items};
 ghost use Rattle.revs_terms.specs.Trees as shape;
 ghost use Rattle.name_scope.specs.inside.Verdicts.{Binds, BindsIn, Differ};
-ghost use Rattle.name_scope.specs.inside.Verdicts.{in_turn, with_last, with_names};
+ghost use Rattle.name_scope.specs.inside.Verdicts.{in_turn, with_last, with_names, alone};
 
 use crate::ScopeFault;
 use crate::names::Names;
-use revs_terms::{Item, Lambda, Name, Param, Term};
+use crate::numbers::{bind_ends, bind_name, bind_num, bind_parts};
+use revc_base::Text;
+use revs_terms::{Item, Lambda, Num, Param, Part, Term};
 
 /// Binds the names of parameters, each nearer than those before it.
 pub fn bind_params(names: &mut Names, params: &[Param]) -> Result<(), ScopeFault>
@@ -23,19 +26,6 @@ pub fn bind_params(names: &mut Names, params: &[Param]) -> Result<(), ScopeFault
         }
         names.bind(&param.name.text)?;
     }
-    Ok(())
-}
-
-/// Binds a used name among those in scope. It takes no memory.
-fn bind_name(names: &Names, name: &mut Name) -> Result<(), ScopeFault>
-    requires { length names.now < 2 ^ 32 }
-    ensures binds { Binds result (bound_name names.now name.old) name.new }
-    ensures exact { ¬ IsErrOf result ScopeFault.Memory }
-{
-    let Some(back) = names.back(&name.text) else {
-        return Err(ScopeFault::Unbound(name.at));
-    };
-    name.back = back as u32;
     Ok(())
 }
 
@@ -53,10 +43,10 @@ pub fn bind_term(names: &mut Names, term: &mut Term) -> Result<(), ScopeFault>
         Term::Reg(elements, _) => bind_terms(names, elements),
         Term::Block(items, last, _) => bind_block(names, items, last),
         Term::Fun(function, _) => bind_function(names, function),
-        Term::At(inner, _) => bind_term(names, inner),
+        Term::At(base, parts) => bind_with_parts(names, base, parts),
         Term::Apply(head, arguments) => bind_application(names, head, arguments),
         Term::Append(first, second, _) => bind_both(names, first, second),
-        Term::Rotate(_, operand, _) => bind_term(names, operand),
+        Term::Rotate(by, operand, _) => bind_rotation(names, by, operand),
         Term::Clean(operand, _) => bind_term(names, operand),
         Term::Assert(operand, _) => bind_term(names, operand),
         Term::And(operands) => bind_terms(names, operands),
@@ -77,6 +67,32 @@ fn bind_both(names: &mut Names, first: &mut Term, second: &mut Term) -> Result<(
 {
     bind_term(names, first)?;
     bind_term(names, second)
+}
+
+/// Binds the names of a term and of its parts among those in scope.
+#[cycle(bind)]
+fn bind_with_parts(names: &mut Names, base: &mut Term, parts: &mut [Part]) -> Result<(), ScopeFault>
+    requires { length names.old + (names_of (tree_of base.old) + names_of_parts parts.old)
+        < 2 ^ 32 }
+    ensures { BindsIn result
+        (in_turn (scoped_tree names.old (tree_of base.old)) (scoped_parts names.old parts.old))
+        (tree_of base.new, parts.new) names.old names.new }
+{
+    bind_term(names, base)?;
+    bind_parts(names, parts)
+}
+
+/// Binds the names of a rotation's number and of its operand among those in scope.
+#[cycle(bind)]
+fn bind_rotation(names: &mut Names, by: &mut Num, operand: &mut Term) -> Result<(), ScopeFault>
+    requires { length names.old + (names_of_num by.old + names_of (tree_of operand.old))
+        < 2 ^ 32 }
+    ensures { BindsIn result
+        (in_turn (scoped_num names.old by.old) (scoped_tree names.old (tree_of operand.old)))
+        (by.new, tree_of operand.new) names.old names.new }
+{
+    bind_num(names, by)?;
+    bind_term(names, operand)
 }
 
 /// Binds the names of a function and of its arguments among those in scope.
@@ -144,7 +160,33 @@ fn bind_terms(names: &mut Names, terms: &mut [Term]) -> Result<(), ScopeFault>
     Ok(())
 }
 
-/// Binds the names of a block's items, one after another. The names that they bind stay in scope.
+/// Binds the names of a `for`: those of its numbers, and those of its items with its own name in
+/// scope. It lets its name and those that its items bind go out of scope.
+#[cycle(bind)]
+fn bind_loop(
+    names: &mut Names,
+    name: &Text,
+    first: &mut Num,
+    last: &mut Num,
+    items: &mut [Item],
+) -> Result<(), ScopeFault>
+    requires { length names.old + (names_of_num first.old + names_of_num last.old
+        + names_of_items (item_trees (map item_tree_of items.old)) + 1) < 2 ^ 32 }
+    ensures { BindsIn result
+        (in_turn (in_turn (scoped_num names.old first.old) (scoped_num names.old last.old))
+        (alone (scoped_items (name.now ∷ names.old) (item_trees (map item_tree_of items.old)))))
+        ((first.new, last.new), item_trees (map item_tree_of items.new)) names.old names.new }
+{
+    let depth = names.depth();
+    bind_ends(names, first, last)?;
+    names.bind(name)?;
+    bind_items(names, items)?;
+    names.leave(depth);
+    Ok(())
+}
+
+/// Binds the names of the items of a block or a `for`, one after another. The names that they bind
+/// stay in scope.
 #[cycle(bind)]
 fn bind_items(names: &mut Names, items: &mut [Item]) -> Result<(), ScopeFault>
     requires { length names.old + names_of_items
@@ -174,5 +216,12 @@ fn bind_item(names: &mut Names, item: &mut Item) -> Result<(), ScopeFault>
             Ok(())
         }
         Item::Do(term) => bind_term(names, term),
+        Item::For {
+            name,
+            first,
+            last,
+            items,
+            ..
+        } => bind_loop(names, &name.text, first, last, items),
     }
 }

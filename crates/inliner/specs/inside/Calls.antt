@@ -10,7 +10,7 @@ use Rattle.revs_terms.specs.declared.program.Param.{Param}
 use Rattle.revs_terms.specs.Trees.{Tree, ItemTree, bind, run, ands, xors, trees}
 use Rattle.revs_terms.specs.Terms.{place_of}
 use Rattle.revs_terms.specs.Running.{Value, Environment, bound, bound_length, Stamped, State, Outcome, stuck}
-use Rattle.revs_terms.specs.Running.{went, Step, done, ◌>>=◌, read, written, worked, bit_of, apply_to}
+use Rattle.revs_terms.specs.Running.{went, RunStep, done, ◌>>=◌, read, written, worked, bit_of, apply_to}
 use Rattle.revs_terms.specs.Runs.{no_bits, run_without_bits, tape_of}
 use Rattle.array_shapes.specs.declared.shapes.ShapeFault.{ShapeFault}
 use Rattle.array_shapes.specs.declared.shapes.ShapeFault.TheVariants as shapes
@@ -26,7 +26,7 @@ use Rattle.inliner.specs.declared.operators.Operator.TheVariants as operators
 
 -- a step of the run without bits
 abbrev pub Blind : Type 0 → Type 0
-Blind A = Step (Unit {0}) A
+Blind A = RunStep (Unit {0}) A
 
 -- an outcome of the run without bits
 abbrev pub Going : Type 0 → Type 0
@@ -63,7 +63,7 @@ bind_step value env at = do
   _ ← worked no_bits (bound_length value) at
   done (bound value env)
 
--- an item of a block, to the environment behind it
+-- an item of a block or a `for`, to the environment behind it
 abbrev pub item_step : Deeper → Environment → ItemTree → Blind Environment
 item_step deeper env (bind name t) = do
   value ← deeper env t

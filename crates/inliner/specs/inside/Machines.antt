@@ -27,6 +27,7 @@ abbrev pub spec_value : List Environment → ValueView → runs.Value
 spec_value envs values.unit = runs.unit
 spec_value envs (values.bit location) = runs.bit location
 spec_value envs (values.register locations) = runs.register locations
+spec_value envs (values.number k) = runs.number k
 spec_value envs (values.function env taken of) = runs.closure (drop taken of.names.items)
     (tree_of of.body) (env_in envs env)
 
@@ -156,6 +157,10 @@ pub record Grows (old now : Machine) : Type 0 where
 abbrev pub AreWorkedFor : ℕ → Machine → Machine → Type 0
 AreWorkedFor ahead old now = length now.bindings.items + old.work ≤ length old.bindings.items +
     now.work + ahead
+
+-- So many units of work were added, and no bindings.
+abbrev pub AddsWork : ℕ → Machine → Machine → Type 0
+AddsWork count old now = length now.bindings.items + old.work + count ≤ length old.bindings.items + now.work
 
 -- More units of work were added than bindings.
 abbrev pub LeavesRoom : Machine → Machine → Type 0

@@ -32,6 +32,10 @@ in_turn first second = and_then first (λ a. and_then second (λ b. scoped (a, b
 abbrev pub with_last : Scoped (ItemTrees × List (List ℕ)) → Tree → Scoped (ItemTrees × Tree)
 with_last items last = and_then items (λ r. and_then (scoped_tree r.1 last) (λ l. scoped (r.0, l)))
 
+-- the items of a `for`, without what is in scope behind them
+abbrev pub alone : Scoped (ItemTrees × List (List ℕ)) → Scoped ItemTrees
+alone items = and_then items (λ r. scoped r.0)
+
 -- the names of a function, and its body
 abbrev pub with_names : List Name → Scoped Tree → Scoped (List Name × Tree)
 with_names names body = and_then body (λ b. scoped (names, b))

@@ -1,5 +1,6 @@
 use Rattle.std.proofs.Common.{◌∙◌, rules, map, refl}
 use Rattle.std.proofs.lemmas.List.{with_items_is, places}
+use Rattle.revs_terms.specs.declared.term.Item.TheVariants as items
 use Rattle.revs_terms.specs.declared.term.Term.TheVariants as terms
 use Rattle.revs_terms.specs.declared.term.Term.{the_lemmas}
 use Rattle.revs_terms.proofs.term.Term.TheLaws.{the_size}
@@ -10,12 +11,12 @@ use Rattle.revs_terms.specs.Trees.{reg, parts, apply, append, rotate, clean, ass
 use Rattle.revs_terms.specs.Scopes.{scoped_items}
 use Rattle.revs_terms.proofs.ShapeLemmas.{tree_of-Reg, tree_of-Block, tree_of-Fun, tree_of-At, tree_of-Apply, tree_of-Append, tree_of-Rotate, tree_of-Clean}
 use Rattle.revs_terms.proofs.ShapeLemmas.{tree_of-Assert, tree_of-And, tree_of-Xor, tree_of-Assign}
-use Rattle.revs_terms.proofs.ShapeLemmas.{tree_of-Name, tree_of-Bool, item_tree_of-Let, item_tree_of-Do}
-use Rattle.name_scope.proofs.VerdictLemmas.{part_binds, name_binds, second_binds, both_bind, block_binds, function_binds, let_binds, run_binds}
-use Rattle.name_scope.proofs.VerdictLemmas.{first_is_unbound, passed_on, refused_in}
-use Rattle.name_scope.proofs.ScopeLemmas.{items_stand, names_stand, left_at_depth, depth_below}
-use Rattle.name_scope.proofs.ScopeLemmas.{first_fits, second_fits, behind_fits, element_fits, within, itself}
-use Rattle.name_scope.proofs.ScopeLemmas.{first_falls, second_falls, first_list_falls, second_list_falls, element_falls}
+use Rattle.revs_terms.proofs.ShapeLemmas.{tree_of-Name, tree_of-Bool, item_tree_of-Let, item_tree_of-Do, item_tree_of-For}
+use Rattle.name_scope.proofs.VerdictLemmas.{part_binds, name_binds, same_binds, second_binds, both_bind, block_binds, function_binds, loop_binds, let_binds, run_binds}
+use Rattle.name_scope.proofs.VerdictLemmas.{first_is_unbound, items_refused, items_bound, passed_on, refused_in}
+use Rattle.name_scope.proofs.ScopeLemmas.{items_stand, names_stand, inside_stands, left_at_depth, depth_below}
+use Rattle.name_scope.proofs.ScopeLemmas.{front_fits, first_fits, second_fits, behind_fits, inside_fits, element_fits, within, itself}
+use Rattle.name_scope.proofs.ScopeLemmas.{first_falls, second_falls, first_list_falls, second_list_falls, inner_falls, list_falls, element_falls}
 use Rattle.name_scope.proofs.LoopLemmas.{term_fits, terms_go_on, terms_stop, item_fits, items_go_on, items_end, unreached}
 use Rattle.name_scope.specs.declared.binding.ScopeFault.TheVariants as fault
 use Rattle.name_scope.proofs.terms.+bind.Goals as goal
@@ -74,11 +75,13 @@ pub bind_term-returns-in-At : goal.bind_term-returns-in-At
 bind_term-returns-in-At t c =
     rw (
       c.in-At.is,
-      terms.outs-At c.in-At.inner c.in-At.field-1,
-      tree_of-At c.in-At.inner c.in-At.field-1,
-      tree_of-At (with_value c.in-At.inner c.bind_term.new.term) c.in-At.field-1,
+      terms.outs-At c.in-At.base c.in-At.parts,
+      tree_of-At c.in-At.base c.in-At.parts,
+      tree_of-At (with_value c.in-At.base c.bind_with_parts.new.base) (with_items c.in-At.parts c.bind_with_parts.new.parts),
+      with_items_is c.in-At.parts c.bind_with_parts.new.parts (search (rules, places)),
     )
-    (part_binds (λ u. parts u c.in-At.field-1.items) c.bind_term.result _ _ _ _ (rw (c.deref_mut-in-At.ensures.value, c.in-At.inner-is) at c.bind_term.ensures))
+    (both_bind parts c.bind_with_parts.result _ _ _ _ _ _
+    (rw (c.deref_mut-in-At.ensures.value, c.in-At.base-is, c.deref_mut-in-At-2.ensures.value, c.in-At.parts-is) at c.bind_with_parts.ensures))
 
 pub bind_term-returns-in-Apply : goal.bind_term-returns-in-Apply
 bind_term-returns-in-Apply t c =
@@ -107,12 +110,12 @@ pub bind_term-returns-in-Rotate : goal.bind_term-returns-in-Rotate
 bind_term-returns-in-Rotate t c =
     rw (
       c.in-Rotate.is,
-      terms.outs-Rotate c.in-Rotate.field-0 c.in-Rotate.operand c.in-Rotate.field-2,
-      tree_of-Rotate c.in-Rotate.field-0 c.in-Rotate.operand c.in-Rotate.field-2,
-      tree_of-Rotate c.in-Rotate.field-0 (with_value c.in-Rotate.operand c.bind_term-in-Rotate.new.term) c.in-Rotate.field-2,
+      terms.outs-Rotate c.in-Rotate.by c.in-Rotate.operand c.in-Rotate.field-2,
+      tree_of-Rotate c.in-Rotate.by c.in-Rotate.operand c.in-Rotate.field-2,
+      tree_of-Rotate c.bind_rotation.new.by (with_value c.in-Rotate.operand c.bind_rotation.new.operand) c.in-Rotate.field-2,
     )
-    (part_binds (λ u. rotate c.in-Rotate.field-0 u c.in-Rotate.field-2) c.bind_term-in-Rotate.result _ _ _ _
-    (rw (c.deref_mut-in-Rotate.ensures.value, c.in-Rotate.operand-is) at c.bind_term-in-Rotate.ensures))
+    (both_bind (λ k v. rotate k v c.in-Rotate.field-2) c.bind_rotation.result _ _ _ _ _ _
+    (rw (c.in-Rotate.by-is, c.deref_mut-in-Rotate.ensures.value, c.in-Rotate.operand-is) at c.bind_rotation.ensures))
 
 pub bind_term-returns-in-Clean : goal.bind_term-returns-in-Clean
 bind_term-returns-in-Clean t c =
@@ -120,10 +123,10 @@ bind_term-returns-in-Clean t c =
       c.in-Clean.is,
       terms.outs-Clean c.in-Clean.operand c.in-Clean.field-1,
       tree_of-Clean c.in-Clean.operand c.in-Clean.field-1,
-      tree_of-Clean (with_value c.in-Clean.operand c.bind_term-in-Clean.new.term) c.in-Clean.field-1,
+      tree_of-Clean (with_value c.in-Clean.operand c.bind_term.new.term) c.in-Clean.field-1,
     )
-    (part_binds (λ u. clean u c.in-Clean.field-1) c.bind_term-in-Clean.result _ _ _ _
-    (rw (c.deref_mut-in-Clean.ensures.value, c.in-Clean.operand-is) at c.bind_term-in-Clean.ensures))
+    (part_binds (λ u. clean u c.in-Clean.field-1) c.bind_term.result _ _ _ _
+    (rw (c.deref_mut-in-Clean.ensures.value, c.in-Clean.operand-is) at c.bind_term.ensures))
 
 pub bind_term-returns-in-Assert : goal.bind_term-returns-in-Assert
 bind_term-returns-in-Assert t c =
@@ -201,6 +204,74 @@ bind_application-returns-in_err-bind_term t c =
 
 pub bind_application-returns : goal.bind_application-returns
 bind_application-returns t c = let a = c.in_ok-bind_term.ensures {u = tt} in second_binds c.bind_terms.result _ _ _ _ _ _ a.0 (rw a.1 at c.bind_terms.ensures)
+
+pub bind_with_parts-bind_term-requires : goal.bind_with_parts-bind_term-requires
+bind_with_parts-bind_term-requires t c = (inner_falls _ _ c.decreases, first_fits _ _ _ _ c.requires)
+
+pub bind_with_parts-bind_parts-requires : goal.bind_with_parts-bind_parts-requires
+bind_with_parts-bind_parts-requires t c =
+    let a = c.in_ok-bind_term.ensures {u = tt} in
+    rw a.1 (front_fits _ _ _ c.requires)
+
+pub bind_with_parts-returns-in_err-bind_term : goal.bind_with_parts-returns-in_err-bind_term
+bind_with_parts-returns-in_err-bind_term t c =
+    refused_in c.from_residual.result _ _ _ _ _ c.from_residual.ensures.1 (first_is_unbound _ _ _ (c.in_err-bind_term.ensures {u = tt}))
+
+pub bind_with_parts-returns : goal.bind_with_parts-returns
+bind_with_parts-returns t c =
+    let a = c.in_ok-bind_term.ensures {u = tt} in
+    same_binds c.bind_parts.result _ _ _ _ _ _ a.0 a.1 (rw a.1 at c.bind_parts.ensures)
+
+pub bind_rotation-bind_num-requires : goal.bind_rotation-bind_num-requires
+bind_rotation-bind_num-requires t c = front_fits _ _ _ c.requires
+
+pub bind_rotation-bind_term-requires : goal.bind_rotation-bind_term-requires
+bind_rotation-bind_term-requires t c = (inner_falls _ _ c.decreases, second_fits _ _ _ _ _ refl c.requires)
+
+pub bind_rotation-returns-in_err-bind_num : goal.bind_rotation-returns-in_err-bind_num
+bind_rotation-returns-in_err-bind_num t c =
+    refused_in c.from_residual.result _ _ _ _ _ c.from_residual.ensures.1 (first_is_unbound _ _ _ (c.in_err-bind_num.ensures {u = tt}))
+
+pub bind_rotation-returns : goal.bind_rotation-returns
+bind_rotation-returns t c = second_binds c.bind_term.result _ _ _ _ _ _ (c.in_ok-bind_num.ensures {u = tt}) c.bind_term.ensures
+
+-- ---- loops
+
+pub bind_loop-bind_ends-requires : goal.bind_loop-bind_ends-requires
+bind_loop-bind_ends-requires t c = front_fits _ _ _ c.requires
+
+pub bind_loop-bind_items-requires : goal.bind_loop-bind_items-requires
+bind_loop-bind_items-requires t c =
+    let b = c.in_ok-bind.ensures {u = tt} in
+    (list_falls _ _ c.decreases, inside_fits _ _ _ _ _ _ _ b c.requires)
+
+pub bind_loop-leave-requires : goal.bind_loop-leave-requires
+bind_loop-leave-requires t c =
+    let b = c.in_ok-bind.ensures {u = tt} in
+    let s = items_stand (item_trees (map item_tree_of c.args.items.now)) _ _ _ (c.in_ok-bind_items.ensures {u = tt}) in
+    depth_below _ _ _ _ _ (inside_stands _ _ _ _ _ b s) refl c.depth-depth.ensures
+
+pub bind_loop-returns-in_err-bind_ends : goal.bind_loop-returns-in_err-bind_ends
+bind_loop-returns-in_err-bind_ends t c =
+    refused_in c.from_residual.result _ _ _ _ _ c.from_residual.ensures.1 (first_is_unbound _ _ _ (c.in_err-bind_ends.ensures {u = tt}))
+
+pub bind_loop-returns-in_err-bind : goal.bind_loop-returns-in_err-bind
+bind_loop-returns-in_err-bind t c = refused_in c.from_residual-in_err-bind.result fault.Memory _ _ _ _ c.from_residual-in_err-bind.ensures.1 tt
+
+pub bind_loop-returns-in_err-bind_items : goal.bind_loop-returns-in_err-bind_items
+bind_loop-returns-in_err-bind_items t c =
+    refused_in c.from_residual-in_err-bind_items.result _ _ _ _ _ c.from_residual-in_err-bind_items.ensures.1
+    (items_refused _ _ _ _ _ _ (item_trees (map item_tree_of c.args.items.now)) (c.in_ok-bind_ends.ensures {u = tt})
+    (c.in_ok-bind.ensures {u = tt}) (c.in_err-bind_items.ensures {u = tt}))
+
+pub bind_loop-returns : goal.bind_loop-returns
+bind_loop-returns t c =
+    let b = c.in_ok-bind.ensures {u = tt} in
+    let i = c.in_ok-bind_items.ensures {u = tt} in
+    let s = items_stand (item_trees (map item_tree_of c.args.items.now)) _ _ _ i in (
+      items_bound _ _ _ _ _ _ (item_trees (map item_tree_of c.args.items.now)) _ (c.in_ok-bind_ends.ensures {u = tt}) b i,
+      c.leave.ensures ∙ left_at_depth _ _ _ _ _ (inside_stands _ _ _ _ _ b s) refl c.depth-depth.ensures,
+    )
 
 -- ---- blocks
 
@@ -325,8 +396,9 @@ bind_items-loop-i-preserved t c =
 
 pub bind_item-returns-in_err-bind_term-in-Let : goal.bind_item-returns-in_err-bind_term-in-Let
 bind_item-returns-in_err-bind_term-in-Let t c =
-    rw c.in-Let.is (rw (item_tree_of-Let c.in-Let.name c.in-Let.value)
-    (passed_on c.from_residual.result _ _ _ c.from_residual.ensures.1 (first_is_unbound _ _ _ (c.in_err-bind_term-in-Let.ensures {u = tt}))))
+    rw (c.in-Let.is, item_tree_of-Let c.in-Let.name c.in-Let.value)
+    (passed_on c.from_residual.result _ _ _ c.from_residual.ensures.1
+    (first_is_unbound _ _ _ (rw c.in-Let.value-is at (c.in_err-bind_term-in-Let.ensures {u = tt}))))
 
 pub bind_item-returns-in_err-bind-in-Let : goal.bind_item-returns-in_err-bind-in-Let
 bind_item-returns-in_err-bind-in-Let t c =
@@ -334,12 +406,36 @@ bind_item-returns-in_err-bind-in-Let t c =
 
 pub bind_item-returns-in_ok-bind-in-Let : goal.bind_item-returns-in_ok-bind-in-Let
 bind_item-returns-in_ok-bind-in-Let t c =
-    let b = c.in_ok-bind_term-in-Let.ensures {u = tt} in
-    rw c.in-Let.is (rw (item_tree_of-Let c.in-Let.name c.in-Let.value) (rw (item_tree_of-Let c.in-Let.name c.bind_term.new.term)
-    (let_binds (tree_of c.in-Let.value) (tree_of c.bind_term.new.term) c.in-Let.name _ _ _ b.0 b.1 (c.in_ok-bind-in-Let.ensures {u = tt}))))
+    let b = rw c.in-Let.value-is at (c.in_ok-bind_term-in-Let.ensures {u = tt}) in
+    rw (
+      c.in-Let.is,
+      items.outs-Let c.in-Let.name c.in-Let.value,
+      item_tree_of-Let c.in-Let.name c.in-Let.value,
+      item_tree_of-Let c.in-Let.name c.bind_term.new.term,
+    )
+    (let_binds (tree_of c.in-Let.value) (tree_of c.bind_term.new.term) c.in-Let.name _ _ _ b.0 b.1
+    (rw c.in-Let.name-is at (c.in_ok-bind-in-Let.ensures {u = tt})))
 
 pub bind_item-returns-in-Do : goal.bind_item-returns-in-Do
 bind_item-returns-in-Do t c =
-    rw c.in-Do.is (rw (item_tree_of-Do c.in-Do.term) (rw (item_tree_of-Do c.bind_term-in-Do.new.term)
+    rw (
+      c.in-Do.is,
+      items.outs-Do c.in-Do.term,
+      item_tree_of-Do c.in-Do.term,
+      item_tree_of-Do c.bind_term-in-Do.new.term,
+    )
     (run_binds c.bind_term-in-Do.result (tree_of c.in-Do.term) (tree_of c.bind_term-in-Do.new.term) c.args.names.now c.bind_term-in-Do.new.names
-    c.bind_term-in-Do.ensures)))
+    (rw c.in-Do.term-is at c.bind_term-in-Do.ensures))
+
+pub bind_item-returns-in-For : goal.bind_item-returns-in-For
+bind_item-returns-in-For t c =
+    rw (
+      c.in-For.is,
+      items.outs-For c.in-For.name c.in-For.first c.in-For.last c.in-For.items c.in-For.at,
+      item_tree_of-For c.in-For.name c.in-For.first c.in-For.last c.in-For.items c.in-For.at,
+      item_tree_of-For c.in-For.name c.bind_loop.new.first c.bind_loop.new.last (with_items c.in-For.items c.bind_loop.new.items) c.in-For.at,
+      with_items_is c.in-For.items c.bind_loop.new.items (search (rules, places)),
+    )
+    (loop_binds c.bind_loop.result c.args.names.now c.bind_loop.new.names c.in-For.name c.in-For.first c.in-For.last c.bind_loop.new.first
+    c.bind_loop.new.last (item_trees (map item_tree_of c.in-For.items.items)) (item_trees (map item_tree_of c.bind_loop.new.items)) c.in-For.at
+    (rw (c.in-For.name-is, c.in-For.first-is, c.in-For.last-is, c.deref_mut.ensures.value, c.in-For.items-is) at c.bind_loop.ensures))

@@ -7,7 +7,7 @@ use Rattle.revs_terms.specs.Scopes.{scoped, scoped_trees, scoped_items}
 use Rattle.revs_terms.specs.Trees.{tree_of, trees, item_tree_of, item_trees}
 use Rattle.name_scope.proofs.terms.+bind.Given as goal
 
--- A function that takes two parts of a term stands between the term and its parts.
+-- A function that takes parts of a term or an item stands between it and its parts.
 abbrev pub decreases-bind_term : goal.decreases-bind_term
 decreases-bind_term l = 3 * the_size l.term.now
 
@@ -25,6 +25,15 @@ decreases-bind_function l = 3 * functions.the_size l.function.now
 
 abbrev pub decreases-bind_both : goal.decreases-bind_both
 decreases-bind_both l = 3 * max (the_size l.first.now) (the_size l.second.now) + 2
+
+abbrev pub decreases-bind_with_parts : goal.decreases-bind_with_parts
+decreases-bind_with_parts l = 3 * the_size l.base.now + 1
+
+abbrev pub decreases-bind_rotation : goal.decreases-bind_rotation
+decreases-bind_rotation l = 3 * the_size l.operand.now + 1
+
+abbrev pub decreases-bind_loop : goal.decreases-bind_loop
+decreases-bind_loop l = 3 * most items.the_size l.items.now + 2
 
 abbrev pub decreases-bind_application : goal.decreases-bind_application
 decreases-bind_application l = 3 * max (the_size l.head.now) (most the_size l.arguments.now) + 2

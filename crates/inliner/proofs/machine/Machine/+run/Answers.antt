@@ -4,10 +4,11 @@ use Rattle.revs_terms.specs.Trees.{ItemTree, tree_of, item_tree_of}
 use Rattle.revs_terms.specs.Running as runs
 use Rattle.revs_terms.specs.Running.{run_of, term_of, apply_to, claim_on, closure, rotated, went, Outcome}
 use Rattle.revs_terms.proofs.ShapeLemmas.{tree_of-Bool, tree_of-Reg, tree_of-Clean, tree_of-Assert, tree_of-And, tree_of-Xor, tree_of-Assign}
-use Rattle.revs_terms.proofs.ShapeLemmas.{tree_of-At, tree_of-Apply, tree_of-Append, tree_of-Rotate, tree_of-Block, item_tree_of-Let, item_tree_of-Do}
+use Rattle.revs_terms.proofs.ShapeLemmas.{tree_of-At, tree_of-Apply, tree_of-Append, tree_of-Rotate, tree_of-Block, item_tree_of-Let, item_tree_of-Do, item_tree_of-For}
 use Rattle.array_shapes.specs.declared.value.Value.{Value}
 use Rattle.revs_terms.specs.Runs.{no_bits}
 use Rattle.inliner.specs.inside.Machines.{envs_of, env_in, value_in, state_of, Goes, Binds, Calls}
+use Rattle.std.proofs.lemmas.Int.{to_z-of_z}
 use Rattle.std.proofs.lemmas.Result.{IfOk-weaker, IfErr-weaker}
 use Rattle.inliner.proofs.EnvironmentLemmas.{grown_within, grown_made}
 use Rattle.inliner.proofs.FaultLemmas.{said_first}
@@ -15,9 +16,11 @@ use Rattle.revc_base.proofs.ResultLemmas.{no_value, no_promise, passes_on}
 use Rattle.inliner.proofs.ProgressLemmas.{on_ok_alone, begun, step, ends, ends_goes, ends_calls, said, goes_in, says_in}
 use Rattle.inliner.proofs.ChainLemmas.{entered, assigns_from, assigns_stuck, reg_made, reg_stuck, bits_begun, bits_more}
 use Rattle.inliner.proofs.ChainLemmas.{bits_stuck, bits_done, chain_begun, chain_more, chain_no_first, chain_stuck, chain_done}
-use Rattle.inliner.proofs.CallLemmas.{mapped_at, mapped_end, block_more, block_stuck, at_begun, append_second, append_stuck, apply_begun, apply_more}
-use Rattle.inliner.proofs.CallLemmas.{apply_done, block_last, value_behind, bit_ends, bit_stuck, enter_stuck, item_stuck}
+use Rattle.inliner.proofs.CallLemmas.{mapped_at, mapped_end, items_more, items_stuck, items_done, at_begun, rotation_run, rotation_stuck, append_second, append_stuck, apply_begun, apply_more}
+use Rattle.inliner.proofs.CallLemmas.{apply_done, block_last, bit_ends, bit_stuck, enter_stuck, item_stuck}
 use Rattle.inliner.proofs.CallLemmas.{apply_stuck, argument_run, call_stuck, call_last, call_next, call_ends, call_said, item_bound, item_run, block_term}
+use Rattle.inliner.proofs.LoopLemmas.{item_loop, item_loop_stuck, loop_begun, loop_no_work, loop_no_first, loop_no_last, turns_begun, turns_more}
+use Rattle.inliner.proofs.LoopLemmas.{turns_stuck, turns_done, turn_bound, memory_says, ends_binds}
 use Rattle.inliner.specs.inside.Calls.{Says, item_step, join_step}
 use Rattle.inliner.proofs.machine.Machine.+run.Goals as goal
 
@@ -172,27 +175,32 @@ argument-returns-clause-err t c = IfErr-weaker c.call.result _ _
 pub at-returns-clause-ok : goal.at-returns-clause-ok
 at-returns-clause-ok t c = IfOk-weaker c.parts.result _ _
     (λ v g. ends_goes (at_begun c.args.self.now c.run.new.self c.args.left c.args.env
-    (tree_of c.args.base.now) c.args.inside.now c.in_ok-value.value c.place.result c.place.ensures c.requires.machine c.in_ok-value.ensures.ok) g)
+    (tree_of c.args.base.now) c.args.inside.now c.in_ok-value.value c.place.result c.place.ensures c.requires.machine c.requires.env
+    c.in_ok-value.ensures.ok) g)
     c.parts.ensures.ok
 
 pub at-returns-clause-err : goal.at-returns-clause-err
 at-returns-clause-err t c = IfErr-weaker c.parts.result _ _
     (λ f s. said f (at_begun c.args.self.now c.run.new.self c.args.left c.args.env
-    (tree_of c.args.base.now) c.args.inside.now c.in_ok-value.value c.place.result c.place.ensures c.requires.machine c.in_ok-value.ensures.ok) s)
+    (tree_of c.args.base.now) c.args.inside.now c.in_ok-value.value c.place.result c.place.ensures c.requires.machine c.requires.env
+    c.in_ok-value.ensures.ok) s)
     c.parts.ensures.err
 
-pub block-returns-in_err-inner-clause-err : goal.block-returns-in_err-inner-clause-err
-block-returns-in_err-inner-clause-err t c = passes_on _ c.from_residual.result c.from_residual.ensures.1
-    (block_stuck c.args.self.now c.loop-item.self c.args.left c.loop-item.inner (item_tree_of c.item-item.result) _ _
-    (tree_of c.args.last.now) _ c.in_err-inner.field-0.0
+pub items-returns-in_err-inner-clause-err : goal.items-returns-in_err-inner-clause-err
+items-returns-in_err-inner-clause-err t c = passes_on _ c.from_residual.result c.from_residual.ensures.1
+    (items_stuck c.args.self.now c.loop-item.self c.args.left c.loop-item.inner (item_tree_of c.item-item.result) _ _ _ c.in_err-inner.field-0.0
     (mapped_at item_tree_of c.args.items.now c.loop-item.item-index c.item-item.result (omega arith) c.item-item.is) c.loop-item.invariant
     c.in_err-inner.ensures.err)
 
-pub block-loop-item-preserved : goal.block-loop-item-preserved
-block-loop-item-preserved t c = block_more c.args.self.now c.loop-item.self c.item.new.self c.args.left c.loop-item.inner c.in_ok-inner.inner
-    (item_tree_of c.item-item.result) _ _ (tree_of c.args.last.now) _
+pub items-loop-item-preserved : goal.items-loop-item-preserved
+items-loop-item-preserved t c = items_more c.args.self.now c.loop-item.self c.item.new.self c.args.left c.loop-item.inner c.in_ok-inner.inner
+    (item_tree_of c.item-item.result) _ _ _
     (mapped_at item_tree_of c.args.items.now c.loop-item.item-index c.item-item.result (omega arith) c.item-item.is) c.loop-item.invariant
     c.in_ok-inner.ensures.ok
+
+pub items-returns-clause-ok : goal.items-returns-clause-ok
+items-returns-clause-ok t c = items_done c.args.self.now c.loop-item.self c.args.left c.loop-item.inner _ _
+    (mapped_end item_tree_of c.args.items.now c.loop-item.item-index (omega arith)) c.loop-item.invariant
 
 pub call-returns-in_err-inner-clause-err : goal.call-returns-in_err-inner-clause-err
 call-returns-in_err-inner-clause-err t c = passes_on _ c.from_residual.result c.from_residual.ensures.1
@@ -357,11 +365,11 @@ term-returns-in-Append-clause-err t c =
 
 pub term-returns-in-Rotate-clause-ok : goal.term-returns-in-Rotate-clause-ok
 term-returns-in-Rotate-clause-ok t c =
-    rw (c.in-Rotate.is, tree_of-Rotate c.in-Rotate.i c.in-Rotate.operand c.in-Rotate.at, ← c.deref-in-Rotate.ensures) c.rotation.ensures.ok
+    rw (c.in-Rotate.is, tree_of-Rotate c.in-Rotate.by c.in-Rotate.operand c.in-Rotate.at, ← c.deref-in-Rotate.ensures) c.rotation.ensures.ok
 
 pub term-returns-in-Rotate-clause-err : goal.term-returns-in-Rotate-clause-err
 term-returns-in-Rotate-clause-err t c =
-    rw (c.in-Rotate.is, tree_of-Rotate c.in-Rotate.i c.in-Rotate.operand c.in-Rotate.at, ← c.deref-in-Rotate.ensures) c.rotation.ensures.err
+    rw (c.in-Rotate.is, tree_of-Rotate c.in-Rotate.by c.in-Rotate.operand c.in-Rotate.at, ← c.deref-in-Rotate.ensures) c.rotation.ensures.err
 
 -- ---- where a part fails
 
@@ -401,6 +409,13 @@ bits-returns-in_err-push-clause-ok t c = no_value c.from_residual-in_err-push.re
 pub block-returns-in_err-inner-clause-ok : goal.block-returns-in_err-inner-clause-ok
 block-returns-in_err-inner-clause-ok t c = no_value c.from_residual.result _ _ c.from_residual.ensures.1
 
+pub block-returns-in_err-inner-clause-err : goal.block-returns-in_err-inner-clause-err
+block-returns-in_err-inner-clause-err t c = passes_on _ c.from_residual.result c.from_residual.ensures.1
+    (said_first c.in_err-inner.field-0.0 _ _ c.in_err-inner.ensures.err)
+
+pub items-returns-in_err-inner-clause-ok : goal.items-returns-in_err-inner-clause-ok
+items-returns-in_err-inner-clause-ok t c = no_value c.from_residual.result _ _ c.from_residual.ensures.1
+
 pub call-returns-in_err-inner-clause-ok : goal.call-returns-in_err-inner-clause-ok
 call-returns-in_err-inner-clause-ok t c = no_value c.from_residual.result _ _ c.from_residual.ensures.1
 
@@ -423,7 +438,10 @@ pub reg-returns-in_err-locations-clause-ok : goal.reg-returns-in_err-locations-c
 reg-returns-in_err-locations-clause-ok t c = no_value c.from_residual.result _ _ c.from_residual.ensures.1
 
 pub rotation-returns-in_err-value-clause-ok : goal.rotation-returns-in_err-value-clause-ok
-rotation-returns-in_err-value-clause-ok t c = no_value c.from_residual.result _ _ c.from_residual.ensures.1
+rotation-returns-in_err-value-clause-ok t c = no_value c.from_residual-in_err-value.result _ _ c.from_residual-in_err-value.ensures.1
+
+pub rotation-returns-in_err-k-clause-ok : goal.rotation-returns-in_err-k-clause-ok
+rotation-returns-in_err-k-clause-ok t c = no_value c.from_residual.result _ _ c.from_residual.ensures.1
 
 pub run-returns-in_err-enter-clause-ok : goal.run-returns-in_err-enter-clause-ok
 run-returns-in_err-enter-clause-ok t c = no_value c.from_residual.result _ _ c.from_residual.ensures.1
@@ -460,9 +478,9 @@ pub link-returns-in_err-next-clause-err : goal.link-returns-in_err-next-clause-e
 link-returns-in_err-next-clause-err t c = passes_on _ c.from_residual.result c.from_residual.ensures.1
     (said_first c.in_err-next.field-0.0 _ _ c.in_err-next.ensures.err)
 
-pub rotation-returns-in_err-value-clause-err : goal.rotation-returns-in_err-value-clause-err
-rotation-returns-in_err-value-clause-err t c = passes_on _ c.from_residual.result c.from_residual.ensures.1
-    (said_first c.in_err-value.field-0.0 _ _ c.in_err-value.ensures.err)
+pub rotation-returns-in_err-k-clause-err : goal.rotation-returns-in_err-k-clause-err
+rotation-returns-in_err-k-clause-err t c = passes_on _ c.from_residual.result c.from_residual.ensures.1
+    (said_first c.in_err-k.field-0.0 _ _ c.in_err-k.ensures.err)
 
 pub chain-returns-in_err-so_far-clause-err : goal.chain-returns-in_err-so_far-clause-err
 chain-returns-in_err-so_far-clause-err t c = passes_on _ c.from_residual.result c.from_residual.ensures.1
@@ -494,25 +512,30 @@ link-returns-clause-err t c = IfErr-weaker c.join.result _ _
 
 pub rotation-returns-clause-ok : goal.rotation-returns-clause-ok
 rotation-returns-clause-ok t c = IfOk-weaker c.rotated.result _ _
-    (λ v g. ends_goes (value_behind c.args.self.now c.run.new.self c.args.left c.args.env (tree_of c.args.operand.now) c.in_ok-value.value
-    (λ x s. rotated no_bits c.args.i (place_of (tree_of c.args.operand.now)) c.args.at x s) c.requires.machine c.in_ok-value.ensures.ok) g)
-    c.rotated.ensures.ok
+    (λ v g. ends_goes (rotation_run c.args.self.now c.number.new.self c.run.new.self c.args.left c.args.env c.args.by.now (tree_of c.args.operand.now)
+    c.args.at c.in_ok-k.k c.in_ok-value.value c.requires.machine c.requires.env c.in_ok-k.ensures.ok c.in_ok-value.ensures.ok) g)
+    (simp (to_z-of_z, c.in_ok-k.ensures.fits) at c.rotated.ensures.ok)
 
 pub rotation-returns-clause-err : goal.rotation-returns-clause-err
 rotation-returns-clause-err t c = IfErr-weaker c.rotated.result _ _
-    (λ f s. said f (value_behind c.args.self.now c.run.new.self c.args.left c.args.env (tree_of c.args.operand.now) c.in_ok-value.value
-    (λ x s. rotated no_bits c.args.i (place_of (tree_of c.args.operand.now)) c.args.at x s) c.requires.machine c.in_ok-value.ensures.ok) s)
-    c.rotated.ensures.err
+    (λ f s. said f (rotation_run c.args.self.now c.number.new.self c.run.new.self c.args.left c.args.env c.args.by.now (tree_of c.args.operand.now)
+    c.args.at c.in_ok-k.k c.in_ok-value.value c.requires.machine c.requires.env c.in_ok-k.ensures.ok c.in_ok-value.ensures.ok) s)
+    (simp (to_z-of_z, c.in_ok-k.ensures.fits) at c.rotated.ensures.err)
+
+pub rotation-returns-in_err-value-clause-err : goal.rotation-returns-in_err-value-clause-err
+rotation-returns-in_err-value-clause-err t c = passes_on _ c.from_residual-in_err-value.result c.from_residual-in_err-value.ensures.1
+    (rotation_stuck c.args.self.now c.number.new.self c.args.left c.args.env c.args.by.now (tree_of c.args.operand.now) c.args.at c.in_ok-k.k
+    c.in_err-value.field-0.0 c.requires.machine c.requires.env c.in_ok-k.ensures.ok c.in_err-value.ensures.err)
 
 pub block-returns-clause-ok : goal.block-returns-clause-ok
 block-returns-clause-ok t c = IfOk-weaker c.run.result _ _
-    (λ v g. ends_goes (block_last c.args.self.now c.loop-item.self c.args.left c.loop-item.inner _ (tree_of c.args.last.now) _
-    (mapped_end item_tree_of c.args.items.now c.loop-item.item-index (omega arith)) c.loop-item.invariant) g) c.run.ensures.ok
+    (λ v g. ends_goes (block_last c.args.self.now c.items.new.self c.args.left c.args.env c.in_ok-inner.inner (map item_tree_of c.args.items.now)
+    (tree_of c.args.last.now) c.requires.machine c.in_ok-inner.ensures.ok) g) c.run.ensures.ok
 
 pub block-returns-clause-err : goal.block-returns-clause-err
 block-returns-clause-err t c = IfErr-weaker c.run.result _ _
-    (λ f s. said f (block_last c.args.self.now c.loop-item.self c.args.left c.loop-item.inner _ (tree_of c.args.last.now) _
-    (mapped_end item_tree_of c.args.items.now c.loop-item.item-index (omega arith)) c.loop-item.invariant) s) c.run.ensures.err
+    (λ f s. said f (block_last c.args.self.now c.items.new.self c.args.left c.args.env c.in_ok-inner.inner (map item_tree_of c.args.items.now)
+    (tree_of c.args.last.now) c.requires.machine c.in_ok-inner.ensures.ok) s) c.run.ensures.err
 
 pub apply-returns-clause-ok : goal.apply-returns-clause-ok
 apply-returns-clause-ok t c = apply_done c.args.self.now c.loop-term.self c.args.left (env_in (envs_of c.args.self.now) c.args.env) _ c.loop-term.value _
@@ -557,7 +580,7 @@ pub reg-bits-requires : goal.reg-bits-requires
 reg-bits-requires t c = (omega arith, (c.requires.machine, c.requires.env))
 
 pub rotation-run-requires : goal.rotation-run-requires
-rotation-run-requires t c = (omega arith, (c.requires.machine, c.requires.env))
+rotation-run-requires t c = (omega arith, (c.in_ok-k.ensures.ok.kept, grown_within c.in_ok-k.ensures.ok.grows c.requires.env))
 
 pub term-reg-requires : goal.term-reg-requires
 term-reg-requires t c = (omega arith, (c.requires.machine, c.requires.env))
@@ -607,11 +630,14 @@ chain-link-requires t c = (omega arith, (c.loop-term.invariant.kept, grown_withi
 pub run-term-requires : goal.run-term-requires
 run-term-requires t c = (omega arith, (c.in_ok-enter.ensures.ok.kept, grown_within c.in_ok-enter.ensures.ok.grows c.requires.env))
 
-pub block-item-requires : goal.block-item-requires
-block-item-requires t c = (omega arith, (c.loop-item.invariant.through.kept, c.loop-item.invariant.made))
+pub block-items-requires : goal.block-items-requires
+block-items-requires t c = (omega arith, (c.requires.machine, c.requires.env))
+
+pub items-item-requires : goal.items-item-requires
+items-item-requires t c = (omega arith, (c.loop-item.invariant.through.kept, c.loop-item.invariant.made))
 
 pub block-run-requires : goal.block-run-requires
-block-run-requires t c = (omega arith, (c.loop-item.invariant.through.kept, c.loop-item.invariant.made))
+block-run-requires t c = (omega arith, (c.in_ok-inner.ensures.ok.does.kept, c.in_ok-inner.ensures.ok.made))
 
 pub call-run-requires : goal.call-run-requires
 call-run-requires t c = (omega arith, (c.in_ok-inner.ensures.ok.kept, c.in_ok-inner.ensures.ok.made))
@@ -740,3 +766,140 @@ argument-call-requires t c =
 
 pub item-bind-requires-clause-room : goal.item-bind-requires-clause-room
 item-bind-requires-clause-room t c = omega (arith, c.in_ok-bound-in-Let.ensures.room, c.requires.machine.room)
+
+-- ---- loops
+
+pub item-repeat-requires : goal.item-repeat-requires
+item-repeat-requires t c = (omega arith, (c.requires.machine, c.requires.env))
+
+pub item-returns-in_ok-repeat-in-For-clause-ok : goal.item-returns-in_ok-repeat-in-For-clause-ok
+item-returns-in_ok-repeat-in-For-clause-ok t c = subst
+    (λ (i : ItemTree). Binds c.args.self.now c.repeat.new.self
+    (item_step (run_of no_bits c.args.left) (env_in (envs_of c.args.self.now) c.args.env) i (state_of c.args.self.now)) c.args.env)
+    (sym (ap item_tree_of c.in-For.is ∙ item_tree_of-For c.in-For.name c.in-For.first c.in-For.last c.in-For.items c.in-For.at))
+    (item_loop c.args.self.now c.repeat.new.self c.args.left c.args.env c.in-For.name c.in-For.first c.in-For.last
+    (map item_tree_of c.in-For.items.items) _ c.in-For.at c.in_ok-repeat-in-For.field-0 (ap (map item_tree_of) c.deref.ensures.value) c.requires.machine
+    c.requires.env c.in_ok-repeat-in-For.ensures.ok)
+
+pub item-returns-in_err-repeat-in-For-clause-err : goal.item-returns-in_err-repeat-in-For-clause-err
+item-returns-in_err-repeat-in-For-clause-err t c = passes_on _ c.from_residual-in_err-repeat-in-For.result c.from_residual-in_err-repeat-in-For.ensures.1
+    (subst (λ (i : ItemTree). Says c.in_err-repeat-in-For.field-0.0
+    (item_step (run_of no_bits c.args.left) (env_in (envs_of c.args.self.now) c.args.env) i (state_of c.args.self.now)))
+    (sym (ap item_tree_of c.in-For.is ∙ item_tree_of-For c.in-For.name c.in-For.first c.in-For.last c.in-For.items c.in-For.at))
+    (item_loop_stuck c.args.left (env_in (envs_of c.args.self.now) c.args.env) c.in-For.name c.in-For.first c.in-For.last
+    (map item_tree_of c.in-For.items.items) _ c.in-For.at (state_of c.args.self.now) c.in_err-repeat-in-For.field-0.0
+    (ap (map item_tree_of) c.deref.ensures.value) c.in_err-repeat-in-For.ensures.err))
+
+pub item-returns-in_err-repeat-in-For-clause-ok : goal.item-returns-in_err-repeat-in-For-clause-ok
+item-returns-in_err-repeat-in-For-clause-ok t c = no_value c.from_residual-in_err-repeat-in-For.result _ _ c.from_residual-in_err-repeat-in-For.ensures.1
+
+pub repeat-turns-requires : goal.repeat-turns-requires
+repeat-turns-requires t c = (
+  omega arith,
+  (
+    c.in_ok-high.ensures.ok.kept,
+    grown_within c.in_ok-high.ensures.ok.grows (grown_within c.in_ok-low.ensures.ok.grows
+        (grown_within c.in_ok-work.ensures.ok.grows c.requires.env)),
+  ),
+)
+
+pub repeat-returns-clause-ok : goal.repeat-returns-clause-ok
+repeat-returns-clause-ok t c = IfOk-weaker c.turns.result _ _
+    (λ v g. ends_goes (loop_begun c.args.self.now c.work.new.self c.number.new.self c.number-2.new.self c.args.left c.args.env c.args.first.now
+    c.args.last.now (map item_tree_of c.args.items.now) c.args.at c.in_ok-low.low c.in_ok-high.high c.requires.machine (omega arith) c.requires.env
+    c.in_ok-work.ensures.ok c.in_ok-low.ensures.ok c.in_ok-high.ensures.ok) g)
+    (simp (to_z-of_z, c.in_ok-low.ensures.fits, c.in_ok-high.ensures.fits) at c.turns.ensures.ok)
+
+pub repeat-returns-clause-err : goal.repeat-returns-clause-err
+repeat-returns-clause-err t c = IfErr-weaker c.turns.result _ _
+    (λ f s. said f (loop_begun c.args.self.now c.work.new.self c.number.new.self c.number-2.new.self c.args.left c.args.env c.args.first.now
+    c.args.last.now (map item_tree_of c.args.items.now) c.args.at c.in_ok-low.low c.in_ok-high.high c.requires.machine (omega arith) c.requires.env
+    c.in_ok-work.ensures.ok c.in_ok-low.ensures.ok c.in_ok-high.ensures.ok) s)
+    (simp (to_z-of_z, c.in_ok-low.ensures.fits, c.in_ok-high.ensures.fits) at c.turns.ensures.err)
+
+pub repeat-returns-in_err-work-clause-err : goal.repeat-returns-in_err-work-clause-err
+repeat-returns-in_err-work-clause-err t c = passes_on _ c.from_residual.result c.from_residual.ensures.1
+    (loop_no_work c.args.left (env_in (envs_of c.args.self.now) c.args.env) c.args.first.now c.args.last.now (map item_tree_of c.args.items.now) c.args.at
+    (state_of c.args.self.now) c.in_err-work.field-0.0 (omega arith) c.in_err-work.ensures.err)
+
+pub repeat-returns-in_err-low-clause-err : goal.repeat-returns-in_err-low-clause-err
+repeat-returns-in_err-low-clause-err t c = passes_on _ c.from_residual-in_err-low.result c.from_residual-in_err-low.ensures.1
+    (loop_no_first c.args.self.now c.work.new.self c.args.left c.args.env c.args.first.now c.args.last.now (map item_tree_of c.args.items.now) c.args.at
+    c.in_err-low.field-0.0 c.requires.machine (omega arith) c.requires.env c.in_ok-work.ensures.ok c.in_err-low.ensures.err)
+
+pub repeat-returns-in_err-high-clause-err : goal.repeat-returns-in_err-high-clause-err
+repeat-returns-in_err-high-clause-err t c = passes_on _ c.from_residual-in_err-high.result c.from_residual-in_err-high.ensures.1
+    (loop_no_last c.args.self.now c.work.new.self c.number.new.self c.args.left c.args.env c.args.first.now c.args.last.now
+    (map item_tree_of c.args.items.now) c.args.at c.in_ok-low.low c.in_err-high.field-0.0 c.requires.machine (omega arith) c.requires.env
+    c.in_ok-work.ensures.ok c.in_ok-low.ensures.ok c.in_err-high.ensures.err)
+
+pub repeat-returns-in_err-work-clause-ok : goal.repeat-returns-in_err-work-clause-ok
+repeat-returns-in_err-work-clause-ok t c = no_value c.from_residual.result _ _ c.from_residual.ensures.1
+
+pub repeat-returns-in_err-low-clause-ok : goal.repeat-returns-in_err-low-clause-ok
+repeat-returns-in_err-low-clause-ok t c = no_value c.from_residual-in_err-low.result _ _ c.from_residual-in_err-low.ensures.1
+
+pub repeat-returns-in_err-high-clause-ok : goal.repeat-returns-in_err-high-clause-ok
+repeat-returns-in_err-high-clause-ok t c = no_value c.from_residual-in_err-high.result _ _ c.from_residual-in_err-high.ensures.1
+
+pub turns-loop-turn-init : goal.turns-loop-turn-init
+turns-loop-turn-init t c = turns_begun c.args.self.now c.args.left (env_in (envs_of c.args.self.now) c.args.env) (map item_tree_of c.args.items.now)
+    c.args.at _ _ c.requires.machine
+
+pub turns-turn-requires : goal.turns-turn-requires
+turns-turn-requires t c = (omega arith, (c.loop-turn.invariant.kept, grown_within c.loop-turn.invariant.grows c.requires.env))
+
+pub turns-loop-turn-preserved : goal.turns-loop-turn-preserved
+turns-loop-turn-preserved t c = turns_more c.args.self.now c.loop-turn.self c.turn.new.self c.args.left c.args.env c.in_ok-turn.field-0
+    (map item_tree_of c.args.items.now) c.args.at _ c.number_at.result _ c.loop-turn.turn _ c.requires.env
+    (omega (arith, c.loop-turn-test.true, c.turn_count-turn-end.ensures)) c.number_at.ensures.is c.loop-turn.invariant
+    (simp (to_z-of_z, c.number_at.ensures.fits) at c.in_ok-turn.ensures.ok)
+
+pub turns-returns-in_err-turn-clause-err : goal.turns-returns-in_err-turn-clause-err
+turns-returns-in_err-turn-clause-err t c = passes_on _ c.from_residual.result c.from_residual.ensures.1
+    (turns_stuck c.args.self.now c.loop-turn.self c.args.left c.args.env (map item_tree_of c.args.items.now) c.args.at c.args.low c.number_at.result
+    (runs.turns c.args.low c.args.high) c.loop-turn.turn _ c.in_err-turn.field-0.0 c.requires.env
+    (omega (arith, c.loop-turn-test.true, simp (to_z-of_z, c.ranges.low, c.ranges.high) at c.turn_count-turn-end.ensures))
+    (simp (to_z-of_z, c.ranges.low) at c.number_at.ensures.is) (simp (to_z-of_z, c.ranges.low, c.ranges.high) at c.loop-turn.invariant)
+    (simp (to_z-of_z, c.number_at.ensures.fits) at c.in_err-turn.ensures.err))
+
+pub turns-returns-in_err-turn-clause-ok : goal.turns-returns-in_err-turn-clause-ok
+turns-returns-in_err-turn-clause-ok t c = no_value c.from_residual.result _ _ c.from_residual.ensures.1
+
+pub turns-returns-clause-ok : goal.turns-returns-clause-ok
+turns-returns-clause-ok t c = record {
+  does = turns_done c.args.self.now c.loop-turn.self c.args.left (env_in (envs_of c.args.self.now) c.args.env) (map item_tree_of c.args.items.now)
+      c.args.at c.args.low (runs.turns c.args.low c.args.high) c.loop-turn.turn _
+      (omega (arith, c.loop-turn-test.false, simp (to_z-of_z, c.ranges.low, c.ranges.high) at c.turn_count-turn-end.ensures))
+      (simp (to_z-of_z, c.ranges.low, c.ranges.high) at c.loop-turn.invariant);
+  made = record { made = tt };
+}
+
+pub turn-items-requires : goal.turn-items-requires
+turn-items-requires t c = (omega arith, (c.in_ok-inner.ensures.ok.kept, c.in_ok-inner.ensures.ok.made))
+
+pub turn-returns-clause-ok : goal.turn-returns-clause-ok
+turn-returns-clause-ok t c = IfOk-weaker c.items.result _ _
+    (λ v g. ends_binds (turn_bound c.args.self.now c.work.new.self c.push.new.self c.args.left c.args.env c.in_ok-inner.inner
+    (map item_tree_of c.args.items.now) c.args.at c.args.number c.requires.machine c.requires.env c.in_ok-work.ensures.ok c.in_ok-work.ensures.added
+    (simp (to_z-of_z, c.ranges.number) at c.in_ok-inner.ensures.ok)) g) c.items.ensures.ok
+
+pub turn-returns-clause-err : goal.turn-returns-clause-err
+turn-returns-clause-err t c = IfErr-weaker c.items.result _ _
+    (λ f s. said f (turn_bound c.args.self.now c.work.new.self c.push.new.self c.args.left c.args.env c.in_ok-inner.inner
+    (map item_tree_of c.args.items.now) c.args.at c.args.number c.requires.machine c.requires.env c.in_ok-work.ensures.ok c.in_ok-work.ensures.added
+    (simp (to_z-of_z, c.ranges.number) at c.in_ok-inner.ensures.ok)) s) c.items.ensures.err
+
+pub turn-returns-in_err-work-clause-ok : goal.turn-returns-in_err-work-clause-ok
+turn-returns-in_err-work-clause-ok t c = no_value c.from_residual.result _ _ c.from_residual.ensures.1
+
+pub turn-returns-in_err-inner-clause-ok : goal.turn-returns-in_err-inner-clause-ok
+turn-returns-in_err-inner-clause-ok t c = no_value c.from_residual-in_err-inner.result _ _ c.from_residual-in_err-inner.ensures.1
+
+pub turn-returns-in_err-work-clause-err : goal.turn-returns-in_err-work-clause-err
+turn-returns-in_err-work-clause-err t c = passes_on _ c.from_residual.result c.from_residual.ensures.1
+    (said_first c.in_err-work.field-0.0 _ _ c.in_err-work.ensures.err)
+
+pub turn-returns-in_err-inner-clause-err : goal.turn-returns-in_err-inner-clause-err
+turn-returns-in_err-inner-clause-err t c = passes_on _ c.from_residual-in_err-inner.result c.from_residual-in_err-inner.ensures.1
+    (memory_says c.in_err-inner.field-0.0 _ c.in_err-inner.ensures.err)

@@ -1,5 +1,5 @@
 use Rattle.std.proofs.Common.{drop}
-use Rattle.inliner.specs.inside.Machines.{envs_of, state_of, value_in}
+use Rattle.inliner.specs.inside.Machines.{env_in, envs_of, state_of, value_in}
 use Rattle.inliner.proofs.PartLemmas.{InParts}
 use Rattle.revs_terms.specs.Running.{parts_of}
 use Rattle.revs_terms.specs.Runs.{no_bits}
@@ -7,5 +7,5 @@ use Rattle.inliner.proofs.machine.Machine.parts.Given as goal
 
 abbrev pub invariant-loop-part : goal.invariant-loop-part
 invariant-loop-part l =
-    InParts l.fn.self l.self l.whole (drop l.part-index l.parts) l.made
-    (parts_of no_bits l.whole l.parts (value_in (envs_of l.fn.self) l.fn.value) (state_of l.fn.self))
+    InParts l.fn.self l.self (env_in (envs_of l.fn.self) l.env) l.whole (drop l.part-index l.parts) l.made
+    (parts_of no_bits (env_in (envs_of l.fn.self) l.env) l.whole l.parts (value_in (envs_of l.fn.self) l.fn.value) (state_of l.fn.self))

@@ -1,29 +1,25 @@
 use Rattle.std.proofs.Common.{sym, subst}
+use Rattle.std.proofs.lemmas.Int.{to_z-of_z}
 use Rattle.std.specs.Result.{IfOk, IfErr}
 use Rattle.revs_terms.specs.Running as runs
 use Rattle.revs_terms.specs.Running.{Outcome}
+use Rattle.revs_terms.specs.Terms.{place_of}
+use Rattle.revs_terms.specs.Trees.{tree_of}
 use Rattle.array_shapes.specs.Values.{seen}
 use Rattle.inliner.specs.inside.Machines.{envs_of, state_of, Goes}
 use Rattle.inliner.specs.inside.Calls.{Says}
-use Rattle.revs_terms.specs.Terms.{place_of}
-use Rattle.revs_terms.specs.Trees.{tree_of}
 use Rattle.inliner.proofs.PartLemmas.{rotate_is}
 use Rattle.inliner.proofs.machine.Machine.rotated.Goals as goal
 
-pub register-requires-in-Ok : goal.register-requires-in-Ok
-register-requires-in-Ok c = c.requires
+pub returns-clause-ok : goal.returns-clause-ok
+returns-clause-ok c =
+    let e = rotate_is (envs_of c.args.self.now) (seen c.args.value.now) c.in-Some.places.now c.args.k (place_of (tree_of c.args.operand.now)) c.args.at
+    (state_of c.args.self.now) c.in-Some.ensures in
+    subst (λ (o : Outcome (Unit {0}) runs.Value). IfOk c.turned.result (λ v. Goes c.args.self.now c.turned.new.self o v)) (sym e)
+    (simp (to_z-of_z, c.ranges.k) at c.turned.ensures.ok)
 
-pub returns-in-Ok-clause-ok : goal.returns-in-Ok-clause-ok
-returns-in-Ok-clause-ok c =
-    let e = rotate_is (envs_of c.args.self.now) (seen c.args.value.now) c.in-Some.places.now c.in-Ok.turned.items c.args.i
-    (place_of (tree_of c.args.operand.now)) c.args.at (state_of c.args.self.now) c.in-Some.ensures (λ n. let f = c.in-Ok.ensures.rotate.1 n in cc)
-    c.in-Ok.ensures.ok in
-    subst (λ (o : Outcome (Unit {0}) runs.Value). IfOk c.register-in-Ok.result (λ v. Goes c.args.self.now c.register-in-Ok.new.self o v)) (sym e)
-    c.register-in-Ok.ensures.ok
-
-pub returns-in-Ok-clause-err : goal.returns-in-Ok-clause-err
-returns-in-Ok-clause-err c =
-    let e = rotate_is (envs_of c.args.self.now) (seen c.args.value.now) c.in-Some.places.now c.in-Ok.turned.items c.args.i
-    (place_of (tree_of c.args.operand.now)) c.args.at (state_of c.args.self.now) c.in-Some.ensures (λ n. let f = c.in-Ok.ensures.rotate.1 n in cc)
-    c.in-Ok.ensures.ok in
-    subst (λ (o : Outcome (Unit {0}) runs.Value). IfErr c.register-in-Ok.result (λ f. Says f o)) (sym e) c.register-in-Ok.ensures.err
+pub returns-clause-err : goal.returns-clause-err
+returns-clause-err c =
+    let e = rotate_is (envs_of c.args.self.now) (seen c.args.value.now) c.in-Some.places.now c.args.k (place_of (tree_of c.args.operand.now)) c.args.at
+    (state_of c.args.self.now) c.in-Some.ensures in
+    subst (λ (o : Outcome (Unit {0}) runs.Value). IfErr c.turned.result (λ f. Says f o)) (sym e) (simp (to_z-of_z, c.ranges.k) at c.turned.ensures.err)

@@ -1,25 +1,23 @@
-use Rattle.std.proofs.Common.{sym, subst}
-use Rattle.std.specs.Result.{IfOk, IfErr}
-use Rattle.revs_terms.specs.Running as runs
-use Rattle.revs_terms.specs.Running.{Outcome}
-use Rattle.array_shapes.specs.Values.{seen}
-use Rattle.inliner.specs.inside.Machines.{envs_of, state_of, Goes}
-use Rattle.inliner.specs.inside.Calls.{Says}
-use Rattle.inliner.proofs.PartLemmas.{slice_is}
+use Rattle.std.proofs.lemmas.Int.{to_z-of_z}
+use Rattle.std.proofs.lemmas.Result.{IfOk-weaker, IfErr-weaker}
+use Rattle.revc_base.proofs.ResultLemmas.{passes_on}
+use Rattle.inliner.proofs.ProgressLemmas.{ends_goes, said}
+use Rattle.inliner.proofs.PartLemmas.{slice_both, slice_stuck}
 use Rattle.inliner.proofs.machine.Machine.sliced.Goals as goal
 
-pub register-requires-in-Ok : goal.register-requires-in-Ok
-register-requires-in-Ok c = c.requires
+pub returns-in_err-last-clause-err : goal.returns-in_err-last-clause-err
+returns-in_err-last-clause-err c = passes_on _ c.from_residual-in_err-last.result c.from_residual-in_err-last.ensures.1
+    (slice_stuck c.args.self.now c.number.new.self c.args.env c.args.value.now c.in-Some.places.now c.args.i.now c.args.j.now c.in_ok-first.first
+    c.args.whole c.args.at c.in_err-last.field-0.0 c.in-Some.ensures c.requires.machine c.requires.env c.in_ok-first.ensures.ok c.in_err-last.ensures.err)
 
-pub returns-in-Ok-clause-ok : goal.returns-in-Ok-clause-ok
-returns-in-Ok-clause-ok c =
-    let e = slice_is (envs_of c.args.self.now) (seen c.args.value.now) c.in-Some.places.now c.in-Ok.between.items c.args.i c.args.j c.args.whole c.args.at
-    (state_of c.args.self.now) c.in-Some.ensures (λ n. let f = c.in-Ok.ensures.slice.1 n in cc) c.in-Ok.ensures.ok in
-    subst (λ (o : Outcome (Unit {0}) runs.Value). IfOk c.register-in-Ok.result (λ v. Goes c.args.self.now c.register-in-Ok.new.self o v)) (sym e)
-    c.register-in-Ok.ensures.ok
+pub returns-clause-ok : goal.returns-clause-ok
+returns-clause-ok c = IfOk-weaker c.between.result _ _
+    (λ v g. ends_goes (slice_both c.args.self.now c.number.new.self c.number-2.new.self c.args.env c.args.value.now c.in-Some.places.now c.args.i.now
+    c.args.j.now c.in_ok-first.first c.in_ok-last.last c.args.whole c.args.at c.in-Some.ensures c.requires.machine c.requires.env
+    c.in_ok-first.ensures.ok c.in_ok-last.ensures.ok) g) (simp (to_z-of_z, c.in_ok-first.ensures.fits, c.in_ok-last.ensures.fits) at c.between.ensures.ok)
 
-pub returns-in-Ok-clause-err : goal.returns-in-Ok-clause-err
-returns-in-Ok-clause-err c =
-    let e = slice_is (envs_of c.args.self.now) (seen c.args.value.now) c.in-Some.places.now c.in-Ok.between.items c.args.i c.args.j c.args.whole c.args.at
-    (state_of c.args.self.now) c.in-Some.ensures (λ n. let f = c.in-Ok.ensures.slice.1 n in cc) c.in-Ok.ensures.ok in
-    subst (λ (o : Outcome (Unit {0}) runs.Value). IfErr c.register-in-Ok.result (λ f. Says f o)) (sym e) c.register-in-Ok.ensures.err
+pub returns-clause-err : goal.returns-clause-err
+returns-clause-err c = IfErr-weaker c.between.result _ _
+    (λ f s. said f (slice_both c.args.self.now c.number.new.self c.number-2.new.self c.args.env c.args.value.now c.in-Some.places.now c.args.i.now
+    c.args.j.now c.in_ok-first.first c.in_ok-last.last c.args.whole c.args.at c.in-Some.ensures c.requires.machine c.requires.env
+    c.in_ok-first.ensures.ok c.in_ok-last.ensures.ok) s) (simp (to_z-of_z, c.in_ok-first.ensures.fits, c.in_ok-last.ensures.fits) at c.between.ensures.err)

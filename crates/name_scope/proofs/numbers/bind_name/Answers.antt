@@ -1,5 +1,5 @@
 use Rattle.std.proofs.Common.{rules}
-use Rattle.name_scope.proofs.terms.bind_name.Goals as goal
+use Rattle.name_scope.proofs.numbers.bind_name.Goals as goal
 
 pub returns-in_default-clause-binds : goal.returns-in_default-clause-binds
 returns-in_default-clause-binds c = search rules

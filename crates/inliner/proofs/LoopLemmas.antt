@@ -1,0 +1,199 @@
+-- A `for`, as the machine runs it.
+use Rattle.std.proofs.Common.{◌≡◌, ℕ, zero, suc, ◌+◌, ◌-◌, ◌<◌, ◌≤◌, List, length, refl, sym, ap, ◌∙◌, subst, arith}
+use Rattle.std.specs.Prelude.{ℤ, pos, ◌+ℤ◌}
+use Rattle.revc_base.specs.declared.place.Place.{Place}
+use Rattle.revs_terms.specs.declared.term.Name.{Name}
+use Rattle.revs_terms.specs.declared.term.Step.{Step}
+use Rattle.revs_terms.specs.Trees.{ItemTree, item_trees, run, loop}
+use Rattle.revs_terms.specs.Running as runs
+use Rattle.revs_terms.specs.Running.{Environment, State, number, bound, went, after, turns, worked, number_of, items_run, turn_of, turns_of, run_of}
+use Rattle.revs_terms.specs.Runs.{no_bits}
+use Rattle.array_shapes.specs.declared.value.Value.{Value}
+use Rattle.inliner.specs.declared.fault.RunFault.{RunFault}
+use Rattle.inliner.specs.declared.fault.RunFault.TheVariants as faults
+use Rattle.inliner.specs.declared.machine.Machine.{Machine}
+use Rattle.inliner.specs.inside.Machines.{env_in, envs_of, state_of, IsMachine, Does, Goes, Binds, BindsOne, LeavesRoom}
+use Rattle.inliner.specs.inside.Calls.{Going, Says, item_step}
+use Rattle.inliner.specs.inside.Numbers.{loop_run}
+use Rattle.inliner.proofs.FaultLemmas.{said_first, said_same}
+use Rattle.inliner.proofs.EnvironmentLemmas.{grown_env, grows_trans}
+use Rattle.inliner.proofs.ProgressLemmas.{Through, begun, step, step_bound, same_rest, ends, ends_here, said, does_in, says_in, items_of-item_trees}
+use Rattle.inliner.proofs.CallLemmas.{item_run}
+
+-- ---- the tree of a `for`
+
+loop_is : (left : ℕ) (e : Environment) (name : Name) (a b : List Step) (is : List ItemTree) (at : Place) (s : State (Unit {0}))
+    → run_of no_bits left e (loop name a b (item_trees is) at) s ≡ loop_run left e a b is at s
+loop_is zero e name a b is at s = refl
+loop_is (suc left) e name a b is at s =
+    ap (λ (x : List ItemTree). after (worked no_bits 1 at s) (λ _ s. after (number_of no_bits e a s) (λ first s. after (number_of no_bits e b s)
+    (λ last s. turns_of no_bits (run_of no_bits left) e x at first (turns first last) s)))) (items_of-item_trees is)
+
+pub item_loop : (old now : Machine) (left env : ℕ) (name : Name) (a b : List Step) (is js : List ItemTree) (at : Place) (v : Value) → js ≡ is
+    → IsMachine old → env ≤ length old.bindings.items
+    → Goes old now (loop_run left (env_in (envs_of old) env) a b js at (state_of old)) v
+    → Binds old now (item_step (run_of no_bits left) (env_in (envs_of old) env) (run (loop name a b (item_trees is) at)) (state_of old)) env
+item_loop old now left env name a b is js at v same m h g =
+    let whole : run_of no_bits left (env_in (envs_of old) env) (loop name a b (item_trees is) at) (state_of old) ≡ loop_run left
+    (env_in (envs_of old) env) a b js at (state_of old) = loop_is left (env_in (envs_of old) env) name a b is at (state_of old)
+    ∙ ap (λ (x : List ItemTree). loop_run left (env_in (envs_of old) env) a b x at (state_of old)) (sym same) in
+    item_run old now left env (loop name a b (item_trees is) at) v m h
+    (subst (λ (o : Going runs.Value). Goes old now o v) (sym whole) g)
+
+pub item_loop_stuck : (left : ℕ) (e : Environment) (name : Name) (a b : List Step) (is js : List ItemTree) (at : Place) (s : State (Unit {0}))
+    (fault : RunFault) → js ≡ is → Says fault (loop_run left e a b js at s)
+    → Says fault (item_step (run_of no_bits left) e (run (loop name a b (item_trees is) at)) s)
+item_loop_stuck left e name a b is js at s fault same says =
+    said_first fault _ _ (said_same fault _ _ (loop_is left e name a b is at s
+    ∙ ap (λ (x : List ItemTree). loop_run left e a b x at s) (sym same)) says)
+
+-- ---- a `for` up to its turns
+
+loop_at : (old mid : Machine) (k : ℕ) (e : Environment) (a b : List Step) (is : List ItemTree) (at : Place) → IsMachine old
+    → Does old mid (worked no_bits 1 at (state_of old)) tt
+    → Through old mid (loop_run (suc k) e a b is at (state_of old)) (after (number_of no_bits e a (state_of mid)) (λ first s.
+    after (number_of no_bits e b s) (λ last s. turns_of no_bits (run_of no_bits k) e is at first (turns first last) s)))
+loop_at old mid k e a b is at m d =
+    step (λ _ s. after (number_of no_bits e a s) (λ first s.
+    after (number_of no_bits e b s) (λ last s. turns_of no_bits (run_of no_bits k) e is at first (turns first last) s))) (begun old _ _ refl m) d
+
+loop_entered : (old mid : Machine) (left : ℕ) (e : Environment) (a b : List Step) (is : List ItemTree) (at : Place) → IsMachine old → 0 < left
+    → Does old mid (worked no_bits 1 at (state_of old)) tt
+    → Through old mid (loop_run left e a b is at (state_of old)) (after (number_of no_bits e a (state_of mid)) (λ first s.
+    after (number_of no_bits e b s) (λ last s. turns_of no_bits (run_of no_bits (left - 1)) e is at first (turns first last) s)))
+loop_entered old mid left e a b is at m some d =
+    let k : left ≡ suc (left - 1) = omega arith in
+    subst (λ (n : ℕ). Through old mid (loop_run n e a b is at (state_of old)) (after (number_of no_bits e a (state_of mid)) (λ first s.
+    after (number_of no_bits e b s) (λ last s. turns_of no_bits (run_of no_bits (left - 1)) e is at first (turns first last) s)))) (sym k)
+    (loop_at old mid (left - 1) e a b is at m d)
+
+loop_first : (old mid now : Machine) (left env : ℕ) (a b : List Step) (is : List ItemTree) (at : Place) (first : ℤ) → IsMachine old → 0 < left
+    → env ≤ length old.bindings.items → Does old mid (worked no_bits 1 at (state_of old)) tt
+    → Does mid now (number_of no_bits (env_in (envs_of mid) env) a (state_of mid)) first
+    → Through old now (loop_run left (env_in (envs_of old) env) a b is at (state_of old))
+    (after (number_of no_bits (env_in (envs_of old) env) b (state_of now))
+    (λ last s. turns_of no_bits (run_of no_bits (left - 1)) (env_in (envs_of old) env) is at first (turns first last) s))
+loop_first old mid now left env a b is at first m some h d g =
+    let e : Environment = env_in (envs_of old) env in
+    step (λ first s. after (number_of no_bits e b s) (λ last s. turns_of no_bits (run_of no_bits (left - 1)) e is at first (turns first last) s))
+    (loop_entered old mid left e a b is at m some d) (does_in (λ x. number_of no_bits x a (state_of mid)) old mid now env first d.grows h g)
+
+pub loop_begun : (old mid now later : Machine) (left env : ℕ) (a b : List Step) (is : List ItemTree) (at : Place) (first last : ℤ) → IsMachine old
+    → 0 < left → env ≤ length old.bindings.items → Does old mid (worked no_bits 1 at (state_of old)) tt
+    → Does mid now (number_of no_bits (env_in (envs_of mid) env) a (state_of mid)) first
+    → Does now later (number_of no_bits (env_in (envs_of now) env) b (state_of now)) last
+    → Through old later (loop_run left (env_in (envs_of old) env) a b is at (state_of old))
+    (turns_of no_bits (run_of no_bits (left - 1)) (env_in (envs_of later) env) is at first (turns first last) (state_of later))
+loop_begun old mid now later left env a b is at first last m some h d f g =
+    let e : Environment = env_in (envs_of old) env in
+    let both = step (λ last s. turns_of no_bits (run_of no_bits (left - 1)) e is at first (turns first last) s)
+    (loop_first old mid now left env a b is at first m some h d f)
+    (does_in (λ x. number_of no_bits x b (state_of now)) old now later env last (grows_trans old mid now d.grows f.grows) h g) in
+    same_rest _ (ap (λ (x : Environment). turns_of no_bits (run_of no_bits (left - 1)) x is at first (turns first last) (state_of later))
+    (sym (grown_env old later env both.grows h))) both
+
+-- ---- a `for` that is stuck before its turns
+
+pub loop_no_work : (left : ℕ) (e : Environment) (a b : List Step) (is : List ItemTree) (at : Place) (s : State (Unit {0})) (fault : RunFault) → 0 < left
+    → Says fault (worked no_bits 1 at s) → Says fault (loop_run left e a b is at s)
+loop_no_work left e a b is at s fault some says =
+    let k : left ≡ suc (left - 1) = omega arith in
+    subst (λ (n : ℕ). Says fault (loop_run n e a b is at s)) (sym k)
+    (said_first fault (worked no_bits 1 at s) (λ _ s. after (number_of no_bits e a s) (λ first s.
+    after (number_of no_bits e b s) (λ last s. turns_of no_bits (run_of no_bits (left - 1)) e is at first (turns first last) s))) says)
+
+pub loop_no_first : (old mid : Machine) (left env : ℕ) (a b : List Step) (is : List ItemTree) (at : Place) (fault : RunFault) → IsMachine old → 0 < left
+    → env ≤ length old.bindings.items → Does old mid (worked no_bits 1 at (state_of old)) tt
+    → Says fault (number_of no_bits (env_in (envs_of mid) env) a (state_of mid))
+    → Says fault (loop_run left (env_in (envs_of old) env) a b is at (state_of old))
+loop_no_first old mid left env a b is at fault m some h d says =
+    said fault (loop_entered old mid left (env_in (envs_of old) env) a b is at m some d)
+    (said_first fault _ _ (says_in (λ x. number_of no_bits x a (state_of mid)) old mid env fault d.grows h says))
+
+pub loop_no_last : (old mid now : Machine) (left env : ℕ) (a b : List Step) (is : List ItemTree) (at : Place) (first : ℤ) (fault : RunFault)
+    → IsMachine old → 0 < left → env ≤ length old.bindings.items → Does old mid (worked no_bits 1 at (state_of old)) tt
+    → Does mid now (number_of no_bits (env_in (envs_of mid) env) a (state_of mid)) first
+    → Says fault (number_of no_bits (env_in (envs_of now) env) b (state_of now))
+    → Says fault (loop_run left (env_in (envs_of old) env) a b is at (state_of old))
+loop_no_last old mid now left env a b is at first fault m some h d f says =
+    said fault (loop_first old mid now left env a b is at first m some h d f)
+    (said_first fault _ _ (says_in (λ x. number_of no_bits x b (state_of now)) old now env fault (grows_trans old mid now d.grows f.grows) h says))
+
+-- ---- the turns
+
+abbrev pub rest_of_turns : ℕ → Environment → List ItemTree → Place → ℤ → ℕ → ℕ → State (Unit {0}) → Going runs.Value
+rest_of_turns left e is at first count turn s = turns_of no_bits (run_of no_bits left) e is at (first +ℤ pos turn) (count - turn) s
+
+-- one turn, and then the others
+turns_next : (left : ℕ) (e : Environment) (is : List ItemTree) (at : Place) (first : ℤ) (count turn : ℕ) (s : State (Unit {0})) → turn < count
+    → rest_of_turns left e is at first count turn s ≡ after (turn_of no_bits (run_of no_bits left) e is at (first +ℤ pos turn) s)
+    (λ _ s. rest_of_turns left e is at first count (turn + 1) s)
+turns_next left e is at first count turn s below =
+    let more : count - turn ≡ suc (count - (turn + 1)) = omega arith in
+    let next : (first +ℤ pos turn) +ℤ pos 1 ≡ first +ℤ pos (turn + 1) = grind arith in
+    ap (λ (n : ℕ). turns_of no_bits (run_of no_bits left) e is at (first +ℤ pos turn) n s) more
+    ∙ ap (λ (k : ℤ). after (turn_of no_bits (run_of no_bits left) e is at (first +ℤ pos turn) s)
+    (λ _ s. turns_of no_bits (run_of no_bits left) e is at k (count - (turn + 1)) s)) next
+
+pub turns_begun : (m : Machine) (left : ℕ) (e : Environment) (is : List ItemTree) (at : Place) (first : ℤ) (count : ℕ) → IsMachine m
+    → Through m m (turns_of no_bits (run_of no_bits left) e is at first count (state_of m)) (rest_of_turns left e is at first count 0 (state_of m))
+turns_begun m left e is at first count is-machine =
+    let same : first ≡ first +ℤ pos 0 = grind arith in
+    let all : count ≡ count - 0 = omega arith in
+    begun m _ _ (ap (λ (k : ℤ). turns_of no_bits (run_of no_bits left) e is at k count (state_of m)) same
+    ∙ ap (λ (n : ℕ). turns_of no_bits (run_of no_bits left) e is at (first +ℤ pos 0) n (state_of m)) all) is-machine
+
+pub turns_more : (old now later : Machine) (left env behind : ℕ) (is : List ItemTree) (at : Place) (first k : ℤ) (count turn : ℕ) (whole : Going runs.Value)
+    → env ≤ length old.bindings.items → turn < count → k ≡ first +ℤ pos turn
+    → Through old now whole (rest_of_turns left (env_in (envs_of old) env) is at first count turn (state_of now))
+    → Binds now later (turn_of no_bits (run_of no_bits left) (env_in (envs_of now) env) is at k (state_of now)) behind
+    → Through old later whole (rest_of_turns left (env_in (envs_of old) env) is at first count (turn + 1) (state_of later))
+turns_more old now later left env behind is at first k count turn whole h below same t b =
+    let e : Environment = env_in (envs_of old) env in
+    step (λ _ s. rest_of_turns left e is at first count (turn + 1) s)
+    (same_rest _ (turns_next left e is at first count turn (state_of now) below) t)
+    (does_in (λ x. turn_of no_bits (run_of no_bits left) x is at (first +ℤ pos turn) (state_of now)) old now later env _ t.grows h
+    (subst (λ (z : ℤ). Does now later (turn_of no_bits (run_of no_bits left) (env_in (envs_of now) env) is at z (state_of now))
+    (env_in (envs_of later) behind)) same b.does))
+
+pub turns_stuck : (old now : Machine) (left env : ℕ) (is : List ItemTree) (at : Place) (first k : ℤ) (count turn : ℕ) (whole : Going runs.Value)
+    (fault : RunFault) → env ≤ length old.bindings.items → turn < count → k ≡ first +ℤ pos turn
+    → Through old now whole (rest_of_turns left (env_in (envs_of old) env) is at first count turn (state_of now))
+    → Says fault (turn_of no_bits (run_of no_bits left) (env_in (envs_of now) env) is at k (state_of now)) → Says fault whole
+turns_stuck old now left env is at first k count turn whole fault h below same t says =
+    let e : Environment = env_in (envs_of old) env in
+    said fault (same_rest _ (turns_next left e is at first count turn (state_of now) below) t)
+    (said_first fault _ _ (says_in (λ x. turn_of no_bits (run_of no_bits left) x is at (first +ℤ pos turn) (state_of now)) old now env fault t.grows h
+    (subst (λ (z : ℤ). Says fault (turn_of no_bits (run_of no_bits left) (env_in (envs_of now) env) is at z (state_of now))) same says)))
+
+pub turns_done : (old now : Machine) (left : ℕ) (e : Environment) (is : List ItemTree) (at : Place) (first : ℤ) (count turn : ℕ) (whole : Going runs.Value)
+    → count ≤ turn → Through old now whole (rest_of_turns left e is at first count turn (state_of now)) → Does old now whole runs.unit
+turns_done old now left e is at first count turn whole all t =
+    let none : count - turn ≡ 0 = omega arith in
+    ends_here runs.unit t (ap (λ (n : ℕ). turns_of no_bits (run_of no_bits left) e is at (first +ℤ pos turn) n (state_of now)) none)
+
+-- ---- one turn
+
+turn_worked : (old mid : Machine) (left env : ℕ) (is : List ItemTree) (at : Place) (k : ℤ) → IsMachine old
+    → Does old mid (worked no_bits 1 at (state_of old)) tt
+    → Through old mid (turn_of no_bits (run_of no_bits left) (env_in (envs_of old) env) is at k (state_of old))
+    (items_run no_bits (run_of no_bits left) (bound (number k) (env_in (envs_of old) env)) is (state_of mid))
+turn_worked old mid left env is at k m d =
+    step (λ _ s. items_run no_bits (run_of no_bits left) (bound (number k) (env_in (envs_of old) env)) is s) (begun old _ _ refl m) d
+
+-- the name is bound to the number, for which the turn's work leaves room
+pub turn_bound : (old mid now : Machine) (left env inner : ℕ) (is : List ItemTree) (at : Place) (k : ℤ) → IsMachine old
+    → env ≤ length old.bindings.items → Does old mid (worked no_bits 1 at (state_of old)) tt → LeavesRoom old mid
+    → BindsOne mid now (went (bound (number k) (env_in (envs_of mid) env)) (state_of mid)) inner
+    → Through old now (turn_of no_bits (run_of no_bits left) (env_in (envs_of old) env) is at k (state_of old))
+    (items_run no_bits (run_of no_bits left) (env_in (envs_of now) inner) is (state_of now))
+turn_bound old mid now left env inner is at k m h d room b =
+    step_bound (λ f s. items_run no_bits (run_of no_bits left) f is s) (turn_worked old mid left env is at k m d) room
+    (subst (λ (e : Environment). BindsOne mid now (went (bound (number k) e) (state_of mid)) inner) (grown_env old mid env d.grows h) b)
+
+pub memory_says : {A : Type 0} (fault : RunFault) (o : Going A) → fault ≡ faults.Memory → Says fault o
+memory_says fault o e = rw e (record { stuck = tt })
+
+pub ends_binds : {old now later : Machine} {whole rest : Going Environment} {env : ℕ} → Through old now whole rest → Binds now later rest env
+    → Binds old later whole env
+ends_binds t b = record { does = ends t b.does; made = b.made }
