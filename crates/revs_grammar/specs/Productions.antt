@@ -56,6 +56,49 @@ body_of term (Some rest) = in_front (t.run term) rest
 abbrev pub block_of : Place → BodyTree → Tree
 block_of at inside = t.block (item_trees inside.items) inside.last at
 
+-- ---- lines by name
+
+-- expr = fun name { name } -> expr
+abbrev pub function_line : Production Tree
+function_line =
+    line
+    (opening (word words.Fun) ∷ kept any_name ∷ plain names ∷ one (sign signs.Arrow) ∷ deeper expression ∷ [])
+    (λ at first more term. t.function (first ∷ more) term at)
+
+-- application = append atom atom
+abbrev pub append_line : Production Tree
+append_line =
+    line (kept (word words.Append) ∷ here atom ∷ here atom ∷ []) (λ at first second. t.append first second at)
+
+-- application = atom { atom }
+abbrev pub apply_line : Production Tree
+apply_line = line (here atom ∷ here atoms ∷ []) apply_of
+
+-- part = . [ number ] | . [ number .. number ]
+abbrev pub part_line : Production Part
+part_line =
+    line (kept (sign signs.Dot) ∷ one (sign signs.OpenSquare) ∷ kept any_number ∷ plain part_end ∷ []) index_of
+
+-- base = reg [ expr { ; expr } ]
+abbrev pub register_line : Production Tree
+register_line =
+    line
+    (
+    opening (word words.Reg) ∷ one (sign signs.OpenSquare) ∷ deeper expression ∷ deeper elements
+    ∷ one (sign signs.CloseSquare) ∷ []
+    )
+    (λ at first more. t.reg (trees (first ∷ more)) at)
+
+-- item = let name { name } = expr ;
+abbrev pub let_line : Production BodyTree
+let_line =
+    line
+    (
+    one (word words.Let) ∷ kept any_name ∷ plain names ∷ one (sign signs.Equal) ∷ here expression
+    ∷ one (sign signs.Semi) ∷ here body ∷ []
+    )
+    (λ bound more value rest. in_front (t.bind bound (bound_of more value)) rest)
+
 -- ---- the lines of each form
 
 abbrev pub productions : (f : Form) → List (Production (Val f))
@@ -82,9 +125,7 @@ productions names =
     ∷ line (kept any_name ∷ plain names ∷ []) (λ n more. n ∷ more) ∷ []
 -- expr = fun name { name } -> expr | sum [ <- sum ]
 productions expression =
-    line
-    (opening (word words.Fun) ∷ kept any_name ∷ plain names ∷ one (sign signs.Arrow) ∷ deeper expression ∷ [])
-    (λ at first more term. t.function (first ∷ more) term at)
+    function_line
     ∷ line (here sum ∷ here assigned ∷ []) assign_of ∷ []
 productions assigned =
     line [] None
@@ -103,9 +144,9 @@ productions products =
 productions application =
     line (kept (word words.Clean) ∷ here atom ∷ []) (λ at operand. t.clean operand at)
     ∷ line (kept (word words.Assert) ∷ here atom ∷ []) (λ at operand. t.assert operand at)
-    ∷ line (kept (word words.Append) ∷ here atom ∷ here atom ∷ []) (λ at first second. t.append first second at)
+    ∷ append_line
     ∷ line (kept (word words.Rotate) ∷ kept any_number ∷ here atom ∷ []) (λ at by operand. t.rotate by operand at)
-    ∷ line (here atom ∷ here atoms ∷ []) apply_of ∷ []
+    ∷ apply_line ∷ []
 productions atoms =
     line [] []
     ∷ line (here atom ∷ here atoms ∷ []) (λ next more. next ∷ more) ∷ []
@@ -115,8 +156,7 @@ productions parts =
     line [] []
     ∷ line (plain part ∷ plain parts ∷ []) (λ next more. next ∷ more) ∷ []
 -- part = . [ number ] | . [ number .. number ]
-productions part =
-    line (kept (sign signs.Dot) ∷ one (sign signs.OpenSquare) ∷ kept any_number ∷ plain part_end ∷ []) index_of ∷ []
+productions part = part_line ∷ []
 productions part_end =
     line (one (sign signs.CloseSquare) ∷ []) None
     ∷ line (one (sign signs.DotDot) ∷ kept any_number ∷ one (sign signs.CloseSquare) ∷ []) (λ j. Some j) ∷ []
@@ -125,12 +165,7 @@ productions base =
     line (kept any_name ∷ []) t.used
     ∷ line (kept (word words.True) ∷ []) (t.bool true)
     ∷ line (kept (word words.False) ∷ []) (t.bool false)
-    ∷ line
-    (
-    opening (word words.Reg) ∷ one (sign signs.OpenSquare) ∷ deeper expression ∷ deeper elements
-    ∷ one (sign signs.CloseSquare) ∷ []
-    )
-    (λ at first more. t.reg (trees (first ∷ more)) at)
+    ∷ register_line
     ∷ line
     (opening (sign signs.OpenRound) ∷ deeper expression ∷ one (sign signs.CloseRound) ∷ [])
     (λ _ inner. inner)
@@ -141,12 +176,7 @@ productions elements =
     ∷ line (one (sign signs.Semi) ∷ here expression ∷ here elements ∷ []) (λ next more. next ∷ more) ∷ []
 -- item = let name { name } = expr ; | expr ;
 productions body =
-    line
-    (
-    one (word words.Let) ∷ kept any_name ∷ plain names ∷ one (sign signs.Equal) ∷ here expression
-    ∷ one (sign signs.Semi) ∷ here body ∷ []
-    )
-    (λ bound more value rest. in_front (t.bind bound (bound_of more value)) rest)
+    let_line
     ∷ line (here expression ∷ here body_end ∷ []) body_of ∷ []
 productions body_end =
     line (one (sign signs.Semi) ∷ here body ∷ []) (λ rest. Some rest)

@@ -1,5 +1,5 @@
 -- What the functions read that are no form of the grammar by themselves.
-use Rattle.std.specs.Prelude.{◌≡◌, ℕ, ◌+◌, ◌<◌, Option, Some, None, List, [], ◌∷◌, ◌++◌, length}
+use Rattle.std.specs.Prelude.{◌≡◌, ℕ, ◌+◌, ◌<◌, Option, Some, None, List, [], ◌∷◌, ◌++◌, length, take}
 use Rattle.revc_base.specs.declared.place.Place.{Place}
 use Rattle.revs_lexer.specs.declared.sign.Sign.{Sign}
 use Rattle.revs_lexer.specs.declared.sign.Sign.TheVariants as signs
@@ -7,10 +7,11 @@ use Rattle.revs_lexer.specs.declared.word.Word.TheVariants as words
 use Rattle.revs_lexer.specs.declared.token.Tok.{Tok}
 use Rattle.revs_lexer.specs.declared.token.Tok.TheVariants as toks
 use Rattle.revs_lexer.specs.declared.token.Token.{Token}
-use Rattle.revs_grammar.specs.Forms.{any_name, any_number, sign, BodyTree}
+use Rattle.revs_grammar.specs.Forms.{sign, BodyTree}
 use Rattle.revs_grammar.specs.Forms as g
-use Rattle.revs_grammar.specs.Productions.{apply_of, bound_of, index_of, in_front}
-use Rattle.revs_grammar.specs.Sentences.{token, kept_token, form}
+use Rattle.revs_grammar.specs.Productions.{apply_of, bound_of, index_of, in_front, function_line, append_line, apply_line, part_line}
+use Rattle.revs_grammar.specs.Productions.{register_line, let_line}
+use Rattle.revs_grammar.specs.Sentences.{token, kept_token, opening_token, form}
 use Rattle.revs_grammar.specs.Faults.{IsSyntax, IsNesting}
 use Rattle.revs_grammar.specs.inside.Machine.{Stack}
 use Rattle.revs_terms.specs.Trees.{Tree, ItemTree, trees, item_trees, reg, block, function, append, rotate, clean, assert, bind, run, tree_of, item_tree_of}
@@ -27,6 +28,20 @@ use Rattle.revs_parser.specs.declared.front.Opener.{Opener}
 use Rattle.revs_parser.specs.declared.front.Opener.TheVariants as openers
 use Rattle.revs_parser.specs.inside.Reading.{Passes, Reads, Skips, ReadsForm, ReadsAnywhere, NotFirst}
 
+-- the pieces of a line, where the forms of which a level counts stand at this one
+abbrev pub at_level : ℕ → List g.Piece → Stack
+at_level level [] = []
+at_level level (g.one m ∷ ps) = token m ∷ at_level level ps
+at_level level (g.kept m ∷ ps) = kept_token m ∷ at_level level ps
+at_level level (g.opening m ∷ ps) = opening_token m level ∷ at_level level ps
+at_level level (g.sub g.outside f ∷ ps) = form f 0 ∷ at_level level ps
+at_level level (g.sub d f ∷ ps) = form f level ∷ at_level level ps
+
+-- those behind the first
+abbrev pub behind_first : ℕ → List g.Piece → Stack
+behind_first level [] = []
+behind_first level (p ∷ ps) = at_level level ps
+
 -- { name } was read, and the names were put behind those before.
 pub record ReadsNames (before all : List Name) (ts rest : List Token) : Type 0 where
   pub more : List Name
@@ -35,7 +50,7 @@ pub record ReadsNames (before all : List Name) (ts rest : List Token) : Type 0 w
 
 -- what is expected of a part behind its dot
 abbrev pub in_part : Stack
-in_part = token (sign signs.OpenSquare) ∷ kept_token any_number ∷ form g.part_end 0 ∷ []
+in_part = behind_first 0 part_line.pieces
 
 -- A part was read, behind its dot at this place.
 pub record ReadsPart (at : Place) (part : Part) (ts rest : List Token) : Type 0 where
@@ -44,9 +59,13 @@ pub record ReadsPart (at : Place) (part : Part) (ts rest : List Token) : Type 0 
   pub is : part ≡ index_of at first last
   pub reads : Reads in_part (first, (last, tt)) ts rest
 
+-- what is expected of a function behind its `fun`
+abbrev pub in_function : ℕ → Stack
+in_function level = behind_first level function_line.pieces
+
 -- what is expected of a function behind its `fun` and before its body
 abbrev pub in_function_names : Stack
-in_function_names = kept_token any_name ∷ form g.names 0 ∷ token (sign signs.Arrow) ∷ []
+in_function_names = take 3 (in_function 0)
 
 -- The names of a function were read behind `fun`, and its arrow.
 pub record ReadsFunctionNames (all : List Name) (ts rest : List Token) : Type 0 where
@@ -54,10 +73,6 @@ pub record ReadsFunctionNames (all : List Name) (ts rest : List Token) : Type 0 
   pub more : List Name
   pub all_names : all ≡ first ∷ more
   pub reads : Reads in_function_names (first, (more, tt)) ts rest
-
--- what is expected of a function behind its `fun`
-abbrev pub in_function : ℕ → Stack
-in_function level = kept_token any_name ∷ form g.names 0 ∷ token (sign signs.Arrow) ∷ form g.expression level ∷ []
 
 -- The names and the body of a function were read behind `fun`, which has this place.
 pub record ReadsFunction (level : ℕ) (at : Place) (term : Tree) (ts rest : List Token) : Type 0 where
@@ -86,7 +101,7 @@ pub record NoOperator (ts : List Token) : Type 0 where
 
 -- what is expected of an `append` behind the word
 abbrev pub in_append : ℕ → Stack
-in_append level = form g.atom level ∷ form g.atom level ∷ []
+in_append level = behind_first level append_line.pieces
 
 -- The operands of an `append` were read behind the word, which has this place.
 pub record ReadsAppend (level : ℕ) (at : Place) (term : Tree) (ts rest : List Token) : Type 0 where
@@ -113,7 +128,7 @@ closed_by end level = form g.expression level ∷ token (sign end) ∷ []
 
 -- what is expected of an atom and its arguments
 abbrev pub in_application : ℕ → Stack
-in_application level = form g.atom level ∷ form g.atoms level ∷ []
+in_application level = at_level level apply_line.pieces
 
 -- An atom and its arguments were read, which are this term together.
 pub record ReadsAtoms (level : ℕ) (term : Tree) (ts rest : List Token) : Type 0 where
@@ -124,9 +139,7 @@ pub record ReadsAtoms (level : ℕ) (term : Tree) (ts rest : List Token) : Type 
 
 -- what is expected of a register behind its `reg`
 abbrev pub in_register : ℕ → Stack
-in_register level =
-    token (sign signs.OpenSquare) ∷ form g.expression level ∷ form g.elements level ∷ token
-    (sign signs.CloseSquare) ∷ []
+in_register level = behind_first level register_line.pieces
 
 -- The elements of a register were read behind `reg`, which has this place.
 pub record ReadsRegister (level : ℕ) (at : Place) (term : Tree) (ts rest : List Token) : Type 0 where
@@ -167,15 +180,13 @@ abbrev pub EndsPiece : Tree → Piece → List Token → List Token → Type 0
 EndsPiece term (pieces.Item item) ts rest = EndsItem term (item_tree_of item) ts rest
 EndsPiece term (pieces.Last last) ts rest = EndsBlock term (tree_of last) ts rest
 
--- what is expected of a `let` behind the word and before its value
-abbrev pub in_bound_names : Stack
-in_bound_names = kept_token any_name ∷ form g.names 0 ∷ token (sign signs.Equal) ∷ []
-
 -- what is expected of a `let` behind the word
 abbrev pub in_binding : ℕ → Stack
-in_binding level =
-    kept_token any_name ∷ form g.names 0 ∷ token (sign signs.Equal) ∷ form g.expression level ∷ token
-    (sign signs.Semi) ∷ []
+in_binding level = take 5 (behind_first level let_line.pieces)
+
+-- what is expected of a `let` behind the word and before its value
+abbrev pub in_bound_names : Stack
+in_bound_names = take 3 (in_binding 0)
 
 -- What a `let` binds was read behind the word.
 pub record ReadsBinding (level : ℕ) (item : ItemTree) (ts rest : List Token) : Type 0 where
