@@ -1,8 +1,8 @@
 -- The run without bits and the run on an input, side by side: both are stuck alike, or both go on with the same answer, the same log and
 -- the same stamps, and each bit is the bit of its stamp.
-use Rattle.std.proofs.Common.{◌≡◌, ℕ, zero, suc, ◌+◌, ◌-◌, ◌≤◌, leb, Bool, true, false, ◌&&◌, List, [], ◌∷◌, ◌++◌, length, take, drop, refl, sym, ap, ◌∙◌}
+use Rattle.std.proofs.Common.{◌≡◌, ℕ, zero, suc, ◌+◌, ◌≤◌, leb, Bool, true, false, ◌&&◌, List, [], ◌∷◌, ◌++◌, length, refl, sym, ap, ◌∙◌}
 use Rattle.std.proofs.Common.{subst, arith}
-use Rattle.std.specs.Prelude.{Option, Some, None, slice_get}
+use Rattle.std.specs.Prelude.{Option, Some, None, slice_get, ℤ, pos, ◌+ℤ◌}
 use Rattle.std.specs.Bool.{xor}
 use Rattle.std.proofs.lemmas.List.{length-append}
 use Rattle.std.proofs.lemmas.Bool.{leb-true}
@@ -16,14 +16,18 @@ use Rattle.revs_tape.specs.declared.tape.Kind.TheVariants as kinds
 use Rattle.revs_tape.specs.declared.tape.Claim.{Claim}
 use Rattle.revs_tape.specs.Tapes.{bit_at, entry_bit, written_by, IsKnown, IsKnownEntry, AreKnown}
 use Rattle.revs_tape.proofs.TapeLemmas.{IsKnown-later, AreKnown-push}
+use Rattle.revs_terms.specs.declared.term.Unit as u
+use Rattle.revs_terms.specs.declared.term.Unit.TheVariants as units
+use Rattle.revs_terms.specs.declared.term.Step.{Step}
 use Rattle.revs_terms.specs.declared.term.Part.{Part}
 use Rattle.revs_terms.specs.declared.term.Part.TheVariants as part
 use Rattle.revs_terms.specs.Trees.{Tree, ItemTree, list_of, items_of, used, bool, reg, block, function, parts, apply, append, rotate, clean, assert, ands, xors}
-use Rattle.revs_terms.specs.Trees.{assign, bind, run}
-use Rattle.revs_terms.specs.Terms.{place_of}
-use Rattle.revs_terms.specs.Running.{Value, unit, bit, register, closure, Environment, bound, value_at, bound_length, Stamped, Met, State, Outcome, stuck, went}
-use Rattle.revs_terms.specs.Running.{after, provided, given, worked, registered, written, read, as_bit, as_register, bit_of, bits_of, block_of, part_of}
-use Rattle.revs_terms.specs.Running.{parts_of, apply_to, apply_all, left_by, claimed, chain_of, chain, term_of, run_of}
+use Rattle.revs_terms.specs.Trees.{assign, loop, bind, run}
+use Rattle.revs_terms.specs.Terms.{place_of, unit_place}
+use Rattle.revs_terms.specs.Running.{Value, unit, bit, register, number, closure, Environment, bound, value_at, bound_length, Stamped, Met, State, Outcome}
+use Rattle.revs_terms.specs.Running.{stuck, went, after, provided, given, moved, is_number, turns, element, places, turned, worked, registered, written, read}
+use Rattle.revs_terms.specs.Running.{as_bit, as_register, as_number, unit_of, summed, more_of, number_of, bit_of, bits_of, part_of, parts_of, items_run}
+use Rattle.revs_terms.specs.Running.{turns_of, apply_to, apply_all, left_by, claimed, chain_of, chain, term_of, run_of}
 use Rattle.revs_terms.specs.Runs.{no_bits, real_bits}
 use Rattle.revs_terms.proofs.PairedLemmas.{OptionPaired, Paired, option_weaker, weaker, pushed, same_length, stored, found}
 use Rattle.revs_terms.proofs.LogLemmas.{bit_at-push, bit_at-newest}
@@ -205,6 +209,7 @@ module _ (input : List Bool) where
   both_as_bit at unit h = both_stuck _ at
   both_as_bit at (bit location) h = both_went location h
   both_as_bit at (register locations) h = both_stuck _ at
+  both_as_bit at (number k) h = both_stuck _ at
   both_as_bit at (closure names body env) h = both_stuck _ at
 
   both_as_register : (at : Place) (value : Value) {s : State (Unit {0})} {t : State Bool} → AreAlike s t
@@ -212,7 +217,60 @@ module _ (input : List Bool) where
   both_as_register at unit h = both_stuck _ at
   both_as_register at (bit location) h = both_stuck _ at
   both_as_register at (register locations) h = both_went locations h
+  both_as_register at (number k) h = both_stuck _ at
   both_as_register at (closure names body env) h = both_stuck _ at
+
+  -- ---- numbers and parts of registers
+
+  both_given : {A : Type 0} (x : Option A) (why : Cause) (at : Place) {s : State (Unit {0})} {t : State Bool} → AreAlike s t
+      → GoTogether Same (given x why at s) (given x why at t)
+  both_given None why at h = both_stuck why at
+  both_given (Some answer) why at h = both_went answer h
+
+  both_as_number : (at : Place) (value : Value) {s : State (Unit {0})} {t : State Bool} → AreAlike s t
+      → GoTogether Same (as_number no_bits at value s) (as_number real_bits at value t)
+  both_as_number at unit h = both_stuck _ at
+  both_as_number at (bit location) h = both_stuck _ at
+  both_as_number at (register locations) h = both_stuck _ at
+  both_as_number at (number k) h = both_went k h
+  both_as_number at (closure names body env) h = both_stuck _ at
+
+  both_unit_of : (env : Environment) (v : u.Unit) {s : State (Unit {0})} {t : State Bool} → AreAlike s t
+      → GoTogether Same (unit_of no_bits env v s) (unit_of real_bits env v t)
+  both_unit_of env (units.Digits value at) h = both_went (pos value) h
+  both_unit_of env (units.Name name) h = both_as_number name.at (value_at env name.back) h
+
+  both_summed : (env : Environment) (sum : ℤ) (p : Step) {s : State (Unit {0})} {t : State Bool} → AreAlike s t
+      → GoTogether Same (summed no_bits env sum p s) (summed real_bits env sum p t)
+  both_summed env sum p h =
+      next (both_unit_of env p.unit h) (λ k s t h. both_provided (is_number (moved p.minus sum k)) _ causes.Range (unit_place p.unit) refl
+      (λ fits. both_went (moved p.minus sum k) h))
+
+  both_more_of : (env : Environment) (sum : ℤ) (ps : List Step) {s : State (Unit {0})} {t : State Bool} → AreAlike s t
+      → GoTogether Same (more_of no_bits env sum ps s) (more_of real_bits env sum ps t)
+  both_more_of env sum [] h = both_went sum h
+  both_more_of env sum (p ∷ ps) h =
+      next (both_worked 1 (unit_place p.unit) h) (λ _ s t h. next (both_summed env sum p h) (λ more s t h. both_more_of env more ps h))
+
+  both_number_of : (env : Environment) (ps : List Step) {s : State (Unit {0})} {t : State Bool} → AreAlike s t
+      → GoTogether Same (number_of no_bits env ps s) (number_of real_bits env ps t)
+  both_number_of env [] h = both_went (pos 0) h
+  both_number_of env (p ∷ ps) h = next (both_summed env (pos 0) p h) (λ first s t h. both_more_of env first ps h)
+
+  both_part_of : (env : Environment) (whole : Place) (p : Part) (value : Value) {s : State (Unit {0})} {t : State Bool} → AreAlike s t
+      → GoTogether Same (part_of no_bits env whole p value s) (part_of real_bits env whole p value t)
+  both_part_of env whole (part.Index i at) value h =
+      next (both_as_register at value h) (λ r s t h. next (both_number_of env i h) (λ k s t h.
+      next (both_given (element r k) causes.Index at h) (λ location s t h. both_went (bit location) h)))
+  both_part_of env whole (part.Slice i j at) value h =
+      next (both_as_register at value h) (λ r s t h. next (both_number_of env i h) (λ first s t h.
+      next (both_number_of env j h) (λ last s t h.
+      next (both_given (places r first last) causes.Slice at h) (λ some s t h. both_registered some whole h))))
+
+  both_parts_of : (env : Environment) (whole : Place) (ps : List Part) (value : Value) {s : State (Unit {0})} {t : State Bool} → AreAlike s t
+      → GoTogether Same (parts_of no_bits env whole ps value s) (parts_of real_bits env whole ps value t)
+  both_parts_of env whole [] value h = both_went value h
+  both_parts_of env whole (p ∷ ps) value h = next (both_part_of env whole p value h) (λ value s t h. both_parts_of env whole ps value h)
 
   -- ---- the forms of terms, with runs of a term one deeper that go together
 
@@ -228,37 +286,27 @@ module _ (input : List Bool) where
     both_bits_of env (u ∷ us) h =
         next (both_bit_of env u h) (λ first s t h. next (both_bits_of env us h) (λ more s t h. both_went (first ∷ more) h))
 
-    both_block_of : (env : Environment) (items : List ItemTree) (last : Tree) {s : State (Unit {0})} {t : State Bool} → AreAlike s t
-        → GoTogether Same (block_of no_bits d env items last s) (block_of real_bits e env items last t)
-    both_block_of env [] last h = deeper env last _ _ h
-    both_block_of env (bind name u ∷ items) last h =
+    both_items_run : (env : Environment) (items : List ItemTree) {s : State (Unit {0})} {t : State Bool} → AreAlike s t
+        → GoTogether Same (items_run no_bits d env items s) (items_run real_bits e env items t)
+    both_items_run env [] h = both_went env h
+    both_items_run env (bind name u ∷ items) h =
         next (deeper env u _ _ h) (λ value s t h. next (both_worked (bound_length value) (place_of u) h)
-        (λ _ s t h. both_block_of (bound value env) items last h))
-    both_block_of env (run u ∷ items) last h = next (deeper env u _ _ h) (λ _ s t h. both_block_of env items last h)
+        (λ _ s t h. both_items_run (bound value env) items h))
+    both_items_run env (run u ∷ items) h = next (deeper env u _ _ h) (λ _ s t h. both_items_run env items h)
 
-    both_index : (x : Option ℕ) (at : Place) {s : State (Unit {0})} {t : State Bool} → AreAlike s t
-        → GoTogether {A = Value} {C = Value} Same (after (given x causes.Index at s) (λ location s. went (bit location) s))
-        (after (given x causes.Index at t) (λ location t. went (bit location) t))
-    both_index None at h = both_stuck causes.Index at
-    both_index (Some location) at h = both_went (bit location) h
-
-    both_part_of : (whole : Place) (p : Part) (value : Value) {s : State (Unit {0})} {t : State Bool} → AreAlike s t
-        → GoTogether Same (part_of no_bits whole p value s) (part_of real_bits whole p value t)
-    both_part_of whole (part.Index i at) value h = next (both_as_register at value h) (λ r s t h. both_index (slice_get r i) at h)
-    both_part_of whole (part.Slice i j at) value h =
-        next (both_as_register at value h) (λ r s t h. both_provided (leb i j && leb (j + 1) (length r)) _ causes.Slice at refl
-        (λ fits. both_registered (take (j + 1 - i) (drop i r)) whole h))
-
-    both_parts_of : (whole : Place) (ps : List Part) (value : Value) {s : State (Unit {0})} {t : State Bool} → AreAlike s t
-        → GoTogether Same (parts_of no_bits whole ps value s) (parts_of real_bits whole ps value t)
-    both_parts_of whole [] value h = both_went value h
-    both_parts_of whole (p ∷ ps) value h = next (both_part_of whole p value h) (λ value s t h. both_parts_of whole ps value h)
+    both_turns_of : (env : Environment) (items : List ItemTree) (at : Place) (k : ℤ) (count : ℕ) {s : State (Unit {0})} {t : State Bool} → AreAlike s t
+        → GoTogether Same (turns_of no_bits d env items at k count s) (turns_of real_bits e env items at k count t)
+    both_turns_of env items at k zero h = both_went unit h
+    both_turns_of env items at k (suc more) h =
+        next (next (both_worked 1 at h) (λ _ s t h. both_items_run (bound (number k) env) items h))
+        (λ _ s t h. both_turns_of env items at (k +ℤ pos 1) more h)
 
     both_apply_to : (at : Place) (head argument : Value) {s : State (Unit {0})} {t : State Bool} → AreAlike s t
         → GoTogether Same (apply_to no_bits d at head argument s) (apply_to real_bits e at head argument t)
     both_apply_to at unit argument h = both_stuck _ at
     both_apply_to at (bit location) argument h = both_stuck _ at
     both_apply_to at (register locations) argument h = both_stuck _ at
+    both_apply_to at (number k) argument h = both_stuck _ at
     both_apply_to at (closure [] body env) argument h = both_stuck _ at
     both_apply_to at (closure (name ∷ []) body env) argument h =
         next (both_worked (bound_length argument) at h) (λ _ s t h. deeper (bound argument env) body s t h)
@@ -336,17 +384,21 @@ module _ (input : List Bool) where
     both_term_of env (reg us at) h =
         next (both_bits_of env (list_of us) h) (λ locations s t h. both_provided (leb (length locations) 4096) _ causes.Length at refl
         (λ fits. both_registered locations at h))
-    both_term_of env (block items last at) h = both_block_of env (items_of items) last h
+    both_term_of env (block items last at) h = next (both_items_run env (items_of items) h) (λ inner s t h. deeper inner last s t h)
+    both_term_of env (loop name a b items at) h =
+        next (both_number_of env a h) (λ first s t h. next (both_number_of env b h)
+        (λ last s t h. both_turns_of env (items_of items) at first (turns first last) h))
     both_term_of env (function names body at) h = both_went (closure names body env) h
-    both_term_of env (parts base ps) h = next (deeper env base _ _ h) (λ value s t h. both_parts_of (place_of base) ps value h)
+    both_term_of env (parts base ps) h = next (deeper env base _ _ h) (λ value s t h. both_parts_of env (place_of base) ps value h)
     both_term_of env (apply head us) h = next (deeper env head _ _ h) (λ value s t h. both_apply_all env (list_of us) value h)
     both_term_of env (append u v at) h =
         next (deeper env u _ _ h) (λ x s t h. next (deeper env v _ _ h) (λ y s t h.
         next (both_as_register (place_of u) x h) (λ r s t h. next (both_as_register (place_of v) y h) (λ q s t h.
         both_provided (leb (length r + length q) 4096) _ causes.Length at refl (λ fits. both_registered (r ++ q) at h)))))
     both_term_of env (rotate i u at) h =
-        next (deeper env u _ _ h) (λ x s t h. next (both_as_register (place_of u) x h) (λ r s t h.
-        both_provided (leb (i + 1) (length r)) _ causes.Rotate at refl (λ fits. both_registered (drop i r ++ take i r) at h)))
+        next (both_number_of env i h) (λ k s t h. next (deeper env u _ _ h)
+        (λ x s t h. next (both_as_register (place_of u) x h) (λ r s t h.
+        next (both_given (turned r k) causes.Rotate at h) (λ all s t h. both_registered all at h))))
     both_term_of env (clean u at) h = both_claimed kinds.Clean env u at h
     both_term_of env (assert u at) h = both_claimed kinds.Assert env u at h
     both_term_of env (ands us) h = both_chain entries.And (◌&&◌) is_and env (list_of us) h

@@ -13,7 +13,7 @@ use Rattle.revs_terms.specs.declared.program.Param.{Param}
 use Rattle.revs_terms.specs.Programs.{widths_of, AreParams}
 use Rattle.revs_terms.specs.Trees.{Tree}
 use Rattle.revs_terms.specs.Terms.{place_of}
-use Rattle.revs_terms.specs.Running.{Value, unit, bit, register, closure, nothing, Stamped, Met, State, Outcome, stuck, went, after, run_of}
+use Rattle.revs_terms.specs.Running.{Value, unit, bit, register, number, closure, nothing, Stamped, Met, State, Outcome, stuck, went, after, run_of}
 use Rattle.revs_terms.specs.Runs.{inputs_from, start, params_in, locations_of, read_all, no_bits, real_bits, nothings, run_of_program, run_without_bits}
 use Rattle.revs_terms.specs.Runs.{IsInput, LeavesOn, tape_of, SameForAll, LeavesTape}
 use Rattle.std.proofs.lemmas.Bool.{and_parts}
@@ -81,6 +81,7 @@ module _ (input : List Bool) where
   both_locations_of at (register locations) h =
       both_provided input (leb (length locations) 1024) (leb (length locations) 1024) causes.Outputs at refl (λ fits.
       let few : length locations ≤ 1024 = leb-true (length locations) 1024 fits in record { side = (refl, few, h) })
+  both_locations_of at (number k) h = both_stuck input causes.NoOutput at
   both_locations_of at (closure names body env) h = both_stuck input causes.NoOutput at
 
   -- the outputs that are read, so many of them, with the log as it was

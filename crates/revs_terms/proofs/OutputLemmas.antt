@@ -1,7 +1,7 @@
 -- The registers of a run have a place at least, so a program has an output.
 use Rattle.std.proofs.Common.{◌≡◌, ℕ, zero, suc, ◌+◌, ◌-◌, ◌≤◌, leb, Bool, true, false, ◌&&◌, List, [], ◌∷◌, ◌++◌, length, take, drop, sum, refl, ap, subst}
 use Rattle.std.proofs.Common.{arith}
-use Rattle.std.specs.Prelude.{Option, Some, None, slice_get, ⊤}
+use Rattle.std.specs.Prelude.{Option, Some, None, IfSome, ⊤, ℤ, pos, negsuc, ◌+ℤ◌, if◌then◌else◌}
 use Rattle.std.specs.List.{AllByRecursion, list_all}
 use Rattle.std.proofs.lemmas.Bool.{leb-true}
 use Rattle.std.proofs.lemmas.List.{length-append, length-take, length-drop}
@@ -15,11 +15,12 @@ use Rattle.revs_terms.specs.declared.term.Part.{Part}
 use Rattle.revs_terms.specs.declared.term.Part.TheVariants as part
 use Rattle.revs_terms.specs.Programs.{width_of, widths_of}
 use Rattle.revs_terms.specs.Trees.{Tree, Trees, ItemTree, ItemTrees, list_of, items_of, used, bool, reg, block, function, parts, apply, append, rotate, clean}
-use Rattle.revs_terms.specs.Trees.{assert, ands, xors, assign, nil, cons, bind, run, no_items, item}
-use Rattle.revs_terms.specs.Terms.{place_of, has_one, is_formed, are_formed, item_is_formed, items_are_formed}
-use Rattle.revs_terms.specs.Running.{Value, unit, bit, register, closure, Environment, nothing, bound, value_at, bound_length, Bits, Stamped, State, Outcome}
-use Rattle.revs_terms.specs.Running.{stuck, went, after, provided, given, worked, registered, written, read, as_register, bit_of, bits_of, block_of, part_of}
-use Rattle.revs_terms.specs.Running.{parts_of, apply_to, apply_all, claimed, chain_of, chain, term_of, run_of}
+use Rattle.revs_terms.specs.Trees.{assert, ands, xors, assign, loop, nil, cons, bind, run, no_items, item}
+use Rattle.revs_terms.specs.Terms.{place_of, has_one, parts_are_formed, is_formed, are_formed, item_is_formed, items_are_formed}
+use Rattle.revs_terms.specs.Running.{Value, unit, bit, register, number, closure, Environment, nothing, bound, value_at, bound_length, Bits, Stamped, State}
+use Rattle.revs_terms.specs.Running.{Outcome, stuck, went, after, provided, given, turns, element, places, turned, worked, registered, written, read, as_register}
+use Rattle.revs_terms.specs.Running.{number_of, bit_of, bits_of, part_of, parts_of, items_run, turn_of, turns_of, apply_to, apply_all, claimed, chain_of}
+use Rattle.revs_terms.specs.Running.{chain, term_of, run_of}
 use Rattle.revs_terms.specs.Runs.{start, from, param_value, params_in, locations_of, read_all, no_bits, nothings, run_without_bits, HasOutputs}
 use Rattle.std.proofs.lemmas.Bool.{and_parts}
 use Rattle.revs_terms.specs.declared.cause.Cause.{Cause}
@@ -31,6 +32,7 @@ abbrev mutual
   IsFull unit = ⊤
   IsFull (bit location) = ⊤
   IsFull (register locations) = 1 ≤ length locations
+  IsFull (number k) = ⊤
   IsFull (closure names body env) = (is_formed body ≡ true) × AreFull env
 
   pub AreFull : Environment → Type 0
@@ -61,6 +63,12 @@ formed_items (item i items) e = let h = and_parts (item_is_formed i) (items_are_
 some_length : {A : Type 0} (xs : List A) → has_one xs ≡ true → 1 ≤ length xs
 some_length [] e = cc
 some_length (x ∷ xs) e = omega arith
+
+-- ---- what an option holds, by the test that decides it
+
+by_test : {A : Type 0} (P : A → Type 0) (a : A) (b : Bool) → (b ≡ true → P a) → IfSome (if b then Some a else None) P
+by_test P a true f = f refl
+by_test P a false f = tt
 
 -- ---- what an outcome gives
 
@@ -104,7 +112,43 @@ module _ {B : Type 0} (bits : Bits B) where
   register_of_full at unit s h = nothing_given _ at
   register_of_full at (bit location) s h = nothing_given _ at
   register_of_full at (register locations) s h = some_given locations s h
+  register_of_full at (number k) s h = nothing_given _ at
   register_of_full at (closure names body env) s h = nothing_given _ at
+
+  given_if : {A : Type 0} (P : A → Type 0) (x : Option A) (why : Cause) (at : Place) (s : State B) → IfSome x P → Gives P (given x why at s)
+  given_if P None why at s h = nothing_given why at
+  given_if P (Some a) why at s h = some_given a s h
+
+  some_places : (r : List ℕ) (first last : ℤ) → IfSome (places r first last) (λ q. 1 ≤ length q)
+  some_places r (pos i) (pos j) = by_test _ _ (leb i j && leb (j + 1) (length r)) (λ fits. some_between (and_parts (leb i j) (leb (j + 1) (length r)) fits))
+    where
+      some_between : (leb i j ≡ true) × (leb (j + 1) (length r) ≡ true) → 1 ≤ length (take (j + 1 - i) (drop i r))
+      some_between h =
+          let low = leb-true i j h.0 in let high = leb-true (j + 1) (length r) h.1 in
+          omega (arith, length-take (j + 1 - i) (drop i r), length-drop i r)
+  some_places r (pos i) (negsuc j) = tt
+  some_places r (negsuc i) (pos j) = tt
+  some_places r (negsuc i) (negsuc j) = tt
+
+  some_turned : (r : List ℕ) (k : ℤ) → IfSome (turned r k) (λ q. 1 ≤ length q)
+  some_turned r (pos i) = by_test _ _ (leb (i + 1) (length r)) (λ fits. let h = leb-true (i + 1) (length r) fits in omega
+      (arith, length-append (drop i r) (take i r), length-drop i r))
+  some_turned r (negsuc i) = tt
+
+  full_part : (env : Environment) (whole : Place) (p : Part) (value : Value) (s : State B) → Gives IsFull (part_of bits env whole p value s)
+  full_part env whole (part.Index i at) value s =
+      next (any (as_register bits at value s)) (λ r s _. next (any (number_of bits env i s)) (λ k s _.
+      next (any (given (element r k) causes.Index at s)) (λ location s _. some_given (bit location) s tt)))
+  full_part env whole (part.Slice i j at) value s =
+      next (any (as_register bits at value s)) (λ r s _. next (any (number_of bits env i s)) (λ first s _.
+      next (any (number_of bits env j s)) (λ last s _.
+      next (given_if (λ q. 1 ≤ length q) (places r first last) causes.Slice at s (some_places r first last))
+      (λ some s h. full_register some whole s h))))
+
+  full_parts : (env : Environment) (whole : Place) (ps : List Part) (value : Value) (s : State B) → IsFull value
+      → Gives IsFull (parts_of bits env whole ps value s)
+  full_parts env whole [] value s h = some_given value s h
+  full_parts env whole (p ∷ ps) value s h = next (full_part env whole p value s) (λ value s h. full_parts env whole ps value s h)
 
   module _ (deeper : Environment → Tree → State B → Outcome B Value)
       (full_deeper : (env : Environment) (u : Tree) (s : State B) → AreFull env → is_formed u ≡ true → Gives IsFull (deeper env u s)) where
@@ -113,37 +157,24 @@ module _ {B : Type 0} (bits : Bits B) where
     same_count env (u ∷ us) s =
         next (any (bit_of bits deeper env u s)) (λ first s _. next (same_count env us s) (λ more s h. some_given (first ∷ more) s (ap suc h)))
 
-    full_block : (env : Environment) (items : List ItemTree) (last : Tree) (s : State B) → AreFull env → AreFormedItems items → is_formed last ≡ true
-        → Gives IsFull (block_of bits deeper env items last s)
-    full_block env [] last s full formed e = full_deeper env last s full e
-    full_block env (bind name u ∷ items) last s full formed e =
+    full_items : (env : Environment) (items : List ItemTree) (s : State B) → AreFull env → AreFormedItems items
+        → Gives AreFull (items_run bits deeper env items s)
+    full_items env [] s full formed = some_given env s full
+    full_items env (bind name u ∷ items) s full formed =
         next (full_deeper env u s full formed.0) (λ value s h. next (any (worked bits (bound_length value) (place_of u) s)) (λ _ s _.
-        full_block (bound value env) items last s (h, full) formed.1 e))
-    full_block env (run u ∷ items) last s full formed e = next (any (deeper env u s)) (λ _ s _. full_block env items last s full formed.1 e)
+        full_items (bound value env) items s (h, full) formed.1))
+    full_items env (run u ∷ items) s full formed = next (any (deeper env u s)) (λ _ s _. full_items env items s full formed.1)
 
-    full_index : (x : Option ℕ) (at : Place) (s : State B) → Gives IsFull (after (given x causes.Index at s) (λ location s. went (bit location) s))
-    full_index None at s = nothing_given causes.Index at
-    full_index (Some location) at s = some_given (bit location) s tt
-
-    full_part : (whole : Place) (p : Part) (value : Value) (s : State B) → IsFull value → Gives IsFull (part_of bits whole p value s)
-    full_part whole (part.Index i at) value s h = next (any (as_register bits at value s)) (λ r s _. full_index (slice_get r i) at s)
-    full_part whole (part.Slice i j at) value s h =
-        next (any (as_register bits at value s)) (λ r s _. where_so (leb i j && leb (j + 1) (length r)) _ at (λ fits.
-        full_register (take (j + 1 - i) (drop i r)) whole s (slice_full r i j (and_parts (leb i j) (leb (j + 1) (length r)) fits))))
-      where
-        slice_full : (r : List ℕ) (i j : ℕ) → (leb i j ≡ true) × (leb (j + 1) (length r) ≡ true) → 1 ≤ length (take (j + 1 - i) (drop i r))
-        slice_full r i j h =
-            let first = leb-true i j h.0 in let last = leb-true (j + 1) (length r) h.1 in
-            omega (arith, length-take (j + 1 - i) (drop i r), length-drop i r)
-
-    full_parts : (whole : Place) (ps : List Part) (value : Value) (s : State B) → IsFull value → Gives IsFull (parts_of bits whole ps value s)
-    full_parts whole [] value s h = some_given value s h
-    full_parts whole (p ∷ ps) value s h = next (full_part whole p value s h) (λ value s h. full_parts whole ps value s h)
+    full_turns : (env : Environment) (items : List ItemTree) (at : Place) (k : ℤ) (count : ℕ) (s : State B)
+        → Gives IsFull (turns_of bits deeper env items at k count s)
+    full_turns env items at k zero s = some_given unit s tt
+    full_turns env items at k (suc more) s = next (any (turn_of bits deeper env items at k s)) (λ _ s _. full_turns env items at (k +ℤ pos 1) more s)
 
     full_apply : (at : Place) (head argument : Value) (s : State B) → IsFull head → IsFull argument → Gives IsFull (apply_to bits deeper at head argument s)
     full_apply at unit argument s h full = nothing_given _ at
     full_apply at (bit location) argument s h full = nothing_given _ at
     full_apply at (register locations) argument s h full = nothing_given _ at
+    full_apply at (number k) argument s h full = nothing_given _ at
     full_apply at (closure [] body env) argument s h full = nothing_given _ at
     full_apply at (closure (name ∷ []) body env) argument s h full =
         next (any (worked bits (bound_length argument) at s)) (λ _ s _. full_deeper (bound argument env) body s (full, h.1) h.0)
@@ -183,10 +214,12 @@ module _ {B : Type 0} (bits : Bits B) where
         next (same_count env (list_of us) s) (λ locations s count. where_so (leb (length locations) 4096) _ at
         (λ fits. full_register locations at s (omega arith)))
     full_term env (block items last at) s full e =
-        let h = and_parts (items_are_formed items) (is_formed last) e in full_block env (items_of items) last s full (formed_items items h.0) h.1
+        let h = and_parts (items_are_formed items) (is_formed last) e in
+        next (full_items env (items_of items) s full (formed_items items h.0)) (λ inner s g. full_deeper inner last s g h.1)
     full_term env (function names body at) s full e = some_given (closure names body env) s ((and_parts (has_one names) (is_formed body) e).1, full)
     full_term env (parts base ps) s full e =
-        next (full_deeper env base s full (and_parts (has_one ps) (is_formed base) e).1) (λ value s h. full_parts (place_of base) ps value s h)
+        next (full_deeper env base s full (and_parts (has_one ps && parts_are_formed ps) (is_formed base) e).1)
+        (λ value s h. full_parts env (place_of base) ps value s h)
     full_term env (apply head us) s full e =
         let h = and_parts (is_formed head) (has_one (list_of us) && are_formed us) e in
         let rest = and_parts (has_one (list_of us)) (are_formed us) h.1 in
@@ -197,11 +230,9 @@ module _ {B : Type 0} (bits : Bits B) where
         next (register_of_full (place_of u) x s left) (λ r s some. next (any (as_register bits (place_of v) y s)) (λ q s _.
         where_so (leb (length r + length q) 4096) _ at (λ fits. full_register (r ++ q) at s (omega (arith, length-append r q)))))))
     full_term env (rotate i u at) s full e =
-        next (any (deeper env u s)) (λ x s _. next (any (as_register bits (place_of u) x s)) (λ r s _.
-        where_so (leb (i + 1) (length r)) _ at (λ fits. full_register (drop i r ++ take i r) at s (turned r i fits))))
-      where
-        turned : (r : List ℕ) (i : ℕ) → leb (i + 1) (length r) ≡ true → 1 ≤ length (drop i r ++ take i r)
-        turned r i fits = let h = leb-true (i + 1) (length r) fits in omega (arith, length-append (drop i r) (take i r), length-drop i r)
+        next (any (number_of bits env i s)) (λ k s _. next (any (deeper env u s)) (λ x s _.
+        next (any (as_register bits (place_of u) x s)) (λ r s _.
+        next (given_if (λ q. 1 ≤ length q) (turned r k) causes.Rotate at s (some_turned r k)) (λ all s h. full_register all at s h))))
     full_term env (clean u at) s full e = full_claim kinds.Clean env u at s
     full_term env (assert u at) s full e = full_claim kinds.Assert env u at s
     full_term env (ands us) s full e = full_chain _ bits.and env (list_of us) s
@@ -209,6 +240,9 @@ module _ {B : Type 0} (bits : Bits B) where
     full_term env (assign left right) s full e =
         next (any (bit_of bits deeper env left s)) (λ to s _. next (any (bit_of bits deeper env right s)) (λ from s _.
         next (any (read bits to (place_of left) s)) (λ _ s _. next (any (read bits from (place_of right) s)) (λ b s _. some_given unit _ tt))))
+    full_term env (loop name a b items at) s full e =
+        next (any (number_of bits env a s)) (λ first s _. next (any (number_of bits env b s)) (λ last s _.
+        full_turns env (items_of items) at first (turns first last) s))
 
   full_run : (left : ℕ) (env : Environment) (u : Tree) (s : State B) → AreFull env → is_formed u ≡ true → Gives IsFull (run_of bits left env u s)
   full_run zero env u s full e = nothing_given _ (place_of u)
@@ -216,11 +250,12 @@ module _ {B : Type 0} (bits : Bits B) where
 
   -- ---- the outputs
 
-  some_places : (at : Place) (value : Value) (s : State B) → IsFull value → Gives (λ ls. 1 ≤ length ls) (locations_of at value s)
-  some_places at unit s h = nothing_given _ at
-  some_places at (bit location) s h = some_given (location ∷ []) s (omega arith)
-  some_places at (register locations) s h = where_so (leb (length locations) 1024) _ at (λ fits. some_given locations s h)
-  some_places at (closure names body env) s h = nothing_given _ at
+  some_locations : (at : Place) (value : Value) (s : State B) → IsFull value → Gives (λ ls. 1 ≤ length ls) (locations_of at value s)
+  some_locations at unit s h = nothing_given _ at
+  some_locations at (bit location) s h = some_given (location ∷ []) s (omega arith)
+  some_locations at (register locations) s h = where_so (leb (length locations) 1024) _ at (λ fits. some_given locations s h)
+  some_locations at (number k) s h = nothing_given _ at
+  some_locations at (closure names body env) s h = nothing_given _ at
 
   same_outputs : (at : Place) (ls : List ℕ) (s : State B) → Gives (λ os. length os ≡ length ls) (read_all bits at ls s)
   same_outputs at [] s = some_given [] s refl
@@ -230,7 +265,7 @@ module _ {B : Type 0} (bits : Bits B) where
       → Gives (λ os. 1 ≤ length os) (after (run_of bits left env body s)
       (λ value s. after (locations_of (place_of body) value s) (read_all bits (place_of body))))
   some_outputs left env body s full e =
-      next (full_run left env body s full e) (λ value s h. next (some_places (place_of body) value s h) (λ ls s some.
+      next (full_run left env body s full e) (λ value s h. next (some_locations (place_of body) value s h) (λ ls s some.
       more_outputs (read_all bits (place_of body) ls s) ls some (same_outputs (place_of body) ls s)))
     where
       more_outputs : (o : Outcome B (List (Stamped B))) (ls : List ℕ) → 1 ≤ length ls → Gives (λ os. length os ≡ length ls) o → Gives (λ os. 1 ≤ length os) o

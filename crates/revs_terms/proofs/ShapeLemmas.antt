@@ -1,11 +1,12 @@
 -- The tree of a term of each variant, and of an item.
-use Rattle.std.proofs.Common.{◌≡◌, ℕ, Bool, map, sym, ap, ◌∙◌}
+use Rattle.std.proofs.Common.{◌≡◌, Bool, List, map, sym, ap, ◌∙◌}
 use Rattle.std.specs.Prelude.{Vec, Box}
 use Rattle.std.specs.Global.{Global}
 use Rattle.revc_base.specs.declared.place.Place.{Place}
 use Rattle.revs_terms.specs.Trees.{ItemTree, Tree, FunctionTree, used, bool, reg, block, function, parts, apply, append, rotate, clean, assert, ands, xors}
-use Rattle.revs_terms.specs.Trees.{assign, bind, run, trees, item_trees, item_step, tree_step, function_step, tree_of, item_tree_of}
+use Rattle.revs_terms.specs.Trees.{assign, loop, bind, run, trees, item_trees, item_step, tree_step, function_step, tree_of, item_tree_of}
 use Rattle.revs_terms.specs.declared.term.Name.{Name}
+use Rattle.revs_terms.specs.declared.term.Step.{Step}
 use Rattle.revs_terms.specs.declared.term.Part.{Part}
 use Rattle.revs_terms.specs.declared.term.Lambda.{Lambda, fold_out-Lambda}
 use Rattle.revs_terms.specs.declared.term.Item.{Item, fold-roll-Item}
@@ -53,7 +54,7 @@ pub tree_of-Append : (first second : Box Term Global) (at : Place)
 tree_of-Append first second at = ap tree_of
     (sym (terms.rolls-Append first second at)) ∙ fold-roll-Term ItemTree Tree FunctionTree item_step tree_step function_step (layer.Append first second at)
 
-pub tree_of-Rotate : (by : ℕ) (operand : Box Term Global) (at : Place) → tree_of (terms.Rotate by operand at) ≡ rotate by (tree_of operand.value) at
+pub tree_of-Rotate : (by : List Step) (operand : Box Term Global) (at : Place) → tree_of (terms.Rotate by operand at) ≡ rotate by (tree_of operand.value) at
 tree_of-Rotate by operand at = ap tree_of
     (sym (terms.rolls-Rotate by operand at)) ∙ fold-roll-Term ItemTree Tree FunctionTree item_step tree_step function_step (layer.Rotate by operand at)
 
@@ -83,6 +84,12 @@ pub item_tree_of-Do : (term : Term) → item_tree_of (items.Do term) ≡ run (tr
 item_tree_of-Do term = ap item_tree_of (sym (items.rolls-Do term)) ∙ fold-roll-Item ItemTree Tree FunctionTree item_step tree_step function_step
     (layer.Do term)
 
+pub item_tree_of-For : (name : Name) (first last : List Step) (inside : Vec Item Global) (at : Place)
+    → item_tree_of (items.For name first last inside at) ≡ run (loop name first last (item_trees (map item_tree_of inside.items)) at)
+item_tree_of-For name first last inside at = ap item_tree_of
+    (sym (items.rolls-For name first last inside at)) ∙ fold-roll-Item ItemTree Tree FunctionTree item_step tree_step function_step
+    (layer.For name first last inside at)
+
 -- All of them, for a search or a `simp`.
 pub ruleset shapes = (
   tree_of-Name,
@@ -101,4 +108,5 @@ pub ruleset shapes = (
   tree_of-Assign,
   item_tree_of-Let,
   item_tree_of-Do,
+  item_tree_of-For,
 )

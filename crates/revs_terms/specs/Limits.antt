@@ -1,6 +1,6 @@
 -- The limits as numbers.
 use Rattle.std.specs.Prelude.{◌≡◌}
-use Rattle.revs_terms.specs.declared.limits.TheConstants.{MOST_LEVELS, MOST_DEPTH, MOST_WORK, MOST_PLACES}
+use Rattle.revs_terms.specs.declared.limits.TheConstants.{MOST_LEVELS, MOST_DEPTH, MOST_WORK, MOST_PLACES, MOST_NUMBER}
 
 -- the number of each limit
 pub record LimitsAre : Type 0 where
@@ -8,3 +8,4 @@ pub record LimitsAre : Type 0 where
   pub depth : MOST_DEPTH ≡ 400
   pub work : MOST_WORK ≡ 16777216
   pub places : MOST_PLACES ≡ 4096
+  pub number : MOST_NUMBER ≡ 9999

@@ -1,15 +1,16 @@
--- Terms as contracts see them: trees, with lists in place of vectors.
-use Rattle.std.specs.Prelude.{ℕ, Bool, List, [], ◌∷◌}
+-- Terms as contracts see them: trees, with lists in place of vectors. A `for` is a tree of its own, which stands as an item alone.
+use Rattle.std.specs.Prelude.{Bool, List, [], ◌∷◌}
 use Rattle.revc_base.specs.declared.place.Place.{Place}
 use Rattle.revs_terms.specs.declared.term.Name.{Name}
 use Rattle.revs_terms.specs.declared.term.Part.{Part}
+use Rattle.revs_terms.specs.declared.term.Step.{Step}
 use Rattle.revs_terms.specs.declared.term.Item.{Item}
 use Rattle.revs_terms.specs.declared.term.Term.{Term}
 use Rattle.revs_terms.specs.declared.term.Item.TheOpen.{Item-F, Term-F, Lambda-F}
 use Rattle.revs_terms.specs.declared.term.Item.TheOpen as layer
 use Rattle.revs_terms.specs.declared.term.Item.TheFolds.{fold-Term, fold-Item}
 
--- A term, an item of a block, and the lists of them, which are those of the vectors' elements.
+-- A term, an item of a block or a `for`, and the lists of them, which are those of the vectors' elements.
 mutual
   pub data Tree : Type 0 where
     used : Name → Tree
@@ -20,12 +21,13 @@ mutual
     parts : Tree → List Part → Tree
     apply : Tree → Trees → Tree
     append : Tree → Tree → Place → Tree
-    rotate : ℕ → Tree → Place → Tree
+    rotate : List Step → Tree → Place → Tree
     clean : Tree → Place → Tree
     assert : Tree → Place → Tree
     ands : Trees → Tree
     xors : Trees → Tree
     assign : Tree → Tree → Tree
+    loop : Name → List Step → List Step → ItemTrees → Place → Tree
 
   pub data Trees : Type 0 where
     nil : Trees
@@ -63,6 +65,8 @@ pub record FunctionTree : Type 0 where
 abbrev pub item_step : Item-F ItemTree Tree FunctionTree → ItemTree
 item_step (layer.Let name value) = bind name value
 item_step (layer.Do term) = run term
+item_step (layer.For name first last items at) =
+    run (loop name first last (item_trees items.items) at)
 
 -- One layer of a term, with the tree of each inner term in its stead.
 abbrev pub tree_step : Term-F ItemTree Tree FunctionTree → Tree

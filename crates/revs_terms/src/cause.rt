@@ -33,6 +33,10 @@ pub enum Cause {
     Claims,
     /// The program has more than 1,024 outputs.
     Outputs,
+    /// A number would be above 9,999 or below -9,999.
+    Range,
+    /// The value must be a number.
+    NotNumber,
 }
 
 impl Cause {
@@ -55,6 +59,8 @@ impl Cause {
             Cause::Writes => b"Writes",
             Cause::Claims => b"Claims",
             Cause::Outputs => b"Outputs",
+            Cause::Range => b"Range",
+            Cause::NotNumber => b"NotNumber",
         }
     }
 }

@@ -14,6 +14,9 @@ pub const MOST_WORK: u32 = 16_777_216;
 /// The most places of a register.
 pub const MOST_PLACES: usize = 4_096;
 
+/// The greatest value of a number; its negative is the least.
+pub const MOST_NUMBER: u32 = 9_999;
+
 /// The law of limits: what number each is. The function does nothing: its contract is the law.
 pub fn limits_are()
     ensures { LimitsAre }

@@ -1,9 +1,10 @@
 // Terms, as the grammar gives them.
 ghost use Rattle.std.specs.Prelude.{◌≡◌};
-ghost use Rattle.revs_terms.specs.Terms.{place_of};
+ghost use Rattle.revs_terms.specs.Terms.{place_of, unit_place};
 ghost use Rattle.revs_terms.specs.Trees.{tree_of};
 
 use revc_base::{Place, Text};
+use std::marker::Model;
 
 /// A name in a program. `back` is the number of bindings between a use and its own binding; it is 0
 /// where a name is bound, and at a use until the names were bound.
@@ -14,20 +15,74 @@ pub struct Name {
     pub back: u32,
 }
 
-/// A part of a register: the element in one place, or the elements in the places `i` to `j`. Its
-/// place is that of its dot.
-#[derive(Clone, Copy, Debug)]
-pub enum Part {
-    Index { i: u32, at: Place },
-    Slice { i: u32, j: u32, at: Place },
+/// A unit of a number: digits with their value, or a name that must be bound to a number.
+#[derive(Drop)]
+pub enum Unit {
+    Digits(u32, Place),
+    Name(Name),
 }
 
-/// An item of a block: a value with a name, or a term that is run and whose value is dropped.
+impl Unit {
+    /// The place of the unit, which is one token.
+    pub fn place(&self) -> Place
+        ensures { result ≡ unit_place self.now }
+    {
+        match self {
+            Unit::Digits(_, at) => *at,
+            Unit::Name(name) => name.at,
+        }
+    }
+}
+
+/// A step of a number: a unit that is added, or taken away where it stands behind a `-`.
+#[derive(Drop)]
+pub struct Step {
+    pub minus: bool,
+    pub unit: Unit,
+}
+
+/// A number: its steps from left to right, at least one, of which the first is added. Contracts see
+/// it as the list of its steps.
+#[derive(Drop)]
+pub struct Num {
+    pub steps: Vec<Step>,
+}
+
+impl Model for Num {
+    ghost use Rattle.std.specs.Prelude.{List};
+    ghost use Rattle.revs_terms.specs.declared.term.Step.{Step};
+
+    ghost Value = { List Step };
+
+    ghost view = { λ n. n.steps.items };
+}
+
+/// A part of a register: the element in one place, or the elements in the places `i` to `j`. Its
+/// place is that of its dot.
+#[derive(Drop)]
+pub enum Part {
+    Index { i: Num, at: Place },
+    Slice { i: Num, j: Num, at: Place },
+}
+
+/// An item of a block or of a `for`: a value with a name, a term that is run and whose value is
+/// dropped, or a `for`, whose items are run once for each number from the first to the last. The
+/// place of a `for` is that of its word.
 #[cycle(terms)]
 #[derive(Drop)]
 pub enum Item {
-    Let { name: Name, value: Term },
+    Let {
+        name: Name,
+        value: Term,
+    },
     Do(Term),
+    For {
+        name: Name,
+        first: Num,
+        last: Num,
+        items: Vec<Item>,
+        at: Place,
+    },
 }
 
 /// The names and the body of a function.
@@ -50,7 +105,7 @@ pub enum Term {
     At(Box<Term>, Vec<Part>),
     Apply(Box<Term>, Vec<Term>),
     Append(Box<Term>, Box<Term>, Place),
-    Rotate(u32, Box<Term>, Place),
+    Rotate(Num, Box<Term>, Place),
     Clean(Box<Term>, Place),
     Assert(Box<Term>, Place),
     And(Vec<Term>),
