@@ -3,11 +3,14 @@ use Rattle.std.proofs.Common.{◌≡◌, ℕ, zero, suc, ◌+◌, ◌==◌, Bool
 use Rattle.revs_lexer.specs.declared.token.Tok.TheVariants as toks
 use Rattle.revs_lexer.specs.declared.token.Tok.{Tok}
 use Rattle.revs_lexer.specs.declared.token.Token.{Token}
-use Rattle.revs_grammar.specs.Forms.{Mark, any_name, any_number, word, sign, mark_code, Form, Piece, one, kept, opening, sub, Production}
+use Rattle.revs_grammar.specs.Forms.{Mark, any_name, two, other_number, word, sign, mark_code, Kind}
+use Rattle.revs_grammar.specs.Forms.{Form, in_profile, Piece, one, kept, opening, sub, Production}
 use Rattle.revs_grammar.specs.Forms as g
+use Rattle.revs_grammar.specs.declared.profile.Profile.{Profile}
+use Rattle.revs_grammar.specs.declared.profile.Profile.TheVariants as profiles
 use Rattle.revs_grammar.specs.Productions.{productions}
 use Rattle.revs_grammar.specs.inside.Machine.{table, is_empty, is_optional}
-use Rattle.revs_grammar.proofs.CheckHints.{rank, may_follow}
+use Rattle.revs_grammar.proofs.CheckHints.{rank_of, rank, may_follow}
 
 -- ---- tests of lists and of kinds of tokens
 
@@ -47,7 +50,7 @@ starts_well n _ = true
 -- What may stand behind a form, as far as its lines show, is in its hint.
 abbrev pub is_closed : (ℕ → Bool) → List Piece → Bool
 is_closed behind [] = true
-is_closed behind (sub d f ∷ ps) = all_below 35 (λ c. not (begin behind c ps) || may_follow f c) && is_closed behind ps
+is_closed behind (sub d f ∷ ps) = all_below 36 (λ c. not (begin behind c ps) || may_follow f c) && is_closed behind ps
 is_closed behind (p ∷ ps) = is_closed behind ps
 
 abbrev pub Starts : Form → Type 0
@@ -59,36 +62,76 @@ Closes f = all_lines (is_closed (may_follow f)) (productions f) ≡ true
 -- No two lines of a form begin with the same token, or may both be left out, and no line begins with what may stand behind
 -- the form where it may be left out.
 abbrev pub Parts : Form → Type 0
-Parts f = all_below 35 (λ c. one_line_at_most (begin (may_follow f) c) (productions f)) ≡ true
+Parts f = all_below 36 (λ c. one_line_at_most (begin (may_follow f) c) (productions f)) ≡ true
 
 abbrev pub LeftOutOnce : Form → Type 0
 LeftOutOnce f = one_line_at_most is_empty (productions f) ≡ true
 
+-- What holds of each kind of form in each profile holds of each form.
+pub each_form : (P : Form → Type 0) → ((k : Kind) → P (in_profile profiles.One k)) → ((k : Kind) → P (in_profile profiles.Two k)) → (f : Form) → P f
+each_form P first second f = go f.profile
+  where
+    go : (p : Profile) → P (in_profile p f.kind)
+    go profiles.One = first f.kind
+    go profiles.Two = second f.kind
+
+starts_1 : (k : Kind) → Starts (in_profile profiles.One k)
+starts_1 g.program = refl
+starts_1 _ = refl
+
+starts_2 : (k : Kind) → Starts (in_profile profiles.Two k)
+starts_2 g.program = refl
+starts_2 _ = refl
+
 pub starts : (f : Form) → Starts f
-starts g.program = refl
-starts _ = refl
+starts = each_form Starts starts_1 starts_2
+
+closes_1 : (k : Kind) → Closes (in_profile profiles.One k)
+closes_1 g.program = refl
+closes_1 _ = refl
+
+closes_2 : (k : Kind) → Closes (in_profile profiles.Two k)
+closes_2 g.program = refl
+closes_2 _ = refl
 
 pub closes : (f : Form) → Closes f
-closes g.program = refl
-closes _ = refl
+closes = each_form Closes closes_1 closes_2
+
+parts_1 : (k : Kind) → Parts (in_profile profiles.One k)
+parts_1 g.program = refl
+parts_1 _ = refl
+
+parts_2 : (k : Kind) → Parts (in_profile profiles.Two k)
+parts_2 g.program = refl
+parts_2 _ = refl
 
 pub lines_part : (f : Form) → Parts f
-lines_part g.program = refl
-lines_part _ = refl
+lines_part = each_form Parts parts_1 parts_2
+
+once_1 : (k : Kind) → LeftOutOnce (in_profile profiles.One k)
+once_1 g.program = refl
+once_1 _ = refl
+
+once_2 : (k : Kind) → LeftOutOnce (in_profile profiles.Two k)
+once_2 g.program = refl
+once_2 _ = refl
 
 pub left_out_once : (f : Form) → LeftOutOnce f
-left_out_once g.program = refl
-left_out_once _ = refl
+left_out_once = each_form LeftOutOnce once_1 once_2
 
-pub low_rank : (f : Form) → leb (rank f) 7 ≡ true
-low_rank g.atom = refl
-low_rank _ = refl
+low_ranks : (k : Kind) → leb (rank_of k) 8 ≡ true
+low_ranks g.atom = refl
+low_ranks _ = refl
+
+pub low_rank : (f : Form) → leb (rank f) 8 ≡ true
+low_rank f = low_ranks f.kind
 
 -- ---- the shortest completion of a form
 
 abbrev pub sample_of : Mark → Tok
 sample_of any_name = toks.Name []
-sample_of any_number = toks.Number 0
+sample_of two = toks.Number 2
+sample_of other_number = toks.Number 0
 sample_of (word w) = toks.Word w
 sample_of (sign s) = toks.Sign s
 
@@ -120,6 +163,16 @@ abbrev pub completion : ℕ → Form → Option (List Token)
 completion zero f = None
 completion (suc n) f = first_filled (completion n) (productions f)
 
-pub completes : (f : Form) → is_some (completion 8 f) ≡ true
-completes g.program = refl
-completes _ = refl
+abbrev IsCompleted : Form → Type 0
+IsCompleted f = is_some (completion 9 f) ≡ true
+
+completes_1 : (k : Kind) → IsCompleted (in_profile profiles.One k)
+completes_1 g.program = refl
+completes_1 _ = refl
+
+completes_2 : (k : Kind) → IsCompleted (in_profile profiles.Two k)
+completes_2 g.program = refl
+completes_2 _ = refl
+
+pub completes : (f : Form) → is_some (completion 9 f) ≡ true
+completes = each_form IsCompleted completes_1 completes_2

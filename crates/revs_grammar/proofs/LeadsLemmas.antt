@@ -53,7 +53,7 @@ takes f (t ∷ ts) ps = begin (may_follow f) (code t.tok) ps
 
 takes_once : (f : Form) (ts : List Token) → one_line_at_most (takes f ts) (productions f) ≡ true
 takes_once f [] = left_out_once f
-takes_once f (t ∷ ts) = all_below-at 35 (λ c. one_line_at_most (begin (may_follow f) c) (productions f)) (code t.tok) (lines_part f) (code_low t.tok)
+takes_once f (t ∷ ts) = all_below-at 36 (λ c. one_line_at_most (begin (may_follow f) c) (productions f)) (code t.tok) (lines_part f) (code_low t.tok)
 
 abbrev pub IsDone : Stack → Type 0
 IsDone ss = is_done ss ≡ true

@@ -9,7 +9,7 @@ use Rattle.revs_lexer.specs.declared.word.Word.TheVariants as words
 use Rattle.revs_lexer.specs.declared.token.Tok.{Tok}
 use Rattle.revs_lexer.specs.declared.token.Tok.TheVariants as toks
 use Rattle.std.proofs.lemmas.Bool.{and_parts}
-use Rattle.revs_grammar.specs.Forms.{Mark, any_name, any_number, word, sign, word_code, sign_code, code, mark_code}
+use Rattle.revs_grammar.specs.Forms.{Mark, any_name, two, other_number, word, sign, word_code, sign_code, code, mark_code}
 use Rattle.revs_grammar.specs.Forms.{Form, Val, Piece, one, kept, opening, sub, Production, IsOneOf}
 use Rattle.revs_grammar.specs.Productions.{productions}
 use Rattle.revs_grammar.specs.inside.Machine.{Opening, first_some, behind, begun, first_line, opened, table, is_optional}
@@ -26,17 +26,22 @@ pub sign_low : (s : Sign) → sign_code s ≤ 16
 sign_low signs.Dot = omega arith
 sign_low _ = omega arith
 
-pub code_low : (t : Tok) → code t < 35
+number_low : (b : Bool) → cond b 35 2 < 36
+number_low true = omega arith
+number_low false = omega arith
+
+pub code_low : (t : Tok) → code t < 36
 code_low toks.End = omega arith
 code_low (toks.Name text) = omega arith
-code_low (toks.Number n) = omega arith
+code_low (toks.Number n) = number_low (n == 2)
 code_low (toks.Word w) = omega (arith, word_low w)
 code_low (toks.Sign s) = omega (arith, sign_low s)
 
 -- No mark is that of `End`.
 pub no_end : (m : Mark) → 0 == mark_code m ≡ false
 no_end any_name = refl
-no_end any_number = refl
+no_end two = refl
+no_end other_number = refl
 no_end (word w) = go w
   where
     go : (w : Word) → 0 == 3 + word_code w ≡ false
@@ -139,9 +144,9 @@ steady (suc n) (suc m) c f h k =
 
 pub table_is : (c : ℕ) (f : Form) → table c f ≡ first_line (table c) c (productions f)
 table_is c f =
-    let low : leb (rank f) 7 ≡ true = low_rank f in
-    let few : rank f ≤ 7 = grind (arith, nat_tests) in
-    steady_lines c (rank f) (opened 7 c) (table c) (λ g less. steady 7 8 c g (omega (arith, less, few)) (omega (arith, less, few))) (productions f) (starts f)
+    let low : leb (rank f) 8 ≡ true = low_rank f in
+    let few : rank f ≤ 8 = grind (arith, nat_tests) in
+    steady_lines c (rank f) (opened 8 c) (table c) (λ g less. steady 8 9 c g (omega (arith, less, few)) (omega (arith, less, few))) (productions f) (starts f)
 
 -- ---- the line that a token begins
 
@@ -203,9 +208,9 @@ module _ (next : ℕ → Bool) (c : ℕ) where
           ∙ rest (on_false (begin next c q.pieces) (no_line (begin next c) qs) (one_line_at_most (begin next c) qs) e is)
 
 -- What the table says of a form is what its line says that begins with the token or with what may follow the form.
-pub table_line : (c : ℕ) (f : Form) (p : Production (Val f)) → c < 35 → IsOneOf p (productions f) → begin (may_follow f) c p.pieces ≡ true
+pub table_line : (c : ℕ) (f : Form) (p : Production (Val f)) → c < 36 → IsOneOf p (productions f) → begin (may_follow f) c p.pieces ≡ true
     → table c f ≡ begun (table c) c p.pieces
 table_line c f p low i h =
     table_is c f
     ∙ found (may_follow f) c (productions f) p
-    (all_below-at 35 (λ k. one_line_at_most (begin (may_follow f) k) (productions f)) c (lines_part f) low) i h
+    (all_below-at 36 (λ k. one_line_at_most (begin (may_follow f) k) (productions f)) c (lines_part f) low) i h

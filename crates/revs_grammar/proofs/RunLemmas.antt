@@ -4,7 +4,7 @@ use Rattle.std.proofs.Common.{[], ◌∷◌, ◌++◌, inl, inr, is_some, refl, 
 use Rattle.std.proofs.lemmas.Bool.Decides.{nat_tests}
 use Rattle.revs_lexer.specs.declared.token.Token.{Token}
 use Rattle.std.proofs.lemmas.Bool.{and_parts}
-use Rattle.revs_grammar.specs.Forms.{Mark, any_name, any_number, word, sign, code, mark_code, Form, Val}
+use Rattle.revs_grammar.specs.Forms.{Mark, any_name, two, other_number, word, sign, code, mark_code, Form, Val}
 use Rattle.revs_grammar.specs.Forms.{level, Piece, one, kept, opening, sub, Production, IsOneOf}
 use Rattle.revs_grammar.specs.Productions.{productions}
 use Rattle.revs_grammar.specs.Sentences.{token, kept_token, opening_token, form, symbols, Leads, done, read, keep, open_level, by_line, any_level}
@@ -171,7 +171,7 @@ module _ (a : ℕ → Bool) (t : Token) where
   step_leads (opening_token m l ∷ ss) x left ts e d =
       let k = opened_if (code t.tok == mark_code m) e in
       let n = opened_if (a l) k.1 in open_level (same_code (code t.tok) (mark_code m) k.0) n.0 (moved n.1 d)
-  step_leads (form f l ∷ ss) x left ts e d = go (table (code t.tok) f) (opened_leads 8 f) (is_optional f) refl e (λ h. step_leads ss x left ts h d)
+  step_leads (form f l ∷ ss) x left ts e d = go (table (code t.tok) f) (opened_leads 9 f) (is_optional f) refl e (λ h. step_leads ss x left ts h d)
     where
       go : (o : Option Opening) → IsFormOpen f o → (b : Bool) → is_optional f ≡ b → taken a l ss o (cond b (step a (code t.tok) ss) None) ≡ Some x
           → (step a (code t.tok) ss ≡ Some x → Leads a ss (t ∷ ts) left) → Leads a (form f l ∷ ss) (t ∷ ts) left
@@ -198,7 +198,8 @@ module _ (a : ℕ → Bool) where
 
 sample_code : (m : Mark) → code (sample m).tok ≡ mark_code m
 sample_code any_name = refl
-sample_code any_number = refl
+sample_code two = refl
+sample_code other_number = refl
 sample_code (word w) = refl
 sample_code (sign s) = refl
 
@@ -254,7 +255,7 @@ completed [] = ([], done)
 completed (token m ∷ ss) = let c = completed ss in (sample m ∷ c.0, read (sample_code m) c.1)
 completed (kept_token m ∷ ss) = let c = completed ss in (sample m ∷ c.0, keep (sample_code m) c.1)
 completed (opening_token m l ∷ ss) = let c = completed ss in (sample m ∷ c.0, open_level (sample_code m) refl c.1)
-completed (form f l ∷ ss) = go (completion 8 f) (completes f) (completion_leads 8 f) (completed ss)
+completed (form f l ∷ ss) = go (completion 9 f) (completes f) (completion_leads 9 f) (completed ss)
   where
     go : (o : Option (List Token)) → is_some o ≡ true → IsFilled (λ l. form f l ∷ []) o → (ts : List Token) × Leads any_level ss ts []
         → (ts : List Token) × Leads any_level (form f l ∷ ss) ts []

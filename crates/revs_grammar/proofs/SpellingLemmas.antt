@@ -1,21 +1,26 @@
 -- What a sentence spells is formed, has few levels, and has no more names than tokens.
-use Rattle.std.proofs.Common.{◌≡◌, ℕ, ◌+◌, ◌≤◌, ◌<◌, Bool, true, false, leb, Option, Some, None, List}
+use Rattle.std.proofs.Common.{◌≡◌, ℕ, ◌+◌, ◌≤◌, ◌<◌, Bool, true, false, ◌&&◌, leb, Option, Some, None, List}
 use Rattle.std.proofs.Common.{[], ◌∷◌, length, length-append, if◌then◌else◌, refl, ap, subst, arith}
 use Rattle.std.proofs.lemmas.Bool.Decides.{nat_tests}
 use Rattle.revs_lexer.specs.declared.token.Token.{Token}
 use Rattle.revs_terms.specs.declared.term.Name.{Name}
+use Rattle.revc_base.specs.declared.place.Place.{Place}
+use Rattle.revs_terms.specs.declared.term.Step.{Step}
 use Rattle.revs_terms.specs.declared.term.Part.{Part}
 use Rattle.revs_terms.specs.declared.program.Param.{Param}
 use Rattle.revs_terms.specs.Trees.{Tree, ItemTree, trees, item_trees}
 use Rattle.revs_terms.specs.Trees as t
-use Rattle.revs_terms.specs.Terms.{is_formed, are_formed, items_are_formed, form_of, levels_as, levels_of, levels_of_all}
-use Rattle.revs_terms.specs.Terms.{levels_of_item, levels_of_items, names_of, names_of_all, names_of_items}
+use Rattle.revs_terms.specs.Terms.{is_formed, are_formed, item_is_formed, items_are_formed, form_of, levels_as, levels_of, levels_of_all}
+use Rattle.revs_terms.specs.Terms.{levels_of_item, levels_of_items, names_of, names_of_all, names_of_item, names_of_items}
+use Rattle.revs_terms.specs.Terms.{num_is_formed, part_is_formed, parts_are_formed, names_of_unit, names_of_num, names_of_part, names_of_parts}
 use Rattle.revs_terms.specs.Terms as forms
 use Rattle.revs_terms.specs.Programs.{IsBody}
 use Rattle.std.proofs.lemmas.Bool.{and_from}
-use Rattle.revs_grammar.specs.Forms.{Form, Val, BodyTree}
+use Rattle.revs_grammar.specs.declared.profile.Profile.{Profile}
+use Rattle.revs_grammar.specs.declared.profile.Profile.TheVariants as profiles
+use Rattle.revs_grammar.specs.Forms.{Kind, Form, in_profile, KindVal, Val, BodyTree}
 use Rattle.revs_grammar.specs.Forms as g
-use Rattle.revs_grammar.specs.Productions.{productions, assign_of, xor_of, and_of, apply_of, parts_of, bound_of, in_front, body_of}
+use Rattle.revs_grammar.specs.Productions.{productions, assign_of, xor_of, and_of, apply_of, parts_of, bound_of, index_of, in_front, body_of}
 use Rattle.revs_grammar.specs.Sentences.{IsSentenceOf, few_levels, value}
 use Rattle.revs_grammar.specs.Answers.{HasSentence}
 use Rattle.revs_grammar.proofs.KeepingLemmas.{LinesKeep, values_kept}
@@ -33,6 +38,29 @@ record AreKept (place l : ℕ) (terms : List Tree) (n : ℕ) : Type 0 where
   few : l ≤ 100 → l + levels_of_all place (trees terms) ≤ 101
   names : names_of_all (trees terms) ≤ n
 
+-- A number, and the parts of a term.
+record IsNumKept (steps : List Step) (n : ℕ) : Type 0 where
+  formed : num_is_formed steps ≡ true
+  names : names_of_num steps ≤ n
+
+record ArePartsKept (ps : List Part) (n : ℕ) : Type 0 where
+  formed : parts_are_formed ps ≡ true
+  names : names_of_parts ps ≤ n
+
+record IsPartKept (p : Part) (n : ℕ) : Type 0 where
+  formed : part_is_formed p ≡ true
+  names : names_of_part p ≤ n
+
+record AreItemsKept (l : ℕ) (items : List ItemTree) (n : ℕ) : Type 0 where
+  formed : items_are_formed (item_trees items) ≡ true
+  few : l ≤ 100 → l + levels_of_items (item_trees items) ≤ 101
+  names : names_of_items (item_trees items) ≤ n
+
+record IsItemKept (l : ℕ) (i : ItemTree) (n : ℕ) : Type 0 where
+  formed : item_is_formed i ≡ true
+  few : l ≤ 100 → l + levels_of_item i ≤ 101
+  names : names_of_item i ≤ n
+
 record IsBodyKept (l : ℕ) (inside : BodyTree) (n : ℕ) : Type 0 where
   formed : items_are_formed (item_trees inside.items) ≡ true
   last_formed : is_formed inside.last ≡ true
@@ -49,28 +77,38 @@ abbrev IfThere : {A : Type 0} → (A → Type 0) → Option A → Type 0
 IfThere P None = Unit {0}
 IfThere P (Some x) = P x
 
+abbrev KeepsKind : (k : Kind) → ℕ → KindVal k → ℕ → Type 0
+KeepsKind g.program l p n = IsProgramKept l p.params p.body n
+KeepsKind g.parameter l p n = 1 ≤ n
+KeepsKind g.parameters l ps n = length ps ≤ n
+KeepsKind g.width l w n = Unit {0}
+KeepsKind g.names l ns n = length ns ≤ n
+KeepsKind g.number l n k = Unit {0}
+KeepsKind g.unit l this n = names_of_unit this ≤ n
+KeepsKind g.units l steps n = names_of_num steps ≤ n
+KeepsKind g.num l steps n = IsNumKept steps n
+KeepsKind g.expression l term n = IsKept forms.expression l term n
+KeepsKind g.assigned l right n = IfThere (λ term. IsKept forms.sum l term n) right
+KeepsKind g.sum l term n = IsKept forms.sum l term n
+KeepsKind g.sums l terms n = AreKept forms.product l terms n
+KeepsKind g.product l term n = IsKept forms.product l term n
+KeepsKind g.products l terms n = AreKept forms.application l terms n
+KeepsKind g.application l term n = IsKept forms.application l term n
+KeepsKind g.atom l term n = IsKept forms.atom l term n
+KeepsKind g.atoms l terms n = AreKept forms.atom l terms n
+KeepsKind g.part l p n = IsPartKept p n
+KeepsKind g.part_end l end n = IfThere (λ steps. IsNumKept steps n) end
+KeepsKind g.parts l ps n = ArePartsKept ps n
+KeepsKind g.base l term n = IsKept forms.base l term n
+KeepsKind g.elements l terms n = AreKept forms.expression l terms n
+KeepsKind g.item l this n = IsItemKept l this n
+KeepsKind g.loop_item l this n = IsItemKept l this n
+KeepsKind g.loop_items l items n = AreItemsKept l items n
+KeepsKind g.body l inside n = IsBodyKept l inside n
+KeepsKind g.body_end l rest n = IfThere (λ inside. IsBodyKept l inside n) rest
+
 abbrev Keeps : (f : Form) → ℕ → Val f → ℕ → Type 0
-Keeps g.program l p n = IsProgramKept l p.params p.body n
-Keeps g.parameter l p n = 1 ≤ n
-Keeps g.parameters l ps n = length ps ≤ n
-Keeps g.width l w n = Unit {0}
-Keeps g.names l ns n = length ns ≤ n
-Keeps g.expression l term n = IsKept forms.expression l term n
-Keeps g.assigned l right n = IfThere (λ term. IsKept forms.sum l term n) right
-Keeps g.sum l term n = IsKept forms.sum l term n
-Keeps g.sums l terms n = AreKept forms.product l terms n
-Keeps g.product l term n = IsKept forms.product l term n
-Keeps g.products l terms n = AreKept forms.application l terms n
-Keeps g.application l term n = IsKept forms.application l term n
-Keeps g.atom l term n = IsKept forms.atom l term n
-Keeps g.atoms l terms n = AreKept forms.atom l terms n
-Keeps g.part l p n = Unit {0}
-Keeps g.part_end l p n = Unit {0}
-Keeps g.parts l ps n = Unit {0}
-Keeps g.base l term n = IsKept forms.base l term n
-Keeps g.elements l terms n = AreKept forms.expression l terms n
-Keeps g.body l inside n = IsBodyKept l inside n
-Keeps g.body_end l rest n = IfThere (λ inside. IsBodyKept l inside n) rest
+Keeps f = KeepsKind f.kind
 
 -- ---- levels in a place for a form
 
@@ -148,30 +186,74 @@ application_kept head (next ∷ rest) h k e = record {
   names = omega (arith, h.names, k.names, e);
 }
 
-atom_kept : {l i n : ℕ} (inner : Tree) (inside : List Part) → IsKept forms.base l inner i → i ≤ n → IsKept forms.atom l (parts_of inner inside) n
-atom_kept inner [] h e = looser forms.base forms.atom inner (omega arith) h e
-atom_kept inner (next ∷ rest) h e = record { formed = h.formed; few = λ low. omega (arith, h.few low); names = omega (arith, h.names, e) }
+atom_kept : {l i j n : ℕ} (inner : Tree) (ps : List Part) → IsKept forms.base l inner i → ArePartsKept ps j → i + j ≤ n
+    → IsKept forms.atom l (parts_of inner ps) n
+atom_kept inner [] h k e = looser forms.base forms.atom inner (omega arith) h (omega (arith, e))
+atom_kept inner (next ∷ rest) h k e = record {
+  formed = and_from (parts_are_formed (next ∷ rest)) (is_formed inner) k.formed h.formed;
+  few = λ low. omega (arith, h.few low);
+  names = omega (arith, h.names, k.names, e);
+}
+
+part_kept : {i n : ℕ} (j : ℕ) (at : Place) (first : List Step) (end : Option (List Step)) → IsNumKept first i → IfThere (λ steps. IsNumKept steps j) end
+    → i + j ≤ n
+    → IsPartKept (index_of at first end) n
+part_kept j at first None h k e = record { formed = h.formed; names = omega (arith, h.names, e) }
+part_kept j at first (Some last) h k e = record {
+  formed = and_from (num_is_formed first) (num_is_formed last) h.formed k.formed;
+  names = omega (arith, h.names, k.names, e);
+}
 
 item_least : (bound : Name) (term : Tree) → levels_of_item (t.bind bound term) ≤ levels_of term
 item_least bound (t.used name) = omega arith
 item_least bound (t.function names body at) = omega arith
 item_least bound _ = omega arith
 
-let_kept : {l i j k n : ℕ} (bound : Name) (names : List Name) (term : Tree) (rest : BodyTree) → length names ≤ i → IsKept forms.expression l term j
-    → IsBodyKept l rest k → i + j + k + 1 ≤ n → IsBodyKept l (in_front (t.bind bound (bound_of names term)) rest) n
-let_kept bound [] term rest m h k e = record {
-  formed = and_from (is_formed term) (items_are_formed (item_trees rest.items)) h.formed k.formed;
-  last_formed = k.last_formed;
-  few = λ low. omega (arith, h.few low, k.few low, item_least bound term, as_least forms.expression term (levels_of term));
-  last_few = k.last_few;
+let_kept : {l i j n : ℕ} (bound : Name) (names : List Name) (term : Tree) → length names ≤ i → IsKept forms.expression l term j → i + j + 1 ≤ n
+    → IsItemKept l (t.bind bound (bound_of names term)) n
+let_kept bound [] term m h e = record {
+  formed = h.formed;
+  few = λ low. omega (arith, h.few low, item_least bound term, as_least forms.expression term (levels_of term));
+  names = omega (arith, h.names, e);
+}
+let_kept bound (first ∷ names) term m h e = record {
+  formed = h.formed;
+  few = λ low. omega (arith, h.few low, as_least forms.expression term (levels_of term));
+  names = omega (arith, m, h.names, e);
+}
+
+run_kept : {l i n : ℕ} (term : Tree) → IsKept forms.expression l term i → i ≤ n → IsItemKept l (t.run term) n
+run_kept term h e = record {
+  formed = h.formed;
+  few = λ low. omega (arith, h.few low, as_least forms.expression term (levels_of term));
+  names = omega (arith, h.names, e);
+}
+
+more_items : {l i j n : ℕ} (this : ItemTree) (rest : List ItemTree) → IsItemKept l this i → AreItemsKept l rest j → i + j ≤ n
+    → AreItemsKept l (this ∷ rest) n
+more_items this rest h k e = record {
+  formed = and_from (item_is_formed this) (items_are_formed (item_trees rest)) h.formed k.formed;
+  few = λ low. omega (arith, h.few low, k.few low);
   names = omega (arith, h.names, k.names, e);
 }
-let_kept bound (first ∷ names) term rest m h k e = record {
-  formed = and_from (is_formed term) (items_are_formed (item_trees rest.items)) h.formed k.formed;
+
+for_kept : {l h i j n : ℕ} (name : Name) (low high : List Step) (this : ItemTree) (rest : List ItemTree) (at : Place) → l + 1 ≤ 100 → IsNumKept low h
+    → IsNumKept high i → AreItemsKept (l + 1) (this ∷ rest) j → h + i + j + 1 ≤ n
+    → IsItemKept l (t.run (t.loop name low high (item_trees (this ∷ rest)) at)) n
+for_kept name low high this rest at few h i k e = record {
+  formed = and_from (num_is_formed low && num_is_formed high) (items_are_formed (item_trees (this ∷ rest)))
+      (and_from (num_is_formed low) (num_is_formed high) h.formed i.formed) k.formed;
+  few = λ _. omega (arith, few, k.few few);
+  names = omega (arith, h.names, i.names, k.names, e);
+}
+
+front_kept : {l i j n : ℕ} (this : ItemTree) (rest : BodyTree) → IsItemKept l this i → IsBodyKept l rest j → i + j ≤ n → IsBodyKept l (in_front this rest) n
+front_kept this rest h k e = record {
+  formed = and_from (item_is_formed this) (items_are_formed (item_trees rest.items)) h.formed k.formed;
   last_formed = k.last_formed;
-  few = λ low. omega (arith, h.few low, k.few low, as_least forms.expression term (levels_of term));
+  few = λ low. omega (arith, h.few low, k.few low);
   last_few = k.last_few;
-  names = omega (arith, m, h.names, k.names, e);
+  names = omega (arith, h.names, k.names, e);
 }
 
 body_kept_by : {l i n : ℕ} (j : ℕ) (term : Tree) (rest : Option BodyTree) → IsKept forms.expression l term i → IfThere (λ inside. IsBodyKept l inside j) rest
@@ -184,30 +266,33 @@ body_kept_by j term None h k e = record {
   last_few = λ low. omega (arith, h.few low, as_least forms.expression term (levels_of term));
   names = omega (arith, h.names, e);
 }
-body_kept_by j term (Some rest) h k e = record {
-  formed = and_from (is_formed term) (items_are_formed (item_trees rest.items)) h.formed k.formed;
-  last_formed = k.last_formed;
-  few = λ low. omega (arith, h.few low, k.few low, as_least forms.expression term (levels_of term));
-  last_few = k.last_few;
-  names = omega (arith, h.names, k.names, e);
+body_kept_by {l} {i} j term (Some rest) h k e = front_kept (t.run term) rest (run_kept term h (omega arith)) k e
+
+program_kept : {l i j k n : ℕ} (first : Param) (rest : List Param) (term : Tree) → 1 ≤ i → length rest ≤ j → IsKept forms.expression (l + 1) term k
+    → i + j + k ≤ n → IsProgramKept l (first ∷ rest) term n
+program_kept first rest term hi hj h e = record {
+  formed = h.formed;
+  few = λ at_start. omega (arith, at_start, h.few (omega (arith, at_start)), as_least forms.expression term (levels_of term));
+  names = omega (arith, hi, hj, h.names, e);
 }
 
 -- ---- each line keeps it
 
-lines_keep : (f : Form) → LinesKeep few_levels Keeps f (productions f)
-lines_keep g.program = (
-  λ l first i hi rest j hj term k h. let x : IsKept forms.expression (l + 1) term k = h in record {
-    formed = x.formed;
-    few = λ at_start. omega (arith, x.few (omega (arith, at_start)), as_least forms.expression term (levels_of term));
-    names = omega (arith, hi, hj, x.names);
-  },
-  tt,
+kind_keeps : (p : Profile) (k : Kind) → LinesKeep few_levels Keeps (in_profile p k) (productions (in_profile p k))
+kind_keeps p g.program = (
+  λ l first i hi rest j hj term k h. program_kept first rest term hi hj h (omega arith),
+  (λ l first i hi rest j hj term k h. program_kept first rest term hi hj h (omega arith), tt),
 )
-lines_keep g.parameter = (λ l n w i hi. omega arith, tt)
-lines_keep g.width = (λ l. tt, (λ l w. tt, tt))
-lines_keep g.parameters = (λ l. omega arith, (λ l p i hi rest j hj. omega (arith, hi, hj), tt))
-lines_keep g.names = (λ l. omega arith, (λ l n rest j hj. omega (arith, hj), tt))
-lines_keep g.expression = (
+kind_keeps p g.parameter = (λ l n w i hi. omega arith, tt)
+kind_keeps p g.width = (λ l. tt, (λ l w i k. tt, tt))
+kind_keeps p g.parameters = (λ l. omega arith, (λ l p i hi rest j hj. omega (arith, hi, hj), tt))
+kind_keeps p g.names = (λ l. omega arith, (λ l n rest j hj. omega (arith, hj), tt))
+kind_keeps p g.number = (λ l n. tt, (λ l n. tt, tt))
+kind_keeps p g.unit = (λ l n i h. omega arith, (λ l n. omega arith, tt))
+kind_keeps p g.units = (λ l. omega arith, (λ l next i h more j k. omega (arith, h, k), (λ l next i h more j k. omega (arith, h, k), tt)))
+kind_keeps profiles.One g.num = (λ l n i k. record { formed = refl; names = omega arith }, tt)
+kind_keeps profiles.Two g.num = (λ l first i h more j k. record { formed = refl; names = omega (arith, h, k) }, tt)
+kind_keeps p g.expression = (
   λ l at ok first rest j hj term k h. let x : IsKept forms.expression (l + 1) term k = h in record {
     formed = x.formed;
     few = λ low. omega (arith, x.few (allowed l ok), as_least forms.expression term (levels_of term));
@@ -215,12 +300,12 @@ lines_keep g.expression = (
   },
   (λ l left i h right j k. assigned j left right h k (omega arith), tt),
 )
-lines_keep g.assigned = (λ l. tt, (λ l right i h. looser forms.sum forms.sum right (omega arith) h (omega arith), tt))
-lines_keep g.sum = (λ l first i h rest j k. sum_kept first rest h k (omega arith), tt)
-lines_keep g.sums = (λ l. none, (λ l next i h rest j k. more next rest h k (omega arith), tt))
-lines_keep g.product = (λ l first i h rest j k. product_kept first rest h k (omega arith), tt)
-lines_keep g.products = (λ l. none, (λ l next i h rest j k. more next rest h k (omega arith), tt))
-lines_keep g.application = (
+kind_keeps p g.assigned = (λ l. tt, (λ l right i h. looser forms.sum forms.sum right (omega arith) h (omega arith), tt))
+kind_keeps p g.sum = (λ l first i h rest j k. sum_kept first rest h k (omega arith), tt)
+kind_keeps p g.sums = (λ l. none, (λ l next i h rest j k. more next rest h k (omega arith), tt))
+kind_keeps p g.product = (λ l first i h rest j k. product_kept first rest h k (omega arith), tt)
+kind_keeps p g.products = (λ l. none, (λ l next i h rest j k. more next rest h k (omega arith), tt))
+kind_keeps p g.application = (
   λ l at operand i h. record { formed = h.formed; few = h.few; names = omega (arith, h.names) },
   (
     λ l at operand i h. record { formed = h.formed; few = h.few; names = omega (arith, h.names) },
@@ -231,18 +316,28 @@ lines_keep g.application = (
         names = omega (arith, h.names, k.names);
       },
       (
-        λ l at by operand i h. record { formed = h.formed; few = h.few; names = omega (arith, h.names) },
+        λ l at by i h operand j k. record {
+          formed = and_from (num_is_formed by) (is_formed operand) h.formed k.formed;
+          few = k.few;
+          names = omega (arith, h.names, k.names);
+        },
         (λ l head i h rest j k. application_kept head rest h k (omega arith), tt),
       ),
     ),
   ),
 )
-lines_keep g.atom = (λ l inner i h inside j k. atom_kept inner inside h (omega arith), tt)
-lines_keep g.atoms = (λ l. none, (λ l next i h rest j k. more next rest h k (omega arith), tt))
-lines_keep g.part = (λ l at i j k h. tt, tt)
-lines_keep g.part_end = (λ l. tt, (λ l j. tt, tt))
-lines_keep g.parts = (λ l. tt, (λ l p i h ps j k. tt, tt))
-lines_keep g.base = (
+kind_keeps p g.atom = (λ l inner i h ps j k. atom_kept inner ps h k (omega arith), tt)
+kind_keeps p g.atoms = (λ l. none, (λ l next i h rest j k. more next rest h k (omega arith), tt))
+kind_keeps p g.part = (λ l at first i h end j k. part_kept j at first end h k (omega arith), tt)
+kind_keeps p g.part_end = (λ l. tt, (λ l last i h. record { formed = h.formed; names = omega (arith, h.names) }, tt))
+kind_keeps p g.parts = (
+  λ l. record { formed = refl; names = omega arith },
+  (
+    λ l this i h ps j k. record { formed = and_from (part_is_formed this) (parts_are_formed ps) h.formed k.formed; names = omega (arith, h.names, k.names) },
+    tt,
+  ),
+)
+kind_keeps p g.base = (
   λ l n. record { formed = refl; few = λ low. omega arith; names = omega arith },
   (
     λ l at. record { formed = refl; few = λ low. omega arith; names = omega arith },
@@ -273,15 +368,36 @@ lines_keep g.base = (
     ),
   ),
 )
-lines_keep g.elements = (λ l. none, (λ l next i h rest j k. more next rest h k (omega arith), tt))
-lines_keep g.body = (
-  λ l bound names i hi term j h rest k hk. let_kept bound names term rest hi h hk (omega arith),
+kind_keeps p g.elements = (λ l. none, (λ l next i h rest j k. more next rest h k (omega arith), tt))
+kind_keeps profiles.One g.item = (λ l bound names i hi term j h. let_kept bound names term hi h (omega arith), tt)
+kind_keeps profiles.Two g.item = (
+  λ l bound names i hi term j h. let_kept bound names term hi h (omega arith),
+  (
+    λ l at name low h hh high i hi curly ok this j hj rest k hk. let items : AreItemsKept (l + 1) (this ∷ rest) (j + k) = more_items this rest hj hk
+        (omega arith) in
+        for_kept name low high this rest at (allowed l ok) hh hi items (omega arith),
+    tt,
+  ),
+)
+kind_keeps p g.loop_item = (
+  λ l this i h. record { formed = h.formed; few = h.few; names = omega (arith, h.names) },
+  (λ l term i h. run_kept term h (omega arith), tt),
+)
+kind_keeps p g.loop_items = (
+  λ l. record { formed = refl; few = λ low. omega arith; names = omega arith },
+  (λ l this i h rest j k. more_items this rest h k (omega arith), tt),
+)
+kind_keeps p g.body = (
+  λ l this i h rest k hk. front_kept this rest h hk (omega arith),
   (λ l term i h rest j k. body_kept_by j term rest h k (omega arith), tt),
 )
-lines_keep g.body_end = (
+kind_keeps p g.body_end = (
   λ l rest k h. record { formed = h.formed; last_formed = h.last_formed; few = h.few; last_few = h.last_few; names = omega (arith, h.names) },
   (λ l. tt, tt),
 )
+
+lines_keep : (f : Form) → LinesKeep few_levels Keeps f (productions f)
+lines_keep f = kind_keeps f.profile f.kind
 
 -- ---- what a program keeps
 

@@ -45,7 +45,7 @@ step_begins a c (form f l ∷ ss) x e = go (table c f) (is_optional f) e (step_b
 
 -- What begins the stack may follow the form.
 pub record BehindIn (f : Form) (ss : Stack) : Type 0 where
-  pub follows : (c : ℕ) → c < 35 → may_begin c ss ≡ true → may_follow f c ≡ true
+  pub follows : (c : ℕ) → c < 36 → may_begin c ss ≡ true → may_follow f c ≡ true
 
 abbrev pub IsOrdered : Stack → Type 0
 IsOrdered [] = Unit {0}
@@ -69,16 +69,16 @@ begin_of next c l (sub d f ∷ ps) ss e h = go (is_some (table c f)) (is_optiona
     go false false e k = e
 
 ordered : (next : ℕ → Bool) (l : ℕ) (ps : List Piece) (ss : Stack) → is_closed next ps ≡ true
-    → ((c : ℕ) → c < 35 → may_begin c ss ≡ true → next c ≡ true) → IsOrdered ss → IsOrdered (symbols l ps ++ ss)
+    → ((c : ℕ) → c < 36 → may_begin c ss ≡ true → next c ≡ true) → IsOrdered ss → IsOrdered (symbols l ps ++ ss)
 ordered next l [] ss e h o = o
 ordered next l (one m ∷ ps) ss e h o = ordered next l ps ss e h o
 ordered next l (kept m ∷ ps) ss e h o = ordered next l ps ss e h o
 ordered next l (opening m ∷ ps) ss e h o = ordered next l ps ss e h o
 ordered next l (sub d f ∷ ps) ss e h o =
-    let parts = and_parts (all_below 35 (λ c. not (begin next c ps) || may_follow f c)) (is_closed next ps) e in (
+    let parts = and_parts (all_below 36 (λ c. not (begin next c ps) || may_follow f c)) (is_closed next ps) e in (
       record {
         follows = λ c low b.
-            implied (begin next c ps) (may_follow f c) (all_below-at 35 (λ c. not (begin next c ps) || may_follow f c) c parts.0 low)
+            implied (begin next c ps) (may_follow f c) (all_below-at 36 (λ c. not (begin next c ps) || may_follow f c) c parts.0 low)
             (begin_of next c l ps ss b (h c low));
       },
       ordered next l ps ss parts.1 h o,
@@ -139,7 +139,7 @@ has_empty-of (q ∷ qs) p (inr i) e = go (is_empty q.pieces) (has_empty-of qs p 
     go false e = e
 
 -- The step of a form is that of its line.
-pub line_step : (a : ℕ → Bool) (c : ℕ) (f : Form) (l : ℕ) (ss x : Stack) (p : Production (Val f)) → c < 35 → IsOneOf p (productions f) → BehindIn f ss
+pub line_step : (a : ℕ → Bool) (c : ℕ) (f : Form) (l : ℕ) (ss x : Stack) (p : Production (Val f)) → c < 36 → IsOneOf p (productions f) → BehindIn f ss
     → step a c (symbols l p.pieces ++ ss) ≡ Some x → step a c (form f l ∷ ss) ≡ Some x
 line_step a c f l ss x p low i b e = go (piece_step a c l (rank f) p.pieces ss x (all_lines-at (starts_well (rank f)) (productions f) p (starts f) i) e)
   where

@@ -1,5 +1,5 @@
 -- What the lines of the grammar are made of: the forms, what each stands for, and the pieces of a line.
-use Rattle.std.specs.Prelude.{◌≡◌, ℕ, ◌+◌, Option, List, [], ◌∷◌, ◌⊎◌}
+use Rattle.std.specs.Prelude.{◌≡◌, ℕ, ◌+◌, ◌==◌, cond, Option, List, [], ◌∷◌, ◌⊎◌}
 use Rattle.revc_base.specs.declared.place.Place.{Place}
 use Rattle.revs_lexer.specs.declared.sign.Sign.{Sign}
 use Rattle.revs_lexer.specs.declared.sign.Sign.TheVariants as signs
@@ -9,24 +9,35 @@ use Rattle.revs_lexer.specs.declared.token.Tok.{Tok}
 use Rattle.revs_lexer.specs.declared.token.Tok.TheVariants as toks
 use Rattle.revs_lexer.specs.declared.token.Token.{Token}
 use Rattle.revs_terms.specs.declared.term.Name.{Name}
+use Rattle.revs_terms.specs.declared.term.Unit as u
+use Rattle.revs_terms.specs.declared.term.Step.{Step}
 use Rattle.revs_terms.specs.declared.term.Part.{Part}
 use Rattle.revs_terms.specs.declared.program.Param.{Param}
 use Rattle.revs_terms.specs.Trees.{Tree, ItemTree}
 use Rattle.revs_terms.specs.Views.{ProgramView}
+use Rattle.revs_grammar.specs.declared.profile.Profile.{Profile}
+use Rattle.revs_grammar.specs.declared.profile.Profile.TheVariants as profiles
 
 -- ---- tokens
 
--- What a line says of a token: any name, any number, this word or this sign.
+-- What a line says of a token: any name, the number 2, any other number, this word, or this sign.
 pub data Mark : Type 0 where
   any_name : Mark
-  any_number : Mark
+  two : Mark
+  other_number : Mark
   word : Word → Mark
   sign : Sign → Mark
+
+-- a number as it stands in a text: its value and its place
+pub record Numeral : Type 0 where
+  pub value : ℕ
+  pub at : Place
 
 -- what a token stands for by itself
 abbrev pub Held : Mark → Type 0
 Held any_name = Name
-Held any_number = ℕ
+Held two = Numeral
+Held other_number = Numeral
 Held (word w) = Place
 Held (sign s) = Place
 
@@ -67,17 +78,18 @@ sign_code signs.DotDot = 14
 sign_code signs.Plus = 15
 sign_code signs.Minus = 16
 
--- The kind of a token as a number: all names are of one kind, and all numbers.
+-- The kind of a token as a number: all names are of one kind, and all numbers but 2, however it is spelled.
 abbrev pub code : Tok → ℕ
 code toks.End = 0
 code (toks.Name text) = 1
-code (toks.Number n) = 2
+code (toks.Number n) = cond (n == 2) 35 2
 code (toks.Word w) = 3 + word_code w
 code (toks.Sign s) = 18 + sign_code s
 
 abbrev pub mark_code : Mark → ℕ
 mark_code any_name = 1
-mark_code any_number = 2
+mark_code two = 35
+mark_code other_number = 2
 mark_code (word w) = 3 + word_code w
 mark_code (sign s) = 18 + sign_code s
 
@@ -93,74 +105,114 @@ abbrev pub number_in : Tok → ℕ
 number_in (toks.Number n) = n
 number_in _ = 0
 
+abbrev pub numeral_in : Token → Numeral
+numeral_in t = record { value = number_in t.tok; at = t.at }
+
 -- what a token of the marked kind stands for
 abbrev pub held : (m : Mark) → Token → Held m
 held any_name t = name_in t.tok t.at
-held any_number t = number_in t.tok
+held two t = numeral_in t
+held other_number t = numeral_in t
 held (word w) t = t.at
 held (sign s) t = t.at
 
 -- ---- forms
 
 -- What repeats or may be left out is a form of its own, and so is what is left of two lines that begin alike.
-pub data Form : Type 0 where
-  program : Form
-  parameter : Form
+pub data Kind : Type 0 where
+  program : Kind
+  parameter : Kind
   -- { param }
-  parameters : Form
+  parameters : Kind
   -- `)` or `[ number ] )`
-  width : Form
+  width : Kind
   -- { name }
-  names : Form
-  expression : Form
+  names : Kind
+  -- a number token
+  number : Kind
+  -- number | name
+  unit : Kind
+  -- { + unit | - unit }
+  units : Kind
+  -- a number in profile 1, unit { + unit | - unit } in profile 2
+  num : Kind
+  expression : Kind
   -- [ <- sum ]
-  assigned : Form
-  sum : Form
+  assigned : Kind
+  sum : Kind
   -- { <> product }
-  sums : Form
-  product : Form
+  sums : Kind
+  product : Kind
   -- { && application }
-  products : Form
-  application : Form
-  atom : Form
+  products : Kind
+  application : Kind
+  atom : Kind
   -- { atom }
-  atoms : Form
-  part : Form
-  -- `]` or `.. number ]`
-  part_end : Form
+  atoms : Kind
+  part : Kind
+  -- `]` or `.. num ]`
+  part_end : Kind
   -- { part }
-  parts : Form
-  base : Form
+  parts : Kind
+  base : Kind
   -- { ; expr }
-  elements : Form
+  elements : Kind
+  -- an item that is no expression
+  item : Kind
+  -- an item of a `for`
+  loop_item : Kind
+  -- { item } of a `for`
+  loop_items : Kind
   -- { item } expr }
-  body : Form
+  body : Kind
   -- `; { item } expr }` or `}`
-  body_end : Form
+  body_end : Kind
 
 -- the items of a block, and its last expression
 pub record BodyTree : Type 0 where
   pub items : List ItemTree
   pub last : Tree
 
--- what a form stands for
+-- what a form of this kind stands for
+abbrev pub KindVal : Kind → Type 0
+KindVal program = ProgramView
+KindVal parameter = Param
+KindVal parameters = List Param
+KindVal width = Option ℕ
+KindVal names = List Name
+KindVal number = Numeral
+KindVal unit = u.Unit
+KindVal units = List Step
+KindVal num = List Step
+KindVal assigned = Option Tree
+KindVal sums = List Tree
+KindVal products = List Tree
+KindVal atoms = List Tree
+KindVal part = Part
+KindVal part_end = Option (List Step)
+KindVal parts = List Part
+KindVal elements = List Tree
+KindVal item = ItemTree
+KindVal loop_item = ItemTree
+KindVal loop_items = List ItemTree
+KindVal body = BodyTree
+KindVal body_end = Option BodyTree
+KindVal _ = Tree
+
+-- A form is one of a kind, in a profile of the language.
+pub record Form : Type 0 where
+  pub kind : Kind
+  pub profile : Profile
+
+abbrev pub in_profile : Profile → Kind → Form
+in_profile p k = record { kind = k; profile = p }
+
+-- a form whose lines are the same in both profiles
+abbrev pub common : Kind → Form
+common k = in_profile profiles.One k
+
 abbrev pub Val : Form → Type 0
-Val program = ProgramView
-Val parameter = Param
-Val parameters = List Param
-Val width = Option ℕ
-Val names = List Name
-Val assigned = Option Tree
-Val sums = List Tree
-Val products = List Tree
-Val atoms = List Tree
-Val part = Part
-Val part_end = Option ℕ
-Val parts = List Part
-Val elements = List Tree
-Val body = BodyTree
-Val body_end = Option BodyTree
-Val _ = Tree
+Val f = KindVal f.kind
 
 -- ---- lines
 
@@ -182,15 +234,6 @@ pub data Piece : Type 0 where
   kept : Mark → Piece
   opening : Mark → Piece
   sub : Depth → Form → Piece
-
-abbrev pub here : Form → Piece
-here f = sub same f
-
-abbrev pub deeper : Form → Piece
-deeper f = sub inside f
-
-abbrev pub plain : Form → Piece
-plain f = sub outside f
 
 -- how a line puts together what its pieces stand for
 abbrev pub Builds : Type 0 → List Piece → Type 0

@@ -4,7 +4,7 @@ use Rattle.revs_terms.specs.declared.limits.TheConstants.{MOST_LEVELS}
 use Rattle.revs_lexer.specs.declared.token.Token.{Token}
 use Rattle.revs_terms.specs.declared.program.Param.{Param}
 use Rattle.revs_terms.specs.Trees.{Tree}
-use Rattle.revs_grammar.specs.Forms.{Mark, Held, held, code, mark_code, Form, Val, Piece, level, one, kept, opening, sub, Builds, Production, IsOneOf}
+use Rattle.revs_grammar.specs.Forms.{Mark, Held, held, code, mark_code, Form, common, Val, Piece, level, one, kept, opening, sub, Builds, Production, IsOneOf}
 use Rattle.revs_grammar.specs.Forms as g
 use Rattle.revs_grammar.specs.Productions.{productions}
 
@@ -88,7 +88,7 @@ value (by_line {l = l} {ss = ss} p is d) vs = (
 
 -- what a whole program is expected by
 abbrev pub at_start : List Symbol
-at_start = form g.program 0 ∷ []
+at_start = form (common g.program) 0 ∷ []
 
 -- any levels at all
 abbrev pub any_level : ℕ → Bool

@@ -1,5 +1,5 @@
 -- Readings put together, and where they halt.
-use Rattle.std.proofs.Common.{◌≡◌, ℕ, suc, ◌+◌, ◌-◌, ◌*◌, true, Result, Ok, Err, ◌<◌, ◌≤◌, List}
+use Rattle.std.proofs.Common.{◌≡◌, ℕ, suc, ◌+◌, ◌-◌, ◌*◌, true, Result, Err, ◌<◌, ◌≤◌, List}
 use Rattle.std.proofs.Common.{[], ◌∷◌, ◌++◌, refl, sym, ◌∙◌, ap, subst, length, length-append, append_assoc, arith}
 use Rattle.std.specs.Result.{MatchResult, IsErrAnd}
 use Rattle.std.proofs.lemmas.Bool.{leb-true}

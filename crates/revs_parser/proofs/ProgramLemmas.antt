@@ -16,7 +16,9 @@ use Rattle.revs_lexer.specs.declared.token.Tok.{Tok}
 use Rattle.revs_lexer.specs.declared.token.Tok.TheVariants as toks
 use Rattle.revs_lexer.specs.declared.token.Token.{Token}
 use Rattle.revs_lexer.specs.Tokens.{IsEnded}
-use Rattle.revs_grammar.specs.Forms.{any_name, any_number, word, sign}
+use Rattle.revs_grammar.specs.declared.profile.Profile.{Profile}
+use Rattle.revs_grammar.specs.declared.profile.Profile.TheVariants as profiles
+use Rattle.revs_grammar.specs.Forms.{any_name, two, word, sign, Numeral, in_profile, common}
 use Rattle.revs_grammar.specs.Forms as g
 use Rattle.revs_grammar.specs.Sentences.{token, kept_token, form, Vals, at_start}
 use Rattle.revs_grammar.specs.Answers.{HasSentence, IsProgramOf, PassesAt, IsInputs}
@@ -34,10 +36,11 @@ use Rattle.revs_parser.specs.declared.stop.Stop.TheVariants as stops
 use Rattle.revs_parser.specs.declared.program.ParseFault.{ParseFault}
 use Rattle.revs_parser.specs.declared.program.ParseFault.TheVariants as faults
 use Rattle.revs_parser.specs.inside.Reading.{Reads, ReadsForm, IsHalt, Halts, HaltsIn, Heads, NotFirst, end_first}
-use Rattle.revs_parser.specs.inside.Forms.{ReadsParameters, ReadsProgram, IsRefusal, Left}
+use Rattle.revs_parser.specs.inside.Forms.{ReadsParameters, after_main, ReadsProfile, ReadsProgram, IsRefusal, Left}
 use Rattle.revs_parser.specs.Results.{IsAnswer, IsRefused}
 use Rattle.revs_parser.proofs.StepLemmas as m
-use Rattle.revs_parser.proofs.PassingLemmas.{passes_then, beside, and_then, and_maybe, line_passes, halts_first, halts_there, halts_behind}
+use Rattle.revs_parser.proofs.PassingLemmas.{passes_then, beside, passes_reads, and_then, and_maybe}
+use Rattle.revs_parser.proofs.PassingLemmas.{line_passes, halts_first, halts_there, halts_behind, halts_past}
 use Rattle.revs_parser.proofs.TokenLemmas.{a_sign, bare_word, by_pieces, by_token, halts_by_pieces, left_out}
 use Rattle.revs_parser.proofs.ReadingLemmas.{Repeats}
 use Rattle.revs_parser.proofs.ReadingLemmas.{repeats_begun, repeats_more, repeats_done, repeats_halts}
@@ -45,97 +48,128 @@ use Rattle.revs_parser.proofs.ReadingLemmas.{repeats_begun, repeats_more, repeat
 -- ---- parameters
 
 pub no_width : {ts rest : List Token} → NotFirst (toks.Sign signs.OpenSquare) ts → Reads (token (sign signs.CloseRound) ∷ []) tt ts rest
-    → ReadsForm g.width 0 None ts rest
-no_width {ts} h q = by_pieces g.width 0 _ (inl refl) (m.as_width ts h) q
+    → ReadsForm (common g.width) 0 None ts rest
+no_width {ts} h q = by_pieces (common g.width) 0 _ (inl refl) (m.as_width ts h) q
 
-pub some_width : {w : ℕ} {at : Place} {ts a b c rest : List Token} → Heads (toks.Sign signs.OpenSquare) at ts a → Reads (kept_token any_number ∷ []) (w, tt) a b
-    → Reads (token (sign signs.CloseSquare) ∷ []) tt b c → Reads (token (sign signs.CloseRound) ∷ []) tt c rest → ReadsForm g.width 0 (Some w) ts rest
-some_width h n k q = by_token g.width 0 _ (inr (inl refl)) h refl refl refl (and_then (a_sign h) (and_then n (and_then k q)))
+pub some_width : {w : Numeral} {at : Place} {ts a b c rest : List Token} → Heads (toks.Sign signs.OpenSquare) at ts a → ReadsForm (common g.number) 0 w a b
+    → Reads (token (sign signs.CloseSquare) ∷ []) tt b c → Reads (token (sign signs.CloseRound) ∷ []) tt c rest
+    → ReadsForm (common g.width) 0 (Some w.value) ts rest
+some_width h n k q = by_token (common g.width) 0 _ (inr (inl refl)) h refl refl refl (and_then (a_sign h) (and_then n (and_then k q)))
 
 pub width_unclosed : {ts : List Token} {stop : Stop} → NotFirst (toks.Sign signs.OpenSquare) ts → Halts (token (sign signs.CloseRound) ∷ []) ts stop
-    → HaltsIn g.width 0 ts stop
-width_unclosed {ts} h k = halts_by_pieces g.width 0 _ (inl refl) (m.as_width ts h) k
+    → HaltsIn (common g.width) 0 ts stop
+width_unclosed {ts} h k = halts_by_pieces (common g.width) 0 _ (inl refl) (m.as_width ts h) k
 
 pub one_parameter : (w : Option ℕ) {n : Name} {at : Place} {ts a b c d rest : List Token} → Heads (toks.Sign signs.OpenRound) at ts a
     → Reads (kept_token any_name ∷ []) (n, tt) a b
-    → Reads (token (sign signs.Colon) ∷ []) tt b c → Reads (token (word words.Bool) ∷ []) tt c d → ReadsForm g.width 0 w d rest
-    → ReadsForm g.parameter 0 (record { name = n; width = w }) ts rest
-one_parameter w {ts} h q k b r = by_pieces g.parameter 0 _ (inl refl) (m.as_parameter ts)
+    → Reads (token (sign signs.Colon) ∷ []) tt b c → Reads (token (word words.Bool) ∷ []) tt c d → ReadsForm (common g.width) 0 w d rest
+    → ReadsForm (common g.parameter) 0 (record { name = n; width = w }) ts rest
+one_parameter w {ts} h q k b r = by_pieces (common g.parameter) 0 _ (inl refl) (m.as_parameter ts)
     (and_then (a_sign h) (and_then q (and_then k (and_then b r))))
 
 -- The parameters so far, behind those before.
 pub record Parameters (before all : List Param) (ts rest : List Token) : Type 0 where
   pub read : List Param
   pub all_params : all ≡ before ++ read
-  pub repeats : Repeats g.parameters 0 (λ more. read ++ more) ts rest
+  pub repeats : Repeats (common g.parameters) 0 (λ more. read ++ more) ts rest
 
 pub parameters_begun : (params : List Param) (ts : List Token) → Parameters params params ts ts
 parameters_begun params ts = record {
   read = [];
   all_params = sym (append-nil params);
-  repeats = repeats_begun g.parameters 0 (λ more. [] ++ more) ts (λ v. refl);
+  repeats = repeats_begun (common g.parameters) 0 (λ more. [] ++ more) ts (λ v. refl);
 }
 
 another : {at : Place} {ts a : List Token} → Heads (toks.Sign signs.OpenRound) at ts a
-    → (ms : Stack) → outcome ts (form g.parameters 0 ∷ ms) ≡ outcome ts (form g.parameter 0 ∷ form g.parameters 0 ∷ ms)
-another h = m.by_first g.parameters 0 _ (inr (inl refl)) h refl refl refl
+    → (ms : Stack) → outcome ts (form (common g.parameters) 0 ∷ ms) ≡ outcome ts (form (common g.parameter) 0 ∷ form (common g.parameters) 0 ∷ ms)
+another h = m.by_first (common g.parameters) 0 _ (inr (inl refl)) h refl refl refl
 
 pub parameters_more : {before all new : List Param} {next : Param} {at : Place} {ts mid a rest : List Token} → Parameters before all ts mid
     → Heads (toks.Sign signs.OpenRound) at mid a
-    → ReadsForm g.parameter 0 next mid rest → new ≡ all ++ next ∷ [] → Parameters before new ts rest
+    → ReadsForm (common g.parameter) 0 next mid rest → new ≡ all ++ next ∷ [] → Parameters before new ts rest
 parameters_more {next} {mid} {rest} n h q e = record {
   read = n.read ++ next ∷ [];
   all_params = rw (e, n.all_params, append_assoc);
   repeats = repeats_more (λ more. (n.read ++ next ∷ []) ++ more) n.repeats one (λ more. rw append_assoc);
 }
   where
-    one : Repeats g.parameters 0 (λ more. next ∷ more) mid rest
-    one = record { passes = passes_then (line_passes g.parameters 0 _ (inr (inl refl)) (another h)) (beside (form g.parameters 0 ∷ []) q.passes) }
+    one : Repeats (common g.parameters) 0 (λ more. next ∷ more) mid rest
+    one = record {
+      passes = passes_then (line_passes (common g.parameters) 0 _ (inr (inl refl)) (another h))
+          (beside (form (common g.parameters) 0 ∷ []) q.passes);
+    }
 
 pub parameters_done : {before all : List Param} {ts rest : List Token} → Parameters before all ts rest → NotFirst (toks.Sign signs.OpenRound) rest
     → ReadsParameters before all ts rest
 parameters_done {rest} n k = record {
   more = n.read ++ [];
   all_params = rw (n.all_params, append-nil);
-  skips = repeats_done [] n.repeats (left_out g.parameters 0 _ (inl refl) (m.no_parameters rest k));
+  skips = repeats_done [] n.repeats (left_out (common g.parameters) 0 _ (inl refl) (m.no_parameters rest k));
 }
 
 pub parameters_halt : {before all : List Param} {at : Place} {ts mid a : List Token} {stop : Stop} → Parameters before all ts mid
     → Heads (toks.Sign signs.OpenRound) at mid a
-    → HaltsIn g.parameter 0 mid stop → HaltsIn g.parameters 0 ts stop
+    → HaltsIn (common g.parameter) 0 mid stop → HaltsIn (common g.parameters) 0 ts stop
 parameters_halt n h k =
-    repeats_halts n.repeats (halts_there (form g.parameters 0 ∷ []) (form g.parameter 0 ∷ form g.parameters 0 ∷ []) (another h)
-    (halts_first (form g.parameters 0 ∷ []) k))
+    repeats_halts n.repeats (halts_there (form (common g.parameters) 0 ∷ []) (form (common g.parameter) 0 ∷ form (common g.parameters) 0 ∷ []) (another h)
+    (halts_first (form (common g.parameters) 0 ∷ []) k))
+
+-- ---- the profile
+
+pub profile_one : {at : Place} {ts a : List Token} → Heads (toks.Word words.Main) at ts a → ReadsProfile profiles.One ts a
+profile_one h = record {
+  passes = passes_then (line_passes (common g.program) 0 _ (inl refl) (m.by_first (common g.program) 0 _ (inl refl) h refl refl refl))
+      (beside (after_main profiles.One) (bare_word h).passes);
+}
+
+module _ {ts : List Token} (h : NotFirst (toks.Word words.Main) ts) where
+  in_second_line : {stop : Stop} → Halts (token (word words.Revs) ∷ token two ∷ token (word words.Main) ∷ after_main profiles.Two) ts stop
+      → HaltsIn (common g.program) 0 ts stop
+  in_second_line k = halts_by_pieces (common g.program) 0 _ (inr (inl refl)) (m.as_program ts h) k
+
+  pub no_revs : {stop : Stop} → Halts (token (word words.Revs) ∷ []) ts stop → HaltsIn (common g.program) 0 ts stop
+  no_revs k = in_second_line (halts_first (token two ∷ token (word words.Main) ∷ after_main profiles.Two) k)
+
+  module _ {a : List Token} (r : Reads (token (word words.Revs) ∷ []) tt ts a) where
+    pub no_number : {stop : Stop} → Halts (token two ∷ []) a stop → HaltsIn (common g.program) 0 ts stop
+    no_number k = in_second_line (halts_first (token (word words.Main) ∷ after_main profiles.Two) (halts_behind (token two ∷ []) r k))
+
+    module _ {b : List Token} (n : Reads (token two ∷ []) tt a b) where
+      pub no_main : {stop : Stop} → Halts (token (word words.Main) ∷ []) b stop → HaltsIn (common g.program) 0 ts stop
+      no_main k = in_second_line (halts_first (after_main profiles.Two) (halts_behind (token (word words.Main) ∷ []) (and_then r n) k))
+
+      pub profile_two : {c : List Token} → Reads (token (word words.Main) ∷ []) tt b c → ReadsProfile profiles.Two ts c
+      profile_two q = record {
+        passes = passes_then (line_passes (common g.program) 0 _ (inr (inl refl)) (m.as_program ts h))
+            (beside (after_main profiles.Two) (and_then (and_then r n) q).passes);
+      }
 
 -- ---- sentences
 
-abbrev pub after_main : Stack
-after_main = form g.parameter 0 ∷ form g.parameters 0 ∷ token (sign signs.Equal) ∷ form g.expression 1 ∷ []
+pub sentence_halts : {p : Profile} {ts a : List Token} {stop : Stop} → ReadsProfile p ts a → Halts (after_main p) a stop
+    → HaltsIn (common g.program) 0 ts stop
+sentence_halts h k = halts_past h.passes k
 
-pub sentence_halts : {at : Place} {ts a : List Token} {stop : Stop} → Heads (toks.Word words.Main) at ts a → Halts after_main a stop
-    → HaltsIn g.program 0 ts stop
-sentence_halts {ts} h k = halts_by_pieces g.program 0 _ (inl refl) (m.as_program ts) (halts_behind after_main (bare_word h) k)
+pub in_first : (p : Profile) {a : List Token} {stop : Stop} → HaltsIn (common g.parameter) 0 a stop → Halts (after_main p) a stop
+in_first p k = halts_first (form (common g.parameters) 0 ∷ token (sign signs.Equal) ∷ form (in_profile p g.expression) 1 ∷ []) k
 
-pub in_first : {a : List Token} {stop : Stop} → HaltsIn g.parameter 0 a stop → Halts after_main a stop
-in_first k = halts_first (form g.parameters 0 ∷ token (sign signs.Equal) ∷ form g.expression 1 ∷ []) k
-
-module _ {p : Param} {a b : List Token} (q : ReadsForm g.parameter 0 p a b) where
-  pub in_parameters : {stop : Stop} → HaltsIn g.parameters 0 b stop → Halts after_main a stop
-  in_parameters k = halts_first (token (sign signs.Equal) ∷ form g.expression 1 ∷ []) (halts_behind (form g.parameters 0 ∷ []) q k)
+module _ {q : Profile} {p : Param} {a b : List Token} (r : ReadsForm (common g.parameter) 0 p a b) where
+  pub in_parameters : {stop : Stop} → HaltsIn (common g.parameters) 0 b stop → Halts (after_main q) a stop
+  in_parameters k = halts_first (token (sign signs.Equal) ∷ form (in_profile q g.expression) 1 ∷ []) (halts_behind (form (common g.parameters) 0 ∷ []) r k)
 
   pub no_equal : {before all : List Param} {c : List Token} {stop : Stop} → ReadsParameters before all b c → Halts (token (sign signs.Equal) ∷ []) c stop
-      → Halts after_main a stop
-  no_equal n k = halts_first (form g.expression 1 ∷ []) (halts_behind (token (sign signs.Equal) ∷ []) (and_maybe q n.skips) k)
+      → Halts (after_main q) a stop
+  no_equal n k = halts_first (form (in_profile q g.expression) 1 ∷ []) (halts_behind (token (sign signs.Equal) ∷ []) (and_maybe r n.skips) k)
 
   pub in_body : {before all : List Param} {c d : List Token} {stop : Stop} → ReadsParameters before all b c → Reads (token (sign signs.Equal) ∷ []) tt c d
-      → HaltsIn g.expression 1 d stop → Halts after_main a stop
-  in_body n e k = halts_behind (form g.expression 1 ∷ []) (and_then (and_maybe q n.skips) e) k
+      → HaltsIn (in_profile q g.expression) 1 d stop → Halts (after_main q) a stop
+  in_body n e k = halts_behind (form (in_profile q g.expression) 1 ∷ []) (and_then (and_maybe r n.skips) e) k
 
-pub a_sentence : {p : Param} {before all : List Param} {body : Tree} {at : Place} {ts a b c d rest : List Token} → Heads (toks.Word words.Main) at ts a
-    → ReadsForm g.parameter 0 p a b → before ≡ p ∷ [] → ReadsParameters before all b c
-    → Reads (token (sign signs.Equal) ∷ []) tt c d → ReadsForm g.expression 1 body d rest → ReadsProgram all body ts rest
-a_sentence {ts} h q e n k x =
-    rw (n.all_params, e) (by_pieces g.program 0 _ (inl refl) (m.as_program ts) (and_then (bare_word h) (and_then (and_then (and_maybe q n.skips) k) x)))
+pub a_sentence : {q : Profile} {p : Param} {before all : List Param} {body : Tree} {ts a b c d rest : List Token} → ReadsProfile q ts a
+    → ReadsForm (common g.parameter) 0 p a b → before ≡ p ∷ [] → ReadsParameters before all b c
+    → Reads (token (sign signs.Equal) ∷ []) tt c d → ReadsForm (in_profile q g.expression) 1 body d rest → ReadsProgram all body ts rest
+a_sentence h r e n k x =
+    rw (n.all_params, e) (passes_reads h.passes (and_then (and_then (and_maybe r n.skips) k) x))
 
 -- ---- the end
 
@@ -204,7 +238,7 @@ refused tokens (stops.Nesting left) o e k =
     }
 refused tokens stops.Memory o e k = tt
 
-pub halt_is_right : (tokens : List Token) (stop : Stop) → IsEnded tokens → HaltsIn g.program 0 tokens stop → IsRefusal tokens stop
+pub halt_is_right : (tokens : List Token) (stop : Stop) → IsEnded tokens → HaltsIn (common g.program) 0 tokens stop → IsRefusal tokens stop
 halt_is_right tokens stop e h = refused tokens stop (outcome tokens at_start) (h.halt []) (outcome_says tokens e)
 
 pub not_at_end : {params : List Param} {body : Tree} (tokens rest : List Token) → IsEnded tokens → ReadsProgram params body tokens rest → end_first rest ≡ false

@@ -8,14 +8,16 @@ use Rattle.revs_lexer.specs.declared.sign.Sign.TheVariants as signs
 use Rattle.revs_lexer.specs.declared.word.Word.TheVariants as words
 use Rattle.revs_lexer.specs.declared.token.Tok.TheVariants as toks
 use Rattle.revs_lexer.specs.declared.token.Token.{Token}
-use Rattle.revs_grammar.specs.Forms.{any_name, any_number, word, sign, held, Form, Val}
+use Rattle.revs_grammar.specs.declared.profile.Profile.{Profile}
+use Rattle.revs_grammar.specs.Forms.{any_name, word, sign, held, in_profile, common, Form, Val}
 use Rattle.revs_grammar.specs.Forms as g
 use Rattle.revs_grammar.specs.Productions.{bound_of, parts_of, apply_of, in_front}
 use Rattle.revs_grammar.specs.Sentences.{Symbol, token, kept_token, form, Vals, few_levels}
 use Rattle.revs_grammar.specs.inside.Machine.{Stack}
 use Rattle.revs_terms.specs.Trees.{Tree, ItemTree, trees, item_trees, used, bool, reg, block, function, parts, apply, append}
-use Rattle.revs_terms.specs.Trees.{ands, xors, assign, bind, run, tree_of, item_tree_of}
+use Rattle.revs_terms.specs.Trees.{ands, xors, assign, bind, tree_of, item_tree_of}
 use Rattle.revs_terms.specs.declared.term.Name.{Name}
+use Rattle.revs_terms.specs.declared.term.Step.{Step}
 use Rattle.revs_terms.specs.declared.term.Part.{Part}
 use Rattle.revs_terms.specs.declared.term.Part.TheVariants as part_of
 use Rattle.revs_terms.specs.declared.term.Item.{Item}
@@ -27,61 +29,65 @@ use Rattle.revs_parser.specs.declared.front.Operator.TheVariants as operators
 use Rattle.revs_parser.specs.declared.front.Opener.{Opener}
 use Rattle.revs_parser.specs.declared.front.Opener.TheVariants as openers
 use Rattle.revs_parser.specs.inside.Reading.{Passes, Reads, Skips, ReadsForm, Halts, HaltsIn, Heads, NotFirst, base_first, name_first}
-use Rattle.revs_parser.specs.inside.Reading.{ReadsAnywhere, HaltsAnywhere}
+use Rattle.revs_parser.specs.inside.Reading.{ReadsAnywhere, HaltsAnywhere, HaltsAtLevels}
 use Rattle.revs_parser.specs.inside.Forms.{ReadsNames, in_part, ReadsPart, in_function, ReadsFunction, in_application, ReadsAtoms}
 use Rattle.revs_parser.specs.inside.Forms.{in_register, ReadsRegister, ReadsBlock, ReadsItem, in_binding, ReadsBinding}
 use Rattle.revs_parser.specs.inside.Forms.{ReadsFunctionNames, in_bound_names, closed_by, operated, ReadsOperator, NoOperator, in_append, ReadsAppend}
-use Rattle.revs_parser.specs.inside.Forms.{opening, NoOpener, EndsItem, EndsBlock, EndsPiece, ReadsPiece}
-use Rattle.revs_parser.specs.declared.expression.Piece.{Piece}
-use Rattle.revs_parser.specs.declared.expression.Piece.TheVariants as pieces
-use Rattle.revs_parser.proofs.PassingLemmas.{stays, passes_then, turned, beside, passes_reads, and_then, and_maybe, line_passes, no_longer}
+use Rattle.revs_parser.specs.inside.Forms.{opening, NoOpener}
+use Rattle.revs_parser.proofs.PassingLemmas.{stays, passes_then, turned, beside, passes_reads, and_then, and_maybe, line_passes}
 use Rattle.revs_parser.proofs.PassingLemmas.{kept_passes, one_token, halts_first, halts_there, halts_behind, halts_past}
 use Rattle.revs_parser.proofs.StepLemmas as m
 use Rattle.revs_parser.proofs.StepLemmas.{by_first, kept_goes}
-use Rattle.revs_parser.proofs.TokenLemmas.{a_sign, bare_word, a_word, opened, opens_too_many}
+use Rattle.revs_parser.proofs.TokenLemmas.{a_sign, a_word, opened, opens_too_many}
 use Rattle.revs_parser.proofs.TokenLemmas.{by_pieces, by_token, halts_by_pieces, halts_by_token, left_out, skips}
 
 -- ---- expressions
 
-module _ (l : ℕ) {at : Place} {ts mid : List Token} (h : Heads (toks.Word words.Fun) at ts mid) where
-  pub expression_function : {t : Tree} {rest : List Token} {inner : ℕ} → inner ≡ l + 1 → few_levels (l + 1) ≡ true → ReadsFunction inner at t mid rest
-      → ReadsForm g.expression l t ts rest
-  expression_function e ok r =
-      let r' = rw e at r in
-      rw r'.is (by_token g.expression l _ (inl refl) h refl refl refl (and_then (opened (word words.Fun) (l + 1) ok h refl refl refl) r'.reads))
+module _ {p : Profile} where
+  module _ (l : ℕ) {at : Place} {ts mid : List Token} (h : Heads (toks.Word words.Fun) at ts mid) where
+    pub expression_function : {t : Tree} {rest : List Token} {inner : ℕ} → inner ≡ l + 1 → few_levels (l + 1) ≡ true → ReadsFunction p inner at t mid rest
+        → ReadsForm (in_profile p g.expression) l t ts rest
+    expression_function e ok r =
+        let r' = rw e at r in
+        rw r'.is (by_token (in_profile p g.expression) l _ (inl refl) h refl refl refl
+        (and_then (opened (word words.Fun) (l + 1) ok h refl refl refl) r'.reads))
 
-  pub expression_no_level : few_levels (l + 1) ≡ false → (stop : Stop) → stop ≡ stops.Nesting (length ts) → HaltsIn g.expression l ts stop
-  expression_no_level deep stop e =
-      halts_by_token g.expression l _ (inl refl) h refl refl refl (opens_too_many (word words.Fun) (l + 1) (in_function (l + 1)) deep h refl refl stop e)
+    pub expression_no_level : few_levels (l + 1) ≡ false → (stop : Stop) → stop ≡ stops.Nesting (length ts) → HaltsIn (in_profile p g.expression) l ts stop
+    expression_no_level deep stop e =
+        halts_by_token (in_profile p g.expression) l _ (inl refl) h refl refl refl
+        (opens_too_many (word words.Fun) (l + 1) (in_function p (l + 1)) deep h refl refl stop e)
 
-  pub expression_in_function : {stop : Stop} {inner : ℕ} → inner ≡ l + 1 → few_levels (l + 1) ≡ true → Halts (in_function inner) mid stop
-      → HaltsIn g.expression l ts stop
-  expression_in_function e ok r =
-      halts_by_token g.expression l _ (inl refl) h refl refl refl
-      (halts_behind (in_function (l + 1)) (opened (word words.Fun) (l + 1) ok h refl refl refl) (rw e at r))
+    pub expression_in_function : {stop : Stop} {inner : ℕ} → inner ≡ l + 1 → few_levels (l + 1) ≡ true → Halts (in_function p inner) mid stop
+        → HaltsIn (in_profile p g.expression) l ts stop
+    expression_in_function e ok r =
+        halts_by_token (in_profile p g.expression) l _ (inl refl) h refl refl refl
+        (halts_behind (in_function p (l + 1)) (opened (word words.Fun) (l + 1) ok h refl refl refl) (rw e at r))
 
-module _ (l : ℕ) {ts : List Token} (h : NotFirst (toks.Word words.Fun) ts) where
-  pub expression_in_sum : {stop : Stop} → HaltsIn g.sum l ts stop → HaltsIn g.expression l ts stop
-  expression_in_sum r = halts_there (form g.expression l ∷ []) (form g.sum l ∷ form g.assigned l ∷ []) (m.as_expression l ts h)
-      (halts_first (form g.assigned l ∷ []) r)
+  module _ (l : ℕ) {ts : List Token} (h : NotFirst (toks.Word words.Fun) ts) where
+    pub expression_in_sum : {stop : Stop} → HaltsIn (in_profile p g.sum) l ts stop → HaltsIn (in_profile p g.expression) l ts stop
+    expression_in_sum r = halts_there (form (in_profile p g.expression) l ∷ []) (form (in_profile p g.sum) l ∷ form (in_profile p g.assigned) l ∷ [])
+        (m.as_expression p l ts h)
+        (halts_first (form (in_profile p g.assigned) l ∷ []) r)
 
-  pub expression_sum : {left : Tree} {rest : List Token} → ReadsForm g.sum l left ts rest → NotFirst (toks.Sign signs.Assign) rest
-      → ReadsForm g.expression l left ts rest
-  expression_sum {rest} r k =
-      by_pieces g.expression l _ (inr (inl refl)) (m.as_expression l ts h) (and_maybe r (skips (left_out g.assigned l _ (inl refl) (m.no_assigned l rest k))))
+    pub expression_sum : {left : Tree} {rest : List Token} → ReadsForm (in_profile p g.sum) l left ts rest → NotFirst (toks.Sign signs.Assign) rest
+        → ReadsForm (in_profile p g.expression) l left ts rest
+    expression_sum {rest} r k =
+        by_pieces (in_profile p g.expression) l _ (inr (inl refl)) (m.as_expression p l ts h)
+        (and_maybe r (skips (left_out (in_profile p g.assigned) l _ (inl refl) (m.no_assigned p l rest k))))
 
-  pub expression_in_assigned : {left : Tree} {at : Place} {mid behind : List Token} {stop : Stop} → ReadsForm g.sum l left ts mid
-      → Heads (toks.Sign signs.Assign) at mid behind → HaltsIn g.sum l behind stop → HaltsIn g.expression l ts stop
-  expression_in_assigned r k hs =
-      halts_there (form g.expression l ∷ []) (form g.sum l ∷ form g.assigned l ∷ []) (m.as_expression l ts h)
-      (halts_behind (form g.assigned l ∷ []) r (halts_by_token g.assigned l _ (inr (inl refl)) k refl refl refl
-      (halts_behind (form g.sum l ∷ []) (a_sign k) hs)))
+    pub expression_in_assigned : {left : Tree} {at : Place} {mid behind : List Token} {stop : Stop} → ReadsForm (in_profile p g.sum) l left ts mid
+        → Heads (toks.Sign signs.Assign) at mid behind → HaltsIn (in_profile p g.sum) l behind stop → HaltsIn (in_profile p g.expression) l ts stop
+    expression_in_assigned r k hs =
+        halts_there (form (in_profile p g.expression) l ∷ []) (form (in_profile p g.sum) l ∷ form (in_profile p g.assigned) l ∷ []) (m.as_expression p l ts h)
+        (halts_behind (form (in_profile p g.assigned) l ∷ []) r (halts_by_token (in_profile p g.assigned) l _ (inr (inl refl)) k refl refl refl
+        (halts_behind (form (in_profile p g.sum) l ∷ []) (a_sign k) hs)))
 
-  pub expression_assign : {left right whole : Tree} {at : Place} {mid behind rest : List Token} → ReadsForm g.sum l left ts mid
-      → Heads (toks.Sign signs.Assign) at mid behind → ReadsForm g.sum l right behind rest → whole ≡ assign left right → ReadsForm g.expression l whole ts rest
-  expression_assign r k q w =
-      rw w (by_pieces g.expression l _ (inr (inl refl)) (m.as_expression l ts h)
-      (and_then r (by_token g.assigned l _ (inr (inl refl)) k refl refl refl (and_then (a_sign k) q))))
+    pub expression_assign : {left right whole : Tree} {at : Place} {mid behind rest : List Token} → ReadsForm (in_profile p g.sum) l left ts mid
+        → Heads (toks.Sign signs.Assign) at mid behind → ReadsForm (in_profile p g.sum) l right behind rest → whole ≡ assign left right
+        → ReadsForm (in_profile p g.expression) l whole ts rest
+    expression_assign r k q w =
+        rw w (by_pieces (in_profile p g.expression) l _ (inr (inl refl)) (m.as_expression p l ts h)
+        (and_then r (by_token (in_profile p g.assigned) l _ (inr (inl refl)) k refl refl refl (and_then (a_sign k) q))))
 
 -- ---- a form that repeats
 
@@ -114,10 +120,10 @@ repeats_halts r h = halts_past r.passes h
 pub record Names (before all : List Name) (ts rest : List Token) : Type 0 where
   pub read : List Name
   pub all_names : all ≡ before ++ read
-  pub repeats : Repeats g.names 0 (λ more. read ++ more) ts rest
+  pub repeats : Repeats (common g.names) 0 (λ more. read ++ more) ts rest
 
 pub names_begun : (names : List Name) (ts : List Token) → Names names names ts ts
-names_begun names ts = record { read = []; all_names = sym (append-nil names); repeats = repeats_begun g.names 0 (λ more. [] ++ more) ts (λ v. refl) }
+names_begun names ts = record { read = []; all_names = sym (append-nil names); repeats = repeats_begun (common g.names) 0 (λ more. [] ++ more) ts (λ v. refl) }
 
 pub names_more : {before all new : List Name} {next : Name} {ts mid rest : List Token} → Names before all ts mid → name_first mid ≡ true
     → Reads (kept_token any_name ∷ []) (next, tt) mid rest → new ≡ all ++ next ∷ [] → Names before new ts rest
@@ -128,82 +134,105 @@ names_more {next} {mid} {rest} n f r e = record {
 }
   where
     one : (mid rest : List Token) → name_first mid ≡ true → Reads (kept_token any_name ∷ []) (next, tt) mid rest
-        → Repeats g.names 0 (λ more. next ∷ more) mid rest
-    one mid rest f r = record { passes = passes_then (line_passes g.names 0 _ (inr (inl refl)) (m.more_names mid f)) (beside (form g.names 0 ∷ []) r.passes) }
+        → Repeats (common g.names) 0 (λ more. next ∷ more) mid rest
+    one mid rest f r = record {
+      passes = passes_then (line_passes (common g.names) 0 _ (inr (inl refl)) (m.more_names mid f))
+          (beside (form (common g.names) 0 ∷ []) r.passes);
+    }
 
 pub names_done : {before all : List Name} {ts rest : List Token} → Names before all ts rest → name_first rest ≡ false → ReadsNames before all ts rest
 names_done {rest} n f = record {
   more = n.read;
   all_names = n.all_names;
-  skips = rw (append-nil n.read) at (repeats_done [] n.repeats (left_out g.names 0 _ (inl refl) (m.no_names rest f)));
+  skips = rw (append-nil n.read) at (repeats_done [] n.repeats (left_out (common g.names) 0 _ (inl refl) (m.no_names rest f)));
 }
 
 pub names_halt : {before all : List Name} {ts mid : List Token} {stop : Stop} → Names before all ts mid → name_first mid ≡ true
-    → Halts (kept_token any_name ∷ []) mid stop → HaltsIn g.names 0 ts stop
+    → Halts (kept_token any_name ∷ []) mid stop → HaltsIn (common g.names) 0 ts stop
 names_halt {mid} n f h =
-    repeats_halts n.repeats (halts_there (form g.names 0 ∷ []) (kept_token any_name ∷ form g.names 0 ∷ []) (m.more_names mid f)
-    (halts_first (form g.names 0 ∷ []) h))
+    repeats_halts n.repeats (halts_there (form (common g.names) 0 ∷ []) (kept_token any_name ∷ form (common g.names) 0 ∷ []) (m.more_names mid f)
+    (halts_first (form (common g.names) 0 ∷ []) h))
 
 -- ---- a part, behind its dot
 
-module _ {i : ℕ} {ts a b : List Token} (r : Reads (token (sign signs.OpenSquare) ∷ []) tt ts a) (n : Reads (kept_token any_number ∷ []) (i, tt) a b) where
-  pub part_index : (at : Place) {rest : List Token} → NotFirst (toks.Sign signs.DotDot) b → Reads (token (sign signs.CloseSquare) ∷ []) tt b rest
-      → ReadsPart at (part_of.Index i at) ts rest
-  part_index at k q = record {
-    first = i;
-    last = None;
-    is = refl;
-    reads = and_then r (and_then n (by_pieces g.part_end 0 _ (inl refl) (m.as_part_end b k) q));
-  }
+module _ (p : Profile) where
+  -- The parts so far.
+  pub record Parts (read : List Part) (ts rest : List Token) : Type 0 where
+    pub repeats : Repeats (in_profile p g.parts) 0 (λ more. read ++ more) ts rest
 
-  pub part_slice : (at : Place) {by : Place} {j : ℕ} {c d rest : List Token} → Heads (toks.Sign signs.DotDot) by b c
-      → Reads (kept_token any_number ∷ []) (j, tt) c d → Reads (token (sign signs.CloseSquare) ∷ []) tt d rest → ReadsPart at (part_of.Slice i j at) ts rest
-  part_slice at {j} k o q = record {
-    first = i;
-    last = Some j;
-    is = refl;
-    reads = and_then r (and_then n (by_token g.part_end 0 _ (inr (inl refl)) k refl refl refl (and_then (a_sign k) (and_then o q))));
-  }
-
-  in_end : {stop : Stop} → HaltsIn g.part_end 0 b stop → Halts in_part ts stop
-  in_end h = halts_behind (form g.part_end 0 ∷ []) (and_then r n) h
-
-  pub part_unclosed : {stop : Stop} → NotFirst (toks.Sign signs.DotDot) b → Halts (token (sign signs.CloseSquare) ∷ []) b stop → Halts in_part ts stop
-  part_unclosed k h = in_end (halts_by_pieces g.part_end 0 _ (inl refl) (m.as_part_end b k) h)
-
--- The parts so far.
-pub record Parts (read : List Part) (ts rest : List Token) : Type 0 where
-  pub repeats : Repeats g.parts 0 (λ more. read ++ more) ts rest
-
-pub parts_begun : (items : List Part) (ts : List Token) → items ≡ [] → Parts items ts ts
-parts_begun items ts e = rw e (record { repeats = repeats_begun g.parts 0 (λ more. [] ++ more) ts (λ v. refl) })
-
-pub parts_more : {items new : List Part} {next : Part} {at : Place} {ts mid behind rest : List Token} → Parts items ts mid
-    → Heads (toks.Sign signs.Dot) at mid behind → ReadsPart at next behind rest → new ≡ items ++ next ∷ [] → Parts new ts rest
-parts_more {items} {next} {mid} {rest} r h p e =
-    rw e (record { repeats = repeats_more (λ more. (items ++ next ∷ []) ++ more) r.repeats one (λ more. rw append_assoc) })
-  where
-    a_part : ReadsForm g.part 0 next mid rest
-    a_part =
-        rw p.is (by_token g.part 0 _ (inl refl) h refl refl refl
-        (and_then (one_token h (kept_passes (sign signs.Dot) refl h (kept_goes (sign signs.Dot) refl refl h))) p.reads))
-
-    one : Repeats g.parts 0 (λ more. next ∷ more) mid rest
-    one = record {
-      passes = passes_then (line_passes g.parts 0 _ (inr (inl refl)) (by_first g.parts 0 _ (inr (inl refl)) h refl refl refl))
-          (beside (form g.parts 0 ∷ []) a_part.passes);
+module _ {p : Profile} where
+  module _ {i : List Step} {ts a b : List Token} (r : Reads (token (sign signs.OpenSquare) ∷ []) tt ts a) (n : ReadsForm (in_profile p g.num) 0 i a b) where
+    pub part_index : (at : Place) {rest : List Token} → NotFirst (toks.Sign signs.DotDot) b → Reads (token (sign signs.CloseSquare) ∷ []) tt b rest
+        → ReadsPart p at (part_of.Index i at) ts rest
+    part_index at k q = record {
+      first = i;
+      last = None;
+      is = refl;
+      reads = and_then r (and_then n (by_pieces (in_profile p g.part_end) 0 _ (inl refl) (m.as_part_end p b k) q));
     }
 
-pub parts_halt : {items : List Part} {at : Place} {ts mid behind : List Token} {stop : Stop} → Parts items ts mid → Heads (toks.Sign signs.Dot) at mid behind
-    → Halts in_part behind stop → HaltsIn g.parts 0 ts stop
-parts_halt r h k =
-    repeats_halts r.repeats (halts_by_token g.parts 0 _ (inr (inl refl)) h refl refl refl (halts_first (form g.parts 0 ∷ [])
-    (halts_by_token g.part 0 _ (inl refl) h refl refl refl
-    (halts_behind in_part (one_token h (kept_passes (sign signs.Dot) refl h (kept_goes (sign signs.Dot) refl refl h))) k))))
+    pub part_slice : (at : Place) {by : Place} {j : List Step} {c d rest : List Token} → Heads (toks.Sign signs.DotDot) by b c
+        → ReadsForm (in_profile p g.num) 0 j c d → Reads (token (sign signs.CloseSquare) ∷ []) tt d rest → ReadsPart p at (part_of.Slice i j at) ts rest
+    part_slice at {j} k o q = record {
+      first = i;
+      last = Some j;
+      is = refl;
+      reads = and_then r (and_then n (by_token (in_profile p g.part_end) 0 _ (inr (inl refl)) k refl refl refl (and_then (a_sign k) (and_then o q))));
+    }
 
-pub parts_done : {items : List Part} {ts rest : List Token} → Parts items ts rest → NotFirst (toks.Sign signs.Dot) rest
-    → Skips (form g.parts 0 ∷ []) (items, tt) ts rest
-parts_done {items} {rest} r k = rw (append-nil items) at (repeats_done [] r.repeats (left_out g.parts 0 _ (inl refl) (m.no_parts rest k)))
+    in_end : {stop : Stop} → HaltsIn (in_profile p g.part_end) 0 b stop → Halts (in_part p) ts stop
+    in_end h = halts_behind (form (in_profile p g.part_end) 0 ∷ []) (and_then r n) h
+
+    pub part_unclosed : {stop : Stop} → NotFirst (toks.Sign signs.DotDot) b → Halts (token (sign signs.CloseSquare) ∷ []) b stop → Halts (in_part p) ts stop
+    part_unclosed k h = in_end (halts_by_pieces (in_profile p g.part_end) 0 _ (inl refl) (m.as_part_end p b k) h)
+
+    pub part_in_last : {by : Place} {c : List Token} {stop : Stop} → Heads (toks.Sign signs.DotDot) by b c → HaltsIn (in_profile p g.num) 0 c stop
+        → Halts (in_part p) ts stop
+    part_in_last k h = in_end (halts_by_token (in_profile p g.part_end) 0 _ (inr (inl refl)) k refl refl refl
+        (halts_behind (form (in_profile p g.num) 0 ∷ token (sign signs.CloseSquare) ∷ []) (a_sign k) (halts_first (token (sign signs.CloseSquare) ∷ []) h)))
+
+    pub slice_unclosed : {by : Place} {j : List Step} {c d : List Token} {stop : Stop} → Heads (toks.Sign signs.DotDot) by b c
+        → ReadsForm (in_profile p g.num) 0 j c d → Halts (token (sign signs.CloseSquare) ∷ []) d stop → Halts (in_part p) ts stop
+    slice_unclosed k o h = in_end (halts_by_token (in_profile p g.part_end) 0 _ (inr (inl refl)) k refl refl refl
+        (halts_behind (token (sign signs.CloseSquare) ∷ []) (and_then (a_sign k) o) h))
+
+  pub part_unopened : {ts : List Token} {stop : Stop} → Halts (token (sign signs.OpenSquare) ∷ []) ts stop → Halts (in_part p) ts stop
+  part_unopened h = halts_first (form (in_profile p g.num) 0 ∷ form (in_profile p g.part_end) 0 ∷ []) h
+
+  pub part_in_first : {ts a : List Token} {stop : Stop} → Reads (token (sign signs.OpenSquare) ∷ []) tt ts a → HaltsIn (in_profile p g.num) 0 a stop
+      → Halts (in_part p) ts stop
+  part_in_first r h = halts_first (form (in_profile p g.part_end) 0 ∷ []) (halts_behind (form (in_profile p g.num) 0 ∷ []) r h)
+
+  pub parts_begun : (items : List Part) (ts : List Token) → items ≡ [] → Parts p items ts ts
+  parts_begun items ts e = rw e (record { repeats = repeats_begun (in_profile p g.parts) 0 (λ more. [] ++ more) ts (λ v. refl) })
+
+  pub parts_more : {items new : List Part} {next : Part} {at : Place} {ts mid behind rest : List Token} → Parts p items ts mid
+      → Heads (toks.Sign signs.Dot) at mid behind → ReadsPart p at next behind rest → new ≡ items ++ next ∷ [] → Parts p new ts rest
+  parts_more {items} {next} {mid} {rest} r h q e =
+      rw e (record { repeats = repeats_more (λ more. (items ++ next ∷ []) ++ more) r.repeats one (λ more. rw append_assoc) })
+    where
+      a_part : ReadsForm (in_profile p g.part) 0 next mid rest
+      a_part =
+          rw q.is (by_token (in_profile p g.part) 0 _ (inl refl) h refl refl refl
+          (and_then (one_token h (kept_passes (sign signs.Dot) refl h (kept_goes (sign signs.Dot) refl refl h))) q.reads))
+
+      one : Repeats (in_profile p g.parts) 0 (λ more. next ∷ more) mid rest
+      one = record {
+        passes = passes_then (line_passes (in_profile p g.parts) 0 _ (inr (inl refl)) (by_first (in_profile p g.parts) 0 _ (inr (inl refl)) h refl refl refl))
+            (beside (form (in_profile p g.parts) 0 ∷ []) a_part.passes);
+      }
+
+  pub parts_halt : {items : List Part} {at : Place} {ts mid behind : List Token} {stop : Stop} → Parts p items ts mid
+      → Heads (toks.Sign signs.Dot) at mid behind
+      → Halts (in_part p) behind stop → HaltsIn (in_profile p g.parts) 0 ts stop
+  parts_halt r h k =
+      repeats_halts r.repeats (halts_by_token (in_profile p g.parts) 0 _ (inr (inl refl)) h refl refl refl (halts_first (form (in_profile p g.parts) 0 ∷ [])
+      (halts_by_token (in_profile p g.part) 0 _ (inl refl) h refl refl refl
+      (halts_behind (in_part p) (one_token h (kept_passes (sign signs.Dot) refl h (kept_goes (sign signs.Dot) refl refl h))) k))))
+
+  pub parts_done : {items : List Part} {ts rest : List Token} → Parts p items ts rest → NotFirst (toks.Sign signs.Dot) rest
+      → Skips (form (in_profile p g.parts) 0 ∷ []) (items, tt) ts rest
+  parts_done {items} {rest} r k = rw (append-nil items) at (repeats_done [] r.repeats (left_out (in_profile p g.parts) 0 _ (inl refl) (m.no_parts p rest k)))
 
 -- ---- chains
 
@@ -218,241 +247,278 @@ chain_halts {more = more} {end = end} c h = halts_past c.passes (halts_first (mo
 
 -- ---- sums
 
-abbrev pub InSum : ℕ → List Tree → List Token → List Token → Type 0
-InSum l read ts behind = Chain (form g.sum l ∷ []) (form g.product l) (form g.sums l) [] (λ us. (xors (trees (read ++ us.0 ∷ us.1.0)), tt)) ts behind
+module _ (p : Profile) where
+  abbrev pub InSum : ℕ → List Tree → List Token → List Token → Type 0
+  InSum l read ts behind = Chain (form (in_profile p g.sum) l ∷ []) (form (in_profile p g.product) l) (form (in_profile p g.sums) l) []
+      (λ us. (xors (trees (read ++ us.0 ∷ us.1.0)), tt)) ts behind
 
-another_product : (l : ℕ) {at : Place} {ts rest : List Token} → Heads (toks.Sign signs.Xor) at ts rest
-    → Passes (form g.sums l ∷ []) (form g.product l ∷ form g.sums l ∷ []) (λ us. (us.0 ∷ us.1.0, tt)) ts rest
-another_product l h =
-    passes_then (line_passes g.sums l _ (inr (inl refl)) (by_first g.sums l _ (inr (inl refl)) h refl refl refl))
-    (beside (form g.product l ∷ form g.sums l ∷ []) (a_sign h).passes)
+module _ {p : Profile} where
+  another_product : (l : ℕ) {at : Place} {ts rest : List Token} → Heads (toks.Sign signs.Xor) at ts rest
+      → Passes (form (in_profile p g.sums) l ∷ []) (form (in_profile p g.product) l ∷ form (in_profile p g.sums) l ∷ []) (λ us. (us.0 ∷ us.1.0, tt)) ts rest
+  another_product l h =
+      passes_then (line_passes (in_profile p g.sums) l _ (inr (inl refl)) (by_first (in_profile p g.sums) l _ (inr (inl refl)) h refl refl refl))
+      (beside (form (in_profile p g.product) l ∷ form (in_profile p g.sums) l ∷ []) (a_sign h).passes)
 
--- A chain has begun: the first element was read, and a sign stood behind it.
-pub sum_begun : (l : ℕ) {t : Term} {items : List Term} {at : Place} {ts rest behind : List Token} → ReadsForm g.product l (tree_of t) ts rest
-    → Heads (toks.Sign signs.Xor) at rest behind → items ≡ t ∷ [] → InSum l (map tree_of items) ts behind
-sum_begun l {ts} r h e =
-    rw e (record {
-      passes = passes_then (line_passes g.sum l _ (inl refl) (m.as_sum l ts)) (passes_then (beside (form g.sums l ∷ []) r.passes) (another_product l h));
-    })
+  -- A chain has begun: the first element was read, and a sign stood behind it.
+  pub sum_begun : (l : ℕ) {t : Term} {items : List Term} {at : Place} {ts rest behind : List Token} → ReadsForm (in_profile p g.product) l (tree_of t) ts rest
+      → Heads (toks.Sign signs.Xor) at rest behind → items ≡ t ∷ [] → InSum p l (map tree_of items) ts behind
+  sum_begun l {ts} r h e =
+      rw e (record {
+        passes = passes_then (line_passes (in_profile p g.sum) l _ (inl refl) (m.as_sum p l ts))
+            (passes_then (beside (form (in_profile p g.sums) l ∷ []) r.passes) (another_product l h));
+      })
 
-pub sum_more : (l : ℕ) (items : List Term) (t : Term) {new : List Term} {at : Place} {ts behind rest mid : List Token} → InSum l (map tree_of items) ts behind
-    → ReadsForm g.product l (tree_of t) behind rest → Heads (toks.Sign signs.Xor) at rest mid → new ≡ items ++ t ∷ [] → InSum l (map tree_of new) ts mid
-sum_more l items t c r h e =
-    rw (e, map-append) (record {
-      passes = turned _ (λ us. rw append_assoc) (passes_then c.passes (passes_then (beside (form g.sums l ∷ []) r.passes) (another_product l h)));
-    })
+  pub sum_more : (l : ℕ) (items : List Term) (t : Term) {new : List Term} {at : Place} {ts behind rest mid : List Token}
+      → InSum p l (map tree_of items) ts behind
+      → ReadsForm (in_profile p g.product) l (tree_of t) behind rest → Heads (toks.Sign signs.Xor) at rest mid → new ≡ items ++ t ∷ []
+      → InSum p l (map tree_of new) ts mid
+  sum_more l items t c r h e =
+      rw (e, map-append) (record {
+        passes = turned _ (λ us. rw append_assoc) (passes_then c.passes
+            (passes_then (beside (form (in_profile p g.sums) l ∷ []) r.passes) (another_product l h)));
+      })
 
-pub sum_done : (l : ℕ) (items : List Term) (t : Term) {new : List Term} {whole : Tree} {ts behind rest : List Token} → InSum l (map tree_of items) ts behind
-    → ReadsForm g.product l (tree_of t) behind rest → NotFirst (toks.Sign signs.Xor) rest → new ≡ items ++ t ∷ []
-    → whole ≡ xors (trees (map tree_of new)) → ReadsForm g.sum l whole ts rest
-sum_done l items t {rest} c r k e w = rw (w, e, map-append) (passes_reads c.passes (and_maybe r (skips (left_out g.sums l _ (inl refl) (m.no_sums l rest k)))))
+  pub sum_done : (l : ℕ) (items : List Term) (t : Term) {new : List Term} {whole : Tree} {ts behind rest : List Token} → InSum p l (map tree_of items) ts behind
+      → ReadsForm (in_profile p g.product) l (tree_of t) behind rest → NotFirst (toks.Sign signs.Xor) rest → new ≡ items ++ t ∷ []
+      → whole ≡ xors (trees (map tree_of new)) → ReadsForm (in_profile p g.sum) l whole ts rest
+  sum_done l items t {rest} c r k e w = rw (w, e, map-append)
+      (passes_reads c.passes (and_maybe r (skips (left_out (in_profile p g.sums) l _ (inl refl) (m.no_sums p l rest k)))))
 
-pub sum_alone : (l : ℕ) {t : Tree} {ts rest : List Token} → ReadsForm g.product l t ts rest → NotFirst (toks.Sign signs.Xor) rest → ReadsForm g.sum l t ts rest
-sum_alone l {ts} {rest} r k = by_pieces g.sum l _ (inl refl) (m.as_sum l ts) (and_maybe r (skips (left_out g.sums l _ (inl refl) (m.no_sums l rest k))))
+  pub sum_alone : (l : ℕ) {t : Tree} {ts rest : List Token} → ReadsForm (in_profile p g.product) l t ts rest → NotFirst (toks.Sign signs.Xor) rest
+      → ReadsForm (in_profile p g.sum) l t ts rest
+  sum_alone l {ts} {rest} r k = by_pieces (in_profile p g.sum) l _ (inl refl) (m.as_sum p l ts)
+      (and_maybe r (skips (left_out (in_profile p g.sums) l _ (inl refl) (m.no_sums p l rest k))))
 
-pub sum_no_first : (l : ℕ) {ts : List Token} {stop : Stop} → HaltsIn g.product l ts stop → HaltsIn g.sum l ts stop
-sum_no_first l {ts} h = halts_by_pieces g.sum l _ (inl refl) (m.as_sum l ts) (halts_first (form g.sums l ∷ []) h)
+  pub sum_no_first : (l : ℕ) {ts : List Token} {stop : Stop} → HaltsIn (in_profile p g.product) l ts stop → HaltsIn (in_profile p g.sum) l ts stop
+  sum_no_first l {ts} h = halts_by_pieces (in_profile p g.sum) l _ (inl refl) (m.as_sum p l ts) (halts_first (form (in_profile p g.sums) l ∷ []) h)
 
 -- ---- products
 
-abbrev pub InProduct : ℕ → List Tree → List Token → List Token → Type 0
-InProduct l read ts behind = Chain (form g.product l ∷ []) (form g.application l) (form g.products l) []
-    (λ us. (ands (trees (read ++ us.0 ∷ us.1.0)), tt)) ts behind
+module _ (p : Profile) where
+  abbrev pub InProduct : ℕ → List Tree → List Token → List Token → Type 0
+  InProduct l read ts behind = Chain (form (in_profile p g.product) l ∷ []) (form (in_profile p g.application) l) (form (in_profile p g.products) l) []
+      (λ us. (ands (trees (read ++ us.0 ∷ us.1.0)), tt)) ts behind
 
-another_application : (l : ℕ) {at : Place} {ts rest : List Token} → Heads (toks.Sign signs.And) at ts rest
-    → Passes (form g.products l ∷ []) (form g.application l ∷ form g.products l ∷ []) (λ us. (us.0 ∷ us.1.0, tt)) ts rest
-another_application l h =
-    passes_then (line_passes g.products l _ (inr (inl refl)) (by_first g.products l _ (inr (inl refl)) h refl refl refl))
-    (beside (form g.application l ∷ form g.products l ∷ []) (a_sign h).passes)
+module _ {p : Profile} where
+  another_application : (l : ℕ) {at : Place} {ts rest : List Token} → Heads (toks.Sign signs.And) at ts rest
+      → Passes (form (in_profile p g.products) l ∷ []) (form (in_profile p g.application) l ∷ form (in_profile p g.products) l ∷ [])
+      (λ us. (us.0 ∷ us.1.0, tt)) ts rest
+  another_application l h =
+      passes_then (line_passes (in_profile p g.products) l _ (inr (inl refl)) (by_first (in_profile p g.products) l _ (inr (inl refl)) h refl refl refl))
+      (beside (form (in_profile p g.application) l ∷ form (in_profile p g.products) l ∷ []) (a_sign h).passes)
 
-pub product_begun : (l : ℕ) {t : Term} {items : List Term} {at : Place} {ts rest behind : List Token} → ReadsForm g.application l (tree_of t) ts rest
-    → Heads (toks.Sign signs.And) at rest behind → items ≡ t ∷ [] → InProduct l (map tree_of items) ts behind
-product_begun l {ts} r h e =
-    rw e (record {
-      passes = passes_then (line_passes g.product l _ (inl refl) (m.as_product l ts)) (passes_then (beside (form g.products l ∷ []) r.passes)
-          (another_application l h));
-    })
+  pub product_begun : (l : ℕ) {t : Term} {items : List Term} {at : Place} {ts rest behind : List Token}
+      → ReadsForm (in_profile p g.application) l (tree_of t) ts rest
+      → Heads (toks.Sign signs.And) at rest behind → items ≡ t ∷ [] → InProduct p l (map tree_of items) ts behind
+  product_begun l {ts} r h e =
+      rw e (record {
+        passes = passes_then (line_passes (in_profile p g.product) l _ (inl refl) (m.as_product p l ts))
+            (passes_then (beside (form (in_profile p g.products) l ∷ []) r.passes)
+            (another_application l h));
+      })
 
-pub product_more : (l : ℕ) (items : List Term) (t : Term) {new : List Term} {at : Place} {ts behind rest mid : List Token}
-    → InProduct l (map tree_of items) ts behind
-    → ReadsForm g.application l (tree_of t) behind rest → Heads (toks.Sign signs.And) at rest mid → new ≡ items ++ t ∷ [] → InProduct l (map tree_of new) ts mid
-product_more l items t c r h e =
-    rw (e, map-append) (record {
-      passes = turned _ (λ us. rw append_assoc) (passes_then c.passes (passes_then (beside (form g.products l ∷ []) r.passes) (another_application l h)));
-    })
+  pub product_more : (l : ℕ) (items : List Term) (t : Term) {new : List Term} {at : Place} {ts behind rest mid : List Token}
+      → InProduct p l (map tree_of items) ts behind
+      → ReadsForm (in_profile p g.application) l (tree_of t) behind rest → Heads (toks.Sign signs.And) at rest mid → new ≡ items ++ t ∷ []
+      → InProduct p l (map tree_of new) ts mid
+  product_more l items t c r h e =
+      rw (e, map-append) (record {
+        passes = turned _ (λ us. rw append_assoc) (passes_then c.passes
+            (passes_then (beside (form (in_profile p g.products) l ∷ []) r.passes) (another_application l h)));
+      })
 
-pub product_done : (l : ℕ) (items : List Term) (t : Term) {new : List Term} {whole : Tree} {ts behind rest : List Token}
-    → InProduct l (map tree_of items) ts behind
-    → ReadsForm g.application l (tree_of t) behind rest → NotFirst (toks.Sign signs.And) rest → new ≡ items ++ t ∷ []
-    → whole ≡ ands (trees (map tree_of new)) → ReadsForm g.product l whole ts rest
-product_done l items t {rest} c r k e w =
-    rw (w, e, map-append) (passes_reads c.passes (and_maybe r (skips (left_out g.products l _ (inl refl) (m.no_products l rest k)))))
+  pub product_done : (l : ℕ) (items : List Term) (t : Term) {new : List Term} {whole : Tree} {ts behind rest : List Token}
+      → InProduct p l (map tree_of items) ts behind
+      → ReadsForm (in_profile p g.application) l (tree_of t) behind rest → NotFirst (toks.Sign signs.And) rest → new ≡ items ++ t ∷ []
+      → whole ≡ ands (trees (map tree_of new)) → ReadsForm (in_profile p g.product) l whole ts rest
+  product_done l items t {rest} c r k e w =
+      rw (w, e, map-append) (passes_reads c.passes (and_maybe r (skips (left_out (in_profile p g.products) l _ (inl refl) (m.no_products p l rest k)))))
 
-pub product_alone : (l : ℕ) {t : Tree} {ts rest : List Token} → ReadsForm g.application l t ts rest → NotFirst (toks.Sign signs.And) rest
-    → ReadsForm g.product l t ts rest
-product_alone l {ts} {rest} r k =
-    by_pieces g.product l _ (inl refl) (m.as_product l ts) (and_maybe r (skips (left_out g.products l _ (inl refl) (m.no_products l rest k))))
+  pub product_alone : (l : ℕ) {t : Tree} {ts rest : List Token} → ReadsForm (in_profile p g.application) l t ts rest → NotFirst (toks.Sign signs.And) rest
+      → ReadsForm (in_profile p g.product) l t ts rest
+  product_alone l {ts} {rest} r k =
+      by_pieces (in_profile p g.product) l _ (inl refl) (m.as_product p l ts)
+      (and_maybe r (skips (left_out (in_profile p g.products) l _ (inl refl) (m.no_products p l rest k))))
 
-pub product_no_first : (l : ℕ) {ts : List Token} {stop : Stop} → HaltsIn g.application l ts stop → HaltsIn g.product l ts stop
-product_no_first l {ts} h = halts_by_pieces g.product l _ (inl refl) (m.as_product l ts) (halts_first (form g.products l ∷ []) h)
+  pub product_no_first : (l : ℕ) {ts : List Token} {stop : Stop} → HaltsIn (in_profile p g.application) l ts stop → HaltsIn (in_profile p g.product) l ts stop
+  product_no_first l {ts} h = halts_by_pieces (in_profile p g.product) l _ (inl refl) (m.as_product p l ts)
+      (halts_first (form (in_profile p g.products) l ∷ []) h)
 
 -- ---- an atom and its arguments
 
-abbrev pub InArguments : ℕ → Tree → List Tree → List Token → List Token → Type 0
-InArguments l head read ts behind = Chain (in_application l) (form g.atom l) (form g.atoms l) [] (λ us. (head, (read ++ us.0 ∷ us.1.0, tt))) ts behind
+module _ (p : Profile) where
+  abbrev pub InArguments : ℕ → Tree → List Tree → List Token → List Token → Type 0
+  InArguments l head read ts behind = Chain (in_application p l) (form (in_profile p g.atom) l) (form (in_profile p g.atoms) l) []
+      (λ us. (head, (read ++ us.0 ∷ us.1.0, tt))) ts behind
 
-another_atom : (l : ℕ) (ts : List Token) → base_first ts ≡ true
-    → Passes (form g.atoms l ∷ []) (form g.atom l ∷ form g.atoms l ∷ []) (λ us. (us.0 ∷ us.1.0, tt)) ts ts
-another_atom l ts h = line_passes g.atoms l _ (inr (inl refl)) (m.more_atoms l ts h)
+module _ {p : Profile} where
+  another_atom : (l : ℕ) (ts : List Token) → base_first ts ≡ true
+      → Passes (form (in_profile p g.atoms) l ∷ []) (form (in_profile p g.atom) l ∷ form (in_profile p g.atoms) l ∷ []) (λ us. (us.0 ∷ us.1.0, tt)) ts ts
+  another_atom l ts h = line_passes (in_profile p g.atoms) l _ (inr (inl refl)) (m.more_atoms p l ts h)
 
-pub arguments_begun : (l : ℕ) (head held : Term) {items : List Term} {ts rest : List Token} → ReadsForm g.atom l (tree_of head) ts rest
-    → base_first rest ≡ true → items ≡ [] → held ≡ head → InArguments l (tree_of held) (map tree_of items) ts rest
-arguments_begun l head held {rest} r h e w =
-    rw e (rw w
-    (record { passes = passes_then (beside (form g.atoms l ∷ []) r.passes) (another_atom l rest h) }))
+  pub arguments_begun : (l : ℕ) (head held : Term) {items : List Term} {ts rest : List Token} → ReadsForm (in_profile p g.atom) l (tree_of head) ts rest
+      → base_first rest ≡ true → items ≡ [] → held ≡ head → InArguments p l (tree_of held) (map tree_of items) ts rest
+  arguments_begun l head held {rest} r h e w =
+      rw e (rw w
+      (record { passes = passes_then (beside (form (in_profile p g.atoms) l ∷ []) r.passes) (another_atom l rest h) }))
 
-pub arguments_more : (l : ℕ) (head : Tree) (items : List Term) (t : Term) {new : List Term} {ts behind rest : List Token}
-    → InArguments l head (map tree_of items) ts behind
-    → ReadsForm g.atom l (tree_of t) behind rest → base_first rest ≡ true → new ≡ items ++ t ∷ [] → InArguments l head (map tree_of new) ts rest
-arguments_more l head items t {rest} c r h e =
-    rw (e, map-append) (record {
-      passes = turned _ (λ us. rw append_assoc) (passes_then c.passes (passes_then (beside (form g.atoms l ∷ []) r.passes) (another_atom l rest h)));
-    })
+  pub arguments_more : (l : ℕ) (head : Tree) (items : List Term) (t : Term) {new : List Term} {ts behind rest : List Token}
+      → InArguments p l head (map tree_of items) ts behind
+      → ReadsForm (in_profile p g.atom) l (tree_of t) behind rest → base_first rest ≡ true → new ≡ items ++ t ∷ []
+      → InArguments p l head (map tree_of new) ts rest
+  arguments_more l head items t {rest} c r h e =
+      rw (e, map-append) (record {
+        passes = turned _ (λ us. rw append_assoc) (passes_then c.passes
+            (passes_then (beside (form (in_profile p g.atoms) l ∷ []) r.passes) (another_atom l rest h)));
+      })
 
 apply_more : (head : Tree) (read : List Tree) (t : Tree) → apply head (trees (read ++ t ∷ [])) ≡ apply_of head (read ++ t ∷ [])
 apply_more head [] t = refl
 apply_more head (x ∷ xs) t = refl
 
-pub arguments_done : (l : ℕ) (head : Tree) (items : List Term) (t : Term) {new : List Term} {whole : Tree} {ts behind rest : List Token}
-    → InArguments l head (map tree_of items) ts behind
-    → ReadsForm g.atom l (tree_of t) behind rest → base_first rest ≡ false → new ≡ items ++ t ∷ []
-    → whole ≡ apply head (trees (map tree_of new)) → ReadsAtoms l whole ts rest
-arguments_done l head items t {rest} c r k e w = record {
-  head = head;
-  more = map tree_of items ++ tree_of t ∷ [];
-  is = rw (w, e, map-append) (apply_more head (map tree_of items) (tree_of t));
-  reads = passes_reads c.passes (and_maybe r (skips (left_out g.atoms l _ (inl refl) (m.no_atoms l rest k))));
-}
+module _ {p : Profile} where
+  pub arguments_done : (l : ℕ) (head : Tree) (items : List Term) (t : Term) {new : List Term} {whole : Tree} {ts behind rest : List Token}
+      → InArguments p l head (map tree_of items) ts behind
+      → ReadsForm (in_profile p g.atom) l (tree_of t) behind rest → base_first rest ≡ false → new ≡ items ++ t ∷ []
+      → whole ≡ apply head (trees (map tree_of new)) → ReadsAtoms p l whole ts rest
+  arguments_done l head items t {rest} c r k e w = record {
+    head = head;
+    more = map tree_of items ++ tree_of t ∷ [];
+    is = rw (w, e, map-append) (apply_more head (map tree_of items) (tree_of t));
+    reads = passes_reads c.passes (and_maybe r (skips (left_out (in_profile p g.atoms) l _ (inl refl) (m.no_atoms p l rest k))));
+  }
 
--- an atom with no argument
-pub atom_alone : (l : ℕ) {t : Tree} {ts rest : List Token} → ReadsForm g.atom l t ts rest → base_first rest ≡ false → ReadsAtoms l t ts rest
-atom_alone l {t} {rest} r k = record {
-  head = t;
-  more = [];
-  is = refl;
-  reads = and_maybe r (skips (left_out g.atoms l _ (inl refl) (m.no_atoms l rest k)));
-}
+  -- an atom with no argument
+  pub atom_alone : (l : ℕ) {t : Tree} {ts rest : List Token} → ReadsForm (in_profile p g.atom) l t ts rest → base_first rest ≡ false → ReadsAtoms p l t ts rest
+  atom_alone l {t} {rest} r k = record {
+    head = t;
+    more = [];
+    is = refl;
+    reads = and_maybe r (skips (left_out (in_profile p g.atoms) l _ (inl refl) (m.no_atoms p l rest k)));
+  }
 
 -- ---- the elements of a register
 
--- what is read of a register between its brackets
-abbrev between : ℕ → Stack
-between l = form g.expression l ∷ form g.elements l ∷ []
+module _ (p : Profile) where
+  -- what is read of a register between its brackets
+  abbrev between : ℕ → Stack
+  between l = form (in_profile p g.expression) l ∷ form (in_profile p g.elements) l ∷ []
 
 -- the elements so far, and more
-abbrev elements_of : List Tree → Tree → List Tree → Tree × (List Tree × Unit {0})
+abbrev pub elements_of : {A : Type 0} → List A → A → List A → A × (List A × Unit {0})
 elements_of [] next more = (next, (more, tt))
 elements_of (first ∷ read) next more = (first, (read ++ next ∷ more, tt))
 
-elements_more : (read : List Tree) (t next : Tree) (more : List Tree) → elements_of read t (next ∷ more) ≡ elements_of (read ++ t ∷ []) next more
+pub elements_more : {A : Type 0} (read : List A) (t next : A) (more : List A) → elements_of read t (next ∷ more) ≡ elements_of (read ++ t ∷ []) next more
 elements_more [] t next more = refl
 elements_more (first ∷ read) t next more = rw (append_assoc read (t ∷ []) (next ∷ more))
 
-pub record InRegister (l : ℕ) (read : List Tree) (ts behind : List Token) : Type 0 where
-  pub mid : List Token
-  pub bracket : Reads (token (sign signs.OpenSquare) ∷ []) tt ts mid
-  pub chain : Chain (between l) (form g.expression l) (form g.elements l) [] (λ us. elements_of read us.0 us.1.0) mid behind
+module _ (p : Profile) where
+  pub record InRegister (l : ℕ) (read : List Tree) (ts behind : List Token) : Type 0 where
+    pub mid : List Token
+    pub bracket : Reads (token (sign signs.OpenSquare) ∷ []) tt ts mid
+    pub chain : Chain (between p l) (form (in_profile p g.expression) l) (form (in_profile p g.elements) l) [] (λ us. elements_of read us.0 us.1.0) mid behind
 
-another_element : (l : ℕ) {at : Place} {ts rest : List Token} → Heads (toks.Sign signs.Semi) at ts rest
-    → Passes (form g.elements l ∷ []) (form g.expression l ∷ form g.elements l ∷ []) (λ us. (us.0 ∷ us.1.0, tt)) ts rest
-another_element l h =
-    passes_then (line_passes g.elements l _ (inr (inl refl)) (by_first g.elements l _ (inr (inl refl)) h refl refl refl))
-    (beside (form g.expression l ∷ form g.elements l ∷ []) (a_sign h).passes)
+module _ {p : Profile} where
+  another_element : (l : ℕ) {at : Place} {ts rest : List Token} → Heads (toks.Sign signs.Semi) at ts rest
+      → Passes (form (in_profile p g.elements) l ∷ []) (form (in_profile p g.expression) l ∷ form (in_profile p g.elements) l ∷ [])
+      (λ us. (us.0 ∷ us.1.0, tt)) ts rest
+  another_element l h =
+      passes_then (line_passes (in_profile p g.elements) l _ (inr (inl refl)) (by_first (in_profile p g.elements) l _ (inr (inl refl)) h refl refl refl))
+      (beside (form (in_profile p g.expression) l ∷ form (in_profile p g.elements) l ∷ []) (a_sign h).passes)
 
-pub register_begun : (l : ℕ) {items : List Term} {ts rest : List Token} → Reads (token (sign signs.OpenSquare) ∷ []) tt ts rest
-    → items ≡ [] → InRegister l (map tree_of items) ts rest
-register_begun l {rest} r e = rw e (record { mid = rest; bracket = r; chain = record { passes = turned _ (λ us. refl) (stays (between l) rest) } })
+  pub register_begun : (l : ℕ) {items : List Term} {ts rest : List Token} → Reads (token (sign signs.OpenSquare) ∷ []) tt ts rest
+      → items ≡ [] → InRegister p l (map tree_of items) ts rest
+  register_begun l {rest} r e = rw e (record { mid = rest; bracket = r; chain = record { passes = turned _ (λ us. refl) (stays (between p l) rest) } })
 
-pub register_more : (l : ℕ) (items : List Term) (t : Term) {new : List Term} {at : Place} {ts behind rest mid : List Token}
-    → InRegister l (map tree_of items) ts behind
-    → ReadsForm g.expression l (tree_of t) behind rest → Heads (toks.Sign signs.Semi) at rest mid → new ≡ items ++ t ∷ []
-    → InRegister l (map tree_of new) ts mid
-register_more l items t {mid} c r h e =
-    rw (e, map-append) (record {
-      mid = c.mid;
-      bracket = c.bracket;
-      chain = record {
-        passes = turned _ (λ us. elements_more (map tree_of items) (tree_of t) us.0 us.1.0)
-            (passes_then c.chain.passes (passes_then (beside (form g.elements l ∷ []) r.passes) (another_element l h)));
-      };
-    })
+  pub register_more : (l : ℕ) (items : List Term) (t : Term) {new : List Term} {at : Place} {ts behind rest mid : List Token}
+      → InRegister p l (map tree_of items) ts behind
+      → ReadsForm (in_profile p g.expression) l (tree_of t) behind rest → Heads (toks.Sign signs.Semi) at rest mid → new ≡ items ++ t ∷ []
+      → InRegister p l (map tree_of new) ts mid
+  register_more l items t {mid} c r h e =
+      rw (e, map-append) (record {
+        mid = c.mid;
+        bracket = c.bracket;
+        chain = record {
+          passes = turned _ (λ us. elements_more (map tree_of items) (tree_of t) us.0 us.1.0)
+              (passes_then c.chain.passes (passes_then (beside (form (in_profile p g.elements) l ∷ []) r.passes) (another_element l h)));
+        };
+      })
 
-read_register : (l : ℕ) (at : Place) (read : List Tree) (t whole : Tree) (ts rest : List Token) → whole ≡ reg (trees (read ++ t ∷ [])) at
-    → Reads (in_register l) (elements_of read t []) ts rest → ReadsRegister l at whole ts rest
-read_register l at [] t whole ts rest e r = record { first = t; more = []; is = e; reads = r }
-read_register l at (x ∷ xs) t whole ts rest e r = record { first = x; more = xs ++ t ∷ []; is = e; reads = r }
+  read_register : (l : ℕ) (at : Place) (read : List Tree) (t whole : Tree) (ts rest : List Token) → whole ≡ reg (trees (read ++ t ∷ [])) at
+      → Reads (in_register p l) (elements_of read t []) ts rest → ReadsRegister p l at whole ts rest
+  read_register l at [] t whole ts rest e r = record { first = t; more = []; is = e; reads = r }
+  read_register l at (x ∷ xs) t whole ts rest e r = record { first = x; more = xs ++ t ∷ []; is = e; reads = r }
 
-pub register_done : (l : ℕ) (at : Place) (items : List Term) (t : Term) {new : List Term} {whole : Tree} {ts behind rest final : List Token}
-    → InRegister l (map tree_of items) ts behind
-    → ReadsForm g.expression l (tree_of t) behind rest → NotFirst (toks.Sign signs.Semi) rest → new ≡ items ++ t ∷ []
-    → Reads (token (sign signs.CloseSquare) ∷ []) tt rest final → whole ≡ reg (trees (map tree_of new)) at → ReadsRegister l at whole ts final
-register_done l at items t {whole} {ts} {rest} {final} c r k e q w =
-    read_register l at (map tree_of items) (tree_of t) whole ts final (rw (w, e, map-append))
-    (and_then c.bracket (and_then (passes_reads c.chain.passes (and_maybe r (skips (left_out g.elements l _ (inl refl) (m.no_elements l rest k))))) q))
+  pub register_done : (l : ℕ) (at : Place) (items : List Term) (t : Term) {new : List Term} {whole : Tree} {ts behind rest final : List Token}
+      → InRegister p l (map tree_of items) ts behind
+      → ReadsForm (in_profile p g.expression) l (tree_of t) behind rest → NotFirst (toks.Sign signs.Semi) rest → new ≡ items ++ t ∷ []
+      → Reads (token (sign signs.CloseSquare) ∷ []) tt rest final → whole ≡ reg (trees (map tree_of new)) at → ReadsRegister p l at whole ts final
+  register_done l at items t {whole} {ts} {rest} {final} c r k e q w =
+      read_register l at (map tree_of items) (tree_of t) whole ts final (rw (w, e, map-append))
+      (and_then c.bracket (and_then (passes_reads c.chain.passes
+      (and_maybe r (skips (left_out (in_profile p g.elements) l _ (inl refl) (m.no_elements p l rest k))))) q))
 
-pub register_halts : (l : ℕ) {read : List Tree} {ts behind : List Token} {stop : Stop} → InRegister l read ts behind → HaltsIn g.expression l behind stop
-    → Halts (in_register l) ts stop
-register_halts l c h =
-    halts_behind (form g.expression l ∷ form g.elements l ∷ token (sign signs.CloseSquare) ∷ []) c.bracket
-    (halts_first (token (sign signs.CloseSquare) ∷ []) (chain_halts c.chain h))
+  pub register_halts : (l : ℕ) {read : List Tree} {ts behind : List Token} {stop : Stop} → InRegister p l read ts behind
+      → HaltsIn (in_profile p g.expression) l behind stop
+      → Halts (in_register p l) ts stop
+  register_halts l c h =
+      halts_behind (form (in_profile p g.expression) l ∷ form (in_profile p g.elements) l ∷ token (sign signs.CloseSquare) ∷ []) c.bracket
+      (halts_first (token (sign signs.CloseSquare) ∷ []) (chain_halts c.chain h))
 
-pub register_unclosed : (l : ℕ) {read : List Tree} {t : Tree} {ts behind rest : List Token} {stop : Stop} → InRegister l read ts behind
-    → ReadsForm g.expression l t behind rest → NotFirst (toks.Sign signs.Semi) rest → Halts (token (sign signs.CloseSquare) ∷ []) rest stop
-    → Halts (in_register l) ts stop
-register_unclosed l {rest} c r k h =
-    halts_behind (token (sign signs.CloseSquare) ∷ [])
-    (and_then c.bracket (passes_reads c.chain.passes (and_maybe r (skips (left_out g.elements l _ (inl refl) (m.no_elements l rest k)))))) h
+  pub register_unclosed : (l : ℕ) {read : List Tree} {t : Tree} {ts behind rest : List Token} {stop : Stop} → InRegister p l read ts behind
+      → ReadsForm (in_profile p g.expression) l t behind rest → NotFirst (toks.Sign signs.Semi) rest → Halts (token (sign signs.CloseSquare) ∷ []) rest stop
+      → Halts (in_register p l) ts stop
+  register_unclosed l {rest} c r k h =
+      halts_behind (token (sign signs.CloseSquare) ∷ [])
+      (and_then c.bracket (passes_reads c.chain.passes (and_maybe r (skips (left_out (in_profile p g.elements) l _ (inl refl) (m.no_elements p l rest k)))))) h
 
 -- ---- the items of a block
 
--- The items so far.
-pub record InBlock (l : ℕ) (read : List ItemTree) (ts rest : List Token) : Type 0 where
-  pub repeats : Repeats g.body l (λ b. record { items = read ++ b.items; last = b.last }) ts rest
+module _ (p : Profile) where
+  -- The items so far.
+  pub record InBlock (l : ℕ) (read : List ItemTree) (ts rest : List Token) : Type 0 where
+    pub repeats : Repeats (in_profile p g.body) l (λ b. record { items = read ++ b.items; last = b.last }) ts rest
 
-pub block_begun : (l : ℕ) (ts : List Token) {items : List Item} → items ≡ [] → InBlock l (map item_tree_of items) ts ts
-block_begun l ts {items} e = rw e (record { repeats = repeats_begun g.body l (λ b. record { items = [] ++ b.items; last = b.last }) ts (λ v. refl) })
+module _ {p : Profile} where
+  pub block_begun : (l : ℕ) (ts : List Token) {items : List Item} → items ≡ [] → InBlock p l (map item_tree_of items) ts ts
+  block_begun l ts {items} e = rw e (record {
+    repeats = repeats_begun (in_profile p g.body) l (λ b. record { items = [] ++ b.items; last = b.last }) ts
+        (λ v. refl);
+  })
 
-pub block_more : (l : ℕ) (items : List Item) (item : Item) {new : List Item} {ts mid rest : List Token} → InBlock l (map item_tree_of items) ts mid
-    → ReadsItem l (item_tree_of item) mid rest → new ≡ items ++ item ∷ [] → InBlock l (map item_tree_of new) ts rest
-block_more l items item {mid} {rest} b r e =
-    rw (e, map-append) (record {
-      repeats = repeats_more _ b.repeats one (λ v. rw append_assoc);
-    })
-  where
-    one : Repeats g.body l (in_front (item_tree_of item)) mid rest
-    one = record { passes = r.passes }
+  pub block_more : (l : ℕ) (items : List Item) (item : Item) {new : List Item} {ts mid rest : List Token} → InBlock p l (map item_tree_of items) ts mid
+      → ReadsItem p l (item_tree_of item) mid rest → new ≡ items ++ item ∷ [] → InBlock p l (map item_tree_of new) ts rest
+  block_more l items item {mid} {rest} b r e =
+      rw (e, map-append) (record {
+        repeats = repeats_more _ b.repeats one (λ v. rw append_assoc);
+      })
+    where
+      one : Repeats (in_profile p g.body) l (in_front (item_tree_of item)) mid rest
+      one = record { passes = r.passes }
 
-pub block_done : (l : ℕ) (at : Place) {read : List ItemTree} {last whole : Tree} {ts mid rest : List Token} → InBlock l read ts mid
-    → ReadsForm g.body l (record { items = []; last = last }) mid rest → whole ≡ block (item_trees read) last at → ReadsBlock l at whole ts rest
-block_done l at {read} {last} b r w = record {
-  inside = record { items = read ++ []; last = last };
-  is = rw (w, append-nil);
-  reads = passes_reads b.repeats.passes r;
-}
+  pub block_done : (l : ℕ) (at : Place) {read : List ItemTree} {last whole : Tree} {ts mid rest : List Token} → InBlock p l read ts mid
+      → ReadsForm (in_profile p g.body) l (record { items = []; last = last }) mid rest → whole ≡ block (item_trees read) last at
+      → ReadsBlock p l at whole ts rest
+  block_done l at {read} {last} b r w = record {
+    inside = record { items = read ++ []; last = last };
+    is = rw (w, append-nil);
+    reads = passes_reads b.repeats.passes r;
+  }
 
-pub block_halts : (l : ℕ) {read : List ItemTree} {ts mid : List Token} {stop : Stop} → InBlock l read ts mid → HaltsIn g.body l mid stop
-    → HaltsIn g.body l ts stop
-block_halts l b h = repeats_halts b.repeats h
+  pub block_halts : (l : ℕ) {read : List ItemTree} {ts mid : List Token} {stop : Stop} → InBlock p l read ts mid → HaltsIn (in_profile p g.body) l mid stop
+      → HaltsIn (in_profile p g.body) l ts stop
+  block_halts l b h = repeats_halts b.repeats h
 
 -- ---- the rest of a function behind its `fun`, and of a binding behind its `let`
 
 -- the names behind the first, and the sign that ends them
 abbrev pub names_rest : Sign → Stack
-names_rest end = form g.names 0 ∷ token (sign end) ∷ []
+names_rest end = form (common g.names) 0 ∷ token (sign end) ∷ []
 
 module _ (end : Sign) {first : Name} {ts a : List Token} (r : Reads (kept_token any_name ∷ []) (first, tt) ts a) where
-  pub names_in_names : {stop : Stop} → HaltsIn g.names 0 a stop → Halts (kept_token any_name ∷ names_rest end) ts stop
-  names_in_names h = halts_first (token (sign end) ∷ []) (halts_behind (form g.names 0 ∷ []) r h)
+  pub names_in_names : {stop : Stop} → HaltsIn (common g.names) 0 a stop → Halts (kept_token any_name ∷ names_rest end) ts stop
+  names_in_names h = halts_first (token (sign end) ∷ []) (halts_behind (form (common g.names) 0 ∷ []) r h)
 
   pub names_unended : {before all : List Name} {b : List Token} {stop : Stop} → ReadsNames before all a b → Halts (token (sign end) ∷ []) b stop
       → Halts (kept_token any_name ∷ names_rest end) ts stop
@@ -471,92 +537,105 @@ pub bound_names_read : {first : Name} {before all : List Name} {ts a b rest : Li
     → before ≡ [] → ReadsNames before all a b → Reads (token (sign signs.Equal) ∷ []) tt b rest → Reads in_bound_names (first, (all, tt)) ts rest
 bound_names_read r e n k = rw (n.all_names, e) (and_then (and_maybe r n.skips) k)
 
-module _ (l : ℕ) {all : List Name} {ts a : List Token} (n : ReadsFunctionNames all ts a) where
-  pub function_reads : (at : Place) {t inner : Tree} {rest : List Token} → ReadsForm g.expression l inner a rest → t ≡ function all inner at
-      → ReadsFunction l at t ts rest
-  function_reads at {inner} q w = record { first = n.first; more = n.more; inner = inner; is = rw (w, n.all_names); reads = and_then n.reads q }
+module _ {p : Profile} where
+  module _ (l : ℕ) {all : List Name} {ts a : List Token} (n : ReadsFunctionNames all ts a) where
+    pub function_reads : (at : Place) {t inner : Tree} {rest : List Token} → ReadsForm (in_profile p g.expression) l inner a rest → t ≡ function all inner at
+        → ReadsFunction p l at t ts rest
+    function_reads at {inner} q w = record { first = n.first; more = n.more; inner = inner; is = rw (w, n.all_names); reads = and_then n.reads q }
 
-  pub function_in_body : {stop : Stop} → HaltsIn g.expression l a stop → Halts (in_function l) ts stop
-  function_in_body h = halts_behind (form g.expression l ∷ []) n.reads h
+    pub function_in_body : {stop : Stop} → HaltsIn (in_profile p g.expression) l a stop → Halts (in_function p l) ts stop
+    function_in_body h = halts_behind (form (in_profile p g.expression) l ∷ []) n.reads h
 
-module _ (l : ℕ) {bound : Name} {all : List Name} {ts a : List Token} (n : Reads in_bound_names (bound, (all, tt)) ts a) where
-  pub binding_reads : {item : ItemTree} {inner : Tree} {rest : List Token} → Reads (closed_by signs.Semi l) (inner, tt) a rest
-      → item ≡ bind bound (bound_of all inner) → ReadsBinding l item ts rest
-  binding_reads {inner} q w = record { bound = bound; more = all; inner = inner; is = w; reads = and_then n q }
+  module _ (l : ℕ) {bound : Name} {all : List Name} {ts a : List Token} (n : Reads in_bound_names (bound, (all, tt)) ts a) where
+    pub binding_reads : {item : ItemTree} {inner : Tree} {rest : List Token} → Reads (closed_by p signs.Semi l) (inner, tt) a rest
+        → item ≡ bind bound (bound_of all inner) → ReadsBinding p l item ts rest
+    binding_reads {inner} q w = record { bound = bound; more = all; inner = inner; is = w; reads = and_then n q }
 
-  pub binding_in_value : {stop : Stop} → Halts (closed_by signs.Semi l) a stop → Halts (in_binding l) ts stop
-  binding_in_value h = halts_behind (closed_by signs.Semi l) n h
+    pub binding_in_value : {stop : Stop} → Halts (closed_by p signs.Semi l) a stop → Halts (in_binding p l) ts stop
+    binding_in_value h = halts_behind (closed_by p signs.Semi l) n h
 
 -- ---- applications
 
-module _ {at : Place} {ts mid : List Token} (h : Heads (toks.Word words.Clean) at ts mid) where
-  pub operator_clean : ReadsOperator (operators.Clean at) ts mid
-  operator_clean = record {
-    passes = λ l. passes_then (line_passes g.application l _ (inl refl) (by_first g.application l _ (inl refl) h refl refl refl))
-        (beside (form g.atom l ∷ []) (a_word words.Clean h).passes);
-  }
+module _ {p : Profile} where
+  module _ {at : Place} {ts mid : List Token} (h : Heads (toks.Word words.Clean) at ts mid) where
+    pub operator_clean : ReadsOperator p (operators.Clean at) ts mid
+    operator_clean = record {
+      passes = λ l. passes_then (line_passes (in_profile p g.application) l _ (inl refl)
+          (by_first (in_profile p g.application) l _ (inl refl) h refl refl refl))
+          (beside (form (in_profile p g.atom) l ∷ []) (a_word words.Clean h).passes);
+    }
 
-module _ {at : Place} {ts mid : List Token} (h : Heads (toks.Word words.Assert) at ts mid) where
-  pub operator_assert : ReadsOperator (operators.Assert at) ts mid
-  operator_assert = record {
-    passes = λ l. passes_then (line_passes g.application l _ (inr (inl refl)) (by_first g.application l _ (inr (inl refl)) h refl refl refl))
-        (beside (form g.atom l ∷ []) (a_word words.Assert h).passes);
-  }
+  module _ {at : Place} {ts mid : List Token} (h : Heads (toks.Word words.Assert) at ts mid) where
+    pub operator_assert : ReadsOperator p (operators.Assert at) ts mid
+    operator_assert = record {
+      passes = λ l. passes_then (line_passes (in_profile p g.application) l _ (inr (inl refl))
+          (by_first (in_profile p g.application) l _ (inr (inl refl)) h refl refl refl))
+          (beside (form (in_profile p g.atom) l ∷ []) (a_word words.Assert h).passes);
+    }
 
-module _ {at : Place} {ts a : List Token} (h : Heads (toks.Word words.Rotate) at ts a) where
-  pub operator_rotate : {by : ℕ} {rest : List Token} → Reads (kept_token any_number ∷ []) (by, tt) a rest → ReadsOperator (operators.Rotate by at) ts rest
-  operator_rotate r = record {
-    passes = λ l. passes_then (line_passes g.application l _ (inr (inr (inr (inl refl))))
-        (by_first g.application l _ (inr (inr (inr (inl refl)))) h refl refl refl))
-        (beside (form g.atom l ∷ []) (and_then (a_word words.Rotate h) r).passes);
-  }
+  module _ {at : Place} {ts a : List Token} (h : Heads (toks.Word words.Rotate) at ts a) where
+    pub operator_rotate : {by : List Step} {rest : List Token} → ReadsForm (in_profile p g.num) 0 by a rest → ReadsOperator p (operators.Rotate by at) ts rest
+    operator_rotate r = record {
+      passes = λ l. passes_then (line_passes (in_profile p g.application) l _ (inr (inr (inr (inl refl))))
+          (by_first (in_profile p g.application) l _ (inr (inr (inr (inl refl)))) h refl refl refl))
+          (beside (form (in_profile p g.atom) l ∷ []) (and_then (a_word words.Rotate h) r).passes);
+    }
 
-  pub rotate_halts : {stop : Stop} → Halts (kept_token any_number ∷ []) a stop → HaltsAnywhere g.application ts stop
-  rotate_halts k = record {
-    at_level = λ l. halts_by_token g.application l _ (inr (inr (inr (inl refl)))) h refl refl refl
-        (halts_behind (kept_token any_number ∷ form g.atom l ∷ []) (a_word words.Rotate h) (halts_first (form g.atom l ∷ []) k));
-  }
+    pub rotate_halts : {stop : Stop} → HaltsIn (in_profile p g.num) 0 a stop → HaltsAtLevels (in_profile p g.application) ts stop
+    rotate_halts k = record {
+      at_level = λ l. halts_by_token (in_profile p g.application) l _ (inr (inr (inr (inl refl)))) h refl refl refl
+          (halts_behind (form (in_profile p g.num) 0 ∷ form (in_profile p g.atom) l ∷ []) (a_word words.Rotate h)
+          (halts_first (form (in_profile p g.atom) l ∷ []) k));
+    }
 
-pub application_operator : (l : ℕ) {operator : Operator} {t whole : Tree} {ts mid rest : List Token} → ReadsOperator operator ts mid
-    → ReadsForm g.atom l t mid rest → whole ≡ operated operator t → ReadsForm g.application l whole ts rest
-application_operator l o r w = rw w (passes_reads (o.passes l) r)
+  pub application_operator : (l : ℕ) {operator : Operator} {t whole : Tree} {ts mid rest : List Token} → ReadsOperator p operator ts mid
+      → ReadsForm (in_profile p g.atom) l t mid rest → whole ≡ operated operator t → ReadsForm (in_profile p g.application) l whole ts rest
+  application_operator l o r w = rw w (passes_reads (o.passes l) r)
 
-pub operand_halts : (l : ℕ) {operator : Operator} {ts mid : List Token} {stop : Stop} → ReadsOperator operator ts mid → HaltsIn g.atom l mid stop
-    → HaltsIn g.application l ts stop
-operand_halts l o k = halts_past (o.passes l) k
+  pub operand_halts : (l : ℕ) {operator : Operator} {ts mid : List Token} {stop : Stop} → ReadsOperator p operator ts mid
+      → HaltsIn (in_profile p g.atom) l mid stop
+      → HaltsIn (in_profile p g.application) l ts stop
+  operand_halts l o k = halts_past (o.passes l) k
 
-module _ (l : ℕ) {at : Place} {ts a : List Token} (h : Heads (toks.Word words.Append) at ts a) where
-  pub application_append : {t : Tree} {rest : List Token} → ReadsAppend l at t a rest → ReadsForm g.application l t ts rest
-  application_append r = rw r.is (by_token g.application l _ (inr (inr (inl refl))) h refl refl refl (and_then (a_word words.Append h) r.reads))
+  module _ (l : ℕ) {at : Place} {ts a : List Token} (h : Heads (toks.Word words.Append) at ts a) where
+    pub application_append : {t : Tree} {rest : List Token} → ReadsAppend p l at t a rest → ReadsForm (in_profile p g.application) l t ts rest
+    application_append r = rw r.is (by_token (in_profile p g.application) l _ (inr (inr (inl refl))) h refl refl refl
+        (and_then (a_word words.Append h) r.reads))
 
-  pub append_halts : {stop : Stop} → Halts (in_append l) a stop → HaltsIn g.application l ts stop
-  append_halts k = halts_by_token g.application l _ (inr (inr (inl refl))) h refl refl refl (halts_behind (in_append l) (a_word words.Append h) k)
+    pub append_halts : {stop : Stop} → Halts (in_append p l) a stop → HaltsIn (in_profile p g.application) l ts stop
+    append_halts k = halts_by_token (in_profile p g.application) l _ (inr (inr (inl refl))) h refl refl refl
+        (halts_behind (in_append p l) (a_word words.Append h) k)
 
-pub append_reads : (l : ℕ) (at : Place) {t u whole : Tree} {ts mid rest : List Token} → ReadsForm g.atom l t ts mid → ReadsForm g.atom l u mid rest
-    → whole ≡ append t u at → ReadsAppend l at whole ts rest
-append_reads l at {t} {u} r q w = record { first = t; second = u; is = w; reads = and_then r q }
+  pub append_reads : (l : ℕ) (at : Place) {t u whole : Tree} {ts mid rest : List Token} → ReadsForm (in_profile p g.atom) l t ts mid
+      → ReadsForm (in_profile p g.atom) l u mid rest
+      → whole ≡ append t u at → ReadsAppend p l at whole ts rest
+  append_reads l at {t} {u} r q w = record { first = t; second = u; is = w; reads = and_then r q }
 
-pub append_halts_second : (l : ℕ) {t : Tree} {ts mid : List Token} {stop : Stop} → ReadsForm g.atom l t ts mid → HaltsIn g.atom l mid stop
-    → Halts (in_append l) ts stop
-append_halts_second l r k = halts_behind (form g.atom l ∷ []) r k
+  pub append_halts_second : (l : ℕ) {t : Tree} {ts mid : List Token} {stop : Stop} → ReadsForm (in_profile p g.atom) l t ts mid
+      → HaltsIn (in_profile p g.atom) l mid stop
+      → Halts (in_append p l) ts stop
+  append_halts_second l r k = halts_behind (form (in_profile p g.atom) l ∷ []) r k
 
 pub plain : {ts : List Token} → NotFirst (toks.Word words.Append) ts → NoOperator ts → m.IsPlain ts
 plain k n = record { no_clean = n.no_clean; no_assert = n.no_assert; no_append = k; no_rotate = n.no_rotate }
 
-pub application_plain : (l : ℕ) {t : Tree} {ts rest : List Token} → m.IsPlain ts → ReadsAtoms l t ts rest → ReadsForm g.application l t ts rest
-application_plain l {ts} p r = rw r.is (by_pieces g.application l _ (inr (inr (inr (inr (inl refl))))) (m.as_application l ts p) r.reads)
+module _ {p : Profile} where
+  pub application_plain : (l : ℕ) {t : Tree} {ts rest : List Token} → m.IsPlain ts → ReadsAtoms p l t ts rest
+      → ReadsForm (in_profile p g.application) l t ts rest
+  application_plain l {ts} k r = rw r.is (by_pieces (in_profile p g.application) l _ (inr (inr (inr (inr (inl refl))))) (m.as_application p l ts k) r.reads)
 
-pub plain_halts : (l : ℕ) {ts : List Token} {stop : Stop} → m.IsPlain ts → Halts (in_application l) ts stop → HaltsIn g.application l ts stop
-plain_halts l {ts} p h = halts_there (form g.application l ∷ []) (in_application l) (m.as_application l ts p) h
+  pub plain_halts : (l : ℕ) {ts : List Token} {stop : Stop} → m.IsPlain ts → Halts (in_application p l) ts stop → HaltsIn (in_profile p g.application) l ts stop
+  plain_halts l {ts} k h = halts_there (form (in_profile p g.application) l ∷ []) (in_application p l) (m.as_application p l ts k) h
 
-pub atoms_halt : (l : ℕ) {ts : List Token} {stop : Stop} → HaltsIn g.atom l ts stop → Halts (in_application l) ts stop
-atoms_halt l h = halts_first (form g.atoms l ∷ []) h
+  pub atoms_halt : (l : ℕ) {ts : List Token} {stop : Stop} → HaltsIn (in_profile p g.atom) l ts stop → Halts (in_application p l) ts stop
+  atoms_halt l h = halts_first (form (in_profile p g.atoms) l ∷ []) h
 
 -- ---- atoms
 
-pub atom_reads : (l : ℕ) {inner whole : Tree} {all : List Part} {ts mid rest : List Token} → ReadsForm g.base l inner ts mid
-    → Skips (form g.parts 0 ∷ []) (all, tt) mid rest → whole ≡ parts_of inner all → ReadsForm g.atom l whole ts rest
-atom_reads l {ts} r k w = rw w (by_pieces g.atom l _ (inl refl) (m.as_atom l ts) (and_maybe r k))
+module _ {p : Profile} where
+  pub atom_reads : (l : ℕ) {inner whole : Tree} {all : List Part} {ts mid rest : List Token} → ReadsForm (in_profile p g.base) l inner ts mid
+      → Skips (form (in_profile p g.parts) 0 ∷ []) (all, tt) mid rest → whole ≡ parts_of inner all → ReadsForm (in_profile p g.atom) l whole ts rest
+  atom_reads l {ts} r k w = rw w (by_pieces (in_profile p g.atom) l _ (inl refl) (m.as_atom p l ts) (and_maybe r k))
 
 pub no_part : (inner : Tree) (all : List Part) → length all ≡ 0 → inner ≡ parts_of inner all
 no_part inner [] e = refl
@@ -566,23 +645,27 @@ pub some_part : (inner : Tree) (all : List Part) → ¬ (length all ≡ 0) → p
 some_part inner [] e = absurd (e refl)
 some_part inner (p ∷ all) e = refl
 
-pub atom_in_base : (l : ℕ) {ts : List Token} {stop : Stop} → HaltsIn g.base l ts stop → HaltsIn g.atom l ts stop
-atom_in_base l {ts} h = halts_there (form g.atom l ∷ []) (form g.base l ∷ form g.parts 0 ∷ []) (m.as_atom l ts) (halts_first (form g.parts 0 ∷ []) h)
+module _ {p : Profile} where
+  pub atom_in_base : (l : ℕ) {ts : List Token} {stop : Stop} → HaltsIn (in_profile p g.base) l ts stop → HaltsIn (in_profile p g.atom) l ts stop
+  atom_in_base l {ts} h = halts_there (form (in_profile p g.atom) l ∷ []) (form (in_profile p g.base) l ∷ form (in_profile p g.parts) 0 ∷ [])
+      (m.as_atom p l ts) (halts_first (form (in_profile p g.parts) 0 ∷ []) h)
 
-pub atom_in_parts : (l : ℕ) {inner : Tree} {ts mid : List Token} {stop : Stop} → ReadsForm g.base l inner ts mid → HaltsIn g.parts 0 mid stop
-    → HaltsIn g.atom l ts stop
-atom_in_parts l {ts} r h =
-    halts_there (form g.atom l ∷ []) (form g.base l ∷ form g.parts 0 ∷ []) (m.as_atom l ts) (halts_behind (form g.parts 0 ∷ []) r h)
+  pub atom_in_parts : (l : ℕ) {inner : Tree} {ts mid : List Token} {stop : Stop} → ReadsForm (in_profile p g.base) l inner ts mid
+      → HaltsIn (in_profile p g.parts) 0 mid stop
+      → HaltsIn (in_profile p g.atom) l ts stop
+  atom_in_parts l {ts} r h =
+      halts_there (form (in_profile p g.atom) l ∷ []) (form (in_profile p g.base) l ∷ form (in_profile p g.parts) 0 ∷ []) (m.as_atom p l ts)
+      (halts_behind (form (in_profile p g.parts) 0 ∷ []) r h)
 
 -- ---- bases
 
 pub base_true : {at : Place} {whole : Tree} {ts rest : List Token} → Heads (toks.Word words.True) at ts rest → whole ≡ bool true at
     → ReadsAnywhere g.base whole ts rest
-base_true h w = record { at_level = λ l. rw w (by_token g.base l _ (inr (inl refl)) h refl refl refl (a_word words.True h)) }
+base_true h w = record { at_level = λ p l. rw w (by_token (in_profile p g.base) l _ (inr (inl refl)) h refl refl refl (a_word words.True h)) }
 
 pub base_false : {at : Place} {whole : Tree} {ts rest : List Token} → Heads (toks.Word words.False) at ts rest → whole ≡ bool false at
     → ReadsAnywhere g.base whole ts rest
-base_false h w = record { at_level = λ l. rw w (by_token g.base l _ (inr (inr (inl refl))) h refl refl refl (a_word words.False h)) }
+base_false h w = record { at_level = λ p l. rw w (by_token (in_profile p g.base) l _ (inr (inr (inl refl))) h refl refl refl (a_word words.False h)) }
 
 module _ {ts : List Token} (o : NoOpener ts) (no_true : NotFirst (toks.Word words.True) ts) (no_false : NotFirst (toks.Word words.False) ts) where
   is_use : m.IsUse ts
@@ -590,148 +673,97 @@ module _ {ts : List Token} (o : NoOpener ts) (no_true : NotFirst (toks.Word word
 
   pub base_use : {n : Name} {whole : Tree} {rest : List Token} → Reads (kept_token any_name ∷ []) (n, tt) ts rest → whole ≡ used n
       → ReadsAnywhere g.base whole ts rest
-  base_use r w = record { at_level = λ l. rw w (by_pieces g.base l _ (inl refl) (m.as_use l ts is_use) r) }
+  base_use r w = record { at_level = λ p l. rw w (by_pieces (in_profile p g.base) l _ (inl refl) (m.as_use p l ts is_use) r) }
 
   pub base_no_use : {stop : Stop} → Halts (kept_token any_name ∷ []) ts stop → HaltsAnywhere g.base ts stop
-  base_no_use h = record { at_level = λ l. halts_there (form g.base l ∷ []) (kept_token any_name ∷ []) (m.as_use l ts is_use) h }
+  base_no_use h = record { at_level = λ p l. halts_there (form (in_profile p g.base) l ∷ []) (kept_token any_name ∷ []) (m.as_use p l ts is_use) h }
 
--- a base that opens a level, with the level inside
-module _ (l : ℕ) {at : Place} {ts mid : List Token} (h : Heads (toks.Word words.Reg) at ts mid) where
-  pub base_register : {inner : ℕ} → inner ≡ l + 1 → {t : Tree} {rest : List Token} → few_levels (l + 1) ≡ true → ReadsRegister inner at t mid rest
-      → ReadsForm g.base l t ts rest
-  base_register e ok r =
-      let r' = rw e at r in
-      rw r'.is (by_token g.base l _ (inr (inr (inr (inl refl)))) h refl refl refl (and_then (opened (word words.Reg) (l + 1) ok h refl refl refl) r'.reads))
+module _ {p : Profile} where
+  -- a base that opens a level, with the level inside
+  module _ (l : ℕ) {at : Place} {ts mid : List Token} (h : Heads (toks.Word words.Reg) at ts mid) where
+    pub base_register : {inner : ℕ} → inner ≡ l + 1 → {t : Tree} {rest : List Token} → few_levels (l + 1) ≡ true → ReadsRegister p inner at t mid rest
+        → ReadsForm (in_profile p g.base) l t ts rest
+    base_register e ok r =
+        let r' = rw e at r in
+        rw r'.is (by_token (in_profile p g.base) l _ (inr (inr (inr (inl refl)))) h refl refl refl
+        (and_then (opened (word words.Reg) (l + 1) ok h refl refl refl) r'.reads))
 
-  pub register_no_level : few_levels (l + 1) ≡ false → (stop : Stop) → stop ≡ stops.Nesting (length ts) → HaltsIn g.base l ts stop
-  register_no_level deep stop e =
-      halts_by_token g.base l _ (inr (inr (inr (inl refl)))) h refl refl refl
-      (opens_too_many (word words.Reg) (l + 1) (in_register (l + 1)) deep h refl refl stop e)
+    pub register_no_level : few_levels (l + 1) ≡ false → (stop : Stop) → stop ≡ stops.Nesting (length ts) → HaltsIn (in_profile p g.base) l ts stop
+    register_no_level deep stop e =
+        halts_by_token (in_profile p g.base) l _ (inr (inr (inr (inl refl)))) h refl refl refl
+        (opens_too_many (word words.Reg) (l + 1) (in_register p (l + 1)) deep h refl refl stop e)
 
-  pub in_register_halts : {inner : ℕ} → inner ≡ l + 1 → {stop : Stop} → few_levels (l + 1) ≡ true → Halts (in_register inner) mid stop
-      → HaltsIn g.base l ts stop
-  in_register_halts e ok k =
-      halts_by_token g.base l _ (inr (inr (inr (inl refl)))) h refl refl refl
-      (halts_behind (in_register (l + 1)) (opened (word words.Reg) (l + 1) ok h refl refl refl) (rw e at k))
+    pub in_register_halts : {inner : ℕ} → inner ≡ l + 1 → {stop : Stop} → few_levels (l + 1) ≡ true → Halts (in_register p inner) mid stop
+        → HaltsIn (in_profile p g.base) l ts stop
+    in_register_halts e ok k =
+        halts_by_token (in_profile p g.base) l _ (inr (inr (inr (inl refl)))) h refl refl refl
+        (halts_behind (in_register p (l + 1)) (opened (word words.Reg) (l + 1) ok h refl refl refl) (rw e at k))
 
-module _ (l : ℕ) {at : Place} {ts mid : List Token} (h : Heads (toks.Sign signs.OpenRound) at ts mid) where
-  pub base_bracket : {inner : ℕ} → inner ≡ l + 1 → {t : Tree} {rest : List Token} → few_levels (l + 1) ≡ true
-      → Reads (closed_by signs.CloseRound inner) (t, tt) mid rest → ReadsForm g.base l t ts rest
-  base_bracket e ok r =
-      let r' = rw e at r in
-      by_token g.base l _ (inr (inr (inr (inr (inl refl))))) h refl refl refl
-      (and_then (opened (sign signs.OpenRound) (l + 1) ok h refl refl refl) r')
+  module _ (l : ℕ) {at : Place} {ts mid : List Token} (h : Heads (toks.Sign signs.OpenRound) at ts mid) where
+    pub base_bracket : {inner : ℕ} → inner ≡ l + 1 → {t : Tree} {rest : List Token} → few_levels (l + 1) ≡ true
+        → Reads (closed_by p signs.CloseRound inner) (t, tt) mid rest → ReadsForm (in_profile p g.base) l t ts rest
+    base_bracket e ok r =
+        let r' = rw e at r in
+        by_token (in_profile p g.base) l _ (inr (inr (inr (inr (inl refl))))) h refl refl refl
+        (and_then (opened (sign signs.OpenRound) (l + 1) ok h refl refl refl) r')
 
-  pub bracket_no_level : few_levels (l + 1) ≡ false → (stop : Stop) → stop ≡ stops.Nesting (length ts) → HaltsIn g.base l ts stop
-  bracket_no_level deep stop e =
-      halts_by_token g.base l _ (inr (inr (inr (inr (inl refl))))) h refl refl refl
-      (opens_too_many (sign signs.OpenRound) (l + 1) (closed_by signs.CloseRound (l + 1)) deep h refl refl stop e)
+    pub bracket_no_level : few_levels (l + 1) ≡ false → (stop : Stop) → stop ≡ stops.Nesting (length ts) → HaltsIn (in_profile p g.base) l ts stop
+    bracket_no_level deep stop e =
+        halts_by_token (in_profile p g.base) l _ (inr (inr (inr (inr (inl refl))))) h refl refl refl
+        (opens_too_many (sign signs.OpenRound) (l + 1) (closed_by p signs.CloseRound (l + 1)) deep h refl refl stop e)
 
-  pub in_bracket_halts : {inner : ℕ} → inner ≡ l + 1 → {stop : Stop} → few_levels (l + 1) ≡ true → Halts (closed_by signs.CloseRound inner) mid stop
-      → HaltsIn g.base l ts stop
-  in_bracket_halts e ok k =
-      halts_by_token g.base l _ (inr (inr (inr (inr (inl refl))))) h refl refl refl
-      (halts_behind (closed_by signs.CloseRound (l + 1)) (opened (sign signs.OpenRound) (l + 1) ok h refl refl refl) (rw e at k))
+    pub in_bracket_halts : {inner : ℕ} → inner ≡ l + 1 → {stop : Stop} → few_levels (l + 1) ≡ true → Halts (closed_by p signs.CloseRound inner) mid stop
+        → HaltsIn (in_profile p g.base) l ts stop
+    in_bracket_halts e ok k =
+        halts_by_token (in_profile p g.base) l _ (inr (inr (inr (inr (inl refl))))) h refl refl refl
+        (halts_behind (closed_by p signs.CloseRound (l + 1)) (opened (sign signs.OpenRound) (l + 1) ok h refl refl refl) (rw e at k))
 
-module _ (l : ℕ) {at : Place} {ts mid : List Token} (h : Heads (toks.Sign signs.OpenCurly) at ts mid) where
-  pub base_block : {inner : ℕ} → inner ≡ l + 1 → {t : Tree} {rest : List Token} → few_levels (l + 1) ≡ true → ReadsBlock inner at t mid rest
-      → ReadsForm g.base l t ts rest
-  base_block e ok r =
-      let r' = rw e at r in
-      rw r'.is (by_token g.base l _ (inr (inr (inr (inr (inr (inl refl)))))) h refl refl refl
-      (and_then (opened (sign signs.OpenCurly) (l + 1) ok h refl refl refl) r'.reads))
+  module _ (l : ℕ) {at : Place} {ts mid : List Token} (h : Heads (toks.Sign signs.OpenCurly) at ts mid) where
+    pub base_block : {inner : ℕ} → inner ≡ l + 1 → {t : Tree} {rest : List Token} → few_levels (l + 1) ≡ true → ReadsBlock p inner at t mid rest
+        → ReadsForm (in_profile p g.base) l t ts rest
+    base_block e ok r =
+        let r' = rw e at r in
+        rw r'.is (by_token (in_profile p g.base) l _ (inr (inr (inr (inr (inr (inl refl)))))) h refl refl refl
+        (and_then (opened (sign signs.OpenCurly) (l + 1) ok h refl refl refl) r'.reads))
 
-  pub block_no_level : few_levels (l + 1) ≡ false → (stop : Stop) → stop ≡ stops.Nesting (length ts) → HaltsIn g.base l ts stop
-  block_no_level deep stop e =
-      halts_by_token g.base l _ (inr (inr (inr (inr (inr (inl refl)))))) h refl refl refl
-      (opens_too_many (sign signs.OpenCurly) (l + 1) (form g.body (l + 1) ∷ []) deep h refl refl stop e)
+    pub block_no_level : few_levels (l + 1) ≡ false → (stop : Stop) → stop ≡ stops.Nesting (length ts) → HaltsIn (in_profile p g.base) l ts stop
+    block_no_level deep stop e =
+        halts_by_token (in_profile p g.base) l _ (inr (inr (inr (inr (inr (inl refl)))))) h refl refl refl
+        (opens_too_many (sign signs.OpenCurly) (l + 1) (form (in_profile p g.body) (l + 1) ∷ []) deep h refl refl stop e)
 
-  pub in_block_halts : {inner : ℕ} → inner ≡ l + 1 → {stop : Stop} → few_levels (l + 1) ≡ true → HaltsIn g.body inner mid stop → HaltsIn g.base l ts stop
-  in_block_halts e ok k =
-      halts_by_token g.base l _ (inr (inr (inr (inr (inr (inl refl)))))) h refl refl refl
-      (halts_behind (form g.body (l + 1) ∷ []) (opened (sign signs.OpenCurly) (l + 1) ok h refl refl refl) (rw e at k))
+    pub in_block_halts : {inner : ℕ} → inner ≡ l + 1 → {stop : Stop} → few_levels (l + 1) ≡ true → HaltsIn (in_profile p g.body) inner mid stop
+        → HaltsIn (in_profile p g.base) l ts stop
+    in_block_halts e ok k =
+        halts_by_token (in_profile p g.base) l _ (inr (inr (inr (inr (inr (inl refl)))))) h refl refl refl
+        (halts_behind (form (in_profile p g.body) (l + 1) ∷ []) (opened (sign signs.OpenCurly) (l + 1) ok h refl refl refl) (rw e at k))
 
--- A level too many is refused at any token that opens one.
-pub base_no_level : (l : ℕ) (o : Opener) {at : Place} {ts mid : List Token} → Heads (opening o) at ts mid → few_levels (l + 1) ≡ false
-    → (stop : Stop) → stop ≡ stops.Nesting (length ts) → HaltsIn g.base l ts stop
-base_no_level l openers.Register h = register_no_level l h
-base_no_level l openers.Bracket h = bracket_no_level l h
-base_no_level l openers.Block h = block_no_level l h
+  -- A level too many is refused at any token that opens one.
+  pub base_no_level : (l : ℕ) (o : Opener) {at : Place} {ts mid : List Token} → Heads (opening o) at ts mid → few_levels (l + 1) ≡ false
+      → (stop : Stop) → stop ≡ stops.Nesting (length ts) → HaltsIn (in_profile p g.base) l ts stop
+  base_no_level l openers.Register h = register_no_level l h
+  base_no_level l openers.Bracket h = bracket_no_level l h
+  base_no_level l openers.Block h = block_no_level l h
 
-pub closed_reads : (l : ℕ) {end : Sign} {t : Tree} {ts mid rest : List Token} → ReadsForm g.expression l t ts mid → Reads (token (sign end) ∷ []) tt mid rest
-    → Reads (closed_by end l) (t, tt) ts rest
-closed_reads l r q = and_then r q
+  pub closed_reads : (l : ℕ) {end : Sign} {t : Tree} {ts mid rest : List Token} → ReadsForm (in_profile p g.expression) l t ts mid
+      → Reads (token (sign end) ∷ []) tt mid rest
+      → Reads (closed_by p end l) (t, tt) ts rest
+  closed_reads l r q = and_then r q
 
-pub unclosed : (l : ℕ) {end : Sign} {t : Tree} {ts mid : List Token} {stop : Stop} → ReadsForm g.expression l t ts mid
-    → Halts (token (sign end) ∷ []) mid stop → Halts (closed_by end l) ts stop
-unclosed l {end} r k = halts_behind (token (sign end) ∷ []) r k
-
--- ---- items
-
-pub item_let : (l : ℕ) {item : ItemTree} {at : Place} {ts mid rest : List Token} → Heads (toks.Word words.Let) at ts mid → ReadsBinding l item mid rest
-    → ReadsItem l item ts rest
-item_let l {ts} {rest} h r =
-    rw r.is (record {
-      passes = passes_then (line_passes g.body l _ (inl refl) (by_first g.body l _ (inl refl) h refl refl refl)) (beside (form g.body l ∷ []) whole.passes);
-      shorter = whole.shorter;
-    })
-  where
-    whole : Reads (token (word words.Let) ∷ in_binding l) (r.bound, (r.more, (r.inner, tt))) ts rest
-    whole = and_then (bare_word h) r.reads
-
--- a `;` behind a term, and a `}`
-pub ends_item : {item : ItemTree} {t : Tree} {at : Place} {ts rest : List Token} → Heads (toks.Sign signs.Semi) at ts rest → item ≡ run t
-    → EndsItem t item ts rest
-ends_item h w = record {
-  is = w;
-  passes = λ l. passes_then (line_passes g.body_end l _ (inl refl) (by_first g.body_end l _ (inl refl) h refl refl refl))
-      (beside (form g.body l ∷ []) (a_sign h).passes);
-}
-
-module _ {ts : List Token} (n : NotFirst (toks.Sign signs.Semi) ts) where
-  pub ends_block : (t : Tree) {rest : List Token} → Reads (token (sign signs.CloseCurly) ∷ []) tt ts rest → EndsBlock t t ts rest
-  ends_block t q = record {
-    is = refl;
-    reads = record { at_level = λ l. by_pieces g.body_end l _ (inr (inl refl)) (m.as_body_end l ts n) q };
-  }
-
-  pub block_unclosed : {stop : Stop} → Halts (token (sign signs.CloseCurly) ∷ []) ts stop → HaltsAnywhere g.body_end ts stop
-  block_unclosed h = record { at_level = λ l. halts_by_pieces g.body_end l _ (inr (inl refl)) (m.as_body_end l ts n) h }
-
-module _ (l : ℕ) {ts : List Token} (k : NotFirst (toks.Word words.Let) ts) where
-  pub do_halts : {stop : Stop} → HaltsIn g.expression l ts stop → HaltsIn g.body l ts stop
-  do_halts h = halts_there (form g.body l ∷ []) (form g.expression l ∷ form g.body_end l ∷ []) (m.as_body l ts k) (halts_first (form g.body_end l ∷ []) h)
-
-  module _ {t : Tree} {mid : List Token} (r : ReadsForm g.expression l t ts mid) where
-    pub piece_reads : (p : Piece) (rest : List Token) → EndsPiece t p mid rest → ReadsPiece l p ts rest
-    piece_reads (pieces.Item item) rest e =
-        rw e.is (record {
-          passes = passes_then (line_passes g.body l _ (inr (inl refl)) (m.as_body l ts k))
-              (passes_then (beside (form g.body_end l ∷ []) r.passes) (e.passes l));
-          shorter = let x = r.shorter in let y = no_longer (e.passes l) in omega (arith, x, y);
-        })
-    piece_reads (pieces.Last last) rest e = rw e.is (by_pieces g.body l _ (inr (inl refl)) (m.as_body l ts k) (and_then r (e.reads.at_level l)))
-
-    pub piece_halts : {stop : Stop} → HaltsAnywhere g.body_end mid stop → HaltsIn g.body l ts stop
-    piece_halts h =
-        halts_there (form g.body l ∷ []) (form g.expression l ∷ form g.body_end l ∷ []) (m.as_body l ts k)
-        (halts_behind (form g.body_end l ∷ []) r (h.at_level l))
-
-pub let_halts : (l : ℕ) {at : Place} {ts mid : List Token} {stop : Stop} → Heads (toks.Word words.Let) at ts mid → Halts (in_binding l) mid stop
-    → HaltsIn g.body l ts stop
-let_halts l h k =
-    halts_by_token g.body l _ (inl refl) h refl refl refl (halts_first (form g.body l ∷ []) (halts_behind (in_binding l) (bare_word h) k))
+  pub unclosed : (l : ℕ) {end : Sign} {t : Tree} {ts mid : List Token} {stop : Stop} → ReadsForm (in_profile p g.expression) l t ts mid
+      → Halts (token (sign end) ∷ []) mid stop → Halts (closed_by p end l) ts stop
+  unclosed l {end} r k = halts_behind (token (sign end) ∷ []) r k
 
 -- ---- what stands behind the first thing that a function expects
 
-abbrev pub function_rest : ℕ → Stack
-function_rest l = form g.expression l ∷ []
+module _ (p : Profile) where
+  abbrev pub function_rest : ℕ → Stack
+  function_rest l = form (in_profile p g.expression) l ∷ []
 
-abbrev pub register_rest : ℕ → Stack
-register_rest l = form g.expression l ∷ form g.elements l ∷ token (sign signs.CloseSquare) ∷ []
+  abbrev pub register_rest : ℕ → Stack
+  register_rest l = form (in_profile p g.expression) l ∷ form (in_profile p g.elements) l ∷ token (sign signs.CloseSquare) ∷ []
 
-abbrev pub append_rest : ℕ → Stack
-append_rest l = form g.atom l ∷ []
+  abbrev pub append_rest : ℕ → Stack
+  append_rest l = form (in_profile p g.atom) l ∷ []
 
 abbrev pub closed_rest : Sign → Stack
 closed_rest end = token (sign end) ∷ []

@@ -11,17 +11,19 @@ use Rattle.revs_lexer.specs.declared.token.Tok.{Tok}
 use Rattle.revs_lexer.specs.declared.token.Tok.TheVariants as toks
 use Rattle.revs_lexer.specs.declared.token.Token.{Token}
 use Rattle.std.proofs.lemmas.Bool.{and_parts}
-use Rattle.revs_grammar.specs.Forms.{Mark, any_name, word, sign, word_code, sign_code, code, mark_code, Form, Val, Depth}
-use Rattle.revs_grammar.specs.Forms.{level, Piece, one, kept, opening, sub, here, plain, Production, IsOneOf}
+use Rattle.revs_grammar.specs.declared.profile.Profile.{Profile}
+use Rattle.revs_grammar.specs.declared.profile.Profile.TheVariants as profiles
+use Rattle.revs_grammar.specs.Forms.{Mark, any_name, two, word, sign, word_code, sign_code, code, mark_code, in_profile, common, Form, Val, Depth}
+use Rattle.revs_grammar.specs.Forms.{level, Piece, one, kept, opening, sub, Production, IsOneOf}
 use Rattle.revs_grammar.specs.Forms as g
-use Rattle.revs_grammar.specs.Productions.{productions}
+use Rattle.revs_grammar.specs.Productions.{productions, shared, here, plain}
 use Rattle.revs_grammar.specs.Sentences.{token, kept_token, opening_token, form, symbols, any_level, few_levels}
 use Rattle.revs_grammar.specs.inside.Machine.{Stack, Opening, first_some, behind, begun, table, is_empty, is_optional}
 use Rattle.revs_grammar.specs.inside.Machine.{at_level, taken, step, is_done, too_deep, is_end, at_token, outcome}
 use Rattle.revs_grammar.proofs.CheckHints.{rank, may_follow}
 use Rattle.revs_grammar.proofs.CheckLemmas.{begin, starts_well, starts}
-use Rattle.revs_grammar.proofs.LineLemmas.{word_low, code_low, not_true, all_lines-at, table_is, table_line}
-use Rattle.revs_parser.specs.inside.Reading.{Heads, NotFirst, begins_base, base_first, is_name, name_first}
+use Rattle.revs_grammar.proofs.LineLemmas.{word_low, sign_low, code_low, not_true, all_lines-at, table_is, table_line}
+use Rattle.revs_parser.specs.inside.Reading.{Heads, NotFirst, begins_base, base_first, is_name, name_first, begins_item, item_first}
 
 -- ---- outcomes
 
@@ -178,6 +180,14 @@ as_none f l may (t ∷ ts) h ms = alike t ts (form f l ∷ ms) ms (λ a. rw (may
 
 -- ---- tokens of another kind
 
+-- What holds of the kinds of both sorts of numbers holds of that of each.
+pub at_number : (P : ℕ → Type 0) → P 2 → P 35 → (n : ℕ) → P (code (toks.Number n))
+at_number P other this n = go (n == 2)
+  where
+    go : (b : Bool) → P (cond b 35 2)
+    go true = this
+    go false = other
+
 abbrev all_words : List Word
 all_words =
     words.Main ∷ words.Let ∷ words.Fun ∷ words.Clean ∷ words.Assert ∷ words.Append ∷ words.Rotate ∷ words.Reg ∷ words.True ∷ words.False
@@ -199,7 +209,8 @@ sign_back _ = refl
 is_word : (t : Tok) (w : Word) → code t ≡ 3 + word_code w → t ≡ toks.Word w
 is_word toks.End w e = absurd (omega (arith, e))
 is_word (toks.Name text) w e = absurd (omega (arith, e))
-is_word (toks.Number n) w e = absurd (omega (arith, e))
+is_word (toks.Number n) w e = at_number (λ c. c ≡ 3 + word_code w → toks.Number n ≡ toks.Word w)
+    (λ k. absurd (omega (arith, k))) (λ k. absurd (omega (arith, k, word_low w))) n e
 is_word (toks.Word v) w e =
     let same : word_code v ≡ word_code w = omega (arith, e) in
     rw (← (word_back v), same, word_back w)
@@ -208,18 +219,33 @@ is_word (toks.Sign s) w e = absurd (omega (arith, e, word_low w))
 is_sign : (t : Tok) (s : Sign) → code t ≡ 18 + sign_code s → t ≡ toks.Sign s
 is_sign toks.End s e = absurd (omega (arith, e))
 is_sign (toks.Name text) s e = absurd (omega (arith, e))
-is_sign (toks.Number n) s e = absurd (omega (arith, e))
+is_sign (toks.Number n) s e = at_number (λ c. c ≡ 18 + sign_code s → toks.Number n ≡ toks.Sign s)
+    (λ k. absurd (omega (arith, k))) (λ k. absurd (omega (arith, k, sign_low s))) n e
 is_sign (toks.Word w) s e = absurd (omega (arith, e, word_low w))
 is_sign (toks.Sign r) s e =
     let same : sign_code r ≡ sign_code s = omega (arith, e) in
     rw (← (sign_back r), same, sign_back s)
 
-differs : (c k : ℕ) → ¬ (c ≡ k) → c == k ≡ false
+pub differs : (c k : ℕ) → ¬ (c ≡ k) → c == k ≡ false
 differs c k h = go (c == k) refl
   where
     go : (b : Bool) → c == k ≡ b → c == k ≡ false
     go false e = e
     go true e = absurd (h (grind (arith, nat_tests)))
+
+pub is_two : (t : Tok) → code t ≡ 35 → t ≡ toks.Number 2
+is_two toks.End e = absurd (omega (arith, e))
+is_two (toks.Name text) e = absurd (omega (arith, e))
+is_two (toks.Number n) e = go (n == 2) refl e
+  where
+    go : (b : Bool) → n == 2 ≡ b → ◌≡◌ {A = ℕ} (cond b 35 2) 35 → toks.Number n ≡ toks.Number 2
+    go true is k = ap (λ z. toks.Number z) (grind (arith, nat_tests))
+    go false is k = absurd (omega (arith, k))
+is_two (toks.Word w) e = absurd (omega (arith, e, word_low w))
+is_two (toks.Sign s) e = absurd (omega (arith, e, sign_low s))
+
+pub no_two : (t : Tok) → ¬ (t ≡ toks.Number 2) → code t == mark_code two ≡ false
+no_two t h = differs (code t) 35 (λ e. h (is_two t e))
 
 pub no_word : (t : Tok) (w : Word) → ¬ (t ≡ toks.Word w) → code t == mark_code (word w) ≡ false
 no_word t w h = differs (code t) (3 + word_code w) (λ e. h (is_word t w e))
@@ -229,13 +255,20 @@ no_sign t s h = differs (code t) (18 + sign_code s) (λ e. h (is_sign t s e))
 
 -- ---- where a form is read as the line that is left
 
-first_less : (b : Bool) (x : Opening) {o : Option Opening} → b ≡ false → first_some (cond b (Some x) None) o ≡ o
+pub first_less : (b : Bool) (x : Opening) {o : Option Opening} → b ≡ false → first_some (cond b (Some x) None) o ≡ o
 first_less true x e = cc
 first_less false x e = refl
 
-first_only : (o : Option Opening) → first_some o None ≡ o
+pub first_only : (o : Option Opening) → first_some o None ≡ o
 first_only None = refl
 first_only (Some o) = refl
+
+pub first_none : {o other : Option Opening} → o ≡ None → first_some o other ≡ other
+first_none e = rw e
+
+-- behind a form that does not begin here
+behind_none : (d : Depth) (ps : List Piece) {o : Option Opening} → o ≡ None → behind d ps o ≡ None
+behind_none d ps e = rw e
 
 not_behind : (d : Depth) (ps : List Piece) {o : Option Opening} → o ≡ None → first_some (behind d ps o) None ≡ None
 not_behind d ps e = rw e
@@ -246,55 +279,140 @@ pub only_line : (f : Form) (l : ℕ) (p : Production (Val f)) → IsOneOf p (pro
 only_line f l p i must some is [] ms = refl
 only_line f l p i must some is (t ∷ ts) ms = as_line f l p i must some (t ∷ ts) (is t.tok) ms
 
-pub as_program : (ts : List Token) (ms : Stack)
-    → outcome ts (form g.program 0 ∷ ms)
-    ≡ outcome ts (token (word words.Main) ∷ form g.parameter 0 ∷ form g.parameters 0 ∷ token (sign signs.Equal) ∷ form g.expression 1 ∷ ms)
-as_program ts ms = only_line g.program 0 _ (inl refl) refl refl (λ t. table_is (code t) g.program ∙ first_only _) ts ms
+-- a program that does not begin with `main`
+pub as_program : (ts : List Token) → NotFirst (toks.Word words.Main) ts → (ms : Stack)
+    → outcome ts (form (common g.program) 0 ∷ ms)
+    ≡ outcome ts (token (word words.Revs) ∷ token two ∷ token (word words.Main) ∷ form (common g.parameter) 0 ∷ form (common g.parameters) 0
+    ∷ token (sign signs.Equal) ∷ form (in_profile profiles.Two g.expression) 1 ∷ ms)
+as_program ts h =
+    as_line (common g.program) 0 _ (inr (inl refl)) refl refl ts
+    (at_first ts h (λ t k. table_is (code t) (common g.program) ∙ first_less (code t == 3) _ (no_word t words.Main k) ∙ first_only _))
 
 pub as_parameter : (ts : List Token) (ms : Stack)
-    → outcome ts (form g.parameter 0 ∷ ms)
-    ≡ outcome ts (token (sign signs.OpenRound) ∷ kept_token any_name ∷ token (sign signs.Colon) ∷ token (word words.Bool) ∷ form g.width 0 ∷ ms)
-as_parameter ts ms = only_line g.parameter 0 _ (inl refl) refl refl (λ t. table_is (code t) g.parameter ∙ first_only _) ts ms
+    → outcome ts (form (common g.parameter) 0 ∷ ms)
+    ≡ outcome ts (token (sign signs.OpenRound) ∷ kept_token any_name ∷ token (sign signs.Colon) ∷ token (word words.Bool) ∷ form (common g.width) 0 ∷ ms)
+as_parameter ts ms = only_line (common g.parameter) 0 _ (inl refl) refl refl (λ t. table_is (code t) (common g.parameter) ∙ first_only _) ts ms
 
-pub as_sum : (l : ℕ) (ts : List Token) (ms : Stack) → outcome ts (form g.sum l ∷ ms) ≡ outcome ts (form g.product l ∷ form g.sums l ∷ ms)
-as_sum l ts ms = only_line g.sum l _ (inl refl) refl refl (λ t. table_is (code t) g.sum ∙ first_only _) ts ms
+-- ---- items
 
-pub as_product : (l : ℕ) (ts : List Token) (ms : Stack) → outcome ts (form g.product l ∷ ms) ≡ outcome ts (form g.application l ∷ form g.products l ∷ ms)
-as_product l ts ms = only_line g.product l _ (inl refl) refl refl (λ t. table_is (code t) g.product ∙ first_only _) ts ms
+-- An item that is no expression begins with none of the other tokens.
+no_item : (p : Profile) (t : Tok) → begins_item p t ≡ false → IsLeftOut (in_profile p g.item) t
+no_item profiles.One (toks.Word words.Let) h = impossible h
+no_item profiles.One (toks.Number n) h = at_number (λ c. table c (in_profile profiles.One g.item) ≡ None) refl refl n
+no_item profiles.One (toks.Sign signs.Dot) h = refl
+no_item profiles.One _ h = refl
+no_item profiles.Two (toks.Word words.Let) h = impossible h
+no_item profiles.Two (toks.Word words.For) h = impossible h
+no_item profiles.Two (toks.Number n) h = at_number (λ c. table c (in_profile profiles.Two g.item) ≡ None) refl refl n
+no_item profiles.Two (toks.Sign signs.Dot) h = refl
+no_item profiles.Two _ h = refl
 
-pub as_atom : (l : ℕ) (ts : List Token) (ms : Stack) → outcome ts (form g.atom l ∷ ms) ≡ outcome ts (form g.base l ∷ form g.parts 0 ∷ ms)
-as_atom l ts ms = only_line g.atom l _ (inl refl) refl refl (λ t. table_is (code t) g.atom ∙ first_only _) ts ms
+-- A token that begins an item begins a body, and an item of a `for`.
+abbrev Begun : Profile → Tok → Type 0
+Begun p t = (is_end t ≡ false) × (begin (may_follow (in_profile p g.body)) (code t) (here p g.item ∷ here p g.body ∷ []) ≡ true)
+    × (begin (may_follow (in_profile p g.loop_item)) (code t) (here p g.item ∷ []) ≡ true)
 
--- forms with other lines, which the first token does not begin
-pub as_expression : (l : ℕ) (ts : List Token) → NotFirst (toks.Word words.Fun) ts → (ms : Stack)
-    → outcome ts (form g.expression l ∷ ms) ≡ outcome ts (form g.sum l ∷ form g.assigned l ∷ ms)
-as_expression l ts h =
-    as_line g.expression l _ (inr (inl refl)) refl refl ts
-    (at_first ts h (λ t k. table_is (code t) g.expression ∙ first_less (code t == 5) _ (no_word t words.Fun k) ∙ first_only _))
+item_begins : (p : Profile) (t : Tok) → begins_item p t ≡ true → Begun p t
+item_begins p (toks.Word words.Let) h = (refl, refl, refl)
+item_begins profiles.Two (toks.Word words.For) h = (refl, refl, refl)
+item_begins p t h = impossible (sym h)
 
-pub as_body : (l : ℕ) (ts : List Token) → NotFirst (toks.Word words.Let) ts → (ms : Stack)
-    → outcome ts (form g.body l ∷ ms) ≡ outcome ts (form g.expression l ∷ form g.body_end l ∷ ms)
-as_body l ts h =
-    as_line g.body l _ (inr (inl refl)) refl refl ts
-    (at_first ts h (λ t k. table_is (code t) g.body ∙ first_less (code t == 4) _ (no_word t words.Let k) ∙ first_only _))
+curly_ends : (p : Profile) → table 23 (in_profile p g.loop_items) ≡ None
+curly_ends profiles.One = refl
+curly_ends profiles.Two = refl
 
-pub as_body_end : (l : ℕ) (ts : List Token) → NotFirst (toks.Sign signs.Semi) ts → (ms : Stack)
-    → outcome ts (form g.body_end l ∷ ms) ≡ outcome ts (token (sign signs.CloseCurly) ∷ ms)
-as_body_end l ts h =
-    as_line g.body_end l _ (inr (inl refl)) refl refl ts
-    (at_first ts h (λ t k. table_is (code t) g.body_end ∙ first_less (code t == 25) _ (no_sign t signs.Semi k) ∙ first_only _))
+-- ---- forms with one line
 
-pub as_part_end : (ts : List Token) → NotFirst (toks.Sign signs.DotDot) ts → (ms : Stack)
-    → outcome ts (form g.part_end 0 ∷ ms) ≡ outcome ts (token (sign signs.CloseSquare) ∷ ms)
-as_part_end ts h =
-    as_line g.part_end 0 _ (inl refl) refl refl ts
-    (at_first ts h (λ t k. table_is (code t) g.part_end ∙ ap (first_some _) (first_less (code t == 32) _ (no_sign t signs.DotDot k)) ∙ first_only _))
+module _ (p : Profile) where
+  pub as_sum : (l : ℕ) (ts : List Token) (ms : Stack) → outcome ts (form (in_profile p g.sum) l ∷ ms)
+      ≡ outcome ts (form (in_profile p g.product) l ∷ form (in_profile p g.sums) l ∷ ms)
+  as_sum l ts ms = only_line (in_profile p g.sum) l _ (inl refl) refl refl (λ t. table_is (code t) (in_profile p g.sum) ∙ first_only _) ts ms
+
+  pub as_product : (l : ℕ) (ts : List Token) (ms : Stack) → outcome ts (form (in_profile p g.product) l ∷ ms)
+      ≡ outcome ts (form (in_profile p g.application) l ∷ form (in_profile p g.products) l ∷ ms)
+  as_product l ts ms = only_line (in_profile p g.product) l _ (inl refl) refl refl (λ t. table_is (code t) (in_profile p g.product) ∙ first_only _) ts ms
+
+  pub as_atom : (l : ℕ) (ts : List Token) (ms : Stack) → outcome ts (form (in_profile p g.atom) l ∷ ms)
+      ≡ outcome ts (form (in_profile p g.base) l ∷ form (in_profile p g.parts) 0 ∷ ms)
+  as_atom l ts ms = only_line (in_profile p g.atom) l _ (inl refl) refl refl (λ t. table_is (code t) (in_profile p g.atom) ∙ first_only _) ts ms
+
+  -- forms with other lines, which the first token does not begin
+  pub as_expression : (l : ℕ) (ts : List Token) → NotFirst (toks.Word words.Fun) ts → (ms : Stack)
+      → outcome ts (form (in_profile p g.expression) l ∷ ms) ≡ outcome ts (form (in_profile p g.sum) l ∷ form (in_profile p g.assigned) l ∷ ms)
+  as_expression l ts h =
+      as_line (in_profile p g.expression) l _ (inr (inl refl)) refl refl ts
+      (at_first ts h (λ t k. table_is (code t) (in_profile p g.expression) ∙ first_less (code t == 5) _ (no_word t words.Fun k) ∙ first_only _))
+
+  -- An item that is no expression does not begin with this token.
+  no_item_token : (t : Tok) → begins_item p t ≡ false → IsLeftOut (in_profile p g.item) t
+  no_item_token t h = no_item p t h
+
+  pub as_body : (l : ℕ) (ts : List Token) → item_first p ts ≡ false → (ms : Stack)
+      → outcome ts (form (in_profile p g.body) l ∷ ms) ≡ outcome ts (form (in_profile p g.expression) l ∷ form (in_profile p g.body_end) l ∷ ms)
+  as_body l [] h ms = refl
+  as_body l (t ∷ ts) h ms =
+      as_line (in_profile p g.body) l _ (inr (inl refl)) refl refl (t ∷ ts)
+      (table_is (code t.tok) (in_profile p g.body) ∙ first_none (behind_none g.same (here p g.body ∷ []) (no_item_token t.tok h)) ∙ first_only _) ms
+
+  pub as_loop_item : (l : ℕ) (ts : List Token) → item_first p ts ≡ false → (ms : Stack)
+      → outcome ts (form (in_profile p g.loop_item) l ∷ ms) ≡ outcome ts (form (in_profile p g.expression) l ∷ token (sign signs.Semi) ∷ ms)
+  as_loop_item l [] h ms = refl
+  as_loop_item l (t ∷ ts) h ms =
+      as_line (in_profile p g.loop_item) l _ (inr (inl refl)) refl refl (t ∷ ts)
+      (table_is (code t.tok) (in_profile p g.loop_item) ∙ first_none (behind_none g.same [] (no_item_token t.tok h)) ∙ first_only _) ms
+
+  -- a body, and an item of a `for`, that begin with an item
+  pub body_item : (l : ℕ) (ts : List Token) → item_first p ts ≡ true → (ms : Stack)
+      → outcome ts (form (in_profile p g.body) l ∷ ms) ≡ outcome ts (form (in_profile p g.item) l ∷ form (in_profile p g.body) l ∷ ms)
+  body_item l [] h ms = cc
+  body_item l (t ∷ ts) h ms =
+      let b = item_begins p t.tok h in
+      by_first (in_profile p g.body) l _ (inl refl) {k = t.tok} {at = t.at} {rest = ts} (record { cut = refl }) b.0 b.1 refl ms
+
+  pub loop_item_item : (l : ℕ) (ts : List Token) → item_first p ts ≡ true → (ms : Stack)
+      → outcome ts (form (in_profile p g.loop_item) l ∷ ms) ≡ outcome ts (form (in_profile p g.item) l ∷ ms)
+  loop_item_item l [] h ms = cc
+  loop_item_item l (t ∷ ts) h ms =
+      let b = item_begins p t.tok h in
+      by_first (in_profile p g.loop_item) l _ (inl refl) {k = t.tok} {at = t.at} {rest = ts} (record { cut = refl }) b.0 b.2 refl ms
+
+  -- { item } of a `for`, whose end does not stand first
+  pub more_loop_items : (l : ℕ) (ts : List Token) → NotFirst (toks.Sign signs.CloseCurly) ts → (ms : Stack)
+      → outcome ts (form (in_profile p g.loop_items) l ∷ token (sign signs.CloseCurly) ∷ ms)
+      ≡ outcome ts (form (in_profile p g.loop_item) l ∷ form (in_profile p g.loop_items) l ∷ token (sign signs.CloseCurly) ∷ ms)
+  more_loop_items l [] h ms = refl
+  more_loop_items l (t ∷ ts) h ms =
+      alike t ts (form (in_profile p g.loop_items) l ∷ token (sign signs.CloseCurly) ∷ ms)
+      (form (in_profile p g.loop_item) l ∷ form (in_profile p g.loop_items) l ∷ token (sign signs.CloseCurly) ∷ ms)
+      (λ a. rw (table_is (code t.tok) (in_profile p g.loop_items), no_sign t.tok signs.CloseCurly h)
+      (ap (λ (o : Option Opening). taken a l (token (sign signs.CloseCurly) ∷ ms) o None)
+      (first_only (begun (table (code t.tok)) (code t.tok) (here p g.loop_item ∷ here p g.loop_items ∷ [])))
+      ∙ front_step a (code t.tok) l 8 (here p g.loop_item ∷ here p g.loop_items ∷ []) (token (sign signs.CloseCurly) ∷ ms) refl refl)) refl
+
+  pub no_loop_items : (l : ℕ) {at : Place} {ts rest : List Token} → Heads (toks.Sign signs.CloseCurly) at ts rest → (ms : Stack)
+      → outcome ts (form (in_profile p g.loop_items) l ∷ ms) ≡ outcome ts ms
+  no_loop_items l {at} {ts} {rest} h ms =
+      headed h (form (in_profile p g.loop_items) l ∷ ms)
+      ∙ as_none (in_profile p g.loop_items) l refl (record { tok = toks.Sign signs.CloseCurly; at = at } ∷ rest) (curly_ends p) ms ∙ sym (headed h ms)
+
+  pub as_body_end : (l : ℕ) (ts : List Token) → NotFirst (toks.Sign signs.Semi) ts → (ms : Stack)
+      → outcome ts (form (in_profile p g.body_end) l ∷ ms) ≡ outcome ts (token (sign signs.CloseCurly) ∷ ms)
+  as_body_end l ts h =
+      as_line (in_profile p g.body_end) l _ (inr (inl refl)) refl refl ts
+      (at_first ts h (λ t k. table_is (code t) (in_profile p g.body_end) ∙ first_less (code t == 25) _ (no_sign t signs.Semi k) ∙ first_only _))
+
+  pub as_part_end : (ts : List Token) → NotFirst (toks.Sign signs.DotDot) ts → (ms : Stack)
+      → outcome ts (form (in_profile p g.part_end) 0 ∷ ms) ≡ outcome ts (token (sign signs.CloseSquare) ∷ ms)
+  as_part_end ts h =
+      as_line (in_profile p g.part_end) 0 _ (inl refl) refl refl ts
+      (at_first ts h (λ t k. table_is (code t) (in_profile p g.part_end) ∙ ap (first_some _) (first_less (code t == 32) _ (no_sign t signs.DotDot k))
+      ∙ first_only _))
 
 pub as_width : (ts : List Token) → NotFirst (toks.Sign signs.OpenSquare) ts → (ms : Stack)
-    → outcome ts (form g.width 0 ∷ ms) ≡ outcome ts (token (sign signs.CloseRound) ∷ ms)
+    → outcome ts (form (common g.width) 0 ∷ ms) ≡ outcome ts (token (sign signs.CloseRound) ∷ ms)
 as_width ts h =
-    as_line g.width 0 _ (inl refl) refl refl ts
-    (at_first ts h (λ t k. table_is (code t) g.width ∙ ap (first_some _) (first_less (code t == 20) _ (no_sign t signs.OpenSquare k)) ∙ first_only _))
+    as_line (common g.width) 0 _ (inl refl) refl refl ts
+    (at_first ts h (λ t k. table_is (code t) (common g.width) ∙ ap (first_some _) (first_less (code t == 20) _ (no_sign t signs.OpenSquare k)) ∙ first_only _))
 
 -- None of the words that begin an application stands first.
 pub record IsPlain (ts : List Token) : Type 0 where
@@ -303,14 +421,15 @@ pub record IsPlain (ts : List Token) : Type 0 where
   pub no_append : NotFirst (toks.Word words.Append) ts
   pub no_rotate : NotFirst (toks.Word words.Rotate) ts
 
-pub as_application : (l : ℕ) (ts : List Token) → IsPlain ts → (ms : Stack)
-    → outcome ts (form g.application l ∷ ms) ≡ outcome ts (form g.atom l ∷ form g.atoms l ∷ ms)
-as_application l [] h ms = refl
-as_application l (t ∷ ts) h ms =
-    as_line g.application l _ (inr (inr (inr (inr (inl refl))))) refl refl (t ∷ ts)
-    (table_is (code t.tok) g.application ∙ first_less (code t.tok == 6) _ (no_word t.tok words.Clean h.no_clean)
-    ∙ first_less (code t.tok == 7) _ (no_word t.tok words.Assert h.no_assert) ∙ first_less (code t.tok == 8) _ (no_word t.tok words.Append h.no_append)
-    ∙ first_less (code t.tok == 9) _ (no_word t.tok words.Rotate h.no_rotate) ∙ first_only _) ms
+module _ (p : Profile) where
+  pub as_application : (l : ℕ) (ts : List Token) → IsPlain ts → (ms : Stack)
+      → outcome ts (form (in_profile p g.application) l ∷ ms) ≡ outcome ts (form (in_profile p g.atom) l ∷ form (in_profile p g.atoms) l ∷ ms)
+  as_application l [] h ms = refl
+  as_application l (t ∷ ts) h ms =
+      as_line (in_profile p g.application) l _ (inr (inr (inr (inr (inl refl))))) refl refl (t ∷ ts)
+      (table_is (code t.tok) (in_profile p g.application) ∙ first_less (code t.tok == 6) _ (no_word t.tok words.Clean h.no_clean)
+      ∙ first_less (code t.tok == 7) _ (no_word t.tok words.Assert h.no_assert) ∙ first_less (code t.tok == 8) _ (no_word t.tok words.Append h.no_append)
+      ∙ first_less (code t.tok == 9) _ (no_word t.tok words.Rotate h.no_rotate) ∙ first_only _) ms
 
 -- None of the tokens that begin a base stands first, but for a name.
 pub record IsUse (ts : List Token) : Type 0 where
@@ -320,91 +439,105 @@ pub record IsUse (ts : List Token) : Type 0 where
   pub no_round : NotFirst (toks.Sign signs.OpenRound) ts
   pub no_curly : NotFirst (toks.Sign signs.OpenCurly) ts
 
-pub as_use : (l : ℕ) (ts : List Token) → IsUse ts → (ms : Stack) → outcome ts (form g.base l ∷ ms) ≡ outcome ts (kept_token any_name ∷ ms)
-as_use l [] h ms = refl
-as_use l (t ∷ ts) h ms =
-    as_line g.base l _ (inl refl) refl refl (t ∷ ts)
-    (table_is (code t.tok) g.base
-    ∙ ap (first_some _) (first_less (code t.tok == 11) _ (no_word t.tok words.True h.no_true)
-    ∙ first_less (code t.tok == 12) _ (no_word t.tok words.False h.no_false)
-    ∙ first_less (code t.tok == 10) _ (no_word t.tok words.Reg h.no_reg) ∙ first_less (code t.tok == 18) _ (no_sign t.tok signs.OpenRound h.no_round)
-    ∙ first_less (code t.tok == 22) _ (no_sign t.tok signs.OpenCurly h.no_curly)) ∙ first_only _) ms
+module _ (p : Profile) where
+  pub as_use : (l : ℕ) (ts : List Token) → IsUse ts → (ms : Stack) → outcome ts (form (in_profile p g.base) l ∷ ms) ≡ outcome ts (kept_token any_name ∷ ms)
+  as_use l [] h ms = refl
+  as_use l (t ∷ ts) h ms =
+      as_line (in_profile p g.base) l _ (inl refl) refl refl (t ∷ ts)
+      (table_is (code t.tok) (in_profile p g.base)
+      ∙ ap (first_some _) (first_less (code t.tok == 11) _ (no_word t.tok words.True h.no_true)
+      ∙ first_less (code t.tok == 12) _ (no_word t.tok words.False h.no_false)
+      ∙ first_less (code t.tok == 10) _ (no_word t.tok words.Reg h.no_reg) ∙ first_less (code t.tok == 18) _ (no_sign t.tok signs.OpenRound h.no_round)
+      ∙ first_less (code t.tok == 22) _ (no_sign t.tok signs.OpenCurly h.no_curly)) ∙ first_only _) ms
 
 -- ---- forms that are left out
 
-pub no_parameters : (ts : List Token) → NotFirst (toks.Sign signs.OpenRound) ts → (ms : Stack) → outcome ts (form g.parameters 0 ∷ ms) ≡ outcome ts ms
+pub no_parameters : (ts : List Token) → NotFirst (toks.Sign signs.OpenRound) ts → (ms : Stack) → outcome ts (form (common g.parameters) 0 ∷ ms) ≡ outcome ts ms
 no_parameters ts h =
-    as_none g.parameters 0 refl ts (at_first ts h (λ t k. table_is (code t) g.parameters
-    ∙ not_behind g.outside (plain g.parameters ∷ []) (table_is (code t) g.parameter ∙ first_less (code t == 18) _ (no_sign t signs.OpenRound k))))
+    as_none (common g.parameters) 0 refl ts (at_first ts h (λ t k. table_is (code t) (common g.parameters)
+    ∙ not_behind g.outside (shared g.parameters ∷ []) (table_is (code t) (common g.parameter) ∙ first_less (code t == 18) _ (no_sign t signs.OpenRound k))))
 
-pub no_parts : (ts : List Token) → NotFirst (toks.Sign signs.Dot) ts → (ms : Stack) → outcome ts (form g.parts 0 ∷ ms) ≡ outcome ts ms
-no_parts ts h =
-    as_none g.parts 0 refl ts (at_first ts h (λ t k. table_is (code t) g.parts
-    ∙ not_behind g.outside (plain g.parts ∷ []) (table_is (code t) g.part ∙ first_less (code t == 31) _ (no_sign t signs.Dot k))))
+module _ (p : Profile) where
+  pub no_parts : (ts : List Token) → NotFirst (toks.Sign signs.Dot) ts → (ms : Stack) → outcome ts (form (in_profile p g.parts) 0 ∷ ms) ≡ outcome ts ms
+  no_parts ts h =
+      as_none (in_profile p g.parts) 0 refl ts (at_first ts h (λ t k. table_is (code t) (in_profile p g.parts)
+      ∙ not_behind g.outside (plain p g.parts ∷ []) (table_is (code t) (in_profile p g.part) ∙ first_less (code t == 31) _ (no_sign t signs.Dot k))))
 
-pub no_assigned : (l : ℕ) (ts : List Token) → NotFirst (toks.Sign signs.Assign) ts → (ms : Stack) → outcome ts (form g.assigned l ∷ ms) ≡ outcome ts ms
-no_assigned l ts h =
-    as_none g.assigned l refl ts (at_first ts h (λ t k. table_is (code t) g.assigned ∙ first_less (code t == 29) _ (no_sign t signs.Assign k)))
+  pub no_assigned : (l : ℕ) (ts : List Token) → NotFirst (toks.Sign signs.Assign) ts → (ms : Stack) → outcome ts (form (in_profile p g.assigned) l ∷ ms)
+      ≡ outcome ts ms
+  no_assigned l ts h =
+      as_none (in_profile p g.assigned) l refl ts (at_first ts h
+      (λ t k. table_is (code t) (in_profile p g.assigned) ∙ first_less (code t == 29) _ (no_sign t signs.Assign k)))
 
-pub no_sums : (l : ℕ) (ts : List Token) → NotFirst (toks.Sign signs.Xor) ts → (ms : Stack) → outcome ts (form g.sums l ∷ ms) ≡ outcome ts ms
-no_sums l ts h = as_none g.sums l refl ts (at_first ts h (λ t k. table_is (code t) g.sums ∙ first_less (code t == 27) _ (no_sign t signs.Xor k)))
+  pub no_sums : (l : ℕ) (ts : List Token) → NotFirst (toks.Sign signs.Xor) ts → (ms : Stack) → outcome ts (form (in_profile p g.sums) l ∷ ms) ≡ outcome ts ms
+  no_sums l ts h = as_none (in_profile p g.sums) l refl ts (at_first ts h
+      (λ t k. table_is (code t) (in_profile p g.sums) ∙ first_less (code t == 27) _ (no_sign t signs.Xor k)))
 
-pub no_products : (l : ℕ) (ts : List Token) → NotFirst (toks.Sign signs.And) ts → (ms : Stack) → outcome ts (form g.products l ∷ ms) ≡ outcome ts ms
-no_products l ts h =
-    as_none g.products l refl ts (at_first ts h (λ t k. table_is (code t) g.products ∙ first_less (code t == 28) _ (no_sign t signs.And k)))
+  pub no_products : (l : ℕ) (ts : List Token) → NotFirst (toks.Sign signs.And) ts → (ms : Stack) → outcome ts (form (in_profile p g.products) l ∷ ms)
+      ≡ outcome ts ms
+  no_products l ts h =
+      as_none (in_profile p g.products) l refl ts (at_first ts h
+      (λ t k. table_is (code t) (in_profile p g.products) ∙ first_less (code t == 28) _ (no_sign t signs.And k)))
 
-pub no_elements : (l : ℕ) (ts : List Token) → NotFirst (toks.Sign signs.Semi) ts → (ms : Stack) → outcome ts (form g.elements l ∷ ms) ≡ outcome ts ms
-no_elements l ts h =
-    as_none g.elements l refl ts (at_first ts h (λ t k. table_is (code t) g.elements ∙ first_less (code t == 25) _ (no_sign t signs.Semi k)))
+  pub no_elements : (l : ℕ) (ts : List Token) → NotFirst (toks.Sign signs.Semi) ts → (ms : Stack) → outcome ts (form (in_profile p g.elements) l ∷ ms)
+      ≡ outcome ts ms
+  no_elements l ts h =
+      as_none (in_profile p g.elements) l refl ts (at_first ts h
+      (λ t k. table_is (code t) (in_profile p g.elements) ∙ first_less (code t == 25) _ (no_sign t signs.Semi k)))
 
 -- { name }
-not_name : (t : Tok) → is_name t ≡ false → code t == 1 ≡ false
+pub not_name : (t : Tok) → is_name t ≡ false → code t == 1 ≡ false
 not_name (toks.Name text) h = cc
 not_name toks.End h = refl
-not_name (toks.Number n) h = refl
+not_name (toks.Number n) h = at_number (λ c. c == 1 ≡ false) refl refl n
 not_name (toks.Word w) h = differs (3 + word_code w) 1 (λ e. omega (arith, e))
 not_name (toks.Sign s) h = differs (18 + sign_code s) 1 (λ e. omega (arith, e))
 
-pub no_names : (ts : List Token) → name_first ts ≡ false → (ms : Stack) → outcome ts (form g.names 0 ∷ ms) ≡ outcome ts ms
+pub no_names : (ts : List Token) → name_first ts ≡ false → (ms : Stack) → outcome ts (form (common g.names) 0 ∷ ms) ≡ outcome ts ms
 no_names [] h ms = refl
 no_names (t ∷ ts) h ms =
-    as_none g.names 0 refl (t ∷ ts) (table_is (code t.tok) g.names ∙ first_less (code t.tok == 1) _ (not_name t.tok h)) ms
+    as_none (common g.names) 0 refl (t ∷ ts) (table_is (code t.tok) (common g.names) ∙ first_less (code t.tok == 1) _ (not_name t.tok h)) ms
 
-names_begin : (t : Tok) → is_name t ≡ true → (is_end t ≡ false) × (begin (may_follow g.names) (code t) (kept any_name ∷ plain g.names ∷ []) ≡ true)
+pub names_begin : (t : Tok) → is_name t ≡ true → (is_end t ≡ false) ×
+    (begin (may_follow (common g.names)) (code t) (kept any_name ∷ shared g.names ∷ []) ≡ true)
 names_begin (toks.Name text) h = (refl, refl)
 names_begin _ h = cc
 
-pub more_names : (ts : List Token) → name_first ts ≡ true → (ms : Stack) → outcome ts (form g.names 0 ∷ ms)
-    ≡ outcome ts (kept_token any_name ∷ form g.names 0 ∷ ms)
+pub more_names : (ts : List Token) → name_first ts ≡ true → (ms : Stack) → outcome ts (form (common g.names) 0 ∷ ms)
+    ≡ outcome ts (kept_token any_name ∷ form (common g.names) 0 ∷ ms)
 more_names [] h ms = cc
 more_names (t ∷ ts) h ms =
-    let b = names_begin t.tok h in by_first g.names 0 _ (inr (inl refl)) {k = t.tok} {at = t.at} {rest = ts} (record { cut = refl }) b.0 b.1 refl ms
+    let b = names_begin t.tok h in by_first (common g.names) 0 _ (inr (inl refl)) {k = t.tok} {at = t.at} {rest = ts} (record { cut = refl }) b.0 b.1 refl ms
 
--- { atom }
-not_base : (t : Tok) → begins_base t ≡ false → IsLeftOut g.atoms t
-not_base (toks.Name text) h = impossible h
-not_base (toks.Word words.True) h = impossible h
-not_base (toks.Word words.False) h = impossible h
-not_base (toks.Word words.Reg) h = impossible h
-not_base (toks.Sign signs.OpenRound) h = impossible h
-not_base (toks.Sign signs.OpenCurly) h = impossible h
-not_base _ h = refl
+module _ (p : Profile) where
+  -- { atom }
+  not_base : (t : Tok) → begins_base t ≡ false → IsLeftOut (in_profile p g.atoms) t
+  not_base (toks.Name text) h = impossible h
+  not_base (toks.Word words.True) h = impossible h
+  not_base (toks.Word words.False) h = impossible h
+  not_base (toks.Word words.Reg) h = impossible h
+  not_base (toks.Sign signs.OpenRound) h = impossible h
+  not_base (toks.Sign signs.OpenCurly) h = impossible h
+  not_base (toks.Number n) h = at_number (λ c. table c (in_profile p g.atoms) ≡ None) refl refl n
+  not_base _ h = refl
 
-pub no_atoms : (l : ℕ) (ts : List Token) → base_first ts ≡ false → (ms : Stack) → outcome ts (form g.atoms l ∷ ms) ≡ outcome ts ms
-no_atoms l [] h ms = refl
-no_atoms l (t ∷ ts) h ms = as_none g.atoms l refl (t ∷ ts) (not_base t.tok h) ms
+  pub no_atoms : (l : ℕ) (ts : List Token) → base_first ts ≡ false → (ms : Stack) → outcome ts (form (in_profile p g.atoms) l ∷ ms) ≡ outcome ts ms
+  no_atoms l [] h ms = refl
+  no_atoms l (t ∷ ts) h ms = as_none (in_profile p g.atoms) l refl (t ∷ ts) (not_base t.tok h) ms
 
-atoms_begin : (t : Tok) → begins_base t ≡ true → (is_end t ≡ false) × (begin (may_follow g.atoms) (code t) (here g.atom ∷ here g.atoms ∷ []) ≡ true)
-atoms_begin (toks.Name text) h = (refl, refl)
-atoms_begin (toks.Word words.True) h = (refl, refl)
-atoms_begin (toks.Word words.False) h = (refl, refl)
-atoms_begin (toks.Word words.Reg) h = (refl, refl)
-atoms_begin (toks.Sign signs.OpenRound) h = (refl, refl)
-atoms_begin (toks.Sign signs.OpenCurly) h = (refl, refl)
-atoms_begin _ h = impossible (sym h)
+  atoms_begin : (t : Tok) → begins_base t ≡ true → (is_end t ≡ false) ×
+      (begin (may_follow (in_profile p g.atoms)) (code t) (here p g.atom ∷ here p g.atoms ∷ []) ≡ true)
+  atoms_begin (toks.Name text) h = (refl, refl)
+  atoms_begin (toks.Word words.True) h = (refl, refl)
+  atoms_begin (toks.Word words.False) h = (refl, refl)
+  atoms_begin (toks.Word words.Reg) h = (refl, refl)
+  atoms_begin (toks.Sign signs.OpenRound) h = (refl, refl)
+  atoms_begin (toks.Sign signs.OpenCurly) h = (refl, refl)
+  atoms_begin _ h = impossible (sym h)
 
-pub more_atoms : (l : ℕ) (ts : List Token) → base_first ts ≡ true → (ms : Stack)
-    → outcome ts (form g.atoms l ∷ ms) ≡ outcome ts (form g.atom l ∷ form g.atoms l ∷ ms)
-more_atoms l [] h ms = cc
-more_atoms l (t ∷ ts) h ms =
-    let b = atoms_begin t.tok h in by_first g.atoms l _ (inr (inl refl)) {k = t.tok} {at = t.at} {rest = ts} (record { cut = refl }) b.0 b.1 refl ms
+  pub more_atoms : (l : ℕ) (ts : List Token) → base_first ts ≡ true → (ms : Stack)
+      → outcome ts (form (in_profile p g.atoms) l ∷ ms) ≡ outcome ts (form (in_profile p g.atom) l ∷ form (in_profile p g.atoms) l ∷ ms)
+  more_atoms l [] h ms = cc
+  more_atoms l (t ∷ ts) h ms =
+      let b = atoms_begin t.tok h in by_first (in_profile p g.atoms) l _ (inr (inl refl)) {k = t.tok} {at = t.at} {rest = ts}
+      (record { cut = refl }) b.0 b.1 refl ms

@@ -1,18 +1,20 @@
 -- Single tokens, and forms by the lines that they begin.
 use Rattle.std.proofs.Common.{◌≡◌, ℕ, ◌+◌, ◌==◌, Bool, true, false, cond, List, [], ◌∷◌, ◌++◌}
-use Rattle.std.proofs.Common.{refl, ap, ◌∙◌, length, arith}
+use Rattle.std.proofs.Common.{refl, sym, subst, ap, ◌∙◌, length, arith, inl, inr}
 use Rattle.std.proofs.lemmas.Bool.Decides.{nat_tests}
 use Rattle.revc_base.specs.declared.place.Place.{Place}
 use Rattle.revs_lexer.specs.declared.sign.Sign.{Sign}
+use Rattle.revs_lexer.specs.declared.sign.Sign.TheVariants as signs
 use Rattle.revs_lexer.specs.declared.word.Word.{Word}
+use Rattle.revs_lexer.specs.declared.word.Word.TheVariants as words
 use Rattle.revs_lexer.specs.declared.token.Tok.{Tok}
 use Rattle.revs_lexer.specs.declared.token.Tok.TheVariants as toks
 use Rattle.revs_lexer.specs.declared.token.Token.{Token}
-use Rattle.revs_grammar.specs.Forms.{Mark, any_name, any_number, word, sign, held, mark_code, code, Form, Val, Production, IsOneOf, name_of}
+use Rattle.revs_grammar.specs.Forms.{Mark, any_name, two, other_number, word, sign, held, mark_code, code, common, Form, Val, Production, IsOneOf, name_of}
 use Rattle.revs_grammar.specs.Forms as g
 use Rattle.revs_grammar.specs.Productions.{productions}
 use Rattle.revs_grammar.specs.Sentences.{token, kept_token, opening_token, form, symbols, Vals, fill, few_levels}
-use Rattle.revs_grammar.specs.inside.Machine.{Stack, Outcome, no_syntax, is_empty, is_end, outcome}
+use Rattle.revs_grammar.specs.inside.Machine.{Stack, Outcome, no_syntax, is_empty, is_optional, is_end, outcome}
 use Rattle.revs_grammar.proofs.CheckHints.{may_follow}
 use Rattle.revs_grammar.proofs.CheckLemmas.{begin}
 use Rattle.revs_parser.specs.declared.stop.Stop.{Stop}
@@ -20,7 +22,7 @@ use Rattle.revs_parser.specs.declared.stop.Stop.TheVariants as stops
 use Rattle.revs_parser.specs.inside.Reading.{Passes, Reads, Skips, ReadsForm, Halts, HaltsIn, Heads, NotFirst}
 use Rattle.revs_parser.proofs.PassingLemmas.{passes_reads, line_passes, token_passes}
 use Rattle.revs_parser.proofs.PassingLemmas.{kept_passes, opening_passes, one_token, halts_there}
-use Rattle.revs_parser.proofs.StepLemmas.{no_sign, no_word, by_first, token_goes, kept_goes, opening_goes, opening_deepens}
+use Rattle.revs_parser.proofs.StepLemmas.{no_sign, no_word, no_two, AtFirst, IsLeftOut, by_first, token_goes, kept_goes, opening_goes, opening_deepens}
 
 -- ---- single tokens
 
@@ -34,9 +36,6 @@ a_sign {k} h = one_token h (token_passes (sign k) refl h (token_goes (sign k) (s
 -- a word that stands for nothing
 pub bare_word : {w : Word} {at : Place} {ts rest : List Token} → Heads (toks.Word w) at ts rest → Reads (token (word w) ∷ []) tt ts rest
 bare_word {w} h = one_token h (token_passes (word w) refl h (token_goes (word w) (same_code (3 + g.word_code w)) refl h))
-
-pub a_number : {n : ℕ} {at : Place} {ts rest : List Token} → Heads (toks.Number n) at ts rest → Reads (kept_token any_number ∷ []) (n, tt) ts rest
-a_number h = one_token h (kept_passes any_number refl h (kept_goes any_number refl refl h))
 
 pub a_name : {text : List ℕ} {at : Place} {ts rest : List Token} → Heads (toks.Name text) at ts rest
     → Reads (kept_token any_name ∷ []) (name_of text at, tt) ts rest
@@ -65,6 +64,27 @@ both false = refl
 pub sign_stops : (s : Sign) (ts : List Token) → NotFirst (toks.Sign s) ts → Halts (token (sign s) ∷ []) ts (stops.Syntax (length ts))
 sign_stops s [] h = record { halt = λ ms. refl }
 sign_stops s (t ∷ ts) h = record { halt = λ ms. rw (no_sign t.tok s h) (both (is_end t.tok) ∙ ap no_syntax (omega arith)) }
+
+-- So it is with one that would open a level, and with a form that must stand there.
+pub opening_stops : (s : Sign) (l : ℕ) (ts : List Token) → NotFirst (toks.Sign s) ts → Halts (opening_token (sign s) l ∷ []) ts (stops.Syntax (length ts))
+opening_stops s l [] h = record { halt = λ ms. refl }
+opening_stops s l (t ∷ ts) h = record { halt = λ ms. rw (no_sign t.tok s h) (both (is_end t.tok) ∙ ap no_syntax (omega arith)) }
+
+pub stops_at : (f : Form) (l : ℕ) → is_optional f ≡ false → (ts : List Token) → AtFirst (IsLeftOut f) ts → Halts (form f l ∷ []) ts (stops.Syntax (length ts))
+stops_at f l must [] h = record { halt = λ ms. refl }
+stops_at f l must (t ∷ ts) h = record { halt = λ ms. rw (must, h) (both (is_end t.tok) ∙ ap no_syntax (omega arith)) }
+
+pub two_stops : (ts : List Token) → NotFirst (toks.Number 2) ts → Halts (token two ∷ []) ts (stops.Syntax (length ts))
+two_stops [] h = record { halt = λ ms. refl }
+two_stops (t ∷ ts) h = record { halt = λ ms. rw (no_two t.tok h) (both (is_end t.tok) ∙ ap no_syntax (omega arith)) }
+
+-- the number 2, of which nothing counts but that it stands there
+at_two : {at : Place} {ts rest : List Token} → Heads (toks.Number 2) at ts rest → Reads (token two ∷ []) tt ts rest
+at_two h = one_token h (token_passes two refl h (token_goes two refl refl h))
+
+pub bare_two : (n : ℕ) {at : Place} {ts rest : List Token} → n ≡ 2 → Heads (toks.Number n) at ts rest → Reads (token two ∷ []) tt ts rest
+bare_two n {at} {ts} {rest} same =
+    subst (λ (k : ℕ). Heads (toks.Number k) at ts rest → Reads (token two ∷ []) tt ts rest) (sym same) at_two
 
 pub word_stops : (w : Word) (ts : List Token) → NotFirst (toks.Word w) ts → Halts (token (word w) ∷ []) ts (stops.Syntax (length ts))
 word_stops w [] h = record { halt = λ ms. refl }
@@ -102,3 +122,27 @@ left_out f l p i goes = line_passes f l p i goes
 
 pub skips : {es : Stack} {vs : Vals es} {ts rest : List Token} → Passes es [] (λ _. vs) ts rest → Skips es vs ts rest
 skips a = record { passes = a }
+
+-- ---- numbers
+
+-- A number is read, 2 by a line of its own.
+pub a_number : {n : ℕ} {at : Place} {ts rest : List Token} → Heads (toks.Number n) at ts rest
+    → ReadsForm (common g.number) 0 (record { value = n; at = at }) ts rest
+a_number {n} {at} {ts} {rest} h = go (n == 2) refl
+  where
+    go : (b : Bool) → n == 2 ≡ b → ReadsForm (common g.number) 0 (record { value = n; at = at }) ts rest
+    go true e = by_token (common g.number) 0 _ (inr (inl refl)) h refl (rw e refl) refl
+        (one_token h (kept_passes two (rw e refl) h (kept_goes two (rw e refl) refl h)))
+    go false e = by_token (common g.number) 0 _ (inl refl) h refl (rw e refl) refl
+        (one_token h (kept_passes other_number (rw e refl) h (kept_goes other_number (rw e refl) refl h)))
+
+is_no_number : (t : Tok) → ((n : ℕ) → ¬ (t ≡ toks.Number n)) → IsLeftOut (common g.number) t
+is_no_number (toks.Number n) h = absurd (h n refl)
+is_no_number (toks.Word words.Let) h = refl
+is_no_number (toks.Sign signs.Dot) h = refl
+is_no_number _ h = refl
+
+-- The machine stops where a number is wanted.
+pub number_stops : (ts : List Token) → AtFirst (λ t. (n : ℕ) → ¬ (t ≡ toks.Number n)) ts → HaltsIn (common g.number) 0 ts (stops.Syntax (length ts))
+number_stops [] h = stops_at (common g.number) 0 refl [] tt
+number_stops (t ∷ ts) h = stops_at (common g.number) 0 refl (t ∷ ts) (is_no_number t.tok h)

@@ -1,46 +1,39 @@
 // Expressions.
 
 ghost use Rattle.std.specs.Prelude.{◌≡◌, ◌+◌, ◌<◌, ◌≤◌, true, false, length};
-ghost use Rattle.std.specs.Prelude.{[], ◌∷◌, IfOk, IfErr, IsErrOf, MatchResult};
+ghost use Rattle.std.specs.Prelude.{[], ◌∷◌, map, IfOk, IfErr, IfSome, IfNone, MatchResult};
 ghost use Rattle.revs_terms.specs.declared.limits.TheConstants.{MOST_LEVELS};
 ghost use Rattle.revs_grammar.specs.Forms as g;
 ghost use Rattle.revs_grammar.specs.Sentences.{form, few_levels};
 ghost use Rattle.revs_parser.specs.inside.Reading.{ReadsForm, Skips, Reads, Halts, HaltsIn};
-ghost use Rattle.revs_parser.specs.inside.Reading.{base_first, name_first, HaltsAnywhere};
+ghost use Rattle.revs_parser.specs.inside.Reading.{base_first, item_first, HaltsAnywhere};
 ghost use Rattle.revs_parser.specs.inside.Forms.{ReadsNames, ReadsPart, ReadsAtoms, ReadsFunction};
 ghost use Rattle.revs_parser.specs.inside.Forms.{ReadsRegister, ReadsBlock, ReadsPiece};
 ghost use Rattle.revs_parser.specs.inside.Forms.{ReadsBinding, in_part, in_function};
 ghost use Rattle.revs_parser.specs.inside.Forms.{in_application, in_register, in_binding};
 ghost use Rattle.revs_parser.specs.inside.Forms.{ReadsFunctionNames, in_function_names};
 ghost use Rattle.revs_parser.specs.inside.Forms.{in_bound_names, ReadsAppend, in_append, closed_by};
-ghost use Rattle.revs_parser.specs.inside.Forms.{EndsPiece};
+ghost use Rattle.revs_parser.specs.inside.Forms.{EndsPiece, HeadsFor, NoFor, ReadsFor, in_for};
+ghost use Rattle.revs_parser.specs.inside.Forms.{in_range, ReadsLoop, in_loop};
 ghost use Rattle.revs_parser.specs.declared.stop.Stop.{Stop};
 ghost use Rattle.revs_terms.specs.Trees.{tree_of, item_tree_of};
 
 use crate::build::{assignment, bound_value, function_of, joined, operation, with_parts};
 use crate::front::{Opener, first_opener, first_operator};
-use crate::leaf::{after, after_word, expect, name, number, single_base};
+use crate::leaf::{after, after_word, begins_name, expect, expect_word, name, single_base};
+use crate::numbers::num;
 use crate::stop::Stop;
 use revc_base::Place;
+use revs_grammar::Profile;
 use revs_lexer::{Sign, Tok, Token, Word};
 use revs_terms::limits::MOST_LEVELS;
-use revs_terms::{Item, Name, Part, Term};
+use revs_terms::{Item, Name, Num, Part, Term};
 use std::alloc::Global;
-
-// Whether a name stands first.
-fn begins_name(tokens: &[Token]) -> bool
-    ensures { result ≡ name_first tokens.now }
-{
-    match tokens.split_first() {
-        Some((first, _)) => matches!(first.tok, Tok::Name(_)),
-        None => false,
-    }
-}
 
 // { name } behind the names so far.
 fn more_names(mut names: Vec<Name>, tokens: &[Token]) -> Result<(Vec<Name>, &[Token]), Stop>
     ensures { MatchResult result (λ read. ReadsNames names.items read.0.items tokens.now read.1.now)
-        (λ stop. HaltsIn g.names 0 tokens.now stop) }
+        (λ stop. HaltsIn (g.common g.names) 0 tokens.now stop) }
 {
     let mut rest = tokens;
     while begins_name(rest) {
@@ -77,36 +70,64 @@ fn bound_names(alloc: Global, tokens: &[Token]) -> Result<(Name, Vec<Name>, &[To
 }
 
 // A part behind its dot, which has this place.
-fn part(tokens: &[Token], at: Place) -> Result<(Part, &[Token]), Stop>
-    ensures ok { IfOk result (λ read. ReadsPart at read.0 tokens.now read.1.now) }
-    ensures halts { IfErr result (λ stop. Halts in_part tokens.now stop) }
-    ensures exact { ¬ IsErrOf result Stop.Memory }
+fn part(
+    alloc: Global,
+    profile: Profile,
+    tokens: &[Token],
+    at: Place,
+) -> Result<(Part, &[Token]), Stop>
+    ensures { MatchResult result (λ read. ReadsPart profile at read.0 tokens.now read.1.now)
+        (λ stop. Halts (in_part profile) tokens.now stop) }
 {
     let rest = expect(tokens, Sign::OpenSquare)?;
-    let (i, rest) = number(rest)?;
+    let (i, rest) = num(alloc, profile, rest)?;
     let Some((_, behind)) = after(rest, Sign::DotDot) else {
         let rest = expect(rest, Sign::CloseSquare)?;
         return Ok((Part::Index { i, at }, rest));
     };
-    let (j, rest) = number(behind)?;
+    let (j, rest) = num(alloc, profile, behind)?;
     let rest = expect(rest, Sign::CloseSquare)?;
     Ok((Part::Slice { i, j, at }, rest))
 }
 
 // { part }
-fn all_parts(alloc: Global, tokens: &[Token]) -> Result<(Vec<Part>, &[Token]), Stop>
+fn all_parts(
+    alloc: Global,
+    profile: Profile,
+    tokens: &[Token],
+) -> Result<(Vec<Part>, &[Token]), Stop>
     ensures { MatchResult result
-        (λ read. Skips (form g.parts 0 ∷ []) (read.0.items, tt) tokens.now read.1.now)
-        (λ stop. HaltsIn g.parts 0 tokens.now stop) }
+        (λ read. Skips (form (g.in_profile profile g.parts) 0 ∷ [])
+        (read.0.items, tt) tokens.now read.1.now)
+        (λ stop. HaltsIn (g.in_profile profile g.parts) 0 tokens.now stop) }
 {
     let mut parts = Vec::new(alloc);
     let mut rest = tokens;
     while let Some((at, behind)) = after(rest, Sign::Dot) {
-        let (next, left) = part(behind, at)?;
+        let (next, left) = part(alloc, profile, behind, at)?;
         parts.push(next)?;
         rest = left;
     }
     Ok((parts, rest))
+}
+
+// The name of a `for` behind the word, its two numbers, and the words around them.
+fn range(
+    alloc: Global,
+    profile: Profile,
+    tokens: &[Token],
+) -> Result<(Name, Num, Num, &[Token]), Stop>
+    ensures { MatchResult result
+        (λ read. Reads (in_range profile) (read.0, (read.1, (read.2, tt))) tokens.now read.3.now)
+        (λ stop. Halts (in_range profile) tokens.now stop) }
+{
+    let (name, rest) = name(tokens)?;
+    let rest = expect_word(rest, Word::In)?;
+    let (first, rest) = num(alloc, profile, rest)?;
+    let rest = expect(rest, Sign::DotDot)?;
+    let (last, rest) = num(alloc, profile, rest)?;
+    let rest = expect_word(rest, Word::Do)?;
+    Ok((name, first, last, rest))
 }
 
 // The level inside, where it is at most 100; the tokens begin with the one that opens it.
@@ -126,21 +147,27 @@ fn open(level: u32, tokens: &[Token]) -> Result<u32, Stop>
 
 /// The expression at this level that stands first, and the tokens behind it.
 #[cycle(read)]
-pub fn expression(alloc: Global, tokens: &[Token], level: u32) -> Result<(Term, &[Token]), Stop>
+pub fn expression(
+    alloc: Global,
+    profile: Profile,
+    tokens: &[Token],
+    level: u32,
+) -> Result<(Term, &[Token]), Stop>
     requires { level ≤ MOST_LEVELS }
     ensures { MatchResult result
-        (λ read. ReadsForm g.expression level (tree_of read.0) tokens.now read.1.now)
-        (λ stop. HaltsIn g.expression level tokens.now stop) }
+        (λ read. ReadsForm (g.in_profile profile g.expression) level
+        (tree_of read.0) tokens.now read.1.now)
+        (λ stop. HaltsIn (g.in_profile profile g.expression) level tokens.now stop) }
 {
     if let Some((at, behind)) = after_word(tokens, Word::Fun) {
         let inner = open(level, tokens)?;
-        return function(alloc, behind, inner, at);
+        return function(alloc, profile, behind, inner, at);
     }
-    let (left, rest) = sum(alloc, tokens, level)?;
+    let (left, rest) = sum(alloc, profile, tokens, level)?;
     let Some((_, behind)) = after(rest, Sign::Assign) else {
         return Ok((left, rest));
     };
-    let (right, rest) = sum(alloc, behind, level)?;
+    let (right, rest) = sum(alloc, profile, behind, level)?;
     let term = assignment(alloc, left, right)?;
     Ok((term, rest))
 }
@@ -149,36 +176,43 @@ pub fn expression(alloc: Global, tokens: &[Token], level: u32) -> Result<(Term, 
 #[cycle(read)]
 fn function(
     alloc: Global,
+    profile: Profile,
     tokens: &[Token],
     level: u32,
     at: Place,
 ) -> Result<(Term, &[Token]), Stop>
     requires { level ≤ MOST_LEVELS }
     ensures { MatchResult result
-        (λ read. ReadsFunction level at (tree_of read.0) tokens.now read.1.now)
-        (λ stop. Halts (in_function level) tokens.now stop) }
+        (λ read. ReadsFunction profile level at (tree_of read.0) tokens.now read.1.now)
+        (λ stop. Halts (in_function profile level) tokens.now stop) }
 {
     let (names, rest) = function_names(alloc, tokens)?;
-    let (body, rest) = expression(alloc, rest, level)?;
+    let (body, rest) = expression(alloc, profile, rest, level)?;
     let term = function_of(alloc, names, body, at)?;
     Ok((term, rest))
 }
 
 #[cycle(read)]
-fn sum(alloc: Global, tokens: &[Token], level: u32) -> Result<(Term, &[Token]), Stop>
+fn sum(
+    alloc: Global,
+    profile: Profile,
+    tokens: &[Token],
+    level: u32,
+) -> Result<(Term, &[Token]), Stop>
     requires { level ≤ MOST_LEVELS }
     ensures { MatchResult result
-        (λ read. ReadsForm g.sum level (tree_of read.0) tokens.now read.1.now)
-        (λ stop. HaltsIn g.sum level tokens.now stop) }
+        (λ read. ReadsForm (g.in_profile profile g.sum) level
+        (tree_of read.0) tokens.now read.1.now)
+        (λ stop. HaltsIn (g.in_profile profile g.sum) level tokens.now stop) }
 {
-    let (first, rest) = product(alloc, tokens, level)?;
+    let (first, rest) = product(alloc, profile, tokens, level)?;
     let Some((_, mut behind)) = after(rest, Sign::Xor) else {
         return Ok((first, rest));
     };
     let mut terms = Vec::new(alloc);
     terms.push(first)?;
     'products: loop {
-        let (next, rest) = product(alloc, behind, level)?;
+        let (next, rest) = product(alloc, profile, behind, level)?;
         terms.push(next)?;
         let Some((_, more)) = after(rest, Sign::Xor) else {
             return Ok((Term::Xor(terms), rest));
@@ -188,20 +222,26 @@ fn sum(alloc: Global, tokens: &[Token], level: u32) -> Result<(Term, &[Token]), 
 }
 
 #[cycle(read)]
-fn product(alloc: Global, tokens: &[Token], level: u32) -> Result<(Term, &[Token]), Stop>
+fn product(
+    alloc: Global,
+    profile: Profile,
+    tokens: &[Token],
+    level: u32,
+) -> Result<(Term, &[Token]), Stop>
     requires { level ≤ MOST_LEVELS }
     ensures { MatchResult result
-        (λ read. ReadsForm g.product level (tree_of read.0) tokens.now read.1.now)
-        (λ stop. HaltsIn g.product level tokens.now stop) }
+        (λ read. ReadsForm (g.in_profile profile g.product) level
+        (tree_of read.0) tokens.now read.1.now)
+        (λ stop. HaltsIn (g.in_profile profile g.product) level tokens.now stop) }
 {
-    let (first, rest) = application(alloc, tokens, level)?;
+    let (first, rest) = application(alloc, profile, tokens, level)?;
     let Some((_, mut behind)) = after(rest, Sign::And) else {
         return Ok((first, rest));
     };
     let mut terms = Vec::new(alloc);
     terms.push(first)?;
     'applications: loop {
-        let (next, rest) = application(alloc, behind, level)?;
+        let (next, rest) = application(alloc, profile, behind, level)?;
         terms.push(next)?;
         let Some((_, more)) = after(rest, Sign::And) else {
             return Ok((Term::And(terms), rest));
@@ -211,33 +251,45 @@ fn product(alloc: Global, tokens: &[Token], level: u32) -> Result<(Term, &[Token
 }
 
 #[cycle(read)]
-fn application(alloc: Global, tokens: &[Token], level: u32) -> Result<(Term, &[Token]), Stop>
+fn application(
+    alloc: Global,
+    profile: Profile,
+    tokens: &[Token],
+    level: u32,
+) -> Result<(Term, &[Token]), Stop>
     requires { level ≤ MOST_LEVELS }
     ensures { MatchResult result
-        (λ read. ReadsForm g.application level (tree_of read.0) tokens.now read.1.now)
-        (λ stop. HaltsIn g.application level tokens.now stop) }
+        (λ read. ReadsForm (g.in_profile profile g.application) level
+        (tree_of read.0) tokens.now read.1.now)
+        (λ stop. HaltsIn (g.in_profile profile g.application) level tokens.now stop) }
 {
     if let Some((at, behind)) = after_word(tokens, Word::Append) {
-        return append(alloc, behind, level, at);
+        return append(alloc, profile, behind, level, at);
     }
-    let Some((operator, behind)) = first_operator(tokens)? else {
-        return atoms(alloc, tokens, level);
+    let Some((operator, behind)) = first_operator(alloc, profile, tokens)? else {
+        return atoms(alloc, profile, tokens, level);
     };
-    let (operand, rest) = atom(alloc, behind, level)?;
+    let (operand, rest) = atom(alloc, profile, behind, level)?;
     let term = operation(alloc, operator, operand)?;
     Ok((term, rest))
 }
 
 // The two operands behind an `append`.
 #[cycle(read)]
-fn append(alloc: Global, tokens: &[Token], level: u32, at: Place) -> Result<(Term, &[Token]), Stop>
+fn append(
+    alloc: Global,
+    profile: Profile,
+    tokens: &[Token],
+    level: u32,
+    at: Place,
+) -> Result<(Term, &[Token]), Stop>
     requires { level ≤ MOST_LEVELS }
     ensures { MatchResult result
-        (λ read. ReadsAppend level at (tree_of read.0) tokens.now read.1.now)
-        (λ stop. Halts (in_append level) tokens.now stop) }
+        (λ read. ReadsAppend profile level at (tree_of read.0) tokens.now read.1.now)
+        (λ stop. Halts (in_append profile level) tokens.now stop) }
 {
-    let (first, rest) = atom(alloc, tokens, level)?;
-    let (second, rest) = atom(alloc, rest, level)?;
+    let (first, rest) = atom(alloc, profile, tokens, level)?;
+    let (second, rest) = atom(alloc, profile, rest, level)?;
     let term = joined(alloc, first, second, at)?;
     Ok((term, rest))
 }
@@ -259,19 +311,25 @@ fn begins_base(tokens: &[Token]) -> bool
 
 // An atom, and its arguments.
 #[cycle(read)]
-fn atoms(alloc: Global, tokens: &[Token], level: u32) -> Result<(Term, &[Token]), Stop>
+fn atoms(
+    alloc: Global,
+    profile: Profile,
+    tokens: &[Token],
+    level: u32,
+) -> Result<(Term, &[Token]), Stop>
     requires { level ≤ MOST_LEVELS }
-    ensures { MatchResult result (λ read. ReadsAtoms level (tree_of read.0) tokens.now read.1.now)
-        (λ stop. Halts (in_application level) tokens.now stop) }
+    ensures { MatchResult result
+        (λ read. ReadsAtoms profile level (tree_of read.0) tokens.now read.1.now)
+        (λ stop. Halts (in_application profile level) tokens.now stop) }
 {
-    let (head, mut rest) = atom(alloc, tokens, level)?;
+    let (head, mut rest) = atom(alloc, profile, tokens, level)?;
     if !begins_base(rest) {
         return Ok((head, rest));
     }
     let head = Box::new(alloc, head)?;
     let mut arguments = Vec::new(alloc);
     'arguments: loop {
-        let (next, left) = atom(alloc, rest, level)?;
+        let (next, left) = atom(alloc, profile, rest, level)?;
         arguments.push(next)?;
         rest = left;
         if !begins_base(rest) {
@@ -281,45 +339,63 @@ fn atoms(alloc: Global, tokens: &[Token], level: u32) -> Result<(Term, &[Token])
 }
 
 #[cycle(read)]
-fn atom(alloc: Global, tokens: &[Token], level: u32) -> Result<(Term, &[Token]), Stop>
+fn atom(
+    alloc: Global,
+    profile: Profile,
+    tokens: &[Token],
+    level: u32,
+) -> Result<(Term, &[Token]), Stop>
     requires { level ≤ MOST_LEVELS }
     ensures { MatchResult result
-        (λ read. ReadsForm g.atom level (tree_of read.0) tokens.now read.1.now)
-        (λ stop. HaltsIn g.atom level tokens.now stop) }
+        (λ read. ReadsForm (g.in_profile profile g.atom) level
+        (tree_of read.0) tokens.now read.1.now)
+        (λ stop. HaltsIn (g.in_profile profile g.atom) level tokens.now stop) }
 {
-    let (inner, rest) = base(alloc, tokens, level)?;
-    let (parts, rest) = all_parts(alloc, rest)?;
+    let (inner, rest) = base(alloc, profile, tokens, level)?;
+    let (parts, rest) = all_parts(alloc, profile, rest)?;
     let term = with_parts(alloc, inner, parts)?;
     Ok((term, rest))
 }
 
 #[cycle(read)]
-fn base(alloc: Global, tokens: &[Token], level: u32) -> Result<(Term, &[Token]), Stop>
+fn base(
+    alloc: Global,
+    profile: Profile,
+    tokens: &[Token],
+    level: u32,
+) -> Result<(Term, &[Token]), Stop>
     requires { level ≤ MOST_LEVELS }
     ensures { MatchResult result
-        (λ read. ReadsForm g.base level (tree_of read.0) tokens.now read.1.now)
-        (λ stop. HaltsIn g.base level tokens.now stop) }
+        (λ read. ReadsForm (g.in_profile profile g.base) level
+        (tree_of read.0) tokens.now read.1.now)
+        (λ stop. HaltsIn (g.in_profile profile g.base) level tokens.now stop) }
 {
     let Some((opener, at, behind)) = first_opener(tokens) else {
         return single_base(tokens);
     };
     let inner = open(level, tokens)?;
     match opener {
-        Opener::Register => register(alloc, behind, inner, at),
-        Opener::Bracket => closed(alloc, behind, inner, Sign::CloseRound),
-        Opener::Block => block(alloc, behind, inner, at),
+        Opener::Register => register(alloc, profile, behind, inner, at),
+        Opener::Bracket => closed(alloc, profile, behind, inner, Sign::CloseRound),
+        Opener::Block => block(alloc, profile, behind, inner, at),
     }
 }
 
 // An expression and the sign that ends it.
 #[cycle(read)]
-fn closed(alloc: Global, tokens: &[Token], level: u32, end: Sign) -> Result<(Term, &[Token]), Stop>
+fn closed(
+    alloc: Global,
+    profile: Profile,
+    tokens: &[Token],
+    level: u32,
+    end: Sign,
+) -> Result<(Term, &[Token]), Stop>
     requires { level ≤ MOST_LEVELS }
     ensures { MatchResult result
-        (λ read. Reads (closed_by end level) (tree_of read.0, tt) tokens.now read.1.now)
-        (λ stop. Halts (closed_by end level) tokens.now stop) }
+        (λ read. Reads (closed_by profile end level) (tree_of read.0, tt) tokens.now read.1.now)
+        (λ stop. Halts (closed_by profile end level) tokens.now stop) }
 {
-    let (term, rest) = expression(alloc, tokens, level)?;
+    let (term, rest) = expression(alloc, profile, tokens, level)?;
     let rest = expect(rest, end)?;
     Ok((term, rest))
 }
@@ -328,19 +404,20 @@ fn closed(alloc: Global, tokens: &[Token], level: u32, end: Sign) -> Result<(Ter
 #[cycle(read)]
 fn register(
     alloc: Global,
+    profile: Profile,
     tokens: &[Token],
     level: u32,
     at: Place,
 ) -> Result<(Term, &[Token]), Stop>
     requires { level ≤ MOST_LEVELS }
     ensures { MatchResult result
-        (λ read. ReadsRegister level at (tree_of read.0) tokens.now read.1.now)
-        (λ stop. Halts (in_register level) tokens.now stop) }
+        (λ read. ReadsRegister profile level at (tree_of read.0) tokens.now read.1.now)
+        (λ stop. Halts (in_register profile level) tokens.now stop) }
 {
     let mut behind = expect(tokens, Sign::OpenSquare)?;
     let mut elements = Vec::new(alloc);
     'elements: loop {
-        let (next, rest) = expression(alloc, behind, level)?;
+        let (next, rest) = expression(alloc, profile, behind, level)?;
         elements.push(next)?;
         let Some((_, more)) = after(rest, Sign::Semi) else {
             let rest = expect(rest, Sign::CloseSquare)?;
@@ -370,16 +447,22 @@ fn piece_of(term: Term, tokens: &[Token]) -> Result<(Piece, &[Token]), Stop>
 
 // The items and the last expression of a block behind its `{`.
 #[cycle(read)]
-fn block(alloc: Global, tokens: &[Token], level: u32, at: Place) -> Result<(Term, &[Token]), Stop>
+fn block(
+    alloc: Global,
+    profile: Profile,
+    tokens: &[Token],
+    level: u32,
+    at: Place,
+) -> Result<(Term, &[Token]), Stop>
     requires { level ≤ MOST_LEVELS }
     ensures { MatchResult result
-        (λ read. ReadsBlock level at (tree_of read.0) tokens.now read.1.now)
-        (λ stop. HaltsIn g.body level tokens.now stop) }
+        (λ read. ReadsBlock profile level at (tree_of read.0) tokens.now read.1.now)
+        (λ stop. HaltsIn (g.in_profile profile g.body) level tokens.now stop) }
 {
     let mut items = Vec::new(alloc);
     let mut rest = tokens;
     'items: loop {
-        let (next, left) = item_or_last(alloc, rest, level)?;
+        let (next, left) = item_or_last(alloc, profile, rest, level)?;
         rest = left;
         match next {
             Piece::Item(item) => items.push(item)?,
@@ -390,30 +473,167 @@ fn block(alloc: Global, tokens: &[Token], level: u32, at: Place) -> Result<(Term
     }
 }
 
-#[cycle(read)]
-fn item_or_last(alloc: Global, tokens: &[Token], level: u32) -> Result<(Piece, &[Token]), Stop>
-    requires { level ≤ MOST_LEVELS }
-    ensures { MatchResult result (λ read. ReadsPiece level read.0 tokens.now read.1.now)
-        (λ stop. HaltsIn g.body level tokens.now stop) }
+// Whether the first token begins an item that is no expression.
+fn begins_item(profile: Profile, tokens: &[Token]) -> bool
+    ensures { result ≡ item_first profile tokens.now }
 {
-    if let Some((_, behind)) = after_word(tokens, Word::Let) {
-        let (item, rest) = binding(alloc, behind, level)?;
+    let Some((first, _)) = tokens.split_first() else {
+        return false;
+    };
+    match (&first.tok, profile) {
+        (Tok::Word(Word::Let), _) => true,
+        (Tok::Word(Word::For), Profile::Two) => true,
+        _ => false,
+    }
+}
+
+#[cycle(read)]
+fn item_or_last(
+    alloc: Global,
+    profile: Profile,
+    tokens: &[Token],
+    level: u32,
+) -> Result<(Piece, &[Token]), Stop>
+    requires { level ≤ MOST_LEVELS }
+    ensures { MatchResult result (λ read. ReadsPiece profile level read.0 tokens.now read.1.now)
+        (λ stop. HaltsIn (g.in_profile profile g.body) level tokens.now stop) }
+{
+    if begins_item(profile, tokens) {
+        let (item, rest) = item(alloc, profile, tokens, level)?;
         return Ok((Piece::Item(item), rest));
     }
-    let (term, rest) = expression(alloc, tokens, level)?;
+    let (term, rest) = expression(alloc, profile, tokens, level)?;
     piece_of(term, rest)
+}
+
+// An item that is no expression.
+#[cycle(read)]
+fn item(
+    alloc: Global,
+    profile: Profile,
+    tokens: &[Token],
+    level: u32,
+) -> Result<(Item, &[Token]), Stop>
+    requires { level ≤ MOST_LEVELS }
+    ensures { MatchResult result
+        (λ read. ReadsForm (g.in_profile profile g.item) level
+        (item_tree_of read.0) tokens.now read.1.now)
+        (λ stop. HaltsIn (g.in_profile profile g.item) level tokens.now stop) }
+{
+    if let Some((_, behind)) = after_word(tokens, Word::Let) {
+        return binding(alloc, profile, behind, level);
+    }
+    let Some((at, behind)) = after_for(profile, tokens) else {
+        return Err(Stop::Syntax(tokens.len()));
+    };
+    repetition(alloc, profile, behind, level, at)
 }
 
 // What a `let` binds, behind the word.
 #[cycle(read)]
-fn binding(alloc: Global, tokens: &[Token], level: u32) -> Result<(Item, &[Token]), Stop>
+fn binding(
+    alloc: Global,
+    profile: Profile,
+    tokens: &[Token],
+    level: u32,
+) -> Result<(Item, &[Token]), Stop>
     requires { level ≤ MOST_LEVELS }
     ensures { MatchResult result
-        (λ read. ReadsBinding level (item_tree_of read.0) tokens.now read.1.now)
-        (λ stop. Halts (in_binding level) tokens.now stop) }
+        (λ read. ReadsBinding profile level (item_tree_of read.0) tokens.now read.1.now)
+        (λ stop. Halts (in_binding profile level) tokens.now stop) }
 {
     let (name, names, rest) = bound_names(alloc, tokens)?;
-    let (body, rest) = closed(alloc, rest, level, Sign::Semi)?;
+    let (body, rest) = closed(alloc, profile, rest, level, Sign::Semi)?;
     let value = bound_value(alloc, names, body)?;
     Ok((Item::Let { name, value }, rest))
+}
+
+// The place of a `for` and the tokens behind it, where it stands first and the profile has it.
+fn after_for(profile: Profile, tokens: &[Token]) -> Option<(Place, &[Token])>
+    ensures found { IfSome result (λ found. HeadsFor profile found.0 tokens.now found.1.now) }
+    ensures none { IfNone result (NoFor profile tokens.now) }
+{
+    match profile {
+        Profile::One => None,
+        Profile::Two => after_word(tokens, Word::For),
+    }
+}
+
+// A `for` behind the word, which has this place.
+#[cycle(read)]
+fn repetition(
+    alloc: Global,
+    profile: Profile,
+    tokens: &[Token],
+    level: u32,
+    at: Place,
+) -> Result<(Item, &[Token]), Stop>
+    requires { level ≤ MOST_LEVELS }
+    ensures { MatchResult result
+        (λ read. ReadsFor profile level at (item_tree_of read.0) tokens.now read.1.now)
+        (λ stop. Halts (in_for profile (level + 1)) tokens.now stop) }
+{
+    let (name, first, last, rest) = range(alloc, profile, tokens)?;
+    let Some((_, behind)) = after(rest, Sign::OpenCurly) else {
+        return Err(Stop::Syntax(rest.len()));
+    };
+    let inner = open(level, rest)?;
+    let (items, rest) = loop_items(alloc, profile, behind, inner)?;
+    Ok((
+        Item::For {
+            name,
+            first,
+            last,
+            items,
+            at,
+        },
+        rest,
+    ))
+}
+
+// The items of a `for` behind its `{`, and its end.
+#[cycle(read)]
+fn loop_items(
+    alloc: Global,
+    profile: Profile,
+    tokens: &[Token],
+    level: u32,
+) -> Result<(Vec<Item>, &[Token]), Stop>
+    requires { level ≤ MOST_LEVELS }
+    ensures { MatchResult result
+        (λ read. ReadsLoop profile level (map item_tree_of read.0.items) tokens.now read.1.now)
+        (λ stop. Halts (in_loop profile level) tokens.now stop) }
+{
+    let mut items = Vec::new(alloc);
+    let mut rest = tokens;
+    'items: loop {
+        let (next, left) = loop_item(alloc, profile, rest, level)?;
+        items.push(next)?;
+        rest = left;
+        if let Some((_, behind)) = after(rest, Sign::CloseCurly) {
+            let rest = expect(behind, Sign::Semi)?;
+            return Ok((items, rest));
+        }
+    }
+}
+
+// An item of a `for`.
+#[cycle(read)]
+fn loop_item(
+    alloc: Global,
+    profile: Profile,
+    tokens: &[Token],
+    level: u32,
+) -> Result<(Item, &[Token]), Stop>
+    requires { level ≤ MOST_LEVELS }
+    ensures { MatchResult result
+        (λ read. ReadsForm (g.in_profile profile g.loop_item) level
+        (item_tree_of read.0) tokens.now read.1.now)
+        (λ stop. HaltsIn (g.in_profile profile g.loop_item) level tokens.now stop) }
+{
+    if begins_item(profile, tokens) {
+        return item(alloc, profile, tokens, level);
+    }
+    let (term, rest) = closed(alloc, profile, tokens, level, Sign::Semi)?;
+    Ok((Item::Do(term), rest))
 }

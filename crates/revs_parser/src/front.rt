@@ -2,20 +2,24 @@
 
 ghost use Rattle.std.specs.Prelude.{IfOk, IfErr, IfSome, IfNone};
 ghost use Rattle.revs_grammar.specs.Forms as g;
-ghost use Rattle.revs_parser.specs.inside.Reading.{Heads, HaltsAnywhere};
+ghost use Rattle.revs_parser.specs.inside.Reading.{Heads, HaltsAtLevels};
 ghost use Rattle.revs_parser.specs.inside.Forms.{opening, NoOpener, ReadsOperator, NoOperator};
 
-use crate::leaf::{after, after_word, number};
+use crate::leaf::{after, after_word};
+use crate::numbers::num;
 use crate::stop::Stop;
 use revc_base::Place;
+use revs_grammar::Profile;
 use revs_lexer::{Sign, Token, Word};
+use revs_terms::Num;
+use std::alloc::Global;
 
 /// An operator with one operand, and its place.
-#[derive(Clone, Copy)]
+#[derive(Drop)]
 pub enum Operator {
     Clean(Place),
     Assert(Place),
-    Rotate(u32, Place),
+    Rotate(Num, Place),
 }
 
 /// What opens a level in a base.
@@ -27,11 +31,16 @@ pub enum Opener {
 }
 
 /// The operator that stands first, and the tokens of its operand.
-pub fn first_operator(tokens: &[Token]) -> Result<Option<(Operator, &[Token])>, Stop>
+pub fn first_operator(
+    alloc: Global,
+    profile: Profile,
+    tokens: &[Token],
+) -> Result<Option<(Operator, &[Token])>, Stop>
     ensures found { IfOk result (λ read. IfSome read
-        (λ found. ReadsOperator found.0 tokens.now found.1.now)) }
+        (λ found. ReadsOperator profile found.0 tokens.now found.1.now)) }
     ensures none { IfOk result (λ read. IfNone read (NoOperator tokens.now)) }
-    ensures halts { IfErr result (λ stop. HaltsAnywhere g.application tokens.now stop) }
+    ensures halts { IfErr result
+        (λ stop. HaltsAtLevels (g.in_profile profile g.application) tokens.now stop) }
 {
     if let Some((at, behind)) = after_word(tokens, Word::Clean) {
         return Ok(Some((Operator::Clean(at), behind)));
@@ -42,7 +51,7 @@ pub fn first_operator(tokens: &[Token]) -> Result<Option<(Operator, &[Token])>, 
     let Some((at, behind)) = after_word(tokens, Word::Rotate) else {
         return Ok(None);
     };
-    let (by, rest) = number(behind)?;
+    let (by, rest) = num(alloc, profile, behind)?;
     Ok(Some((Operator::Rotate(by, at), rest)))
 }
 

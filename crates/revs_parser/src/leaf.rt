@@ -4,12 +4,12 @@ ghost use Rattle.std.specs.Prelude.{◌≡◌, true, [], ◌∷◌, IfOk, IfErr,
 ghost use Rattle.std.specs.Prelude.{MatchResult};
 ghost use Rattle.revs_parser.specs.inside.Reading.{Heads, NotFirst, Reads, Halts, name_first};
 ghost use Rattle.revs_parser.specs.inside.Reading.{ReadsAnywhere, HaltsAnywhere};
+ghost use Rattle.revs_parser.specs.inside.Reading.{ReadsForm, HaltsIn};
 ghost use Rattle.revs_parser.specs.inside.Forms.{NoOpener};
 ghost use Rattle.revs_terms.specs.Trees.{tree_of};
 ghost use Rattle.revs_grammar.specs.Forms as g;
 ghost use Rattle.revs_grammar.specs.Sentences.{token, kept_token};
 ghost use Rattle.revs_parser.specs.declared.stop.Stop.{Stop};
-ghost use Rattle.revs_lexer.specs.declared.word.Word.TheVariants as words;
 ghost use Rattle.revs_lexer.specs.declared.token.Tok.TheVariants as toks;
 
 use crate::stop::Stop;
@@ -104,11 +104,31 @@ pub fn name(tokens: &[Token]) -> Result<(Name, &[Token]), Stop>
     }
 }
 
-/// The number that stands first, and the tokens behind it.
-pub fn number(tokens: &[Token]) -> Result<(u32, &[Token]), Stop>
-    ensures ok { IfOk result (λ read. Reads (kept_token g.any_number ∷ [])
-        (read.0, tt) tokens.now read.1.now) }
-    ensures halts { IfErr result (λ stop. Halts (kept_token g.any_number ∷ []) tokens.now stop) }
+/// The number that stands first, its place, and the tokens behind it.
+pub fn number(tokens: &[Token]) -> Result<(u32, Place, &[Token]), Stop>
+    ensures ok { IfOk result (λ read. ReadsForm (g.common g.number) 0
+        (record { value = read.0; at = read.1 }) tokens.now read.2.now) }
+    ensures halts { IfErr result (λ stop. HaltsIn (g.common g.number) 0 tokens.now stop) }
+    ensures exact { ¬ IsErrOf result Stop.Memory }
+{
+    match tokens.split_first() {
+        Some(
+            (
+                Token {
+                    tok: Tok::Number(n),
+                    at,
+                },
+                rest,
+            ),
+        ) => Ok((*n, *at, rest)),
+        _ => Err(Stop::Syntax(tokens.len())),
+    }
+}
+
+/// The tokens behind the number 2, which has to stand first, however it is spelled.
+pub fn number_two(tokens: &[Token]) -> Result<&[Token], Stop>
+    ensures ok { IfOk result (λ rest. Reads (token g.two ∷ []) tt tokens.now rest.now) }
+    ensures halts { IfErr result (λ stop. Halts (token g.two ∷ []) tokens.now stop) }
     ensures exact { ¬ IsErrOf result Stop.Memory }
 {
     match tokens.split_first() {
@@ -120,21 +140,36 @@ pub fn number(tokens: &[Token]) -> Result<(u32, &[Token]), Stop>
                 },
                 rest,
             ),
-        ) => Ok((*n, rest)),
+        ) => {
+            if *n == 2 {
+                Ok(rest)
+            } else {
+                Err(Stop::Syntax(tokens.len()))
+            }
+        }
         _ => Err(Stop::Syntax(tokens.len())),
     }
 }
 
-/// The tokens behind the word `bool`, which has to stand first.
-pub fn bool_word(tokens: &[Token]) -> Result<&[Token], Stop>
-    ensures ok { IfOk result (λ rest. Reads (token (g.word words.Bool) ∷ [])
-        tt tokens.now rest.now) }
-    ensures halts { IfErr result (λ stop. Halts (token (g.word words.Bool) ∷ []) tokens.now stop) }
+/// The tokens behind a word, which has to stand first.
+pub fn expect_word(tokens: &[Token], word: Word) -> Result<&[Token], Stop>
+    ensures ok { IfOk result (λ rest. Reads (token (g.word word) ∷ []) tt tokens.now rest.now) }
+    ensures halts { IfErr result (λ stop. Halts (token (g.word word) ∷ []) tokens.now stop) }
     ensures exact { ¬ IsErrOf result Stop.Memory }
 {
-    match after_word(tokens, Word::Bool) {
+    match after_word(tokens, word) {
         Some((_, rest)) => Ok(rest),
         None => Err(Stop::Syntax(tokens.len())),
+    }
+}
+
+/// Whether a name stands first.
+pub fn begins_name(tokens: &[Token]) -> bool
+    ensures { result ≡ name_first tokens.now }
+{
+    match tokens.split_first() {
+        Some((first, _)) => matches!(first.tok, Tok::Name(_)),
+        None => false,
     }
 }
 

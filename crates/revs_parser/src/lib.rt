@@ -11,6 +11,7 @@ mod front;
 mod law;
 mod leaf;
 mod limits;
+mod numbers;
 mod program;
 mod stop;
 

@@ -11,7 +11,7 @@ ghost use Rattle.revs_grammar.specs.Faults.{IsSyntax, IsNesting, Verdict, IsVerd
 ghost use Rattle.revs_terms.specs.Programs.{AreParams, width_of};
 ghost use Rattle.revs_terms.specs.Trees.{tree_of};
 ghost use Rattle.revs_parser.specs.inside.Reading.{ReadsForm, HaltsIn, end_first};
-ghost use Rattle.revs_parser.specs.inside.Forms.{ReadsParameters, ReadsProgram};
+ghost use Rattle.revs_parser.specs.inside.Forms.{ReadsParameters, ReadsProfile, ReadsProgram};
 ghost use Rattle.revs_parser.specs.inside.Forms.{IsRefusal};
 ghost use Rattle.revs_parser.specs.Results.{IsRefused, IsRefusedFor, IsAnswer};
 ghost use Rattle.revs_parser.specs.declared.stop.Stop.{Stop};
@@ -19,9 +19,10 @@ ghost use Rattle.revs_parser.specs.declared.program.ParseFault.{ParseFault};
 ghost use Rattle.revs_parser.specs.declared.program.ParseFault.TheVariants as faults;
 
 use crate::expression::expression;
-use crate::leaf::{after, after_word, bool_word, expect, name, number};
+use crate::leaf::{after, after_word, expect, expect_word, name, number, number_two};
 use crate::stop::Stop;
 use revc_base::Place;
+use revs_grammar::Profile;
 use revs_lexer::{Sign, Tok, Token, Word};
 use revs_tape::limits::MOST_INPUTS;
 use revs_terms::{Param, Program, Term};
@@ -42,30 +43,31 @@ pub enum ParseFault {
 
 // The width of a parameter and its `)`.
 fn width(tokens: &[Token]) -> Result<(Option<u32>, &[Token]), Stop>
-    ensures ok { IfOk result (λ read. ReadsForm g.width 0 read.0 tokens.now read.1.now) }
-    ensures halts { IfErr result (λ stop. HaltsIn g.width 0 tokens.now stop) }
+    ensures ok { IfOk result (λ read. ReadsForm (g.common g.width) 0 read.0 tokens.now read.1.now) }
+    ensures halts { IfErr result (λ stop. HaltsIn (g.common g.width) 0 tokens.now stop) }
     ensures exact { ¬ IsErrOf result Stop.Memory }
 {
     let Some((_, behind)) = after(tokens, Sign::OpenSquare) else {
         let rest = expect(tokens, Sign::CloseRound)?;
         return Ok((None, rest));
     };
-    let (bits, rest) = number(behind)?;
+    let (bits, _, rest) = number(behind)?;
     let rest = expect(rest, Sign::CloseSquare)?;
     let rest = expect(rest, Sign::CloseRound)?;
     Ok((Some(bits), rest))
 }
 
 fn parameter(tokens: &[Token]) -> Result<(Param, &[Token]), Stop>
-    ensures { MatchResult result (λ read. ReadsForm g.parameter 0 read.0 tokens.now read.1.now)
-        (λ stop. HaltsIn g.parameter 0 tokens.now stop) }
+    ensures { MatchResult result
+        (λ read. ReadsForm (g.common g.parameter) 0 read.0 tokens.now read.1.now)
+        (λ stop. HaltsIn (g.common g.parameter) 0 tokens.now stop) }
 {
     let Some((_, behind)) = after(tokens, Sign::OpenRound) else {
         return Err(Stop::Syntax(tokens.len()));
     };
     let (name, rest) = name(behind)?;
     let rest = expect(rest, Sign::Colon)?;
-    let rest = bool_word(rest)?;
+    let rest = expect_word(rest, Word::Bool)?;
     let (width, rest) = width(rest)?;
     Ok((Param { name, width }, rest))
 }
@@ -74,7 +76,7 @@ fn parameter(tokens: &[Token]) -> Result<(Param, &[Token]), Stop>
 fn parameters(mut params: Vec<Param>, tokens: &[Token]) -> Result<(Vec<Param>, &[Token]), Stop>
     ensures { MatchResult result
         (λ read. ReadsParameters params.items read.0.items tokens.now read.1.now)
-        (λ stop. HaltsIn g.parameters 0 tokens.now stop) }
+        (λ stop. HaltsIn (g.common g.parameters) 0 tokens.now stop) }
 {
     let mut rest = tokens;
     while let Some((_, _)) = after(rest, Sign::OpenRound) {
@@ -85,21 +87,34 @@ fn parameters(mut params: Vec<Param>, tokens: &[Token]) -> Result<(Vec<Param>, &
     Ok((params, rest))
 }
 
+// The profile of a program, and the tokens behind its `main`.
+fn profile(tokens: &[Token]) -> Result<(Profile, &[Token]), Stop>
+    ensures ok { IfOk result (λ read. ReadsProfile read.0 tokens.now read.1.now) }
+    ensures halts { IfErr result (λ stop. HaltsIn (g.common g.program) 0 tokens.now stop) }
+    ensures exact { ¬ IsErrOf result Stop.Memory }
+{
+    if let Some((_, behind)) = after_word(tokens, Word::Main) {
+        return Ok((Profile::One, behind));
+    }
+    let rest = expect_word(tokens, Word::Revs)?;
+    let rest = number_two(rest)?;
+    let rest = expect_word(rest, Word::Main)?;
+    Ok((Profile::Two, rest))
+}
+
 // A whole sentence.
 fn sentence(alloc: Global, tokens: &[Token]) -> Result<(Vec<Param>, Term, &[Token]), Stop>
     ensures { MatchResult result
         (λ read. ReadsProgram read.0.items (tree_of read.1) tokens.now read.2.now)
-        (λ stop. HaltsIn g.program 0 tokens.now stop) }
+        (λ stop. HaltsIn (g.common g.program) 0 tokens.now stop) }
 {
-    let Some((_, behind)) = after_word(tokens, Word::Main) else {
-        return Err(Stop::Syntax(tokens.len()));
-    };
+    let (profile, behind) = profile(tokens)?;
     let (first, rest) = parameter(behind)?;
     let mut params = Vec::new(alloc);
     params.push(first)?;
     let (params, rest) = parameters(params, rest)?;
     let rest = expect(rest, Sign::Equal)?;
-    let (body, rest) = expression(alloc, rest, 1)?;
+    let (body, rest) = expression(alloc, profile, rest, 1)?;
     Ok((params, body, rest))
 }
 

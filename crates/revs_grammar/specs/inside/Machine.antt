@@ -44,7 +44,7 @@ opened zero c f = None
 opened (suc n) c f = first_line (opened n c) c (productions f)
 
 abbrev pub table : ℕ → Form → Option Opening
-table c f = opened 8 c f
+table c f = opened 9 c f
 
 -- whether a line is empty, and whether a form may be left out
 abbrev pub is_empty : List Piece → Bool

@@ -6,7 +6,9 @@ use Rattle.revs_lexer.specs.declared.word.Word.TheVariants as words
 use Rattle.revs_lexer.specs.declared.token.Tok.{Tok}
 use Rattle.revs_lexer.specs.declared.token.Tok.TheVariants as toks
 use Rattle.revs_lexer.specs.declared.token.Token.{Token}
-use Rattle.revs_grammar.specs.Forms.{Form, Val}
+use Rattle.revs_grammar.specs.declared.profile.Profile.{Profile}
+use Rattle.revs_grammar.specs.declared.profile.Profile.TheVariants as profiles
+use Rattle.revs_grammar.specs.Forms.{Kind, KindVal, Form, Val, in_profile}
 use Rattle.revs_grammar.specs.Sentences.{token, kept_token, opening_token, form, Leads, Vals, value, few_levels}
 use Rattle.revs_grammar.specs.inside.Machine.{Stack, Outcome, no_syntax, too_deep, is_end, outcome}
 use Rattle.revs_parser.specs.declared.stop.Stop.{Stop}
@@ -56,12 +58,16 @@ pub record Halts (es : Stack) (ts : List Token) (stop : Stop) : Type 0 where
 abbrev pub HaltsIn : Form → ℕ → List Token → Stop → Type 0
 HaltsIn f l ts stop = Halts (form f l ∷ []) ts stop
 
--- A form was read, whatever its level.
-pub record ReadsAnywhere (f : Form) (v : Val f) (ts rest : List Token) : Type 0 where
-  pub at_level : (level : ℕ) → ReadsForm f level v ts rest
+-- A form of this kind was read, whatever its profile and its level.
+pub record ReadsAnywhere (k : Kind) (v : KindVal k) (ts rest : List Token) : Type 0 where
+  pub at_level : (p : Profile) (level : ℕ) → ReadsForm (in_profile p k) level v ts rest
+
+-- The machine that expects such a form halts so, whatever the profile and the level.
+pub record HaltsAnywhere (k : Kind) (ts : List Token) (stop : Stop) : Type 0 where
+  pub at_level : (p : Profile) (level : ℕ) → HaltsIn (in_profile p k) level ts stop
 
 -- The machine that expects this form halts so, whatever the level.
-pub record HaltsAnywhere (f : Form) (ts : List Token) (stop : Stop) : Type 0 where
+pub record HaltsAtLevels (f : Form) (ts : List Token) (stop : Stop) : Type 0 where
   pub at_level : (level : ℕ) → HaltsIn f level ts stop
 
 -- A token of this kind and this place stands first, and the rest behind it.
@@ -95,6 +101,16 @@ is_name _ = false
 abbrev pub name_first : List Token → Bool
 name_first [] = false
 name_first (t ∷ ts) = is_name t.tok
+
+-- whether the token begins an item that is no expression: a `let`, or in profile 2 a `for`
+abbrev pub begins_item : Profile → Tok → Bool
+begins_item p (toks.Word words.Let) = true
+begins_item profiles.Two (toks.Word words.For) = true
+begins_item p t = false
+
+abbrev pub item_first : Profile → List Token → Bool
+item_first p [] = false
+item_first p (t ∷ ts) = begins_item p t.tok
 
 -- whether the end stands first
 abbrev pub end_first : List Token → Bool

@@ -1,12 +1,13 @@
 use Rattle.std.proofs.Common.{refl, sym, ◌∙◌}
 use Rattle.revs_terms.specs.Trees.{tree_of}
 use Rattle.revs_terms.proofs.ShapeLemmas.{tree_of-Reg, tree_of-Block, tree_of-Apply}
-use Rattle.revs_terms.proofs.ShapeLemmas.{tree_of-And, tree_of-Xor, item_tree_of-Let}
+use Rattle.revs_terms.proofs.ShapeLemmas.{tree_of-And, tree_of-Xor, item_tree_of-Let, item_tree_of-Do, item_tree_of-For}
 use Rattle.std.proofs.lemmas.Result.{MatchResult-weaker}
 use Rattle.revs_lexer.specs.declared.sign.Sign.TheVariants as signs
 use Rattle.revs_parser.specs.inside.Forms.{closed_by}
 use Rattle.revs_parser.proofs.PassingLemmas.{only, smaller_behind, halts_first, halts_on, no_memory, wants_memory, lower, deeper}
 use Rattle.revs_parser.proofs.ReadingLemmas as r
+use Rattle.revs_parser.proofs.ItemLemmas as i
 use Rattle.revs_parser.proofs.expression.+read.Goals as goal
 
 -- ---- expressions
@@ -46,7 +47,7 @@ expression-returns t c = r.expression_assign c.args.level c.in_default.ensures.n
 pub function-returns-in_err-names : goal.function-returns-in_err-names
 function-returns-in_err-names t c =
     halts_on _ _ _ c.from_residual.ensures.1
-    (halts_first (r.function_rest c.args.level) c.in_err-names.ensures)
+    (halts_first (r.function_rest c.args.profile c.args.level) c.in_err-names.ensures)
 
 pub function-returns-in_err-body : goal.function-returns-in_err-body
 function-returns-in_err-body t c =
@@ -174,7 +175,7 @@ application-returns t c =
 pub append-returns-in_err-first : goal.append-returns-in_err-first
 append-returns-in_err-first t c =
     halts_on _ _ _ c.from_residual.ensures.1
-    (halts_first (r.append_rest c.args.level) c.in_err-first.ensures)
+    (halts_first (r.append_rest c.args.profile c.args.level) c.in_err-first.ensures)
 
 pub append-returns-in_err-second : goal.append-returns-in_err-second
 append-returns-in_err-second t c =
@@ -248,8 +249,8 @@ atom-returns t c =
 
 pub base-returns-in_default : goal.base-returns-in_default
 base-returns-in_default t c = MatchResult-weaker c.single_base.result c.single_base.ensures
-    (λ x read. read.at_level c.args.level)
-    (λ x halt. halt.at_level c.args.level)
+    (λ x read. read.at_level c.args.profile c.args.level)
+    (λ x halt. halt.at_level c.args.profile c.args.level)
 
 pub base-returns-in_err-inner : goal.base-returns-in_err-inner
 base-returns-in_err-inner t c =
@@ -295,7 +296,7 @@ closed-returns t c =
 
 pub register-returns-in_err-behind : goal.register-returns-in_err-behind
 register-returns-in_err-behind t c =
-    halts_on _ _ _ c.from_residual.ensures.1 (halts_first (r.register_rest c.args.level) c.in_err-behind.ensures.halts)
+    halts_on _ _ _ c.from_residual.ensures.1 (halts_first (r.register_rest c.args.profile c.args.level) c.in_err-behind.ensures.halts)
 
 pub register-returns-in_err-push : goal.register-returns-in_err-push
 register-returns-in_err-push t c = halts_on _ _ _ c.from_residual-in_err-push.ensures.1 no_memory
@@ -361,26 +362,105 @@ block-returns-in-Last t c =
 
 pub item_or_last-returns-in_err-item : goal.item_or_last-returns-in_err-item
 item_or_last-returns-in_err-item t c =
-    halts_on _ _ _ c.from_residual.ensures.1 (r.let_halts c.args.level c.in-Some.ensures.found c.in_err-item.ensures)
+    halts_on _ _ _ c.from_residual.ensures.1 (i.item_halts c.args.level (sym c.begins_item.ensures ∙ c.if-begins_item.true) c.in_err-item.ensures)
 
-pub item_or_last-returns-in-Some : goal.item_or_last-returns-in-Some
-item_or_last-returns-in-Some t c = r.item_let c.args.level c.in-Some.ensures.found c.in_ok-item.ensures
+pub item_or_last-returns-then-begins_item : goal.item_or_last-returns-then-begins_item
+item_or_last-returns-then-begins_item t c = i.item_in_body c.args.level (sym c.begins_item.ensures ∙ c.if-begins_item.true) c.in_ok-item.ensures
 
 pub item_or_last-returns-in_err-term : goal.item_or_last-returns-in_err-term
 item_or_last-returns-in_err-term t c =
-    halts_on _ _ _ c.from_residual-in_err-term.ensures.1 (r.do_halts c.args.level c.in_default.ensures.none c.in_err-term.ensures)
+    halts_on _ _ _ c.from_residual-in_err-term.ensures.1
+    (i.do_halts c.args.level (sym c.begins_item.ensures ∙ c.if-begins_item.false) c.in_err-term.ensures)
 
 pub item_or_last-returns : goal.item_or_last-returns
 item_or_last-returns t c = MatchResult-weaker c.piece_of.result c.piece_of.ensures
-    (λ x. r.piece_reads c.args.level c.in_default.ensures.none c.in_ok-term.ensures x.0 x.1.now)
-    (λ x. r.piece_halts c.args.level c.in_default.ensures.none c.in_ok-term.ensures)
+    (λ x. i.piece_reads c.args.level (sym c.begins_item.ensures ∙ c.if-begins_item.false) c.in_ok-term.ensures x.0 x.1.now)
+    (λ x. i.piece_halts c.args.level (sym c.begins_item.ensures ∙ c.if-begins_item.false) c.in_ok-term.ensures)
+
+pub item-returns-in-Some : goal.item-returns-in-Some
+item-returns-in-Some t c = MatchResult-weaker c.binding.result c.binding.ensures
+    (λ x. i.item_let c.args.level c.in-Some.ensures.found)
+    (λ x. i.let_halts c.args.level c.in-Some.ensures.found)
+
+pub item-returns-in_default-after_for : goal.item-returns-in_default-after_for
+item-returns-in_default-after_for t c = i.item_stops c.args.level c.in_default.ensures.none c.in_default-after_for.ensures.none
+
+pub item-returns : goal.item-returns
+item-returns t c = MatchResult-weaker c.repetition.result c.repetition.ensures
+    (λ x. i.item_for c.args.level c.in-Some-after_for.ensures.found)
+    (λ x. i.for_halts c.args.level c.in-Some-after_for.ensures.found)
+
+-- ---- loops
+
+pub repetition-returns-in_err-name : goal.repetition-returns-in_err-name
+repetition-returns-in_err-name t c = halts_on _ _ _ c.from_residual.ensures.1 (i.for_no_range c.args.level c.in_err-name.ensures)
+
+pub repetition-returns-in_default : goal.repetition-returns-in_default
+repetition-returns-in_default t c = i.for_no_curly c.args.level c.in_ok-name.ensures c.in_default.ensures.none
+
+pub repetition-returns-in_err-inner : goal.repetition-returns-in_err-inner
+repetition-returns-in_err-inner t c =
+    halts_on _ _ _ c.from_residual-in_err-inner.ensures.1
+    (i.for_no_level c.args.level c.in_ok-name.ensures c.in-Some.ensures.found c.in_err-inner.ensures.deep _ c.in_err-inner.ensures.stops)
+
+pub repetition-returns-in_err-items : goal.repetition-returns-in_err-items
+repetition-returns-in_err-items t c =
+    halts_on _ _ _ c.from_residual-in_err-items.ensures.1
+    (i.for_in_loop c.args.level c.in_ok-name.ensures c.in-Some.ensures.found c.in_ok-inner.ensures.inner c.in_ok-inner.ensures.within c.in_err-items.ensures)
+
+pub repetition-returns : goal.repetition-returns
+repetition-returns t c =
+    i.for_reads c.args.level c.in_ok-name.ensures c.in-Some.ensures.found c.args.at c.in_ok-inner.ensures.inner c.in_ok-inner.ensures.within
+    c.in_ok-items.ensures (item_tree_of-For _ _ _ _ c.args.at)
+
+pub loop_items-items-init : goal.loop_items-items-init
+loop_items-items-init t c = record { read = i.loop_begun c.args.level c.args.tokens.now c.new-items.ensures.items }
+
+pub loop_items-returns-in_err-next : goal.loop_items-returns-in_err-next
+loop_items-returns-in_err-next t c = halts_on _ _ _ c.from_residual.ensures.1 (i.loop_halts c.args.level c.items.invariant.read c.in_err-next.ensures)
+
+pub loop_items-returns-in_err-push : goal.loop_items-returns-in_err-push
+loop_items-returns-in_err-push t c = halts_on _ _ _ c.from_residual-in_err-push.ensures.1 no_memory
+
+pub loop_items-returns-in_err-rest : goal.loop_items-returns-in_err-rest
+loop_items-returns-in_err-rest t c =
+    halts_on _ _ _ c.from_residual-in_err-rest.ensures.1
+    (i.loop_unended c.args.level c.items.invariant.read c.in_ok-next.ensures c.in-Some.ensures.found c.in_err-rest.ensures.halts)
+
+pub loop_items-returns-in-Some : goal.loop_items-returns-in-Some
+loop_items-returns-in-Some t c =
+    i.loop_done c.args.level c.items.items.items c.in_ok-next.next c.items.invariant.read c.in_ok-next.ensures c.in-Some.ensures.found
+    c.in_ok-push.ensures.items c.in_ok-rest.ensures.ok
+
+pub loop_items-items-preserved : goal.loop_items-items-preserved
+loop_items-items-preserved t c = record {
+  read = i.loop_more c.args.level c.items.items.items c.in_ok-next.next c.items.invariant.read c.in_ok-next.ensures c.in_default.ensures.none
+      c.in_ok-push.ensures.items;
+}
+
+pub loop_items-items-smaller : goal.loop_items-items-smaller
+loop_items-items-smaller t c = c.in_ok-next.ensures.shorter
+
+pub loop_item-returns-then-begins_item : goal.loop_item-returns-then-begins_item
+loop_item-returns-then-begins_item t c = MatchResult-weaker c.item.result c.item.ensures
+    (λ x. i.item_in_loop c.args.level (sym c.begins_item.ensures ∙ c.if-begins_item.true))
+    (λ x. i.item_halts_in_loop c.args.level (sym c.begins_item.ensures ∙ c.if-begins_item.true))
+
+pub loop_item-returns-in_err-term : goal.loop_item-returns-in_err-term
+loop_item-returns-in_err-term t c =
+    halts_on _ _ _ c.from_residual.ensures.1
+    (i.do_halts_in_loop c.args.level (sym c.begins_item.ensures ∙ c.if-begins_item.false) c.in_err-term.ensures)
+
+pub loop_item-returns : goal.loop_item-returns
+loop_item-returns t c =
+    i.do_in_loop c.args.level (sym c.begins_item.ensures ∙ c.if-begins_item.false) c.in_ok-term.ensures (item_tree_of-Do c.in_ok-term.term)
 
 -- ---- bindings
 
 pub binding-returns-in_err-name : goal.binding-returns-in_err-name
 binding-returns-in_err-name t c =
     halts_on _ _ _ c.from_residual.ensures.1
-    (halts_first (closed_by signs.Semi c.args.level) c.in_err-name.ensures)
+    (halts_first (closed_by c.args.profile signs.Semi c.args.level) c.in_err-name.ensures)
 
 pub binding-returns-in_err-body : goal.binding-returns-in_err-body
 binding-returns-in_err-body t c =
@@ -440,13 +520,28 @@ pub register-expression-requires : goal.register-expression-requires
 register-expression-requires t c = (lower _ 7 2 _ c.decreases, c.requires)
 
 pub block-item_or_last-requires : goal.block-item_or_last-requires
-block-item_or_last-requires t c = (lower _ 10 0 _ c.decreases, c.requires)
+block-item_or_last-requires t c = (lower _ 11 0 _ c.decreases, c.requires)
 
-pub item_or_last-binding-requires : goal.item_or_last-binding-requires
-item_or_last-binding-requires t c = (lower _ 9 0 _ c.decreases, c.requires)
+pub item_or_last-item-requires : goal.item_or_last-item-requires
+item_or_last-item-requires t c = (lower _ 10 0 _ c.decreases, c.requires)
 
 pub item_or_last-expression-requires : goal.item_or_last-expression-requires
-item_or_last-expression-requires t c = (lower _ 7 2 _ c.decreases, c.requires)
+item_or_last-expression-requires t c = (lower _ 7 3 _ c.decreases, c.requires)
+
+pub item-binding-requires : goal.item-binding-requires
+item-binding-requires t c = (lower _ 9 0 _ c.decreases, c.requires)
+
+pub item-repetition-requires : goal.item-repetition-requires
+item-repetition-requires t c = (lower _ 1 8 _ c.decreases, c.requires)
+
+pub loop_items-loop_item-requires : goal.loop_items-loop_item-requires
+loop_items-loop_item-requires t c = (lower _ 11 0 _ c.decreases, c.requires)
+
+pub loop_item-item-requires : goal.loop_item-item-requires
+loop_item-item-requires t c = (lower _ 10 0 _ c.decreases, c.requires)
+
+pub loop_item-closed-requires : goal.loop_item-closed-requires
+loop_item-closed-requires t c = (lower _ 8 2 _ c.decreases, c.requires)
 
 pub binding-closed-requires : goal.binding-closed-requires
 binding-closed-requires t c = (lower _ 8 0 _ c.decreases, c.requires)
@@ -463,7 +558,10 @@ pub base-closed-requires : goal.base-closed-requires
 base-closed-requires t c = deeper _ _ 8 1 7 _ c.in_ok-inner.ensures.inner c.in_ok-inner.ensures.within refl c.decreases
 
 pub base-block-requires : goal.base-block-requires
-base-block-requires t c = deeper _ _ 11 1 4 _ c.in_ok-inner.ensures.inner c.in_ok-inner.ensures.within refl c.decreases
+base-block-requires t c = deeper _ _ 12 1 3 _ c.in_ok-inner.ensures.inner c.in_ok-inner.ensures.within refl c.decreases
+
+pub repetition-loop_items-requires : goal.repetition-loop_items-requires
+repetition-loop_items-requires t c = deeper _ _ 12 1 3 _ c.in_ok-inner.ensures.inner c.in_ok-inner.ensures.within refl c.decreases
 
 pub sum-product-requires-in-products : goal.sum-product-requires-in-products
 sum-product-requires-in-products t c = (lower _ 5 0 _ c.decreases, c.requires)

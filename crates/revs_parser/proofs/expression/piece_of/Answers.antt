@@ -1,7 +1,7 @@
 use Rattle.revs_terms.specs.Trees.{tree_of}
 use Rattle.revs_terms.proofs.ShapeLemmas.{item_tree_of-Do}
 use Rattle.revs_parser.proofs.PassingLemmas.{halts_on}
-use Rattle.revs_parser.proofs.ReadingLemmas.{ends_item, ends_block, block_unclosed}
+use Rattle.revs_parser.proofs.ItemLemmas.{ends_item, ends_block, block_unclosed}
 use Rattle.revs_parser.proofs.expression.piece_of.Goals as goal
 
 pub returns-in-Some : goal.returns-in-Some

@@ -9,7 +9,7 @@ pub returns-in-Some-after_word-clause-found : goal.returns-in-Some-after_word-cl
 returns-in-Some-after_word-clause-found c = operator_assert c.in-Some-after_word.ensures.found
 
 pub returns-in_err-by-clause-halts : goal.returns-in_err-by-clause-halts
-returns-in_err-by-clause-halts c = passes_on _ _ c.from_residual.ensures.1 (rotate_halts c.in-Some-after_word-2.ensures.found c.in_err-by.ensures.halts)
+returns-in_err-by-clause-halts c = passes_on _ _ c.from_residual.ensures.1 (rotate_halts c.in-Some-after_word-2.ensures.found c.in_err-by.ensures)
 
 pub returns-clause-found : goal.returns-clause-found
-returns-clause-found c = operator_rotate c.in-Some-after_word-2.ensures.found c.in_ok-by.ensures.ok
+returns-clause-found c = operator_rotate c.in-Some-after_word-2.ensures.found c.in_ok-by.ensures

@@ -1,0 +1,34 @@
+use Rattle.revs_parser.proofs.PassingLemmas.{halts_on}
+use Rattle.revs_parser.proofs.ItemLemmas.{range_no_name, range_no_in, range_in_low, range_no_dots, range_in_high, range_no_do, range_reads}
+use Rattle.revs_parser.proofs.expression.range.Goals as goal
+
+pub returns-in_err-name : goal.returns-in_err-name
+returns-in_err-name c = halts_on _ _ _ c.from_residual.ensures.1 (range_no_name c.args.profile c.in_err-name.ensures.halts)
+
+pub returns-in_err-rest : goal.returns-in_err-rest
+returns-in_err-rest c = halts_on _ _ _ c.from_residual-in_err-rest.ensures.1 (range_no_in c.in_ok-name.ensures.ok c.in_err-rest.ensures.halts)
+
+pub returns-in_err-first : goal.returns-in_err-first
+returns-in_err-first c =
+    halts_on _ _ _ c.from_residual-in_err-first.ensures.1 (range_in_low c.in_ok-name.ensures.ok c.in_ok-rest.ensures.ok c.in_err-first.ensures)
+
+pub returns-in_err-rest-2 : goal.returns-in_err-rest-2
+returns-in_err-rest-2 c =
+    halts_on _ _ _ c.from_residual-in_err-rest-2.ensures.1
+    (range_no_dots c.in_ok-name.ensures.ok c.in_ok-rest.ensures.ok c.in_ok-first.ensures c.in_err-rest-2.ensures.halts)
+
+pub returns-in_err-last : goal.returns-in_err-last
+returns-in_err-last c =
+    halts_on _ _ _ c.from_residual-in_err-last.ensures.1
+    (range_in_high c.in_ok-name.ensures.ok c.in_ok-rest.ensures.ok c.in_ok-first.ensures c.in_ok-rest-2.ensures.ok c.in_err-last.ensures)
+
+pub returns-in_err-rest-3 : goal.returns-in_err-rest-3
+returns-in_err-rest-3 c =
+    halts_on _ _ _ c.from_residual-in_err-rest-3.ensures.1
+    (range_no_do c.in_ok-name.ensures.ok c.in_ok-rest.ensures.ok c.in_ok-first.ensures c.in_ok-rest-2.ensures.ok c.in_ok-last.ensures
+    c.in_err-rest-3.ensures.halts)
+
+pub returns : goal.returns
+returns c =
+    range_reads c.in_ok-name.ensures.ok c.in_ok-rest.ensures.ok c.in_ok-first.ensures c.in_ok-rest-2.ensures.ok c.in_ok-last.ensures
+    c.in_ok-rest-3.ensures.ok
