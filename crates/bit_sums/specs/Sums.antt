@@ -1,7 +1,7 @@
 -- Exclusive sums of a constant, of bits, and of products of two sums of bits. A bit is an input or a node of a graph.
-use Rattle.std.specs.Prelude.{◌≡◌, ℕ, ◌+◌, ◌*◌, Bool, true, false, ◌&&◌, List, [], ◌∷◌, length}
+use Rattle.std.specs.Prelude.{◌≡◌, ℕ, ◌+◌, ◌*◌, Bool, true, false, ◌&&◌, List, [], ◌∷◌, ◌++◌, length}
 use Rattle.std.specs.Bool.{xor}
-use Rattle.std.specs.List.{AllByRecursion}
+use Rattle.std.specs.List.{AllByRecursion, flat_map}
 use Rattle.dependency_graph.specs.declared.node.Base.{Base}
 
 -- the exclusive sum of what a test gives of each element
@@ -29,6 +29,13 @@ abbrev pub sum_value : (Base → Bool) → SumView → Bool
 sum_value bit s = xor s.one (xor (xor_by bit s.bits) (xor_by (product_value bit) s.products))
 
 -- ---- of what bases a sum is
+
+abbrev pub product_bases : ProductView → List Base
+product_bases p = p.first ++ p.second
+
+-- its bits, and the bases of its products
+abbrev pub bases_of : SumView → List Base
+bases_of s = s.bits ++ flat_map product_bases s.products
 
 -- the test holds of each
 abbrev pub AreAll : (Base → Bool) → List Base → Type 0

@@ -1,5 +1,5 @@
 // Products of two sums of bits, and what two of them make.
-ghost use Rattle.std.specs.Prelude.{◌≡◌, ◌⊎◌, ◌≤◌, ◌+◌, length, IfOk, IfSome, Bool};
+ghost use Rattle.std.specs.Prelude.{◌≡◌, ◌≢◌, ◌⊎◌, ◌≤◌, ◌+◌, [], ◌∷◌, length, IfOk, IfSome, Bool};
 ghost use Rattle.std.specs.Bool.{xor};
 ghost use Rattle.bit_sums.specs.Bits.{AreRising, HasOwn, apart};
 ghost use Rattle.bit_sums.specs.Products.{IsFactor, IsJoinOf, IsProduct, IsProductOf};
@@ -44,6 +44,17 @@ impl Product {
             first: Key::new(first),
             second: Key::new(second),
         }
+    }
+
+    /// The product of two different bits.
+    pub fn of_bits(alloc: Global, a: Base, b: Base) -> Result<Product, Memory>
+        requires { a ≢ b }
+        ensures { IfOk result (λ product.
+            product ≡ record { first = a ∷ []; second = b ∷ [] }) }
+    {
+        let first = Vec::from_slice(alloc, &[a])?;
+        let second = Vec::from_slice(alloc, &[b])?;
+        Ok(Product::new(first, second))
     }
 
     /// The bits of the first factor, rising. It takes no memory.

@@ -10,7 +10,7 @@ mod circuit_tidy_tests;
 #[cfg(test)]
 mod dependency_graph_tests;
 #[cfg(test)]
-mod lean_graph_tests;
+mod sum_graph_tests;
 #[cfg(test)]
 mod program_gen_tests;
 #[cfg(test)]

@@ -24,11 +24,11 @@ use Rattle.dependency_graph.proofs.UseLemmas.{last_before, last_more, filter_pus
 pub below_next : (n : ℕ) → below (n + 1) ≡ below n ++ n ∷ []
 below_next n = ap below (let one : n + 1 ≡ suc n = omega arith in one)
 
-map_same : (f g : ℕ → ℕ) (xs : List ℕ) → ((i : ℕ) → f i ≡ g i) → map f xs ≡ map g xs
+pub map_same : (f g : ℕ → ℕ) (xs : List ℕ) → ((i : ℕ) → f i ≡ g i) → map f xs ≡ map g xs
 map_same f g [] e = refl
 map_same f g (x ∷ xs) e = ap (λ (b : ℕ). b ∷ map f xs) (e x) ∙ ap (λ (z : List ℕ). g x ∷ z) (map_same f g xs e)
 
-map_itself : (xs : List ℕ) → map (λ (i : ℕ). i) xs ≡ xs
+pub map_itself : (xs : List ℕ) → map (λ (i : ℕ). i) xs ≡ xs
 map_itself [] = refl
 map_itself (x ∷ xs) = ap (λ (z : List ℕ). x ∷ z) (map_itself xs)
 
@@ -77,7 +77,7 @@ node_used f (suc n) k at =
     ∙ sym (map_push now (below n) n)
 
 -- with a use of a base, and then of others
-then_used : (f : ℕ → ℕ) (n : ℕ) (base : Base) (others : List ℕ) (at : ℕ) (rest : List ℕ → List ℕ)
+pub then_used : (f : ℕ → ℕ) (n : ℕ) (base : Base) (others : List ℕ) (at : ℕ) (rest : List ℕ → List ℕ)
     → ((g : ℕ → ℕ) → rest (map g (below n)) ≡ map (λ i. cond (is_in others i) at (g i)) (below n))
     → rest (with_use (map f (below n)) base at) ≡ map (λ i. cond (is_in (node_of base ++ others) i) at (f i)) (below n)
 then_used f n (bases.Input i) others at rest each = each f
@@ -87,7 +87,7 @@ then_used f n (bases.Node k) others at rest each =
     ∙ map_same (λ i. cond (is_in others i) at (cond ((k == i) || false) at (f i))) (λ i. cond ((k == i) || is_in others i) at (f i)) (below n)
     (λ i. cond_or (k == i) (is_in others i) at (f i))
 
-bases_used : (f : ℕ → ℕ) (n : ℕ) (bs : List Base) (at : ℕ)
+pub bases_used : (f : ℕ → ℕ) (n : ℕ) (bs : List Base) (at : ℕ)
     → with_uses (map f (below n)) bs at ≡ map (λ i. cond (is_in (nodes_among bs) i) at (f i)) (below n)
 bases_used f n [] at = refl
 bases_used f n (b ∷ bs) at = then_used f n b (nodes_among bs) at (λ (z : List ℕ). with_uses z bs at) (λ g. bases_used g n bs at)

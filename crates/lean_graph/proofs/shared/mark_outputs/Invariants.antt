@@ -1,5 +1,0 @@
-use Rattle.lean_graph.specs.inside.Marks.{AreOutputsMarked}
-use Rattle.lean_graph.proofs.shared.mark_outputs.Given as goal
-
-abbrev pub invariant-loop-sig : goal.invariant-loop-sig
-invariant-loop-sig l = AreOutputsMarked l.graph l.sig-index l.uses.items

@@ -1,4 +1,0 @@
--- What only private contracts and proofs cite.
-pub mod Marks
-pub mod Placing
-pub mod Walks

@@ -1,0 +1,10 @@
+pub mod LeanLemmas
+pub mod MarkLemmas
+pub mod NodeSumLemmas
+pub mod PlaceLemmas
+pub mod PlainLemmas
+pub mod SumNodeLemmas
+pub mod TableLemmas
+pub mod TakeLemmas
+pub mod UseLemmas
+pub mod WalkLemmas

@@ -1,0 +1,4 @@
+pub mod Graphs
+pub mod Plain
+pub mod Uses
+pub mod inside

@@ -1,0 +1,6 @@
+-- What only private contracts and proofs cite.
+pub mod Marks
+pub mod Operands
+pub mod Placing
+pub mod Tables
+pub mod Walks

@@ -1,0 +1,5 @@
+pub mod AddingLemmas
+pub mod GatherLemmas
+pub mod OwnLemmas
+pub mod SumLemmas
+pub mod StepLemmas

@@ -1,0 +1,95 @@
+// The gates of a sum.
+ghost use Rattle.std.specs.Prelude.{◌≡◌, ◌≢◌, ◌++◌, OnOk};
+ghost use Rattle.std.specs.List.{AllByRecursion, flat_map};
+ghost use Rattle.sum_toggles.specs.Toggles.{AreApart, IsPlacedBase, base_line, bit_gates};
+ghost use Rattle.sum_toggles.specs.Toggles.{product_gates, sum_gates};
+ghost use Rattle.bit_sums.specs.Sums.{bases_of, product_bases};
+ghost use Rattle.sum_toggles.specs.inside.Steps.{CanAdd, CanFlip};
+
+use crate::gates::{append_copies, base_line, push_copy, push_flip, push_one};
+use crate::gathering::{gathered, own_base};
+use bit_sums::{Product, Sum};
+use dependency_graph::Base;
+use mct_circuit::Gate;
+use revc_base::Memory;
+
+/// Appends the gates that add the value of a sum to the line `target`: for each bit a copy; for each
+/// product the gathering of its factors, a flip under two lines, and the gathering reversed; and a
+/// flip for the constant. `lines` holds the work line of each node that is held, `first` is the first
+/// work line.
+pub fn append_sum(
+    gates: &mut Vec<Gate>,
+    first: u32,
+    lines: &[Option<u32>],
+    target: u32,
+    sum: &Sum,
+) -> Result<(), Memory>
+    requires placed { AllByRecursion (IsPlacedBase first lines.now) (bases_of sum.now) }
+    requires apart { AreApart (base_line first lines.now) target (bases_of sum.now) }
+    ensures { OnOk result (gates.new.items
+        ≡ gates.old.items ++ sum_gates (base_line first lines.now) target sum.now) }
+{
+    append_bits(gates, first, lines, target, sum.bits())?;
+    append_products(gates, first, lines, target, sum.products())?;
+    push_one(gates, target, sum.one())
+}
+
+// Appends a copy of each bit.
+fn append_bits(
+    gates: &mut Vec<Gate>,
+    first: u32,
+    lines: &[Option<u32>],
+    target: u32,
+    bits: &[Base],
+) -> Result<(), Memory>
+    requires { AllByRecursion (CanAdd first lines.now target) bits.now }
+    ensures { OnOk result (gates.new.items
+        ≡ gates.old.items ++ bit_gates (base_line first lines.now) target bits.now) }
+{
+    for base in bits {
+        push_copy(gates, base_line(first, lines, *base), target)?;
+    }
+    Ok(())
+}
+
+fn append_products(
+    gates: &mut Vec<Gate>,
+    first: u32,
+    lines: &[Option<u32>],
+    target: u32,
+    products: &[Product],
+) -> Result<(), Memory>
+    requires { AllByRecursion (CanFlip first lines.now target) products.now }
+    ensures { OnOk result (gates.new.items ≡ gates.old.items
+        ++ flat_map (product_gates (base_line first lines.now) target) products.now) }
+{
+    for product in products {
+        append_product(gates, first, lines, target, product)?;
+    }
+    Ok(())
+}
+
+fn append_product(
+    gates: &mut Vec<Gate>,
+    first: u32,
+    lines: &[Option<u32>],
+    target: u32,
+    product: &Product,
+) -> Result<(), Memory>
+    requires { CanFlip first lines.now target product.now }
+    ensures { OnOk result (gates.new.items
+        ≡ gates.old.items ++ product_gates (base_line first lines.now) target product.now) }
+{
+    let mut both = gathered(*gates.allocator(), first, lines, product)?;
+    append_copies(gates, &both)?;
+    let a = own_base(product.first(), product.second());
+    let b = own_base(product.second(), product.first());
+    push_flip(
+        gates,
+        &[base_line(first, lines, a), base_line(first, lines, b)],
+        target,
+    )?;
+    both.reverse();
+    gates.append(&mut both)?;
+    Ok(())
+}
