@@ -19,6 +19,8 @@ mod fault_tests;
 #[cfg(test)]
 mod gallery_tests;
 #[cfg(test)]
+mod loop_tests;
+#[cfg(test)]
 mod plan_tests;
 #[cfg(test)]
 mod rows;

@@ -10,12 +10,12 @@ use Rattle.dependency_graph.specs.declared.node.Base.TheVariants as bases
 use Rattle.dependency_graph.specs.declared.node.Node.{Node}
 use Rattle.dependency_graph.specs.declared.node.Node.TheVariants.{Not, Xor, And}
 use Rattle.dependency_graph.specs.declared.node.Sig.TheVariants.{Is}
-use Rattle.dependency_graph.specs.Graphs.{IsKnownBase, IsKnownNode, base_bit, node_bit, node_of, nodes_among, operands}
+use Rattle.dependency_graph.specs.Graphs.{and_count, IsKnownBase, IsKnownNode, base_bit, node_bit, node_of, nodes_among, operands}
 use Rattle.claim_check.specs.Settled.{SettledView, settled_value}
 use Rattle.claim_check.proofs.NodeLemmas.{values_on}
 use Rattle.bit_sums.specs.Growing.{FactorView, factor_value, sum_of_factor}
 use Rattle.bit_sums.specs.Sums.{SumView, sum_value, weight_of}
-use Rattle.sum_graph.specs.Graphs.{IsKnownSum, and_count, is_known, sum_on, sums_made}
+use Rattle.sum_graph.specs.Graphs.{IsKnownSum, is_known, sum_on, sums_made}
 use Rattle.sum_graph.specs.declared.slot.Slot.{Slot}
 use Rattle.sum_graph.specs.declared.slot.Slot.TheVariants as slots
 use Rattle.sum_graph.specs.inside.Walks.{AreSlots, IsAnd, IsFactorOf, IsNodeSum, IsNot, IsXor, StandsFor, slot_products, slot_weight}

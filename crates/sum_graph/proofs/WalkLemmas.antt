@@ -18,11 +18,11 @@ use Rattle.dependency_graph.specs.declared.node.Node.{Node}
 use Rattle.dependency_graph.specs.declared.node.Node.TheVariants.{Not, Xor, And}
 use Rattle.dependency_graph.specs.declared.node.Sig.{Sig}
 use Rattle.dependency_graph.specs.declared.node.Sig.TheVariants.{Const, Is}
-use Rattle.dependency_graph.specs.Graphs.{IsKnownBase, IsKnownNode, IsKnownSig, base_bit, base_of, node_of, nodes_among, operands}
+use Rattle.dependency_graph.specs.Graphs.{and_count, IsKnownBase, IsKnownNode, IsKnownSig, base_bit, base_of, node_of, nodes_among, operands}
 use Rattle.claim_check.specs.Settled.{IsSettled, SettledView, settled_value}
 use Rattle.claim_check.proofs.NodeLemmas.{known_at, value_of_node}
 use Rattle.bit_sums.specs.Sums.{SumView, weight_of}
-use Rattle.sum_graph.specs.Graphs.{IsKnownSum, and_count, is_known, sum_on, sums_made}
+use Rattle.sum_graph.specs.Graphs.{IsKnownSum, is_known, sum_on, sums_made}
 use Rattle.sum_graph.specs.declared.slot.Slot.{Slot}
 use Rattle.sum_graph.specs.declared.slot.Slot.TheVariants as slots
 use Rattle.sum_graph.specs.inside.Placing.{IsPlaced}

@@ -5,9 +5,7 @@ use Rattle.list_facts.specs.Bits.{bit_of}
 use Rattle.revs_tape.specs.declared.limits.TheConstants.{MOST_INPUTS, MOST_OUTPUTS, MOST_WRITES}
 use Rattle.dependency_graph.specs.declared.node.Base.{Base}
 use Rattle.dependency_graph.specs.declared.node.Base.TheVariants as bases
-use Rattle.dependency_graph.specs.declared.node.Node.{Node}
-use Rattle.dependency_graph.specs.declared.node.Node.TheVariants.{Not, Xor, And}
-use Rattle.dependency_graph.specs.Graphs.{base_bit}
+use Rattle.dependency_graph.specs.Graphs.{ands_in, base_bit}
 use Rattle.claim_check.specs.Settled.{SettledView, settled_outputs}
 use Rattle.bit_sums.specs.Sums.{SumView, IsSumOver, sum_value, weight_of}
 
@@ -70,15 +68,6 @@ products_in sums = sum_by (λ (s : SumView). length s.products) sums
 abbrev pub weight_in : List SumView → ℕ
 weight_in sums = sum_by weight_of sums
 
-abbrev pub and_count : Node → ℕ
-and_count (Not a) = 0
-and_count (Xor a b) = 0
-and_count (And a b) = 1
-
--- the ANDs of a settled graph
-abbrev pub ands_of : SettledView → ℕ
-ands_of s = sum_by and_count s.nodes
-
 -- The lean graph of a settled graph: it has the inputs of that, and on every input the values of its outputs; it has no
 -- more nodes, and no more products than the settled graph has ANDs.
 pub record IsLeanOf (s : SettledView) (l : SumGraphView) : Type 0 where
@@ -86,5 +75,5 @@ pub record IsLeanOf (s : SettledView) (l : SumGraphView) : Type 0 where
   pub outputs : length l.outputs ≡ length s.outputs
   pub values : (input : List Bool) → sum_outputs l input ≡ settled_outputs s input
   pub few : length l.nodes ≤ length s.nodes
-  pub products : products_in l.nodes + products_in l.outputs ≤ ands_of s
+  pub products : products_in l.nodes + products_in l.outputs ≤ ands_in s.nodes
   pub light : weight_in l.nodes + weight_in l.outputs ≤ 29 * length s.nodes + 4 * length s.outputs

@@ -8,11 +8,11 @@ use Rattle.dependency_graph.specs.declared.node.Node.{Node}
 use Rattle.dependency_graph.specs.declared.node.Node.TheVariants.{Not, Xor, And}
 use Rattle.dependency_graph.specs.declared.node.Sig.{Sig}
 use Rattle.dependency_graph.specs.declared.node.Sig.TheVariants.{Const, Is}
-use Rattle.dependency_graph.specs.Graphs.{base_of, nodes_among, operands}
+use Rattle.dependency_graph.specs.Graphs.{and_count, base_of, nodes_among, operands}
 use Rattle.claim_check.specs.Settled.{IsSettled, SettledView, settled_value}
 use Rattle.bit_sums.specs.Growing.{FactorView, IsFinished, IsShort, IsSumOf, IsTimes, sum_of_factor}
 use Rattle.bit_sums.specs.Sums.{SumView, weight_of}
-use Rattle.sum_graph.specs.Graphs.{AreKnownSums, IsKnownSum, and_count, products_in, sum_on, weight_in}
+use Rattle.sum_graph.specs.Graphs.{AreKnownSums, IsKnownSum, products_in, sum_on, weight_in}
 use Rattle.sum_graph.specs.declared.slot.Slot.{Slot}
 use Rattle.sum_graph.specs.declared.slot.Slot.TheVariants as slots
 
