@@ -27,4 +27,6 @@ mod rows;
 #[cfg(test)]
 mod tidy_tests;
 #[cfg(test)]
+mod verify_tests;
+#[cfg(test)]
 mod words_tests;

@@ -1,12 +1,14 @@
 //! Tests of the public calls of single crates: bits, names and tokens, graphs, the file formats
-//! with the streams that they use, and generated programs. What takes a program apart, runs it, or
-//! plans, splits or runs its circuit is tested by rows of the commands.
+//! with the streams that they use, generated programs, and verified circuits. What takes a program
+//! apart, runs it, or plans, splits or runs its circuit is tested by rows of the commands.
 #![tactic(auto)]
 
 #[cfg(test)]
 mod ancilla_heap_tests;
 #[cfg(test)]
 mod circuit_tidy_tests;
+#[cfg(test)]
+mod circuit_verify_tests;
 #[cfg(test)]
 mod dependency_graph_tests;
 #[cfg(test)]

@@ -207,16 +207,19 @@ one_of_parts order program circuit fault exact is a b =
         (λ x y. settled_or_stopped program order.nodes y.tape fault y.settled x)
         (λ x y. settled_or_stopped program order.nodes x.tape exact x.settled y)
         (both_compared order program circuit fault exact is)
+
     reads_meet : ReadStage order program circuit fault → ReadStage order program circuit exact → OneOf exact fault
     reads_meet one other = meet one other
         (λ x y. same_fault fault exact (faults.Circuit x.refusal) (faults.Circuit y.refusal) x.named y.named
         (ap (λ (r : CircuitRefusal). faults.Circuit r) (one_circuit_refusal order.from circuit y.refusal x.refusal y.is x.is)))
         (λ x y. read_or_refused order circuit fault y.0 x) (λ x y. read_or_refused order circuit exact x.0 y) (λ x y. lasts_meet x.1 y.1)
+
     texts_meet : TextStage order program circuit fault → TextStage order program circuit exact → OneOf exact fault
     texts_meet one other = meet one other
         (λ x y. same_fault fault exact (faults.Refused x.refusal) (faults.Refused y.refusal) x.named y.named
         (ap (λ (r : Refusal). faults.Refused r) (one_refusal program y.refusal x.refusal y.is x.is)))
         (λ x y. left_or_refused program fault y.0 x) (λ x y. left_or_refused program exact x.0 y) (λ x y. reads_meet x.1 y.1)
+
     circuits_meet : CircuitStage order program circuit fault → CircuitStage order program circuit exact → OneOf exact fault
     circuits_meet one other = meet one other
         (λ x y. same_fault fault exact (faults.Circuit circuits.TooLong) (faults.Circuit circuits.TooLong) x.0 y.0 refl)
@@ -236,12 +239,15 @@ compared_or_stopped order OfTwo program circuit fault c apart h = elim (staged o
     at_last (inr other) =
         let same = same_two order program circuit OfTwo (StopsComparing order.nodes fault) c other in
         apart (comparison_of order other.tape other.read) (subst OfTwo same c.holds) other.holds
+
     at_read : ReadStage order program circuit fault → ⊥
     at_read (inl u) = read_or_refused order circuit fault (c.read, c.means) u
     at_read (inr more) = at_last more.1
+
     at_text : TextStage order program circuit fault → ⊥
     at_text (inl r) = left_or_refused program fault (c.tape, c.settled.left) r
     at_text (inr more) = at_read more.1
+
     at_circuit : CircuitStage order program circuit fault → ⊥
     at_circuit (inl long) = (let short = c.means.short in let over = long.1 in omega arith)
     at_circuit (inr more) = at_text more.1

@@ -56,12 +56,7 @@ pub fn verify(alloc: Global, source: &[u8], order: &Order) -> Result<(), Fault>
 }
 
 // Verifies a circuit against a program, where neither text is too long.
-fn verify_parts(
-    alloc: Global,
-    program: &[u8],
-    circuit: &[u8],
-    order: &Order,
-) -> Result<(), Fault>
+fn verify_parts(alloc: Global, program: &[u8], circuit: &[u8], order: &Order) -> Result<(), Fault>
     requires { IsWithinLimits (order_of order.now) }
     ensures ok { OnOk result (AreVerified (order_of order.now) program.now circuit.now) }
     ensures err { IfErr result (IsPartsFault (order_of order.now) program.now circuit.now) }
@@ -76,12 +71,7 @@ fn verify_parts(
 }
 
 // Verifies a circuit against a program.
-fn verify_texts(
-    alloc: Global,
-    program: &[u8],
-    circuit: &[u8],
-    order: &Order,
-) -> Result<(), Fault>
+fn verify_texts(alloc: Global, program: &[u8], circuit: &[u8], order: &Order) -> Result<(), Fault>
     requires program { length program.now ≤ MOST_BYTES }
     requires circuit { length circuit.now ≤ MOST_CIRCUIT_BYTES }
     requires limits { IsWithinLimits (order_of order.now) }
