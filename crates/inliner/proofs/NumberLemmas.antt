@@ -39,7 +39,8 @@ rest_of_number env old now sum ps = more_of no_bits (env_in (envs_of old) env) s
 -- a step is looked at, once its work was counted
 pub more_counted : (old now mid : Machine) (env : ℕ) (sum : ℤ) (p : Step) (ps qs : List Step) (at : Place) (whole : Going ℤ) → qs ≡ p ∷ ps
     → at ≡ unit_place p.unit → Through old now whole (rest_of_number env old now sum qs) → Does now mid (worked no_bits 1 at (state_of now)) tt
-    → Through old mid whole (after (summed no_bits (env_in (envs_of old) env) sum p (state_of mid)) (λ next s. more_of no_bits (env_in (envs_of old) env) next ps s))
+    → Through old mid whole (after (summed no_bits (env_in (envs_of old) env) sum p (state_of mid))
+    (λ next s. more_of no_bits (env_in (envs_of old) env) next ps s))
 more_counted old now mid env sum p ps qs at whole cut same t d =
     step (λ _ s. after (summed no_bits (env_in (envs_of old) env) sum p s) (λ next s. more_of no_bits (env_in (envs_of old) env) next ps s))
     (same_rest _ (ap (λ (x : List Step). more_of no_bits (env_in (envs_of old) env) sum x (state_of now)) cut) t)

@@ -40,7 +40,8 @@ pub struct Machine<'t> {
 }
 
 impl<'t> Machine<'t> {
-    ghost use Rattle.inliner.specs.inside.Machines.{IsMachine, Does, LeavesRoom, AddsWork, state_of};
+    ghost use Rattle.inliner.specs.inside.Machines.{IsMachine, Does, LeavesRoom, AddsWork};
+    ghost use Rattle.inliner.specs.inside.Machines.{state_of};
 
     /// Where the machine takes its memory from.
     pub fn allocator(&self) -> Global {

@@ -15,7 +15,8 @@ use revs_terms::limits::MOST_NUMBER;
 use revs_terms::{Cause, Num, Step, Unit};
 
 impl<'t> Machine<'t> {
-    /// A number, its steps from left to right, with the names of an environment. It takes no memory.
+    /// A number, its steps from left to right, with the names of an environment. It takes no
+    /// memory.
     pub fn number(&mut self, env: u32, number: &Num) -> Result<i32, RunFault>
         requires machine { IsMachine self.old }
         requires env { env ≤ length self.old.bindings.items }

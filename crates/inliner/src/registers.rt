@@ -75,7 +75,7 @@ impl<'t> Machine<'t> {
         self.turned(places, k, at)
     }
 
-    // The places of a register from the `k`-th on, and then those before it.
+    // A register of the places from the `k`-th on of another, and then those before it.
     fn turned(&mut self, places: &[u32], k: i32, at: Place) -> Result<Value<'t>, RunFault>
         requires { IsMachine self.old }
         ensures ok { IfOk result (λ made. Goes self.old self.new
@@ -168,7 +168,7 @@ impl<'t> Machine<'t> {
         }
     }
 
-    // The place of a register with a number.
+    // The location in one place of a register.
     fn indexed(
         &mut self,
         env: u32,
@@ -196,7 +196,7 @@ impl<'t> Machine<'t> {
         }
     }
 
-    // The places of a register from one to another.
+    // The locations in the places from one to another of a register.
     fn sliced(
         &mut self,
         env: u32,
@@ -224,7 +224,7 @@ impl<'t> Machine<'t> {
         self.between(places, first, last, at, whole)
     }
 
-    // The places of a register from the `first`-th to the `last`-th.
+    // A register of the places from the `first`-th to the `last`-th of another.
     fn between(
         &mut self,
         places: &[u32],
@@ -246,7 +246,7 @@ impl<'t> Machine<'t> {
     }
 }
 
-// The location in a place of a register.
+// The location in the `k`-th place of a register.
 fn element(places: &[u32], k: i32) -> Option<u32>
     ensures { result ≡ element places.now k }
 {

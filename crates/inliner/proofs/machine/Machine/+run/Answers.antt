@@ -4,7 +4,8 @@ use Rattle.revs_terms.specs.Trees.{ItemTree, tree_of, item_tree_of}
 use Rattle.revs_terms.specs.Running as runs
 use Rattle.revs_terms.specs.Running.{run_of, term_of, apply_to, claim_on, closure, rotated, went, Outcome}
 use Rattle.revs_terms.proofs.ShapeLemmas.{tree_of-Bool, tree_of-Reg, tree_of-Clean, tree_of-Assert, tree_of-And, tree_of-Xor, tree_of-Assign}
-use Rattle.revs_terms.proofs.ShapeLemmas.{tree_of-At, tree_of-Apply, tree_of-Append, tree_of-Rotate, tree_of-Block, item_tree_of-Let, item_tree_of-Do, item_tree_of-For}
+use Rattle.revs_terms.proofs.ShapeLemmas.{tree_of-At, tree_of-Apply, tree_of-Append, tree_of-Rotate, tree_of-Block}
+use Rattle.revs_terms.proofs.ShapeLemmas.{item_tree_of-Let, item_tree_of-Do, item_tree_of-For}
 use Rattle.array_shapes.specs.declared.value.Value.{Value}
 use Rattle.revs_terms.specs.Runs.{no_bits}
 use Rattle.inliner.specs.inside.Machines.{envs_of, env_in, value_in, state_of, Goes, Binds, Calls}
@@ -16,8 +17,8 @@ use Rattle.revc_base.proofs.ResultLemmas.{no_value, no_promise, passes_on}
 use Rattle.inliner.proofs.ProgressLemmas.{on_ok_alone, begun, step, ends, ends_goes, ends_calls, said, goes_in, says_in}
 use Rattle.inliner.proofs.ChainLemmas.{entered, assigns_from, assigns_stuck, reg_made, reg_stuck, bits_begun, bits_more}
 use Rattle.inliner.proofs.ChainLemmas.{bits_stuck, bits_done, chain_begun, chain_more, chain_no_first, chain_stuck, chain_done}
-use Rattle.inliner.proofs.CallLemmas.{mapped_at, mapped_end, items_more, items_stuck, items_done, at_begun, rotation_run, rotation_stuck, append_second, append_stuck, apply_begun, apply_more}
-use Rattle.inliner.proofs.CallLemmas.{apply_done, block_last, bit_ends, bit_stuck, enter_stuck, item_stuck}
+use Rattle.inliner.proofs.CallLemmas.{mapped_at, mapped_end, items_more, items_stuck, items_done, at_begun, rotation_run, rotation_stuck}
+use Rattle.inliner.proofs.CallLemmas.{append_second, append_stuck, apply_begun, apply_more, apply_done, block_last, bit_ends, bit_stuck, enter_stuck, item_stuck}
 use Rattle.inliner.proofs.CallLemmas.{apply_stuck, argument_run, call_stuck, call_last, call_next, call_ends, call_said, item_bound, item_run, block_term}
 use Rattle.inliner.proofs.LoopLemmas.{item_loop, item_loop_stuck, loop_begun, loop_no_work, loop_no_first, loop_no_last, turns_begun, turns_more}
 use Rattle.inliner.proofs.LoopLemmas.{turns_stuck, turns_done, turn_bound, memory_says, ends_binds}
@@ -543,77 +544,8 @@ apply-returns-clause-ok t c = apply_done c.args.self.now c.loop-term.self c.args
 
 -- ---- the parts' calls
 
-pub append-run-requires : goal.append-run-requires
-append-run-requires t c = (omega arith, (c.requires.machine, c.requires.env))
-
-pub apply-run-requires : goal.apply-run-requires
-apply-run-requires t c = (omega arith, (c.requires.machine, c.requires.env))
-
-pub argument-run-requires : goal.argument-run-requires
-argument-run-requires t c = (omega arith, (c.requires.machine, c.requires.env))
-
-pub assignment-bit-requires : goal.assignment-bit-requires
-assignment-bit-requires t c = (omega arith, (c.requires.machine, c.requires.env))
-
-pub at-run-requires : goal.at-run-requires
-at-run-requires t c = (omega arith, (c.requires.machine, c.requires.env))
-
-pub bit-run-requires : goal.bit-run-requires
-bit-run-requires t c = (omega arith, (c.requires.machine, c.requires.env))
-
-pub chain-bit-requires : goal.chain-bit-requires
-chain-bit-requires t c = (omega arith, (c.requires.machine, c.requires.env))
-
-pub claimed-bit-requires : goal.claimed-bit-requires
-claimed-bit-requires t c = (omega arith, (c.requires.machine, c.requires.env))
-
-pub item-run-requires : goal.item-run-requires
-item-run-requires t c = (omega arith, (c.requires.machine, c.requires.env))
-
-pub item-run-requires-in-Do : goal.item-run-requires-in-Do
-item-run-requires-in-Do t c = (omega arith, (c.requires.machine, c.requires.env))
-
-pub link-bit-requires : goal.link-bit-requires
-link-bit-requires t c = (omega arith, (c.requires.machine, c.requires.env))
-
-pub reg-bits-requires : goal.reg-bits-requires
-reg-bits-requires t c = (omega arith, (c.requires.machine, c.requires.env))
-
 pub rotation-run-requires : goal.rotation-run-requires
 rotation-run-requires t c = (omega arith, (c.in_ok-k.ensures.ok.kept, grown_within c.in_ok-k.ensures.ok.grows c.requires.env))
-
-pub term-reg-requires : goal.term-reg-requires
-term-reg-requires t c = (omega arith, (c.requires.machine, c.requires.env))
-
-pub term-claimed-requires : goal.term-claimed-requires
-term-claimed-requires t c = (omega arith, (c.requires.machine, c.requires.env))
-
-pub term-chain-requires : goal.term-chain-requires
-term-chain-requires t c = (omega arith, (c.requires.machine, c.requires.env))
-
-pub term-assignment-requires : goal.term-assignment-requires
-term-assignment-requires t c = (omega arith, (c.requires.machine, c.requires.env))
-
-pub term-block-requires : goal.term-block-requires
-term-block-requires t c = (omega arith, (c.requires.machine, c.requires.env))
-
-pub term-at-requires : goal.term-at-requires
-term-at-requires t c = (omega arith, (c.requires.machine, c.requires.env))
-
-pub term-apply-requires : goal.term-apply-requires
-term-apply-requires t c = (omega arith, (c.requires.machine, c.requires.env))
-
-pub term-append-requires : goal.term-append-requires
-term-append-requires t c = (omega arith, (c.requires.machine, c.requires.env))
-
-pub term-rotation-requires : goal.term-rotation-requires
-term-rotation-requires t c = (omega arith, (c.requires.machine, c.requires.env))
-
-pub term-claimed-requires-in-Assert : goal.term-claimed-requires-in-Assert
-term-claimed-requires-in-Assert t c = (omega arith, (c.requires.machine, c.requires.env))
-
-pub term-chain-requires-in-Xor : goal.term-chain-requires-in-Xor
-term-chain-requires-in-Xor t c = (omega arith, (c.requires.machine, c.requires.env))
 
 pub append-run-requires-2 : goal.append-run-requires-2
 append-run-requires-2 t c = (omega arith, (c.in_ok-front.ensures.ok.does.kept, grown_within c.in_ok-front.ensures.ok.does.grows c.requires.env))
@@ -630,9 +562,6 @@ chain-link-requires t c = (omega arith, (c.loop-term.invariant.kept, grown_withi
 pub run-term-requires : goal.run-term-requires
 run-term-requires t c = (omega arith, (c.in_ok-enter.ensures.ok.kept, grown_within c.in_ok-enter.ensures.ok.grows c.requires.env))
 
-pub block-items-requires : goal.block-items-requires
-block-items-requires t c = (omega arith, (c.requires.machine, c.requires.env))
-
 pub items-item-requires : goal.items-item-requires
 items-item-requires t c = (omega arith, (c.loop-item.invariant.through.kept, c.loop-item.invariant.made))
 
@@ -648,60 +577,6 @@ apply-argument-requires t c =
       omega arith,
       (through.kept, (grown_within through.grows c.requires.env, c.loop-term.invariant.made)),
     )
-
-pub append-appended-requires : goal.append-appended-requires
-append-appended-requires t c = c.in_ok-back.ensures.ok.does.kept
-
-pub assignment-assign-requires : goal.assignment-assign-requires
-assignment-assign-requires t c = c.in_ok-from.ensures.ok.kept
-
-pub at-parts-requires-clause-machine : goal.at-parts-requires-clause-machine
-at-parts-requires-clause-machine t c = c.in_ok-value.ensures.ok.does.kept
-
-pub at-parts-requires-clause-made : goal.at-parts-requires-clause-made
-at-parts-requires-clause-made t c = c.in_ok-value.ensures.ok.made
-
-pub claimed-claim-requires : goal.claimed-claim-requires
-claimed-claim-requires t c = c.in_ok-location.ensures.ok.kept
-
-pub link-join-requires : goal.link-join-requires
-link-join-requires t c = c.in_ok-next.ensures.ok.kept
-
-pub reg-short_register-requires : goal.reg-short_register-requires
-reg-short_register-requires t c = c.in_ok-locations.ensures.ok.kept
-
-pub rotation-rotated-requires : goal.rotation-rotated-requires
-rotation-rotated-requires t c = c.in_ok-value.ensures.ok.does.kept
-
-pub run-enter-requires : goal.run-enter-requires
-run-enter-requires t c = c.requires.machine
-
-pub term-constant-requires : goal.term-constant-requires
-term-constant-requires t c = c.requires.machine
-
-pub term-named-requires-clause-machine : goal.term-named-requires-clause-machine
-term-named-requires-clause-machine t c = c.requires.machine
-
-pub term-named-requires-clause-env : goal.term-named-requires-clause-env
-term-named-requires-clause-env t c = c.requires.env
-
-pub call-bind-requires-clause-machine : goal.call-bind-requires-clause-machine
-call-bind-requires-clause-machine t c = c.requires.machine
-
-pub call-bind-requires-clause-room : goal.call-bind-requires-clause-room
-call-bind-requires-clause-room t c = c.requires.room
-
-pub call-bind-requires-clause-made : goal.call-bind-requires-clause-made
-call-bind-requires-clause-made t c = c.requires.argument
-
-pub item-bind-requires-clause-machine : goal.item-bind-requires-clause-machine
-item-bind-requires-clause-machine t c = c.in_ok-bound-in-Let.ensures.ok.does.kept
-
-pub item-bind-requires-clause-env : goal.item-bind-requires-clause-env
-item-bind-requires-clause-env t c = grown_within c.in_ok-bound-in-Let.ensures.ok.does.grows c.requires.env
-
-pub item-bind-requires-clause-made : goal.item-bind-requires-clause-made
-item-bind-requires-clause-made t c = c.in_ok-bound-in-Let.ensures.ok.made
 
 -- ---- the exits
 
@@ -768,9 +643,6 @@ pub item-bind-requires-clause-room : goal.item-bind-requires-clause-room
 item-bind-requires-clause-room t c = omega (arith, c.in_ok-bound-in-Let.ensures.room, c.requires.machine.room)
 
 -- ---- loops
-
-pub item-repeat-requires : goal.item-repeat-requires
-item-repeat-requires t c = (omega arith, (c.requires.machine, c.requires.env))
 
 pub item-returns-in_ok-repeat-in-For-clause-ok : goal.item-returns-in_ok-repeat-in-For-clause-ok
 item-returns-in_ok-repeat-in-For-clause-ok t c = subst

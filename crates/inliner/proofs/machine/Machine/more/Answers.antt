@@ -5,7 +5,8 @@ use Rattle.inliner.proofs.NumberLemmas.{left_from, more_next, more_stuck}
 use Rattle.inliner.proofs.machine.Machine.more.Goals as goal
 
 pub loop-step-preserved : goal.loop-step-preserved
-loop-step-preserved c = simp (to_z-of_z, c.in_ok-sum.ensures.fits) (more_next c.args.self.now c.loop-step.self c.work.new.self c.args.env _ c.in_ok-sum.sum c.step-item.result
+loop-step-preserved c = simp (to_z-of_z, c.in_ok-sum.ensures.fits)
+    (more_next c.args.self.now c.loop-step.self c.work.new.self c.args.env _ c.in_ok-sum.sum c.step-item.result
     (drop (c.loop-step.step-index + 1) c.args.steps.now) (drop c.loop-step.step-index c.args.steps.now) c.place.result _ c.requires.env
     (left_from c.args.steps.now c.loop-step.step-index c.step-item.result c.loop-step-test.true c.step-item.is) c.place.ensures c.loop-step.invariant
     c.in_ok-work.ensures.ok c.in_ok-sum.ensures.ok)
