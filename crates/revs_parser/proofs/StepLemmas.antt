@@ -343,23 +343,19 @@ module _ (p : Profile) where
       as_line (in_profile p g.expression) l _ (inr (inl refl)) refl refl ts
       (at_first ts h (λ t k. table_is (code t) (in_profile p g.expression) ∙ first_less (code t == 5) _ (no_word t words.Fun k) ∙ first_only _))
 
-  -- An item that is no expression does not begin with this token.
-  no_item_token : (t : Tok) → begins_item p t ≡ false → IsLeftOut (in_profile p g.item) t
-  no_item_token t h = no_item p t h
-
   pub as_body : (l : ℕ) (ts : List Token) → item_first p ts ≡ false → (ms : Stack)
       → outcome ts (form (in_profile p g.body) l ∷ ms) ≡ outcome ts (form (in_profile p g.expression) l ∷ form (in_profile p g.body_end) l ∷ ms)
   as_body l [] h ms = refl
   as_body l (t ∷ ts) h ms =
       as_line (in_profile p g.body) l _ (inr (inl refl)) refl refl (t ∷ ts)
-      (table_is (code t.tok) (in_profile p g.body) ∙ first_none (behind_none g.same (here p g.body ∷ []) (no_item_token t.tok h)) ∙ first_only _) ms
+      (table_is (code t.tok) (in_profile p g.body) ∙ first_none (behind_none g.same (here p g.body ∷ []) (no_item p t.tok h)) ∙ first_only _) ms
 
   pub as_loop_item : (l : ℕ) (ts : List Token) → item_first p ts ≡ false → (ms : Stack)
       → outcome ts (form (in_profile p g.loop_item) l ∷ ms) ≡ outcome ts (form (in_profile p g.expression) l ∷ token (sign signs.Semi) ∷ ms)
   as_loop_item l [] h ms = refl
   as_loop_item l (t ∷ ts) h ms =
       as_line (in_profile p g.loop_item) l _ (inr (inl refl)) refl refl (t ∷ ts)
-      (table_is (code t.tok) (in_profile p g.loop_item) ∙ first_none (behind_none g.same [] (no_item_token t.tok h)) ∙ first_only _) ms
+      (table_is (code t.tok) (in_profile p g.loop_item) ∙ first_none (behind_none g.same [] (no_item p t.tok h)) ∙ first_only _) ms
 
   -- a body, and an item of a `for`, that begin with an item
   pub body_item : (l : ℕ) (ts : List Token) → item_first p ts ≡ true → (ms : Stack)
