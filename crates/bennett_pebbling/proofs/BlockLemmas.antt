@@ -2,7 +2,7 @@
 use Rattle.std.proofs.Common.{◌≡◌, ℕ, zero, suc, ◌+◌, ◌<◌, ◌≤◌, Bool, true, false, not, ◌&&◌, ◌||◌, ◌⊎◌, inl, inr, List, length}
 use Rattle.std.proofs.Common.{sym, ◌∙◌, ap, subst, refl, arith}
 use Rattle.list_facts.specs.Bits.{bit_of}
-use Rattle.claim_check.specs.Settled.{SettledView}
+use Rattle.sum_graph.specs.Graphs.{SumGraphView}
 use Rattle.gate_split.specs.declared.plan.PlanFault.{PlanFault}
 use Rattle.held_nodes.specs.Held.{ForwardView, IsForward, is_held}
 use Rattle.bennett_pebbling.specs.inside.Changes.{CanLower, IsChanged, IsChangeFault, IsLowered, IsLowerFault, IsRaised, IsRaiseFault, IsReadyBelow}
@@ -105,8 +105,8 @@ module _ (f : ForwardView) (lo : ℕ) (wanted start marks : List Bool) (d : AreD
 
       operand_held : (k j : ℕ) → k < length wanted → is_extra mid lo wanted k ≡ true → RestsOn mid.graph (lo + k) j → is_held mid.lines j ≡ true
       operand_held k j low is rests =
-          let rests_f : RestsOn f.graph (lo + k) j = subst (λ (s : SettledView). RestsOn s (lo + k) j) plain.graph rests in
-          let below = rests_below mid.graph (lo + k) j settled.settled rests in
+          let rests_f : RestsOn f.graph (lo + k) j = subst (λ (s : SumGraphView). RestsOn s (lo + k) j) plain.graph rests in
+          let below = rests_below mid.graph (lo + k) j settled.sums rests in
           elim (in_or_out lo (length wanted) j) as (λ _. is_held mid.lines j ≡ true) [
             | inl p ↦
                 ap (is_held mid.lines) p.is
@@ -165,7 +165,7 @@ module _ (f : ForwardView) (lo : ℕ) (wanted start marks : List Bool) (d : AreD
             let n = length f.graph.nodes in
             let r = has_reach f lo wanted marks long only allowed a in
             let second =
-            subst (λ (s : SettledView). IsMoveFault mid (counted r.test (length s.nodes)) (counted (is_extra mid lo wanted) (length wanted)) e) plain.graph
+            subst (λ (s : SumGraphView). IsMoveFault mid (counted r.test (length s.nodes)) (counted (is_extra mid lo wanted) (length wanted)) e) plain.graph
             (fault.fault r.test (held_allowed r.test r.allows)) in
             short-weaker f (counted r.test n) (counted allowed n + room_at (length wanted) n width level)
             (counted (is_missing f lo marks) (length marks) + counted (is_extra mid lo wanted) (length wanted))
@@ -186,7 +186,7 @@ module _ (f : ForwardView) (lo : ℕ) (wanted start marks : List Bool) (d : AreD
             let n = length f.graph.nodes in
             let r = has_reach f lo wanted marks long only allowed a in
             let second =
-            subst (λ (s : SettledView). IsMove mid (counted r.test (length s.nodes)) (counted (is_extra mid lo wanted) (length wanted)) next) plain.graph
+            subst (λ (s : SumGraphView). IsMove mid (counted r.test (length s.nodes)) (counted (is_extra mid lo wanted) (length wanted)) next) plain.graph
             (lowered.move r.test (held_allowed r.test r.allows)) in
             move-weaker f next (counted r.test n) (counted allowed n + room_at (length wanted) n width level)
             (counted (is_missing f lo marks) (length marks) + counted (is_extra mid lo wanted) (length wanted))

@@ -7,11 +7,11 @@ use Rattle.std.proofs.lemmas.Bool.{cases_lt, leb-true, le-leb}
 use Rattle.std.proofs.lemmas.List.{get_or-drop, get_or-take, length-drop, length-take-le}
 use Rattle.list_facts.specs.Bits.{bit_of}
 use Rattle.revs_tape.specs.Cuts.{is_in}
-use Rattle.dependency_graph.specs.Graphs.{output_nodes, steps_of}
-use Rattle.dependency_graph.specs.Uses.{cut_in, last_use_in}
-use Rattle.dependency_graph.proofs.TableLemmas.{length-steps_of}
+use Rattle.sum_graph.specs.Uses.{sum_output_nodes, sum_steps}
+use Rattle.sum_graph.specs.Uses.{sum_cut, sum_last_use}
+use Rattle.sum_graph.proofs.TableLemmas.{length-sum_steps}
 use Rattle.dependency_graph.proofs.UseLemmas.{last_uses_tell_cuts, needed_later, some_from}
-use Rattle.claim_check.specs.Settled.{SettledView, as_graph}
+use Rattle.sum_graph.specs.Graphs.{SumGraphView}
 use Rattle.claim_check.proofs.UsedLemmas.{is_in_from}
 use Rattle.gate_split.specs.declared.plan.PlanFault.{PlanFault}
 use Rattle.held_nodes.specs.Held.{ForwardView, IsForward, is_held}
@@ -26,22 +26,22 @@ use Rattle.bennett_pebbling.proofs.ReadyLemmas.{in_or_out, or_left_true, or_righ
 -- ---- cuts
 
 -- a node below j on which a node from j on rests is used there
-pub later_use : (s : SettledView) (k i j : ℕ) → j ≤ k → k < length s.nodes → RestsOn s k i → j ≤ last_use_in (as_graph s) i
+pub later_use : (s : SumGraphView) (k i j : ℕ) → j ≤ k → k < length s.nodes → RestsOn s k i → j ≤ sum_last_use s i
 later_use s k i j above low rests =
-    let g = as_graph s in
-    let steps = steps_of g in
-    let long = length-steps_of g in
+    let g = s in
+    let steps = sum_steps g in
+    let long = length-sum_steps g in
     let read : is_in (get_or steps k []) i ≡ true = is_in_from i (get_or steps k []) rests.among in
     let some : list_any (λ operands. is_in operands i) (drop j steps) ≡ true = some_from steps i j k above (omega (arith, low, long)) read in
-    needed_later steps (output_nodes g) i j (omega (arith, above, low, long))
-    (or_right_true (is_in (output_nodes g) i) (list_any (λ operands. is_in operands i) (drop j steps)) some)
+    needed_later steps (sum_output_nodes g) i j (omega (arith, above, low, long))
+    (or_right_true (is_in (sum_output_nodes g) i) (list_any (λ operands. is_in operands i) (drop j steps)) some)
 
 -- a node below j that is used from j on is in the cut
-pub in_cut : (s : SettledView) (i j : ℕ) → i < j → j ≤ length s.nodes → j ≤ last_use_in (as_graph s) i → is_in (cut_in (as_graph s) j) i ≡ true
+pub in_cut : (s : SumGraphView) (i j : ℕ) → i < j → j ≤ length s.nodes → j ≤ sum_last_use s i → is_in (sum_cut s j) i ≡ true
 in_cut s i j low inside later =
-    let g = as_graph s in
-    let long = length-steps_of g in
-    is_in_from i (cut_in g j) ((last_uses_tell_cuts (steps_of g) (output_nodes g) i j low (omega (arith, inside, long))).1 later)
+    let g = s in
+    let long = length-sum_steps g in
+    is_in_from i (sum_cut g j) ((last_uses_tell_cuts (sum_steps g) (sum_output_nodes g) i j low (omega (arith, inside, long))).1 later)
 
 -- ---- halves
 
@@ -53,28 +53,28 @@ pub record IsSplit (wanted left right : List Bool) (half : ℕ) : Type 0 where
   pub right_bits : (k : ℕ) → bit_of right k ≡ bit_of wanted (half + k)
 
 -- what is allowed, and the cut at node j
-abbrev pub wider : SettledView → ℕ → (ℕ → Bool) → ℕ → Bool
-wider s j allowed k = allowed k || is_in (cut_in (as_graph s) j) k
+abbrev pub wider : SumGraphView → ℕ → (ℕ → Bool) → ℕ → Bool
+wider s j allowed k = allowed k || is_in (sum_cut s j) k
 
-wider-few : (s : SettledView) (j width n : ℕ) (allowed : ℕ → Bool) → length (cut_in (as_graph s) j) ≤ width
+wider-few : (s : SumGraphView) (j width n : ℕ) (allowed : ℕ → Bool) → length (sum_cut s j) ≤ width
     → counted (wider s j allowed) n ≤ counted allowed n + width
 wider-few s j width n allowed few =
-    omega (arith, few, counted-or allowed (is_in (cut_in (as_graph s) j)) n, counted-in (cut_in (as_graph s) j) n)
+    omega (arith, few, counted-or allowed (is_in (sum_cut s j)) n, counted-in (sum_cut s j) n)
 
 -- a thrifty move from a forward part of this graph
-thrifty_over : (s : SettledView) (f : ForwardView) (block lo : ℕ) (wanted : List Bool) (next : ForwardView) → f.graph ≡ s → IsThrifty f block lo wanted next
+thrifty_over : (s : SumGraphView) (f : ForwardView) (block lo : ℕ) (wanted : List Bool) (next : ForwardView) → f.graph ≡ s → IsThrifty f block lo wanted next
     → (level width : ℕ) (allowed : ℕ → Bool) → IsCovered s block (length wanted) level width → Allows f lo wanted allowed
     → IsMove f (counted allowed (length s.nodes) + room_at block (length s.nodes) width level) (toggles_at block level) next
 thrifty_over s f block lo wanted next same t =
-    subst (λ (x : SettledView). (level width : ℕ) (allowed : ℕ → Bool) → IsCovered x block (length wanted) level width → Allows f lo wanted allowed
+    subst (λ (x : SumGraphView). (level width : ℕ) (allowed : ℕ → Bool) → IsCovered x block (length wanted) level width → Allows f lo wanted allowed
     → IsMove f (counted allowed (length x.nodes) + room_at block (length x.nodes) width level) (toggles_at block level) next)
     same t.move
 
-short_over : (s : SettledView) (f : ForwardView) (block lo : ℕ) (wanted : List Bool) (e : PlanFault) → f.graph ≡ s → IsChangeFault f block lo wanted e
+short_over : (s : SumGraphView) (f : ForwardView) (block lo : ℕ) (wanted : List Bool) (e : PlanFault) → f.graph ≡ s → IsChangeFault f block lo wanted e
     → (level width : ℕ) (allowed : ℕ → Bool) → IsCovered s block (length wanted) level width → Allows f lo wanted allowed
     → IsShort f (counted allowed (length s.nodes) + room_at block (length s.nodes) width level) (toggles_at block level) e
 short_over s f block lo wanted e same t =
-    subst (λ (x : SettledView). (level width : ℕ) (allowed : ℕ → Bool) → IsCovered x block (length wanted) level width → Allows f lo wanted allowed
+    subst (λ (x : SumGraphView). (level width : ℕ) (allowed : ℕ → Bool) → IsCovered x block (length wanted) level width → Allows f lo wanted allowed
     → IsShort f (counted allowed (length x.nodes) + room_at block (length x.nodes) width level) (toggles_at block level) e)
     same t.short
 
@@ -110,13 +110,13 @@ halved wanted left right half is front back =
       behind = subst (λ (n : ℕ). right ≡ drop n wanted) long back;
     }
 
-pub in_halves : (f : ForwardView) (block lo : ℕ) (wanted left right needed marks : List Bool) (s : SettledView)
+pub in_halves : (f : ForwardView) (block lo : ℕ) (wanted left right needed marks : List Bool) (s : SumGraphView)
     → CanWork s f lo (length wanted) → AreHalves wanted left right → AreNeeded s lo left marks → needed ≡ marks → block < length wanted
     → IsInHalves f block lo wanted left right needed (length left)
 in_halves f block lo wanted left right needed marks s can halves need is over = record {
   halves = halves.half;
   split = split_of wanted left right (length left) halves.half halves.front halves.behind;
-  need = subst (AreNeeded f.graph lo left) (sym is) (subst (λ (x : SettledView). AreNeeded x lo left marks) can.graph need);
+  need = subst (AreNeeded f.graph lo left) (sym is) (subst (λ (x : SumGraphView). AreNeeded x lo left marks) can.graph need);
   inside = can.inside;
   ready = can.ready;
   over = over;
@@ -126,10 +126,10 @@ module _ (f : ForwardView) (block lo : ℕ) (wanted left right needed : List Boo
   needed_count : length needed ≡ half
   needed_count = h.need.count ∙ h.split.left_count
 
-  needed_bit : (k : ℕ) → k < half → bit_of needed k ≡ (bit_of left k || nat_le (lo + half) (last_use_in (as_graph f.graph) (lo + k)))
+  needed_bit : (k : ℕ) → k < half → bit_of needed k ≡ (bit_of left k || nat_le (lo + half) (sum_last_use f.graph (lo + k)))
   needed_bit k low =
       h.need.marked k (omega (arith, low, h.split.left_count))
-      ∙ ap (λ (m : ℕ). bit_of left k || nat_le (lo + m) (last_use_in (as_graph f.graph) (lo + k))) h.split.left_count
+      ∙ ap (λ (m : ℕ). bit_of left k || nat_le (lo + m) (sum_last_use f.graph (lo + k))) h.split.left_count
 
   left_wanted : (k : ℕ) → bit_of left k ≡ true → bit_of wanted k ≡ true
   left_wanted k is = let low = bit_inside left k is in sym (h.split.left_bits k (omega (arith, low, h.split.left_count))) ∙ is
@@ -139,18 +139,18 @@ module _ (f : ForwardView) (block lo : ℕ) (wanted left right needed : List Boo
   needed_allowed allowed a k is =
       let long = bit_inside needed k is in
       let low : k < half = omega (arith, long, needed_count) in
-      elim (or_true (bit_of left k) (nat_le (lo + half) (last_use_in (as_graph f.graph) (lo + k))) (sym (needed_bit k low) ∙ is))
+      elim (or_true (bit_of left k) (nat_le (lo + half) (sum_last_use f.graph (lo + k))) (sym (needed_bit k low) ∙ is))
       as (λ _. wider f.graph (lo + half) allowed (lo + k) ≡ true) [
-        | inl want ↦ or_left_true (allowed (lo + k)) (is_in (cut_in (as_graph f.graph) (lo + half)) (lo + k)) (a.marked k (left_wanted k want))
+        | inl want ↦ or_left_true (allowed (lo + k)) (is_in (sum_cut f.graph (lo + half)) (lo + k)) (a.marked k (left_wanted k want))
         | inr later ↦
-            or_right_true (allowed (lo + k)) (is_in (cut_in (as_graph f.graph) (lo + half)) (lo + k))
+            or_right_true (allowed (lo + k)) (is_in (sum_cut f.graph (lo + half)) (lo + k))
             (in_cut f.graph (lo + k) (lo + half) (omega (arith, low)) (omega (arith, h.inside, h.split.right_count))
-            (leb-true (lo + half) (last_use_in (as_graph f.graph) (lo + k)) later))
+            (leb-true (lo + half) (sum_last_use f.graph (lo + k)) later))
       ]
 
   allows_first : (allowed : ℕ → Bool) → Allows f lo wanted allowed → Allows f lo needed (wider f.graph (lo + half) allowed)
   allows_first allowed a = record {
-    held = record { held = λ k is. or_left_true (allowed k) (is_in (cut_in (as_graph f.graph) (lo + half)) k) (a.held.held k is) };
+    held = record { held = λ k is. or_left_true (allowed k) (is_in (sum_cut f.graph (lo + half)) k) (a.held.held k is) };
     marked = needed_allowed allowed a;
   }
 
@@ -164,7 +164,7 @@ module _ (f : ForwardView) (block lo : ℕ) (wanted left right needed : List Boo
   pub third_less : 1 ≤ block → length left < length wanted
   third_less some = omega (arith, h.split.left_count, h.halves.less, h.over, some)
 
-  pub can_first : (s : SettledView) → CanWork s f lo (length wanted) → CanWork s f lo (length needed)
+  pub can_first : (s : SumGraphView) → CanWork s f lo (length wanted) → CanWork s f lo (length needed)
   can_first s can = record {
     graph = can.graph;
     keeps = can.keeps;
@@ -226,30 +226,30 @@ module _ (f : ForwardView) (block lo : ℕ) (wanted left right needed : List Boo
 
     inside_second : lo + half + length right ≤ length first.graph.nodes
     inside_second =
-        let e = ap (λ (s : SettledView). length s.nodes) one.graph in omega (arith, e, h.inside, h.split.right_count)
+        let e = ap (λ (s : SumGraphView). length s.nodes) one.graph in omega (arith, e, h.inside, h.split.right_count)
 
     ready_second : IsReadyBelow first (lo + half) (length right)
     ready_second = record {
       ready = λ k j above low under rests.
-          let rests_f : RestsOn f.graph k j = subst (λ (s : SettledView). RestsOn s k j) one.graph rests in
+          let rests_f : RestsOn f.graph k j = subst (λ (s : SumGraphView). RestsOn s k j) one.graph rests in
           let top : k < lo + length wanted = omega (arith, low, h.split.right_count) in
           elim (in_or_out lo half j) as (λ _. is_held first.lines j ≡ true) [
             | inl p ↦
-                let used : lo + half ≤ last_use_in (as_graph f.graph) j = later_use f.graph k j (lo + half) above (omega (arith, top, h.inside)) rests_f in
-                let later : nat_le (lo + half) (last_use_in (as_graph f.graph) (lo + p.place)) ≡ true =
-                le-leb (lo + half) (last_use_in (as_graph f.graph) (lo + p.place))
-                (subst (λ (i : ℕ). lo + half ≤ last_use_in (as_graph f.graph) i) p.is used) in
+                let used : lo + half ≤ sum_last_use f.graph j = later_use f.graph k j (lo + half) above (omega (arith, top, h.inside)) rests_f in
+                let later : nat_le (lo + half) (sum_last_use f.graph (lo + p.place)) ≡ true =
+                le-leb (lo + half) (sum_last_use f.graph (lo + p.place))
+                (subst (λ (i : ℕ). lo + half ≤ sum_last_use f.graph i) p.is used) in
                 ap (is_held first.lines) p.is
                 ∙ first_held p.place p.low
                 ∙ needed_bit p.place p.low
-                ∙ or_right_true (bit_of left p.place) (nat_le (lo + half) (last_use_in (as_graph f.graph) (lo + p.place))) later
+                ∙ or_right_true (bit_of left p.place) (nat_le (lo + half) (sum_last_use f.graph (lo + p.place))) later
             | inr out ↦
                 let below : j < lo = elim out [ inl l ↦ l | inr high ↦ absurd (omega (arith, high, under)) ] in
                 first_other j out ∙ h.ready.ready k j (omega (arith, above)) top below rests_f
           ];
     }
 
-    pub can_second : (s : SettledView) → CanWork s f lo (length wanted) → IsForward first → CanWork s first (lo + half) (length right)
+    pub can_second : (s : SumGraphView) → CanWork s f lo (length wanted) → IsForward first → CanWork s first (lo + half) (length right)
     can_second s can keeps = record {
       graph = can.graph ∙ sym one.graph;
       keeps = keeps;
@@ -271,7 +271,7 @@ module _ (f : ForwardView) (block lo : ℕ) (wanted left right needed : List Boo
         → wider f.graph (lo + half) allowed (lo + half + k) ≡ true
     right_allowed allowed a k is =
         let place : lo + (half + k) ≡ lo + half + k = omega arith in
-        or_left_true (allowed (lo + half + k)) (is_in (cut_in (as_graph f.graph) (lo + half)) (lo + half + k))
+        or_left_true (allowed (lo + half + k)) (is_in (sum_cut f.graph (lo + half)) (lo + half + k))
         (ap allowed (sym place) ∙ a.marked (half + k) (sym (h.split.right_bits k) ∙ is))
 
     allows_second : (allowed : ℕ → Bool) → Allows f lo wanted allowed → Allows first (lo + half) right (wider f.graph (lo + half) allowed)
@@ -332,7 +332,7 @@ module _ (f : ForwardView) (block lo : ℕ) (wanted left right needed : List Boo
             two.outside (lo + k) (inl (omega (arith, less)))
             ∙ first_held k less
             ∙ needed_bit k less
-            ∙ or_left_true (bit_of left k) (nat_le (lo + half) (last_use_in (as_graph f.graph) (lo + k))) (h.split.left_bits k less ∙ is)
+            ∙ or_left_true (bit_of left k) (nat_le (lo + half) (sum_last_use f.graph (lo + k))) (h.split.left_bits k less ∙ is)
         | inr above ↦
             let place : lo + k ≡ lo + half + (k - half) = omega (arith, above) in
             let number : half + (k - half) ≡ k = omega (arith, above) in
@@ -373,19 +373,19 @@ module _ (f : ForwardView) (block lo : ℕ) (wanted left right needed : List Boo
 
       inside_third : lo + length left ≤ length second.graph.nodes
       inside_third =
-          let e = ap (λ (s : SettledView). length s.nodes) graph_second in
+          let e = ap (λ (s : SumGraphView). length s.nodes) graph_second in
           omega (arith, e, h.inside, h.split.left_count, h.split.right_count)
 
       ready_third : IsReadyBelow second lo (length left)
       ready_third = record {
         ready = λ k j above low under rests.
-            let rests_f : RestsOn f.graph k j = subst (λ (s : SettledView). RestsOn s k j) graph_second rests in
+            let rests_f : RestsOn f.graph k j = subst (λ (s : SumGraphView). RestsOn s k j) graph_second rests in
             two.exactly.outside j (inl (omega (arith, under)))
             ∙ first_other j (inl under)
             ∙ h.ready.ready k j above (omega (arith, low, h.split.left_count, h.split.right_count)) under rests_f;
       }
 
-      pub can_third : (s : SettledView) → CanWork s f lo (length wanted) → IsForward second → CanWork s second lo (length left)
+      pub can_third : (s : SumGraphView) → CanWork s f lo (length wanted) → IsForward second → CanWork s second lo (length left)
       can_third s can keeps = record {
         graph = can.graph ∙ sym graph_second;
         keeps = keeps;
@@ -406,7 +406,7 @@ module _ (f : ForwardView) (block lo : ℕ) (wanted left right needed : List Boo
       allows_third : (allowed : ℕ → Bool) → Allows f lo wanted allowed → Allows second lo left (wider f.graph (lo + half) allowed)
       allows_third allowed a = record {
         held = held_second allowed a;
-        marked = λ k is. or_left_true (allowed (lo + k)) (is_in (cut_in (as_graph f.graph) (lo + half)) (lo + k)) (a.marked k (left_wanted k is));
+        marked = λ k is. or_left_true (allowed (lo + k)) (is_in (sum_cut f.graph (lo + half)) (lo + k)) (a.marked k (left_wanted k is));
       }
 
       pub third_short : (e : PlanFault) → IsChangeFault second block lo left e → IsChangeFault f block lo wanted e

@@ -3,7 +3,7 @@ use Rattle.std.proofs.Common.{◌≡◌, ◌≢◌, ℕ, ◌+◌, ◌<◌, ◌�
 use Rattle.std.proofs.Common.{sym, ◌∙◌, ap, subst, refl, arith}
 use Rattle.std.proofs.lemmas.Bool.{cases_eq, cases_lt}
 use Rattle.list_facts.specs.Bits.{bit_of}
-use Rattle.claim_check.specs.Settled.{SettledView}
+use Rattle.sum_graph.specs.Graphs.{SumGraphView}
 use Rattle.gate_split.specs.declared.plan.PlanFault.{PlanFault}
 use Rattle.held_nodes.specs.Held.{ForwardView, IsForward, is_held}
 use Rattle.bennett_pebbling.specs.inside.Changes.{AllowsTurn, CanLower, CanTurn, IsLowered, IsLowerFault, IsTurned, IsTurnFault, is_extra, turned}
@@ -59,8 +59,8 @@ module _ (f : ForwardView) (lo : ℕ) (wanted : List Bool) (h k : ℕ) (next_is 
 
   operand_held : turn ≡ true → (j : ℕ) → RestsOn now.graph (lo + k) j → is_held now.lines j ≡ true
   operand_held t j rests =
-      let below = rests_below now.graph (lo + k) j r.keeps.settled rests in
-      let rests_f : RestsOn f.graph (lo + k) j = subst (λ (s : SettledView). RestsOn s (lo + k) j) r.graph rests in
+      let below = rests_below now.graph (lo + k) j r.keeps.sums rests in
+      let rests_f : RestsOn f.graph (lo + k) j = subst (λ (s : SumGraphView). RestsOn s (lo + k) j) r.graph rests in
       r.outside j (inl (omega (arith, below, next_is))) ∙ can.ready k j (omega (arith, low, next_is)) (sym is_turn ∙ t) rests_f
 
   pub lowering_can : lo + k < length now.graph.nodes → CanTurn now (lo + k) turn
@@ -103,7 +103,7 @@ module _ (f : ForwardView) (lo : ℕ) (wanted : List Bool) (h k : ℕ) (next_is 
         let test = is_extra f lo wanted in
         let first = r.move allowed a in
         let second : IsMoveFault now (counted allowed n) (one_if turn) fault =
-        subst (λ (s : SettledView). IsMoveFault now (counted allowed (length s.nodes)) (one_if turn) fault) r.graph (t.fault allowed (allows_turn allowed a)) in
+        subst (λ (s : SumGraphView). IsMoveFault now (counted allowed (length s.nodes)) (one_if turn) fault) r.graph (t.fault allowed (allows_turn allowed a)) in
         fault-weaker f (counted allowed n) (counted allowed n) (counted-from test h (length wanted) + one_if turn) (counted test (length wanted)) fault
         (omega arith) (omega (arith, one_more)) (fault-then f now (counted allowed n) (counted-from test h (length wanted)) (one_if turn) fault first second);
   }

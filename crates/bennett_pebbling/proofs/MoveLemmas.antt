@@ -1,10 +1,11 @@
 -- Moves one after another, and within other numbers.
-use Rattle.std.proofs.Common.{◌≡◌, ℕ, ◌+◌, ◌<◌, ◌≤◌, ◌∙◌, ap, subst, refl, arith}
+use Rattle.std.proofs.Common.{◌≡◌, ℕ, ◌+◌, ◌<◌, ◌≤◌, ◌∙◌, sym, ap, subst, refl, arith}
 use Rattle.gate_split.specs.declared.plan.PlanFault.{PlanFault}
 use Rattle.gate_split.specs.declared.plan.PlanFault.TheVariants.{Lines, Gates, Memory}
 use Rattle.gate_split.specs.Plans.{BudgetView}
-use Rattle.claim_check.specs.Settled.{SettledView}
+use Rattle.sum_graph.specs.Graphs.{SumGraphView}
 use Rattle.held_nodes.specs.Held.{ForwardView, work_lines}
+use Rattle.bennett_pebbling.specs.Pebbling.{IsLight}
 use Rattle.bennett_pebbling.specs.inside.Costs.{HasNeed, IsMove, IsMoveFault, IsShort}
 
 -- nothing is moved
@@ -13,7 +14,7 @@ no_move f reach toggles = record {
   graph = refl;
   budget = refl;
   most = omega arith;
-  weight = omega arith;
+  weight = λ light. omega arith;
   narrow = λ n. n;
 }
 
@@ -23,7 +24,7 @@ move-weaker f next reach more toggles larger low few m = record {
   graph = m.graph;
   budget = m.budget;
   most = omega (arith, m.most, low);
-  weight = omega (arith, m.weight, few);
+  weight = λ light. omega (arith, m.weight light, few);
   narrow = m.narrow;
 }
 
@@ -34,18 +35,18 @@ move-then f mid next reach first second m n = record {
   graph = n.graph ∙ m.graph;
   budget = n.budget ∙ m.budget;
   most = omega (arith, m.most, n.most);
-  weight = omega (arith, m.weight, n.weight);
+  weight = λ light. omega (arith, m.weight light, n.weight (subst IsLight (sym m.graph) light));
   narrow = λ narrow. n.narrow (m.narrow narrow);
 }
 
 pub short-weaker : (f : ForwardView) (reach more toggles larger : ℕ) (e : PlanFault) → reach ≤ more → toggles ≤ larger
     → IsShort f reach toggles e → IsShort f more larger e
 short-weaker f reach more toggles larger (Lines need) low few s = omega (arith, s, low)
-short-weaker f reach more toggles larger Gates low few s = omega (arith, s, few)
+short-weaker f reach more toggles larger Gates low few s = λ light. omega (arith, s light, few)
 short-weaker f reach more toggles larger Memory low few s = tt
 
-same_work : (s t : SettledView) (b c : BudgetView) → s ≡ t → b ≡ c → work_lines s b ≡ work_lines t c
-same_work s t b c e d = ap (λ (x : SettledView). work_lines x b) e ∙ ap (λ (x : BudgetView). work_lines t x) d
+same_work : (s t : SumGraphView) (b c : BudgetView) → s ≡ t → b ≡ c → work_lines s b ≡ work_lines t c
+same_work s t b c e d = ap (λ (x : SumGraphView). work_lines x b) e ∙ ap (λ (x : BudgetView). work_lines t x) d
 
 pub need-then : (f mid : ForwardView) (e : PlanFault) → mid.budget ≡ f.budget → HasNeed mid e → HasNeed f e
 need-then f mid (Lines need) same h = h ∙ ap (λ (b : BudgetView). b.lines + 1) same
@@ -60,7 +61,7 @@ short-then f mid reach first second (Lines need) m s =
     subst (λ (n : ℕ). n < reach) same s
 short-then f mid reach first second Gates m s =
     let same : mid.budget.gates ≡ f.budget.gates = ap (λ (b : BudgetView). b.gates) m.budget in
-    omega (arith, s, m.weight, same)
+    λ light. omega (arith, s (subst IsLight (sym m.graph) light), m.weight light, same)
 short-then f mid reach first second Memory m s = tt
 
 pub fault-weaker : (f : ForwardView) (reach more toggles larger : ℕ) (e : PlanFault) → reach ≤ more → toggles ≤ larger

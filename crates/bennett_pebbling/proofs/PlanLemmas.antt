@@ -10,21 +10,20 @@ use Rattle.list_facts.proofs.OrderLemmas.{length-below}
 use Rattle.list_facts.specs.Bits.{bit_of}
 use Rattle.list_facts.specs.Lists.{below}
 use Rattle.revs_tape.specs.Cuts.{is_in, is_needed}
-use Rattle.dependency_graph.specs.Graphs.{output_nodes, steps_of}
-use Rattle.dependency_graph.specs.Uses.{cut_in, last_use_in}
+use Rattle.sum_graph.specs.Uses.{sum_output_nodes, sum_steps}
+use Rattle.sum_graph.specs.Uses.{sum_cut, sum_last_use}
 use Rattle.claim_check.specs.Budgets.{Measures}
-use Rattle.claim_check.specs.Settled.{SettledView, IsSettled, as_graph}
+use Rattle.sum_graph.specs.Graphs.{SumGraphView, IsSumGraph}
 use Rattle.gate_split.specs.declared.plan.PlanFault.{PlanFault}
 use Rattle.gate_split.specs.declared.plan.PlanFault.TheVariants.{Lines, Gates, Memory}
 use Rattle.gate_split.specs.Plans.{BudgetView}
 use Rattle.mct_circuit.specs.Gates.{AreNarrow}
 use Rattle.mct_circuit.proofs.WeightLemmas.{length-le-weight}
 use Rattle.held_nodes.specs.Held.{ForwardView, IsForward, first_work, is_held, work_lines}
-use Rattle.held_nodes.specs.Moves.{IsFinishFault, IsReadySig, copies_of, finished_gates, finished_weight, nothing_held, planned_of, weight_in}
+use Rattle.held_nodes.specs.Moves.{IsFinishFault, IsReadySum, copies_of, finished_gates, finished_weight, nothing_held, planned_of, weight_in}
 use Rattle.held_nodes.specs.Plans.{wanted_lines}
-use Rattle.held_nodes.proofs.CopyLemmas.{weight-copies}
 use Rattle.held_nodes.proofs.NarrowLemmas.{narrow_toggles}
-use Rattle.bennett_pebbling.specs.Pebbling.{IsHalved, IsPebblingFault, IsWithinBlock}
+use Rattle.bennett_pebbling.specs.Pebbling.{IsHalved, IsLight, IsPebblingFault, IsWithinBlock}
 use Rattle.bennett_pebbling.specs.inside.Changes.{CanWork, IsRisen, IsRiseFault}
 use Rattle.bennett_pebbling.specs.inside.Costs.{Allows, IsCovered, IsMove, block_room, counted, reach_of, room_at, size_at, toggles_at}
 use Rattle.bennett_pebbling.specs.inside.Marks.{AreNeeded}
@@ -32,18 +31,18 @@ use Rattle.bennett_pebbling.proofs.CostLemmas.{block_room-most, room_at-times, s
 use Rattle.bennett_pebbling.proofs.CountLemmas.{counted-in}
 use Rattle.bennett_pebbling.proofs.NeedLemmas.{bit_inside}
 use Rattle.bennett_pebbling.proofs.ReachLemmas.{everything}
-use Rattle.bennett_pebbling.proofs.OutputLemmas.{few_copies, few_outputs, ready_outputs, use_output}
+use Rattle.bennett_pebbling.proofs.OutputLemmas.{few_copies, few_outputs, ready_outputs, use_output, light_copies}
 
 -- ---- the beginning
 
 -- the forward part of no gates, and the marks of the outputs
-pub record IsBegun (s : SettledView) (b : BudgetView) (start : ForwardView) (outputs : List Bool) : Type 0 where
+pub record IsBegun (s : SumGraphView) (b : BudgetView) (start : ForwardView) (outputs : List Bool) : Type 0 where
   pub is : start ≡ nothing_held s b (replicate (length s.nodes) None)
   pub keeps : IsForward start
   pub count : length outputs ≡ length s.nodes
-  pub marked : (k : ℕ) → k < length s.nodes → bit_of outputs k ≡ nat_le (length s.nodes) (last_use_in (as_graph s) k)
+  pub marked : (k : ℕ) → k < length s.nodes → bit_of outputs k ≡ nat_le (length s.nodes) (sum_last_use s k)
 
-pub begun : (s : SettledView) (b : BudgetView) (start : ForwardView) (outputs marks : List Bool)
+pub begun : (s : SumGraphView) (b : BudgetView) (start : ForwardView) (outputs marks : List Bool)
     → start ≡ nothing_held s b (replicate (length s.nodes) None) → IsForward start → outputs ≡ marks
     → AreNeeded s 0 (replicate (length s.nodes) false) marks → IsBegun s b start outputs
 begun s b start outputs marks is keeps same marked =
@@ -58,17 +57,17 @@ begun s b start outputs marks is keeps same marked =
           let blank : bit_of none k ≡ false = get_or-replicate n k false false low in
           let end : 0 + length none ≡ n = omega (arith, long) in
           needed.marked k (omega (arith, low, long))
-          ∙ ap (λ (x : Bool). x || nat_le (0 + length none) (last_use_in (as_graph s) (0 + k))) blank
-          ∙ ap (λ (m : ℕ). nat_le m (last_use_in (as_graph s) (0 + k))) end
-          ∙ ap (λ (m : ℕ). nat_le n (last_use_in (as_graph s) m)) (zero-add k);
+          ∙ ap (λ (x : Bool). x || nat_le (0 + length none) (sum_last_use s (0 + k))) blank
+          ∙ ap (λ (m : ℕ). nat_le m (sum_last_use s (0 + k))) end
+          ∙ ap (λ (m : ℕ). nat_le n (sum_last_use s m)) (zero-add k);
     }
 
 -- nothing stands below the first node
-pub begun_can : (s : SettledView) (b : BudgetView) (start : ForwardView) (outputs : List Bool) → IsBegun s b start outputs
+pub begun_can : (s : SumGraphView) (b : BudgetView) (start : ForwardView) (outputs : List Bool) → IsBegun s b start outputs
     → CanWork s start 0 (length outputs)
 begun_can s b start outputs begin =
     let graph : start.graph ≡ s = ap (λ (f : ForwardView). f.graph) begin.is in
-    let long : length start.graph.nodes ≡ length s.nodes = ap (λ (x : SettledView). length x.nodes) graph in
+    let long : length start.graph.nodes ≡ length s.nodes = ap (λ (x : SumGraphView). length x.nodes) graph in
     record {
       graph = sym graph;
       keeps = begin.keeps;
@@ -82,10 +81,10 @@ none_held (suc n) zero = refl
 none_held (suc n) (suc k) = none_held n k
 
 -- a cut has no more nodes than the graph
-some_cut : (s : SettledView) (n j : ℕ) → j ≤ n → length (cut_in (as_graph s) j) ≤ n
+some_cut : (s : SumGraphView) (n j : ℕ) → j ≤ n → length (sum_cut s j) ≤ n
 some_cut s n j low =
-    let g = as_graph s in
-    let test = is_needed (steps_of g) (output_nodes g) j in
+    let g = s in
+    let test = is_needed (sum_steps g) (sum_output_nodes g) j in
     omega (arith, low, length-filter test (below j), count_by-le-length test (below j), length-below j)
 
 more_level : (block level : ℕ) → 1 ≤ block → level + 1 ≤ size_at block level
@@ -96,10 +95,10 @@ more_level block (suc level) some = omega (arith, more_level block level some)
 some_level : (block level : ℕ) → 1 ≤ block → level ≤ size_at block level
 some_level block level some = omega (arith, more_level block level some)
 
-ap_narrow : (f : ForwardView) (s : SettledView) (b : BudgetView) (lines : List (Option ℕ)) → f ≡ nothing_held s b lines → AreNarrow f.gates
+ap_narrow : (f : ForwardView) (s : SumGraphView) (b : BudgetView) (lines : List (Option ℕ)) → f ≡ nothing_held s b lines → AreNarrow f.gates
 ap_narrow f s b lines e = subst (λ (x : ForwardView). AreNarrow x.gates) (sym e) tt
 
-module _ (s : SettledView) (b : BudgetView) (block : ℕ) (start : ForwardView) (outputs : List Bool) (some : 1 ≤ block) (begin : IsBegun s b start outputs)
+module _ (s : SumGraphView) (b : BudgetView) (block : ℕ) (start : ForwardView) (outputs : List Bool) (some : 1 ≤ block) (begin : IsBegun s b start outputs)
   where
     start_graph : start.graph ≡ s
     start_graph = ap (λ (f : ForwardView). f.graph) begin.is
@@ -113,19 +112,19 @@ module _ (s : SettledView) (b : BudgetView) (block : ℕ) (start : ForwardView) 
     start_weight : weight_in start.gates ≡ 0
     start_weight = ap (λ (f : ForwardView). weight_in f.gates) begin.is
 
-    settled : IsSettled s
-    settled = subst IsSettled start_graph begin.keeps.settled
+    settled : IsSumGraph s
+    settled = subst IsSumGraph start_graph begin.keeps.sums
 
     room : first_work s + b.borrow ≤ b.lines
     room =
         let within =
         subst (λ (x : BudgetView). first_work s + start.most + x.borrow ≤ x.lines) start_budget
-        (subst (λ (x : SettledView). first_work x + start.most + start.budget.borrow ≤ start.budget.lines) start_graph begin.keeps.within) in
+        (subst (λ (x : SumGraphView). first_work x + start.most + start.budget.borrow ≤ start.budget.lines) start_graph begin.keeps.within) in
         omega (arith, within)
 
     -- ---- what is wanted
 
-    allows_outputs : Allows start 0 outputs (is_in (output_nodes (as_graph s)))
+    allows_outputs : Allows start 0 outputs (is_in (sum_output_nodes s))
     allows_outputs = record {
       held = record {
         held = λ k is.
@@ -135,31 +134,34 @@ module _ (s : SettledView) (b : BudgetView) (block : ℕ) (start : ForwardView) 
       marked = λ k is.
           let inside = bit_inside outputs k is in
           let low : k < length s.nodes = omega (arith, inside, begin.count) in
-          ap (is_in (output_nodes (as_graph s))) (zero-add k)
-          ∙ use_output s k low (leb-true (length s.nodes) (last_use_in (as_graph s) k) (sym (begin.marked k low) ∙ is));
+          ap (is_in (sum_output_nodes s)) (zero-add k)
+          ∙ use_output s k low (leb-true (length s.nodes) (sum_last_use s k) (sym (begin.marked k low) ∙ is));
     }
 
-    few_wanted : counted (is_in (output_nodes (as_graph s))) (length s.nodes) ≤ length s.outputs
-    few_wanted = omega (arith, counted-in (output_nodes (as_graph s)) (length s.nodes), few_outputs s)
+    few_wanted : IsLight s → counted (is_in (sum_output_nodes s)) (length s.nodes) ≤ length s.outputs
+    few_wanted light = omega (arith, counted-in (sum_output_nodes s) (length s.nodes), few_outputs s light)
+
+    start_light : IsLight s → IsLight start.graph
+    start_light light = subst IsLight (sym start_graph) light
 
     covered : (m : Measures) (levels : ℕ) → IsHalved s block levels m → IsCovered start.graph block (length outputs) levels m.width
     covered m levels h =
-        subst (λ (x : SettledView). IsCovered x block (length outputs) levels m.width) (sym start_graph) (record {
+        subst (λ (x : SumGraphView). IsCovered x block (length outputs) levels m.width) (sym start_graph) (record {
           cuts = h.within.cuts;
           enough = omega (arith, h.enough, size_at-power block levels, begin.count);
         })
 
     -- the reach of the whole graph
     reach : Measures → ℕ → ℕ
-    reach m levels = reach_of start block levels m.width (is_in (output_nodes (as_graph s)))
+    reach m levels = reach_of start block levels m.width (is_in (sum_output_nodes s))
 
-    reach_fits : (m : Measures) (levels : ℕ) → reach m levels ≤ length s.outputs + m.width * levels + block_room block (length s.nodes)
+    reach_fits : (m : Measures) (levels : ℕ) → IsLight s → reach m levels ≤ length s.outputs + m.width * levels + block_room block (length s.nodes)
     unfolding reach
-    reach_fits m levels =
-        let all : reach_of start block levels m.width (is_in (output_nodes (as_graph s)))
-        ≡ counted (is_in (output_nodes (as_graph s))) (length s.nodes) + room_at block (length s.nodes) m.width levels =
-        ap (λ (x : SettledView). counted (is_in (output_nodes (as_graph s))) (length x.nodes) + room_at block (length x.nodes) m.width levels) start_graph in
-        omega (arith, all, few_wanted, room_at-times block (length s.nodes) m.width levels)
+    reach_fits m levels light =
+        let all : reach_of start block levels m.width (is_in (sum_output_nodes s))
+        ≡ counted (is_in (sum_output_nodes s)) (length s.nodes) + room_at block (length s.nodes) m.width levels =
+        ap (λ (x : SumGraphView). counted (is_in (sum_output_nodes s)) (length x.nodes) + room_at block (length x.nodes) m.width levels) start_graph in
+        omega (arith, all, few_wanted light, room_at-times block (length s.nodes) m.width levels)
 
     block_fits : (m : Measures) (levels : ℕ) → IsHalved s block levels m
         → length s.outputs + m.width * levels + block_room block (length s.nodes) ≤ m.outputs + m.width * levels + min block m.steps
@@ -168,9 +170,9 @@ module _ (s : SettledView) (b : BudgetView) (block : ℕ) (start : ForwardView) 
     -- ---- refused
 
     work_is : work_lines start.graph start.budget ≡ work_lines s b
-    work_is = ap (λ (x : SettledView). work_lines x start.budget) start_graph ∙ ap (work_lines s) start_budget
+    work_is = ap (λ (x : SumGraphView). work_lines x start.budget) start_graph ∙ ap (work_lines s) start_budget
 
-    wanted_is : wanted_lines s b ≡ b.lines + 1
+    wanted_is : wanted_lines (first_work s) b ≡ b.lines + 1
     wanted_is = rw (lt-leb (suc b.lines) (first_work s + b.borrow) (omega (arith, room))) refl
 
     fine_halved : (m : Measures) (levels : ℕ) → block ≡ 1 → IsHalved s 1 levels m → IsHalved s block levels m
@@ -186,19 +188,19 @@ module _ (s : SettledView) (b : BudgetView) (block : ℕ) (start : ForwardView) 
     gates_is = ap (λ (x : BudgetView). x.gates) start_budget
 
     nodes_is : length start.graph.nodes ≡ length s.nodes
-    nodes_is = ap (λ (x : SettledView). length x.nodes) start_graph
+    nodes_is = ap (λ (x : SumGraphView). length x.nodes) start_graph
 
     pub rise_refused : (e : PlanFault) → IsRiseFault start block 0 outputs e → IsPebblingFault s block b e
     unfolding reach
     rise_refused (Lines need) fault = (
       record {
         halved = λ m levels h.
-            let short = fault.change.short levels m.width (is_in (output_nodes (as_graph s))) (covered m levels h) allows_outputs in
-            omega (arith, short, work_is, reach_fits m levels, block_fits m levels h, h.within.inputs, h.within.outputs);
+            let short = fault.change.short levels m.width (is_in (sum_output_nodes s)) (covered m levels h) allows_outputs in
+            omega (arith, short, work_is, reach_fits m levels h.within.light, block_fits m levels h, h.within.inputs, h.within.outputs);
         fine = λ m levels one h.
             let short =
-            fault.change.short levels m.width (is_in (output_nodes (as_graph s))) (covered m levels (fine_halved m levels one h)) allows_outputs in
-            omega (arith, short, work_is, reach_fits m levels, fine_room one, h.within.inputs, h.within.outputs);
+            fault.change.short levels m.width (is_in (sum_output_nodes s)) (covered m levels (fine_halved m levels one h)) allows_outputs in
+            omega (arith, short, work_is, reach_fits m levels h.within.light, fine_room one, h.within.inputs, h.within.outputs);
         plain = λ low.
             let short = fault.plain (omega (arith, low, begin.count)) in
             omega (arith, short, work_is, nodes_is);
@@ -207,14 +209,14 @@ module _ (s : SettledView) (b : BudgetView) (block : ℕ) (start : ForwardView) 
     )
     rise_refused Gates fault = record {
       halved = λ m levels h.
-          let short = fault.change.short levels m.width (is_in (output_nodes (as_graph s))) (covered m levels h) allows_outputs in
+          let short = fault.change.short levels m.width (is_in (sum_output_nodes s)) (covered m levels h) allows_outputs (start_light h.within.light) in
           omega (arith, short, gates_is, start_weight, toggles_at-gates block levels some);
       fine = λ m levels one h.
           let short =
-          fault.change.short levels m.width (is_in (output_nodes (as_graph s))) (covered m levels (fine_halved m levels one h)) allows_outputs in
+          fault.change.short levels m.width (is_in (sum_output_nodes s)) (covered m levels (fine_halved m levels one h)) allows_outputs (start_light h.within.light) in
           omega (arith, short, gates_is, start_weight, fine_toggles levels one);
-      plain = λ low.
-          let short = fault.plain (omega (arith, low, begin.count)) in
+      plain = λ light low.
+          let short = fault.plain (omega (arith, low, begin.count)) (start_light light) in
           omega (arith, short, gates_is, start_weight, begin.count);
     }
     rise_refused Memory fault = room
@@ -226,7 +228,7 @@ module _ (s : SettledView) (b : BudgetView) (block : ℕ) (start : ForwardView) 
       f_graph = risen.graph ∙ start_graph
 
       outputs_is : length f.graph.outputs ≡ length s.outputs
-      outputs_is = ap (λ (x : SettledView). length x.outputs) f_graph
+      outputs_is = ap (λ (x : SumGraphView). length x.outputs) f_graph
 
       first_is : first_work f.graph ≡ first_work s
       first_is = ap first_work f_graph
@@ -234,23 +236,26 @@ module _ (s : SettledView) (b : BudgetView) (block : ℕ) (start : ForwardView) 
       f_gates : f.budget.gates ≡ b.gates
       f_gates = ap (λ (x : BudgetView). x.gates) risen.budget ∙ gates_is
 
-      output_held : (k : ℕ) → k < length s.nodes → last_use_in (as_graph s) k ≡ length s.nodes → is_held f.lines k ≡ true
+      output_held : (k : ℕ) → k < length s.nodes → sum_last_use s k ≡ length s.nodes → is_held f.lines k ≡ true
       output_held k low is =
           ap (is_held f.lines) (sym (zero-add k))
-          ∙ risen.inside k (begin.marked k low ∙ le-leb (length s.nodes) (last_use_in (as_graph s) k) (omega (arith, is)))
+          ∙ risen.inside k (begin.marked k low ∙ le-leb (length s.nodes) (sum_last_use s k) (omega (arith, is)))
 
-      pub plan_ready : AllByRecursion (IsReadySig f.lines) f.graph.outputs
-      plan_ready = subst (λ (x : SettledView). AllByRecursion (IsReadySig f.lines) x.outputs) (sym f_graph) (ready_outputs s f.lines settled output_held)
+      pub plan_ready : AllByRecursion (IsReadySum f.lines) f.graph.outputs
+      plan_ready = subst (λ (x : SumGraphView). AllByRecursion (IsReadySum f.lines) x.outputs) (sym f_graph) (ready_outputs s f.lines settled output_held)
 
       halved_move : (m : Measures) (levels : ℕ) → IsHalved s block levels m → IsMove start (reach m levels) (toggles_at block levels) f
       unfolding reach
-      halved_move m levels h = risen.thrifty.move levels m.width (is_in (output_nodes (as_graph s))) (covered m levels h) allows_outputs
+      halved_move m levels h = risen.thrifty.move levels m.width (is_in (sum_output_nodes s)) (covered m levels h) allows_outputs
 
       plain_move : length s.nodes ≤ block → IsMove start (length start.graph.nodes) (length outputs) f
       plain_move low = risen.plain (omega (arith, low, begin.count))
 
-      copies_few : length (copies_of f) ≤ length s.outputs
-      copies_few = omega (arith, few_copies (first_work f.graph) f.lines f.graph.inputs f.graph.outputs, outputs_is)
+      f_light : IsLight s → IsLight f.graph
+      f_light light = subst IsLight (sym f_graph) light
+
+      copies_few : IsLight s → length (copies_of f) ≤ length s.outputs
+      copies_few light = omega (arith, few_copies (first_work f.graph) f.lines f.graph.inputs f.graph.outputs (f_light light).outputs, outputs_is)
 
       -- some width and some levels always serve
       pub plan_narrow : AreNarrow (finished_gates f)
@@ -261,46 +266,44 @@ module _ (s : SettledView) (b : BudgetView) (block : ℕ) (start : ForwardView) 
           (everything start 0 outputs) in
           narrow_toggles.finished f (move.narrow (ap_narrow start s b (replicate (length s.nodes) None) begin.is))
 
-      gates_few : length (finished_gates f) ≤ 2 * weight_in f.gates + length s.outputs
-      gates_few =
+      gates_few : IsLight s → length (finished_gates f) ≤ 2 * weight_in f.gates + length s.outputs
+      gates_few light =
           let all = length-append (f.gates ++ copies_of f) (reverse f.gates) in
           let front = length-append f.gates (copies_of f) in
-          omega (arith, all, front, length-reverse f.gates, length-le-weight f.gates, copies_few)
+          omega (arith, all, front, length-reverse f.gates, length-le-weight f.gates, copies_few light)
 
       pub plan_few : IsWithinBlock s block (planned_of f)
       plan_few = record {
         block_lines = λ m levels h.
             let move = (halved_move m levels h).most in
-            omega (arith, move, start_most, first_is, reach_fits m levels, block_fits m levels h, h.within.inputs, h.within.outputs);
+            omega (arith, move, start_most, first_is, reach_fits m levels h.within.light, block_fits m levels h, h.within.inputs, h.within.outputs);
         block_gates = λ m levels h.
-            let move = (halved_move m levels h).weight in
-            omega (arith, move, start_weight, gates_few, toggles_at-gates block levels some, h.within.outputs);
+            let move = (halved_move m levels h).weight (start_light h.within.light) in
+            omega (arith, move, start_weight, gates_few h.within.light, toggles_at-gates block levels some, h.within.outputs);
         fine_lines = λ m levels one h.
             let move = (halved_move m levels (fine_halved m levels one h)).most in
-            omega (arith, move, start_most, first_is, reach_fits m levels, fine_room one, h.within.inputs, h.within.outputs);
+            omega (arith, move, start_most, first_is, reach_fits m levels h.within.light, fine_room one, h.within.inputs, h.within.outputs);
         fine_gates = λ m levels one h.
-            let move = (halved_move m levels (fine_halved m levels one h)).weight in
-            omega (arith, move, start_weight, gates_few, fine_toggles levels one, h.within.outputs);
+            let move = (halved_move m levels (fine_halved m levels one h)).weight (start_light h.within.light) in
+            omega (arith, move, start_weight, gates_few h.within.light, fine_toggles levels one, h.within.outputs);
         plain_lines = λ low. let move = (plain_move low).most in omega (arith, move, start_most, first_is, nodes_is);
-        plain_gates = λ low. let move = (plain_move low).weight in omega (arith, move, start_weight, gates_few, begin.count);
+        plain_gates = λ light low. let move = (plain_move low).weight (start_light light) in omega (arith, move, start_weight, gates_few light, begin.count);
       }
 
-      finished_few : finished_weight f ≤ 2 * weight_in f.gates + length s.outputs
-      finished_few =
-          let copies = weight-copies (first_work f.graph) f.lines f.graph.inputs f.graph.outputs in
-          omega (arith, copies, copies_few)
+      finished_few : IsLight s → finished_weight f ≤ 2 * weight_in f.gates + length s.outputs
+      finished_few light = omega (arith, light_copies f.graph.outputs (f_light light).outputs, outputs_is)
 
       pub finish_refused : (e : PlanFault) → IsFinishFault f e → IsPebblingFault s block b e
       finish_refused (Lines need) fault = absurd fault
       finish_refused Gates fault = record {
         halved = λ m levels h.
-            let move = (halved_move m levels h).weight in
-            omega (arith, fault, f_gates, finished_few, move, start_weight, toggles_at-gates block levels some, h.within.outputs);
+            let move = (halved_move m levels h).weight (start_light h.within.light) in
+            omega (arith, fault, f_gates, finished_few h.within.light, move, start_weight, toggles_at-gates block levels some, h.within.outputs);
         fine = λ m levels one h.
-            let move = (halved_move m levels (fine_halved m levels one h)).weight in
-            omega (arith, fault, f_gates, finished_few, move, start_weight, fine_toggles levels one, h.within.outputs);
-        plain = λ low.
-            let move = (plain_move low).weight in
-            omega (arith, fault, f_gates, finished_few, move, start_weight, begin.count);
+            let move = (halved_move m levels (fine_halved m levels one h)).weight (start_light h.within.light) in
+            omega (arith, fault, f_gates, finished_few h.within.light, move, start_weight, fine_toggles levels one, h.within.outputs);
+        plain = λ light low.
+            let move = (plain_move low).weight (start_light light) in
+            omega (arith, fault, f_gates, finished_few light, move, start_weight, begin.count);
       }
       finish_refused Memory fault = room

@@ -3,7 +3,7 @@ use Rattle.std.proofs.Common.{◌≡◌, ◌≢◌, ℕ, suc, ◌+◌, ◌<◌, 
 use Rattle.std.proofs.Common.{sym, ◌∙◌, ap, subst, refl, arith}
 use Rattle.std.proofs.lemmas.Bool.{cases_eq}
 use Rattle.list_facts.specs.Bits.{bit_of}
-use Rattle.claim_check.specs.Settled.{SettledView}
+use Rattle.sum_graph.specs.Graphs.{SumGraphView}
 use Rattle.gate_split.specs.declared.plan.PlanFault.{PlanFault}
 use Rattle.held_nodes.specs.Held.{ForwardView, IsForward, is_held}
 use Rattle.bennett_pebbling.specs.inside.Changes.{AllowsTurn, CanTurn, IsRaised, IsRaiseFault, IsReadyBelow, IsTurned, IsTurnFault, is_missing, turned}
@@ -43,8 +43,8 @@ module _ (f : ForwardView) (lo : ℕ) (marks : List Bool) (k : ℕ) (now : Forwa
   operand_held : IsReadyBelow f lo (length marks) → AreClosed f.graph lo marks → turn ≡ true → (j : ℕ) → RestsOn now.graph (lo + k) j
       → is_held now.lines j ≡ true
   operand_held ready closed t j rests =
-      let below = rests_below now.graph (lo + k) j r.keeps.settled rests in
-      let rests_f : RestsOn f.graph (lo + k) j = subst (λ (s : SettledView). RestsOn s (lo + k) j) r.graph rests in
+      let below = rests_below now.graph (lo + k) j r.keeps.sums rests in
+      let rests_f : RestsOn f.graph (lo + k) j = subst (λ (s : SumGraphView). RestsOn s (lo + k) j) r.graph rests in
       elim (in_or_out lo k j) as (λ _. is_held now.lines j ≡ true) [
         | inl p ↦
             let marked : bit_of marks p.place ≡ true =
@@ -84,7 +84,7 @@ module _ (f : ForwardView) (lo : ℕ) (marks : List Bool) (k : ℕ) (now : Forwa
         let n = length f.graph.nodes in
         let first = r.move allowed a in
         let second : IsMoveFault now (counted allowed n) (one_if turn) fault =
-        subst (λ (s : SettledView). IsMoveFault now (counted allowed (length s.nodes)) (one_if turn) fault) r.graph (t.fault allowed (allows_turn allowed a)) in
+        subst (λ (s : SumGraphView). IsMoveFault now (counted allowed (length s.nodes)) (one_if turn) fault) r.graph (t.fault allowed (allows_turn allowed a)) in
         let one : one_if turn ≡ one_if (is_missing f lo marks k) = ap one_if is_turn in
         fault-weaker f (counted allowed n) (counted allowed n) (counted (is_missing f lo marks) k + one_if turn)
         (counted (is_missing f lo marks) (length marks)) fault (omega arith)

@@ -7,10 +7,9 @@ use Rattle.std.proofs.lemmas.Bool.{cases_lt}
 use Rattle.list_facts.specs.Lists.{IsAmong}
 use Rattle.dependency_graph.specs.declared.node.Base.{Base}
 use Rattle.dependency_graph.specs.declared.node.Base.TheVariants as bases
-use Rattle.dependency_graph.specs.declared.node.Node.{Node}
-use Rattle.dependency_graph.specs.declared.node.Node.TheVariants.{Not, Xor, And}
-use Rattle.dependency_graph.specs.Graphs.{node_of, nodes_among, operands}
-use Rattle.claim_check.specs.Settled.{SettledView}
+use Rattle.dependency_graph.specs.Graphs.{nodes_among}
+use Rattle.bit_sums.specs.Sums.{SumView, bases_of}
+use Rattle.sum_graph.specs.Graphs.{SumGraphView}
 use Rattle.held_nodes.specs.Held.{ForwardView, is_held}
 use Rattle.held_nodes.specs.Moves.{IsReadyBase, IsReadyNode}
 use Rattle.bennett_pebbling.specs.inside.Changes.{turned}
@@ -20,41 +19,25 @@ use Rattle.bennett_pebbling.proofs.NeedLemmas.{rests_on}
 
 -- ---- ready
 
-ready_base : (lines : List (Option ℕ)) (a : Base) → ((j : ℕ) → IsAmong j (node_of a) → is_held lines j ≡ true) → IsReadyBase lines a
-ready_base lines (bases.Input i) each = tt
-ready_base lines (bases.Node k) each = each k (inl refl)
+pub ready_operands : (lines : List (Option ℕ)) (bs : List Base) → ((j : ℕ) → IsAmong j (nodes_among bs) → is_held lines j ≡ true)
+    → AllByRecursion (IsReadyBase lines) bs
+ready_operands lines [] each = tt
+ready_operands lines (bases.Input i ∷ rest) each = (tt, ready_operands lines rest each)
+ready_operands lines (bases.Node k ∷ rest) each = (each k (inl refl), ready_operands lines rest (λ j among. each j (inr among)))
 
-ready_one : (lines : List (Option ℕ)) (a : Base) → ((j : ℕ) → IsAmong j (nodes_among (a ∷ [])) → is_held lines j ≡ true)
-    → AllByRecursion (IsReadyBase lines) (a ∷ [])
-ready_one lines (bases.Input i) each = (tt, tt)
-ready_one lines (bases.Node k) each = (each k (inl refl), tt)
-
-ready_two : (lines : List (Option ℕ)) (a b : Base) → ((j : ℕ) → IsAmong j (nodes_among (a ∷ b ∷ [])) → is_held lines j ≡ true)
-    → AllByRecursion (IsReadyBase lines) (a ∷ b ∷ [])
-ready_two lines (bases.Input i) (bases.Input l) each = (tt, (tt, tt))
-ready_two lines (bases.Input i) (bases.Node l) each = (tt, (each l (inl refl), tt))
-ready_two lines (bases.Node i) (bases.Input l) each = (each i (inl refl), (tt, tt))
-ready_two lines (bases.Node i) (bases.Node l) each = (each i (inl refl), (each l (inr (inl refl)), tt))
-
-ready_operands : (lines : List (Option ℕ)) (node : Node) → ((j : ℕ) → IsAmong j (nodes_among (operands node)) → is_held lines j ≡ true)
-    → AllByRecursion (IsReadyBase lines) (operands node)
-ready_operands lines (Not a) each = ready_one lines a each
-ready_operands lines (Xor a b) each = ready_two lines a b each
-ready_operands lines (And a b) each = ready_two lines a b each
-
-node_at : (nodes : List Node) (k : ℕ) → k < length nodes → (node : Node) × (slice_get nodes k ≡ Some node)
+node_at : (nodes : List SumView) (k : ℕ) → k < length nodes → (node : SumView) × (slice_get nodes k ≡ Some node)
 node_at [] k low = absurd (omega (arith, low))
 node_at (x ∷ xs) zero low = (x, refl)
 node_at (x ∷ xs) (suc k) low = node_at xs k (omega (arith, low))
 
-pub is_ready : (s : SettledView) (lines : List (Option ℕ)) (k : ℕ) → k < length s.nodes → ((j : ℕ) → RestsOn s k j → is_held lines j ≡ true)
+pub is_ready : (s : SumGraphView) (lines : List (Option ℕ)) (k : ℕ) → k < length s.nodes → ((j : ℕ) → RestsOn s k j → is_held lines j ≡ true)
     → IsReadyNode s lines k
 is_ready s lines k low each =
     let found = node_at s.nodes k low in
     record {
       node = found.0;
       is = found.1;
-      ready = ready_operands lines found.0 (λ j among. each j (rests_on s k j found.0 found.1 among));
+      ready = ready_operands lines (bases_of found.0) (λ j among. each j (rests_on s k j found.0 found.1 among));
     }
 
 -- ---- bits
@@ -121,4 +104,4 @@ in_or_out lo count k = elim (cases_lt k lo) as (λ _. IsPlace lo count k ⊎ IsO
 pub move-graph : (f g next : ForwardView) (allowed : ℕ → Bool) (toggles : ℕ) → f.graph ≡ g.graph
     → IsMove f (counted allowed (length f.graph.nodes)) toggles next → IsMove f (counted allowed (length g.graph.nodes)) toggles next
 move-graph f g next allowed toggles same m =
-    subst (λ (s : SettledView). IsMove f (counted allowed (length s.nodes)) toggles next) same m
+    subst (λ (s : SumGraphView). IsMove f (counted allowed (length s.nodes)) toggles next) same m

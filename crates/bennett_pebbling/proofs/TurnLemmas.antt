@@ -1,19 +1,23 @@
 -- A node that turns, by a toggle.
 use Rattle.std.proofs.Common.{◌≡◌, ℕ, ◌+◌, ◌*◌, ◌<◌, ◌≤◌, max, Bool, true, not, List, ◌++◌, length, set, Option, Some, None, is_some}
-use Rattle.std.proofs.Common.{sym, ◌∙◌, ap, subst, refl, arith, inl, inr}
+use Rattle.std.proofs.Common.{get_or, sym, ◌∙◌, ap, subst, refl, arith, inl, inr}
 use Rattle.std.proofs.lemmas.Bool.{cases_eq}
 use Rattle.std.proofs.lemmas.List.{get_or-set_same, get_or-set_other, length-set}
 use Rattle.std.proofs.lemmas.List.Sums.{sum_by-append}
-use Rattle.dependency_graph.specs.declared.node.Node.{Node}
-use Rattle.dependency_graph.specs.declared.node.Node.TheVariants.{Not, Xor, And}
+use Rattle.std.proofs.lemmas.Option.{get_or_from_slice_get, slice_get_within}
+use Rattle.std.specs.Prelude.{slice_get}
+use Rattle.list_facts.proofs.AllLemmas.{AllByRecursion-at}
+use Rattle.bit_sums.specs.Sums.{SumView}
+use Rattle.sum_graph.specs.Graphs.{SumGraphView}
+use Rattle.sum_toggles.specs.Toggles.{toggle_weight}
+use Rattle.bennett_pebbling.specs.Pebbling.{IsLight}
 use Rattle.gate_split.specs.declared.plan.PlanFault.{PlanFault}
 use Rattle.gate_split.specs.declared.plan.PlanFault.TheVariants.{Lines, Gates, Memory}
 use Rattle.mct_circuit.specs.Gates.{GateView}
 use Rattle.mct_circuit.specs.Sizes.{weight_of}
 use Rattle.held_nodes.specs.Held.{ForwardView, IsForward, first_work, held_count, held_line, is_held}
-use Rattle.held_nodes.specs.Moves.{IsToggled, IsToggleFault, TakesLine, toggle_of, toggle_weight, weight_in}
+use Rattle.held_nodes.specs.Moves.{IsToggled, IsToggleFault, TakesLine, toggle_of, weight_in}
 use Rattle.held_nodes.proofs.NarrowLemmas.{narrow_toggles}
-use Rattle.held_nodes.proofs.StepLemmas.{weight-toggle}
 use Rattle.bennett_pebbling.specs.inside.Changes.{AllowsTurn, IsTurned, IsTurnFault}
 use Rattle.bennett_pebbling.specs.inside.Costs.{IsMove, counted}
 use Rattle.bennett_pebbling.proofs.CountLemmas.{counted-held, counted-weaker, counted-below}
@@ -23,10 +27,12 @@ after_turn : (lines : List (Option ℕ)) (own : Option ℕ) (line : ℕ) (after 
 after_turn lines (Some old) line after t = ap is_some t.1
 after_turn lines None line after t = ap is_some t.1
 
-few_toggle : (node : Node) → toggle_weight node ≤ 2
-few_toggle (Not a) = omega arith
-few_toggle (Xor a b) = omega arith
-few_toggle (And a b) = omega arith
+few_toggle : (s : SumGraphView) (k : ℕ) (node : SumView) → IsLight s → slice_get s.nodes k ≡ Some node → toggle_weight node ≤ 2
+few_toggle s k node light is =
+    let low = slice_get_within s.nodes k node is in
+    let here = AllByRecursion-at (λ (n : SumView). toggle_weight n ≤ 2) s.nodes k node light.toggles low in
+    let same : toggle_weight (get_or s.nodes k node) ≡ toggle_weight node = ap toggle_weight (get_or_from_slice_get s.nodes k node node is) in
+    omega (arith, here, same)
 
 -- what is held with one line changed is allowed
 allowed_after : (f : ForwardView) (k : ℕ) (after : Option ℕ) (allowed : ℕ → Bool) → AllowsTurn f k true allowed
@@ -49,10 +55,10 @@ module _ (f next : ForwardView) (k : ℕ) (t : IsToggled f k next) (forward : Is
   gates : List GateView
   gates = toggle_of (first_work f.graph) f.lines t.line t.node
 
-  whole_weight : weight_in (f.gates ++ toggle_of (first_work f.graph) f.lines t.line t.node) ≤ weight_in f.gates + 2 * 1
-  whole_weight =
+  whole_weight : IsLight f.graph → weight_in (f.gates ++ toggle_of (first_work f.graph) f.lines t.line t.node) ≤ weight_in f.gates + 2 * 1
+  whole_weight light =
       let sum = sum_by-append weight_of f.gates (toggle_of (first_work f.graph) f.lines t.line t.node) in
-      omega (arith, sum, weight-toggle (first_work f.graph) f.lines t.line t.node, few_toggle t.node)
+      omega (arith, sum, t.weighs, few_toggle f.graph k t.node light t.is)
 
   lines_after : next.lines ≡ set f.lines k t.after
   lines_after = ap (λ (g : ForwardView). g.lines) t.becomes
@@ -74,9 +80,9 @@ module _ (f next : ForwardView) (k : ℕ) (t : IsToggled f k next) (forward : Is
     most =
         let e : next.most ≡ max f.most (held_count (set f.lines k t.after)) = ap (λ (g : ForwardView). g.most) t.becomes in
         omega (arith, e, few_held f k t.after allowed forward allows);
-    weight =
+    weight = λ light.
         let e = ap (λ (g : ForwardView). weight_in g.gates) t.becomes in
-        omega (arith, e, whole_weight);
+        omega (arith, e, whole_weight light);
     narrow = narrow_toggles.toggled f next k t;
   }
 
@@ -98,7 +104,7 @@ not_turned_over f k (Lines need) forward low fault = record {
 not_turned_over f k Gates forward low fault = record {
   fault = λ allowed allows. record {
     need = tt;
-    short = omega (arith, fault.1.heavy, few_toggle fault.1.node);
+    short = λ light. omega (arith, fault.1.heavy, few_toggle f.graph k fault.1.node light fault.1.is);
   };
 }
 not_turned_over f k Memory forward low fault = record { fault = λ allowed allows. record { need = tt; short = tt } }

@@ -1,22 +1,45 @@
 -- What pebbling by halves down to blocks of nodes needs: no more than the block's numbers.
 use Rattle.std.specs.Prelude.{◌≡◌, ℕ, ◌+◌, ◌*◌, ◌^◌, ◌<◌, ◌≤◌, length}
+use Rattle.std.specs.List.{AllByRecursion}
+use Rattle.bit_sums.specs.Sums.{SumView}
+use Rattle.dependency_graph.specs.declared.node.Sig.{Sig}
+use Rattle.sum_graph.specs.Plain.{plain_output}
+use Rattle.sum_graph.specs.Uses.{sum_cut}
+use Rattle.sum_toggles.specs.Toggles.{toggle_weight}
 use Rattle.claim_check.specs.Budgets.{Measures, block_lines, block_gates, fine_lines, fine_gates}
-use Rattle.claim_check.specs.Measures.{IsWithin}
-use Rattle.claim_check.specs.Settled.{SettledView}
+use Rattle.sum_graph.specs.Graphs.{SumGraphView}
 use Rattle.gate_split.specs.declared.plan.PlanFault.{PlanFault}
 use Rattle.gate_split.specs.declared.plan.PlanFault.TheVariants.{Lines, Gates, Memory}
 use Rattle.gate_split.specs.Plans.{BudgetView, PlannedView}
 use Rattle.held_nodes.specs.Held.{first_work}
 use Rattle.held_nodes.specs.Plans.{HasPortLines, wanted_lines}
 
--- all nodes are in blocks of this size after so many halvings, and the settled graph is within the measures
-pub record IsHalved (s : SettledView) (block levels : ℕ) (m : Measures) : Type 0 where
-  pub within : IsWithin s m
+-- an output is a base or a constant
+pub record IsCopy (s : SumView) : Type 0 where
+  pub sig : Sig
+  pub is : s ≡ plain_output sig
+
+-- No toggle weighs more than 2, and each output is a base or a constant.
+pub record IsLight (s : SumGraphView) : Type 0 where
+  pub toggles : AllByRecursion (λ (node : SumView). toggle_weight node ≤ 2) s.nodes
+  pub outputs : AllByRecursion IsCopy s.outputs
+
+-- A light graph is within measures: it has these inputs and outputs, no more nodes, and no longer cuts.
+pub record IsSumWithin (s : SumGraphView) (m : Measures) : Type 0 where
+  pub light : IsLight s
+  pub inputs : s.inputs ≡ m.inputs
+  pub outputs : length s.outputs ≡ m.outputs
+  pub steps : length s.nodes ≤ m.steps
+  pub cuts : (j : ℕ) → j ≤ length s.nodes → length (sum_cut s j) ≤ m.width
+
+-- all nodes are in blocks of this size after so many halvings, and the graph is within the measures
+pub record IsHalved (s : SumGraphView) (block levels : ℕ) (m : Measures) : Type 0 where
+  pub within : IsSumWithin s m
   pub enough : length s.nodes ≤ block * 2 ^ levels
 
 -- So many lines, of which some are borrowed, and gates are within the numbers of the block, for a block of one node
 -- within the fine numbers, and where one block has all nodes, within one work line and four gates for each node.
-pub record AreWithinBlock (s : SettledView) (block borrowed lines gates : ℕ) : Type 0 where
+pub record AreWithinBlock (s : SumGraphView) (block borrowed lines gates : ℕ) : Type 0 where
   pub block_lines : (m : Measures) (levels : ℕ) → IsHalved s block levels m
       → lines ≤ block_lines m block levels borrowed
   pub block_gates : (m : Measures) (levels : ℕ) → IsHalved s block levels m
@@ -26,14 +49,14 @@ pub record AreWithinBlock (s : SettledView) (block borrowed lines gates : ℕ) :
   pub fine_gates : (m : Measures) (levels : ℕ) → block ≡ 1 → IsHalved s 1 levels m
       → gates ≤ fine_gates m levels
   pub plain_lines : length s.nodes ≤ block → lines ≤ first_work s + length s.nodes + borrowed
-  pub plain_gates : length s.nodes ≤ block → gates ≤ 4 * length s.nodes + length s.outputs
+  pub plain_gates : IsLight s → length s.nodes ≤ block → gates ≤ 4 * length s.nodes + length s.outputs
 
 -- the plan's lines and gates are
-abbrev pub IsWithinBlock : SettledView → ℕ → PlannedView → Type 0
+abbrev pub IsWithinBlock : SumGraphView → ℕ → PlannedView → Type 0
 IsWithinBlock s block p = AreWithinBlock s block 0 p.circuit.lines (length p.circuit.gates)
 
 -- the budget has fewer lines than each of these numbers
-pub record HasFewLines (s : SettledView) (block : ℕ) (b : BudgetView) : Type 0 where
+pub record HasFewLines (s : SumGraphView) (block : ℕ) (b : BudgetView) : Type 0 where
   pub halved : (m : Measures) (levels : ℕ) → IsHalved s block levels m
       → b.lines < block_lines m block levels b.borrow
   pub fine : (m : Measures) (levels : ℕ) → block ≡ 1 → IsHalved s 1 levels m
@@ -41,15 +64,15 @@ pub record HasFewLines (s : SettledView) (block : ℕ) (b : BudgetView) : Type 0
   pub plain : length s.nodes ≤ block → b.lines < first_work s + length s.nodes + b.borrow
 
 -- the budget has fewer gates than each of these numbers
-pub record HasFewGates (s : SettledView) (block : ℕ) (b : BudgetView) : Type 0 where
+pub record HasFewGates (s : SumGraphView) (block : ℕ) (b : BudgetView) : Type 0 where
   pub halved : (m : Measures) (levels : ℕ) → IsHalved s block levels m
       → b.gates < block_gates m block levels
   pub fine : (m : Measures) (levels : ℕ) → block ≡ 1 → IsHalved s 1 levels m
       → b.gates < fine_gates m levels
-  pub plain : length s.nodes ≤ block → b.gates < 4 * length s.nodes + length s.outputs
+  pub plain : IsLight s → length s.nodes ≤ block → b.gates < 4 * length s.nodes + length s.outputs
 
 -- why there is no plan; memory is wanted only where the budget has the lines of the inputs and outputs
-abbrev pub IsPebblingFault : SettledView → ℕ → BudgetView → PlanFault → Type 0
-IsPebblingFault s block b (Lines need) = HasFewLines s block b × (need ≡ wanted_lines s b)
+abbrev pub IsPebblingFault : SumGraphView → ℕ → BudgetView → PlanFault → Type 0
+IsPebblingFault s block b (Lines need) = HasFewLines s block b × (need ≡ wanted_lines (first_work s) b)
 IsPebblingFault s block b Gates = HasFewGates s block b
-IsPebblingFault s block b Memory = HasPortLines s b
+IsPebblingFault s block b Memory = HasPortLines (first_work s) b

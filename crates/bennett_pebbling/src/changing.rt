@@ -7,10 +7,10 @@ ghost use Rattle.bennett_pebbling.specs.inside.Marks.{AreHalves, AreHeld};
 
 use crate::block::{lower, raise};
 use crate::needs::{differing, is_held_so, with_cut, with_needs};
-use claim_check::Settled;
 use gate_split::PlanFault;
 use held_nodes::Forward;
 use std::alloc::Global;
+use sum_graph::SumGraph;
 
 // The marks of a range in two halves: the first has no fewer than the second.
 fn halves(wanted: &[bool]) -> (&[bool], &[bool])
@@ -23,7 +23,7 @@ fn halves(wanted: &[bool]) -> (&[bool], &[bool])
 // Holds exactly the wanted nodes of a range, within one block.
 fn change_block<'s>(
     alloc: Global,
-    graph: &Settled,
+    graph: &SumGraph,
     forward: Forward<'s>,
     lo: u32,
     wanted: &[bool],
@@ -44,7 +44,7 @@ fn change_block<'s>(
 // block.
 fn rise_block<'s>(
     alloc: Global,
-    graph: &Settled,
+    graph: &SumGraph,
     forward: Forward<'s>,
     lo: u32,
     wanted: &[bool],
@@ -62,7 +62,7 @@ fn rise_block<'s>(
 // Holds exactly the wanted nodes of a range; where exactly these are held, nothing is changed.
 pub fn change<'s>(
     alloc: Global,
-    graph: &Settled,
+    graph: &SumGraph,
     block: u32,
     forward: Forward<'s>,
     lo: u32,
@@ -91,7 +91,7 @@ pub fn change<'s>(
 // Holds the wanted nodes of a range, and maybe more of its second half.
 pub fn rise<'s>(
     alloc: Global,
-    graph: &Settled,
+    graph: &SumGraph,
     block: u32,
     forward: Forward<'s>,
     lo: u32,

@@ -1,26 +1,29 @@
 // Marks of the nodes of a range: those that are needed behind it, those that differ, and those on
 // which they rest. The mark at place k is that of node lo + k.
 ghost use Rattle.std.specs.Prelude.{◌≡◌, ◌+◌, ◌≤◌, false, true, length, replicate, IfOk};
-ghost use Rattle.dependency_graph.specs.Graphs.{nodes_among, node_of, operands};
-ghost use Rattle.claim_check.specs.Settled.{IsSettled};
+ghost use Rattle.std.specs.List.{flat_map};
+ghost use Rattle.bit_sums.specs.Sums.{bases_of, product_bases};
+ghost use Rattle.dependency_graph.specs.Graphs.{nodes_among, node_of};
+ghost use Rattle.sum_graph.specs.Graphs.{IsSumGraph};
 ghost use Rattle.held_nodes.specs.Held.{IsForward};
 ghost use Rattle.bennett_pebbling.specs.inside.Marks.{AreDifferences, AreHeld, AreNeeded};
 ghost use Rattle.bennett_pebbling.specs.inside.Marks.{AreNeeds, HasMarked, differ};
 
-use claim_check::Settled;
-use dependency_graph::{Base, Node};
+use bit_sums::{Product, Sum};
+use dependency_graph::Base;
 use held_nodes::Forward;
 use revc_base::Memory;
 use std::alloc::Global;
+use sum_graph::SumGraph;
 
 // Marks the wanted nodes, and those that are in the cut at the end of the range.
 pub fn with_cut(
     alloc: Global,
-    graph: &Settled,
+    graph: &SumGraph,
     lo: u32,
     wanted: &[bool],
 ) -> Result<Vec<bool>, Memory>
-    requires settled { IsSettled graph.now }
+    requires keeps { IsSumGraph graph.now }
     requires inside { lo + length wanted.now ≤ length graph.now.nodes }
     ensures { IfOk result (λ marks. AreNeeded graph.now lo wanted.now marks.items) }
 {
@@ -34,7 +37,7 @@ pub fn with_cut(
 }
 
 // Marks the outputs: the nodes that are needed behind the last one.
-pub fn outputs_of(alloc: Global, graph: &Settled) -> Result<Vec<bool>, Memory>
+pub fn outputs_of(alloc: Global, graph: &SumGraph) -> Result<Vec<bool>, Memory>
     ensures { IfOk result (λ marks.
         AreNeeded graph.now 0 (replicate (length graph.now.nodes) false) marks.items) }
 {
@@ -97,21 +100,33 @@ fn mark(marks: &mut [bool], lo: u32, base: Base)
     }
 }
 
-fn mark_operands(marks: &mut [bool], lo: u32, node: Node)
-    ensures { HasMarked lo (nodes_among (operands node)) marks.old marks.new }
+fn mark_all(marks: &mut [bool], lo: u32, bases: &[Base])
+    ensures { HasMarked lo (nodes_among bases.now) marks.old marks.new }
 {
-    match node {
-        Node::Not(a) => mark(marks, lo, a),
-        Node::Xor(a, b) | Node::And(a, b) => {
-            mark(marks, lo, a);
-            mark(marks, lo, b);
-        }
+    for base in bases {
+        mark(marks, lo, *base);
+    }
+}
+
+fn mark_operands(marks: &mut [bool], lo: u32, node: &Sum)
+    ensures { HasMarked lo (nodes_among (bases_of node.now)) marks.old marks.new }
+{
+    mark_all(marks, lo, node.bits());
+    mark_products(marks, lo, node.products());
+}
+
+fn mark_products(marks: &mut [bool], lo: u32, products: &[Product])
+    ensures { HasMarked lo (nodes_among (flat_map product_bases products.now)) marks.old marks.new }
+{
+    for product in products {
+        mark_all(marks, lo, product.first());
+        mark_all(marks, lo, product.second());
     }
 }
 
 // These marks, and those of all nodes of the range on which marked ones rest.
-pub fn with_needs(mut marks: Vec<bool>, graph: &Settled, lo: u32) -> Vec<bool>
-    requires settled { IsSettled graph.now }
+pub fn with_needs(mut marks: Vec<bool>, graph: &SumGraph, lo: u32) -> Vec<bool>
+    requires keeps { IsSumGraph graph.now }
     requires inside { lo + length marks.items ≤ length graph.now.nodes }
     ensures { AreNeeds graph.now lo marks.items result.items }
 {
@@ -120,8 +135,8 @@ pub fn with_needs(mut marks: Vec<bool>, graph: &Settled, lo: u32) -> Vec<bool>
 }
 
 // By falling nodes, so that each is marked before it is looked at.
-fn mark_needs(marks: &mut [bool], graph: &Settled, lo: u32)
-    requires settled { IsSettled graph.now }
+fn mark_needs(marks: &mut [bool], graph: &SumGraph, lo: u32)
+    requires keeps { IsSumGraph graph.now }
     requires inside { lo + length marks.old ≤ length graph.now.nodes }
     ensures { AreNeeds graph.now lo marks.old marks.new }
 {

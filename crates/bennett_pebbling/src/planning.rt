@@ -1,7 +1,7 @@
-// The pebbling plan of a settled graph.
+// The pebbling plan of a graph.
 ghost use Rattle.std.specs.Prelude.{IfOk, IfErr, ◌≤◌};
 ghost use Rattle.bennett_pebbling.specs.Pebbling.{IsPebblingFault, IsWithinBlock};
-ghost use Rattle.claim_check.specs.Settled.{settled_outputs};
+ghost use Rattle.sum_graph.specs.Graphs.{sum_outputs};
 ghost use Rattle.gate_split.specs.Plans.{MapsCleanly};
 ghost use Rattle.held_nodes.specs.Moves.{roles_of_plan};
 ghost use Rattle.held_nodes.specs.Plans.{HasPorts, IsInBudget};
@@ -9,12 +9,12 @@ ghost use Rattle.mct_circuit.specs.Gates.{AreNarrow};
 
 use crate::changing::rise;
 use crate::needs::outputs_of;
-use claim_check::Settled;
 use gate_split::{Budget, PlanFault, Planned};
 use held_nodes::Forward;
 use std::alloc::Global;
+use sum_graph::SumGraph;
 
-/// The plan of a settled graph by halves, down to blocks of `block` nodes. The forward part holds
+/// The plan of a graph by halves, down to blocks of `block` nodes. The forward part holds
 /// what the second half of the nodes needs of the first, then the outputs in the second half, and
 /// then cleans the first half of what is no output; each half goes in the same way, and a block is
 /// computed node by node. The circuit takes each input and zeros to that input, the outputs, and
@@ -28,14 +28,14 @@ use std::alloc::Global;
 /// budget, and one line more than the budget otherwise.
 pub fn plan(
     alloc: Global,
-    graph: &Settled,
+    graph: &SumGraph,
     block: u32,
     budget: &Budget,
 ) -> Result<Planned, PlanFault>
     requires { 1 ≤ block }
     ensures ports { IfOk result (HasPorts graph.now) }
     ensures clean { IfOk result (λ planned. MapsCleanly (roles_of_plan planned)
-        planned.circuit.gates (settled_outputs graph.now)) }
+        planned.circuit.gates (sum_outputs graph.now)) }
     ensures within { IfOk result (IsInBudget budget.now) }
     ensures narrow { IfOk result (λ planned. AreNarrow planned.circuit.gates) }
     ensures few { IfOk result (IsWithinBlock graph.now block) }

@@ -1,7 +1,7 @@
 -- What is held and paid for stays within the eager numbers.
 use Rattle.std.proofs.Common.{◌≡◌, ℕ, zero, suc, ◌+◌, ◌*◌, ◌<◌, ◌≤◌, Bool, true, ltb, min, inl, inr, List, [], ◌∷◌, length, get_or, slice_get, Option, Some}
 use Rattle.std.proofs.Common.{None, refl, sym, ap, ◌∙◌, subst, arith}
-use Rattle.std.specs.List.{list_all, sum_by}
+use Rattle.std.specs.List.{AllByRecursion, list_all, sum_by}
 use Rattle.std.proofs.lemmas.Bool.{cases_Bool, ltb-true, ltb-false, true≢false}
 use Rattle.std.proofs.lemmas.Bool.Decides.{leb_tells}
 use Rattle.std.proofs.lemmas.List.Folds.{list_all_at}
@@ -17,18 +17,22 @@ use Rattle.dependency_graph.specs.Graphs.{IsKnownBase, operands}
 use Rattle.gate_split.specs.declared.plan.PlanFault.{PlanFault}
 use Rattle.gate_split.specs.declared.plan.PlanFault.TheVariants.{Lines, Gates, Memory}
 use Rattle.gate_split.specs.Plans.{BudgetView}
-use Rattle.held_nodes.specs.Held.{ForwardView, first_work, held_count, is_held, work_lines}
+use Rattle.held_nodes.specs.Held.{ForwardView, first_work, held_count, is_held}
 use Rattle.held_nodes.specs.Moves.{IsReadyBase, IsReadyNode, IsStartFault, IsToggleFault}
 use Rattle.held_nodes.specs.Plans.{HasPortLines, wanted_lines}
 use Rattle.list_facts.specs.Lists.{IsAmong}
 use Rattle.list_facts.proofs.AmongLemmas.{all_among, all_from_among}
 use Rattle.revs_tape.specs.Monomials.{AreMonomialsOf}
 use Rattle.revs_tape.proofs.MonomialLemmas.{monomials_are_determined}
-use Rattle.eager_cleanup.specs.Eager.{HasFewGates, IsEagerFault}
+use Rattle.std.proofs.lemmas.List.{length-map}
+use Rattle.sum_graph.specs.Graphs.{SumGraphView}
+use Rattle.sum_graph.specs.Plain.{plain_of, plain_output, plain_sum}
+use Rattle.sum_graph.proofs.PlainLemmas.{same_operands}
+use Rattle.held_nodes.proofs.PlainLemmas.{sum_of_node}
+use Rattle.eager_cleanup.specs.Eager.{HasFewGates, IsEagerFault, ports_of}
 use Rattle.eager_cleanup.specs.inside.Known.{AreFirstValues, HasLargeNode, IsKnownValue, Polynomial, last_use_of, value_at}
 use Rattle.eager_cleanup.specs.inside.Sweeps.{BoundsCleanings, BoundsCuts, HasHeavy, IsSwept, IsUseFault, all_paid, cleaning_gates, gates_in, paid_gates, total}
-use Rattle.eager_cleanup.proofs.CleaningLemmas.{toggle_light}
-use Rattle.eager_cleanup.proofs.CostLemmas.{light_forward}
+use Rattle.eager_cleanup.proofs.CostLemmas.{light_forward, plain_weight}
 use Rattle.eager_cleanup.proofs.HolderLemmas.{held_below}
 use Rattle.eager_cleanup.proofs.KnownLemmas.{operands_earlier}
 use Rattle.eager_cleanup.proofs.SweepLemmas.{held_in_cut, settled_of, value_used}
@@ -132,53 +136,58 @@ paid_more s cost lines count inside =
 
 -- ---- lines
 
+-- the input and output lines of a plain graph are those of the settled one
+pub ports_are : (s : SettledView) (f : ForwardView) → f.graph ≡ plain_of s → first_work f.graph ≡ ports_of s
+ports_are s f graph = ap first_work graph ∙ ap (λ (n : ℕ). s.inputs + n) (length-map s.outputs plain_output)
+
 -- so many work lines are enough for these measures
 pub lines_enough : (s : SettledView) (m : Measures) (work borrowed : ℕ) → IsWithin s m → work ≤ length s.nodes
-    → (¬ HasLargeNode s → (width : ℕ) → BoundsCuts s width → work ≤ width + 1) → first_work s + work + borrowed ≤ eager_lines m borrowed
+    → (¬ HasLargeNode s → (width : ℕ) → BoundsCuts s width → work ≤ width + 1) → ports_of s + work + borrowed ≤ eager_lines m borrowed
 lines_enough s m work borrowed within most few =
-    elim (cases_Bool (list_all is_cleaned m.monomials)) as (λ _. first_work s + work + borrowed ≤ eager_lines m borrowed) [
+    elim (cases_Bool (list_all is_cleaned m.monomials)) as (λ _. ports_of s + work + borrowed ≤ eager_lines m borrowed) [
       | inl all ↦
           let bound = few (all_small s m within all) m.width (record { cuts = within.cuts }) in
           rw all (omega (arith, bound, most, within.inputs, within.outputs, within.steps))
       | inr large ↦ rw large (omega (arith, most, within.inputs, within.outputs, within.steps))
     ]
 
-pub wanted_more : (s : SettledView) (b : BudgetView) → first_work s + b.borrow ≤ b.lines → b.lines + 1 ≡ wanted_lines s b
-wanted_more s b enough = elim (cases_Bool (ltb b.lines (first_work s + b.borrow))) as (λ _. b.lines + 1 ≡ wanted_lines s b) [
-  | inl e ↦ absurd (omega (arith, ltb-true b.lines (first_work s + b.borrow) e, enough))
+pub wanted_more : (s : SettledView) (b : BudgetView) → ports_of s + b.borrow ≤ b.lines → b.lines + 1 ≡ wanted_lines (ports_of s) b
+wanted_more s b enough = elim (cases_Bool (ltb b.lines (ports_of s + b.borrow))) as (λ _. b.lines + 1 ≡ wanted_lines (ports_of s) b) [
+  | inl e ↦ absurd (omega (arith, ltb-true b.lines (ports_of s + b.borrow) e, enough))
   | inr e ↦ rw e refl
 ]
 
-pub wanted_sum : (s : SettledView) (b : BudgetView) → b.lines < first_work s + b.borrow → first_work s + b.borrow ≡ wanted_lines s b
-wanted_sum s b short = elim (cases_Bool (ltb b.lines (first_work s + b.borrow))) as (λ _. first_work s + b.borrow ≡ wanted_lines s b) [
+pub wanted_sum : (s : SettledView) (b : BudgetView) → b.lines < ports_of s + b.borrow → ports_of s + b.borrow ≡ wanted_lines (ports_of s) b
+wanted_sum s b short = elim (cases_Bool (ltb b.lines (ports_of s + b.borrow))) as (λ _. ports_of s + b.borrow ≡ wanted_lines (ports_of s) b) [
   | inl e ↦ rw e refl
-  | inr e ↦ absurd (omega (arith, ltb-false b.lines (first_work s + b.borrow) e, short))
+  | inr e ↦ absurd (omega (arith, ltb-false b.lines (ports_of s + b.borrow) e, short))
 ]
 
 -- ---- faults
 
 -- a beginning that is refused
-pub start_fault : (s : SettledView) (b : BudgetView) (fault : PlanFault) → IsStartFault s b fault → IsEagerFault s b fault
-start_fault s b (Lines need) is = (
+pub start_fault : (s : SettledView) (b : BudgetView) (fault : PlanFault) → IsStartFault (plain_of s) b fault → IsEagerFault s b fault
+start_fault s b (Lines need) is = let long = length-map s.outputs plain_output in (
   record {
     few = λ m within. omega (
       arith,
       is.0,
       is.1,
+      long,
       lines_enough s m 0 b.borrow within (omega arith) (λ none width bounds. omega arith),
     );
   },
-  is.1 ∙ wanted_sum s b (omega (arith, is.0, is.1)),
+  omega (arith, is.1, long) ∙ wanted_sum s b (omega (arith, is.0, is.1, long)),
 )
 start_fault s b Gates is = absurd is
-start_fault s b Memory is = is
+start_fault s b Memory is = omega (arith, is, length-map s.outputs plain_output)
 
 -- what was begun has the lines of the inputs and outputs
-pub has_port_lines : (s : SettledView) (b : BudgetView) (j : ℕ) (used : List Base) (f : ForwardView) → IsSwept s b j used f → HasPortLines s b
+pub has_port_lines : (s : SettledView) (b : BudgetView) (j : ℕ) (used : List Base) (f : ForwardView) → IsSwept s b j used f → HasPortLines (ports_of s) b
 has_port_lines s b j used f is =
     let lines = ap (λ (x : BudgetView). x.lines) is.budget in
     let borrow = ap (λ (x : BudgetView). x.borrow) is.budget in
-    let first = ap first_work is.graph in
+    let first = ports_are s f is.graph in
     omega (arith, is.forward.within, lines, borrow, first)
 
 -- a toggle of the next node that is refused
@@ -186,18 +195,19 @@ pub next_fault : (s : SettledView) (b : BudgetView) (j : ℕ) (f : ForwardView) 
     → IsSwept s b j [] f → j < length s.nodes → IsToggleFault f j fault → IsEagerFault s b fault
 next_fault s b j f (Lines need) is inside fault =
     let budget : f.budget ≡ b = is.budget in
-    let graph : f.graph ≡ s = is.graph in
-    let full : held_count f.lines ≡ work_lines s b =
-    fault.0.full ∙ ap (λ (g : SettledView). work_lines g f.budget) graph ∙ ap (work_lines s) budget in
+    let graph : f.graph ≡ plain_of s = is.graph in
     let lines = ap (λ (x : BudgetView). x.lines) budget in
     let borrow = ap (λ (x : BudgetView). x.borrow) budget in
-    let first = ap first_work graph in
-    let enough : first_work s + b.borrow ≤ b.lines = omega (arith, is.forward.within, lines, borrow, first) in
+    let first = ports_are s f graph in
+    let enough : ports_of s + b.borrow ≤ b.lines = omega (arith, is.forward.within, lines, borrow, first) in
     let below = held_below f.lines j is.behind in (
       record {
         few = λ m within. omega (
           arith,
-          full,
+          fault.0.full,
+          lines,
+          borrow,
+          first,
           enough,
           lines_enough s m (held_count f.lines + 1) b.borrow within (omega (arith, below, inside))
               (λ none width bounds. omega
@@ -209,7 +219,7 @@ next_fault s b j f (Lines need) is inside fault =
 next_fault s b j f Gates is inside fault =
     let gates = ap (λ (x : BudgetView). x.gates) is.budget in
     few_gates s b (gates_in f + 2)
-    (omega (arith, gates, fault.1.heavy, toggle_light fault.1.node, light_forward f is.forward))
+    (omega (arith, gates, fault.1.heavy, plain_weight s f.graph j fault.1.node is.graph fault.1.is, light_forward f is.forward))
     (λ cost bounds. omega (arith, is.gates cost bounds, paid_more s cost f.lines j inside))
 next_fault s b j f Memory is inside fault = has_port_lines s b j [] f is
 
@@ -221,7 +231,7 @@ heavy_fault s b known user base used f values is inside known_base heavy =
     let k : ℕ = heavy.node in
     let low : k < user = subst (IsKnownBase s.inputs user) heavy.is.is known_base in
     let value = value_used s known user k values low heavy.is.last in
-    let inputs : f.graph.inputs ≡ s.inputs = ap (λ (g : SettledView). g.inputs) is.graph in
+    let inputs : f.graph.inputs ≡ s.inputs = ap (λ (g : SumGraphView). g.inputs) is.graph in
     let cost : cleaning_gates f.graph.inputs (value_at known k) ≡ cleaning_gates s.inputs (value_at known k) =
     ap (λ (n : ℕ). cleaning_gates n (value_at known k)) inputs in
     few_gates s b (gates_in f + cleaning_gates s.inputs (value_at known k))
@@ -249,13 +259,13 @@ pub next_ready : (s : SettledView) (b : BudgetView) (j : ℕ) (f : ForwardView) 
 next_ready s b j f is inside =
     let node = got s.nodes j inside in
     let settled = settled_of s b j [] f is in
-    subst (λ (g : SettledView). IsReadyNode g f.lines j) (sym is.graph) (record {
-      node = node.0;
-      is = node.1;
-      ready = all_from_among (IsReadyBase f.lines) (operands node.0)
+    subst (λ (g : SumGraphView). IsReadyNode g f.lines j) (sym is.graph) (record {
+      node = plain_sum node.0;
+      is = sum_of_node s.nodes j node.0 node.1;
+      ready = subst (AllByRecursion (IsReadyBase f.lines)) (sym (same_operands node.0)) (all_from_among (IsReadyBase f.lines) (operands node.0)
           (λ base among. ready base (all_among (IsKnownBase s.inputs j) (operands node.0)
           (operands_earlier s j node.0 settled.nodes node.1) base among)
-          (λ k e. used_here s j k node.0 node.1 (subst (λ (x : Base). IsAmong x (operands node.0)) e among)));
+          (λ k e. used_here s j k node.0 node.1 (subst (λ (x : Base). IsAmong x (operands node.0)) e among))));
     })
   where
     got : (nodes : List Node) (k : ℕ) → k < length nodes → (node : Node) × (slice_get nodes k ≡ Some node)

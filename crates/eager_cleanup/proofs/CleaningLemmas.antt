@@ -6,8 +6,10 @@ use Rattle.std.proofs.Math.Nat.{mul-le-mul_right}
 use Rattle.std.proofs.lemmas.Bool.{true≢false}
 use Rattle.std.proofs.lemmas.List.{get_or-set_same, get_or-set_other}
 use Rattle.std.proofs.lemmas.List.Sums.{sum_by-append}
-use Rattle.dependency_graph.specs.declared.node.Node.{Node}
-use Rattle.dependency_graph.specs.declared.node.Node.TheVariants.{Not, Xor, And}
+use Rattle.claim_check.specs.Settled.{IsSettled, SettledView}
+use Rattle.sum_graph.specs.Graphs.{SumGraphView, node_value}
+use Rattle.sum_graph.specs.Plain.{plain_of}
+use Rattle.sum_graph.proofs.PlainLemmas.{plain_graphs_are_alike}
 use Rattle.exclusive_sums.specs.declared.cube.Literal.{Literal}
 use Rattle.exclusive_sums.specs.Cubes.{IsExclusiveSumOf}
 use Rattle.exclusive_sums.specs.Inputs.{StandsIn}
@@ -15,7 +17,7 @@ use Rattle.gate_split.specs.declared.plan.PlanFault.{PlanFault}
 use Rattle.gate_split.specs.declared.plan.PlanFault.TheVariants.{Lines, Gates, Memory}
 use Rattle.gate_split.specs.Costs.{most_gates}
 use Rattle.held_nodes.specs.Held.{ForwardView, IsForward, first_work, held_count, held_line, is_held}
-use Rattle.held_nodes.specs.Moves.{CanClear, IsCleared, IsClearFault, IsToggled, IsToggleFault, TakesLine, cube_flips, toggle_of, toggle_weight, with_node}
+use Rattle.held_nodes.specs.Moves.{CanClear, IsCleared, IsClearFault, IsToggled, IsToggleFault, TakesLine, cube_flips, toggle_of, with_node}
 use Rattle.held_nodes.proofs.LineLemmas.{count-given, held_within}
 use Rattle.held_nodes.proofs.PlaceLemmas.{held_own}
 use Rattle.list_facts.specs.Bits.{bit_of}
@@ -26,7 +28,7 @@ use Rattle.mct_circuit.specs.Gates.{GateView}
 use Rattle.revs_tape.specs.Monomials.{AreOverInputs}
 use Rattle.eager_cleanup.specs.inside.Known.{IsKnownPolynomial, Polynomial}
 use Rattle.eager_cleanup.specs.inside.Sweeps.{IsCleaned, IsCleaningFault, cleaning_gates, gates_in, paid_gates}
-use Rattle.eager_cleanup.proofs.CostLemmas.{light_cubes, light_forward, most-cubes, most-toggle, most_in}
+use Rattle.eager_cleanup.proofs.CostLemmas.{light_cubes, light_forward, most-cubes, most_in, plain-toggle, plain_weight}
 
 -- ---- what a call gives
 
@@ -66,38 +68,33 @@ taken_own : (lines : List (Option ℕ)) (held : Option ℕ) (own line : ℕ) (af
     → after ≡ None
 taken_own lines held own line after e takes = (subst (λ (x : Option ℕ). TakesLine lines x line after) e takes).1
 
-pub toggled_back : (value : Option Polynomial) (f next : ForwardView) (k : ℕ) → IsForward f → IsForward next → is_held f.lines k ≡ true
+pub toggled_back : (s : SettledView) (value : Option Polynomial) (f next : ForwardView) (k : ℕ) → IsSettled s → f.graph ≡ plain_of s → IsForward f → IsForward next → is_held f.lines k ≡ true
     → IsToggled f k next → IsCleaned value f k next
-toggled_back value f next k is forward held toggled =
+toggled_back s value f next k settled graph is forward held toggled =
     let own = held_own f.lines k held in
     let after : toggled.after ≡ None = taken_own f.lines (held_line f.lines k) own.own toggled.line toggled.after own.is toggled.takes in
     let more : List GateView = toggle_of (first_work f.graph) f.lines toggled.line toggled.node in
     let becomes : next ≡ with_node f k None more = toggled.becomes ∙ ap (λ (x : Option ℕ). with_node f k x more) after in
     given value f next k own.own more is forward own.is becomes
-    (least value (most-toggle (first_work f.graph) f.lines toggled.line toggled.node))
+    (least value (plain-toggle s f.graph k toggled.node settled graph toggled.is (first_work f.graph) f.lines toggled.line))
   where
     least : (v : Option Polynomial) → most_in (toggle_of (first_work f.graph) f.lines toggled.line toggled.node) ≤ 2
         → most_in (toggle_of (first_work f.graph) f.lines toggled.line toggled.node) ≤ cleaning_gates f.graph.inputs v
     least None few = few
     least (Some p) few = omega (arith, few)
 
-pub toggle_light : (node : Node) → toggle_weight node ≤ 2
-toggle_light (Not a) = omega arith
-toggle_light (Xor a b) = omega arith
-toggle_light (And a b) = omega arith
-
 some_cost : (n : ℕ) (value : Option Polynomial) → 2 ≤ cleaning_gates n value
 some_cost n None = omega arith
 some_cost n (Some p) = omega arith
 
-pub toggle_back_fault : (value : Option Polynomial) (f : ForwardView) (k : ℕ) (fault : PlanFault) → IsForward f → is_held f.lines k ≡ true
+pub toggle_back_fault : (s : SettledView) (value : Option Polynomial) (f : ForwardView) (k : ℕ) (fault : PlanFault) → f.graph ≡ plain_of s → IsForward f → is_held f.lines k ≡ true
     → IsToggleFault f k fault → IsCleaningFault value f k fault
-toggle_back_fault value f k (Lines need) is held fault = absurd (true≢false (sym held ∙ fault.0.free))
-toggle_back_fault value f k Gates is held fault = record {
+toggle_back_fault s value f k (Lines need) graph is held fault = absurd (true≢false (sym held ∙ fault.0.free))
+toggle_back_fault s value f k Gates graph is held fault = record {
   held = held;
-  heavy = omega (arith, fault.1.heavy, toggle_light fault.1.node, some_cost f.graph.inputs value, light_forward f is);
+  heavy = omega (arith, fault.1.heavy, plain_weight s f.graph k fault.1.node graph fault.1.is, some_cost f.graph.inputs value, light_forward f is);
 }
-toggle_back_fault value f k Memory is held fault = tt
+toggle_back_fault s value f k Memory graph is held fault = tt
 
 -- ---- by its value
 
@@ -113,40 +110,46 @@ inputs_below n p cubes over stand = AllByRecursion-weaker (AllByRecursion (λ (l
     (λ cube all. AllByRecursion-weaker (λ (l : Literal). StandsIn p l.input) (λ (l : Literal). l.input < n)
     (λ l stands. stands_below n p l.input over stands) cube all) cubes stand
 
-pub can_clear : (f : ForwardView) (k : ℕ) (p : Polynomial) (cubes : List (List Literal)) → IsKnownPolynomial f.graph k p → is_held f.lines k ≡ true
+pub can_clear : (s : SettledView) (f : ForwardView) (k : ℕ) (p : Polynomial) (cubes : List (List Literal)) → f.graph ≡ plain_of s → IsKnownPolynomial s k p → is_held f.lines k ≡ true
     → IsExclusiveSumOf p cubes → CanClear f k cubes
-can_clear f k p cubes known held sum = record {
+can_clear s f k p cubes graph known held sum = record {
   held = held;
-  inputs = inputs_below f.graph.inputs p cubes known.are.over_inputs sum.over_inputs;
-  value = λ input size. sum.values (bit_of input) ∙ known.are.values input size;
+  inputs = subst (λ (g : SumGraphView). AllByRecursion (AllByRecursion (λ (l : Literal). l.input < g.inputs)) cubes) (sym graph)
+      (inputs_below s.inputs p cubes known.are.over_inputs sum.over_inputs);
+  value = λ input size.
+      (let inputs = ap (λ (g : SumGraphView). g.inputs) graph in
+      sum.values (bit_of input) ∙ known.are.values input (size ∙ inputs) ∙ sym ((plain_graphs_are_alike s).nodes input k)
+      ∙ ap (λ (g : SumGraphView). node_value g input k) (sym graph));
 }
 
-cubes_cost : (f : ForwardView) (k first line : ℕ) (p : Polynomial) (cubes : List (List Literal)) → IsKnownPolynomial f.graph k p
+cubes_cost : (s : SettledView) (f : ForwardView) (k first line : ℕ) (p : Polynomial) (cubes : List (List Literal)) → f.graph ≡ plain_of s
+    → IsKnownPolynomial s k p
     → IsExclusiveSumOf p cubes → most_in (cube_flips first line cubes) ≤ cleaning_gates f.graph.inputs (Some p)
-cubes_cost f k first line p cubes known sum =
-    let n : ℕ = f.graph.inputs in
+cubes_cost s f k first line p cubes graph known sum =
+    let n : ℕ = s.inputs in
+    let same : f.graph.inputs ≡ n = ap (λ (g : SumGraphView). g.inputs) graph in
     let most = most-cubes n first line cubes sum.are_cubes (inputs_below n p cubes known.are.over_inputs sum.over_inputs) in
     let all : length cubes * (10 * n + 1) ≤ length p * (10 * n + 1) = mul-le-mul_right (10 * n + 1) sum.few in
-    omega (arith, most, all)
+    rw same (omega (arith, most, all))
 
-pub cleared : (f next : ForwardView) (k : ℕ) (p : Polynomial) (cubes : List (List Literal)) → IsForward f → IsForward next
-    → IsKnownPolynomial f.graph k p → IsExclusiveSumOf p cubes → IsCleared f k cubes next → IsCleaned (Some p) f k next
-cleared f next k p cubes is forward known sum clear =
+pub cleared : (s : SettledView) (f next : ForwardView) (k : ℕ) (p : Polynomial) (cubes : List (List Literal)) → f.graph ≡ plain_of s → IsForward f
+    → IsForward next → IsKnownPolynomial s k p → IsExclusiveSumOf p cubes → IsCleared f k cubes next → IsCleaned (Some p) f k next
+cleared s f next k p cubes graph is forward known sum clear =
     given (Some p) f next k clear.line (cube_flips (first_work f.graph) clear.line cubes) is forward clear.is clear.becomes
-    (cubes_cost f k (first_work f.graph) clear.line p cubes known sum)
+    (cubes_cost s f k (first_work f.graph) clear.line p cubes graph known sum)
 
-pub clear_fault : (f : ForwardView) (k : ℕ) (p : Polynomial) (cubes : List (List Literal)) (fault : PlanFault) → IsForward f
-    → is_held f.lines k ≡ true → IsKnownPolynomial f.graph k p → IsExclusiveSumOf p cubes → IsClearFault f k cubes fault
+pub clear_fault : (s : SettledView) (f : ForwardView) (k : ℕ) (p : Polynomial) (cubes : List (List Literal)) (fault : PlanFault) → f.graph ≡ plain_of s
+    → IsForward f → is_held f.lines k ≡ true → IsKnownPolynomial s k p → IsExclusiveSumOf p cubes → IsClearFault f k cubes fault
     → IsCleaningFault (Some p) f k fault
-clear_fault f k p cubes (Lines need) is held known sum fault = fault
-clear_fault f k p cubes Gates is held known sum fault = record {
+clear_fault s f k p cubes (Lines need) graph is held known sum fault = fault
+clear_fault s f k p cubes Gates graph is held known sum fault = record {
   held = held;
   heavy = omega (
     arith,
     fault.heavy,
     light_forward f is,
     light_cubes (first_work f.graph) fault.line cubes,
-    cubes_cost f k (first_work f.graph) fault.line p cubes known sum,
+    cubes_cost s f k (first_work f.graph) fault.line p cubes graph known sum,
   );
 }
-clear_fault f k p cubes Memory is held known sum fault = tt
+clear_fault s f k p cubes Memory graph is held known sum fault = tt

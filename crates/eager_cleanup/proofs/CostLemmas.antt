@@ -8,12 +8,20 @@ use Rattle.dependency_graph.specs.declared.node.Node.{Node}
 use Rattle.dependency_graph.specs.declared.node.Node.TheVariants.{Not, Xor, And}
 use Rattle.dependency_graph.specs.declared.node.Sig.{Sig}
 use Rattle.dependency_graph.specs.declared.node.Sig.TheVariants.{Const, Is}
+use Rattle.std.proofs.Common.{Some, slice_get, sym, subst, ◌∙◌}
+use Rattle.bit_sums.specs.Sums.{SumView}
+use Rattle.claim_check.specs.Settled.{IsSettled, SettledView}
+use Rattle.claim_check.proofs.NodeLemmas.{known_at}
+use Rattle.sum_graph.specs.Graphs.{SumGraphView}
+use Rattle.sum_graph.specs.Plain.{plain_of, plain_output, plain_sum}
+use Rattle.sum_toggles.specs.Toggles.{base_line, sum_gates, toggle_weight}
+use Rattle.held_nodes.proofs.PlainLemmas.{node_gates, plain_node, plain_toggle}
 use Rattle.exclusive_sums.specs.declared.cube.Literal.{Literal}
 use Rattle.exclusive_sums.specs.Cubes.{IsCube, input_of}
 use Rattle.gate_split.specs.Costs.{IsRoomyFlip, most_gates}
 use Rattle.gate_split.proofs.RoomyFlipLemmas.{roomy_flips}
 use Rattle.held_nodes.specs.Held.{ForwardView, IsForward}
-use Rattle.held_nodes.specs.Moves.{control_of, copies_from, copy_of, cube_flip, cube_flips, toggle_of, weight_in}
+use Rattle.held_nodes.specs.Moves.{control_of, copies_from, cube_flip, cube_flips, toggle_of, weight_in}
 use Rattle.list_facts.specs.Lists.{IsRising}
 use Rattle.list_facts.proofs.AllLemmas.{AllByRecursion-weaker}
 use Rattle.mct_circuit.specs.declared.gate.Control.{Control}
@@ -55,10 +63,30 @@ light_cubes first line (cube ∷ cubes) = omega (
 
 -- ---- a toggle
 
-pub most-toggle : (first : ℕ) (lines : List (Option ℕ)) (line : ℕ) (node : Node) → most_in (toggle_of first lines line node) ≤ 2
-most-toggle first lines line (Not a) = omega arith
-most-toggle first lines line (Xor a b) = omega arith
-most-toggle first lines line (And a b) = omega arith
+most-node : (first : ℕ) (lines : List (Option ℕ)) (line : ℕ) (node : Node) → most_in (node_gates first lines line node) ≤ 2
+most-node first lines line (Not a) = omega arith
+most-node first lines line (Xor a b) = omega arith
+most-node first lines line (And a b) = omega arith
+
+node_weight : (node : Node) → toggle_weight (plain_sum node) ≤ 2
+node_weight (Not a) = omega arith
+node_weight (Xor a b) = omega arith
+node_weight (And a b) = omega arith
+
+-- the gates of a toggle over a plain graph are split into two at most
+pub plain-toggle : (s : SettledView) (g : SumGraphView) (k : ℕ) (sum : SumView) → IsSettled s → g ≡ plain_of s → slice_get g.nodes k ≡ Some sum
+    → (first : ℕ) (lines : List (Option ℕ)) (line : ℕ) → most_in (toggle_of first lines line sum) ≤ 2
+plain-toggle s g k sum settled e is first lines line =
+    let node = plain_node s.nodes k sum (subst (λ (h : SumGraphView). slice_get h.nodes k ≡ Some sum) e is) in
+    let known = known_at s.inputs k s.nodes node.node settled.nodes node.is in
+    let gates : toggle_of first lines line sum ≡ node_gates first lines line node.node =
+    ap (toggle_of first lines line) node.plain ∙ plain_toggle s.inputs k first lines line node.node known in
+    subst (λ (gs : List GateView). most_in gs ≤ 2) (sym gates) (most-node first lines line node.node)
+
+pub plain_weight : (s : SettledView) (g : SumGraphView) (k : ℕ) (sum : SumView) → g ≡ plain_of s → slice_get g.nodes k ≡ Some sum → toggle_weight sum ≤ 2
+plain_weight s g k sum e is =
+    let node = plain_node s.nodes k sum (subst (λ (h : SumGraphView). slice_get h.nodes k ≡ Some sum) e is) in
+    subst (λ (x : SumView). toggle_weight x ≤ 2) (sym node.plain) (node_weight node.node)
 
 -- ---- cubes
 
@@ -94,33 +122,30 @@ most-cubes n first line (cube ∷ cubes) up low =
 
 -- ---- copies, and gates reversed
 
-most-copy : (first : ℕ) (lines : List (Option ℕ)) (target : ℕ) (sig : Sig) → most_in (copy_of first lines target sig) ≤ 1
+most-copy : (first : ℕ) (lines : List (Option ℕ)) (target : ℕ) (sig : Sig) → most_in (sum_gates (base_line first lines) target (plain_output sig)) ≤ 1
 most-copy first lines target (Const true) = omega arith
 most-copy first lines target (Const false) = omega arith
 most-copy first lines target (Is base) = omega arith
 
-pub most-copies : (first : ℕ) (lines : List (Option ℕ)) (target : ℕ) (sigs : List Sig) → most_in (copies_from first lines target sigs) ≤ length sigs
+pub most-copies : (first : ℕ) (lines : List (Option ℕ)) (target : ℕ) (sigs : List Sig)
+    → most_in (copies_from first lines target (map plain_output sigs)) ≤ length sigs
 most-copies first lines target [] = omega arith
 most-copies first lines target (x ∷ xs) = omega (
   arith,
-  sum_by-append most_gates (copy_of first lines target x) (copies_from first lines (target + 1) xs),
+  sum_by-append most_gates (sum_gates (base_line first lines) target (plain_output x)) (copies_from first lines (target + 1) (map plain_output xs)),
   most-copy first lines target x,
   most-copies first lines (target + 1) xs,
 )
 
-weight-copy : (first : ℕ) (lines : List (Option ℕ)) (target : ℕ) (sig : Sig) → weight_in (copy_of first lines target sig) ≤ 1
-weight-copy first lines target (Const true) = omega arith
-weight-copy first lines target (Const false) = omega arith
-weight-copy first lines target (Is base) = omega arith
+weight-copy : (sig : Sig) → toggle_weight (plain_output sig) ≤ 1
+weight-copy (Const true) = omega arith
+weight-copy (Const false) = omega arith
+weight-copy (Is base) = omega arith
 
-pub weight-copies-le : (first : ℕ) (lines : List (Option ℕ)) (target : ℕ) (sigs : List Sig) → weight_in (copies_from first lines target sigs) ≤ length sigs
-weight-copies-le first lines target [] = omega arith
-weight-copies-le first lines target (x ∷ xs) = omega (
-  arith,
-  sum_by-append weight_of (copy_of first lines target x) (copies_from first lines (target + 1) xs),
-  weight-copy first lines target x,
-  weight-copies-le first lines (target + 1) xs,
-)
+pub weight-copies-le : (sigs : List Sig) → sum_by toggle_weight (map plain_output sigs) ≤ length sigs
+weight-copies-le [] = omega arith
+weight-copies-le (x ∷ xs) =
+    omega (arith, sum_by-append toggle_weight (plain_output x ∷ []) (map plain_output xs), weight-copy x, weight-copies-le xs)
 
 most-reverse : (gates : List GateView) → most_in (reverse gates) ≡ most_in gates
 most-reverse [] = refl

@@ -1,10 +1,14 @@
 -- The beginning and the end of the eager plan.
-use Rattle.std.proofs.Common.{◌≡◌, ℕ, zero, suc, ◌+◌, ◌*◌, ◌≤◌, false, [], length, replicate, Option, None, is_some, refl, sym, ap, ◌∙◌, subst, arith}
+use Rattle.std.proofs.Common.{◌≡◌, ℕ, zero, suc, ◌+◌, ◌*◌, ◌≤◌, false, List, [], ◌∷◌, inl, inr, length, map, sum_by, replicate, Option, None, is_some, refl, sym, ap, ◌∙◌, subst, arith}
 use Rattle.std.specs.List.{AllByRecursion}
 use Rattle.std.proofs.lemmas.Bool.{true≢false}
 use Rattle.claim_check.specs.Budgets.{Measures, eager_gates}
 use Rattle.claim_check.specs.Measures.{IsWithin}
 use Rattle.claim_check.specs.Settled.{SettledView, IsSettled}
+use Rattle.std.proofs.lemmas.List.{length-map}
+use Rattle.sum_graph.specs.Graphs.{SumGraphView}
+use Rattle.sum_graph.specs.Plain.{plain_of, plain_output, plain_sum}
+use Rattle.sum_toggles.specs.Toggles.{toggle_weight}
 use Rattle.dependency_graph.specs.declared.node.Base.TheVariants as bases
 use Rattle.dependency_graph.specs.declared.node.Sig.{Sig}
 use Rattle.dependency_graph.specs.declared.node.Sig.TheVariants.{Const, Is}
@@ -13,14 +17,12 @@ use Rattle.gate_split.specs.declared.plan.PlanFault.{PlanFault}
 use Rattle.gate_split.specs.declared.plan.PlanFault.TheVariants.{Lines, Gates, Memory}
 use Rattle.gate_split.specs.Plans.{BudgetView, PlannedView}
 use Rattle.held_nodes.specs.Held.{ForwardView, IsForward, first_work, held_line, is_held}
-use Rattle.held_nodes.specs.Moves.{IsFinishFault, IsReadySig, copies_of, nothing_held, planned_of}
+use Rattle.held_nodes.specs.Moves.{IsFinishFault, IsReadySum, copies_from, copies_of, nothing_held, planned_of}
 use Rattle.list_facts.specs.Lists.{IsAmong}
-use Rattle.list_facts.proofs.AmongLemmas.{all_among, all_from_among}
 use Rattle.eager_cleanup.specs.Eager.{IsEagerFault, IsWithinEager}
 use Rattle.eager_cleanup.specs.inside.Sweeps.{IsSwept, gates_in}
-use Rattle.eager_cleanup.proofs.BoundLemmas.{cost_in, costs_bound, has_port_lines, lines_enough, paid_all, total_within}
-use Rattle.eager_cleanup.proofs.CostLemmas.{light_forward, most-copies, most-finished, weight-copies-le}
-use Rattle.eager_cleanup.proofs.SweepLemmas.{settled_of}
+use Rattle.eager_cleanup.proofs.BoundLemmas.{cost_in, costs_bound, has_port_lines, lines_enough, paid_all, ports_are, total_within}
+use Rattle.eager_cleanup.proofs.CostLemmas.{light_forward, most-copies, most-finished, most_in, weight-copies-le}
 use Rattle.eager_cleanup.proofs.UserLemmas.{output_last}
 
 -- ---- the beginning
@@ -33,9 +35,10 @@ no_line (suc n) (suc k) = no_line n k
 none_held : (n k : ℕ) → is_held (replicate n None) k ≡ false
 none_held n k = ap (λ (x : Option ℕ). is_some x) (no_line n k)
 
-begun_here : (s : SettledView) (b : BudgetView) → IsForward (nothing_held s b (replicate (length s.nodes) None))
-    → IsSwept s b 0 [] (nothing_held s b (replicate (length s.nodes) None))
-begun_here s b forward = record {
+begun_here : (s : SettledView) (b : BudgetView) → IsSettled s → IsForward (nothing_held (plain_of s) b (replicate (length s.nodes) None))
+    → IsSwept s b 0 [] (nothing_held (plain_of s) b (replicate (length s.nodes) None))
+begun_here s b settled forward = record {
+  settled = settled;
   forward = forward;
   graph = refl;
   budget = refl;
@@ -47,44 +50,66 @@ begun_here s b forward = record {
   gates = λ cost bounds. omega arith;
 }
 
-pub begun : (s : SettledView) (b : BudgetView) (f : ForwardView)
-    → f ≡ nothing_held s b (replicate (length s.nodes) None) → IsForward f → IsSwept s b 0 [] f
-begun s b f e is = subst (IsSwept s b 0 []) (sym e) (begun_here s b (subst IsForward e is))
+pub begun : (s : SettledView) (g : SumGraphView) (b : BudgetView) (f : ForwardView) → IsSettled s → g ≡ plain_of s
+    → f ≡ nothing_held g b (replicate (length g.nodes) None) → IsForward f → IsSwept s b 0 [] f
+begun s g b f settled plain e is =
+    let start : f ≡ nothing_held (plain_of s) b (replicate (length s.nodes) None) =
+    e ∙ ap (λ (h : SumGraphView). nothing_held h b (replicate (length h.nodes) None)) plain
+    ∙ ap (λ (n : ℕ). nothing_held (plain_of s) b (replicate n None)) (length-map s.nodes plain_sum) in
+    subst (IsSwept s b 0 []) (sym start) (begun_here s b settled (subst IsForward start is))
 
 -- ---- the end
 
 -- the outputs are constants, inputs, or held
 pub outputs_ready : (s : SettledView) (b : BudgetView) (f : ForwardView)
-    → IsSwept s b (length s.nodes) [] f → AllByRecursion (IsReadySig f.lines) f.graph.outputs
+    → IsSwept s b (length s.nodes) [] f → AllByRecursion (IsReadySum f.lines) f.graph.outputs
 outputs_ready s b f is =
-    let settled : IsSettled s = settled_of s b (length s.nodes) [] f is in
-    subst (λ (g : SettledView). AllByRecursion (IsReadySig f.lines) g.outputs) (sym is.graph)
-    (all_from_among (IsReadySig f.lines) s.outputs
-    (λ sig among. ready sig (all_among (IsKnownSig s.inputs (length s.nodes)) s.outputs settled.outputs sig among) among))
+    subst (λ (g : SumGraphView). AllByRecursion (IsReadySum f.lines) g.outputs) (sym is.graph) (all_ready s.outputs is.settled.outputs (λ sig among. among))
   where
-    ready : (sig : Sig) → IsKnownSig s.inputs (length s.nodes) sig → IsAmong sig s.outputs → IsReadySig f.lines sig
+    ready : (sig : Sig) → IsKnownSig s.inputs (length s.nodes) sig → IsAmong sig s.outputs → IsReadySum f.lines (plain_output sig)
     ready (Const bit) known among = tt
-    ready (Is (bases.Input i)) known among = tt
-    ready (Is (bases.Node k)) low among = is.needed k low (omega (arith, output_last s k among))
+    ready (Is (bases.Input i)) known among = (tt, tt)
+    ready (Is (bases.Node k)) low among = (is.needed k low (omega (arith, output_last s k among)), tt)
+
+    all_ready : (sigs : List Sig) → AllByRecursion (IsKnownSig s.inputs (length s.nodes)) sigs → ((sig : Sig) → IsAmong sig sigs → IsAmong sig s.outputs)
+        → AllByRecursion (IsReadySum f.lines) (map plain_output sigs)
+    all_ready [] known among = tt
+    all_ready (x ∷ xs) known among =
+        (ready x known.0 (among x (inl refl)), all_ready xs known.1 (λ sig later. among sig (inr later)))
 
 gates_enough : (s : SettledView) (b : BudgetView) (f : ForwardView) (m : Measures)
     → IsSwept s b (length s.nodes) [] f → IsWithin s m → 2 * gates_in f + length f.graph.outputs ≤ eager_gates m
 gates_enough s b f m is within =
-    let outputs = ap (λ (g : SettledView). length g.outputs) is.graph in
+    let outputs = ap (λ (g : SumGraphView). length g.outputs) is.graph ∙ length-map s.outputs plain_output in
     let cost : ℕ → ℕ = cost_in s m within in
     let paid = is.gates cost (costs_bound s m within) in
     omega (arith, outputs, within.outputs, paid, paid_all s cost f.lines (length s.nodes) (omega arith), total_within s m within)
+
+copies_few : (s : SettledView) (b : BudgetView) (f : ForwardView) → IsSwept s b (length s.nodes) [] f
+    → most_in (copies_of f) ≤ length f.graph.outputs
+copies_few s b f is =
+    let outputs = ap (λ (g : SumGraphView). length g.outputs) is.graph ∙ length-map s.outputs plain_output in
+    let same : copies_of f ≡ copies_from (first_work f.graph) f.lines f.graph.inputs (map plain_output s.outputs) =
+    ap (λ (g : SumGraphView). copies_from (first_work f.graph) f.lines f.graph.inputs g.outputs) is.graph in
+    omega (arith, outputs, ap most_in same, most-copies (first_work f.graph) f.lines f.graph.inputs s.outputs)
+
+copies_light : (s : SettledView) (b : BudgetView) (f : ForwardView) → IsSwept s b (length s.nodes) [] f
+    → sum_by toggle_weight f.graph.outputs ≤ length f.graph.outputs
+copies_light s b f is =
+    let outputs = ap (λ (g : SumGraphView). length g.outputs) is.graph ∙ length-map s.outputs plain_output in
+    let same = ap (λ (g : SumGraphView). sum_by toggle_weight g.outputs) is.graph in
+    omega (arith, outputs, same, weight-copies-le s.outputs)
 
 planned_within : (s : SettledView) (b : BudgetView) (f : ForwardView)
     → IsSwept s b (length s.nodes) [] f → IsWithinEager s (planned_of f)
 planned_within s b f is = record {
   few_lines = λ m within.
-      let first = ap first_work is.graph in
+      let first = ports_are s f is.graph in
       omega (arith, first, lines_enough s m f.most 0 within is.most is.few);
   few_gates = λ m within. omega (
     arith,
     most-finished f.gates (copies_of f),
-    most-copies (first_work f.graph) f.lines f.graph.inputs f.graph.outputs,
+    copies_few s b f is,
     gates_enough s b f m is within,
   );
 }
@@ -102,7 +127,7 @@ finish_fault s b f Gates is fault = record {
     fault,
     ap (λ (x : BudgetView). x.gates) is.budget,
     light_forward f is.forward,
-    weight-copies-le (first_work f.graph) f.lines f.graph.inputs f.graph.outputs,
+    copies_light s b f is,
     gates_enough s b f m is within,
   );
 }

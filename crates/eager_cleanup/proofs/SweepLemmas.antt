@@ -23,10 +23,19 @@ use Rattle.list_facts.specs.Lists.{IsAmong}
 use Rattle.mct_circuit.specs.Gates.{GateView}
 use Rattle.eager_cleanup.specs.inside.Known.{AreFirstValues, HasLargeNode, IsKnownValue, Polynomial, last_use_of, value_at}
 use Rattle.eager_cleanup.specs.inside.Sweeps.{CanClean, IsCleaned, IsLastUse, IsMade, IsSwept, IsUsed, IsWaiting, cleaning_gates, gates_in, paid_gates, total}
-use Rattle.eager_cleanup.proofs.CostLemmas.{most-toggle, most_in}
+use Rattle.eager_cleanup.proofs.CostLemmas.{plain-toggle, most_in}
 use Rattle.eager_cleanup.proofs.HolderLemmas.{held_among, held_below}
-use Rattle.eager_cleanup.proofs.KnownLemmas.{operands_earlier}
+use Rattle.eager_cleanup.proofs.KnownLemmas.{operands_earlier, operands_inside}
 use Rattle.eager_cleanup.proofs.TotalLemmas.{total_changed, total_same}
+use Rattle.std.proofs.lemmas.List.{length-map}
+use Rattle.sum_graph.specs.Graphs.{SumGraphView}
+use Rattle.sum_graph.specs.Plain.{plain_of, plain_sum}
+use Rattle.held_nodes.proofs.PlainLemmas.{IsPlainNode, plain_node, sum_of_node}
+use Rattle.sum_graph.proofs.PlainLemmas.{same_operands}
+use Rattle.std.proofs.lemmas.Bool.{and_parts}
+use Rattle.std.specs.List.{AllByRecursion, list_all}
+use Rattle.eager_cleanup.specs.inside.Sweeps.{are_ready, is_ready}
+use Rattle.held_nodes.specs.Moves.{IsReadyBase, IsReadyNode}
 use Rattle.eager_cleanup.proofs.UserLemmas.{no_node, same_node, user_of}
 
 -- ---- known values
@@ -42,7 +51,7 @@ value_used s known user k values low last = values.each k low (omega (arith, las
 
 pub settled_of : (s : SettledView) (b : BudgetView) (count : ℕ) (used : List Base) (f : ForwardView)
     → IsSwept s b count used f → IsSettled s
-settled_of s b count used f is = subst IsSettled is.graph is.forward.settled
+settled_of s b count used f is = is.settled
 
 -- ---- the cleaning of an operand
 
@@ -50,6 +59,7 @@ settled_of s b count used f is = subst IsSettled is.graph is.forward.settled
 not_last : (s : SettledView) (b : BudgetView) (user : ℕ) (base : Base) (rest : List Base) (f : ForwardView)
     → IsSwept s b (user + 1) (base ∷ rest) f → ((k : ℕ) → ¬ IsLastUse s user base k) → IsSwept s b (user + 1) rest f
 not_last s b user base rest f is unused = record {
+  settled = is.settled;
   forward = is.forward;
   graph = is.graph;
   budget = is.budget;
@@ -71,6 +81,7 @@ last_cleaned : (s : SettledView) (b : BudgetView) (known : List (Option Polynomi
     → AreFirstValues s user known → IsSwept s b (user + 1) (base ∷ rest) f → user < length s.nodes → k < user → IsLastUse s user base k
     → IsCleaned (value_at known k) f k next → IsSwept s b (user + 1) rest next
 last_cleaned s b known user k base rest f next values is inside low last clean = record {
+  settled = is.settled;
   forward = clean.forward;
   graph = clean.graph ∙ is.graph;
   budget = clean.budget ∙ is.budget;
@@ -83,7 +94,7 @@ last_cleaned s b known user k base rest f next values is inside low last clean =
   most = omega (arith, clean.most, is.most);
   few = λ none width bounds. omega (arith, clean.most, is.few none width bounds);
   gates = λ cost bounds.
-      let inputs : f.graph.inputs ≡ s.inputs = ap (λ (g : SettledView). g.inputs) is.graph in
+      let inputs : f.graph.inputs ≡ s.inputs = ap (λ (g : SumGraphView). g.inputs) is.graph in
       let within : cleaning_gates f.graph.inputs (value_at known k) ≤ cost k =
       rw inputs (bounds.each k (value_at known k) (omega (arith, low, inside)) value) in
       let changed = total_changed (λ i. paid_gates (cost i) f.lines i) (λ i. paid_gates (cost i) next.lines i) (user + 1) k (omega (arith, low))
@@ -151,9 +162,10 @@ taken_new lines held line after e takes = (subst (λ (x : Option ℕ). TakesLine
 pub swept_toggled : (s : SettledView) (b : BudgetView) (j : ℕ) (f next : ForwardView)
     → IsSwept s b j [] f → j < length s.nodes → IsForward next → IsToggled f j next → IsMade s b j next
 swept_toggled s b j f next is inside forward toggled = record {
-  node = toggled.node;
-  is = node_is;
+  node = plain.node;
+  is = plain.is;
   swept = record {
+    settled = is.settled;
     forward = forward;
     graph = ap (λ (g : ForwardView). g.graph) becomes ∙ is.graph;
     budget = ap (λ (g : ForwardView). g.budget) becomes ∙ is.budget;
@@ -162,7 +174,7 @@ swept_toggled s b j f next is inside forward toggled = record {
       | inl e ↦ ap (is_held next.lines) e ∙ held_now
       | inr ne ↦ (let other : k ≢ j = ne in held_same k ne ∙ is.needed k (omega (arith, low, other)) (omega (arith, later)))
     ];
-    cleaned = λ none k held early. elim (cases_eq k j) as (λ _. IsWaiting s (j + 1) (operands toggled.node) k) [
+    cleaned = λ none k held early. elim (cases_eq k j) as (λ _. IsWaiting s (j + 1) (operands plain.node) k) [
       | inl e ↦ absurd (omega (arith, early, ap (last_use_of s) e, (settled_of s b j [] f is).used j inside))
       | inr ne ↦ waits none k ne (sym (held_same k ne) ∙ held) early
     ];
@@ -182,7 +194,7 @@ swept_toggled s b j f next is inside forward toggled = record {
         let now : paid_gates (cost j) next.lines j ≡ 2 = rw held_now refl in
         let next_count : j + 1 ≡ suc j = omega arith in
         let all = ap (total (λ k. paid_gates (cost k) next.lines k)) next_count in
-        omega (arith, is.gates cost bounds, before, now, all, gates_are, most-toggle (first_work f.graph) f.lines toggled.line toggled.node);
+        omega (arith, is.gates cost bounds, before, now, all, gates_are, few_gates);
   };
 }
   where
@@ -200,10 +212,13 @@ swept_toggled s b j f next is inside forward toggled = record {
     lines_are = ap (λ (g : ForwardView). g.lines) becomes
 
     low : j < length f.lines
-    low = omega (arith, is.forward.nodes, ap (λ (g : SettledView). length g.nodes) is.graph, inside)
+    low = omega (arith, is.forward.nodes, ap (λ (g : SumGraphView). length g.nodes) is.graph, length-map s.nodes plain_sum, inside)
 
-    node_is : slice_get s.nodes j ≡ Some toggled.node
-    node_is = subst (λ (g : SettledView). slice_get g.nodes j ≡ Some toggled.node) is.graph toggled.is
+    plain : IsPlainNode s.nodes j toggled.node
+    plain = plain_node s.nodes j toggled.node (subst (λ (g : SumGraphView). slice_get g.nodes j ≡ Some toggled.node) is.graph toggled.is)
+
+    few_gates : most_in (toggle_of (first_work f.graph) f.lines toggled.line toggled.node) ≤ 2
+    few_gates = plain-toggle s f.graph j toggled.node is.settled is.graph toggled.is (first_work f.graph) f.lines toggled.line
 
     held_same : (k : ℕ) → k ≢ j → is_held next.lines k ≡ is_held f.lines k
     held_same k ne = ap (λ (ls : List (Option ℕ)). is_held ls k) lines_are
@@ -222,14 +237,14 @@ swept_toggled s b j f next is inside forward toggled = record {
     gates_are : gates_in next ≡ gates_in f + most_in (toggle_of (first_work f.graph) f.lines toggled.line toggled.node)
     gates_are = ap gates_in becomes ∙ sum_by-append most_gates f.gates (toggle_of (first_work f.graph) f.lines toggled.line toggled.node)
 
-    waits : ¬ HasLargeNode s → (k : ℕ) → k ≢ j → is_held f.lines k ≡ true → last_use_of s k < j + 1 → IsWaiting s (j + 1) (operands toggled.node) k
-    waits none k ne held early = elim (cases_lt k j) as (λ _. IsWaiting s (j + 1) (operands toggled.node) k) [
+    waits : ¬ HasLargeNode s → (k : ℕ) → k ≢ j → is_held f.lines k ≡ true → last_use_of s k < j + 1 → IsWaiting s (j + 1) (operands plain.node) k
+    waits none k ne held early = elim (cases_lt k j) as (λ _. IsWaiting s (j + 1) (operands plain.node) k) [
       | inr late ↦ absurd (true≢false (sym held ∙ is.behind k late))
-      | inl before ↦ elim (cases_lt (last_use_of s k) j) as (λ _. IsWaiting s (j + 1) (operands toggled.node) k) [
+      | inl before ↦ elim (cases_lt (last_use_of s k) j) as (λ _. IsWaiting s (j + 1) (operands plain.node) k) [
         | inl past ↦ absurd (is.cleaned none k held past).among
         | inr here ↦
             let last : last_use_of s k ≡ j = omega (arith, here, early) in
-            record { last = omega (arith, last); among = user_of s j k toggled.node node_is before last }
+            record { last = omega (arith, last); among = user_of s j k plain.node plain.is before last }
       ]
     ]
 
@@ -250,6 +265,7 @@ can_clean s b user node f made is =
 swept_turned : (s : SettledView) (b : BudgetView) (count : ℕ) (x y : Base) (f : ForwardView) → IsSwept s b count (x ∷ y ∷ []) f
     → IsSwept s b count (y ∷ x ∷ []) f
 swept_turned s b count x y f is = record {
+  settled = is.settled;
   forward = is.forward;
   graph = is.graph;
   budget = is.budget;
@@ -276,3 +292,27 @@ in_turn s b user false x y f can = can
 pub can_turned : (s : SettledView) (b : BudgetView) (user : ℕ) (turned : Bool) (x y first second : Base) (f : ForwardView)
     → first ≡ cond turned y x → second ≡ cond turned x y → CanClean s b user (x ∷ y ∷ []) f → CanClean s b user (first ∷ second ∷ []) f
 can_turned s b user turned x y first second f is also can = rw (is, also) (in_turn s b user turned x y f can)
+
+-- ---- the operands of a node of the plain graph
+
+pub operands_in_plain : (s : SettledView) (g : SumGraphView) (k : ℕ) (node : Node) → IsSettled s → g ≡ plain_of s → slice_get s.nodes k ≡ Some node
+    → AllByRecursion (IsKnownBase g.inputs (length g.nodes)) (operands node)
+operands_in_plain s g k node settled e is =
+    subst (λ (h : SumGraphView). AllByRecursion (IsKnownBase h.inputs (length h.nodes)) (operands node)) (sym e)
+    (subst (λ (n : ℕ). AllByRecursion (IsKnownBase s.inputs n) (operands node)) (sym (length-map s.nodes plain_sum))
+    (operands_inside s k node settled.nodes is))
+
+ready_bases : (lines : List (Option ℕ)) (bs : List Base) → list_all (is_ready lines) bs ≡ true → AllByRecursion (IsReadyBase lines) bs
+ready_bases lines [] all = tt
+ready_bases lines (bases.Input i ∷ bs) all = (tt, ready_bases lines bs all)
+ready_bases lines (bases.Node k ∷ bs) all =
+    let parts = and_parts (is_held lines k) (list_all (is_ready lines) bs) all in (parts.0, ready_bases lines bs parts.1)
+
+pub ready_plain : (s : SettledView) (g : SumGraphView) (lines : List (Option ℕ)) (k : ℕ) (node : Node) → g ≡ plain_of s → slice_get s.nodes k ≡ Some node
+    → are_ready lines node ≡ true → IsReadyNode g lines k
+ready_plain s g lines k node e is all =
+    subst (λ (h : SumGraphView). IsReadyNode h lines k) (sym e) (record {
+      node = plain_sum node;
+      is = sum_of_node s.nodes k node is;
+      ready = subst (AllByRecursion (IsReadyBase lines)) (sym (same_operands node)) (ready_bases lines (operands node) all);
+    })

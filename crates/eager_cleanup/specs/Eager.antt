@@ -1,5 +1,5 @@
 -- What the eager plan needs: no more than the eager numbers.
-use Rattle.std.specs.Prelude.{◌≡◌, ℕ, ◌<◌, ◌≤◌, sum_by}
+use Rattle.std.specs.Prelude.{◌≡◌, ℕ, ◌+◌, ◌<◌, ◌≤◌, length, sum_by}
 use Rattle.claim_check.specs.Budgets.{Measures, eager_lines, eager_gates}
 use Rattle.claim_check.specs.Measures.{IsWithin}
 use Rattle.claim_check.specs.Settled.{SettledView}
@@ -8,6 +8,10 @@ use Rattle.gate_split.specs.declared.plan.PlanFault.TheVariants.{Lines, Gates, M
 use Rattle.gate_split.specs.Costs.{most_gates}
 use Rattle.gate_split.specs.Plans.{BudgetView, PlannedView}
 use Rattle.held_nodes.specs.Plans.{HasPortLines, wanted_lines}
+
+-- how many inputs and outputs it has
+abbrev pub ports_of : SettledView → ℕ
+ports_of s = s.inputs + length s.outputs
 
 -- so many lines, of which some are borrowed, and gates are within the eager numbers of all measures within which the
 -- settled graph is
@@ -29,6 +33,6 @@ pub record HasFewGates (s : SettledView) (b : BudgetView) : Type 0 where
 
 -- why there is no eager plan; memory is wanted only where the budget has the lines of the inputs and outputs
 abbrev pub IsEagerFault : SettledView → BudgetView → PlanFault → Type 0
-IsEagerFault s b (Lines need) = HasFewLines s b × (need ≡ wanted_lines s b)
+IsEagerFault s b (Lines need) = HasFewLines s b × (need ≡ wanted_lines (ports_of s) b)
 IsEagerFault s b Gates = HasFewGates s b
-IsEagerFault s b Memory = HasPortLines s b
+IsEagerFault s b Memory = HasPortLines (ports_of s) b

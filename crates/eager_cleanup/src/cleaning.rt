@@ -9,6 +9,8 @@ ghost use Rattle.eager_cleanup.specs.inside.Sweeps.{CanClean, IsCleaned, IsClean
 ghost use Rattle.eager_cleanup.specs.inside.Sweeps.{IsSwept, IsUsed, IsUseFault, are_ready};
 ghost use Rattle.eager_cleanup.specs.inside.Sweeps.{is_earlier, is_ready};
 ghost use Rattle.held_nodes.specs.Held.{IsForward, is_held};
+ghost use Rattle.claim_check.specs.Settled.{IsSettled};
+ghost use Rattle.sum_graph.specs.Plain.{plain_of};
 
 use claim_check::Settled;
 use dependency_graph::{Base, Node};
@@ -86,7 +88,8 @@ fn clean_used<'s>(
     user: u32,
 ) -> Result<Forward<'s>, PlanFault>
     requires values { AreFirstValues graph.now user known.now }
-    requires graph { forward.graph ≡ graph.now }
+    requires settled { IsSettled graph.now }
+    requires graph { forward.graph ≡ plain_of graph.now }
     requires inside { user < length graph.now.nodes }
     requires base { IsKnownBase graph.now.inputs user base }
     ensures ok { IfOk result (IsUsed graph.now known.now user base forward.entry) }
@@ -112,7 +115,8 @@ fn clean<'s>(
 ) -> Result<Forward<'s>, PlanFault>
     requires inside { k < length graph.now.nodes }
     requires value { IsKnownValue graph.now k value.now }
-    requires graph { forward.graph ≡ graph.now }
+    requires settled { IsSettled graph.now }
+    requires graph { forward.graph ≡ plain_of graph.now }
     requires keeps { IsForward forward }
     requires held { is_held forward.lines k ≡ true }
     ensures ok { IfOk result (IsCleaned value.now forward.entry k) }
@@ -122,7 +126,7 @@ fn clean<'s>(
         return forward.toggle(k);
     }
     match value {
-        Some(poly) => clear(alloc, forward, k, poly),
+        Some(poly) => clear(alloc, forward, graph, k, poly),
         None => Ok(forward),
     }
 }
@@ -131,10 +135,12 @@ fn clean<'s>(
 fn clear<'s>(
     alloc: Global,
     forward: Forward<'s>,
+    graph: &Settled,
     k: u32,
     poly: &Poly,
 ) -> Result<Forward<'s>, PlanFault>
-    requires value { IsKnownPolynomial forward.graph k poly.now }
+    requires value { IsKnownPolynomial graph.now k poly.now }
+    requires graph { forward.graph ≡ plain_of graph.now }
     requires keeps { IsForward forward }
     requires held { is_held forward.lines k ≡ true }
     ensures ok { IfOk result (IsCleaned (Some poly.now) forward.entry k) }

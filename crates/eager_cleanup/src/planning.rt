@@ -8,6 +8,7 @@ ghost use Rattle.eager_cleanup.specs.inside.Sweeps.{IsSwept};
 ghost use Rattle.gate_split.specs.Costs.{IsRoomyFlip};
 ghost use Rattle.gate_split.specs.Plans.{MapsCleanly};
 ghost use Rattle.held_nodes.specs.Moves.{roles_of_plan};
+ghost use Rattle.sum_graph.specs.Plain.{plain_of};
 ghost use Rattle.held_nodes.specs.Plans.{HasPorts, IsInBudget};
 
 use crate::cleaning::clean_operands;
@@ -17,8 +18,9 @@ use exclusive_sums::Poly;
 use gate_split::{Budget, PlanFault, Planned};
 use held_nodes::Forward;
 use std::alloc::Global;
+use sum_graph::{SumGraph, plain_graphs_are_alike};
 
-/// The eager plan of a settled graph. Its forward part takes the nodes in order. Each is computed
+/// The eager plan of a settled graph, over its plain graph of sums. Its forward part takes the nodes in order. Each is computed
 /// onto the least free work line; then each node that was used for the last time is cleaned, the
 /// later one first: by its operands where they are inputs or still stand on work lines, else by the
 /// merged cubes of its polynomial where that has at most 64 monomials, and else at the end. The
@@ -29,8 +31,14 @@ use std::alloc::Global;
 /// `Lines` and `Gates` only where the budget has fewer of them than the eager number of the graph.
 /// `need` is the number of inputs, outputs and borrowed lines where that passes the budget, and one
 /// line more than the budget otherwise.
-pub fn plan(alloc: Global, graph: &Settled, budget: &Budget) -> Result<Planned, PlanFault>
-    ensures ports { IfOk result (HasPorts graph.now) }
+pub fn plan(
+    alloc: Global,
+    graph: &Settled,
+    plain: &SumGraph,
+    budget: &Budget,
+) -> Result<Planned, PlanFault>
+    requires { plain.now ≡ plain_of graph.now }
+    ensures ports { IfOk result (HasPorts (plain_of graph.now)) }
     ensures clean { IfOk result (λ planned. MapsCleanly (roles_of_plan planned)
         planned.circuit.gates (settled_outputs graph.now)) }
     ensures within { IfOk result (IsInBudget budget.now) }
@@ -39,7 +47,10 @@ pub fn plan(alloc: Global, graph: &Settled, budget: &Budget) -> Result<Planned, 
     ensures few { IfOk result (IsWithinEager graph.now) }
     ensures refused { IfErr result (IsEagerFault graph.now budget.now) }
 {
-    let forward = Forward::new(alloc, graph, budget)?;
+    // This call says that the plain graph has the values of the settled one.
+    plain_graphs_are_alike();
+    let _ = graph.inputs();
+    let forward = Forward::new(alloc, plain, budget)?;
     let forward = swept(alloc, forward, graph)?;
     forward.finish()
 }

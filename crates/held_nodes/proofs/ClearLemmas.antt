@@ -1,20 +1,14 @@
 -- A held node is cleaned by cubes over the inputs.
-use Rattle.std.proofs.Common.{true, ◌≡◌, ℕ, ◌+◌, ◌-◌, ◌*◌, ◌<◌, ◌≤◌, ◌⊎◌, Bool, List, [], ◌∷◌, ◌++◌, length, map, set, Option, refl, sym}
-use Rattle.std.proofs.Common.{ap, ◌∙◌, subst, inl, inr}
+use Rattle.std.proofs.Common.{true, ◌≡◌, ℕ, ◌+◌, ◌*◌, ◌<◌, ◌≤◌, Bool, List, [], ◌∷◌, ◌++◌, length, map, set, Option, refl, sym}
+use Rattle.std.proofs.Common.{ap, ◌∙◌, subst, inr}
 use Rattle.std.proofs.Common.{arith}
 use Rattle.std.specs.Bool.{xor}
 use Rattle.std.specs.List.{AllByRecursion}
 use Rattle.std.proofs.lemmas.List.Sums.{sum_by-append}
 use Rattle.list_facts.specs.Bits.{bit_of}
-use Rattle.list_facts.specs.Lists.{below}
-use Rattle.list_facts.proofs.AllLemmas.{AllByRecursion-weaker, AllByRecursion-filter}
-use Rattle.list_facts.proofs.AmongLemmas.{all_from_among}
-use Rattle.list_facts.proofs.OrderLemmas.{below_bound}
+use Rattle.list_facts.proofs.AllLemmas.{AllByRecursion-weaker}
 use Rattle.ancilla_heap.specs.Lines.{HeapView}
-use Rattle.claim_check.specs.Settled.{SettledView, IsSettled, as_graph}
-use Rattle.dependency_graph.specs.Graphs.{output_nodes, steps_of}
-use Rattle.dependency_graph.specs.Uses.{last_of, last_use, readers}
-use Rattle.dependency_graph.proofs.TableLemmas.{length-steps_of}
+use Rattle.sum_graph.specs.Graphs.{SumGraphView, node_value}
 use Rattle.exclusive_sums.specs.declared.cube.Literal.{Literal}
 use Rattle.exclusive_sums.specs.Cubes.{IsCube, input_of, value_of_cubes}
 use Rattle.gate_split.specs.Costs.{IsRoomyFlip}
@@ -23,7 +17,7 @@ use Rattle.gate_split.specs.declared.plan.PlanFault.{PlanFault}
 use Rattle.gate_split.specs.declared.plan.PlanFault.TheVariants.{Lines, Gates, Memory}
 use Rattle.mct_circuit.specs.Gates.{GateView, lines_of}
 use Rattle.mct_circuit.specs.Sizes.{weight_of}
-use Rattle.held_nodes.specs.Held.{ForwardView, first_work, is_held, node_value}
+use Rattle.held_nodes.specs.Held.{ForwardView, first_work, is_held}
 use Rattle.held_nodes.proofs.LineLemmas.{held_within}
 use Rattle.held_nodes.proofs.PlaceLemmas.{held_own}
 use Rattle.held_nodes.specs.Moves.{CanClear, IsClearFault, cube_flip, cube_flips, weight_in}
@@ -33,33 +27,6 @@ use Rattle.held_nodes.proofs.CubeLemmas.{control_lines, different_lines}
 use Rattle.held_nodes.proofs.ForwardLemmas.{AddNode}
 use Rattle.held_nodes.proofs.SetLemmas.{cubes_set}
 use Rattle.held_nodes.proofs.StepLemmas.{Gives, over_half, given_inside, given_place}
-
--- ---- a node implies an output
-
-last_below : (none m : ℕ) (xs : List ℕ) → none < m → AllByRecursion (λ x. x < m) xs → last_of none xs < m
-last_below none m [] low all = low
-last_below none m (x ∷ xs) low all = last_below x m xs all.0 all.1
-
--- without outputs, a step's last use is a step
-unread_last : (steps : List (List ℕ)) (i : ℕ) → i < length steps → last_use steps [] i < length steps
-unread_last steps i low =
-    last_below i (length steps) (readers steps i) low
-    (AllByRecursion-filter (λ x. x < length steps) _ (below (length steps))
-    (all_from_among (λ x. x < length steps) (below (length steps)) (below_bound (length steps))))
-
-no_outputs : (s : SettledView) → s.outputs ≡ [] → output_nodes (as_graph s) ≡ []
-no_outputs s e = ap (λ (sigs : List _). output_nodes (record { inputs = s.inputs; nodes = s.nodes; sigs = []; outputs = sigs })) e
-
--- the last node is an output
-pub some_output : (s : SettledView) → IsSettled s → 0 < length s.nodes → s.outputs ≡ [] → ⊥
-some_output s is some none =
-    let long : length (steps_of (as_graph s)) ≡ length s.nodes = length-steps_of (as_graph s) in
-    let k = length s.nodes - 1 in
-    let last : k < last_use (steps_of (as_graph s)) (output_nodes (as_graph s)) k = is.used k (omega (arith, some)) in
-    let unread : last_use (steps_of (as_graph s)) [] k < length (steps_of (as_graph s)) = unread_last (steps_of (as_graph s)) k (omega (arith, long, some)) in
-    let same : last_use (steps_of (as_graph s)) (output_nodes (as_graph s)) k ≡ last_use (steps_of (as_graph s)) [] k =
-    ap (λ (outputs : List ℕ). last_use (steps_of (as_graph s)) outputs k) (no_outputs s none) in
-    absurd (omega (arith, long, some, last, unread, same))
 
 -- ---- flips by cubes have room
 
@@ -103,7 +70,7 @@ cubes_roomy n first work line (c ∷ cs) lt inside are low =
 
 -- ---- the clearing
 
-cubes_add : (s : SettledView) (lines : List (Option ℕ)) (work k line : ℕ) (gates : List GateView) (cubes : List (List Literal))
+cubes_add : (s : SumGraphView) (lines : List (Option ℕ)) (work k line : ℕ) (gates : List GateView) (cubes : List (List Literal))
     → line < work → AllByRecursion (AllByRecursion (λ (l : Literal). l.input < s.inputs)) cubes
     → ((input : List Bool) → length input ≡ s.inputs → value_of_cubes (bit_of input) cubes ≡ node_value s input k)
     → AddNode s lines work gates (cube_flips (first_work s) line cubes) k line
@@ -122,19 +89,12 @@ cubes_add s lines work k line gates cubes inside low value = record {
   };
 }
 
-no_or_some : {A : Type 0} (xs : List A) → (xs ≡ []) ⊎ (1 ≤ length xs)
-no_or_some [] = inl refl
-no_or_some (x ∷ xs) = inr (omega arith)
-
 -- there is an output line
 has_node : (f : ForwardView) (w : ℕ) (old : HeapView) (k line : ℕ) → Gives f w old k line → f.graph.inputs < first_work f.graph
 has_node f w old k line g =
     let place = given_place f w old k line g in
-    let nodes : 0 < length f.graph.nodes = omega (arith, place, g.kept.forward.nodes) in
-    elim (no_or_some f.graph.outputs) [
-      | inl none ↦ absurd (some_output f.graph g.kept.forward.settled nodes none)
-      | inr some ↦ omega (arith, some)
-    ]
+    let outputs = g.kept.forward.sums.some (omega (arith, place, g.kept.forward.nodes)) in
+    omega (arith, outputs)
 
 pub clear_roomy : (f : ForwardView) (w : ℕ) (old : HeapView) (k line : ℕ) (cubes : List (List Literal)) → Gives f w old k line → CanClear f k cubes
     → AllByRecursion IsCube cubes → AllByRecursion (IsRoomyFlip (first_work f.graph + f.most)) (cube_flips (first_work f.graph) line cubes)

@@ -8,11 +8,11 @@ use Rattle.std.proofs.lemmas.List.{set-append_right, replicate-append-replicate}
 use Rattle.std.proofs.lemmas.Option.{same_Some}
 use Rattle.list_facts.specs.Bits.{bit_of, zeros}
 use Rattle.list_facts.proofs.BitLemmas.{xor_same, xor_nothing}
-use Rattle.claim_check.specs.Settled.{SettledView}
+use Rattle.sum_graph.specs.Graphs.{SumGraphView, node_value}
 use Rattle.mct_circuit.specs.Gates.{GateView, AreGatesOn, line_map}
 use Rattle.mct_circuit.proofs.MoreLinesLemmas.{more_lines}
 use Rattle.mct_circuit.proofs.ReversalLemmas.{line_map-append}
-use Rattle.held_nodes.specs.Held.{IsContent, first_work, held_line, is_taken, node_value}
+use Rattle.held_nodes.specs.Held.{IsContent, first_work, held_line, is_taken}
 use Rattle.held_nodes.proofs.LineLemmas.{AreOnDifferent, not_free, taken-put, taken-given, none_set}
 
 -- ---- the lines of inputs, outputs and work
@@ -66,7 +66,7 @@ padded_lines input outputs some more =
     ap (λ (bits : List Bool). input ++ bits) (sym (append_assoc outputs some more)) ∙ sym (append_assoc input (outputs ++ some) more)
 
 -- more work lines hold 0
-pub content_padded : (s : SettledView) (lines : List (Option ℕ)) (work more : ℕ) (gates : List GateView) (input content : List Bool)
+pub content_padded : (s : SumGraphView) (lines : List (Option ℕ)) (work more : ℕ) (gates : List GateView) (input content : List Bool)
     → length input ≡ s.inputs → AreGatesOn (first_work s + work) gates → IsContent s lines work gates input content
     → IsContent s lines (work + more) gates input (content ++ zeros more)
 content_padded s lines work more gates input content size on is = record {
@@ -90,11 +90,11 @@ content_padded s lines work more gates input content size on is = record {
 -- ---- gates that add a node's value to a work line
 
 -- whatever the output lines hold, the gates set this work line to the exclusive or of its bit and the value
-pub record AddsValue (s : SettledView) (more : List GateView) (line : ℕ) (input content : List Bool) (value : Bool) : Type 0 where
+pub record AddsValue (s : SumGraphView) (more : List GateView) (line : ℕ) (input content : List Bool) (value : Bool) : Type 0 where
   pub adds : (outputs : List Bool) → length outputs ≡ length s.outputs
       → line_map more (all_lines input outputs content) ≡ all_lines input outputs (set content line (xor value (bit_of content line)))
 
-mapped_on : (s : SettledView) (lines : List (Option ℕ)) (work : ℕ) (gates more : List GateView) (line : ℕ) (input content : List Bool) (value now : Bool)
+mapped_on : (s : SumGraphView) (lines : List (Option ℕ)) (work : ℕ) (gates more : List GateView) (line : ℕ) (input content : List Bool) (value now : Bool)
     → IsContent s lines work gates input content → AddsValue s more line input content value → xor value (bit_of content line) ≡ now
     → (outputs : List Bool) → length outputs ≡ length s.outputs
     → line_map (gates ++ more) (all_lines input outputs (zeros work)) ≡ all_lines input outputs (set content line now)
@@ -105,7 +105,7 @@ mapped_on s lines work gates more line input content value now is adds e outputs
     ∙ ap (λ bit. all_lines input outputs (set content line bit)) e
 
 -- a node is put on a free line
-pub content_put : (s : SettledView) (lines : List (Option ℕ)) (work : ℕ) (gates more : List GateView) (k line : ℕ) (input content : List Bool)
+pub content_put : (s : SumGraphView) (lines : List (Option ℕ)) (work : ℕ) (gates more : List GateView) (k line : ℕ) (input content : List Bool)
     → k < length lines → held_line lines k ≡ None → is_taken lines line ≡ false → line < work
     → IsContent s lines work gates input content → AddsValue s more line input content (node_value s input k)
     → IsContent s (set lines k (Some line)) work (gates ++ more) input (set content line (node_value s input k))
@@ -141,7 +141,7 @@ other_free true b e f = absurd (true≢false (sym (ap not f) ∙ e))
 other_free false b e f = refl
 
 -- a held node is taken off its line
-pub content_given : (s : SettledView) (lines : List (Option ℕ)) (work : ℕ) (gates more : List GateView) (k line : ℕ) (input content : List Bool)
+pub content_given : (s : SumGraphView) (lines : List (Option ℕ)) (work : ℕ) (gates more : List GateView) (k line : ℕ) (input content : List Bool)
     → AreOnDifferent lines → held_line lines k ≡ Some line → line < work
     → IsContent s lines work gates input content → AddsValue s more line input content (node_value s input k)
     → IsContent s (set lines k None) work (gates ++ more) input (set content line false)

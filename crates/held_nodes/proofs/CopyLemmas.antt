@@ -1,158 +1,105 @@
 -- Copies of the outputs.
-use Rattle.std.proofs.Common.{◌≡◌, ◌≢◌, ℕ, cond, ◌+◌, ◌<◌, ◌≤◌, Bool, true, false, not, List, Option, [], ◌∷◌, ◌++◌, length, get_or, map, set, drop, Some, refl, sym}
-use Rattle.std.proofs.Common.{ap, ◌∙◌, arith, append_assoc, length-append, count_by}
+use Rattle.std.proofs.Common.{◌≡◌, ℕ, ◌+◌, ◌<◌, ◌≤◌, Bool, false, List, Option, [], ◌∷◌, ◌++◌, length, get_or, map, set, drop, Some, sum_by, refl, sym}
+use Rattle.std.proofs.Common.{ap, ap₂, ◌∙◌, subst, arith, append_assoc, length-append}
 use Rattle.std.specs.Bool.{xor}
 use Rattle.std.specs.List.{AllByRecursion}
 use Rattle.std.proofs.lemmas.List.{drop_more, get_or_at, set_at, length-replicate}
+use Rattle.std.proofs.lemmas.List.Sums.{sum_by-append}
 use Rattle.list_facts.specs.Bits.{bit_of, zeros}
 use Rattle.list_facts.proofs.AllLemmas.{AllByRecursion-append, AllByRecursion-at}
 use Rattle.list_facts.proofs.BitLemmas.{xor_nothing}
-use Rattle.claim_check.specs.Settled.{SettledView, settled_value, settled_outputs}
-use Rattle.dependency_graph.specs.declared.node.Base.{Base}
-use Rattle.dependency_graph.specs.declared.node.Base.TheVariants as bases
-use Rattle.dependency_graph.specs.declared.node.Sig.{Sig}
-use Rattle.dependency_graph.specs.declared.node.Sig.TheVariants.{Const, Is}
-use Rattle.dependency_graph.specs.Graphs.{IsKnownBase, IsKnownSig}
+use Rattle.bit_sums.specs.Sums.{SumView, bases_of}
 use Rattle.gate_split.specs.Costs.{IsRoomyFlip}
 use Rattle.gate_split.specs.declared.plan.TheConstants.{MOST_LINES}
 use Rattle.mct_circuit.specs.Gates.{GateView, line_map}
 use Rattle.mct_circuit.specs.Sizes.{weight_of}
 use Rattle.mct_circuit.proofs.ReversalLemmas.{line_map-append}
-use Rattle.std.proofs.lemmas.List.Recursion.{is_count_by}
-use Rattle.std.proofs.lemmas.List.Sums.{sum_by-append}
+use Rattle.sum_graph.specs.Graphs.{IsKnownSum, SumGraphView, sum_on, sum_outputs}
+use Rattle.sum_toggles.specs.Toggles.{AreApart, base_line, sum_gates, toggle_weight}
+use Rattle.sum_toggles.proofs.SumLemmas.{weight_sum}
 use Rattle.held_nodes.specs.Held.{IsContent, first_work, held_line}
-use Rattle.held_nodes.specs.Moves.{IsReadyBase, IsReadySig, base_line, copy_of, copies_from, weight_in}
-use Rattle.held_nodes.specs.inside.Kept.{IsApartSig, is_copied}
+use Rattle.held_nodes.specs.Moves.{IsReadySum, copies_from, weight_in}
+use Rattle.held_nodes.specs.inside.Kept.{CanCopy, HasProducts}
 use Rattle.held_nodes.proofs.ContentLemmas.{all_lines}
-use Rattle.held_nodes.proofs.PlaceLemmas.{held_own, low_base, narrow_is_roomy, placed, shown_base, work_line_is}
-use Rattle.held_nodes.proofs.SetLemmas.{flip_always, flip_by_one}
-
--- an output's line stays apart where it is a later one
-later_apart : (first : ℕ) (lines : List (Option ℕ)) (output later : ℕ) (sig : Sig) → output ≤ later → later < first → IsApartSig first lines output sig
-    → IsApartSig first lines later sig
-later_apart first lines output later (Const bit) le low apart = tt
-later_apart first lines output later (Is (bases.Input i)) le low apart = omega (arith, le, apart)
-later_apart first lines output later (Is (bases.Node k)) le low apart = (apart.0, low)
-
-pub output_apart : (inputs k : ℕ) (lines : List (Option ℕ)) (sigs : List Sig) (any : Sig) → k < length sigs
-    → AllByRecursion (IsApartSig (inputs + length sigs) lines inputs) sigs → IsApartSig (inputs + length sigs) lines (inputs + k) (get_or sigs k any)
-output_apart inputs k lines sigs any low apart =
-    later_apart (inputs + length sigs) lines inputs (inputs + k) (get_or sigs k any) (omega arith) (omega (arith, low))
-    (AllByRecursion-at (IsApartSig (inputs + length sigs) lines inputs) sigs k any apart low)
+use Rattle.held_nodes.proofs.LineLemmas.{AreOnDifferent}
+use Rattle.held_nodes.proofs.PlaceLemmas.{all_placed, apart_of, good_adds, good_bases, good_roomy, output_lines}
 
 -- ---- the outputs that are copied
 
 -- outputs that are known, and ready to be copied
-pub record AreReady (s : SettledView) (lines : List (Option ℕ)) (work : ℕ) : Type 0 where
-  pub known : AllByRecursion (IsKnownSig s.inputs (length s.nodes)) s.outputs
-  pub ready : AllByRecursion (IsReadySig lines) s.outputs
+pub record AreReady (s : SumGraphView) (lines : List (Option ℕ)) (work : ℕ) : Type 0 where
+  pub known : AllByRecursion (IsKnownSum s.inputs (length s.nodes)) s.outputs
+  pub ready : AllByRecursion (IsReadySum lines) s.outputs
+  pub different : AreOnDifferent lines
   pub below : (j own : ℕ) → held_line lines j ≡ Some own → own < work
   pub few : first_work s + work ≤ MOST_LINES
 
-apart_sig : (n first work k : ℕ) (lines : List (Option ℕ)) (sig : Sig) → n < first → ((j own : ℕ) → held_line lines j ≡ Some own → own < work)
-    → first + work ≤ MOST_LINES → IsKnownSig n k sig → IsReadySig lines sig → IsApartSig first lines n sig
-apart_sig n first work k lines (Const bit) lt below few known ready = tt
-apart_sig n first work k lines (Is (bases.Input i)) lt below few known ready = known
-apart_sig n first work k lines (Is (bases.Node j)) lt below few known ready = (placed first work lines (bases.Node j) below few ready, lt)
-
-apart_sigs : (n first work k : ℕ) (lines : List (Option ℕ)) (sigs : List Sig) → n < first → ((j own : ℕ) → held_line lines j ≡ Some own → own < work)
-    → first + work ≤ MOST_LINES → AllByRecursion (IsKnownSig n k) sigs → AllByRecursion (IsReadySig lines) sigs
-    → AllByRecursion (IsApartSig first lines n) sigs
-apart_sigs n first work k lines [] lt below few known ready = tt
-apart_sigs n first work k lines (x ∷ xs) lt below few known ready =
-    (apart_sig n first work k lines x lt below few known.0 ready.0, apart_sigs n first work k lines xs lt below few known.1 ready.1)
-
-some_first : (n : ℕ) (sigs : List Sig) (P : List Sig → Type 0) → P [] → (n < n + length sigs → P sigs) → P sigs
-some_first n [] P none some = none
-some_first n (x ∷ xs) P none some = some (omega arith)
+can_copy : (n first work k : ℕ) (lines : List (Option ℕ)) (sums : List SumView) → AreOnDifferent lines
+    → ((j own : ℕ) → held_line lines j ≡ Some own → own < work) → first + work ≤ MOST_LINES
+    → AllByRecursion (IsKnownSum n k) sums → AllByRecursion (IsReadySum lines) sums → AllByRecursion (CanCopy first lines n) sums
+can_copy n first work k lines [] different below few known ready = tt
+can_copy n first work k lines (x ∷ xs) different below few known ready = (
+  record {
+    placed = all_placed first work lines (bases_of x) below few ready.0;
+    apart = λ target le fits. apart_of n k (first + work) target lines (base_line first lines) (bases_of x)
+        (output_lines n first work k target lines le fits different below) (good_bases n k lines x known.0 ready.0);
+  },
+  can_copy n first work k lines xs different below few known.1 ready.1,
+)
 
 -- the lines of what is copied are not those of the outputs
-pub outputs_apart : (s : SettledView) (lines : List (Option ℕ)) (work : ℕ) → AreReady s lines work
-    → AllByRecursion (IsApartSig (first_work s) lines s.inputs) s.outputs
-outputs_apart s lines work are =
-    apart_all s.inputs (length s.outputs) work (length s.nodes) lines s.outputs refl are.below are.few are.known are.ready
-  where
-    apart_all : (n o work k : ℕ) (lines : List (Option ℕ)) (sigs : List Sig) → o ≡ length sigs → ((j own : ℕ) → held_line lines j ≡ Some own → own < work)
-        → n + o + work ≤ MOST_LINES → AllByRecursion (IsKnownSig n k) sigs → AllByRecursion (IsReadySig lines) sigs
-        → AllByRecursion (IsApartSig (n + o) lines n) sigs
-    apart_all n o work k lines [] e below few known ready = tt
-    apart_all n o work k lines (x ∷ xs) e below few known ready =
-        apart_sigs n (n + o) work k lines (x ∷ xs) (omega (arith, e)) below few known ready
+pub outputs_can : (s : SumGraphView) (lines : List (Option ℕ)) (work : ℕ) → AreReady s lines work
+    → AllByRecursion (CanCopy (first_work s) lines s.inputs) s.outputs
+outputs_can s lines work are =
+    can_copy s.inputs (first_work s) work (length s.nodes) lines s.outputs are.different are.below are.few are.known are.ready
 
--- ---- copies are narrow
+pub output_can : (inputs k : ℕ) (lines : List (Option ℕ)) (sums : List SumView) (x : SumView) → k < length sums → x ≡ get_or sums k x
+    → AllByRecursion (CanCopy (inputs + length sums) lines inputs) sums → CanCopy (inputs + length sums) lines inputs x
+output_can inputs k lines sums x low is can =
+    subst (CanCopy (inputs + length sums) lines inputs) (sym is) (AllByRecursion-at (CanCopy (inputs + length sums) lines inputs) sums k x can low)
 
-copy_roomy : (n first work k target : ℕ) (lines : List (Option ℕ)) (sig : Sig) → n ≤ target → target < first
-    → ((j own : ℕ) → held_line lines j ≡ Some own → own < work) → IsKnownSig n k sig → IsReadySig lines sig
-    → AllByRecursion (IsRoomyFlip (first + work)) (copy_of first lines target sig)
-copy_roomy n first work k target lines (Const true) le low below known ready =
-    (narrow_is_roomy (first + work) [] target (omega arith) (tt, tt) (omega (arith, low), tt), tt)
-copy_roomy n first work k target lines (Const false) le low below known ready = tt
-copy_roomy n first work k target lines (Is base) le low below known ready =
-    let in_range = low_base n first work k lines base (omega (arith, le, low)) below known ready in (
-      narrow_is_roomy (first + work) (base_line first lines base ∷ []) target (omega arith)
-          (((λ same. other base known ready same), tt), (tt, tt)) (in_range, (omega (arith, low), tt)),
-      tt,
-    )
-  where
-    other : (base : Base) → IsKnownBase n k base → IsReadyBase lines base → base_line first lines base ≢ target
-    other (bases.Input i) known ready same = absurd (omega (arith, same, known, le))
-    other (bases.Node j) known ready same =
-        let held = held_own lines j ready in
-        absurd (omega (arith, same, work_line_is first lines j held.own held.is, low))
+pub output_apart : (inputs k : ℕ) (lines : List (Option ℕ)) (sums : List SumView) (x : SumView) → k < length sums → x ≡ get_or sums k x
+    → AllByRecursion (CanCopy (inputs + length sums) lines inputs) sums
+    → AreApart (base_line (inputs + length sums) lines) (inputs + k) (bases_of x)
+output_apart inputs k lines sums x low is can = (output_can inputs k lines sums x low is can).apart (inputs + k) (omega arith) (omega (arith, low))
 
-pub copies_roomy : (n first work k target : ℕ) (lines : List (Option ℕ)) (sigs : List Sig) → n ≤ target → target + length sigs ≤ first
-    → ((j own : ℕ) → held_line lines j ≡ Some own → own < work) → AllByRecursion (IsKnownSig n k) sigs → AllByRecursion (IsReadySig lines) sigs
-    → AllByRecursion (IsRoomyFlip (first + work)) (copies_from first lines target sigs)
-copies_roomy n first work k target lines [] le fits below known ready = tt
-copies_roomy n first work k target lines (x ∷ xs) le fits below known ready =
-    AllByRecursion-append (IsRoomyFlip (first + work)) (copy_of first lines target x) (copies_from first lines (target + 1) xs)
-    (copy_roomy n first work k target lines x le (omega (arith, fits)) below known.0 ready.0)
-    (copies_roomy n first work k (target + 1) lines xs (omega (arith, le)) (omega (arith, fits)) below known.1 ready.1)
+-- ---- the gates of copies
 
-weight-copy : (first : ℕ) (lines : List (Option ℕ)) (target : ℕ) (sig : Sig)
-    → weight_in (copy_of first lines target sig) ≡ length (copy_of first lines target sig)
-weight-copy first lines target (Const true) = refl
-weight-copy first lines target (Const false) = refl
-weight-copy first lines target (Is base) = refl
+pub copies_roomy : (n first work k target : ℕ) (lines : List (Option ℕ)) (sums : List SumView) → n ≤ target → target + length sums ≤ first
+    → AreOnDifferent lines → ((j own : ℕ) → held_line lines j ≡ Some own → own < work) → AllByRecursion (IsKnownSum n k) sums
+    → AllByRecursion (IsReadySum lines) sums → AllByRecursion HasProducts sums
+    → AllByRecursion (IsRoomyFlip (first + work)) (copies_from first lines target sums)
+copies_roomy n first work k target lines [] le fits different below known ready are = tt
+copies_roomy n first work k target lines (x ∷ xs) le fits different below known ready are =
+    AllByRecursion-append (IsRoomyFlip (first + work)) (sum_gates (base_line first lines) target x) (copies_from first lines (target + 1) xs)
+    (good_roomy n k (first + work) target lines (base_line first lines) x
+    (output_lines n first work k target lines le (omega (arith, fits)) different below) (good_bases n k lines x known.0 ready.0) are.0)
+    (copies_roomy n first work k (target + 1) lines xs (omega (arith, le)) (omega (arith, fits)) different below known.1 ready.1 are.1)
 
 -- the copies up to one output more
-pub copies_more : (first : ℕ) (lines : List (Option ℕ)) (target k : ℕ) (sigs : List Sig) (any : Sig) (before after whole : List GateView)
-    → k < length sigs → after ≡ before ++ copy_of first lines (target + k) (get_or sigs k any)
-    → before ++ copies_from first lines (target + k) (drop k sigs) ≡ whole
-    → after ++ copies_from first lines (target + (k + 1)) (drop (k + 1) sigs) ≡ whole
-copies_more first lines target k sigs any before after whole low added done =
-    let rest = drop (k + 1) sigs in let copy = copy_of first lines (target + k) (get_or sigs k any) in
+pub copies_more : (first : ℕ) (lines : List (Option ℕ)) (target k : ℕ) (sums : List SumView) (x : SumView) (before after whole : List GateView)
+    → k < length sums → x ≡ get_or sums k x → after ≡ before ++ sum_gates (base_line first lines) (target + k) x
+    → before ++ copies_from first lines (target + k) (drop k sums) ≡ whole
+    → after ++ copies_from first lines (target + (k + 1)) (drop (k + 1) sums) ≡ whole
+copies_more first lines target k sums x before after whole low is added done =
+    let rest = drop (k + 1) sums in
+    let copy = sum_gates (base_line first lines) (target + k) x in
     let place : target + (k + 1) ≡ target + k + 1 = omega arith in
     ap (λ (gates : List GateView). gates ++ copies_from first lines (target + (k + 1)) rest) added
     ∙ ap (λ (n : ℕ). (before ++ copy) ++ copies_from first lines n rest) place
     ∙ append_assoc before copy (copies_from first lines (target + k + 1) rest)
-    ∙ sym (ap (λ (xs : List Sig). before ++ copies_from first lines (target + k) xs) (drop_more sigs k any low)) ∙ done
+    ∙ ap (λ (y : SumView). before ++ (sum_gates (base_line first lines) (target + k) y ++ copies_from first lines (target + k + 1) rest)) is
+    ∙ sym (ap (λ (xs : List SumView). before ++ copies_from first lines (target + k) xs) (drop_more sums k x low))
+    ∙ done
 
--- each copy weighs 1
-pub weight-copies : (first : ℕ) (lines : List (Option ℕ)) (target : ℕ) (sigs : List Sig)
-    → weight_in (copies_from first lines target sigs) ≡ length (copies_from first lines target sigs)
-weight-copies first lines target [] = refl
-weight-copies first lines target (x ∷ xs) =
-    let one = copy_of first lines target x in
-    let rest = copies_from first lines (target + 1) xs in
-    let sum = sum_by-append weight_of one rest in
-    let count = length-append one rest in
-    omega (arith, sum, count, weight-copy first lines target x, weight-copies first lines (target + 1) xs)
-
-abbrev copied_in : List Sig → ℕ
-copied_in [] = 0
-copied_in (x ∷ xs) = cond (is_copied x) (1 + copied_in xs) (copied_in xs)
-
--- a gate for each output that is copied
-length-copied : (first : ℕ) (lines : List (Option ℕ)) (target : ℕ) (sigs : List Sig) → length (copies_from first lines target sigs) ≡ copied_in sigs
-length-copied first lines target [] = refl
-length-copied first lines target (Const true ∷ xs) = omega (arith, length-copied first lines (target + 1) xs)
-length-copied first lines target (Const false ∷ xs) = length-copied first lines (target + 1) xs
-length-copied first lines target (Is base ∷ xs) = omega (arith, length-copied first lines (target + 1) xs)
-
-pub length-copies : (first : ℕ) (lines : List (Option ℕ)) (target : ℕ) (sigs : List Sig)
-    → length (copies_from first lines target sigs) ≡ count_by is_copied sigs
-length-copies first lines target sigs = length-copied first lines target sigs ∙ is_count_by copied_in is_copied refl (λ x xs. refl) sigs
+-- the copies weigh what their sums do
+pub weight-copies : (first : ℕ) (lines : List (Option ℕ)) (target : ℕ) (sums : List SumView) → AllByRecursion HasProducts sums
+    → weight_in (copies_from first lines target sums) ≡ sum_by toggle_weight sums
+weight-copies first lines target [] are = refl
+weight-copies first lines target (x ∷ xs) are =
+    sum_by-append weight_of (sum_gates (base_line first lines) target x) (copies_from first lines (target + 1) xs)
+    ∙ ap₂ ◌+◌ (weight_sum (base_line first lines) target x are.0) (weight-copies first lines (target + 1) xs are.1)
+    ∙ sym (sum_by-append toggle_weight (x ∷ []) xs ∙ omega arith)
 
 -- ---- what copies do
 
@@ -176,50 +123,50 @@ output_bit input done rest content b target e =
     ap (λ (bits : List Bool). bit_of bits target) (around input done rest content b)
     ∙ get_or_at (input ++ done) b (rest ++ content) false target place
 
-copied_one : (s : SettledView) (lines : List (Option ℕ)) (work k target : ℕ) (gates : List GateView) (input done rest content : List Bool) (sig : Sig)
+copied_one : (s : SumGraphView) (lines : List (Option ℕ)) (work target : ℕ) (gates : List GateView) (input done rest content : List Bool) (x : SumView)
     → length input ≡ s.inputs → length (done ++ false ∷ rest) ≡ length s.outputs → IsContent s lines work gates input content
-    → target ≡ length input + length done → IsKnownSig s.inputs k sig → IsReadySig lines sig
-    → line_map (copy_of (first_work s) lines target sig) (all_lines input (done ++ false ∷ rest) content)
-    ≡ all_lines input (done ++ settled_value s input sig ∷ rest) content
-copied_one s lines work k target gates input done rest content (Const false) size many is e known ready = refl
-copied_one s lines work k target gates input done rest content (Const true) size many is e known ready =
+    → target ≡ length input + length done → s.inputs ≤ target → target < first_work s → AreOnDifferent lines
+    → ((j own : ℕ) → held_line lines j ≡ Some own → own < work)
+    → IsKnownSum s.inputs (length s.nodes) x → IsReadySum lines x → HasProducts x
+    → line_map (sum_gates (base_line (first_work s) lines) target x) (all_lines input (done ++ false ∷ rest) content)
+    ≡ all_lines input (done ++ sum_on s.nodes input x ∷ rest) content
+copied_one s lines work target gates input done rest content x size many is e le fits different below known ready are =
     let bits = all_lines input (done ++ false ∷ rest) content in
-    flip_always target bits
-    ∙ ap (λ b. set bits target (not b)) (output_bit input done rest content false target e)
-    ∙ set_output input done rest content false true target e
-copied_one s lines work k target gates input done rest content (Is base) size many is e known ready =
-    let bits = all_lines input (done ++ false ∷ rest) content in
-    let value = settled_value s input (Is base) in
-    flip_by_one (base_line (first_work s) lines base) target bits value
-    (shown_base s lines work k gates input (done ++ false ∷ rest) content base size many is known ready)
+    let k = length s.nodes in
+    let value = sum_on s.nodes input x in
+    good_adds s lines work k target gates input (done ++ false ∷ rest) content x
+    (output_lines s.inputs (first_work s) work k target lines le fits different below) (good_bases s.inputs k lines x known ready) are size many is
     ∙ ap (λ b. set bits target (xor value b)) (output_bit input done rest content false target e)
     ∙ ap (set bits target) (xor_nothing value)
     ∙ set_output input done rest content false value target e
 
-copied_from : (s : SettledView) (lines : List (Option ℕ)) (work k target : ℕ) (gates : List GateView) (input done content : List Bool) (sigs : List Sig)
-    → length input ≡ s.inputs → length done + length sigs ≡ length s.outputs → IsContent s lines work gates input content
-    → target ≡ length input + length done → AllByRecursion (IsKnownSig s.inputs k) sigs → AllByRecursion (IsReadySig lines) sigs
-    → line_map (copies_from (first_work s) lines target sigs) (all_lines input (done ++ zeros (length sigs)) content)
-    ≡ all_lines input (done ++ map (settled_value s input) sigs) content
-copied_from s lines work k target gates input done content [] size many is e known ready = refl
-copied_from s lines work k target gates input done content (x ∷ xs) size many is e known ready =
+copied_from : (s : SumGraphView) (lines : List (Option ℕ)) (work target : ℕ) (gates : List GateView) (input done content : List Bool) (sums : List SumView)
+    → length input ≡ s.inputs → length done + length sums ≡ length s.outputs → IsContent s lines work gates input content
+    → target ≡ length input + length done → AreOnDifferent lines → ((j own : ℕ) → held_line lines j ≡ Some own → own < work)
+    → AllByRecursion (IsKnownSum s.inputs (length s.nodes)) sums → AllByRecursion (IsReadySum lines) sums → AllByRecursion HasProducts sums
+    → line_map (copies_from (first_work s) lines target sums) (all_lines input (done ++ zeros (length sums)) content)
+    ≡ all_lines input (done ++ map (sum_on s.nodes input) sums) content
+copied_from s lines work target gates input done content [] size many is e different below known ready are = refl
+copied_from s lines work target gates input done content (x ∷ xs) size many is e different below known ready are =
     let rest = zeros (length xs) in
-    let value = settled_value s input x in
+    let value = sum_on s.nodes input x in
     let others = copies_from (first_work s) lines (target + 1) xs in
     let whole : length (done ++ false ∷ rest) ≡ length s.outputs =
     (let all = length-append done (false ∷ rest) in let some = length-replicate (length xs) false in omega (arith, all, some, many)) in
     let longer : length (done ++ value ∷ []) ≡ length done + 1 = length-append done (value ∷ []) in
-    line_map-append (copy_of (first_work s) lines target x) others (all_lines input (done ++ false ∷ rest) content)
-    ∙ ap (line_map others) (copied_one s lines work k target gates input done rest content x size whole is e known.0 ready.0)
+    line_map-append (sum_gates (base_line (first_work s) lines) target x) others (all_lines input (done ++ false ∷ rest) content)
+    ∙ ap (line_map others) (copied_one s lines work target gates input done rest content x size whole is e (omega (arith, e, size))
+    (omega (arith, e, size, many)) different below known.0 ready.0 are.0)
     ∙ ap (λ (outputs : List Bool). line_map others (all_lines input outputs content)) (sym (append_assoc done (value ∷ []) rest))
-    ∙ copied_from s lines work k (target + 1) gates input (done ++ value ∷ []) content xs size
-    (omega (arith, longer, many)) is (omega (arith, longer, e)) known.1 ready.1
-    ∙ ap (λ (outputs : List Bool). all_lines input outputs content) (append_assoc done (value ∷ []) (map (settled_value s input) xs))
+    ∙ copied_from s lines work (target + 1) gates input (done ++ value ∷ []) content xs size
+    (omega (arith, longer, many)) is (omega (arith, longer, e)) different below known.1 ready.1 are.1
+    ∙ ap (λ (outputs : List Bool). all_lines input outputs content) (append_assoc done (value ∷ []) (map (sum_on s.nodes input) xs))
 
 -- the copies put the outputs on the output lines that hold zeros
-pub copied : (s : SettledView) (lines : List (Option ℕ)) (work : ℕ) (gates : List GateView) (input content : List Bool)
-    → length input ≡ s.inputs → IsContent s lines work gates input content → AreReady s lines work
+pub copied : (s : SumGraphView) (lines : List (Option ℕ)) (work : ℕ) (gates : List GateView) (input content : List Bool)
+    → length input ≡ s.inputs → IsContent s lines work gates input content → AreReady s lines work → AllByRecursion HasProducts s.outputs
     → line_map (copies_from (first_work s) lines s.inputs s.outputs) (all_lines input (zeros (length s.outputs)) content)
-    ≡ all_lines input (settled_outputs s input) content
-copied s lines work gates input content size is are =
-    copied_from s lines work (length s.nodes) s.inputs gates input [] content s.outputs size (omega arith) is (omega (arith, size)) are.known are.ready
+    ≡ all_lines input (sum_outputs s input) content
+copied s lines work gates input content size is ready are =
+    copied_from s lines work s.inputs gates input [] content s.outputs size (omega arith) is (omega (arith, size)) ready.different ready.below ready.known
+    ready.ready are

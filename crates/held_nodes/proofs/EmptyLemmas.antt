@@ -2,7 +2,7 @@
 use Rattle.std.proofs.Common.{◌≡◌, ℕ, zero, suc, ◌+◌, ◌-◌, ◌/◌, ◌≤◌, false, List, [], length, replicate, Option, None, refl, sym, ◌∙◌, arith}
 use Rattle.std.proofs.lemmas.List.{length-replicate}
 use Rattle.std.proofs.lemmas.Option.{none-some}
-use Rattle.claim_check.specs.Settled.{SettledView, IsSettled}
+use Rattle.sum_graph.specs.Graphs.{SumGraphView, IsSumGraph}
 use Rattle.gate_split.specs.Plans.{BudgetView}
 use Rattle.gate_split.specs.declared.plan.TheConstants.{MOST_LINES}
 use Rattle.held_nodes.specs.Held.{HoldsNodes, first_work, held_line, held_count, is_taken}
@@ -25,7 +25,7 @@ none_held : (n : ℕ) → held_count (nobody n) ≡ 0
 none_held zero = refl
 none_held (suc n) = none_held n
 
-nothing_holds : (s : SettledView) → HoldsNodes s (nobody (length s.nodes)) 0 []
+nothing_holds : (s : SumGraphView) → HoldsNodes s (nobody (length s.nodes)) 0 []
 nothing_holds s = record {
   on = λ input size. record {
     content = [];
@@ -38,12 +38,12 @@ nothing_holds s = record {
   };
 }
 
-pub empty_kept : (s : SettledView) (b : BudgetView) → IsSettled s → b.lines ≤ MOST_LINES → first_work s + b.borrow ≤ b.lines
+pub empty_kept : (s : SumGraphView) (b : BudgetView) → IsSumGraph s → b.lines ≤ MOST_LINES → first_work s + b.borrow ≤ b.lines
     → IsKept (record { graph = s; budget = b; gates = []; lines = nobody (length s.nodes); most = 0 }) (b.gates / 2)
     (record { limit = b.lines - (first_work s + b.borrow); out = []; peak = 0 })
-empty_kept s b settled few room = record {
+empty_kept s b sums few room = record {
   forward = record {
-    settled = settled;
+    sums = sums;
     nodes = length-replicate (length s.nodes) None;
     different = λ j k line one two. absurd (none-some line (sym (no_line (length s.nodes) j) ∙ one));
     below = λ node line is. absurd (none-some line (sym (no_line (length s.nodes) node) ∙ is));

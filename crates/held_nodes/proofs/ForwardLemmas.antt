@@ -7,10 +7,10 @@ use Rattle.std.proofs.lemmas.List.{get_or-set_same, get_or-set_other, length-set
 use Rattle.std.proofs.lemmas.Option.{same_Some}
 use Rattle.list_facts.specs.Bits.{zeros}
 use Rattle.list_facts.proofs.AllLemmas.{AllByRecursion-append, AllByRecursion-weaker}
-use Rattle.claim_check.specs.Settled.{SettledView}
+use Rattle.sum_graph.specs.Graphs.{SumGraphView, node_value}
 use Rattle.gate_split.specs.Costs.{IsRoomyFlip}
 use Rattle.mct_circuit.specs.Gates.{GateView, IsGateOn, AreGatesOn, lines_of}
-use Rattle.held_nodes.specs.Held.{ForwardView, IsForward, HoldsNodes, IsContent, first_work, held_line, held_count, is_taken, node_value}
+use Rattle.held_nodes.specs.Held.{ForwardView, IsForward, HoldsNodes, IsContent, first_work, held_line, held_count, is_taken}
 use Rattle.held_nodes.specs.Moves.{weight_in}
 use Rattle.held_nodes.proofs.ContentLemmas.{AddsValue, content_padded, content_put, content_given}
 use Rattle.held_nodes.proofs.LineLemmas.{AreOnDifferent, none_set, not_free, count-given}
@@ -39,7 +39,7 @@ roomy_on n gates all = AllByRecursion-weaker (IsRoomyFlip n) (IsGateOn n) (λ ga
 
 -- ---- more work lines
 
-pub holds_padded : (s : SettledView) (lines : List (Option ℕ)) (work more : ℕ) (gates : List GateView) → AreGatesOn (first_work s + work) gates
+pub holds_padded : (s : SumGraphView) (lines : List (Option ℕ)) (work more : ℕ) (gates : List GateView) → AreGatesOn (first_work s + work) gates
     → HoldsNodes s lines work gates → HoldsNodes s lines (work + more) gates
 holds_padded s lines work more gates on all = record {
   on = λ input size. (let was = all.on input size in record {
@@ -48,7 +48,7 @@ holds_padded s lines work more gates on all = record {
   });
 }
 
-pub holds_wider : (s : SettledView) (lines : List (Option ℕ)) (work wider : ℕ) (gates : List GateView) → work ≤ wider → AreGatesOn (first_work s + work) gates
+pub holds_wider : (s : SumGraphView) (lines : List (Option ℕ)) (work wider : ℕ) (gates : List GateView) → work ≤ wider → AreGatesOn (first_work s + work) gates
     → HoldsNodes s lines work gates → HoldsNodes s lines wider gates
 holds_wider s lines work wider gates le on all =
     let sum : work + (wider - work) ≡ wider = omega (arith, le) in
@@ -57,11 +57,11 @@ holds_wider s lines work wider gates le on all =
 -- ---- one node more, one less
 
 -- on every input the gates add the node's value to its line
-pub record AddNode (s : SettledView) (lines : List (Option ℕ)) (work : ℕ) (gates more : List GateView) (k line : ℕ) : Type 0 where
+pub record AddNode (s : SumGraphView) (lines : List (Option ℕ)) (work : ℕ) (gates more : List GateView) (k line : ℕ) : Type 0 where
   pub on : (input content : List Bool) → length input ≡ s.inputs → IsContent s lines work gates input content
       → AddsValue s more line input content (node_value s input k)
 
-holds_put : (s : SettledView) (lines : List (Option ℕ)) (work : ℕ) (gates more : List GateView) (k line : ℕ)
+holds_put : (s : SumGraphView) (lines : List (Option ℕ)) (work : ℕ) (gates more : List GateView) (k line : ℕ)
     → k < length lines → held_line lines k ≡ None → is_taken lines line ≡ false → line < work
     → HoldsNodes s lines work gates → AddNode s lines work gates more k line → HoldsNodes s (set lines k (Some line)) work (gates ++ more)
 holds_put s lines work gates more k line low none free inside all adds = record {
@@ -71,7 +71,7 @@ holds_put s lines work gates more k line low none free inside all adds = record 
   });
 }
 
-holds_given : (s : SettledView) (lines : List (Option ℕ)) (work : ℕ) (gates more : List GateView) (k line : ℕ)
+holds_given : (s : SumGraphView) (lines : List (Option ℕ)) (work : ℕ) (gates more : List GateView) (k line : ℕ)
     → AreOnDifferent lines → held_line lines k ≡ Some line → line < work
     → HoldsNodes s lines work gates → AddNode s lines work gates more k line → HoldsNodes s (set lines k None) work (gates ++ more)
 holds_given s lines work gates more k line different own inside all adds = record {
@@ -133,7 +133,7 @@ forward_put f k line work more is low none free inside e more_is =
     let count : held_count (set f.lines k (Some line)) ≤ work = omega (arith, e) in
     let below : (j own : ℕ) → held_line f.lines j ≡ Some own → own < work = λ j own at. omega (arith, is.below j own at, le) in
     record {
-      settled = is.settled;
+      sums = is.sums;
       nodes = length-set f.lines k (Some line) ∙ is.nodes;
       different = different_put f.lines k line low is.different free;
       below = below_put f.lines k line work low inside below;
@@ -149,7 +149,7 @@ forward_put f k line work more is low none free inside e more_is =
 pub forward_given : (f : ForwardView) (k line : ℕ) (more : List GateView) → IsForward f → held_line f.lines k ≡ Some line → AreMore f f.most more k line
     → IsForward (record f { gates = f.gates ++ more; lines = set f.lines k None })
 forward_given f k line more is own more_is = record {
-  settled = is.settled;
+  sums = is.sums;
   nodes = length-set f.lines k None ∙ is.nodes;
   different = λ i j held one two. is.different i j held (before_given f.lines k i held one) (before_given f.lines k j held two);
   below = λ j held at. is.below j held (before_given f.lines k j held at);

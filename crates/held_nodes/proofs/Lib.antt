@@ -10,3 +10,4 @@ pub mod NarrowLemmas
 pub mod PlaceLemmas
 pub mod SetLemmas
 pub mod StepLemmas
+pub mod PlainLemmas

@@ -1,20 +1,18 @@
--- Forward parts: the nodes of a settled graph that are held on work lines, and the gates that put their values there.
+-- Forward parts: the nodes of a graph that are held on work lines, and the gates that put their values there.
 use Rattle.std.specs.Prelude.{◌≡◌, ℕ, ◌+◌, ◌-◌, ◌*◌, ◌<◌, ◌≤◌, ◌==◌, Bool, false, true, List, ◌++◌, length, slice_index_or, Option, Some, None, is_some, sum_by}
 use Rattle.std.specs.Prelude.{count_by}
 use Rattle.std.specs.List.{AllByRecursion, list_any}
 use Rattle.list_facts.specs.Bits.{bit_of, zeros}
-use Rattle.dependency_graph.specs.declared.node.Base.TheVariants as bases
-use Rattle.dependency_graph.specs.declared.node.Sig.TheVariants.{Is}
-use Rattle.claim_check.specs.Settled.{SettledView, IsSettled, settled_value}
+use Rattle.sum_graph.specs.Graphs.{SumGraphView, IsSumGraph, node_value}
 use Rattle.gate_split.specs.Costs.{IsRoomyFlip}
 use Rattle.gate_split.specs.Plans.{BudgetView}
 use Rattle.mct_circuit.specs.Gates.{GateView, line_map}
 use Rattle.mct_circuit.specs.Sizes.{weight_of}
 
--- a forward part: the settled graph, the budget, the gates so far, for each node None or its work line, and the greatest
+-- a forward part: the graph, the budget, the gates so far, for each node None or its work line, and the greatest
 -- number of nodes that were held at one time
 pub record ForwardView : Type 0 where
-  pub graph : SettledView
+  pub graph : SumGraphView
   pub budget : BudgetView
   pub gates : List GateView
   pub lines : List (Option ℕ)
@@ -23,11 +21,11 @@ pub record ForwardView : Type 0 where
 -- ---- lines
 
 -- the circuit's first work line: the input lines and the output lines come before it
-abbrev pub first_work : SettledView → ℕ
+abbrev pub first_work : SumGraphView → ℕ
 first_work s = s.inputs + length s.outputs
 
 -- how many work lines the budget has
-abbrev pub work_lines : SettledView → BudgetView → ℕ
+abbrev pub work_lines : SumGraphView → BudgetView → ℕ
 work_lines s b = b.lines - (first_work s + b.borrow)
 
 -- ---- held nodes
@@ -58,14 +56,10 @@ pub record IsLeastFree (lines : List (Option ℕ)) (line : ℕ) : Type 0 where
 
 -- ---- the uncomputation invariant
 
--- the value of a node on an input
-abbrev pub node_value : SettledView → List Bool → ℕ → Bool
-node_value s input node = settled_value s input (Is (bases.Node node))
-
 -- The content of the work lines on an input: each held node's value stands on its line, every other work line holds 0,
 -- and whatever the output lines hold, the gates take the input, these bits and zeros to the input, these bits and the
 -- content.
-pub record IsContent (s : SettledView) (lines : List (Option ℕ)) (work : ℕ)
+pub record IsContent (s : SumGraphView) (lines : List (Option ℕ)) (work : ℕ)
     (gates : List GateView) (input content : List Bool) : Type 0 where
   pub long : length content ≡ work
   pub held : (node line : ℕ) → held_line lines node ≡ Some line
@@ -75,13 +69,13 @@ pub record IsContent (s : SettledView) (lines : List (Option ℕ)) (work : ℕ)
       → line_map gates (input ++ (outputs ++ zeros work)) ≡ input ++ (outputs ++ content)
 
 -- on this input the work lines have such a content
-pub record HoldsOn (s : SettledView) (lines : List (Option ℕ)) (work : ℕ)
+pub record HoldsOn (s : SumGraphView) (lines : List (Option ℕ)) (work : ℕ)
     (gates : List GateView) (input : List Bool) : Type 0 where
   pub content : List Bool
   pub is : IsContent s lines work gates input content
 
 -- on every input they do
-pub record HoldsNodes (s : SettledView) (lines : List (Option ℕ)) (work : ℕ)
+pub record HoldsNodes (s : SumGraphView) (lines : List (Option ℕ)) (work : ℕ)
     (gates : List GateView) : Type 0 where
   pub on : (input : List Bool) → length input ≡ s.inputs → HoldsOn s lines work gates input
 
@@ -89,7 +83,7 @@ pub record HoldsNodes (s : SettledView) (lines : List (Option ℕ)) (work : ℕ)
 -- the most nodes held at one time, and lines and gates are within the budget; each gate is a flip that has at most two
 -- controls or leaves a line idle.
 pub record IsForward (f : ForwardView) : Type 0 where
-  pub settled : IsSettled f.graph
+  pub sums : IsSumGraph f.graph
   pub nodes : length f.lines ≡ length f.graph.nodes
   pub different : (j k line : ℕ) → held_line f.lines j ≡ Some line
       → held_line f.lines k ≡ Some line → j ≡ k

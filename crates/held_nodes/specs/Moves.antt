@@ -1,16 +1,11 @@
 -- What can be done with a forward part: a toggle of a node, a clearing by cubes, and the finish.
-use Rattle.std.specs.Prelude.{◌≡◌, ℕ, ◌+◌, ◌*◌, ◌<◌, ◌≤◌, max, Bool, false, true, if◌then◌else◌, List, [], ◌∷◌, ◌++◌, length, map, reverse, slice_get, slice_set}
-use Rattle.std.specs.Prelude.{Option, Some, None, unwrap_or, ⊤, sum_by}
+use Rattle.std.specs.Prelude.{◌≡◌, ℕ, ◌+◌, ◌*◌, ◌<◌, ◌≤◌, max, Bool, true, false, List, [], ◌∷◌, ◌++◌, length, map, reverse, slice_get, slice_set}
+use Rattle.std.specs.Prelude.{Option, Some, None, ⊤, sum_by}
 use Rattle.std.specs.List.{AllByRecursion}
 use Rattle.list_facts.specs.Bits.{bit_of}
 use Rattle.dependency_graph.specs.declared.node.Base.{Base}
 use Rattle.dependency_graph.specs.declared.node.Base.TheVariants as bases
-use Rattle.dependency_graph.specs.declared.node.Node.{Node}
-use Rattle.dependency_graph.specs.declared.node.Node.TheVariants.{Not, Xor, And}
-use Rattle.dependency_graph.specs.declared.node.Sig.{Sig}
-use Rattle.dependency_graph.specs.declared.node.Sig.TheVariants.{Const, Is}
-use Rattle.dependency_graph.specs.Graphs.{operands}
-use Rattle.claim_check.specs.Settled.{SettledView}
+use Rattle.bit_sums.specs.Sums.{SumView, bases_of}
 use Rattle.exclusive_sums.specs.declared.cube.Literal.{Literal}
 use Rattle.exclusive_sums.specs.Cubes.{value_of_cubes}
 use Rattle.gate_split.specs.declared.plan.PlanFault.{PlanFault}
@@ -19,26 +14,17 @@ use Rattle.gate_split.specs.declared.roles.Roles.{Roles}
 use Rattle.gate_split.specs.Plans.{BudgetView, PlannedView}
 use Rattle.mct_circuit.specs.declared.gate.Control.{Control}
 use Rattle.mct_circuit.specs.declared.gate.Op.TheVariants.{Flip}
-use Rattle.mct_circuit.specs.Gates.{GateView, flip_of}
+use Rattle.mct_circuit.specs.Gates.{GateView}
 use Rattle.mct_circuit.specs.Sizes.{weight_of}
-use Rattle.held_nodes.specs.Held.{ForwardView, IsLeastFree, first_work, work_lines, held_line, is_held, held_count, node_value}
+use Rattle.sum_graph.specs.Graphs.{SumGraphView, node_value}
+use Rattle.sum_toggles.specs.Toggles.{base_line, sum_gates, toggle_weight}
+use Rattle.held_nodes.specs.Held.{ForwardView, IsLeastFree, first_work, work_lines, held_line, is_held, held_count}
 
 -- ---- the gates; `first` is the first work line
 
--- the line of an input, or of a node that is held
-abbrev pub base_line : ℕ → List (Option ℕ) → Base → ℕ
-base_line first lines (bases.Input i) = i
-base_line first lines (bases.Node k) = first + unwrap_or (held_line lines k) 0
-
--- the gates of a toggle: they flip a work line by the node's value
-abbrev pub toggle_of : ℕ → List (Option ℕ) → ℕ → Node → List GateView
-toggle_of first lines line (Not a) =
-    flip_of (base_line first lines a ∷ []) (first + line) ∷ flip_of [] (first + line) ∷ []
-toggle_of first lines line (Xor a b) =
-    flip_of (base_line first lines a ∷ []) (first + line)
-    ∷ flip_of (base_line first lines b ∷ []) (first + line) ∷ []
-toggle_of first lines line (And a b) =
-    flip_of (base_line first lines a ∷ base_line first lines b ∷ []) (first + line) ∷ []
+-- the gates of a toggle: they add the node's value to a work line
+abbrev pub toggle_of : ℕ → List (Option ℕ) → ℕ → SumView → List GateView
+toggle_of first lines line node = sum_gates (base_line first lines) (first + line) node
 
 -- a literal as a control on its input's line
 abbrev pub control_of : Literal → Control
@@ -51,16 +37,11 @@ cube_flip first line cube = record { controls = map control_of cube; op = Flip (
 abbrev pub cube_flips : ℕ → ℕ → List (List Literal) → List GateView
 cube_flips first line cubes = map (cube_flip first line) cubes
 
--- the gates that put an output on its line: a copy of a base, a flip for the constant true
-abbrev pub copy_of : ℕ → List (Option ℕ) → ℕ → Sig → List GateView
-copy_of first lines target (Const bit) = if bit then flip_of [] target ∷ [] else []
-copy_of first lines target (Is base) = flip_of (base_line first lines base ∷ []) target ∷ []
-
--- the gates that put outputs on the lines from the given one on
-abbrev pub copies_from : ℕ → List (Option ℕ) → ℕ → List Sig → List GateView
+-- the gates that add outputs to the lines from the given one on
+abbrev pub copies_from : ℕ → List (Option ℕ) → ℕ → List SumView → List GateView
 copies_from first lines target [] = []
-copies_from first lines target (sig ∷ rest) =
-    copy_of first lines target sig ++ copies_from first lines (target + 1) rest
+copies_from first lines target (s ∷ rest) =
+    sum_gates (base_line first lines) target s ++ copies_from first lines (target + 1) rest
 
 abbrev pub copies_of : ForwardView → List GateView
 copies_of f = copies_from (first_work f.graph) f.lines f.graph.inputs f.graph.outputs
@@ -82,12 +63,12 @@ with_node f node line gates =
 -- ---- the beginning
 
 -- no node is held yet
-abbrev pub nothing_held : SettledView → BudgetView → List (Option ℕ) → ForwardView
+abbrev pub nothing_held : SumGraphView → BudgetView → List (Option ℕ) → ForwardView
 nothing_held s b lines =
     record { graph = s; budget = b; gates = []; lines = lines; most = 0 }
 
 -- the budget does not have a line for each input, output and borrowed bit
-abbrev pub IsStartFault : SettledView → BudgetView → PlanFault → Type 0
+abbrev pub IsStartFault : SumGraphView → BudgetView → PlanFault → Type 0
 IsStartFault s b (Lines need) = (b.lines < need) × (need ≡ first_work s + b.borrow)
 IsStartFault s b Gates = ⊥
 IsStartFault s b Memory = first_work s + b.borrow ≤ b.lines
@@ -100,10 +81,10 @@ IsReadyBase lines (bases.Input i) = ⊤
 IsReadyBase lines (bases.Node k) = is_held lines k ≡ true
 
 -- it is a node of the graph, and each of its operands is an input or held
-pub record IsReadyNode (s : SettledView) (lines : List (Option ℕ)) (k : ℕ) : Type 0 where
-  pub node : Node
+pub record IsReadyNode (s : SumGraphView) (lines : List (Option ℕ)) (k : ℕ) : Type 0 where
+  pub node : SumView
   pub is : slice_get s.nodes k ≡ Some node
-  pub ready : AllByRecursion (IsReadyBase lines) (operands node)
+  pub ready : AllByRecursion (IsReadyBase lines) (bases_of node)
 
 -- the work line on which a toggle acts, and the node's line afterwards: a node that is held is toggled on its own line,
 -- which it gives back; one that is not held takes the least free line
@@ -112,28 +93,23 @@ TakesLine lines (Some own) line after = (line ≡ own) × (after ≡ None)
 TakesLine lines None line after = IsLeastFree lines line × (after ≡ Some line)
 
 pub record IsToggled (f : ForwardView) (k : ℕ) (next : ForwardView) : Type 0 where
-  pub node : Node
+  pub node : SumView
   pub is : slice_get f.graph.nodes k ≡ Some node
   pub line : ℕ
   pub after : Option ℕ
   pub takes : TakesLine f.lines (held_line f.lines k) line after
   pub becomes :
       next ≡ with_node f k after (toggle_of (first_work f.graph) f.lines line node)
+  pub weighs : weight_in (toggle_of (first_work f.graph) f.lines line node) ≡ toggle_weight node
 
 -- the node is not held, and as many nodes are as the budget has work lines
 pub record HasNoLine (f : ForwardView) (k : ℕ) : Type 0 where
   pub free : is_held f.lines k ≡ false
   pub full : held_count f.lines ≡ work_lines f.graph f.budget
 
--- the weight of a node's toggle, on any line
-abbrev pub toggle_weight : Node → ℕ
-toggle_weight (Not a) = 2
-toggle_weight (Xor a b) = 2
-toggle_weight (And a b) = 1
-
 -- twice the weight of the gates, with that of this node's toggle, passes the budget
 pub record IsToggleTooHeavy (f : ForwardView) (k : ℕ) : Type 0 where
-  pub node : Node
+  pub node : SumView
   pub is : slice_get f.graph.nodes k ≡ Some node
   pub heavy : f.budget.gates < 2 * (weight_in f.gates + toggle_weight node)
 
@@ -172,10 +148,9 @@ IsClearFault f k cubes Memory = ⊤
 
 -- ---- the finish
 
--- a constant, an input, or a node that is held
-abbrev pub IsReadySig : List (Option ℕ) → Sig → Type 0
-IsReadySig lines (Const bit) = ⊤
-IsReadySig lines (Is base) = IsReadyBase lines base
+-- a sum of inputs and of nodes that are held
+abbrev pub IsReadySum : List (Option ℕ) → SumView → Type 0
+IsReadySum lines s = AllByRecursion (IsReadyBase lines) (bases_of s)
 
 -- the gates, the copies, and the gates reversed
 abbrev pub finished_gates : ForwardView → List GateView
@@ -201,7 +176,7 @@ roles_of_plan p =
 
 -- twice the weight of the gates and once that of the copies
 abbrev pub finished_weight : ForwardView → ℕ
-finished_weight f = 2 * weight_in f.gates + weight_in (copies_of f)
+finished_weight f = 2 * weight_in f.gates + sum_by toggle_weight f.graph.outputs
 
 abbrev pub IsFinishFault : ForwardView → PlanFault → Type 0
 IsFinishFault f (Lines need) = ⊥

@@ -1,13 +1,13 @@
--- Plans of a settled graph within a budget.
+-- Plans of a graph within a budget.
 use Rattle.std.specs.Prelude.{◌≡◌, ℕ, ◌+◌, ◌≤◌, nat_lt, if◌then◌else◌, length}
-use Rattle.claim_check.specs.Settled.{SettledView}
+use Rattle.sum_graph.specs.Graphs.{SumGraphView}
 use Rattle.gate_split.specs.Plans.{BudgetView, PlannedView}
 use Rattle.mct_circuit.specs.Gates.{AreNarrow}
 use Rattle.held_nodes.specs.Held.{ForwardView, first_work}
 use Rattle.held_nodes.specs.Moves.{IsToggled, finished_gates, weight_in}
 
--- the plan has the inputs and outputs of the settled graph
-pub record HasPorts (s : SettledView) (p : PlannedView) : Type 0 where
+-- the plan has the inputs and outputs of the graph
+pub record HasPorts (s : SumGraphView) (p : PlannedView) : Type 0 where
   pub inputs : p.inputs ≡ s.inputs
   pub outputs : p.outputs ≡ length s.outputs
   pub lines : p.circuit.lines ≡ first_work s + p.work
@@ -17,15 +17,15 @@ pub record IsInBudget (b : BudgetView) (p : PlannedView) : Type 0 where
   pub lines : p.circuit.lines + b.borrow ≤ b.lines
   pub gates : weight_in p.circuit.gates ≤ b.gates
 
--- the budget has a line for each input, output and borrowed bit
-abbrev pub HasPortLines : SettledView → BudgetView → Type 0
-HasPortLines s b = first_work s + b.borrow ≤ b.lines
+-- the budget has a line for each of so many inputs and outputs, and for each borrowed bit
+abbrev pub HasPortLines : ℕ → BudgetView → Type 0
+HasPortLines ports b = ports + b.borrow ≤ b.lines
 
 -- how many lines a refused plan wants: one for each input, output and borrowed bit where that passes the budget, and
 -- otherwise one more than the budget has
-abbrev pub wanted_lines : SettledView → BudgetView → ℕ
-wanted_lines s b =
-    if nat_lt b.lines (first_work s + b.borrow) then first_work s + b.borrow else b.lines + 1
+abbrev pub wanted_lines : ℕ → BudgetView → ℕ
+wanted_lines ports b =
+    if nat_lt b.lines (ports + b.borrow) then ports + b.borrow else b.lines + 1
 
 -- The law: toggles keep gates narrow, and so does a finish.
 pub record TogglesAreNarrow : Type 0 where

@@ -1,102 +1,71 @@
 // The gates that copy the outputs to their lines, and the circuit of a finished plan.
 ghost use Rattle.std.specs.Prelude.{◌≡◌, ◌+◌, ◌<◌, ◌≤◌, ◌∷◌, [], ◌++◌, ◌*◌, length, reverse, take};
-ghost use Rattle.std.specs.Prelude.{IfOk, IfErr, OnOk, count_by};
+ghost use Rattle.std.specs.Prelude.{IfOk, IfErr, OnOk, sum_by, true, false};
 ghost use Rattle.std.specs.List.{AllByRecursion};
-ghost use Rattle.claim_check.specs.Settled.{IsSettled};
+ghost use Rattle.sum_graph.specs.Graphs.{IsSumGraph};
 ghost use Rattle.gate_split.specs.declared.plan.TheConstants.{MOST_LINES};
-ghost use Rattle.list_facts.specs.Lists.{AreDifferent};
-ghost use Rattle.mct_circuit.specs.Gates.{AreGatesOn, flip_of};
+ghost use Rattle.mct_circuit.specs.Gates.{AreGatesOn};
+ghost use Rattle.sum_toggles.specs.Toggles.{toggle_weight};
 ghost use Rattle.held_nodes.specs.Held.{first_work};
-ghost use Rattle.held_nodes.specs.Moves.{copies_from, copy_of};
-ghost use Rattle.held_nodes.specs.inside.Kept.{IsApartSig, is_copied};
+ghost use Rattle.held_nodes.specs.Moves.{copies_from};
+ghost use Rattle.held_nodes.specs.inside.Kept.{CanCopy, HasProducts};
 
-use crate::toggling::base_line;
-use claim_check::Settled;
-use dependency_graph::Sig;
+use bit_sums::Sum;
 use gate_split::{PlanFault, Planned};
 use mct_circuit::{Circuit, Gate, GateFault};
 use revc_base::Memory;
 use std::alloc::Global;
+use sum_graph::SumGraph;
+use sum_toggles::{append_sum, weight_within};
 
-// The gates that put the outputs on the lines from `inputs` on.
+// The gates that add the outputs to the lines from `inputs` on.
 pub fn copies_of(
     alloc: Global,
     inputs: u32,
     lines: &[Option<u32>],
-    outputs: &[Sig],
+    outputs: &[Sum],
 ) -> Result<Vec<Gate>, Memory>
     requires few { inputs + length outputs.now ≤ MOST_LINES }
-    requires apart { AllByRecursion (IsApartSig (inputs + length outputs.now) lines.now inputs)
+    requires can { AllByRecursion (CanCopy (inputs + length outputs.now) lines.now inputs)
         outputs.now }
     ensures { IfOk result (λ copies. copies.items
         ≡ copies_from (inputs + length outputs.now) lines.now inputs outputs.now) }
 {
     let first = inputs + outputs.len() as u32;
     let mut copies = Vec::new(alloc);
-    for (k, sig) in outputs.iter().enumerate() {
-        push_copy(&mut copies, first, lines, inputs + k as u32, *sig)?;
+    for (k, sum) in outputs.iter().enumerate() {
+        append_sum(&mut copies, first, lines, inputs + k as u32, sum)?;
     }
     Ok(copies)
 }
 
-// How many gates put the outputs on their lines. It takes no memory.
-pub fn copy_count(outputs: &[Sig]) -> u64
-    ensures { result ≡ count_by is_copied outputs.now }
+// Whether the copies of the outputs weigh no more than `room`. It takes no memory.
+pub fn copies_fit(outputs: &[Sum], room: u64) -> bool
+    ensures fit { result ≡ true → sum_by toggle_weight outputs.now ≤ room }
+    ensures heavy { result ≡ false → room < sum_by toggle_weight outputs.now }
+    ensures products { result ≡ true → AllByRecursion HasProducts outputs.now }
 {
-    outputs.iter().filter(|sig| is_copied(**sig)).count() as u64
-}
-
-// Whether a gate puts the output on its line.
-fn is_copied(sig: Sig) -> bool
-    ensures { result ≡ is_copied sig }
-{
-    match sig {
-        Sig::Const(bit) => bit,
-        Sig::Is(_) => true,
+    let mut left = room;
+    for sum in outputs {
+        let Some(weight) = weight_within(sum, left) else {
+            return false;
+        };
+        left -= weight;
     }
-}
-
-// Appends the gate that puts an output on its line, where it wants one.
-fn push_copy(
-    copies: &mut Vec<Gate>,
-    first: u32,
-    lines: &[Option<u32>],
-    target: u32,
-    sig: Sig,
-) -> Result<(), Memory>
-    requires apart { IsApartSig first lines.now target sig }
-    ensures { OnOk result (copies.new.items
-        ≡ copies.old.items ++ copy_of first lines.now target sig) }
-{
-    match sig {
-        Sig::Const(false) => Ok(()),
-        Sig::Const(true) => push_flip(copies, &[], target),
-        Sig::Is(base) => push_flip(copies, &[base_line(first, lines, base)], target),
-    }
-}
-
-// Appends the flip of `target` where all lines of `controls` are 1.
-fn push_flip(copies: &mut Vec<Gate>, controls: &[u32], target: u32) -> Result<(), Memory>
-    requires { AreDifferent (controls.now ++ target ∷ []) }
-    ensures { OnOk result (copies.new.items ≡ copies.old.items
-        ++ flip_of controls.now target ∷ []) }
-{
-    let gate = Gate::flip(*copies.allocator(), controls, target)?;
-    copies.push(gate)?;
-    Ok(())
+    true
 }
 
 // The first work line.
-pub fn first_work(graph: &Settled) -> u32
+pub fn first_work(graph: &SumGraph) -> u32
     ensures first { result ≡ first_work graph.now }
-    ensures settled { IsSettled graph.now }
+    ensures keeps { IsSumGraph graph.now }
 {
     graph.inputs() + graph.outputs().len() as u32
 }
 
 // The plan of the gates, the copies, and the gates reversed.
 pub fn plan_of(
-    graph: &Settled,
+    graph: &SumGraph,
     limit: u64,
     work: u32,
     mut gates: Vec<Gate>,

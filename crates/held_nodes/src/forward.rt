@@ -3,38 +3,38 @@ ghost use Rattle.std.specs.Prelude.{◌≡◌, ◌+◌, ◌<◌, ◌≤◌, [], 
 ghost use Rattle.std.specs.Prelude.{None, Some, IfOk, IfErr, IfSome, IfNone};
 ghost use Rattle.std.specs.List.{AllByRecursion};
 ghost use Rattle.ancilla_heap.specs.Lines.{IsLineHeap, contains};
-ghost use Rattle.claim_check.specs.Settled.{IsSettled, settled_outputs};
+ghost use Rattle.sum_graph.specs.Graphs.{IsSumGraph, sum_outputs};
 ghost use Rattle.gate_split.specs.Costs.{IsRoomyFlip};
 ghost use Rattle.gate_split.specs.Plans.{MapsCleanly};
 ghost use Rattle.held_nodes.specs.Held.{IsForward, first_work, held_line, is_held};
 ghost use Rattle.held_nodes.specs.Moves.{CanClear, IsCleared, IsClearFault, IsFinishFault};
-ghost use Rattle.held_nodes.specs.Moves.{IsReadyNode, IsReadySig, IsStartFault, IsToggled};
+ghost use Rattle.held_nodes.specs.Moves.{IsReadyNode, IsReadySum, IsStartFault, IsToggled};
 ghost use Rattle.held_nodes.specs.Moves.{IsToggleFault, copies_of, finished_weight, nothing_held};
 ghost use Rattle.held_nodes.specs.Moves.{planned_of, roles_of_plan};
 ghost use Rattle.held_nodes.specs.Plans.{HasPorts, IsInBudget};
-ghost use Rattle.held_nodes.specs.inside.Kept.{HasNoLineFor, IsLineFor, IsLineAfter};
+ghost use Rattle.held_nodes.specs.inside.Kept.{HasNoLineFor, HasProducts, IsLineFor, IsLineAfter};
 
-use crate::copying::{copies_of, copy_count, first_work, plan_of};
-use crate::toggling::{append_cubes, append_toggle};
+use crate::clearing::append_cubes;
+use crate::copying::{copies_fit, copies_of, first_work, plan_of};
 use crate::weighed::WeighedGates;
 use ancilla_heap::Heap;
-use claim_check::Settled;
 use exclusive_sums::Cube;
 use gate_split::{Budget, PlanFault, Planned};
 use mct_circuit::Gate;
 use std::alloc::Global;
 use std::marker::Model;
+use sum_graph::SumGraph;
 
-/// The forward part of a plan: gates that compute nodes of a settled graph onto work lines, and
+/// The forward part of a plan: gates that compute nodes of a graph onto work lines, and
 /// clean them there. A node whose value stands on a work line is held. Whatever the output lines
 /// hold, the gates take an input and zeros on the work lines to that input, each held node's value
 /// on its line, and zeros on the other work lines.
 ///
-/// Contracts see it as the settled graph, the budget, the list of gates, for each node None or its
+/// Contracts see it as the graph, the budget, the list of gates, for each node None or its
 /// work line, and the greatest number of nodes that were held at one time.
 #[derive(Drop)]
 pub struct Forward<'s> {
-    graph: &'s Settled,
+    graph: &'s SumGraph,
     budget: Budget,
     gates: WeighedGates,
     lines: Vec<Option<u32>>,
@@ -72,7 +72,11 @@ impl<'s> Forward<'s> {
     ///
     /// `Lines` exactly where the budget does not have a line for each input, output and borrowed
     /// bit; `need` is how many these are.
-    pub fn new(alloc: Global, graph: &'s Settled, budget: &Budget) -> Result<Forward<'s>, PlanFault>
+    pub fn new(
+        alloc: Global,
+        graph: &'s SumGraph,
+        budget: &Budget,
+    ) -> Result<Forward<'s>, PlanFault>
         ensures ok { IfOk result (λ forward. forward
             ≡ nothing_held graph.now budget.now (replicate (length graph.now.nodes) None)) }
         ensures keeps { IfOk result IsForward }
@@ -119,7 +123,7 @@ impl<'s> Forward<'s> {
         let Forward {
             graph,
             budget,
-            mut gates,
+            gates,
             mut lines,
             mut heap,
         } = self;
@@ -129,13 +133,9 @@ impl<'s> Forward<'s> {
                 need: budget.lines() + 1,
             });
         };
-        append_toggle(
-            &mut gates,
-            first_work(graph),
-            &lines,
-            line,
-            graph.node(node),
-        )?;
+        let sum = graph.node(node);
+        let first = first_work(graph);
+        let gates = gates.with_sum(first, &lines, first + line, sum)?;
         lines[node as usize] = line_after(own, line, &mut heap);
         Ok(Forward {
             graph,
@@ -189,10 +189,10 @@ impl<'s> Forward<'s> {
     /// `Gates` exactly where twice the weight of the gates and once that of the copies passes the
     /// budget.
     pub fn finish(self) -> Result<Planned, PlanFault>
-        requires { AllByRecursion (IsReadySig self.lines) self.graph.outputs }
+        requires { AllByRecursion (IsReadySum self.lines) self.graph.outputs }
         ensures ok { IfOk result (λ planned. planned ≡ planned_of self.entry) }
         ensures clean { IfOk result (λ planned. MapsCleanly (roles_of_plan planned)
-            planned.circuit.gates (settled_outputs self.entry.graph)) }
+            planned.circuit.gates (sum_outputs self.entry.graph)) }
         ensures ports { IfOk result (HasPorts self.entry.graph) }
         ensures within { IfOk result (IsInBudget self.entry.budget) }
         ensures roomy { IfOk result (λ planned.
@@ -212,14 +212,15 @@ impl<'s> Forward<'s> {
 
     // The copies of the outputs, where the plan with them is light enough.
     fn copies(&self) -> Result<Vec<Gate>, PlanFault>
-        requires { AllByRecursion (IsReadySig self.now.lines) self.now.graph.outputs }
+        requires { AllByRecursion (IsReadySum self.now.lines) self.now.graph.outputs }
         ensures ok { IfOk result (λ copies. copies.items ≡ copies_of self.now) }
+        ensures products { IfOk result (λ _. AllByRecursion HasProducts
+            self.now.graph.outputs) }
         ensures light { IfOk result (λ _. finished_weight self.now ≤ self.now.budget.gates) }
         ensures refused { IfErr result (IsFinishFault self.now) }
     {
         let outputs = self.graph.outputs();
-        // A copy weighs 1.
-        if copy_count(outputs) > self.budget.gates() - 2 * self.gates.weight() {
+        if !copies_fit(outputs, self.budget.gates() - 2 * self.gates.weight()) {
             return Err(PlanFault::Gates);
         }
         let alloc = self.gates.allocator();

@@ -1,15 +1,19 @@
 // Gates that may weigh so much together.
-ghost use Rattle.std.specs.Prelude.{◌≡◌, ◌-◌, ◌≤◌, ◌∷◌, [], ◌++◌, OnOk, IfErr, sum_by};
-ghost use Rattle.list_facts.specs.Lists.{AreDifferent};
-ghost use Rattle.mct_circuit.specs.Gates.{flip_of};
+ghost use Rattle.std.specs.Prelude.{◌≡◌, ◌+◌, ◌-◌, ◌≤◌, ◌∷◌, [], ◌++◌, OnOk, IfOk, IfErr, sum_by};
+ghost use Rattle.std.specs.List.{AllByRecursion};
+ghost use Rattle.bit_sums.specs.Sums.{bases_of};
 ghost use Rattle.mct_circuit.specs.Sizes.{weight_of};
-ghost use Rattle.held_nodes.specs.inside.Kept.{IsWeightFault};
+ghost use Rattle.sum_toggles.specs.Toggles.{AreApart, IsPlacedBase, base_line, sum_gates};
+ghost use Rattle.sum_toggles.specs.Toggles.{toggle_weight};
+ghost use Rattle.held_nodes.specs.inside.Kept.{HasProducts, IsWeightFault};
 
+use bit_sums::Sum;
 use gate_split::PlanFault;
 use mct_circuit::Gate;
 use revc_base::Memory;
 use std::alloc::Global;
 use std::marker::Model;
+use sum_toggles::{append_sum, weight_within};
 
 // A list of gates, and the most that they may weigh together.
 #[derive(Drop)]
@@ -91,30 +95,37 @@ impl WeighedGates {
         Ok(())
     }
 
-    // Appends the flip of `target` where all lines of `controls` are 1, for which there is room.
-    pub fn push_flip(&mut self, controls: &[u32], target: u32) -> Result<(), Memory>
-        requires different { AreDifferent (controls.now ++ target ∷ []) }
-        requires room { sum_by weight_of (self.old.gates ++ flip_of controls.now target ∷ [])
-            ≤ self.old.most }
-        ensures { OnOk result (self.new
-            ≡ record self.old { gates = self.old.gates ++ flip_of controls.now target ∷ [] }) }
+    // With the gates that add a sum to a line, where they are light enough.
+    pub fn with_sum(
+        self,
+        first: u32,
+        lines: &[Option<u32>],
+        target: u32,
+        sum: &Sum,
+    ) -> Result<WeighedGates, PlanFault>
+        requires placed { AllByRecursion (IsPlacedBase first lines.now) (bases_of sum.now) }
+        requires apart { AreApart (base_line first lines.now) target (bases_of sum.now) }
+        ensures ok { IfOk result (λ next. next ≡ record self
+            { gates = self.gates ++ sum_gates (base_line first lines.now) target sum.now }) }
+        ensures refused { IfErr result (IsWeightFault self.most
+            (sum_by weight_of self.gates + toggle_weight sum.now)) }
+        ensures light { IfOk result (λ next. sum_by weight_of next.gates ≤ next.most) }
+        ensures products { IfOk result (λ _. HasProducts sum.now) }
     {
-        let gate = Gate::flip(self.allocator(), controls, target)?;
-        self.put(gate)
-    }
-
-    // Appends two flips of `target`, for which there is room.
-    pub fn push_flips(&mut self, a: &[u32], b: &[u32], target: u32) -> Result<(), Memory>
-        requires a { AreDifferent (a.now ++ target ∷ []) }
-        requires b { AreDifferent (b.now ++ target ∷ []) }
-        requires room { sum_by weight_of
-            (self.old.gates ++ flip_of a.now target ∷ flip_of b.now target ∷ [])
-            ≤ self.old.most }
-        ensures { OnOk result (self.new ≡ record self.old
-            { gates = self.old.gates ++ flip_of a.now target ∷ flip_of b.now target ∷ [] }) }
-    {
-        self.push_flip(a, target)?;
-        self.push_flip(b, target)
+        let WeighedGates {
+            mut gates,
+            weight,
+            most,
+        } = self;
+        let Some(more) = weight_within(sum, most - weight) else {
+            return Err(PlanFault::Gates);
+        };
+        append_sum(&mut gates, first, lines, target, sum)?;
+        Ok(WeighedGates {
+            gates,
+            weight: weight + more,
+            most,
+        })
     }
 
     // The gates.

@@ -1,28 +1,29 @@
 -- What is known while blocks are tried, from one block of all nodes down to blocks of one node.
-use Rattle.std.proofs.Common.{◌≡◌, ℕ, zero, suc, ◌+◌, ◌*◌, ◌/◌, ◌^◌, ◌<◌, ◌≤◌, ◌⊎◌, true, length, Ok, Err, inl, inr, refl, sym, subst, ◌∙◌, pow_mono, arith}
+use Rattle.std.proofs.Common.{◌≡◌, ltb, ℕ, zero, suc, ◌+◌, ◌*◌, ◌/◌, ◌^◌, ◌<◌, ◌≤◌, ◌⊎◌, true, length, Ok, Err, inl, inr, refl, sym, subst, ◌∙◌, pow_mono, arith}
 use Rattle.std.specs.Prelude.{IfErr, IfOk, Result}
-use Rattle.std.proofs.lemmas.Bool.{cases_lt}
+use Rattle.std.proofs.lemmas.Bool.{cases_Bool, cases_lt, ltb-false}
 use Rattle.std.proofs.lemmas.Nat.{pow_pos}
 use Rattle.std.proofs.Math.Nat.{mul-le-mul_left, one-le-pow, pow-succ'}
-use Rattle.eager_cleanup.specs.Eager.{IsEagerFault}
-use Rattle.bennett_pebbling.specs.Pebbling.{HasFewGates, HasFewLines, IsHalved, IsPebblingFault}
+use Rattle.plan_choice.specs.Blocks.{HasFewGates, HasFewLines, IsHalved, IsPebblingFault}
 use Rattle.claim_check.specs.Budgets.{Measures, block_gates, block_lines}
 use Rattle.claim_check.specs.Measures.{IsWithin}
 use Rattle.claim_check.specs.Settled.{SettledView}
 use Rattle.gate_split.specs.declared.plan.PlanFault.{PlanFault}
 use Rattle.gate_split.specs.declared.plan.PlanFault.TheVariants.{Lines, Gates, Memory}
 use Rattle.gate_split.specs.Plans.{BudgetView, LaidView}
-use Rattle.held_nodes.specs.Held.{first_work}
+use Rattle.eager_cleanup.specs.Eager.{IsEagerFault, ports_of}
 use Rattle.revs_tape.specs.Levels.{IsLevels}
-use Rattle.gate_split.specs.declared.choice.How.TheVariants.{Pebble}
-use Rattle.plan_choice.specs.Choices.{Fit, FineFits, GatesAreFew, IsChoiceFault, IsLaidFor, IsPebbling, LinesAreFew, NoEagerFits, NoLargerFits, PlainFits, PebblingFits}
+use Rattle.gate_split.specs.declared.choice.How.TheVariants.{Auto, Eager, Pebble}
+use Rattle.gate_split.specs.declared.choice.How.{How}
+use Rattle.held_nodes.specs.Plans.{wanted_lines}
+use Rattle.plan_choice.specs.Choices.{EagerFits, Fit, FineFits, GatesAreFew, IsBelowFineLines, IsChoiceFault, IsLaidFor, IsPebbling, LinesAreFew, NoEagerFits, NoLargerFits, PlainFits, PebblingFits}
 use Rattle.plan_choice.specs.inside.Tried.{IsLaidInBlocks, IsSearchFault, is_refusal}
 
 -- ---- one block
 
 -- the plain numbers of the graph itself fit
 abbrev NodesFit : SettledView → BudgetView → Type 0
-NodesFit s b = Fit b (first_work s + length s.nodes + b.borrow) (4 * length s.nodes + length s.outputs)
+NodesFit s b = Fit b (ports_of s + length s.nodes + b.borrow) (4 * length s.nodes + length s.outputs)
 
 -- no numbers of the block fit: those of its halvings, and the plain ones where one block has all nodes
 record NoneFits (s : SettledView) (block : ℕ) (b : BudgetView) : Type 0 where
@@ -207,3 +208,46 @@ ended s b block tried h one =
     let is = h.is in
     let same : block ≡ 1 = omega arith in
     last_fault s b tried (subst (λ size. IfErr tried (IsSearchFault s size b)) same h.refused)
+
+-- ---- a budget without the lines of the inputs and outputs
+
+no_port_row : (s : SettledView) (b : BudgetView) (m : Measures) → b.lines < ports_of s + b.borrow → IsWithin s m → ¬ PebblingFits b m
+no_port_row s b m short within (inl plain) = (let few = plain.few_lines in omega (arith, few, short, within.inputs, within.outputs))
+no_port_row s b m short within (inr (inl fits)) = (let few = fits.fit.few_lines in omega (arith, few, short, within.inputs, within.outputs))
+no_port_row s b m short within (inr (inr fits)) = (let few = fits.fit.few_lines in omega (arith, few, short, within.inputs, within.outputs))
+
+no_eager_row : (s : SettledView) (b : BudgetView) (m : Measures) → b.lines < ports_of s + b.borrow → IsWithin s m → ¬ EagerFits b m
+no_eager_row s b m short within fit = (let few = fit.few_lines in omega (arith, few, short, within.inputs, within.outputs))
+
+below_fine : (s : SettledView) (b : BudgetView) (m : Measures) → b.lines < ports_of s + b.borrow → IsWithin s m → IsBelowFineLines b m
+below_fine s b m short within = record { below = λ levels are. omega (arith, short, within.inputs, within.outputs) }
+
+few_ports : (how : How) (s : SettledView) (b : BudgetView) → b.lines < ports_of s + b.borrow → LinesAreFew how s b
+few_ports Auto s b short = record {
+  few = λ m within. below_fine s b m short within;
+  no_row = λ m within row. elim row as (λ _. ⊥) [
+    | inl eager ↦ no_eager_row s b m short within eager
+    | inr pebbling ↦ no_port_row s b m short within pebbling
+  ];
+}
+few_ports Eager s b short = record {
+  few = λ m within. omega (arith, short, within.inputs, within.outputs);
+  no_row = λ m within row. no_eager_row s b m short within row;
+}
+few_ports Pebble s b short = record {
+  few = λ m within. below_fine s b m short within;
+  no_row = λ m within row. no_port_row s b m short within row;
+}
+
+wanted_ports : (s : SettledView) (b : BudgetView) → b.lines < ports_of s + b.borrow → ports_of s + b.borrow ≡ wanted_lines (ports_of s) b
+wanted_ports s b short = elim (cases_Bool (ltb b.lines (ports_of s + b.borrow))) as (λ _. ports_of s + b.borrow ≡ wanted_lines (ports_of s) b) [
+  | inl e ↦ rw e refl
+  | inr e ↦ absurd (omega (arith, ltb-false b.lines (ports_of s + b.borrow) e, short))
+]
+
+-- the refusal where the lines of the inputs, the outputs and the borrowed bits pass the budget
+pub ports_fault : (how : How) (s : SettledView) (b : BudgetView) (need : ℕ) → need ≡ ports_of s + b.borrow → b.lines < need
+    → IsChoiceFault how s b (Lines need)
+ports_fault how s b need is short =
+    let less : b.lines < ports_of s + b.borrow = omega (arith, is, short) in
+    (few_ports how s b less, is ∙ wanted_ports s b less)

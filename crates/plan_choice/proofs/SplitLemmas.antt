@@ -1,14 +1,28 @@
 -- What the split of a plan keeps, and when it is refused.
-use Rattle.std.proofs.Common.{◌≡◌, ℕ, ◌+◌, ◌<◌, ◌≤◌, Bool, false, List, [], ◌∷◌, ◌++◌, length, replicate, Ok, Err, inl, inr, refl, sym, ap, subst, ◌∙◌, arith}
+use Rattle.std.proofs.Common.{◌≡◌, ℕ, ◌+◌, ◌<◌, ◌≤◌, Bool, false, List, [], ◌∷◌, ◌++◌, length, map, replicate, Ok, Err, inl, inr, refl, sym, ap, ap₂, subst, ◌∙◌, arith}
 use Rattle.std.specs.List.{AllByRecursion, sum_by}
 use Rattle.std.specs.Prelude.{IfErr, Result}
 use Rattle.std.proofs.lemmas.Bool.{cases_lt}
 use Rattle.std.proofs.lemmas.Bool.Decides.{leb_tells}
 use Rattle.std.proofs.lemmas.List.{length-append, length-map, length-replicate}
 use Rattle.std.proofs.lemmas.List.Sums.{sum_by-cons}
-use Rattle.claim_check.specs.Settled.{SettledView}
-use Rattle.bennett_pebbling.specs.Pebbling.{IsPebblingFault, IsWithinBlock}
-use Rattle.eager_cleanup.specs.Eager.{IsWithinEager}
+use Rattle.revs_tape.specs.Cuts.{cut_at}
+use Rattle.bit_sums.specs.Sums.{SumView}
+use Rattle.dependency_graph.specs.declared.node.Node.{Node}
+use Rattle.dependency_graph.specs.declared.node.Node.TheVariants.{Not, Xor, And}
+use Rattle.dependency_graph.specs.declared.node.Sig.{Sig}
+use Rattle.claim_check.specs.Budgets.{Measures}
+use Rattle.claim_check.specs.Measures.{IsWithin}
+use Rattle.claim_check.specs.Settled.{SettledView, settled_outputs}
+use Rattle.gate_split.specs.declared.roles.Roles.{Roles}
+use Rattle.sum_graph.specs.Graphs.{sum_outputs}
+use Rattle.sum_graph.specs.Plain.{plain_of, plain_output, plain_sum}
+use Rattle.sum_graph.proofs.PlainLemmas.{plain_graphs_are_alike}
+use Rattle.sum_toggles.specs.Toggles.{toggle_weight}
+use Rattle.held_nodes.specs.Held.{first_work}
+use Rattle.bennett_pebbling.specs.Pebbling as sums
+use Rattle.plan_choice.specs.Blocks.{AreWithinBlock, IsHalved, IsPebblingFault}
+use Rattle.eager_cleanup.specs.Eager.{IsWithinEager, ports_of}
 use Rattle.gate_split.specs.declared.fault.SplitFault.TheVariants as split
 use Rattle.gate_split.specs.declared.plan.PlanFault.{PlanFault}
 use Rattle.gate_split.specs.declared.plan.PlanFault.TheVariants.{Lines, Gates, Memory}
@@ -16,11 +30,11 @@ use Rattle.gate_split.specs.Costs.{IsRoomyFlip, NarrowStay, RoomyFlipsAreSplit, 
 use Rattle.gate_split.specs.Plans.{BudgetView, CleanCircuitsBorrow, LaidView, MapsCleanly, PlannedView, lines_in, with_borrowed}
 use Rattle.gate_split.specs.Split.{split_list}
 use Rattle.held_nodes.specs.Moves.{roles_of_plan, weight_in}
-use Rattle.held_nodes.specs.Plans.{HasPortLines, HasPorts}
+use Rattle.held_nodes.specs.Plans.{HasPortLines, HasPorts, wanted_lines}
 use Rattle.mct_circuit.specs.Gates.{AreGatesOn, AreNarrow, CircuitView, GateView, IsGateOn, IsNarrow, flip_of, line_map, positive}
 use Rattle.mct_circuit.specs.Sizes.{weight_of}
 use Rattle.mct_circuit.proofs.WeightLemmas.{length-le-weight}
-use Rattle.plan_choice.specs.Choices.{IsEager}
+use Rattle.plan_choice.specs.Choices.{IsEager, IsLaidFor}
 use Rattle.plan_choice.specs.inside.Tried.{IsLaidInBlocks, IsLaidOf, IsSplitFault}
 
 -- ---- narrow gates
@@ -62,7 +76,7 @@ many_gates n more limit gates law few roomy refused = elim (cases_lt limit (sum_
 ]
 
 -- the split of narrow gates within the budget is refused only for want of memory
-pub blocks_refused : (s : SettledView) (block : ℕ) (b : BudgetView) (gates : List GateView) (tried : Result LaidView PlanFault) → HasPortLines s b
+pub blocks_refused : (s : SettledView) (block : ℕ) (b : BudgetView) (gates : List GateView) (tried : Result LaidView PlanFault) → HasPortLines (ports_of s) b
     → AreNarrow gates → weight_in gates ≤ b.gates → IfErr tried (IsSplitFault gates b) → IfErr tried (IsPebblingFault s block b)
 blocks_refused s block b gates (Ok laid) lines narrow within h = tt
 blocks_refused s block b gates (Err (Lines need)) lines narrow within h = absurd h
@@ -102,7 +116,7 @@ same_gates b p laid law narrow light is =
     ap (λ (gs : List GateView). length gs) same
 
 pub laid_blocks : (s : SettledView) (block : ℕ) (b : BudgetView) (p : PlannedView) (laid : LaidView) → NarrowStay → AreNarrow p.circuit.gates
-    → weight_in p.circuit.gates ≤ b.gates → IsWithinBlock s block p → IsLaidOf p b laid → IsLaidInBlocks s block b laid
+    → weight_in p.circuit.gates ≤ b.gates → AreWithinBlock s block 0 p.circuit.lines (length p.circuit.gates) → IsLaidOf p b laid → IsLaidInBlocks s block b laid
 laid_blocks s block b p laid law narrow light within is =
     let same = same_gates b p laid law narrow light is in
     record {
@@ -115,8 +129,8 @@ laid_blocks s block b p laid law narrow light within is =
     }
 
 -- a plan within the budget has the lines of the inputs and outputs
-pub port_lines : (s : SettledView) (b : BudgetView) (p : PlannedView) → HasPorts s p → p.circuit.lines + b.borrow ≤ b.lines → HasPortLines s b
-port_lines s b p ports within = omega (arith, ports.lines, within)
+pub port_lines : (s : SettledView) (b : BudgetView) (p : PlannedView) → HasPorts (plain_of s) p → p.circuit.lines + b.borrow ≤ b.lines → HasPortLines (ports_of s) b
+port_lines s b p ports within = omega (arith, ports.lines, within, length-map s.outputs plain_output)
 
 -- ---- the laid plan
 
@@ -170,4 +184,97 @@ is_laid_of p b narrow law lines on within size split few map = record {
   split = split;
   gates = few;
   clean = λ value clean. clean_too p b.borrow narrow.gates value law lines on map clean;
+}
+
+-- ---- a settled graph and its plain graph
+
+light_node : (node : Node) → toggle_weight (plain_sum node) ≤ 2
+light_node (Not a) = omega arith
+light_node (Xor a b) = omega arith
+light_node (And a b) = omega arith
+
+light_nodes : (nodes : List Node) → AllByRecursion (λ (s : SumView). toggle_weight s ≤ 2) (map plain_sum nodes)
+light_nodes [] = tt
+light_nodes (x ∷ xs) = (light_node x, light_nodes xs)
+
+copied_outputs : (sigs : List Sig) → AllByRecursion sums.IsCopy (map plain_output sigs)
+copied_outputs [] = tt
+copied_outputs (x ∷ xs) = (record { sig = x; is = refl }, copied_outputs xs)
+
+plain_light : (s : SettledView) → sums.IsLight (plain_of s)
+plain_light s = record { toggles = light_nodes s.nodes; outputs = copied_outputs s.outputs }
+
+plain_within : (s : SettledView) (m : Measures) → IsWithin s m → sums.IsSumWithin (plain_of s) m
+plain_within s m within =
+    let nodes = length-map s.nodes plain_sum in
+    let alike = plain_graphs_are_alike s in
+    record {
+      light = plain_light s;
+      inputs = within.inputs;
+      outputs = length-map s.outputs plain_output ∙ within.outputs;
+      steps = omega (arith, nodes, within.steps);
+      cuts = λ j low. subst (λ (n : ℕ). n ≤ m.width) (sym (ap₂ (λ steps outputs. length (cut_at steps outputs j)) alike.steps alike.output_nodes))
+          (within.cuts j (omega (arith, low, nodes)));
+    }
+
+plain_halved : (s : SettledView) (block levels : ℕ) (m : Measures) → IsHalved s block levels m → sums.IsHalved (plain_of s) block levels m
+plain_halved s block levels m h =
+    record { within = plain_within s m h.within; enough = omega (arith, h.enough, length-map s.nodes plain_sum) }
+
+pub block_within : (s : SettledView) (block borrowed lines gates : ℕ) → sums.AreWithinBlock (plain_of s) block borrowed lines gates
+    → AreWithinBlock s block borrowed lines gates
+block_within s block borrowed lines gates w =
+    let nodes = length-map s.nodes plain_sum in
+    let outputs = length-map s.outputs plain_output in
+    record {
+      block_lines = λ m levels h. w.block_lines m levels (plain_halved s block levels m h);
+      block_gates = λ m levels h. w.block_gates m levels (plain_halved s block levels m h);
+      fine_lines = λ m levels one h. w.fine_lines m levels one (plain_halved s 1 levels m h);
+      fine_gates = λ m levels one h. w.fine_gates m levels one (plain_halved s 1 levels m h);
+      plain_lines = λ covers. omega (arith, w.plain_lines (omega (arith, covers, nodes)), nodes, outputs);
+      plain_gates = λ covers. omega (arith, w.plain_gates (plain_light s) (omega (arith, covers, nodes)), nodes, outputs);
+    }
+
+ports_same : (s : SettledView) → first_work (plain_of s) ≡ ports_of s
+ports_same s = ap (λ (n : ℕ). s.inputs + n) (length-map s.outputs plain_output)
+
+pub block_fault : (s : SettledView) (block : ℕ) (b : BudgetView) (e : PlanFault) → sums.IsPebblingFault (plain_of s) block b e → IsPebblingFault s block b e
+block_fault s block b (Lines need) h =
+    let nodes = length-map s.nodes plain_sum in (
+      record {
+        halved = λ m levels is. h.0.halved m levels (plain_halved s block levels m is);
+        fine = λ m levels one is. h.0.fine m levels one (plain_halved s 1 levels m is);
+        plain = λ covers. omega (arith, h.0.plain (omega (arith, covers, nodes)), nodes, ports_same s);
+      },
+      h.1 ∙ ap (λ (n : ℕ). wanted_lines n b) (ports_same s),
+    )
+block_fault s block b Gates h =
+    let nodes = length-map s.nodes plain_sum in
+    let outputs = length-map s.outputs plain_output in
+    record {
+      halved = λ m levels is. h.halved m levels (plain_halved s block levels m is);
+      fine = λ m levels one is. h.fine m levels one (plain_halved s 1 levels m is);
+      plain = λ covers. omega (arith, h.plain (plain_light s) (omega (arith, covers, nodes)), nodes, outputs);
+    }
+block_fault s block b Memory h = omega (arith, h, ports_same s)
+
+-- gates that put the outputs of the plain graph put those of the settled one
+pub plain_clean : (s : SettledView) (roles : Roles) (gates : List GateView) → MapsCleanly roles gates (sum_outputs (plain_of s))
+    → MapsCleanly roles gates (settled_outputs s)
+plain_clean s roles gates clean = record {
+  puts = λ input borrowed size long. record {
+    mapped = (clean.puts input borrowed size long).mapped
+        ∙ ap (λ (outputs : List Bool). input ++ (outputs ++ (replicate roles.work false ++ borrowed))) ((plain_graphs_are_alike s).outputs input);
+  };
+}
+
+pub laid_for : (s : SettledView) (b : BudgetView) (p : PlannedView) (laid : LaidView) → HasPorts (plain_of s) p
+    → MapsCleanly (roles_of_plan p) p.circuit.gates (settled_outputs s) → IsLaidOf p b laid → IsLaidFor s b laid
+laid_for s b p laid ports clean is = record {
+  inputs = is.inputs ∙ ports.inputs;
+  outputs = is.outputs ∙ ports.outputs ∙ length-map s.outputs plain_output;
+  borrowed = is.borrowed;
+  lines = is.lines;
+  gates = is.gates;
+  clean = is.clean (settled_outputs s) clean;
 }

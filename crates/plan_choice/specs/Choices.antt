@@ -9,8 +9,8 @@ use Rattle.gate_split.specs.declared.plan.PlanFault.{PlanFault}
 use Rattle.gate_split.specs.declared.plan.PlanFault.TheVariants.{Lines, Gates, Memory}
 use Rattle.gate_split.specs.Plans.{BudgetView, LaidView, MapsCleanly, roles_of}
 use Rattle.held_nodes.specs.Plans.{HasPortLines, wanted_lines}
-use Rattle.eager_cleanup.specs.Eager.{AreWithinEager}
-use Rattle.bennett_pebbling.specs.Pebbling.{AreWithinBlock}
+use Rattle.eager_cleanup.specs.Eager.{AreWithinEager, ports_of}
+use Rattle.plan_choice.specs.Blocks.{AreWithinBlock}
 use Rattle.gate_split.specs.declared.choice.How.{How}
 use Rattle.gate_split.specs.declared.choice.How.TheVariants.{Auto, Eager, Pebble}
 
@@ -91,9 +91,9 @@ pub record GatesAreFew (how : How) (s : SettledView) (b : BudgetView) : Type 0 w
 
 -- why no plan is laid; memory is wanted only where the budget has the lines of the inputs and outputs
 abbrev pub IsChoiceFault : How → SettledView → BudgetView → PlanFault → Type 0
-IsChoiceFault how s b (Lines need) = LinesAreFew how s b × (need ≡ wanted_lines s b)
+IsChoiceFault how s b (Lines need) = LinesAreFew how s b × (need ≡ wanted_lines (ports_of s) b)
 IsChoiceFault how s b Gates = GatesAreFew how s b
-IsChoiceFault how s b Memory = HasPortLines s b
+IsChoiceFault how s b Memory = HasPortLines (ports_of s) b
 
 -- ---- what is laid
 

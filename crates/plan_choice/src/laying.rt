@@ -1,7 +1,8 @@
 // One plan laid: its gates are split on all its lines and the borrowed ones.
 ghost use Rattle.std.specs.Prelude.{◌≡◌, ◌+◌, ◌≤◌, IfOk, IfErr};
 ghost use Rattle.std.specs.List.{AllByRecursion};
-ghost use Rattle.bennett_pebbling.specs.Pebbling.{IsPebblingFault};
+ghost use Rattle.plan_choice.specs.Blocks.{IsPebblingFault};
+ghost use Rattle.sum_graph.specs.Plain.{plain_of};
 ghost use Rattle.eager_cleanup.specs.Eager.{IsEagerFault};
 ghost use Rattle.gate_split.specs.Costs.{IsRoomyFlip};
 ghost use Rattle.plan_choice.specs.Choices.{IsEager, IsLaidFor};
@@ -14,16 +15,23 @@ use gate_split::{
     roomy_flips_are_split, split,
 };
 use std::alloc::Global;
+use sum_graph::SumGraph;
 
 // The eager plan, laid.
-pub fn lay_eager(alloc: Global, graph: &Settled, budget: &Budget) -> Result<Laid, PlanFault>
+pub fn lay_eager(
+    alloc: Global,
+    graph: &Settled,
+    plain: &SumGraph,
+    budget: &Budget,
+) -> Result<Laid, PlanFault>
+    requires { plain.now ≡ plain_of graph.now }
     ensures ok { IfOk result (IsLaidFor graph.now budget.now) }
     ensures eager { IfOk result (IsEager graph.now budget.now) }
     ensures refused { IfErr result (IsEagerFault graph.now budget.now) }
 {
     // This call says into how many gates flips with room are split.
     roomy_flips_are_split();
-    let planned = eager_cleanup::plan(alloc, graph, budget)?;
+    let planned = eager_cleanup::plan(alloc, graph, plain, budget)?;
     lay(alloc, &planned, budget)
 }
 
@@ -31,17 +39,19 @@ pub fn lay_eager(alloc: Global, graph: &Settled, budget: &Budget) -> Result<Laid
 pub fn lay_blocks(
     alloc: Global,
     graph: &Settled,
+    plain: &SumGraph,
     block: u32,
     budget: &Budget,
 ) -> Result<Laid, PlanFault>
-    requires { 1 ≤ block }
+    requires some { 1 ≤ block }
+    requires plain { plain.now ≡ plain_of graph.now }
     ensures ok { IfOk result (IsLaidFor graph.now budget.now) }
     ensures within { IfOk result (IsLaidInBlocks graph.now block budget.now) }
     ensures refused { IfErr result (IsPebblingFault graph.now block budget.now) }
 {
     // This call says that narrow gates stay as they are.
     narrow_stay();
-    let planned = bennett_pebbling::plan(alloc, graph, block, budget)?;
+    let planned = bennett_pebbling::plan(alloc, plain, block, budget)?;
     // This call says that the gates are on the circuit's lines.
     let _ = planned.circuit().lines();
     lay(alloc, &planned, budget)

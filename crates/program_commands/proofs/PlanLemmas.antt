@@ -11,7 +11,6 @@ use Rattle.claim_check.proofs.BudgetLemmas.{settled_graphs_are_within}
 use Rattle.gate_split.specs.declared.plan.TheConstants.{MOST_LINES, MOST_GATES}
 use Rattle.gate_split.specs.declared.choice.How.{How}
 use Rattle.gate_split.specs.Plans.{BudgetView, LaidView, PutsOutputs, roles_of, lines_in}
-use Rattle.held_nodes.specs.Held.{first_work}
 use Rattle.mct_circuit.specs.Gates.{AreGatesOn, AreNarrow}
 use Rattle.qasm_format.proofs.MeaningLemmas as qasm
 use Rattle.real_format.proofs.MeaningLemmas as real
@@ -153,13 +152,13 @@ planning_fault order text tape s (faults.Lines need limit) l is no_larger h =
     let within : (m : Measures) → AreMeasuresOf tape m → IsWithin s m = λ m are. settled_graphs_are_within tape s m is no_larger are in
     let inputs = is.inputs in
     let outputs = is.outputs in
-    let same : first_work s + order.borrow ≡ least_lines tape order = omega arith in
+    let same : s.inputs + length s.outputs + order.borrow ≡ least_lines tape order = omega arith in
     record {
       tape = tape;
       settled = l;
       few = λ m are. h.0.few m (within m are);
       no_row = λ m are. h.0.no_row m (within m are);
-      needed = h.1 ∙ greatest (first_work s + order.borrow) order.lines ∙ ap (λ n. max n (order.lines + 1)) same
+      needed = h.1 ∙ greatest (s.inputs + length s.outputs + order.borrow) order.lines ∙ ap (λ n. max n (order.lines + 1)) same
           ∙ ap (λ n. max (least_lines tape order) (n + 1)) (sym h.2);
       limit_is = h.2;
     }

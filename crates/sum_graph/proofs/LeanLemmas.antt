@@ -1,11 +1,12 @@
 -- What was walked over gives a lean graph.
-use Rattle.std.proofs.Common.{◌≡◌, ℕ, Bool, List, [], length, map, refl, sym, ap, ◌∙◌, subst, arith}
+use Rattle.std.proofs.Common.{◌≡◌, ℕ, ◌≤◌, Bool, List, [], length, map, refl, sym, ap, ◌∙◌, subst, arith}
 use Rattle.std.proofs.lemmas.List.{length-map, take_all}
 use Rattle.claim_check.specs.Settled.{SettledView, settled_value}
 use Rattle.bit_sums.specs.Sums.{SumView}
 use Rattle.sum_graph.specs.Graphs.{IsSumGraph, IsLeanOf, SumGraphView, sum_on}
 use Rattle.sum_graph.specs.declared.slot.Slot.{Slot}
 use Rattle.sum_graph.specs.inside.Walks.{IsEnded, IsWalked}
+use Rattle.sum_graph.proofs.OutputLemmas.{some_output}
 
 -- the graph of these nodes and outputs
 abbrev pub lean : ℕ → List SumView → List SumView → SumGraphView
@@ -23,6 +24,8 @@ keeps : (s : SettledView) (marks shared : List Bool) (before after : List Slot) 
 keeps s marks shared before after nodes sums w e = record {
   nodes = w.known;
   outputs = e.known;
+  some = λ some.
+      (let more = some_output s w.settled (omega (arith, some, w.few)) in omega (arith, more, outputs_long s shared after nodes sums e));
   few_inputs = w.settled.few_inputs;
   few_outputs = omega (arith, outputs_long s shared after nodes sums e, w.settled.few_outputs);
   few_nodes = omega (arith, w.few, w.settled.few_nodes);

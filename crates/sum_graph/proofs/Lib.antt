@@ -1,6 +1,7 @@
 pub mod LeanLemmas
 pub mod MarkLemmas
 pub mod NodeSumLemmas
+pub mod OutputLemmas
 pub mod PlaceLemmas
 pub mod PlainLemmas
 pub mod SumNodeLemmas

@@ -1,5 +1,5 @@
 -- Plain graphs are like the settled graphs that they are made of.
-use Rattle.std.proofs.Common.{◌≡◌, ℕ, ◌+◌, Bool, true, false, not, ◌&&◌, List, [], ◌∷◌, ◌++◌, length, map, take, get_or, slice_get, Some, refl, sym, ap, ap₂, ◌∙◌, arith}
+use Rattle.std.proofs.Common.{◌≡◌, ℕ, ◌+◌, ◌≤◌, Bool, true, false, not, ◌&&◌, List, [], ◌∷◌, ◌++◌, length, map, take, get_or, slice_get, Some, refl, sym, ap, ap₂, ◌∙◌, arith}
 use Rattle.std.specs.Bool.{xor}
 use Rattle.std.specs.List.{AllByRecursion, flat_map}
 use Rattle.std.proofs.lemmas.Bool.{lt-ltb}
@@ -19,6 +19,7 @@ use Rattle.bit_sums.specs.Sums.{SumView, bases_of, sum_value}
 use Rattle.sum_graph.specs.Graphs.{AreKnownSums, IsKnownSum, IsSumGraph, is_known, sum_on, sums_made}
 use Rattle.sum_graph.specs.Plain.{PlainGraphsAreAlike, plain_of, plain_output, plain_sum}
 use Rattle.sum_graph.specs.inside.Operands.{AreTwo}
+use Rattle.sum_graph.proofs.OutputLemmas.{some_output}
 
 -- ---- values
 
@@ -119,6 +120,8 @@ plain_keeps s is =
     record {
       nodes = known_sums s.inputs 0 s.nodes is.nodes;
       outputs = rw many (known_outputs s.inputs (length s.nodes) s.outputs is.outputs);
+      some = λ some.
+          (let more = some_output s is (omega (arith, some, many)) in omega (arith, more, length-map s.outputs plain_output));
       few_inputs = is.few_inputs;
       few_outputs = omega (arith, length-map s.outputs plain_output, is.few_outputs);
       few_nodes = omega (arith, many, is.few_nodes);

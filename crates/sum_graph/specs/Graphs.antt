@@ -30,10 +30,12 @@ abbrev pub AreKnownSums : ℕ → ℕ → List SumView → Type 0
 AreKnownSums n k [] = ⊤
 AreKnownSums n k (s ∷ rest) = IsKnownSum n k s × AreKnownSums n (k + 1) rest
 
--- What a graph of sums keeps: they are of inputs and of earlier nodes, and the limits hold.
+-- What a graph of sums keeps: they are of inputs and of earlier nodes, there are no nodes without outputs, and the limits
+-- hold.
 pub record IsSumGraph (l : SumGraphView) : Type 0 where
   pub nodes : AreKnownSums l.inputs 0 l.nodes
   pub outputs : AllByRecursion (IsKnownSum l.inputs (length l.nodes)) l.outputs
+  pub some : 1 ≤ length l.nodes → 1 ≤ length l.outputs
   pub few_inputs : l.inputs ≤ MOST_INPUTS
   pub few_outputs : length l.outputs ≤ MOST_OUTPUTS
   pub few_nodes : length l.nodes ≤ MOST_WRITES

@@ -2,7 +2,7 @@
 use Rattle.std.specs.Prelude.{◌≡◌, ℕ, ◌+◌, ◌<◌, ◌≤◌, Bool, true, false, not, ◌&&◌, ◌||◌, List, length}
 use Rattle.list_facts.specs.Bits.{bit_of}
 use Rattle.gate_split.specs.declared.plan.PlanFault.{PlanFault}
-use Rattle.claim_check.specs.Settled.{SettledView}
+use Rattle.sum_graph.specs.Graphs.{SumGraphView}
 use Rattle.held_nodes.specs.Held.{ForwardView, IsForward, is_held}
 use Rattle.held_nodes.specs.Moves.{IsReadyNode}
 use Rattle.bennett_pebbling.specs.inside.Costs.{Allows, AllowsHeld, HasNeed, IsCovered, IsMove, IsMoveFault, IsShort}
@@ -48,7 +48,7 @@ pub record IsReadyBelow (f : ForwardView) (lo count : ℕ) : Type 0 where
       → is_held f.lines j ≡ true
 
 -- a range of the graph can be worked on: each operand below it is held
-pub record CanWork (s : SettledView) (f : ForwardView) (lo count : ℕ) : Type 0 where
+pub record CanWork (s : SumGraphView) (f : ForwardView) (lo count : ℕ) : Type 0 where
   pub graph : s ≡ f.graph
   pub keeps : IsForward f
   pub inside : lo + count ≤ length f.graph.nodes

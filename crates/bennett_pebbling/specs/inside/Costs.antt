@@ -1,13 +1,14 @@
 -- What work on a range costs: the most nodes held at one time, and the number of toggles.
 use Rattle.std.specs.Prelude.{◌≡◌, ℕ, zero, suc, ◌+◌, ◌*◌, ◌<◌, ◌≤◌, max, min, Bool, true, false, List, length, ⊤}
 use Rattle.list_facts.specs.Bits.{bit_of}
-use Rattle.dependency_graph.specs.Uses.{cut_in}
-use Rattle.claim_check.specs.Settled.{SettledView, as_graph}
+use Rattle.sum_graph.specs.Uses.{sum_cut}
+use Rattle.sum_graph.specs.Graphs.{SumGraphView}
 use Rattle.gate_split.specs.declared.plan.PlanFault.{PlanFault}
 use Rattle.gate_split.specs.declared.plan.PlanFault.TheVariants.{Lines, Gates, Memory}
 use Rattle.held_nodes.specs.Held.{ForwardView, is_held, work_lines}
 use Rattle.held_nodes.specs.Moves.{weight_in}
 use Rattle.mct_circuit.specs.Gates.{AreNarrow}
+use Rattle.bennett_pebbling.specs.Pebbling.{IsLight}
 
 -- ---- counts
 
@@ -28,7 +29,7 @@ pub record IsMove (f : ForwardView) (reach toggles : ℕ) (next : ForwardView) :
   pub graph : next.graph ≡ f.graph
   pub budget : next.budget ≡ f.budget
   pub most : next.most ≤ max f.most reach
-  pub weight : weight_in next.gates ≤ weight_in f.gates + 2 * toggles
+  pub weight : IsLight f.graph → weight_in next.gates ≤ weight_in f.gates + 2 * toggles
   pub narrow : AreNarrow f.gates → AreNarrow next.gates
 
 -- one line more than the budget has is wanted
@@ -40,7 +41,7 @@ HasNeed f Memory = ⊤
 -- the work lines are fewer than the reach, or the gates too few for the toggles
 abbrev pub IsShort : ForwardView → ℕ → ℕ → PlanFault → Type 0
 IsShort f reach toggles (Lines need) = work_lines f.graph f.budget < reach
-IsShort f reach toggles Gates = f.budget.gates < 2 * (weight_in f.gates + 2 * toggles)
+IsShort f reach toggles Gates = IsLight f.graph → f.budget.gates < 2 * (weight_in f.gates + 2 * toggles)
 IsShort f reach toggles Memory = ⊤
 
 -- why such a move was refused
@@ -76,8 +77,8 @@ toggles_at block zero = block_toggles block
 toggles_at block (suc level) = 3 * toggles_at block level
 
 -- no cut is longer than the width, and the range has no more nodes than these levels
-pub record IsCovered (s : SettledView) (block count level width : ℕ) : Type 0 where
-  pub cuts : (j : ℕ) → j ≤ length s.nodes → length (cut_in (as_graph s) j) ≤ width
+pub record IsCovered (s : SumGraphView) (block count level width : ℕ) : Type 0 where
+  pub cuts : (j : ℕ) → j ≤ length s.nodes → length (sum_cut s j) ≤ width
   pub enough : count ≤ size_at block level
 
 -- each node that is held passes the test

@@ -3,14 +3,14 @@ use Rattle.std.specs.Prelude.{◌≡◌, ℕ, ◌+◌, ◌<◌, ◌≤◌, nat_l
 use Rattle.std.specs.Prelude.{List, [], length, take, drop, slice_index_or, Option}
 use Rattle.list_facts.specs.Bits.{bit_of}
 use Rattle.list_facts.specs.Lists.{IsAmong}
-use Rattle.dependency_graph.specs.Graphs.{steps_of}
-use Rattle.dependency_graph.specs.Uses.{last_use_in}
-use Rattle.claim_check.specs.Settled.{SettledView, as_graph}
+use Rattle.sum_graph.specs.Uses.{sum_steps}
+use Rattle.sum_graph.specs.Uses.{sum_last_use}
+use Rattle.sum_graph.specs.Graphs.{SumGraphView}
 use Rattle.held_nodes.specs.Held.{is_held}
 
 -- node j is an operand of node k
-pub record RestsOn (s : SettledView) (k j : ℕ) : Type 0 where
-  pub among : IsAmong j (slice_index_or (steps_of (as_graph s)) k [])
+pub record RestsOn (s : SumGraphView) (k j : ℕ) : Type 0 where
+  pub among : IsAmong j (slice_index_or (sum_steps s) k [])
 
 -- half of a range, rounded up
 pub record IsHalf (count half : ℕ) : Type 0 where
@@ -28,11 +28,11 @@ abbrev pub IsOutside : ℕ → ℕ → ℕ → Type 0
 IsOutside lo count k = (k < lo) ⊎ (lo + count ≤ k)
 
 -- the wanted nodes are marked, and those in the cut at the end of the range
-pub record AreNeeded (s : SettledView) (lo : ℕ) (wanted marks : List Bool) : Type 0 where
+pub record AreNeeded (s : SumGraphView) (lo : ℕ) (wanted marks : List Bool) : Type 0 where
   pub count : length marks ≡ length wanted
   pub marked : (k : ℕ) → k < length wanted
       → bit_of marks k
-      ≡ (bit_of wanted k || nat_le (lo + length wanted) (last_use_in (as_graph s) (lo + k)))
+      ≡ (bit_of wanted k || nat_le (lo + length wanted) (sum_last_use s (lo + k)))
 
 -- whether two bits differ
 abbrev pub differ : Bool → Bool → Bool
@@ -51,19 +51,19 @@ pub record AreDifferences (lines : List (Option ℕ)) (lo : ℕ) (wanted marks :
       → bit_of marks k ≡ differ (is_held lines (lo + k)) (bit_of wanted k)
 
 -- each operand that a marked node has in the range is marked
-pub record AreClosed (s : SettledView) (lo : ℕ) (marks : List Bool) : Type 0 where
+pub record AreClosed (s : SumGraphView) (lo : ℕ) (marks : List Bool) : Type 0 where
   pub closed : (k j : ℕ) → bit_of marks k ≡ true → j < length marks
       → RestsOn s (lo + k) (lo + j) → bit_of marks j ≡ true
 
 -- a marked node, or one on which a needed node rests
-pub data IsNeeded (s : SettledView) (lo : ℕ) (start : List Bool) : ℕ → Type 0 where
+pub data IsNeeded (s : SumGraphView) (lo : ℕ) (start : List Bool) : ℕ → Type 0 where
   marked_itself : (k : ℕ) → bit_of start k ≡ true → IsNeeded s lo start k
   rested_on : (k j : ℕ) → IsNeeded s lo start k → RestsOn s (lo + k) (lo + j)
       → IsNeeded s lo start j
 
 -- the marked nodes and all nodes of the range on which they rest are marked, and nothing else; the last node has the
 -- mark that it had
-pub record AreNeeds (s : SettledView) (lo : ℕ) (start marks : List Bool) : Type 0 where
+pub record AreNeeds (s : SumGraphView) (lo : ℕ) (start marks : List Bool) : Type 0 where
   pub count : length marks ≡ length start
   pub more : (k : ℕ) → bit_of start k ≡ true → bit_of marks k ≡ true
   pub closed : AreClosed s lo marks

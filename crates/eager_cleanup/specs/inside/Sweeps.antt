@@ -2,7 +2,8 @@
 use Rattle.std.specs.Prelude.{◌≡◌, ◌≢◌, ℕ, zero, suc, ◌+◌, ◌*◌, ◌<◌, ◌≤◌, nat_lt, Bool, true, false, if◌then◌else◌, List, length, Option, Some, None, is_some}
 use Rattle.std.specs.Prelude.{slice_get, ⊤, sum_by}
 use Rattle.std.specs.List.{AllByRecursion, list_all}
-use Rattle.claim_check.specs.Settled.{SettledView, as_graph}
+use Rattle.claim_check.specs.Settled.{SettledView, IsSettled, as_graph}
+use Rattle.sum_graph.specs.Plain.{plain_of}
 use Rattle.dependency_graph.specs.declared.node.Base.{Base}
 use Rattle.dependency_graph.specs.declared.node.Base.TheVariants as bases
 use Rattle.dependency_graph.specs.declared.node.Node.{Node}
@@ -79,8 +80,9 @@ pub record IsWaiting (s : SettledView) (count : ℕ) (used : List Base) (k : ℕ
 -- node is. No more gates were put than the nodes so far may cost.
 pub record IsSwept (s : SettledView) (b : BudgetView) (count : ℕ) (used : List Base)
     (f : ForwardView) : Type 0 where
+  pub settled : IsSettled s
   pub forward : IsForward f
-  pub graph : f.graph ≡ s
+  pub graph : f.graph ≡ plain_of s
   pub budget : f.budget ≡ b
   pub behind : (k : ℕ) → count ≤ k → is_held f.lines k ≡ false
   pub needed : (k : ℕ) → k < count → count ≤ last_use_of s k → is_held f.lines k ≡ true

@@ -1,16 +1,16 @@
 -- What the fields of a forward part keep.
-use Rattle.std.specs.Prelude.{◌≡◌, ℕ, ◌+◌, ◌/◌, ◌<◌, ◌≤◌, max, Bool, true, List, length, Option, Some, None, unwrap_or, ⊤}
+use Rattle.std.specs.Prelude.{◌≡◌, ℕ, ◌/◌, ◌<◌, ◌≤◌, max, List, length, Option, Some, None, ⊤}
 use Rattle.ancilla_heap.specs.Lines as heaps
 use Rattle.ancilla_heap.specs.Lines.{HeapView, contains, IsLineHeap, with_taken, without_line}
-use Rattle.dependency_graph.specs.declared.node.Base.{Base}
-use Rattle.dependency_graph.specs.declared.node.Base.TheVariants as bases
-use Rattle.dependency_graph.specs.declared.node.Sig.{Sig}
-use Rattle.dependency_graph.specs.declared.node.Sig.TheVariants.{Const, Is}
+use Rattle.bit_sums.specs.Products.{IsProduct}
+use Rattle.bit_sums.specs.Sums.{SumView, bases_of}
 use Rattle.gate_split.specs.declared.plan.PlanFault.{PlanFault}
 use Rattle.gate_split.specs.declared.plan.PlanFault.TheVariants.{Lines, Gates, Memory}
 use Rattle.gate_split.specs.declared.plan.TheConstants.{MOST_LINES}
-use Rattle.held_nodes.specs.Held.{ForwardView, IsForward, work_lines, held_line, held_count, is_taken}
+use Rattle.held_nodes.specs.Held.{ForwardView, IsForward, work_lines, held_count, is_taken}
 use Rattle.mct_circuit.specs.Gates.{GateView}
+use Rattle.std.specs.List.{AllByRecursion}
+use Rattle.sum_toggles.specs.Toggles.{AreApart, IsPlacedBase, base_line}
 
 -- gates, and the most that they may weigh together
 pub record WeighedView : Type 0 where
@@ -29,11 +29,6 @@ AreTooHeavy most weight (Lines need) = ⊥
 AreTooHeavy most weight Gates = most < weight
 AreTooHeavy most weight Memory = ⊤
 
--- an output that is put on its line by a gate: all but the constant false
-abbrev pub is_copied : Sig → Bool
-is_copied (Const bit) = bit
-is_copied (Is base) = true
-
 -- the lines that are out are those on which nodes are held
 pub record AreOut (lines : List (Option ℕ)) (heap : HeapView) : Type 0 where
   pub is_heap : IsLineHeap heap
@@ -49,18 +44,15 @@ pub record IsKept (f : ForwardView) (most_weight : ℕ) (heap : HeapView) : Type
   pub weights : most_weight ≡ f.budget.gates / 2
   pub few : f.budget.lines ≤ MOST_LINES
 
--- the line of a base can be told: a node has one that is no more than the most lines
-abbrev pub IsPlacedBase : ℕ → List (Option ℕ) → Base → Type 0
-IsPlacedBase first lines (bases.Input i) = ⊤
-IsPlacedBase first lines (bases.Node k) =
-    (k < length lines) × (first + unwrap_or (held_line lines k) 0 ≤ MOST_LINES)
+-- an output's sum can be added to any output line: the lines of its bases can be told, are different, and none is that
+pub record CanCopy (first : ℕ) (lines : List (Option ℕ)) (inputs : ℕ) (s : SumView) : Type 0 where
+  pub placed : AllByRecursion (IsPlacedBase first lines) (bases_of s)
+  pub apart : (target : ℕ) → inputs ≤ target → target < first
+      → AreApart (base_line first lines) target (bases_of s)
 
--- an output's line, from the given one on but not a work line, is not the line of the base that is copied there
-abbrev pub IsApartSig : ℕ → List (Option ℕ) → ℕ → Sig → Type 0
-IsApartSig first lines output (Const bit) = ⊤
-IsApartSig first lines output (Is (bases.Input i)) = i < output
-IsApartSig first lines output (Is (bases.Node k)) =
-    IsPlacedBase first lines (bases.Node k) × (output < first)
+-- What each product of a sum keeps.
+abbrev pub HasProducts : SumView → Type 0
+HasProducts s = AllByRecursion IsProduct s.products
 
 -- the line on which a node is toggled, and the heap then: its own line, or the least free one
 abbrev pub IsLineFor : Option ℕ → HeapView → HeapView → ℕ → Type 0

@@ -1,6 +1,6 @@
 -- What a plan that was tried says: of its split, of one block, and of all blocks down to one.
 use Rattle.std.specs.Prelude.{◌≡◌, ℕ, ◌+◌, ◌<◌, ◌≤◌, Bool, true, false, ⊤, Result, Ok, Err, List, length, sum_by}
-use Rattle.bennett_pebbling.specs.Pebbling.{AreWithinBlock, IsPebblingFault}
+use Rattle.plan_choice.specs.Blocks.{AreWithinBlock, IsPebblingFault}
 use Rattle.claim_check.specs.Settled.{SettledView}
 use Rattle.gate_split.specs.declared.plan.PlanFault.{PlanFault}
 use Rattle.gate_split.specs.declared.plan.PlanFault.TheVariants.{Lines, Gates, Memory}

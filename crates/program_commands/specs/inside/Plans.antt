@@ -63,7 +63,7 @@ pub record IsPlannedFor (order : OrderView) (text : List ℕ) (tape : TapeView) 
 -- why a settled graph has no plan within the budget, or there was no memory left
 abbrev pub IsPlanningFault : How → SettledView → BudgetView → Fault → Type 0
 IsPlanningFault how s b (Lines need limit) =
-    LinesAreFew how s b × (need ≡ wanted_lines s b) × (limit ≡ b.lines)
+    LinesAreFew how s b × (need ≡ wanted_lines (s.inputs + length s.outputs) b) × (limit ≡ b.lines)
 IsPlanningFault how s b (Gates limit) = GatesAreFew how s b × (limit ≡ b.gates)
 IsPlanningFault how s b Memory = Unit {0}
 IsPlanningFault how s b _ = ⊥

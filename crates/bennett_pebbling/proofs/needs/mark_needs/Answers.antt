@@ -21,5 +21,5 @@ pub loop-k-preserved-then-marks-k : goal.loop-k-preserved-then-marks-k
 loop-k-preserved-then-marks-k c =
     let next : c.loop-k.k - 1 + 1 ≡ c.loop-k.k = omega (arith, c.loop-k-test.true) in
     let inside : c.loop-k.k - 1 < length c.args.marks.now = omega (arith, c.loop-k-test.true, c.loop-k.auto.k) in
-    marking_more c.args.graph.now c.args.lo c.args.marks.now c.loop-k.marks c.mark_operands.new.marks c.loop-k.k (c.loop-k.k - 1) c.node.result
-    c.requires.settled next c.node.ensures c.mark_operands.ensures c.loop-k.invariant inside c.if-marks-k.true
+    marking_more c.args.graph.now c.args.lo c.args.marks.now c.loop-k.marks c.mark_operands.new.marks c.loop-k.k (c.loop-k.k - 1) c.node.result.now
+    c.requires.keeps next c.node.ensures c.mark_operands.ensures c.loop-k.invariant inside c.if-marks-k.true

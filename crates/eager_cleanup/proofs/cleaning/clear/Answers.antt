@@ -9,7 +9,7 @@ use Rattle.eager_cleanup.proofs.cleaning.clear.Goals as goal
 pub clear-requires : goal.clear-requires
 clear-requires c =
     rw c.deref.ensures.value
-    (can_clear c.args.forward c.args.k c.args.poly.now c.in_ok-cubes.cubes.items c.requires.value c.requires.held c.in_ok-cubes.ensures.sum)
+    (can_clear c.args.graph.now c.args.forward c.args.k c.args.poly.now c.in_ok-cubes.cubes.items c.requires.graph c.requires.value c.requires.held c.in_ok-cubes.ensures.sum)
 
 pub returns-clause-ok : goal.returns-clause-ok
 returns-clause-ok c =
@@ -19,7 +19,7 @@ returns-clause-ok c =
     let cubes = c.in_ok-cubes.cubes.items in
     let ok = rw c.deref.ensures.value at c.clear.ensures.ok in
     both_ok c.clear.result (IsCleared f k cubes) IsForward (IsCleaned (Some p) f k)
-    (λ next clear forward. cleared f next k p cubes c.requires.keeps forward c.requires.value c.in_ok-cubes.ensures.sum clear)
+    (λ next clear forward. cleared c.args.graph.now f next k p cubes c.requires.graph c.requires.keeps forward c.requires.value c.in_ok-cubes.ensures.sum clear)
     ok c.clear.ensures.keeps
 
 pub returns-clause-refused : goal.returns-clause-refused
@@ -30,4 +30,4 @@ returns-clause-refused c =
     let cubes = c.in_ok-cubes.cubes.items in
     let refused = rw c.deref.ensures.value at c.clear.ensures.refused in
     IfErr-weaker c.clear.result (IsClearFault f k cubes) (IsCleaningFault (Some p) f k)
-    (λ fault is. clear_fault f k p cubes fault c.requires.keeps c.requires.held c.requires.value c.in_ok-cubes.ensures.sum is) refused
+    (λ fault is. clear_fault c.args.graph.now f k p cubes fault c.requires.graph c.requires.keeps c.requires.held c.requires.value c.in_ok-cubes.ensures.sum is) refused

@@ -1,12 +1,21 @@
-use Rattle.held_nodes.proofs.CopyLemmas.{copies_more, output_apart}
+use Rattle.held_nodes.proofs.CopyLemmas.{copies_more, output_apart, output_can}
 use Rattle.revc_base.proofs.ResultLemmas.{no_value}
 use Rattle.held_nodes.proofs.copying.copies_of.Goals as goal
 
-pub push_copy-requires : goal.push_copy-requires
-push_copy-requires c = record { apart = output_apart c.args.inputs c.loop-k.k c.args.lines.now c.args.outputs.now _ c.loop-k-test.true c.requires.apart }
+pub append_sum-requires-clause-placed : goal.append_sum-requires-clause-placed
+append_sum-requires-clause-placed c =
+    let can = output_can c.args.inputs c.loop-k.k c.args.lines.now c.args.outputs.now c.index-outputs-k.result c.loop-k-test.true c.index-outputs-k.is
+    c.requires.can in
+    can.placed
 
-pub returns-in_err-push_copy : goal.returns-in_err-push_copy
-returns-in_err-push_copy c = no_value c.from_residual.result _ _ c.from_residual.ensures.1
+pub append_sum-requires-clause-apart : goal.append_sum-requires-clause-apart
+append_sum-requires-clause-apart c =
+    output_apart c.args.inputs c.loop-k.k c.args.lines.now c.args.outputs.now c.index-outputs-k.result c.loop-k-test.true c.index-outputs-k.is c.requires.can
+
+pub returns-in_err-append_sum : goal.returns-in_err-append_sum
+returns-in_err-append_sum c = no_value c.from_residual.result _ _ c.from_residual.ensures.1
 
 pub loop-k-preserved : goal.loop-k-preserved
-loop-k-preserved c = copies_more _ _ _ _ _ _ _ _ _ c.loop-k-test.true c.in_ok-push_copy.ensures c.loop-k.invariant
+loop-k-preserved c =
+    copies_more _ _ c.args.inputs c.loop-k.k c.args.outputs.now c.index-outputs-k.result c.loop-k.copies.items c.append_sum.new.gates.items _
+    c.loop-k-test.true c.index-outputs-k.is c.in_ok-append_sum.ensures c.loop-k.invariant

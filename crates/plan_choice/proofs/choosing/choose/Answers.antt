@@ -1,5 +1,8 @@
-use Rattle.std.proofs.Common.{rules}
+use Rattle.revc_base.proofs.ResultLemmas.{no_value}
 use Rattle.plan_choice.proofs.choosing.choose.Goals as goal
 
-pub returns-in-Pebble-clause-refused : goal.returns-in-Pebble-clause-refused
-returns-in-Pebble-clause-refused c = search rules
+pub returns-in_err-plain-clause-ok : goal.returns-in_err-plain-clause-ok
+returns-in_err-plain-clause-ok c = no_value c.from_residual.result _ _ c.from_residual.ensures.1
+
+pub returns-in_err-plain-clause-chosen : goal.returns-in_err-plain-clause-chosen
+returns-in_err-plain-clause-chosen c = no_value c.from_residual.result _ _ c.from_residual.ensures.1

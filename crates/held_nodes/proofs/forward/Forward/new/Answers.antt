@@ -11,7 +11,7 @@ invariant_of-result c =
     c.in_ok-lines.ensures.items_if_clones_equal (search rules) ∙ ap (λ (n : ℕ). replicate n None) c.nodes.ensures.nodes in
     let heap = rw (c.lines-2.ensures.lines, c.inputs.ensures.inputs, c.outputs.ensures.outputs, c.borrow.ensures.borrow) at c.in_ok-heap.ensures in
     rw (c.new-2.ensures, c.lines-3.ensures.lines, c.gates.ensures.gates, c.borrow-2.ensures.borrow, c.new-3.ensures, c.gates-2.ensures.gates, items, heap)
-    (empty_kept c.args.graph.now c.args.budget.now c.inputs.ensures.settled c.lines.ensures.limit room)
+    (empty_kept c.args.graph.now c.args.budget.now c.inputs.ensures.keeps c.lines.ensures.limit room)
 
 pub returns-clause-keeps : goal.returns-clause-keeps
 returns-clause-keeps c = (invariant_of-result c).forward

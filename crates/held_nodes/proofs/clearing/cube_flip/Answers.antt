@@ -1,6 +1,6 @@
 use Rattle.std.proofs.Common.{refl}
 use Rattle.held_nodes.proofs.CubeLemmas.{different_lines}
-use Rattle.held_nodes.proofs.toggling.cube_flip.Goals as goal
+use Rattle.held_nodes.proofs.clearing.cube_flip.Goals as goal
 
 pub new-requires : goal.new-requires
 new-requires c =

@@ -1,5 +1,5 @@
 use Rattle.revc_base.proofs.ResultLemmas.{no_promise}
-use Rattle.held_nodes.proofs.toggling.append_cubes.Goals as goal
+use Rattle.held_nodes.proofs.clearing.append_cubes.Goals as goal
 
 pub returns-in_err-cube_flip-clause-ok : goal.returns-in_err-cube_flip-clause-ok
 returns-in_err-cube_flip-clause-ok c = no_promise c.from_residual.result _ _ c.from_residual.ensures.1
