@@ -18,9 +18,17 @@ const CALLS: &[(&str, &[u8])] = &[
     ("convert", PRODUCT_FILE),
     ("convert --to real", PRODUCT_FILE),
     ("tidy", PRODUCT_FILE),
+    ("verify", BESIDE),
     ("gen 1", b""),
     ("bench 1", b""),
 ];
+
+// The product and its file.
+const BESIDE: &[u8] = b"main (a : bool) (b : bool) = a && b
+---
+.version 2.0\n.numvars 4\n.variables x0 x1 y0 w0\n.inputs x0 x1 y0 w0
+.outputs x0 x1 y0 w0\n.constants --00\n.garbage ----\n.begin\nt3 x0 x1 w0\nt2 w0 y0\nt3 x0 x1 w0
+.end\n";
 
 const READ_FAULT: &[u8] = b"revc: read fault\n";
 
