@@ -5,4 +5,5 @@ pub mod FlipLemmas
 pub mod IndexLemmas
 pub mod PairLemmas
 pub mod ParityLemmas
+pub mod SweepLemmas
 pub mod TidyLemmas

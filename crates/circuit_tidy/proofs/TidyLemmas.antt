@@ -1,12 +1,12 @@
 -- The work on a list of flips: its steps keep the line map, and its end is tidy.
-use Rattle.std.proofs.Common.{◌≡◌, ℕ, ◌+◌, ◌-◌, ◌<◌, ◌≤◌, Bool, true, false, eqb, Option, Some, None, Result, Ok, List, [], ◌∷◌, ◌++◌, length, map, take, drop}
+use Rattle.std.proofs.Common.{◌≡◌, ℕ, ◌<◌, ◌≤◌, Bool, true, false, eqb, Option, Some, None, Result, Ok, List, [], ◌∷◌, ◌++◌, length, map}
 use Rattle.std.proofs.Common.{reverse}
 use Rattle.std.proofs.Common.{refl, sym, ap, ◌∙◌, subst, arith}
 use Rattle.std.specs.List.{AllByRecursion, list_any}
 use Rattle.std.proofs.lemmas.Bool.{and_parts, and_from, or_left, or_right, false≢true, eq-eqb}
-use Rattle.std.proofs.lemmas.List.{append_assoc, drop-drop, take-append-drop, length-reverse, length-append, length-map, map-append}
+use Rattle.std.proofs.lemmas.List.{length-reverse, length-append, length-map, map-append}
 use Rattle.list_facts.specs.Lists.{below}
-use Rattle.list_facts.proofs.AllLemmas.{AllByRecursion-append, AllByRecursion-drop, AllByRecursion-reverse, AllByRecursion-take}
+use Rattle.list_facts.proofs.AllLemmas.{AllByRecursion-append, AllByRecursion-reverse}
 use Rattle.list_facts.proofs.OrderLemmas.{IsRising-filter}
 use Rattle.std.specs.Option.{MatchOption}
 use Rattle.mct_circuit.specs.declared.gate.Control.{Control}
@@ -26,8 +26,8 @@ use Rattle.circuit_tidy.specs.Flips.{controls_of, gate_of, gates_of, lines_in, t
 use Rattle.circuit_tidy.specs.Pairs.{HasPair}
 use Rattle.circuit_tidy.specs.Tidied.{IsTidied}
 use Rattle.circuit_tidy.specs.inside.Settling.{with_flips}
-use Rattle.circuit_tidy.specs.inside.Walking.{AreOnLines, AreShort, IsLonger}
-use Rattle.circuit_tidy.specs.inside.Work.{Follows, GoesOn, IsDone, IsSwept}
+use Rattle.circuit_tidy.specs.inside.Walking.{AreOnLines, AreShort}
+use Rattle.circuit_tidy.specs.inside.Work.{Follows, GoesOn, IsDone}
 use Rattle.circuit_tidy.proofs.BlockLemmas.{below_rises, has_line-below, any_low}
 use Rattle.circuit_tidy.proofs.EliminationLemmas.{AreLines, IsWithin, eliminated_replaces, gates_on, has_line-filter}
 use Rattle.circuit_tidy.proofs.IndexLemmas.{lines_of_flip}
@@ -180,40 +180,6 @@ elimination_replaces n block on is =
 
 -- ---- the whole work
 
-pub cut_in_three : (flips : List Flip) (start stop : ℕ) → start ≤ stop → take start flips ++ (take (stop - start) (drop start flips) ++ drop stop flips) ≡ flips
-cut_in_three flips start stop le =
-    let more : start + (stop - start) ≡ stop = omega (arith, le) in
-    ap (λ l. take start flips ++ (take (stop - start) (drop start flips) ++ l)) (ap (λ k. drop k flips) (sym more) ∙ sym (drop-drop (stop - start) start flips))
-    ∙ ap (λ l. take start flips ++ l) (take-append-drop (stop - start) (drop start flips)) ∙ take-append-drop start flips
-
-pub block_replaced : (n : ℕ) (flips shorter now : List Flip) (start stop : ℕ) → AreOnLines n flips → start ≤ stop
-    → IsLonger (take (stop - start) (drop start flips)) shorter → now ≡ take start flips ++ (shorter ++ drop stop flips) → GoesOn n flips now
-block_replaced n flips shorter now start stop on le longer is =
-    let block = take (stop - start) (drop start flips) in
-    let whole = cut_in_three flips start stop le in
-    let on_block : AreOnLines n block =
-    AllByRecursion-take (λ f. IsGateOn n (gate_of f)) (stop - start) (drop start flips) (AllByRecursion-drop (λ f. IsGateOn n (gate_of f)) start flips on) in
-    let says = longer.is n on_block in
-    let does = elimination_replaces n block on_block says.0 in
-    let on_shorter : AreOnLines n shorter = subst (AreOnLines n) (sym says.1) does.on in
-    let few = longer.few in
-    record {
-      follows = subst (Follows n flips) (sym is) (subst (λ l. Follows n l (take start flips ++ (shorter ++ drop stop flips))) whole
-          (replaced_follows n (take start flips) block shorter (drop stop flips) (subst (AreOnLines n) (sym whole) on) on_shorter (omega (arith, few))
-          (λ bits long. ap (λ fs. line_map (gates_of fs) bits) says.1 ∙ does.same bits long)));
-      less = omega (
-        arith,
-        ap length is,
-        length-append (take start flips) (shorter ++ drop stop flips),
-        length-append shorter (drop stop flips),
-        sym
-            (ap length whole),
-        length-append (take start flips) (block ++ drop stop flips),
-        length-append block (drop stop flips),
-        few,
-      );
-    }
-
 pub turn_goes_on : (n : ℕ) (start flips settled now : List Flip) → Follows n start flips → settled ≡ reverse (with_flips flips []) → GoesOn n settled now
     → Follows n start now
 turn_goes_on n start flips settled now so_far is goes =
@@ -313,62 +279,3 @@ at_some o x P Q e match = subst (λ p. MatchOption p P Q) e match
 
 pub settled_on : (n : ℕ) (flips settled : List Flip) → AreOnLines n flips → settled ≡ reverse (with_flips flips []) → AreOnLines n settled
 settled_on n flips settled on is = subst (AreOnLines n) (sym is) (settled_follows n flips on).on
-
--- ---- several blocks in one walk
-
--- a block behind those that were replaced is replaced too
-pub one_more_replaced : (n : ℕ) (flips done rest shorter now : List Flip) (start stop : ℕ) → start ≤ stop → GoesOn n flips (done ++ rest)
-    → IsLonger (take (stop - start) (drop start rest)) shorter → now ≡ done ++ (take start rest ++ shorter) → GoesOn n flips (now ++ drop stop rest)
-one_more_replaced n flips done rest shorter now start stop le goes longer is =
-    let block = take (stop - start) (drop start rest) in
-    let behind = drop stop rest in
-    let front = done ++ take start rest in
-    let whole : front ++ (block ++ behind) ≡ done ++ rest = append_assoc done (take start rest) (block ++ behind)
-    ∙ ap (λ l. done ++ l) (cut_in_three rest start stop le) in
-    let on = goes.follows.on in
-    let on_rest = all_right (λ f. IsGateOn n (gate_of f)) done rest on in
-    let on_block : AreOnLines n block =
-    AllByRecursion-take (λ f. IsGateOn n (gate_of f)) (stop - start) (drop start rest) (AllByRecursion-drop (λ f. IsGateOn n (gate_of f)) start rest on_rest) in
-    let says = longer.is n on_block in
-    let does = elimination_replaces n block on_block says.0 in
-    let few = longer.few in
-    let grouped : now ++ behind ≡ front ++ (shorter ++ behind) =
-    ap (λ l. l ++ behind) is ∙ simp append_assoc in
-    let step = replaced_follows n front block shorter behind (subst (AreOnLines n) (sym whole) on) (subst (AreOnLines n) (sym says.1) does.on) (omega
-    (arith, few))
-    (λ bits long. ap (λ fs. line_map (gates_of fs) bits) says.1 ∙ does.same bits long) in
-    let less = goes.less in
-    record {
-      follows = follows_further n flips (done ++ rest) (now ++ behind) goes.follows
-          (subst (Follows n (done ++ rest)) (sym grouped) (subst (λ l. Follows n l (front ++ (shorter ++ behind))) whole step));
-      less = omega (
-        arith,
-        ap length grouped,
-        length-append front (shorter ++ behind),
-        length-append shorter behind,
-        sym
-            (ap length whole),
-        length-append front (block ++ behind),
-        length-append block behind,
-        few,
-        less,
-      );
-    }
-  where
-    all_right : (P : Flip → Type 0) (xs ys : List Flip) → AllByRecursion P (xs ++ ys) → AllByRecursion P ys
-    all_right P [] ys all = all
-    all_right P (x ∷ xs) ys all = all_right P xs ys all.1
-
-pub first_replaced : (flips shorter now : List Flip) (start stop : ℕ) → start ≤ stop → IsLonger (take (stop - start) (drop start flips)) shorter
-    → now ≡ [] ++ (take start flips ++ shorter) → IsSwept flips (now ++ drop stop flips)
-first_replaced flips shorter now start stop le longer is = record {
-  goes_on = λ n on. block_replaced n flips shorter (now ++ drop stop flips) start stop on le longer
-      (ap (λ l. l ++ drop stop flips) is ∙ append_assoc (take start flips) shorter (drop stop flips));
-}
-
-pub next_replaced : (flips done rest shorter now : List Flip) (at start stop : ℕ) → rest ≡ drop at flips → start ≤ stop → IsSwept flips (done ++ drop at flips)
-    → IsLonger (take (stop - start) (drop start rest)) shorter → now ≡ done ++ (take start rest ++ shorter) → IsSwept flips (now ++ drop (at + stop) flips)
-next_replaced flips done rest shorter now at start stop same le swept longer is = record {
-  goes_on = λ n on. subst (λ l. GoesOn n flips (now ++ l)) (ap (drop stop) same ∙ drop-drop stop at flips)
-      (one_more_replaced n flips done rest shorter now start stop le (subst (λ l. GoesOn n flips (done ++ l)) (sym same) (swept.goes_on n on)) longer is);
-}

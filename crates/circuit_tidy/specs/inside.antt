@@ -2,5 +2,6 @@
 pub mod BitRows
 pub mod Index
 pub mod Settling
+pub mod Sweeping
 pub mod Walking
 pub mod Work

@@ -32,8 +32,8 @@ pub struct Block {
 // where that is shorter.
 #[derive(Drop)]
 pub struct Front {
-    length: usize,
-    shorter: Option<Vec<Flip>>,
+    pub length: usize,
+    pub shorter: Option<Vec<Flip>>,
 }
 
 // A block from one place up to another that is longer than its elimination.
@@ -68,7 +68,7 @@ pub fn first_longer(alloc: Global, flips: &[Flip]) -> Result<Option<Longer>, Mem
     Ok(None)
 }
 
-fn front_of(alloc: Global, flips: &[Flip]) -> Result<Front, Memory>
+pub fn front_of(alloc: Global, flips: &[Flip]) -> Result<Front, Memory>
     requires { 1 ≤ length flips.now }
     ensures { IfOk result (IsFront flips.now) }
 {

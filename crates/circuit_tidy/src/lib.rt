@@ -5,6 +5,7 @@
 mod blocks;
 mod flip;
 mod index;
+mod marks;
 mod rows;
 mod sweep;
 mod tidying;

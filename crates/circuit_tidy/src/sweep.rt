@@ -1,157 +1,367 @@
-// Several blocks replaced in one walk, as long as nothing can cancel in between.
-ghost use Rattle.std.specs.Prelude.{◌≡◌, ◌<◌, ◌≤◌, ◌++◌, length, take, IfOk, OnOk};
-ghost use Rattle.circuit_tidy.specs.inside.Walking.{IsLongerIn};
+// Many blocks replaced in one walk, each with the pairs that come of it.
+ghost use Rattle.std.specs.Prelude.{◌≡◌, ◌+◌, ◌<◌, ◌≤◌, ◌++◌, [], true, length, take, drop};
+ghost use Rattle.std.specs.Prelude.{slice_index, IfOk, OnOk, MatchOption, ⊤};
+ghost use Rattle.std.specs.List.{AllByRecursion};
+ghost use Rattle.circuit_tidy.specs.Flips.{are_free};
+ghost use Rattle.circuit_tidy.specs.inside.Walking.{IsLonger, IsLongerIn};
+ghost use Rattle.circuit_tidy.specs.inside.Sweeping.{IsBegun, IsLastLike, IsWithin, Leads};
+ghost use Rattle.circuit_tidy.specs.inside.Sweeping.{LeadsOn, MeetsNext, Replaces, Stays, Takes};
 ghost use Rattle.circuit_tidy.specs.inside.Work.{IsSwept};
 
-use crate::blocks::{Longer, first_longer};
-use crate::flip::{Controls, Flip};
+use crate::blocks::{Longer, front_of};
+use crate::flip::Flip;
+use crate::marks::{Kinds, Marks};
 use revc_base::Memory;
 use std::alloc::Global;
 
-// How far a walk looks for a flip like another one.
-const MOST_STEPS: usize = 5_000;
+// How many blocks a sweep looks at.
+const MOST_TURNS: u32 = 1 << 30;
 
-// The flips with its elimination in place of a block, and so on behind it, up to the first
-// elimination of which a pair could come.
-pub fn swept(alloc: Global, flips: &[Flip], first: &Longer) -> Result<Vec<Flip>, Memory>
-    requires { IsLongerIn flips.now first.now }
-    ensures { IfOk result (λ swept. IsSwept flips.now swept.items) }
+/// Flips that were walked over, with the places where their blocks end, and flips of which those
+/// from a place on are still to come.
+#[derive(Drop)]
+pub struct Sweep {
+    done: Vec<Flip>,
+    ends: Vec<usize>,
+    kinds: Kinds,
+    flips: Vec<Flip>,
+    at: usize,
+}
+
+// The flips, walked over from the start: the first block that is longer than its elimination gives
+// way to it, the pairs that come of it go out, and so on.
+pub fn swept(
+    alloc: Global,
+    lines: u32,
+    flips: Vec<Flip>,
+    first: &Longer,
+) -> Result<Vec<Flip>, Memory>
+    requires { IsLongerIn flips.items first.now }
+    ensures { IfOk result (λ swept. IsSwept flips.items swept.items) }
 {
-    let mut done = Vec::with_capacity(alloc, flips.len())?;
-    let mut goes_on = put_replaced(&mut done, flips, first)?;
-    let mut at = first.end;
-    'sweep: while goes_on {
-        let (_, rest) = flips.split_at(at);
-        let found = first_longer(alloc, rest)?;
-        match found {
+    let mut sweep = Sweep::new(alloc, flips)?;
+    sweep.take(first.start)?;
+    sweep.give_way(alloc, lines, first.end - first.start, &first.shorter)?;
+    for _turn in 0..MOST_TURNS {
+        if sweep.at == sweep.flips.len() {
+            break;
+        }
+        sweep.walk_on(alloc, lines)?;
+    }
+    let left = sweep.flips.len() - sweep.at;
+    sweep.take(left)?;
+    Ok(sweep.done)
+}
+
+impl Sweep {
+    fn new(alloc: Global, flips: Vec<Flip>) -> Result<Sweep, Memory>
+        ensures { IfOk result (IsBegun flips.items) }
+    {
+        let kinds = Kinds::new(alloc)?;
+        Ok(Sweep {
+            done: Vec::new(alloc),
+            ends: Vec::new(alloc),
+            kinds,
+            flips,
+            at: 0,
+        })
+    }
+
+    // Over what comes next, or back behind a block that gave way.
+    fn walk_on(&mut self, alloc: Global, lines: u32) -> Result<(), Memory>
+        requires { self.old.at < length self.old.flips.items }
+        ensures { OnOk result (Leads self.old self.new) }
+    {
+        let (_, rest) = self.flips.split_at(self.at);
+        let front = front_of(alloc, rest)?;
+        let count = front.length;
+        match front.shorter {
+            Some(shorter) => {
+                self.give_way(alloc, lines, count, &shorter)?;
+                Ok(())
+            }
+            None => self.take_block(count),
+        }
+    }
+
+    // The elimination in place of the block that comes next; then the walk goes back to the first
+    // block that may have changed.
+    fn give_way(
+        &mut self,
+        alloc: Global,
+        lines: u32,
+        count: usize,
+        shorter: &[Flip],
+    ) -> Result<(), Memory>
+        requires within { self.old.at + count ≤ length self.old.flips.items }
+        requires longer { IsLonger (take count (drop self.old.at self.old.flips.items))
+            shorter.now }
+        ensures { OnOk result (LeadsOn self.old self.new) }
+    {
+        let (_, rest) = self.flips.split_at(self.at);
+        let (block, _) = rest.split_at(count);
+        let mut marks = Marks::new(alloc, lines)?;
+        marks.change(block, shorter);
+        let start = self.done.len();
+        self.replace(count, shorter)?;
+        self.go_back(start);
+        let least = self.settle(&mut marks, shorter.len())?;
+        self.go_back_to_block(least);
+        Ok(())
+    }
+
+    // The flips in place of so many that come next.
+    fn replace(&mut self, count: usize, shorter: &[Flip]) -> Result<(), Memory>
+        requires { self.old.at + count ≤ length self.old.flips.items }
+        ensures { OnOk result (Replaces count shorter.now self.old self.new) }
+    {
+        self.done.extend_from_slice(shorter)?;
+        self.kinds.add_all(shorter);
+        self.at += count;
+        Ok(())
+    }
+
+    // Over a block of so many, or a single flip.
+    fn take_block(&mut self, count: usize) -> Result<(), Memory>
+        requires { self.old.at + count ≤ length self.old.flips.items }
+        ensures { OnOk result (Leads self.old self.new) }
+    {
+        self.take(count)?;
+        let end = self.done.len();
+        self.ends.push(end)?;
+        Ok(())
+    }
+
+    // Over so many that come next.
+    fn take(&mut self, count: usize) -> Result<(), Memory>
+        requires { self.old.at + count ≤ length self.old.flips.items }
+        ensures { OnOk result (Takes count self.old self.new) }
+    {
+        let (_, rest) = self.flips.split_at(self.at);
+        let (next, _) = rest.split_at(count);
+        self.done.extend_from_slice(next)?;
+        self.kinds.add_all(next);
+        self.at += count;
+        Ok(())
+    }
+
+    // Back to where so many were walked over.
+    fn go_back(&mut self, to: usize)
+        requires { IsWithin self.old }
+        ensures { Stays self.old self.new }
+    {
+        for _step in to..self.done.len() {
+            if self.at == 0 {
+                break;
+            }
+            self.step_back();
+        }
+    }
+
+    fn step_back(&mut self)
+        requires within { IsWithin self.old }
+        requires some { 0 < self.old.at }
+        ensures { Stays self.old self.new }
+    {
+        if let Some(flip) = self.done.pop() {
+            self.kinds.remove(flip);
+            self.at -= 1;
+            self.flips[self.at] = flip;
+        }
+    }
+
+    // Back to the end of the last block before a place.
+    fn go_back_to_block(&mut self, least: usize)
+        requires { IsWithin self.old }
+        ensures { Stays self.old self.new }
+    {
+        let to = last_before(&mut self.ends, least);
+        self.go_back(to);
+    }
+
+    // Takes out the pairs that come of the change, of which the first so many that come next are
+    // new. Says the least place that changed.
+    fn settle(&mut self, marks: &mut Marks, new: usize) -> Result<usize, Memory>
+        requires { IsWithin self.old }
+        ensures { OnOk result (Leads self.old self.new) }
+    {
+        let of_new = self.put_new(marks, new)?;
+        let of_others = self.meet_others(marks)?;
+        Ok(of_new.min(of_others))
+    }
+
+    fn put_new(&mut self, marks: &mut Marks, new: usize) -> Result<usize, Memory>
+        requires { IsWithin self.old }
+        ensures { OnOk result (Leads self.old self.new) }
+    {
+        let mut least = self.done.len();
+        for _flip in 0..new {
+            let changed = self.put_next(marks)?;
+            least = least.min(changed);
+        }
+        Ok(least)
+    }
+
+    // Takes out the next flip with one like it, or takes it.
+    fn put_next(&mut self, marks: &mut Marks) -> Result<usize, Memory>
+        requires { IsWithin self.old }
+        ensures { OnOk result (Leads self.old self.new) }
+    {
+        let place = self.done.len();
+        if self.at == self.flips.len() {
+            return Ok(place);
+        }
+        let flip = self.flips[self.at];
+        let cancelled = self.cancel(self.at)?;
+        match cancelled {
+            Some(other) => {
+                marks.free(flip);
+                Ok(other)
+            }
             None => {
-                done.extend_from_slice(rest)?;
-                return Ok(done);
-            }
-            Some(longer) => {
-                goes_on = put_replaced(&mut done, rest, &longer)?;
-                at += longer.end;
+                self.take_next()?;
+                Ok(place)
             }
         }
     }
-    let (_, rest) = flips.split_at(at);
-    done.extend_from_slice(rest)?;
-    Ok(done)
-}
 
-// Appends the flips before a block and its elimination, and says whether no pair comes of it.
-fn put_replaced(done: &mut Vec<Flip>, flips: &[Flip], longer: &Longer) -> Result<bool, Memory>
-    requires { IsLongerIn flips.now longer.now }
-    ensures { OnOk result (done.new.items ≡ done.old.items
-        ++ (take longer.now.start flips.now ++ longer.now.shorter.items)) }
-{
-    let (front, _) = flips.split_at(longer.start);
-    done.extend_from_slice(front)?;
-    let place = done.len();
-    done.extend_from_slice(&longer.shorter)?;
-    let (walked, rest) = flips.split_at(longer.end);
-    let (_, block) = walked.split_at(longer.start);
-    Ok(is_harmless(done, place, block, rest))
-}
-
-// Whether no pair comes of the flips from the place on, which stand for a block: the blocks beside
-// them stay, they block what the block did, and none of them meets one like it.
-fn is_harmless(done: &[Flip], place: usize, block: &[Flip], rest: &[Flip]) -> bool
-    requires { place ≤ length done.now }
-{
-    let (before, put) = done.split_at(place);
-    if ends_in_cx(before) || begins_with_cx(rest) {
-        return false;
+    fn take_next(&mut self) -> Result<(), Memory>
+        requires { IsWithin self.old }
+        ensures { OnOk result (Leads self.old self.new) }
+    {
+        if self.at == self.flips.len() {
+            return Ok(());
+        }
+        self.take(1)?;
+        Ok(())
     }
-    for flip in block {
-        if !has_roles_of(put, *flip) {
-            return false;
+
+    fn meet_others(&mut self, marks: &mut Marks) -> Result<usize, Memory>
+        requires { IsWithin self.old }
+        ensures { OnOk result (Leads self.old self.new) }
+    {
+        let mut least = self.done.len();
+        for next in self.at..self.flips.len() {
+            if !marks.are_open() {
+                break;
+            }
+            let changed = self.meet(marks, next)?;
+            least = least.min(changed);
+        }
+        Ok(least)
+    }
+
+    // Takes out a flip that is still to come, if it was freed and has one like it.
+    fn meet(&mut self, marks: &mut Marks, next: usize) -> Result<usize, Memory>
+        requires within { IsWithin self.old }
+        requires next { next < length self.old.flips.items }
+        ensures { OnOk result (Leads self.old self.new) }
+    {
+        let flip = self.flips[next];
+        if !self.may_meet(marks, flip) {
+            marks.pass(flip);
+            return Ok(self.done.len());
+        }
+        let cancelled = self.cancel(next)?;
+        match cancelled {
+            Some(other) => {
+                marks.free(flip);
+                Ok(other)
+            }
+            None => {
+                marks.pass(flip);
+                Ok(self.done.len())
+            }
         }
     }
-    for k in place..done.len() {
-        if meets_like(done, k, rest) {
+
+    fn may_meet(&self, marks: &Marks, flip: Flip) -> bool {
+        marks.let_through(flip) && self.kinds.may_have(flip)
+    }
+
+    // Takes out a flip that is still to come with the last like it, where all between are free of
+    // it, and those before it are walked over. Says the place of that other one.
+    fn cancel(&mut self, next: usize) -> Result<Option<usize>, Memory>
+        requires within { IsWithin self.old }
+        requires next { next < length self.old.flips.items }
+        ensures { OnOk result (Leads self.old self.new) }
+    {
+        if next < self.at {
+            return Ok(None);
+        }
+        let flip = self.flips[next];
+        let Some(place) = last_like(&self.done, flip) else {
+            return Ok(None);
+        };
+        let count = next - self.at;
+        if !self.is_free_of_next(flip, count) {
+            return Ok(None);
+        }
+        self.take(count)?;
+        self.cancel_next(place);
+        Ok(Some(place))
+    }
+
+    // Whether so many that come next are free of the flip.
+    fn is_free_of_next(&self, flip: Flip, count: usize) -> bool
+        requires { self.now.at + count ≤ length self.now.flips.items }
+        ensures { result ≡ true → AllByRecursion (λ other. are_free flip other ≡ true)
+            (take count (drop self.now.at self.now.flips.items)) }
+    {
+        let (_, rest) = self.flips.split_at(self.at);
+        let (next, _) = rest.split_at(count);
+        are_all_free(flip, next)
+    }
+
+    // Takes out the next flip with the one at a place.
+    fn cancel_next(&mut self, place: usize)
+        requires within { self.old.at < length self.old.flips.items }
+        requires meets { MeetsNext self.old place }
+        ensures { Leads self.old self.new }
+    {
+        let other = self.done.remove(place);
+        self.kinds.remove(other);
+        self.at += 1;
+    }
+}
+
+// The last of the ends before a place, or 0. Those behind it go.
+fn last_before(ends: &mut Vec<usize>, place: usize) -> usize {
+    'ends: while !ends.is_empty() {
+        let end = ends[ends.len() - 1];
+        if end < place {
+            return end;
+        }
+        ends.pop();
+    }
+    0
+}
+
+// The place of the last flip like this one, if all behind it are free of this one.
+fn last_like(flips: &[Flip], flip: Flip) -> Option<usize>
+    ensures { MatchOption result ⊤ (IsLastLike flips.now flip) }
+{
+    let mut left = flips.len();
+    'search: while left > 0 {
+        let other = flips[left - 1];
+        if flip.is_like(other) {
+            return Some(left - 1);
+        }
+        if !flip.is_free_of(other) {
+            return None;
+        }
+        left -= 1;
+    }
+    None
+}
+
+fn are_all_free(flip: Flip, others: &[Flip]) -> bool
+    ensures { result ≡ true → AllByRecursion (λ other. are_free flip other ≡ true) others.now }
+{
+    for other in others {
+        if !flip.is_free_of(*other) {
             return false;
         }
     }
     true
-}
-
-fn ends_in_cx(flips: &[Flip]) -> bool {
-    match flips {
-        [] => false,
-        [.., last] => last.is_cx(),
-    }
-}
-
-fn begins_with_cx(flips: &[Flip]) -> bool {
-    match flips {
-        [] => false,
-        [first, ..] => first.is_cx(),
-    }
-}
-
-// Whether the target of the flip is a target of the others too, and its control a control.
-fn has_roles_of(flips: &[Flip], flip: Flip) -> bool {
-    has_target(flips, flip.target) && has_controls(flips, flip.controls)
-}
-
-fn has_target(flips: &[Flip], line: u32) -> bool {
-    for flip in flips {
-        if flip.target == line {
-            return true;
-        }
-    }
-    false
-}
-
-fn has_controls(flips: &[Flip], controls: Controls) -> bool {
-    for flip in flips {
-        if controls.are_among(flip.controls) {
-            return true;
-        }
-    }
-    false
-}
-
-// Whether the flip at a place, or one that it could stand beside, has one like it.
-fn meets_like(done: &[Flip], place: usize, rest: &[Flip]) -> bool
-    requires { place < length done.now }
-{
-    let flip = done[place];
-    let (before, _) = done.split_at(place);
-    let (_, behind) = done.split_at(place + 1);
-    if last_met(flip, before) == Some(true) {
-        return true;
-    }
-    match first_met(flip, behind) {
-        Some(is_like) => is_like,
-        None => first_met(flip, rest) == Some(true),
-    }
-}
-
-// Whether the first of the flips that is like this one, or not free of it, is like it; true where
-// that is too far away.
-fn first_met(flip: Flip, flips: &[Flip]) -> Option<bool> {
-    for (count, other) in flips.iter().enumerate() {
-        if count == MOST_STEPS || flip.is_like(*other) {
-            return Some(true);
-        }
-        if !flip.is_free_of(*other) {
-            return Some(false);
-        }
-    }
-    None
-}
-
-// The same of the last one.
-fn last_met(flip: Flip, flips: &[Flip]) -> Option<bool> {
-    for (count, other) in flips.iter().rev().enumerate() {
-        if count == MOST_STEPS || flip.is_like(*other) {
-            return Some(true);
-        }
-        if !flip.is_free_of(*other) {
-            return Some(false);
-        }
-    }
-    None
 }

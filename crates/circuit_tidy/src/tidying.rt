@@ -51,7 +51,7 @@ fn tidied(alloc: Global, lines: u32, mut flips: Vec<Flip>) -> Result<Vec<Flip>, 
         let found = first_longer(alloc, &settled)?;
         match found {
             None => return Ok(settled),
-            Some(longer) => flips = swept(alloc, &settled, &longer)?,
+            Some(longer) => flips = swept(alloc, lines, settled, &longer)?,
         }
     }
 }

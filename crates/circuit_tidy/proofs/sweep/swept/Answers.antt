@@ -1,22 +1,24 @@
-use Rattle.std.proofs.Common.{◌∙◌, ◌++◌, ap, take}
-use Rattle.circuit_tidy.specs.inside.Walking.{AreShort, IsLongerIn}
-use Rattle.circuit_tidy.proofs.BlockLemmas.{still_within}
-use Rattle.circuit_tidy.proofs.TidyLemmas.{at_some, first_replaced, next_replaced}
+use Rattle.std.proofs.Common.{◌-◌, ap, length, arith}
+use Rattle.circuit_tidy.proofs.SweepLemmas.{same_contents, swept_at_last, swept_first, swept_further, takes_stays}
 use Rattle.circuit_tidy.proofs.sweep.swept.Goals as goal
 
-pub sweep-init : goal.sweep-init
-sweep-init c = (
-  c.requires.within,
-  first_replaced c.args.flips.now c.args.first.now.shorter.items c.put_replaced.new.done.items c.args.first.now.start c.args.first.now.end
-      c.requires.ordered c.requires.is
-      (c.in_ok-goes_on.ensures ∙ ap (λ l. l ++ (take c.args.first.now.start c.args.flips.now ++ c.args.first.now.shorter.items)) c.in_ok-done.ensures.items),
-)
+pub loop-turn-init : goal.loop-turn-init
+loop-turn-init c =
+    let flips = c.args.flips.items in
+    let begun = c.in_ok-sweep.ensures in
+    let goes = c.in_ok-give_way.ensures in
+    let stays = takes_stays c.args.first.now.start c.in_ok-sweep.sweep c.take.new.self
+    (omega (arith, begun.start, ap length begun.all, c.requires.ordered, c.requires.within)) c.in_ok-take.ensures in
+    (goes.within, swept_first flips c.take.new.self c.give_way.new.self (same_contents flips c.in_ok-sweep.sweep c.take.new.self begun stays) goes)
 
-pub sweep-preserved : goal.sweep-preserved
-sweep-preserved c =
-    let longer = at_some c.in_ok-found.found c.in-Some.longer (AreShort c.split_at.result.1.now) (IsLongerIn c.split_at.result.1.now) c.in-Some.is
-    c.in_ok-found.ensures in (
-      still_within c.args.flips.now c.split_at.result.1.now c.sweep.at c.in-Some.longer.end c.sweep.invariant.0 c.split_at.ensures.back longer.within,
-      next_replaced c.args.flips.now c.sweep.done.items c.split_at.result.1.now c.in-Some.longer.shorter.items c.put_replaced-in-Some.new.done.items c.sweep.at
-          c.in-Some.longer.start c.in-Some.longer.end c.split_at.ensures.back longer.ordered c.sweep.invariant.1 longer.is c.in_ok-goes_on-in-Some.ensures,
-    )
+pub loop-turn-preserved : goal.loop-turn-preserved
+loop-turn-preserved c =
+    let leads = c.in_ok-walk_on.ensures in
+    (leads.within, swept_further c.args.flips.items c.loop-turn.sweep c.walk_on.new.self c.loop-turn.invariant.1 leads)
+
+pub returns : goal.returns
+returns c =
+    let sweep = c.loop-turn.sweep in
+    swept_at_last c.args.flips.items sweep c.take-2.new.self (c.len-2.result - sweep.at)
+    (let within = c.loop-turn.invariant.0 in let size = c.len-2.ensures in let ok = sweep.flips.ok.0 in omega arith) c.loop-turn.invariant.1
+    c.in_ok-take-2.ensures

@@ -1,7 +1,6 @@
 use Rattle.std.proofs.Common.{◌∙◌, [], ap, reverse, subst}
 use Rattle.circuit_tidy.specs.inside.Settling.{with_flips}
 use Rattle.circuit_tidy.specs.inside.Walking.{AreShort, IsLongerIn}
-use Rattle.circuit_tidy.specs.inside.Work.{IsSwept}
 use Rattle.circuit_tidy.proofs.TidyLemmas.{at_none, settled_on, turn_goes_on, turn_less, work_done}
 use Rattle.circuit_tidy.proofs.tidying.tidied.Goals as goal
 
@@ -16,7 +15,7 @@ pub work-smaller : goal.work-smaller
 work-smaller c =
     let settled = c.in_ok-settled.settled.items in
     let is = c.in_ok-settled.ensures ∙ ap (λ fs. reverse (with_flips fs [])) c.deref.ensures.value in
-    let swept = subst (λ fs. IsSwept fs c.in_ok-flips-in-Some.flips.items) c.deref-in-Some.ensures.value c.in_ok-flips-in-Some.ensures in
+    let swept = c.in_ok-flips-in-Some.ensures in
     turn_less c.args.lines c.work.flips.items settled c.in_ok-flips-in-Some.flips.items c.work.invariant.on is
     (swept.goes_on c.args.lines (settled_on c.args.lines c.work.flips.items settled c.work.invariant.on is))
 
@@ -24,6 +23,6 @@ pub work-preserved : goal.work-preserved
 work-preserved c =
     let settled = c.in_ok-settled.settled.items in
     let is = c.in_ok-settled.ensures ∙ ap (λ fs. reverse (with_flips fs [])) c.deref.ensures.value in
-    let swept = subst (λ fs. IsSwept fs c.in_ok-flips-in-Some.flips.items) c.deref-in-Some.ensures.value c.in_ok-flips-in-Some.ensures in
+    let swept = c.in_ok-flips-in-Some.ensures in
     turn_goes_on c.args.lines c.args.flips.items c.work.flips.items settled c.in_ok-flips-in-Some.flips.items c.work.invariant is
     (swept.goes_on c.args.lines (settled_on c.args.lines c.work.flips.items settled c.work.invariant.on is))

@@ -1,0 +1,5 @@
+use Rattle.circuit_tidy.specs.inside.Sweeping.{Leads}
+use Rattle.circuit_tidy.proofs.sweep.Sweep.put_new.Given as goal
+
+abbrev pub invariant-loop-flip : goal.invariant-loop-flip
+invariant-loop-flip l = Leads l.initial.self l.self

@@ -1,0 +1,176 @@
+// Where a pair can come of a change. No contract rests on it: it saves looks for flips.
+use crate::flip::{Controls, Flip};
+use revc_base::Memory;
+use std::alloc::Global;
+
+// What is noted of a line, as bits of a word: flips that were passed over have it as target, or as
+// a control; flips with it as target, or as a control, were freed; new flips touch it.
+const TARGET: u8 = 1;
+
+const CONTROL: u8 = 2;
+
+const FREED_TARGET: u8 = 4;
+
+const FREED_CONTROL: u8 = 8;
+
+const NEW: u8 = 16;
+
+/// The lines of a change, and of the flips behind it that were passed over.
+#[derive(Drop)]
+pub struct Marks {
+    words: Vec<u8>,
+    open: usize,
+}
+
+impl Marks {
+    pub fn new(alloc: Global, lines: u32) -> Result<Marks, Memory> {
+        let words = vec![in alloc; 0; lines as usize]?;
+        Ok(Marks { words, open: 0 })
+    }
+
+    // Whether a flip behind those that were passed over can still come to the change.
+    pub fn are_open(&self) -> bool {
+        self.open > 0
+    }
+
+    // Whether the flip can come to the change, and was freed or is on new lines.
+    pub fn let_through(&self, flip: Flip) -> bool {
+        let target = self.word_of(flip.target);
+        if has(target, CONTROL) {
+            return false;
+        }
+        match flip.controls {
+            Controls::Zero => has(target, FREED_TARGET),
+            Controls::One(one) => {
+                let control = self.word_of(one);
+                let is_freed = has(target, FREED_TARGET) || has(control, FREED_CONTROL);
+                !has(control, TARGET) && (is_freed || has(control & target, NEW))
+            }
+            Controls::Two(first, second) => {
+                let controls = self.word_of(first) | self.word_of(second);
+                let is_freed = has(target, FREED_TARGET) || has(controls, FREED_CONTROL);
+                !has(controls, TARGET) && is_freed
+            }
+        }
+    }
+
+    // A block gives way to new flips.
+    pub fn change(&mut self, block: &[Flip], new: &[Flip]) {
+        for flip in block {
+            self.free(*flip);
+        }
+        for flip in new {
+            self.renew(*flip);
+        }
+    }
+
+    // The flip goes: those that it stopped are freed.
+    pub fn free(&mut self, flip: Flip) {
+        self.add_lines(flip, FREED_CONTROL, FREED_TARGET);
+    }
+
+    // The flip is new.
+    fn renew(&mut self, flip: Flip) {
+        self.add_lines(flip, NEW, NEW);
+    }
+
+    // The flip is passed over.
+    pub fn pass(&mut self, flip: Flip) {
+        self.add_lines(flip, TARGET, CONTROL);
+    }
+
+    fn word_of(&self, line: u32) -> u8 {
+        self.words.get(line as usize).copied().unwrap_or(0)
+    }
+
+    fn add_lines(&mut self, flip: Flip, of_target: u8, of_controls: u8) {
+        self.add(flip.target, of_target);
+        match flip.controls {
+            Controls::Zero => {}
+            Controls::One(one) => self.add(one, of_controls),
+            Controls::Two(first, second) => {
+                self.add(first, of_controls);
+                self.add(second, of_controls);
+            }
+        }
+    }
+
+    fn add(&mut self, line: u32, bit: u8) {
+        let old = self.word_of(line);
+        let place = line as usize;
+        if has(old, bit) || self.words.len() <= place {
+            return;
+        }
+        let new = old | bit;
+        self.words[place] = new;
+        let open = self.open.saturating_add(usize::from(is_open(new)));
+        self.open = open.saturating_sub(usize::from(is_open(old)));
+    }
+}
+
+fn has(word: u8, bit: u8) -> bool {
+    word & bit != 0
+}
+
+// Whether a flip of the line behind those that were passed over can come to the change.
+fn is_open(word: u8) -> bool {
+    (has(word, FREED_TARGET) && !has(word, CONTROL))
+        || (has(word, FREED_CONTROL) && !has(word, TARGET))
+        || (has(word, NEW) && !(has(word, TARGET) && has(word, CONTROL)))
+}
+
+// How many kinds of flips are told apart.
+const MOST_KINDS: usize = 1 << 18;
+
+/// How many flips of each kind there are; two kinds may share their number.
+#[derive(Drop)]
+pub struct Kinds {
+    counts: Vec<u32>,
+}
+
+impl Kinds {
+    pub fn new(alloc: Global) -> Result<Kinds, Memory> {
+        let counts = vec![in alloc; 0; MOST_KINDS]?;
+        Ok(Kinds { counts })
+    }
+
+    // Whether there may be a flip like this one.
+    pub fn may_have(&self, flip: Flip) -> bool {
+        let kind = kind_of(flip);
+        kind < self.counts.len() && self.counts[kind] > 0
+    }
+
+    pub fn add_all(&mut self, flips: &[Flip]) {
+        for flip in flips {
+            self.add(*flip);
+        }
+    }
+
+    fn add(&mut self, flip: Flip) {
+        let kind = kind_of(flip);
+        if kind < self.counts.len() {
+            self.counts[kind] = self.counts[kind].saturating_add(1);
+        }
+    }
+
+    pub fn remove(&mut self, flip: Flip) {
+        let kind = kind_of(flip);
+        if kind < self.counts.len() {
+            self.counts[kind] = self.counts[kind].saturating_sub(1);
+        }
+    }
+}
+
+// The same of flips that are alike.
+fn kind_of(flip: Flip) -> usize {
+    let (sum, product) = match flip.controls {
+        Controls::Zero => (0, 0),
+        Controls::One(one) => (one, 1),
+        Controls::Two(first, second) => (first.wrapping_add(second), first.wrapping_mul(second)),
+    };
+    let target = flip.target.wrapping_mul(31_337);
+    let controls = sum
+        .wrapping_mul(40_503)
+        .wrapping_add(product.wrapping_mul(97));
+    target.wrapping_add(controls) as usize % MOST_KINDS
+}
