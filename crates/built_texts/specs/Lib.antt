@@ -1,0 +1,5 @@
+pub mod Forms
+pub mod Meanings
+pub mod Pieces
+pub mod Programs
+pub mod Ways
