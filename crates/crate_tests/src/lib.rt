@@ -14,8 +14,6 @@ mod circuit_verify_tests;
 #[cfg(test)]
 mod dependency_graph_tests;
 #[cfg(test)]
-mod sum_graph_tests;
-#[cfg(test)]
 mod program_gen_tests;
 #[cfg(test)]
 mod qasm_format_tests;
@@ -29,5 +27,7 @@ mod revc_base_tests;
 mod revc_io_tests;
 #[cfg(test)]
 mod revs_lexer_tests;
+#[cfg(test)]
+mod sum_graph_tests;
 #[cfg(test)]
 mod text_places_tests;

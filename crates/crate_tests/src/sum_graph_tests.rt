@@ -7,12 +7,12 @@ use crate::dependency_graph_tests::push_all;
 use bit_sums::Sum;
 use claim_check::{Settled, settle};
 use dependency_graph::{Base, Graph};
-use sum_graph::SumGraph;
 use revc_base::Memory;
 use revs_tape::{Entry, Ref, Tape};
 use std::alloc::Global;
 use std::process::Abort;
 use std::test::Fail;
+use sum_graph::SumGraph;
 
 // A full adder: the sum of three inputs, and their carry by the sum of two of them.
 const ADDER: &[Entry] = &[
