@@ -10,10 +10,12 @@ use Rattle.revs_terms.specs.declared.cause.Cause.{Cause}
 use Rattle.revs_terms.specs.declared.cause.Cause.TheVariants as causes
 use Rattle.revs_terms.specs.Trees.{Tree}
 use Rattle.revs_terms.specs.Terms.{place_of}
-use Rattle.revs_terms.specs.Running.{Value, unit, bit, register, number, closure, Environment, nothing, bound, bound_length, Stamped, State, Outcome, stuck, went, after}
+use Rattle.revs_terms.specs.Running.{Value, unit, bit, register, number, closure, Environment, nothing}
+use Rattle.revs_terms.specs.Running.{bound, bound_length, Stamped, State, Outcome, stuck, went, after}
 use Rattle.revs_terms.specs.Running.{provided, worked, written, read, term_of, run_of}
 use Rattle.revs_terms.specs.Runs.{real_bits}
-use Rattle.built_texts.specs.Meanings.{Meaning, Scope, of_bit, of_bits, of_function, no_names, named, length_of, Holds, AreHeld, Agrees, AgreesIn, HasRoom, Grew}
+use Rattle.built_texts.specs.Meanings.{Meaning, Scope, of_bit, of_bits, of_function, no_names, named}
+use Rattle.built_texts.specs.Meanings.{length_of, Holds, AreHeld, Agrees, AgreesIn, HasRoom, Grew}
 use Rattle.built_texts.specs.Meanings.{Goes}
 
 -- ---- outcomes

@@ -1,5 +1,6 @@
 -- The run of each form of term, by what its parts mean.
-use Rattle.std.proofs.Common.{◌≡◌, ℕ, zero, suc, ◌+◌, ◌-◌, ◌≤◌, ◌<◌, leb, Bool, true, false, not, ◌&&◌, List, [], ◌∷◌, ◌++◌, length, take, drop, Option, Some, None}
+use Rattle.std.proofs.Common.{◌≡◌, ℕ, zero, suc, ◌+◌, ◌-◌, ◌≤◌, ◌<◌, leb, Bool, true, false}
+use Rattle.std.proofs.Common.{not, ◌&&◌, List, [], ◌∷◌, ◌++◌, length, take, drop, Option, Some, None}
 use Rattle.std.proofs.Common.{refl, ap, sym, ◌∙◌, subst, arith, inl, inr}
 use Rattle.std.specs.Prelude.{slice_get, ℤ, pos, ◌+ℤ◌, bytes_eq, position}
 use Rattle.std.specs.Bool.{xor}
@@ -14,21 +15,26 @@ use Rattle.revs_tape.specs.declared.tape.Entry.TheVariants as entries
 use Rattle.revs_terms.specs.declared.cause.Cause.TheVariants as causes
 use Rattle.revs_terms.specs.declared.term.Name.{Name}
 use Rattle.revs_terms.specs.declared.term.Part.TheVariants as part
-use Rattle.revs_terms.specs.Trees.{Tree, Trees, ItemTree, ItemTrees, trees, list_of, item_trees, items_of, used, bool, reg, block, function, parts, apply, append, ands}
+use Rattle.revs_terms.specs.Trees.{Tree, Trees, ItemTree, ItemTrees, trees, list_of, item_trees, items_of, used}
+use Rattle.revs_terms.specs.Trees.{bool, reg, block, function, parts, apply, append, ands}
 use Rattle.revs_terms.specs.Trees.{xors, nil, cons, bind, no_items, item}
 use Rattle.revs_terms.specs.Terms.{place_of}
-use Rattle.revs_terms.specs.Running.{Value, unit, bit, register, number, closure, Environment, nothing, bound, value_at, bound_length, Stamped, State, Outcome, went, after}
-use Rattle.revs_terms.specs.Running.{given, element, number_of, worked, registered, as_bit, as_register, bit_of, bits_of, parts_of, items_run, block_of, apply_to}
+use Rattle.revs_terms.specs.Running.{Value, unit, bit, register, number, closure, Environment, nothing}
+use Rattle.revs_terms.specs.Running.{bound, value_at, bound_length, Stamped, State, Outcome, went, after}
+use Rattle.revs_terms.specs.Running.{given, element, number_of, worked, registered, as_bit, as_register}
+use Rattle.revs_terms.specs.Running.{bit_of, bits_of, parts_of, items_run, block_of, apply_to}
 use Rattle.revs_terms.specs.Running.{apply_all, chain_of, chain, written, run_of, places, appended}
 use Rattle.revs_terms.specs.Runs.{real_bits}
 use Rattle.revs_terms.specs.Scopes.{Scoped, unbound, scoped, and_then, nearer, scoped_tree, scoped_trees, scoped_items}
 use Rattle.revs_grammar.specs.Forms.{Numeral}
 use Rattle.revs_grammar.specs.Productions.{plus, digits_of}
 use Rattle.built_texts.specs.Forms.{num}
-use Rattle.built_texts.specs.Meanings.{Meaning, Scope, of_bit, of_bits, of_function, no_names, named, names_in, meaning_of, length_of, Holds, AreHeld, Agrees, AgreesIn}
+use Rattle.built_texts.specs.Meanings.{Meaning, Scope, of_bit, of_bits, of_function, no_names, named}
+use Rattle.built_texts.specs.Meanings.{names_in, meaning_of, length_of, Holds, AreHeld, Agrees, AgreesIn}
 use Rattle.built_texts.specs.Meanings.{HasRoom, Grew, Goes, Means, IsRun, AreRuns, no_operands, operand, chained, Applies, all_taken, takes, takes_last}
 use Rattle.built_texts.specs.Meanings.{RunsBody, last_is, let_is}
-use Rattle.built_texts.proofs.MeaningLemmas.{goes_on, next, where_so, such, stays, further, room, less_room, holds_on, held_on, agrees_on, scope_on, length-held}
+use Rattle.built_texts.proofs.MeaningLemmas.{goes_on, next, where_so, such, stays, further, room}
+use Rattle.built_texts.proofs.MeaningLemmas.{less_room, holds_on, held_on, agrees_on, scope_on, length-held}
 use Rattle.built_texts.proofs.MeaningLemmas.{length-agrees, works, writes, reads, enters}
 
 -- ---- scopes

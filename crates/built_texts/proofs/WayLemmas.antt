@@ -6,7 +6,8 @@ use Rattle.revs_lexer.specs.declared.token.Tok.{Tok}
 use Rattle.revs_lexer.specs.declared.token.Tok.TheVariants as toks
 use Rattle.revs_lexer.specs.declared.token.Token.{Token}
 use Rattle.revs_grammar.specs.declared.profile.Profile.{Profile}
-use Rattle.revs_grammar.specs.Forms.{Mark, two, other_number, code, mark_code, numeral_in, Kind, number, Form, in_profile, Val, level, Piece, one, kept, opening}
+use Rattle.revs_grammar.specs.Forms.{Mark, two, other_number, code, mark_code, numeral_in, Kind, number}
+use Rattle.revs_grammar.specs.Forms.{Form, in_profile, Val, level, Piece, one, kept, opening}
 use Rattle.revs_grammar.specs.Forms.{sub, Builds, Production, IsOneOf, line}
 use Rattle.revs_grammar.specs.Productions.{productions}
 use Rattle.revs_grammar.specs.Sentences.{Symbol, token, kept_token, opening_token, form, symbols, done, read, keep, open_level, by_line, Vals, value}

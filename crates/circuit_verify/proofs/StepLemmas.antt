@@ -27,10 +27,12 @@ use Rattle.circuit_verify.specs.Comparisons.{Comparison, input_bits, inputs_in, 
 use Rattle.circuit_verify.specs.LineFunctions.{Line, Step}
 use Rattle.circuit_verify.specs.Verdicts.{HasEnoughLines, IsComparable}
 use Rattle.circuit_verify.specs.inside.Compared.{ComparedView, IsReady, comparison}
-use Rattle.circuit_verify.specs.inside.Numbers.{AreEnds, AreNumbersOf, GrowsBy, bits_in, first_values, holder_function, line_function_of, node_function_of, sig_function_of}
+use Rattle.circuit_verify.specs.inside.Numbers.{AreEnds, AreNumbersOf, GrowsBy, bits_in, first_values}
+use Rattle.circuit_verify.specs.inside.Numbers.{holder_function, line_function_of, node_function_of, sig_function_of}
 use Rattle.circuit_verify.proofs.AskLemmas.{IsAnswered, IsHeldBit, answered, held_bit_of}
 use Rattle.circuit_verify.proofs.LineLemmas.{line_map_next}
-use Rattle.circuit_verify.proofs.NumberLemmas.{length-bits_in, length-numbers, numbers-append, numbers-drop, numbers-push, numbers-same, numbers-take, numbers-zeros}
+use Rattle.circuit_verify.proofs.NumberLemmas.{length-bits_in, length-numbers, numbers-append, numbers-drop}
+use Rattle.circuit_verify.proofs.NumberLemmas.{numbers-push, numbers-same, numbers-take, numbers-zeros}
 use Rattle.circuit_verify.proofs.OrderLemmas.{ordered_in}
 use Rattle.circuit_verify.proofs.ValueLemmas.{length-values, node_is, node_more, sig_is, sig_more, values_more}
 use Rattle.circuit_verify.proofs.VerdictLemmas.{length-start_on}

@@ -8,7 +8,8 @@ use Rattle.revc_io.specs.Passing.{AppendsFront}
 use Rattle.revs_terms.specs.Causes.{cause_word}
 use Rattle.command_answers.specs.Lines.{digits_of}
 use Rattle.command_answers.specs.declared.fault.Fault.{Fault}
-use Rattle.command_answers.specs.declared.fault.Fault.TheVariants.{Usage, Refused, Claim, Diagram, CircuitDiagram, Lines, Gates, Circuit, BadBits, FewLines, WideGate, Differs, NoPart, Read, Write, Memory}
+use Rattle.command_answers.specs.declared.fault.Fault.TheVariants.{Usage, Refused, Claim, Diagram, CircuitDiagram, Lines, Gates, Circuit}
+use Rattle.command_answers.specs.declared.fault.Fault.TheVariants.{BadBits, FewLines, WideGate, Differs, NoPart, Read, Write, Memory}
 use Rattle.command_answers.specs.declared.fault.CircuitRefusal.{CircuitRefusal}
 use Rattle.command_answers.specs.declared.fault.CircuitRefusal.TheVariants as circuits
 use Rattle.command_answers.specs.declared.fault.FaultKind.{FaultKind}

@@ -9,7 +9,8 @@ use Rattle.decision_diagram.specs.declared.node.DdFault.{DdFault}
 use Rattle.decision_diagram.specs.Functions.{AreSame, ComesFrom, Function, conjunction, exclusive_or, flipped}
 use Rattle.decision_diagram.specs.Diagrams.{Triple, DiagramView, IsNumber, function_of, first_variable, IsBehind, AreOrdered, IsCanonical}
 use Rattle.decision_diagram.specs.Growth.{KeepsNodes, StandsFor}
-use Rattle.decision_diagram.specs.inside.Flipping.{AreBehind, AreNumbers, AreUnlike, IsOneOf, IsProduct, SplitAll, Splits, first_asked, flipped_at, node_function, total}
+use Rattle.decision_diagram.specs.inside.Flipping.{AreBehind, AreNumbers, AreUnlike, IsOneOf, IsProduct, SplitAll}
+use Rattle.decision_diagram.specs.inside.Flipping.{Splits, first_asked, flipped_at, node_function, total}
 use Rattle.decision_diagram.proofs.ValueLemmas.{first_most}
 use Rattle.decision_diagram.proofs.DistinctLemmas.{some_at, inner_at}
 use Rattle.decision_diagram.proofs.RestrictionLemmas.{ComesFrom-same}

@@ -1,5 +1,6 @@
 -- The walk to the least assignment with a bit.
-use Rattle.std.proofs.Common.{◌≡◌, ◌≢◌, ℕ, ◌<◌, ◌≤◌, min, Bool, true, false, not, nat_eq, if◌then◌else◌, List, length, set, refl, sym, subst, ap, ap₂, ◌∙◌, inl, inr, arith, eqb-true}
+use Rattle.std.proofs.Common.{◌≡◌, ◌≢◌, ℕ, ◌<◌, ◌≤◌, min, Bool, true, false, not, nat_eq, if◌then◌else◌, List}
+use Rattle.std.proofs.Common.{length, set, refl, sym, subst, ap, ap₂, ◌∙◌, inl, inr, arith, eqb-true}
 use Rattle.std.proofs.Common.{get_or-set_same, get_or-set_other}
 use Rattle.std.specs.Bool.{xor}
 use Rattle.std.proofs.lemmas.Bool.{cases_eq, cases_lt, cases_Bool, eqb-false, true≢false, false≢true}

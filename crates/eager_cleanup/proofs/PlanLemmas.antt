@@ -1,5 +1,6 @@
 -- The beginning and the end of the eager plan.
-use Rattle.std.proofs.Common.{◌≡◌, ℕ, zero, suc, ◌+◌, ◌*◌, ◌≤◌, false, List, [], ◌∷◌, inl, inr, length, map, sum_by, replicate, Option, None, is_some, refl, sym, ap, ◌∙◌, subst, arith}
+use Rattle.std.proofs.Common.{◌≡◌, ℕ, zero, suc, ◌+◌, ◌*◌, ◌≤◌, false, List, [], ◌∷◌, inl, inr}
+use Rattle.std.proofs.Common.{length, map, sum_by, replicate, Option, None, is_some, refl, sym, ap, ◌∙◌, subst, arith}
 use Rattle.std.specs.List.{AllByRecursion}
 use Rattle.std.proofs.lemmas.Bool.{true≢false}
 use Rattle.claim_check.specs.Budgets.{Measures, eager_gates}

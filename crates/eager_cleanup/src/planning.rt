@@ -20,11 +20,12 @@ use held_nodes::Forward;
 use std::alloc::Global;
 use sum_graph::{SumGraph, plain_graphs_are_alike};
 
-/// The eager plan of a settled graph, over its plain graph of sums. Its forward part takes the nodes in order. Each is computed
-/// onto the least free work line; then each node that was used for the last time is cleaned, the
-/// later one first: by its operands where they are inputs or still stand on work lines, else by the
-/// merged cubes of its polynomial where that has at most 64 monomials, and else at the end. The
-/// circuit takes each input and zeros to that input, the outputs, and zeros.
+/// The eager plan of a settled graph, whose plain graph of sums is given. Its forward part takes
+/// the nodes in order. Each is computed onto the least free work line; then each node that was used
+/// for the last time is cleaned, the later one first: by its operands where they are inputs or
+/// still stand on work lines, else by the merged cubes of its polynomial where that has at most 64
+/// monomials, and else at the end. The circuit takes each input and zeros to that input, the
+/// outputs, and zeros.
 ///
 /// # Errors
 ///

@@ -6,7 +6,8 @@ use Rattle.revs_terms.specs.Running.{Environment, nothing, bound, value_at}
 use Rattle.inliner.specs.declared.leaps.Leap.{Leap}
 use Rattle.inliner.specs.declared.machine.Binding.{Binding}
 use Rattle.inliner.specs.declared.machine.Machine.{Machine}
-use Rattle.inliner.specs.inside.Machines.{env_in, bound_in, envs_from, envs_of, farther, Leaps, AreLeaps, AreBindings, IsMachine, joined_leap, leap_at, leap_behind, leap_of}
+use Rattle.inliner.specs.inside.Machines.{env_in, bound_in, envs_from, envs_of, farther, Leaps, AreLeaps}
+use Rattle.inliner.specs.inside.Machines.{AreBindings, IsMachine, joined_leap, leap_at, leap_behind, leap_of}
 use Rattle.inliner.proofs.EnvironmentLemmas.{env_in-front, envs_from-front, added_by, at_place, placed, got}
 
 -- ---- farther out

@@ -1,5 +1,6 @@
 -- What is known while blocks are tried, from one block of all nodes down to blocks of one node.
-use Rattle.std.proofs.Common.{◌≡◌, ltb, ℕ, zero, suc, ◌+◌, ◌*◌, ◌/◌, ◌^◌, ◌<◌, ◌≤◌, ◌⊎◌, true, length, Ok, Err, inl, inr, refl, sym, subst, ◌∙◌, pow_mono, arith}
+use Rattle.std.proofs.Common.{◌≡◌, ltb, ℕ, zero, suc, ◌+◌, ◌*◌, ◌/◌, ◌^◌, ◌<◌, ◌≤◌, ◌⊎◌}
+use Rattle.std.proofs.Common.{true, length, Ok, Err, inl, inr, refl, sym, subst, ◌∙◌, pow_mono, arith}
 use Rattle.std.specs.Prelude.{IfErr, IfOk, Result}
 use Rattle.std.proofs.lemmas.Bool.{cases_Bool, cases_lt, ltb-false}
 use Rattle.std.proofs.lemmas.Nat.{pow_pos}
@@ -16,7 +17,8 @@ use Rattle.revs_tape.specs.Levels.{IsLevels}
 use Rattle.gate_split.specs.declared.choice.How.TheVariants.{Auto, Eager, Pebble}
 use Rattle.gate_split.specs.declared.choice.How.{How}
 use Rattle.held_nodes.specs.Plans.{wanted_lines}
-use Rattle.plan_choice.specs.Choices.{EagerFits, Fit, FineFits, GatesAreFew, IsBelowFineLines, IsChoiceFault, IsLaidFor, IsPebbling, LinesAreFew, NoEagerFits, NoLargerFits, PlainFits, PebblingFits}
+use Rattle.plan_choice.specs.Choices.{EagerFits, Fit, FineFits, GatesAreFew, IsBelowFineLines, IsChoiceFault, IsLaidFor}
+use Rattle.plan_choice.specs.Choices.{IsPebbling, LinesAreFew, NoEagerFits, NoLargerFits, PlainFits, PebblingFits}
 use Rattle.plan_choice.specs.inside.Tried.{IsLaidInBlocks, IsSearchFault, is_refusal}
 
 -- ---- one block

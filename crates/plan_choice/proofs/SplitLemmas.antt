@@ -1,5 +1,6 @@
 -- What the split of a plan keeps, and when it is refused.
-use Rattle.std.proofs.Common.{◌≡◌, ℕ, ◌+◌, ◌<◌, ◌≤◌, Bool, false, List, [], ◌∷◌, ◌++◌, length, map, replicate, Ok, Err, inl, inr, refl, sym, ap, ap₂, subst, ◌∙◌, arith}
+use Rattle.std.proofs.Common.{◌≡◌, ℕ, ◌+◌, ◌<◌, ◌≤◌, Bool, false, List, [], ◌∷◌, ◌++◌, length, map}
+use Rattle.std.proofs.Common.{replicate, Ok, Err, inl, inr, refl, sym, ap, ap₂, subst, ◌∙◌, arith}
 use Rattle.std.specs.List.{AllByRecursion, sum_by}
 use Rattle.std.specs.Prelude.{IfErr, Result}
 use Rattle.std.proofs.lemmas.Bool.{cases_lt}

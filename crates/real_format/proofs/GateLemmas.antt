@@ -22,7 +22,8 @@ use Rattle.real_format.specs.declared.refusal.LineRefusal.TheVariants.{Form, Lim
 use Rattle.real_format.specs.Header.{IsName}
 use Rattle.real_format.specs.Real.{NamesLine, NamesControl}
 use Rattle.real_format.specs.Faults.{IsLong}
-use Rattle.real_format.specs.inside.Reading.{and_then, is_nil, begins_name, has_sign, is_long, line_of, lines_of_controls, control_on, control_of, controls_from, target_of}
+use Rattle.real_format.specs.inside.Reading.{and_then, is_nil, begins_name, has_sign, is_long, line_of}
+use Rattle.real_format.specs.inside.Reading.{lines_of_controls, control_on, control_of, controls_from, target_of}
 use Rattle.real_format.specs.inside.Reading.{alone, op_of}
 use Rattle.real_format.proofs.InversionLemmas.{else_ok, then_ok, and_ok, or_ok, same_ok, else_limit, limit_else, then_limit, and_limit, or_limit, ok_no_limit}
 use Rattle.real_format.proofs.HeaderLemmas.{same_word, word_same, nil_is, AreNames, begins_so, neither, long, not_false, not_long, so_begins, so_long}

@@ -1,5 +1,6 @@
 -- Lines of a gate, by their stamps.
-use Rattle.std.proofs.Common.{◌≡◌, ℕ, ◌<◌, Bool, true, false, not, ◌||◌, if◌then◌else◌, eqb, List, [], ◌∷◌, ◌++◌, length, drop, position, Option, Some, None, Ok}
+use Rattle.std.proofs.Common.{◌≡◌, ℕ, ◌<◌, Bool, true, false, not, ◌||◌, if◌then◌else◌, eqb, List}
+use Rattle.std.proofs.Common.{[], ◌∷◌, ◌++◌, length, drop, position, Option, Some, None, Ok}
 use Rattle.std.proofs.Common.{Err, Result, ◌≤◌, ◌==◌, refl, sym, ap, ◌∙◌, arith, inl, inr, get_or, set}
 use Rattle.std.specs.List.{AllByRecursion}
 use Rattle.std.specs.Str.{bytes_eq}
@@ -14,7 +15,8 @@ use Rattle.mct_circuit.specs.declared.gate.Op.TheVariants.{Flip, Swap}
 use Rattle.mct_circuit.specs.Sizes.{has_line}
 use Rattle.real_format.specs.declared.refusal.LineRefusal.{LineRefusal}
 use Rattle.real_format.specs.declared.refusal.LineRefusal.TheVariants.{Form, Limit, Memory}
-use Rattle.real_format.specs.inside.Reading.{and_then, or_form, Refuses, begins_name, has_sign, is_long, line_of, control_of, control_on, controls_from, lines_of_controls}
+use Rattle.real_format.specs.inside.Reading.{and_then, or_form, Refuses, begins_name, has_sign, is_long}
+use Rattle.real_format.specs.inside.Reading.{line_of, control_of, control_on, controls_from, lines_of_controls}
 use Rattle.real_format.specs.inside.Reading.{target_of, op_of, alone, gate_of}
 use Rattle.real_format.specs.declared.gate.Shape.{Shape}
 use Rattle.mct_circuit.specs.Gates.{GateView}

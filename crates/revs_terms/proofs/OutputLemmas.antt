@@ -18,7 +18,8 @@ use Rattle.revs_terms.specs.Trees.{Tree, Trees, ItemTree, ItemTrees, list_of, it
 use Rattle.revs_terms.specs.Trees.{assert, ands, xors, assign, loop, nil, cons, bind, run, no_items, item}
 use Rattle.revs_terms.specs.Terms.{place_of, has_one, parts_are_formed, is_formed, are_formed, item_is_formed, items_are_formed}
 use Rattle.revs_terms.specs.Running.{Value, unit, bit, register, number, closure, Environment, nothing, bound, value_at, bound_length, Bits, Stamped, State}
-use Rattle.revs_terms.specs.Running.{Outcome, stuck, went, after, provided, given, turns, element, places, turned, worked, registered, written, read, as_register}
+use Rattle.revs_terms.specs.Running.{Outcome, stuck, went, after, provided, given, turns, element}
+use Rattle.revs_terms.specs.Running.{places, turned, worked, registered, written, read, as_register}
 use Rattle.revs_terms.specs.Running.{number_of, bit_of, bits_of, part_of, parts_of, items_run, turn_of, turns_of, apply_to, apply_all, claimed, chain_of}
 use Rattle.revs_terms.specs.Running.{chain, term_of, run_of}
 use Rattle.revs_terms.specs.Runs.{start, from, param_value, params_in, locations_of, read_all, no_bits, nothings, run_without_bits, HasOutputs}

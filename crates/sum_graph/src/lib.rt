@@ -1,5 +1,5 @@
-//! Graphs of sums: nodes that are sums of bits and of products of two sums of bits. The plain one of
-//! a settled graph has its nodes, the lean one few of them.
+//! Graphs of sums: nodes that are sums of bits and of products of two sums of bits. The plain one
+//! of a settled graph has its nodes, the lean one few of them.
 #![tactic(auto)]
 
 mod graph;

@@ -72,7 +72,8 @@ fn numbers(alloc: Global, count: u32) -> Result<Vec<u32>, Memory>
     Ok(numbers)
 }
 
-// First each node itself, then each node that is made of it, and at last the end where an output is.
+// First each node itself, then each node that is made of it, and at last the end where an output
+// is.
 fn filled_table(alloc: Global, nodes: &[Sum], outputs: &[Sum]) -> Result<Vec<u32>, Memory>
     requires { length nodes.now ≤ MOST_WRITES }
     ensures { IfOk result (λ table. table.items

@@ -1,5 +1,6 @@
 -- The gates of a sum: they add its value to the target, are narrow, stand on the lines, and weigh the same on any lines.
-use Rattle.std.proofs.Common.{◌≡◌, ◌≢◌, ℕ, suc, ◌+◌, ◌<◌, ◌≤◌, Bool, true, false, cond, List, [], ◌∷◌, ◌++◌, length, reverse, set, sum_by, refl, sym, ap, ap₂, ◌∙◌, subst, inl, inr, arith}
+use Rattle.std.proofs.Common.{◌≡◌, ◌≢◌, ℕ, suc, ◌+◌, ◌<◌, ◌≤◌, Bool, true, false, cond, List, [], ◌∷◌}
+use Rattle.std.proofs.Common.{◌++◌, length, reverse, set, sum_by, refl, sym, ap, ap₂, ◌∙◌, subst, inl, inr, arith}
 use Rattle.std.specs.Bool.{xor}
 use Rattle.std.specs.List.{AllByRecursion, flat_map}
 use Rattle.std.proofs.lemmas.Bool.{cases_Bool}
@@ -17,7 +18,8 @@ use Rattle.mct_circuit.specs.Gates.{AreGatesOn, AreNarrow, GateView, IsGateOn, I
 use Rattle.mct_circuit.specs.Sizes.{weight_of}
 use Rattle.mct_circuit.proofs.ReversalLemmas.{lines_of-flip_of}
 use Rattle.mct_circuit.proofs.WeightLemmas.{weight-reverse}
-use Rattle.sum_toggles.specs.Toggles.{HaveLines, bit_gates, both_gathered, gathers, one_gates, own_base, product_gates, product_weight, sum_gates, toggle_weight}
+use Rattle.sum_toggles.specs.Toggles.{HaveLines, bit_gates, both_gathered, gathers, one_gates}
+use Rattle.sum_toggles.specs.Toggles.{own_base, product_gates, product_weight, sum_gates, toggle_weight}
 use Rattle.sum_toggles.proofs.AddingLemmas.{AreAdding, adding_all, adding_bits, adding_both, adding_one, on_lines}
 use Rattle.sum_toggles.proofs.GatherLemmas.{copy_on, product_adds, product_on}
 use Rattle.sum_toggles.proofs.OwnLemmas.{AllApart, own_is, rising_different}

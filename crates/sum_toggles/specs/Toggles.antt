@@ -1,5 +1,6 @@
 -- The gates that add the value of a sum to a line, where each of its bases has a line.
-use Rattle.std.specs.Prelude.{◌≡◌, ◌≢◌, ℕ, ◌+◌, ◌-◌, ◌*◌, ◌<◌, ◌≤◌, Bool, if◌then◌else◌, List, [], ◌∷◌, ◌++◌, length, map, reverse, Option, unwrap_or, slice_index_or, None, sum_by, ⊤}
+use Rattle.std.specs.Prelude.{◌≡◌, ◌≢◌, ℕ, ◌+◌, ◌-◌, ◌*◌, ◌<◌, ◌≤◌, Bool, if◌then◌else◌, List, []}
+use Rattle.std.specs.Prelude.{◌∷◌, ◌++◌, length, map, reverse, Option, unwrap_or, slice_index_or, None, sum_by, ⊤}
 use Rattle.std.specs.List.{flat_map, list_any}
 use Rattle.list_facts.specs.Lists.{IsAmong}
 use Rattle.dependency_graph.specs.declared.node.Base.{Base}

@@ -1,5 +1,5 @@
-//! The gates that add the value of a sum to a line: bits by copies, and each product by a flip under
-//! two lines on which its factors were gathered.
+//! The gates that add the value of a sum to a line: bits by copies, and each product by a flip
+//! under two lines on which its factors were gathered.
 #![tactic(auto)]
 
 mod gates;

@@ -13,10 +13,10 @@ use dependency_graph::Base;
 use mct_circuit::Gate;
 use revc_base::Memory;
 
-/// Appends the gates that add the value of a sum to the line `target`: for each bit a copy; for each
-/// product the gathering of its factors, a flip under two lines, and the gathering reversed; and a
-/// flip for the constant. `lines` holds the work line of each node that is held, `first` is the first
-/// work line.
+/// Appends the gates that add the value of a sum to the line `target`: for each bit a copy; for
+/// each product the gathering of its factors, a flip under two lines, and the gathering reversed;
+/// and a flip for the constant. `lines` holds the work line of each node that is held, `first` is
+/// the first work line.
 pub fn append_sum(
     gates: &mut Vec<Gate>,
     first: u32,

@@ -1,5 +1,6 @@
 -- What the comparison of a settled graph with a circuit says of the tape and of the two texts.
-use Rattle.std.proofs.Common.{◌≡◌, inr, ℕ, ◌+◌, ◌<◌, ◌≤◌, Bool, List, [], ◌∷◌, ◌++◌, Result, Ok, Err, length, sum, refl, sym, ap, ◌∙◌, subst, arith, length-append}
+use Rattle.std.proofs.Common.{◌≡◌, inr, ℕ, ◌+◌, ◌<◌, ◌≤◌, Bool, List, [], ◌∷◌, ◌++◌, Result}
+use Rattle.std.proofs.Common.{Ok, Err, length, sum, refl, sym, ap, ◌∙◌, subst, arith, length-append}
 use Rattle.std.specs.Prelude.{OnOk}
 use Rattle.std.specs.Result.{IfErr}
 use Rattle.std.proofs.lemmas.List.{length-map}

@@ -22,7 +22,8 @@ use Rattle.revs_parser.specs.declared.limits.TheConstants.{MOST_BYTES}
 use Rattle.revs_tape.specs.Tapes.{TapeView}
 use Rattle.verify_command.specs.declared.limits.TheConstants.{MOST_SOURCE_BYTES}
 use Rattle.verify_command.specs.Parting.{HasNoPart, IsParted}
-use Rattle.verify_command.specs.Verify.{AreVerified, Compares, DiffersAt, HasParts, HasWideGate, IsCause, IsCircuitDiagram, IsNoCircuitDiagram, IsVerifiedWithin}
+use Rattle.verify_command.specs.Verify.{AreVerified, Compares, DiffersAt, HasParts, HasWideGate}
+use Rattle.verify_command.specs.Verify.{IsCause, IsCircuitDiagram, IsNoCircuitDiagram, IsVerifiedWithin}
 use Rattle.verify_command.specs.Verify.{StopsComparing, StopsParts, comparison_of, promise}
 use Rattle.verify_command.proofs.PartingLemmas.{one_way}
 

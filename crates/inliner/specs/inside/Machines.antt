@@ -1,5 +1,6 @@
 -- The machine that runs a program without bits: its environments in one list, in the order in which they were made.
-use Rattle.std.specs.Prelude.{◌≡◌, ℕ, zero, suc, ◌+◌, ◌-◌, ◌≤◌, ◌==◌, if◌then◌else◌, slice_get, Option, Some, None, List, [], ◌∷◌, ◌++◌, length, drop, map, sum, option_map, slice_index_or, ⊤}
+use Rattle.std.specs.Prelude.{◌≡◌, ℕ, zero, suc, ◌+◌, ◌-◌, ◌≤◌, ◌==◌, if◌then◌else◌, slice_get, Option, Some}
+use Rattle.std.specs.Prelude.{None, List, [], ◌∷◌, ◌++◌, length, drop, map, sum, option_map, slice_index_or, ⊤}
 use Rattle.std.specs.List.{AllByRecursion}
 use Rattle.revs_tape.specs.declared.limits.TheConstants.{MOST_INPUTS}
 use Rattle.revs_terms.specs.declared.limits.TheConstants.{MOST_WORK}

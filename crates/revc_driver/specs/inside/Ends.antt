@@ -9,7 +9,8 @@ use Rattle.command_answers.specs.declared.fault.Fault.{Fault}
 use Rattle.command_answers.specs.declared.fault.Fault.TheVariants.{Usage, Read, Write, Memory}
 use Rattle.command_answers.specs.declared.limit.TextLimit.{TextLimit}
 use Rattle.revc_driver.specs.Commands.{Gives, IsCause, most_bytes, text_told}
-use Rattle.revc_driver.specs.Top.{Device, EndsWell, Grows, GrowsByPrefix, IsCalm, IsReadWhole, IsStatusOfAll, MayEnd, ReadsFew, ReadsNothing, Rises, Run, Served}
+use Rattle.revc_driver.specs.Top.{Device, EndsWell, Grows, GrowsByPrefix, IsCalm, IsReadWhole, IsStatusOfAll}
+use Rattle.revc_driver.specs.Top.{MayEnd, ReadsFew, ReadsNothing, Rises, Run, Served}
 use Rattle.revc_driver.specs.inside.Mappings.{reading_fault}
 use Rattle.revc_words.specs.Words.{OrderView, HasNoOrder}
 

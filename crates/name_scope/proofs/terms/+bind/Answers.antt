@@ -12,7 +12,8 @@ use Rattle.revs_terms.specs.Scopes.{scoped_items}
 use Rattle.revs_terms.proofs.ShapeLemmas.{tree_of-Reg, tree_of-Block, tree_of-Fun, tree_of-At, tree_of-Apply, tree_of-Append, tree_of-Rotate, tree_of-Clean}
 use Rattle.revs_terms.proofs.ShapeLemmas.{tree_of-Assert, tree_of-And, tree_of-Xor, tree_of-Assign}
 use Rattle.revs_terms.proofs.ShapeLemmas.{tree_of-Name, tree_of-Bool, item_tree_of-Let, item_tree_of-Do, item_tree_of-For}
-use Rattle.name_scope.proofs.VerdictLemmas.{part_binds, name_binds, same_binds, second_binds, both_bind, block_binds, function_binds, loop_binds, let_binds, run_binds}
+use Rattle.name_scope.proofs.VerdictLemmas.{part_binds, name_binds, same_binds, second_binds, both_bind}
+use Rattle.name_scope.proofs.VerdictLemmas.{block_binds, function_binds, loop_binds, let_binds, run_binds}
 use Rattle.name_scope.proofs.VerdictLemmas.{first_is_unbound, items_refused, items_bound, passed_on, refused_in}
 use Rattle.name_scope.proofs.ScopeLemmas.{items_stand, names_stand, inside_stands, left_at_depth, depth_below}
 use Rattle.name_scope.proofs.ScopeLemmas.{front_fits, first_fits, second_fits, behind_fits, inside_fits, element_fits, within, itself}

@@ -18,7 +18,8 @@ use Rattle.inliner.proofs.ProgressLemmas.{on_ok_alone, begun, step, ends, ends_g
 use Rattle.inliner.proofs.ChainLemmas.{entered, assigns_from, assigns_stuck, reg_made, reg_stuck, bits_begun, bits_more}
 use Rattle.inliner.proofs.ChainLemmas.{bits_stuck, bits_done, chain_begun, chain_more, chain_no_first, chain_stuck, chain_done}
 use Rattle.inliner.proofs.CallLemmas.{mapped_at, mapped_end, items_more, items_stuck, items_done, at_begun, rotation_run, rotation_stuck}
-use Rattle.inliner.proofs.CallLemmas.{append_second, append_stuck, apply_begun, apply_more, apply_done, block_last, bit_ends, bit_stuck, enter_stuck, item_stuck}
+use Rattle.inliner.proofs.CallLemmas.{append_second, append_stuck, apply_begun, apply_more, apply_done}
+use Rattle.inliner.proofs.CallLemmas.{block_last, bit_ends, bit_stuck, enter_stuck, item_stuck}
 use Rattle.inliner.proofs.CallLemmas.{apply_stuck, argument_run, call_stuck, call_last, call_next, call_ends, call_said, item_bound, item_run, block_term}
 use Rattle.inliner.proofs.LoopLemmas.{item_loop, item_loop_stuck, loop_begun, loop_no_work, loop_no_first, loop_no_last, turns_begun, turns_more}
 use Rattle.inliner.proofs.LoopLemmas.{turns_stuck, turns_done, turn_bound, memory_says, ends_binds}
