@@ -1,0 +1,11 @@
+//! What the texts of programs that compute with numbers compute: every adder adds.
+#![tactic(auto)]
+
+ghost use Rattle.arith_runs.specs.Sums.{AddersAdd};
+
+/// The text of an adder of two numbers of 1 to 200 bits is well formed, for a program without
+/// claims with as many inputs as both numbers have bits, whose outputs are the bits of their sum on
+/// every input, the least first. The function does nothing: its contract is the law.
+pub fn adders_add()
+    ensures { AddersAdd }
+{}
