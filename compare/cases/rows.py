@@ -330,6 +330,56 @@ LOOPED = [
     ("compile", LOOP + "{ for i in 0 .. 9999 do { for j in 0 .. 9999 do { a; }; }; a }", "revc: 1:52 Work"),
 ]
 
+# ---- Programs that compute with numbers, by their texts
+
+THREE_TIMES = """main (a : bool[2]) = {
+let carry x y c = (x && y) <> (c && (x <> y));
+let plus p q = {
+let s0 = p.[0] <> q.[0];
+let c1 = p.[0] && q.[0];
+let s1 = p.[1] <> q.[1] <> c1;
+let c2 = carry p.[1] q.[1] c1;
+reg [s0; s1; c2]
+};
+let r0 = reg [false; false];
+let r1 = plus r0 a;
+let r2 = append r1.[0..0] (plus r1.[1..2] a);
+r2
+}
+"""
+TWO_LESS = """main (a : bool[2]) (b : bool[2]) = {
+let lend x y c = ((true <> x) && y) <> (c && (true <> x <> y));
+let d0 = a.[0] <> b.[0];
+let c1 = (true <> a.[0]) && b.[0];
+let d1 = a.[1] <> b.[1] <> c1;
+let c2 = lend a.[1] b.[1] c1;
+reg [d0; d1; c2]
+}
+"""
+TWO_NEXT = """main (a : bool[2]) = {
+let s0 = true <> a.[0];
+let c1 = a.[0];
+let s1 = a.[1] <> c1;
+let c2 = a.[1] && c1;
+reg [s0; s1; c2]
+}
+"""
+ONE_BELOW = """main (a : bool[1]) (b : bool[1]) = {
+let lend x y c = ((true <> x) && y) <> (c && (true <> x <> y));
+let c1 = (true <> a.[0]) && b.[0];
+c1
+}
+"""
+# The texts that a model of these programs has to write, by kind, bits and factor.
+TEMPLATES = [("mul", 2, 3, THREE_TIMES), ("sub", 2, 0, TWO_LESS), ("inc", 2, 0, TWO_NEXT), ("less", 1, 0, ONE_BELOW)]
+COMPUTED = [
+    ("eval 11", THREE_TIMES, "1001"),
+    ("eval 1001", TWO_LESS, "111"),
+    ("eval 11", TWO_NEXT, "001"),
+    ("compile", ONE_BELOW, "x0 x1 y0 w0 w1: t2 x0 w0, t1 w0, t3 w0 x1 w1, t2 x0 w0, t1 w0, t2 w1 y0, t1 w0, t2 x0 w0, "
+     "t3 w0 x1 w1, t1 w0, t2 x0 w0"),
+]
+
 # ---- Circuit files
 
 FILE = """.version 2.0
@@ -579,7 +629,7 @@ WORDS = [(words, BITS + "a && b", worked) for words, worked in [
 ]]
 
 COMPILE = [("compile", text, worked) for text, worked in COMPILED]
-WORKED = COMPILE + PLANNED + LEANED + CHECKED + EVALUATED + LOOPED + FILES + OTHERS + TIDIED + VERIFIED + ADDERS + WORDS
+WORKED = COMPILE + PLANNED + LEANED + CHECKED + EVALUATED + LOOPED + COMPUTED + FILES + OTHERS + TIDIED + VERIFIED + ADDERS + WORDS
 
 
 def shown(answer: Answer) -> str:

@@ -6,6 +6,8 @@
 #[cfg(test)]
 mod ancilla_heap_tests;
 #[cfg(test)]
+mod arith_templates_tests;
+#[cfg(test)]
 mod circuit_tidy_tests;
 #[cfg(test)]
 mod dependency_graph_tests;

@@ -1,0 +1,5 @@
+pub mod Limits
+pub mod Meets
+pub mod Numbers
+pub mod Places
+pub mod Texts

@@ -1,0 +1,33 @@
+// The text of each kind.
+ghost use Rattle.std.specs.Prelude.{◌≡◌, ◌≤◌, IfOk};
+ghost use Rattle.arith_templates.specs.Texts.{text_of};
+ghost use Rattle.arith_templates.specs.declared.kind.Kind.TheVariants.{Mul};
+
+use crate::Kind;
+use crate::difference::{comparator, subtractor};
+use crate::increment::incrementer;
+use crate::limits::MOST_FACTOR;
+use crate::product::multiplier;
+use program_gen::{MOST_BITS, program_text};
+use revc_base::Memory;
+use std::alloc::Global;
+
+/// The text of the program of a kind, for numbers of `n` bits, 1 to 200; `by` is the constant of
+/// `Mul`, 1 to 9,999, and means nothing to the other kinds. The programs are the ripple-carry
+/// adder and its kin, and shift and add (Knuth, The Art of Computer Programming, volume 4A, section
+/// 7.1.2). Each line ends with a line feed. The time is linear in the bytes. It answers `Memory`
+/// where memory is refused.
+pub fn text(alloc: Global, kind: Kind, n: u32, by: u32) -> Result<Vec<u8>, Memory>
+    requires some { 1 ≤ n }
+    requires few { n ≤ MOST_BITS }
+    requires factor { kind ≡ Mul → (1 ≤ by) × (by ≤ MOST_FACTOR) }
+    ensures bytes { IfOk result (λ text. text.items ≡ text_of kind n by) }
+{
+    match kind {
+        Kind::Add => program_text(alloc, n),
+        Kind::Sub => subtractor(alloc, n),
+        Kind::Less => comparator(alloc, n),
+        Kind::Inc => incrementer(alloc, n),
+        Kind::Mul => multiplier(alloc, n, by),
+    }
+}
