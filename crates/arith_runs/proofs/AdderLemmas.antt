@@ -24,37 +24,16 @@ use Rattle.built_texts.proofs.PlaceLemmas.{token_place, tokens_placed}
 use Rattle.built_texts.proofs.ProgramLemmas.{text_gives}
 use Rattle.built_texts.proofs.RunLemmas.{run_xor, run_and, run_function, run_reg, run_block, run_within}
 use Rattle.program_gen.specs.Adder as texts
-use Rattle.arith_runs.specs.Adder.{adder_pieces}
-use Rattle.arith_runs.specs.Sums.{carry, sums, bit, number, Adds, AddersAdd}
+use Rattle.arith_runs.proofs.AdderPieces.{adder_pieces}
+use Rattle.arith_templates.specs.Numbers.{number}
+use Rattle.arith_templates.specs.Places.{sums}
+use Rattle.arith_templates.specs.declared.kind.Kind.TheVariants.{Add}
+use Rattle.arith_templates.proofs.PlaceLemmas.{sums_add}
+use Rattle.arith_runs.specs.Computes.{Computes, AddersAdd}
 use Rattle.arith_runs.proofs.TextLemmas.{adder_text, adder_fits, good_adder, adder_is_short}
 use Rattle.arith_runs.proofs.ReadingLemmas.{lettered, carry_body, at_function, at_sum, at_carry, at_places, at_open, at_outputs, at_close, last_body}
 use Rattle.arith_runs.proofs.ReadingLemmas.{inner_body, adder_params, adder_body, adder_sentence, output_terms, in_places}
 use Rattle.arith_runs.proofs.AddingLemmas.{further_out, nearest, carry_meaning, carry_runs, carry_is, Stage, bit_runs, no_digits, places_run, outputs_run, Behind}
-
--- ---- numbers
-
-one_place : (x y c : Bool) → bit (xor (xor x y) c) + 2 * bit (carry x y c) ≡ bit x + bit y + bit c
-unfolding mathlib.Core.Bool.xor
-one_place true true true = refl
-one_place true true false = refl
-one_place true false true = refl
-one_place true false false = refl
-one_place false true true = refl
-one_place false true false = refl
-one_place false false true = refl
-one_place false false false = refl
-
-pub sums_add : (c : Bool) (xs ys : List Bool) → length xs ≡ length ys → (number (sums c xs ys) ≡ number xs + number ys + bit c)
-    × (length (sums c xs ys) ≡ length xs + 1)
-sums_add c [] [] e = (omega arith, omega arith)
-sums_add c [] (y ∷ ys) e = absurd (omega arith)
-sums_add c (x ∷ xs) [] e = absurd (omega arith)
-sums_add c (x ∷ xs) (y ∷ ys) e =
-    let rest = sums_add (carry x y c) xs ys (omega arith) in
-    let here = one_place x y c in
-    let n = rest.0 in
-    let l = rest.1 in
-    (omega arith, omega arith)
 
 -- ---- the run
 
@@ -217,16 +196,16 @@ module _ (m : ℕ) (few : m ≤ 199) where
         omega arith;
   }
 
-  adder_adds : Adds (suc m) (texts.adder_text (suc m))
-  adder_adds =
+  adder_adds : (by : ℕ) → Computes Add (suc m) by (texts.adder_text (suc m))
+  adder_adds by =
       let whole = text_gives (adder_pieces m) params_here (adder_body m places_here) (λ input. of_bits (sum_of input)) built runs in
       record {
         program = record { params = params_here; body = whole.0 };
         formed = subst (λ (text : List ℕ). IsWellFormed text (record { params = params_here; body = whole.0 })) (sym (adder_text m)) whole.1;
         no_claims = whole.2.no_claims;
         inputs = let two = two_widths (suc m) (suc m) in omega arith;
-        adds = λ input output is h. sum_is input output is
-            (one_output params_here whole.0 input output (sum_of input) h (whole.2.gives input is));
+        outputs = λ input output is h. (sum_is input output is (one_output params_here whole.0 input output (sum_of input) h (whole.2.gives input is))).0;
+        meets = λ input output is h. (sum_is input output is (one_output params_here whole.0 input output (sum_of input) h (whole.2.gives input is))).1;
       }
     where
       sum_is : (input output : List Bool) → IsInput params_here input → output ≡ sum_of input
@@ -241,5 +220,5 @@ module _ (m : ℕ) (few : m ≤ 199) where
           (omega arith, omega arith)
 
 pub adders_add : AddersAdd
-adders_add zero low high = absurd (omega arith)
-adders_add (suc m) low high = adder_adds m (omega arith)
+adders_add zero by low high = absurd (omega arith)
+adders_add (suc m) by low high = adder_adds m (omega arith) by

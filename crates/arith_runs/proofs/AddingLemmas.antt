@@ -20,7 +20,7 @@ use Rattle.built_texts.specs.Ways.{shifted}
 use Rattle.built_texts.specs.Meanings.{Meaning, Scope, of_bit, of_bits, of_function, named, meaning_of, IsRun, AreRuns, no_operands, operand, Applies, all_taken}
 use Rattle.built_texts.specs.Meanings.{takes, takes_last, RunsBody, let_is}
 use Rattle.built_texts.proofs.RunLemmas.{run_name, run_index, run_xor, run_and, run_apply}
-use Rattle.arith_runs.specs.Sums.{carry, sums}
+use Rattle.arith_templates.specs.Places.{carry, sums}
 use Rattle.arith_runs.proofs.ReadingLemmas.{bit_at, lettered, carry_body, in_places, output_terms}
 
 -- ---- names
@@ -196,8 +196,10 @@ module _ (d : ℕ) where
       (let_is {name = name_of (lettered 99 (i + 1)) (shifted 17 p 1)} (carry_line_runs i (shifted 17 p) z h got.0 gets.0) behind) in
       let units : 8 + (20 + (28 * length xs + l)) ≡ k = omega arith in
       let items = in_places i (suc (length xs)) p last in
-      subst (λ (v : List Bool). RunsBody (suc (suc (suc (suc (suc d))))) sc items.items items.last (of_bits v) k) (append_assoc made (z ∷ []) (sums (carry x y c) xs ys))
-      (subst (λ (u : ℕ). RunsBody (suc (suc (suc (suc (suc d))))) sc items.items items.last (of_bits ((made ++ z ∷ []) ++ sums (carry x y c) xs ys)) u) units both)
+      subst (λ (v : List Bool). RunsBody (suc (suc (suc (suc (suc d))))) sc items.items items.last (of_bits v) k)
+      (append_assoc made (z ∷ []) (sums (carry x y c) xs ys))
+      (subst (λ (u : ℕ). RunsBody (suc (suc (suc (suc (suc d))))) sc items.items items.last (of_bits ((made ++ z ∷ []) ++ sums (carry x y c) xs ys)) u)
+      units both)
 
   -- ---- the outputs
 

@@ -1,4 +1,5 @@
-pub mod TextLemmas
-pub mod ReadingLemmas
-pub mod AddingLemmas
+pub mod AdderPieces
 pub mod AdderLemmas
+pub mod AddingLemmas
+pub mod ReadingLemmas
+pub mod TextLemmas

@@ -19,8 +19,8 @@ use Rattle.revs_lexer.specs.declared.token.Tok.{Tok}
 use Rattle.revs_lexer.specs.declared.token.Token.{Token}
 use Rattle.built_texts.proofs.PlaceLemmas.{placed-append}
 use Rattle.built_texts.proofs.WayLemmas.{turns, ended, turns-then}
-use Rattle.arith_runs.specs.Adder.{header, carry_function, first_sum, first_carry, sum_line, carry_line, places, sum_outputs, outputs_open, outputs_close, from_outputs, from_open, from_places}
-use Rattle.arith_runs.specs.Adder.{from_carry, from_sum, from_function, adder_pieces}
+use Rattle.arith_runs.proofs.AdderPieces.{header, carry_function, first_sum, first_carry, sum_line, carry_line, places, sum_outputs, outputs_open, outputs_close, from_outputs, from_open, from_places}
+use Rattle.arith_runs.proofs.AdderPieces.{from_carry, from_sum, from_function, adder_pieces}
 
 -- a form of profile 1
 abbrev pub f : Kind → ℕ → Symbol
@@ -113,7 +113,9 @@ in_register ss = symbols.token (sign signs.CloseSquare) ∷ chain_end 2 (f body_
 
 abbrev pub register_body : (p : ℕ → Place) (ss : List Symbol) → Vals (f expression 3 ∷ f elements 3 ∷ in_register ss) → Vals (f body 2 ∷ ss)
 register_body p ss vs = (
-  body_of (assign_of (xor_of (and_of (apply_of (parts_of (t.reg (trees (vs.0 ∷ vs.1.0)) (p 0)) vs.1.1.0) vs.1.1.1.0) vs.1.1.1.1.0) vs.1.1.1.1.1.0) vs.1.1.1.1.1.1.0)
+  body_of
+      (assign_of (xor_of (and_of (apply_of (parts_of (t.reg (trees (vs.0 ∷ vs.1.0)) (p 0)) vs.1.1.0) vs.1.1.1.0) vs.1.1.1.1.0) vs.1.1.1.1.1.0)
+      vs.1.1.1.1.1.1.0)
       vs.1.1.1.1.1.1.1.0,
   vs.1.1.1.1.1.1.1.1,
 )

@@ -17,8 +17,8 @@ use Rattle.revs_lexer.proofs.TableLemmas.{word_of}
 use Rattle.built_texts.proofs.PlaceLemmas.{good_word, good_sign, good_number, good_name, good_numbered, built_length}
 use Rattle.program_gen.specs.Adder as texts
 use Rattle.built_texts.specs.Pieces.{Piece, gap, tok, spelling, text_of, toks_of, fits, IsGood, AreGood}
-use Rattle.arith_runs.specs.Adder.{header, carry_function, first_sum, first_carry, sum_line, carry_line, places, sum_outputs, outputs_open, outputs_close, from_outputs, from_open, from_places}
-use Rattle.arith_runs.specs.Adder.{from_carry, from_sum, from_function, adder_pieces, place_of, parameter, s, numbered}
+use Rattle.arith_runs.proofs.AdderPieces.{header, carry_function, first_sum, first_carry, sum_line, carry_line, places, sum_outputs, outputs_open, outputs_close, from_outputs, from_open, from_places}
+use Rattle.arith_runs.proofs.AdderPieces.{from_carry, from_sum, from_function, adder_pieces, place_of, parameter, s, numbered}
 use Rattle.revs_lexer.specs.declared.sign.Sign.TheVariants.{Xor, And, Semi, Equal, OpenCurly}
 
 pub text_of-append : (ps qs : List Piece) → text_of (ps ++ qs) ≡ text_of ps ++ text_of qs
@@ -67,7 +67,8 @@ sum_outputs_text i (suc count) =
     ∙ ap (λ (bs : List ℕ). 115 ∷ bs) (append_assoc (decimal i) (59 ∷ 32 ∷ []) (text_of (sum_outputs (i + 1) count)))
 
 -- the bytes from the outputs on
-end_text : (bits : ℕ) → texts.outputs bits ++ texts.line (codes "}" ∷ []) ≡ text_of outputs_open ++ (text_of (sum_outputs 0 bits) ++ text_of (outputs_close bits))
+end_text : (bits : ℕ) → texts.outputs bits ++ texts.line (codes "}" ∷ [])
+    ≡ text_of outputs_open ++ (text_of (sum_outputs 0 bits) ++ text_of (outputs_close bits))
 unfolding texts.outputs
 end_text bits =
     ap (λ (bs : List ℕ). texts.line (codes "reg [" ∷ bs ∷ codes "c" ∷ decimal bits ∷ codes "]" ∷ []) ++ texts.line (codes "}" ∷ [])) (sum_outputs_text 0 bits)
@@ -233,7 +234,8 @@ good_sum_line i ps le h = (
       good_sign signs.Equal,
       good_place (codes "a") i (toks_of (s Xor ∷ place_of (codes "b") i ++ s Xor ∷ numbered 99 i ∷ s Semi ∷ ps)) refl le (
         good_sign signs.Xor,
-        good_place (codes "b") i (toks_of (s Xor ∷ numbered 99 i ∷ s Semi ∷ ps)) refl le (good_sign signs.Xor, (good_numbered 99 i refl le, (good_sign signs.Semi, h))),
+        good_place (codes "b") i (toks_of (s Xor ∷ numbered 99 i ∷ s Semi ∷ ps)) refl le
+            (good_sign signs.Xor, (good_numbered 99 i refl le, (good_sign signs.Semi, h))),
       ),
     ),
   ),

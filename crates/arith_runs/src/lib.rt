@@ -1,7 +1,7 @@
 //! What the texts of programs that compute with numbers compute: every adder adds.
 #![tactic(auto)]
 
-ghost use Rattle.arith_runs.specs.Sums.{AddersAdd};
+ghost use Rattle.arith_runs.specs.Computes.{AddersAdd};
 
 /// The text of an adder of two numbers of 1 to 200 bits is well formed, for a program without
 /// claims with as many inputs as both numbers have bits, whose outputs are the bits of their sum on
