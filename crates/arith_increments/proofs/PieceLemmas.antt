@@ -173,7 +173,8 @@ built_then {ss} {mid} {left} {g} {h} xs ys p a b =
     (sym (ap (placed p) (toks_of-append xs ys) ∙ placed-append p (toks_of xs) (toks_of ys))) (turns-then a b)
 
 -- a bit among the outputs, in front of what comes behind it
-abbrev pub output_front : (letter i : ℕ) (ss : List Symbol) (p : ℕ → Place) → Vals (f expression 3 ∷ f elements 3 ∷ ss) → Vals (f expression 3 ∷ f elements 3 ∷ ss)
+abbrev pub output_front : (letter i : ℕ) (ss : List Symbol) (p : ℕ → Place) → Vals (f expression 3 ∷ f elements 3 ∷ ss)
+    → Vals (f expression 3 ∷ f elements 3 ∷ ss)
 output_front letter i ss p vs = (t.used (name_of (lettered letter i) (p 0)), (vs.0 ∷ vs.1.0, vs.1.1))
 
 output_turns : (letter i : ℕ) (ss : List Symbol) (p : ℕ → Place)
@@ -186,7 +187,8 @@ in_register ss = symbols.token (sign signs.CloseSquare) ∷ chain_end 2 (f body_
 
 abbrev pub register_body : (p : ℕ → Place) (ss : List Symbol) → Vals (f expression 3 ∷ f elements 3 ∷ in_register ss) → Vals (f body 2 ∷ ss)
 register_body p ss vs = (
-  body_of (assign_of (xor_of (and_of (apply_of (parts_of (t.reg (trees (vs.0 ∷ vs.1.0)) (p 0)) vs.1.1.0) vs.1.1.1.0) vs.1.1.1.1.0) vs.1.1.1.1.1.0) vs.1.1.1.1.1.1.0)
+  body_of (assign_of (xor_of (and_of (apply_of (parts_of (t.reg (trees (vs.0 ∷ vs.1.0))
+      (p 0)) vs.1.1.0) vs.1.1.1.0) vs.1.1.1.1.0) vs.1.1.1.1.1.0) vs.1.1.1.1.1.1.0)
       vs.1.1.1.1.1.1.1.0,
   vs.1.1.1.1.1.1.1.1,
 )
@@ -219,7 +221,8 @@ abbrev pub in_outputs : (letter i count : ℕ) (ss : List Symbol) (p : ℕ → P
 in_outputs letter i count ss p vs = let q = output_terms letter i count p (vs.0, vs.1.0) in (q.0, (q.1, vs.1.1))
 
 pub outputs_turn : (letter i count : ℕ) (ss : List Symbol) (p : ℕ → Place)
-    → Turns (f expression 3 ∷ f elements 3 ∷ ss) (placed p (toks_of (bit_outputs letter i count))) (f expression 3 ∷ f elements 3 ∷ ss) (in_outputs letter i count ss p)
+    → Turns (f expression 3 ∷ f elements 3 ∷ ss) (placed p (toks_of (bit_outputs letter i count))) (f expression 3 ∷ f elements 3 ∷ ss)
+    (in_outputs letter i count ss p)
 outputs_turn letter i zero ss p = record { leads = symbols.done; turned = λ vs. refl }
 outputs_turn letter i (suc count) ss p =
     built_then (bit_outputs letter i 1) (bit_outputs letter (i + 1) count) p (output_turns letter i ss p) (outputs_turn letter (i + 1) count ss (shifted 2 p))
