@@ -17,12 +17,11 @@ use Rattle.built_texts.specs.Forms.{num}
 use Rattle.built_texts.specs.Pieces.{Piece, toks_of}
 use Rattle.built_texts.specs.Ways.{placed, shifted, Turns}
 use Rattle.built_texts.proofs.WayLemmas.{turns, turns-then}
-use Rattle.arith_runs.proofs.AdderPieces.{carry_function}
-use Rattle.arith_runs.proofs.ReadingLemmas.{function_item}
+use Rattle.arith_runs.proofs.RipplePieces.{carry_function}
 use Rattle.arith_increments.proofs.IncrementReadingLemmas.{header, program_end}
 use Rattle.arith_increments.proofs.NameLemmas.{lettered}
 use Rattle.arith_increments.proofs.PieceLemmas.{blank, line_end, w, s, name, numbered, digits, f, chain_end, ItemTurns, built_then, nothing_behind, end_turns}
-use Rattle.arith_products.proofs.PlusReadingLemmas.{let_end, function_turns, plus_pieces, plus_item, plus_turn}
+use Rattle.arith_products.proofs.PlusReadingLemmas.{let_end, function_item, function_turns, plus_pieces, plus_item, plus_turn}
 
 -- ---- the number 0
 

@@ -15,10 +15,9 @@ use Rattle.built_texts.proofs.RunLemmas.{run_name, run_constant, run_append, run
 use Rattle.arith_templates.specs.Numbers.{number}
 use Rattle.arith_templates.specs.Places.{sums, products}
 use Rattle.arith_templates.proofs.PlaceLemmas.{sums_add}
-use Rattle.arith_runs.proofs.AddingLemmas.{carry_meaning}
 use Rattle.arith_increments.proofs.NameLemmas.{lettered, nearest}
 use Rattle.arith_increments.proofs.LineLemmas.{within}
-use Rattle.arith_products.proofs.PlusRunLemmas.{plus_meaning, plus_run}
+use Rattle.arith_products.proofs.PlusRunLemmas.{carry_meaning, plus_meaning, plus_run}
 use Rattle.arith_products.proofs.DigitReadingLemmas.{zero_terms, shift_term, first_add_term, add_term, digit_line, in_digits}
 
 -- ---- the number 0

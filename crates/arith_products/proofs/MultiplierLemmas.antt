@@ -28,13 +28,12 @@ use Rattle.arith_templates.specs.Texts as texts
 use Rattle.arith_templates.specs.declared.kind.Kind.TheVariants.{Mul}
 use Rattle.arith_templates.proofs.NumberLemmas.{number-append, digits_are_binary}
 use Rattle.arith_templates.proofs.PlaceLemmas.{products_multiply}
-use Rattle.arith_runs.proofs.AddingLemmas.{carry_meaning}
 use Rattle.arith_runs.proofs.ReadingLemmas.{carry_body}
 use Rattle.arith_runs.specs.Computes.{Computes}
 use Rattle.arith_increments.proofs.NameLemmas.{lettered, nearest}
 use Rattle.arith_products.specs.Products.{MultipliersMultiply}
 use Rattle.arith_products.proofs.PlusReadingLemmas.{plus_names, plus_body}
-use Rattle.arith_products.proofs.PlusRunLemmas.{carry_body_run, plus_body_run, plus_meaning}
+use Rattle.arith_products.proofs.PlusRunLemmas.{carry_meaning, carry_body_run, plus_body_run, plus_meaning}
 use Rattle.arith_products.proofs.DigitReadingLemmas.{at_function, at_plus, at_zero, at_zeros, at_last_zero, at_digits, at_end, zero_item, in_digits, last_body, inner_body, params, whole_body, pieces, sentence}
 use Rattle.arith_products.proofs.DigitRunLemmas.{falses, number_of_falses, zeros_run, digits_run, Stage}
 use Rattle.arith_products.proofs.MultiplierTextLemmas.{text_is, all_fit, all_good, is_short}

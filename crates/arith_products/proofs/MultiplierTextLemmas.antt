@@ -14,7 +14,7 @@ use Rattle.revs_lexer.specs.declared.token.Tok.{Tok}
 use Rattle.revs_lexer.specs.declared.token.Tok.TheVariants as toks
 use Rattle.built_texts.specs.Pieces.{Piece, text_of, toks_of, fits, AreGood}
 use Rattle.built_texts.proofs.PlaceLemmas.{good_word, good_sign, good_number, good_numbered, built_length}
-use Rattle.arith_runs.proofs.AdderPieces.{carry_function}
+use Rattle.arith_runs.proofs.RipplePieces.{carry_function}
 use Rattle.arith_increments.proofs.PieceLemmas.{s, name, place_of, numbered, bit_outputs, outputs_open, text_of-append, fits_outputs, is_plain, plain_good, good_place, good_parameter}
 use Rattle.arith_increments.proofs.PieceLemmas.{good_outputs, length-outputs}
 use Rattle.arith_increments.proofs.IncrementReadingLemmas.{header}

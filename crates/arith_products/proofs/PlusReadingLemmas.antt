@@ -14,8 +14,8 @@ use Rattle.revs_terms.specs.declared.term.Name.{Name}
 use Rattle.built_texts.specs.Pieces.{Piece, toks_of}
 use Rattle.built_texts.specs.Ways.{placed, shifted, Turns}
 use Rattle.built_texts.proofs.WayLemmas.{turns}
-use Rattle.arith_runs.proofs.AdderPieces.{carry_function}
-use Rattle.arith_runs.proofs.ReadingLemmas.{function_item}
+use Rattle.arith_runs.proofs.RipplePieces.{carry_function}
+use Rattle.arith_runs.proofs.ReadingLemmas.{carry_body}
 use Rattle.arith_increments.proofs.NameLemmas.{lettered}
 use Rattle.arith_increments.proofs.PieceLemmas.{blank, line_end, w, s, name, numbered, place_of, bit_outputs, outputs_open}
 use Rattle.arith_increments.proofs.PieceLemmas.{f, chain_end, bit_at, ItemTurns, built_then, output_terms}
@@ -51,6 +51,12 @@ abbrev pub plus_close : ℕ → List Piece
 plus_close bits = numbered 99 bits ∷ s signs.CloseSquare ∷ line_end ∷ s signs.CloseCurly ∷ s signs.Semi ∷ line_end ∷ []
 
 -- ---- terms
+
+abbrev pub carry_names : (ℕ → Place) → List Name
+carry_names p = name_of (codes "x") (p 2) ∷ name_of (codes "y") (p 3) ∷ name_of (codes "c") (p 4) ∷ []
+
+abbrev pub function_item : (ℕ → Place) → t.ItemTree
+function_item p = t.bind (name_of (codes "carry") (p 1)) (t.function (carry_names p) (carry_body p) (p 2))
 
 abbrev pub sum_term : ℕ → (ℕ → Place) → Tree
 sum_term i p = t.xors (trees (

@@ -13,11 +13,10 @@ use Rattle.built_texts.specs.Meanings.{RunsBody, last_is, let_is}
 use Rattle.built_texts.specs.Ways.{shifted}
 use Rattle.built_texts.proofs.RunLemmas.{run_name, run_xor, run_and, run_apply, run_reg, run_block, run_within}
 use Rattle.arith_templates.specs.Places.{carry, sums}
-use Rattle.arith_runs.proofs.AddingLemmas.{carry_meaning}
 use Rattle.arith_runs.proofs.ReadingLemmas.{carry_body}
 use Rattle.arith_increments.proofs.NameLemmas.{lettered, no_decimal, left_get, left_drop, past}
 use Rattle.arith_increments.proofs.LineLemmas.{bit_run, IsKept, Made, Stage, behind, stage_next, stage_same, within, outputs_run}
-use Rattle.arith_products.proofs.PlusReadingLemmas.{sum_term, carry_term, plus_names, in_places, at_sum, at_carry, at_places}
+use Rattle.arith_products.proofs.PlusReadingLemmas.{carry_names, sum_term, carry_term, plus_names, in_places, at_sum, at_carry, at_places}
 use Rattle.arith_products.proofs.PlusReadingLemmas.{at_open, at_outputs, at_close, last_body, inner_body, plus_body}
 
 -- ---- bits
@@ -51,6 +50,10 @@ carry_body_run d x y c own p =
     (operand (run_and (run_name (name_of (codes "c") (p 13)) refl)
     (operand (run_xor (run_name (name_of (codes "x") (p 16)) refl) (operand (run_name (name_of (codes "y") (p 18)) refl) no_operands)) no_operands))
     no_operands)
+
+-- what the function means in its scope
+abbrev pub carry_meaning : (ℕ → Place) → Scope → Meaning
+carry_meaning p own = of_function (carry_names p) (carry_body p) own
 
 -- ---- lines
 

@@ -1,5 +1,7 @@
-pub mod AdderPieces
 pub mod AdderLemmas
-pub mod AddingLemmas
+pub mod ProgramLemmas
 pub mod ReadingLemmas
+pub mod RippleLemmas
+pub mod RipplePieces
+pub mod SubtractorLemmas
 pub mod TextLemmas

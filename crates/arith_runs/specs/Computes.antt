@@ -6,7 +6,7 @@ use Rattle.revs_terms.specs.Runs.{IsInput, HasOutput, IsTapeOf}
 use Rattle.revs_terms.specs.Views.{ProgramView}
 use Rattle.revs_parser.specs.WellFormed.{IsWellFormed}
 use Rattle.arith_templates.specs.declared.kind.Kind.{Kind}
-use Rattle.arith_templates.specs.declared.kind.Kind.TheVariants.{Add}
+use Rattle.arith_templates.specs.declared.kind.Kind.TheVariants.{Add, Sub}
 use Rattle.arith_templates.specs.Meets.{inputs_of, outputs_of, Meets}
 use Rattle.arith_templates.specs.Texts.{text_of}
 
@@ -24,3 +24,7 @@ pub record Computes (kind : Kind) (n by : ℕ) (text : List ℕ) : Type 0 where
 -- The text of every adder computes sums.
 abbrev pub AddersAdd : Type 0
 AddersAdd = (n by : ℕ) → 1 ≤ n → n ≤ 200 → Computes Add n by (text_of Add n by)
+
+-- The text of every subtractor computes differences.
+abbrev pub SubtractorsSubtract : Type 0
+SubtractorsSubtract = (n by : ℕ) → 1 ≤ n → n ≤ 200 → Computes Sub n by (text_of Sub n by)

@@ -1,4 +1,4 @@
--- The text of an adder, in pieces.
+-- The texts of adders and of their like, in pieces.
 use Rattle.std.specs.Prelude.{ℕ, zero, suc, ◌+◌, List, [], ◌∷◌, ◌++◌, codes, decimal}
 use Rattle.revs_lexer.specs.declared.sign.Sign.{Sign}
 use Rattle.revs_lexer.specs.declared.sign.Sign.TheVariants.{OpenRound, CloseRound, OpenSquare, CloseSquare, OpenCurly, CloseCurly, Colon, Semi, Equal, Xor, And, Dot}
@@ -43,6 +43,14 @@ abbrev pub header : ℕ → List Piece
 header bits = w Main ∷ blank ∷ parameter (codes "a") bits ++ blank ∷ parameter (codes "b") bits
     ++ blank ∷ s Equal ∷ blank ∷ s OpenCurly ∷ line_end ∷ []
 
+-- What parts the texts of two numbers that ripple from place to place: the letter of the bits that they put out, the function of
+-- what goes on to the next place, its line, and the line of what goes out of place 0.
+pub record Ripple : Type 0 where
+  pub letter : ℕ
+  pub function_name : List ℕ
+  pub function_line : List Piece
+  pub first_line : List Piece
+
 abbrev pub carry_function : List Piece
 carry_function =
     w Let ∷ blank ∷ named (codes "carry") ∷ blank ∷ named (codes "x") ∷ blank ∷ named (codes "y") ∷ blank ∷ named (codes "c")
@@ -51,31 +59,13 @@ carry_function =
     ∷ s OpenRound ∷ named (codes "c") ∷ blank ∷ s And ∷ blank ∷ s OpenRound ∷ named (codes "x") ∷ blank ∷ s Xor ∷ blank
     ∷ named (codes "y") ∷ s CloseRound ∷ s CloseRound ∷ s Semi ∷ line_end ∷ []
 
-abbrev pub first_sum : List Piece
-first_sum = w Let ∷ blank ∷ numbered 115 0 ∷ blank ∷ s Equal ∷ blank ∷ place_of (codes "a") 0 ++ blank ∷ s Xor ∷ blank
-    ∷ place_of (codes "b") 0 ++ s Semi ∷ line_end ∷ []
-
 abbrev pub first_carry : List Piece
 first_carry = w Let ∷ blank ∷ numbered 99 1 ∷ blank ∷ s Equal ∷ blank ∷ place_of (codes "a") 0 ++ blank ∷ s And ∷ blank
     ∷ place_of (codes "b") 0 ++ s Semi ∷ line_end ∷ []
 
-abbrev pub sum_line : ℕ → List Piece
-sum_line i = w Let ∷ blank ∷ numbered 115 i ∷ blank ∷ s Equal ∷ blank ∷ place_of (codes "a") i ++ blank ∷ s Xor ∷ blank
-    ∷ place_of (codes "b") i ++ blank ∷ s Xor ∷ blank ∷ numbered 99 i ∷ s Semi ∷ line_end ∷ []
-
-abbrev pub carry_line : ℕ → List Piece
-carry_line i = w Let ∷ blank ∷ numbered 99 (i + 1) ∷ blank ∷ s Equal ∷ blank ∷ named (codes "carry") ∷ blank
-    ∷ place_of (codes "a") i ++ blank ∷ place_of (codes "b") i ++ blank ∷ numbered 99 i ∷ s Semi ∷ line_end ∷ []
-
--- so many places from this one on
-abbrev pub places : ℕ → ℕ → List Piece
-places i zero = []
-places i (suc count) = sum_line i ++ (carry_line i ++ places (i + 1) count)
-
--- so many sums among the outputs, from this one on
-abbrev pub sum_outputs : ℕ → ℕ → List Piece
-sum_outputs i zero = []
-sum_outputs i (suc count) = numbered 115 i ∷ s Semi ∷ blank ∷ sum_outputs (i + 1) count
+-- sums
+abbrev pub adder : Ripple
+adder = record { letter = 115; function_name = codes "carry"; function_line = carry_function; first_line = first_carry }
 
 abbrev pub outputs_open : List Piece
 outputs_open = w Reg ∷ blank ∷ s OpenSquare ∷ []
@@ -83,25 +73,48 @@ outputs_open = w Reg ∷ blank ∷ s OpenSquare ∷ []
 abbrev pub outputs_close : ℕ → List Piece
 outputs_close bits = numbered 99 bits ∷ s CloseSquare ∷ line_end ∷ s CloseCurly ∷ line_end ∷ []
 
--- the text from each of its parts on, for numbers of one bit more than this
-abbrev pub from_outputs : ℕ → List Piece
-from_outputs m = sum_outputs 0 (suc m) ++ outputs_close (suc m)
+module _ (K : Ripple) where
+  abbrev pub first_sum : List Piece
+  first_sum = w Let ∷ blank ∷ numbered K.letter 0 ∷ blank ∷ s Equal ∷ blank ∷ place_of (codes "a") 0 ++ blank ∷ s Xor ∷ blank
+      ∷ place_of (codes "b") 0 ++ s Semi ∷ line_end ∷ []
 
-abbrev pub from_open : ℕ → List Piece
-from_open m = outputs_open ++ from_outputs m
+  abbrev pub sum_line : ℕ → List Piece
+  sum_line i = w Let ∷ blank ∷ numbered K.letter i ∷ blank ∷ s Equal ∷ blank ∷ place_of (codes "a") i ++ blank ∷ s Xor ∷ blank
+      ∷ place_of (codes "b") i ++ blank ∷ s Xor ∷ blank ∷ numbered 99 i ∷ s Semi ∷ line_end ∷ []
 
-abbrev pub from_places : ℕ → List Piece
-from_places m = places 1 m ++ from_open m
+  abbrev pub carry_line : ℕ → List Piece
+  carry_line i = w Let ∷ blank ∷ numbered 99 (i + 1) ∷ blank ∷ s Equal ∷ blank ∷ named K.function_name ∷ blank
+      ∷ place_of (codes "a") i ++ blank ∷ place_of (codes "b") i ++ blank ∷ numbered 99 i ∷ s Semi ∷ line_end ∷ []
 
-abbrev pub from_carry : ℕ → List Piece
-from_carry m = first_carry ++ from_places m
+  -- so many places from this one on
+  abbrev pub places : ℕ → ℕ → List Piece
+  places i zero = []
+  places i (suc count) = sum_line i ++ (carry_line i ++ places (i + 1) count)
 
-abbrev pub from_sum : ℕ → List Piece
-from_sum m = first_sum ++ from_carry m
+  -- so many sums among the outputs, from this one on
+  abbrev pub sum_outputs : ℕ → ℕ → List Piece
+  sum_outputs i zero = []
+  sum_outputs i (suc count) = numbered K.letter i ∷ s Semi ∷ blank ∷ sum_outputs (i + 1) count
 
-abbrev pub from_function : ℕ → List Piece
-from_function m = carry_function ++ from_sum m
+  -- the text from each of its parts on, for numbers of one bit more than this
+  abbrev pub from_outputs : ℕ → List Piece
+  from_outputs m = sum_outputs 0 (suc m) ++ outputs_close (suc m)
 
--- the whole text
-abbrev pub adder_pieces : ℕ → List Piece
-adder_pieces m = header (suc m) ++ from_function m
+  abbrev pub from_open : ℕ → List Piece
+  from_open m = outputs_open ++ from_outputs m
+
+  abbrev pub from_places : ℕ → List Piece
+  from_places m = places 1 m ++ from_open m
+
+  abbrev pub from_carry : ℕ → List Piece
+  from_carry m = K.first_line ++ from_places m
+
+  abbrev pub from_sum : ℕ → List Piece
+  from_sum m = first_sum ++ from_carry m
+
+  abbrev pub from_function : ℕ → List Piece
+  from_function m = K.function_line ++ from_sum m
+
+  -- the whole text
+  abbrev pub pieces : ℕ → List Piece
+  pieces m = header (suc m) ++ from_function m
