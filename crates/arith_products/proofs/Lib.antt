@@ -1,0 +1,6 @@
+pub mod DigitReadingLemmas
+pub mod DigitRunLemmas
+pub mod MultiplierLemmas
+pub mod MultiplierTextLemmas
+pub mod PlusReadingLemmas
+pub mod PlusRunLemmas
