@@ -28,7 +28,7 @@ text_of-append [] qs = refl
 text_of-append (gap b ∷ ps) qs = ap (λ (bs : List ℕ). b ∷ bs) (text_of-append ps qs)
 text_of-append (tok t ∷ ps) qs = ap (λ (bs : List ℕ). spelling t ++ bs) (text_of-append ps qs) ∙ sym (append_assoc (spelling t) (text_of ps) (text_of qs))
 
-header_text : (bits : ℕ) → texts.parameters bits ≡ text_of (header bits)
+pub header_text : (bits : ℕ) → texts.parameters bits ≡ text_of (header bits)
 unfolding texts.parameters
 header_text bits = refl
 
@@ -160,7 +160,7 @@ good_parameter text bits us e le h = (
   ),
 )
 
-good_header : (bits : ℕ) (ps : List Piece) → bits ≤ 9999 → AreGood (toks_of ps) → AreGood (toks_of (header bits ++ ps))
+pub good_header : (bits : ℕ) (ps : List Piece) → bits ≤ 9999 → AreGood (toks_of ps) → AreGood (toks_of (header bits ++ ps))
 good_header bits ps le h = (
   good_word words.Main,
   good_parameter (codes "a") bits (toks_of (parameter (codes "b") bits ++ s Equal ∷ s OpenCurly ∷ ps)) refl le
@@ -224,7 +224,7 @@ module _ (K : Ripple) (F : IsFine K) where
     ),
   )
 
-  good_carry_line : (i : ℕ) (ps : List Piece) → i + 1 ≤ 9999 → AreGood (toks_of ps) → AreGood (toks_of (carry_line K i ++ ps))
+  pub good_carry_line : (i : ℕ) (ps : List Piece) → i + 1 ≤ 9999 → AreGood (toks_of ps) → AreGood (toks_of (carry_line K i ++ ps))
   good_carry_line i ps le h = (
     good_word words.Let,
     (
