@@ -17,7 +17,8 @@ use Rattle.built_texts.specs.Ways.{placed, shifted, Turns}
 use Rattle.built_texts.proofs.WayLemmas.{turns, turns-then}
 use Rattle.arith_increments.proofs.NameLemmas.{lettered}
 use Rattle.arith_increments.proofs.PieceLemmas.{blank, line_end, w, s, numbered, place_of, parameter, bit_outputs, outputs_open, outputs_close}
-use Rattle.arith_increments.proofs.PieceLemmas.{f, chain_end, bit_at, ItemTurns, built_then, in_register, open_turns, last_output, close_turns, nothing_behind, end_turns}
+use Rattle.arith_increments.proofs.PieceLemmas.{f, chain_end, bit_at, ItemTurns, built_then, in_register}
+use Rattle.arith_increments.proofs.PieceLemmas.{open_turns, last_output, close_turns, nothing_behind, end_turns}
 use Rattle.arith_increments.proofs.PieceLemmas.{output_terms, outputs_turn}
 
 -- ---- pieces

@@ -12,7 +12,8 @@ use Rattle.built_texts.specs.Pieces.{Piece, text_of, toks_of, fits, AreGood}
 use Rattle.built_texts.proofs.PlaceLemmas.{good_word, good_sign, good_numbered, built_length}
 use Rattle.arith_increments.proofs.PieceLemmas.{s, numbered, bit_outputs, outputs_open, outputs_close, text_of-append, fits_outputs, good_place, good_parameter}
 use Rattle.arith_increments.proofs.PieceLemmas.{good_outputs, length-outputs}
-use Rattle.arith_increments.proofs.IncrementReadingLemmas.{header, first_sum, first_carry, sum_line, carry_line, places, from_outputs, from_open, from_places, from_carry}
+use Rattle.arith_increments.proofs.IncrementReadingLemmas.{header, first_sum, first_carry, sum_line, carry_line}
+use Rattle.arith_increments.proofs.IncrementReadingLemmas.{places, from_outputs, from_open, from_places, from_carry}
 use Rattle.arith_increments.proofs.IncrementReadingLemmas.{from_sum, pieces}
 
 -- ---- the text

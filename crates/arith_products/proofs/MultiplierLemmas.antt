@@ -1,5 +1,6 @@
 -- The text of a multiplier multiplies.
-use Rattle.std.proofs.Common.{◌≡◌, ℕ, zero, suc, ◌+◌, ◌*◌, ◌-◌, ◌^◌, ◌≤◌, ◌⊎◌, inl, inr, Bool, true, false, leb, List, [], ◌∷◌, length, map, take, sum, refl, ap, sym, subst, ◌∙◌, arith}
+use Rattle.std.proofs.Common.{◌≡◌, ℕ, zero, suc, ◌+◌, ◌*◌, ◌-◌, ◌^◌, ◌≤◌, ◌⊎◌, inl, inr, Bool, true, false}
+use Rattle.std.proofs.Common.{leb, List, [], ◌∷◌, length, map, take, sum, refl, ap, sym, subst, ◌∙◌, arith}
 use Rattle.std.specs.Prelude.{codes}
 use Rattle.std.proofs.Math.Nat.{pow-suc}
 use Rattle.std.proofs.lemmas.Bool.{le-leb, leb-true, leb-false, and_from, cases_Bool}
@@ -34,7 +35,8 @@ use Rattle.arith_increments.proofs.NameLemmas.{lettered, nearest}
 use Rattle.arith_products.specs.Products.{MultipliersMultiply}
 use Rattle.arith_products.proofs.PlusReadingLemmas.{plus_names, plus_body}
 use Rattle.arith_products.proofs.PlusRunLemmas.{carry_meaning, carry_body_run, plus_body_run, plus_meaning}
-use Rattle.arith_products.proofs.DigitReadingLemmas.{at_function, at_plus, at_zero, at_zeros, at_last_zero, at_digits, at_end, zero_item, in_digits, last_body, inner_body, params, whole_body, pieces, sentence}
+use Rattle.arith_products.proofs.DigitReadingLemmas.{at_function, at_plus, at_zero, at_zeros, at_last_zero, at_digits, at_end, zero_item}
+use Rattle.arith_products.proofs.DigitReadingLemmas.{in_digits, last_body, inner_body, params, whole_body, pieces, sentence}
 use Rattle.arith_products.proofs.DigitRunLemmas.{falses, number_of_falses, zeros_run, digits_run, Stage}
 use Rattle.arith_products.proofs.MultiplierTextLemmas.{text_is, all_fit, all_good, is_short}
 

@@ -15,12 +15,14 @@ use Rattle.revs_lexer.specs.declared.token.Tok.TheVariants as toks
 use Rattle.built_texts.specs.Pieces.{Piece, text_of, toks_of, fits, AreGood}
 use Rattle.built_texts.proofs.PlaceLemmas.{good_word, good_sign, good_number, good_numbered, built_length}
 use Rattle.arith_runs.proofs.RipplePieces.{carry_function}
-use Rattle.arith_increments.proofs.PieceLemmas.{s, name, place_of, numbered, bit_outputs, outputs_open, text_of-append, fits_outputs, is_plain, plain_good, good_place, good_parameter}
+use Rattle.arith_increments.proofs.PieceLemmas.{s, name, place_of, numbered, bit_outputs, outputs_open}
+use Rattle.arith_increments.proofs.PieceLemmas.{text_of-append, fits_outputs, is_plain, plain_good, good_place, good_parameter}
 use Rattle.arith_increments.proofs.PieceLemmas.{good_outputs, length-outputs}
 use Rattle.arith_increments.proofs.IncrementReadingLemmas.{header}
 use Rattle.arith_products.proofs.PlusReadingLemmas as plus
 use Rattle.arith_products.proofs.PlusReadingLemmas.{plus_open, first_sum, first_carry, sum_line, carry_line, places, plus_close, plus_pieces}
-use Rattle.arith_products.proofs.DigitReadingLemmas.{zero_open, zero_bits, zero_close, digit_line, digit_lines, slice_of, product_end, from_digits, from_last_zero}
+use Rattle.arith_products.proofs.DigitReadingLemmas.{zero_open, zero_bits, zero_close, digit_line, digit_lines}
+use Rattle.arith_products.proofs.DigitReadingLemmas.{slice_of, product_end, from_digits, from_last_zero}
 use Rattle.arith_products.proofs.DigitReadingLemmas.{from_zeros, from_zero, from_plus, from_function, pieces}
 
 -- ---- the function

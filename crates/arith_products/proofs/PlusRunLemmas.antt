@@ -1,5 +1,6 @@
 -- What the function that adds two numbers means.
-use Rattle.std.proofs.Common.{◌≡◌, ℕ, zero, suc, ◌+◌, ◌*◌, ◌≤◌, Bool, false, ◌&&◌, List, [], ◌∷◌, ◌++◌, length, drop, Some, refl, ap, sym, subst, ◌∙◌, arith, append-nil, append_assoc}
+use Rattle.std.proofs.Common.{◌≡◌, ℕ, zero, suc, ◌+◌, ◌*◌, ◌≤◌, Bool, false, ◌&&◌, List, [], ◌∷◌}
+use Rattle.std.proofs.Common.{◌++◌, length, drop, Some, refl, ap, sym, subst, ◌∙◌, arith, append-nil, append_assoc}
 use Rattle.std.specs.Prelude.{codes, slice_get}
 use Rattle.std.specs.Bool.{xor}
 use Rattle.std.proofs.lemmas.List.{length-append}
@@ -8,7 +9,8 @@ use Rattle.revc_base.specs.declared.place.Place.{Place}
 use Rattle.revs_grammar.specs.Forms.{BodyTree, name_of}
 use Rattle.revs_terms.specs.Trees as t
 use Rattle.revs_terms.specs.Trees.{Tree, trees}
-use Rattle.built_texts.specs.Meanings.{Meaning, Scope, of_bit, of_bits, of_function, named, meaning_of, IsRun, no_operands, operand, all_taken, takes, takes_last}
+use Rattle.built_texts.specs.Meanings.{Meaning, Scope, of_bit, of_bits, of_function, named, meaning_of}
+use Rattle.built_texts.specs.Meanings.{IsRun, no_operands, operand, all_taken, takes, takes_last}
 use Rattle.built_texts.specs.Meanings.{RunsBody, last_is, let_is}
 use Rattle.built_texts.specs.Ways.{shifted}
 use Rattle.built_texts.proofs.RunLemmas.{run_name, run_xor, run_and, run_apply, run_reg, run_block, run_within}

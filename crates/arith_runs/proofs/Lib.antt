@@ -1,4 +1,7 @@
 pub mod AdderLemmas
+pub mod BorrowPieces
+pub mod ComparatorLemmas
+pub mod ComparatorTextLemmas
 pub mod ProgramLemmas
 pub mod ReadingLemmas
 pub mod RippleLemmas

@@ -1,5 +1,6 @@
 -- A ripple's text is that of a program that puts out what ripples.
-use Rattle.std.proofs.Common.{◌≡◌, ℕ, zero, suc, ◌+◌, ◌*◌, ◌≤◌, Bool, true, false, ◌&&◌, List, [], ◌∷◌, ◌++◌, length, map, take, drop, sum, Some, refl, ap, sym, ◌∙◌}
+use Rattle.std.proofs.Common.{◌≡◌, ℕ, zero, suc, ◌+◌, ◌*◌, ◌≤◌, Bool, true, false, ◌&&◌, List, []}
+use Rattle.std.proofs.Common.{◌∷◌, ◌++◌, length, map, take, drop, sum, Some, refl, ap, sym, ◌∙◌}
 use Rattle.std.proofs.Common.{subst, arith}
 use Rattle.std.specs.Prelude.{codes, slice_get, leb}
 use Rattle.std.specs.Bool.{xor}
@@ -12,14 +13,17 @@ use Rattle.text_places.specs.Places.{start}
 use Rattle.revs_lexer.specs.declared.token.Token.{Token}
 use Rattle.revs_grammar.specs.Forms.{name_of}
 use Rattle.revs_grammar.specs.Sentences.{few_levels, IsSentenceOf}
+use Rattle.revs_terms.specs.declared.term.Name.{Name}
 use Rattle.revs_terms.specs.declared.program.Param.{Param}
+use Rattle.revs_terms.specs.Programs.{widths_of, AreParams}
 use Rattle.revs_terms.specs.Running.{Stamped, State, Outcome, went}
 use Rattle.revs_terms.specs.Runs.{run_of_program, IsInput, HasOutput}
 use Rattle.revs_terms.specs.Trees as t
 use Rattle.revs_terms.specs.Trees.{Tree}
 use Rattle.revs_parser.specs.WellFormed.{IsWellFormed}
 use Rattle.built_texts.specs.Meanings.{Scope, of_bit, of_bits, no_names, named, meaning_of, AreRuns, no_operands, operand, RunsBody, last_is, let_is}
-use Rattle.built_texts.specs.Programs.{IsBodyRun, IsBuilt}
+use Rattle.built_texts.specs.Pieces.{Piece, text_of}
+use Rattle.built_texts.specs.Programs.{IsBodyRun, IsBuilt, output_of}
 use Rattle.built_texts.proofs.PlaceLemmas.{token_place, tokens_placed}
 use Rattle.built_texts.proofs.ProgramLemmas.{text_gives}
 use Rattle.built_texts.proofs.RunLemmas.{run_xor, run_function, run_reg, run_block, run_within}
@@ -52,21 +56,21 @@ pub record Works (K : Ripple) (R : Reads K) (next : Bool → Bool → Bool → B
       → IsRun (suc (suc (suc (suc (suc d))))) sc (R.first_value p) (of_bit (next x y false)) 10
 
 module _ (K : Ripple) (R : Reads K) (N : AreApart K) (next : Bool → Bool → Bool → Bool) (W : Works K R next) (m : ℕ) (p : ℕ → Place) (few : m ≤ 199) where
-  abbrev function_meaning : Scope → Meaning
+  abbrev pub function_meaning : Scope → Meaning
   function_meaning own =
       let q = at_function K R m p in
       of_function (name_of (codes "x") (q 2) ∷ name_of (codes "y") (q 3) ∷ name_of (codes "c") (q 4) ∷ []) (R.function_body q) own
 
-  function_is : (own : Scope) → IsNext 394 next (function_meaning own)
+  pub function_is : (own : Scope) → IsNext 394 next (function_meaning own)
   function_is own = record {
     takes_bits = λ sc u v w x y c r q s. takes r (takes q (takes_last s (W.body_works 394 (at_function K R m p) x y c own) all_taken));
   }
 
   -- the names in front of the first line, and behind each of the first three
-  abbrev scope_in : List Bool → List Bool → Scope
+  abbrev pub scope_in : List Bool → List Bool → Scope
   scope_in first second = named (codes "b") (of_bits second) (named (codes "a") (of_bits first) no_names)
 
-  abbrev scope_one : List Bool → List Bool → Scope
+  abbrev pub scope_one : List Bool → List Bool → Scope
   scope_one first second = named K.function_name (function_meaning (scope_in first second)) (scope_in first second)
 
   abbrev scope_two : List Bool → List Bool → Bool → Scope
@@ -75,10 +79,10 @@ module _ (K : Ripple) (R : Reads K) (N : AreApart K) (next : Bool → Bool → B
   abbrev scope_three : List Bool → List Bool → Bool → Bool → Scope
   scope_three first second z c = named (lettered 99 1) (of_bit c) (scope_two first second z)
 
-  a_one : (first second : List Bool) → meaning_of (codes "a") (scope_one first second) ≡ Some (of_bits first)
+  pub a_one : (first second : List Bool) → meaning_of (codes "a") (scope_one first second) ≡ Some (of_bits first)
   a_one first second = further_out (codes "a") K.function_name (function_meaning (scope_in first second)) (scope_in first second) N.name_a refl
 
-  b_one : (first second : List Bool) → meaning_of (codes "b") (scope_one first second) ≡ Some (of_bits second)
+  pub b_one : (first second : List Bool) → meaning_of (codes "b") (scope_one first second) ≡ Some (of_bits second)
   b_one first second = further_out (codes "b") K.function_name (function_meaning (scope_in first second)) (scope_in first second) N.name_b refl
 
   a_two : (first second : List Bool) (z : Bool) → meaning_of (codes "a") (scope_two first second z) ≡ Some (of_bits first)
@@ -179,6 +183,54 @@ one_output : (params : List Param) (body : Tree) (input a b : List Bool) → Has
 one_output params body input a b h g =
     h.bits ∙ ap (map (λ o. o.bit)) (same_outputs (run_of_program params body input) h.outputs g.outputs h.state g.state h.ends g.ends) ∙ sym g.bits
 
+-- A text computes what its kind does that is built for a body of such a meaning.
+pub text_computes : (kind : Kind) (n by : ℕ) (text : List ℕ) (ps : List Piece) (params : List Param) (unbound : Tree) (means : List Bool → Meaning)
+    → IsBuilt ps params unbound → IsBodyRun params unbound means → text ≡ text_of ps → sum (widths_of params) ≡ inputs_of kind n
+    → ((input : List Bool) → IsInput params input
+    → (length (output_of (means input)) ≡ outputs_of kind n by) × Meets kind n by input (output_of (means input)))
+    → Computes kind n by text
+text_computes kind n by text ps params unbound means built runs spelled wide meets =
+    let whole = text_gives ps params unbound means built runs in
+    record {
+      program = record { params = params; body = whole.0 };
+      formed = subst (λ (bytes : List ℕ). IsWellFormed bytes (record { params = params; body = whole.0 })) (sym spelled) whole.1;
+      no_claims = whole.2.no_claims;
+      inputs = wide;
+      outputs = λ input output is h. ap length (one_output params whole.0 input output (output_of (means input)) h (whole.2.gives input is)) ∙ (meets input is).0;
+      meets = λ input output is h. subst (Meets kind n by input)
+          (sym (one_output params whole.0 input output (output_of (means input)) h (whole.2.gives input is))) (meets input is).1;
+    }
+
+-- two numbers of so many bits
+abbrev pub number_params : ℕ → Name → Name → List Param
+number_params n one two = record { name = one; width = Some n } ∷ record { name = two; width = Some n } ∷ []
+
+module _ (n : ℕ) (one two : Name) where
+  pub number_inputs : sum (widths_of (number_params n one two)) ≡ 2 * n
+  number_inputs = let both = two_widths n n in omega arith
+
+  -- both numbers have their bits
+  pub record IsTwo (input : List Bool) : Type 0 where
+    pub first : length (take n input) ≡ n
+    pub second : length (take n (drop n input)) ≡ n
+    pub rest : take n (drop n input) ≡ drop n input
+
+  pub two_numbers : (input : List Bool) → IsInput (number_params n one two) input → IsTwo input
+  two_numbers input is =
+      let both = two_widths n n in
+      let behind = length-drop n input in
+      record {
+        first = length-take-le n input (omega arith);
+        second = length-take-le n (drop n input) (omega arith);
+        rest = take_all n (drop n input) (omega arith);
+      }
+
+  pub are_params : 1 ≤ n → n ≤ 200 → AreParams (number_params n one two)
+  are_params some few = record {
+    bits = and_from (leb 1 n) (leb 1 n && true) (le-leb 1 n some) (and_from (leb 1 n) true (le-leb 1 n some) refl);
+    inputs = let both = two_widths n n in omega arith;
+  }
+
 module _ (K : Ripple) (R : Reads K) (N : AreApart K) (next : Bool → Bool → Bool → Bool) (W : Works K R next) (F : IsFine K) (text : ℕ → List ℕ)
     (X : IsText K text) (m : ℕ) (few : m ≤ 199) where
   abbrev places_here : ℕ → Place
@@ -187,7 +239,13 @@ module _ (K : Ripple) (R : Reads K) (N : AreApart K) (next : Bool → Bool → B
   abbrev params_here : List Param
   params_here = ripple_params K R m places_here
 
-  -- the sum of an input
+  abbrev first_name : Name
+  first_name = name_of (codes "a") (places_here 2)
+
+  abbrev second_name : Name
+  second_name = name_of (codes "b") (places_here 10)
+
+  -- what ripples of an input
   abbrev sum_of : List Bool → List Bool
   sum_of input = ripple next false (take (suc m) input) (take (suc m) (drop (suc m) input))
 
@@ -198,37 +256,17 @@ module _ (K : Ripple) (R : Reads K) (N : AreApart K) (next : Bool → Bool → B
     short = ripple_is_short K F m few;
     sentence = subst (λ (ts : List Token). IsSentenceOf few_levels ts params_here (ripple_body K R m places_here))
         (sym (tokens_placed start (pieces K m))) (ripple_sentence K R m places_here);
-    inputs = record {
-      bits = and_from (leb 1 (suc m)) (leb 1 (suc m) && true) (le-leb 1 (suc m) (omega arith))
-          (and_from (leb 1 (suc m)) true (le-leb 1 (suc m) (omega arith)) refl);
-      inputs = let two = two_widths (suc m) (suc m) in omega arith;
-    };
+    inputs = are_params (suc m) first_name second_name (omega arith) (omega arith);
     different = refl;
   }
-
-  -- both numbers have their bits
-  record IsTwo (input : List Bool) : Type 0 where
-    first : length (take (suc m) input) ≡ suc m
-    second : length (take (suc m) (drop (suc m) input)) ≡ suc m
-    rest : take (suc m) (drop (suc m) input) ≡ drop (suc m) input
-
-  two_numbers : (input : List Bool) → IsInput params_here input → IsTwo input
-  two_numbers input is =
-      let two = two_widths (suc m) (suc m) in
-      let behind = length-drop (suc m) input in
-      record {
-        first = length-take-le (suc m) input (omega arith);
-        second = length-take-le (suc m) (drop (suc m) input) (omega arith);
-        rest = take_all (suc m) (drop (suc m) input) (omega arith);
-      }
 
   runs : IsBodyRun params_here (ripple_body K R m places_here) (λ input. of_bits (sum_of input))
   runs = record {
     units = 1 + all_units K R N next W m places_here few;
     few = omega arith;
-    runs = λ input is. let two = two_numbers input is in
+    runs = λ input is. let two = two_numbers (suc m) first_name second_name input is in
         run_block (places_here 18) (body_runs K R N next W m places_here few (take (suc m) input) (take (suc m) (drop (suc m) input)) two.first two.second);
-    outputs = λ input is. let two = two_numbers input is in
+    outputs = λ input is. let two = two_numbers (suc m) first_name second_name input is in
         let long = length-ripple next false (take (suc m) input) (take (suc m) (drop (suc m) input)) (two.first ∙ sym two.second) in
         let one = two.first in
         omega arith;
@@ -239,26 +277,17 @@ module _ (K : Ripple) (R : Reads K) (N : AreApart K) (next : Bool → Bool → B
       → ((input : List Bool) → length (take (suc m) input) ≡ suc m → length (drop (suc m) input) ≡ suc m
       → Meets kind (suc m) by input (ripple next false (take (suc m) input) (drop (suc m) input))) → Computes kind (suc m) by (text (suc m))
   ripple_computes kind by ins outs meets =
-      let whole = text_gives (pieces K m) params_here (ripple_body K R m places_here) (λ input. of_bits (sum_of input)) built runs in
-      record {
-        program = record { params = params_here; body = whole.0 };
-        formed = subst (λ (bytes : List ℕ). IsWellFormed bytes (record { params = params_here; body = whole.0 })) (sym (ripple_text K text X m)) whole.1;
-        no_claims = whole.2.no_claims;
-        inputs = let two = two_widths (suc m) (suc m) in omega arith;
-        outputs = λ input output is h. long_enough input output is (one_output params_here whole.0 input output (sum_of input) h (whole.2.gives input is));
-        meets = λ input output is h. it_meets input output is (one_output params_here whole.0 input output (sum_of input) h (whole.2.gives input is));
-      }
+      text_computes kind (suc m) by (text (suc m)) (pieces K m) params_here (ripple_body K R m places_here) (λ input. of_bits (sum_of input)) built runs
+      (ripple_text K text X m) (number_inputs (suc m) first_name second_name ∙ sym ins) (λ input is. (long_enough input is, it_meets input is))
     where
-      long_enough : (input output : List Bool) → IsInput params_here input → output ≡ sum_of input → length output ≡ outputs_of kind (suc m) by
-      long_enough input output is e =
-          let two = two_numbers input is in
-          let long = length-ripple next false (take (suc m) input) (take (suc m) (drop (suc m) input)) (two.first ∙ sym two.second) in
-          let size = ap length e in
-          let one = two.first in
-          omega arith
+      long_enough : (input : List Bool) → IsInput params_here input → length (sum_of input) ≡ outputs_of kind (suc m) by
+      long_enough input is =
+          let two = two_numbers (suc m) first_name second_name input is in
+          length-ripple next false (take (suc m) input) (take (suc m) (drop (suc m) input)) (two.first ∙ sym two.second)
+          ∙ ap (λ (k : ℕ). k + 1) two.first ∙ sym outs
 
-      it_meets : (input output : List Bool) → IsInput params_here input → output ≡ sum_of input → Meets kind (suc m) by input output
-      it_meets input output is e =
-          let two = two_numbers input is in
+      it_meets : (input : List Bool) → IsInput params_here input → Meets kind (suc m) by input (sum_of input)
+      it_meets input is =
+          let two = two_numbers (suc m) first_name second_name input is in
           subst (λ (bits : List Bool). Meets kind (suc m) by input bits)
-          (sym (e ∙ ap (ripple next false (take (suc m) input)) two.rest)) (meets input two.first (sym (ap length two.rest) ∙ two.second))
+          (sym (ap (ripple next false (take (suc m) input)) two.rest)) (meets input two.first (sym (ap length two.rest) ∙ two.second))

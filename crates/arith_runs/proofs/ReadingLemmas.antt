@@ -101,7 +101,7 @@ module _ (K : Ripple) where
   sum_turns : (i l : ℕ) (ss : List Symbol) → ItemTurns l ss (sum_line K i) (sum_item i)
   sum_turns i l ss p = turns (λ vs. (in_front (sum_item i p) vs.0, vs.1)) refl
 
-  carry_turns : (i l : ℕ) (ss : List Symbol) → ItemTurns l ss (carry_line K i) (carry_item i)
+  pub carry_turns : (i l : ℕ) (ss : List Symbol) → ItemTurns l ss (carry_line K i) (carry_item i)
   carry_turns i l ss p = turns (λ vs. (in_front (carry_item i p) vs.0, vs.1)) refl
 
   first_sum_turns : (l : ℕ) (ss : List Symbol) → ItemTurns l ss (first_sum K) first_sum_item
@@ -117,7 +117,7 @@ module _ (K : Ripple) where
     tt,
   )
 
-  header_turns : (bits : ℕ) (p : ℕ → Place) → Turns at_start (placed p (toks_of (header bits))) (f body 2 ∷ chain_end 1 []) (program_end bits p)
+  pub header_turns : (bits : ℕ) (p : ℕ → Place) → Turns at_start (placed p (toks_of (header bits))) (f body 2 ∷ chain_end 1 []) (program_end bits p)
   header_turns bits p = turns (program_end bits p) refl
 
   -- a sum among the outputs, in front of what comes behind it
@@ -155,7 +155,7 @@ module _ (K : Ripple) where
   abbrev pub nothing_behind : Vals (chain_end 1 [])
   nothing_behind = ([], ([], ([], ([], (None, tt)))))
 
-  end_turns : Turns (chain_end 1 []) [] [] (λ _. nothing_behind)
+  pub end_turns : Turns (chain_end 1 []) [] [] (λ _. nothing_behind)
   end_turns = ended nothing_behind refl
 
   -- ---- one behind the other
@@ -165,7 +165,7 @@ module _ (K : Ripple) where
   toks_of-append (gap b ∷ xs) ys = toks_of-append xs ys
   toks_of-append (tok u ∷ xs) ys = ap (λ (ts : List Tok). u ∷ ts) (toks_of-append xs ys)
 
-  built_then : {ss mid left : List Symbol} {g : Vals mid → Vals ss} {h : Vals left → Vals mid} (xs ys : List Piece) (p : ℕ → Place)
+  pub built_then : {ss mid left : List Symbol} {g : Vals mid → Vals ss} {h : Vals left → Vals mid} (xs ys : List Piece) (p : ℕ → Place)
       → Turns ss (placed p (toks_of xs)) mid g → Turns mid (placed (shifted (length (toks_of xs)) p) (toks_of ys)) left h
       → Turns ss (placed p (toks_of (xs ++ ys))) left (λ vs. g (h vs))
   built_then {ss} {mid} {left} {g} {h} xs ys p a b =

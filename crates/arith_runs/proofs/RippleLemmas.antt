@@ -176,7 +176,7 @@ module _ (d : ℕ) (K : Ripple) (N : AreApart K) (next : Bool → Bool → Bool 
 
   -- ---- all places above 0
 
-  dropped : (i : ℕ) (zs : List Bool) (x : Bool) (xs : List Bool) → drop i zs ≡ x ∷ xs → (slice_get zs i ≡ Some x) × (drop (suc i) zs ≡ xs)
+  pub dropped : (i : ℕ) (zs : List Bool) (x : Bool) (xs : List Bool) → drop i zs ≡ x ∷ xs → (slice_get zs i ≡ Some x) × (drop (suc i) zs ≡ xs)
   dropped zero zs x xs e = (ap (λ (v : List Bool). slice_get v 0) e, ap (drop 1) e)
   dropped (suc i) [] x xs e = cc
   dropped (suc i) (z ∷ zs) x xs e = dropped i zs x xs e

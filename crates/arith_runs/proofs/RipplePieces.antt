@@ -1,7 +1,8 @@
 -- The texts of adders and of their like, in pieces.
 use Rattle.std.specs.Prelude.{ℕ, zero, suc, ◌+◌, List, [], ◌∷◌, ◌++◌, codes, decimal}
 use Rattle.revs_lexer.specs.declared.sign.Sign.{Sign}
-use Rattle.revs_lexer.specs.declared.sign.Sign.TheVariants.{OpenRound, CloseRound, OpenSquare, CloseSquare, OpenCurly, CloseCurly, Colon, Semi, Equal, Xor, And, Dot}
+use Rattle.revs_lexer.specs.declared.sign.Sign.TheVariants.{OpenRound, CloseRound, OpenSquare, CloseSquare, OpenCurly, CloseCurly}
+use Rattle.revs_lexer.specs.declared.sign.Sign.TheVariants.{Colon, Semi, Equal, Xor, And, Dot}
 use Rattle.revs_lexer.specs.declared.word.Word.{Word}
 use Rattle.revs_lexer.specs.declared.word.Word.TheVariants.{Main, Let, Reg, Bool}
 use Rattle.revs_lexer.specs.declared.token.Tok.TheVariants as toks

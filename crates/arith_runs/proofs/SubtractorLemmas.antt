@@ -1,5 +1,6 @@
 -- The text of a subtractor: how it is spelled and read, and that it subtracts.
-use Rattle.std.proofs.Common.{◌≡◌, ℕ, zero, suc, ◌+◌, ◌*◌, ◌-◌, ◌^◌, ◌≤◌, ◌<◌, Bool, true, false, ◌&&◌, List, [], ◌∷◌, ◌++◌, length, take, drop, refl, ap, sym, ◌∙◌}
+use Rattle.std.proofs.Common.{◌≡◌, ℕ, zero, suc, ◌+◌, ◌*◌, ◌-◌, ◌^◌, ◌≤◌, ◌<◌, Bool, true, false}
+use Rattle.std.proofs.Common.{◌&&◌, List, [], ◌∷◌, ◌++◌, length, take, drop, refl, ap, sym, ◌∙◌}
 use Rattle.std.proofs.Common.{subst, arith}
 use Rattle.std.specs.Prelude.{codes, decimal, IsTrue, ◌↔◌}
 use Rattle.std.specs.Bool.{xor}
@@ -31,31 +32,16 @@ use Rattle.arith_templates.specs.Meets.{IsDifference}
 use Rattle.arith_templates.specs.Texts as texts
 use Rattle.arith_templates.proofs.PlaceLemmas.{differences_subtract}
 use Rattle.arith_runs.specs.Computes.{SubtractorsSubtract}
-use Rattle.arith_runs.proofs.RipplePieces.{Ripple, blank, line_end, w, s, named, numbered, place_of, first_sum, sum_line, carry_line, sum_outputs}
+use Rattle.arith_runs.proofs.RipplePieces.{s, place_of, first_sum, sum_line, carry_line, sum_outputs}
+use Rattle.arith_runs.proofs.BorrowPieces.{borrow_function, first_borrow, subtractor}
 use Rattle.arith_runs.proofs.TextLemmas.{IsText, IsFine, goods, good_place}
 use Rattle.arith_runs.proofs.ReadingLemmas.{lettered, bit_at, Reads}
 use Rattle.arith_runs.proofs.RippleLemmas.{ripple, AreApart, other_letter, bit_runs}
 use Rattle.arith_runs.proofs.ProgramLemmas.{Works, ripple_computes}
 
-abbrev borrow_function : List Piece
-borrow_function =
-    w Let ∷ blank ∷ named (codes "lend") ∷ blank ∷ named (codes "x") ∷ blank ∷ named (codes "y") ∷ blank ∷ named (codes "c")
-    ∷ blank ∷ s Equal ∷ blank
-    ∷ s OpenRound ∷ s OpenRound ∷ w True ∷ blank ∷ s Xor ∷ blank ∷ named (codes "x") ∷ s CloseRound ∷ blank ∷ s And ∷ blank ∷ named (codes "y")
-    ∷ s CloseRound ∷ blank ∷ s Xor ∷ blank
-    ∷ s OpenRound ∷ named (codes "c") ∷ blank ∷ s And ∷ blank ∷ s OpenRound ∷ w True ∷ blank ∷ s Xor ∷ blank ∷ named (codes "x") ∷ blank ∷ s Xor ∷ blank
-    ∷ named (codes "y") ∷ s CloseRound ∷ s CloseRound ∷ s Semi ∷ line_end ∷ []
-
-abbrev first_borrow : List Piece
-first_borrow = w Let ∷ blank ∷ numbered 99 1 ∷ blank ∷ s Equal ∷ blank ∷ s OpenRound ∷ w True ∷ blank ∷ s Xor ∷ blank
-    ∷ place_of (codes "a") 0 ++ s CloseRound ∷ blank ∷ s And ∷ blank ∷ place_of (codes "b") 0 ++ s Semi ∷ line_end ∷ []
-
-abbrev subtractor : Ripple
-subtractor = record { letter = 100; function_name = codes "lend"; function_line = borrow_function; first_line = first_borrow }
-
 -- ---- spelling
 
-function_text : texts.borrow_function ≡ text_of borrow_function
+pub function_text : texts.borrow_function ≡ text_of borrow_function
 unfolding texts.borrow_function
 function_text = refl
 
@@ -70,7 +56,7 @@ difference_text : (i : ℕ) → texts.difference_line i ≡ text_of (sum_line su
 unfolding texts.difference_line
 difference_text i = refl
 
-borrow_text : (i : ℕ) → texts.borrow_line i ≡ text_of (carry_line subtractor i)
+pub borrow_text : (i : ℕ) → texts.borrow_line i ≡ text_of (carry_line subtractor i)
 unfolding texts.borrow_line
 borrow_text i = refl
 
@@ -123,7 +109,7 @@ good_first ps h = (
   ),
 )
 
-is_fine : IsFine subtractor
+pub is_fine : IsFine subtractor
 is_fine = record {
   letter_is = refl;
   name_is = refl;
@@ -146,7 +132,7 @@ abbrev borrow_value : (ℕ → Place) → Tree
 borrow_value p = t.ands (trees (
     t.xors (trees (t.bool true (p 4) ∷ bit_at (codes "a") 0 (p 6) (p 7) (p 9) ∷ [])) ∷ bit_at (codes "b") 0 (p 13) (p 14) (p 16) ∷ []))
 
-abbrev reads : Reads subtractor
+abbrev pub reads : Reads subtractor
 reads = record {
   function_body = borrow_body;
   first_value = borrow_value;
@@ -160,7 +146,7 @@ reads = record {
 
 -- ---- what runs
 
-apart : AreApart subtractor
+pub apart : AreApart subtractor
 apart = record {
   not_a = λ e. omega arith;
   not_b = λ e. omega arith;
@@ -171,7 +157,7 @@ apart = record {
   name_next = λ k few. other_letter 108 99 (codes "end") (decimal k) (λ e. omega arith);
 }
 
-works : Works subtractor reads borrow
+pub works : Works subtractor reads borrow
 works = record {
   body_works = λ d p x y c own. run_within (run_xor
       (run_and (run_xor (run_constant true (p 8)) (operand (run_name (name_of (codes "x") (p 10)) refl) no_operands))
@@ -204,8 +190,8 @@ module _ (value first second power : ℕ) where
   below true e h low = omega arith
   below false e h low = let is : false ≡ true = h.1 (omega arith) in absurd (false≢true is)
 
-  is_less : (b : Bool) → (IsTrue b ↔ (first < second + 0)) → IsTrue b ↔ (first < second)
-  is_less b h = (λ is. let low = h.0 is in omega arith, λ low. h.1 (omega arith))
+pub is_less : (first second : ℕ) (b : Bool) → (IsTrue b ↔ (first < second + 0)) → IsTrue b ↔ (first < second)
+is_less first second b h = (λ is. let low = h.0 is in omega arith, λ low. h.1 (omega arith))
 
 is_difference : (n : ℕ) (xs ys : List Bool) → length xs ≡ n → length ys ≡ n → IsDifference n (number xs) (number ys) (ripple borrow false xs ys)
 is_difference n xs ys one two =
@@ -219,7 +205,7 @@ is_difference n xs ys one two =
     let value = subst (λ (k : ℕ). number (differences false xs ys) + number ys + 0 ≡ number xs + k * bit b) power h.value in
     record {
       less = subst (λ (c : Bool). IsTrue c ↔ (number xs < number ys)) (sym last)
-          (is_less (number (differences false xs ys)) (number xs) (number ys) 0 b h.less);
+          (is_less (number xs) (number ys) b h.less);
       value = λ le. ap number front ∙ at_least (number (differences false xs ys)) (number xs) (number ys) (2 ^ n) b value h.less le;
       below = λ low. ap number front ∙ below (number (differences false xs ys)) (number xs) (number ys) (2 ^ n) b value h.less low;
     }

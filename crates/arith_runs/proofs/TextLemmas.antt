@@ -18,8 +18,10 @@ use Rattle.built_texts.proofs.PlaceLemmas.{good_word, good_sign, good_number, go
 use Rattle.program_gen.specs.Adder as texts
 use Rattle.built_texts.specs.Pieces.{Piece, gap, tok, spelling, text_of, toks_of, fits, IsGood, AreGood}
 use Rattle.text_places.specs.Bytes.{is_letter}
-use Rattle.arith_runs.proofs.RipplePieces.{Ripple, adder, header, carry_function, first_sum, first_carry, sum_line, carry_line, places, sum_outputs, outputs_open}
-use Rattle.arith_runs.proofs.RipplePieces.{outputs_close, from_outputs, from_open, from_places, from_carry, from_sum, from_function, pieces, place_of, parameter, s}
+use Rattle.arith_runs.proofs.RipplePieces.{Ripple, adder, header, carry_function, first_sum, first_carry}
+use Rattle.arith_runs.proofs.RipplePieces.{sum_line, carry_line, places, sum_outputs, outputs_open}
+use Rattle.arith_runs.proofs.RipplePieces.{outputs_close, from_outputs, from_open, from_places, from_carry, from_sum}
+use Rattle.arith_runs.proofs.RipplePieces.{from_function, pieces, place_of, parameter, s}
 use Rattle.arith_runs.proofs.RipplePieces.{numbered}
 use Rattle.revs_lexer.specs.declared.sign.Sign.TheVariants.{Xor, And, Semi, Equal, OpenCurly}
 
@@ -28,7 +30,7 @@ text_of-append [] qs = refl
 text_of-append (gap b ∷ ps) qs = ap (λ (bs : List ℕ). b ∷ bs) (text_of-append ps qs)
 text_of-append (tok t ∷ ps) qs = ap (λ (bs : List ℕ). spelling t ++ bs) (text_of-append ps qs) ∙ sym (append_assoc (spelling t) (text_of ps) (text_of qs))
 
-header_text : (bits : ℕ) → texts.parameters bits ≡ text_of (header bits)
+pub header_text : (bits : ℕ) → texts.parameters bits ≡ text_of (header bits)
 unfolding texts.parameters
 header_text bits = refl
 
@@ -160,7 +162,7 @@ good_parameter text bits us e le h = (
   ),
 )
 
-good_header : (bits : ℕ) (ps : List Piece) → bits ≤ 9999 → AreGood (toks_of ps) → AreGood (toks_of (header bits ++ ps))
+pub good_header : (bits : ℕ) (ps : List Piece) → bits ≤ 9999 → AreGood (toks_of ps) → AreGood (toks_of (header bits ++ ps))
 good_header bits ps le h = (
   good_word words.Main,
   good_parameter (codes "a") bits (toks_of (parameter (codes "b") bits ++ s Equal ∷ s OpenCurly ∷ ps)) refl le
@@ -224,7 +226,7 @@ module _ (K : Ripple) (F : IsFine K) where
     ),
   )
 
-  good_carry_line : (i : ℕ) (ps : List Piece) → i + 1 ≤ 9999 → AreGood (toks_of ps) → AreGood (toks_of (carry_line K i ++ ps))
+  pub good_carry_line : (i : ℕ) (ps : List Piece) → i + 1 ≤ 9999 → AreGood (toks_of ps) → AreGood (toks_of (carry_line K i ++ ps))
   good_carry_line i ps le h = (
     good_word words.Let,
     (

@@ -6,7 +6,7 @@ use Rattle.revs_terms.specs.Runs.{IsInput, HasOutput, IsTapeOf}
 use Rattle.revs_terms.specs.Views.{ProgramView}
 use Rattle.revs_parser.specs.WellFormed.{IsWellFormed}
 use Rattle.arith_templates.specs.declared.kind.Kind.{Kind}
-use Rattle.arith_templates.specs.declared.kind.Kind.TheVariants.{Add, Sub}
+use Rattle.arith_templates.specs.declared.kind.Kind.TheVariants.{Add, Sub, Less}
 use Rattle.arith_templates.specs.Meets.{inputs_of, outputs_of, Meets}
 use Rattle.arith_templates.specs.Texts.{text_of}
 
@@ -28,3 +28,7 @@ AddersAdd = (n by : ℕ) → 1 ≤ n → n ≤ 200 → Computes Add n by (text_o
 -- The text of every subtractor computes differences.
 abbrev pub SubtractorsSubtract : Type 0
 SubtractorsSubtract = (n by : ℕ) → 1 ≤ n → n ≤ 200 → Computes Sub n by (text_of Sub n by)
+
+-- The text of every comparator says whether the first number is less.
+abbrev pub ComparatorsCompare : Type 0
+ComparatorsCompare = (n by : ℕ) → 1 ≤ n → n ≤ 200 → Computes Less n by (text_of Less n by)
