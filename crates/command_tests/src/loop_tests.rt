@@ -268,17 +268,24 @@ const LOOPS: &[Row] = &[
         3,
         b"revc: 1:152 Work\n",
     ),
-    (
-        "compile",
-        b"revs 2 main (a : bool) = { for i in 0 .. 9999 do { for j in 0 .. 9999 do { a; }; }; a }",
-        3,
-        b"revc: 1:52 Work\n",
-    ),
 ];
+
+// The work of loops within loops.
+const WORKED: &[Row] = &[(
+    "compile",
+    b"revs 2 main (a : bool) = { for i in 0 .. 9999 do { for j in 0 .. 9999 do { a; }; }; a }",
+    3,
+    b"revc: 1:52 Work\n",
+)];
 
 #[test]
 fn loops_are_run(rt: HostRuntime) -> Result<(), Fail> {
     check_all(&rt, rt.alloc(), LOOPS)
+}
+
+#[test]
+fn the_work_of_loops_is_limited(rt: HostRuntime) -> Result<(), Fail> {
+    check_all(&rt, rt.alloc(), WORKED)
 }
 
 // Loops within loops, of which the items of the 98th have level 100; and the work of 4,090 turns,

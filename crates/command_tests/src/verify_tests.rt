@@ -126,10 +126,24 @@ const PROGRAMS: &[&[u8]] = &[PRODUCT, MAJORITY, FULL_ADDER, TURNED, COMPARATOR];
 // How a circuit is made, and how it is verified.
 const ROUNDS: &[(&str, &str)] = &[
     ("compile", "verify"),
+    ("compile --borrow 3", "verify --borrow 3"),
+    ("compile --format qasm", "verify --from qasm"),
+    (
+        "compile --format qasm --borrow 3",
+        "verify --from qasm --borrow 3",
+    ),
+    ("compile --plan eager", "verify"),
     ("compile --plan eager --borrow 3", "verify --borrow 3"),
+    ("compile --plan eager --format qasm", "verify --from qasm"),
+    (
+        "compile --plan eager --format qasm --borrow 3",
+        "verify --from qasm --borrow 3",
+    ),
+    ("compile --plan pebble", "verify"),
+    ("compile --plan pebble --borrow 3", "verify --borrow 3"),
     ("compile --plan pebble --format qasm", "verify --from qasm"),
     (
-        "compile --plan pebble --borrow 3 --format qasm",
+        "compile --plan pebble --format qasm --borrow 3",
         "verify --from qasm --borrow 3",
     ),
 ];
@@ -151,6 +165,68 @@ fn circuits_of_programs_are_verified(rt: HostRuntime) -> Result<(), Fail> {
             let is_right = comes_back(rt.alloc(), program, compile, verify)?;
             assert!(rt; is_right, "{compile}");
         }
+    }
+    Ok(())
+}
+
+// A gate that is left out of the circuit of a program, counted from 1, and what is said then.
+const LEFT_OUT: &[(&[u8], usize, &[u8])] = &[
+    (PRODUCT, 1, b"revc: circuit differs at line 3 on 11\n"),
+    (PRODUCT, 3, b"revc: circuit differs at line 4 on 11\n"),
+    (MAJORITY, 1, b"revc: circuit differs at line 5 on 110\n"),
+    (MAJORITY, 9, b"revc: circuit differs at line 4 on 011\n"),
+    (FULL_ADDER, 13, b"revc: circuit differs at line 5 on 110\n"),
+    (FULL_ADDER, 19, b"revc: circuit differs at line 5 on 011\n"),
+    (FULL_ADDER, 36, b"revc: circuit differs at line 6 on 100\n"),
+    (TURNED, 6, b"revc: circuit differs at line 8 on 010\n"),
+    (TURNED, 9, b"revc: circuit differs at line 6 on 100\n"),
+    (
+        COMPARATOR,
+        1,
+        b"revc: circuit differs at line 7 on 001001\n",
+    ),
+    (
+        COMPARATOR,
+        103,
+        b"revc: circuit differs at line 9 on 010011\n",
+    ),
+    (
+        COMPARATOR,
+        155,
+        b"revc: circuit differs at line 8 on 000000\n",
+    ),
+];
+
+// A text without one of its lines, counted from 0.
+fn without_line(alloc: Global, text: &[u8], number: usize) -> Result<Vec<u8>, Memory> {
+    let mut left = Vec::new(alloc);
+    let mut line = 0_usize;
+    for byte in text {
+        if line != number {
+            left.push(*byte)?;
+        }
+        line = line.wrapping_add(usize::from(*byte == b'\n'));
+    }
+    Ok(left)
+}
+
+// Whether this is said of the circuit of a program without one of its gates, which stand behind
+// eight lines.
+fn is_missed(alloc: Global, program: &[u8], gate: usize, said: &[u8]) -> Result<bool, Memory> {
+    let circuit = left_of(alloc, "compile", program)?;
+    let damaged = without_line(alloc, &circuit.out, gate.saturating_add(7))?;
+    let source = text_of(
+        alloc,
+        &[(program, 1), (PARTING, 1), (damaged.as_slice(), 1)],
+    )?;
+    Ok(left_of(alloc, "verify", &source)?.is(15, said))
+}
+
+#[test]
+fn a_gate_that_is_left_out_is_missed(rt: HostRuntime) -> Result<(), Fail> {
+    for (program, gate, said) in LEFT_OUT {
+        let is_right = is_missed(rt.alloc(), program, *gate, said)?;
+        assert!(rt; is_right, "gate {gate}");
     }
     Ok(())
 }
