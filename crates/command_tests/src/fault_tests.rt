@@ -246,11 +246,11 @@ fn each_room_may_be_too_small(rt: HostRuntime) -> Result<(), Fail> {
 
 // How many prefixes of a file mean a circuit; all others are refused, with status 8.
 fn count_prefixes(rt: &impl Abort, alloc: Global, words: &str, file: &[u8]) -> Result<u64, Memory> {
-    let mut count = 0;
+    let mut count = 0_u64;
     for len in 0..=file.len() {
         let status = left_of(alloc, words, &file[..len])?.status;
         assert!(rt; status == 0 || status == 8, "{words}: {len} bytes");
-        count += u64::from(status == 0);
+        count = count.wrapping_add(u64::from(status == 0));
     }
     Ok(count)
 }
