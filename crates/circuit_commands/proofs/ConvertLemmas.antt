@@ -6,7 +6,7 @@ use Rattle.std.proofs.lemmas.List.{length-append}
 use Rattle.mct_circuit.specs.Gates.{CircuitView, GateView, AreGatesOn, AreNarrow, line_map}
 use Rattle.mct_circuit.proofs.MoreLinesLemmas.{more_lines}
 use Rattle.gate_split.specs.declared.fault.SplitFault.TheVariants as splits
-use Rattle.gate_split.specs.declared.plan.TheConstants.{MOST_LINES, MOST_GATES}
+use Rattle.circuit_plans.specs.declared.plan.TheConstants.{MOST_LINES, MOST_GATES}
 use Rattle.gate_split.specs.Split.{split_list}
 use Rattle.real_format.specs.declared.file.Mark.{Mark}
 use Rattle.real_format.proofs.MeaningLemmas as real

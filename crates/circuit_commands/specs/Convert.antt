@@ -4,7 +4,7 @@ use Rattle.command_answers.specs.Outcomes.{Promise, IsAnyFault, IsNoFault}
 use Rattle.mct_circuit.specs.Gates.{GateView, AreNarrow, line_map}
 use Rattle.gate_split.specs.declared.fault.SplitFault.{SplitFault}
 use Rattle.gate_split.specs.declared.fault.SplitFault.TheVariants as splits
-use Rattle.gate_split.specs.declared.plan.TheConstants.{MOST_LINES, MOST_GATES}
+use Rattle.circuit_plans.specs.declared.plan.TheConstants.{MOST_LINES, MOST_GATES}
 use Rattle.gate_split.specs.Split.{split_list}
 use Rattle.real_format.specs.declared.file.Mark.TheVariants.{Free}
 use Rattle.real_format.specs.Converted as real

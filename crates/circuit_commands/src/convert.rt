@@ -1,6 +1,6 @@
 // `convert`: the file of the narrow gates in place of a circuit's gates.
 ghost use Rattle.std.specs.Prelude.{◌≡◌, ◌+◌, ◌<◌, ◌≤◌, true, false, length, IfOk, IfErr};
-ghost use Rattle.gate_split.specs.declared.plan.TheConstants.{MOST_GATES, MOST_LINES};
+ghost use Rattle.circuit_plans.specs.declared.plan.TheConstants.{MOST_GATES, MOST_LINES};
 ghost use Rattle.revc_io.specs.Faults.{HasCause};
 ghost use Rattle.revc_io.specs.Passing.{Writes};
 ghost use Rattle.command_answers.specs.Outcomes.{HasOneOutcome};
@@ -14,8 +14,9 @@ ghost use Rattle.circuit_commands.specs.inside.Splitting.{IsOnLinesOf, IsSplitFa
 ghost use Rattle.circuit_commands.specs.inside.Splitting.{IsWiderFault, IsWritable};
 
 use crate::circuit::{MarkedCircuit, read_circuit};
+use circuit_plans::{MOST_GATES, MOST_LINES, Narrow};
 use command_answers::Fault;
-use gate_split::{MOST_GATES, MOST_LINES, Narrow, SplitFault, split};
+use gate_split::{SplitFault, split};
 use real_format::Mark;
 use revc_base::Memory;
 use revc_io::{Failed, Sink};
@@ -35,7 +36,7 @@ pub struct Converted {
 
 impl Model for Converted {
     ghost use Rattle.std.specs.Prelude.{◌≡◌, ◌<◌, ◌≤◌, length};
-    ghost use Rattle.gate_split.specs.declared.plan.TheConstants.{MOST_GATES, MOST_LINES};
+    ghost use Rattle.circuit_plans.specs.declared.plan.TheConstants.{MOST_GATES, MOST_LINES};
     ghost use Rattle.circuit_commands.specs.Convert.{added_lines};
     ghost use Rattle.circuit_commands.specs.Outcomes.{ConvertedView};
 

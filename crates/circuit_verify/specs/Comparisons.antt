@@ -8,8 +8,8 @@ use Rattle.revs_tape.specs.VariableOrders.{variable_order}
 use Rattle.claim_check.specs.Measures.{node_function, write_function}
 use Rattle.claim_check.specs.Settled.{SettledView, settled_outputs}
 use Rattle.mct_circuit.specs.Gates.{CircuitView}
-use Rattle.gate_split.specs.declared.roles.Roles.{Roles}
-use Rattle.gate_split.specs.Plans.{MapsCleanly}
+use Rattle.circuit_plans.specs.declared.roles.Roles.{Roles}
+use Rattle.circuit_plans.specs.Plans.{MapsCleanly}
 
 -- ---- programs
 

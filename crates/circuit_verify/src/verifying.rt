@@ -1,7 +1,7 @@
 // A circuit against a settled graph.
 ghost use Rattle.std.specs.Prelude.{◌≡◌, ◌≤◌, sum, IfErr, OnOk};
 ghost use Rattle.revs_tape.specs.Tapes.{AreWidths};
-ghost use Rattle.gate_split.specs.declared.plan.TheConstants.{MOST_BORROWED};
+ghost use Rattle.circuit_plans.specs.declared.plan.TheConstants.{MOST_BORROWED};
 ghost use Rattle.circuit_verify.specs.Comparisons.{of_settled};
 ghost use Rattle.circuit_verify.specs.Verdicts.{IsVerified, IsVerifyFault};
 ghost use Rattle.circuit_verify.specs.inside.Compared.{comparison};

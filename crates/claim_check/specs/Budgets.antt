@@ -21,6 +21,13 @@ plain_gates m = 4 * m.steps + m.outputs
 
 -- ---- pebbling by halves, down to one step, on so many levels
 
+-- the numbers of the lean row: a line for each node, and what all toggles of lean nodes and outputs weigh at most
+abbrev pub lean_lines : Measures → ℕ → ℕ
+lean_lines m borrowed = m.inputs + m.outputs + m.steps + borrowed
+
+abbrev pub lean_gates : Measures → ℕ
+lean_gates m = 58 * m.steps + 5 * m.outputs
+
 abbrev pub fine_lines : Measures → ℕ → ℕ → ℕ
 fine_lines m levels borrowed = m.inputs + 2 * m.outputs + m.width * levels + borrowed
 

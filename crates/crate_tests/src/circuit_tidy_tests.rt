@@ -1,6 +1,7 @@
 // The tests of circuit_tidy.
+use circuit_plans::Narrow;
 use circuit_tidy::tidy;
-use gate_split::{Narrow, split};
+use gate_split::split;
 use mct_circuit::{Control, Gate, Op};
 use real_format::read;
 use std::alloc::Global;

@@ -2,7 +2,8 @@
 ghost use Rattle.std.specs.Prelude.{◌≡◌, ◌≤◌, length, true, IfOk};
 
 use crate::real_format_tests::each_role;
-use gate_split::{Laid, Narrow, split};
+use circuit_plans::{Laid, Narrow};
+use gate_split::split;
 use mct_circuit::Circuit;
 use qasm_format::{QasmFault, QasmFile, Register, read, write, write_lines};
 use revc_base::{Memory, Place};

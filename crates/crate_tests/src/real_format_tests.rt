@@ -1,7 +1,8 @@
 // The tests of real_format.
 ghost use Rattle.std.specs.Prelude.{◌≡◌, ◌≤◌, length, IfOk};
 
-use gate_split::{Laid, Narrow, split};
+use circuit_plans::{Laid, Narrow};
+use gate_split::split;
 use mct_circuit::{Circuit, GateFault};
 use real_format::{Mark, RealFault, RealFile, read, write, write_lines};
 use revc_base::Text;

@@ -13,8 +13,8 @@ use Rattle.sum_graph.proofs.PlainLemmas.{plain_graphs_are_alike}
 use Rattle.exclusive_sums.specs.declared.cube.Literal.{Literal}
 use Rattle.exclusive_sums.specs.Cubes.{IsExclusiveSumOf}
 use Rattle.exclusive_sums.specs.Inputs.{StandsIn}
-use Rattle.gate_split.specs.declared.plan.PlanFault.{PlanFault}
-use Rattle.gate_split.specs.declared.plan.PlanFault.TheVariants.{Lines, Gates, Memory}
+use Rattle.circuit_plans.specs.declared.plan.PlanFault.{PlanFault}
+use Rattle.circuit_plans.specs.declared.plan.PlanFault.TheVariants.{Lines, Gates, Memory}
 use Rattle.gate_split.specs.Costs.{most_gates}
 use Rattle.held_nodes.specs.Held.{ForwardView, IsForward, first_work, held_count, held_line, is_held}
 use Rattle.held_nodes.specs.Moves.{CanClear, IsCleared, IsClearFault, IsToggled, IsToggleFault, TakesLine, cube_flips, toggle_of, with_node}

@@ -14,9 +14,9 @@ use Rattle.dependency_graph.specs.declared.node.Base.TheVariants as bases
 use Rattle.dependency_graph.specs.declared.node.Sig.{Sig}
 use Rattle.dependency_graph.specs.declared.node.Sig.TheVariants.{Const, Is}
 use Rattle.dependency_graph.specs.Graphs.{IsKnownSig}
-use Rattle.gate_split.specs.declared.plan.PlanFault.{PlanFault}
-use Rattle.gate_split.specs.declared.plan.PlanFault.TheVariants.{Lines, Gates, Memory}
-use Rattle.gate_split.specs.Plans.{BudgetView, PlannedView}
+use Rattle.circuit_plans.specs.declared.plan.PlanFault.{PlanFault}
+use Rattle.circuit_plans.specs.declared.plan.PlanFault.TheVariants.{Lines, Gates, Memory}
+use Rattle.circuit_plans.specs.Plans.{BudgetView, PlannedView}
 use Rattle.held_nodes.specs.Held.{ForwardView, IsForward, first_work, held_line, is_held}
 use Rattle.held_nodes.specs.Moves.{IsFinishFault, IsReadySum, copies_from, copies_of, nothing_held, planned_of}
 use Rattle.list_facts.specs.Lists.{IsAmong}

@@ -3,10 +3,10 @@ use Rattle.std.specs.Prelude.{◌≡◌, ℕ, ◌+◌, ◌<◌, ◌≤◌, lengt
 use Rattle.claim_check.specs.Budgets.{Measures, eager_lines, eager_gates}
 use Rattle.claim_check.specs.Measures.{IsWithin}
 use Rattle.claim_check.specs.Settled.{SettledView}
-use Rattle.gate_split.specs.declared.plan.PlanFault.{PlanFault}
-use Rattle.gate_split.specs.declared.plan.PlanFault.TheVariants.{Lines, Gates, Memory}
+use Rattle.circuit_plans.specs.declared.plan.PlanFault.{PlanFault}
+use Rattle.circuit_plans.specs.declared.plan.PlanFault.TheVariants.{Lines, Gates, Memory}
 use Rattle.gate_split.specs.Costs.{most_gates}
-use Rattle.gate_split.specs.Plans.{BudgetView, PlannedView}
+use Rattle.circuit_plans.specs.Plans.{BudgetView, PlannedView}
 use Rattle.held_nodes.specs.Plans.{HasPortLines, wanted_lines}
 
 -- how many inputs and outputs it has

@@ -12,10 +12,10 @@ ghost use Rattle.held_nodes.specs.Held.{IsForward, is_held};
 ghost use Rattle.claim_check.specs.Settled.{IsSettled};
 ghost use Rattle.sum_graph.specs.Plain.{plain_of};
 
+use circuit_plans::PlanFault;
 use claim_check::Settled;
 use dependency_graph::{Base, Node};
 use exclusive_sums::{Poly, merge};
-use gate_split::PlanFault;
 use held_nodes::Forward;
 use std::alloc::Global;
 

@@ -6,16 +6,16 @@ ghost use Rattle.eager_cleanup.specs.Eager.{IsEagerFault, IsWithinEager};
 ghost use Rattle.eager_cleanup.specs.inside.Known.{AreFirstValues, AreInputValues};
 ghost use Rattle.eager_cleanup.specs.inside.Sweeps.{IsSwept};
 ghost use Rattle.gate_split.specs.Costs.{IsRoomyFlip};
-ghost use Rattle.gate_split.specs.Plans.{MapsCleanly};
+ghost use Rattle.circuit_plans.specs.Plans.{MapsCleanly};
 ghost use Rattle.held_nodes.specs.Moves.{roles_of_plan};
 ghost use Rattle.sum_graph.specs.Plain.{plain_of};
 ghost use Rattle.held_nodes.specs.Plans.{HasPorts, IsInBudget};
 
 use crate::cleaning::clean_operands;
 use crate::known::{add_value, input_values};
+use circuit_plans::{Budget, PlanFault, Planned};
 use claim_check::Settled;
 use exclusive_sums::Poly;
-use gate_split::{Budget, PlanFault, Planned};
 use held_nodes::Forward;
 use std::alloc::Global;
 use sum_graph::{SumGraph, plain_graphs_are_alike};

@@ -1,8 +1,8 @@
 -- The gates of a laid plan, as what its format's compiled files have to mean.
 use Rattle.std.proofs.Common.{◌≡◌, ◌≤◌, List, length, sym, subst}
-use Rattle.gate_split.specs.declared.plan.TheConstants.{MOST_LINES, MOST_GATES}
-use Rattle.gate_split.specs.declared.roles.Roles.{Roles}
-use Rattle.gate_split.specs.Plans.{LaidView, lines_in, roles_of}
+use Rattle.circuit_plans.specs.declared.plan.TheConstants.{MOST_LINES, MOST_GATES}
+use Rattle.circuit_plans.specs.declared.roles.Roles.{Roles}
+use Rattle.circuit_plans.specs.Plans.{LaidView, lines_in, roles_of}
 use Rattle.mct_circuit.specs.Gates.{CircuitView, GateView, AreGatesOn, AreNarrow}
 use Rattle.format_parts.specs.Compiled.{ForEachCompiled}
 

@@ -1,4 +1,3 @@
-pub mod BorrowedLemmas
 pub mod BuildingLemmas
 pub mod CostLemmas
 pub mod EffectLemmas

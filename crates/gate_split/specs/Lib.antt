@@ -1,5 +1,3 @@
 pub mod Costs
-pub mod Limits
-pub mod Plans
 pub mod Split
 pub mod inside

@@ -1,6 +1,4 @@
 ghost use Rattle.gate_split.specs.Costs.{SplitCosts, NarrowStay, RoomyFlipsAreSplit};
-ghost use Rattle.gate_split.specs.Limits.{LimitsAre};
-ghost use Rattle.gate_split.specs.Plans.{CleanCircuitsBorrow};
 
 /// The law of costs: a flip of `k` positive controls, at least 3, takes `4 * (k - 2)` gates where
 /// `k - 2` lines are idle, and otherwise 10 for 4 controls and `8 * (k - 3)` for more; so never
@@ -20,15 +18,4 @@ pub fn narrow_stay()
 /// becomes at most `10 * k + 1` gates. The function does nothing: its contract is the law.
 pub fn roomy_flips_are_split()
     ensures { RoomyFlipsAreSplit }
-{}
-
-/// The law of borrowed lines: gates that are clean without borrowed lines are clean beside any
-/// number of them. The function does nothing: its contract is the law.
-pub fn clean_circuits_borrow()
-    ensures { CleanCircuitsBorrow }
-{}
-
-/// The law of limits: what number each is. The function does nothing: its contract is the law.
-pub fn limits_are()
-    ensures { LimitsAre }
 {}

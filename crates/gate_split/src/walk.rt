@@ -10,36 +10,9 @@ ghost use Rattle.gate_split.specs.inside.Walks.{IsOver};
 use crate::fault::{GateRefusal, SplitFault};
 use crate::idle::LineMarks;
 use crate::piece::push_piece;
+use circuit_plans::Narrow;
 use mct_circuit::{Circuit, Control, Gate, GateFault, Op};
 use std::alloc::Global;
-use std::marker::Model;
-
-/// A circuit whose gates are all flips with at most two controls, all positive. Only `split` makes
-/// one. Contracts see it as the circuit.
-#[derive(Drop)]
-pub struct Narrow {
-    circuit: Circuit,
-}
-
-impl Model for Narrow {
-    ghost use Rattle.mct_circuit.specs.Gates.{CircuitView, AreNarrow};
-
-    ghost Value = { CircuitView };
-
-    ghost view = { λ n. n.circuit };
-
-    ghost invariant = { λ n. AreNarrow n.circuit.gates };
-}
-
-impl Narrow {
-    /// The circuit. It takes no memory.
-    pub fn circuit(&self) -> &Circuit
-        ensures circuit { result.now ≡ self.now }
-        ensures narrow { AreNarrow self.now.gates }
-    {
-        &self.circuit
-    }
-}
 
 /// The circuit of narrow gates on `lines` lines that does what `circuit` does, whatever the lines
 /// hold that `circuit` does not use. Each gate becomes the list of Barenco and others (1995): a
@@ -71,7 +44,7 @@ pub fn split(alloc: Global, circuit: &Circuit, lines: u32, limit: u64) -> Result
         }
         place += 1;
     }
-    Ok(Narrow { circuit: narrow })
+    Ok(Narrow::new(narrow))
 }
 
 // Appends the gates in place of one, by way of the empty `piece`. A narrow gate is copied once and

@@ -13,7 +13,7 @@ use Rattle.qasm_format.specs.declared.words.Use.TheVariants.{Barrier, Flip}
 use Rattle.qasm_format.specs.declared.spots.Spot.{Spot}
 use Rattle.qasm_format.specs.declared.spots.Spot.TheVariants.{Line, Whole}
 use Rattle.mct_circuit.specs.Gates.{GateView, IsGateOn, AreGatesOn}
-use Rattle.gate_split.specs.declared.plan.TheConstants.{MOST_LINES}
+use Rattle.circuit_plans.specs.declared.plan.TheConstants.{MOST_LINES}
 use Rattle.qasm_lexer.specs.Tokens.{Left}
 use Rattle.qasm_format.specs.Registers.{IsLaid, lines_of_all}
 use Rattle.qasm_format.specs.Stages.{Said, starts, wants_argument, behind_name, wants_index, behind_argument, StandForGates, nothing_said}

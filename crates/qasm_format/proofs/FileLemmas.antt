@@ -2,7 +2,7 @@
 use Rattle.std.proofs.Common.{◌≡◌, ℕ, ◌≤◌, false, List, [], length, Result, Ok, Err, inl, inr, sym, ap, ◌∙◌, subst, arith}
 use Rattle.std.specs.Result.{IfOk}
 use Rattle.mct_circuit.specs.Gates.{GateView, AreGatesOn}
-use Rattle.gate_split.specs.declared.plan.TheConstants.{MOST_GATES}
+use Rattle.circuit_plans.specs.declared.plan.TheConstants.{MOST_GATES}
 use Rattle.qasm_format.specs.declared.file.QasmFault.{QasmFault}
 use Rattle.qasm_format.specs.declared.said.Said.{Said as Held}
 use Rattle.qasm_lexer.specs.Tokens.{Left, whole, BeginsWith}

@@ -5,7 +5,7 @@ use Rattle.std.proofs.lemmas.Bool.{cases_lt, lt-ltb}
 use Rattle.qasm_format.specs.Registers.{IsRegister, HaveDifferentNames, lines_of_all}
 use Rattle.qasm_format.specs.Converted.{kept_lines, added_register, converted_registers, converted_place}
 use Rattle.qasm_format.proofs.WordLemmas.{IsName-register_name, IsName-q}
-use Rattle.gate_split.specs.declared.roles.Role.TheVariants.{Borrowed}
+use Rattle.circuit_plans.specs.declared.roles.Role.TheVariants.{Borrowed}
 use Rattle.qasm_format.proofs.WrittenLemmas.{IsPlaceOf, HasPlaces}
 use Rattle.qasm_format.proofs.RoleLemmas.{differ, ltb-above}
 

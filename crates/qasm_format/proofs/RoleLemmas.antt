@@ -5,10 +5,10 @@ use Rattle.std.specs.List.{AllByRecursion}
 use Rattle.std.proofs.lemmas.Bool.{false≢true, cond-false, ne_eqb, lt-ltb, cases_lt}
 use Rattle.std.proofs.lemmas.Bool.Decides.{nat_tests}
 use Rattle.list_facts.proofs.AllLemmas.{AllByRecursion-append}
-use Rattle.gate_split.specs.declared.roles.Roles.{Roles}
-use Rattle.gate_split.specs.declared.roles.Role.{Role}
-use Rattle.gate_split.specs.declared.roles.Role.TheVariants.{Input, Output, Work, Borrowed}
-use Rattle.gate_split.specs.Plans.{lines_in, first_of, role_at, number_at}
+use Rattle.circuit_plans.specs.declared.roles.Roles.{Roles}
+use Rattle.circuit_plans.specs.declared.roles.Role.{Role}
+use Rattle.circuit_plans.specs.declared.roles.Role.TheVariants.{Input, Output, Work, Borrowed}
+use Rattle.circuit_plans.specs.Plans.{lines_in, first_of, role_at, number_at}
 use Rattle.qasm_format.specs.declared.file.Register.{Register}
 use Rattle.qasm_format.specs.Registers.{IsLaid, IsRegister, HaveDifferentNames, lines_of_all}
 use Rattle.qasm_format.specs.Compiled.{register_name, register_of, registers_of, argument_of}

@@ -11,7 +11,7 @@ use Rattle.std.proofs.lemmas.List.{length_push}
 use Rattle.list_facts.specs.Lists.{IsAmong}
 use Rattle.format_parts.specs.Names.{has_word}
 use Rattle.mct_circuit.specs.Gates.{GateView}
-use Rattle.gate_split.specs.declared.plan.TheConstants.{MOST_GATES, MOST_LINES}
+use Rattle.circuit_plans.specs.declared.plan.TheConstants.{MOST_GATES, MOST_LINES}
 use Rattle.revc_base.specs.declared.limits.TheConstants.{MOST_NAME_BYTES}
 use Rattle.qasm_format.specs.declared.file.Register.{Register}
 use Rattle.qasm_format.specs.declared.file.QasmFault.{QasmFault}

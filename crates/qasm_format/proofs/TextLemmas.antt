@@ -10,9 +10,9 @@ use Rattle.mct_circuit.specs.declared.gate.Op.TheVariants.{Flip}
 use Rattle.mct_circuit.specs.Gates.{GateView, AreNarrow, lines_of, targets_of}
 use Rattle.format_parts.specs.Flips.{controls_text, flip_text, gates_text}
 use Rattle.format_parts.proofs.FlipLemmas.{gates_are_lines}
-use Rattle.gate_split.specs.declared.roles.Roles.{Roles}
-use Rattle.gate_split.specs.declared.roles.Role.{Role}
-use Rattle.gate_split.specs.declared.roles.Role.TheVariants.{Input, Output, Work, Borrowed}
+use Rattle.circuit_plans.specs.declared.roles.Roles.{Roles}
+use Rattle.circuit_plans.specs.declared.roles.Role.{Role}
+use Rattle.circuit_plans.specs.declared.roles.Role.TheVariants.{Input, Output, Work, Borrowed}
 use Rattle.qasm_format.specs.Statements.{Statement, Argument, argument_words, bracketed, parted, words_of}
 use Rattle.qasm_format.specs.declared.file.Register.{Register}
 use Rattle.qasm_format.specs.Written.{gate_word, gate_statement, declaration, line_text, file_text}

@@ -1,10 +1,10 @@
 -- The file of a compiled circuit: its registers by the roles of its lines, and its text.
 use Rattle.std.specs.Prelude.{◌≡◌, ◌==◌, ℕ, if◌then◌else◌, List, [], ◌∷◌, ◌++◌, codes}
 use Rattle.std.specs.Fmt.{decimal}
-use Rattle.gate_split.specs.declared.roles.Roles.{Roles}
-use Rattle.gate_split.specs.declared.roles.Role.{Role}
-use Rattle.gate_split.specs.declared.roles.Role.TheVariants.{Input, Output, Work, Borrowed}
-use Rattle.gate_split.specs.Plans.{role_at, number_at}
+use Rattle.circuit_plans.specs.declared.roles.Roles.{Roles}
+use Rattle.circuit_plans.specs.declared.roles.Role.{Role}
+use Rattle.circuit_plans.specs.declared.roles.Role.TheVariants.{Input, Output, Work, Borrowed}
+use Rattle.circuit_plans.specs.Plans.{role_at, number_at}
 use Rattle.mct_circuit.specs.Gates.{GateView}
 use Rattle.format_parts.specs.Compiled.{ForEachCompiled}
 use Rattle.qasm_format.specs.Statements.{Argument, one_of}

@@ -1,7 +1,7 @@
 -- The file of a circuit that is no compiled one: its lines are those of `q`, and an added line is that of `dirty`.
 use Rattle.std.specs.Prelude.{◌≡◌, ℕ, ◌-◌, ◌≤◌, nat_lt, Bool, true, if◌then◌else◌, List, [], ◌∷◌, length, codes}
 use Rattle.std.specs.Fmt.{decimal}
-use Rattle.gate_split.specs.declared.plan.TheConstants.{MOST_LINES, MOST_GATES}
+use Rattle.circuit_plans.specs.declared.plan.TheConstants.{MOST_LINES, MOST_GATES}
 use Rattle.mct_circuit.specs.Gates.{GateView, AreGatesOn, AreNarrow}
 use Rattle.qasm_format.specs.declared.file.Register.{Register}
 use Rattle.qasm_format.specs.Statements.{Argument, one_of}

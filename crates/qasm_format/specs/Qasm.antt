@@ -2,7 +2,7 @@
 use Rattle.std.specs.Prelude.{◌≡◌, ℕ, ◌≤◌, List, [], length}
 use Rattle.std.specs.List.{AllByRecursion}
 use Rattle.mct_circuit.specs.Gates.{GateView, AreGatesOn}
-use Rattle.gate_split.specs.declared.plan.TheConstants.{MOST_LINES, MOST_GATES}
+use Rattle.circuit_plans.specs.declared.plan.TheConstants.{MOST_LINES, MOST_GATES}
 use Rattle.qasm_format.specs.declared.file.Register.{Register}
 use Rattle.qasm_lexer.specs.Tokens.{Left, Moves, whole}
 use Rattle.qasm_format.specs.Registers.{IsRegister, HaveDifferentNames, lines_of_all}

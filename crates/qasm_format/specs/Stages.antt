@@ -3,7 +3,7 @@ use Rattle.std.specs.Prelude.{◌≡◌, ℕ, ◌+◌, ◌<◌, ◌≤◌, Bool,
 use Rattle.std.specs.List.{AllByRecursion, range_with_len}
 use Rattle.list_facts.specs.Lists.{IsAmong}
 use Rattle.mct_circuit.specs.Gates.{GateView, HasDifferentLines, flip_of}
-use Rattle.gate_split.specs.declared.plan.TheConstants.{MOST_LINES, MOST_GATES}
+use Rattle.circuit_plans.specs.declared.plan.TheConstants.{MOST_LINES, MOST_GATES}
 use Rattle.revc_base.specs.declared.limits.TheConstants.{MOST_NAME_BYTES}
 use Rattle.qasm_format.specs.declared.words.RegisterKind.{RegisterKind}
 use Rattle.qasm_format.specs.declared.words.RegisterKind.TheVariants.{Qubits, Bits}

@@ -1,6 +1,6 @@
 // A file as it was read, and why a text means none.
 ghost use Rattle.std.specs.Prelude.{◌≡◌};
-ghost use Rattle.gate_split.specs.declared.plan.TheConstants.{MOST_GATES};
+ghost use Rattle.circuit_plans.specs.declared.plan.TheConstants.{MOST_GATES};
 ghost use Rattle.qasm_format.specs.Registers.{lines_of_all};
 
 use mct_circuit::Circuit;
@@ -25,7 +25,7 @@ pub struct QasmFile {
 
 impl Model for QasmFile {
     ghost use Rattle.std.specs.Prelude.{◌≡◌};
-    ghost use Rattle.gate_split.specs.declared.plan.TheConstants.{MOST_GATES};
+    ghost use Rattle.circuit_plans.specs.declared.plan.TheConstants.{MOST_GATES};
     ghost use Rattle.qasm_format.specs.Qasm.{QasmView};
     ghost use Rattle.qasm_format.specs.Registers.{lines_of_all};
 

@@ -2,7 +2,7 @@
 ghost use Rattle.std.specs.Prelude.{◌≡◌, ℕ, ◌+◌, ◌≤◌, [], ◌∷◌, ◌++◌, false};
 ghost use Rattle.std.specs.Prelude.{None, IfOk, IfSome, OnOk, OnErr};
 ghost use Rattle.list_facts.specs.Lists.{IsAmong};
-ghost use Rattle.gate_split.specs.declared.plan.TheConstants.{MOST_LINES};
+ghost use Rattle.circuit_plans.specs.declared.plan.TheConstants.{MOST_LINES};
 ghost use Rattle.qasm_format.specs.Registers.{IsLaid, lines_of_all};
 ghost use Rattle.qasm_format.specs.Stages.{HasRoom, kind_registers};
 ghost use Rattle.qasm_format.specs.inside.Names.{registers_at};

@@ -1,13 +1,13 @@
 // The places of the lines of a written file.
 ghost use Rattle.std.specs.Prelude.{◌≡◌, ◌<◌, ◌≤◌};
 ghost use Rattle.std.specs.Fmt.{decimal};
-ghost use Rattle.gate_split.specs.declared.plan.TheConstants.{MOST_LINES};
+ghost use Rattle.circuit_plans.specs.declared.plan.TheConstants.{MOST_LINES};
 ghost use Rattle.qasm_format.specs.Statements.{one_of};
 ghost use Rattle.qasm_format.specs.Compiled.{register_name};
 ghost use Rattle.qasm_format.specs.Converted.{kept_lines};
 ghost use Rattle.qasm_format.specs.inside.Naming.{count_of, place_by};
 
-use gate_split::{Role, Roles};
+use circuit_plans::{Role, Roles};
 
 /// How many lines a file has, and in which registers they stand: by their roles, or by their
 /// numbers, the last one in a register of its own where it was added.

@@ -2,7 +2,7 @@
 ghost use Rattle.std.specs.Prelude.{◌≡◌, ◌≢◌, ◌⊎◌, ℕ, ◌+◌, ◌<◌, ◌≤◌, ◌^◌, ◌∷◌, [], ◌++◌, true};
 ghost use Rattle.std.specs.Prelude.{false, length, codes, OnOk, IfOk, IfErr, IsErrOf};
 ghost use Rattle.std.specs.List.{AllByRecursion};
-ghost use Rattle.gate_split.specs.declared.plan.TheConstants.{MOST_LINES, MOST_GATES};
+ghost use Rattle.circuit_plans.specs.declared.plan.TheConstants.{MOST_LINES, MOST_GATES};
 ghost use Rattle.mct_circuit.specs.Gates.{HasDifferentLines, AreGatesOn};
 ghost use Rattle.qasm_format.specs.Registers.{lines_of_all};
 ghost use Rattle.qasm_format.specs.Stages.{starts, wants, wants_name, wants_argument, head};
@@ -24,7 +24,7 @@ use crate::names::{Declared, Span};
 use crate::said::Said;
 use crate::spots::{Spot, all_different, count_of};
 use crate::words::{RegisterKind, Use, is_free, is_word, kind_of, use_of};
-use gate_split::{MOST_GATES, MOST_LINES};
+use circuit_plans::{MOST_GATES, MOST_LINES};
 use mct_circuit::{Circuit, Control, Gate, Op};
 use qasm_lexer::{MOST_DIGITS, Token, Tokens, is_identifier, is_number};
 use revc_base::limits::MOST_NAME_BYTES;

@@ -1,13 +1,13 @@
 // What arguments stand for.
 ghost use Rattle.std.specs.Prelude.{◌≡◌, ℕ, ◌<◌, ◌≤◌, ◌^◌, ◌==◌, true, false, None, IfSome};
 ghost use Rattle.std.specs.List.{AllByRecursion, list_any};
-ghost use Rattle.gate_split.specs.declared.plan.TheConstants.{MOST_LINES};
+ghost use Rattle.circuit_plans.specs.declared.plan.TheConstants.{MOST_LINES};
 ghost use Rattle.qasm_format.specs.Registers.{line_at, AreSpread};
 ghost use Rattle.qasm_format.specs.inside.Spread.{are_different, shared, shared_size};
 ghost use Rattle.qasm_format.specs.inside.Spread.{AreAllDifferent, MeetSomewhere};
 ghost use Rattle.qasm_format.specs.inside.Says.{SpotBelow};
 
-use gate_split::MOST_LINES;
+use circuit_plans::MOST_LINES;
 
 // One line, or a register with its first line and its size.
 #[derive(Clone, Copy)]

@@ -1,8 +1,8 @@
 // The writer of files. Each function puts one part of the text through the buffer.
 ghost use Rattle.std.specs.Prelude.{◌≡◌, ◌<◌, ◌≤◌, ◌++◌, true, length, codes};
 ghost use Rattle.mct_circuit.specs.Gates.{AreNarrow};
-ghost use Rattle.gate_split.specs.declared.plan.TheConstants.{MOST_LINES, MOST_GATES};
-ghost use Rattle.gate_split.specs.Plans.{roles_of};
+ghost use Rattle.circuit_plans.specs.declared.plan.TheConstants.{MOST_LINES, MOST_GATES};
+ghost use Rattle.circuit_plans.specs.Plans.{roles_of};
 ghost use Rattle.revc_io.specs.Faults.{HasCause};
 ghost use Rattle.revc_io.specs.Passing.{Gathers, Writes};
 ghost use Rattle.format_parts.specs.Flips.{gates_text};
@@ -18,8 +18,8 @@ ghost use Rattle.qasm_format.specs.inside.Parts.{numbered_registers_text, header
 ghost use Rattle.qasm_format.specs.inside.Parts.{flip_texts};
 
 use crate::naming::{Naming, kept_lines, register_name};
+use circuit_plans::{Laid, Narrow, Role, Roles};
 use format_parts::{FlipWriter, put_gates};
-use gate_split::{Laid, Narrow, Role, Roles};
 use mct_circuit::Circuit;
 use revc_io::{Buffer, Failed, Sink, put_decimal};
 

@@ -17,7 +17,7 @@ use Rattle.command_answers.specs.declared.fault.CircuitRefusal.TheVariants as ci
 use Rattle.command_answers.specs.declared.fault.Fault.{Fault}
 use Rattle.command_answers.specs.declared.fault.Fault.TheVariants as faults
 use Rattle.command_answers.specs.declared.fault.Refusal.TheVariants as refusals
-use Rattle.gate_split.specs.Plans.{lines_in}
+use Rattle.circuit_plans.specs.Plans.{lines_in}
 use Rattle.mct_circuit.specs.Gates.{AreGatesOn, CircuitView}
 use Rattle.program_commands.specs.Clean.{ComputesOn, IsCleanCircuit}
 use Rattle.program_commands.specs.Outcomes.{IsSettlingFault, IsTextFault}

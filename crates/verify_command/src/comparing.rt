@@ -1,6 +1,6 @@
 // A circuit that was read, compared with the settled graph of a program's tape.
 ghost use Rattle.std.specs.Prelude.{◌≡◌, ◌≤◌, IfErr, OnOk};
-ghost use Rattle.gate_split.specs.declared.plan.TheConstants.{MOST_BORROWED};
+ghost use Rattle.circuit_plans.specs.declared.plan.TheConstants.{MOST_BORROWED};
 ghost use Rattle.circuit_verify.specs.Comparisons.{of_tape};
 ghost use Rattle.circuit_verify.specs.Verdicts.{IsVerified};
 ghost use Rattle.claim_check.specs.Settled.{IsSettledOf};

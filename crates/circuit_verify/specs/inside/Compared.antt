@@ -3,7 +3,7 @@ use Rattle.std.specs.Prelude.{◌≡◌, ℕ, ◌<◌, ◌≤◌, ◌^◌, List,
 use Rattle.revs_tape.specs.Tapes.{AreWidths}
 use Rattle.claim_check.specs.Settled.{SettledView, IsSettled}
 use Rattle.mct_circuit.specs.Gates.{CircuitView, AreGatesOn}
-use Rattle.gate_split.specs.declared.plan.TheConstants.{MOST_BORROWED}
+use Rattle.circuit_plans.specs.declared.plan.TheConstants.{MOST_BORROWED}
 use Rattle.circuit_verify.specs.Comparisons.{Comparison, of_settled}
 use Rattle.circuit_verify.specs.Verdicts.{IsComparable}
 

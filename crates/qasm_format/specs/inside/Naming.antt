@@ -1,6 +1,6 @@
 -- How many lines a written file has, its registers, and the place of each line.
 use Rattle.std.specs.Prelude.{ℕ, List}
-use Rattle.gate_split.specs.Plans.{lines_in}
+use Rattle.circuit_plans.specs.Plans.{lines_in}
 use Rattle.qasm_format.specs.declared.file.Register.{Register}
 use Rattle.qasm_format.specs.declared.naming.Naming.{Naming}
 use Rattle.qasm_format.specs.declared.naming.Naming.TheVariants.{ByRole, ByNumber}

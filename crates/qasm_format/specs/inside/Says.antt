@@ -14,7 +14,7 @@ use Rattle.qasm_format.specs.declared.words.Use.{Use}
 use Rattle.qasm_format.specs.declared.words.Use.TheVariants.{Barrier, Flip}
 use Rattle.qasm_format.specs.declared.words.RegisterKind.{RegisterKind}
 use Rattle.mct_circuit.specs.Gates.{GateView, AreGatesOn}
-use Rattle.gate_split.specs.declared.plan.TheConstants.{MOST_LINES, MOST_GATES}
+use Rattle.circuit_plans.specs.declared.plan.TheConstants.{MOST_LINES, MOST_GATES}
 use Rattle.qasm_lexer.specs.Tokens.{is_identifier, is_number, Left, Takes}
 use Rattle.qasm_lexer.specs.declared.words.TheConstants.{MOST_DIGITS}
 use Rattle.qasm_format.specs.Registers.{lines_of_all}

@@ -1,4 +1,4 @@
-use Rattle.gate_split.specs.declared.plan.TheConstants.{MOST_GATES}
+use Rattle.circuit_plans.specs.declared.plan.TheConstants.{MOST_GATES}
 use Rattle.std.proofs.lemmas.Result.{IfOk-weaker}
 use Rattle.circuit_commands.proofs.ConvertLemmas.{memory_stops, split_marked}
 use Rattle.revc_base.proofs.ResultLemmas.{no_value, passes_on}

@@ -1,5 +1,5 @@
 use Rattle.std.proofs.Common.{subst, sym}
-use Rattle.gate_split.specs.Plans.{BudgetView}
+use Rattle.circuit_plans.specs.Plans.{BudgetView}
 use Rattle.eager_cleanup.specs.inside.Sweeps.{IsMade}
 use Rattle.eager_cleanup.proofs.BoundLemmas.{next_fault, next_ready}
 use Rattle.eager_cleanup.proofs.SweepLemmas.{swept_toggled}

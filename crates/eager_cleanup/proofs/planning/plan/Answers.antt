@@ -1,6 +1,6 @@
 use Rattle.std.proofs.Common.{◌≡◌, ap, subst}
 use Rattle.std.proofs.lemmas.Result.{IfErr-weaker, IfOk-weaker}
-use Rattle.gate_split.specs.Plans.{BudgetView}
+use Rattle.circuit_plans.specs.Plans.{BudgetView}
 use Rattle.held_nodes.specs.Held.{ForwardView}
 use Rattle.held_nodes.specs.Moves.{IsFinishFault, planned_of}
 use Rattle.eager_cleanup.specs.Eager.{IsEagerFault, IsWithinEager}

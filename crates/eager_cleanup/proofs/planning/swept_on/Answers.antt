@@ -1,7 +1,7 @@
 use Rattle.std.proofs.Common.{[], ◌+◌, subst, sym}
 use Rattle.eager_cleanup.specs.inside.Sweeps.{IsSwept}
 use Rattle.eager_cleanup.proofs.BoundLemmas.{has_port_lines}
-use Rattle.gate_split.specs.Plans.{BudgetView}
+use Rattle.circuit_plans.specs.Plans.{BudgetView}
 use Rattle.revc_base.proofs.ResultLemmas.{no_value, passes_on}
 use Rattle.eager_cleanup.proofs.planning.swept_on.Goals as goal
 

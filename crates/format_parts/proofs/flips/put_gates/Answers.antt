@@ -3,7 +3,7 @@ use Rattle.std.specs.List.{AllByRecursion}
 use Rattle.std.proofs.lemmas.List.{drop_all}
 use Rattle.list_facts.proofs.CutLemmas.{drop_got}
 use Rattle.mct_circuit.specs.Gates.{IsNarrow, IsGateOn, lines_of}
-use Rattle.gate_split.specs.declared.plan.TheConstants.{MOST_LINES}
+use Rattle.circuit_plans.specs.declared.plan.TheConstants.{MOST_LINES}
 use Rattle.revc_io.proofs.WritingLoopLemmas.{writing_begun, writing_more, writing_done, writing_failed, fault_later, no_fault}
 use Rattle.format_parts.specs.Flips.{gate_text, gates_text}
 use Rattle.format_parts.proofs.FlipLemmas.{at_place}

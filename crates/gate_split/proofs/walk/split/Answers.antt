@@ -4,8 +4,8 @@ use Rattle.gate_split.proofs.WalkLemmas.{on_more, gate_at, one_more, no_idle_at,
 use Rattle.revc_base.proofs.ResultLemmas.{no_value}
 use Rattle.gate_split.proofs.walk.split.Goals as goal
 
-pub invariant_of-result : goal.invariant_of-result
-invariant_of-result c =
+pub new-requires-2 : goal.new-requires-2
+new-requires-2 c =
     let placed = rw (← c.gates-gate-items.ensures.gates) at (on_more _ c.args.lines _ c.requires c.gates-gate-items.ensures.placed) in
     (walked c.args.lines c.args.limit c.loop-gate.place c.loop-gate.narrow.gates c.gates-gate-items.result.now c.loop-gate.gate-index placed
     c.loop-gate-test.false c.loop-gate.invariant.0).narrow tt
@@ -13,8 +13,8 @@ invariant_of-result c =
 pub returns-clause-map : goal.returns-clause-map
 returns-clause-map c =
     let placed = rw (← c.gates-gate-items.ensures.gates) at (on_more _ c.args.lines _ c.requires c.gates-gate-items.ensures.placed) in
-    λ bits l. rw (← c.gates-gate-items.ensures.gates) ((walked c.args.lines c.args.limit c.loop-gate.place c.loop-gate.narrow.gates
-    c.gates-gate-items.result.now c.loop-gate.gate-index placed c.loop-gate-test.false c.loop-gate.invariant.0).effect bits l tt)
+    λ bits l. rw c.new-2.ensures (rw (← c.gates-gate-items.ensures.gates) ((walked c.args.lines c.args.limit c.loop-gate.place c.loop-gate.narrow.gates
+    c.gates-gate-items.result.now c.loop-gate.gate-index placed c.loop-gate-test.false c.loop-gate.invariant.0).effect bits l tt))
 
 pub append_split-requires-clause-gate : goal.append_split-requires-clause-gate
 append_split-requires-clause-gate c =
@@ -53,8 +53,8 @@ returns-in-Err-clause-over c =
 
 pub returns-clause-gates : goal.returns-clause-gates
 returns-clause-gates c =
-    rw (← c.gates-gate-items.ensures.gates) (walk_ends c.args.lines c.args.limit c.loop-gate.place c.loop-gate.narrow.gates c.gates-gate-items.result.now
-    c.loop-gate.gate-index c.loop-gate-test.false c.loop-gate.invariant.0)
+    rw c.new-2.ensures (rw (← c.gates-gate-items.ensures.gates) (walk_ends c.args.lines c.args.limit c.loop-gate.place c.loop-gate.narrow.gates c.gates-gate-items.result.now
+    c.loop-gate.gate-index c.loop-gate-test.false c.loop-gate.invariant.0))
 
 pub returns-in_err-marks-clause-gates : goal.returns-in_err-marks-clause-gates
 returns-in_err-marks-clause-gates c = no_value c.from_residual.result _ _ c.from_residual.ensures.1

@@ -1,5 +1,5 @@
 use Rattle.revc_io.proofs.PassingLemmas.{begun, step, failed_call, last_call}
-use Rattle.gate_split.specs.declared.roles.Role.TheVariants.{Work, Borrowed}
+use Rattle.circuit_plans.specs.declared.roles.Role.TheVariants.{Work, Borrowed}
 use Rattle.qasm_format.specs.Compiled.{register_name}
 use Rattle.qasm_format.specs.inside.Parts.{register_text}
 use Rattle.qasm_format.proofs.writer.put_last_registers.Goals as goal

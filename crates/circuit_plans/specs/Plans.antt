@@ -1,9 +1,9 @@
 -- Budgets and plans as contracts see them, the roles of a plan's lines, and clean circuits.
 use Rattle.std.specs.Prelude.{◌≡◌, ℕ, ◌+◌, ◌-◌, Bool, false, nat_lt, if◌then◌else◌, List, ◌++◌, length, replicate}
 use Rattle.mct_circuit.specs.Gates.{GateView, CircuitView, AreGatesOn, line_map}
-use Rattle.gate_split.specs.declared.roles.Roles.{Roles}
-use Rattle.gate_split.specs.declared.roles.Role.{Role}
-use Rattle.gate_split.specs.declared.roles.Role.TheVariants.{Input, Output, Work, Borrowed}
+use Rattle.circuit_plans.specs.declared.roles.Roles.{Roles}
+use Rattle.circuit_plans.specs.declared.roles.Role.{Role}
+use Rattle.circuit_plans.specs.declared.roles.Role.TheVariants.{Input, Output, Work, Borrowed}
 
 pub record BudgetView : Type 0 where
   pub lines : ℕ

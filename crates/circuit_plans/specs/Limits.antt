@@ -1,6 +1,6 @@
 -- The limits as numbers.
 use Rattle.std.specs.Prelude.{◌≡◌}
-use Rattle.gate_split.specs.declared.plan.TheConstants.{MOST_LINES, MOST_GATES, MOST_BORROWED}
+use Rattle.circuit_plans.specs.declared.plan.TheConstants.{MOST_LINES, MOST_GATES, MOST_BORROWED}
 
 -- the number of each limit
 pub record LimitsAre : Type 0 where

@@ -1,7 +1,7 @@
 // The roles of a plan's lines.
 ghost use Rattle.std.specs.Prelude.{◌≡◌, ◌<◌, ◌≤◌};
-ghost use Rattle.gate_split.specs.declared.plan.TheConstants.{MOST_LINES};
-ghost use Rattle.gate_split.specs.Plans.{lines_in, role_at, number_at};
+ghost use Rattle.circuit_plans.specs.declared.plan.TheConstants.{MOST_LINES};
+ghost use Rattle.circuit_plans.specs.Plans.{lines_in, role_at, number_at};
 
 /// How many lines have each role. The input lines come first, then the output lines, the work
 /// lines, which start at 0 and are left at 0, and the borrowed lines, which hold any bits and are

@@ -7,6 +7,9 @@ pub enum How {
     Auto,
     /// The eager plan alone.
     Eager,
+    /// Over the lean graph, the better of the ready plan and pebbling: the one of fewer Toffoli
+    /// gates, of as many that of fewer lines, then that of fewer gates, and else the ready one.
+    Lean,
     /// Pebbling, with blocks from the least power of two that has all nodes down by halves to 1.
     Pebble,
 }

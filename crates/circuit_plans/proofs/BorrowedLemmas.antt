@@ -3,7 +3,7 @@ use Rattle.std.proofs.Common.{◌≡◌, ◌+◌, Bool, false, List, [], ◌++�
 use Rattle.std.proofs.lemmas.List.{append_assoc, length-append, length-replicate}
 use Rattle.mct_circuit.specs.Gates.{GateView, AreGatesOn, line_map}
 use Rattle.mct_circuit.proofs.MoreLinesLemmas.{more_lines}
-use Rattle.gate_split.specs.Plans.{CleanCircuitsBorrow}
+use Rattle.circuit_plans.specs.Plans.{CleanCircuitsBorrow}
 
 -- gates that take one list of bits to another do so in front of more bits
 in_front : (gates : List GateView) (input these those work more : List Bool) → AreGatesOn (length (input ++ (these ++ work))) gates

@@ -1,12 +1,13 @@
 // What plans share: a budget, a plan before its gates are split, and after.
 ghost use Rattle.std.specs.Prelude.{◌≡◌, ◌+◌, ◌≤◌};
-ghost use Rattle.gate_split.specs.declared.plan.TheConstants.{MOST_LINES, MOST_GATES};
-ghost use Rattle.gate_split.specs.declared.plan.TheConstants.{MOST_BORROWED};
-ghost use Rattle.gate_split.specs.declared.plan.PlanFault.TheVariants.{Memory};
-ghost use Rattle.gate_split.specs.Plans.{roles_of};
+ghost use Rattle.circuit_plans.specs.declared.plan.TheConstants.{MOST_LINES, MOST_GATES};
+ghost use Rattle.circuit_plans.specs.declared.plan.TheConstants.{MOST_BORROWED};
+ghost use Rattle.circuit_plans.specs.declared.plan.PlanFault.TheVariants.{Memory};
+ghost use Rattle.circuit_plans.specs.Plans.{roles_of};
 ghost use Rattle.mct_circuit.specs.Gates.{AreNarrow};
 
-use crate::{Narrow, Roles};
+use crate::narrow::Narrow;
+use crate::roles::Roles;
 use mct_circuit::Circuit;
 use std::alloc::{AllocError, AllocFailed};
 use std::marker::Model;
@@ -31,9 +32,9 @@ pub struct Budget {
 
 impl Model for Budget {
     ghost use Rattle.std.specs.Prelude.{◌≤◌};
-    ghost use Rattle.gate_split.specs.declared.plan.TheConstants.{MOST_LINES, MOST_GATES};
-    ghost use Rattle.gate_split.specs.declared.plan.TheConstants.{MOST_BORROWED};
-    ghost use Rattle.gate_split.specs.Plans.{BudgetView};
+    ghost use Rattle.circuit_plans.specs.declared.plan.TheConstants.{MOST_LINES, MOST_GATES};
+    ghost use Rattle.circuit_plans.specs.declared.plan.TheConstants.{MOST_BORROWED};
+    ghost use Rattle.circuit_plans.specs.Plans.{BudgetView};
 
     ghost Value = { BudgetView };
 
@@ -95,7 +96,7 @@ pub struct Planned {
 
 impl Model for Planned {
     ghost use Rattle.std.specs.Prelude.{◌≡◌, ◌+◌};
-    ghost use Rattle.gate_split.specs.Plans.{PlannedView};
+    ghost use Rattle.circuit_plans.specs.Plans.{PlannedView};
 
     ghost Value = { PlannedView };
 
@@ -172,7 +173,7 @@ pub struct Laid {
 
 impl Model for Laid {
     ghost use Rattle.std.specs.Prelude.{◌≡◌, ◌+◌};
-    ghost use Rattle.gate_split.specs.Plans.{LaidView};
+    ghost use Rattle.circuit_plans.specs.Plans.{LaidView};
 
     ghost Value = { LaidView };
 

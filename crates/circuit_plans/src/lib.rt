@@ -1,0 +1,15 @@
+//! What plans are made of: budgets, which plans are tried, plans before their gates are split and
+//! behind it, the roles of lines, and what a clean circuit is.
+#![tactic(auto)]
+
+mod choice;
+mod law;
+mod narrow;
+mod plan;
+mod roles;
+
+pub use choice::How;
+pub use law::{clean_circuits_borrow, limits_are};
+pub use narrow::Narrow;
+pub use plan::{Budget, Laid, MOST_BORROWED, MOST_GATES, MOST_LINES, PlanFault, Planned};
+pub use roles::{Role, Roles};
