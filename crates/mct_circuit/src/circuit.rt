@@ -12,6 +12,7 @@ use crate::Gate;
 use crate::depth::{greatest_on, set_all};
 use std::alloc::{AllocError, AllocFailed, Global};
 use std::marker::Model;
+use std::mem;
 
 /// Why gates were not appended: the circuit would pass its limit of gates, or memory was refused.
 #[derive(Clone, Copy, Debug, PartialEq, Eq)]
@@ -147,6 +148,10 @@ impl Circuit {
     {
         if self.limit - self.len() < gates.len() as u64 {
             return Err(GateFault::Full);
+        }
+        if self.is_empty() {
+            mem::swap(&mut self.gates, gates);
+            return Ok(());
         }
         self.gates.append(gates)?;
         Ok(())

@@ -65,41 +65,26 @@ impl Circuit {
     pub fn counts(&self) -> Counts
         ensures { result ≡ counts_of self.now.gates }
     {
-        Counts {
-            x: self.flips_under(0),
-            cx: self.flips_under(1),
-            ccx: self.flips_under(2),
-            wide: self.wide_flips(),
-            swap: self.swaps(),
+        let mut counts = Counts::NONE;
+        for gate in self.gates() {
+            counts.x += u64::from(gate.is_flip_under(0));
+            counts.cx += u64::from(gate.is_flip_under(1));
+            counts.ccx += u64::from(gate.is_flip_under(2));
+            counts.wide += u64::from(gate.is_wide_flip());
+            counts.swap += u64::from(gate.op().is_swap());
         }
+        counts
     }
+}
 
-    fn wide_flips(&self) -> u64
-        ensures { result ≡ count_by is_wide_flip self.now.gates }
-    {
-        self.gates()
-            .iter()
-            .filter(|gate| gate.is_wide_flip())
-            .count() as u64
-    }
-
-    fn swaps(&self) -> u64
-        ensures { result ≡ count_by (λ (gate : GateView). is_swap gate.op) self.now.gates }
-    {
-        self.gates()
-            .iter()
-            .filter(|gate| gate.op().is_swap())
-            .count() as u64
-    }
-
-    fn flips_under(&self, controls: usize) -> u64
-        ensures { result ≡ count_by (is_flip_under controls) self.now.gates }
-    {
-        self.gates()
-            .iter()
-            .filter(|gate| gate.is_flip_under(controls))
-            .count() as u64
-    }
+impl Counts {
+    const NONE: Counts = Counts {
+        x: 0,
+        cx: 0,
+        ccx: 0,
+        wide: 0,
+        swap: 0,
+    };
 }
 
 fn flip_weight(controls: u64) -> u64

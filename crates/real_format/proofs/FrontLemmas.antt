@@ -1,6 +1,6 @@
 -- Lines that keep the rules begin a file.
 use Rattle.std.proofs.Common.{◌≡◌, ℕ, ◌≤◌, List, [], ◌∷◌, codes, Option, Some, None, IfSome, refl, sym, ap, ◌∙◌, subst, arith}
-use Rattle.gate_split.specs.declared.plan.TheConstants.{MOST_LINES}
+use Rattle.circuit_plans.specs.declared.plan.TheConstants.{MOST_LINES}
 use Rattle.real_format.specs.declared.header.Head.TheVariants.{Lines, Names}
 use Rattle.real_format.specs.Header.{HeaderView, nothing_said}
 use Rattle.real_format.specs.Real.{Place, in_header, in_gates, at_end, says_more, begins_gates, ends_file, LeadTo, nothing_left, one_more, GoesOn, FrontsGoOn}

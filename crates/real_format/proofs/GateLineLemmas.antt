@@ -9,7 +9,7 @@ use Rattle.mct_circuit.specs.declared.gate.Control.{Control}
 use Rattle.mct_circuit.specs.declared.gate.Op.{Op}
 use Rattle.mct_circuit.specs.Gates.{GateView, targets_of, HasDifferentLines, IsGateOn}
 use Rattle.mct_circuit.specs.Sizes.{has_line}
-use Rattle.gate_split.specs.declared.plan.TheConstants.{MOST_GATES}
+use Rattle.circuit_plans.specs.declared.plan.TheConstants.{MOST_GATES}
 use Rattle.real_format.specs.declared.gate.Shape.{Shape}
 use Rattle.real_format.specs.declared.refusal.LineRefusal.TheVariants.{Limit}
 use Rattle.real_format.specs.Real.{RealView, ReadsGate, NamesLine, NamesControl, IsGateWord}

@@ -8,7 +8,7 @@ use Rattle.std.proofs.lemmas.List.{length-append, length-replicate}
 use Rattle.list_facts.specs.Lists.{AreApart}
 use Rattle.list_facts.proofs.AllLemmas.{AllByRecursion-append}
 use Rattle.mct_circuit.specs.Gates.{GateView, IsGateOn, AreGatesOn}
-use Rattle.gate_split.specs.declared.plan.TheConstants.{MOST_LINES, MOST_GATES}
+use Rattle.circuit_plans.specs.declared.plan.TheConstants.{MOST_LINES, MOST_GATES}
 use Rattle.real_format.specs.declared.file.Mark.TheVariants.{Free}
 use Rattle.real_format.specs.declared.header.Head.{Head}
 use Rattle.real_format.specs.declared.header.Head.TheVariants as heads

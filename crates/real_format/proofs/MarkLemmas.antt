@@ -4,8 +4,8 @@ use Rattle.std.proofs.Common.{arith}
 use Rattle.std.proofs.lemmas.List.{length-map, length-append, length-replicate}
 use Rattle.std.proofs.lemmas.Bool.{cases_lt, lt-ltb}
 use Rattle.std.proofs.lemmas.Option.{slice_get-map}
-use Rattle.gate_split.specs.declared.roles.Roles.{Roles}
-use Rattle.gate_split.specs.Plans.{lines_in, role_at}
+use Rattle.circuit_plans.specs.declared.roles.Roles.{Roles}
+use Rattle.circuit_plans.specs.Plans.{lines_in, role_at}
 use Rattle.real_format.specs.declared.file.Mark.TheVariants.{Free, Zero}
 use Rattle.real_format.specs.declared.labels.Labels.{Labels}
 use Rattle.real_format.specs.declared.labels.Labels.TheVariants.{ByRole, ByNumber}

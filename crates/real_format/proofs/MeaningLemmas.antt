@@ -15,7 +15,7 @@ use Rattle.real_format.specs.declared.header.Head.TheVariants.{Version, Lines, N
 use Rattle.real_format.specs.Header.{constant_byte, garbage_byte, nothing_said}
 use Rattle.real_format.specs.Real.{RealView, RealMeaning, ReadsGate, NamesControl, Place, in_header, in_gates, at_end, LeadTo, one_more, nothing_left}
 use Rattle.real_format.specs.Real.{says_more, begins_gates, adds_gate, ends_file}
-use Rattle.gate_split.specs.Plans.{lines_in}
+use Rattle.circuit_plans.specs.Plans.{lines_in}
 use Rattle.real_format.specs.Written.{names_by, header_lines, gate_words, file_lines, file_text}
 use Rattle.real_format.specs.Compiled.{name_of_line, constants_of, CompiledHasMeaning}
 use Rattle.real_format.specs.Converted.{numbered_name, ConvertedHasMeaning}

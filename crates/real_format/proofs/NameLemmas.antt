@@ -12,10 +12,10 @@ use Rattle.list_facts.proofs.AllLemmas.{AllByRecursion-range}
 use Rattle.list_facts.specs.Lists.{AreApart}
 use Rattle.real_format.specs.Words.{is_word_byte, is_comment}
 use Rattle.real_format.specs.Header.{IsName}
-use Rattle.gate_split.specs.declared.roles.Roles.{Roles}
-use Rattle.gate_split.specs.declared.roles.Role.{Role}
-use Rattle.gate_split.specs.declared.roles.Role.TheVariants.{Input, Output, Work, Borrowed}
-use Rattle.gate_split.specs.Plans.{lines_in, first_of, role_at, number_at}
+use Rattle.circuit_plans.specs.declared.roles.Roles.{Roles}
+use Rattle.circuit_plans.specs.declared.roles.Role.{Role}
+use Rattle.circuit_plans.specs.declared.roles.Role.TheVariants.{Input, Output, Work, Borrowed}
+use Rattle.circuit_plans.specs.Plans.{lines_in, first_of, role_at, number_at}
 use Rattle.real_format.specs.Written.{names_by}
 use Rattle.real_format.specs.Compiled.{letter_of, name_of_line}
 use Rattle.real_format.specs.Converted.{numbered_name}

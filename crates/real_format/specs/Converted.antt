@@ -2,7 +2,7 @@
 use Rattle.std.specs.Prelude.{◌≡◌, ℕ, ◌≤◌, Bool, List, ◌∷◌, length}
 use Rattle.std.specs.Fmt.{decimal}
 use Rattle.real_format.specs.declared.file.Mark.{Mark}
-use Rattle.gate_split.specs.declared.plan.TheConstants.{MOST_LINES, MOST_GATES}
+use Rattle.circuit_plans.specs.declared.plan.TheConstants.{MOST_LINES, MOST_GATES}
 use Rattle.mct_circuit.specs.Gates.{GateView, AreGatesOn, AreNarrow}
 use Rattle.real_format.specs.Real.{RealView, RealMeaning}
 use Rattle.real_format.specs.Written.{names_by, file_text}

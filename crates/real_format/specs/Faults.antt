@@ -3,7 +3,7 @@ use Rattle.std.specs.Prelude.{◌≡◌, ℕ, ◌+◌, ◌<◌, ◌⊎◌, List,
 use Rattle.std.specs.List.{AllByRecursion, AllZip}
 use Rattle.list_facts.specs.Lists.{AreApart, AreDifferent}
 use Rattle.mct_circuit.specs.declared.gate.Control.{Control}
-use Rattle.gate_split.specs.declared.plan.TheConstants.{MOST_LINES, MOST_GATES}
+use Rattle.circuit_plans.specs.declared.plan.TheConstants.{MOST_LINES, MOST_GATES}
 use Rattle.revc_base.specs.declared.limits.TheConstants.{MOST_NAME_BYTES}
 use Rattle.real_format.specs.declared.file.RealFault.{RealFault}
 use Rattle.real_format.specs.declared.file.RealFault.TheVariants.{Line, Limit, Memory}

@@ -3,7 +3,7 @@ use Rattle.std.specs.Prelude.{◌≡◌, ℕ, ◌≤◌, Bool, true, false, ◌�
 use Rattle.std.specs.List.{AllByRecursion}
 use Rattle.std.specs.Str.Parse.{IsNumeral, digits_value}
 use Rattle.list_facts.specs.Lists.{AreApart}
-use Rattle.gate_split.specs.declared.plan.TheConstants.{MOST_LINES}
+use Rattle.circuit_plans.specs.declared.plan.TheConstants.{MOST_LINES}
 use Rattle.revc_base.specs.declared.limits.TheConstants.{MOST_NAME_BYTES}
 use Rattle.real_format.specs.declared.file.Mark.{Mark}
 use Rattle.real_format.specs.declared.file.Mark.TheVariants.{Free, Zero, One}

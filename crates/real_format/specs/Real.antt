@@ -7,7 +7,7 @@ use Rattle.real_format.specs.declared.file.Mark.TheVariants.{Free}
 use Rattle.real_format.specs.declared.header.Head.{Head}
 use Rattle.mct_circuit.specs.declared.gate.Control.{Control}
 use Rattle.mct_circuit.specs.Gates.{GateView, HasDifferentLines, AreGatesOn, targets_of}
-use Rattle.gate_split.specs.declared.plan.TheConstants.{MOST_LINES, MOST_GATES}
+use Rattle.circuit_plans.specs.declared.plan.TheConstants.{MOST_LINES, MOST_GATES}
 use Rattle.real_format.specs.Words.{said_lines}
 use Rattle.real_format.specs.Header.{HeaderView, IsName, IsNumber, Says, nothing_said, spelling_of}
 

@@ -1,6 +1,6 @@
 // A file as it was read, and why a text means none.
 ghost use Rattle.std.specs.Prelude.{◌≡◌, length};
-ghost use Rattle.gate_split.specs.declared.plan.TheConstants.{MOST_GATES};
+ghost use Rattle.circuit_plans.specs.declared.plan.TheConstants.{MOST_GATES};
 ghost use Rattle.real_format.specs.declared.file.RealFault.TheVariants.{Memory};
 
 use mct_circuit::Circuit;
@@ -54,7 +54,7 @@ pub struct RealFile {
 
 impl Model for RealFile {
     ghost use Rattle.std.specs.Prelude.{◌≡◌, length};
-    ghost use Rattle.gate_split.specs.declared.plan.TheConstants.{MOST_GATES};
+    ghost use Rattle.circuit_plans.specs.declared.plan.TheConstants.{MOST_GATES};
     ghost use Rattle.real_format.specs.Real.{RealView};
 
     ghost Value = { RealView };

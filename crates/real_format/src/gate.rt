@@ -11,8 +11,8 @@ ghost use Rattle.real_format.specs.inside.Stamps.{is_stamped, AreStamped};
 
 use crate::refusal::LineRefusal;
 use crate::words::{Words, begins_name, number};
+use circuit_plans::MOST_LINES;
 use format_parts::Names;
-use gate_split::MOST_LINES;
 use mct_circuit::{Control, Gate, Op};
 use revc_base::limits::MOST_NAME_BYTES;
 use std::alloc::Global;
@@ -98,7 +98,7 @@ fn controls_of(
         AreStamped stamps.new stamp (lines_of_controls controls.items)) }
     ensures err { IfErr result (Refuses (controls_from names.now wanted [] words.old)) }
 {
-    let mut controls = Vec::new(alloc);
+    let mut controls = Vec::with_capacity(alloc, names.len().min(wanted as usize))?;
     'controls: while controls.len() < wanted as usize {
         let Some(word) = words.next() else {
             return Err(LineRefusal::Form);

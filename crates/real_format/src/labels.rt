@@ -1,14 +1,14 @@
 // What a written file says of its lines.
 ghost use Rattle.std.specs.Prelude.{◌≡◌, ◌<◌, ◌≤◌, ◌∷◌, length, slice_get, Some};
 ghost use Rattle.std.specs.Fmt.{decimal};
-ghost use Rattle.gate_split.specs.declared.plan.TheConstants.{MOST_LINES};
+ghost use Rattle.circuit_plans.specs.declared.plan.TheConstants.{MOST_LINES};
 ghost use Rattle.real_format.specs.Header.{constant_byte, garbage_byte};
 ghost use Rattle.real_format.specs.Compiled.{letter_of};
 ghost use Rattle.real_format.specs.inside.Labels.{count_of, name_by, constants_by, garbage_by};
 ghost use Rattle.real_format.specs.inside.Labels.{mark_bytes, start_of};
 
 use crate::file::Mark;
-use gate_split::{Role, Roles};
+use circuit_plans::{Role, Roles};
 
 /// The names and marks of a file's lines: by their roles; or by their numbers, with these marks.
 #[derive(Clone, Copy)]

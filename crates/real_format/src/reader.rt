@@ -2,7 +2,7 @@
 ghost use Rattle.std.specs.Prelude.{◌≡◌, ◌+◌, ◌<◌, ◌^◌, ◌++◌, ◌∷◌, [], length};
 ghost use Rattle.std.specs.Prelude.{true, false, Ok, Err, OnOk, IfOk, IfErr, IsErrOf};
 ghost use Rattle.std.specs.List.{AllByRecursion};
-ghost use Rattle.gate_split.specs.declared.plan.TheConstants.{MOST_GATES};
+ghost use Rattle.circuit_plans.specs.declared.plan.TheConstants.{MOST_GATES};
 ghost use Rattle.mct_circuit.specs.Gates.{lines_of};
 ghost use Rattle.real_format.specs.Header.{nothing_said};
 ghost use Rattle.real_format.specs.Real.{RealMeaning, in_header, in_gates};
@@ -18,8 +18,8 @@ use crate::gate::{Shape, gate_of};
 use crate::header::{Begun, Header};
 use crate::refusal::LineRefusal;
 use crate::words::{Lines, Words};
+use circuit_plans::MOST_GATES;
 use format_parts::Names;
-use gate_split::MOST_GATES;
 use mct_circuit::{Circuit, Gate};
 use revc_base::Text;
 use std::alloc::Global;

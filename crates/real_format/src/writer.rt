@@ -3,8 +3,8 @@ ghost use Rattle.std.specs.Prelude.{◌≡◌, ◌<◌, ◌≤◌, ◌+◌, ◌�
 ghost use Rattle.std.specs.List.{flat_map};
 ghost use Rattle.std.specs.Fmt.{decimal};
 ghost use Rattle.mct_circuit.specs.Gates.{AreNarrow};
-ghost use Rattle.gate_split.specs.declared.plan.TheConstants.{MOST_LINES, MOST_GATES};
-ghost use Rattle.gate_split.specs.Plans.{roles_of};
+ghost use Rattle.circuit_plans.specs.declared.plan.TheConstants.{MOST_LINES, MOST_GATES};
+ghost use Rattle.circuit_plans.specs.Plans.{roles_of};
 ghost use Rattle.revc_io.specs.Faults.{HasCause};
 ghost use Rattle.revc_io.specs.Passing.{Gathers, Writes};
 ghost use Rattle.real_format.specs.Written.{line_text, file_text};
@@ -18,8 +18,8 @@ ghost use Rattle.real_format.specs.inside.Parts.{mark_line_text, marks_text, res
 
 use crate::file::Mark;
 use crate::labels::{Labels, MarkKind};
+use circuit_plans::{Laid, Narrow};
 use format_parts::{FlipWriter, put_gates};
-use gate_split::{Laid, Narrow};
 use mct_circuit::Circuit;
 use revc_io::{Buffer, Failed, Sink, put_decimal};
 

@@ -1,8 +1,8 @@
 -- What a written file says of its lines: how many they are, their names and their marks.
 use Rattle.std.specs.Prelude.{ℕ, Bool, false, List, length, map, replicate}
-use Rattle.gate_split.specs.declared.roles.Role.{Role}
-use Rattle.gate_split.specs.declared.roles.Role.TheVariants.{Input, Output, Work, Borrowed}
-use Rattle.gate_split.specs.Plans.{lines_in}
+use Rattle.circuit_plans.specs.declared.roles.Role.{Role}
+use Rattle.circuit_plans.specs.declared.roles.Role.TheVariants.{Input, Output, Work, Borrowed}
+use Rattle.circuit_plans.specs.Plans.{lines_in}
 use Rattle.real_format.specs.declared.file.Mark.{Mark}
 use Rattle.real_format.specs.declared.file.Mark.TheVariants.{Free, Zero}
 use Rattle.real_format.specs.declared.labels.Labels.{Labels}

@@ -3,7 +3,7 @@ use Rattle.std.specs.Prelude.{◌≡◌, ◌==◌, ℕ, ◌<◌, ◌≤◌, Bool
 use Rattle.std.specs.List.{AllByRecursion}
 use Rattle.mct_circuit.specs.Gates.{CircuitView}
 use Rattle.mct_circuit.specs.Sizes.{has_line}
-use Rattle.gate_split.specs.declared.plan.TheConstants.{MOST_LINES, MOST_GATES}
+use Rattle.circuit_plans.specs.declared.plan.TheConstants.{MOST_LINES, MOST_GATES}
 
 abbrev pub is_stamped : List ℕ → ℕ → ℕ → Bool
 is_stamped stamps stamp line = slice_index stamps line == stamp

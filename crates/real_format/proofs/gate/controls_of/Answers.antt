@@ -6,9 +6,9 @@ use Rattle.real_format.proofs.gate.controls_of.Goals as goal
 
 pub controls-init : goal.controls-init
 controls-init c = record {
-  left = ap (λ cs. controls_from c.args.names.now c.args.wanted cs c.args.words.now) c.new-controls.ensures.items;
-  stamped = none_stamped c.args.stamps.now c.args.stamp c.new-controls.result.items c.new-controls.ensures.items c.requires.fresh;
-  few = omega (arith, ap length c.new-controls.ensures.items);
+  left = ap (λ cs. controls_from c.args.names.now c.args.wanted cs c.args.words.now) c.in_ok-controls.ensures.items;
+  stamped = none_stamped c.args.stamps.now c.args.stamp c.in_ok-controls.controls.items c.in_ok-controls.ensures.items c.requires.fresh;
+  few = omega (arith, ap length c.in_ok-controls.ensures.items);
 }
 
 pub returns-in_default-clause-err : goal.returns-in_default-clause-err
@@ -17,14 +17,15 @@ returns-in_default-clause-err c =
     c.in_default.ensures.0
 
 pub returns-in_err-control_of-clause-ok : goal.returns-in_err-control_of-clause-ok
-returns-in_err-control_of-clause-ok c = no_value c.from_residual.result _ _ c.from_residual.ensures.1
+returns-in_err-control_of-clause-ok c = no_value c.from_residual-in_err-control_of.result _ _ c.from_residual-in_err-control_of.ensures.1
 
 pub returns-in_err-control_of-clause-stamps : goal.returns-in_err-control_of-clause-stamps
-returns-in_err-control_of-clause-stamps c = no_value c.from_residual.result _ _ c.from_residual.ensures.1
+returns-in_err-control_of-clause-stamps c = no_value c.from_residual-in_err-control_of.result _ _ c.from_residual-in_err-control_of.ensures.1
 
 pub returns-in_err-control_of-clause-err : goal.returns-in_err-control_of-clause-err
 returns-in_err-control_of-clause-err c =
-    passes_on (Refuses (controls_from c.args.names.now c.args.wanted [] c.args.words.now)) c.from_residual.result c.from_residual.ensures.1
+    passes_on (Refuses (controls_from c.args.names.now c.args.wanted [] c.args.words.now)) c.from_residual-in_err-control_of.result
+    c.from_residual-in_err-control_of.ensures.1
     (bad_control c.args.names.now c.args.wanted c.controls.stamps c.args.stamp c.controls.controls.items c.args.words.now c.controls.words
     c.next.new.self c.in-Some.word.now _ (omega arith) (c.controls.auto.stamps ∙ c.requires.fit) c.controls.invariant.stamped c.in-Some.ensures
     c.controls.invariant.left c.in_err-control_of.ensures.err)

@@ -2,8 +2,8 @@ use Rattle.std.proofs.Common.{false, ap, sym, ◌∙◌, subst, ◌≤◌}
 use Rattle.std.proofs.lemmas.List.{length-replicate}
 use Rattle.format_parts.proofs.CompiledLemmas.{laid_has}
 use Rattle.mct_circuit.specs.Gates.{CircuitView, AreNarrow}
-use Rattle.gate_split.specs.declared.plan.TheConstants.{MOST_LINES}
-use Rattle.gate_split.specs.Plans.{lines_in, roles_of}
+use Rattle.circuit_plans.specs.declared.plan.TheConstants.{MOST_LINES}
+use Rattle.circuit_plans.specs.Plans.{lines_in, roles_of}
 use Rattle.revc_io.specs.Passing.{Writes}
 use Rattle.real_format.specs.Compiled.{MeansCompiled, compiled_text}
 use Rattle.real_format.proofs.MeaningLemmas.{compiled_has_meaning}

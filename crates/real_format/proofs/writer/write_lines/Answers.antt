@@ -1,6 +1,6 @@
 use Rattle.std.proofs.Common.{◌≤◌, ap, sym, subst, ◌∙◌, arith}
 use Rattle.mct_circuit.specs.Gates.{CircuitView, AreGatesOn, AreNarrow}
-use Rattle.gate_split.specs.declared.plan.TheConstants.{MOST_LINES}
+use Rattle.circuit_plans.specs.declared.plan.TheConstants.{MOST_LINES}
 use Rattle.revc_io.specs.Passing.{Writes}
 use Rattle.real_format.specs.Converted.{converted_text}
 use Rattle.real_format.proofs.MeaningLemmas.{converted_has_meaning}

@@ -1,6 +1,6 @@
 use Rattle.std.proofs.Common.{◌<◌, sym, subst, false}
 use Rattle.std.proofs.lemmas.Option.{slice_get-get_or}
-use Rattle.gate_split.specs.Plans.{lines_in}
+use Rattle.circuit_plans.specs.Plans.{lines_in}
 use Rattle.real_format.proofs.MarkLemmas.{slice_get-replicate}
 use Rattle.real_format.proofs.labels.Labels.garbage.Goals as goal
 
