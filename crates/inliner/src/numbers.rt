@@ -12,7 +12,7 @@ ghost use Rattle.inliner.specs.inside.Numbers.{IsShort, index_of};
 use crate::RunFault;
 use crate::machine::Machine;
 use revs_terms::limits::MOST_NUMBER;
-use revs_terms::{Cause, Num, Step, Unit};
+use revs_terms::{Cause, Num, Step, Steps, Unit};
 
 impl<'t> Machine<'t> {
     /// A number, its steps from left to right, with the names of an environment. It takes no
@@ -27,11 +27,13 @@ impl<'t> Machine<'t> {
             (number_of no_bits (env_of self.old env) number.now (state_of self.old))) }
         ensures exact { ¬ IsErrOf result RunFault.Memory }
     {
-        let Some((first, more)) = number.steps.split_first() else {
-            return Ok(0);
-        };
-        let sum = self.summed(env, 0, first)?;
-        self.more(env, sum, more)
+        match &number.steps {
+            Steps::Digits(value, at) => self.summed(env, 0, false, &Unit::Digits(*value, *at)),
+            Steps::Sum(sum) => {
+                let first = self.summed(env, 0, false, &sum.first)?;
+                self.more(env, first, &sum.more)
+            }
+        }
     }
 
     // A number so far, with the steps behind its first, each of which counts one unit of work.
@@ -48,27 +50,28 @@ impl<'t> Machine<'t> {
         let mut sum = first;
         for step in steps {
             self.work(1, step.unit.place())?;
-            sum = self.summed(env, sum, step)?;
+            sum = self.summed(env, sum, step.minus, &step.unit)?;
         }
         Ok(sum)
     }
 
-    // A number so far, with one step more.
-    fn summed(&self, env: u32, sum: i32, step: &Step) -> Result<i32, RunFault>
+    // A number so far, with a unit more that is added or taken away.
+    fn summed(&self, env: u32, sum: i32, minus: bool, unit: &Unit) -> Result<i32, RunFault>
         requires machine { IsMachine self.now }
         requires env { env ≤ length self.now.bindings.items }
         ensures ok { IfOk result (λ next.
-            summed no_bits (env_of self.now env) sum step.now (state_of self.now)
-            ≡ went next (state_of self.now)) }
+            summed no_bits (env_of self.now env) sum (record { minus = minus; unit = unit.now })
+            (state_of self.now) ≡ went next (state_of self.now)) }
         ensures fits { IfOk result (λ next. FitsSigned w32 next) }
         ensures err { IfErr result (λ fault. Says fault
-            (summed no_bits (env_of self.now env) sum step.now (state_of self.now))) }
+            (summed no_bits (env_of self.now env) sum (record { minus = minus; unit = unit.now })
+            (state_of self.now))) }
         ensures exact { ¬ IsErrOf result RunFault.Memory }
     {
-        let value = self.unit(env, &step.unit)?;
-        match narrowed(sum_of(step.minus, sum, value)) {
+        let value = self.unit(env, unit)?;
+        match narrowed(sum_of(minus, sum, value)) {
             Some(next) => Ok(next),
-            None => Err(RunFault::stuck(Cause::Range, step.unit.place())),
+            None => Err(RunFault::stuck(Cause::Range, unit.place())),
         }
     }
 

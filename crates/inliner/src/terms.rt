@@ -20,7 +20,7 @@ use crate::operators::Operator;
 use array_shapes::{Value, bit};
 use revc_base::Place;
 use revs_tape::Kind;
-use revs_terms::{Cause, Item, Num, Part, Term};
+use revs_terms::{Cause, Ends, Item, Num, Part, Term};
 
 impl<'t> Machine<'t> {
     /// Runs a term in an environment, with so many levels of depth left.
@@ -288,13 +288,12 @@ impl<'t> Machine<'t> {
                 Ok(env)
             }
             Item::For {
-                first,
-                last,
+                ends,
                 items,
                 at,
                 ..
             } => {
-                self.repeat(env, first, last, items, *at, left)?;
+                self.repeat(env, ends, items, *at, left)?;
                 Ok(env)
             }
         }
@@ -305,8 +304,7 @@ impl<'t> Machine<'t> {
     fn repeat(
         &mut self,
         env: u32,
-        first: &'t Num,
-        last: &'t Num,
+        ends: &'t Ends,
         items: &'t [Item],
         at: Place,
         left: u32,
@@ -314,18 +312,18 @@ impl<'t> Machine<'t> {
         requires machine { IsMachine self.old }
         requires env { env ≤ length self.old.bindings.items }
         ensures ok { IfOk result (λ value. Goes self.old self.new
-            (loop_run left (env_of self.old env) first.now last.now (map item_tree_of items.now) at
-            (state_of self.old)) value) }
+            (loop_run left (env_of self.old env) ends.now.first ends.now.last
+            (map item_tree_of items.now) at (state_of self.old)) value) }
         ensures err { IfErr result (λ fault. Says fault
-            (loop_run left (env_of self.old env) first.now last.now (map item_tree_of items.now) at
-            (state_of self.old))) }
+            (loop_run left (env_of self.old env) ends.now.first ends.now.last
+            (map item_tree_of items.now) at (state_of self.old))) }
     {
         if left == 0 {
             return Err(RunFault::stuck(Cause::Depth, at));
         }
         self.work(1, at)?;
-        let low = self.number(env, first)?;
-        let high = self.number(env, last)?;
+        let low = self.number(env, &ends.first)?;
+        let high = self.number(env, &ends.last)?;
         self.turns(env, items, at, low, high, left - 1)
     }
 

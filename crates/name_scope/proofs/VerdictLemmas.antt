@@ -4,9 +4,11 @@ use Rattle.std.proofs.Math.Seq.{drop-cons}
 use Rattle.std.proofs.lemmas.List.{take-append-drop}
 use Rattle.revc_base.specs.declared.place.Place.{Place}
 use Rattle.revs_terms.specs.declared.term.Name.{Name}
+use Rattle.revs_terms.specs.declared.term.Unit as u
 use Rattle.revs_terms.specs.declared.term.Step.{Step}
+use Rattle.revs_terms.specs.Numbers.{plus}
 use Rattle.revs_terms.specs.Trees.{Tree, Trees, ItemTree, ItemTrees, nil, cons, no_items, item, bind, run, trees, item_trees, used, block, function, loop}
-use Rattle.revs_terms.specs.Scopes.{Scoped, unbound, scoped, and_then, scoped_tree, scoped_trees, scoped_items, scoped_num}
+use Rattle.revs_terms.specs.Scopes.{Scoped, unbound, scoped, and_then, scoped_tree, scoped_trees, scoped_items, scoped_num, scoped_unit}
 use Rattle.name_scope.specs.declared.binding.ScopeFault.{ScopeFault}
 use Rattle.name_scope.specs.declared.binding.ScopeFault.TheVariants as fault
 use Rattle.name_scope.specs.inside.Verdicts.{IsUnbound, Binds, BindsIn, in_turn, with_last, with_names, alone}
@@ -113,6 +115,14 @@ pub function_binds : (r : Result (Unit {0}) ScopeFault) (v : Scoped Tree) (old n
 function_binds r v old new body at s n h =
     rw (onward {A = Tree} {B = List Name × Tree} {C = Tree} v (λ b. (old, b)) (λ p. function p.0 p.1 at))
     (part_binds {A = List Name × Tree} {C = Tree} (λ p. function p.0 p.1 at) r (with_names old v) (new, body) s n h)
+
+-- the first unit of a number, and the steps behind it
+pub steps_bind : (r : Result (Unit {0}) ScopeFault) (s : List (List ℕ)) (a b : u.Unit) (ps qs : List Step) → scoped_unit s a ≡ scoped b
+    → Binds r (scoped_num s ps) qs → Binds r (scoped_num s (plus a ∷ ps)) (plus b ∷ qs)
+steps_bind (Ok done) s a b ps qs e h = rw e (rw h refl)
+steps_bind (Err (fault.Unbound at)) s a b ps qs e h = rw e (rw h refl)
+steps_bind (Err (fault.TwoParams at)) s a b ps qs e h = h
+steps_bind (Err fault.Memory) s a b ps qs e h = tt
 
 -- a part whose refusal is passed on
 pub first_is_unbound : {A C : Type 0} (next : A → Scoped C) (f : ScopeFault) (v : Scoped A) → IsUnbound f v → IsUnbound f (and_then v next)

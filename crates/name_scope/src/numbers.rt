@@ -1,12 +1,13 @@
 // The names in numbers and in parts of registers are bound.
-ghost use Rattle.std.specs.Prelude.{◌<◌, ◌^◌, length, IsErrOf};
+ghost use Rattle.std.specs.Prelude.{◌<◌, ◌^◌, ◌∷◌, length, IsErrOf};
+ghost use Rattle.revs_terms.specs.Numbers.{plus};
 ghost use Rattle.revs_terms.specs.Scopes.{bound_name, scoped_unit, scoped_num, scoped_part};
 ghost use Rattle.revs_terms.specs.Scopes.{scoped_parts};
 ghost use Rattle.name_scope.specs.inside.Verdicts.{Binds, in_turn};
 
 use crate::ScopeFault;
 use crate::names::Names;
-use revs_terms::{Name, Num, Part, Step, Unit};
+use revs_terms::{Name, Num, Part, Step, Steps, Sum, Unit};
 
 /// Binds a used name among those in scope. It takes no memory.
 pub fn bind_name(names: &Names, name: &mut Name) -> Result<(), ScopeFault>
@@ -43,12 +44,26 @@ fn bind_steps(names: &Names, steps: &mut [Step]) -> Result<(), ScopeFault>
     Ok(())
 }
 
+/// Binds the names of a sum among those in scope.
+fn bind_sum(names: &Names, sum: &mut Sum) -> Result<(), ScopeFault>
+    requires { length names.now < 2 ^ 32 }
+    ensures { Binds result
+        (scoped_num names.now (plus sum.old.first ∷ sum.old.more.items))
+        (plus sum.new.first ∷ sum.new.more.items) }
+{
+    bind_unit(names, &mut sum.first)?;
+    bind_steps(names, &mut sum.more)
+}
+
 /// Binds the names of a number among those in scope.
 pub fn bind_num(names: &Names, number: &mut Num) -> Result<(), ScopeFault>
     requires { length names.now < 2 ^ 32 }
     ensures { Binds result (scoped_num names.now number.old) number.new }
 {
-    bind_steps(names, &mut number.steps)
+    match &mut number.steps {
+        Steps::Digits(_, _) => Ok(()),
+        Steps::Sum(sum) => bind_sum(names, sum),
+    }
 }
 
 /// Binds the names of two numbers among those in scope.

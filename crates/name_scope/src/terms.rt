@@ -13,7 +13,7 @@ use crate::ScopeFault;
 use crate::names::Names;
 use crate::numbers::{bind_ends, bind_name, bind_num, bind_parts};
 use revc_base::Text;
-use revs_terms::{Item, Lambda, Num, Param, Part, Term};
+use revs_terms::{Ends, Item, Lambda, Num, Param, Part, Term};
 
 /// Binds the names of parameters, each nearer than those before it.
 pub fn bind_params(names: &mut Names, params: &[Param]) -> Result<(), ScopeFault>
@@ -166,19 +166,20 @@ fn bind_terms(names: &mut Names, terms: &mut [Term]) -> Result<(), ScopeFault>
 fn bind_loop(
     names: &mut Names,
     name: &Text,
-    first: &mut Num,
-    last: &mut Num,
+    ends: &mut Ends,
     items: &mut [Item],
 ) -> Result<(), ScopeFault>
-    requires { length names.old + (names_of_num first.old + names_of_num last.old
+    requires { length names.old + (names_of_num ends.old.first + names_of_num ends.old.last
         + names_of_items (item_trees (map item_tree_of items.old)) + 1) < 2 ^ 32 }
     ensures { BindsIn result
-        (in_turn (in_turn (scoped_num names.old first.old) (scoped_num names.old last.old))
+        (in_turn
+        (in_turn (scoped_num names.old ends.old.first) (scoped_num names.old ends.old.last))
         (alone (scoped_items (name.now ∷ names.old) (item_trees (map item_tree_of items.old)))))
-        ((first.new, last.new), item_trees (map item_tree_of items.new)) names.old names.new }
+        ((ends.new.first, ends.new.last), item_trees (map item_tree_of items.new))
+        names.old names.new }
 {
     let depth = names.depth();
-    bind_ends(names, first, last)?;
+    bind_ends(names, &mut ends.first, &mut ends.last)?;
     names.bind(name)?;
     bind_items(names, items)?;
     names.leave(depth);
@@ -218,10 +219,9 @@ fn bind_item(names: &mut Names, item: &mut Item) -> Result<(), ScopeFault>
         Item::Do(term) => bind_term(names, term),
         Item::For {
             name,
-            first,
-            last,
+            ends,
             items,
             ..
-        } => bind_loop(names, &name.text, first, last, items),
+        } => bind_loop(names, &name.text, ends, items),
     }
 }

@@ -9,6 +9,7 @@ use Rattle.revs_terms.specs.declared.term.Step.{Step}
 use Rattle.revs_terms.specs.declared.term.Part.{Part}
 use Rattle.revs_terms.specs.declared.term.Part.TheVariants as part_of
 use Rattle.revc_base.specs.declared.place.Place.{Place}
+use Rattle.revs_terms.specs.Numbers.{plus, minus}
 use Rattle.revs_terms.specs.Trees.{Tree, ItemTree, trees, item_trees}
 use Rattle.revs_terms.specs.Trees as t
 use Rattle.revs_terms.specs.declared.program.Param.{Param}
@@ -55,13 +56,6 @@ index_of at i (Some j) = part_of.Slice i j at
 
 abbrev pub digits_of : Numeral → u.Unit
 digits_of n = units_of.Digits n.value n.at
-
--- a unit that is added, and one that is taken away
-abbrev pub plus : u.Unit → Step
-plus this = record { minus = false; unit = this }
-
-abbrev pub minus : u.Unit → Step
-minus this = record { minus = true; unit = this }
 
 -- ---- blocks
 

@@ -1,6 +1,6 @@
 -- Numbers: units, and sums of them.
 use Rattle.std.proofs.Common.{◌≡◌, ◌==◌, Bool, true, false, List, [], ◌∷◌, ◌++◌, inl}
-use Rattle.std.proofs.Common.{inr, refl, sym, ◌∙◌, ap, append_assoc, append-nil}
+use Rattle.std.proofs.Common.{inr, refl, ◌∙◌, ap, append_assoc, append-nil}
 use Rattle.revc_base.specs.declared.place.Place.{Place}
 use Rattle.revs_lexer.specs.declared.sign.Sign.TheVariants as signs
 use Rattle.revs_lexer.specs.declared.token.Tok.{Tok}
@@ -9,7 +9,8 @@ use Rattle.revs_lexer.specs.declared.token.Token.{Token}
 use Rattle.revs_grammar.specs.declared.profile.Profile.TheVariants as profiles
 use Rattle.revs_grammar.specs.Forms.{any_name, code, kept, Numeral, in_profile, common}
 use Rattle.revs_grammar.specs.Forms as g
-use Rattle.revs_grammar.specs.Productions.{digits_of, plus}
+use Rattle.revs_grammar.specs.Productions.{digits_of}
+use Rattle.revs_terms.specs.Numbers.{plus}
 use Rattle.revs_grammar.specs.Sentences.{kept_token, form}
 use Rattle.revs_grammar.specs.inside.Machine.{Stack, first_some, is_end, outcome}
 use Rattle.revs_grammar.proofs.CheckHints.{may_follow}
@@ -20,8 +21,8 @@ use Rattle.revs_terms.specs.declared.term.Unit.TheVariants as units_of
 use Rattle.revs_terms.specs.declared.term.Step.{Step}
 use Rattle.revs_terms.specs.declared.term.Name.{Name}
 use Rattle.revs_parser.specs.declared.stop.Stop.{Stop}
-use Rattle.revs_parser.specs.inside.Reading.{Reads, ReadsForm, Halts, HaltsIn, Heads, is_name, name_first}
-use Rattle.revs_parser.specs.inside.Forms.{step_sign, NoStep, ReadsSteps}
+use Rattle.revs_parser.specs.inside.Reading.{Reads, ReadsForm, Skips, Halts, HaltsIn, Heads, is_name, name_first}
+use Rattle.revs_parser.specs.inside.Forms.{step_sign, NoStep}
 use Rattle.revs_parser.proofs.PassingLemmas.{passes_then, beside, and_then, and_maybe, line_passes, halts_first, halts_behind}
 use Rattle.revs_parser.proofs.StepLemmas.{as_line, as_none, only_line, by_first, first_less, first_only, not_name, no_sign}
 use Rattle.revs_parser.proofs.TokenLemmas.{a_sign, by_pieces, halts_by_pieces, halts_by_token, left_out}
@@ -79,18 +80,12 @@ unit_no_number {ts} h k = halts_by_pieces (common g.unit) 0 _ (inl refl) (as_uni
 
 -- ---- steps
 
--- The steps so far, behind those before.
-pub record Steps (before all : List Step) (ts rest : List Token) : Type 0 where
-  pub read : List Step
-  pub all_steps : all ≡ before ++ read
+-- The steps so far.
+pub record StepsSoFar (read : List Step) (ts rest : List Token) : Type 0 where
   pub repeats : Repeats (common g.units) 0 (λ more. read ++ more) ts rest
 
-pub steps_begun : (steps : List Step) (ts : List Token) → Steps steps steps ts ts
-steps_begun steps ts = record {
-  read = [];
-  all_steps = sym (append-nil steps);
-  repeats = repeats_begun (common g.units) 0 (λ more. [] ++ more) ts (λ v. refl);
-}
+pub steps_begun : (steps : List Step) (ts : List Token) → steps ≡ [] → StepsSoFar steps ts ts
+steps_begun steps ts e = rw e (record { repeats = repeats_begun (common g.units) 0 (λ more. [] ++ more) ts (λ v. refl) })
 
 another_step : (taken : Bool) {this : u.Unit} {at : Place} {ts mid rest : List Token} → Heads (toks.Sign (step_sign taken)) at ts mid
     → ReadsForm (common g.unit) 0 this mid rest → Repeats (common g.units) 0 (λ more. record { minus = taken; unit = this } ∷ more) ts rest
@@ -103,22 +98,18 @@ another_step true h r = record {
       (beside (form (common g.units) 0 ∷ []) (and_then (a_sign h) r).passes);
 }
 
-pub steps_more : {before all new : List Step} (taken : Bool) {this : u.Unit} {at : Place} {ts mid behind rest : List Token} → Steps before all ts mid
+pub steps_more : {steps new : List Step} (taken : Bool) {this : u.Unit} {at : Place} {ts mid behind rest : List Token} → StepsSoFar steps ts mid
     → Heads (toks.Sign (step_sign taken)) at mid behind → ReadsForm (common g.unit) 0 this behind rest
-    → new ≡ all ++ record { minus = taken; unit = this } ∷ [] → Steps before new ts rest
-steps_more taken {this} n h r e = record {
-  read = n.read ++ record { minus = taken; unit = this } ∷ [];
-  all_steps = rw (e, n.all_steps, append_assoc);
-  repeats = repeats_more (λ more. (n.read ++ record { minus = taken; unit = this } ∷ []) ++ more) n.repeats (another_step taken h r)
+    → new ≡ steps ++ record { minus = taken; unit = this } ∷ [] → StepsSoFar new ts rest
+steps_more {steps} taken {this} n h r e = rw e (record {
+  repeats = repeats_more (λ more. (steps ++ record { minus = taken; unit = this } ∷ []) ++ more) n.repeats (another_step taken h r)
       (λ more. rw append_assoc);
-}
+})
 
-pub steps_done : {before all : List Step} {ts rest : List Token} → Steps before all ts rest → NoStep rest → ReadsSteps before all ts rest
-steps_done {rest = rest} n k = record {
-  more = n.read;
-  all_steps = n.all_steps;
-  skips = rw (append-nil n.read) at (repeats_done [] n.repeats (left_out (common g.units) 0 _ (inl refl) (no_units rest k)));
-}
+pub steps_done : {steps : List Step} {ts rest : List Token} → StepsSoFar steps ts rest → NoStep rest
+    → Skips (form (common g.units) 0 ∷ []) (steps, tt) ts rest
+steps_done {steps} {rest = rest} n k =
+    rw (append-nil steps) at (repeats_done [] n.repeats (left_out (common g.units) 0 _ (inl refl) (no_units rest k)))
 
 in_step : (taken : Bool) {at : Place} {ts mid : List Token} {stop : Stop} → Heads (toks.Sign (step_sign taken)) at ts mid
     → HaltsIn (common g.unit) 0 mid stop → HaltsIn (common g.units) 0 ts stop
@@ -129,7 +120,7 @@ in_step true h k =
     halts_by_token (common g.units) 0 _ (inr (inr (inl refl))) h refl refl refl (halts_first (form (common g.units) 0 ∷ [])
     (halts_behind (form (common g.unit) 0 ∷ []) (a_sign h) k))
 
-pub steps_halt : {before all : List Step} (taken : Bool) {at : Place} {ts mid behind : List Token} {stop : Stop} → Steps before all ts mid
+pub steps_halt : {steps : List Step} (taken : Bool) {at : Place} {ts mid behind : List Token} {stop : Stop} → StepsSoFar steps ts mid
     → Heads (toks.Sign (step_sign taken)) at mid behind → HaltsIn (common g.unit) 0 behind stop → HaltsIn (common g.units) 0 ts stop
 steps_halt taken n h k = repeats_halts n.repeats (in_step taken h k)
 
@@ -142,10 +133,9 @@ digits_read {ts = ts} r e = rw e (by_pieces (in_profile profiles.One g.num) 0 _ 
 pub no_digits : {ts : List Token} {stop : Stop} → HaltsIn (common g.number) 0 ts stop → HaltsIn (in_profile profiles.One g.num) 0 ts stop
 no_digits {ts} k = halts_by_pieces (in_profile profiles.One g.num) 0 _ (inl refl) (as_digits ts) k
 
-pub units_read : {first : u.Unit} {before all : List Step} {ts a rest : List Token} → ReadsForm (common g.unit) 0 first ts a → before ≡ plus first ∷ []
-    → ReadsSteps before all a rest → ReadsForm (in_profile profiles.Two g.num) 0 all ts rest
-units_read {ts = ts} r e n =
-    rw (n.all_steps, e) (by_pieces (in_profile profiles.Two g.num) 0 _ (inl refl) (as_sum_of_units ts) (and_maybe r n.skips))
+pub units_read : {first : u.Unit} {more steps : List Step} {ts a rest : List Token} → ReadsForm (common g.unit) 0 first ts a
+    → Skips (form (common g.units) 0 ∷ []) (more, tt) a rest → steps ≡ plus first ∷ more → ReadsForm (in_profile profiles.Two g.num) 0 steps ts rest
+units_read {ts = ts} r n e = rw e (by_pieces (in_profile profiles.Two g.num) 0 _ (inl refl) (as_sum_of_units ts) (and_maybe r n))
 
 pub no_first_unit : {ts : List Token} {stop : Stop} → HaltsIn (common g.unit) 0 ts stop → HaltsIn (in_profile profiles.Two g.num) 0 ts stop
 no_first_unit {ts} k =

@@ -1,7 +1,8 @@
 // Expressions.
 
 ghost use Rattle.std.specs.Prelude.{◌≡◌, ◌+◌, ◌<◌, ◌≤◌, true, false, length};
-ghost use Rattle.std.specs.Prelude.{[], ◌∷◌, map, IfOk, IfErr, IfSome, IfNone, MatchResult};
+ghost use Rattle.std.specs.Prelude.{[], ◌∷◌, ◌++◌, map, IfOk, IfErr, IfSome, IfNone, OnOk};
+ghost use Rattle.std.specs.Prelude.{MatchResult};
 ghost use Rattle.revs_terms.specs.declared.limits.TheConstants.{MOST_LEVELS};
 ghost use Rattle.revs_grammar.specs.Forms as g;
 ghost use Rattle.revs_grammar.specs.Sentences.{form, few_levels};
@@ -27,7 +28,7 @@ use revc_base::Place;
 use revs_grammar::Profile;
 use revs_lexer::{Sign, Tok, Token, Word};
 use revs_terms::limits::MOST_LEVELS;
-use revs_terms::{Item, Name, Num, Part, Term};
+use revs_terms::{Ends, Item, Name, Part, Term};
 use std::alloc::Global;
 
 // { name } behind the names so far.
@@ -90,6 +91,18 @@ fn part(
     Ok((Part::Slice { i, j, at }, rest))
 }
 
+// Puts a part behind the others. The first takes room for itself alone, as most stand alone.
+fn put(parts: &mut Vec<Part>, part: Part) -> Result<(), Stop>
+    ensures ok { OnOk result (parts.new.items ≡ parts.old.items ++ part ∷ []) }
+    ensures memory { IfErr result (λ stop. stop ≡ Stop.Memory) }
+{
+    if parts.is_empty() {
+        parts.reserve_exact(1)?;
+    }
+    parts.push(part)?;
+    Ok(())
+}
+
 // { part }
 fn all_parts(
     alloc: Global,
@@ -105,7 +118,7 @@ fn all_parts(
     let mut rest = tokens;
     while let Some((at, behind)) = after(rest, Sign::Dot) {
         let (next, left) = part(alloc, profile, behind, at)?;
-        parts.push(next)?;
+        put(&mut parts, next)?;
         rest = left;
     }
     Ok((parts, rest))
@@ -116,9 +129,10 @@ fn range(
     alloc: Global,
     profile: Profile,
     tokens: &[Token],
-) -> Result<(Name, Num, Num, &[Token]), Stop>
+) -> Result<(Name, Box<Ends>, &[Token]), Stop>
     ensures { MatchResult result
-        (λ read. Reads (in_range profile) (read.0, (read.1, (read.2, tt))) tokens.now read.3.now)
+        (λ read. Reads (in_range profile)
+        (read.0, (read.1.value.first, (read.1.value.last, tt))) tokens.now read.2.now)
         (λ stop. Halts (in_range profile) tokens.now stop) }
 {
     let (name, rest) = name(tokens)?;
@@ -127,7 +141,8 @@ fn range(
     let rest = expect(rest, Sign::DotDot)?;
     let (last, rest) = num(alloc, profile, rest)?;
     let rest = expect_word(rest, Word::Do)?;
-    Ok((name, first, last, rest))
+    let ends = Box::new(alloc, Ends { first, last })?;
+    Ok((name, ends, rest))
 }
 
 // The level inside, where it is at most 100; the tokens begin with the one that opens it.
@@ -573,7 +588,7 @@ fn repetition(
         (λ read. ReadsFor profile level at (item_tree_of read.0) tokens.now read.1.now)
         (λ stop. Halts (in_for profile (level + 1)) tokens.now stop) }
 {
-    let (name, first, last, rest) = range(alloc, profile, tokens)?;
+    let (name, ends, rest) = range(alloc, profile, tokens)?;
     let Some((_, behind)) = after(rest, Sign::OpenCurly) else {
         return Err(Stop::Syntax(rest.len()));
     };
@@ -582,8 +597,7 @@ fn repetition(
     Ok((
         Item::For {
             name,
-            first,
-            last,
+            ends,
             items,
             at,
         },

@@ -2,11 +2,13 @@
 
 ghost use Rattle.std.specs.Prelude.{◌≡◌, IfOk, IfErr, IfSome, IfNone, MatchResult, [], ◌∷◌};
 ghost use Rattle.revs_grammar.specs.Forms as g;
-ghost use Rattle.revs_grammar.specs.Productions.{plus};
+ghost use Rattle.revs_grammar.specs.Productions.{digits_of};
+ghost use Rattle.revs_grammar.specs.Sentences.{form};
 ghost use Rattle.revs_grammar.specs.declared.profile.Profile.TheVariants as profiles;
 ghost use Rattle.revs_lexer.specs.declared.token.Tok.TheVariants as toks;
-ghost use Rattle.revs_parser.specs.inside.Reading.{Heads, ReadsForm, HaltsIn};
-ghost use Rattle.revs_parser.specs.inside.Forms.{step_sign, NoStep, ReadsSteps};
+ghost use Rattle.revs_terms.specs.Numbers.{plus};
+ghost use Rattle.revs_parser.specs.inside.Reading.{Heads, ReadsForm, HaltsIn, Skips};
+ghost use Rattle.revs_parser.specs.inside.Forms.{step_sign, NoStep};
 ghost use Rattle.revs_parser.specs.declared.stop.Stop.{Stop};
 
 use crate::leaf::{after, begins_name, name, number};
@@ -14,7 +16,7 @@ use crate::stop::Stop;
 use revc_base::Place;
 use revs_grammar::Profile;
 use revs_lexer::{Sign, Token};
-use revs_terms::{Num, Step, Unit};
+use revs_terms::{Num, Step, Steps, Sum, Unit};
 use std::alloc::Global;
 
 // unit = number | name
@@ -45,11 +47,13 @@ fn first_sign(tokens: &[Token]) -> Option<(bool, Place, &[Token])>
     Some((true, at, behind))
 }
 
-// { + unit | - unit } behind the steps so far.
-fn more_steps(mut steps: Vec<Step>, tokens: &[Token]) -> Result<(Vec<Step>, &[Token]), Stop>
-    ensures { MatchResult result (λ read. ReadsSteps steps.items read.0.items tokens.now read.1.now)
+// { + unit | - unit }
+fn more_steps(alloc: Global, tokens: &[Token]) -> Result<(Vec<Step>, &[Token]), Stop>
+    ensures { MatchResult result
+        (λ read. Skips (form (g.common g.units) 0 ∷ []) (read.0.items, tt) tokens.now read.1.now)
         (λ stop. HaltsIn (g.common g.units) 0 tokens.now stop) }
 {
+    let mut steps = Vec::new(alloc);
     let mut rest = tokens;
     while let Some((minus, _, behind)) = first_sign(rest) {
         let (unit, left) = unit(behind)?;
@@ -59,25 +63,39 @@ fn more_steps(mut steps: Vec<Step>, tokens: &[Token]) -> Result<(Vec<Step>, &[To
     Ok((steps, rest))
 }
 
-// The number of one unit.
-fn of_unit(alloc: Global, unit: Unit) -> Result<Vec<Step>, Stop>
-    ensures ok { IfOk result (λ steps. steps.items ≡ plus unit ∷ []) }
+// The number of a unit and the steps behind it. Digits alone take no memory.
+fn number_of(alloc: Global, first: Unit, more: Vec<Step>) -> Result<Num, Stop>
+    ensures ok { IfOk result (λ number. number ≡ plus first ∷ more.items) }
     ensures memory { IfErr result (λ stop. stop ≡ Stop.Memory) }
 {
-    let mut steps = Vec::new(alloc);
-    steps.push(Step { minus: false, unit })?;
-    Ok(steps)
+    if more.is_empty() {
+        if let Unit::Digits(value, at) = first {
+            return Ok(of_digits(value, at));
+        }
+    }
+    let sum = Box::new(alloc, Sum { first, more })?;
+    Ok(Num {
+        steps: Steps::Sum(sum),
+    })
+}
+
+// The number of digits alone.
+fn of_digits(value: u32, at: Place) -> Num
+    ensures { result ≡ plus (digits_of (record { value = value; at = at })) ∷ [] }
+{
+    Num {
+        steps: Steps::Digits(value, at),
+    }
 }
 
 // A number token alone.
-fn digits(alloc: Global, tokens: &[Token]) -> Result<(Num, &[Token]), Stop>
+fn digits(tokens: &[Token]) -> Result<(Num, &[Token]), Stop>
     ensures { MatchResult result
         (λ read. ReadsForm (g.in_profile profiles.One g.num) 0 read.0 tokens.now read.1.now)
         (λ stop. HaltsIn (g.in_profile profiles.One g.num) 0 tokens.now stop) }
 {
     let (value, at, rest) = number(tokens)?;
-    let steps = of_unit(alloc, Unit::Digits(value, at))?;
-    Ok((Num { steps }, rest))
+    Ok((of_digits(value, at), rest))
 }
 
 // unit { + unit | - unit }
@@ -87,9 +105,9 @@ fn units(alloc: Global, tokens: &[Token]) -> Result<(Num, &[Token]), Stop>
         (λ stop. HaltsIn (g.in_profile profiles.Two g.num) 0 tokens.now stop) }
 {
     let (first, rest) = unit(tokens)?;
-    let steps = of_unit(alloc, first)?;
-    let (steps, rest) = more_steps(steps, rest)?;
-    Ok((Num { steps }, rest))
+    let (more, rest) = more_steps(alloc, rest)?;
+    let number = number_of(alloc, first, more)?;
+    Ok((number, rest))
 }
 
 /// The number that stands first, as the profile has numbers, and the tokens behind it.
@@ -99,7 +117,7 @@ pub fn num(alloc: Global, profile: Profile, tokens: &[Token]) -> Result<(Num, &[
         (λ stop. HaltsIn (g.in_profile profile g.num) 0 tokens.now stop) }
 {
     match profile {
-        Profile::One => digits(alloc, tokens),
+        Profile::One => digits(tokens),
         Profile::Two => units(alloc, tokens),
     }
 }

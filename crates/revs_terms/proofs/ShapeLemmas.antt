@@ -8,6 +8,7 @@ use Rattle.revs_terms.specs.Trees.{assign, loop, bind, run, trees, item_trees, i
 use Rattle.revs_terms.specs.declared.term.Name.{Name}
 use Rattle.revs_terms.specs.declared.term.Step.{Step}
 use Rattle.revs_terms.specs.declared.term.Part.{Part}
+use Rattle.revs_terms.specs.declared.term.Ends.{Ends}
 use Rattle.revs_terms.specs.declared.term.Lambda.{Lambda, fold_out-Lambda}
 use Rattle.revs_terms.specs.declared.term.Item.{Item, fold-roll-Item}
 use Rattle.revs_terms.specs.declared.term.Item.TheVariants as items
@@ -84,11 +85,11 @@ pub item_tree_of-Do : (term : Term) → item_tree_of (items.Do term) ≡ run (tr
 item_tree_of-Do term = ap item_tree_of (sym (items.rolls-Do term)) ∙ fold-roll-Item ItemTree Tree FunctionTree item_step tree_step function_step
     (layer.Do term)
 
-pub item_tree_of-For : (name : Name) (first last : List Step) (inside : Vec Item Global) (at : Place)
-    → item_tree_of (items.For name first last inside at) ≡ run (loop name first last (item_trees (map item_tree_of inside.items)) at)
-item_tree_of-For name first last inside at = ap item_tree_of
-    (sym (items.rolls-For name first last inside at)) ∙ fold-roll-Item ItemTree Tree FunctionTree item_step tree_step function_step
-    (layer.For name first last inside at)
+pub item_tree_of-For : (name : Name) (ends : Box Ends Global) (inside : Vec Item Global) (at : Place)
+    → item_tree_of (items.For name ends inside at) ≡ run (loop name ends.value.first ends.value.last (item_trees (map item_tree_of inside.items)) at)
+item_tree_of-For name ends inside at = ap item_tree_of
+    (sym (items.rolls-For name ends inside at)) ∙ fold-roll-Item ItemTree Tree FunctionTree item_step tree_step function_step
+    (layer.For name ends inside at)
 
 -- All of them, for a search or a `simp`.
 pub ruleset shapes = (

@@ -1,6 +1,7 @@
 pub mod Runs
 pub mod Scopes
 pub mod Running
+pub mod Numbers
 pub mod Trees
 pub mod Terms
 pub mod Programs

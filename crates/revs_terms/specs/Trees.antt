@@ -65,8 +65,8 @@ pub record FunctionTree : Type 0 where
 abbrev pub item_step : Item-F ItemTree Tree FunctionTree → ItemTree
 item_step (layer.Let name value) = bind name value
 item_step (layer.Do term) = run term
-item_step (layer.For name first last items at) =
-    run (loop name first last (item_trees items.items) at)
+item_step (layer.For name ends items at) =
+    run (loop name ends.value.first ends.value.last (item_trees items.items) at)
 
 -- One layer of a term, with the tree of each inner term in its stead.
 abbrev pub tree_step : Term-F ItemTree Tree FunctionTree → Tree

@@ -11,4 +11,4 @@ mod term;
 
 pub use cause::Cause;
 pub use program::{Param, Program, has_outputs, leaves_tape, one_tape, same_for_all};
-pub use term::{Item, Lambda, Name, Num, Part, Step, Term, Unit};
+pub use term::{Ends, Item, Lambda, Name, Num, Part, Step, Steps, Sum, Term, Unit};

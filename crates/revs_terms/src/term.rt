@@ -41,11 +41,25 @@ pub struct Step {
     pub unit: Unit,
 }
 
-/// A number: its steps from left to right, at least one, of which the first is added. Contracts see
-/// it as the list of its steps.
+/// A sum of units: the first, which is added, and the steps behind it.
+#[derive(Drop)]
+pub struct Sum {
+    pub first: Unit,
+    pub more: Vec<Step>,
+}
+
+/// The steps of a number: digits alone, which take no memory of their own, or a sum.
+#[derive(Drop)]
+pub enum Steps {
+    Digits(u32, Place),
+    Sum(Box<Sum>),
+}
+
+/// A number. Contracts see it as the list of its steps from left to right: it has one at least, of
+/// which the first is added.
 #[derive(Drop)]
 pub struct Num {
-    pub steps: Vec<Step>,
+    pub steps: Steps,
 }
 
 impl Model for Num {
@@ -54,7 +68,9 @@ impl Model for Num {
 
     ghost Value = { List Step };
 
-    ghost view = { λ n. n.steps.items };
+    ghost use Rattle.revs_terms.specs.Numbers.{steps_of};
+
+    ghost view = { λ n. steps_of n.steps };
 }
 
 /// A part of a register: the element in one place, or the elements in the places `i` to `j`. Its
@@ -63,6 +79,13 @@ impl Model for Num {
 pub enum Part {
     Index { i: Num, at: Place },
     Slice { i: Num, j: Num, at: Place },
+}
+
+/// The first and the last number of a `for`.
+#[derive(Drop)]
+pub struct Ends {
+    pub first: Num,
+    pub last: Num,
 }
 
 /// An item of a block or of a `for`: a value with a name, a term that is run and whose value is
@@ -78,8 +101,7 @@ pub enum Item {
     Do(Term),
     For {
         name: Name,
-        first: Num,
-        last: Num,
+        ends: Box<Ends>,
         items: Vec<Item>,
         at: Place,
     },

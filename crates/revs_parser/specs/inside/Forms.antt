@@ -236,12 +236,6 @@ pub record NoStep (ts : List Token) : Type 0 where
   pub no_plus : NotFirst (toks.Sign signs.Plus) ts
   pub no_minus : NotFirst (toks.Sign signs.Minus) ts
 
--- { + unit | - unit } was read, and the steps were put behind those before.
-pub record ReadsSteps (before all : List Step) (ts rest : List Token) : Type 0 where
-  pub more : List Step
-  pub all_steps : all ≡ before ++ more
-  pub skips : Skips (form (common g.units) 0 ∷ []) (more, tt) ts rest
-
 -- what is expected of a `let` behind the word
 abbrev pub in_binding : Profile → ℕ → Stack
 in_binding p level = behind_first level (let_line p).pieces

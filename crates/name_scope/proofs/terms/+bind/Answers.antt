@@ -432,11 +432,12 @@ pub bind_item-returns-in-For : goal.bind_item-returns-in-For
 bind_item-returns-in-For t c =
     rw (
       c.in-For.is,
-      items.outs-For c.in-For.name c.in-For.first c.in-For.last c.in-For.items c.in-For.at,
-      item_tree_of-For c.in-For.name c.in-For.first c.in-For.last c.in-For.items c.in-For.at,
-      item_tree_of-For c.in-For.name c.bind_loop.new.first c.bind_loop.new.last (with_items c.in-For.items c.bind_loop.new.items) c.in-For.at,
+      items.outs-For c.in-For.name c.in-For.ends c.in-For.items c.in-For.at,
+      item_tree_of-For c.in-For.name c.in-For.ends c.in-For.items c.in-For.at,
+      item_tree_of-For c.in-For.name (with_value c.in-For.ends c.bind_loop.new.ends) (with_items c.in-For.items c.bind_loop.new.items) c.in-For.at,
       with_items_is c.in-For.items c.bind_loop.new.items (search (rules, places)),
     )
-    (loop_binds c.bind_loop.result c.args.names.now c.bind_loop.new.names c.in-For.name c.in-For.first c.in-For.last c.bind_loop.new.first
-    c.bind_loop.new.last (item_trees (map item_tree_of c.in-For.items.items)) (item_trees (map item_tree_of c.bind_loop.new.items)) c.in-For.at
-    (rw (c.in-For.name-is, c.in-For.first-is, c.in-For.last-is, c.deref_mut.ensures.value, c.in-For.items-is) at c.bind_loop.ensures))
+    (loop_binds c.bind_loop.result c.args.names.now c.bind_loop.new.names c.in-For.name c.in-For.ends.value.first c.in-For.ends.value.last
+    c.bind_loop.new.ends.first c.bind_loop.new.ends.last (item_trees (map item_tree_of c.in-For.items.items))
+    (item_trees (map item_tree_of c.bind_loop.new.items)) c.in-For.at
+    (rw (c.in-For.name-is, c.deref_mut.ensures.value, c.in-For.ends-is, c.deref_mut-in-For.ensures.value, c.in-For.items-is) at c.bind_loop.ensures))

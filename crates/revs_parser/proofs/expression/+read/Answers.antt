@@ -411,7 +411,7 @@ repetition-returns-in_err-items t c =
 pub repetition-returns : goal.repetition-returns
 repetition-returns t c =
     i.for_reads c.args.level c.in_ok-name.ensures c.in-Some.ensures.found c.args.at c.in_ok-inner.ensures.inner c.in_ok-inner.ensures.within
-    c.in_ok-items.ensures (item_tree_of-For _ _ _ _ c.args.at)
+    c.in_ok-items.ensures (item_tree_of-For _ _ _ c.args.at)
 
 pub loop_items-items-init : goal.loop_items-items-init
 loop_items-items-init t c = record { read = i.loop_begun c.args.level c.args.tokens.now c.new-items.ensures.items }

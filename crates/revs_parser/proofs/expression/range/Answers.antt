@@ -1,4 +1,4 @@
-use Rattle.revs_parser.proofs.PassingLemmas.{halts_on}
+use Rattle.revs_parser.proofs.PassingLemmas.{halts_on, no_memory}
 use Rattle.revs_parser.proofs.ItemLemmas.{range_no_name, range_no_in, range_in_low, range_no_dots, range_in_high, range_no_do, range_reads}
 use Rattle.revs_parser.proofs.expression.range.Goals as goal
 
@@ -28,7 +28,10 @@ returns-in_err-rest-3 c =
     (range_no_do c.in_ok-name.ensures.ok c.in_ok-rest.ensures.ok c.in_ok-first.ensures c.in_ok-rest-2.ensures.ok c.in_ok-last.ensures
     c.in_err-rest-3.ensures.halts)
 
+pub returns-in_err-ends : goal.returns-in_err-ends
+returns-in_err-ends c = halts_on _ _ _ c.from_residual-in_err-ends.ensures.1 no_memory
+
 pub returns : goal.returns
 returns c =
-    range_reads c.in_ok-name.ensures.ok c.in_ok-rest.ensures.ok c.in_ok-first.ensures c.in_ok-rest-2.ensures.ok c.in_ok-last.ensures
-    c.in_ok-rest-3.ensures.ok
+    rw c.in_ok-ends.ensures.ok (range_reads c.in_ok-name.ensures.ok c.in_ok-rest.ensures.ok c.in_ok-first.ensures c.in_ok-rest-2.ensures.ok
+    c.in_ok-last.ensures c.in_ok-rest-3.ensures.ok)

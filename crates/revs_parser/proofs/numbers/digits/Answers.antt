@@ -1,12 +1,9 @@
-use Rattle.revs_parser.proofs.PassingLemmas.{halts_on, wants_memory}
+use Rattle.revs_parser.proofs.PassingLemmas.{halts_on}
 use Rattle.revs_parser.proofs.NumberLemmas.{digits_read, no_digits}
 use Rattle.revs_parser.proofs.numbers.digits.Goals as goal
 
 pub returns-in_err-value : goal.returns-in_err-value
 returns-in_err-value c = halts_on _ _ _ c.from_residual.ensures.1 (no_digits c.in_err-value.ensures.halts)
 
-pub returns-in_err-steps : goal.returns-in_err-steps
-returns-in_err-steps c = halts_on _ _ _ c.from_residual-in_err-steps.ensures.1 (wants_memory c.in_err-steps.ensures.memory)
-
 pub returns : goal.returns
-returns c = digits_read c.in_ok-value.ensures.ok c.in_ok-steps.ensures.ok
+returns c = digits_read c.in_ok-value.ensures.ok c.of_digits.ensures

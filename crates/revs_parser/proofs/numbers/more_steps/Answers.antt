@@ -3,7 +3,7 @@ use Rattle.revs_parser.proofs.NumberLemmas.{steps_begun, steps_more, steps_done,
 use Rattle.revs_parser.proofs.numbers.more_steps.Goals as goal
 
 pub loop-minus-init : goal.loop-minus-init
-loop-minus-init c = record { read = steps_begun c.args.steps.items c.args.tokens.now }
+loop-minus-init c = record { read = steps_begun c.new-steps.result.items c.args.tokens.now c.new-steps.ensures.items }
 
 pub returns-in_err-unit : goal.returns-in_err-unit
 returns-in_err-unit c =

@@ -649,19 +649,19 @@ pub item-returns-in_ok-repeat-in-For-clause-ok : goal.item-returns-in_ok-repeat-
 item-returns-in_ok-repeat-in-For-clause-ok t c = subst
     (λ (i : ItemTree). Binds c.args.self.now c.repeat.new.self
     (item_step (run_of no_bits c.args.left) (env_in (envs_of c.args.self.now) c.args.env) i (state_of c.args.self.now)) c.args.env)
-    (sym (ap item_tree_of c.in-For.is ∙ item_tree_of-For c.in-For.name c.in-For.first c.in-For.last c.in-For.items c.in-For.at))
-    (item_loop c.args.self.now c.repeat.new.self c.args.left c.args.env c.in-For.name c.in-For.first c.in-For.last
-    (map item_tree_of c.in-For.items.items) _ c.in-For.at c.in_ok-repeat-in-For.field-0 (ap (map item_tree_of) c.deref.ensures.value) c.requires.machine
-    c.requires.env c.in_ok-repeat-in-For.ensures.ok)
+    (sym (ap item_tree_of c.in-For.is ∙ item_tree_of-For c.in-For.name c.in-For.ends c.in-For.items c.in-For.at))
+    (item_loop c.args.self.now c.repeat.new.self c.args.left c.args.env c.in-For.name c.in-For.ends.value.first
+    c.in-For.ends.value.last (map item_tree_of c.in-For.items.items) _ c.in-For.at c.in_ok-repeat-in-For.field-0
+    (ap (map item_tree_of) c.deref-in-For.ensures.value) c.requires.machine c.requires.env (rw c.deref.ensures at c.in_ok-repeat-in-For.ensures.ok))
 
 pub item-returns-in_err-repeat-in-For-clause-err : goal.item-returns-in_err-repeat-in-For-clause-err
 item-returns-in_err-repeat-in-For-clause-err t c = passes_on _ c.from_residual-in_err-repeat-in-For.result c.from_residual-in_err-repeat-in-For.ensures.1
     (subst (λ (i : ItemTree). Says c.in_err-repeat-in-For.field-0.0
     (item_step (run_of no_bits c.args.left) (env_in (envs_of c.args.self.now) c.args.env) i (state_of c.args.self.now)))
-    (sym (ap item_tree_of c.in-For.is ∙ item_tree_of-For c.in-For.name c.in-For.first c.in-For.last c.in-For.items c.in-For.at))
-    (item_loop_stuck c.args.left (env_in (envs_of c.args.self.now) c.args.env) c.in-For.name c.in-For.first c.in-For.last
-    (map item_tree_of c.in-For.items.items) _ c.in-For.at (state_of c.args.self.now) c.in_err-repeat-in-For.field-0.0
-    (ap (map item_tree_of) c.deref.ensures.value) c.in_err-repeat-in-For.ensures.err))
+    (sym (ap item_tree_of c.in-For.is ∙ item_tree_of-For c.in-For.name c.in-For.ends c.in-For.items c.in-For.at))
+    (item_loop_stuck c.args.left (env_in (envs_of c.args.self.now) c.args.env) c.in-For.name c.in-For.ends.value.first
+    c.in-For.ends.value.last (map item_tree_of c.in-For.items.items) _ c.in-For.at (state_of c.args.self.now) c.in_err-repeat-in-For.field-0.0
+    (ap (map item_tree_of) c.deref-in-For.ensures.value) (rw c.deref.ensures at c.in_err-repeat-in-For.ensures.err)))
 
 pub item-returns-in_err-repeat-in-For-clause-ok : goal.item-returns-in_err-repeat-in-For-clause-ok
 item-returns-in_err-repeat-in-For-clause-ok t c = no_value c.from_residual-in_err-repeat-in-For.result _ _ c.from_residual-in_err-repeat-in-For.ensures.1
@@ -678,31 +678,32 @@ repeat-turns-requires t c = (
 
 pub repeat-returns-clause-ok : goal.repeat-returns-clause-ok
 repeat-returns-clause-ok t c = IfOk-weaker c.turns.result _ _
-    (λ v g. ends_goes (loop_begun c.args.self.now c.work.new.self c.number.new.self c.number-2.new.self c.args.left c.args.env c.args.first.now
-    c.args.last.now (map item_tree_of c.args.items.now) c.args.at c.in_ok-low.low c.in_ok-high.high c.requires.machine (omega arith) c.requires.env
+    (λ v g. ends_goes (loop_begun c.args.self.now c.work.new.self c.number.new.self c.number-2.new.self c.args.left c.args.env c.args.ends.now.first
+    c.args.ends.now.last (map item_tree_of c.args.items.now) c.args.at c.in_ok-low.low c.in_ok-high.high c.requires.machine (omega arith) c.requires.env
     c.in_ok-work.ensures.ok c.in_ok-low.ensures.ok c.in_ok-high.ensures.ok) g)
     (simp (to_z-of_z, c.in_ok-low.ensures.fits, c.in_ok-high.ensures.fits) at c.turns.ensures.ok)
 
 pub repeat-returns-clause-err : goal.repeat-returns-clause-err
 repeat-returns-clause-err t c = IfErr-weaker c.turns.result _ _
-    (λ f s. said f (loop_begun c.args.self.now c.work.new.self c.number.new.self c.number-2.new.self c.args.left c.args.env c.args.first.now
-    c.args.last.now (map item_tree_of c.args.items.now) c.args.at c.in_ok-low.low c.in_ok-high.high c.requires.machine (omega arith) c.requires.env
+    (λ f s. said f (loop_begun c.args.self.now c.work.new.self c.number.new.self c.number-2.new.self c.args.left c.args.env c.args.ends.now.first
+    c.args.ends.now.last (map item_tree_of c.args.items.now) c.args.at c.in_ok-low.low c.in_ok-high.high c.requires.machine (omega arith) c.requires.env
     c.in_ok-work.ensures.ok c.in_ok-low.ensures.ok c.in_ok-high.ensures.ok) s)
     (simp (to_z-of_z, c.in_ok-low.ensures.fits, c.in_ok-high.ensures.fits) at c.turns.ensures.err)
 
 pub repeat-returns-in_err-work-clause-err : goal.repeat-returns-in_err-work-clause-err
 repeat-returns-in_err-work-clause-err t c = passes_on _ c.from_residual.result c.from_residual.ensures.1
-    (loop_no_work c.args.left (env_in (envs_of c.args.self.now) c.args.env) c.args.first.now c.args.last.now (map item_tree_of c.args.items.now) c.args.at
-    (state_of c.args.self.now) c.in_err-work.field-0.0 (omega arith) c.in_err-work.ensures.err)
+    (loop_no_work c.args.left (env_in (envs_of c.args.self.now) c.args.env) c.args.ends.now.first c.args.ends.now.last
+    (map item_tree_of c.args.items.now) c.args.at (state_of c.args.self.now) c.in_err-work.field-0.0 (omega arith) c.in_err-work.ensures.err)
 
 pub repeat-returns-in_err-low-clause-err : goal.repeat-returns-in_err-low-clause-err
 repeat-returns-in_err-low-clause-err t c = passes_on _ c.from_residual-in_err-low.result c.from_residual-in_err-low.ensures.1
-    (loop_no_first c.args.self.now c.work.new.self c.args.left c.args.env c.args.first.now c.args.last.now (map item_tree_of c.args.items.now) c.args.at
-    c.in_err-low.field-0.0 c.requires.machine (omega arith) c.requires.env c.in_ok-work.ensures.ok c.in_err-low.ensures.err)
+    (loop_no_first c.args.self.now c.work.new.self c.args.left c.args.env c.args.ends.now.first c.args.ends.now.last
+    (map item_tree_of c.args.items.now) c.args.at c.in_err-low.field-0.0 c.requires.machine (omega arith) c.requires.env c.in_ok-work.ensures.ok
+    c.in_err-low.ensures.err)
 
 pub repeat-returns-in_err-high-clause-err : goal.repeat-returns-in_err-high-clause-err
 repeat-returns-in_err-high-clause-err t c = passes_on _ c.from_residual-in_err-high.result c.from_residual-in_err-high.ensures.1
-    (loop_no_last c.args.self.now c.work.new.self c.number.new.self c.args.left c.args.env c.args.first.now c.args.last.now
+    (loop_no_last c.args.self.now c.work.new.self c.number.new.self c.args.left c.args.env c.args.ends.now.first c.args.ends.now.last
     (map item_tree_of c.args.items.now) c.args.at c.in_ok-low.low c.in_err-high.field-0.0 c.requires.machine (omega arith) c.requires.env
     c.in_ok-work.ensures.ok c.in_ok-low.ensures.ok c.in_err-high.ensures.err)
 
