@@ -149,3 +149,11 @@ tok_of-spelled p toks.End h = absurd h
 -- Bytes spell one token at most.
 pub same_spelled : (p : List ℕ) (t u : Tok) → Spells p t → Spells p u → t ≡ u
 same_spelled p t u h k = sym (tok_of-spelled p t h) ∙ tok_of-spelled p u k
+
+word_has_six : (w : Word) → nat_le (length (word_text w)) 6 ≡ true
+word_has_six words.Main = refl
+word_has_six _ = refl
+
+-- no word has more than six bytes
+pub long_is_no_word : (bytes : List ℕ) → 7 ≤ length bytes → word_of bytes ≡ None
+long_is_no_word bytes h = word_of-name bytes (λ w e. absurd (omega (arith, h, ap (length {A = ℕ}) e, leb-true _ _ (word_has_six w))))

@@ -1,5 +1,6 @@
 // One pass over the bytes of a text, piece by piece.
-ghost use Rattle.std.specs.Prelude.{◌≡◌, ◌≢◌, ◌⊎◌, ◌+◌, ◌<◌, ◌≤◌, ◌^◌, List, take, drop, length};
+ghost use Rattle.std.specs.Prelude.{◌≡◌, ◌≢◌, ◌⊎◌, ◌+◌, ◌<◌, ◌≤◌, ◌^◌, List, [], ◌∷◌};
+ghost use Rattle.std.specs.Prelude.{take, drop, length};
 ghost use Rattle.std.specs.Prelude.{IfOk, IfErr, IsErrOf, MatchResult, IsTrue, nat_eq, OnErr};
 ghost use Rattle.std.specs.List.{find, starts_with};
 ghost use Rattle.std.specs.Str.{bytes_eq};
@@ -33,17 +34,60 @@ pub fn limits_are()
 fn word_of(bytes: &[u8]) -> Option<Word>
     ensures { result ≡ find (λ word. bytes_eq (word_text word) bytes.now) Word.ALL }
 {
-    Word::ALL.iter().copied().find(|word| word.text() == bytes)
+    match bytes {
+        b"main" => Some(Word::Main),
+        b"let" => Some(Word::Let),
+        b"fun" => Some(Word::Fun),
+        b"clean" => Some(Word::Clean),
+        b"assert" => Some(Word::Assert),
+        b"append" => Some(Word::Append),
+        b"rotate" => Some(Word::Rotate),
+        b"reg" => Some(Word::Reg),
+        b"true" => Some(Word::True),
+        b"false" => Some(Word::False),
+        b"bool" => Some(Word::Bool),
+        b"for" => Some(Word::For),
+        b"in" => Some(Word::In),
+        b"do" => Some(Word::Do),
+        b"revs" => Some(Word::Revs),
+        _ => None,
+    }
 }
 
 // The longest sign at the front of the text, which is the first in the table.
 fn sign_at(text: &[u8]) -> Option<Sign>
     ensures { result ≡ find (λ sign. starts_with nat_eq text.now (sign_text sign)) Sign.ALL }
 {
-    Sign::ALL
-        .iter()
-        .copied()
-        .find(|sign| text.starts_with(sign.text()))
+    let (first, rest) = text.split_first()?;
+    match *first {
+        b'<' if rest.starts_with(b">") => Some(Sign::Xor),
+        b'<' if rest.starts_with(b"-") => Some(Sign::Assign),
+        b'&' if rest.starts_with(b"&") => Some(Sign::And),
+        b'-' if rest.starts_with(b">") => Some(Sign::Arrow),
+        b'.' if rest.starts_with(b".") => Some(Sign::DotDot),
+        single => single_sign(single),
+    }
+}
+
+// The sign of one byte.
+fn single_sign(byte: u8) -> Option<Sign>
+    ensures { result ≡ find (λ sign. bytes_eq (sign_text sign) (byte ∷ [])) Sign.ALL }
+{
+    match byte {
+        b'(' => Some(Sign::OpenRound),
+        b')' => Some(Sign::CloseRound),
+        b'[' => Some(Sign::OpenSquare),
+        b']' => Some(Sign::CloseSquare),
+        b'{' => Some(Sign::OpenCurly),
+        b'}' => Some(Sign::CloseCurly),
+        b':' => Some(Sign::Colon),
+        b';' => Some(Sign::Semi),
+        b'=' => Some(Sign::Equal),
+        b'.' => Some(Sign::Dot),
+        b'+' => Some(Sign::Plus),
+        b'-' => Some(Sign::Minus),
+        _ => None,
+    }
 }
 
 // The word or the name that the bytes spell.
