@@ -16,7 +16,7 @@ use Rattle.dependency_graph.specs.declared.node.Sig.{Sig}
 use Rattle.dependency_graph.specs.declared.node.Sig.TheVariants.{Const, Is}
 use Rattle.dependency_graph.specs.Graphs.{GraphView, base_of, node_of, nodes_among, operands, steps_of, output_nodes}
 use Rattle.dependency_graph.specs.Uses.{last_use, last_uses_of}
-use Rattle.dependency_graph.specs.inside.Tables.{with_use, with_uses, with_nodes, with_outputs}
+use Rattle.dependency_graph.specs.inside.Tables.{with_use, with_uses, with_steps, with_outputs}
 use Rattle.dependency_graph.proofs.UseLemmas.{last_before, last_more, filter_push, later_needed, needed_later}
 
 -- ---- lists of numbers below a bound
@@ -99,45 +99,52 @@ outputs_used f n (Const bit ∷ outs) at = outputs_used f n outs at
 outputs_used f n (Is b ∷ outs) at =
     then_used f n b (nodes_among (flat_map base_of outs)) at (λ (z : List ℕ). with_outputs z outs at) (λ g. outputs_used g n outs at)
 
--- ---- nodes
+-- ---- steps, each of some bases
+
+module _ {A : Type 0} (parts : A → List Base) where
+  abbrev pub nodes_in : A → List ℕ
+  nodes_in x = nodes_among (parts x)
+
+  pub nodes_at : (front : List A) (x : A) (behind : List A) → get_or (map nodes_in (front ++ x ∷ behind)) (length front) [] ≡ nodes_in x
+  nodes_at [] x behind = refl
+  nodes_at (y ∷ front) x behind = nodes_at front x behind
+
+  pub steps_used : (all front xs : List A) (n j : ℕ) → all ≡ front ++ xs → length front ≡ j
+      → with_steps parts (map (last_before (map nodes_in all) j) (below n)) j xs ≡ map (last_before (map nodes_in all) (length all)) (below n)
+  steps_used all front [] n j cut size =
+      let whole : j ≡ length all = sym (ap length cut ∙ length-append front [] ∙ omega (arith, size)) in
+      ap (λ (z : ℕ). map (last_before (map nodes_in all) z) (below n)) whole
+  steps_used all front (x ∷ xs) n j cut size =
+      let steps = map nodes_in all in
+      let here : get_or steps j [] ≡ nodes_in x =
+      ap (λ (z : List A). get_or (map nodes_in z) j []) cut
+      ∙ ap (λ (z : ℕ). get_or (map nodes_in (front ++ x ∷ xs)) z []) (sym size)
+      ∙ nodes_at front x xs in
+      let next : suc j ≡ j + 1 = omega arith in
+      let more : (i : ℕ) → cond (is_in (nodes_in x) i) j (last_before steps j i) ≡ last_before steps (j + 1) i = λ i.
+      ap (λ (z : List ℕ). cond (is_in z i) j (last_before steps j i)) (sym here)
+      ∙ sym (last_more steps j i)
+      ∙ ap (λ (z : ℕ). last_before steps z i) next in
+      ap (λ (z : List ℕ). with_steps parts z (j + 1) xs) (bases_used (last_before steps j) n (parts x) j
+      ∙ map_same (λ i. cond (is_in (nodes_in x) i) j (last_before steps j i)) (last_before steps (j + 1)) (below n) more)
+      ∙ steps_used all (front ++ x ∷ []) xs n (j + 1) (cut ∙ sym (append_assoc front (x ∷ []) xs)) (length-append front (x ∷ []) ∙ omega (arith, size))
 
 abbrev pub step_of : Node → List ℕ
-step_of node = nodes_among (operands node)
+step_of node = nodes_in operands node
 
 pub step_at : (front : List Node) (x : Node) (behind : List Node) → get_or (map step_of (front ++ x ∷ behind)) (length front) [] ≡ step_of x
-step_at [] x behind = refl
-step_at (y ∷ front) x behind = step_at front x behind
-
-nodes_used : (all front xs : List Node) (n j : ℕ) → all ≡ front ++ xs → length front ≡ j
-    → with_nodes (map (last_before (map step_of all) j) (below n)) j xs ≡ map (last_before (map step_of all) (length all)) (below n)
-nodes_used all front [] n j cut size =
-    let whole : j ≡ length all = sym (ap length cut ∙ length-append front [] ∙ omega (arith, size)) in
-    ap (λ (z : ℕ). map (last_before (map step_of all) z) (below n)) whole
-nodes_used all front (x ∷ xs) n j cut size =
-    let steps = map step_of all in
-    let here : get_or steps j [] ≡ step_of x =
-    ap (λ (z : List Node). get_or (map step_of z) j []) cut
-    ∙ ap (λ (z : ℕ). get_or (map step_of (front ++ x ∷ xs)) z []) (sym size)
-    ∙ step_at front x xs in
-    let next : suc j ≡ j + 1 = omega arith in
-    let more : (i : ℕ) → cond (is_in (step_of x) i) j (last_before steps j i) ≡ last_before steps (j + 1) i = λ i.
-    ap (λ (z : List ℕ). cond (is_in z i) j (last_before steps j i)) (sym here)
-    ∙ sym (last_more steps j i)
-    ∙ ap (λ (z : ℕ). last_before steps z i) next in
-    ap (λ (z : List ℕ). with_nodes z (j + 1) xs) (bases_used (last_before steps j) n (operands x) j
-    ∙ map_same (λ i. cond (is_in (step_of x) i) j (last_before steps j i)) (last_before steps (j + 1)) (below n) more)
-    ∙ nodes_used all (front ++ x ∷ []) xs n (j + 1) (cut ∙ sym (append_assoc front (x ∷ []) xs)) (length-append front (x ∷ []) ∙ omega (arith, size))
+step_at front x behind = nodes_at operands front x behind
 
 -- ---- the whole table
 
 pub table_is : (g : GraphView)
-    → with_outputs (with_nodes (below (length g.nodes)) 0 g.nodes) g.outputs (length g.nodes) ≡ last_uses_of g
+    → with_outputs (with_steps operands (below (length g.nodes)) 0 g.nodes) g.outputs (length g.nodes) ≡ last_uses_of g
 table_is g =
     let n = length g.nodes in
     let steps = steps_of g in
     let size : length steps ≡ n = length-map g.nodes step_of in
-    ap (λ (z : List ℕ). with_outputs (with_nodes z 0 g.nodes) g.outputs n) (sym (map_itself (below n)))
-    ∙ ap (λ (z : List ℕ). with_outputs z g.outputs n) (nodes_used g.nodes [] g.nodes n 0 refl refl)
+    ap (λ (z : List ℕ). with_outputs (with_steps operands z 0 g.nodes) g.outputs n) (sym (map_itself (below n)))
+    ∙ ap (λ (z : List ℕ). with_outputs z g.outputs n) (steps_used operands g.nodes [] g.nodes n 0 refl refl)
     ∙ outputs_used (last_before steps n) n g.outputs n
     ∙ ap (λ (z : ℕ). map (λ i. cond (is_in (output_nodes g) i) z (last_before steps z i)) (below n)) (sym size)
 

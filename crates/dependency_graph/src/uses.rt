@@ -4,7 +4,7 @@ ghost use Rattle.list_facts.specs.Lists.{below};
 ghost use Rattle.revs_tape.specs.declared.limits.TheConstants.{MOST_WRITES};
 ghost use Rattle.dependency_graph.specs.Graphs.{operands};
 ghost use Rattle.dependency_graph.specs.Uses.{last_uses_of};
-ghost use Rattle.dependency_graph.specs.inside.Tables.{with_nodes, with_outputs, with_use};
+ghost use Rattle.dependency_graph.specs.inside.Tables.{with_outputs, with_steps, with_use};
 ghost use Rattle.dependency_graph.specs.inside.Tables.{with_uses};
 
 use crate::{Base, Node, Sig};
@@ -38,7 +38,7 @@ fn set_operand_uses(table: &mut [u32], node: Node, place: u32)
 
 fn set_node_uses(table: &mut [u32], nodes: &[Node])
     requires { length nodes.now ≤ MOST_WRITES }
-    ensures { table.new ≡ with_nodes table.old 0 nodes.now }
+    ensures { table.new ≡ with_steps operands table.old 0 nodes.now }
 {
     for (place, node) in nodes.iter().enumerate() {
         set_operand_uses(table, *node, place as u32);
@@ -71,8 +71,8 @@ fn numbers(alloc: Global, count: u32) -> Result<Vec<u32>, Memory>
 fn filled_table(alloc: Global, nodes: &[Node], outputs: &[Sig]) -> Result<Vec<u32>, Memory>
     requires { length nodes.now ≤ MOST_WRITES }
     ensures { IfOk result (λ table. table.items
-        ≡ with_outputs (with_nodes (below (length nodes.now)) 0 nodes.now) outputs.now
-        (length nodes.now)) }
+        ≡ with_outputs (with_steps operands (below (length nodes.now)) 0 nodes.now)
+        outputs.now (length nodes.now)) }
 {
     let count = nodes.len() as u32;
     let mut table = numbers(alloc, count)?;

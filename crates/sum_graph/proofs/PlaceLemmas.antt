@@ -1,14 +1,15 @@
 -- Sums that are placed: the nodes of the lean graph that have them, and what the slots keep.
 use Rattle.std.proofs.Common.{◌≡◌, ◌⊎◌, ℕ, ◌+◌, ◌≤◌, Bool, true, false, cond, List, [], ◌∷◌, ◌++◌, length, slice_get, Some}
-use Rattle.std.proofs.Common.{sym, ap, ◌∙◌, subst, inl, inr, arith, append-nil}
+use Rattle.std.proofs.Common.{refl, sym, ap, ◌∙◌, subst, inl, inr, arith, append-nil}
 use Rattle.std.specs.Bool.{xor}
-use Rattle.std.specs.List.{list_any}
+use Rattle.std.specs.List.{AllByRecursion, list_any}
 use Rattle.std.proofs.lemmas.Bool.{cases_Bool, lt-ltb}
 use Rattle.std.proofs.lemmas.List.{length-append}
 use Rattle.std.proofs.lemmas.List.Sums.{sum_by-append, sum_by-cons}
 use Rattle.std.proofs.lemmas.Option.{slice_get_within}
 use Rattle.indexmap.specs.IndexSet.{insert_key}
 use Rattle.list_facts.specs.Bits.{bit_of}
+use Rattle.list_facts.proofs.AllLemmas.{AllByRecursion-append}
 use Rattle.list_facts.proofs.BitLemmas.{xor_none, xor_nothing}
 use Rattle.dependency_graph.specs.declared.node.Base.{Base}
 use Rattle.dependency_graph.specs.declared.node.Base.TheVariants as bases
@@ -17,7 +18,7 @@ use Rattle.claim_check.specs.Settled.{SettledView}
 use Rattle.bit_sums.specs.Growing.{FactorView, IsFinished, sum_of_factor}
 use Rattle.bit_sums.specs.Sums.{SumView, sum_value, weight_of}
 use Rattle.bit_sums.proofs.EqualityLemmas.{sum_eq}
-use Rattle.sum_graph.specs.Graphs.{AreKnownSums, IsKnownSum, is_known, products_in, sum_on, sums_made, weight_in}
+use Rattle.sum_graph.specs.Graphs.{AreKnownSums, HasNoConstant, IsKnownSum, is_known, products_in, sum_on, sums_made, weight_in}
 use Rattle.sum_graph.specs.declared.slot.Slot.{Slot}
 use Rattle.sum_graph.specs.declared.slot.Slot.TheVariants as slots
 use Rattle.sum_graph.specs.inside.Placing.{IsOnNode, IsPlaced, IsShortened}
@@ -77,6 +78,7 @@ pub record IsAtHome (s : SettledView) (shared : Bool) (sum : SumView) (old new :
   pub few : length new ≤ length old + 1
   pub products : products_in new + slot_products slot ≤ products_in old + length sum.products
   pub light : weight_in new + slot_weight slot ≤ weight_in old + weight_of sum
+  pub no_constants : AllByRecursion HasNoConstant old → AllByRecursion HasNoConstant new
   pub stays : shared ≡ false → slot ≡ slots.Sum sum
   pub factor : shared ≡ true → (f : FactorView) × (slot ≡ slots.Factor f) × IsKnownSum s.inputs (length new) (sum_of_factor f)
       × ((input : List Bool) → sum_on new input (sum_of_factor f) ≡ sum_on old input sum)
@@ -106,6 +108,7 @@ shortened s sum old new slot nodes known is =
       few = rw is.same (omega arith);
       products = rw (is.same, is.is) (omega arith);
       light = rw (is.same, is.is) (omega arith);
+      no_constants = λ none. subst (AllByRecursion HasNoConstant) (sym is.same) none;
       stays = λ no. cc;
       factor = λ yes. (
         is.factor,
@@ -133,6 +136,12 @@ known_grown : (n : ℕ) (old new : List SumView) (sum : SumView) → AreKnownSum
 known_grown n old new sum nodes known (inl same) = subst (AreKnownSums n 0) (sym same) nodes
 known_grown n old new sum nodes known (inr more) = subst (AreKnownSums n 0) (sym more) (known_more n old sum nodes known)
 
+constants_grown : (old new : List SumView) (sum : SumView) → AllByRecursion HasNoConstant old → sum.one ≡ false
+    → (new ≡ old) ⊎ (new ≡ old ++ sum ∷ []) → AllByRecursion HasNoConstant new
+constants_grown old new sum none is (inl same) = subst (AllByRecursion HasNoConstant) (sym same) none
+constants_grown old new sum none is (inr more) =
+    subst (AllByRecursion HasNoConstant) (sym more) (AllByRecursion-append HasNoConstant old (sum ∷ []) none (is, tt))
+
 on_node : (s : SettledView) (sum : SumView) (old new : List SumView) (slot : Slot) → AreKnownSums s.inputs 0 old → IsKnownSum s.inputs (length old) sum
     → IsOnNode sum old new slot → IsAtHome s true sum old new slot
 on_node s sum old new slot nodes known is =
@@ -148,6 +157,7 @@ on_node s sum old new slot nodes known is =
       few = few_grown old new rest is.grown;
       products = rw is.is (omega (arith, products_grown old new rest is.grown, is.finished.few));
       light = rw is.is (omega (arith, weight_grown old new rest is.grown, is.finished.light));
+      no_constants = λ none. constants_grown old new rest none refl is.grown;
       stays = λ no. cc;
       factor = λ yes. (
         factor,
@@ -169,6 +179,7 @@ at_home s false sum old new slot nodes known is = record {
   few = rw is.0 (omega arith);
   products = rw (is.0, is.1) (omega arith);
   light = rw (is.0, is.1) (omega arith);
+  no_constants = λ none. subst (AllByRecursion HasNoConstant) (sym is.0) none;
   stays = λ no. is.1;
   factor = λ yes. cc;
 }

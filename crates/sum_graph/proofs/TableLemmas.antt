@@ -1,20 +1,18 @@
 -- The table of last uses holds them.
-use Rattle.std.proofs.Common.{◌≡◌, ℕ, suc, ◌+◌, ◌<◌, ◌≤◌, cond, List, [], ◌∷◌, ◌++◌, length, map, get_or, drop}
-use Rattle.std.proofs.Common.{refl, sym, ap, ◌∙◌, arith, length-append}
+use Rattle.std.proofs.Common.{◌≡◌, ℕ, ◌+◌, ◌<◌, ◌≤◌, cond, List, [], ◌∷◌, ◌++◌, length, map, get_or, drop}
+use Rattle.std.proofs.Common.{refl, sym, ap, ◌∙◌, arith}
 use Rattle.std.specs.List.{flat_map}
-use Rattle.std.proofs.lemmas.List.{append_assoc, drop_all, drop_more, length-map}
+use Rattle.std.proofs.lemmas.List.{drop_all, drop_more, length-map}
 use Rattle.list_facts.specs.Lists.{below}
 use Rattle.list_facts.proofs.OrderLemmas.{length-below}
 use Rattle.revs_tape.specs.Cuts.{is_in}
 use Rattle.dependency_graph.specs.declared.node.Base.{Base}
-use Rattle.dependency_graph.specs.Graphs.{nodes_among}
-use Rattle.dependency_graph.specs.inside.Tables.{with_use, with_uses}
-use Rattle.dependency_graph.proofs.TableLemmas.{at_below, bases_used, map_itself, map_same}
-use Rattle.dependency_graph.proofs.UseLemmas.{last_before, last_more}
+use Rattle.dependency_graph.specs.inside.Tables.{with_steps, with_use, with_uses}
+use Rattle.dependency_graph.proofs.TableLemmas.{at_below, bases_used, map_itself, nodes_in, steps_used}
+use Rattle.dependency_graph.proofs.UseLemmas.{last_before}
 use Rattle.bit_sums.specs.Sums.{ProductView, SumView, bases_of, product_bases}
 use Rattle.sum_graph.specs.Graphs.{SumGraphView}
 use Rattle.sum_graph.specs.Uses.{sum_last_use, sum_last_uses, sum_output_nodes, sum_steps}
-use Rattle.sum_graph.specs.inside.Tables.{with_sums}
 
 -- ---- uses of bases, one list behind another
 
@@ -52,45 +50,16 @@ sum_ends table bits all s some products i at is are e past same =
     ∙ ap (λ (z : List ℕ). with_uses z (flat_map product_bases s.products) at) (e ∙ ap (λ (bs : List Base). with_uses table bs at) is)
     ∙ sym (uses-append table s.bits (flat_map product_bases s.products) at)
 
--- ---- nodes
-
-abbrev pub step_of : SumView → List ℕ
-step_of s = nodes_among (bases_of s)
-
-step_at : (front : List SumView) (x : SumView) (behind : List SumView) → get_or (map step_of (front ++ x ∷ behind)) (length front) [] ≡ step_of x
-step_at [] x behind = refl
-step_at (y ∷ front) x behind = step_at front x behind
-
-nodes_used : (all front xs : List SumView) (n j : ℕ) → all ≡ front ++ xs → length front ≡ j
-    → with_sums (map (last_before (map step_of all) j) (below n)) j xs ≡ map (last_before (map step_of all) (length all)) (below n)
-nodes_used all front [] n j cut size =
-    let whole : j ≡ length all = sym (ap length cut ∙ length-append front [] ∙ omega (arith, size)) in
-    ap (λ (z : ℕ). map (last_before (map step_of all) z) (below n)) whole
-nodes_used all front (x ∷ xs) n j cut size =
-    let steps = map step_of all in
-    let here : get_or steps j [] ≡ step_of x =
-    ap (λ (z : List SumView). get_or (map step_of z) j []) cut
-    ∙ ap (λ (z : ℕ). get_or (map step_of (front ++ x ∷ xs)) z []) (sym size)
-    ∙ step_at front x xs in
-    let next : suc j ≡ j + 1 = omega arith in
-    let more : (i : ℕ) → cond (is_in (step_of x) i) j (last_before steps j i) ≡ last_before steps (j + 1) i = λ i.
-    ap (λ (z : List ℕ). cond (is_in z i) j (last_before steps j i)) (sym here)
-    ∙ sym (last_more steps j i)
-    ∙ ap (λ (z : ℕ). last_before steps z i) next in
-    ap (λ (z : List ℕ). with_sums z (j + 1) xs) (bases_used (last_before steps j) n (bases_of x) j
-    ∙ map_same (λ i. cond (is_in (step_of x) i) j (last_before steps j i)) (last_before steps (j + 1)) (below n) more)
-    ∙ nodes_used all (front ++ x ∷ []) xs n (j + 1) (cut ∙ sym (append_assoc front (x ∷ []) xs)) (length-append front (x ∷ []) ∙ omega (arith, size))
-
 -- ---- the whole table
 
 pub table_is : (g : SumGraphView)
-    → with_uses (with_sums (below (length g.nodes)) 0 g.nodes) (flat_map bases_of g.outputs) (length g.nodes) ≡ sum_last_uses g
+    → with_uses (with_steps bases_of (below (length g.nodes)) 0 g.nodes) (flat_map bases_of g.outputs) (length g.nodes) ≡ sum_last_uses g
 table_is g =
     let n = length g.nodes in
     let steps = sum_steps g in
-    let size : length steps ≡ n = length-map g.nodes step_of in
-    ap (λ (z : List ℕ). with_uses (with_sums z 0 g.nodes) (flat_map bases_of g.outputs) n) (sym (map_itself (below n)))
-    ∙ ap (λ (z : List ℕ). with_uses z (flat_map bases_of g.outputs) n) (nodes_used g.nodes [] g.nodes n 0 refl refl)
+    let size : length steps ≡ n = length-map g.nodes (nodes_in bases_of) in
+    ap (λ (z : List ℕ). with_uses (with_steps bases_of z 0 g.nodes) (flat_map bases_of g.outputs) n) (sym (map_itself (below n)))
+    ∙ ap (λ (z : List ℕ). with_uses z (flat_map bases_of g.outputs) n) (steps_used bases_of g.nodes [] g.nodes n 0 refl refl)
     ∙ bases_used (last_before steps n) n (flat_map bases_of g.outputs) n
     ∙ ap (λ (z : ℕ). map (λ i. cond (is_in (sum_output_nodes g) i) z (last_before steps z i)) (below n)) (sym size)
 
@@ -101,7 +70,7 @@ pub length-sum_last_uses : (g : SumGraphView) → length (sum_last_uses g) ≡ l
 length-sum_last_uses g = length-map (below (length g.nodes)) (sum_last_use g) ∙ length-below (length g.nodes)
 
 pub length-sum_steps : (g : SumGraphView) → length (sum_steps g) ≡ length g.nodes
-length-sum_steps g = length-map g.nodes step_of
+length-sum_steps g = length-map g.nodes (nodes_in bases_of)
 
 pub use_inside : (g : SumGraphView) (table : List ℕ) (n : ℕ) → table ≡ sum_last_uses g → n < length g.nodes → n < length table
 use_inside g table n is low = omega (arith, low, ap length is, length-sum_last_uses g)

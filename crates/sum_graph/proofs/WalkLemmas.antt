@@ -195,6 +195,7 @@ walked_on s shared old between nodes new k node sum slot w e is placed =
         sum_by-cons slot_products slot [],
       );
       light = omega (arith, home.light, step.light, w.light, sum_by-append slot_weight between (slot ∷ []), sum_by-cons slot_weight slot []);
+      no_constants = home.no_constants w.no_constants;
     }
 
 -- ---- outputs

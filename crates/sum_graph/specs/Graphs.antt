@@ -1,5 +1,5 @@
 -- Graphs of sums: nodes that are sums of inputs, of earlier nodes, and of products of two sums of these.
-use Rattle.std.specs.Prelude.{◌≡◌, ℕ, ◌+◌, ◌*◌, ◌≤◌, Bool, List, [], ◌∷◌, ◌++◌, length, map, nat_lt, ⊤}
+use Rattle.std.specs.Prelude.{◌≡◌, ℕ, ◌+◌, ◌*◌, ◌≤◌, Bool, false, List, [], ◌∷◌, ◌++◌, length, map, nat_lt, ⊤}
 use Rattle.std.specs.List.{AllByRecursion, sum_by}
 use Rattle.list_facts.specs.Bits.{bit_of}
 use Rattle.revs_tape.specs.declared.limits.TheConstants.{MOST_INPUTS, MOST_OUTPUTS, MOST_WRITES}
@@ -7,6 +7,7 @@ use Rattle.dependency_graph.specs.declared.node.Base.{Base}
 use Rattle.dependency_graph.specs.declared.node.Base.TheVariants as bases
 use Rattle.dependency_graph.specs.Graphs.{ands_in, base_bit}
 use Rattle.claim_check.specs.Settled.{SettledView, settled_outputs}
+use Rattle.bit_sums.specs.Products.{IsProduct}
 use Rattle.bit_sums.specs.Sums.{SumView, IsSumOver, sum_value, weight_of}
 
 -- a graph of sums: the number of inputs, the nodes and the outputs
@@ -70,8 +71,17 @@ products_in sums = sum_by (λ (s : SumView). length s.products) sums
 abbrev pub weight_in : List SumView → ℕ
 weight_in sums = sum_by weight_of sums
 
+-- the products of a sum are of factors of few bits, each with a bit of its own
+abbrev pub HasFewBits : SumView → Type 0
+HasFewBits sum = AllByRecursion IsProduct sum.products
+
+-- a sum without the constant
+abbrev pub HasNoConstant : SumView → Type 0
+HasNoConstant sum = sum.one ≡ false
+
 -- The lean graph of a settled graph: it has the inputs of that, and on every input the values of its outputs; it has no
--- more nodes, and no more products than the settled graph has ANDs.
+-- more nodes, and no more products than the settled graph has ANDs. Its nodes weigh no more than 29 for each settled one,
+-- and have no constant.
 pub record IsLeanOf (s : SettledView) (l : SumGraphView) : Type 0 where
   pub inputs : l.inputs ≡ s.inputs
   pub outputs : length l.outputs ≡ length s.outputs
@@ -79,3 +89,7 @@ pub record IsLeanOf (s : SettledView) (l : SumGraphView) : Type 0 where
   pub few : length l.nodes ≤ length s.nodes
   pub products : products_in l.nodes + products_in l.outputs ≤ ands_in s.nodes
   pub light : weight_in l.nodes + weight_in l.outputs ≤ 29 * length s.nodes + 4 * length s.outputs
+  pub light_nodes : weight_in l.nodes ≤ 29 * length s.nodes
+  pub no_constants : AllByRecursion HasNoConstant l.nodes
+  pub few_bits : AllByRecursion HasFewBits l.nodes
+  pub few_output_bits : AllByRecursion HasFewBits l.outputs

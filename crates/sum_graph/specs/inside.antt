@@ -2,5 +2,4 @@
 pub mod Marks
 pub mod Operands
 pub mod Placing
-pub mod Tables
 pub mod Walks

@@ -4,6 +4,7 @@ ghost use Rattle.sum_graph.specs.Graphs.{IsSumGraph, IsLeanOf};
 ghost use Rattle.sum_graph.specs.Plain.{plain_of};
 ghost use Rattle.sum_graph.specs.Uses.{sum_last_use};
 
+use crate::factors::factors_have_few_bits;
 use crate::plain::{plain_nodes, plain_outputs};
 use crate::uses::last_uses;
 use crate::walk::Walk;
@@ -59,6 +60,9 @@ impl SumGraph {
         walk.walk(alloc)?;
         let outputs = walk.outputs(alloc)?;
         let nodes = walk.into_nodes(alloc)?;
+        // These calls say that the factors of all products have few bits.
+        factors_have_few_bits(&nodes);
+        factors_have_few_bits(&outputs);
         let last_uses = last_uses(alloc, &nodes, &outputs)?;
         Ok(SumGraph {
             inputs: graph.inputs(),

@@ -3,10 +3,9 @@ ghost use Rattle.std.specs.Prelude.{◌≡◌, ◌≤◌, length, IfOk};
 ghost use Rattle.std.specs.List.{flat_map};
 ghost use Rattle.list_facts.specs.Lists.{below};
 ghost use Rattle.revs_tape.specs.declared.limits.TheConstants.{MOST_WRITES};
-ghost use Rattle.dependency_graph.specs.inside.Tables.{with_use, with_uses};
+ghost use Rattle.dependency_graph.specs.inside.Tables.{with_steps, with_use, with_uses};
 ghost use Rattle.bit_sums.specs.Sums.{bases_of};
 ghost use Rattle.sum_graph.specs.Uses.{sum_last_uses};
-ghost use Rattle.sum_graph.specs.inside.Tables.{with_sums};
 
 use bit_sums::Sum;
 use dependency_graph::Base;
@@ -46,7 +45,7 @@ fn set_sum_uses(table: &mut [u32], sum: &Sum, place: u32)
 
 fn set_node_uses(table: &mut [u32], nodes: &[Sum])
     requires { length nodes.now ≤ MOST_WRITES }
-    ensures { table.new ≡ with_sums table.old 0 nodes.now }
+    ensures { table.new ≡ with_steps bases_of table.old 0 nodes.now }
 {
     for (place, sum) in nodes.iter().enumerate() {
         set_sum_uses(table, sum, place as u32);
@@ -77,7 +76,7 @@ fn numbers(alloc: Global, count: u32) -> Result<Vec<u32>, Memory>
 fn filled_table(alloc: Global, nodes: &[Sum], outputs: &[Sum]) -> Result<Vec<u32>, Memory>
     requires { length nodes.now ≤ MOST_WRITES }
     ensures { IfOk result (λ table. table.items
-        ≡ with_uses (with_sums (below (length nodes.now)) 0 nodes.now)
+        ≡ with_uses (with_steps bases_of (below (length nodes.now)) 0 nodes.now)
         (flat_map bases_of outputs.now) (length nodes.now)) }
 {
     let count = nodes.len() as u32;

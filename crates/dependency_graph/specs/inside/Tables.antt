@@ -2,9 +2,8 @@
 use Rattle.std.specs.Prelude.{ℕ, ◌+◌, List, [], ◌∷◌, slice_set}
 use Rattle.dependency_graph.specs.declared.node.Base.{Base}
 use Rattle.dependency_graph.specs.declared.node.Base.TheVariants as bases
-use Rattle.dependency_graph.specs.declared.node.Node.{Node}
 use Rattle.dependency_graph.specs.declared.node.Sig.{Sig}
-use Rattle.dependency_graph.specs.Graphs.{base_of, operands}
+use Rattle.dependency_graph.specs.Graphs.{base_of}
 
 -- with a use of this base, where the list has its place
 abbrev pub with_use : List ℕ → Base → ℕ → List ℕ
@@ -15,11 +14,11 @@ abbrev pub with_uses : List ℕ → List Base → ℕ → List ℕ
 with_uses table [] place = table
 with_uses table (base ∷ rest) place = with_uses (with_use table base place) rest place
 
--- with the uses of these nodes, of which the first has this place
-abbrev pub with_nodes : List ℕ → ℕ → List Node → List ℕ
-with_nodes table place [] = table
-with_nodes table place (node ∷ rest) =
-    with_nodes (with_uses table (operands node) place) (place + 1) rest
+-- with the uses of these steps, which are of such bases, and of which the first has this place
+abbrev pub with_steps : {A : Type 0} → (A → List Base) → List ℕ → ℕ → List A → List ℕ
+with_steps parts table place [] = table
+with_steps parts table place (step ∷ rest) =
+    with_steps parts (with_uses table (parts step) place) (place + 1) rest
 
 -- with a use of each output at this place
 abbrev pub with_outputs : List ℕ → List Sig → ℕ → List ℕ

@@ -12,7 +12,7 @@ use Rattle.dependency_graph.specs.Graphs.{and_count, base_of, nodes_among, opera
 use Rattle.claim_check.specs.Settled.{IsSettled, SettledView, settled_value}
 use Rattle.bit_sums.specs.Growing.{FactorView, IsFinished, IsShort, IsSumOf, IsTimes, sum_of_factor}
 use Rattle.bit_sums.specs.Sums.{SumView, weight_of}
-use Rattle.sum_graph.specs.Graphs.{AreKnownSums, IsKnownSum, products_in, sum_on, weight_in}
+use Rattle.sum_graph.specs.Graphs.{AreKnownSums, HasNoConstant, IsKnownSum, products_in, sum_on, weight_in}
 use Rattle.sum_graph.specs.declared.slot.Slot.{Slot}
 use Rattle.sum_graph.specs.declared.slot.Slot.TheVariants as slots
 
@@ -161,6 +161,7 @@ pub record IsWalked (s : SettledView) (shared : List Bool) (some : List Slot) (n
   pub few : length nodes ≤ k
   pub products : products_in nodes + sum_by slot_products some ≤ sum_by and_count (take k s.nodes)
   pub light : weight_in nodes + sum_by slot_weight some ≤ 29 * k
+  pub no_constants : AllByRecursion HasNoConstant nodes
 
 -- ---- outputs
 
