@@ -3,7 +3,7 @@ use Rattle.std.proofs.Common.{◌≡◌, ℕ, zero, suc, ◌+◌, ◌<◌, ◌�
 use Rattle.std.proofs.Common.{sym, ◌∙◌, ap, subst, refl, arith}
 use Rattle.list_facts.specs.Bits.{bit_of}
 use Rattle.sum_graph.specs.Graphs.{SumGraphView}
-use Rattle.gate_split.specs.declared.plan.PlanFault.{PlanFault}
+use Rattle.circuit_plans.specs.declared.plan.PlanFault.{PlanFault}
 use Rattle.held_nodes.specs.Held.{ForwardView, IsForward, is_held}
 use Rattle.bennett_pebbling.specs.inside.Changes.{CanLower, IsChanged, IsChangeFault, IsLowered, IsLowerFault, IsRaised, IsRaiseFault, IsReadyBelow}
 use Rattle.bennett_pebbling.specs.inside.Changes.{is_extra, is_missing}
@@ -160,7 +160,7 @@ module _ (f : ForwardView) (lo : ℕ) (wanted start marks : List Bool) (d : AreD
       -- the falling pass falls short
       pub lower_short : (e : PlanFault) → IsLowerFault mid lo wanted e → IsChangeFault f (length wanted) lo wanted e
       lower_short e fault = record {
-        need = need-then f mid e plain.budget (fault.fault (λ k. true) (record { held = λ k is. refl })).need;
+        need = need-then f mid e plain.graph plain.budget (fault.fault (λ k. true) (record { held = λ k is. refl })).need;
         short = λ level width allowed covered a.
             let n = length f.graph.nodes in
             let r = has_reach f lo wanted marks long only allowed a in

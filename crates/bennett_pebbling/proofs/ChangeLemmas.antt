@@ -2,7 +2,7 @@
 use Rattle.std.proofs.Common.{◌≡◌, ℕ, ◌+◌, ◌≤◌, Bool, true, false, List, length, refl, sym, arith}
 use Rattle.std.proofs.lemmas.Bool.{false≢true}
 use Rattle.list_facts.specs.Bits.{bit_of}
-use Rattle.gate_split.specs.declared.plan.PlanFault.{PlanFault}
+use Rattle.circuit_plans.specs.declared.plan.PlanFault.{PlanFault}
 use Rattle.held_nodes.specs.Held.{ForwardView, is_held}
 use Rattle.bennett_pebbling.specs.inside.Changes.{IsChanged, IsChangeFault, IsRisen, IsRiseFault, IsThrifty}
 use Rattle.bennett_pebbling.specs.inside.Costs.{block_room, block_toggles, counted, reach_of, toggles_at}

@@ -13,7 +13,7 @@ use Rattle.sum_graph.proofs.TableLemmas.{length-sum_steps}
 use Rattle.dependency_graph.proofs.UseLemmas.{last_uses_tell_cuts, needed_later, some_from}
 use Rattle.sum_graph.specs.Graphs.{SumGraphView}
 use Rattle.claim_check.proofs.UsedLemmas.{is_in_from}
-use Rattle.gate_split.specs.declared.plan.PlanFault.{PlanFault}
+use Rattle.circuit_plans.specs.declared.plan.PlanFault.{PlanFault}
 use Rattle.held_nodes.specs.Held.{ForwardView, IsForward, is_held}
 use Rattle.bennett_pebbling.specs.inside.Changes.{CanWork, IsChanged, IsChangeFault, IsReadyBelow, IsRisen, IsRiseFault, IsThrifty}
 use Rattle.bennett_pebbling.specs.inside.Costs.{Allows, AllowsHeld, IsCovered, IsMove, IsShort, counted, reach_of, room_at, size_at, toggles_at}
@@ -285,7 +285,7 @@ module _ (f : ForwardView) (block lo : ℕ) (wanted left right needed : List Boo
 
     pub second_short : (e : PlanFault) → IsChangeFault first block (lo + half) right e → IsChangeFault f block lo wanted e
     unfolding half_reach
-    second_short e fault = record { need = need-then f first e one.budget fault.need; short = short }
+    second_short e fault = record { need = need-then f first e one.graph one.budget fault.need; short = short }
       where
         short : (level width : ℕ) (allowed : ℕ → Bool) → IsCovered f.graph block (length wanted) level width → Allows f lo wanted allowed
             → IsShort f (reach_of f block level width allowed) (toggles_at block level) e
@@ -411,7 +411,7 @@ module _ (f : ForwardView) (block lo : ℕ) (wanted left right needed : List Boo
 
       pub third_short : (e : PlanFault) → IsChangeFault second block lo left e → IsChangeFault f block lo wanted e
       unfolding half_reach
-      third_short e fault = record { need = need-then f first e one.budget (need-then first second e two.budget fault.need); short = short }
+      third_short e fault = record { need = need-then f first e one.graph one.budget (need-then first second e two.graph two.budget fault.need); short = short }
         where
           short : (level width : ℕ) (allowed : ℕ → Bool) → IsCovered f.graph block (length wanted) level width → Allows f lo wanted allowed
               → IsShort f (reach_of f block level width allowed) (toggles_at block level) e

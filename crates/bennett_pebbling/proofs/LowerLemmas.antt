@@ -4,7 +4,7 @@ use Rattle.std.proofs.Common.{sym, ◌∙◌, ap, subst, refl, arith}
 use Rattle.std.proofs.lemmas.Bool.{cases_eq, cases_lt}
 use Rattle.list_facts.specs.Bits.{bit_of}
 use Rattle.sum_graph.specs.Graphs.{SumGraphView}
-use Rattle.gate_split.specs.declared.plan.PlanFault.{PlanFault}
+use Rattle.circuit_plans.specs.declared.plan.PlanFault.{PlanFault}
 use Rattle.held_nodes.specs.Held.{ForwardView, IsForward, is_held}
 use Rattle.bennett_pebbling.specs.inside.Changes.{AllowsTurn, CanLower, CanTurn, IsLowered, IsLowerFault, IsTurned, IsTurnFault, is_extra, turned}
 use Rattle.bennett_pebbling.specs.inside.Costs.{AllowsHeld, IsMove, IsMoveFault, counted, one_if}

@@ -1,12 +1,13 @@
 -- Moves one after another, and within other numbers.
-use Rattle.std.proofs.Common.{◌≡◌, ℕ, ◌+◌, ◌<◌, ◌≤◌, ◌∙◌, sym, ap, subst, refl, arith}
-use Rattle.gate_split.specs.declared.plan.PlanFault.{PlanFault}
-use Rattle.gate_split.specs.declared.plan.PlanFault.TheVariants.{Lines, Gates, Memory}
-use Rattle.gate_split.specs.Plans.{BudgetView}
+use Rattle.std.proofs.Common.{◌≡◌, ℕ, ◌+◌, ◌<◌, ◌≤◌, Bool, true, false, length, ◌∙◌, sym, ap, subst, refl, arith}
+use Rattle.circuit_plans.specs.declared.plan.PlanFault.{PlanFault}
+use Rattle.circuit_plans.specs.declared.plan.PlanFault.TheVariants.{Lines, Gates, Memory}
+use Rattle.circuit_plans.specs.Plans.{BudgetView}
 use Rattle.sum_graph.specs.Graphs.{SumGraphView}
 use Rattle.held_nodes.specs.Held.{ForwardView, work_lines}
 use Rattle.bennett_pebbling.specs.Pebbling.{IsLight}
-use Rattle.bennett_pebbling.specs.inside.Costs.{HasNeed, IsMove, IsMoveFault, IsShort}
+use Rattle.held_nodes.specs.Moves.{weight_in}
+use Rattle.bennett_pebbling.specs.inside.Costs.{HasNeed, IsHeavy, IsMove, IsMoveFault, IsShort, price_if}
 
 -- nothing is moved
 pub no_move : (f : ForwardView) (reach toggles : ℕ) → IsMove f reach toggles f
@@ -48,10 +49,15 @@ short-weaker f reach more toggles larger Memory low few s = tt
 same_work : (s t : SumGraphView) (b c : BudgetView) → s ≡ t → b ≡ c → work_lines s b ≡ work_lines t c
 same_work s t b c e d = ap (λ (x : SumGraphView). work_lines x b) e ∙ ap (λ (x : BudgetView). work_lines t x) d
 
-pub need-then : (f mid : ForwardView) (e : PlanFault) → mid.budget ≡ f.budget → HasNeed mid e → HasNeed f e
-need-then f mid (Lines need) same h = h ∙ ap (λ (b : BudgetView). b.lines + 1) same
-need-then f mid Gates same h = tt
-need-then f mid Memory same h = tt
+pub need-then : (f mid : ForwardView) (e : PlanFault) → mid.graph ≡ f.graph → mid.budget ≡ f.budget → HasNeed mid e → HasNeed f e
+need-then f mid (Lines need) alike same h =
+    let work = same_work mid.graph f.graph mid.budget f.budget alike same in
+    let nodes = ap (λ (s : SumGraphView). length s.nodes) alike in (
+      h.0 ∙ ap (λ (b : BudgetView). b.lines + 1) same,
+      omega (arith, h.1, work, nodes),
+    )
+need-then f mid Gates alike same h = tt
+need-then f mid Memory alike same h = tt
 
 -- a move that falls short after another
 pub short-then : (f mid : ForwardView) (reach first second : ℕ) (e : PlanFault) → IsMove f reach first mid → IsShort mid reach second e
@@ -74,6 +80,24 @@ fault-weaker f reach more toggles larger e low few s = record {
 pub fault-then : (f mid : ForwardView) (reach first second : ℕ) (e : PlanFault) → IsMove f reach first mid → IsMoveFault mid reach second e
     → IsMoveFault f reach (first + second) e
 fault-then f mid reach first second e m s = record {
-  need = need-then f mid e m.budget s.need;
+  need = need-then f mid e m.graph m.budget s.need;
   short = short-then f mid reach first second e m s.short;
 }
+
+pub heavy-weaker : (f : ForwardView) (weight more : ℕ) (e : PlanFault) → weight ≤ more → IsHeavy f weight e → IsHeavy f more e
+heavy-weaker f weight more (Lines need) le h = tt
+heavy-weaker f weight more Gates le h = omega (arith, h, le)
+heavy-weaker f weight more Memory le h = tt
+
+pub price_if-most : (turn : Bool) (price : ℕ) → price_if turn price ≤ price
+price_if-most true price = omega arith
+price_if-most false price = omega arith
+
+-- gates that are too heavy behind others
+pub heavy-then : (f mid : ForwardView) (first second : ℕ) (e : PlanFault) → mid.budget ≡ f.budget → weight_in mid.gates ≤ weight_in f.gates + first
+    → IsHeavy mid second e → IsHeavy f (first + second) e
+heavy-then f mid first second (Lines need) same le h = tt
+heavy-then f mid first second Gates same le h =
+    let gates : mid.budget.gates ≡ f.budget.gates = ap (λ (b : BudgetView). b.gates) same in
+    omega (arith, h, le, gates)
+heavy-then f mid first second Memory same le h = tt

@@ -1,5 +1,5 @@
--- The outputs as nodes that are wanted, and the number of copies.
-use Rattle.std.proofs.Common.{◌≡◌, ℕ, ◌+◌, ◌<◌, ◌≤◌, true, false, inl, inr, List, [], ◌∷◌, ◌++◌, length, drop, Option, sum_by, sym, ◌∙◌, ap, subst, arith}
+-- The outputs as nodes that are wanted, and the weight of copies.
+use Rattle.std.proofs.Common.{◌≡◌, ℕ, ◌+◌, ◌*◌, ◌<◌, ◌≤◌, true, false, inl, inr, List, [], ◌∷◌, ◌++◌, length, drop, Option, sum_by, sym, ◌∙◌, ap, subst, arith}
 use Rattle.std.proofs.Common.{length-append}
 use Rattle.std.specs.List.{AllByRecursion, flat_map, list_any}
 use Rattle.std.proofs.lemmas.List.{drop_all}
@@ -19,11 +19,11 @@ use Rattle.sum_graph.specs.Graphs.{IsKnownSum, IsSumGraph, SumGraphView}
 use Rattle.sum_graph.specs.Plain.{plain_output}
 use Rattle.sum_graph.specs.Uses.{sum_last_use, sum_output_nodes, sum_steps}
 use Rattle.sum_graph.proofs.TableLemmas.{length-sum_steps}
-use Rattle.sum_toggles.specs.Toggles.{base_line, sum_gates, toggle_weight}
+use Rattle.sum_toggles.specs.Toggles.{toggle_weight}
 use Rattle.held_nodes.specs.Held.{is_held}
-use Rattle.held_nodes.specs.Moves.{IsReadySum, copies_from}
+use Rattle.held_nodes.specs.Moves.{IsReadySum}
 use Rattle.held_nodes.proofs.PlaceLemmas.{known_bases}
-use Rattle.bennett_pebbling.specs.Pebbling.{IsCopy, IsLight}
+use Rattle.bennett_pebbling.specs.Pebbling.{IsCopy, IsLight, plain_weight}
 use Rattle.bennett_pebbling.proofs.NeedLemmas.{all_below, nodes-append}
 use Rattle.bennett_pebbling.proofs.ReadyLemmas.{or_true, ready_operands}
 
@@ -47,21 +47,6 @@ few_nodes (x ∷ rest) light =
 pub few_outputs : (s : SumGraphView) → IsLight s → length (sum_output_nodes s) ≤ length s.outputs
 few_outputs s light = few_nodes s.outputs light.outputs
 
-one_copy : (first : ℕ) (lines : List (Option ℕ)) (target : ℕ) (sig : Sig) → length (sum_gates (base_line first lines) target (plain_output sig)) ≤ 1
-one_copy first lines target (Const true) = omega arith
-one_copy first lines target (Const false) = omega arith
-one_copy first lines target (Is base) = omega arith
-
-pub few_copies : (first : ℕ) (lines : List (Option ℕ)) (target : ℕ) (sums : List SumView) → AllByRecursion IsCopy sums
-    → length (copies_from first lines target sums) ≤ length sums
-few_copies first lines target [] light = omega arith
-few_copies first lines target (x ∷ rest) light =
-    let copy = light.0 in
-    let here : length (sum_gates (base_line first lines) target x) ≤ 1 =
-    subst (λ (s : SumView). length (sum_gates (base_line first lines) target s) ≤ 1) (sym copy.is) (one_copy first lines target copy.sig) in
-    let all = length-append (sum_gates (base_line first lines) target x) (copies_from first lines (target + 1) rest) in
-    omega (arith, all, here, few_copies first lines (target + 1) rest light.1)
-
 light_copy : (sig : Sig) → toggle_weight (plain_output sig) ≤ 1
 light_copy (Const true) = omega arith
 light_copy (Const false) = omega arith
@@ -74,6 +59,17 @@ light_copies (x ∷ rest) light =
     let here : toggle_weight x ≤ 1 = subst (λ (s : SumView). toggle_weight s ≤ 1) (sym copy.is) (light_copy copy.sig) in
     let all = sum_by-append toggle_weight (x ∷ []) rest in
     omega (arith, all, here, light_copies rest light.1)
+
+light_nodes : (sums : List SumView) → AllByRecursion (λ (s : SumView). toggle_weight s ≤ 2) sums → sum_by toggle_weight sums ≤ 2 * length sums
+light_nodes [] light = omega arith
+light_nodes (x ∷ rest) light =
+    let all = sum_by-append toggle_weight (x ∷ []) rest in
+    let here = light.0 in
+    omega (arith, all, here, light_nodes rest light.1)
+
+-- a light graph's nodes and outputs
+pub light_weight : (s : SumGraphView) → IsLight s → plain_weight s ≤ 4 * length s.nodes + length s.outputs
+light_weight s light = omega (arith, light_nodes s.nodes light.toggles, light_copies s.outputs light.outputs)
 
 -- ---- outputs
 

@@ -1,10 +1,11 @@
 -- A plan by halves: what it costs, and why there is none.
-use Rattle.std.proofs.Common.{◌≡◌, ℕ, zero, suc, ◌+◌, ◌*◌, ◌^◌, ◌<◌, ◌≤◌, min, Bool, true, false, ◌||◌, List, ◌++◌, length, reverse, replicate, Option, None}
-use Rattle.std.proofs.Common.{sym, ◌∙◌, ap, subst, refl, arith, length-append, zero-add}
+use Rattle.std.proofs.Common.{◌≡◌, ℕ, zero, suc, ◌+◌, ◌*◌, ◌^◌, ◌<◌, ◌≤◌, min, Bool, true, false, ◌||◌, List, length, replicate, Option, None, Result, Ok, Err, sum_by}
+use Rattle.std.proofs.Common.{sym, ◌∙◌, ap, subst, refl, arith, zero-add}
+use Rattle.std.specs.Result.{IfOk}
 use Rattle.std.specs.Prelude.{nat_le}
 use Rattle.std.specs.List.{AllByRecursion}
 use Rattle.std.proofs.lemmas.Bool.{le-leb, leb-true, lt-leb}
-use Rattle.std.proofs.lemmas.List.{get_or-replicate, length-replicate, length-reverse}
+use Rattle.std.proofs.lemmas.List.{get_or-replicate, length-replicate}
 use Rattle.std.proofs.lemmas.List.Sums.{count_by-le-length, length-filter}
 use Rattle.list_facts.proofs.OrderLemmas.{length-below}
 use Rattle.list_facts.specs.Bits.{bit_of}
@@ -13,25 +14,32 @@ use Rattle.revs_tape.specs.Cuts.{is_in, is_needed}
 use Rattle.sum_graph.specs.Uses.{sum_output_nodes, sum_steps}
 use Rattle.sum_graph.specs.Uses.{sum_cut, sum_last_use}
 use Rattle.claim_check.specs.Budgets.{Measures}
-use Rattle.sum_graph.specs.Graphs.{SumGraphView, IsSumGraph}
-use Rattle.gate_split.specs.declared.plan.PlanFault.{PlanFault}
-use Rattle.gate_split.specs.declared.plan.PlanFault.TheVariants.{Lines, Gates, Memory}
-use Rattle.gate_split.specs.Plans.{BudgetView}
+use Rattle.bit_sums.specs.Sums.{SumView}
+use Rattle.sum_graph.specs.Graphs.{SumGraphView, IsSumGraph, products_in}
+use Rattle.sum_toggles.specs.Toggles.{toggle_weight}
+use Rattle.sum_toggles.proofs.CountLemmas.{ccx_in, ccx_of}
+use Rattle.held_nodes.proofs.CountLemmas.{ccx_finished}
+use Rattle.circuit_plans.specs.declared.plan.PlanFault.{PlanFault}
+use Rattle.circuit_plans.specs.declared.plan.PlanFault.TheVariants.{Lines, Gates, Memory}
+use Rattle.circuit_plans.specs.Plans.{BudgetView, PlannedView}
 use Rattle.mct_circuit.specs.Gates.{AreNarrow}
+use Rattle.mct_circuit.specs.Sizes.{weight_of}
 use Rattle.mct_circuit.proofs.WeightLemmas.{length-le-weight}
 use Rattle.held_nodes.specs.Held.{ForwardView, IsForward, first_work, is_held, work_lines}
-use Rattle.held_nodes.specs.Moves.{IsFinishFault, IsReadySum, copies_of, finished_gates, finished_weight, nothing_held, planned_of, weight_in}
+use Rattle.held_nodes.specs.Moves.{IsFinishFault, IsReadySum, finished_gates, finished_weight, nothing_held, planned_of, weight_in}
 use Rattle.held_nodes.specs.Plans.{wanted_lines}
 use Rattle.held_nodes.proofs.NarrowLemmas.{narrow_toggles}
-use Rattle.bennett_pebbling.specs.Pebbling.{IsHalved, IsLight, IsPebblingFault, IsWithinBlock}
-use Rattle.bennett_pebbling.specs.inside.Changes.{CanWork, IsRisen, IsRiseFault}
+use Rattle.bennett_pebbling.specs.Pebbling.{HasFewProducts, IsHalved, IsLight, IsPebblingFault, IsWithinBlock, plain_weight}
+use Rattle.bennett_pebbling.specs.inside.Changes.{CanWork, IsPlain, IsRisen, IsRiseFault}
 use Rattle.bennett_pebbling.specs.inside.Costs.{Allows, IsCovered, IsMove, block_room, counted, reach_of, room_at, size_at, toggles_at}
 use Rattle.bennett_pebbling.specs.inside.Marks.{AreNeeded}
 use Rattle.bennett_pebbling.proofs.CostLemmas.{block_room-most, room_at-times, size_at-power, toggles_at-fine, toggles_at-gates}
 use Rattle.bennett_pebbling.proofs.CountLemmas.{counted-in}
 use Rattle.bennett_pebbling.proofs.NeedLemmas.{bit_inside}
 use Rattle.bennett_pebbling.proofs.ReachLemmas.{everything}
-use Rattle.bennett_pebbling.proofs.OutputLemmas.{few_copies, few_outputs, ready_outputs, use_output, light_copies}
+use Rattle.bennett_pebbling.proofs.OutputLemmas.{few_outputs, ready_outputs, use_output, light_copies}
+use Rattle.held_nodes.specs.Prices.{prices}
+use Rattle.held_nodes.proofs.PriceLemmas.{ccx_price, prices_all, weight_price}
 
 -- ---- the beginning
 
@@ -187,6 +195,13 @@ module _ (s : SumGraphView) (b : BudgetView) (block : ℕ) (start : ForwardView)
     gates_is : start.budget.gates ≡ b.gates
     gates_is = ap (λ (x : BudgetView). x.gates) start_budget
 
+    whole_prices : (price : SumView → ℕ) → prices price start.graph 0 (length outputs) ≡ sum_by price s.nodes
+    whole_prices price =
+        ap (λ (x : SumGraphView). prices price x 0 (length outputs)) start_graph ∙ ap (prices price s 0) begin.count ∙ prices_all price s
+
+    start_ccx : ccx_in start.gates ≡ 0
+    start_ccx = ap (λ (f : ForwardView). ccx_in f.gates) begin.is
+
     nodes_is : length start.graph.nodes ≡ length s.nodes
     nodes_is = ap (λ (x : SumGraphView). length x.nodes) start_graph
 
@@ -201,11 +216,9 @@ module _ (s : SumGraphView) (b : BudgetView) (block : ℕ) (start : ForwardView)
             let short =
             fault.change.short levels m.width (is_in (sum_output_nodes s)) (covered m levels (fine_halved m levels one h)) allows_outputs in
             omega (arith, short, work_is, reach_fits m levels h.within.light, fine_room one, h.within.inputs, h.within.outputs);
-        plain = λ low.
-            let short = fault.plain (omega (arith, low, begin.count)) in
-            omega (arith, short, work_is, nodes_is);
+        plain = omega (arith, fault.change.need.1, work_is, nodes_is);
       },
-      fault.change.need ∙ ap (λ (x : BudgetView). x.lines + 1) start_budget ∙ sym wanted_is,
+      fault.change.need.0 ∙ ap (λ (x : BudgetView). x.lines + 1) start_budget ∙ sym wanted_is,
     )
     rise_refused Gates fault = record {
       halved = λ m levels h.
@@ -215,9 +228,9 @@ module _ (s : SumGraphView) (b : BudgetView) (block : ℕ) (start : ForwardView)
           let short =
           fault.change.short levels m.width (is_in (sum_output_nodes s)) (covered m levels (fine_halved m levels one h)) allows_outputs (start_light h.within.light) in
           omega (arith, short, gates_is, start_weight, fine_toggles levels one);
-      plain = λ light low.
-          let short = fault.plain (omega (arith, low, begin.count)) (start_light light) in
-          omega (arith, short, gates_is, start_weight, begin.count);
+      plain = λ low.
+          let heavy = (fault.plain (omega (arith, low, begin.count))).heavy in
+          omega (arith, heavy, gates_is, start_weight, whole_prices toggle_weight);
     }
     rise_refused Memory fault = room
 
@@ -248,14 +261,29 @@ module _ (s : SumGraphView) (b : BudgetView) (block : ℕ) (start : ForwardView)
       unfolding reach
       halved_move m levels h = risen.thrifty.move levels m.width (is_in (sum_output_nodes s)) (covered m levels h) allows_outputs
 
-      plain_move : length s.nodes ≤ block → IsMove start (length start.graph.nodes) (length outputs) f
+      plain_move : length s.nodes ≤ block → IsPlain start 0 (length outputs) f
       plain_move low = risen.plain (omega (arith, low, begin.count))
 
       f_light : IsLight s → IsLight f.graph
       f_light light = subst IsLight (sym f_graph) light
 
-      copies_few : IsLight s → length (copies_of f) ≤ length s.outputs
-      copies_few light = omega (arith, few_copies (first_work f.graph) f.lines f.graph.inputs f.graph.outputs (f_light light).outputs, outputs_is)
+      finished_few : IsLight s → finished_weight f ≤ 2 * weight_in f.gates + length s.outputs
+      finished_few light = omega (arith, light_copies f.graph.outputs (f_light light).outputs, outputs_is)
+
+      finished_plain : length s.nodes ≤ block → finished_weight f ≤ plain_weight s
+      finished_plain low =
+          let paid = (plain_move low).paid weight_of toggle_weight weight_price in
+          let outputs_weigh = ap (λ (x : SumGraphView). sum_by toggle_weight x.outputs) f_graph in
+          omega (arith, paid, start_weight, whole_prices toggle_weight, outputs_weigh)
+
+      pub plan_products : HasFewProducts s block (planned_of f)
+      plan_products = record {
+        plain = λ low.
+            let paid = (plain_move low).paid ccx_of (λ (x : SumView). length x.products) ccx_price in
+            let outputs_have = ap (λ (x : SumGraphView). products_in x.outputs) f_graph in
+            let all = ccx_finished f in
+            omega (arith, all, paid, start_ccx, whole_prices (λ (x : SumView). length x.products), outputs_have);
+      }
 
       -- some width and some levels always serve
       pub plan_narrow : AreNarrow (finished_gates f)
@@ -266,32 +294,26 @@ module _ (s : SumGraphView) (b : BudgetView) (block : ℕ) (start : ForwardView)
           (everything start 0 outputs) in
           narrow_toggles.finished f (move.narrow (ap_narrow start s b (replicate (length s.nodes) None) begin.is))
 
-      gates_few : IsLight s → length (finished_gates f) ≤ 2 * weight_in f.gates + length s.outputs
-      gates_few light =
-          let all = length-append (f.gates ++ copies_of f) (reverse f.gates) in
-          let front = length-append f.gates (copies_of f) in
-          omega (arith, all, front, length-reverse f.gates, length-le-weight f.gates, copies_few light)
+      gates_few : weight_in (finished_gates f) ≡ finished_weight f → length (finished_gates f) ≤ finished_weight f
+      gates_few weighs = omega (arith, length-le-weight (finished_gates f), weighs)
 
-      pub plan_few : IsWithinBlock s block (planned_of f)
-      plan_few = record {
+      pub plan_few : weight_in (finished_gates f) ≡ finished_weight f → IsWithinBlock s block (planned_of f)
+      plan_few weighs = record {
         block_lines = λ m levels h.
             let move = (halved_move m levels h).most in
             omega (arith, move, start_most, first_is, reach_fits m levels h.within.light, block_fits m levels h, h.within.inputs, h.within.outputs);
         block_gates = λ m levels h.
             let move = (halved_move m levels h).weight (start_light h.within.light) in
-            omega (arith, move, start_weight, gates_few h.within.light, toggles_at-gates block levels some, h.within.outputs);
+            omega (arith, move, start_weight, gates_few weighs, finished_few h.within.light, toggles_at-gates block levels some, h.within.outputs);
         fine_lines = λ m levels one h.
             let move = (halved_move m levels (fine_halved m levels one h)).most in
             omega (arith, move, start_most, first_is, reach_fits m levels h.within.light, fine_room one, h.within.inputs, h.within.outputs);
         fine_gates = λ m levels one h.
             let move = (halved_move m levels (fine_halved m levels one h)).weight (start_light h.within.light) in
-            omega (arith, move, start_weight, gates_few h.within.light, fine_toggles levels one, h.within.outputs);
-        plain_lines = λ low. let move = (plain_move low).most in omega (arith, move, start_most, first_is, nodes_is);
-        plain_gates = λ light low. let move = (plain_move low).weight (start_light light) in omega (arith, move, start_weight, gates_few light, begin.count);
+            omega (arith, move, start_weight, gates_few weighs, finished_few h.within.light, fine_toggles levels one, h.within.outputs);
+        plain_lines = λ low. let move = (plain_move low).move.most in omega (arith, move, start_most, first_is, nodes_is);
+        plain_gates = λ low. omega (arith, gates_few weighs, finished_plain low);
       }
-
-      finished_few : IsLight s → finished_weight f ≤ 2 * weight_in f.gates + length s.outputs
-      finished_few light = omega (arith, light_copies f.graph.outputs (f_light light).outputs, outputs_is)
 
       pub finish_refused : (e : PlanFault) → IsFinishFault f e → IsPebblingFault s block b e
       finish_refused (Lines need) fault = absurd fault
@@ -302,8 +324,13 @@ module _ (s : SumGraphView) (b : BudgetView) (block : ℕ) (start : ForwardView)
         fine = λ m levels one h.
             let move = (halved_move m levels (fine_halved m levels one h)).weight (start_light h.within.light) in
             omega (arith, fault, f_gates, finished_few h.within.light, move, start_weight, fine_toggles levels one, h.within.outputs);
-        plain = λ light low.
-            let move = (plain_move low).weight (start_light light) in
-            omega (arith, fault, f_gates, finished_few light, move, start_weight, begin.count);
+        plain = λ low. omega (arith, fault, f_gates, finished_plain low);
       }
       finish_refused Memory fault = room
+
+-- what is said of a finished plan, where there is one
+pub of_finished : (r : Result PlannedView PlanFault) (f : ForwardView) (Q : PlannedView → Type 0) → IfOk r (λ planned. planned ≡ planned_of f)
+    → IfOk r (λ planned. weight_in planned.circuit.gates ≡ finished_weight f)
+    → (weight_in (finished_gates f) ≡ finished_weight f → Q (planned_of f)) → IfOk r Q
+of_finished (Ok x) f Q is weighs q = subst Q (sym is) (q (subst (λ (p : PlannedView). weight_in p.circuit.gates ≡ finished_weight f) is weighs))
+of_finished (Err e) f Q is weighs q = tt

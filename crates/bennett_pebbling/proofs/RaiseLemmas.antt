@@ -1,17 +1,24 @@
 -- The rising pass over a block.
-use Rattle.std.proofs.Common.{◌≡◌, ◌≢◌, ℕ, suc, ◌+◌, ◌<◌, Bool, true, not, ◌&&◌, ◌||◌, inl, inr, List, length}
+use Rattle.std.proofs.Common.{◌≡◌, ◌≢◌, ℕ, suc, ◌+◌, ◌<◌, ◌≤◌, Bool, true, not, ◌&&◌, ◌||◌, inl, inr, List, length, sum_by}
 use Rattle.std.proofs.Common.{sym, ◌∙◌, ap, subst, refl, arith}
 use Rattle.std.proofs.lemmas.Bool.{cases_eq}
 use Rattle.list_facts.specs.Bits.{bit_of}
+use Rattle.bit_sums.specs.Sums.{SumView}
 use Rattle.sum_graph.specs.Graphs.{SumGraphView}
-use Rattle.gate_split.specs.declared.plan.PlanFault.{PlanFault}
+use Rattle.sum_toggles.specs.Toggles.{toggle_weight}
+use Rattle.mct_circuit.specs.Gates.{GateView}
+use Rattle.mct_circuit.specs.Sizes.{weight_of}
+use Rattle.circuit_plans.specs.declared.plan.PlanFault.{PlanFault}
 use Rattle.held_nodes.specs.Held.{ForwardView, IsForward, is_held}
 use Rattle.bennett_pebbling.specs.inside.Changes.{AllowsTurn, CanTurn, IsRaised, IsRaiseFault, IsReadyBelow, IsTurned, IsTurnFault, is_missing, turned}
-use Rattle.bennett_pebbling.specs.inside.Costs.{Allows, IsMove, IsMoveFault, counted, one_if}
+use Rattle.bennett_pebbling.specs.inside.Costs.{Allows, IsMove, IsMoveFault, counted, one_if, price_if}
 use Rattle.bennett_pebbling.specs.inside.Marks.{AreClosed, IsOutside, RestsOn}
 use Rattle.bennett_pebbling.proofs.CountLemmas.{counted-longer}
-use Rattle.bennett_pebbling.proofs.MoveLemmas.{move-then, fault-then, fault-weaker}
+use Rattle.bennett_pebbling.proofs.MoveLemmas.{move-then, fault-then, fault-weaker, heavy-then, heavy-weaker, price_if-most}
 use Rattle.bennett_pebbling.proofs.NeedLemmas.{rests_below}
+use Rattle.held_nodes.specs.Prices.{IsPrice, price_at, prices}
+use Rattle.held_nodes.proofs.PriceLemmas.{prices-longer, weight_price}
+use Rattle.bennett_pebbling.proofs.ReachLemmas.{everything}
 use Rattle.bennett_pebbling.proofs.ReadyLemmas.{and_left, in_or_out, is_ready, move-graph, or_true, or_right_true, raised_bit}
 
 -- the marked nodes before place k are held, too
@@ -22,10 +29,12 @@ pub record IsRaising (f : ForwardView) (lo : ℕ) (marks : List Bool) (k : ℕ) 
   pub outside : (j : ℕ) → IsOutside lo k j → is_held now.lines j ≡ is_held f.lines j
   pub move : (allowed : ℕ → Bool) → Allows f lo marks allowed
       → IsMove f (counted allowed (length f.graph.nodes)) (counted (is_missing f lo marks) k) now
+  pub paid : (measure : GateView → ℕ) (price : SumView → ℕ) → IsPrice measure price
+      → sum_by measure now.gates ≤ sum_by measure f.gates + prices price f.graph lo k
 
 pub raising_done : (f : ForwardView) (lo : ℕ) (marks : List Bool) (now : ForwardView) → IsRaising f lo marks (length marks) now
     → IsRaised f lo marks now
-raising_done f lo marks now r = record { inside = r.inside; outside = r.outside; move = r.move }
+raising_done f lo marks now r = record { inside = r.inside; outside = r.outside; move = r.move; paid = r.paid }
 
 module _ (f : ForwardView) (lo : ℕ) (marks : List Bool) (k : ℕ) (now : ForwardView) (r : IsRaising f lo marks k now) (low : k < length marks)
     (turn : Bool) (e : turn ≡ (bit_of marks k && not (is_held now.lines (lo + k)))) where
@@ -78,6 +87,11 @@ module _ (f : ForwardView) (lo : ℕ) (marks : List Bool) (k : ℕ) (now : Forwa
     turning = λ t. a.marked k (mark_here t);
   }
 
+  turn_most : (price : SumView → ℕ) → price_if turn (price_at price now.graph (lo + k)) ≤ price_at price f.graph (lo + k)
+  turn_most price =
+      let same : price_at price now.graph (lo + k) ≡ price_at price f.graph (lo + k) = ap (λ (s : SumGraphView). price_at price s (lo + k)) r.graph in
+      omega (arith, same, price_if-most turn (price_at price now.graph (lo + k)))
+
   pub raising_failed : (fault : PlanFault) → IsTurnFault now (lo + k) turn fault → IsRaiseFault f lo marks fault
   raising_failed fault t = record {
     fault = λ allowed a.
@@ -90,6 +104,12 @@ module _ (f : ForwardView) (lo : ℕ) (marks : List Bool) (k : ℕ) (now : Forwa
         (counted (is_missing f lo marks) (length marks)) fault (omega arith)
         (omega (arith, one, counted-longer (is_missing f lo marks) (suc k) (length marks) low))
         (fault-then f now (counted allowed n) (counted (is_missing f lo marks) k) (one_if turn) fault first second);
+    heavy =
+        let more = price_if turn (price_at toggle_weight now.graph (lo + k)) in
+        let same = (r.move (λ j. true) (everything f lo marks)).budget in
+        heavy-weaker f (prices toggle_weight f.graph lo k + more) (prices toggle_weight f.graph lo (length marks)) fault
+        (omega (arith, turn_most toggle_weight, prices-longer toggle_weight f.graph lo (suc k) (length marks) low))
+        (heavy-then f now (prices toggle_weight f.graph lo k) more fault same (r.paid weight_of toggle_weight weight_price) t.heavy);
   }
 
   module _ (next : ForwardView) (keeps : IsForward next) (t : IsTurned now (lo + k) turn next) where
@@ -128,5 +148,9 @@ module _ (f : ForwardView) (lo : ℕ) (marks : List Bool) (k : ℕ) (now : Forwa
     next_graph : next.graph ≡ f.graph
     next_graph = (t.move (λ j. true) (record { held = record { held = λ j is. refl }; turning = λ u. refl })).graph ∙ r.graph
 
+    paid : (measure : GateView → ℕ) (price : SumView → ℕ) → IsPrice measure price
+        → sum_by measure next.gates ≤ sum_by measure f.gates + prices price f.graph lo (suc k)
+    paid measure price is = omega (arith, r.paid measure price is, t.paid measure price is, turn_most price)
+
     pub raising_more : IsRaising f lo marks (suc k) next
-    raising_more = record { keeps = keeps; graph = next_graph; inside = inside; outside = outside; move = move }
+    raising_more = record { keeps = keeps; graph = next_graph; inside = inside; outside = outside; move = move; paid = paid }

@@ -1,10 +1,12 @@
 -- A block of which the wanted nodes are held, and what they rest on.
-use Rattle.std.proofs.Common.{◌≡◌, ℕ, ◌+◌, ◌≤◌, Bool, true, ◌⊎◌, inr, List, length, sym, ◌∙◌, subst, arith}
+use Rattle.std.proofs.Common.{◌≡◌, ℕ, ◌+◌, ◌≤◌, Bool, true, ◌⊎◌, inr, List, length, sum_by, sym, ◌∙◌, subst, arith}
 use Rattle.list_facts.specs.Bits.{bit_of}
-use Rattle.gate_split.specs.declared.plan.PlanFault.{PlanFault}
+use Rattle.circuit_plans.specs.declared.plan.PlanFault.{PlanFault}
 use Rattle.held_nodes.specs.Held.{ForwardView, is_held}
 use Rattle.bennett_pebbling.specs.inside.Changes.{IsRaised, IsRaiseFault, IsRisen, IsRiseFault, is_missing}
-use Rattle.bennett_pebbling.specs.inside.Costs.{counted, room_at, toggles_at}
+use Rattle.sum_toggles.specs.Toggles.{toggle_weight}
+use Rattle.held_nodes.specs.Prices.{prices}
+use Rattle.bennett_pebbling.specs.inside.Costs.{IsHeavy, counted, room_at, toggles_at}
 use Rattle.bennett_pebbling.specs.inside.Marks.{AreNeeds, IsOutside}
 use Rattle.bennett_pebbling.proofs.CostLemmas.{room_at-least, toggles_at-least}
 use Rattle.bennett_pebbling.proofs.CountLemmas.{counted-most}
@@ -33,9 +35,12 @@ module _ (f : ForwardView) (lo : ℕ) (wanted marks : List Bool) (m : AreNeeds f
               (toggles_at (length wanted) level) e (omega (arith, r.few, room_at-least (length wanted) n width level))
               (omega (arith, missing_few f lo wanted marks m.count only, toggles_at-least (length wanted) level)) (fault.fault r.test r.allows).short;
         };
-        plain = λ within.
-            short-weaker f (counted (λ k. true) n) n (counted (is_missing f lo marks) (length marks)) (length wanted) e
-            (counted-most (λ k. true) n) few all.short;
+        plain = λ within. record {
+          short =
+              short-weaker f (counted (λ k. true) n) n (counted (is_missing f lo marks) (length marks)) (length wanted) e
+              (counted-most (λ k. true) n) few all.short;
+          heavy = subst (λ (c : ℕ). IsHeavy f (prices toggle_weight f.graph lo c) e) m.count fault.heavy;
+        };
       }
 
   pub block_risen : (next : ForwardView) → IsRaised f lo marks next → IsRisen f (length wanted) lo wanted next
@@ -55,6 +60,11 @@ module _ (f : ForwardView) (lo : ℕ) (wanted marks : List Bool) (m : AreNeeds f
               (toggles_at (length wanted) level) (omega (arith, r.few, room_at-least (length wanted) n width level))
               (omega (arith, missing_few f lo wanted marks m.count only, toggles_at-least (length wanted) level)) (raised.move r.test r.allows);
         };
-        plain = λ within.
-            move-weaker f next (counted (λ k. true) n) n (counted (is_missing f lo marks) (length marks)) (length wanted) (counted-most (λ k. true) n) few all;
+        plain = λ within. record {
+          move =
+              move-weaker f next (counted (λ k. true) n) n (counted (is_missing f lo marks) (length marks)) (length wanted)
+              (counted-most (λ k. true) n) few all;
+          paid = λ measure price is.
+              subst (λ (c : ℕ). sum_by measure next.gates ≤ sum_by measure f.gates + prices price f.graph lo c) m.count (raised.paid measure price is);
+        };
       }

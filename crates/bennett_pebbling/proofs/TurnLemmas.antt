@@ -1,6 +1,6 @@
 -- A node that turns, by a toggle.
 use Rattle.std.proofs.Common.{◌≡◌, ℕ, ◌+◌, ◌*◌, ◌<◌, ◌≤◌, max, Bool, true, not, List, ◌++◌, length, set, Option, Some, None, is_some}
-use Rattle.std.proofs.Common.{get_or, sym, ◌∙◌, ap, subst, refl, arith, inl, inr}
+use Rattle.std.proofs.Common.{get_or, sym, ◌∙◌, ap, subst, refl, arith, inl, inr, sum_by}
 use Rattle.std.proofs.lemmas.Bool.{cases_eq}
 use Rattle.std.proofs.lemmas.List.{get_or-set_same, get_or-set_other, length-set}
 use Rattle.std.proofs.lemmas.List.Sums.{sum_by-append}
@@ -11,16 +11,18 @@ use Rattle.bit_sums.specs.Sums.{SumView}
 use Rattle.sum_graph.specs.Graphs.{SumGraphView}
 use Rattle.sum_toggles.specs.Toggles.{toggle_weight}
 use Rattle.bennett_pebbling.specs.Pebbling.{IsLight}
-use Rattle.gate_split.specs.declared.plan.PlanFault.{PlanFault}
-use Rattle.gate_split.specs.declared.plan.PlanFault.TheVariants.{Lines, Gates, Memory}
+use Rattle.circuit_plans.specs.declared.plan.PlanFault.{PlanFault}
+use Rattle.circuit_plans.specs.declared.plan.PlanFault.TheVariants.{Lines, Gates, Memory}
 use Rattle.mct_circuit.specs.Gates.{GateView}
 use Rattle.mct_circuit.specs.Sizes.{weight_of}
 use Rattle.held_nodes.specs.Held.{ForwardView, IsForward, first_work, held_count, held_line, is_held}
 use Rattle.held_nodes.specs.Moves.{IsToggled, IsToggleFault, TakesLine, toggle_of, weight_in}
 use Rattle.held_nodes.proofs.NarrowLemmas.{narrow_toggles}
 use Rattle.bennett_pebbling.specs.inside.Changes.{AllowsTurn, IsTurned, IsTurnFault}
-use Rattle.bennett_pebbling.specs.inside.Costs.{IsMove, counted}
-use Rattle.bennett_pebbling.proofs.CountLemmas.{counted-held, counted-weaker, counted-below}
+use Rattle.bennett_pebbling.specs.inside.Costs.{IsMove, counted, price_if}
+use Rattle.bennett_pebbling.proofs.CountLemmas.{counted-held, counted-most, counted-weaker, counted-below}
+use Rattle.held_nodes.specs.Prices.{IsPrice, price_at}
+use Rattle.held_nodes.proofs.PriceLemmas.{price_node}
 
 after_turn : (lines : List (Option ℕ)) (own : Option ℕ) (line : ℕ) (after : Option ℕ) → TakesLine lines own line after
     → is_some after ≡ not (is_some own)
@@ -86,13 +88,24 @@ module _ (f next : ForwardView) (k : ℕ) (t : IsToggled f k next) (forward : Is
     narrow = narrow_toggles.toggled f next k t;
   }
 
+  paid : (measure : GateView → ℕ) (price : SumView → ℕ) → IsPrice measure price
+      → sum_by measure next.gates ≤ sum_by measure f.gates + price_if true (price_at price f.graph k)
+  paid measure price is = omega (arith, is.toggled f next k t, price_node price f.graph k t.node t.is)
+
   pub turned_over : IsTurned f k true next
-  turned_over = record { here = here; others = others; move = move }
+  turned_over = record { here = here; others = others; move = move; paid = paid }
 
 pub not_turned_over : (f : ForwardView) (k : ℕ) (e : PlanFault) → IsForward f → k < length f.graph.nodes → IsToggleFault f k e → IsTurnFault f k true e
 not_turned_over f k (Lines need) forward low fault = record {
   fault = λ allowed allows. record {
-    need = fault.1;
+    need = (
+      fault.1,
+      let n = length f.graph.nodes in
+          let all : held_count f.lines ≡ counted (is_held f.lines) n = counted-held f.lines ∙ ap (counted (is_held f.lines)) forward.nodes in
+          let more : counted (is_held f.lines) n + 1 ≤ counted (λ j. true) n =
+          counted-below (is_held f.lines) (λ j. true) n k low fault.0.free refl (λ j held. refl) in
+          omega (arith, fault.0.full, all, more, counted-most (λ j. true) n),
+    );
     short =
         let n = length f.graph.nodes in
         let all : held_count f.lines ≡ counted (is_held f.lines) n = counted-held f.lines ∙ ap (counted (is_held f.lines)) forward.nodes in
@@ -100,11 +113,13 @@ not_turned_over f k (Lines need) forward low fault = record {
         counted-below (is_held f.lines) allowed n k low fault.0.free (allows.turning refl) allows.held.held in
         omega (arith, fault.0.full, all, more);
   };
+  heavy = tt;
 }
 not_turned_over f k Gates forward low fault = record {
   fault = λ allowed allows. record {
     need = tt;
     short = λ light. omega (arith, fault.1.heavy, few_toggle f.graph k fault.1.node light fault.1.is);
   };
+  heavy = omega (arith, fault.1.heavy, price_node toggle_weight f.graph k fault.1.node fault.1.is);
 }
-not_turned_over f k Memory forward low fault = record { fault = λ allowed allows. record { need = tt; short = tt } }
+not_turned_over f k Memory forward low fault = record { fault = λ allowed allows. record { need = tt; short = tt }; heavy = tt }

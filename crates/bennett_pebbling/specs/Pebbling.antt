@@ -1,5 +1,5 @@
 -- What pebbling by halves down to blocks of nodes needs: no more than the block's numbers.
-use Rattle.std.specs.Prelude.{◌≡◌, ℕ, ◌+◌, ◌*◌, ◌^◌, ◌<◌, ◌≤◌, length}
+use Rattle.std.specs.Prelude.{◌≡◌, ℕ, ◌+◌, ◌*◌, ◌^◌, ◌<◌, ◌≤◌, length, sum_by}
 use Rattle.std.specs.List.{AllByRecursion}
 use Rattle.bit_sums.specs.Sums.{SumView}
 use Rattle.dependency_graph.specs.declared.node.Sig.{Sig}
@@ -7,10 +7,11 @@ use Rattle.sum_graph.specs.Plain.{plain_output}
 use Rattle.sum_graph.specs.Uses.{sum_cut}
 use Rattle.sum_toggles.specs.Toggles.{toggle_weight}
 use Rattle.claim_check.specs.Budgets.{Measures, block_lines, block_gates, fine_lines, fine_gates}
-use Rattle.sum_graph.specs.Graphs.{SumGraphView}
-use Rattle.gate_split.specs.declared.plan.PlanFault.{PlanFault}
-use Rattle.gate_split.specs.declared.plan.PlanFault.TheVariants.{Lines, Gates, Memory}
-use Rattle.gate_split.specs.Plans.{BudgetView, PlannedView}
+use Rattle.sum_graph.specs.Graphs.{SumGraphView, products_in}
+use Rattle.circuit_plans.specs.declared.plan.PlanFault.{PlanFault}
+use Rattle.circuit_plans.specs.declared.plan.PlanFault.TheVariants.{Lines, Gates, Memory}
+use Rattle.circuit_plans.specs.Plans.{BudgetView, PlannedView}
+use Rattle.mct_circuit.specs.Sizes.{counts_of}
 use Rattle.held_nodes.specs.Held.{first_work}
 use Rattle.held_nodes.specs.Plans.{HasPortLines, wanted_lines}
 
@@ -37,8 +38,12 @@ pub record IsHalved (s : SumGraphView) (block levels : ℕ) (m : Measures) : Typ
   pub within : IsSumWithin s m
   pub enough : length s.nodes ≤ block * 2 ^ levels
 
+-- what toggles of all nodes, computed and cleaned, and of the outputs weigh
+abbrev pub plain_weight : SumGraphView → ℕ
+plain_weight s = 2 * sum_by toggle_weight s.nodes + sum_by toggle_weight s.outputs
+
 -- So many lines, of which some are borrowed, and gates are within the numbers of the block, for a block of one node
--- within the fine numbers, and where one block has all nodes, within one work line and four gates for each node.
+-- within the fine numbers, and where one block has all nodes, within one work line and two toggles for each node.
 pub record AreWithinBlock (s : SumGraphView) (block borrowed lines gates : ℕ) : Type 0 where
   pub block_lines : (m : Measures) (levels : ℕ) → IsHalved s block levels m
       → lines ≤ block_lines m block levels borrowed
@@ -49,19 +54,25 @@ pub record AreWithinBlock (s : SumGraphView) (block borrowed lines gates : ℕ) 
   pub fine_gates : (m : Measures) (levels : ℕ) → block ≡ 1 → IsHalved s 1 levels m
       → gates ≤ fine_gates m levels
   pub plain_lines : length s.nodes ≤ block → lines ≤ first_work s + length s.nodes + borrowed
-  pub plain_gates : IsLight s → length s.nodes ≤ block → gates ≤ 4 * length s.nodes + length s.outputs
+  pub plain_gates : length s.nodes ≤ block → gates ≤ plain_weight s
 
 -- the plan's lines and gates are
 abbrev pub IsWithinBlock : SumGraphView → ℕ → PlannedView → Type 0
 IsWithinBlock s block p = AreWithinBlock s block 0 p.circuit.lines (length p.circuit.gates)
 
--- the budget has fewer lines than each of these numbers
+-- where one block has all nodes, the plan has at most two flips under two lines for each product of a node, and one for
+-- each of an output
+pub record HasFewProducts (s : SumGraphView) (block : ℕ) (p : PlannedView) : Type 0 where
+  pub plain : length s.nodes ≤ block
+      → (counts_of p.circuit.gates).ccx ≤ 2 * products_in s.nodes + products_in s.outputs
+
+-- the budget has fewer lines than each of these numbers, and, for a block of any size, less than a work line for each node
 pub record HasFewLines (s : SumGraphView) (block : ℕ) (b : BudgetView) : Type 0 where
   pub halved : (m : Measures) (levels : ℕ) → IsHalved s block levels m
       → b.lines < block_lines m block levels b.borrow
   pub fine : (m : Measures) (levels : ℕ) → block ≡ 1 → IsHalved s 1 levels m
       → b.lines < fine_lines m levels b.borrow
-  pub plain : length s.nodes ≤ block → b.lines < first_work s + length s.nodes + b.borrow
+  pub plain : b.lines < first_work s + length s.nodes + b.borrow
 
 -- the budget has fewer gates than each of these numbers
 pub record HasFewGates (s : SumGraphView) (block : ℕ) (b : BudgetView) : Type 0 where
@@ -69,7 +80,7 @@ pub record HasFewGates (s : SumGraphView) (block : ℕ) (b : BudgetView) : Type 
       → b.gates < block_gates m block levels
   pub fine : (m : Measures) (levels : ℕ) → block ≡ 1 → IsHalved s 1 levels m
       → b.gates < fine_gates m levels
-  pub plain : IsLight s → length s.nodes ≤ block → b.gates < 4 * length s.nodes + length s.outputs
+  pub plain : length s.nodes ≤ block → b.gates < plain_weight s
 
 -- why there is no plan; memory is wanted only where the budget has the lines of the inputs and outputs
 abbrev pub IsPebblingFault : SumGraphView → ℕ → BudgetView → PlanFault → Type 0

@@ -6,7 +6,7 @@ ghost use Rattle.bennett_pebbling.specs.inside.Changes.{IsRaised, IsRaiseFault, 
 ghost use Rattle.bennett_pebbling.specs.inside.Changes.{IsTurned, IsTurnFault};
 ghost use Rattle.bennett_pebbling.specs.inside.Marks.{AreClosed};
 
-use gate_split::PlanFault;
+use circuit_plans::PlanFault;
 use held_nodes::Forward;
 
 // Toggles a node, where it has to turn.

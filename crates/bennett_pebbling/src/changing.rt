@@ -7,7 +7,7 @@ ghost use Rattle.bennett_pebbling.specs.inside.Marks.{AreHalves, AreHeld};
 
 use crate::block::{lower, raise};
 use crate::needs::{differing, is_held_so, with_cut, with_needs};
-use gate_split::PlanFault;
+use circuit_plans::PlanFault;
 use held_nodes::Forward;
 use std::alloc::Global;
 use sum_graph::SumGraph;

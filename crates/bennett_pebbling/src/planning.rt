@@ -1,15 +1,15 @@
 // The pebbling plan of a graph.
 ghost use Rattle.std.specs.Prelude.{IfOk, IfErr, ◌≤◌};
-ghost use Rattle.bennett_pebbling.specs.Pebbling.{IsPebblingFault, IsWithinBlock};
+ghost use Rattle.bennett_pebbling.specs.Pebbling.{HasFewProducts, IsPebblingFault, IsWithinBlock};
 ghost use Rattle.sum_graph.specs.Graphs.{sum_outputs};
-ghost use Rattle.gate_split.specs.Plans.{MapsCleanly};
+ghost use Rattle.circuit_plans.specs.Plans.{MapsCleanly};
 ghost use Rattle.held_nodes.specs.Moves.{roles_of_plan};
 ghost use Rattle.held_nodes.specs.Plans.{HasPorts, IsInBudget};
 ghost use Rattle.mct_circuit.specs.Gates.{AreNarrow};
 
 use crate::changing::rise;
 use crate::needs::outputs_of;
-use gate_split::{Budget, PlanFault, Planned};
+use circuit_plans::{Budget, PlanFault, Planned};
 use held_nodes::Forward;
 use std::alloc::Global;
 use sum_graph::SumGraph;
@@ -18,14 +18,15 @@ use sum_graph::SumGraph;
 /// what the second half of the nodes needs of the first, then the outputs in the second half, and
 /// then cleans the first half of what is no output; each half goes in the same way, and a block is
 /// computed node by node. The circuit takes each input and zeros to that input, the outputs, and
-/// zeros.
+/// zeros. Where one block has all nodes, each node is toggled at most twice.
 ///
 /// # Errors
 ///
 /// `Lines` and `Gates` only where the budget has fewer of them than the numbers of the block, for a
 /// block of one node than the fine numbers, and where one block has all nodes than the plain
-/// numbers. `need` is the number of inputs, outputs and borrowed lines where that passes the
-/// budget, and one line more than the budget otherwise.
+/// numbers; `Lines` only where it has less than a line for each input, output, node and borrowed
+/// bit. `need` is the number of inputs, outputs and borrowed lines where that passes the budget, and
+/// one line more than the budget otherwise.
 pub fn plan(
     alloc: Global,
     graph: &SumGraph,
@@ -39,6 +40,7 @@ pub fn plan(
     ensures within { IfOk result (IsInBudget budget.now) }
     ensures narrow { IfOk result (λ planned. AreNarrow planned.circuit.gates) }
     ensures few { IfOk result (IsWithinBlock graph.now block) }
+    ensures products { IfOk result (HasFewProducts graph.now block) }
     ensures refused { IfErr result (IsPebblingFault graph.now block budget.now) }
 {
     let forward = Forward::new(alloc, graph, budget)?;

@@ -13,8 +13,8 @@ use Rattle.exclusive_sums.specs.declared.cube.Literal.{Literal}
 use Rattle.exclusive_sums.specs.Cubes.{IsCube, input_of, value_of_cubes}
 use Rattle.gate_split.specs.Costs.{IsRoomyFlip}
 use Rattle.gate_split.specs.Split.{Avoids}
-use Rattle.gate_split.specs.declared.plan.PlanFault.{PlanFault}
-use Rattle.gate_split.specs.declared.plan.PlanFault.TheVariants.{Lines, Gates, Memory}
+use Rattle.circuit_plans.specs.declared.plan.PlanFault.{PlanFault}
+use Rattle.circuit_plans.specs.declared.plan.PlanFault.TheVariants.{Lines, Gates, Memory}
 use Rattle.mct_circuit.specs.Gates.{GateView, lines_of}
 use Rattle.mct_circuit.specs.Sizes.{weight_of}
 use Rattle.held_nodes.specs.Held.{ForwardView, first_work, is_held}

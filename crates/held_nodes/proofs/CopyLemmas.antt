@@ -10,7 +10,7 @@ use Rattle.list_facts.proofs.AllLemmas.{AllByRecursion-append, AllByRecursion-at
 use Rattle.list_facts.proofs.BitLemmas.{xor_nothing}
 use Rattle.bit_sums.specs.Sums.{SumView, bases_of}
 use Rattle.gate_split.specs.Costs.{IsRoomyFlip}
-use Rattle.gate_split.specs.declared.plan.TheConstants.{MOST_LINES}
+use Rattle.circuit_plans.specs.declared.plan.TheConstants.{MOST_LINES}
 use Rattle.mct_circuit.specs.Gates.{GateView, line_map}
 use Rattle.mct_circuit.specs.Sizes.{weight_of}
 use Rattle.mct_circuit.proofs.ReversalLemmas.{line_map-append}

@@ -6,8 +6,8 @@ use Rattle.list_facts.specs.Lists.{AreDifferent}
 use Rattle.list_facts.proofs.OrderLemmas.{AreDifferent-rising, AreDifferent-append}
 use Rattle.exclusive_sums.specs.declared.cube.Literal.{Literal}
 use Rattle.exclusive_sums.specs.Cubes.{IsCube, input_of}
-use Rattle.gate_split.specs.declared.plan.PlanFault.{PlanFault}
-use Rattle.gate_split.specs.declared.plan.PlanFault.TheVariants.{Lines, Gates, Memory}
+use Rattle.circuit_plans.specs.declared.plan.PlanFault.{PlanFault}
+use Rattle.circuit_plans.specs.declared.plan.PlanFault.TheVariants.{Lines, Gates, Memory}
 use Rattle.mct_circuit.specs.declared.gate.Control.{Control}
 use Rattle.mct_circuit.specs.Gates.{GateView, HasDifferentLines}
 use Rattle.held_nodes.specs.Moves.{control_of, cube_flip, weight_in}

@@ -3,8 +3,8 @@ use Rattle.std.proofs.Common.{◌≡◌, ℕ, zero, suc, ◌+◌, ◌-◌, ◌/�
 use Rattle.std.proofs.lemmas.List.{length-replicate}
 use Rattle.std.proofs.lemmas.Option.{none-some}
 use Rattle.sum_graph.specs.Graphs.{SumGraphView, IsSumGraph}
-use Rattle.gate_split.specs.Plans.{BudgetView}
-use Rattle.gate_split.specs.declared.plan.TheConstants.{MOST_LINES}
+use Rattle.circuit_plans.specs.Plans.{BudgetView}
+use Rattle.circuit_plans.specs.declared.plan.TheConstants.{MOST_LINES}
 use Rattle.held_nodes.specs.Held.{HoldsNodes, first_work, held_line, held_count, is_taken}
 use Rattle.held_nodes.specs.inside.Kept.{IsKept}
 

@@ -10,10 +10,10 @@ use Rattle.list_facts.proofs.AllLemmas.{AllByRecursion-append, AllByRecursion-re
 use Rattle.ancilla_heap.specs.Lines.{HeapView}
 use Rattle.sum_graph.specs.Graphs.{sum_outputs, sum_on}
 use Rattle.gate_split.specs.Costs.{IsRoomyFlip}
-use Rattle.gate_split.specs.declared.plan.PlanFault.{PlanFault}
-use Rattle.gate_split.specs.declared.plan.PlanFault.TheVariants.{Memory}
-use Rattle.gate_split.specs.declared.plan.TheConstants.{MOST_LINES}
-use Rattle.gate_split.specs.Plans.{MapsCleanly, PlannedView}
+use Rattle.circuit_plans.specs.declared.plan.PlanFault.{PlanFault}
+use Rattle.circuit_plans.specs.declared.plan.PlanFault.TheVariants.{Memory}
+use Rattle.circuit_plans.specs.declared.plan.TheConstants.{MOST_LINES}
+use Rattle.circuit_plans.specs.Plans.{MapsCleanly, PlannedView}
 use Rattle.mct_circuit.specs.Gates.{AreGatesOn, line_map}
 use Rattle.mct_circuit.specs.Sizes.{weight_of}
 use Rattle.mct_circuit.proofs.ReversalLemmas.{conjugated}
@@ -125,7 +125,7 @@ module _ (f : ForwardView) (w : ℕ) (heap : HeapView) (d : IsDone f w heap) (ar
   }
 
   -- the weight of the whole plan
-  whole_weight : weight_in (finished_gates f) ≡ finished_weight f
+  pub whole_weight : weight_in (finished_gates f) ≡ finished_weight f
   whole_weight =
       let first = sum_by-append weight_of (f.gates ++ copies_of f) (reverse f.gates) in
       let copies = sum_by-append weight_of f.gates (copies_of f) in

@@ -1,6 +1,7 @@
 pub mod ClearLemmas
 pub mod ContentLemmas
 pub mod CopyLemmas
+pub mod CountLemmas
 pub mod CubeLemmas
 pub mod EmptyLemmas
 pub mod FinishLemmas
@@ -8,6 +9,7 @@ pub mod ForwardLemmas
 pub mod LineLemmas
 pub mod NarrowLemmas
 pub mod PlaceLemmas
+pub mod PriceLemmas
 pub mod SetLemmas
 pub mod StepLemmas
 pub mod PlainLemmas

@@ -14,7 +14,7 @@ use Rattle.dependency_graph.specs.declared.node.Base.TheVariants as bases
 use Rattle.dependency_graph.specs.Graphs.{IsKnownBase, base_bit}
 use Rattle.bit_sums.specs.Sums.{AreAll, IsProductOver, ProductView, SumView, bases_of, product_bases}
 use Rattle.gate_split.specs.Costs.{IsRoomyFlip}
-use Rattle.gate_split.specs.declared.plan.TheConstants.{MOST_LINES}
+use Rattle.circuit_plans.specs.declared.plan.TheConstants.{MOST_LINES}
 use Rattle.mct_circuit.specs.Gates.{AreGatesOn, AreNarrow, GateView, line_map, positive}
 use Rattle.sum_graph.specs.Graphs.{AreKnownSums, IsKnownSum, SumGraphView, is_known, node_value, sum_on, sums_made}
 use Rattle.sum_graph.proofs.SumNodeLemmas.{value_of_sum}

@@ -10,9 +10,9 @@ use Rattle.ancilla_heap.specs.Lines as heaps
 use Rattle.ancilla_heap.specs.Lines.{HeapView, IsLineHeap, contains, with_taken, without_line}
 use Rattle.sum_graph.specs.Graphs.{SumGraphView}
 use Rattle.bit_sums.specs.Sums.{SumView, bases_of}
-use Rattle.gate_split.specs.declared.plan.PlanFault.{PlanFault}
-use Rattle.gate_split.specs.declared.plan.PlanFault.TheVariants.{Lines, Gates, Memory}
-use Rattle.gate_split.specs.declared.plan.TheConstants.{MOST_LINES}
+use Rattle.circuit_plans.specs.declared.plan.PlanFault.{PlanFault}
+use Rattle.circuit_plans.specs.declared.plan.PlanFault.TheVariants.{Lines, Gates, Memory}
+use Rattle.circuit_plans.specs.declared.plan.TheConstants.{MOST_LINES}
 use Rattle.gate_split.specs.Costs.{IsRoomyFlip}
 use Rattle.mct_circuit.specs.Gates.{GateView}
 use Rattle.held_nodes.specs.Held.{ForwardView, IsForward, IsLeastFree, first_work, held_line, held_count}

@@ -5,7 +5,7 @@ use Rattle.std.specs.List.{AllByRecursion, list_any}
 use Rattle.list_facts.specs.Bits.{bit_of, zeros}
 use Rattle.sum_graph.specs.Graphs.{SumGraphView, IsSumGraph, node_value}
 use Rattle.gate_split.specs.Costs.{IsRoomyFlip}
-use Rattle.gate_split.specs.Plans.{BudgetView}
+use Rattle.circuit_plans.specs.Plans.{BudgetView}
 use Rattle.mct_circuit.specs.Gates.{GateView, line_map}
 use Rattle.mct_circuit.specs.Sizes.{weight_of}
 

@@ -1,4 +1,5 @@
 pub mod Held
 pub mod Moves
 pub mod Plans
+pub mod Prices
 pub mod inside

@@ -8,10 +8,10 @@ use Rattle.dependency_graph.specs.declared.node.Base.TheVariants as bases
 use Rattle.bit_sums.specs.Sums.{SumView, bases_of}
 use Rattle.exclusive_sums.specs.declared.cube.Literal.{Literal}
 use Rattle.exclusive_sums.specs.Cubes.{value_of_cubes}
-use Rattle.gate_split.specs.declared.plan.PlanFault.{PlanFault}
-use Rattle.gate_split.specs.declared.plan.PlanFault.TheVariants.{Lines, Gates, Memory}
-use Rattle.gate_split.specs.declared.roles.Roles.{Roles}
-use Rattle.gate_split.specs.Plans.{BudgetView, PlannedView}
+use Rattle.circuit_plans.specs.declared.plan.PlanFault.{PlanFault}
+use Rattle.circuit_plans.specs.declared.plan.PlanFault.TheVariants.{Lines, Gates, Memory}
+use Rattle.circuit_plans.specs.declared.roles.Roles.{Roles}
+use Rattle.circuit_plans.specs.Plans.{BudgetView, PlannedView}
 use Rattle.mct_circuit.specs.declared.gate.Control.{Control}
 use Rattle.mct_circuit.specs.declared.gate.Op.TheVariants.{Flip}
 use Rattle.mct_circuit.specs.Gates.{GateView}

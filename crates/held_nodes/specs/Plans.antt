@@ -1,7 +1,7 @@
 -- Plans of a graph within a budget.
 use Rattle.std.specs.Prelude.{◌≡◌, ℕ, ◌+◌, ◌≤◌, nat_lt, if◌then◌else◌, length}
 use Rattle.sum_graph.specs.Graphs.{SumGraphView}
-use Rattle.gate_split.specs.Plans.{BudgetView, PlannedView}
+use Rattle.circuit_plans.specs.Plans.{BudgetView, PlannedView}
 use Rattle.mct_circuit.specs.Gates.{AreNarrow}
 use Rattle.held_nodes.specs.Held.{ForwardView, first_work}
 use Rattle.held_nodes.specs.Moves.{IsToggled, finished_gates, weight_in}

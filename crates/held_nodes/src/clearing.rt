@@ -3,13 +3,13 @@ ghost use Rattle.std.specs.Prelude.{◌≡◌, ◌+◌, ◌<◌, ◌≤◌, ◌+
 ghost use Rattle.std.specs.List.{AllByRecursion};
 ghost use Rattle.exclusive_sums.specs.declared.cube.Literal.{Literal};
 ghost use Rattle.exclusive_sums.specs.Cubes.{IsCube};
-ghost use Rattle.gate_split.specs.declared.plan.TheConstants.{MOST_LINES};
+ghost use Rattle.circuit_plans.specs.declared.plan.TheConstants.{MOST_LINES};
 ghost use Rattle.held_nodes.specs.Moves.{control_of, cube_flip, cube_flips, weight_in};
 ghost use Rattle.held_nodes.specs.inside.Kept.{AreTooHeavy};
 
 use crate::weighed::WeighedGates;
+use circuit_plans::PlanFault;
 use exclusive_sums::{Cube, Literal};
-use gate_split::PlanFault;
 use mct_circuit::{Control, Gate, Op};
 use revc_base::Memory;
 use std::alloc::{AllocError, Global};

@@ -3,7 +3,7 @@ ghost use Rattle.std.specs.Prelude.{◌≡◌, ◌+◌, ◌<◌, ◌≤◌, ◌�
 ghost use Rattle.std.specs.Prelude.{IfOk, IfErr, OnOk, sum_by, true, false};
 ghost use Rattle.std.specs.List.{AllByRecursion};
 ghost use Rattle.sum_graph.specs.Graphs.{IsSumGraph};
-ghost use Rattle.gate_split.specs.declared.plan.TheConstants.{MOST_LINES};
+ghost use Rattle.circuit_plans.specs.declared.plan.TheConstants.{MOST_LINES};
 ghost use Rattle.mct_circuit.specs.Gates.{AreGatesOn};
 ghost use Rattle.sum_toggles.specs.Toggles.{toggle_weight};
 ghost use Rattle.held_nodes.specs.Held.{first_work};
@@ -11,7 +11,7 @@ ghost use Rattle.held_nodes.specs.Moves.{copies_from};
 ghost use Rattle.held_nodes.specs.inside.Kept.{CanCopy, HasProducts};
 
 use bit_sums::Sum;
-use gate_split::{PlanFault, Planned};
+use circuit_plans::{PlanFault, Planned};
 use mct_circuit::{Circuit, Gate, GateFault};
 use revc_base::Memory;
 use std::alloc::Global;

@@ -5,12 +5,12 @@ ghost use Rattle.std.specs.List.{AllByRecursion};
 ghost use Rattle.ancilla_heap.specs.Lines.{IsLineHeap, contains};
 ghost use Rattle.sum_graph.specs.Graphs.{IsSumGraph, sum_outputs};
 ghost use Rattle.gate_split.specs.Costs.{IsRoomyFlip};
-ghost use Rattle.gate_split.specs.Plans.{MapsCleanly};
+ghost use Rattle.circuit_plans.specs.Plans.{MapsCleanly};
 ghost use Rattle.held_nodes.specs.Held.{IsForward, first_work, held_line, is_held};
 ghost use Rattle.held_nodes.specs.Moves.{CanClear, IsCleared, IsClearFault, IsFinishFault};
 ghost use Rattle.held_nodes.specs.Moves.{IsReadyNode, IsReadySum, IsStartFault, IsToggled};
 ghost use Rattle.held_nodes.specs.Moves.{IsToggleFault, copies_of, finished_weight, nothing_held};
-ghost use Rattle.held_nodes.specs.Moves.{planned_of, roles_of_plan};
+ghost use Rattle.held_nodes.specs.Moves.{planned_of, roles_of_plan, weight_in};
 ghost use Rattle.held_nodes.specs.Plans.{HasPorts, IsInBudget};
 ghost use Rattle.held_nodes.specs.inside.Kept.{HasNoLineFor, HasProducts, IsLineFor, IsLineAfter};
 
@@ -18,8 +18,8 @@ use crate::clearing::append_cubes;
 use crate::copying::{copies_fit, copies_of, first_work, plan_of};
 use crate::weighed::WeighedGates;
 use ancilla_heap::Heap;
+use circuit_plans::{Budget, PlanFault, Planned};
 use exclusive_sums::Cube;
-use gate_split::{Budget, PlanFault, Planned};
 use mct_circuit::Gate;
 use std::alloc::Global;
 use std::marker::Model;
@@ -181,8 +181,9 @@ impl<'s> Forward<'s> {
     }
 
     /// The plan of this forward part: its gates, a copy of each output to its line, and its gates
-    /// reversed. The circuit takes each input and zeros to that input, the outputs, and zeros. Its
-    /// lines, with the borrowed ones, and the weights of its gates are within the budget.
+    /// reversed. The circuit takes each input and zeros to that input, the outputs, and zeros. It
+    /// weighs twice as much as the gates and once as much as the copies; its lines, with the
+    /// borrowed ones, and its weight are within the budget.
     ///
     /// # Errors
     ///
@@ -195,6 +196,8 @@ impl<'s> Forward<'s> {
             planned.circuit.gates (sum_outputs self.entry.graph)) }
         ensures ports { IfOk result (HasPorts self.entry.graph) }
         ensures within { IfOk result (IsInBudget self.entry.budget) }
+        ensures weighs { IfOk result (λ planned.
+            weight_in planned.circuit.gates ≡ finished_weight self.entry) }
         ensures roomy { IfOk result (λ planned.
             AllByRecursion (IsRoomyFlip planned.circuit.lines) planned.circuit.gates) }
         ensures refused { IfErr result (IsFinishFault self.entry) }

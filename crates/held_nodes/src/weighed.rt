@@ -8,7 +8,7 @@ ghost use Rattle.sum_toggles.specs.Toggles.{toggle_weight};
 ghost use Rattle.held_nodes.specs.inside.Kept.{HasProducts, IsWeightFault};
 
 use bit_sums::Sum;
-use gate_split::PlanFault;
+use circuit_plans::PlanFault;
 use mct_circuit::Gate;
 use revc_base::Memory;
 use std::alloc::Global;

@@ -1,2 +1,3 @@
+pub mod LeanLemmas
 pub mod SearchLemmas
 pub mod SplitLemmas

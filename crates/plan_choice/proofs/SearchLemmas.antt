@@ -9,13 +9,13 @@ use Rattle.plan_choice.specs.Blocks.{HasFewGates, HasFewLines, IsHalved, IsPebbl
 use Rattle.claim_check.specs.Budgets.{Measures, block_gates, block_lines}
 use Rattle.claim_check.specs.Measures.{IsWithin}
 use Rattle.claim_check.specs.Settled.{SettledView}
-use Rattle.gate_split.specs.declared.plan.PlanFault.{PlanFault}
-use Rattle.gate_split.specs.declared.plan.PlanFault.TheVariants.{Lines, Gates, Memory}
-use Rattle.gate_split.specs.Plans.{BudgetView, LaidView}
+use Rattle.circuit_plans.specs.declared.plan.PlanFault.{PlanFault}
+use Rattle.circuit_plans.specs.declared.plan.PlanFault.TheVariants.{Lines, Gates, Memory}
+use Rattle.circuit_plans.specs.Plans.{BudgetView, LaidView}
 use Rattle.eager_cleanup.specs.Eager.{IsEagerFault, ports_of}
 use Rattle.revs_tape.specs.Levels.{IsLevels}
-use Rattle.gate_split.specs.declared.choice.How.TheVariants.{Auto, Eager, Pebble}
-use Rattle.gate_split.specs.declared.choice.How.{How}
+use Rattle.circuit_plans.specs.declared.choice.How.TheVariants.{Auto, Eager, Lean, Pebble}
+use Rattle.circuit_plans.specs.declared.choice.How.{How}
 use Rattle.held_nodes.specs.Plans.{wanted_lines}
 use Rattle.plan_choice.specs.Choices.{EagerFits, Fit, FineFits, GatesAreFew, IsBelowFineLines, IsChoiceFault, IsLaidFor}
 use Rattle.plan_choice.specs.Choices.{IsPebbling, LinesAreFew, NoEagerFits, NoLargerFits, PlainFits, PebblingFits}
@@ -236,6 +236,10 @@ few_ports Eager s b short = record {
   few = λ m within. omega (arith, short, within.inputs, within.outputs);
   no_row = λ m within row. no_eager_row s b m short within row;
 }
+few_ports Lean s b short = record {
+  few = λ m within. omega (arith, short, within.inputs, within.outputs);
+  no_row = λ m within row. (let few = row.few_lines in omega (arith, few, short, within.inputs, within.outputs));
+}
 few_ports Pebble s b short = record {
   few = λ m within. below_fine s b m short within;
   no_row = λ m within row. no_port_row s b m short within row;
@@ -253,3 +257,20 @@ pub ports_fault : (how : How) (s : SettledView) (b : BudgetView) (need : ℕ) �
 ports_fault how s b need is short =
     let less : b.lines < ports_of s + b.borrow = omega (arith, is, short) in
     (few_ports how s b less, is ∙ wanted_ports s b less)
+
+-- pebbling where the eager numbers do not fit
+pub auto_fault : (s : SettledView) (b : BudgetView) (tried : Result LaidView PlanFault) → NoEagerFits s b → IfErr tried (IsChoiceFault Pebble s b)
+    → IfErr tried (IsChoiceFault Auto s b)
+auto_fault s b (Ok laid) none h = tt
+auto_fault s b (Err (Lines need)) none h = (
+  record {
+    few = h.0.few;
+    no_row = λ m within row. elim row as (λ _. ⊥) [ inl eager ↦ none.none m within eager | inr pebbling ↦ h.0.no_row m within pebbling ];
+  },
+  h.1,
+)
+auto_fault s b (Err Gates) none h = record {
+  few = h.few;
+  no_row = λ m within row. elim row as (λ _. ⊥) [ inl eager ↦ none.none m within eager | inr pebbling ↦ h.no_row m within pebbling ];
+}
+auto_fault s b (Err Memory) none h = h

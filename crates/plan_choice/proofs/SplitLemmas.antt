@@ -15,20 +15,21 @@ use Rattle.dependency_graph.specs.declared.node.Sig.{Sig}
 use Rattle.claim_check.specs.Budgets.{Measures}
 use Rattle.claim_check.specs.Measures.{IsWithin}
 use Rattle.claim_check.specs.Settled.{SettledView, settled_outputs}
-use Rattle.gate_split.specs.declared.roles.Roles.{Roles}
+use Rattle.circuit_plans.specs.declared.roles.Roles.{Roles}
 use Rattle.sum_graph.specs.Graphs.{sum_outputs}
 use Rattle.sum_graph.specs.Plain.{plain_of, plain_output, plain_sum}
 use Rattle.sum_graph.proofs.PlainLemmas.{plain_graphs_are_alike}
 use Rattle.sum_toggles.specs.Toggles.{toggle_weight}
 use Rattle.held_nodes.specs.Held.{first_work}
 use Rattle.bennett_pebbling.specs.Pebbling as sums
+use Rattle.bennett_pebbling.proofs.OutputLemmas.{light_weight}
 use Rattle.plan_choice.specs.Blocks.{AreWithinBlock, IsHalved, IsPebblingFault}
 use Rattle.eager_cleanup.specs.Eager.{IsWithinEager, ports_of}
 use Rattle.gate_split.specs.declared.fault.SplitFault.TheVariants as split
-use Rattle.gate_split.specs.declared.plan.PlanFault.{PlanFault}
-use Rattle.gate_split.specs.declared.plan.PlanFault.TheVariants.{Lines, Gates, Memory}
+use Rattle.circuit_plans.specs.declared.plan.PlanFault.{PlanFault}
+use Rattle.circuit_plans.specs.declared.plan.PlanFault.TheVariants.{Lines, Gates, Memory}
 use Rattle.gate_split.specs.Costs.{IsRoomyFlip, NarrowStay, RoomyFlipsAreSplit, most_gates}
-use Rattle.gate_split.specs.Plans.{BudgetView, CleanCircuitsBorrow, LaidView, MapsCleanly, PlannedView, lines_in, with_borrowed}
+use Rattle.circuit_plans.specs.Plans.{BudgetView, CleanCircuitsBorrow, LaidView, MapsCleanly, PlannedView, lines_in, with_borrowed}
 use Rattle.gate_split.specs.Split.{split_list}
 use Rattle.held_nodes.specs.Moves.{roles_of_plan, weight_in}
 use Rattle.held_nodes.specs.Plans.{HasPortLines, HasPorts, wanted_lines}
@@ -56,11 +57,11 @@ flip_stays controls target few =
     elim (leb_tells (length (flip_of controls target).controls) 2) [ inl t ↦ rw t.0 refl | inr t ↦ absurd (omega (arith, t.1)) ]
 
 -- the most gates in place of narrow ones are as many as they weigh
-narrow_stay : (gates : List GateView) → AreNarrow gates → sum_by most_gates gates ≡ weight_in gates
-narrow_stay [] narrow = refl
-narrow_stay (gate ∷ gates) narrow =
+pub narrow_weight : (gates : List GateView) → AreNarrow gates → sum_by most_gates gates ≡ weight_in gates
+narrow_weight [] narrow = refl
+narrow_weight (gate ∷ gates) narrow =
     let here : most_gates gate ≡ weight_of gate = rw narrow.0.is_flip (flip_stays narrow.0.controls narrow.0.target narrow.0.few) in
-    let there = narrow_stay gates narrow.1 in
+    let there = narrow_weight gates narrow.1 in
     let most = sum_by-cons most_gates gate gates in
     let weight = sum_by-cons weight_of gate gates in
     omega arith
@@ -81,7 +82,7 @@ pub blocks_refused : (s : SettledView) (block : ℕ) (b : BudgetView) (gates : L
     → AreNarrow gates → weight_in gates ≤ b.gates → IfErr tried (IsSplitFault gates b) → IfErr tried (IsPebblingFault s block b)
 blocks_refused s block b gates (Ok laid) lines narrow within h = tt
 blocks_refused s block b gates (Err (Lines need)) lines narrow within h = absurd h
-blocks_refused s block b gates (Err Gates) lines narrow within h = (let stay = narrow_stay gates narrow in absurd (omega arith))
+blocks_refused s block b gates (Err Gates) lines narrow within h = (let stay = narrow_weight gates narrow in absurd (omega arith))
 blocks_refused s block b gates (Err Memory) lines narrow within h = lines
 
 -- ---- the numbers of a laid plan
@@ -107,14 +108,17 @@ laid_eager s b p laid law roomy within is =
     }
 
 -- narrow gates are laid as they are
-same_gates : (b : BudgetView) (p : PlannedView) (laid : LaidView) → NarrowStay → AreNarrow p.circuit.gates → weight_in p.circuit.gates ≤ b.gates
-    → IsLaidOf p b laid → length laid.circuit.gates ≡ length p.circuit.gates
-same_gates b p laid law narrow light is =
+pub same_list : (b : BudgetView) (p : PlannedView) (laid : LaidView) → NarrowStay → AreNarrow p.circuit.gates → weight_in p.circuit.gates ≤ b.gates
+    → IsLaidOf p b laid → laid.circuit.gates ≡ p.circuit.gates
+same_list b p laid law narrow light is =
     let few = length-le-weight p.circuit.gates in
     let stay = law (p.circuit.lines + b.borrow) b.gates p.circuit.gates narrow (omega (arith, few, light)) in
     let both : Ok p.circuit.gates ≡ Ok laid.circuit.gates = sym stay ∙ is.split in
-    let same : laid.circuit.gates ≡ p.circuit.gates = cc in
-    ap (λ (gs : List GateView). length gs) same
+    cc
+
+same_gates : (b : BudgetView) (p : PlannedView) (laid : LaidView) → NarrowStay → AreNarrow p.circuit.gates → weight_in p.circuit.gates ≤ b.gates
+    → IsLaidOf p b laid → length laid.circuit.gates ≡ length p.circuit.gates
+same_gates b p laid law narrow light is = ap (λ (gs : List GateView). length gs) (same_list b p laid law narrow light is)
 
 pub laid_blocks : (s : SettledView) (block : ℕ) (b : BudgetView) (p : PlannedView) (laid : LaidView) → NarrowStay → AreNarrow p.circuit.gates
     → weight_in p.circuit.gates ≤ b.gates → AreWithinBlock s block 0 p.circuit.lines (length p.circuit.gates) → IsLaidOf p b laid → IsLaidInBlocks s block b laid
@@ -233,7 +237,7 @@ block_within s block borrowed lines gates w =
       fine_lines = λ m levels one h. w.fine_lines m levels one (plain_halved s 1 levels m h);
       fine_gates = λ m levels one h. w.fine_gates m levels one (plain_halved s 1 levels m h);
       plain_lines = λ covers. omega (arith, w.plain_lines (omega (arith, covers, nodes)), nodes, outputs);
-      plain_gates = λ covers. omega (arith, w.plain_gates (plain_light s) (omega (arith, covers, nodes)), nodes, outputs);
+      plain_gates = λ covers. omega (arith, w.plain_gates (omega (arith, covers, nodes)), light_weight (plain_of s) (plain_light s), nodes, outputs);
     }
 
 ports_same : (s : SettledView) → first_work (plain_of s) ≡ ports_of s
@@ -245,7 +249,7 @@ block_fault s block b (Lines need) h =
       record {
         halved = λ m levels is. h.0.halved m levels (plain_halved s block levels m is);
         fine = λ m levels one is. h.0.fine m levels one (plain_halved s 1 levels m is);
-        plain = λ covers. omega (arith, h.0.plain (omega (arith, covers, nodes)), nodes, ports_same s);
+        plain = λ covers. omega (arith, h.0.plain, nodes, ports_same s);
       },
       h.1 ∙ ap (λ (n : ℕ). wanted_lines n b) (ports_same s),
     )
@@ -255,7 +259,7 @@ block_fault s block b Gates h =
     record {
       halved = λ m levels is. h.halved m levels (plain_halved s block levels m is);
       fine = λ m levels one is. h.fine m levels one (plain_halved s 1 levels m is);
-      plain = λ covers. omega (arith, h.plain (plain_light s) (omega (arith, covers, nodes)), nodes, outputs);
+      plain = λ covers. omega (arith, h.plain (omega (arith, covers, nodes)), light_weight (plain_of s) (plain_light s), nodes, outputs);
     }
 block_fault s block b Memory h = omega (arith, h, ports_same s)
 

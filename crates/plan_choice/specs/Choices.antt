@@ -1,18 +1,23 @@
 -- Which budgets are enough for a choice of plans, and what is laid.
-use Rattle.std.specs.Prelude.{◌≡◌, ℕ, suc, ◌^◌, ◌<◌, ◌≤◌, ◌⊎◌, length}
+use Rattle.std.specs.Prelude.{◌≡◌, ℕ, suc, ◌*◌, ◌^◌, ◌<◌, ◌≤◌, ◌⊎◌, length}
 use Rattle.revs_tape.specs.Levels.{IsLevels}
 use Rattle.claim_check.specs.Budgets.{Measures, plain_lines, plain_gates, fine_lines, fine_gates}
 use Rattle.claim_check.specs.Budgets.{block_lines, block_gates, eager_lines, eager_gates}
+use Rattle.claim_check.specs.Budgets.{lean_lines, lean_gates}
 use Rattle.claim_check.specs.Measures.{IsWithin}
 use Rattle.claim_check.specs.Settled.{SettledView, settled_outputs}
-use Rattle.gate_split.specs.declared.plan.PlanFault.{PlanFault}
-use Rattle.gate_split.specs.declared.plan.PlanFault.TheVariants.{Lines, Gates, Memory}
-use Rattle.gate_split.specs.Plans.{BudgetView, LaidView, MapsCleanly, roles_of}
+use Rattle.dependency_graph.specs.Graphs.{ands_in}
+use Rattle.circuit_plans.specs.declared.plan.PlanFault.{PlanFault}
+use Rattle.circuit_plans.specs.declared.plan.PlanFault.TheVariants.{Lines, Gates, Memory}
+use Rattle.circuit_plans.specs.Plans.{BudgetView, LaidView, MapsCleanly, roles_of}
 use Rattle.held_nodes.specs.Plans.{HasPortLines, wanted_lines}
+use Rattle.mct_circuit.specs.Gates.{AreNarrow}
 use Rattle.eager_cleanup.specs.Eager.{AreWithinEager, ports_of}
 use Rattle.plan_choice.specs.Blocks.{AreWithinBlock}
-use Rattle.gate_split.specs.declared.choice.How.{How}
-use Rattle.gate_split.specs.declared.choice.How.TheVariants.{Auto, Eager, Pebble}
+use Rattle.plan_choice.specs.Lean.{IsBetterOfTwo, toffoli}
+use Rattle.sum_graph.specs.Graphs.{IsLeanOf, SumGraphView}
+use Rattle.circuit_plans.specs.declared.choice.How.{How}
+use Rattle.circuit_plans.specs.declared.choice.How.TheVariants.{Auto, Eager, Lean, Pebble}
 
 -- ---- rows of the budget numbers
 
@@ -43,10 +48,15 @@ EagerFits b m = Fit b (eager_lines m b.borrow) (eager_gates m)
 abbrev pub PebblingFits : BudgetView → Measures → Type 0
 PebblingFits b m = PlainFits b m ⊎ (FineFits b m ⊎ BlockFits b m)
 
+-- a line for each step, and what two toggles of each lean node and one of each output weigh at most
+abbrev pub LeanFits : BudgetView → Measures → Type 0
+LeanFits b m = Fit b (lean_lines m b.borrow) (lean_gates m)
+
 -- one of the rows that a choice of plans allows fits
 abbrev pub SomeRowFits : How → BudgetView → Measures → Type 0
 SomeRowFits Auto b m = EagerFits b m ⊎ PebblingFits b m
 SomeRowFits Eager b m = EagerFits b m
+SomeRowFits Lean b m = LeanFits b m
 SomeRowFits Pebble b m = PebblingFits b m
 
 -- neither the plain numbers fit, nor those of a block of this size or more
@@ -67,16 +77,19 @@ pub record IsBelowFineLines (b : BudgetView) (m : Measures) : Type 0 where
 pub record IsBelowFineGates (b : BudgetView) (m : Measures) : Type 0 where
   pub below : (levels : ℕ) → IsLevels 1 m.steps levels → b.gates < fine_gates m levels
 
--- the budget has fewer lines than the eager number, or than the fine number where pebbling is tried too
+-- the budget has fewer lines than the eager number, than a line for each step under `Lean`, or than the fine number
+-- where pebbling of the plain graph is tried too
 abbrev pub HasFewLines : How → BudgetView → Measures → Type 0
 HasFewLines Auto b m = IsBelowFineLines b m
 HasFewLines Eager b m = b.lines < eager_lines m b.borrow
+HasFewLines Lean b m = b.lines < lean_lines m b.borrow
 HasFewLines Pebble b m = IsBelowFineLines b m
 
--- the same of gates
+-- the same of gates; under `Lean` pebbling by smaller blocks saves lines for gates, and the row tells all that is known
 abbrev pub HasFewGates : How → BudgetView → Measures → Type 0
 HasFewGates Auto b m = IsBelowFineGates b m
 HasFewGates Eager b m = b.gates < eager_gates m
+HasFewGates Lean b m = ¬ LeanFits b m
 HasFewGates Pebble b m = IsBelowFineGates b m
 
 -- within all measures within which the settled graph is, the budget has too few lines, and no allowed row fits
@@ -121,6 +134,15 @@ pub record IsPebbling (s : SettledView) (b : BudgetView) (laid : LaidView) : Typ
       (length laid.circuit.gates)
   pub first : (length s.nodes ≤ 2 ^ power) ⊎ NoLargerFits s (2 ^ suc power) b
 
+-- The better of two plans of a lean graph, of narrow gates; where the lean row fits, it has at most two Toffoli gates for
+-- each AND of the settled graph.
+pub record IsLean (s : SettledView) (b : BudgetView) (laid : LaidView) : Type 0 where
+  pub graph : SumGraphView
+  pub lean : IsLeanOf s graph
+  pub better : IsBetterOfTwo graph b laid
+  pub narrow : AreNarrow laid.circuit.gates
+  pub few : (m : Measures) → IsWithin s m → LeanFits b m → toffoli laid ≤ 2 * ands_in s.nodes
+
 -- the eager numbers do not both fit
 pub record NoEagerFits (s : SettledView) (b : BudgetView) : Type 0 where
   pub none : (m : Measures) → IsWithin s m → ¬ EagerFits b m
@@ -129,4 +151,5 @@ pub record NoEagerFits (s : SettledView) (b : BudgetView) : Type 0 where
 abbrev pub IsChosen : How → SettledView → BudgetView → LaidView → Type 0
 IsChosen Auto s b laid = IsEager s b laid ⊎ (NoEagerFits s b × IsPebbling s b laid)
 IsChosen Eager s b laid = IsEager s b laid
+IsChosen Lean s b laid = IsLean s b laid
 IsChosen Pebble s b laid = IsPebbling s b laid

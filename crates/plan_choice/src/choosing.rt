@@ -1,12 +1,15 @@
 // The first plan that fits.
-ghost use Rattle.std.specs.Prelude.{◌≡◌, IfOk, IfErr};
+ghost use Rattle.std.specs.Prelude.{◌≡◌, ◌+◌, ◌≤◌, IfOk, IfErr};
+ghost use Rattle.eager_cleanup.specs.Eager.{ports_of};
 ghost use Rattle.sum_graph.specs.Plain.{plain_of};
 ghost use Rattle.plan_choice.specs.Choices.{IsChoiceFault, IsChosen, IsLaidFor};
+ghost use Rattle.circuit_plans.specs.declared.choice.How.TheVariants.{Auto};
 
 use crate::laying::{is_refused, lay_eager};
+use crate::lean::lay_lean;
 use crate::search::lay_pebbling;
+use circuit_plans::{Budget, How, Laid, PlanFault};
 use claim_check::Settled;
-use gate_split::{Budget, How, Laid, PlanFault};
 use std::alloc::Global;
 use sum_graph::SumGraph;
 
@@ -14,15 +17,16 @@ use sum_graph::SumGraph;
 /// ones. The circuit takes each input, zeros, and anything on the borrowed lines to that input, the
 /// outputs, zeros, and the same on the borrowed lines. An eager plan is within the eager numbers, a
 /// pebbling within those of its block; it is that of the largest block that fits, and `Auto` takes
-/// one only where the eager numbers do not fit.
+/// one only where the eager numbers do not fit. `Lean` takes the better of two plans of the lean
+/// graph; where the lean row fits, it has at most two Toffoli gates for each AND of the graph.
 ///
 /// # Errors
 ///
-/// The refusal of the last plan that was tried; want of memory ends the search. `Lines` and `Gates`
-/// come only where the budget has fewer of them than the fine number of the graph, or for `Eager`
-/// than its eager number, and never where both numbers of a row that `how` allows fit. `need` is
-/// the number of inputs, outputs and borrowed lines where that passes the budget, and one line more
-/// than the budget otherwise.
+/// The refusal of the last plan that was tried; want of memory ends the search. Never where both
+/// numbers of a row that `how` allows fit. `Lines` and `Gates` come only where the budget has fewer
+/// of them than the fine number of the graph, for `Eager` than its eager number, and `Lines` for
+/// `Lean` than a line for each node. `need` is the number of inputs, outputs and borrowed lines
+/// where that passes the budget, and one line more than the budget otherwise.
 pub fn choose(alloc: Global, graph: &Settled, budget: &Budget, how: How) -> Result<Laid, PlanFault>
     ensures ok { IfOk result (IsLaidFor graph.now budget.now) }
     ensures chosen { IfOk result (IsChosen how graph.now budget.now) }
@@ -32,33 +36,52 @@ pub fn choose(alloc: Global, graph: &Settled, budget: &Budget, how: How) -> Resu
     if need > budget.lines() {
         return Err(PlanFault::Lines { need });
     }
-    let plain = SumGraph::plain(alloc, graph)?;
-    chosen(alloc, graph, &plain, budget, how)
+    chosen(alloc, graph, budget, how)
 }
 
-// The first plan that fits the budget, over the plain graph.
-fn chosen(
-    alloc: Global,
-    graph: &Settled,
-    plain: &SumGraph,
-    budget: &Budget,
-    how: How,
-) -> Result<Laid, PlanFault>
-    requires { plain.now ≡ plain_of graph.now }
+// The first plan that fits the budget, where it has a line for each input, output and borrowed bit.
+fn chosen(alloc: Global, graph: &Settled, budget: &Budget, how: How) -> Result<Laid, PlanFault>
+    requires { ports_of graph.now + budget.now.borrow ≤ budget.now.lines }
     ensures ok { IfOk result (IsLaidFor graph.now budget.now) }
     ensures chosen { IfOk result (IsChosen how graph.now budget.now) }
     ensures refused { IfErr result (IsChoiceFault how graph.now budget.now) }
 {
     match how {
         How::Auto => {
-            let tried = lay_eager(alloc, graph, plain, budget);
-            if is_refused(&tried) {
-                lay_pebbling(alloc, graph, plain, budget)
-            } else {
-                tried
-            }
+            let plain = SumGraph::plain(alloc, graph)?;
+            eager_or_pebbling(alloc, graph, &plain, budget)
         }
-        How::Eager => lay_eager(alloc, graph, plain, budget),
-        How::Pebble => lay_pebbling(alloc, graph, plain, budget),
+        How::Eager => {
+            let plain = SumGraph::plain(alloc, graph)?;
+            lay_eager(alloc, graph, &plain, budget)
+        }
+        How::Lean => {
+            let lean = SumGraph::lean(alloc, graph)?;
+            lay_lean(alloc, graph, &lean, budget)
+        }
+        How::Pebble => {
+            let plain = SumGraph::plain(alloc, graph)?;
+            lay_pebbling(alloc, graph, &plain, budget)
+        }
+    }
+}
+
+// The eager plan where it fits, else the first pebbling that does, over the plain graph.
+fn eager_or_pebbling(
+    alloc: Global,
+    graph: &Settled,
+    plain: &SumGraph,
+    budget: &Budget,
+) -> Result<Laid, PlanFault>
+    requires { plain.now ≡ plain_of graph.now }
+    ensures ok { IfOk result (IsLaidFor graph.now budget.now) }
+    ensures chosen { IfOk result (IsChosen Auto graph.now budget.now) }
+    ensures refused { IfErr result (IsChoiceFault Auto graph.now budget.now) }
+{
+    let tried = lay_eager(alloc, graph, plain, budget);
+    if is_refused(&tried) {
+        lay_pebbling(alloc, graph, plain, budget)
+    } else {
+        tried
     }
 }

@@ -9,11 +9,9 @@ ghost use Rattle.plan_choice.specs.Choices.{IsEager, IsLaidFor};
 ghost use Rattle.plan_choice.specs.inside.Tried.{IsLaidInBlocks, IsLaidOf, IsSplitFault};
 ghost use Rattle.plan_choice.specs.inside.Tried.{is_refusal};
 
+use circuit_plans::{Budget, Laid, PlanFault, Planned, clean_circuits_borrow};
 use claim_check::Settled;
-use gate_split::{
-    Budget, Laid, PlanFault, Planned, SplitFault, clean_circuits_borrow, narrow_stay,
-    roomy_flips_are_split, split,
-};
+use gate_split::{SplitFault, narrow_stay, roomy_flips_are_split, split};
 use std::alloc::Global;
 use sum_graph::SumGraph;
 
@@ -65,7 +63,7 @@ pub fn is_refused(tried: &Result<Laid, PlanFault>) -> bool
 }
 
 // The plan with its gates split.
-fn lay(alloc: Global, planned: &Planned, budget: &Budget) -> Result<Laid, PlanFault>
+pub fn lay(alloc: Global, planned: &Planned, budget: &Budget) -> Result<Laid, PlanFault>
     requires lines { planned.now.circuit.lines + budget.now.borrow ≤ budget.now.lines }
     requires roomy { AllByRecursion (IsRoomyFlip planned.now.circuit.lines)
         planned.now.circuit.gates }

@@ -3,6 +3,7 @@
 
 mod choosing;
 mod laying;
+mod lean;
 mod search;
 
 pub use choosing::choose;

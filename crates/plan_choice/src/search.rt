@@ -1,12 +1,12 @@
 // The search for the size of a block.
 ghost use Rattle.std.specs.Prelude.{◌≡◌, IfOk, IfErr};
-ghost use Rattle.gate_split.specs.declared.choice.How.TheVariants.{Pebble};
+ghost use Rattle.circuit_plans.specs.declared.choice.How.TheVariants.{Pebble};
 ghost use Rattle.sum_graph.specs.Plain.{plain_of};
 ghost use Rattle.plan_choice.specs.Choices.{IsChoiceFault, IsLaidFor, IsPebbling};
 
 use crate::laying::{is_refused, lay_blocks};
+use circuit_plans::{Budget, Laid, PlanFault};
 use claim_check::Settled;
-use gate_split::{Budget, Laid, PlanFault};
 use std::alloc::Global;
 use sum_graph::SumGraph;
 

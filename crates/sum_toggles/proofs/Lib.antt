@@ -1,4 +1,5 @@
 pub mod AddingLemmas
+pub mod CountLemmas
 pub mod GatherLemmas
 pub mod OwnLemmas
 pub mod SumLemmas

@@ -7,7 +7,7 @@ use Rattle.dependency_graph.specs.declared.node.Base.{Base}
 use Rattle.dependency_graph.specs.declared.node.Base.TheVariants as bases
 use Rattle.dependency_graph.specs.Folds.{is_same}
 use Rattle.bit_sums.specs.Sums.{ProductView, SumView}
-use Rattle.gate_split.specs.declared.plan.TheConstants.{MOST_LINES}
+use Rattle.circuit_plans.specs.declared.plan.TheConstants.{MOST_LINES}
 use Rattle.mct_circuit.specs.Gates.{GateView, flip_of}
 
 -- ---- a product: both factors are gathered, each on the line of a bit that the other lacks

@@ -1,11 +1,16 @@
 -- Work on a range of nodes of a forward part: what is held before and after, and what it costs.
-use Rattle.std.specs.Prelude.{◌≡◌, ℕ, ◌+◌, ◌<◌, ◌≤◌, Bool, true, false, not, ◌&&◌, ◌||◌, List, length}
+use Rattle.std.specs.Prelude.{◌≡◌, ℕ, ◌+◌, ◌<◌, ◌≤◌, Bool, true, false, not, ◌&&◌, ◌||◌, List, length, sum_by}
 use Rattle.list_facts.specs.Bits.{bit_of}
-use Rattle.gate_split.specs.declared.plan.PlanFault.{PlanFault}
+use Rattle.bit_sums.specs.Sums.{SumView}
+use Rattle.mct_circuit.specs.Gates.{GateView}
+use Rattle.sum_toggles.specs.Toggles.{toggle_weight}
+use Rattle.circuit_plans.specs.declared.plan.PlanFault.{PlanFault}
 use Rattle.sum_graph.specs.Graphs.{SumGraphView}
 use Rattle.held_nodes.specs.Held.{ForwardView, IsForward, is_held}
 use Rattle.held_nodes.specs.Moves.{IsReadyNode}
 use Rattle.bennett_pebbling.specs.inside.Costs.{Allows, AllowsHeld, HasNeed, IsCovered, IsMove, IsMoveFault, IsShort}
+use Rattle.held_nodes.specs.Prices.{IsPrice, price_at, prices}
+use Rattle.bennett_pebbling.specs.inside.Costs.{IsHeavy, price_if}
 use Rattle.bennett_pebbling.specs.inside.Costs.{counted, one_if, reach_of, toggles_at}
 use Rattle.bennett_pebbling.specs.inside.Marks.{IsOutside, RestsOn}
 
@@ -33,12 +38,16 @@ pub record IsTurned (f : ForwardView) (node : ℕ) (turn : Bool) (next : Forward
   pub others : (k : ℕ) → ¬ (k ≡ node) → is_held next.lines k ≡ is_held f.lines k
   pub move : (allowed : ℕ → Bool) → AllowsTurn f node turn allowed
       → IsMove f (counted allowed (length f.graph.nodes)) (one_if turn) next
+  pub paid : (measure : GateView → ℕ) (price : SumView → ℕ) → IsPrice measure price
+      → sum_by measure next.gates
+      ≤ sum_by measure f.gates + price_if turn (price_at price f.graph node)
 
 -- why a node did not turn
 pub record IsTurnFault (f : ForwardView) (node : ℕ) (turn : Bool) (e : PlanFault)
     : Type 0 where
   pub fault : (allowed : ℕ → Bool) → AllowsTurn f node turn allowed
       → IsMoveFault f (counted allowed (length f.graph.nodes)) (one_if turn) e
+  pub heavy : IsHeavy f (price_if turn (price_at toggle_weight f.graph node)) e
 
 -- ---- a range
 
@@ -72,6 +81,9 @@ pub record IsRaised (f : ForwardView) (lo : ℕ) (marks : List Bool) (next : For
   pub move : (allowed : ℕ → Bool) → Allows f lo marks allowed
       → IsMove f (counted allowed (length f.graph.nodes))
       (counted (is_missing f lo marks) (length marks)) next
+  pub paid : (measure : GateView → ℕ) (price : SumView → ℕ) → IsPrice measure price
+      → sum_by measure next.gates
+      ≤ sum_by measure f.gates + prices price f.graph lo (length marks)
 
 -- why they are not
 pub record IsRaiseFault (f : ForwardView) (lo : ℕ) (marks : List Bool) (e : PlanFault)
@@ -79,6 +91,7 @@ pub record IsRaiseFault (f : ForwardView) (lo : ℕ) (marks : List Bool) (e : Pl
   pub fault : (allowed : ℕ → Bool) → Allows f lo marks allowed
       → IsMoveFault f (counted allowed (length f.graph.nodes))
       (counted (is_missing f lo marks) (length marks)) e
+  pub heavy : IsHeavy f (prices toggle_weight f.graph lo (length marks)) e
 
 -- the wanted nodes are held, and all operands of each held node that is not wanted
 pub record CanLower (f : ForwardView) (lo : ℕ) (wanted : List Bool) : Type 0 where
@@ -133,6 +146,17 @@ pub record IsChangeFault (f : ForwardView) (block lo : ℕ) (wanted : List Bool)
       → IsCovered f.graph block (length wanted) level width → Allows f lo wanted allowed
       → IsShort f (reach_of f block level width allowed) (toggles_at block level) e
 
+-- each node of the range is toggled at most once
+pub record IsPlain (f : ForwardView) (lo count : ℕ) (next : ForwardView) : Type 0 where
+  pub move : IsMove f (length f.graph.nodes) count next
+  pub paid : (measure : GateView → ℕ) (price : SumView → ℕ) → IsPrice measure price
+      → sum_by measure next.gates ≤ sum_by measure f.gates + prices price f.graph lo count
+
+-- why they are not
+pub record IsPlainFault (f : ForwardView) (lo count : ℕ) (e : PlanFault) : Type 0 where
+  pub short : IsShort f (length f.graph.nodes) count e
+  pub heavy : IsHeavy f (prices toggle_weight f.graph lo count) e
+
 -- the wanted nodes are held, and outside the range nothing is changed; within one block each node is toggled at most once
 pub record IsRisen (f : ForwardView) (block lo : ℕ) (wanted : List Bool)
     (next : ForwardView) : Type 0 where
@@ -142,12 +166,10 @@ pub record IsRisen (f : ForwardView) (block lo : ℕ) (wanted : List Bool)
   pub outside : (k : ℕ) → IsOutside lo (length wanted) k
       → is_held next.lines k ≡ is_held f.lines k
   pub thrifty : IsThrifty f block lo wanted next
-  pub plain : length wanted ≤ block
-      → IsMove f (length f.graph.nodes) (length wanted) next
+  pub plain : length wanted ≤ block → IsPlain f lo (length wanted) next
 
 -- why they are not; within one block the budget has less than a line and a toggle for each node
 pub record IsRiseFault (f : ForwardView) (block lo : ℕ) (wanted : List Bool)
     (e : PlanFault) : Type 0 where
   pub change : IsChangeFault f block lo wanted e
-  pub plain : length wanted ≤ block
-      → IsShort f (length f.graph.nodes) (length wanted) e
+  pub plain : length wanted ≤ block → IsPlainFault f lo (length wanted) e

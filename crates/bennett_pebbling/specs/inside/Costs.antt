@@ -3,8 +3,8 @@ use Rattle.std.specs.Prelude.{◌≡◌, ℕ, zero, suc, ◌+◌, ◌*◌, ◌<�
 use Rattle.list_facts.specs.Bits.{bit_of}
 use Rattle.sum_graph.specs.Uses.{sum_cut}
 use Rattle.sum_graph.specs.Graphs.{SumGraphView}
-use Rattle.gate_split.specs.declared.plan.PlanFault.{PlanFault}
-use Rattle.gate_split.specs.declared.plan.PlanFault.TheVariants.{Lines, Gates, Memory}
+use Rattle.circuit_plans.specs.declared.plan.PlanFault.{PlanFault}
+use Rattle.circuit_plans.specs.declared.plan.PlanFault.TheVariants.{Lines, Gates, Memory}
 use Rattle.held_nodes.specs.Held.{ForwardView, is_held, work_lines}
 use Rattle.held_nodes.specs.Moves.{weight_in}
 use Rattle.mct_circuit.specs.Gates.{AreNarrow}
@@ -22,6 +22,19 @@ abbrev pub counted : (ℕ → Bool) → ℕ → ℕ
 counted test zero = 0
 counted test (suc n) = counted test n + one_if (test n)
 
+-- ---- prices
+
+-- what is paid where a node turns
+abbrev pub price_if : Bool → ℕ → ℕ
+price_if true price = price
+price_if false price = 0
+
+-- the gates are too few where toggles of this weight are added
+abbrev pub IsHeavy : ForwardView → ℕ → PlanFault → Type 0
+IsHeavy f weight (Lines need) = ⊤
+IsHeavy f weight Gates = f.budget.gates < 2 * (weight_in f.gates + weight)
+IsHeavy f weight Memory = ⊤
+
 -- ---- moves
 
 -- at most so many toggles, by which never more nodes are held than the reach, or than were before
@@ -32,9 +45,10 @@ pub record IsMove (f : ForwardView) (reach toggles : ℕ) (next : ForwardView) :
   pub weight : IsLight f.graph → weight_in next.gates ≤ weight_in f.gates + 2 * toggles
   pub narrow : AreNarrow f.gates → AreNarrow next.gates
 
--- one line more than the budget has is wanted
+-- one line more than the budget has is wanted, and it has fewer work lines than there are nodes
 abbrev pub HasNeed : ForwardView → PlanFault → Type 0
-HasNeed f (Lines need) = need ≡ f.budget.lines + 1
+HasNeed f (Lines need) =
+    (need ≡ f.budget.lines + 1) × (work_lines f.graph f.budget < length f.graph.nodes)
 HasNeed f Gates = ⊤
 HasNeed f Memory = ⊤
 

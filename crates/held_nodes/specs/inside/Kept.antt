@@ -4,9 +4,9 @@ use Rattle.ancilla_heap.specs.Lines as heaps
 use Rattle.ancilla_heap.specs.Lines.{HeapView, contains, IsLineHeap, with_taken, without_line}
 use Rattle.bit_sums.specs.Products.{IsProduct}
 use Rattle.bit_sums.specs.Sums.{SumView, bases_of}
-use Rattle.gate_split.specs.declared.plan.PlanFault.{PlanFault}
-use Rattle.gate_split.specs.declared.plan.PlanFault.TheVariants.{Lines, Gates, Memory}
-use Rattle.gate_split.specs.declared.plan.TheConstants.{MOST_LINES}
+use Rattle.circuit_plans.specs.declared.plan.PlanFault.{PlanFault}
+use Rattle.circuit_plans.specs.declared.plan.PlanFault.TheVariants.{Lines, Gates, Memory}
+use Rattle.circuit_plans.specs.declared.plan.TheConstants.{MOST_LINES}
 use Rattle.held_nodes.specs.Held.{ForwardView, IsForward, work_lines, held_count, is_taken}
 use Rattle.mct_circuit.specs.Gates.{GateView}
 use Rattle.std.specs.List.{AllByRecursion}

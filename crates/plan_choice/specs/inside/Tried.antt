@@ -1,15 +1,18 @@
 -- What a plan that was tried says: of its split, of one block, and of all blocks down to one.
-use Rattle.std.specs.Prelude.{◌≡◌, ℕ, ◌+◌, ◌<◌, ◌≤◌, Bool, true, false, ⊤, Result, Ok, Err, List, length, sum_by}
+use Rattle.std.specs.Prelude.{◌≡◌, ℕ, ◌+◌, ◌*◌, ◌<◌, ◌≤◌, ◌==◌, nat_lt, if◌then◌else◌, Bool, true, false, ⊤, Result, Ok, Err, List, length, sum_by}
 use Rattle.plan_choice.specs.Blocks.{AreWithinBlock, IsPebblingFault}
 use Rattle.claim_check.specs.Settled.{SettledView}
-use Rattle.gate_split.specs.declared.plan.PlanFault.{PlanFault}
-use Rattle.gate_split.specs.declared.plan.PlanFault.TheVariants.{Lines, Gates, Memory}
+use Rattle.circuit_plans.specs.declared.plan.PlanFault.{PlanFault}
+use Rattle.circuit_plans.specs.declared.plan.PlanFault.TheVariants.{Lines, Gates, Memory}
 use Rattle.gate_split.specs.Costs.{most_gates}
-use Rattle.gate_split.specs.Plans.{BudgetView, PlannedView, LaidView, MapsCleanly, roles_of}
+use Rattle.circuit_plans.specs.Plans.{BudgetView, PlannedView, LaidView, MapsCleanly, roles_of}
 use Rattle.gate_split.specs.Split.{split_list}
 use Rattle.held_nodes.specs.Moves.{roles_of_plan}
-use Rattle.mct_circuit.specs.Gates.{GateView}
-use Rattle.plan_choice.specs.Choices.{NoLargerFits}
+use Rattle.mct_circuit.specs.Gates.{AreNarrow, GateView}
+use Rattle.plan_choice.specs.Choices.{IsLaidFor, NoLargerFits}
+use Rattle.dependency_graph.specs.Graphs.{ands_in}
+use Rattle.plan_choice.specs.Lean.{CoveringFits, toffoli}
+use Rattle.sum_graph.specs.Graphs.{SumGraphView}
 
 -- whether there is no plan though memory was not wanting
 abbrev pub is_refusal : Result LaidView PlanFault → Bool
@@ -53,3 +56,39 @@ IsSearchFault s block b (Lines need) =
     NoLargerFits s block b × IsPebblingFault s block b (Lines need)
 IsSearchFault s block b Gates = NoLargerFits s block b × IsPebblingFault s block b Gates
 IsSearchFault s block b Memory = IsPebblingFault s block b Memory
+
+-- ---- the search over a lean graph
+
+-- What is laid of a lean graph is narrow, and where one block of all nodes fits, it has at most two flips under two
+-- lines for each AND.
+pub record IsLaidLean (s : SettledView) (l : SumGraphView) (b : BudgetView) (laid : LaidView)
+    : Type 0 where
+  pub for_graph : IsLaidFor s b laid
+  pub narrow : AreNarrow laid.circuit.gates
+  pub few : CoveringFits l b → toffoli laid ≤ 2 * ands_in s.nodes
+
+-- ---- the better of two plans
+
+-- fewer flips under two lines; of as many, fewer lines; of as many, fewer gates
+abbrev pub is_better : LaidView → LaidView → Bool
+is_better p q =
+    if toffoli p == toffoli q
+    then (if p.circuit.lines == q.circuit.lines
+    then nat_lt (length p.circuit.gates) (length q.circuit.gates)
+    else nat_lt p.circuit.lines q.circuit.lines)
+    else nat_lt (toffoli p) (toffoli q)
+
+-- the second plan where it fits and is better, else the first; want of memory passes on
+abbrev pub better_of : LaidView → Result LaidView PlanFault → Result LaidView PlanFault
+better_of ready (Ok pebbling) = Ok (if is_better pebbling ready then pebbling else ready)
+better_of ready (Err (Lines need)) = Ok ready
+better_of ready (Err Gates) = Ok ready
+better_of ready (Err Memory) = Err Memory
+
+-- the better plan where both fit, and the one that fits where one does; else the refusal of the second
+abbrev pub best_of : Result LaidView PlanFault → Result LaidView PlanFault
+    → Result LaidView PlanFault
+best_of (Ok ready) pebbling = better_of ready pebbling
+best_of (Err (Lines need)) pebbling = pebbling
+best_of (Err Gates) pebbling = pebbling
+best_of (Err Memory) pebbling = Err Memory

@@ -1,10 +1,10 @@
 use Rattle.std.proofs.Common.{◌≡◌, sym, subst}
 use Rattle.std.proofs.lemmas.Result.{IfOk-weaker, IfErr-weaker}
-use Rattle.gate_split.specs.Plans.{PlannedView}
+use Rattle.circuit_plans.specs.Plans.{PlannedView}
 use Rattle.mct_circuit.specs.Gates.{AreNarrow}
 use Rattle.held_nodes.specs.Moves.{IsFinishFault, planned_of}
-use Rattle.bennett_pebbling.specs.Pebbling.{IsPebblingFault, IsWithinBlock}
-use Rattle.bennett_pebbling.proofs.PlanLemmas.{IsBegun, begun, begun_can, finish_refused, plan_few, plan_narrow, plan_ready, rise_refused}
+use Rattle.bennett_pebbling.specs.Pebbling.{HasFewProducts, IsPebblingFault, IsWithinBlock}
+use Rattle.bennett_pebbling.proofs.PlanLemmas.{IsBegun, begun, begun_can, finish_refused, of_finished, plan_few, plan_narrow, plan_products, plan_ready, rise_refused}
 use Rattle.bennett_pebbling.proofs.planning.plan.Goals as goal
 use Rattle.revc_base.proofs.ResultLemmas.{passes_on}
 
@@ -51,9 +51,18 @@ returns-clause-few c =
     begun s b start outputs c.in_ok-outputs.outputs.items c.in_ok-forward.ensures.ok c.in_ok-forward.ensures.keeps
     c.deref.ensures.value c.in_ok-outputs.ensures in
     let f = c.in_ok-forward-2.forward in
-    IfOk-weaker c.finish.result (λ (p : PlannedView). p ≡ planned_of f) (IsWithinBlock s c.args.block)
-    (λ planned e. subst (IsWithinBlock s c.args.block) (sym e)
-    (plan_few s b c.args.block start outputs c.requires begin c.in_ok-forward-2.forward c.in_ok-forward-2.ensures.risen)) c.finish.ensures.ok
+    of_finished c.finish.result f (IsWithinBlock s c.args.block) c.finish.ensures.ok c.finish.ensures.weighs
+    (plan_few s b c.args.block start outputs c.requires begin f c.in_ok-forward-2.ensures.risen)
+
+pub returns-clause-products : goal.returns-clause-products
+returns-clause-products c =
+    let s = c.args.graph.now in let b = c.args.budget.now in let start = c.in_ok-forward.forward in let outputs = c.deref.result.now in
+    let begin : IsBegun s b start outputs =
+    begun s b start outputs c.in_ok-outputs.outputs.items c.in_ok-forward.ensures.ok c.in_ok-forward.ensures.keeps
+    c.deref.ensures.value c.in_ok-outputs.ensures in
+    let f = c.in_ok-forward-2.forward in
+    of_finished c.finish.result f (HasFewProducts s c.args.block) c.finish.ensures.ok c.finish.ensures.weighs
+    (λ weighs. plan_products s b c.args.block start outputs c.requires begin f c.in_ok-forward-2.ensures.risen)
 
 pub returns-clause-refused : goal.returns-clause-refused
 returns-clause-refused c =

@@ -4,7 +4,7 @@ use Rattle.held_nodes.specs.Held.{ForwardView}
 use Rattle.held_nodes.specs.inside.Kept.{HasProducts}
 use Rattle.held_nodes.specs.Moves.{finished_weight}
 use Rattle.held_nodes.proofs.FinishLemmas.{done_of, done_few, done_ports, done_in_budget, done_gates, done_copies, done_room, done_roomy, done_clean}
-use Rattle.held_nodes.proofs.FinishLemmas.{memory_refuses, of_plan}
+use Rattle.held_nodes.proofs.FinishLemmas.{memory_refuses, of_plan, whole_weight}
 use Rattle.held_nodes.proofs.forward.Forward.finish.Goals as goal
 
 pub plan_of-requires-clause-few : goal.plan_of-requires-clause-few
@@ -52,6 +52,12 @@ returns-clause-within c =
     let are = subst (λ (f : ForwardView). AllByRecursion HasProducts f.graph.outputs) (sym c.self.view_is) c.in_ok-copies.ensures.products in
     let light = subst (λ (f : ForwardView). finished_weight f ≤ f.budget.gates) (sym c.self.view_is) c.in_ok-copies.ensures.light in
     of_plan _ _ _ (returns-clause-ok c) (rw (← c.self.view_is) (done_in_budget _ _ _ done are light))
+
+pub returns-clause-weighs : goal.returns-clause-weighs
+returns-clause-weighs c =
+    let done = done_of _ _ _ _ c.self.view_is c.self.invariant c.requires in
+    let are = subst (λ (f : ForwardView). AllByRecursion HasProducts f.graph.outputs) (sym c.self.view_is) c.in_ok-copies.ensures.products in
+    of_plan _ _ _ (returns-clause-ok c) (rw (← c.self.view_is) (whole_weight _ _ _ done are))
 
 pub returns-clause-roomy : goal.returns-clause-roomy
 returns-clause-roomy c =

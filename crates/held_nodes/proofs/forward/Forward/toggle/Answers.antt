@@ -1,5 +1,5 @@
 use Rattle.std.proofs.Common.{ℕ, ◌+◌, ◌≤◌, Fits, ap, arith, w32}
-use Rattle.gate_split.specs.declared.plan.TheConstants.{MOST_LINES}
+use Rattle.circuit_plans.specs.declared.plan.TheConstants.{MOST_LINES}
 use Rattle.held_nodes.proofs.PlaceLemmas.{toggle_placed, toggle_apart}
 use Rattle.held_nodes.proofs.StepLemmas.{no_line, ready_node, ready_place}
 use Rattle.held_nodes.proofs.StepLemmas.{toggles_of, toggles_on, toggle_target, toggle_fault, toggle_out, toggle_ends, toggle_place}

@@ -1,0 +1,404 @@
+-- Plans of a lean graph, laid.
+use Rattle.std.proofs.Common.{◌≡◌, ℕ, ◌+◌, ◌*◌, ◌<◌, ◌≤◌, ◌⊎◌, Bool, false, true, List, [], ◌∷◌, ◌++◌, length, replicate, Ok, Err}
+use Rattle.std.proofs.Common.{refl, ap, subst, sym, ◌∙◌, inl, inr, arith}
+use Rattle.std.specs.List.{AllByRecursion}
+use Rattle.std.specs.Prelude.{◌==◌, if◌then◌else◌, nat_lt, sum_by, IfErr, IfOk, Result}
+use Rattle.std.proofs.lemmas.Bool.{cases_Bool, cases_lt, eqb-false, eqb-true, ltb-false, ltb-true}
+use Rattle.std.proofs.lemmas.List.Sums.{sum_by-cons}
+use Rattle.std.proofs.lemmas.Result.{IfOk-weaker}
+use Rattle.bennett_pebbling.specs.Pebbling as sums
+use Rattle.bit_sums.specs.Products.{IsProduct}
+use Rattle.bit_sums.specs.Sums.{ProductView, SumView, weight_of}
+use Rattle.circuit_plans.specs.declared.choice.How.TheVariants.{Lean}
+use Rattle.circuit_plans.specs.declared.plan.PlanFault.{PlanFault}
+use Rattle.circuit_plans.specs.declared.plan.PlanFault.TheVariants.{Lines, Gates, Memory}
+use Rattle.circuit_plans.specs.declared.roles.Roles.{Roles}
+use Rattle.circuit_plans.specs.Plans.{BudgetView, LaidView, MapsCleanly, PlannedView}
+use Rattle.claim_check.specs.Budgets.{Measures}
+use Rattle.claim_check.specs.Measures.{IsWithin}
+use Rattle.claim_check.specs.Settled.{SettledView, settled_outputs}
+use Rattle.dependency_graph.specs.Graphs.{ands_in}
+use Rattle.eager_cleanup.specs.Eager.{ports_of}
+use Rattle.gate_split.specs.Costs.{NarrowStay}
+use Rattle.held_nodes.specs.Held.{first_work}
+use Rattle.held_nodes.specs.Moves.{roles_of_plan}
+use Rattle.held_nodes.specs.Plans.{HasPortLines, HasPorts, IsInBudget, wanted_lines}
+use Rattle.mct_circuit.specs.Gates.{AreNarrow, GateView}
+use Rattle.mct_circuit.specs.Sizes.{counts_of}
+use Rattle.ready_cleanup.specs.Ready.{IsReadyFault}
+use Rattle.sum_graph.specs.Graphs.{HasFewBits, HasNoConstant, IsLeanOf, SumGraphView, sum_outputs, weight_in}
+use Rattle.sum_toggles.specs.Toggles.{product_weight, toggle_weight}
+use Rattle.plan_choice.specs.Choices.{GatesAreFew, IsChoiceFault, IsLaidFor, IsLean, LeanFits}
+use Rattle.plan_choice.specs.Lean.{CoveringFits, HasNoMoreGates, IsBetterOfTwo, IsLeanFault, IsNoWorse, toffoli}
+use Rattle.plan_choice.specs.inside.Tried.{IsLaidLean, IsLaidOf, IsSplitFault, best_of, better_of, is_better, is_refusal}
+use Rattle.plan_choice.proofs.SplitLemmas.{narrow_weight, same_list}
+
+-- gates that put the outputs of the lean graph put those of the settled one
+lean_clean : (s : SettledView) (l : SumGraphView) (roles : Roles) (gates : List GateView) → IsLeanOf s l → MapsCleanly roles gates (sum_outputs l)
+    → MapsCleanly roles gates (settled_outputs s)
+lean_clean s l roles gates lean clean = record {
+  puts = λ input borrowed size long. record {
+    mapped = (clean.puts input borrowed size long).mapped
+        ∙ ap (λ (outputs : List Bool). input ++ (outputs ++ (replicate roles.work false ++ borrowed))) (lean.values input);
+  };
+}
+
+-- a narrow plan of the lean graph
+pub record IsLeanPlan (s : SettledView) (l : SumGraphView) (b : BudgetView) (p : PlannedView) : Type 0 where
+  pub lean : IsLeanOf s l
+  pub ports : HasPorts l p
+  pub clean : MapsCleanly (roles_of_plan p) p.circuit.gates (sum_outputs l)
+  pub within : IsInBudget b p
+  pub narrow : AreNarrow p.circuit.gates
+
+module _ (s : SettledView) (l : SumGraphView) (b : BudgetView) (p : PlannedView) (is : IsLeanPlan s l b p) where
+  pub laid_lean : (laid : LaidView) → IsLaidOf p b laid → IsLaidFor s b laid
+  laid_lean laid of = record {
+    inputs = of.inputs ∙ is.ports.inputs ∙ is.lean.inputs;
+    outputs = of.outputs ∙ is.ports.outputs ∙ is.lean.outputs;
+    borrowed = of.borrowed;
+    lines = of.lines;
+    gates = of.gates;
+    clean = of.clean (settled_outputs s) (lean_clean s l (roles_of_plan p) p.circuit.gates is.lean is.clean);
+  }
+
+  stays : (laid : LaidView) → NarrowStay → IsLaidOf p b laid → laid.circuit.gates ≡ p.circuit.gates
+  stays laid law of = same_list b p laid law is.narrow is.within.gates of
+
+  pub laid_narrow : (laid : LaidView) → NarrowStay → IsLaidOf p b laid → AreNarrow laid.circuit.gates
+  laid_narrow laid law of = subst AreNarrow (sym (stays laid law of)) is.narrow
+
+  pub laid_products : (block : ℕ) (laid : LaidView) → NarrowStay → sums.HasFewProducts l block p → IsLaidOf p b laid → length l.nodes ≤ block
+      → toffoli laid ≤ 2 * ands_in s.nodes
+  laid_products block laid law few of covers =
+      let same : toffoli laid ≡ (counts_of p.circuit.gates).ccx = ap (λ (gs : List GateView). (counts_of gs).ccx) (stays laid law of) in
+      omega (arith, same, few.plain covers, is.lean.products)
+
+  port_lines : HasPortLines (first_work l) b
+  port_lines = omega (arith, is.ports.lines, is.within.lines)
+
+  -- the split of narrow gates within the budget is refused only for want of memory
+  pub ready_refused : (tried : Result LaidView PlanFault) → IfErr tried (IsSplitFault p.circuit.gates b) → IfErr tried (IsReadyFault l b)
+  ready_refused (Ok laid) h = tt
+  ready_refused (Err (Lines need)) h = absurd h
+  ready_refused (Err Gates) h = absurd (omega (arith, h, narrow_weight p.circuit.gates is.narrow, is.within.gates))
+  ready_refused (Err Memory) h = port_lines
+
+  pub pebbling_refused : (block : ℕ) (tried : Result LaidView PlanFault) → IfErr tried (IsSplitFault p.circuit.gates b)
+      → IfErr tried (sums.IsPebblingFault l block b)
+  pebbling_refused block (Ok laid) h = tt
+  pebbling_refused block (Err (Lines need)) h = absurd h
+  pebbling_refused block (Err Gates) h = absurd (omega (arith, h, narrow_weight p.circuit.gates is.narrow, is.within.gates))
+  pebbling_refused block (Err Memory) h = port_lines
+
+-- ---- the search
+
+-- what is known while blocks are tried
+pub record IsLeanSearch (s : SettledView) (l : SumGraphView) (b : BudgetView) (block : ℕ) (tried : Result LaidView PlanFault) : Type 0 where
+  pub some : 1 ≤ block
+  pub ok : IfOk tried (IsLaidLean s l b)
+  pub refused : IfErr tried (IsLeanFault l block b)
+
+lean_ok : (s : SettledView) (l : SumGraphView) (b : BudgetView) (tried : Result LaidView PlanFault) → IfOk tried (IsLaidFor s b)
+    → IfOk tried (λ laid. AreNarrow laid.circuit.gates) → IfOk tried (λ laid. CoveringFits l b → toffoli laid ≤ 2 * ands_in s.nodes)
+    → IfOk tried (IsLaidLean s l b)
+lean_ok s l b (Ok laid) made narrow few = record { for_graph = made; narrow = narrow; few = few }
+lean_ok s l b (Err e) made narrow few = tt
+
+few_where : (s : SettledView) (l : SumGraphView) (b : BudgetView) (P : Type 0) (tried : Result LaidView PlanFault) → (CoveringFits l b → P)
+    → IfOk tried (λ laid. P → toffoli laid ≤ 2 * ands_in s.nodes)
+    → IfOk tried (λ laid. CoveringFits l b → toffoli laid ≤ 2 * ands_in s.nodes)
+few_where s l b P (Ok laid) to few = λ fits. few (to fits)
+few_where s l b P (Err e) to few = tt
+
+lean_fault : (l : SumGraphView) (block : ℕ) (b : BudgetView) (tried : Result LaidView PlanFault) → (¬ CoveringFits l b)
+    → IfErr tried (sums.IsPebblingFault l block b) → IfErr tried (IsLeanFault l block b)
+lean_fault l block b (Ok laid) none h = tt
+lean_fault l block b (Err (Lines need)) none h = (none, h)
+lean_fault l block b (Err Gates) none h = (none, h)
+lean_fault l block b (Err Memory) none h = h
+
+first_fault : (l : SumGraphView) (block : ℕ) (b : BudgetView) (tried : Result LaidView PlanFault) → length l.nodes ≤ block
+    → IfErr tried (sums.IsPebblingFault l block b) → IfErr tried (IsLeanFault l block b)
+first_fault l block b (Ok laid) covers h = tt
+first_fault l block b (Err (Lines need)) covers h = (λ fits. (let few = h.0.plain in let lines = fits.lines in omega (arith, few, lines)), h)
+first_fault l block b (Err Gates) covers h = (λ fits. (let few = h.plain covers in let gates = fits.gates in omega (arith, few, gates)), h)
+first_fault l block b (Err Memory) covers h = h
+
+none_fits : (l : SumGraphView) (block : ℕ) (b : BudgetView) (tried : Result LaidView PlanFault) → is_refusal tried ≡ true
+    → IfErr tried (IsLeanFault l block b) → ¬ CoveringFits l b
+none_fits l block b (Ok laid) e h = absurd (cc)
+none_fits l block b (Err (Lines need)) e h = h.0
+none_fits l block b (Err Gates) e h = h.0
+none_fits l block b (Err Memory) e h = absurd (cc)
+
+pub lean_begun : (s : SettledView) (l : SumGraphView) (b : BudgetView) (block : ℕ) (tried : Result LaidView PlanFault) → 1 ≤ block → length l.nodes ≤ block
+    → IfOk tried (IsLaidFor s b) → IfOk tried (λ laid. AreNarrow laid.circuit.gates)
+    → IfOk tried (λ laid. length l.nodes ≤ block → toffoli laid ≤ 2 * ands_in s.nodes)
+    → IfErr tried (sums.IsPebblingFault l block b) → IsLeanSearch s l b block tried
+lean_begun s l b block tried some covers ok narrow few refused = record {
+  some = some;
+  ok = lean_ok s l b tried ok narrow (few_where s l b (length l.nodes ≤ block) tried (λ fits. covers) few);
+  refused = first_fault l block b tried covers refused;
+}
+
+pub lean_halved : (s : SettledView) (l : SumGraphView) (b : BudgetView) (block half : ℕ) (tried next : Result LaidView PlanFault)
+    → IsLeanSearch s l b block tried → is_refusal tried ≡ true → 1 ≤ half
+    → IfOk next (IsLaidFor s b) → IfOk next (λ laid. AreNarrow laid.circuit.gates)
+    → IfOk next (λ laid. length l.nodes ≤ half → toffoli laid ≤ 2 * ands_in s.nodes)
+    → IfErr next (sums.IsPebblingFault l half b) → IsLeanSearch s l b half next
+lean_halved s l b block half tried next h e some ok narrow few refused =
+    let none : ¬ CoveringFits l b = none_fits l block b tried e h.refused in
+    record {
+      some = some;
+      ok = lean_ok s l b next ok narrow (few_where s l b (length l.nodes ≤ half) next (λ fits. absurd (none fits)) few);
+      refused = lean_fault l half b next none refused;
+    }
+
+pub lean_ended : (s : SettledView) (l : SumGraphView) (b : BudgetView) (block : ℕ) (tried : Result LaidView PlanFault) → IsLeanSearch s l b block tried
+    → block ≤ 1 → IfErr tried (IsLeanFault l 1 b)
+lean_ended s l b block tried h one =
+    let some = h.some in
+    let same : block ≡ 1 = omega (arith, some, one) in
+    subst (λ (n : ℕ). IfErr tried (IsLeanFault l n b)) same h.refused
+
+-- ---- the row of the lean graph
+
+constant_weight : (one : Bool) → (if one then 1 else 0) ≤ 1
+constant_weight true = omega arith
+constant_weight false = omega arith
+
+products_light : (products : List ProductView) → AllByRecursion IsProduct products → sum_by product_weight products ≤ 21 * length products
+products_light [] few = omega arith
+products_light (p ∷ ps) few =
+    omega (arith, sum_by-cons product_weight p ps, products_light ps few.1, few.0.first_few, few.0.second_few)
+
+toggle_light : (s : SumView) → HasFewBits s → toggle_weight s ≤ weight_of s + 1
+toggle_light s few = omega (arith, products_light s.products few, constant_weight s.one)
+
+node_light : (s : SumView) → HasFewBits s → HasNoConstant s → toggle_weight s ≤ weight_of s
+node_light s few none =
+    let no_gate : ◌≡◌ {A = ℕ} (if s.one then 1 else 0) 0 = ap (λ (b : Bool). if b then 1 else 0) none in
+    omega (arith, products_light s.products few, no_gate)
+
+nodes_light : (nodes : List SumView) → AllByRecursion HasFewBits nodes → AllByRecursion HasNoConstant nodes → sum_by toggle_weight nodes ≤ weight_in nodes
+nodes_light [] few none = omega arith
+nodes_light (s ∷ rest) few none =
+    omega (arith, sum_by-cons toggle_weight s rest, sum_by-cons weight_of s rest, node_light s few.0 none.0, nodes_light rest few.1 none.1)
+
+outputs_light : (outputs : List SumView) → AllByRecursion HasFewBits outputs → sum_by toggle_weight outputs ≤ weight_in outputs + length outputs
+outputs_light [] few = omega arith
+outputs_light (s ∷ rest) few =
+    omega (arith, sum_by-cons toggle_weight s rest, sum_by-cons weight_of s rest, toggle_light s few.0, outputs_light rest few.1)
+
+ports_same : (s : SettledView) (l : SumGraphView) → IsLeanOf s l → first_work l ≡ ports_of s
+ports_same s l lean = omega (arith, lean.inputs, lean.outputs)
+
+-- where the row fits, one block of all nodes does
+row_covers : (s : SettledView) (l : SumGraphView) (b : BudgetView) (m : Measures) → IsLeanOf s l → IsWithin s m → LeanFits b m → CoveringFits l b
+row_covers s l b m lean within fit =
+    let nodes : sum_by toggle_weight l.nodes ≤ weight_in l.nodes = nodes_light l.nodes lean.few_bits lean.no_constants in
+    let outputs : sum_by toggle_weight l.outputs ≤ weight_in l.outputs + length l.outputs = outputs_light l.outputs lean.few_output_bits in
+    record {
+      lines = omega (arith, lean.inputs, lean.outputs, lean.few, within.inputs, within.outputs, within.steps, fit.few_lines);
+      gates = omega (arith, nodes, outputs, lean.light, lean.light_nodes, lean.outputs, within.outputs, within.steps, fit.few_gates);
+    }
+
+lines_fault : (s : SettledView) (l : SumGraphView) (b : BudgetView) (need : ℕ) → IsLeanOf s l → IsLeanFault l 1 b (Lines need)
+    → IsChoiceFault Lean s b (Lines need)
+lines_fault s l b need lean h = (
+  record {
+    few = λ m within. omega (arith, h.1.0.plain, lean.inputs, lean.outputs, lean.few, within.inputs, within.outputs, within.steps);
+    no_row = λ m within fit. h.0 (row_covers s l b m lean within fit);
+  },
+  h.1.1 ∙ ap (λ (n : ℕ). wanted_lines n b) (ports_same s l lean),
+)
+
+gates_fault : (s : SettledView) (l : SumGraphView) (b : BudgetView) → IsLeanOf s l → (¬ CoveringFits l b) → GatesAreFew Lean s b
+gates_fault s l b lean none = record {
+  few = λ m within fit. none (row_covers s l b m lean within fit);
+  no_row = λ m within fit. none (row_covers s l b m lean within fit);
+}
+
+lean_refused : (s : SettledView) (l : SumGraphView) (b : BudgetView) (tried : Result LaidView PlanFault) → IsLeanOf s l
+    → IfErr tried (IsLeanFault l 1 b) → IfErr tried (IsChoiceFault Lean s b)
+lean_refused s l b (Ok laid) lean h = tt
+lean_refused s l b (Err (Lines need)) lean h = lines_fault s l b need lean h
+lean_refused s l b (Err Gates) lean h = gates_fault s l b lean h.0
+lean_refused s l b (Err Memory) lean h = subst (λ (n : ℕ). HasPortLines n b) (ports_same s l lean) h
+
+-- ---- the better of two plans
+
+as_good : (p : LaidView) → IsNoWorse p p
+as_good p = inr (refl, inr (refl, omega arith))
+
+-- by lines, and by gates where those are as many
+fewer_lines : (p q : LaidView) → p.circuit.lines ≤ q.circuit.lines → ((p.circuit.lines ≡ q.circuit.lines) → ⊥)
+    → (p.circuit.lines < q.circuit.lines) ⊎ HasNoMoreGates p q
+fewer_lines p q le other = elim (cases_lt p.circuit.lines q.circuit.lines) as (λ _. (p.circuit.lines < q.circuit.lines) ⊎ HasNoMoreGates p q) [
+  | inl less ↦ inl less
+  | inr more ↦ absurd (other (omega (arith, le, more)))
+]
+
+fewer_toffoli : (p q : LaidView) → toffoli p ≤ toffoli q → ((toffoli p ≡ toffoli q) → ⊥) → IsNoWorse p q
+fewer_toffoli p q le other = elim (cases_lt (toffoli p) (toffoli q)) as (λ _. IsNoWorse p q) [
+  | inl less ↦ inl less
+  | inr more ↦ absurd (other (omega (arith, le, more)))
+]
+
+better : (p q : LaidView) → is_better p q ≡ true → IsNoWorse p q
+better p q is = elim (cases_Bool (toffoli p == toffoli q)) as (λ _. IsNoWorse p q) [
+  | inr other ↦ inl (ltb-true (toffoli p) (toffoli q) (rw other at is))
+  | inl same ↦ inr (eqb-true (toffoli p) (toffoli q) same, by_lines (rw same at is))
+]
+  where
+    by_lines : (if p.circuit.lines == q.circuit.lines then nat_lt (length p.circuit.gates) (length q.circuit.gates)
+        else nat_lt p.circuit.lines q.circuit.lines) ≡ true → (p.circuit.lines < q.circuit.lines) ⊎ HasNoMoreGates p q
+    by_lines e = elim (cases_Bool (p.circuit.lines == q.circuit.lines)) as (λ _. (p.circuit.lines < q.circuit.lines) ⊎ HasNoMoreGates p q) [
+      | inr other ↦ inl (ltb-true p.circuit.lines q.circuit.lines (rw other at e))
+      | inl same ↦
+          let less : length p.circuit.gates < length q.circuit.gates = ltb-true (length p.circuit.gates) (length q.circuit.gates) (rw same at e) in
+          inr (eqb-true p.circuit.lines q.circuit.lines same, omega (arith, less))
+    ]
+
+not_better : (p q : LaidView) → is_better p q ≡ false → IsNoWorse q p
+not_better p q is = elim (cases_Bool (toffoli p == toffoli q)) as (λ _. IsNoWorse q p) [
+  | inr other ↦ fewer_toffoli q p (ltb-false (toffoli p) (toffoli q) (rw other at is)) (λ e. eqb-false (toffoli p) (toffoli q) other (sym e))
+  | inl same ↦ inr (sym (eqb-true (toffoli p) (toffoli q) same), by_lines (rw same at is))
+]
+  where
+    by_lines : (if p.circuit.lines == q.circuit.lines then nat_lt (length p.circuit.gates) (length q.circuit.gates)
+        else nat_lt p.circuit.lines q.circuit.lines) ≡ false → (q.circuit.lines < p.circuit.lines) ⊎ HasNoMoreGates q p
+    by_lines e = elim (cases_Bool (p.circuit.lines == q.circuit.lines)) as (λ _. (q.circuit.lines < p.circuit.lines) ⊎ HasNoMoreGates q p) [
+      | inr other ↦
+          fewer_lines q p (ltb-false p.circuit.lines q.circuit.lines (rw other at e)) (λ same. eqb-false p.circuit.lines q.circuit.lines other (sym same))
+      | inl same ↦
+          inr (sym (eqb-true p.circuit.lines q.circuit.lines same), ltb-false (length p.circuit.gates) (length q.circuit.gates) (rw same at e))
+    ]
+
+-- fewer flips under two lines
+fewest : (p q : LaidView) → IsNoWorse p q → toffoli p ≤ toffoli q
+fewest p q no_worse = elim no_worse as (λ _. toffoli p ≤ toffoli q) [ inl less ↦ omega (arith, less) | inr same ↦ omega (arith, same.0) ]
+
+-- what is known of the two plans of a lean graph
+pub record AreTried (s : SettledView) (l : SumGraphView) (b : BudgetView) (ready pebbling : Result LaidView PlanFault) : Type 0 where
+  pub lean : IsLeanOf s l
+  pub ready_fits : IfOk ready (IsLaidFor s b)
+  pub ready_narrow : IfOk ready (λ laid. AreNarrow laid.circuit.gates)
+  pub ready_refused : IfErr ready (IsReadyFault l b)
+  pub fits : IfOk pebbling (IsLaidLean s l b)
+  pub refused : IfErr pebbling (IsLeanFault l 1 b)
+
+-- what is laid
+record IsTaken (s : SettledView) (l : SumGraphView) (b : BudgetView) (laid : LaidView) : Type 0 where
+  fits : IsLaidFor s b laid
+  narrow : AreNarrow laid.circuit.gates
+  better : IsBetterOfTwo l b laid
+  few : CoveringFits l b → toffoli laid ≤ 2 * ands_in s.nodes
+
+module _ (s : SettledView) (l : SumGraphView) (b : BudgetView) where
+  both_fit : (r p : LaidView) → AreTried s l b (Ok r) (Ok p) → IfOk (better_of r (Ok p)) (IsTaken s l b)
+  both_fit r p t = elim (cases_Bool (is_better p r)) as (λ _. IfOk (better_of r (Ok p)) (IsTaken s l b)) [
+    | inl e ↦ rw e (record {
+      fits = t.fits.for_graph;
+      narrow = t.fits.narrow;
+      better = record {
+        ready = Ok r;
+        pebbling = Ok p;
+        ready_refused = tt;
+        pebbling_refused = tt;
+        enough = (λ q. cc, λ q. cc);
+        one = inr refl;
+        best = (better p r e, as_good p);
+      };
+      few = t.fits.few;
+    })
+    | inr e ↦ rw e (record {
+      fits = t.ready_fits;
+      narrow = t.ready_narrow;
+      better = record {
+        ready = Ok r;
+        pebbling = Ok p;
+        ready_refused = tt;
+        pebbling_refused = tt;
+        enough = (λ q. cc, λ q. cc);
+        one = inl refl;
+        best = (as_good r, not_better p r e);
+      };
+      few = λ fits. omega (arith, t.fits.few fits, fewest r p (not_better p r e));
+    })
+  ]
+
+  ready_alone : (r : LaidView) (fault : PlanFault) → ((fault ≡ Memory) → ⊥) → (¬ CoveringFits l b) → AreTried s l b (Ok r) (Err fault) → IsTaken s l b r
+  ready_alone r fault other none t = record {
+    fits = t.ready_fits;
+    narrow = t.ready_narrow;
+    better = record {
+      ready = Ok r;
+      pebbling = Err fault;
+      ready_refused = tt;
+      pebbling_refused = t.refused;
+      enough = (λ q. cc, λ q. other (cc));
+      one = inl refl;
+      best = (as_good r, tt);
+    };
+    few = λ fits. absurd (none fits);
+  }
+
+  pebbling_alone : (fault : PlanFault) (p : LaidView) → ((fault ≡ Memory) → ⊥) → AreTried s l b (Err fault) (Ok p) → IsTaken s l b p
+  pebbling_alone fault p other t = record {
+    fits = t.fits.for_graph;
+    narrow = t.fits.narrow;
+    better = record {
+      ready = Err fault;
+      pebbling = Ok p;
+      ready_refused = t.ready_refused;
+      pebbling_refused = tt;
+      enough = (λ q. other (cc), λ q. cc);
+      one = inr refl;
+      best = (tt, as_good p);
+    };
+    few = t.fits.few;
+  }
+
+  taken : (ready pebbling : Result LaidView PlanFault) → AreTried s l b ready pebbling → IfOk (best_of ready pebbling) (IsTaken s l b)
+  taken (Ok r) (Ok p) t = both_fit r p t
+  taken (Ok r) (Err (Lines need)) t = ready_alone r (Lines need) (λ e. cc) t.refused.0 t
+  taken (Ok r) (Err Gates) t = ready_alone r Gates (λ e. cc) t.refused.0 t
+  taken (Ok r) (Err Memory) t = tt
+  taken (Err (Lines need)) (Ok p) t = pebbling_alone (Lines need) p (λ e. cc) t
+  taken (Err (Lines need)) (Err e) t = tt
+  taken (Err Gates) (Ok p) t = pebbling_alone Gates p (λ e. cc) t
+  taken (Err Gates) (Err e) t = tt
+  taken (Err Memory) pebbling t = tt
+
+  pub best_fits : (ready pebbling : Result LaidView PlanFault) → AreTried s l b ready pebbling → IfOk (best_of ready pebbling) (IsLaidFor s b)
+  best_fits ready pebbling t = IfOk-weaker (best_of ready pebbling) (IsTaken s l b) (IsLaidFor s b) (λ laid is. is.fits) (taken ready pebbling t)
+
+  pub best_lean : (ready pebbling : Result LaidView PlanFault) → AreTried s l b ready pebbling → IfOk (best_of ready pebbling) (IsLean s b)
+  best_lean ready pebbling t =
+      IfOk-weaker (best_of ready pebbling) (IsTaken s l b) (IsLean s b)
+      (λ laid is. record {
+        graph = l;
+        lean = t.lean;
+        better = is.better;
+        narrow = is.narrow;
+        few = λ m within fit. is.few (row_covers s l b m t.lean within fit);
+      }) (taken ready pebbling t)
+
+  -- of a plan that was refused, where another one is not wanting memory
+  better_refused : (ready : LaidView) (tried : Result LaidView PlanFault) → IfErr tried (IsLeanFault l 1 b) → IfErr (better_of ready tried) (IsLeanFault l 1 b)
+  better_refused ready (Ok p) refused = tt
+  better_refused ready (Err (Lines need)) refused = tt
+  better_refused ready (Err Gates) refused = tt
+  better_refused ready (Err Memory) refused = refused
+
+  best_fault : (ready pebbling : Result LaidView PlanFault) → AreTried s l b ready pebbling → IfErr (best_of ready pebbling) (IsLeanFault l 1 b)
+  best_fault (Ok r) pebbling t = better_refused r pebbling t.refused
+  best_fault (Err (Lines need)) pebbling t = t.refused
+  best_fault (Err Gates) pebbling t = t.refused
+  best_fault (Err Memory) pebbling t = t.ready_refused
+
+  pub best_refused : (ready pebbling : Result LaidView PlanFault) → AreTried s l b ready pebbling
+      → IfErr (best_of ready pebbling) (IsChoiceFault Lean s b)
+  best_refused ready pebbling t = lean_refused s l b (best_of ready pebbling) t.lean (best_fault ready pebbling t)

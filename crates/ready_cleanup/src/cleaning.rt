@@ -1,0 +1,99 @@
+// The cleaning of the nodes that a node uses for the last time.
+ghost use Rattle.std.specs.Prelude.{◌≡◌, ◌+◌, ◌<◌, length, IfOk, IfErr};
+ghost use Rattle.std.specs.List.{AllByRecursion, flat_map, list_all};
+ghost use Rattle.bit_sums.specs.Sums.{bases_of, product_bases};
+ghost use Rattle.dependency_graph.specs.Graphs.{IsKnownBase};
+ghost use Rattle.held_nodes.specs.Held.{IsForward};
+ghost use Rattle.ready_cleanup.specs.Ready.{IsReadyFault};
+ghost use Rattle.ready_cleanup.specs.inside.Sweeps.{IsCleaned, IsCleaningFault, IsSwept, is_ready};
+
+use crate::uses::last_used;
+use bit_sums::{Product, Sum};
+use circuit_plans::PlanFault;
+use dependency_graph::Base;
+use held_nodes::Forward;
+use std::alloc::Global;
+use sum_graph::SumGraph;
+
+// Cleans the nodes that node `user`, which was made last, uses for the last time, the later one
+// first, where they can be cleaned.
+pub fn clean_used<'s>(
+    alloc: Global,
+    mut forward: Forward<'s>,
+    graph: &SumGraph,
+    user: u32,
+) -> Result<Forward<'s>, PlanFault>
+    requires inside { user < length graph.now.nodes }
+    requires swept { IsSwept graph.now forward.budget (user + 1) forward }
+    ensures swept { IfOk result (IsSwept graph.now forward.entry.budget (user + 1)) }
+    ensures refused { IfErr result (IsReadyFault graph.now forward.entry.budget) }
+{
+    let used = last_used(alloc, graph, user)?;
+    for k in (0..used.len()).rev() {
+        forward = clean(forward, graph, used[k])?;
+    }
+    Ok(forward)
+}
+
+// Cleans a node where it is held and all that it is made of are inputs or held.
+fn clean<'s>(forward: Forward<'s>, graph: &SumGraph, node: u32) -> Result<Forward<'s>, PlanFault>
+    requires graph { forward.graph ≡ graph.now }
+    requires inside { node < length graph.now.nodes }
+    requires keeps { IsForward forward }
+    ensures cleaned { IfOk result (IsCleaned forward.entry node) }
+    ensures keeps { IfOk result IsForward }
+    ensures refused { IfErr result (IsCleaningFault forward.entry node) }
+{
+    if !forward.held(node) || !are_ready(&forward, graph.node(node)) {
+        return Ok(forward);
+    }
+    forward.toggle(node)
+}
+
+// Whether all that a sum is made of are inputs or nodes that are held.
+fn are_ready(forward: &Forward<'_>, sum: &Sum) -> bool
+    requires { AllByRecursion (IsKnownBase forward.now.graph.inputs
+        (length forward.now.graph.nodes)) (bases_of sum.now) }
+    ensures { result ≡ list_all (is_ready forward.now.lines) (bases_of sum.now) }
+{
+    bases_are_ready(forward, sum.bits()) && products_are_ready(forward, sum.products())
+}
+
+fn products_are_ready(forward: &Forward<'_>, products: &[Product]) -> bool
+    requires { AllByRecursion (IsKnownBase forward.now.graph.inputs
+        (length forward.now.graph.nodes)) (flat_map product_bases products.now) }
+    ensures { result
+        ≡ list_all (is_ready forward.now.lines) (flat_map product_bases products.now) }
+{
+    for product in products {
+        let first = bases_are_ready(forward, product.first());
+        if !first || !bases_are_ready(forward, product.second()) {
+            return false;
+        }
+    }
+    true
+}
+
+fn bases_are_ready(forward: &Forward<'_>, bases: &[Base]) -> bool
+    requires { AllByRecursion (IsKnownBase forward.now.graph.inputs
+        (length forward.now.graph.nodes)) bases.now }
+    ensures { result ≡ list_all (is_ready forward.now.lines) bases.now }
+{
+    for base in bases {
+        if !is_ready(forward, *base) {
+            return false;
+        }
+    }
+    true
+}
+
+// Whether it is an input or a node that is held.
+fn is_ready(forward: &Forward<'_>, base: Base) -> bool
+    requires { IsKnownBase forward.now.graph.inputs (length forward.now.graph.nodes) base }
+    ensures ready { result ≡ is_ready forward.now.lines base }
+{
+    match base {
+        Base::Input(_) => true,
+        Base::Node(k) => forward.held(k),
+    }
+}
