@@ -1,6 +1,4 @@
 pub mod IncrementLemmas
+pub mod IncrementPieces
 pub mod IncrementReadingLemmas
 pub mod IncrementTextLemmas
-pub mod LineLemmas
-pub mod NameLemmas
-pub mod PieceLemmas

@@ -1,5 +1,5 @@
 -- How the grammar reads the text of a multiplier.
-use Rattle.std.proofs.Common.{ℕ, zero, suc, ◌+◌, Bool, true, false, List, [], ◌∷◌, ◌++◌, length, Some, None, refl, ap, subst, append-nil}
+use Rattle.std.proofs.Common.{ℕ, zero, suc, ◌+◌, Bool, true, false, List, [], ◌∷◌, length, None, refl, subst, append-nil}
 use Rattle.std.specs.Prelude.{codes}
 use Rattle.revc_base.specs.declared.place.Place.{Place}
 use Rattle.revs_grammar.specs.Forms.{body, expression, elements, BodyTree, name_of, sign}
@@ -8,33 +8,26 @@ use Rattle.revs_grammar.specs.Sentences.{Symbol, Vals, at_start, few_levels, IsS
 use Rattle.revs_grammar.specs.Sentences as symbols
 use Rattle.revs_lexer.specs.declared.sign.Sign.TheVariants as signs
 use Rattle.revs_lexer.specs.declared.token.Token.{Token}
-use Rattle.revs_lexer.specs.declared.word.Word.TheVariants as words
 use Rattle.revs_terms.specs.declared.program.Param.{Param}
 use Rattle.revs_terms.specs.Trees as t
 use Rattle.revs_terms.specs.Trees.{Tree, trees}
 use Rattle.revs_terms.specs.declared.term.Part.TheVariants as part
 use Rattle.built_texts.specs.Forms.{num}
-use Rattle.built_texts.specs.Pieces.{Piece, toks_of}
+use Rattle.built_texts.specs.Pieces.{toks_of}
 use Rattle.built_texts.specs.Ways.{placed, shifted, Turns}
-use Rattle.built_texts.proofs.WayLemmas.{turns, turns-then}
-use Rattle.arith_runs.proofs.RipplePieces.{carry_function}
-use Rattle.arith_increments.proofs.IncrementReadingLemmas.{header, program_end}
-use Rattle.arith_increments.proofs.NameLemmas.{lettered}
-use Rattle.arith_increments.proofs.PieceLemmas.{blank, line_end, w, s, name, numbered, digits, f, chain_end, ItemTurns, built_then, nothing_behind, end_turns}
-use Rattle.arith_products.proofs.PlusReadingLemmas.{let_end, function_item, function_turns, plus_pieces, plus_item, plus_turn}
+use Rattle.built_texts.proofs.PlaceLemmas.{lettered}
+use Rattle.built_texts.proofs.WayLemmas.{turns, turns-then, built_then, is_sentence}
+use Rattle.arith_runs.proofs.ProgramLemmas.{one_param}
+use Rattle.arith_runs.proofs.RippleReadingLemmas.{f, chain_end, ItemTurns, nothing_behind, end_turns}
+use Rattle.arith_runs.proofs.TwoNumberPieces.{carry_function}
+use Rattle.arith_runs.proofs.TwoNumberReadingLemmas.{function_item, carry_body, carry_reads}
+use Rattle.arith_increments.proofs.IncrementPieces.{header}
+use Rattle.arith_increments.proofs.IncrementReadingLemmas.{header_turns}
+use Rattle.arith_products.proofs.ProductPieces.{zero_open, zero_bits, zero_close, digit_line, digit_lines, product_end}
+use Rattle.arith_products.proofs.ProductPieces.{from_digits, from_last_zero, from_zeros, from_zero, from_plus, from_function, pieces}
+use Rattle.arith_products.proofs.PlusReadingLemmas.{let_end, plus_item, at_behind, plus_turn}
 
 -- ---- the number 0
-
-abbrev pub zero_open : List Piece
-zero_open = w words.Let ∷ blank ∷ numbered 114 0 ∷ blank ∷ s signs.Equal ∷ blank ∷ w words.Reg ∷ blank ∷ s signs.OpenSquare ∷ []
-
--- so many bits in front of the last
-abbrev pub zero_bits : ℕ → List Piece
-zero_bits zero = []
-zero_bits (suc count) = w words.False ∷ s signs.Semi ∷ blank ∷ zero_bits count
-
-abbrev pub zero_close : List Piece
-zero_close = w words.False ∷ s signs.CloseSquare ∷ s signs.Semi ∷ line_end ∷ []
 
 -- what is expected behind `reg [` in a let
 abbrev pub in_let : List Symbol → List Symbol
@@ -83,31 +76,6 @@ zero_close_turns ss p = turns (last_zero ss p) refl
 
 -- ---- the digits
 
-abbrev pub shift_line : ℕ → List Piece
-shift_line k = w words.Let ∷ blank ∷ numbered 114 (k + 1) ∷ blank ∷ s signs.Equal ∷ blank ∷ w words.Append ∷ blank ∷ numbered 114 k ∷ blank
-    ∷ w words.Reg ∷ blank ∷ s signs.OpenSquare ∷ w words.False ∷ s signs.CloseSquare ∷ s signs.Semi ∷ line_end ∷ []
-
-abbrev pub first_add_line : List Piece
-first_add_line = w words.Let ∷ blank ∷ numbered 114 1 ∷ blank ∷ s signs.Equal ∷ blank ∷ name (codes "plus") ∷ blank ∷ numbered 114 0 ∷ blank
-    ∷ name (codes "a") ∷ s signs.Semi ∷ line_end ∷ []
-
-abbrev pub slice_of : ℕ → ℕ → ℕ → List Piece
-slice_of k i j = numbered 114 k ∷ s signs.Dot ∷ s signs.OpenSquare ∷ digits i ∷ s signs.DotDot ∷ digits j ∷ s signs.CloseSquare ∷ []
-
-abbrev pub add_line : ℕ → ℕ → List Piece
-add_line n k = w words.Let ∷ blank ∷ numbered 114 (k + 2) ∷ blank ∷ s signs.Equal ∷ blank ∷ w words.Append ∷ blank ∷ slice_of (k + 1) 0 k
-    ++ blank ∷ s signs.OpenRound ∷ name (codes "plus") ∷ blank ∷ slice_of (k + 1) (k + 1) (n + k) ++ blank ∷ name (codes "a") ∷ s signs.CloseRound
-    ∷ s signs.Semi ∷ line_end ∷ []
-
-abbrev pub digit_line : ℕ → ℕ → Bool → List Piece
-digit_line n k false = shift_line k
-digit_line n zero true = first_add_line
-digit_line n (suc k) true = add_line n k
-
-abbrev pub digit_lines : ℕ → ℕ → List Bool → List Piece
-digit_lines n k [] = []
-digit_lines n k (d ∷ ds) = digit_line n k d ++ digit_lines n (k + 1) ds
-
 abbrev pub shift_term : ℕ → (ℕ → Place) → Tree
 shift_term k p = t.append (t.used (name_of (lettered 114 k) (p 4))) (t.reg (trees (t.bool false (p 7) ∷ [])) (p 5)) (p 3)
 
@@ -145,39 +113,11 @@ digits_turn n k (d ∷ ds) ss p =
 
 -- ---- the end, and the whole text
 
-abbrev pub product_end : ℕ → List Piece
-product_end count = numbered 114 count ∷ line_end ∷ s signs.CloseCurly ∷ line_end ∷ []
-
 abbrev pub last_of : (count : ℕ) (ss : List Symbol) (p : ℕ → Place) → Vals ss → Vals (f body 2 ∷ ss)
 last_of count ss p vs = (record { items = []; last = t.used (name_of (lettered 114 count) (p 0)) }, vs)
 
 product_turns : (count : ℕ) (ss : List Symbol) (p : ℕ → Place) → Turns (f body 2 ∷ ss) (placed p (toks_of (product_end count))) ss (last_of count ss p)
 product_turns count ss p = turns (last_of count ss p) refl
-
-header_turns : (bits : ℕ) (p : ℕ → Place) → Turns at_start (placed p (toks_of (header bits))) (f body 2 ∷ chain_end 1 []) (program_end bits p)
-header_turns bits p = turns (program_end bits p) refl
-
-module _ (m : ℕ) (ds : List Bool) where
-  abbrev pub from_digits : List Piece
-  from_digits = digit_lines (suc m) 0 ds ++ product_end (length ds)
-
-  abbrev pub from_last_zero : List Piece
-  from_last_zero = zero_close ++ from_digits
-
-  abbrev pub from_zeros : List Piece
-  from_zeros = zero_bits m ++ from_last_zero
-
-  abbrev pub from_zero : List Piece
-  from_zero = zero_open ++ from_zeros
-
-  abbrev pub from_plus : List Piece
-  from_plus = plus_pieces m ++ from_zero
-
-  abbrev pub from_function : List Piece
-  from_function = carry_function ++ from_plus
-
-  abbrev pub pieces : List Piece
-  pieces = header (suc m) ++ from_function
 
 module _ (m : ℕ) (ds : List Bool) (p : ℕ → Place) where
   abbrev pub at_function : ℕ → Place
@@ -187,7 +127,7 @@ module _ (m : ℕ) (ds : List Bool) (p : ℕ → Place) where
   at_plus = shifted 22 at_function
 
   abbrev pub at_zero : ℕ → Place
-  at_zero = shifted (length (toks_of (plus_pieces m))) at_plus
+  at_zero = at_behind m at_plus
 
   abbrev pub at_zeros : ℕ → Place
   at_zeros = shifted 5 at_zero
@@ -211,11 +151,11 @@ module _ (m : ℕ) (ds : List Bool) (p : ℕ → Place) where
   last_body = record { items = []; last = t.used (name_of (lettered 114 (length ds)) (at_end 0)) }
 
   abbrev pub inner_body : BodyTree
-  inner_body = in_front (function_item at_function) (in_front (plus_item m at_plus) (in_front zero_item
+  inner_body = in_front (function_item (codes "carry") carry_body at_function) (in_front (plus_item m at_plus) (in_front zero_item
       (in_digits (suc m) 0 ds at_digits last_body)))
 
   abbrev pub params : List Param
-  params = record { name = name_of (codes "a") (p 2); width = Some (suc m) } ∷ []
+  params = one_param (suc m) (name_of (codes "a") (p 2))
 
   abbrev pub whole_body : Tree
   whole_body = block_of (p 10) inner_body
@@ -227,8 +167,8 @@ module _ (m : ℕ) (ds : List Bool) (p : ℕ → Place) where
   all_turns =
       let ss = chain_end 1 [] in
       built_then (header (suc m)) (from_function m ds) p (header_turns (suc m) p)
-      (built_then carry_function (from_plus m ds) at_function (function_turns ss at_function)
-      (built_then (plus_pieces m) (from_zero m ds) at_plus (plus_turn m at_plus ss)
+      (built_then carry_function (from_plus m ds) at_function (carry_reads.function_turns ss at_function)
+      (plus_turn m at_plus ss [] (λ _. (in_front zero_item (in_digits (suc m) 0 ds at_digits last_body), nothing_behind)) (from_zero m ds)
       (built_then zero_open (from_zeros m ds) at_zero (zero_turns ss at_zero)
       (built_then (zero_bits m) (from_last_zero m ds) at_zeros (zeros_turn m (in_let ss) at_zeros)
       (built_then zero_close (from_digits m ds) at_last_zero (zero_close_turns ss at_last_zero)
@@ -239,10 +179,4 @@ module _ (m : ℕ) (ds : List Bool) (p : ℕ → Place) where
 
 pub sentence : (m : ℕ) (ds : List Bool) (p : ℕ → Place)
     → IsSentenceOf few_levels (placed p (toks_of (pieces m ds))) (params m ds p) (whole_body m ds p)
-sentence m ds p =
-    let h = all_turns m ds p in
-    record {
-      reading = h.leads;
-      params_are = ap (λ (v : Vals at_start). v.0.params) (h.turned tt);
-      body_is = ap (λ (v : Vals at_start). v.0.body) (h.turned tt);
-    }
+sentence m ds p = is_sentence (all_turns m ds p)

@@ -12,14 +12,16 @@ use Rattle.built_texts.specs.Forms.{num}
 use Rattle.built_texts.specs.Meanings.{Scope, of_bits, named, meaning_of, IsRun, AreRuns, no_operands, operand, RunsBody, last_is, let_is}
 use Rattle.built_texts.specs.Ways.{shifted}
 use Rattle.built_texts.specs.Pieces.{toks_of}
+use Rattle.built_texts.proofs.PlaceLemmas.{lettered}
 use Rattle.built_texts.proofs.RunLemmas.{run_name, run_constant, run_append, run_slice, run_reg, run_within}
 use Rattle.arith_templates.specs.Numbers.{number}
 use Rattle.arith_templates.specs.Places.{sums, products}
 use Rattle.arith_templates.proofs.PlaceLemmas.{sums_add}
-use Rattle.arith_increments.proofs.NameLemmas.{lettered, nearest}
-use Rattle.arith_increments.proofs.LineLemmas.{within}
+use Rattle.arith_runs.proofs.NameLemmas.{nearest}
+use Rattle.arith_runs.proofs.StageLemmas.{within}
 use Rattle.arith_products.proofs.PlusRunLemmas.{carry_meaning, plus_meaning, plus_run}
-use Rattle.arith_products.proofs.DigitReadingLemmas.{zero_terms, shift_term, first_add_term, add_term, digit_line, in_digits}
+use Rattle.arith_products.proofs.ProductPieces.{digit_line}
+use Rattle.arith_products.proofs.DigitReadingLemmas.{zero_terms, shift_term, first_add_term, add_term, in_digits}
 
 -- ---- the number 0
 

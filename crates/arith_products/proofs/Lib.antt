@@ -4,3 +4,4 @@ pub mod MultiplierLemmas
 pub mod MultiplierTextLemmas
 pub mod PlusReadingLemmas
 pub mod PlusRunLemmas
+pub mod ProductPieces

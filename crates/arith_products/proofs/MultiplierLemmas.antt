@@ -1,27 +1,21 @@
 -- The text of a multiplier multiplies.
 use Rattle.std.proofs.Common.{◌≡◌, ℕ, zero, suc, ◌+◌, ◌*◌, ◌-◌, ◌^◌, ◌≤◌, ◌⊎◌, inl, inr, Bool, true, false}
-use Rattle.std.proofs.Common.{leb, List, [], ◌∷◌, length, map, take, sum, refl, ap, sym, subst, ◌∙◌, arith}
+use Rattle.std.proofs.Common.{leb, List, [], ◌∷◌, length, take, refl, ap, subst, ◌∙◌, arith}
 use Rattle.std.specs.Prelude.{codes}
 use Rattle.std.proofs.Math.Nat.{pow-suc}
-use Rattle.std.proofs.lemmas.Bool.{le-leb, leb-true, leb-false, and_from, cases_Bool}
-use Rattle.std.proofs.lemmas.List.{length-append, length-take-le, take_all}
-use Rattle.std.proofs.lemmas.List.Sums.{sum_by-cons}
+use Rattle.std.proofs.lemmas.Bool.{leb-true, leb-false, cases_Bool}
+use Rattle.std.proofs.lemmas.List.{length-append}
 use Rattle.revc_base.specs.declared.place.Place.{Place}
 use Rattle.text_places.specs.Places.{start}
-use Rattle.revs_lexer.specs.declared.token.Token.{Token}
 use Rattle.revs_grammar.specs.Forms.{BodyTree, name_of}
 use Rattle.revs_grammar.specs.Productions.{in_front}
-use Rattle.revs_grammar.specs.Sentences.{few_levels, IsSentenceOf}
-use Rattle.revs_parser.specs.WellFormed.{IsWellFormed}
+use Rattle.revs_terms.specs.declared.term.Name.{Name}
 use Rattle.revs_terms.specs.declared.program.Param.{Param}
-use Rattle.revs_terms.specs.Running.{Stamped, State, Outcome, went}
-use Rattle.revs_terms.specs.Runs.{run_of_program, IsInput, HasOutput}
+use Rattle.revs_terms.specs.Runs.{IsInput}
 use Rattle.revs_terms.specs.Trees as t
-use Rattle.revs_terms.specs.Trees.{Tree}
 use Rattle.built_texts.specs.Meanings.{Scope, of_bits, no_names, named, no_operands, operand, RunsBody, let_is}
 use Rattle.built_texts.specs.Programs.{IsBodyRun, IsBuilt}
-use Rattle.built_texts.proofs.PlaceLemmas.{token_place, tokens_placed}
-use Rattle.built_texts.proofs.ProgramLemmas.{text_gives}
+use Rattle.built_texts.proofs.PlaceLemmas.{lettered, token_place}
 use Rattle.built_texts.proofs.RunLemmas.{run_constant, run_function, run_reg, run_block, run_within}
 use Rattle.arith_templates.specs.Numbers.{number, digits_of}
 use Rattle.arith_templates.specs.Places.{products}
@@ -29,14 +23,17 @@ use Rattle.arith_templates.specs.Texts as texts
 use Rattle.arith_templates.specs.declared.kind.Kind.TheVariants.{Mul}
 use Rattle.arith_templates.proofs.NumberLemmas.{number-append, digits_are_binary}
 use Rattle.arith_templates.proofs.PlaceLemmas.{products_multiply}
-use Rattle.arith_runs.proofs.ReadingLemmas.{carry_body}
 use Rattle.arith_runs.specs.Computes.{Computes}
-use Rattle.arith_increments.proofs.NameLemmas.{lettered, nearest}
+use Rattle.arith_runs.proofs.NameLemmas.{nearest}
+use Rattle.arith_runs.proofs.ProgramLemmas.{text_computes, placed_sentence, one_input, one_number, is_param}
+use Rattle.arith_runs.proofs.TwoNumberReadingLemmas.{carry_body, taken}
+use Rattle.arith_runs.proofs.AdderLemmas.{carry_works}
 use Rattle.arith_products.specs.Products.{MultipliersMultiply}
+use Rattle.arith_products.proofs.ProductPieces.{pieces}
 use Rattle.arith_products.proofs.PlusReadingLemmas.{plus_names, plus_body}
-use Rattle.arith_products.proofs.PlusRunLemmas.{carry_meaning, carry_body_run, plus_body_run, plus_meaning}
+use Rattle.arith_products.proofs.PlusRunLemmas.{carry_meaning, plus_body_run, plus_meaning}
 use Rattle.arith_products.proofs.DigitReadingLemmas.{at_function, at_plus, at_zero, at_zeros, at_last_zero, at_digits, at_end, zero_item}
-use Rattle.arith_products.proofs.DigitReadingLemmas.{in_digits, last_body, inner_body, params, whole_body, pieces, sentence}
+use Rattle.arith_products.proofs.DigitReadingLemmas.{in_digits, last_body, inner_body, params, whole_body, sentence}
 use Rattle.arith_products.proofs.DigitRunLemmas.{falses, number_of_falses, zeros_run, digits_run, Stage}
 use Rattle.arith_products.proofs.MultiplierTextLemmas.{text_is, all_fit, all_good, is_short}
 
@@ -106,7 +103,7 @@ module _ (m : ℕ) (ds : List Bool) (p : ℕ → Place) (few : m ≤ 199) (low :
       let two = with_plus us in
       let name_0 = lettered 114 0 in
       let three = named name_0 (of_bits zeros) two in
-      let carry = carry_body_run 395 false false false own g in
+      let carry = carry_works.body_works 395 g false false false own in
       let added = plus_body_run m q g few own one refl 392 us us size size in
       let zero_size = (number_of_falses m).1 in
       let now : Stage m q g few own one refl us size 0 zeros three = record {
@@ -120,8 +117,7 @@ module _ (m : ℕ) (ds : List Bool) (p : ℕ → Place) (few : m ≤ 199) (low :
       let zero_run = run_within {k = 2000 - length zeros} (run_reg (at_zero m ds p 3) first (omega arith)) (omega arith) in
       let rest = digits_run m q g few own one refl us size 0 (length ds) ds (at_digits m ds p) (at_end m ds p 0) zeros three now (omega arith) (omega arith) in
       let same : 2000 - length zeros + length zeros + (10000 * length ds + 1) ≡ 2000 + (10000 * length ds + 1) = omega arith in
-      let_is {name = name_of (codes "carry") (g 1)} (run_function (name_of (codes "x") (g 2) ∷ name_of (codes "y") (g 3) ∷ name_of (codes "c") (g 4) ∷ [])
-      (carry_body g) carry.tree (g 2) carry.scoped_as)
+      let_is {name = name_of (codes "carry") (g 1)} (run_function (taken g) (carry_body g) carry.tree (g 2) carry.scoped_as)
       (let_is {name = name_of (codes "plus") (q 1)} (run_function (plus_names q) (plus_body m q) added.tree (q 2) added.scoped_as)
       (subst (λ (n : ℕ). RunsBody 399 two (behind_plus.items) (behind_plus.last) (of_bits (products zeros 0 us ds)) n) same
       (let_is {name = name_of name_0 (at_zero m ds p 1)} zero_run rest)))
@@ -130,17 +126,6 @@ module _ (m : ℕ) (ds : List Bool) (p : ℕ → Place) (few : m ≤ 199) (low :
       behind_plus = in_front (zero_item m ds p) (in_digits (suc m) 0 ds (at_digits m ds p) (last_body m ds p))
 
 -- ---- the text
-
-one_width : (a : ℕ) → sum (a ∷ []) ≡ a
-one_width a = let one = sum_by-cons (λ (n : ℕ). n) a [] in omega arith
-
-same_outputs : (o : Outcome Bool (List (Stamped Bool))) (a b : List (Stamped Bool)) (s u : State Bool) → o ≡ went a s → o ≡ went b u → a ≡ b
-same_outputs o a b s u e f = cc
-
--- a program has one output on an input
-one_output : (ps : List Param) (body : Tree) (input a b : List Bool) → HasOutput ps body input a → HasOutput ps body input b → a ≡ b
-one_output ps body input a b h g =
-    h.bits ∙ ap (map (λ o. o.bit)) (same_outputs (run_of_program ps body input) h.outputs g.outputs h.state g.state h.ends g.ends) ∙ sym g.bits
 
 module _ (m by : ℕ) (few : m ≤ 199) (some : 1 ≤ by) (low : by ≤ 9999) where
   abbrev ds : List Bool
@@ -152,6 +137,9 @@ module _ (m by : ℕ) (few : m ≤ 199) (some : 1 ≤ by) (low : by ≤ 9999) wh
   abbrev params_here : List Param
   params_here = params m ds places_here
 
+  abbrev name : Name
+  name = name_of (codes "a") (places_here 2)
+
   abbrev product_of : List Bool → List Bool
   product_of input = products (falses m (false ∷ [])) 0 (take (suc m) input) ds
 
@@ -162,24 +150,17 @@ module _ (m by : ℕ) (few : m ≤ 199) (some : 1 ≤ by) (low : by ≤ 9999) wh
         good = all_good m ds (omega arith) (omega arith);
         fit = all_fit m ds;
         short = is_short m ds few (omega arith);
-        sentence = subst (λ (ts : List Token). IsSentenceOf few_levels ts params_here (whole_body m ds places_here))
-            (sym (tokens_placed start (pieces m ds))) (sentence m ds places_here);
-        inputs = record {
-          bits = and_from (leb 1 (suc m)) true (le-leb 1 (suc m) (omega arith)) refl;
-          inputs = let one = one_width (suc m) in omega arith;
-        };
+        sentence = placed_sentence (pieces m ds) params_here (whole_body m ds places_here) (sentence m ds places_here);
+        inputs = is_param (suc m) name (omega arith) (omega arith);
         different = refl;
       }
-
-  size_of : (input : List Bool) → IsInput params_here input → length (take (suc m) input) ≡ suc m
-  size_of input is = let one = one_width (suc m) in length-take-le (suc m) input (omega arith)
 
   -- the number and the length of the product
   product_is : (input : List Bool) → IsInput params_here input
       → (number (product_of input) ≡ by * number (take (suc m) input)) × (length (product_of input) ≡ suc m + length ds)
   product_is input is =
       let us = take (suc m) input in
-      let size = size_of input is in
+      let size = (one_number (suc m) name input is).size in
       let zero_is = number_of_falses m in
       let h = products_multiply (falses m (false ∷ [])) 0 us ds (omega (arith, zero_is.1, size)) in
       (h.0 ∙ value (number (falses m (false ∷ []))) (number ds) (number us) zero_is.0 (digits_are_binary by some).value, omega (arith, h.1, size))
@@ -193,29 +174,16 @@ module _ (m by : ℕ) (few : m ≤ 199) (some : 1 ≤ by) (low : by ≤ 9999) wh
       record {
         units = 1 + all_units m ds places_here few count;
         few = omega arith;
-        runs = λ input is. run_block (places_here 10) (body_runs m ds places_here few count (take (suc m) input) (size_of input is));
+        runs = λ input is. run_block (places_here 10) (body_runs m ds places_here few count (take (suc m) input) (one_number (suc m) name input is).size);
         outputs = λ input is. let long = (product_is input is).1 in omega arith;
       }
 
   computes : Computes Mul (suc m) by (texts.multiplier_text (suc m) ds)
   computes =
-      let whole = text_gives (pieces m ds) params_here (whole_body m ds places_here) (λ input. of_bits (product_of input)) built runs in
-      record {
-        program = record { params = params_here; body = whole.0 };
-        formed = subst (λ (text : List ℕ). IsWellFormed text (record { params = params_here; body = whole.0 })) (sym (text_is m ds)) whole.1;
-        no_claims = whole.2.no_claims;
-        inputs = one_width (suc m);
-        outputs = λ input output is h. (said input output is (one_output params_here whole.0 input output (product_of input) h (whole.2.gives input is))).0;
-        meets = λ input output is h. (said input output is (one_output params_here whole.0 input output (product_of input) h (whole.2.gives input is))).1;
-      }
-    where
-      said : (input output : List Bool) → IsInput params_here input → output ≡ product_of input
-          → (length output ≡ suc m + length ds) × (number output ≡ by * number input)
-      said input output is e =
-          let h = product_is input is in
-          let one = one_width (suc m) in
-          let all : take (suc m) input ≡ input = take_all (suc m) input (omega arith) in
-          (ap length e ∙ h.1, ap number e ∙ h.0 ∙ ap (λ (bs : List Bool). by * number bs) all)
+      text_computes Mul (suc m) by (texts.multiplier_text (suc m) ds) (pieces m ds) params_here (whole_body m ds places_here)
+      (λ input. of_bits (product_of input)) built runs (text_is m ds) (one_input (suc m) name) (λ input is.
+      let h = product_is input is in
+      (h.1, h.0 ∙ ap (λ (bs : List Bool). by * number bs) (one_number (suc m) name input is).all))
 
 pub multipliers_multiply : MultipliersMultiply
 multipliers_multiply zero by low high some few = absurd (omega arith)

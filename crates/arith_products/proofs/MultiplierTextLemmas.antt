@@ -1,8 +1,7 @@
--- The pieces of a multiplier spell its text, and are good.
+-- The pieces of a multiplier spell its text, fit, and are good.
 use Rattle.std.proofs.Common.{◌≡◌, ℕ, zero, suc, ◌+◌, ◌*◌, ◌-◌, ◌≤◌, Bool, true, false, List, [], ◌∷◌, ◌++◌, length, refl, ap, sym, subst, ◌∙◌, arith}
 use Rattle.std.specs.Prelude.{codes, decimal}
-use Rattle.std.specs.List.{flat_map, range_with_len, list_all}
-use Rattle.std.proofs.lemmas.Bool.{and_parts}
+use Rattle.std.specs.List.{flat_map, range_with_len}
 use Rattle.std.proofs.lemmas.Fmt.{decimal_digit}
 use Rattle.std.proofs.lemmas.List.{append_assoc, length-append}
 use Rattle.program_gen.specs.Adder as adder
@@ -13,103 +12,53 @@ use Rattle.revs_lexer.specs.declared.word.Word.TheVariants as words
 use Rattle.revs_lexer.specs.declared.token.Tok.{Tok}
 use Rattle.revs_lexer.specs.declared.token.Tok.TheVariants as toks
 use Rattle.built_texts.specs.Pieces.{Piece, text_of, toks_of, fits, AreGood}
-use Rattle.built_texts.proofs.PlaceLemmas.{good_word, good_sign, good_number, good_numbered, built_length}
-use Rattle.arith_runs.proofs.RipplePieces.{carry_function}
-use Rattle.arith_increments.proofs.PieceLemmas.{s, name, place_of, numbered, bit_outputs, outputs_open}
-use Rattle.arith_increments.proofs.PieceLemmas.{text_of-append, fits_outputs, is_plain, plain_good, good_place, good_parameter}
-use Rattle.arith_increments.proofs.PieceLemmas.{good_outputs, length-outputs}
-use Rattle.arith_increments.proofs.IncrementReadingLemmas.{header}
-use Rattle.arith_products.proofs.PlusReadingLemmas as plus
-use Rattle.arith_products.proofs.PlusReadingLemmas.{plus_open, first_sum, first_carry, sum_line, carry_line, places, plus_close, plus_pieces}
-use Rattle.arith_products.proofs.DigitReadingLemmas.{zero_open, zero_bits, zero_close, digit_line, digit_lines}
-use Rattle.arith_products.proofs.DigitReadingLemmas.{slice_of, product_end, from_digits, from_last_zero}
-use Rattle.arith_products.proofs.DigitReadingLemmas.{from_zeros, from_zero, from_plus, from_function, pieces}
+use Rattle.built_texts.proofs.PlaceLemmas.{text_of-append, good_word, good_sign, good_number, good_numbered, plain_good, goods, built_length}
+use Rattle.arith_runs.proofs.Pieces.{s, name}
+use Rattle.arith_runs.proofs.RipplePieces.{from_sum}
+use Rattle.arith_runs.proofs.RippleTextLemmas.{ripple_text, IsFine, ripple_fits, ripple_good, length-ripple}
+use Rattle.arith_runs.proofs.TwoNumberPieces.{first_sum, sum_line, carry_line, ripple, carry_function}
+use Rattle.arith_runs.proofs.TwoNumberTextLemmas.{lines_are_fine, sums_are_fine, function_text}
+use Rattle.arith_increments.proofs.IncrementPieces.{header}
+use Rattle.arith_increments.proofs.IncrementTextLemmas.{header_text, good_header}
+use Rattle.arith_products.proofs.ProductPieces.{plus, plus_open, plus_end, zero_open, zero_bits, zero_close, digit_line, digit_lines, slice_of, product_end}
+use Rattle.arith_products.proofs.ProductPieces.{from_digits, from_last_zero, from_zeros, from_zero, from_plus, from_function, pieces}
 
--- ---- the function
-
-header_text : (bits : ℕ) → texts.parameter bits ≡ text_of (header bits)
-unfolding texts.parameter
-header_text bits = refl
-
-function_text : adder.carry_function ≡ text_of carry_function
-unfolding adder.carry_function
-function_text = refl
+-- ---- the function that adds
 
 opening_text : texts.plus_opening ≡ text_of plus_open
 unfolding texts.plus_opening
 opening_text = refl
 
-first_text : texts.first_plus ≡ text_of first_sum ++ text_of first_carry
+closing_text : (rest : List ℕ) → texts.plus_closing ++ rest ≡ text_of plus_end ++ rest
+unfolding texts.plus_closing
+closing_text rest = refl
+
+first_text : texts.first_plus ≡ text_of (first_sum plus) ++ text_of plus.first_line
 unfolding texts.first_plus
 first_text =
     let z : decimal 0 ≡ 48 ∷ [] = decimal_digit 0 (omega arith) in
     let o : decimal 1 ≡ 49 ∷ [] = decimal_digit 1 (omega arith) in
     rw (z, o) refl
 
-sum_text : (i : ℕ) → texts.plus_sum_line i ≡ text_of (sum_line i)
-unfolding texts.plus_sum_line
-sum_text i = refl
+place_text : (i : ℕ) → texts.plus_place i ≡ text_of (sum_line plus i) ++ text_of (carry_line plus i)
+unfolding texts.plus_sum_line texts.plus_carry_line
+place_text i = refl
 
-carry_text : (i : ℕ) → texts.plus_carry_line i ≡ text_of (carry_line i)
-unfolding texts.plus_carry_line
-carry_text i = refl
-
-places_text : (i count : ℕ) → flat_map texts.plus_place (range_with_len i count) ≡ text_of (places i count)
-places_text i zero = refl
-places_text i (suc count) =
-    ap (λ (bs : List ℕ). bs ++ flat_map texts.plus_place (range_with_len (i + 1) count))
-    (ap (λ (bs : List ℕ). bs ++ texts.plus_carry_line i) (sum_text i) ∙ ap (λ (bs : List ℕ). text_of (sum_line i) ++ bs) (carry_text i))
-    ∙ ap (λ (bs : List ℕ). text_of (sum_line i) ++ text_of (carry_line i) ++ bs) (places_text (i + 1) count)
-    ∙ append_assoc (text_of (sum_line i)) (text_of (carry_line i)) (text_of (places (i + 1) count))
-    ∙ ap (λ (bs : List ℕ). text_of (sum_line i) ++ bs) (sym (text_of-append (carry_line i) (places (i + 1) count)))
-    ∙ sym (text_of-append (sum_line i) (carry_line i ++ places (i + 1) count))
-
-outputs_text : (i count : ℕ) → flat_map (texts.output (codes "s")) (range_with_len i count) ≡ text_of (bit_outputs 115 i count)
-unfolding texts.output
-outputs_text i zero = refl
-outputs_text i (suc count) =
-    ap (λ (bs : List ℕ). 115 ∷ ((decimal i ++ 59 ∷ 32 ∷ []) ++ bs)) (outputs_text (i + 1) count)
-    ∙ ap (λ (bs : List ℕ). 115 ∷ bs) (append_assoc (decimal i) (59 ∷ 32 ∷ []) (text_of (bit_outputs 115 (i + 1) count)))
-
--- the bytes from the outputs of the function on
-end_text : (bits : ℕ) → texts.outputs (codes "s") bits ++ texts.plus_closing
-    ≡ text_of outputs_open ++ (text_of (bit_outputs 115 0 bits) ++ text_of (plus_close bits))
-unfolding texts.outputs texts.plus_closing
-end_text bits =
-    ap (λ (bs : List ℕ). line (codes "reg [" ∷ bs ∷ codes "c" ∷ decimal bits ∷ codes "]" ∷ []) ++ line (codes "};" ∷ [])) (outputs_text 0 bits)
-    ∙ ap (λ (bs : List ℕ). text_of outputs_open ++ bs) (behind (text_of (bit_outputs 115 0 bits)) (decimal bits))
+-- the lines of the function, in front of the bytes behind it
+plus_text : (m : ℕ) (rest : List ℕ) (ps : List Piece) → rest ≡ text_of ps
+    → texts.plus_function (suc m) ++ rest ≡ text_of (plus_open ++ from_sum (ripple plus) m (plus_end ++ ps))
+plus_text m rest ps is =
+    grouped texts.plus_opening texts.first_plus (flat_map texts.plus_place (range_with_len 1 (suc m - 1))) (texts.outputs (codes "s") (suc m))
+    texts.plus_closing rest
+    ∙ joined opening_text (ripple_text (ripple plus) texts.first_plus texts.plus_place (record { first_is = first_text; place_is = place_text }) m
+    (texts.plus_closing ++ rest) (plus_end ++ ps) (closing_text rest ∙ ap (λ (bs : List ℕ). text_of plus_end ++ bs) is))
+    ∙ sym (text_of-append plus_open (from_sum (ripple plus) m (plus_end ++ ps)))
   where
-    behind : (sums ds : List ℕ) → (sums ++ 99 ∷ (ds ++ 93 ∷ 10 ∷ [])) ++ 125 ∷ 59 ∷ 10 ∷ [] ≡ sums ++ 99 ∷ (ds ++ 93 ∷ 10 ∷ 125 ∷ 59 ∷ 10 ∷ [])
-    behind sums ds =
-        append_assoc sums (99 ∷ (ds ++ 93 ∷ 10 ∷ [])) (125 ∷ 59 ∷ 10 ∷ [])
-        ∙ ap (λ (bs : List ℕ). sums ++ 99 ∷ bs) (append_assoc ds (93 ∷ 10 ∷ []) (125 ∷ 59 ∷ 10 ∷ []))
+    grouped : (a b c d e g : List ℕ) → (a ++ b ++ c ++ d ++ e) ++ g ≡ a ++ (b ++ (c ++ (d ++ (e ++ g))))
+    grouped a b c d e g = simp append_assoc refl
 
-plus_grouped : (a b c d e : List ℕ) → a ++ b ++ c ++ d ++ e ≡ a ++ (b ++ (c ++ (d ++ e)))
-plus_grouped a b c d e = simp append_assoc refl
-
-plus_parts : (m : ℕ) → text_of (plus_pieces m) ≡ text_of plus_open ++ ((text_of first_sum ++ text_of first_carry)
-    ++ (text_of (places 1 m) ++ (text_of outputs_open ++ (text_of (bit_outputs 115 0 (suc m)) ++ text_of (plus_close (suc m))))))
-plus_parts m =
-    let rest = text_of (places 1 m) ++ (text_of outputs_open ++ (text_of (bit_outputs 115 0 (suc m)) ++ text_of (plus_close (suc m)))) in
-    text_of-append plus_open (plus.from_sum m)
-    ∙ ap (λ (bs : List ℕ). text_of plus_open ++ bs) (text_of-append first_sum (plus.from_carry m)
-    ∙ ap (λ (bs : List ℕ). text_of first_sum ++ bs) (text_of-append first_carry (plus.from_places m)
-    ∙ ap (λ (bs : List ℕ). text_of first_carry ++ bs) (text_of-append (places 1 m) (plus.from_open m)
-    ∙ ap (λ (bs : List ℕ). text_of (places 1 m) ++ bs) (text_of-append outputs_open (plus.from_outputs m)
-    ∙ ap (λ (bs : List ℕ). text_of outputs_open ++ bs) (text_of-append (bit_outputs 115 0 (suc m)) (plus_close (suc m))))))
-    ∙ sym (append_assoc (text_of first_sum) (text_of first_carry) rest))
-
-same_four : {a b c d w x y z : List ℕ} → a ≡ w → b ≡ x → c ≡ y → d ≡ z → a ++ (b ++ (c ++ d)) ≡ w ++ (x ++ (y ++ z))
-same_four p q r e = cc
-
-plus_text : (m : ℕ) → texts.plus_function (suc m) ≡ text_of (plus_pieces m)
-plus_text m =
-    let less : suc m - 1 ≡ m = omega arith in
-    let above : flat_map texts.plus_place (range_with_len 1 (suc m - 1)) ≡ text_of (places 1 m) =
-    ap (λ (k : ℕ). flat_map texts.plus_place (range_with_len 1 k)) less ∙ places_text 1 m in
-    plus_grouped texts.plus_opening texts.first_plus (flat_map texts.plus_place (range_with_len 1 (suc m - 1))) (texts.outputs (codes "s")
-    (suc m)) texts.plus_closing
-    ∙ same_four opening_text first_text above (end_text (suc m)) ∙ sym (plus_parts m)
+    joined : {a b p q : List ℕ} → a ≡ p → b ≡ q → a ++ b ≡ p ++ q
+    joined e h = cc
 
 -- ---- the number 0
 
@@ -153,45 +102,43 @@ product_text count = ap (λ (bs : List ℕ). 114 ∷ bs) (append_assoc (decimal 
 
 -- ---- the whole text
 
-grouped : (a b c d e g h : List ℕ) → a ++ b ++ c ++ d ++ e ++ g ++ h ≡ a ++ (b ++ (c ++ (d ++ (e ++ (g ++ h)))))
-grouped a b c d e g h = simp append_assoc refl
-
-parts_text : (m : ℕ) (ds : List Bool) → text_of (pieces m ds) ≡ text_of (header (suc m)) ++ (text_of carry_function ++ (text_of (plus_pieces m)
-    ++ ((text_of zero_open ++ (text_of (zero_bits m) ++ text_of zero_close)) ++ (text_of (digit_lines (suc m) 0 ds) ++ text_of (product_end (length ds))))))
-parts_text m ds =
-    let rest = text_of (digit_lines (suc m) 0 ds) ++ text_of (product_end (length ds)) in
-    text_of-append (header (suc m)) (from_function m ds)
-    ∙ ap (λ (bs : List ℕ). text_of (header (suc m)) ++ bs) (text_of-append carry_function (from_plus m ds)
-    ∙ ap (λ (bs : List ℕ). text_of carry_function ++ bs) (text_of-append (plus_pieces m) (from_zero m ds)
-    ∙ ap (λ (bs : List ℕ). text_of (plus_pieces m) ++ bs) (text_of-append zero_open (from_zeros m ds)
+-- the bytes behind the function
+rest_text : (m : ℕ) (ds : List Bool) → texts.zero_line (suc m) ++ (texts.digit_lines (suc m) 0 ds ++ (texts.product_line (length ds) ++ line (codes "}" ∷ [])))
+    ≡ text_of (from_zero m ds)
+rest_text m ds =
+    let end = text_of (digit_lines (suc m) 0 ds) ++ text_of (product_end (length ds)) in
+    same (zero_text m) (digits_text (suc m) 0 ds) (product_text (length ds))
+    ∙ three (text_of zero_open) (text_of (zero_bits m)) (text_of zero_close) end
+    ∙ sym (text_of-append zero_open (from_zeros m ds)
     ∙ ap (λ (bs : List ℕ). text_of zero_open ++ bs) (text_of-append (zero_bits m) (from_last_zero m ds)
     ∙ ap (λ (bs : List ℕ). text_of (zero_bits m) ++ bs) (text_of-append zero_close (from_digits m ds)
-    ∙ ap (λ (bs : List ℕ). text_of zero_close ++ bs) (text_of-append (digit_lines (suc m) 0 ds) (product_end (length ds)))))
-    ∙ three (text_of zero_open) (text_of (zero_bits m)) (text_of zero_close) rest)))
+    ∙ ap (λ (bs : List ℕ). text_of zero_close ++ bs) (text_of-append (digit_lines (suc m) 0 ds) (product_end (length ds))))))
   where
-    three : (a b c rest : List ℕ) → a ++ (b ++ (c ++ rest)) ≡ (a ++ (b ++ c)) ++ rest
+    same : {a b c p q r : List ℕ} → a ≡ p → b ≡ q → c ≡ r → a ++ (b ++ c) ≡ p ++ (q ++ r)
+    same e h k = cc
+
+    three : (a b c rest : List ℕ) → (a ++ (b ++ c)) ++ rest ≡ a ++ (b ++ (c ++ rest))
     three a b c rest = simp append_assoc refl
 
 pub text_is : (m : ℕ) (ds : List Bool) → texts.multiplier_text (suc m) ds ≡ text_of (pieces m ds)
 text_is m ds =
+    let rest = texts.zero_line (suc m) ++ (texts.digit_lines (suc m) 0 ds ++ (texts.product_line (length ds) ++ line (codes "}" ∷ []))) in
     grouped (texts.parameter (suc m)) adder.carry_function (texts.plus_function (suc m)) (texts.zero_line (suc m)) (texts.digit_lines (suc m) 0 ds)
     (texts.product_line (length ds)) (line (codes "}" ∷ []))
-    ∙ same (header_text (suc m)) function_text (plus_text m) (zero_text m) (digits_text (suc m) 0 ds) (product_text (length ds)) ∙ sym (parts_text m ds)
+    ∙ same (header_text (suc m)) function_text (plus_text m rest (from_zero m ds) (rest_text m ds))
+    ∙ sym (text_of-append (header (suc m)) (from_function m ds)
+    ∙ ap (λ (bs : List ℕ). text_of (header (suc m)) ++ bs) (text_of-append carry_function (from_plus m ds)))
   where
-    same : {a b c d e g u v w x y z : List ℕ} → a ≡ u → b ≡ v → c ≡ w → d ≡ x → e ≡ y → g ≡ z
-        → a ++ (b ++ (c ++ (d ++ (e ++ g)))) ≡ u ++ (v ++ (w ++ (x ++ (y ++ z))))
-    same p q r i j k = cc
+    grouped : (a b c d e g h : List ℕ) → a ++ b ++ c ++ d ++ e ++ g ++ h ≡ a ++ (b ++ (c ++ (d ++ (e ++ (g ++ h)))))
+    grouped a b c d e g h = simp append_assoc refl
+
+    same : {a b c p q r : List ℕ} → a ≡ p → b ≡ q → c ≡ r → a ++ (b ++ c) ≡ p ++ (q ++ r)
+    same e h k = cc
 
 -- ---- what fits
 
-fits_places : (i count : ℕ) (rest : List Piece) → fits (places i count ++ rest) ≡ fits rest
-fits_places i zero rest = refl
-fits_places i (suc count) rest = fits_places (i + 1) count rest
-
-fits_plus : (m : ℕ) (rest : List Piece) → fits (plus_pieces m ++ rest) ≡ fits rest
-fits_plus m rest =
-    ap fits (append_assoc (places 1 m) (plus.from_open m) rest) ∙ fits_places 1 m (plus.from_open m ++ rest)
-    ∙ ap fits (append_assoc (bit_outputs 115 0 (suc m)) (plus_close (suc m)) rest) ∙ fits_outputs 115 0 (suc m) (plus_close (suc m) ++ rest)
+plus_is_fine : IsFine (ripple plus)
+plus_is_fine = lines_are_fine plus (sums_are_fine (codes "p") (codes "q") refl refl)
 
 fits_zeros : (count : ℕ) (rest : List Piece) → fits (zero_bits count ++ rest) ≡ fits rest
 fits_zeros zero rest = refl
@@ -205,106 +152,13 @@ fits_digits n (suc k) (true ∷ ds) rest = fits_digits n (suc k + 1) ds rest
 
 pub all_fit : (m : ℕ) (ds : List Bool) → fits (pieces m ds) ≡ true
 all_fit m ds =
-    fits_plus m (from_zero m ds) ∙ fits_zeros m (from_last_zero m ds) ∙ fits_digits (suc m) 0 ds (product_end (length ds))
+    ripple_fits (ripple plus) plus_is_fine m (plus_end ++ from_zero m ds) ∙ fits_zeros m (from_last_zero m ds)
+    ∙ fits_digits (suc m) 0 ds (product_end (length ds))
 
 -- ---- good tokens
 
-goods : (ts us : List Tok) → list_all is_plain ts ≡ true → AreGood us → AreGood (ts ++ us)
-goods [] us e h = h
-goods (u ∷ ts) us e h = let k = and_parts (is_plain u) (list_all is_plain ts) e in (plain_good u k.0, goods ts us k.1 h)
-
-good_header : (bits : ℕ) (ps : List Piece) → bits ≤ 9999 → AreGood (toks_of ps) → AreGood (toks_of (header bits ++ ps))
-good_header bits ps le h = (
-  good_word words.Main,
-  good_parameter (codes "a") bits (toks_of (s signs.Equal ∷ s signs.OpenCurly ∷ ps)) refl le
-      (good_sign signs.Equal, (good_sign signs.OpenCurly, h)),
-)
-
-good_first_sum : (ps : List Piece) → AreGood (toks_of ps) → AreGood (toks_of (first_sum ++ ps))
-good_first_sum ps h = (
-  good_word words.Let,
-  (
-    good_numbered 115 0 refl (omega arith),
-    (
-      good_sign signs.Equal,
-      good_place (codes "p") 0 (toks_of (s signs.Xor ∷ place_of (codes "q") 0 ++ s signs.Semi ∷ ps)) refl (omega arith) (
-        good_sign signs.Xor,
-        good_place (codes "q") 0 (toks_of (s signs.Semi ∷ ps)) refl (omega arith) (good_sign signs.Semi, h),
-      ),
-    ),
-  ),
-)
-
-good_first_carry : (ps : List Piece) → AreGood (toks_of ps) → AreGood (toks_of (first_carry ++ ps))
-good_first_carry ps h = (
-  good_word words.Let,
-  (
-    good_numbered 99 1 refl (omega arith),
-    (
-      good_sign signs.Equal,
-      good_place (codes "p") 0 (toks_of (s signs.And ∷ place_of (codes "q") 0 ++ s signs.Semi ∷ ps)) refl (omega arith) (
-        good_sign signs.And,
-        good_place (codes "q") 0 (toks_of (s signs.Semi ∷ ps)) refl (omega arith) (good_sign signs.Semi, h),
-      ),
-    ),
-  ),
-)
-
-good_sum_line : (i : ℕ) (ps : List Piece) → i ≤ 9999 → AreGood (toks_of ps) → AreGood (toks_of (sum_line i ++ ps))
-good_sum_line i ps le h = (
-  good_word words.Let,
-  (
-    good_numbered 115 i refl le,
-    (
-      good_sign signs.Equal,
-      good_place (codes "p") i (toks_of (s signs.Xor ∷ place_of (codes "q") i ++ s signs.Xor ∷ numbered 99 i ∷ s signs.Semi ∷ ps)) refl le (
-        good_sign signs.Xor,
-        good_place (codes "q") i (toks_of (s signs.Xor ∷ numbered 99 i ∷ s signs.Semi ∷ ps)) refl le (
-          good_sign signs.Xor,
-          (good_numbered 99 i refl le, (good_sign signs.Semi, h)),
-        ),
-      ),
-    ),
-  ),
-)
-
-good_carry_line : (i : ℕ) (ps : List Piece) → i + 1 ≤ 9999 → AreGood (toks_of ps) → AreGood (toks_of (carry_line i ++ ps))
-good_carry_line i ps le h = (
-  good_word words.Let,
-  (
-    good_numbered 99 (i + 1) refl le,
-    (
-      good_sign signs.Equal,
-      (
-        plain_good (toks.Name (codes "carry")) refl,
-        good_place (codes "p") i (toks_of (place_of (codes "q") i ++ numbered 99 i ∷ s signs.Semi ∷ ps)) refl (omega arith)
-            (good_place (codes "q") i (toks_of (numbered 99 i ∷ s signs.Semi ∷ ps)) refl (omega arith) (
-              good_numbered 99 i refl (omega arith),
-              (good_sign signs.Semi, h),
-            )),
-      ),
-    ),
-  ),
-)
-
-good_places : (i count : ℕ) (ps : List Piece) → i + count ≤ 9999 → AreGood (toks_of ps) → AreGood (toks_of (places i count ++ ps))
-good_places i zero ps le h = h
-good_places i (suc count) ps le h =
-    good_sum_line i (carry_line i ++ (places (i + 1) count ++ ps)) (omega arith) (good_carry_line i (places (i + 1) count ++ ps) (omega arith)
-    (good_places (i + 1) count ps (omega arith) h))
-
 abbrev GoodPieces : List Piece → Type 0
 GoodPieces ps = AreGood (toks_of ps)
-
-good_plus : (m : ℕ) (ps : List Piece) → m ≤ 1000 → GoodPieces ps → GoodPieces (plus_pieces m ++ ps)
-good_plus m ps le h =
-    let outs = subst GoodPieces (sym (append_assoc (bit_outputs 115 0 (suc m)) (plus_close (suc m)) ps))
-    (good_outputs 115 0 (suc m) (plus_close (suc m) ++ ps) refl (omega arith)
-    (good_numbered 99 (suc m) refl (omega arith), (good_sign signs.CloseSquare, (good_sign signs.CloseCurly, (good_sign signs.Semi, h))))) in
-    let lines = subst GoodPieces (sym (append_assoc (places 1 m) (plus.from_open m) ps))
-    (good_places 1 m (plus.from_open m ++ ps) (omega arith) (good_word words.Reg, (good_sign signs.OpenSquare, outs))) in
-    goods (toks_of plus_open) (toks_of (plus.from_sum m ++ ps)) refl
-    (good_first_sum (plus.from_carry m ++ ps) (good_first_carry (plus.from_places m ++ ps) lines))
 
 good_zeros : (count : ℕ) (ps : List Piece) → GoodPieces ps → GoodPieces (zero_bits count ++ ps)
 good_zeros zero ps h = h
@@ -400,42 +254,43 @@ good_digits n k (d ∷ ds) ps few low h =
     subst GoodPieces (sym (append_assoc (digit_line n k d) (digit_lines n (k + 1) ds) ps))
     (good_digit n k d (digit_lines n (k + 1) ds ++ ps) few (omega arith) (good_digits n (k + 1) ds ps few (omega arith) h))
 
-pub all_good : (m : ℕ) (ds : List Bool) → m ≤ 900 → length ds ≤ 900 → GoodPieces (pieces m ds)
-all_good m ds le low =
-    good_header (suc m) (from_function m ds) (omega arith)
-    (goods (toks_of carry_function) (toks_of (from_plus m ds)) refl
-    (good_plus m (from_zero m ds) (omega arith) (
-      good_word words.Let,
+good_zero : (m : ℕ) (ds : List Bool) → m ≤ 900 → length ds ≤ 900 → GoodPieces (from_zero m ds)
+good_zero m ds le low = (
+  good_word words.Let,
+  (
+    good_numbered 114 0 refl (omega arith),
+    (
+      good_sign signs.Equal,
       (
-        good_numbered 114 0 refl (omega arith),
+        good_word words.Reg,
         (
-          good_sign signs.Equal,
-          (
-            good_word words.Reg,
+          good_sign signs.OpenSquare,
+          good_zeros m (from_last_zero m ds) (
+            good_word words.False,
             (
-              good_sign signs.OpenSquare,
-              good_zeros m (from_last_zero m ds) (
-                good_word words.False,
-                (
-                  good_sign signs.CloseSquare,
-                  (
-                    good_sign signs.Semi,
-                    good_digits (suc m) 0 ds (product_end (length ds)) (omega arith) (omega arith)
-                        (good_numbered 114 (length ds) refl (omega arith), (good_sign signs.CloseCurly, tt)),
-                  ),
-                ),
+              good_sign signs.CloseSquare,
+              (
+                good_sign signs.Semi,
+                good_digits (suc m) 0 ds (product_end (length ds)) (omega arith) (omega arith)
+                    (good_numbered 114 (length ds) refl (omega arith), (good_sign signs.CloseCurly, tt)),
               ),
             ),
           ),
         ),
       ),
-    )))
+    ),
+  ),
+)
+
+pub all_good : (m : ℕ) (ds : List Bool) → m ≤ 900 → length ds ≤ 900 → GoodPieces (pieces m ds)
+all_good m ds le low =
+    good_header (suc m) (from_function m ds) (omega arith)
+    (goods (toks_of carry_function) (toks_of (from_plus m ds)) refl
+    (goods (toks_of plus_open) (toks_of (from_sum (ripple plus) m (plus_end ++ from_zero m ds))) refl
+    (ripple_good (ripple plus) plus_is_fine m (plus_end ++ from_zero m ds) (omega arith)
+    (good_sign signs.CloseCurly, (good_sign signs.Semi, good_zero m ds le low)))))
 
 -- ---- lengths
-
-length-places : (i count : ℕ) → length (places i count) ≡ 48 * count
-length-places i zero = omega arith
-length-places i (suc count) = let rest = length-places (i + 1) count in omega arith
 
 length-zeros : (count : ℕ) → length (zero_bits count) ≡ 3 * count
 length-zeros zero = omega arith
@@ -457,13 +312,9 @@ length-digits n k (d ∷ ds) =
 pub is_short : (m : ℕ) (ds : List Bool) → m ≤ 199 → length ds ≤ 20 → length (text_of (pieces m ds)) ≤ 1048576
 is_short m ds le low =
     let whole = built_length (pieces m ds) (all_good m ds (omega arith) (omega arith)) in
-    let a = length-append (plus_pieces m) (from_zero m ds) in
-    let b = length-append (places 1 m) (plus.from_open m) in
-    let c = length-append (bit_outputs 115 0 (suc m)) (plus_close (suc m)) in
-    let d = length-append (zero_bits m) (from_last_zero m ds) in
-    let e = length-append (digit_lines (suc m) 0 ds) (product_end (length ds)) in
-    let f = length-places 1 m in
-    let g = length-outputs 115 0 (suc m) in
-    let h = length-zeros m in
-    let i = length-digits (suc m) 0 ds in
+    let lines = length-ripple (ripple plus) plus_is_fine m (plus_end ++ from_zero m ds) in
+    let a = length-append (zero_bits m) (from_last_zero m ds) in
+    let b = length-append (digit_lines (suc m) 0 ds) (product_end (length ds)) in
+    let c = length-zeros m in
+    let d = length-digits (suc m) 0 ds in
     omega arith

@@ -17,16 +17,16 @@ use Rattle.revs_terms.specs.Trees as t
 use Rattle.revs_terms.specs.Trees.{Tree}
 use Rattle.built_texts.specs.Pieces.{Piece, text_of, toks_of, fits, AreGood}
 use Rattle.built_texts.specs.Ways.{placed, shifted, Turns}
-use Rattle.built_texts.proofs.PlaceLemmas.{good_sign, good_numbered, built_length}
-use Rattle.built_texts.proofs.WayLemmas.{turns, turns-then}
+use Rattle.built_texts.proofs.PlaceLemmas.{text_of-append, lettered, good_sign, good_numbered, built_length}
+use Rattle.built_texts.proofs.WayLemmas.{turns, turns-then, built_then, is_sentence}
 use Rattle.program_gen.specs.Adder as lines
 use Rattle.arith_templates.specs.Texts as texts
-use Rattle.arith_runs.proofs.RipplePieces.{header, carry_line}
-use Rattle.arith_runs.proofs.TextLemmas.{text_of-append, header_text, good_header, good_carry_line}
-use Rattle.arith_runs.proofs.ReadingLemmas.{f, chain_end, lettered, function_item, first_item, carry_item, carry_turns, header_turns}
-use Rattle.arith_runs.proofs.ReadingLemmas.{nothing_behind, end_turns, built_then, ripple_params}
+use Rattle.arith_runs.proofs.RippleReadingLemmas.{f, chain_end, bound, nothing_behind, end_turns}
+use Rattle.arith_runs.proofs.TwoNumberPieces.{header, carry_line}
+use Rattle.arith_runs.proofs.TwoNumberTextLemmas.{header_text, good_header, good_carry_line}
+use Rattle.arith_runs.proofs.TwoNumberReadingLemmas.{carry_term, carry_turns, function_item, header_turns, two_params}
 use Rattle.arith_runs.proofs.BorrowPieces.{borrow_function, first_borrow, subtractor, borrows, closing, from_borrows, from_first, from_function, pieces}
-use Rattle.arith_runs.proofs.SubtractorLemmas.{function_text, borrow_text, is_fine, reads}
+use Rattle.arith_runs.proofs.SubtractorLemmas.{function_text, borrow_text, is_fine, function_is_fine, function_reads, reads}
 
 -- ---- spelling
 
@@ -83,7 +83,7 @@ fits_borrows i zero rest = refl
 fits_borrows i (suc count) rest = fits_borrows (i + 1) count rest
 
 pub comparator_fits : (m : ℕ) → fits (pieces m) ≡ true
-comparator_fits m = is_fine.fits_function (from_first m) ∙ is_fine.fits_first (from_borrows m) ∙ fits_borrows 1 m (closing (suc m))
+comparator_fits m = function_is_fine.fits_function (from_first m) ∙ is_fine.fits_line (from_borrows m) ∙ fits_borrows 1 m (closing (suc m))
 
 good_borrows : (i count : ℕ) (ps : List Piece) → i + count ≤ 9999 → AreGood (toks_of ps) → AreGood (toks_of (borrows i count ++ ps))
 good_borrows i zero ps le h = h
@@ -92,7 +92,7 @@ good_borrows i (suc count) ps le h =
 
 pub comparator_good : (m : ℕ) → m ≤ 1000 → AreGood (toks_of (pieces m))
 comparator_good m le =
-    good_header (suc m) (from_function m) (omega arith) (is_fine.good_function (from_first m) (is_fine.good_first (from_borrows m)
+    good_header (suc m) (from_function m) (omega arith) (function_is_fine.good_function (from_first m) (is_fine.good_line (from_borrows m)
     (good_borrows 1 m (closing (suc m)) (omega arith) (good_numbered 99 (suc m) refl (omega arith), (good_sign signs.CloseCurly, tt)))))
 
 length-borrows : (i count : ℕ) → length (borrows i count) ≡ 23 * count
@@ -111,13 +111,13 @@ comparator_is_short m le =
 -- so many borrows in front of a body
 abbrev pub in_borrows : ℕ → ℕ → (ℕ → Place) → BodyTree → BodyTree
 in_borrows i zero p rest = rest
-in_borrows i (suc count) p rest = in_front (carry_item subtractor i p) (in_borrows (i + 1) count (shifted 16 p) rest)
+in_borrows i (suc count) p rest = in_front (bound (lettered 99 (i + 1)) (carry_term subtractor i) p) (in_borrows (i + 1) count (shifted 16 p) rest)
 
 borrows_turn : (i count l : ℕ) (ss : List Symbol) (p : ℕ → Place)
     → Turns (f body l ∷ ss) (placed p (toks_of (borrows i count))) (f body l ∷ ss) (λ vs. (in_borrows i count p vs.0, vs.1))
 borrows_turn i zero l ss p = record { leads = symbols.done; turned = λ vs. refl }
 borrows_turn i (suc count) l ss p =
-    built_then subtractor (carry_line subtractor i) (borrows (i + 1) count) p (carry_turns subtractor i l ss p)
+    built_then (carry_line subtractor i) (borrows (i + 1) count) p (carry_turns subtractor i l ss p)
     (borrows_turn (i + 1) count l ss (shifted 16 p))
 
 -- the last borrow
@@ -143,11 +143,11 @@ module _ (m : ℕ) (p : ℕ → Place) where
   at_close = shifted (length (toks_of (borrows 1 m))) at_borrows
 
   abbrev pub inner_body : BodyTree
-  inner_body = in_front (function_item reads at_function) (in_front (first_item reads at_first)
+  inner_body = in_front (function_item (codes "lend") function_reads.function_body at_function) (in_front (bound (lettered 99 1) reads.first_value at_first)
       (in_borrows 1 m at_borrows (last_body (suc m) at_close)))
 
   abbrev pub comparator_params : List Param
-  comparator_params = ripple_params subtractor reads m p
+  comparator_params = two_params (suc m) p
 
   abbrev pub comparator_body : Tree
   comparator_body = block_of (p 18) inner_body
@@ -158,19 +158,13 @@ module _ (m : ℕ) (p : ℕ → Place) where
   comparator_turns : Turns at_start (placed p (toks_of (pieces m))) [] (λ _. comparator_program)
   comparator_turns =
       let ss = chain_end 1 [] in
-      built_then subtractor (header (suc m)) (from_function m) p (header_turns subtractor (suc m) p)
-      (built_then subtractor borrow_function (from_first m) at_function (reads.function_turns ss at_function)
-      (built_then subtractor first_borrow (from_borrows m) at_first (reads.first_turns ss at_first)
-      (built_then subtractor (borrows 1 m) (closing (suc m)) at_borrows (borrows_turn 1 m 2 ss at_borrows)
-      (subst (λ (ts : List Token). Turns (f body 2 ∷ ss) ts [] (λ _. (last_body (suc m) at_close, nothing_behind subtractor)))
+      built_then (header (suc m)) (from_function m) p (header_turns (suc m) p)
+      (built_then borrow_function (from_first m) at_function (function_reads.function_turns ss at_function)
+      (built_then first_borrow (from_borrows m) at_first (reads.first_turns ss at_first)
+      (built_then (borrows 1 m) (closing (suc m)) at_borrows (borrows_turn 1 m 2 ss at_borrows)
+      (subst (λ (ts : List Token). Turns (f body 2 ∷ ss) ts [] (λ _. (last_body (suc m) at_close, nothing_behind)))
       (append-nil (placed at_close (toks_of (closing (suc m)))))
-      (turns-then (closing_turns (suc m) ss at_close) (end_turns subtractor))))))
+      (turns-then (closing_turns (suc m) ss at_close) end_turns)))))
 
   pub comparator_sentence : IsSentenceOf few_levels (placed p (toks_of (pieces m))) comparator_params comparator_body
-  comparator_sentence =
-      let h = comparator_turns in
-      record {
-        reading = h.leads;
-        params_are = ap (λ (v : Vals at_start). v.0.params) (h.turned tt);
-        body_is = ap (λ (v : Vals at_start). v.0.body) (h.turned tt);
-      }
+  comparator_sentence = is_sentence comparator_turns

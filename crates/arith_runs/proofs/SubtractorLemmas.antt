@@ -4,10 +4,9 @@ use Rattle.std.proofs.Common.{◌&&◌, List, [], ◌∷◌, ◌++◌, length, t
 use Rattle.std.proofs.Common.{subst, arith}
 use Rattle.std.specs.Prelude.{codes, decimal, IsTrue, ◌↔◌}
 use Rattle.std.specs.Bool.{xor}
-use Rattle.std.specs.List.{flat_map, range_with_len}
 use Rattle.std.proofs.lemmas.Bool.{false≢true}
 use Rattle.std.proofs.lemmas.Fmt.{decimal_digit}
-use Rattle.std.proofs.lemmas.List.{append_assoc, take_at, get_or_at}
+use Rattle.std.proofs.lemmas.List.{take_at, get_or_at}
 use Rattle.list_facts.specs.Bits.{bit_of}
 use Rattle.list_facts.proofs.BitLemmas.{xor_nothing}
 use Rattle.revc_base.specs.declared.place.Place.{Place}
@@ -19,11 +18,10 @@ use Rattle.revs_grammar.specs.Forms.{name_of}
 use Rattle.revs_grammar.specs.Productions.{in_front}
 use Rattle.revs_terms.specs.Trees as t
 use Rattle.revs_terms.specs.Trees.{Tree, trees}
-use Rattle.program_gen.specs.Adder as lines
 use Rattle.built_texts.specs.Pieces.{Piece, text_of, toks_of, AreGood}
 use Rattle.built_texts.specs.Meanings.{IsRun, of_bit, operand, no_operands}
 use Rattle.built_texts.proofs.WayLemmas.{turns}
-use Rattle.built_texts.proofs.PlaceLemmas.{good_word, good_sign, good_numbered}
+use Rattle.built_texts.proofs.PlaceLemmas.{lettered, good_word, good_sign, good_numbered, goods}
 use Rattle.built_texts.proofs.RunLemmas.{run_name, run_constant, run_xor, run_and, run_within}
 use Rattle.arith_templates.specs.declared.kind.Kind.TheVariants.{Sub}
 use Rattle.arith_templates.specs.Numbers.{bit, number}
@@ -32,12 +30,16 @@ use Rattle.arith_templates.specs.Meets.{IsDifference}
 use Rattle.arith_templates.specs.Texts as texts
 use Rattle.arith_templates.proofs.PlaceLemmas.{differences_subtract}
 use Rattle.arith_runs.specs.Computes.{SubtractorsSubtract}
-use Rattle.arith_runs.proofs.RipplePieces.{s, place_of, first_sum, sum_line, carry_line, sum_outputs}
+use Rattle.arith_runs.proofs.Pieces.{s, place_of}
+use Rattle.arith_runs.proofs.RippleTextLemmas.{good_place}
+use Rattle.arith_runs.proofs.RippleReadingLemmas.{bit_at, bound}
+use Rattle.arith_runs.proofs.StageLemmas.{bit_run}
+use Rattle.arith_runs.proofs.TwoNumberPieces.{first_sum, sum_line, carry_line}
 use Rattle.arith_runs.proofs.BorrowPieces.{borrow_function, first_borrow, subtractor}
-use Rattle.arith_runs.proofs.TextLemmas.{IsText, IsFine, goods, good_place}
-use Rattle.arith_runs.proofs.ReadingLemmas.{lettered, bit_at, Reads}
-use Rattle.arith_runs.proofs.RippleLemmas.{ripple, AreApart, other_letter, bit_runs}
-use Rattle.arith_runs.proofs.ProgramLemmas.{Works, ripple_computes}
+use Rattle.arith_runs.proofs.TwoNumberTextLemmas.{IsFineLine, IsFineFunction, two_text}
+use Rattle.arith_runs.proofs.TwoNumberReadingLemmas.{ReadsLine, ReadsFunction, function_item}
+use Rattle.arith_runs.proofs.TwoNumberLemmas.{AreApart, WorksFunction, WorksLine, two_rippled}
+use Rattle.arith_runs.proofs.TwoNumberProgramLemmas.{HasParams, two_computes}
 
 -- ---- spelling
 
@@ -52,38 +54,16 @@ first_text =
     let o : decimal 1 ≡ 49 ∷ [] = decimal_digit 1 (omega arith) in
     rw (z, o) refl
 
-difference_text : (i : ℕ) → texts.difference_line i ≡ text_of (sum_line subtractor i)
-unfolding texts.difference_line
-difference_text i = refl
-
 pub borrow_text : (i : ℕ) → texts.borrow_line i ≡ text_of (carry_line subtractor i)
 unfolding texts.borrow_line
 borrow_text i = refl
 
-outputs_text : (i count : ℕ) → flat_map (texts.output (codes "d")) (range_with_len i count) ≡ text_of (sum_outputs subtractor i count)
-unfolding texts.output
-outputs_text i zero = refl
-outputs_text i (suc count) =
-    ap (λ (bs : List ℕ). 100 ∷ ((decimal i ++ 59 ∷ 32 ∷ []) ++ bs)) (outputs_text (i + 1) count)
-    ∙ ap (λ (bs : List ℕ). 100 ∷ bs) (append_assoc (decimal i) (59 ∷ 32 ∷ []) (text_of (sum_outputs subtractor (i + 1) count)))
+place_text : (i : ℕ) → texts.difference_place i ≡ text_of (sum_line subtractor i) ++ text_of (carry_line subtractor i)
+unfolding texts.difference_line texts.borrow_line
+place_text i = refl
 
-is_text : IsText subtractor texts.subtractor_text
-unfolding texts.outputs
-is_text = record {
-  function_bytes = texts.borrow_function;
-  first_bytes = texts.first_difference ++ texts.first_borrow;
-  place = texts.difference_place;
-  outs = texts.outputs (codes "d");
-  text_is = λ n. refl;
-  function_is = function_text;
-  first_is = first_text;
-  place_is = λ i. ap (λ (bs : List ℕ). bs ++ texts.borrow_line i) (difference_text i)
-      ∙ ap (λ (bs : List ℕ). text_of (sum_line subtractor i) ++ bs) (borrow_text i);
-  outs_are = λ n. ap (λ (bs : List ℕ). lines.line (codes "reg [" ∷ bs ∷ codes "c" ∷ decimal n ∷ codes "]" ∷ [])) (outputs_text 0 n);
-}
-
-good_first : (ps : List Piece) → AreGood (toks_of ps) → AreGood (toks_of (first_borrow ++ ps))
-good_first ps h = (
+good_borrow : (ps : List Piece) → AreGood (toks_of ps) → AreGood (toks_of (first_borrow ++ ps))
+good_borrow ps h = (
   good_word words.Let,
   (
     good_numbered 99 1 refl (omega arith),
@@ -109,15 +89,22 @@ good_first ps h = (
   ),
 )
 
-pub is_fine : IsFine subtractor
+pub is_fine : IsFineLine subtractor
 is_fine = record {
   letter_is = refl;
-  name_is = refl;
+  first_is = refl;
+  second_is = refl;
+  function_is = refl;
+  fits_line = λ ps. refl;
+  good_line = good_borrow;
+  short_line = omega arith;
+}
+
+pub function_is_fine : IsFineFunction borrow_function
+function_is_fine = record {
   fits_function = λ ps. refl;
-  fits_first = λ ps. refl;
   good_function = λ ps h. goods (toks_of borrow_function) (toks_of ps) refl h;
-  good_first = good_first;
-  short = omega arith;
+  short_function = omega arith;
 }
 
 -- ---- reading
@@ -132,33 +119,36 @@ abbrev borrow_value : (ℕ → Place) → Tree
 borrow_value p = t.ands (trees (
     t.xors (trees (t.bool true (p 4) ∷ bit_at (codes "a") 0 (p 6) (p 7) (p 9) ∷ [])) ∷ bit_at (codes "b") 0 (p 13) (p 14) (p 16) ∷ []))
 
-abbrev pub reads : Reads subtractor
-reads = record {
+abbrev pub function_reads : ReadsFunction (codes "lend") borrow_function
+function_reads = record {
   function_body = borrow_body;
+  function_turns = λ ss p. turns (λ vs. (in_front (function_item (codes "lend") borrow_body p) vs.0, vs.1)) refl;
+}
+
+abbrev pub reads : ReadsLine subtractor 2
+reads = record {
   first_value = borrow_value;
-  function_turns = λ ss p. turns (λ vs. (
-    in_front (t.bind (name_of (codes "lend") (p 1))
-        (t.function (name_of (codes "x") (p 2) ∷ name_of (codes "y") (p 3) ∷ name_of (codes "c") (p 4) ∷ []) (borrow_body p) (p 2))) vs.0,
-    vs.1,
-  )) refl;
-  first_turns = λ ss p. turns (λ vs. (in_front (t.bind (name_of (lettered 99 1) (p 1)) (borrow_value p)) vs.0, vs.1)) refl;
+  first_turns = λ ss p. turns (λ vs. (in_front (bound (lettered 99 1) borrow_value p) vs.0, vs.1)) refl;
 }
 
 -- ---- what runs
 
 pub apart : AreApart subtractor
 apart = record {
-  not_a = λ e. omega arith;
-  not_b = λ e. omega arith;
-  not_c = λ e. omega arith;
-  name_a = λ e. cc;
-  name_b = λ e. cc;
-  name_letter = λ k few. other_letter 108 100 (codes "end") (decimal k) (λ e. omega arith);
-  name_next = λ k few. other_letter 108 99 (codes "end") (decimal k) (λ e. omega arith);
+  first_function = refl;
+  second_function = refl;
+  first_letter = λ i. refl;
+  second_letter = λ i. refl;
+  function_letter = λ i. refl;
+  first_carry = λ i. refl;
+  second_carry = λ i. refl;
+  function_carry = λ i few. refl;
+  letter_carry = λ k i. refl;
+  carry_letter = λ k i. refl;
 }
 
-pub works : Works subtractor reads borrow
-works = record {
+pub function_works : WorksFunction (codes "lend") borrow_function function_reads borrow
+function_works = record {
   body_works = λ d p x y c own. run_within (run_xor
       (run_and (run_xor (run_constant true (p 8)) (operand (run_name (name_of (codes "x") (p 10)) refl) no_operands))
       (operand (run_name (name_of (codes "y") (p 13)) refl) no_operands))
@@ -166,15 +156,19 @@ works = record {
       (run_xor (run_constant true (p 20)) (operand (run_name (name_of (codes "x") (p 22)) refl) (operand (run_name (name_of (codes "y") (p 24)) refl)
       no_operands))) no_operands)) no_operands))
       (omega arith);
-  first_works = λ d sc p first second x y a b got gets. subst (λ (z : Bool). IsRun (suc (suc (suc (suc (suc d))))) sc (borrow_value p) (of_bit z) 10)
+}
+
+pub works : WorksLine subtractor 2 reads borrow
+works = record {
+  first_works = λ d sc p us vs x y a b got gets. subst (λ (z : Bool). IsRun (suc (suc (suc (suc (suc d))))) sc (borrow_value p) (of_bit z) 10)
       (sym (xor_nothing (xor true x && y)))
-      (run_within (run_and (run_xor (run_constant true (p 4)) (operand (bit_runs d subtractor apart borrow (codes "a") 0 (p 6) (p 7) (p 9) a got (omega arith))
-      no_operands)) (operand (bit_runs d subtractor apart borrow (codes "b") 0 (p 13) (p 14) (p 16) b gets (omega arith)) no_operands)) (omega arith));
+      (run_within (run_and (run_xor (run_constant true (p 4)) (operand (bit_run 0 (p 6) (p 7) (p 9) a got (omega arith))
+      no_operands)) (operand (bit_run 0 (p 13) (p 14) (p 16) b gets (omega arith)) no_operands)) (omega arith));
 }
 
 -- ---- differences
 
-differences_ripple : (c : Bool) (xs ys : List Bool) → length xs ≡ length ys → ripple borrow c xs ys ≡ differences c xs ys ++ last_borrow c xs ys ∷ []
+differences_ripple : (c : Bool) (xs ys : List Bool) → length xs ≡ length ys → two_rippled borrow c xs ys ≡ differences c xs ys ++ last_borrow c xs ys ∷ []
 differences_ripple c [] ys e = refl
 differences_ripple c (x ∷ xs) [] e = absurd (omega arith)
 differences_ripple c (x ∷ xs) (y ∷ ys) e =
@@ -193,13 +187,14 @@ module _ (value first second power : ℕ) where
 pub is_less : (first second : ℕ) (b : Bool) → (IsTrue b ↔ (first < second + 0)) → IsTrue b ↔ (first < second)
 is_less first second b h = (λ is. let low = h.0 is in omega arith, λ low. h.1 (omega arith))
 
-is_difference : (n : ℕ) (xs ys : List Bool) → length xs ≡ n → length ys ≡ n → IsDifference n (number xs) (number ys) (ripple borrow false xs ys)
+is_difference : (n : ℕ) (xs ys : List Bool) → length xs ≡ n → length ys ≡ n → IsDifference n (number xs) (number ys) (two_rippled borrow false xs ys)
 is_difference n xs ys one two =
     let h = differences_subtract false xs ys (one ∙ sym two) in
     let b = last_borrow false xs ys in
     let bits = differences_ripple false xs ys (one ∙ sym two) in
-    let front : take n (ripple borrow false xs ys) ≡ differences false xs ys = ap (take n) bits ∙ take_at (differences false xs ys) (b ∷ []) n (h.size ∙ one) in
-    let last : bit_of (ripple borrow false xs ys) n ≡ b =
+    let front : take n (two_rippled borrow false xs ys) ≡ differences false xs ys =
+    ap (take n) bits ∙ take_at (differences false xs ys) (b ∷ []) n (h.size ∙ one) in
+    let last : bit_of (two_rippled borrow false xs ys) n ≡ b =
     ap (λ (v : List Bool). bit_of v n) bits ∙ get_or_at (differences false xs ys) b [] false n (h.size ∙ one) in
     let power : 2 ^ length xs ≡ 2 ^ n = ap (λ (k : ℕ). 2 ^ k) one in
     let value = subst (λ (k : ℕ). number (differences false xs ys) + number ys + 0 ≡ number xs + k * bit b) power h.value in
@@ -210,8 +205,14 @@ is_difference n xs ys one two =
       below = λ low. ap number front ∙ below (number (differences false xs ys)) (number xs) (number ys) (2 ^ n) b value h.less low;
     }
 
+pub has_params : HasParams subtractor
+has_params = record { first_in = λ us vs. refl; second_in = λ us vs. refl }
+
 pub subtractors_subtract : SubtractorsSubtract
 subtractors_subtract zero by low high = absurd (omega arith)
 subtractors_subtract (suc m) by low high =
-    ripple_computes subtractor reads apart borrow works is_fine texts.subtractor_text is_text m (omega arith) Sub by refl refl
+    two_computes subtractor apart has_params borrow_function function_reads borrow function_works reads works is_fine function_is_fine m (omega arith) Sub by
+    (texts.subtractor_text (suc m))
+    (two_text subtractor is_fine borrow_function function_is_fine texts.borrow_function (texts.first_difference ++ texts.first_borrow) texts.difference_place
+    function_text (record { first_is = first_text; place_is = place_text }) m) refl refl
     (λ input one two. is_difference (suc m) (take (suc m) input) (drop (suc m) input) one two)

@@ -1,11 +1,12 @@
 -- Tokens of built texts by number, and tokens that are good.
-use Rattle.std.proofs.Common.{get_or, ◌≡◌, ℕ, zero, suc, ◌*◌, ◌≤◌, ◌<◌, true, false, List, [], ◌∷◌, ◌++◌, length, None, refl, ap, sym, ◌∙◌, arith}
+use Rattle.std.proofs.Common.{get_or, ◌≡◌, ℕ, zero, suc, ◌*◌, ◌≤◌, ◌<◌, Bool, true, false, ◌&&◌, leb, List, [], ◌∷◌, ◌++◌, length, Option, Some, None}
+use Rattle.std.proofs.Common.{refl, ap, sym, ◌∙◌, arith}
 use Rattle.std.specs.Prelude.{decimal}
 use Rattle.std.specs.Char.{is_ascii_digit}
 use Rattle.std.specs.List.{list_all}
-use Rattle.std.proofs.lemmas.Bool.{and_from, and_parts, or_right, false≢true}
+use Rattle.std.proofs.lemmas.Bool.{and_from, and_parts, or_right, leb-true, false≢true}
 use Rattle.std.proofs.lemmas.Fmt.{decimal_is_IsNumeral, length-decimal-le}
-use Rattle.std.proofs.lemmas.List.{length-append}
+use Rattle.std.proofs.lemmas.List.{append_assoc, length-append}
 use Rattle.revc_base.specs.declared.place.Place.{Place}
 use Rattle.text_places.specs.Bytes.{is_letter, is_name_byte}
 use Rattle.text_places.specs.Places.{place_behind, place_after}
@@ -42,6 +43,17 @@ pub placed-append : (p : ℕ → Place) (ts us : List Tok) → placed p (ts ++ u
 placed-append p [] us = refl
 placed-append p (t ∷ ts) us = ap (λ (vs : List Token). record { tok = t; at = p 0 } ∷ vs) (placed-append (λ k. p (suc k)) ts us)
 
+-- pieces behind other pieces
+pub text_of-append : (ps qs : List Piece) → text_of (ps ++ qs) ≡ text_of ps ++ text_of qs
+text_of-append [] qs = refl
+text_of-append (gap b ∷ ps) qs = ap (λ (bs : List ℕ). b ∷ bs) (text_of-append ps qs)
+text_of-append (tok t ∷ ps) qs = ap (λ (bs : List ℕ). spelling t ++ bs) (text_of-append ps qs) ∙ sym (append_assoc (spelling t) (text_of ps) (text_of qs))
+
+pub toks_of-append : (ps qs : List Piece) → toks_of (ps ++ qs) ≡ toks_of ps ++ toks_of qs
+toks_of-append [] qs = refl
+toks_of-append (gap b ∷ ps) qs = toks_of-append ps qs
+toks_of-append (tok t ∷ ps) qs = ap (λ (ts : List Tok). t ∷ ts) (toks_of-append ps qs)
+
 -- ---- good tokens
 
 pub good_word : (w : Word) → IsGood (toks.Word w)
@@ -59,9 +71,39 @@ good_number n le =
 pub good_name : (text : List ℕ) → is_identifier text ≡ true → word_of text ≡ None → length text ≤ 64 → IsGood (toks.Name text)
 good_name text e none le = record { spells = (e, word_of-none text none, refl); within = le }
 
+-- tokens of which it is computed that they are good
+abbrev has_none : Option Word → Bool
+has_none (Some w) = false
+has_none None = true
+
+none_of : (o : Option Word) → has_none o ≡ true → o ≡ None
+none_of (Some w) e = absurd (false≢true e)
+none_of None e = refl
+
+abbrev pub is_plain : Tok → Bool
+is_plain (toks.Name text) = is_identifier text && (has_none (word_of text) && leb (length text) 64)
+is_plain (toks.Word w) = true
+is_plain (toks.Sign s) = true
+is_plain (toks.Number n) = false
+is_plain toks.End = false
+
+pub plain_good : (t : Tok) → is_plain t ≡ true → IsGood t
+plain_good (toks.Name text) e =
+    let h = and_parts (is_identifier text) (has_none (word_of text) && leb (length text) 64) e in
+    let k = and_parts (has_none (word_of text)) (leb (length text) 64) h.1 in
+    good_name text h.0 (none_of (word_of text) k.0) (leb-true (length text) 64 k.1)
+plain_good (toks.Word w) e = good_word w
+plain_good (toks.Sign s) e = good_sign s
+plain_good (toks.Number n) e = absurd (false≢true e)
+plain_good toks.End e = absurd (false≢true e)
+
+pub goods : (ts us : List Tok) → list_all is_plain ts ≡ true → AreGood us → AreGood (ts ++ us)
+goods [] us e h = h
+goods (t ∷ ts) us e h = let k = and_parts (is_plain t) (list_all is_plain ts) e in (plain_good t k.0, goods ts us k.1 h)
+
 -- a letter with a number behind it
-abbrev pub numbered : ℕ → ℕ → List ℕ
-numbered b i = b ∷ decimal i
+abbrev pub lettered : ℕ → ℕ → List ℕ
+lettered b i = b ∷ decimal i
 
 digits_in_names : (ds : List ℕ) → list_all is_ascii_digit ds ≡ true → list_all is_name_byte ds ≡ true
 digits_in_names [] e = refl
@@ -77,7 +119,7 @@ no_second_digit : (w : Word) → is_ascii_digit (get_or (word_text w) 1 0) ≡ f
 no_second_digit words.Main = refl
 no_second_digit _ = refl
 
-pub good_numbered : (b i : ℕ) → is_letter b ≡ true → i ≤ 9999 → IsGood (toks.Name (numbered b i))
+pub good_numbered : (b i : ℕ) → is_letter b ≡ true → i ≤ 9999 → IsGood (toks.Name (lettered b i))
 good_numbered b i letter le =
     let h = decimal_is_IsNumeral i (omega arith) in
     let digits = all_digits (decimal i) h.0.1 in

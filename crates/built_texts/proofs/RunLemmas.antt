@@ -27,7 +27,8 @@ use Rattle.revs_terms.specs.Running.{apply_all, chain_of, chain, written, run_of
 use Rattle.revs_terms.specs.Runs.{real_bits}
 use Rattle.revs_terms.specs.Scopes.{Scoped, unbound, scoped, and_then, nearer, scoped_tree, scoped_trees, scoped_items}
 use Rattle.revs_grammar.specs.Forms.{Numeral}
-use Rattle.revs_grammar.specs.Productions.{plus, digits_of}
+use Rattle.revs_terms.specs.Numbers.{plus}
+use Rattle.revs_grammar.specs.Productions.{digits_of}
 use Rattle.built_texts.specs.Forms.{num}
 use Rattle.built_texts.specs.Meanings.{Meaning, Scope, of_bit, of_bits, of_function, no_names, named}
 use Rattle.built_texts.specs.Meanings.{names_in, meaning_of, length_of, Holds, AreHeld, Agrees, AgreesIn}

@@ -1,5 +1,7 @@
 -- What is computed of the table is what tokens lead to.
-use Rattle.std.proofs.Common.{◌≡◌, ℕ, zero, suc, Bool, true, false, ◌&&◌, Option, Some, None, List, [], ◌∷◌, ◌++◌, refl, ap, ◌∙◌, subst, inl, inr}
+use Rattle.std.proofs.Common.{◌≡◌, ℕ, zero, suc, Bool, true, false, ◌&&◌, Option, Some, None, List, [], ◌∷◌, ◌++◌, length, refl, ap, sym, ◌∙◌, subst}
+use Rattle.std.proofs.Common.{inl, inr}
+use Rattle.revc_base.specs.declared.place.Place.{Place}
 use Rattle.std.specs.Prelude.{◌==◌, IfSome}
 use Rattle.std.proofs.lemmas.Bool.{and_parts, eqb-true, cases_Bool, false≢true, cond-true, cond-false}
 use Rattle.revs_lexer.specs.declared.token.Tok.{Tok}
@@ -11,10 +13,15 @@ use Rattle.revs_grammar.specs.Forms.{Form, in_profile, Val, level, Piece, one, k
 use Rattle.revs_grammar.specs.Forms.{sub, Builds, Production, IsOneOf, line}
 use Rattle.revs_grammar.specs.Productions.{productions}
 use Rattle.revs_grammar.specs.Sentences.{Symbol, token, kept_token, opening_token, form, symbols, done, read, keep, open_level, by_line, Vals, value}
-use Rattle.revs_grammar.specs.Sentences.{few_levels}
+use Rattle.revs_grammar.specs.Sentences.{few_levels, at_start, IsSentenceOf}
+use Rattle.revs_terms.specs.declared.program.Param.{Param}
+use Rattle.revs_terms.specs.Trees.{Tree}
 use Rattle.revs_grammar.proofs.LeadsLemmas.{leads-then, folded, value-then}
 use Rattle.built_texts.specs.Ways.{Way, Turns, is_of, way_if, dropped, kept_way, opened, numeral_way, way_line, way_lines, way_form, empty_line}
-use Rattle.built_texts.specs.Ways.{left_out, way_one, way, way_end, WaysTurn, EndsTurn}
+use Rattle.built_texts.specs.Ways.{left_out, way_one, way, way_end, WaysTurn, EndsTurn, placed, shifted}
+use Rattle.built_texts.specs.Pieces as built
+use Rattle.built_texts.specs.Pieces.{toks_of}
+use Rattle.built_texts.proofs.PlaceLemmas.{placed-append, toks_of-append}
 
 of_code : (m : Mark) (t : Tok) → is_of m t ≡ true → code t ≡ mark_code m
 of_code m (toks.Number n) e = absurd (false≢true e)
@@ -127,6 +134,23 @@ pub turns-then : {ss mid left : List Symbol} {ts us : List Token} {f : Vals mid 
 turns-then {f = f} {g = g} h k = record {
   leads = leads-then h.leads k.leads;
   turned = λ vs. value-then h.leads k.leads vs ∙ ap (value h.leads) (k.turned vs) ∙ h.turned (g vs);
+}
+
+-- one built text behind the other
+pub built_then : {ss mid left : List Symbol} {g : Vals mid → Vals ss} {h : Vals left → Vals mid} (xs ys : List built.Piece) (p : ℕ → Place)
+    → Turns ss (placed p (toks_of xs)) mid g → Turns mid (placed (shifted (length (toks_of xs)) p) (toks_of ys)) left h
+    → Turns ss (placed p (toks_of (xs ++ ys))) left (λ vs. g (h vs))
+built_then {ss} {mid} {left} {g} {h} xs ys p a b =
+    subst (λ (ts : List Token). Turns ss ts left (λ vs. g (h vs)))
+    (sym (ap (placed p) (toks_of-append xs ys) ∙ placed-append p (toks_of xs) (toks_of ys))) (turns-then a b)
+
+-- tokens that lead over a program are the sentence of it
+pub is_sentence : {ts : List Token} {params : List Param} {body : Tree} → Turns at_start ts [] (λ _. (record { params = params; body = body }, tt))
+    → IsSentenceOf few_levels ts params body
+is_sentence h = record {
+  reading = h.leads;
+  params_are = ap (λ (v : Vals at_start). v.0.params) (h.turned tt);
+  body_is = ap (λ (v : Vals at_start). v.0.body) (h.turned tt);
 }
 
 -- ---- all tokens

@@ -9,7 +9,7 @@ use Rattle.revs_terms.specs.declared.term.Step.{Step}
 use Rattle.revs_terms.specs.declared.term.Unit.TheVariants as units
 use Rattle.revs_terms.specs.Scopes.{scoped, nearer, scoped_tree}
 use Rattle.revs_terms.specs.Trees.{Tree, ItemTree, trees, item_trees, used, bool, reg, block, function, parts, apply, append, ands, xors}
-use Rattle.revs_grammar.specs.Productions.{plus}
+use Rattle.revs_terms.specs.Numbers.{plus}
 use Rattle.built_texts.specs.Meanings.{Meaning, Scope, of_bit, of_bits, of_function, names_in, meaning_of, IsRun, AreRuns, chained, Applies, RunsBody}
 
 -- a number as parts have it: one step of digits

@@ -7,8 +7,11 @@ use Rattle.std.specs.List.{list_all}
 use Rattle.std.proofs.lemmas.Bool.{false_from_ne_true, false≢true}
 use Rattle.std.proofs.lemmas.Fmt.{decimal_injective, decimal_is_IsNumeral}
 use Rattle.std.proofs.lemmas.Slice.Eq.{bytes_eq-Decides}
+use Rattle.std.proofs.lemmas.Option.{get_or_from_slice_get}
+use Rattle.list_facts.specs.Bits.{bit_of}
 use Rattle.text_places.proofs.DigitLemmas.{all_digits}
 use Rattle.built_texts.specs.Meanings.{Meaning, Scope, named, meaning_of}
+use Rattle.built_texts.proofs.PlaceLemmas.{lettered}
 
 -- ---- bytes of names
 
@@ -32,6 +35,9 @@ left_get [] (suc i) x xs is = cc
 left_get (b ∷ bs) zero x xs is = cc
 left_get (b ∷ bs) (suc i) x xs is = left_get bs i x xs is
 
+pub left_bit : (bs : List Bool) (i : ℕ) (x : Bool) (xs : List Bool) → drop i bs ≡ x ∷ xs → bit_of bs i ≡ x
+left_bit bs i x xs is = get_or_from_slice_get bs i x false (left_get bs i x xs is)
+
 pub left_drop : (bs : List Bool) (i : ℕ) (x : Bool) (xs : List Bool) → drop i bs ≡ x ∷ xs → drop (i + 1) bs ≡ xs
 left_drop [] zero x xs is = cc
 left_drop [] (suc i) x xs is = cc
@@ -49,10 +55,6 @@ got_more (m ∷ made) s (suc k) x is =
     elim (got_more made s k x is) [ inl there ↦ inl there | inr last ↦ inr (ap suc last.0, last.1) ]
 
 -- ---- names in scope
-
--- a letter with a number behind it
-abbrev pub lettered : ℕ → ℕ → List ℕ
-lettered letter i = letter ∷ decimal i
 
 -- a name past a nearer one
 pub past : {m : Meaning} (text name : List ℕ) (n : Meaning) (sc : Scope) → bytes_eq text name ≡ false → meaning_of text sc ≡ Some m

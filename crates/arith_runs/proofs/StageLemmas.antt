@@ -1,4 +1,4 @@
--- Lines of a ripple: what is known in front of each place, and the outputs.
+-- What is known in front of each place of a ripple, and the outputs.
 use Rattle.std.proofs.Common.{◌≡◌, ℕ, zero, suc, ◌+◌, ◌<◌, ◌≤◌, Bool, List, [], ◌∷◌, ◌++◌, length, drop, Some, ap, sym, subst, ◌∙◌, arith, inl, inr}
 use Rattle.std.specs.Prelude.{slice_get}
 use Rattle.std.proofs.lemmas.List.{length-append}
@@ -9,8 +9,9 @@ use Rattle.revs_terms.specs.Trees.{Tree}
 use Rattle.built_texts.specs.Meanings.{Meaning, Scope, of_bit, of_bits, named, meaning_of, IsRun, AreRuns, operand, RunsBody}
 use Rattle.built_texts.specs.Ways.{shifted}
 use Rattle.built_texts.proofs.RunLemmas.{run_name, run_index}
-use Rattle.arith_increments.proofs.NameLemmas.{lettered, other_lettered, left_get, left_drop, got_more, past, nearest}
-use Rattle.arith_increments.proofs.PieceLemmas.{bit_at, output_terms}
+use Rattle.built_texts.proofs.PlaceLemmas.{lettered}
+use Rattle.arith_runs.proofs.NameLemmas.{other_lettered, left_get, left_drop, got_more, past, nearest}
+use Rattle.arith_runs.proofs.RippleReadingLemmas.{bit_at, output_terms}
 
 pub bit_run : {d : ℕ} {sc : Scope} {text : List ℕ} {bs : List Bool} {x : Bool} (i : ℕ) (at dot digits : Place)
     → meaning_of text sc ≡ Some (of_bits bs) → slice_get bs i ≡ Some x → i ≤ 9999
