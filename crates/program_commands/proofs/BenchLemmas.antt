@@ -1,17 +1,20 @@
--- `gen` gives a text always, and `bench` the sizes of what `compile` gives for that text, with the causes of `compile`.
-use Rattle.std.proofs.Common.{◌≡◌, List, ℕ, Result, Ok, Err, inl, refl, sym, subst}
+-- `gen` gives a text always, and `bench` the sizes of what `compile` gives for that text, which only a budget stops.
+use Rattle.std.proofs.Common.{◌≡◌, List, ℕ, Result, Ok, Err, refl, sym, subst}
 use Rattle.std.specs.Result.{IfOk, IfErr}
 use Rattle.command_answers.specs.declared.fault.Fault.{Fault}
 use Rattle.command_answers.specs.declared.fault.Fault.TheVariants as faults
-use Rattle.program_commands.specs.Outcomes.{IsCompileFault}
+use Rattle.program_commands.specs.Outcomes.{IsAdderSize, IsBudgetFault, IsCompileFault}
+use Rattle.arith_runs.proofs.AdderLemmas.{adders_add}
+use Rattle.arith_runs.specs.Computes.{Computes}
+use Rattle.arith_templates.specs.declared.kind.Kind.TheVariants.{Add}
 use Rattle.command_answers.specs.Outcomes.{HasOneOutcome}
-use Rattle.gate_split.specs.Plans.{LaidView, roles_of}
+use Rattle.circuit_plans.specs.Plans.{LaidView, roles_of}
 use Rattle.program_commands.specs.declared.bench.BenchSizes.{BenchSizes}
 use Rattle.program_commands.specs.Bench as bench
 use Rattle.program_commands.specs.Bench.{AreSizesOf, IsBenched, bench_text}
 use Rattle.program_commands.specs.Gen as gen
 use Rattle.program_commands.specs.inside.Plans.{IsPlannedFor}
-use Rattle.program_commands.proofs.CompileLemmas.{among, keeps_free, one_cause, planned_or_caused}
+use Rattle.program_commands.proofs.CompileLemmas.{among_budgets, budgets_alone, fits_free, no_exact_budget}
 use Rattle.program_gen.specs.Adder.{adder_text}
 use Rattle.revs_tape.specs.Tapes.{TapeView}
 use Rattle.revc_words.specs.Words.{OrderView}
@@ -27,13 +30,24 @@ gen_outcome = record {
 
 pub bench_outcome : HasOneOutcome bench.promise
 bench_outcome = record {
-  never_both = λ order text written fault given cause exact.
-      planned_or_caused order (adder_text order.number) given.tape fault given.settled cause exact;
-  one_cause = λ order text fault exact cause other is. inl (one_cause order (adder_text order.number) fault exact cause other is);
-  free = λ order text fault served cause. keeps_free order (adder_text order.number) fault served cause;
+  never_both = λ order text written fault given cause exact. no_exact_budget order (adder_text order.number) fault cause exact;
+  one_cause = λ order text fault exact cause other is. absurd (no_exact_budget order (adder_text order.number) exact other is);
+  free = λ order text fault served cause. fits_free order (adder_text order.number) fault served cause;
   long = tt;
-  among = λ order text fault cause. among order (adder_text order.number) fault cause;
+  among = λ order text fault cause. among_budgets order (adder_text order.number) fault cause;
 }
+
+-- the text of the adder adds, so it is well formed, and makes no claim
+pub adds : (number : ℕ) → IsAdderSize number → Computes Add number 0 (adder_text number)
+adds number size = adders_add number 0 size.some size.few
+
+-- and so only a budget stops it
+pub bench_faults : {T : Type 0} (order : OrderView) (r : Result T Fault) → IsAdderSize order.number
+    → IfErr r (IsCompileFault order (adder_text order.number)) → IfErr r (IsBudgetFault order (adder_text order.number))
+bench_faults order (Ok x) size h = tt
+bench_faults order (Err fault) size h =
+    let text = adds order.number size in
+    budgets_alone order (adder_text order.number) text.program fault text.formed text.no_claims h
 
 -- the sizes of a plan of the adder's text are what `bench` gives
 pub benched : {E : Type 0} (order : OrderView) (tape : TapeView) (laid : LaidView) (r : Result BenchSizes E)

@@ -7,4 +7,3 @@ pub mod FormedLemmas
 pub mod SettlingLemmas
 pub mod CheckLemmas
 pub mod BenchLemmas
-pub mod AdderLengthLemmas

@@ -8,12 +8,13 @@ use Rattle.claim_check.specs.Budgets.{Measures}
 use Rattle.claim_check.specs.Measures.{AreMeasuresOf, IsNoLarger, IsWithin}
 use Rattle.claim_check.specs.Settled.{SettledView, IsSettledOf, settled_outputs}
 use Rattle.claim_check.proofs.BudgetLemmas.{settled_graphs_are_within}
-use Rattle.gate_split.specs.declared.plan.TheConstants.{MOST_LINES, MOST_GATES}
-use Rattle.gate_split.specs.declared.choice.How.{How}
-use Rattle.gate_split.specs.Plans.{BudgetView, LaidView, PutsOutputs, roles_of, lines_in}
+use Rattle.circuit_plans.specs.declared.plan.TheConstants.{MOST_LINES, MOST_GATES}
+use Rattle.circuit_plans.specs.declared.choice.How.{How}
+use Rattle.circuit_plans.specs.Plans.{BudgetView, LaidView, PutsOutputs, roles_of, lines_in}
 use Rattle.mct_circuit.specs.Gates.{AreGatesOn, AreNarrow}
 use Rattle.qasm_format.proofs.MeaningLemmas as qasm
 use Rattle.real_format.proofs.MeaningLemmas as real
+use Rattle.plan_choice.specs.Choices.{IsChosen, IsLean}
 use Rattle.program_commands.specs.Outcomes.{IsCompileFault, IsSettlingFault, IsWritable, file_of}
 use Rattle.revc_words.specs.declared.order.Format.{Format}
 use Rattle.revc_words.specs.declared.order.Format.TheVariants.{Real, Qasm}
@@ -26,7 +27,7 @@ use Rattle.revs_terms.proofs.TapeLemmas.{tape_gives_output}
 use Rattle.command_answers.specs.declared.fault.Fault.{Fault}
 use Rattle.command_answers.specs.declared.fault.Fault.TheVariants as faults
 use Rattle.program_commands.specs.Clean.{ComputesOn, MeansIn}
-use Rattle.program_commands.specs.Compile.{IsCompiled, budget_of, least_lines}
+use Rattle.program_commands.specs.Compile.{HasFewToffoliGates, IsCompiled, budget_of, least_lines}
 use Rattle.program_commands.specs.Settling.{LeavesTape, LeavesSettled, ForTexts, IsSettledWithin}
 use Rattle.program_commands.specs.inside.Plans.{IsCleanPlan, IsPlanOf, IsPlannedFor, IsPlanningFault}
 use Rattle.program_commands.proofs.FormedLemmas.{some_output}
@@ -62,6 +63,15 @@ writable laid p b c =
     let most_gates = c.most_gates in
     record { some = c.some; few = omega arith; few_gates = omega arith }
 
+-- no more ANDs stand in a settled graph than the run of its program writes
+few_toffoli_gates : (order : OrderView) (laid : LaidView) (tape : TapeView) (s : SettledView) → IsSettledOf tape s → IsNoLarger tape s
+    → IsChosen order.plan s (budget_of order) laid → HasFewToffoliGates order tape laid.circuit.gates
+few_toffoli_gates order laid tape s is no_larger chosen = record {
+  few = λ lean m are fit.
+      let plan : IsLean s (budget_of order) laid = subst (λ (how : How). IsChosen how s (budget_of order) laid) lean chosen in
+      omega (arith, plan.few m (settled_graphs_are_within tape s m is no_larger are) fit, no_larger.ands);
+}
+
 planned : (order : OrderView) (text : List ℕ) (laid : LaidView) (tape : TapeView) (s : SettledView) (l : LeavesSettled text order.nodes tape)
     → IsSettledWithin tape order.nodes s → IsPlanOf order.plan s (budget_of order) laid → IsCleanPlan laid l.left.program (budget_of order)
     → IsPlannedFor order text tape laid
@@ -89,6 +99,7 @@ planned order text laid tape s l settled plan c =
         lines_are = plan.sum_of;
         gates_are = refl;
         chosen = plan.chosen;
+        few_toffoli_gates = few_toffoli_gates order laid tape s settled.of_tape settled.no_larger plan.chosen;
       };
       can = writable laid l.left.program (budget_of order) c;
       sum_of = plan.sum_of;

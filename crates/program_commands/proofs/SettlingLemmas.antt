@@ -8,6 +8,7 @@ use Rattle.revc_base.specs.declared.place.Place.{Place}
 use Rattle.revs_tape.specs.declared.tape.Claim.{Claim}
 use Rattle.revs_tape.specs.Tapes.{TapeView}
 use Rattle.revs_parser.proofs.OneTextLemmas.{one_formed}
+use Rattle.revs_parser.specs.WellFormed.{IsWellFormed}
 use Rattle.revs_terms.proofs.TapeLemmas.{one_tape_at_most}
 use Rattle.revs_terms.specs.Runs.{IsTapeOf}
 use Rattle.revs_terms.specs.Views.{ProgramView}
@@ -130,6 +131,24 @@ breaks_inside tape nodes before bits b = is_inside tape.claims before b.claim b.
 
 pub passes_inside : (tape : TapeView) (nodes before : ℕ) → PassesAt tape nodes before → before < length tape.claims
 passes_inside tape nodes before p = is_inside tape.claims before p.claim p.is_claim
+
+-- a text whose program makes no claim leaves a tape without claims
+no_claim : (text : List ℕ) (p : ProgramView) (tape : TapeView) (before : ℕ) → IsWellFormed text p
+    → ((t : TapeView) → IsTapeOf p.params p.body t → t.claims ≡ []) → LeavesTape text tape → before < length tape.claims → ⊥
+no_claim text p tape before formed none left inside =
+    let same : left.program ≡ p = one_formed text left.program p left.formed formed in
+    let is : length tape.claims ≡ 0 = ap length (none tape (subst (λ (q : ProgramView). IsTapeOf q.params q.body tape) same left.tape_of)) in
+    omega (arith, inside, is)
+
+-- and nothing stops it
+pub never_stopped : (text : List ℕ) (nodes : ℕ) (p : ProgramView) (fault : Fault) → IsWellFormed text p
+    → ((t : TapeView) → IsTapeOf p.params p.body t → t.claims ≡ []) → StopsSettling text nodes fault → ⊥
+never_stopped text nodes p (faults.Refused refusal) formed none h = never_refused text p refusal formed h
+never_stopped text nodes p (faults.Claim number at bits) formed none h =
+    no_claim text p h.tape h.before formed none h.left (breaks_inside h.tape nodes h.before bits h.breaks)
+never_stopped text nodes p (faults.Diagram number at limit) formed none h =
+    no_claim text p h.0.tape h.0.before formed none h.0.left (passes_inside h.0.tape nodes h.0.before h.0.passes)
+never_stopped text nodes p fault formed none h = h
 
 pub broken_stops : (tape : TapeView) (nodes before : ℕ) (bits : List Bool) (fault : Fault) → BreaksOn tape nodes before bits
     → IfSome (slice_get tape.claims before) (λ c. fault ≡ faults.Claim (before + 1) c.at bits) → ForTexts tape (λ text. IsSettlingFault text nodes fault)

@@ -3,14 +3,13 @@ use Rattle.std.specs.Prelude.{◌≡◌, ℕ, ◌≤◌, List, ◌++◌, length,
 use Rattle.command_answers.specs.Outcomes.{Promise, IsNoBudget, IsNoFault}
 use Rattle.command_answers.specs.declared.fault.Fault.{Fault}
 use Rattle.command_answers.specs.Lines.{number_line}
-use Rattle.gate_split.specs.declared.roles.Roles.{Roles}
-use Rattle.gate_split.specs.Plans.{lines_in}
+use Rattle.circuit_plans.specs.declared.roles.Roles.{Roles}
+use Rattle.circuit_plans.specs.Plans.{lines_in}
 use Rattle.mct_circuit.specs.Gates.{GateView}
 use Rattle.mct_circuit.specs.Sizes.{depth_of}
 use Rattle.program_commands.specs.declared.bench.BenchSizes.{BenchSizes}
 use Rattle.program_commands.specs.Clean.{IsCleanCircuit}
-use Rattle.program_commands.specs.Compile as compile
-use Rattle.program_commands.specs.Compile.{IsPlannedAs}
+use Rattle.program_commands.specs.Compile.{HasFittingRow, IsPlannedAs, PassesBudget}
 use Rattle.program_commands.specs.Settling.{LeavesSettled}
 use Rattle.program_gen.specs.Adder.{adder_text}
 use Rattle.revs_tape.specs.Measures.{HasWidth, inputs_of, outputs_of, writes_of}
@@ -66,18 +65,19 @@ pub record IsBenched (order : OrderView) (written : List ℕ) : Type 0 where
 abbrev pub Gives : OrderView → List ℕ → List ℕ → Type 0
 Gives order text written = IsBenched order written
 
--- why nothing is: why `compile` writes no file for the text of the adder
+-- why nothing is: the circuit of the adder passes a budget; its text is never refused, and no claim stops it
 abbrev pub IsCause : OrderView → List ℕ → Fault → Type 0
-IsCause order text fault = compile.IsCause order (adder_text order.number) fault
+IsCause order text fault = PassesBudget order (adder_text order.number) fault
 
--- where something is, unless memory or a device is wanting: where `compile` writes a file for the text of the adder
+-- where something is, unless memory or a device is wanting: where some row of the budget numbers that the order allows
+-- fits the adder
 abbrev pub Serves : OrderView → List ℕ → Type 0
-Serves order text = compile.Serves order (adder_text order.number)
+Serves order text = HasFittingRow order (adder_text order.number)
 
 abbrev pub promise : Promise
 promise = record {
   reads = None;
-  statuses = 3 ∷ 4 ∷ 5 ∷ 6 ∷ 7 ∷ [];
+  statuses = 6 ∷ 7 ∷ [];
   Gives = Gives;
   IsCause = IsCause;
   Serves = Serves;

@@ -1,7 +1,7 @@
 -- What a clean file is, in each format: what it computes, and what its lines hold before and behind.
 use Rattle.std.specs.Prelude.{◌≡◌, ℕ, Bool, List, length, sum}
-use Rattle.gate_split.specs.Plans.{PutsOutputs, lines_in}
-use Rattle.gate_split.specs.declared.roles.Roles.{Roles}
+use Rattle.circuit_plans.specs.Plans.{PutsOutputs, lines_in}
+use Rattle.circuit_plans.specs.declared.roles.Roles.{Roles}
 use Rattle.mct_circuit.specs.Gates.{GateView, AreGatesOn, AreNarrow}
 use Rattle.qasm_format.specs.Compiled as qasm
 use Rattle.real_format.specs.Compiled as real

@@ -1,15 +1,17 @@
 -- `compile`: the file of a program's clean circuit.
-use Rattle.std.specs.Prelude.{◌≡◌, ℕ, ◌+◌, ◌≤◌, List, length, max, Some, [], ◌∷◌}
+use Rattle.std.specs.Prelude.{◌≡◌, ℕ, ◌+◌, ◌*◌, ◌≤◌, List, length, max, Some, [], ◌∷◌}
 use Rattle.command_answers.specs.Outcomes.{Promise, IsNoBudget, IsNoFault}
 use Rattle.program_commands.specs.Refusals.{program_limit}
 use Rattle.claim_check.specs.Budgets.{Measures}
 use Rattle.claim_check.specs.Measures.{AreMeasuresOf, IsNoLarger}
 use Rattle.claim_check.specs.Settled.{SettledView, IsSettledOf}
-use Rattle.gate_split.specs.declared.roles.Roles.{Roles}
-use Rattle.gate_split.specs.Plans.{BudgetView, LaidView, lines_in, roles_of}
+use Rattle.circuit_plans.specs.declared.roles.Roles.{Roles}
+use Rattle.circuit_plans.specs.Plans.{BudgetView, LaidView, lines_in, roles_of}
 use Rattle.mct_circuit.specs.Gates.{GateView}
-use Rattle.plan_choice.specs.Choices.{HasFewLines, HasFewGates, IsChosen, SomeRowFits}
-use Rattle.revs_tape.specs.Measures.{inputs_of, outputs_of}
+use Rattle.mct_circuit.specs.Sizes.{counts_of}
+use Rattle.circuit_plans.specs.declared.choice.How.TheVariants.{Lean}
+use Rattle.plan_choice.specs.Choices.{HasFewLines, HasFewGates, IsChosen, LeanFits, SomeRowFits}
+use Rattle.revs_tape.specs.Measures.{ands_of, inputs_of, outputs_of}
 use Rattle.revs_tape.specs.Tapes.{TapeView}
 use Rattle.revc_words.specs.Words.{OrderView}
 use Rattle.revs_parser.specs.WellFormed.{IsWellFormed}
@@ -17,16 +19,23 @@ use Rattle.revs_terms.specs.Views.{ProgramView}
 use Rattle.command_answers.specs.declared.fault.Fault.{Fault}
 use Rattle.command_answers.specs.declared.fault.Fault.TheVariants.{Lines, Gates}
 use Rattle.program_commands.specs.Clean.{IsClean, file_text}
-use Rattle.program_commands.specs.Settling.{LeavesSettled, StopsSettling}
+use Rattle.program_commands.specs.Settling.{LeavesSettled, LeavesTape, StopsSettling}
 
 -- the budget that an order gives
 abbrev pub budget_of : OrderView → BudgetView
 budget_of order =
     record { lines = order.lines; gates = order.gates; borrow = order.borrow }
 
+-- The law of Toffoli gates: under the plan `lean`, where both numbers of its row fit the budgets by the measures of the
+-- program's tape, there are at most two Toffoli gates (flips with two controls) for each AND that the program's run writes.
+pub record HasFewToffoliGates (order : OrderView) (tape : TapeView) (gates : List GateView)
+    : Type 0 where
+  pub few : order.plan ≡ Lean → (m : Measures) → AreMeasuresOf tape m
+      → LeanFits (budget_of order) m → (counts_of gates).ccx ≤ 2 * ands_of tape
+
 -- These lines and gates are those of a plan that the order asks for, of a settled graph of the tape: an eager one within
--- the graph's eager numbers, or a pebbling within the numbers of the largest block that fits, which comes without
--- `--plan` only where the eager numbers do not fit.
+-- the graph's eager numbers; a pebbling within the numbers of the largest block that fits, which comes without `--plan`
+-- only where the eager numbers do not fit; or the better of two plans of its lean graph, of few Toffoli gates.
 pub record IsPlannedAs (order : OrderView) (tape : TapeView) (roles : Roles)
     (gates : List GateView) : Type 0 where
   pub graph : SettledView
@@ -37,6 +46,7 @@ pub record IsPlannedAs (order : OrderView) (tape : TapeView) (roles : Roles)
   pub lines_are : lines_in roles ≡ laid.circuit.lines
   pub gates_are : gates ≡ laid.circuit.gates
   pub chosen : IsChosen order.plan graph (budget_of order) laid
+  pub few_toffoli_gates : HasFewToffoliGates order tape gates
 
 -- The text is well formed, and that of one program, whose claims hold on all inputs, within the nodes; the file is a
 -- clean one for it in the order's format, with its borrowed lines and within its budgets, and the text of its gates,
@@ -83,6 +93,20 @@ pub record KeepsBudget (order : OrderView) (text : List ℕ) : Type 0 where
   pub measures : Measures
   pub are : AreMeasuresOf tape measures
   pub fits : SomeRowFits order.plan (budget_of order) measures
+
+-- the text is well formed, and by the measures of its program's tape a row that the order allows fits the budgets
+pub record HasFittingRow (order : OrderView) (text : List ℕ) : Type 0 where
+  pub tape : TapeView
+  pub left : LeavesTape text tape
+  pub measures : Measures
+  pub are : AreMeasuresOf tape measures
+  pub fits : SomeRowFits order.plan (budget_of order) measures
+
+-- why a text that is well formed and makes no claim has no circuit: a budget is passed
+abbrev pub PassesBudget : OrderView → List ℕ → Fault → Type 0
+PassesBudget order text (Lines need limit) = PassesLines order text need limit
+PassesBudget order text (Gates limit) = PassesGates order text limit
+PassesBudget order text fault = ⊥
 
 -- what is written
 abbrev pub Gives : OrderView → List ℕ → List ℕ → Type 0

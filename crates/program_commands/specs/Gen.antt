@@ -1,5 +1,5 @@
 -- `gen`: the program of an adder.
-use Rattle.std.specs.Prelude.{◌≡◌, ℕ, List, None, [], ◌∷◌}
+use Rattle.std.specs.Prelude.{◌≡◌, ℕ, List, None, []}
 use Rattle.command_answers.specs.Outcomes.{Promise, IsAnyFault, IsNoFault}
 use Rattle.command_answers.specs.declared.fault.Fault.{Fault}
 use Rattle.program_gen.specs.Adder.{adder_text}

@@ -1,7 +1,7 @@
 -- What the calls of the commands on programs take and answer.
 use Rattle.std.specs.Prelude.{ℕ, ◌≤◌, List, length}
-use Rattle.gate_split.specs.declared.plan.TheConstants.{MOST_LINES, MOST_GATES}
-use Rattle.gate_split.specs.Plans.{LaidView, roles_of}
+use Rattle.circuit_plans.specs.declared.plan.TheConstants.{MOST_LINES, MOST_GATES}
+use Rattle.circuit_plans.specs.Plans.{LaidView, roles_of}
 use Rattle.program_gen.specs.declared.adder.TheConstants.{MOST_BITS}
 use Rattle.command_answers.specs.declared.fault.Fault.{Fault}
 use Rattle.command_answers.specs.declared.fault.Fault.TheVariants as faults
@@ -10,7 +10,7 @@ use Rattle.command_answers.specs.declared.fault.Refusal.TheVariants.{At}
 use Rattle.revc_words.specs.declared.order.Format.{Format}
 use Rattle.revc_words.specs.Words.{OrderView}
 use Rattle.program_commands.specs.Clean.{file_text}
-use Rattle.program_commands.specs.Compile.{PassesLines, PassesGates}
+use Rattle.program_commands.specs.Compile.{PassesBudget, PassesLines, PassesGates}
 use Rattle.program_commands.specs.Eval.{Stops}
 use Rattle.program_commands.specs.Refusals.{IsRefusal}
 use Rattle.program_commands.specs.Settling.{StopsSettling}
@@ -47,6 +47,11 @@ IsCompileFault order text Memory = Unit {0}
 IsCompileFault order text (faults.Lines need limit) = PassesLines order text need limit
 IsCompileFault order text (faults.Gates limit) = PassesGates order text limit
 IsCompileFault order text fault = StopsSettling text order.nodes fault
+
+-- why a text that is well formed and makes no claim has no clean plan, or there was no memory left
+abbrev pub IsBudgetFault : OrderView → List ℕ → Fault → Type 0
+IsBudgetFault order text Memory = Unit {0}
+IsBudgetFault order text fault = PassesBudget order text fault
 
 -- why a text and a word give no value, or there was no memory left
 abbrev pub IsEvalFault : List ℕ → List ℕ → Fault → Type 0

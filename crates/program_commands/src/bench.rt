@@ -1,10 +1,10 @@
 // `bench`: the sizes of an adder's program, and of its compiled circuit.
 ghost use Rattle.std.specs.Prelude.{◌≡◌, IfOk, IfErr};
 ghost use Rattle.command_answers.specs.Outcomes.{HasOneOutcome};
-ghost use Rattle.gate_split.specs.Plans.{roles_of};
+ghost use Rattle.circuit_plans.specs.Plans.{roles_of};
 ghost use Rattle.program_commands.specs.Bench.{promise, AreSizesOf, IsBenched};
 ghost use Rattle.program_commands.specs.Bench.{bench_text};
-ghost use Rattle.program_commands.specs.Outcomes.{IsAdderSize, IsCompileFault};
+ghost use Rattle.program_commands.specs.Outcomes.{IsAdderSize, IsBudgetFault, IsCompileFault};
 ghost use Rattle.program_commands.specs.Settling.{LeavesTape};
 ghost use Rattle.program_gen.specs.Adder.{adder_text};
 ghost use Rattle.revc_io.specs.Faults.{HasCause};
@@ -13,8 +13,8 @@ ghost use Rattle.revc_words.specs.Words.{IsWithinLimits, order_of};
 
 use crate::planning::plan_tape;
 use crate::program::tape_of_text;
+use circuit_plans::Laid;
 use command_answers::{Fault, write_numbers};
-use gate_split::Laid;
 use program_gen::program_text;
 use revc_io::{Failed, Sink};
 use revc_words::Order;
@@ -42,12 +42,13 @@ pub fn one_outcome()
 {}
 
 /// The sizes of the program of an adder of the order's number of bits, and of the circuit that
-/// `compile` makes of it. A fault is one of `compile` for the adder's text.
+/// `compile` makes of it. A fault is a budget that `compile` passes for the adder's text, or want
+/// of memory.
 pub fn measure(alloc: Global, order: &Order) -> Result<BenchSizes, Fault>
     requires limits { IsWithinLimits (order_of order.now) }
     requires size { IsAdderSize order.now.number }
     ensures ok { IfOk result (λ sizes. IsBenched (order_of order.now) (bench_text sizes)) }
-    ensures err { IfErr result (IsCompileFault (order_of order.now) (adder_text order.now.number)) }
+    ensures err { IfErr result (IsBudgetFault (order_of order.now) (adder_text order.now.number)) }
 {
     let text = program_text(alloc, order.number)?;
     let tape = tape_of_text(alloc, text.as_slice())?;

@@ -9,8 +9,8 @@ ghost use Rattle.revc_words.specs.Words.{IsWithinLimits, order_of};
 
 use crate::planning::plan_tape;
 use crate::program::tape_of_text;
+use circuit_plans::Laid;
 use command_answers::Fault;
-use gate_split::Laid;
 use revc_io::{Failed, Sink};
 use revc_words::{Format, Order};
 use revs_parser::MOST_BYTES;

@@ -9,9 +9,9 @@ ghost use Rattle.program_commands.specs.Settling.{ForTexts};
 ghost use Rattle.program_commands.specs.inside.Plans.{IsPlanningFault};
 
 use crate::settling::settle_tape;
+use circuit_plans::{Budget, Laid, PlanFault};
 use claim_check::Settled;
 use command_answers::Fault;
-use gate_split::{Budget, Laid, PlanFault};
 use plan_choice::choose;
 use revc_words::Order;
 use revs_tape::Tape;

@@ -16,6 +16,7 @@ use Rattle.circuit_commands.specs.Run as run
 use Rattle.circuit_commands.specs.Convert as convert
 use Rattle.circuit_commands.specs.Tidy as tidy
 use Rattle.verify_command.specs.Verify as verify
+use Rattle.arith_command.specs.Arith as arith
 
 abbrev pub promise_of : Command → Promise
 promise_of commands.Compile = compile.promise
@@ -28,6 +29,7 @@ promise_of commands.Tidy = tidy.promise
 promise_of commands.Gen = gen.promise
 promise_of commands.Bench = bench.promise
 promise_of commands.Verify = verify.promise
+promise_of commands.Arith = arith.promise
 
 -- ---- the promise of an order
 

@@ -11,13 +11,15 @@ ghost use Rattle.revc_driver.specs.Commands.{Gives, most_bytes, promise_of, read
 ghost use Rattle.revc_driver.specs.inside.Ends.{IsCauseOrMemory};
 ghost use Rattle.revc_driver.specs.inside.Outcomes.{CanBeWritten, text_of};
 
+use arith_command::arith;
+use arith_command::arith::Made;
 use circuit_commands::convert::Converted;
 use circuit_commands::stat::Sizes;
 use circuit_commands::{MOST_CIRCUIT_BYTES, convert, run, stat, tidy};
+use circuit_plans::Laid;
 use command_answers::{
     CircuitRefusal, Fault, Refusal, TextLimit, write_digits, write_lines, write_number,
 };
-use gate_split::Laid;
 use program_commands::bench::BenchSizes;
 use program_commands::{bench, check, compile, eval, generate};
 use revc_base::Bits;
@@ -48,6 +50,8 @@ pub enum Prepared {
     Bench(BenchSizes),
     /// The line that says that a circuit is verified.
     Verified,
+    /// The text of a program that computes with numbers, or the file of its circuit.
+    Arith(Made),
 }
 
 impl Prepared {
@@ -67,6 +71,7 @@ impl Prepared {
             Prepared::Program(text) => generate::write(text, out),
             Prepared::Bench(sizes) => bench::write(sizes, out),
             Prepared::Verified => verify::write(out),
+            Prepared::Arith(made) => arith::write(made, out),
         }
     }
 }
@@ -86,6 +91,7 @@ pub fn one_outcome(command: Command)
         Command::Gen => generate::one_outcome(),
         Command::Bench => bench::one_outcome(),
         Command::Verify => verify::one_outcome(),
+        Command::Arith => arith::one_outcome(),
     }
 }
 
@@ -105,6 +111,7 @@ pub fn limit_of(command: Command) -> Option<TextLimit>
         Command::Gen => None,
         Command::Bench => None,
         Command::Verify => Some(verify::source_limit()),
+        Command::Arith => None,
     }
 }
 
@@ -157,5 +164,6 @@ pub fn prepare(alloc: Global, order: &Order, text: &[u8]) -> Result<Prepared, Fa
             verify::verify(alloc, text, order)?;
             Ok(Prepared::Verified)
         }
+        Command::Arith => arith::make(alloc, order).map(Prepared::Arith),
     }
 }

@@ -2,18 +2,22 @@
 use Rattle.std.specs.Prelude.{slice_index_or, ◌↔◌, Result, Ok, Err, IfOk, IsErrOf, IsErrAnd}
 use Rattle.std.specs.declared.string.String.{String}
 use Rattle.std.proofs.Common.{drop, map, string_bytes, Global, ◌≤◌, ◌<◌, arith, ◌≡◌, ◌≢◌, ℕ, zero, suc, true, false, List, [], ◌∷◌, length, get_or, Option}
+use Rattle.std.proofs.Common.{MatchOption, eqb}
 use Rattle.std.proofs.Common.{Some, None, Bool, if◌then◌else◌, cond, refl, sym, ap, ◌∙◌, subst, codes, inl, inr}
 use Rattle.std.specs.List.{AllByRecursion, find, list_all}
 use Rattle.std.specs.Option.{option_map, option_and_then}
 use Rattle.std.specs.Str.{bytes_eq}
 use Rattle.std.proofs.lemmas.Bool.{false≢true}
-use Rattle.std.proofs.lemmas.Bool.Decides.{nat_tests}
+use Rattle.std.proofs.lemmas.Bool.Decides.{Decides-eqb, nat_tests}
 use Rattle.std.proofs.lemmas.Option.{same_Some}
 use Rattle.std.proofs.lemmas.Slice.Eq.{bytes_eq-Decides}
 use Rattle.std.proofs.lemmas.Str.{IsUtf8-string_bytes}
+use Rattle.arith_templates.specs.declared.kind.Kind.{Kind}
+use Rattle.arith_templates.specs.declared.kind.Kind.TheVariants.{Add, Sub, Less, Inc, Mul}
+use Rattle.arith_templates.specs.declared.limits.TheConstants.{MOST_FACTOR}
 use Rattle.clap.specs.Simple.{argument_words, built}
 use Rattle.clap.specs.Words.{Row, first_of}
-use Rattle.gate_split.specs.declared.choice.How.{How}
+use Rattle.circuit_plans.specs.declared.choice.How.{How}
 use Rattle.program_gen.specs.declared.adder.TheConstants.{MOST_BITS}
 use Rattle.revc_words.specs.declared.fault.WordsFault.{WordsFault}
 use Rattle.revc_words.specs.declared.fault.WordsFault.TheVariants as faults
@@ -22,17 +26,20 @@ use Rattle.revc_words.specs.declared.commands.Command.{Command}
 use Rattle.revc_words.specs.declared.commands.Command.TheVariants.{Compile}
 use Rattle.revc_words.specs.declared.commands.TheConstants.Command.{ALL}
 use Rattle.revc_words.specs.declared.commands.Positional.{Positional}
-use Rattle.revc_words.specs.declared.commands.Positional.TheVariants.{Nothing, Word, Words, Number}
+use Rattle.revc_words.specs.declared.commands.Positional.TheVariants.{Nothing, Word, Words, Number, KindAndNumber}
 use Rattle.revc_words.specs.Commands.{name_of, options_of, takes_of}
 use Rattle.revc_words.specs.declared.order.Format.{Format}
 use Rattle.revc_words.specs.declared.order.Format.TheVariants.{Real, Qasm}
+use Rattle.revc_words.specs.declared.order.Write.{Write}
 use Rattle.revc_words.specs.declared.values.Values.{Values}
-use Rattle.revc_words.specs.Words.{order_of, OrderView, IsOrder, HasNoOrder, OneOrder, TakesWords, TakesNumber, Setting, Reads, nothing_left, all_behind}
+use Rattle.revc_words.specs.Words.{order_of, OrderView, IsOrder, HasNoOrder, HasFactor, IsBy, IsNumberIn, OneOrder, Taken, TakesWords}
+use Rattle.revc_words.specs.Words.{TakesKind, TakesNumber, Setting, Reads, nothing_left, all_behind, kind_word, taken_of}
 use Rattle.revc_words.specs.Words.{joined, parted, positional, IsOneOf, first_word, is_option, value_of, IsGivenOnce}
-use Rattle.revc_words.specs.inside.Parsing.{Texts, app_for, bits_for, command_named, number_for, number_of, order_by, order_for, order_of_texts}
-use Rattle.revc_words.specs.inside.Parsing.{order_with, parsed, takes_any, takes_count, texts_by, texts_in, values_of}
-use Rattle.revc_words.proofs.ValueLemmas.{plan_rule, lines_rule, gates_rule, borrow_rule, nodes_rule, format_rule, number_says, number_found, right, kept}
-use Rattle.revc_words.proofs.ValueLemmas.{text_is_no_option}
+use Rattle.revc_words.specs.inside.Parsing.{Texts, app_for, bits_for, command_named, kind_for, kind_of, number_for, number_of, number_word, order_by, order_for}
+use Rattle.revc_words.specs.inside.Parsing.{order_of_texts, order_with, parsed, takes_any, takes_count, takes_factor, texts_by, texts_in, values_of}
+use Rattle.revc_words.specs.inside.Parsing.{with_factor}
+use Rattle.revc_words.proofs.ValueLemmas.{plan_rule, lines_rule, gates_rule, borrow_rule, nodes_rule, format_rule, by_rule, write_rule}
+use Rattle.revc_words.proofs.ValueLemmas.{number_says, number_found, kind_named, kind_says, right, kept, text_is_no_option}
 use Rattle.revc_words.proofs.WalkLemmas.{by_test, is_one_of, filled_app, run, clap_says, AreTexts}
 use Rattle.revc_words.proofs.SaidLemmas.{Said, said, read, reached, parsed as ends, Fits, AreNew, AreOnce, AreValues, IsNever}
 use Rattle.revc_words.proofs.ReadsLemmas.{is_name, known, known_says, reads, reads_so}
@@ -91,56 +98,172 @@ parsed_so command words behind e texts =
 
 -- ---- what a command takes its positional words for
 
-one_word : (plain : List (List ℕ)) → length plain ≡ 1 → plain ≡ first_word plain ∷ []
+one_word : (plain : List (List ℕ)) → length plain ≡ 1 → plain ≡ number_word plain ∷ []
 one_word [] one = absurd (omega arith)
 one_word (word ∷ []) one = refl
 one_word (word ∷ more ∷ rest) one = absurd (omega arith)
 
-number_so : (plain : List (List ℕ)) (number : ℕ) → length plain ≡ 1 → number_of 1 MOST_BITS (first_word plain) ≡ Some number
-    → TakesNumber plain [] number
-number_so plain number one is = record {
-  word = first_word plain;
-  only = one_word plain one;
-  in_range = number_says 1 MOST_BITS (first_word plain) number is;
-  no_bits = refl;
-}
-
-number_gives : (plain bits : List (List ℕ)) (number : ℕ) → (is : TakesNumber plain bits number)
-    → (length plain ≡ 1) × (number_of 1 MOST_BITS (first_word plain) ≡ Some number)
-number_gives plain bits number is = (
-  ap length is.only,
-  ap (λ (ws : List (List ℕ)). number_of 1 MOST_BITS (first_word ws)) is.only ∙ number_found 1 MOST_BITS is.word number is.in_range,
-)
+two_words : (plain : List (List ℕ)) → length plain ≡ 2 → plain ≡ first_word plain ∷ number_word plain ∷ []
+two_words [] two = absurd (omega arith)
+two_words (kind ∷ []) two = absurd (omega arith)
+two_words (kind ∷ word ∷ []) two = refl
+two_words (kind ∷ word ∷ more ∷ rest) two = absurd (omega arith)
 
 zero_is : (number : ℕ) → Some 0 ≡ Some number → number ≡ 0
 zero_is number e = sym (same_Some _ _ e)
 
-takes_so : (takes : Positional) (given : List Setting) (plain : List (List ℕ)) (number : ℕ) → takes_count takes (length plain) ≡ true
-    → number_for takes plain ≡ Some number → TakesWords takes given plain (bits_for takes plain) number
-takes_so Nothing given plain number count is = (grind (arith, nat_tests, count), record { same = refl; no_number = zero_is number is })
-takes_so Word given plain number count is = (grind (arith, nat_tests, count), record { same = refl; no_number = zero_is number is })
-takes_so Words given plain number count is = (grind (arith, nat_tests, count), record { same = refl; no_number = zero_is number is })
-takes_so Number given plain number count is = number_so plain number (grind (arith, nat_tests, count)) is
+no_kind : (kind : Kind) → Some Add ≡ Some kind → kind ≡ Add
+no_kind kind e = sym (same_Some _ _ e)
 
--- the count, the number and the bits
-takes_gives : (takes : Positional) (given : List Setting) (plain bits : List (List ℕ)) (number : ℕ) → TakesWords takes given plain bits number
-    → (takes_count takes (length plain) ≡ true) × (number_for takes plain ≡ Some number) × (bits ≡ bits_for takes plain)
-takes_gives Nothing given plain bits number is = let n = is.0 in (grind (arith, nat_tests), ap Some (sym is.1.no_number), is.1.same)
-takes_gives Word given plain bits number is = let n = is.0 in (grind (arith, nat_tests), ap Some (sym is.1.no_number), is.1.same)
-takes_gives Words given plain bits number is = let n = is.0 in (grind (arith, nat_tests), ap Some (sym is.1.no_number), is.1.same)
-takes_gives Number given plain bits number is =
-    let said = number_gives plain bits number is in let n = said.0 in (grind (arith, nat_tests), said.1, is.no_bits)
+abbrev taken_for : Kind → ℕ → List (List ℕ) → Taken
+taken_for kind number bits = record { kind = kind; number = number; bits = bits }
+
+number_so : (plain : List (List ℕ)) (kind : Kind) (number : ℕ) → length plain ≡ 1 → kind ≡ Add → number_of 1 MOST_BITS (number_word plain) ≡ Some number
+    → TakesNumber plain (taken_for kind number [])
+number_so plain kind number one add is = record {
+  word = number_word plain;
+  only = one_word plain one;
+  in_range = number_says 1 MOST_BITS (number_word plain) number is;
+  no_kind = add;
+  no_bits = refl;
+}
+
+number_gives : (plain : List (List ℕ)) (taken : Taken) → (is : TakesNumber plain taken)
+    → (length plain ≡ 1) × (number_of 1 MOST_BITS (number_word plain) ≡ Some taken.number)
+number_gives plain taken is = (
+  ap length is.only,
+  ap (λ (ws : List (List ℕ)). number_of 1 MOST_BITS (number_word ws)) is.only ∙ number_found 1 MOST_BITS is.word taken.number is.in_range,
+)
+
+-- ---- the kind, and its factor
+
+and_says : {A B : Type 0} (f : A → Option B) (found : Option A) (b : B) → option_and_then f found ≡ Some b → (a : A) × (found ≡ Some a) × (f a ≡ Some b)
+and_says f None b e = absurd cc
+and_says f (Some a) b e = (a, refl, e)
+
+map_says : {A B : Type 0} (f : A → B) (found : Option A) (b : B) → option_map f found ≡ Some b → (a : A) × (found ≡ Some a) × (f a ≡ b)
+map_says f None b e = absurd cc
+map_says f (Some a) b e = (a, refl, same_Some _ _ e)
+
+-- the kind, by whether its factor is 0
+abbrev factor_by : Bool → Kind → Option Kind
+factor_by none kind = cond (takes_factor kind) (cond none None (Some kind)) (cond none (Some kind) None)
+
+no_kind_left : (kind : Kind) → None ≡ Some kind → ⊥
+no_kind_left kind e = absurd cc
+
+without_factor : (found kind : Kind) → factor_by true found ≡ Some kind → (found ≡ kind) × HasFactor found None
+without_factor Add kind e = (same_Some _ _ e, refl)
+without_factor Sub kind e = (same_Some _ _ e, refl)
+without_factor Less kind e = (same_Some _ _ e, refl)
+without_factor Inc kind e = (same_Some _ _ e, refl)
+without_factor Mul kind e = absurd (no_kind_left kind e)
+
+beside_factor : (word : List ℕ) (found kind : Kind) → factor_by false found ≡ Some kind → (found ≡ kind) × HasFactor found (Some word)
+beside_factor word Add kind e = absurd (no_kind_left kind e)
+beside_factor word Sub kind e = absurd (no_kind_left kind e)
+beside_factor word Less kind e = absurd (no_kind_left kind e)
+beside_factor word Inc kind e = absurd (no_kind_left kind e)
+beside_factor word Mul kind e = (same_Some _ _ e, refl)
+
+is_above : (by : ℕ) → 1 ≤ by → eqb by 0 ≡ false
+is_above by some = by_test (eqb by 0)
+    (λ t. let none = (Decides-eqb by 0).0 t in absurd (omega arith))
+    (λ f. f)
+
+abbrev IsRightFactor : Option (List ℕ) → ℕ → Type 0
+IsRightFactor factor by = MatchOption factor (by ≡ 0) (λ word. IsNumberIn 1 MOST_FACTOR word by)
+
+-- the kind that is found has the factor that is given
+factor_says : (by : ℕ) (factor : Option (List ℕ)) (found kind : Kind) → IsRightFactor factor by → with_factor by found ≡ Some kind
+    → (found ≡ kind) × HasFactor found factor
+factor_says by None found kind is e = without_factor found kind (ap (λ t. factor_by t found) (sym ((Decides-eqb by 0).1 is)) ∙ e)
+factor_says by (Some word) found kind is e = beside_factor word found kind (ap (λ t. factor_by t found) (sym (is_above by is.least_is)) ∙ e)
+
+no_factor_needed : (kind : Kind) → HasFactor kind None → factor_by true kind ≡ Some kind
+no_factor_needed Add has = refl
+no_factor_needed Sub has = refl
+no_factor_needed Less has = refl
+no_factor_needed Inc has = refl
+no_factor_needed Mul has = absurd (false≢true has)
+
+factor_needed : (word : List ℕ) (kind : Kind) → HasFactor kind (Some word) → factor_by false kind ≡ Some kind
+factor_needed word Add has = absurd (false≢true (sym has))
+factor_needed word Sub has = absurd (false≢true (sym has))
+factor_needed word Less has = absurd (false≢true (sym has))
+factor_needed word Inc has = absurd (false≢true (sym has))
+factor_needed word Mul has = refl
+
+factor_gives : (by : ℕ) (factor : Option (List ℕ)) (kind : Kind) → IsRightFactor factor by → HasFactor kind factor → with_factor by kind ≡ Some kind
+factor_gives by None kind is has = ap (λ t. factor_by t kind) ((Decides-eqb by 0).1 is) ∙ no_factor_needed kind has
+factor_gives by (Some word) kind is has = ap (λ t. factor_by t kind) (is_above by is.least_is) ∙ factor_needed word kind has
+
+kind_so : (given : List Setting) (plain : List (List ℕ)) (by : ℕ) (kind : Kind) (number : ℕ) → length plain ≡ 2 → IsBy given by
+    → option_and_then (with_factor by) (kind_of (first_word plain)) ≡ Some kind → number_of 1 MOST_BITS (number_word plain) ≡ Some number
+    → TakesKind given plain (taken_for kind number [])
+kind_so given plain by kind number two own e is =
+    let found = and_says (with_factor by) (kind_of (first_word plain)) kind e in
+    let factor = value_of (codes "by") given in
+    let said = factor_says by factor found.0 kind own found.2 in
+    let named : first_word plain ≡ kind_word kind = kind_says (first_word plain) found.0 found.1 ∙ ap kind_word said.0 in
+    record {
+      word = number_word plain;
+      both = two_words plain two ∙ ap (λ (w : List ℕ). w ∷ number_word plain ∷ []) named;
+      factor = subst (λ (k : Kind). HasFactor k factor) said.0 said.1;
+      in_range = number_says 1 MOST_BITS (number_word plain) number is;
+      no_bits = refl;
+    }
+
+kind_gives : (given : List Setting) (plain : List (List ℕ)) (by : ℕ) (taken : Taken) → IsBy given by → (is : TakesKind given plain taken)
+    → (length plain ≡ 2) × (option_and_then (with_factor by) (kind_of (first_word plain)) ≡ Some taken.kind)
+    × (number_of 1 MOST_BITS (number_word plain) ≡ Some taken.number)
+kind_gives given plain by taken own is = (
+  ap length is.both,
+  ap (λ (ws : List (List ℕ)). option_and_then (with_factor by) (kind_of (first_word ws))) is.both
+      ∙ ap (option_and_then (with_factor by)) (kind_named taken.kind) ∙ factor_gives by (value_of (codes "by") given) taken.kind own is.factor,
+  ap (λ (ws : List (List ℕ)). number_of 1 MOST_BITS (number_word ws)) is.both ∙ number_found 1 MOST_BITS is.word taken.number is.in_range,
+)
+
+takes_so : (takes : Positional) (given : List Setting) (plain : List (List ℕ)) (by : ℕ) (kind : Kind) (number : ℕ) → IsBy given by
+    → takes_count takes (length plain) ≡ true → kind_for takes by plain ≡ Some kind → number_for takes plain ≡ Some number
+    → TakesWords takes given plain (taken_for kind number (bits_for takes plain))
+takes_so Nothing given plain by kind number own count named is =
+    (grind (arith, nat_tests, count), record { no_kind = no_kind kind named; no_number = zero_is number is; same = refl })
+takes_so Word given plain by kind number own count named is =
+    (grind (arith, nat_tests, count), record { no_kind = no_kind kind named; no_number = zero_is number is; same = refl })
+takes_so Words given plain by kind number own count named is =
+    (grind (arith, nat_tests, count), record { no_kind = no_kind kind named; no_number = zero_is number is; same = refl })
+takes_so Number given plain by kind number own count named is =
+    number_so plain kind number (grind (arith, nat_tests, count)) (no_kind kind named) is
+takes_so KindAndNumber given plain by kind number own count named is =
+    kind_so given plain by kind number (grind (arith, nat_tests, count)) own named is
+
+-- the count, the kind, the number and the bits
+takes_gives : (takes : Positional) (given : List Setting) (plain : List (List ℕ)) (by : ℕ) (taken : Taken) → IsBy given by → TakesWords takes given plain taken
+    → (takes_count takes (length plain) ≡ true) × (kind_for takes by plain ≡ Some taken.kind) × (number_for takes plain ≡ Some taken.number)
+    × (taken.bits ≡ bits_for takes plain)
+takes_gives Nothing given plain by taken own is =
+    let n = is.0 in (grind (arith, nat_tests), ap Some (sym is.1.no_kind), ap Some (sym is.1.no_number), is.1.same)
+takes_gives Word given plain by taken own is =
+    let n = is.0 in (grind (arith, nat_tests), ap Some (sym is.1.no_kind), ap Some (sym is.1.no_number), is.1.same)
+takes_gives Words given plain by taken own is =
+    let n = is.0 in (grind (arith, nat_tests), ap Some (sym is.1.no_kind), ap Some (sym is.1.no_number), is.1.same)
+takes_gives Number given plain by taken own is =
+    let said = number_gives plain taken is in let n = said.0 in (grind (arith, nat_tests), ap Some (sym is.no_kind), said.1, is.no_bits)
+takes_gives KindAndNumber given plain by taken own is =
+    let said = kind_gives given plain by taken own is in let n = said.0 in (grind (arith, nat_tests), said.1, said.2, is.no_bits)
 
 no_length : (plain : List (List ℕ)) → length plain ≡ 0 → plain ≡ []
 no_length [] e = refl
 no_length (word ∷ plain) e = absurd (omega arith)
 
-takes_none : (takes : Positional) (given : List Setting) (plain bits : List (List ℕ)) (number : ℕ) → TakesWords takes given plain bits number
+takes_none : (takes : Positional) (given : List Setting) (plain : List (List ℕ)) (taken : Taken) → TakesWords takes given plain taken
     → takes_any takes ≡ false → plain ≡ []
-takes_none Nothing given plain bits number is none = no_length plain is.0
-takes_none Word given plain bits number is none = absurd (false≢true (sym none))
-takes_none Words given plain bits number is none = absurd (false≢true (sym none))
-takes_none Number given plain bits number is none = absurd (false≢true (sym none))
+takes_none Nothing given plain taken is none = no_length plain is.0
+takes_none Word given plain taken is none = absurd (false≢true (sym none))
+takes_none Words given plain taken is none = absurd (false≢true (sym none))
+takes_none Number given plain taken is none = absurd (false≢true (sym none))
+takes_none KindAndNumber given plain taken is none = absurd (false≢true (sym none))
 
 -- ---- the texts that are given
 
@@ -158,6 +281,8 @@ same_texts rows given h = λ i. record {
   format = h (codes "format") refl i;
   from = h (codes "from") refl i;
   to = h (codes "to") refl i;
+  by = h (codes "by") refl i;
+  write = h (codes "write") refl i;
 }
 
 abbrev order_said : Command → Said → Option OrderView
@@ -184,16 +309,9 @@ found_rows command words behind rows named texts e =
 
 -- ---- the values of the texts
 
-and_says : {A B : Type 0} (f : A → Option B) (found : Option A) (b : B) → option_and_then f found ≡ Some b → (a : A) × (found ≡ Some a) × (f a ≡ Some b)
-and_says f None b e = absurd cc
-and_says f (Some a) b e = (a, refl, e)
-
-map_says : {A B : Type 0} (f : A → B) (found : Option A) (b : B) → option_map f found ≡ Some b → (a : A) × (found ≡ Some a) × (f a ≡ b)
-map_says f None b e = absurd cc
-map_says f (Some a) b e = (a, refl, same_Some _ _ e)
-
-abbrev values_from : Option How → Option ℕ → Option ℕ → Option ℕ → Option ℕ → Option Format → Option Format → Option Format → Option Values
-values_from plan lines gates borrow nodes format from to =
+abbrev values_from : Option How → Option ℕ → Option ℕ → Option ℕ → Option ℕ → Option Format → Option Format → Option Format → Option ℕ → Option Write
+    → Option Values
+values_from plan lines gates borrow nodes format from to by write =
     option_and_then (λ plan.
     option_and_then (λ lines.
     option_and_then (λ gates.
@@ -201,7 +319,9 @@ values_from plan lines gates borrow nodes format from to =
     option_and_then (λ nodes.
     option_and_then (λ format.
     option_and_then (λ from.
-    option_and_then (λ to. Some (let all : Values = record {
+    option_and_then (λ to.
+    option_and_then (λ by.
+    option_and_then (λ write. Some (let all : Values = record {
       plan = plan;
       lines = lines;
       gates = gates;
@@ -210,9 +330,12 @@ values_from plan lines gates borrow nodes format from to =
       format = format;
       from = from;
       to = to;
-    } in all)) to) from) format) nodes) borrow) gates) lines) plan
+      by = by;
+      write = write;
+    } in all)) write) by) to) from) format) nodes) borrow) gates) lines) plan
 
-record AreAll (plan : Option How) (lines gates borrow nodes : Option ℕ) (format from to : Option Format) (v : Values) : Type 0 where
+record AreAll (plan : Option How) (lines gates borrow nodes : Option ℕ) (format from to : Option Format) (by : Option ℕ) (write : Option Write) (v : Values)
+    : Type 0 where
   plan_is : plan ≡ Some v.plan
   lines_is : lines ≡ Some v.lines
   gates_is : gates ≡ Some v.gates
@@ -221,21 +344,25 @@ record AreAll (plan : Option How) (lines gates borrow nodes : Option ℕ) (forma
   format_is : format ≡ Some v.format
   from_is : from ≡ Some v.from
   to_is : to ≡ Some v.to
+  by_is : by ≡ Some v.by
+  write_is : write ≡ Some v.write
 
 no_values : (v : Values) → None ≡ Some v → ⊥
 no_values v e = absurd cc
 
-all_values : (plan : Option How) (lines gates borrow nodes : Option ℕ) (format from to : Option Format) (v : Values)
-    → values_from plan lines gates borrow nodes format from to ≡ Some v → AreAll plan lines gates borrow nodes format from to v
-all_values None lines gates borrow nodes format from to v e = absurd (no_values v e)
-all_values (Some plan) None gates borrow nodes format from to v e = absurd (no_values v e)
-all_values (Some plan) (Some lines) None borrow nodes format from to v e = absurd (no_values v e)
-all_values (Some plan) (Some lines) (Some gates) None nodes format from to v e = absurd (no_values v e)
-all_values (Some plan) (Some lines) (Some gates) (Some borrow) None format from to v e = absurd (no_values v e)
-all_values (Some plan) (Some lines) (Some gates) (Some borrow) (Some nodes) None from to v e = absurd (no_values v e)
-all_values (Some plan) (Some lines) (Some gates) (Some borrow) (Some nodes) (Some format) None to v e = absurd (no_values v e)
-all_values (Some plan) (Some lines) (Some gates) (Some borrow) (Some nodes) (Some format) (Some from) None v e = absurd (no_values v e)
-all_values (Some plan) (Some lines) (Some gates) (Some borrow) (Some nodes) (Some format) (Some from) (Some to) v e =
+all_values : (plan : Option How) (lines gates borrow nodes : Option ℕ) (format from to : Option Format) (by : Option ℕ) (write : Option Write) (v : Values)
+    → values_from plan lines gates borrow nodes format from to by write ≡ Some v → AreAll plan lines gates borrow nodes format from to by write v
+all_values None lines gates borrow nodes format from to by write v e = absurd (no_values v e)
+all_values (Some plan) None gates borrow nodes format from to by write v e = absurd (no_values v e)
+all_values (Some plan) (Some lines) None borrow nodes format from to by write v e = absurd (no_values v e)
+all_values (Some plan) (Some lines) (Some gates) None nodes format from to by write v e = absurd (no_values v e)
+all_values (Some plan) (Some lines) (Some gates) (Some borrow) None format from to by write v e = absurd (no_values v e)
+all_values (Some plan) (Some lines) (Some gates) (Some borrow) (Some nodes) None from to by write v e = absurd (no_values v e)
+all_values (Some plan) (Some lines) (Some gates) (Some borrow) (Some nodes) (Some format) None to by write v e = absurd (no_values v e)
+all_values (Some plan) (Some lines) (Some gates) (Some borrow) (Some nodes) (Some format) (Some from) None by write v e = absurd (no_values v e)
+all_values (Some plan) (Some lines) (Some gates) (Some borrow) (Some nodes) (Some format) (Some from) (Some to) None write v e = absurd (no_values v e)
+all_values (Some plan) (Some lines) (Some gates) (Some borrow) (Some nodes) (Some format) (Some from) (Some to) (Some by) None v e = absurd (no_values v e)
+all_values (Some plan) (Some lines) (Some gates) (Some borrow) (Some nodes) (Some format) (Some from) (Some to) (Some by) (Some write) v e =
     let same = same_Some _ _ e in
     record {
       plan_is = ap (λ (all : Values). Some all.plan) same;
@@ -246,6 +373,8 @@ all_values (Some plan) (Some lines) (Some gates) (Some borrow) (Some nodes) (Som
       format_is = ap (λ (all : Values). Some all.format) same;
       from_is = ap (λ (all : Values). Some all.from) same;
       to_is = ap (λ (all : Values). Some all.to) same;
+      by_is = ap (λ (all : Values). Some all.by) same;
+      write_is = ap (λ (all : Values). Some all.write) same;
     }
 
 -- ---- each option is given once
@@ -283,21 +412,24 @@ order_is : (words behind : List (List ℕ)) (command : Command) (what : Said) (o
 order_is words behind command what order named found once e =
     let valued = and_says (order_by command what.plain) (values_of (texts_of what.given)) order e in
     let values = valued.0 in
-    let all = all_values _ _ _ _ _ _ _ _ values valued.1 in
+    let all = all_values _ _ _ _ _ _ _ _ _ _ values valued.1 in
     let takes = takes_of command in
+    let by = right by_rule (value_of (codes "by") what.given) values.by all.by_is in
     by_test (takes_count takes (length what.plain))
     (λ t.
-    let numbered = map_says (λ number. order_with command values number (bits_for takes what.plain)) (number_for takes what.plain) order
-    (rw t at valued.2) in
+    let kinded = and_says (λ kind. option_map (λ number. order_with command values kind number (bits_for takes what.plain)) (number_for takes what.plain))
+    (kind_for takes values.by what.plain) order (rw t at valued.2) in
+    let kind = kinded.0 in
+    let numbered = map_says (λ number. order_with command values kind number (bits_for takes what.plain)) (number_for takes what.plain) order kinded.2 in
     let number = numbered.0 in
-    let here : IsOrder words (order_with command values number (bits_for takes what.plain)) = record {
+    let here : IsOrder words (order_with command values kind number (bits_for takes what.plain)) = record {
       behind = behind;
       given = what.given;
       plain = what.plain;
       named = named;
       read = reads (options_of command) behind what found;
       once = gives_once what.given once;
-      takes = takes_so takes what.given what.plain number t numbered.1;
+      takes = takes_so takes what.given what.plain values.by kind number by t kinded.1 numbered.1;
       plan = right plan_rule (value_of (codes "plan") what.given) values.plan all.plan_is;
       lines = right lines_rule (value_of (codes "lines") what.given) values.lines all.lines_is;
       gates = right gates_rule (value_of (codes "gates") what.given) values.gates all.gates_is;
@@ -306,6 +438,8 @@ order_is words behind command what order named found once e =
       format = right (format_rule Real) (value_of (codes "format") what.given) values.format all.format_is;
       from = right (format_rule Real) (value_of (codes "from") what.given) values.from all.from_is;
       to = right (format_rule Qasm) (value_of (codes "to") what.given) values.to all.to_is;
+      by = by;
+      write = right write_rule (value_of (codes "write") what.given) values.write all.write_is;
     } in
     subst (λ (o : OrderView). IsOrder words o) numbered.2 here)
     (λ f. absurd (none order (rw f at valued.2)))
@@ -318,7 +452,7 @@ order_is words behind command what order named found once e =
 said_so : (words : List (List ℕ)) (order : OrderView) → (is : IsOrder words order) → order_said order.command (said is.given is.plain) ≡ Some order
 said_so words order is =
     let takes = takes_of order.command in
-    let taken = takes_gives takes is.given is.plain order.bits order.number is.takes in
+    let taken = takes_gives takes is.given is.plain order.by (taken_of order) is.by is.takes in
     let values : Values = record {
       plan = order.plan;
       lines = order.lines;
@@ -328,6 +462,8 @@ said_so words order is =
       format = order.format;
       from = order.from;
       to = order.to;
+      by = order.by;
+      write = order.write;
     } in
     let valued : values_of (texts_of is.given) ≡ Some values = λ i. values_from
     (kept plan_rule (value_of (codes "plan") is.given) order.plan is.plan i)
@@ -337,13 +473,17 @@ said_so words order is =
     (kept nodes_rule (value_of (codes "nodes") is.given) order.nodes is.nodes i)
     (kept (format_rule Real) (value_of (codes "format") is.given) order.format is.format i)
     (kept (format_rule Real) (value_of (codes "from") is.given) order.from is.from i)
-    (kept (format_rule Qasm) (value_of (codes "to") is.given) order.to is.to i) in
+    (kept (format_rule Qasm) (value_of (codes "to") is.given) order.to is.to i)
+    (kept by_rule (value_of (codes "by") is.given) order.by is.by i)
+    (kept write_rule (value_of (codes "write") is.given) order.write is.write i) in
     ap (option_and_then (order_by order.command is.plain)) valued
-    ∙ ap (λ t. cond t (option_map (λ number. order_with order.command values number (bits_for takes is.plain))
-    (number_for takes is.plain)) None)
+    ∙ ap (λ t. cond t (option_and_then (λ kind. option_map (λ number. order_with order.command values kind number (bits_for takes is.plain))
+    (number_for takes is.plain)) (kind_for takes order.by is.plain)) None)
     taken.0
-    ∙ ap (option_map (λ number. order_with order.command values number (bits_for takes is.plain))) taken.1
-    ∙ ap (λ bits. Some (order_with order.command values order.number bits)) (sym taken.2)
+    ∙ ap (option_and_then (λ kind. option_map (λ number. order_with order.command values kind number (bits_for takes is.plain)) (number_for takes is.plain)))
+    taken.1
+    ∙ ap (option_map (λ number. order_with order.command values order.kind number (bits_for takes is.plain))) taken.2
+    ∙ ap (λ bits. Some (order_with order.command values order.kind order.number bits)) (sym taken.3)
 
 reads_it : (words : List (List ℕ)) (order : OrderView) → (is : IsOrder words order)
     → read (options_of order.command) is.behind None ≡ Some (said is.given is.plain)
@@ -395,7 +535,8 @@ among P (option ∷ options) name all (inr rest) = among P options name all.1 re
 -- the names of all options
 abbrev all_options : List (List ℕ)
 all_options =
-    codes "plan" ∷ codes "lines" ∷ codes "gates" ∷ codes "borrow" ∷ codes "nodes" ∷ codes "format" ∷ codes "from" ∷ codes "to" ∷ []
+    codes "plan" ∷ codes "lines" ∷ codes "gates" ∷ codes "borrow" ∷ codes "nodes" ∷ codes "format" ∷ codes "from" ∷ codes "to"
+    ∷ codes "by" ∷ codes "write" ∷ []
 
 known_options : (command : Command) → list_all (is_one_of all_options) (options_of command) ≡ true
 known_options Compile = refl
@@ -410,7 +551,7 @@ each_of P all (option ∷ options) each e = by_test (is_one_of all option)
 safe : (words : List (List ℕ)) (order : OrderView) → (is : IsOrder words order) → AllByRecursion (IsSafe is.given) (options_of order.command)
 safe words order is =
     each_of (IsSafe is.given) all_options (options_of order.command)
-    (plan, (lines, (gates, (borrow, (nodes, (format, (from, (to, tt)))))))) (known_options order.command)
+    (plan, (lines, (gates, (borrow, (nodes, (format, (from, (to, (by, (write, tt)))))))))) (known_options order.command)
   where
     plan : IsSafe is.given (codes "plan")
     plan = record { each = λ word e. text_is_no_option plan_rule (value_of (codes "plan") is.given) order.plan word is.plan e }
@@ -435,6 +576,12 @@ safe words order is =
 
     to : IsSafe is.given (codes "to")
     to = record { each = λ word e. text_is_no_option (format_rule Qasm) (value_of (codes "to") is.given) order.to word is.to e }
+
+    by : IsSafe is.given (codes "by")
+    by = record { each = λ word e. text_is_no_option by_rule (value_of (codes "by") is.given) order.by word is.by e }
+
+    write : IsSafe is.given (codes "write")
+    write = record { each = λ word e. text_is_no_option write_rule (value_of (codes "write") is.given) order.write word is.write e }
 
 safe_values : (command : Command) (all given : List Setting) → AllByRecursion (IsSafe all) (options_of command)
     → AllByRecursion (λ one. IsOneOf (options_of command) one.name) given → AllByRecursion (λ one. value_of one.name all ≡ Some one.value) given
@@ -472,7 +619,7 @@ parses_it words order is texts =
       new = new_names order.command is.given names;
       once = once;
       texts = safe_values order.command is.given is.given (safe words order is) names (own_values is.given once);
-      only = takes_none (takes_of order.command) is.given is.plain order.bits order.number is.takes;
+      only = takes_none (takes_of order.command) is.given is.plain (taken_of order) is.takes;
     } in
     let end = ends options takes is.behind None [] what (reads_it words order is) fits in
     let here = parsed_so order.command words is.behind is.named texts ∙ end.1 in

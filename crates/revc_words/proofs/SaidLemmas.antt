@@ -159,6 +159,21 @@ ended_so true (word ∷ words) rows end e =
       plain = behind.plain ∙ ap (λ (ws : List Text). ws ++ words) (word_words word rows) ∙ append_assoc (words_in rows) (word ∷ []) words;
     }
 
+-- the words behind `--`
+words_end : (options : List Text) (takes : Bool) (before words : List Text) (rows end : List Row) → read options before None ≡ Some (said [] words)
+    → run_ended takes rows words ≡ Some end → IsReached options takes before None rows end
+words_end options takes before words rows end reads e =
+    let it = ended_so takes words rows end e in
+    record {
+      what = said [] words;
+      found = reads;
+      new = tt;
+      once = tt;
+      only = it.only;
+      values = it.values;
+      plain = it.plain;
+    }
+
 -- ---- what a parse ends with is what the words say
 
 reached_flag : (options : List Text) (takes : Bool) (word : Text) (words : List Text) (rows end : List Row) (flag : Option (Text × Option Text))
@@ -215,17 +230,7 @@ reached options takes apart (word ∷ words) (Some name) is rows end e = by_test
     (reached options takes apart words None tt (with_option name word rows) end (rw (f, h) at e))))
 reached options true apart (word ∷ words) None is rows end e = by_test (is_option word)
     (λ t. by_test (bytes_eq word (codes "--"))
-    (λ h.
-    let it = ended_so true words rows end (rw (t, h) at e) in
-    record {
-      what = said [] words;
-      found = rw (t, h) refl;
-      new = tt;
-      once = tt;
-      only = it.only;
-      values = it.values;
-      plain = it.plain;
-    })
+    (λ h. words_end options true (word ∷ words) words rows end (rw (t, h) refl) (rw (t, h) at e))
     (λ h.
     reached_flag options true word words rows end (long_of word) apart (rw (t, h) refl)
     (λ waits so now. reached options true apart words waits so now end) (rw (t, h) at e)))
@@ -234,17 +239,7 @@ reached options true apart (word ∷ words) None is rows end e = by_test (is_opt
     (reached options true apart words None tt (with_word word rows) end (rw f at e)))
 reached options false apart (word ∷ words) None is rows end e = by_test (is_option word)
     (λ t. by_test (bytes_eq word (codes "--"))
-    (λ h.
-    let it = ended_so false words rows end (rw (t, h) at e) in
-    record {
-      what = said [] words;
-      found = rw (t, h) refl;
-      new = tt;
-      once = tt;
-      only = it.only;
-      values = it.values;
-      plain = it.plain;
-    })
+    (λ h. words_end options false (word ∷ words) words rows end (rw (t, h) refl) (rw (t, h) at e))
     (λ h.
     reached_flag options false word words rows end (long_of word) apart (rw (t, h) refl)
     (λ waits so now. reached options false apart words waits so now end) (rw (t, h) at e)))

@@ -8,14 +8,19 @@ use Rattle.std.proofs.lemmas.Slice.Eq.{bytes_eq-Decides}
 use Rattle.std.proofs.lemmas.Str.Parse.{IsNumeralModel, numerals_by_value, tells_all_ascii_digits}
 use Rattle.std.specs.Str.{bytes_eq, all_ascii_digits}
 use Rattle.std.specs.Str.Parse.{digits_value}
-use Rattle.gate_split.specs.declared.plan.TheConstants.{MOST_LINES, MOST_GATES, MOST_BORROWED}
-use Rattle.gate_split.specs.declared.choice.How.{How}
-use Rattle.gate_split.specs.declared.choice.How.TheVariants.{Auto, Eager, Pebble}
+use Rattle.arith_templates.specs.declared.kind.Kind.{Kind}
+use Rattle.arith_templates.specs.declared.kind.Kind.TheVariants.{Add, Sub, Less, Inc, Mul}
+use Rattle.arith_templates.specs.declared.limits.TheConstants.{MOST_FACTOR}
+use Rattle.circuit_plans.specs.declared.plan.TheConstants.{MOST_LINES, MOST_GATES, MOST_BORROWED}
+use Rattle.circuit_plans.specs.declared.choice.How.{How}
+use Rattle.circuit_plans.specs.declared.choice.How.TheVariants.{Auto, Eager, Lean, Pebble}
 use Rattle.revc_words.specs.declared.limits.TheConstants.{MOST_DIGITS, MOST_NODES, USUAL_LINES, USUAL_GATES, USUAL_NODES}
 use Rattle.revc_words.specs.declared.order.Format.{Format}
 use Rattle.revc_words.specs.declared.order.Format.TheVariants.{Real, Qasm}
-use Rattle.revc_words.specs.Words.{IsNumberIn, plan_word, format_word, is_option}
-use Rattle.revc_words.specs.inside.Parsing.{first_with, is_number_in, number_of, plan_of, format_of, value_or}
+use Rattle.revc_words.specs.declared.order.Write.{Write}
+use Rattle.revc_words.specs.declared.order.Write.TheVariants as writes
+use Rattle.revc_words.specs.Words.{IsNumberIn, plan_word, format_word, kind_word, write_word, is_option}
+use Rattle.revc_words.specs.inside.Parsing.{first_with, is_number_in, number_of, plan_of, format_of, kind_of, write_of, value_or}
 
 digits : IsNumeralModel (λ ds. all_ascii_digits ds ≡ true) (digits_value 10)
 digits = numerals_by_value _ tells_all_ascii_digits
@@ -119,11 +124,28 @@ first_says text (first ∷ others) word one e = at (bytes_eq word (text first)) 
 pub plan_named : (plan : How) → plan_of (plan_word plan) ≡ Some plan
 plan_named Auto = refl
 plan_named Eager = refl
+plan_named Lean = refl
 plan_named Pebble = refl
 
 pub format_named : (format : Format) → format_of (format_word format) ≡ Some format
 format_named Real = refl
 format_named Qasm = refl
+
+pub write_named : (write : Write) → write_of (write_word write) ≡ Some write
+write_named writes.Program = refl
+write_named writes.Real = refl
+write_named writes.Qasm = refl
+
+pub kind_named : (kind : Kind) → kind_of (kind_word kind) ≡ Some kind
+kind_named Add = refl
+kind_named Sub = refl
+kind_named Less = refl
+kind_named Inc = refl
+kind_named Mul = refl
+
+-- a word that names a kind is its word
+pub kind_says : (word : List ℕ) (kind : Kind) → kind_of word ≡ Some kind → word ≡ kind_word kind
+kind_says = first_says kind_word (Add ∷ Sub ∷ Less ∷ Inc ∷ Mul ∷ [])
 
 -- ---- how each option has its values
 
@@ -149,11 +171,27 @@ number_rule least most usual = record {
 pub plan_is_no_option : (plan : How) → is_option (plan_word plan) ≡ false
 plan_is_no_option Auto = refl
 plan_is_no_option Eager = refl
+plan_is_no_option Lean = refl
 plan_is_no_option Pebble = refl
 
 pub format_is_no_option : (format : Format) → is_option (format_word format) ≡ false
 format_is_no_option Real = refl
 format_is_no_option Qasm = refl
+
+pub write_is_no_option : (write : Write) → is_option (write_word write) ≡ false
+write_is_no_option writes.Program = refl
+write_is_no_option writes.Real = refl
+write_is_no_option writes.Qasm = refl
+
+abbrev pub write_rule : Rule Write
+write_rule = record {
+  value = write_of;
+  Writes = λ word write. word ≡ write_word write;
+  usual = writes.Program;
+  says = first_says write_word (writes.Program ∷ writes.Real ∷ writes.Qasm ∷ []);
+  found = λ word write is. ap write_of is ∙ write_named write;
+  no_option = λ word write is. ap is_option is ∙ write_is_no_option write;
+}
 
 abbrev pub format_rule : Format → Rule Format
 format_rule usual = record {
@@ -170,7 +208,7 @@ plan_rule = record {
   value = plan_of;
   Writes = λ word plan. word ≡ plan_word plan;
   usual = Auto;
-  says = first_says plan_word (Auto ∷ Eager ∷ Pebble ∷ []);
+  says = first_says plan_word (Auto ∷ Eager ∷ Lean ∷ Pebble ∷ []);
   found = λ word plan is. ap plan_of is ∙ plan_named plan;
   no_option = λ word plan is. ap is_option is ∙ plan_is_no_option plan;
 }
@@ -186,6 +224,9 @@ borrow_rule = number_rule 0 MOST_BORROWED 0
 
 abbrev pub nodes_rule : Rule ℕ
 nodes_rule = number_rule 1 MOST_NODES USUAL_NODES
+
+abbrev pub by_rule : Rule ℕ
+by_rule = number_rule 1 MOST_FACTOR 0
 
 -- the value is the one that is given, or the usual one
 abbrev pub IsRight : {A : Type 0} → Rule A → Option (List ℕ) → A → Type 0

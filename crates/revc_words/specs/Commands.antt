@@ -1,9 +1,9 @@
 -- What the words of the command line see of each command.
 use Rattle.std.specs.Prelude.{ℕ, List, [], ◌∷◌, codes}
 use Rattle.revc_words.specs.declared.commands.Command.{Command}
-use Rattle.revc_words.specs.declared.commands.Command.TheVariants.{Compile, Check, Eval, Stat, Run, Convert, Tidy, Gen, Bench, Verify}
+use Rattle.revc_words.specs.declared.commands.Command.TheVariants.{Compile, Check, Eval, Stat, Run, Convert, Tidy, Gen, Bench, Verify, Arith}
 use Rattle.revc_words.specs.declared.commands.Positional.{Positional}
-use Rattle.revc_words.specs.declared.commands.Positional.TheVariants.{Nothing, Word, Words, Number}
+use Rattle.revc_words.specs.declared.commands.Positional.TheVariants.{Nothing, Word, Words, Number, KindAndNumber}
 
 -- a command's name, which is the first word; the names of its options; and what it takes its positional words for
 pub record SpellingView : Type 0 where
@@ -44,6 +44,11 @@ spelling_of Verify = record {
   name = codes "verify";
   options = codes "from" ∷ codes "nodes" ∷ codes "borrow" ∷ [];
   takes = Nothing;
+}
+spelling_of Arith = record {
+  name = codes "arith";
+  options = codes "by" ∷ codes "write" ∷ [];
+  takes = KindAndNumber;
 }
 
 abbrev pub name_of : Command → List ℕ

@@ -1,22 +1,27 @@
 -- What the words of the command line ask for: a command, its options and its positional words.
-use Rattle.std.specs.Prelude.{◌≡◌, ◌≢◌, ◌⊎◌, ℕ, ◌≤◌, ◌==◌, Bool, false, List, [], ◌∷◌, ◌++◌, length, map, string_bytes, codes, Option, Some, None, MatchOption}
+use Rattle.std.specs.Prelude.{◌≡◌, ◌≢◌, ◌⊎◌, ℕ, ◌≤◌, ◌==◌, Bool, false, IsNone, IsSome, List, [], ◌∷◌, ◌++◌, length, map, string_bytes, codes, Option, Some, None, MatchOption}
 use Rattle.std.specs.Prelude.{cond}
 use Rattle.std.specs.List.{AllPairs}
 use Rattle.std.specs.Str.{bytes_eq}
 use Rattle.std.specs.Str.Parse.{IsNumeral, digits_value}
 use Rattle.std.specs.Global.{Global}
 use Rattle.std.specs.declared.string.String.{String}
-use Rattle.gate_split.specs.declared.plan.TheConstants.{MOST_LINES, MOST_GATES, MOST_BORROWED}
-use Rattle.gate_split.specs.declared.choice.How.{How}
-use Rattle.gate_split.specs.declared.choice.How.TheVariants.{Auto, Eager, Pebble}
+use Rattle.arith_templates.specs.declared.kind.Kind.{Kind}
+use Rattle.arith_templates.specs.declared.kind.Kind.TheVariants.{Add, Sub, Less, Inc, Mul}
+use Rattle.arith_templates.specs.declared.limits.TheConstants.{MOST_FACTOR}
+use Rattle.circuit_plans.specs.declared.plan.TheConstants.{MOST_LINES, MOST_GATES, MOST_BORROWED}
+use Rattle.circuit_plans.specs.declared.choice.How.{How}
+use Rattle.circuit_plans.specs.declared.choice.How.TheVariants.{Auto, Eager, Lean, Pebble}
 use Rattle.program_gen.specs.declared.adder.TheConstants.{MOST_BITS}
 use Rattle.revc_words.specs.declared.limits.TheConstants.{MOST_DIGITS, MOST_NODES, USUAL_LINES, USUAL_GATES, USUAL_NODES}
 use Rattle.revc_words.specs.Commands.{name_of, options_of, takes_of}
 use Rattle.revc_words.specs.declared.commands.Command.{Command}
 use Rattle.revc_words.specs.declared.commands.Positional.{Positional}
-use Rattle.revc_words.specs.declared.commands.Positional.TheVariants.{Nothing, Word, Words, Number}
+use Rattle.revc_words.specs.declared.commands.Positional.TheVariants.{Nothing, Word, Words, Number, KindAndNumber}
 use Rattle.revc_words.specs.declared.order.Format.{Format}
 use Rattle.revc_words.specs.declared.order.Format.TheVariants.{Real, Qasm}
+use Rattle.revc_words.specs.declared.order.Write.{Write}
+use Rattle.revc_words.specs.declared.order.Write.TheVariants as writes
 use Rattle.revc_words.specs.declared.order.Order.{Order}
 
 -- the words as contracts see them: lists of bytes
@@ -27,8 +32,8 @@ words_of words = map string_bytes words
 
 -- a command, the plans that it tries, the most lines and gates of its circuit, how many lines it
 -- borrows, the most nodes of its diagrams, the format of the circuit of a program, the formats
--- that `convert` and `tidy` read and write, the bits of each number that an adder adds, and its
--- words of bits
+-- that `convert` and `tidy` read and write, what a program computes of numbers, the factor by which
+-- it multiplies, what is written of it, how many bits its numbers have, and words of bits
 pub record OrderView : Type 0 where
   pub command : Command
   pub plan : How
@@ -39,6 +44,9 @@ pub record OrderView : Type 0 where
   pub format : Format
   pub from : Format
   pub to : Format
+  pub kind : Kind
+  pub by : ℕ
+  pub write : Write
   pub number : ℕ
   pub bits : List (List ℕ)
 
@@ -54,6 +62,9 @@ order_of order = record {
   format = order.format;
   from = order.from;
   to = order.to;
+  kind = order.kind;
+  by = order.by;
+  write = order.write;
   number = order.number;
   bits = words_of order.bits.items;
 }
@@ -123,12 +134,27 @@ pub record IsNumberIn (least most : ℕ) (word : List ℕ) (n : ℕ) : Type 0 wh
 abbrev pub plan_word : How → List ℕ
 plan_word Auto = codes "auto"
 plan_word Eager = codes "eager"
+plan_word Lean = codes "lean"
 plan_word Pebble = codes "pebble"
 
 -- the word for a format
 abbrev pub format_word : Format → List ℕ
 format_word Real = codes "real"
 format_word Qasm = codes "qasm"
+
+-- the word for what is written of a program
+abbrev pub write_word : Write → List ℕ
+write_word writes.Program = codes "program"
+write_word writes.Real = codes "real"
+write_word writes.Qasm = codes "qasm"
+
+-- the word for a kind of programs
+abbrev pub kind_word : Kind → List ℕ
+kind_word Add = codes "add"
+kind_word Sub = codes "sub"
+kind_word Less = codes "less"
+kind_word Inc = codes "inc"
+kind_word Mul = codes "mul"
 
 -- the plans that are tried: those that are given, or the eager plan and then pebbling
 abbrev pub IsPlan : List Setting → How → Type 0
@@ -175,30 +201,69 @@ abbrev pub IsTo : List Setting → Format → Type 0
 IsTo given to =
     MatchOption (value_of (codes "to") given) (to ≡ Qasm) (λ word. word ≡ format_word to)
 
+-- the factor: the one that is given, from 1 on, or 0
+abbrev pub IsBy : List Setting → ℕ → Type 0
+IsBy given by =
+    MatchOption (value_of (codes "by") given) (by ≡ 0) (λ word. IsNumberIn 1 MOST_FACTOR word by)
+
+-- what is written of a program: what is given, or its text
+abbrev pub IsWrite : List Setting → Write → Type 0
+IsWrite given write =
+    MatchOption (value_of (codes "write") given) (write ≡ writes.Program)
+    (λ word. word ≡ write_word write)
+
 -- ---- positional words
 
+-- what positional words give: what a program computes of numbers, how many bits these have, and words of bits
+pub record Taken : Type 0 where
+  pub kind : Kind
+  pub number : ℕ
+  pub bits : List (List ℕ)
+
 -- words of bits, and no number
-pub record AreBits (plain bits : List (List ℕ)) (number : ℕ) : Type 0 where
-  pub same : bits ≡ plain
-  pub no_number : number ≡ 0
+pub record AreBits (plain : List (List ℕ)) (taken : Taken) : Type 0 where
+  pub no_kind : taken.kind ≡ Add
+  pub no_number : taken.number ≡ 0
+  pub same : taken.bits ≡ plain
 
 -- one word, a number in its range, and no words of bits
-pub record TakesNumber (plain bits : List (List ℕ)) (number : ℕ) : Type 0 where
+pub record TakesNumber (plain : List (List ℕ)) (taken : Taken) : Type 0 where
   pub word : List ℕ
   pub only : plain ≡ word ∷ []
-  pub in_range : IsNumberIn 1 MOST_BITS word number
-  pub no_bits : bits ≡ []
+  pub in_range : IsNumberIn 1 MOST_BITS word taken.number
+  pub no_kind : taken.kind ≡ Add
+  pub no_bits : taken.bits ≡ []
+
+-- a factor is given exactly where programs multiply
+abbrev pub HasFactor : Kind → Option (List ℕ) → Type 0
+HasFactor Add factor = IsNone factor
+HasFactor Sub factor = IsNone factor
+HasFactor Less factor = IsNone factor
+HasFactor Inc factor = IsNone factor
+HasFactor Mul factor = IsSome factor
+
+-- a kind of programs, given a factor exactly where they multiply, a number in its range, and no words of bits
+pub record TakesKind (given : List Setting) (plain : List (List ℕ)) (taken : Taken) : Type 0 where
+  pub word : List ℕ
+  pub both : plain ≡ kind_word taken.kind ∷ word ∷ []
+  pub factor : HasFactor taken.kind (value_of (codes "by") given)
+  pub in_range : IsNumberIn 1 MOST_BITS word taken.number
+  pub no_bits : taken.bits ≡ []
 
 -- what a command takes its positional words for, behind these options: nothing, one word of bits, one or more words of
--- bits, or a number
-abbrev pub TakesWords
-    : Positional → List Setting → List (List ℕ) → List (List ℕ) → ℕ → Type 0
-TakesWords Nothing given plain bits number = (length plain ≡ 0) × AreBits plain bits number
-TakesWords Word given plain bits number = (length plain ≡ 1) × AreBits plain bits number
-TakesWords Words given plain bits number = (1 ≤ length plain) × AreBits plain bits number
-TakesWords Number given plain bits number = TakesNumber plain bits number
+-- bits, a number, or a kind of programs and a number
+abbrev pub TakesWords : Positional → List Setting → List (List ℕ) → Taken → Type 0
+TakesWords Nothing given plain taken = (length plain ≡ 0) × AreBits plain taken
+TakesWords Word given plain taken = (length plain ≡ 1) × AreBits plain taken
+TakesWords Words given plain taken = (1 ≤ length plain) × AreBits plain taken
+TakesWords Number given plain taken = TakesNumber plain taken
+TakesWords KindAndNumber given plain taken = TakesKind given plain taken
 
 -- ---- the order of the words
+
+-- what the positional words of an order gave
+abbrev pub taken_of : OrderView → Taken
+taken_of order = record { kind = order.kind; number = order.number; bits = order.bits }
 
 -- The words are the name of a command, its options, each at most once, and the positional words
 -- that it takes.
@@ -209,7 +274,7 @@ pub record IsOrder (words : List (List ℕ)) (order : OrderView) : Type 0 where
   pub named : words ≡ name_of order.command ∷ behind
   pub read : Reads (options_of order.command) behind given plain
   pub once : IsGivenOnce given
-  pub takes : TakesWords (takes_of order.command) given plain order.bits order.number
+  pub takes : TakesWords (takes_of order.command) given plain (taken_of order)
   pub plan : IsPlan given order.plan
   pub lines : AreLines given order.lines
   pub gates : AreGates given order.gates
@@ -218,6 +283,8 @@ pub record IsOrder (words : List (List ℕ)) (order : OrderView) : Type 0 where
   pub format : IsFormat given order.format
   pub from : IsFrom given order.from
   pub to : IsTo given order.to
+  pub by : IsBy given order.by
+  pub write : IsWrite given order.write
 
 pub record HasNoOrder (words : List (List ℕ)) : Type 0 where
   pub refuted : (order : OrderView) → ¬ IsOrder words order
@@ -228,6 +295,7 @@ HasNumber Nothing number = Unit {0}
 HasNumber Word number = Unit {0}
 HasNumber Words number = Unit {0}
 HasNumber Number number = 1 ≤ number
+HasNumber KindAndNumber number = 1 ≤ number
 
 -- the numbers of an order are within their limits
 pub record IsWithinLimits (order : OrderView) : Type 0 where
@@ -237,6 +305,8 @@ pub record IsWithinLimits (order : OrderView) : Type 0 where
   pub nodes : 1 ≤ order.nodes
   pub few_bits : order.number ≤ MOST_BITS
   pub some_bits : HasNumber (takes_of order.command) order.number
+  pub some_factor : order.kind ≡ Mul → 1 ≤ order.by
+  pub small_factor : order.by ≤ MOST_FACTOR
 
 -- The law: every order is within the limits.
 abbrev pub OrdersAreWithinLimits : Type 0

@@ -2,7 +2,7 @@
 ghost use Rattle.std.specs.Prelude.{◌≡◌, map};
 ghost use Rattle.revc_words.specs.Commands.{name_of, options_of, takes_of};
 ghost use Rattle.revc_words.specs.inside.Parsing.{command_named, takes_any, takes_count};
-ghost use Rattle.revc_words.specs.inside.Parsing.{takes_number};
+ghost use Rattle.revc_words.specs.inside.Parsing.{takes_kind, takes_number};
 
 /// What is to be done.
 #[derive(Clone, Copy, PartialEq, Eq)]
@@ -27,6 +27,8 @@ pub enum Command {
     Bench,
     /// Reads a program and a circuit and writes that the circuit computes the program.
     Verify,
+    /// Writes a program that computes with numbers, or the file of its clean circuit.
+    Arith,
 }
 
 /// What a command takes its positional words for.
@@ -40,6 +42,8 @@ pub enum Positional {
     Words,
     /// One number, 1 to 200.
     Number,
+    /// A kind of programs that compute with numbers, and a number, 1 to 200.
+    KindAndNumber,
 }
 
 // What words see of a command.
@@ -54,7 +58,7 @@ pub struct Spelling<'a> {
 
 impl Command {
     // All commands.
-    const ALL: [Command; 10] = [
+    const ALL: [Command; 11] = [
         Command::Compile,
         Command::Check,
         Command::Eval,
@@ -65,6 +69,7 @@ impl Command {
         Command::Gen,
         Command::Bench,
         Command::Verify,
+        Command::Arith,
     ];
 
     // What words see of it.
@@ -124,6 +129,11 @@ impl Command {
                 options: &["from", "nodes", "borrow"],
                 takes: Positional::Nothing,
             },
+            Command::Arith => Spelling {
+                name: "arith",
+                options: &["by", "write"],
+                takes: Positional::KindAndNumber,
+            },
         }
     }
 
@@ -145,7 +155,8 @@ impl Positional {
     {
         match self {
             Positional::Nothing => false,
-            Positional::Word | Positional::Words | Positional::Number => true,
+            Positional::Word | Positional::Words | Positional::Number | Positional::KindAndNumber =>
+                true,
         }
     }
 
@@ -157,16 +168,28 @@ impl Positional {
             Positional::Nothing => count == 0,
             Positional::Word | Positional::Number => count == 1,
             Positional::Words => 1 <= count,
+            Positional::KindAndNumber => count == 2,
         }
     }
 
-    // Whether it is a number.
+    // Whether there is a number among them, the last of them.
     pub fn takes_number(self) -> bool
         ensures { result ≡ takes_number self }
     {
         match self {
             Positional::Nothing | Positional::Word | Positional::Words => false,
-            Positional::Number => true,
+            Positional::Number | Positional::KindAndNumber => true,
+        }
+    }
+
+    // Whether there is a kind of programs among them, the first of them.
+    pub fn takes_kind(self) -> bool
+        ensures { result ≡ takes_kind self }
+    {
+        match self {
+            Positional::Nothing | Positional::Word | Positional::Words | Positional::Number =>
+                false,
+            Positional::KindAndNumber => true,
         }
     }
 }

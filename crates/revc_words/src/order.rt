@@ -3,7 +3,8 @@ ghost use Rattle.std.specs.Prelude.{◌≡◌};
 ghost use Rattle.revc_words.specs.Words.{first_word, order_of};
 
 use crate::Command;
-use gate_split::How;
+use arith_templates::Kind;
+use circuit_plans::How;
 
 /// A format of circuit files.
 #[derive(Clone, Copy, PartialEq, Eq)]
@@ -11,6 +12,17 @@ pub enum Format {
     /// RevLib's `.real`.
     Real,
     /// OpenQASM 2.0.
+    Qasm,
+}
+
+/// What is written of a program that computes with numbers.
+#[derive(Clone, Copy, PartialEq, Eq)]
+pub enum Write {
+    /// Its text.
+    Program,
+    /// RevLib's `.real` file of its circuit.
+    Real,
+    /// The OpenQASM 2.0 file of its circuit.
     Qasm,
 }
 
@@ -35,7 +47,13 @@ pub struct Order {
     pub from: Format,
     /// The format in which a circuit that was read is written.
     pub to: Format,
-    /// How many bits an adder's numbers have, 1 to 200; 0 for a command that makes none.
+    /// What a program computes of numbers; `Add` for a command that does not ask for it.
+    pub kind: Kind,
+    /// The constant by which it multiplies, 1 to 9,999; 0 for every other kind.
+    pub by: u32,
+    /// What is written of it.
+    pub write: Write,
+    /// How many bits its numbers have, 1 to 200; 0 for a command that makes no program.
     pub number: u32,
     pub bits: Vec<String>,
 }

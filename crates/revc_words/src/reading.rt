@@ -4,11 +4,13 @@ ghost use Rattle.std.specs.Prelude.{IfOk, OnOk, IsErrOf, map};
 ghost use Rattle.clap.specs.Words.{found_of, rows_of};
 ghost use Rattle.revc_words.specs.Words.{HasNoOrder, IsOrder, OneOrder, OrdersAreWithinLimits};
 ghost use Rattle.revc_words.specs.Words.{order_of, words_of};
-ghost use Rattle.revc_words.specs.inside.Parsing.{bits_for, number_for, order_by, order_for};
+ghost use Rattle.revc_words.specs.inside.Parsing.{bits_for, kind_for, number_for, order_by};
+ghost use Rattle.revc_words.specs.inside.Parsing.{order_for, takes_factor, with_factor};
 
 use crate::parsing::matched;
-use crate::values::{Values, number};
+use crate::values::{Values, kind, number};
 use crate::{Command, Order, Positional, WordsFault};
+use arith_templates::Kind;
 use clap::ArgMatches;
 use program_gen::MOST_BITS;
 use revc_base::Memory;
@@ -77,14 +79,51 @@ fn order_by(
     if !takes.takes_count(words.len()) {
         return Err(WordsFault::Usage);
     }
+    let Some(kind) = kind_asked(takes, values.by, words) else {
+        return Err(WordsFault::Usage);
+    };
     let Some(number) = number_asked(takes, words) else {
         return Err(WordsFault::Usage);
     };
     let bits = bits_asked(alloc, takes, words)?;
-    Ok(values.order(command, number, bits))
+    Ok(values.order(command, kind, number, bits))
 }
 
-// The number that a command takes its positional word for, and 0 where it takes none.
+// The kind of programs that a command takes its first positional word for, with a factor exactly
+// where it multiplies; `Add` where it takes none.
+fn kind_asked(takes: Positional, by: u32, words: &[&str]) -> Option<Kind>
+    ensures { result ≡ kind_for takes by (map (λ s. s.now) words.now) }
+{
+    if !takes.takes_kind() {
+        return Some(Kind::Add);
+    }
+    match words {
+        [word, ..] => with_factor(kind(word)?, by),
+        [] => None,
+    }
+}
+
+// The kind, which has a factor, that is not 0, exactly where it multiplies.
+fn with_factor(kind: Kind, by: u32) -> Option<Kind>
+    ensures { result ≡ with_factor by kind }
+{
+    if takes_factor(kind) != (by != 0) {
+        return None;
+    }
+    Some(kind)
+}
+
+// Whether programs of a kind multiply.
+fn takes_factor(kind: Kind) -> bool
+    ensures { result ≡ takes_factor kind }
+{
+    match kind {
+        Kind::Add | Kind::Sub | Kind::Less | Kind::Inc => false,
+        Kind::Mul => true,
+    }
+}
+
+// The number that a command takes its last positional word for, and 0 where it takes none.
 fn number_asked(takes: Positional, words: &[&str]) -> Option<u32>
     ensures { result ≡ number_for takes (map (λ s. s.now) words.now) }
 {
@@ -92,7 +131,8 @@ fn number_asked(takes: Positional, words: &[&str]) -> Option<u32>
         return Some(0);
     }
     match words {
-        [word, ..] => number(word, 1, MOST_BITS),
+        [_, word, ..] => number(word, 1, MOST_BITS),
+        [word] => number(word, 1, MOST_BITS),
         [] => number("", 1, MOST_BITS),
     }
 }

@@ -2,14 +2,16 @@
 ghost use Rattle.std.specs.Prelude.{◌≡◌};
 ghost use Rattle.clap.specs.Words.{first_of, found_of, rows_of};
 ghost use Rattle.revc_words.specs.Words.{order_of, words_of};
-ghost use Rattle.revc_words.specs.inside.Parsing.{format_of, number_of, order_with, plan_of};
-ghost use Rattle.revc_words.specs.inside.Parsing.{text_at, texts_in, value_or, values_of};
+ghost use Rattle.revc_words.specs.inside.Parsing.{format_of, kind_of, number_of, order_with};
+ghost use Rattle.revc_words.specs.inside.Parsing.{plan_of, text_at, texts_in, value_or, values_of};
+ghost use Rattle.revc_words.specs.inside.Parsing.{write_of};
 
 use crate::{
-    Command, Format, MOST_DIGITS, MOST_NODES, Order, USUAL_GATES, USUAL_LINES, USUAL_NODES,
+    Command, Format, MOST_DIGITS, MOST_NODES, Order, USUAL_GATES, USUAL_LINES, USUAL_NODES, Write,
 };
+use arith_templates::{Kind, MOST_FACTOR};
+use circuit_plans::{How, MOST_BORROWED, MOST_GATES, MOST_LINES};
 use clap::ArgMatches;
-use gate_split::{How, MOST_BORROWED, MOST_GATES, MOST_LINES};
 
 /// The values of all options.
 #[derive(Clone, Copy)]
@@ -22,6 +24,8 @@ pub struct Values {
     pub format: Format,
     pub from: Format,
     pub to: Format,
+    pub by: u32,
+    pub write: Write,
 }
 
 impl Values {
@@ -44,12 +48,14 @@ impl Values {
             format: format_or(text(matches, "format"), Format::Real)?,
             from: format_or(text(matches, "from"), Format::Real)?,
             to: format_or(text(matches, "to"), Format::Qasm)?,
+            by: number_or(text(matches, "by"), 1, MOST_FACTOR, 0)?,
+            write: write_or(text(matches, "write"), Write::Program)?,
         })
     }
 
-    /// The order of a command with these values, this number and these bits.
-    pub fn order(self, command: Command, number: u32, bits: Vec<String>) -> Order
-        ensures { order_of result ≡ order_with command self number (words_of bits.items) }
+    /// The order of a command with these values, this kind, this number and these bits.
+    pub fn order(self, command: Command, kind: Kind, number: u32, bits: Vec<String>) -> Order
+        ensures { order_of result ≡ order_with command self kind number (words_of bits.items) }
     {
         Order {
             command,
@@ -61,6 +67,9 @@ impl Values {
             format: self.format,
             from: self.from,
             to: self.to,
+            kind,
+            by: self.by,
+            write: self.write,
             number,
             bits,
         }
@@ -116,6 +125,7 @@ fn plan(name: &str) -> Option<How>
     match name {
         "auto" => Some(How::Auto),
         "eager" => Some(How::Eager),
+        "lean" => Some(How::Lean),
         "pebble" => Some(How::Pebble),
         _ => None,
     }
@@ -138,6 +148,42 @@ fn format(name: &str) -> Option<Format>
     match name {
         "real" => Some(Format::Real),
         "qasm" => Some(Format::Qasm),
+        _ => None,
+    }
+}
+
+// What is written, by this name, or the usual one where there is no name.
+fn write_or(name: Option<&str>, usual: Write) -> Option<Write>
+    ensures { result ≡ value_or usual write_of (text_at name.entry) }
+{
+    match name {
+        Some(name) => write(name),
+        None => Some(usual),
+    }
+}
+
+// What is written, by this name.
+fn write(name: &str) -> Option<Write>
+    ensures { result ≡ write_of name.now }
+{
+    match name {
+        "program" => Some(Write::Program),
+        "real" => Some(Write::Real),
+        "qasm" => Some(Write::Qasm),
+        _ => None,
+    }
+}
+
+/// The kind of programs with this name.
+pub fn kind(name: &str) -> Option<Kind>
+    ensures { result ≡ kind_of name.now }
+{
+    match name {
+        "add" => Some(Kind::Add),
+        "sub" => Some(Kind::Sub),
+        "less" => Some(Kind::Less),
+        "inc" => Some(Kind::Inc),
+        "mul" => Some(Kind::Mul),
         _ => None,
     }
 }

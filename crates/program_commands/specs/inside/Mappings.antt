@@ -1,7 +1,7 @@
 -- The fault of a command for each fault of a layer. Want of memory comes from want of memory alone.
-use Rattle.gate_split.specs.Plans.{BudgetView}
-use Rattle.gate_split.specs.declared.plan.PlanFault.{PlanFault}
-use Rattle.gate_split.specs.declared.plan.PlanFault.TheVariants as plans
+use Rattle.circuit_plans.specs.Plans.{BudgetView}
+use Rattle.circuit_plans.specs.declared.plan.PlanFault.{PlanFault}
+use Rattle.circuit_plans.specs.declared.plan.PlanFault.TheVariants as plans
 use Rattle.inliner.specs.declared.fault.RunFault.{RunFault}
 use Rattle.inliner.specs.declared.fault.RunFault.TheVariants as runs
 use Rattle.name_scope.specs.declared.binding.ScopeFault.{ScopeFault}

@@ -1,13 +1,13 @@
 -- From a text to a plan that may be written as a clean file, and why there is none.
 use Rattle.std.specs.Prelude.{◌≡◌, ℕ, ◌+◌, ◌≤◌, List, length}
 use Rattle.claim_check.specs.Settled.{SettledView, IsSettledOf}
-use Rattle.gate_split.specs.declared.plan.TheConstants.{MOST_LINES, MOST_GATES}
-use Rattle.gate_split.specs.Plans.{BudgetView, LaidView, lines_in, roles_of}
+use Rattle.circuit_plans.specs.declared.plan.TheConstants.{MOST_LINES, MOST_GATES}
+use Rattle.circuit_plans.specs.Plans.{BudgetView, LaidView, lines_in, roles_of}
 use Rattle.held_nodes.specs.Plans.{wanted_lines}
 use Rattle.inliner.specs.Faults.{IsRefused}
 use Rattle.inliner.specs.declared.fault.RunFault.{RunFault}
 use Rattle.mct_circuit.specs.Gates.{AreGatesOn, AreNarrow}
-use Rattle.gate_split.specs.declared.choice.How.{How}
+use Rattle.circuit_plans.specs.declared.choice.How.{How}
 use Rattle.plan_choice.specs.Choices.{GatesAreFew, IsChosen, IsLaidFor, LinesAreFew}
 use Rattle.revs_tape.specs.Tapes.{TapeView}
 use Rattle.revc_words.specs.Words.{OrderView}

@@ -7,20 +7,25 @@ use Rattle.std.specs.Str.{bytes_eq, all_ascii_digits}
 use Rattle.std.specs.Str.Parse.{digits_value}
 use Rattle.clap.specs.Words.{App, Kinds, Row, Rule, all_of, fault_of, first_of, matches_of, new_app, new_rule, with_rule}
 use Rattle.clap.specs.declared.builder.action.ArgAction.TheVariants.{Append}
-use Rattle.gate_split.specs.declared.plan.TheConstants.{MOST_LINES, MOST_GATES, MOST_BORROWED}
-use Rattle.gate_split.specs.declared.choice.How.{How}
-use Rattle.gate_split.specs.declared.choice.How.TheVariants.{Auto, Eager, Pebble}
+use Rattle.arith_templates.specs.declared.kind.Kind.{Kind}
+use Rattle.arith_templates.specs.declared.kind.Kind.TheVariants.{Add, Sub, Less, Inc, Mul}
+use Rattle.arith_templates.specs.declared.limits.TheConstants.{MOST_FACTOR}
+use Rattle.circuit_plans.specs.declared.plan.TheConstants.{MOST_LINES, MOST_GATES, MOST_BORROWED}
+use Rattle.circuit_plans.specs.declared.choice.How.{How}
+use Rattle.circuit_plans.specs.declared.choice.How.TheVariants.{Auto, Eager, Lean, Pebble}
 use Rattle.program_gen.specs.declared.adder.TheConstants.{MOST_BITS}
 use Rattle.revc_words.specs.declared.limits.TheConstants.{MOST_DIGITS, MOST_NODES, USUAL_LINES, USUAL_GATES, USUAL_NODES}
 use Rattle.revc_words.specs.Commands.{name_of, options_of, takes_of}
 use Rattle.revc_words.specs.declared.commands.Command.{Command}
 use Rattle.revc_words.specs.declared.commands.TheConstants.Command.{ALL}
 use Rattle.revc_words.specs.declared.commands.Positional.{Positional}
-use Rattle.revc_words.specs.declared.commands.Positional.TheVariants.{Nothing, Word, Words, Number}
+use Rattle.revc_words.specs.declared.commands.Positional.TheVariants.{Nothing, Word, Words, Number, KindAndNumber}
 use Rattle.revc_words.specs.declared.order.Format.{Format}
 use Rattle.revc_words.specs.declared.order.Format.TheVariants.{Real, Qasm}
+use Rattle.revc_words.specs.declared.order.Write.{Write}
+use Rattle.revc_words.specs.declared.order.Write.TheVariants as writes
 use Rattle.revc_words.specs.declared.values.Values.{Values}
-use Rattle.revc_words.specs.Words.{OrderView, plan_word, format_word, first_word}
+use Rattle.revc_words.specs.Words.{OrderView, plan_word, format_word, write_word, kind_word, first_word}
 
 -- ---- the command
 
@@ -36,6 +41,7 @@ takes_any Nothing = false
 takes_any Word = true
 takes_any Words = true
 takes_any Number = true
+takes_any KindAndNumber = true
 
 -- an option with this name
 abbrev pub option_rule : List ℕ → Rule
@@ -89,10 +95,16 @@ number_of least most word =
     cond (is_number_in least most word) (Some (digits_value 10 word)) None
 
 abbrev pub plan_of : List ℕ → Option How
-plan_of word = first_with plan_word (Auto ∷ Eager ∷ Pebble ∷ []) word
+plan_of word = first_with plan_word (Auto ∷ Eager ∷ Lean ∷ Pebble ∷ []) word
 
 abbrev pub format_of : List ℕ → Option Format
 format_of word = first_with format_word (Real ∷ Qasm ∷ []) word
+
+abbrev pub write_of : List ℕ → Option Write
+write_of word = first_with write_word (writes.Program ∷ writes.Real ∷ writes.Qasm ∷ []) word
+
+abbrev pub kind_of : List ℕ → Option Kind
+kind_of word = first_with kind_word (Add ∷ Sub ∷ Less ∷ Inc ∷ Mul ∷ []) word
 
 -- the text behind a reference, where there is one
 abbrev pub text_at : Option (Bor (List ℕ)) → Option (List ℕ)
@@ -113,6 +125,8 @@ pub record Texts : Type 0 where
   pub format : Option (List ℕ)
   pub from : Option (List ℕ)
   pub to : Option (List ℕ)
+  pub by : Option (List ℕ)
+  pub write : Option (List ℕ)
 
 -- the texts by the names of their options
 abbrev pub texts_by : (List ℕ → Option (List ℕ)) → Texts
@@ -125,6 +139,8 @@ texts_by text_of = record {
   format = text_of (codes "format");
   from = text_of (codes "from");
   to = text_of (codes "to");
+  by = text_of (codes "by");
+  write = text_of (codes "write");
 }
 
 abbrev pub texts_in : List Row → Texts
@@ -139,7 +155,9 @@ values_of texts =
     option_and_then (λ nodes.
     option_and_then (λ format.
     option_and_then (λ from.
-    option_and_then (λ to. Some (record {
+    option_and_then (λ to.
+    option_and_then (λ by.
+    option_and_then (λ write. Some (record {
       plan = plan;
       lines = lines;
       gates = gates;
@@ -148,7 +166,11 @@ values_of texts =
       format = format;
       from = from;
       to = to;
+      by = by;
+      write = write;
     }))
+    (value_or writes.Program write_of texts.write))
+    (value_or 0 (number_of 1 MOST_FACTOR) texts.by))
     (value_or Qasm format_of texts.to))
     (value_or Real format_of texts.from))
     (value_or Real format_of texts.format))
@@ -166,6 +188,7 @@ takes_count Nothing count = count == 0
 takes_count Word count = count == 1
 takes_count Words count = nat_le 1 count
 takes_count Number count = count == 1
+takes_count KindAndNumber count = count == 2
 
 -- whether there is a number
 abbrev pub takes_number : Positional → Bool
@@ -173,20 +196,53 @@ takes_number Nothing = false
 takes_number Word = false
 takes_number Words = false
 takes_number Number = true
+takes_number KindAndNumber = true
 
--- the number and the bits for which they are taken
+-- whether there is a kind of programs
+abbrev pub takes_kind : Positional → Bool
+takes_kind Nothing = false
+takes_kind Word = false
+takes_kind Words = false
+takes_kind Number = false
+takes_kind KindAndNumber = true
+
+-- whether programs of a kind multiply
+abbrev pub takes_factor : Kind → Bool
+takes_factor Add = false
+takes_factor Sub = false
+takes_factor Less = false
+takes_factor Inc = false
+takes_factor Mul = true
+
+-- the kind, where there is a factor exactly if it multiplies
+abbrev pub with_factor : ℕ → Kind → Option Kind
+with_factor by kind =
+    cond (takes_factor kind) (cond (by == 0) None (Some kind)) (cond (by == 0) (Some kind) None)
+
+-- the kind, the number and the bits for which they are taken
+abbrev pub kind_for : Positional → ℕ → List (List ℕ) → Option Kind
+kind_for takes by plain =
+    cond (takes_kind takes)
+    (option_and_then (with_factor by) (kind_of (first_word plain))) (Some Add)
+
+-- the word for the number: the second where there are two
+abbrev pub number_word : List (List ℕ) → List ℕ
+number_word [] = []
+number_word (word ∷ []) = word
+number_word (kind ∷ word ∷ rest) = word
+
 abbrev pub number_for : Positional → List (List ℕ) → Option ℕ
 number_for takes plain =
-    cond (takes_number takes) (number_of 1 MOST_BITS (first_word plain)) (Some 0)
+    cond (takes_number takes) (number_of 1 MOST_BITS (number_word plain)) (Some 0)
 
 abbrev pub bits_for : Positional → List (List ℕ) → List (List ℕ)
 bits_for takes plain = cond (takes_number takes) [] plain
 
 -- ---- the order
 
--- the order of a command with these values, this number and these bits
-abbrev pub order_with : Command → Values → ℕ → List (List ℕ) → OrderView
-order_with command values number bits = record {
+-- the order of a command with these values, this kind, this number and these bits
+abbrev pub order_with : Command → Values → Kind → ℕ → List (List ℕ) → OrderView
+order_with command values kind number bits = record {
   command = command;
   plan = values.plan;
   lines = values.lines;
@@ -196,6 +252,9 @@ order_with command values number bits = record {
   format = values.format;
   from = values.from;
   to = values.to;
+  kind = kind;
+  by = values.by;
+  write = values.write;
   number = number;
   bits = bits;
 }
@@ -204,8 +263,10 @@ order_with command values number bits = record {
 abbrev pub order_by : Command → List (List ℕ) → Values → Option OrderView
 order_by command plain values =
     cond (takes_count (takes_of command) (length plain))
-    (option_map (λ number. order_with command values number (bits_for (takes_of command) plain))
-    (number_for (takes_of command) plain)) None
+    (option_and_then (λ kind.
+    option_map (λ number. order_with command values kind number (bits_for (takes_of command) plain))
+    (number_for (takes_of command) plain))
+    (kind_for (takes_of command) values.by plain)) None
 
 -- with these texts and positional words
 abbrev pub order_of_texts : Command → Texts → List (List ℕ) → Option OrderView

@@ -1,6 +1,6 @@
 use Rattle.std.proofs.Common.{length, ◌≤◌, ◌∙◌, subst, sym, List, ℕ}
 use Rattle.program_commands.specs.Settling.{LeavesTape}
-use Rattle.program_commands.proofs.AdderLengthLemmas.{adders_are_short}
+use Rattle.program_commands.proofs.BenchLemmas.{adds, bench_faults}
 use Rattle.program_commands.proofs.TextLemmas.{stops_compile}
 use Rattle.program_gen.specs.Adder.{adder_text}
 use Rattle.revc_words.specs.Words.{order_of}
@@ -17,15 +17,19 @@ returns-in_err-tape-clause-ok c = no_value c.from_residual-in_err-tape.result _ 
 pub returns-in_err-tape-clause-err : goal.returns-in_err-tape-clause-err
 returns-in_err-tape-clause-err c =
     let order = order_of c.args.order.now in
-    passes_on _ c.from_residual-in_err-tape.result c.from_residual-in_err-tape.ensures.1
+    bench_faults order c.from_residual-in_err-tape.result c.requires.size
+    (passes_on _ c.from_residual-in_err-tape.result c.from_residual-in_err-tape.ensures.1
     (stops_compile order (adder_text order.number) c.in_err-tape.field-0.0
-    (rw (c.as_slice.ensures.value ∙ c.in_ok-text.ensures) at c.in_err-tape.ensures.err))
+    (rw (c.as_slice.ensures.value ∙ c.in_ok-text.ensures) at c.in_err-tape.ensures.err)))
 
 pub tape_of_text-requires : goal.tape_of_text-requires
 tape_of_text-requires c =
     subst (λ (text : List ℕ). length text ≤ MOST_BYTES) (sym (c.as_slice.ensures.value ∙ c.in_ok-text.ensures))
-    (adders_are_short c.args.order.now.number c.requires.size.some c.requires.size.few)
+    (adds c.args.order.now.number c.requires.size).formed.text_of.short
 
 pub measure_tape-requires-clause-left : goal.measure_tape-requires-clause-left
 measure_tape-requires-clause-left c =
     subst (λ (text : List ℕ). LeavesTape text c.in_ok-tape.tape) (c.as_slice.ensures.value ∙ c.in_ok-text.ensures) c.in_ok-tape.ensures.left
+
+pub returns-clause-err : goal.returns-clause-err
+returns-clause-err c = bench_faults (order_of c.args.order.now) c.measure_tape.result c.requires.size c.measure_tape.ensures.err
