@@ -7,6 +7,7 @@ mod flip;
 mod index;
 mod marks;
 mod rows;
+mod spans;
 mod sweep;
 mod tidying;
 

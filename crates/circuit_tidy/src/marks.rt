@@ -15,22 +15,42 @@ const FREED_CONTROL: u8 = 8;
 
 const NEW: u8 = 16;
 
-/// The lines of a change, and of the flips behind it that were passed over.
+// A flip of the line behind those that were passed over can come to the change.
+const OPEN: u8 = 32;
+
+/// The lines of a change, with what the flips behind it that were passed over have of them; and where
+/// these begin among the flips that were walked over, once they are so.
 #[derive(Drop)]
 pub struct Marks {
     words: Vec<u8>,
     open: usize,
+    passed: usize,
 }
 
 impl Marks {
     pub fn new(alloc: Global, lines: u32) -> Result<Marks, Memory> {
         let words = vec![in alloc; 0; lines as usize]?;
-        Ok(Marks { words, open: 0 })
+        Ok(Marks {
+            words,
+            open: 0,
+            passed: 0,
+        })
     }
 
     // Whether a flip behind those that were passed over can still come to the change.
     pub fn are_open(&self) -> bool {
         self.open > 0
+    }
+
+    // Whether the flip has a line on which one can still come to the change.
+    pub fn touch(&self, flip: Flip) -> bool {
+        let target = self.word_of(flip.target);
+        let words = match flip.controls {
+            Controls::Zero => target,
+            Controls::One(one) => target | self.word_of(one),
+            Controls::Two(first, second) => target | self.word_of(first) | self.word_of(second),
+        };
+        has(words, OPEN)
     }
 
     // Whether the flip can come to the change, and was freed or is on new lines.
@@ -69,14 +89,46 @@ impl Marks {
         self.add_lines(flip, FREED_CONTROL, FREED_TARGET);
     }
 
+    // The flips that are passed over begin behind so many.
+    pub fn begin(&mut self, behind: usize) {
+        self.passed = behind;
+    }
+
+    // The flip goes, with the one at a place, behind flips that were passed over and now are walked
+    // over.
+    pub fn free_behind(&mut self, flip: Flip, place: usize, walked: &[Flip]) {
+        if place < self.passed {
+            self.passed -= 1;
+        }
+        self.free(flip);
+        let (_, passed) = walked.split_at(self.passed.min(walked.len()));
+        for other in passed {
+            self.pass(*other);
+        }
+    }
+
     // The flip is new.
     fn renew(&mut self, flip: Flip) {
         self.add_lines(flip, NEW, NEW);
     }
 
-    // The flip is passed over.
+    // The flip is passed over: lines of the change note it.
     pub fn pass(&mut self, flip: Flip) {
-        self.add_lines(flip, TARGET, CONTROL);
+        self.note(flip.target, TARGET);
+        match flip.controls {
+            Controls::Zero => {}
+            Controls::One(one) => self.note(one, CONTROL),
+            Controls::Two(first, second) => {
+                self.note(first, CONTROL);
+                self.note(second, CONTROL);
+            }
+        }
+    }
+
+    fn note(&mut self, line: u32, bit: u8) {
+        if self.word_of(line) != 0 {
+            self.add(line, bit);
+        }
     }
 
     fn word_of(&self, line: u32) -> u8 {
@@ -101,10 +153,10 @@ impl Marks {
         if has(old, bit) || self.words.len() <= place {
             return;
         }
-        let new = old | bit;
+        let new = with_openness(old | bit);
         self.words[place] = new;
-        let open = self.open.saturating_add(usize::from(is_open(new)));
-        self.open = open.saturating_sub(usize::from(is_open(old)));
+        let open = self.open.saturating_add(usize::from(has(new, OPEN)));
+        self.open = open.saturating_sub(usize::from(has(old, OPEN)));
     }
 }
 
@@ -117,6 +169,14 @@ fn is_open(word: u8) -> bool {
     (has(word, FREED_TARGET) && !has(word, CONTROL))
         || (has(word, FREED_CONTROL) && !has(word, TARGET))
         || (has(word, NEW) && !(has(word, TARGET) && has(word, CONTROL)))
+}
+
+fn with_openness(word: u8) -> u8 {
+    if is_open(word) {
+        word | OPEN
+    } else {
+        word & !OPEN
+    }
 }
 
 // How many kinds of flips are told apart.
@@ -134,10 +194,10 @@ impl Kinds {
         Ok(Kinds { counts })
     }
 
-    // Whether there may be a flip like this one.
-    pub fn may_have(&self, flip: Flip) -> bool {
+    // Whether there may be another flip like this one of them.
+    pub fn may_have_another(&self, flip: Flip) -> bool {
         let kind = kind_of(flip);
-        kind < self.counts.len() && self.counts[kind] > 0
+        kind < self.counts.len() && self.counts[kind] > 1
     }
 
     pub fn add_all(&mut self, flips: &[Flip]) {
@@ -150,6 +210,12 @@ impl Kinds {
         let kind = kind_of(flip);
         if kind < self.counts.len() {
             self.counts[kind] = self.counts[kind].saturating_add(1);
+        }
+    }
+
+    pub fn remove_all(&mut self, flips: &[Flip]) {
+        for flip in flips {
+            self.remove(*flip);
         }
     }
 

@@ -11,20 +11,22 @@ ghost use Rattle.circuit_tidy.specs.inside.Work.{IsSwept};
 use crate::blocks::{Longer, front_of};
 use crate::flip::Flip;
 use crate::marks::{Kinds, Marks};
+use crate::spans::Spans;
 use revc_base::Memory;
 use std::alloc::Global;
 
 // How many blocks a sweep looks at.
 const MOST_TURNS: u32 = 1 << 30;
 
-/// Flips that were walked over, with the places where their blocks end, and flips of which those
-/// from a place on are still to come.
+/// Flips that were walked over, and flips of which those from a place on are still to come, with what
+/// the walk found of both.
 #[derive(Drop)]
 pub struct Sweep {
     done: Vec<Flip>,
-    ends: Vec<usize>,
+    behind: Spans,
     kinds: Kinds,
     flips: Vec<Flip>,
+    ahead: Spans,
     at: usize,
 }
 
@@ -57,18 +59,50 @@ impl Sweep {
     fn new(alloc: Global, flips: Vec<Flip>) -> Result<Sweep, Memory>
         ensures { IfOk result (IsBegun flips.items) }
     {
-        let kinds = Kinds::new(alloc)?;
+        let mut kinds = Kinds::new(alloc)?;
+        kinds.add_all(&flips);
         Ok(Sweep {
             done: Vec::new(alloc),
-            ends: Vec::new(alloc),
+            behind: Spans::new(alloc),
             kinds,
             flips,
+            ahead: Spans::new(alloc),
             at: 0,
         })
     }
 
-    // Over what comes next, or back behind a block that gave way.
+    // Over what comes next, if a look at it would find nothing, or on to a block that gives way.
     fn walk_on(&mut self, alloc: Global, lines: u32) -> Result<(), Memory>
+        requires { self.old.at < length self.old.flips.items }
+        ensures { OnOk result (Leads self.old self.new) }
+    {
+        let known = self.known_length();
+        if known > 0 {
+            self.take_block(known)?;
+            return Ok(());
+        }
+        self.walk_over_block(alloc, lines)?;
+        Ok(())
+    }
+
+    // How many come next that need no look: those that had one, or a row of flips that are no CX.
+    fn known_length(&mut self) -> usize
+        requires { IsWithin self.old }
+        ensures stays { Stays self.old self.new }
+        ensures at { self.new.at ≡ self.old.at }
+        ensures within { self.new.at + result ≤ length self.new.flips.items }
+    {
+        let known = self.ahead.length_at(self.at);
+        let left = self.flips.len() - self.at;
+        if known > 0 {
+            return known.min(left);
+        }
+        let (_, rest) = self.flips.split_at(self.at);
+        before_cx(rest)
+    }
+
+    // Over the block that comes next, or back behind it where it gives way.
+    fn walk_over_block(&mut self, alloc: Global, lines: u32) -> Result<(), Memory>
         requires { self.old.at < length self.old.flips.items }
         ensures { OnOk result (Leads self.old self.new) }
     {
@@ -106,7 +140,7 @@ impl Sweep {
         self.replace(count, shorter)?;
         self.go_back(start);
         let least = self.settle(&mut marks, shorter.len())?;
-        self.go_back_to_block(least);
+        self.go_back_to_block(least)?;
         Ok(())
     }
 
@@ -115,9 +149,14 @@ impl Sweep {
         requires { self.old.at + count ≤ length self.old.flips.items }
         ensures { OnOk result (Replaces count shorter.now self.old self.new) }
     {
-        self.done.extend_from_slice(shorter)?;
+        let (_, rest) = self.flips.split_at(self.at);
+        let (block, _) = rest.split_at(count);
+        self.kinds.remove_all(block);
         self.kinds.add_all(shorter);
+        self.behind.close(self.done.len());
+        self.done.extend_from_slice(shorter)?;
         self.at += count;
+        self.ahead.drop_before(self.at);
         Ok(())
     }
 
@@ -126,9 +165,9 @@ impl Sweep {
         requires { self.old.at + count ≤ length self.old.flips.items }
         ensures { OnOk result (Leads self.old self.new) }
     {
+        let start = self.done.len();
         self.take(count)?;
-        let end = self.done.len();
-        self.ends.push(end)?;
+        self.behind.push(start, self.done.len())?;
         Ok(())
     }
 
@@ -140,7 +179,6 @@ impl Sweep {
         let (_, rest) = self.flips.split_at(self.at);
         let (next, _) = rest.split_at(count);
         self.done.extend_from_slice(next)?;
-        self.kinds.add_all(next);
         self.at += count;
         Ok(())
     }
@@ -164,19 +202,26 @@ impl Sweep {
         ensures { Stays self.old self.new }
     {
         if let Some(flip) = self.done.pop() {
-            self.kinds.remove(flip);
             self.at -= 1;
             self.flips[self.at] = flip;
         }
     }
 
     // Back to the end of the last block before a place.
-    fn go_back_to_block(&mut self, least: usize)
+    fn go_back_to_block(&mut self, least: usize) -> Result<(), Memory>
         requires { IsWithin self.old }
-        ensures { Stays self.old self.new }
+        ensures { OnOk result (Stays self.old self.new) }
     {
-        let to = last_before(&mut self.ends, least);
+        pass_on(
+            &mut self.behind,
+            least,
+            self.done.len(),
+            &mut self.ahead,
+            self.at,
+        )?;
+        let to = self.behind.last_end();
         self.go_back(to);
+        Ok(())
     }
 
     // Takes out the pairs that come of the change, of which the first so many that come next are
@@ -241,6 +286,7 @@ impl Sweep {
         ensures { OnOk result (Leads self.old self.new) }
     {
         let mut least = self.done.len();
+        marks.begin(least);
         for next in self.at..self.flips.len() {
             if !marks.are_open() {
                 break;
@@ -258,6 +304,9 @@ impl Sweep {
         ensures { OnOk result (Leads self.old self.new) }
     {
         let flip = self.flips[next];
+        if !marks.touch(flip) {
+            return Ok(self.done.len());
+        }
         if !self.may_meet(marks, flip) {
             marks.pass(flip);
             return Ok(self.done.len());
@@ -265,7 +314,7 @@ impl Sweep {
         let cancelled = self.cancel(next)?;
         match cancelled {
             Some(other) => {
-                marks.free(flip);
+                marks.free_behind(flip, other, &self.done);
                 Ok(other)
             }
             None => {
@@ -276,7 +325,7 @@ impl Sweep {
     }
 
     fn may_meet(&self, marks: &Marks, flip: Flip) -> bool {
-        marks.let_through(flip) && self.kinds.may_have(flip)
+        marks.let_through(flip) && self.kinds.may_have_another(flip)
     }
 
     // Takes out a flip that is still to come with the last like it, where all between are free of
@@ -320,21 +369,43 @@ impl Sweep {
         ensures { Leads self.old self.new }
     {
         let other = self.done.remove(place);
-        self.kinds.remove(other);
+        self.kinds.remove_all(&[other, other]);
+        self.behind.close(place);
+        self.ahead.open(self.at);
         self.at += 1;
     }
 }
 
-// The last of the ends before a place, or 0. Those behind it go.
-fn last_before(ends: &mut Vec<usize>, place: usize) -> usize {
-    'ends: while !ends.is_empty() {
-        let end = ends[ends.len() - 1];
-        if end < place {
-            return end;
-        }
-        ends.pop();
+// The spans behind the end that do not end before a place go over to those ahead: what is the end there
+// is a place here.
+fn pass_on(
+    behind: &mut Spans,
+    least: usize,
+    end: usize,
+    ahead: &mut Spans,
+    at: usize,
+) -> Result<(), Memory> {
+    for _span in 0..end {
+        let Some(span) = behind.pop_from(least) else {
+            return Ok(());
+        };
+        let start = end.saturating_sub(span.start);
+        let length = end.saturating_sub(span.end);
+        ahead.push(at.saturating_sub(start), at.saturating_sub(length))?;
     }
-    0
+    Ok(())
+}
+
+// How many flips come before the first CX.
+fn before_cx(flips: &[Flip]) -> usize
+    ensures { result ≤ length flips.now }
+{
+    for (place, flip) in flips.iter().enumerate() {
+        if flip.is_cx() {
+            return place;
+        }
+    }
+    flips.len()
 }
 
 // The place of the last flip like this one, if all behind it are free of this one.

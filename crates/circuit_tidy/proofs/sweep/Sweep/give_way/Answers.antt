@@ -11,4 +11,4 @@ returns c =
     (leads_on_further start back settled
     (leads_on_further start replaced back
     (replaced_leads start replaced c.args.count c.args.shorter.now c.requires.within c.requires.longer c.in_ok-replace.ensures)
-    (stays_leads replaced back c.go_back.ensures)) c.in_ok-least.ensures) (stays_leads settled c.go_back_to_block.new.self c.go_back_to_block.ensures)
+    (stays_leads replaced back c.go_back.ensures)) c.in_ok-least.ensures) (stays_leads settled c.go_back_to_block.new.self c.in_ok-go_back_to_block.ensures)
