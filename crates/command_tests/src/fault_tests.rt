@@ -21,6 +21,8 @@ const CALLS: &[(&str, &[u8])] = &[
     ("verify", BESIDE),
     ("gen 1", b""),
     ("bench 1", b""),
+    ("arith inc 1", b""),
+    ("arith less 1 --write qasm", b""),
 ];
 
 // The product and its file.

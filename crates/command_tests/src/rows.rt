@@ -61,6 +61,8 @@ const NO_ORDERS: &[&str] = &[
     "convert --to x",
     "tidy x",
     "gen 2 --nodes 5",
+    "arith mul 2",
+    "arith add 2 --by 3",
     "compile -- x",
     "eval 1 -- --",
 ];
@@ -121,7 +123,7 @@ pub fn words_of(alloc: Global, words: &str) -> Result<Vec<String>, Memory> {
 
 fn call(alloc: Global, words: &str, text: Vec<u8>) -> Result<Left, Memory> {
     let out = MemorySink::new(alloc, 1_000_000, Vec::new(alloc), 1_000_000)?;
-    let err = MemorySink::new(alloc, 100, Vec::new(alloc), 100)?;
+    let err = MemorySink::new(alloc, 2_000, Vec::new(alloc), 2_000)?;
     call_with(alloc, &words_of(alloc, words)?, text, out, err)
 }
 

@@ -1,7 +1,8 @@
 // The tests of revc_words.
 use crate::rows::words_of;
-use gate_split::How;
-use revc_words::{Command, Format, Order, WordsFault, read_words};
+use arith_templates::Kind;
+use circuit_plans::How;
+use revc_words::{Command, Format, Order, WordsFault, Write, read_words};
 use std::alloc::Global;
 use std::process::Abort;
 use std::test::Fail;
@@ -17,6 +18,9 @@ struct Asked {
     format: Format,
     from: Format,
     to: Format,
+    kind: Kind,
+    by: u32,
+    write: Write,
     number: u32,
     bits: &'static [&'static str],
 }
@@ -32,6 +36,9 @@ const USUAL: Asked = Asked {
     format: Format::Real,
     from: Format::Real,
     to: Format::Qasm,
+    kind: Kind::Add,
+    by: 0,
+    write: Write::Program,
     number: 0,
     bits: &[],
 };
@@ -137,6 +144,26 @@ const ORDERS: &[(&str, Asked)] = &[
             ..USUAL
         },
     ),
+    (
+        "arith less 16 --write real",
+        Asked {
+            command: Command::Arith,
+            kind: Kind::Less,
+            write: Write::Real,
+            number: 16,
+            ..USUAL
+        },
+    ),
+    (
+        "arith --by=9999 -- mul 1",
+        Asked {
+            command: Command::Arith,
+            kind: Kind::Mul,
+            by: 9_999,
+            number: 1,
+            ..USUAL
+        },
+    ),
 ];
 
 // Words that are no order.
@@ -162,6 +189,13 @@ const NO_ORDERS: &[&str] = &[
     "run -1",
     "gen 201",
     "bench",
+    "arith add",
+    "arith 2 add",
+    "arith add 201",
+    "arith mul 2",
+    "arith mul 2 --by 10000",
+    "arith add 2 --by 3",
+    "arith add 2 --write x",
 ];
 
 fn order_of(alloc: Global, words: &str) -> Result<Order, WordsFault> {
@@ -177,10 +211,26 @@ fn are_same(bits: &[String], words: &[&str]) -> bool {
 }
 
 fn assert_asked(rt: &impl Abort, order: &Order, asked: &Asked) {
-    let numbers = [order.lines, order.borrow, order.nodes, order.number];
+    let numbers = [
+        order.lines,
+        order.borrow,
+        order.nodes,
+        order.number,
+        order.by,
+    ];
     let formats = [order.format, order.from, order.to];
     assert!(rt; order.command == asked.command && order.plan == asked.plan);
-    assert!(rt; numbers == [asked.lines, asked.borrow, asked.nodes, asked.number]);
+    assert!(rt;
+        numbers
+            == [
+                asked.lines,
+                asked.borrow,
+                asked.nodes,
+                asked.number,
+                asked.by
+            ]
+    );
+    assert!(rt; order.kind == asked.kind && order.write == asked.write);
     assert!(rt; order.gates == asked.gates && formats == [asked.format, asked.from, asked.to]);
     assert!(rt; are_same(&order.bits, asked.bits));
 }
