@@ -4,6 +4,7 @@ from random import Random
 from typing import Iterator, List
 
 from models import qasm, real
+from models.adders import bits_of
 from models.circuits import is_clean
 from models.claims import variable_order
 from models.commands import READERS as CIRCUITS
@@ -11,12 +12,15 @@ from models.commands import MOST_TIDIED, Answer, answer_of, budget_of, circuit_o
 from models.commands import split_of
 from models.language import Program, Run, program_of
 from models.plans import Budget, Numbers
+from models.templates import inputs_of, wanted
+from models.templates import words_of as numbers_of
 from models.tidied import is_tidy
 from models.words import Order, order_of
 
 READERS = {"real": real.circuit_of, "qasm": qasm.compiled_circuit_of}
 MOST_TRIED = 7  # bits of inputs and borrowed lines that are tried on all their values
 TRIED = 4
+SOME_NUMBERS = 5  # random ones on which a circuit of many bits is run
 
 
 def is_sound(words: List[str], text: bytes, answer: Answer) -> bool:
@@ -29,6 +33,8 @@ def is_sound(words: List[str], text: bytes, answer: Answer) -> bool:
         return is_same(circuit, other) and (order.command == "convert" or is_tidied(circuit, other))
     if order is not None and order.command == "verify" and answer.status in (0, 15):
         return is_verdict(order, text, answer)
+    if order is not None and order.command == "arith" and order.values["write"] != "program":
+        return answer.status != 0 or is_arithmetic(order, answer.out)
     if order is None or order.command not in ("compile", "check"):
         return True
     if answer.status == 4:
@@ -45,6 +51,19 @@ def is_fitting(order: Order, program: Program, file: bytes) -> bool:
     budget, circuit = budget_of(order), READERS[order.values["format"]](file)
     fits = len(circuit.names) <= budget.lines and len(circuit.gates) <= budget.gates
     return fits and is_clean(circuit, program, budget.borrow, words_of(program.inputs + budget.borrow))
+
+
+def is_arithmetic(order: Order, file: bytes) -> bool:
+    """Whether a circuit puts out, on all words or some, what its kind says of the numbers, and leaves the rest."""
+    kind, bits, factor = order.kind, order.number, order.values["by"]
+    circuit, inputs = READERS[order.values["write"]](file), inputs_of(kind, bits)
+    for word in numbers_of(kind, bits, SOME_NUMBERS):
+        outputs = wanted(kind, bits, factor, word)
+        work = [0] * (len(circuit.names) - inputs - len(outputs))
+        given = bits_of(word, inputs)
+        if circuit.run(given + [0] * len(outputs) + work) != given + outputs + work:
+            return False
+    return True
 
 
 def has_few(order: Order, text: bytes, file: bytes) -> bool:

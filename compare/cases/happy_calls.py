@@ -24,10 +24,11 @@ CALLS: Dict[str, Call] = {
     "bench": Call(["bench", "1"], b""),
     "verify": Call(["verify"], AND + b"\n---\n" + FILE.encode()),
     "tidy": Call(["tidy"], FILE.encode()),
+    "arith": Call(["arith", "mul", "1", "--by", "3"], b""),
 }
 LOOPS = Call(["eval", "1"], b"revs 2 main (a : bool) = a")
 LEAN = Call(["compile", "--plan", "lean"], AND)
-UNREAD = ("gen", "bench")  # the commands that read no source
+UNREAD = ("gen", "bench", "arith")  # the commands that read no source
 
 
 def answers(program: str, call: Call) -> bool:

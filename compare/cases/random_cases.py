@@ -15,6 +15,7 @@ from models.claims import TooWide
 from models.commands import READERS, Fault, answer_of, run_of, sizes_of, verdict_of
 from models.language import Refused as RefusedProgram
 from models.real import Refused as RefusedCircuit
+from models.templates import KINDS
 from models.words import order_of
 
 
@@ -242,6 +243,24 @@ class Bench:
         return Case(["bench", str(number)] + words, b"")
 
 
+class Arith:
+    """Programs that compute with numbers, and their circuits."""
+
+    name = "arith"
+
+    def __init__(self, seed: int):
+        self.random = Random(seed)
+
+    def case(self) -> Case:
+        kind, form = self.random.choice(KINDS), self.random.choice(["program", "real", "qasm"])
+        bits = self.random.randint(1, 200) if form == "program" else self.random.choice([1, 2, 3, 4, 5, 6, 8, 12])
+        words = ["arith", kind, str(bits), "--write", form]
+        if kind == "mul":
+            factor = self.random.randint(1, self.random.choice([3, 100, 9_999]))
+            words += ["--by", str(factor)]
+        return Case(words, b"")
+
+
 class Words:
     """Random words on texts that suit them."""
 
@@ -257,4 +276,4 @@ class Words:
         return Case(words, texts.get("".join(words[:1]), FIVE).encode())
 
 
-COMPARED = [Compile, Lean, Check, Eval, Loops, Stat, Run, Convert, Tidy, Verify, Bench, Words]
+COMPARED = [Compile, Lean, Check, Eval, Loops, Stat, Run, Convert, Tidy, Verify, Bench, Arith, Words]

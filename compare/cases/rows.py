@@ -538,6 +538,15 @@ ADDERS = [
     ("bench 16 --plan pebble --lines 48", "", "revc: lines 49 over 48"),
 ]
 
+# ---- Programs that compute with numbers
+
+ARITH = [
+    ("arith mul 2 --by 3", "", ", ".join(THREE_TIMES.splitlines())),
+    ("arith mul --by=3 --write program -- 0002", "", ", ".join(THREE_TIMES.splitlines())),
+    ("arith sub 2", "", ", ".join(TWO_LESS.splitlines())),
+    ("arith less 1 --write real", "", COMPUTED[-1][-1]),
+]
+
 # ---- Words
 
 BAD = "revc: bad command line"
@@ -611,6 +620,16 @@ WORDS = [(words, BITS + "a && b", worked) for words, worked in [
     ("gen --nodes 5 1", BAD),
     ("bench 1 --format real", BAD),
     ("bench --lines=3 1", "revc: lines 4 over 3"),
+    ("arith add 2 --by 3", BAD),
+    ("arith mul 2", BAD),
+    ("arith mul 2 --by 0", BAD),
+    ("arith mul 2 --by 10000", BAD),
+    ("arith Add 2", BAD),
+    ("arith add 201", BAD),
+    ("arith add", BAD),
+    ("arith 2 add", BAD),
+    ("arith add 2 --write x", BAD),
+    ("arith add 2 --plan eager", BAD),
     ("stat --nodes 5", BAD),
     ("stat", "revc: circuit line 1"),
     ("run", BAD),
@@ -629,7 +648,8 @@ WORDS = [(words, BITS + "a && b", worked) for words, worked in [
 ]]
 
 COMPILE = [("compile", text, worked) for text, worked in COMPILED]
-WORKED = COMPILE + PLANNED + LEANED + CHECKED + EVALUATED + LOOPED + COMPUTED + FILES + OTHERS + TIDIED + VERIFIED + ADDERS + WORDS
+WORKED = COMPILE + PLANNED + LEANED + CHECKED + EVALUATED + LOOPED + COMPUTED + FILES + OTHERS + TIDIED + VERIFIED
+WORKED += ADDERS + ARITH + WORDS
 
 
 def shown(answer: Answer) -> str:

@@ -32,7 +32,7 @@ class Tables:
         if len(variables) > most:
             raise TooWide()
         self.variables = variables
-        self.true = (1 << (1 << len(variables))) - 1
+        self.true, self.false = (1 << (1 << len(variables))) - 1, 0
         self.inputs = [self.variable(self.step(number)) for number in range(len(variables))]
 
     def step(self, number: int) -> int:
@@ -79,7 +79,7 @@ def rests_on(run: Run, names: Iterable[str], known: Set[str]) -> Set[str]:
 def value_of(write: Write, tables: Tables, functions: Dict[str, int]) -> int:
     """The function of a write, by those of its operands."""
     if not write.operands:
-        return tables.true * int(write.operator)
+        return tables.true if int(write.operator) else tables.false
     left, right = (functions[operand] for operand in write.operands)
     return left & right if write.operator == "&&" else left ^ right
 

@@ -8,6 +8,7 @@ from models.graphs import Graph
 from models.language import Run, program_of
 from models.lean import lean
 from models.plans import Budget, NoIdle, OverGates, OverLines, Plan, Settled, choose, flip, split, width_of
+from models.templates import template_text
 from models.tidied import Flip, tidied
 from models.verdicts import MOST_BYTES, Verdict, first_wide, parted, verdict_on
 from models.words import Order, order_of
@@ -186,10 +187,10 @@ def verdict_of(order: Order, source: bytes) -> Verdict:
     return verdict_on(run, circuit, order.values["borrow"])
 
 
-def said(verdict: Verdict) -> bytes:
-    """What is written where no limit on nodes is passed."""
-    if verdict.line is not None:
-        raise Fault(15, "circuit differs at line %d on %s" % (verdict.line, verdict.bits))
+def said(line: Optional[int], bits: str) -> bytes:
+    """What is written of the first line that differs, on these bits, or of none, where no limit on nodes is passed."""
+    if line is not None:
+        raise Fault(15, "circuit differs at line %d on %s" % (line, bits))
     return lines(["verified"])
 
 
@@ -197,7 +198,7 @@ def verify_text(order: Order, source: bytes) -> bytes:
     verdict, limit = verdict_of(order, source), order.values["nodes"]
     if verdict.least > limit:
         raise Fault(5, "circuit passes %d nodes" % limit)
-    return said(verdict)
+    return said(verdict.line, verdict.bits)
 
 
 def gen_text(order: Order, text: bytes) -> bytes:
@@ -219,8 +220,14 @@ def bench_text(order: Order, text: bytes) -> bytes:
     return lines(["%s %d" % pair for pair in numbers.items()])
 
 
+def arith_text(order: Order, text: bytes) -> bytes:
+    program, form = template_text(order.kind, order.number, order.values["by"]), order.values["write"]
+    return program if form == "program" else compile_text(order_of(["compile", "--format", form]), program)
+
+
 TEXTS = {"compile": compile_text, "check": check_text, "eval": eval_text, "stat": stat_text, "run": run_text,
-         "convert": convert_text, "tidy": tidy_text, "verify": verify_text, "gen": gen_text, "bench": bench_text}
+         "convert": convert_text, "tidy": tidy_text, "verify": verify_text, "gen": gen_text, "bench": bench_text,
+         "arith": arith_text}
 
 
 def answered(make: Callable[[], bytes]) -> Answer:
@@ -250,5 +257,10 @@ def is_free(words: List[str], source: bytes, answer: Answer) -> bool:
     if order is None or order.command != "verify":
         return False
     passed, verdicts = Fault(5, "circuit passes %d nodes" % order.values["nodes"]).answer, []
-    other = answered(lambda: verdicts.append(verdict_of(order, source)) or said(verdicts[0]))
+
+    def unlimited() -> bytes:
+        verdicts.append(verdict_of(order, source))
+        return said(verdicts[0].line, verdicts[0].bits)
+
+    other = answered(unlimited)
     return bool(verdicts) and verdicts[0].most > order.values["nodes"] and answer in (passed, other)

@@ -118,12 +118,13 @@ def computes(kind: str, bits: int, factor: int, words: List[int]) -> bool:
     return True
 
 
-def words_of(kind: str, bits: int) -> List[int]:
-    """All words of few bits; else those of zeros and ones, and a random one."""
+def words_of(kind: str, bits: int, count: int = 1) -> List[int]:
+    """All words of few bits; else those of zeros and ones, and so many random ones."""
     inputs = inputs_of(kind, bits)
     if bits <= MOST_TRIED:
         return list(range(1 << inputs))
-    return [0, (1 << inputs) - 1, random.Random("%s %d" % (kind, bits)).getrandbits(inputs)]
+    source = random.Random("%s %d" % (kind, bits))
+    return [0, (1 << inputs) - 1] + [source.getrandbits(inputs) for _ in range(count)]
 
 
 def templates_differ(worked) -> int:

@@ -5,7 +5,8 @@ The variables are the inputs in the order of `claims`, and then the borrowed lin
 them; the first lines are the inputs, then come the outputs and the work lines, which begin at 0, and the last ones are
 borrowed.
 """
-from typing import Dict, Iterable, NamedTuple, Optional, Set, Tuple
+from functools import partial
+from typing import Callable, Dict, Iterable, List, NamedTuple, Optional, Set, Tuple
 
 from models.claims import Tables, value_of, variable_order
 from models.graphs import Graph
@@ -90,30 +91,43 @@ def nodes_of(graph: Graph, tables: Tables, functions: Dict[str, int]) -> Dict[st
     return values
 
 
+class Contents:
+    """What a circuit of narrow gates leaves on its lines and what a run wants there, as functions of the inputs and the
+    borrowed lines; and all functions on the way. The circuit has as many lines as the run wants, or more."""
+
+    def __init__(self, run: Run, circuit: Circuit, borrow: int, functions_of: Callable[[List[str]], Tables]):
+        inputs = ["x%d" % number for number in range(len(run.bits))]
+        borrowed = ["b%d" % number for number in range(borrow)]
+        self.names = inputs + borrowed
+        self.functions = functions_of(variable_order(run.program) + borrowed)
+        self.variables = dict(zip(self.functions.variables, self.functions.inputs))
+        self.writes = dict(self.variables)
+        for number, write in enumerate(run.writes):
+            self.writes["w%d" % number] = value_of(write, self.functions, self.writes)
+        outputs, zero = [self.writes[name] for _, name in run.outputs], self.functions.false
+        work = [zero] * (len(circuit.names) - len(self.names) - len(outputs))
+        kept, back = [self.variables[name] for name in inputs], [self.variables[name] for name in borrowed]
+        self.wanted, self.contents = kept + outputs + work + back, kept + [zero] * len(outputs) + work + back
+        self.seen = set(self.contents)
+        for controls, (target,) in circuit.gates:
+            flips = self.functions.true
+            for line, _ in controls:
+                flips &= self.contents[line]
+            self.contents[target] ^= flips
+            self.seen.add(self.contents[target])
+
+    def difference(self) -> Tuple[Optional[int], str]:
+        """The first line that differs, counted from 1, and the least bits on which it does, where one differs."""
+        for number, (content, right) in enumerate(zip(self.contents, self.wanted), 1):
+            if content != right:
+                bits = self.functions.least(content ^ right)
+                return number, "".join(str(bits[name]) for name in self.names)
+        return None, ""
+
+
 def verdict_on(run: Run, circuit: Circuit, borrow: int) -> Verdict:
     """The verdict on a circuit of narrow gates, which has as many lines as the run wants, or more."""
-    inputs = ["x%d" % number for number in range(len(run.bits))]
-    borrowed = ["b%d" % number for number in range(borrow)]
-    tables = Tables(variable_order(run.program) + borrowed, MOST_VARIABLES)
-    variables = dict(zip(tables.variables, tables.inputs))
-    writes = dict(variables)
-    for number, write in enumerate(run.writes):
-        writes["w%d" % number] = value_of(write, tables, writes)
-    outputs = [writes[name] for _, name in run.outputs]
-    work = [0] * (len(circuit.names) - len(inputs) - len(outputs) - borrow)
-    kept, back = [variables[name] for name in inputs], [variables[name] for name in borrowed]
-    wanted, contents = kept + outputs + work + back, kept + [0] * len(outputs) + work + back
-    seen = set(contents)
-    for controls, (target,) in circuit.gates:
-        flips = tables.true
-        for line, _ in controls:
-            flips &= contents[line]
-        contents[target] ^= flips
-        seen.add(contents[target])
-    most = count_of(seen.union(writes.values()), len(tables.variables))
-    least = count_of(seen.union(nodes_of(Graph(run), tables, variables).values()), len(tables.variables))
-    for number, (content, right) in enumerate(zip(contents, wanted), 1):
-        if content != right:
-            bits = tables.least(content ^ right)
-            return Verdict(most, least, number, "".join(str(bits[name]) for name in inputs + borrowed))
-    return Verdict(most, least, None, "")
+    on = Contents(run, circuit, borrow, partial(Tables, most=MOST_VARIABLES))
+    nodes = nodes_of(Graph(run), on.functions, on.variables)
+    most, least = (count_of(on.seen.union(each.values()), len(on.names)) for each in (on.writes, nodes))
+    return Verdict(most, least, *on.difference())

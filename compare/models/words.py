@@ -7,12 +7,14 @@ DIGITS = set("0123456789")
 
 @dataclass
 class Order:
-    """A command, the values of its options, and its positional words, or the number that is its one."""
+    """A command, the values of its options, and its positional words, or the number that is its one or its last, behind
+    the kind of a program."""
 
     command: str
     values: Dict[str, object]
     bits: List[str]
     number: int = 0
+    kind: str = ""
 
 
 class Option(NamedTuple):
@@ -47,6 +49,8 @@ FROM = {"from": choice("real", "qasm")}
 TO = {"to": choice("qasm", "real")}
 NUMBERED = {"gen", "bench"}
 BITS = number(0, 1, 200)
+KINDS = {"add", "sub", "less", "inc", "mul"}
+ARITH = {"by": number(0, 1, 9_999), "write": choice("program", "real", "qasm")}
 
 # Of each command its options, and the least and most positional words
 COMMANDS = {
@@ -59,6 +63,7 @@ COMMANDS = {
     "gen": ({}, 1, 1),
     "verify": ({**FROM, **NODES, "borrow": PLANNED["borrow"]}, 0, 0),
     "tidy": ({**FROM, **TO}, 0, 0),
+    "arith": (ARITH, 2, 2),
     "bench": ({**NODES, **{name: PLANNED[name] for name in PLANNED if name != "format"}}, 1, 1),
 }
 
@@ -90,7 +95,17 @@ def order_of(words: List[str]) -> Optional[Order]:
     if len(positional) < least or (most is not None and len(positional) > most):
         return None
     values = {name: given.get(name, option.default) for name, option in options.items()}
+    if words[0] == "arith":
+        return arith_order(values, positional, "by" in given)
     if words[0] not in NUMBERED:
         return Order(words[0], values, positional)
     bits = BITS.read(positional[0])
     return None if bits is None else Order(words[0], values, [], bits)
+
+
+def arith_order(values: Dict[str, object], positional: List[str], has_factor: bool) -> Optional[Order]:
+    """The order for a program of a kind: a factor is given exactly where it multiplies."""
+    kind, bits = positional[0], BITS.read(positional[1])
+    if kind not in KINDS or bits is None or has_factor != (kind == "mul"):
+        return None
+    return Order("arith", values, [], bits, kind)
