@@ -3,7 +3,6 @@ use Rattle.std.proofs.Common.{◌≡◌, ℕ, suc, ◌+◌, ◌-◌, ◌<◌, �
 use Rattle.std.proofs.Common.{drop, position, bytes_eq, Result, Ok, Err, OnOk, OnErr, refl, sym, ap, subst, ◌∙◌, arith}
 use Rattle.std.specs.List.{position_or_len}
 use Rattle.std.proofs.lemmas.Bool.{lt-ltb, ltb-true}
-use Rattle.std.specs.Result.{is_err}
 use Rattle.std.proofs.lemmas.List.{reverse-append, length-reverse, drop-drop}
 use Rattle.std.proofs.lemmas.Slice.Eq.{bytes_eq-Decides}
 use Rattle.name_scope.specs.declared.names.Bound.{Bound}
@@ -60,10 +59,6 @@ has_entry f bs b h e =
 pub after_insert : {A E : Type 0} (r : Result A E) (P U V : Type 0) → OnOk r U → OnErr r V → (U → P) → (V → P) → P
 after_insert (Ok a) P U V u v f g = f u
 after_insert (Err a) P U V u v f g = g v
-
-pub succeeded : {A E : Type 0} (r : Result A E) (b : Bool) (U : Type 0) → b ≡ is_err r → b ≡ false → OnOk r U → U
-succeeded (Ok a) b U e f u = u
-succeeded (Err a) b U e f u = let no : true ≡ false = sym e ∙ f in cc
 
 -- ---- the list of names
 

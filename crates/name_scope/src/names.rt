@@ -1,6 +1,6 @@
 // The names in scope.
 ghost use Rattle.std.specs.Prelude.{◌≡◌, ◌≤◌, ◌∷◌, ◌-◌, List, [], drop, length, position, bytes_eq};
-ghost use Rattle.std.specs.Prelude.{OnOk, OnErr};
+ghost use Rattle.std.specs.Prelude.{OnOk, OnErr, IfOk};
 ghost use Rattle.indexmap.specs.IndexMap.{get, IsUnchanged};
 ghost use Rattle.revs_terms.specs.Scopes.{nearer};
 ghost use Rattle.name_scope.specs.inside.Bindings.{held, IsNoted};
@@ -50,19 +50,21 @@ fn nearest_depth(nearest: &IndexMap<Text, Option<usize>>, name: &Text) -> Option
     *nearest.get(name)?
 }
 
-/// A name is bound nearest at this depth. A refusal changes nothing.
+/// A name is bound nearest at this depth; the answer is the depth at which it was before. A refusal
+/// changes nothing.
 fn note(
     nearest: &mut IndexMap<Text, Option<usize>>,
     name: &Text,
     depth: usize,
-) -> Result<(), Memory>
+) -> Result<Option<usize>, Memory>
+    ensures hidden { IfOk result (λ hidden. hidden ≡ held (get bytes_eq nearest.old name.now)) }
     ensures noted { OnOk result (IsNoted (get bytes_eq nearest.old) (get bytes_eq nearest.new)
         name.now depth) }
     ensures err { OnErr result (IsUnchanged nearest.old nearest.new) }
 {
     let key = name.copy()?;
-    nearest.insert(key, Some(depth))?;
-    Ok(())
+    let before = nearest.insert(key, Some(depth))?;
+    Ok(before.unwrap_or(None))
 }
 
 impl Names {
@@ -96,15 +98,11 @@ impl Names {
         ensures { OnOk result (self.new ≡ name.now ∷ self.old) }
     {
         let depth = self.bound.len();
-        let hidden = nearest_depth(&self.nearest, name);
-        self.bound.push(Bound {
-            name: name.copy()?,
-            hidden,
-        })?;
-        if note(&mut self.nearest, name, depth).is_err() {
-            let _ = self.bound.pop();
-            return Err(Memory);
-        }
+        let kept = name.copy()?;
+        self.bound.reserve(1)?;
+        let hidden = note(&mut self.nearest, name, depth)?;
+        // There is room for one more, so this takes no memory.
+        let _ = self.bound.push(Bound { name: kept, hidden });
         Ok(())
     }
 
