@@ -1,3 +1,4 @@
+pub mod Compiled
 pub mod Flips
 pub mod Names
-pub mod Compiled
+pub mod Readings

@@ -7,7 +7,8 @@ use Rattle.qasm_format.specs.declared.file.QasmFault.{QasmFault}
 use Rattle.qasm_format.specs.declared.file.QasmFault.TheVariants.{Token, Limit, Memory}
 use Rattle.qasm_lexer.specs.Tokens.{BeginsWith, Left, Moves, whole}
 use Rattle.qasm_format.specs.Stages.{Said, Stage, starts, head, nothing_said, Leads, LeadTo, nothing_left, one_more, PassesLimit, MayEnd}
-use Rattle.qasm_format.specs.Faults.{StopsAt, IsTextFault, OneReading}
+use Rattle.qasm_format.specs.Faults.{StopsAt, IsTextFault}
+use Rattle.format_parts.specs.Readings.{OneReading}
 use Rattle.qasm_format.specs.Qasm.{QasmView, MeansFile, IsFile, MeaningsAreFiles}
 use Rattle.qasm_lexer.proofs.CutLemmas.{Meet, at_one, goes_on, falls_short, moves_meet, moves_end_same}
 use Rattle.qasm_format.proofs.FitLemmas.{IsFit, nothing_fits, fit_next, fit_after, leads_same}
@@ -124,7 +125,7 @@ one_fault text Memory other h k = absurd h
 one_fault text (Token at) Memory h k = absurd k
 one_fault text (Limit at) Memory h k = absurd k
 
-pub one_reading : OneReading
+pub one_reading : OneReading MeansFile IsTextFault
 one_reading text = record { one_meaning = one_meaning text; one_fault = one_fault text; never_both = never_both text }
 
 -- ---- files

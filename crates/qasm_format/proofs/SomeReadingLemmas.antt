@@ -32,7 +32,8 @@ use Rattle.qasm_format.specs.Registers.{IsNumber, IsLaid, kept_words, lines_of_a
 use Rattle.qasm_format.specs.Stages.{Said, Stage, starts, wants, wants_name, wants_size, wants_argument, behind_name, wants_index, behind_argument, head}
 use Rattle.qasm_format.specs.Stages.{HasRoom, Ends, Closes, HaveManyGates, Leads, nothing_left, one_more, MayEnd, MayGoOn, PassesLimit, StandForGates}
 use Rattle.qasm_format.specs.Qasm.{MeansFile, QasmView, Reads}
-use Rattle.qasm_format.specs.Faults.{IsTextFault, SomeReading, StopsAt}
+use Rattle.qasm_format.specs.Faults.{IsTextFault, StopsAt}
+use Rattle.format_parts.specs.Readings.{SomeReading}
 use Rattle.qasm_format.specs.inside.Spread.{AreAllDifferent, MeetSomewhere, are_different, shared_by}
 use Rattle.qasm_format.specs.inside.Tests.{kind_of, use_of}
 use Rattle.qasm_format.proofs.DeclaredLemmas.{among_has, none_has, not_among}
@@ -493,7 +494,7 @@ read_on text (token_taken word rest next more) none now stage e s reads =
     by (inl (to, leads)) here again = again to leads here
     by (inr (nowhere, limit)) here again = stopped text word now stage (token_stops text word rest now stage reads here nowhere) limit
 
-pub some_reading : SomeReading
+pub some_reading : SomeReading MeansFile IsTextFault
 some_reading text =
     let all = some_tokens text in
     read_on text all.1 refl (whole text) head refl (omega arith, (omega arith, (omega arith, tt))) (reads_none (whole text) head)

@@ -1,11 +1,11 @@
 -- Why an OpenQASM text means no file: the first token that breaks a rule or passes a limit.
-use Rattle.std.specs.Prelude.{◌≡◌, ℕ, ◌⊎◌, List, []}
+use Rattle.std.specs.Prelude.{◌≡◌, ℕ, List, []}
 use Rattle.revc_base.specs.declared.place.Place.{Place}
 use Rattle.qasm_format.specs.declared.file.QasmFault.{QasmFault}
 use Rattle.qasm_format.specs.declared.file.QasmFault.TheVariants.{Token, Limit, Memory}
 use Rattle.qasm_lexer.specs.Tokens.{Left, BeginsWith, whole}
 use Rattle.qasm_format.specs.Stages.{Stage, head, Leads, PassesLimit, MayEnd}
-use Rattle.qasm_format.specs.Qasm.{Reads, QasmView, MeansFile}
+use Rattle.qasm_format.specs.Qasm.{Reads}
 
 -- Tokens lead to a stage, and the one behind them, at this place, leads nowhere from there; no text may end there.
 pub record StopsAt (old : Left) (from : Stage) (at : Place) (word : List ℕ)
@@ -44,21 +44,3 @@ abbrev pub IsTextFault : List ℕ → QasmFault → Type 0
 IsTextFault text (Token at) = BreaksRule (whole text) head at
 IsTextFault text (Limit at) = BreaksLimit (whole text) head at
 IsTextFault text Memory = ⊥
-
--- A text means at most one file, has at most one fault, and never both.
-pub record HasOneReading (text : List ℕ) : Type 0 where
-  pub one_meaning : (file other : QasmView) → MeansFile text file → MeansFile text other
-      → file ≡ other
-  pub one_fault : (fault other : QasmFault) → IsTextFault text fault → IsTextFault text other
-      → fault ≡ other
-  pub never_both : (file : QasmView) (fault : QasmFault) → MeansFile text file
-      → IsTextFault text fault → ⊥
-
-abbrev pub OneReading : Type 0
-OneReading = (text : List ℕ) → HasOneReading text
-
--- each text means a file, or has a fault
-abbrev pub SomeReading : Type 0
-SomeReading =
-    (text : List ℕ)
-    → ((file : QasmView) × MeansFile text file) ⊎ ((fault : QasmFault) × IsTextFault text fault)

@@ -1,7 +1,8 @@
+ghost use Rattle.format_parts.specs.Readings.{OneReading, SomeReading};
 ghost use Rattle.qasm_format.specs.Compiled.{CompiledHasMeaning};
 ghost use Rattle.qasm_format.specs.Converted.{ConvertedHasMeaning};
-ghost use Rattle.qasm_format.specs.Faults.{OneReading, SomeReading};
-ghost use Rattle.qasm_format.specs.Qasm.{MeaningsAreFiles};
+ghost use Rattle.qasm_format.specs.Faults.{IsTextFault};
+ghost use Rattle.qasm_format.specs.Qasm.{MeaningsAreFiles, MeansFile};
 
 /// The law of compiled files: the text of a circuit of narrow gates means, by the format's own
 /// meaning, the file with those gates on the registers of the given roles. The function does
@@ -20,13 +21,13 @@ pub fn converted_meaning()
 /// The law of one reading: a text means at most one file, has at most one fault, and never both.
 /// The function does nothing: its contract is the law.
 pub fn one_reading()
-    ensures { OneReading }
+    ensures { OneReading MeansFile IsTextFault }
 {}
 
 /// The law of some reading: each text means a file or has a fault. The function does nothing: its
 /// contract is the law.
 pub fn some_reading()
-    ensures { SomeReading }
+    ensures { SomeReading MeansFile IsTextFault }
 {}
 
 /// The law of files: what a text means has registers of different names, with 1 to 16,384 lines in

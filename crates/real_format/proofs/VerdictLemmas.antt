@@ -7,7 +7,8 @@ use Rattle.real_format.specs.declared.refusal.LineRefusal.TheVariants.{Form, Lim
 use Rattle.real_format.specs.Words.{said_lines}
 use Rattle.real_format.specs.Header.{nothing_said}
 use Rattle.real_format.specs.Real.{RealView, RealMeaning, MeaningsAreFiles, Place, in_header, in_gates, at_end, Leads, LeadTo, nothing_left, one_more}
-use Rattle.real_format.specs.Faults.{PassesLimit, IsBadLine, HasNoEnd, BreaksForm, BreaksLimit, IsTextFault, IsRealFault, OneReading, SomeReading}
+use Rattle.real_format.specs.Faults.{PassesLimit, IsBadLine, HasNoEnd, BreaksForm, BreaksLimit, IsTextFault, IsRealFault}
+use Rattle.format_parts.specs.Readings.{OneReading, SomeReading}
 use Rattle.real_format.specs.inside.Reading.{after_line, text_fault, verdict, verdict_after, verdict_at_last, IsFaultOf}
 use Rattle.real_format.specs.inside.Says.{IsSound}
 use Rattle.real_format.proofs.LineLemmas.{IsFit, leads_so, reads_so, fit_next, limit_line, line_limit}
@@ -274,7 +275,7 @@ fault_verdict text (faults.Line number) (inr n) = none_verdict text number n
 fault_verdict text (faults.Limit number) b = limit_verdict text number b
 fault_verdict text faults.Memory f = absurd f
 
-pub one_reading : OneReading
+pub one_reading : OneReading RealMeaning IsTextFault
 one_reading text = record {
   one_meaning = λ file other m n. let same : Ok file ≡ Ok other = sym (meaning_verdict text file m) ∙ meaning_verdict text other n in cc;
   one_fault = λ fault other f g. let same : Err fault ≡ Err other = sym (fault_verdict text fault f) ∙ fault_verdict text other g in cc;
@@ -295,7 +296,7 @@ fault_is text faults.Memory e = elim (fault_so (in_header nothing_said) 1 (said_
   | inr h ↦ absurd (let is : faults.Memory ≡ faults.Line h.0 = h.1 in cc)
 ]
 
-pub some_reading : SomeReading
+pub some_reading : SomeReading RealMeaning IsTextFault
 some_reading text = by (verdict (in_header nothing_said) 1 (said_lines text)) refl
   where
     by : (r : Result RealView RealFault) → verdict (in_header nothing_said) 1 (said_lines text) ≡ r

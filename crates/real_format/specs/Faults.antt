@@ -9,7 +9,7 @@ use Rattle.real_format.specs.declared.file.RealFault.{RealFault}
 use Rattle.real_format.specs.declared.file.RealFault.TheVariants.{Line, Limit, Memory}
 use Rattle.real_format.specs.Words.{said_lines}
 use Rattle.real_format.specs.Header.{HeaderView, IsNumber, IsName, IsBarred, nothing_said}
-use Rattle.real_format.specs.Real.{RealView, RealMeaning, Place, in_header, in_gates, at_end, Leads, LeadTo, IsGateWord, NamesLine, NamesControl}
+use Rattle.real_format.specs.Real.{RealView, Place, in_header, in_gates, at_end, Leads, LeadTo, IsGateWord, NamesLine, NamesControl}
 
 -- ---- limits
 
@@ -128,21 +128,3 @@ abbrev pub IsRealFault : List ℕ → RealFault → Type 0
 IsRealFault text (Line number) = IsTextFault text (Line number)
 IsRealFault text (Limit number) = IsTextFault text (Limit number)
 IsRealFault text Memory = Unit {0}
-
--- A text means at most one file, has at most one fault, and never both.
-pub record HasOneReading (text : List ℕ) : Type 0 where
-  pub one_meaning : (file other : RealView) → RealMeaning text file → RealMeaning text other
-      → file ≡ other
-  pub one_fault : (fault other : RealFault) → IsTextFault text fault → IsTextFault text other
-      → fault ≡ other
-  pub never_both : (file : RealView) (fault : RealFault) → RealMeaning text file
-      → IsTextFault text fault → ⊥
-
-abbrev pub OneReading : Type 0
-OneReading = (text : List ℕ) → HasOneReading text
-
--- each text means a file, or has a fault
-abbrev pub SomeReading : Type 0
-SomeReading =
-    (text : List ℕ)
-    → ((file : RealView) × RealMeaning text file) ⊎ ((fault : RealFault) × IsTextFault text fault)
