@@ -276,6 +276,19 @@ controls_are names wanted done (w ∷ ws) controls rest e =
 lines_of_controls-append : (controls more : List Control) → lines_of_controls (controls ++ more) ≡ lines_of_controls controls ++ lines_of_controls more
 lines_of_controls-append controls more = map-append (λ (c : Control). c.line) controls more
 
+-- a control in front, and those behind it
+control_first : (names : List (List ℕ)) (wanted : ℕ) (done cs : List Control) (c : Control) (w : List ℕ) (words : List (List ℕ)) → AreNames names
+    → NamesControl names w c → AreDifferent (lines_of_controls (done ++ (c ∷ cs))) → length done < wanted
+    → controls_from names wanted done (w ∷ words) ≡ controls_from names wanted (done ++ c ∷ []) words
+control_first names wanted done cs c w words are named different more =
+    let split : AreDifferent (lines_of_controls done ++ (c.line ∷ lines_of_controls cs)) = subst AreDifferent (lines_of_controls-append done
+    (c ∷ cs)) different in
+    let free = free_line (lines_of_controls done) c.line (lines_of_controls cs) split in
+    pick_else (eqb (length done) wanted) (Ok (done, w ∷ words)) (and_then (control_of names (λ line. has_line line (lines_of_controls done)) w)
+    (λ control. controls_from names wanted (done ++ control ∷ []) words)) (ne_eqb (length done) wanted (λ e. omega arith))
+    ∙ ap (λ r. and_then r (λ control. controls_from names wanted (done ++ control ∷ []) words))
+    (is_control names (λ line. has_line line (lines_of_controls done)) w c are named free)
+
 pub are_controls : (names : List (List ℕ)) (wanted : ℕ) (done more : List Control) (words rest : List (List ℕ)) → AreNames names
     → AllZip (NamesControl names) words more → AreDifferent (lines_of_controls (done ++ more)) → length (done ++ more) ≡ wanted
     → controls_from names wanted done (words ++ rest) ≡ Ok (done ++ more, rest)
@@ -288,15 +301,8 @@ are_controls names wanted done [] [] (r ∷ rs) are named different count =
 are_controls names wanted done [] (w ∷ ws) rest are named different count = absurd named
 are_controls names wanted done (c ∷ cs) [] rest are named different count = absurd named
 are_controls names wanted done (c ∷ cs) (w ∷ ws) rest are named different count =
-    let more : length done < wanted = omega (arith, length-append done (c ∷ cs)) in
-    let split : AreDifferent (lines_of_controls done ++ (c.line ∷ lines_of_controls cs)) = subst AreDifferent (lines_of_controls-append done
-    (c ∷ cs)) different in
-    let free = free_line (lines_of_controls done) c.line (lines_of_controls cs) split in
-    let here = is_control names (λ line. has_line line (lines_of_controls done)) w c are named.0 free in
     let whole : (done ++ c ∷ []) ++ cs ≡ done ++ (c ∷ cs) = append_assoc done (c ∷ []) cs in
-    pick_else (eqb (length done) wanted) (Ok (done, w ∷ (ws ++ rest))) (and_then (control_of names (λ line. has_line line (lines_of_controls done)) w)
-    (λ control. controls_from names wanted (done ++ control ∷ []) (ws ++ rest))) (ne_eqb (length done) wanted (λ e. omega arith))
-    ∙ ap (λ r. and_then r (λ control. controls_from names wanted (done ++ control ∷ []) (ws ++ rest))) here
+    control_first names wanted done cs c w (ws ++ rest) are named.0 different (omega (arith, length-append done (c ∷ cs)))
     ∙ are_controls names wanted (done ++ c ∷ []) cs ws rest are named.1 (subst (λ xs. AreDifferent (lines_of_controls xs)) (sym whole) different)
     (ap length whole ∙ count)
     ∙ ap (λ xs. Ok (xs, rest)) whole
@@ -373,15 +379,8 @@ long_controls names wanted done [] [] name rest are named different few is =
 long_controls names wanted done [] (w ∷ ws) name rest are named different few is = absurd named
 long_controls names wanted done (c ∷ cs) [] name rest are named different few is = absurd named
 long_controls names wanted done (c ∷ cs) (w ∷ ws) name rest are named different few is =
-    let more : length done < wanted = omega (arith, length-append done (c ∷ cs)) in
-    let split : AreDifferent (lines_of_controls done ++ (c.line ∷ lines_of_controls cs)) = subst AreDifferent (lines_of_controls-append done
-    (c ∷ cs)) different in
-    let free = free_line (lines_of_controls done) c.line (lines_of_controls cs) split in
-    let here = is_control names (λ line. has_line line (lines_of_controls done)) w c are named.0 free in
     let whole : (done ++ c ∷ []) ++ cs ≡ done ++ (c ∷ cs) = append_assoc done (c ∷ []) cs in
-    pick_else (eqb (length done) wanted) (Ok (done, w ∷ (ws ++ name ∷ rest))) (and_then (control_of names (λ line. has_line line (lines_of_controls done)) w)
-    (λ control. controls_from names wanted (done ++ control ∷ []) (ws ++ name ∷ rest))) (ne_eqb (length done) wanted (λ e. omega arith))
-    ∙ ap (λ r. and_then r (λ control. controls_from names wanted (done ++ control ∷ []) (ws ++ name ∷ rest))) here
+    control_first names wanted done cs c w (ws ++ name ∷ rest) are named.0 different (omega (arith, length-append done (c ∷ cs)))
     ∙ long_controls names wanted (done ++ c ∷ []) cs ws name rest are named.1 (subst (λ xs. AreDifferent (lines_of_controls xs)) (sym whole) different)
     (subst (λ xs. length xs < wanted) (sym whole) few) is
 

@@ -149,41 +149,28 @@ nowhere_from place line r fit e next leads = let both : Ok next ≡ Err r = sym 
 no_limit : (place : Place) (line : List (List ℕ)) (r : LineRefusal) → IsFit place → after_line place line ≡ Err r → (r ≡ Limit → ⊥) → ¬ PassesLimit place line
 no_limit place line r fit e other passes = other (let both : Err r ≡ Err Limit = sym e ∙ line_limit place line fit passes in cc)
 
+bad_line : (text : List ℕ) (number : ℕ) (r : LineRefusal) (n : ℕ) → number ≡ n → (h : HasFault (in_header nothing_said) 1 (said_lines text) r n)
+    → IsBadLine text number h.at h.line
+bad_line text number r n same h = record {
+  before = h.before;
+  behind = h.behind;
+  cut = h.cut;
+  count = same ∙ h.count
+      ∙ omega arith;
+  leads = h.leads;
+  nowhere = nowhere_from h.at h.line r h.fit h.refused;
+}
+
+bad_form : (text : List ℕ) (number : ℕ) (r : LineRefusal) (n : ℕ) → (r ≡ Limit → ⊥) → number ≡ n
+    → HasFault (in_header nothing_said) 1 (said_lines text) r n → BreaksForm text number
+bad_form text number r n other same h =
+    record { place = h.at; line = h.line; bad = bad_line text number r n same h; form = no_limit h.at h.line r h.fit h.refused other }
+
 line_fault : (text : List ℕ) (number : ℕ) (r : LineRefusal) (n : ℕ) → faults.Line number ≡ text_fault n r
     → HasFault (in_header nothing_said) 1 (said_lines text) r n → BreaksForm text number
 line_fault text number Limit n is h = absurd (cc)
-line_fault text number Form n is h =
-    let same : number ≡ n = cc in
-    record {
-      place = h.at;
-      line = h.line;
-      bad = record {
-        before = h.before;
-        behind = h.behind;
-        cut = h.cut;
-        count = same ∙ h.count
-            ∙ omega arith;
-        leads = h.leads;
-        nowhere = nowhere_from h.at h.line Form h.fit h.refused;
-      };
-      form = no_limit h.at h.line Form h.fit h.refused (λ e. cc);
-    }
-line_fault text number Memory n is h =
-    let same : number ≡ n = cc in
-    record {
-      place = h.at;
-      line = h.line;
-      bad = record {
-        before = h.before;
-        behind = h.behind;
-        cut = h.cut;
-        count = same ∙ h.count
-            ∙ omega arith;
-        leads = h.leads;
-        nowhere = nowhere_from h.at h.line Memory h.fit h.refused;
-      };
-      form = no_limit h.at h.line Memory h.fit h.refused (λ e. cc);
-    }
+line_fault text number Form n is h = let same : number ≡ n = cc in bad_form text number Form n (λ e. cc) same h
+line_fault text number Memory n is h = let same : number ≡ n = cc in bad_form text number Memory n (λ e. cc) same h
 
 limit_fault : (text : List ℕ) (number : ℕ) (r : LineRefusal) (n : ℕ) → faults.Limit number ≡ text_fault n r
     → HasFault (in_header nothing_said) 1 (said_lines text) r n → BreaksLimit text number
@@ -191,20 +178,7 @@ limit_fault text number Form n is h = absurd (cc)
 limit_fault text number Memory n is h = absurd (cc)
 limit_fault text number Limit n is h =
     let same : number ≡ n = cc in
-    record {
-      place = h.at;
-      line = h.line;
-      bad = record {
-        before = h.before;
-        behind = h.behind;
-        cut = h.cut;
-        count = same ∙ h.count
-            ∙ omega arith;
-        leads = h.leads;
-        nowhere = nowhere_from h.at h.line Limit h.fit h.refused;
-      };
-      limit = limit_line h.at h.line h.fit h.refused;
-    }
+    record { place = h.at; line = h.line; bad = bad_line text number Limit n same h; limit = limit_line h.at h.line h.fit h.refused }
 
 pub faults_so : (text : List ℕ) (fault : RealFault) → IsFaultOf (verdict (in_header nothing_said) 1 (said_lines text)) fault → IsRealFault text fault
 faults_so text faults.Memory e = tt
