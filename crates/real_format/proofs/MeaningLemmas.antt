@@ -1,6 +1,6 @@
 -- The text of a written file means the file.
 use Rattle.std.proofs.Common.{◌≡◌, ℕ, ◌+◌, ◌<◌, ◌≤◌, Bool, true, false, List, [], ◌∷◌, ◌++◌, length, map, replicate, refl, sym, ap, ◌∙◌, subst, arith, inl, inr}
-use Rattle.std.proofs.Common.{Some, codes, append_assoc, append-nil}
+use Rattle.std.proofs.Common.{Some, None, codes, append_assoc, append-nil}
 use Rattle.std.specs.List.{AllByRecursion, AllZip, list_all}
 use Rattle.std.specs.Fmt.{decimal}
 use Rattle.std.proofs.lemmas.Fmt.{decimal_is_IsNumeral, length-decimal-le}
@@ -12,7 +12,7 @@ use Rattle.real_format.specs.Words.{is_word_byte, is_comment}
 use Rattle.real_format.specs.declared.file.Mark.{Mark}
 use Rattle.real_format.specs.declared.file.Mark.TheVariants.{Free, Zero, One}
 use Rattle.real_format.specs.declared.header.Head.TheVariants.{Version, Lines, Names, Inputs, Outputs, Constants, Garbage}
-use Rattle.real_format.specs.Header.{constant_byte, garbage_byte, nothing_said}
+use Rattle.real_format.specs.Header.{HeaderView, SaysMarks, constant_byte, garbage_byte, nothing_said}
 use Rattle.real_format.specs.Real.{RealView, RealMeaning, ReadsGate, NamesControl, Place, in_header, in_gates, at_end, LeadTo, one_more, nothing_left}
 use Rattle.real_format.specs.Real.{says_more, begins_gates, adds_gate, ends_file}
 use Rattle.circuit_plans.specs.Plans.{lines_in}
@@ -168,6 +168,10 @@ gates_lead name count marks useless done (g ∷ gs) few on narrow =
     subst (λ xs. LeadTo (map (gate_words name) (g ∷ gs) ++ (codes ".end" ∷ []) ∷ []) (in_gates (file_of name count marks useless done))
     (at_end (file_of name count marks useless xs))) whole (one_more (adds_gate g (reads_gate name count g on.0 narrow.0) room) later)
 
+says_marks : {M : Type 0} (byte_of : M → ℕ) (count : ℕ) (with_marks : List M → HeaderView) (marks : List M) → length marks ≡ count
+    → SaysMarks byte_of None (Some count) with_marks (map byte_of marks ∷ []) (with_marks marks)
+says_marks byte_of count with_marks marks fit = record { marks = marks; once = refl; counted = ap Some (sym fit); spelled = refl; adds = refl }
+
 header_leads : (name : ℕ → List ℕ) (count : ℕ) (marks : List Mark) (useless : List Bool) (more : List (List (List ℕ))) (to : Place)
     → 1 ≤ count → count ≤ 16384 → AreGood name count → length marks ≡ count → length useless ≡ count
     → LeadTo more (in_gates (file_of name count marks useless [])) to
@@ -195,20 +199,8 @@ header_leads name count marks useless more to some few good marked uselessly lat
     }))
     (one_more (says_more Inputs (names_by name count) refl (record { once = refl; adds = refl }))
     (one_more (says_more Outputs (names_by name count) refl (record { once = refl; adds = refl }))
-    (one_more (says_more Constants (map constant_byte marks ∷ []) refl (record {
-      marks = marks;
-      once = refl;
-      counted = ap Some (sym marked);
-      spelled = refl;
-      adds = refl;
-    }))
-    (one_more (says_more Garbage (map garbage_byte useless ∷ []) refl (record {
-      marks = useless;
-      once = refl;
-      counted = ap Some (sym uselessly);
-      spelled = refl;
-      adds = refl;
-    }))
+    (one_more (says_more Constants (map constant_byte marks ∷ []) refl (says_marks constant_byte count _ marks marked))
+    (one_more (says_more Garbage (map garbage_byte useless ∷ []) refl (says_marks garbage_byte count _ useless uselessly))
     (one_more (begins_gates refl (record { names = refl; constants = refl; garbage = refl; gates = refl })) later)))))))
 
 -- the law of every written file: narrow gates on lines with good names, and a mark of each kind for each line

@@ -1,5 +1,5 @@
 -- The rule of each line of the header, and what the reader's functions give for it.
-use Rattle.std.proofs.Common.{◌≡◌, ℕ, ◌<◌, Bool, true, false, if◌then◌else◌, eqb, ◌⊎◌, inl, inr, List, [], ◌∷◌, ◌++◌, length, map, Option, Some, None, IfSome}
+use Rattle.std.proofs.Common.{◌≡◌, ℕ, ◌<◌, ◌≤◌, Bool, true, false, if◌then◌else◌, eqb, ◌⊎◌, inl, inr, List, [], ◌∷◌, ◌++◌, length, map, Option, Some, None, IfSome}
 use Rattle.std.proofs.Common.{Ok, Err, refl, sym, ap, ◌∙◌, subst, arith, codes, append_assoc, append-nil}
 use Rattle.std.specs.Prelude.{nat_lt}
 use Rattle.std.specs.Option.{is_some}
@@ -14,10 +14,10 @@ use Rattle.real_format.specs.declared.file.Mark.TheVariants.{Free, Zero, One}
 use Rattle.real_format.specs.declared.header.Head.{Head}
 use Rattle.real_format.specs.declared.header.Head.TheVariants.{Version, Lines, Names, Inputs, Outputs, InputBus, OutputBus, Constants, Garbage}
 use Rattle.real_format.specs.declared.refusal.LineRefusal.TheVariants.{Form, Limit}
-use Rattle.real_format.specs.Header.{HeaderView, IsNumber, IsName, Says, constant_byte, garbage_byte, spelling_of}
+use Rattle.real_format.specs.Header.{HeaderView, IsNumber, IsName, Says, SaysMarks, constant_byte, garbage_byte, with_constants, with_garbage, spelling_of}
 use Rattle.real_format.specs.Faults.{HasManyLines, HasLongName}
 use Rattle.real_format.specs.inside.Reading.{and_then, or_form, single, is_nil, number_of, is_version, counted, count_of, names_from, marks_from, marks_of}
-use Rattle.real_format.specs.inside.Reading.{constant_of, garbage_of, add}
+use Rattle.real_format.specs.inside.Reading.{constant_of, garbage_of, new_marks, add}
 use Rattle.real_format.specs.inside.Says.{IsSound}
 use Rattle.real_format.proofs.InversionLemmas.{else_ok, then_ok, and_ok, or_ok, same_ok, else_limit, limit_else, then_limit, and_limit, or_limit, ok_no_limit}
 use Rattle.real_format.proofs.HeaderLemmas.{single_is, is_none, number_is, is_number, same_word, either, IsCount, count_is, is_count, AreNames, names_are}
@@ -77,6 +77,37 @@ module _ {M : Type 0} (f : ℕ → Option M) (byte_of : M → ℕ) (back : (b : 
       let p = or_limit (single words) (λ word. if eqb (length word) n then marks_from f [] word else Err Form) e in
       let q = then_limit (eqb (length p.0) n) (marks_from f [] p.0) p.2 in
       no_limit_in_marks [] p.0 q.1
+
+  marks_say : (old : Option (List M)) (lines : Option ℕ) (with_marks : List M → HeaderView) (words : List (List ℕ)) (after : HeaderView)
+      → and_then (new_marks f (is_some old) lines words) (λ marks. Ok (with_marks marks)) ≡ Ok after → SaysMarks byte_of old lines with_marks words after
+  marks_say old lines with_marks words after e =
+      let p = and_ok (new_marks f (is_some old) lines words) (λ marks. Ok (with_marks marks)) after e in
+      let q = else_ok (is_some old) Form (or_form lines (λ n. marks_of f n words)) p.0 p.1 in
+      let r = or_ok lines (λ n. marks_of f n words) p.0 q.1 in
+      let m = marks_of-is r.0 words p.0 r.2 in
+      record {
+        marks = p.0;
+        once = is_none old q.0;
+        counted = r.1 ∙ ap Some (sym m.count);
+        spelled = m.spelled;
+        adds = sym (same_ok (with_marks p.0) after p.2);
+      }
+
+  say_marks : (old : Option (List M)) (lines : Option ℕ) (with_marks : List M → HeaderView) (words : List (List ℕ)) (after : HeaderView)
+      → SaysMarks byte_of old lines with_marks words after → and_then (new_marks f (is_some old) lines words) (λ marks. Ok (with_marks marks)) ≡ Ok after
+  say_marks old lines with_marks words after s =
+      let is : IsMarks (length s.marks) words s.marks = record { spelled = s.spelled; count = refl } in
+      rw (s.once, s.counted) (ap (λ r. and_then r (λ marks. Ok (with_marks marks))) (is-marks_of (length s.marks) words s.marks is) ∙ ap Ok (sym s.adds))
+
+  no_limit_of_new : (old : Option (List M)) (lines : Option ℕ) (with_marks : List M → HeaderView) (words : List (List ℕ))
+      → and_then (new_marks f (is_some old) lines words) (λ marks. Ok (with_marks marks)) ≡ Err Limit → ⊥
+  no_limit_of_new old lines with_marks words e = elim (and_limit (new_marks f (is_some old) lines words) (λ marks. Ok (with_marks marks)) e) [
+    | inl here ↦
+        let p = else_limit (is_some old) (or_form lines (λ n. marks_of f n words)) here in
+        let q = or_limit lines (λ n. marks_of f n words) p.1 in
+        no_limit_of_marks q.0 words q.2
+    | inr later ↦ ok_no_limit (with_marks later.0) later.2
+  ]
 
 constant_back : (b : ℕ) (m : Mark) → constant_of b ≡ Some m → constant_byte m ≡ b
 constant_back b m e = by (eqb b 45) (eqb b 48) (eqb b 49) refl refl refl e
@@ -159,29 +190,9 @@ says_so Outputs said words after e =
 says_so InputBus said words after e = sym (same_ok said after e)
 says_so OutputBus said words after e = sym (same_ok said after e)
 says_so Constants said words after e =
-    let p = else_ok (is_some said.constants) Form _ after e in
-    let q = or_ok said.lines (λ n. and_then (marks_of constant_of n words) (λ marks. Ok (record said { constants = Some marks }))) after p.1 in
-    let r = and_ok (marks_of constant_of q.0 words) (λ marks. Ok (record said { constants = Some marks })) after q.2 in
-    let m = marks_of-is constant_of constant_byte constant_back constant_forth q.0 words r.0 r.1 in
-    record {
-      marks = r.0;
-      once = is_none said.constants p.0;
-      counted = q.1 ∙ ap Some (sym m.count);
-      spelled = m.spelled;
-      adds = sym (same_ok (record said { constants = Some r.0 }) after r.2);
-    }
+    marks_say constant_of constant_byte constant_back constant_forth said.constants said.lines (with_constants said) words after e
 says_so Garbage said words after e =
-    let p = else_ok (is_some said.garbage) Form _ after e in
-    let q = or_ok said.lines (λ n. and_then (marks_of garbage_of n words) (λ marks. Ok (record said { garbage = Some marks }))) after p.1 in
-    let r = and_ok (marks_of garbage_of q.0 words) (λ marks. Ok (record said { garbage = Some marks })) after q.2 in
-    let m = marks_of-is garbage_of garbage_byte garbage_back garbage_forth q.0 words r.0 r.1 in
-    record {
-      marks = r.0;
-      once = is_none said.garbage p.0;
-      counted = q.1 ∙ ap Some (sym m.count);
-      spelled = m.spelled;
-      adds = sym (same_ok (record said { garbage = Some r.0 }) after r.2);
-    }
+    marks_say garbage_of garbage_byte garbage_back garbage_forth said.garbage said.lines (with_garbage said) words after e
 
 pub so_says : (head : Head) (said : HeaderView) (words : List (List ℕ)) (after : HeaderView) → Says head said words after → add head said words ≡ Ok after
 so_says Version said words after s = elim s.known [
@@ -200,15 +211,9 @@ so_says Outputs said words after s = rw s.once (ap Ok (sym s.adds))
 so_says InputBus said words after s = ap Ok (sym s)
 so_says OutputBus said words after s = ap Ok (sym s)
 so_says Constants said words after s =
-    rw s.once (ap (λ l. or_form l (λ n. and_then (marks_of constant_of n words) (λ marks. Ok (record said { constants = Some marks })))) s.counted
-    ∙ ap (λ r. and_then r (λ marks. Ok (record said { constants = Some marks }))) (is-marks_of constant_of constant_byte constant_back constant_forth
-    (length s.marks) words s.marks
-    (record { spelled = s.spelled; count = refl })) ∙ ap Ok (sym s.adds))
+    say_marks constant_of constant_byte constant_back constant_forth said.constants said.lines (with_constants said) words after s
 so_says Garbage said words after s =
-    rw s.once (ap (λ l. or_form l (λ n. and_then (marks_of garbage_of n words) (λ marks. Ok (record said { garbage = Some marks })))) s.counted
-    ∙ ap (λ r. and_then r (λ marks. Ok (record said { garbage = Some marks }))) (is-marks_of garbage_of garbage_byte garbage_back garbage_forth
-    (length s.marks) words s.marks
-    (record { spelled = s.spelled; count = refl })) ∙ ap Ok (sym s.adds))
+    say_marks garbage_of garbage_byte garbage_back garbage_forth said.garbage said.lines (with_garbage said) words after s
 
 -- ---- limits
 
@@ -280,19 +285,9 @@ limit_so Outputs said words e = let p = else_limit said.outputs (Ok (record said
 limit_so InputBus said words e = ok_no_limit said e
 limit_so OutputBus said words e = ok_no_limit said e
 limit_so Constants said words e =
-    let p = else_limit (is_some said.constants) _ e in
-    let q = or_limit said.lines (λ n. and_then (marks_of constant_of n words) (λ marks. Ok (record said { constants = Some marks }))) p.1 in
-    elim (and_limit (marks_of constant_of q.0 words) (λ marks. Ok (record said { constants = Some marks })) q.2) [
-      | inl here ↦ absurd (no_limit_of_marks constant_of constant_byte constant_back constant_forth q.0 words here)
-      | inr later ↦ ok_no_limit (record said { constants = Some later.0 }) later.2
-    ]
+    absurd (no_limit_of_new constant_of constant_byte constant_back constant_forth said.constants said.lines (with_constants said) words e)
 limit_so Garbage said words e =
-    let p = else_limit (is_some said.garbage) _ e in
-    let q = or_limit said.lines (λ n. and_then (marks_of garbage_of n words) (λ marks. Ok (record said { garbage = Some marks }))) p.1 in
-    elim (and_limit (marks_of garbage_of q.0 words) (λ marks. Ok (record said { garbage = Some marks })) q.2) [
-      | inl here ↦ absurd (no_limit_of_marks garbage_of garbage_byte garbage_back garbage_forth q.0 words here)
-      | inr later ↦ ok_no_limit (record said { garbage = Some later.0 }) later.2
-    ]
+    absurd (no_limit_of_new garbage_of garbage_byte garbage_back garbage_forth said.garbage said.lines (with_garbage said) words e)
 
 pub limit_lines : (said : HeaderView) (number : List ℕ) (rest : List (List ℕ)) (n : ℕ) → said.lines ≡ None → IsNumber number n → 16384 < n
     → add Lines said (number ∷ rest) ≡ Err Limit
@@ -316,76 +311,38 @@ before_lines : {X : Type 0} (o : Option (List X)) (lines new : Option ℕ) → l
 before_lines None lines new e h = tt
 before_lines (Some xs) lines new e h = absurd (let both : None ≡ Some (length xs) = sym e ∙ h in cc)
 
+all_sound : (said : HeaderView) → IfSome said.lines (λ n. 1 ≤ n) → IfSome said.lines (λ n. n ≤ 16384)
+    → IfSome said.names (λ names. said.lines ≡ Some (length names)) → IfSome said.names (AllByRecursion IsName)
+    → IfSome said.names (AreApart (λ one other. one ≡ other)) → IfSome said.constants (λ marks. said.lines ≡ Some (length marks))
+    → IfSome said.garbage (λ marks. said.lines ≡ Some (length marks)) → IsSound said
+all_sound said some few counted named different constants garbage = record {
+  some = some;
+  few = few;
+  counted = counted;
+  named = named;
+  different = different;
+  constants = constants;
+  garbage = garbage;
+}
+
+-- lines of which no more than their presence counts
+stays : (said : HeaderView) (version inputs outputs : Bool) → IsSound said
+    → IsSound (record said { version = version; inputs = inputs; outputs = outputs })
+stays said version inputs outputs sound =
+    all_sound _ sound.some sound.few sound.counted sound.named sound.different sound.constants sound.garbage
+
 pub sound_so : (head : Head) (said : HeaderView) (words : List (List ℕ)) (after : HeaderView) → IsSound said → Says head said words after → IsSound after
-sound_so Version said words after sound s =
-    subst IsSound (sym s.adds) (record {
-      some = sound.some;
-      few = sound.few;
-      counted = sound.counted;
-      named = sound.named;
-      different = sound.different;
-      constants = sound.constants;
-      garbage = sound.garbage;
-    })
+sound_so Version said words after sound s = subst IsSound (sym s.adds) (stays said true said.inputs said.outputs sound)
 sound_so Lines said words after sound s =
-    subst IsSound (sym s.adds) (record {
-      some = s.some;
-      few = s.few;
-      counted = before_lines said.names said.lines _ s.once sound.counted;
-      named = sound.named;
-      different = sound.different;
-      constants = before_lines said.constants said.lines _ s.once sound.constants;
-      garbage = before_lines said.garbage said.lines _ s.once sound.garbage;
-    })
+    subst IsSound (sym s.adds) (all_sound _ s.some s.few (before_lines said.names said.lines _ s.once sound.counted) sound.named sound.different
+    (before_lines said.constants said.lines _ s.once sound.constants) (before_lines said.garbage said.lines _ s.once sound.garbage))
 sound_so Names said words after sound s =
-    subst IsSound (sym s.adds) (record {
-      some = sound.some;
-      few = sound.few;
-      counted = s.counted;
-      named = s.named;
-      different = s.different;
-      constants = sound.constants;
-      garbage = sound.garbage;
-    })
-sound_so Inputs said words after sound s =
-    subst IsSound (sym s.adds) (record {
-      some = sound.some;
-      few = sound.few;
-      counted = sound.counted;
-      named = sound.named;
-      different = sound.different;
-      constants = sound.constants;
-      garbage = sound.garbage;
-    })
-sound_so Outputs said words after sound s =
-    subst IsSound (sym s.adds) (record {
-      some = sound.some;
-      few = sound.few;
-      counted = sound.counted;
-      named = sound.named;
-      different = sound.different;
-      constants = sound.constants;
-      garbage = sound.garbage;
-    })
+    subst IsSound (sym s.adds) (all_sound _ sound.some sound.few s.counted s.named s.different sound.constants sound.garbage)
+sound_so Inputs said words after sound s = subst IsSound (sym s.adds) (stays said said.version true said.outputs sound)
+sound_so Outputs said words after sound s = subst IsSound (sym s.adds) (stays said said.version said.inputs true sound)
 sound_so InputBus said words after sound s = subst IsSound (sym s) sound
 sound_so OutputBus said words after sound s = subst IsSound (sym s) sound
 sound_so Constants said words after sound s =
-    subst IsSound (sym s.adds) (record {
-      some = sound.some;
-      few = sound.few;
-      counted = sound.counted;
-      named = sound.named;
-      different = sound.different;
-      constants = s.counted;
-      garbage = sound.garbage;
-    })
+    subst IsSound (sym s.adds) (all_sound _ sound.some sound.few sound.counted sound.named sound.different s.counted sound.garbage)
 sound_so Garbage said words after sound s =
-    subst IsSound (sym s.adds) (record {
-      some = sound.some;
-      few = sound.few;
-      counted = sound.counted;
-      named = sound.named;
-      different = sound.different;
-      constants = sound.constants;
-      garbage = s.counted;
-    })
+    subst IsSound (sym s.adds) (all_sound _ sound.some sound.few sound.counted sound.named sound.different sound.constants s.counted)

@@ -60,6 +60,14 @@ nothing_said = record {
   garbage = None;
 }
 
+-- with which bit each line starts
+abbrev pub with_constants : HeaderView → List Mark → HeaderView
+with_constants said marks = record said { constants = Some marks }
+
+-- the last bits of which lines are of no use
+abbrev pub with_garbage : HeaderView → List Bool → HeaderView
+with_garbage said marks = record said { garbage = Some marks }
+
 -- the first word of a line of the header
 abbrev pub spelling_of : Head → List ℕ
 spelling_of Version = codes ".version"
@@ -102,23 +110,14 @@ pub record SaysNames (said : HeaderView) (words : List (List ℕ))
   pub different : AreApart (λ name other. name ≡ other) words
   pub adds : after ≡ record said { names = Some words }
 
--- with which bit each line starts, once, and behind the number of lines
-pub record SaysConstants (said : HeaderView) (words : List (List ℕ))
-    (after : HeaderView) : Type 0 where
-  pub marks : List Mark
-  pub once : said.constants ≡ None
-  pub counted : said.lines ≡ Some (length marks)
-  pub spelled : words ≡ map constant_byte marks ∷ []
-  pub adds : after ≡ record said { constants = Some marks }
-
--- the last bits of which lines are of no use, once, and behind the number of lines
-pub record SaysGarbage (said : HeaderView) (words : List (List ℕ))
-    (after : HeaderView) : Type 0 where
-  pub marks : List Bool
-  pub once : said.garbage ≡ None
-  pub counted : said.lines ≡ Some (length marks)
-  pub spelled : words ≡ map garbage_byte marks ∷ []
-  pub adds : after ≡ record said { garbage = Some marks }
+-- the marks of all lines, each by its byte, once, and behind the number of lines
+pub record SaysMarks {M : Type 0} (byte_of : M → ℕ) (old : Option (List M)) (lines : Option ℕ)
+    (with_marks : List M → HeaderView) (words : List (List ℕ)) (after : HeaderView) : Type 0 where
+  pub marks : List M
+  pub once : old ≡ None
+  pub counted : lines ≡ Some (length marks)
+  pub spelled : words ≡ map byte_of marks ∷ []
+  pub adds : after ≡ with_marks marks
 
 -- words that are passed over, once
 pub record SaysInputs (said after : HeaderView) : Type 0 where
@@ -137,5 +136,7 @@ Says Inputs said words after = SaysInputs said after
 Says Outputs said words after = SaysOutputs said after
 Says InputBus said words after = after ≡ said
 Says OutputBus said words after = after ≡ said
-Says Constants said words after = SaysConstants said words after
-Says Garbage said words after = SaysGarbage said words after
+Says Constants said words after =
+    SaysMarks constant_byte said.constants said.lines (with_constants said) words after
+Says Garbage said words after =
+    SaysMarks garbage_byte said.garbage said.lines (with_garbage said) words after

@@ -1,6 +1,7 @@
 // The header of a `.real` text.
 ghost use Rattle.std.specs.Prelude.{◌≡◌, ◌≢◌, ℕ, ◌+◌, ◌<◌, ◌≤◌, List, [], ◌∷◌, length};
-ghost use Rattle.std.specs.Prelude.{Some, None, Ok, Err, OnOk, IfOk, IfErr, IsErrOf, IsSome};
+ghost use Rattle.std.specs.Prelude.{Option, Some, None, Ok, Err, OnOk, IfOk, IfErr, IsErrOf};
+ghost use Rattle.std.specs.Prelude.{IsSome};
 ghost use Rattle.std.specs.Prelude.{false, replicate, unwrap_or};
 ghost use Rattle.std.specs.Option.{option_map};
 ghost use Rattle.std.specs.List.{find};
@@ -10,8 +11,7 @@ ghost use Rattle.real_format.specs.inside.Reading.{Refuses, header_line, file_of
 ghost use Rattle.real_format.specs.inside.Reading.{add_version, add_lines, add_names, add_inputs};
 ghost use Rattle.real_format.specs.inside.Reading.{add_outputs, add_constants, add_garbage};
 ghost use Rattle.real_format.specs.inside.Reading.{is_version, count_of, names_from};
-ghost use Rattle.real_format.specs.inside.Reading.{more_names, marks_of, marks_from, constant_of};
-ghost use Rattle.real_format.specs.inside.Reading.{garbage_of};
+ghost use Rattle.real_format.specs.inside.Reading.{more_names, new_marks, marks_of, marks_from};
 ghost use Rattle.real_format.specs.inside.Says.{HeaderSays, BeginsAs};
 
 use crate::file::{Mark, RealFault};
@@ -283,13 +283,8 @@ impl<'t> Header<'t> {
         ensures ok { OnOk result (add_constants self.old words.old ≡ Ok self.new) }
         ensures err { IfErr result (Refuses (add_constants self.old words.old)) }
     {
-        if self.constants.is_some() {
-            return Err(LineRefusal::Form);
-        }
-        let Some(lines) = self.lines else {
-            return Err(LineRefusal::Form);
-        };
-        self.constants = Some(constants_of(alloc, lines, words)?);
+        let said = self.constants.is_some();
+        self.constants = Some(new_marks(alloc, said, self.lines, words)?);
         Ok(())
     }
 
@@ -297,13 +292,8 @@ impl<'t> Header<'t> {
         ensures ok { OnOk result (add_garbage self.old words.old ≡ Ok self.new) }
         ensures err { IfErr result (Refuses (add_garbage self.old words.old)) }
     {
-        if self.garbage.is_some() {
-            return Err(LineRefusal::Form);
-        }
-        let Some(lines) = self.lines else {
-            return Err(LineRefusal::Form);
-        };
-        self.garbage = Some(garbage_of(alloc, lines, words)?);
+        let said = self.garbage.is_some();
+        self.garbage = Some(new_marks(alloc, said, self.lines, words)?);
         Ok(())
     }
 }
@@ -377,10 +367,67 @@ fn add_name<'t>(names: &mut Names<'t>, word: &'t [u8]) -> Result<(), LineRefusal
     Ok(())
 }
 
+// A mark of a line, which a byte stands for.
+trait Marking: Copy {
+    // The mark of each byte that stands for one.
+    ghost marking: { ℕ → Option Self };
+
+    fn of(byte: u8) -> Option<Self>
+        ensures { result ≡ marking byte };
+}
+
+impl Marking for Mark {
+    ghost use Rattle.real_format.specs.inside.Reading.{constant_of};
+
+    ghost marking = { constant_of };
+
+    fn of(byte: u8) -> Option<Mark> {
+        match byte {
+            b'-' => Some(Mark::Free),
+            b'0' => Some(Mark::Zero),
+            b'1' => Some(Mark::One),
+            _ => None,
+        }
+    }
+}
+
+impl Marking for bool {
+    ghost use Rattle.real_format.specs.inside.Reading.{garbage_of};
+
+    ghost marking = { garbage_of };
+
+    fn of(byte: u8) -> Option<bool> {
+        match byte {
+            b'-' => Some(false),
+            b'1' => Some(true),
+            _ => None,
+        }
+    }
+}
+
+// The marks of all lines, once, and behind the number of lines.
+fn new_marks<M: Marking>(
+    alloc: Global,
+    said: bool,
+    lines: Option<u32>,
+    words: &mut Words,
+) -> Result<Vec<M>, LineRefusal>
+    ensures ok { IfOk result (λ marks. new_marks M.marking said lines words.old ≡ Ok marks.items) }
+    ensures err { IfErr result (Refuses (new_marks M.marking said lines words.old)) }
+{
+    if said {
+        return Err(LineRefusal::Form);
+    }
+    let Some(count) = lines else {
+        return Err(LineRefusal::Form);
+    };
+    marks_of(alloc, count, words)
+}
+
 // So many marks: the one word that is left.
-fn constants_of(alloc: Global, count: u32, words: &mut Words) -> Result<Vec<Mark>, LineRefusal>
-    ensures ok { IfOk result (λ marks. marks_of constant_of count words.old ≡ Ok marks.items) }
-    ensures err { IfErr result (Refuses (marks_of constant_of count words.old)) }
+fn marks_of<M: Marking>(alloc: Global, count: u32, words: &mut Words) -> Result<Vec<M>, LineRefusal>
+    ensures ok { IfOk result (λ marks. marks_of M.marking count words.old ≡ Ok marks.items) }
+    ensures err { IfErr result (Refuses (marks_of M.marking count words.old)) }
 {
     let Some(word) = words.only() else {
         return Err(LineRefusal::Form);
@@ -390,53 +437,12 @@ fn constants_of(alloc: Global, count: u32, words: &mut Words) -> Result<Vec<Mark
     }
     let mut marks = Vec::with_capacity(alloc, word.len())?;
     for byte in word {
-        let Some(mark) = constant_of(*byte) else {
+        let Some(mark) = M::of(*byte) else {
             return Err(LineRefusal::Form);
         };
         marks.push(mark)?;
     }
     Ok(marks)
-}
-
-fn constant_of(byte: u8) -> Option<Mark>
-    ensures { result ≡ constant_of byte }
-{
-    match byte {
-        b'-' => Some(Mark::Free),
-        b'0' => Some(Mark::Zero),
-        b'1' => Some(Mark::One),
-        _ => None,
-    }
-}
-
-fn garbage_of(alloc: Global, count: u32, words: &mut Words) -> Result<Vec<bool>, LineRefusal>
-    ensures ok { IfOk result (λ marks. marks_of garbage_of count words.old ≡ Ok marks.items) }
-    ensures err { IfErr result (Refuses (marks_of garbage_of count words.old)) }
-{
-    let Some(word) = words.only() else {
-        return Err(LineRefusal::Form);
-    };
-    if word.len() != count as usize {
-        return Err(LineRefusal::Form);
-    }
-    let mut marks = Vec::with_capacity(alloc, word.len())?;
-    for byte in word {
-        let Some(mark) = is_garbage(*byte) else {
-            return Err(LineRefusal::Form);
-        };
-        marks.push(mark)?;
-    }
-    Ok(marks)
-}
-
-fn is_garbage(byte: u8) -> Option<bool>
-    ensures { result ≡ garbage_of byte }
-{
-    match byte {
-        b'-' => Some(false),
-        b'1' => Some(true),
-        _ => None,
-    }
 }
 
 // The marks of so many lines: those that were said, else all `-`.

@@ -23,7 +23,7 @@ use Rattle.real_format.specs.declared.header.Head.TheVariants as heads
 use Rattle.real_format.specs.declared.gate.Shape.{Shape}
 use Rattle.real_format.specs.declared.refusal.LineRefusal.{LineRefusal}
 use Rattle.real_format.specs.declared.refusal.LineRefusal.TheVariants.{Form, Limit, Memory}
-use Rattle.real_format.specs.Header.{HeaderView, spelling_of}
+use Rattle.real_format.specs.Header.{HeaderView, with_constants, with_garbage, spelling_of}
 use Rattle.real_format.specs.Real.{RealView, Place, in_header, in_gates, at_end}
 
 -- ---- outcomes
@@ -140,17 +140,21 @@ abbrev pub marks_of : {M : Type 0} → (ℕ → Option M) → ℕ → List (List
 marks_of f n words =
     or_form (single words) (λ word. if length word == n then marks_from f [] word else Err Form)
 
+-- the marks of all lines, once, and behind the number of lines
+abbrev pub new_marks : {M : Type 0} → (ℕ → Option M) → Bool → Option ℕ → List (List ℕ)
+    → Result (List M) LineRefusal
+new_marks f said lines words =
+    if said then Err Form else or_form lines (λ n. marks_of f n words)
+
 abbrev pub add_constants : HeaderView → List (List ℕ) → Result HeaderView LineRefusal
 add_constants said words =
-    if is_some said.constants then Err Form
-    else or_form said.lines (λ n. and_then (marks_of constant_of n words)
-    (λ marks. Ok (record said { constants = Some marks })))
+    and_then (new_marks constant_of (is_some said.constants) said.lines words)
+    (λ marks. Ok (with_constants said marks))
 
 abbrev pub add_garbage : HeaderView → List (List ℕ) → Result HeaderView LineRefusal
 add_garbage said words =
-    if is_some said.garbage then Err Form
-    else or_form said.lines (λ n. and_then (marks_of garbage_of n words)
-    (λ marks. Ok (record said { garbage = Some marks })))
+    and_then (new_marks garbage_of (is_some said.garbage) said.lines words)
+    (λ marks. Ok (with_garbage said marks))
 
 abbrev pub add_inputs : HeaderView → Result HeaderView LineRefusal
 add_inputs said = if said.inputs then Err Form else Ok (record said { inputs = true })
