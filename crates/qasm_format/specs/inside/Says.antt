@@ -31,49 +31,38 @@ pub record ReadsWord (old new : Left) (wanted : List ℕ) : Type 0 where
 pub record StopsAtWord (old : Left) (wanted : List ℕ) (fault : QasmFault) : Type 0 where
   pub says : (after : Stage) → IsStop old (wants wanted after) fault
 
--- no name: another token, or one that is too long
-pub record IsNoName (old : Left) (at : Place) : Type 0 where
+-- a token of another kind
+pub record IsOtherToken (is_kind : List ℕ → Bool) (old : Left) (at : Place) : Type 0 where
   pub word : List ℕ
   pub new : Left
   pub takes : Takes old new word at
-  pub other : is_identifier word ≡ false
+  pub other : is_kind word ≡ false
 
-pub record IsLongNameAt (old : Left) (at : Place) : Type 0 where
+-- a token of this kind that is too long
+pub record IsLongToken (is_kind : List ℕ → Bool) (most : ℕ) (old : Left) (at : Place) : Type 0 where
   pub word : List ℕ
   pub new : Left
   pub takes : Takes old new word at
-  pub spelled : is_identifier word ≡ true
-  pub long : MOST_NAME_BYTES < length word
+  pub spelled : is_kind word ≡ true
+  pub long : most < length word
+
+-- why no token of this kind, of at most so many bytes, was taken
+abbrev pub IsTokenFault : (List ℕ → Bool) → ℕ → Left → QasmFault → Type 0
+IsTokenFault is_kind most old (Token at) = IsOtherToken is_kind old at
+IsTokenFault is_kind most old (Limit at) = IsLongToken is_kind most old at
+IsTokenFault is_kind most old Memory = ⊥
 
 abbrev pub IsNameFault : Left → QasmFault → Type 0
-IsNameFault old (Token at) = IsNoName old at
-IsNameFault old (Limit at) = IsLongNameAt old at
-IsNameFault old Memory = ⊥
+IsNameFault old fault = IsTokenFault is_identifier MOST_NAME_BYTES old fault
+
+abbrev pub IsNumberFault : Left → QasmFault → Type 0
+IsNumberFault old fault = IsTokenFault is_number MOST_DIGITS old fault
 
 -- a name was taken
 pub record TakesName (old new : Left) (word : List ℕ) (at : Place) : Type 0 where
   pub takes : Takes old new word at
   pub spelled : is_identifier word ≡ true
   pub few : length word ≤ MOST_NAME_BYTES
-
--- no number: another token, or one that is too long
-pub record IsNoNumber (old : Left) (at : Place) : Type 0 where
-  pub word : List ℕ
-  pub new : Left
-  pub takes : Takes old new word at
-  pub other : is_number word ≡ false
-
-pub record IsLongNumberAt (old : Left) (at : Place) : Type 0 where
-  pub word : List ℕ
-  pub new : Left
-  pub takes : Takes old new word at
-  pub spelled : is_number word ≡ true
-  pub long : MOST_DIGITS < length word
-
-abbrev pub IsNumberFault : Left → QasmFault → Type 0
-IsNumberFault old (Token at) = IsNoNumber old at
-IsNumberFault old (Limit at) = IsLongNumberAt old at
-IsNumberFault old Memory = ⊥
 
 -- digits of this value were taken
 pub record TakesNumber (old new : Left) (value : ℕ) (at : Place) : Type 0 where
