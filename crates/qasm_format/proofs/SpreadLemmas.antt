@@ -225,55 +225,53 @@ pushed_more controls target n old now new gate so_far same pushed =
     ∙ ap (λ gs. old ++ gs) (ap (λ g. map (gate_at controls target) (range_with_len 0 n) ++ g ∷ []) same
     ∙ sym (map-range_with_len_more (gate_at controls target) 0 n n (omega arith)))
 
--- gates behind the others
-pub added : (spots : List Spot) (count : ℕ) (old new : List GateView) → 1 ≤ length spots → AreSpread spots count → AreAllDifferent spots count
-    → length old + count ≤ 4000000 → ArePushed spots count old new → AddsGates spots old new
-added spots count old new some spread different few pushed =
-    let split = split_off spots some in
-    let controls = split.0 in
-    let target = split.1 in
-    let parts = split.2 in
-    let long = length-map-range_with_len (gate_at controls target) 0 count in
-    record {
-      more = map (gate_at controls target) (range_with_len 0 count);
-      stand = λ n counted. stand controls target spots count n parts counted spread different;
-      few = omega arith;
-      placed = λ lines below. AllByRecursion-range (IsGateOn lines) (gate_at controls target) 0 count
-          (λ i from low. gate_on controls target spots lines count i parts (omega (arith, low)) spread below (different.says i (omega (arith, low))));
-      added = pushed.says controls target parts;
-    }
+-- the gates that arguments stand for
+module _ (spots : List Spot) (count : ℕ) (old : List GateView) (some : 1 ≤ length spots) (spread : AreSpread spots count)
+    (different : AreAllDifferent spots count) where
+  abbrev controls : List Spot
+  controls = (split_off spots some).0
 
--- gates within their limit, for which memory was wanting
-pub wanted : (spots : List Spot) (count : ℕ) (old : List GateView) → 1 ≤ length spots → AreSpread spots count → AreAllDifferent spots count
-    → length old + count ≤ 4000000 → StandForFew spots old
-wanted spots count old some spread different few =
-    let split = split_off spots some in
-    let controls = split.0 in
-    let target = split.1 in
-    let long = length-map-range_with_len (gate_at controls target) 0 count in
-    record {
-      more = map (gate_at controls target) (range_with_len 0 count);
-      stand = λ n counted. stand controls target spots count n split.2 counted spread different;
-      few = omega arith;
-    }
+  abbrev target : Spot
+  target = (split_off spots some).1
 
-pub passed : (spots : List Spot) (count : ℕ) (old : List GateView) → 1 ≤ length spots → AreSpread spots count → AreAllDifferent spots count
-    → 4000000 < length old + count → PassGates spots old
-passed spots count old some spread different many =
-    let split = split_off spots some in
-    let controls = split.0 in
-    let target = split.1 in
-    let parts = split.2 in
-    let long = length-map-range_with_len (gate_at controls target) 0 count in
-    record {
-      more = map (gate_at controls target) (range_with_len 0 count);
-      stand = λ n counted. stand controls target spots count n parts counted spread different;
-      many = omega arith;
-      all = λ n gates h.
-          let same = one_count spots count h.count spread h.spread in
-          let other = ap length h.are ∙ length-map-range_with_len (gate_at h.controlling h.target) 0 h.count in
-          omega (arith, same, other, many);
-    }
+  abbrev standing : List GateView
+  standing = map (gate_at controls target) (range_with_len 0 count)
+
+  parts : spots ≡ controls ++ target ∷ []
+  parts = (split_off spots some).2
+
+  length-standing : length standing ≡ count
+  length-standing = length-map-range_with_len (gate_at controls target) 0 count
+
+  they_stand : (n : ℕ) → length spots ≡ n + 1 → StandForGates n spots standing
+  they_stand n counted = stand controls target spots count n parts counted spread different
+
+  -- within the limit, where memory is wanting
+  pub wanted : length old + count ≤ 4000000 → StandForFew spots old
+  wanted few = record { more = standing; stand = they_stand; few = let long = length-standing in omega arith }
+
+  -- behind the others
+  pub added : (new : List GateView) → length old + count ≤ 4000000 → ArePushed spots count old new → AddsGates spots old new
+  added new few pushed = record {
+    more = standing;
+    stand = they_stand;
+    few = let long = length-standing in omega arith;
+    placed = λ lines below. AllByRecursion-range (IsGateOn lines) (gate_at controls target) 0 count
+        (λ i from low. gate_on controls target spots lines count i parts (omega (arith, low)) spread below (different.says i (omega (arith, low))));
+    added = pushed.says controls target parts;
+  }
+
+  -- past the limit
+  pub passed : 4000000 < length old + count → PassGates spots old
+  passed many = record {
+    more = standing;
+    stand = they_stand;
+    many = let long = length-standing in omega arith;
+    all = λ n gates h.
+        let same = one_count spots count h.count spread h.spread in
+        let other = ap length h.are ∙ length-map-range_with_len (gate_at h.controlling h.target) 0 h.count in
+        omega (arith, same, other, many);
+  }
 
 pub none_stand : (spots : List Spot) → ((count : ℕ) → ¬ AreSpread spots count) → StandForNone spots
 none_stand spots none = record { says = λ n gates h. none h.count h.spread }

@@ -27,7 +27,7 @@ push_gates-requires-clause-few c =
 
 pub returns-clause-ok : goal.returns-clause-ok
 returns-clause-ok c =
-    added c.args.spots.now c.in-Some.count _ _ c.requires.some c.in-Some.ensures.some (c.all_different.ensures.all c.if-not-all_different.false)
+    added c.args.spots.now c.in-Some.count _ c.requires.some c.in-Some.ensures.some (c.all_different.ensures.all c.if-not-all_different.false) _
     (omega arith) c.in_ok-push_gates.ensures
 
 pub returns-in_err-push_gates-clause-err : goal.returns-in_err-push_gates-clause-err
