@@ -8,7 +8,7 @@ use Rattle.real_format.specs.Written.{names_by}
 use Rattle.real_format.specs.Converted.{numbered_name}
 use Rattle.real_format.specs.inside.Says.{IsSound}
 use Rattle.real_format.specs.inside.Reading.{file_of}
-use Rattle.real_format.proofs.NameLemmas.{good_by_number, length-names_by, names_are_different, names_are_names}
+use Rattle.real_format.proofs.NameLemmas.{good_by_number, length-names_by, names_are_good}
 use Rattle.real_format.proofs.LineLemmas.{IsFit}
 use Rattle.real_format.proofs.VerdictLemmas.{passed, sound_at_first}
 
@@ -29,14 +29,12 @@ names_said said names e = record {
 lines_said : (said : HeaderView) (n : ℕ) → said.lines ≡ Some n → n ≤ MOST_LINES → said.names ≡ None → GoesOn (in_header said)
 lines_said said n e few none =
     let names = names_by numbered_name n in
-    let good = good_by_number n few in
     let after : HeaderView = record said { names = Some names } in
     behind (codes ".variables" ∷ names) (in_header said) (in_header after)
     (one_more (says_more Names names refl (record {
       once = none;
       counted = e ∙ ap Some (sym (length-names_by numbered_name n));
-      named = names_are_names numbered_name n good;
-      different = names_are_different numbered_name n good;
+      good = names_are_good numbered_name n (good_by_number n few);
       adds = refl;
     })) nothing_left)
     (names_said after names refl)

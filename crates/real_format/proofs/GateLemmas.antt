@@ -19,14 +19,14 @@ use Rattle.mct_circuit.specs.Gates.{targets_of}
 use Rattle.mct_circuit.specs.Sizes.{has_line}
 use Rattle.real_format.specs.declared.refusal.LineRefusal.{LineRefusal}
 use Rattle.real_format.specs.declared.refusal.LineRefusal.TheVariants.{Form, Limit}
-use Rattle.real_format.specs.Header.{IsName}
+use Rattle.real_format.specs.Header.{IsName, AreNames}
 use Rattle.real_format.specs.Real.{NamesLine, NamesControl}
 use Rattle.real_format.specs.Faults.{IsLong}
 use Rattle.real_format.specs.inside.Reading.{and_then, is_nil, begins_name, has_sign, is_long, line_of}
 use Rattle.real_format.specs.inside.Reading.{lines_of_controls, control_on, control_of, controls_from, target_of}
 use Rattle.real_format.specs.inside.Reading.{alone, op_of}
 use Rattle.real_format.proofs.InversionLemmas.{else_ok, then_ok, and_ok, or_ok, same_ok, else_limit, limit_else, then_limit, and_limit, or_limit, ok_no_limit}
-use Rattle.real_format.proofs.HeaderLemmas.{same_word, word_same, nil_is, AreNames, begins_so, neither, long, not_false, not_long, so_begins, so_long}
+use Rattle.real_format.proofs.HeaderLemmas.{same_word, word_same, nil_is, begins_so, neither, long, not_false, not_long, so_begins, so_long}
 use Rattle.real_format.proofs.StampLemmas.{has_line-more, lines_of_controls-more}
 
 -- ---- a name's line

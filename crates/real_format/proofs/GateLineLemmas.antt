@@ -7,16 +7,16 @@ use Rattle.list_facts.proofs.AllLemmas.{AllByRecursion-append}
 use Rattle.list_facts.proofs.OrderLemmas.{AreDifferent-left}
 use Rattle.mct_circuit.specs.declared.gate.Control.{Control}
 use Rattle.mct_circuit.specs.declared.gate.Op.{Op}
-use Rattle.mct_circuit.specs.Gates.{GateView, targets_of, HasDifferentLines, IsGateOn}
+use Rattle.mct_circuit.specs.Gates.{GateView, targets_of, IsGateOn}
 use Rattle.mct_circuit.specs.Sizes.{has_line}
 use Rattle.circuit_plans.specs.declared.plan.TheConstants.{MOST_GATES}
 use Rattle.real_format.specs.declared.gate.Shape.{Shape}
 use Rattle.real_format.specs.declared.refusal.LineRefusal.TheVariants.{Limit}
-use Rattle.real_format.specs.Real.{RealView, ReadsGate, NamesLine, NamesControl, IsGateWord}
+use Rattle.real_format.specs.Real.{RealView, ReadsGate, NameLines, NamesLine, NamesControl, IsGateWord}
 use Rattle.real_format.specs.Faults.{HasLongGate}
 use Rattle.real_format.specs.inside.Reading.{and_then, lines_of_controls, controls_from, op_of, gate_of, shape_of}
 use Rattle.real_format.proofs.InversionLemmas.{and_ok, same_ok, and_limit, ok_no_limit}
-use Rattle.real_format.proofs.HeaderLemmas.{AreNames}
+use Rattle.real_format.specs.Header.{AreNames}
 use Rattle.real_format.proofs.ShapeLemmas.{shape, gate_word_is}
 use Rattle.real_format.proofs.GateLemmas.{line_inside, controls_are, are_controls, controls_long, long_controls, IsTargets, op_is, is_op, op_long, long_op}
 
@@ -83,9 +83,10 @@ controls_inside names (w ∷ ws) (c ∷ cs) apart named = (line_inside names nam
 pub gate_on : (names : List (List ℕ)) (words : List (List ℕ)) (gate : GateView) → AreApart (λ one other. one ≡ other) names → ReadsGate names words gate
     → IsGateOn (length names) gate
 gate_on names words gate apart r = record {
-  different = r.different;
+  different = r.good.different;
   in_range = AllByRecursion-append (λ line. line < length names) (lines_of_controls gate.controls) (targets_of gate.op)
-      (controls_inside names r.control_words gate.controls apart r.controls) (lines_inside names r.target_words (targets_of gate.op) apart r.targets);
+      (controls_inside names r.control_words gate.controls apart r.good.controlled)
+      (lines_inside names r.target_words (targets_of gate.op) apart r.good.targeted);
 }
 
 pub gate_read : (names : List (List ℕ)) (words : List (List ℕ)) (word : List ℕ) (s : Shape) (gate : GateView) → shape_of word ≡ Some s
@@ -101,19 +102,17 @@ gate_read names words word s gate shaped e =
       parts = ap (λ ws. word ∷ ws) g.parts;
       counted = subst (λ k. IsGateWord word k (length g.target_words)) (sym g.control_count)
           (subst (λ k. IsGateWord word s.controls k) (sym g.target_count) is);
-      controls = g.controls;
-      targets = g.targets;
-      different = g.placed.different;
+      good = record { controlled = g.controls; targeted = g.targets; different = g.placed.different };
     }
 
 pub read_gate : (names : List (List ℕ)) (control_words target_words : List (List ℕ)) (gate : GateView) → AreNames names
-    → AllZip (NamesControl names) control_words gate.controls → AllZip (NamesLine names) target_words (targets_of gate.op) → HasDifferentLines gate
+    → NameLines names control_words target_words gate.controls (targets_of gate.op)
     → gate_of names (shape (length control_words) (length target_words)) (control_words ++ target_words) ≡ Ok gate
-read_gate names control_words target_words gate are controls targets different =
-    let first = are_controls names (length control_words) [] gate.controls control_words target_words are controls
-    (AreDifferent-left (lines_of_controls gate.controls) (targets_of gate.op) different) (AllZip-long
-    (NamesControl names) control_words gate.controls controls) in
-    let second = is_op names (length target_words) (lines_of_controls gate.controls) target_words gate.op are refl targets different in
+read_gate names control_words target_words gate are good =
+    let first = are_controls names (length control_words) [] gate.controls control_words target_words are good.controlled
+    (AreDifferent-left (lines_of_controls gate.controls) (targets_of gate.op) good.different) (AllZip-long
+    (NamesControl names) control_words gate.controls good.controlled) in
+    let second = is_op names (length target_words) (lines_of_controls gate.controls) target_words gate.op are refl good.targeted good.different in
     ap (λ r. and_then r (λ (read : List Control × List (List ℕ)).
     and_then (op_of names (length target_words) (λ line. has_line line (lines_of_controls read.0)) read.1)
     (λ op. Ok (let g : GateView = record { controls = read.0; op = op } in g)))) first
@@ -147,9 +146,11 @@ gate_long file words word s room shaped e =
             words = ap (λ ws. word ∷ ws) (l.parts ∙ ap (λ front. front ++ l.name ∷ l.rest) (sym (append-nil l.good)));
             gate_word = is;
             few = omega arith;
-            named = l.named;
-            targeted = tt;
-            different = subst AreDifferent (sym (append-nil (lines_of_controls l.more))) (l.different tt);
+            good = record {
+              controlled = l.named;
+              targeted = tt;
+              different = subst AreDifferent (sym (append-nil (lines_of_controls l.more))) (l.different tt);
+            };
             long = inl (refl, few, l.long_name);
           }
       | inr later ↦ elim (and_limit (op_of names s.targets (λ line. has_line line (lines_of_controls later.0.0)) later.0.1)
@@ -175,31 +176,33 @@ gate_long file words word s room shaped e =
                   words = ap (λ ws. word ∷ ws) (c.parts ∙ ap (λ back. c.more_words ++ back) l.parts ∙ sym (append_assoc c.more_words l.good (l.name ∷ l.rest)));
                   gate_word = is;
                   few = omega arith;
-                  named = subst (AllZip (NamesControl names) c.more_words) (sym c.is) c.named;
-                  targeted = l.named;
-                  different = l.different (c.different tt);
+                  good = record {
+                    controlled = subst (AllZip (NamesControl names) c.more_words) (sym c.is) c.named;
+                    targeted = l.named;
+                    different = l.different (c.different tt);
+                  };
                   long = inr (count, l.long_name);
                 }
           ]
     ]
 
-long_gate_at : (file : RealView) (line : List (List ℕ)) → AreNames file.names → (h : HasLongGate file line)
+pub long_gate : (file : RealView) (line : List (List ℕ)) → AreNames file.names → (h : HasLongGate file line)
     → gate_of file.names (shape h.wanted_controls h.wanted_targets) (h.control_words ++ h.target_words ++ h.name ∷ h.rest) ≡ Err Limit
-long_gate_at file line are h = elim h.long [
+long_gate file line are h = elim h.long [
   | inl early ↦
       let none : h.target_words ≡ [] = early.0 in
       let words : h.control_words ++ h.target_words ++ h.name ∷ h.rest ≡ h.control_words ++ h.name ∷ h.rest =
       ap (λ ws. (h.control_words ++ ws) ++ h.name ∷ h.rest) none ∙ ap (λ ws. ws ++ h.name ∷ h.rest) (append-nil h.control_words) in
       let few : length h.controls < h.wanted_controls = (let k = AllZip-long
-      (NamesControl file.names) h.control_words h.controls h.named in let p = early.1 in omega arith) in
+      (NamesControl file.names) h.control_words h.controls h.good.controlled in let p = early.1 in omega arith) in
       ap (gate_of file.names (shape h.wanted_controls h.wanted_targets)) words
       ∙ ap (λ r. and_then r (λ (read : List Control × List (List ℕ)).
       and_then (op_of file.names h.wanted_targets (λ line. has_line line (lines_of_controls read.0)) read.1)
       (λ op. Ok (let g : GateView = record { controls = read.0; op = op } in g))))
-      (long_controls file.names h.wanted_controls [] h.controls h.control_words h.name h.rest are h.named
-      (AreDifferent-left (lines_of_controls h.controls) h.targets h.different) few early.2)
+      (long_controls file.names h.wanted_controls [] h.controls h.control_words h.name h.rest are h.good.controlled
+      (AreDifferent-left (lines_of_controls h.controls) h.targets h.good.different) few early.2)
   | inr late ↦
-      let count : length h.controls ≡ h.wanted_controls = AllZip-long (NamesControl file.names) h.control_words h.controls h.named ∙ late.0 in
+      let count : length h.controls ≡ h.wanted_controls = AllZip-long (NamesControl file.names) h.control_words h.controls h.good.controlled ∙ late.0 in
       let whole = h.few in
       let few : length h.target_words < h.wanted_targets = (let p = late.0 in omega arith) in
       let words : h.control_words ++ h.target_words ++ h.name ∷ h.rest ≡ h.control_words ++ (h.target_words ++ h.name ∷ h.rest) =
@@ -208,14 +211,10 @@ long_gate_at file line are h = elim h.long [
       ∙ ap (λ r. and_then r (λ (read : List Control × List (List ℕ)).
       and_then (op_of file.names h.wanted_targets (λ line. has_line line (lines_of_controls read.0)) read.1)
       (λ op. Ok (let g : GateView = record { controls = read.0; op = op } in g))))
-      (are_controls file.names h.wanted_controls [] h.controls h.control_words (h.target_words ++ h.name ∷ h.rest) are h.named
-      (AreDifferent-left (lines_of_controls h.controls) h.targets h.different) count)
+      (are_controls file.names h.wanted_controls [] h.controls h.control_words (h.target_words ++ h.name ∷ h.rest) are h.good.controlled
+      (AreDifferent-left (lines_of_controls h.controls) h.targets h.good.different) count)
       ∙ ap (λ r. and_then r (λ op. Ok (let g : GateView = record { controls = h.controls; op = op } in g)))
       (long_op file.names h.wanted_targets (lines_of_controls h.controls) h.target_words h.targets h.name h.rest are
       (targets_so h.word h.wanted_controls h.wanted_targets h.gate_word)
-      few h.targeted h.different late.1)
+      few h.good.targeted h.good.different late.1)
 ]
-
-pub long_gate : (file : RealView) (line : List (List ℕ)) → AreNames file.names → (h : HasLongGate file line)
-    → gate_of file.names (shape h.wanted_controls h.wanted_targets) (h.control_words ++ h.target_words ++ h.name ∷ h.rest) ≡ Err Limit
-long_gate = long_gate_at

@@ -14,7 +14,8 @@ use Rattle.std.proofs.lemmas.Slice.Eq.{bytes_eq-Decides}
 use Rattle.list_facts.specs.Lists.{AreApart}
 use Rattle.list_facts.proofs.AllLemmas.{AllByRecursion-append, AllByRecursion-left, AllByRecursion-right}
 use Rattle.real_format.specs.declared.refusal.LineRefusal.TheVariants.{Form, Limit}
-use Rattle.real_format.specs.Header.{IsNumber, IsName, IsBarred}
+use Rattle.real_format.specs.Header.{IsNumber, IsName, AreNames, IsBarred}
+use Rattle.real_format.specs.Faults.{IsLong}
 use Rattle.real_format.specs.inside.Reading.{single, is_nil, number_of, begins_name, is_long, counted, count_of, more_names, names_from}
 use Rattle.format_parts.specs.Names.{has_word}
 use Rattle.real_format.proofs.InversionLemmas.{else_ok, then_ok, and_ok, or_ok, same_ok, else_limit, limit_else, then_limit, and_limit, ok_no_limit}
@@ -105,11 +106,6 @@ is_count words n i =
     rw (i.alone, is_number i.number n i.counted, ne_eqb n 0 (λ e. omega arith), above) refl
 
 -- ---- names
-
--- names, no two of which are equal
-pub record AreNames (names : List (List ℕ)) : Type 0 where
-  pub named : AllByRecursion IsName names
-  pub different : AreApart (λ one other. one ≡ other) names
 
 pub neither : (s t : Bool) → (s || t) ≡ false → (s ≡ false) × (t ≡ false)
 neither true t e = absurd (cc)
@@ -237,21 +233,17 @@ are_names n done (w ∷ ws) are count =
 
 -- ---- a long name
 
-pub record IsLongName (word : List ℕ) : Type 0 where
-  pub begins : ¬ IsBarred (get_or word 0 0)
-  pub long : 64 < length word
-
 pub record IsLongAmong (n : ℕ) (done words : List (List ℕ)) : Type 0 where
   pub good : List (List ℕ)
   pub name : List ℕ
   pub rest : List (List ℕ)
   pub parts : words ≡ good ++ name ∷ rest
   pub wanted : length (done ++ good) < n
-  pub long_name : IsLongName name
+  pub long_name : IsLong name
   pub names_are : AreNames done → AreNames (done ++ good)
 
 -- a long word that begins as a name
-more_long : (names : List (List ℕ)) (word : List ℕ) → more_names names word ≡ Err Limit → IsLongName word
+more_long : (names : List (List ℕ)) (word : List ℕ) → more_names names word ≡ Err Limit → IsLong word
 more_long names word e =
     let p = else_limit (not (begins_name word)) _ e in
     let begins = begins_so word (not_false (begins_name word) p.0) in
@@ -294,7 +286,7 @@ names_long n done (w ∷ ws) few e =
     ]
 
 pub long_names : (n : ℕ) (done good : List (List ℕ)) (name : List ℕ) (rest : List (List ℕ)) → AreNames (done ++ good) → length (done ++ good) < n
-    → IsLongName name
+    → IsLong name
     → names_from n done (good ++ name ∷ rest) ≡ Err Limit
 long_names n done [] name rest are room is =
     let few : length done < n = subst (λ xs. length xs < n) (append-nil done) room in

@@ -13,7 +13,7 @@ use Rattle.real_format.specs.declared.file.Mark.TheVariants.{Free}
 use Rattle.real_format.specs.declared.header.Head.{Head}
 use Rattle.real_format.specs.declared.header.Head.TheVariants as heads
 use Rattle.real_format.specs.declared.refusal.LineRefusal.TheVariants.{Form, Limit}
-use Rattle.real_format.specs.Header.{HeaderView, IsName, spelling_of}
+use Rattle.real_format.specs.Header.{HeaderView, IsName, AreNames, spelling_of}
 use Rattle.real_format.specs.Real.{RealView, Place, in_header, in_gates, at_end, Leads, says_nothing, says_more, begins_gates, adds_gate, ends_file, Begins}
 use Rattle.real_format.specs.Real.{ReadsGate, IsGateWord, IsFile}
 use Rattle.real_format.specs.Faults.{PassesLimit, HasManyLines, HasLongName, HasManyGates, HasLongGate}
@@ -21,7 +21,7 @@ use Rattle.real_format.specs.inside.Says.{IsSound}
 use Rattle.real_format.specs.inside.Reading.{and_then, or_form, is_nil, head_of, all_heads, add, headed, begin_gates, file_of, shape_of, gate_of, add_gate}
 use Rattle.real_format.specs.inside.Reading.{with_gate, end_gates, gates_line, after_line}
 use Rattle.real_format.proofs.InversionLemmas.{else_ok, then_ok, and_ok, or_ok, same_ok, limit_else, then_limit, and_limit, or_limit, ok_no_limit}
-use Rattle.real_format.proofs.HeaderLemmas.{AreNames, same_word, nil_is}
+use Rattle.real_format.proofs.HeaderLemmas.{same_word, nil_is}
 use Rattle.real_format.proofs.SaysLemmas.{says_so, so_says, limit_so, limit_lines, limit_names, sound_so}
 use Rattle.real_format.proofs.ShapeLemmas.{shape, gate_word_is, is_gate_word}
 use Rattle.real_format.proofs.GateLemmas.{pick_then, pick_else}
@@ -145,7 +145,7 @@ gate_so file line read are room r =
     ∙ ap (λ o. or_form o (λ k. add_gate file k words)) (is_gate_word r.word (length r.control_words) (length r.target_words) r.counted)
     ∙ pick_else (eqb (length file.gates) MOST_GATES) (Err Limit) (and_then (gate_of file.names s words) (λ g. Ok (with_gate file g)))
     (ne_eqb (length file.gates) MOST_GATES (λ e. omega arith))
-    ∙ ap (λ g. and_then g (λ g. Ok (with_gate file g))) (read_gate file.names r.control_words r.target_words read are r.controls r.targets r.different)
+    ∙ ap (λ g. and_then g (λ g. Ok (with_gate file g))) (read_gate file.names r.control_words r.target_words read are r.good)
 
 pub reads_so : (place next : Place) (line : List (List ℕ)) → IsFit place → Leads line place next → after_line place line ≡ Ok next
 reads_so place next line fit (says_nothing e) = ap (after_line place) e ∙ nothing_said_so place
@@ -245,8 +245,7 @@ line_limit (in_header said) line fit (inl m) =
     ∙ ap (λ r. and_then r (λ a. Ok (in_header a))) (limit_lines said m.number m.rest m.count m.once m.counted m.many)
 line_limit (in_header said) line fit (inr m) =
     ap (after_line (in_header said)) m.words
-    ∙ ap (λ r. and_then r (λ a. Ok (in_header a))) (limit_names said m.names m.name m.rest m.count m.once m.counted m.named m.different m.wanted
-    (record { begins = m.begins; long = m.long }))
+    ∙ ap (λ r. and_then r (λ a. Ok (in_header a))) (limit_names said m.names m.name m.rest m.count m.once m.counted m.good m.wanted m.long)
 line_limit (in_gates file) line fit (inl m) =
     ap (gates_line file) m.words
     ∙ pick_else (bytes_eq m.word (codes ".end")) (end_gates file m.rest) (or_form (shape_of m.word) (λ k. add_gate file k m.rest))

@@ -21,8 +21,8 @@ use Rattle.real_format.specs.Compiled.{name_of_line, constants_of, CompiledHasMe
 use Rattle.real_format.specs.Converted.{numbered_name, ConvertedHasMeaning}
 use Rattle.real_format.proofs.ReadingLemmas.{IsWord, words_of_lines}
 use Rattle.real_format.proofs.MarkLemmas.{length-constants_of}
-use Rattle.real_format.proofs.NameLemmas.{AreGood, good_by_role, good_by_number, names_are_words, IsWord-decimal, length-names_by, names_are_different}
-use Rattle.real_format.proofs.NameLemmas.{names_are_names, name_at}
+use Rattle.real_format.proofs.NameLemmas.{AreGood, good_by_role, good_by_number, names_are_words, IsWord-decimal, length-names_by, names_are_good}
+use Rattle.real_format.proofs.NameLemmas.{name_at}
 
 -- ---- words
 
@@ -139,9 +139,11 @@ reads_flip name count controls target short on =
         counted = record { digits = number.0; value = number.1 ∙ long ∙ ap (λ k. k + 1) (sym (length-map controls (name))) };
         few_digits = length-decimal-le 5 (length (lines_of (flip_of controls target))) (omega arith) (omega arith) (omega arith);
       };
-      controls = named_controls name count controls (AllByRecursion-left (λ line. line < count) controls (target ∷ []) inside);
-      targets = (name_at name count target (AllByRecursion-right (λ line. line < count) controls (target ∷ []) inside).0, tt);
-      different = on.different;
+      good = record {
+        controlled = named_controls name count controls (AllByRecursion-left (λ line. line < count) controls (target ∷ []) inside);
+        targeted = (name_at name count target (AllByRecursion-right (λ line. line < count) controls (target ∷ []) inside).0, tt);
+        different = on.different;
+      };
     }
 
 reads_gate : (name : ℕ → List ℕ) (count : ℕ) (gate : GateView) → IsGateOn count gate → IsNarrow gate
@@ -193,8 +195,7 @@ header_leads name count marks useless more to some few good marked uselessly lat
     (one_more (says_more Names (names_by name count) refl (record {
       once = refl;
       counted = ap Some (sym long);
-      named = names_are_names name count good;
-      different = names_are_different name count good;
+      good = names_are_good name count good;
       adds = refl;
     }))
     (one_more (says_more Inputs (names_by name count) refl (record { once = refl; adds = refl }))

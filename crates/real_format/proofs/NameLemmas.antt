@@ -11,7 +11,7 @@ use Rattle.std.proofs.lemmas.Bool.Decides.{nat_tests}
 use Rattle.list_facts.proofs.AllLemmas.{AllByRecursion-range}
 use Rattle.list_facts.specs.Lists.{AreApart}
 use Rattle.real_format.specs.Words.{is_word_byte, is_comment}
-use Rattle.real_format.specs.Header.{IsName}
+use Rattle.real_format.specs.Header.{IsName, AreNames}
 use Rattle.circuit_plans.specs.declared.roles.Roles.{Roles}
 use Rattle.circuit_plans.specs.declared.roles.Role.{Role}
 use Rattle.circuit_plans.specs.declared.roles.Role.TheVariants.{Input, Output, Work, Borrowed}
@@ -159,15 +159,15 @@ apart_range f a (suc n) apart = (
   apart_range f (a + 1) n (λ i j low less high. apart i j (omega (arith, low)) less (omega (arith, high))),
 )
 
-pub names_are_different : (name : ℕ → List ℕ) (count : ℕ) → AreGood name count → AreApart (λ one other. one ≡ other) (names_by name count)
-names_are_different name count good = apart_range name 0 count
-    (λ i j low less high e. let same : i ≡ j = good.apart i j (omega (arith, less, high)) (omega (arith, high)) e in omega (arith, less, same))
+pub names_are_good : (name : ℕ → List ℕ) (count : ℕ) → AreGood name count → AreNames (names_by name count)
+names_are_good name count good = record {
+  named = AllByRecursion-range IsName name 0 count (λ i low high. good.named i (omega arith));
+  different = apart_range name 0 count
+      (λ i j low less high e. let same : i ≡ j = good.apart i j (omega (arith, less, high)) (omega (arith, high)) e in omega (arith, less, same));
+}
 
 pub names_are_words : (name : ℕ → List ℕ) (count : ℕ) → AreGood name count → AllByRecursion IsWord (names_by name count)
 names_are_words name count good = AllByRecursion-range IsWord name 0 count (λ i low high. good.words i (omega arith))
-
-pub names_are_names : (name : ℕ → List ℕ) (count : ℕ) → AreGood name count → AllByRecursion IsName (names_by name count)
-names_are_names name count good = AllByRecursion-range IsName name 0 count (λ i low high. good.named i (omega arith))
 
 -- the name of a line of the circuit stands at its place
 pub name_at : (name : ℕ → List ℕ) (count line : ℕ) → line < count → slice_get (names_by name count) line ≡ Some (name line)

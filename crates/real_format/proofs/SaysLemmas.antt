@@ -14,14 +14,14 @@ use Rattle.real_format.specs.declared.file.Mark.TheVariants.{Free, Zero, One}
 use Rattle.real_format.specs.declared.header.Head.{Head}
 use Rattle.real_format.specs.declared.header.Head.TheVariants.{Version, Lines, Names, Inputs, Outputs, InputBus, OutputBus, Constants, Garbage}
 use Rattle.real_format.specs.declared.refusal.LineRefusal.TheVariants.{Form, Limit}
-use Rattle.real_format.specs.Header.{HeaderView, IsNumber, IsName, Says, SaysMarks, constant_byte, garbage_byte, with_constants, with_garbage, spelling_of}
-use Rattle.real_format.specs.Faults.{HasManyLines, HasLongName}
+use Rattle.real_format.specs.Header.{HeaderView, IsNumber, IsName, AreNames, Says, SaysMarks, constant_byte, garbage_byte, with_constants, with_garbage, spelling_of}
+use Rattle.real_format.specs.Faults.{IsLong, HasManyLines, HasLongName}
 use Rattle.real_format.specs.inside.Reading.{and_then, or_form, single, is_nil, number_of, is_version, counted, count_of, names_from, marks_from, marks_of}
 use Rattle.real_format.specs.inside.Reading.{constant_of, garbage_of, new_marks, add}
 use Rattle.real_format.specs.inside.Says.{IsSound}
 use Rattle.real_format.proofs.InversionLemmas.{else_ok, then_ok, and_ok, or_ok, same_ok, else_limit, limit_else, then_limit, and_limit, or_limit, ok_no_limit}
-use Rattle.real_format.proofs.HeaderLemmas.{single_is, is_none, number_is, is_number, same_word, either, IsCount, count_is, is_count, AreNames, names_are}
-use Rattle.real_format.proofs.HeaderLemmas.{are_names, IsLongName, names_long, long_names}
+use Rattle.real_format.proofs.HeaderLemmas.{single_is, is_none, number_is, is_number, same_word, either, IsCount, count_is, is_count, names_are}
+use Rattle.real_format.proofs.HeaderLemmas.{are_names, names_long, long_names}
 
 -- ---- marks
 
@@ -177,8 +177,7 @@ says_so Names said words after e =
     record {
       once = is_none said.names p.0;
       counted = q.1 ∙ ap Some (sym are.count ∙ ap length are.is);
-      named = good.named;
-      different = good.different;
+      good = good;
       adds = sym (same_ok (record said { names = Some r.0 }) after r.2) ∙ ap (λ names. let s : HeaderView = record said { names = Some names } in s) are.is;
     }
 says_so Inputs said words after e =
@@ -204,8 +203,7 @@ so_says Lines said words after s =
     rw (s.once, is_count words s.count c) (ap Ok (sym s.adds))
 so_says Names said words after s =
     rw s.once (ap (λ l. or_form l (λ n. and_then (names_from n [] words) (λ names. Ok (record said { names = Some names })))) s.counted
-    ∙ ap (λ r. and_then r (λ names. Ok (record said { names = Some names }))) (are_names (length words) [] words
-    (record { named = s.named; different = s.different }) refl) ∙ ap Ok (sym s.adds))
+    ∙ ap (λ r. and_then r (λ names. Ok (record said { names = Some names }))) (are_names (length words) [] words s.good refl) ∙ ap Ok (sym s.adds))
 so_says Inputs said words after s = rw s.once (ap Ok (sym s.adds))
 so_says Outputs said words after s = rw s.once (ap Ok (sym s.adds))
 so_says InputBus said words after s = ap Ok (sym s)
@@ -263,7 +261,6 @@ limit_so Names said words e =
     elim (and_limit (names_from q.0 [] words) (λ names. Ok (record said { names = Some names })) q.2) [
       | inl here ↦
           let l = names_long q.0 [] words (omega arith) here in
-          let good = l.names_are (record { named = tt; different = tt }) in
           inr (record {
             names = l.good;
             name = l.name;
@@ -273,10 +270,8 @@ limit_so Names said words e =
             counted = q.1;
             words = ap (λ ws. codes ".variables" ∷ ws) l.parts;
             wanted = l.wanted;
-            named = good.named;
-            different = good.different;
-            begins = l.long_name.begins;
-            long = l.long_name.long;
+            good = l.names_are (record { named = tt; different = tt });
+            long = l.long_name;
           })
       | inr later ↦ ok_no_limit (record said { names = Some later.0 }) later.2
     ]
@@ -294,14 +289,11 @@ pub limit_lines : (said : HeaderView) (number : List ℕ) (rest : List (List ℕ
 limit_lines said number rest n once is many = rw (once, limit_count number rest n is many) refl
 
 pub limit_names : (said : HeaderView) (names : List (List ℕ)) (name : List ℕ) (rest : List (List ℕ)) (n : ℕ) → said.names ≡ None → said.lines ≡ Some n
-    → AllByRecursion IsName names → AreApart (λ one other. one ≡ other) names → length names < n → IsLongName name
+    → AreNames names → length names < n → IsLong name
     → add Names said (names ++ name ∷ rest) ≡ Err Limit
-limit_names said names name rest n once lines named different wanted is =
+limit_names said names name rest n once lines good wanted is =
     rw once (ap (λ l. or_form l (λ k. and_then (names_from k [] (names ++ name ∷ rest)) (λ all. Ok (record said { names = Some all })))) lines
-    ∙ ap (λ r. and_then r (λ all. Ok (record said { names = Some all }))) (long_names n [] names name rest (record {
-      named = named;
-      different = different;
-    }) wanted is))
+    ∙ ap (λ r. and_then r (λ all. Ok (record said { names = Some all }))) (long_names n [] names name rest good wanted is))
 
 -- ---- what a header says fits
 
@@ -337,7 +329,7 @@ sound_so Lines said words after sound s =
     subst IsSound (sym s.adds) (all_sound _ s.some s.few (before_lines said.names said.lines _ s.once sound.counted) sound.named sound.different
     (before_lines said.constants said.lines _ s.once sound.constants) (before_lines said.garbage said.lines _ s.once sound.garbage))
 sound_so Names said words after sound s =
-    subst IsSound (sym s.adds) (all_sound _ sound.some sound.few s.counted s.named s.different sound.constants sound.garbage)
+    subst IsSound (sym s.adds) (all_sound _ sound.some sound.few s.counted s.good.named s.good.different sound.constants sound.garbage)
 sound_so Inputs said words after sound s = subst IsSound (sym s.adds) (stays said said.version true said.outputs sound)
 sound_so Outputs said words after sound s = subst IsSound (sym s.adds) (stays said said.version said.inputs true sound)
 sound_so InputBus said words after sound s = subst IsSound (sym s) sound

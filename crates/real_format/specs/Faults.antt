@@ -1,15 +1,13 @@
 -- Why a text means no file: its first bad line, and whether that line passes a limit.
 use Rattle.std.specs.Prelude.{◌≡◌, ℕ, ◌+◌, ◌<◌, ◌⊎◌, List, [], ◌∷◌, ◌++◌, length, map, codes, slice_index, Some, None}
-use Rattle.std.specs.List.{AllByRecursion, AllZip}
-use Rattle.list_facts.specs.Lists.{AreApart, AreDifferent}
 use Rattle.mct_circuit.specs.declared.gate.Control.{Control}
 use Rattle.circuit_plans.specs.declared.plan.TheConstants.{MOST_LINES, MOST_GATES}
 use Rattle.revc_base.specs.declared.limits.TheConstants.{MOST_NAME_BYTES}
 use Rattle.real_format.specs.declared.file.RealFault.{RealFault}
 use Rattle.real_format.specs.declared.file.RealFault.TheVariants.{Line, Limit, Memory}
 use Rattle.real_format.specs.Words.{said_lines}
-use Rattle.real_format.specs.Header.{HeaderView, IsNumber, IsName, IsBarred, nothing_said}
-use Rattle.real_format.specs.Real.{RealView, Place, in_header, in_gates, at_end, Leads, LeadTo, IsGateWord, NamesLine, NamesControl}
+use Rattle.real_format.specs.Header.{HeaderView, IsNumber, AreNames, IsBarred, nothing_said}
+use Rattle.real_format.specs.Real.{RealView, Place, in_header, in_gates, at_end, Leads, LeadTo, IsGateWord, NameLines}
 
 -- ---- limits
 
@@ -38,10 +36,8 @@ pub record HasLongName (said : HeaderView) (line : List (List ℕ)) : Type 0 whe
   pub counted : said.lines ≡ Some count
   pub words : line ≡ codes ".variables" ∷ (names ++ name ∷ rest)
   pub wanted : length names < count
-  pub named : AllByRecursion IsName names
-  pub different : AreApart (λ one other. one ≡ other) names
-  pub begins : ¬ IsBarred (slice_index name 0)
-  pub long : MOST_NAME_BYTES < length name
+  pub good : AreNames names
+  pub long : IsLong name
 
 -- a gate's word where the file has 4,000,000 gates
 pub record HasManyGates (file : RealView) (line : List (List ℕ)) : Type 0 where
@@ -75,9 +71,7 @@ pub record HasLongGate (file : RealView) (line : List (List ℕ)) : Type 0 where
   pub words : line ≡ word ∷ (control_words ++ target_words ++ name ∷ rest)
   pub gate_word : IsGateWord word wanted_controls wanted_targets
   pub few : length control_words + length target_words < wanted_controls + wanted_targets
-  pub named : AllZip (NamesControl file.names) control_words controls
-  pub targeted : AllZip (NamesLine file.names) target_words targets
-  pub different : AreDifferent (map (λ (control : Control). control.line) controls ++ targets)
+  pub good : NameLines file.names control_words target_words controls targets
   pub long : IsLongWanted wanted_controls control_words target_words name
 
 -- the first word of the line that breaks a rule passes a limit, and keeps the form

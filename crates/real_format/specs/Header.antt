@@ -27,6 +27,11 @@ pub record IsName (word : List ℕ) : Type 0 where
   pub few : length word ≤ MOST_NAME_BYTES
   pub begins : ¬ IsBarred (slice_index word 0)
 
+-- names, of which no two are equal
+pub record AreNames (words : List (List ℕ)) : Type 0 where
+  pub named : AllByRecursion IsName words
+  pub different : AreApart (λ name other. name ≡ other) words
+
 -- the byte that stands for a mark
 abbrev pub constant_byte : Mark → ℕ
 constant_byte Free = 45
@@ -101,13 +106,12 @@ pub record SaysLines (said : HeaderView) (words : List (List ℕ))
   pub few : count ≤ MOST_LINES
   pub adds : after ≡ record said { lines = Some count }
 
--- the names of all lines, once, and behind their number: names, of which no two are equal
+-- the names of all lines, once, and behind their number
 pub record SaysNames (said : HeaderView) (words : List (List ℕ))
     (after : HeaderView) : Type 0 where
   pub once : said.names ≡ None
   pub counted : said.lines ≡ Some (length words)
-  pub named : AllByRecursion IsName words
-  pub different : AreApart (λ name other. name ≡ other) words
+  pub good : AreNames words
   pub adds : after ≡ record said { names = Some words }
 
 -- the marks of all lines, each by its byte, once, and behind the number of lines

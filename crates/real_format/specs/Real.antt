@@ -1,12 +1,12 @@
 -- What a `.real` text means: names, marks and gates. Its lines lead from an empty header to the end of a file.
-use Rattle.std.specs.Prelude.{◌≡◌, ℕ, ◌+◌, ◌≤◌, ◌<◌, Bool, false, if◌then◌else◌, ◌⊎◌, List, [], ◌∷◌, ◌++◌, length, replicate, codes, slice_get, Some, unwrap_or}
+use Rattle.std.specs.Prelude.{◌≡◌, ℕ, ◌+◌, ◌≤◌, ◌<◌, Bool, false, if◌then◌else◌, ◌⊎◌, List, [], ◌∷◌, ◌++◌, length, map, replicate, codes, slice_get, Some, unwrap_or}
 use Rattle.std.specs.List.{AllByRecursion, AllZip}
-use Rattle.list_facts.specs.Lists.{AreApart}
+use Rattle.list_facts.specs.Lists.{AreApart, AreDifferent}
 use Rattle.real_format.specs.declared.file.Mark.{Mark}
 use Rattle.real_format.specs.declared.file.Mark.TheVariants.{Free}
 use Rattle.real_format.specs.declared.header.Head.{Head}
 use Rattle.mct_circuit.specs.declared.gate.Control.{Control}
-use Rattle.mct_circuit.specs.Gates.{GateView, HasDifferentLines, AreGatesOn, targets_of}
+use Rattle.mct_circuit.specs.Gates.{GateView, AreGatesOn, targets_of}
 use Rattle.circuit_plans.specs.declared.plan.TheConstants.{MOST_LINES, MOST_GATES}
 use Rattle.real_format.specs.Words.{said_lines}
 use Rattle.real_format.specs.Header.{HeaderView, IsName, IsNumber, Says, nothing_said, spelling_of}
@@ -39,7 +39,14 @@ pub record NamesControl (names : List (List ℕ)) (word : List ℕ)
   pub signed : word ≡ (if control.positive then name else 45 ∷ name)
   pub named : NamesLine names name control.line
 
--- the gate's word, its controls, and the lines that it flips or swaps: all of them different lines
+-- words that name controls, and behind them words that name lines: all of them different lines
+pub record NameLines (names control_words target_words : List (List ℕ)) (controls : List Control)
+    (targets : List ℕ) : Type 0 where
+  pub controlled : AllZip (NamesControl names) control_words controls
+  pub targeted : AllZip (NamesLine names) target_words targets
+  pub different : AreDifferent (map (λ (control : Control). control.line) controls ++ targets)
+
+-- the gate's word, its controls, and the lines that it flips or swaps
 pub record ReadsGate (names : List (List ℕ)) (words : List (List ℕ))
     (gate : GateView) : Type 0 where
   pub word : List ℕ
@@ -47,9 +54,7 @@ pub record ReadsGate (names : List (List ℕ)) (words : List (List ℕ))
   pub target_words : List (List ℕ)
   pub parts : words ≡ word ∷ (control_words ++ target_words)
   pub counted : IsGateWord word (length control_words) (length target_words)
-  pub controls : AllZip (NamesControl names) control_words gate.controls
-  pub targets : AllZip (NamesLine names) target_words (targets_of gate.op)
-  pub different : HasDifferentLines gate
+  pub good : NameLines names control_words target_words gate.controls (targets_of gate.op)
 
 -- ---- lines
 
