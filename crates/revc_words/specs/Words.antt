@@ -156,61 +156,56 @@ kind_word Less = codes "less"
 kind_word Inc = codes "inc"
 kind_word Mul = codes "mul"
 
+-- the value of an option: the one whose word is given, or the usual one
+abbrev pub IsChosen : {A : Type 0} → List ℕ → (A → List ℕ) → A → List Setting → A → Type 0
+IsChosen name word_for usual given value =
+    MatchOption (value_of name given) (value ≡ usual) (λ word. word ≡ word_for value)
+
+-- the number of an option: the one that is given, in this range, or the usual one
+abbrev pub IsCounted : List ℕ → ℕ → ℕ → ℕ → List Setting → ℕ → Type 0
+IsCounted name least most usual given number =
+    MatchOption (value_of name given) (number ≡ usual)
+    (λ word. IsNumberIn least most word number)
+
 -- the plans that are tried: those that are given, or the eager plan and then pebbling
 abbrev pub IsPlan : List Setting → How → Type 0
-IsPlan given plan =
-    MatchOption (value_of (codes "plan") given) (plan ≡ Auto) (λ word. word ≡ plan_word plan)
+IsPlan given plan = IsChosen (codes "plan") plan_word Auto given plan
 
 -- the most lines: those that are given, from 1 on, or the usual number
 abbrev pub AreLines : List Setting → ℕ → Type 0
-AreLines given lines =
-    MatchOption (value_of (codes "lines") given) (lines ≡ USUAL_LINES)
-    (λ word. IsNumberIn 1 MOST_LINES word lines)
+AreLines given lines = IsCounted (codes "lines") 1 MOST_LINES USUAL_LINES given lines
 
 -- the most gates: those that are given, from 1 on, or the usual number
 abbrev pub AreGates : List Setting → ℕ → Type 0
-AreGates given gates =
-    MatchOption (value_of (codes "gates") given) (gates ≡ USUAL_GATES)
-    (λ word. IsNumberIn 1 MOST_GATES word gates)
+AreGates given gates = IsCounted (codes "gates") 1 MOST_GATES USUAL_GATES given gates
 
 -- the borrowed lines: as many as are given, or none
 abbrev pub AreBorrowed : List Setting → ℕ → Type 0
-AreBorrowed given borrow =
-    MatchOption (value_of (codes "borrow") given) (borrow ≡ 0)
-    (λ word. IsNumberIn 0 MOST_BORROWED word borrow)
+AreBorrowed given borrow = IsCounted (codes "borrow") 0 MOST_BORROWED 0 given borrow
 
 -- the most nodes: those that are given, from 1 on, or the usual number
 abbrev pub AreNodes : List Setting → ℕ → Type 0
-AreNodes given nodes =
-    MatchOption (value_of (codes "nodes") given) (nodes ≡ USUAL_NODES)
-    (λ word. IsNumberIn 1 MOST_NODES word nodes)
+AreNodes given nodes = IsCounted (codes "nodes") 1 MOST_NODES USUAL_NODES given nodes
 
 -- the format that is written: the one given, or `.real`
 abbrev pub IsFormat : List Setting → Format → Type 0
-IsFormat given format =
-    MatchOption (value_of (codes "format") given) (format ≡ Real)
-    (λ word. word ≡ format_word format)
+IsFormat given format = IsChosen (codes "format") format_word Real given format
 
 -- the format that is read: the one given, or `.real`
 abbrev pub IsFrom : List Setting → Format → Type 0
-IsFrom given from =
-    MatchOption (value_of (codes "from") given) (from ≡ Real) (λ word. word ≡ format_word from)
+IsFrom given from = IsChosen (codes "from") format_word Real given from
 
 -- the format that `convert` and `tidy` write: the one given, or OpenQASM
 abbrev pub IsTo : List Setting → Format → Type 0
-IsTo given to =
-    MatchOption (value_of (codes "to") given) (to ≡ Qasm) (λ word. word ≡ format_word to)
+IsTo given to = IsChosen (codes "to") format_word Qasm given to
 
 -- the factor: the one that is given, from 1 on, or 0
 abbrev pub IsBy : List Setting → ℕ → Type 0
-IsBy given by =
-    MatchOption (value_of (codes "by") given) (by ≡ 0) (λ word. IsNumberIn 1 MOST_FACTOR word by)
+IsBy given by = IsCounted (codes "by") 1 MOST_FACTOR 0 given by
 
 -- what is written of a program: what is given, or its text
 abbrev pub IsWrite : List Setting → Write → Type 0
-IsWrite given write =
-    MatchOption (value_of (codes "write") given) (write ≡ writes.Program)
-    (λ word. word ≡ write_word write)
+IsWrite given write = IsChosen (codes "write") write_word writes.Program given write
 
 -- ---- positional words
 
