@@ -205,6 +205,14 @@ reached_flag options takes word words rows end (Some (name, Some text)) apart re
     (behind None tt (with_option name text rows) (rw (t, h) at e))))
     (λ f. absurd (no_rows end (rw f at e)))
 
+-- a positional word, where the command takes such
+reached_word : (options : List Text) (takes : Bool) (word : Text) (words : List Text) (rows end : List Row) → is_option word ≡ false
+    → (run options takes words None (with_word word rows) ≡ Some end → IsReached options takes words None (with_word word rows) end)
+    → cond takes (run options takes words None (with_word word rows)) None ≡ Some end → IsReached options takes (word ∷ words) None rows end
+unfolding run read
+reached_word options true word words rows end f behind e = add_word options true words word rows end refl (rw f refl) (behind e)
+reached_word options false word words rows end f behind e = absurd (no_rows end e)
+
 pub reached : (options : List Text) (takes : Bool) → is_one_of options (codes "word") ≡ false → (words : List Text) (waits : Option Text) → Waits waits
     → (rows end : List Row) → run options takes words waits rows ≡ Some end → IsReached options takes words waits rows end
 unfolding run read
@@ -228,22 +236,13 @@ reached options takes apart (word ∷ words) (Some name) is rows end e = by_test
     add_option options takes words (word ∷ words) (Some name) name word rows end h is
     (rw (no_end word f) refl)
     (reached options takes apart words None tt (with_option name word rows) end (rw (f, h) at e))))
-reached options true apart (word ∷ words) None is rows end e = by_test (is_option word)
+reached options takes apart (word ∷ words) None is rows end e = by_test (is_option word)
     (λ t. by_test (bytes_eq word (codes "--"))
-    (λ h. words_end options true (word ∷ words) words rows end (rw (t, h) refl) (rw (t, h) at e))
+    (λ h. words_end options takes (word ∷ words) words rows end (rw (t, h) refl) (rw (t, h) at e))
     (λ h.
-    reached_flag options true word words rows end (long_of word) apart (rw (t, h) refl)
-    (λ waits so now. reached options true apart words waits so now end) (rw (t, h) at e)))
-    (λ f.
-    add_word options true words word rows end refl (rw f refl)
-    (reached options true apart words None tt (with_word word rows) end (rw f at e)))
-reached options false apart (word ∷ words) None is rows end e = by_test (is_option word)
-    (λ t. by_test (bytes_eq word (codes "--"))
-    (λ h. words_end options false (word ∷ words) words rows end (rw (t, h) refl) (rw (t, h) at e))
-    (λ h.
-    reached_flag options false word words rows end (long_of word) apart (rw (t, h) refl)
-    (λ waits so now. reached options false apart words waits so now end) (rw (t, h) at e)))
-    (λ f. absurd (no_rows end (rw f at e)))
+    reached_flag options takes word words rows end (long_of word) apart (rw (t, h) refl)
+    (λ waits so now. reached options takes apart words waits so now end) (rw (t, h) at e)))
+    (λ f. reached_word options takes word words rows end f (reached options takes apart words None tt (with_word word rows) end) (rw f at e))
 
 -- ---- what the words say is parsed
 
