@@ -1,10 +1,9 @@
 // The values of options, and the texts that give them.
-ghost use Rattle.std.specs.Prelude.{◌≡◌};
+ghost use Rattle.std.specs.Prelude.{◌≡◌, ℕ, List, Option};
 ghost use Rattle.clap.specs.Words.{first_of, found_of, rows_of};
 ghost use Rattle.revc_words.specs.Words.{order_of, words_of};
-ghost use Rattle.revc_words.specs.inside.Parsing.{format_of, kind_of, number_of, order_with};
-ghost use Rattle.revc_words.specs.inside.Parsing.{plan_of, text_at, texts_in, value_or, values_of};
-ghost use Rattle.revc_words.specs.inside.Parsing.{write_of};
+ghost use Rattle.revc_words.specs.inside.Parsing.{kind_of, number_of, order_with, text_at};
+ghost use Rattle.revc_words.specs.inside.Parsing.{texts_in, value_or, values_of};
 
 use crate::{
     Command, Format, MOST_DIGITS, MOST_NODES, Order, USUAL_GATES, USUAL_LINES, USUAL_NODES, Write,
@@ -40,16 +39,16 @@ impl Values {
             USUAL_GATES as u32,
         );
         Some(Values {
-            plan: plan_or(text(matches, "plan"), How::Auto)?,
+            plan: chosen(text(matches, "plan"), How::Auto)?,
             lines: number_or(text(matches, "lines"), 1, MOST_LINES, USUAL_LINES)?,
             gates: u64::from(gates?),
             borrow: number_or(text(matches, "borrow"), 0, MOST_BORROWED, 0)?,
             nodes: number_or(text(matches, "nodes"), 1, MOST_NODES, USUAL_NODES)?,
-            format: format_or(text(matches, "format"), Format::Real)?,
-            from: format_or(text(matches, "from"), Format::Real)?,
-            to: format_or(text(matches, "to"), Format::Qasm)?,
+            format: chosen(text(matches, "format"), Format::Real)?,
+            from: chosen(text(matches, "from"), Format::Real)?,
+            to: chosen(text(matches, "to"), Format::Qasm)?,
             by: number_or(text(matches, "by"), 1, MOST_FACTOR, 0)?,
-            write: write_or(text(matches, "write"), Write::Program)?,
+            write: chosen(text(matches, "write"), Write::Program)?,
         })
     }
 
@@ -108,69 +107,67 @@ pub fn number(text: &str, least: u32, most: u32) -> Option<u32>
     Some(n)
 }
 
-// The choice of plans with this name, or the usual one where there is no name.
-fn plan_or(name: Option<&str>, usual: How) -> Option<How>
-    ensures { result ≡ value_or usual plan_of (text_at name.entry) }
+// What an option chooses, by a name.
+trait Choice: Copy {
+    // The choice of each name that has one.
+    ghost choice: { List ℕ → Option Self };
+
+    fn named(name: &str) -> Option<Self>
+        ensures { result ≡ choice name.now };
+}
+
+// The choice with this name, or the usual one where there is no name.
+fn chosen<C: Choice>(name: Option<&str>, usual: C) -> Option<C>
+    ensures { result ≡ value_or usual C.choice (text_at name.entry) }
 {
     match name {
-        Some(name) => plan(name),
+        Some(name) => C::named(name),
         None => Some(usual),
     }
 }
 
-// The choice of plans with this name.
-fn plan(name: &str) -> Option<How>
-    ensures { result ≡ plan_of name.now }
-{
-    match name {
-        "auto" => Some(How::Auto),
-        "eager" => Some(How::Eager),
-        "lean" => Some(How::Lean),
-        "pebble" => Some(How::Pebble),
-        _ => None,
+impl Choice for How {
+    ghost use Rattle.revc_words.specs.inside.Parsing.{plan_of};
+
+    ghost choice = { plan_of };
+
+    fn named(name: &str) -> Option<How> {
+        match name {
+            "auto" => Some(How::Auto),
+            "eager" => Some(How::Eager),
+            "lean" => Some(How::Lean),
+            "pebble" => Some(How::Pebble),
+            _ => None,
+        }
     }
 }
 
-// The format with this name, or the usual one where there is no name.
-fn format_or(name: Option<&str>, usual: Format) -> Option<Format>
-    ensures { result ≡ value_or usual format_of (text_at name.entry) }
-{
-    match name {
-        Some(name) => format(name),
-        None => Some(usual),
+impl Choice for Format {
+    ghost use Rattle.revc_words.specs.inside.Parsing.{format_of};
+
+    ghost choice = { format_of };
+
+    fn named(name: &str) -> Option<Format> {
+        match name {
+            "real" => Some(Format::Real),
+            "qasm" => Some(Format::Qasm),
+            _ => None,
+        }
     }
 }
 
-// The format with this name.
-fn format(name: &str) -> Option<Format>
-    ensures { result ≡ format_of name.now }
-{
-    match name {
-        "real" => Some(Format::Real),
-        "qasm" => Some(Format::Qasm),
-        _ => None,
-    }
-}
+impl Choice for Write {
+    ghost use Rattle.revc_words.specs.inside.Parsing.{write_of};
 
-// What is written, by this name, or the usual one where there is no name.
-fn write_or(name: Option<&str>, usual: Write) -> Option<Write>
-    ensures { result ≡ value_or usual write_of (text_at name.entry) }
-{
-    match name {
-        Some(name) => write(name),
-        None => Some(usual),
-    }
-}
+    ghost choice = { write_of };
 
-// What is written, by this name.
-fn write(name: &str) -> Option<Write>
-    ensures { result ≡ write_of name.now }
-{
-    match name {
-        "program" => Some(Write::Program),
-        "real" => Some(Write::Real),
-        "qasm" => Some(Write::Qasm),
-        _ => None,
+    fn named(name: &str) -> Option<Write> {
+        match name {
+            "program" => Some(Write::Program),
+            "real" => Some(Write::Real),
+            "qasm" => Some(Write::Qasm),
+            _ => None,
+        }
     }
 }
 
