@@ -80,10 +80,14 @@ circuit_line (circuits.Token at) = codes "revc: circuit at " ++ (place_text at +
 circuit_line (circuits.TokenLimit at) =
     codes "revc: circuit at " ++ (place_text at ++ codes " over a limit\n")
 
+-- a line of two numbers, each behind a text
+abbrev pub two_numbers_line : List ℕ → ℕ → List ℕ → ℕ → List ℕ
+two_numbers_line head one between other =
+    head ++ (decimal one ++ (between ++ (decimal other ++ codes "\n")))
+
 -- the line of a budget of lines that is passed
 abbrev pub lines_line : ℕ → ℕ → List ℕ
-lines_line need limit =
-    codes "revc: lines " ++ (decimal need ++ (codes " over " ++ (decimal limit ++ codes "\n")))
+lines_line need limit = two_numbers_line (codes "revc: lines ") need (codes " over ") limit
 
 -- the line of a budget of gates that is passed
 abbrev pub gates_line : ℕ → List ℕ
@@ -100,8 +104,7 @@ circuit_diagram_line limit = codes "revc: circuit passes " ++ (decimal limit ++ 
 -- the line of a circuit that has too few lines
 abbrev pub few_lines_line : ℕ → ℕ → List ℕ
 few_lines_line lines need =
-    codes "revc: circuit has "
-    ++ (decimal lines ++ (codes " lines, needs " ++ (decimal need ++ codes "\n")))
+    two_numbers_line (codes "revc: circuit has ") lines (codes " lines, needs ") need
 
 -- the line of a gate that is no flip with at most two controls, all positive
 abbrev pub wide_gate_line : ℕ → List ℕ

@@ -5,10 +5,10 @@ ghost use Rattle.std.specs.List.{flat_map};
 ghost use Rattle.revc_io.specs.Faults.{HasCause};
 ghost use Rattle.revc_io.specs.Passing.{Gathers, Writes};
 ghost use Rattle.command_answers.specs.Faults.{bits_line, circuit_line, claim_line, diagram_line};
-ghost use Rattle.command_answers.specs.Faults.{differs_line, few_lines_line};
+ghost use Rattle.command_answers.specs.Faults.{differs_line, two_numbers_line};
 ghost use Rattle.command_answers.specs.Faults.{kind_text, line_of};
 ghost use Rattle.command_answers.specs.Lines.{digits_of};
-ghost use Rattle.command_answers.specs.Faults.{lines_line, place_text, refusal_line};
+ghost use Rattle.command_answers.specs.Faults.{place_text, refusal_line};
 ghost use Rattle.command_answers.specs.Faults.{Receives};
 
 use crate::digits::{put_line_of_digits, put_number};
@@ -50,7 +50,9 @@ fn put_line<E: Sink>(buffer: &mut Buffer, err: &mut E, fault: &Fault) -> Result<
             *limit as u64,
             b" nodes\n",
         ),
-        Fault::Lines { need, limit } => put_lines(buffer, err, *need, *limit),
+        Fault::Lines { need, limit } => {
+            put_two(buffer, err, b"revc: lines ", *need, b" over ", *limit)
+        }
         Fault::Gates { limit } => {
             put_number(buffer, err, b"revc: more than ", *limit, b" gates\n")
         }
@@ -58,7 +60,16 @@ fn put_line<E: Sink>(buffer: &mut Buffer, err: &mut E, fault: &Fault) -> Result<
         Fault::BadBits { word } => {
             put_number(buffer, err, b"revc: bad bits in word ", *word as u64, b"\n")
         }
-        Fault::FewLines { lines, need } => put_few_lines(buffer, err, *lines, *need),
+        Fault::FewLines { lines, need } => {
+            put_two(
+                buffer,
+                err,
+                b"revc: circuit has ",
+                *lines,
+                b" lines, needs ",
+                *need,
+            )
+        }
         Fault::WideGate { number } => put_number(
             buffer,
             err,
@@ -213,36 +224,24 @@ fn put_circuit_place<E: Sink>(
     )
 }
 
-// Puts the line of a budget of lines that is passed.
-fn put_lines<E: Sink>(buffer: &mut Buffer, err: &mut E, need: u32, limit: u32) -> Result<(), Failed>
-    ensures bytes { Gathers result (E.held err.old) (E.held err.new) buffer.old buffer.new
-        (lines_line need limit) }
-    ensures cause { HasCause (E.faults err.old) (E.faults err.new) result }
-{
-    put_numbered(
-        buffer,
-        err,
-        b"revc: lines ",
-        &[(need as u64, b" over "), (limit as u64, b"\n")],
-    )
-}
-
-// Puts the line of a circuit that has too few lines.
-fn put_few_lines<E: Sink>(
+// Puts a line of two numbers, each behind a text.
+fn put_two<E: Sink>(
     buffer: &mut Buffer,
     err: &mut E,
-    lines: u32,
-    need: u32,
+    head: &[u8],
+    one: u32,
+    between: &[u8],
+    other: u32,
 ) -> Result<(), Failed>
     ensures bytes { Gathers result (E.held err.old) (E.held err.new) buffer.old buffer.new
-        (few_lines_line lines need) }
+        (two_numbers_line head.now one between.now other) }
     ensures cause { HasCause (E.faults err.old) (E.faults err.new) result }
 {
     put_numbered(
         buffer,
         err,
-        b"revc: circuit has ",
-        &[(lines as u64, b" lines, needs "), (need as u64, b"\n")],
+        head,
+        &[(one as u64, between), (other as u64, b"\n")],
     )
 }
 
