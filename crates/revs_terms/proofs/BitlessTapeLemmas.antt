@@ -15,7 +15,7 @@ use Rattle.revs_terms.specs.Trees.{Tree}
 use Rattle.revs_terms.specs.Terms.{place_of}
 use Rattle.revs_terms.specs.Running.{Value, unit, bit, register, number, closure, nothing, Stamped, Met, State, Outcome, stuck, went, after, run_of}
 use Rattle.revs_terms.specs.Runs.{inputs_from, start, params_in, locations_of, read_all, no_bits, real_bits, nothings, run_of_program, run_without_bits}
-use Rattle.revs_terms.specs.Runs.{IsInput, LeavesOn, tape_of, SameForAll, LeavesTape}
+use Rattle.revs_terms.specs.Runs.{IsInput, LeavesOn, tape_of, SameForAll, RunsLeaveTapes}
 use Rattle.std.proofs.lemmas.Bool.{and_parts}
 use Rattle.revs_terms.proofs.PairedLemmas.{OptionPaired, Paired, same_length}
 use Rattle.revs_terms.proofs.BitlessRunLemmas.{IsAlike, IsAlikeClaim, AreAlike, Answers, GoTogether, both_stuck, next, next_with, answers, both_provided}
@@ -214,7 +214,7 @@ same_for_all params body = (
 )
 
 -- An input will do, as the one of false bits.
-pub leaves_tape : LeavesTape
+pub leaves_tape : RunsLeaveTapes
 leaves_tape params body outputs s ps e =
     let input : List Bool = replicate (sum (widths_of params)) false in
     let whole : length input ≡ sum (widths_of params) = length-replicate (sum (widths_of params)) false in

@@ -147,8 +147,8 @@ SameForAll =
     → IsTapeOf params body (tape_of params outputs s))
 
 -- What a run without bits leaves is a tape: its references are earlier, and the limits hold.
-abbrev pub LeavesTape : Type 0
-LeavesTape =
+abbrev pub RunsLeaveTapes : Type 0
+RunsLeaveTapes =
     (params : List Param) (body : Tree) (outputs : List (Stamped (Unit {0}))) (s : State (Unit {0}))
     → AreParams params → run_without_bits params body ≡ went outputs s
     → IsTape (tape_of params outputs s)

@@ -1,6 +1,6 @@
 // Programs, as the grammar gives them.
 ghost use Rattle.revs_terms.specs.Programs.{AreParams, IsBody, HasFewNames};
-ghost use Rattle.revs_terms.specs.Runs.{SameForAll, LeavesTape, HasOutputs, OneTape};
+ghost use Rattle.revs_terms.specs.Runs.{SameForAll, RunsLeaveTapes, HasOutputs, OneTape};
 ghost use Rattle.revs_terms.specs.Runs.{TapeGivesOutput};
 ghost use Rattle.revs_terms.specs.Trees.{tree_of};
 
@@ -37,7 +37,7 @@ pub fn same_for_all()
 /// What a run without bits leaves is a tape: each reference is an input or an earlier write, and
 /// the limits of a tape hold.
 pub fn leaves_tape()
-    ensures { LeavesTape }
+    ensures { RunsLeaveTapes }
 {}
 
 /// A program whose run ends has an output: no register of a run is empty.
