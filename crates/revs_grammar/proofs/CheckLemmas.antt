@@ -75,50 +75,6 @@ each_form P first second f = go f.profile
     go profiles.One = first f.kind
     go profiles.Two = second f.kind
 
-starts_1 : (k : Kind) → Starts (in_profile profiles.One k)
-starts_1 g.program = refl
-starts_1 _ = refl
-
-starts_2 : (k : Kind) → Starts (in_profile profiles.Two k)
-starts_2 g.program = refl
-starts_2 _ = refl
-
-pub starts : (f : Form) → Starts f
-starts = each_form Starts starts_1 starts_2
-
-closes_1 : (k : Kind) → Closes (in_profile profiles.One k)
-closes_1 g.program = refl
-closes_1 _ = refl
-
-closes_2 : (k : Kind) → Closes (in_profile profiles.Two k)
-closes_2 g.program = refl
-closes_2 _ = refl
-
-pub closes : (f : Form) → Closes f
-closes = each_form Closes closes_1 closes_2
-
-parts_1 : (k : Kind) → Parts (in_profile profiles.One k)
-parts_1 g.program = refl
-parts_1 _ = refl
-
-parts_2 : (k : Kind) → Parts (in_profile profiles.Two k)
-parts_2 g.program = refl
-parts_2 _ = refl
-
-pub lines_part : (f : Form) → Parts f
-lines_part = each_form Parts parts_1 parts_2
-
-once_1 : (k : Kind) → LeftOutOnce (in_profile profiles.One k)
-once_1 g.program = refl
-once_1 _ = refl
-
-once_2 : (k : Kind) → LeftOutOnce (in_profile profiles.Two k)
-once_2 g.program = refl
-once_2 _ = refl
-
-pub left_out_once : (f : Form) → LeftOutOnce f
-left_out_once = each_form LeftOutOnce once_1 once_2
-
 low_ranks : (k : Kind) → leb (rank_of k) 8 ≡ true
 low_ranks g.atom = refl
 low_ranks _ = refl
@@ -166,13 +122,38 @@ completion (suc n) f = first_filled (completion n) (productions f)
 abbrev IsCompleted : Form → Type 0
 IsCompleted f = is_some (completion 9 f) ≡ true
 
-completes_1 : (k : Kind) → IsCompleted (in_profile profiles.One k)
-completes_1 g.program = refl
-completes_1 _ = refl
+-- ---- what passes
 
-completes_2 : (k : Kind) → IsCompleted (in_profile profiles.Two k)
-completes_2 g.program = refl
-completes_2 _ = refl
+-- The lines of a form pass the checks.
+record Passes (f : Form) : Type 0 where
+  starts : Starts f
+  closes : Closes f
+  parts : Parts f
+  once : LeftOutOnce f
+  completes : IsCompleted f
+
+pass_1 : (k : Kind) → Passes (in_profile profiles.One k)
+pass_1 g.program = record { starts = refl; closes = refl; parts = refl; once = refl; completes = refl }
+pass_1 _ = record { starts = refl; closes = refl; parts = refl; once = refl; completes = refl }
+
+pass_2 : (k : Kind) → Passes (in_profile profiles.Two k)
+pass_2 g.program = record { starts = refl; closes = refl; parts = refl; once = refl; completes = refl }
+pass_2 _ = record { starts = refl; closes = refl; parts = refl; once = refl; completes = refl }
+
+passes : (f : Form) → Passes f
+passes = each_form Passes pass_1 pass_2
+
+pub starts : (f : Form) → Starts f
+starts f = (passes f).starts
+
+pub closes : (f : Form) → Closes f
+closes f = (passes f).closes
+
+pub lines_part : (f : Form) → Parts f
+lines_part f = (passes f).parts
+
+pub left_out_once : (f : Form) → LeftOutOnce f
+left_out_once f = (passes f).once
 
 pub completes : (f : Form) → is_some (completion 9 f) ≡ true
-completes = each_form IsCompleted completes_1 completes_2
+completes f = (passes f).completes
