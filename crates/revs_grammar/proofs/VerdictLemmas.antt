@@ -18,7 +18,7 @@ use Rattle.revs_grammar.specs.inside.Machine.{Stack, step, run, is_done, Outcome
 use Rattle.revs_grammar.proofs.LineLemmas.{no_end, true≢false}
 use Rattle.revs_grammar.proofs.RunLemmas.{run_next, step_leads}
 use Rattle.revs_grammar.proofs.LeadsLemmas.{leads_accepted, run_begins, run_few, accepted_sentence, same_program}
-use Rattle.revs_grammar.proofs.OutcomeLemmas.{run_more, run_end, run_any, step_any, begins_runs, few_runs, Says, outcome_says}
+use Rattle.revs_grammar.proofs.OutcomeLemmas.{run_more, run_end, run_any, step_any, begins_runs, few_runs, StopsAt, Refuses, Deepens, Says, outcome_says}
 use Rattle.revs_grammar.proofs.LimitLemmas.{AreParams-none, Passes, all_pass, one_passes, none_passes}
 
 -- No reading takes an `End`.
@@ -206,35 +206,28 @@ limits_of tokens params term h = go (all_pass [] params AreParams-none)
       },
     )
 
+-- What the outcome says of the token at which it stops makes it the fault's.
+pub syntax_is : {tokens : List Token} {left : ℕ} (s : StopsAt tokens left Refuses) → IsSyntax tokens (length s.front) s.named.at
+syntax_is s = record {
+  front = s.front;
+  named = s.named;
+  rest = s.rest;
+  cut = s.cut;
+  count = refl;
+  place = refl;
+  begins = s.why.0;
+  refused = s.why.1;
+}
+
+pub nesting_is : {tokens : List Token} {left : ℕ} (s : StopsAt tokens left Deepens) → IsNesting tokens s.named.at
+nesting_is s =
+    record { front = s.front; named = s.named; rest = s.rest; cut = s.cut; place = refl; begins = s.why.0; few = s.why.1; deep = s.why.2 }
+
 pub verdict_of : (tokens : List Token) (o : Outcome) → Says tokens o → (verdict : Verdict) × IsVerdict tokens verdict
 verdict_of tokens accepted s =
     limits_of tokens s.params s.body s.sentence
-verdict_of tokens (no_syntax left) s = (
-  syntax (length s.front) s.named.at,
-  record {
-    front = s.front;
-    named = s.named;
-    rest = s.rest;
-    cut = s.cut;
-    count = refl;
-    place = refl;
-    begins = s.why.0;
-    refused = s.why.1;
-  },
-)
-verdict_of tokens (too_deep left) s = (
-  nesting s.named.at,
-  record {
-    front = s.front;
-    named = s.named;
-    rest = s.rest;
-    cut = s.cut;
-    place = refl;
-    begins = s.why.0;
-    few = s.why.1;
-    deep = s.why.2;
-  },
-)
+verdict_of tokens (no_syntax left) s = (syntax (length s.front) s.named.at, syntax_is s)
+verdict_of tokens (too_deep left) s = (nesting s.named.at, nesting_is s)
 
 pub some_verdict : SomeVerdict
 some_verdict tokens e = verdict_of tokens (outcome tokens at_start) (outcome_says tokens e)

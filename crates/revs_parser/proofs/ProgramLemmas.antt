@@ -24,8 +24,8 @@ use Rattle.revs_grammar.specs.Sentences.{token, kept_token, form, Vals, at_start
 use Rattle.revs_grammar.specs.Answers.{HasSentence, IsProgramOf, PassesAt, IsInputs}
 use Rattle.revs_grammar.specs.Faults.{Verdict, IsVerdict, within_limits, syntax, nesting, inputs}
 use Rattle.revs_grammar.specs.inside.Machine.{Stack, Outcome, no_syntax, is_end, outcome}
-use Rattle.revs_grammar.proofs.OutcomeLemmas.{outcome_says, Says}
-use Rattle.revs_grammar.proofs.VerdictLemmas.{one_verdict}
+use Rattle.revs_grammar.proofs.OutcomeLemmas.{StopsAt, Says, outcome_says}
+use Rattle.revs_grammar.proofs.VerdictLemmas.{one_verdict, syntax_is, nesting_is}
 use Rattle.revs_terms.specs.declared.term.Name.{Name}
 use Rattle.revs_terms.specs.declared.program.Param.{Param}
 use Rattle.revs_terms.specs.declared.program.Program.{Program}
@@ -208,34 +208,13 @@ not_ended : (rest : List Token) → end_first rest ≡ false → outcome rest []
 not_ended [] h = refl
 not_ended (t ∷ ts) h = rw h (ap no_syntax (omega arith))
 
+left_as : {tokens : List Token} {left : ℕ} {Seen : List Token → Token → Type 0} {Why : ℕ → Place → Type 0} (s : StopsAt tokens left Seen)
+    → Why (length s.front) s.named.at → Left tokens left Why
+left_as s why = record { front = s.front; named = s.named; rest = s.rest; cut = s.cut; count = s.count; why = why }
+
 refused : (tokens : List Token) (stop : Stop) (o : Outcome) → IsHalt stop o → Says tokens o → IsRefusal tokens stop
-refused tokens (stops.Syntax left) o e k =
-    let f = subst (Says tokens) e k in record {
-      front = f.front;
-      named = f.named;
-      rest = f.rest;
-      cut = f.cut;
-      count = f.count;
-      why = record {
-        front = f.front;
-        named = f.named;
-        rest = f.rest;
-        cut = f.cut;
-        count = refl;
-        place = refl;
-        begins = f.why.0;
-        refused = f.why.1;
-      };
-    }
-refused tokens (stops.Nesting left) o e k =
-    let f = subst (Says tokens) e k in record {
-      front = f.front;
-      named = f.named;
-      rest = f.rest;
-      cut = f.cut;
-      count = f.count;
-      why = record { front = f.front; named = f.named; rest = f.rest; cut = f.cut; place = refl; begins = f.why.0; few = f.why.1; deep = f.why.2 };
-    }
+refused tokens (stops.Syntax left) o e k = let f = subst (Says tokens) e k in left_as f (syntax_is f)
+refused tokens (stops.Nesting left) o e k = let f = subst (Says tokens) e k in left_as f (nesting_is f)
 refused tokens stops.Memory o e k = tt
 
 pub halt_is_right : (tokens : List Token) (stop : Stop) → IsEnded tokens → HaltsIn (common g.program) 0 tokens stop → IsRefusal tokens stop
