@@ -1,5 +1,5 @@
 -- Readings put together, and where they halt.
-use Rattle.std.proofs.Common.{◌≡◌, ℕ, suc, ◌+◌, ◌-◌, ◌*◌, true, Result, Err, ◌<◌, ◌≤◌, List}
+use Rattle.std.proofs.Common.{◌≡◌, ℕ, suc, ◌+◌, ◌-◌, ◌*◌, true, Result, Err, inl, inr, ◌<◌, ◌≤◌, List}
 use Rattle.std.proofs.Common.{[], ◌∷◌, ◌++◌, refl, sym, ◌∙◌, ap, subst, length, length-append, append_assoc, arith}
 use Rattle.std.specs.Result.{MatchResult, IsErrAnd}
 use Rattle.std.proofs.lemmas.Bool.{leb-true}
@@ -17,7 +17,7 @@ use Rattle.revs_terms.specs.declared.limits.TheConstants.{MOST_LEVELS}
 use Rattle.revs_grammar.proofs.LeadsLemmas.{leads-then, value-then}
 use Rattle.revs_parser.specs.declared.stop.Stop.{Stop}
 use Rattle.revs_parser.specs.declared.stop.Stop.TheVariants as stops
-use Rattle.revs_parser.specs.inside.Reading.{put, Passes, Reads, Skips, Halts, Heads}
+use Rattle.revs_parser.specs.inside.Reading.{put, Passes, Reads, Skips, Halts, Lacks, Heads}
 
 -- ---- lists
 
@@ -238,6 +238,12 @@ no_memory = record { halt = λ ms. tt }
 
 pub wants_memory : {es : Stack} {ts : List Token} {stop : Stop} → stop ≡ stops.Memory → Halts es ts stop
 wants_memory e = rw e no_memory
+
+-- Where nothing was read, or the memory for it was wanting, it halts as the reading does.
+pub lacks : {A : Type 0} {made : Result A Stop} {es : Stack} {ts : List Token} {stop : Stop} → Lacks made stop → (made ≡ Err stop → Halts es ts stop)
+    → Halts es ts stop
+lacks (inl e) h = h e
+lacks (inr e) h = wants_memory e
 
 pub halts_first : {es : Stack} {ts : List Token} {stop : Stop} (fs : Stack) → Halts es ts stop → Halts (es ++ fs) ts stop
 halts_first fs h = record {

@@ -8,7 +8,7 @@ ghost use Rattle.revs_parser.specs.inside.Forms.{operated};
 ghost use Rattle.revs_parser.specs.declared.stop.Stop.{Stop};
 
 use crate::front::Operator;
-use crate::stop::Stop;
+use crate::stop::{Stop, both};
 use revc_base::Place;
 use revs_terms::{Lambda, Name, Part, Term};
 use std::alloc::Global;
@@ -18,8 +18,9 @@ fn boxed(alloc: Global, first: Term, second: Term) -> Result<(Box<Term>, Box<Ter
     ensures ok { IfOk result (λ made. (made.0.value ≡ first) × (made.1.value ≡ second)) }
     ensures memory { IfErr result (λ stop. stop ≡ Stop.Memory) }
 {
-    let first = Box::new(alloc, first)?;
-    Ok((first, Box::new(alloc, second)?))
+    let (second, first) = both(second, Box::new(alloc, first))?;
+    let second = Box::new(alloc, second)?;
+    Ok((first, second))
 }
 
 /// An assignment.

@@ -23,7 +23,7 @@ use crate::build::{assignment, bound_value, function_of, joined, operation, with
 use crate::front::{Opener, first_opener, first_operator};
 use crate::leaf::{after, after_word, begins_name, expect, expect_word, name, single_base};
 use crate::numbers::num;
-use crate::stop::Stop;
+use crate::stop::{Stop, both, put};
 use revc_base::Place;
 use revs_grammar::Profile;
 use revs_lexer::{Sign, Tok, Token, Word};
@@ -38,9 +38,7 @@ fn more_names(mut names: Vec<Name>, tokens: &[Token]) -> Result<(Vec<Name>, &[To
 {
     let mut rest = tokens;
     while begins_name(rest) {
-        let (next, behind) = name(rest)?;
-        names.push(next)?;
-        rest = behind;
+        rest = put(&mut names, name(rest))?;
     }
     Ok((names, rest))
 }
@@ -83,16 +81,14 @@ fn part(
     let rest = expect(tokens, Sign::OpenSquare)?;
     let (i, rest) = num(alloc, profile, rest)?;
     let Some((_, behind)) = after(rest, Sign::DotDot) else {
-        let rest = expect(rest, Sign::CloseSquare)?;
-        return Ok((Part::Index { i, at }, rest));
+        return both(Part::Index { i, at }, expect(rest, Sign::CloseSquare));
     };
-    let (j, rest) = num(alloc, profile, behind)?;
-    let rest = expect(rest, Sign::CloseSquare)?;
-    Ok((Part::Slice { i, j, at }, rest))
+    let (i, (j, rest)) = both(i, num(alloc, profile, behind))?;
+    both(Part::Slice { i, j, at }, expect(rest, Sign::CloseSquare))
 }
 
 // Puts a part behind the others. The first takes room for itself alone, as most stand alone.
-fn put(parts: &mut Vec<Part>, part: Part) -> Result<(), Stop>
+fn put_part(parts: &mut Vec<Part>, part: Part) -> Result<(), Stop>
     ensures ok { OnOk result (parts.new.items ≡ parts.old.items ++ part ∷ []) }
     ensures memory { IfErr result (λ stop. stop ≡ Stop.Memory) }
 {
@@ -118,7 +114,7 @@ fn all_parts(
     let mut rest = tokens;
     while let Some((at, behind)) = after(rest, Sign::Dot) {
         let (next, left) = part(alloc, profile, behind, at)?;
-        put(&mut parts, next)?;
+        put_part(&mut parts, next)?;
         rest = left;
     }
     Ok((parts, rest))
@@ -138,10 +134,10 @@ fn range(
     let (name, rest) = name(tokens)?;
     let rest = expect_word(rest, Word::In)?;
     let (first, rest) = num(alloc, profile, rest)?;
-    let rest = expect(rest, Sign::DotDot)?;
-    let (last, rest) = num(alloc, profile, rest)?;
-    let rest = expect_word(rest, Word::Do)?;
-    let ends = Box::new(alloc, Ends { first, last })?;
+    let (first, rest) = both(first, expect(rest, Sign::DotDot))?;
+    let (first, (last, rest)) = both(first, num(alloc, profile, rest))?;
+    let (ends, rest) = both(Ends { first, last }, expect_word(rest, Word::Do))?;
+    let ends = Box::new(alloc, ends)?;
     Ok((name, ends, rest))
 }
 
@@ -182,7 +178,7 @@ pub fn expression(
     let Some((_, behind)) = after(rest, Sign::Assign) else {
         return Ok((left, rest));
     };
-    let (right, rest) = sum(alloc, profile, behind, level)?;
+    let (left, (right, rest)) = both(left, sum(alloc, profile, behind, level))?;
     let term = assignment(alloc, left, right)?;
     Ok((term, rest))
 }
@@ -227,8 +223,7 @@ fn sum(
     let mut terms = Vec::new(alloc);
     terms.push(first)?;
     'products: loop {
-        let (next, rest) = product(alloc, profile, behind, level)?;
-        terms.push(next)?;
+        let rest = put(&mut terms, product(alloc, profile, behind, level))?;
         let Some((_, more)) = after(rest, Sign::Xor) else {
             return Ok((Term::Xor(terms), rest));
         };
@@ -256,8 +251,7 @@ fn product(
     let mut terms = Vec::new(alloc);
     terms.push(first)?;
     'applications: loop {
-        let (next, rest) = application(alloc, profile, behind, level)?;
-        terms.push(next)?;
+        let rest = put(&mut terms, application(alloc, profile, behind, level))?;
         let Some((_, more)) = after(rest, Sign::And) else {
             return Ok((Term::And(terms), rest));
         };
@@ -284,7 +278,7 @@ fn application(
     let Some((operator, behind)) = first_operator(alloc, profile, tokens)? else {
         return atoms(alloc, profile, tokens, level);
     };
-    let (operand, rest) = atom(alloc, profile, behind, level)?;
+    let (operator, (operand, rest)) = both(operator, atom(alloc, profile, behind, level))?;
     let term = operation(alloc, operator, operand)?;
     Ok((term, rest))
 }
@@ -304,7 +298,7 @@ fn append(
         (λ stop. Halts (in_append profile level) tokens.now stop) }
 {
     let (first, rest) = atom(alloc, profile, tokens, level)?;
-    let (second, rest) = atom(alloc, profile, rest, level)?;
+    let (first, (second, rest)) = both(first, atom(alloc, profile, rest, level))?;
     let term = joined(alloc, first, second, at)?;
     Ok((term, rest))
 }
@@ -344,9 +338,7 @@ fn atoms(
     let head = Box::new(alloc, head)?;
     let mut arguments = Vec::new(alloc);
     'arguments: loop {
-        let (next, left) = atom(alloc, profile, rest, level)?;
-        arguments.push(next)?;
-        rest = left;
+        rest = put(&mut arguments, atom(alloc, profile, rest, level))?;
         if !begins_base(rest) {
             return Ok((Term::Apply(head, arguments), rest));
         }
@@ -367,7 +359,7 @@ fn atom(
         (λ stop. HaltsIn (g.in_profile profile g.atom) level tokens.now stop) }
 {
     let (inner, rest) = base(alloc, profile, tokens, level)?;
-    let (parts, rest) = all_parts(alloc, profile, rest)?;
+    let (inner, (parts, rest)) = both(inner, all_parts(alloc, profile, rest))?;
     let term = with_parts(alloc, inner, parts)?;
     Ok((term, rest))
 }
@@ -411,8 +403,7 @@ fn closed(
         (λ stop. Halts (closed_by profile end level) tokens.now stop) }
 {
     let (term, rest) = expression(alloc, profile, tokens, level)?;
-    let rest = expect(rest, end)?;
-    Ok((term, rest))
+    both(term, expect(rest, end))
 }
 
 // The elements of a register behind its `reg`.
@@ -432,8 +423,7 @@ fn register(
     let mut behind = expect(tokens, Sign::OpenSquare)?;
     let mut elements = Vec::new(alloc);
     'elements: loop {
-        let (next, rest) = expression(alloc, profile, behind, level)?;
-        elements.push(next)?;
+        let rest = put(&mut elements, expression(alloc, profile, behind, level))?;
         let Some((_, more)) = after(rest, Sign::Semi) else {
             let rest = expect(rest, Sign::CloseSquare)?;
             return Ok((Term::Reg(elements, at), rest));
@@ -456,7 +446,7 @@ fn piece_of(term: Term, tokens: &[Token]) -> Result<(Piece, &[Token]), Stop>
     if let Some((_, behind)) = after(tokens, Sign::Semi) {
         return Ok((Piece::Item(Item::Do(term)), behind));
     }
-    let rest = expect(tokens, Sign::CloseCurly)?;
+    let (term, rest) = both(term, expect(tokens, Sign::CloseCurly))?;
     Ok((Piece::Last(term), rest))
 }
 
@@ -621,9 +611,7 @@ fn loop_items(
     let mut items = Vec::new(alloc);
     let mut rest = tokens;
     'items: loop {
-        let (next, left) = loop_item(alloc, profile, rest, level)?;
-        items.push(next)?;
-        rest = left;
+        rest = put(&mut items, loop_item(alloc, profile, rest, level))?;
         if let Some((_, behind)) = after(rest, Sign::CloseCurly) {
             let rest = expect(behind, Sign::Semi)?;
             return Ok((items, rest));

@@ -20,7 +20,7 @@ ghost use Rattle.revs_parser.specs.declared.program.ParseFault.TheVariants as fa
 
 use crate::expression::expression;
 use crate::leaf::{after, after_word, expect, expect_word, name, number, number_two};
-use crate::stop::Stop;
+use crate::stop::{Stop, put};
 use revc_base::Place;
 use revs_grammar::Profile;
 use revs_lexer::{Sign, Tok, Token, Word};
@@ -80,9 +80,7 @@ fn parameters(mut params: Vec<Param>, tokens: &[Token]) -> Result<(Vec<Param>, &
 {
     let mut rest = tokens;
     while let Some((_, _)) = after(rest, Sign::OpenRound) {
-        let (next, left) = parameter(rest)?;
-        params.push(next)?;
-        rest = left;
+        rest = put(&mut params, parameter(rest))?;
     }
     Ok((params, rest))
 }

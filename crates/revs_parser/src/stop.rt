@@ -1,3 +1,8 @@
+// Why the reading stops.
+
+ghost use Rattle.std.specs.Prelude.{◌≡◌, Ok, Err, MatchResult};
+ghost use Rattle.revs_parser.specs.inside.Reading.{Puts, Lacks};
+
 use revc_base::Memory;
 use std::alloc::{AllocError, AllocFailed};
 
@@ -41,4 +46,26 @@ impl<T: Drop> From<AllocFailed<T>> for Stop {
     fn from(_: AllocFailed<T>) -> Stop {
         Stop::Memory
     }
+}
+
+/// Both, where the second was made. The first needs no exit of its own in the caller, which would
+/// take it apart there.
+pub fn both<T: Drop, R, E>(first: T, second: Result<R, E>) -> Result<(T, R), E>
+    ensures { MatchResult result (λ made. (made.0 ≡ first) × (second ≡ Ok made.1))
+        (λ fault. second ≡ Err fault) }
+{
+    match second {
+        Ok(second) => Ok((first, second)),
+        Err(fault) => Err(fault),
+    }
+}
+
+/// Puts what was read behind the others.
+pub fn put<T: Drop, R: Drop>(all: &mut Vec<T>, read: Result<(T, R), Stop>) -> Result<R, Stop>
+    ensures { MatchResult result (λ rest. Puts all.old.items all.new.items read rest)
+        (λ stop. Lacks read stop) }
+{
+    let (next, rest) = read?;
+    all.push(next)?;
+    Ok(rest)
 }

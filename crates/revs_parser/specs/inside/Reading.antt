@@ -1,5 +1,5 @@
 -- What reading forms off the front of a list of tokens does to the machine, and what the tokens stand for.
-use Rattle.std.specs.Prelude.{◌≡◌, ◌<◌, ℕ, Bool, true, false, List, [], ◌∷◌, ◌++◌, length}
+use Rattle.std.specs.Prelude.{◌≡◌, ◌<◌, ℕ, Bool, true, false, List, [], ◌∷◌, ◌++◌, length, Result, Ok, Err, ◌⊎◌}
 use Rattle.revc_base.specs.declared.place.Place.{Place}
 use Rattle.revs_lexer.specs.declared.sign.Sign.TheVariants as signs
 use Rattle.revs_lexer.specs.declared.word.Word.TheVariants as words
@@ -69,6 +69,16 @@ pub record HaltsAnywhere (k : Kind) (ts : List Token) (stop : Stop) : Type 0 whe
 -- The machine that expects this form halts so, whatever the level.
 pub record HaltsAtLevels (f : Form) (ts : List Token) (stop : Stop) : Type 0 where
   pub at_level : (level : ℕ) → HaltsIn f level ts stop
+
+-- What was read was put behind the others.
+pub record Puts {T R : Type 0} (old new : List T) (read : Result (T × R) Stop) (rest : R) : Type 0 where
+  pub next : T
+  pub was_read : read ≡ Ok (next, rest)
+  pub all : new ≡ old ++ next ∷ []
+
+-- Nothing was read, or the memory for it was wanting.
+abbrev pub Lacks : {A : Type 0} → Result A Stop → Stop → Type 0
+Lacks read stop = (read ≡ Err stop) ⊎ (stop ≡ stops.Memory)
 
 -- A token of this kind and this place stands first, and the rest behind it.
 pub record Heads (k : Tok) (at : Place) (ts rest : List Token) : Type 0 where

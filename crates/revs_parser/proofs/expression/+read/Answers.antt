@@ -5,7 +5,7 @@ use Rattle.revs_terms.proofs.ShapeLemmas.{tree_of-And, tree_of-Xor, item_tree_of
 use Rattle.std.proofs.lemmas.Result.{MatchResult-weaker}
 use Rattle.revs_lexer.specs.declared.sign.Sign.TheVariants as signs
 use Rattle.revs_parser.specs.inside.Forms.{closed_by}
-use Rattle.revs_parser.proofs.PassingLemmas.{only, smaller_behind, halts_first, halts_on, no_memory, wants_memory, lower, deeper}
+use Rattle.revs_parser.proofs.PassingLemmas.{only, smaller_behind, halts_first, halts_on, lacks, no_memory, wants_memory, lower, deeper}
 use Rattle.revs_parser.proofs.ReadingLemmas as r
 use Rattle.revs_parser.proofs.ItemLemmas as i
 use Rattle.revs_parser.proofs.expression.+read.Goals as goal
@@ -30,17 +30,20 @@ pub expression-returns-in_default-after : goal.expression-returns-in_default-aft
 expression-returns-in_default-after t c = r.expression_sum c.args.level c.in_default.ensures.none c.in_ok-left.ensures
     c.in_default-after.ensures.none
 
-pub expression-returns-in_err-right : goal.expression-returns-in_err-right
-expression-returns-in_err-right t c =
-    halts_on _ _ _ c.from_residual-in_err-right.ensures.1
-    (r.expression_in_assigned c.args.level c.in_default.ensures.none c.in_ok-left.ensures c.in-Some-after.ensures.found c.in_err-right.ensures)
+pub expression-returns-in_err-left-2 : goal.expression-returns-in_err-left-2
+expression-returns-in_err-left-2 t c =
+    halts_on _ _ _ c.from_residual-in_err-left-2.ensures.1
+    (r.expression_in_assigned c.args.level c.in_default.ensures.none c.in_ok-left.ensures c.in-Some-after.ensures.found
+    (rw c.in_err-left-2.ensures at c.sum-2.ensures))
 
 pub expression-returns-in_err-term : goal.expression-returns-in_err-term
 expression-returns-in_err-term t c = halts_on _ _ _ c.from_residual-in_err-term.ensures.1 (wants_memory c.in_err-term.ensures.memory)
 
 pub expression-returns : goal.expression-returns
-expression-returns t c = r.expression_assign c.args.level c.in_default.ensures.none c.in_ok-left.ensures c.in-Some-after.ensures.found
-    c.in_ok-right.ensures c.in_ok-term.ensures.ok
+expression-returns t c =
+    let both = c.in_ok-left-2.ensures in
+    r.expression_assign c.args.level c.in_default.ensures.none c.in_ok-left.ensures c.in-Some-after.ensures.found
+    (rw both.1 at c.sum-2.ensures) (rw both.0 at c.in_ok-term.ensures.ok)
 
 -- ---- functions
 
@@ -73,32 +76,34 @@ sum-returns-in_default t c = r.sum_alone c.args.level c.in_ok-first.ensures c.in
 pub sum-returns-in_err-push : goal.sum-returns-in_err-push
 sum-returns-in_err-push t c = halts_on _ _ _ c.from_residual-in_err-push.ensures.1 no_memory
 
-pub sum-returns-in_err-push-2 : goal.sum-returns-in_err-push-2
-sum-returns-in_err-push-2 t c = halts_on _ _ _ c.from_residual-in_err-push-2.ensures.1 no_memory
-
 pub sum-products-init : goal.sum-products-init
 sum-products-init t c = record {
   read = r.sum_begun c.args.level c.in_ok-first.ensures c.in-Some.ensures.found
       (only c.new-terms.result.items c.in_ok-first.first c.in_ok-push.ensures.items c.new-terms.ensures.items);
 }
 
-pub sum-returns-in_err-next : goal.sum-returns-in_err-next
-sum-returns-in_err-next t c =
-    halts_on _ _ _ c.from_residual-in_err-next.ensures.1 (r.chain_halts c.products.invariant.read c.in_err-next.ensures)
+pub sum-returns-in_err-rest : goal.sum-returns-in_err-rest
+sum-returns-in_err-rest t c =
+    halts_on _ _ _ c.from_residual-in_err-rest.ensures.1
+    (r.chain_halts c.products.invariant.read (lacks c.in_err-rest.ensures (λ e. rw e at c.product-in-products.ensures)))
 
 pub sum-returns-in_default-after : goal.sum-returns-in_default-after
-sum-returns-in_default-after t c = r.sum_done c.args.level c.products.terms.items c.in_ok-next.next c.products.invariant.read c.in_ok-next.ensures
-    c.in_default-after.ensures.none c.in_ok-push-2.ensures.items
-    (tree_of-Xor c.push-in-products.new.self)
+sum-returns-in_default-after t c =
+    let put = c.in_ok-rest.ensures in
+    r.sum_done c.args.level c.products.terms.items put.next c.products.invariant.read (rw put.was_read at c.product-in-products.ensures)
+    c.in_default-after.ensures.none put.all (tree_of-Xor c.put.new.all)
 
 pub sum-products-preserved : goal.sum-products-preserved
-sum-products-preserved t c = record {
-  read = r.sum_more c.args.level c.products.terms.items c.in_ok-next.next c.products.invariant.read c.in_ok-next.ensures c.in-Some-after.ensures.found
-      c.in_ok-push-2.ensures.items;
-}
+sum-products-preserved t c =
+    let put = c.in_ok-rest.ensures in
+    record {
+      read = r.sum_more c.args.level c.products.terms.items put.next c.products.invariant.read (rw put.was_read at c.product-in-products.ensures)
+          c.in-Some-after.ensures.found put.all;
+    }
 
 pub sum-products-smaller : goal.sum-products-smaller
-sum-products-smaller t c = smaller_behind c.in_ok-next.ensures c.in-Some-after.ensures.found
+sum-products-smaller t c =
+    let read = rw c.in_ok-rest.ensures.was_read at c.product-in-products.ensures in smaller_behind read c.in-Some-after.ensures.found
 
 -- ---- products
 
@@ -112,32 +117,34 @@ product-returns-in_default t c = r.product_alone c.args.level c.in_ok-first.ensu
 pub product-returns-in_err-push : goal.product-returns-in_err-push
 product-returns-in_err-push t c = halts_on _ _ _ c.from_residual-in_err-push.ensures.1 no_memory
 
-pub product-returns-in_err-push-2 : goal.product-returns-in_err-push-2
-product-returns-in_err-push-2 t c = halts_on _ _ _ c.from_residual-in_err-push-2.ensures.1 no_memory
-
 pub product-applications-init : goal.product-applications-init
 product-applications-init t c = record {
   read = r.product_begun c.args.level c.in_ok-first.ensures c.in-Some.ensures.found
       (only c.new-terms.result.items c.in_ok-first.first c.in_ok-push.ensures.items c.new-terms.ensures.items);
 }
 
-pub product-returns-in_err-next : goal.product-returns-in_err-next
-product-returns-in_err-next t c =
-    halts_on _ _ _ c.from_residual-in_err-next.ensures.1 (r.chain_halts c.applications.invariant.read c.in_err-next.ensures)
+pub product-returns-in_err-rest : goal.product-returns-in_err-rest
+product-returns-in_err-rest t c =
+    halts_on _ _ _ c.from_residual-in_err-rest.ensures.1
+    (r.chain_halts c.applications.invariant.read (lacks c.in_err-rest.ensures (λ e. rw e at c.application-in-applications.ensures)))
 
 pub product-returns-in_default-after : goal.product-returns-in_default-after
-product-returns-in_default-after t c = r.product_done c.args.level c.applications.terms.items c.in_ok-next.next c.applications.invariant.read
-    c.in_ok-next.ensures c.in_default-after.ensures.none c.in_ok-push-2.ensures.items
-    (tree_of-And c.push-in-applications.new.self)
+product-returns-in_default-after t c =
+    let put = c.in_ok-rest.ensures in
+    r.product_done c.args.level c.applications.terms.items put.next c.applications.invariant.read (rw put.was_read at c.application-in-applications.ensures)
+    c.in_default-after.ensures.none put.all (tree_of-And c.put.new.all)
 
 pub product-applications-preserved : goal.product-applications-preserved
-product-applications-preserved t c = record {
-  read = r.product_more c.args.level c.applications.terms.items c.in_ok-next.next c.applications.invariant.read c.in_ok-next.ensures
-      c.in-Some-after.ensures.found c.in_ok-push-2.ensures.items;
-}
+product-applications-preserved t c =
+    let put = c.in_ok-rest.ensures in
+    record {
+      read = r.product_more c.args.level c.applications.terms.items put.next c.applications.invariant.read (rw put.was_read at c.application-in-applications.ensures)
+          c.in-Some-after.ensures.found put.all;
+    }
 
 pub product-applications-smaller : goal.product-applications-smaller
-product-applications-smaller t c = smaller_behind c.in_ok-next.ensures c.in-Some-after.ensures.found
+product-applications-smaller t c =
+    let read = rw c.in_ok-rest.ensures.was_read at c.application-in-applications.ensures in smaller_behind read c.in-Some-after.ensures.found
 
 -- ---- applications
 
@@ -158,11 +165,11 @@ pub application-returns-in_err-operator : goal.application-returns-in_err-operat
 application-returns-in_err-operator t c =
     halts_on _ _ _ c.from_residual.ensures.1 (c.in_err-operator.ensures.halts.at_level c.args.level)
 
-pub application-returns-in_err-operand : goal.application-returns-in_err-operand
-application-returns-in_err-operand t c =
+pub application-returns-in_err-operator-2 : goal.application-returns-in_err-operator-2
+application-returns-in_err-operator-2 t c =
     let found = rw c.in-Some-2.is at c.in_ok-operator.ensures.found in
-    halts_on _ _ _ c.from_residual-in_err-operand.ensures.1
-    (r.operand_halts c.args.level found c.in_err-operand.ensures)
+    halts_on _ _ _ c.from_residual-in_err-operator-2.ensures.1
+    (r.operand_halts c.args.level found (rw c.in_err-operator-2.ensures at c.atom.ensures))
 
 pub application-returns-in_err-term : goal.application-returns-in_err-term
 application-returns-in_err-term t c = halts_on _ _ _ c.from_residual-in_err-term.ensures.1 (wants_memory c.in_err-term.ensures.memory)
@@ -170,24 +177,26 @@ application-returns-in_err-term t c = halts_on _ _ _ c.from_residual-in_err-term
 pub application-returns : goal.application-returns
 application-returns t c =
     let found = rw c.in-Some-2.is at c.in_ok-operator.ensures.found in
-    r.application_operator c.args.level found c.in_ok-operand.ensures c.in_ok-term.ensures.ok
+    let both = c.in_ok-operator-2.ensures in
+    r.application_operator c.args.level found (rw both.1 at c.atom.ensures) (rw both.0 at c.in_ok-term.ensures.ok)
 
 pub append-returns-in_err-first : goal.append-returns-in_err-first
 append-returns-in_err-first t c =
     halts_on _ _ _ c.from_residual.ensures.1
     (halts_first (r.append_rest c.args.profile c.args.level) c.in_err-first.ensures)
 
-pub append-returns-in_err-second : goal.append-returns-in_err-second
-append-returns-in_err-second t c =
-    halts_on _ _ _ c.from_residual-in_err-second.ensures.1
-    (r.append_halts_second c.args.level c.in_ok-first.ensures c.in_err-second.ensures)
+pub append-returns-in_err-first-2 : goal.append-returns-in_err-first-2
+append-returns-in_err-first-2 t c =
+    halts_on _ _ _ c.from_residual-in_err-first-2.ensures.1
+    (r.append_halts_second c.args.level c.in_ok-first.ensures (rw c.in_err-first-2.ensures at c.atom-2.ensures))
 
 pub append-returns-in_err-term : goal.append-returns-in_err-term
 append-returns-in_err-term t c = halts_on _ _ _ c.from_residual-in_err-term.ensures.1 (wants_memory c.in_err-term.ensures.memory)
 
 pub append-returns : goal.append-returns
 append-returns t c =
-    r.append_reads c.args.level c.args.at c.in_ok-first.ensures c.in_ok-second.ensures c.in_ok-term.ensures.ok
+    let both = c.in_ok-first-2.ensures in
+    r.append_reads c.args.level c.args.at c.in_ok-first.ensures (rw both.1 at c.atom-2.ensures) (rw both.0 at c.in_ok-term.ensures.ok)
 
 -- ---- an atom and its arguments
 
@@ -201,32 +210,35 @@ atoms-returns-then-not-begins_base t c = r.atom_alone c.args.level c.in_ok-head.
 pub atoms-returns-in_err-head-2 : goal.atoms-returns-in_err-head-2
 atoms-returns-in_err-head-2 t c = halts_on _ _ _ c.from_residual-in_err-head-2.ensures.1 no_memory
 
-pub atoms-returns-in_err-push : goal.atoms-returns-in_err-push
-atoms-returns-in_err-push t c = halts_on _ _ _ c.from_residual-in_err-push.ensures.1 no_memory
-
 pub atoms-arguments-init : goal.atoms-arguments-init
 atoms-arguments-init t c = record {
   read = r.arguments_begun c.args.level c.in_ok-head.head c.in_ok-head-2.head.value c.in_ok-head.ensures (sym c.begins_base.ensures
       ∙ c.if-not-begins_base.false) c.new-arguments.ensures.items c.in_ok-head-2.ensures.ok;
 }
 
-pub atoms-returns-in_err-next : goal.atoms-returns-in_err-next
-atoms-returns-in_err-next t c =
-    halts_on _ _ _ c.from_residual-in_err-next.ensures.1 (r.chain_halts c.arguments.invariant.read c.in_err-next.ensures)
+pub atoms-returns-in_err-rest : goal.atoms-returns-in_err-rest
+atoms-returns-in_err-rest t c =
+    halts_on _ _ _ c.from_residual-in_err-rest.ensures.1
+    (r.chain_halts c.arguments.invariant.read (lacks c.in_err-rest.ensures (λ e. rw e at c.atom-in-arguments.ensures)))
 
 pub atoms-returns-then-not-begins_base-2 : goal.atoms-returns-then-not-begins_base-2
-atoms-returns-then-not-begins_base-2 t c = r.arguments_done c.args.level
-    (tree_of c.in_ok-head-2.head.value) c.arguments.arguments.items c.in_ok-next.next c.arguments.invariant.read c.in_ok-next.ensures
-    (sym c.begins_base-in-arguments.ensures ∙ c.if-not-begins_base-2.true) c.in_ok-push.ensures.items (tree_of-Apply c.in_ok-head-2.head c.push.new.self)
+atoms-returns-then-not-begins_base-2 t c =
+    let put = c.in_ok-rest.ensures in
+    r.arguments_done c.args.level (tree_of c.in_ok-head-2.head.value) c.arguments.arguments.items put.next c.arguments.invariant.read
+    (rw put.was_read at c.atom-in-arguments.ensures) (sym c.begins_base-in-arguments.ensures ∙ c.if-not-begins_base-2.true) put.all
+    (tree_of-Apply c.in_ok-head-2.head c.put.new.all)
 
 pub atoms-arguments-preserved : goal.atoms-arguments-preserved
-atoms-arguments-preserved t c = record {
-  read = r.arguments_more c.args.level (tree_of c.in_ok-head-2.head.value) c.arguments.arguments.items c.in_ok-next.next c.arguments.invariant.read
-      c.in_ok-next.ensures (sym c.begins_base-in-arguments.ensures ∙ c.if-not-begins_base-2.false) c.in_ok-push.ensures.items;
-}
+atoms-arguments-preserved t c =
+    let put = c.in_ok-rest.ensures in
+    record {
+      read = r.arguments_more c.args.level (tree_of c.in_ok-head-2.head.value) c.arguments.arguments.items put.next c.arguments.invariant.read
+          (rw put.was_read at c.atom-in-arguments.ensures) (sym c.begins_base-in-arguments.ensures ∙ c.if-not-begins_base-2.false) put.all;
+    }
 
 pub atoms-arguments-smaller : goal.atoms-arguments-smaller
-atoms-arguments-smaller t c = c.in_ok-next.ensures.shorter
+atoms-arguments-smaller t c =
+    let read = rw c.in_ok-rest.ensures.was_read at c.atom-in-arguments.ensures in read.shorter
 
 -- ---- atoms
 
@@ -234,16 +246,18 @@ pub atom-returns-in_err-inner : goal.atom-returns-in_err-inner
 atom-returns-in_err-inner t c =
     halts_on _ _ _ c.from_residual.ensures.1 (r.atom_in_base c.args.level c.in_err-inner.ensures)
 
-pub atom-returns-in_err-parts : goal.atom-returns-in_err-parts
-atom-returns-in_err-parts t c =
-    halts_on _ _ _ c.from_residual-in_err-parts.ensures.1 (r.atom_in_parts c.args.level c.in_ok-inner.ensures c.in_err-parts.ensures)
+pub atom-returns-in_err-inner-2 : goal.atom-returns-in_err-inner-2
+atom-returns-in_err-inner-2 t c =
+    halts_on _ _ _ c.from_residual-in_err-inner-2.ensures.1
+    (r.atom_in_parts c.args.level c.in_ok-inner.ensures (rw c.in_err-inner-2.ensures at c.all_parts.ensures))
 
 pub atom-returns-in_err-term : goal.atom-returns-in_err-term
 atom-returns-in_err-term t c = halts_on _ _ _ c.from_residual-in_err-term.ensures.1 (wants_memory c.in_err-term.ensures.memory)
 
 pub atom-returns : goal.atom-returns
 atom-returns t c =
-    r.atom_reads c.args.level c.in_ok-inner.ensures c.in_ok-parts.ensures c.in_ok-term.ensures.ok
+    let both = c.in_ok-inner-2.ensures in
+    r.atom_reads c.args.level c.in_ok-inner.ensures (rw both.1 at c.all_parts.ensures) (rw both.0 at c.in_ok-term.ensures.ok)
 
 -- ---- bases
 
@@ -283,14 +297,11 @@ closed-returns-in_err-term t c =
     halts_on _ _ _ c.from_residual.ensures.1
     (halts_first (r.closed_rest c.args.end) c.in_err-term.ensures)
 
-pub closed-returns-in_err-rest : goal.closed-returns-in_err-rest
-closed-returns-in_err-rest t c =
-    halts_on _ _ _ c.from_residual-in_err-rest.ensures.1
-    (r.unclosed c.args.level c.in_ok-term.ensures c.in_err-rest.ensures.halts)
-
 pub closed-returns : goal.closed-returns
 closed-returns t c =
-    r.closed_reads c.args.level c.in_ok-term.ensures c.in_ok-rest.ensures.ok
+    MatchResult-weaker c.both.result c.both.ensures
+    (λ x e. rw e.0 (r.closed_reads c.args.level c.in_ok-term.ensures (rw e.1 at c.expect.ensures.ok)))
+    (λ x e. r.unclosed c.args.level c.in_ok-term.ensures (rw e at c.expect.ensures.halts))
 
 -- ---- registers
 
@@ -298,34 +309,37 @@ pub register-returns-in_err-behind : goal.register-returns-in_err-behind
 register-returns-in_err-behind t c =
     halts_on _ _ _ c.from_residual.ensures.1 (halts_first (r.register_rest c.args.profile c.args.level) c.in_err-behind.ensures.halts)
 
-pub register-returns-in_err-push : goal.register-returns-in_err-push
-register-returns-in_err-push t c = halts_on _ _ _ c.from_residual-in_err-push.ensures.1 no_memory
-
 pub register-elements-init : goal.register-elements-init
 register-elements-init t c = record { read = r.register_begun c.args.level c.in_ok-behind.ensures.ok c.new-elements.ensures.items }
-
-pub register-returns-in_err-next : goal.register-returns-in_err-next
-register-returns-in_err-next t c =
-    halts_on _ _ _ c.from_residual-in_err-next.ensures.1 (r.register_halts c.args.level c.elements.invariant.read c.in_err-next.ensures)
 
 pub register-returns-in_err-rest : goal.register-returns-in_err-rest
 register-returns-in_err-rest t c =
     halts_on _ _ _ c.from_residual-in_err-rest.ensures.1
-    (r.register_unclosed c.args.level c.elements.invariant.read c.in_ok-next.ensures c.in_default.ensures.none c.in_err-rest.ensures.halts)
+    (r.register_halts c.args.level c.elements.invariant.read (lacks c.in_err-rest.ensures (λ e. rw e at c.expression.ensures)))
+
+pub register-returns-in_err-rest-2 : goal.register-returns-in_err-rest-2
+register-returns-in_err-rest-2 t c =
+    let read = rw c.in_ok-rest.ensures.was_read at c.expression.ensures in
+    halts_on _ _ _ c.from_residual-in_err-rest-2.ensures.1
+    (r.register_unclosed c.args.level c.elements.invariant.read read c.in_default.ensures.none c.in_err-rest-2.ensures.halts)
 
 pub register-returns-in_default : goal.register-returns-in_default
-register-returns-in_default t c = r.register_done c.args.level c.args.at c.elements.elements.items c.in_ok-next.next c.elements.invariant.read
-    c.in_ok-next.ensures c.in_default.ensures.none c.in_ok-push.ensures.items
-    c.in_ok-rest.ensures.ok (tree_of-Reg c.push.new.self c.args.at)
+register-returns-in_default t c =
+    let put = c.in_ok-rest.ensures in
+    r.register_done c.args.level c.args.at c.elements.elements.items put.next c.elements.invariant.read (rw put.was_read at c.expression.ensures)
+    c.in_default.ensures.none put.all c.in_ok-rest-2.ensures.ok (tree_of-Reg c.put.new.all c.args.at)
 
 pub register-elements-preserved : goal.register-elements-preserved
-register-elements-preserved t c = record {
-  read = r.register_more c.args.level c.elements.elements.items c.in_ok-next.next c.elements.invariant.read
-      c.in_ok-next.ensures c.in-Some.ensures.found c.in_ok-push.ensures.items;
-}
+register-elements-preserved t c =
+    let put = c.in_ok-rest.ensures in
+    record {
+      read = r.register_more c.args.level c.elements.elements.items put.next c.elements.invariant.read (rw put.was_read at c.expression.ensures)
+          c.in-Some.ensures.found put.all;
+    }
 
 pub register-elements-smaller : goal.register-elements-smaller
-register-elements-smaller t c = smaller_behind c.in_ok-next.ensures c.in-Some.ensures.found
+register-elements-smaller t c =
+    let read = rw c.in_ok-rest.ensures.was_read at c.expression.ensures in smaller_behind read c.in-Some.ensures.found
 
 -- ---- blocks
 
@@ -416,30 +430,34 @@ repetition-returns t c =
 pub loop_items-items-init : goal.loop_items-items-init
 loop_items-items-init t c = record { read = i.loop_begun c.args.level c.args.tokens.now c.new-items.ensures.items }
 
-pub loop_items-returns-in_err-next : goal.loop_items-returns-in_err-next
-loop_items-returns-in_err-next t c = halts_on _ _ _ c.from_residual.ensures.1 (i.loop_halts c.args.level c.items.invariant.read c.in_err-next.ensures)
-
-pub loop_items-returns-in_err-push : goal.loop_items-returns-in_err-push
-loop_items-returns-in_err-push t c = halts_on _ _ _ c.from_residual-in_err-push.ensures.1 no_memory
-
 pub loop_items-returns-in_err-rest : goal.loop_items-returns-in_err-rest
 loop_items-returns-in_err-rest t c =
-    halts_on _ _ _ c.from_residual-in_err-rest.ensures.1
-    (i.loop_unended c.args.level c.items.invariant.read c.in_ok-next.ensures c.in-Some.ensures.found c.in_err-rest.ensures.halts)
+    halts_on _ _ _ c.from_residual.ensures.1
+    (i.loop_halts c.args.level c.items.invariant.read (lacks c.in_err-rest.ensures (λ e. rw e at c.loop_item.ensures)))
+
+pub loop_items-returns-in_err-rest-2 : goal.loop_items-returns-in_err-rest-2
+loop_items-returns-in_err-rest-2 t c =
+    let read = rw c.in_ok-rest.ensures.was_read at c.loop_item.ensures in
+    halts_on _ _ _ c.from_residual-in_err-rest-2.ensures.1
+    (i.loop_unended c.args.level c.items.invariant.read read c.in-Some.ensures.found c.in_err-rest-2.ensures.halts)
 
 pub loop_items-returns-in-Some : goal.loop_items-returns-in-Some
 loop_items-returns-in-Some t c =
-    i.loop_done c.args.level c.items.items.items c.in_ok-next.next c.items.invariant.read c.in_ok-next.ensures c.in-Some.ensures.found
-    c.in_ok-push.ensures.items c.in_ok-rest.ensures.ok
+    let put = c.in_ok-rest.ensures in
+    i.loop_done c.args.level c.items.items.items put.next c.items.invariant.read (rw put.was_read at c.loop_item.ensures) c.in-Some.ensures.found
+    put.all c.in_ok-rest-2.ensures.ok
 
 pub loop_items-items-preserved : goal.loop_items-items-preserved
-loop_items-items-preserved t c = record {
-  read = i.loop_more c.args.level c.items.items.items c.in_ok-next.next c.items.invariant.read c.in_ok-next.ensures c.in_default.ensures.none
-      c.in_ok-push.ensures.items;
-}
+loop_items-items-preserved t c =
+    let put = c.in_ok-rest.ensures in
+    record {
+      read = i.loop_more c.args.level c.items.items.items put.next c.items.invariant.read (rw put.was_read at c.loop_item.ensures)
+          c.in_default.ensures.none put.all;
+    }
 
 pub loop_items-items-smaller : goal.loop_items-items-smaller
-loop_items-items-smaller t c = c.in_ok-next.ensures.shorter
+loop_items-items-smaller t c =
+    let read = rw c.in_ok-rest.ensures.was_read at c.loop_item.ensures in read.shorter
 
 pub loop_item-returns-then-begins_item : goal.loop_item-returns-then-begins_item
 loop_item-returns-then-begins_item t c = MatchResult-weaker c.item.result c.item.ensures

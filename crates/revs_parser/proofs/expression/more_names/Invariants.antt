@@ -2,8 +2,8 @@ use Rattle.std.proofs.Common.{length}
 use Rattle.revs_parser.proofs.ReadingLemmas.{Names}
 use Rattle.revs_parser.proofs.expression.more_names.Given as goal
 
-abbrev pub invariant-loop-rest : goal.invariant-loop-rest
-invariant-loop-rest l = record { read : Names l.fn.names.items l.names.items l.fn.tokens l.rest }
+abbrev pub invariant-loop-names : goal.invariant-loop-names
+invariant-loop-names l = record { read : Names l.fn.names.items l.names.items l.fn.tokens l.rest }
 
-abbrev pub decreases-loop-rest : goal.decreases-loop-rest
-decreases-loop-rest l = length l.rest
+abbrev pub decreases-loop-names : goal.decreases-loop-names
+decreases-loop-names l = length l.rest

@@ -12,26 +12,28 @@ pub returns-in_err-first : goal.returns-in_err-first
 returns-in_err-first c =
     halts_on _ _ _ c.from_residual-in_err-first.ensures.1 (range_in_low c.in_ok-name.ensures.ok c.in_ok-rest.ensures.ok c.in_err-first.ensures)
 
-pub returns-in_err-rest-2 : goal.returns-in_err-rest-2
-returns-in_err-rest-2 c =
-    halts_on _ _ _ c.from_residual-in_err-rest-2.ensures.1
-    (range_no_dots c.in_ok-name.ensures.ok c.in_ok-rest.ensures.ok c.in_ok-first.ensures c.in_err-rest-2.ensures.halts)
+pub returns-in_err-first-2 : goal.returns-in_err-first-2
+returns-in_err-first-2 c =
+    halts_on _ _ _ c.from_residual-in_err-first-2.ensures.1
+    (range_no_dots c.in_ok-name.ensures.ok c.in_ok-rest.ensures.ok c.in_ok-first.ensures (rw c.in_err-first-2.ensures at c.expect.ensures.halts))
 
-pub returns-in_err-last : goal.returns-in_err-last
-returns-in_err-last c =
-    halts_on _ _ _ c.from_residual-in_err-last.ensures.1
-    (range_in_high c.in_ok-name.ensures.ok c.in_ok-rest.ensures.ok c.in_ok-first.ensures c.in_ok-rest-2.ensures.ok c.in_err-last.ensures)
-
-pub returns-in_err-rest-3 : goal.returns-in_err-rest-3
-returns-in_err-rest-3 c =
-    halts_on _ _ _ c.from_residual-in_err-rest-3.ensures.1
-    (range_no_do c.in_ok-name.ensures.ok c.in_ok-rest.ensures.ok c.in_ok-first.ensures c.in_ok-rest-2.ensures.ok c.in_ok-last.ensures
-    c.in_err-rest-3.ensures.halts)
+pub returns-in_err-first-3 : goal.returns-in_err-first-3
+returns-in_err-first-3 c =
+    halts_on _ _ _ c.from_residual-in_err-first-3.ensures.1
+    (range_in_high c.in_ok-name.ensures.ok c.in_ok-rest.ensures.ok c.in_ok-first.ensures (rw c.in_ok-first-2.ensures.1 at c.expect.ensures.ok)
+    (rw c.in_err-first-3.ensures at c.num-2.ensures))
 
 pub returns-in_err-ends : goal.returns-in_err-ends
-returns-in_err-ends c = halts_on _ _ _ c.from_residual-in_err-ends.ensures.1 no_memory
+returns-in_err-ends c =
+    halts_on _ _ _ c.from_residual-in_err-ends.ensures.1
+    (range_no_do c.in_ok-name.ensures.ok c.in_ok-rest.ensures.ok c.in_ok-first.ensures (rw c.in_ok-first-2.ensures.1 at c.expect.ensures.ok)
+    (rw c.in_ok-first-3.ensures.1 at c.num-2.ensures) (rw c.in_err-ends.ensures at c.expect_word-2.ensures.halts))
+
+pub returns-in_err-ends-2 : goal.returns-in_err-ends-2
+returns-in_err-ends-2 c = halts_on _ _ _ c.from_residual-in_err-ends-2.ensures.1 no_memory
 
 pub returns : goal.returns
 returns c =
-    rw c.in_ok-ends.ensures.ok (range_reads c.in_ok-name.ensures.ok c.in_ok-rest.ensures.ok c.in_ok-first.ensures c.in_ok-rest-2.ensures.ok
-    c.in_ok-last.ensures c.in_ok-rest-3.ensures.ok)
+    rw (c.in_ok-ends-2.ensures.ok, c.in_ok-ends.ensures.0, c.in_ok-first-3.ensures.0, c.in_ok-first-2.ensures.0)
+    (range_reads c.in_ok-name.ensures.ok c.in_ok-rest.ensures.ok c.in_ok-first.ensures (rw c.in_ok-first-2.ensures.1 at c.expect.ensures.ok)
+    (rw c.in_ok-first-3.ensures.1 at c.num-2.ensures) (rw c.in_ok-ends.ensures.1 at c.expect_word-2.ensures.ok))
