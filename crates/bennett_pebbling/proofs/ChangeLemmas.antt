@@ -28,14 +28,22 @@ unchanged f block lo wanted held = record {
   thrifty = record { move = λ level width allowed c a. no_move f (reach_of f block level width allowed) (toggles_at block level) };
 }
 
+-- a range within one block costs no more than blocks may
+block_costs : (f : ForwardView) (block count level width : ℕ) (allowed : ℕ → Bool) → 1 ≤ block → count ≤ block
+    → (counted allowed (length f.graph.nodes) + block_room count (length f.graph.nodes) ≤ reach_of f block level width allowed)
+    × (block_toggles count ≤ toggles_at block level)
+block_costs f block count level width allowed some within =
+    let n = length f.graph.nodes in
+    (omega (arith, room_at-larger count block n width level some within), toggles_at-larger count block level some within)
+
 thrifty_block : (f next : ForwardView) (block lo : ℕ) (wanted : List Bool) → 1 ≤ block → length wanted ≤ block
     → IsThrifty f (length wanted) lo wanted next → IsThrifty f block lo wanted next
 thrifty_block f next block lo wanted some within t = record {
   move = λ level width allowed c a.
       let n = length f.graph.nodes in
+      let costs = block_costs f block (length wanted) level width allowed some within in
       move-weaker f next (counted allowed n + block_room (length wanted) n) (reach_of f block level width allowed)
-      (block_toggles (length wanted)) (toggles_at block level)
-      (omega (arith, room_at-larger (length wanted) block n width level some within)) (toggles_at-larger (length wanted) block level some within)
+      (block_toggles (length wanted)) (toggles_at block level) costs.0 costs.1
       (t.move 0 width allowed (record { cuts = c.cuts; enough = omega arith }) a);
 }
 
@@ -54,9 +62,9 @@ short_block f block lo wanted e some within t = record {
   need = t.need;
   short = λ level width allowed c a.
       let n = length f.graph.nodes in
+      let costs = block_costs f block (length wanted) level width allowed some within in
       short-weaker f (counted allowed n + block_room (length wanted) n) (reach_of f block level width allowed)
-      (block_toggles (length wanted)) (toggles_at block level) e
-      (omega (arith, room_at-larger (length wanted) block n width level some within)) (toggles_at-larger (length wanted) block level some within)
+      (block_toggles (length wanted)) (toggles_at block level) e costs.0 costs.1
       (t.short 0 width allowed (record { cuts = c.cuts; enough = omega arith }) a);
 }
 

@@ -61,22 +61,16 @@ wider-few : (s : SumGraphView) (j width n : ℕ) (allowed : ℕ → Bool) → le
 wider-few s j width n allowed few =
     omega (arith, few, counted-or allowed (is_in (sum_cut s j)) n, counted-in (sum_cut s j) n)
 
--- a thrifty move from a forward part of this graph
-thrifty_over : (s : SumGraphView) (f : ForwardView) (block lo : ℕ) (wanted : List Bool) (next : ForwardView) → f.graph ≡ s → IsThrifty f block lo wanted next
+-- what holds on all levels that cover a range, said of the graph of the forward part
+over_graph : (s : SumGraphView) (f : ForwardView) (block lo : ℕ) (wanted : List Bool) (Costs : ℕ → ℕ → Type 0) → f.graph ≡ s
+    → ((level width : ℕ) (allowed : ℕ → Bool) → IsCovered f.graph block (length wanted) level width → Allows f lo wanted allowed
+    → Costs (reach_of f block level width allowed) (toggles_at block level))
     → (level width : ℕ) (allowed : ℕ → Bool) → IsCovered s block (length wanted) level width → Allows f lo wanted allowed
-    → IsMove f (counted allowed (length s.nodes) + room_at block (length s.nodes) width level) (toggles_at block level) next
-thrifty_over s f block lo wanted next same t =
+    → Costs (counted allowed (length s.nodes) + room_at block (length s.nodes) width level) (toggles_at block level)
+over_graph s f block lo wanted Costs same all =
     subst (λ (x : SumGraphView). (level width : ℕ) (allowed : ℕ → Bool) → IsCovered x block (length wanted) level width → Allows f lo wanted allowed
-    → IsMove f (counted allowed (length x.nodes) + room_at block (length x.nodes) width level) (toggles_at block level) next)
-    same t.move
-
-short_over : (s : SumGraphView) (f : ForwardView) (block lo : ℕ) (wanted : List Bool) (e : PlanFault) → f.graph ≡ s → IsChangeFault f block lo wanted e
-    → (level width : ℕ) (allowed : ℕ → Bool) → IsCovered s block (length wanted) level width → Allows f lo wanted allowed
-    → IsShort f (counted allowed (length s.nodes) + room_at block (length s.nodes) width level) (toggles_at block level) e
-short_over s f block lo wanted e same t =
-    subst (λ (x : SumGraphView). (level width : ℕ) (allowed : ℕ → Bool) → IsCovered x block (length wanted) level width → Allows f lo wanted allowed
-    → IsShort f (counted allowed (length x.nodes) + room_at block (length x.nodes) width level) (toggles_at block level) e)
-    same t.short
+    → Costs (counted allowed (length x.nodes) + room_at block (length x.nodes) width level) (toggles_at block level))
+    same all
 
 -- a range of more than one block, and its halves: what the first one holds for the second is marked, too
 pub record IsInHalves (f : ForwardView) (block lo : ℕ) (wanted left right needed : List Bool) (half : ℕ) : Type 0 where
@@ -295,7 +289,8 @@ module _ (f : ForwardView) (block lo : ℕ) (wanted left right needed : List Boo
             short-weaker f (half_reach level width allowed) (reach_of f block (suc level) width allowed) (t + t) (3 * t) e
             (reach_fits level width allowed c) (omega arith)
             (short-then f first (half_reach level width allowed) t t e (move_first level width allowed c a)
-            (short_over f.graph first block (lo + half) right e one.graph fault level width (wider f.graph (lo + half) allowed)
+            (over_graph f.graph first block (lo + half) right (λ reach toggles. IsShort first reach toggles e) one.graph fault.short level width
+            (wider f.graph (lo + half) allowed)
             (covered_right level width c) (allows_second allowed a)))
 
     -- ---- the second half is done, by a change or by a rise
@@ -306,7 +301,8 @@ module _ (f : ForwardView) (block lo : ℕ) (wanted left right needed : List Boo
     unfolding half_reach
     move_second second t level width allowed c a =
         move-then f first second (half_reach level width allowed) (toggles_at block level) (toggles_at block level) (move_first level width allowed c a)
-        (thrifty_over f.graph first block (lo + half) right second one.graph t level width (wider f.graph (lo + half) allowed)
+        (over_graph f.graph first block (lo + half) right (λ reach toggles. IsMove first reach toggles second) one.graph t.move level width
+        (wider f.graph (lo + half) allowed)
         (covered_right level width c) (allows_second allowed a))
 
     pub thrifty_second : (second : ForwardView) → IsThrifty first block (lo + half) right second → IsThrifty f block lo wanted second
@@ -421,7 +417,8 @@ module _ (f : ForwardView) (block lo : ℕ) (wanted left right needed : List Boo
               short-weaker f (half_reach level width allowed) (reach_of f block (suc level) width allowed) (t + t + t) (3 * t) e
               (reach_fits level width allowed c) (omega arith)
               (short-then f second (half_reach level width allowed) (t + t) t e (move_second second two.thrifty level width allowed c a)
-              (short_over f.graph second block lo left e graph_second fault level width (wider f.graph (lo + half) allowed)
+              (over_graph f.graph second block lo left (λ reach toggles. IsShort second reach toggles e) graph_second fault.short level width
+              (wider f.graph (lo + half) allowed)
               (covered_left level width c) (allows_third allowed a)))
 
       module _ (next : ForwardView) (three : IsChanged second block lo left next) where
@@ -449,7 +446,8 @@ module _ (f : ForwardView) (block lo : ℕ) (wanted left right needed : List Boo
             move-weaker f next (half_reach level width allowed) (reach_of f block (suc level) width allowed) (t + t + t) (3 * t)
             (reach_fits level width allowed c) (omega arith)
             (move-then f second next (half_reach level width allowed) (t + t) t (move_second second two.thrifty level width allowed c a)
-            (thrifty_over f.graph second block lo left next graph_second three.thrifty level width (wider f.graph (lo + half) allowed)
+            (over_graph f.graph second block lo left (λ reach toggles. IsMove second reach toggles next) graph_second three.thrifty.move level width
+            (wider f.graph (lo + half) allowed)
             (covered_left level width c) (allows_third allowed a)))
 
         pub halves_changed : IsChanged f block lo wanted next

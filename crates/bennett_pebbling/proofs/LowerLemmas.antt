@@ -103,7 +103,8 @@ module _ (f : ForwardView) (lo : ℕ) (wanted : List Bool) (h k : ℕ) (next_is 
         let test = is_extra f lo wanted in
         let first = r.move allowed a in
         let second : IsMoveFault now (counted allowed n) (one_if turn) fault =
-        subst (λ (s : SumGraphView). IsMoveFault now (counted allowed (length s.nodes)) (one_if turn) fault) r.graph (t.fault allowed (allows_turn allowed a)) in
+        subst (λ (s : SumGraphView). IsMoveFault now (counted allowed (length s.nodes)) (one_if turn) fault) r.graph (t.fault allowed (allows_turn allowed a))
+        in
         fault-weaker f (counted allowed n) (counted allowed n) (counted-from test h (length wanted) + one_if turn) (counted test (length wanted)) fault
         (omega arith) (omega (arith, one_more)) (fault-then f now (counted allowed n) (counted-from test h (length wanted)) (one_if turn) fault first second);
   }

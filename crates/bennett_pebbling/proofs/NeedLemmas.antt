@@ -196,7 +196,8 @@ pub marked_further : {A : Type 0} (parts : A → List Base) (lo : ℕ) (start mi
     → HasMarked lo (nodes_among (flat_map parts (take (i + 1) xs))) start after
 marked_further parts lo start mid after xs i x low is a b =
     subst (λ (z : List Base). HasMarked lo (nodes_among z) start after)
-    (sym (ap (flat_map parts) (take_more xs i x low) ∙ flat_map-push parts (take i xs) (get_or xs i x) ∙ ap (λ y. flat_map parts (take i xs) ++ parts y) (sym is)))
+    (sym (ap (flat_map parts) (take_more xs i x low) ∙ flat_map-push parts (take i xs) (get_or xs i x) ∙ ap (λ y. flat_map parts (take i xs) ++ parts y)
+    (sym is)))
     (marked_two lo (flat_map parts (take i xs)) (parts x) start mid after a b)
 
 pub singles : (xs : List Base) → flat_map (λ b. b ∷ []) xs ≡ xs

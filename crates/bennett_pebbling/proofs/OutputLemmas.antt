@@ -88,7 +88,8 @@ use_output s k low later =
     let long = length-sum_steps g in
     let among = (last_uses_tell_cuts (sum_steps g) (sum_output_nodes g) k n low (omega (arith, long))).1 later in
     let needed = filter_passes (is_needed (sum_steps g) (sum_output_nodes g) n) k (below n) among in
-    elim (or_true (is_in (sum_output_nodes g) k) (list_any (λ operands. is_in operands k) (drop n (sum_steps g))) needed) as (λ _. is_in (sum_output_nodes g) k ≡ true) [
+    elim (or_true (is_in (sum_output_nodes g) k) (list_any (λ operands. is_in operands k) (drop n (sum_steps g))) needed) as
+    (λ _. is_in (sum_output_nodes g) k ≡ true) [
       | inl is ↦ is
       | inr some ↦
           let none : drop n (sum_steps g) ≡ [] = drop_all n (sum_steps g) (omega (arith, long)) in
@@ -117,5 +118,6 @@ pub ready_outputs : (s : SumGraphView) (lines : List (Option ℕ)) → IsSumGrap
     → AllByRecursion (IsReadySum lines) s.outputs
 ready_outputs s lines sums held =
     ready_sums lines s.outputs
-    (λ j among. held j (all_below s.inputs (length s.nodes) j (flat_map bases_of s.outputs) (known_outputs s.inputs (length s.nodes) s.outputs sums.outputs) among)
+    (λ j among. held j (all_below s.inputs (length s.nodes) j (flat_map bases_of s.outputs) (known_outputs s.inputs (length s.nodes) s.outputs sums.outputs)
+    among)
     (output_use s j among))

@@ -29,7 +29,8 @@ use Rattle.held_nodes.specs.Held.{ForwardView, IsForward, first_work, is_held, w
 use Rattle.held_nodes.specs.Moves.{IsFinishFault, IsReadySum, finished_gates, finished_weight, nothing_held, planned_of, weight_in}
 use Rattle.held_nodes.specs.Plans.{wanted_lines}
 use Rattle.held_nodes.proofs.NarrowLemmas.{narrow_toggles}
-use Rattle.bennett_pebbling.specs.Pebbling.{HasFewProducts, IsHalved, IsLight, IsPebblingFault, IsWithinBlock, plain_weight}
+use Rattle.bennett_pebbling.specs.Blocks.{IsHalved}
+use Rattle.bennett_pebbling.specs.Pebbling.{HasFewProducts, HasNoLineEach, IsLight, IsPebblingFault, IsWithinBlock, extent_of, plain_weight}
 use Rattle.bennett_pebbling.specs.inside.Changes.{CanWork, IsPlain, IsRisen, IsRiseFault}
 use Rattle.bennett_pebbling.specs.inside.Costs.{Allows, IsCovered, IsMove, block_room, counted, reach_of, room_at, size_at, toggles_at}
 use Rattle.bennett_pebbling.specs.inside.Marks.{AreNeeded}
@@ -152,7 +153,7 @@ module _ (s : SumGraphView) (b : BudgetView) (block : ℕ) (start : ForwardView)
     start_light : IsLight s → IsLight start.graph
     start_light light = subst IsLight (sym start_graph) light
 
-    covered : (m : Measures) (levels : ℕ) → IsHalved s block levels m → IsCovered start.graph block (length outputs) levels m.width
+    covered : (m : Measures) (levels : ℕ) → IsHalved (extent_of s) block levels m → IsCovered start.graph block (length outputs) levels m.width
     covered m levels h =
         subst (λ (x : SumGraphView). IsCovered x block (length outputs) levels m.width) (sym start_graph) (record {
           cuts = h.within.cuts;
@@ -171,7 +172,7 @@ module _ (s : SumGraphView) (b : BudgetView) (block : ℕ) (start : ForwardView)
         ap (λ (x : SumGraphView). counted (is_in (sum_output_nodes s)) (length x.nodes) + room_at block (length x.nodes) m.width levels) start_graph in
         omega (arith, all, few_wanted light, room_at-times block (length s.nodes) m.width levels)
 
-    block_fits : (m : Measures) (levels : ℕ) → IsHalved s block levels m
+    block_fits : (m : Measures) (levels : ℕ) → IsHalved (extent_of s) block levels m
         → length s.outputs + m.width * levels + block_room block (length s.nodes) ≤ m.outputs + m.width * levels + min block m.steps
     block_fits m levels h = omega (arith, h.within.outputs, h.within.steps, block_room-most block (length s.nodes))
 
@@ -183,8 +184,8 @@ module _ (s : SumGraphView) (b : BudgetView) (block : ℕ) (start : ForwardView)
     wanted_is : wanted_lines (first_work s) b ≡ b.lines + 1
     wanted_is = rw (lt-leb (suc b.lines) (first_work s + b.borrow) (omega (arith, room))) refl
 
-    fine_halved : (m : Measures) (levels : ℕ) → block ≡ 1 → IsHalved s 1 levels m → IsHalved s block levels m
-    fine_halved m levels one h = subst (λ (x : ℕ). IsHalved s x levels m) (sym one) h
+    fine_halved : (m : Measures) (levels : ℕ) → block ≡ 1 → IsHalved (extent_of s) 1 levels m → IsHalved (extent_of s) block levels m
+    fine_halved m levels one h = subst (λ (x : ℕ). IsHalved (extent_of s) x levels m) (sym one) h
 
     fine_room : block ≡ 1 → block_room block (length s.nodes) ≡ 0
     fine_room one = ap (λ (x : ℕ). block_room x (length s.nodes)) one
@@ -207,26 +208,30 @@ module _ (s : SumGraphView) (b : BudgetView) (block : ℕ) (start : ForwardView)
 
     pub rise_refused : (e : PlanFault) → IsRiseFault start block 0 outputs e → IsPebblingFault s block b e
     unfolding reach
-    rise_refused (Lines need) fault = (
-      record {
-        halved = λ m levels h.
-            let short = fault.change.short levels m.width (is_in (sum_output_nodes s)) (covered m levels h) allows_outputs in
-            omega (arith, short, work_is, reach_fits m levels h.within.light, block_fits m levels h, h.within.inputs, h.within.outputs);
-        fine = λ m levels one h.
-            let short =
-            fault.change.short levels m.width (is_in (sum_output_nodes s)) (covered m levels (fine_halved m levels one h)) allows_outputs in
-            omega (arith, short, work_is, reach_fits m levels h.within.light, fine_room one, h.within.inputs, h.within.outputs);
-        plain = omega (arith, fault.change.need.1, work_is, nodes_is);
-      },
-      fault.change.need.0 ∙ ap (λ (x : BudgetView). x.lines + 1) start_budget ∙ sym wanted_is,
-    )
+    rise_refused (Lines need) fault =
+        let every : HasNoLineEach s b = omega (arith, fault.change.need.1, work_is, nodes_is) in (
+          every,
+          (
+            record {
+              halved = λ m levels h.
+                  let short = fault.change.short levels m.width (is_in (sum_output_nodes s)) (covered m levels h) allows_outputs in
+                  omega (arith, short, work_is, reach_fits m levels h.within.light, block_fits m levels h, h.within.inputs, h.within.outputs);
+              fine = λ m levels one h.
+                  let cover = covered m levels (fine_halved m levels one h) in
+                  let short = fault.change.short levels m.width (is_in (sum_output_nodes s)) cover allows_outputs in
+                  omega (arith, short, work_is, reach_fits m levels h.within.light, fine_room one, h.within.inputs, h.within.outputs);
+              plain = λ low. every;
+            },
+            fault.change.need.0 ∙ ap (λ (x : BudgetView). x.lines + 1) start_budget ∙ sym wanted_is,
+          ),
+        )
     rise_refused Gates fault = record {
       halved = λ m levels h.
           let short = fault.change.short levels m.width (is_in (sum_output_nodes s)) (covered m levels h) allows_outputs (start_light h.within.light) in
           omega (arith, short, gates_is, start_weight, toggles_at-gates block levels some);
       fine = λ m levels one h.
-          let short =
-          fault.change.short levels m.width (is_in (sum_output_nodes s)) (covered m levels (fine_halved m levels one h)) allows_outputs (start_light h.within.light) in
+          let cover = covered m levels (fine_halved m levels one h) in
+          let short = fault.change.short levels m.width (is_in (sum_output_nodes s)) cover allows_outputs (start_light h.within.light) in
           omega (arith, short, gates_is, start_weight, fine_toggles levels one);
       plain = λ low.
           let heavy = (fault.plain (omega (arith, low, begin.count))).heavy in
@@ -257,7 +262,7 @@ module _ (s : SumGraphView) (b : BudgetView) (block : ℕ) (start : ForwardView)
       pub plan_ready : AllByRecursion (IsReadySum f.lines) f.graph.outputs
       plan_ready = subst (λ (x : SumGraphView). AllByRecursion (IsReadySum f.lines) x.outputs) (sym f_graph) (ready_outputs s f.lines settled output_held)
 
-      halved_move : (m : Measures) (levels : ℕ) → IsHalved s block levels m → IsMove start (reach m levels) (toggles_at block levels) f
+      halved_move : (m : Measures) (levels : ℕ) → IsHalved (extent_of s) block levels m → IsMove start (reach m levels) (toggles_at block levels) f
       unfolding reach
       halved_move m levels h = risen.thrifty.move levels m.width (is_in (sum_output_nodes s)) (covered m levels h) allows_outputs
 
@@ -299,20 +304,25 @@ module _ (s : SumGraphView) (b : BudgetView) (block : ℕ) (start : ForwardView)
 
       pub plan_few : weight_in (finished_gates f) ≡ finished_weight f → IsWithinBlock s block (planned_of f)
       plan_few weighs = record {
-        block_lines = λ m levels h.
-            let move = (halved_move m levels h).most in
-            omega (arith, move, start_most, first_is, reach_fits m levels h.within.light, block_fits m levels h, h.within.inputs, h.within.outputs);
-        block_gates = λ m levels h.
-            let move = (halved_move m levels h).weight (start_light h.within.light) in
-            omega (arith, move, start_weight, gates_few weighs, finished_few h.within.light, toggles_at-gates block levels some, h.within.outputs);
-        fine_lines = λ m levels one h.
-            let move = (halved_move m levels (fine_halved m levels one h)).most in
-            omega (arith, move, start_most, first_is, reach_fits m levels h.within.light, fine_room one, h.within.inputs, h.within.outputs);
-        fine_gates = λ m levels one h.
-            let move = (halved_move m levels (fine_halved m levels one h)).weight (start_light h.within.light) in
-            omega (arith, move, start_weight, gates_few weighs, finished_few h.within.light, fine_toggles levels one, h.within.outputs);
-        plain_lines = λ low. let move = (plain_move low).move.most in omega (arith, move, start_most, first_is, nodes_is);
-        plain_gates = λ low. omega (arith, gates_few weighs, finished_plain low);
+        halved = λ m levels h.
+            let move = halved_move m levels h in
+            let most = move.most in
+            let weight = move.weight (start_light h.within.light) in (
+              omega (arith, most, start_most, first_is, reach_fits m levels h.within.light, block_fits m levels h, h.within.inputs, h.within.outputs),
+              omega (arith, weight, start_weight, gates_few weighs, finished_few h.within.light, toggles_at-gates block levels some, h.within.outputs),
+            );
+        fine = λ m levels one h.
+            let move = halved_move m levels (fine_halved m levels one h) in
+            let most = move.most in
+            let weight = move.weight (start_light h.within.light) in (
+              omega (arith, most, start_most, first_is, reach_fits m levels h.within.light, fine_room one, h.within.inputs, h.within.outputs),
+              omega (arith, weight, start_weight, gates_few weighs, finished_few h.within.light, fine_toggles levels one, h.within.outputs),
+            );
+        plain = λ low.
+            let most = (plain_move low).move.most in (
+              omega (arith, most, start_most, first_is, nodes_is),
+              omega (arith, gates_few weighs, finished_plain low),
+            );
       }
 
       pub finish_refused : (e : PlanFault) → IsFinishFault f e → IsPebblingFault s block b e

@@ -98,7 +98,8 @@ module _ (f : ForwardView) (lo : ℕ) (marks : List Bool) (k : ℕ) (now : Forwa
         let n = length f.graph.nodes in
         let first = r.move allowed a in
         let second : IsMoveFault now (counted allowed n) (one_if turn) fault =
-        subst (λ (s : SumGraphView). IsMoveFault now (counted allowed (length s.nodes)) (one_if turn) fault) r.graph (t.fault allowed (allows_turn allowed a)) in
+        subst (λ (s : SumGraphView). IsMoveFault now (counted allowed (length s.nodes)) (one_if turn) fault) r.graph (t.fault allowed (allows_turn allowed a))
+        in
         let one : one_if turn ≡ one_if (is_missing f lo marks k) = ap one_if is_turn in
         fault-weaker f (counted allowed n) (counted allowed n) (counted (is_missing f lo marks) k + one_if turn)
         (counted (is_missing f lo marks) (length marks)) fault (omega arith)

@@ -25,8 +25,8 @@ use sum_graph::SumGraph;
 /// `Lines` and `Gates` only where the budget has fewer of them than the numbers of the block, for a
 /// block of one node than the fine numbers, and where one block has all nodes than the plain
 /// numbers; `Lines` only where it has less than a line for each input, output, node and borrowed
-/// bit. `need` is the number of inputs, outputs and borrowed lines where that passes the budget, and
-/// one line more than the budget otherwise.
+/// bit. `need` is the number of inputs, outputs and borrowed lines where that passes the budget,
+/// and one line more than the budget otherwise.
 pub fn plan(
     alloc: Global,
     graph: &SumGraph,
