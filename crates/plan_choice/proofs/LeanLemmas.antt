@@ -19,7 +19,6 @@ use Rattle.claim_check.specs.Measures.{IsWithin}
 use Rattle.claim_check.specs.Settled.{SettledView, settled_outputs}
 use Rattle.dependency_graph.specs.Graphs.{ands_in}
 use Rattle.eager_cleanup.specs.Eager.{ports_of}
-use Rattle.gate_split.specs.Costs.{NarrowStay}
 use Rattle.held_nodes.specs.Held.{first_work}
 use Rattle.held_nodes.specs.Moves.{roles_of_plan}
 use Rattle.held_nodes.specs.Plans.{HasPortLines, HasPorts, IsInBudget, wanted_lines}
@@ -30,8 +29,7 @@ use Rattle.sum_graph.specs.Graphs.{HasFewBits, HasNoConstant, IsLeanOf, SumGraph
 use Rattle.sum_toggles.specs.Toggles.{product_weight, toggle_weight}
 use Rattle.plan_choice.specs.Choices.{GatesAreFew, IsChoiceFault, IsLaidFor, IsLean, LeanFits}
 use Rattle.plan_choice.specs.Lean.{CoveringFits, HasNoMoreGates, IsBetterOfTwo, IsLeanFault, IsNoWorse, toffoli}
-use Rattle.plan_choice.specs.inside.Tried.{IsLaidLean, IsLaidOf, IsSplitFault, best_of, better_of, is_better, is_refusal}
-use Rattle.plan_choice.proofs.SplitLemmas.{narrow_weight, same_list}
+use Rattle.plan_choice.specs.inside.Tried.{IsLaidAsIs, IsLaidLean, IsLaidNarrow, best_of, better_of, is_better, is_refusal}
 
 -- gates that put the outputs of the lean graph put those of the settled one
 lean_clean : (s : SettledView) (l : SumGraphView) (roles : Roles) (gates : List GateView) → IsLeanOf s l → MapsCleanly roles gates (sum_outputs l)
@@ -52,44 +50,29 @@ pub record IsLeanPlan (s : SettledView) (l : SumGraphView) (b : BudgetView) (p :
   pub narrow : AreNarrow p.circuit.gates
 
 module _ (s : SettledView) (l : SumGraphView) (b : BudgetView) (p : PlannedView) (is : IsLeanPlan s l b p) where
-  pub laid_lean : (laid : LaidView) → IsLaidOf p b laid → IsLaidFor s b laid
-  laid_lean laid of = record {
-    inputs = of.inputs ∙ is.ports.inputs ∙ is.lean.inputs;
-    outputs = of.outputs ∙ is.ports.outputs ∙ is.lean.outputs;
-    borrowed = of.borrowed;
-    lines = of.lines;
-    gates = of.gates;
-    clean = of.clean (settled_outputs s) (lean_clean s l (roles_of_plan p) p.circuit.gates is.lean is.clean);
-  }
+  pub laid_lean : (laid : LaidView) → IsLaidAsIs p b laid → IsLaidNarrow s b laid
+  laid_lean laid kept =
+      let of = kept.laid_of in
+      record {
+        for_graph = record {
+          inputs = of.inputs ∙ is.ports.inputs ∙ is.lean.inputs;
+          outputs = of.outputs ∙ is.ports.outputs ∙ is.lean.outputs;
+          borrowed = of.borrowed;
+          lines = of.lines;
+          gates = of.gates;
+          clean = of.clean (settled_outputs s) (lean_clean s l (roles_of_plan p) p.circuit.gates is.lean is.clean);
+        };
+        narrow = subst AreNarrow (sym kept.same) is.narrow;
+      }
 
-  stays : (laid : LaidView) → NarrowStay → IsLaidOf p b laid → laid.circuit.gates ≡ p.circuit.gates
-  stays laid law of = same_list b p laid law is.narrow is.within.gates of
-
-  pub laid_narrow : (laid : LaidView) → NarrowStay → IsLaidOf p b laid → AreNarrow laid.circuit.gates
-  laid_narrow laid law of = subst AreNarrow (sym (stays laid law of)) is.narrow
-
-  pub laid_products : (block : ℕ) (laid : LaidView) → NarrowStay → sums.HasFewProducts l block p → IsLaidOf p b laid → length l.nodes ≤ block
+  pub laid_products : (block : ℕ) (laid : LaidView) → sums.HasFewProducts l block p → IsLaidAsIs p b laid → length l.nodes ≤ block
       → toffoli laid ≤ 2 * ands_in s.nodes
-  laid_products block laid law few of covers =
-      let same : toffoli laid ≡ (counts_of p.circuit.gates).ccx = ap (λ (gs : List GateView). (counts_of gs).ccx) (stays laid law of) in
+  laid_products block laid few kept covers =
+      let same : toffoli laid ≡ (counts_of p.circuit.gates).ccx = ap (λ (gs : List GateView). (counts_of gs).ccx) kept.same in
       omega (arith, same, few.plain covers, is.lean.products)
 
-  port_lines : HasPortLines (first_work l) b
-  port_lines = omega (arith, is.ports.lines, is.within.lines)
-
-  -- the split of narrow gates within the budget is refused only for want of memory
-  pub ready_refused : (tried : Result LaidView PlanFault) → IfErr tried (IsSplitFault p.circuit.gates b) → IfErr tried (IsReadyFault l b)
-  ready_refused (Ok laid) h = tt
-  ready_refused (Err (Lines need)) h = absurd h
-  ready_refused (Err Gates) h = absurd (omega (arith, h, narrow_weight p.circuit.gates is.narrow, is.within.gates))
-  ready_refused (Err Memory) h = port_lines
-
-  pub pebbling_refused : (block : ℕ) (tried : Result LaidView PlanFault) → IfErr tried (IsSplitFault p.circuit.gates b)
-      → IfErr tried (sums.IsPebblingFault l block b)
-  pebbling_refused block (Ok laid) h = tt
-  pebbling_refused block (Err (Lines need)) h = absurd h
-  pebbling_refused block (Err Gates) h = absurd (omega (arith, h, narrow_weight p.circuit.gates is.narrow, is.within.gates))
-  pebbling_refused block (Err Memory) h = port_lines
+  pub lean_ports : HasPortLines (first_work l) b
+  lean_ports = omega (arith, is.ports.lines, is.within.lines)
 
 -- ---- the search
 
@@ -99,11 +82,10 @@ pub record IsLeanSearch (s : SettledView) (l : SumGraphView) (b : BudgetView) (b
   pub ok : IfOk tried (IsLaidLean s l b)
   pub refused : IfErr tried (IsLeanFault l block b)
 
-lean_ok : (s : SettledView) (l : SumGraphView) (b : BudgetView) (tried : Result LaidView PlanFault) → IfOk tried (IsLaidFor s b)
-    → IfOk tried (λ laid. AreNarrow laid.circuit.gates) → IfOk tried (λ laid. CoveringFits l b → toffoli laid ≤ 2 * ands_in s.nodes)
-    → IfOk tried (IsLaidLean s l b)
-lean_ok s l b (Ok laid) made narrow few = record { for_graph = made; narrow = narrow; few = few }
-lean_ok s l b (Err e) made narrow few = tt
+lean_ok : (s : SettledView) (l : SumGraphView) (b : BudgetView) (tried : Result LaidView PlanFault) → IfOk tried (IsLaidNarrow s b)
+    → IfOk tried (λ laid. CoveringFits l b → toffoli laid ≤ 2 * ands_in s.nodes) → IfOk tried (IsLaidLean s l b)
+lean_ok s l b (Ok laid) made few = record { plan = made; few = few }
+lean_ok s l b (Err e) made few = tt
 
 few_where : (s : SettledView) (l : SumGraphView) (b : BudgetView) (P : Type 0) (tried : Result LaidView PlanFault) → (CoveringFits l b → P)
     → IfOk tried (λ laid. P → toffoli laid ≤ 2 * ands_in s.nodes)
@@ -121,7 +103,7 @@ lean_fault l block b (Err Memory) none h = h
 first_fault : (l : SumGraphView) (block : ℕ) (b : BudgetView) (tried : Result LaidView PlanFault) → length l.nodes ≤ block
     → IfErr tried (sums.IsPebblingFault l block b) → IfErr tried (IsLeanFault l block b)
 first_fault l block b (Ok laid) covers h = tt
-first_fault l block b (Err (Lines need)) covers h = (λ fits. (let few = h.0.plain in let lines = fits.lines in omega (arith, few, lines)), h)
+first_fault l block b (Err (Lines need)) covers h = (λ fits. (let few = h.0 in let lines = fits.lines in omega (arith, few, lines)), h)
 first_fault l block b (Err Gates) covers h = (λ fits. (let few = h.plain covers in let gates = fits.gates in omega (arith, few, gates)), h)
 first_fault l block b (Err Memory) covers h = h
 
@@ -133,25 +115,23 @@ none_fits l block b (Err Gates) e h = h.0
 none_fits l block b (Err Memory) e h = absurd (cc)
 
 pub lean_begun : (s : SettledView) (l : SumGraphView) (b : BudgetView) (block : ℕ) (tried : Result LaidView PlanFault) → 1 ≤ block → length l.nodes ≤ block
-    → IfOk tried (IsLaidFor s b) → IfOk tried (λ laid. AreNarrow laid.circuit.gates)
-    → IfOk tried (λ laid. length l.nodes ≤ block → toffoli laid ≤ 2 * ands_in s.nodes)
+    → IfOk tried (IsLaidNarrow s b) → IfOk tried (λ laid. length l.nodes ≤ block → toffoli laid ≤ 2 * ands_in s.nodes)
     → IfErr tried (sums.IsPebblingFault l block b) → IsLeanSearch s l b block tried
-lean_begun s l b block tried some covers ok narrow few refused = record {
+lean_begun s l b block tried some covers ok few refused = record {
   some = some;
-  ok = lean_ok s l b tried ok narrow (few_where s l b (length l.nodes ≤ block) tried (λ fits. covers) few);
+  ok = lean_ok s l b tried ok (few_where s l b (length l.nodes ≤ block) tried (λ fits. covers) few);
   refused = first_fault l block b tried covers refused;
 }
 
 pub lean_halved : (s : SettledView) (l : SumGraphView) (b : BudgetView) (block half : ℕ) (tried next : Result LaidView PlanFault)
     → IsLeanSearch s l b block tried → is_refusal tried ≡ true → 1 ≤ half
-    → IfOk next (IsLaidFor s b) → IfOk next (λ laid. AreNarrow laid.circuit.gates)
-    → IfOk next (λ laid. length l.nodes ≤ half → toffoli laid ≤ 2 * ands_in s.nodes)
+    → IfOk next (IsLaidNarrow s b) → IfOk next (λ laid. length l.nodes ≤ half → toffoli laid ≤ 2 * ands_in s.nodes)
     → IfErr next (sums.IsPebblingFault l half b) → IsLeanSearch s l b half next
-lean_halved s l b block half tried next h e some ok narrow few refused =
+lean_halved s l b block half tried next h e some ok few refused =
     let none : ¬ CoveringFits l b = none_fits l block b tried e h.refused in
     record {
       some = some;
-      ok = lean_ok s l b next ok narrow (few_where s l b (length l.nodes ≤ half) next (λ fits. absurd (none fits)) few);
+      ok = lean_ok s l b next ok (few_where s l b (length l.nodes ≤ half) next (λ fits. absurd (none fits)) few);
       refused = lean_fault l half b next none refused;
     }
 
@@ -208,10 +188,10 @@ lines_fault : (s : SettledView) (l : SumGraphView) (b : BudgetView) (need : ℕ)
     → IsChoiceFault Lean s b (Lines need)
 lines_fault s l b need lean h = (
   record {
-    few = λ m within. omega (arith, h.1.0.plain, lean.inputs, lean.outputs, lean.few, within.inputs, within.outputs, within.steps);
+    few = λ m within. omega (arith, h.1.0, lean.inputs, lean.outputs, lean.few, within.inputs, within.outputs, within.steps);
     no_row = λ m within fit. h.0 (row_covers s l b m lean within fit);
   },
-  h.1.1 ∙ ap (λ (n : ℕ). wanted_lines n b) (ports_same s l lean),
+  h.1.1.1 ∙ ap (λ (n : ℕ). wanted_lines n b) (ports_same s l lean),
 )
 
 gates_fault : (s : SettledView) (l : SumGraphView) (b : BudgetView) → IsLeanOf s l → (¬ CoveringFits l b) → GatesAreFew Lean s b
@@ -283,56 +263,42 @@ fewest p q no_worse = elim no_worse as (λ _. toffoli p ≤ toffoli q) [ inl les
 -- what is known of the two plans of a lean graph
 pub record AreTried (s : SettledView) (l : SumGraphView) (b : BudgetView) (ready pebbling : Result LaidView PlanFault) : Type 0 where
   pub lean : IsLeanOf s l
-  pub ready_fits : IfOk ready (IsLaidFor s b)
-  pub ready_narrow : IfOk ready (λ laid. AreNarrow laid.circuit.gates)
+  pub ready_fits : IfOk ready (IsLaidNarrow s b)
   pub ready_refused : IfErr ready (IsReadyFault l b)
   pub fits : IfOk pebbling (IsLaidLean s l b)
   pub refused : IfErr pebbling (IsLeanFault l 1 b)
 
 -- what is laid
 record IsTaken (s : SettledView) (l : SumGraphView) (b : BudgetView) (laid : LaidView) : Type 0 where
-  fits : IsLaidFor s b laid
-  narrow : AreNarrow laid.circuit.gates
+  plan : IsLaidNarrow s b laid
   better : IsBetterOfTwo l b laid
   few : CoveringFits l b → toffoli laid ≤ 2 * ands_in s.nodes
 
 module _ (s : SettledView) (l : SumGraphView) (b : BudgetView) where
+  best_of_both : (r p laid : LaidView) → ◌≡◌ {A = Result LaidView PlanFault} (Ok r) (Ok laid) ⊎ ◌≡◌ {A = Result LaidView PlanFault} (Ok p) (Ok laid)
+      → IsNoWorse laid r → IsNoWorse laid p → IsBetterOfTwo l b laid
+  best_of_both r p laid one than_ready than_pebbling = record {
+    ready = Ok r;
+    pebbling = Ok p;
+    ready_refused = tt;
+    pebbling_refused = tt;
+    enough = (λ q. cc, λ q. cc);
+    one = one;
+    best = (than_ready, than_pebbling);
+  }
+
   both_fit : (r p : LaidView) → AreTried s l b (Ok r) (Ok p) → IfOk (better_of r (Ok p)) (IsTaken s l b)
   both_fit r p t = elim (cases_Bool (is_better p r)) as (λ _. IfOk (better_of r (Ok p)) (IsTaken s l b)) [
-    | inl e ↦ rw e (record {
-      fits = t.fits.for_graph;
-      narrow = t.fits.narrow;
-      better = record {
-        ready = Ok r;
-        pebbling = Ok p;
-        ready_refused = tt;
-        pebbling_refused = tt;
-        enough = (λ q. cc, λ q. cc);
-        one = inr refl;
-        best = (better p r e, as_good p);
-      };
-      few = t.fits.few;
-    })
-    | inr e ↦ rw e (record {
-      fits = t.ready_fits;
-      narrow = t.ready_narrow;
-      better = record {
-        ready = Ok r;
-        pebbling = Ok p;
-        ready_refused = tt;
-        pebbling_refused = tt;
-        enough = (λ q. cc, λ q. cc);
-        one = inl refl;
-        best = (as_good r, not_better p r e);
-      };
-      few = λ fits. omega (arith, t.fits.few fits, fewest r p (not_better p r e));
-    })
+    | inl e ↦ rw e (record { plan = t.fits.plan; better = best_of_both r p p (inr refl) (better p r e) (as_good p); few = t.fits.few })
+    | inr e ↦
+        let worse = not_better p r e in
+        let few : CoveringFits l b → toffoli r ≤ 2 * ands_in s.nodes = λ fits. omega (arith, t.fits.few fits, fewest r p worse) in
+        rw e (record { plan = t.ready_fits; better = best_of_both r p r (inl refl) (as_good r) worse; few = few })
   ]
 
   ready_alone : (r : LaidView) (fault : PlanFault) → ((fault ≡ Memory) → ⊥) → (¬ CoveringFits l b) → AreTried s l b (Ok r) (Err fault) → IsTaken s l b r
   ready_alone r fault other none t = record {
-    fits = t.ready_fits;
-    narrow = t.ready_narrow;
+    plan = t.ready_fits;
     better = record {
       ready = Ok r;
       pebbling = Err fault;
@@ -347,8 +313,7 @@ module _ (s : SettledView) (l : SumGraphView) (b : BudgetView) where
 
   pebbling_alone : (fault : PlanFault) (p : LaidView) → ((fault ≡ Memory) → ⊥) → AreTried s l b (Err fault) (Ok p) → IsTaken s l b p
   pebbling_alone fault p other t = record {
-    fits = t.fits.for_graph;
-    narrow = t.fits.narrow;
+    plan = t.fits.plan;
     better = record {
       ready = Err fault;
       pebbling = Ok p;
@@ -373,7 +338,7 @@ module _ (s : SettledView) (l : SumGraphView) (b : BudgetView) where
   taken (Err Memory) pebbling t = tt
 
   pub best_fits : (ready pebbling : Result LaidView PlanFault) → AreTried s l b ready pebbling → IfOk (best_of ready pebbling) (IsLaidFor s b)
-  best_fits ready pebbling t = IfOk-weaker (best_of ready pebbling) (IsTaken s l b) (IsLaidFor s b) (λ laid is. is.fits) (taken ready pebbling t)
+  best_fits ready pebbling t = IfOk-weaker (best_of ready pebbling) (IsTaken s l b) (IsLaidFor s b) (λ laid is. is.plan.for_graph) (taken ready pebbling t)
 
   pub best_lean : (ready pebbling : Result LaidView PlanFault) → AreTried s l b ready pebbling → IfOk (best_of ready pebbling) (IsLean s b)
   best_lean ready pebbling t =
@@ -382,7 +347,7 @@ module _ (s : SettledView) (l : SumGraphView) (b : BudgetView) where
         graph = l;
         lean = t.lean;
         better = is.better;
-        narrow = is.narrow;
+        narrow = is.plan.narrow;
         few = λ m within fit. is.few (row_covers s l b m t.lean within fit);
       }) (taken ready pebbling t)
 

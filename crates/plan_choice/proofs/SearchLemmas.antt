@@ -5,8 +5,9 @@ use Rattle.std.specs.Prelude.{IfErr, IfOk, Result}
 use Rattle.std.proofs.lemmas.Bool.{cases_Bool, cases_lt, ltb-false}
 use Rattle.std.proofs.lemmas.Nat.{pow_pos}
 use Rattle.std.proofs.Math.Nat.{mul-le-mul_left, one-le-pow, pow-succ'}
-use Rattle.plan_choice.specs.Blocks.{HasFewGates, HasFewLines, IsHalved, IsPebblingFault}
-use Rattle.claim_check.specs.Budgets.{Measures, block_gates, block_lines}
+use Rattle.bennett_pebbling.specs.Blocks.{HasFewGates, HasFewLines, InEachRow, IsHalved}
+use Rattle.plan_choice.specs.Blocks.{IsPebblingFault, extent_of}
+use Rattle.claim_check.specs.Budgets.{Measures, block_gates, block_lines, fine_gates, fine_lines}
 use Rattle.claim_check.specs.Measures.{IsWithin}
 use Rattle.claim_check.specs.Settled.{SettledView}
 use Rattle.circuit_plans.specs.declared.plan.PlanFault.{PlanFault}
@@ -27,25 +28,29 @@ use Rattle.plan_choice.specs.inside.Tried.{IsLaidInBlocks, IsSearchFault, is_ref
 abbrev NodesFit : SettledView → BudgetView → Type 0
 NodesFit s b = Fit b (ports_of s + length s.nodes + b.borrow) (4 * length s.nodes + length s.outputs)
 
--- no numbers of the block fit: those of its halvings, and the plain ones where one block has all nodes
-record NoneFits (s : SettledView) (block : ℕ) (b : BudgetView) : Type 0 where
-  halved : (m : Measures) (levels : ℕ) → IsHalved s block levels m → ¬ Fit b (block_lines m block levels b.borrow) (block_gates m block levels)
-  plain : length s.nodes ≤ block → ¬ NodesFit s b
+-- no row of the block fits
+abbrev NoneFits : SettledView → ℕ → BudgetView → Type 0
+NoneFits s block b = InEachRow (extent_of s) block b.borrow (λ lines gates. ¬ Fit b lines gates)
 
-few_lines : (s : SettledView) (block : ℕ) (b : BudgetView) → HasFewLines s block b → NoneFits s block b
-few_lines s block b h = record {
-  halved = λ m levels is fit. (let fits = fit.few_lines in let few = h.halved m levels is in omega arith);
-  plain = λ covers fit. (let fits = fit.few_lines in let few = h.plain covers in omega arith);
+none_fits : (s : SettledView) (block : ℕ) (b : BudgetView) (holds : ℕ → ℕ → Type 0) → ((lines gates : ℕ) → holds lines gates → ¬ Fit b lines gates)
+    → InEachRow (extent_of s) block b.borrow holds → NoneFits s block b
+none_fits s block b holds none rows = record {
+  halved = λ m levels is. none (block_lines m block levels b.borrow) (block_gates m block levels) (rows.halved m levels is);
+  fine = λ m levels one is. none (fine_lines m levels b.borrow) (fine_gates m levels) (rows.fine m levels one is);
+  plain = λ covers. none (ports_of s + length s.nodes + b.borrow) (4 * length s.nodes + length s.outputs) (rows.plain covers);
 }
 
-few_gates : (s : SettledView) (block : ℕ) (b : BudgetView) → HasFewGates s block b → NoneFits s block b
-few_gates s block b h = record {
-  halved = λ m levels is fit. (let fits = fit.few_gates in let few = h.halved m levels is in omega arith);
-  plain = λ covers fit. (let fits = fit.few_gates in let few = h.plain covers in omega arith);
-}
+few_lines : (s : SettledView) (block : ℕ) (b : BudgetView) → HasFewLines (extent_of s) block b → NoneFits s block b
+few_lines s block b h =
+    none_fits s block b (λ lines gates. b.lines < lines) (λ lines gates few fit. (let fits = fit.few_lines in omega (arith, few, fits))) h
+
+few_gates : (s : SettledView) (block : ℕ) (b : BudgetView) → HasFewGates (extent_of s) block b → NoneFits s block b
+few_gates s block b h =
+    none_fits s block b (λ lines gates. b.gates < gates) (λ lines gates few fit. (let fits = fit.few_gates in omega (arith, few, fits))) h
 
 -- so many levels are enough for the nodes too
-is_halved : (s : SettledView) (block levels : ℕ) (m : Measures) → IsWithin s m → IsLevels block m.steps levels → IsHalved s block levels m
+is_halved : (s : SettledView) (block levels : ℕ) (m : Measures) → IsWithin s m → IsLevels block m.steps levels
+    → IsHalved (extent_of s) block levels m
 is_halved s block levels m within are =
     let fewer = within.steps in
     let enough = are.enough in
@@ -182,14 +187,14 @@ no_row s b none fine m within (inl plain) = none.plain m within plain
 no_row s b none fine m within (inr (inl fits)) = fine m within fits
 no_row s b none fine m within (inr (inr fits)) = none.blocks m fits.power fits.levels within (pow_pos fits.power) fits.are fits.fit
 
-last_lines : (s : SettledView) (b : BudgetView) → NoLargerFits s 1 b → HasFewLines s 1 b → LinesAreFew Pebble s b
+last_lines : (s : SettledView) (b : BudgetView) → NoLargerFits s 1 b → HasFewLines (extent_of s) 1 b → LinesAreFew Pebble s b
 last_lines s b none h = record {
   few = λ m within. record { below = λ levels are. h.fine m levels refl (is_halved s 1 levels m within are) };
   no_row = no_row s b none (λ m within fits. (let lines = fits.fit.few_lines in
       let few = h.fine m fits.levels refl (is_halved s 1 fits.levels m within fits.are) in omega arith));
 }
 
-last_gates : (s : SettledView) (b : BudgetView) → NoLargerFits s 1 b → HasFewGates s 1 b → GatesAreFew Pebble s b
+last_gates : (s : SettledView) (b : BudgetView) → NoLargerFits s 1 b → HasFewGates (extent_of s) 1 b → GatesAreFew Pebble s b
 last_gates s b none h = record {
   few = λ m within. record { below = λ levels are. h.fine m levels refl (is_halved s 1 levels m within are) };
   no_row = no_row s b none (λ m within fits. (let gates = fits.fit.few_gates in

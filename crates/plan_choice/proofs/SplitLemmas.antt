@@ -1,5 +1,5 @@
 -- What the split of a plan keeps, and when it is refused.
-use Rattle.std.proofs.Common.{◌≡◌, ℕ, ◌+◌, ◌<◌, ◌≤◌, Bool, false, List, [], ◌∷◌, ◌++◌, length, map}
+use Rattle.std.proofs.Common.{◌≡◌, ℕ, ◌+◌, ◌*◌, ◌<◌, ◌≤◌, Bool, false, List, [], ◌∷◌, ◌++◌, length, map}
 use Rattle.std.proofs.Common.{replicate, Ok, Err, inl, inr, refl, sym, ap, ap₂, subst, ◌∙◌, arith}
 use Rattle.std.specs.List.{AllByRecursion, sum_by}
 use Rattle.std.specs.Prelude.{IfErr, Result}
@@ -7,6 +7,7 @@ use Rattle.std.proofs.lemmas.Bool.{cases_lt}
 use Rattle.std.proofs.lemmas.Bool.Decides.{leb_tells}
 use Rattle.std.proofs.lemmas.List.{length-append, length-map, length-replicate}
 use Rattle.std.proofs.lemmas.List.Sums.{sum_by-cons}
+use Rattle.std.proofs.lemmas.Result.{IfErr-weaker}
 use Rattle.revs_tape.specs.Cuts.{cut_at}
 use Rattle.bit_sums.specs.Sums.{SumView}
 use Rattle.dependency_graph.specs.declared.node.Node.{Node}
@@ -23,7 +24,8 @@ use Rattle.sum_toggles.specs.Toggles.{toggle_weight}
 use Rattle.held_nodes.specs.Held.{first_work}
 use Rattle.bennett_pebbling.specs.Pebbling as sums
 use Rattle.bennett_pebbling.proofs.OutputLemmas.{light_weight}
-use Rattle.plan_choice.specs.Blocks.{AreWithinBlock, IsHalved, IsPebblingFault}
+use Rattle.bennett_pebbling.specs.Blocks.{AreWithinBlock, InEachRow, IsHalved}
+use Rattle.plan_choice.specs.Blocks.{IsPebblingFault, extent_of}
 use Rattle.eager_cleanup.specs.Eager.{IsWithinEager, ports_of}
 use Rattle.gate_split.specs.declared.fault.SplitFault.TheVariants as split
 use Rattle.circuit_plans.specs.declared.plan.PlanFault.{PlanFault}
@@ -32,12 +34,12 @@ use Rattle.gate_split.specs.Costs.{IsRoomyFlip, NarrowStay, RoomyFlipsAreSplit, 
 use Rattle.circuit_plans.specs.Plans.{BudgetView, CleanCircuitsBorrow, LaidView, MapsCleanly, PlannedView, lines_in, with_borrowed}
 use Rattle.gate_split.specs.Split.{split_list}
 use Rattle.held_nodes.specs.Moves.{roles_of_plan, weight_in}
-use Rattle.held_nodes.specs.Plans.{HasPortLines, HasPorts, wanted_lines}
+use Rattle.held_nodes.specs.Plans.{HasPortLines, HasPorts, IsInBudget, wanted_lines}
 use Rattle.mct_circuit.specs.Gates.{AreGatesOn, AreNarrow, CircuitView, GateView, IsGateOn, IsNarrow, flip_of, line_map, positive}
 use Rattle.mct_circuit.specs.Sizes.{weight_of}
 use Rattle.mct_circuit.proofs.WeightLemmas.{length-le-weight}
 use Rattle.plan_choice.specs.Choices.{IsEager, IsLaidFor}
-use Rattle.plan_choice.specs.inside.Tried.{IsLaidInBlocks, IsLaidOf, IsSplitFault}
+use Rattle.plan_choice.specs.inside.Tried.{IsLaidAsIs, IsLaidInBlocks, IsLaidOf, IsSplitFault}
 
 -- ---- narrow gates
 
@@ -78,12 +80,18 @@ many_gates n more limit gates law few roomy refused = elim (cases_lt limit (sum_
 ]
 
 -- the split of narrow gates within the budget is refused only for want of memory
-pub blocks_refused : (s : SettledView) (block : ℕ) (b : BudgetView) (gates : List GateView) (tried : Result LaidView PlanFault) → HasPortLines (ports_of s) b
-    → AreNarrow gates → weight_in gates ≤ b.gates → IfErr tried (IsSplitFault gates b) → IfErr tried (IsPebblingFault s block b)
-blocks_refused s block b gates (Ok laid) lines narrow within h = tt
-blocks_refused s block b gates (Err (Lines need)) lines narrow within h = absurd h
-blocks_refused s block b gates (Err Gates) lines narrow within h = (let stay = narrow_weight gates narrow in absurd (omega arith))
-blocks_refused s block b gates (Err Memory) lines narrow within h = lines
+pub narrow_refused : (p : PlannedView) (b : BudgetView) (tried : Result LaidView PlanFault) → AreNarrow p.circuit.gates → IsInBudget b p
+    → IfErr tried (IsSplitFault p.circuit.gates b) → IfErr tried (λ fault. fault ≡ Memory)
+narrow_refused p b (Ok laid) narrow within h = tt
+narrow_refused p b (Err (Lines need)) narrow within h = absurd h
+narrow_refused p b (Err Gates) narrow within h = absurd (omega (arith, h, narrow_weight p.circuit.gates narrow, within.gates))
+narrow_refused p b (Err Memory) narrow within h = refl
+
+-- a refusal for want of memory, where that says no more than that the lines suffice
+pub memory_wanted : (tried : Result LaidView PlanFault) (IsFault : PlanFault → Type 0) → IsFault Memory → IfErr tried (λ fault. fault ≡ Memory)
+    → IfErr tried IsFault
+memory_wanted tried IsFault memory alone =
+    IfErr-weaker tried (λ (fault : PlanFault). fault ≡ Memory) IsFault (λ fault is. subst IsFault (sym is) memory) alone
 
 -- ---- the numbers of a laid plan
 
@@ -108,33 +116,28 @@ laid_eager s b p laid law roomy within is =
     }
 
 -- narrow gates are laid as they are
-pub same_list : (b : BudgetView) (p : PlannedView) (laid : LaidView) → NarrowStay → AreNarrow p.circuit.gates → weight_in p.circuit.gates ≤ b.gates
-    → IsLaidOf p b laid → laid.circuit.gates ≡ p.circuit.gates
-same_list b p laid law narrow light is =
+pub as_is : (b : BudgetView) (p : PlannedView) (laid : LaidView) → NarrowStay → AreNarrow p.circuit.gates → IsInBudget b p → IsLaidOf p b laid
+    → IsLaidAsIs p b laid
+as_is b p laid law narrow within is =
     let few = length-le-weight p.circuit.gates in
-    let stay = law (p.circuit.lines + b.borrow) b.gates p.circuit.gates narrow (omega (arith, few, light)) in
+    let stay = law (p.circuit.lines + b.borrow) b.gates p.circuit.gates narrow (omega (arith, few, within.gates)) in
     let both : Ok p.circuit.gates ≡ Ok laid.circuit.gates = sym stay ∙ is.split in
-    cc
+    record { laid_of = is; same = cc }
 
-same_gates : (b : BudgetView) (p : PlannedView) (laid : LaidView) → NarrowStay → AreNarrow p.circuit.gates → weight_in p.circuit.gates ≤ b.gates
-    → IsLaidOf p b laid → length laid.circuit.gates ≡ length p.circuit.gates
-same_gates b p laid law narrow light is = ap (λ (gs : List GateView). length gs) (same_list b p laid law narrow light is)
-
-pub laid_blocks : (s : SettledView) (block : ℕ) (b : BudgetView) (p : PlannedView) (laid : LaidView) → NarrowStay → AreNarrow p.circuit.gates
-    → weight_in p.circuit.gates ≤ b.gates → AreWithinBlock s block 0 p.circuit.lines (length p.circuit.gates) → IsLaidOf p b laid → IsLaidInBlocks s block b laid
-laid_blocks s block b p laid law narrow light within is =
-    let same = same_gates b p laid law narrow light is in
+pub laid_blocks : (s : SettledView) (block : ℕ) (b : BudgetView) (p : PlannedView) (laid : LaidView)
+    → AreWithinBlock (extent_of s) block 0 p.circuit.lines (length p.circuit.gates) → IsLaidAsIs p b laid → IsLaidInBlocks s block b laid
+laid_blocks s block b p laid within is =
+    let size = is.laid_of.size in
+    let same : length laid.circuit.gates ≡ length p.circuit.gates = ap (λ (gs : List GateView). length gs) is.same in
     record {
-      block_lines = λ m levels h. omega (arith, within.block_lines m levels h, is.size);
-      block_gates = λ m levels h. omega (arith, within.block_gates m levels h, same);
-      fine_lines = λ m levels one h. omega (arith, within.fine_lines m levels one h, is.size);
-      fine_gates = λ m levels one h. omega (arith, within.fine_gates m levels one h, same);
-      plain_lines = λ covers. omega (arith, within.plain_lines covers, is.size);
-      plain_gates = λ covers. omega (arith, within.plain_gates covers, same);
+      halved = λ m levels h. let row = within.halved m levels h in (omega (arith, row.0, size), omega (arith, row.1, same));
+      fine = λ m levels one h. let row = within.fine m levels one h in (omega (arith, row.0, size), omega (arith, row.1, same));
+      plain = λ covers. let row = within.plain covers in (omega (arith, row.0, size), omega (arith, row.1, same));
     }
 
 -- a plan within the budget has the lines of the inputs and outputs
-pub port_lines : (s : SettledView) (b : BudgetView) (p : PlannedView) → HasPorts (plain_of s) p → p.circuit.lines + b.borrow ≤ b.lines → HasPortLines (ports_of s) b
+pub port_lines : (s : SettledView) (b : BudgetView) (p : PlannedView) → HasPorts (plain_of s) p → p.circuit.lines + b.borrow ≤ b.lines
+    → HasPortLines (ports_of s) b
 port_lines s b p ports within = omega (arith, ports.lines, within, length-map s.outputs plain_output)
 
 -- ---- the laid plan
@@ -222,45 +225,49 @@ plain_within s m within =
           (within.cuts j (omega (arith, low, nodes)));
     }
 
-plain_halved : (s : SettledView) (block levels : ℕ) (m : Measures) → IsHalved s block levels m → sums.IsHalved (plain_of s) block levels m
+plain_halved : (s : SettledView) (block levels : ℕ) (m : Measures) → IsHalved (extent_of s) block levels m
+    → IsHalved (sums.extent_of (plain_of s)) block levels m
 plain_halved s block levels m h =
     record { within = plain_within s m h.within; enough = omega (arith, h.enough, length-map s.nodes plain_sum) }
 
-pub block_within : (s : SettledView) (block borrowed lines gates : ℕ) → sums.AreWithinBlock (plain_of s) block borrowed lines gates
-    → AreWithinBlock s block borrowed lines gates
-block_within s block borrowed lines gates w =
-    let nodes = length-map s.nodes plain_sum in
-    let outputs = length-map s.outputs plain_output in
-    record {
-      block_lines = λ m levels h. w.block_lines m levels (plain_halved s block levels m h);
-      block_gates = λ m levels h. w.block_gates m levels (plain_halved s block levels m h);
-      fine_lines = λ m levels one h. w.fine_lines m levels one (plain_halved s 1 levels m h);
-      fine_gates = λ m levels one h. w.fine_gates m levels one (plain_halved s 1 levels m h);
-      plain_lines = λ covers. omega (arith, w.plain_lines (omega (arith, covers, nodes)), nodes, outputs);
-      plain_gates = λ covers. omega (arith, w.plain_gates (omega (arith, covers, nodes)), light_weight (plain_of s) (plain_light s), nodes, outputs);
-    }
+-- what holds in each row of the plain graph holds in each of the settled one, where it does in that of one block
+settled_rows : (s : SettledView) (block borrowed : ℕ) (holds : ℕ → ℕ → Type 0)
+    → (holds (first_work (plain_of s) + length (plain_of s).nodes + borrowed) (sums.plain_weight (plain_of s))
+    → holds (ports_of s + length s.nodes + borrowed) (4 * length s.nodes + length s.outputs))
+    → InEachRow (sums.extent_of (plain_of s)) block borrowed holds → InEachRow (extent_of s) block borrowed holds
+settled_rows s block borrowed holds to rows = record {
+  halved = λ m levels h. rows.halved m levels (plain_halved s block levels m h);
+  fine = λ m levels one h. rows.fine m levels one (plain_halved s 1 levels m h);
+  plain = λ covers. to (rows.plain (omega (arith, covers, length-map s.nodes plain_sum)));
+}
 
 ports_same : (s : SettledView) → first_work (plain_of s) ≡ ports_of s
 ports_same s = ap (λ (n : ℕ). s.inputs + n) (length-map s.outputs plain_output)
 
-pub block_fault : (s : SettledView) (block : ℕ) (b : BudgetView) (e : PlanFault) → sums.IsPebblingFault (plain_of s) block b e → IsPebblingFault s block b e
-block_fault s block b (Lines need) h =
-    let nodes = length-map s.nodes plain_sum in (
-      record {
-        halved = λ m levels is. h.0.halved m levels (plain_halved s block levels m is);
-        fine = λ m levels one is. h.0.fine m levels one (plain_halved s 1 levels m is);
-        plain = λ covers. omega (arith, h.0.plain, nodes, ports_same s);
-      },
-      h.1 ∙ ap (λ (n : ℕ). wanted_lines n b) (ports_same s),
-    )
-block_fault s block b Gates h =
+-- the lines and gates of one block of all nodes
+one_block : (s : SettledView) (borrowed : ℕ) → (first_work (plain_of s) + length (plain_of s).nodes + borrowed ≡ ports_of s + length s.nodes + borrowed)
+    × (sums.plain_weight (plain_of s) ≤ 4 * length s.nodes + length s.outputs)
+one_block s borrowed =
     let nodes = length-map s.nodes plain_sum in
     let outputs = length-map s.outputs plain_output in
-    record {
-      halved = λ m levels is. h.halved m levels (plain_halved s block levels m is);
-      fine = λ m levels one is. h.fine m levels one (plain_halved s 1 levels m is);
-      plain = λ covers. omega (arith, h.plain (omega (arith, covers, nodes)), light_weight (plain_of s) (plain_light s), nodes, outputs);
-    }
+    (omega (arith, nodes, ports_same s), omega (arith, light_weight (plain_of s) (plain_light s), nodes, outputs))
+
+pub block_within : (s : SettledView) (block borrowed lines gates : ℕ) → AreWithinBlock (sums.extent_of (plain_of s)) block borrowed lines gates
+    → AreWithinBlock (extent_of s) block borrowed lines gates
+block_within s block borrowed lines gates w =
+    let one = one_block s borrowed in
+    settled_rows s block borrowed (λ most_lines most_gates. (lines ≤ most_lines) × (gates ≤ most_gates))
+    (λ row. (omega (arith, row.0, one.0), omega (arith, row.1, one.1))) w
+
+pub block_fault : (s : SettledView) (block : ℕ) (b : BudgetView) (e : PlanFault) → sums.IsPebblingFault (plain_of s) block b e → IsPebblingFault s block b e
+block_fault s block b (Lines need) h = (
+  let one = one_block s b.borrow in
+      settled_rows s block b.borrow (λ lines gates. b.lines < lines) (λ few. omega (arith, few, one.0)) h.1.0,
+  h.1.1 ∙ ap (λ (n : ℕ). wanted_lines n b) (ports_same s),
+)
+block_fault s block b Gates h =
+    let one = one_block s b.borrow in
+    settled_rows s block b.borrow (λ lines gates. b.gates < gates) (λ few. omega (arith, few, one.1)) h
 block_fault s block b Memory h = omega (arith, h, ports_same s)
 
 -- gates that put the outputs of the plain graph put those of the settled one

@@ -13,7 +13,8 @@ use Rattle.circuit_plans.specs.Plans.{BudgetView, LaidView, MapsCleanly, roles_o
 use Rattle.held_nodes.specs.Plans.{HasPortLines, wanted_lines}
 use Rattle.mct_circuit.specs.Gates.{AreNarrow}
 use Rattle.eager_cleanup.specs.Eager.{AreWithinEager, ports_of}
-use Rattle.plan_choice.specs.Blocks.{AreWithinBlock}
+use Rattle.bennett_pebbling.specs.Blocks.{AreWithinBlock}
+use Rattle.plan_choice.specs.Blocks.{extent_of}
 use Rattle.plan_choice.specs.Lean.{IsBetterOfTwo, toffoli}
 use Rattle.sum_graph.specs.Graphs.{IsLeanOf, SumGraphView}
 use Rattle.circuit_plans.specs.declared.choice.How.{How}
@@ -130,7 +131,7 @@ IsEager s b laid =
 -- they are within the numbers of a block, where one block has all nodes or no row of larger blocks fits
 pub record IsPebbling (s : SettledView) (b : BudgetView) (laid : LaidView) : Type 0 where
   pub power : ℕ
-  pub within : AreWithinBlock s (2 ^ power) b.borrow laid.circuit.lines
+  pub within : AreWithinBlock (extent_of s) (2 ^ power) b.borrow laid.circuit.lines
       (length laid.circuit.gates)
   pub first : (length s.nodes ≤ 2 ^ power) ⊎ NoLargerFits s (2 ^ suc power) b
 

@@ -5,7 +5,7 @@ ghost use Rattle.sum_graph.specs.Plain.{plain_of};
 ghost use Rattle.plan_choice.specs.Choices.{IsChoiceFault, IsChosen, IsLaidFor};
 ghost use Rattle.circuit_plans.specs.declared.choice.How.TheVariants.{Auto};
 
-use crate::laying::{is_refused, lay_eager};
+use crate::laying::{Tried, is_refused, lay_eager};
 use crate::lean::lay_lean;
 use crate::search::lay_pebbling;
 use circuit_plans::{Budget, How, Laid, PlanFault};
@@ -40,7 +40,7 @@ pub fn choose(alloc: Global, graph: &Settled, budget: &Budget, how: How) -> Resu
 }
 
 // The first plan that fits the budget, where it has a line for each input, output and borrowed bit.
-fn chosen(alloc: Global, graph: &Settled, budget: &Budget, how: How) -> Result<Laid, PlanFault>
+fn chosen(alloc: Global, graph: &Settled, budget: &Budget, how: How) -> Tried
     requires { ports_of graph.now + budget.now.borrow ≤ budget.now.lines }
     ensures ok { IfOk result (IsLaidFor graph.now budget.now) }
     ensures chosen { IfOk result (IsChosen how graph.now budget.now) }
@@ -67,12 +67,7 @@ fn chosen(alloc: Global, graph: &Settled, budget: &Budget, how: How) -> Result<L
 }
 
 // The eager plan where it fits, else the first pebbling that does, over the plain graph.
-fn eager_or_pebbling(
-    alloc: Global,
-    graph: &Settled,
-    plain: &SumGraph,
-    budget: &Budget,
-) -> Result<Laid, PlanFault>
+fn eager_or_pebbling(alloc: Global, graph: &Settled, plain: &SumGraph, budget: &Budget) -> Tried
     requires { plain.now ≡ plain_of graph.now }
     ensures ok { IfOk result (IsLaidFor graph.now budget.now) }
     ensures chosen { IfOk result (IsChosen Auto graph.now budget.now) }

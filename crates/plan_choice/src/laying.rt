@@ -1,13 +1,16 @@
 // One plan laid: its gates are split on all its lines and the borrowed ones.
 ghost use Rattle.std.specs.Prelude.{◌≡◌, ◌+◌, ◌≤◌, IfOk, IfErr};
 ghost use Rattle.std.specs.List.{AllByRecursion};
+ghost use Rattle.circuit_plans.specs.declared.plan.PlanFault.TheVariants.{Memory};
+ghost use Rattle.held_nodes.specs.Plans.{IsInBudget};
+ghost use Rattle.mct_circuit.specs.Gates.{AreNarrow};
 ghost use Rattle.plan_choice.specs.Blocks.{IsPebblingFault};
 ghost use Rattle.sum_graph.specs.Plain.{plain_of};
 ghost use Rattle.eager_cleanup.specs.Eager.{IsEagerFault};
 ghost use Rattle.gate_split.specs.Costs.{IsRoomyFlip};
 ghost use Rattle.plan_choice.specs.Choices.{IsEager, IsLaidFor};
-ghost use Rattle.plan_choice.specs.inside.Tried.{IsLaidInBlocks, IsLaidOf, IsSplitFault};
-ghost use Rattle.plan_choice.specs.inside.Tried.{is_refusal};
+ghost use Rattle.plan_choice.specs.inside.Tried.{IsLaidAsIs, IsLaidInBlocks, IsLaidOf};
+ghost use Rattle.plan_choice.specs.inside.Tried.{IsSplitFault, is_refusal};
 
 use circuit_plans::{Budget, Laid, PlanFault, Planned, clean_circuits_borrow};
 use claim_check::Settled;
@@ -15,13 +18,11 @@ use gate_split::{SplitFault, narrow_stay, roomy_flips_are_split, split};
 use std::alloc::Global;
 use sum_graph::SumGraph;
 
+// A plan that was tried: laid, or refused.
+pub type Tried = Result<Laid, PlanFault>;
+
 // The eager plan, laid.
-pub fn lay_eager(
-    alloc: Global,
-    graph: &Settled,
-    plain: &SumGraph,
-    budget: &Budget,
-) -> Result<Laid, PlanFault>
+pub fn lay_eager(alloc: Global, graph: &Settled, plain: &SumGraph, budget: &Budget) -> Tried
     requires { plain.now ≡ plain_of graph.now }
     ensures ok { IfOk result (IsLaidFor graph.now budget.now) }
     ensures eager { IfOk result (IsEager graph.now budget.now) }
@@ -40,30 +41,40 @@ pub fn lay_blocks(
     plain: &SumGraph,
     block: u32,
     budget: &Budget,
-) -> Result<Laid, PlanFault>
+) -> Tried
     requires some { 1 ≤ block }
     requires plain { plain.now ≡ plain_of graph.now }
     ensures ok { IfOk result (IsLaidFor graph.now budget.now) }
     ensures within { IfOk result (IsLaidInBlocks graph.now block budget.now) }
     ensures refused { IfErr result (IsPebblingFault graph.now block budget.now) }
 {
+    let planned = bennett_pebbling::plan(alloc, plain, block, budget)?;
+    lay_narrow(alloc, &planned, budget)
+}
+
+// A plan of narrow gates within the budget, laid: its gates stay as they are.
+pub fn lay_narrow(alloc: Global, planned: &Planned, budget: &Budget) -> Tried
+    requires within { IsInBudget budget.now planned.now }
+    requires narrow { AreNarrow planned.now.circuit.gates }
+    ensures ok { IfOk result (IsLaidAsIs planned.now budget.now) }
+    ensures memory { IfErr result (λ fault. fault ≡ Memory) }
+{
     // This call says that narrow gates stay as they are.
     narrow_stay();
-    let planned = bennett_pebbling::plan(alloc, plain, block, budget)?;
     // This call says that the gates are on the circuit's lines.
     let _ = planned.circuit().lines();
-    lay(alloc, &planned, budget)
+    lay(alloc, planned, budget)
 }
 
 // Whether there is no plan though memory was not wanting.
-pub fn is_refused(tried: &Result<Laid, PlanFault>) -> bool
+pub fn is_refused(tried: &Tried) -> bool
     ensures { result ≡ is_refusal tried.now }
 {
     matches!(tried, Err(PlanFault::Lines { .. } | PlanFault::Gates))
 }
 
 // The plan with its gates split.
-pub fn lay(alloc: Global, planned: &Planned, budget: &Budget) -> Result<Laid, PlanFault>
+fn lay(alloc: Global, planned: &Planned, budget: &Budget) -> Tried
     requires lines { planned.now.circuit.lines + budget.now.borrow ≤ budget.now.lines }
     requires roomy { AllByRecursion (IsRoomyFlip planned.now.circuit.lines)
         planned.now.circuit.gates }

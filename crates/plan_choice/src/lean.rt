@@ -2,39 +2,28 @@
 ghost use Rattle.std.specs.Prelude.{◌≡◌, ◌*◌, ◌≤◌, length, IfOk, IfErr, if◌then◌else◌};
 ghost use Rattle.bennett_pebbling.specs.Pebbling.{IsPebblingFault};
 ghost use Rattle.dependency_graph.specs.Graphs.{ands_in};
-ghost use Rattle.mct_circuit.specs.Gates.{AreNarrow};
 ghost use Rattle.circuit_plans.specs.declared.choice.How.TheVariants.{Lean};
 ghost use Rattle.plan_choice.specs.Choices.{IsChoiceFault, IsLaidFor, IsLean};
 ghost use Rattle.plan_choice.specs.Lean.{IsLeanFault, toffoli};
-ghost use Rattle.plan_choice.specs.inside.Tried.{IsLaidLean, best_of, better_of, is_better};
+ghost use Rattle.plan_choice.specs.inside.Tried.{IsLaidLean, IsLaidNarrow, best_of, better_of};
+ghost use Rattle.plan_choice.specs.inside.Tried.{is_better};
 ghost use Rattle.ready_cleanup.specs.Ready.{IsReadyFault};
 ghost use Rattle.sum_graph.specs.Graphs.{IsLeanOf};
 
-use crate::laying::{is_refused, lay};
+use crate::laying::{Tried, is_refused, lay_narrow};
 use circuit_plans::{Budget, Laid, PlanFault};
 use claim_check::Settled;
-use gate_split::narrow_stay;
 use std::alloc::Global;
 use sum_graph::SumGraph;
 
 // The ready plan of a lean graph, laid.
-pub fn lay_ready(
-    alloc: Global,
-    graph: &Settled,
-    lean: &SumGraph,
-    budget: &Budget,
-) -> Result<Laid, PlanFault>
+pub fn lay_ready(alloc: Global, graph: &Settled, lean: &SumGraph, budget: &Budget) -> Tried
     requires lean { IsLeanOf graph.now lean.now }
-    ensures ok { IfOk result (IsLaidFor graph.now budget.now) }
-    ensures narrow { IfOk result (λ laid. AreNarrow laid.circuit.gates) }
+    ensures ok { IfOk result (IsLaidNarrow graph.now budget.now) }
     ensures refused { IfErr result (IsReadyFault lean.now budget.now) }
 {
-    // This call says that narrow gates stay as they are.
-    narrow_stay();
     let planned = ready_cleanup::plan(alloc, lean, budget)?;
-    // This call says that the gates are on the circuit's lines.
-    let _ = planned.circuit().lines();
-    lay(alloc, &planned, budget)
+    lay_narrow(alloc, &planned, budget)
 }
 
 // The pebbling plan of a lean graph down to blocks of `block` nodes, laid.
@@ -44,31 +33,21 @@ pub fn lay_lean_blocks(
     lean: &SumGraph,
     block: u32,
     budget: &Budget,
-) -> Result<Laid, PlanFault>
+) -> Tried
     requires some { 1 ≤ block }
     requires lean { IsLeanOf graph.now lean.now }
-    ensures ok { IfOk result (IsLaidFor graph.now budget.now) }
-    ensures narrow { IfOk result (λ laid. AreNarrow laid.circuit.gates) }
+    ensures ok { IfOk result (IsLaidNarrow graph.now budget.now) }
     ensures products { IfOk result (λ laid. length lean.now.nodes ≤ block
         → toffoli laid ≤ 2 * ands_in graph.now.nodes) }
     ensures refused { IfErr result (IsPebblingFault lean.now block budget.now) }
 {
-    // This call says that narrow gates stay as they are.
-    narrow_stay();
     let planned = bennett_pebbling::plan(alloc, lean, block, budget)?;
-    // This call says that the gates are on the circuit's lines.
-    let _ = planned.circuit().lines();
-    lay(alloc, &planned, budget)
+    lay_narrow(alloc, &planned, budget)
 }
 
 // The first pebbling plan of a lean graph that fits the budget, of blocks from the least power of
 // two that has all nodes down by halves to 1.
-pub fn lay_lean_pebbling(
-    alloc: Global,
-    graph: &Settled,
-    lean: &SumGraph,
-    budget: &Budget,
-) -> Result<Laid, PlanFault>
+pub fn lay_lean_pebbling(alloc: Global, graph: &Settled, lean: &SumGraph, budget: &Budget) -> Tried
     requires lean { IsLeanOf graph.now lean.now }
     ensures ok { IfOk result (IsLaidLean graph.now lean.now budget.now) }
     ensures refused { IfErr result (IsLeanFault lean.now 1 budget.now) }
@@ -83,12 +62,7 @@ pub fn lay_lean_pebbling(
 }
 
 // The better plan of a lean graph: the ready one or the pebbling, whichever fits.
-pub fn lay_lean(
-    alloc: Global,
-    graph: &Settled,
-    lean: &SumGraph,
-    budget: &Budget,
-) -> Result<Laid, PlanFault>
+pub fn lay_lean(alloc: Global, graph: &Settled, lean: &SumGraph, budget: &Budget) -> Tried
     requires lean { IsLeanOf graph.now lean.now }
     ensures ok { IfOk result (IsLaidFor graph.now budget.now) }
     ensures lean { IfOk result (IsLean graph.now budget.now) }
@@ -101,10 +75,7 @@ pub fn lay_lean(
 
 // The better plan where both fit, and the one that fits where one does; else the refusal of the
 // second.
-fn best_of(
-    ready: Result<Laid, PlanFault>,
-    pebbling: Result<Laid, PlanFault>,
-) -> Result<Laid, PlanFault>
+fn best_of(ready: Tried, pebbling: Tried) -> Tried
     ensures { result ≡ best_of ready pebbling }
 {
     match ready {
@@ -115,7 +86,7 @@ fn best_of(
 }
 
 // The second plan where it fits and is better, else the first.
-fn better_of(ready: Laid, pebbling: Result<Laid, PlanFault>) -> Result<Laid, PlanFault>
+fn better_of(ready: Laid, pebbling: Tried) -> Tried
     ensures { result ≡ better_of ready pebbling }
 {
     match pebbling {

@@ -4,20 +4,15 @@ ghost use Rattle.circuit_plans.specs.declared.choice.How.TheVariants.{Pebble};
 ghost use Rattle.sum_graph.specs.Plain.{plain_of};
 ghost use Rattle.plan_choice.specs.Choices.{IsChoiceFault, IsLaidFor, IsPebbling};
 
-use crate::laying::{is_refused, lay_blocks};
-use circuit_plans::{Budget, Laid, PlanFault};
+use crate::laying::{Tried, is_refused, lay_blocks};
+use circuit_plans::Budget;
 use claim_check::Settled;
 use std::alloc::Global;
 use sum_graph::SumGraph;
 
 // The first pebbling plan that fits the budget, of blocks from the least power of two that has all
 // nodes down by halves to 1.
-pub fn lay_pebbling(
-    alloc: Global,
-    graph: &Settled,
-    plain: &SumGraph,
-    budget: &Budget,
-) -> Result<Laid, PlanFault>
+pub fn lay_pebbling(alloc: Global, graph: &Settled, plain: &SumGraph, budget: &Budget) -> Tried
     requires { plain.now ≡ plain_of graph.now }
     ensures ok { IfOk result (IsLaidFor graph.now budget.now) }
     ensures pebbling { IfOk result (IsPebbling graph.now budget.now) }

@@ -1,6 +1,7 @@
 -- What a plan that was tried says: of its split, of one block, and of all blocks down to one.
 use Rattle.std.specs.Prelude.{◌≡◌, ℕ, ◌+◌, ◌*◌, ◌<◌, ◌≤◌, ◌==◌, nat_lt, if◌then◌else◌, Bool, true, false, ⊤, Result, Ok, Err, List, length, sum_by}
-use Rattle.plan_choice.specs.Blocks.{AreWithinBlock, IsPebblingFault}
+use Rattle.bennett_pebbling.specs.Blocks.{AreWithinBlock}
+use Rattle.plan_choice.specs.Blocks.{IsPebblingFault, extent_of}
 use Rattle.claim_check.specs.Settled.{SettledView}
 use Rattle.circuit_plans.specs.declared.plan.PlanFault.{PlanFault}
 use Rattle.circuit_plans.specs.declared.plan.PlanFault.TheVariants.{Lines, Gates, Memory}
@@ -37,6 +38,11 @@ pub record IsLaidOf (p : PlannedView) (b : BudgetView) (laid : LaidView) : Type 
       → MapsCleanly (roles_of_plan p) p.circuit.gates value
       → MapsCleanly (roles_of laid) laid.circuit.gates value
 
+-- The plan was laid, and its gates are as they were.
+pub record IsLaidAsIs (p : PlannedView) (b : BudgetView) (laid : LaidView) : Type 0 where
+  pub laid_of : IsLaidOf p b laid
+  pub same : laid.circuit.gates ≡ p.circuit.gates
+
 -- the budget has fewer gates than the most that can stand in place of these
 abbrev pub IsSplitFault : List GateView → BudgetView → PlanFault → Type 0
 IsSplitFault gates b (Lines need) = ⊥
@@ -46,7 +52,7 @@ IsSplitFault gates b Memory = ⊤
 -- its lines and gates are within the numbers of the block
 abbrev pub IsLaidInBlocks : SettledView → ℕ → BudgetView → LaidView → Type 0
 IsLaidInBlocks s block b laid =
-    AreWithinBlock s block b.borrow laid.circuit.lines (length laid.circuit.gates)
+    AreWithinBlock (extent_of s) block b.borrow laid.circuit.lines (length laid.circuit.gates)
 
 -- ---- the search for a block
 
@@ -57,14 +63,17 @@ IsSearchFault s block b (Lines need) =
 IsSearchFault s block b Gates = NoLargerFits s block b × IsPebblingFault s block b Gates
 IsSearchFault s block b Memory = IsPebblingFault s block b Memory
 
--- ---- the search over a lean graph
+-- ---- plans of a lean graph
 
--- What is laid of a lean graph is narrow, and where one block of all nodes fits, it has at most two flips under two
--- lines for each AND.
-pub record IsLaidLean (s : SettledView) (l : SumGraphView) (b : BudgetView) (laid : LaidView)
-    : Type 0 where
+-- what is laid of a lean graph is narrow
+pub record IsLaidNarrow (s : SettledView) (b : BudgetView) (laid : LaidView) : Type 0 where
   pub for_graph : IsLaidFor s b laid
   pub narrow : AreNarrow laid.circuit.gates
+
+-- Where one block of all nodes fits, it has at most two flips under two lines for each AND.
+pub record IsLaidLean (s : SettledView) (l : SumGraphView) (b : BudgetView) (laid : LaidView)
+    : Type 0 where
+  pub plan : IsLaidNarrow s b laid
   pub few : CoveringFits l b → toffoli laid ≤ 2 * ands_in s.nodes
 
 -- ---- the better of two plans

@@ -1,40 +1,33 @@
 use Rattle.std.proofs.Common.{length}
+use Rattle.std.proofs.lemmas.Result.{IfOk-weaker}
 use Rattle.held_nodes.specs.Moves.{roles_of_plan}
 use Rattle.revc_base.proofs.ResultLemmas.{passes_on}
+use Rattle.plan_choice.specs.Blocks.{IsPebblingFault}
 use Rattle.plan_choice.specs.Choices.{IsLaidFor}
-use Rattle.std.proofs.lemmas.Result.{IfOk-weaker}
-use Rattle.plan_choice.specs.inside.Tried.{IsLaidInBlocks, IsLaidOf}
-use Rattle.plan_choice.proofs.SplitLemmas.{block_fault, block_within, blocks_refused, laid_for, plain_clean, laid_blocks, narrow_are_roomy, port_lines}
+use Rattle.plan_choice.specs.inside.Tried.{IsLaidAsIs, IsLaidInBlocks}
+use Rattle.plan_choice.proofs.SplitLemmas.{block_fault, block_within, laid_blocks, laid_for, memory_wanted, plain_clean, port_lines}
 use Rattle.plan_choice.proofs.laying.lay_blocks.Goals as goal
-
-pub lay-requires-clause-roomy : goal.lay-requires-clause-roomy
-lay-requires-clause-roomy c =
-    narrow_are_roomy _ _ (rw c.circuit.ensures.circuit at c.lines.ensures.gates) c.in_ok-planned.ensures.narrow
 
 pub returns-clause-refused : goal.returns-clause-refused
 returns-clause-refused c =
-    blocks_refused c.args.graph.now c.args.block c.args.budget.now c.in_ok-planned.planned.circuit.gates c.lay.result
-    (port_lines c.args.graph.now c.args.budget.now c.in_ok-planned.planned (rw c.requires.plain at c.in_ok-planned.ensures.ports) c.in_ok-planned.ensures.within.lines)
-    c.in_ok-planned.ensures.narrow c.in_ok-planned.ensures.within.gates c.lay.ensures.refused
+    let s = c.args.graph.now in let b = c.args.budget.now in let p = c.in_ok-planned.planned in
+    memory_wanted c.lay_narrow.result (IsPebblingFault s c.args.block b)
+    (port_lines s b p (rw c.requires.plain at c.in_ok-planned.ensures.ports) c.in_ok-planned.ensures.within.lines) c.lay_narrow.ensures.memory
 
 pub returns-clause-within : goal.returns-clause-within
 returns-clause-within c =
-    let s = c.args.graph.now in
-    let b = c.args.budget.now in
-    let p = c.in_ok-planned.planned in
-    IfOk-weaker c.lay.result (IsLaidOf p b) (IsLaidInBlocks s c.args.block b)
-    (λ laid is. laid_blocks s c.args.block b p laid c.narrow_stay.ensures c.in_ok-planned.ensures.narrow c.in_ok-planned.ensures.within.gates
+    let s = c.args.graph.now in let b = c.args.budget.now in let p = c.in_ok-planned.planned in
+    IfOk-weaker c.lay_narrow.result (IsLaidAsIs p b) (IsLaidInBlocks s c.args.block b)
+    (λ laid is. laid_blocks s c.args.block b p laid
     (block_within s c.args.block 0 p.circuit.lines (length p.circuit.gates) (rw c.requires.plain at c.in_ok-planned.ensures.few)) is)
-    c.lay.ensures.ok
+    c.lay_narrow.ensures.ok
 
 pub returns-clause-ok : goal.returns-clause-ok
 returns-clause-ok c =
-    let s = c.args.graph.now in
-    let b = c.args.budget.now in
-    let p = c.in_ok-planned.planned in
-    IfOk-weaker c.lay.result (IsLaidOf p b) (IsLaidFor s b)
+    let s = c.args.graph.now in let b = c.args.budget.now in let p = c.in_ok-planned.planned in
+    IfOk-weaker c.lay_narrow.result (IsLaidAsIs p b) (IsLaidFor s b)
     (λ laid is. laid_for s b p laid (rw c.requires.plain at c.in_ok-planned.ensures.ports)
-    (plain_clean s (roles_of_plan p) p.circuit.gates (rw c.requires.plain at c.in_ok-planned.ensures.clean)) is) c.lay.ensures.ok
+    (plain_clean s (roles_of_plan p) p.circuit.gates (rw c.requires.plain at c.in_ok-planned.ensures.clean)) is.laid_of) c.lay_narrow.ensures.ok
 
 pub returns-in_err-planned-clause-refused : goal.returns-in_err-planned-clause-refused
 returns-in_err-planned-clause-refused c =

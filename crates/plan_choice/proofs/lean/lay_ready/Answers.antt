@@ -1,34 +1,20 @@
 use Rattle.std.proofs.lemmas.Result.{IfOk-weaker}
-use Rattle.mct_circuit.specs.Gates.{AreNarrow}
-use Rattle.circuit_plans.specs.Plans.{LaidView}
-use Rattle.plan_choice.specs.Choices.{IsLaidFor}
-use Rattle.plan_choice.specs.inside.Tried.{IsLaidOf}
-use Rattle.plan_choice.proofs.LeanLemmas.{IsLeanPlan, laid_lean, laid_narrow, ready_refused}
-use Rattle.plan_choice.proofs.SplitLemmas.{narrow_are_roomy}
+use Rattle.ready_cleanup.specs.Ready.{IsReadyFault}
+use Rattle.plan_choice.specs.inside.Tried.{IsLaidAsIs, IsLaidNarrow}
+use Rattle.plan_choice.proofs.LeanLemmas.{IsLeanPlan, laid_lean, lean_ports}
+use Rattle.plan_choice.proofs.SplitLemmas.{memory_wanted}
 use Rattle.plan_choice.proofs.lean.lay_ready.Goals as goal
-
-pub lay-requires-clause-roomy : goal.lay-requires-clause-roomy
-lay-requires-clause-roomy c =
-    narrow_are_roomy _ _ (rw c.circuit.ensures.circuit at c.lines.ensures.gates) c.in_ok-planned.ensures.narrow
 
 pub returns-clause-ok : goal.returns-clause-ok
 returns-clause-ok c =
     let s = c.args.graph.now in let l = c.args.lean.now in let b = c.args.budget.now in let p = c.in_ok-planned.planned in
     let e = c.in_ok-planned.ensures in
     let plan : IsLeanPlan s l b p = record { lean = c.requires.lean; ports = e.ports; clean = e.clean; within = e.within; narrow = e.narrow } in
-    IfOk-weaker c.lay.result (IsLaidOf p b) (IsLaidFor s b) (laid_lean s l b p plan) c.lay.ensures.ok
-
-pub returns-clause-narrow : goal.returns-clause-narrow
-returns-clause-narrow c =
-    let s = c.args.graph.now in let l = c.args.lean.now in let b = c.args.budget.now in let p = c.in_ok-planned.planned in
-    let e = c.in_ok-planned.ensures in
-    let plan : IsLeanPlan s l b p = record { lean = c.requires.lean; ports = e.ports; clean = e.clean; within = e.within; narrow = e.narrow } in
-    IfOk-weaker c.lay.result (IsLaidOf p b) (λ (laid : LaidView). AreNarrow laid.circuit.gates)
-    (λ laid is. laid_narrow s l b p plan laid c.narrow_stay.ensures is) c.lay.ensures.ok
+    IfOk-weaker c.lay_narrow.result (IsLaidAsIs p b) (IsLaidNarrow s b) (laid_lean s l b p plan) c.lay_narrow.ensures.ok
 
 pub returns-clause-refused : goal.returns-clause-refused
 returns-clause-refused c =
     let s = c.args.graph.now in let l = c.args.lean.now in let b = c.args.budget.now in let p = c.in_ok-planned.planned in
     let e = c.in_ok-planned.ensures in
     let plan : IsLeanPlan s l b p = record { lean = c.requires.lean; ports = e.ports; clean = e.clean; within = e.within; narrow = e.narrow } in
-    ready_refused s l b p plan c.lay.result c.lay.ensures.refused
+    memory_wanted c.lay_narrow.result (IsReadyFault l b) (lean_ports s l b p plan) c.lay_narrow.ensures.memory

@@ -1,0 +1,17 @@
+use Rattle.std.proofs.lemmas.Result.{IfOk-weaker}
+use Rattle.plan_choice.specs.inside.Tried.{IsLaidAsIs, IsLaidOf}
+use Rattle.plan_choice.proofs.SplitLemmas.{as_is, narrow_are_roomy, narrow_refused}
+use Rattle.plan_choice.proofs.laying.lay_narrow.Goals as goal
+
+pub lay-requires-clause-roomy : goal.lay-requires-clause-roomy
+lay-requires-clause-roomy c = narrow_are_roomy _ _ (rw c.circuit.ensures.circuit at c.lines.ensures.gates) c.requires.narrow
+
+pub returns-clause-ok : goal.returns-clause-ok
+returns-clause-ok c =
+    let p = c.args.planned.now in let b = c.args.budget.now in
+    IfOk-weaker c.lay.result (IsLaidOf p b) (IsLaidAsIs p b) (λ laid is. as_is b p laid c.narrow_stay.ensures c.requires.narrow c.requires.within is)
+    c.lay.ensures.ok
+
+pub returns-clause-memory : goal.returns-clause-memory
+returns-clause-memory c =
+    narrow_refused c.args.planned.now c.args.budget.now c.lay.result c.requires.narrow c.requires.within c.lay.ensures.refused
