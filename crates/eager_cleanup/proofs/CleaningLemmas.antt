@@ -68,7 +68,8 @@ taken_own : (lines : List (Option ℕ)) (held : Option ℕ) (own line : ℕ) (af
     → after ≡ None
 taken_own lines held own line after e takes = (subst (λ (x : Option ℕ). TakesLine lines x line after) e takes).1
 
-pub toggled_back : (s : SettledView) (value : Option Polynomial) (f next : ForwardView) (k : ℕ) → IsSettled s → f.graph ≡ plain_of s → IsForward f → IsForward next → is_held f.lines k ≡ true
+pub toggled_back : (s : SettledView) (value : Option Polynomial) (f next : ForwardView) (k : ℕ) → IsSettled s → f.graph ≡ plain_of s → IsForward f
+    → IsForward next → is_held f.lines k ≡ true
     → IsToggled f k next → IsCleaned value f k next
 toggled_back s value f next k settled graph is forward held toggled =
     let own = held_own f.lines k held in
@@ -87,7 +88,8 @@ some_cost : (n : ℕ) (value : Option Polynomial) → 2 ≤ cleaning_gates n val
 some_cost n None = omega arith
 some_cost n (Some p) = omega arith
 
-pub toggle_back_fault : (s : SettledView) (value : Option Polynomial) (f : ForwardView) (k : ℕ) (fault : PlanFault) → f.graph ≡ plain_of s → IsForward f → is_held f.lines k ≡ true
+pub toggle_back_fault : (s : SettledView) (value : Option Polynomial) (f : ForwardView) (k : ℕ) (fault : PlanFault) → f.graph ≡ plain_of s → IsForward f
+    → is_held f.lines k ≡ true
     → IsToggleFault f k fault → IsCleaningFault value f k fault
 toggle_back_fault s value f k (Lines need) graph is held fault = absurd (true≢false (sym held ∙ fault.0.free))
 toggle_back_fault s value f k Gates graph is held fault = record {
@@ -110,7 +112,8 @@ inputs_below n p cubes over stand = AllByRecursion-weaker (AllByRecursion (λ (l
     (λ cube all. AllByRecursion-weaker (λ (l : Literal). StandsIn p l.input) (λ (l : Literal). l.input < n)
     (λ l stands. stands_below n p l.input over stands) cube all) cubes stand
 
-pub can_clear : (s : SettledView) (f : ForwardView) (k : ℕ) (p : Polynomial) (cubes : List (List Literal)) → f.graph ≡ plain_of s → IsKnownPolynomial s k p → is_held f.lines k ≡ true
+pub can_clear : (s : SettledView) (f : ForwardView) (k : ℕ) (p : Polynomial) (cubes : List (List Literal)) → f.graph ≡ plain_of s → IsKnownPolynomial s k p
+    → is_held f.lines k ≡ true
     → IsExclusiveSumOf p cubes → CanClear f k cubes
 can_clear s f k p cubes graph known held sum = record {
   held = held;

@@ -55,27 +55,31 @@ settled_of s b count used f is = is.settled
 
 -- ---- the cleaning of an operand
 
--- where an operand is not used for the last time, nothing is waiting for it
-not_last : (s : SettledView) (b : BudgetView) (user : ℕ) (base : Base) (rest : List Base) (f : ForwardView)
-    → IsSwept s b (user + 1) (base ∷ rest) f → ((k : ℕ) → ¬ IsLastUse s user base k) → IsSwept s b (user + 1) rest f
-not_last s b user base rest f is unused = record {
+-- the same nodes are held, where all that wait are among these too
+swept_for : (s : SettledView) (b : BudgetView) (count : ℕ) (used other : List Base) (f : ForwardView) → IsSwept s b count used f
+    → ((k : ℕ) → IsWaiting s count used k → IsAmong (bases.Node k) other) → IsSwept s b count other f
+swept_for s b count used other f is waits = record {
   settled = is.settled;
   forward = is.forward;
   graph = is.graph;
   budget = is.budget;
   behind = is.behind;
   needed = is.needed;
-  cleaned = λ none k held early. (let waits = is.cleaned none k held early in record {
-    last = waits.last;
-    among = elim waits.among as (λ _. IsAmong (bases.Node k) rest) [
-      | inl e ↦ absurd (unused k (record { is = sym e; last = omega (arith, waits.last) }))
-      | inr later ↦ later
-    ];
-  });
+  cleaned = λ none k held early. let waiting = is.cleaned none k held early in record { last = waiting.last; among = waits k waiting };
   most = is.most;
   few = is.few;
   gates = is.gates;
 }
+
+-- where an operand is not used for the last time, nothing is waiting for it
+not_last : (s : SettledView) (b : BudgetView) (user : ℕ) (base : Base) (rest : List Base) (f : ForwardView)
+    → IsSwept s b (user + 1) (base ∷ rest) f → ((k : ℕ) → ¬ IsLastUse s user base k) → IsSwept s b (user + 1) rest f
+not_last s b user base rest f is unused =
+    swept_for s b (user + 1) (base ∷ rest) rest f is
+    (λ k waits. elim waits.among as (λ _. IsAmong (bases.Node k) rest) [
+      | inl e ↦ absurd (unused k (record { is = sym e; last = omega (arith, waits.last) }))
+      | inr later ↦ later
+    ])
 
 last_cleaned : (s : SettledView) (b : BudgetView) (known : List (Option Polynomial)) (user k : ℕ) (base : Base) (rest : List Base) (f next : ForwardView)
     → AreFirstValues s user known → IsSwept s b (user + 1) (base ∷ rest) f → user < length s.nodes → k < user → IsLastUse s user base k
@@ -264,24 +268,12 @@ can_clean s b user node f made is =
 -- two operands in another order
 swept_turned : (s : SettledView) (b : BudgetView) (count : ℕ) (x y : Base) (f : ForwardView) → IsSwept s b count (x ∷ y ∷ []) f
     → IsSwept s b count (y ∷ x ∷ []) f
-swept_turned s b count x y f is = record {
-  settled = is.settled;
-  forward = is.forward;
-  graph = is.graph;
-  budget = is.budget;
-  behind = is.behind;
-  needed = is.needed;
-  cleaned = λ none k held early. (let waits = is.cleaned none k held early in record {
-    last = waits.last;
-    among = elim waits.among as (λ _. IsAmong (bases.Node k) (y ∷ x ∷ [])) [
+swept_turned s b count x y f is =
+    swept_for s b count (x ∷ y ∷ []) (y ∷ x ∷ []) f is
+    (λ k waits. elim waits.among as (λ _. IsAmong (bases.Node k) (y ∷ x ∷ [])) [
       | inl e ↦ inr (inl e)
       | inr later ↦ elim later as (λ _. IsAmong (bases.Node k) (y ∷ x ∷ [])) [ inl e ↦ inl e | inr none ↦ absurd none ]
-    ];
-  });
-  most = is.most;
-  few = is.few;
-  gates = is.gates;
-}
+    ])
 
 in_turn : (s : SettledView) (b : BudgetView) (user : ℕ) (turned : Bool) (x y : Base) (f : ForwardView) → CanClean s b user (x ∷ y ∷ []) f
     → CanClean s b user (cond turned y x ∷ cond turned x y ∷ []) f

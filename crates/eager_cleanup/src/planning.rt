@@ -3,7 +3,7 @@ ghost use Rattle.std.specs.Prelude.{◌≡◌, ◌+◌, ◌<◌, [], length, IfO
 ghost use Rattle.std.specs.List.{AllByRecursion};
 ghost use Rattle.claim_check.specs.Settled.{settled_outputs};
 ghost use Rattle.eager_cleanup.specs.Eager.{IsEagerFault, IsWithinEager};
-ghost use Rattle.eager_cleanup.specs.inside.Known.{AreFirstValues, AreInputValues};
+ghost use Rattle.eager_cleanup.specs.inside.Known.{AreFirstValues};
 ghost use Rattle.eager_cleanup.specs.inside.Sweeps.{IsSwept};
 ghost use Rattle.gate_split.specs.Costs.{IsRoomyFlip};
 ghost use Rattle.circuit_plans.specs.Plans.{MapsCleanly};
@@ -58,7 +58,11 @@ pub fn plan(
 
 // Takes the nodes in order. The value of each is worked out behind its gates, and kept up to its
 // last use.
-fn swept<'s>(alloc: Global, forward: Forward<'s>, graph: &Settled) -> Result<Forward<'s>, PlanFault>
+fn swept<'s>(
+    alloc: Global,
+    mut forward: Forward<'s>,
+    graph: &Settled,
+) -> Result<Forward<'s>, PlanFault>
     requires begun { IsSwept graph.now forward.budget 0 [] forward }
     ensures swept { IfOk result (IsSwept graph.now forward.entry.budget
         (length graph.now.nodes) []) }
@@ -66,28 +70,9 @@ fn swept<'s>(alloc: Global, forward: Forward<'s>, graph: &Settled) -> Result<For
 {
     let inputs = input_values(alloc, graph.inputs())?;
     let mut known = Vec::new(alloc);
-    swept_on(alloc, forward, graph, &inputs, &mut known)
-}
-
-// Takes the nodes in order, by these values of the inputs and of no node yet.
-fn swept_on<'s>(
-    alloc: Global,
-    mut forward: Forward<'s>,
-    graph: &Settled,
-    inputs: &[Poly],
-    known: &mut Vec<Option<Poly>>,
-) -> Result<Forward<'s>, PlanFault>
-    requires begun { IsSwept graph.now forward.budget 0 [] forward }
-    requires inputs { AreInputValues inputs.now }
-    requires count { length inputs.now ≡ graph.now.inputs }
-    requires none { known.old.items ≡ [] }
-    ensures swept { IfOk result (IsSwept graph.now forward.entry.budget
-        (length graph.now.nodes) []) }
-    ensures refused { IfErr result (IsEagerFault graph.now forward.entry.budget) }
-{
     for node in 0..graph.nodes() {
-        forward = advanced(alloc, forward, graph, known, node)?;
-        add_value(known, inputs, graph, node)?;
+        forward = advanced(alloc, forward, graph, &known, node)?;
+        add_value(&mut known, &inputs, graph, node)?;
     }
     Ok(forward)
 }

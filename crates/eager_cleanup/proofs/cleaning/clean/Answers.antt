@@ -21,7 +21,8 @@ returns-then-are_ready-clause-ok c =
     let f = c.args.forward in
     let k = c.args.k in
     both_ok c.toggle.result (IsToggled f k) IsForward (IsCleaned c.args.value.now f k)
-    (λ next toggled forward. toggled_back c.args.graph.now c.args.value.now f next k c.requires.settled c.requires.graph c.requires.keeps forward c.requires.held toggled)
+    (λ next toggled forward. toggled_back c.args.graph.now c.args.value.now f next k c.requires.settled c.requires.graph c.requires.keeps forward
+    c.requires.held toggled)
     c.toggle.ensures.ok c.toggle.ensures.keeps
 
 pub returns-then-are_ready-clause-refused : goal.returns-then-are_ready-clause-refused

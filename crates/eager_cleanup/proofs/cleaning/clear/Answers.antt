@@ -9,7 +9,8 @@ use Rattle.eager_cleanup.proofs.cleaning.clear.Goals as goal
 pub clear-requires : goal.clear-requires
 clear-requires c =
     rw c.deref.ensures.value
-    (can_clear c.args.graph.now c.args.forward c.args.k c.args.poly.now c.in_ok-cubes.cubes.items c.requires.graph c.requires.value c.requires.held c.in_ok-cubes.ensures.sum)
+    (can_clear c.args.graph.now c.args.forward c.args.k c.args.poly.now c.in_ok-cubes.cubes.items c.requires.graph c.requires.value c.requires.held
+    c.in_ok-cubes.ensures.sum)
 
 pub returns-clause-ok : goal.returns-clause-ok
 returns-clause-ok c =
@@ -30,4 +31,5 @@ returns-clause-refused c =
     let cubes = c.in_ok-cubes.cubes.items in
     let refused = rw c.deref.ensures.value at c.clear.ensures.refused in
     IfErr-weaker c.clear.result (IsClearFault f k cubes) (IsCleaningFault (Some p) f k)
-    (λ fault is. clear_fault c.args.graph.now f k p cubes fault c.requires.graph c.requires.keeps c.requires.held c.requires.value c.in_ok-cubes.ensures.sum is) refused
+    (λ fault is. clear_fault c.args.graph.now f k p cubes fault c.requires.graph c.requires.keeps c.requires.held c.requires.value c.in_ok-cubes.ensures.sum is)
+    refused
