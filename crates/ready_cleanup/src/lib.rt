@@ -1,5 +1,5 @@
-//! The ready plan: each node is computed once, and cleaned as soon as it was used for the last time,
-//! where all that it is made of still stands on lines.
+//! The ready plan: each node is computed once, and cleaned as soon as it was used for the last
+//! time, where all that it is made of still stands on lines.
 #![tactic(auto)]
 
 mod cleaning;

@@ -23,9 +23,9 @@ use sum_graph::SumGraph;
 /// # Errors
 ///
 /// `Lines` only where the budget does not have a line for each input, output, node and borrowed
-/// bit, `Gates` only where it has fewer than four toggles of each node and one of each output weigh.
-/// `need` is the number of inputs, outputs and borrowed lines where that passes the budget, and one
-/// line more than the budget otherwise.
+/// bit, `Gates` only where it has fewer than four toggles of each node and one of each output
+/// weigh. `need` is the number of inputs, outputs and borrowed lines where that passes the budget,
+/// and one line more than the budget otherwise.
 pub fn plan(alloc: Global, graph: &SumGraph, budget: &Budget) -> Result<Planned, PlanFault>
     ensures ports { IfOk result (HasPorts graph.now) }
     ensures clean { IfOk result (λ planned. MapsCleanly (roles_of_plan planned)
