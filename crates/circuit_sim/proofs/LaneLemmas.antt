@@ -83,25 +83,29 @@ changed-long mask first second plane m f s p =
     zip2-long bit_xor plane (zip2 bit_and (zip2 bit_xor first second) mask) p
     (zip2-long bit_and (zip2 bit_xor first second) mask (zip2-long bit_xor first second f s) m)
 
+-- a plane that is chosen in each lane is chosen
+chosen_by : (mask first second plane there : List ℕ) → length mask ≡ 8 → length first ≡ 8 → length second ≡ 8 → length plane ≡ 8
+    → ((number : ℕ) → IsChosen (get_or mask number 0) (get_or there number 0) (get_or plane number 0)
+    (bit_xor (get_or plane number 0) (bit_and (bit_xor (get_or first number 0) (get_or second number 0)) (get_or mask number 0))))
+    → IsChosenInLanes mask there plane (zip2 bit_xor plane (zip2 bit_and (zip2 bit_xor first second) mask))
+chosen_by mask first second plane there m f s p chosen = record {
+  long = changed-long mask first second plane m f s p;
+  each = λ number low.
+      subst (IsChosen (get_or mask number 0) (get_or there number 0) (get_or plane number 0))
+      (sym (changed-lane mask first second plane number m f s p low)) (chosen number);
+}
+
 pub chosen_firsts : (mask first second : List ℕ) → (length first ≡ 8) × (length second ≡ 8) × (length mask ≡ 8)
     → IsChosenInLanes mask second first (zip2 bit_xor first (zip2 bit_and (zip2 bit_xor first second) mask))
-chosen_firsts mask first second long = record {
-  long = changed-long mask first second first long.2 long.0 long.1 long.0;
-  each = λ number low.
-      subst (IsChosen (get_or mask number 0) (get_or second number 0) (get_or first number 0))
-      (sym (changed-lane mask first second first number long.2 long.0 long.1 long.0 low))
-      (chosen_first (get_or mask number 0) (get_or first number 0) (get_or second number 0));
-}
+chosen_firsts mask first second long =
+    chosen_by mask first second first second long.2 long.0 long.1 long.0
+    (λ number. chosen_first (get_or mask number 0) (get_or first number 0) (get_or second number 0))
 
 pub chosen_seconds : (mask first second : List ℕ) → (length first ≡ 8) × (length second ≡ 8) × (length mask ≡ 8)
     → IsChosenInLanes mask first second (zip2 bit_xor second (zip2 bit_and (zip2 bit_xor first second) mask))
-chosen_seconds mask first second long = record {
-  long = changed-long mask first second second long.2 long.0 long.1 long.1;
-  each = λ number low.
-      subst (IsChosen (get_or mask number 0) (get_or first number 0) (get_or second number 0))
-      (sym (changed-lane mask first second second number long.2 long.0 long.1 long.1 low))
-      (chosen_second (get_or mask number 0) (get_or first number 0) (get_or second number 0));
-}
+chosen_seconds mask first second long =
+    chosen_by mask first second second first long.2 long.0 long.1 long.1
+    (λ number. chosen_second (get_or mask number 0) (get_or first number 0) (get_or second number 0))
 
 -- ---- the mask of the controls
 

@@ -1,10 +1,10 @@
 // Any number of contents of the lines, as many at a time as there are places for.
-ghost use Rattle.std.specs.Prelude.{◌≡◌, ◌<◌, ◌≤◌, length, map, OnOk, OnErr};
+ghost use Rattle.std.specs.Prelude.{◌≡◌, ◌<◌, ◌≤◌, length, map, IfOk, OnOk, OnErr};
 ghost use Rattle.mct_circuit.specs.Gates.{line_map};
 ghost use Rattle.circuit_sim.specs.Planes.{AreVectors};
 ghost use Rattle.circuit_sim.specs.Rows.{AreRows, contents};
 ghost use Rattle.circuit_sim.specs.declared.rows.TheConstants.{LANE_ROWS, MOST_ROWS};
-ghost use Rattle.circuit_sim.specs.inside.Loaded.{IsFrontChanged};
+ghost use Rattle.circuit_sim.specs.inside.Loaded.{AreRun, IsFrontChanged, IsRoom};
 
 use crate::lanes::{run_lanes, run_pair};
 use crate::packing::{PLANE_ROWS, load, load_lanes, store, store_lanes};
@@ -31,83 +31,81 @@ pub fn run_all(alloc: Global, circuit: &Circuit, rows: &mut [Vec<bool>]) -> Resu
     ensures err { OnErr result (rows.new ≡ rows.old) }
     ensures fit { AreRows circuit.now.lines rows.new }
 {
-    let lines = circuit.lines() as usize;
-    let mut planes = vec![in alloc; 0; lines]?;
-    let mut first = vec![in alloc; u64x8::splat(0); lines]?;
-    let mut second = vec![in alloc; u64x8::splat(0); lines]?;
-    run_groups(circuit, &mut first, &mut second, &mut planes, rows);
+    let mut room = Room::new(alloc, circuit.lines())?;
+    run_groups(circuit, &mut room, rows);
     Ok(())
 }
 
-fn run_groups(
-    circuit: &Circuit,
-    first: &mut [u64x8],
-    second: &mut [u64x8],
-    planes: &mut [u64],
-    rows: &mut [Vec<bool>],
-)
-    requires planes { length planes.old ≡ circuit.now.lines }
-    requires lines { (length first.old ≡ circuit.now.lines)
-        × (length second.old ≡ circuit.now.lines) }
-    requires vectors { AreVectors first.old × AreVectors second.old }
+// What rows go through: two vectors of planes and a plane for each line.
+#[derive(Drop)]
+pub struct Room {
+    first: Vec<u64x8>,
+    second: Vec<u64x8>,
+    planes: Vec<u64>,
+}
+
+impl Room {
+    fn new(alloc: Global, lines: u32) -> Result<Room, Memory>
+        ensures { IfOk result (IsRoom lines) }
+    {
+        let lines = lines as usize;
+        let planes = vec![in alloc; 0; lines]?;
+        let first = vec![in alloc; u64x8::splat(0); lines]?;
+        let second = vec![in alloc; u64x8::splat(0); lines]?;
+        Ok(Room {
+            first,
+            second,
+            planes,
+        })
+    }
+}
+
+fn run_groups(circuit: &Circuit, room: &mut Room, rows: &mut [Vec<bool>])
+    requires room { IsRoom circuit.now.lines room.old }
     requires fit { AreRows circuit.now.lines rows.old }
-    ensures rows { contents rows.new ≡ map (line_map circuit.now.gates) (contents rows.old) }
-    ensures fit { AreRows circuit.now.lines rows.new }
+    ensures { AreRun circuit.now rows.old rows.new }
 {
     let mut start = 0;
     'groups: while start < rows.len() {
-        start += run_group(circuit, first, second, planes, &mut rows[start..]);
+        start += run_group(circuit, room, &mut rows[start..]);
     }
 }
 
 // Runs the circuit on the rows at the front that go at once, and says how many those are.
-fn run_group(
-    circuit: &Circuit,
-    first: &mut [u64x8],
-    second: &mut [u64x8],
-    planes: &mut [u64],
-    rows: &mut [Vec<bool>],
-) -> usize
+fn run_group(circuit: &Circuit, room: &mut Room, rows: &mut [Vec<bool>]) -> usize
     requires some { 0 < length rows.old }
-    requires planes { length planes.old ≡ circuit.now.lines }
-    requires lines { (length first.old ≡ circuit.now.lines)
-        × (length second.old ≡ circuit.now.lines) }
-    requires vectors { AreVectors first.old × AreVectors second.old }
+    requires room { IsRoom circuit.now.lines room.old }
     requires fit { AreRows circuit.now.lines rows.old }
     ensures rows { IsFrontChanged (line_map circuit.now.gates) result
         (contents rows.old) (contents rows.new) }
-    ensures vectors { AreVectors first.new × AreVectors second.new }
     ensures fit { AreRows circuit.now.lines rows.new }
+    ensures room { IsRoom circuit.now.lines room.new }
 {
     let count = rows.len().min(MOST_ROWS);
-    run_at_once(circuit, first, second, planes, &mut rows[..count]);
+    run_at_once(circuit, room, &mut rows[..count]);
     count
 }
 
 // Runs the circuit on rows by what holds them all.
-fn run_at_once(
-    circuit: &Circuit,
-    first: &mut [u64x8],
-    second: &mut [u64x8],
-    planes: &mut [u64],
-    rows: &mut [Vec<bool>],
-)
+fn run_at_once(circuit: &Circuit, room: &mut Room, rows: &mut [Vec<bool>])
     requires few { length rows.old ≤ MOST_ROWS }
-    requires planes { length planes.old ≡ circuit.now.lines }
-    requires lines { (length first.old ≡ circuit.now.lines)
-        × (length second.old ≡ circuit.now.lines) }
-    requires vectors { AreVectors first.old × AreVectors second.old }
+    requires room { IsRoom circuit.now.lines room.old }
     requires fit { AreRows circuit.now.lines rows.old }
-    ensures rows { contents rows.new ≡ map (line_map circuit.now.gates) (contents rows.old) }
-    ensures vectors { AreVectors first.new × AreVectors second.new }
-    ensures fit { AreRows circuit.now.lines rows.new }
+    ensures run { AreRun circuit.now rows.old rows.new }
+    ensures room { IsRoom circuit.now.lines room.new }
 {
     if rows.len() <= PLANE_ROWS {
-        run_by_planes(circuit, planes, rows);
+        run_by_planes(circuit, &mut room.planes, rows);
     } else if rows.len() <= LANE_ROWS {
-        run_by_lanes(circuit, first, planes, rows);
+        run_by_lanes(circuit, &mut room.first, &mut room.planes, rows);
     } else {
-        run_by_pair(circuit, first, second, planes, rows);
+        run_by_pair(
+            circuit,
+            &mut room.first,
+            &mut room.second,
+            &mut room.planes,
+            rows,
+        );
     }
 }
 
@@ -115,8 +113,7 @@ fn run_by_planes(circuit: &Circuit, planes: &mut [u64], rows: &mut [Vec<bool>])
     requires few { length rows.old ≤ 64 }
     requires planes { length planes.old ≡ circuit.now.lines }
     requires fit { AreRows circuit.now.lines rows.old }
-    ensures rows { contents rows.new ≡ map (line_map circuit.now.gates) (contents rows.old) }
-    ensures fit { AreRows circuit.now.lines rows.new }
+    ensures { AreRun circuit.now rows.old rows.new }
 {
     load(planes, rows);
     run_planes(circuit, planes);
@@ -134,9 +131,8 @@ fn run_by_lanes(
     requires lines { length vectors.old ≡ circuit.now.lines }
     requires vectors { AreVectors vectors.old }
     requires fit { AreRows circuit.now.lines rows.old }
-    ensures rows { contents rows.new ≡ map (line_map circuit.now.gates) (contents rows.old) }
+    ensures run { AreRun circuit.now rows.old rows.new }
     ensures vectors { AreVectors vectors.new }
-    ensures fit { AreRows circuit.now.lines rows.new }
 {
     load_lanes(vectors, planes, rows);
     run_lanes(circuit, vectors);
@@ -157,9 +153,8 @@ fn run_by_pair(
         × (length second.old ≡ circuit.now.lines) }
     requires vectors { AreVectors first.old × AreVectors second.old }
     requires fit { AreRows circuit.now.lines rows.old }
-    ensures rows { contents rows.new ≡ map (line_map circuit.now.gates) (contents rows.old) }
+    ensures run { AreRun circuit.now rows.old rows.new }
     ensures vectors { AreVectors first.new × AreVectors second.new }
-    ensures fit { AreRows circuit.now.lines rows.new }
 {
     let (front, behind) = rows.split_at_mut(LANE_ROWS);
     load_lanes(first, planes, front);

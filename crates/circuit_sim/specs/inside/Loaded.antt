@@ -1,6 +1,10 @@
 -- Rows of bits on planes: each row stands at a place of its own.
 use Rattle.std.specs.Prelude.{◌≡◌, ◌≢◌, ℕ, ◌+◌, ◌*◌, ◌<◌, ◌≤◌, Bool, List, [], ◌++◌, length, map, take, drop, slice_index_or}
+use Rattle.std.specs.Global.{Vec}
+use Rattle.mct_circuit.specs.Gates.{CircuitView, line_map}
+use Rattle.circuit_sim.specs.declared.rows.Room.{Room}
 use Rattle.circuit_sim.specs.Planes.{AreVectors, plane_bit, column, lane}
+use Rattle.circuit_sim.specs.Rows.{AreRows, contents}
 
 -- a plane with one bit set
 pub record IsWithBit (place : ℕ) (bit : Bool) (before behind : ℕ) : Type 0 where
@@ -36,3 +40,14 @@ pub record IsFrontChanged (f : List Bool → List Bool) (count : ℕ)
   pub some : 0 < count
   pub few : count ≤ length before
   pub rows : behind ≡ map f (take count before) ++ drop count before
+
+-- the rows have gone through the circuit
+pub record AreRun (c : CircuitView) (before behind : List (Vec Bool)) : Type 0 where
+  pub rows : contents behind ≡ map (line_map c.gates) (contents before)
+  pub fit : AreRows c.lines behind
+
+-- two vectors and a plane for each line
+pub record IsRoom (lines : ℕ) (room : Room) : Type 0 where
+  pub lengths : (length room.first.items ≡ lines) × (length room.second.items ≡ lines)
+  pub planes : length room.planes.items ≡ lines
+  pub vectors : AreVectors room.first.items × AreVectors room.second.items

@@ -8,8 +8,8 @@ run_at_once-requires-clause-fit c = front_fits _ c.min-count.result c.args.rows.
 pub returns-clause-rows : goal.returns-clause-rows
 returns-clause-rows c =
     front_changed _ c.min-count.result c.args.rows.now c.run_at_once.new.rows (omega (arith, c.min-count.ensures)) (omega (arith, c.min-count.ensures))
-    c.run_at_once.ensures.rows
+    c.run_at_once.ensures.run.rows
 
 pub returns-clause-fit : goal.returns-clause-fit
 returns-clause-fit c =
-    joined_fits _ c.run_at_once.new.rows _ c.run_at_once.ensures.fit (behind_fits _ c.min-count.result c.args.rows.now c.requires.fit)
+    joined_fits _ c.run_at_once.new.rows _ c.run_at_once.ensures.run.fit (behind_fits _ c.min-count.result c.args.rows.now c.requires.fit)

@@ -6,5 +6,5 @@ groups-preserved c = record {
   rows = groups_more _ c.groups.start c.run_group-start.result _ c.groups.rows c.run_group-start.new.rows c.groups.invariant.rows
       c.run_group-start.ensures.rows;
   fit = groups_fit _ c.groups.start c.groups.rows c.run_group-start.new.rows c.groups.invariant.fit c.run_group-start.ensures.fit;
-  vectors = c.run_group-start.ensures.vectors;
+  room = c.run_group-start.ensures.room;
 }
