@@ -1,7 +1,7 @@
 -- The texts of all kinds, line by line. Numbers have n bits, whose places are counted from the least bit.
 use Rattle.std.specs.Prelude.{ℕ, zero, suc, ◌+◌, ◌-◌, Bool, true, false, List, [], ◌∷◌, ◌++◌, length, codes, decimal}
 use Rattle.std.specs.List.{flat_map, range_with_len}
-use Rattle.program_gen.specs.Adder.{line, parameters, carry_function, adder_text}
+use Rattle.program_gen.specs.Adder.{line, bit_line, next_line, parameters, carry_function, adder_text}
 use Rattle.arith_templates.specs.Numbers.{digits_of}
 use Rattle.arith_templates.specs.declared.kind.Kind.{Kind}
 use Rattle.arith_templates.specs.declared.kind.Kind.TheVariants.{Add, Sub, Less, Inc, Mul}
@@ -38,13 +38,11 @@ first_borrow = line (codes "let c1 = (true <> a.[0]) && b.[0];" ∷ [])
 
 -- the difference of a place above 0
 unfoldable pub difference_line : ℕ → List ℕ
-difference_line i = line (codes "let d" ∷ decimal i ∷ codes " = a.[" ∷ decimal i ∷ codes "] <> b.["
-    ∷ decimal i ∷ codes "] <> c" ∷ decimal i ∷ codes ";" ∷ [])
+difference_line i = bit_line (codes "d") (codes "a") (codes "b") i
 
 -- the borrow out of a place above 0
 unfoldable pub borrow_line : ℕ → List ℕ
-borrow_line i = line (codes "let c" ∷ decimal (i + 1) ∷ codes " = lend a.[" ∷ decimal i
-    ∷ codes "] b.[" ∷ decimal i ∷ codes "] c" ∷ decimal i ∷ codes ";" ∷ [])
+borrow_line i = next_line (codes "lend") (codes "a") (codes "b") i
 
 -- a place above 0
 abbrev pub difference_place : ℕ → List ℕ
@@ -102,13 +100,11 @@ first_plus =
 
 -- the sum of a place above 0
 unfoldable pub plus_sum_line : ℕ → List ℕ
-plus_sum_line i = line (codes "let s" ∷ decimal i ∷ codes " = p.[" ∷ decimal i ∷ codes "] <> q.["
-    ∷ decimal i ∷ codes "] <> c" ∷ decimal i ∷ codes ";" ∷ [])
+plus_sum_line i = bit_line (codes "s") (codes "p") (codes "q") i
 
 -- the carry out of a place above 0
 unfoldable pub plus_carry_line : ℕ → List ℕ
-plus_carry_line i = line (codes "let c" ∷ decimal (i + 1) ∷ codes " = carry p.[" ∷ decimal i
-    ∷ codes "] q.[" ∷ decimal i ∷ codes "] c" ∷ decimal i ∷ codes ";" ∷ [])
+plus_carry_line i = next_line (codes "carry") (codes "p") (codes "q") i
 
 -- a place above 0
 abbrev pub plus_place : ℕ → List ℕ

@@ -7,6 +7,22 @@ abbrev pub line : List (List ℕ) → List ℕ
 line [] = 10 ∷ []
 line (piece ∷ pieces) = piece ++ line pieces
 
+-- ---- two numbers of any names
+
+-- the bit of a place above 0: where the two numbers' bits differ, and what comes into the place
+abbrev pub bit_line : List ℕ → List ℕ → List ℕ → ℕ → List ℕ
+bit_line letter first second i = line (codes "let " ∷ letter ∷ decimal i ∷ codes " = "
+    ∷ first ∷ codes ".[" ∷ decimal i ∷ codes "] <> "
+    ∷ second ∷ codes ".[" ∷ decimal i ∷ codes "] <> c" ∷ decimal i ∷ codes ";" ∷ [])
+
+-- what goes out of a place above 0, by a function of the two bits and of what comes in
+abbrev pub next_line : List ℕ → List ℕ → List ℕ → ℕ → List ℕ
+next_line function first second i = line (codes "let c" ∷ decimal (i + 1) ∷ codes " = "
+    ∷ function ∷ codes " " ∷ first ∷ codes ".[" ∷ decimal i ∷ codes "] "
+    ∷ second ∷ codes ".[" ∷ decimal i ∷ codes "] c" ∷ decimal i ∷ codes ";" ∷ [])
+
+-- ---- the adder
+
 -- the parameters: the two numbers
 unfoldable pub parameters : ℕ → List ℕ
 parameters n = line (codes "main (a : bool[" ∷ decimal n ∷ codes "]) (b : bool[" ∷ decimal n
@@ -23,13 +39,11 @@ first_place =
 
 -- the sum of a place above 0
 unfoldable pub sum_line : ℕ → List ℕ
-sum_line i = line (codes "let s" ∷ decimal i ∷ codes " = a.[" ∷ decimal i ∷ codes "] <> b.["
-    ∷ decimal i ∷ codes "] <> c" ∷ decimal i ∷ codes ";" ∷ [])
+sum_line i = bit_line (codes "s") (codes "a") (codes "b") i
 
 -- the carry out of a place above 0
 unfoldable pub carry_line : ℕ → List ℕ
-carry_line i = line (codes "let c" ∷ decimal (i + 1) ∷ codes " = carry a.[" ∷ decimal i
-    ∷ codes "] b.[" ∷ decimal i ∷ codes "] c" ∷ decimal i ∷ codes ";" ∷ [])
+carry_line i = next_line (codes "carry") (codes "a") (codes "b") i
 
 -- a place above 0
 abbrev pub place : ℕ → List ℕ
