@@ -16,7 +16,8 @@ use Rattle.dependency_graph.specs.declared.node.Sig.{Sig}
 use Rattle.dependency_graph.specs.declared.node.Sig.TheVariants.{Const, Is}
 use Rattle.dependency_graph.specs.Graphs.{GraphView, base_of, node_of, nodes_among, operands, steps_of, output_nodes}
 use Rattle.dependency_graph.specs.Uses.{last_use, last_uses_of}
-use Rattle.dependency_graph.specs.inside.Tables.{with_use, with_uses, with_steps, with_outputs}
+use Rattle.dependency_graph.specs.Uses.{with_use}
+use Rattle.dependency_graph.specs.inside.Tables.{with_uses, with_steps, with_outputs}
 use Rattle.dependency_graph.proofs.UseLemmas.{last_before, last_more, filter_push, later_needed, needed_later}
 
 -- ---- lists of numbers below a bound

@@ -1,9 +1,11 @@
 -- Last uses in a list of steps. A step is the list of its operands, as in the cuts of a tape.
-use Rattle.std.specs.Prelude.{◌↔◌, ℕ, ◌<◌, ◌≤◌, cond, List}
-use Rattle.std.specs.Prelude.{[], ◌∷◌, length, map, filter, slice_index_or}
+use Rattle.std.specs.Prelude.{◌≡◌, ◌↔◌, ℕ, ◌<◌, ◌≤◌, cond, List}
+use Rattle.std.specs.Prelude.{[], ◌∷◌, length, map, filter, slice_index_or, slice_set}
 use Rattle.list_facts.specs.Lists.{IsAmong, below}
 use Rattle.revs_tape.specs.Cuts.{is_in, cut_at}
-use Rattle.dependency_graph.specs.Graphs.{GraphView, output_nodes, steps_of}
+use Rattle.dependency_graph.specs.declared.node.Base.{Base}
+use Rattle.dependency_graph.specs.declared.node.Base.TheVariants as bases
+use Rattle.dependency_graph.specs.Graphs.{GraphView, IsGraph, output_nodes, steps_of}
 
 -- the last number of a list; the given one where there is none
 abbrev pub last_of : ℕ → List ℕ → ℕ
@@ -34,6 +36,15 @@ last_use_in g n = last_use (steps_of g) (output_nodes g) n
 -- the last use of each node, in order
 abbrev pub last_uses_of : GraphView → List ℕ
 last_uses_of g = map (last_use_in g) (below (length g.nodes))
+
+-- a table of last uses with that of this base, where the table has its place
+abbrev pub with_use : List ℕ → Base → ℕ → List ℕ
+with_use table (bases.Input i) place = table
+with_use table (bases.Node k) place = slice_set table k place
+
+-- What a graph keeps, with a table of its last uses.
+abbrev pub KeepsUses : GraphView → List ℕ → Type 0
+KeepsUses g table = IsGraph g × (table ≡ last_uses_of g)
 
 -- the cut at j: the nodes below j that are an output, or an operand of node j or of a later one
 abbrev pub cut_in : GraphView → ℕ → List ℕ

@@ -26,9 +26,8 @@ pub struct Graph {
 }
 
 impl Model for Graph {
-    ghost use Rattle.std.specs.Prelude.{◌≡◌};
-    ghost use Rattle.dependency_graph.specs.Graphs.{GraphView, IsGraph};
-    ghost use Rattle.dependency_graph.specs.Uses.{last_uses_of};
+    ghost use Rattle.dependency_graph.specs.Graphs.{GraphView};
+    ghost use Rattle.dependency_graph.specs.Uses.{KeepsUses};
 
     ghost Value = { GraphView };
 
@@ -39,17 +38,12 @@ impl Model for Graph {
       outputs = g.outputs.items;
     } };
 
-    ghost invariant = { λ g. IsGraph (record {
+    ghost invariant = { λ g. KeepsUses (record {
       inputs = g.inputs;
       nodes = g.nodes.items;
       sigs = g.sigs.items;
       outputs = g.outputs.items;
-    }) × (g.last_uses.items ≡ last_uses_of (record {
-      inputs = g.inputs;
-      nodes = g.nodes.items;
-      sigs = g.sigs.items;
-      outputs = g.outputs.items;
-    })) };
+    }) g.last_uses.items };
 }
 
 impl Graph {

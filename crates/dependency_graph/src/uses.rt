@@ -3,16 +3,15 @@ ghost use Rattle.std.specs.Prelude.{◌≡◌, ◌≤◌, [], length, IfOk};
 ghost use Rattle.list_facts.specs.Lists.{below};
 ghost use Rattle.revs_tape.specs.declared.limits.TheConstants.{MOST_WRITES};
 ghost use Rattle.dependency_graph.specs.Graphs.{operands};
-ghost use Rattle.dependency_graph.specs.Uses.{last_uses_of};
-ghost use Rattle.dependency_graph.specs.inside.Tables.{with_outputs, with_steps, with_use};
-ghost use Rattle.dependency_graph.specs.inside.Tables.{with_uses};
+ghost use Rattle.dependency_graph.specs.Uses.{last_uses_of, with_use};
+ghost use Rattle.dependency_graph.specs.inside.Tables.{with_outputs, with_steps, with_uses};
 
 use crate::{Base, Node, Sig};
 use revc_base::Memory;
 use std::alloc::Global;
 
-// Sets the last use of a base, where it is a node.
-fn set_use(table: &mut [u32], base: Base, place: u32)
+/// Sets the last use of a base in a table with a place for each node, where it is one of these.
+pub fn set_use(table: &mut [u32], base: Base, place: u32)
     ensures { table.new ≡ with_use table.old base place }
 {
     let Base::Node(n) = base else {
@@ -55,15 +54,15 @@ fn set_output_uses(table: &mut [u32], outputs: &[Sig], place: u32)
     }
 }
 
-// The numbers of so many nodes.
-fn numbers(alloc: Global, count: u32) -> Result<Vec<u32>, Memory>
-    ensures { IfOk result (λ numbers. numbers.items ≡ below count) }
+/// The table of so many nodes of which none is used: each is its own last use.
+pub fn unused(alloc: Global, count: u32) -> Result<Vec<u32>, Memory>
+    ensures { IfOk result (λ table. table.items ≡ below count) }
 {
-    let mut numbers = Vec::with_capacity(alloc, count as usize)?;
+    let mut table = Vec::with_capacity(alloc, count as usize)?;
     for n in 0..count {
-        numbers.push(n)?;
+        table.push(n)?;
     }
-    Ok(numbers)
+    Ok(table)
 }
 
 // First each node itself, then each node that has it as an operand, and at last the end where it is
@@ -75,7 +74,7 @@ fn filled_table(alloc: Global, nodes: &[Node], outputs: &[Sig]) -> Result<Vec<u3
         outputs.now (length nodes.now)) }
 {
     let count = nodes.len() as u32;
-    let mut table = numbers(alloc, count)?;
+    let mut table = unused(alloc, count)?;
     set_node_uses(&mut table, nodes);
     set_output_uses(&mut table, outputs, count);
     Ok(table)

@@ -7,7 +7,8 @@ use Rattle.list_facts.specs.Lists.{below}
 use Rattle.list_facts.proofs.OrderLemmas.{length-below}
 use Rattle.revs_tape.specs.Cuts.{is_in}
 use Rattle.dependency_graph.specs.declared.node.Base.{Base}
-use Rattle.dependency_graph.specs.inside.Tables.{with_steps, with_use, with_uses}
+use Rattle.dependency_graph.specs.Uses.{with_use}
+use Rattle.dependency_graph.specs.inside.Tables.{with_steps, with_uses}
 use Rattle.dependency_graph.proofs.TableLemmas.{at_below, bases_used, map_itself, nodes_in, steps_used}
 use Rattle.dependency_graph.proofs.UseLemmas.{last_before}
 use Rattle.bit_sums.specs.Sums.{ProductView, SumView, bases_of, product_bases}

@@ -25,9 +25,8 @@ pub struct SumGraph {
 }
 
 impl Model for SumGraph {
-    ghost use Rattle.std.specs.Prelude.{◌≡◌};
-    ghost use Rattle.sum_graph.specs.Graphs.{SumGraphView, IsSumGraph};
-    ghost use Rattle.sum_graph.specs.Uses.{sum_last_uses};
+    ghost use Rattle.sum_graph.specs.Graphs.{SumGraphView};
+    ghost use Rattle.sum_graph.specs.Uses.{KeepsSumUses};
 
     ghost Value = { SumGraphView };
 
@@ -37,15 +36,11 @@ impl Model for SumGraph {
       outputs = g.outputs.items;
     } };
 
-    ghost invariant = { λ g. IsSumGraph (record {
+    ghost invariant = { λ g. KeepsSumUses (record {
       inputs = g.inputs;
       nodes = g.nodes.items;
       outputs = g.outputs.items;
-    }) × (g.last_uses.items ≡ sum_last_uses (record {
-      inputs = g.inputs;
-      nodes = g.nodes.items;
-      outputs = g.outputs.items;
-    })) };
+    }) g.last_uses.items };
 }
 
 impl SumGraph {

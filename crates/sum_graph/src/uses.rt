@@ -3,27 +3,14 @@ ghost use Rattle.std.specs.Prelude.{◌≡◌, ◌≤◌, length, IfOk};
 ghost use Rattle.std.specs.List.{flat_map};
 ghost use Rattle.list_facts.specs.Lists.{below};
 ghost use Rattle.revs_tape.specs.declared.limits.TheConstants.{MOST_WRITES};
-ghost use Rattle.dependency_graph.specs.inside.Tables.{with_steps, with_use, with_uses};
+ghost use Rattle.dependency_graph.specs.inside.Tables.{with_steps, with_uses};
 ghost use Rattle.bit_sums.specs.Sums.{bases_of};
 ghost use Rattle.sum_graph.specs.Uses.{sum_last_uses};
 
 use bit_sums::Sum;
-use dependency_graph::Base;
+use dependency_graph::{Base, set_use, unused};
 use revc_base::Memory;
 use std::alloc::Global;
-
-// Sets the last use of a base, where it is a node.
-fn set_use(table: &mut [u32], base: Base, place: u32)
-    ensures { table.new ≡ with_use table.old base place }
-{
-    let Base::Node(n) = base else {
-        return;
-    };
-    let n = n as usize;
-    if n < table.len() {
-        table[n] = place;
-    }
-}
 
 fn set_uses(table: &mut [u32], bases: &[Base], place: u32)
     ensures { table.new ≡ with_uses table.old bases.now place }
@@ -60,17 +47,6 @@ fn set_output_uses(table: &mut [u32], outputs: &[Sum], place: u32)
     }
 }
 
-// The numbers of so many nodes.
-fn numbers(alloc: Global, count: u32) -> Result<Vec<u32>, Memory>
-    ensures { IfOk result (λ numbers. numbers.items ≡ below count) }
-{
-    let mut numbers = Vec::with_capacity(alloc, count as usize)?;
-    for n in 0..count {
-        numbers.push(n)?;
-    }
-    Ok(numbers)
-}
-
 // First each node itself, then each node that is made of it, and at last the end where an output
 // is.
 fn filled_table(alloc: Global, nodes: &[Sum], outputs: &[Sum]) -> Result<Vec<u32>, Memory>
@@ -80,7 +56,7 @@ fn filled_table(alloc: Global, nodes: &[Sum], outputs: &[Sum]) -> Result<Vec<u32
         (flat_map bases_of outputs.now) (length nodes.now)) }
 {
     let count = nodes.len() as u32;
-    let mut table = numbers(alloc, count)?;
+    let mut table = unused(alloc, count)?;
     set_node_uses(&mut table, nodes);
     set_output_uses(&mut table, outputs, count);
     Ok(table)

@@ -1,14 +1,9 @@
 -- The table of last uses, as it is filled: place k of the list is that of node k.
-use Rattle.std.specs.Prelude.{ℕ, ◌+◌, List, [], ◌∷◌, slice_set}
+use Rattle.std.specs.Prelude.{ℕ, ◌+◌, List, [], ◌∷◌}
 use Rattle.dependency_graph.specs.declared.node.Base.{Base}
-use Rattle.dependency_graph.specs.declared.node.Base.TheVariants as bases
 use Rattle.dependency_graph.specs.declared.node.Sig.{Sig}
 use Rattle.dependency_graph.specs.Graphs.{base_of}
-
--- with a use of this base, where the list has its place
-abbrev pub with_use : List ℕ → Base → ℕ → List ℕ
-with_use table (bases.Input i) place = table
-with_use table (bases.Node k) place = slice_set table k place
+use Rattle.dependency_graph.specs.Uses.{with_use}
 
 abbrev pub with_uses : List ℕ → List Base → ℕ → List ℕ
 with_uses table [] place = table

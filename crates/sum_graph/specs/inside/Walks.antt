@@ -41,19 +41,22 @@ is_shared shared k = slice_index_or shared k true
 pub record AreShared (nodes : List Node) (outputs : List Sig) (shared : List Bool) : Type 0 where
   pub long : length shared ≡ length nodes
   pub once : (k : ℕ) → is_shared shared k ≡ false → times_in k (uses_in nodes outputs) ≤ 1
-  pub factors : AllByRecursion (λ node. AllByRecursion (λ k. is_shared shared k ≡ true) (factors_of node)) nodes
+  pub factors : AllByRecursion
+      (λ node. AllByRecursion (λ k. is_shared shared k ≡ true) (factors_of node)) nodes
 
 -- ---- slots
 
 -- the sum has the value of a base of the settled graph, over these nodes
-pub record StandsFor (s : SettledView) (nodes : List SumView) (base : Base) (sum : SumView) : Type 0 where
+pub record StandsFor (s : SettledView) (nodes : List SumView) (base : Base) (sum : SumView)
+    : Type 0 where
   pub known : IsKnownSum s.inputs (length nodes) sum
   pub values : (input : List Bool) → sum_on nodes input sum ≡ settled_value s input (Is base)
 
 -- a sum that was moved is not used any more; one that stands is a factor exactly where the node is shared
 abbrev pub IsSlot : SettledView → List SumView → List Bool → List ℕ → ℕ → Slot → Type 0
 IsSlot s nodes shared left k slots.Moved = times_in k left ≡ 0
-IsSlot s nodes shared left k (slots.Sum sum) = StandsFor s nodes (bases.Node k) sum × (is_shared shared k ≡ false)
+IsSlot s nodes shared left k (slots.Sum sum) = StandsFor s nodes (bases.Node k) sum
+    × (is_shared shared k ≡ false)
 IsSlot s nodes shared left k (slots.Factor factor) =
     StandsFor s nodes (bases.Node k) (sum_of_factor factor) × (is_shared shared k ≡ true)
 
@@ -69,9 +72,11 @@ slot_weight (slots.Sum sum) = weight_of sum
 slot_weight (slots.Factor factor) = 0
 
 -- the slots of the nodes so far, with the uses that are still to come
-pub record AreSlots (s : SettledView) (nodes : List SumView) (shared : List Bool) (left : List ℕ) (some : List Slot) : Type 0 where
+pub record AreSlots (s : SettledView) (nodes : List SumView) (shared : List Bool) (left : List ℕ)
+    (some : List Slot) : Type 0 where
   pub once : (k : ℕ) → is_shared shared k ≡ false → times_in k left ≤ 1
-  pub each : (k : ℕ) (slot : Slot) → slice_get some k ≡ Some slot → IsSlot s nodes shared left k slot
+  pub each : (k : ℕ) (slot : Slot) → slice_get some k ≡ Some slot
+      → IsSlot s nodes shared left k slot
 
 -- ---- a use
 
@@ -153,7 +158,8 @@ IsNodeSum (And a b) = IsAnd a b
 
 -- What the walk keeps: each node so far has a slot, the nodes of the lean graph are known, and both count no more than the
 -- nodes that were walked over.
-pub record IsWalked (s : SettledView) (shared : List Bool) (some : List Slot) (nodes : List SumView) (k : ℕ) : Type 0 where
+pub record IsWalked (s : SettledView) (shared : List Bool) (some : List Slot) (nodes : List SumView)
+    (k : ℕ) : Type 0 where
   pub settled : IsSettled s
   pub long : length some ≡ k
   pub known : AreKnownSums s.inputs 0 nodes
@@ -184,10 +190,14 @@ IsOutputSum (Const bit) old new sum = (new ≡ old) × IsFinished (constant_sum 
 IsOutputSum (Is base) old new sum = IsTakenOutput base old new sum
 
 -- What going through the outputs keeps: the sums so far have the values of the outputs so far.
-pub record IsEnded (s : SettledView) (shared : List Bool) (some : List Slot) (nodes : List SumView) (sums : List SumView) (j : ℕ) : Type 0 where
+pub record IsEnded (s : SettledView) (shared : List Bool) (some : List Slot) (nodes : List SumView)
+    (sums : List SumView) (j : ℕ) : Type 0 where
   pub slots : AreSlots s nodes shared (nodes_among (flat_map base_of (drop j s.outputs))) some
   pub long : length some ≡ length s.nodes
   pub known : AllByRecursion (IsKnownSum s.inputs (length nodes)) sums
-  pub values : (input : List Bool) → map (sum_on nodes input) sums ≡ map (settled_value s input) (take j s.outputs)
-  pub products : products_in nodes + (products_in sums + sum_by slot_products some) ≤ sum_by and_count s.nodes
-  pub light : weight_in nodes + (weight_in sums + sum_by slot_weight some) ≤ 29 * length s.nodes + 4 * j
+  pub values : (input : List Bool) → map (sum_on nodes input) sums
+      ≡ map (settled_value s input) (take j s.outputs)
+  pub products : products_in nodes + (products_in sums + sum_by slot_products some)
+      ≤ sum_by and_count s.nodes
+  pub light : weight_in nodes + (weight_in sums + sum_by slot_weight some)
+      ≤ 29 * length s.nodes + 4 * j
