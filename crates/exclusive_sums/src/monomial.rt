@@ -157,9 +157,9 @@ fn move_front(from: &mut VecDeque<Monomial>, to: &mut Vec<Monomial>) -> Result<(
     requires { 0 < length from.old.items }
     ensures { OnOk result (MovesFront from.old.items from.new.items to.old.items to.new.items) }
 {
-    if let Some(first) = from.pop_front() {
-        to.push(first)?;
-        return Ok(());
-    }
+    let Some(first) = from.pop_front() else {
+        unreachable!()
+    };
+    to.push(first)?;
     Ok(())
 }
