@@ -33,11 +33,7 @@ within_first false true = refl
 within_first false false = refl
 
 within_second : (a b : Bool) → xor b (b && xor a b) ≡ (a && b)
-unfolding mathlib.Core.Bool.xor
-within_second true true = refl
-within_second true false = refl
-within_second false true = refl
-within_second false false = refl
+within_second a b = ap (λ (c : Bool). xor b (b && c)) (xor_swap a b) ∙ (within_first b a ∙ and_swap b a)
 
 -- ---- products of two factors
 

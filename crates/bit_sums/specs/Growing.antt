@@ -25,8 +25,10 @@ sum_of_factor f = record { bits = f.bits; products = []; one = f.one }
 
 -- The sum with a product put into it has both values, of no other bases, with at most one product more.
 pub record IsPut (old : SumView) (product : ProductView) (new : SumView) : Type 0 where
-  pub values : (bit : Base → Bool) → sum_value bit new ≡ xor (sum_value bit old) (product_value bit product)
-  pub over : (test : Base → Bool) → IsSumOver test old → IsProductOver test product → IsSumOver test new
+  pub values : (bit : Base → Bool) → sum_value bit new
+      ≡ xor (sum_value bit old) (product_value bit product)
+  pub over : (test : Base → Bool) → IsSumOver test old → IsProductOver test product
+      → IsSumOver test new
   pub few : length new.products ≤ length old.products + 1
   pub light : weight_of new ≤ weight_of old + 21
 

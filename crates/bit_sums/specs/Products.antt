@@ -24,7 +24,8 @@ pub record IsFactor (bits : List Base) : Type 0 where
 -- ---- some bits, and at most one product
 
 abbrev pub part_value : (Base → Bool) → List Base → Option ProductView → Bool
-part_value bit bits product = xor (xor_by bit bits) (xor_by (product_value bit) (option_to_list product))
+part_value bit bits product = xor (xor_by bit bits)
+    (xor_by (product_value bit) (option_to_list product))
 
 -- bits and a product that are the product of two sums of bits
 pub record IsProductOf (a b bits : List Base) (product : Option ProductView) : Type 0 where
@@ -32,12 +33,16 @@ pub record IsProductOf (a b bits : List Base) (product : Option ProductView) : T
   pub few : length bits ≤ MOST_FACTOR_BITS
   pub light : length (apart a b) + length bits ≤ length a + length b
   pub bits_over : (test : Base → Bool) → AreAll test a → AreAll test b → AreAll test bits
-  pub product_over : (test : Base → Bool) → AreAll test a → AreAll test b → IfSome product (IsProductOver test)
+  pub product_over : (test : Base → Bool) → AreAll test a → AreAll test b
+      → IfSome product (IsProductOver test)
 
 -- bits and a product that are the sum of two products
-pub record IsJoinOf (p q : ProductView) (bits : List Base) (product : Option ProductView) : Type 0 where
-  pub values : (bit : Base → Bool) → part_value bit bits product ≡ xor (product_value bit p) (product_value bit q)
+pub record IsJoinOf (p q : ProductView) (bits : List Base) (product : Option ProductView)
+    : Type 0 where
+  pub values : (bit : Base → Bool) → part_value bit bits product
+      ≡ xor (product_value bit p) (product_value bit q)
   pub few : length bits ≤ MOST_FACTOR_BITS + MOST_FACTOR_BITS
-  pub bits_over : (test : Base → Bool) → IsProductOver test p → IsProductOver test q → AreAll test bits
+  pub bits_over : (test : Base → Bool) → IsProductOver test p → IsProductOver test q
+      → AreAll test bits
   pub product_over : (test : Base → Bool) → IsProductOver test p → IsProductOver test q
       → IfSome product (IsProductOver test)

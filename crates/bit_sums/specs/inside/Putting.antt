@@ -9,26 +9,33 @@ use Rattle.bit_sums.specs.Products.{IsJoinOf}
 use Rattle.bit_sums.specs.Sums.{ProductView, SumView, IsProductOver, IsSumOver, product_value, sum_value, weight_of, xor_by}
 
 -- a product of the list makes these bits and this product with another one
-pub record IsJoinAt (products : List ProductView) (product : ProductView) (join : Join) : Type 0 where
+pub record IsJoinAt (products : List ProductView) (product : ProductView) (join : Join)
+    : Type 0 where
   pub other : ProductView
   pub found : slice_get products join.place ≡ Some other
   pub joined : IsJoinOf product other join.part.bits.items join.part.product
 
 -- a product is put into a sum, and what is still to be put; that the sum lost a product for it
-pub record IsPutOnce (old : SumView) (product : ProductView) (new : SumView) (next : Option ProductView) : Type 0 where
-  pub values : (bit : Base → Bool) → xor (sum_value bit new) (xor_by (product_value bit) (option_to_list next))
+pub record IsPutOnce (old : SumView) (product : ProductView) (new : SumView)
+    (next : Option ProductView) : Type 0 where
+  pub values : (bit : Base → Bool)
+      → xor (sum_value bit new) (xor_by (product_value bit) (option_to_list next))
       ≡ xor (sum_value bit old) (product_value bit product)
-  pub over : (test : Base → Bool) → IsSumOver test old → IsProductOver test product → IsSumOver test new
+  pub over : (test : Base → Bool) → IsSumOver test old → IsProductOver test product
+      → IsSumOver test new
   pub next_over : (test : Base → Bool) → IsSumOver test old → IsProductOver test product
       → AllByRecursion (IsProductOver test) (option_to_list next)
   pub few : length new.products + length (option_to_list next) ≤ length old.products + 1
-  pub fewer : length new.products + length (option_to_list next) + length (option_to_list next) ≤ length old.products + 1
+  pub fewer : length new.products + length (option_to_list next) + length (option_to_list next)
+      ≤ length old.products + 1
   pub light : weight_of new + 21 * length (option_to_list next) ≤ weight_of old + 21
 
 -- products are put into a sum, one after another
 pub record ArePut (old : SumView) (products : List ProductView) (new : SumView) : Type 0 where
-  pub values : (bit : Base → Bool) → sum_value bit new ≡ xor (sum_value bit old) (xor_by (product_value bit) products)
-  pub over : (test : Base → Bool) → IsSumOver test old → AllByRecursion (IsProductOver test) products → IsSumOver test new
+  pub values : (bit : Base → Bool) → sum_value bit new
+      ≡ xor (sum_value bit old) (xor_by (product_value bit) products)
+  pub over : (test : Base → Bool) → IsSumOver test old
+      → AllByRecursion (IsProductOver test) products → IsSumOver test new
   pub few : length new.products ≤ length old.products + length products
   pub light : weight_of new ≤ weight_of old + 21 * length products
 

@@ -29,8 +29,10 @@ pub record AreApart (a b : List Base) : Type 0 where
 -- bits and a product that are the product of a set and of one that has these bits besides
 pub record IsWithin (lesser rest found : List Base) (product : Option ProductView) : Type 0 where
   pub bits : found ≡ lesser
-  pub values : (bit : Base → Bool) → xor_by (product_value bit) (option_to_list product) ≡ (xor_by bit lesser && xor_by bit rest)
-  pub over : (test : Base → Bool) → AreAll test lesser → AreAll test rest → IfSome product (IsProductOver test)
+  pub values : (bit : Base → Bool) → xor_by (product_value bit) (option_to_list product)
+      ≡ (xor_by bit lesser && xor_by bit rest)
+  pub over : (test : Base → Bool) → AreAll test lesser → AreAll test rest
+      → IfSome product (IsProductOver test)
 
 -- the product of these two factors
 abbrev pub HasFactors : List Base → List Base → ProductView → Type 0
@@ -41,7 +43,8 @@ pub record IsFactored (a b c bits : List Base) (product : Option ProductView) : 
   pub values : (bit : Base → Bool) → part_value bit bits product
       ≡ xor (xor_by bit a && xor_by bit c) (xor_by bit b && xor_by bit c)
   pub few : length bits ≤ MOST_FACTOR_BITS
-  pub bits_over : (test : Base → Bool) → AreAll test a → AreAll test b → AreAll test c → AreAll test bits
+  pub bits_over : (test : Base → Bool) → AreAll test a → AreAll test b → AreAll test c
+      → AreAll test bits
   pub product_over : (test : Base → Bool) → AreAll test a → AreAll test b → AreAll test c
       → IfSome product (IsProductOver test)
 
@@ -50,6 +53,7 @@ pub record IsCrossed (a b c bits : List Base) (product : Option ProductView) : T
   pub values : (bit : Base → Bool) → part_value bit bits product
       ≡ xor (xor_by bit a && xor_by bit b) (xor_by bit c && xor (xor_by bit a) (xor_by bit b))
   pub few : length bits ≤ MOST_FACTOR_BITS + MOST_FACTOR_BITS
-  pub bits_over : (test : Base → Bool) → AreAll test a → AreAll test b → AreAll test c → AreAll test bits
+  pub bits_over : (test : Base → Bool) → AreAll test a → AreAll test b → AreAll test c
+      → AreAll test bits
   pub product_over : (test : Base → Bool) → AreAll test a → AreAll test b → AreAll test c
       → IfSome product (IsProductOver test)
