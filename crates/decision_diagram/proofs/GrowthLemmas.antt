@@ -7,11 +7,11 @@ use Rattle.decision_diagram.specs.declared.node.DdFault.{DdFault}
 use Rattle.decision_diagram.specs.declared.node.DdFault.TheVariants.{Full, Memory}
 use Rattle.decision_diagram.specs.declared.memo.Operands.{Operands}
 use Rattle.decision_diagram.specs.Functions.{Assignment, Function, AreSame, Takes, fixed, ComesFrom}
-use Rattle.decision_diagram.specs.Diagrams.{Triple, DiagramView, IsNumber, next_number, function_of, first_variable, IsBehind, MayFollow, AreOrdered}
+use Rattle.decision_diagram.specs.Diagrams.{Triple, DiagramView, IsNumber, next_number, branch, function_of, first_variable, IsBehind, MayFollow, AreOrdered}
 use Rattle.decision_diagram.specs.Diagrams.{IsCanonical}
 use Rattle.decision_diagram.specs.Growth.{Computes, KeepsNodes, KeepsFunctions, StandsFor, HoldsAllFrom, IsFullFor, MayRefuse}
 use Rattle.decision_diagram.specs.inside.Flipping.{AreBehind, Grows, SplitAll, Splits, flipped_at, node_function}
-use Rattle.decision_diagram.proofs.ValueLemmas.{function-newest, function-older, first-older, function-agree}
+use Rattle.decision_diagram.proofs.ValueLemmas.{branch_behind, function-newest, function-older, first-older, function-agree}
 use Rattle.decision_diagram.proofs.DistinctLemmas.{distinct_functions, new_function, first-constant}
 use Rattle.decision_diagram.proofs.RestrictionLemmas.{fixed-below, fixed-from, comes_same, ComesFrom-trans, ComesFrom-same, inner_varies, holds_all}
 
@@ -26,6 +26,20 @@ pub first-added : (vars : ℕ) (added older : List Triple) (n : ℕ) → IsNumbe
 first-added vars [] older n known = refl
 first-added vars (node ∷ added) older n known =
     first-older vars (added ++ older) node n (omega (arith, length-append added older)) ∙ first-added vars added older n known
+
+ordered_behind : (vars : ℕ) (newer nodes : List Triple) → AreOrdered vars (newer ++ nodes) → AreOrdered vars nodes
+ordered_behind vars [] nodes ordered = ordered
+ordered_behind vars (x ∷ newer) nodes ordered = ordered_behind vars newer nodes ordered.1
+
+-- the function of a node is that of the number to which it goes
+pub nodes_go_on : (vars : ℕ) (newer older : List Triple) (node : Triple) (a : Assignment) → AreOrdered vars (newer ++ node ∷ older)
+    → function_of (newer ++ node ∷ older) (next_number older) a ≡ function_of (newer ++ node ∷ older) (branch node a) a
+nodes_go_on vars newer older node a ordered =
+    let here : AreOrdered vars (node ∷ older) = ordered_behind vars newer (node ∷ older) ordered in
+    let known : IsNumber older (branch node a) = (branch_behind vars older node here.0.low here.0.high (a node.variable)).known in
+    function-added newer (node ∷ older) (next_number older) a (omega arith)
+    ∙ (function-newest older node a
+    ∙ (sym (function-older older node (branch node a) a known) ∙ sym (function-added newer (node ∷ older) (branch node a) a (omega (arith, known)))))
 
 -- a number from before is a number
 pub known-kept : (old now : DiagramView) → KeepsNodes old now → (n : ℕ) → IsNumber old.nodes n → IsNumber now.nodes n

@@ -1,9 +1,9 @@
 -- What a call adds to a diagram, and what its answer and its refusal mean.
-use Rattle.std.specs.Prelude.{◌≡◌, ℕ, ◌<◌, ◌≤◌, List, ◌++◌, length, Result, IfErr, IfOk}
+use Rattle.std.specs.Prelude.{◌≡◌, ℕ, ◌<◌, ◌≤◌, List, ◌∷◌, ◌++◌, length, Result, IfErr, IfOk}
 use Rattle.decision_diagram.specs.declared.node.DdFault.{DdFault}
 use Rattle.decision_diagram.specs.declared.node.DdFault.TheVariants.{Full, Memory}
 use Rattle.decision_diagram.specs.Functions.{Assignment, Function, AreSame, Varies, ComesFrom}
-use Rattle.decision_diagram.specs.Diagrams.{Triple, DiagramView, IsNumber, next_number, function_of, IsCanonical}
+use Rattle.decision_diagram.specs.Diagrams.{Triple, DiagramView, IsNumber, next_number, branch, function_of, IsCanonical}
 
 -- the nodes from before stay, and the numbers of variables and of nodes that are allowed
 pub record KeepsNodes (old now : DiagramView) : Type 0 where
@@ -57,7 +57,8 @@ MayRefuse f d Memory = length d.nodes < d.limit
 
 -- A call that is asked for f: what it leaves of the diagram and adds to it, and that its answer is the number of f. Each
 -- inner node that it adds comes from f; at an answer these are nodes of f.
-pub record Computes (f : Function) (old now : DiagramView) (result : Result ℕ DdFault) : Type 0 where
+pub record Computes (f : Function) (old now : DiagramView) (result : Result ℕ DdFault)
+    : Type 0 where
   pub canonical : IsCanonical now
   pub kept : KeepsNodes old now
   pub earlier : KeepsFunctions old.nodes now.nodes
@@ -65,6 +66,13 @@ pub record Computes (f : Function) (old now : DiagramView) (result : Result ℕ 
   pub answer : IfOk result (λ h. StandsFor now.nodes h f)
   pub held : IfOk result (λ h. HoldsAllFrom (function_of now.nodes h) now.nodes)
   pub refused : IfErr result (MayRefuse f now)
+
+-- The function of a node is that of the number to which it goes.
+abbrev pub NodesGoOn : Type 0
+NodesGoOn =
+    (d : DiagramView) → IsCanonical d → (newer older : List Triple) (node : Triple)
+    → d.nodes ≡ newer ++ node ∷ older → (a : Assignment)
+    → function_of d.nodes (next_number older) a ≡ function_of d.nodes (branch node a) a
 
 -- Equal functions have equal numbers.
 abbrev pub EqualFunctionsHaveOneNumber : Type 0

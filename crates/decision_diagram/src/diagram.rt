@@ -10,6 +10,7 @@ ghost use Rattle.decision_diagram.specs.Diagrams.{MayFollow, IsCanonical};
 ghost use Rattle.decision_diagram.specs.Growth.{Computes, StandsFor, MayRefuse};
 ghost use Rattle.decision_diagram.specs.Growth.{EqualFunctionsHaveOneNumber, InnerNodesVary};
 ghost use Rattle.decision_diagram.specs.Growth.{FunctionsAskTheVariables, DiagramsHoldWhatComes};
+ghost use Rattle.decision_diagram.specs.Growth.{NodesGoOn};
 ghost use Rattle.decision_diagram.specs.Limits.{LimitsAre};
 ghost use Rattle.decision_diagram.specs.inside.Flipping.{Grows, IsInner, Splits, node_function};
 ghost use Rattle.decision_diagram.specs.inside.Flipping.{AreNumbers, AreBehind, SplitAll};
@@ -441,10 +442,12 @@ fn place_of(nodes: &IndexSet<Node>, node: Node) -> Option<usize>
     nodes.get_index_of(&node)
 }
 
-/// What holds of every diagram that a call has left: equal functions have equal numbers, no inner
-/// node stands for a constant, a function asks the diagram's variables alone, and what comes from a
-/// function by fixing its first variables is constant or has an inner node.
+/// What holds of every diagram that a call has left: the function of a node is that of the number
+/// to which it goes, equal functions have equal numbers, no inner node stands for a constant, a
+/// function asks the diagram's variables alone, and what comes from a function by fixing its first
+/// variables is constant or has an inner node.
 pub fn canonical()
+    ensures nodes { NodesGoOn }
     ensures distinct { EqualFunctionsHaveOneNumber }
     ensures inner { InnerNodesVary }
     ensures asks { FunctionsAskTheVariables }
