@@ -19,33 +19,6 @@ use Rattle.qasm_format.proofs.DeclaredLemmas.{among_has}
 use Rattle.qasm_format.proofs.ReadingLemmas.{other_word}
 use Rattle.qasm_format.proofs.RegisterLemmas.{lines_of_all-append}
 
-regroup : (a b c d e f g h i j : Bool) → ((a || (b || (c || (d || e)))) || (f || (g || (h || (i || j)))))
-    ≡ (a || (b || (c || (d || (e || (f || (g || (h || (i || (j || false))))))))))
-regroup true b c d e f g h i j = refl
-regroup false true c d e f g h i j = refl
-regroup false false true d e f g h i j = refl
-regroup false false false true e f g h i j = refl
-regroup false false false false true f g h i j = refl
-regroup false false false false false true g h i j = refl
-regroup false false false false false false true h i j = refl
-regroup false false false false false false false true i j = refl
-regroup false false false false false false false false true j = refl
-regroup false false false false false false false false false true = refl
-regroup false false false false false false false false false false = refl
-
-kept_any : (word : List ℕ) → is_kept word ≡ list_any (bytes_eq word) kept_words
-kept_any word =
-    regroup (bytes_eq word (codes "barrier"))
-    (bytes_eq word (codes "creg"))
-    (bytes_eq word (codes "gate"))
-    (bytes_eq word (codes "if"))
-    (bytes_eq word (codes "include"))
-    (bytes_eq word (codes "measure"))
-    (bytes_eq word (codes "opaque"))
-    (bytes_eq word (codes "qreg"))
-    (bytes_eq word (codes "reset"))
-    (bytes_eq word (codes "pi"))
-
 among_any : (names : List (List ℕ)) (name : List ℕ) → list_any (bytes_eq name) names ≡ false → ¬ IsAmong name names
 among_any [] name e k = k
 among_any (n ∷ ns) name e (inl same) = by (bytes_eq name n) refl
@@ -66,14 +39,14 @@ free_is_name word spelled few e =
       spelled = spelled;
       begins = parts.0;
       few = few;
-      free = among_any kept_words word (sym (kept_any word) ∙ not-true (is_kept word) parts.1);
+      free = among_any kept_words word (not-true (is_kept word) parts.1);
     }
 
 pub name_is_free : (word : List ℕ) → IsName word → is_free word ≡ true
 name_is_free word h = and_from (is_ascii_lowercase (slice_index word 0)) (not (is_kept word)) h.begins (by (is_kept word) refl)
   where
     by : (t : Bool) → is_kept word ≡ t → not (is_kept word) ≡ true
-    by true kept = absurd (h.free (among_has kept_words word (sym (kept_any word) ∙ kept)))
+    by true kept = absurd (h.free (among_has kept_words word kept))
     by false free = ap not free
 
 -- ---- gates stay on the lines

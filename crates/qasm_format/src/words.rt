@@ -1,8 +1,8 @@
 // The words of statements, and tests of words.
 ghost use Rattle.std.specs.Prelude.{◌≡◌, ◌<◌, length};
+ghost use Rattle.std.specs.List.{list_any};
 ghost use Rattle.std.specs.Str.{bytes_eq};
-ghost use Rattle.qasm_format.specs.inside.Tests.{flip_of, is_free, is_kept, is_kept_first};
-ghost use Rattle.qasm_format.specs.inside.Tests.{is_kept_too, kind_of, use_of};
+ghost use Rattle.qasm_format.specs.inside.Tests.{flip_of, is_free, is_kept, kind_of, use_of};
 
 // A register of qubits, or of bits.
 #[derive(Clone, Copy)]
@@ -82,21 +82,17 @@ pub fn is_free(word: &[u8]) -> bool
 fn is_kept(word: &[u8]) -> bool
     ensures { result ≡ is_kept word.now }
 {
-    is_kept_first(word) || is_kept_too(word)
+    is_among(
+        word,
+        &[
+            b"barrier", b"creg", b"gate", b"if", b"include", b"measure", b"opaque", b"qreg",
+            b"reset", b"pi",
+        ],
+    )
 }
 
-fn is_kept_first(word: &[u8]) -> bool
-    ensures { result ≡ is_kept_first word.now }
+fn is_among(word: &[u8], words: &[&[u8]]) -> bool
+    ensures { result ≡ list_any (λ other. bytes_eq word.now other.now) words.now }
 {
-    is_word(word, b"barrier")
-        || (is_word(word, b"creg")
-            || (is_word(word, b"gate") || (is_word(word, b"if") || is_word(word, b"include"))))
-}
-
-fn is_kept_too(word: &[u8]) -> bool
-    ensures { result ≡ is_kept_too word.now }
-{
-    is_word(word, b"measure")
-        || (is_word(word, b"opaque")
-            || (is_word(word, b"qreg") || (is_word(word, b"reset") || is_word(word, b"pi"))))
+    words.iter().any(|other| is_word(word, other))
 }

@@ -1,11 +1,13 @@
 -- The tests of words that the reader makes.
-use Rattle.std.specs.Prelude.{ℕ, Bool, not, ◌&&◌, ◌||◌, if◌then◌else◌, List, codes, slice_index, Option, Some, None}
+use Rattle.std.specs.Prelude.{ℕ, Bool, not, ◌&&◌, if◌then◌else◌, List, codes, slice_index, Option, Some, None}
+use Rattle.std.specs.List.{list_any}
 use Rattle.std.specs.Str.{bytes_eq}
 use Rattle.std.specs.Char.{is_ascii_lowercase}
 use Rattle.qasm_format.specs.declared.words.RegisterKind.{RegisterKind}
 use Rattle.qasm_format.specs.declared.words.RegisterKind.TheVariants.{Qubits, Bits}
 use Rattle.qasm_format.specs.declared.words.Use.{Use}
 use Rattle.qasm_format.specs.declared.words.Use.TheVariants.{Barrier, Flip}
+use Rattle.qasm_format.specs.Registers.{kept_words}
 
 -- the kind of register that a word declares
 abbrev pub kind_of : List ℕ → Option RegisterKind
@@ -29,21 +31,9 @@ use_of word included =
     else (if bytes_eq word (codes "CX") then Some (Flip 1)
     else (if included then flip_of word else None))
 
-abbrev pub is_kept_first : List ℕ → Bool
-is_kept_first word =
-    bytes_eq word (codes "barrier") || (bytes_eq word (codes "creg")
-    || (bytes_eq word (codes "gate") || (bytes_eq word (codes "if")
-    || bytes_eq word (codes "include"))))
-
-abbrev pub is_kept_too : List ℕ → Bool
-is_kept_too word =
-    bytes_eq word (codes "measure") || (bytes_eq word (codes "opaque")
-    || (bytes_eq word (codes "qreg") || (bytes_eq word (codes "reset")
-    || bytes_eq word (codes "pi"))))
-
 -- whether a word names no register
 abbrev pub is_kept : List ℕ → Bool
-is_kept word = is_kept_first word || is_kept_too word
+is_kept word = list_any (bytes_eq word) kept_words
 
 -- whether an identifier of at most 64 bytes may name a register
 abbrev pub is_free : List ℕ → Bool
