@@ -10,7 +10,7 @@ use Rattle.circuit_plans.specs.declared.choice.How.TheVariants.{Auto}
 use Rattle.circuit_plans.specs.declared.roles.Roles.{Roles}
 use Rattle.circuit_plans.specs.Plans.{PutsOutputs, lines_in}
 use Rattle.mct_circuit.specs.Gates.{GateView, AreGatesOn, AreNarrow}
-use Rattle.program_commands.specs.Clean.{MeansIn}
+use Rattle.program_commands.specs.Clean.{MeansCompiledIn}
 use Rattle.program_commands.specs.Compile.{HasFittingRow, IsCompiled, PassesBudget}
 use Rattle.revc_words.specs.Words.{OrderView}
 use Rattle.revc_words.specs.declared.commands.Command.TheVariants.{Compile}
@@ -64,7 +64,7 @@ pub record PutsNumbers (order : OrderView) (roles : Roles) (gates : List GateVie
 pub record IsCircuitOf (format : Format) (order : OrderView) (file : List ℕ) : Type 0 where
   pub roles : Roles
   pub gates : List GateView
-  pub meaning : MeansIn format file roles gates
+  pub meaning : MeansCompiledIn format file roles gates
   pub placed : AreGatesOn (lines_in roles) gates
   pub narrow : AreNarrow gates
   pub inputs : roles.inputs ≡ inputs_of order.kind order.number

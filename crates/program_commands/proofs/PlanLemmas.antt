@@ -26,7 +26,7 @@ use Rattle.revs_terms.specs.Views.{ProgramView}
 use Rattle.revs_terms.proofs.TapeLemmas.{tape_gives_output}
 use Rattle.command_answers.specs.declared.fault.Fault.{Fault}
 use Rattle.command_answers.specs.declared.fault.Fault.TheVariants as faults
-use Rattle.program_commands.specs.Clean.{ComputesOn, MeansIn}
+use Rattle.program_commands.specs.Clean.{ComputesOn, MeansCompiledIn}
 use Rattle.program_commands.specs.Compile.{HasFewToffoliGates, IsCompiled, budget_of, least_lines}
 use Rattle.program_commands.specs.Settling.{LeavesTape, LeavesSettled, ForTexts, IsSettledWithin}
 use Rattle.program_commands.specs.inside.Plans.{IsCleanPlan, IsPlanOf, IsPlannedFor, IsPlanningFault}
@@ -121,7 +121,7 @@ plan_of_texts order tape s (Ok laid) limits settled plan = record {
 -- the file of a plan means the plan, in each format
 means_itself : (format : Format) (laid : LaidView) → IsWritable laid → laid.inputs + laid.outputs + laid.work + laid.borrowed ≡ laid.circuit.lines
     → AreGatesOn laid.circuit.lines laid.circuit.gates → AreNarrow laid.circuit.gates
-    → MeansIn format (file_of format laid) (roles_of laid) laid.circuit.gates
+    → MeansCompiledIn format (file_of format laid) (roles_of laid) laid.circuit.gates
 means_itself format laid can sum_of on narrow =
     let some = can.some in
     let few = can.few in
@@ -129,7 +129,7 @@ means_itself format laid can sum_of on narrow =
     of_format format (omega arith) (omega arith) can.few_gates (subst (λ n. AreGatesOn n laid.circuit.gates) same on)
   where
     of_format : (format : Format) → 1 ≤ lines_in (roles_of laid) → lines_in (roles_of laid) ≤ MOST_LINES → length laid.circuit.gates ≤ MOST_GATES
-        → AreGatesOn (lines_in (roles_of laid)) laid.circuit.gates → MeansIn format (file_of format laid) (roles_of laid) laid.circuit.gates
+        → AreGatesOn (lines_in (roles_of laid)) laid.circuit.gates → MeansCompiledIn format (file_of format laid) (roles_of laid) laid.circuit.gates
     of_format Real some few gates on = real.compiled_has_meaning (roles_of laid) laid.circuit.gates some few gates on narrow
     of_format Qasm some few gates on = qasm.compiled_has_meaning (roles_of laid) laid.circuit.gates some few gates on narrow
 

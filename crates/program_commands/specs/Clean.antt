@@ -12,9 +12,9 @@ use Rattle.revs_terms.specs.Runs.{IsInput, HasOutput}
 use Rattle.revs_terms.specs.Views.{ProgramView}
 
 -- by the meaning of a format the text has these gates, and its lines have these roles
-abbrev pub MeansIn : Format → List ℕ → Roles → List GateView → Type 0
-MeansIn Real text roles gates = real.MeansCompiled text roles gates
-MeansIn Qasm text roles gates = qasm.MeansCompiled text roles gates
+abbrev pub MeansCompiledIn : Format → List ℕ → Roles → List GateView → Type 0
+MeansCompiledIn Real text roles gates = real.MeansCompiled text roles gates
+MeansCompiledIn Qasm text roles gates = qasm.MeansCompiled text roles gates
 
 -- the text of the file of such gates in a format: header, comments and all
 abbrev pub file_text : Format → Roles → List GateView → List ℕ
@@ -45,5 +45,5 @@ pub record IsClean (format : Format) (text : List ℕ) (p : ProgramView) (borrow
     : Type 0 where
   pub roles : Roles
   pub gates : List GateView
-  pub meaning : MeansIn format text roles gates
+  pub meaning : MeansCompiledIn format text roles gates
   pub circuit : IsCleanCircuit p borrowed roles gates

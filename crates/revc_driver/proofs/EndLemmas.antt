@@ -12,11 +12,11 @@ use Rattle.command_answers.specs.declared.limit.TextLimit.{TextLimit}
 use Rattle.command_answers.specs.Faults.{status_of}
 use Rattle.command_answers.specs.Outcomes.{HasOneOutcome, IsFaultOfText, IsOfText}
 use Rattle.revc_driver.specs.Commands.{Gives, IsCause, promise_of, reads_of, text_told}
-use Rattle.revc_driver.specs.Top.{EndsWell, Grows, GrowsByPrefix, IsCalm, IsReadWhole, IsStatusOfAll, Rises, Run, Served, device, run_of}
+use Rattle.revc_driver.specs.Top.{EndsWell, Grows, GrowsByPrefix, IsCalm, IsReadWhole, IsStatusOfAll, Rises, Run, HoldsOfOrder, device, run_of}
 use Rattle.revc_driver.specs.inside.Ends.{Ends, Fails, IsCauseOrMemory, IsCausedBy, IsReadFrom, IsUnreadFor, Reads, Succeeds}
 use Rattle.revc_driver.specs.inside.Mappings.{reading_fault, words_fault}
-use Rattle.revc_driver.proofs.ServedLemmas.{all_served, cause_may, if_some, long_whole, memory_may, none_served, of_read, read_may, reads_none, reads_some}
-use Rattle.revc_driver.proofs.ServedLemmas.{reads_whole, serve, success_may, whole, write_may}
+use Rattle.revc_driver.proofs.OrderFactLemmas.{all_served, cause_may, if_some, long_whole, memory_may, none_served, of_read, read_may, reads_none, reads_some}
+use Rattle.revc_driver.proofs.OrderFactLemmas.{reads_whole, serve, success_may, whole, write_may}
 use Rattle.revc_words.specs.declared.fault.WordsFault.{WordsFault}
 use Rattle.revc_words.specs.declared.fault.WordsFault.TheVariants as words
 use Rattle.revc_words.specs.Words.{OrderView, IsOrder, HasNoOrder}
@@ -99,7 +99,7 @@ caused_exact order text fault law cause = record {
 pub text_failed : (run : Run) (order : OrderView) (fault : Fault) → IsOrder run.words order → HasOneOutcome (promise_of order.command)
     → IsFaultOfText (promise_of order.command).statuses fault
     → IfSome (text_told (reads_of order) run.source.old) (λ text. IsCause order text fault)
-    → run.out.IsUnchanged → IsCalm run.out → IsCalm run.source → Served run (IsReadWhole run.source) → Reads run → Fails run fault
+    → run.out.IsUnchanged → IsCalm run.out → IsCalm run.source → HoldsOfOrder run (IsReadWhole run.source) → Reads run → Fails run fault
 text_failed run order fault is law known cause same written_well read_well whole reads =
     let told = text_told (reads_of order) run.source.old in
     record {

@@ -1,4 +1,4 @@
-pub mod ServedLemmas
+pub mod OrderFactLemmas
 pub mod EndLemmas
 pub mod TopLemmas
 pub mod CommandLemmas

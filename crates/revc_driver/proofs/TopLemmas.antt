@@ -6,7 +6,7 @@ use Rattle.command_answers.specs.Faults.{Receives, line_of, status_of}
 use Rattle.revc_driver.specs.Commands.{IsCause}
 use Rattle.revc_driver.specs.Top.{Answers, Device, RestsOnText, Run, Stopped}
 use Rattle.revc_driver.specs.inside.Ends.{Fails, IsCausedBy, Succeeds}
-use Rattle.revc_driver.proofs.ServedLemmas.{all_served, served}
+use Rattle.revc_driver.proofs.OrderFactLemmas.{all_served, served}
 use Rattle.revc_words.specs.Words.{OrderView}
 
 -- ---- the fault of a status

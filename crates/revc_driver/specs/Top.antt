@@ -47,7 +47,7 @@ abbrev pub run_of : List (List ℕ) → Device → Device → Run
 run_of words source out = record { words = words; source = source; out = out }
 
 -- this holds of the order that the words give and of its text, where the source tells it
-pub record Served (run : Run) (P : OrderView → List ℕ → Type 0) : Type 0 where
+pub record HoldsOfOrder (run : Run) (P : OrderView → List ℕ → Type 0) : Type 0 where
   pub each : (order : OrderView) → IsOrder run.words order
       → IfSome (text_told (reads_of order) run.source.old) (P order)
 
@@ -131,20 +131,20 @@ IsReadWhole source order text = IfSome (reads_of order) (λ (limit : TextLimit).
 -- what the status says of a run, and of the sink of its message
 pub record Answers (run : Run) (err : Device) (status : ℕ) : Type 0 where
   -- at 0 what the order gives for the text was written, at 10 a prefix of it, and else nothing
-  pub gives : status ≡ 0 → Served run (λ order text. Grows (Gives order text) run.out)
-  pub begins : status ≡ 10 → Served run (λ order text. GrowsByPrefix (Gives order text) run.out)
+  pub gives : status ≡ 0 → HoldsOfOrder run (λ order text. Grows (Gives order text) run.out)
+  pub begins : status ≡ 10 → HoldsOfOrder run (λ order text. GrowsByPrefix (Gives order text) run.out)
   pub silent : status ≢ 0 → status ≢ 10 → run.out.IsUnchanged
   -- 2 comes exactly where the words give no order, unless memory is wanting; else the status is one of the command's
   pub usage : status ≡ 2 → HasNoOrder run.words
   pub no_order : HasNoOrder run.words → (status ≡ 2) ⊎ (status ≡ 11)
   pub statuses : status ≢ 2 → MayEnd run.words status
   -- a status that rests on the text has its cause there, and its line was written
-  pub stops : RestsOnText status → Served run (λ order text. Stopped order text status err)
+  pub stops : RestsOnText status → HoldsOfOrder run (λ order text. Stopped order text status err)
   -- where an exact cause holds, its status comes, unless a device or memory is wanting
-  pub exact : status ≢ 9 → status ≢ 11 → Served run (λ order text. IsStatusOfAll order text status)
+  pub exact : status ≢ 9 → status ≢ 11 → HoldsOfOrder run (λ order text. IsStatusOfAll order text status)
   -- where the order serves, success comes, unless a device or memory is wanting
   pub completes : ¬ Rises run.source → ¬ Rises run.out
-      → Served run (λ order text. EndsWell order text status)
+      → HoldsOfOrder run (λ order text. EndsWell order text status)
   -- 9 comes only where the source failed, and 10 only where the sink did; at each other status it did not
   pub read_fault : status ≡ 9 → Rises run.source
   pub read_well : status ≢ 9 → IsCalm run.source
@@ -156,5 +156,5 @@ pub record Answers (run : Run) (err : Device) (status : ℕ) : Type 0 where
   -- where no order of the words reads the source, it is as it was
   pub unread : ReadsNothing run.words → run.source.IsUnchanged
   -- a text within the limit is read to its end before all else, and no more than one byte past the limit
-  pub read_whole : status ≢ 2 → status ≢ 9 → status ≢ 11 → Served run (IsReadWhole run.source)
+  pub read_whole : status ≢ 2 → status ≢ 9 → status ≢ 11 → HoldsOfOrder run (IsReadWhole run.source)
   pub reads_few : ReadsFew run

@@ -10,7 +10,7 @@ use Rattle.command_answers.specs.declared.fault.Fault.TheVariants.{Usage, Read, 
 use Rattle.command_answers.specs.declared.limit.TextLimit.{TextLimit}
 use Rattle.revc_driver.specs.Commands.{Gives, IsCause, most_bytes, text_told}
 use Rattle.revc_driver.specs.Top.{Device, EndsWell, Grows, GrowsByPrefix, IsCalm, IsReadWhole, IsStatusOfAll}
-use Rattle.revc_driver.specs.Top.{MayEnd, ReadsFew, ReadsNothing, Rises, Run, Served}
+use Rattle.revc_driver.specs.Top.{MayEnd, ReadsFew, ReadsNothing, Rises, Run, HoldsOfOrder}
 use Rattle.revc_driver.specs.inside.Mappings.{reading_fault}
 use Rattle.revc_words.specs.Words.{OrderView, HasNoOrder}
 
@@ -58,10 +58,10 @@ pub record Reads (run : Run) : Type 0 where
 
 pub record Succeeds (run : Run) : Type 0 where
   pub ordered : ¬ HasNoOrder run.words
-  pub gives : Served run (λ order text. Grows (Gives order text) run.out)
+  pub gives : HoldsOfOrder run (λ order text. Grows (Gives order text) run.out)
   pub may : MayEnd run.words 0
-  pub exact : Served run (λ order text. IsStatusOfAll order text 0)
-  pub whole : Served run (IsReadWhole run.source)
+  pub exact : HoldsOfOrder run (λ order text. IsStatusOfAll order text 0)
+  pub whole : HoldsOfOrder run (IsReadWhole run.source)
   pub reads : Reads run
   pub read_well : IsCalm run.source
   pub written_well : IsCalm run.out
@@ -70,14 +70,14 @@ pub record Fails (run : Run) (fault : Fault) : Type 0 where
   pub usage : fault ≡ Usage → HasNoOrder run.words
   pub no_order : HasNoOrder run.words → (fault ≡ Usage) ⊎ (fault ≡ Memory)
   pub may : fault ≢ Usage → MayEnd run.words (status_of fault)
-  pub cause : Served run (IsCausedBy fault)
-  pub begins : fault ≡ Write → Served run (λ order text. GrowsByPrefix (Gives order text) run.out)
+  pub cause : HoldsOfOrder run (IsCausedBy fault)
+  pub begins : fault ≡ Write → HoldsOfOrder run (λ order text. GrowsByPrefix (Gives order text) run.out)
   pub silent : fault ≢ Write → run.out.IsUnchanged
   pub exact : fault ≢ Read → fault ≢ Memory
-      → Served run (λ order text. IsStatusOfAll order text (status_of fault))
+      → HoldsOfOrder run (λ order text. IsStatusOfAll order text (status_of fault))
   pub completes : fault ≢ Read → fault ≢ Write
-      → Served run (λ order text. EndsWell order text (status_of fault))
-  pub whole : fault ≢ Usage → fault ≢ Read → fault ≢ Memory → Served run (IsReadWhole run.source)
+      → HoldsOfOrder run (λ order text. EndsWell order text (status_of fault))
+  pub whole : fault ≢ Usage → fault ≢ Read → fault ≢ Memory → HoldsOfOrder run (IsReadWhole run.source)
   pub reads : Reads run
   pub read_fault : fault ≡ Read → Rises run.source
   pub read_well : fault ≢ Read → IsCalm run.source

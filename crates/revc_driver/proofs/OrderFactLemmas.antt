@@ -6,7 +6,7 @@ use Rattle.std.proofs.KnownBytes.{Consumes-nil}
 use Rattle.revc_io.specs.Reading.{TakesCount}
 use Rattle.command_answers.specs.declared.limit.TextLimit.{TextLimit}
 use Rattle.revc_driver.specs.Commands.{most_bytes, promise_of, reads_of, statuses_of, text_told, with_reading}
-use Rattle.revc_driver.specs.Top.{IsReadWhole, MayEnd, ReadsFew, Run, Served}
+use Rattle.revc_driver.specs.Top.{IsReadWhole, MayEnd, ReadsFew, Run, HoldsOfOrder}
 use Rattle.revc_driver.specs.inside.Ends.{IsReadFrom, Reads}
 use Rattle.revc_words.specs.Words.{OrderView, IsOrder, HasNoOrder}
 use Rattle.revc_words.proofs.OrderLemmas.{one_order}
@@ -28,19 +28,19 @@ of_read (Some text) lent items P same told p = subst P told (subst P same p)
 
 -- what holds of one order of the words holds of each
 pub serve : (run : Run) (order : OrderView) (P : OrderView → List ℕ → Type 0) → IsOrder run.words order
-    → IfSome (text_told (reads_of order) run.source.old) (P order) → Served run P
+    → IfSome (text_told (reads_of order) run.source.old) (P order) → HoldsOfOrder run P
 serve run order P is holds = record {
   each = λ other also. subst (λ (o : OrderView). IfSome (text_told (reads_of o) run.source.old) (P o)) (one_order run.words order other is also) holds;
 }
 
-pub none_served : (run : Run) (P : OrderView → List ℕ → Type 0) → HasNoOrder run.words → Served run P
+pub none_served : (run : Run) (P : OrderView → List ℕ → Type 0) → HasNoOrder run.words → HoldsOfOrder run P
 none_served run P none = record { each = λ order is. absurd (none.refuted order is) }
 
-pub served : (run : Run) (P Q : OrderView → List ℕ → Type 0) → ((order : OrderView) (text : List ℕ) → P order text → Q order text) → Served run P
-    → Served run Q
+pub served : (run : Run) (P Q : OrderView → List ℕ → Type 0) → ((order : OrderView) (text : List ℕ) → P order text → Q order text) → HoldsOfOrder run P
+    → HoldsOfOrder run Q
 served run P Q h s = record { each = λ order is. if_some (text_told (reads_of order) run.source.old) (P order) (Q order) (h order) (s.each order is) }
 
-pub all_served : (run : Run) (P : OrderView → List ℕ → Type 0) → ((order : OrderView) (text : List ℕ) → P order text) → Served run P
+pub all_served : (run : Run) (P : OrderView → List ℕ → Type 0) → ((order : OrderView) (text : List ℕ) → P order text) → HoldsOfOrder run P
 all_served run P h = record { each = λ order is. always (text_told (reads_of order) run.source.old) (P order) (h order) }
 
 -- ---- statuses
@@ -134,14 +134,14 @@ end_within None new text h = tt
 end_within (Some own) new text h = λ short. h
 
 pub whole : (run : Run) (order : OrderView) (text : List ℕ) → IsOrder run.words order → IsReadFrom (reads_of order) run.source text
-    → Served run (IsReadWhole run.source)
+    → HoldsOfOrder run (IsReadWhole run.source)
 whole run order text is r = serve run order (IsReadWhole run.source) is
     (always (text_told (reads_of order) run.source.old) (IsReadWhole run.source order)
     (λ told. end_within (reads_of order) run.source.new told r.at_end))
 
 -- a text over the limit is not read to its end
 pub long_whole : (run : Run) (order : OrderView) (own : TextLimit) → IsOrder run.words order → reads_of order ≡ Some own
-    → IfSome run.source.old (λ rest. own.bytes < length rest) → Served run (IsReadWhole run.source)
+    → IfSome run.source.old (λ rest. own.bytes < length rest) → HoldsOfOrder run (IsReadWhole run.source)
 long_whole run order own is is_own long = serve run order (IsReadWhole run.source) is
     (subst (λ (o : Option TextLimit). IfSome (text_told o run.source.old)
     (λ text. IfSome o (λ (limit : TextLimit). length text ≤ limit.bytes → IsAtEnd run.source.new))) (sym is_own)
