@@ -29,13 +29,13 @@ use Rattle.qasm_lexer.proofs.RunTestLemmas.{number_of_numeral, numeral_of}
 use Rattle.qasm_lexer.proofs.SomeTokensLemmas.{some_tokens}
 use Rattle.text_places.specs.Places.{place_after}
 use Rattle.qasm_format.specs.Registers.{IsNumber, IsLaid, kept_words, lines_of_all}
-use Rattle.qasm_format.specs.Stages.{Said, Stage, starts, wants, wants_name, wants_size, wants_argument, behind_name, wants_index, behind_argument, head}
+use Rattle.qasm_format.specs.Stages.{Said, Stage, starts, wants, wants_library, wants_name, wants_size, wants_argument, behind_name, wants_index, behind_argument, head}
 use Rattle.qasm_format.specs.Stages.{HasRoom, Ends, Closes, HaveManyGates, Leads, nothing_left, one_more, MayEnd, MayGoOn, PassesLimit, StandForGates}
 use Rattle.qasm_format.specs.Qasm.{MeansFile, QasmView, Reads}
 use Rattle.qasm_format.specs.Faults.{IsTextFault, StopsAt}
 use Rattle.format_parts.specs.Readings.{SomeReading}
 use Rattle.qasm_format.specs.inside.Spread.{AreAllDifferent, MeetSomewhere, are_different, shared_by}
-use Rattle.qasm_format.specs.inside.Tests.{kind_of, use_of}
+use Rattle.qasm_format.specs.inside.Tests.{is_include, kind_of, use_of}
 use Rattle.qasm_format.proofs.DeclaredLemmas.{among_has, none_has, not_among}
 use Rattle.qasm_format.proofs.FitLemmas.{stand_same}
 use Rattle.qasm_format.proofs.ReadingLemmas.{other_word, reads_none, reads_then, same_word}
@@ -226,16 +226,13 @@ settles_closing word usage spots said = elim (cases_Bool (bytes_eq word (codes "
 settles_start : (word : List ℕ) (said : Said) → Settles word (starts said)
 settles_start word said = by (kind_of word) refl (use_of word said.included) refl
   where
-    first : kind_of word ≡ None → use_of word said.included ≡ None → (said.included ≡ true) ⊎ (said.included ≡ false)
-        → (bytes_eq word (codes "include") ≡ true) ⊎ (bytes_eq word (codes "include") ≡ false) → Settles word (starts said)
-    first no_kind no_use (inl twice) e = inr ((begins_none word said (inl twice) no_kind no_use).nowhere, never)
-    first no_kind no_use (inr once) (inl e) = inl (_, include_begins word said once (same_word word (codes "include") e))
-    first no_kind no_use (inr once) (inr e) = inr ((begins_none word said (inr (other_word word (codes "include") e)) no_kind no_use).nowhere, never)
-
     by : (kind : Option RegisterKind) → kind_of word ≡ kind → (usage : Option Use) → use_of word said.included ≡ usage → Settles word (starts said)
     by (Some kind) e usage f = inl (wants_name kind said, kind_begins word said kind e)
     by None e (Some usage) f = inl (wants_argument usage [] said, use_begins word said usage f)
-    by None e None f = first e f (cases_Bool said.included) (cases_Bool (bytes_eq word (codes "include")))
+    by None e None f = elim (cases_Bool (is_include word said.included)) [
+      | inl include ↦ inl (wants_library said, include_begins word said include)
+      | inr other ↦ inr ((begins_none word said other e f).nowhere, never)
+    ]
 
 settles_name : (word : List ℕ) (kind : RegisterKind) (said : Said) → Settles word (wants_name kind said)
 settles_name word kind said = elim (cases_Bool (is_identifier word)) [

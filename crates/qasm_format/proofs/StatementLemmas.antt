@@ -1,11 +1,10 @@
 -- The first word of a statement, as the reader finds it.
-use Rattle.std.proofs.Common.{◌≡◌, ℕ, ◌<◌, Bool, true, false, cond, ◌⊎◌, inl, inr, List, [], length, codes, Option, Some, None, Result, Ok, Err, refl, sym, ap}
+use Rattle.std.proofs.Common.{◌≡◌, ℕ, ◌<◌, Bool, true, false, not, ◌&&◌, cond, ◌⊎◌, inl, inr, List, [], length, codes, Option, Some, None, Result, Ok, Err, refl, sym, ap}
 use Rattle.std.proofs.Common.{◌∙◌, subst, arith}
-use Rattle.std.specs.Prelude.{◌≢◌}
 use Rattle.std.specs.Result.{OnOk, IfErr}
 use Rattle.std.specs.Str.{bytes_eq}
 use Rattle.std.proofs.lemmas.Slice.Eq.{bytes_eq-Decides}
-use Rattle.std.proofs.lemmas.Bool.{false≢true}
+use Rattle.std.proofs.lemmas.Bool.{false≢true, and_parts, not-true}
 use Rattle.std.proofs.lemmas.Option.{none-some, same_Some}
 use Rattle.qasm_format.specs.declared.words.RegisterKind.{RegisterKind}
 use Rattle.qasm_format.specs.declared.words.RegisterKind.TheVariants.{Qubits, Bits}
@@ -18,8 +17,8 @@ use Rattle.qasm_lexer.specs.Tokens.{Left}
 use Rattle.qasm_format.specs.Registers.{lines_of_all}
 use Rattle.qasm_format.specs.Qasm.{Reads}
 use Rattle.qasm_format.specs.Faults.{IsStop}
-use Rattle.qasm_format.specs.Stages.{Said, Stage, starts, wants, wants_name, wants_argument, kind_word, IsUseWord, Leads}
-use Rattle.qasm_format.specs.inside.Tests.{kind_of, use_of, flip_of}
+use Rattle.qasm_format.specs.Stages.{Said, Stage, starts, wants_library, wants_name, wants_argument, kind_word, IsUseWord, Leads}
+use Rattle.qasm_format.specs.inside.Tests.{is_include, kind_of, use_of, flip_of}
 use Rattle.qasm_lexer.specs.Tokens.{Takes}
 use Rattle.qasm_format.specs.inside.Says.{BeginsNone, ReadsBehind, StopsBehind, ReadsStatement}
 use Rattle.qasm_format.proofs.ReadingLemmas.{same_word, reads_next, reads_then, breaks_rule, stops_later}
@@ -64,15 +63,18 @@ use_there word included (Flip controls) (inr (inr (inl h))) =
 use_there word included (Flip controls) (inr (inr (inr h))) =
     ap (λ (w : List ℕ). use_of w included) h.0 ∙ ap (use_of (codes "ccx")) h.1 ∙ ap (λ (n : ℕ). Some (Flip n)) (sym h.2)
 
-pub begins_none : (word : List ℕ) (said : Said) → (said.included ≡ true) ⊎ (word ≢ codes "include") → kind_of word ≡ None → use_of word said.included ≡ None
+include_there : (word : List ℕ) (included : Bool) → included ≡ false → word ≡ codes "include" → is_include word included ≡ true
+include_there word included once spelled =
+    ap (λ t. not t && bytes_eq word (codes "include")) once ∙ (bytes_eq-Decides word (codes "include")).1 spelled
+
+pub begins_none : (word : List ℕ) (said : Said) → is_include word said.included ≡ false → kind_of word ≡ None → use_of word said.included ≡ None
     → BeginsNone word said
-begins_none word said other no_kind no_use = record { nowhere = λ to leads. by to leads other }
+begins_none word said no_include no_kind no_use = record { nowhere = by }
   where
-    by : (to : Stage) → Leads word (starts said) to → (said.included ≡ true) ⊎ (word ≢ codes "include") → ⊥
-    by to (inl h) (inl twice) = false≢true (sym h.once ∙ twice)
-    by to (inl h) (inr apart) = apart h.spelled
-    by to (inr (inl h)) k = none-some h.kind (sym no_kind ∙ ap kind_of h.spelled ∙ kind_there h.kind)
-    by to (inr (inr h)) k = none-some h.usage (sym no_use ∙ use_there word said.included h.usage h.spelled)
+    by : (to : Stage) → Leads word (starts said) to → ⊥
+    by to (inl h) = false≢true (sym no_include ∙ include_there word said.included h.once h.spelled)
+    by to (inr (inl h)) = none-some h.kind (sym no_kind ∙ ap kind_of h.spelled ∙ kind_there h.kind)
+    by to (inr (inr h)) = none-some h.usage (sym no_use ∙ use_there word said.included h.usage h.spelled)
 
 in_library : (word : List ℕ) (usage : Use) → flip_of word ≡ Some usage → IsUseWord word true usage
 in_library word usage e =
@@ -149,9 +151,10 @@ no_line old new at said takes none =
     nothing to (inr (inl h)) = none-some h.kind (ap kind_of h.spelled ∙ kind_there h.kind)
     nothing to (inr (inr h)) = none-some h.usage (sym (no_use said.included) ∙ use_there [] said.included h.usage h.spelled)
 
-pub include_begins : (word : List ℕ) (said : Said) → said.included ≡ false → word ≡ codes "include"
-    → Leads word (starts said) (wants (codes "\"qelib1.inc\"") (wants (codes ";") (starts (record said { included = true }))))
-include_begins word said once same = inl (record { spelled = same; once = once; leads = refl })
+pub include_begins : (word : List ℕ) (said : Said) → is_include word said.included ≡ true → Leads word (starts said) (wants_library said)
+include_begins word said e =
+    let parts = and_parts (not said.included) (bytes_eq word (codes "include")) e in
+    inl (record { spelled = same_word word (codes "include") parts.1; once = not-true said.included parts.0; leads = refl })
 
 -- what a call behind the first word reads, or why it stops
 pub goes_behind : {T E : Type 0} (r : Result T E) (old new : Left) (word : List ℕ) (before after : Said) (next : Stage) → Leads word (starts before) next

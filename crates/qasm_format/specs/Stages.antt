@@ -47,11 +47,15 @@ head = wants (codes "OPENQASM") (wants (codes "2.0") (wants (codes ";") (starts 
 
 -- ---- the include
 
+-- behind the word of the include
+abbrev pub wants_library : Said → Stage
+wants_library said =
+    wants (codes "\"qelib1.inc\"") (wants (codes ";") (starts (record said { included = true })))
+
 pub record Includes (word : List ℕ) (said : Said) (next : Stage) : Type 0 where
   pub spelled : word ≡ codes "include"
   pub once : said.included ≡ false
-  pub leads : next ≡ wants (codes "\"qelib1.inc\"") (wants (codes ";")
-      (starts (record said { included = true })))
+  pub leads : next ≡ wants_library said
 
 -- ---- declarations
 

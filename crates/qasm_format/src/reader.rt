@@ -5,7 +5,7 @@ ghost use Rattle.std.specs.List.{AllByRecursion};
 ghost use Rattle.circuit_plans.specs.declared.plan.TheConstants.{MOST_LINES, MOST_GATES};
 ghost use Rattle.mct_circuit.specs.Gates.{HasDifferentLines, AreGatesOn};
 ghost use Rattle.qasm_format.specs.Registers.{lines_of_all};
-ghost use Rattle.qasm_format.specs.Stages.{starts, wants, wants_name, wants_argument, head};
+ghost use Rattle.qasm_format.specs.Stages.{starts, wants_library, wants_name, wants_argument, head};
 ghost use Rattle.qasm_format.specs.Stages.{nothing_said, HasRoom, gate_at};
 ghost use Rattle.qasm_format.specs.Qasm.{MeansFile, Reads};
 ghost use Rattle.qasm_format.specs.Faults.{IsStop, IsQasmFault};
@@ -23,7 +23,7 @@ use crate::file::{QasmFault, QasmFile};
 use crate::names::{Declared, Span};
 use crate::said::Said;
 use crate::spots::{Spot, all_different, count_of};
-use crate::words::{RegisterKind, Use, is_free, is_word, kind_of, use_of};
+use crate::words::{RegisterKind, Use, is_free, is_include, is_word, kind_of, use_of};
 use circuit_plans::{MOST_GATES, MOST_LINES};
 use mct_circuit::{Circuit, Control, Gate, Op};
 use qasm_lexer::{MOST_DIGITS, Token, Tokens, is_identifier, is_number};
@@ -173,7 +173,7 @@ fn read_statement<'t>(
     if token.word.is_empty() {
         return end_of(said, token.at);
     }
-    read_begun(alloc, said, tokens, token)?;
+    read_behind(alloc, said, tokens, token)?;
     Ok(true)
 }
 
@@ -192,7 +192,7 @@ fn end_of(said: &Said, at: Place) -> Result<bool, QasmFault>
 }
 
 // A statement behind its first word.
-fn read_begun<'t>(
+fn read_behind<'t>(
     alloc: Global,
     said: &mut Said<'t>,
     tokens: &mut Tokens<'t>,
@@ -205,29 +205,9 @@ fn read_begun<'t>(
     ensures err { IfErr result (StopsBehind tokens.old token.entry.word.now token.entry.at
         (said_of said.old)) }
 {
-    if said.included || !is_word(token.word, b"include") {
-        return read_other(alloc, said, tokens, token);
+    if is_include(token.word, said.included) {
+        return read_include(said, tokens);
     }
-    take_words(tokens, b"\"qelib1.inc\"", b";")?;
-    said.included = true;
-    Ok(())
-}
-
-// A statement other than the first include, behind its first word.
-fn read_other<'t>(
-    alloc: Global,
-    said: &mut Said<'t>,
-    tokens: &mut Tokens<'t>,
-    token: Token<'t>,
-) -> Result<(), QasmFault>
-    requires sound { IsSound said.old }
-    requires other { (said.old.included ≡ true) ⊎ (token.word.now ≢ codes "include") }
-    ensures ok { OnOk result (ReadsBehind tokens.old tokens.new token.entry.word.now
-        (said_of said.old) (said_of said.new)) }
-    ensures sound { OnOk result (IsSound said.new) }
-    ensures err { IfErr result (StopsBehind tokens.old token.entry.word.now token.entry.at
-        (said_of said.old)) }
-{
     if let Some(kind) = kind_of(token.word) {
         return read_declaration(said, tokens, kind);
     }
@@ -236,6 +216,18 @@ fn read_other<'t>(
         Some(Use::Flip(controls)) => read_gate(alloc, said, tokens, controls),
         None => Err(QasmFault::Token { at: token.at }),
     }
+}
+
+fn read_include<'t>(said: &mut Said<'t>, tokens: &mut Tokens<'t>) -> Result<(), QasmFault>
+    requires { IsSound said.old }
+    ensures ok { OnOk result (Reads tokens.old tokens.new
+        (wants_library (said_of said.old)) (starts (said_of said.new))) }
+    ensures sound { OnOk result (IsSound said.new) }
+    ensures err { IfErr result (IsStop tokens.old (wants_library (said_of said.old))) }
+{
+    take_words(tokens, b"\"qelib1.inc\"", b";")?;
+    said.included = true;
+    Ok(())
 }
 
 fn read_declaration<'t>(

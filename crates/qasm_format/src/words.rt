@@ -2,7 +2,8 @@
 ghost use Rattle.std.specs.Prelude.{◌≡◌, ◌<◌, length};
 ghost use Rattle.std.specs.List.{list_any};
 ghost use Rattle.std.specs.Str.{bytes_eq};
-ghost use Rattle.qasm_format.specs.inside.Tests.{flip_of, is_free, is_kept, kind_of, use_of};
+ghost use Rattle.qasm_format.specs.inside.Tests.{flip_of, is_free, is_include, is_kept};
+ghost use Rattle.qasm_format.specs.inside.Tests.{kind_of, use_of};
 
 // A register of qubits, or of bits.
 #[derive(Clone, Copy)]
@@ -23,6 +24,13 @@ pub fn is_word(word: &[u8], wanted: &[u8]) -> bool
     ensures { result ≡ bytes_eq word.now wanted.now }
 {
     word == wanted
+}
+
+// Whether a word begins the include, where it stood or did not.
+pub fn is_include(word: &[u8], included: bool) -> bool
+    ensures { result ≡ is_include word.now included }
+{
+    !included && is_word(word, b"include")
 }
 
 // The kind of register that a word declares.

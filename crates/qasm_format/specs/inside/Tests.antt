@@ -9,6 +9,10 @@ use Rattle.qasm_format.specs.declared.words.Use.{Use}
 use Rattle.qasm_format.specs.declared.words.Use.TheVariants.{Barrier, Flip}
 use Rattle.qasm_format.specs.Registers.{kept_words}
 
+-- the include, once
+abbrev pub is_include : List ℕ → Bool → Bool
+is_include word included = not included && bytes_eq word (codes "include")
+
 -- the kind of register that a word declares
 abbrev pub kind_of : List ℕ → Option RegisterKind
 kind_of word =

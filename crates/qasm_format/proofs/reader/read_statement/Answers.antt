@@ -19,21 +19,21 @@ returns-then-is_empty-clause-err c =
     fault_becomes _ _ c.end_of.result c.end_of.ensures.err (λ (fault : QasmFault) h. subst (IsStop c.args.tokens.now (starts (said_of c.args.said.now)))
     (sym h.0) (no_line _ _ c.next-token.result.at (said_of c.args.said.now) takes h.1))
 
-pub returns-in_err-read_begun-clause-ok : goal.returns-in_err-read_begun-clause-ok
-returns-in_err-read_begun-clause-ok c = no_value c.from_residual.result _ _ c.from_residual.ensures.1
+pub returns-in_err-read_behind-clause-ok : goal.returns-in_err-read_behind-clause-ok
+returns-in_err-read_behind-clause-ok c = no_value c.from_residual.result _ _ c.from_residual.ensures.1
 
-pub returns-in_err-read_begun-clause-sound : goal.returns-in_err-read_begun-clause-sound
-returns-in_err-read_begun-clause-sound c = no_promise c.from_residual.result _ _ c.from_residual.ensures.1
+pub returns-in_err-read_behind-clause-sound : goal.returns-in_err-read_behind-clause-sound
+returns-in_err-read_behind-clause-sound c = no_promise c.from_residual.result _ _ c.from_residual.ensures.1
 
-pub returns-in_err-read_begun-clause-err : goal.returns-in_err-read_begun-clause-err
-returns-in_err-read_begun-clause-err c =
+pub returns-in_err-read_behind-clause-err : goal.returns-in_err-read_behind-clause-err
+returns-in_err-read_behind-clause-err c =
     let some = some_text c.next-token.result.word.now (sym c.is_empty.ensures ∙ c.if-is_empty.false) in
     passes_on (IsStop c.args.tokens.now (starts (said_of c.args.said.now))) c.from_residual.result c.from_residual.ensures.1
     (statement_stops _ _ c.next-token.result.word.now c.next-token.result.at (said_of c.args.said.now) _ c.next-token.ensures some
-    c.in_err-read_begun.ensures.err)
+    c.in_err-read_behind.ensures.err)
 
 pub returns-clause-ok : goal.returns-clause-ok
 returns-clause-ok c =
     let some = some_text c.next-token.result.word.now (sym c.is_empty.ensures ∙ c.if-is_empty.false) in
     statement_read _ _ _ c.next-token.result.word.now c.next-token.result.at (said_of c.args.said.now) _ c.next-token.ensures some
-    c.in_ok-read_begun.ensures.ok
+    c.in_ok-read_behind.ensures.ok

@@ -1,12 +1,22 @@
 use Rattle.std.proofs.Common.{sym, ap, ◌∙◌, inl, refl, [], Some}
 use Rattle.qasm_format.specs.declared.file.QasmFault.{QasmFault}
 use Rattle.qasm_format.specs.declared.words.Use.TheVariants.{Barrier, Flip}
-use Rattle.qasm_format.specs.Stages.{starts, wants_name, wants_argument, Leads}
+use Rattle.qasm_format.specs.Stages.{starts, wants_library, wants_name, wants_argument, Leads}
 use Rattle.qasm_format.specs.inside.Says.{said_of, ReadsBarrier, StopsAtBarrier}
 use Rattle.qasm_format.proofs.PassingLemmas.{fault_becomes, ok_becomes}
-use Rattle.qasm_format.proofs.StatementLemmas.{kind_begins, use_begins, begins_none, goes_behind, stops_on}
-use Rattle.qasm_format.proofs.reader.read_other.Goals as goal
-use Rattle.qasm_format.proofs.reader.read_other.Goals.{After-read_barrier, After-read_gate}
+use Rattle.qasm_format.proofs.StatementLemmas.{include_begins, kind_begins, use_begins, begins_none, goes_behind, stops_on}
+use Rattle.qasm_format.proofs.reader.read_behind.Goals as goal
+use Rattle.qasm_format.proofs.reader.read_behind.Goals.{After-read_barrier, After-read_gate}
+
+pub returns-then-is_include-clause-ok : goal.returns-then-is_include-clause-ok
+returns-then-is_include-clause-ok c =
+    goes_behind c.read_include.result _ _ _ _ _ (wants_library (said_of c.args.said.now))
+    (include_begins c.args.token.word.now (said_of c.args.said.now) (sym c.is_include.ensures ∙ c.if-is_include.true)) c.read_include.ensures.ok
+
+pub returns-then-is_include-clause-err : goal.returns-then-is_include-clause-err
+returns-then-is_include-clause-err c =
+    stops_on c.read_include.result _ _ _ _ (wants_library (said_of c.args.said.now))
+    (include_begins c.args.token.word.now (said_of c.args.said.now) (sym c.is_include.ensures ∙ c.if-is_include.true)) c.read_include.ensures.err
 
 pub returns-in-Some-clause-ok : goal.returns-in-Some-clause-ok
 returns-in-Some-clause-ok c =
@@ -56,6 +66,6 @@ pub returns-in-None-clause-err : goal.returns-in-None-clause-err
 returns-in-None-clause-err c =
     inl (
       refl,
-      begins_none c.args.token.word.now (said_of c.args.said.now) c.requires.other (sym c.kind_of.ensures ∙ c.in_default.is)
+      begins_none c.args.token.word.now (said_of c.args.said.now) (sym c.is_include.ensures ∙ c.if-is_include.false) (sym c.kind_of.ensures ∙ c.in_default.is)
           (sym c.use_of.ensures ∙ c.in-None.is),
     )
