@@ -1,5 +1,12 @@
--- How a format's texts are read: each means a file, or has a fault.
-use Rattle.std.specs.Prelude.{◌≡◌, ℕ, ◌⊎◌, List}
+-- How a format's texts are read: item by item, and each means a file, or has a fault.
+use Rattle.std.specs.Prelude.{◌≡◌, ℕ, ◌⊎◌, List, [], ◌∷◌}
+
+-- items lead from one place to another, one after another, where it is told how one leads
+pub data LeadTo {Item Place : Type 0} (Leads : Item → Place → Place → Type 0)
+    : List Item → Place → Place → Type 0 where
+  nothing_left : {place : Place} → LeadTo Leads [] place place
+  one_more : {item : Item} → {items : List Item} → {from next to : Place} → Leads item from next
+      → LeadTo Leads items next to → LeadTo Leads (item ∷ items) from to
 
 -- A text means at most one file, has at most one fault, and never both.
 pub record HasOneReading {File Fault : Type 0} (MeansFile : File → Type 0)

@@ -7,7 +7,8 @@ use Rattle.qasm_format.specs.declared.file.QasmFault.{QasmFault}
 use Rattle.qasm_format.specs.declared.said.Said.{Said as Held}
 use Rattle.qasm_lexer.specs.Tokens.{Left, whole, BeginsWith}
 use Rattle.qasm_format.specs.Registers.{lines_of_all}
-use Rattle.qasm_format.specs.Stages.{Said, starts, head, nothing_left, nothing_said}
+use Rattle.qasm_format.specs.Stages.{Said, starts, head, nothing_said}
+use Rattle.format_parts.specs.Readings.{nothing_left}
 use Rattle.qasm_format.specs.Qasm.{Reads, QasmView, MeansFile}
 use Rattle.qasm_format.specs.Faults.{IsStop, IsQasmFault}
 use Rattle.qasm_format.specs.inside.Says.{said_of, IsFirst, IsSound, GoesOn}

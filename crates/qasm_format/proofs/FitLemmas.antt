@@ -17,7 +17,8 @@ use Rattle.qasm_format.specs.declared.spots.Spot.{Spot}
 use Rattle.qasm_format.specs.declared.spots.Spot.TheVariants.{Line, Whole}
 use Rattle.qasm_format.specs.Registers.{IsName, IsLaid, IsRegister, HaveDifferentNames, lines_of_all}
 use Rattle.qasm_format.specs.Stages.{Said, Stage, starts, wants, wants_name, wants_size, wants_argument, behind_name, wants_index, behind_argument, kind_word}
-use Rattle.qasm_format.specs.Stages.{kind_registers, declared, HasRoom, IsUseWord, gate_at, StandForGates, Ends, Closes, Leads, LeadTo, nothing_left, one_more}
+use Rattle.qasm_format.specs.Stages.{kind_registers, declared, HasRoom, IsUseWord, gate_at, StandForGates, Ends, Closes, Leads, LeadTo}
+use Rattle.format_parts.specs.Readings.{nothing_left, one_more}
 use Rattle.qasm_format.specs.inside.Tests.{kind_of, use_of}
 use Rattle.qasm_format.specs.inside.Says.{SpotBelow}
 use Rattle.qasm_format.proofs.RegisterLemmas.{lines_of_all-append}
@@ -175,7 +176,7 @@ fit_next word (behind_argument usage spots said) next fit h = closes_fit word us
 
 pub fit_after : {words : List (List ℕ)} {from to : Stage} → IsFit from → LeadTo words from to → IsFit to
 fit_after fit nothing_left = fit
-fit_after fit (one_more {word} {from = here} {next} leads more) = fit_after (fit_next word here next fit leads) more
+fit_after fit (one_more {item = word} {from = here} {next} leads more) = fit_after (fit_next word here next fit leads) more
 
 -- ---- one stage at most
 

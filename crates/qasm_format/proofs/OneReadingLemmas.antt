@@ -6,9 +6,9 @@ use Rattle.qasm_format.specs.declared.file.Register.{Register}
 use Rattle.qasm_format.specs.declared.file.QasmFault.{QasmFault}
 use Rattle.qasm_format.specs.declared.file.QasmFault.TheVariants.{Token, Limit, Memory}
 use Rattle.qasm_lexer.specs.Tokens.{BeginsWith, Left, Moves, whole}
-use Rattle.qasm_format.specs.Stages.{Said, Stage, starts, head, nothing_said, Leads, LeadTo, nothing_left, one_more, PassesLimit, MayEnd}
+use Rattle.qasm_format.specs.Stages.{Said, Stage, starts, head, nothing_said, Leads, LeadTo, PassesLimit, MayEnd}
 use Rattle.qasm_format.specs.Faults.{StopsAt, IsTextFault}
-use Rattle.format_parts.specs.Readings.{OneReading}
+use Rattle.format_parts.specs.Readings.{OneReading, nothing_left, one_more}
 use Rattle.qasm_format.specs.Qasm.{QasmView, MeansFile, IsFile, MeaningsAreFiles}
 use Rattle.qasm_lexer.proofs.CutLemmas.{Meet, at_one, goes_on, falls_short, moves_meet, moves_end_same}
 use Rattle.qasm_format.proofs.FitLemmas.{IsFit, nothing_fits, fit_next, fit_after, leads_same}
@@ -20,14 +20,14 @@ Halts word stage = 0 < length word → (to : Stage) → ¬ Leads word stage to
 -- one list of tokens leads to one stage
 one_stage : {tokens : List (List ℕ)} {from stage other : Stage} → LeadTo tokens from stage → LeadTo tokens from other → IsFit from → stage ≡ other
 one_stage nothing_left nothing_left fit = refl
-one_stage {from} {other} (one_more {word} {next = to} leads later) (one_more {words = rest} {next = to'} leads' later') fit =
+one_stage {from} {other} (one_more {item = word} {next = to} leads later) (one_more {items = rest} {next = to'} leads' later') fit =
     one_stage later (subst (λ (s : Stage). LeadTo rest s other) (leads_same word from to' to fit leads' leads) later') (fit_next word from to fit leads)
 
 -- tokens that go on lead on
 leads_on : {tokens : List (List ℕ)} {from stage other : Stage} (word : List ℕ) (more : List (List ℕ)) → LeadTo tokens from stage
     → LeadTo (tokens ++ word ∷ more) from other → IsFit from → (to : Stage) × Leads word stage to
 leads_on word more nothing_left (one_more {next = to} leads later) fit = (to, leads)
-leads_on {from} {other} word more (one_more {word = first} {words} {next = to} leads later) (one_more {next = to'} leads' later') fit =
+leads_on {from} {other} word more (one_more {item = first} {items = words} {next = to} leads later) (one_more {next = to'} leads' later') fit =
     leads_on word more later
     (subst (λ (s : Stage). LeadTo (words ++ word ∷ more) s other) (leads_same first from to' to fit leads' leads) later')
     (fit_next first from to fit leads)

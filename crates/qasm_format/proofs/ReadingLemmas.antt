@@ -7,7 +7,8 @@ use Rattle.revc_base.specs.declared.place.Place.{Place}
 use Rattle.qasm_format.specs.declared.file.QasmFault.{QasmFault}
 use Rattle.qasm_format.specs.declared.file.QasmFault.TheVariants.{Token, Limit, Memory}
 use Rattle.qasm_lexer.specs.Tokens.{Left}
-use Rattle.qasm_format.specs.Stages.{Stage, wants, Leads, LeadTo, nothing_left, one_more, PassesLimit, MayEnd}
+use Rattle.qasm_format.specs.Stages.{Stage, wants, Leads, LeadTo, PassesLimit, MayEnd}
+use Rattle.format_parts.specs.Readings.{nothing_left, one_more}
 use Rattle.qasm_format.specs.Qasm.{Reads}
 use Rattle.qasm_format.specs.Faults.{StopsAt, BreaksRule, BreaksLimit, IsStop}
 use Rattle.qasm_lexer.specs.Tokens.{Takes}

@@ -30,10 +30,10 @@ use Rattle.qasm_lexer.proofs.SomeTokensLemmas.{some_tokens}
 use Rattle.text_places.specs.Places.{place_after}
 use Rattle.qasm_format.specs.Registers.{IsNumber, IsLaid, kept_words, lines_of_all}
 use Rattle.qasm_format.specs.Stages.{Said, Stage, starts, wants, wants_library, wants_name, wants_size, wants_argument, behind_name, wants_index, behind_argument, head}
-use Rattle.qasm_format.specs.Stages.{HasRoom, Ends, Closes, HaveManyGates, Leads, nothing_left, one_more, MayEnd, MayGoOn, PassesLimit, StandForGates}
+use Rattle.qasm_format.specs.Stages.{HasRoom, Ends, Closes, HaveManyGates, Leads, MayEnd, MayGoOn, PassesLimit, StandForGates}
 use Rattle.qasm_format.specs.Qasm.{MeansFile, QasmView, Reads}
 use Rattle.qasm_format.specs.Faults.{IsTextFault, StopsAt}
-use Rattle.format_parts.specs.Readings.{SomeReading}
+use Rattle.format_parts.specs.Readings.{SomeReading, nothing_left, one_more}
 use Rattle.qasm_format.specs.inside.Spread.{AreAllDifferent, MeetSomewhere, are_different, shared_by}
 use Rattle.qasm_format.specs.inside.Tests.{is_include, kind_of, use_of}
 use Rattle.qasm_format.proofs.DeclaredLemmas.{among_has, none_has, not_among}

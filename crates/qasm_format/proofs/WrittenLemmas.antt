@@ -19,8 +19,8 @@ use Rattle.qasm_format.specs.declared.words.Use.TheVariants.{Flip}
 use Rattle.text_places.specs.Places.{place_after, start}
 use Rattle.qasm_format.specs.Statements.{Argument, one_of, includes, bracketed, argument_words, parted, words_of, head_words}
 use Rattle.qasm_format.specs.Registers.{IsName, IsLaid, IsRegister, HaveDifferentNames, lines_of_all, line_at, HasSize}
-use Rattle.qasm_format.specs.Stages.{Said, starts, head, nothing_said, wants_argument, behind_argument, IsUseWord, StandForGates, LeadTo, nothing_left}
-use Rattle.qasm_format.specs.Stages.{one_more}
+use Rattle.qasm_format.specs.Stages.{Said, starts, head, nothing_said, wants_argument, behind_argument, IsUseWord, StandForGates, LeadTo}
+use Rattle.format_parts.specs.Readings.{nothing_left, one_more}
 use Rattle.qasm_format.specs.Qasm.{MeansFile}
 use Rattle.qasm_format.specs.Written.{gate_word, gate_statement, declaration, file_statements, file_text}
 use Rattle.qasm_format.proofs.CutLemmas.{AreCut, AreCut-append, AreCut-bracketed, AreCut-semicolon, AreCut-include, AreCut-parted, IsCutLine, is_cut_line}

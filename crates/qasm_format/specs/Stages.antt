@@ -5,6 +5,7 @@ use Rattle.list_facts.specs.Lists.{IsAmong}
 use Rattle.mct_circuit.specs.Gates.{GateView, HasDifferentLines, flip_of}
 use Rattle.circuit_plans.specs.declared.plan.TheConstants.{MOST_LINES, MOST_GATES}
 use Rattle.revc_base.specs.declared.limits.TheConstants.{MOST_NAME_BYTES}
+use Rattle.format_parts.specs.Readings as readings
 use Rattle.qasm_format.specs.declared.words.RegisterKind.{RegisterKind}
 use Rattle.qasm_format.specs.declared.words.RegisterKind.TheVariants.{Qubits, Bits}
 use Rattle.qasm_format.specs.declared.words.Use.{Use}
@@ -182,10 +183,8 @@ Leads word (wants_index usage spots first size said) next =
 Leads word (behind_argument usage spots said) next = Closes word usage spots said next
 
 -- the tokens lead so, one after another
-pub data LeadTo : List (List ℕ) → Stage → Stage → Type 0 where
-  nothing_left : {stage : Stage} → LeadTo [] stage stage
-  one_more : {word : List ℕ} {words : List (List ℕ)} {from next to : Stage}
-      → Leads word from next → LeadTo words next to → LeadTo (word ∷ words) from to
+abbrev pub LeadTo : List (List ℕ) → Stage → Stage → Type 0
+LeadTo words from to = readings.LeadTo Leads words from to
 
 -- ---- limits
 

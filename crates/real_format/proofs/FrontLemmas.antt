@@ -3,7 +3,8 @@ use Rattle.std.proofs.Common.{◌≡◌, ℕ, ◌≤◌, List, [], ◌∷◌, co
 use Rattle.circuit_plans.specs.declared.plan.TheConstants.{MOST_LINES}
 use Rattle.real_format.specs.declared.header.Head.TheVariants.{Lines, Names}
 use Rattle.real_format.specs.Header.{HeaderView, nothing_said}
-use Rattle.real_format.specs.Real.{Place, in_header, in_gates, at_end, says_more, begins_gates, ends_file, LeadTo, nothing_left, one_more, GoesOn, FrontsGoOn}
+use Rattle.real_format.specs.Real.{Place, in_header, in_gates, at_end, says_more, begins_gates, ends_file, LeadTo, GoesOn, FrontsGoOn}
+use Rattle.format_parts.specs.Readings.{nothing_left, one_more}
 use Rattle.real_format.specs.Written.{names_by}
 use Rattle.real_format.specs.Converted.{numbered_name}
 use Rattle.real_format.specs.inside.Says.{IsSound}

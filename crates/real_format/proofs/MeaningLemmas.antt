@@ -13,7 +13,8 @@ use Rattle.real_format.specs.declared.file.Mark.{Mark}
 use Rattle.real_format.specs.declared.file.Mark.TheVariants.{Free, Zero, One}
 use Rattle.real_format.specs.declared.header.Head.TheVariants.{Version, Lines, Names, Inputs, Outputs, Constants, Garbage}
 use Rattle.real_format.specs.Header.{HeaderView, SaysMarks, constant_byte, garbage_byte, nothing_said}
-use Rattle.real_format.specs.Real.{RealView, RealMeaning, ReadsGate, NamesControl, Place, in_header, in_gates, at_end, LeadTo, one_more, nothing_left}
+use Rattle.real_format.specs.Real.{RealView, RealMeaning, ReadsGate, NamesControl, Place, in_header, in_gates, at_end, LeadTo}
+use Rattle.format_parts.specs.Readings.{nothing_left, one_more}
 use Rattle.real_format.specs.Real.{says_more, begins_gates, adds_gate, ends_file}
 use Rattle.circuit_plans.specs.Plans.{lines_in}
 use Rattle.real_format.specs.Written.{names_by, header_lines, gate_words, file_lines, file_text}

@@ -6,9 +6,9 @@ use Rattle.real_format.specs.declared.refusal.LineRefusal.{LineRefusal}
 use Rattle.real_format.specs.declared.refusal.LineRefusal.TheVariants.{Form, Limit, Memory}
 use Rattle.real_format.specs.Words.{said_lines}
 use Rattle.real_format.specs.Header.{nothing_said}
-use Rattle.real_format.specs.Real.{RealView, RealMeaning, MeaningsAreFiles, Place, in_header, in_gates, at_end, Leads, LeadTo, nothing_left, one_more}
+use Rattle.real_format.specs.Real.{RealView, RealMeaning, MeaningsAreFiles, Place, in_header, in_gates, at_end, Leads, LeadTo}
 use Rattle.real_format.specs.Faults.{PassesLimit, IsBadLine, HasNoEnd, BreaksForm, BreaksLimit, IsTextFault, IsRealFault}
-use Rattle.format_parts.specs.Readings.{OneReading, SomeReading}
+use Rattle.format_parts.specs.Readings.{OneReading, SomeReading, nothing_left, one_more}
 use Rattle.real_format.specs.inside.Reading.{after_line, text_fault, verdict, verdict_after, verdict_at_last, IsFaultOf}
 use Rattle.real_format.specs.inside.Says.{IsSound}
 use Rattle.real_format.proofs.LineLemmas.{IsFit, leads_so, reads_so, fit_next, limit_line, line_limit}
@@ -19,7 +19,7 @@ use Rattle.real_format.proofs.LineLemmas.{IsFit, leads_so, reads_so, fit_next, l
 pub passed : (place to : Place) (lines more : List (List (List ℕ))) (k : ℕ) → IsFit place → LeadTo lines place to
     → (verdict place k (lines ++ more) ≡ verdict to (k + length lines) more) × IsFit to
 passed place to lines more k fit (nothing_left {place = here}) = (ap (λ n. verdict here n more) (sym (add-zero k)), fit)
-passed place to lines more k fit (one_more {line} {lines = rest} {from} {next} {to = last} leads later) =
+passed place to lines more k fit (one_more {item = line} {items = rest} {from} {next} {to = last} leads later) =
     let on = passed next last rest more (k + 1) (fit_next from next line fit leads) later in
     let count : k + 1 + length rest ≡ k + length (line ∷ rest) = omega arith in (
       ap (λ r. verdict_after r k (λ p. verdict p (k + 1) (rest ++ more))) (reads_so from next line fit leads) ∙ on.0 ∙ ap (λ n. verdict last n more) count,

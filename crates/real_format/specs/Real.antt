@@ -8,6 +8,7 @@ use Rattle.real_format.specs.declared.header.Head.{Head}
 use Rattle.mct_circuit.specs.declared.gate.Control.{Control}
 use Rattle.mct_circuit.specs.Gates.{GateView, AreGatesOn, targets_of}
 use Rattle.circuit_plans.specs.declared.plan.TheConstants.{MOST_LINES, MOST_GATES}
+use Rattle.format_parts.specs.Readings as readings
 use Rattle.real_format.specs.Words.{said_lines}
 use Rattle.real_format.specs.Header.{HeaderView, IsName, IsNumber, Says, nothing_said, spelling_of}
 
@@ -86,10 +87,8 @@ pub data Leads (line : List (List ℕ)) : Place → Place → Type 0 where
       → Leads line (in_gates file) (at_end file)
 
 -- the lines lead so, one after another
-pub data LeadTo : List (List (List ℕ)) → Place → Place → Type 0 where
-  nothing_left : {place : Place} → LeadTo [] place place
-  one_more : {line : List (List ℕ)} → {lines : List (List (List ℕ))} → {from next to : Place}
-      → Leads line from next → LeadTo lines next to → LeadTo (line ∷ lines) from to
+abbrev pub LeadTo : List (List (List ℕ)) → Place → Place → Type 0
+LeadTo lines from to = readings.LeadTo Leads lines from to
 
 -- a text means this file
 pub record RealMeaning (text : List ℕ) (file : RealView) : Type 0 where
