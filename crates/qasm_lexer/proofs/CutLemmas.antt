@@ -5,6 +5,7 @@ use Rattle.std.specs.Char.{is_ascii_alphabetic, is_ascii_digit}
 use Rattle.std.proofs.lemmas.Bool.{false≢true, and_parts, or_parts}
 use Rattle.std.proofs.lemmas.Bool.Decides.{nat_tests}
 use Rattle.list_facts.specs.Lists.{IsAmong}
+use Rattle.list_facts.proofs.AmongLemmas.{all_among}
 use Rattle.text_places.specs.Bytes.{is_blank, is_name_byte}
 use Rattle.text_places.specs.Gaps.{IsGap}
 use Rattle.text_places.specs.Places.{place_after}
@@ -28,13 +29,8 @@ digit_opens_none : (b : ℕ) → is_ascii_digit b ≡ true → opens_gap b ≡ f
 digit_opens_none b e = grind (arith, nat_tests)
 
 fixed_opens_none : (word : List ℕ) → IsAmong word fixed_words → opens_gap (first_of word) ≡ false
-fixed_opens_none word (inl e) = ap (λ w. opens_gap (first_of w)) e
-fixed_opens_none word (inr (inl e)) = ap (λ w. opens_gap (first_of w)) e
-fixed_opens_none word (inr (inr (inl e))) = ap (λ w. opens_gap (first_of w)) e
-fixed_opens_none word (inr (inr (inr (inl e)))) = ap (λ w. opens_gap (first_of w)) e
-fixed_opens_none word (inr (inr (inr (inr (inl e))))) = ap (λ w. opens_gap (first_of w)) e
-fixed_opens_none word (inr (inr (inr (inr (inr (inl e)))))) = ap (λ w. opens_gap (first_of w)) e
-fixed_opens_none word (inr (inr (inr (inr (inr (inr none)))))) = absurd none
+fixed_opens_none word among =
+    all_among (λ w. opens_gap (first_of w) ≡ false) fixed_words (refl, (refl, (refl, (refl, (refl, (refl, tt)))))) word among
 
 word_opens_none : (word : List ℕ) → IsWord word → opens_gap (first_of word) ≡ false
 word_opens_none [] h = absurd (empty_is_no_word h)

@@ -2,7 +2,7 @@
 use Rattle.std.proofs.Common.{◌≡◌, ℕ, ◌<◌, ◌≤◌, eqb, Bool, true, false, ◌||◌, ◌⊎◌, inl, inr, List, [], ◌∷◌, ◌++◌, length, take, drop, get_or, nat_eq, refl, sym}
 use Rattle.std.proofs.Common.{ap, ◌∙◌, subst, arith}
 use Rattle.std.specs.Prelude.{codes}
-use Rattle.std.specs.List.{list_all, prefix_len, starts_with}
+use Rattle.std.specs.List.{AllByRecursion, list_all, prefix_len, starts_with}
 use Rattle.std.specs.Char.{is_ascii_alphabetic, is_ascii_digit}
 use Rattle.std.proofs.lemmas.Bool.{false≢true, and_parts, and_from, cases_Bool, eqb-true}
 use Rattle.std.proofs.lemmas.Bool.Decides.{Decides-eqb}
@@ -10,6 +10,7 @@ use Rattle.std.proofs.lemmas.List.{take-append-drop, take_at, length-take-le}
 use Rattle.std.proofs.lemmas.List.Sums.{prefix_len-le-length}
 use Rattle.std.proofs.lemmas.Slice.Eq.{starts_is}
 use Rattle.list_facts.specs.Lists.{IsAmong}
+use Rattle.list_facts.proofs.AmongLemmas.{all_among}
 use Rattle.text_places.specs.Bytes.{is_name_byte}
 use Rattle.text_places.specs.Gaps.{HasNoGap}
 use Rattle.qasm_lexer.specs.Tokens.{fixed_words, IsWord, IsLongest, IsNext}
@@ -62,13 +63,20 @@ number_here b bs digit =
 
 -- of the words that are always spelled the same, only `2.0` begins with a digit
 fixed_digit : (word : List ℕ) → IsAmong word fixed_words → is_ascii_digit (get_or word 0 0) ≡ true → word ≡ codes "2.0"
-fixed_digit word (inl e) digit = e
-fixed_digit word (inr (inl e)) digit = absurd (false≢true (sym (ap (λ (w : List ℕ). is_ascii_digit (get_or w 0 0)) e) ∙ digit))
-fixed_digit word (inr (inr (inl e))) digit = absurd (false≢true (sym (ap (λ (w : List ℕ). is_ascii_digit (get_or w 0 0)) e) ∙ digit))
-fixed_digit word (inr (inr (inr (inl e)))) digit = absurd (false≢true (sym (ap (λ (w : List ℕ). is_ascii_digit (get_or w 0 0)) e) ∙ digit))
-fixed_digit word (inr (inr (inr (inr (inl e))))) digit = absurd (false≢true (sym (ap (λ (w : List ℕ). is_ascii_digit (get_or w 0 0)) e) ∙ digit))
-fixed_digit word (inr (inr (inr (inr (inr (inl e)))))) digit = absurd (false≢true (sym (ap (λ (w : List ℕ). is_ascii_digit (get_or w 0 0)) e) ∙ digit))
-fixed_digit word (inr (inr (inr (inr (inr (inr none)))))) digit = absurd none
+fixed_digit word among =
+    all_among (λ (w : List ℕ). is_ascii_digit (get_or w 0 0) ≡ true → w ≡ codes "2.0") fixed_words (
+      λ d. refl,
+      (
+        λ d. absurd (false≢true d),
+        (
+          λ d. absurd (false≢true d),
+          (
+            λ d. absurd (false≢true d),
+            (λ d. absurd (false≢true d), (λ d. absurd (false≢true d), tt)),
+          ),
+        ),
+      ),
+    ) word among
 
 -- a word that begins with a digit has digits alone, or is `2.0`
 digit_word : (b : ℕ) (bs : List ℕ) → IsWord (b ∷ bs) → is_ascii_digit b ≡ true → (list_all is_ascii_digit (b ∷ bs) ≡ true) ⊎ ((b ∷ bs) ≡ codes "2.0")
@@ -166,13 +174,10 @@ no_fixed b bs behind text cut (inr (inr (inr (inr (inr (inr none)))))) sign digi
 pub empty_is_no_word : IsWord [] → ⊥
 empty_is_no_word (inl e) = false≢true e
 empty_is_no_word (inr (inl e)) = false≢true e
-empty_is_no_word (inr (inr (inl e))) = absurd (cc)
-empty_is_no_word (inr (inr (inr (inl e)))) = absurd (cc)
-empty_is_no_word (inr (inr (inr (inr (inl e))))) = absurd (cc)
-empty_is_no_word (inr (inr (inr (inr (inr (inl e)))))) = absurd (cc)
-empty_is_no_word (inr (inr (inr (inr (inr (inr (inl e))))))) = absurd (cc)
-empty_is_no_word (inr (inr (inr (inr (inr (inr (inr (inl e)))))))) = absurd (cc)
-empty_is_no_word (inr (inr (inr (inr (inr (inr (inr (inr none)))))))) = none
+empty_is_no_word (inr (inr fixed)) =
+    let all : AllByRecursion (λ (w : List ℕ). 1 ≤ length w) fixed_words = (omega arith, (omega arith, (omega arith, (omega arith, (omega arith, (omega arith, tt)))))) in
+    let some : 1 ≤ length {A = ℕ} [] = all_among (λ (w : List ℕ). 1 ≤ length w) fixed_words all [] fixed in
+    absurd (omega arith)
 
 no_word_here : (text front behind : List ℕ) → text ≡ front ++ behind → is_ascii_alphabetic (get_or text 0 0) ≡ false → is_ascii_digit (get_or text 0 0) ≡ false
     → is_sign (get_or text 0 0) ≡ false → starts_with nat_eq text (codes "\"qelib1.inc\"") ≡ false → ¬ IsWord front

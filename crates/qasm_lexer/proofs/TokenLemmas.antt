@@ -5,6 +5,7 @@ use Rattle.std.specs.Char.{is_ascii_alphabetic, is_ascii_digit}
 use Rattle.std.proofs.lemmas.Bool.{false≢true, and_parts, and_from, or_left}
 use Rattle.std.proofs.lemmas.Bool.Decides.{nat_tests}
 use Rattle.list_facts.specs.Lists.{IsAmong}
+use Rattle.list_facts.proofs.AmongLemmas.{all_among}
 use Rattle.text_places.specs.Bytes.{is_letter, is_name_byte}
 use Rattle.text_places.proofs.ByteLemmas.{first_of}
 use Rattle.qasm_lexer.specs.Tokens.{is_identifier, is_number, fixed_words, IsWord, IsLongest}
@@ -37,36 +38,33 @@ digit_goes_on : (b : ℕ) → is_ascii_digit b ≡ true → is_number_byte b ≡
 digit_goes_on b e = rw e refl
 
 pub fixed_begins : (word : List ℕ) → IsAmong word fixed_words → is_ascii_alphabetic (first_of word) ≡ false
-fixed_begins word (inl e) = ap (λ w. is_ascii_alphabetic (first_of w)) e
-fixed_begins word (inr (inl e)) = ap (λ w. is_ascii_alphabetic (first_of w)) e
-fixed_begins word (inr (inr (inl e))) = ap (λ w. is_ascii_alphabetic (first_of w)) e
-fixed_begins word (inr (inr (inr (inl e)))) = ap (λ w. is_ascii_alphabetic (first_of w)) e
-fixed_begins word (inr (inr (inr (inr (inl e))))) = ap (λ w. is_ascii_alphabetic (first_of w)) e
-fixed_begins word (inr (inr (inr (inr (inr (inl e)))))) = ap (λ w. is_ascii_alphabetic (first_of w)) e
-fixed_begins word (inr (inr (inr (inr (inr (inr none)))))) = absurd none
+fixed_begins word among =
+    all_among (λ w. is_ascii_alphabetic (first_of w) ≡ false) fixed_words (refl, (refl, (refl, (refl, (refl, (refl, tt)))))) word among
 
 -- the length of a word that is always spelled the same, by its first byte
 abbrev width : ℕ → ℕ
 width b = cond (eqb b 50) 3 (cond (eqb b 34) 12 1)
 
 fixed_width : (word : List ℕ) → IsAmong word fixed_words → length word ≡ width (first_of word)
-fixed_width word (inl e) = ap length e ∙ sym (ap (λ w. width (first_of w)) e)
-fixed_width word (inr (inl e)) = ap length e ∙ sym (ap (λ w. width (first_of w)) e)
-fixed_width word (inr (inr (inl e))) = ap length e ∙ sym (ap (λ w. width (first_of w)) e)
-fixed_width word (inr (inr (inr (inl e)))) = ap length e ∙ sym (ap (λ w. width (first_of w)) e)
-fixed_width word (inr (inr (inr (inr (inl e))))) = ap length e ∙ sym (ap (λ w. width (first_of w)) e)
-fixed_width word (inr (inr (inr (inr (inr (inl e)))))) = ap length e ∙ sym (ap (λ w. width (first_of w)) e)
-fixed_width word (inr (inr (inr (inr (inr (inr none)))))) = absurd none
+fixed_width word among =
+    all_among (λ w. length w ≡ width (first_of w)) fixed_words (refl, (refl, (refl, (refl, (refl, (refl, tt)))))) word among
 
 -- one that begins with a digit is `2.0`
 fixed_number : (word : List ℕ) → IsAmong word fixed_words → is_ascii_digit (first_of word) ≡ true → list_all is_number_byte word ≡ true
-fixed_number word (inl e) digit = ap (list_all is_number_byte) e
-fixed_number word (inr (inl e)) digit = absurd (false≢true (sym (ap (λ w. is_ascii_digit (first_of w)) e) ∙ digit))
-fixed_number word (inr (inr (inl e))) digit = absurd (false≢true (sym (ap (λ w. is_ascii_digit (first_of w)) e) ∙ digit))
-fixed_number word (inr (inr (inr (inl e)))) digit = absurd (false≢true (sym (ap (λ w. is_ascii_digit (first_of w)) e) ∙ digit))
-fixed_number word (inr (inr (inr (inr (inl e))))) digit = absurd (false≢true (sym (ap (λ w. is_ascii_digit (first_of w)) e) ∙ digit))
-fixed_number word (inr (inr (inr (inr (inr (inl e)))))) digit = absurd (false≢true (sym (ap (λ w. is_ascii_digit (first_of w)) e) ∙ digit))
-fixed_number word (inr (inr (inr (inr (inr (inr none)))))) digit = absurd none
+fixed_number word among =
+    all_among (λ w. is_ascii_digit (first_of w) ≡ true → list_all is_number_byte w ≡ true) fixed_words (
+      λ d. refl,
+      (
+        λ d. absurd (false≢true d),
+        (
+          λ d. absurd (false≢true d),
+          (
+            λ d. absurd (false≢true d),
+            (λ d. absurd (false≢true d), (λ d. absurd (false≢true d), tt)),
+          ),
+        ),
+      ),
+    ) word among
 
 all_number_bytes : (word : List ℕ) → list_all is_ascii_digit word ≡ true → list_all is_number_byte word ≡ true
 all_number_bytes [] all = refl
