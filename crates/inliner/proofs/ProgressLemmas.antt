@@ -1,6 +1,9 @@
 -- A run on its way: what is left of it.
 use Rattle.std.proofs.Common.{◌≡◌, ℕ, ◌≤◌, List, [], ◌∷◌, length, refl, ap, ◌∙◌, subst, arith}
-use Rattle.std.specs.Prelude.{Result, Ok, Err, IfOk, OnOk}
+use Rattle.std.specs.Prelude.{Result, Ok, Err, IfOk, OnOk, MatchResult}
+use Rattle.std.specs.Result.{IsErrAnd, IfErr}
+use Rattle.std.proofs.lemmas.Result.{MatchResult-from_both}
+use Rattle.revc_base.proofs.ResultLemmas.{no_value, passes_on}
 use Rattle.revs_terms.specs.Trees.{Tree, trees, list_of, ItemTree, item_trees, items_of}
 use Rattle.revs_terms.specs.Running as runs
 use Rattle.revs_terms.specs.Running.{Environment, State, Outcome, stuck, went, after, run_of, term_of, bit_of, bits_of, chain_of, worked}
@@ -9,14 +12,19 @@ use Rattle.inliner.specs.declared.fault.RunFault.{RunFault}
 use Rattle.inliner.specs.declared.machine.Machine.{Machine}
 use Rattle.inliner.specs.inside.Machines.{env_in, envs_of, state_of, IsMachine, AreWorkedFor, LeavesRoom, Grows, Does, Goes, BindsOne, Calls}
 use Rattle.inliner.proofs.FaultLemmas.{said_same}
-use Rattle.inliner.specs.inside.Calls.{Says}
+use Rattle.inliner.specs.inside.Calls.{Says, Follows}
 use Rattle.inliner.proofs.EnvironmentLemmas.{grows_same, grows_trans, grown_env}
 
 -- ---- results that are passed on
 
-pub on_ok_alone : {T E : Type 0} {P : T → Type 0} {Q : Type 0} (r : Result T E) → ((x : T) → P x → Q) → IfOk r P → OnOk r Q
-on_ok_alone (Ok x) f h = f x h
-on_ok_alone (Err e) f h = tt
+pub on_ok_alone : {T E : Type 0} {P : T → Type 0} (R : E → Type 0) {Q : Type 0} (r : Result T E) → ((x : T) → P x → Q) → MatchResult r P R → OnOk r Q
+on_ok_alone R (Ok x) f h = f x h
+on_ok_alone R (Err e) f h = tt
+
+-- What the fault of a step that failed says, the exit of its `?` returns.
+pub stops : {T : Type 0} {fault : RunFault} (P : T → Type 0) (Q : RunFault → Type 0) (r : Result T RunFault) → IsErrAnd r (λ e. e ≡ fault) → Q fault
+    → MatchResult r P Q
+stops P Q r e q = MatchResult-from_both r P Q (no_value r P _ e) (passes_on Q r e q)
 
 -- ---- on the way
 
@@ -85,6 +93,24 @@ ends_calls {old} {now} {later} t room c = record {
 pub said : {A : Type 0} {old now : Machine} {whole rest : Outcome (Unit {0}) A} (fault : RunFault) → Through old now whole rest → Says fault rest
     → Says fault whole
 said {A} {old} {now} {whole} {rest} fault t says = said_same fault whole rest t.same says
+
+-- ---- answers that follow what is left of a run
+
+pub goes_on_so : {old now : Machine} (later : Machine) {whole rest : Outcome (Unit {0}) runs.Value} (r : Result Value RunFault)
+    → Through old now whole rest → Follows (Goes now later) rest r → Follows (Goes old later) whole r
+goes_on_so later (Ok v) t g = ends_goes t g
+goes_on_so later (Err fault) t s = said fault t s
+
+-- the same, where each of the two is said by a clause of its own
+pub does_by : {A : Type 0} {old now : Machine} (later : Machine) {whole rest : Outcome (Unit {0}) A} (r : Result A RunFault)
+    → Through old now whole rest → IfOk r (Does now later rest) → IfErr r (λ fault. Says fault rest) → Follows (Does old later) whole r
+does_by later (Ok a) t d s = ends t d
+does_by later (Err fault) t d s = said fault t s
+
+pub goes_by : {old now : Machine} (later : Machine) {whole rest : Outcome (Unit {0}) runs.Value} (r : Result Value RunFault)
+    → Through old now whole rest → IfOk r (Goes now later rest) → IfErr r (λ fault. Says fault rest) → Follows (Goes old later) whole r
+goes_by later (Ok v) t g s = ends_goes t g
+goes_by later (Err fault) t g s = said fault t s
 
 -- ---- the same environment, later
 

@@ -8,7 +8,7 @@ ghost use Rattle.revs_terms.specs.Terms.{place_of};
 ghost use Rattle.revs_terms.specs.Trees.{tree_of, item_tree_of, trees};
 ghost use Rattle.inliner.specs.inside.Machines.{IsMachine, Does, Goes, Binds, Calls, LeavesRoom};
 ghost use Rattle.inliner.specs.inside.Machines.{IsValue, env_of, value_of, state_of};
-ghost use Rattle.inliner.specs.inside.Calls.{Says, IsBitAt, NoBitAt, item_step, link_step};
+ghost use Rattle.inliner.specs.inside.Calls.{Follows, IsBitAt, NoBitAt, item_step, link_step};
 ghost use Rattle.inliner.specs.inside.Calls.{chain_tree, argument_step};
 ghost use Rattle.inliner.specs.inside.Numbers.{loop_run};
 ghost use Rattle.revs_terms.specs.Trees as shape;
@@ -28,12 +28,10 @@ impl<'t> Machine<'t> {
     pub fn run(&mut self, env: u32, term: &'t Term, left: u32) -> Result<Value<'t>, RunFault>
         requires machine { IsMachine self.old }
         requires env { env ≤ length self.old.bindings.items }
-        ensures ok { IfOk result (λ value. Goes self.old self.new
+        ensures run { Follows (Goes self.old self.new)
             (run_of no_bits left (env_of self.old env) (tree_of term.now) (state_of self.old))
-            value) }
+            result }
         ensures room { OnOk result (LeavesRoom self.old self.new) }
-        ensures err { IfErr result (λ fault. Says fault
-            (run_of no_bits left (env_of self.old env) (tree_of term.now) (state_of self.old))) }
     {
         if left == 0 {
             return Err(RunFault::stuck(Cause::Depth, term.place()));
@@ -47,12 +45,9 @@ impl<'t> Machine<'t> {
     fn term(&mut self, env: u32, term: &'t Term, left: u32) -> Result<Value<'t>, RunFault>
         requires machine { IsMachine self.old }
         requires env { env ≤ length self.old.bindings.items }
-        ensures ok { IfOk result (λ value. Goes self.old self.new
+        ensures { Follows (Goes self.old self.new)
             (term_of no_bits (run_of no_bits left) (env_of self.old env) (tree_of term.now)
-            (state_of self.old)) value) }
-        ensures err { IfErr result (λ fault. Says fault
-            (term_of no_bits (run_of no_bits left) (env_of self.old env) (tree_of term.now)
-            (state_of self.old))) }
+            (state_of self.old)) result }
     {
         match term {
             Term::Name(name) => self.named(env, name.back),
@@ -77,12 +72,9 @@ impl<'t> Machine<'t> {
     fn bit(&mut self, env: u32, term: &'t Term, left: u32) -> Result<u32, RunFault>
         requires machine { IsMachine self.old }
         requires env { env ≤ length self.old.bindings.items }
-        ensures ok { IfOk result (λ location. Does self.old self.new
+        ensures { Follows (Does self.old self.new)
             (bit_of no_bits (run_of no_bits left) (env_of self.old env) (tree_of term.now)
-            (state_of self.old)) location) }
-        ensures err { IfErr result (λ fault. Says fault
-            (bit_of no_bits (run_of no_bits left) (env_of self.old env) (tree_of term.now)
-            (state_of self.old))) }
+            (state_of self.old)) result }
     {
         let value = self.run(env, term, left)?;
         bit_at(&value, term)
@@ -99,12 +91,9 @@ impl<'t> Machine<'t> {
     ) -> Result<Value<'t>, RunFault>
         requires machine { IsMachine self.old }
         requires env { env ≤ length self.old.bindings.items }
-        ensures ok { IfOk result (λ value. Goes self.old self.new
-            (claimed no_bits (run_of no_bits left) kind (env_of self.old env)
-            (tree_of operand.now) at (state_of self.old)) value) }
-        ensures err { IfErr result (λ fault. Says fault
-            (claimed no_bits (run_of no_bits left) kind (env_of self.old env)
-            (tree_of operand.now) at (state_of self.old))) }
+        ensures { Follows (Goes self.old self.new)
+            (claimed no_bits (run_of no_bits left) kind (env_of self.old env) (tree_of operand.now)
+            at (state_of self.old)) result }
     {
         let location = self.bit(env, operand, left)?;
         self.claim(kind, location, operand, at)
@@ -120,13 +109,9 @@ impl<'t> Machine<'t> {
     ) -> Result<Value<'t>, RunFault>
         requires machine { IsMachine self.old }
         requires env { env ≤ length self.old.bindings.items }
-        ensures ok { IfOk result (λ value. Goes self.old self.new
-            (term_of no_bits (run_of no_bits left) (env_of self.old env)
-            (shape.assign (tree_of left_term.now) (tree_of right_term.now)) (state_of self.old))
-            value) }
-        ensures err { IfErr result (λ fault. Says fault
-            (term_of no_bits (run_of no_bits left) (env_of self.old env)
-            (shape.assign (tree_of left_term.now) (tree_of right_term.now)) (state_of self.old))) }
+        ensures { Follows (Goes self.old self.new)
+            (term_of no_bits (run_of no_bits left) (env_of self.old env) (shape.assign
+            (tree_of left_term.now) (tree_of right_term.now)) (state_of self.old)) result }
     {
         let to = self.bit(env, left_term, left)?;
         let from = self.bit(env, right_term, left)?;
@@ -143,12 +128,9 @@ impl<'t> Machine<'t> {
     ) -> Result<Value<'t>, RunFault>
         requires machine { IsMachine self.old }
         requires env { env ≤ length self.old.bindings.items }
-        ensures ok { IfOk result (λ value. Goes self.old self.new
-            (term_of no_bits (run_of no_bits left) (env_of self.old env)
-            (shape.reg (trees (map tree_of terms.now)) at) (state_of self.old)) value) }
-        ensures err { IfErr result (λ fault. Says fault
-            (term_of no_bits (run_of no_bits left) (env_of self.old env)
-            (shape.reg (trees (map tree_of terms.now)) at) (state_of self.old))) }
+        ensures { Follows (Goes self.old self.new)
+            (term_of no_bits (run_of no_bits left) (env_of self.old env) (shape.reg (trees
+            (map tree_of terms.now)) at) (state_of self.old)) result }
     {
         let locations = self.bits(env, terms, left)?;
         self.short_register(locations, at)
@@ -159,12 +141,9 @@ impl<'t> Machine<'t> {
     fn bits(&mut self, env: u32, terms: &'t [Term], left: u32) -> Result<Vec<u32>, RunFault>
         requires machine { IsMachine self.old }
         requires env { env ≤ length self.old.bindings.items }
-        ensures ok { IfOk result (λ made. Does self.old self.new
+        ensures { Follows (λ outcome made. Does self.old self.new outcome made.items)
             (bits_of no_bits (run_of no_bits left) (env_of self.old env) (map tree_of terms.now)
-            (state_of self.old)) made.items) }
-        ensures err { IfErr result (λ fault. Says fault
-            (bits_of no_bits (run_of no_bits left) (env_of self.old env) (map tree_of terms.now)
-            (state_of self.old))) }
+            (state_of self.old)) result }
     {
         let mut locations = Vec::new(self.allocator());
         for term in terms {
@@ -184,12 +163,9 @@ impl<'t> Machine<'t> {
     ) -> Result<Value<'t>, RunFault>
         requires machine { IsMachine self.old }
         requires env { env ≤ length self.old.bindings.items }
-        ensures ok { IfOk result (λ value. Goes self.old self.new
-            (term_of no_bits (run_of no_bits left) (env_of self.old env)
-            (chain_tree op (map tree_of terms.now)) (state_of self.old)) value) }
-        ensures err { IfErr result (λ fault. Says fault
-            (term_of no_bits (run_of no_bits left) (env_of self.old env)
-            (chain_tree op (map tree_of terms.now)) (state_of self.old))) }
+        ensures { Follows (Goes self.old self.new)
+            (term_of no_bits (run_of no_bits left) (env_of self.old env) (chain_tree op
+            (map tree_of terms.now)) (state_of self.old)) result }
     {
         let Some((first, rest)) = terms.split_first() else {
             return Ok(Value::Unit);
@@ -214,12 +190,9 @@ impl<'t> Machine<'t> {
     ) -> Result<u32, RunFault>
         requires machine { IsMachine self.old }
         requires env { env ≤ length self.old.bindings.items }
-        ensures ok { IfOk result (λ made. Does self.old self.new
-            (link_step (run_of no_bits left) op (env_of self.old env)
-            (place_of (tree_of first.now)) so_far (tree_of term.now) (state_of self.old)) made) }
-        ensures err { IfErr result (λ fault. Says fault
-            (link_step (run_of no_bits left) op (env_of self.old env)
-            (place_of (tree_of first.now)) so_far (tree_of term.now) (state_of self.old))) }
+        ensures { Follows (Does self.old self.new)
+            (link_step (run_of no_bits left) op (env_of self.old env) (place_of (tree_of first.now))
+            so_far (tree_of term.now) (state_of self.old)) result }
     {
         let next = self.bit(env, term, left)?;
         self.join(op, so_far, next, first, term)
@@ -236,12 +209,9 @@ impl<'t> Machine<'t> {
     ) -> Result<Value<'t>, RunFault>
         requires machine { IsMachine self.old }
         requires env { env ≤ length self.old.bindings.items }
-        ensures ok { IfOk result (λ value. Goes self.old self.new
+        ensures { Follows (Goes self.old self.new)
             (block_of no_bits (run_of no_bits left) (env_of self.old env)
-            (map item_tree_of items.now) (tree_of last.now) (state_of self.old)) value) }
-        ensures err { IfErr result (λ fault. Says fault
-            (block_of no_bits (run_of no_bits left) (env_of self.old env)
-            (map item_tree_of items.now) (tree_of last.now) (state_of self.old))) }
+            (map item_tree_of items.now) (tree_of last.now) (state_of self.old)) result }
     {
         let inner = self.items(env, items, left)?;
         self.run(inner, last, left)
@@ -252,12 +222,9 @@ impl<'t> Machine<'t> {
     fn items(&mut self, env: u32, items: &'t [Item], left: u32) -> Result<u32, RunFault>
         requires machine { IsMachine self.old }
         requires env { env ≤ length self.old.bindings.items }
-        ensures ok { IfOk result (λ behind. Binds self.old self.new
+        ensures { Follows (Binds self.old self.new)
             (items_run no_bits (run_of no_bits left) (env_of self.old env)
-            (map item_tree_of items.now) (state_of self.old)) behind) }
-        ensures err { IfErr result (λ fault. Says fault
-            (items_run no_bits (run_of no_bits left) (env_of self.old env)
-            (map item_tree_of items.now) (state_of self.old))) }
+            (map item_tree_of items.now) (state_of self.old)) result }
     {
         let mut inner = env;
         for item in items {
@@ -271,12 +238,9 @@ impl<'t> Machine<'t> {
     fn item(&mut self, env: u32, item: &'t Item, left: u32) -> Result<u32, RunFault>
         requires machine { IsMachine self.old }
         requires env { env ≤ length self.old.bindings.items }
-        ensures ok { IfOk result (λ behind. Binds self.old self.new
+        ensures { Follows (Binds self.old self.new)
             (item_step (run_of no_bits left) (env_of self.old env) (item_tree_of item.now)
-            (state_of self.old)) behind) }
-        ensures err { IfErr result (λ fault. Says fault
-            (item_step (run_of no_bits left) (env_of self.old env) (item_tree_of item.now)
-            (state_of self.old))) }
+            (state_of self.old)) result }
     {
         match item {
             Item::Let { value, .. } => {
@@ -311,12 +275,9 @@ impl<'t> Machine<'t> {
     ) -> Result<Value<'t>, RunFault>
         requires machine { IsMachine self.old }
         requires env { env ≤ length self.old.bindings.items }
-        ensures ok { IfOk result (λ value. Goes self.old self.new
+        ensures { Follows (Goes self.old self.new)
             (loop_run left (env_of self.old env) ends.now.first ends.now.last
-            (map item_tree_of items.now) at (state_of self.old)) value) }
-        ensures err { IfErr result (λ fault. Says fault
-            (loop_run left (env_of self.old env) ends.now.first ends.now.last
-            (map item_tree_of items.now) at (state_of self.old))) }
+            (map item_tree_of items.now) at (state_of self.old)) result }
     {
         if left == 0 {
             return Err(RunFault::stuck(Cause::Depth, at));
@@ -340,12 +301,9 @@ impl<'t> Machine<'t> {
     ) -> Result<Value<'t>, RunFault>
         requires machine { IsMachine self.old }
         requires env { env ≤ length self.old.bindings.items }
-        ensures ok { IfOk result (λ value. Goes self.old self.new
+        ensures { Follows (Goes self.old self.new)
             (turns_of no_bits (run_of no_bits left) (env_of self.old env)
-            (map item_tree_of items.now) at low (turns low high) (state_of self.old)) value) }
-        ensures err { IfErr result (λ fault. Says fault
-            (turns_of no_bits (run_of no_bits left) (env_of self.old env)
-            (map item_tree_of items.now) at low (turns low high) (state_of self.old))) }
+            (map item_tree_of items.now) at low (turns low high) (state_of self.old)) result }
     {
         for turn in 0..turn_count(low, high) {
             self.turn(env, items, at, number_at(low, turn), left)?;
@@ -365,12 +323,9 @@ impl<'t> Machine<'t> {
     ) -> Result<u32, RunFault>
         requires machine { IsMachine self.old }
         requires env { env ≤ length self.old.bindings.items }
-        ensures ok { IfOk result (λ behind. Binds self.old self.new
+        ensures { Follows (Binds self.old self.new)
             (turn_of no_bits (run_of no_bits left) (env_of self.old env)
-            (map item_tree_of items.now) at number (state_of self.old)) behind) }
-        ensures err { IfErr result (λ fault. Says fault
-            (turn_of no_bits (run_of no_bits left) (env_of self.old env)
-            (map item_tree_of items.now) at number (state_of self.old))) }
+            (map item_tree_of items.now) at number (state_of self.old)) result }
     {
         self.work(1, at)?;
         let inner = self.push(env, Value::Num(number))?;
@@ -388,12 +343,9 @@ impl<'t> Machine<'t> {
     ) -> Result<Value<'t>, RunFault>
         requires machine { IsMachine self.old }
         requires env { env ≤ length self.old.bindings.items }
-        ensures ok { IfOk result (λ value. Goes self.old self.new
-            (term_of no_bits (run_of no_bits left) (env_of self.old env)
-            (shape.parts (tree_of base.now) inside.now) (state_of self.old)) value) }
-        ensures err { IfErr result (λ fault. Says fault
-            (term_of no_bits (run_of no_bits left) (env_of self.old env)
-            (shape.parts (tree_of base.now) inside.now) (state_of self.old))) }
+        ensures { Follows (Goes self.old self.new)
+            (term_of no_bits (run_of no_bits left) (env_of self.old env) (shape.parts
+            (tree_of base.now) inside.now) (state_of self.old)) result }
     {
         let value = self.run(env, base, left)?;
         self.parts(env, base.place(), inside, value)
@@ -410,12 +362,9 @@ impl<'t> Machine<'t> {
     ) -> Result<Value<'t>, RunFault>
         requires machine { IsMachine self.old }
         requires env { env ≤ length self.old.bindings.items }
-        ensures ok { IfOk result (λ value. Goes self.old self.new
-            (term_of no_bits (run_of no_bits left) (env_of self.old env)
-            (shape.rotate by.now (tree_of operand.now) at) (state_of self.old)) value) }
-        ensures err { IfErr result (λ fault. Says fault
-            (term_of no_bits (run_of no_bits left) (env_of self.old env)
-            (shape.rotate by.now (tree_of operand.now) at) (state_of self.old))) }
+        ensures { Follows (Goes self.old self.new)
+            (term_of no_bits (run_of no_bits left) (env_of self.old env) (shape.rotate by.now
+            (tree_of operand.now) at) (state_of self.old)) result }
     {
         let k = self.number(env, by)?;
         let value = self.run(env, operand, left)?;
@@ -433,12 +382,9 @@ impl<'t> Machine<'t> {
     ) -> Result<Value<'t>, RunFault>
         requires machine { IsMachine self.old }
         requires env { env ≤ length self.old.bindings.items }
-        ensures ok { IfOk result (λ value. Goes self.old self.new
-            (term_of no_bits (run_of no_bits left) (env_of self.old env)
-            (shape.append (tree_of first.now) (tree_of second.now) at) (state_of self.old)) value) }
-        ensures err { IfErr result (λ fault. Says fault
-            (term_of no_bits (run_of no_bits left) (env_of self.old env)
-            (shape.append (tree_of first.now) (tree_of second.now) at) (state_of self.old))) }
+        ensures { Follows (Goes self.old self.new)
+            (term_of no_bits (run_of no_bits left) (env_of self.old env) (shape.append
+            (tree_of first.now) (tree_of second.now) at) (state_of self.old)) result }
     {
         let front = self.run(env, first, left)?;
         let back = self.run(env, second, left)?;
@@ -456,13 +402,9 @@ impl<'t> Machine<'t> {
     ) -> Result<Value<'t>, RunFault>
         requires machine { IsMachine self.old }
         requires env { env ≤ length self.old.bindings.items }
-        ensures ok { IfOk result (λ value. Goes self.old self.new
-            (term_of no_bits (run_of no_bits left) (env_of self.old env)
-            (shape.apply (tree_of head.now) (trees (map tree_of terms.now))) (state_of self.old))
-            value) }
-        ensures err { IfErr result (λ fault. Says fault
-            (term_of no_bits (run_of no_bits left) (env_of self.old env)
-            (shape.apply (tree_of head.now) (trees (map tree_of terms.now))) (state_of self.old))) }
+        ensures { Follows (Goes self.old self.new)
+            (term_of no_bits (run_of no_bits left) (env_of self.old env) (shape.apply
+            (tree_of head.now) (trees (map tree_of terms.now))) (state_of self.old)) result }
     {
         let mut value = self.run(env, head, left)?;
         for term in terms {
@@ -483,12 +425,9 @@ impl<'t> Machine<'t> {
         requires machine { IsMachine self.old }
         requires env { env ≤ length self.old.bindings.items }
         requires made { IsValue (length self.old.bindings.items) callee }
-        ensures ok { IfOk result (λ value. Goes self.old self.new
+        ensures { Follows (Goes self.old self.new)
             (argument_step (run_of no_bits left) (env_of self.old env)
-            (value_of self.old callee.entry) (tree_of term.now) (state_of self.old)) value) }
-        ensures err { IfErr result (λ fault. Says fault
-            (argument_step (run_of no_bits left) (env_of self.old env)
-            (value_of self.old callee.entry) (tree_of term.now) (state_of self.old))) }
+            (value_of self.old callee.entry) (tree_of term.now) (state_of self.old)) result }
     {
         let argument = self.run(env, term, left)?;
         self.call(callee, argument, term, left)
@@ -508,14 +447,10 @@ impl<'t> Machine<'t> {
         requires room { length self.old.bindings.items + 1 ≤ MOST_INPUTS + self.old.work }
         requires callee { IsValue (length self.old.bindings.items) callee }
         requires argument { IsValue (length self.old.bindings.items) argument }
-        ensures ok { IfOk result (λ value. Calls self.old self.new
+        ensures { Follows (Calls self.old self.new)
             (apply_to no_bits (run_of no_bits left) (place_of (tree_of term.now))
             (value_of self.old callee.entry) (value_of self.old argument.entry) (state_of self.old))
-            value) }
-        ensures err { IfErr result (λ fault. Says fault
-            (apply_to no_bits (run_of no_bits left) (place_of (tree_of term.now))
-            (value_of self.old callee.entry) (value_of self.old argument.entry)
-            (state_of self.old))) }
+            result }
     {
         let Value::Fun { env, taken, of } = callee else {
             return Err(RunFault::stuck(Cause::NotFunction, term.place()));

@@ -1,5 +1,5 @@
 -- What the calls of the machine do to the run, beside the steps of the language.
-use Rattle.std.specs.Prelude.{◌≡◌, ℕ, None, List, ⊤}
+use Rattle.std.specs.Prelude.{◌≡◌, ℕ, None, List, ⊤, Result, MatchResult}
 use Rattle.revc_base.specs.declared.place.Place.{Place}
 use Rattle.revs_tape.specs.declared.tape.Ref.{Ref}
 use Rattle.revs_tape.specs.declared.tape.Entry.{Entry}
@@ -87,6 +87,10 @@ IsStuckAs faults.Memory outcome = ⊤
 -- The run is stuck as the fault says; want of memory says nothing of the run.
 pub record Says {A : Type 0} (fault : RunFault) (outcome : Going A) : Type 0 where
   pub stuck : IsStuckAs fault outcome
+
+-- An answer follows the run: it goes on so with the answer, or is stuck as the fault says.
+abbrev pub Follows : {A V : Type 0} → (Going A → V → Type 0) → Going A → Result V RunFault → Type 0
+Follows GoesOn outcome answer = MatchResult answer (GoesOn outcome) (λ fault. Says fault outcome)
 
 -- the fault of a list call, for the term or part at this place
 abbrev pub shape_fault : ShapeFault → Place → RunFault

@@ -11,14 +11,14 @@ returns-in_err-value-clause-ok c = no_value c.from_residual.result _ _ c.from_re
 pub returns-in_err-value-clause-err : goal.returns-in_err-value-clause-err
 returns-in_err-value-clause-err c = passes_on _ c.from_residual.result c.from_residual.ensures.1
     (body_stuck 400 (env_in (envs_of c.args.machine.now) c.args.env) (tree_of c.args.body.now) c.args.machine.now c.in_err-value.field-0.0
-    c.in_err-value.ensures.err)
+    c.in_err-value.ensures.run)
 
 pub returns-clause-ok : goal.returns-clause-ok
 returns-clause-ok c = IfOk-weaker c.outputs.result _ _
     (λ made o. body_ends c.args.machine.now c.run.new.self c.args.env (tree_of c.args.body.now) c.in_ok-value.value made.items
-    c.in_ok-value.ensures.ok o) c.outputs.ensures.ok
+    c.in_ok-value.ensures.run o) c.outputs.ensures.ok
 
 pub returns-clause-err : goal.returns-clause-err
 returns-clause-err c = IfErr-weaker c.outputs.result _ _
     (λ f s. outputs_stuck 400 (env_in (envs_of c.args.machine.now) c.args.env) (tree_of c.args.body.now) c.args.machine.now c.run.new.self
-    c.in_ok-value.value f c.in_ok-value.ensures.ok s) c.outputs.ensures.err
+    c.in_ok-value.value f c.in_ok-value.ensures.run s) c.outputs.ensures.err
