@@ -1,7 +1,7 @@
 // Expressions.
 
 ghost use Rattle.std.specs.Prelude.{◌≡◌, ◌+◌, ◌<◌, ◌≤◌, true, false, length};
-ghost use Rattle.std.specs.Prelude.{[], ◌∷◌, ◌++◌, map, IfOk, IfErr, IfSome, IfNone, OnOk};
+ghost use Rattle.std.specs.Prelude.{[], ◌∷◌, map, IfOk, IfErr, IfSome, IfNone};
 ghost use Rattle.std.specs.Prelude.{MatchResult};
 ghost use Rattle.revs_terms.specs.declared.limits.TheConstants.{MOST_LEVELS};
 ghost use Rattle.revs_grammar.specs.Forms as g;
@@ -23,7 +23,7 @@ use crate::build::{assignment, bound_value, function_of, joined, operation, with
 use crate::front::{Opener, first_opener, first_operator};
 use crate::leaf::{after, after_word, begins_name, expect, expect_word, name, single_base};
 use crate::numbers::num;
-use crate::stop::{Stop, both, put};
+use crate::stop::{Stop, both, put, put_alone};
 use revc_base::Place;
 use revs_grammar::Profile;
 use revs_lexer::{Sign, Tok, Token, Word};
@@ -87,18 +87,6 @@ fn part(
     both(Part::Slice { i, j, at }, expect(rest, Sign::CloseSquare))
 }
 
-// Puts a part behind the others. The first takes room for itself alone, as most stand alone.
-fn put_part(parts: &mut Vec<Part>, part: Part) -> Result<(), Stop>
-    ensures ok { OnOk result (parts.new.items ≡ parts.old.items ++ part ∷ []) }
-    ensures memory { IfErr result (λ stop. stop ≡ Stop.Memory) }
-{
-    if parts.is_empty() {
-        parts.reserve_exact(1)?;
-    }
-    parts.push(part)?;
-    Ok(())
-}
-
 // { part }
 fn all_parts(
     alloc: Global,
@@ -113,9 +101,7 @@ fn all_parts(
     let mut parts = Vec::new(alloc);
     let mut rest = tokens;
     while let Some((at, behind)) = after(rest, Sign::Dot) {
-        let (next, left) = part(alloc, profile, behind, at)?;
-        put_part(&mut parts, next)?;
-        rest = left;
+        rest = put_alone(&mut parts, part(alloc, profile, behind, at))?;
     }
     Ok((parts, rest))
 }

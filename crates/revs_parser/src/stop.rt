@@ -69,3 +69,17 @@ pub fn put<T: Drop, R: Drop>(all: &mut Vec<T>, read: Result<(T, R), Stop>) -> Re
     all.push(next)?;
     Ok(rest)
 }
+
+/// Puts what was read behind the others. The first takes room for itself alone, as most stand
+/// alone.
+pub fn put_alone<T: Drop, R: Drop>(all: &mut Vec<T>, read: Result<(T, R), Stop>) -> Result<R, Stop>
+    ensures { MatchResult result (λ rest. Puts all.old.items all.new.items read rest)
+        (λ stop. Lacks read stop) }
+{
+    let (next, rest) = read?;
+    if all.is_empty() {
+        all.reserve_exact(1)?;
+    }
+    all.push(next)?;
+    Ok(rest)
+}
