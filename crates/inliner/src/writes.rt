@@ -53,7 +53,6 @@ impl<'t> Machine<'t> {
         self.tape.claim(Claim { kind, of, at })?;
         if kind == Kind::Clean {
             self.store[location as usize] = None;
-            return Ok(Value::Unit);
         }
         Ok(Value::Unit)
     }

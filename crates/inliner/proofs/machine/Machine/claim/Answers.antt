@@ -2,15 +2,17 @@ use Rattle.std.proofs.Common.{refl, rules, arith, length, ap}
 use Rattle.inliner.proofs.WriteLemmas.{asserted, cleaned}
 use Rattle.revc_base.proofs.ResultLemmas.{no_value, passes_on}
 use Rattle.inliner.proofs.FaultLemmas.{said_first}
+use Rattle.inliner.proofs.machine.Machine.claim.Goals.{then-eq, else-eq}
 use Rattle.inliner.proofs.machine.Machine.claim.Goals as goal
 
-pub returns-then-eq-clause-ok : goal.returns-then-eq-clause-ok
-returns-then-eq-clause-ok c = cleaned c.args.self.now _ c.args.kind c.args.location _ c.args.at c.in_ok-of.of
-    (search rules) refl refl c.in_ok-claim.ensures.ok refl c.in_ok-of.ensures.ok (omega (arith, ap length c.claims.ensures.claims)) c.requires
-
 pub returns-clause-ok : goal.returns-clause-ok
-returns-clause-ok c = asserted c.args.self.now _ c.args.kind c.args.location _ c.args.at c.in_ok-of.of
-    (search rules) refl refl c.in_ok-claim.ensures.ok refl c.in_ok-of.ensures.ok (omega (arith, ap length c.claims.ensures.claims)) c.requires
+returns-clause-ok c =
+    elim c.if-eq.branch [
+      | then-eq w ↦ rw w.self-is (cleaned c.args.self.now _ c.args.kind c.args.location _ c.args.at c.in_ok-of.of
+          (search rules) refl refl c.in_ok-claim.ensures.ok refl c.in_ok-of.ensures.ok (omega (arith, ap length c.claims.ensures.claims)) c.requires)
+      | else-eq w ↦ rw w.self-is (asserted c.args.self.now _ c.args.kind c.args.location _ c.args.at c.in_ok-of.of
+          (search rules) refl refl c.in_ok-claim.ensures.ok refl c.in_ok-of.ensures.ok (omega (arith, ap length c.claims.ensures.claims)) c.requires)
+    ]
 
 pub returns-in_err-of-clause-ok : goal.returns-in_err-of-clause-ok
 returns-in_err-of-clause-ok c = no_value c.from_residual.result _ _ c.from_residual.ensures.1
