@@ -1,15 +1,15 @@
 -- Blocks, parts and functions, as the machine takes them.
 use Rattle.std.proofs.Common.{◌≡◌, ℕ, zero, suc, ◌+◌, ◌-◌, ◌≤◌, ◌<◌, None, List, [], ◌∷◌, length, drop, map, get_or, refl, sym, ap, ◌∙◌, subst, arith}
 use Rattle.revc_base.specs.declared.place.Place.{Place}
-use Rattle.std.specs.Prelude.{ℤ}
+use Rattle.std.specs.Prelude.{ℤ, Result, Ok, Err, IfOk, IfErr}
 use Rattle.revs_terms.specs.declared.term.Name.{Name}
 use Rattle.revs_terms.specs.declared.term.Step.{Step}
 use Rattle.revs_terms.specs.declared.term.Part.{Part}
 use Rattle.revs_terms.specs.Terms.{place_of}
-use Rattle.revs_terms.specs.Trees.{Tree, trees, list_of, ItemTree, item_trees, bind, run, block, parts, apply, append, rotate}
+use Rattle.revs_terms.specs.Trees.{Tree, used, trees, list_of, ItemTree, item_trees, bind, run, block, parts, apply, append, rotate}
 use Rattle.revs_terms.specs.Running as runs
 use Rattle.revs_terms.specs.Running.{Environment, bound, bound_length, State, Outcome, stuck, went, after, run_of, term_of, as_bit, bit_of}
-use Rattle.revs_terms.specs.Running.{items_run, block_of, parts_of, apply_all, apply_to, worked, appended, rotated, number_of}
+use Rattle.revs_terms.specs.Running.{items_run, block_of, parts_of, apply_all, apply_to, worked, appended, rotated, number_of, value_at}
 use Rattle.revs_terms.specs.Runs.{no_bits}
 use Rattle.array_shapes.specs.declared.value.Value.{Value}
 use Rattle.array_shapes.specs.Values as values
@@ -19,11 +19,11 @@ use Rattle.inliner.specs.declared.fault.RunFault.TheVariants as faults
 use Rattle.inliner.specs.declared.machine.Machine.{Machine}
 use Rattle.inliner.specs.inside.Machines.{env_in, spec_value, value_in, envs_of, state_of, IsMachine, IsValue, Does, Goes}
 use Rattle.inliner.specs.inside.Machines.{Binds, AreWorkedFor, LeavesRoom, Grows, BindsOne, Calls}
-use Rattle.inliner.proofs.FaultLemmas.{said_first, said_same}
+use Rattle.inliner.proofs.FaultLemmas.{said_first, said_same, memory_says}
 use Rattle.inliner.proofs.EnvironmentLemmas.{grown_env, grown_length, grown_value, grows_trans}
 use Rattle.inliner.proofs.ProgressLemmas.{Through, after_went, begun, ends_here, goes_in, items_of-item_trees, list_of-trees}
 use Rattle.inliner.proofs.ProgressLemmas.{regroup, said, same_next, same_rest, says_in, step, step_bound}
-use Rattle.inliner.specs.inside.Calls.{Going, Says, IsBitAt, NoBitAt, argument_step, bind_step, item_step}
+use Rattle.inliner.specs.inside.Calls.{Going, Says, Follows, IsBitAt, NoBitAt, argument_step, bind_step, item_step}
 use Rattle.revs_terms.specs.declared.cause.Cause.TheVariants as causes
 
 -- ---- loops and exits
@@ -415,3 +415,16 @@ pub item_stuck : (old mid : Machine) (left env : ℕ) (name : Name) (t : Tree) (
 item_stuck old mid left env name t v fault is h g says =
     said fault (step (λ value s. bind_step value (env_in (envs_of old) env) (place_of t) s) (begun old _ _ refl is) g.does)
     (says_in (λ e. bind_step (value_in (envs_of mid) v) e (place_of t) (state_of mid)) old mid env fault g.does.grows h says)
+
+-- ---- names
+
+pub named_goes : (m : Machine) (left env : ℕ) (name : Name) (t : Tree) (r : Result Value RunFault) → t ≡ used name → IsMachine m
+    → IfOk r (λ v. value_in (envs_of m) v ≡ value_at (env_in (envs_of m) env) name.back) → IfOk r (λ v. IsValue (length m.bindings.items) v)
+    → IfErr r (λ fault. fault ≡ faults.Memory) → Follows (Goes m m) (term_of no_bits (run_of no_bits left) (env_in (envs_of m) env) t (state_of m)) r
+named_goes m left env name t (Ok v) cut is e made s = record {
+  does = ends_here (value_in (envs_of m) v) (begun m _ _ refl is)
+      (ap (λ (x : Tree). term_of no_bits (run_of no_bits left) (env_in (envs_of m) env) x (state_of m)) cut
+      ∙ ap (λ (x : runs.Value). went x (state_of m)) (sym e));
+  made = made;
+}
+named_goes m left env name t (Err fault) cut is e made s = memory_says fault _ s

@@ -161,10 +161,6 @@ at_default (y ∷ ys) (suc i) d h =
     let next : suc i + 1 ≡ suc (i + 1) = omega arith in
     rw next (at_default ys i d (omega arith))
 
--- Want of memory says nothing of the run.
-pub memory_says : {A : Type 0} (fault : RunFault) (o : Going A) → fault ≡ faults.Memory → Says fault o
-memory_says fault o e = subst (λ (f : RunFault). Says f o) (sym e) (record { stuck = tt })
-
 -- ---- every input
 
 stuck_on_all : (params : List Param) (body : Tree) (fault : RunFault) → IsStuckAs fault (run_without_bits params body) → IsStuckOnAll params body fault

@@ -27,3 +27,7 @@ pub said_next : {A C : Type 0} (fault : RunFault) (o : Outcome (Unit {0}) A) (a 
     (next : A → State (Unit {0}) → Outcome (Unit {0}) C)
     → o ≡ went a s → Says fault (next a s) → Says fault (after o next)
 said_next fault o a s next e says = said_same fault (after o next) (next a s) (ap (λ (x : Outcome (Unit {0}) _). after x next) e) says
+
+-- Want of memory says nothing of the run.
+pub memory_says : {A : Type 0} (fault : RunFault) (o : Outcome (Unit {0}) A) → fault ≡ faults.Memory → Says fault o
+memory_says fault o e = rw e (record { stuck = tt })

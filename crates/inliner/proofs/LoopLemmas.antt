@@ -1,18 +1,18 @@
 -- A `for`, as the machine runs it.
 use Rattle.std.proofs.Common.{◌≡◌, ℕ, zero, suc, ◌+◌, ◌-◌, ◌<◌, ◌≤◌, List, length, refl, sym, ap, ◌∙◌, subst, arith}
-use Rattle.std.specs.Prelude.{ℤ, pos, ◌+ℤ◌, Result, Ok, Err, IfOk, IfErr}
+use Rattle.std.specs.Prelude.{ℤ, pos, ◌+ℤ◌, Result, Ok, Err}
 use Rattle.revc_base.specs.declared.place.Place.{Place}
 use Rattle.revs_terms.specs.declared.term.Name.{Name}
 use Rattle.revs_terms.specs.declared.term.Step.{Step}
-use Rattle.revs_terms.specs.Trees.{Tree, used, ItemTree, item_trees, run, loop}
+use Rattle.revs_terms.specs.Trees.{ItemTree, item_trees, run, loop}
 use Rattle.revs_terms.specs.Running as runs
-use Rattle.revs_terms.specs.Running.{Environment, State, number, bound, went, after, turns, worked, number_of, items_run, turn_of, turns_of, run_of, term_of, value_at}
+use Rattle.revs_terms.specs.Running.{Environment, State, number, bound, went, after, turns, worked, number_of, items_run, turn_of, turns_of, run_of}
 use Rattle.revs_terms.specs.Runs.{no_bits}
 use Rattle.array_shapes.specs.declared.value.Value.{Value}
 use Rattle.inliner.specs.declared.fault.RunFault.{RunFault}
 use Rattle.inliner.specs.declared.fault.RunFault.TheVariants as faults
 use Rattle.inliner.specs.declared.machine.Machine.{Machine}
-use Rattle.inliner.specs.inside.Machines.{env_in, envs_of, value_in, state_of, IsMachine, IsValue, Does, Goes, Binds, BindsOne, LeavesRoom}
+use Rattle.inliner.specs.inside.Machines.{env_in, envs_of, state_of, IsMachine, Does, Goes, Binds, BindsOne, LeavesRoom}
 use Rattle.inliner.specs.inside.Calls.{Going, Says, Follows, item_step}
 use Rattle.inliner.specs.inside.Numbers.{loop_run}
 use Rattle.inliner.proofs.FaultLemmas.{said_first, said_same}
@@ -191,9 +191,6 @@ turn_bound old mid now left env inner is at k m h d room b =
     step_bound (λ f s. items_run no_bits (run_of no_bits left) f is s) (turn_worked old mid left env is at k m d) room
     (subst (λ (e : Environment). BindsOne mid now (went (bound (number k) e) (state_of mid)) inner) (grown_env old mid env d.grows h) b)
 
-pub memory_says : {A : Type 0} (fault : RunFault) (o : Going A) → fault ≡ faults.Memory → Says fault o
-memory_says fault o e = rw e (record { stuck = tt })
-
 pub ends_binds : {old now later : Machine} {whole rest : Going Environment} {env : ℕ} → Through old now whole rest → Binds now later rest env
     → Binds old later whole env
 ends_binds t b = record { does = ends t b.does; made = b.made }
@@ -202,16 +199,3 @@ pub binds_so : {old now : Machine} (later : Machine) {whole rest : Going Environ
     → Through old now whole rest → Follows (Binds now later) rest r → Follows (Binds old later) whole r
 binds_so later (Ok env) t b = ends_binds t b
 binds_so later (Err fault) t s = said fault t s
-
--- ---- names
-
-pub named_goes : (m : Machine) (left env : ℕ) (name : Name) (t : Tree) (r : Result Value RunFault) → t ≡ used name → IsMachine m
-    → IfOk r (λ v. value_in (envs_of m) v ≡ value_at (env_in (envs_of m) env) name.back) → IfOk r (λ v. IsValue (length m.bindings.items) v)
-    → IfErr r (λ fault. fault ≡ faults.Memory) → Follows (Goes m m) (term_of no_bits (run_of no_bits left) (env_in (envs_of m) env) t (state_of m)) r
-named_goes m left env name t (Ok v) cut is e made s = record {
-  does = ends_here (value_in (envs_of m) v) (begun m _ _ refl is)
-      (ap (λ (x : Tree). term_of no_bits (run_of no_bits left) (env_in (envs_of m) env) x (state_of m)) cut
-      ∙ ap (λ (x : runs.Value). went x (state_of m)) (sym e));
-  made = made;
-}
-named_goes m left env name t (Err fault) cut is e made s = memory_says fault _ s

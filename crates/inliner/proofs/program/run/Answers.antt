@@ -4,7 +4,8 @@ use Rattle.revs_terms.specs.Trees.{tree_of}
 use Rattle.inliner.specs.inside.Machines.{state_of}
 use Rattle.inliner.specs.inside.Starts.{IsStart, stamped}
 use Rattle.revc_base.proofs.ResultLemmas.{no_value, passes_on}
-use Rattle.inliner.proofs.EndLemmas.{program_stuck, program_leaves, memory_says, some_made}
+use Rattle.inliner.proofs.EndLemmas.{program_stuck, program_leaves, some_made}
+use Rattle.inliner.proofs.FaultLemmas.{memory_says}
 use Rattle.inliner.proofs.program.run.Goals as goal
 
 pub returns-in_err-machine-clause-err : goal.returns-in_err-machine-clause-err

@@ -12,17 +12,17 @@ use Rattle.inliner.specs.inside.Machines.{envs_of, env_in, value_in, state_of, G
 use Rattle.std.proofs.lemmas.Int.{to_z-of_z}
 use Rattle.std.proofs.lemmas.Result.{MatchResult-weaker, MatchResult-from_both, IfOk-weaker, IfErr-weaker}
 use Rattle.inliner.proofs.EnvironmentLemmas.{grown_within, grown_made}
-use Rattle.inliner.proofs.FaultLemmas.{said_first}
+use Rattle.inliner.proofs.FaultLemmas.{said_first, memory_says}
 use Rattle.revc_base.proofs.ResultLemmas.{no_promise}
 use Rattle.inliner.proofs.ProgressLemmas.{on_ok_alone, begun, step, ends_goes, ends_calls, said, goes_in, says_in, stops, does_by, goes_by, goes_on_so}
 use Rattle.inliner.proofs.ChainLemmas.{entered, assigns_from, assigns_stuck, reg_made, reg_stuck, bits_begun, bits_more}
 use Rattle.inliner.proofs.ChainLemmas.{bits_stuck, bits_done, chain_begun, chain_more, chain_no_first, chain_stuck, chain_done}
 use Rattle.inliner.proofs.CallLemmas.{mapped_at, mapped_end, items_more, items_stuck, items_done, at_begun, rotation_run, rotation_stuck}
-use Rattle.inliner.proofs.CallLemmas.{append_second, append_stuck, apply_begun, apply_more, apply_done}
+use Rattle.inliner.proofs.CallLemmas.{named_goes, append_second, append_stuck, apply_begun, apply_more, apply_done}
 use Rattle.inliner.proofs.CallLemmas.{block_last, bit_ends, bit_stuck, enter_stuck, item_stuck}
 use Rattle.inliner.proofs.CallLemmas.{apply_stuck, argument_run, call_stuck, call_last, call_next, call_ends, call_said, item_bound, item_run, block_term}
 use Rattle.inliner.proofs.LoopLemmas.{item_loop, item_loop_stuck, loop_begun, loop_no_work, loop_no_first, loop_no_last, turns_begun, turns_more}
-use Rattle.inliner.proofs.LoopLemmas.{named_goes, turns_stuck, turns_done, turn_bound, memory_says, binds_so}
+use Rattle.inliner.proofs.LoopLemmas.{turns_stuck, turns_done, turn_bound, binds_so}
 use Rattle.inliner.specs.inside.Calls.{Says, Follows, item_step, join_step}
 use Rattle.inliner.proofs.machine.Machine.+run.Goals as goal
 
