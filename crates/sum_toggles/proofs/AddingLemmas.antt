@@ -18,7 +18,8 @@ use Rattle.sum_toggles.specs.Toggles.{HaveLines, bit_gates, one_gates}
 pub flip_always : (target : ℕ) (bits : List Bool) → after_gate (flip_of [] target) bits ≡ set bits target (not (bit_of bits target))
 flip_always target bits = flip_sets [] target bits ∙ ap (set bits target) (xor_one (bit_of bits target))
 
-pub flip_by_one : (line target : ℕ) (bits : List Bool) → after_gate (flip_of (line ∷ []) target) bits ≡ set bits target (xor (bit_of bits line) (bit_of bits target))
+pub flip_by_one : (line target : ℕ) (bits : List Bool)
+    → after_gate (flip_of (line ∷ []) target) bits ≡ set bits target (xor (bit_of bits line) (bit_of bits target))
 flip_by_one line target bits =
     flip_sets (positive line ∷ []) target bits
     ∙ ap (λ met. set bits target (xor met (bit_of bits target))) (and-true (bit_of bits line))

@@ -18,7 +18,7 @@ use Rattle.mct_circuit.specs.Gates.{AreGatesOn, IsGateOn, flip_of, line_map}
 use Rattle.mct_circuit.proofs.ReversalLemmas.{conjugated, line_map-append, lines_of-flip_of}
 use Rattle.sum_toggles.specs.Toggles.{HaveLines, both_gathered, gathers, own_base, product_gates}
 use Rattle.sum_toggles.proofs.AddingLemmas.{AreAdding, flip_by_one, flip_by_two, good_stay, on_lines, set_again, xor_in_turn}
-use Rattle.sum_toggles.proofs.OwnLemmas.{AllApart, IsOwn, other, others_agree, own_is, rising_different, with_own}
+use Rattle.sum_toggles.proofs.OwnLemmas.{AllApart, first_own, other, others_agree, rising_different, second_own, with_own}
 
 -- ---- gates on lines
 
@@ -89,20 +89,14 @@ module _ (IsGood : Base → Type 0) (line : Base → ℕ) (n target : ℕ) (have
     abbrev b : Base
     b = own_base p.second p.first
 
-    first_own : IsOwn p.first p.second a
-    first_own = own_is p.first p.second is.own
-
-    second_own : IsOwn p.second p.first b
-    second_own = own_is p.second p.first is.other
-
     good_a : IsGood a
-    good_a = all_among IsGood p.first first_good a first_own.here
+    good_a = all_among IsGood p.first first_good a (first_own p is).here
 
     good_b : IsGood b
-    good_b = all_among IsGood p.second second_good b second_own.here
+    good_b = all_among IsGood p.second second_good b (second_own p is).here
 
     lines_apart : line a ≢ line b
-    lines_apart = apart_lines a b good_a good_b (λ same. first_own.not_there (subst (λ c. IsAmong c p.second) (sym same) second_own.here))
+    lines_apart = apart_lines a b good_a good_b (λ same. (first_own p is).not_there (subst (λ c. IsAmong c p.second) (sym same) (second_own p is).here))
 
     -- the lines of the own bits hold the factors
     abbrev first_value : List Bool → Bool
@@ -120,11 +114,11 @@ module _ (IsGood : Base → Type 0) (line : Base → ℕ) (n target : ℕ) (have
         let once = set bits (line a) v in
         let long : length once ≡ n = length-set bits (line a) v ∙ size in
         line_map-append (gathers line a p.first) (gathers line b p.second) bits
-        ∙ ap (line_map (gathers line b p.second)) (factor_gathered a p.first bits size first_good (rising_different p.first is.first_rises) first_own.here)
-        ∙ factor_gathered b p.second once long second_good (rising_different p.second is.second_rises) second_own.here
+        ∙ ap (line_map (gathers line b p.second)) (factor_gathered a p.first bits size first_good (rising_different p.first is.first_rises) (first_own p is).here)
+        ∙ factor_gathered b p.second once long second_good (rising_different p.second is.second_rises) (second_own p is).here
         ∙ ap (set once (line b)) (bits_agree (on_lines line once) (on_lines line bits) p.second second_good
         (λ c good k. get_or-set_other bits (line a) (line c) v false
-        (apart_lines c a good good_a (λ same. first_own.not_there (subst (λ d. IsAmong d p.second) same k)))))
+        (apart_lines c a good good_a (λ same. (first_own p is).not_there (subst (λ d. IsAmong d p.second) same k)))))
 
     held_target : (bits : List Bool) → bit_of (held bits) target ≡ bit_of bits target
     held_target bits =
@@ -149,9 +143,11 @@ module _ (IsGood : Base → Type 0) (line : Base → ℕ) (n target : ℕ) (have
         let v = first_value bits in
         let w = second_value bits in
         let first : first_value (set bits target c) ≡ v =
-        bits_agree (on_lines line (set bits target c)) (on_lines line bits) p.first first_good (λ d good k. good_stay IsGood line n target have bits c d good) in
+        bits_agree (on_lines line (set bits target c)) (on_lines line bits) p.first first_good (λ d good k. good_stay IsGood line n target have bits c d good)
+        in
         let second : second_value (set bits target c) ≡ w =
-        bits_agree (on_lines line (set bits target c)) (on_lines line bits) p.second second_good (λ d good k. good_stay IsGood line n target have bits c d good) in
+        bits_agree (on_lines line (set bits target c)) (on_lines line bits) p.second second_good (λ d good k. good_stay IsGood line n target have bits c d good)
+        in
         ap₂ (λ x y. set (set (set bits target c) (line a) x) (line b) y) first second
         ∙ ap (λ (z : List Bool). set z (line b) w) (set_comm bits target (line a) c v (λ same. have.apart a good_a (sym same)))
         ∙ set_comm (set bits (line a) v) target (line b) c w (λ same. have.apart b good_b (sym same))

@@ -11,7 +11,8 @@ use Rattle.dependency_graph.specs.declared.node.Base.{Base}
 use Rattle.dependency_graph.specs.Folds.{is_same}
 use Rattle.dependency_graph.proofs.FoldLemmas.{other_bases, same_bases, same_itself}
 use Rattle.bit_sums.specs.Bits.{AreRising, HasOwn, base_cmp}
-use Rattle.bit_sums.specs.Sums.{xor_by}
+use Rattle.bit_sums.specs.Products.{IsProduct}
+use Rattle.bit_sums.specs.Sums.{ProductView, xor_by}
 use Rattle.bit_sums.proofs.SetLemmas.{base_total}
 use Rattle.sum_toggles.specs.Toggles.{has, last_own, own_base}
 
@@ -50,19 +51,20 @@ further x bits other b own = record { here = inr own.here; not_there = own.not_t
 -- it is what was found so far, or a later one
 found : (other : List Base) (none : Base) (bits : List Base) → (last_own other none bits ≡ none) ⊎ IsOwn bits other (last_own other none bits)
 found other none [] = inl refl
-found other none (x ∷ xs) = elim (cases_Bool (has other x)) as (λ _. (last_own other none (x ∷ xs) ≡ none) ⊎ IsOwn (x ∷ xs) other (last_own other none (x ∷ xs))) [
-  | inl e ↦ rw e (elim (found other none xs) as (λ _. (last_own other none xs ≡ none) ⊎ IsOwn (x ∷ xs) other (last_own other none xs)) [
-    | inl same ↦ inl same
-    | inr own ↦ inr (further x xs other (last_own other none xs) own)
-  ])
-  | inr e ↦ rw e (inr (elim (found other x xs) as (λ _. IsOwn (x ∷ xs) other (last_own other x xs)) [
-    | inl same ↦ record {
-      here = inl same;
-      not_there = λ there. true≢false (sym (among_has other x (subst (λ b. IsAmong b other) same there)) ∙ e);
-    }
-    | inr own ↦ further x xs other (last_own other x xs) own
-  ]))
-]
+found other none (x ∷ xs) = elim (cases_Bool (has other x)) as
+    (λ _. (last_own other none (x ∷ xs) ≡ none) ⊎ IsOwn (x ∷ xs) other (last_own other none (x ∷ xs))) [
+      | inl e ↦ rw e (elim (found other none xs) as (λ _. (last_own other none xs ≡ none) ⊎ IsOwn (x ∷ xs) other (last_own other none xs)) [
+        | inl same ↦ inl same
+        | inr own ↦ inr (further x xs other (last_own other none xs) own)
+      ])
+      | inr e ↦ rw e (inr (elim (found other x xs) as (λ _. IsOwn (x ∷ xs) other (last_own other x xs)) [
+        | inl same ↦ record {
+          here = inl same;
+          not_there = λ there. true≢false (sym (among_has other x (subst (λ b. IsAmong b other) same there)) ∙ e);
+        }
+        | inr own ↦ further x xs other (last_own other x xs) own
+      ]))
+    ]
 
 -- where there is one, one is found
 sure : (other : List Base) (none b : Base) (bits : List Base) → IsAmong b bits → ¬ IsAmong b other → IsOwn bits other (last_own other none bits)
@@ -136,3 +138,10 @@ others_agree IsGood own f g (x ∷ xs) good agree = elim (cases_Bool (is_same x 
   | inl e ↦ rw e (ap (xor false) (others_agree IsGood own f g xs good.1 agree))
   | inr e ↦ rw e (ap₂ xor (agree x good.0 (other_bases x own e)) (others_agree IsGood own f g xs good.1 agree))
 ]
+
+-- each factor of a product has a base for itself
+pub first_own : (p : ProductView) → IsProduct p → IsOwn p.first p.second (own_base p.first p.second)
+first_own p is = own_is p.first p.second is.own
+
+pub second_own : (p : ProductView) → IsProduct p → IsOwn p.second p.first (own_base p.second p.first)
+second_own p is = own_is p.second p.first is.other

@@ -12,7 +12,7 @@ use Rattle.bit_sums.specs.Sums.{ProductView, SumView, bases_of, product_bases}
 use Rattle.mct_circuit.specs.Gates.{GateView}
 use Rattle.sum_toggles.specs.Toggles.{AreApart, IsPlacedBase, base_line, own_base, product_weight}
 use Rattle.sum_toggles.specs.inside.Steps.{CanAdd, CanFlip, HaveOwnLines, IsGathered}
-use Rattle.sum_toggles.proofs.OwnLemmas.{IsOwn, own_is}
+use Rattle.sum_toggles.proofs.OwnLemmas.{first_own, second_own}
 
 -- ---- lists of gates, one element of what they are made of after another
 
@@ -40,17 +40,11 @@ module _ (first : ℕ) (lines : List (Option ℕ)) (p : ProductView) (is : IsPro
   abbrev b : Base
   b = own_base p.second p.first
 
-  first_own : IsOwn p.first p.second a
-  first_own = own_is p.first p.second is.own
-
-  second_own : IsOwn p.second p.first b
-  second_own = own_is p.second p.first is.other
-
   among_a : IsAmong a (product_bases p)
-  among_a = among_left a p.first p.second first_own.here
+  among_a = among_left a p.first p.second (first_own p is).here
 
   among_b : IsAmong b (product_bases p)
-  among_b = among_right b p.first p.second second_own.here
+  among_b = among_right b p.first p.second (second_own p is).here
 
   pub placed_a : IsPlacedBase first lines a
   placed_a = all_among (IsPlacedBase first lines) (product_bases p) have.placed a among_a
@@ -58,27 +52,31 @@ module _ (first : ℕ) (lines : List (Option ℕ)) (p : ProductView) (is : IsPro
   pub placed_b : IsPlacedBase first lines b
   placed_b = all_among (IsPlacedBase first lines) (product_bases p) have.placed b among_b
 
-  pub first_gathered : IsGathered first lines a p.first
-  first_gathered = record {
-    placed = AllByRecursion-left (IsPlacedBase first lines) p.first p.second have.placed;
-    own_placed = placed_a;
-    apart = all_from_among (λ (c : Base). c ≢ a → base_line first lines c ≢ base_line first lines a) p.first
-        (λ c k ne same. ne (have.own c a (among_left c p.first p.second k) among_a same));
+  -- bases of the product, gathered onto the line of one of them
+  gathered : (own : Base) (xs : List Base) → AllByRecursion (IsPlacedBase first lines) xs → IsPlacedBase first lines own → IsAmong own (product_bases p)
+      → ((c : Base) → IsAmong c xs → IsAmong c (product_bases p)) → IsGathered first lines own xs
+  gathered own xs placed own_placed among inside = record {
+    placed = placed;
+    own_placed = own_placed;
+    apart = all_from_among (λ (c : Base). c ≢ own → base_line first lines c ≢ base_line first lines own) xs
+        (λ c k ne same. ne (have.own c own (inside c k) among same));
   }
 
+  pub first_gathered : IsGathered first lines a p.first
+  first_gathered =
+      gathered a p.first (AllByRecursion-left (IsPlacedBase first lines) p.first p.second have.placed) placed_a among_a
+      (λ c k. among_left c p.first p.second k)
+
   pub second_gathered : IsGathered first lines b p.second
-  second_gathered = record {
-    placed = AllByRecursion-right (IsPlacedBase first lines) p.first p.second have.placed;
-    own_placed = placed_b;
-    apart = all_from_among (λ (c : Base). c ≢ b → base_line first lines c ≢ base_line first lines b) p.second
-        (λ c k ne same. ne (have.own c b (among_right c p.first p.second k) among_b same));
-  }
+  second_gathered =
+      gathered b p.second (AllByRecursion-right (IsPlacedBase first lines) p.first p.second have.placed) placed_b among_b
+      (λ c k. among_right c p.first p.second k)
 
   pub flip_different : (target : ℕ) → ((c : Base) → IsAmong c (product_bases p) → base_line first lines c ≢ target)
       → AreDifferent (base_line first lines a ∷ base_line first lines b ∷ target ∷ [])
   flip_different target apart =
       let ne : base_line first lines a ≢ base_line first lines b =
-      λ same. first_own.not_there (subst (λ c. IsAmong c p.second) (sym (have.own a b among_a among_b same)) second_own.here) in
+      λ same. (first_own p is).not_there (subst (λ c. IsAmong c p.second) (sym (have.own a b among_a among_b same)) (second_own p is).here) in
       ((ne, (apart a among_a, tt)), ((apart b among_b, tt), (tt, tt)))
 
 -- ---- a sum

@@ -80,7 +80,8 @@ module _ (IsGood : Base → Type 0) (line : Base → ℕ) (n target : ℕ) (have
   sum_adds s are good =
       let products = flat_map (product_gates line target) s.products in
       let more = AllByRecursion-right IsGood s.bits (flat_map product_bases s.products) good in
-      adding_same IsGood line n target (sum_gates line target s) (λ f. xor (xor (xor_by f s.bits) (xor_by (product_value f) s.products)) s.one) (λ f. sum_value f s)
+      adding_same IsGood line n target (sum_gates line target s) (λ f. xor (xor (xor_by f s.bits) (xor_by (product_value f) s.products)) s.one)
+      (λ f. sum_value f s)
       (λ f. xor_swap (xor (xor_by f s.bits) (xor_by (product_value f) s.products)) s.one)
       (adding_both IsGood line n target (bit_gates line target s.bits ++ products) (one_gates target s.one)
       (λ f. xor (xor_by f s.bits) (xor_by (product_value f) s.products)) (λ f. s.one) have
@@ -117,7 +118,8 @@ narrow_product : (line : Base → ℕ) (target : ℕ) (p : ProductView) → AreN
 narrow_product line target p =
     let a = own_base p.first p.second in
     let b = own_base p.second p.first in
-    let both = AllByRecursion-append IsNarrow (gathers line a p.first) (gathers line b p.second) (narrow_gathers line a p.first) (narrow_gathers line b p.second) in
+    let both = AllByRecursion-append IsNarrow (gathers line a p.first) (gathers line b p.second) (narrow_gathers line a p.first)
+    (narrow_gathers line b p.second) in
     AllByRecursion-append IsNarrow (both_gathered line p ++ flip_of (line a ∷ line b ∷ []) target ∷ []) (reverse (both_gathered line p))
     (AllByRecursion-append IsNarrow (both_gathered line p) (flip_of (line a ∷ line b ∷ []) target ∷ []) both
     (narrow_flip (line a ∷ line b ∷ []) target (omega arith), tt))

@@ -39,7 +39,8 @@ both_gathered line p =
 abbrev pub product_gates : (Base → ℕ) → ℕ → ProductView → List GateView
 product_gates line target p =
     both_gathered line p
-    ++ flip_of (line (own_base p.first p.second) ∷ line (own_base p.second p.first) ∷ []) target ∷ []
+    ++ flip_of
+    (line (own_base p.first p.second) ∷ line (own_base p.second p.first) ∷ []) target ∷ []
     ++ reverse (both_gathered line p)
 
 -- ---- a sum: its bits, its products, and the constant last
