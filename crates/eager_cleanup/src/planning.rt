@@ -1,9 +1,8 @@
 // The eager plan of a settled graph.
-ghost use Rattle.std.specs.Prelude.{◌≡◌, ◌+◌, ◌<◌, [], length, IfOk, IfErr};
+ghost use Rattle.std.specs.Prelude.{◌≡◌, ◌<◌, [], length, IfOk, IfErr};
 ghost use Rattle.std.specs.List.{AllByRecursion};
 ghost use Rattle.claim_check.specs.Settled.{settled_outputs};
 ghost use Rattle.eager_cleanup.specs.Eager.{IsEagerFault, IsWithinEager};
-ghost use Rattle.eager_cleanup.specs.inside.Known.{AreFirstValues};
 ghost use Rattle.eager_cleanup.specs.inside.Sweeps.{IsSwept};
 ghost use Rattle.gate_split.specs.Costs.{IsRoomyFlip};
 ghost use Rattle.circuit_plans.specs.Plans.{MapsCleanly};
@@ -56,8 +55,8 @@ pub fn plan(
     forward.finish()
 }
 
-// Takes the nodes in order. The value of each is worked out behind its gates, and kept up to its
-// last use.
+// Takes the nodes in order: each is computed, and those that it uses for the last time are cleaned.
+// Its value is worked out behind its gates, and kept up to its last use.
 fn swept<'s>(
     alloc: Global,
     mut forward: Forward<'s>,
@@ -71,26 +70,9 @@ fn swept<'s>(
     let inputs = input_values(alloc, graph.inputs())?;
     let mut known = Vec::new(alloc);
     for node in 0..graph.nodes() {
-        forward = advanced(alloc, forward, graph, &known, node)?;
+        let toggled = forward.toggle(node)?;
+        forward = clean_operands(alloc, toggled, graph, &known, node)?;
         add_value(&mut known, &inputs, graph, node)?;
     }
     Ok(forward)
-}
-
-// Computes a node, and cleans the nodes that it uses for the last time.
-fn advanced<'s>(
-    alloc: Global,
-    forward: Forward<'s>,
-    graph: &Settled,
-    known: &[Option<Poly>],
-    node: u32,
-) -> Result<Forward<'s>, PlanFault>
-    requires values { AreFirstValues graph.now node known.now }
-    requires inside { node < length graph.now.nodes }
-    requires swept { IsSwept graph.now forward.budget node [] forward }
-    ensures swept { IfOk result (IsSwept graph.now forward.entry.budget (node + 1) []) }
-    ensures refused { IfErr result (IsEagerFault graph.now forward.entry.budget) }
-{
-    let forward = forward.toggle(node)?;
-    clean_operands(alloc, forward, graph, known, node)
 }
