@@ -18,7 +18,7 @@ use Rattle.circuit_plans.specs.Plans.{BudgetView}
 use Rattle.held_nodes.specs.Held.{ForwardView, IsForward, first_work, held_count, held_line, is_held}
 use Rattle.held_nodes.specs.Moves.{IsToggled, TakesLine, toggle_of, with_node}
 use Rattle.held_nodes.proofs.LineLemmas.{count-put}
-use Rattle.held_nodes.proofs.PlaceLemmas.{unheld_none}
+use Rattle.held_nodes.proofs.PlaceLemmas.{ready_bases, unheld_none}
 use Rattle.list_facts.specs.Lists.{IsAmong}
 use Rattle.mct_circuit.specs.Gates.{GateView}
 use Rattle.eager_cleanup.specs.inside.Known.{AreFirstValues, HasLargeNode, IsKnownValue, Polynomial, last_use_of, value_at}
@@ -32,9 +32,8 @@ use Rattle.sum_graph.specs.Graphs.{SumGraphView}
 use Rattle.sum_graph.specs.Plain.{plain_of, plain_sum}
 use Rattle.held_nodes.proofs.PlainLemmas.{IsPlainNode, plain_node, sum_of_node}
 use Rattle.sum_graph.proofs.PlainLemmas.{same_operands}
-use Rattle.std.proofs.lemmas.Bool.{and_parts}
-use Rattle.std.specs.List.{AllByRecursion, list_all}
-use Rattle.eager_cleanup.specs.inside.Sweeps.{are_ready, is_ready}
+use Rattle.std.specs.List.{AllByRecursion}
+use Rattle.eager_cleanup.specs.inside.Sweeps.{are_ready}
 use Rattle.held_nodes.specs.Moves.{IsReadyBase, IsReadyNode}
 use Rattle.eager_cleanup.proofs.UserLemmas.{no_node, same_node, user_of}
 
@@ -293,12 +292,6 @@ operands_in_plain s g k node settled e is =
     subst (λ (h : SumGraphView). AllByRecursion (IsKnownBase h.inputs (length h.nodes)) (operands node)) (sym e)
     (subst (λ (n : ℕ). AllByRecursion (IsKnownBase s.inputs n) (operands node)) (sym (length-map s.nodes plain_sum))
     (operands_inside s k node settled.nodes is))
-
-ready_bases : (lines : List (Option ℕ)) (bs : List Base) → list_all (is_ready lines) bs ≡ true → AllByRecursion (IsReadyBase lines) bs
-ready_bases lines [] all = tt
-ready_bases lines (bases.Input i ∷ bs) all = (tt, ready_bases lines bs all)
-ready_bases lines (bases.Node k ∷ bs) all =
-    let parts = and_parts (is_held lines k) (list_all (is_ready lines) bs) all in (parts.0, ready_bases lines bs parts.1)
 
 pub ready_plain : (s : SettledView) (g : SumGraphView) (lines : List (Option ℕ)) (k : ℕ) (node : Node) → g ≡ plain_of s → slice_get s.nodes k ≡ Some node
     → are_ready lines node ≡ true → IsReadyNode g lines k

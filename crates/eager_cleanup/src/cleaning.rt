@@ -7,7 +7,7 @@ ghost use Rattle.eager_cleanup.specs.Eager.{IsEagerFault};
 ghost use Rattle.eager_cleanup.specs.inside.Known.{AreFirstValues, IsKnownPolynomial, IsKnownValue};
 ghost use Rattle.eager_cleanup.specs.inside.Sweeps.{CanClean, IsCleaned, IsCleaningFault, IsMade};
 ghost use Rattle.eager_cleanup.specs.inside.Sweeps.{IsSwept, IsUsed, IsUseFault, are_ready};
-ghost use Rattle.eager_cleanup.specs.inside.Sweeps.{is_earlier, is_ready};
+ghost use Rattle.eager_cleanup.specs.inside.Sweeps.{is_earlier};
 ghost use Rattle.held_nodes.specs.Held.{IsForward, is_held};
 ghost use Rattle.claim_check.specs.Settled.{IsSettled};
 ghost use Rattle.sum_graph.specs.Plain.{plain_of};
@@ -157,19 +157,8 @@ fn are_ready(forward: &Forward, node: Node) -> bool
     ensures ready { result ≡ are_ready forward.now.lines node }
 {
     match node {
-        Node::Not(a) => is_ready(forward, a),
-        Node::Xor(a, b) => is_ready(forward, a) && is_ready(forward, b),
-        Node::And(a, b) => is_ready(forward, a) && is_ready(forward, b),
-    }
-}
-
-// Whether it is an input or a node that is held.
-fn is_ready(forward: &Forward, base: Base) -> bool
-    requires { IsKnownBase forward.now.graph.inputs (length forward.now.graph.nodes) base }
-    ensures ready { result ≡ is_ready forward.now.lines base }
-{
-    match base {
-        Base::Input(_) => true,
-        Base::Node(k) => forward.held(k),
+        Node::Not(a) => forward.is_ready(a),
+        Node::Xor(a, b) => forward.is_ready(a) && forward.is_ready(b),
+        Node::And(a, b) => forward.is_ready(a) && forward.is_ready(b),
     }
 }

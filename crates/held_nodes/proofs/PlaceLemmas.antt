@@ -2,8 +2,8 @@
 use Rattle.std.proofs.Common.{◌≡◌, ◌≢◌, ℕ, zero, suc, ◌+◌, ◌<◌, ◌≤◌, Bool, true, false, List, [], ◌∷◌, length, Option, Some, None, is_some, unwrap_or}
 use Rattle.std.proofs.Common.{slice_get, set, refl, sym, ap, ◌∙◌, subst, inl, arith}
 use Rattle.std.specs.Bool.{xor}
-use Rattle.std.specs.List.{AllByRecursion, flat_map}
-use Rattle.std.proofs.lemmas.Bool.{both_ways, false≢true, ltb-true}
+use Rattle.std.specs.List.{AllByRecursion, flat_map, list_all}
+use Rattle.std.proofs.lemmas.Bool.{and_parts, both_ways, false≢true, ltb-true}
 use Rattle.std.proofs.lemmas.List.{length-map}
 use Rattle.std.proofs.lemmas.Option.{none-some, same_Some}
 use Rattle.list_facts.specs.Bits.{bit_of}
@@ -21,7 +21,7 @@ use Rattle.sum_graph.proofs.SumNodeLemmas.{value_of_sum}
 use Rattle.sum_toggles.specs.Toggles.{AreApart, HaveLines, IsPlacedBase, base_line, sum_gates}
 use Rattle.sum_toggles.proofs.AddingLemmas.{on_lines}
 use Rattle.sum_toggles.proofs.SumLemmas.{narrow_sum, sum_adds, sums_on}
-use Rattle.held_nodes.specs.Held.{IsContent, first_work, held_line, is_held}
+use Rattle.held_nodes.specs.Held.{IsContent, first_work, held_line, is_held, is_ready}
 use Rattle.held_nodes.specs.Moves.{IsReadyBase, toggle_of}
 use Rattle.held_nodes.specs.inside.Kept.{HasProducts}
 use Rattle.held_nodes.proofs.ContentLemmas.{AddsValue, all_lines, length-all_lines, input_bit, work_bit, set_work}
@@ -29,8 +29,8 @@ use Rattle.held_nodes.proofs.LineLemmas.{AreOnDifferent, held_within}
 
 -- ---- flips of few controls
 
--- a narrow gate on the lines has room
-narrow_roomy : (n : ℕ) (gates : List GateView) → AreNarrow gates → AreGatesOn n gates → AllByRecursion (IsRoomyFlip n) gates
+-- narrow gates on the lines have room
+pub narrow_roomy : (n : ℕ) (gates : List GateView) → AreNarrow gates → AreGatesOn n gates → AllByRecursion (IsRoomyFlip n) gates
 narrow_roomy n [] narrow on = tt
 narrow_roomy n (g ∷ gates) narrow on =
     let is = narrow.0 in (
@@ -79,6 +79,14 @@ known_at_from n k (suc i) (x ∷ xs) s known is =
 -- the node at a place is known there
 pub known_at : (n k : ℕ) (nodes : List SumView) (s : SumView) → AreKnownSums n 0 nodes → slice_get nodes k ≡ Some s → IsKnownSum n k s
 known_at n k nodes s known is = let same : 0 + k ≡ k = omega arith in rw same at (known_at_from n 0 k nodes s known is)
+
+-- ---- bases that can be used
+
+pub ready_bases : (lines : List (Option ℕ)) (bs : List Base) → list_all (is_ready lines) bs ≡ true → AllByRecursion (IsReadyBase lines) bs
+ready_bases lines [] all = tt
+ready_bases lines (bases.Input i ∷ bs) all = (tt, ready_bases lines bs all)
+ready_bases lines (bases.Node k ∷ bs) all =
+    let parts = and_parts (is_held lines k) (list_all (is_ready lines) bs) all in (parts.0, ready_bases lines bs parts.1)
 
 -- ---- one base
 

@@ -144,7 +144,8 @@ module _ (f : ForwardView) (w : ℕ) (old new : HeapView) (k line : ℕ) (node :
     few = t.kept.few;
   }
 
-  pub taken_toggled : HasProducts node → IsToggled f k (record f { gates = f.gates ++ toggle_on f line node; lines = set f.lines k (Some line); most = new.peak })
+  pub taken_toggled : HasProducts node
+      → IsToggled f k (record f { gates = f.gates ++ toggle_on f line node; lines = set f.lines k (Some line); most = new.peak })
   taken_toggled are = record {
     node = node;
     is = t.node_is;
@@ -236,7 +237,8 @@ module _ (f : ForwardView) (w : ℕ) (old : HeapView) (k line : ℕ) (g : Gives 
       → record f { gates = f.gates ++ more; lines = set f.lines k None; most = new.peak } ≡ with_node f k None more
   given_becomes new more e = ap (λ (m : ℕ). record f { gates = f.gates ++ more; lines = set f.lines k None; most = m }) (given_most new e)
 
-  pub given_toggled : (new : HeapView) (node : SumView) → HasProducts node → new ≡ record old { out = without_line old.out line } → slice_get f.graph.nodes k ≡ Some node
+  pub given_toggled : (new : HeapView) (node : SumView) → HasProducts node → new ≡ record old { out = without_line old.out line }
+      → slice_get f.graph.nodes k ≡ Some node
       → IsToggled f k (record f { gates = f.gates ++ toggle_on f line node; lines = set f.lines k None; most = new.peak })
   given_toggled new node are e is = record {
     node = node;
@@ -298,7 +300,8 @@ takes_line f w old out k line node t = record {
   peak = t.line_is.2;
 }
 
-gives_line : (f : ForwardView) (w : ℕ) (old out : HeapView) (k line own : ℕ) (node : SumView) → Toggles f w old out k line (Some own) node → Gives f w old k line
+gives_line : (f : ForwardView) (w : ℕ) (old out : HeapView) (k line own : ℕ) (node : SumView) → Toggles f w old out k line (Some own) node
+    → Gives f w old k line
 gives_line f w old out k line own node t = record { kept = t.kept; own = t.own_is ∙ ap (λ (n : ℕ). Some n) (sym t.line_is.0) }
 
 same_peak : (f : ForwardView) (w : ℕ) (old out : HeapView) (k line own : ℕ) (node : SumView) → Toggles f w old out k line (Some own) node → f.most ≡ out.peak
@@ -346,7 +349,8 @@ pub record ToggleEnds (f : ForwardView) (w : ℕ) (new : HeapView) (k line : ℕ
   pub kept : IsKept (with_toggle f line node k after new) w new
   pub toggled : IsToggled f k (with_toggle f line node k after new)
 
-put_ends : (f : ForwardView) (w : ℕ) (old out new : HeapView) (k line : ℕ) (after : Option ℕ) (node : SumView) → HasProducts node → Takes f w old out k line node
+put_ends : (f : ForwardView) (w : ℕ) (old out new : HeapView) (k line : ℕ) (after : Option ℕ) (node : SumView) → HasProducts node
+    → Takes f w old out k line node
     → IsLineAfter None line out new after → IsLineHeap new → weight_in (f.gates ++ toggle_on f line node) ≤ w → ToggleEnds f w new k line after node
 put_ends f w old out new k line after node are t is heap light =
     let same : (out ≡ new) × (Some line ≡ after) = (sym is.0, sym is.1) in
@@ -367,7 +371,8 @@ give_ends f w old new k line after node are g ready at e is heap light =
     })
 
 pub toggle_ends : (f : ForwardView) (w : ℕ) (old out new : HeapView) (k line : ℕ) (own after : Option ℕ) (node : SumView) → HasProducts node
-    → Toggles f w old out k line own node → IsLineAfter own line out new after → IsLineHeap new → weight_in (f.gates ++ toggle_on f line node) ≤ w → ToggleEnds f w new k line after node
+    → Toggles f w old out k line own node → IsLineAfter own line out new after → IsLineHeap new → weight_in (f.gates ++ toggle_on f line node) ≤ w
+    → ToggleEnds f w new k line after node
 toggle_ends f w old out new k line None after node are t is heap light =
     put_ends f w old out new k line after node are (takes_line f w old out k line node t) is heap light
 toggle_ends f w old out new k line (Some own) after node are t is heap light =

@@ -3,6 +3,8 @@ use Rattle.std.specs.Prelude.{◌≡◌, ℕ, ◌+◌, ◌-◌, ◌*◌, ◌<◌
 use Rattle.std.specs.Prelude.{count_by}
 use Rattle.std.specs.List.{AllByRecursion, list_any}
 use Rattle.list_facts.specs.Bits.{bit_of, zeros}
+use Rattle.dependency_graph.specs.declared.node.Base.{Base}
+use Rattle.dependency_graph.specs.declared.node.Base.TheVariants as bases
 use Rattle.sum_graph.specs.Graphs.{SumGraphView, IsSumGraph, node_value}
 use Rattle.gate_split.specs.Costs.{IsRoomyFlip}
 use Rattle.circuit_plans.specs.Plans.{BudgetView}
@@ -36,6 +38,11 @@ held_line lines node = slice_index_or lines node None
 
 abbrev pub is_held : List (Option ℕ) → ℕ → Bool
 is_held lines node = is_some (held_line lines node)
+
+-- an input, or a node that is held
+abbrev pub is_ready : List (Option ℕ) → Base → Bool
+is_ready lines (bases.Input i) = true
+is_ready lines (bases.Node k) = is_held lines k
 
 -- how many nodes are held
 abbrev pub held_count : List (Option ℕ) → ℕ

@@ -6,7 +6,8 @@ ghost use Rattle.ancilla_heap.specs.Lines.{IsLineHeap, contains};
 ghost use Rattle.sum_graph.specs.Graphs.{IsSumGraph, sum_outputs};
 ghost use Rattle.gate_split.specs.Costs.{IsRoomyFlip};
 ghost use Rattle.circuit_plans.specs.Plans.{MapsCleanly};
-ghost use Rattle.held_nodes.specs.Held.{IsForward, first_work, held_line, is_held};
+ghost use Rattle.dependency_graph.specs.Graphs.{IsKnownBase};
+ghost use Rattle.held_nodes.specs.Held.{IsForward, first_work, held_line, is_held, is_ready};
 ghost use Rattle.held_nodes.specs.Moves.{CanClear, IsCleared, IsClearFault, IsFinishFault};
 ghost use Rattle.held_nodes.specs.Moves.{IsReadyNode, IsReadySum, IsStartFault, IsToggled};
 ghost use Rattle.held_nodes.specs.Moves.{IsToggleFault, copies_of, finished_weight, nothing_held};
@@ -19,6 +20,7 @@ use crate::copying::{copies_fit, copies_of, first_work, plan_of};
 use crate::weighed::WeighedGates;
 use ancilla_heap::Heap;
 use circuit_plans::{Budget, PlanFault, Planned};
+use dependency_graph::Base;
 use exclusive_sums::Cube;
 use mct_circuit::Gate;
 use std::alloc::Global;
@@ -104,6 +106,17 @@ impl<'s> Forward<'s> {
         ensures keeps { IsForward self.now }
     {
         self.lines[node as usize].is_some()
+    }
+
+    /// Whether a base is an input, or a node that is held. It takes no memory.
+    pub fn is_ready(&self, base: Base) -> bool
+        requires { IsKnownBase self.now.graph.inputs (length self.now.graph.nodes) base }
+        ensures ready { result ≡ is_ready self.now.lines base }
+    {
+        match base {
+            Base::Input(_) => true,
+            Base::Node(node) => self.held(node),
+        }
     }
 
     /// Toggles a node: a held node is cleaned and gives its line back, another one takes the least

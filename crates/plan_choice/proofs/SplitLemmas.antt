@@ -35,23 +35,13 @@ use Rattle.circuit_plans.specs.Plans.{BudgetView, CleanCircuitsBorrow, LaidView,
 use Rattle.gate_split.specs.Split.{split_list}
 use Rattle.held_nodes.specs.Moves.{roles_of_plan, weight_in}
 use Rattle.held_nodes.specs.Plans.{HasPortLines, HasPorts, IsInBudget, wanted_lines}
-use Rattle.mct_circuit.specs.Gates.{AreGatesOn, AreNarrow, CircuitView, GateView, IsGateOn, IsNarrow, flip_of, line_map, positive}
+use Rattle.mct_circuit.specs.Gates.{AreGatesOn, AreNarrow, CircuitView, GateView, flip_of, line_map, positive}
 use Rattle.mct_circuit.specs.Sizes.{weight_of}
 use Rattle.mct_circuit.proofs.WeightLemmas.{length-le-weight}
 use Rattle.plan_choice.specs.Choices.{IsEager, IsLaidFor}
 use Rattle.plan_choice.specs.inside.Tried.{IsLaidAsIs, IsLaidInBlocks, IsLaidOf, IsSplitFault}
 
 -- ---- narrow gates
-
-narrow_is_roomy : (n : ℕ) (gate : GateView) → IsGateOn n gate → IsNarrow gate → IsRoomyFlip n gate
-narrow_is_roomy n gate on narrow =
-    let few = narrow.few in
-    let long : length gate.controls ≡ length narrow.controls = ap (λ (g : GateView). length g.controls) narrow.is_flip ∙ length-map narrow.controls positive in
-    record { on = on; target = narrow.target; is_flip = ap (λ (g : GateView). g.op) narrow.is_flip; room = inl (omega arith) }
-
-pub narrow_are_roomy : (n : ℕ) (gates : List GateView) → AreGatesOn n gates → AreNarrow gates → AllByRecursion (IsRoomyFlip n) gates
-narrow_are_roomy n [] on narrow = tt
-narrow_are_roomy n (gate ∷ gates) on narrow = (narrow_is_roomy n gate on.0 narrow.0, narrow_are_roomy n gates on.1 narrow.1)
 
 flip_stays : (controls : List ℕ) (target : ℕ) → length controls ≤ 2 → most_gates (flip_of controls target) ≡ weight_of (flip_of controls target)
 flip_stays controls target few =

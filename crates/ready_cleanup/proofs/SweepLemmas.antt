@@ -3,7 +3,7 @@ use Rattle.std.proofs.Common.{◌≡◌, ◌≢◌, ℕ, zero, suc, ◌+◌, ◌
 use Rattle.std.proofs.Common.{sum_by, refl, sym, ◌∙◌, ap, subst, arith, zero-add}
 use Rattle.std.specs.Prelude.{slice_get}
 use Rattle.std.specs.List.{AllByRecursion, flat_map, list_all}
-use Rattle.std.proofs.lemmas.Bool.{and_parts, cases_eq, lt-leb}
+use Rattle.std.proofs.lemmas.Bool.{cases_eq, lt-leb}
 use Rattle.list_facts.proofs.AllLemmas.{AllByRecursion-at, AllByRecursion-left, AllByRecursion-right, AllByRecursion-weaker}
 use Rattle.bit_sums.specs.Sums.{ProductView, SumView, bases_of, product_bases}
 use Rattle.dependency_graph.specs.declared.node.Base.{Base}
@@ -16,12 +16,12 @@ use Rattle.mct_circuit.specs.Gates.{AreNarrow}
 use Rattle.sum_graph.specs.Graphs.{IsSumGraph, SumGraphView}
 use Rattle.sum_graph.specs.Uses.{sum_last_use}
 use Rattle.sum_toggles.specs.Toggles.{toggle_weight}
-use Rattle.held_nodes.specs.Held.{ForwardView, IsForward, first_work, held_count, is_held, work_lines}
-use Rattle.held_nodes.specs.Moves.{IsFinishFault, IsReadyBase, IsReadyNode, IsReadySum, IsToggled, IsToggleFault, finished_gates, nothing_held, weight_in}
+use Rattle.held_nodes.specs.Held.{ForwardView, IsForward, first_work, held_count, is_held, is_ready, work_lines}
+use Rattle.held_nodes.specs.Moves.{IsFinishFault, IsReadyNode, IsReadySum, IsToggled, IsToggleFault, finished_gates, nothing_held, weight_in}
 use Rattle.held_nodes.specs.Plans.{wanted_lines}
 use Rattle.held_nodes.specs.Prices.{price_at, prices}
 use Rattle.held_nodes.proofs.NarrowLemmas.{narrow_toggles}
-use Rattle.held_nodes.proofs.PlaceLemmas.{known_at, known_bases}
+use Rattle.held_nodes.proofs.PlaceLemmas.{known_at, known_bases, ready_bases}
 use Rattle.held_nodes.proofs.PriceLemmas.{price_node, prices-longer, prices_all, weight_price}
 use Rattle.bennett_pebbling.specs.inside.Changes.{IsTurned}
 use Rattle.bennett_pebbling.specs.inside.Costs.{counted}
@@ -32,7 +32,7 @@ use Rattle.bennett_pebbling.proofs.OutputLemmas.{ready_outputs}
 use Rattle.bennett_pebbling.proofs.ReadyLemmas.{is_ready as node_ready}
 use Rattle.bennett_pebbling.proofs.TurnLemmas.{turned_over}
 use Rattle.ready_cleanup.specs.Ready.{IsReadyFault}
-use Rattle.ready_cleanup.specs.inside.Sweeps.{AreLastUses, IsCleaned, IsCleaningFault, IsLastUse, IsSwept, IsUndone, all_paid, is_ready, paid}
+use Rattle.ready_cleanup.specs.inside.Sweeps.{AreLastUses, IsCleaned, IsCleaningFault, IsLastUse, IsSwept, IsUndone, all_paid, paid}
 
 -- ---- what is paid
 
@@ -271,14 +271,6 @@ begun s b c f is keeps same =
 
 pub finished_narrow : (s : SumGraphView) (b : BudgetView) (count : ℕ) (f : ForwardView) → IsSwept s b count f → AreNarrow (finished_gates f)
 finished_narrow s b count f is = narrow_toggles.finished f is.narrow
-
--- ---- ready sums
-
-pub ready_bases : (lines : List (Option ℕ)) (bs : List Base) → list_all (is_ready lines) bs ≡ true → AllByRecursion (IsReadyBase lines) bs
-ready_bases lines [] all = tt
-ready_bases lines (bases.Input i ∷ bs) all = (tt, ready_bases lines bs all)
-ready_bases lines (bases.Node k ∷ bs) all =
-    let parts = and_parts (is_held lines k) (list_all (is_ready lines) bs) all in (parts.0, ready_bases lines bs parts.1)
 
 -- ---- the bases of a node
 

@@ -3,9 +3,9 @@ ghost use Rattle.std.specs.Prelude.{◌≡◌, ◌+◌, ◌<◌, length, IfOk, I
 ghost use Rattle.std.specs.List.{AllByRecursion, flat_map, list_all};
 ghost use Rattle.bit_sums.specs.Sums.{bases_of, product_bases};
 ghost use Rattle.dependency_graph.specs.Graphs.{IsKnownBase};
-ghost use Rattle.held_nodes.specs.Held.{IsForward};
+ghost use Rattle.held_nodes.specs.Held.{IsForward, is_ready};
 ghost use Rattle.ready_cleanup.specs.Ready.{IsReadyFault};
-ghost use Rattle.ready_cleanup.specs.inside.Sweeps.{IsCleaned, IsCleaningFault, IsSwept, is_ready};
+ghost use Rattle.ready_cleanup.specs.inside.Sweeps.{IsCleaned, IsCleaningFault, IsSwept};
 
 use crate::uses::last_used;
 use bit_sums::{Product, Sum};
@@ -80,20 +80,9 @@ fn bases_are_ready(forward: &Forward<'_>, bases: &[Base]) -> bool
     ensures { result ≡ list_all (is_ready forward.now.lines) bases.now }
 {
     for base in bases {
-        if !is_ready(forward, *base) {
+        if !forward.is_ready(*base) {
             return false;
         }
     }
     true
-}
-
-// Whether it is an input or a node that is held.
-fn is_ready(forward: &Forward<'_>, base: Base) -> bool
-    requires { IsKnownBase forward.now.graph.inputs (length forward.now.graph.nodes) base }
-    ensures ready { result ≡ is_ready forward.now.lines base }
-{
-    match base {
-        Base::Input(_) => true,
-        Base::Node(k) => forward.held(k),
-    }
 }

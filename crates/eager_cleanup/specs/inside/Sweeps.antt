@@ -13,18 +13,13 @@ use Rattle.circuit_plans.specs.declared.plan.PlanFault.{PlanFault}
 use Rattle.circuit_plans.specs.declared.plan.PlanFault.TheVariants.{Lines, Gates, Memory}
 use Rattle.gate_split.specs.Costs.{most_gates}
 use Rattle.circuit_plans.specs.Plans.{BudgetView}
-use Rattle.held_nodes.specs.Held.{ForwardView, IsForward, held_line, is_held}
+use Rattle.held_nodes.specs.Held.{ForwardView, IsForward, held_line, is_held, is_ready}
 use Rattle.list_facts.specs.Lists.{IsAmong}
 use Rattle.eager_cleanup.specs.inside.Known.{Polynomial, HasLargeNode, IsKnownValue, last_use_of, value_at}
 
 -- ---- what can be cleaned by its operands
 
--- an input, or a node that is held
-abbrev pub is_ready : List (Option ℕ) → Base → Bool
-is_ready lines (bases.Input i) = true
-is_ready lines (bases.Node k) = is_held lines k
-
--- each operand is
+-- each operand is an input or held
 abbrev pub are_ready : List (Option ℕ) → Node → Bool
 are_ready lines node = list_all (is_ready lines) (operands node)
 

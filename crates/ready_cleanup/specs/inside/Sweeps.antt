@@ -1,8 +1,6 @@
 -- What is held and paid for while the nodes are gone through in order.
 use Rattle.std.specs.Prelude.{◌≡◌, ℕ, zero, suc, ◌+◌, ◌*◌, ◌<◌, ◌≤◌, ◌⊎◌, Bool, true, false, List, Option}
 use Rattle.std.specs.List.{AllByRecursion}
-use Rattle.dependency_graph.specs.declared.node.Base.{Base}
-use Rattle.dependency_graph.specs.declared.node.Base.TheVariants as bases
 use Rattle.circuit_plans.specs.declared.plan.PlanFault.{PlanFault}
 use Rattle.circuit_plans.specs.Plans.{BudgetView}
 use Rattle.held_nodes.specs.Held.{ForwardView, IsForward, is_held}
@@ -12,11 +10,6 @@ use Rattle.mct_circuit.specs.Gates.{AreNarrow}
 use Rattle.sum_graph.specs.Graphs.{SumGraphView}
 use Rattle.sum_graph.specs.Uses.{sum_last_use}
 use Rattle.sum_toggles.specs.Toggles.{toggle_weight}
-
--- an input, or a node that is held
-abbrev pub is_ready : List (Option ℕ) → Base → Bool
-is_ready lines (bases.Input i) = true
-is_ready lines (bases.Node k) = is_held lines k
 
 -- ---- what is paid for
 

@@ -1,10 +1,11 @@
 use Rattle.std.proofs.lemmas.Result.{IfOk-weaker}
 use Rattle.plan_choice.specs.inside.Tried.{IsLaidAsIs, IsLaidOf}
-use Rattle.plan_choice.proofs.SplitLemmas.{as_is, narrow_are_roomy, narrow_refused}
+use Rattle.held_nodes.proofs.PlaceLemmas.{narrow_roomy}
+use Rattle.plan_choice.proofs.SplitLemmas.{as_is, narrow_refused}
 use Rattle.plan_choice.proofs.laying.lay_narrow.Goals as goal
 
 pub lay-requires-clause-roomy : goal.lay-requires-clause-roomy
-lay-requires-clause-roomy c = narrow_are_roomy _ _ (rw c.circuit.ensures.circuit at c.lines.ensures.gates) c.requires.narrow
+lay-requires-clause-roomy c = narrow_roomy _ _ c.requires.narrow (rw c.circuit.ensures.circuit at c.lines.ensures.gates)
 
 pub returns-clause-ok : goal.returns-clause-ok
 returns-clause-ok c =

@@ -1,6 +1,6 @@
 use Rattle.std.proofs.Common.{◌≡◌, drop}
 use Rattle.std.specs.List.{list_all}
-use Rattle.ready_cleanup.specs.inside.Sweeps.{is_ready}
+use Rattle.held_nodes.specs.Held.{is_ready}
 use Rattle.ready_cleanup.proofs.cleaning.bases_are_ready.Given as goal
 
 abbrev pub invariant-loop-base : goal.invariant-loop-base

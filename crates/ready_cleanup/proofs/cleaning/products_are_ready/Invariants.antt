@@ -1,7 +1,7 @@
 use Rattle.std.proofs.Common.{◌≡◌, drop}
 use Rattle.std.specs.List.{flat_map, list_all}
 use Rattle.bit_sums.specs.Sums.{product_bases}
-use Rattle.ready_cleanup.specs.inside.Sweeps.{is_ready}
+use Rattle.held_nodes.specs.Held.{is_ready}
 use Rattle.ready_cleanup.proofs.cleaning.products_are_ready.Given as goal
 
 abbrev pub invariant-loop-product : goal.invariant-loop-product

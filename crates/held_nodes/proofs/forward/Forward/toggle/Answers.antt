@@ -67,7 +67,8 @@ returns-clause-ok c =
     let toggles = toggles_of _ _ _ _ _ _ _ _ _ c.self.view_is c.self.invariant c.requires c.node-sum.ensures c.index-own.ensures c.in-Some.ensures.line in
     let ok = rw (c.first_work-first.ensures.first, c.deref.ensures.value) at c.in_ok-gates.ensures.ok in
     let light = rw ok at c.in_ok-gates.ensures.light in
-    rw (ok, ← c.self.view_is) (toggle_ends _ _ _ _ _ _ _ _ _ _ c.in_ok-gates.ensures.products toggles c.line_after.ensures.line c.line_after.ensures.heap light).toggled
+    rw (ok, ← c.self.view_is) (toggle_ends _ _ _ _ _ _ _ _ _ _ c.in_ok-gates.ensures.products toggles c.line_after.ensures.line c.line_after.ensures.heap
+    light).toggled
 
 pub returns-clause-keeps : goal.returns-clause-keeps
 returns-clause-keeps c = (invariant_of-result c).forward

@@ -1,5 +1,5 @@
 use Rattle.std.proofs.Common.{refl}
-use Rattle.eager_cleanup.proofs.cleaning.is_ready.Goals as goal
+use Rattle.held_nodes.proofs.forward.Forward.is_ready.Goals as goal
 
 pub returns-in-Input : goal.returns-in-Input
 returns-in-Input c = record { ready = rw c.in-Input.is refl }
