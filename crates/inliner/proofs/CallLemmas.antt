@@ -8,7 +8,7 @@ use Rattle.revs_terms.specs.declared.term.Part.{Part}
 use Rattle.revs_terms.specs.Terms.{place_of}
 use Rattle.revs_terms.specs.Trees.{Tree, used, trees, list_of, ItemTree, item_trees, bind, run, block, parts, apply, append, rotate}
 use Rattle.revs_terms.specs.Running as runs
-use Rattle.revs_terms.specs.Running.{Environment, bound, bound_length, State, Outcome, stuck, went, after, run_of, term_of, as_bit, bit_of}
+use Rattle.revs_terms.specs.Running.{Environment, bound, bound_length, State, stuck, went, after, run_of, term_of, as_bit, bit_of}
 use Rattle.revs_terms.specs.Running.{items_run, block_of, parts_of, apply_all, apply_to, worked, appended, rotated, number_of, value_at}
 use Rattle.revs_terms.specs.Runs.{no_bits}
 use Rattle.array_shapes.specs.declared.value.Value.{Value}

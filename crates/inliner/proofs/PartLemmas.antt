@@ -11,7 +11,7 @@ use Rattle.revs_terms.specs.declared.term.Part.TheVariants as part
 use Rattle.revs_terms.specs.declared.cause.Cause.TheVariants as causes
 use Rattle.revs_terms.specs.declared.limits.TheConstants.{MOST_PLACES}
 use Rattle.revs_terms.specs.Running as runs
-use Rattle.revs_terms.specs.Running.{Environment, Outcome, State, stuck, went, after, provided, given, places, turned, registered, appended, rotated, number_of}
+use Rattle.revs_terms.specs.Running.{Environment, State, stuck, after, provided, registered, appended, rotated, number_of}
 use Rattle.revs_terms.specs.Running.{part_of, parts_of}
 use Rattle.revs_terms.specs.Runs.{no_bits}
 use Rattle.array_shapes.specs.declared.value.Value.{Value}
@@ -20,7 +20,7 @@ use Rattle.array_shapes.specs.Values.{ValueView, seen, register_of}
 use Rattle.inliner.specs.declared.fault.RunFault.{RunFault}
 use Rattle.inliner.specs.declared.machine.Machine.{Machine}
 use Rattle.inliner.specs.inside.Machines.{env_in, spec_value, value_in, envs_of, state_of, IsMachine, IsValue, Does, Goes}
-use Rattle.inliner.proofs.FaultLemmas.{said_first}
+use Rattle.inliner.proofs.FaultLemmas.{said_first, said_same}
 use Rattle.inliner.specs.inside.Calls.{Going, Says}
 use Rattle.inliner.specs.inside.Numbers.{slice_step, turn_step}
 use Rattle.inliner.proofs.ProgressLemmas.{Through, begun, step, same_rest, ends_here, said, does_in, goes_in, says_in}
@@ -94,6 +94,20 @@ slice_is : (e : Environment) (envs : List Environment) (v : ValueView) (r : List
     → part_of no_bits e whole (part.Slice i j at) (spec_value envs v) s ≡ after (number_of no_bits e i s)
     (λ first s. after (number_of no_bits e j s) (λ last s. slice_step r first last at whole s))
 slice_is e envs v r i j whole at s g = ap (λ x. part_of no_bits e whole (part.Slice i j at) x s) (as_register_is envs v r g)
+
+-- stuck at the number of an element, and at the first number of a slice
+pub index_stuck : (m : Machine) (e : Environment) (v : Value) (r : List ℕ) (i : List Step) (whole at : Place) (fault : RunFault)
+    → Some r ≡ register_of (seen v) → Says fault (number_of no_bits e i (state_of m))
+    → Says fault (part_of no_bits e whole (part.Index i at) (value_in (envs_of m) v) (state_of m))
+index_stuck m e v r i whole at fault is s =
+    said_same fault _ _ (ap (λ x. part_of no_bits e whole (part.Index i at) x (state_of m)) (as_register_is (envs_of m) (seen v) r is))
+    (said_first fault _ _ s)
+
+pub first_stuck : (m : Machine) (e : Environment) (v : Value) (r : List ℕ) (i j : List Step) (whole at : Place) (fault : RunFault)
+    → Some r ≡ register_of (seen v) → Says fault (number_of no_bits e i (state_of m))
+    → Says fault (part_of no_bits e whole (part.Slice i j at) (value_in (envs_of m) v) (state_of m))
+first_stuck m e v r i j whole at fault is s =
+    said_same fault _ _ (slice_is e (envs_of m) (seen v) r i j whole at (state_of m) is) (said_first fault _ _ s)
 
 -- the first number of a slice, and then both
 pub slice_first : (old mid : Machine) (env : ℕ) (v : Value) (r : List ℕ) (i j : List Step) (first : ℤ) (whole at : Place) → Some r ≡ register_of (seen v)

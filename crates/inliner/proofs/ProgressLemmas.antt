@@ -6,7 +6,7 @@ use Rattle.std.proofs.lemmas.Result.{MatchResult-from_both}
 use Rattle.revc_base.proofs.ResultLemmas.{no_value, passes_on}
 use Rattle.revs_terms.specs.Trees.{Tree, trees, list_of, ItemTree, item_trees, items_of}
 use Rattle.revs_terms.specs.Running as runs
-use Rattle.revs_terms.specs.Running.{Environment, State, Outcome, stuck, went, after, run_of, term_of, bit_of, bits_of, chain_of, worked}
+use Rattle.revs_terms.specs.Running.{Environment, State, Outcome, stuck, went, after, worked}
 use Rattle.array_shapes.specs.declared.value.Value.{Value}
 use Rattle.inliner.specs.declared.fault.RunFault.{RunFault}
 use Rattle.inliner.specs.declared.machine.Machine.{Machine}
@@ -106,11 +106,6 @@ pub does_by : {A : Type 0} {old now : Machine} (later : Machine) {whole rest : O
     → Through old now whole rest → IfOk r (Does now later rest) → IfErr r (λ fault. Says fault rest) → Follows (Does old later) whole r
 does_by later (Ok a) t d s = ends t d
 does_by later (Err fault) t d s = said fault t s
-
-pub goes_by : {old now : Machine} (later : Machine) {whole rest : Outcome (Unit {0}) runs.Value} (r : Result Value RunFault)
-    → Through old now whole rest → IfOk r (Goes now later rest) → IfErr r (λ fault. Says fault rest) → Follows (Goes old later) whole r
-goes_by later (Ok v) t g s = ends_goes t g
-goes_by later (Err fault) t g s = said fault t s
 
 -- ---- the same environment, later
 

@@ -1,5 +1,5 @@
 // Registers and their parts.
-ghost use Rattle.std.specs.Prelude.{◌≡◌, ◌≤◌, length, IfOk, IfErr, IsErrOf, IsSome};
+ghost use Rattle.std.specs.Prelude.{◌≡◌, ◌≤◌, length, IsErrOf, IsSome};
 ghost use Rattle.array_shapes.specs.Values.{register_of, seen};
 ghost use Rattle.revs_terms.specs.declared.limits.TheConstants.{MOST_PLACES};
 ghost use Rattle.revs_terms.specs.Running.{registered, short_register, part_of, parts_of, appended};
@@ -10,7 +10,7 @@ ghost use Rattle.revs_terms.specs.Terms.{place_of};
 ghost use Rattle.revs_terms.specs.Trees.{tree_of};
 ghost use Rattle.inliner.specs.inside.Machines.{IsMachine, Goes, IsValue, env_of, value_of};
 ghost use Rattle.inliner.specs.inside.Machines.{state_of};
-ghost use Rattle.inliner.specs.inside.Calls.{Says, shape_fault};
+ghost use Rattle.inliner.specs.inside.Calls.{Follows, shape_fault};
 ghost use Rattle.inliner.specs.inside.Numbers.{Takes, slice_step, turn_step};
 
 use crate::RunFault;
@@ -27,10 +27,8 @@ impl<'t> Machine<'t> {
     /// A register of these locations, whose length counts as work.
     pub fn register(&mut self, locations: Vec<u32>, at: Place) -> Result<Value<'t>, RunFault>
         requires { IsMachine self.old }
-        ensures ok { IfOk result (λ value. Goes self.old self.new
-            (registered no_bits locations.items at (state_of self.old)) value) }
-        ensures err { IfErr result (λ fault. Says fault
-            (registered no_bits locations.items at (state_of self.old))) }
+        ensures { Follows (Goes self.old self.new)
+            (registered no_bits locations.items at (state_of self.old)) result }
     {
         self.work(locations.len(), at)?;
         Ok(Value::Reg(Rc::new(self.allocator(), locations)?))
@@ -39,10 +37,8 @@ impl<'t> Machine<'t> {
     /// A register of these locations, of which there are at most 4,096.
     pub fn short_register(&mut self, locations: Vec<u32>, at: Place) -> Result<Value<'t>, RunFault>
         requires { IsMachine self.old }
-        ensures ok { IfOk result (λ value. Goes self.old self.new
-            (short_register no_bits locations.items at (state_of self.old)) value) }
-        ensures err { IfErr result (λ fault. Says fault
-            (short_register no_bits locations.items at (state_of self.old))) }
+        ensures run { Follows (Goes self.old self.new)
+            (short_register no_bits locations.items at (state_of self.old)) result }
         ensures memory { IsErrOf result RunFault.Memory → length locations.items ≤ MOST_PLACES }
     {
         if locations.len() > MOST_PLACES {
@@ -61,12 +57,9 @@ impl<'t> Machine<'t> {
         at: Place,
     ) -> Result<Value<'t>, RunFault>
         requires { IsMachine self.old }
-        ensures ok { IfOk result (λ made. Goes self.old self.new
+        ensures run { Follows (Goes self.old self.new)
             (rotated no_bits k (place_of (tree_of operand.now)) at (value_of self.old value.now)
-            (state_of self.old)) made) }
-        ensures err { IfErr result (λ fault. Says fault
-            (rotated no_bits k (place_of (tree_of operand.now)) at (value_of self.old value.now)
-            (state_of self.old))) }
+            (state_of self.old)) result }
         ensures memory { IsErrOf result RunFault.Memory → IsSome (register_of (seen value.now)) }
     {
         let Some(places) = register(value) else {
@@ -78,10 +71,8 @@ impl<'t> Machine<'t> {
     // A register of the places from the `k`-th on of another, and then those before it.
     fn turned(&mut self, places: &[u32], k: i32, at: Place) -> Result<Value<'t>, RunFault>
         requires { IsMachine self.old }
-        ensures ok { IfOk result (λ made. Goes self.old self.new
-            (turn_step places.now k at (state_of self.old)) made) }
-        ensures err { IfErr result (λ fault. Says fault
-            (turn_step places.now k at (state_of self.old))) }
+        ensures { Follows (Goes self.old self.new)
+            (turn_step places.now k at (state_of self.old)) result }
     {
         match places_turned(self.allocator(), places, k) {
             Ok(turned) => self.register(turned, at),
@@ -99,12 +90,9 @@ impl<'t> Machine<'t> {
         at: Place,
     ) -> Result<Value<'t>, RunFault>
         requires { IsMachine self.old }
-        ensures ok { IfOk result (λ made. Goes self.old self.new
+        ensures run { Follows (Goes self.old self.new)
             (appended no_bits (place_of (tree_of first.now)) (place_of (tree_of second.now)) at
-            (value_of self.old x.now) (value_of self.old y.now) (state_of self.old)) made) }
-        ensures err { IfErr result (λ fault. Says fault
-            (appended no_bits (place_of (tree_of first.now)) (place_of (tree_of second.now)) at
-            (value_of self.old x.now) (value_of self.old y.now) (state_of self.old))) }
+            (value_of self.old x.now) (value_of self.old y.now) (state_of self.old)) result }
         ensures memory { IsErrOf result RunFault.Memory
             → IsSome (register_of (seen x.now)) × IsSome (register_of (seen y.now)) }
     {
@@ -131,12 +119,9 @@ impl<'t> Machine<'t> {
         requires machine { IsMachine self.old }
         requires env { env ≤ length self.old.bindings.items }
         requires made { IsValue (length self.old.bindings.items) value }
-        ensures ok { IfOk result (λ made. Goes self.old self.new
-            (parts_of no_bits (env_of self.old env) whole parts.now
-            (value_of self.old value.entry) (state_of self.old)) made) }
-        ensures err { IfErr result (λ fault. Says fault
-            (parts_of no_bits (env_of self.old env) whole parts.now
-            (value_of self.old value.entry) (state_of self.old))) }
+        ensures { Follows (Goes self.old self.new)
+            (parts_of no_bits (env_of self.old env) whole parts.now (value_of self.old value.entry)
+            (state_of self.old)) result }
     {
         let mut made = value;
         for part in parts {
@@ -155,12 +140,9 @@ impl<'t> Machine<'t> {
     ) -> Result<Value<'t>, RunFault>
         requires machine { IsMachine self.old }
         requires env { env ≤ length self.old.bindings.items }
-        ensures ok { IfOk result (λ made. Goes self.old self.new
+        ensures { Follows (Goes self.old self.new)
             (part_of no_bits (env_of self.old env) whole part.now (value_of self.old value.now)
-            (state_of self.old)) made) }
-        ensures err { IfErr result (λ fault. Says fault
-            (part_of no_bits (env_of self.old env) whole part.now (value_of self.old value.now)
-            (state_of self.old))) }
+            (state_of self.old)) result }
     {
         match part {
             Part::Index { i, at } => self.indexed(env, i, *at, value),
@@ -178,12 +160,9 @@ impl<'t> Machine<'t> {
     ) -> Result<Value<'t>, RunFault>
         requires machine { IsMachine self.old }
         requires env { env ≤ length self.old.bindings.items }
-        ensures ok { IfOk result (λ made. Goes self.old self.new
+        ensures run { Follows (Goes self.old self.new)
             (part_of no_bits (env_of self.old env) at (Part.Index i.now at)
-            (value_of self.old value.now) (state_of self.old)) made) }
-        ensures err { IfErr result (λ fault. Says fault
-            (part_of no_bits (env_of self.old env) at (Part.Index i.now at)
-            (value_of self.old value.now) (state_of self.old))) }
+            (value_of self.old value.now) (state_of self.old)) result }
         ensures exact { ¬ IsErrOf result RunFault.Memory }
     {
         let Some(places) = register(value) else {
@@ -208,12 +187,9 @@ impl<'t> Machine<'t> {
     ) -> Result<Value<'t>, RunFault>
         requires machine { IsMachine self.old }
         requires env { env ≤ length self.old.bindings.items }
-        ensures ok { IfOk result (λ made. Goes self.old self.new
+        ensures run { Follows (Goes self.old self.new)
             (part_of no_bits (env_of self.old env) whole (Part.Slice i.now j.now at)
-            (value_of self.old value.now) (state_of self.old)) made) }
-        ensures err { IfErr result (λ fault. Says fault
-            (part_of no_bits (env_of self.old env) whole (Part.Slice i.now j.now at)
-            (value_of self.old value.now) (state_of self.old))) }
+            (value_of self.old value.now) (state_of self.old)) result }
         ensures memory { IsErrOf result RunFault.Memory → IsSome (register_of (seen value.now)) }
     {
         let Some(places) = register(value) else {
@@ -234,10 +210,8 @@ impl<'t> Machine<'t> {
         whole: Place,
     ) -> Result<Value<'t>, RunFault>
         requires { IsMachine self.old }
-        ensures ok { IfOk result (λ made. Goes self.old self.new
-            (slice_step places.now first last at whole (state_of self.old)) made) }
-        ensures err { IfErr result (λ fault. Says fault
-            (slice_step places.now first last at whole (state_of self.old))) }
+        ensures { Follows (Goes self.old self.new)
+            (slice_step places.now first last at whole (state_of self.old)) result }
     {
         match places_between(self.allocator(), places, first, last) {
             Ok(between) => self.register(between, whole),

@@ -1,12 +1,12 @@
 // Constants, claims and assignments.
-ghost use Rattle.std.specs.Prelude.{◌<◌, length, IfOk, IfErr, IsErrOf};
+ghost use Rattle.std.specs.Prelude.{◌<◌, length, IsErrOf};
 ghost use Rattle.revs_tape.specs.declared.limits.TheConstants.{MOST_CLAIMS};
 ghost use Rattle.revs_terms.specs.Running.{constant_bit, claim_on, assigned};
 ghost use Rattle.revs_terms.specs.Runs.{no_bits};
 ghost use Rattle.revs_terms.specs.Terms.{place_of};
 ghost use Rattle.revs_terms.specs.Trees.{tree_of};
 ghost use Rattle.inliner.specs.inside.Machines.{IsMachine, Goes, state_of};
-ghost use Rattle.inliner.specs.inside.Calls.{Says};
+ghost use Rattle.inliner.specs.inside.Calls.{Follows};
 
 use crate::RunFault;
 use crate::machine::Machine;
@@ -20,10 +20,8 @@ impl<'t> Machine<'t> {
     /// Writes a constant.
     pub fn constant(&mut self, bit: bool, at: Place) -> Result<Value<'t>, RunFault>
         requires { IsMachine self.old }
-        ensures ok { IfOk result (λ value. Goes self.old self.new
-            (constant_bit no_bits bit at (state_of self.old)) value) }
-        ensures err { IfErr result (λ fault. Says fault
-            (constant_bit no_bits bit at (state_of self.old))) }
+        ensures { Follows (Goes self.old self.new)
+            (constant_bit no_bits bit at (state_of self.old)) result }
     {
         Ok(Value::Bit(self.write(Entry::Const(bit), at)?))
     }
@@ -37,12 +35,9 @@ impl<'t> Machine<'t> {
         at: Place,
     ) -> Result<Value<'t>, RunFault>
         requires { IsMachine self.old }
-        ensures ok { IfOk result (λ value. Goes self.old self.new
+        ensures run { Follows (Goes self.old self.new)
             (claim_on no_bits kind location (place_of (tree_of operand.now)) at (state_of self.old))
-            value) }
-        ensures err { IfErr result (λ fault. Says fault
-            (claim_on no_bits kind location (place_of (tree_of operand.now)) at
-            (state_of self.old))) }
+            result }
         ensures memory { IsErrOf result RunFault.Memory
             → length self.old.tape.claims < MOST_CLAIMS }
     {
@@ -66,12 +61,9 @@ impl<'t> Machine<'t> {
         right: &Term,
     ) -> Result<Value<'t>, RunFault>
         requires { IsMachine self.old }
-        ensures ok { IfOk result (λ value. Goes self.old self.new
+        ensures run { Follows (Goes self.old self.new)
             (assigned no_bits to from (place_of (tree_of left.now)) (place_of (tree_of right.now))
-            (state_of self.old)) value) }
-        ensures err { IfErr result (λ fault. Says fault
-            (assigned no_bits to from (place_of (tree_of left.now)) (place_of (tree_of right.now))
-            (state_of self.old))) }
+            (state_of self.old)) result }
         ensures exact { ¬ IsErrOf result RunFault.Memory }
     {
         self.read(to, left)?;

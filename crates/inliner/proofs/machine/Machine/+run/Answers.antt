@@ -14,7 +14,7 @@ use Rattle.std.proofs.lemmas.Result.{MatchResult-weaker, MatchResult-from_both, 
 use Rattle.inliner.proofs.EnvironmentLemmas.{grown_within, grown_made}
 use Rattle.inliner.proofs.FaultLemmas.{said_first, memory_says}
 use Rattle.revc_base.proofs.ResultLemmas.{no_promise}
-use Rattle.inliner.proofs.ProgressLemmas.{on_ok_alone, begun, step, ends_goes, ends_calls, said, goes_in, says_in, stops, does_by, goes_by, goes_on_so}
+use Rattle.inliner.proofs.ProgressLemmas.{on_ok_alone, begun, step, ends_goes, ends_calls, said, goes_in, says_in, stops, does_by, goes_on_so}
 use Rattle.inliner.proofs.ChainLemmas.{entered, assigns_from, assigns_stuck, reg_made, reg_stuck, bits_begun, bits_more}
 use Rattle.inliner.proofs.ChainLemmas.{bits_stuck, bits_done, chain_begun, chain_more, chain_no_first, chain_stuck, chain_done}
 use Rattle.inliner.proofs.CallLemmas.{mapped_at, mapped_end, items_more, items_stuck, items_done, at_begun, rotation_run, rotation_stuck}
@@ -42,18 +42,18 @@ run-returns-clause-room t c = on_ok_alone _ c.term.result (λ v g. omega (arith,
 
 pub assignment-returns : goal.assignment-returns
 assignment-returns t c =
-    goes_by c.assign.new.self c.assign.result
+    goes_on_so c.assign.new.self c.assign.result
     (assigns_from c.args.self.now c.bit.new.self c.bit-2.new.self c.args.left c.args.env c.in_ok-to.to
     c.in_ok-from.from (tree_of c.args.left_term.now) (tree_of c.args.right_term.now)
     c.requires.machine c.requires.env c.in_ok-to.ensures c.in_ok-from.ensures)
-    c.assign.ensures.ok c.assign.ensures.err
+    c.assign.ensures.run
 
 pub reg-returns : goal.reg-returns
 reg-returns t c =
-    goes_by c.short_register.new.self c.short_register.result
+    goes_on_so c.short_register.new.self c.short_register.result
     (reg_made c.args.self.now c.bits.new.self c.args.left (env_in (envs_of c.args.self.now) c.args.env)
     (map tree_of c.args.terms.now) c.args.at c.in_ok-locations.locations.items c.requires.machine c.in_ok-locations.ensures)
-    c.short_register.ensures.ok c.short_register.ensures.err
+    c.short_register.ensures.run
 
 pub assignment-returns-in_err-from : goal.assignment-returns-in_err-from
 assignment-returns-in_err-from t c = stops _ _ c.from_residual-in_err-from.result c.from_residual-in_err-from.ensures.1
@@ -118,11 +118,11 @@ append-returns-in_err-back t c = stops _ _ c.from_residual-in_err-back.result c.
 
 pub append-returns : goal.append-returns
 append-returns t c =
-    goes_by c.appended.new.self c.appended.result
+    goes_on_so c.appended.new.self c.appended.result
     (append_second c.args.self.now c.run.new.self c.run-2.new.self c.args.left c.args.env (tree_of c.args.first.now)
     (tree_of c.args.second.now) c.args.at c.in_ok-front.front c.in_ok-back.back c.requires.machine c.requires.env c.in_ok-front.ensures.run
     c.in_ok-back.ensures.run)
-    c.appended.ensures.ok c.appended.ensures.err
+    c.appended.ensures.run
 
 pub apply-loop-term-init : goal.apply-loop-term-init
 apply-loop-term-init t c = apply_begun c.args.self.now c.run.new.self c.args.left c.args.env (tree_of c.args.head.now)
@@ -149,11 +149,11 @@ argument-returns t c =
 
 pub at-returns : goal.at-returns
 at-returns t c =
-    goes_by c.parts.new.self c.parts.result
+    goes_on_so c.parts.new.self c.parts.result
     (at_begun c.args.self.now c.run.new.self c.args.left c.args.env
     (tree_of c.args.base.now) c.args.inside.now c.in_ok-value.value c.place.result c.place.ensures c.requires.machine c.requires.env
     c.in_ok-value.ensures.run)
-    c.parts.ensures.ok c.parts.ensures.err
+    c.parts.ensures
 
 pub items-returns-in_err-inner : goal.items-returns-in_err-inner
 items-returns-in_err-inner t c = stops _ _ c.from_residual.result c.from_residual.ensures.1
@@ -238,9 +238,7 @@ term-returns-in-Block t c =
 -- ---- terms by their forms
 
 pub term-returns-in-Bool : goal.term-returns-in-Bool
-term-returns-in-Bool t c =
-    MatchResult-from_both c.constant.result _ _ (rw (c.in-Bool.is, tree_of-Bool c.in-Bool.bit c.in-Bool.at) c.constant.ensures.ok)
-    (rw (c.in-Bool.is, tree_of-Bool c.in-Bool.bit c.in-Bool.at) c.constant.ensures.err)
+term-returns-in-Bool t c = rw (c.in-Bool.is, tree_of-Bool c.in-Bool.bit c.in-Bool.at) c.constant.ensures
 
 pub term-returns-in-Reg : goal.term-returns-in-Reg
 term-returns-in-Reg t c = rw (c.in-Reg.is, tree_of-Reg c.in-Reg.terms c.in-Reg.at, ← c.deref.ensures.value) c.reg.ensures
@@ -340,10 +338,10 @@ chain-returns-in_err-so_far t c = stops _ _ c.from_residual.result c.from_residu
 
 pub claimed-returns : goal.claimed-returns
 claimed-returns t c =
-    goes_by c.claim.new.self c.claim.result
+    goes_on_so c.claim.new.self c.claim.result
     (step (λ l s. claim_on no_bits c.args.kind l (place_of (tree_of c.args.operand.now)) c.args.at s)
     (begun c.args.self.now _ _ refl c.requires.machine) c.in_ok-location.ensures)
-    c.claim.ensures.ok c.claim.ensures.err
+    c.claim.ensures.run
 
 pub link-returns : goal.link-returns
 link-returns t c =
@@ -354,11 +352,10 @@ link-returns t c =
 
 pub rotation-returns : goal.rotation-returns
 rotation-returns t c =
-    goes_by c.rotated.new.self c.rotated.result
+    goes_on_so c.rotated.new.self c.rotated.result
     (rotation_run c.args.self.now c.number.new.self c.run.new.self c.args.left c.args.env c.args.by.now (tree_of c.args.operand.now)
     c.args.at c.in_ok-k.k c.in_ok-value.value c.requires.machine c.requires.env c.in_ok-k.ensures.ok c.in_ok-value.ensures.run)
-    (simp (to_z-of_z, c.in_ok-k.ensures.fits) at c.rotated.ensures.ok)
-    (simp (to_z-of_z, c.in_ok-k.ensures.fits) at c.rotated.ensures.err)
+    (simp (to_z-of_z, c.in_ok-k.ensures.fits) at c.rotated.ensures.run)
 
 pub rotation-returns-in_err-value : goal.rotation-returns-in_err-value
 rotation-returns-in_err-value t c = stops _ _ c.from_residual-in_err-value.result c.from_residual-in_err-value.ensures.1

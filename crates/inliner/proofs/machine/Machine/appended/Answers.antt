@@ -1,10 +1,9 @@
 use Rattle.std.proofs.Common.{sym, subst}
-use Rattle.std.specs.Result.{IfOk, IfErr}
 use Rattle.revs_terms.specs.Running as runs
 use Rattle.revs_terms.specs.Running.{Outcome}
 use Rattle.array_shapes.specs.Values.{seen}
 use Rattle.inliner.specs.inside.Machines.{envs_of, state_of, Goes}
-use Rattle.inliner.specs.inside.Calls.{Says}
+use Rattle.inliner.specs.inside.Calls.{Follows}
 use Rattle.revs_terms.specs.Terms.{place_of}
 use Rattle.revs_terms.specs.Trees.{tree_of}
 use Rattle.inliner.proofs.PartLemmas.{append_is}
@@ -13,17 +12,10 @@ use Rattle.inliner.proofs.machine.Machine.appended.Goals as goal
 pub register-requires-in-Ok : goal.register-requires-in-Ok
 register-requires-in-Ok c = c.requires
 
-pub returns-in-Ok-clause-ok : goal.returns-in-Ok-clause-ok
-returns-in-Ok-clause-ok c =
+pub returns-in-Ok-clause-run : goal.returns-in-Ok-clause-run
+returns-in-Ok-clause-run c =
     let e = append_is (envs_of c.args.self.now) (seen c.args.x.now) (seen c.args.y.now) c.in-Some.front.now c.in-Some-register.back.now c.in-Ok.joined.items
     (place_of (tree_of c.args.first.now)) (place_of (tree_of c.args.second.now)) c.args.at (state_of c.args.self.now) c.in-Some.ensures
     c.in-Some-register.ensures (λ n. let f = c.in-Ok.ensures.length.1 n in cc) c.in-Ok.ensures.ok in
-    subst (λ (o : Outcome (Unit {0}) runs.Value). IfOk c.register-in-Ok.result (λ v. Goes c.args.self.now c.register-in-Ok.new.self o v)) (sym e)
-    c.register-in-Ok.ensures.ok
-
-pub returns-in-Ok-clause-err : goal.returns-in-Ok-clause-err
-returns-in-Ok-clause-err c =
-    let e = append_is (envs_of c.args.self.now) (seen c.args.x.now) (seen c.args.y.now) c.in-Some.front.now c.in-Some-register.back.now c.in-Ok.joined.items
-    (place_of (tree_of c.args.first.now)) (place_of (tree_of c.args.second.now)) c.args.at (state_of c.args.self.now) c.in-Some.ensures
-    c.in-Some-register.ensures (λ n. let f = c.in-Ok.ensures.length.1 n in cc) c.in-Ok.ensures.ok in
-    subst (λ (o : Outcome (Unit {0}) runs.Value). IfErr c.register-in-Ok.result (λ f. Says f o)) (sym e) c.register-in-Ok.ensures.err
+    subst (λ (o : Outcome (Unit {0}) runs.Value). Follows (Goes c.args.self.now c.register-in-Ok.new.self) o c.register-in-Ok.result) (sym e)
+    c.register-in-Ok.ensures

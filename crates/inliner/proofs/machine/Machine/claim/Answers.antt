@@ -1,12 +1,12 @@
 use Rattle.std.proofs.Common.{refl, rules, arith, length, ap}
 use Rattle.inliner.proofs.WriteLemmas.{asserted, cleaned}
-use Rattle.revc_base.proofs.ResultLemmas.{no_value, passes_on}
+use Rattle.inliner.proofs.ProgressLemmas.{stops}
 use Rattle.inliner.proofs.FaultLemmas.{said_first}
 use Rattle.inliner.proofs.machine.Machine.claim.Goals.{then-eq, else-eq}
 use Rattle.inliner.proofs.machine.Machine.claim.Goals as goal
 
-pub returns-clause-ok : goal.returns-clause-ok
-returns-clause-ok c =
+pub returns-clause-run : goal.returns-clause-run
+returns-clause-run c =
     elim c.if-eq.branch [
       | then-eq w ↦ rw w.self-is (cleaned c.args.self.now _ c.args.kind c.args.location _ c.args.at c.in_ok-of.of
           (search rules) refl refl c.in_ok-claim.ensures.ok refl c.in_ok-of.ensures.ok (omega (arith, ap length c.claims.ensures.claims)) c.requires)
@@ -14,15 +14,9 @@ returns-clause-ok c =
           (search rules) refl refl c.in_ok-claim.ensures.ok refl c.in_ok-of.ensures.ok (omega (arith, ap length c.claims.ensures.claims)) c.requires)
     ]
 
-pub returns-in_err-of-clause-ok : goal.returns-in_err-of-clause-ok
-returns-in_err-of-clause-ok c = no_value c.from_residual.result _ _ c.from_residual.ensures.1
-
-pub returns-in_err-claim-clause-ok : goal.returns-in_err-claim-clause-ok
-returns-in_err-claim-clause-ok c = no_value c.from_residual-in_err-claim.result _ _ c.from_residual-in_err-claim.ensures.1
-
-pub returns-in_err-of-clause-err : goal.returns-in_err-of-clause-err
-returns-in_err-of-clause-err c = passes_on _ c.from_residual.result c.from_residual.ensures.1
+pub returns-in_err-of-clause-run : goal.returns-in_err-of-clause-run
+returns-in_err-of-clause-run c = stops _ _ c.from_residual.result c.from_residual.ensures.1
     (said_first c.in_err-of.field-0.0 _ _ c.in_err-of.ensures.err)
 
-pub returns-in_err-claim-clause-err : goal.returns-in_err-claim-clause-err
-returns-in_err-claim-clause-err c = passes_on _ c.from_residual-in_err-claim.result c.from_residual-in_err-claim.ensures.1 (record { stuck = tt })
+pub returns-in_err-claim-clause-run : goal.returns-in_err-claim-clause-run
+returns-in_err-claim-clause-run c = stops _ _ c.from_residual-in_err-claim.result c.from_residual-in_err-claim.ensures.1 (record { stuck = tt })

@@ -1,11 +1,13 @@
-use Rattle.revc_base.proofs.ResultLemmas.{no_value, passes_on}
+use Rattle.std.proofs.Common.{◌≡◌, length, rules}
+use Rattle.inliner.proofs.ProgressLemmas.{stops}
+use Rattle.inliner.proofs.FaultLemmas.{said_first}
 use Rattle.inliner.proofs.machine.Machine.register.Goals as goal
 
-pub returns-in_err-work-clause-ok : goal.returns-in_err-work-clause-ok
-returns-in_err-work-clause-ok c = no_value c.from_residual.result _ _ c.from_residual.ensures.1
+pub returns-in_err-work : goal.returns-in_err-work
+returns-in_err-work c =
+    let long : c.len.result ≡ length c.args.locations.items = search rules in
+    stops _ _ c.from_residual.result c.from_residual.ensures.1
+    (rw (← long) (said_first c.in_err-work.field-0.0 _ _ c.in_err-work.ensures.err))
 
-pub returns-in_err-new-clause-ok : goal.returns-in_err-new-clause-ok
-returns-in_err-new-clause-ok c = no_value c.from_residual-in_err-new.result _ _ c.from_residual-in_err-new.ensures.1
-
-pub returns-in_err-new-clause-err : goal.returns-in_err-new-clause-err
-returns-in_err-new-clause-err c = passes_on _ c.from_residual-in_err-new.result c.from_residual-in_err-new.ensures.1 (record { stuck = tt })
+pub returns-in_err-new : goal.returns-in_err-new
+returns-in_err-new c = stops _ _ c.from_residual-in_err-new.result c.from_residual-in_err-new.ensures.1 (record { stuck = tt })

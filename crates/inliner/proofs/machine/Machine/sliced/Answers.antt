@@ -1,23 +1,22 @@
 use Rattle.std.proofs.lemmas.Int.{to_z-of_z}
-use Rattle.std.proofs.lemmas.Result.{IfOk-weaker, IfErr-weaker}
-use Rattle.revc_base.proofs.ResultLemmas.{passes_on}
-use Rattle.inliner.proofs.ProgressLemmas.{ends_goes, said}
-use Rattle.inliner.proofs.PartLemmas.{slice_both, slice_stuck}
+use Rattle.inliner.specs.inside.Machines.{env_in, envs_of}
+use Rattle.inliner.proofs.ProgressLemmas.{stops, goes_on_so}
+use Rattle.inliner.proofs.PartLemmas.{first_stuck, slice_both, slice_stuck}
 use Rattle.inliner.proofs.machine.Machine.sliced.Goals as goal
 
-pub returns-in_err-last-clause-err : goal.returns-in_err-last-clause-err
-returns-in_err-last-clause-err c = passes_on _ c.from_residual-in_err-last.result c.from_residual-in_err-last.ensures.1
+pub returns-in_err-last-clause-run : goal.returns-in_err-last-clause-run
+returns-in_err-last-clause-run c = stops _ _ c.from_residual-in_err-last.result c.from_residual-in_err-last.ensures.1
     (slice_stuck c.args.self.now c.number.new.self c.args.env c.args.value.now c.in-Some.places.now c.args.i.now c.args.j.now c.in_ok-first.first
     c.args.whole c.args.at c.in_err-last.field-0.0 c.in-Some.ensures c.requires.machine c.requires.env c.in_ok-first.ensures.ok c.in_err-last.ensures.err)
 
-pub returns-clause-ok : goal.returns-clause-ok
-returns-clause-ok c = IfOk-weaker c.between.result _ _
-    (λ v g. ends_goes (slice_both c.args.self.now c.number.new.self c.number-2.new.self c.args.env c.args.value.now c.in-Some.places.now c.args.i.now
+pub returns-clause-run : goal.returns-clause-run
+returns-clause-run c =
+    goes_on_so c.between.new.self c.between.result
+    (slice_both c.args.self.now c.number.new.self c.number-2.new.self c.args.env c.args.value.now c.in-Some.places.now c.args.i.now
     c.args.j.now c.in_ok-first.first c.in_ok-last.last c.args.whole c.args.at c.in-Some.ensures c.requires.machine c.requires.env
-    c.in_ok-first.ensures.ok c.in_ok-last.ensures.ok) g) (simp (to_z-of_z, c.in_ok-first.ensures.fits, c.in_ok-last.ensures.fits) at c.between.ensures.ok)
+    c.in_ok-first.ensures.ok c.in_ok-last.ensures.ok) (simp (to_z-of_z, c.in_ok-first.ensures.fits, c.in_ok-last.ensures.fits) at c.between.ensures)
 
-pub returns-clause-err : goal.returns-clause-err
-returns-clause-err c = IfErr-weaker c.between.result _ _
-    (λ f s. said f (slice_both c.args.self.now c.number.new.self c.number-2.new.self c.args.env c.args.value.now c.in-Some.places.now c.args.i.now
-    c.args.j.now c.in_ok-first.first c.in_ok-last.last c.args.whole c.args.at c.in-Some.ensures c.requires.machine c.requires.env
-    c.in_ok-first.ensures.ok c.in_ok-last.ensures.ok) s) (simp (to_z-of_z, c.in_ok-first.ensures.fits, c.in_ok-last.ensures.fits) at c.between.ensures.err)
+pub returns-in_err-first-clause-run : goal.returns-in_err-first-clause-run
+returns-in_err-first-clause-run c = stops _ _ c.from_residual.result c.from_residual.ensures.1
+    (first_stuck c.args.self.now (env_in (envs_of c.args.self.now) c.args.env) c.args.value.now c.in-Some.places.now c.args.i.now c.args.j.now
+    c.args.whole c.args.at c.in_err-first.field-0.0 c.in-Some.ensures c.in_err-first.ensures.err)
