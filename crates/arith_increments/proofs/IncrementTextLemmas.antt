@@ -1,8 +1,7 @@
 -- The pieces of an incrementer spell its text, fit, and are good.
 use Rattle.std.proofs.Common.{◌≡◌, ℕ, suc, ◌+◌, ◌-◌, ◌≤◌, true, List, [], ◌∷◌, ◌++◌, length, refl, sym, ◌∙◌, arith}
-use Rattle.std.specs.Prelude.{codes, decimal}
+use Rattle.std.specs.Prelude.{codes}
 use Rattle.std.specs.List.{flat_map, range_with_len}
-use Rattle.std.proofs.lemmas.Fmt.{decimal_digit}
 use Rattle.std.proofs.lemmas.List.{append_assoc}
 use Rattle.program_gen.specs.Adder.{line}
 use Rattle.arith_templates.specs.Texts as texts
@@ -10,6 +9,7 @@ use Rattle.revs_lexer.specs.declared.sign.Sign.TheVariants as signs
 use Rattle.revs_lexer.specs.declared.word.Word.TheVariants as words
 use Rattle.built_texts.specs.Pieces.{Piece, text_of, toks_of, fits, AreGood}
 use Rattle.built_texts.proofs.PlaceLemmas.{text_of-append, good_word, good_sign, good_numbered, built_length}
+use Rattle.arith_runs.proofs.NameLemmas.{one_digit, zero_digit}
 use Rattle.arith_runs.proofs.Pieces.{s, numbered, text_end}
 use Rattle.arith_runs.proofs.RipplePieces.{from_sum}
 use Rattle.arith_runs.proofs.RippleTextLemmas.{good_place, good_parameter, ripple_text, IsFine, ripple_fits, ripple_good, length-ripple}
@@ -23,10 +23,7 @@ header_text bits = refl
 
 first_text : texts.first_increment ≡ text_of first_sum ++ text_of first_carry
 unfolding texts.first_increment
-first_text =
-    let z : decimal 0 ≡ 48 ∷ [] = decimal_digit 0 (omega arith) in
-    let o : decimal 1 ≡ 49 ∷ [] = decimal_digit 1 (omega arith) in
-    rw (z, o) refl
+first_text = rw (zero_digit, one_digit) refl
 
 place_text : (i : ℕ) → texts.increment_place i ≡ text_of (sum_line i) ++ text_of (carry_line i)
 unfolding texts.increment_line texts.increment_carry_line

@@ -2,7 +2,6 @@
 use Rattle.std.proofs.Common.{◌≡◌, ℕ, zero, suc, ◌+◌, ◌*◌, ◌-◌, ◌≤◌, Bool, true, false, List, [], ◌∷◌, ◌++◌, length, refl, ap, sym, subst, ◌∙◌, arith}
 use Rattle.std.specs.Prelude.{codes, decimal}
 use Rattle.std.specs.List.{flat_map, range_with_len}
-use Rattle.std.proofs.lemmas.Fmt.{decimal_digit}
 use Rattle.std.proofs.lemmas.List.{append_assoc, length-append}
 use Rattle.program_gen.specs.Adder as adder
 use Rattle.program_gen.specs.Adder.{line}
@@ -13,6 +12,7 @@ use Rattle.revs_lexer.specs.declared.token.Tok.{Tok}
 use Rattle.revs_lexer.specs.declared.token.Tok.TheVariants as toks
 use Rattle.built_texts.specs.Pieces.{Piece, text_of, toks_of, fits, AreGood}
 use Rattle.built_texts.proofs.PlaceLemmas.{text_of-append, good_word, good_sign, good_number, good_numbered, plain_good, goods, built_length}
+use Rattle.arith_runs.proofs.NameLemmas.{one_digit, zero_digit}
 use Rattle.arith_runs.proofs.Pieces.{s, name}
 use Rattle.arith_runs.proofs.RipplePieces.{from_sum}
 use Rattle.arith_runs.proofs.RippleTextLemmas.{ripple_text, IsFine, ripple_fits, ripple_good, length-ripple}
@@ -35,10 +35,7 @@ closing_text rest = refl
 
 first_text : texts.first_plus ≡ text_of (first_sum plus) ++ text_of plus.first_line
 unfolding texts.first_plus
-first_text =
-    let z : decimal 0 ≡ 48 ∷ [] = decimal_digit 0 (omega arith) in
-    let o : decimal 1 ≡ 49 ∷ [] = decimal_digit 1 (omega arith) in
-    rw (z, o) refl
+first_text = rw (zero_digit, one_digit) refl
 
 place_text : (i : ℕ) → texts.plus_place i ≡ text_of (sum_line plus i) ++ text_of (carry_line plus i)
 unfolding texts.plus_sum_line texts.plus_carry_line
@@ -68,7 +65,7 @@ zeros_text i zero rest = refl
 zeros_text i (suc count) rest = ap (λ (bs : List ℕ). codes "false; " ++ bs) (zeros_text (i + 1) count rest)
 
 zero_front : (bs : List ℕ) → codes "let r0 = reg [" ++ bs ≡ text_of zero_open ++ bs
-zero_front bs = let z : decimal 0 ≡ 48 ∷ [] = decimal_digit 0 (omega arith) in rw z refl
+zero_front bs = rw zero_digit refl
 
 zero_text : (m : ℕ) → texts.zero_line (suc m) ≡ text_of zero_open ++ (text_of (zero_bits m) ++ text_of zero_close)
 unfolding texts.zero_line
@@ -83,11 +80,8 @@ zero_text m =
 digit_text : (n k : ℕ) (d : Bool) → texts.digit_line n k d ≡ text_of (digit_line n k d)
 unfolding texts.shift_line texts.first_add_line texts.add_line
 digit_text n k false = refl
-digit_text n zero true =
-    let z : decimal 0 ≡ 48 ∷ [] = decimal_digit 0 (omega arith) in
-    let o : decimal 1 ≡ 49 ∷ [] = decimal_digit 1 (omega arith) in
-    rw (z, o) refl
-digit_text n (suc k) true = let z : decimal 0 ≡ 48 ∷ [] = decimal_digit 0 (omega arith) in rw z refl
+digit_text n zero true = rw (zero_digit, one_digit) refl
+digit_text n (suc k) true = rw zero_digit refl
 
 digits_text : (n k : ℕ) (ds : List Bool) → texts.digit_lines n k ds ≡ text_of (digit_lines n k ds)
 digits_text n k [] = refl

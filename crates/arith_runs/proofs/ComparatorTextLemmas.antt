@@ -2,7 +2,6 @@
 use Rattle.std.proofs.Common.{◌≡◌, ℕ, zero, suc, ◌+◌, ◌*◌, ◌-◌, ◌≤◌, true, List, [], ◌∷◌, ◌++◌, length, refl, ap, sym, ◌∙◌, subst, arith, append-nil}
 use Rattle.std.specs.Prelude.{codes, decimal}
 use Rattle.std.specs.List.{flat_map, range_with_len}
-use Rattle.std.proofs.lemmas.Fmt.{decimal_digit}
 use Rattle.std.proofs.lemmas.List.{append_assoc, length-append}
 use Rattle.revc_base.specs.declared.place.Place.{Place}
 use Rattle.revs_lexer.specs.declared.sign.Sign.TheVariants as signs
@@ -21,6 +20,7 @@ use Rattle.built_texts.proofs.PlaceLemmas.{text_of-append, lettered, good_sign, 
 use Rattle.built_texts.proofs.WayLemmas.{turns, turns-then, built_then, is_sentence}
 use Rattle.program_gen.specs.Adder as lines
 use Rattle.arith_templates.specs.Texts as texts
+use Rattle.arith_runs.proofs.NameLemmas.{one_digit, zero_digit}
 use Rattle.arith_runs.proofs.RippleReadingLemmas.{f, chain_end, bound, nothing_behind, end_turns}
 use Rattle.arith_runs.proofs.TwoNumberPieces.{header, carry_line}
 use Rattle.arith_runs.proofs.TwoNumberTextLemmas.{header_text, good_header, good_carry_line}
@@ -32,10 +32,7 @@ use Rattle.arith_runs.proofs.SubtractorLemmas.{function_text, borrow_text, is_fi
 
 first_text : texts.first_borrow ≡ text_of first_borrow
 unfolding texts.first_borrow
-first_text =
-    let z : decimal 0 ≡ 48 ∷ [] = decimal_digit 0 (omega arith) in
-    let o : decimal 1 ≡ 49 ∷ [] = decimal_digit 1 (omega arith) in
-    rw (z, o) refl
+first_text = rw (zero_digit, one_digit) refl
 
 borrows_text : (i count : ℕ) → flat_map texts.borrow_line (range_with_len i count) ≡ text_of (borrows i count)
 borrows_text i zero = refl

@@ -5,13 +5,21 @@ use Rattle.std.specs.Prelude.{slice_get, bytes_eq, decimal}
 use Rattle.std.specs.Char.{is_ascii_digit}
 use Rattle.std.specs.List.{list_all}
 use Rattle.std.proofs.lemmas.Bool.{false_from_ne_true, false≢true}
-use Rattle.std.proofs.lemmas.Fmt.{decimal_injective, decimal_is_IsNumeral}
+use Rattle.std.proofs.lemmas.Fmt.{decimal_digit, decimal_injective, decimal_is_IsNumeral}
 use Rattle.std.proofs.lemmas.Slice.Eq.{bytes_eq-Decides}
 use Rattle.std.proofs.lemmas.Option.{get_or_from_slice_get}
 use Rattle.list_facts.specs.Bits.{bit_of}
 use Rattle.text_places.proofs.DigitLemmas.{all_digits}
 use Rattle.built_texts.specs.Meanings.{Meaning, Scope, named, meaning_of}
 use Rattle.built_texts.proofs.PlaceLemmas.{lettered}
+
+-- ---- digits
+
+pub zero_digit : decimal 0 ≡ 48 ∷ []
+zero_digit = decimal_digit 0 (omega arith)
+
+pub one_digit : decimal 1 ≡ 49 ∷ []
+one_digit = decimal_digit 1 (omega arith)
 
 -- ---- bytes of names
 

@@ -2,10 +2,9 @@
 use Rattle.std.proofs.Common.{◌≡◌, ℕ, zero, suc, ◌+◌, ◌*◌, ◌-◌, ◌^◌, ◌≤◌, ◌<◌, Bool, true, false}
 use Rattle.std.proofs.Common.{◌&&◌, List, [], ◌∷◌, ◌++◌, length, take, drop, refl, ap, sym, ◌∙◌}
 use Rattle.std.proofs.Common.{subst, arith}
-use Rattle.std.specs.Prelude.{codes, decimal, IsTrue, ◌↔◌}
+use Rattle.std.specs.Prelude.{codes, IsTrue, ◌↔◌}
 use Rattle.std.specs.Bool.{xor}
 use Rattle.std.proofs.lemmas.Bool.{false≢true}
-use Rattle.std.proofs.lemmas.Fmt.{decimal_digit}
 use Rattle.std.proofs.lemmas.List.{take_at, get_or_at}
 use Rattle.list_facts.specs.Bits.{bit_of}
 use Rattle.list_facts.proofs.BitLemmas.{xor_nothing}
@@ -30,6 +29,7 @@ use Rattle.arith_templates.specs.Meets.{IsDifference}
 use Rattle.arith_templates.specs.Texts as texts
 use Rattle.arith_templates.proofs.PlaceLemmas.{differences_subtract}
 use Rattle.arith_runs.specs.Computes.{SubtractorsSubtract}
+use Rattle.arith_runs.proofs.NameLemmas.{one_digit, zero_digit}
 use Rattle.arith_runs.proofs.Pieces.{s, place_of}
 use Rattle.arith_runs.proofs.RippleTextLemmas.{good_place}
 use Rattle.arith_runs.proofs.RippleReadingLemmas.{bit_at, bound}
@@ -49,10 +49,7 @@ function_text = refl
 
 first_text : texts.first_difference ++ texts.first_borrow ≡ text_of (first_sum subtractor) ++ text_of first_borrow
 unfolding texts.first_difference texts.first_borrow
-first_text =
-    let z : decimal 0 ≡ 48 ∷ [] = decimal_digit 0 (omega arith) in
-    let o : decimal 1 ≡ 49 ∷ [] = decimal_digit 1 (omega arith) in
-    rw (z, o) refl
+first_text = rw (zero_digit, one_digit) refl
 
 pub borrow_text : (i : ℕ) → texts.borrow_line i ≡ text_of (carry_line subtractor i)
 unfolding texts.borrow_line

@@ -1,8 +1,7 @@
 -- The texts of two numbers that ripple: how they are spelled, that they fit, and that they are good.
 use Rattle.std.proofs.Common.{◌≡◌, ℕ, suc, ◌+◌, ◌-◌, ◌≤◌, true, List, [], ◌∷◌, ◌++◌, length, refl, ap, sym, ◌∙◌, arith}
-use Rattle.std.specs.Prelude.{codes, decimal}
+use Rattle.std.specs.Prelude.{codes}
 use Rattle.std.specs.List.{flat_map, range_with_len}
-use Rattle.std.proofs.lemmas.Fmt.{decimal_digit}
 use Rattle.std.proofs.lemmas.List.{append_assoc, length-append}
 use Rattle.text_places.specs.Bytes.{is_letter}
 use Rattle.revs_lexer.specs.declared.sign.Sign.TheVariants as signs
@@ -13,6 +12,7 @@ use Rattle.built_texts.specs.Pieces.{Piece, text_of, toks_of, fits, AreGood}
 use Rattle.built_texts.proofs.PlaceLemmas.{text_of-append, good_word, good_sign, good_numbered, is_plain, plain_good, goods, built_length}
 use Rattle.program_gen.specs.Adder as sums
 use Rattle.arith_templates.specs.Texts as texts
+use Rattle.arith_runs.proofs.NameLemmas.{one_digit, zero_digit}
 use Rattle.arith_runs.proofs.Pieces.{s, numbered, place_of, parameter, text_end}
 use Rattle.arith_runs.proofs.RipplePieces.{from_sum}
 use Rattle.arith_runs.proofs.RippleTextLemmas.{good_place, good_parameter, IsSpelled, ripple_text, IsFine, ripple_fits, ripple_good, length-ripple}
@@ -186,10 +186,7 @@ function_text = refl
 
 first_text : sums.first_place ≡ text_of (first_sum adder) ++ text_of adder.first_line
 unfolding sums.first_place
-first_text =
-    let z : decimal 0 ≡ 48 ∷ [] = decimal_digit 0 (omega arith) in
-    let o : decimal 1 ≡ 49 ∷ [] = decimal_digit 1 (omega arith) in
-    rw (z, o) refl
+first_text = rw (zero_digit, one_digit) refl
 
 place_text : (i : ℕ) → sums.place i ≡ text_of (sum_line adder i) ++ text_of (carry_line adder i)
 unfolding sums.sum_line sums.carry_line
