@@ -1,5 +1,5 @@
 -- Why a text means no file: its first bad line, and whether that line passes a limit.
-use Rattle.std.specs.Prelude.{◌≡◌, ℕ, ◌+◌, ◌<◌, ◌⊎◌, List, [], ◌∷◌, ◌++◌, length, map, codes, slice_index, Some, None}
+use Rattle.std.specs.Prelude.{◌≡◌, ℕ, ◌+◌, ◌<◌, ◌⊎◌, List, [], ◌∷◌, ◌++◌, length, codes, slice_index, Some, None}
 use Rattle.mct_circuit.specs.declared.gate.Control.{Control}
 use Rattle.circuit_plans.specs.declared.plan.TheConstants.{MOST_LINES, MOST_GATES}
 use Rattle.revc_base.specs.declared.limits.TheConstants.{MOST_NAME_BYTES}
