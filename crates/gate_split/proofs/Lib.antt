@@ -1,5 +1,6 @@
 pub mod BuildingLemmas
 pub mod CostLemmas
+mod CountLemmas
 pub mod EffectLemmas
 pub mod FallingLineLemmas
 pub mod FlipLemmas

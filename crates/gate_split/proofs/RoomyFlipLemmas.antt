@@ -24,10 +24,10 @@ use Rattle.gate_split.proofs.PieceLemmas.{flip_on}
 
 -- ---- an idle line is found
 
-record HasFirst (xs : List ℕ) : Type 0 where
-  first : ℕ
-  others : List ℕ
-  parts : xs ≡ first ∷ others
+pub record HasFirst (xs : List ℕ) : Type 0 where
+  pub first : ℕ
+  pub others : List ℕ
+  pub parts : xs ≡ first ∷ others
 
 -- where a line passes the test, a line is found
 some_falls : (test : ℕ → Bool) (n line : ℕ) → line < n → test line ≡ true → HasFirst (falling_lines test n)
@@ -61,7 +61,7 @@ few_controls : (n : ℕ) (controls : List ℕ) (target : ℕ) → leb (length co
 few_controls n controls target e = record { gates = flip_of controls target ∷ []; is = rw e refl; few = rw e (omega arith) }
 
 -- some gates stand in place of a flip of three controls or more that has an idle line
-some_gates : (n : ℕ) (controls : List ℕ) (target : ℕ) → leb (length controls) 2 ≡ false → HasFirst (idle_lines n (controls ++ target ∷ []))
+pub some_gates : (n : ℕ) (controls : List ℕ) (target : ℕ) → leb (length controls) 2 ≡ false → HasFirst (idle_lines n (controls ++ target ∷ []))
     → (gates : List GateView) × (split_positive n controls target ≡ Some gates)
 some_gates n controls target e idle =
     let found = idle_lines n (controls ++ target ∷ []) in
@@ -93,7 +93,7 @@ length-cons-if true gate gates = refl
 length-cons-if false gate gates = omega arith
 
 -- a flip stands for each negative control
-length-flips_of_negatives : (controls : List Control) → length (flips_of_negatives controls) ≡ negative_controls controls
+pub length-flips_of_negatives : (controls : List Control) → length (flips_of_negatives controls) ≡ negative_controls controls
 length-flips_of_negatives controls =
     is_count_by (λ (cs : List Control). length (flips_of_negatives cs)) (λ (control : Control). not control.positive) refl
     (λ c cs. length-cons-if c.positive (flip_of [] c.line) (flips_of_negatives cs)) controls

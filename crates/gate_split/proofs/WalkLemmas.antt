@@ -43,7 +43,7 @@ too_many n limit place done piece next h = elim (leb_tells (length (done ++ piec
 ]
 
 -- the walk at the gate of a place
-at_gate : (n limit place : ℕ) (done gates : List GateView) (i : ℕ) (gate : GateView) (whole : Result (List GateView) SplitFault)
+pub at_gate : (n limit place : ℕ) (done gates : List GateView) (i : ℕ) (gate : GateView) (whole : Result (List GateView) SplitFault)
     → i < length gates → gate ≡ get_or gates i gate → split_from n limit place done (drop i gates) ≡ whole
     → with_piece (split_gate n gate) limit place done (λ now. split_from n limit (place + 1) now (drop (i + 1) gates)) ≡ whole
 at_gate n limit place done gates i gate whole h e w =

@@ -1,5 +1,5 @@
 -- The split of a circuit into flips of at most two controls, all positive, gate by gate.
-use Rattle.std.specs.Prelude.{◌≢◌, ℕ, zero, suc, ◌+◌, ◌-◌, ◌/◌, Bool, not, nat_le, if◌then◌else◌, Option, Some, None, Result, Ok, Err, List, [], ◌∷◌, ◌++◌}
+use Rattle.std.specs.Prelude.{◌≡◌, ◌≢◌, ℕ, zero, suc, ◌+◌, ◌-◌, ◌/◌, Bool, not, nat_le, if◌then◌else◌, Option, Some, None, Result, Ok, Err, List, [], ◌∷◌, ◌++◌}
 use Rattle.std.specs.Prelude.{length, map, reverse, take, drop}
 use Rattle.std.specs.List.{AllByRecursion}
 use Rattle.mct_circuit.specs.declared.gate.Control.{Control}
@@ -141,3 +141,8 @@ split_from n limit place done (gate ∷ gates) =
 -- the split list on n lines: the gates, or the first gate that has no idle line, or that the gates pass the limit, whichever the walk meets first
 abbrev pub split_list : ℕ → ℕ → List GateView → Result (List GateView) SplitFault
 split_list n limit gates = split_from n limit 0 [] gates
+
+-- there is a split list
+pub record HasSplitList (n limit : ℕ) (gates : List GateView) : Type 0 where
+  pub narrow : List GateView
+  pub is : split_list n limit gates ≡ Ok narrow

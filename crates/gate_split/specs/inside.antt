@@ -1,3 +1,4 @@
 -- What only private contracts and proofs cite.
+pub mod Counts
 pub mod Idle
 pub mod Walks

@@ -3,6 +3,7 @@
 //! 1995).
 #![tactic(auto)]
 
+mod counting;
 mod fault;
 mod idle;
 mod law;

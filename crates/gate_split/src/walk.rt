@@ -4,9 +4,10 @@ ghost use Rattle.std.specs.Prelude.{◌+◌, ◌<◌, ◌∷◌, ◌++◌, IfOk,
 ghost use Rattle.std.specs.List.{AllByRecursion, list_all};
 ghost use Rattle.gate_split.specs.declared.fault.SplitFault.TheVariants.{NoIdle, Gates};
 ghost use Rattle.mct_circuit.specs.Gates.{IsGateOn, IsNarrow, AreNarrow, line_map, lines_of};
-ghost use Rattle.gate_split.specs.Split.{split_gate, split_list, behind};
+ghost use Rattle.gate_split.specs.Split.{HasSplitList, split_gate, split_list, behind};
 ghost use Rattle.gate_split.specs.inside.Walks.{IsOver};
 
+use crate::counting::decide;
 use crate::fault::{GateRefusal, SplitFault};
 use crate::idle::LineMarks;
 use crate::piece::push_piece;
@@ -19,7 +20,8 @@ use std::alloc::Global;
 /// swap is three flips, a negative control is a positive one between two flips of its line, and a
 /// flip of three or more controls takes as many idle lines as it can use, the greatest first.
 /// `NoIdle` names the first gate that uses every line and wants an idle one, `Gates` says that
-/// there are more than `limit` gates, whichever comes first.
+/// there are more than `limit` gates, whichever comes first. `Memory` comes only where there is a
+/// split list.
 pub fn split(alloc: Global, circuit: &Circuit, lines: u32, limit: u64) -> Result<Narrow, SplitFault>
     requires { circuit.now.lines ≤ lines }
     ensures gates { IfOk result (λ narrow. split_list lines limit circuit.now.gates
@@ -33,7 +35,10 @@ pub fn split(alloc: Global, circuit: &Circuit, lines: u32, limit: u64) -> Result
         → split_list lines limit circuit.now.gates ≡ Err (NoIdle gate) }
     ensures over { IsErrOf result SplitFault.Gates
         → split_list lines limit circuit.now.gates ≡ Err Gates }
+    ensures memory { IsErrOf result SplitFault.Memory
+        → HasSplitList lines limit circuit.now.gates }
 {
+    decide(circuit, lines, limit)?;
     let mut narrow = Circuit::new(alloc, lines, limit);
     let mut marks = LineMarks::new(alloc, lines)?;
     let mut piece = Vec::new(alloc);

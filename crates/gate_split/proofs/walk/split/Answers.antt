@@ -57,13 +57,25 @@ returns-clause-gates c =
     c.loop-gate.gate-index c.loop-gate-test.false c.loop-gate.invariant.0))
 
 pub returns-in_err-marks-clause-gates : goal.returns-in_err-marks-clause-gates
-returns-in_err-marks-clause-gates c = no_value c.from_residual.result _ _ c.from_residual.ensures.1
+returns-in_err-marks-clause-gates c = no_value c.from_residual-in_err-marks.result _ _ c.from_residual-in_err-marks.ensures.1
 
 pub returns-in_err-marks-clause-size : goal.returns-in_err-marks-clause-size
-returns-in_err-marks-clause-size c = no_value c.from_residual.result _ _ c.from_residual.ensures.1
+returns-in_err-marks-clause-size c = no_value c.from_residual-in_err-marks.result _ _ c.from_residual-in_err-marks.ensures.1
 
 pub returns-in_err-marks-clause-within : goal.returns-in_err-marks-clause-within
-returns-in_err-marks-clause-within c = no_value c.from_residual.result _ _ c.from_residual.ensures.1
+returns-in_err-marks-clause-within c = no_value c.from_residual-in_err-marks.result _ _ c.from_residual-in_err-marks.ensures.1
 
 pub returns-in_err-marks-clause-map : goal.returns-in_err-marks-clause-map
-returns-in_err-marks-clause-map c = no_value c.from_residual.result _ _ c.from_residual.ensures.1
+returns-in_err-marks-clause-map c = no_value c.from_residual-in_err-marks.result _ _ c.from_residual-in_err-marks.ensures.1
+
+pub returns-in_err-decide-clause-gates : goal.returns-in_err-decide-clause-gates
+returns-in_err-decide-clause-gates c = no_value c.from_residual.result _ _ c.from_residual.ensures.1
+
+pub returns-in_err-decide-clause-size : goal.returns-in_err-decide-clause-size
+returns-in_err-decide-clause-size c = no_value c.from_residual.result _ _ c.from_residual.ensures.1
+
+pub returns-in_err-decide-clause-within : goal.returns-in_err-decide-clause-within
+returns-in_err-decide-clause-within c = no_value c.from_residual.result _ _ c.from_residual.ensures.1
+
+pub returns-in_err-decide-clause-map : goal.returns-in_err-decide-clause-map
+returns-in_err-decide-clause-map c = no_value c.from_residual.result _ _ c.from_residual.ensures.1
