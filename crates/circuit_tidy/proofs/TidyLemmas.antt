@@ -1,10 +1,10 @@
 -- The work on a list of flips: its steps keep the line map, and its end is tidy.
-use Rattle.std.proofs.Common.{◌≡◌, ℕ, ◌<◌, ◌≤◌, Bool, true, false, eqb, Option, Some, None, Result, Ok, List, [], ◌∷◌, ◌++◌, length, map}
+use Rattle.std.proofs.Common.{◌≡◌, ℕ, ◌<◌, ◌≤◌, Bool, true, false, eqb, Option, Some, None, Result, Ok, Err, List, [], ◌∷◌, ◌++◌, length, map, take}
 use Rattle.std.proofs.Common.{reverse}
 use Rattle.std.proofs.Common.{refl, sym, ap, ◌∙◌, subst, arith}
 use Rattle.std.specs.List.{AllByRecursion, list_any}
 use Rattle.std.proofs.lemmas.Bool.{and_parts, and_from, or_left, or_right, false≢true, eq-eqb}
-use Rattle.std.proofs.lemmas.List.{length-reverse, length-append, length-map, map-append}
+use Rattle.std.proofs.lemmas.List.{length-reverse, length-append, length-map, length-take-le, map-append}
 use Rattle.list_facts.specs.Lists.{below}
 use Rattle.list_facts.proofs.AllLemmas.{AllByRecursion-append, AllByRecursion-reverse}
 use Rattle.list_facts.proofs.OrderLemmas.{IsRising-filter}
@@ -12,7 +12,8 @@ use Rattle.std.specs.Option.{MatchOption}
 use Rattle.mct_circuit.specs.declared.gate.Control.{Control}
 use Rattle.mct_circuit.specs.declared.gate.Op.{Op}
 use Rattle.mct_circuit.specs.declared.gate.Op.TheVariants.{Flip as Op_flip}
-use Rattle.mct_circuit.specs.Gates.{GateView, AreGatesOn, AreNarrow, IsGateOn, IsNarrow, flip_of, line_map, positive}
+use Rattle.gate_split.specs.declared.fault.SplitFault.{SplitFault}
+use Rattle.mct_circuit.specs.Gates.{CircuitView, GateView, AreGatesOn, AreNarrow, IsGateOn, IsNarrow, flip_of, line_map, positive}
 use Rattle.mct_circuit.specs.Sizes.{has_line}
 use Rattle.mct_circuit.proofs.ReversalLemmas.{length-line_map, line_map-append}
 use Rattle.gate_split.specs.Split.{split_list}
@@ -235,6 +236,31 @@ pub split_again : (n limit : ℕ) (flips : List Flip) (gates : List GateView) �
 split_again n limit flips gates few is =
     same_ok (split_list n limit (gates_of flips)) gates (gates_of flips) is
     (stay n limit (gates_of flips) (flips_are_narrow flips) (omega (arith, few, length-map flips gate_of)))
+
+-- such gates are split, so their split is not refused
+pub never_refused : {A : Type 0} (n limit : ℕ) (flips : List Flip) (gates : List GateView) (fault : SplitFault) → gates ≡ gates_of flips → length flips ≤ limit
+    → split_list n limit gates ≡ Err fault → A
+never_refused n limit flips gates fault are few is =
+    let ok : split_list n limit gates ≡ Ok gates =
+    rw are (stay n limit (gates_of flips) (flips_are_narrow flips) (omega (arith, few, length-map flips gate_of))) in
+    let both = sym ok ∙ is in cc
+
+-- there is room for as many flips as there are gates
+pub few_done : (n limit : ℕ) (old : List GateView) (flips done : List Flip) → gates_of flips ≡ old → limit ≡ length old → IsDone n flips done
+    → length done ≤ limit
+few_done n limit old flips done are size is =
+    let few = is.follows.few in
+    let long : length flips ≡ length old = sym (length-map flips gate_of) ∙ ap length are in
+    omega (arith, few, long, size)
+
+-- and for the next of them
+pub room_for : (limit i : ℕ) (flips : List Flip) (circuit : CircuitView) → length flips ≤ limit → i < length flips
+    → circuit ≡ record { lines = circuit.lines; limit = limit; gates = gates_of (take i flips) } → length circuit.gates < circuit.limit
+room_for limit i flips circuit few low is =
+    let gates : length circuit.gates ≡ length (take i flips) = ap (λ (c : CircuitView). length c.gates) is ∙ length-map (take i flips) gate_of in
+    let most : circuit.limit ≡ limit = ap (λ (c : CircuitView). c.limit) is in
+    let cut : length (take i flips) ≡ i = length-take-le i flips (omega (arith, low)) in
+    omega (arith, few, low, gates, most, cut)
 
 pub tidied_from : (n limit : ℕ) (old : List GateView) (flips done : List Flip) (gates : List GateView) → gates_of flips ≡ old → limit ≡ length old
     → IsDone n flips done

@@ -1,5 +1,6 @@
 // The whole work on a circuit.
-ghost use Rattle.std.specs.Prelude.{◌≡◌, ◌≤◌, ◌<◌, ◌++◌, ◌∷◌, [], length, map, IfOk, OnOk};
+ghost use Rattle.std.specs.Prelude.{◌≡◌, ◌↔◌, ◌≤◌, ◌<◌, ◌++◌, ◌∷◌, [], length, map, IfOk, OnOk};
+ghost use Rattle.std.specs.Prelude.{IsErrOf};
 ghost use Rattle.std.specs.List.{AllByRecursion};
 ghost use Rattle.mct_circuit.specs.Gates.{AreNarrow, IsGateOn, IsNarrow};
 ghost use Rattle.circuit_tidy.specs.Flips.{gate_of, gates_of, lines_in};
@@ -12,7 +13,7 @@ use crate::flip::{Controls, Flip};
 use crate::index::settled;
 use crate::sweep::swept;
 use circuit_plans::Narrow;
-use gate_split::split;
+use gate_split::{SplitFault, split};
 use mct_circuit::{Circuit, Control, Gate, GateFault, Op};
 use revc_base::Memory;
 use std::alloc::Global;
@@ -38,7 +39,9 @@ pub fn tidy(alloc: Global, narrow: &Narrow) -> Result<Narrow, Memory>
     let tidied = circuit_of(alloc, lines, limit, &flips)?;
     match split(alloc, &tidied, lines, limit) {
         Ok(narrow) => Ok(narrow),
-        Err(_) => Err(Memory),
+        Err(SplitFault::Memory) => Err(Memory),
+        Err(SplitFault::NoIdle { .. }) => unreachable!(),
+        Err(SplitFault::Gates) => unreachable!(),
     }
 }
 
@@ -90,24 +93,40 @@ fn controls_of(controls: &[Control]) -> Controls
     }
 }
 
+// The circuit of flips for which there is room.
 fn circuit_of(alloc: Global, lines: u32, limit: u64, flips: &[Flip]) -> Result<Circuit, Memory>
     requires lines { AreOnLines lines flips.now }
+    requires room { length flips.now ≤ limit }
     ensures { IfOk result (λ circuit. circuit
         ≡ record { lines = lines; limit = limit; gates = gates_of flips.now }) }
 {
     let mut circuit = Circuit::new(alloc, lines, limit);
     for flip in flips {
-        if push(&mut circuit, *flip).is_err() {
-            return Err(Memory);
-        }
+        push(&mut circuit, *flip)?;
     }
     Ok(circuit)
 }
 
-fn push(circuit: &mut Circuit, flip: Flip) -> Result<(), GateFault>
-    requires { IsGateOn circuit.old.lines (gate_of flip) }
+// Appends a flip for which there is room.
+fn push(circuit: &mut Circuit, flip: Flip) -> Result<(), Memory>
+    requires on { IsGateOn circuit.old.lines (gate_of flip) }
+    requires room { length circuit.old.gates < circuit.old.limit }
     ensures { OnOk result (circuit.new ≡ record circuit.old
         { gates = circuit.old.gates ++ gate_of flip ∷ [] }) }
+{
+    match push_flip(circuit, flip) {
+        Ok(()) => Ok(()),
+        Err(GateFault::Memory) => Err(Memory),
+        Err(GateFault::Full) => unreachable!(),
+    }
+}
+
+fn push_flip(circuit: &mut Circuit, flip: Flip) -> Result<(), GateFault>
+    requires { IsGateOn circuit.old.lines (gate_of flip) }
+    ensures ok { OnOk result (circuit.new ≡ record circuit.old
+        { gates = circuit.old.gates ++ gate_of flip ∷ [] }) }
+    ensures full { IsErrOf result GateFault.Full
+        ↔ (length circuit.old.gates ≡ circuit.old.limit) }
 {
     match flip.controls {
         Controls::Zero => circuit.push_flip(&[], flip.target),
