@@ -237,10 +237,10 @@ answer_and t is j entry a b old new numbers f g r at both_are left right all mad
 
 -- what refuses a function on which the claims rest says that they pass the limit
 pub pass_limit : (t : TapeView) (claims : ℕ) (ref : Ref) (d : DiagramView) → HoldsOnlyMembers t claims d → IsBase t claims ref
-    → (fault : DdFault) → MayRefuse (function_at t ref) d fault → PassLimit t claims d.limit fault
+    → (fault : DdFault) → MayRefuse (function_at t ref) d fault → PassLimit t claims d fault
 pass_limit t claims ref d members base (faults.Full nodes) refused =
     (passes t claims ref (function_at t ref) d nodes members base (λ a. refl) refused, refused.at_limit)
-pass_limit t claims ref d members base faults.Memory refused = tt
+pass_limit t claims ref d members base faults.Memory refused = refused
 
 -- a fault that is handed on has its cause
 pub refused_at : {A E : Type 0} (Q : E → Type 0) (r : Result A E) (e : E) → IsErrAnd r (λ x. x ≡ e) → Q e → IfErr r Q

@@ -8,7 +8,7 @@ use Rattle.std.proofs.lemmas.Bool.{true≢false}
 use Rattle.std.proofs.lemmas.List.{get_or-map, length-map, take-append-le, take_all}
 use Rattle.list_facts.specs.Bits.{bit_of}
 use Rattle.revs_tape.specs.declared.tape.Claim.{Claim}
-use Rattle.revs_tape.specs.ClaimFunctions.{HasAtMost}
+use Rattle.revs_tape.specs.ClaimFunctions.{HasAtMost, HasMore}
 use Rattle.revs_tape.specs.Claims.{HoldsEverywhere, IsLeastBreaking}
 use Rattle.revs_tape.specs.Measures.{inputs_of}
 use Rattle.revs_tape.specs.Tapes.{IsTape, TapeView, claimed}
@@ -18,6 +18,7 @@ use Rattle.decision_diagram.specs.declared.node.DdFault.TheVariants as faults
 use Rattle.decision_diagram.specs.Diagrams.{DiagramView, IsCanonical, Triple, function_of}
 use Rattle.decision_diagram.specs.Functions.{AreSame, Assignment, Function, GivesOnly, IsLeast, Varies}
 use Rattle.claim_check.specs.Claims.{BreaksOn, HoldBefore, HoldWithin, IsClaimFault}
+use Rattle.claim_check.specs.declared.fault.ClaimFault.TheVariants as claim_faults
 use Rattle.claim_check.specs.inside.Labels.{AreLabels, claims_of}
 use Rattle.claim_check.specs.inside.Numbers.{AreMade, AreSettled, HasNumber, IsLeastOther, PassLimit, claim_fault}
 use Rattle.claim_check.specs.inside.Slots.{slot_of, slots_of}
@@ -131,11 +132,18 @@ broken t is labels are limit number claim at inside hold input least d numbers m
   few = few_through t is labels are (number + 1) limit (omega (arith, inside)) d numbers members same made;
 }
 
-pub passed : (t : TapeView) (limit number : ℕ) (claim : Claim) → slice_get t.claims number ≡ Some claim → HoldBefore t number
-    → HasAtMost t number limit → (fault : DdFault) → PassLimit t (number + 1) limit fault → IsClaimFault t limit (claim_fault number fault)
-passed t limit number claim at hold few (faults.Full nodes) pass =
-    (record { claim = claim; is_claim = at; before = hold; few = few; more = pass.0 }, pass.1)
-passed t limit number claim at hold few faults.Memory pass = tt
+pub passed : (t : TapeView) (limit number : ℕ) (claim : Claim) (d : DiagramView) → slice_get t.claims number ≡ Some claim → HoldBefore t number
+    → HasAtMost t number limit → d.limit ≡ limit → (fault : DdFault) → PassLimit t (number + 1) d fault
+    → IsClaimFault t limit (claim_fault number fault)
+passed t limit number claim d at hold few same (faults.Full nodes) pass =
+    (record { claim = claim; is_claim = at; before = hold; few = few; more = subst (HasMore t (number + 1)) same pass.0 }, pass.1 ∙ same)
+passed t limit number claim d at hold few same faults.Memory pass = tt
+
+-- memory that was wanted for numbers was wanted where there is room
+pub wanted_room : (t : TapeView) (number claims : ℕ) (d : DiagramView) (fault : DdFault) → claim_fault number fault ≡ claim_faults.Memory
+    → PassLimit t claims d fault → length d.nodes < d.limit
+wanted_room t number claims d (faults.Full nodes) is pass = absurd (cc)
+wanted_room t number claims d faults.Memory is pass = pass
 
 -- before the first claim nothing is asked
 pub none_settled : (t : TapeView) (labels : List ℕ) (limit n : ℕ) (d : DiagramView) (numbers : List ℕ) → n ≡ inputs_of t → IsCanonical d

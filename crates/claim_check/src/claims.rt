@@ -1,6 +1,6 @@
 // Claims settled on all inputs, one after another.
 ghost use Rattle.std.specs.Prelude.{◌≡◌, ◌≤◌, ◌<◌, ◌+◌, length, slice_get, IfErr, IfOk};
-ghost use Rattle.std.specs.Prelude.{MatchOption, OnOk, Some};
+ghost use Rattle.std.specs.Prelude.{MatchOption, OnOk, Some, IsErrOf, ◌⊎◌};
 ghost use Rattle.revs_tape.specs.Claims.{HoldsEverywhere, IsLeastBreaking};
 ghost use Rattle.revs_tape.specs.Measures.{inputs_of};
 ghost use Rattle.revs_tape.specs.Tapes.{IsTape, claimed};
@@ -9,7 +9,7 @@ ghost use Rattle.decision_diagram.specs.Diagrams.{IsNumber, function_of};
 ghost use Rattle.decision_diagram.specs.Functions.{GivesOnly};
 ghost use Rattle.claim_check.specs.Claims.{HoldWithin, IsClaimFault};
 ghost use Rattle.claim_check.specs.inside.Labels.{claims_of};
-ghost use Rattle.claim_check.specs.inside.Numbers.{AreSettled, HasNumber, IsLeastOther};
+ghost use Rattle.claim_check.specs.inside.Numbers.{AreMade, AreSettled, HasNumber, IsLeastOther};
 ghost use Rattle.claim_check.specs.inside.Numbers.{IsScheduleOf, claim_fault};
 ghost use Rattle.claim_check.specs.inside.Slots.{slots_of};
 ghost use Rattle.claim_check.specs.Variables.{AreVariables};
@@ -97,7 +97,8 @@ fn claim_at(tape: &Tape, number: u32) -> Claim
     tape.claims()[number as usize]
 }
 
-// Settles a claim, after those before it.
+// Settles a claim, after those before it. Memory is wanted where there is room for a number more,
+// or behind the claim's own.
 fn settle_claim(
     diagram: &mut Diagram,
     numbers: &mut [Dd],
@@ -113,6 +114,10 @@ fn settle_claim(
     ensures settled { OnOk result (AreSettled tape.now schedule.now.labels.items
         diagram.old.limit (number + 1) diagram.new numbers.new) }
     ensures refused { IfErr result (IsClaimFault tape.now diagram.old.limit) }
+    ensures memory { IsErrOf result ClaimFault.Memory
+        → (length diagram.new.nodes < diagram.new.limit)
+        ⊎ AreMade tape.now schedule.now.labels.items (number + 1) 0 diagram.new.nodes
+        numbers.new }
 {
     let claim = claim_at(tape, number);
     if let Err(fault) = number_claim(diagram, numbers, tape, schedule, number) {

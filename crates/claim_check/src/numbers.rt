@@ -109,7 +109,7 @@ pub fn number_claim(
     ensures members { HoldsOnlyMembers tape.now (claim + 1) diagram.new }
     ensures made { OnOk result (AreMade tape.now schedule.now.labels.items (claim + 1) 0
         diagram.new.nodes numbers.new) }
-    ensures refused { IfErr result (PassLimit tape.now (claim + 1) diagram.new.limit) }
+    ensures refused { IfErr result (PassLimit tape.now (claim + 1) diagram.new) }
 {
     let slots = tape.inputs() + tape.len();
     let mut slot = schedule.chains.first[claim as usize];

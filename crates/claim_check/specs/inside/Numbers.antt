@@ -58,10 +58,10 @@ pub record HasLabel (labels : List ℕ) (label slot : ℕ) : Type 0 where
   pub high : slot ≤ length labels
   pub here : slot < length labels → slice_index labels slot ≡ label
 
--- the claims through one pass the limit; want of memory has no cause
-abbrev pub PassLimit : TapeView → ℕ → ℕ → DdFault → Type 0
-PassLimit t claims limit (faults.Full nodes) = HasMore t claims limit × (nodes ≡ limit)
-PassLimit t claims limit faults.Memory = Unit {0}
+-- the claims through one pass the limit of a diagram; memory is wanted only where there is room for a node more
+abbrev pub PassLimit : TapeView → ℕ → DiagramView → DdFault → Type 0
+PassLimit t claims d (faults.Full nodes) = HasMore t claims d.limit × (nodes ≡ d.limit)
+PassLimit t claims d faults.Memory = length d.nodes < d.limit
 
 -- ---- claims
 

@@ -1,7 +1,9 @@
-use Rattle.std.proofs.Common.{Option, List, Bool, MatchOption, subst}
+use Rattle.std.proofs.Common.{◌≡◌, ◌+◌, ◌∙◌, Option, List, Bool, MatchOption, inl, inr, subst, sym}
 use Rattle.revs_tape.specs.Claims.{HoldsEverywhere, IsLeastBreaking}
 use Rattle.claim_check.proofs.MemberLemmas.{more_claims}
-use Rattle.claim_check.proofs.OutcomeLemmas.{broken, claim_numbered, settled_more}
+use Rattle.claim_check.specs.Claims.{IsClaimFault}
+use Rattle.claim_check.specs.declared.fault.ClaimFault.TheVariants as faults
+use Rattle.claim_check.proofs.OutcomeLemmas.{broken, claim_numbered, passed, settled_more, wanted_room}
 use Rattle.revc_base.proofs.ResultLemmas.{no_promise}
 use Rattle.claim_check.proofs.claims.settle_claim.Goals as goal
 
@@ -38,3 +40,20 @@ returns-in-Some-clause-refused c =
 
 pub returns-in_err-least_breaking-clause-settled : goal.returns-in_err-least_breaking-clause-settled
 returns-in_err-least_breaking-clause-settled c = no_promise c.from_residual.result _ _ c.from_residual.ensures.1
+
+pub returns-in-Err-clause-refused : goal.returns-in-Err-clause-refused
+returns-in-Err-clause-refused c =
+    let t = c.args.tape.now in
+    let limit = c.args.diagram.now.limit in
+    subst (IsClaimFault t limit) (sym c.claim_fault.ensures)
+    (passed t limit c.args.number c.claim_at-claim.result c.number_claim.new.diagram c.claim_at-claim.ensures.claim c.requires.settled.hold
+    c.requires.settled.few c.number_claim.ensures.limit c.in-Err.fault c.in-Err.ensures.refused)
+
+pub returns-in-Err-clause-memory : goal.returns-in-Err-clause-memory
+returns-in-Err-clause-memory c =
+    λ is. let same : c.claim_fault.result ≡ faults.Memory = cc in
+    inl (wanted_room c.args.tape.now c.args.number (c.args.number + 1) c.number_claim.new.diagram c.in-Err.fault (sym c.claim_fault.ensures ∙ same)
+    c.in-Err.ensures.refused)
+
+pub returns-in_err-least_breaking-clause-memory : goal.returns-in_err-least_breaking-clause-memory
+returns-in_err-least_breaking-clause-memory c = λ is. inr c.in_default.ensures.made

@@ -46,7 +46,7 @@ returns-in_err-numbers-clause-refused c =
     let members : HoldsOnlyMembers t (c.args.claim + 1) new =
     added t (c.args.claim + 1) ref (function_at t ref) c.chain.diagram new c.chain.invariant.0 base (λ a. refl)
     c.number_of.ensures.canonical c.number_of.ensures.kept c.number_of.ensures.added in
-    refused_at (PassLimit t (c.args.claim + 1) new.limit) c.from_residual.result c.in_err-numbers.field-0.0 c.from_residual.ensures.1
+    refused_at (PassLimit t (c.args.claim + 1) new) c.from_residual.result c.in_err-numbers.field-0.0 c.from_residual.ensures.1
     (pass_limit t (c.args.claim + 1) ref new members base c.in_err-numbers.field-0.0 c.in_err-numbers.ensures.refused)
 
 pub chain-preserved : goal.chain-preserved
