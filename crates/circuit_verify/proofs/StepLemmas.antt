@@ -9,9 +9,10 @@ use Rattle.dependency_graph.specs.declared.node.Node.{Node}
 use Rattle.dependency_graph.specs.declared.node.Sig.{Sig}
 use Rattle.dependency_graph.specs.Graphs.{IsKnownNode, IsKnownSig}
 use Rattle.decision_diagram.specs.Diagrams.{DiagramView, Triple}
-use Rattle.decision_diagram.specs.Functions.{AreSame, Assignment, variable_at}
+use Rattle.decision_diagram.specs.Functions.{AreSame, Assignment, Function, variable_at}
 use Rattle.decision_diagram.specs.declared.node.DdFault.{DdFault}
-use Rattle.decision_diagram.specs.Growth.{Computes, StandsFor}
+use Rattle.decision_diagram.specs.declared.node.DdFault.TheVariants as dd
+use Rattle.decision_diagram.specs.Growth.{Computes, MayRefuse, StandsFor}
 use Rattle.decision_diagram.proofs.GrowthLemmas.{StandsFor-same}
 use Rattle.claim_check.specs.Measures.{node_function}
 use Rattle.claim_check.specs.Settled.{settled_outputs, settled_value}
@@ -25,7 +26,8 @@ use Rattle.mct_circuit.specs.Gates.{AreGatesOn, GateView, IsGateOn, after_gate, 
 use Rattle.mct_circuit.proofs.ReversalLemmas.{length-line_map}
 use Rattle.circuit_verify.specs.Comparisons.{Comparison, input_bits, inputs_in, order_in, start_on, variables_in, wanted_on, work_lines}
 use Rattle.circuit_verify.specs.LineFunctions.{Line, Step}
-use Rattle.circuit_verify.specs.Verdicts.{HasEnoughLines, IsComparable}
+use Rattle.circuit_verify.specs.Verdicts.{HasEnoughLines, IsComparable, verify_fault}
+use Rattle.circuit_verify.specs.declared.fault.VerifyFault.TheVariants as faults
 use Rattle.circuit_verify.specs.inside.Compared.{ComparedView, IsReady, comparison}
 use Rattle.circuit_verify.specs.inside.Numbers.{AreEnds, AreNumbersOf, GrowsBy, bits_in, first_values}
 use Rattle.circuit_verify.specs.inside.Numbers.{holder_function, line_function_of, node_function_of, sig_function_of}
@@ -311,3 +313,9 @@ ends_many v ready nodes now want ends =
           ∙ length-line_map q.circuit.gates start (subst (λ (n : ℕ). AreGatesOn n q.circuit.gates) (sym long) ready.gates) ∙ long,
       length-numbers q nodes want (wanted_on q) a ends.want_are ∙ length-wanted v ready (bits_in q a) (length-bits_in q a),
     )
+
+-- a gate that is refused for want of memory is refused where there is room for a node more
+pub refused_room : (f : Function) (d : DiagramView) (fault : DdFault) → verify_fault fault ≡ faults.Memory → MayRefuse f d fault
+    → length d.nodes < d.limit
+refused_room f d (dd.Full nodes) is refused = absurd (cc)
+refused_room f d dd.Memory is refused = refused

@@ -1,6 +1,6 @@
 // The numbers of the lines, gate by gate.
 ghost use Rattle.std.specs.Prelude.{◌≡◌, ◌++◌, ◌<◌, ◌≤◌, length, take, drop, replicate, IfErr, IfOk};
-ghost use Rattle.std.specs.Prelude.{OnOk};
+ghost use Rattle.std.specs.Prelude.{OnOk, IsErrOf};
 ghost use Rattle.std.specs.List.{AllByRecursion};
 ghost use Rattle.decision_diagram.specs.Growth.{Computes};
 ghost use Rattle.mct_circuit.specs.declared.gate.Op.TheVariants.{Flip};
@@ -95,7 +95,8 @@ fn flipped_line(
     diagram.flip(lines[target as usize], left, right)
 }
 
-// Takes the numbers of the lines through all gates.
+// Takes the numbers of the lines through all gates. Memory is wanted only where there is room for a
+// node more.
 fn walk(diagram: &mut Diagram, compared: &Compared, lines: &mut [Dd]) -> Result<(), VerifyFault>
     requires holds { HoldsLines (comparison compared.now) diagram.old }
     requires start { AreNumbersOf (comparison compared.now) diagram.old.nodes lines.old
@@ -104,6 +105,8 @@ fn walk(diagram: &mut Diagram, compared: &Compared, lines: &mut [Dd]) -> Result<
     ensures ends { OnOk result (AreNumbersOf (comparison compared.now) diagram.new.nodes lines.new
         (λ bits. line_map compared.now.circuit.gates (start_on (comparison compared.now) bits))) }
     ensures refused { IfErr result (IsVerifyFault (comparison compared.now) diagram.new.limit) }
+    ensures memory { IsErrOf result VerifyFault.Memory
+        → length diagram.new.nodes < diagram.new.limit }
 {
     let _ = compared.variables(); // shows what is known of both
     for gate in compared.circuit.gates() {

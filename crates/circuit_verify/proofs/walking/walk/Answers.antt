@@ -1,10 +1,11 @@
 use Rattle.std.proofs.Common.{◌≡◌, ◌<◌, ℕ, length, sym, subst, ap, arith, ◌∙◌}
 use Rattle.mct_circuit.specs.Gates.{IsGateOn}
-use Rattle.revc_base.proofs.ResultLemmas.{passes_on}
+use Rattle.revc_base.proofs.ResultLemmas.{one_fault, passes_on}
+use Rattle.circuit_verify.specs.declared.fault.VerifyFault.TheVariants as faults
 use Rattle.circuit_verify.specs.Verdicts.{IsVerifyFault}
 use Rattle.circuit_verify.specs.inside.Compared.{ComparedView, comparison}
 use Rattle.circuit_verify.proofs.LineLemmas.{lines_next}
-use Rattle.circuit_verify.proofs.StepLemmas.{all_gates, gate_answered, gate_at, gate_placed, many_lines, target_inside}
+use Rattle.circuit_verify.proofs.StepLemmas.{all_gates, gate_answered, gate_at, gate_placed, many_lines, refused_room, target_inside}
 use Rattle.circuit_verify.proofs.walking.walk.Goals as goal
 
 pub flipped_line-requires-clause-placed : goal.flipped_line-requires-clause-placed
@@ -86,3 +87,8 @@ returns-clause-ends c =
     let gates = c.gates-gate-items.ensures.gates ∙ ap (λ (w : ComparedView). w.circuit.gates) c.compared.view_is in
     all_gates (comparison v) c.loop-gate.diagram.nodes c.loop-gate.lines c.loop-gate.gate-index
     (omega (arith, c.loop-gate-test.false, ap length gates)) c.loop-gate.invariant.1
+
+pub returns-in_err-lines-clause-memory : goal.returns-in_err-lines-clause-memory
+returns-in_err-lines-clause-memory c =
+    one_fault faults.Memory c.from_residual.result c.from_residual.ensures.1
+    (λ is. refused_room _ c.flipped_line.new.diagram c.in_err-lines.field-0.0 is c.in_err-lines.ensures.refused)
