@@ -7,7 +7,7 @@ use Rattle.mct_circuit.specs.Gates.{CircuitView, GateView, AreGatesOn, AreNarrow
 use Rattle.mct_circuit.proofs.MoreLinesLemmas.{more_lines}
 use Rattle.gate_split.specs.declared.fault.SplitFault.TheVariants as splits
 use Rattle.circuit_plans.specs.declared.plan.TheConstants.{MOST_LINES, MOST_GATES}
-use Rattle.gate_split.specs.Split.{split_list}
+use Rattle.gate_split.specs.Split.{HasSplitList, split_list}
 use Rattle.real_format.specs.declared.file.Mark.{Mark}
 use Rattle.real_format.proofs.MeaningLemmas as real
 use Rattle.qasm_format.specs.declared.file.Register.{Register}
@@ -25,7 +25,7 @@ use Rattle.circuit_commands.specs.Circuits.{ReadCircuit, Means, MeansIn, line_co
 use Rattle.circuit_commands.specs.Convert.{IsCause, CanSplit, HasSplit, promise, promise_within, WantsLine, LacksLine, PassesLines, PassesGates, DoesTheSame}
 use Rattle.circuit_commands.specs.Convert.{IsFileOf, added_lines, converted, file_text, said_in}
 use Rattle.circuit_commands.specs.Outcomes.{ConvertedView, IsConversion}
-use Rattle.circuit_commands.specs.inside.Splitting.{IsMarked, IsNarrowOf, IsPlaced, IsSplitFault, IsSplitOf, IsWritable}
+use Rattle.circuit_commands.specs.inside.Splitting.{HasSomeSplit, IsMarked, IsNarrowOf, IsPlaced, IsSplitFault, IsSplitOf, IsWritable}
 use Rattle.circuit_commands.proofs.CircuitLemmas.{means_or_refused, one_circuit, one_circuit_refusal}
 
 -- ---- a split has one answer
@@ -238,11 +238,29 @@ wider_split most source circuit narrow lines own gates counted placed wants room
           (λ bits long. same bits (long ∙ ap (λ n. n + 1) (sym all)) ∙ ap (λ (gs : List GateView). line_map gs bits) gates);
     }
 
--- want of memory leaves no split
-pub memory_stops : {T : Type 0} (most : ℕ) (source : ReadCircuit) (r : Result T Fault) → IfErr r (λ fault. fault ≡ faults.Memory)
+-- memory was wanted for a split list
+pub memory_stops : {T : Type 0} (most : ℕ) (source : ReadCircuit) (r : Result T Fault) → HasSomeSplit most source → IfErr r (λ fault. fault ≡ faults.Memory)
     → IfErr r (IsSplitFault most source)
-memory_stops most source (Ok made) h = tt
-memory_stops most source (Err fault) h = subst (IsSplitFault most source) (sym h) tt
+memory_stops most source (Ok made) some h = tt
+memory_stops most source (Err fault) some h = subst (IsSplitFault most source) (sym h) some
+
+pub some_split : (most : ℕ) (source : ReadCircuit) (narrow : CircuitView) → IsNarrowOf most source narrow → HasSomeSplit most source
+some_split most source narrow n = record { added = n.added; gates = narrow.gates; split = n.split }
+
+pub own_some : (most : ℕ) (source : ReadCircuit) (circuit : CircuitView) (lines : ℕ) → circuit.lines ≡ line_count source → circuit.gates ≡ source.gates
+    → lines ≡ circuit.lines → HasSplitList lines most circuit.gates → HasSomeSplit most source
+own_some most source circuit lines own gates counted some =
+    let all : lines ≡ line_count source = counted ∙ own in
+    let is = some.is in
+    record { added = false; gates = some.narrow; split = rw (← gates, ← all) is }
+
+pub wider_some : (most : ℕ) (source : ReadCircuit) (circuit : CircuitView) (lines : ℕ) → circuit.lines ≡ line_count source → circuit.gates ≡ source.gates
+    → lines ≡ circuit.lines → WantsLine most source → line_count source < MOST_LINES → HasSplitList (lines + 1) most circuit.gates
+    → HasSomeSplit most source
+wider_some most source circuit lines own gates counted wants room some =
+    let all : lines ≡ line_count source = counted ∙ own in
+    let is = some.is in
+    record { added = true; gates = some.narrow; split = record { wants = wants; room = room; split = rw (← gates, ← all) is } }
 
 -- ---- marks
 

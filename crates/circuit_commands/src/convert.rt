@@ -11,7 +11,7 @@ ghost use Rattle.circuit_commands.specs.Convert.{file_text};
 ghost use Rattle.circuit_commands.specs.Outcomes.{IsConversion, IsConvertFault};
 ghost use Rattle.circuit_commands.specs.inside.Splitting.{HasLines, IsMarked, IsNarrowOf};
 ghost use Rattle.circuit_commands.specs.inside.Splitting.{IsOnLinesOf, IsSplitFault, IsSplitOf};
-ghost use Rattle.circuit_commands.specs.inside.Splitting.{IsWiderFault, IsWritable};
+ghost use Rattle.circuit_commands.specs.inside.Splitting.{IsWritable};
 
 use crate::circuit::{MarkedCircuit, read_circuit};
 use circuit_plans::{MOST_GATES, MOST_LINES, Narrow};
@@ -106,7 +106,7 @@ fn split_wider(alloc: Global, source: &MarkedCircuit, most: u64) -> Result<Narro
     requires lines { HasLines source.now }
     requires wants { WantsLine most source.now }
     ensures ok { IfOk result (IsNarrowOf most source.now) }
-    ensures err { IfErr result (IsWiderFault most source.now) }
+    ensures err { IfErr result (IsSplitFault most source.now) }
 {
     let circuit = source.circuit();
     let lines = circuit.lines();

@@ -62,14 +62,15 @@ pub record IsTidyOf (circuit : ReadCircuit) (made : ConvertedView) : Type 0 wher
   pub from_split : IsTidiedFrom circuit made.added gates
   pub placed : IsPlaced circuit gates made
 
--- why there is none, or there was no memory left
+-- the circuit has a split list of at most so many gates, on its own lines or on one more
+pub record HasSomeSplit (most : ℕ) (circuit : ReadCircuit) : Type 0 where
+  pub added : Bool
+  pub gates : List GateView
+  pub split : HasSplit most circuit added (Ok gates)
+
+-- why there is none; memory is wanted only where there is one
 abbrev pub IsSplitFault : (most : ℕ) → ReadCircuit → Fault → Type 0
 IsSplitFault most circuit (Lines need limit) = LacksLine most circuit need limit
 IsSplitFault most circuit (Gates limit) = HasManyGates most circuit limit
-IsSplitFault most circuit Memory = Unit {0}
+IsSplitFault most circuit Memory = HasSomeSplit most circuit
 IsSplitFault most circuit _ = ⊥
-
--- why there is none on one line more: memory is asked for only where there is room for the line
-abbrev pub IsWiderFault : (most : ℕ) → ReadCircuit → Fault → Type 0
-IsWiderFault most circuit Memory = line_count circuit < MOST_LINES
-IsWiderFault most circuit fault = IsSplitFault most circuit fault

@@ -1,6 +1,6 @@
 use Rattle.circuit_plans.specs.declared.plan.TheConstants.{MOST_GATES}
 use Rattle.std.proofs.lemmas.Result.{IfOk-weaker}
-use Rattle.circuit_commands.proofs.ConvertLemmas.{memory_stops, split_marked}
+use Rattle.circuit_commands.proofs.ConvertLemmas.{memory_stops, some_split, split_marked}
 use Rattle.revc_base.proofs.ResultLemmas.{no_value, passes_on}
 use Rattle.circuit_commands.proofs.convert.split_source.Goals as goal
 
@@ -15,4 +15,6 @@ returns-clause-ok c =
     IfOk-weaker c.marked.result _ _ (λ made m. split_marked c.args.source c.in_ok-narrow.narrow made c.in_ok-narrow.ensures.ok m) c.marked.ensures.ok
 
 pub returns-clause-err : goal.returns-clause-err
-returns-clause-err c = memory_stops MOST_GATES c.args.source c.marked.result c.marked.ensures.err
+returns-clause-err c =
+    memory_stops MOST_GATES c.args.source c.marked.result (some_split MOST_GATES c.args.source c.in_ok-narrow.narrow c.in_ok-narrow.ensures.ok)
+    c.marked.ensures.err

@@ -1,5 +1,5 @@
-use Rattle.std.proofs.Common.{arith}
-use Rattle.circuit_commands.proofs.ConvertLemmas.{wider_split}
+use Rattle.std.proofs.Common.{Err, ap, arith, ◌∙◌}
+use Rattle.circuit_commands.proofs.ConvertLemmas.{wider_some, wider_split}
 use Rattle.circuit_commands.proofs.WiderLemmas.{never_wants}
 use Rattle.circuit_commands.proofs.convert.split_wider.Goals as goal
 
@@ -16,3 +16,12 @@ pub unreachable-requires : goal.unreachable-requires
 unreachable-requires c =
     never_wants c.circuit-circuit.result.now.lines c.args.most c.in-Err-NoIdle.field-0-0 c.lines-lines.result c.circuit-circuit.result.now.gates c.split.result
     c.in-Err-NoIdle.field-0 c.lines-lines.ensures.gates c.lines-lines.ensures.lines c.in-Err-NoIdle.is c.in-Err-NoIdle.field-0-is c.split.ensures.no_idle
+
+pub returns-in-Err-Memory-clause-err : goal.returns-in-Err-Memory-clause-err
+returns-in-Err-Memory-clause-err c =
+    let few = c.requires.lines.few in
+    let other = c.if-lines-eq-MOST_LINES.false in
+    let own = c.circuit-circuit.ensures.lines in
+    let counted = c.lines-lines.ensures.lines in
+    wider_some c.args.most c.args.source.now c.circuit-circuit.result.now c.lines-lines.result own c.circuit-circuit.ensures.gates counted
+    c.requires.wants (omega arith) (c.split.ensures.memory (c.in-Err-Memory.is ∙ ap Err c.in-Err-Memory.field-0-is))
