@@ -1,6 +1,7 @@
 -- What only private contracts and proofs cite.
 pub mod BitRows
 pub mod Index
+pub mod Marks
 pub mod Settling
 pub mod Sweeping
 pub mod Walking

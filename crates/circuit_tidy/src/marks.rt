@@ -1,4 +1,9 @@
 // Where a pair can come of a change. No contract rests on it: it saves looks for flips.
+ghost use Rattle.std.specs.Prelude.{◌≡◌, ◌<◌, ◌↔◌, IsTrue, slice_index};
+ghost use Rattle.circuit_tidy.specs.Flips.{lines_in};
+ghost use Rattle.circuit_tidy.specs.inside.Marks.{has, is_any_marked, is_freed, is_marked};
+ghost use Rattle.circuit_tidy.specs.inside.Marks.{is_on_new, is_stopped, may_come, touches_open};
+
 use crate::flip::{Controls, Flip};
 use revc_base::Memory;
 use std::alloc::Global;
@@ -23,7 +28,7 @@ const OPEN: u8 = 32;
 #[derive(Drop)]
 pub struct Marks {
     words: Vec<u8>,
-    open: usize,
+    open_lines: usize,
     passed: usize,
 }
 
@@ -32,46 +37,64 @@ impl Marks {
         let words = vec![in alloc; 0; lines as usize]?;
         Ok(Marks {
             words,
-            open: 0,
+            open_lines: 0,
             passed: 0,
         })
     }
 
     // Whether a flip behind those that were passed over can still come to the change.
-    pub fn are_open(&self) -> bool {
-        self.open > 0
+    pub fn are_open(&self) -> bool
+        ensures { IsTrue result ↔ (0 < self.now.open_lines) }
+    {
+        self.open_lines > 0
     }
 
     // Whether the flip has a line on which one can still come to the change.
-    pub fn touch(&self, flip: Flip) -> bool {
-        let target = self.word_of(flip.target);
-        let words = match flip.controls {
-            Controls::Zero => target,
-            Controls::One(one) => target | self.word_of(one),
-            Controls::Two(first, second) => target | self.word_of(first) | self.word_of(second),
-        };
-        has(words, OPEN)
+    pub fn touch(&self, flip: Flip) -> bool
+        ensures { result ≡ touches_open self.now.words.items flip }
+    {
+        self.has(flip.target, OPEN) || self.has_any(flip.controls, OPEN)
     }
 
     // Whether the flip can come to the change, and was freed or is on new lines.
-    pub fn let_through(&self, flip: Flip) -> bool {
-        let target = self.word_of(flip.target);
-        if has(target, CONTROL) {
-            return false;
+    pub fn let_through(&self, flip: Flip) -> bool
+        ensures { result ≡ may_come self.now.words.items flip }
+    {
+        !self.stop(flip) && (self.freed(flip) || self.renewed(flip))
+    }
+
+    fn stop(&self, flip: Flip) -> bool
+        ensures { result ≡ is_stopped self.now.words.items flip }
+    {
+        self.has(flip.target, CONTROL) || self.has_any(flip.controls, TARGET)
+    }
+
+    fn freed(&self, flip: Flip) -> bool
+        ensures { result ≡ is_freed self.now.words.items flip }
+    {
+        self.has(flip.target, FREED_TARGET) || self.has_any(flip.controls, FREED_CONTROL)
+    }
+
+    fn renewed(&self, flip: Flip) -> bool
+        ensures { result ≡ is_on_new self.now.words.items flip }
+    {
+        flip.is_cx() && (self.has_any(flip.controls, NEW) && self.has(flip.target, NEW))
+    }
+
+    fn has_any(&self, controls: Controls, mark: u8) -> bool
+        ensures { result ≡ is_any_marked self.now.words.items mark (lines_in controls) }
+    {
+        match controls {
+            Controls::Zero => false,
+            Controls::One(one) => self.has(one, mark),
+            Controls::Two(first, second) => self.has(first, mark) || self.has(second, mark),
         }
-        match flip.controls {
-            Controls::Zero => has(target, FREED_TARGET),
-            Controls::One(one) => {
-                let control = self.word_of(one);
-                let is_freed = has(target, FREED_TARGET) || has(control, FREED_CONTROL);
-                !has(control, TARGET) && (is_freed || has(control & target, NEW))
-            }
-            Controls::Two(first, second) => {
-                let controls = self.word_of(first) | self.word_of(second);
-                let is_freed = has(target, FREED_TARGET) || has(controls, FREED_CONTROL);
-                !has(controls, TARGET) && is_freed
-            }
-        }
+    }
+
+    fn has(&self, line: u32, mark: u8) -> bool
+        ensures { result ≡ is_marked self.now.words.items mark line }
+    {
+        has(self.word_of(line), mark)
     }
 
     // A block gives way to new flips.
@@ -131,7 +154,9 @@ impl Marks {
         }
     }
 
-    fn word_of(&self, line: u32) -> u8 {
+    fn word_of(&self, line: u32) -> u8
+        ensures { result ≡ slice_index self.now.words.items line }
+    {
         self.words.get(line as usize).copied().unwrap_or(0)
     }
 
@@ -155,12 +180,14 @@ impl Marks {
         }
         let new = with_openness(old | bit);
         self.words[place] = new;
-        let open = self.open.saturating_add(usize::from(has(new, OPEN)));
-        self.open = open.saturating_sub(usize::from(has(old, OPEN)));
+        let open = self.open_lines.saturating_add(usize::from(has(new, OPEN)));
+        self.open_lines = open.saturating_sub(usize::from(has(old, OPEN)));
     }
 }
 
-fn has(word: u8, bit: u8) -> bool {
+fn has(word: u8, bit: u8) -> bool
+    ensures { result ≡ has word bit }
+{
     word & bit != 0
 }
 
