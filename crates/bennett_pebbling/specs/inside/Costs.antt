@@ -55,7 +55,8 @@ HasNeed f Memory = ⊤
 -- the work lines are fewer than the reach, or the gates too few for the toggles
 abbrev pub IsShort : ForwardView → ℕ → ℕ → PlanFault → Type 0
 IsShort f reach toggles (Lines need) = work_lines f.graph f.budget < reach
-IsShort f reach toggles Gates = IsLight f.graph → f.budget.gates < 2 * (weight_in f.gates + 2 * toggles)
+IsShort f reach toggles Gates =
+    IsLight f.graph → f.budget.gates < 2 * (weight_in f.gates + 2 * toggles)
 IsShort f reach toggles Memory = ⊤
 
 -- why such a move was refused
