@@ -5,7 +5,7 @@ use Rattle.std.proofs.lemmas.List.{get_or-set_same, get_or-set_other, take_more,
 use Rattle.std.proofs.lemmas.List.Folds.{list_any-append}
 use Rattle.std.proofs.lemmas.Bool.Decides.{eqb_tells}
 use Rattle.mct_circuit.specs.Gates.{GateView, lines_of}
-use Rattle.mct_circuit.specs.Sizes.{has_line, share_a_line, depth_on, greatest_at}
+use Rattle.mct_circuit.specs.Sizes.{has_line, share_a_line, gate_depth, greatest_at}
 
 -- ---- numbers at lines
 
@@ -30,6 +30,24 @@ set_more numbers k v line lines old h e =
     rw (set_is numbers k v line h, e, list_any-append (λ other. eqb line other) lines (k ∷ [])) (chosen (has_line line lines) (eqb line k) v old)
 
 -- ---- depths
+
+-- the greatest depth of a gate on one of these lines, or 0, where the latest gate comes first
+abbrev pub depth_on : List ℕ → List GateView → ℕ
+depth_on lines [] = 0
+depth_on lines (gate ∷ earlier) =
+    max (cond (share_a_line lines (lines_of gate)) (1 + depth_on (lines_of gate) earlier) 0) (depth_on lines earlier)
+
+one_deeper : (shared : Bool) (a b deep deeper : ℕ) → deep ≡ 1 + a → deeper ≡ 1 + b
+    → max (cond shared (1 + deep) 0) deeper ≡ 1 + max (cond shared (1 + a) 0) b
+one_deeper true a b deep deeper e f = omega arith
+one_deeper false a b deep deeper e f = omega arith
+
+-- a gate is one deeper than the gates on its lines
+pub gate_depth_on : (gate : GateView) (gates : List GateView) → gate_depth gate gates ≡ 1 + depth_on (lines_of gate) gates
+gate_depth_on gate [] = refl
+gate_depth_on gate (other ∷ earlier) =
+    one_deeper (share_a_line (lines_of gate) (lines_of other)) (depth_on (lines_of other) earlier) (depth_on (lines_of gate) earlier)
+    (gate_depth other earlier) (gate_depth gate earlier) (gate_depth_on other earlier) (gate_depth_on gate earlier)
 
 pub depth_on-none : (gates : List GateView) → depth_on [] gates ≡ 0
 depth_on-none [] = refl

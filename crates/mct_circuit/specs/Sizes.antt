@@ -47,7 +47,7 @@ counts_of gates = record {
   swap = count_by (λ (gate : GateView). is_swap gate.op) gates;
 }
 
--- ---- depth, over gates whose latest comes first
+-- ---- depth, over gates of which the latest comes first
 
 abbrev pub has_line : ℕ → List ℕ → Bool
 has_line line lines = list_any (λ other. line == other) lines
@@ -55,17 +55,16 @@ has_line line lines = list_any (λ other. line == other) lines
 abbrev pub share_a_line : List ℕ → List ℕ → Bool
 share_a_line these those = list_any (λ line. has_line line those) these
 
--- the greatest depth of a gate on one of the lines, or 0; a gate's own depth is one more than that of the earlier gates on its lines
-abbrev pub depth_on : List ℕ → List GateView → ℕ
-depth_on lines [] = 0
-depth_on lines (gate ∷ earlier) =
-    max (if share_a_line lines (lines_of gate) then 1 + depth_on (lines_of gate) earlier else 0)
-    (depth_on lines earlier)
+-- the depth of a gate behind others: one more than the greatest depth of an earlier one that shares a line with it, or 1
+abbrev pub gate_depth : GateView → List GateView → ℕ
+gate_depth gate [] = 1
+gate_depth gate (other ∷ earlier) =
+    max (if share_a_line (lines_of gate) (lines_of other) then 1 + gate_depth other earlier else 0)
+    (gate_depth gate earlier)
 
 abbrev pub greatest_depth : List GateView → ℕ
 greatest_depth [] = 0
-greatest_depth (gate ∷ earlier) =
-    max (1 + depth_on (lines_of gate) earlier) (greatest_depth earlier)
+greatest_depth (gate ∷ earlier) = max (gate_depth gate earlier) (greatest_depth earlier)
 
 -- the greatest depth of a gate, or 0
 abbrev pub depth_of : List GateView → ℕ

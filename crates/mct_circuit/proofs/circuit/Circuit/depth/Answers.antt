@@ -1,9 +1,9 @@
 use Rattle.std.proofs.Common.{◌≡◌, ◌+◌, ◌<◌, length, max, take, drop, reverse, sym, ap, ◌∙◌, arith}
 use Rattle.std.proofs.lemmas.List.{take_at, take_all, length-reverse, length-take-le}
 use Rattle.mct_circuit.specs.Gates.{lines_of}
-use Rattle.mct_circuit.specs.Sizes.{depth_on, greatest_at, depth_of}
+use Rattle.mct_circuit.specs.Sizes.{gate_depth, greatest_at, depth_of}
 use Rattle.mct_circuit.proofs.GateListLemmas.{lines_below}
-use Rattle.mct_circuit.proofs.DepthLemmas.{greatest_at-depths, depth_on-le, depths_more, latest_first}
+use Rattle.mct_circuit.proofs.DepthLemmas.{gate_depth_on, greatest_at-depths, depth_on-le, depths_more, latest_first}
 use Rattle.mct_circuit.proofs.circuit.Circuit.depth.Goals as goal
 
 pub greatest_on-depth-requires : goal.greatest_on-depth-requires
@@ -41,7 +41,8 @@ loop-gate-preserved c =
     rw (whole, latest) (
       (λ line. rw c.deref_mut.ensures.value at (c.set_all.ensures line) ∙ depths_more c.loop-gate.depths.items c.gate-item.result gates
           (1 + c.greatest_on-depth.result) line c.loop-gate.invariant.0 (ap (λ d. 1 + d) found)),
-      rw deep at c.max-greatest.ensures ∙ ap (λ g. max (1 + depth_on (lines_of c.gate-item.result) gates) g) c.loop-gate.invariant.1,
+      c.max-greatest.ensures ∙ ap (λ d. max d c.loop-gate.greatest) (ap (λ d. 1 + d) deep ∙ sym (gate_depth_on c.gate-item.result gates))
+          ∙ ap (λ g. max (gate_depth c.gate-item.result gates) g) c.loop-gate.invariant.1,
       c.set_all.auto.depths ∙ ap length c.deref_mut.ensures.value ∙ c.loop-gate.invariant.2,
     )
 

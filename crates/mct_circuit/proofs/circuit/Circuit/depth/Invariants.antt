@@ -1,5 +1,6 @@
 use Rattle.std.proofs.Common.{◌≡◌, ℕ, [], ◌∷◌, get_or, length, reverse, take}
-use Rattle.mct_circuit.specs.Sizes.{depth_on, greatest_depth}
+use Rattle.mct_circuit.specs.Sizes.{greatest_depth}
+use Rattle.mct_circuit.proofs.DepthLemmas.{depth_on}
 use Rattle.mct_circuit.proofs.circuit.Circuit.depth.Given as goal
 
 abbrev pub invariant-loop-gate : goal.invariant-loop-gate
