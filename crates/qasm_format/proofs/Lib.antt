@@ -5,6 +5,7 @@ pub mod ArgumentLemmas
 pub mod SpreadLemmas
 pub mod DeclaredLemmas
 pub mod DeclarationLemmas
+pub mod SayingLemmas
 pub mod StatementLemmas
 pub mod FileLemmas
 pub mod FitLemmas

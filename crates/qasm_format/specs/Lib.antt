@@ -3,6 +3,7 @@ pub mod Stages
 pub mod Qasm
 pub mod Faults
 pub mod Statements
+pub mod Sayings
 pub mod Written
 pub mod Compiled
 pub mod Converted

@@ -3,6 +3,7 @@ ghost use Rattle.qasm_format.specs.Compiled.{CompiledHasMeaning};
 ghost use Rattle.qasm_format.specs.Converted.{ConvertedHasMeaning};
 ghost use Rattle.qasm_format.specs.Faults.{IsTextFault};
 ghost use Rattle.qasm_format.specs.Qasm.{MeaningsAreFiles, MeansFile};
+ghost use Rattle.qasm_format.specs.Sayings.{FilesAreStatements};
 
 /// The law of compiled files: the text of a circuit of narrow gates means, by the format's own
 /// meaning, the file with those gates on the registers of the given roles. The function does
@@ -35,4 +36,11 @@ pub fn some_reading()
 /// law.
 pub fn meanings_are_files()
     ensures { MeaningsAreFiles }
+{}
+
+/// The law of statements: tokens lead from the head of a text to the end of a statement exactly
+/// where they are the head and statements, each of which is read whole. The function does nothing:
+/// its contract is the law.
+pub fn files_are_statements()
+    ensures { FilesAreStatements }
 {}
