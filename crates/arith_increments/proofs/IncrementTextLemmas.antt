@@ -3,7 +3,7 @@ use Rattle.std.proofs.Common.{◌≡◌, ℕ, suc, ◌+◌, ◌-◌, ◌≤◌, 
 use Rattle.std.specs.Prelude.{codes}
 use Rattle.std.specs.List.{flat_map, range_with_len}
 use Rattle.std.proofs.lemmas.List.{append_assoc}
-use Rattle.program_gen.specs.Adder.{line}
+use Rattle.program_gen.specs.Places.{line, outputs}
 use Rattle.arith_templates.specs.Texts as texts
 use Rattle.revs_lexer.specs.declared.sign.Sign.TheVariants as signs
 use Rattle.revs_lexer.specs.declared.word.Word.TheVariants as words
@@ -32,7 +32,7 @@ place_text i = refl
 pub text_is : (m : ℕ) → texts.incrementer_text (suc m) ≡ text_of (pieces m)
 text_is m =
     grouped (texts.parameter (suc m)) texts.first_increment (flat_map texts.increment_place (range_with_len 1 (suc m - 1)))
-    (texts.outputs (codes "s") (suc m)) (line (codes "}" ∷ []))
+    (outputs (codes "s") (suc m)) (line (codes "}" ∷ []))
     ∙ joined (header_text (suc m)) (ripple_text incrementer texts.first_increment texts.increment_place
     (record { first_is = first_text; place_is = place_text }) m (line (codes "}" ∷ [])) text_end refl)
     ∙ sym (text_of-append (header (suc m)) (from_sum incrementer m text_end))

@@ -4,7 +4,7 @@ use Rattle.std.specs.Prelude.{codes, decimal}
 use Rattle.std.specs.List.{flat_map, range_with_len}
 use Rattle.std.proofs.lemmas.List.{append_assoc, length-append}
 use Rattle.program_gen.specs.Adder as adder
-use Rattle.program_gen.specs.Adder.{line}
+use Rattle.program_gen.specs.Places.{line, outputs}
 use Rattle.arith_templates.specs.Texts as texts
 use Rattle.revs_lexer.specs.declared.sign.Sign.TheVariants as signs
 use Rattle.revs_lexer.specs.declared.word.Word.TheVariants as words
@@ -45,7 +45,7 @@ place_text i = refl
 plus_text : (m : ℕ) (rest : List ℕ) (ps : List Piece) → rest ≡ text_of ps
     → texts.plus_function (suc m) ++ rest ≡ text_of (plus_open ++ from_sum (ripple plus) m (plus_end ++ ps))
 plus_text m rest ps is =
-    grouped texts.plus_opening texts.first_plus (flat_map texts.plus_place (range_with_len 1 (suc m - 1))) (texts.outputs (codes "s") (suc m))
+    grouped texts.plus_opening texts.first_plus (flat_map texts.plus_place (range_with_len 1 (suc m - 1))) (outputs (codes "s") (suc m))
     texts.plus_closing rest
     ∙ joined opening_text (ripple_text (ripple plus) texts.first_plus texts.plus_place (record { first_is = first_text; place_is = place_text }) m
     (texts.plus_closing ++ rest) (plus_end ++ ps) (closing_text rest ∙ ap (λ (bs : List ℕ). text_of plus_end ++ bs) is))
@@ -61,6 +61,7 @@ plus_text m rest ps is =
 
 zeros_text : (i count : ℕ) (rest : List ℕ)
     → codes "false" ++ (flat_map texts.further_zero (range_with_len i count) ++ rest) ≡ text_of (zero_bits count) ++ (codes "false" ++ rest)
+unfolding texts.further_zero
 zeros_text i zero rest = refl
 zeros_text i (suc count) rest = ap (λ (bs : List ℕ). codes "false; " ++ bs) (zeros_text (i + 1) count rest)
 

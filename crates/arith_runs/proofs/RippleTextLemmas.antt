@@ -10,15 +10,14 @@ use Rattle.revs_lexer.specs.declared.token.Tok.{Tok}
 use Rattle.revs_lexer.specs.declared.token.Tok.TheVariants as toks
 use Rattle.built_texts.specs.Pieces.{Piece, text_of, toks_of, fits, AreGood}
 use Rattle.built_texts.proofs.PlaceLemmas.{text_of-append, good_word, good_sign, good_number, good_numbered, is_plain, plain_good}
-use Rattle.program_gen.specs.Adder.{line}
-use Rattle.arith_templates.specs.Texts as texts
+use Rattle.program_gen.specs.Places.{line, output, outputs}
 use Rattle.arith_runs.proofs.Pieces.{place_of, parameter, outputs_open, bit_outputs, outputs_close}
 use Rattle.arith_runs.proofs.RipplePieces.{Ripple, places, from_open, from_sum}
 
 -- ---- the outputs
 
-outputs_text : (letter i count : ℕ) → flat_map (texts.output (letter ∷ [])) (range_with_len i count) ≡ text_of (bit_outputs letter i count)
-unfolding texts.output
+outputs_text : (letter i count : ℕ) → flat_map (output (letter ∷ [])) (range_with_len i count) ≡ text_of (bit_outputs letter i count)
+unfolding output
 outputs_text letter i zero = refl
 outputs_text letter i (suc count) =
     ap (λ (bs : List ℕ). letter ∷ ((decimal i ++ 59 ∷ 32 ∷ []) ++ bs)) (outputs_text letter (i + 1) count)
@@ -26,8 +25,8 @@ outputs_text letter i (suc count) =
 
 -- the bytes from the outputs on
 end_text : (letter bits : ℕ) (end : List ℕ) (ps : List Piece) → end ≡ text_of ps
-    → texts.outputs (letter ∷ []) bits ++ end ≡ text_of (outputs_open ++ (bit_outputs letter 0 bits ++ outputs_close bits ps))
-unfolding texts.outputs
+    → outputs (letter ∷ []) bits ++ end ≡ text_of (outputs_open ++ (bit_outputs letter 0 bits ++ outputs_close bits ps))
+unfolding outputs
 end_text letter bits end ps is =
     ap (λ (bs : List ℕ). line (codes "reg [" ∷ bs ∷ codes "c" ∷ decimal bits ∷ codes "]" ∷ []) ++ end) (outputs_text letter 0 bits)
     ∙ ap (λ (bs : List ℕ). text_of outputs_open ++ bs) (behind (text_of (bit_outputs letter 0 bits)) (decimal bits) end
@@ -99,10 +98,10 @@ module _ (K : Ripple) (first : List ℕ) (place : ℕ → List ℕ) (X : IsSpell
       ∙ sym (text_of-append (K.sum_line i) (K.carry_line i ++ behind))
 
   pub ripple_text : (m : ℕ) (end : List ℕ) (ps : List Piece) → end ≡ text_of ps
-      → first ++ (flat_map place (range_with_len 1 (suc m - 1)) ++ (texts.outputs (K.letter ∷ []) (suc m) ++ end)) ≡ text_of (from_sum K m ps)
+      → first ++ (flat_map place (range_with_len 1 (suc m - 1)) ++ (outputs (K.letter ∷ []) (suc m) ++ end)) ≡ text_of (from_sum K m ps)
   ripple_text m end ps is =
       let less : suc m - 1 ≡ m = omega arith in
-      let outs = texts.outputs (K.letter ∷ []) (suc m) ++ end in
+      let outs = outputs (K.letter ∷ []) (suc m) ++ end in
       let behind = places K 1 m (from_open K m ps) in
       ap (λ (k : ℕ). first ++ (flat_map place (range_with_len 1 k) ++ outs)) less
       ∙ ap (λ (bs : List ℕ). first ++ (flat_map place (range_with_len 1 m) ++ bs)) (end_text K.letter (suc m) end ps is)

@@ -11,7 +11,7 @@ use Rattle.revs_lexer.specs.declared.token.Tok.TheVariants as toks
 use Rattle.built_texts.specs.Pieces.{Piece, text_of, toks_of, fits, AreGood}
 use Rattle.built_texts.proofs.PlaceLemmas.{text_of-append, good_word, good_sign, good_numbered, is_plain, plain_good, goods, built_length}
 use Rattle.program_gen.specs.Adder as sums
-use Rattle.arith_templates.specs.Texts as texts
+use Rattle.program_gen.specs.Places as lines
 use Rattle.arith_runs.proofs.NameLemmas.{one_digit, zero_digit}
 use Rattle.arith_runs.proofs.Pieces.{s, numbered, place_of, parameter, text_end}
 use Rattle.arith_runs.proofs.RipplePieces.{from_sum}
@@ -117,12 +117,12 @@ pub record IsFineFunction (line : List Piece) : Type 0 where
 
 module _ (T : TwoNumbers) (F : IsFineLine T) (line : List Piece) (G : IsFineFunction line) where
   pub two_text : (function first : List ℕ) (place : ℕ → List ℕ) → function ≡ text_of line → IsSpelled (ripple T) first place → (m : ℕ)
-      → sums.parameters (suc m) ++ (function ++ first) ++ flat_map place (range_with_len 1 (suc m - 1)) ++ texts.outputs (T.letter ∷ []) (suc m)
-      ++ sums.line (codes "}" ∷ []) ≡ text_of (pieces T line m)
+      → sums.parameters (suc m) ++ (function ++ first) ++ flat_map place (range_with_len 1 (suc m - 1)) ++ lines.outputs (T.letter ∷ []) (suc m)
+      ++ lines.line (codes "}" ∷ []) ≡ text_of (pieces T line m)
   two_text function first place function_is X m =
-      regroup (sums.parameters (suc m)) function first (flat_map place (range_with_len 1 (suc m - 1))) (texts.outputs (T.letter ∷ []) (suc m))
-      (sums.line (codes "}" ∷ []))
-      ∙ joined (header_text (suc m)) function_is (ripple_text (ripple T) first place X m (sums.line (codes "}" ∷ [])) text_end refl)
+      regroup (sums.parameters (suc m)) function first (flat_map place (range_with_len 1 (suc m - 1))) (lines.outputs (T.letter ∷ []) (suc m))
+      (lines.line (codes "}" ∷ []))
+      ∙ joined (header_text (suc m)) function_is (ripple_text (ripple T) first place X m (lines.line (codes "}" ∷ [])) text_end refl)
       ∙ sym (text_of-append (header (suc m)) (from_function T line m)
       ∙ ap (λ (bs : List ℕ). text_of (header (suc m)) ++ bs) (text_of-append line (from_sum (ripple T) m text_end)))
     where
@@ -192,14 +192,8 @@ place_text : (i : ℕ) → sums.place i ≡ text_of (sum_line adder i) ++ text_o
 unfolding sums.sum_line sums.carry_line
 place_text i = refl
 
-outputs_text : (n : ℕ) → sums.outputs n ≡ texts.outputs (codes "s") n
-unfolding sums.outputs sums.sum_output texts.outputs texts.output
-outputs_text n = refl
-
 pub adder_text : (m : ℕ) → sums.adder_text (suc m) ≡ text_of (pieces adder carry_function m)
 adder_text m =
-    ap (λ (outs : List ℕ). sums.parameters (suc m) ++ (sums.carry_function ++ sums.first_place)
-    ++ flat_map sums.place (range_with_len 1 (suc m - 1)) ++ outs ++ sums.line (codes "}" ∷ [])) (outputs_text (suc m))
-    ∙ two_text adder (sums_are_fine (codes "a") (codes "b") refl refl) carry_function carry_is_fine sums.carry_function sums.first_place
+    two_text adder (sums_are_fine (codes "a") (codes "b") refl refl) carry_function carry_is_fine sums.carry_function sums.first_place
     sums.place function_text
     (record { first_is = first_text; place_is = place_text }) m

@@ -1,7 +1,8 @@
 -- The texts of all kinds, line by line. Numbers have n bits, whose places are counted from the least bit.
 use Rattle.std.specs.Prelude.{ℕ, zero, suc, ◌+◌, ◌-◌, Bool, true, false, List, [], ◌∷◌, ◌++◌, length, codes, decimal}
 use Rattle.std.specs.List.{flat_map, range_with_len}
-use Rattle.program_gen.specs.Adder.{line, bit_line, next_line, parameters, carry_function, adder_text}
+use Rattle.program_gen.specs.Adder.{bit_line, next_line, parameters, carry_function, adder_text}
+use Rattle.program_gen.specs.Places.{line, outputs}
 use Rattle.arith_templates.specs.Numbers.{digits_of}
 use Rattle.arith_templates.specs.declared.kind.Kind.{Kind}
 use Rattle.arith_templates.specs.declared.kind.Kind.TheVariants.{Add, Sub, Less, Inc, Mul}
@@ -11,15 +12,6 @@ use Rattle.arith_templates.specs.declared.kind.Kind.TheVariants.{Add, Sub, Less,
 -- the parameter: one number
 unfoldable pub parameter : ℕ → List ℕ
 parameter n = line (codes "main (a : bool[" ∷ decimal n ∷ codes "]) = {" ∷ [])
-
--- the bit of a place among the outputs, before a further one
-unfoldable pub output : List ℕ → ℕ → List ℕ
-output name i = name ++ (decimal i ++ codes "; ")
-
--- the outputs: the bits of all places, and what goes out of the last
-unfoldable pub outputs : List ℕ → ℕ → List ℕ
-outputs name n = line (codes "reg [" ∷ flat_map (output name) (range_with_len 0 n) ∷ codes "c"
-    ∷ decimal n ∷ codes "]" ∷ [])
 
 -- ---- differences
 
@@ -123,7 +115,7 @@ plus_function n = plus_opening ++ first_plus ++ flat_map plus_place (range_with_
     ++ outputs (codes "s") n ++ plus_closing
 
 -- a bit of the number 0 behind another
-abbrev pub further_zero : ℕ → List ℕ
+unfoldable pub further_zero : ℕ → List ℕ
 further_zero i = codes "; false"
 
 -- the number 0

@@ -6,8 +6,7 @@ ghost use Rattle.arith_templates.specs.Texts.{borrow_function, first_borrow, fir
 ghost use Rattle.arith_templates.specs.Texts.{borrow_line, difference_place};
 ghost use Rattle.arith_templates.specs.Texts.{subtractor_text, comparator_text};
 
-use crate::outputs::put_outputs;
-use program_gen::MOST_BITS;
+use program_gen::{MOST_BITS, put_outputs, put_places};
 use revc_base::Memory;
 use std::alloc::{AllocError, Global};
 
@@ -19,7 +18,7 @@ pub(crate) fn subtractor(alloc: Global, n: u32) -> Result<Vec<u8>, Memory>
 {
     let mut text = String::new(alloc);
     put_subtractor_opening(&mut text, n)?;
-    put_difference_places(&mut text, n)?;
+    put_places(&mut text, 1, n, put_difference_place)?;
     put_outputs(&mut text, "d", n)?;
     text.push_str("}\n")?;
     Ok(text.into_bytes())
@@ -37,18 +36,6 @@ fn put_subtractor_opening(text: &mut String, n: u32) -> Result<(), AllocError>
         let d0 = a.[0] <> b.[0];\n\
         let c1 = (true <> a.[0]) && b.[0];\n",
     )
-}
-
-// The places above 0.
-fn put_difference_places(text: &mut String, n: u32) -> Result<(), AllocError>
-    requires { n ≤ MOST_BITS }
-    ensures { OnOk result (string_bytes text.new
-        ≡ string_bytes text.old ++ flat_map difference_place (range_with_len 1 (n - 1))) }
-{
-    for i in 1..n {
-        put_difference_place(text, i)?;
-    }
-    Ok(())
 }
 
 // The difference and the borrow out of a place above 0.
@@ -81,7 +68,7 @@ pub(crate) fn comparator(alloc: Global, n: u32) -> Result<Vec<u8>, Memory>
 {
     let mut text = String::new(alloc);
     put_comparator_opening(&mut text, n)?;
-    put_borrows(&mut text, n)?;
+    put_places(&mut text, 1, n, put_borrow)?;
     writeln!(&mut text, "c{n}")?;
     text.push_str("}\n")?;
     Ok(text.into_bytes())
@@ -98,16 +85,4 @@ fn put_comparator_opening(text: &mut String, n: u32) -> Result<(), AllocError>
         "let lend x y c = ((true <> x) && y) <> (c && (true <> x <> y));\n\
         let c1 = (true <> a.[0]) && b.[0];\n",
     )
-}
-
-// The borrows out of the places above 0.
-fn put_borrows(text: &mut String, n: u32) -> Result<(), AllocError>
-    requires { n ≤ MOST_BITS }
-    ensures { OnOk result (string_bytes text.new
-        ≡ string_bytes text.old ++ flat_map borrow_line (range_with_len 1 (n - 1))) }
-{
-    for i in 1..n {
-        put_borrow(text, i)?;
-    }
-    Ok(())
 }

@@ -4,37 +4,32 @@ ghost use Rattle.std.specs.List.{flat_map, range_with_len};
 ghost use Rattle.arith_templates.specs.Texts.{parameter, first_increment, increment_place};
 ghost use Rattle.arith_templates.specs.Texts.{incrementer_text};
 
-use crate::outputs::put_outputs;
-use program_gen::MOST_BITS;
+use program_gen::{MOST_BITS, put_outputs, put_places};
 use revc_base::Memory;
 use std::alloc::{AllocError, Global};
 
 // The text of the program that adds 1.
-#[tactic(auto, unfolding(crate::specs::Texts::parameter, crate::specs::Texts::first_increment))]
 pub(crate) fn incrementer(alloc: Global, n: u32) -> Result<Vec<u8>, Memory>
     requires some { 1 ≤ n }
     requires few { n ≤ MOST_BITS }
     ensures { IfOk result (λ text. text.items ≡ incrementer_text n) }
 {
     let mut text = String::new(alloc);
-    writeln!(&mut text, "main (a : bool[{n}]) = {{")?;
-    text.push_str("let s0 = true <> a.[0];\nlet c1 = a.[0];\n")?;
-    put_increments(&mut text, n)?;
+    put_opening(&mut text, n)?;
+    put_places(&mut text, 1, n, put_increment)?;
     put_outputs(&mut text, "s", n)?;
     text.push_str("}\n")?;
     Ok(text.into_bytes())
 }
 
-// The places above 0.
-fn put_increments(text: &mut String, n: u32) -> Result<(), AllocError>
-    requires { n ≤ MOST_BITS }
+// The parameter, and the sum and the carry of place 0.
+#[tactic(auto, unfolding(crate::specs::Texts::parameter, crate::specs::Texts::first_increment))]
+fn put_opening(text: &mut String, n: u32) -> Result<(), AllocError>
     ensures { OnOk result (string_bytes text.new
-        ≡ string_bytes text.old ++ flat_map increment_place (range_with_len 1 (n - 1))) }
+        ≡ string_bytes text.old ++ parameter n ++ first_increment) }
 {
-    for i in 1..n {
-        put_increment(text, i)?;
-    }
-    Ok(())
+    writeln!(text, "main (a : bool[{n}]) = {{")?;
+    text.push_str("let s0 = true <> a.[0];\nlet c1 = a.[0];\n")
 }
 
 // The sum and the carry out of a place above 0.

@@ -7,7 +7,6 @@ mod increment;
 mod kind;
 mod law;
 mod limits;
-mod outputs;
 mod product;
 mod template;
 

@@ -8,8 +8,7 @@ ghost use Rattle.arith_templates.specs.Texts.{plus_place, zero_line, further_zer
 ghost use Rattle.arith_templates.specs.Texts.{digit_lines, add_line, multiplier_text};
 
 use crate::limits::MOST_FACTOR;
-use crate::outputs::put_outputs;
-use program_gen::MOST_BITS;
+use program_gen::{MOST_BITS, put_outputs, put_places};
 use revc_base::Memory;
 use std::alloc::{AllocError, Global};
 
@@ -48,7 +47,7 @@ fn put_plus(text: &mut String, n: u32) -> Result<(), AllocError>
     ensures { OnOk result (string_bytes text.new ≡ string_bytes text.old ++ plus_function n) }
 {
     put_first_plus(text)?;
-    put_plus_places(text, n)?;
+    put_places(text, 1, n, put_plus_place)?;
     put_outputs(text, "s", n)?;
     text.push_str("};\n")
 }
@@ -64,18 +63,6 @@ fn put_first_plus(text: &mut String) -> Result<(), AllocError>
         let s0 = p.[0] <> q.[0];\n\
         let c1 = p.[0] && q.[0];\n",
     )
-}
-
-// The places above 0.
-fn put_plus_places(text: &mut String, n: u32) -> Result<(), AllocError>
-    requires { n ≤ MOST_BITS }
-    ensures { OnOk result (string_bytes text.new
-        ≡ string_bytes text.old ++ flat_map plus_place (range_with_len 1 (n - 1))) }
-{
-    for i in 1..n {
-        put_plus_place(text, i)?;
-    }
-    Ok(())
 }
 
 // The sum and the carry out of a place above 0.
@@ -99,14 +86,13 @@ fn put_zero(text: &mut String, n: u32) -> Result<(), AllocError>
     text.push_str("];\n")
 }
 
+// The bits of the number 0 behind the first.
+#[tactic(auto, unfolding(crate::specs::Texts::further_zero))]
 fn put_further_zeros(text: &mut String, n: u32) -> Result<(), AllocError>
     ensures { OnOk result (string_bytes text.new
         ≡ string_bytes text.old ++ flat_map further_zero (range_with_len 1 (n - 1))) }
 {
-    for _i in 1..n {
-        text.push_str("; false")?;
-    }
-    Ok(())
+    put_places(text, 1, n, |text, _| text.push_str("; false"))
 }
 
 // The lines of the digits of a number; it answers how many there are.

@@ -1,11 +1,7 @@
 -- The program of a ripple-carry adder of two numbers a and b of n bits, whose places are counted from the least bit.
 use Rattle.std.specs.Prelude.{ℕ, ◌+◌, ◌-◌, List, [], ◌∷◌, ◌++◌, codes, decimal}
 use Rattle.std.specs.List.{flat_map, range_with_len}
-
--- these pieces, and a line feed
-abbrev pub line : List (List ℕ) → List ℕ
-line [] = 10 ∷ []
-line (piece ∷ pieces) = piece ++ line pieces
+use Rattle.program_gen.specs.Places.{line, outputs}
 
 -- ---- two numbers of any names
 
@@ -49,16 +45,7 @@ carry_line i = next_line (codes "carry") (codes "a") (codes "b") i
 abbrev pub place : ℕ → List ℕ
 place i = sum_line i ++ carry_line i
 
--- the sum of a place among the outputs, before a further one
-unfoldable pub sum_output : ℕ → List ℕ
-sum_output i = codes "s" ++ (decimal i ++ codes "; ")
-
--- the outputs: the sums of all places, and the last carry
-unfoldable pub outputs : ℕ → List ℕ
-outputs n = line (codes "reg [" ∷ flat_map sum_output (range_with_len 0 n) ∷ codes "c" ∷ decimal n
-    ∷ codes "]" ∷ [])
-
 -- the program that adds two numbers of n bits
 abbrev pub adder_text : ℕ → List ℕ
 adder_text n = parameters n ++ (carry_function ++ first_place)
-    ++ flat_map place (range_with_len 1 (n - 1)) ++ outputs n ++ line (codes "}" ∷ [])
+    ++ flat_map place (range_with_len 1 (n - 1)) ++ outputs (codes "s") n ++ line (codes "}" ∷ [])

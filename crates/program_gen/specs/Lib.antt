@@ -1,2 +1,3 @@
 pub mod Adder
 pub mod Limits
+pub mod Places

@@ -2,9 +2,10 @@
 ghost use Rattle.std.specs.Prelude.{◌≡◌, ◌-◌, ◌≤◌, ◌++◌, string_bytes, IfOk, OnOk};
 ghost use Rattle.std.specs.List.{flat_map, range_with_len};
 ghost use Rattle.program_gen.specs.Adder.{adder_text, parameters, carry_function, first_place};
-ghost use Rattle.program_gen.specs.Adder.{place, outputs, sum_output};
+ghost use Rattle.program_gen.specs.Adder.{place};
 ghost use Rattle.program_gen.specs.Limits.{LimitsAre};
 
+use crate::places::{put_outputs, put_places};
 use revc_base::Memory;
 use std::alloc::{AllocError, Global};
 
@@ -27,8 +28,8 @@ pub fn program_text(alloc: Global, n: u32) -> Result<Vec<u8>, Memory>
 {
     let mut text = String::new(alloc);
     put_opening(&mut text, n)?;
-    put_places(&mut text, n)?;
-    put_outputs(&mut text, n)?;
+    put_places(&mut text, 1, n, put_place)?;
+    put_outputs(&mut text, "s", n)?;
     text.push_str("}\n")?;
     Ok(text.into_bytes())
 }
@@ -47,18 +48,6 @@ fn put_opening(text: &mut String, n: u32) -> Result<(), AllocError>
     )
 }
 
-// The places above 0.
-fn put_places(text: &mut String, n: u32) -> Result<(), AllocError>
-    requires { n ≤ MOST_BITS }
-    ensures { OnOk result (string_bytes text.new
-        ≡ string_bytes text.old ++ flat_map place (range_with_len 1 (n - 1))) }
-{
-    for i in 1..n {
-        put_place(text, i)?;
-    }
-    Ok(())
-}
-
 // The sum and the carry out of a place above 0.
 #[tactic(auto, unfolding(crate::specs::Adder::sum_line, crate::specs::Adder::carry_line))]
 fn put_place(text: &mut String, i: u32) -> Result<(), AllocError>
@@ -68,24 +57,4 @@ fn put_place(text: &mut String, i: u32) -> Result<(), AllocError>
     let next = i + 1;
     writeln!(text, "let s{i} = a.[{i}] <> b.[{i}] <> c{i};")?;
     writeln!(text, "let c{next} = carry a.[{i}] b.[{i}] c{i};")
-}
-
-// The sums, and then the last carry.
-#[tactic(auto, unfolding(crate::specs::Adder::outputs))]
-fn put_outputs(text: &mut String, n: u32) -> Result<(), AllocError>
-    ensures { OnOk result (string_bytes text.new ≡ string_bytes text.old ++ outputs n) }
-{
-    text.push_str("reg [")?;
-    put_sum_outputs(text, n)?;
-    writeln!(text, "c{n}]")
-}
-
-fn put_sum_outputs(text: &mut String, n: u32) -> Result<(), AllocError>
-    ensures { OnOk result (string_bytes text.new
-        ≡ string_bytes text.old ++ flat_map sum_output (range_with_len 0 n)) }
-{
-    for i in 0..n {
-        write!(text, "s{i}; ")?;
-    }
-    Ok(())
 }

@@ -2,5 +2,7 @@
 #![tactic(auto)]
 
 mod adder;
+mod places;
 
 pub use adder::{MOST_BITS, limits_are, program_text};
+pub use places::{put_outputs, put_places};
