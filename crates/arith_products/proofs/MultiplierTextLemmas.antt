@@ -33,21 +33,22 @@ closing_text : (rest : List ℕ) → texts.plus_closing ++ rest ≡ text_of plus
 unfolding texts.plus_closing
 closing_text rest = refl
 
-first_text : texts.first_plus ≡ text_of (first_sum plus) ++ text_of plus.first_line
-unfolding texts.first_plus
+first_text : adder.first_place (codes "p") (codes "q") ≡ text_of (first_sum plus) ++ text_of plus.first_line
+unfolding adder.first_place
 first_text = rw (zero_digit, one_digit) refl
 
-place_text : (i : ℕ) → texts.plus_place i ≡ text_of (sum_line plus i) ++ text_of (carry_line plus i)
-unfolding texts.plus_sum_line texts.plus_carry_line
+place_text : (i : ℕ) → adder.place (codes "p") (codes "q") i ≡ text_of (sum_line plus i) ++ text_of (carry_line plus i)
+unfolding adder.sum_line adder.carry_line
 place_text i = refl
 
 -- the lines of the function, in front of the bytes behind it
 plus_text : (m : ℕ) (rest : List ℕ) (ps : List Piece) → rest ≡ text_of ps
     → texts.plus_function (suc m) ++ rest ≡ text_of (plus_open ++ from_sum (ripple plus) m (plus_end ++ ps))
 plus_text m rest ps is =
-    grouped texts.plus_opening texts.first_plus (flat_map texts.plus_place (range_with_len 1 (suc m - 1))) (outputs (codes "s") (suc m))
-    texts.plus_closing rest
-    ∙ joined opening_text (ripple_text (ripple plus) texts.first_plus texts.plus_place (record { first_is = first_text; place_is = place_text }) m
+    let first = adder.first_place (codes "p") (codes "q") in
+    let places = adder.place (codes "p") (codes "q") in
+    grouped texts.plus_opening first (flat_map places (range_with_len 1 (suc m - 1))) (outputs (codes "s") (suc m)) texts.plus_closing rest
+    ∙ joined opening_text (ripple_text (ripple plus) first places (record { first_is = first_text; place_is = place_text }) m
     (texts.plus_closing ++ rest) (plus_end ++ ps) (closing_text rest ∙ ap (λ (bs : List ℕ). text_of plus_end ++ bs) is))
     ∙ sym (text_of-append plus_open (from_sum (ripple plus) m (plus_end ++ ps)))
   where

@@ -1,7 +1,7 @@
 -- The texts of all kinds, line by line. Numbers have n bits, whose places are counted from the least bit.
 use Rattle.std.specs.Prelude.{ℕ, zero, suc, ◌+◌, ◌-◌, Bool, true, false, List, [], ◌∷◌, ◌++◌, length, codes, decimal}
 use Rattle.std.specs.List.{flat_map, range_with_len}
-use Rattle.program_gen.specs.Adder.{bit_line, next_line, parameters, carry_function, adder_text}
+use Rattle.program_gen.specs.Adder.{bit_line, next_line, parameters, carry_function, first_place, place, adder_text}
 use Rattle.program_gen.specs.Places.{line, outputs}
 use Rattle.arith_templates.specs.Numbers.{digits_of}
 use Rattle.arith_templates.specs.declared.kind.Kind.{Kind}
@@ -85,23 +85,6 @@ incrementer_text n = parameter n ++ first_increment
 
 -- ---- products
 
--- the sum and the carry of place 0 of two numbers p and q, into which no carry comes
-unfoldable pub first_plus : List ℕ
-first_plus =
-    line (codes "let s0 = p.[0] <> q.[0];" ∷ []) ++ line (codes "let c1 = p.[0] && q.[0];" ∷ [])
-
--- the sum of a place above 0
-unfoldable pub plus_sum_line : ℕ → List ℕ
-plus_sum_line i = bit_line (codes "s") (codes "p") (codes "q") i
-
--- the carry out of a place above 0
-unfoldable pub plus_carry_line : ℕ → List ℕ
-plus_carry_line i = next_line (codes "carry") (codes "p") (codes "q") i
-
--- a place above 0
-abbrev pub plus_place : ℕ → List ℕ
-plus_place i = plus_sum_line i ++ plus_carry_line i
-
 -- the first line of the function that adds two numbers, and its last
 unfoldable pub plus_opening : List ℕ
 plus_opening = line (codes "let plus p q = {" ∷ [])
@@ -111,7 +94,8 @@ plus_closing = line (codes "};" ∷ [])
 
 -- the function that adds two numbers
 abbrev pub plus_function : ℕ → List ℕ
-plus_function n = plus_opening ++ first_plus ++ flat_map plus_place (range_with_len 1 (n - 1))
+plus_function n = plus_opening ++ first_place (codes "p") (codes "q")
+    ++ flat_map (place (codes "p") (codes "q")) (range_with_len 1 (n - 1))
     ++ outputs (codes "s") n ++ plus_closing
 
 -- a bit of the number 0 behind another

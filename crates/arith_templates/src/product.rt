@@ -3,12 +3,12 @@ ghost use Rattle.std.specs.Prelude.{◌≡◌, ◌-◌, ◌≤◌, ◌++◌, str
 ghost use Rattle.std.specs.List.{flat_map, range_with_len};
 ghost use Rattle.program_gen.specs.Adder.{carry_function};
 ghost use Rattle.arith_templates.specs.Numbers.{digits_of};
-ghost use Rattle.arith_templates.specs.Texts.{parameter, plus_function, first_plus, plus_opening};
-ghost use Rattle.arith_templates.specs.Texts.{plus_place, zero_line, further_zero, digit_line};
+ghost use Rattle.arith_templates.specs.Texts.{parameter, plus_function};
+ghost use Rattle.arith_templates.specs.Texts.{zero_line, further_zero, digit_line};
 ghost use Rattle.arith_templates.specs.Texts.{digit_lines, add_line, multiplier_text};
 
 use crate::limits::MOST_FACTOR;
-use program_gen::{MOST_BITS, put_outputs, put_places};
+use program_gen::{MOST_BITS, put_outputs, put_places, put_sums};
 use revc_base::Memory;
 use std::alloc::{AllocError, Global};
 
@@ -41,39 +41,15 @@ fn put_opening(text: &mut String, n: u32) -> Result<(), AllocError>
 }
 
 // The function that adds two numbers.
-#[tactic(auto, unfolding(crate::specs::Texts::plus_closing))]
+#[tactic(auto, unfolding(crate::specs::Texts::plus_opening, crate::specs::Texts::plus_closing))]
 fn put_plus(text: &mut String, n: u32) -> Result<(), AllocError>
     requires { n ≤ MOST_BITS }
     ensures { OnOk result (string_bytes text.new ≡ string_bytes text.old ++ plus_function n) }
 {
-    put_first_plus(text)?;
-    put_places(text, 1, n, put_plus_place)?;
+    text.push_str("let plus p q = {\n")?;
+    put_sums(text, "p", "q", n)?;
     put_outputs(text, "s", n)?;
     text.push_str("};\n")
-}
-
-// The opening of the function, and place 0.
-#[tactic(auto, unfolding(crate::specs::Texts::plus_opening, crate::specs::Texts::first_plus))]
-fn put_first_plus(text: &mut String) -> Result<(), AllocError>
-    ensures { OnOk result (string_bytes text.new
-        ≡ string_bytes text.old ++ (plus_opening ++ first_plus)) }
-{
-    text.push_str(
-        "let plus p q = {\n\
-        let s0 = p.[0] <> q.[0];\n\
-        let c1 = p.[0] && q.[0];\n",
-    )
-}
-
-// The sum and the carry out of a place above 0.
-#[tactic(auto, unfolding(crate::specs::Texts::plus_sum_line, crate::specs::Texts::plus_carry_line))]
-fn put_plus_place(text: &mut String, i: u32) -> Result<(), AllocError>
-    requires { i ≤ MOST_BITS }
-    ensures { OnOk result (string_bytes text.new ≡ string_bytes text.old ++ plus_place i) }
-{
-    let next = i + 1;
-    writeln!(text, "let s{i} = p.[{i}] <> q.[{i}] <> c{i};")?;
-    writeln!(text, "let c{next} = carry p.[{i}] q.[{i}] c{i};")
 }
 
 // The number 0.

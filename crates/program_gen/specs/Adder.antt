@@ -28,24 +28,25 @@ parameters n = line (codes "main (a : bool[" ∷ decimal n ∷ codes "]) (b : bo
 unfoldable pub carry_function : List ℕ
 carry_function = line (codes "let carry x y c = (x && y) <> (c && (x <> y));" ∷ [])
 
--- the sum and the carry out of place 0, into which no carry comes
-unfoldable pub first_place : List ℕ
-first_place =
-    line (codes "let s0 = a.[0] <> b.[0];" ∷ []) ++ line (codes "let c1 = a.[0] && b.[0];" ∷ [])
+-- the sum and the carry out of place 0 of two numbers of these names: no carry comes into it
+unfoldable pub first_place : List ℕ → List ℕ → List ℕ
+first_place first second =
+    line (codes "let s0 = " ∷ first ∷ codes ".[0] <> " ∷ second ∷ codes ".[0];" ∷ [])
+    ++ line (codes "let c1 = " ∷ first ∷ codes ".[0] && " ∷ second ∷ codes ".[0];" ∷ [])
 
 -- the sum of a place above 0
-unfoldable pub sum_line : ℕ → List ℕ
-sum_line i = bit_line (codes "s") (codes "a") (codes "b") i
+unfoldable pub sum_line : List ℕ → List ℕ → ℕ → List ℕ
+sum_line first second i = bit_line (codes "s") first second i
 
 -- the carry out of a place above 0
-unfoldable pub carry_line : ℕ → List ℕ
-carry_line i = next_line (codes "carry") (codes "a") (codes "b") i
+unfoldable pub carry_line : List ℕ → List ℕ → ℕ → List ℕ
+carry_line first second i = next_line (codes "carry") first second i
 
 -- a place above 0
-abbrev pub place : ℕ → List ℕ
-place i = sum_line i ++ carry_line i
+abbrev pub place : List ℕ → List ℕ → ℕ → List ℕ
+place first second i = sum_line first second i ++ carry_line first second i
 
 -- the program that adds two numbers of n bits
 abbrev pub adder_text : ℕ → List ℕ
-adder_text n = parameters n ++ (carry_function ++ first_place)
-    ++ flat_map place (range_with_len 1 (n - 1)) ++ outputs (codes "s") n ++ line (codes "}" ∷ [])
+adder_text n = parameters n ++ (carry_function ++ first_place (codes "a") (codes "b"))
+    ++ flat_map (place (codes "a") (codes "b")) (range_with_len 1 (n - 1)) ++ outputs (codes "s") n ++ line (codes "}" ∷ [])

@@ -28,33 +28,54 @@ pub fn program_text(alloc: Global, n: u32) -> Result<Vec<u8>, Memory>
 {
     let mut text = String::new(alloc);
     put_opening(&mut text, n)?;
-    put_places(&mut text, 1, n, put_place)?;
+    put_sums(&mut text, "a", "b", n)?;
     put_outputs(&mut text, "s", n)?;
     text.push_str("}\n")?;
     Ok(text.into_bytes())
 }
 
-// The parameters, the carry as a function, and place 0.
+// The parameters, and the carry as a function.
+#[tactic(auto, unfolding(crate::specs::Adder::parameters, crate::specs::Adder::carry_function))]
 fn put_opening(text: &mut String, n: u32) -> Result<(), AllocError>
     ensures { OnOk result (string_bytes text.new
-        ≡ string_bytes text.old ++ (parameters n ++ (carry_function ++ first_place))) }
+        ≡ string_bytes text.old ++ parameters n ++ carry_function) }
 {
     writeln!(text, "main (a : bool[{n}]) (b : bool[{n}]) = {{")?;
-    writeln!(
-        text,
-        "let carry x y c = (x && y) <> (c && (x <> y));\n\
-        let s0 = a.[0] <> b.[0];\n\
-        let c1 = a.[0] && b.[0];"
-    )
+    text.push_str("let carry x y c = (x && y) <> (c && (x <> y));\n")
+}
+
+/// Puts the sums and the carries of all places of two numbers of these names, which have `n` bits,
+/// 1 to 200. It answers `AllocError` where memory is refused.
+pub fn put_sums(text: &mut String, first: &str, second: &str, n: u32) -> Result<(), AllocError>
+    requires { n ≤ MOST_BITS }
+    ensures { OnOk result (string_bytes text.new ≡ string_bytes text.old
+        ++ (first_place first.now second.now
+        ++ flat_map (place first.now second.now) (range_with_len 1 (n - 1)))) }
+{
+    put_first_place(text, first, second)?;
+    put_places(text, 1, n, |text, i| put_place(text, first, second, i))
+}
+
+#[tactic(auto, unfolding(crate::specs::Adder::first_place))]
+fn put_first_place(text: &mut String, first: &str, second: &str) -> Result<(), AllocError>
+    ensures { OnOk result (string_bytes text.new
+        ≡ string_bytes text.old ++ first_place first.now second.now) }
+{
+    writeln!(text, "let s0 = {first}.[0] <> {second}.[0];")?;
+    writeln!(text, "let c1 = {first}.[0] && {second}.[0];")
 }
 
 // The sum and the carry out of a place above 0.
 #[tactic(auto, unfolding(crate::specs::Adder::sum_line, crate::specs::Adder::carry_line))]
-fn put_place(text: &mut String, i: u32) -> Result<(), AllocError>
+fn put_place(text: &mut String, first: &str, second: &str, i: u32) -> Result<(), AllocError>
     requires { i ≤ MOST_BITS }
-    ensures { OnOk result (string_bytes text.new ≡ string_bytes text.old ++ place i) }
+    ensures { OnOk result (string_bytes text.new
+        ≡ string_bytes text.old ++ place first.now second.now i) }
 {
     let next = i + 1;
-    writeln!(text, "let s{i} = a.[{i}] <> b.[{i}] <> c{i};")?;
-    writeln!(text, "let c{next} = carry a.[{i}] b.[{i}] c{i};")
+    writeln!(text, "let s{i} = {first}.[{i}] <> {second}.[{i}] <> c{i};")?;
+    writeln!(
+        text,
+        "let c{next} = carry {first}.[{i}] {second}.[{i}] c{i};"
+    )
 }
