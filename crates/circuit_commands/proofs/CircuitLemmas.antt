@@ -153,22 +153,8 @@ stat_stops order text circuit fault m h = h
 stat_cause : (order : OrderView) (text : List ℕ) (fault other : Fault) → stat.IsCause order text fault → stat.IsCause order text other → other ≡ fault
 stat_cause order text (faults.Circuit refusal) (faults.Circuit other) a b =
     ap (λ (r : CircuitRefusal). faults.Circuit r) (one_circuit_refusal order.from text other refusal b a)
-stat_cause order text faults.Usage other a b = absurd a
-stat_cause order text (faults.Refused refusal) other a b = absurd a
-stat_cause order text (faults.Claim number at bits) other a b = absurd a
-stat_cause order text (faults.Diagram number at limit) other a b = absurd a
-stat_cause order text (faults.Lines need limit) other a b = absurd a
-stat_cause order text (faults.Gates limit) other a b = absurd a
-stat_cause order text (faults.BadBits word) other a b = absurd a
-stat_cause order text (faults.CircuitDiagram limit) other a b = absurd a
-stat_cause order text (faults.FewLines lines need) other a b = absurd a
-stat_cause order text (faults.WideGate number) other a b = absurd a
-stat_cause order text (faults.Differs line bits) other a b = absurd a
-stat_cause order text faults.NoPart other a b = absurd a
-stat_cause order text faults.Read other a b = absurd a
-stat_cause order text faults.Write other a b = absurd a
-stat_cause order text faults.Memory other a b = absurd a
-stat_cause order text fault other a b = absurd b
+stat_cause order text (faults.Circuit refusal) other a b = absurd b
+stat_cause order text fault other a b = absurd a
 
 stat_among : (order : OrderView) (text : List ℕ) (fault : Fault) → stat.IsCause order text fault → IsFaultOfText (8 ∷ []) fault
 stat_among order text (faults.Circuit refusal) cause = record { of_text = tt; status = (0, omega arith, refl) }
@@ -228,21 +214,9 @@ run_cause order text (faults.Circuit refusal) (faults.Circuit other) a b =
 run_cause order text (faults.Circuit refusal) (faults.BadBits number) a b = absurd (means_or_refused order.from text b.circuit refusal b.means a)
 run_cause order text (faults.BadBits number) (faults.Circuit refusal) a b = absurd (means_or_refused order.from text a.circuit refusal a.means b)
 run_cause order text (faults.BadBits number) (faults.BadBits other) a b = ap (λ n. faults.BadBits n) (one_bad order.from order.bits text other number b a)
-run_cause order text faults.Usage other a b = absurd a
-run_cause order text (faults.Refused refusal) other a b = absurd a
-run_cause order text (faults.Claim number at bits) other a b = absurd a
-run_cause order text (faults.Diagram number at limit) other a b = absurd a
-run_cause order text (faults.Lines need limit) other a b = absurd a
-run_cause order text (faults.Gates limit) other a b = absurd a
-run_cause order text (faults.CircuitDiagram limit) other a b = absurd a
-run_cause order text (faults.FewLines lines need) other a b = absurd a
-run_cause order text (faults.WideGate number) other a b = absurd a
-run_cause order text (faults.Differs line bits) other a b = absurd a
-run_cause order text faults.NoPart other a b = absurd a
-run_cause order text faults.Read other a b = absurd a
-run_cause order text faults.Write other a b = absurd a
-run_cause order text faults.Memory other a b = absurd a
-run_cause order text fault other a b = absurd b
+run_cause order text (faults.Circuit refusal) other a b = absurd b
+run_cause order text (faults.BadBits number) other a b = absurd b
+run_cause order text fault other a b = absurd a
 
 run_among : (order : OrderView) (text : List ℕ) (fault : Fault) → run.IsCause order text fault → IsFaultOfText (8 ∷ 12 ∷ []) fault
 run_among order text (faults.Circuit refusal) cause = record { of_text = tt; status = (0, omega arith, refl) }

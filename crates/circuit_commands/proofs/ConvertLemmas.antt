@@ -84,20 +84,10 @@ split_cause most order text (faults.Lines need limit) (faults.Gates other) a b =
 split_cause most order text (faults.Gates limit) (faults.Circuit refusal) a b = absurd (means_or_refused order.from text a.circuit refusal a.means b)
 split_cause most order text (faults.Gates other) (faults.Lines need limit) a b = absurd (lines_or_gates most order text need limit other b a)
 split_cause most order text (faults.Gates limit) (faults.Gates other) a b = ap (λ n. faults.Gates n) (b.many.limit_is ∙ sym a.many.limit_is)
-split_cause most order text faults.Usage other a b = absurd a
-split_cause most order text (faults.Refused refusal) other a b = absurd a
-split_cause most order text (faults.Claim number at bits) other a b = absurd a
-split_cause most order text (faults.Diagram number at limit) other a b = absurd a
-split_cause most order text (faults.BadBits word) other a b = absurd a
-split_cause most order text (faults.CircuitDiagram limit) other a b = absurd a
-split_cause most order text (faults.FewLines lines need) other a b = absurd a
-split_cause most order text (faults.WideGate number) other a b = absurd a
-split_cause most order text (faults.Differs line bits) other a b = absurd a
-split_cause most order text faults.NoPart other a b = absurd a
-split_cause most order text faults.Read other a b = absurd a
-split_cause most order text faults.Write other a b = absurd a
-split_cause most order text faults.Memory other a b = absurd a
-split_cause most order text fault other a b = absurd b
+split_cause most order text (faults.Circuit refusal) other a b = absurd b
+split_cause most order text (faults.Lines need limit) other a b = absurd b
+split_cause most order text (faults.Gates limit) other a b = absurd b
+split_cause most order text fault other a b = absurd a
 
 among : (most : ℕ) (order : OrderView) (text : List ℕ) (fault : Fault) → IsCause most order text fault → IsFaultOfText (6 ∷ 7 ∷ 8 ∷ []) fault
 among most order text (faults.Lines need limit) cause = record { of_text = tt; status = (0, omega arith, refl) }

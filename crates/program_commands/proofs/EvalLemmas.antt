@@ -103,20 +103,10 @@ one_stop text word (faults.Claim number at bits) (faults.BadBits other) a b = ab
 one_stop text word (faults.BadBits number) (faults.Refused refusal) a b = absurd (never_refused text a.1.program refusal a.1.formed b)
 one_stop text word (faults.BadBits number) (faults.Claim other there bits) a b = absurd (claim_or_bad text word other there b.1 a.1)
 one_stop text word (faults.BadBits number) (faults.BadBits other) a b = ap (λ n. faults.BadBits n) (a.0 ∙ sym b.0)
-one_stop text word faults.Usage other a b = absurd a
-one_stop text word (faults.Diagram number at limit) other a b = absurd a
-one_stop text word (faults.Lines need limit) other a b = absurd a
-one_stop text word (faults.Gates limit) other a b = absurd a
-one_stop text word (faults.Circuit refusal) other a b = absurd a
-one_stop text word (faults.CircuitDiagram limit) other a b = absurd a
-one_stop text word (faults.FewLines lines need) other a b = absurd a
-one_stop text word (faults.WideGate number) other a b = absurd a
-one_stop text word (faults.Differs line bits) other a b = absurd a
-one_stop text word faults.NoPart other a b = absurd a
-one_stop text word faults.Read other a b = absurd a
-one_stop text word faults.Write other a b = absurd a
-one_stop text word faults.Memory other a b = absurd a
-one_stop text word fault other a b = absurd b
+one_stop text word (faults.Refused refusal) other a b = absurd b
+one_stop text word (faults.Claim number at bits) other a b = absurd b
+one_stop text word (faults.BadBits number) other a b = absurd b
+one_stop text word fault other a b = absurd a
 
 among : (text word : List ℕ) (fault : Fault) → Stops text word fault → IsFaultOfText (3 ∷ 4 ∷ 12 ∷ []) fault
 among text word (faults.Refused refusal) stops = record { of_text = tt; status = (0, omega arith, refl) }

@@ -104,20 +104,10 @@ one_stop text nodes (faults.Diagram number at limit) (faults.Claim other there o
     absurd (break_or_pass text nodes other number there at others b a.0)
 one_stop text nodes (faults.Diagram number at limit) (faults.Diagram other there most) a b =
     one_passing text nodes number other at there limit most a.0 a.1 b.0 b.1
-one_stop text nodes faults.Usage other a b = absurd a
-one_stop text nodes (faults.Lines need limit) other a b = absurd a
-one_stop text nodes (faults.Gates limit) other a b = absurd a
-one_stop text nodes (faults.Circuit refusal) other a b = absurd a
-one_stop text nodes (faults.BadBits word) other a b = absurd a
-one_stop text nodes (faults.CircuitDiagram limit) other a b = absurd a
-one_stop text nodes (faults.FewLines lines need) other a b = absurd a
-one_stop text nodes (faults.WideGate number) other a b = absurd a
-one_stop text nodes (faults.Differs line bits) other a b = absurd a
-one_stop text nodes faults.NoPart other a b = absurd a
-one_stop text nodes faults.Read other a b = absurd a
-one_stop text nodes faults.Write other a b = absurd a
-one_stop text nodes faults.Memory other a b = absurd a
-one_stop text nodes fault other a b = absurd b
+one_stop text nodes (faults.Refused refusal) other a b = absurd b
+one_stop text nodes (faults.Claim number at bits) other a b = absurd b
+one_stop text nodes (faults.Diagram number at limit) other a b = absurd b
+one_stop text nodes fault other a b = absurd a
 
 -- ---- from the fault of a tape's claims to that of its texts
 

@@ -79,19 +79,10 @@ one_comparing nodes q (faults.Differs number bits) (faults.FewLines lines need) 
 one_comparing nodes q (faults.Differs number bits) (faults.WideGate other) a b is =
     absurd ((comparisons_end_in_one_way q).no_gate b.before a.comparable.narrow b.first)
 one_comparing nodes q (faults.Differs number bits) (faults.Differs other others) a b is = inl (one_difference q other number others bits b a)
-one_comparing nodes q faults.Usage exact a b is = absurd a
-one_comparing nodes q (faults.Refused refusal) exact a b is = absurd a
-one_comparing nodes q (faults.Claim number at bits) exact a b is = absurd a
-one_comparing nodes q (faults.Diagram number at limit) exact a b is = absurd a
-one_comparing nodes q (faults.Lines need limit) exact a b is = absurd a
-one_comparing nodes q (faults.Gates limit) exact a b is = absurd a
-one_comparing nodes q (faults.Circuit refusal) exact a b is = absurd a
-one_comparing nodes q (faults.BadBits word) exact a b is = absurd a
-one_comparing nodes q faults.NoPart exact a b is = absurd a
-one_comparing nodes q faults.Read exact a b is = absurd a
-one_comparing nodes q faults.Write exact a b is = absurd a
-one_comparing nodes q faults.Memory exact a b is = absurd a
-one_comparing nodes q fault exact a b is = absurd b
+one_comparing nodes q (faults.FewLines lines need) exact a b is = absurd b
+one_comparing nodes q (faults.WideGate number) exact a b is = absurd b
+one_comparing nodes q (faults.Differs line bits) exact a b is = absurd b
+one_comparing nodes q fault exact a b is = absurd a
 
 verified_or_stopped : (nodes : ℕ) (q : Comparison) (fault : Fault) → IsVerified q → StopsComparing nodes fault q → IsNoCircuitDiagram fault → ⊥
 verified_or_stopped nodes q (faults.CircuitDiagram limit) v stops is = is
