@@ -1,4 +1,4 @@
-use crate::rows::{Long, PRODUCT, PRODUCT_FILE, Row, check_all, check_long};
+use crate::rows::{Long, PRODUCT, PRODUCT_FILE, ROTATED, Row, check_all, check_long};
 use std::test::Fail;
 
 const NAME_FILE: &[u8] = b".version 2.0\n.numvars 2\n.variables x0 y0\n.inputs x0 y0\n.outputs x0 y0
@@ -168,8 +168,6 @@ const REFUSED: &[Row] = &[
     ),
 ];
 
-const LONG: &[u8] = b"main (r : bool[1024]) = ";
-
 // Programs in pieces, each repeated so many times.
 const COMPILED_LONG: &[Long] = &[
     (
@@ -221,12 +219,7 @@ const COMPILED_LONG: &[Long] = &[
     ),
     (
         "compile",
-        &[
-            (LONG, 1),
-            (b"{\nlet s = append r r;\nlet t = append s s;\n", 1),
-            (b"rotate 0 t;\n", 5000),
-            (b"r.[0]\n}", 1),
-        ],
+        ROTATED,
         3,
         b"revc: 4095:1 Work\n",
     ),

@@ -1,4 +1,4 @@
-use crate::rows::{Long, Row, check_all, check_long};
+use crate::rows::{LONG, Long, ROTATED, Row, check_all, check_long};
 use std::test::Fail;
 
 const BAD_BITS: &[u8] = b"revc: bad bits in word 1\n";
@@ -317,8 +317,6 @@ const STUCK: &[Row] = &[
     ),
 ];
 
-const LONG: &[u8] = b"main (r : bool[1024]) = ";
-
 // Programs in pieces, each repeated so many times.
 const LONG_VALUES: &[Long] = &[
     (
@@ -355,12 +353,7 @@ const LONG_VALUES: &[Long] = &[
     ),
     (
         "eval 0",
-        &[
-            (LONG, 1),
-            (b"{\nlet s = append r r;\nlet t = append s s;\n", 1),
-            (b"rotate 0 t;\n", 5000),
-            (b"r.[0]\n}", 1),
-        ],
+        ROTATED,
         3,
         b"revc: 4095:1 Work\n",
     ),

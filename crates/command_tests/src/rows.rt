@@ -39,6 +39,16 @@ pub const PRODUCT_FILE: &[u8] =
 .outputs x0 x1 y0 w0\n.constants --00\n.garbage ----\n.begin\nt3 x0 x1 w0\nt2 w0 y0\nt3 x0 x1 w0
 .end\n";
 
+pub const LONG: &[u8] = b"main (r : bool[1024]) = ";
+
+// Rotations of 4,096 places, which pass the limit of work.
+pub const ROTATED: &[(&[u8], usize)] = &[
+    (LONG, 1),
+    (b"{\nlet s = append r r;\nlet t = append s s;\n", 1),
+    (b"rotate 0 t;\n", 5000),
+    (b"r.[0]\n}", 1),
+];
+
 const USAGE: &[u8] = b"revc: bad command line\n";
 
 // Words that are no order.

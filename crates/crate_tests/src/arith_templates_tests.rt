@@ -2,27 +2,24 @@
 use arith_templates::{Kind, text};
 use std::test::Fail;
 
-// Three times a number of two bits, by hand: both digits of 3 are 1, and the second is added one
-// place up.
-const THREE_TIMES: &[u8] = b"main (a : bool[2]) = {
+// Twice a number of one bit, by hand: the digit 0 adds nothing, and the digit 1 adds one place up.
+const TWICE: &[u8] = b"main (a : bool[1]) = {
 let carry x y c = (x && y) <> (c && (x <> y));
 let plus p q = {
 let s0 = p.[0] <> q.[0];
 let c1 = p.[0] && q.[0];
-let s1 = p.[1] <> q.[1] <> c1;
-let c2 = carry p.[1] q.[1] c1;
-reg [s0; s1; c2]
+reg [s0; c1]
 };
-let r0 = reg [false; false];
-let r1 = plus r0 a;
-let r2 = append r1.[0..0] (plus r1.[1..2] a);
+let r0 = reg [false];
+let r1 = append r0 reg [false];
+let r2 = append r1.[0..0] (plus r1.[1..1] a);
 r2
 }
 ";
 
 #[test]
 fn a_number_is_multiplied(rt: HostRuntime) -> Result<(), Fail> {
-    assert!(rt; text(rt.alloc(), Kind::Mul, 2, 3)?.as_slice() == THREE_TIMES);
+    assert!(rt; text(rt.alloc(), Kind::Mul, 1, 2)?.as_slice() == TWICE);
     Ok(())
 }
 
