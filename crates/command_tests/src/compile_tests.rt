@@ -217,12 +217,7 @@ const COMPILED_LONG: &[Long] = &[
         0,
         FALSE_FILE,
     ),
-    (
-        "compile",
-        ROTATED,
-        3,
-        b"revc: 4095:1 Work\n",
-    ),
+    ("compile", ROTATED, 3, b"revc: 4095:1 Work\n"),
 ];
 
 #[test]

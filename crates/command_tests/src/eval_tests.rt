@@ -351,12 +351,7 @@ const LONG_VALUES: &[Long] = &[
         3,
         b"revc: 2:16 Writes\n",
     ),
-    (
-        "eval 0",
-        ROTATED,
-        3,
-        b"revc: 4095:1 Work\n",
-    ),
+    ("eval 0", ROTATED, 3, b"revc: 4095:1 Work\n"),
 ];
 
 #[test]

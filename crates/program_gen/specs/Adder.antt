@@ -49,4 +49,5 @@ place first second i = sum_line first second i ++ carry_line first second i
 -- the program that adds two numbers of n bits
 abbrev pub adder_text : ℕ → List ℕ
 adder_text n = parameters n ++ (carry_function ++ first_place (codes "a") (codes "b"))
-    ++ flat_map (place (codes "a") (codes "b")) (range_with_len 1 (n - 1)) ++ outputs (codes "s") n ++ line (codes "}" ∷ [])
+    ++ flat_map (place (codes "a") (codes "b")) (range_with_len 1 (n - 1))
+    ++ outputs (codes "s") n ++ line (codes "}" ∷ [])

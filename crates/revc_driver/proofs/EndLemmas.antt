@@ -23,6 +23,25 @@ use Rattle.revc_words.specs.Words.{OrderView, IsOrder, HasNoOrder}
 
 -- ---- the words
 
+-- memory is wanting
+pub memory_failed : (run : Run) → run.out.IsUnchanged → IsCalm run.out → IsCalm run.source → Reads run → Fails run Memory
+memory_failed run same written_well read_well reads = record {
+  usage = λ e. absurd cc;
+  no_order = λ none. inr refl;
+  may = λ other. memory_may run.words;
+  cause = all_served run (IsCausedBy Memory) (λ order text. tt);
+  begins = λ e. absurd cc;
+  silent = λ other. same;
+  exact = λ r m. absurd (m refl);
+  completes = λ r w. all_served run _ (λ order text. record { end = λ serves. inr refl });
+  whole = λ u r m. absurd (m refl);
+  reads = reads;
+  read_fault = λ e. absurd cc;
+  read_well = λ other. read_well;
+  write_fault = λ e. absurd cc;
+  written_well = λ other. written_well;
+}
+
 pub words_failed : {S K : Type 0} (rest : S → Option (List ℕ)) (faults : S → ℕ) (held : K → Option (List ℕ)) (counts : K → ℕ) (source : S) (out : K)
     (all : List (List ℕ)) (fault : WordsFault) → (fault ≡ words.Usage → HasNoOrder all)
     → Fails (run_of all (device rest faults source source) (device held counts out out)) (words_fault fault)
@@ -46,22 +65,7 @@ words_failed {S} {K} rest faults held counts source out all words.Usage none =
     }
 words_failed {S} {K} rest faults held counts source out all words.Memory none =
     let run : Run = run_of all (device rest faults source source) (device held counts out out) in
-    record {
-      usage = λ e. absurd cc;
-      no_order = λ e. inr refl;
-      may = λ other. memory_may all;
-      cause = all_served run (IsCausedBy Memory) (λ order text. tt);
-      begins = λ e. absurd cc;
-      silent = λ other. refl;
-      exact = λ r m. absurd (m refl);
-      completes = λ r w. all_served run _ (λ order text. record { end = λ serves. inr refl });
-      whole = λ u r m. absurd (m refl);
-      reads = reads_none run refl refl;
-      read_fault = λ e. absurd cc;
-      read_well = λ other. refl;
-      write_fault = λ e. absurd cc;
-      written_well = λ other. refl;
-    }
+    memory_failed run refl refl refl (reads_none run refl refl)
 
 -- the words give no order where the reader of words says so
 pub usage_of : {T : Type 0} (all : List (List ℕ)) (fault : WordsFault) (result : Result T WordsFault) → result ≡ Err fault
@@ -121,25 +125,6 @@ text_failed run order fault is law known cause same written_well read_well whole
       written_well = λ other. written_well;
     }
 
-pub memory_failed : (run : Run) (order : OrderView) → IsOrder run.words order → run.out.IsUnchanged → IsCalm run.out → IsCalm run.source → Reads run
-    → Fails run Memory
-memory_failed run order is same written_well read_well reads = record {
-  usage = λ e. absurd cc;
-  no_order = λ none. absurd (none.refuted order is);
-  may = λ other. memory_may run.words;
-  cause = all_served run (IsCausedBy Memory) (λ order text. tt);
-  begins = λ e. absurd cc;
-  silent = λ other. same;
-  exact = λ r m. absurd (m refl);
-  completes = λ r w. all_served run _ (λ order text. record { end = λ serves. inr refl });
-  whole = λ u r m. absurd (m refl);
-  reads = reads;
-  read_fault = λ e. absurd cc;
-  read_well = λ other. read_well;
-  write_fault = λ e. absurd cc;
-  written_well = λ other. written_well;
-}
-
 -- ---- the text
 
 source_failed : (run : Run) (order : OrderView) (own : TextLimit) → IsOrder run.words order → reads_of order ≡ Some own → run.out.IsUnchanged
@@ -186,7 +171,7 @@ read_failed run order fault is law r same written_well =
     by_reason : (why : ReadFault) → (why ≡ reading.TooLong → IfSome run.source.old (λ rest. r.own.bytes < length rest))
         → (why ≡ reading.Failed → Rises run.source) → ((why ≡ reading.Failed → ⊥) → IsCalm run.source) → Fails run (reading_fault r.own why)
     by_reason reading.Failed long failed calm = source_failed run order r.own is r.is_own same written_well (failed refl) reads
-    by_reason reading.Memory long failed calm = memory_failed run order is same written_well (calm (λ e. absurd cc)) reads
+    by_reason reading.Memory long failed calm = memory_failed run same written_well (calm (λ e. absurd cc)) reads
     by_reason reading.TooLong long failed calm =
         let told : IfSome (text_told (reads_of order) run.source.old) (λ text. IsCause order text r.own.fault) =
         subst (λ (o : Option TextLimit). IfSome (text_told o run.source.old) (λ text. IsCause order text r.own.fault)) (sym r.is_own)
@@ -204,7 +189,7 @@ pub not_prepared : (run : Run) (order : OrderView) (items lent : List ℕ) (faul
     → HasOneOutcome (promise_of order.command) → IsReadFrom (reads_of order) run.source items → lent ≡ items → IsCauseOrMemory order lent fault
     → run.out.IsUnchanged → IsCalm run.out → Fails run fault
 not_prepared run order items lent fault is law r lends h same written_well = elim (cause_or_memory order lent fault h) [
-  | inl memory ↦ subst (Fails run) (sym memory) (memory_failed run order is same written_well r.calm (reads_whole run order items is r))
+  | inl memory ↦ subst (Fails run) (sym memory) (memory_failed run same written_well r.calm (reads_whole run order items is r))
   | inr cause ↦ text_failed run order fault is law (law.among order lent fault cause)
       (of_read _ lent items (λ text. IsCause order text fault) lends r.told cause) same written_well r.calm (whole run order items is r)
       (reads_whole run order items is r)

@@ -132,7 +132,8 @@ IsReadWhole source order text = IfSome (reads_of order) (λ (limit : TextLimit).
 pub record Answers (run : Run) (err : Device) (status : ℕ) : Type 0 where
   -- at 0 what the order gives for the text was written, at 10 a prefix of it, and else nothing
   pub gives : status ≡ 0 → HoldsOfOrder run (λ order text. Grows (Gives order text) run.out)
-  pub begins : status ≡ 10 → HoldsOfOrder run (λ order text. GrowsByPrefix (Gives order text) run.out)
+  pub begins : status ≡ 10
+      → HoldsOfOrder run (λ order text. GrowsByPrefix (Gives order text) run.out)
   pub silent : status ≢ 0 → status ≢ 10 → run.out.IsUnchanged
   -- 2 comes exactly where the words give no order, unless memory is wanting; else the status is one of the command's
   pub usage : status ≡ 2 → HasNoOrder run.words
@@ -141,7 +142,8 @@ pub record Answers (run : Run) (err : Device) (status : ℕ) : Type 0 where
   -- a status that rests on the text has its cause there, and its line was written
   pub stops : RestsOnText status → HoldsOfOrder run (λ order text. Stopped order text status err)
   -- where an exact cause holds, its status comes, unless a device or memory is wanting
-  pub exact : status ≢ 9 → status ≢ 11 → HoldsOfOrder run (λ order text. IsStatusOfAll order text status)
+  pub exact : status ≢ 9 → status ≢ 11
+      → HoldsOfOrder run (λ order text. IsStatusOfAll order text status)
   -- where the order serves, success comes, unless a device or memory is wanting
   pub completes : ¬ Rises run.source → ¬ Rises run.out
       → HoldsOfOrder run (λ order text. EndsWell order text status)
@@ -156,5 +158,6 @@ pub record Answers (run : Run) (err : Device) (status : ℕ) : Type 0 where
   -- where no order of the words reads the source, it is as it was
   pub unread : ReadsNothing run.words → run.source.IsUnchanged
   -- a text within the limit is read to its end before all else, and no more than one byte past the limit
-  pub read_whole : status ≢ 2 → status ≢ 9 → status ≢ 11 → HoldsOfOrder run (IsReadWhole run.source)
+  pub read_whole : status ≢ 2 → status ≢ 9 → status ≢ 11
+      → HoldsOfOrder run (IsReadWhole run.source)
   pub reads_few : ReadsFew run
