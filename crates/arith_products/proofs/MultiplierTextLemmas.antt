@@ -16,8 +16,8 @@ use Rattle.arith_runs.proofs.NameLemmas.{one_digit, zero_digit}
 use Rattle.arith_runs.proofs.Pieces.{s, name}
 use Rattle.arith_runs.proofs.RipplePieces.{from_sum}
 use Rattle.arith_runs.proofs.RippleTextLemmas.{ripple_text, IsFine, ripple_fits, ripple_good, length-ripple}
-use Rattle.arith_runs.proofs.TwoNumberPieces.{first_sum, sum_line, carry_line, ripple, carry_function}
-use Rattle.arith_runs.proofs.TwoNumberTextLemmas.{lines_are_fine, sums_are_fine, function_text}
+use Rattle.arith_runs.proofs.TwoNumberPieces.{ripple, carry_function}
+use Rattle.arith_runs.proofs.TwoNumberTextLemmas.{lines_are_fine, sums_are_fine, function_text, first_text, place_text}
 use Rattle.arith_increments.proofs.IncrementPieces.{header}
 use Rattle.arith_increments.proofs.IncrementTextLemmas.{header_text, good_header}
 use Rattle.arith_products.proofs.ProductPieces.{plus, plus_open, plus_end, zero_open, zero_bits, zero_close, digit_line, digit_lines, slice_of, product_end}
@@ -33,14 +33,6 @@ closing_text : (rest : List ℕ) → texts.plus_closing ++ rest ≡ text_of plus
 unfolding texts.plus_closing
 closing_text rest = refl
 
-first_text : adder.first_place (codes "p") (codes "q") ≡ text_of (first_sum plus) ++ text_of plus.first_line
-unfolding adder.first_place
-first_text = rw (zero_digit, one_digit) refl
-
-place_text : (i : ℕ) → adder.place (codes "p") (codes "q") i ≡ text_of (sum_line plus i) ++ text_of (carry_line plus i)
-unfolding adder.sum_line adder.carry_line
-place_text i = refl
-
 -- the lines of the function, in front of the bytes behind it
 plus_text : (m : ℕ) (rest : List ℕ) (ps : List Piece) → rest ≡ text_of ps
     → texts.plus_function (suc m) ++ rest ≡ text_of (plus_open ++ from_sum (ripple plus) m (plus_end ++ ps))
@@ -48,7 +40,7 @@ plus_text m rest ps is =
     let first = adder.first_place (codes "p") (codes "q") in
     let places = adder.place (codes "p") (codes "q") in
     grouped texts.plus_opening first (flat_map places (range_with_len 1 (suc m - 1))) (outputs (codes "s") (suc m)) texts.plus_closing rest
-    ∙ joined opening_text (ripple_text (ripple plus) first places (record { first_is = first_text; place_is = place_text }) m
+    ∙ joined opening_text (ripple_text (ripple plus) first places (record { first_is = first_text (codes "p") (codes "q"); place_is = place_text (codes "p") (codes "q") }) m
     (texts.plus_closing ++ rest) (plus_end ++ ps) (closing_text rest ∙ ap (λ (bs : List ℕ). text_of plus_end ++ bs) is))
     ∙ sym (text_of-append plus_open (from_sum (ripple plus) m (plus_end ++ ps)))
   where

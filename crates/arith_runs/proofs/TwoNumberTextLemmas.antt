@@ -184,16 +184,19 @@ pub function_text : sums.carry_function ≡ text_of carry_function
 unfolding sums.carry_function
 function_text = refl
 
-first_text : sums.first_place (codes "a") (codes "b") ≡ text_of (first_sum adder) ++ text_of adder.first_line
+-- place 0 of two numbers of these names, and a place above it
+pub first_text : (first second : List ℕ) → sums.first_place first second
+    ≡ text_of (first_sum (sums_of first second)) ++ text_of (sums_of first second).first_line
 unfolding sums.first_place
-first_text = rw (zero_digit, one_digit) refl
+first_text first second = rw (zero_digit, one_digit) refl
 
-place_text : (i : ℕ) → sums.place (codes "a") (codes "b") i ≡ text_of (sum_line adder i) ++ text_of (carry_line adder i)
+pub place_text : (first second : List ℕ) (i : ℕ) → sums.place first second i
+    ≡ text_of (sum_line (sums_of first second) i) ++ text_of (carry_line (sums_of first second) i)
 unfolding sums.sum_line sums.carry_line
-place_text i = refl
+place_text first second i = refl
 
 pub adder_text : (m : ℕ) → sums.adder_text (suc m) ≡ text_of (pieces adder carry_function m)
 adder_text m =
     two_text adder (sums_are_fine (codes "a") (codes "b") refl refl) carry_function carry_is_fine sums.carry_function
     (sums.first_place (codes "a") (codes "b")) (sums.place (codes "a") (codes "b")) function_text
-    (record { first_is = first_text; place_is = place_text }) m
+    (record { first_is = first_text (codes "a") (codes "b"); place_is = place_text (codes "a") (codes "b") }) m
