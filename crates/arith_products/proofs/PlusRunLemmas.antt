@@ -8,27 +8,15 @@ use Rattle.revs_terms.specs.Trees.{Tree, trees}
 use Rattle.built_texts.specs.Meanings.{Meaning, Scope, of_bits, of_function, named, meaning_of, IsRun, all_taken, takes, takes_last}
 use Rattle.built_texts.proofs.RunLemmas.{run_name, run_apply, run_block}
 use Rattle.arith_templates.specs.Places.{carry, sums}
-use Rattle.arith_runs.proofs.NameLemmas.{no_decimal}
 use Rattle.arith_runs.proofs.TwoNumberPieces.{carry_function}
 use Rattle.arith_runs.proofs.TwoNumberReadingLemmas.{carry_reads, sums_read}
 use Rattle.arith_runs.proofs.TwoNumberLemmas.{AreApart, Known, function_meaning, function_is, two_run}
-use Rattle.arith_runs.proofs.AdderLemmas.{carry_works, sums_work, sums_ripple}
+use Rattle.arith_runs.proofs.AdderLemmas.{carry_works, sums_apart, sums_work, sums_ripple}
 use Rattle.arith_products.proofs.ProductPieces.{plus}
 use Rattle.arith_products.proofs.PlusReadingLemmas.{plus_names, at_sum, plus_body}
 
 plus_apart : AreApart plus
-plus_apart = record {
-  first_function = refl;
-  second_function = refl;
-  first_letter = λ i. refl;
-  second_letter = λ i. refl;
-  function_letter = λ i. refl;
-  first_carry = λ i. refl;
-  second_carry = λ i. refl;
-  function_carry = λ i few. no_decimal (codes "arry") i few refl;
-  letter_carry = λ k i. refl;
-  carry_letter = λ k i. refl;
-}
+plus_apart = sums_apart 112 113 refl refl refl refl
 
 -- what the carry means in its scope
 abbrev pub carry_meaning : (ℕ → Place) → Scope → Meaning

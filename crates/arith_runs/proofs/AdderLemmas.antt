@@ -1,5 +1,5 @@
 -- The adder's text adds.
-use Rattle.std.proofs.Common.{◌≡◌, ℕ, zero, suc, Bool, false, ◌&&◌, List, [], ◌∷◌, take, drop, refl, ap, sym, ◌∙◌, subst, arith}
+use Rattle.std.proofs.Common.{◌≡◌, ℕ, zero, suc, Bool, false, eqb, ◌&&◌, List, [], ◌∷◌, take, drop, refl, ap, sym, ◌∙◌, subst, arith}
 use Rattle.std.specs.Prelude.{codes}
 use Rattle.std.specs.Bool.{xor}
 use Rattle.list_facts.proofs.BitLemmas.{xor_nothing}
@@ -17,7 +17,7 @@ use Rattle.arith_runs.proofs.StageLemmas.{bit_run}
 use Rattle.arith_runs.proofs.TwoNumberPieces.{carry_function, sums_of, adder}
 use Rattle.arith_runs.proofs.TwoNumberTextLemmas.{sums_are_fine, carry_is_fine, adder_text}
 use Rattle.arith_runs.proofs.TwoNumberReadingLemmas.{carry_reads, sums_read}
-use Rattle.arith_runs.proofs.TwoNumberLemmas.{AreApart, WorksFunction, WorksLine, two_rippled}
+use Rattle.arith_runs.proofs.TwoNumberLemmas.{AreApart, letters_apart, WorksFunction, WorksLine, two_rippled}
 use Rattle.arith_runs.proofs.TwoNumberProgramLemmas.{two_computes}
 
 -- ---- sums of any two numbers
@@ -46,24 +46,16 @@ sums_ripple c (x ∷ xs) (y ∷ ys) = ap (λ (bs : List Bool). xor (xor x y) c �
 
 -- ---- the adder
 
-adder_apart : AreApart adder
-adder_apart = record {
-  first_function = refl;
-  second_function = refl;
-  first_letter = λ i. refl;
-  second_letter = λ i. refl;
-  function_letter = λ i. refl;
-  first_carry = λ i. refl;
-  second_carry = λ i. refl;
-  function_carry = λ i few. no_decimal (codes "arry") i few refl;
-  letter_carry = λ k i. refl;
-  carry_letter = λ k i. refl;
-}
+-- names of one letter that is neither that of the sums nor that of the carries
+pub sums_apart : (a b : ℕ) → eqb a 99 ≡ false → eqb a 115 ≡ false → eqb b 99 ≡ false → eqb b 115 ≡ false → AreApart (sums_of (a ∷ []) (b ∷ []))
+sums_apart a b a_carry a_sum b_carry b_sum =
+    letters_apart 115 a b (codes "carry") (sums_of (a ∷ []) (b ∷ [])).first_line (rw a_carry refl) (rw b_carry refl) a_sum b_sum (λ i. refl) a_carry b_carry
+    (λ i few. no_decimal (codes "arry") i few refl) refl refl
 
 pub adders_add : AddersAdd
 adders_add zero by low high = absurd (omega arith)
 adders_add (suc m) by low high =
-    two_computes adder adder_apart (record { first_in = λ us vs. refl; second_in = λ us vs. refl }) carry_function carry_reads carry carry_works
+    two_computes adder (sums_apart 97 98 refl refl refl refl) (record { first_in = λ us vs. refl; second_in = λ us vs. refl }) carry_function carry_reads carry carry_works
     (sums_read (codes "a") (codes "b") 2) (sums_work (codes "a") (codes "b") 2) (sums_are_fine (codes "a") (codes "b") refl refl) carry_is_fine m (omega arith)
     Add by (texts.adder_text (suc m)) (adder_text m) refl refl
     (λ input one two.

@@ -38,7 +38,7 @@ use Rattle.arith_runs.proofs.TwoNumberPieces.{first_sum, sum_line, carry_line}
 use Rattle.arith_runs.proofs.BorrowPieces.{borrow_function, first_borrow, subtractor}
 use Rattle.arith_runs.proofs.TwoNumberTextLemmas.{IsFineLine, IsFineFunction, two_text}
 use Rattle.arith_runs.proofs.TwoNumberReadingLemmas.{ReadsLine, ReadsFunction, function_item}
-use Rattle.arith_runs.proofs.TwoNumberLemmas.{AreApart, WorksFunction, WorksLine, two_rippled}
+use Rattle.arith_runs.proofs.TwoNumberLemmas.{AreApart, letters_apart, WorksFunction, WorksLine, two_rippled}
 use Rattle.arith_runs.proofs.TwoNumberProgramLemmas.{HasParams, two_computes}
 
 -- ---- spelling
@@ -131,18 +131,7 @@ reads = record {
 -- ---- what runs
 
 pub apart : AreApart subtractor
-apart = record {
-  first_function = refl;
-  second_function = refl;
-  first_letter = λ i. refl;
-  second_letter = λ i. refl;
-  function_letter = λ i. refl;
-  first_carry = λ i. refl;
-  second_carry = λ i. refl;
-  function_carry = λ i few. refl;
-  letter_carry = λ k i. refl;
-  carry_letter = λ k i. refl;
-}
+apart = letters_apart 100 97 98 (codes "lend") subtractor.first_line refl refl refl refl (λ i. refl) refl refl (λ i few. refl) refl refl
 
 pub function_works : WorksFunction (codes "lend") borrow_function function_reads borrow
 function_works = record {

@@ -1,5 +1,5 @@
 -- What the lines of two numbers that ripple compute.
-use Rattle.std.proofs.Common.{◌≡◌, ℕ, suc, ◌+◌, ◌*◌, ◌≤◌, ◌<◌, Bool, false, List, [], ◌∷◌, length, drop, cond, Some, refl, ap, sym, ◌∙◌, subst, arith}
+use Rattle.std.proofs.Common.{◌≡◌, ℕ, suc, ◌+◌, ◌*◌, ◌≤◌, ◌<◌, Bool, false, eqb, List, [], ◌∷◌, length, drop, cond, Some, refl, ap, sym, ◌∙◌, subst, arith}
 use Rattle.std.specs.Prelude.{codes, slice_get, bytes_eq}
 use Rattle.std.specs.Bool.{xor}
 use Rattle.std.proofs.lemmas.Option.{slice_get-get_or}
@@ -32,6 +32,25 @@ pub record AreApart (T : TwoNumbers) : Type 0 where
   pub function_carry : (i : ℕ) → i ≤ 9999 → bytes_eq T.function_name (lettered 99 i) ≡ false
   pub letter_carry : (k i : ℕ) → bytes_eq (lettered T.letter k) (lettered 99 i) ≡ false
   pub carry_letter : (k i : ℕ) → bytes_eq (lettered 99 k) (lettered T.letter i) ≡ false
+
+-- numbers whose names are one letter each
+pub letters_apart : (letter a b : ℕ) (function : List ℕ) (line : List Piece) → bytes_eq (a ∷ []) function ≡ false → bytes_eq (b ∷ []) function ≡ false
+    → eqb a letter ≡ false → eqb b letter ≡ false → ((i : ℕ) → bytes_eq function (lettered letter i) ≡ false) → eqb a 99 ≡ false → eqb b 99 ≡ false
+    → ((i : ℕ) → i ≤ 9999 → bytes_eq function (lettered 99 i) ≡ false) → eqb letter 99 ≡ false → eqb 99 letter ≡ false
+    → AreApart (record { letter = letter; first = a ∷ []; second = b ∷ []; function_name = function; first_line = line })
+letters_apart letter a b function line a_function b_function a_letter b_letter function_letter a_carry b_carry function_carry letter_carry carry_letter =
+    record {
+      first_function = a_function;
+      second_function = b_function;
+      first_letter = λ i. rw a_letter refl;
+      second_letter = λ i. rw b_letter refl;
+      function_letter = function_letter;
+      first_carry = λ i. rw a_carry refl;
+      second_carry = λ i. rw b_carry refl;
+      function_carry = function_carry;
+      letter_carry = λ k i. rw letter_carry refl;
+      carry_letter = λ k i. rw carry_letter refl;
+    }
 
 -- ---- the function of what goes on
 
