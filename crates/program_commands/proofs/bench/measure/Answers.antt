@@ -8,12 +8,6 @@ use Rattle.revs_parser.specs.declared.limits.TheConstants.{MOST_BYTES}
 use Rattle.revc_base.proofs.ResultLemmas.{no_value, passes_on}
 use Rattle.program_commands.proofs.bench.measure.Goals as goal
 
-pub returns-in_err-text-clause-ok : goal.returns-in_err-text-clause-ok
-returns-in_err-text-clause-ok c = no_value c.from_residual.result _ _ c.from_residual.ensures.1
-
-pub returns-in_err-tape-clause-ok : goal.returns-in_err-tape-clause-ok
-returns-in_err-tape-clause-ok c = no_value c.from_residual-in_err-tape.result _ _ c.from_residual-in_err-tape.ensures.1
-
 pub returns-in_err-tape-clause-err : goal.returns-in_err-tape-clause-err
 returns-in_err-tape-clause-err c =
     let order = order_of c.args.order.now in

@@ -5,17 +5,6 @@ use Rattle.program_commands.proofs.TextLemmas.{fault_of_text, stops_compile}
 use Rattle.revc_base.proofs.ResultLemmas.{no_value, passes_on}
 use Rattle.program_commands.proofs.compile.compile.Goals as goal
 
-pub returns-in_err-tape-clause-ok : goal.returns-in_err-tape-clause-ok
-returns-in_err-tape-clause-ok c = no_value c.from_residual.result _ _ c.from_residual.ensures.1
-
-pub returns-in_err-tape-clause-writable : goal.returns-in_err-tape-clause-writable
-returns-in_err-tape-clause-writable c = no_value c.from_residual.result _ _ c.from_residual.ensures.1
-
-pub returns-in_err-tape-clause-err : goal.returns-in_err-tape-clause-err
-returns-in_err-tape-clause-err c =
-    passes_on _ c.from_residual.result c.from_residual.ensures.1
-    (stops_compile (order_of c.args.order.now) c.args.text.now c.in_err-tape.field-0.0 c.in_err-tape.ensures.err)
-
 pub returns-clause-ok : goal.returns-clause-ok
 returns-clause-ok c =
     compiled (order_of c.args.order.now) c.args.text.now c.in_ok-tape.tape c.plan_tape.result c.in_ok-tape.ensures.left c.plan_tape.ensures.ok

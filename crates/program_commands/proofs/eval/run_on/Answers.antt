@@ -3,21 +3,6 @@ use Rattle.program_commands.proofs.EvalLemmas.{broken_at, is_claim, memory_stops
 use Rattle.revc_base.proofs.ResultLemmas.{no_value, passes_on}
 use Rattle.program_commands.proofs.eval.run_on.Goals as goal
 
-pub returns-in_err-input-clause-ok : goal.returns-in_err-input-clause-ok
-returns-in_err-input-clause-ok c = no_value c.from_residual.result _ _ c.from_residual.ensures.1
-
-pub returns-in_err-input-clause-err : goal.returns-in_err-input-clause-err
-returns-in_err-input-clause-err c =
-    passes_on _ c.from_residual.result c.from_residual.ensures.1
-    (word_stops c.args.tape.now c.args.word.now c.in_err-input.field-0.0 c.in_err-input.ensures.err)
-
-pub returns-in_err-bits-clause-ok : goal.returns-in_err-bits-clause-ok
-returns-in_err-bits-clause-ok c = no_value c.from_residual-in_err-bits.result _ _ c.from_residual-in_err-bits.ensures.1
-
-pub returns-in_err-bits-clause-err : goal.returns-in_err-bits-clause-err
-returns-in_err-bits-clause-err c =
-    passes_on _ c.from_residual-in_err-bits.result c.from_residual-in_err-bits.ensures.1 (memory_stops c.args.tape.now c.args.word.now)
-
 pub broken_claim-requires : goal.broken_claim-requires
 broken_claim-requires c = is_claim c.args.tape.now c.bits.result.now c.in_ok-bits.field-0 c.in-Broken.claim c.in_ok-bits.ensures c.in-Broken.is
 

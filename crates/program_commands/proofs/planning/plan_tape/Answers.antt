@@ -3,14 +3,6 @@ use Rattle.program_commands.proofs.PlanLemmas.{plan_of_texts, planning_stops, se
 use Rattle.revc_base.proofs.ResultLemmas.{no_value, passes_on}
 use Rattle.program_commands.proofs.planning.plan_tape.Goals as goal
 
-pub returns-in_err-settled-clause-ok : goal.returns-in_err-settled-clause-ok
-returns-in_err-settled-clause-ok c = no_value c.from_residual.result _ _ c.from_residual.ensures.1
-
-pub returns-in_err-settled-clause-err : goal.returns-in_err-settled-clause-err
-returns-in_err-settled-clause-err c =
-    passes_on _ c.from_residual.result c.from_residual.ensures.1
-    (settling_stops (order_of c.args.order.now) c.args.tape.now c.in_err-settled.field-0.0 c.in_err-settled.ensures.err)
-
 pub returns-clause-ok : goal.returns-clause-ok
 returns-clause-ok c =
     plan_of_texts (order_of c.args.order.now) c.args.tape.now c.in_ok-settled.settled c.lay.result c.requires c.in_ok-settled.ensures.ok c.lay.ensures.ok

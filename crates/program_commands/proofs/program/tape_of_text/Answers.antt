@@ -5,9 +5,6 @@ use Rattle.program_commands.proofs.TextLemmas.{fault_of_program, value_of_progra
 use Rattle.revc_base.proofs.ResultLemmas.{no_value}
 use Rattle.program_commands.proofs.program.tape_of_text.Goals as goal
 
-pub returns-in_err-program-clause-left : goal.returns-in_err-program-clause-left
-returns-in_err-program-clause-left c = no_value c.from_residual.result _ _ c.from_residual.ensures.1
-
 pub returns-clause-left : goal.returns-clause-left
 returns-clause-left c =
     value_of_program (λ tape text. LeavesTape text tape) c.tape_of_program.result c.args.text.now (view_of c.in_ok-program.program)
