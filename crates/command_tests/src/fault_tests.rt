@@ -149,22 +149,6 @@ fn fail_reads(
     Ok(())
 }
 
-#[test]
-fn each_read_may_fail(rt: HostRuntime) -> Result<(), Fail> {
-    for (words, text) in CALLS {
-        for (most_read, failing_err, most_told) in PIECES {
-            let on = Devices {
-                most_read: *most_read,
-                failing_err: *failing_err,
-                most_told: *most_told,
-                ..SOUND
-            };
-            fail_reads(&rt, rt.alloc(), words, text, on)?;
-        }
-    }
-    Ok(())
-}
-
 // Each write and the flush fail in turn: the bytes of the writes before are there. One number
 // further, none fails.
 fn fail_writes(
@@ -201,15 +185,17 @@ fn fail_writes(
 }
 
 #[test]
-fn each_write_may_fail(rt: HostRuntime) -> Result<(), Fail> {
+fn each_read_and_each_write_may_fail(rt: HostRuntime) -> Result<(), Fail> {
     for (words, text) in CALLS {
-        for (most_written, failing_err, most_told) in PIECES {
+        for (most, failing_err, most_told) in PIECES {
             let on = Devices {
-                most_written: *most_written,
+                most_read: *most,
+                most_written: *most,
                 failing_err: *failing_err,
                 most_told: *most_told,
                 ..SOUND
             };
+            fail_reads(&rt, rt.alloc(), words, text, on)?;
             fail_writes(&rt, rt.alloc(), words, text, on)?;
         }
     }
