@@ -1,7 +1,7 @@
 // The signs of the language.
 ghost use Rattle.std.specs.Prelude.{◌≡◌};
 
-/// A sign of the language. `Plus` and `Minus` are reserved: no program holds them yet.
+/// A sign of the language. Only programs of profile 2 hold `Plus` and `Minus`.
 #[derive(Clone, Copy, Debug, PartialEq, Eq)]
 pub enum Sign {
     OpenRound,

@@ -1,7 +1,7 @@
 // The words of the language.
 ghost use Rattle.std.specs.Prelude.{◌≡◌};
 
-/// A word of the language. The words from `For` on are reserved: no program holds them yet.
+/// A word of the language. Only programs of profile 2 hold the words from `For` on.
 #[derive(Clone, Copy, Debug, PartialEq, Eq)]
 pub enum Word {
     Main,
