@@ -1,4 +1,4 @@
 pub mod PassingLemmas
 pub mod PieceLemmas
 pub mod WritingLoopLemmas
-pub mod GivingLemmas
+pub mod ReadingLemmas

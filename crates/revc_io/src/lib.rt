@@ -7,6 +7,7 @@ mod buffer;
 mod calls;
 mod decimal;
 mod failed;
+mod giving;
 mod memory_sink;
 mod memory_source;
 mod piece;

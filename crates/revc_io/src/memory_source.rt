@@ -6,6 +6,7 @@ ghost use Rattle.revc_io.specs.Faults.{HasCause};
 ghost use Rattle.revc_io.specs.Memory.{FailsNext, counted, failed, given_of};
 
 use crate::calls::Calls;
+use crate::giving::give;
 use crate::{Failed, Source};
 use std::marker::Model;
 
@@ -79,9 +80,7 @@ impl Source for MemorySource {
             self.calls.fail();
             return Err(Failed);
         }
-        let left = &self.bytes[self.at..];
-        let count = self.most.min(left.len()).min(buf.len());
-        buf[..count].copy_from_slice(&left[..count]);
+        let count = give(&self.bytes[self.at..], self.most, buf);
         self.at += count;
         Ok(count)
     }

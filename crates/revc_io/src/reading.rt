@@ -1,8 +1,5 @@
-ghost use Rattle.std.specs.Prelude.{◌≡◌, ◌<◌, ◌≤◌, length, vec_len, IfErr, IfOk, IfSome, IsErrOf};
-ghost use Rattle.std.specs.Prelude.{OnOk};
-ghost use Rattle.std.specs.Io.KnownBytes.{Consumes, IsAtEnd};
-ghost use Rattle.revc_io.specs.Faults.{Rose};
-ghost use Rattle.revc_io.specs.Reading.{CountsAt, TakenAt, TakesCount};
+ghost use Rattle.std.specs.Prelude.{◌≡◌, ◌<◌, IfErr, IfOk};
+ghost use Rattle.revc_io.specs.Reading.{CountsFault, ReadsAll, StopsAt};
 ghost use Rattle.revc_io.specs.declared.reading.ReadFault.TheVariants as faults;
 
 use crate::{Failed, Source};
@@ -45,27 +42,11 @@ pub fn read_up_to<S: Source>(
     limit: usize,
 ) -> Result<Vec<u8>, ReadFault>
     requires { limit < usize.MAX }
-
-    // The whole rest, read to its end.
-    ensures taken { IfOk result (λ all.
-        Consumes (S.rest source.old) (S.rest source.new) all.items) }
-    ensures end { OnOk result (IsAtEnd (S.rest source.new)) }
-    ensures text { IfOk result (λ all. IfSome (S.rest source.old) (λ rest. all.items ≡ rest)) }
-    ensures fits { IfOk result (λ all. vec_len all ≤ limit) }
-
-    // Each refusal.
-    ensures refused { IfErr result (λ fault. TakesCount (S.rest source.old) (S.rest source.new)
-        (TakenAt fault limit)) }
-    ensures too_long { IsErrOf result ReadFault.TooLong
-        → IfSome (S.rest source.old) (λ rest. limit < length rest) }
-    ensures failed { IsErrOf result ReadFault.Failed
-        → Rose (S.faults source.old) (S.faults source.new) }
-    ensures counts { IfErr result (λ fault. CountsAt fault (S.faults source.old)
-        (S.faults source.new)) }
-
-    // The count of faults: it never falls, and stays where the whole rest was read.
-    ensures later { S.faults source.old ≤ S.faults source.new }
-    ensures stays { OnOk result (S.faults source.new ≡ S.faults source.old) }
+    ensures all { IfOk result (λ all.
+        ReadsAll (S.rest source.old) (S.rest source.new) limit all.items) }
+    ensures stops { IfErr result (λ fault.
+        StopsAt (S.rest source.old) (S.rest source.new) limit fault) }
+    ensures counts { CountsFault (S.faults source.old) (S.faults source.new) result }
 {
     let mut all = Vec::new(alloc);
     let mut chunk = [0; CHUNK];

@@ -1,5 +1,6 @@
 ghost use Rattle.std.specs.Prelude.{◌≡◌, Some};
 
+use crate::giving::give;
 use crate::{Failed, Source};
 use std::marker::Model;
 
@@ -36,9 +37,7 @@ impl Source for SureSource {
     ghost faults = { λ _. 0 };
 
     fn read(&mut self, buf: &mut [u8]) -> Result<usize, Failed> {
-        let left = &self.bytes[self.at..];
-        let count = left.len().min(buf.len());
-        buf[..count].copy_from_slice(&left[..count]);
+        let count = give(&self.bytes[self.at..], buf.len(), buf);
         self.at += count;
         Ok(count)
     }
