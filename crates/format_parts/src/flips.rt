@@ -1,130 +1,133 @@
 // How the gates of a narrow circuit are written: each is a flip, in a line of its own.
-ghost use Rattle.std.specs.Prelude.{◌≡◌, ℕ, ◌<◌, ◌≤◌, length};
-ghost use Rattle.std.specs.List.{flat_map, AllByRecursion};
-ghost use Rattle.mct_circuit.specs.Gates.{AreNarrow, IsNarrow, lines_of};
+ghost use Rattle.std.specs.Prelude.{◌≡◌, ℕ, ◌<◌, ◌≤◌, ◌++◌};
+ghost use Rattle.mct_circuit.specs.Gates.{AreNarrow};
 ghost use Rattle.circuit_plans.specs.declared.plan.TheConstants.{MOST_LINES};
 ghost use Rattle.revc_io.specs.Faults.{HasCause};
-ghost use Rattle.revc_io.specs.Passing.{Gathers};
-ghost use Rattle.format_parts.specs.Flips.{FlipTexts, controls_text, flip_text, gate_text};
-ghost use Rattle.format_parts.specs.Flips.{gates_text};
+ghost use Rattle.revc_io.specs.Passing.{Writes};
+ghost use Rattle.format_parts.specs.Flips.{FlipTexts, gates_text};
 
 use mct_circuit::{Circuit, Control, Gate, Op};
-use revc_io::{Buffer, Failed, Sink};
+use revc_io::{Each, Failed, Piece, Pieces, Sink, write_whole};
 
-/// How a format writes a flip: the word of the gate, each control and then the target, through a
-/// buffer.
+/// How a format writes a flip: the word of the gate, each control and then the target.
 pub trait FlipWriter: Copy {
+    /// The word of a gate.
+    type Word: Piece;
+
+    /// A control.
+    type Control: Piece;
+
+    /// The target and the end of the gate.
+    type Target: Piece;
+
     // The number of lines.
     ghost count: { Self → ℕ };
 
     // The text of each part of a flip.
     ghost texts: { Self → FlipTexts };
 
-    /// Puts the word of a flip with so many controls. It takes no memory.
-    fn put_word<K: Sink>(
-        self,
-        buffer: &mut Buffer,
-        out: &mut K,
-        controls: usize,
-    ) -> Result<(), Failed>
+    /// The word of a flip with so many controls.
+    fn word(self, controls: usize) -> Self::Word
         requires { controls ≤ 2 }
-        ensures bytes { Gathers result (K.held out.old) (K.held out.new) buffer.old buffer.new
-            ((texts self).word controls) }
-        ensures cause { HasCause (K.faults out.old) (K.faults out.new) result };
+        ensures can { Self.Word.can_put result }
+        ensures bytes { Self.Word.bytes result ≡ (texts self).word controls };
 
-    /// Puts a control, by its line. It takes no memory.
-    fn put_control<K: Sink>(self, buffer: &mut Buffer, out: &mut K, line: u32) -> Result<(), Failed>
+    /// A control, by its line.
+    fn control(self, line: u32) -> Self::Control
         requires few { count self ≤ MOST_LINES }
         requires in_range { line < count self }
-        ensures bytes { Gathers result (K.held out.old) (K.held out.new) buffer.old buffer.new
-            ((texts self).control line) }
-        ensures cause { HasCause (K.faults out.old) (K.faults out.new) result };
+        ensures can { Self.Control.can_put result }
+        ensures bytes { Self.Control.bytes result ≡ (texts self).control line };
 
-    /// Puts the target, by its line, and ends the gate. It takes no memory.
-    fn put_target<K: Sink>(self, buffer: &mut Buffer, out: &mut K, line: u32) -> Result<(), Failed>
+    /// The target, by its line, and the end of the gate.
+    fn target(self, line: u32) -> Self::Target
         requires few { count self ≤ MOST_LINES }
         requires in_range { line < count self }
-        ensures bytes { Gathers result (K.held out.old) (K.held out.new) buffer.old buffer.new
-            ((texts self).target line) }
-        ensures cause { HasCause (K.faults out.old) (K.faults out.new) result };
+        ensures can { Self.Target.can_put result }
+        ensures bytes { Self.Target.bytes result ≡ (texts self).target line };
 }
 
-/// Puts the gates of a narrow circuit, one after another. It takes no memory.
-pub fn put_gates<W: FlipWriter, K: Sink>(
-    buffer: &mut Buffer,
-    out: &mut K,
+/// Writes the text of a narrow circuit: a head, the gates one after another, and an end. Where it
+/// fails, the sink took a front of the text. It takes no memory.
+pub fn write_circuit<H: Piece, W: FlipWriter, K: Sink>(
+    head: H,
     circuit: &Circuit,
     writer: W,
+    end: &[u8],
+    out: &mut K,
 ) -> Result<(), Failed>
+    requires can { H.can_put head }
     requires fits { W.count writer ≡ circuit.now.lines }
     requires few { circuit.now.lines ≤ MOST_LINES }
     requires narrow { AreNarrow circuit.now.gates }
-    ensures bytes { Gathers result (K.held out.old) (K.held out.new) buffer.old buffer.new
-        (gates_text (W.texts writer) circuit.now.gates) }
+    ensures bytes { Writes result (K.held out.old) (K.held out.new)
+        (H.bytes head ++ (gates_text (W.texts writer) circuit.now.gates ++ end.now)) }
     ensures cause { HasCause (K.faults out.old) (K.faults out.new) result }
 {
-    // This call says that the gates are on the circuit's lines.
-    let _ = circuit.lines();
-    for i in 0..circuit.len() {
-        put_gate(buffer, out, circuit.gate(i), writer)?;
+    let gates = circuit.gates();
+    write_whole((head, Each(Gates { gates, writer }), end), out)
+}
+
+// The controls of a flip, one after another.
+#[derive(Clone, Copy)]
+struct Controls<'a, W> {
+    controls: &'a [Control],
+    writer: W,
+}
+
+impl<'a, W: FlipWriter> Pieces for Controls<'a, W> {
+    ghost use Rattle.std.specs.Prelude.{map};
+    ghost use Rattle.mct_circuit.specs.declared.gate.Control.{Control};
+    ghost use Rattle.format_parts.specs.Flips.{AreControlsOn};
+
+    type Item = W::Control;
+
+    ghost can_put_each = { λ flip. AreControlsOn (W.count flip.writer) flip.controls.now };
+
+    ghost list = { λ flip.
+        map (λ (control : Control). (W.texts flip.writer).control control.line) flip.controls.now };
+
+    fn len(self) -> usize {
+        self.controls.len()
     }
-    Ok(())
-}
 
-fn put_gate<W: FlipWriter, K: Sink>(
-    buffer: &mut Buffer,
-    out: &mut K,
-    gate: &Gate,
-    writer: W,
-) -> Result<(), Failed>
-    requires few { W.count writer ≤ MOST_LINES }
-    requires narrow { IsNarrow gate.now }
-    requires in_range { AllByRecursion (λ line. line < W.count writer) (lines_of gate.now) }
-    ensures bytes { Gathers result (K.held out.old) (K.held out.new) buffer.old buffer.new
-        (gate_text (W.texts writer) gate.now) }
-    ensures cause { HasCause (K.faults out.old) (K.faults out.new) result }
-{
-    let Op::Flip(target) = gate.op() else {
-        unreachable!()
-    };
-    put_flip(buffer, out, gate.controls(), target, writer)
-}
-
-fn put_flip<W: FlipWriter, K: Sink>(
-    buffer: &mut Buffer,
-    out: &mut K,
-    controls: &[Control],
-    target: u32,
-    writer: W,
-) -> Result<(), Failed>
-    requires few { W.count writer ≤ MOST_LINES }
-    requires short { length controls.now ≤ 2 }
-    requires controls_in_range { AllByRecursion
-        (λ control. control.line < W.count writer) controls.now }
-    requires target_in_range { target < W.count writer }
-    ensures bytes { Gathers result (K.held out.old) (K.held out.new) buffer.old buffer.new
-        (flip_text (W.texts writer) controls.now target) }
-    ensures cause { HasCause (K.faults out.old) (K.faults out.new) result }
-{
-    writer.put_word(buffer, out, controls.len())?;
-    put_controls(buffer, out, controls, writer)?;
-    writer.put_target(buffer, out, target)
-}
-
-fn put_controls<W: FlipWriter, K: Sink>(
-    buffer: &mut Buffer,
-    out: &mut K,
-    controls: &[Control],
-    writer: W,
-) -> Result<(), Failed>
-    requires few { W.count writer ≤ MOST_LINES }
-    requires in_range { AllByRecursion (λ control. control.line < W.count writer) controls.now }
-    ensures bytes { Gathers result (K.held out.old) (K.held out.new) buffer.old buffer.new
-        (controls_text (W.texts writer) controls.now) }
-    ensures cause { HasCause (K.faults out.old) (K.faults out.new) result }
-{
-    for control in controls {
-        writer.put_control(buffer, out, control.line)?;
+    fn at(self, place: usize) -> W::Control {
+        self.writer.control(self.controls[place].line)
     }
-    Ok(())
+}
+
+// The gates of a narrow circuit, one after another.
+#[derive(Clone, Copy)]
+struct Gates<'a, W> {
+    gates: &'a [Gate],
+    writer: W,
+}
+
+impl<'a, W: FlipWriter> Pieces for Gates<'a, W> {
+    ghost use Rattle.std.specs.Prelude.{map};
+    ghost use Rattle.format_parts.specs.Flips.{AreFlipsOn, gate_text};
+
+    type Item = (W::Word, Each<Controls<'a, W>>, W::Target);
+
+    ghost can_put_each = { λ circuit. AreFlipsOn (W.count circuit.writer) circuit.gates.now };
+
+    ghost list = { λ circuit. map (gate_text (W.texts circuit.writer)) circuit.gates.now };
+
+    fn len(self) -> usize {
+        self.gates.len()
+    }
+
+    fn at(self, place: usize) -> (W::Word, Each<Controls<'a, W>>, W::Target) {
+        let gate = &self.gates[place];
+        let controls = gate.controls();
+        let Op::Flip(target) = gate.op() else {
+            unreachable!()
+        };
+        let writer = self.writer;
+        (
+            writer.word(controls.len()),
+            Each(Controls { controls, writer }),
+            writer.target(target),
+        )
+    }
 }

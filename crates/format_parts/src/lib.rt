@@ -5,5 +5,5 @@
 mod flips;
 mod names;
 
-pub use flips::{FlipWriter, put_gates};
+pub use flips::{FlipWriter, write_circuit};
 pub use names::Names;

@@ -21,7 +21,7 @@ use Rattle.qasm_format.specs.Converted.{kept_lines, added_register, converted_re
 use Rattle.qasm_format.specs.declared.naming.Naming.{Naming}
 use Rattle.qasm_format.specs.declared.naming.Naming.TheVariants.{ByRole, ByNumber}
 use Rattle.qasm_format.specs.inside.Naming.{registers_by, place_by}
-use Rattle.qasm_format.specs.inside.Parts.{place_text, argument_text, declaration_text, register_text, role_registers_text, added_text, numbered_registers_text}
+use Rattle.qasm_format.specs.inside.Parts.{place_text, argument_text, declaration_text, register_text, role_registers_text, numbered_registers_text}
 use Rattle.qasm_format.specs.inside.Parts.{head_text, header_text, flip_texts}
 use Rattle.qasm_format.proofs.RoleLemmas.{one_register}
 
@@ -62,8 +62,8 @@ joined : (xs ys : List Register) → flat_map line_text (map words_declared (xs 
     ≡ flat_map line_text (map words_declared xs) ++ flat_map line_text (map words_declared ys)
 joined xs ys = ap (flat_map line_text) (map-append words_declared xs ys) ∙ flat_map-append line_text (map words_declared xs) (map words_declared ys)
 
-in_pairs : (i j o p w v b c : List ℕ) → i ≡ j → o ≡ p → w ≡ v → b ≡ c → i ++ (o ++ (w ++ b)) ≡ (j ++ p) ++ (v ++ c)
-in_pairs i j o p w v b c of_i of_o of_w of_b = rw (of_i, of_o, of_w, of_b) (sym (append_assoc j p (v ++ c)))
+in_row : (i j o p w v b c : List ℕ) → i ≡ j → o ≡ p → w ≡ v → b ≡ c → i ++ (o ++ (w ++ b)) ≡ j ++ (p ++ (v ++ c))
+in_row i j o p w v b c of_i of_o of_w of_b = rw (of_i, of_o, of_w, of_b) refl
 
 registers_text_is : (roles : Roles) → flat_map line_text (map words_declared (registers_of roles)) ≡ role_registers_text roles
 registers_text_is roles =
@@ -73,7 +73,7 @@ registers_text_is roles =
     let b = register_of Borrowed roles.borrowed in
     joined i (o ++ (w ++ b)) ∙ ap (λ (t : List ℕ). flat_map line_text (map words_declared i) ++ t) (joined o (w ++ b)
     ∙ ap (λ (t : List ℕ). flat_map line_text (map words_declared o) ++ t) (joined w b))
-    ∙ in_pairs _ _ _ _ _ _ _ _ (register_text_is Input roles.inputs) (register_text_is Output roles.outputs) (register_text_is Work roles.work)
+    ∙ in_row _ _ _ _ _ _ _ _ (register_text_is Input roles.inputs) (register_text_is Output roles.outputs) (register_text_is Work roles.work)
     (register_text_is Borrowed roles.borrowed)
 
 -- ---- a gate
@@ -140,7 +140,7 @@ file_text_is registers place gates text narrow e =
 
 -- ---- numbered lines
 
-added_text_is : (added : Bool) → flat_map line_text (map words_declared (added_register added)) ≡ added_text added
+added_text_is : (added : Bool) → flat_map line_text (map words_declared (added_register added)) ≡ register_text (codes "dirty") (cond added 1 0)
 added_text_is true = append-nil (line_text (words_declared (record { name = codes "dirty"; size = 1 }))) ∙ declaration_text_is (codes "dirty") 1
 added_text_is false = refl
 
@@ -153,9 +153,13 @@ numbered_registers_text_is count added =
 -- ---- the whole text
 
 pub text_is : (naming : Naming) (gates : List GateView) → AreNarrow gates
-    → header_text naming ++ gates_text (flip_texts (place_by naming)) gates ≡ file_text (registers_by naming) (place_by naming) gates
-text_is (ByRole roles) gates narrow =
-    file_text_is (registers_of roles) (argument_of roles) gates (role_registers_text roles) narrow (registers_text_is roles)
-text_is (ByNumber count added) gates narrow =
-    file_text_is (converted_registers count added) (converted_place count added) gates (numbered_registers_text count added) narrow
-    (numbered_registers_text_is count added)
+    → header_text naming ++ (gates_text (flip_texts (place_by naming)) gates ++ []) ≡ file_text (registers_by naming) (place_by naming) gates
+text_is naming gates narrow =
+    ap (λ (t : List ℕ). header_text naming ++ t) (append-nil (gates_text (flip_texts (place_by naming)) gates)) ∙ by naming
+  where
+    by : (naming : Naming) → header_text naming ++ gates_text (flip_texts (place_by naming)) gates ≡ file_text (registers_by naming) (place_by naming) gates
+    by (ByRole roles) =
+        file_text_is (registers_of roles) (argument_of roles) gates (role_registers_text roles) narrow (registers_text_is roles)
+    by (ByNumber count added) =
+        file_text_is (converted_registers count added) (converted_place count added) gates (numbered_registers_text count added) narrow
+        (numbered_registers_text_is count added)

@@ -1,27 +1,21 @@
-// The writer of files. Each function puts one part of the text through the buffer.
-ghost use Rattle.std.specs.Prelude.{◌≡◌, ◌<◌, ◌≤◌, ◌++◌, true, length, codes};
+// The writer of files, piece by piece.
+ghost use Rattle.std.specs.Prelude.{◌≡◌, ◌≤◌, true, length};
 ghost use Rattle.mct_circuit.specs.Gates.{AreNarrow};
 ghost use Rattle.circuit_plans.specs.declared.plan.TheConstants.{MOST_LINES, MOST_GATES};
 ghost use Rattle.circuit_plans.specs.Plans.{roles_of};
 ghost use Rattle.revc_io.specs.Faults.{HasCause};
-ghost use Rattle.revc_io.specs.Passing.{Gathers, Writes};
-ghost use Rattle.format_parts.specs.Flips.{gates_text};
+ghost use Rattle.revc_io.specs.Passing.{Writes};
 ghost use Rattle.qasm_format.specs.Written.{file_text};
 ghost use Rattle.qasm_format.specs.Compiled.{register_name, compiled_text, MeansCompiled};
 ghost use Rattle.qasm_format.specs.Converted.{converted_text, MeansConverted};
 ghost use Rattle.qasm_format.specs.inside.Naming.{count_of, registers_by, place_by};
-ghost use Rattle.qasm_format.specs.inside.Parts.{index_text, place_text, argument_text};
-ghost use Rattle.qasm_format.specs.inside.Parts.{declaration_text, register_text};
-ghost use Rattle.qasm_format.specs.inside.Parts.{first_registers_text, last_registers_text};
-ghost use Rattle.qasm_format.specs.inside.Parts.{role_registers_text, added_text};
-ghost use Rattle.qasm_format.specs.inside.Parts.{numbered_registers_text, header_text, word_text};
-ghost use Rattle.qasm_format.specs.inside.Parts.{flip_texts};
+ghost use Rattle.qasm_format.specs.inside.Parts.{register_text, word_text};
 
-use crate::naming::{Naming, kept_lines, register_name};
-use circuit_plans::{Laid, Narrow, Role, Roles};
-use format_parts::{FlipWriter, put_gates};
+use crate::naming::{Naming, Place, added_lines, kept_lines, register_name};
+use circuit_plans::{Laid, Narrow, Role};
+use format_parts::{FlipWriter, write_circuit};
 use mct_circuit::Circuit;
-use revc_io::{Buffer, Failed, Sink, put_decimal};
+use revc_io::{Buffer, Failed, Literal, Piece, Sink};
 
 /// Writes the file of a compiled circuit in OpenQASM 2.0: its lines are those of the registers
 /// `inp`, `outp`, `work` and `dirty`, by the roles that the plan gives them. Where it fails, the
@@ -40,7 +34,7 @@ pub fn write<K: Sink>(laid: &Laid, out: &mut K) -> Result<(), Failed>
     let circuit = laid.circuit();
     // This call says that the gates are on the circuit's lines.
     let _ = circuit.lines();
-    write_text(circuit, Naming::ByRole(laid.roles()), out)
+    write_file(circuit, Naming::ByRole(laid.roles()), out)
 }
 
 /// Writes the file of a circuit in OpenQASM 2.0: its lines are those of the register `q`, and where
@@ -59,10 +53,10 @@ pub fn write_lines<K: Sink>(circuit: &Narrow, added: bool, out: &mut K) -> Resul
 {
     let circuit = circuit.circuit();
     let lines = circuit.lines();
-    write_text(circuit, Naming::ByNumber { lines, added }, out)
+    write_file(circuit, Naming::ByNumber { lines, added }, out)
 }
 
-fn write_text<K: Sink>(circuit: &Circuit, naming: Naming, out: &mut K) -> Result<(), Failed>
+fn write_file<K: Sink>(circuit: &Circuit, naming: Naming, out: &mut K) -> Result<(), Failed>
     requires fits { count_of naming ≡ circuit.now.lines }
     requires some { 1 ≤ circuit.now.lines }
     requires few { circuit.now.lines ≤ MOST_LINES }
@@ -71,175 +65,78 @@ fn write_text<K: Sink>(circuit: &Circuit, naming: Naming, out: &mut K) -> Result
         (file_text (registers_by naming) (place_by naming) circuit.now.gates) }
     ensures cause { HasCause (K.faults out.old) (K.faults out.new) result }
 {
-    let mut buffer = Buffer::new();
-    put_text(&mut buffer, out, circuit, naming)?;
-    buffer.finish(out)
-}
-
-fn put_text<K: Sink>(
-    buffer: &mut Buffer,
-    out: &mut K,
-    circuit: &Circuit,
-    naming: Naming,
-) -> Result<(), Failed>
-    requires fits { count_of naming ≡ circuit.now.lines }
-    requires some { 1 ≤ circuit.now.lines }
-    requires few { circuit.now.lines ≤ MOST_LINES }
-    requires narrow { AreNarrow circuit.now.gates }
-    ensures bytes { Gathers result (K.held out.old) (K.held out.new) buffer.old buffer.new
-        (header_text naming ++ gates_text (flip_texts (place_by naming)) circuit.now.gates) }
-    ensures cause { HasCause (K.faults out.old) (K.faults out.new) result }
-{
-    put_header(buffer, out, naming)?;
-    put_gates(buffer, out, circuit, naming)
+    write_circuit(Header(naming), circuit, naming, b"", out)
 }
 
 // ---- the head and the registers
 
-fn put_header<K: Sink>(buffer: &mut Buffer, out: &mut K, naming: Naming) -> Result<(), Failed>
-    requires { 1 ≤ count_of naming }
-    ensures bytes { Gathers result (K.held out.old) (K.held out.new) buffer.old buffer.new
-        (header_text naming) }
-    ensures cause { HasCause (K.faults out.old) (K.faults out.new) result }
-{
-    buffer.put(out, b"OPENQASM 2.0;\ninclude \"qelib1.inc\";\n")?;
-    match naming {
-        Naming::ByRole(roles) => put_role_registers(buffer, out, roles),
-        Naming::ByNumber { lines, added } => put_numbered_registers(buffer, out, lines, added),
+// What stands before the gates.
+#[derive(Clone, Copy)]
+struct Header(Naming);
+
+impl Piece for Header {
+    ghost use Rattle.std.specs.Prelude.{◌≤◌};
+    ghost use Rattle.qasm_format.specs.inside.Naming.{count_of};
+    ghost use Rattle.qasm_format.specs.inside.Parts.{header_text};
+
+    ghost can_put = { λ header. 1 ≤ count_of header.0 };
+
+    ghost bytes = { λ header. header_text header.0 };
+
+    fn put<K: Sink>(self, buffer: &mut Buffer, out: &mut K) -> Result<(), Failed> {
+        let head = b"OPENQASM 2.0;\ninclude \"qelib1.inc\";\n";
+        match self.0 {
+            Naming::ByRole(roles) => {
+                let inputs = register_of(Role::Input, roles.inputs);
+                let outputs = register_of(Role::Output, roles.outputs);
+                let work = register_of(Role::Work, roles.work);
+                let borrowed = register_of(Role::Borrowed, roles.borrowed);
+                (head, inputs, (outputs, work, borrowed)).put(buffer, out)
+            }
+            Naming::ByNumber { lines, added } => {
+                let kept = Place {
+                    name: b"q",
+                    number: kept_lines(lines, added),
+                };
+                let other = Register(Place {
+                    name: b"dirty",
+                    number: added_lines(added),
+                });
+                (head, (b"qreg ", kept, b";\n"), other).put(buffer, out)
+            }
+        }
     }
 }
 
-fn put_role_registers<K: Sink>(buffer: &mut Buffer, out: &mut K, roles: Roles) -> Result<(), Failed>
-    ensures bytes { Gathers result (K.held out.old) (K.held out.new) buffer.old buffer.new
-        (role_registers_text roles) }
-    ensures cause { HasCause (K.faults out.old) (K.faults out.new) result }
+// The register of a role's lines.
+fn register_of(role: Role, size: u32) -> Register
+    ensures { register_text result.0.name.now result.0.number
+        ≡ register_text (register_name role) size }
 {
-    put_first_registers(buffer, out, roles)?;
-    put_last_registers(buffer, out, roles)
+    Register(Place {
+        name: register_name(role),
+        number: size,
+    })
 }
 
-fn put_first_registers<K: Sink>(
-    buffer: &mut Buffer,
-    out: &mut K,
-    roles: Roles,
-) -> Result<(), Failed>
-    ensures bytes { Gathers result (K.held out.old) (K.held out.new) buffer.old buffer.new
-        (first_registers_text roles) }
-    ensures cause { HasCause (K.faults out.old) (K.faults out.new) result }
-{
-    put_register(buffer, out, Role::Input, roles.inputs)?;
-    put_register(buffer, out, Role::Output, roles.outputs)
-}
+// A register of so many lines, which is left out where it has none.
+#[derive(Clone, Copy)]
+struct Register(Place);
 
-fn put_last_registers<K: Sink>(buffer: &mut Buffer, out: &mut K, roles: Roles) -> Result<(), Failed>
-    ensures bytes { Gathers result (K.held out.old) (K.held out.new) buffer.old buffer.new
-        (last_registers_text roles) }
-    ensures cause { HasCause (K.faults out.old) (K.faults out.new) result }
-{
-    put_register(buffer, out, Role::Work, roles.work)?;
-    put_register(buffer, out, Role::Borrowed, roles.borrowed)
-}
+impl Piece for Register {
+    ghost use Rattle.std.specs.Prelude.{⊤};
+    ghost use Rattle.qasm_format.specs.inside.Parts.{register_text};
 
-// The declaration of a role's register, left out where it has no line.
-fn put_register<K: Sink>(
-    buffer: &mut Buffer,
-    out: &mut K,
-    role: Role,
-    size: u32,
-) -> Result<(), Failed>
-    ensures bytes { Gathers result (K.held out.old) (K.held out.new) buffer.old buffer.new
-        (register_text (register_name role) size) }
-    ensures cause { HasCause (K.faults out.old) (K.faults out.new) result }
-{
-    if size == 0 {
-        return Ok(());
+    ghost can_put = { λ _. ⊤ };
+
+    ghost bytes = { λ register. register_text register.0.name.now register.0.number };
+
+    fn put<K: Sink>(self, buffer: &mut Buffer, out: &mut K) -> Result<(), Failed> {
+        if self.0.number == 0 {
+            return Ok(());
+        }
+        (b"qreg ", self.0, b";\n").put(buffer, out)
     }
-    put_declaration(buffer, out, register_name(role), size)
-}
-
-fn put_numbered_registers<K: Sink>(
-    buffer: &mut Buffer,
-    out: &mut K,
-    lines: u32,
-    added: bool,
-) -> Result<(), Failed>
-    requires { 1 ≤ lines }
-    ensures bytes { Gathers result (K.held out.old) (K.held out.new) buffer.old buffer.new
-        (numbered_registers_text lines added) }
-    ensures cause { HasCause (K.faults out.old) (K.faults out.new) result }
-{
-    put_declaration(buffer, out, b"q", kept_lines(lines, added))?;
-    put_added(buffer, out, added)
-}
-
-// The declaration of an added line's register.
-fn put_added<K: Sink>(buffer: &mut Buffer, out: &mut K, added: bool) -> Result<(), Failed>
-    ensures bytes { Gathers result (K.held out.old) (K.held out.new) buffer.old buffer.new
-        (added_text added) }
-    ensures cause { HasCause (K.faults out.old) (K.faults out.new) result }
-{
-    if !added {
-        return Ok(());
-    }
-    put_declaration(buffer, out, b"dirty", 1)
-}
-
-fn put_declaration<K: Sink>(
-    buffer: &mut Buffer,
-    out: &mut K,
-    name: &[u8],
-    size: u32,
-) -> Result<(), Failed>
-    ensures bytes { Gathers result (K.held out.old) (K.held out.new) buffer.old buffer.new
-        (declaration_text name.now size) }
-    ensures cause { HasCause (K.faults out.old) (K.faults out.new) result }
-{
-    buffer.put(out, b"qreg ")?;
-    put_place(buffer, out, name, size)?;
-    buffer.put(out, b";\n")
-}
-
-// ---- places
-
-fn put_place<K: Sink>(
-    buffer: &mut Buffer,
-    out: &mut K,
-    name: &[u8],
-    number: u32,
-) -> Result<(), Failed>
-    ensures bytes { Gathers result (K.held out.old) (K.held out.new) buffer.old buffer.new
-        (place_text name.now number) }
-    ensures cause { HasCause (K.faults out.old) (K.faults out.new) result }
-{
-    buffer.put(out, name)?;
-    put_index(buffer, out, number)
-}
-
-fn put_index<K: Sink>(buffer: &mut Buffer, out: &mut K, number: u32) -> Result<(), Failed>
-    ensures bytes { Gathers result (K.held out.old) (K.held out.new) buffer.old buffer.new
-        (index_text number) }
-    ensures cause { HasCause (K.faults out.old) (K.faults out.new) result }
-{
-    buffer.put(out, b"[")?;
-    put_decimal(buffer, out, number as u64)?;
-    buffer.put(out, b"]")
-}
-
-// The place of a line in its register.
-fn put_argument<K: Sink>(
-    buffer: &mut Buffer,
-    out: &mut K,
-    naming: Naming,
-    line: u32,
-) -> Result<(), Failed>
-    requires few { count_of naming ≤ MOST_LINES }
-    requires in_range { line < count_of naming }
-    ensures bytes { Gathers result (K.held out.old) (K.held out.new) buffer.old buffer.new
-        (argument_text (place_by naming line)) }
-    ensures cause { HasCause (K.faults out.old) (K.faults out.new) result }
-{
-    let (name, number) = naming.place(line);
-    put_place(buffer, out, name, number)
 }
 
 // ---- the gates
@@ -249,37 +146,26 @@ impl FlipWriter for Naming {
     ghost use Rattle.qasm_format.specs.inside.Naming.{count_of, place_by};
     ghost use Rattle.qasm_format.specs.inside.Parts.{flip_texts};
 
+    type Word = Literal;
+
+    type Control = (Place, Literal);
+
+    type Target = (Place, Literal);
+
     ghost count = { count_of };
 
     ghost texts = { λ naming. flip_texts (place_by naming) };
 
-    fn put_word<K: Sink>(
-        self,
-        buffer: &mut Buffer,
-        out: &mut K,
-        controls: usize,
-    ) -> Result<(), Failed> {
-        buffer.put(out, gate_word(controls))
+    fn word(self, controls: usize) -> Literal {
+        Literal(gate_word(controls))
     }
 
-    fn put_control<K: Sink>(
-        self,
-        buffer: &mut Buffer,
-        out: &mut K,
-        line: u32,
-    ) -> Result<(), Failed> {
-        put_argument(buffer, out, self, line)?;
-        buffer.put(out, b",")
+    fn control(self, line: u32) -> (Place, Literal) {
+        (self.place(line), Literal(b","))
     }
 
-    fn put_target<K: Sink>(
-        self,
-        buffer: &mut Buffer,
-        out: &mut K,
-        line: u32,
-    ) -> Result<(), Failed> {
-        put_argument(buffer, out, self, line)?;
-        buffer.put(out, b";\n")
+    fn target(self, line: u32) -> (Place, Literal) {
+        (self.place(line), Literal(b";\n"))
     }
 }
 

@@ -1,4 +1,3 @@
-pub mod LoopLemmas
 pub mod MeaningLemmas
 pub mod NameLemmas
 pub mod MarkLemmas

@@ -4,12 +4,14 @@ use Rattle.std.proofs.Common.{arith, inl, inr, Some, slice_get}
 use Rattle.std.specs.List.{AllByRecursion, list_all, range_with_len}
 use Rattle.std.specs.Fmt.{decimal}
 use Rattle.std.proofs.lemmas.Fmt.{decimal_by_steps, decimal_injective, decimal_nonempty, length-decimal-le}
+use Rattle.std.proofs.lemmas.List.{length-map}
 use Rattle.std.proofs.lemmas.List.FromFn.{length-map-range_with_len}
 use Rattle.std.proofs.lemmas.List.Folds.{list_all-append}
 use Rattle.std.proofs.lemmas.Bool.{cases_lt, lt-ltb, ne_eqb}
 use Rattle.std.proofs.lemmas.Bool.Decides.{nat_tests}
 use Rattle.list_facts.proofs.AllLemmas.{AllByRecursion-range}
 use Rattle.list_facts.specs.Lists.{AreApart}
+use Rattle.revc_io.proofs.PieceLemmas.{mapped_at}
 use Rattle.real_format.specs.Words.{is_word_byte, is_comment}
 use Rattle.real_format.specs.Header.{IsName, AreNames}
 use Rattle.circuit_plans.specs.declared.roles.Roles.{Roles}
@@ -172,3 +174,11 @@ names_are_words name count good = AllByRecursion-range IsWord name 0 count (λ i
 -- the name of a line of the circuit stands at its place
 pub name_at : (name : ℕ → List ℕ) (count line : ℕ) → line < count → slice_get (names_by name count) line ≡ Some (name line)
 name_at name count line h = slice_get-range name 0 count line h ∙ ap (λ k. Some (name k)) (omega arith)
+
+-- the names of all lines, each behind a space
+pub length-spaced_names : (name : ℕ → List ℕ) (count : ℕ) → length (map (λ w. 32 ∷ w) (names_by name count)) ≡ count
+length-spaced_names name count = length-map (names_by name count) (λ w. 32 ∷ w) ∙ length-names_by name count
+
+pub spaced_name_at : (name : ℕ → List ℕ) (count line : ℕ) → line < count
+    → slice_get (map (λ w. 32 ∷ w) (names_by name count)) line ≡ Some (32 ∷ name line)
+spaced_name_at name count line h = mapped_at (λ w. 32 ∷ w) (names_by name count) line (name line) (name_at name count line h)

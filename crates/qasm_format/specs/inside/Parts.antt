@@ -12,38 +12,28 @@ use Rattle.qasm_format.specs.Written.{gate_word}
 use Rattle.qasm_format.specs.Compiled.{register_name}
 use Rattle.qasm_format.specs.Converted.{kept_lines}
 
-abbrev pub index_text : ℕ → List ℕ
-index_text number = codes "[" ++ (decimal number ++ codes "]")
-
 -- a name and a number in square brackets
 abbrev pub place_text : List ℕ → ℕ → List ℕ
-place_text name number = name ++ index_text number
+place_text name number = name ++ (codes "[" ++ (decimal number ++ codes "]"))
 
 abbrev pub declaration_text : List ℕ → ℕ → List ℕ
 declaration_text name size = codes "qreg " ++ (place_text name size ++ codes ";\n")
 
+-- left out where it has no line
 abbrev pub register_text : List ℕ → ℕ → List ℕ
 register_text name size = if size == 0 then [] else declaration_text name size
 
-abbrev pub first_registers_text : Roles → List ℕ
-first_registers_text roles =
-    register_text (register_name Input) roles.inputs
-    ++ register_text (register_name Output) roles.outputs
-
-abbrev pub last_registers_text : Roles → List ℕ
-last_registers_text roles =
-    register_text (register_name Work) roles.work
-    ++ register_text (register_name Borrowed) roles.borrowed
-
 abbrev pub role_registers_text : Roles → List ℕ
-role_registers_text roles = first_registers_text roles ++ last_registers_text roles
-
-abbrev pub added_text : Bool → List ℕ
-added_text added = if added then declaration_text (codes "dirty") 1 else []
+role_registers_text roles =
+    register_text (register_name Input) roles.inputs
+    ++ (register_text (register_name Output) roles.outputs
+    ++ (register_text (register_name Work) roles.work
+    ++ register_text (register_name Borrowed) roles.borrowed))
 
 abbrev pub numbered_registers_text : ℕ → Bool → List ℕ
 numbered_registers_text count added =
-    declaration_text (codes "q") (kept_lines count added) ++ added_text added
+    declaration_text (codes "q") (kept_lines count added)
+    ++ register_text (codes "dirty") (if added then 1 else 0)
 
 abbrev pub registers_text : Naming → List ℕ
 registers_text (ByRole roles) = role_registers_text roles

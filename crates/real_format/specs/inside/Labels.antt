@@ -1,7 +1,8 @@
 -- What a written file says of its lines: how many they are, their names and their marks.
-use Rattle.std.specs.Prelude.{ℕ, Bool, false, List, length, map, replicate}
+use Rattle.std.specs.Prelude.{◌≡◌, ℕ, ◌≤◌, Bool, false, List, length, map, replicate}
 use Rattle.circuit_plans.specs.declared.roles.Role.{Role}
 use Rattle.circuit_plans.specs.declared.roles.Role.TheVariants.{Input, Output, Work, Borrowed}
+use Rattle.circuit_plans.specs.declared.plan.TheConstants.{MOST_LINES}
 use Rattle.circuit_plans.specs.Plans.{lines_in}
 use Rattle.real_format.specs.declared.file.Mark.{Mark}
 use Rattle.real_format.specs.declared.file.Mark.TheVariants.{Free, Zero}
@@ -32,6 +33,11 @@ constants_by (ByNumber constants garbage) = constants.now
 abbrev pub garbage_by : Labels → List Bool
 garbage_by (ByRole roles) = replicate (lines_in roles) false
 garbage_by (ByNumber constants garbage) = garbage.now
+
+-- the lines are within the limit, and each has its marks
+abbrev pub HasMarks : Labels → Type 0
+HasMarks labels =
+    (count_of labels ≤ MOST_LINES) × (length (garbage_by labels) ≡ count_of labels)
 
 -- the bytes of the marks of a kind
 abbrev pub mark_bytes : Labels → MarkKind → List ℕ

@@ -1,6 +1,6 @@
 use Rattle.real_format.specs.Header.{constant_byte, garbage_byte}
 use Rattle.real_format.specs.inside.Labels.{constants_by, garbage_by}
-use Rattle.real_format.proofs.MarkLemmas.{mapped_at}
+use Rattle.revc_io.proofs.PieceLemmas.{mapped_at}
 use Rattle.real_format.proofs.labels.Labels.byte.Goals as goal
 
 pub returns-in-Constants : goal.returns-in-Constants
