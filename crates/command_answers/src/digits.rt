@@ -1,24 +1,21 @@
 // Bits as digits, and numbers in lines. Nothing here takes memory.
-ghost use Rattle.std.specs.Prelude.{◌≡◌, ◌↔◌, ◌++◌, IsTrue, codes, if◌then◌else◌};
+ghost use Rattle.std.specs.Prelude.{◌≡◌, ◌↔◌, ◌++◌, IsTrue, if◌then◌else◌};
 ghost use Rattle.std.specs.Fmt.{decimal};
-ghost use Rattle.revc_io.specs.Faults.{HasCause};
-ghost use Rattle.revc_io.specs.Passing.{Gathers, Writes};
 ghost use Rattle.std.specs.List.{flat_map};
+ghost use Rattle.revc_io.specs.Faults.{HasCause};
+ghost use Rattle.revc_io.specs.Passing.{Writes};
 ghost use Rattle.command_answers.specs.BitWords.{IsInputWord};
-ghost use Rattle.command_answers.specs.Lines.{bits_text, digits_of, number_line};
+ghost use Rattle.command_answers.specs.Lines.{bits_text, number_line};
 
 use revc_base::Bits;
-use revc_io::{Buffer, Failed, Sink, put_decimal};
+use revc_io::{Buffer, Byte, Decimal, Each, Failed, Piece, Pieces, Sink, write_whole};
 
 /// Writes bits as digits, and a line feed.
 pub fn write_digits<K: Sink>(bits: &[bool], out: &mut K) -> Result<(), Failed>
-    ensures bytes { Writes result (K.held out.old) (K.held out.new)
-        (digits_of bits.now ++ codes "\n") }
+    ensures bytes { Writes result (K.held out.old) (K.held out.new) (bits_text bits.now) }
     ensures cause { HasCause (K.faults out.old) (K.faults out.new) result }
 {
-    let mut buffer = Buffer::new();
-    put_line_of_digits(&mut buffer, out, bits)?;
-    buffer.finish(out)
+    write_whole(BitLine(bits), out)
 }
 
 /// Writes lists of bits as digits, a line for each.
@@ -27,20 +24,7 @@ pub fn write_lines<K: Sink>(lines: &[Bits], out: &mut K) -> Result<(), Failed>
         (flat_map bits_text lines.now) }
     ensures cause { HasCause (K.faults out.old) (K.faults out.new) result }
 {
-    let mut buffer = Buffer::new();
-    put_lines(&mut buffer, out, lines)?;
-    buffer.finish(out)
-}
-
-fn put_lines<K: Sink>(buffer: &mut Buffer, out: &mut K, lines: &[Bits]) -> Result<(), Failed>
-    ensures bytes { Gathers result (K.held out.old) (K.held out.new) buffer.old buffer.new
-        (flat_map bits_text lines.now) }
-    ensures cause { HasCause (K.faults out.old) (K.faults out.new) result }
-{
-    for bits in lines {
-        put_line_of_digits(buffer, out, bits.bits())?;
-    }
-    Ok(())
+    write_whole(Each(BitLines(lines)), out)
 }
 
 /// Writes a decimal number between two pieces of text.
@@ -54,9 +38,7 @@ pub fn write_number<K: Sink>(
         (head.now ++ (decimal number ++ tail.now)) }
     ensures cause { HasCause (K.faults out.old) (K.faults out.new) result }
 {
-    let mut buffer = Buffer::new();
-    put_number(&mut buffer, out, head, number, tail)?;
-    buffer.finish(out)
+    write_whole((head, Decimal(number), tail), out)
 }
 
 /// Writes numbers behind words, a line for each.
@@ -65,49 +47,47 @@ pub fn write_numbers<K: Sink>(lines: &[(&[u8], u64)], out: &mut K) -> Result<(),
         (flat_map (λ line. number_line line.0.now line.1) lines.now) }
     ensures cause { HasCause (K.faults out.old) (K.faults out.new) result }
 {
-    let mut buffer = Buffer::new();
-    put_numbers(&mut buffer, out, lines)?;
-    buffer.finish(out)
+    write_whole(Each(NumberLines(lines)), out)
 }
 
-fn put_numbers<K: Sink>(
-    buffer: &mut Buffer,
-    out: &mut K,
-    lines: &[(&[u8], u64)],
-) -> Result<(), Failed>
-    ensures bytes { Gathers result (K.held out.old) (K.held out.new) buffer.old buffer.new
-        (flat_map (λ line. number_line line.0.now line.1) lines.now) }
-    ensures cause { HasCause (K.faults out.old) (K.faults out.new) result }
-{
-    for (word, number) in lines {
-        put_number(buffer, out, word, *number, b"\n")?;
+/// Bits as digits, and a line feed.
+#[derive(Clone, Copy)]
+pub(crate) struct BitLine<'a>(pub &'a [bool]);
+
+impl Piece for BitLine<'_> {
+    ghost use Rattle.std.specs.Prelude.{⊤};
+    ghost use Rattle.command_answers.specs.Lines.{bits_text};
+
+    ghost can_put = { λ _. ⊤ };
+
+    ghost bytes = { λ line. bits_text line.0.now };
+
+    fn put<K: Sink>(self, buffer: &mut Buffer, out: &mut K) -> Result<(), Failed> {
+        (Each(Digits(self.0)), b"\n").put(buffer, out)
     }
-    Ok(())
 }
 
-/// Puts bits as digits, and a line feed.
-pub fn put_line_of_digits<K: Sink>(
-    buffer: &mut Buffer,
-    out: &mut K,
-    bits: &[bool],
-) -> Result<(), Failed>
-    ensures bytes { Gathers result (K.held out.old) (K.held out.new) buffer.old buffer.new
-        (digits_of bits.now ++ codes "\n") }
-    ensures cause { HasCause (K.faults out.old) (K.faults out.new) result }
-{
-    put_digits(buffer, out, bits)?;
-    buffer.put(out, b"\n")
-}
+// The digits of bits.
+#[derive(Clone, Copy)]
+struct Digits<'a>(&'a [bool]);
 
-fn put_digits<K: Sink>(buffer: &mut Buffer, out: &mut K, bits: &[bool]) -> Result<(), Failed>
-    ensures bytes { Gathers result (K.held out.old) (K.held out.new) buffer.old buffer.new
-        (digits_of bits.now) }
-    ensures cause { HasCause (K.faults out.old) (K.faults out.new) result }
-{
-    for bit in bits {
-        buffer.put(out, &[digit(*bit)])?;
+impl Pieces for Digits<'_> {
+    ghost use Rattle.std.specs.Prelude.{⊤, [], ◌∷◌, map};
+    ghost use Rattle.command_answers.specs.Lines.{digits_of};
+
+    type Item = Byte;
+
+    ghost can_put_each = { λ _. ⊤ };
+
+    ghost list = { λ digits. map (λ byte. byte ∷ []) (digits_of digits.0.now) };
+
+    fn len(self) -> usize {
+        self.0.len()
     }
-    Ok(())
+
+    fn at(self, place: usize) -> Byte {
+        Byte(digit(self.0[place]))
+    }
 }
 
 fn digit(bit: bool) -> u8
@@ -116,21 +96,51 @@ fn digit(bit: bool) -> u8
     if bit { b'1' } else { b'0' }
 }
 
-/// Puts a decimal number between two pieces of text.
-pub fn put_number<K: Sink>(
-    buffer: &mut Buffer,
-    out: &mut K,
-    head: &[u8],
-    number: u64,
-    tail: &[u8],
-) -> Result<(), Failed>
-    ensures bytes { Gathers result (K.held out.old) (K.held out.new) buffer.old buffer.new
-        (head.now ++ (decimal number ++ tail.now)) }
-    ensures cause { HasCause (K.faults out.old) (K.faults out.new) result }
-{
-    buffer.put(out, head)?;
-    put_decimal(buffer, out, number)?;
-    buffer.put(out, tail)
+// A line for each list of bits.
+#[derive(Clone, Copy)]
+struct BitLines<'a>(&'a [Bits]);
+
+impl<'a> Pieces for BitLines<'a> {
+    ghost use Rattle.std.specs.Prelude.{⊤, map};
+    ghost use Rattle.command_answers.specs.Lines.{bits_text};
+
+    type Item = BitLine<'a>;
+
+    ghost can_put_each = { λ _. ⊤ };
+
+    ghost list = { λ lines. map bits_text lines.0.now };
+
+    fn len(self) -> usize {
+        self.0.len()
+    }
+
+    fn at(self, place: usize) -> BitLine<'a> {
+        BitLine(self.0[place].bits())
+    }
+}
+
+// A line for each word and its number.
+#[derive(Clone, Copy)]
+struct NumberLines<'a>(&'a [(&'a [u8], u64)]);
+
+impl<'a> Pieces for NumberLines<'a> {
+    ghost use Rattle.std.specs.Prelude.{⊤, map};
+    ghost use Rattle.command_answers.specs.Lines.{number_line};
+
+    type Item = (&'a [u8], Decimal, Byte);
+
+    ghost can_put_each = { λ _. ⊤ };
+
+    ghost list = { λ lines. map (λ line. number_line line.0.now line.1) lines.0.now };
+
+    fn len(self) -> usize {
+        self.0.len()
+    }
+
+    fn at(self, place: usize) -> (&'a [u8], Decimal, Byte) {
+        let (word, number) = self.0[place];
+        (word, Decimal(number), Byte(b'\n'))
+    }
 }
 
 /// Whether a word has so many digits 0 and 1, and nothing else. It takes no memory.

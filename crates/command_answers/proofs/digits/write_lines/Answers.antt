@@ -1,7 +1,10 @@
-use Rattle.revc_io.proofs.PassingLemmas.{whole_gathered, finish_call}
+use Rattle.std.proofs.Common.{subst}
+use Rattle.revc_io.specs.Passing.{Writes}
+use Rattle.revc_io.proofs.PieceLemmas.{joined_is}
+use Rattle.command_answers.specs.Lines.{bits_text}
 use Rattle.command_answers.proofs.digits.write_lines.Goals as goal
 
 pub returns-clause-bytes : goal.returns-clause-bytes
 returns-clause-bytes g c =
-    let put = rw c.new-buffer.ensures at c.in_ok-put_lines.ensures.bytes in
-    finish_call _ _ c.finish.ensures.bytes (whole_gathered put)
+    subst (Writes c.write_whole.result (g.K.Sink.held c.args.out.now) (g.K.Sink.held c.write_whole.new.out))
+    (joined_is bits_text c.args.lines.now) c.write_whole.ensures.bytes
