@@ -18,6 +18,8 @@ use Rattle.real_format.specs.inside.Reading.{and_then, lines_of_controls, contro
 use Rattle.real_format.proofs.InversionLemmas.{and_ok, same_ok, and_limit, ok_no_limit}
 use Rattle.real_format.specs.Header.{AreNames}
 use Rattle.real_format.proofs.ShapeLemmas.{shape, gate_word_is}
+use Rattle.real_format.specs.inside.Stamps.{is_stamped, AreStamped}
+use Rattle.real_format.proofs.StampLemmas.{op_of-stamped}
 use Rattle.real_format.proofs.GateLemmas.{line_inside, controls_are, are_controls, controls_long, long_controls, IsTargets, op_is, is_op, op_long, long_op}
 
 targets_so : (word : List ℕ) (controls targets : ℕ) → IsGateWord word controls targets → IsTargets targets
@@ -63,6 +65,15 @@ gate_made names wanted targets words rest controls op e f =
     let c = controls_are names wanted [] words controls rest e in
     let o = op_is names targets (lines_of_controls controls) rest op f in
     record { different = o.different (c.different tt); in_range = o.inside (c.inside tt) }
+
+-- a gate whose controls and changed lines were read with stamps stands on the lines
+pub gate_stands : (names : List (List ℕ)) (wanted targets : ℕ) (stamps : List ℕ) (stamp : ℕ) (words rest : List (List ℕ)) (controls : List Control) (op : Op)
+    → length stamps ≡ length names → AreStamped stamps stamp (lines_of_controls controls) → controls_from names wanted [] words ≡ Ok (controls, rest)
+    → op_of names targets (is_stamped stamps stamp) rest ≡ Ok op
+    → IsGateOn (length names) (let g : GateView = record { controls = controls; op = op } in g)
+gate_stands names wanted targets stamps stamp words rest controls op fit are read last =
+    gate_made names wanted targets words rest controls op read
+    (sym (op_of-stamped names targets stamps (lines_of_controls controls) stamp rest fit are) ∙ last)
 
 lines_inside : (names : List (List ℕ)) (words : List (List ℕ)) (lines : List ℕ) → AreApart (λ one other. one ≡ other) names
     → AllZip (NamesLine names) words lines

@@ -20,7 +20,7 @@ use crate::refusal::LineRefusal;
 use crate::words::{Lines, Words};
 use circuit_plans::MOST_GATES;
 use format_parts::Names;
-use mct_circuit::{Circuit, Gate};
+use mct_circuit::{Circuit, Gate, GateFault};
 use revc_base::Text;
 use std::alloc::Global;
 
@@ -233,7 +233,8 @@ fn push_gate(circuit: &mut Circuit, gate: Gate) -> Result<(), LineRefusal>
 {
     match circuit.push(gate) {
         Ok(()) => Ok(()),
-        Err(_) => Err(LineRefusal::Memory),
+        Err(GateFault::Memory) => Err(LineRefusal::Memory),
+        Err(GateFault::Full) => unreachable!(),
     }
 }
 

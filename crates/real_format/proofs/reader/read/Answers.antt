@@ -1,5 +1,5 @@
 use Rattle.real_format.specs.Faults.{IsRealFault}
-use Rattle.revc_base.proofs.ResultLemmas.{passes_on, no_value}
+use Rattle.revc_base.proofs.ResultLemmas.{passes_on}
 use Rattle.real_format.proofs.ReadLemmas.{header_refused, file_refused, file_read}
 use Rattle.real_format.proofs.reader.read.Goals as goal
 
@@ -17,6 +17,3 @@ pub returns-clause-err : goal.returns-clause-err
 returns-clause-err c =
     file_refused c.args.bytes.now c.new-lines.result c.read_header.new.lines c.in_ok-begun.begun c.read_file.result c.new-lines.ensures
     c.in_ok-begun.ensures.ok c.read_file.ensures.err
-
-pub returns-in_err-begun-clause-ok : goal.returns-in_err-begun-clause-ok
-returns-in_err-begun-clause-ok c = no_value c.from_residual.result _ _ c.from_residual.ensures.1
