@@ -25,7 +25,7 @@ use crate::said::Said;
 use crate::spots::{Spot, all_different, count_of};
 use crate::words::{RegisterKind, Use, is_free, is_include, is_word, kind_of, use_of};
 use circuit_plans::{MOST_GATES, MOST_LINES};
-use mct_circuit::{Circuit, Control, Gate, Op};
+use mct_circuit::{Circuit, Control, Gate, GateFault, Op};
 use qasm_lexer::{MOST_DIGITS, Token, Tokens, is_identifier, is_number};
 use revc_base::limits::MOST_NAME_BYTES;
 use revc_base::{Memory, Place};
@@ -82,7 +82,8 @@ fn circuit_of(alloc: Global, lines: u32, gates: &mut Vec<Gate>) -> Result<Circui
     let mut circuit = Circuit::new(alloc, lines, MOST_GATES);
     match circuit.append(gates) {
         Ok(()) => Ok(circuit),
-        Err(_) => Err(Memory),
+        Err(GateFault::Memory) => Err(Memory),
+        Err(GateFault::Full) => unreachable!(),
     }
 }
 

@@ -1,5 +1,4 @@
 use Rattle.qasm_format.proofs.SpreadLemmas.{gate_is_different, pushed_more}
-use Rattle.revc_base.proofs.ResultLemmas.{no_promise}
 use Rattle.qasm_format.proofs.reader.push_gates.Goals as goal
 
 pub gate_at-requires-clause-different : goal.gate_at-requires-clause-different
@@ -11,9 +10,3 @@ pub loop-i-preserved : goal.loop-i-preserved
 loop-i-preserved c =
     pushed_more c.in-Some.controls.now c.in-Some.target.now c.loop-i.i _ _ _ c.in_ok-gate_at.field-0 c.loop-i.invariant c.in_ok-gate_at.ensures
     c.in_ok-push.ensures.items
-
-pub returns-in_err-gate_at : goal.returns-in_err-gate_at
-returns-in_err-gate_at c = no_promise c.from_residual.result _ _ c.from_residual.ensures.1
-
-pub returns-in_err-push : goal.returns-in_err-push
-returns-in_err-push c = no_promise c.from_residual-in_err-push.result _ _ c.from_residual-in_err-push.ensures.1

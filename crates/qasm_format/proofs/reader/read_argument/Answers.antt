@@ -1,14 +1,11 @@
 use Rattle.std.proofs.Common.{sym, ◌∙◌, codes}
 use Rattle.qasm_format.specs.inside.Says.{StopsAtArgument}
-use Rattle.revc_base.proofs.ResultLemmas.{passes_on, no_value}
+use Rattle.revc_base.proofs.ResultLemmas.{passes_on}
 use Rattle.qasm_format.proofs.PassingLemmas.{fault_becomes, value_becomes}
 use Rattle.qasm_format.proofs.ReadingLemmas.{same_word, other_word}
 use Rattle.qasm_format.proofs.ArgumentLemmas.{Opens, unnamed, no_name, whole_read, opened, line_read, index_stops}
 use Rattle.qasm_format.proofs.reader.read_argument.Goals as goal
 use Rattle.qasm_format.proofs.reader.read_argument.Goals.{After-read_index}
-
-pub returns-in_err-name-clause-ok : goal.returns-in_err-name-clause-ok
-returns-in_err-name-clause-ok c = no_value c.from_residual.result _ _ c.from_residual.ensures.1
 
 pub returns-in_err-name-clause-err : goal.returns-in_err-name-clause-err
 returns-in_err-name-clause-err c =

@@ -1,15 +1,15 @@
-use Rattle.std.proofs.Common.{sym, ◌∙◌, subst, arith}
+use Rattle.std.proofs.Common.{sym, ◌∙◌, subst}
 use Rattle.std.proofs.lemmas.Bool.{false≢true}
 use Rattle.mct_circuit.specs.Gates.{AreGatesOn}
 use Rattle.qasm_format.specs.Registers.{lines_of_all}
-use Rattle.qasm_format.specs.Stages.{wants_name, starts, HasRoom}
+use Rattle.qasm_format.specs.Stages.{wants_name, starts}
 use Rattle.qasm_format.specs.Qasm.{Reads}
 use Rattle.qasm_format.specs.Faults.{IsStop}
 use Rattle.qasm_format.specs.inside.Names.{DeclaredView}
 use Rattle.qasm_format.specs.inside.Says.{said_of}
-use Rattle.revc_base.proofs.ResultLemmas.{passes_on, no_promise}
+use Rattle.revc_base.proofs.ResultLemmas.{passes_on}
 use Rattle.qasm_format.proofs.ReadingLemmas.{reads_then, stops_later}
-use Rattle.qasm_format.proofs.StageLemmas.{some_identifier, fault_at_name, kept_at_name, reads_name}
+use Rattle.qasm_format.proofs.StageLemmas.{fault_at_name, kept_at_name, reads_name}
 use Rattle.qasm_format.proofs.DeclaredLemmas.{among_has, none_has, not_among}
 use Rattle.qasm_format.proofs.DeclarationLemmas.{free_is_name, name_is_free, gates_stay_on}
 use Rattle.qasm_format.proofs.reader.read_declaration.Goals as goal
@@ -28,9 +28,6 @@ pub returns-then-has-clause-err : goal.returns-then-has-clause-err
 returns-then-has-clause-err c =
     kept_at_name c.args.kind (said_of c.args.said.now) c.in_ok-name.ensures.ok
     (λ named fresh. fresh (among_has _ _ (sym c.has.ensures ∙ c.if-has.true)))
-
-pub push-requires-clause-fresh : goal.push-requires-clause-fresh
-push-requires-clause-fresh c = sym c.has.ensures ∙ c.if-has.false
 
 pub returns-in_err-size-clause-err : goal.returns-in_err-size-clause-err
 returns-in_err-size-clause-err c =
@@ -56,35 +53,3 @@ returns-clause-sound c = record {
       c.requires.placed);
   few = c.requires.few;
 }
-
-pub returns-in_err-name-clause-ok : goal.returns-in_err-name-clause-ok
-returns-in_err-name-clause-ok c = no_promise c.from_residual.result _ _ c.from_residual.ensures.1
-
-pub returns-in_err-name-clause-sound : goal.returns-in_err-name-clause-sound
-returns-in_err-name-clause-sound c = no_promise c.from_residual.result _ _ c.from_residual.ensures.1
-
-pub returns-in_err-size-clause-ok : goal.returns-in_err-size-clause-ok
-returns-in_err-size-clause-ok c = no_promise c.from_residual-in_err-size.result _ _ c.from_residual-in_err-size.ensures.1
-
-pub returns-in_err-size-clause-sound : goal.returns-in_err-size-clause-sound
-returns-in_err-size-clause-sound c = no_promise c.from_residual-in_err-size.result _ _ c.from_residual-in_err-size.ensures.1
-
-pub returns-in_err-push-clause-ok : goal.returns-in_err-push-clause-ok
-returns-in_err-push-clause-ok c = no_promise c.from_residual-in_err-push.result _ _ c.from_residual-in_err-push.ensures.1
-
-pub returns-in_err-push-clause-sound : goal.returns-in_err-push-clause-sound
-returns-in_err-push-clause-sound c = no_promise c.from_residual-in_err-push.result _ _ c.from_residual-in_err-push.ensures.1
-
-pub returns-in_err-push-clause-err : goal.returns-in_err-push-clause-err
-returns-in_err-push-clause-err c =
-    passes_on (IsStop c.args.tokens.now (wants_name c.args.kind (said_of c.args.said.now))) c.from_residual-in_err-push.result
-    c.from_residual-in_err-push.ensures.1 tt
-
-pub push-requires-clause-room : goal.push-requires-clause-room
-push-requires-clause-room c = subst (HasRoom c.args.kind c.in_ok-size.size) c.lines.ensures.lines c.in_ok-size.ensures.ok.room
-
-pub is_free-requires : goal.is_free-requires
-is_free-requires c = some_identifier _ c.in_ok-name.ensures.ok.spelled
-
-pub take_size-requires : goal.take_size-requires
-take_size-requires c = omega (arith, c.lines.ensures.lines, c.lines.ensures.few)

@@ -1,13 +1,12 @@
-use Rattle.std.proofs.Common.{◌≤◌, List, [], length, sym, subst, refl, arith}
+use Rattle.std.proofs.Common.{List, [], sym, subst, refl}
 use Rattle.std.specs.List.{AllByRecursion}
-use Rattle.qasm_format.specs.declared.file.QasmFault.{QasmFault}
 use Rattle.qasm_format.specs.declared.spots.Spot.{Spot}
 use Rattle.qasm_format.specs.declared.words.Use.TheVariants.{Flip}
 use Rattle.qasm_format.specs.Stages.{wants_argument}
 use Rattle.qasm_format.specs.Faults.{IsStop}
-use Rattle.qasm_format.specs.inside.Says.{said_of, AddsGates, IsGateFault, SpotBelow}
-use Rattle.qasm_format.proofs.PassingLemmas.{fault_becomes, ok_becomes}
-use Rattle.revc_base.proofs.ResultLemmas.{passes_on, no_promise}
+use Rattle.qasm_format.specs.inside.Says.{said_of, AddsGates, SpotBelow}
+use Rattle.qasm_format.proofs.PassingLemmas.{ok_becomes}
+use Rattle.revc_base.proofs.ResultLemmas.{passes_on}
 use Rattle.qasm_format.proofs.ArgumentLemmas.{all_below_most, sound_after}
 use Rattle.qasm_format.proofs.reader.read_gate.Goals as goal
 
@@ -15,11 +14,6 @@ pub returns-in_err-end-clause-err : goal.returns-in_err-end-clause-err
 returns-in_err-end-clause-err c =
     passes_on (IsStop c.args.tokens.now (wants_argument (Flip c.args.controls) [] (said_of c.args.said.now))) c.from_residual.result
     c.from_residual.ensures.1 (c.in_err-end.ensures.err.says (said_of c.args.said.now) refl)
-
-pub add_gates-requires-clause-some : goal.add_gates-requires-clause-some
-add_gates-requires-clause-some c =
-    let counted = c.in_ok-end.ensures.ok.counted in
-    subst (λ (ss : List Spot). 1 ≤ length ss) (sym c.deref.ensures.value) (omega arith)
 
 pub add_gates-requires-clause-below : goal.add_gates-requires-clause-below
 add_gates-requires-clause-below c =
@@ -40,15 +34,3 @@ returns-clause-sound c =
     let both = sound_after _ c.args.said.now.gates.items c.add_gates.new.gates.items _ c.requires.sound.placed c.in_ok-end.ensures.ok.below
     (subst (λ (ss : List Spot). AddsGates ss c.args.said.now.gates.items c.add_gates.new.gates.items) c.deref.ensures.value adds) in
     record { placed = both.0; few = both.1 })
-
-pub returns-clause-err : goal.returns-clause-err
-returns-clause-err c =
-    fault_becomes _ _ c.add_gates.result c.add_gates.ensures.err
-    (λ (fault : QasmFault) stops. c.in_ok-end.ensures.ok.fails (said_of c.args.said.now) fault refl
-    (subst (λ (ss : List Spot). IsGateFault c.in_ok-end.end ss c.args.said.now.gates.items fault) c.deref.ensures.value stops))
-
-pub returns-in_err-end-clause-ok : goal.returns-in_err-end-clause-ok
-returns-in_err-end-clause-ok c = no_promise c.from_residual.result _ _ c.from_residual.ensures.1
-
-pub returns-in_err-end-clause-sound : goal.returns-in_err-end-clause-sound
-returns-in_err-end-clause-sound c = no_promise c.from_residual.result _ _ c.from_residual.ensures.1

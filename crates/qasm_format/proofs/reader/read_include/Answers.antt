@@ -1,14 +1,8 @@
 use Rattle.qasm_format.specs.Stages.{wants_library}
 use Rattle.qasm_format.specs.Faults.{IsStop}
 use Rattle.qasm_format.specs.inside.Says.{said_of}
-use Rattle.revc_base.proofs.ResultLemmas.{passes_on, no_promise}
+use Rattle.revc_base.proofs.ResultLemmas.{passes_on}
 use Rattle.qasm_format.proofs.reader.read_include.Goals as goal
-
-pub returns-in_err-take_words-clause-ok : goal.returns-in_err-take_words-clause-ok
-returns-in_err-take_words-clause-ok c = no_promise c.from_residual.result _ _ c.from_residual.ensures.1
-
-pub returns-in_err-take_words-clause-sound : goal.returns-in_err-take_words-clause-sound
-returns-in_err-take_words-clause-sound c = no_promise c.from_residual.result _ _ c.from_residual.ensures.1
 
 pub returns-in_err-take_words-clause-err : goal.returns-in_err-take_words-clause-err
 returns-in_err-take_words-clause-err c =

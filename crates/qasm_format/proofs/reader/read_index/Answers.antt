@@ -1,11 +1,8 @@
 use Rattle.std.proofs.Common.{arith}
 use Rattle.qasm_format.specs.inside.Says.{StopsAtIndex}
-use Rattle.revc_base.proofs.ResultLemmas.{passes_on, no_value}
+use Rattle.revc_base.proofs.ResultLemmas.{passes_on}
 use Rattle.qasm_format.proofs.ArgumentLemmas.{no_index, beyond, unclosed, index_read}
 use Rattle.qasm_format.proofs.reader.read_index.Goals as goal
-
-pub returns-in_err-index-clause-ok : goal.returns-in_err-index-clause-ok
-returns-in_err-index-clause-ok c = no_value c.from_residual.result _ _ c.from_residual.ensures.1
 
 pub returns-in_err-index-clause-err : goal.returns-in_err-index-clause-err
 returns-in_err-index-clause-err c =
@@ -14,9 +11,6 @@ returns-in_err-index-clause-err c =
 
 pub returns-then-index-span-clause-err : goal.returns-then-index-span-clause-err
 returns-then-index-span-clause-err c = beyond _ _ c.in_ok-index.at c.in_ok-index.index _ _ c.in_ok-index.ensures.ok (omega arith)
-
-pub returns-in_err-take_word-clause-ok : goal.returns-in_err-take_word-clause-ok
-returns-in_err-take_word-clause-ok c = no_value c.from_residual-in_err-take_word.result _ _ c.from_residual-in_err-take_word.ensures.1
 
 pub returns-in_err-take_word-clause-err : goal.returns-in_err-take_word-clause-err
 returns-in_err-take_word-clause-err c =

@@ -2,7 +2,7 @@ use Rattle.std.proofs.Common.{◌+◌, List, [], ◌∷◌, length, sym, ap, ◌
 use Rattle.std.proofs.lemmas.List.{length-append}
 use Rattle.qasm_format.specs.declared.spots.Spot.{Spot}
 use Rattle.qasm_format.specs.inside.Says.{StopsAtSpots}
-use Rattle.revc_base.proofs.ResultLemmas.{passes_on, no_value}
+use Rattle.revc_base.proofs.ResultLemmas.{passes_on}
 use Rattle.qasm_format.proofs.ReadingLemmas.{same_word, other_word}
 use Rattle.qasm_format.proofs.ArgumentLemmas.{InGate, gate_begun, gate_more, gate_stops, argument_fails, gate_open, spots_read}
 use Rattle.qasm_format.proofs.reader.read_spots.Goals as goal
@@ -13,9 +13,6 @@ loop-k-init c = record {
       (sym c.requires.none) (gate_begun c.args.tokens.now c.args.declared.now.registers c.args.controls);
   counted = ap length c.requires.none;
 }
-
-pub returns-in_err-comma-clause-ok : goal.returns-in_err-comma-clause-ok
-returns-in_err-comma-clause-ok c = no_value c.from_residual.result _ _ c.from_residual.ensures.1
 
 pub returns-in_err-comma-clause-err : goal.returns-in_err-comma-clause-err
 returns-in_err-comma-clause-err c =
@@ -39,9 +36,6 @@ loop-k-preserved c =
           (same_word c.in_ok-comma.comma.word.now (codes ",") (sym c.is_word.ensures ∙ c.if-not-is_word.false)) (omega arith));
       counted = ap length read.pushed ∙ length-append c.loop-k.spots.items (read.spot ∷ []) ∙ ap (λ n. n + 1) counted;
     }
-
-pub returns-in_err-end-clause-ok : goal.returns-in_err-end-clause-ok
-returns-in_err-end-clause-ok c = no_value c.from_residual-in_err-end.result _ _ c.from_residual-in_err-end.ensures.1
 
 pub returns-in_err-end-clause-err : goal.returns-in_err-end-clause-err
 returns-in_err-end-clause-err c =

@@ -7,7 +7,7 @@ use Rattle.qasm_format.specs.Faults.{IsStop}
 use Rattle.qasm_lexer.specs.Tokens.{Takes}
 use Rattle.qasm_format.specs.inside.Says.{said_of}
 use Rattle.qasm_format.proofs.PassingLemmas.{fault_becomes}
-use Rattle.revc_base.proofs.ResultLemmas.{passes_on, no_value, no_promise}
+use Rattle.revc_base.proofs.ResultLemmas.{passes_on}
 use Rattle.text_places.proofs.RunLemmas.{some_text}
 use Rattle.qasm_format.proofs.StatementLemmas.{no_line, statement_read, statement_stops}
 use Rattle.qasm_format.proofs.reader.read_statement.Goals as goal
@@ -18,12 +18,6 @@ returns-then-is_empty-clause-err c =
     let takes = subst (λ (w : List ℕ). Takes c.args.tokens.now c.next-token.new.self w c.next-token.result.at) none c.next-token.ensures in
     fault_becomes _ _ c.end_of.result c.end_of.ensures.err (λ (fault : QasmFault) h. subst (IsStop c.args.tokens.now (starts (said_of c.args.said.now)))
     (sym h.0) (no_line _ _ c.next-token.result.at (said_of c.args.said.now) takes h.1))
-
-pub returns-in_err-read_behind-clause-ok : goal.returns-in_err-read_behind-clause-ok
-returns-in_err-read_behind-clause-ok c = no_value c.from_residual.result _ _ c.from_residual.ensures.1
-
-pub returns-in_err-read_behind-clause-sound : goal.returns-in_err-read_behind-clause-sound
-returns-in_err-read_behind-clause-sound c = no_promise c.from_residual.result _ _ c.from_residual.ensures.1
 
 pub returns-in_err-read_behind-clause-err : goal.returns-in_err-read_behind-clause-err
 returns-in_err-read_behind-clause-err c =

@@ -1,29 +1,10 @@
-use Rattle.std.proofs.Common.{sym, subst}
-use Rattle.qasm_format.specs.declared.file.QasmFault.{QasmFault}
+use Rattle.std.proofs.Common.{subst}
 use Rattle.qasm_format.specs.Faults.{IsQasmFault}
 use Rattle.qasm_format.specs.inside.Says.{GoesOn}
-use Rattle.revc_base.proofs.ResultLemmas.{passes_on, no_value}
-use Rattle.qasm_format.proofs.PassingLemmas.{fault_becomes}
+use Rattle.revc_base.proofs.ResultLemmas.{passes_on}
 use Rattle.qasm_format.proofs.ReadingLemmas.{reads_then, stops_later}
-use Rattle.qasm_format.proofs.FileLemmas.{sound_at_first, head_read, head_stops, file_ends}
+use Rattle.qasm_format.proofs.FileLemmas.{file_ends}
 use Rattle.qasm_format.proofs.reader.read_text.Goals as goal
-
-pub returns-in_err-read_head-clause-ok : goal.returns-in_err-read_head-clause-ok
-returns-in_err-read_head-clause-ok c = no_value c.from_residual.result _ _ c.from_residual.ensures.1
-
-pub returns-in_err-read_head-clause-err : goal.returns-in_err-read_head-clause-err
-returns-in_err-read_head-clause-err c =
-    passes_on (IsQasmFault c.args.bytes.now) c.from_residual.result c.from_residual.ensures.1
-    (head_stops c.args.bytes.now _ _ c.new-tokens.ensures c.in_err-read_head.ensures.err)
-
-pub statements-init : goal.statements-init
-statements-init c = record {
-  reads = head_read c.args.bytes.now _ _ c.args.said.now c.requires.first c.new-tokens.ensures c.in_ok-read_head.ensures.ok;
-  sound = sound_at_first c.args.said.now c.requires.first;
-}
-
-pub returns-in_err-read_statement-clause-ok : goal.returns-in_err-read_statement-clause-ok
-returns-in_err-read_statement-clause-ok c = no_value c.from_residual-in_err-read_statement.result _ _ c.from_residual-in_err-read_statement.ensures.1
 
 pub returns-in_err-read_statement-clause-err : goal.returns-in_err-read_statement-clause-err
 returns-in_err-read_statement-clause-err c =
@@ -41,7 +22,3 @@ returns-clause-ok c =
     file_ends c.args.bytes.now _ _ c.statements.said c.read_statement.new.said c.file_of.result c.statements.invariant.reads
     (subst (λ m. GoesOn m c.statements.tokens c.read_statement.new.tokens c.statements.said c.read_statement.new.said) c.if-branch.false
     c.in_ok-read_statement.ensures.ok) c.file_of.ensures.ok
-
-pub returns-clause-err : goal.returns-clause-err
-returns-clause-err c =
-    fault_becomes _ _ c.file_of.result c.file_of.ensures.err (λ (fault : QasmFault) e. subst (IsQasmFault c.args.bytes.now) (sym e) tt)

@@ -1,16 +1,10 @@
 use Rattle.std.proofs.Common.{subst, arith}
 use Rattle.qasm_format.specs.declared.file.QasmFault.TheVariants.{Token, Limit}
 use Rattle.qasm_format.specs.inside.Says.{StopsAtSize, TakesNumber}
-use Rattle.revc_base.proofs.ResultLemmas.{passes_on, no_value}
+use Rattle.revc_base.proofs.ResultLemmas.{passes_on}
 use Rattle.qasm_format.proofs.ReadingLemmas.{reads_then, stops_later}
 use Rattle.qasm_format.proofs.StageLemmas.{fault_at_size, zero_at_size, size_stops, full_stops, sized}
 use Rattle.qasm_format.proofs.reader.take_size.Goals as goal
-
-pub returns-in_err-take_word-clause-ok : goal.returns-in_err-take_word-clause-ok
-returns-in_err-take_word-clause-ok c = no_value c.from_residual.result _ _ c.from_residual.ensures.1
-
-pub returns-in_err-size-clause-ok : goal.returns-in_err-size-clause-ok
-returns-in_err-size-clause-ok c = no_value c.from_residual-in_err-size.result _ _ c.from_residual-in_err-size.ensures.1
 
 pub returns-in_err-take_word-clause-err : goal.returns-in_err-take_word-clause-err
 returns-in_err-take_word-clause-err c =
@@ -32,9 +26,6 @@ pub returns-then-is_full-clause-err : goal.returns-then-is_full-clause-err
 returns-then-is_full-clause-err c =
     size_stops _ _ (Limit c.in_ok-size.at) c.args.kind c.args.lines c.in_ok-take_word.ensures.ok (λ name said same. full_stops _ _ c.in_ok-size.at c.args.kind
     c.in_ok-size.size c.args.lines name said same c.in_ok-size.ensures.ok (omega arith) (c.is_full.ensures.full c.if-is_full.true))
-
-pub returns-in_err-take_words-clause-ok : goal.returns-in_err-take_words-clause-ok
-returns-in_err-take_words-clause-ok c = no_value c.from_residual-in_err-take_words.result _ _ c.from_residual-in_err-take_words.ensures.1
 
 pub returns-in_err-take_words-clause-err : goal.returns-in_err-take_words-clause-err
 returns-in_err-take_words-clause-err c =

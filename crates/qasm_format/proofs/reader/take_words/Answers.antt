@@ -1,11 +1,8 @@
 use Rattle.qasm_format.specs.inside.Says.{ReadsWord, StopsAtWords}
 use Rattle.qasm_format.proofs.PassingLemmas.{fault_becomes, ok_becomes}
-use Rattle.revc_base.proofs.ResultLemmas.{passes_on, no_promise}
+use Rattle.revc_base.proofs.ResultLemmas.{passes_on}
 use Rattle.qasm_format.proofs.ReadingLemmas.{reads_then, stops_later}
 use Rattle.qasm_format.proofs.reader.take_words.Goals as goal
-
-pub returns-in_err-take_word-clause-ok : goal.returns-in_err-take_word-clause-ok
-returns-in_err-take_word-clause-ok c = no_promise c.from_residual.result _ _ c.from_residual.ensures.1
 
 pub returns-in_err-take_word-clause-err : goal.returns-in_err-take_word-clause-err
 returns-in_err-take_word-clause-err c =
