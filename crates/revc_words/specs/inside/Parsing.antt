@@ -1,5 +1,5 @@
 -- What clap makes of the words of a command, and what the texts that it finds give.
-use Rattle.std.specs.Prelude.{ℕ, ◌==◌, nat_le, ◌&&◌, Bool, true, false, List, [], ◌∷◌, length, codes, Option, Some, None, cond}
+use Rattle.std.specs.Prelude.{ℕ, ◌==◌, nat_le, ◌&&◌, Bool, true, false, not, List, [], ◌∷◌, length, codes, Option, Some, None, cond}
 use Rattle.std.specs.List.{find}
 use Rattle.std.specs.Option.{option_map, option_and_then, unwrap_or}
 use Rattle.std.specs.Borrow.{Bor}
@@ -33,15 +33,39 @@ use Rattle.revc_words.specs.Words.{OrderView, plan_word, format_word, write_word
 abbrev pub command_named : List ℕ → Option Command
 command_named name = find (λ command. bytes_eq (name_of command) name) ALL
 
--- ---- the command that clap reads by
+-- ---- positional words
+
+-- what positional words a command asks for: how many there may be, whether a number is among them, and whether a kind
+-- of programs is
+record Asked : Type 0 where
+  pub count : ℕ → Bool
+  pub number : Bool
+  pub kind : Bool
+
+abbrev asked : Positional → Asked
+asked Nothing = record { count = λ count. count == 0; number = false; kind = false }
+asked Word = record { count = λ count. count == 1; number = false; kind = false }
+asked Words = record { count = λ count. nat_le 1 count; number = false; kind = false }
+asked Number = record { count = λ count. count == 1; number = true; kind = false }
+asked KindAndNumber = record { count = λ count. count == 2; number = true; kind = true }
+
+-- whether there may be so many
+abbrev pub takes_count : Positional → ℕ → Bool
+takes_count takes = (asked takes).count
 
 -- whether there are positional words
 abbrev pub takes_any : Positional → Bool
-takes_any Nothing = false
-takes_any Word = true
-takes_any Words = true
-takes_any Number = true
-takes_any KindAndNumber = true
+takes_any takes = not (takes_count takes 0)
+
+-- whether there is a number
+abbrev pub takes_number : Positional → Bool
+takes_number takes = (asked takes).number
+
+-- whether there is a kind of programs
+abbrev pub takes_kind : Positional → Bool
+takes_kind takes = (asked takes).kind
+
+-- ---- the command that clap reads by
 
 -- an option with this name
 abbrev pub option_rule : List ℕ → Rule
@@ -180,31 +204,7 @@ values_of texts =
     (value_or USUAL_LINES (number_of 1 MOST_LINES) texts.lines))
     (value_or Auto plan_of texts.plan)
 
--- ---- positional words
-
--- whether there may be so many
-abbrev pub takes_count : Positional → ℕ → Bool
-takes_count Nothing count = count == 0
-takes_count Word count = count == 1
-takes_count Words count = nat_le 1 count
-takes_count Number count = count == 1
-takes_count KindAndNumber count = count == 2
-
--- whether there is a number
-abbrev pub takes_number : Positional → Bool
-takes_number Nothing = false
-takes_number Word = false
-takes_number Words = false
-takes_number Number = true
-takes_number KindAndNumber = true
-
--- whether there is a kind of programs
-abbrev pub takes_kind : Positional → Bool
-takes_kind Nothing = false
-takes_kind Word = false
-takes_kind Words = false
-takes_kind Number = false
-takes_kind KindAndNumber = true
+-- ---- what positional words give
 
 -- whether programs of a kind multiply
 abbrev pub takes_factor : Kind → Bool
