@@ -15,7 +15,7 @@ use Rattle.text_places.specs.Bytes.{is_name_byte}
 use Rattle.text_places.specs.Gaps.{HasNoGap}
 use Rattle.qasm_lexer.specs.Tokens.{fixed_words, IsWord, IsLongest, IsNext}
 use Rattle.text_places.proofs.RunLemmas.{front_in_run, run_of, prefix_len-yes}
-use Rattle.qasm_lexer.proofs.TokenLemmas.{word_by_letter, letter_goes_on, letter_is_no_digit, longest_sign}
+use Rattle.qasm_lexer.proofs.TokenLemmas.{fixed_digit, word_by_letter, letter_goes_on, letter_is_no_digit, longest_sign}
 
 -- the longest word is the run of bytes that pass a test, where each word that begins so passes it
 longest_run : (p : ℕ → Bool) (text : List ℕ) → ((b : ℕ) (bs behind : List ℕ) → text ≡ (b ∷ bs) ++ behind → IsWord (b ∷ bs) → list_all p (b ∷ bs) ≡ true)
@@ -60,23 +60,6 @@ number_here b bs digit =
     let run = run_of is_ascii_digit bs in
     subst (λ (k : ℕ). IsWord (take k (b ∷ bs))) (sym (prefix_len-yes is_ascii_digit b bs digit))
     (inr (inl (and_from (is_ascii_digit b) (list_all is_ascii_digit (take (prefix_len is_ascii_digit bs) bs)) digit run.passes)))
-
--- of the words that are always spelled the same, only `2.0` begins with a digit
-fixed_digit : (word : List ℕ) → IsAmong word fixed_words → is_ascii_digit (get_or word 0 0) ≡ true → word ≡ codes "2.0"
-fixed_digit word among =
-    all_among (λ (w : List ℕ). is_ascii_digit (get_or w 0 0) ≡ true → w ≡ codes "2.0") fixed_words (
-      λ d. refl,
-      (
-        λ d. absurd (false≢true d),
-        (
-          λ d. absurd (false≢true d),
-          (
-            λ d. absurd (false≢true d),
-            (λ d. absurd (false≢true d), (λ d. absurd (false≢true d), tt)),
-          ),
-        ),
-      ),
-    ) word among
 
 -- a word that begins with a digit has digits alone, or is `2.0`
 digit_word : (b : ℕ) (bs : List ℕ) → IsWord (b ∷ bs) → is_ascii_digit b ≡ true → (list_all is_ascii_digit (b ∷ bs) ≡ true) ⊎ ((b ∷ bs) ≡ codes "2.0")

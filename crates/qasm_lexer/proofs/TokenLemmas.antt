@@ -1,5 +1,6 @@
 -- The longest word at the front of a text, by its first byte.
 use Rattle.std.proofs.Common.{◌≡◌, ℕ, ◌≤◌, eqb, cond, Bool, true, false, ◌||◌, inl, inr, List, [], ◌∷◌, ◌++◌, length, refl, sym, ap, ◌∙◌, arith}
+use Rattle.std.specs.Prelude.{codes}
 use Rattle.std.specs.List.{list_all}
 use Rattle.std.specs.Char.{is_ascii_alphabetic, is_ascii_digit}
 use Rattle.std.proofs.lemmas.Bool.{false≢true, and_parts, and_from, or_left}
@@ -49,10 +50,10 @@ fixed_width : (word : List ℕ) → IsAmong word fixed_words → length word ≡
 fixed_width word among =
     all_among (λ w. length w ≡ width (first_of w)) fixed_words (refl, (refl, (refl, (refl, (refl, (refl, tt)))))) word among
 
--- one that begins with a digit is `2.0`
-fixed_number : (word : List ℕ) → IsAmong word fixed_words → is_ascii_digit (first_of word) ≡ true → list_all is_number_byte word ≡ true
-fixed_number word among =
-    all_among (λ w. is_ascii_digit (first_of w) ≡ true → list_all is_number_byte w ≡ true) fixed_words (
+-- only `2.0` begins with a digit
+pub fixed_digit : (word : List ℕ) → IsAmong word fixed_words → is_ascii_digit (first_of word) ≡ true → word ≡ codes "2.0"
+fixed_digit word among =
+    all_among (λ w. is_ascii_digit (first_of w) ≡ true → w ≡ codes "2.0") fixed_words (
       λ d. refl,
       (
         λ d. absurd (false≢true d),
@@ -65,6 +66,9 @@ fixed_number word among =
         ),
       ),
     ) word among
+
+fixed_number : (word : List ℕ) → IsAmong word fixed_words → is_ascii_digit (first_of word) ≡ true → list_all is_number_byte word ≡ true
+fixed_number word among digit = ap (list_all is_number_byte) (fixed_digit word among digit)
 
 all_number_bytes : (word : List ℕ) → list_all is_ascii_digit word ≡ true → list_all is_number_byte word ≡ true
 all_number_bytes [] all = refl
