@@ -3,39 +3,23 @@ use Rattle.std.proofs.Common.{◌≡◌, ℕ, ◌≤◌, false, List, [], length
 use Rattle.std.specs.Result.{IfOk}
 use Rattle.mct_circuit.specs.Gates.{GateView, AreGatesOn}
 use Rattle.circuit_plans.specs.declared.plan.TheConstants.{MOST_GATES}
-use Rattle.qasm_format.specs.declared.file.QasmFault.{QasmFault}
 use Rattle.qasm_format.specs.declared.said.Said.{Said as Held}
 use Rattle.qasm_lexer.specs.Tokens.{Left, whole, BeginsWith}
 use Rattle.qasm_format.specs.Registers.{lines_of_all}
-use Rattle.qasm_format.specs.Stages.{Said, starts, head, nothing_said}
+use Rattle.qasm_format.specs.Stages.{starts, head}
 use Rattle.format_parts.specs.Readings.{nothing_left}
 use Rattle.qasm_format.specs.Qasm.{Reads, QasmView, MeansFile}
-use Rattle.qasm_format.specs.Faults.{IsStop, IsQasmFault}
 use Rattle.qasm_format.specs.inside.Says.{said_of, IsFirst, IsSound, GoesOn}
 use Rattle.qasm_lexer.proofs.CutLemmas.{some_next}
 use Rattle.qasm_format.proofs.ReadingLemmas.{reads_then}
 
 -- ---- before the first statement
 
-pub said_at_first : (held : Held) → IsFirst held → said_of held ≡ nothing_said
-said_at_first held h = λ i.
-    let said : Said = record { included = h.included i; names = (h.declared i).names; registers = (h.declared i).registers; gates = h.gates i } in said
-
 pub sound_at_first : (held : Held) → IsFirst held → IsSound held
 sound_at_first held h = record {
   placed = subst (AreGatesOn (lines_of_all held.declared.registers)) (sym h.gates) tt;
   few = subst (λ (gs : List GateView). length gs ≤ MOST_GATES) (sym h.gates) (omega arith);
 }
-
--- the head was read
-pub head_read : (text : List ℕ) (old new : Left) (held : Held) → IsFirst held → old ≡ whole text → Reads old new head (starts nothing_said)
-    → Reads (whole text) new head (starts (said_of held))
-head_read text old new held first same reads =
-    subst (λ (l : Left). Reads l new head (starts (said_of held))) same
-    (subst (λ (s : Said). Reads old new head (starts s)) (sym (said_at_first held first)) reads)
-
-pub head_stops : (text : List ℕ) (old : Left) (fault : QasmFault) → old ≡ whole text → IsStop old head fault → IsQasmFault text fault
-head_stops text old fault same stops = subst (λ (l : Left). IsStop l head fault) same stops
 
 -- ---- the end
 

@@ -1,35 +1,24 @@
 -- The gates that arguments stand for, as the reader makes them.
 use Rattle.std.proofs.Common.{◌≡◌, ◌≢◌, ℕ, zero, suc, ◌+◌, ◌<◌, ◌≤◌, ◌==◌, Bool, true, false, not, ◌||◌, cond, ◌⊎◌, inl, inr, List, [], ◌∷◌, ◌++◌, length, map}
-use Rattle.std.proofs.Common.{get_or, take, drop, Option, Some, None, refl, sym, ap, ◌∙◌, subst, arith, add-one, append_assoc}
+use Rattle.std.proofs.Common.{get_or, drop, Option, Some, None, refl, sym, ap, ◌∙◌, subst, arith, append_assoc}
 use Rattle.std.specs.List.{AllByRecursion, list_any, range_with_len}
 use Rattle.std.specs.Option.{unwrap_or}
 use Rattle.std.proofs.lemmas.Bool.{false≢true, eqb-true, eqb-false, eq-eqb, cases_lt, and_parts, and_from, not-true}
 use Rattle.std.proofs.lemmas.Option.{none-some, same_Some}
-use Rattle.std.proofs.lemmas.List.{map-append, length_push, drop_all, take_all, take_more}
+use Rattle.std.proofs.lemmas.List.{map-append, length_push, drop_all}
 use Rattle.std.proofs.lemmas.List.FromFn.{get_or-map-range_with_len, length-map-range_with_len, map-range_with_len_more}
 use Rattle.list_facts.specs.Lists.{AreDifferent}
 use Rattle.list_facts.proofs.AllLemmas.{AllByRecursion-both, AllByRecursion-map, AllByRecursion-range, AllByRecursion-at}
-use Rattle.mct_circuit.specs.declared.gate.Control.{Control}
-use Rattle.mct_circuit.specs.Gates.{GateView, HasDifferentLines, lines_of, IsGateOn, positive}
+use Rattle.mct_circuit.specs.Gates.{GateView, HasDifferentLines, lines_of, IsGateOn}
 use Rattle.mct_circuit.proofs.ReversalLemmas.{lines_of-flip_of}
 use Rattle.qasm_format.specs.declared.spots.Spot.{Spot}
 use Rattle.qasm_format.specs.declared.spots.Spot.TheVariants.{Line, Whole}
 use Rattle.qasm_format.specs.Registers.{line_at, HasSize, IsLine, AreSpread}
 use Rattle.qasm_format.specs.Stages.{gate_at, StandForGates}
-use Rattle.qasm_format.specs.inside.Spread.{shared, shared_on, shared_by, are_different, AreAllDifferent, MeetSomewhere, ArePushed, controls_at}
+use Rattle.qasm_format.specs.inside.Spread.{shared, shared_on, shared_by, are_different, AreAllDifferent, MeetSomewhere, ArePushed}
 use Rattle.qasm_format.specs.inside.Says.{SpotBelow, AddsGates, StandForFew, StandForNone, PassGates}
 
 -- ---- how many gates
-
-shared_on_more : (spots : List Spot) (i : ℕ) (d : Spot) (count more : Option ℕ) → i < length spots → shared count (get_or spots i d) ≡ Some more
-    → shared_by count (drop i spots) ≡ shared_by more (drop (suc i) spots)
-shared_on_more (s ∷ ss) zero d count more low e = ap (λ r. shared_on r (λ c. shared_by c ss)) e
-shared_on_more (s ∷ ss) (suc i) d count more low e = shared_on_more ss i d count more (omega arith) e
-shared_on_more [] i d count more low e = absurd (omega arith)
-
-pub shared_step : (spots : List Spot) (i : ℕ) (d : Spot) (count more : Option ℕ) → i < length spots → shared count (get_or spots i d) ≡ Some more
-    → shared_by count (drop i spots) ≡ shared_by more (drop (i + 1) spots)
-shared_step spots i d count more low e = shared_on_more spots i d count more low e ∙ ap (λ n. shared_by more (drop n spots)) (sym (add-one i))
 
 pub shared_stop : (spots : List Spot) (i : ℕ) (d : Spot) (count : Option ℕ) → i < length spots → shared count (get_or spots i d) ≡ None
     → shared_by count (drop i spots) ≡ None
@@ -292,17 +281,3 @@ meeting_stand spots count spread meeting = record {
       meeting.meet (lines_are_different h.controlling h.target spots meeting.i h.parts
       (gate_there h.controlling h.target h.count meeting.i (omega (arith, same, low)) (subst (AllByRecursion HasDifferentLines) h.are h.different)));
 }
-
--- ---- the controls of one gate
-
-pub one_more_control : (spots : List Spot) (i k line : ℕ) (d : Spot) (controls more : List Control) → k < length spots → line ≡ line_at i (get_or spots k d)
-    → controls ≡ controls_at (take k spots) i → more ≡ controls ++ positive line ∷ [] → more ≡ controls_at (take (k + 1) spots) i
-one_more_control spots i k line d controls more low is so_far grown =
-    grown ∙ ap (λ cs. cs ++ positive line ∷ []) so_far ∙ ap (λ l. controls_at (take k spots) i ++ positive l ∷ []) is
-    ∙ sym (ap (λ ss. controls_at ss i) (take_more spots k d low)
-    ∙ ap (map positive) (map-append (line_at i) (take k spots) (get_or spots k d ∷ []))
-    ∙ map-append positive (map (line_at i) (take k spots)) (line_at i (get_or spots k d) ∷ []))
-
-pub all_controls : (spots : List Spot) (i k : ℕ) (controls : List Control) → length spots ≤ k → controls ≡ controls_at (take k spots) i
-    → controls ≡ controls_at spots i
-all_controls spots i k controls over so_far = so_far ∙ ap (λ ss. controls_at ss i) (take_all k spots over)

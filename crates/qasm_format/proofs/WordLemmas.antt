@@ -43,12 +43,6 @@ IsNumber-decimal n h =
 
 -- ---- names
 
-pub is_identifier-register_name : (role : Role) → is_identifier (register_name role) ≡ true
-is_identifier-register_name Input = refl
-is_identifier-register_name Output = refl
-is_identifier-register_name Work = refl
-is_identifier-register_name Borrowed = refl
-
 -- a word is none of those that have another byte at some place
 apart : (f : List ℕ → ℕ) (word : List ℕ) (others : List (List ℕ)) → list_all (λ other. not (eqb (f word) (f other))) others ≡ true → ¬ IsAmong word others
 apart f word [] e among = among

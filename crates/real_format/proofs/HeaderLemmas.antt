@@ -12,7 +12,7 @@ use Rattle.std.proofs.lemmas.Bool.Decides.{nat_tests}
 use Rattle.std.proofs.lemmas.List.{length-append}
 use Rattle.std.proofs.lemmas.Slice.Eq.{bytes_eq-Decides}
 use Rattle.list_facts.specs.Lists.{AreApart}
-use Rattle.list_facts.proofs.AllLemmas.{AllByRecursion-append, AllByRecursion-left, AllByRecursion-right}
+use Rattle.list_facts.proofs.AllLemmas.{AllByRecursion-append, AllByRecursion-right}
 use Rattle.real_format.specs.declared.refusal.LineRefusal.TheVariants.{Form, Limit}
 use Rattle.real_format.specs.Header.{IsNumber, IsName, AreNames, IsBarred}
 use Rattle.real_format.specs.Faults.{IsLong}
@@ -130,10 +130,6 @@ absent_before (n ∷ ns) word rest apart =
       | inr other ↦ other
     ] in
     rw (differs, absent_before ns word rest apart.1) refl
-
-apart_front : (names rest : List (List ℕ)) → AreApart (λ one other. one ≡ other) (names ++ rest) → AreApart (λ one other. one ≡ other) names
-apart_front [] rest apart = tt
-apart_front (n ∷ ns) rest apart = (AllByRecursion-left (λ y. ¬ (n ≡ y)) ns rest apart.0, apart_front ns rest apart.1)
 
 pub begins_so : (word : List ℕ) → begins_name word ≡ true → (1 ≤ length word) × (¬ IsBarred (get_or word 0 0))
 begins_so [] e = absurd (cc)

@@ -1,32 +1,19 @@
 -- The marks of a written file's lines.
 use Rattle.std.proofs.Common.{◌≡◌, ℕ, zero, suc, ◌+◌, ◌-◌, ◌<◌, ◌≤◌, inl, inr, List, ◌++◌, length, replicate, slice_get, Some, refl, ap, ◌∙◌}
 use Rattle.std.proofs.Common.{arith}
-use Rattle.std.proofs.lemmas.List.{length-map, length-append, length-replicate}
+use Rattle.std.proofs.lemmas.List.{length-append, length-replicate}
 use Rattle.std.proofs.lemmas.Bool.{cases_lt, lt-ltb}
 use Rattle.circuit_plans.specs.declared.roles.Roles.{Roles}
 use Rattle.circuit_plans.specs.Plans.{lines_in, role_at}
 use Rattle.real_format.specs.declared.file.Mark.TheVariants.{Free, Zero}
-use Rattle.real_format.specs.declared.labels.Labels.{Labels}
-use Rattle.real_format.specs.declared.labels.Labels.TheVariants.{ByRole, ByNumber}
-use Rattle.real_format.specs.declared.labels.MarkKind.{MarkKind}
-use Rattle.real_format.specs.declared.labels.MarkKind.TheVariants.{Constants, Garbage}
-use Rattle.real_format.specs.Header.{constant_byte, garbage_byte}
 use Rattle.real_format.specs.Compiled.{constants_of}
-use Rattle.real_format.specs.inside.Labels.{count_of, constants_by, garbage_by, mark_bytes, start_of}
+use Rattle.real_format.specs.inside.Labels.{start_of}
 use Rattle.real_format.proofs.NameLemmas.{ltb-above}
 
 -- ---- numbers of marks
 
 pub length-constants_of : (roles : Roles) → length (constants_of roles) ≡ lines_in roles
 length-constants_of roles = simp (length-append, length-replicate) (omega arith)
-
-length-constants_by : (labels : Labels) → length (constants_by labels) ≡ count_of labels
-length-constants_by (ByRole roles) = length-constants_of roles
-length-constants_by (ByNumber constants garbage) = refl
-
-pub length-mark_bytes : (labels : Labels) (kind : MarkKind) → length (garbage_by labels) ≡ count_of labels → length (mark_bytes labels kind) ≡ count_of labels
-length-mark_bytes labels Constants fit = length-map (constants_by labels) constant_byte ∙ length-constants_by labels
-length-mark_bytes labels Garbage fit = length-map (garbage_by labels) garbage_byte ∙ fit
 
 -- ---- the mark of a line
 
