@@ -206,19 +206,13 @@ module _ (input : List Bool) where
 
   both_as_bit : (at : Place) (value : Value) {s : State (Unit {0})} {t : State Bool} → AreAlike s t
       → GoTogether Same (as_bit no_bits at value s) (as_bit real_bits at value t)
-  both_as_bit at unit h = both_stuck _ at
   both_as_bit at (bit location) h = both_went location h
-  both_as_bit at (register locations) h = both_stuck _ at
-  both_as_bit at (number k) h = both_stuck _ at
-  both_as_bit at (closure names body env) h = both_stuck _ at
+  both_as_bit at _ h = both_stuck _ at
 
   both_as_register : (at : Place) (value : Value) {s : State (Unit {0})} {t : State Bool} → AreAlike s t
       → GoTogether Same (as_register no_bits at value s) (as_register real_bits at value t)
-  both_as_register at unit h = both_stuck _ at
-  both_as_register at (bit location) h = both_stuck _ at
   both_as_register at (register locations) h = both_went locations h
-  both_as_register at (number k) h = both_stuck _ at
-  both_as_register at (closure names body env) h = both_stuck _ at
+  both_as_register at _ h = both_stuck _ at
 
   -- ---- numbers and parts of registers
 
@@ -229,11 +223,8 @@ module _ (input : List Bool) where
 
   both_as_number : (at : Place) (value : Value) {s : State (Unit {0})} {t : State Bool} → AreAlike s t
       → GoTogether Same (as_number no_bits at value s) (as_number real_bits at value t)
-  both_as_number at unit h = both_stuck _ at
-  both_as_number at (bit location) h = both_stuck _ at
-  both_as_number at (register locations) h = both_stuck _ at
   both_as_number at (number k) h = both_went k h
-  both_as_number at (closure names body env) h = both_stuck _ at
+  both_as_number at _ h = both_stuck _ at
 
   both_unit_of : (env : Environment) (v : u.Unit) {s : State (Unit {0})} {t : State Bool} → AreAlike s t
       → GoTogether Same (unit_of no_bits env v s) (unit_of real_bits env v t)
