@@ -112,28 +112,22 @@ module _ (a : ℕ → Bool) (t : Token) where
   moved : {x y left : Stack} {ts : List Token} → Some x ≡ Some y → Leads a y ts left → Leads a x ts left
   moved {x} {y} {left} {ts} e d = let same : y ≡ x = cc in subst (λ (z : Stack). Leads a z ts left) same d
 
+  -- So it is with a token of the line, where the token is of its kind.
+  mark_leads : (front : ℕ → Stack) (m : Mark) (o : Opening) → (code t.tok ≡ mark_code m → IsOpen front (Some o))
+      → IsOpen front (cond (code t.tok == mark_code m) (Some o) None)
+  mark_leads front m o h = go (code t.tok == mark_code m) refl
+    where
+      go : (b : Bool) → code t.tok == mark_code m ≡ b → IsOpen front (cond b (Some o) None)
+      go true is = h (same_code (code t.tok) (mark_code m) is)
+      go false is = tt
+
   piece_leads : (rest : Form → Option Opening) → ((f : Form) → IsFormOpen f (rest f)) → (ps : List Piece)
       → IsOpen (λ l. symbols l ps) (begun rest (code t.tok) ps)
   piece_leads rest h [] = tt
-  piece_leads rest h (one m ∷ ps) = go (code t.tok == mark_code m) refl
-    where
-      go : (b : Bool) → code t.tok == mark_code m ≡ b
-          → IsOpen (λ l. symbols l (one m ∷ ps)) (cond b (Some (record { opens = λ l. None; rest = λ l. symbols l ps })) None)
-      go true is = λ l ss x left ts e d. read (same_code (code t.tok) (mark_code m) is) (moved e d)
-      go false is = tt
-  piece_leads rest h (kept m ∷ ps) = go (code t.tok == mark_code m) refl
-    where
-      go : (b : Bool) → code t.tok == mark_code m ≡ b
-          → IsOpen (λ l. symbols l (kept m ∷ ps)) (cond b (Some (record { opens = λ l. None; rest = λ l. symbols l ps })) None)
-      go true is = λ l ss x left ts e d. keep (same_code (code t.tok) (mark_code m) is) (moved e d)
-      go false is = tt
-  piece_leads rest h (opening m ∷ ps) = go (code t.tok == mark_code m) refl
-    where
-      go : (b : Bool) → code t.tok == mark_code m ≡ b
-          → IsOpen (λ l. symbols l (opening m ∷ ps)) (cond b (Some (record { opens = λ l. Some (l + 1); rest = λ l. symbols l ps })) None)
-      go true is = λ l ss x left ts e d.
-          let k = opened_if (a (l + 1)) e in open_level (same_code (code t.tok) (mark_code m) is) k.0 (moved k.1 d)
-      go false is = tt
+  piece_leads rest h (one m ∷ ps) = mark_leads (λ l. symbols l (one m ∷ ps)) m _ (λ is l ss x left ts e d. read is (moved e d))
+  piece_leads rest h (kept m ∷ ps) = mark_leads (λ l. symbols l (kept m ∷ ps)) m _ (λ is l ss x left ts e d. keep is (moved e d))
+  piece_leads rest h (opening m ∷ ps) = mark_leads (λ l. symbols l (opening m ∷ ps)) m _
+      (λ is l ss x left ts e d. let k = opened_if (a (l + 1)) e in open_level is k.0 (moved k.1 d))
   piece_leads rest h (sub d f ∷ ps) = go (rest f) (h f)
     where
       go : (o : Option Opening) → IsFormOpen f o → IsOpen (λ l. symbols l (sub d f ∷ ps)) (behind d ps o)
