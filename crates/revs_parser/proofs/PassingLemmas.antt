@@ -173,37 +173,32 @@ line_passes f l p i m = record {
 
 -- ---- single tokens
 
-pub token_passes : {k : Tok} {at : Place} {ts rest : List Token} (m : Mark) → code k ≡ mark_code m → Heads k at ts rest
-    → ((ms : Stack) → outcome ts (token m ∷ ms) ≡ outcome rest ms) → Passes (token m ∷ []) [] (λ _. tt) ts rest
-token_passes {k} {at} m c h goes = record {
+-- One symbol, which reads the token that stands first.
+symbol_passes : {k : Tok} {at : Place} {ts rest : List Token} (s : Symbol) (vs : Vals (s ∷ [])) → Heads k at ts rest
+    → ((ms : Stack) → outcome ts (s ∷ ms) ≡ outcome rest ms) → (leads : (ms : Stack) → Leads few_levels (s ∷ ms) (record { tok = k; at = at } ∷ []) ms)
+    → ((ms : Stack) (ws : Vals ms) → value (leads ms) ws ≡ put (s ∷ []) ms vs ws) → Passes (s ∷ []) [] (λ _. vs) ts rest
+symbol_passes {k} {at} s vs h goes leads is = record {
   goes_on = goes;
   front = record { tok = k; at = at } ∷ [];
   cut = h.cut;
-  leads = λ ms. read c done;
-  stands_for = λ ms us ws. refl;
+  leads = leads;
+  stands_for = λ ms us ws. is ms ws;
 }
+
+pub token_passes : {k : Tok} {at : Place} {ts rest : List Token} (m : Mark) → code k ≡ mark_code m → Heads k at ts rest
+    → ((ms : Stack) → outcome ts (token m ∷ ms) ≡ outcome rest ms) → Passes (token m ∷ []) [] (λ _. tt) ts rest
+token_passes m c h goes = symbol_passes (token m) tt h goes (λ ms. read c done) (λ ms ws. refl)
 
 pub kept_passes : {k : Tok} {at : Place} {ts rest : List Token} (m : Mark) → code k ≡ mark_code m → Heads k at ts rest
     → ((ms : Stack) → outcome ts (kept_token m ∷ ms) ≡ outcome rest ms)
     → Passes (kept_token m ∷ []) [] (λ _. (held m (record { tok = k; at = at }), tt)) ts rest
-kept_passes {k} {at} m c h goes = record {
-  goes_on = goes;
-  front = record { tok = k; at = at } ∷ [];
-  cut = h.cut;
-  leads = λ ms. keep c done;
-  stands_for = λ ms us ws. refl;
-}
+kept_passes {k} {at} m c h goes = symbol_passes (kept_token m) (held m (record { tok = k; at = at }), tt) h goes (λ ms. keep c done) (λ ms ws. refl)
 
 pub opening_passes : {k : Tok} {at : Place} {ts rest : List Token} (m : Mark) (l : ℕ) → code k ≡ mark_code m → few_levels l ≡ true → Heads k at ts rest
     → ((ms : Stack) → outcome ts (opening_token m l ∷ ms) ≡ outcome rest ms)
     → Passes (opening_token m l ∷ []) [] (λ _. (held m (record { tok = k; at = at }), tt)) ts rest
-opening_passes {k} {at} m l c ok h goes = record {
-  goes_on = goes;
-  front = record { tok = k; at = at } ∷ [];
-  cut = h.cut;
-  leads = λ ms. open_level c ok done;
-  stands_for = λ ms us ws. refl;
-}
+opening_passes {k} {at} m l c ok h goes =
+    symbol_passes (opening_token m l) (held m (record { tok = k; at = at }), tt) h goes (λ ms. open_level c ok done) (λ ms ws. refl)
 
 pub one_token : {k : Tok} {at : Place} {s : Symbol} {vs : Vals (s ∷ [])} {ts rest : List Token} → Heads k at ts rest → Passes (s ∷ []) [] (λ _. vs) ts rest
     → Reads (s ∷ []) vs ts rest

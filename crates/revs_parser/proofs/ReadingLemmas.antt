@@ -1,5 +1,5 @@
 -- What each way through a function reads, and where it halts.
-use Rattle.std.proofs.Common.{◌≡◌, ℕ, ◌+◌, true, false, Some, None, List, [], ◌∷◌, ◌++◌, inl}
+use Rattle.std.proofs.Common.{◌≡◌, ℕ, ◌+◌, ◌<◌, true, false, Some, None, List, [], ◌∷◌, ◌++◌, inl}
 use Rattle.std.proofs.Common.{inr, refl, sym, length, append_assoc, map, arith, append-nil}
 use Rattle.std.proofs.lemmas.List.{map-append}
 use Rattle.revc_base.specs.declared.place.Place.{Place}
@@ -9,11 +9,13 @@ use Rattle.revs_lexer.specs.declared.word.Word.TheVariants as words
 use Rattle.revs_lexer.specs.declared.token.Tok.TheVariants as toks
 use Rattle.revs_lexer.specs.declared.token.Token.{Token}
 use Rattle.revs_grammar.specs.declared.profile.Profile.{Profile}
-use Rattle.revs_grammar.specs.Forms.{any_name, word, sign, held, in_profile, common, Form, Val}
+use Rattle.revs_grammar.specs.Forms.{any_name, word, sign, code, held, in_profile, common, Form, Val, IsOneOf, line, one, sub, same}
 use Rattle.revs_grammar.specs.Forms as g
-use Rattle.revs_grammar.specs.Productions.{bound_of, parts_of, apply_of, in_front}
+use Rattle.revs_grammar.specs.Productions.{productions, xor_of, and_of, bound_of, parts_of, apply_of, in_front}
 use Rattle.revs_grammar.specs.Sentences.{Symbol, token, kept_token, form, Vals, few_levels}
 use Rattle.revs_grammar.specs.inside.Machine.{Stack}
+use Rattle.revs_grammar.proofs.CheckHints.{may_follow}
+use Rattle.revs_grammar.proofs.CheckLemmas.{begin}
 use Rattle.revs_terms.specs.Trees.{Tree, ItemTree, trees, item_trees, used, bool, reg, block, function, parts, apply, append}
 use Rattle.revs_terms.specs.Trees.{ands, xors, assign, bind, tree_of, item_tree_of}
 use Rattle.revs_terms.specs.declared.term.Name.{Name}
@@ -24,18 +26,20 @@ use Rattle.revs_terms.specs.declared.term.Item.{Item}
 use Rattle.revs_terms.specs.declared.term.Term.{Term}
 use Rattle.revs_parser.specs.declared.stop.Stop.{Stop}
 use Rattle.revs_parser.specs.declared.stop.Stop.TheVariants as stops
+use Rattle.revs_parser.specs.declared.expression.Infix.{Infix}
+use Rattle.revs_parser.specs.declared.expression.Infix.TheVariants as infixes
 use Rattle.revs_parser.specs.declared.front.Operator.{Operator}
 use Rattle.revs_parser.specs.declared.front.Operator.TheVariants as operators
 use Rattle.revs_parser.specs.declared.front.Opener.{Opener}
 use Rattle.revs_parser.specs.declared.front.Opener.TheVariants as openers
 use Rattle.revs_parser.specs.inside.Reading.{Passes, Reads, Skips, ReadsForm, Halts, HaltsIn, Heads, NotFirst, base_first, name_first}
 use Rattle.revs_parser.specs.inside.Reading.{ReadsAnywhere, HaltsAnywhere, HaltsAtLevels}
-use Rattle.revs_parser.specs.inside.Forms.{ReadsNames, in_part, ReadsPart, in_function, ReadsFunction, in_application, ReadsAtoms}
+use Rattle.revs_parser.specs.inside.Forms.{ReadsNames, names_rest, in_part, ReadsPart, in_function, ReadsFunction, in_application, ReadsAtoms}
 use Rattle.revs_parser.specs.inside.Forms.{in_register, ReadsRegister, ReadsBlock, ReadsItem, in_binding, ReadsBinding}
 use Rattle.revs_parser.specs.inside.Forms.{ReadsFunctionNames, in_bound_names, closed_by, operated, ReadsOperator, NoOperator, in_append, ReadsAppend}
-use Rattle.revs_parser.specs.inside.Forms.{opening, NoOpener}
+use Rattle.revs_parser.specs.inside.Forms.{opening, NoOpener, infix_sign, infix_term, in_chain, in_operand, ReadsChain, ReadsOperand}
 use Rattle.revs_parser.proofs.PassingLemmas.{stays, passes_then, turned, beside, passes_reads, and_then, and_maybe, line_passes}
-use Rattle.revs_parser.proofs.PassingLemmas.{kept_passes, one_token, halts_first, halts_there, halts_behind, halts_past}
+use Rattle.revs_parser.proofs.PassingLemmas.{kept_passes, one_token, smaller_behind, halts_first, halts_there, halts_behind, halts_past}
 use Rattle.revs_parser.proofs.StepLemmas as m
 use Rattle.revs_parser.proofs.StepLemmas.{by_first, kept_goes}
 use Rattle.revs_parser.proofs.TokenLemmas.{a_sign, a_word, opened, opens_too_many}
@@ -140,18 +144,26 @@ names_more {next} {mid} {rest} n f r e = record {
           (beside (form (common g.names) 0 ∷ []) r.passes);
     }
 
-pub names_done : {before all : List Name} {ts rest : List Token} → Names before all ts rest → name_first rest ≡ false → ReadsNames before all ts rest
-names_done {rest} n f = record {
-  more = n.read;
-  all_names = n.all_names;
-  skips = rw (append-nil n.read) at (repeats_done [] n.repeats (left_out (common g.names) 0 _ (inl refl) (m.no_names rest f)));
-}
+module _ {before all : List Name} {ts mid : List Token} (n : Names before all ts mid) where
+  names_passed : name_first mid ≡ false → Passes (form (common g.names) 0 ∷ []) [] (λ _. (n.read, tt)) ts mid
+  names_passed f =
+      let skips = rw (append-nil n.read) at (repeats_done [] n.repeats (left_out (common g.names) 0 _ (inl refl) (m.no_names mid f))) in skips.passes
 
-pub names_halt : {before all : List Name} {ts mid : List Token} {stop : Stop} → Names before all ts mid → name_first mid ≡ true
-    → Halts (kept_token any_name ∷ []) mid stop → HaltsIn (common g.names) 0 ts stop
-names_halt {mid} n f h =
-    repeats_halts n.repeats (halts_there (form (common g.names) 0 ∷ []) (kept_token any_name ∷ form (common g.names) 0 ∷ []) (m.more_names mid f)
-    (halts_first (form (common g.names) 0 ∷ []) h))
+  pub names_done : {end : Sign} {rest : List Token} → name_first mid ≡ false → Reads (token (sign end) ∷ []) tt mid rest → ReadsNames before all end ts rest
+  names_done {end} f r = record {
+    more = n.read;
+    all_names = n.all_names;
+    reads = passes_reads (beside (token (sign end) ∷ []) (names_passed f)) r;
+  }
+
+  pub names_unended : (end : Sign) {stop : Stop} → name_first mid ≡ false → Halts (token (sign end) ∷ []) mid stop → Halts (names_rest end) ts stop
+  names_unended end f h = halts_past (beside (token (sign end) ∷ []) (names_passed f)) h
+
+  pub names_halt : (end : Sign) {stop : Stop} → name_first mid ≡ true → Halts (kept_token any_name ∷ []) mid stop → Halts (names_rest end) ts stop
+  names_halt end f h =
+      halts_first (token (sign end) ∷ [])
+      (repeats_halts n.repeats (halts_there (form (common g.names) 0 ∷ []) (kept_token any_name ∷ form (common g.names) 0 ∷ []) (m.more_names mid f)
+      (halts_first (form (common g.names) 0 ∷ []) h)))
 
 -- ---- a part, behind its dot
 
@@ -245,104 +257,109 @@ pub chain_halts : {es : Stack} {one more : Symbol} {end : Stack} {turn : Vals (o
     → Chain es one more end turn ts behind → Halts (one ∷ []) behind stop → Halts es ts stop
 chain_halts {more = more} {end = end} c h = halts_past c.passes (halts_first (more ∷ end) h)
 
--- ---- sums
+-- The next element of a chain is read, and another is behind it, or none.
+module _ {es : Stack} {f more : Form} {l : ℕ} {turn : Vals (form f l ∷ form more l ∷ []) → Vals es} {v : Val f} {ts behind rest : List Token}
+    (c : Passes es (form f l ∷ form more l ∷ []) turn ts behind) (r : ReadsForm f l v behind rest) where
+  another_behind : {next : Vals (form f l ∷ form more l ∷ []) → Vals (form more l ∷ [])} {mid : List Token}
+      → Passes (form more l ∷ []) (form f l ∷ form more l ∷ []) next rest mid
+      → Passes es (form f l ∷ form more l ∷ []) (λ us. turn (v, next us)) ts mid
+  another_behind n = passes_then c (passes_then (beside (form more l ∷ []) r.passes) n)
 
-module _ (p : Profile) where
-  abbrev pub InSum : ℕ → List Tree → List Token → List Token → Type 0
-  InSum l read ts behind = Chain (form (in_profile p g.sum) l ∷ []) (form (in_profile p g.product) l) (form (in_profile p g.sums) l) []
-      (λ us. (xors (trees (read ++ us.0 ∷ us.1.0)), tt)) ts behind
+  none_behind : {none : Val more} → Passes (form more l ∷ []) [] (λ _. (none, tt)) rest rest → Reads es (turn (v, (none, tt))) ts rest
+  none_behind d = passes_reads c (and_maybe r (skips d))
+
+-- A sign stands in front of another element.
+behind_sign : {f more : Form} (s : Sign) (build : Val f → Val more → Val more) (l : ℕ) {at : Place} {ts rest : List Token}
+    → IsOneOf (line (one (sign s) ∷ sub same f ∷ sub same more ∷ []) build) (productions more) → Heads (toks.Sign s) at ts rest
+    → begin (may_follow more) (code (toks.Sign s)) (one (sign s) ∷ sub same f ∷ sub same more ∷ []) ≡ true
+    → Passes (form more l ∷ []) (form f l ∷ form more l ∷ []) (λ us. (build us.0 us.1.0, tt)) ts rest
+behind_sign {f} {more} s build l i h b =
+    passes_then (line_passes more l _ i (by_first more l _ i h refl b refl)) (beside (form f l ∷ form more l ∷ []) (a_sign h).passes)
+
+-- ---- sums and products
 
 module _ {p : Profile} where
+  sum_line : (l : ℕ) (ts : List Token) → Passes (form (in_profile p g.sum) l ∷ []) (form (in_profile p g.product) l ∷ form (in_profile p g.sums) l ∷ [])
+      (λ us. (xor_of us.0 us.1.0, tt)) ts ts
+  sum_line l ts = line_passes (in_profile p g.sum) l _ (inl refl) (m.as_sum p l ts)
+
+  product_line : (l : ℕ) (ts : List Token)
+      → Passes (form (in_profile p g.product) l ∷ []) (form (in_profile p g.application) l ∷ form (in_profile p g.products) l ∷ [])
+      (λ us. (and_of us.0 us.1.0, tt)) ts ts
+  product_line l ts = line_passes (in_profile p g.product) l _ (inl refl) (m.as_product p l ts)
+
   another_product : (l : ℕ) {at : Place} {ts rest : List Token} → Heads (toks.Sign signs.Xor) at ts rest
       → Passes (form (in_profile p g.sums) l ∷ []) (form (in_profile p g.product) l ∷ form (in_profile p g.sums) l ∷ []) (λ us. (us.0 ∷ us.1.0, tt)) ts rest
-  another_product l h =
-      passes_then (line_passes (in_profile p g.sums) l _ (inr (inl refl)) (by_first (in_profile p g.sums) l _ (inr (inl refl)) h refl refl refl))
-      (beside (form (in_profile p g.product) l ∷ form (in_profile p g.sums) l ∷ []) (a_sign h).passes)
+  another_product l h = behind_sign signs.Xor (λ next more. next ∷ more) l (inr (inl refl)) h refl
 
-  -- A chain has begun: the first element was read, and a sign stood behind it.
-  pub sum_begun : (l : ℕ) {t : Term} {items : List Term} {at : Place} {ts rest behind : List Token} → ReadsForm (in_profile p g.product) l (tree_of t) ts rest
-      → Heads (toks.Sign signs.Xor) at rest behind → items ≡ t ∷ [] → InSum p l (map tree_of items) ts behind
-  sum_begun l {ts} r h e =
-      rw e (record {
-        passes = passes_then (line_passes (in_profile p g.sum) l _ (inl refl) (m.as_sum p l ts))
-            (passes_then (beside (form (in_profile p g.sums) l ∷ []) r.passes) (another_product l h));
-      })
-
-  pub sum_more : (l : ℕ) (items : List Term) (t : Term) {new : List Term} {at : Place} {ts behind rest mid : List Token}
-      → InSum p l (map tree_of items) ts behind
-      → ReadsForm (in_profile p g.product) l (tree_of t) behind rest → Heads (toks.Sign signs.Xor) at rest mid → new ≡ items ++ t ∷ []
-      → InSum p l (map tree_of new) ts mid
-  sum_more l items t c r h e =
-      rw (e, map-append) (record {
-        passes = turned _ (λ us. rw append_assoc) (passes_then c.passes
-            (passes_then (beside (form (in_profile p g.sums) l ∷ []) r.passes) (another_product l h)));
-      })
-
-  pub sum_done : (l : ℕ) (items : List Term) (t : Term) {new : List Term} {whole : Tree} {ts behind rest : List Token} → InSum p l (map tree_of items) ts behind
-      → ReadsForm (in_profile p g.product) l (tree_of t) behind rest → NotFirst (toks.Sign signs.Xor) rest → new ≡ items ++ t ∷ []
-      → whole ≡ xors (trees (map tree_of new)) → ReadsForm (in_profile p g.sum) l whole ts rest
-  sum_done l items t {rest} c r k e w = rw (w, e, map-append)
-      (passes_reads c.passes (and_maybe r (skips (left_out (in_profile p g.sums) l _ (inl refl) (m.no_sums p l rest k)))))
-
-  pub sum_alone : (l : ℕ) {t : Tree} {ts rest : List Token} → ReadsForm (in_profile p g.product) l t ts rest → NotFirst (toks.Sign signs.Xor) rest
-      → ReadsForm (in_profile p g.sum) l t ts rest
-  sum_alone l {ts} {rest} r k = by_pieces (in_profile p g.sum) l _ (inl refl) (m.as_sum p l ts)
-      (and_maybe r (skips (left_out (in_profile p g.sums) l _ (inl refl) (m.no_sums p l rest k))))
-
-  pub sum_no_first : (l : ℕ) {ts : List Token} {stop : Stop} → HaltsIn (in_profile p g.product) l ts stop → HaltsIn (in_profile p g.sum) l ts stop
-  sum_no_first l {ts} h = halts_by_pieces (in_profile p g.sum) l _ (inl refl) (m.as_sum p l ts) (halts_first (form (in_profile p g.sums) l ∷ []) h)
-
--- ---- products
-
-module _ (p : Profile) where
-  abbrev pub InProduct : ℕ → List Tree → List Token → List Token → Type 0
-  InProduct l read ts behind = Chain (form (in_profile p g.product) l ∷ []) (form (in_profile p g.application) l) (form (in_profile p g.products) l) []
-      (λ us. (ands (trees (read ++ us.0 ∷ us.1.0)), tt)) ts behind
-
-module _ {p : Profile} where
   another_application : (l : ℕ) {at : Place} {ts rest : List Token} → Heads (toks.Sign signs.And) at ts rest
       → Passes (form (in_profile p g.products) l ∷ []) (form (in_profile p g.application) l ∷ form (in_profile p g.products) l ∷ [])
       (λ us. (us.0 ∷ us.1.0, tt)) ts rest
-  another_application l h =
-      passes_then (line_passes (in_profile p g.products) l _ (inr (inl refl)) (by_first (in_profile p g.products) l _ (inr (inl refl)) h refl refl refl))
-      (beside (form (in_profile p g.application) l ∷ form (in_profile p g.products) l ∷ []) (a_sign h).passes)
+  another_application l h = behind_sign signs.And (λ next more. next ∷ more) l (inr (inl refl)) h refl
 
-  pub product_begun : (l : ℕ) {t : Term} {items : List Term} {at : Place} {ts rest behind : List Token}
-      → ReadsForm (in_profile p g.application) l (tree_of t) ts rest
-      → Heads (toks.Sign signs.And) at rest behind → items ≡ t ∷ [] → InProduct p l (map tree_of items) ts behind
-  product_begun l {ts} r h e =
-      rw e (record {
-        passes = passes_then (line_passes (in_profile p g.product) l _ (inl refl) (m.as_product p l ts))
-            (passes_then (beside (form (in_profile p g.products) l ∷ []) r.passes)
-            (another_application l h));
-      })
+  no_product : (l : ℕ) (ts : List Token) → NotFirst (toks.Sign signs.Xor) ts → Passes (form (in_profile p g.sums) l ∷ []) [] (λ _. ([], tt)) ts ts
+  no_product l ts k = left_out (in_profile p g.sums) l _ (inl refl) (m.no_sums p l ts k)
 
-  pub product_more : (l : ℕ) (items : List Term) (t : Term) {new : List Term} {at : Place} {ts behind rest mid : List Token}
-      → InProduct p l (map tree_of items) ts behind
-      → ReadsForm (in_profile p g.application) l (tree_of t) behind rest → Heads (toks.Sign signs.And) at rest mid → new ≡ items ++ t ∷ []
-      → InProduct p l (map tree_of new) ts mid
-  product_more l items t c r h e =
+  no_application : (l : ℕ) (ts : List Token) → NotFirst (toks.Sign signs.And) ts → Passes (form (in_profile p g.products) l ∷ []) [] (λ _. ([], tt)) ts ts
+  no_application l ts k = left_out (in_profile p g.products) l _ (inl refl) (m.no_products p l ts k)
+
+module _ (p : Profile) where
+  abbrev SoFar : Infix → ℕ → List Tree → List Token → List Token → Type 0
+  SoFar infixes.Xor l read ts behind = Chain (in_chain infixes.Xor p l) (form (in_profile p g.product) l) (form (in_profile p g.sums) l) []
+      (λ us. (xors (trees (read ++ us.0 ∷ us.1.0)), tt)) ts behind
+  SoFar infixes.And l read ts behind = Chain (in_chain infixes.And p l) (form (in_profile p g.application) l) (form (in_profile p g.products) l) []
+      (λ us. (ands (trees (read ++ us.0 ∷ us.1.0)), tt)) ts behind
+
+  -- The operands so far.
+  pub record InChain (x : Infix) (l : ℕ) (read : List Tree) (ts behind : List Token) : Type 0 where
+    pub so_far : SoFar x l read ts behind
+
+module _ {p : Profile} where
+  -- A chain has begun: the first operand was read, and a sign stood behind it.
+  pub chain_begun : (x : Infix) (l : ℕ) {t : Term} {items : List Term} {at : Place} {ts rest behind : List Token} → ReadsOperand x p l (tree_of t) ts rest
+      → Heads (toks.Sign (infix_sign x)) at rest behind → items ≡ t ∷ [] → InChain p x l (map tree_of items) ts behind
+  chain_begun infixes.Xor l {ts = ts} r h e = rw e (record { so_far = record { passes = another_behind (sum_line l ts) r.reads (another_product l h) } })
+  chain_begun infixes.And l {ts = ts} r h e = rw e (record { so_far = record { passes = another_behind (product_line l ts) r.reads (another_application l h) } })
+
+  pub chain_more : (x : Infix) (l : ℕ) (items : List Term) (t : Term) {new : List Term} {at : Place} {ts behind rest mid : List Token}
+      → InChain p x l (map tree_of items) ts behind → ReadsOperand x p l (tree_of t) behind rest → Heads (toks.Sign (infix_sign x)) at rest mid
+      → new ≡ items ++ t ∷ [] → InChain p x l (map tree_of new) ts mid
+  chain_more infixes.Xor l items t c r h e =
       rw (e, map-append) (record {
-        passes = turned _ (λ us. rw append_assoc) (passes_then c.passes
-            (passes_then (beside (form (in_profile p g.products) l ∷ []) r.passes) (another_application l h)));
+        so_far = record { passes = turned _ (λ us. rw append_assoc) (another_behind c.so_far.passes r.reads (another_product l h)) };
+      })
+  chain_more infixes.And l items t c r h e =
+      rw (e, map-append) (record {
+        so_far = record { passes = turned _ (λ us. rw append_assoc) (another_behind c.so_far.passes r.reads (another_application l h)) };
       })
 
-  pub product_done : (l : ℕ) (items : List Term) (t : Term) {new : List Term} {whole : Tree} {ts behind rest : List Token}
-      → InProduct p l (map tree_of items) ts behind
-      → ReadsForm (in_profile p g.application) l (tree_of t) behind rest → NotFirst (toks.Sign signs.And) rest → new ≡ items ++ t ∷ []
-      → whole ≡ ands (trees (map tree_of new)) → ReadsForm (in_profile p g.product) l whole ts rest
-  product_done l items t {rest} c r k e w =
-      rw (w, e, map-append) (passes_reads c.passes (and_maybe r (skips (left_out (in_profile p g.products) l _ (inl refl) (m.no_products p l rest k)))))
+  pub chain_done : (x : Infix) (l : ℕ) (items : List Term) (t : Term) {new : List Term} {whole : Tree} {ts behind rest : List Token}
+      → InChain p x l (map tree_of items) ts behind → ReadsOperand x p l (tree_of t) behind rest → NotFirst (toks.Sign (infix_sign x)) rest
+      → new ≡ items ++ t ∷ [] → whole ≡ infix_term x (map tree_of new) → ReadsChain x p l whole ts rest
+  chain_done infixes.Xor l items t {rest = rest} c r k e w =
+      rw (w, e, map-append) (record { reads = none_behind c.so_far.passes r.reads (no_product l rest k) })
+  chain_done infixes.And l items t {rest = rest} c r k e w =
+      rw (w, e, map-append) (record { reads = none_behind c.so_far.passes r.reads (no_application l rest k) })
 
-  pub product_alone : (l : ℕ) {t : Tree} {ts rest : List Token} → ReadsForm (in_profile p g.application) l t ts rest → NotFirst (toks.Sign signs.And) rest
-      → ReadsForm (in_profile p g.product) l t ts rest
-  product_alone l {ts} {rest} r k =
-      by_pieces (in_profile p g.product) l _ (inl refl) (m.as_product p l ts)
-      (and_maybe r (skips (left_out (in_profile p g.products) l _ (inl refl) (m.no_products p l rest k))))
+  -- an operand alone
+  pub chain_alone : (x : Infix) (l : ℕ) {t : Tree} {ts rest : List Token} → ReadsOperand x p l t ts rest → NotFirst (toks.Sign (infix_sign x)) rest
+      → ReadsChain x p l t ts rest
+  chain_alone infixes.Xor l {ts = ts} {rest = rest} r k = record { reads = none_behind (sum_line l ts) r.reads (no_product l rest k) }
+  chain_alone infixes.And l {ts = ts} {rest = rest} r k = record { reads = none_behind (product_line l ts) r.reads (no_application l rest k) }
 
-  pub product_no_first : (l : ℕ) {ts : List Token} {stop : Stop} → HaltsIn (in_profile p g.application) l ts stop → HaltsIn (in_profile p g.product) l ts stop
-  product_no_first l {ts} h = halts_by_pieces (in_profile p g.product) l _ (inl refl) (m.as_product p l ts)
-      (halts_first (form (in_profile p g.products) l ∷ []) h)
+  pub chain_no_first : (x : Infix) (l : ℕ) {ts : List Token} {stop : Stop} → Halts (in_operand x p l) ts stop → Halts (in_chain x p l) ts stop
+  chain_no_first infixes.Xor l {ts = ts} h = halts_past (sum_line l ts) (halts_first (form (in_profile p g.sums) l ∷ []) h)
+  chain_no_first infixes.And l {ts = ts} h = halts_past (product_line l ts) (halts_first (form (in_profile p g.products) l ∷ []) h)
+
+  pub chain_breaks : (x : Infix) (l : ℕ) {read : List Tree} {ts behind : List Token} {stop : Stop} → InChain p x l read ts behind
+      → Halts (in_operand x p l) behind stop → Halts (in_chain x p l) ts stop
+  chain_breaks infixes.Xor l c h = chain_halts c.so_far h
+  chain_breaks infixes.And l c h = chain_halts c.so_far h
+
+  pub chain_shorter : (x : Infix) (l : ℕ) {s : Sign} {t : Tree} {at : Place} {ts mid rest : List Token} → ReadsOperand x p l t ts mid
+      → Heads (toks.Sign s) at mid rest → length rest < length ts
+  chain_shorter infixes.Xor l r h = smaller_behind r.reads h
+  chain_shorter infixes.And l r h = smaller_behind r.reads h
 
 -- ---- an atom and its arguments
 
@@ -367,10 +384,7 @@ module _ {p : Profile} where
       → ReadsForm (in_profile p g.atom) l (tree_of t) behind rest → base_first rest ≡ true → new ≡ items ++ t ∷ []
       → InArguments p l head (map tree_of new) ts rest
   arguments_more l head items t {rest} c r h e =
-      rw (e, map-append) (record {
-        passes = turned _ (λ us. rw append_assoc) (passes_then c.passes
-            (passes_then (beside (form (in_profile p g.atoms) l ∷ []) r.passes) (another_atom l rest h)));
-      })
+      rw (e, map-append) (record { passes = turned _ (λ us. rw append_assoc) (another_behind c.passes r (another_atom l rest h)) })
 
 apply_more : (head : Tree) (read : List Tree) (t : Tree) → apply head (trees (read ++ t ∷ [])) ≡ apply_of head (read ++ t ∷ [])
 apply_more head [] t = refl
@@ -385,7 +399,7 @@ module _ {p : Profile} where
     head = head;
     more = map tree_of items ++ tree_of t ∷ [];
     is = rw (w, e, map-append) (apply_more head (map tree_of items) (tree_of t));
-    reads = passes_reads c.passes (and_maybe r (skips (left_out (in_profile p g.atoms) l _ (inl refl) (m.no_atoms p l rest k))));
+    reads = none_behind c.passes r (left_out (in_profile p g.atoms) l _ (inl refl) (m.no_atoms p l rest k));
   }
 
   -- an atom with no argument
@@ -423,9 +437,7 @@ module _ {p : Profile} where
   another_element : (l : ℕ) {at : Place} {ts rest : List Token} → Heads (toks.Sign signs.Semi) at ts rest
       → Passes (form (in_profile p g.elements) l ∷ []) (form (in_profile p g.expression) l ∷ form (in_profile p g.elements) l ∷ [])
       (λ us. (us.0 ∷ us.1.0, tt)) ts rest
-  another_element l h =
-      passes_then (line_passes (in_profile p g.elements) l _ (inr (inl refl)) (by_first (in_profile p g.elements) l _ (inr (inl refl)) h refl refl refl))
-      (beside (form (in_profile p g.expression) l ∷ form (in_profile p g.elements) l ∷ []) (a_sign h).passes)
+  another_element l h = behind_sign signs.Semi (λ next more. next ∷ more) l (inr (inl refl)) h refl
 
   pub register_begun : (l : ℕ) {items : List Term} {ts rest : List Token} → Reads (token (sign signs.OpenSquare) ∷ []) tt ts rest
       → items ≡ [] → InRegister p l (map tree_of items) ts rest
@@ -441,7 +453,7 @@ module _ {p : Profile} where
         bracket = c.bracket;
         chain = record {
           passes = turned _ (λ us. elements_more (map tree_of items) (tree_of t) us.0 us.1.0)
-              (passes_then c.chain.passes (passes_then (beside (form (in_profile p g.elements) l ∷ []) r.passes) (another_element l h)));
+              (another_behind c.chain.passes r (another_element l h));
         };
       })
 
@@ -512,30 +524,13 @@ module _ {p : Profile} where
 
 -- ---- the rest of a function behind its `fun`, and of a binding behind its `let`
 
--- the names behind the first, and the sign that ends them
-abbrev pub names_rest : Sign → Stack
-names_rest end = form (common g.names) 0 ∷ token (sign end) ∷ []
+pub function_names_read : {first : Name} {before all : List Name} {ts mid rest : List Token} → Reads (kept_token any_name ∷ []) (first, tt) ts mid
+    → before ≡ first ∷ [] → ReadsNames before all signs.Arrow mid rest → ReadsFunctionNames all ts rest
+function_names_read {first} r e n = record { first = first; more = n.more; all_names = rw (n.all_names, e); reads = and_then r n.reads }
 
-module _ (end : Sign) {first : Name} {ts a : List Token} (r : Reads (kept_token any_name ∷ []) (first, tt) ts a) where
-  pub names_in_names : {stop : Stop} → HaltsIn (common g.names) 0 a stop → Halts (kept_token any_name ∷ names_rest end) ts stop
-  names_in_names h = halts_first (token (sign end) ∷ []) (halts_behind (form (common g.names) 0 ∷ []) r h)
-
-  pub names_unended : {before all : List Name} {b : List Token} {stop : Stop} → ReadsNames before all a b → Halts (token (sign end) ∷ []) b stop
-      → Halts (kept_token any_name ∷ names_rest end) ts stop
-  names_unended n h = halts_behind (token (sign end) ∷ []) (and_maybe r n.skips) h
-
-pub function_names_read : {first : Name} {before all : List Name} {ts a b rest : List Token} → Reads (kept_token any_name ∷ []) (first, tt) ts a
-    → before ≡ first ∷ [] → ReadsNames before all a b → Reads (token (sign signs.Arrow) ∷ []) tt b rest → ReadsFunctionNames all ts rest
-function_names_read {first} r e n k = record {
-  first = first;
-  more = n.more;
-  all_names = rw (n.all_names, e);
-  reads = and_then (and_maybe r n.skips) k;
-}
-
-pub bound_names_read : {first : Name} {before all : List Name} {ts a b rest : List Token} → Reads (kept_token any_name ∷ []) (first, tt) ts a
-    → before ≡ [] → ReadsNames before all a b → Reads (token (sign signs.Equal) ∷ []) tt b rest → Reads in_bound_names (first, (all, tt)) ts rest
-bound_names_read r e n k = rw (n.all_names, e) (and_then (and_maybe r n.skips) k)
+pub bound_names_read : {first : Name} {before all : List Name} {ts mid rest : List Token} → Reads (kept_token any_name ∷ []) (first, tt) ts mid
+    → before ≡ [] → ReadsNames before all signs.Equal mid rest → Reads in_bound_names (first, (all, tt)) ts rest
+bound_names_read r e n = rw (n.all_names, e) (and_then r n.reads)
 
 module _ {p : Profile} where
   module _ (l : ℕ) {all : List Name} {ts a : List Token} (n : ReadsFunctionNames all ts a) where

@@ -1,11 +1,11 @@
 // Terms made of their parts.
 
-ghost use Rattle.std.specs.Prelude.{◌≡◌, IfOk, IfErr};
+ghost use Rattle.std.specs.Prelude.{◌≡◌};
 ghost use Rattle.revs_grammar.specs.Productions.{bound_of, parts_of};
 ghost use Rattle.revs_terms.specs.Trees.{tree_of};
 ghost use Rattle.revs_terms.specs.Trees as shape;
+ghost use Rattle.revs_parser.specs.inside.Reading.{Makes};
 ghost use Rattle.revs_parser.specs.inside.Forms.{operated};
-ghost use Rattle.revs_parser.specs.declared.stop.Stop.{Stop};
 
 use crate::front::Operator;
 use crate::stop::{Stop, both};
@@ -15,8 +15,7 @@ use std::alloc::Global;
 
 // Two terms, each in a box of its own.
 fn boxed(alloc: Global, first: Term, second: Term) -> Result<(Box<Term>, Box<Term>), Stop>
-    ensures ok { IfOk result (λ made. (made.0.value ≡ first) × (made.1.value ≡ second)) }
-    ensures memory { IfErr result (λ stop. stop ≡ Stop.Memory) }
+    ensures { Makes (λ made. (made.0.value ≡ first) × (made.1.value ≡ second)) result }
 {
     let (second, first) = both(second, Box::new(alloc, first))?;
     let second = Box::new(alloc, second)?;
@@ -25,8 +24,7 @@ fn boxed(alloc: Global, first: Term, second: Term) -> Result<(Box<Term>, Box<Ter
 
 /// An assignment.
 pub fn assignment(alloc: Global, left: Term, right: Term) -> Result<Term, Stop>
-    ensures ok { IfOk result (λ term. tree_of term ≡ shape.assign (tree_of left) (tree_of right)) }
-    ensures memory { IfErr result (λ stop. stop ≡ Stop.Memory) }
+    ensures { Makes (λ term. tree_of term ≡ shape.assign (tree_of left) (tree_of right)) result }
 {
     let (left, right) = boxed(alloc, left, right)?;
     Ok(Term::Assign(left, right))
@@ -34,9 +32,7 @@ pub fn assignment(alloc: Global, left: Term, right: Term) -> Result<Term, Stop>
 
 /// Two registers, one behind the other.
 pub fn joined(alloc: Global, first: Term, second: Term, at: Place) -> Result<Term, Stop>
-    ensures ok { IfOk result
-        (λ term. tree_of term ≡ shape.append (tree_of first) (tree_of second) at) }
-    ensures memory { IfErr result (λ stop. stop ≡ Stop.Memory) }
+    ensures { Makes (λ term. tree_of term ≡ shape.append (tree_of first) (tree_of second) at) result }
 {
     let (first, second) = boxed(alloc, first, second)?;
     Ok(Term::Append(first, second, at))
@@ -44,8 +40,7 @@ pub fn joined(alloc: Global, first: Term, second: Term, at: Place) -> Result<Ter
 
 /// An operator with its operand.
 pub fn operation(alloc: Global, operator: Operator, operand: Term) -> Result<Term, Stop>
-    ensures ok { IfOk result (λ term. tree_of term ≡ operated operator (tree_of operand)) }
-    ensures memory { IfErr result (λ stop. stop ≡ Stop.Memory) }
+    ensures { Makes (λ term. tree_of term ≡ operated operator (tree_of operand)) result }
 {
     let operand = Box::new(alloc, operand)?;
     Ok(match operator {
@@ -57,8 +52,7 @@ pub fn operation(alloc: Global, operator: Operator, operand: Term) -> Result<Ter
 
 /// These parts of a term, or with no part the term.
 pub fn with_parts(alloc: Global, inner: Term, parts: Vec<Part>) -> Result<Term, Stop>
-    ensures ok { IfOk result (λ term. tree_of term ≡ parts_of (tree_of inner) parts.items) }
-    ensures memory { IfErr result (λ stop. stop ≡ Stop.Memory) }
+    ensures { Makes (λ term. tree_of term ≡ parts_of (tree_of inner) parts.items) result }
 {
     if parts.is_empty() {
         return Ok(inner);
@@ -68,8 +62,7 @@ pub fn with_parts(alloc: Global, inner: Term, parts: Vec<Part>) -> Result<Term, 
 
 /// The function of these names.
 pub fn function_of(alloc: Global, names: Vec<Name>, body: Term, at: Place) -> Result<Term, Stop>
-    ensures ok { IfOk result (λ term. tree_of term ≡ shape.function names.items (tree_of body) at) }
-    ensures memory { IfErr result (λ stop. stop ≡ Stop.Memory) }
+    ensures { Makes (λ term. tree_of term ≡ shape.function names.items (tree_of body) at) result }
 {
     Ok(Term::Fun(Box::new(alloc, Lambda { names, body })?, at))
 }
@@ -77,8 +70,7 @@ pub fn function_of(alloc: Global, names: Vec<Name>, body: Term, at: Place) -> Re
 /// The value that a `let` binds: the body, or with names the function of these names, which stands
 /// at the first of them.
 pub fn bound_value(alloc: Global, names: Vec<Name>, body: Term) -> Result<Term, Stop>
-    ensures ok { IfOk result (λ value. tree_of value ≡ bound_of names.items (tree_of body)) }
-    ensures memory { IfErr result (λ stop. stop ≡ Stop.Memory) }
+    ensures { Makes (λ value. tree_of value ≡ bound_of names.items (tree_of body)) result }
 {
     let Some(first) = names.first() else {
         return Ok(body);

@@ -5,17 +5,19 @@ ghost use Rattle.std.specs.Prelude.{[], ◌∷◌, map, IfOk, IfErr, IfSome, IfN
 ghost use Rattle.std.specs.Prelude.{MatchResult};
 ghost use Rattle.revs_terms.specs.declared.limits.TheConstants.{MOST_LEVELS};
 ghost use Rattle.revs_grammar.specs.Forms as g;
-ghost use Rattle.revs_grammar.specs.Sentences.{form, few_levels};
-ghost use Rattle.revs_parser.specs.inside.Reading.{ReadsForm, Skips, Reads, Halts, HaltsIn};
+ghost use Rattle.revs_grammar.specs.Sentences.{few_levels};
+ghost use Rattle.revs_parser.specs.inside.Reading.{Skips, Reads, Halts, Gives};
 ghost use Rattle.revs_parser.specs.inside.Reading.{base_first, item_first, HaltsAnywhere};
 ghost use Rattle.revs_parser.specs.inside.Forms.{ReadsNames, ReadsPart, ReadsAtoms, ReadsFunction};
 ghost use Rattle.revs_parser.specs.inside.Forms.{ReadsRegister, ReadsBlock, ReadsPiece};
-ghost use Rattle.revs_parser.specs.inside.Forms.{ReadsBinding, in_part, in_function};
+ghost use Rattle.revs_parser.specs.inside.Forms.{ReadsBinding, in_part, in_function, in_block};
 ghost use Rattle.revs_parser.specs.inside.Forms.{in_application, in_register, in_binding};
-ghost use Rattle.revs_parser.specs.inside.Forms.{ReadsFunctionNames, in_function_names};
+ghost use Rattle.revs_parser.specs.inside.Forms.{ReadsFunctionNames, in_function_names, names_rest};
 ghost use Rattle.revs_parser.specs.inside.Forms.{in_bound_names, ReadsAppend, in_append, closed_by};
 ghost use Rattle.revs_parser.specs.inside.Forms.{EndsPiece, HeadsFor, NoFor, ReadsFor, in_for};
-ghost use Rattle.revs_parser.specs.inside.Forms.{in_range, ReadsLoop, in_loop};
+ghost use Rattle.revs_parser.specs.inside.Forms.{in_range, ReadsLoop, in_loop, GivesAt, in_parts};
+ghost use Rattle.revs_parser.specs.inside.Forms.{infix_sign, infix_term, ReadsChain, in_chain};
+ghost use Rattle.revs_parser.specs.inside.Forms.{ReadsOperand, in_operand};
 ghost use Rattle.revs_parser.specs.declared.stop.Stop.{Stop};
 ghost use Rattle.revs_terms.specs.Trees.{tree_of, item_tree_of};
 
@@ -31,29 +33,67 @@ use revs_terms::limits::MOST_LEVELS;
 use revs_terms::{Ends, Item, Name, Part, Term};
 use std::alloc::Global;
 
-// { name } behind the names so far.
-fn more_names(mut names: Vec<Name>, tokens: &[Token]) -> Result<(Vec<Name>, &[Token]), Stop>
-    ensures { MatchResult result (λ read. ReadsNames names.items read.0.items tokens.now read.1.now)
-        (λ stop. HaltsIn (g.common g.names) 0 tokens.now stop) }
+/// What the reading of an expression goes by: where memory comes from, the profile of the forms, and
+/// the level.
+#[derive(Clone, Copy)]
+pub struct Reader {
+    pub alloc: Global,
+    pub profile: Profile,
+    pub level: u32,
+}
+
+// What stands between the operands of a chain: `<>` between products, `&&` between applications.
+#[derive(Clone, Copy)]
+enum Infix {
+    Xor,
+    And,
+}
+
+impl Infix {
+    fn sign(self) -> Sign
+        ensures { result ≡ infix_sign self }
+    {
+        match self {
+            Infix::Xor => Sign::Xor,
+            Infix::And => Sign::And,
+        }
+    }
+
+    // The term of these operands.
+    fn term(self, operands: Vec<Term>) -> Term
+        ensures { tree_of result ≡ infix_term self (map tree_of operands.items) }
+    {
+        match self {
+            Infix::Xor => Term::Xor(operands),
+            Infix::And => Term::And(operands),
+        }
+    }
+}
+
+// { name } behind the names so far, and the sign that ends them.
+fn names_up_to(
+    mut names: Vec<Name>,
+    tokens: &[Token],
+    end: Sign,
+) -> Result<(Vec<Name>, &[Token]), Stop>
+    ensures { Gives (λ all. ReadsNames names.items all.items end)
+        (names_rest end) tokens.now result }
 {
     let mut rest = tokens;
     while begins_name(rest) {
         rest = put(&mut names, name(rest))?;
     }
-    Ok((names, rest))
+    both(names, expect(rest, end))
 }
 
 // The names of a function behind its `fun`, and its arrow.
 fn function_names(alloc: Global, tokens: &[Token]) -> Result<(Vec<Name>, &[Token]), Stop>
-    ensures { MatchResult result (λ read. ReadsFunctionNames read.0.items tokens.now read.1.now)
-        (λ stop. Halts in_function_names tokens.now stop) }
+    ensures { Gives (λ names. ReadsFunctionNames names.items) in_function_names tokens.now result }
 {
     let (first, rest) = name(tokens)?;
     let mut names = Vec::new(alloc);
     names.push(first)?;
-    let (names, rest) = more_names(names, rest)?;
-    let rest = expect(rest, Sign::Arrow)?;
-    Ok((names, rest))
+    names_up_to(names, rest, Sign::Arrow)
 }
 
 // The name that a `let` binds, the names behind it, and the `=`.
@@ -63,230 +103,8 @@ fn bound_names(alloc: Global, tokens: &[Token]) -> Result<(Name, Vec<Name>, &[To
         (λ stop. Halts in_bound_names tokens.now stop) }
 {
     let (bound, rest) = name(tokens)?;
-    let (names, rest) = more_names(Vec::new(alloc), rest)?;
-    let rest = expect(rest, Sign::Equal)?;
+    let (names, rest) = names_up_to(Vec::new(alloc), rest, Sign::Equal)?;
     Ok((bound, names, rest))
-}
-
-// A part behind its dot, which has this place.
-fn part(
-    alloc: Global,
-    profile: Profile,
-    tokens: &[Token],
-    at: Place,
-) -> Result<(Part, &[Token]), Stop>
-    ensures { MatchResult result (λ read. ReadsPart profile at read.0 tokens.now read.1.now)
-        (λ stop. Halts (in_part profile) tokens.now stop) }
-{
-    let rest = expect(tokens, Sign::OpenSquare)?;
-    let (i, rest) = num(alloc, profile, rest)?;
-    let Some((_, behind)) = after(rest, Sign::DotDot) else {
-        return both(Part::Index { i, at }, expect(rest, Sign::CloseSquare));
-    };
-    let (i, (j, rest)) = both(i, num(alloc, profile, behind))?;
-    both(Part::Slice { i, j, at }, expect(rest, Sign::CloseSquare))
-}
-
-// { part }
-fn all_parts(
-    alloc: Global,
-    profile: Profile,
-    tokens: &[Token],
-) -> Result<(Vec<Part>, &[Token]), Stop>
-    ensures { MatchResult result
-        (λ read. Skips (form (g.in_profile profile g.parts) 0 ∷ [])
-        (read.0.items, tt) tokens.now read.1.now)
-        (λ stop. HaltsIn (g.in_profile profile g.parts) 0 tokens.now stop) }
-{
-    let mut parts = Vec::new(alloc);
-    let mut rest = tokens;
-    while let Some((at, behind)) = after(rest, Sign::Dot) {
-        rest = put_alone(&mut parts, part(alloc, profile, behind, at))?;
-    }
-    Ok((parts, rest))
-}
-
-// The name of a `for` behind the word, its two numbers, and the words around them.
-fn range(
-    alloc: Global,
-    profile: Profile,
-    tokens: &[Token],
-) -> Result<(Name, Box<Ends>, &[Token]), Stop>
-    ensures { MatchResult result
-        (λ read. Reads (in_range profile)
-        (read.0, (read.1.value.first, (read.1.value.last, tt))) tokens.now read.2.now)
-        (λ stop. Halts (in_range profile) tokens.now stop) }
-{
-    let (name, rest) = name(tokens)?;
-    let rest = expect_word(rest, Word::In)?;
-    let (first, rest) = num(alloc, profile, rest)?;
-    let (first, rest) = both(first, expect(rest, Sign::DotDot))?;
-    let (first, (last, rest)) = both(first, num(alloc, profile, rest))?;
-    let (ends, rest) = both(Ends { first, last }, expect_word(rest, Word::Do))?;
-    let ends = Box::new(alloc, ends)?;
-    Ok((name, ends, rest))
-}
-
-// The level inside, where it is at most 100; the tokens begin with the one that opens it.
-fn open(level: u32, tokens: &[Token]) -> Result<u32, Stop>
-    requires { level ≤ MOST_LEVELS }
-    ensures inner { IfOk result (λ inner. inner ≡ level + 1) }
-    ensures within { IfOk result (λ inner. few_levels (level + 1) ≡ true) }
-    ensures stops { IfErr result (λ stop. stop ≡ Stop.Nesting (length tokens.now)) }
-    ensures deep { IfErr result (λ stop. few_levels (level + 1) ≡ false) }
-{
-    if level < MOST_LEVELS {
-        Ok(level + 1)
-    } else {
-        Err(Stop::Nesting(tokens.len()))
-    }
-}
-
-/// The expression at this level that stands first, and the tokens behind it.
-#[cycle(read)]
-pub fn expression(
-    alloc: Global,
-    profile: Profile,
-    tokens: &[Token],
-    level: u32,
-) -> Result<(Term, &[Token]), Stop>
-    requires { level ≤ MOST_LEVELS }
-    ensures { MatchResult result
-        (λ read. ReadsForm (g.in_profile profile g.expression) level
-        (tree_of read.0) tokens.now read.1.now)
-        (λ stop. HaltsIn (g.in_profile profile g.expression) level tokens.now stop) }
-{
-    if let Some((at, behind)) = after_word(tokens, Word::Fun) {
-        let inner = open(level, tokens)?;
-        return function(alloc, profile, behind, inner, at);
-    }
-    let (left, rest) = sum(alloc, profile, tokens, level)?;
-    let Some((_, behind)) = after(rest, Sign::Assign) else {
-        return Ok((left, rest));
-    };
-    let (left, (right, rest)) = both(left, sum(alloc, profile, behind, level))?;
-    let term = assignment(alloc, left, right)?;
-    Ok((term, rest))
-}
-
-// The names and the body of a function behind its `fun`, at the level of the body.
-#[cycle(read)]
-fn function(
-    alloc: Global,
-    profile: Profile,
-    tokens: &[Token],
-    level: u32,
-    at: Place,
-) -> Result<(Term, &[Token]), Stop>
-    requires { level ≤ MOST_LEVELS }
-    ensures { MatchResult result
-        (λ read. ReadsFunction profile level at (tree_of read.0) tokens.now read.1.now)
-        (λ stop. Halts (in_function profile level) tokens.now stop) }
-{
-    let (names, rest) = function_names(alloc, tokens)?;
-    let (body, rest) = expression(alloc, profile, rest, level)?;
-    let term = function_of(alloc, names, body, at)?;
-    Ok((term, rest))
-}
-
-#[cycle(read)]
-fn sum(
-    alloc: Global,
-    profile: Profile,
-    tokens: &[Token],
-    level: u32,
-) -> Result<(Term, &[Token]), Stop>
-    requires { level ≤ MOST_LEVELS }
-    ensures { MatchResult result
-        (λ read. ReadsForm (g.in_profile profile g.sum) level
-        (tree_of read.0) tokens.now read.1.now)
-        (λ stop. HaltsIn (g.in_profile profile g.sum) level tokens.now stop) }
-{
-    let (first, rest) = product(alloc, profile, tokens, level)?;
-    let Some((_, mut behind)) = after(rest, Sign::Xor) else {
-        return Ok((first, rest));
-    };
-    let mut terms = Vec::new(alloc);
-    terms.push(first)?;
-    'products: loop {
-        let rest = put(&mut terms, product(alloc, profile, behind, level))?;
-        let Some((_, more)) = after(rest, Sign::Xor) else {
-            return Ok((Term::Xor(terms), rest));
-        };
-        behind = more;
-    }
-}
-
-#[cycle(read)]
-fn product(
-    alloc: Global,
-    profile: Profile,
-    tokens: &[Token],
-    level: u32,
-) -> Result<(Term, &[Token]), Stop>
-    requires { level ≤ MOST_LEVELS }
-    ensures { MatchResult result
-        (λ read. ReadsForm (g.in_profile profile g.product) level
-        (tree_of read.0) tokens.now read.1.now)
-        (λ stop. HaltsIn (g.in_profile profile g.product) level tokens.now stop) }
-{
-    let (first, rest) = application(alloc, profile, tokens, level)?;
-    let Some((_, mut behind)) = after(rest, Sign::And) else {
-        return Ok((first, rest));
-    };
-    let mut terms = Vec::new(alloc);
-    terms.push(first)?;
-    'applications: loop {
-        let rest = put(&mut terms, application(alloc, profile, behind, level))?;
-        let Some((_, more)) = after(rest, Sign::And) else {
-            return Ok((Term::And(terms), rest));
-        };
-        behind = more;
-    }
-}
-
-#[cycle(read)]
-fn application(
-    alloc: Global,
-    profile: Profile,
-    tokens: &[Token],
-    level: u32,
-) -> Result<(Term, &[Token]), Stop>
-    requires { level ≤ MOST_LEVELS }
-    ensures { MatchResult result
-        (λ read. ReadsForm (g.in_profile profile g.application) level
-        (tree_of read.0) tokens.now read.1.now)
-        (λ stop. HaltsIn (g.in_profile profile g.application) level tokens.now stop) }
-{
-    if let Some((at, behind)) = after_word(tokens, Word::Append) {
-        return append(alloc, profile, behind, level, at);
-    }
-    let Some((operator, behind)) = first_operator(alloc, profile, tokens)? else {
-        return atoms(alloc, profile, tokens, level);
-    };
-    let (operator, (operand, rest)) = both(operator, atom(alloc, profile, behind, level))?;
-    let term = operation(alloc, operator, operand)?;
-    Ok((term, rest))
-}
-
-// The two operands behind an `append`.
-#[cycle(read)]
-fn append(
-    alloc: Global,
-    profile: Profile,
-    tokens: &[Token],
-    level: u32,
-    at: Place,
-) -> Result<(Term, &[Token]), Stop>
-    requires { level ≤ MOST_LEVELS }
-    ensures { MatchResult result
-        (λ read. ReadsAppend profile level at (tree_of read.0) tokens.now read.1.now)
-        (λ stop. Halts (in_append profile level) tokens.now stop) }
-{
-    let (first, rest) = atom(alloc, profile, tokens, level)?;
-    let (first, (second, rest)) = both(first, atom(alloc, profile, rest, level))?;
-    let term = joined(alloc, first, second, at)?;
-    Ok((term, rest))
 }
 
 // Whether the first token begins a base.
@@ -301,120 +119,6 @@ fn begins_base(tokens: &[Token]) -> bool
         Tok::Word(word) => matches!(word, Word::True | Word::False | Word::Reg),
         Tok::Sign(sign) => matches!(sign, Sign::OpenRound | Sign::OpenCurly),
         _ => false,
-    }
-}
-
-// An atom, and its arguments.
-#[cycle(read)]
-fn atoms(
-    alloc: Global,
-    profile: Profile,
-    tokens: &[Token],
-    level: u32,
-) -> Result<(Term, &[Token]), Stop>
-    requires { level ≤ MOST_LEVELS }
-    ensures { MatchResult result
-        (λ read. ReadsAtoms profile level (tree_of read.0) tokens.now read.1.now)
-        (λ stop. Halts (in_application profile level) tokens.now stop) }
-{
-    let (head, mut rest) = atom(alloc, profile, tokens, level)?;
-    if !begins_base(rest) {
-        return Ok((head, rest));
-    }
-    let head = Box::new(alloc, head)?;
-    let mut arguments = Vec::new(alloc);
-    'arguments: loop {
-        rest = put(&mut arguments, atom(alloc, profile, rest, level))?;
-        if !begins_base(rest) {
-            return Ok((Term::Apply(head, arguments), rest));
-        }
-    }
-}
-
-#[cycle(read)]
-fn atom(
-    alloc: Global,
-    profile: Profile,
-    tokens: &[Token],
-    level: u32,
-) -> Result<(Term, &[Token]), Stop>
-    requires { level ≤ MOST_LEVELS }
-    ensures { MatchResult result
-        (λ read. ReadsForm (g.in_profile profile g.atom) level
-        (tree_of read.0) tokens.now read.1.now)
-        (λ stop. HaltsIn (g.in_profile profile g.atom) level tokens.now stop) }
-{
-    let (inner, rest) = base(alloc, profile, tokens, level)?;
-    let (inner, (parts, rest)) = both(inner, all_parts(alloc, profile, rest))?;
-    let term = with_parts(alloc, inner, parts)?;
-    Ok((term, rest))
-}
-
-#[cycle(read)]
-fn base(
-    alloc: Global,
-    profile: Profile,
-    tokens: &[Token],
-    level: u32,
-) -> Result<(Term, &[Token]), Stop>
-    requires { level ≤ MOST_LEVELS }
-    ensures { MatchResult result
-        (λ read. ReadsForm (g.in_profile profile g.base) level
-        (tree_of read.0) tokens.now read.1.now)
-        (λ stop. HaltsIn (g.in_profile profile g.base) level tokens.now stop) }
-{
-    let Some((opener, at, behind)) = first_opener(tokens) else {
-        return single_base(tokens);
-    };
-    let inner = open(level, tokens)?;
-    match opener {
-        Opener::Register => register(alloc, profile, behind, inner, at),
-        Opener::Bracket => closed(alloc, profile, behind, inner, Sign::CloseRound),
-        Opener::Block => block(alloc, profile, behind, inner, at),
-    }
-}
-
-// An expression and the sign that ends it.
-#[cycle(read)]
-fn closed(
-    alloc: Global,
-    profile: Profile,
-    tokens: &[Token],
-    level: u32,
-    end: Sign,
-) -> Result<(Term, &[Token]), Stop>
-    requires { level ≤ MOST_LEVELS }
-    ensures { MatchResult result
-        (λ read. Reads (closed_by profile end level) (tree_of read.0, tt) tokens.now read.1.now)
-        (λ stop. Halts (closed_by profile end level) tokens.now stop) }
-{
-    let (term, rest) = expression(alloc, profile, tokens, level)?;
-    both(term, expect(rest, end))
-}
-
-// The elements of a register behind its `reg`.
-#[cycle(read)]
-fn register(
-    alloc: Global,
-    profile: Profile,
-    tokens: &[Token],
-    level: u32,
-    at: Place,
-) -> Result<(Term, &[Token]), Stop>
-    requires { level ≤ MOST_LEVELS }
-    ensures { MatchResult result
-        (λ read. ReadsRegister profile level at (tree_of read.0) tokens.now read.1.now)
-        (λ stop. Halts (in_register profile level) tokens.now stop) }
-{
-    let mut behind = expect(tokens, Sign::OpenSquare)?;
-    let mut elements = Vec::new(alloc);
-    'elements: loop {
-        let rest = put(&mut elements, expression(alloc, profile, behind, level))?;
-        let Some((_, more)) = after(rest, Sign::Semi) else {
-            let rest = expect(rest, Sign::CloseSquare)?;
-            return Ok((Term::Reg(elements, at), rest));
-        };
-        behind = more;
     }
 }
 
@@ -436,34 +140,6 @@ fn piece_of(term: Term, tokens: &[Token]) -> Result<(Piece, &[Token]), Stop>
     Ok((Piece::Last(term), rest))
 }
 
-// The items and the last expression of a block behind its `{`.
-#[cycle(read)]
-fn block(
-    alloc: Global,
-    profile: Profile,
-    tokens: &[Token],
-    level: u32,
-    at: Place,
-) -> Result<(Term, &[Token]), Stop>
-    requires { level ≤ MOST_LEVELS }
-    ensures { MatchResult result
-        (λ read. ReadsBlock profile level at (tree_of read.0) tokens.now read.1.now)
-        (λ stop. HaltsIn (g.in_profile profile g.body) level tokens.now stop) }
-{
-    let mut items = Vec::new(alloc);
-    let mut rest = tokens;
-    'items: loop {
-        let (next, left) = item_or_last(alloc, profile, rest, level)?;
-        rest = left;
-        match next {
-            Piece::Item(item) => items.push(item)?,
-            Piece::Last(last) => {
-                return Ok((Term::Block(items, Box::new(alloc, last)?, at), rest));
-            }
-        }
-    }
-}
-
 // Whether the first token begins an item that is no expression.
 fn begins_item(profile: Profile, tokens: &[Token]) -> bool
     ensures { result ≡ item_first profile tokens.now }
@@ -478,67 +154,6 @@ fn begins_item(profile: Profile, tokens: &[Token]) -> bool
     }
 }
 
-#[cycle(read)]
-fn item_or_last(
-    alloc: Global,
-    profile: Profile,
-    tokens: &[Token],
-    level: u32,
-) -> Result<(Piece, &[Token]), Stop>
-    requires { level ≤ MOST_LEVELS }
-    ensures { MatchResult result (λ read. ReadsPiece profile level read.0 tokens.now read.1.now)
-        (λ stop. HaltsIn (g.in_profile profile g.body) level tokens.now stop) }
-{
-    if begins_item(profile, tokens) {
-        let (item, rest) = item(alloc, profile, tokens, level)?;
-        return Ok((Piece::Item(item), rest));
-    }
-    let (term, rest) = expression(alloc, profile, tokens, level)?;
-    piece_of(term, rest)
-}
-
-// An item that is no expression.
-#[cycle(read)]
-fn item(
-    alloc: Global,
-    profile: Profile,
-    tokens: &[Token],
-    level: u32,
-) -> Result<(Item, &[Token]), Stop>
-    requires { level ≤ MOST_LEVELS }
-    ensures { MatchResult result
-        (λ read. ReadsForm (g.in_profile profile g.item) level
-        (item_tree_of read.0) tokens.now read.1.now)
-        (λ stop. HaltsIn (g.in_profile profile g.item) level tokens.now stop) }
-{
-    if let Some((_, behind)) = after_word(tokens, Word::Let) {
-        return binding(alloc, profile, behind, level);
-    }
-    let Some((at, behind)) = after_for(profile, tokens) else {
-        return Err(Stop::Syntax(tokens.len()));
-    };
-    repetition(alloc, profile, behind, level, at)
-}
-
-// What a `let` binds, behind the word.
-#[cycle(read)]
-fn binding(
-    alloc: Global,
-    profile: Profile,
-    tokens: &[Token],
-    level: u32,
-) -> Result<(Item, &[Token]), Stop>
-    requires { level ≤ MOST_LEVELS }
-    ensures { MatchResult result
-        (λ read. ReadsBinding profile level (item_tree_of read.0) tokens.now read.1.now)
-        (λ stop. Halts (in_binding profile level) tokens.now stop) }
-{
-    let (name, names, rest) = bound_names(alloc, tokens)?;
-    let (body, rest) = closed(alloc, profile, rest, level, Sign::Semi)?;
-    let value = bound_value(alloc, names, body)?;
-    Ok((Item::Let { name, value }, rest))
-}
-
 // The place of a `for` and the tokens behind it, where it stands first and the profile has it.
 fn after_for(profile: Profile, tokens: &[Token]) -> Option<(Place, &[Token])>
     ensures found { IfSome result (λ found. HeadsFor profile found.0 tokens.now found.1.now) }
@@ -550,78 +165,355 @@ fn after_for(profile: Profile, tokens: &[Token]) -> Option<(Place, &[Token])>
     }
 }
 
-// A `for` behind the word, which has this place.
-#[cycle(read)]
-fn repetition(
-    alloc: Global,
-    profile: Profile,
-    tokens: &[Token],
-    level: u32,
-    at: Place,
-) -> Result<(Item, &[Token]), Stop>
-    requires { level ≤ MOST_LEVELS }
-    ensures { MatchResult result
-        (λ read. ReadsFor profile level at (item_tree_of read.0) tokens.now read.1.now)
-        (λ stop. Halts (in_for profile (level + 1)) tokens.now stop) }
-{
-    let (name, ends, rest) = range(alloc, profile, tokens)?;
-    let Some((_, behind)) = after(rest, Sign::OpenCurly) else {
-        return Err(Stop::Syntax(rest.len()));
-    };
-    let inner = open(level, rest)?;
-    let (items, rest) = loop_items(alloc, profile, behind, inner)?;
-    Ok((
-        Item::For {
-            name,
-            ends,
-            items,
-            at,
-        },
-        rest,
-    ))
-}
+impl Reader {
+    // A part behind its dot, which has this place.
+    fn part(self, tokens: &[Token], at: Place) -> Result<(Part, &[Token]), Stop>
+        ensures { Gives (ReadsPart self.profile at) (in_part self.profile) tokens.now result }
+    {
+        let rest = expect(tokens, Sign::OpenSquare)?;
+        let (i, rest) = num(self.alloc, self.profile, rest)?;
+        let Some((_, behind)) = after(rest, Sign::DotDot) else {
+            return both(Part::Index { i, at }, expect(rest, Sign::CloseSquare));
+        };
+        let (i, (j, rest)) = both(i, num(self.alloc, self.profile, behind))?;
+        both(Part::Slice { i, j, at }, expect(rest, Sign::CloseSquare))
+    }
 
-// The items of a `for` behind its `{`, and its end.
-#[cycle(read)]
-fn loop_items(
-    alloc: Global,
-    profile: Profile,
-    tokens: &[Token],
-    level: u32,
-) -> Result<(Vec<Item>, &[Token]), Stop>
-    requires { level ≤ MOST_LEVELS }
-    ensures { MatchResult result
-        (λ read. ReadsLoop profile level (map item_tree_of read.0.items) tokens.now read.1.now)
-        (λ stop. Halts (in_loop profile level) tokens.now stop) }
-{
-    let mut items = Vec::new(alloc);
-    let mut rest = tokens;
-    'items: loop {
-        rest = put(&mut items, loop_item(alloc, profile, rest, level))?;
-        if let Some((_, behind)) = after(rest, Sign::CloseCurly) {
-            let rest = expect(behind, Sign::Semi)?;
-            return Ok((items, rest));
+    // { part }
+    fn all_parts(self, tokens: &[Token]) -> Result<(Vec<Part>, &[Token]), Stop>
+        ensures { Gives (λ parts. Skips (in_parts self.profile) (parts.items, tt))
+            (in_parts self.profile) tokens.now result }
+    {
+        let mut parts = Vec::new(self.alloc);
+        let mut rest = tokens;
+        while let Some((at, behind)) = after(rest, Sign::Dot) {
+            rest = put_alone(&mut parts, self.part(behind, at))?;
+        }
+        Ok((parts, rest))
+    }
+
+    // The name of a `for` behind the word, its two numbers, and the words around them.
+    fn range(self, tokens: &[Token]) -> Result<(Name, Box<Ends>, &[Token]), Stop>
+        ensures { MatchResult result
+            (λ read. Reads (in_range self.profile)
+            (read.0, (read.1.value.first, (read.1.value.last, tt))) tokens.now read.2.now)
+            (λ stop. Halts (in_range self.profile) tokens.now stop) }
+    {
+        let (name, rest) = name(tokens)?;
+        let rest = expect_word(rest, Word::In)?;
+        let (first, rest) = num(self.alloc, self.profile, rest)?;
+        let (first, rest) = both(first, expect(rest, Sign::DotDot))?;
+        let (first, (last, rest)) = both(first, num(self.alloc, self.profile, rest))?;
+        let (ends, rest) = both(Ends { first, last }, expect_word(rest, Word::Do))?;
+        let ends = Box::new(self.alloc, ends)?;
+        Ok((name, ends, rest))
+    }
+
+    // The level inside, where it is at most 100; the tokens begin with the one that opens it.
+    fn open(self, tokens: &[Token]) -> Result<u32, Stop>
+        requires { self.level ≤ MOST_LEVELS }
+        ensures inner { IfOk result (λ inner. inner ≡ self.level + 1) }
+        ensures within { IfOk result (λ inner. few_levels (self.level + 1) ≡ true) }
+        ensures stops { IfErr result (λ stop. stop ≡ Stop.Nesting (length tokens.now)) }
+        ensures deep { IfErr result (λ stop. few_levels (self.level + 1) ≡ false) }
+    {
+        if self.level < MOST_LEVELS {
+            Ok(self.level + 1)
+        } else {
+            Err(Stop::Nesting(tokens.len()))
         }
     }
-}
 
-// An item of a `for`.
-#[cycle(read)]
-fn loop_item(
-    alloc: Global,
-    profile: Profile,
-    tokens: &[Token],
-    level: u32,
-) -> Result<(Item, &[Token]), Stop>
-    requires { level ≤ MOST_LEVELS }
-    ensures { MatchResult result
-        (λ read. ReadsForm (g.in_profile profile g.loop_item) level
-        (item_tree_of read.0) tokens.now read.1.now)
-        (λ stop. HaltsIn (g.in_profile profile g.loop_item) level tokens.now stop) }
-{
-    if begins_item(profile, tokens) {
-        return item(alloc, profile, tokens, level);
+    /// The expression at this level that stands first, and the tokens behind it.
+    #[cycle(read)]
+    pub fn expression(self, tokens: &[Token]) -> Result<(Term, &[Token]), Stop>
+        requires { self.level ≤ MOST_LEVELS }
+        ensures { GivesAt g.expression self tree_of tokens.now result }
+    {
+        if let Some((at, behind)) = after_word(tokens, Word::Fun) {
+            let level = self.open(tokens)?;
+            return Reader { level, ..self }.function(behind, at);
+        }
+        let (left, rest) = self.chained(tokens, Infix::Xor)?;
+        let Some((_, behind)) = after(rest, Sign::Assign) else {
+            return Ok((left, rest));
+        };
+        let (left, (right, rest)) = both(left, self.chained(behind, Infix::Xor))?;
+        let term = assignment(self.alloc, left, right)?;
+        Ok((term, rest))
     }
-    let (term, rest) = closed(alloc, profile, tokens, level, Sign::Semi)?;
-    Ok((Item::Do(term), rest))
+
+    // The names and the body of a function behind its `fun`, at the level of the body.
+    #[cycle(read)]
+    fn function(self, tokens: &[Token], at: Place) -> Result<(Term, &[Token]), Stop>
+        requires { self.level ≤ MOST_LEVELS }
+        ensures { Gives (λ term. ReadsFunction self.profile self.level at (tree_of term))
+            (in_function self.profile self.level) tokens.now result }
+    {
+        let (names, rest) = function_names(self.alloc, tokens)?;
+        let (body, rest) = self.expression(rest)?;
+        let term = function_of(self.alloc, names, body, at)?;
+        Ok((term, rest))
+    }
+
+    // The operands of a chain, one after another.
+    #[cycle(read)]
+    fn chained(self, tokens: &[Token], operator: Infix) -> Result<(Term, &[Token]), Stop>
+        requires { self.level ≤ MOST_LEVELS }
+        ensures { Gives (λ term. ReadsChain operator self.profile self.level (tree_of term))
+            (in_chain operator self.profile self.level) tokens.now result }
+    {
+        let (first, rest) = self.operand(tokens, operator)?;
+        let Some((_, mut behind)) = after(rest, operator.sign()) else {
+            return Ok((first, rest));
+        };
+        let mut terms = Vec::new(self.alloc);
+        terms.push(first)?;
+        'operands: loop {
+            let rest = put(&mut terms, self.operand(behind, operator))?;
+            let Some((_, more)) = after(rest, operator.sign()) else {
+                return Ok((operator.term(terms), rest));
+            };
+            behind = more;
+        }
+    }
+
+    // An operand of a chain.
+    #[cycle(read)]
+    fn operand(self, tokens: &[Token], operator: Infix) -> Result<(Term, &[Token]), Stop>
+        requires { self.level ≤ MOST_LEVELS }
+        ensures { Gives (λ term. ReadsOperand operator self.profile self.level (tree_of term))
+            (in_operand operator self.profile self.level) tokens.now result }
+    {
+        match operator {
+            Infix::Xor => self.chained(tokens, Infix::And),
+            Infix::And => self.application(tokens),
+        }
+    }
+
+    #[cycle(read)]
+    fn application(self, tokens: &[Token]) -> Result<(Term, &[Token]), Stop>
+        requires { self.level ≤ MOST_LEVELS }
+        ensures { GivesAt g.application self tree_of tokens.now result }
+    {
+        if let Some((at, behind)) = after_word(tokens, Word::Append) {
+            return self.append(behind, at);
+        }
+        let Some((operator, behind)) = first_operator(self.alloc, self.profile, tokens)? else {
+            return self.atoms(tokens);
+        };
+        let (operator, (operand, rest)) = both(operator, self.atom(behind))?;
+        let term = operation(self.alloc, operator, operand)?;
+        Ok((term, rest))
+    }
+
+    // The two operands behind an `append`.
+    #[cycle(read)]
+    fn append(self, tokens: &[Token], at: Place) -> Result<(Term, &[Token]), Stop>
+        requires { self.level ≤ MOST_LEVELS }
+        ensures { Gives (λ term. ReadsAppend self.profile self.level at (tree_of term))
+            (in_append self.profile self.level) tokens.now result }
+    {
+        let (first, rest) = self.atom(tokens)?;
+        let (first, (second, rest)) = both(first, self.atom(rest))?;
+        let term = joined(self.alloc, first, second, at)?;
+        Ok((term, rest))
+    }
+
+    // An atom, and its arguments.
+    #[cycle(read)]
+    fn atoms(self, tokens: &[Token]) -> Result<(Term, &[Token]), Stop>
+        requires { self.level ≤ MOST_LEVELS }
+        ensures { Gives (λ term. ReadsAtoms self.profile self.level (tree_of term))
+            (in_application self.profile self.level) tokens.now result }
+    {
+        let (head, mut rest) = self.atom(tokens)?;
+        if !begins_base(rest) {
+            return Ok((head, rest));
+        }
+        let head = Box::new(self.alloc, head)?;
+        let mut arguments = Vec::new(self.alloc);
+        'arguments: loop {
+            rest = put(&mut arguments, self.atom(rest))?;
+            if !begins_base(rest) {
+                return Ok((Term::Apply(head, arguments), rest));
+            }
+        }
+    }
+
+    #[cycle(read)]
+    fn atom(self, tokens: &[Token]) -> Result<(Term, &[Token]), Stop>
+        requires { self.level ≤ MOST_LEVELS }
+        ensures { GivesAt g.atom self tree_of tokens.now result }
+    {
+        let (inner, rest) = self.base(tokens)?;
+        let (inner, (parts, rest)) = both(inner, self.all_parts(rest))?;
+        let term = with_parts(self.alloc, inner, parts)?;
+        Ok((term, rest))
+    }
+
+    #[cycle(read)]
+    fn base(self, tokens: &[Token]) -> Result<(Term, &[Token]), Stop>
+        requires { self.level ≤ MOST_LEVELS }
+        ensures { GivesAt g.base self tree_of tokens.now result }
+    {
+        let Some((opener, at, behind)) = first_opener(tokens) else {
+            return single_base(tokens);
+        };
+        let level = self.open(tokens)?;
+        let inner = Reader { level, ..self };
+        match opener {
+            Opener::Register => inner.register(behind, at),
+            Opener::Bracket => inner.closed(behind, Sign::CloseRound),
+            Opener::Block => inner.block(behind, at),
+        }
+    }
+
+    // An expression and the sign that ends it.
+    #[cycle(read)]
+    fn closed(self, tokens: &[Token], end: Sign) -> Result<(Term, &[Token]), Stop>
+        requires { self.level ≤ MOST_LEVELS }
+        ensures { Gives (λ term. Reads (closed_by self.profile end self.level) (tree_of term, tt))
+            (closed_by self.profile end self.level) tokens.now result }
+    {
+        let (term, rest) = self.expression(tokens)?;
+        both(term, expect(rest, end))
+    }
+
+    // The elements of a register behind its `reg`.
+    #[cycle(read)]
+    fn register(self, tokens: &[Token], at: Place) -> Result<(Term, &[Token]), Stop>
+        requires { self.level ≤ MOST_LEVELS }
+        ensures { Gives (λ term. ReadsRegister self.profile self.level at (tree_of term))
+            (in_register self.profile self.level) tokens.now result }
+    {
+        let mut behind = expect(tokens, Sign::OpenSquare)?;
+        let mut elements = Vec::new(self.alloc);
+        'elements: loop {
+            let rest = put(&mut elements, self.expression(behind))?;
+            let Some((_, more)) = after(rest, Sign::Semi) else {
+                let rest = expect(rest, Sign::CloseSquare)?;
+                return Ok((Term::Reg(elements, at), rest));
+            };
+            behind = more;
+        }
+    }
+
+    // The items and the last expression of a block behind its `{`.
+    #[cycle(read)]
+    fn block(self, tokens: &[Token], at: Place) -> Result<(Term, &[Token]), Stop>
+        requires { self.level ≤ MOST_LEVELS }
+        ensures { Gives (λ term. ReadsBlock self.profile self.level at (tree_of term))
+            (in_block self.profile self.level) tokens.now result }
+    {
+        let mut items = Vec::new(self.alloc);
+        let mut rest = tokens;
+        'items: loop {
+            let (next, left) = self.item_or_last(rest)?;
+            rest = left;
+            match next {
+                Piece::Item(item) => items.push(item)?,
+                Piece::Last(last) => {
+                    return Ok((Term::Block(items, Box::new(self.alloc, last)?, at), rest));
+                }
+            }
+        }
+    }
+
+    #[cycle(read)]
+    fn item_or_last(self, tokens: &[Token]) -> Result<(Piece, &[Token]), Stop>
+        requires { self.level ≤ MOST_LEVELS }
+        ensures { Gives (ReadsPiece self.profile self.level) (in_block self.profile self.level)
+            tokens.now result }
+    {
+        if begins_item(self.profile, tokens) {
+            let (item, rest) = self.item(tokens)?;
+            return Ok((Piece::Item(item), rest));
+        }
+        let (term, rest) = self.expression(tokens)?;
+        piece_of(term, rest)
+    }
+
+    // An item that is no expression.
+    #[cycle(read)]
+    fn item(self, tokens: &[Token]) -> Result<(Item, &[Token]), Stop>
+        requires { self.level ≤ MOST_LEVELS }
+        ensures { GivesAt g.item self item_tree_of tokens.now result }
+    {
+        if let Some((_, behind)) = after_word(tokens, Word::Let) {
+            return self.binding(behind);
+        }
+        let Some((at, behind)) = after_for(self.profile, tokens) else {
+            return Err(Stop::Syntax(tokens.len()));
+        };
+        self.repetition(behind, at)
+    }
+
+    // What a `let` binds, behind the word.
+    #[cycle(read)]
+    fn binding(self, tokens: &[Token]) -> Result<(Item, &[Token]), Stop>
+        requires { self.level ≤ MOST_LEVELS }
+        ensures { Gives (λ item. ReadsBinding self.profile self.level (item_tree_of item))
+            (in_binding self.profile self.level) tokens.now result }
+    {
+        let (name, names, rest) = bound_names(self.alloc, tokens)?;
+        let (body, rest) = self.closed(rest, Sign::Semi)?;
+        let value = bound_value(self.alloc, names, body)?;
+        Ok((Item::Let { name, value }, rest))
+    }
+
+    // A `for` behind the word, which has this place.
+    #[cycle(read)]
+    fn repetition(self, tokens: &[Token], at: Place) -> Result<(Item, &[Token]), Stop>
+        requires { self.level ≤ MOST_LEVELS }
+        ensures { Gives (λ item. ReadsFor self.profile self.level at (item_tree_of item))
+            (in_for self.profile (self.level + 1)) tokens.now result }
+    {
+        let (name, ends, rest) = self.range(tokens)?;
+        let Some((_, behind)) = after(rest, Sign::OpenCurly) else {
+            return Err(Stop::Syntax(rest.len()));
+        };
+        let level = self.open(rest)?;
+        let (items, rest) = Reader { level, ..self }.loop_items(behind)?;
+        Ok((
+            Item::For {
+                name,
+                ends,
+                items,
+                at,
+            },
+            rest,
+        ))
+    }
+
+    // The items of a `for` behind its `{`, and its end.
+    #[cycle(read)]
+    fn loop_items(self, tokens: &[Token]) -> Result<(Vec<Item>, &[Token]), Stop>
+        requires { self.level ≤ MOST_LEVELS }
+        ensures { Gives (λ items. ReadsLoop self.profile self.level (map item_tree_of items.items))
+            (in_loop self.profile self.level) tokens.now result }
+    {
+        let mut items = Vec::new(self.alloc);
+        let mut rest = tokens;
+        'items: loop {
+            rest = put(&mut items, self.loop_item(rest))?;
+            if let Some((_, behind)) = after(rest, Sign::CloseCurly) {
+                let rest = expect(behind, Sign::Semi)?;
+                return Ok((items, rest));
+            }
+        }
+    }
+
+    // An item of a `for`.
+    #[cycle(read)]
+    fn loop_item(self, tokens: &[Token]) -> Result<(Item, &[Token]), Stop>
+        requires { self.level ≤ MOST_LEVELS }
+        ensures { GivesAt g.loop_item self item_tree_of tokens.now result }
+    {
+        if begins_item(self.profile, tokens) {
+            return self.item(tokens);
+        }
+        let (term, rest) = self.closed(tokens, Sign::Semi)?;
+        Ok((Item::Do(term), rest))
+    }
 }

@@ -18,7 +18,7 @@ ghost use Rattle.revs_parser.specs.declared.stop.Stop.{Stop};
 ghost use Rattle.revs_parser.specs.declared.program.ParseFault.{ParseFault};
 ghost use Rattle.revs_parser.specs.declared.program.ParseFault.TheVariants as faults;
 
-use crate::expression::expression;
+use crate::expression::Reader;
 use crate::leaf::{after, after_word, expect, expect_word, name, number, number_two};
 use crate::stop::{Stop, put};
 use revc_base::Place;
@@ -112,7 +112,12 @@ fn sentence(alloc: Global, tokens: &[Token]) -> Result<(Vec<Param>, Term, &[Toke
     params.push(first)?;
     let (params, rest) = parameters(params, rest)?;
     let rest = expect(rest, Sign::Equal)?;
-    let (body, rest) = expression(alloc, profile, rest, 1)?;
+    let reader = Reader {
+        alloc,
+        profile,
+        level: 1,
+    };
+    let (body, rest) = reader.expression(rest)?;
     Ok((params, body, rest))
 }
 

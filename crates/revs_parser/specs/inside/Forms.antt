@@ -1,5 +1,6 @@
 -- What the functions read that are no form of the grammar by themselves.
-use Rattle.std.specs.Prelude.{◌≡◌, ℕ, ◌+◌, ◌<◌, Bool, true, false, Option, Some, None, List, [], ◌∷◌, ◌++◌, length, take, drop}
+use Rattle.std.specs.Prelude.{◌≡◌, ℕ, ◌+◌, ◌<◌, Bool, true, false, Option, Some, None, List, [], ◌∷◌, ◌++◌, length, take, drop, Result}
+use Rattle.std.specs.Borrow.{Bor}
 use Rattle.revc_base.specs.declared.place.Place.{Place}
 use Rattle.revs_lexer.specs.declared.sign.Sign.{Sign}
 use Rattle.revs_lexer.specs.declared.sign.Sign.TheVariants as signs
@@ -9,7 +10,7 @@ use Rattle.revs_lexer.specs.declared.token.Tok.TheVariants as toks
 use Rattle.revs_lexer.specs.declared.token.Token.{Token}
 use Rattle.revs_grammar.specs.declared.profile.Profile.{Profile}
 use Rattle.revs_grammar.specs.declared.profile.Profile.TheVariants as profiles
-use Rattle.revs_grammar.specs.Forms.{sign, BodyTree, in_profile, common}
+use Rattle.revs_grammar.specs.Forms.{sign, BodyTree, Kind, KindVal, in_profile, common}
 use Rattle.revs_grammar.specs.Forms as g
 use Rattle.revs_grammar.specs.Productions.{apply_of, bound_of, index_of, in_front, program_of, function_line, append_line, apply_line}
 use Rattle.revs_grammar.specs.Productions.{part_line, register_line, let_line, for_line}
@@ -17,20 +18,23 @@ use Rattle.revs_grammar.specs.Sentences.{token, kept_token, opening_token, form}
 use Rattle.revs_grammar.specs.Faults.{IsSyntax, IsNesting}
 use Rattle.revs_grammar.specs.inside.Machine.{Stack}
 use Rattle.revs_terms.specs.Trees.{Tree, ItemTree, trees, item_trees, reg, block, function, append}
-use Rattle.revs_terms.specs.Trees.{rotate, clean, assert, loop, bind, run, tree_of, item_tree_of}
+use Rattle.revs_terms.specs.Trees.{rotate, clean, assert, ands, xors, loop, bind, run, tree_of, item_tree_of}
 use Rattle.revs_terms.specs.declared.term.Name.{Name}
 use Rattle.revs_terms.specs.declared.term.Step.{Step}
 use Rattle.revs_terms.specs.declared.term.Part.{Part}
 use Rattle.revs_terms.specs.declared.program.Param.{Param}
 use Rattle.revs_parser.specs.declared.stop.Stop.{Stop}
 use Rattle.revs_parser.specs.declared.stop.Stop.TheVariants as stops
+use Rattle.revs_parser.specs.declared.expression.Reader.{Reader}
+use Rattle.revs_parser.specs.declared.expression.Infix.{Infix}
+use Rattle.revs_parser.specs.declared.expression.Infix.TheVariants as infixes
 use Rattle.revs_parser.specs.declared.expression.Piece.{Piece}
 use Rattle.revs_parser.specs.declared.expression.Piece.TheVariants as pieces
 use Rattle.revs_parser.specs.declared.front.Operator.{Operator}
 use Rattle.revs_parser.specs.declared.front.Operator.TheVariants as operators
 use Rattle.revs_parser.specs.declared.front.Opener.{Opener}
 use Rattle.revs_parser.specs.declared.front.Opener.TheVariants as openers
-use Rattle.revs_parser.specs.inside.Reading.{Passes, Reads, Skips, ReadsForm, ReadsAnywhere, Heads, NotFirst}
+use Rattle.revs_parser.specs.inside.Reading.{Passes, Reads, Skips, ReadsForm, GivesForm, ReadsAnywhere, Heads, NotFirst}
 
 -- the pieces of a line, where the forms of which a level counts stand at this one
 abbrev pub at_level : ℕ → List g.Piece → Stack
@@ -46,15 +50,27 @@ abbrev pub behind_first : ℕ → List g.Piece → Stack
 behind_first level [] = []
 behind_first level (p ∷ ps) = at_level level ps
 
--- { name } was read, and the names were put behind those before.
-pub record ReadsNames (before all : List Name) (ts rest : List Token) : Type 0 where
+-- A form of this kind is read as the reader goes by, or the machine halts there.
+abbrev pub GivesAt : {T : Type 0} (k : Kind) (reader : Reader) → (T → KindVal k) → List Token → Result (T × Bor (List Token)) Stop → Type 0
+GivesAt k reader seen ts result = GivesForm (in_profile reader.profile k) reader.level seen ts result
+
+-- what is expected of the names behind a first one, and of the sign that ends them
+abbrev pub names_rest : Sign → Stack
+names_rest end = form (common g.names) 0 ∷ token (sign end) ∷ []
+
+-- { name } was read up to a sign, and the names were put behind those before.
+pub record ReadsNames (before all : List Name) (end : Sign) (ts rest : List Token) : Type 0 where
   pub more : List Name
   pub all_names : all ≡ before ++ more
-  pub skips : Skips (form (common g.names) 0 ∷ []) (more, tt) ts rest
+  pub reads : Reads (names_rest end) (more, tt) ts rest
 
 -- what is expected of a part behind its dot
 abbrev pub in_part : Profile → Stack
 in_part p = behind_first 0 (part_line p).pieces
+
+-- what is expected of parts
+abbrev pub in_parts : Profile → Stack
+in_parts p = form (in_profile p g.parts) 0 ∷ []
 
 -- A part was read, behind its dot at this place.
 pub record ReadsPart (p : Profile) (at : Place) (part : Part) (ts rest : List Token) : Type 0 where
@@ -114,6 +130,47 @@ pub record ReadsAppend (p : Profile) (level : ℕ) (at : Place) (term : Tree) (t
   pub is : term ≡ append first second at
   pub reads : Reads (in_append p level) (first, (second, tt)) ts rest
 
+-- the sign between two operands of a chain, and the term of its operands
+abbrev pub infix_sign : Infix → Sign
+infix_sign infixes.Xor = signs.Xor
+infix_sign infixes.And = signs.And
+
+abbrev pub infix_term : Infix → List Tree → Tree
+infix_term infixes.Xor operands = xors (trees operands)
+infix_term infixes.And operands = ands (trees operands)
+
+-- the forms of a chain, and of an operand of it
+abbrev pub chain_kind : Infix → Kind
+chain_kind infixes.Xor = g.sum
+chain_kind infixes.And = g.product
+
+abbrev pub operand_kind : Infix → Kind
+operand_kind infixes.Xor = g.product
+operand_kind infixes.And = g.application
+
+-- what is expected of a chain, and of an operand of it
+abbrev pub in_chain : Infix → Profile → ℕ → Stack
+in_chain operator p level = form (in_profile p (chain_kind operator)) level ∷ []
+
+abbrev pub in_operand : Infix → Profile → ℕ → Stack
+in_operand operator p level = form (in_profile p (operand_kind operator)) level ∷ []
+
+abbrev pub IsChain : Infix → Profile → ℕ → Tree → List Token → List Token → Type 0
+IsChain infixes.Xor p level term ts rest = ReadsForm (in_profile p g.sum) level term ts rest
+IsChain infixes.And p level term ts rest = ReadsForm (in_profile p g.product) level term ts rest
+
+abbrev pub IsOperand : Infix → Profile → ℕ → Tree → List Token → List Token → Type 0
+IsOperand infixes.Xor p level term ts rest = ReadsForm (in_profile p g.product) level term ts rest
+IsOperand infixes.And p level term ts rest = ReadsForm (in_profile p g.application) level term ts rest
+
+-- A chain was read, which is one operand alone or the term of more.
+pub record ReadsChain (operator : Infix) (p : Profile) (level : ℕ) (term : Tree) (ts rest : List Token) : Type 0 where
+  pub reads : IsChain operator p level term ts rest
+
+-- An operand of a chain was read.
+pub record ReadsOperand (operator : Infix) (p : Profile) (level : ℕ) (term : Tree) (ts rest : List Token) : Type 0 where
+  pub reads : IsOperand operator p level term ts rest
+
 -- the token that opens a level
 abbrev pub opening : Opener → Tok
 opening openers.Register = toks.Word words.Reg
@@ -151,6 +208,10 @@ pub record ReadsRegister (p : Profile) (level : ℕ) (at : Place) (term : Tree) 
   pub more : List Tree
   pub is : term ≡ reg (trees (first ∷ more)) at
   pub reads : Reads (in_register p level) (first, (more, tt)) ts rest
+
+-- what is expected of a block behind its `{`
+abbrev pub in_block : Profile → ℕ → Stack
+in_block p level = form (in_profile p g.body) level ∷ []
 
 -- The items and the last expression of a block were read behind its `{`, which has this place.
 pub record ReadsBlock (p : Profile) (level : ℕ) (at : Place) (term : Tree) (ts rest : List Token) : Type 0 where

@@ -1,5 +1,6 @@
 -- What reading forms off the front of a list of tokens does to the machine, and what the tokens stand for.
-use Rattle.std.specs.Prelude.{◌≡◌, ◌<◌, ℕ, Bool, true, false, List, [], ◌∷◌, ◌++◌, length, Result, Ok, Err, ◌⊎◌}
+use Rattle.std.specs.Prelude.{◌≡◌, ◌<◌, ℕ, Bool, true, false, List, [], ◌∷◌, ◌++◌, length, Result, Ok, Err, ◌⊎◌, MatchResult}
+use Rattle.std.specs.Borrow.{Bor}
 use Rattle.revc_base.specs.declared.place.Place.{Place}
 use Rattle.revs_lexer.specs.declared.sign.Sign.TheVariants as signs
 use Rattle.revs_lexer.specs.declared.word.Word.TheVariants as words
@@ -57,6 +58,19 @@ pub record Halts (es : Stack) (ts : List Token) (stop : Stop) : Type 0 where
 
 abbrev pub HaltsIn : Form → ℕ → List Token → Stop → Type 0
 HaltsIn f l ts stop = Halts (form f l ∷ []) ts stop
+
+-- What stands first is read as this relation says, or the machine that expects these symbols halts there.
+abbrev pub Gives : {T : Type 0} → (T → List Token → List Token → Type 0) → Stack → List Token → Result (T × Bor (List Token)) Stop → Type 0
+Gives reads es ts result =
+    MatchResult result (λ read. reads read.0 ts read.1.now) (λ stop. Halts es ts stop)
+
+-- So it is with a form, as which a value is seen.
+abbrev pub GivesForm : {T : Type 0} (f : Form) (l : ℕ) → (T → Val f) → List Token → Result (T × Bor (List Token)) Stop → Type 0
+GivesForm f l seen ts result = Gives (λ x. ReadsForm f l (seen x)) (form f l ∷ []) ts result
+
+-- What is made is as it says, or memory is wanting.
+abbrev pub Makes : {T : Type 0} → (T → Type 0) → Result T Stop → Type 0
+Makes made result = MatchResult result made (λ stop. stop ≡ stops.Memory)
 
 -- A form of this kind was read, whatever its profile and its level.
 pub record ReadsAnywhere (k : Kind) (v : KindVal k) (ts rest : List Token) : Type 0 where

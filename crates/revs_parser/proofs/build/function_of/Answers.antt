@@ -1,13 +1,10 @@
 use Rattle.std.proofs.Common.{refl}
 use Rattle.revs_terms.proofs.ShapeLemmas.{tree_of-Fun}
-use Rattle.revc_base.proofs.ResultLemmas.{no_value, passes_on}
+use Rattle.revs_parser.proofs.PassingLemmas.{halts_on}
 use Rattle.revs_parser.proofs.build.function_of.Goals as goal
 
-pub returns-in_err-new-clause-ok : goal.returns-in_err-new-clause-ok
-returns-in_err-new-clause-ok c = no_value c.from_residual.result _ _ c.from_residual.ensures.1
+pub returns-in_err-new : goal.returns-in_err-new
+returns-in_err-new c = halts_on _ _ _ c.from_residual.ensures.1 refl
 
-pub returns-in_err-new-clause-memory : goal.returns-in_err-new-clause-memory
-returns-in_err-new-clause-memory c = passes_on _ c.from_residual.result c.from_residual.ensures.1 refl
-
-pub returns-clause-ok : goal.returns-clause-ok
-returns-clause-ok c = rw (tree_of-Fun, c.in_ok-new.ensures.ok)
+pub returns : goal.returns
+returns c = rw (tree_of-Fun, c.in_ok-new.ensures.ok)

@@ -1,12 +1,9 @@
 use Rattle.revs_terms.proofs.ShapeLemmas.{tree_of-Append}
-use Rattle.revc_base.proofs.ResultLemmas.{no_value, passes_on}
+use Rattle.revs_parser.proofs.PassingLemmas.{halts_on}
 use Rattle.revs_parser.proofs.build.joined.Goals as goal
 
-pub returns-in_err-first-clause-ok : goal.returns-in_err-first-clause-ok
-returns-in_err-first-clause-ok c = no_value c.from_residual.result _ _ c.from_residual.ensures.1
+pub returns-in_err-first : goal.returns-in_err-first
+returns-in_err-first c = halts_on _ _ _ c.from_residual.ensures.1 c.in_err-first.ensures
 
-pub returns-in_err-first-clause-memory : goal.returns-in_err-first-clause-memory
-returns-in_err-first-clause-memory c = passes_on _ c.from_residual.result c.from_residual.ensures.1 c.in_err-first.ensures.memory
-
-pub returns-clause-ok : goal.returns-clause-ok
-returns-clause-ok c = rw (tree_of-Append, c.in_ok-first.ensures.ok.0, c.in_ok-first.ensures.ok.1)
+pub returns : goal.returns
+returns c = rw (tree_of-Append, c.in_ok-first.ensures.0, c.in_ok-first.ensures.1)

@@ -1,9 +1,6 @@
 use Rattle.std.proofs.Common.{refl}
-use Rattle.revc_base.proofs.ResultLemmas.{no_value, passes_on}
+use Rattle.revs_parser.proofs.PassingLemmas.{halts_on}
 use Rattle.revs_parser.proofs.build.with_parts.Goals as goal
 
-pub returns-in_err-new-clause-ok : goal.returns-in_err-new-clause-ok
-returns-in_err-new-clause-ok c = no_value c.from_residual.result _ _ c.from_residual.ensures.1
-
-pub returns-in_err-new-clause-memory : goal.returns-in_err-new-clause-memory
-returns-in_err-new-clause-memory c = passes_on _ c.from_residual.result c.from_residual.ensures.1 refl
+pub returns-in_err-new : goal.returns-in_err-new
+returns-in_err-new c = halts_on _ _ _ c.from_residual.ensures.1 refl

@@ -1,6 +1,7 @@
 use Rattle.revs_lexer.specs.declared.sign.Sign.TheVariants as signs
-use Rattle.revs_parser.proofs.ReadingLemmas.{names_in_names, names_unended, bound_names_read, names_rest}
-use Rattle.revs_parser.proofs.PassingLemmas.{halts_on, halts_first}
+use Rattle.revs_parser.specs.inside.Forms.{names_rest}
+use Rattle.revs_parser.proofs.ReadingLemmas.{bound_names_read}
+use Rattle.revs_parser.proofs.PassingLemmas.{halts_on, halts_first, halts_behind}
 use Rattle.revs_parser.proofs.expression.bound_names.Goals as goal
 
 pub returns-in_err-bound : goal.returns-in_err-bound
@@ -8,12 +9,7 @@ returns-in_err-bound c = halts_on _ _ _ c.from_residual.ensures.1 (halts_first (
 
 pub returns-in_err-names : goal.returns-in_err-names
 returns-in_err-names c =
-    halts_on _ _ _ c.from_residual-in_err-names.ensures.1 (names_in_names signs.Equal c.in_ok-bound.ensures.ok c.in_err-names.ensures)
-
-pub returns-in_err-rest : goal.returns-in_err-rest
-returns-in_err-rest c =
-    halts_on _ _ _ c.from_residual-in_err-rest.ensures.1
-    (names_unended signs.Equal c.in_ok-bound.ensures.ok c.in_ok-names.ensures c.in_err-rest.ensures.halts)
+    halts_on _ _ _ c.from_residual-in_err-names.ensures.1 (halts_behind (names_rest signs.Equal) c.in_ok-bound.ensures.ok c.in_err-names.ensures)
 
 pub returns : goal.returns
-returns c = bound_names_read c.in_ok-bound.ensures.ok c.new.ensures.items c.in_ok-names.ensures c.in_ok-rest.ensures.ok
+returns c = bound_names_read c.in_ok-bound.ensures.ok c.new.ensures.items c.in_ok-names.ensures

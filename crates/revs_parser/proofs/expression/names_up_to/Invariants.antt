@@ -1,6 +1,6 @@
 use Rattle.std.proofs.Common.{length}
 use Rattle.revs_parser.proofs.ReadingLemmas.{Names}
-use Rattle.revs_parser.proofs.expression.more_names.Given as goal
+use Rattle.revs_parser.proofs.expression.names_up_to.Given as goal
 
 abbrev pub invariant-loop-names : goal.invariant-loop-names
 invariant-loop-names l = record { read : Names l.fn.names.items l.names.items l.fn.tokens l.rest }

@@ -1,218 +1,186 @@
-use Rattle.std.proofs.Common.{refl, sym, ◌∙◌}
+use Rattle.std.proofs.Common.{refl, sym, ◌∙◌, arith}
 use Rattle.revs_terms.specs.Trees.{tree_of}
 use Rattle.revs_terms.proofs.ShapeLemmas.{tree_of-Reg, tree_of-Block, tree_of-Apply}
-use Rattle.revs_terms.proofs.ShapeLemmas.{tree_of-And, tree_of-Xor, item_tree_of-Let, item_tree_of-Do, item_tree_of-For}
+use Rattle.revs_terms.proofs.ShapeLemmas.{item_tree_of-Let, item_tree_of-Do, item_tree_of-For}
 use Rattle.std.proofs.lemmas.Result.{MatchResult-weaker}
 use Rattle.revs_lexer.specs.declared.sign.Sign.TheVariants as signs
 use Rattle.revs_parser.specs.inside.Forms.{closed_by}
 use Rattle.revs_parser.proofs.PassingLemmas.{only, smaller_behind, halts_first, halts_on, lacks, no_memory, wants_memory, lower, deeper}
 use Rattle.revs_parser.proofs.ReadingLemmas as r
 use Rattle.revs_parser.proofs.ItemLemmas as i
-use Rattle.revs_parser.proofs.expression.+read.Goals as goal
+use Rattle.revs_parser.proofs.expression.Reader.+read.Goals as goal
 
 -- ---- expressions
 
-pub expression-returns-in_err-inner : goal.expression-returns-in_err-inner
-expression-returns-in_err-inner t c =
+pub expression-returns-in_err-level : goal.expression-returns-in_err-level
+expression-returns-in_err-level t c =
     halts_on _ _ _ c.from_residual.ensures.1
-    (r.expression_no_level c.args.level c.in-Some.ensures.found c.in_err-inner.ensures.deep _ c.in_err-inner.ensures.stops)
+    (r.expression_no_level c.args.self.level c.in-Some.ensures.found c.in_err-level.ensures.deep _ c.in_err-level.ensures.stops)
 
 pub expression-returns-in-Some : goal.expression-returns-in-Some
 expression-returns-in-Some t c = MatchResult-weaker c.function.result c.function.ensures
-    (λ x. r.expression_function c.args.level c.in-Some.ensures.found c.in_ok-inner.ensures.inner c.in_ok-inner.ensures.within)
-    (λ x. r.expression_in_function c.args.level c.in-Some.ensures.found c.in_ok-inner.ensures.inner c.in_ok-inner.ensures.within)
+    (λ x. r.expression_function c.args.self.level c.in-Some.ensures.found c.in_ok-level.ensures.inner c.in_ok-level.ensures.within)
+    (λ x. r.expression_in_function c.args.self.level c.in-Some.ensures.found c.in_ok-level.ensures.inner c.in_ok-level.ensures.within)
 
 pub expression-returns-in_err-left : goal.expression-returns-in_err-left
 expression-returns-in_err-left t c =
-    halts_on _ _ _ c.from_residual-in_err-left.ensures.1 (r.expression_in_sum c.args.level c.in_default.ensures.none c.in_err-left.ensures)
+    halts_on _ _ _ c.from_residual-in_err-left.ensures.1 (r.expression_in_sum c.args.self.level c.in_default.ensures.none c.in_err-left.ensures)
 
 pub expression-returns-in_default-after : goal.expression-returns-in_default-after
-expression-returns-in_default-after t c = r.expression_sum c.args.level c.in_default.ensures.none c.in_ok-left.ensures
+expression-returns-in_default-after t c = r.expression_sum c.args.self.level c.in_default.ensures.none c.in_ok-left.ensures.reads
     c.in_default-after.ensures.none
 
 pub expression-returns-in_err-left-2 : goal.expression-returns-in_err-left-2
 expression-returns-in_err-left-2 t c =
     halts_on _ _ _ c.from_residual-in_err-left-2.ensures.1
-    (r.expression_in_assigned c.args.level c.in_default.ensures.none c.in_ok-left.ensures c.in-Some-after.ensures.found
-    (rw c.in_err-left-2.ensures at c.sum-2.ensures))
+    (r.expression_in_assigned c.args.self.level c.in_default.ensures.none c.in_ok-left.ensures.reads c.in-Some-after.ensures.found
+    (rw c.in_err-left-2.ensures at c.chained-2.ensures))
 
 pub expression-returns-in_err-term : goal.expression-returns-in_err-term
-expression-returns-in_err-term t c = halts_on _ _ _ c.from_residual-in_err-term.ensures.1 (wants_memory c.in_err-term.ensures.memory)
+expression-returns-in_err-term t c = halts_on _ _ _ c.from_residual-in_err-term.ensures.1 (wants_memory c.in_err-term.ensures)
 
 pub expression-returns : goal.expression-returns
 expression-returns t c =
     let both = c.in_ok-left-2.ensures in
-    r.expression_assign c.args.level c.in_default.ensures.none c.in_ok-left.ensures c.in-Some-after.ensures.found
-    (rw both.1 at c.sum-2.ensures) (rw both.0 at c.in_ok-term.ensures.ok)
+    let right = rw both.1 at c.chained-2.ensures in
+    r.expression_assign c.args.self.level c.in_default.ensures.none c.in_ok-left.ensures.reads c.in-Some-after.ensures.found
+    right.reads (rw both.0 at c.in_ok-term.ensures)
 
 -- ---- functions
 
 pub function-returns-in_err-names : goal.function-returns-in_err-names
 function-returns-in_err-names t c =
     halts_on _ _ _ c.from_residual.ensures.1
-    (halts_first (r.function_rest c.args.profile c.args.level) c.in_err-names.ensures)
+    (halts_first (r.function_rest c.args.self.profile c.args.self.level) c.in_err-names.ensures)
 
 pub function-returns-in_err-body : goal.function-returns-in_err-body
 function-returns-in_err-body t c =
     halts_on _ _ _ c.from_residual-in_err-body.ensures.1
-    (r.function_in_body c.args.level c.in_ok-names.ensures c.in_err-body.ensures)
+    (r.function_in_body c.args.self.level c.in_ok-names.ensures c.in_err-body.ensures)
 
 pub function-returns-in_err-term : goal.function-returns-in_err-term
-function-returns-in_err-term t c = halts_on _ _ _ c.from_residual-in_err-term.ensures.1 (wants_memory c.in_err-term.ensures.memory)
+function-returns-in_err-term t c = halts_on _ _ _ c.from_residual-in_err-term.ensures.1 (wants_memory c.in_err-term.ensures)
 
 pub function-returns : goal.function-returns
 function-returns t c =
-    r.function_reads c.args.level c.in_ok-names.ensures c.args.at c.in_ok-body.ensures c.in_ok-term.ensures.ok
+    r.function_reads c.args.self.level c.in_ok-names.ensures c.args.at c.in_ok-body.ensures c.in_ok-term.ensures
 
--- ---- sums
+-- ---- chains
 
-pub sum-returns-in_err-first : goal.sum-returns-in_err-first
-sum-returns-in_err-first t c =
-    halts_on _ _ _ c.from_residual.ensures.1 (r.sum_no_first c.args.level c.in_err-first.ensures)
+pub chained-returns-in_err-first : goal.chained-returns-in_err-first
+chained-returns-in_err-first t c =
+    halts_on _ _ _ c.from_residual.ensures.1 (r.chain_no_first c.args.operator c.args.self.level c.in_err-first.ensures)
 
-pub sum-returns-in_default : goal.sum-returns-in_default
-sum-returns-in_default t c = r.sum_alone c.args.level c.in_ok-first.ensures c.in_default.ensures.none
+pub chained-returns-in_default : goal.chained-returns-in_default
+chained-returns-in_default t c = r.chain_alone c.args.operator c.args.self.level c.in_ok-first.ensures (rw c.sign.ensures at c.in_default.ensures.none)
 
-pub sum-returns-in_err-push : goal.sum-returns-in_err-push
-sum-returns-in_err-push t c = halts_on _ _ _ c.from_residual-in_err-push.ensures.1 no_memory
+pub chained-returns-in_err-push : goal.chained-returns-in_err-push
+chained-returns-in_err-push t c = halts_on _ _ _ c.from_residual-in_err-push.ensures.1 no_memory
 
-pub sum-products-init : goal.sum-products-init
-sum-products-init t c = record {
-  read = r.sum_begun c.args.level c.in_ok-first.ensures c.in-Some.ensures.found
+pub chained-operands-init : goal.chained-operands-init
+chained-operands-init t c = record {
+  read = r.chain_begun c.args.operator c.args.self.level c.in_ok-first.ensures (rw c.sign.ensures at c.in-Some.ensures.found)
       (only c.new-terms.result.items c.in_ok-first.first c.in_ok-push.ensures.items c.new-terms.ensures.items);
 }
 
-pub sum-returns-in_err-rest : goal.sum-returns-in_err-rest
-sum-returns-in_err-rest t c =
+pub chained-returns-in_err-rest : goal.chained-returns-in_err-rest
+chained-returns-in_err-rest t c =
     halts_on _ _ _ c.from_residual-in_err-rest.ensures.1
-    (r.chain_halts c.products.invariant.read (lacks c.in_err-rest.ensures (λ e. rw e at c.product-in-products.ensures)))
+    (r.chain_breaks c.args.operator c.args.self.level c.operands.invariant.read (lacks c.in_err-rest.ensures (λ e. rw e at c.operand-in-operands.ensures)))
 
-pub sum-returns-in_default-after : goal.sum-returns-in_default-after
-sum-returns-in_default-after t c =
+pub chained-returns-in_default-after : goal.chained-returns-in_default-after
+chained-returns-in_default-after t c =
     let put = c.in_ok-rest.ensures in
-    r.sum_done c.args.level c.products.terms.items put.next c.products.invariant.read (rw put.was_read at c.product-in-products.ensures)
-    c.in_default-after.ensures.none put.all (tree_of-Xor c.put.new.all)
+    r.chain_done c.args.operator c.args.self.level c.operands.terms.items put.next c.operands.invariant.read (rw put.was_read at c.operand-in-operands.ensures)
+    (rw c.sign-in-operands.ensures at c.in_default-after.ensures.none) put.all c.term.ensures
 
-pub sum-products-preserved : goal.sum-products-preserved
-sum-products-preserved t c =
+pub chained-operands-preserved : goal.chained-operands-preserved
+chained-operands-preserved t c =
     let put = c.in_ok-rest.ensures in
     record {
-      read = r.sum_more c.args.level c.products.terms.items put.next c.products.invariant.read (rw put.was_read at c.product-in-products.ensures)
-          c.in-Some-after.ensures.found put.all;
+      read = r.chain_more c.args.operator c.args.self.level c.operands.terms.items put.next c.operands.invariant.read
+          (rw put.was_read at c.operand-in-operands.ensures) (rw c.sign-in-operands.ensures at c.in-Some-after.ensures.found) put.all;
     }
 
-pub sum-products-smaller : goal.sum-products-smaller
-sum-products-smaller t c =
-    let read = rw c.in_ok-rest.ensures.was_read at c.product-in-products.ensures in smaller_behind read c.in-Some-after.ensures.found
+pub chained-operands-smaller : goal.chained-operands-smaller
+chained-operands-smaller t c =
+    let read = rw c.in_ok-rest.ensures.was_read at c.operand-in-operands.ensures in r.chain_shorter c.args.operator c.args.self.level read c.in-Some-after.ensures.found
 
--- ---- products
+pub operand-returns-in-Xor : goal.operand-returns-in-Xor
+operand-returns-in-Xor t c =
+    rw c.in-Xor.is (MatchResult-weaker c.chained.result c.chained.ensures (λ x r. record { reads = r.reads }) (λ x h. h))
 
-pub product-returns-in_err-first : goal.product-returns-in_err-first
-product-returns-in_err-first t c =
-    halts_on _ _ _ c.from_residual.ensures.1 (r.product_no_first c.args.level c.in_err-first.ensures)
-
-pub product-returns-in_default : goal.product-returns-in_default
-product-returns-in_default t c = r.product_alone c.args.level c.in_ok-first.ensures c.in_default.ensures.none
-
-pub product-returns-in_err-push : goal.product-returns-in_err-push
-product-returns-in_err-push t c = halts_on _ _ _ c.from_residual-in_err-push.ensures.1 no_memory
-
-pub product-applications-init : goal.product-applications-init
-product-applications-init t c = record {
-  read = r.product_begun c.args.level c.in_ok-first.ensures c.in-Some.ensures.found
-      (only c.new-terms.result.items c.in_ok-first.first c.in_ok-push.ensures.items c.new-terms.ensures.items);
-}
-
-pub product-returns-in_err-rest : goal.product-returns-in_err-rest
-product-returns-in_err-rest t c =
-    halts_on _ _ _ c.from_residual-in_err-rest.ensures.1
-    (r.chain_halts c.applications.invariant.read (lacks c.in_err-rest.ensures (λ e. rw e at c.application-in-applications.ensures)))
-
-pub product-returns-in_default-after : goal.product-returns-in_default-after
-product-returns-in_default-after t c =
-    let put = c.in_ok-rest.ensures in
-    r.product_done c.args.level c.applications.terms.items put.next c.applications.invariant.read (rw put.was_read at c.application-in-applications.ensures)
-    c.in_default-after.ensures.none put.all (tree_of-And c.put.new.all)
-
-pub product-applications-preserved : goal.product-applications-preserved
-product-applications-preserved t c =
-    let put = c.in_ok-rest.ensures in
-    record {
-      read = r.product_more c.args.level c.applications.terms.items put.next c.applications.invariant.read (rw put.was_read at c.application-in-applications.ensures)
-          c.in-Some-after.ensures.found put.all;
-    }
-
-pub product-applications-smaller : goal.product-applications-smaller
-product-applications-smaller t c =
-    let read = rw c.in_ok-rest.ensures.was_read at c.application-in-applications.ensures in smaller_behind read c.in-Some-after.ensures.found
+pub operand-returns-in-And : goal.operand-returns-in-And
+operand-returns-in-And t c =
+    rw c.in-And.is (MatchResult-weaker c.application.result c.application.ensures (λ x r. record { reads = r }) (λ x h. h))
 
 -- ---- applications
 
 pub application-returns-in-Some : goal.application-returns-in-Some
 application-returns-in-Some t c =
     MatchResult-weaker c.append.result c.append.ensures
-    (λ x. r.application_append c.args.level c.in-Some.ensures.found)
-    (λ x. r.append_halts c.args.level c.in-Some.ensures.found)
+    (λ x. r.application_append c.args.self.level c.in-Some.ensures.found)
+    (λ x. r.append_halts c.args.self.level c.in-Some.ensures.found)
 
 pub application-returns-in_default-2 : goal.application-returns-in_default-2
 application-returns-in_default-2 t c =
     let none = rw c.in_default-2.is at c.in_ok-operator.ensures.none in
     MatchResult-weaker c.atoms.result c.atoms.ensures
-    (λ x. r.application_plain c.args.level (r.plain c.in_default.ensures.none none))
-    (λ x. r.plain_halts c.args.level (r.plain c.in_default.ensures.none none))
+    (λ x. r.application_plain c.args.self.level (r.plain c.in_default.ensures.none none))
+    (λ x. r.plain_halts c.args.self.level (r.plain c.in_default.ensures.none none))
 
 pub application-returns-in_err-operator : goal.application-returns-in_err-operator
 application-returns-in_err-operator t c =
-    halts_on _ _ _ c.from_residual.ensures.1 (c.in_err-operator.ensures.halts.at_level c.args.level)
+    halts_on _ _ _ c.from_residual.ensures.1 (c.in_err-operator.ensures.halts.at_level c.args.self.level)
 
 pub application-returns-in_err-operator-2 : goal.application-returns-in_err-operator-2
 application-returns-in_err-operator-2 t c =
     let found = rw c.in-Some-2.is at c.in_ok-operator.ensures.found in
     halts_on _ _ _ c.from_residual-in_err-operator-2.ensures.1
-    (r.operand_halts c.args.level found (rw c.in_err-operator-2.ensures at c.atom.ensures))
+    (r.operand_halts c.args.self.level found (rw c.in_err-operator-2.ensures at c.atom.ensures))
 
 pub application-returns-in_err-term : goal.application-returns-in_err-term
-application-returns-in_err-term t c = halts_on _ _ _ c.from_residual-in_err-term.ensures.1 (wants_memory c.in_err-term.ensures.memory)
+application-returns-in_err-term t c = halts_on _ _ _ c.from_residual-in_err-term.ensures.1 (wants_memory c.in_err-term.ensures)
 
 pub application-returns : goal.application-returns
 application-returns t c =
     let found = rw c.in-Some-2.is at c.in_ok-operator.ensures.found in
     let both = c.in_ok-operator-2.ensures in
-    r.application_operator c.args.level found (rw both.1 at c.atom.ensures) (rw both.0 at c.in_ok-term.ensures.ok)
+    r.application_operator c.args.self.level found (rw both.1 at c.atom.ensures) (rw both.0 at c.in_ok-term.ensures)
 
 pub append-returns-in_err-first : goal.append-returns-in_err-first
 append-returns-in_err-first t c =
     halts_on _ _ _ c.from_residual.ensures.1
-    (halts_first (r.append_rest c.args.profile c.args.level) c.in_err-first.ensures)
+    (halts_first (r.append_rest c.args.self.profile c.args.self.level) c.in_err-first.ensures)
 
 pub append-returns-in_err-first-2 : goal.append-returns-in_err-first-2
 append-returns-in_err-first-2 t c =
     halts_on _ _ _ c.from_residual-in_err-first-2.ensures.1
-    (r.append_halts_second c.args.level c.in_ok-first.ensures (rw c.in_err-first-2.ensures at c.atom-2.ensures))
+    (r.append_halts_second c.args.self.level c.in_ok-first.ensures (rw c.in_err-first-2.ensures at c.atom-2.ensures))
 
 pub append-returns-in_err-term : goal.append-returns-in_err-term
-append-returns-in_err-term t c = halts_on _ _ _ c.from_residual-in_err-term.ensures.1 (wants_memory c.in_err-term.ensures.memory)
+append-returns-in_err-term t c = halts_on _ _ _ c.from_residual-in_err-term.ensures.1 (wants_memory c.in_err-term.ensures)
 
 pub append-returns : goal.append-returns
 append-returns t c =
     let both = c.in_ok-first-2.ensures in
-    r.append_reads c.args.level c.args.at c.in_ok-first.ensures (rw both.1 at c.atom-2.ensures) (rw both.0 at c.in_ok-term.ensures.ok)
+    r.append_reads c.args.self.level c.args.at c.in_ok-first.ensures (rw both.1 at c.atom-2.ensures) (rw both.0 at c.in_ok-term.ensures)
 
 -- ---- an atom and its arguments
 
 pub atoms-returns-in_err-head : goal.atoms-returns-in_err-head
 atoms-returns-in_err-head t c =
-    halts_on _ _ _ c.from_residual.ensures.1 (r.atoms_halt c.args.level c.in_err-head.ensures)
+    halts_on _ _ _ c.from_residual.ensures.1 (r.atoms_halt c.args.self.level c.in_err-head.ensures)
 
 pub atoms-returns-then-not-begins_base : goal.atoms-returns-then-not-begins_base
-atoms-returns-then-not-begins_base t c = r.atom_alone c.args.level c.in_ok-head.ensures (sym c.begins_base.ensures ∙ c.if-not-begins_base.true)
+atoms-returns-then-not-begins_base t c = r.atom_alone c.args.self.level c.in_ok-head.ensures (sym c.begins_base.ensures ∙ c.if-not-begins_base.true)
 
 pub atoms-returns-in_err-head-2 : goal.atoms-returns-in_err-head-2
 atoms-returns-in_err-head-2 t c = halts_on _ _ _ c.from_residual-in_err-head-2.ensures.1 no_memory
 
 pub atoms-arguments-init : goal.atoms-arguments-init
 atoms-arguments-init t c = record {
-  read = r.arguments_begun c.args.level c.in_ok-head.head c.in_ok-head-2.head.value c.in_ok-head.ensures (sym c.begins_base.ensures
+  read = r.arguments_begun c.args.self.level c.in_ok-head.head c.in_ok-head-2.head.value c.in_ok-head.ensures (sym c.begins_base.ensures
       ∙ c.if-not-begins_base.false) c.new-arguments.ensures.items c.in_ok-head-2.ensures.ok;
 }
 
@@ -224,7 +192,7 @@ atoms-returns-in_err-rest t c =
 pub atoms-returns-then-not-begins_base-2 : goal.atoms-returns-then-not-begins_base-2
 atoms-returns-then-not-begins_base-2 t c =
     let put = c.in_ok-rest.ensures in
-    r.arguments_done c.args.level (tree_of c.in_ok-head-2.head.value) c.arguments.arguments.items put.next c.arguments.invariant.read
+    r.arguments_done c.args.self.level (tree_of c.in_ok-head-2.head.value) c.arguments.arguments.items put.next c.arguments.invariant.read
     (rw put.was_read at c.atom-in-arguments.ensures) (sym c.begins_base-in-arguments.ensures ∙ c.if-not-begins_base-2.true) put.all
     (tree_of-Apply c.in_ok-head-2.head c.put.new.all)
 
@@ -232,7 +200,7 @@ pub atoms-arguments-preserved : goal.atoms-arguments-preserved
 atoms-arguments-preserved t c =
     let put = c.in_ok-rest.ensures in
     record {
-      read = r.arguments_more c.args.level (tree_of c.in_ok-head-2.head.value) c.arguments.arguments.items put.next c.arguments.invariant.read
+      read = r.arguments_more c.args.self.level (tree_of c.in_ok-head-2.head.value) c.arguments.arguments.items put.next c.arguments.invariant.read
           (rw put.was_read at c.atom-in-arguments.ensures) (sym c.begins_base-in-arguments.ensures ∙ c.if-not-begins_base-2.false) put.all;
     }
 
@@ -244,53 +212,53 @@ atoms-arguments-smaller t c =
 
 pub atom-returns-in_err-inner : goal.atom-returns-in_err-inner
 atom-returns-in_err-inner t c =
-    halts_on _ _ _ c.from_residual.ensures.1 (r.atom_in_base c.args.level c.in_err-inner.ensures)
+    halts_on _ _ _ c.from_residual.ensures.1 (r.atom_in_base c.args.self.level c.in_err-inner.ensures)
 
 pub atom-returns-in_err-inner-2 : goal.atom-returns-in_err-inner-2
 atom-returns-in_err-inner-2 t c =
     halts_on _ _ _ c.from_residual-in_err-inner-2.ensures.1
-    (r.atom_in_parts c.args.level c.in_ok-inner.ensures (rw c.in_err-inner-2.ensures at c.all_parts.ensures))
+    (r.atom_in_parts c.args.self.level c.in_ok-inner.ensures (rw c.in_err-inner-2.ensures at c.all_parts.ensures))
 
 pub atom-returns-in_err-term : goal.atom-returns-in_err-term
-atom-returns-in_err-term t c = halts_on _ _ _ c.from_residual-in_err-term.ensures.1 (wants_memory c.in_err-term.ensures.memory)
+atom-returns-in_err-term t c = halts_on _ _ _ c.from_residual-in_err-term.ensures.1 (wants_memory c.in_err-term.ensures)
 
 pub atom-returns : goal.atom-returns
 atom-returns t c =
     let both = c.in_ok-inner-2.ensures in
-    r.atom_reads c.args.level c.in_ok-inner.ensures (rw both.1 at c.all_parts.ensures) (rw both.0 at c.in_ok-term.ensures.ok)
+    r.atom_reads c.args.self.level c.in_ok-inner.ensures (rw both.1 at c.all_parts.ensures) (rw both.0 at c.in_ok-term.ensures)
 
 -- ---- bases
 
 pub base-returns-in_default : goal.base-returns-in_default
 base-returns-in_default t c = MatchResult-weaker c.single_base.result c.single_base.ensures
-    (λ x read. read.at_level c.args.profile c.args.level)
-    (λ x halt. halt.at_level c.args.profile c.args.level)
+    (λ x read. read.at_level c.args.self.profile c.args.self.level)
+    (λ x halt. halt.at_level c.args.self.profile c.args.self.level)
 
-pub base-returns-in_err-inner : goal.base-returns-in_err-inner
-base-returns-in_err-inner t c =
+pub base-returns-in_err-level : goal.base-returns-in_err-level
+base-returns-in_err-level t c =
     halts_on _ _ _ c.from_residual.ensures.1
-    (r.base_no_level c.args.level c.in-Some.opener c.in-Some.ensures.found c.in_err-inner.ensures.deep _ c.in_err-inner.ensures.stops)
+    (r.base_no_level c.args.self.level c.in-Some.opener c.in-Some.ensures.found c.in_err-level.ensures.deep _ c.in_err-level.ensures.stops)
 
 pub base-returns-in-Register : goal.base-returns-in-Register
 base-returns-in-Register t c =
     let opened = rw c.in-Register.is at c.in-Some.ensures.found in
     MatchResult-weaker c.register.result c.register.ensures
-    (λ x. r.base_register c.args.level opened c.in_ok-inner.ensures.inner c.in_ok-inner.ensures.within)
-    (λ x. r.in_register_halts c.args.level opened c.in_ok-inner.ensures.inner c.in_ok-inner.ensures.within)
+    (λ x. r.base_register c.args.self.level opened c.in_ok-level.ensures.inner c.in_ok-level.ensures.within)
+    (λ x. r.in_register_halts c.args.self.level opened c.in_ok-level.ensures.inner c.in_ok-level.ensures.within)
 
 pub base-returns-in-Bracket : goal.base-returns-in-Bracket
 base-returns-in-Bracket t c =
     let opened = rw c.in-Bracket.is at c.in-Some.ensures.found in
     MatchResult-weaker c.closed.result c.closed.ensures
-    (λ x. r.base_bracket c.args.level opened c.in_ok-inner.ensures.inner c.in_ok-inner.ensures.within)
-    (λ x. r.in_bracket_halts c.args.level opened c.in_ok-inner.ensures.inner c.in_ok-inner.ensures.within)
+    (λ x. r.base_bracket c.args.self.level opened c.in_ok-level.ensures.inner c.in_ok-level.ensures.within)
+    (λ x. r.in_bracket_halts c.args.self.level opened c.in_ok-level.ensures.inner c.in_ok-level.ensures.within)
 
 pub base-returns-in-Block : goal.base-returns-in-Block
 base-returns-in-Block t c =
     let opened = rw c.in-Block.is at c.in-Some.ensures.found in
     MatchResult-weaker c.block.result c.block.ensures
-    (λ x. r.base_block c.args.level opened c.in_ok-inner.ensures.inner c.in_ok-inner.ensures.within)
-    (λ x. r.in_block_halts c.args.level opened c.in_ok-inner.ensures.inner c.in_ok-inner.ensures.within)
+    (λ x. r.base_block c.args.self.level opened c.in_ok-level.ensures.inner c.in_ok-level.ensures.within)
+    (λ x. r.in_block_halts c.args.self.level opened c.in_ok-level.ensures.inner c.in_ok-level.ensures.within)
 
 pub closed-returns-in_err-term : goal.closed-returns-in_err-term
 closed-returns-in_err-term t c =
@@ -300,40 +268,40 @@ closed-returns-in_err-term t c =
 pub closed-returns : goal.closed-returns
 closed-returns t c =
     MatchResult-weaker c.both.result c.both.ensures
-    (λ x e. rw e.0 (r.closed_reads c.args.level c.in_ok-term.ensures (rw e.1 at c.expect.ensures.ok)))
-    (λ x e. r.unclosed c.args.level c.in_ok-term.ensures (rw e at c.expect.ensures.halts))
+    (λ x e. rw e.0 (r.closed_reads c.args.self.level c.in_ok-term.ensures (rw e.1 at c.expect.ensures.ok)))
+    (λ x e. r.unclosed c.args.self.level c.in_ok-term.ensures (rw e at c.expect.ensures.halts))
 
 -- ---- registers
 
 pub register-returns-in_err-behind : goal.register-returns-in_err-behind
 register-returns-in_err-behind t c =
-    halts_on _ _ _ c.from_residual.ensures.1 (halts_first (r.register_rest c.args.profile c.args.level) c.in_err-behind.ensures.halts)
+    halts_on _ _ _ c.from_residual.ensures.1 (halts_first (r.register_rest c.args.self.profile c.args.self.level) c.in_err-behind.ensures.halts)
 
 pub register-elements-init : goal.register-elements-init
-register-elements-init t c = record { read = r.register_begun c.args.level c.in_ok-behind.ensures.ok c.new-elements.ensures.items }
+register-elements-init t c = record { read = r.register_begun c.args.self.level c.in_ok-behind.ensures.ok c.new-elements.ensures.items }
 
 pub register-returns-in_err-rest : goal.register-returns-in_err-rest
 register-returns-in_err-rest t c =
     halts_on _ _ _ c.from_residual-in_err-rest.ensures.1
-    (r.register_halts c.args.level c.elements.invariant.read (lacks c.in_err-rest.ensures (λ e. rw e at c.expression.ensures)))
+    (r.register_halts c.args.self.level c.elements.invariant.read (lacks c.in_err-rest.ensures (λ e. rw e at c.expression.ensures)))
 
 pub register-returns-in_err-rest-2 : goal.register-returns-in_err-rest-2
 register-returns-in_err-rest-2 t c =
     let read = rw c.in_ok-rest.ensures.was_read at c.expression.ensures in
     halts_on _ _ _ c.from_residual-in_err-rest-2.ensures.1
-    (r.register_unclosed c.args.level c.elements.invariant.read read c.in_default.ensures.none c.in_err-rest-2.ensures.halts)
+    (r.register_unclosed c.args.self.level c.elements.invariant.read read c.in_default.ensures.none c.in_err-rest-2.ensures.halts)
 
 pub register-returns-in_default : goal.register-returns-in_default
 register-returns-in_default t c =
     let put = c.in_ok-rest.ensures in
-    r.register_done c.args.level c.args.at c.elements.elements.items put.next c.elements.invariant.read (rw put.was_read at c.expression.ensures)
+    r.register_done c.args.self.level c.args.at c.elements.elements.items put.next c.elements.invariant.read (rw put.was_read at c.expression.ensures)
     c.in_default.ensures.none put.all c.in_ok-rest-2.ensures.ok (tree_of-Reg c.put.new.all c.args.at)
 
 pub register-elements-preserved : goal.register-elements-preserved
 register-elements-preserved t c =
     let put = c.in_ok-rest.ensures in
     record {
-      read = r.register_more c.args.level c.elements.elements.items put.next c.elements.invariant.read (rw put.was_read at c.expression.ensures)
+      read = r.register_more c.args.self.level c.elements.elements.items put.next c.elements.invariant.read (rw put.was_read at c.expression.ensures)
           c.in-Some.ensures.found put.all;
     }
 
@@ -344,11 +312,11 @@ register-elements-smaller t c =
 -- ---- blocks
 
 pub block-items-init : goal.block-items-init
-block-items-init t c = record { read = r.block_begun c.args.level c.args.tokens.now c.new-items.ensures.items }
+block-items-init t c = record { read = r.block_begun c.args.self.level c.args.tokens.now c.new-items.ensures.items }
 
 pub block-returns-in_err-next : goal.block-returns-in_err-next
 block-returns-in_err-next t c =
-    halts_on _ _ _ c.from_residual.ensures.1 (r.block_halts c.args.level c.items.invariant.read c.in_err-next.ensures)
+    halts_on _ _ _ c.from_residual.ensures.1 (r.block_halts c.args.self.level c.items.invariant.read c.in_err-next.ensures)
 
 pub block-returns-in_err-push-in-Item : goal.block-returns-in_err-push-in-Item
 block-returns-in_err-push-in-Item t c = halts_on _ _ _ c.from_residual-in_err-push-in-Item.ensures.1 no_memory
@@ -360,7 +328,7 @@ pub block-items-preserved : goal.block-items-preserved
 block-items-preserved t c =
     let item = rw c.in-Item.is at c.in_ok-next.ensures in
     record {
-      read = r.block_more c.args.level c.items.items.items c.in-Item.item {new = c.push.new.self.items} c.items.invariant.read item
+      read = r.block_more c.args.self.level c.items.items.items c.in-Item.item {new = c.push.new.self.items} c.items.invariant.read item
           c.in_ok-push-in-Item.ensures.items;
     }
 
@@ -370,88 +338,88 @@ block-items-smaller t c = let item = rw c.in-Item.is at c.in_ok-next.ensures in 
 pub block-returns-in-Last : goal.block-returns-in-Last
 block-returns-in-Last t c =
     let last = rw c.in-Last.is at c.in_ok-next.ensures in
-    r.block_done c.args.level c.args.at c.items.invariant.read last (rw (tree_of-Block, c.in_ok-new-in-Last.ensures.ok))
+    r.block_done c.args.self.level c.args.at c.items.invariant.read last (rw (tree_of-Block, c.in_ok-new-in-Last.ensures.ok))
 
 -- ---- items
 
 pub item_or_last-returns-in_err-item : goal.item_or_last-returns-in_err-item
 item_or_last-returns-in_err-item t c =
-    halts_on _ _ _ c.from_residual.ensures.1 (i.item_halts c.args.level (sym c.begins_item.ensures ∙ c.if-begins_item.true) c.in_err-item.ensures)
+    halts_on _ _ _ c.from_residual.ensures.1 (i.item_halts c.args.self.level (sym c.begins_item.ensures ∙ c.if-begins_item.true) c.in_err-item.ensures)
 
 pub item_or_last-returns-then-begins_item : goal.item_or_last-returns-then-begins_item
-item_or_last-returns-then-begins_item t c = i.item_in_body c.args.level (sym c.begins_item.ensures ∙ c.if-begins_item.true) c.in_ok-item.ensures
+item_or_last-returns-then-begins_item t c = i.item_in_body c.args.self.level (sym c.begins_item.ensures ∙ c.if-begins_item.true) c.in_ok-item.ensures
 
 pub item_or_last-returns-in_err-term : goal.item_or_last-returns-in_err-term
 item_or_last-returns-in_err-term t c =
     halts_on _ _ _ c.from_residual-in_err-term.ensures.1
-    (i.do_halts c.args.level (sym c.begins_item.ensures ∙ c.if-begins_item.false) c.in_err-term.ensures)
+    (i.do_halts c.args.self.level (sym c.begins_item.ensures ∙ c.if-begins_item.false) c.in_err-term.ensures)
 
 pub item_or_last-returns : goal.item_or_last-returns
 item_or_last-returns t c = MatchResult-weaker c.piece_of.result c.piece_of.ensures
-    (λ x. i.piece_reads c.args.level (sym c.begins_item.ensures ∙ c.if-begins_item.false) c.in_ok-term.ensures x.0 x.1.now)
-    (λ x. i.piece_halts c.args.level (sym c.begins_item.ensures ∙ c.if-begins_item.false) c.in_ok-term.ensures)
+    (λ x. i.piece_reads c.args.self.level (sym c.begins_item.ensures ∙ c.if-begins_item.false) c.in_ok-term.ensures x.0 x.1.now)
+    (λ x. i.piece_halts c.args.self.level (sym c.begins_item.ensures ∙ c.if-begins_item.false) c.in_ok-term.ensures)
 
 pub item-returns-in-Some : goal.item-returns-in-Some
 item-returns-in-Some t c = MatchResult-weaker c.binding.result c.binding.ensures
-    (λ x. i.item_let c.args.level c.in-Some.ensures.found)
-    (λ x. i.let_halts c.args.level c.in-Some.ensures.found)
+    (λ x. i.item_let c.args.self.level c.in-Some.ensures.found)
+    (λ x. i.let_halts c.args.self.level c.in-Some.ensures.found)
 
 pub item-returns-in_default-after_for : goal.item-returns-in_default-after_for
-item-returns-in_default-after_for t c = i.item_stops c.args.level c.in_default.ensures.none c.in_default-after_for.ensures.none
+item-returns-in_default-after_for t c = i.item_stops c.args.self.level c.in_default.ensures.none c.in_default-after_for.ensures.none
 
 pub item-returns : goal.item-returns
 item-returns t c = MatchResult-weaker c.repetition.result c.repetition.ensures
-    (λ x. i.item_for c.args.level c.in-Some-after_for.ensures.found)
-    (λ x. i.for_halts c.args.level c.in-Some-after_for.ensures.found)
+    (λ x. i.item_for c.args.self.level c.in-Some-after_for.ensures.found)
+    (λ x. i.for_halts c.args.self.level c.in-Some-after_for.ensures.found)
 
 -- ---- loops
 
 pub repetition-returns-in_err-name : goal.repetition-returns-in_err-name
-repetition-returns-in_err-name t c = halts_on _ _ _ c.from_residual.ensures.1 (i.for_no_range c.args.level c.in_err-name.ensures)
+repetition-returns-in_err-name t c = halts_on _ _ _ c.from_residual.ensures.1 (i.for_no_range c.args.self.level c.in_err-name.ensures)
 
 pub repetition-returns-in_default : goal.repetition-returns-in_default
-repetition-returns-in_default t c = i.for_no_curly c.args.level c.in_ok-name.ensures c.in_default.ensures.none
+repetition-returns-in_default t c = i.for_no_curly c.args.self.level c.in_ok-name.ensures c.in_default.ensures.none
 
-pub repetition-returns-in_err-inner : goal.repetition-returns-in_err-inner
-repetition-returns-in_err-inner t c =
-    halts_on _ _ _ c.from_residual-in_err-inner.ensures.1
-    (i.for_no_level c.args.level c.in_ok-name.ensures c.in-Some.ensures.found c.in_err-inner.ensures.deep _ c.in_err-inner.ensures.stops)
+pub repetition-returns-in_err-level : goal.repetition-returns-in_err-level
+repetition-returns-in_err-level t c =
+    halts_on _ _ _ c.from_residual-in_err-level.ensures.1
+    (i.for_no_level c.args.self.level c.in_ok-name.ensures c.in-Some.ensures.found c.in_err-level.ensures.deep _ c.in_err-level.ensures.stops)
 
 pub repetition-returns-in_err-items : goal.repetition-returns-in_err-items
 repetition-returns-in_err-items t c =
     halts_on _ _ _ c.from_residual-in_err-items.ensures.1
-    (i.for_in_loop c.args.level c.in_ok-name.ensures c.in-Some.ensures.found c.in_ok-inner.ensures.inner c.in_ok-inner.ensures.within c.in_err-items.ensures)
+    (i.for_in_loop c.args.self.level c.in_ok-name.ensures c.in-Some.ensures.found c.in_ok-level.ensures.inner c.in_ok-level.ensures.within c.in_err-items.ensures)
 
 pub repetition-returns : goal.repetition-returns
 repetition-returns t c =
-    i.for_reads c.args.level c.in_ok-name.ensures c.in-Some.ensures.found c.args.at c.in_ok-inner.ensures.inner c.in_ok-inner.ensures.within
+    i.for_reads c.args.self.level c.in_ok-name.ensures c.in-Some.ensures.found c.args.at c.in_ok-level.ensures.inner c.in_ok-level.ensures.within
     c.in_ok-items.ensures (item_tree_of-For _ _ _ c.args.at)
 
 pub loop_items-items-init : goal.loop_items-items-init
-loop_items-items-init t c = record { read = i.loop_begun c.args.level c.args.tokens.now c.new-items.ensures.items }
+loop_items-items-init t c = record { read = i.loop_begun c.args.self.level c.args.tokens.now c.new-items.ensures.items }
 
 pub loop_items-returns-in_err-rest : goal.loop_items-returns-in_err-rest
 loop_items-returns-in_err-rest t c =
     halts_on _ _ _ c.from_residual.ensures.1
-    (i.loop_halts c.args.level c.items.invariant.read (lacks c.in_err-rest.ensures (λ e. rw e at c.loop_item.ensures)))
+    (i.loop_halts c.args.self.level c.items.invariant.read (lacks c.in_err-rest.ensures (λ e. rw e at c.loop_item.ensures)))
 
 pub loop_items-returns-in_err-rest-2 : goal.loop_items-returns-in_err-rest-2
 loop_items-returns-in_err-rest-2 t c =
     let read = rw c.in_ok-rest.ensures.was_read at c.loop_item.ensures in
     halts_on _ _ _ c.from_residual-in_err-rest-2.ensures.1
-    (i.loop_unended c.args.level c.items.invariant.read read c.in-Some.ensures.found c.in_err-rest-2.ensures.halts)
+    (i.loop_unended c.args.self.level c.items.invariant.read read c.in-Some.ensures.found c.in_err-rest-2.ensures.halts)
 
 pub loop_items-returns-in-Some : goal.loop_items-returns-in-Some
 loop_items-returns-in-Some t c =
     let put = c.in_ok-rest.ensures in
-    i.loop_done c.args.level c.items.items.items put.next c.items.invariant.read (rw put.was_read at c.loop_item.ensures) c.in-Some.ensures.found
+    i.loop_done c.args.self.level c.items.items.items put.next c.items.invariant.read (rw put.was_read at c.loop_item.ensures) c.in-Some.ensures.found
     put.all c.in_ok-rest-2.ensures.ok
 
 pub loop_items-items-preserved : goal.loop_items-items-preserved
 loop_items-items-preserved t c =
     let put = c.in_ok-rest.ensures in
     record {
-      read = i.loop_more c.args.level c.items.items.items put.next c.items.invariant.read (rw put.was_read at c.loop_item.ensures)
+      read = i.loop_more c.args.self.level c.items.items.items put.next c.items.invariant.read (rw put.was_read at c.loop_item.ensures)
           c.in_default.ensures.none put.all;
     }
 
@@ -461,54 +429,48 @@ loop_items-items-smaller t c =
 
 pub loop_item-returns-then-begins_item : goal.loop_item-returns-then-begins_item
 loop_item-returns-then-begins_item t c = MatchResult-weaker c.item.result c.item.ensures
-    (λ x. i.item_in_loop c.args.level (sym c.begins_item.ensures ∙ c.if-begins_item.true))
-    (λ x. i.item_halts_in_loop c.args.level (sym c.begins_item.ensures ∙ c.if-begins_item.true))
+    (λ x. i.item_in_loop c.args.self.level (sym c.begins_item.ensures ∙ c.if-begins_item.true))
+    (λ x. i.item_halts_in_loop c.args.self.level (sym c.begins_item.ensures ∙ c.if-begins_item.true))
 
 pub loop_item-returns-in_err-term : goal.loop_item-returns-in_err-term
 loop_item-returns-in_err-term t c =
     halts_on _ _ _ c.from_residual.ensures.1
-    (i.do_halts_in_loop c.args.level (sym c.begins_item.ensures ∙ c.if-begins_item.false) c.in_err-term.ensures)
+    (i.do_halts_in_loop c.args.self.level (sym c.begins_item.ensures ∙ c.if-begins_item.false) c.in_err-term.ensures)
 
 pub loop_item-returns : goal.loop_item-returns
 loop_item-returns t c =
-    i.do_in_loop c.args.level (sym c.begins_item.ensures ∙ c.if-begins_item.false) c.in_ok-term.ensures (item_tree_of-Do c.in_ok-term.term)
+    i.do_in_loop c.args.self.level (sym c.begins_item.ensures ∙ c.if-begins_item.false) c.in_ok-term.ensures (item_tree_of-Do c.in_ok-term.term)
 
 -- ---- bindings
 
 pub binding-returns-in_err-name : goal.binding-returns-in_err-name
 binding-returns-in_err-name t c =
     halts_on _ _ _ c.from_residual.ensures.1
-    (halts_first (closed_by c.args.profile signs.Semi c.args.level) c.in_err-name.ensures)
+    (halts_first (closed_by c.args.self.profile signs.Semi c.args.self.level) c.in_err-name.ensures)
 
 pub binding-returns-in_err-body : goal.binding-returns-in_err-body
 binding-returns-in_err-body t c =
     halts_on _ _ _ c.from_residual-in_err-body.ensures.1
-    (r.binding_in_value c.args.level c.in_ok-name.ensures c.in_err-body.ensures)
+    (r.binding_in_value c.args.self.level c.in_ok-name.ensures c.in_err-body.ensures)
 
 pub binding-returns-in_err-value : goal.binding-returns-in_err-value
-binding-returns-in_err-value t c = halts_on _ _ _ c.from_residual-in_err-value.ensures.1 (wants_memory c.in_err-value.ensures.memory)
+binding-returns-in_err-value t c = halts_on _ _ _ c.from_residual-in_err-value.ensures.1 (wants_memory c.in_err-value.ensures)
 
 pub binding-returns : goal.binding-returns
 binding-returns t c =
-    r.binding_reads c.args.level c.in_ok-name.ensures c.in_ok-body.ensures
-    (rw (item_tree_of-Let, c.in_ok-value.ensures.ok))
+    r.binding_reads c.args.self.level c.in_ok-name.ensures c.in_ok-body.ensures
+    (rw (item_tree_of-Let, c.in_ok-value.ensures))
 
 -- ---- calls at the same level
 
-pub expression-sum-requires : goal.expression-sum-requires
-expression-sum-requires t c = (lower _ 6 0 _ c.decreases, c.requires)
+pub expression-chained-requires : goal.expression-chained-requires
+expression-chained-requires t c = (lower _ 8 0 _ c.decreases, c.requires)
 
-pub expression-sum-requires-2 : goal.expression-sum-requires-2
-expression-sum-requires-2 t c = (lower _ 6 0 _ c.decreases, c.requires)
+pub expression-chained-requires-2 : goal.expression-chained-requires-2
+expression-chained-requires-2 t c = (lower _ 8 0 _ c.decreases, c.requires)
 
 pub function-expression-requires : goal.function-expression-requires
-function-expression-requires t c = (lower _ 7 2 _ c.decreases, c.requires)
-
-pub sum-product-requires : goal.sum-product-requires
-sum-product-requires t c = (lower _ 5 0 _ c.decreases, c.requires)
-
-pub product-application-requires : goal.product-application-requires
-product-application-requires t c = (lower _ 4 0 _ c.decreases, c.requires)
+function-expression-requires t c = (lower _ 9 2 _ c.decreases, c.requires)
 
 pub application-append-requires : goal.application-append-requires
 application-append-requires t c = (lower _ 3 0 _ c.decreases, c.requires)
@@ -532,57 +494,63 @@ pub atom-base-requires : goal.atom-base-requires
 atom-base-requires t c = (lower _ 1 0 _ c.decreases, c.requires)
 
 pub closed-expression-requires : goal.closed-expression-requires
-closed-expression-requires t c = (lower _ 7 0 _ c.decreases, c.requires)
+closed-expression-requires t c = (lower _ 9 0 _ c.decreases, c.requires)
 
 pub register-expression-requires : goal.register-expression-requires
-register-expression-requires t c = (lower _ 7 2 _ c.decreases, c.requires)
+register-expression-requires t c = (lower _ 9 2 _ c.decreases, c.requires)
 
 pub block-item_or_last-requires : goal.block-item_or_last-requires
-block-item_or_last-requires t c = (lower _ 11 0 _ c.decreases, c.requires)
+block-item_or_last-requires t c = (lower _ 13 0 _ c.decreases, c.requires)
 
 pub item_or_last-item-requires : goal.item_or_last-item-requires
-item_or_last-item-requires t c = (lower _ 10 0 _ c.decreases, c.requires)
+item_or_last-item-requires t c = (lower _ 12 0 _ c.decreases, c.requires)
 
 pub item_or_last-expression-requires : goal.item_or_last-expression-requires
-item_or_last-expression-requires t c = (lower _ 7 3 _ c.decreases, c.requires)
+item_or_last-expression-requires t c = (lower _ 9 3 _ c.decreases, c.requires)
 
 pub item-binding-requires : goal.item-binding-requires
-item-binding-requires t c = (lower _ 9 0 _ c.decreases, c.requires)
+item-binding-requires t c = (lower _ 11 0 _ c.decreases, c.requires)
 
 pub item-repetition-requires : goal.item-repetition-requires
-item-repetition-requires t c = (lower _ 1 8 _ c.decreases, c.requires)
+item-repetition-requires t c = (lower _ 1 10 _ c.decreases, c.requires)
 
 pub loop_items-loop_item-requires : goal.loop_items-loop_item-requires
-loop_items-loop_item-requires t c = (lower _ 11 0 _ c.decreases, c.requires)
+loop_items-loop_item-requires t c = (lower _ 13 0 _ c.decreases, c.requires)
 
 pub loop_item-item-requires : goal.loop_item-item-requires
-loop_item-item-requires t c = (lower _ 10 0 _ c.decreases, c.requires)
+loop_item-item-requires t c = (lower _ 12 0 _ c.decreases, c.requires)
 
 pub loop_item-closed-requires : goal.loop_item-closed-requires
-loop_item-closed-requires t c = (lower _ 8 2 _ c.decreases, c.requires)
+loop_item-closed-requires t c = (lower _ 10 2 _ c.decreases, c.requires)
 
 pub binding-closed-requires : goal.binding-closed-requires
-binding-closed-requires t c = (lower _ 8 0 _ c.decreases, c.requires)
+binding-closed-requires t c = (lower _ 10 0 _ c.decreases, c.requires)
+
+pub chained-operand-requires : goal.chained-operand-requires
+chained-operand-requires t c = (omega (arith, c.decreases), c.requires)
+
+pub chained-operand-requires-in-operands : goal.chained-operand-requires-in-operands
+chained-operand-requires-in-operands t c = (omega (arith, c.decreases), c.requires)
+
+pub operand-chained-requires : goal.operand-chained-requires
+operand-chained-requires t c = (lower _ 6 0 _ (rw c.in-Xor.is at c.decreases), c.requires)
+
+pub operand-application-requires : goal.operand-application-requires
+operand-application-requires t c = (lower _ 4 0 _ (rw c.in-And.is at c.decreases), c.requires)
 
 -- ---- calls one level deeper
 
 pub expression-function-requires : goal.expression-function-requires
-expression-function-requires t c = deeper _ _ 10 7 5 _ c.in_ok-inner.ensures.inner c.in_ok-inner.ensures.within refl c.decreases
+expression-function-requires t c = deeper _ _ 12 9 3 _ c.in_ok-level.ensures.inner c.in_ok-level.ensures.within refl c.decreases
 
 pub base-register-requires : goal.base-register-requires
-base-register-requires t c = deeper _ _ 10 1 5 _ c.in_ok-inner.ensures.inner c.in_ok-inner.ensures.within refl c.decreases
+base-register-requires t c = deeper _ _ 12 1 3 _ c.in_ok-level.ensures.inner c.in_ok-level.ensures.within refl c.decreases
 
 pub base-closed-requires : goal.base-closed-requires
-base-closed-requires t c = deeper _ _ 8 1 7 _ c.in_ok-inner.ensures.inner c.in_ok-inner.ensures.within refl c.decreases
+base-closed-requires t c = deeper _ _ 10 1 5 _ c.in_ok-level.ensures.inner c.in_ok-level.ensures.within refl c.decreases
 
 pub base-block-requires : goal.base-block-requires
-base-block-requires t c = deeper _ _ 12 1 3 _ c.in_ok-inner.ensures.inner c.in_ok-inner.ensures.within refl c.decreases
+base-block-requires t c = deeper _ _ 14 1 1 _ c.in_ok-level.ensures.inner c.in_ok-level.ensures.within refl c.decreases
 
 pub repetition-loop_items-requires : goal.repetition-loop_items-requires
-repetition-loop_items-requires t c = deeper _ _ 12 1 3 _ c.in_ok-inner.ensures.inner c.in_ok-inner.ensures.within refl c.decreases
-
-pub sum-product-requires-in-products : goal.sum-product-requires-in-products
-sum-product-requires-in-products t c = (lower _ 5 0 _ c.decreases, c.requires)
-
-pub product-application-requires-in-applications : goal.product-application-requires-in-applications
-product-application-requires-in-applications t c = (lower _ 4 0 _ c.decreases, c.requires)
+repetition-loop_items-requires t c = deeper _ _ 14 1 1 _ c.in_ok-level.ensures.inner c.in_ok-level.ensures.within refl c.decreases

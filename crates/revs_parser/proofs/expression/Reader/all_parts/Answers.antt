@@ -1,7 +1,7 @@
 use Rattle.std.proofs.Common.{ap, length, arith}
 use Rattle.revs_parser.proofs.PassingLemmas.{halts_on, lacks}
 use Rattle.revs_parser.proofs.ReadingLemmas.{parts_begun, parts_more, parts_halt, parts_done}
-use Rattle.revs_parser.proofs.expression.all_parts.Goals as goal
+use Rattle.revs_parser.proofs.expression.Reader.all_parts.Goals as goal
 
 pub loop-at-preserved : goal.loop-at-preserved
 loop-at-preserved c =

@@ -1,9 +1,9 @@
 use Rattle.std.proofs.Common.{length}
 use Rattle.revs_parser.proofs.ReadingLemmas.{Parts}
-use Rattle.revs_parser.proofs.expression.all_parts.Given as goal
+use Rattle.revs_parser.proofs.expression.Reader.all_parts.Given as goal
 
 abbrev pub invariant-loop-at : goal.invariant-loop-at
-invariant-loop-at l = record { read : Parts l.fn.profile l.parts.items l.fn.tokens l.rest }
+invariant-loop-at l = record { read : Parts l.fn.self.profile l.parts.items l.fn.tokens l.rest }
 
 abbrev pub decreases-loop-at : goal.decreases-loop-at
 decreases-loop-at l = length l.rest

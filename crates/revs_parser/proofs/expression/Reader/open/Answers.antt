@@ -1,5 +1,5 @@
 use Rattle.std.proofs.Common.{refl}
-use Rattle.revs_parser.proofs.expression.open.Goals as goal
+use Rattle.revs_parser.proofs.expression.Reader.open.Goals as goal
 
-pub returns-then-level-lt-MOST_LEVELS-clause-inner : goal.returns-then-level-lt-MOST_LEVELS-clause-inner
-returns-then-level-lt-MOST_LEVELS-clause-inner c = refl
+pub returns-then-self-lt-MOST_LEVELS-clause-inner : goal.returns-then-self-lt-MOST_LEVELS-clause-inner
+returns-then-self-lt-MOST_LEVELS-clause-inner c = refl

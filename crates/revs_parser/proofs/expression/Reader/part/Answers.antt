@@ -1,7 +1,7 @@
 use Rattle.std.proofs.lemmas.Result.{MatchResult-weaker}
 use Rattle.revs_parser.proofs.PassingLemmas.{halts_on}
 use Rattle.revs_parser.proofs.ReadingLemmas.{part_index, part_slice, part_unclosed, part_in_last, slice_unclosed, part_unopened, part_in_first}
-use Rattle.revs_parser.proofs.expression.part.Goals as goal
+use Rattle.revs_parser.proofs.expression.Reader.part.Goals as goal
 
 pub returns-in_err-rest : goal.returns-in_err-rest
 returns-in_err-rest c = halts_on _ _ _ c.from_residual.ensures.1 (part_unopened c.in_err-rest.ensures.halts)

@@ -1,9 +1,9 @@
 use Rattle.revs_parser.proofs.PassingLemmas.{halts_on, no_memory}
 use Rattle.revs_parser.proofs.ItemLemmas.{range_no_name, range_no_in, range_in_low, range_no_dots, range_in_high, range_no_do, range_reads}
-use Rattle.revs_parser.proofs.expression.range.Goals as goal
+use Rattle.revs_parser.proofs.expression.Reader.range.Goals as goal
 
 pub returns-in_err-name : goal.returns-in_err-name
-returns-in_err-name c = halts_on _ _ _ c.from_residual.ensures.1 (range_no_name c.args.profile c.in_err-name.ensures.halts)
+returns-in_err-name c = halts_on _ _ _ c.from_residual.ensures.1 (range_no_name c.args.self.profile c.in_err-name.ensures.halts)
 
 pub returns-in_err-rest : goal.returns-in_err-rest
 returns-in_err-rest c = halts_on _ _ _ c.from_residual-in_err-rest.ensures.1 (range_no_in c.in_ok-name.ensures.ok c.in_err-rest.ensures.halts)
