@@ -1,5 +1,5 @@
 -- Binding names changes nothing but the `back` of used names, and puts each in range.
-use Rattle.std.proofs.Common.{◌≡◌, ℕ, ◌+◌, ◌<◌, leb, max, Bool, true, ◌&&◌, Option, Some, None, List, [], ◌∷◌, length, position, bytes_eq, refl, ap, subst}
+use Rattle.std.proofs.Common.{◌≡◌, ℕ, ◌+◌, ◌<◌, leb, max, Bool, true, ◌&&◌, Option, Some, None, List, [], ◌∷◌, length, position, bytes_eq, refl, sym, ◌∙◌, ap, subst}
 use Rattle.std.proofs.Common.{arith, add-one}
 use Rattle.std.proofs.lemmas.Bool.{le-leb}
 use Rattle.std.proofs.lemmas.List.Quantifiers.{position-Some}
@@ -11,7 +11,7 @@ use Rattle.revs_terms.specs.declared.term.Unit.TheVariants as units
 use Rattle.revs_terms.specs.declared.term.Step.{Step}
 use Rattle.revs_terms.specs.declared.term.Part.{Part}
 use Rattle.revs_terms.specs.declared.term.Part.TheVariants as part
-use Rattle.revs_terms.specs.Scopes.{Scoped, unbound, scoped, bound_name, nearer, scoped_tree, scoped_trees, scoped_items, scoped_unit, scoped_num}
+use Rattle.revs_terms.specs.Scopes.{Scoped, unbound, scoped, and_then, bound_name, nearer, scoped_tree, scoped_trees, scoped_items, scoped_unit, scoped_num}
 use Rattle.revs_terms.specs.Scopes.{scoped_part, scoped_parts}
 use Rattle.revs_terms.specs.Terms.{has_one, has_two, is_formed, are_formed, items_are_formed, form_of, levels_as, levels_of, levels_of_all, levels_of_item}
 use Rattle.revs_terms.specs.Terms.{levels_of_items, names_of, names_of_all, names_of_items, base, atom, application, product, sum, expression}
@@ -78,6 +78,11 @@ to_items s is js ks m n e h =
     let same : p ≡ q = cc in
     subst (λ (x : ItemTrees × List (List ℕ)). KeepsItems s x.1 is x.0) same h
 
+levels_of_both : {depth : ℕ} {a b c d : Tree} (form : ℕ) → Keeps depth a c → Keeps depth b d
+    → max (levels_as form c (levels_of c)) (levels_as form d (levels_of d)) ≡ max (levels_as form a (levels_of a)) (levels_as form b (levels_of b))
+levels_of_both {a = a} {b = b} {c = c} {d = d} form k l =
+    both_same max _ _ _ _ (as_same form a c k.form k.levels) (as_same form b d l.form l.levels)
+
 -- ---- numbers and parts
 
 -- what a number keeps
@@ -101,273 +106,146 @@ record KeepsUnit (depth : ℕ) (k l : u.Unit) : Type 0 where
   bound : unit_is_bound depth l ≡ true
   names : names_of_unit l ≡ names_of_unit k
 
+-- ---- what is made of bound parts
+
+-- What is made of a part that is bound is known from what the part keeps, and so it is with two parts.
+of_part : {A C : Type 0} {P : A → Type 0} (K : C → Type 0) (f : A → C) (v : Scoped A) (c : C) → and_then v (λ a. scoped (f a)) ≡ scoped c
+    → ((a : A) → v ≡ scoped a → P a) → ((a : A) → P a → K (f a)) → K c
+of_part K f v c e part whole =
+    let g = first_is_bound v _ c e in
+    subst K (same_of (f g.0) c g.1.1) (whole g.0 (part g.0 g.1.0))
+
+of_parts : {A B C : Type 0} {P : A → Type 0} {Q : A → B → Type 0} (K : C → Type 0) (f : A → B → C) (v : Scoped A) (w : A → Scoped B) (c : C)
+    → and_then v (λ a. and_then (w a) (λ b. scoped (f a b))) ≡ scoped c → ((a : A) → v ≡ scoped a → P a) → ((a : A) (b : B) → w a ≡ scoped b → Q a b)
+    → ((a : A) (b : B) → P a → Q a b → K (f a b)) → K c
+of_parts K f v w c e first second whole =
+    let g = first_is_bound v _ c e in
+    of_part K (f g.0) (w g.0) c g.1.1 (second g.0) (λ b q. whole g.0 b (first g.0 g.1.0) q)
+
 keeps_unit : (s : List (List ℕ)) (k l : u.Unit) → scoped_unit s k ≡ scoped l → KeepsUnit (length s) k l
 keeps_unit s (units.Digits value at) l e =
-    subst (λ (x : u.Unit). KeepsUnit (length s) (units.Digits value at) x) (same_of _ l e) (record { bound = refl; names = refl })
+    subst (KeepsUnit (length s) (units.Digits value at)) (same_of _ l e) (record { bound = refl; names = refl })
 keeps_unit s (units.Name name) l e =
-    let g = first_is_bound (bound_name s name) _ _ e in
-    subst (λ (x : u.Unit). KeepsUnit (length s) (units.Name name) x) (same_of _ l g.1.1) (record { bound = used_in s name g.0 g.1.0; names = refl })
+    of_part (KeepsUnit (length s) (units.Name name)) units.Name (bound_name s name) l e (λ n h. used_in s name n h)
+    (λ n b. record { bound = b; names = refl })
 
 keeps_num : (s : List (List ℕ)) (k l : List Step) → scoped_num s k ≡ scoped l → KeepsNum (length s) k l
-keeps_num s [] l e = subst (λ (x : List Step). KeepsNum (length s) [] x) (same_of _ l e) (record { bound = refl; formed = refl; names = refl })
+keeps_num s [] l e = subst (KeepsNum (length s) []) (same_of _ l e) (record { bound = refl; formed = refl; names = refl })
 keeps_num s (a ∷ others) l e =
-    let g = first_is_bound (scoped_unit s a.unit) _ _ e in
-    let u = keeps_unit s a.unit g.0 g.1.0 in
-    let h = first_is_bound (scoped_num s others) _ _ g.1.1 in
-    let k = keeps_num s others h.0 h.1.0 in
-    subst (λ (x : List Step). KeepsNum (length s) (a ∷ others) x) (same_of _ l h.1.1)
-    (record { bound = and_from _ _ u.bound k.bound; formed = refl; names = both_same ◌+◌ _ _ _ _ u.names k.names })
+    of_parts (KeepsNum (length s) (a ∷ others)) (λ v vs. record a { unit = v } ∷ vs) (scoped_unit s a.unit) (λ _. scoped_num s others) l e
+    (keeps_unit s a.unit) (λ _. keeps_num s others)
+    (λ v vs p q. record { bound = and_from _ _ p.bound q.bound; formed = refl; names = both_same ◌+◌ _ _ _ _ p.names q.names })
 
 keeps_part : (s : List (List ℕ)) (p q : Part) → scoped_part s p ≡ scoped q → KeepsPart (length s) p q
 keeps_part s (part.Index i at) q e =
-    let g = first_is_bound (scoped_num s i) _ _ e in
-    let k = keeps_num s i g.0 g.1.0 in
-    subst (λ (x : Part). KeepsPart (length s) (part.Index i at) x) (same_of _ q g.1.1) (record { bound = k.bound; formed = k.formed; names = k.names })
+    of_part (KeepsPart (length s) (part.Index i at)) (λ k. part.Index k at) (scoped_num s i) q e (keeps_num s i)
+    (λ k h. record { bound = h.bound; formed = h.formed; names = h.names })
 keeps_part s (part.Slice i j at) q e =
-    let g = first_is_bound (scoped_num s i) _ _ e in
-    let k = keeps_num s i g.0 g.1.0 in
-    let h = first_is_bound (scoped_num s j) _ _ g.1.1 in
-    let l = keeps_num s j h.0 h.1.0 in
-    subst (λ (x : Part). KeepsPart (length s) (part.Slice i j at) x) (same_of _ q h.1.1)
-    (record {
-      bound = and_from _ _ k.bound l.bound;
-      formed = and_same _ _ _ _ k.formed l.formed;
-      names = both_same ◌+◌ _ _ _ _ k.names l.names;
+    of_parts (KeepsPart (length s) (part.Slice i j at)) (λ k l. part.Slice k l at) (scoped_num s i) (λ _. scoped_num s j) q e
+    (keeps_num s i) (λ _. keeps_num s j)
+    (λ k l g h. record {
+      bound = and_from _ _ g.bound h.bound;
+      formed = and_same _ _ _ _ g.formed h.formed;
+      names = both_same ◌+◌ _ _ _ _ g.names h.names;
     })
 
 keeps_parts : (s : List (List ℕ)) (ps qs : List Part) → scoped_parts s ps ≡ scoped qs → KeepsParts (length s) ps qs
-keeps_parts s [] qs e =
-    subst (λ (x : List Part). KeepsParts (length s) [] x) (same_of _ qs e) (record { bound = refl; formed = refl; one = refl; names = refl })
+keeps_parts s [] qs e = subst (KeepsParts (length s) []) (same_of _ qs e) (record { bound = refl; formed = refl; one = refl; names = refl })
 keeps_parts s (p ∷ ps) qs e =
-    let g = first_is_bound (scoped_part s p) _ _ e in
-    let k = keeps_part s p g.0 g.1.0 in
-    let h = first_is_bound (scoped_parts s ps) _ _ g.1.1 in
-    let l = keeps_parts s ps h.0 h.1.0 in
-    subst (λ (x : List Part). KeepsParts (length s) (p ∷ ps) x) (same_of _ qs h.1.1)
-    (record {
-      bound = and_from _ _ k.bound l.bound;
-      formed = and_same _ _ _ _ k.formed l.formed;
+    of_parts (KeepsParts (length s) (p ∷ ps)) (λ q rs. q ∷ rs) (scoped_part s p) (λ _. scoped_parts s ps) qs e (keeps_part s p) (λ _. keeps_parts s ps)
+    (λ q rs g h. record {
+      bound = and_from _ _ g.bound h.bound;
+      formed = and_same _ _ _ _ g.formed h.formed;
       one = refl;
-      names = both_same ◌+◌ _ _ _ _ k.names l.names;
+      names = both_same ◌+◌ _ _ _ _ g.names h.names;
     })
 
 -- ---- trees
 
+-- A tree that is no function has in a `let` the levels that it has.
+kept : {depth : ℕ} {t u : Tree} → is_bound depth u ≡ true → is_formed u ≡ is_formed t → form_of u ≡ form_of t → levels_of u ≡ levels_of t
+    → names_of u ≡ names_of t → ((name : Name) → levels_of_item (bind name u) ≡ levels_of u) → ((name : Name) → levels_of_item (bind name t) ≡ levels_of t)
+    → Keeps depth t u
+kept b f o l n e h = record { bound = b; formed = f; form = o; levels = l; in_let = λ name. e name ∙ l ∙ sym (h name); names = n }
+
 mutual
   pub keeps : (s : List (List ℕ)) (t u : Tree) → scoped_tree s t ≡ scoped u → Keeps (length s) t u
   keeps s (used name) u e =
-      let g = first_is_bound (bound_name s name) _ _ e in
-      subst (λ (x : Tree). Keeps (length s) (used name) x) (same_of _ u g.1.1)
-      (record { bound = used_in s name g.0 g.1.0; formed = refl; form = refl; levels = refl; in_let = λ name. refl; names = refl })
-  keeps s (bool b at) u e =
-      subst (λ (x : Tree). Keeps (length s) (bool b at) x) (same_of _ u e)
-      (record { bound = refl; formed = refl; form = refl; levels = refl; in_let = λ name. refl; names = refl })
+      of_part (Keeps (length s) (used name)) used (bound_name s name) u e (λ n h. used_in s name n h)
+      (λ n b. kept b refl refl refl refl (λ x. refl) (λ x. refl))
+  keeps s (bool b at) u e = subst (Keeps (length s) (bool b at)) (same_of _ u e) (kept refl refl refl refl refl (λ x. refl) (λ x. refl))
   keeps s (reg ts at) u e =
-      let g = first_is_bound (scoped_trees s ts) _ _ e in
-      let k = keeps_all s ts g.0 g.1.0 in
-      subst (λ (x : Tree). Keeps (length s) (reg ts at) x) (same_of _ u g.1.1)
-      (record {
-        bound = k.bound;
-        formed = and_same _ _ _ _ k.one k.formed;
-        form = refl;
-        levels = ap (λ (x : ℕ). x + 1)
-            (k.levels expression);
-        in_let = λ name. ap (λ (x : ℕ). x + 1) (k.levels expression);
-        names = k.names;
-      })
+      of_part (Keeps (length s) (reg ts at)) (λ us. reg us at) (scoped_trees s ts) u e (keeps_all s ts)
+      (λ us k. kept k.bound (and_same _ _ _ _ k.one k.formed) refl (ap (λ (x : ℕ). x + 1) (k.levels expression)) k.names (λ x. refl) (λ x. refl))
   keeps s (block items last at) u e =
-      let g = first_is_bound (scoped_items s items) _ _ e in
-      let k = keeps_items s items g.0.0 g.0.1 g.1.0 in
-      let g2 = first_is_bound (scoped_tree g.0.1 last) _ _ g.1.1 in
-      let l = keeps g.0.1 last g2.0 g2.1.0 in
-      subst (λ (x : Tree). Keeps (length s) (block items last at) x) (same_of _ u g2.1.1)
-      (record {
-        bound = and_from _ _ k.bound (rw k.depth at l.bound);
-        formed = and_same _ _ _ _ k.formed l.formed;
-        form = refl;
-        levels = ap
-            (λ (x : ℕ). x + 1) (both_same max _ _ _ _ k.levels l.levels);
-        in_let = λ name. ap (λ (x : ℕ). x + 1)
-            (both_same max _ _ _ _ k.levels l.levels);
-        names = both_same ◌+◌ _ _ _ _ k.names l.names;
-      })
+      of_parts (Keeps (length s) (block items last at)) (λ r l. block r.0 l at) (scoped_items s items) (λ r. scoped_tree r.1 last) u e
+      (λ r. keeps_items s items r.0 r.1) (λ r. keeps r.1 last)
+      (λ r l k h. kept (and_from _ _ k.bound (rw k.depth at h.bound)) (and_same _ _ _ _ k.formed h.formed) refl
+      (ap (λ (x : ℕ). x + 1) (both_same max _ _ _ _ k.levels h.levels)) (both_same ◌+◌ _ _ _ _ k.names h.names) (λ x. refl) (λ x. refl))
   keeps s (function names body at) u e =
-      let g = first_is_bound (scoped_tree (nearer names s) body) _ _ e in
-      let k = keeps (nearer names s) body g.0 g.1.0 in
-      subst (λ (x : Tree). Keeps (length s) (function names body at) x) (same_of _ u g.1.1)
-      (record {
+      of_part (Keeps (length s) (function names body at)) (λ b. function names b at) (scoped_tree (nearer names s) body) u e
+      (keeps (nearer names s) body)
+      (λ b k. record {
         bound = rw (nearer-length names s) at k.bound;
         formed = and_same _ _ _ _ refl k.formed;
         form = refl;
-        levels = ap
-            (λ (x : ℕ). x + 1) k.levels;
+        levels = ap (λ (x : ℕ). x + 1) k.levels;
         in_let = λ name. k.levels;
         names = ap (λ (x : ℕ). length names + x) k.names;
       })
   keeps s (parts t ps) u e =
-      let g = first_is_bound (scoped_tree s t) _ _ e in
-      let k = keeps s t g.0 g.1.0 in
-      let g2 = first_is_bound (scoped_parts s ps) _ _ g.1.1 in
-      let l = keeps_parts s ps g2.0 g2.1.0 in
-      subst (λ (x : Tree). Keeps (length s) (parts t ps) x) (same_of _ u g2.1.1)
-      (record {
-        bound = and_from _ _ k.bound l.bound;
-        formed = and_same _ _ _ _ (and_same _ _ _ _ l.one l.formed) k.formed;
-        form = refl;
-        levels = as_same base t _ k.form k.levels;
-        in_let = λ name. as_same
-            base t _ k.form k.levels;
-        names = both_same ◌+◌ _ _ _ _ k.names l.names;
-      })
+      of_parts (Keeps (length s) (parts t ps)) parts (scoped_tree s t) (λ _. scoped_parts s ps) u e (keeps s t) (λ _. keeps_parts s ps)
+      (λ b qs k h. kept (and_from _ _ k.bound h.bound) (and_same _ _ _ _ (and_same _ _ _ _ h.one h.formed) k.formed) refl
+      (as_same base t b k.form k.levels) (both_same ◌+◌ _ _ _ _ k.names h.names) (λ x. refl) (λ x. refl))
   keeps s (apply head ts) u e =
-      let g = first_is_bound (scoped_tree s head) _ _ e in
-      let k = keeps s head g.0 g.1.0 in
-      let g2 = first_is_bound (scoped_trees s ts) _ _ g.1.1 in
-      let l = keeps_all s ts g2.0 g2.1.0 in
-      subst (λ (x : Tree). Keeps (length s) (apply head ts) x) (same_of _ u g2.1.1)
-      (record {
-        bound = and_from _ _ k.bound l.bound;
-        formed = and_same _ _ _ _ k.formed
-            (and_same _ _ _ _ l.one l.formed);
-        form = refl;
-        levels = both_same max _ _ _ _ (as_same atom head _ k.form k.levels)
-            (l.levels atom);
-        in_let = λ name. both_same max _ _ _ _ (as_same atom head _ k.form k.levels)
-            (l.levels atom);
-        names = both_same ◌+◌ _ _ _ _ k.names l.names;
-      })
+      of_parts (Keeps (length s) (apply head ts)) apply (scoped_tree s head) (λ _. scoped_trees s ts) u e (keeps s head) (λ _. keeps_all s ts)
+      (λ f us k h. kept (and_from _ _ k.bound h.bound) (and_same _ _ _ _ k.formed (and_same _ _ _ _ h.one h.formed)) refl
+      (both_same max _ _ _ _ (as_same atom head f k.form k.levels) (h.levels atom)) (both_same ◌+◌ _ _ _ _ k.names h.names) (λ x. refl) (λ x. refl))
   keeps s (append a b at) u e =
-      let g = first_is_bound (scoped_tree s a) _ _ e in
-      let k = keeps s a g.0 g.1.0 in
-      let g2 = first_is_bound (scoped_tree s b) _ _ g.1.1 in
-      let l = keeps s b g2.0 g2.1.0 in
-      subst (λ (x : Tree). Keeps (length s) (append a b at) x) (same_of _ u g2.1.1)
-      (record {
-        bound = and_from _ _ k.bound l.bound;
-        formed = and_same _ _ _ _ k.formed l.formed;
-        form = refl;
-        levels = both_same max _ _ _ _
-            (as_same atom a _ k.form k.levels) (as_same atom b _ l.form l.levels);
-        in_let = λ name. both_same max _ _ _ _ (as_same atom a _ k.form k.levels)
-            (as_same atom b _ l.form l.levels);
-        names = both_same ◌+◌ _ _ _ _ k.names l.names;
-      })
+      of_parts (Keeps (length s) (append a b at)) (λ c d. append c d at) (scoped_tree s a) (λ _. scoped_tree s b) u e (keeps s a) (λ _. keeps s b)
+      (λ c d k h. kept (and_from _ _ k.bound h.bound) (and_same _ _ _ _ k.formed h.formed) refl (levels_of_both atom k h)
+      (both_same ◌+◌ _ _ _ _ k.names h.names) (λ x. refl) (λ x. refl))
   keeps s (rotate i t at) u e =
-      let g = first_is_bound (scoped_num s i) _ _ e in
-      let b = keeps_num s i g.0 g.1.0 in
-      let g2 = first_is_bound (scoped_tree s t) _ _ g.1.1 in
-      let k = keeps s t g2.0 g2.1.0 in
-      subst (λ (x : Tree). Keeps (length s) (rotate i t at) x) (same_of _ u g2.1.1)
-      (record {
-        bound = and_from _ _ b.bound k.bound;
-        formed = and_same _ _ _ _ b.formed k.formed;
-        form = refl;
-        levels = as_same atom t _ k.form k.levels;
-        in_let = λ name. as_same atom t _ k.form
-            k.levels;
-        names = both_same ◌+◌ _ _ _ _ b.names k.names;
-      })
+      of_parts (Keeps (length s) (rotate i t at)) (λ k v. rotate k v at) (scoped_num s i) (λ _. scoped_tree s t) u e (keeps_num s i) (λ _. keeps s t)
+      (λ k v h l. kept (and_from _ _ h.bound l.bound) (and_same _ _ _ _ h.formed l.formed) refl (as_same atom t v l.form l.levels)
+      (both_same ◌+◌ _ _ _ _ h.names l.names) (λ x. refl) (λ x. refl))
   keeps s (clean t at) u e =
-      let g = first_is_bound (scoped_tree s t) _ _ e in
-      let k = keeps s t g.0 g.1.0 in
-      subst (λ (x : Tree). Keeps (length s) (clean t at) x) (same_of _ u g.1.1)
-      (record {
-        bound = k.bound;
-        formed = k.formed;
-        form = refl;
-        levels = as_same atom t _ k.form k.levels;
-        in_let = λ name. as_same atom t _ k.form
-            k.levels;
-        names = k.names;
-      })
+      of_part (Keeps (length s) (clean t at)) (λ v. clean v at) (scoped_tree s t) u e (keeps s t)
+      (λ v k. kept k.bound k.formed refl (as_same atom t v k.form k.levels) k.names (λ x. refl) (λ x. refl))
   keeps s (assert t at) u e =
-      let g = first_is_bound (scoped_tree s t) _ _ e in
-      let k = keeps s t g.0 g.1.0 in
-      subst (λ (x : Tree). Keeps (length s) (assert t at) x) (same_of _ u g.1.1)
-      (record {
-        bound = k.bound;
-        formed = k.formed;
-        form = refl;
-        levels = as_same atom t _ k.form k.levels;
-        in_let = λ name. as_same atom t _ k.form
-            k.levels;
-        names = k.names;
-      })
+      of_part (Keeps (length s) (assert t at)) (λ v. assert v at) (scoped_tree s t) u e (keeps s t)
+      (λ v k. kept k.bound k.formed refl (as_same atom t v k.form k.levels) k.names (λ x. refl) (λ x. refl))
   keeps s (ands ts) u e =
-      let g = first_is_bound (scoped_trees s ts) _ _ e in
-      let k = keeps_all s ts g.0 g.1.0 in
-      subst (λ (x : Tree). Keeps (length s) (ands ts) x) (same_of _ u g.1.1)
-      (record {
-        bound = k.bound;
-        formed = and_same _ _ _ _ k.two k.formed;
-        form = refl;
-        levels = k.levels application;
-        in_let = λ name. k.levels
-            application;
-        names = k.names;
-      })
+      of_part (Keeps (length s) (ands ts)) ands (scoped_trees s ts) u e (keeps_all s ts)
+      (λ us k. kept k.bound (and_same _ _ _ _ k.two k.formed) refl (k.levels application) k.names (λ x. refl) (λ x. refl))
   keeps s (xors ts) u e =
-      let g = first_is_bound (scoped_trees s ts) _ _ e in
-      let k = keeps_all s ts g.0 g.1.0 in
-      subst (λ (x : Tree). Keeps (length s) (xors ts) x) (same_of _ u g.1.1)
-      (record {
-        bound = k.bound;
-        formed = and_same _ _ _ _ k.two k.formed;
-        form = refl;
-        levels = k.levels product;
-        in_let = λ name. k.levels product;
-        names = k.names;
-      })
+      of_part (Keeps (length s) (xors ts)) xors (scoped_trees s ts) u e (keeps_all s ts)
+      (λ us k. kept k.bound (and_same _ _ _ _ k.two k.formed) refl (k.levels product) k.names (λ x. refl) (λ x. refl))
   keeps s (assign a b) u e =
-      let g = first_is_bound (scoped_tree s a) _ _ e in
-      let k = keeps s a g.0 g.1.0 in
-      let g2 = first_is_bound (scoped_tree s b) _ _ g.1.1 in
-      let l = keeps s b g2.0 g2.1.0 in
-      subst (λ (x : Tree). Keeps (length s) (assign a b) x) (same_of _ u g2.1.1)
-      (record {
-        bound = and_from _ _ k.bound l.bound;
-        formed = and_same _ _ _ _ k.formed l.formed;
-        form = refl;
-        levels = both_same max _ _ _ _
-            (as_same sum a _ k.form k.levels) (as_same sum b _ l.form l.levels);
-        in_let = λ name. both_same max _ _ _ _ (as_same sum a _ k.form k.levels)
-            (as_same sum b _ l.form l.levels);
-        names = both_same ◌+◌ _ _ _ _ k.names l.names;
-      })
+      of_parts (Keeps (length s) (assign a b)) assign (scoped_tree s a) (λ _. scoped_tree s b) u e (keeps s a) (λ _. keeps s b)
+      (λ c d k h. kept (and_from _ _ k.bound h.bound) (and_same _ _ _ _ k.formed h.formed) refl (levels_of_both sum k h)
+      (both_same ◌+◌ _ _ _ _ k.names h.names) (λ x. refl) (λ x. refl))
   keeps s (loop name a b items at) u e =
       let g = first_is_bound (scoped_num s a) _ _ e in
       let k = keeps_num s a g.0 g.1.0 in
-      let g2 = first_is_bound (scoped_num s b) _ _ g.1.1 in
-      let l = keeps_num s b g2.0 g2.1.0 in
-      let g3 = first_is_bound (scoped_items (name.text ∷ s) items) _ _ g2.1.1 in
-      let i = keeps_items (name.text ∷ s) items g3.0.0 g3.0.1 g3.1.0 in
-      subst (λ (x : Tree). Keeps (length s) (loop name a b items at) x) (same_of _ u g3.1.1)
-      (record {
-        bound = and_from _ _ (and_from _ _ k.bound l.bound) (rw (add-one (length s)) i.bound);
-        formed = and_same _ _ _ _ (and_same _ _ _ _ k.formed l.formed) (and_same _ _ _ _ i.one i.formed);
-        form = refl;
-        levels = ap (λ (x : ℕ). x + 1) i.levels;
-        in_let = λ name. ap (λ (x : ℕ). x + 1) i.levels;
-        names = ap (λ (x : ℕ). x + 1)
-            (both_same ◌+◌ _ _ _ _ (both_same ◌+◌ _ _ _ _ k.names l.names) i.names);
-      })
+      of_parts (Keeps (length s) (loop name a b items at)) (λ d r. loop name g.0 d r.0 at) (scoped_num s b) (λ _. scoped_items (name.text ∷ s) items) u g.1.1
+      (keeps_num s b) (λ _ r. keeps_items (name.text ∷ s) items r.0 r.1)
+      (λ d r l i. kept (and_from _ _ (and_from _ _ k.bound l.bound) (rw (add-one (length s)) i.bound))
+      (and_same _ _ _ _ (and_same _ _ _ _ k.formed l.formed) (and_same _ _ _ _ i.one i.formed)) refl
+      (ap (λ (x : ℕ). x + 1) i.levels) (ap (λ (x : ℕ). x + 1) (both_same ◌+◌ _ _ _ _ (both_same ◌+◌ _ _ _ _ k.names l.names) i.names))
+      (λ x. refl) (λ x. refl))
 
   pub keeps_all : (s : List (List ℕ)) (ts us : Trees) → scoped_trees s ts ≡ scoped us → KeepsAll (length s) ts us
-  keeps_all s nil us e = subst (λ (x : Trees). KeepsAll (length s) nil x) (same_of _ us e)
+  keeps_all s nil us e = subst (KeepsAll (length s) nil) (same_of _ us e)
       (record { bound = refl; formed = refl; one = refl; two = refl; levels = λ form. refl; names = refl })
   keeps_all s (cons t ts) us e =
-      let g = first_is_bound (scoped_tree s t) _ _ e in
-      let k = keeps s t g.0 g.1.0 in
-      let g2 = first_is_bound (scoped_trees s ts) _ _ g.1.1 in
-      let l = keeps_all s ts g2.0 g2.1.0 in
-      subst (λ (x : Trees). KeepsAll (length s) (cons t ts) x) (same_of _ us g2.1.1)
-      (record {
+      of_parts (KeepsAll (length s) (cons t ts)) cons (scoped_tree s t) (λ _. scoped_trees s ts) us e (keeps s t) (λ _. keeps_all s ts)
+      (λ v vs k l. record {
         bound = and_from _ _ k.bound l.bound;
         formed = and_same _ _ _ _ k.formed l.formed;
         one = refl;
         two = l.one;
-        levels = λ form. both_same max
-            _ _ _ _ (as_same form t _ k.form k.levels) (l.levels form);
+        levels = λ form. both_same max _ _ _ _ (as_same form t v k.form k.levels) (l.levels form);
         names = both_same ◌+◌ _ _ _ _ k.names l.names;
       })
 

@@ -6,7 +6,7 @@ use Rattle.std.proofs.lemmas.Bool.{lt-ltb, ltb-true}
 use Rattle.std.proofs.lemmas.List.{reverse-append, length-reverse, drop-drop}
 use Rattle.std.proofs.lemmas.Slice.Eq.{bytes_eq-Decides}
 use Rattle.name_scope.specs.declared.names.Bound.{Bound}
-use Rattle.name_scope.specs.inside.Bindings.{depth_of, held}
+use Rattle.name_scope.specs.inside.Bindings.{depth_of, held, Hide}
 
 -- ---- texts
 
@@ -39,7 +39,7 @@ bound_more f g bs b depth e u h q = by_cases (bytes_eq q b.name)
 
 -- ---- a name goes out of scope
 
-pub bound_less : (f g : List ℕ → Option (Option ℕ)) (bs : List Bound) (b : Bound) → b.hidden ≡ depth_of b.name bs
+bound_less : (f g : List ℕ → Option (Option ℕ)) (bs : List Bound) (b : Bound) → b.hidden ≡ depth_of b.name bs
     → ((q : List ℕ) → g q ≡ cond (bytes_eq b.name q) (Some b.hidden) (f q)) → ((q : List ℕ) → held (f q) ≡ depth_of q (b ∷ bs))
     → (q : List ℕ) → held (g q) ≡ depth_of q bs
 bound_less f g bs b e u h q = by_cases (bytes_eq b.name q)
@@ -50,13 +50,13 @@ bound_less f g bs b e u h q = by_cases (bytes_eq b.name q)
     rw (u q) (rw t known))
 
 -- a name in scope has an entry
-pub has_entry : (f : List ℕ → Option (Option ℕ)) (bs : List Bound) (b : Bound) → ((q : List ℕ) → held (f q) ≡ depth_of q (b ∷ bs)) → f b.name ≡ None → ⊥
+has_entry : (f : List ℕ → Option (Option ℕ)) (bs : List Bound) (b : Bound) → ((q : List ℕ) → held (f q) ≡ depth_of q (b ∷ bs)) → f b.name ≡ None → ⊥
 has_entry f bs b h e =
     let known : held (f b.name) ≡ Some (length bs) = rw (itself b.name) at (h b.name) in
     let none : held (f b.name) ≡ None = ap held e in
     cc
 
-pub after_insert : {A E : Type 0} (r : Result A E) (P U V : Type 0) → OnOk r U → OnErr r V → (U → P) → (V → P) → P
+after_insert : {A E : Type 0} (r : Result A E) (P U V : Type 0) → OnOk r U → OnErr r V → (U → P) → (V → P) → P
 after_insert (Ok a) P U V u v f g = f u
 after_insert (Err a) P U V u v f g = g v
 
@@ -69,6 +69,17 @@ drop_one l i d below =
 
 pub reverse-push : (bs : List Bound) (b : Bound) → reverse (bs ++ b ∷ []) ≡ b ∷ reverse bs
 reverse-push bs b = reverse-append bs (b ∷ [])
+
+-- The last binding goes out of scope, and what it hid is written to the table, where it has an entry.
+pub gone : {A E U V : Type 0} (f g : List ℕ → Option (Option ℕ)) {old : List Bound} (new : List Bound) (b : Bound) (r : Result A E) → old ≡ new ++ b ∷ []
+    → Hide (reverse old) × ((q : List ℕ) → held (f q) ≡ depth_of q (reverse old)) → OnOk r U → OnErr r V
+    → (U → (q : List ℕ) → g q ≡ cond (bytes_eq b.name q) (Some b.hidden) (f q)) → (V → f b.name ≡ None)
+    → Hide (reverse new) × ((q : List ℕ) → held (g q) ≡ depth_of q (reverse new))
+gone {U = U} {V = V} f g new b r e h ok err written absent =
+    let i = rw (ap reverse e ∙ reverse-push new b) at h in (
+      i.0.1,
+      after_insert r _ U V ok err (λ u. bound_less f g (reverse new) b i.0.0 (written u) i.1) (λ v. absurd (has_entry f (reverse new) b i.1 (absent v))),
+    )
 
 pub names-length : (bs : List Bound) → length (map (λ b. b.name) (reverse bs)) ≡ length bs
 names-length bs = names_of (reverse bs) ∙ length-reverse bs where
