@@ -61,7 +61,7 @@ pub stays : (envs : List Environment) (env : ℕ) (leap : Leap) → leap ≡ rec
 stays envs env leap e = subst (Leaps envs env) (sym e) (record { reached = refl; before = omega arith })
 
 -- a binding that is looked up by its place
-pub got_or : (bs : List Binding) (k : ℕ) (d : Binding) → k < length bs → slice_get bs k ≡ Some (slice_index_or bs k d)
+got_or : (bs : List Binding) (k : ℕ) (d : Binding) → k < length bs → slice_get bs k ≡ Some (slice_index_or bs k d)
 got_or [] k d h = absurd (omega arith)
 got_or (c ∷ cs) zero d h = refl
 got_or (c ∷ cs) (suc k) d h = got_or cs k d (omega arith)
@@ -75,29 +75,6 @@ out bs env b are ls some within e =
     let k : env ≡ suc (0 + (env - 1)) = omega arith in
     (l.reached ∙ ap (farther (suc b.leap.passed)) (sym (ap (env_in (envs_from [] bs)) k ∙ p.env)), omega (arith, l.before, p.parent))
 
-pub out_twice : (bs : List Binding) (env : ℕ) (b c : Binding) (leap : Leap) → AreBindings 0 bs → AreLeaps [] bs → 0 < env → env ≤ length bs
-    → slice_get bs (env - 1) ≡ Some b
-    → 0 < b.leap.to → slice_get bs (b.leap.to - 1) ≡ Some c → leap ≡ record { to = c.leap.to; passed = b.leap.passed + c.leap.passed + 2 }
-    → Leaps (envs_from [] bs) env leap
-out_twice bs env b c leap are ls some within e further f is =
-    let o = out bs env b are ls some within e in
-    let q = out bs b.leap.to c are ls further (omega (arith, o.1)) f in
-    let both : suc b.leap.passed + suc c.leap.passed ≡ b.leap.passed + c.leap.passed + 2 = omega arith in
-    subst (Leaps (envs_from [] bs) env) (sym is) (record {
-      reached = q.0 ∙ ap (farther (suc c.leap.passed)) o.0 ∙ farther_twice (suc c.leap.passed) (suc b.leap.passed) (env_in (envs_from [] bs) env)
-          ∙ ap (λ (n : ℕ). farther n (env_in (envs_from [] bs) env)) both;
-      before = omega (arith, o.1, q.1);
-    })
-
--- what two leaps pass is less than what there is
-pub passed_twice : (bs : List Binding) (env : ℕ) (b c : Binding) → AreBindings 0 bs → AreLeaps [] bs → 0 < env → env ≤ length bs
-    → slice_get bs (env - 1) ≡ Some b
-    → 0 < b.leap.to → slice_get bs (b.leap.to - 1) ≡ Some c → b.leap.passed + c.leap.passed + 2 ≤ env
-passed_twice bs env b c are ls some within e further f =
-    let o = out bs env b are ls some within e in
-    let q = out bs b.leap.to c are ls further (omega (arith, o.1)) f in
-    omega (arith, o.1, q.1)
-
 -- ---- where a leap leads
 
 pub leaps_none : (bs : List Binding) (env : ℕ) → env ≡ 0 → leap_at bs env ≡ None
@@ -106,9 +83,62 @@ leaps_none bs env e = rw (eq-eqb env 0 e) refl
 pub leaps_some : (bs : List Binding) (env : ℕ) (b : Binding) → ¬ (env ≡ 0) → slice_get bs (env - 1) ≡ Some b → leap_at bs env ≡ Some b.leap
 leaps_some bs env b some is = rw (ne_eqb env 0 some, is) refl
 
+-- The binding of an environment, which is looked up by its place, and the leap out of it.
+pub record Near (bs : List Binding) (env : ℕ) (b : Binding) : Type 0 where
+  pub here : slice_get bs (env - 1) ≡ Some b
+  pub reached : env_in (envs_from [] bs) b.leap.to ≡ farther (suc b.leap.passed) (env_in (envs_from [] bs) env)
+  pub before : b.leap.to + b.leap.passed + 1 ≤ env
+  pub is : leap_at bs env ≡ Some b.leap
+
+module _ (bs : List Binding) (env : ℕ) (d : Binding) (are : AreBindings 0 bs) (ls : AreLeaps [] bs) (some : ¬ (env ≡ 0)) (within : env ≤ length bs) where
+  pub near : Near bs env (slice_index_or bs (env - 1) d)
+  near =
+      let b = slice_index_or bs (env - 1) d in
+      let here : slice_get bs (env - 1) ≡ Some b = got_or bs (env - 1) d (omega arith) in
+      let o = out bs env b are ls (omega arith) within here in
+      record { here = here; reached = o.0; before = o.1; is = leaps_some bs env b some here }
+
+-- The binding where that leap leads, and its leap.
+module _ (bs : List Binding) (env : ℕ) (d e : Binding) (are : AreBindings 0 bs) (ls : AreLeaps [] bs) (some : ¬ (env ≡ 0)) (within : env ≤ length bs)
+    (further : ¬ ((slice_index_or bs (env - 1) d).leap.to ≡ 0)) where
+  pub next : Near bs (slice_index_or bs (env - 1) d).leap.to (slice_index_or bs ((slice_index_or bs (env - 1) d).leap.to - 1) e)
+  next =
+      let n = near bs env d are ls some within in
+      near bs (slice_index_or bs (env - 1) d).leap.to e are ls further (omega (arith, n.before))
+
+  pub out_twice : (leap : Leap)
+      → leap ≡ record {
+        to = (slice_index_or bs ((slice_index_or bs (env - 1) d).leap.to - 1) e).leap.to;
+        passed = (slice_index_or bs (env - 1) d).leap.passed + (slice_index_or bs ((slice_index_or bs (env - 1) d).leap.to - 1) e).leap.passed + 2;
+      } → Leaps (envs_from [] bs) env leap
+  out_twice leap is =
+      let b = slice_index_or bs (env - 1) d in
+      let c = slice_index_or bs (b.leap.to - 1) e in
+      let n = near bs env d are ls some within in
+      let both : suc b.leap.passed + suc c.leap.passed ≡ b.leap.passed + c.leap.passed + 2 = omega arith in
+      subst (Leaps (envs_from [] bs) env) (sym is) (record {
+        reached = next.reached ∙ ap (farther (suc c.leap.passed)) n.reached
+            ∙ farther_twice (suc c.leap.passed) (suc b.leap.passed) (env_in (envs_from [] bs) env)
+            ∙ ap (λ (k : ℕ). farther k (env_in (envs_from [] bs) env)) both;
+        before = omega (arith, n.before, next.before);
+      })
+
+  -- what two leaps pass is less than what there is
+  pub passed_twice :
+      (slice_index_or bs (env - 1) d).leap.passed + (slice_index_or bs ((slice_index_or bs (env - 1) d).leap.to - 1) e).leap.passed + 2 ≤ env
+  passed_twice = let n = near bs env d are ls some within in omega (arith, n.before, next.before)
+
+-- ---- what a leap is
+
 pub leap_is : (bs : List Binding) (env : ℕ) (near next : Option Leap) → leap_at bs env ≡ near → leap_behind bs near ≡ next
     → leap_of bs env ≡ joined_leap env near next
 leap_is bs env near next e f = ap (λ (n : Option Leap). joined_leap env n (leap_behind bs n)) e ∙ ap (joined_leap env near) f
+
+pub leap_twice : (bs : List Binding) (env : ℕ) (d e : Binding) → AreBindings 0 bs → AreLeaps [] bs → ¬ (env ≡ 0) → env ≤ length bs
+    → ¬ ((slice_index_or bs (env - 1) d).leap.to ≡ 0)
+    → leap_of bs env ≡ joined_leap env (Some (slice_index_or bs (env - 1) d).leap) (Some (slice_index_or bs ((slice_index_or bs (env - 1) d).leap.to - 1) e).leap)
+leap_twice bs env d e are ls some within further =
+    leap_is bs env _ _ (near bs env d are ls some within).is (next bs env d e are ls some within further).is
 
 pub leap_stays : (env : ℕ) (near next : Leap) → ¬ (near.passed ≡ next.passed)
     → joined_leap env (Some near) (Some next) ≡ record { to = env; passed = 0 }

@@ -1,5 +1,5 @@
 // The run of a program.
-ghost use Rattle.std.specs.Prelude.{◌≡◌, ◌≤◌, length, sum, IfOk, IfErr};
+ghost use Rattle.std.specs.Prelude.{◌≡◌, ◌≤◌, length, sum, IfOk, IfErr, MatchResult};
 ghost use Rattle.std.specs.List.{AllByRecursion};
 ghost use Rattle.revs_tape.specs.declared.limits.TheConstants.{MOST_OUTPUTS};
 ghost use Rattle.revs_tape.specs.Tapes.{IsKnown};
@@ -58,10 +58,10 @@ fn body_outputs<'t>(
 ) -> Result<Vec<Ref>, RunFault>
     requires machine { IsMachine machine.old }
     requires env { env ≤ length machine.old.bindings.items }
-    ensures ok { IfOk result (λ made. Ends machine.old machine.new env (tree_of body.now)
-        made.items) }
-    ensures err { IfErr result (λ fault. Says fault (body_step MOST_DEPTH
-        (env_of machine.old env) (tree_of body.now) (state_of machine.old))) }
+    ensures { MatchResult result
+        (λ made. Ends machine.old machine.new env (tree_of body.now) made.items)
+        (λ fault. Says fault (body_step MOST_DEPTH (env_of machine.old env) (tree_of body.now)
+        (state_of machine.old))) }
 {
     let value = machine.run(env, body, MOST_DEPTH)?;
     outputs(machine, &value, body)
@@ -70,11 +70,11 @@ fn body_outputs<'t>(
 // The outputs of a program: what made the bits of its value.
 fn outputs<'t>(machine: &Machine<'t>, value: &Value<'t>, body: &Term) -> Result<Vec<Ref>, RunFault>
     requires { IsMachine machine.now }
-    ensures ok { IfOk result (λ made. Outputs machine.now (value_of machine.now value.now)
-        (place_of (tree_of body.now)) made.items) }
-    ensures err { IfErr result (λ fault. Says fault
-        (outputs_step (place_of (tree_of body.now)) (value_of machine.now value.now)
-        (state_of machine.now))) }
+    ensures { MatchResult result
+        (λ made. Outputs machine.now (value_of machine.now value.now) (place_of (tree_of body.now))
+        made.items)
+        (λ fault. Says fault (outputs_step (place_of (tree_of body.now))
+        (value_of machine.now value.now) (state_of machine.now))) }
 {
     match value {
         Value::Bit(location) => read(machine, &[*location], body),
@@ -93,10 +93,10 @@ fn outputs<'t>(machine: &Machine<'t>, value: &Value<'t>, body: &Term) -> Result<
 // What made the bits in these locations.
 fn read<'t>(machine: &Machine<'t>, locations: &[u32], body: &Term) -> Result<Vec<Ref>, RunFault>
     requires { IsMachine machine.now }
-    ensures ok { IfOk result (λ made. Reads machine.now locations.now
-        (place_of (tree_of body.now)) made.items) }
-    ensures err { IfErr result (λ fault. Says fault
-        (read_all no_bits (place_of (tree_of body.now)) locations.now (state_of machine.now))) }
+    ensures { MatchResult result
+        (λ made. Reads machine.now locations.now (place_of (tree_of body.now)) made.items)
+        (λ fault. Says fault (read_all no_bits (place_of (tree_of body.now)) locations.now
+        (state_of machine.now))) }
 {
     let mut made = Vec::new(machine.allocator());
     for location in locations {

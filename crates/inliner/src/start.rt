@@ -1,11 +1,11 @@
 // The machine before a program's body is run.
 ghost use Rattle.revs_tape.specs.declared.limits.TheConstants.{MOST_INPUTS};
-ghost use Rattle.std.specs.Prelude.{◌≡◌, ◌+◌, ◌-◌, ◌≤◌, [], length, map, Some, IfOk, IfErr};
+ghost use Rattle.std.specs.Prelude.{◌≡◌, ◌+◌, ◌-◌, ◌≤◌, [], length, map, Some};
 ghost use Rattle.std.specs.List.{range_with_len};
 ghost use Rattle.revs_terms.specs.Programs.{AreParams, width_of, widths_of};
 ghost use Rattle.array_shapes.specs.Values.{seen};
 ghost use Rattle.inliner.specs.inside.Machines.{AreBindings, AreLeaps};
-ghost use Rattle.inliner.specs.inside.Starts.{param_view, AreBound, IsParamBinding, IsStart};
+ghost use Rattle.inliner.specs.inside.Starts.{param_view, AreBound, IsParamBinding, IsStart, Makes};
 
 use crate::RunFault;
 use crate::leaps::leap_from;
@@ -27,8 +27,7 @@ fn width(param: &Param) -> u32
 }
 
 fn widths(alloc: Global, params: &[Param]) -> Result<Vec<u32>, RunFault>
-    ensures ok { IfOk result (λ widths. widths.items ≡ widths_of params.now) }
-    ensures err { IfErr result (λ fault. fault ≡ RunFault.Memory) }
+    ensures { Makes (λ widths. widths.items ≡ widths_of params.now) result }
 {
     Ok(params.iter().map(|param| width(param)).collect(alloc)?)
 }
@@ -36,8 +35,7 @@ fn widths(alloc: Global, params: &[Param]) -> Result<Vec<u32>, RunFault>
 // The numbers from one on, before another.
 fn numbers(alloc: Global, from: u32, to: u32) -> Result<Vec<u32>, RunFault>
     requires { from ≤ to }
-    ensures ok { IfOk result (λ numbers. numbers.items ≡ range_with_len from (to - from)) }
-    ensures err { IfErr result (λ fault. fault ≡ RunFault.Memory) }
+    ensures { Makes (λ numbers. numbers.items ≡ range_with_len from (to - from)) result }
 {
     let mut numbers = Vec::new(alloc);
     for number in from..to {
@@ -48,9 +46,8 @@ fn numbers(alloc: Global, from: u32, to: u32) -> Result<Vec<u32>, RunFault>
 
 // The inputs, each in its location.
 fn inputs(alloc: Global, count: u32) -> Result<Vec<Option<Ref>>, RunFault>
-    ensures ok { IfOk result (λ store. store.items ≡ map (λ input. Some (Ref.Input input))
-        (range_with_len 0 count)) }
-    ensures err { IfErr result (λ fault. fault ≡ RunFault.Memory) }
+    ensures { Makes (λ store. store.items ≡ map (λ input. Some (Ref.Input input))
+        (range_with_len 0 count)) result }
 {
     let numbers = numbers(alloc, 0, count)?;
     Ok(
@@ -64,8 +61,7 @@ fn inputs(alloc: Global, count: u32) -> Result<Vec<Option<Ref>>, RunFault>
 // The value of a parameter whose first input is this one.
 fn param_value<'t>(alloc: Global, first: u32, width: Option<u32>) -> Result<Value<'t>, RunFault>
     requires { first + width_of width ≤ MOST_INPUTS }
-    ensures ok { IfOk result (λ value. seen value ≡ param_view first width) }
-    ensures err { IfErr result (λ fault. fault ≡ RunFault.Memory) }
+    ensures { Makes (λ value. seen value ≡ param_view first width) result }
 {
     match width {
         Some(width) => {
@@ -87,8 +83,7 @@ fn param_binding<'t>(
     requires leaps { AreLeaps [] bindings.now }
     requires few { length bindings.now ≤ MOST_INPUTS }
     requires inputs { first + width_of width ≤ MOST_INPUTS }
-    ensures ok { IfOk result (IsParamBinding bindings.now first width) }
-    ensures err { IfErr result (λ fault. fault ≡ RunFault.Memory) }
+    ensures { Makes (IsParamBinding bindings.now first width) result }
 {
     let parent = bindings.len() as u32;
     let leap = leap_from(bindings, parent);
@@ -102,8 +97,7 @@ fn param_binding<'t>(
 // The parameters, bound one in the other.
 fn bound<'t>(alloc: Global, params: &[Param]) -> Result<Vec<Binding<'t>>, RunFault>
     requires { AreParams params.now }
-    ensures ok { IfOk result (λ bindings. AreBound params.now bindings.items) }
-    ensures err { IfErr result (λ fault. fault ≡ RunFault.Memory) }
+    ensures { Makes (λ bindings. AreBound params.now bindings.items) result }
 {
     let mut bindings = Vec::new(alloc);
     let mut first = 0;
@@ -119,8 +113,7 @@ fn bound<'t>(alloc: Global, params: &[Param]) -> Result<Vec<Binding<'t>>, RunFau
 /// body.
 pub fn start<'t>(alloc: Global, params: &[Param]) -> Result<Machine<'t>, RunFault>
     requires { AreParams params.now }
-    ensures ok { IfOk result (λ machine. IsStart params.now machine) }
-    ensures err { IfErr result (λ fault. fault ≡ RunFault.Memory) }
+    ensures { Makes (λ machine. IsStart params.now machine) result }
 {
     let tape = Tape::new(alloc, widths(alloc, params)?);
     let store = inputs(alloc, tape.inputs())?;

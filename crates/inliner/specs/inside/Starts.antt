@@ -1,5 +1,5 @@
 -- The machine before a program's body is run, and its end.
-use Rattle.std.specs.Prelude.{◌≡◌, ℕ, ◌≤◌, Option, Some, None, List, [], length, map, sum, ⊤}
+use Rattle.std.specs.Prelude.{◌≡◌, ℕ, ◌≤◌, Option, Some, None, List, [], length, map, sum, Result, MatchResult, ⊤}
 use Rattle.std.specs.List.{AllByRecursion}
 use Rattle.revs_tape.specs.declared.limits.TheConstants.{MOST_INPUTS, MOST_OUTPUTS}
 use Rattle.revs_tape.specs.declared.tape.Ref.{Ref}
@@ -14,9 +14,15 @@ use Rattle.revs_terms.specs.Running.{Environment, Value, nothing, Stamped, State
 use Rattle.revs_terms.specs.Runs.{start, inputs_from, nothings, from, params_in, no_bits, locations_of, read_all}
 use Rattle.array_shapes.specs.Values as values
 use Rattle.array_shapes.specs.Values.{ValueView, seen}
+use Rattle.inliner.specs.declared.fault.RunFault.{RunFault}
+use Rattle.inliner.specs.declared.fault.RunFault.TheVariants as faults
 use Rattle.inliner.specs.declared.machine.Binding.{Binding}
 use Rattle.inliner.specs.declared.machine.Machine.{Machine}
 use Rattle.inliner.specs.inside.Machines.{held_by, IsMachine, AreBindings, AreLeaps, Leaps, Grows, envs_from, envs_of, env_of, env_in, state_of}
+
+-- What is made is as it says, or memory is wanting.
+abbrev pub Makes : {A : Type 0} → (A → Type 0) → Result A RunFault → Type 0
+Makes made result = MatchResult result made (λ fault. fault ≡ faults.Memory)
 
 -- the value of a parameter whose first input is this one
 abbrev pub param_view : ℕ → Option ℕ → ValueView

@@ -1,7 +1,7 @@
 use Rattle.std.proofs.Common.{arith, get_or}
 use Rattle.revs_terms.specs.Terms.{place_of}
 use Rattle.revs_terms.specs.Trees.{tree_of}
-use Rattle.revc_base.proofs.ResultLemmas.{no_value, passes_on}
+use Rattle.inliner.proofs.ProgressLemmas.{stops}
 use Rattle.inliner.proofs.EndLemmas.{reads_begun, reads_more, reads_stuck, reads_done, at_default, at_last}
 use Rattle.inliner.proofs.program.read.Goals as goal
 
@@ -9,8 +9,8 @@ pub loop-location-init : goal.loop-location-init
 loop-location-init c = reads_begun c.args.machine.now
     (place_of (tree_of c.args.body.now)) c.new-made.result.items c.args.locations.now c.new-made.ensures.items
 
-pub returns-in_err-stamp-clause-err : goal.returns-in_err-stamp-clause-err
-returns-in_err-stamp-clause-err c = passes_on _ c.from_residual.result c.from_residual.ensures.1
+pub returns-in_err-stamp : goal.returns-in_err-stamp
+returns-in_err-stamp c = stops _ _ c.from_residual.result c.from_residual.ensures.1
     (reads_stuck c.args.machine.now (place_of (tree_of c.args.body.now)) c.loop-location.made.items
     (get_or c.args.locations.now c.loop-location.location-index 0) _ _ c.args.locations.now c.in_err-stamp.field-0.0
     (at_default c.args.locations.now c.loop-location.location-index 0 (omega arith)) c.loop-location.invariant c.in_err-stamp.ensures.err)
@@ -21,15 +21,9 @@ loop-location-preserved c = reads_more c.args.machine.now (place_of (tree_of c.a
     (at_default c.args.locations.now c.loop-location.location-index 0 (omega arith)) c.in_ok-push.ensures.items
     c.in_ok-stamp.ensures.ok c.in_ok-stamp.ensures.known c.loop-location.invariant
 
-pub returns-clause-ok : goal.returns-clause-ok
-returns-clause-ok c = reads_done c.args.machine.now (place_of (tree_of c.args.body.now)) c.loop-location.made.items _ c.args.locations.now
+pub returns : goal.returns
+returns c = reads_done c.args.machine.now (place_of (tree_of c.args.body.now)) c.loop-location.made.items _ c.args.locations.now
     (at_last c.args.locations.now c.loop-location.location-index (omega arith)) c.loop-location.invariant
 
-pub returns-in_err-stamp-clause-ok : goal.returns-in_err-stamp-clause-ok
-returns-in_err-stamp-clause-ok c = no_value c.from_residual.result _ _ c.from_residual.ensures.1
-
-pub returns-in_err-push-clause-ok : goal.returns-in_err-push-clause-ok
-returns-in_err-push-clause-ok c = no_value c.from_residual-in_err-push.result _ _ c.from_residual-in_err-push.ensures.1
-
-pub returns-in_err-push-clause-err : goal.returns-in_err-push-clause-err
-returns-in_err-push-clause-err c = passes_on _ c.from_residual-in_err-push.result c.from_residual-in_err-push.ensures.1 (record { stuck = tt })
+pub returns-in_err-push : goal.returns-in_err-push
+returns-in_err-push c = stops _ _ c.from_residual-in_err-push.result c.from_residual-in_err-push.ensures.1 (record { stuck = tt })

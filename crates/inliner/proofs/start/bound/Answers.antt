@@ -5,7 +5,7 @@ use Rattle.inliner.specs.inside.Starts.{IsParamBinding}
 use Rattle.inliner.proofs.StartLemmas.{bound_begun, bound_more, bound_done, next_within}
 use Rattle.list_facts.proofs.CutLemmas.{drop_read}
 use Rattle.inliner.proofs.EndLemmas.{at_last}
-use Rattle.revc_base.proofs.ResultLemmas.{no_value, passes_on}
+use Rattle.inliner.proofs.ProgressLemmas.{stops}
 use Rattle.inliner.proofs.start.bound.Goals as goal
 
 pub loop-param-init : goal.loop-param-init
@@ -34,21 +34,15 @@ loop-param-preserved c =
     bound_more c.loop-param.bindings.items c.push.new.self.items c.loop-param.first _ c.in_ok-binding.binding c.param-item.result _ _ c.args.params.now
     (drop_read c.args.params.now c.loop-param.param-index c.param-item.result (omega arith) c.param-item.is)
     (subst (λ (bs : List Binding). IsParamBinding bs c.loop-param.first c.param-item.result.width c.in_ok-binding.binding) c.deref.ensures.value
-    c.in_ok-binding.ensures.ok)
+    c.in_ok-binding.ensures)
     (omega (arith, c.width-first.ensures)) c.in_ok-push.ensures.items c.loop-param.invariant
 
-pub returns-clause-ok : goal.returns-clause-ok
-returns-clause-ok c = bound_done c.loop-param.bindings.items c.loop-param.first _ c.args.params.now
+pub returns : goal.returns
+returns c = bound_done c.loop-param.bindings.items c.loop-param.first _ c.args.params.now
     (at_last c.args.params.now c.loop-param.param-index (omega arith)) c.loop-param.invariant
 
-pub returns-in_err-binding-clause-ok : goal.returns-in_err-binding-clause-ok
-returns-in_err-binding-clause-ok c = no_value c.from_residual.result _ _ c.from_residual.ensures.1
+pub returns-in_err-binding : goal.returns-in_err-binding
+returns-in_err-binding c = stops _ _ c.from_residual.result c.from_residual.ensures.1 c.in_err-binding.ensures
 
-pub returns-in_err-push-clause-ok : goal.returns-in_err-push-clause-ok
-returns-in_err-push-clause-ok c = no_value c.from_residual-in_err-push.result _ _ c.from_residual-in_err-push.ensures.1
-
-pub returns-in_err-binding-clause-err : goal.returns-in_err-binding-clause-err
-returns-in_err-binding-clause-err c = passes_on _ c.from_residual.result c.from_residual.ensures.1 c.in_err-binding.ensures.err
-
-pub returns-in_err-push-clause-err : goal.returns-in_err-push-clause-err
-returns-in_err-push-clause-err c = passes_on _ c.from_residual-in_err-push.result c.from_residual-in_err-push.ensures.1 refl
+pub returns-in_err-push : goal.returns-in_err-push
+returns-in_err-push c = stops _ _ c.from_residual-in_err-push.result c.from_residual-in_err-push.ensures.1 refl
