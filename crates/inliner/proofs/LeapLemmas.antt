@@ -91,8 +91,8 @@ pub record Near (bs : List Binding) (env : ℕ) (b : Binding) : Type 0 where
   pub is : leap_at bs env ≡ Some b.leap
 
 module _ (bs : List Binding) (env : ℕ) (d : Binding) (are : AreBindings 0 bs) (ls : AreLeaps [] bs) (some : ¬ (env ≡ 0)) (within : env ≤ length bs) where
-  pub near : Near bs env (slice_index_or bs (env - 1) d)
-  near =
+  pub nearest : Near bs env (slice_index_or bs (env - 1) d)
+  nearest =
       let b = slice_index_or bs (env - 1) d in
       let here : slice_get bs (env - 1) ≡ Some b = got_or bs (env - 1) d (omega arith) in
       let o = out bs env b are ls (omega arith) within here in
@@ -101,10 +101,10 @@ module _ (bs : List Binding) (env : ℕ) (d : Binding) (are : AreBindings 0 bs) 
 -- The binding where that leap leads, and its leap.
 module _ (bs : List Binding) (env : ℕ) (d e : Binding) (are : AreBindings 0 bs) (ls : AreLeaps [] bs) (some : ¬ (env ≡ 0)) (within : env ≤ length bs)
     (further : ¬ ((slice_index_or bs (env - 1) d).leap.to ≡ 0)) where
-  pub next : Near bs (slice_index_or bs (env - 1) d).leap.to (slice_index_or bs ((slice_index_or bs (env - 1) d).leap.to - 1) e)
-  next =
-      let n = near bs env d are ls some within in
-      near bs (slice_index_or bs (env - 1) d).leap.to e are ls further (omega (arith, n.before))
+  pub next_nearest : Near bs (slice_index_or bs (env - 1) d).leap.to (slice_index_or bs ((slice_index_or bs (env - 1) d).leap.to - 1) e)
+  next_nearest =
+      let n = nearest bs env d are ls some within in
+      nearest bs (slice_index_or bs (env - 1) d).leap.to e are ls further (omega (arith, n.before))
 
   pub out_twice : (leap : Leap)
       → leap ≡ record {
@@ -114,19 +114,19 @@ module _ (bs : List Binding) (env : ℕ) (d e : Binding) (are : AreBindings 0 bs
   out_twice leap is =
       let b = slice_index_or bs (env - 1) d in
       let c = slice_index_or bs (b.leap.to - 1) e in
-      let n = near bs env d are ls some within in
+      let n = nearest bs env d are ls some within in
       let both : suc b.leap.passed + suc c.leap.passed ≡ b.leap.passed + c.leap.passed + 2 = omega arith in
       subst (Leaps (envs_from [] bs) env) (sym is) (record {
-        reached = next.reached ∙ ap (farther (suc c.leap.passed)) n.reached
+        reached = next_nearest.reached ∙ ap (farther (suc c.leap.passed)) n.reached
             ∙ farther_twice (suc c.leap.passed) (suc b.leap.passed) (env_in (envs_from [] bs) env)
             ∙ ap (λ (k : ℕ). farther k (env_in (envs_from [] bs) env)) both;
-        before = omega (arith, n.before, next.before);
+        before = omega (arith, n.before, next_nearest.before);
       })
 
   -- what two leaps pass is less than what there is
   pub passed_twice :
       (slice_index_or bs (env - 1) d).leap.passed + (slice_index_or bs ((slice_index_or bs (env - 1) d).leap.to - 1) e).leap.passed + 2 ≤ env
-  passed_twice = let n = near bs env d are ls some within in omega (arith, n.before, next.before)
+  passed_twice = let n = nearest bs env d are ls some within in omega (arith, n.before, next_nearest.before)
 
 -- ---- what a leap is
 
@@ -138,7 +138,7 @@ pub leap_twice : (bs : List Binding) (env : ℕ) (d e : Binding) → AreBindings
     → ¬ ((slice_index_or bs (env - 1) d).leap.to ≡ 0)
     → leap_of bs env ≡ joined_leap env (Some (slice_index_or bs (env - 1) d).leap) (Some (slice_index_or bs ((slice_index_or bs (env - 1) d).leap.to - 1) e).leap)
 leap_twice bs env d e are ls some within further =
-    leap_is bs env _ _ (near bs env d are ls some within).is (next bs env d e are ls some within further).is
+    leap_is bs env _ _ (nearest bs env d are ls some within).is (next_nearest bs env d e are ls some within further).is
 
 pub leap_stays : (env : ℕ) (near next : Leap) → ¬ (near.passed ≡ next.passed)
     → joined_leap env (Some near) (Some next) ≡ record { to = env; passed = 0 }

@@ -10,7 +10,6 @@ use Rattle.revs_terms.specs.Running.{Environment, State, number, bound, went, af
 use Rattle.revs_terms.specs.Runs.{no_bits}
 use Rattle.array_shapes.specs.declared.value.Value.{Value}
 use Rattle.inliner.specs.declared.fault.RunFault.{RunFault}
-use Rattle.inliner.specs.declared.fault.RunFault.TheVariants as faults
 use Rattle.inliner.specs.declared.machine.Machine.{Machine}
 use Rattle.inliner.specs.inside.Machines.{env_in, envs_of, state_of, IsMachine, Does, Goes, Binds, BindsOne, LeavesRoom}
 use Rattle.inliner.specs.inside.Calls.{Going, Says, Follows, item_step}

@@ -15,6 +15,7 @@ ghost use Rattle.inliner.specs.inside.Starts.{Ends, Outputs, Reads, body_step, o
 use crate::RunFault;
 use crate::machine::Machine;
 use crate::start::start;
+use crate::terms::Frame;
 use array_shapes::Value;
 use name_scope::Scoped;
 use revs_tape::limits::MOST_OUTPUTS;
@@ -63,7 +64,11 @@ fn body_outputs<'t>(
         (λ fault. Says fault (body_step MOST_DEPTH (env_of machine.old env) (tree_of body.now)
         (state_of machine.old))) }
 {
-    let value = machine.run(env, body, MOST_DEPTH)?;
+    let frame = Frame {
+        env,
+        left: MOST_DEPTH,
+    };
+    let value = machine.run(frame, body)?;
     outputs(machine, &value, body)
 }
 

@@ -10,7 +10,7 @@ use Rattle.revs_terms.specs.declared.program.Param.{Param}
 use Rattle.revs_terms.specs.Trees.{Tree, ItemTree, bind, run, ands, xors, trees}
 use Rattle.revs_terms.specs.Terms.{place_of}
 use Rattle.revs_terms.specs.Running.{Value, Environment, bound, bound_length, Stamped, State, Outcome, stuck}
-use Rattle.revs_terms.specs.Running.{went, RunStep, done, ◌>>=◌, read, written, worked, bit_of, apply_to}
+use Rattle.revs_terms.specs.Running.{went, RunStep, done, ◌>>=◌, read, written, worked, run_of, term_of, bit_of, apply_to}
 use Rattle.revs_terms.specs.Runs.{no_bits, run_without_bits, tape_of}
 use Rattle.array_shapes.specs.declared.shapes.ShapeFault.{ShapeFault}
 use Rattle.array_shapes.specs.declared.shapes.ShapeFault.TheVariants as shapes
@@ -19,8 +19,11 @@ use Rattle.array_shapes.specs.Values as values
 use Rattle.array_shapes.specs.Values.{seen}
 use Rattle.inliner.specs.declared.fault.RunFault.{RunFault}
 use Rattle.inliner.specs.declared.fault.RunFault.TheVariants as faults
+use Rattle.inliner.specs.declared.machine.Machine.{Machine}
 use Rattle.inliner.specs.declared.operators.Operator.{Operator}
 use Rattle.inliner.specs.declared.operators.Operator.TheVariants as operators
+use Rattle.inliner.specs.declared.terms.Frame.{Frame}
+use Rattle.inliner.specs.inside.Machines.{Goes, env_of, state_of}
 
 -- ---- steps
 
@@ -91,6 +94,12 @@ pub record Says {A : Type 0} (fault : RunFault) (outcome : Going A) : Type 0 whe
 -- An answer follows the run: it goes on so with the answer, or is stuck as the fault says.
 abbrev pub Follows : {A V : Type 0} → (Going A → V → Type 0) → Going A → Result V RunFault → Type 0
 Follows GoesOn outcome answer = MatchResult answer (GoesOn outcome) (λ fault. Says fault outcome)
+
+-- A term of this form is run in a frame, with its parts one deeper.
+abbrev pub RunsAs : (old new : Machine) → Frame → Tree → Result machine.Value RunFault → Type 0
+RunsAs old new frame tree result =
+    Follows (Goes old new) (term_of no_bits (run_of no_bits frame.left) (env_of old frame.env) tree
+    (state_of old)) result
 
 -- the fault of a list call, for the term or part at this place
 abbrev pub shape_fault : ShapeFault → Place → RunFault

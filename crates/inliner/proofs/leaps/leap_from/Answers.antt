@@ -1,14 +1,14 @@
 use Rattle.std.proofs.Common.{refl, sym, ◌∙◌, arith, ◌-◌, Some, None, slice_index_or}
-use Rattle.inliner.proofs.LeapLemmas.{near, leap_is, leap_joins, leap_stays, leaps_none, out_twice, leap_twice, passed_twice}
+use Rattle.inliner.proofs.LeapLemmas.{nearest, leap_is, leap_joins, leap_stays, leaps_none, out_twice, leap_twice, passed_twice}
 use Rattle.inliner.proofs.leaps.leap_from.Goals as goal
 
 pub bounds-bindings-near : goal.bounds-bindings-near
 bounds-bindings-near c =
-    let n = near c.args.bindings.now c.args.env c.index-bindings-env.result c.requires.made c.requires.leaps c.if-env-eq0.false c.requires.env in omega (arith, n.before, c.requires.env)
+    let n = nearest c.args.bindings.now c.args.env c.index-bindings-env.result c.requires.made c.requires.leaps c.if-env-eq0.false c.requires.env in omega (arith, n.before, c.requires.env)
 
 pub bounds-bindings-near-else-near-eq0 : goal.bounds-bindings-near-else-near-eq0
 bounds-bindings-near-else-near-eq0 c =
-    let n = near c.args.bindings.now c.args.env c.index-bindings-env.result c.requires.made c.requires.leaps c.if-env-eq0.false c.requires.env in omega (arith, n.before, c.requires.env)
+    let n = nearest c.args.bindings.now c.args.env c.index-bindings-env.result c.requires.made c.requires.leaps c.if-env-eq0.false c.requires.env in omega (arith, n.before, c.requires.env)
 
 pub overflow_add-result : goal.overflow_add-result
 overflow_add-result c =
@@ -31,7 +31,7 @@ returns-then-env-eq0-clause-is c = sym (leap_is c.args.bindings.now c.args.env N
 pub returns-then-near-eq0-clause-is : goal.returns-then-near-eq0-clause-is
 returns-then-near-eq0-clause-is c =
     let b = slice_index_or c.args.bindings.now (c.args.env - 1) c.index-bindings-env.result in
-    let n = near c.args.bindings.now c.args.env c.index-bindings-env.result c.requires.made c.requires.leaps c.if-env-eq0.false c.requires.env in
+    let n = nearest c.args.bindings.now c.args.env c.index-bindings-env.result c.requires.made c.requires.leaps c.if-env-eq0.false c.requires.env in
     sym (leap_is c.args.bindings.now c.args.env (Some b.leap) None n.is (leaps_none c.args.bindings.now b.leap.to c.if-near-eq0.true))
 
 pub returns-then-near-next-clause-is : goal.returns-then-near-next-clause-is

@@ -12,93 +12,93 @@ use Rattle.inliner.specs.inside.Calls.{chain_tree}
 use Rattle.inliner.proofs.machine.Machine.+run.Given as goal
 
 abbrev pub decreases-run : goal.decreases-run
-decreases-run l = l.left * 9
+decreases-run l = l.frame.left * 9
 
 abbrev pub decreases-term : goal.decreases-term
-decreases-term l = l.left * 9 + 8
+decreases-term l = l.frame.left * 9 + 8
 
 abbrev pub decreases-reg : goal.decreases-reg
-decreases-reg l = l.left * 9 + 6
+decreases-reg l = l.frame.left * 9 + 6
 
 abbrev pub decreases-claimed : goal.decreases-claimed
-decreases-claimed l = l.left * 9 + 6
+decreases-claimed l = l.frame.left * 9 + 6
 
 abbrev pub decreases-assignment : goal.decreases-assignment
-decreases-assignment l = l.left * 9 + 6
+decreases-assignment l = l.frame.left * 9 + 6
 
 abbrev pub decreases-chain : goal.decreases-chain
-decreases-chain l = l.left * 9 + 6
+decreases-chain l = l.frame.left * 9 + 6
 
 abbrev pub decreases-bits : goal.decreases-bits
-decreases-bits l = l.left * 9 + 5
+decreases-bits l = l.frame.left * 9 + 5
 
 abbrev pub decreases-link : goal.decreases-link
-decreases-link l = l.left * 9 + 5
+decreases-link l = l.frame.left * 9 + 5
 
 abbrev pub decreases-bit : goal.decreases-bit
-decreases-bit l = l.left * 9 + 1
+decreases-bit l = l.frame.left * 9 + 1
 
 abbrev pub invariant-bits-loop-term : goal.invariant-bits-loop-term
 invariant-bits-loop-term l =
-    Through l.fn.self l.self (bits_of no_bits (run_of no_bits l.left) (env_in (envs_of l.fn.self) l.env) (map tree_of l.terms) (state_of l.fn.self))
-    (rest_of_bits l.left (env_in (envs_of l.fn.self) l.env) (drop l.term-index (map tree_of l.terms)) l.locations.items (state_of l.self))
+    Through l.fn.self l.self (bits_of no_bits (run_of no_bits l.frame.left) (env_in (envs_of l.fn.self) l.frame.env) (map tree_of l.terms) (state_of l.fn.self))
+    (rest_of_bits l.frame.left (env_in (envs_of l.fn.self) l.frame.env) (drop l.term-index (map tree_of l.terms)) l.locations.items (state_of l.self))
 
 abbrev pub invariant-chain-loop-term : goal.invariant-chain-loop-term
 invariant-chain-loop-term l =
-    Through l.fn.self l.self (term_of no_bits (run_of no_bits l.left) (env_in (envs_of l.fn.self) l.env) (chain_tree l.op (map tree_of l.terms))
+    Through l.fn.self l.self (term_of no_bits (run_of no_bits l.frame.left) (env_in (envs_of l.fn.self) l.frame.env) (chain_tree l.op (map tree_of l.terms))
     (state_of l.fn.self))
-    (rest_of_chain l.left l.op (env_in (envs_of l.fn.self) l.env) (place_of (tree_of l.first)) l.so_far (drop l.term-index (map tree_of l.rest))
+    (rest_of_chain l.frame.left l.op (env_in (envs_of l.fn.self) l.frame.env) (place_of (tree_of l.first)) l.so_far (drop l.term-index (map tree_of l.rest))
     (state_of l.self))
 
 abbrev pub decreases-block : goal.decreases-block
-decreases-block l = l.left * 9 + 7
+decreases-block l = l.frame.left * 9 + 7
 
 abbrev pub decreases-items : goal.decreases-items
-decreases-items l = l.left * 9 + 6
+decreases-items l = l.frame.left * 9 + 6
 
 abbrev pub decreases-repeat : goal.decreases-repeat
-decreases-repeat l = l.left * 9 + 4
+decreases-repeat l = l.frame.left * 9 + 4
 
 abbrev pub decreases-turns : goal.decreases-turns
-decreases-turns l = l.left * 9 + 8
+decreases-turns l = l.frame.left * 9 + 8
 
 abbrev pub decreases-turn : goal.decreases-turn
-decreases-turn l = l.left * 9 + 7
+decreases-turn l = l.frame.left * 9 + 7
 
 abbrev pub decreases-item : goal.decreases-item
-decreases-item l = l.left * 9 + 5
+decreases-item l = l.frame.left * 9 + 5
 
 abbrev pub decreases-at : goal.decreases-at
-decreases-at l = l.left * 9 + 6
+decreases-at l = l.frame.left * 9 + 6
 
 abbrev pub decreases-rotation : goal.decreases-rotation
-decreases-rotation l = l.left * 9 + 6
+decreases-rotation l = l.frame.left * 9 + 6
 
 abbrev pub decreases-append : goal.decreases-append
-decreases-append l = l.left * 9 + 6
+decreases-append l = l.frame.left * 9 + 6
 
 abbrev pub decreases-apply : goal.decreases-apply
-decreases-apply l = l.left * 9 + 6
+decreases-apply l = l.frame.left * 9 + 6
 
 abbrev pub decreases-argument : goal.decreases-argument
-decreases-argument l = l.left * 9 + 5
+decreases-argument l = l.frame.left * 9 + 5
 
 abbrev pub decreases-call : goal.decreases-call
 decreases-call l = l.left * 9 + 4
 
 abbrev pub invariant-items-loop-item : goal.invariant-items-loop-item
 invariant-items-loop-item l =
-    InItems l.fn.self l.self l.left l.inner (drop l.item-index (map item_tree_of l.items))
-    (items_run no_bits (run_of no_bits l.left) (env_in (envs_of l.fn.self) l.env) (map item_tree_of l.items) (state_of l.fn.self))
+    InItems l.fn.self l.self l.frame.left l.inner (drop l.item-index (map item_tree_of l.items))
+    (items_run no_bits (run_of no_bits l.frame.left) (env_in (envs_of l.fn.self) l.frame.env) (map item_tree_of l.items) (state_of l.fn.self))
 
 abbrev pub invariant-turns-loop-turn : goal.invariant-turns-loop-turn
 invariant-turns-loop-turn l =
-    Through l.fn.self l.self (turns_of no_bits (run_of no_bits l.left) (env_in (envs_of l.fn.self) l.env) (map item_tree_of l.items) l.at l.fn.low
+    Through l.fn.self l.self (turns_of no_bits (run_of no_bits l.frame.left) (env_in (envs_of l.fn.self) l.frame.env) (map item_tree_of l.items) l.at l.fn.low
     (turns l.fn.low l.fn.high) (state_of l.fn.self))
-    (rest_of_turns l.left (env_in (envs_of l.fn.self) l.env) (map item_tree_of l.items) l.at l.fn.low (turns l.fn.low l.fn.high) l.turn (state_of l.self))
+    (rest_of_turns l.frame.left (env_in (envs_of l.fn.self) l.frame.env) (map item_tree_of l.items) l.at l.fn.low (turns l.fn.low l.fn.high) l.turn (state_of l.self))
 
 abbrev pub invariant-apply-loop-term : goal.invariant-apply-loop-term
 invariant-apply-loop-term l =
-    InApply l.fn.self l.self l.left (env_in (envs_of l.fn.self) l.env) (drop l.term-index (map tree_of l.terms)) l.value
-    (term_of no_bits (run_of no_bits l.left) (env_in (envs_of l.fn.self) l.env) (apply (tree_of l.fn.head) (trees (map tree_of l.terms)))
+    InApply l.fn.self l.self l.frame.left (env_in (envs_of l.fn.self) l.frame.env) (drop l.term-index (map tree_of l.terms)) l.value
+    (term_of no_bits (run_of no_bits l.frame.left) (env_in (envs_of l.fn.self) l.frame.env) (apply (tree_of l.fn.head) (trees (map tree_of l.terms)))
     (state_of l.fn.self))
