@@ -19,6 +19,9 @@ use Rattle.revs_grammar.proofs.CheckHints.{may_follow}
 use Rattle.revs_grammar.proofs.CheckLemmas.{begin}
 use Rattle.revs_parser.specs.declared.stop.Stop.{Stop}
 use Rattle.revs_parser.specs.declared.stop.Stop.TheVariants as stops
+use Rattle.revs_parser.specs.declared.leaf.Fixed.{Fixed}
+use Rattle.revs_parser.specs.declared.leaf.Fixed.TheVariants as fixed
+use Rattle.revs_parser.specs.inside.Forms.{fixed_tok, fixed_mark}
 use Rattle.revs_parser.specs.inside.Reading.{Passes, Reads, Skips, ReadsForm, Halts, HaltsIn, Heads, NotFirst}
 use Rattle.revs_parser.proofs.PassingLemmas.{passes_reads, line_passes, token_passes}
 use Rattle.revs_parser.proofs.PassingLemmas.{kept_passes, opening_passes, one_token, halts_there}
@@ -78,6 +81,19 @@ pub two_stops : (ts : List Token) → NotFirst (toks.Number 2) ts → Halts (tok
 two_stops [] h = record { halt = λ ms. refl }
 two_stops (t ∷ ts) h = record { halt = λ ms. rw (no_two t.tok h) (both (is_end t.tok) ∙ ap no_syntax (omega arith)) }
 
+pub word_stops : (w : Word) (ts : List Token) → NotFirst (toks.Word w) ts → Halts (token (word w) ∷ []) ts (stops.Syntax (length ts))
+word_stops w [] h = record { halt = λ ms. refl }
+word_stops w (t ∷ ts) h = record { halt = λ ms. rw (no_word t.tok w h) (both (is_end t.tok) ∙ ap no_syntax (omega arith)) }
+
+-- So it is with either of them.
+pub fixed_read : (x : Fixed) {at : Place} {ts rest : List Token} → Heads (fixed_tok x) at ts rest → Reads (token (fixed_mark x) ∷ []) tt ts rest
+fixed_read (fixed.Sign s) h = a_sign h
+fixed_read (fixed.Word w) h = bare_word h
+
+pub fixed_stops : (x : Fixed) (ts : List Token) → NotFirst (fixed_tok x) ts → Halts (token (fixed_mark x) ∷ []) ts (stops.Syntax (length ts))
+fixed_stops (fixed.Sign s) ts h = sign_stops s ts h
+fixed_stops (fixed.Word w) ts h = word_stops w ts h
+
 -- the number 2, of which nothing counts but that it stands there
 at_two : {at : Place} {ts rest : List Token} → Heads (toks.Number 2) at ts rest → Reads (token two ∷ []) tt ts rest
 at_two h = one_token h (token_passes two refl h (token_goes two refl refl h))
@@ -85,10 +101,6 @@ at_two h = one_token h (token_passes two refl h (token_goes two refl refl h))
 pub bare_two : (n : ℕ) {at : Place} {ts rest : List Token} → n ≡ 2 → Heads (toks.Number n) at ts rest → Reads (token two ∷ []) tt ts rest
 bare_two n {at} {ts} {rest} same =
     subst (λ (k : ℕ). Heads (toks.Number k) at ts rest → Reads (token two ∷ []) tt ts rest) (sym same) at_two
-
-pub word_stops : (w : Word) (ts : List Token) → NotFirst (toks.Word w) ts → Halts (token (word w) ∷ []) ts (stops.Syntax (length ts))
-word_stops w [] h = record { halt = λ ms. refl }
-word_stops w (t ∷ ts) h = record { halt = λ ms. rw (no_word t.tok w h) (both (is_end t.tok) ∙ ap no_syntax (omega arith)) }
 
 -- ---- forms by their lines
 

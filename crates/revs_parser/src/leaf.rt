@@ -1,11 +1,11 @@
 // Single tokens.
 
-ghost use Rattle.std.specs.Prelude.{◌≡◌, true, [], ◌∷◌, IfOk, IfErr, IsErrOf, IfSome, IfNone};
+ghost use Rattle.std.specs.Prelude.{◌≡◌, true, false, [], ◌∷◌, IfOk, IfErr, IsErrOf, IfSome, IfNone};
 ghost use Rattle.std.specs.Prelude.{MatchResult};
 ghost use Rattle.revs_parser.specs.inside.Reading.{Heads, NotFirst, Reads, Halts, name_first};
 ghost use Rattle.revs_parser.specs.inside.Reading.{ReadsAnywhere, HaltsAnywhere};
 ghost use Rattle.revs_parser.specs.inside.Reading.{ReadsForm, HaltsIn};
-ghost use Rattle.revs_parser.specs.inside.Forms.{NoOpener};
+ghost use Rattle.revs_parser.specs.inside.Forms.{NoOpener, fixed_tok, fixed_mark};
 ghost use Rattle.revs_terms.specs.Trees.{tree_of};
 ghost use Rattle.revs_grammar.specs.Forms as g;
 ghost use Rattle.revs_grammar.specs.Sentences.{token, kept_token};
@@ -17,29 +17,43 @@ use revc_base::Place;
 use revs_lexer::{Sign, Tok, Token, Word};
 use revs_terms::{Name, Term};
 
+// A token that is spelled in one way.
+#[derive(Clone, Copy)]
+enum Fixed {
+    Sign(Sign),
+    Word(Word),
+}
+
+fn is_fixed(tok: &Tok, fixed: Fixed) -> bool
+    ensures is { result ≡ true → tok.now ≡ fixed_tok fixed }
+    ensures other { result ≡ false → ¬ (tok.now ≡ fixed_tok fixed) }
+{
+    match (tok, fixed) {
+        (Tok::Sign(first), Fixed::Sign(sign)) => *first == sign,
+        (Tok::Word(first), Fixed::Word(word)) => *first == word,
+        _ => false,
+    }
+}
+
+// The place of a token and the tokens behind it, where it stands first.
+fn after_fixed(tokens: &[Token], fixed: Fixed) -> Option<(Place, &[Token])>
+    ensures found { IfSome result (λ found. Heads (fixed_tok fixed) found.0 tokens.now found.1.now) }
+    ensures none { IfNone result (NotFirst (fixed_tok fixed) tokens.now) }
+{
+    let (first, rest) = tokens.split_first()?;
+    if is_fixed(&first.tok, fixed) {
+        Some((first.at, rest))
+    } else {
+        None
+    }
+}
+
 /// The place of a sign and the tokens behind it, where it stands first.
 pub fn after(tokens: &[Token], sign: Sign) -> Option<(Place, &[Token])>
     ensures found { IfSome result (λ found. Heads (toks.Sign sign) found.0 tokens.now found.1.now) }
     ensures none { IfNone result (NotFirst (toks.Sign sign) tokens.now) }
 {
-    match tokens.split_first() {
-        Some(
-            (
-                Token {
-                    tok: Tok::Sign(first),
-                    at,
-                },
-                rest,
-            ),
-        ) => {
-            if *first == sign {
-                Some((*at, rest))
-            } else {
-                None
-            }
-        }
-        _ => None,
-    }
+    after_fixed(tokens, Fixed::Sign(sign))
 }
 
 /// The place of a word and the tokens behind it, where it stands first.
@@ -47,23 +61,18 @@ pub fn after_word(tokens: &[Token], word: Word) -> Option<(Place, &[Token])>
     ensures found { IfSome result (λ found. Heads (toks.Word word) found.0 tokens.now found.1.now) }
     ensures none { IfNone result (NotFirst (toks.Word word) tokens.now) }
 {
-    match tokens.split_first() {
-        Some(
-            (
-                Token {
-                    tok: Tok::Word(first),
-                    at,
-                },
-                rest,
-            ),
-        ) => {
-            if *first == word {
-                Some((*at, rest))
-            } else {
-                None
-            }
-        }
-        _ => None,
+    after_fixed(tokens, Fixed::Word(word))
+}
+
+// The tokens behind a token, which has to stand first.
+fn expect_fixed(tokens: &[Token], fixed: Fixed) -> Result<&[Token], Stop>
+    ensures ok { IfOk result (λ rest. Reads (token (fixed_mark fixed) ∷ []) tt tokens.now rest.now) }
+    ensures halts { IfErr result (λ stop. Halts (token (fixed_mark fixed) ∷ []) tokens.now stop) }
+    ensures exact { ¬ IsErrOf result Stop.Memory }
+{
+    match after_fixed(tokens, fixed) {
+        Some((_, rest)) => Ok(rest),
+        None => Err(Stop::Syntax(tokens.len())),
     }
 }
 
@@ -73,10 +82,16 @@ pub fn expect(tokens: &[Token], sign: Sign) -> Result<&[Token], Stop>
     ensures halts { IfErr result (λ stop. Halts (token (g.sign sign) ∷ []) tokens.now stop) }
     ensures exact { ¬ IsErrOf result Stop.Memory }
 {
-    match after(tokens, sign) {
-        Some((_, rest)) => Ok(rest),
-        None => Err(Stop::Syntax(tokens.len())),
-    }
+    expect_fixed(tokens, Fixed::Sign(sign))
+}
+
+/// The tokens behind a word, which has to stand first.
+pub fn expect_word(tokens: &[Token], word: Word) -> Result<&[Token], Stop>
+    ensures ok { IfOk result (λ rest. Reads (token (g.word word) ∷ []) tt tokens.now rest.now) }
+    ensures halts { IfErr result (λ stop. Halts (token (g.word word) ∷ []) tokens.now stop) }
+    ensures exact { ¬ IsErrOf result Stop.Memory }
+{
+    expect_fixed(tokens, Fixed::Word(word))
 }
 
 /// The name that stands first, and the tokens behind it.
@@ -148,18 +163,6 @@ pub fn number_two(tokens: &[Token]) -> Result<&[Token], Stop>
             }
         }
         _ => Err(Stop::Syntax(tokens.len())),
-    }
-}
-
-/// The tokens behind a word, which has to stand first.
-pub fn expect_word(tokens: &[Token], word: Word) -> Result<&[Token], Stop>
-    ensures ok { IfOk result (λ rest. Reads (token (g.word word) ∷ []) tt tokens.now rest.now) }
-    ensures halts { IfErr result (λ stop. Halts (token (g.word word) ∷ []) tokens.now stop) }
-    ensures exact { ¬ IsErrOf result Stop.Memory }
-{
-    match after_word(tokens, word) {
-        Some((_, rest)) => Ok(rest),
-        None => Err(Stop::Syntax(tokens.len())),
     }
 }
 

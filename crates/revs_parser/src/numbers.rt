@@ -1,15 +1,14 @@
 // Numbers: in profile 1 a number token, in profile 2 a sum of units.
 
-ghost use Rattle.std.specs.Prelude.{◌≡◌, IfOk, IfErr, IfSome, IfNone, MatchResult, [], ◌∷◌};
+ghost use Rattle.std.specs.Prelude.{◌≡◌, IfSome, IfNone, [], ◌∷◌};
 ghost use Rattle.revs_grammar.specs.Forms as g;
 ghost use Rattle.revs_grammar.specs.Productions.{digits_of};
 ghost use Rattle.revs_grammar.specs.Sentences.{form};
 ghost use Rattle.revs_grammar.specs.declared.profile.Profile.TheVariants as profiles;
 ghost use Rattle.revs_lexer.specs.declared.token.Tok.TheVariants as toks;
 ghost use Rattle.revs_terms.specs.Numbers.{plus};
-ghost use Rattle.revs_parser.specs.inside.Reading.{Heads, ReadsForm, HaltsIn, Skips};
+ghost use Rattle.revs_parser.specs.inside.Reading.{Heads, Skips, Gives, GivesForm, Makes};
 ghost use Rattle.revs_parser.specs.inside.Forms.{step_sign, NoStep};
-ghost use Rattle.revs_parser.specs.declared.stop.Stop.{Stop};
 
 use crate::leaf::{after, begins_name, name, number};
 use crate::stop::Stop;
@@ -21,9 +20,7 @@ use std::alloc::Global;
 
 // unit = number | name
 fn unit(tokens: &[Token]) -> Result<(Unit, &[Token]), Stop>
-    ensures { MatchResult result
-        (λ read. ReadsForm (g.common g.unit) 0 read.0 tokens.now read.1.now)
-        (λ stop. HaltsIn (g.common g.unit) 0 tokens.now stop) }
+    ensures { GivesForm (g.common g.unit) 0 (λ unit. unit) tokens.now result }
 {
     if begins_name(tokens) {
         let (used, rest) = name(tokens)?;
@@ -49,9 +46,8 @@ fn first_sign(tokens: &[Token]) -> Option<(bool, Place, &[Token])>
 
 // { + unit | - unit }
 fn more_steps(alloc: Global, tokens: &[Token]) -> Result<(Vec<Step>, &[Token]), Stop>
-    ensures { MatchResult result
-        (λ read. Skips (form (g.common g.units) 0 ∷ []) (read.0.items, tt) tokens.now read.1.now)
-        (λ stop. HaltsIn (g.common g.units) 0 tokens.now stop) }
+    ensures { Gives (λ steps. Skips (form (g.common g.units) 0 ∷ []) (steps.items, tt))
+        (form (g.common g.units) 0 ∷ []) tokens.now result }
 {
     let mut steps = Vec::new(alloc);
     let mut rest = tokens;
@@ -65,8 +61,7 @@ fn more_steps(alloc: Global, tokens: &[Token]) -> Result<(Vec<Step>, &[Token]), 
 
 // The number of a unit and the steps behind it. Digits alone take no memory.
 fn number_of(alloc: Global, first: Unit, more: Vec<Step>) -> Result<Num, Stop>
-    ensures ok { IfOk result (λ number. number ≡ plus first ∷ more.items) }
-    ensures memory { IfErr result (λ stop. stop ≡ Stop.Memory) }
+    ensures { Makes (λ number. number ≡ plus first ∷ more.items) result }
 {
     if more.is_empty() {
         if let Unit::Digits(value, at) = first {
@@ -90,9 +85,7 @@ fn of_digits(value: u32, at: Place) -> Num
 
 // A number token alone.
 fn digits(tokens: &[Token]) -> Result<(Num, &[Token]), Stop>
-    ensures { MatchResult result
-        (λ read. ReadsForm (g.in_profile profiles.One g.num) 0 read.0 tokens.now read.1.now)
-        (λ stop. HaltsIn (g.in_profile profiles.One g.num) 0 tokens.now stop) }
+    ensures { GivesForm (g.in_profile profiles.One g.num) 0 (λ number. number) tokens.now result }
 {
     let (value, at, rest) = number(tokens)?;
     Ok((of_digits(value, at), rest))
@@ -100,9 +93,7 @@ fn digits(tokens: &[Token]) -> Result<(Num, &[Token]), Stop>
 
 // unit { + unit | - unit }
 fn units(alloc: Global, tokens: &[Token]) -> Result<(Num, &[Token]), Stop>
-    ensures { MatchResult result
-        (λ read. ReadsForm (g.in_profile profiles.Two g.num) 0 read.0 tokens.now read.1.now)
-        (λ stop. HaltsIn (g.in_profile profiles.Two g.num) 0 tokens.now stop) }
+    ensures { GivesForm (g.in_profile profiles.Two g.num) 0 (λ number. number) tokens.now result }
 {
     let (first, rest) = unit(tokens)?;
     let (more, rest) = more_steps(alloc, rest)?;
@@ -112,9 +103,7 @@ fn units(alloc: Global, tokens: &[Token]) -> Result<(Num, &[Token]), Stop>
 
 /// The number that stands first, as the profile has numbers, and the tokens behind it.
 pub fn num(alloc: Global, profile: Profile, tokens: &[Token]) -> Result<(Num, &[Token]), Stop>
-    ensures { MatchResult result
-        (λ read. ReadsForm (g.in_profile profile g.num) 0 read.0 tokens.now read.1.now)
-        (λ stop. HaltsIn (g.in_profile profile g.num) 0 tokens.now stop) }
+    ensures { GivesForm (g.in_profile profile g.num) 0 (λ number. number) tokens.now result }
 {
     match profile {
         Profile::One => digits(tokens),

@@ -1,6 +1,6 @@
 // Programs, and why a list of tokens is none.
 
-ghost use Rattle.std.specs.Prelude.{◌≡◌, ◌<◌, ◌^◌, length, ℕ, IfOk};
+ghost use Rattle.std.specs.Prelude.{◌≡◌, ◌<◌, ◌^◌, [], ◌∷◌, length, ℕ, IfOk};
 ghost use Rattle.std.specs.Prelude.{IfErr, IfSome, IfNone, IsErrOf, MatchResult};
 ghost use Rattle.std.specs.Result.{ForOk, ForErr};
 ghost use Rattle.revc_base.specs.declared.place.Place.{Place};
@@ -10,7 +10,8 @@ ghost use Rattle.revs_grammar.specs.Answers.{HasSentence, IsProgramOf, PassesAt,
 ghost use Rattle.revs_grammar.specs.Faults.{IsSyntax, IsNesting, Verdict, IsVerdict};
 ghost use Rattle.revs_terms.specs.Programs.{AreParams, width_of};
 ghost use Rattle.revs_terms.specs.Trees.{tree_of};
-ghost use Rattle.revs_parser.specs.inside.Reading.{ReadsForm, HaltsIn, end_first};
+ghost use Rattle.revs_grammar.specs.Sentences.{form};
+ghost use Rattle.revs_parser.specs.inside.Reading.{ReadsForm, HaltsIn, Gives, GivesForm, end_first};
 ghost use Rattle.revs_parser.specs.inside.Forms.{ReadsParameters, ReadsProfile, ReadsProgram};
 ghost use Rattle.revs_parser.specs.inside.Forms.{IsRefusal};
 ghost use Rattle.revs_parser.specs.Results.{IsRefused, IsRefusedFor, IsAnswer};
@@ -58,9 +59,7 @@ fn width(tokens: &[Token]) -> Result<(Option<u32>, &[Token]), Stop>
 }
 
 fn parameter(tokens: &[Token]) -> Result<(Param, &[Token]), Stop>
-    ensures { MatchResult result
-        (λ read. ReadsForm (g.common g.parameter) 0 read.0 tokens.now read.1.now)
-        (λ stop. HaltsIn (g.common g.parameter) 0 tokens.now stop) }
+    ensures { GivesForm (g.common g.parameter) 0 (λ param. param) tokens.now result }
 {
     let Some((_, behind)) = after(tokens, Sign::OpenRound) else {
         return Err(Stop::Syntax(tokens.len()));
@@ -74,9 +73,8 @@ fn parameter(tokens: &[Token]) -> Result<(Param, &[Token]), Stop>
 
 // { param } behind the parameters so far.
 fn parameters(mut params: Vec<Param>, tokens: &[Token]) -> Result<(Vec<Param>, &[Token]), Stop>
-    ensures { MatchResult result
-        (λ read. ReadsParameters params.items read.0.items tokens.now read.1.now)
-        (λ stop. HaltsIn (g.common g.parameters) 0 tokens.now stop) }
+    ensures { Gives (λ all. ReadsParameters params.items all.items)
+        (form (g.common g.parameters) 0 ∷ []) tokens.now result }
 {
     let mut rest = tokens;
     while let Some((_, _)) = after(rest, Sign::OpenRound) {

@@ -10,7 +10,7 @@ use Rattle.revs_lexer.specs.declared.token.Tok.TheVariants as toks
 use Rattle.revs_lexer.specs.declared.token.Token.{Token}
 use Rattle.revs_grammar.specs.declared.profile.Profile.{Profile}
 use Rattle.revs_grammar.specs.declared.profile.Profile.TheVariants as profiles
-use Rattle.revs_grammar.specs.Forms.{sign, BodyTree, Kind, KindVal, in_profile, common}
+use Rattle.revs_grammar.specs.Forms.{Mark, sign, word, BodyTree, Kind, KindVal, in_profile, common}
 use Rattle.revs_grammar.specs.Forms as g
 use Rattle.revs_grammar.specs.Productions.{apply_of, bound_of, index_of, in_front, program_of, function_line, append_line, apply_line}
 use Rattle.revs_grammar.specs.Productions.{part_line, register_line, let_line, for_line}
@@ -30,11 +30,22 @@ use Rattle.revs_parser.specs.declared.expression.Infix.{Infix}
 use Rattle.revs_parser.specs.declared.expression.Infix.TheVariants as infixes
 use Rattle.revs_parser.specs.declared.expression.Piece.{Piece}
 use Rattle.revs_parser.specs.declared.expression.Piece.TheVariants as pieces
+use Rattle.revs_parser.specs.declared.leaf.Fixed.{Fixed}
+use Rattle.revs_parser.specs.declared.leaf.Fixed.TheVariants as fixed
 use Rattle.revs_parser.specs.declared.front.Operator.{Operator}
 use Rattle.revs_parser.specs.declared.front.Operator.TheVariants as operators
 use Rattle.revs_parser.specs.declared.front.Opener.{Opener}
 use Rattle.revs_parser.specs.declared.front.Opener.TheVariants as openers
 use Rattle.revs_parser.specs.inside.Reading.{Passes, Reads, Skips, ReadsForm, GivesForm, ReadsAnywhere, Heads, NotFirst}
+
+-- a sign or a word as a token, and as a mark of the grammar
+abbrev pub fixed_tok : Fixed → Tok
+fixed_tok (fixed.Sign s) = toks.Sign s
+fixed_tok (fixed.Word w) = toks.Word w
+
+abbrev pub fixed_mark : Fixed → Mark
+fixed_mark (fixed.Sign s) = sign s
+fixed_mark (fixed.Word w) = word w
 
 -- the pieces of a line, where the forms of which a level counts stand at this one
 abbrev pub at_level : ℕ → List g.Piece → Stack

@@ -9,7 +9,7 @@ pub returns-in_err-more : goal.returns-in_err-more
 returns-in_err-more c = halts_on _ _ _ c.from_residual-in_err-more.ensures.1 (in_units c.in_ok-first.ensures c.in_err-more.ensures)
 
 pub returns-in_err-number : goal.returns-in_err-number
-returns-in_err-number c = halts_on _ _ _ c.from_residual-in_err-number.ensures.1 (wants_memory c.in_err-number.ensures.memory)
+returns-in_err-number c = halts_on _ _ _ c.from_residual-in_err-number.ensures.1 (wants_memory c.in_err-number.ensures)
 
 pub returns : goal.returns
-returns c = units_read c.in_ok-first.ensures c.in_ok-more.ensures c.in_ok-number.ensures.ok
+returns c = units_read c.in_ok-first.ensures c.in_ok-more.ensures c.in_ok-number.ensures
