@@ -12,7 +12,7 @@ ghost use Rattle.inliner.specs.inside.Numbers.{number_in};
 
 use crate::RunFault;
 use crate::leaps::leap_from;
-use crate::machine::{Binding, Machine};
+use crate::machine::{Binding, Machine, RunResult};
 use array_shapes::{Value, number};
 use revs_terms::Term;
 
@@ -73,7 +73,7 @@ impl<'t> Machine<'t> {
     }
 
     /// The value of a name, so many bindings back; it is unit where there is no such binding.
-    pub fn named(&self, env: u32, back: u32) -> Result<Value<'t>, RunFault>
+    pub fn named(&self, env: u32, back: u32) -> RunResult<'t>
         requires machine { IsMachine self.now }
         requires env { env ≤ length self.now.bindings.items }
         ensures ok { IfOk result (λ value. value_of self.now value ≡ value_at

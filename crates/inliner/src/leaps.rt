@@ -14,8 +14,8 @@ pub struct Leap {
 
 /// The leap of a binding in this environment. Where the leap of the environment's own binding and
 /// the next one from there pass equally many bindings, it is both of them; else it stays here. So
-/// any of n environments farther out is a multiple of log n leaps and parents away (Myers, An
-/// applicative random-access stack, 1983), which no clause says.
+/// any of n environments farther out is a multiple of log n leaps and parents away, which no clause
+/// says.
 pub fn leap_from(bindings: &[Binding], env: u32) -> Leap
     requires made { AreBindings 0 bindings.now }
     requires leaps { AreLeaps [] bindings.now }

@@ -18,6 +18,9 @@ use revs_terms::limits::MOST_WORK;
 use revs_terms::{Cause, Term};
 use std::alloc::Global;
 
+/// How a run ends: with a value, or at a fault.
+pub type RunResult<'t> = Result<Value<'t>, RunFault>;
+
 /// A value with a name, the number of the environment that it was bound in, and a leap out of that
 /// environment.
 #[derive(Drop)]

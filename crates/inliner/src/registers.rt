@@ -14,7 +14,7 @@ ghost use Rattle.inliner.specs.inside.Calls.{Follows, shape_fault};
 ghost use Rattle.inliner.specs.inside.Numbers.{Takes, slice_step, turn_step};
 
 use crate::RunFault;
-use crate::machine::Machine;
+use crate::machine::{Machine, RunResult};
 use crate::numbers::as_index;
 use array_shapes::{ShapeFault, Value, append, index, register, rotate, slice};
 use revc_base::Place;
@@ -25,7 +25,7 @@ use std::rc::Rc;
 
 impl<'t> Machine<'t> {
     /// A register of these locations, whose length counts as work.
-    pub fn register(&mut self, locations: Vec<u32>, at: Place) -> Result<Value<'t>, RunFault>
+    pub fn register(&mut self, locations: Vec<u32>, at: Place) -> RunResult<'t>
         requires { IsMachine self.old }
         ensures { Follows (Goes self.old self.new)
             (registered no_bits locations.items at (state_of self.old)) result }
@@ -35,7 +35,7 @@ impl<'t> Machine<'t> {
     }
 
     /// A register of these locations, of which there are at most 4,096.
-    pub fn short_register(&mut self, locations: Vec<u32>, at: Place) -> Result<Value<'t>, RunFault>
+    pub fn short_register(&mut self, locations: Vec<u32>, at: Place) -> RunResult<'t>
         requires { IsMachine self.old }
         ensures run { Follows (Goes self.old self.new)
             (short_register no_bits locations.items at (state_of self.old)) result }
@@ -49,13 +49,7 @@ impl<'t> Machine<'t> {
 
     /// A register, the value of an operand, with its places turned: those from the `k`-th on come
     /// first.
-    pub fn rotated(
-        &mut self,
-        k: i32,
-        operand: &Term,
-        value: &Value<'t>,
-        at: Place,
-    ) -> Result<Value<'t>, RunFault>
+    pub fn rotated(&mut self, k: i32, operand: &Term, value: &Value<'t>, at: Place) -> RunResult<'t>
         requires { IsMachine self.old }
         ensures run { Follows (Goes self.old self.new)
             (rotated no_bits k (place_of (tree_of operand.now)) at (value_of self.old value.now)
@@ -69,7 +63,7 @@ impl<'t> Machine<'t> {
     }
 
     // A register of the places from the `k`-th on of another, and then those before it.
-    fn turned(&mut self, places: &[u32], k: i32, at: Place) -> Result<Value<'t>, RunFault>
+    fn turned(&mut self, places: &[u32], k: i32, at: Place) -> RunResult<'t>
         requires { IsMachine self.old }
         ensures { Follows (Goes self.old self.new)
             (turn_step places.now k at (state_of self.old)) result }
@@ -88,7 +82,7 @@ impl<'t> Machine<'t> {
         x: &Value<'t>,
         y: &Value<'t>,
         at: Place,
-    ) -> Result<Value<'t>, RunFault>
+    ) -> RunResult<'t>
         requires { IsMachine self.old }
         ensures run { Follows (Goes self.old self.new)
             (appended no_bits (place_of (tree_of first.now)) (place_of (tree_of second.now)) at
@@ -115,7 +109,7 @@ impl<'t> Machine<'t> {
         whole: Place,
         parts: &[Part],
         value: Value<'t>,
-    ) -> Result<Value<'t>, RunFault>
+    ) -> RunResult<'t>
         requires machine { IsMachine self.old }
         requires env { env ≤ length self.old.bindings.items }
         requires made { IsValue (length self.old.bindings.items) value }
@@ -131,13 +125,7 @@ impl<'t> Machine<'t> {
     }
 
     // One part of a register.
-    fn part(
-        &mut self,
-        env: u32,
-        whole: Place,
-        part: &Part,
-        value: &Value<'t>,
-    ) -> Result<Value<'t>, RunFault>
+    fn part(&mut self, env: u32, whole: Place, part: &Part, value: &Value<'t>) -> RunResult<'t>
         requires machine { IsMachine self.old }
         requires env { env ≤ length self.old.bindings.items }
         ensures { Follows (Goes self.old self.new)
@@ -151,13 +139,7 @@ impl<'t> Machine<'t> {
     }
 
     // The location in one place of a register.
-    fn indexed(
-        &mut self,
-        env: u32,
-        i: &Num,
-        at: Place,
-        value: &Value<'t>,
-    ) -> Result<Value<'t>, RunFault>
+    fn indexed(&mut self, env: u32, i: &Num, at: Place, value: &Value<'t>) -> RunResult<'t>
         requires machine { IsMachine self.old }
         requires env { env ≤ length self.old.bindings.items }
         ensures run { Follows (Goes self.old self.new)
@@ -184,7 +166,7 @@ impl<'t> Machine<'t> {
         j: &Num,
         at: Place,
         value: &Value<'t>,
-    ) -> Result<Value<'t>, RunFault>
+    ) -> RunResult<'t>
         requires machine { IsMachine self.old }
         requires env { env ≤ length self.old.bindings.items }
         ensures run { Follows (Goes self.old self.new)
@@ -208,7 +190,7 @@ impl<'t> Machine<'t> {
         last: i32,
         at: Place,
         whole: Place,
-    ) -> Result<Value<'t>, RunFault>
+    ) -> RunResult<'t>
         requires { IsMachine self.old }
         ensures { Follows (Goes self.old self.new)
             (slice_step places.now first last at whole (state_of self.old)) result }

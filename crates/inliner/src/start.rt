@@ -9,7 +9,7 @@ ghost use Rattle.inliner.specs.inside.Starts.{param_view, AreBound, IsParamBindi
 
 use crate::RunFault;
 use crate::leaps::leap_from;
-use crate::machine::{Binding, Machine};
+use crate::machine::{Binding, Machine, RunResult};
 use array_shapes::Value;
 use revs_tape::{Ref, Tape};
 use revs_terms::Param;
@@ -59,7 +59,7 @@ fn inputs(alloc: Global, count: u32) -> Result<Vec<Option<Ref>>, RunFault>
 }
 
 // The value of a parameter whose first input is this one.
-fn param_value<'t>(alloc: Global, first: u32, width: Option<u32>) -> Result<Value<'t>, RunFault>
+fn param_value<'t>(alloc: Global, first: u32, width: Option<u32>) -> RunResult<'t>
     requires { first + width_of width ≤ MOST_INPUTS }
     ensures { Makes (λ value. seen value ≡ param_view first width) result }
 {

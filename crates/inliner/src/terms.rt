@@ -14,16 +14,13 @@ ghost use Rattle.inliner.specs.inside.Numbers.{loop_run};
 ghost use Rattle.revs_terms.specs.Trees as shape;
 
 use crate::RunFault;
-use crate::machine::Machine;
+use crate::machine::{Machine, RunResult};
 use crate::numbers::{number_at, turn_count};
 use crate::operators::Operator;
 use array_shapes::{Value, bit};
 use revc_base::Place;
 use revs_tape::Kind;
 use revs_terms::{Cause, Ends, Item, Num, Part, Term};
-
-/// How the run of a term ends: with its value, or at a fault.
-pub type RunResult<'t> = Result<Value<'t>, RunFault>;
 
 /// Where a term is run: in an environment, with so many levels of depth left.
 #[derive(Clone, Copy)]

@@ -9,7 +9,7 @@ ghost use Rattle.inliner.specs.inside.Machines.{IsMachine, Goes, state_of};
 ghost use Rattle.inliner.specs.inside.Calls.{Follows};
 
 use crate::RunFault;
-use crate::machine::Machine;
+use crate::machine::{Machine, RunResult};
 use array_shapes::Value;
 use revc_base::Place;
 use revs_tape::limits::MOST_CLAIMS;
@@ -18,7 +18,7 @@ use revs_terms::{Cause, Term};
 
 impl<'t> Machine<'t> {
     /// Writes a constant.
-    pub fn constant(&mut self, bit: bool, at: Place) -> Result<Value<'t>, RunFault>
+    pub fn constant(&mut self, bit: bool, at: Place) -> RunResult<'t>
         requires { IsMachine self.old }
         ensures { Follows (Goes self.old self.new)
             (constant_bit no_bits bit at (state_of self.old)) result }
@@ -27,13 +27,7 @@ impl<'t> Machine<'t> {
     }
 
     /// A claim on the bit in a location. `clean` takes the bit out.
-    pub fn claim(
-        &mut self,
-        kind: Kind,
-        location: u32,
-        operand: &Term,
-        at: Place,
-    ) -> Result<Value<'t>, RunFault>
+    pub fn claim(&mut self, kind: Kind, location: u32, operand: &Term, at: Place) -> RunResult<'t>
         requires { IsMachine self.old }
         ensures run { Follows (Goes self.old self.new)
             (claim_on no_bits kind location (place_of (tree_of operand.now)) at (state_of self.old))
@@ -53,13 +47,7 @@ impl<'t> Machine<'t> {
     }
 
     /// Puts the bit of one location into another.
-    pub fn assign(
-        &mut self,
-        to: u32,
-        from: u32,
-        left: &Term,
-        right: &Term,
-    ) -> Result<Value<'t>, RunFault>
+    pub fn assign(&mut self, to: u32, from: u32, left: &Term, right: &Term) -> RunResult<'t>
         requires { IsMachine self.old }
         ensures run { Follows (Goes self.old self.new)
             (assigned no_bits to from (place_of (tree_of left.now)) (place_of (tree_of right.now))
