@@ -37,7 +37,8 @@ use Rattle.revs_parser.specs.inside.Reading.{ReadsAnywhere, HaltsAnywhere, Halts
 use Rattle.revs_parser.specs.inside.Forms.{ReadsNames, names_rest, in_part, ReadsPart, in_function, ReadsFunction, in_application, ReadsAtoms}
 use Rattle.revs_parser.specs.inside.Forms.{in_register, ReadsRegister, ReadsBlock, ReadsItem, in_binding, ReadsBinding}
 use Rattle.revs_parser.specs.inside.Forms.{ReadsFunctionNames, in_bound_names, closed_by, operated, ReadsOperator, NoOperator, in_append, ReadsAppend}
-use Rattle.revs_parser.specs.inside.Forms.{opening, NoOpener, infix_sign, infix_term, in_chain, in_operand, ReadsChain, ReadsOperand}
+use Rattle.revs_parser.specs.inside.Forms.{opening, NoOpener, infix_sign, infix_term, in_chain, in_operand, ReadsChain, ReadsOperand, in_block}
+use Rattle.revs_parser.specs.inside.Forms.{in_opened, ReadsOpened}
 use Rattle.revs_parser.proofs.PassingLemmas.{stays, passes_then, turned, beside, passes_reads, and_then, and_maybe, line_passes}
 use Rattle.revs_parser.proofs.PassingLemmas.{kept_passes, one_token, smaller_behind, halts_first, halts_there, halts_behind, halts_past}
 use Rattle.revs_parser.proofs.StepLemmas as m
@@ -674,70 +675,54 @@ module _ {ts : List Token} (o : NoOpener ts) (no_true : NotFirst (toks.Word word
   base_no_use h = record { at_level = λ p l. halts_there (form (in_profile p g.base) l ∷ []) (kept_token any_name ∷ []) (m.as_use p l ts is_use) h }
 
 module _ {p : Profile} where
-  -- a base that opens a level, with the level inside
-  module _ (l : ℕ) {at : Place} {ts mid : List Token} (h : Heads (toks.Word words.Reg) at ts mid) where
-    pub base_register : {inner : ℕ} → inner ≡ l + 1 → {t : Tree} {rest : List Token} → few_levels (l + 1) ≡ true → ReadsRegister p inner at t mid rest
-        → ReadsForm (in_profile p g.base) l t ts rest
-    base_register e ok r =
-        let r' = rw e at r in
-        rw r'.is (by_token (in_profile p g.base) l _ (inr (inr (inr (inl refl)))) h refl refl refl
-        (and_then (opened (word words.Reg) (l + 1) ok h refl refl refl) r'.reads))
-
-    pub register_no_level : few_levels (l + 1) ≡ false → (stop : Stop) → stop ≡ stops.Nesting (length ts) → HaltsIn (in_profile p g.base) l ts stop
-    register_no_level deep stop e =
+  -- A base that opens a level, with the level inside.
+  module _ (l : ℕ) {at : Place} {ts mid : List Token} where
+    -- A level too many is refused at any token that opens one.
+    pub base_no_level : (o : Opener) → Heads (opening o) at ts mid → few_levels (l + 1) ≡ false
+        → (stop : Stop) → stop ≡ stops.Nesting (length ts) → HaltsIn (in_profile p g.base) l ts stop
+    base_no_level openers.Register h deep stop e =
         halts_by_token (in_profile p g.base) l _ (inr (inr (inr (inl refl)))) h refl refl refl
         (opens_too_many (word words.Reg) (l + 1) (in_register p (l + 1)) deep h refl refl stop e)
-
-    pub in_register_halts : {inner : ℕ} → inner ≡ l + 1 → {stop : Stop} → few_levels (l + 1) ≡ true → Halts (in_register p inner) mid stop
-        → HaltsIn (in_profile p g.base) l ts stop
-    in_register_halts e ok k =
-        halts_by_token (in_profile p g.base) l _ (inr (inr (inr (inl refl)))) h refl refl refl
-        (halts_behind (in_register p (l + 1)) (opened (word words.Reg) (l + 1) ok h refl refl refl) (rw e at k))
-
-  module _ (l : ℕ) {at : Place} {ts mid : List Token} (h : Heads (toks.Sign signs.OpenRound) at ts mid) where
-    pub base_bracket : {inner : ℕ} → inner ≡ l + 1 → {t : Tree} {rest : List Token} → few_levels (l + 1) ≡ true
-        → Reads (closed_by p signs.CloseRound inner) (t, tt) mid rest → ReadsForm (in_profile p g.base) l t ts rest
-    base_bracket e ok r =
-        let r' = rw e at r in
-        by_token (in_profile p g.base) l _ (inr (inr (inr (inr (inl refl))))) h refl refl refl
-        (and_then (opened (sign signs.OpenRound) (l + 1) ok h refl refl refl) r')
-
-    pub bracket_no_level : few_levels (l + 1) ≡ false → (stop : Stop) → stop ≡ stops.Nesting (length ts) → HaltsIn (in_profile p g.base) l ts stop
-    bracket_no_level deep stop e =
+    base_no_level openers.Bracket h deep stop e =
         halts_by_token (in_profile p g.base) l _ (inr (inr (inr (inr (inl refl))))) h refl refl refl
         (opens_too_many (sign signs.OpenRound) (l + 1) (closed_by p signs.CloseRound (l + 1)) deep h refl refl stop e)
+    base_no_level openers.Block h deep stop e =
+        halts_by_token (in_profile p g.base) l _ (inr (inr (inr (inr (inr (inl refl)))))) h refl refl refl
+        (opens_too_many (sign signs.OpenCurly) (l + 1) (in_block p (l + 1)) deep h refl refl stop e)
 
-    pub in_bracket_halts : {inner : ℕ} → inner ≡ l + 1 → {stop : Stop} → few_levels (l + 1) ≡ true → Halts (closed_by p signs.CloseRound inner) mid stop
+    at_next : (o : Opener) {t : Tree} {rest : List Token} → Heads (opening o) at ts mid → few_levels (l + 1) ≡ true
+        → ReadsOpened o p (l + 1) at t mid rest → ReadsForm (in_profile p g.base) l t ts rest
+    at_next openers.Register h ok r =
+        let q = r.reads in
+        rw q.is (by_token (in_profile p g.base) l _ (inr (inr (inr (inl refl)))) h refl refl refl
+        (and_then (opened (word words.Reg) (l + 1) ok h refl refl refl) q.reads))
+    at_next openers.Bracket h ok r =
+        by_token (in_profile p g.base) l _ (inr (inr (inr (inr (inl refl))))) h refl refl refl
+        (and_then (opened (sign signs.OpenRound) (l + 1) ok h refl refl refl) r.reads)
+    at_next openers.Block h ok r =
+        let q = r.reads in
+        rw q.is (by_token (in_profile p g.base) l _ (inr (inr (inr (inr (inr (inl refl)))))) h refl refl refl
+        (and_then (opened (sign signs.OpenCurly) (l + 1) ok h refl refl refl) q.reads))
+
+    halts_next : (o : Opener) {stop : Stop} → Heads (opening o) at ts mid → few_levels (l + 1) ≡ true → Halts (in_opened o p (l + 1)) mid stop
         → HaltsIn (in_profile p g.base) l ts stop
-    in_bracket_halts e ok k =
+    halts_next openers.Register h ok k =
+        halts_by_token (in_profile p g.base) l _ (inr (inr (inr (inl refl)))) h refl refl refl
+        (halts_behind (in_register p (l + 1)) (opened (word words.Reg) (l + 1) ok h refl refl refl) k)
+    halts_next openers.Bracket h ok k =
         halts_by_token (in_profile p g.base) l _ (inr (inr (inr (inr (inl refl))))) h refl refl refl
-        (halts_behind (closed_by p signs.CloseRound (l + 1)) (opened (sign signs.OpenRound) (l + 1) ok h refl refl refl) (rw e at k))
-
-  module _ (l : ℕ) {at : Place} {ts mid : List Token} (h : Heads (toks.Sign signs.OpenCurly) at ts mid) where
-    pub base_block : {inner : ℕ} → inner ≡ l + 1 → {t : Tree} {rest : List Token} → few_levels (l + 1) ≡ true → ReadsBlock p inner at t mid rest
-        → ReadsForm (in_profile p g.base) l t ts rest
-    base_block e ok r =
-        let r' = rw e at r in
-        rw r'.is (by_token (in_profile p g.base) l _ (inr (inr (inr (inr (inr (inl refl)))))) h refl refl refl
-        (and_then (opened (sign signs.OpenCurly) (l + 1) ok h refl refl refl) r'.reads))
-
-    pub block_no_level : few_levels (l + 1) ≡ false → (stop : Stop) → stop ≡ stops.Nesting (length ts) → HaltsIn (in_profile p g.base) l ts stop
-    block_no_level deep stop e =
+        (halts_behind (closed_by p signs.CloseRound (l + 1)) (opened (sign signs.OpenRound) (l + 1) ok h refl refl refl) k)
+    halts_next openers.Block h ok k =
         halts_by_token (in_profile p g.base) l _ (inr (inr (inr (inr (inr (inl refl)))))) h refl refl refl
-        (opens_too_many (sign signs.OpenCurly) (l + 1) (form (in_profile p g.body) (l + 1) ∷ []) deep h refl refl stop e)
+        (halts_behind (in_block p (l + 1)) (opened (sign signs.OpenCurly) (l + 1) ok h refl refl refl) k)
 
-    pub in_block_halts : {inner : ℕ} → inner ≡ l + 1 → {stop : Stop} → few_levels (l + 1) ≡ true → HaltsIn (in_profile p g.body) inner mid stop
-        → HaltsIn (in_profile p g.base) l ts stop
-    in_block_halts e ok k =
-        halts_by_token (in_profile p g.base) l _ (inr (inr (inr (inr (inr (inl refl)))))) h refl refl refl
-        (halts_behind (form (in_profile p g.body) (l + 1) ∷ []) (opened (sign signs.OpenCurly) (l + 1) ok h refl refl refl) (rw e at k))
+    pub base_opened : (o : Opener) → Heads (opening o) at ts mid → {inner : ℕ} → inner ≡ l + 1 → few_levels (l + 1) ≡ true → {t : Tree} {rest : List Token}
+        → ReadsOpened o p inner at t mid rest → ReadsForm (in_profile p g.base) l t ts rest
+    base_opened o h e ok r = at_next o h ok (rw e at r)
 
-  -- A level too many is refused at any token that opens one.
-  pub base_no_level : (l : ℕ) (o : Opener) {at : Place} {ts mid : List Token} → Heads (opening o) at ts mid → few_levels (l + 1) ≡ false
-      → (stop : Stop) → stop ≡ stops.Nesting (length ts) → HaltsIn (in_profile p g.base) l ts stop
-  base_no_level l openers.Register h = register_no_level l h
-  base_no_level l openers.Bracket h = bracket_no_level l h
-  base_no_level l openers.Block h = block_no_level l h
+    pub opened_halts : (o : Opener) → Heads (opening o) at ts mid → {inner : ℕ} → inner ≡ l + 1 → few_levels (l + 1) ≡ true → {stop : Stop}
+        → Halts (in_opened o p inner) mid stop → HaltsIn (in_profile p g.base) l ts stop
+    opened_halts o h e ok k = halts_next o h ok (rw e at k)
 
   pub closed_reads : (l : ℕ) {end : Sign} {t : Tree} {ts mid rest : List Token} → ReadsForm (in_profile p g.expression) l t ts mid
       → Reads (token (sign end) ∷ []) tt mid rest

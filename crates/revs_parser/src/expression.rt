@@ -17,7 +17,7 @@ ghost use Rattle.revs_parser.specs.inside.Forms.{in_bound_names, ReadsAppend, in
 ghost use Rattle.revs_parser.specs.inside.Forms.{EndsPiece, HeadsFor, NoFor, ReadsFor, in_for};
 ghost use Rattle.revs_parser.specs.inside.Forms.{in_range, ReadsLoop, in_loop, GivesAt, in_parts};
 ghost use Rattle.revs_parser.specs.inside.Forms.{infix_sign, infix_term, ReadsChain, in_chain};
-ghost use Rattle.revs_parser.specs.inside.Forms.{ReadsOperand, in_operand};
+ghost use Rattle.revs_parser.specs.inside.Forms.{ReadsOperand, in_operand, ReadsOpened, in_opened};
 ghost use Rattle.revs_parser.specs.declared.stop.Stop.{Stop};
 ghost use Rattle.revs_terms.specs.Trees.{tree_of, item_tree_of};
 
@@ -361,11 +361,20 @@ impl Reader {
             return single_base(tokens);
         };
         let level = self.open(tokens)?;
-        let inner = Reader { level, ..self };
+        Reader { level, ..self }.opened(behind, opener, at)
+    }
+
+    // What stands behind the token that opens a level, which has this place, at the level inside.
+    #[cycle(read)]
+    fn opened(self, tokens: &[Token], opener: Opener, at: Place) -> Result<(Term, &[Token]), Stop>
+        requires { self.level ≤ MOST_LEVELS }
+        ensures { Gives (λ term. ReadsOpened opener self.profile self.level at (tree_of term))
+            (in_opened opener self.profile self.level) tokens.now result }
+    {
         match opener {
-            Opener::Register => inner.register(behind, at),
-            Opener::Bracket => inner.closed(behind, Sign::CloseRound),
-            Opener::Block => inner.block(behind, at),
+            Opener::Register => self.register(tokens, at),
+            Opener::Bracket => self.closed(tokens, Sign::CloseRound),
+            Opener::Block => self.block(tokens, at),
         }
     }
 

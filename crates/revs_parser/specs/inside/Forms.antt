@@ -230,6 +230,21 @@ pub record ReadsBlock (p : Profile) (level : ℕ) (at : Place) (term : Tree) (ts
   pub is : term ≡ block (item_trees inside.items) inside.last at
   pub reads : ReadsForm (in_profile p g.body) level inside ts rest
 
+-- what is expected behind the token that opens a level in a base, at the level inside
+abbrev pub in_opened : Opener → Profile → ℕ → Stack
+in_opened openers.Register p level = in_register p level
+in_opened openers.Bracket p level = closed_by p signs.CloseRound level
+in_opened openers.Block p level = in_block p level
+
+abbrev pub IsOpened : Opener → Profile → ℕ → Place → Tree → List Token → List Token → Type 0
+IsOpened openers.Register p level at term ts rest = ReadsRegister p level at term ts rest
+IsOpened openers.Bracket p level at term ts rest = Reads (closed_by p signs.CloseRound level) (term, tt) ts rest
+IsOpened openers.Block p level at term ts rest = ReadsBlock p level at term ts rest
+
+-- What stands there was read; the token has this place.
+pub record ReadsOpened (opener : Opener) (p : Profile) (level : ℕ) (at : Place) (term : Tree) (ts rest : List Token) : Type 0 where
+  pub reads : IsOpened opener p level at term ts rest
+
 -- An item of a block was read: it stands in front of the items behind it.
 pub record ReadsItem (p : Profile) (level : ℕ) (item : ItemTree) (ts rest : List Token) : Type 0 where
   pub passes : Passes (form (in_profile p g.body) level ∷ []) (form (in_profile p g.body) level ∷ [])

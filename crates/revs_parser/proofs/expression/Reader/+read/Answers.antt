@@ -239,26 +239,20 @@ base-returns-in_err-level t c =
     halts_on _ _ _ c.from_residual.ensures.1
     (r.base_no_level c.args.self.level c.in-Some.opener c.in-Some.ensures.found c.in_err-level.ensures.deep _ c.in_err-level.ensures.stops)
 
-pub base-returns-in-Register : goal.base-returns-in-Register
-base-returns-in-Register t c =
-    let opened = rw c.in-Register.is at c.in-Some.ensures.found in
-    MatchResult-weaker c.register.result c.register.ensures
-    (λ x. r.base_register c.args.self.level opened c.in_ok-level.ensures.inner c.in_ok-level.ensures.within)
-    (λ x. r.in_register_halts c.args.self.level opened c.in_ok-level.ensures.inner c.in_ok-level.ensures.within)
+pub base-returns : goal.base-returns
+base-returns t c = MatchResult-weaker c.opened.result c.opened.ensures
+    (λ x. r.base_opened c.args.self.level c.in-Some.opener c.in-Some.ensures.found c.in_ok-level.ensures.inner c.in_ok-level.ensures.within)
+    (λ x. r.opened_halts c.args.self.level c.in-Some.opener c.in-Some.ensures.found c.in_ok-level.ensures.inner c.in_ok-level.ensures.within)
 
-pub base-returns-in-Bracket : goal.base-returns-in-Bracket
-base-returns-in-Bracket t c =
-    let opened = rw c.in-Bracket.is at c.in-Some.ensures.found in
-    MatchResult-weaker c.closed.result c.closed.ensures
-    (λ x. r.base_bracket c.args.self.level opened c.in_ok-level.ensures.inner c.in_ok-level.ensures.within)
-    (λ x. r.in_bracket_halts c.args.self.level opened c.in_ok-level.ensures.inner c.in_ok-level.ensures.within)
+pub opened-returns-in-Register : goal.opened-returns-in-Register
+opened-returns-in-Register t c =
+    rw c.in-Register.is (MatchResult-weaker c.register.result c.register.ensures (λ x r. record { reads = r }) (λ x h. h))
 
-pub base-returns-in-Block : goal.base-returns-in-Block
-base-returns-in-Block t c =
-    let opened = rw c.in-Block.is at c.in-Some.ensures.found in
-    MatchResult-weaker c.block.result c.block.ensures
-    (λ x. r.base_block c.args.self.level opened c.in_ok-level.ensures.inner c.in_ok-level.ensures.within)
-    (λ x. r.in_block_halts c.args.self.level opened c.in_ok-level.ensures.inner c.in_ok-level.ensures.within)
+pub opened-returns-in-Bracket : goal.opened-returns-in-Bracket
+opened-returns-in-Bracket t c = rw c.in-Bracket.is (MatchResult-weaker c.closed.result c.closed.ensures (λ x r. record { reads = r }) (λ x h. h))
+
+pub opened-returns-in-Block : goal.opened-returns-in-Block
+opened-returns-in-Block t c = rw c.in-Block.is (MatchResult-weaker c.block.result c.block.ensures (λ x r. record { reads = r }) (λ x h. h))
 
 pub closed-returns-in_err-term : goal.closed-returns-in_err-term
 closed-returns-in_err-term t c =
@@ -538,19 +532,22 @@ operand-chained-requires t c = (lower _ 6 0 _ (rw c.in-Xor.is at c.decreases), c
 pub operand-application-requires : goal.operand-application-requires
 operand-application-requires t c = (lower _ 4 0 _ (rw c.in-And.is at c.decreases), c.requires)
 
+pub opened-register-requires : goal.opened-register-requires
+opened-register-requires t c = (lower _ 12 2 _ c.decreases, c.requires)
+
+pub opened-closed-requires : goal.opened-closed-requires
+opened-closed-requires t c = (lower _ 10 4 _ c.decreases, c.requires)
+
+pub opened-block-requires : goal.opened-block-requires
+opened-block-requires t c = (lower _ 14 0 _ c.decreases, c.requires)
+
 -- ---- calls one level deeper
 
 pub expression-function-requires : goal.expression-function-requires
 expression-function-requires t c = deeper _ _ 12 9 3 _ c.in_ok-level.ensures.inner c.in_ok-level.ensures.within refl c.decreases
 
-pub base-register-requires : goal.base-register-requires
-base-register-requires t c = deeper _ _ 12 1 3 _ c.in_ok-level.ensures.inner c.in_ok-level.ensures.within refl c.decreases
-
-pub base-closed-requires : goal.base-closed-requires
-base-closed-requires t c = deeper _ _ 10 1 5 _ c.in_ok-level.ensures.inner c.in_ok-level.ensures.within refl c.decreases
-
-pub base-block-requires : goal.base-block-requires
-base-block-requires t c = deeper _ _ 14 1 1 _ c.in_ok-level.ensures.inner c.in_ok-level.ensures.within refl c.decreases
-
 pub repetition-loop_items-requires : goal.repetition-loop_items-requires
 repetition-loop_items-requires t c = deeper _ _ 14 1 1 _ c.in_ok-level.ensures.inner c.in_ok-level.ensures.within refl c.decreases
+
+pub base-opened-requires : goal.base-opened-requires
+base-opened-requires t c = deeper _ _ 15 1 0 _ c.in_ok-level.ensures.inner c.in_ok-level.ensures.within refl c.decreases

@@ -35,6 +35,9 @@ decreases-base l = (101 - l.self.level) * 16 + 1
 abbrev pub decreases-binding : goal.decreases-binding
 decreases-binding l = (101 - l.self.level) * 16 + 11
 
+abbrev pub decreases-opened : goal.decreases-opened
+decreases-opened l = (101 - l.self.level) * 16 + 15
+
 abbrev pub decreases-block : goal.decreases-block
 decreases-block l = (101 - l.self.level) * 16 + 14
 
