@@ -136,7 +136,8 @@ leap_is bs env near next e f = ap (λ (n : Option Leap). joined_leap env n (leap
 
 pub leap_twice : (bs : List Binding) (env : ℕ) (d e : Binding) → AreBindings 0 bs → AreLeaps [] bs → ¬ (env ≡ 0) → env ≤ length bs
     → ¬ ((slice_index_or bs (env - 1) d).leap.to ≡ 0)
-    → leap_of bs env ≡ joined_leap env (Some (slice_index_or bs (env - 1) d).leap) (Some (slice_index_or bs ((slice_index_or bs (env - 1) d).leap.to - 1) e).leap)
+    → leap_of bs env ≡ joined_leap env (Some (slice_index_or bs (env - 1) d).leap)
+    (Some (slice_index_or bs ((slice_index_or bs (env - 1) d).leap.to - 1) e).leap)
 leap_twice bs env d e are ls some within further =
     leap_is bs env _ _ (nearest bs env d are ls some within).is (next_nearest bs env d e are ls some within further).is
 

@@ -32,7 +32,8 @@ run-returns-clause-run t c =
     let goes = entered old c.enter.new.self c.args.frame.left (env_in (envs_of old) c.args.frame.env) (tree_of c.args.term.now) c.requires.machine (omega arith)
     c.in_ok-enter.ensures.ok in
     let grows = c.in_ok-enter.ensures.ok.grows in
-    let term : Environment → Outcome (Unit {0}) runs.Value = λ e. term_of no_bits (run_of no_bits (c.args.frame.left - 1)) e (tree_of c.args.term.now) (state_of c.enter.new.self) in
+    let term : Environment → Outcome (Unit {0}) runs.Value = λ e.
+    term_of no_bits (run_of no_bits (c.args.frame.left - 1)) e (tree_of c.args.term.now) (state_of c.enter.new.self) in
     MatchResult-weaker c.term.result c.term.ensures
     (λ v g. ends_goes goes (goes_in term old c.enter.new.self _ c.args.frame.env v grows c.requires.env g))
     (λ f s. said f goes (says_in term old c.enter.new.self c.args.frame.env f grows c.requires.env s))
@@ -100,7 +101,8 @@ chain-returns-in_err-so_far-2 t c = stops _ _ c.from_residual-in_err-so_far-2.re
     c.in_err-so_far-2.ensures)
 
 pub chain-loop-term-preserved : goal.chain-loop-term-preserved
-chain-loop-term-preserved t c = chain_more c.args.self.now c.loop-term.self c.link.new.self c.args.frame.left c.args.frame.env c.loop-term.so_far c.in_ok-so_far-2.so_far
+chain-loop-term-preserved t c =
+    chain_more c.args.self.now c.loop-term.self c.link.new.self c.args.frame.left c.args.frame.env c.loop-term.so_far c.in_ok-so_far-2.so_far
     c.args.op (place_of (tree_of c.in-Some.first.now)) (tree_of c.term-item.result) _ _ _ c.requires.env
     (mapped_at tree_of c.in-Some.rest.now c.loop-term.term-index c.term-item.result (omega arith) c.term-item.is) c.loop-term.invariant
     c.in_ok-so_far-2.ensures
@@ -212,10 +214,12 @@ item-returns-in_ok-bound-in-Let t c =
     subst (λ (i : ItemTree). Follows (Binds c.args.self.now c.bind.new.self)
     (item_step (run_of no_bits c.args.frame.left) (env_in (envs_of c.args.self.now) c.args.frame.env) i (state_of c.args.self.now)) c.bind.result)
     (sym (ap item_tree_of c.in-Let.is ∙ item_tree_of-Let c.in-Let.name c.in-Let.value))
-    (MatchResult-from_both c.bind.result _ _ (IfOk-weaker c.bind.result _ _ (λ b g. item_bound c.args.self.now c.run.new.self c.bind.new.self c.args.frame.left c.args.frame.env b c.in-Let.name
+    (MatchResult-from_both c.bind.result _ _ (IfOk-weaker c.bind.result _ _
+    (λ b g. item_bound c.args.self.now c.run.new.self c.bind.new.self c.args.frame.left c.args.frame.env b c.in-Let.name
     (tree_of c.in-Let.value) c.in_ok-bound-in-Let.bound c.requires.machine c.requires.env c.in_ok-bound-in-Let.ensures.run
     c.in_ok-bound-in-Let.ensures.room g) c.bind.ensures.ok)
-    (IfErr-weaker c.bind.result _ _ (λ f s. item_stuck c.args.self.now c.run.new.self c.args.frame.left c.args.frame.env c.in-Let.name (tree_of c.in-Let.value) c.in_ok-bound-in-Let.bound f
+    (IfErr-weaker c.bind.result _ _
+    (λ f s. item_stuck c.args.self.now c.run.new.self c.args.frame.left c.args.frame.env c.in-Let.name (tree_of c.in-Let.value) c.in_ok-bound-in-Let.bound f
     c.requires.machine c.requires.env c.in_ok-bound-in-Let.ensures.run s) c.bind.ensures.err))
 
 pub item-returns-in_ok-run-in-Do : goal.item-returns-in_ok-run-in-Do

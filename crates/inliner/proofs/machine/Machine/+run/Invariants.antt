@@ -95,7 +95,8 @@ abbrev pub invariant-turns-loop-turn : goal.invariant-turns-loop-turn
 invariant-turns-loop-turn l =
     Through l.fn.self l.self (turns_of no_bits (run_of no_bits l.frame.left) (env_in (envs_of l.fn.self) l.frame.env) (map item_tree_of l.items) l.at l.fn.low
     (turns l.fn.low l.fn.high) (state_of l.fn.self))
-    (rest_of_turns l.frame.left (env_in (envs_of l.fn.self) l.frame.env) (map item_tree_of l.items) l.at l.fn.low (turns l.fn.low l.fn.high) l.turn (state_of l.self))
+    (rest_of_turns l.frame.left (env_in (envs_of l.fn.self) l.frame.env) (map item_tree_of l.items) l.at l.fn.low (turns l.fn.low l.fn.high) l.turn
+    (state_of l.self))
 
 abbrev pub invariant-apply-loop-term : goal.invariant-apply-loop-term
 invariant-apply-loop-term l =
