@@ -320,7 +320,8 @@ module _ {p : Profile} where
   pub chain_begun : (x : Infix) (l : ℕ) {t : Term} {items : List Term} {at : Place} {ts rest behind : List Token} → ReadsOperand x p l (tree_of t) ts rest
       → Heads (toks.Sign (infix_sign x)) at rest behind → items ≡ t ∷ [] → InChain p x l (map tree_of items) ts behind
   chain_begun infixes.Xor l {ts = ts} r h e = rw e (record { so_far = record { passes = another_behind (sum_line l ts) r.reads (another_product l h) } })
-  chain_begun infixes.And l {ts = ts} r h e = rw e (record { so_far = record { passes = another_behind (product_line l ts) r.reads (another_application l h) } })
+  chain_begun infixes.And l {ts = ts} r h e =
+      rw e (record { so_far = record { passes = another_behind (product_line l ts) r.reads (another_application l h) } })
 
   pub chain_more : (x : Infix) (l : ℕ) (items : List Term) (t : Term) {new : List Term} {at : Place} {ts behind rest mid : List Token}
       → InChain p x l (map tree_of items) ts behind → ReadsOperand x p l (tree_of t) behind rest → Heads (toks.Sign (infix_sign x)) at rest mid

@@ -32,7 +32,8 @@ pub fn assignment(alloc: Global, left: Term, right: Term) -> Result<Term, Stop>
 
 /// Two registers, one behind the other.
 pub fn joined(alloc: Global, first: Term, second: Term, at: Place) -> Result<Term, Stop>
-    ensures { Makes (λ term. tree_of term ≡ shape.append (tree_of first) (tree_of second) at) result }
+    ensures { Makes (λ term. tree_of term ≡ shape.append (tree_of first) (tree_of second) at)
+        result }
 {
     let (first, second) = boxed(alloc, first, second)?;
     Ok(Term::Append(first, second, at))

@@ -33,8 +33,8 @@ use revs_terms::limits::MOST_LEVELS;
 use revs_terms::{Ends, Item, Name, Part, Term};
 use std::alloc::Global;
 
-/// What the reading of an expression goes by: where memory comes from, the profile of the forms, and
-/// the level.
+/// What the reading of an expression goes by: where memory comes from, the profile of the forms,
+/// and the level.
 #[derive(Clone, Copy)]
 pub struct Reader {
     pub alloc: Global,

@@ -1,6 +1,7 @@
 // Single tokens.
 
-ghost use Rattle.std.specs.Prelude.{◌≡◌, true, false, [], ◌∷◌, IfOk, IfErr, IsErrOf, IfSome, IfNone};
+ghost use Rattle.std.specs.Prelude.{◌≡◌, true, false, [], ◌∷◌, IfOk, IfErr, IsErrOf};
+ghost use Rattle.std.specs.Prelude.{IfSome, IfNone};
 ghost use Rattle.std.specs.Prelude.{MatchResult};
 ghost use Rattle.revs_parser.specs.inside.Reading.{Heads, NotFirst, Reads, Halts, name_first};
 ghost use Rattle.revs_parser.specs.inside.Reading.{ReadsAnywhere, HaltsAnywhere};
@@ -37,7 +38,8 @@ fn is_fixed(tok: &Tok, fixed: Fixed) -> bool
 
 // The place of a token and the tokens behind it, where it stands first.
 fn after_fixed(tokens: &[Token], fixed: Fixed) -> Option<(Place, &[Token])>
-    ensures found { IfSome result (λ found. Heads (fixed_tok fixed) found.0 tokens.now found.1.now) }
+    ensures found { IfSome result (λ found. Heads (fixed_tok fixed) found.0
+        tokens.now found.1.now) }
     ensures none { IfNone result (NotFirst (fixed_tok fixed) tokens.now) }
 {
     let (first, rest) = tokens.split_first()?;
@@ -66,7 +68,8 @@ pub fn after_word(tokens: &[Token], word: Word) -> Option<(Place, &[Token])>
 
 // The tokens behind a token, which has to stand first.
 fn expect_fixed(tokens: &[Token], fixed: Fixed) -> Result<&[Token], Stop>
-    ensures ok { IfOk result (λ rest. Reads (token (fixed_mark fixed) ∷ []) tt tokens.now rest.now) }
+    ensures ok { IfOk result (λ rest. Reads (token (fixed_mark fixed) ∷ []) tt
+        tokens.now rest.now) }
     ensures halts { IfErr result (λ stop. Halts (token (fixed_mark fixed) ∷ []) tokens.now stop) }
     ensures exact { ¬ IsErrOf result Stop.Memory }
 {

@@ -104,7 +104,8 @@ chained-operands-preserved t c =
 
 pub chained-operands-smaller : goal.chained-operands-smaller
 chained-operands-smaller t c =
-    let read = rw c.in_ok-rest.ensures.was_read at c.operand-in-operands.ensures in r.chain_shorter c.args.operator c.args.self.level read c.in-Some-after.ensures.found
+    let read = rw c.in_ok-rest.ensures.was_read at c.operand-in-operands.ensures in
+    r.chain_shorter c.args.operator c.args.self.level read c.in-Some-after.ensures.found
 
 pub operand-returns-in-Xor : goal.operand-returns-in-Xor
 operand-returns-in-Xor t c =
@@ -382,7 +383,8 @@ repetition-returns-in_err-level t c =
 pub repetition-returns-in_err-items : goal.repetition-returns-in_err-items
 repetition-returns-in_err-items t c =
     halts_on _ _ _ c.from_residual-in_err-items.ensures.1
-    (i.for_in_loop c.args.self.level c.in_ok-name.ensures c.in-Some.ensures.found c.in_ok-level.ensures.inner c.in_ok-level.ensures.within c.in_err-items.ensures)
+    (i.for_in_loop c.args.self.level c.in_ok-name.ensures c.in-Some.ensures.found c.in_ok-level.ensures.inner c.in_ok-level.ensures.within
+    c.in_err-items.ensures)
 
 pub repetition-returns : goal.repetition-returns
 repetition-returns t c =

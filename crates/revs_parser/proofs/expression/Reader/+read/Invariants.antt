@@ -75,7 +75,8 @@ abbrev pub decreases-chained-operands : goal.decreases-chained-operands
 decreases-chained-operands l = length l.behind
 
 abbrev pub invariant-atoms-arguments : goal.invariant-atoms-arguments
-invariant-atoms-arguments l = record { read : InArguments l.fn.self.profile l.fn.self.level (tree_of l.head.value) (map tree_of l.arguments.items) l.fn.tokens l.rest }
+invariant-atoms-arguments l =
+    record { read : InArguments l.fn.self.profile l.fn.self.level (tree_of l.head.value) (map tree_of l.arguments.items) l.fn.tokens l.rest }
 
 abbrev pub decreases-atoms-arguments : goal.decreases-atoms-arguments
 decreases-atoms-arguments l = length l.rest
