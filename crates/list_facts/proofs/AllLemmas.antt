@@ -1,9 +1,14 @@
 -- What holds of each element of a list, through the changes of the list. (`All` of std has the same lemmas under these names.)
 use Rattle.std.proofs.Common.{ℕ, zero, suc, ◌+◌, ◌<◌, ◌≤◌, Bool, List, [], ◌∷◌, ◌++◌, length, map, take, drop, set, get_or, reverse, filter, sym, inl, inr}
-use Rattle.std.proofs.Common.{subst, arith}
+use Rattle.std.proofs.Common.{◌≡◌, Some, slice_get, subst, arith}
 use Rattle.std.specs.List.{AllByRecursion, range_with_len}
+use Rattle.list_facts.specs.Lists.{AllFrom}
+use Rattle.std.proofs.lemmas.Option.{none-some, same_Some}
+use Rattle.std.specs.List.Sorted.{IsPermutation}
 use Rattle.std.proofs.lemmas.Bool.{cases_Bool}
 use Rattle.std.proofs.lemmas.List.{reverse-append, take_more}
+use Rattle.std.proofs.lemmas.List.Elements.{All-from_recursion, recursion_from_All}
+use Rattle.std.proofs.lemmas.List.Sorted.{All-permutation}
 
 -- ---- other facts of the same elements
 
@@ -95,3 +100,24 @@ pub AllByRecursion-range : {X : Type 0} (P : X → Type 0) (f : ℕ → X) (a n 
 AllByRecursion-range P f a zero each = tt
 AllByRecursion-range P f a (suc n) each =
     (each a (omega arith) (omega arith), AllByRecursion-range P f (a + 1) n (λ i low high. each i (omega (arith, low)) (omega (arith, high))))
+
+pub AllByRecursion-permutation : {X : Type 0} (P : X → Type 0) (xs ys : List X) → IsPermutation xs ys → AllByRecursion P xs → AllByRecursion P ys
+AllByRecursion-permutation P xs ys h a = recursion_from_All P ys (All-permutation P xs ys h (All-from_recursion P xs a))
+
+-- ---- elements with their places
+
+pub AllFrom-push : {X : Type 0} (P : ℕ → X → Type 0) (k : ℕ) (xs : List X) (x : X) → AllFrom P k xs → P (k + length xs) x → AllFrom P k (xs ++ x ∷ [])
+AllFrom-push P k [] x known is = (subst (λ (z : ℕ). P z x) (omega arith) is, tt)
+AllFrom-push P k (y ∷ ys) x known is = (known.0, AllFrom-push P (k + 1) ys x known.1 (subst (λ (z : ℕ). P z x) (omega arith) is))
+
+all_from_at : {X : Type 0} (P : ℕ → X → Type 0) (k i : ℕ) (xs : List X) (x : X) → AllFrom P k xs → slice_get xs i ≡ Some x → P (k + i) x
+all_from_at P k i [] x known is = absurd (none-some x is)
+all_from_at P k zero (y ∷ ys) x known is =
+    let same : k + 0 ≡ k = omega arith in
+    rw same (subst (P k) (same_Some y x is) known.0)
+all_from_at P k (suc i) (y ∷ ys) x known is =
+    let same : k + suc i ≡ k + 1 + i = omega arith in
+    rw same (all_from_at P (k + 1) i ys x known.1 is)
+
+pub AllFrom-at : {X : Type 0} (P : ℕ → X → Type 0) (i : ℕ) (xs : List X) (x : X) → AllFrom P 0 xs → slice_get xs i ≡ Some x → P i x
+AllFrom-at P i xs x known is = let same : 0 + i ≡ i = omega arith in rw same at (all_from_at P 0 i xs x known is)

@@ -1,6 +1,7 @@
 -- Elements of lists: of lists joined and mapped, and those of a kind.
-use Rattle.std.proofs.Common.{◌≡◌, ◌⊎◌, inl, inr, List, [], ◌∷◌, ◌++◌, map, refl, sym, ap, subst}
-use Rattle.std.specs.List.{AllByRecursion}
+use Rattle.std.proofs.Common.{◌≡◌, ◌⊎◌, ◌<◌, Bool, true, inl, inr, List, [], ◌∷◌, ◌++◌, length, map, refl, sym, ap, subst, arith}
+use Rattle.std.specs.List.{AllByRecursion, list_any, position_or_len}
+use Rattle.std.proofs.lemmas.Bool.{cases_Bool, true≢false}
 use Rattle.list_facts.specs.Lists.{IsAmong, AnyByRecursion}
 
 -- ---- elements
@@ -94,3 +95,13 @@ all_among P (y ∷ ys) all x k = elim k as (λ _. P x) [ inl e ↦ subst P (sym 
 pub all_from_among : {A : Type 0} (P : A → Type 0) (xs : List A) → ((x : A) → IsAmong x xs → P x) → AllByRecursion P xs
 all_from_among P [] each = tt
 all_from_among P (y ∷ ys) each = (each y (inl refl), all_from_among P ys (λ x k. each x (inr k)))
+
+-- ---- the first that passes a test
+
+pub position_among : {X : Type 0} (p : X → Bool) (xs : List X) → list_any p xs ≡ true → position_or_len p xs < length xs
+position_among p [] h = absurd (true≢false (sym h))
+position_among p (x ∷ xs) h =
+    elim (cases_Bool (p x)) [
+      | inl e ↦ rw e (omega arith)
+      | inr e ↦ let rest : list_any p xs ≡ true = rw e at h in rw e (omega (arith, position_among p xs rest))
+    ]

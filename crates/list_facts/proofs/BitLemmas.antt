@@ -1,5 +1,5 @@
 -- Exclusive or on bits, alone and with and.
-use Rattle.std.proofs.Common.{◌≡◌, Bool, true, false, not, ◌&&◌, refl, sym, ◌∙◌}
+use Rattle.std.proofs.Common.{◌≡◌, ℕ, zero, suc, ◌+◌, Bool, true, false, not, ◌&&◌, cond, refl, sym, ap, ◌∙◌, arith}
 use Rattle.std.specs.Bool.{xor}
 
 -- ---- alone
@@ -92,3 +92,13 @@ not-beq true true = refl
 not-beq true false = refl
 not-beq false true = refl
 not-beq false false = refl
+
+-- ---- parities
+
+abbrev pub odd : ℕ → Bool
+odd zero = false
+odd (suc n) = not (odd n)
+
+pub odd-plus : (b : Bool) (n : ℕ) → odd (cond b 1 0 + n) ≡ xor b (odd n)
+odd-plus true n = let e : 1 + n ≡ suc n = omega arith in ap odd e ∙ sym (xor_one (odd n))
+odd-plus false n = let e : 0 + n ≡ n = omega arith in ap odd e ∙ sym (xor_none (odd n))

@@ -1,5 +1,5 @@
 -- Elements of lists: which they are, how they are ordered, and which differ.
-use Rattle.std.specs.Prelude.{◌≡◌, ◌≢◌, ℕ, zero, suc, ◌<◌, ◌⊎◌, List, [], ◌∷◌, ◌++◌, ⊤}
+use Rattle.std.specs.Prelude.{◌≡◌, ◌≢◌, ℕ, zero, suc, ◌+◌, ◌<◌, ◌⊎◌, List, [], ◌∷◌, ◌++◌, ⊤}
 use Rattle.std.specs.List.{AllByRecursion}
 
 -- ---- elements
@@ -13,6 +13,11 @@ IsAmong x (y ∷ ys) = (x ≡ y) ⊎ IsAmong x ys
 abbrev pub AnyByRecursion : {A : Type 0} → (A → Type 0) → List A → Type 0
 AnyByRecursion P [] = ⊥
 AnyByRecursion P (x ∷ xs) = P x ⊎ AnyByRecursion P xs
+
+-- the fact holds of each element and its place, which is k for the first
+abbrev pub AllFrom : {A : Type 0} → (ℕ → A → Type 0) → ℕ → List A → Type 0
+AllFrom P k [] = ⊤
+AllFrom P k (x ∷ xs) = P k x × AllFrom P (k + 1) xs
 
 -- ---- order
 
