@@ -1,23 +1,23 @@
 -- Sums that grow: a product comes, goes, or is joined with another one.
-use Rattle.std.proofs.Common.{◌≡◌, ℕ, zero, suc, ◌+◌, ◌≤◌, ◌<◌, Bool, true, false, not, ◌&&◌, cond, List, [], ◌∷◌, ◌++◌, length, get_or}
-use Rattle.std.proofs.Common.{Option, Some, None, slice_get, refl, sym, ap, ap₂, ◌∙◌, subst, inl, inr, arith, rules}
+use Rattle.std.proofs.Common.{◌≡◌, ℕ, ◌≤◌, ◌<◌, Bool, true, false, ◌&&◌, cond, List, [], ◌∷◌, ◌++◌, length, get_or}
+use Rattle.std.proofs.Common.{Option, Some, None, slice_get, refl, sym, ap, ap₂, ◌∙◌, subst, arith, rules}
 use Rattle.std.specs.Bool.{xor}
 use Rattle.std.specs.List.{AllByRecursion, list_any, position_or_len, sum_by, swap_remove}
 use Rattle.std.specs.List.Sorted.{IsPermutation}
 use Rattle.std.specs.Cmp.Lexicographic.{pointwise, pointwise_decides}
 use Rattle.std.specs.Option.{option_map_or, option_to_list, IfSome}
-use Rattle.std.proofs.lemmas.Bool.{and_parts, cases_Bool, lt-ltb, true≢false}
+use Rattle.std.proofs.lemmas.Bool.{and_parts, lt-ltb, true≢false}
 use Rattle.std.proofs.lemmas.List.{length-append}
 use Rattle.std.proofs.lemmas.Option.{get_or_from_slice_get, slice_get_within}
-use Rattle.std.proofs.lemmas.List.Elements.{All-from_recursion, recursion_from_All}
-use Rattle.std.proofs.lemmas.List.Sorted.{All-permutation, IsPermutation-swap_remove, IsPermutation-sym, IsPermutation-to_front, length_permutation}
+use Rattle.std.proofs.lemmas.List.Sorted.{IsPermutation-swap_remove, IsPermutation-sym, IsPermutation-to_front, length_permutation}
 use Rattle.std.proofs.lemmas.List.Sorted.{sum_by-IsPermutation}
 use Rattle.std.proofs.lemmas.List.Sums.{passes_at_first, sum_by-cons}
 use Rattle.indexmap.specs.IndexMap.{swap_remove_by}
 use Rattle.indexmap.specs.IndexSet.{insert_key}
 use Rattle.indexmap.proofs.MapLemmas.{swap_remove-default}
-use Rattle.list_facts.proofs.AllLemmas.{AllByRecursion-append}
-use Rattle.list_facts.proofs.BitLemmas.{xor_left, xor_none, xor_nothing, xor_one, xor_right, xor_swap, xor_twice}
+use Rattle.list_facts.proofs.AllLemmas.{AllByRecursion-append, AllByRecursion-permutation}
+use Rattle.list_facts.proofs.AmongLemmas.{position_among}
+use Rattle.list_facts.proofs.BitLemmas.{odd, odd-plus, xor_left, xor_nothing, xor_right, xor_swap, xor_twice}
 use Rattle.dependency_graph.specs.contracts.node.BasePartialEq.TheImpl.{eq-value}
 use Rattle.dependency_graph.specs.declared.node.Base.{Base}
 use Rattle.bit_sums.specs.Growing.{IsPut}
@@ -29,14 +29,6 @@ use Rattle.bit_sums.proofs.SetLemmas.{value-append}
 
 -- ---- the same elements in another order
 
-abbrev odd : ℕ → Bool
-odd zero = false
-odd (suc n) = not (odd n)
-
-odd-plus : (b : Bool) (n : ℕ) → odd (cond b 1 0 + n) ≡ xor b (odd n)
-odd-plus true n = let e : 1 + n ≡ suc n = omega arith in ap odd e ∙ sym (xor_one (odd n))
-odd-plus false n = let e : 0 + n ≡ n = omega arith in ap odd e ∙ sym (xor_none (odd n))
-
 value_is_parity : {A : Type 0} (test : A → Bool) (xs : List A) → xor_by test xs ≡ odd (sum_by (λ x. cond (test x) 1 0) xs)
 value_is_parity test [] = refl
 value_is_parity test (x ∷ xs) =
@@ -46,17 +38,6 @@ value_is_parity test (x ∷ xs) =
 pub value-permutation : {A : Type 0} (test : A → Bool) (xs ys : List A) → IsPermutation xs ys → xor_by test xs ≡ xor_by test ys
 value-permutation test xs ys h =
     value_is_parity test xs ∙ sym (ap odd (sum_by-IsPermutation (λ x. cond (test x) 1 0) xs ys h)) ∙ sym (value_is_parity test ys)
-
-pub all-permutation : {X : Type 0} (P : X → Type 0) (xs ys : List X) → IsPermutation xs ys → AllByRecursion P xs → AllByRecursion P ys
-all-permutation P xs ys h a = recursion_from_All P ys (All-permutation P xs ys h (All-from_recursion P xs a))
-
-position_among : {X : Type 0} (p : X → Bool) (xs : List X) → list_any p xs ≡ true → position_or_len p xs < length xs
-position_among p [] h = absurd (true≢false (sym h))
-position_among p (x ∷ xs) h =
-    elim (cases_Bool (p x)) [
-      | inl e ↦ rw e (omega arith)
-      | inr e ↦ let rest : list_any p xs ≡ true = rw e at h in rw e (omega (arith, position_among p xs rest))
-    ]
 
 -- an element that a test finds goes out of the list
 pub went : {X : Type 0} {eq : X → Bool} (m : X) (xs : List X) → true ≡ list_any eq xs → ((y : X) → eq y ≡ true → m ≡ y)
@@ -115,7 +96,7 @@ put_away bits old new one p h =
           ∙ ap (λ v. xor v (product_value bit p))
           (sym (deep one (xor_by bit bits) (product_value bit p) (xor_by (product_value bit) new))
           ∙ ap (λ v. xor one (xor (xor_by bit bits) v)) (sym (value-permutation (product_value bit) old (p ∷ new) h)));
-      over = λ test o q. record { bits = o.bits; products = (all-permutation (IsProductOver test) old (p ∷ new) h o.products).1 };
+      over = λ test o q. record { bits = o.bits; products = (AllByRecursion-permutation (IsProductOver test) old (p ∷ new) h o.products).1 };
       next_over = λ test o q. tt;
       few = omega (arith, long);
       fewer = omega (arith, long);
@@ -133,7 +114,7 @@ put_in bits old new one p h =
           ∙ ap (λ v. xor one (xor (xor_by bit bits) v)) (sym (value-permutation (product_value bit) (p ∷ old) new h))
           ∙ deep one (xor_by bit bits) (product_value bit p) (xor_by (product_value bit) old)
           ∙ xor_swap (product_value bit p) (sum_value bit (sum bits old one));
-      over = λ test o q. record { bits = o.bits; products = all-permutation (IsProductOver test) (p ∷ old) new h (q, o.products) };
+      over = λ test o q. record { bits = o.bits; products = AllByRecursion-permutation (IsProductOver test) (p ∷ old) new h (q, o.products) };
       next_over = λ test o q. tt;
       few = omega (arith, long);
       fewer = omega (arith, long);
@@ -169,10 +150,10 @@ put_joined bits more old new one p q joined next h j e = rw e (
           (product_value bit p) (product_value bit q) (j.values bit)
           ∙ ap (λ v. xor (xor one (xor (xor_by bit bits) v)) (product_value bit p)) (sym (value-permutation (product_value bit) old (q ∷ new) h));
       over = λ test o w.
-          let all = all-permutation (IsProductOver test) old (q ∷ new) h o.products in
+          let all = AllByRecursion-permutation (IsProductOver test) old (q ∷ new) h o.products in
           record { bits = AllByRecursion-append (λ b. test b ≡ true) bits joined o.bits (j.bits_over test w all.0); products = all.1 };
       next_over = λ test o w.
-          let all = all-permutation (IsProductOver test) old (q ∷ new) h o.products in
+          let all = AllByRecursion-permutation (IsProductOver test) old (q ∷ new) h o.products in
           all_of_some (IsProductOver test) next (j.product_over test w all.0);
       few = omega (arith, long, one_at_most next);
       fewer = omega (arith, long, one_at_most next);

@@ -14,6 +14,7 @@ use Rattle.std.proofs.Math.ListN.{drop_of_length-le}
 use Rattle.std.proofs.Math.Seq.{drop-cons}
 use Rattle.list_facts.proofs.AllLemmas.{AllByRecursion-left, AllByRecursion-right}
 use Rattle.list_facts.proofs.BitLemmas.{xor_none, xor_left, xor_right, xor_both}
+use Rattle.list_facts.proofs.CutLemmas.{advanced}
 use Rattle.revs_tape.specs.Polynomials.{IsInOrder}
 use Rattle.revs_tape.specs.inside.Aligned.{Pair, left, right, both, aligned, alone, key_of}
 use Rattle.revs_tape.proofs.AlignmentLemmas.{lefts, rights, lefts-aligned, rights-aligned, IsTied, tied-aligned, by_key, in_order-aligned}
@@ -63,15 +64,6 @@ lesser_first : (x y : Base) (xs ys : List Base) (o : Ordering) → base_cmp x y 
 lesser_first x y xs ys Less e = rw e refl
 lesser_first x y xs ys Equal e = rw e refl
 lesser_first x y xs ys Greater e = rw e refl
-
-advanced : {A : Type 0} (xs : List A) (i : ℕ) (d : A) (t : Bool) → i < length xs
-    → drop (i + bool_byte t) xs ≡ drop (bool_byte t) (get_or xs i d ∷ drop (suc i) xs)
-advanced xs i d true inside = let more : i + 1 ≡ suc i = omega arith in ap (λ (n : ℕ). drop n xs) more
-advanced xs i d false inside = let none : i + 0 ≡ i = omega arith in ap (λ (n : ℕ). drop n xs) none ∙ drop-cons xs i d inside
-
-pub at_most_one : (i n more : ℕ) (t : Bool) → i < n → more ≡ bool_byte t → i + more ≤ n
-at_most_one i n more true inside is = omega (arith, inside, is)
-at_most_one i n more false inside is = omega (arith, inside, is)
 
 pub apart_step : (d : Base) (a b so_far now whole : List Base) (i j m n : ℕ) (o : Ordering) → i < length a → j < length b
     → o ≡ base_cmp (get_or a i d) (get_or b j d) → m ≡ bool_byte (is_le o) → n ≡ bool_byte (is_ge o)

@@ -16,7 +16,8 @@ use Rattle.bit_sums.specs.Products.{IsFactor, IsProductOf}
 use Rattle.bit_sums.specs.Sums.{ProductView, SumView, AreAll, IsProductOver, product_value, sum_value, xor_by}
 use Rattle.bit_sums.specs.inside.Putting.{ArePut, WithBits}
 use Rattle.bit_sums.specs.inside.Steps.{IsRisingOf}
-use Rattle.bit_sums.proofs.GrowingLemmas.{all-permutation, all_of_some, one_at_most, value-permutation}
+use Rattle.list_facts.proofs.AllLemmas.{AllByRecursion-permutation}
+use Rattle.bit_sums.proofs.GrowingLemmas.{all_of_some, one_at_most, value-permutation}
 use Rattle.bit_sums.proofs.SetLemmas.{all-apart, length-apart, value-append, value-apart}
 
 -- ---- products, one after another
@@ -107,7 +108,7 @@ both a b mid new products w h p =
             bits = all_of_both test a.bits b.bits mid.bits w.bits o.bits q.bits;
             products = subst (AllByRecursion (IsProductOver test)) (sym w.products) o.products;
           })
-          (all-permutation (IsProductOver test) b.products products h q.products);
+          (AllByRecursion-permutation (IsProductOver test) b.products products h q.products);
       few = omega (arith, long, same, p.few);
       light = omega (arith, long, bits_long, same, p.light);
     }
@@ -200,7 +201,7 @@ finished s bits products r h =
     let long : length products ≡ length s.products = length_permutation s.products products h in
     record {
       values = λ bit. rw (r.values bit, value-permutation (product_value bit) s.products products h) refl;
-      over = λ test o. record { bits = r.over test o.bits; products = all-permutation (IsProductOver test) s.products products h o.products };
+      over = λ test o. record { bits = r.over test o.bits; products = AllByRecursion-permutation (IsProductOver test) s.products products h o.products };
       rises = r.rises;
       few = long;
       light = omega (arith, long, r.few);

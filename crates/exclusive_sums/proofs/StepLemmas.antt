@@ -1,18 +1,19 @@
 -- A step of the code through two lists in order: what stands first in them, and how far each list goes.
 use mir.Val.{bool_byte}
 use Rattle.std.proofs.Common.{◌≡◌, ◌⊎◌, ℕ, suc, ◌+◌, ◌<◌, ◌≤◌, min, leb, ltb, eqb, Bool, true, false, not, ◌&&◌, List, [], ◌∷◌, ◌++◌, length, drop, get_or}
-use Rattle.std.proofs.Common.{refl, ap, ◌∙◌, inl, inr, arith}
+use Rattle.std.proofs.Common.{refl, inl, inr, arith}
 use Rattle.std.specs.Option.{option_to_list}
 use Rattle.std.proofs.lemmas.Bool.{cases_Bool, cases_lt, lt-ltb, le-ltb, le-leb, lt-leb, eq-eqb, ne_eqb}
 use Rattle.std.proofs.lemmas.List.{append_assoc}
 use Rattle.std.proofs.Math.Seq.{drop-cons}
+use Rattle.list_facts.proofs.CutLemmas.{advanced}
 use Rattle.revs_tape.specs.inside.Aligned.{aligned}
 use Rattle.revs_tape.specs.inside.Sums.{union_of}
 use Rattle.exclusive_sums.specs.declared.cube.Literal.{Literal}
 use Rattle.exclusive_sums.specs.Cubes.{same_sign}
 use Rattle.exclusive_sums.specs.inside.Merging.{by_input, differences, third_of, thirds}
 
--- ---- two numbers, and one place further or not
+-- ---- two numbers
 
 -- the tests of a number against a greater one
 record IsLess (m n : ℕ) : Type 0 where
@@ -58,15 +59,6 @@ at_itself n = le-leb n n (omega arith)
 
 min_itself : (n : ℕ) → min n n ≡ n
 min_itself n = omega arith
-
-advanced : {A : Type 0} (xs : List A) (i : ℕ) (d : A) (t : Bool) → i < length xs
-    → drop (i + bool_byte t) xs ≡ drop (bool_byte t) (get_or xs i d ∷ drop (suc i) xs)
-advanced xs i d true inside = let more : i + 1 ≡ suc i = omega arith in ap (λ (n : ℕ). drop n xs) more
-advanced xs i d false inside = let none : i + 0 ≡ i = omega arith in ap (λ (n : ℕ). drop n xs) none ∙ drop-cons xs i d inside
-
-pub at_most_one : (i n more : ℕ) (t : Bool) → i < n → more ≡ bool_byte t → i + more ≤ n
-at_most_one i n more true inside is = omega (arith, inside, is)
-at_most_one i n more false inside is = omega (arith, inside, is)
 
 -- ---- what stands first
 

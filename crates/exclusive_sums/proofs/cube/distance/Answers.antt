@@ -1,7 +1,8 @@
 use Rattle.std.proofs.Common.{◌⊎◌, ◌≤◌, length, inl, inr, arith}
 use Rattle.std.proofs.lemmas.List.{length-drop}
 use Rattle.exclusive_sums.proofs.CubeLemmas.{differences-aligned, differences_left_over}
-use Rattle.exclusive_sums.proofs.StepLemmas.{at_most_one, differences_step, still_few}
+use Rattle.list_facts.proofs.CutLemmas.{at_most_one}
+use Rattle.exclusive_sums.proofs.StepLemmas.{differences_step, still_few}
 use Rattle.exclusive_sums.proofs.cube.distance.Goals as goal
 use Rattle.exclusive_sums.proofs.cube.distance.Goals.{then-loop-i-test+else-j-right, else-loop-i-test}
 

@@ -4,8 +4,8 @@ use Rattle.revs_tape.specs.inside.Aligned.{aligned}
 use Rattle.exclusive_sums.specs.Cubes.{IsJoined}
 use Rattle.exclusive_sums.specs.inside.Merging.{by_input, thirds}
 use Rattle.exclusive_sums.proofs.CubeLemmas.{IsJoined-thirds, thirds_left_over}
-use Rattle.revc_base.proofs.ResultLemmas.{no_value}
-use Rattle.exclusive_sums.proofs.StepLemmas.{at_most_one, thirds_step}
+use Rattle.list_facts.proofs.CutLemmas.{at_most_one}
+use Rattle.exclusive_sums.proofs.StepLemmas.{thirds_step}
 use Rattle.exclusive_sums.proofs.cube.joined.Goals as goal
 use Rattle.exclusive_sums.proofs.cube.joined.Goals.{then-loop-i-test+else-j-right, else-loop-i-test}
 
@@ -31,15 +31,6 @@ returns c =
 
 pub invariant_of-result : goal.invariant_of-result
 invariant_of-result c = let whole = returns c in whole.is_cube
-
-pub returns-in_err-put : goal.returns-in_err-put
-returns-in_err-put c = no_value c.from_residual.result _ _ c.from_residual.ensures.1
-
-pub returns-in_err-put_flipped : goal.returns-in_err-put_flipped
-returns-in_err-put_flipped c = no_value c.from_residual-in_err-put_flipped.result _ _ c.from_residual-in_err-put_flipped.ensures.1
-
-pub returns-in_err-put_flipped-2 : goal.returns-in_err-put_flipped-2
-returns-in_err-put_flipped-2 c = no_value c.from_residual-in_err-put_flipped-2.result _ _ c.from_residual-in_err-put_flipped-2.ensures.1
 
 pub loop-i-preserved : goal.loop-i-preserved
 loop-i-preserved c =

@@ -1,7 +1,7 @@
 use Rattle.std.specs.List.{flat_map}
 use Rattle.list_facts.proofs.AllLemmas.{AllByRecursion-left, AllByRecursion-right}
 use Rattle.bit_sums.specs.Sums.{product_bases}
-use Rattle.bit_sums.proofs.GrowingLemmas.{all-permutation}
+use Rattle.list_facts.proofs.AllLemmas.{AllByRecursion-permutation}
 use Rattle.dependency_graph.specs.Graphs.{IsKnownBase}
 use Rattle.ready_cleanup.specs.inside.Sweeps.{IsLastUse}
 use Rattle.ready_cleanup.proofs.SweepLemmas.{node_known}
@@ -21,5 +21,5 @@ push_factors-requires-clause-known c =
 
 pub returns : goal.returns
 returns c =
-    all-permutation (IsLastUse c.args.graph.now c.args.user) c.push_factors.new.nodes.items c.sort_unstable.new.self.items
+    AllByRecursion-permutation (IsLastUse c.args.graph.now c.args.user) c.push_factors.new.nodes.items c.sort_unstable.new.self.items
     c.sort_unstable.ensures.permutation c.in_ok-push_factors.ensures

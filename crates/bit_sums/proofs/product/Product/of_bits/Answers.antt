@@ -1,4 +1,4 @@
-use Rattle.std.proofs.Common.{◌≡◌, ◌≢◌, [], ◌∷◌, inl, inr, refl, sym, arith}
+use Rattle.std.proofs.Common.{◌≢◌, [], ◌∷◌, inl, inr, refl, sym, arith}
 use Rattle.dependency_graph.specs.declared.node.Base.{Base}
 use Rattle.bit_sums.specs.Products.{IsProduct}
 use Rattle.bit_sums.proofs.product.Product.of_bits.Goals as goal

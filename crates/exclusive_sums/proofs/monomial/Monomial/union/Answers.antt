@@ -1,8 +1,8 @@
 use Rattle.std.proofs.Common.{◌⊎◌, ◌≤◌, ℕ, [], ◌∷◌, ◌++◌, length, refl, ap, ◌∙◌, inl, inr, arith}
 use Rattle.std.proofs.lemmas.List.{take_rest, append_assoc}
 use Rattle.exclusive_sums.proofs.PolyLemmas.{union_left_over}
-use Rattle.revc_base.proofs.ResultLemmas.{no_value}
-use Rattle.exclusive_sums.proofs.StepLemmas.{at_most_one, union_step}
+use Rattle.list_facts.proofs.CutLemmas.{at_most_one}
+use Rattle.exclusive_sums.proofs.StepLemmas.{union_step}
 use Rattle.exclusive_sums.proofs.monomial.Monomial.union.Goals as goal
 use Rattle.exclusive_sums.proofs.monomial.Monomial.union.Goals.{then-loop-i-test+else-j-right, else-loop-i-test}
 
@@ -21,15 +21,6 @@ returns c =
       append_assoc,
     )
     (done ∙ rw (c.inputs-left.ensures, c.inputs-right.ensures) refl)
-
-pub returns-in_err-push : goal.returns-in_err-push
-returns-in_err-push c = no_value c.from_residual.result _ _ c.from_residual.ensures.1
-
-pub returns-in_err-extend_from_slice : goal.returns-in_err-extend_from_slice
-returns-in_err-extend_from_slice c = no_value c.from_residual-in_err-extend_from_slice.result _ _ c.from_residual-in_err-extend_from_slice.ensures.1
-
-pub returns-in_err-extend_from_slice-2 : goal.returns-in_err-extend_from_slice-2
-returns-in_err-extend_from_slice-2 c = no_value c.from_residual-in_err-extend_from_slice-2.result _ _ c.from_residual-in_err-extend_from_slice-2.ensures.1
 
 pub loop-i-preserved : goal.loop-i-preserved
 loop-i-preserved c =
