@@ -165,27 +165,18 @@ impl Planned {
 #[derive(Drop)]
 pub struct Laid {
     circuit: Narrow,
-    inputs: u32,
-    outputs: u32,
-    work: u32,
-    borrowed: u32,
+    roles: Roles,
 }
 
 impl Model for Laid {
-    ghost use Rattle.std.specs.Prelude.{◌≡◌, ◌+◌};
-    ghost use Rattle.circuit_plans.specs.Plans.{LaidView};
+    ghost use Rattle.std.specs.Prelude.{◌≡◌};
+    ghost use Rattle.circuit_plans.specs.Plans.{LaidView, laid_of, lines_in};
 
     ghost Value = { LaidView };
 
-    ghost view = { λ l. record {
-      circuit = l.circuit;
-      inputs = l.inputs;
-      outputs = l.outputs;
-      work = l.work;
-      borrowed = l.borrowed;
-    } };
+    ghost view = { λ l. laid_of l.circuit l.roles };
 
-    ghost invariant = { λ l. l.inputs + l.outputs + l.work + l.borrowed ≡ l.circuit.lines };
+    ghost invariant = { λ l. lines_in l.roles ≡ l.circuit.lines };
 }
 
 impl Laid {
@@ -200,13 +191,13 @@ impl Laid {
           borrowed = borrowed;
         } }
     {
-        Laid {
-            circuit,
+        let roles = Roles {
             inputs,
             outputs,
             work,
             borrowed,
-        }
+        };
+        Laid { circuit, roles }
     }
 
     /// The circuit.
@@ -223,40 +214,7 @@ impl Laid {
     pub fn roles(&self) -> Roles
         ensures { result ≡ roles_of self.now }
     {
-        Roles {
-            inputs: self.inputs,
-            outputs: self.outputs,
-            work: self.work,
-            borrowed: self.borrowed,
-        }
-    }
-
-    /// The number of input lines.
-    pub fn inputs(&self) -> u32
-        ensures { result ≡ self.now.inputs }
-    {
-        self.inputs
-    }
-
-    /// The number of output lines.
-    pub fn outputs(&self) -> u32
-        ensures { result ≡ self.now.outputs }
-    {
-        self.outputs
-    }
-
-    /// The number of work lines.
-    pub fn work(&self) -> u32
-        ensures { result ≡ self.now.work }
-    {
-        self.work
-    }
-
-    /// The number of borrowed lines.
-    pub fn borrowed(&self) -> u32
-        ensures { result ≡ self.now.borrowed }
-    {
-        self.borrowed
+        self.roles
     }
 }
 
