@@ -14,7 +14,7 @@ use Rattle.decision_diagram.specs.inside.Flipping.{Splits, first_asked, flipped_
 use Rattle.decision_diagram.proofs.ValueLemmas.{first_most}
 use Rattle.decision_diagram.proofs.DistinctLemmas.{some_at, inner_at}
 use Rattle.decision_diagram.proofs.RestrictionLemmas.{ComesFrom-same}
-use Rattle.decision_diagram.proofs.GrowthLemmas.{function-kept, stands-kept, StandsFor-same, flipped-same, side_behind, side_comes, node_flips, constant_behind}
+use Rattle.decision_diagram.proofs.GrowthLemmas.{KeepsNodes-refl, function-kept, stands-kept, StandsFor-same, flipped-same, side_behind, side_comes, node_flips, constant_behind}
 
 -- an inner node asks a variable of the diagram
 pub inner_asks : (vars : ℕ) (nodes : List Triple) → AreOrdered vars nodes → (n : ℕ) → 2 ≤ n → IsNumber nodes n
@@ -105,11 +105,17 @@ module _ (d : DiagramView) (canonical : IsCanonical d) (v : ℕ) (o low high : O
       flipped-kept d e kept (if t then high else low)
       (are_numbers d.vars d.nodes v (if t then high else low) (side_behind d canonical v o low high split t))
 
-  pub later_comes : (e : DiagramView) → KeepsNodes d e → (t : Bool)
+  later_comes : (e : DiagramView) → KeepsNodes d e → (t : Bool)
       → ComesFrom (flipped_at d.nodes o) (flipped_at e.nodes (if t then high else low))
   later_comes e kept t =
       ComesFrom-same (flipped_at d.nodes o) (flipped_at d.nodes (if t then high else low)) (flipped_at e.nodes (if t then high else low))
       (side_comes d canonical v o low high split t) (later_side e kept t)
+
+  pub low_comes : ComesFrom (flipped_at d.nodes o) (flipped_at d.nodes low)
+  low_comes = later_comes d (KeepsNodes-refl d) false
+
+  pub high_comes : (e : DiagramView) → KeepsNodes d e → ComesFrom (flipped_at d.nodes o) (flipped_at e.nodes high)
+  high_comes e kept = later_comes e kept true
 
   -- the node that is asked for in the end stands for what the operands ask for
   pub node_is_flip : (e h : DiagramView) → KeepsNodes d e → KeepsNodes e h → (at_low at_high : ℕ)

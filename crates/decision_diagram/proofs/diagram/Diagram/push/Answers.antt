@@ -1,12 +1,26 @@
-use Rattle.std.proofs.Common.{◌∙◌, ◌+◌, ap, length, Contains, subst, sym, arith}
+use Rattle.std.proofs.Common.{◌≡◌, ◌∙◌, ◌+◌, ◌++◌, [], ◌∷◌, ap, length, reverse, Contains, subst, sym, arith}
 use Rattle.std.proofs.lemmas.List.{length-reverse}
 use Rattle.revc_base.proofs.ResultLemmas.{no_value, passes_on}
-use Rattle.decision_diagram.specs.Diagrams.{DiagramView, IsCanonical}
+use Rattle.decision_diagram.specs.Diagrams.{DiagramView, IsCanonical, first_variable}
+use Rattle.decision_diagram.specs.Growth.{StandsFor}
 use Rattle.decision_diagram.specs.inside.Flipping.{node_function}
 use Rattle.decision_diagram.proofs.GrowthLemmas.{Grows-refl}
 use Rattle.decision_diagram.proofs.LookupLemmas.{new_goes_last}
 use Rattle.decision_diagram.proofs.PlaceLemmas.{push_grows, push_fails, push_stands, push_full}
 use Rattle.decision_diagram.proofs.diagram.Diagram.push.Goals as goal
+use Rattle.decision_diagram.proofs.diagram.Diagram.push.Goals.{In_ok-insert}
+
+goes_last : (c : goal.In_ok-insert) → c.insert.new.self.keys ≡ c.self.inside.nodes.keys ++ c.args.node ∷ []
+goes_last c =
+    let missing = subst (λ (d : DiagramView). Contains d.nodes c.args.node → ⊥) (sym c.self.view_is) c.requires.missing in
+    c.in_ok-insert.ensures.keys ∙ new_goes_last c.self.inside.nodes.keys c.args.node missing
+
+stands : (c : goal.In_ok-insert)
+    → StandsFor (reverse c.insert.new.self.keys) (c.len-count.result + 2) (node_function c.args.self.now.nodes c.args.node)
+    × (first_variable c.self.inside.vars (reverse c.insert.new.self.keys) (c.len-count.result + 2) ≡ c.args.node.variable)
+stands c =
+    push_stands c.args.self.now c.self.inside.vars c.self.inside.limit c.self.inside.nodes.keys c.insert.new.self.keys c.args.node
+    (c.len-count.result + 2) c.self.view_is (goes_last c) (omega (arith, c.len-count.ensures.len))
 
 pub returns-then-count-self-clause-refused : goal.returns-then-count-self-clause-refused
 returns-then-count-self-clause-refused c =
@@ -46,24 +60,14 @@ returns-in_err-insert-clause-refused c = passes_on _ c.from_residual.result c.fr
 
 pub returns-clause-grows : goal.returns-clause-grows
 returns-clause-grows c =
-    let missing = subst (λ (d : DiagramView). Contains d.nodes c.args.node → ⊥) (sym c.self.view_is) c.requires.missing in
     push_grows c.args.self.now c.self.inside.vars c.self.inside.limit c.self.inside.nodes.keys c.insert.new.self.keys c.args.node
-    c.self.view_is c.self.invariant c.requires (λ e. omega (arith, c.len-count.ensures.len))
-    (c.in_ok-insert.ensures.keys ∙ new_goes_last c.self.inside.nodes.keys c.args.node missing)
+    c.self.view_is c.self.invariant c.requires (λ e. omega (arith, c.len-count.ensures.len)) (goes_last (goal.at.returns-clause-grows c).In_ok-insert)
 
 pub returns-clause-answer : goal.returns-clause-answer
-returns-clause-answer c =
-    let missing = subst (λ (d : DiagramView). Contains d.nodes c.args.node → ⊥) (sym c.self.view_is) c.requires.missing in
-    (push_stands c.args.self.now c.self.inside.vars c.self.inside.limit c.self.inside.nodes.keys c.insert.new.self.keys c.args.node
-    (c.len-count.result + 2) c.self.view_is (c.in_ok-insert.ensures.keys ∙ new_goes_last c.self.inside.nodes.keys c.args.node missing)
-    (omega (arith, c.len-count.ensures.len))).0
+returns-clause-answer c = (stands (goal.at.returns-clause-answer c).In_ok-insert).0
 
 pub returns-clause-first : goal.returns-clause-first
-returns-clause-first c =
-    let missing = subst (λ (d : DiagramView). Contains d.nodes c.args.node → ⊥) (sym c.self.view_is) c.requires.missing in
-    (push_stands c.args.self.now c.self.inside.vars c.self.inside.limit c.self.inside.nodes.keys c.insert.new.self.keys c.args.node
-    (c.len-count.result + 2) c.self.view_is (c.in_ok-insert.ensures.keys ∙ new_goes_last c.self.inside.nodes.keys c.args.node missing)
-    (omega (arith, c.len-count.ensures.len))).1
+returns-clause-first c = (stands (goal.at.returns-clause-first c).In_ok-insert).1
 
 pub invariant_of-self-2 : goal.invariant_of-self-2
 invariant_of-self-2 c = let g = returns-clause-grows c in g.canonical
