@@ -10,7 +10,6 @@ use Rattle.list_facts.proofs.AllLemmas.{AllByRecursion-at}
 use Rattle.list_facts.proofs.AmongLemmas.{all_among, all_from_among}
 use Rattle.revs_tape.specs.declared.tape.Claim.{Claim}
 use Rattle.revs_tape.specs.declared.tape.Entry.{Entry}
-use Rattle.revs_tape.specs.declared.tape.Entry.TheVariants as entries
 use Rattle.revs_tape.specs.declared.tape.Ref.{Ref}
 use Rattle.revs_tape.specs.declared.tape.Ref.TheVariants as refs
 use Rattle.revs_tape.specs.ClaimFunctions.{IsBase, operands_of}
@@ -19,7 +18,7 @@ use Rattle.revs_tape.specs.Tapes.{TapeView, IsKnown, IsTape, operands}
 use Rattle.decision_diagram.specs.declared.node.DdFault.{DdFault}
 use Rattle.decision_diagram.specs.declared.node.DdFault.TheVariants as faults
 use Rattle.decision_diagram.specs.Diagrams.{DiagramView, IsCanonical, Triple, function_of}
-use Rattle.decision_diagram.specs.Functions.{AreSame, Function, conjunction, exclusive_or}
+use Rattle.decision_diagram.specs.Functions.{AreSame, Function}
 use Rattle.decision_diagram.specs.Growth.{Computes, KeepsNodes, MayRefuse, StandsFor}
 use Rattle.decision_diagram.proofs.GrowthLemmas.{Grows-refl, StandsFor-same, computes, computes_same, stands-kept}
 use Rattle.claim_check.specs.inside.Chains.{IsNext}
@@ -30,7 +29,6 @@ use Rattle.claim_check.specs.inside.Tables.{HoldsAllBases, HoldsOnlyMembers, fun
 use Rattle.claim_check.proofs.BaseLemmas.{bases_within}
 use Rattle.claim_check.proofs.LabelLemmas.{known_later, operands_are, operands_known, same_slot, slot_below}
 use Rattle.claim_check.proofs.MemberLemmas.{passes}
-use Rattle.claim_check.proofs.WriteLemmas.{function-And, function-Xor}
 
 all_at_get : {A : Type 0} (P : A → Type 0) (xs : List A) (k : ℕ) (x : A) → AllByRecursion P xs → slice_get xs k ≡ Some x → P x
 all_at_get P xs k x all at = elim (slice_get_cases xs k).1 as (λ _. P x) [
@@ -200,38 +198,23 @@ base_here t labels are number slot low ref known at label =
     let own : label_of t labels ref ≡ number = ap (λ (s : ℕ). get_or labels s 0) at ∙ label in
     subst (λ (l : ℕ). IsBase t (l + 1) ref) own (are.sound.bases ref known (omega (arith, own, low)))
 
--- ---- the functions of a write
+-- ---- the function of a write
 
-abbrev operands_in : Entry → List Ref
-operands_in entry = operands entry
-
-pub answer_xor : (t : TapeView) → IsTape t → (j : ℕ) (entry : Entry) (a b : Ref) (old new : DiagramView) (numbers : List ℕ) (f g : ℕ)
-    (r : Result ℕ DdFault) → slice_get t.entries j ≡ Some entry → entry ≡ entries.Xor a b
+-- of a write that makes a bit of two others, where it is known of any functions of these
+pub answer_pair : (t : TapeView) (j : ℕ) (entry : Entry) (a b : Ref) (both : Function → Function → Function) (old new : DiagramView) (numbers : List ℕ) (f g : ℕ)
+    (r : Result ℕ DdFault) → slice_get t.entries j ≡ Some entry → operands entry ≡ a ∷ b ∷ []
+    → ((l m : Function) → AreSame l (function_at t a) → AreSame m (function_at t b) → AreSame (both l m) (function_at t (refs.Write j)))
     → f ≡ get_or numbers (slot_of (inputs_of t) a) 0 → g ≡ get_or numbers (slot_of (inputs_of t) b) 0
     → AllByRecursion (HasNumber t old.nodes numbers) (operands_of t (refs.Write j))
-    → Computes (exclusive_or (function_of old.nodes f) (function_of old.nodes g)) old new r → Computes (function_at t (refs.Write j)) old new r
-answer_xor t is j entry a b old new numbers f g r at xor left right all made =
-    let both = two_operands t (HasNumber t old.nodes numbers) j entry a b at (ap operands_in xor) all in
+    → Computes (both (function_of old.nodes f) (function_of old.nodes g)) old new r → Computes (function_at t (refs.Write j)) old new r
+answer_pair t j entry a b both old new numbers f g r at two same left right all made =
+    let known = two_operands t (HasNumber t old.nodes numbers) j entry a b at two all in
     let one : AreSame (function_of old.nodes f) (function_at t a) =
-    subst (λ (n : ℕ). AreSame (function_of old.nodes n) (function_at t a)) (sym left) ((both.0).stands).same in
+    subst (λ (n : ℕ). AreSame (function_of old.nodes n) (function_at t a)) (sym left) ((known.0).stands).same in
     let other : AreSame (function_of old.nodes g) (function_at t b) =
-    subst (λ (n : ℕ). AreSame (function_of old.nodes n) (function_at t b)) (sym right) ((both.1).stands).same in
-    computes_same (function_at t (refs.Write j)) (exclusive_or (function_of old.nodes f) (function_of old.nodes g)) old new r
-    (function-Xor t is j a b (function_of old.nodes f) (function_of old.nodes g) (at ∙ ap Some xor) one other) made
-
-pub answer_and : (t : TapeView) → IsTape t → (j : ℕ) (entry : Entry) (a b : Ref) (old new : DiagramView) (numbers : List ℕ) (f g : ℕ)
-    (r : Result ℕ DdFault) → slice_get t.entries j ≡ Some entry → entry ≡ entries.And a b
-    → f ≡ get_or numbers (slot_of (inputs_of t) a) 0 → g ≡ get_or numbers (slot_of (inputs_of t) b) 0
-    → AllByRecursion (HasNumber t old.nodes numbers) (operands_of t (refs.Write j))
-    → Computes (conjunction (function_of old.nodes f) (function_of old.nodes g)) old new r → Computes (function_at t (refs.Write j)) old new r
-answer_and t is j entry a b old new numbers f g r at both_are left right all made =
-    let both = two_operands t (HasNumber t old.nodes numbers) j entry a b at (ap operands_in both_are) all in
-    let one : AreSame (function_of old.nodes f) (function_at t a) =
-    subst (λ (n : ℕ). AreSame (function_of old.nodes n) (function_at t a)) (sym left) ((both.0).stands).same in
-    let other : AreSame (function_of old.nodes g) (function_at t b) =
-    subst (λ (n : ℕ). AreSame (function_of old.nodes n) (function_at t b)) (sym right) ((both.1).stands).same in
-    computes_same (function_at t (refs.Write j)) (conjunction (function_of old.nodes f) (function_of old.nodes g)) old new r
-    (function-And t is j a b (function_of old.nodes f) (function_of old.nodes g) (at ∙ ap Some both_are) one other) made
+    subst (λ (n : ℕ). AreSame (function_of old.nodes n) (function_at t b)) (sym right) ((known.1).stands).same in
+    computes_same (function_at t (refs.Write j)) (both (function_of old.nodes f) (function_of old.nodes g)) old new r
+    (same (function_of old.nodes f) (function_of old.nodes g) one other) made
 
 -- ---- the limit
 

@@ -9,7 +9,6 @@ use Rattle.claim_check.specs.Settled.{SettledView}
 use Rattle.claim_check.specs.Kept.{kept_nodes, rank, renumbered_sig}
 use Rattle.claim_check.specs.inside.Marks.{number_in, with_marks, with_nodes}
 use Rattle.claim_check.proofs.PartLemmas.{IsMade, made_part}
-use Rattle.revc_base.proofs.ResultLemmas.{no_value}
 use Rattle.claim_check.proofs.keeping.kept_part.Goals as goal
 
 pub ranks-requires : goal.ranks-requires
@@ -41,15 +40,3 @@ returns c =
       outputs = outputs;
     } in
     made_part t g marks table s made
-
-pub returns-in_err-marks : goal.returns-in_err-marks
-returns-in_err-marks c = no_value c.from_residual.result _ _ c.from_residual.ensures.1
-
-pub returns-in_err-table : goal.returns-in_err-table
-returns-in_err-table c = no_value c.from_residual-in_err-table.result _ _ c.from_residual-in_err-table.ensures.1
-
-pub returns-in_err-nodes : goal.returns-in_err-nodes
-returns-in_err-nodes c = no_value c.from_residual-in_err-nodes.result _ _ c.from_residual-in_err-nodes.ensures.1
-
-pub returns-in_err-outputs : goal.returns-in_err-outputs
-returns-in_err-outputs c = no_value c.from_residual-in_err-outputs.result _ _ c.from_residual-in_err-outputs.ensures.1

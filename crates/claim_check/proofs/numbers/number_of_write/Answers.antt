@@ -1,8 +1,9 @@
-use Rattle.std.proofs.Common.{Some, ap, ◌∙◌}
+use Rattle.std.proofs.Common.{Some, ap, refl, ◌∙◌}
 use Rattle.revs_tape.specs.declared.tape.Ref.TheVariants as refs
+use Rattle.decision_diagram.specs.Functions.{conjunction, exclusive_or}
 use Rattle.claim_check.specs.inside.Tables.{function_at}
-use Rattle.claim_check.proofs.NumberLemmas.{answer_and, answer_constant, answer_xor}
-use Rattle.claim_check.proofs.WriteLemmas.{function-Const}
+use Rattle.claim_check.proofs.NumberLemmas.{answer_constant, answer_pair}
+use Rattle.claim_check.proofs.WriteLemmas.{function-And, function-Const, function-Xor}
 use Rattle.claim_check.proofs.numbers.number_of_write.Goals as goal
 
 pub returns-in-Const : goal.returns-in-Const
@@ -14,12 +15,13 @@ returns-in-Const c =
 
 pub returns-in-Xor : goal.returns-in-Xor
 returns-in-Xor c =
-    answer_xor c.args.tape.now c.requires.tape c.args.write c.entry.result c.in-Xor.a c.in-Xor.b c.args.diagram.now c.xor.new.self
-    c.args.numbers.now c.number_at-f.result c.number_at-g.result c.xor.result c.entry.ensures c.in-Xor.is
-    c.number_at-f.ensures c.number_at-g.ensures c.requires.operands c.xor.ensures
+    let at = c.entry.ensures ∙ ap Some c.in-Xor.is in
+    answer_pair c.args.tape.now c.args.write _ _ _ exclusive_or _ _ c.args.numbers.now _ _ c.xor.result at refl
+    (λ l m. function-Xor c.args.tape.now c.requires.tape c.args.write _ _ l m at) c.number_at-f.ensures c.number_at-g.ensures c.requires.operands c.xor.ensures
 
 pub returns-in-And : goal.returns-in-And
 returns-in-And c =
-    answer_and c.args.tape.now c.requires.tape c.args.write c.entry.result c.in-And.a c.in-And.b c.args.diagram.now c.and.new.self
-    c.args.numbers.now c.number_at-f-in-And.result c.number_at-g-in-And.result c.and.result c.entry.ensures c.in-And.is
+    let at = c.entry.ensures ∙ ap Some c.in-And.is in
+    answer_pair c.args.tape.now c.args.write _ _ _ conjunction _ _ c.args.numbers.now _ _ c.and.result at refl
+    (λ l m. function-And c.args.tape.now c.requires.tape c.args.write _ _ l m at)
     c.number_at-f-in-And.ensures c.number_at-g-in-And.ensures c.requires.operands c.and.ensures
