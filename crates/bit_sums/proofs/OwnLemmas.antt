@@ -94,7 +94,7 @@ right_lacks a b up top y k m =
     lacking left_of left_key (aligned base_cmp a b) (in_order-aligned base_cmp base_total a b up top) (tied-aligned base_cmp a b) (right y) k refl
     (subst (IsAmong y) (sym (lefts-gathered (aligned base_cmp a b) ∙ lefts-aligned base_cmp a b)) m)
 
--- ---- how many stand in one list alone
+-- ---- how many stand in the left list alone
 
 left_count : List (Pair Base) → ℕ
 left_count [] = 0
@@ -102,26 +102,13 @@ left_count (left x ∷ ps) = 1 + left_count ps
 left_count (right y ∷ ps) = left_count ps
 left_count (both x y ∷ ps) = left_count ps
 
-right_count : List (Pair Base) → ℕ
-right_count [] = 0
-right_count (left x ∷ ps) = right_count ps
-right_count (right y ∷ ps) = 1 + right_count ps
-right_count (both x y ∷ ps) = right_count ps
-
--- twice those of one list alone are what is apart and that list, less the other one
+-- twice those are what is apart and the left list, less the right one
 counted_left : (ps : List (Pair Base)) → length (alone ps) + length (lefts ps) ≡ (left_count ps + left_count ps) + length (rights ps)
 unfolding left_count
 counted_left [] = refl
 counted_left (left x ∷ ps) = omega (arith, counted_left ps)
 counted_left (right y ∷ ps) = omega (arith, counted_left ps)
 counted_left (both x y ∷ ps) = omega (arith, counted_left ps)
-
-counted_right : (ps : List (Pair Base)) → length (alone ps) + length (rights ps) ≡ (right_count ps + right_count ps) + length (lefts ps)
-unfolding right_count
-counted_right [] = refl
-counted_right (left x ∷ ps) = omega (arith, counted_right ps)
-counted_right (right y ∷ ps) = omega (arith, counted_right ps)
-counted_right (both x y ∷ ps) = omega (arith, counted_right ps)
 
 some_left : (ps : List (Pair Base)) → (left_count ps ≡ 0) ⊎ ((x : Base) × IsAmong (left x) ps)
 unfolding left_count
@@ -132,19 +119,6 @@ some_left (right y ∷ ps) = elim (some_left ps) as (λ _. (left_count ps ≡ 0)
   | inr found ↦ inr (found.0, inr found.1)
 ]
 some_left (both x y ∷ ps) = elim (some_left ps) as (λ _. (left_count ps ≡ 0) ⊎ ((z : Base) × IsAmong (left z) (both x y ∷ ps))) [
-  | inl none ↦ inl none
-  | inr found ↦ inr (found.0, inr found.1)
-]
-
-some_right : (ps : List (Pair Base)) → (right_count ps ≡ 0) ⊎ ((y : Base) × IsAmong (right y) ps)
-unfolding right_count
-some_right [] = inl refl
-some_right (right y ∷ ps) = inr (y, inl refl)
-some_right (left x ∷ ps) = elim (some_right ps) as (λ _. (right_count ps ≡ 0) ⊎ ((y : Base) × IsAmong (right y) (left x ∷ ps))) [
-  | inl none ↦ inl none
-  | inr found ↦ inr (found.0, inr found.1)
-]
-some_right (both x y ∷ ps) = elim (some_right ps) as (λ _. (right_count ps ≡ 0) ⊎ ((z : Base) × IsAmong (right z) (both x y ∷ ps))) [
   | inl none ↦ inl none
   | inr found ↦ inr (found.0, inr found.1)
 ]
@@ -160,16 +134,6 @@ apart_right (right y ∷ ps) none z k = elim k as (λ _. IsAmong (right z) (righ
 ]
 apart_right (both x y ∷ ps) none z k = inr (apart_right ps none z k)
 
-apart_left : (ps : List (Pair Base)) → right_count ps ≡ 0 → (z : Base) → IsAmong z (alone ps) → IsAmong (left z) ps
-unfolding right_count
-apart_left [] none z k = absurd k
-apart_left (right y ∷ ps) none z k = absurd (omega (arith, none))
-apart_left (left x ∷ ps) none z k = elim k as (λ _. IsAmong (left z) (left x ∷ ps)) [
-  | inl e ↦ inl (ap left e)
-  | inr later ↦ inr (apart_left ps none z later)
-]
-apart_left (both x y ∷ ps) none z k = inr (apart_left ps none z k)
-
 -- ---- a set within another one, or with a bit of its own
 
 left_counted : (a b : List Base) → length (apart a b) + length a ≡ (left_count (aligned base_cmp a b) + left_count (aligned base_cmp a b)) + length b
@@ -179,24 +143,11 @@ left_counted a b =
     let r : length (rights ps) ≡ length b = ap length (rights-aligned base_cmp a b) in
     omega (arith, l, r, counted_left ps)
 
-right_counted : (a b : List Base) → length (apart a b) + length b ≡ (right_count (aligned base_cmp a b) + right_count (aligned base_cmp a b)) + length a
-right_counted a b =
-    let ps = aligned base_cmp a b in
-    let l : length (lefts ps) ≡ length a = ap length (lefts-aligned base_cmp a b) in
-    let r : length (rights ps) ≡ length b = ap length (rights-aligned base_cmp a b) in
-    omega (arith, l, r, counted_right ps)
-
 pub within_right : (a b : List Base) → AreRising a → AreRising b → length (apart a b) + length a ≡ length b → AreApart a (apart a b)
 within_right a b up top e =
     let ps = aligned base_cmp a b in
     let none : left_count ps ≡ 0 = omega (arith, left_counted a b, e) in
     record { each = λ z k m. right_lacks a b up top z (apart_right ps none z m) k }
-
-pub within_left : (a b : List Base) → AreRising a → AreRising b → length (apart a b) + length b ≡ length a → AreApart b (apart a b)
-within_left a b up top e =
-    let ps = aligned base_cmp a b in
-    let none : right_count ps ≡ 0 = omega (arith, right_counted a b, e) in
-    record { each = λ z k m. left_lacks a b up top z (apart_left ps none z m) k }
 
 lefts_hold : (a b : List Base) (x : Base) → IsAmong (left x) (aligned base_cmp a b) → IsAmong x a
 lefts_hold a b x k = subst (IsAmong x) (lefts-aligned base_cmp a b) (held (aligned base_cmp a b) k)
@@ -207,25 +158,10 @@ lefts_hold a b x k = subst (IsAmong x) (lefts-aligned base_cmp a b) (held (align
     held (right z ∷ ps) k = elim k as (λ _. IsAmong x (lefts ps)) [ inl e ↦ cc | inr later ↦ held ps later ]
     held (both z w ∷ ps) k = elim k as (λ _. IsAmong x (z ∷ lefts ps)) [ inl e ↦ cc | inr later ↦ inr (held ps later) ]
 
-rights_hold : (a b : List Base) (x : Base) → IsAmong (right x) (aligned base_cmp a b) → IsAmong x b
-rights_hold a b x k = subst (IsAmong x) (rights-aligned base_cmp a b) (held (aligned base_cmp a b) k)
-  where
-    held : (ps : List (Pair Base)) → IsAmong (right x) ps → IsAmong x (rights ps)
-    held [] k = absurd k
-    held (right z ∷ ps) k = elim k as (λ _. IsAmong x (z ∷ rights ps)) [ inl e ↦ inl (ap key_of e) | inr later ↦ inr (held ps later) ]
-    held (left z ∷ ps) k = elim k as (λ _. IsAmong x (rights ps)) [ inl e ↦ cc | inr later ↦ held ps later ]
-    held (both z w ∷ ps) k = elim k as (λ _. IsAmong x (w ∷ rights ps)) [ inl e ↦ cc | inr later ↦ inr (held ps later) ]
-
 pub own_left : (a b : List Base) → AreRising a → AreRising b → length (apart a b) + length a ≢ length b → HasOwn a b
 own_left a b up top ne = elim (some_left (aligned base_cmp a b)) as (λ _. HasOwn a b) [
   | inl none ↦ absurd (ne (omega (arith, left_counted a b, none)))
   | inr found ↦ record { base = found.0; here = lefts_hold a b found.0 found.1; not_there = left_lacks a b up top found.0 found.1 }
-]
-
-pub own_right : (a b : List Base) → AreRising a → AreRising b → length (apart a b) + length b ≢ length a → HasOwn b a
-own_right a b up top ne = elim (some_right (aligned base_cmp a b)) as (λ _. HasOwn b a) [
-  | inl none ↦ absurd (ne (omega (arith, right_counted a b, none)))
-  | inr found ↦ record { base = found.0; here = rights_hold a b found.0 found.1; not_there = right_lacks a b up top found.0 found.1 }
 ]
 
 pub own_apart : (a b : List Base) → length a ≢ 0 → AreApart a b → HasOwn a b

@@ -12,9 +12,9 @@ use Rattle.bit_sums.specs.declared.limits.TheConstants.{MOST_FACTOR_BITS}
 use Rattle.bit_sums.specs.Bits.{AreRising, apart}
 use Rattle.bit_sums.specs.Products.{IsFactor, IsJoinOf, IsProduct, IsProductOf}
 use Rattle.bit_sums.specs.Sums.{ProductView, AreAll, IsProductOver, product_value, xor_by}
-use Rattle.bit_sums.specs.inside.Steps.{AreApart, HasFactors, IsCrossed, IsFactored, IsWithin}
-use Rattle.bit_sums.proofs.SetLemmas.{all-apart, length-apart, rising-apart, value-append, value-apart}
-use Rattle.bit_sums.proofs.OwnLemmas.{apart_turned, own_apart, own_left, own_right, within_left, within_right}
+use Rattle.bit_sums.specs.inside.Steps.{AreApart, HasFactors, IsCrossed, IsFactored, IsWithin, JoinsFactors}
+use Rattle.bit_sums.proofs.SetLemmas.{all-apart, apart_swapped, length-apart, rising-apart, value-append, value-apart}
+use Rattle.bit_sums.proofs.OwnLemmas.{apart_turned, own_apart, own_left, within_right}
 
 -- ---- bits
 
@@ -31,9 +31,6 @@ within_first true true = refl
 within_first true false = refl
 within_first false true = refl
 within_first false false = refl
-
-within_second : (a b : Bool) → xor b (b && xor a b) ≡ (a && b)
-within_second a b = ap (λ (c : Bool). xor b (b && c)) (xor_swap a b) ∙ (within_first b a ∙ and_swap b a)
 
 -- ---- products of two factors
 
@@ -106,17 +103,15 @@ first_within a b rest bits product e f g same w =
       product_over = λ test x y. w.over test x (subst (AreAll test) (sym e) (all-apart (λ z. test z ≡ true) a b x y));
     }
 
-pub second_within : (a b rest bits : List Base) (product : Option ProductView) → rest ≡ apart a b → IsFactor a → IsFactor b
-    → length rest + length b ≡ length a → IsWithin b rest bits product → IsProductOf a b bits product
-second_within a b rest bits product e f g same w =
-    let long : length rest ≡ length (apart a b) = ap length e in
-    let bits_long : length bits ≡ length b = ap length w.bits in
+pub product_of_turned : (a b bits : List Base) (product : Option ProductView) → IsProductOf b a bits product → IsProductOf a b bits product
+product_of_turned a b bits product p =
+    let long : length (apart a b) ≡ length (apart b a) = ap length (apart_swapped a b) in
     record {
-      values = λ bit. rw (w.values bit, w.bits, e, value-apart bit a b) (within_second (xor_by bit a) (xor_by bit b));
-      few = omega (arith, bits_long, g.few);
-      light = omega (arith, long, bits_long, same);
-      bits_over = λ test x y. subst (AreAll test) (sym w.bits) y;
-      product_over = λ test x y. w.over test y (subst (AreAll test) (sym e) (all-apart (λ z. test z ≡ true) a b x y));
+      values = λ bit. p.values bit ∙ and_swap (xor_by bit b) (xor_by bit a);
+      few = p.few;
+      light = omega (arith, long, p.light);
+      bits_over = λ test x y. p.bits_over test y x;
+      product_over = λ test x y. p.product_over test y x;
     }
 
 pub neither_within : (a b bits : List Base) (p : ProductView) → bits ≡ [] → HasFactors a b p → IsProductOf a b bits (Some p)
@@ -136,16 +131,12 @@ own_factors a b rest e f g not_first not_second = record {
   first_few = f.few;
   second_few = g.few;
   own = own_left a b f.rises g.rises (subst (λ (l : List Base). length l + length a ≢ length b) e not_first);
-  other = own_right a b f.rises g.rises (subst (λ (l : List Base). length l + length b ≢ length a) e not_second);
+  other = own_left b a g.rises f.rises (subst (λ (l : List Base). length l + length b ≢ length a) (e ∙ apart_swapped a b) not_second);
 }
 
 pub apart_first : (a b rest : List Base) → rest ≡ apart a b → IsFactor a → IsFactor b → length rest + length a ≡ length b → AreApart a rest
 apart_first a b rest e f g same =
     subst (AreApart a) (sym e) (within_right a b f.rises g.rises (subst (λ (l : List Base). length l + length a ≡ length b) e same))
-
-pub apart_second : (a b rest : List Base) → rest ≡ apart a b → IsFactor a → IsFactor b → length rest + length b ≡ length a → AreApart b rest
-apart_second a b rest e f g same =
-    subst (AreApart b) (sym e) (within_left a b f.rises g.rises (subst (λ (l : List Base). length l + length b ≡ length a) e same))
 
 -- ---- two products that share a factor
 
@@ -242,35 +233,15 @@ pub some_items : (n m : ℕ) → n ≡ m → false ≡ (n == 0) → m ≢ 0
 some_items n m same none e = true≢false (sym (eq-eqb n 0 (same ∙ e)) ∙ sym none)
 
 -- a product is that of its factors
-own_factors_of : (p : ProductView) → HasFactors p.first p.second p
+pub own_factors_of : (p : ProductView) → HasFactors p.first p.second p
 own_factors_of p = inl refl
 
-turned_factors_of : (p : ProductView) → HasFactors p.second p.first p
+pub turned_factors_of : (p : ProductView) → HasFactors p.second p.first p
 turned_factors_of p = inr refl
 
-pub join_ac_bc : (p q : ProductView) (bits : List Base) (product : Option ProductView) → p.second ≡ q.second
-    → IsFactored p.first q.first p.second bits product → IsJoinOf p q bits product
-join_ac_bc p q bits product e f =
-    join_factored p q p.first q.first p.second bits product (own_factors_of p)
-    (subst (λ (l : List Base). HasFactors q.first l q) (sym e) (own_factors_of q)) f
-
-pub join_ac_cb : (p q : ProductView) (bits : List Base) (product : Option ProductView) → p.second ≡ q.first
-    → IsFactored p.first q.second p.second bits product → IsJoinOf p q bits product
-join_ac_cb p q bits product e f =
-    join_factored p q p.first q.second p.second bits product (own_factors_of p)
-    (subst (λ (l : List Base). HasFactors q.second l q) (sym e) (turned_factors_of q)) f
-
-pub join_ca_bc : (p q : ProductView) (bits : List Base) (product : Option ProductView) → p.first ≡ q.second
-    → IsFactored p.second q.first p.first bits product → IsJoinOf p q bits product
-join_ca_bc p q bits product e f =
-    join_factored p q p.second q.first p.first bits product (turned_factors_of p)
-    (subst (λ (l : List Base). HasFactors q.first l q) (sym e) (own_factors_of q)) f
-
-pub join_ca_cb : (p q : ProductView) (bits : List Base) (product : Option ProductView) → p.first ≡ q.first
-    → IsFactored p.second q.second p.first bits product → IsJoinOf p q bits product
-join_ca_cb p q bits product e f =
-    join_factored p q p.second q.second p.first bits product (turned_factors_of p)
-    (subst (λ (l : List Base). HasFactors q.second l q) (sym e) (turned_factors_of q)) f
+pub factored_joins : (a b c : List Base) (q : ProductView) → HasFactors b c q → (bits : List Base) (product : Option ProductView)
+    → IsFactored a b c bits product → JoinsFactors a c q bits product
+factored_joins a b c q hq bits product f = λ p hp. join_factored p q a b c bits product hp hq f
 
 pub join_by_first : (p q : ProductView) (sum bits : List Base) (product : Option ProductView) → sum ≡ apart p.first p.second → q.second ≡ sum
     → IsCrossed p.first p.second q.first bits product → IsJoinOf p q bits product

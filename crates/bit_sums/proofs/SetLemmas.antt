@@ -17,7 +17,7 @@ use Rattle.list_facts.proofs.BitLemmas.{xor_none, xor_left, xor_right, xor_both}
 use Rattle.list_facts.proofs.CutLemmas.{advanced}
 use Rattle.revs_tape.specs.Polynomials.{IsInOrder}
 use Rattle.revs_tape.specs.inside.Aligned.{Pair, left, right, both, aligned, alone, key_of}
-use Rattle.revs_tape.proofs.AlignmentLemmas.{lefts, rights, lefts-aligned, rights-aligned, IsTied, tied-aligned, by_key, in_order-aligned}
+use Rattle.revs_tape.proofs.AlignmentLemmas.{by_steps, lefts, rights, lefts-aligned, rights-aligned, IsTied, tied-aligned, by_key, in_order-aligned}
 use Rattle.dependency_graph.specs.declared.node.Base.{Base}
 use Rattle.dependency_graph.specs.declared.node.Base.TheVariants.{Input, Node}
 use Rattle.bit_sums.specs.Bits.{AreRising, apart, base_cmp}
@@ -83,6 +83,19 @@ alone-rights (y ∷ ys) = ap (λ ks. y ∷ ks) (alone-rights ys)
 alone-lefts : (a : List Base) → apart a [] ≡ a
 alone-lefts [] = refl
 alone-lefts (x ∷ xs) = ap (λ ks. x ∷ ks) (alone-lefts xs)
+
+turned : (x y : Base) (o : Ordering) → base_cmp x y ≡ o → base_cmp y x ≡ ordering_reverse o
+turned x y o e = base_total.antisymm y x ∙ ap ordering_reverse e
+
+-- what is apart does not depend on which set is the first
+pub apart_swapped : (a b : List Base) → apart a b ≡ apart b a
+apart_swapped = by_steps base_cmp (λ a b ps. alone ps ≡ apart b a) (record {
+  ends = λ ys. alone-rights ys ∙ sym (alone-lefts ys);
+  last = λ x xs h. ap (λ zs. x ∷ zs) h;
+  less = λ x xs y ys o h. rw (turned x y Less o) (ap (λ zs. x ∷ zs) h);
+  tie = λ x xs y ys o h. rw (turned x y Equal o) h;
+  more = λ x xs y ys o h. rw (turned x y Greater o) (ap (λ zs. y ∷ zs) h);
+})
 
 pub left_over : (a b : List Base) (i j : ℕ) → (length a ≤ i) ⊎ (length b ≤ j) → apart (drop i a) (drop j b) ≡ drop i a ++ drop j b
 left_over a b i j (inl h) = rw (drop_of_length-le a h) (alone-rights (drop j b))

@@ -4,7 +4,7 @@ ghost use Rattle.std.specs.Bool.{xor};
 ghost use Rattle.bit_sums.specs.Bits.{AreRising, HasOwn, apart};
 ghost use Rattle.bit_sums.specs.Products.{IsFactor, IsJoinOf, IsProduct, IsProductOf};
 ghost use Rattle.bit_sums.specs.inside.Steps.{AreApart, HasFactors, IsCrossed, IsFactored};
-ghost use Rattle.bit_sums.specs.inside.Steps.{IsWithin};
+ghost use Rattle.bit_sums.specs.inside.Steps.{IsWithin, JoinsFactors};
 
 use crate::MOST_FACTOR_BITS;
 use crate::bits::apart;
@@ -164,19 +164,25 @@ fn by_shared_factor(alloc: Global, p: &Product, q: &Product) -> Result<Option<Pa
     ensures { IfOk result (λ found.
         IfSome found (λ part. IsJoinOf p.now q.now part.bits.items part.product)) }
 {
-    let (a, c) = (p.first(), p.second());
+    if let Some(part) = by_factor(alloc, p.first(), p.second(), q)? {
+        return Ok(Some(part));
+    }
+    by_factor(alloc, p.second(), p.first(), q)
+}
+
+// The same for the product of `a` and `c`, where the other one has the factor `c`.
+fn by_factor(alloc: Global, a: &[Base], c: &[Base], q: &Product) -> Result<Option<Part>, Memory>
+    requires a { IsFactor a.now }
+    requires c { IsFactor c.now }
+    ensures { IfOk result (λ found. IfSome found (λ part.
+        JoinsFactors a.now c.now q.now part.bits.items part.product)) }
+{
     let (b, d) = (q.first(), q.second());
     if c == d {
         return factored(alloc, a, b, c);
     }
     if c == b {
         return factored(alloc, a, d, c);
-    }
-    if a == d {
-        return factored(alloc, c, b, a);
-    }
-    if a == b {
-        return factored(alloc, c, d, a);
     }
     Ok(None)
 }

@@ -7,7 +7,7 @@ use Rattle.std.specs.declared.cmp.Ordering.{Ordering}
 use Rattle.revs_tape.specs.inside.Aligned.{by_order}
 use Rattle.dependency_graph.specs.declared.node.Base.{Base}
 use Rattle.bit_sums.specs.Bits.{AreRising}
-use Rattle.bit_sums.specs.Products.{part_value}
+use Rattle.bit_sums.specs.Products.{IsJoinOf, part_value}
 use Rattle.bit_sums.specs.Sums.{ProductView, AreAll, IsProductOver, product_value, xor_by}
 use Rattle.bit_sums.specs.declared.limits.TheConstants.{MOST_FACTOR_BITS}
 
@@ -47,6 +47,12 @@ pub record IsFactored (a b c bits : List Base) (product : Option ProductView) : 
       → AreAll test bits
   pub product_over : (test : Base → Bool) → AreAll test a → AreAll test b → AreAll test c
       → IfSome product (IsProductOver test)
+
+-- bits and a product that are the sum of q and of the product of these two factors
+abbrev pub JoinsFactors : List Base → List Base → ProductView → List Base → Option ProductView
+    → Type 0
+JoinsFactors a c q bits product =
+    (p : ProductView) → HasFactors a c p → IsJoinOf p q bits product
 
 -- bits and a product that are `a b + c (a + b)`
 pub record IsCrossed (a b c bits : List Base) (product : Option ProductView) : Type 0 where
