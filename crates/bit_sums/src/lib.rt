@@ -7,6 +7,7 @@ mod growing;
 mod limits;
 mod product;
 mod sum;
+mod uses;
 
 pub use factor::Factor;
 pub use growing::{GrowingSum, MOST_JOINED};

@@ -1,23 +1,20 @@
 -- The table of last uses holds them.
 use Rattle.std.proofs.Common.{◌≡◌, ℕ, zero, suc, ◌+◌, ◌<◌, ◌≤◌, ◌==◌, Bool, true, false, cond}
-use Rattle.std.proofs.Common.{◌||◌, inl, inr, List, [], ◌∷◌, ◌++◌, length, map, set, get_or, filter}
+use Rattle.std.proofs.Common.{◌||◌, inl, inr, List, [], ◌∷◌, ◌++◌, length, map, set, get_or, drop, filter}
 use Rattle.std.proofs.Common.{refl, sym, ap, ◌∙◌, arith, length-append}
 use Rattle.std.specs.List.{flat_map}
 use Rattle.std.proofs.lemmas.Grind.{common_steps}
 use Rattle.std.proofs.lemmas.Bool.{cases_lt}
-use Rattle.std.proofs.lemmas.List.{append_assoc, map_push, length-map, get_or_append_left, get_or_push}
+use Rattle.std.proofs.lemmas.List.{append_assoc, drop_more, map_push, length-map, get_or_append_left, get_or_push}
 use Rattle.list_facts.specs.Lists.{below}
 use Rattle.list_facts.proofs.OrderLemmas.{length-below}
 use Rattle.revs_tape.specs.Cuts.{is_in, is_needed}
 use Rattle.dependency_graph.specs.declared.node.Base.{Base}
 use Rattle.dependency_graph.specs.declared.node.Base.TheVariants as bases
 use Rattle.dependency_graph.specs.declared.node.Node.{Node}
-use Rattle.dependency_graph.specs.declared.node.Sig.{Sig}
-use Rattle.dependency_graph.specs.declared.node.Sig.TheVariants.{Const, Is}
-use Rattle.dependency_graph.specs.Graphs.{GraphView, base_of, node_of, nodes_among, operands, steps_of, output_nodes}
-use Rattle.dependency_graph.specs.Uses.{last_use, last_uses_of}
-use Rattle.dependency_graph.specs.Uses.{with_use}
-use Rattle.dependency_graph.specs.inside.Tables.{with_uses, with_steps, with_outputs}
+use Rattle.dependency_graph.specs.Graphs.{GraphView, itself, node_of, nodes_among, operands, steps_of, output_nodes}
+use Rattle.dependency_graph.specs.Uses.{last_use, last_uses_by, last_uses_of, with_use, with_uses}
+use Rattle.dependency_graph.specs.inside.Tables.{with_steps}
 use Rattle.dependency_graph.proofs.UseLemmas.{last_before, last_more, filter_push, later_needed, needed_later}
 
 -- ---- lists of numbers below a bound
@@ -93,12 +90,32 @@ pub bases_used : (f : ℕ → ℕ) (n : ℕ) (bs : List Base) (at : ℕ)
 bases_used f n [] at = refl
 bases_used f n (b ∷ bs) at = then_used f n b (nodes_among bs) at (λ (z : List ℕ). with_uses z bs at) (λ g. bases_used g n bs at)
 
-outputs_used : (f : ℕ → ℕ) (n : ℕ) (outs : List Sig) (at : ℕ)
-    → with_outputs (map f (below n)) outs at ≡ map (λ i. cond (is_in (nodes_among (flat_map base_of outs)) i) at (f i)) (below n)
-outputs_used f n [] at = refl
-outputs_used f n (Const bit ∷ outs) at = outputs_used f n outs at
-outputs_used f n (Is b ∷ outs) at =
-    then_used f n b (nodes_among (flat_map base_of outs)) at (λ (z : List ℕ). with_outputs z outs at) (λ g. outputs_used g n outs at)
+-- ---- uses of bases, one list behind another
+
+pub uses-append : (table : List ℕ) (some more : List Base) (at : ℕ) → with_uses table (some ++ more) at ≡ with_uses (with_uses table some at) more at
+uses-append table [] more at = refl
+uses-append table (b ∷ bs) more at = uses-append (with_use table b at) bs more at
+
+pub used_then : (table first all : List ℕ) (some more : List Base) (at : ℕ) → first ≡ with_uses table some at → all ≡ with_uses first more at
+    → all ≡ with_uses table (some ++ more) at
+used_then table first all some more at e f = f ∙ ap (λ (z : List ℕ). with_uses z more at) e ∙ sym (uses-append table some more at)
+
+-- bases are made of themselves
+pub made_of_itself : (bs : List Base) → flat_map itself bs ≡ bs
+made_of_itself [] = refl
+made_of_itself (b ∷ bs) = ap (λ (z : List Base). b ∷ z) (made_of_itself bs)
+
+-- one of several that are made of bases
+pub one_more : {A : Type 0} (parts : A → List Base) (table next : List ℕ) (xs : List A) (i at : ℕ) (x : A) (final : List ℕ) → i < length xs
+    → x ≡ get_or xs i x → next ≡ with_uses table (parts x) at → with_uses table (flat_map parts (drop i xs)) at ≡ final
+    → with_uses next (flat_map parts (drop (i + 1) xs)) at ≡ final
+one_more parts table next xs i at x final low is e before =
+    let rest = flat_map parts (drop (i + 1) xs) in
+    ap (λ (z : List ℕ). with_uses z rest at) e
+    ∙ sym (uses-append table (parts x) rest at)
+    ∙ ap (λ y. with_uses table (parts y ++ rest) at) is
+    ∙ sym (ap (λ ys. with_uses table (flat_map parts ys) at) (drop_more xs i x low))
+    ∙ before
 
 -- ---- steps, each of some bases
 
@@ -138,16 +155,16 @@ step_at front x behind = nodes_at operands front x behind
 
 -- ---- the whole table
 
-pub table_is : (g : GraphView)
-    → with_outputs (with_steps operands (below (length g.nodes)) 0 g.nodes) g.outputs (length g.nodes) ≡ last_uses_of g
-table_is g =
-    let n = length g.nodes in
-    let steps = steps_of g in
-    let size : length steps ≡ n = length-map g.nodes step_of in
-    ap (λ (z : List ℕ). with_outputs (with_steps operands z 0 g.nodes) g.outputs n) (sym (map_itself (below n)))
-    ∙ ap (λ (z : List ℕ). with_outputs z g.outputs n) (steps_used operands g.nodes [] g.nodes n 0 refl refl)
-    ∙ outputs_used (last_before steps n) n g.outputs n
-    ∙ ap (λ (z : ℕ). map (λ i. cond (is_in (output_nodes g) i) z (last_before steps z i)) (below n)) (sym size)
+pub table_is : {A B : Type 0} (parts : A → List Base) (ends : B → List Base) (nodes : List A) (outputs : List B)
+    → with_uses (with_steps parts (below (length nodes)) 0 nodes) (flat_map ends outputs) (length nodes) ≡ last_uses_by parts ends nodes outputs
+table_is parts ends nodes outputs =
+    let n = length nodes in
+    let steps = map (nodes_in parts) nodes in
+    let size : length steps ≡ n = length-map nodes (nodes_in parts) in
+    ap (λ (z : List ℕ). with_uses (with_steps parts z 0 nodes) (flat_map ends outputs) n) (sym (map_itself (below n)))
+    ∙ ap (λ (z : List ℕ). with_uses z (flat_map ends outputs) n) (steps_used parts nodes [] nodes n 0 refl refl)
+    ∙ bases_used (last_before steps n) n (flat_map ends outputs) n
+    ∙ ap (λ (z : ℕ). map (λ i. cond (is_in (nodes_among (flat_map ends outputs)) i) z (last_before steps z i)) (below n)) (sym size)
 
 pub use_at : (g : GraphView) (n d : ℕ) → n < length g.nodes → get_or (last_uses_of g) n d ≡ last_use (steps_of g) (output_nodes g) n
 use_at g n d low = at_below (last_use (steps_of g) (output_nodes g)) (length g.nodes) n d low

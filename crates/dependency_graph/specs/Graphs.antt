@@ -25,6 +25,10 @@ pub record GraphView : Type 0 where
   pub sigs : List Sig
   pub outputs : List Sig
 
+-- a base is made of itself
+abbrev pub itself : Base → List Base
+itself base = base ∷ []
+
 -- the operands of a node
 abbrev pub operands : Node → List Base
 operands (Not a) = a ∷ []

@@ -1,11 +1,12 @@
 -- Last uses in a list of steps. A step is the list of its operands, as in the cuts of a tape.
 use Rattle.std.specs.Prelude.{◌≡◌, ◌↔◌, ℕ, ◌<◌, ◌≤◌, cond, List}
 use Rattle.std.specs.Prelude.{[], ◌∷◌, length, map, filter, slice_index_or, slice_set}
+use Rattle.std.specs.List.{flat_map}
 use Rattle.list_facts.specs.Lists.{IsAmong, below}
 use Rattle.revs_tape.specs.Cuts.{is_in, cut_at}
 use Rattle.dependency_graph.specs.declared.node.Base.{Base}
 use Rattle.dependency_graph.specs.declared.node.Base.TheVariants as bases
-use Rattle.dependency_graph.specs.Graphs.{GraphView, IsGraph, output_nodes, steps_of}
+use Rattle.dependency_graph.specs.Graphs.{GraphView, IsGraph, nodes_among, output_nodes, steps_of}
 
 -- the last number of a list; the given one where there is none
 abbrev pub last_of : ℕ → List ℕ → ℕ
@@ -27,6 +28,24 @@ LastUsesTellCuts = (steps : List (List ℕ)) (outputs : List ℕ) (i j : ℕ)
     → i < j → j ≤ length steps
     → IsAmong i (cut_at steps outputs j) ↔ (j ≤ last_use steps outputs i)
 
+-- ---- of nodes that are made of bases
+
+-- the last use of each of these nodes, in order, where these are the outputs
+abbrev pub last_uses_by : {A B : Type 0} → (A → List Base) → (B → List Base) → List A → List B
+    → List ℕ
+last_uses_by parts ends nodes outputs =
+    map (last_use (map (λ node. nodes_among (parts node)) nodes)
+    (nodes_among (flat_map ends outputs))) (below (length nodes))
+
+-- a table of last uses with that of this base, where the table has its place
+abbrev pub with_use : List ℕ → Base → ℕ → List ℕ
+with_use table (bases.Input i) place = table
+with_use table (bases.Node k) place = slice_set table k place
+
+abbrev pub with_uses : List ℕ → List Base → ℕ → List ℕ
+with_uses table [] place = table
+with_uses table (base ∷ rest) place = with_uses (with_use table base place) rest place
+
 -- ---- of a graph
 
 -- the last use of a node
@@ -36,11 +55,6 @@ last_use_in g n = last_use (steps_of g) (output_nodes g) n
 -- the last use of each node, in order
 abbrev pub last_uses_of : GraphView → List ℕ
 last_uses_of g = map (last_use_in g) (below (length g.nodes))
-
--- a table of last uses with that of this base, where the table has its place
-abbrev pub with_use : List ℕ → Base → ℕ → List ℕ
-with_use table (bases.Input i) place = table
-with_use table (bases.Node k) place = slice_set table k place
 
 -- What a graph keeps, with a table of its last uses.
 abbrev pub KeepsUses : GraphView → List ℕ → Type 0

@@ -11,4 +11,4 @@ mod uses;
 pub use graph::Graph;
 pub use law::{graphs_are_no_wider, last_uses_tell_cuts};
 pub use node::{Base, Node, Sig};
-pub use uses::{last_uses, set_use, unused};
+pub use uses::{MadeOfBases, last_uses, set_all_uses};

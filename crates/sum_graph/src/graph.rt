@@ -6,10 +6,10 @@ ghost use Rattle.sum_graph.specs.Uses.{sum_last_use};
 
 use crate::factors::factors_have_few_bits;
 use crate::plain::{plain_nodes, plain_outputs};
-use crate::uses::last_uses;
 use crate::walk::Walk;
 use bit_sums::Sum;
 use claim_check::Settled;
+use dependency_graph::last_uses;
 use revc_base::Memory;
 use std::alloc::Global;
 use std::marker::Model;
@@ -58,13 +58,7 @@ impl SumGraph {
         // These calls say that the factors of all products have few bits.
         factors_have_few_bits(&nodes);
         factors_have_few_bits(&outputs);
-        let last_uses = last_uses(alloc, &nodes, &outputs)?;
-        Ok(SumGraph {
-            inputs: graph.inputs(),
-            nodes,
-            outputs,
-            last_uses,
-        })
+        SumGraph::of_parts(alloc, graph.inputs(), nodes, outputs)
     }
 
     /// The plain graph of a settled graph: each of its nodes is its own sum, with the operands in
@@ -75,9 +69,24 @@ impl SumGraph {
     {
         let nodes = plain_nodes(alloc, graph)?;
         let outputs = plain_outputs(alloc, graph.outputs())?;
+        SumGraph::of_parts(alloc, graph.inputs(), nodes, outputs)
+    }
+
+    // The graph of these nodes and outputs.
+    fn of_parts(
+        alloc: Global,
+        inputs: u32,
+        nodes: Vec<Sum>,
+        outputs: Vec<Sum>,
+    ) -> Result<SumGraph, Memory>
+        requires { IsSumGraph
+            (record { inputs = inputs; nodes = nodes.items; outputs = outputs.items }) }
+        ensures { IfOk result (λ graph.
+            graph ≡ record { inputs = inputs; nodes = nodes.items; outputs = outputs.items }) }
+    {
         let last_uses = last_uses(alloc, &nodes, &outputs)?;
         Ok(SumGraph {
-            inputs: graph.inputs(),
+            inputs,
             nodes,
             outputs,
             last_uses,

@@ -9,7 +9,6 @@ mod placing;
 mod plain;
 mod shared;
 mod slot;
-mod uses;
 mod walk;
 
 pub use graph::SumGraph;

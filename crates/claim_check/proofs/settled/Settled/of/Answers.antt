@@ -22,3 +22,6 @@ returns c =
       nodes = c.in_ok-nodes.nodes.items;
       outputs = c.in_ok-nodes.outputs.items;
     })) (sym c.inputs-inputs.ensures.inputs) c.in_ok-nodes.ensures
+
+pub invariant_of-result : goal.invariant_of-result
+invariant_of-result c = ((returns c).settled, rw (c.deref.ensures.value, c.deref-2.ensures.value) at c.in_ok-last_uses.ensures)

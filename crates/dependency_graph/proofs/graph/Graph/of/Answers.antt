@@ -21,7 +21,7 @@ invariant_of-result c =
     let all : parts ≡ folded_by nothing_folded t.entries = search rules in
     let found : c.in_ok-outputs.outputs.items ≡ map (sig_of parts.sigs) t.outputs = search rules in
     let g : GraphView = record { inputs = c.inputs.result; nodes = parts.nodes; sigs = parts.sigs; outputs = c.in_ok-outputs.outputs.items } in
-    let table : c.in_ok-last_uses.last_uses.items ≡ last_uses_of g = search rules in
+    let table : c.in_ok-last_uses.last_uses.items ≡ last_uses_of g = rw (c.deref-2.ensures.value, c.deref-3.ensures.value) at c.in_ok-last_uses.ensures in
     (parts_are t g.inputs parts g.outputs c.inputs.ensures.tape c.inputs.ensures.inputs all found, table)
 
 fits : {g : GraphView} → IsGraph g → length g.nodes ≤ MOST_WRITES

@@ -1,0 +1,25 @@
+// What products and sums are made of.
+use crate::{Product, Sum};
+use dependency_graph::{MadeOfBases, set_all_uses};
+
+impl MadeOfBases for Product {
+    ghost use Rattle.bit_sums.specs.Sums.{product_bases};
+
+    ghost bases = { product_bases };
+
+    fn set_uses(&self, table: &mut [u32], place: u32) {
+        set_all_uses(table, self.first(), place);
+        set_all_uses(table, self.second(), place);
+    }
+}
+
+impl MadeOfBases for Sum {
+    ghost use Rattle.bit_sums.specs.Sums.{bases_of};
+
+    ghost bases = { bases_of };
+
+    fn set_uses(&self, table: &mut [u32], place: u32) {
+        set_all_uses(table, self.bits(), place);
+        set_all_uses(table, self.products(), place);
+    }
+}

@@ -1,7 +1,0 @@
-use Rattle.std.proofs.Common.{◌≡◌, drop}
-use Rattle.dependency_graph.specs.inside.Tables.{with_steps}
-use Rattle.bit_sums.specs.Sums.{bases_of}
-use Rattle.sum_graph.proofs.uses.set_node_uses.Given as goal
-
-abbrev pub invariant-loop-place : goal.invariant-loop-place
-invariant-loop-place l = with_steps bases_of l.table l.place (drop l.place l.nodes) ≡ with_steps bases_of l.initial.table 0 l.nodes
