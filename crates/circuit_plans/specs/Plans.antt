@@ -48,17 +48,6 @@ role_at roles line =
 abbrev pub number_at : Roles → ℕ → ℕ
 number_at roles line = line - first_of roles (role_at roles line)
 
--- a plan of this circuit, whose lines have these roles
-abbrev pub laid_of : CircuitView → Roles → LaidView
-laid_of circuit roles =
-    record {
-      circuit = circuit;
-      inputs = roles.inputs;
-      outputs = roles.outputs;
-      work = roles.work;
-      borrowed = roles.borrowed;
-    }
-
 -- the roles of a plan's lines
 abbrev pub roles_of : LaidView → Roles
 roles_of laid =

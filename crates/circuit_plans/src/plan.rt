@@ -170,11 +170,17 @@ pub struct Laid {
 
 impl Model for Laid {
     ghost use Rattle.std.specs.Prelude.{◌≡◌};
-    ghost use Rattle.circuit_plans.specs.Plans.{LaidView, laid_of, lines_in};
+    ghost use Rattle.circuit_plans.specs.Plans.{LaidView, lines_in};
 
     ghost Value = { LaidView };
 
-    ghost view = { λ l. laid_of l.circuit l.roles };
+    ghost view = { λ l. record {
+      circuit = l.circuit;
+      inputs = l.roles.inputs;
+      outputs = l.roles.outputs;
+      work = l.roles.work;
+      borrowed = l.roles.borrowed;
+    } };
 
     ghost invariant = { λ l. lines_in l.roles ≡ l.circuit.lines };
 }

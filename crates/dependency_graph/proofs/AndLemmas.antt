@@ -1,5 +1,6 @@
 -- The ANDs of a graph are ANDs of its tape.
-use Rattle.std.proofs.Common.{ℕ, ◌+◌, ◌≤◌, true, false, inl, inr, List, [], ◌∷◌, arith}
+use Rattle.std.proofs.Common.{ℕ, ◌+◌, ◌≤◌, Bool, true, false, ◌&&◌, inl, inr, List, [], ◌∷◌, arith}
+use Rattle.std.specs.Bool.{xor}
 use Rattle.std.specs.List.{sum_by}
 use Rattle.std.proofs.lemmas.List.Sums.{sum_by-append, sum_by-cons}
 use Rattle.std.proofs.lemmas.Bool.{cases_Bool}
@@ -9,10 +10,13 @@ use Rattle.revs_tape.specs.Measures as writes
 use Rattle.revs_tape.specs.Tapes.{TapeView}
 use Rattle.dependency_graph.specs.declared.fold.Reduct.{Reduct}
 use Rattle.dependency_graph.specs.declared.fold.Reduct.TheVariants.{Known, New}
+use Rattle.dependency_graph.specs.declared.node.Base.{Base}
+use Rattle.dependency_graph.specs.declared.node.Node.{Node}
+use Rattle.dependency_graph.specs.declared.node.Node.TheVariants.{Xor, And}
 use Rattle.dependency_graph.specs.declared.node.Sig.{Sig}
 use Rattle.dependency_graph.specs.declared.node.Sig.TheVariants.{Const, Is}
 use Rattle.dependency_graph.specs.Graphs.{and_count, ands_in, sig_of}
-use Rattle.dependency_graph.specs.Folds.{FoldView, is_same, xor_of, and_of, folded, with_folded, with_write, folded_by, nothing_folded, graph_of}
+use Rattle.dependency_graph.specs.Folds.{FoldView, is_same, and_constant, folded_pair, xor_constant, folded, with_folded, with_write, folded_by, nothing_folded, graph_of}
 
 -- ---- one write
 
@@ -21,32 +25,32 @@ abbrev new_ands : Reduct → ℕ
 new_ands (Known sig) = 0
 new_ands (New node) = and_count node
 
-xor_has_none : (a b : Sig) → new_ands (xor_of a b) ≤ 0
-xor_has_none (Const a) (Const b) = omega arith
-xor_has_none (Const true) (Is base) = omega arith
-xor_has_none (Const false) (Is base) = omega arith
-xor_has_none (Is base) (Const true) = omega arith
-xor_has_none (Is base) (Const false) = omega arith
-xor_has_none (Is a) (Is b) = elim (cases_Bool (is_same a b)) [
+-- no more than come with a constant and a base, and than a node is
+pair_ands : (most : ℕ) (bits : Bool → Bool → Bool) (mixed : Bool → Base → Reduct) (twice : Base → Sig) (node : Base → Base → Node)
+    → ((bit : Bool) (base : Base) → new_ands (mixed bit base) ≤ most) → ((a b : Base) → and_count (node a b) ≤ most)
+    → (a b : Sig) → new_ands (folded_pair bits mixed twice node a b) ≤ most
+pair_ands most bits mixed twice node few one (Const a) (Const b) = omega arith
+pair_ands most bits mixed twice node few one (Const bit) (Is base) = few bit base
+pair_ands most bits mixed twice node few one (Is base) (Const bit) = few bit base
+pair_ands most bits mixed twice node few one (Is a) (Is b) = elim (cases_Bool (is_same a b)) [
   | inl e ↦ rw e (omega arith)
-  | inr e ↦ rw e (omega arith)
+  | inr e ↦ rw e (one a b)
 ]
 
-and_has_one : (a b : Sig) → new_ands (and_of a b) ≤ 1
-and_has_one (Const a) (Const b) = omega arith
-and_has_one (Const true) (Is base) = omega arith
-and_has_one (Const false) (Is base) = omega arith
-and_has_one (Is base) (Const true) = omega arith
-and_has_one (Is base) (Const false) = omega arith
-and_has_one (Is a) (Is b) = elim (cases_Bool (is_same a b)) [
-  | inl e ↦ rw e (omega arith)
-  | inr e ↦ rw e (omega arith)
-]
+xor_has_none : (bit : Bool) (base : Base) → new_ands (xor_constant bit base) ≤ 0
+xor_has_none true base = omega arith
+xor_has_none false base = omega arith
+
+and_has_none : (bit : Bool) (base : Base) → new_ands (and_constant bit base) ≤ 1
+and_has_none true base = omega arith
+and_has_none false base = omega arith
 
 folded_ands : (sigs : List Sig) (e : Entry) → new_ands (folded sigs e) ≤ writes.and_count e
 folded_ands sigs (entries.Const bit) = omega arith
-folded_ands sigs (entries.Xor a b) = xor_has_none (sig_of sigs a) (sig_of sigs b)
-folded_ands sigs (entries.And a b) = and_has_one (sig_of sigs a) (sig_of sigs b)
+folded_ands sigs (entries.Xor a b) =
+    pair_ands 0 xor xor_constant (λ base. Const false) Xor xor_has_none (λ a b. omega arith) (sig_of sigs a) (sig_of sigs b)
+folded_ands sigs (entries.And a b) =
+    pair_ands 1 ◌&&◌ and_constant Is And and_has_none (λ a b. omega arith) (sig_of sigs a) (sig_of sigs b)
 
 -- ---- all writes
 

@@ -1,10 +1,11 @@
 -- What a fold keeps: operands are earlier and different, and each node is what a write became.
-use Rattle.std.proofs.Common.{◌≡◌, ◌≢◌, ℕ, zero, suc, ◌+◌, ◌<◌, ◌≤◌, true, false, inl, inr, List, [], ◌∷◌, ◌++◌, length, map, get_or, refl, sym, ap, subst}
+use Rattle.std.proofs.Common.{◌≡◌, ◌≢◌, ℕ, zero, suc, ◌+◌, ◌<◌, ◌≤◌, Bool, true, false, ◌&&◌, inl, inr, List, [], ◌∷◌, ◌++◌, length, map, get_or, refl, sym, ap, subst}
 use Rattle.std.proofs.Common.{◌∙◌, arith, length-append}
+use Rattle.std.specs.Bool.{xor}
 use Rattle.std.specs.List.{AllByRecursion}
 use Rattle.std.proofs.lemmas.Bool.{cases_Bool, cases_eq, eq-eqb, eqb-true}
 use Rattle.list_facts.specs.Lists.{IsAmong}
-use Rattle.list_facts.proofs.AllLemmas.{AllByRecursion-weaker, AllByRecursion-push, AllByRecursion-map}
+use Rattle.list_facts.proofs.AllLemmas.{AllByRecursion-weaker, AllByRecursion-push, AllByRecursion-map, AllFrom-push}
 use Rattle.list_facts.proofs.AmongLemmas.{among_left, among_right}
 use Rattle.revs_tape.specs.declared.tape.Ref.{Ref}
 use Rattle.revs_tape.specs.declared.tape.Ref.TheVariants as refs
@@ -17,10 +18,11 @@ use Rattle.dependency_graph.specs.declared.fold.Reduct.TheVariants.{Known, New}
 use Rattle.dependency_graph.specs.declared.node.Base.{Base}
 use Rattle.dependency_graph.specs.declared.node.Base.TheVariants as bases
 use Rattle.dependency_graph.specs.declared.node.Node.{Node}
+use Rattle.dependency_graph.specs.declared.node.Node.TheVariants.{Xor, And}
 use Rattle.dependency_graph.specs.declared.node.Sig.{Sig}
 use Rattle.dependency_graph.specs.declared.node.Sig.TheVariants.{Const, Is}
 use Rattle.dependency_graph.specs.Graphs.{IsGraph, IsKnownBase, IsKnownSig, IsKnownNode, AreKnownNodes, sig_of}
-use Rattle.dependency_graph.specs.Folds.{FoldView, is_same, xor_of, and_of, folded, with_folded, with_write, folded_by, nothing_folded, graph_of}
+use Rattle.dependency_graph.specs.Folds.{FoldView, and_constant, is_same, folded_pair, xor_constant, folded, with_folded, with_write, folded_by, nothing_folded, graph_of}
 
 -- ---- two bases
 
@@ -64,35 +66,36 @@ abbrev IsKnownFolded : ℕ → ℕ → Reduct → Type 0
 IsKnownFolded n k (Known sig) = IsKnownSig n k sig
 IsKnownFolded n k (New node) = IsKnownNode n k node
 
-xor_known : (n k : ℕ) (a b : Sig) → IsKnownSig n k a → IsKnownSig n k b → IsKnownFolded n k (xor_of a b)
-xor_known n k (Const a) (Const b) p q = tt
-xor_known n k (Const true) (Is base) p q = q
-xor_known n k (Const false) (Is base) p q = q
-xor_known n k (Is base) (Const true) p q = p
-xor_known n k (Is base) (Const false) p q = p
-xor_known n k (Is a) (Is b) p q = elim (cases_Bool (is_same a b)) [
-  | inl e ↦ rw e tt
-  | inr e ↦ rw e (p, q, other_bases a b e)
+pair_known : (n k : ℕ) (bits : Bool → Bool → Bool) (mixed : Bool → Base → Reduct) (twice : Base → Sig) (node : Base → Base → Node)
+    → ((bit : Bool) (base : Base) → IsKnownBase n k base → IsKnownFolded n k (mixed bit base))
+    → ((base : Base) → IsKnownBase n k base → IsKnownSig n k (twice base))
+    → ((a b : Base) → IsKnownBase n k a × IsKnownBase n k b × (a ≢ b) → IsKnownNode n k (node a b))
+    → (a b : Sig) → IsKnownSig n k a → IsKnownSig n k b → IsKnownFolded n k (folded_pair bits mixed twice node a b)
+pair_known n k bits mixed twice node with_constant itself other (Const a) (Const b) p q = tt
+pair_known n k bits mixed twice node with_constant itself other (Const bit) (Is base) p q = with_constant bit base q
+pair_known n k bits mixed twice node with_constant itself other (Is base) (Const bit) p q = with_constant bit base p
+pair_known n k bits mixed twice node with_constant itself other (Is a) (Is b) p q = elim (cases_Bool (is_same a b)) [
+  | inl e ↦ rw e (itself a p)
+  | inr e ↦ rw e (other a b (p, q, other_bases a b e))
 ]
 
-and_known : (n k : ℕ) (a b : Sig) → IsKnownSig n k a → IsKnownSig n k b → IsKnownFolded n k (and_of a b)
-and_known n k (Const a) (Const b) p q = tt
-and_known n k (Const true) (Is base) p q = q
-and_known n k (Const false) (Is base) p q = tt
-and_known n k (Is base) (Const true) p q = p
-and_known n k (Is base) (Const false) p q = tt
-and_known n k (Is a) (Is b) p q = elim (cases_Bool (is_same a b)) [
-  | inl e ↦ rw e p
-  | inr e ↦ rw e (p, q, other_bases a b e)
-]
+xor_constant_known : (n k : ℕ) (bit : Bool) (base : Base) → IsKnownBase n k base → IsKnownFolded n k (xor_constant bit base)
+xor_constant_known n k true base p = p
+xor_constant_known n k false base p = p
+
+and_constant_known : (n k : ℕ) (bit : Bool) (base : Base) → IsKnownBase n k base → IsKnownFolded n k (and_constant bit base)
+and_constant_known n k true base p = p
+and_constant_known n k false base p = tt
 
 folded_known : (n k m : ℕ) (writes : List Sig) (e : Entry) → AllByRecursion (IsKnownSig n k) writes → IsKnownEntry n m e
     → IsKnownFolded n k (folded writes e)
 folded_known n k m writes (entries.Const bit) all known = tt
 folded_known n k m writes (entries.Xor a b) all known =
-    xor_known n k (sig_of writes a) (sig_of writes b) (sig_known n k m writes a all known.0) (sig_known n k m writes b all known.1)
+    pair_known n k xor xor_constant (λ base. Const false) Xor (xor_constant_known n k) (λ base p. tt) (λ a b known. known) (sig_of writes a) (sig_of writes b)
+    (sig_known n k m writes a all known.0) (sig_known n k m writes b all known.1)
 folded_known n k m writes (entries.And a b) all known =
-    and_known n k (sig_of writes a) (sig_of writes b) (sig_known n k m writes a all known.0) (sig_known n k m writes b all known.1)
+    pair_known n k ◌&&◌ and_constant Is And (and_constant_known n k) (λ base p. p) (λ a b known. known) (sig_of writes a) (sig_of writes b)
+    (sig_known n k m writes a all known.0) (sig_known n k m writes b all known.1)
 
 -- ---- all writes
 
@@ -102,11 +105,6 @@ pub record IsFolded (n : ℕ) (f : FoldView) : Type 0 where
   pub sigs : AllByRecursion (IsKnownSig n (length f.nodes)) f.sigs
   pub made : (k : ℕ) → k < length f.nodes → IsAmong (Is (bases.Node k)) f.sigs
   pub few : length f.nodes ≤ length f.sigs
-
-nodes_push : (n k : ℕ) (xs : List Node) (x : Node) → AreKnownNodes n k xs → IsKnownNode n (k + length xs) x → AreKnownNodes n k (xs ++ x ∷ [])
-nodes_push n k [] x known is = (subst (λ (z : ℕ). IsKnownNode n z x) (omega arith) is, tt)
-nodes_push n k (y ∷ ys) x known is =
-    (known.0, nodes_push n (k + 1) ys x known.1 (subst (λ (z : ℕ). IsKnownNode n z x) (omega arith) is))
 
 pub folded_is : (n : ℕ) (f : FoldView) (x : Reduct) → IsFolded n f → IsKnownFolded n (length f.nodes) x → IsFolded n (with_folded f x)
 folded_is n f (Known sig) is known = record {
@@ -119,7 +117,7 @@ folded_is n f (New node) is known =
     let last : Sig = Is (bases.Node (length f.nodes)) in
     let more : length (f.nodes ++ node ∷ []) ≡ length f.nodes + 1 = length-append f.nodes (node ∷ []) in
     record {
-      nodes = nodes_push n 0 f.nodes node is.nodes (subst (λ (z : ℕ). IsKnownNode n z node) (omega arith) known);
+      nodes = AllFrom-push (IsKnownNode n) 0 f.nodes node is.nodes (subst (λ (z : ℕ). IsKnownNode n z node) (omega arith) known);
       sigs = AllByRecursion-push (IsKnownSig n (length (f.nodes ++ node ∷ []))) f.sigs last
           (AllByRecursion-weaker (IsKnownSig n (length f.nodes)) (IsKnownSig n (length (f.nodes ++ node ∷ [])))
           (λ s k. sig_later n (length f.nodes) (length (f.nodes ++ node ∷ [])) s (omega (arith, more)) k) f.sigs is.sigs)

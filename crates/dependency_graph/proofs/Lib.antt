@@ -1,6 +1,7 @@
 pub mod AndLemmas
 pub mod CutLemmas
 pub mod FoldLemmas
+pub mod MadeLemmas
 pub mod OriginLemmas
 pub mod ReachLemmas
 pub mod TableLemmas

@@ -1,6 +1,6 @@
 -- The bits of a tape are those of its graph.
 use Rattle.std.proofs.Common.{◌≡◌, ℕ, zero, suc, ◌+◌, ◌<◌, Bool, true, false, ◌&&◌, inl, inr, List, [], ◌∷◌, ◌++◌, length, map, refl, sym, ap, subst}
-use Rattle.std.proofs.Common.{◌∙◌, arith, length-append}
+use Rattle.std.proofs.Common.{◌∙◌, arith}
 use Rattle.std.specs.Bool.{xor}
 use Rattle.std.specs.List.{AllByRecursion}
 use Rattle.std.proofs.lemmas.Bool.{cases_Bool}
@@ -14,11 +14,11 @@ use Rattle.revs_tape.specs.declared.tape.Entry.{Entry}
 use Rattle.revs_tape.specs.declared.tape.Entry.TheVariants as entries
 use Rattle.revs_tape.specs.Measures.{inputs_of}
 use Rattle.revs_tape.specs.Tapes.{TapeView, IsTape, AreKnown, bit_at, bit_on, entry_bit, written_by}
+use Rattle.dependency_graph.proofs.MadeLemmas.{bits_made-append, length-bits_made}
 use Rattle.dependency_graph.specs.declared.fold.Reduct.{Reduct}
 use Rattle.dependency_graph.specs.declared.fold.Reduct.TheVariants.{Known, New}
 use Rattle.dependency_graph.specs.declared.node.Base.{Base}
 use Rattle.dependency_graph.specs.declared.node.Base.TheVariants as bases
-use Rattle.dependency_graph.specs.declared.node.Node.{Node}
 use Rattle.dependency_graph.specs.declared.node.Sig.{Sig}
 use Rattle.dependency_graph.specs.declared.node.Sig.TheVariants.{Const, Is}
 use Rattle.dependency_graph.specs.Graphs.{IsKnownSig, IsGraphOf, sig_of, base_bit, sig_bit, node_bit, made_by, value_on}
@@ -102,16 +102,6 @@ sigs_stay input n bits more (sig ∷ writes) known =
     ap (λ (b : Bool). b ∷ map (sig_bit input (bits ++ more)) writes) (sig_stays input n bits more sig known.0)
     ∙ ap (λ (z : List Bool). sig_bit input bits sig ∷ z) (sigs_stay input n bits more writes known.1)
 
-pub made_push : (input : ℕ → Bool) (made : List Bool) (nodes : List Node) (node : Node)
-    → made_by input made (nodes ++ node ∷ []) ≡ made_by input made nodes ++ node_bit input (made_by input made nodes) node ∷ []
-made_push input made [] node = refl
-made_push input made (x ∷ nodes) node = made_push input (made ++ node_bit input made x ∷ []) nodes node
-
-pub length-made_by : (input : ℕ → Bool) (made : List Bool) (nodes : List Node) → length (made_by input made nodes) ≡ length made + length nodes
-length-made_by input made [] = omega arith
-length-made_by input made (x ∷ nodes) =
-    length-made_by input (made ++ node_bit input made x ∷ []) nodes ∙ omega (arith, length-append made (node_bit input made x ∷ []))
-
 -- ---- all writes
 
 abbrev made_in : (ℕ → Bool) → FoldView → List Bool
@@ -128,12 +118,12 @@ bits_folded input n f (New node) is =
     let made = made_in input f in
     let bit = node_bit input made node in
     let last : Sig = Is (bases.Node (length f.nodes)) in
-    let size : length made ≡ length f.nodes = length-made_by input [] f.nodes ∙ omega arith in
+    let size : length made ≡ length f.nodes = length-bits_made (node_bit input) [] f.nodes ∙ omega arith in
     let known : AllByRecursion (IsKnownSig n (length made)) f.sigs =
     subst (λ (z : ℕ). AllByRecursion (IsKnownSig n z) f.sigs) (sym size) is.sigs in
     let here : bit_of (made ++ bit ∷ []) (length f.nodes) ≡ bit =
     subst (λ (z : ℕ). bit_of (made ++ bit ∷ []) z ≡ bit) size (bit_last made bit) in
-    ap (λ (z : List Bool). map (sig_bit input z) (f.sigs ++ last ∷ [])) (made_push input [] f.nodes node)
+    ap (λ (z : List Bool). map (sig_bit input z) (f.sigs ++ last ∷ [])) (bits_made-append (node_bit input) [] f.nodes (node ∷ []))
     ∙ map_push (sig_bit input (made ++ bit ∷ [])) f.sigs last
     ∙ ap (λ (z : List Bool). z ++ bit_of (made ++ bit ∷ []) (length f.nodes) ∷ []) (sigs_stay input n made (bit ∷ []) f.sigs known)
     ∙ ap (λ (b : Bool). bits_in input f ++ b ∷ []) here

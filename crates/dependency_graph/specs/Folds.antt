@@ -29,12 +29,19 @@ abbrev pub xor_constant : Bool → Base → Reduct
 xor_constant false base = Known (Is base)
 xor_constant true base = New (Not base)
 
+-- What two things are folded to by an operation on bits: two constants to one, a constant and a base as is told, a base
+-- with itself to a known thing, and two other bases to a node.
+abbrev pub folded_pair : (Bool → Bool → Bool) → (Bool → Base → Reduct) → (Base → Sig)
+    → (Base → Base → Node) → Sig → Sig → Reduct
+folded_pair bits mixed twice node (Const a) (Const b) = Known (Const (bits a b))
+folded_pair bits mixed twice node (Const bit) (Is base) = mixed bit base
+folded_pair bits mixed twice node (Is base) (Const bit) = mixed bit base
+folded_pair bits mixed twice node (Is a) (Is b) =
+    cond (is_same a b) (Known (twice a)) (New (node a b))
+
 -- a base with itself gives false
 abbrev pub xor_of : Sig → Sig → Reduct
-xor_of (Const a) (Const b) = Known (Const (xor a b))
-xor_of (Const bit) (Is base) = xor_constant bit base
-xor_of (Is base) (Const bit) = xor_constant bit base
-xor_of (Is a) (Is b) = cond (is_same a b) (Known (Const false)) (New (Xor a b))
+xor_of a b = folded_pair xor xor_constant (λ base. Const false) Xor a b
 
 -- false and a base give false, true and a base give the base
 abbrev pub and_constant : Bool → Base → Reduct
@@ -43,10 +50,7 @@ and_constant true base = Known (Is base)
 
 -- a base with itself gives the base
 abbrev pub and_of : Sig → Sig → Reduct
-and_of (Const a) (Const b) = Known (Const (a && b))
-and_of (Const bit) (Is base) = and_constant bit base
-and_of (Is base) (Const bit) = and_constant bit base
-and_of (Is a) (Is b) = cond (is_same a b) (Known (Is a)) (New (And a b))
+and_of a b = folded_pair ◌&&◌ and_constant Is And a b
 
 -- what a write is folded to, with what the earlier writes became
 abbrev pub folded : List Sig → Entry → Reduct

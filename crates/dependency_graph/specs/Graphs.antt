@@ -1,10 +1,10 @@
 -- Dependency graphs: nodes made of inputs and of earlier nodes, and what a tape's bits are in them.
-use Rattle.std.specs.Prelude.{◌≡◌, ◌≢◌, ℕ, ◌+◌, ◌<◌, ◌≤◌, Bool, false, not}
+use Rattle.std.specs.Prelude.{◌≡◌, ◌≢◌, ℕ, ◌<◌, ◌≤◌, Bool, false, not}
 use Rattle.std.specs.Prelude.{◌&&◌, List, [], ◌∷◌, ◌++◌, length, map, slice_index_or, ⊤}
 use Rattle.std.specs.Bool.{xor}
 use Rattle.std.specs.List.{AllByRecursion, flat_map, sum_by}
 use Rattle.list_facts.specs.Bits.{bit_of}
-use Rattle.list_facts.specs.Lists.{IsAmong}
+use Rattle.list_facts.specs.Lists.{AllFrom, IsAmong}
 use Rattle.revs_tape.specs.declared.limits.TheConstants.{MOST_WRITES}
 use Rattle.revs_tape.specs.declared.tape.Ref.{Ref}
 use Rattle.revs_tape.specs.declared.tape.Ref.TheVariants as refs
@@ -92,8 +92,7 @@ IsKnownNode n k (And a b) = IsKnownBase n k a × IsKnownBase n k b × (a ≢ b)
 
 -- the nodes from the k-th on: each is made of inputs and of earlier nodes
 abbrev pub AreKnownNodes : ℕ → ℕ → List Node → Type 0
-AreKnownNodes n k [] = ⊤
-AreKnownNodes n k (node ∷ rest) = IsKnownNode n k node × AreKnownNodes n (k + 1) rest
+AreKnownNodes n k nodes = AllFrom (IsKnownNode n) k nodes
 
 -- What a graph keeps: operands are earlier and different, each node is what some write became, and
 -- there are at most as many nodes as writes.
@@ -123,11 +122,13 @@ node_bit assignment made (Xor a b) =
 node_bit assignment made (And a b) =
     base_bit assignment made a && base_bit assignment made b
 
--- the bits made so far, and then those of these nodes, one after another
+-- the bits made so far, and then those of these steps, one after another
+abbrev pub bits_made : {A : Type 0} → (List Bool → A → Bool) → List Bool → List A → List Bool
+bits_made bit made [] = made
+bits_made bit made (step ∷ rest) = bits_made bit (made ++ bit made step ∷ []) rest
+
 abbrev pub made_by : (ℕ → Bool) → List Bool → List Node → List Bool
-made_by assignment made [] = made
-made_by assignment made (node ∷ rest) =
-    made_by assignment (made ++ node_bit assignment made node ∷ []) rest
+made_by assignment made nodes = bits_made (node_bit assignment) made nodes
 
 -- the value of a base or a constant of a graph
 abbrev pub value_on : GraphView → (ℕ → Bool) → Sig → Bool

@@ -1,18 +1,19 @@
 -- The value of a node of a lean graph is that of its sum; nodes that come later change no value.
-use Rattle.std.proofs.Common.{◌≡◌, ℕ, zero, suc, ◌+◌, ◌≤◌, Bool, true, ◌&&◌, List, [], ◌∷◌, ◌++◌, length, slice_get, Some}
-use Rattle.std.proofs.Common.{refl, sym, ap, ap₂, ◌∙◌, subst, arith, append_assoc, append-nil, length-append}
+use Rattle.std.proofs.Common.{◌≡◌, ℕ, ◌+◌, ◌≤◌, Bool, true, ◌&&◌, List, [], ◌∷◌, ◌++◌, length, slice_get, Some}
+use Rattle.std.proofs.Common.{refl, sym, ap, ap₂, ◌∙◌, subst, arith}
 use Rattle.std.specs.Bool.{xor}
 use Rattle.std.specs.List.{AllByRecursion}
 use Rattle.std.proofs.lemmas.Bool.{lt-ltb, ltb-true}
-use Rattle.std.proofs.lemmas.List.{get_or_append_left, get_or_at}
-use Rattle.std.proofs.lemmas.Option.{none-some, same_Some}
+use Rattle.std.proofs.lemmas.List.{get_or_append_left}
 use Rattle.list_facts.specs.Bits.{bit_of}
+use Rattle.list_facts.proofs.AllLemmas.{AllFrom-push}
+use Rattle.dependency_graph.proofs.MadeLemmas.{bits_made-append, length-bits_made, made_at, made_front}
 use Rattle.list_facts.proofs.AllLemmas.{AllByRecursion-weaker}
 use Rattle.dependency_graph.specs.declared.node.Base.{Base}
 use Rattle.dependency_graph.specs.declared.node.Base.TheVariants as bases
-use Rattle.dependency_graph.specs.Graphs.{IsKnownBase, base_bit}
+use Rattle.dependency_graph.specs.Graphs.{IsKnownBase, base_bit, bits_made}
 use Rattle.bit_sums.specs.Sums.{ProductView, SumView, AreAll, IsProductOver, IsSumOver, product_value, sum_value, xor_by}
-use Rattle.sum_graph.specs.Graphs.{AreKnownSums, IsKnownSum, is_known, sum_on, sums_made}
+use Rattle.sum_graph.specs.Graphs.{AreKnownSums, IsKnownSum, is_known, sum_bit, sum_on, sums_made}
 
 -- ---- a value rests on the bits of a sum's bases alone
 
@@ -35,17 +36,6 @@ sum_same f g test agree s over =
 
 -- ---- bits made later change no earlier ones
 
-record HasMore (assignment : ℕ → Bool) (made : List Bool) (nodes : List SumView) : Type 0 where
-  more : List Bool
-  parts : sums_made assignment made nodes ≡ made ++ more
-
-made_front : (assignment : ℕ → Bool) (made : List Bool) (nodes : List SumView) → HasMore assignment made nodes
-made_front assignment made [] = record { more = []; parts = sym (append-nil made) }
-made_front assignment made (x ∷ xs) =
-    let bit = sum_value (base_bit assignment made) x in
-    let rest = made_front assignment (made ++ bit ∷ []) xs in
-    record { more = bit ∷ rest.more; parts = rest.parts ∙ append_assoc made (bit ∷ []) rest.more }
-
 base-front : (n : ℕ) (assignment : ℕ → Bool) (made more : List Bool) (base : Base) → is_known n (length made) base ≡ true
     → base_bit assignment (made ++ more) base ≡ base_bit assignment made base
 base-front n assignment made more (bases.Input i) known = refl
@@ -56,75 +46,32 @@ sum-front : (n : ℕ) (assignment : ℕ → Bool) (made more : List Bool) (s : S
 sum-front n assignment made more s known =
     sum_same (base_bit assignment (made ++ more)) (base_bit assignment made) (is_known n (length made)) (base-front n assignment made more) s known
 
-length-made : (assignment : ℕ → Bool) (made : List Bool) (nodes : List SumView) → length (sums_made assignment made nodes) ≡ length made + length nodes
-length-made assignment made [] = omega arith
-length-made assignment made (x ∷ xs) =
-    let bit = sum_value (base_bit assignment made) x in
-    length-made assignment (made ++ bit ∷ []) xs ∙ omega (arith, length-append made (bit ∷ []))
-
-made-append : (assignment : ℕ → Bool) (made : List Bool) (nodes more : List SumView)
-    → sums_made assignment made (nodes ++ more) ≡ sums_made assignment (sums_made assignment made nodes) more
-made-append assignment made [] more = refl
-made-append assignment made (x ∷ xs) more = made-append assignment (made ++ sum_value (base_bit assignment made) x ∷ []) xs more
-
 -- nodes that come later change no value of a sum of earlier ones
 pub sum_on-more : (n : ℕ) (nodes more : List SumView) (input : List Bool) (s : SumView) → IsKnownSum n (length nodes) s
     → sum_on (nodes ++ more) input s ≡ sum_on nodes input s
 sum_on-more n nodes more input s known =
-    let made = sums_made (bit_of input) [] nodes in
-    let rest = made_front (bit_of input) made more in
-    let long : length made ≡ length nodes = length-made (bit_of input) [] nodes ∙ omega arith in
-    ap (λ (bits : List Bool). sum_value (base_bit (bit_of input) bits) s) (made-append (bit_of input) [] nodes more ∙ rest.parts)
+    let bit = sum_bit (bit_of input) in
+    let made = bits_made bit [] nodes in
+    let rest = made_front bit made more in
+    let long : length made ≡ length nodes = length-bits_made bit [] nodes ∙ omega arith in
+    ap (λ (bits : List Bool). bit bits s) (bits_made-append bit [] nodes more ∙ rest.parts)
     ∙ sum-front n (bit_of input) made rest.more s (subst (λ (k : ℕ). IsKnownSum n k s) (sym long) known)
 
 -- ---- the bit of a node
-
-here : (n : ℕ) (assignment : ℕ → Bool) (made : List Bool) (x : SumView) (xs : List SumView) → IsKnownSum n (length made) x
-    → bit_of (sums_made assignment made (x ∷ xs)) (length made) ≡ sum_value (base_bit assignment (sums_made assignment made (x ∷ xs))) x
-here n assignment made x xs known =
-    let bit = sum_value (base_bit assignment made) x in
-    let rest = made_front assignment (made ++ bit ∷ []) xs in
-    let parts : sums_made assignment made (x ∷ xs) ≡ made ++ bit ∷ rest.more = rest.parts ∙ append_assoc made (bit ∷ []) rest.more in
-    ap (λ (bits : List Bool). bit_of bits (length made)) parts
-    ∙ get_or_at made bit rest.more _ (length made) refl
-    ∙ sym (ap (λ (bits : List Bool). sum_value (base_bit assignment bits) x) parts ∙ sum-front n assignment made (bit ∷ rest.more) x known)
-
-bit_at : (n : ℕ) (assignment : ℕ → Bool) (made : List Bool) (nodes : List SumView) (i : ℕ) (x : SumView) → AreKnownSums n (length made) nodes
-    → slice_get nodes i ≡ Some x
-    → bit_of (sums_made assignment made nodes) (length made + i) ≡ sum_value (base_bit assignment (sums_made assignment made nodes)) x
-bit_at n assignment made [] i x known is = absurd (none-some x is)
-bit_at n assignment made (y ∷ ys) zero x known is =
-    let same : length made + 0 ≡ length made = omega arith in
-    ap (bit_of (sums_made assignment made (y ∷ ys))) same
-    ∙ here n assignment made y ys known.0
-    ∙ ap (sum_value (base_bit assignment (sums_made assignment made (y ∷ ys)))) (same_Some y x is)
-bit_at n assignment made (y ∷ ys) (suc i) x known is =
-    let bit = sum_value (base_bit assignment made) y in
-    let longer : length (made ++ bit ∷ []) ≡ length made + 1 = length-append made (bit ∷ []) in
-    let same : length made + suc i ≡ length (made ++ bit ∷ []) + i = omega (arith, longer) in
-    ap (bit_of (sums_made assignment made (y ∷ ys))) same
-    ∙ bit_at n assignment (made ++ bit ∷ []) ys i x (subst (λ (k : ℕ). AreKnownSums n k ys) (sym longer) known.1) is
 
 -- a node's bit is the value of its sum over all nodes
 pub value_of_sum : (n : ℕ) (nodes : List SumView) (input : List Bool) (k : ℕ) (s : SumView) → AreKnownSums n 0 nodes → slice_get nodes k ≡ Some s
     → base_bit (bit_of input) (sums_made (bit_of input) [] nodes) (bases.Node k) ≡ sum_on nodes input s
 value_of_sum n nodes input k s known is =
-    let same : k ≡ 0 + k = omega arith in
-    ap (bit_of (sums_made (bit_of input) [] nodes)) same ∙ bit_at n (bit_of input) [] nodes k s known is
+    made_at (sum_bit (bit_of input)) (IsKnownSum n) (sum-front n (bit_of input)) nodes k s known is
 
 -- ---- known sums
-
-known_append : (n k : ℕ) (nodes : List SumView) (s : SumView) → AreKnownSums n k nodes → IsKnownSum n (k + length nodes) s → AreKnownSums n k (nodes ++ s ∷ [])
-known_append n k [] s known is = let same : k + 0 ≡ k = omega arith in (rw same at is, tt)
-known_append n k (x ∷ xs) s known is =
-    let same : k + suc (length xs) ≡ k + 1 + length xs = omega arith in
-    (known.0, known_append n (k + 1) xs s known.1 (subst (λ (j : ℕ). IsKnownSum n j s) same is))
 
 -- one more node, which is a sum of the earlier ones
 pub known_more : (n : ℕ) (nodes : List SumView) (s : SumView) → AreKnownSums n 0 nodes → IsKnownSum n (length nodes) s → AreKnownSums n 0 (nodes ++ s ∷ [])
 known_more n nodes s known is =
     let same : length nodes ≡ 0 + length nodes = omega arith in
-    known_append n 0 nodes s known (subst (λ (j : ℕ). IsKnownSum n j s) same is)
+    AllFrom-push (IsKnownSum n) 0 nodes s known (subst (λ (j : ℕ). IsKnownSum n j s) same is)
 
 base_further : (n k j : ℕ) → k ≤ j → (b : Base) → is_known n k b ≡ true → is_known n j b ≡ true
 base_further n k j le (bases.Input i) known = known

@@ -1,11 +1,12 @@
 -- Graphs of sums: nodes that are sums of inputs, of earlier nodes, and of products of two sums of these.
-use Rattle.std.specs.Prelude.{◌≡◌, ℕ, ◌+◌, ◌*◌, ◌≤◌, Bool, false, List, [], ◌∷◌, ◌++◌, length, map, nat_lt, ⊤}
+use Rattle.std.specs.Prelude.{◌≡◌, ℕ, ◌+◌, ◌*◌, ◌≤◌, Bool, false, List, [], length, map, nat_lt}
 use Rattle.std.specs.List.{AllByRecursion, sum_by}
 use Rattle.list_facts.specs.Bits.{bit_of}
+use Rattle.list_facts.specs.Lists.{AllFrom}
 use Rattle.revs_tape.specs.declared.limits.TheConstants.{MOST_INPUTS, MOST_OUTPUTS, MOST_WRITES}
 use Rattle.dependency_graph.specs.declared.node.Base.{Base}
 use Rattle.dependency_graph.specs.declared.node.Base.TheVariants as bases
-use Rattle.dependency_graph.specs.Graphs.{ands_in, base_bit}
+use Rattle.dependency_graph.specs.Graphs.{ands_in, base_bit, bits_made}
 use Rattle.claim_check.specs.Settled.{SettledView, settled_outputs}
 use Rattle.bit_sums.specs.Products.{IsProduct}
 use Rattle.bit_sums.specs.Sums.{SumView, IsSumOver, sum_value, weight_of}
@@ -28,8 +29,7 @@ IsKnownSum n k s = IsSumOver (is_known n k) s
 
 -- the nodes from the k-th on: each is a sum of inputs and of earlier nodes
 abbrev pub AreKnownSums : ℕ → ℕ → List SumView → Type 0
-AreKnownSums n k [] = ⊤
-AreKnownSums n k (s ∷ rest) = IsKnownSum n k s × AreKnownSums n (k + 1) rest
+AreKnownSums n k sums = AllFrom (IsKnownSum n) k sums
 
 -- What a graph of sums keeps: they are of inputs and of earlier nodes, there are no nodes without outputs, and the limits
 -- hold.
@@ -43,11 +43,13 @@ pub record IsSumGraph (l : SumGraphView) : Type 0 where
 
 -- ---- values on an input
 
+-- the value of a sum, with the bits of the nodes
+abbrev pub sum_bit : (ℕ → Bool) → List Bool → SumView → Bool
+sum_bit assignment made s = sum_value (base_bit assignment made) s
+
 -- the bits made so far, and then those of these nodes, one after another
 abbrev pub sums_made : (ℕ → Bool) → List Bool → List SumView → List Bool
-sums_made assignment made [] = made
-sums_made assignment made (s ∷ rest) =
-    sums_made assignment (made ++ sum_value (base_bit assignment made) s ∷ []) rest
+sums_made assignment made sums = bits_made (sum_bit assignment) made sums
 
 -- the value of a sum over these nodes
 abbrev pub sum_on : List SumView → List Bool → SumView → Bool

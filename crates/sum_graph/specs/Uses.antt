@@ -1,10 +1,9 @@
 -- What the nodes of a graph of sums are made of, their last uses, and cuts.
-use Rattle.std.specs.Prelude.{◌≡◌, ℕ, List, length, map}
+use Rattle.std.specs.Prelude.{◌≡◌, ℕ, List, map}
 use Rattle.std.specs.List.{flat_map}
-use Rattle.list_facts.specs.Lists.{below}
 use Rattle.revs_tape.specs.Cuts.{cut_at}
 use Rattle.dependency_graph.specs.Graphs.{nodes_among}
-use Rattle.dependency_graph.specs.Uses.{last_use}
+use Rattle.dependency_graph.specs.Uses.{last_use, last_uses_by}
 use Rattle.bit_sums.specs.Sums.{SumView, bases_of}
 use Rattle.sum_graph.specs.Graphs.{SumGraphView, IsSumGraph}
 
@@ -22,7 +21,7 @@ sum_last_use g n = last_use (sum_steps g) (sum_output_nodes g) n
 
 -- the last use of each node, in order
 abbrev pub sum_last_uses : SumGraphView → List ℕ
-sum_last_uses g = map (sum_last_use g) (below (length g.nodes))
+sum_last_uses g = last_uses_by bases_of bases_of g.nodes g.outputs
 
 -- What a graph keeps, with a table of its last uses.
 abbrev pub KeepsSumUses : SumGraphView → List ℕ → Type 0
