@@ -101,23 +101,20 @@ fn unused(alloc: Global, count: u32) -> Result<Vec<u32>, Memory>
     Ok(table)
 }
 
-// First each node itself, then each node that is made of it, and at last the end where an output
-// is.
-fn filled_table<N: MadeOfBases, O: MadeOfBases>(
-    alloc: Global,
+// A table in which each node is its own last use, with the nodes that are made of each, and at last
+// the end where an output is.
+fn filled<N: MadeOfBases, O: MadeOfBases>(
+    mut table: Vec<u32>,
     nodes: &[N],
     outputs: &[O],
-) -> Result<Vec<u32>, Memory>
+) -> Vec<u32>
     requires { length nodes.now ≤ MOST_WRITES }
-    ensures { IfOk result (λ table. table.items
-        ≡ with_uses (with_steps N.bases (below (length nodes.now)) 0 nodes.now)
-        (flat_map O.bases outputs.now) (length nodes.now)) }
+    ensures { result.items ≡ with_uses (with_steps N.bases table.items 0 nodes.now)
+        (flat_map O.bases outputs.now) (length nodes.now) }
 {
-    let count = nodes.len() as u32;
-    let mut table = unused(alloc, count)?;
     set_node_uses(&mut table, nodes);
-    set_all_uses(&mut table, outputs, count);
-    Ok(table)
+    set_all_uses(&mut table, outputs, nodes.len() as u32);
+    table
 }
 
 /// The last use of each of these nodes in a graph with these outputs, in time linear in both: the
@@ -131,5 +128,5 @@ pub fn last_uses<N: MadeOfBases, O: MadeOfBases>(
     ensures { IfOk result (λ table. table.items
         ≡ last_uses_by N.bases O.bases nodes.now outputs.now) }
 {
-    filled_table(alloc, nodes, outputs)
+    Ok(filled(unused(alloc, nodes.len() as u32)?, nodes, outputs))
 }

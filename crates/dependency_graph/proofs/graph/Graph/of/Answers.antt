@@ -7,7 +7,6 @@ use Rattle.dependency_graph.proofs.ValueLemmas.{graph_of_tape}
 use Rattle.revs_tape.specs.Measures.{inputs_of}
 use Rattle.revs_tape.specs.Tapes.{TapeView}
 use Rattle.revs_tape.specs.declared.limits.TheConstants.{MOST_WRITES}
-use Rattle.revc_base.proofs.ResultLemmas.{no_value}
 use Rattle.dependency_graph.proofs.graph.Graph.of.Goals as goal
 
 -- the graph of a tape whose fold has these parts
@@ -48,30 +47,3 @@ returns-clause-of_tape c =
 
 pub returns-clause-graph : goal.returns-clause-graph
 returns-clause-graph c = subst IsGraph (sym (returns-clause-fold c)) (graph_is c.args.tape.now c.inputs.ensures.tape)
-
-pub returns-in_err-folding-clause-fold : goal.returns-in_err-folding-clause-fold
-returns-in_err-folding-clause-fold c = no_value c.from_residual.result _ _ c.from_residual.ensures.1
-
-pub returns-in_err-folding-clause-of_tape : goal.returns-in_err-folding-clause-of_tape
-returns-in_err-folding-clause-of_tape c = no_value c.from_residual.result _ _ c.from_residual.ensures.1
-
-pub returns-in_err-folding-clause-graph : goal.returns-in_err-folding-clause-graph
-returns-in_err-folding-clause-graph c = no_value c.from_residual.result _ _ c.from_residual.ensures.1
-
-pub returns-in_err-outputs-clause-fold : goal.returns-in_err-outputs-clause-fold
-returns-in_err-outputs-clause-fold c = no_value c.from_residual-in_err-outputs.result _ _ c.from_residual-in_err-outputs.ensures.1
-
-pub returns-in_err-outputs-clause-of_tape : goal.returns-in_err-outputs-clause-of_tape
-returns-in_err-outputs-clause-of_tape c = no_value c.from_residual-in_err-outputs.result _ _ c.from_residual-in_err-outputs.ensures.1
-
-pub returns-in_err-outputs-clause-graph : goal.returns-in_err-outputs-clause-graph
-returns-in_err-outputs-clause-graph c = no_value c.from_residual-in_err-outputs.result _ _ c.from_residual-in_err-outputs.ensures.1
-
-pub returns-in_err-last_uses-clause-fold : goal.returns-in_err-last_uses-clause-fold
-returns-in_err-last_uses-clause-fold c = no_value c.from_residual-in_err-last_uses.result _ _ c.from_residual-in_err-last_uses.ensures.1
-
-pub returns-in_err-last_uses-clause-of_tape : goal.returns-in_err-last_uses-clause-of_tape
-returns-in_err-last_uses-clause-of_tape c = no_value c.from_residual-in_err-last_uses.result _ _ c.from_residual-in_err-last_uses.ensures.1
-
-pub returns-in_err-last_uses-clause-graph : goal.returns-in_err-last_uses-clause-graph
-returns-in_err-last_uses-clause-graph c = no_value c.from_residual-in_err-last_uses.result _ _ c.from_residual-in_err-last_uses.ensures.1
