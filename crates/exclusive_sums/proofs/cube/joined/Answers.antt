@@ -4,7 +4,7 @@ use Rattle.revs_tape.specs.inside.Aligned.{aligned}
 use Rattle.exclusive_sums.specs.Cubes.{IsJoined}
 use Rattle.exclusive_sums.specs.inside.Merging.{by_input, thirds}
 use Rattle.exclusive_sums.proofs.CubeLemmas.{IsJoined-thirds, thirds_left_over}
-use Rattle.list_facts.proofs.CutLemmas.{at_most_one}
+use Rattle.list_facts.proofs.CutLemmas.{at_most_one, made_whole}
 use Rattle.exclusive_sums.proofs.StepLemmas.{thirds_step}
 use Rattle.exclusive_sums.proofs.cube.joined.Goals as goal
 use Rattle.exclusive_sums.proofs.cube.joined.Goals.{then-loop-i-test+else-j-right, else-loop-i-test}
@@ -13,8 +13,6 @@ literals_are : (c : goal.In_ok-put_flipped-2) → c.put_flipped-2.new.literals.i
 literals_are c =
     let ended : (length c.literals-left.result.now ≤ c.loop-i.i) ⊎ (length c.literals-right.result.now ≤ c.loop-i.j) =
     elim c.loop-i-test.branch [ then-loop-i-test+else-j-right w ↦ inr (omega arith) | else-loop-i-test w ↦ inl (omega arith) ] in
-    let over = thirds_left_over c.literals-left.result.now c.literals-right.result.now c.loop-i.i c.loop-i.j ended in
-    let done = rw over at c.loop-i.invariant.left_over in
     rw (
       c.in_ok-put_flipped-2.ensures,
       c.in_ok-put_flipped.ensures,
@@ -22,7 +20,8 @@ literals_are c =
       take_rest c.literals-right.result.now c.loop-i.j,
       append_assoc,
     )
-    (done ∙ rw (c.literals-left.ensures.literals, c.literals-right.ensures.literals) refl)
+    (made_whole c.loop-i.invariant (thirds_left_over c.literals-left.result.now c.literals-right.result.now c.loop-i.i c.loop-i.j ended)
+    ∙ rw (c.literals-left.ensures.literals, c.literals-right.ensures.literals) refl)
 
 pub returns : goal.returns
 returns c =

@@ -1,7 +1,6 @@
 use Rattle.std.proofs.Common.{◌≡◌, refl, ap, ◌∙◌, subst}
 use Rattle.exclusive_sums.specs.Cubes.{AreFarApart, Merges, done, cubes_of}
 use Rattle.exclusive_sums.proofs.MergingLemmas.{sum_from_merges}
-use Rattle.revc_base.proofs.ResultLemmas.{no_value}
 use Rattle.exclusive_sums.proofs.merging.merge.Goals as goal
 
 pub returns-clause-recipe : goal.returns-clause-recipe
@@ -12,15 +11,3 @@ returns-clause-recipe c =
 
 pub returns-clause-sum : goal.returns-clause-sum
 returns-clause-sum c = sum_from_merges c.args.poly.now c.loop-first.cubes.items c.monomials.ensures.polynomial.rising (returns-clause-recipe c)
-
-pub returns-in_err-cubes-clause-recipe : goal.returns-in_err-cubes-clause-recipe
-returns-in_err-cubes-clause-recipe c = no_value c.from_residual.result _ _ c.from_residual.ensures.1
-
-pub returns-in_err-cubes-clause-sum : goal.returns-in_err-cubes-clause-sum
-returns-in_err-cubes-clause-sum c = no_value c.from_residual.result _ _ c.from_residual.ensures.1
-
-pub returns-in_err-merge_pair-clause-recipe : goal.returns-in_err-merge_pair-clause-recipe
-returns-in_err-merge_pair-clause-recipe c = no_value c.from_residual-in_err-merge_pair.result _ _ c.from_residual-in_err-merge_pair.ensures.1
-
-pub returns-in_err-merge_pair-clause-sum : goal.returns-in_err-merge_pair-clause-sum
-returns-in_err-merge_pair-clause-sum c = no_value c.from_residual-in_err-merge_pair.result _ _ c.from_residual-in_err-merge_pair.ensures.1

@@ -1,7 +1,7 @@
 use Rattle.std.proofs.Common.{◌⊎◌, ◌≤◌, ℕ, [], ◌∷◌, ◌++◌, length, refl, ap, ◌∙◌, inl, inr, arith}
 use Rattle.std.proofs.lemmas.List.{take_rest, append_assoc}
 use Rattle.exclusive_sums.proofs.PolyLemmas.{union_left_over}
-use Rattle.list_facts.proofs.CutLemmas.{at_most_one}
+use Rattle.list_facts.proofs.CutLemmas.{at_most_one, made_whole}
 use Rattle.exclusive_sums.proofs.StepLemmas.{union_step}
 use Rattle.exclusive_sums.proofs.monomial.Monomial.union.Goals as goal
 use Rattle.exclusive_sums.proofs.monomial.Monomial.union.Goals.{then-loop-i-test+else-j-right, else-loop-i-test}
@@ -10,8 +10,6 @@ pub returns : goal.returns
 returns c =
     let ended : (length c.inputs-left.result.now ≤ c.loop-i.i) ⊎ (length c.inputs-right.result.now ≤ c.loop-i.j) =
     elim c.loop-i-test.branch [ then-loop-i-test+else-j-right w ↦ inr (omega arith) | else-loop-i-test w ↦ inl (omega arith) ] in
-    let over = union_left_over c.inputs-left.result.now c.inputs-right.result.now c.loop-i.i c.loop-i.j ended in
-    let done = rw over at c.loop-i.invariant.left_over in
     rw (
       c.new.ensures,
       c.in_ok-extend_from_slice-2.ensures.items,
@@ -20,7 +18,8 @@ returns c =
       take_rest c.inputs-right.result.now c.loop-i.j,
       append_assoc,
     )
-    (done ∙ rw (c.inputs-left.ensures, c.inputs-right.ensures) refl)
+    (made_whole c.loop-i.invariant (union_left_over c.inputs-left.result.now c.inputs-right.result.now c.loop-i.i c.loop-i.j ended)
+    ∙ rw (c.inputs-left.ensures, c.inputs-right.ensures) refl)
 
 pub loop-i-preserved : goal.loop-i-preserved
 loop-i-preserved c =

@@ -1,7 +1,6 @@
 use Rattle.std.proofs.Common.{refl, arith}
 use Rattle.std.proofs.lemmas.List.Sorted.{length_permutation}
 use Rattle.exclusive_sums.proofs.MonomialSetLemmas.{up_to_from_product, up_to_from_sorted, over_sorted}
-use Rattle.revc_base.proofs.ResultLemmas.{no_value}
 use Rattle.exclusive_sums.proofs.poly.Poly.and.Goals as goal
 
 pub returns-then-len-gt-MOST_MONOMIALS-clause-polynomial : goal.returns-then-len-gt-MOST_MONOMIALS-clause-polynomial
@@ -26,15 +25,3 @@ pub returns-clause-inputs : goal.returns-clause-inputs
 returns-clause-inputs c =
     over_sorted c.args.self.now c.args.other.now c.in_ok-product.product.keys c.in_ok-monomials.monomials.items c.in_ok-product.ensures.product
     c.in_ok-monomials.ensures.permutation
-
-pub returns-in_err-product-clause-polynomial : goal.returns-in_err-product-clause-polynomial
-returns-in_err-product-clause-polynomial c = no_value c.from_residual.result _ _ c.from_residual.ensures.1
-
-pub returns-in_err-product-clause-inputs : goal.returns-in_err-product-clause-inputs
-returns-in_err-product-clause-inputs c = no_value c.from_residual.result _ _ c.from_residual.ensures.1
-
-pub returns-in_err-monomials-clause-polynomial : goal.returns-in_err-monomials-clause-polynomial
-returns-in_err-monomials-clause-polynomial c = no_value c.from_residual-in_err-monomials.result _ _ c.from_residual-in_err-monomials.ensures.1
-
-pub returns-in_err-monomials-clause-inputs : goal.returns-in_err-monomials-clause-inputs
-returns-in_err-monomials-clause-inputs c = no_value c.from_residual-in_err-monomials.result _ _ c.from_residual-in_err-monomials.ensures.1

@@ -5,7 +5,6 @@ use Rattle.revs_tape.proofs.SumLemmas.{IsPolynomial-exclusive_sum_of, IsPolynomi
 use Rattle.exclusive_sums.specs.Inputs.{AreOverInputsOf}
 use Rattle.exclusive_sums.proofs.InputLemmas.{over_negation, if_answered}
 use Rattle.exclusive_sums.proofs.PolyLemmas.{sum_of_equal, up_to_from_negation}
-use Rattle.revc_base.proofs.ResultLemmas.{no_value}
 use Rattle.exclusive_sums.proofs.poly.Poly.not.Goals as goal
 
 pub limited-requires : goal.limited-requires
@@ -28,21 +27,3 @@ returns-clause-inputs c =
     sum_of_equal c.in_ok-sum.ensures (c.in_ok-one.ensures.items ∙ ap (λ (m : List ℕ). m ∷ []) c.one.ensures)
     (c.in_ok-copies.ensures ∙ c.deref.ensures.value ∙ c.self.view_is) in
     if_answered (AreOverInputsOf c.args.self.now) _ (exclusive_sum_of ([] ∷ []) c.args.self.now) _ (rw sum at c.limited.ensures) (over_negation c.args.self.now)
-
-pub returns-in_err-one-clause-polynomial : goal.returns-in_err-one-clause-polynomial
-returns-in_err-one-clause-polynomial c = no_value c.from_residual.result _ _ c.from_residual.ensures.1
-
-pub returns-in_err-one-clause-inputs : goal.returns-in_err-one-clause-inputs
-returns-in_err-one-clause-inputs c = no_value c.from_residual.result _ _ c.from_residual.ensures.1
-
-pub returns-in_err-copies-clause-polynomial : goal.returns-in_err-copies-clause-polynomial
-returns-in_err-copies-clause-polynomial c = no_value c.from_residual-in_err-copies.result _ _ c.from_residual-in_err-copies.ensures.1
-
-pub returns-in_err-copies-clause-inputs : goal.returns-in_err-copies-clause-inputs
-returns-in_err-copies-clause-inputs c = no_value c.from_residual-in_err-copies.result _ _ c.from_residual-in_err-copies.ensures.1
-
-pub returns-in_err-sum-clause-polynomial : goal.returns-in_err-sum-clause-polynomial
-returns-in_err-sum-clause-polynomial c = no_value c.from_residual-in_err-sum.result _ _ c.from_residual-in_err-sum.ensures.1
-
-pub returns-in_err-sum-clause-inputs : goal.returns-in_err-sum-clause-inputs
-returns-in_err-sum-clause-inputs c = no_value c.from_residual-in_err-sum.result _ _ c.from_residual-in_err-sum.ensures.1

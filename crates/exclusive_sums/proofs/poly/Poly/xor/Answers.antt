@@ -5,7 +5,6 @@ use Rattle.revs_tape.proofs.SumLemmas.{IsPolynomial-exclusive_sum_of}
 use Rattle.exclusive_sums.specs.Inputs.{AreOverInputsOf}
 use Rattle.exclusive_sums.proofs.InputLemmas.{over_sum, if_answered}
 use Rattle.exclusive_sums.proofs.PolyLemmas.{sum_of_equal, up_to_from_sum}
-use Rattle.revc_base.proofs.ResultLemmas.{no_value}
 use Rattle.exclusive_sums.proofs.poly.Poly.xor.Goals as goal
 
 pub limited-requires : goal.limited-requires
@@ -32,21 +31,3 @@ returns-clause-inputs c =
     (c.in_ok-right.ensures ∙ c.deref-2.ensures.value ∙ c.other.view_is) in
     if_answered (AreOverInputsOf (c.args.self.now ++ c.args.other.now)) _ (exclusive_sum_of c.args.self.now c.args.other.now) _ (rw sum at c.limited.ensures)
     (over_sum c.args.self.now c.args.other.now)
-
-pub returns-in_err-left-clause-polynomial : goal.returns-in_err-left-clause-polynomial
-returns-in_err-left-clause-polynomial c = no_value c.from_residual.result _ _ c.from_residual.ensures.1
-
-pub returns-in_err-left-clause-inputs : goal.returns-in_err-left-clause-inputs
-returns-in_err-left-clause-inputs c = no_value c.from_residual.result _ _ c.from_residual.ensures.1
-
-pub returns-in_err-right-clause-polynomial : goal.returns-in_err-right-clause-polynomial
-returns-in_err-right-clause-polynomial c = no_value c.from_residual-in_err-right.result _ _ c.from_residual-in_err-right.ensures.1
-
-pub returns-in_err-right-clause-inputs : goal.returns-in_err-right-clause-inputs
-returns-in_err-right-clause-inputs c = no_value c.from_residual-in_err-right.result _ _ c.from_residual-in_err-right.ensures.1
-
-pub returns-in_err-sum-clause-polynomial : goal.returns-in_err-sum-clause-polynomial
-returns-in_err-sum-clause-polynomial c = no_value c.from_residual-in_err-sum.result _ _ c.from_residual-in_err-sum.ensures.1
-
-pub returns-in_err-sum-clause-inputs : goal.returns-in_err-sum-clause-inputs
-returns-in_err-sum-clause-inputs c = no_value c.from_residual-in_err-sum.result _ _ c.from_residual-in_err-sum.ensures.1
