@@ -1,6 +1,5 @@
 use Rattle.std.proofs.Common.{sym, subst}
 use Rattle.claim_check.specs.inside.Parts.{IsSettledPart}
-use Rattle.revc_base.proofs.ResultLemmas.{no_value}
 use Rattle.claim_check.proofs.settled.Settled.of.Goals as goal
 
 pub kept_part-requires-clause-of_tape : goal.kept_part-requires-clause-of_tape
@@ -8,12 +7,6 @@ kept_part-requires-clause-of_tape c = c.requires
 
 pub kept_part-requires-clause-tape : goal.kept_part-requires-clause-tape
 kept_part-requires-clause-tape c = c.inputs-inputs.ensures.tape
-
-pub returns-in_err-nodes : goal.returns-in_err-nodes
-returns-in_err-nodes c = no_value c.from_residual.result _ _ c.from_residual.ensures.1
-
-pub returns-in_err-last_uses : goal.returns-in_err-last_uses
-returns-in_err-last_uses c = no_value c.from_residual-in_err-last_uses.result _ _ c.from_residual-in_err-last_uses.ensures.1
 
 pub returns : goal.returns
 returns c =
