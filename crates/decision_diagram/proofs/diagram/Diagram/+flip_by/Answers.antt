@@ -4,7 +4,6 @@ use Rattle.decision_diagram.specs.Growth.{MayRefuse, StandsFor}
 use Rattle.decision_diagram.specs.inside.Flipping.{Grows, flipped_at, node_function}
 use Rattle.decision_diagram.proofs.GrowthLemmas.{StandsFor-same, behind-kept, Grows-from, Grows-same, Grows-trans}
 use Rattle.decision_diagram.proofs.GrowthLemmas.{Grows-refl, MayRefuse-from, MayRefuse-same}
-use Rattle.revc_base.proofs.ResultLemmas.{no_value}
 use Rattle.decision_diagram.proofs.FlipLemmas.{are_numbers, one_asks, settled_behind, high_comes, low_comes, node_is_flip, refused_at}
 use Rattle.decision_diagram.proofs.MemoLemmas.{made_flip, holds-kept, holds-noted, numbers-kept, recalled_behind}
 use Rattle.decision_diagram.proofs.diagram.Diagram.+flip_by.Goals as goal
@@ -165,27 +164,3 @@ returns-clause-memo t c =
     holds-noted now o c.in_ok-flipped.flipped c.flip_by-2.new.memo.entries c.note.new.memo.entries
     (holds-kept c.flip_by-2.new.self now c.node.ensures.grows.kept c.flip_by-2.new.memo.entries c.in_ok-high.ensures.memo)
     flip c.note.ensures.noted c.note.ensures.most
-
-pub returns-in_err-low-clause-answer : goal.returns-in_err-low-clause-answer
-returns-in_err-low-clause-answer t c =
-    no_value c.from_residual.result _ _ c.from_residual.ensures.1
-
-pub returns-in_err-low-clause-behind : goal.returns-in_err-low-clause-behind
-returns-in_err-low-clause-behind t c =
-    λ v behind. no_value c.from_residual.result _ _ c.from_residual.ensures.1
-
-pub returns-in_err-high-clause-answer : goal.returns-in_err-high-clause-answer
-returns-in_err-high-clause-answer t c =
-    no_value c.from_residual-in_err-high.result _ _ c.from_residual-in_err-high.ensures.1
-
-pub returns-in_err-high-clause-behind : goal.returns-in_err-high-clause-behind
-returns-in_err-high-clause-behind t c =
-    λ v behind. no_value c.from_residual-in_err-high.result _ _ c.from_residual-in_err-high.ensures.1
-
-pub returns-in_err-flipped-clause-answer : goal.returns-in_err-flipped-clause-answer
-returns-in_err-flipped-clause-answer t c =
-    no_value c.from_residual-in_err-flipped.result _ _ c.from_residual-in_err-flipped.ensures.1
-
-pub returns-in_err-flipped-clause-behind : goal.returns-in_err-flipped-clause-behind
-returns-in_err-flipped-clause-behind t c =
-    λ v behind. no_value c.from_residual-in_err-flipped.result _ _ c.from_residual-in_err-flipped.ensures.1
