@@ -7,7 +7,8 @@ use Rattle.mct_circuit.specs.Gates.{CircuitView, GateView, AreGatesOn, AreNarrow
 use Rattle.mct_circuit.proofs.MoreLinesLemmas.{more_lines}
 use Rattle.gate_split.specs.declared.fault.SplitFault.TheVariants as splits
 use Rattle.circuit_plans.specs.declared.plan.TheConstants.{MOST_LINES, MOST_GATES}
-use Rattle.gate_split.specs.Split.{HasSplitList, split_list}
+use Rattle.gate_split.specs.Split.{HasSplitList, IsSplitList}
+use Rattle.gate_split.proofs.SplitListLemmas.{one_split}
 use Rattle.real_format.specs.declared.file.Mark.{Mark}
 use Rattle.real_format.proofs.MeaningLemmas as real
 use Rattle.qasm_format.specs.declared.file.Register.{Register}
@@ -32,19 +33,24 @@ use Rattle.circuit_commands.proofs.CircuitLemmas.{means_or_refused, one_circuit,
 
 pub ok_or_many : (most : ℕ) (circuit : ReadCircuit) (added other : Bool) (gates : List GateView) → HasSplit most circuit added (Ok gates)
     → HasSplit most circuit other (Err splits.Gates) → ⊥
-ok_or_many most circuit false false gates a b = let both = sym a ∙ b in cc
-ok_or_many most circuit false true gates a b = let both = sym a ∙ b.wants.none in cc
-ok_or_many most circuit true false gates a b = let both = sym a.wants.none ∙ b in cc
-ok_or_many most circuit true true gates a b = let both = sym a.split ∙ b.split in cc
+ok_or_many most circuit false false gates a b = let both = one_split (line_count circuit) most circuit.gates (Ok gates) (Err splits.Gates) a b in cc
+ok_or_many most circuit false true gates a b =
+    let both = one_split (line_count circuit) most circuit.gates (Ok gates) (Err (splits.NoIdle b.wants.gate)) a b.wants.none in cc
+ok_or_many most circuit true false gates a b =
+    let both = one_split (line_count circuit) most circuit.gates (Err (splits.NoIdle a.wants.gate)) (Err splits.Gates) a.wants.none b in cc
+ok_or_many most circuit true true gates a b =
+    let both = one_split (line_count circuit + 1) most circuit.gates (Ok gates) (Err splits.Gates) a.split b.split in cc
 
 pub lacks_or_ok : (most : ℕ) (circuit : ReadCircuit) (need limit : ℕ) (added : Bool) (gates : List GateView) → LacksLine most circuit need limit
     → HasSplit most circuit added (Ok gates) → ⊥
-lacks_or_ok most circuit need limit false gates a b = let both = sym a.wants.none ∙ b in cc
+lacks_or_ok most circuit need limit false gates a b =
+    let both = one_split (line_count circuit) most circuit.gates (Err (splits.NoIdle a.wants.gate)) (Ok gates) a.wants.none b in cc
 lacks_or_ok most circuit need limit true gates a b = let full = a.full in let room = b.room in omega arith
 
 pub lacks_or_many : (most : ℕ) (circuit : ReadCircuit) (need limit : ℕ) (added : Bool) → LacksLine most circuit need limit
     → HasSplit most circuit added (Err splits.Gates) → ⊥
-lacks_or_many most circuit need limit false a b = let both = sym a.wants.none ∙ b in cc
+lacks_or_many most circuit need limit false a b =
+    let both = one_split (line_count circuit) most circuit.gates (Err (splits.NoIdle a.wants.gate)) (Err splits.Gates) a.wants.none b in cc
 lacks_or_many most circuit need limit true a b = let full = a.full in let room = b.room in omega arith
 
 -- ---- one outcome
@@ -194,17 +200,16 @@ same_on_own circuit gates same bits (bit ∷ more) long none = absurd cc
 
 -- on the circuit's own lines
 pub own_split : (most : ℕ) (source : ReadCircuit) (circuit narrow : CircuitView) (lines : ℕ) → circuit.lines ≡ line_count source → circuit.gates ≡ source.gates
-    → lines ≡ circuit.lines → split_list lines most circuit.gates ≡ Ok narrow.gates
-    → narrow ≡ record { lines = lines; limit = most; gates = narrow.gates } → length narrow.gates ≤ most
+    → lines ≡ circuit.lines → IsSplitList lines most circuit.gates narrow.gates → narrow ≡ record { lines = lines; limit = most; gates = narrow.gates }
     → ((bits : List Bool) → length bits ≡ lines → line_map narrow.gates bits ≡ line_map circuit.gates bits) → IsNarrowOf most source narrow
-own_split most source circuit narrow lines own gates counted split size few same =
+own_split most source circuit narrow lines own gates counted split size same =
     let all : lines ≡ line_count source = counted ∙ own in
     let wide : narrow.lines ≡ lines = ap (λ (c : CircuitView). c.lines) size in
     record {
       added = false;
       lines = omega (arith, wide, all);
       split = rw (← gates, ← all) split;
-      few_gates = few;
+      few_gates = split.within;
       same = same_on_own source narrow.gates
           (λ bits long. same bits (long ∙ sym all) ∙ ap (λ (gs : List GateView). line_map gs bits) gates);
     }
@@ -212,10 +217,9 @@ own_split most source circuit narrow lines own gates counted split size few same
 -- on one line more
 pub wider_split : (most : ℕ) (source : ReadCircuit) (circuit narrow : CircuitView) (lines : ℕ) → circuit.lines ≡ line_count source
     → circuit.gates ≡ source.gates → lines ≡ circuit.lines → AreGatesOn circuit.lines circuit.gates → WantsLine most source → line_count source < MOST_LINES
-    → split_list (lines + 1) most circuit.gates ≡ Ok narrow.gates
-    → narrow ≡ record { lines = lines + 1; limit = most; gates = narrow.gates } → length narrow.gates ≤ most
+    → IsSplitList (lines + 1) most circuit.gates narrow.gates → narrow ≡ record { lines = lines + 1; limit = most; gates = narrow.gates }
     → ((bits : List Bool) → length bits ≡ lines + 1 → line_map narrow.gates bits ≡ line_map circuit.gates bits) → IsNarrowOf most source narrow
-wider_split most source circuit narrow lines own gates counted placed wants room split size few same =
+wider_split most source circuit narrow lines own gates counted placed wants room split size same =
     let on : AreGatesOn (line_count source) source.gates = rw (← gates, ← own) placed in
     let all : lines ≡ line_count source = counted ∙ own in
     let wide : narrow.lines ≡ lines + 1 = ap (λ (c : CircuitView). c.lines) size in
@@ -223,7 +227,7 @@ wider_split most source circuit narrow lines own gates counted placed wants room
       added = true;
       lines = omega (arith, wide, all);
       split = record { wants = wants; room = room; split = rw (← gates, ← all) split };
-      few_gates = few;
+      few_gates = split.within;
       same = same_on_more source narrow.gates on
           (λ bits long. same bits (long ∙ ap (λ n. n + 1) (sym all)) ∙ ap (λ (gs : List GateView). line_map gs bits) gates);
     }
@@ -241,16 +245,16 @@ pub own_some : (most : ℕ) (source : ReadCircuit) (circuit : CircuitView) (line
     → lines ≡ circuit.lines → HasSplitList lines most circuit.gates → HasSomeSplit most source
 own_some most source circuit lines own gates counted some =
     let all : lines ≡ line_count source = counted ∙ own in
-    let is = some.is in
-    record { added = false; gates = some.narrow; split = rw (← gates, ← all) is }
+    let split = some.split in
+    record { added = false; gates = some.narrow; split = rw (← gates, ← all) split }
 
 pub wider_some : (most : ℕ) (source : ReadCircuit) (circuit : CircuitView) (lines : ℕ) → circuit.lines ≡ line_count source → circuit.gates ≡ source.gates
     → lines ≡ circuit.lines → WantsLine most source → line_count source < MOST_LINES → HasSplitList (lines + 1) most circuit.gates
     → HasSomeSplit most source
 wider_some most source circuit lines own gates counted wants room some =
     let all : lines ≡ line_count source = counted ∙ own in
-    let is = some.is in
-    record { added = true; gates = some.narrow; split = record { wants = wants; room = room; split = rw (← gates, ← all) is } }
+    let split = some.split in
+    record { added = true; gates = some.narrow; split = record { wants = wants; room = room; split = rw (← gates, ← all) split } }
 
 -- ---- marks
 

@@ -1,18 +1,17 @@
 -- On one line more, no gate wants an idle line.
 use Rattle.std.proofs.Common.{◌≡◌, ◌≢◌, ℕ, suc, ◌+◌, ◌-◌, ◌<◌, Bool, true, false, not, cond, leb, List, [], ◌∷◌, ◌++◌, length, take, Some, Option, Err, Result}
-use Rattle.std.proofs.Common.{refl, sym, ap, ◌∙◌, subst, inl, inr, arith}
+use Rattle.std.proofs.Common.{refl, sym, ap, ◌∙◌, subst, arith}
 use Rattle.std.specs.List.{AllByRecursion}
 use Rattle.std.specs.Prelude.{IsErrOf}
-use Rattle.std.proofs.lemmas.Bool.Decides.{leb_tells}
-use Rattle.list_facts.proofs.AllLemmas.{AllByRecursion-weaker}
+use Rattle.list_facts.proofs.AllLemmas.{AllByRecursion-take, AllByRecursion-weaker}
 use Rattle.mct_circuit.specs.declared.gate.Op.{Op}
 use Rattle.mct_circuit.specs.declared.gate.Op.TheVariants.{Flip, Swap}
 use Rattle.mct_circuit.specs.Gates.{GateView, AreGatesOn, IsGateOn, flip_of}
 use Rattle.mct_circuit.specs.Sizes.{has_line}
 use Rattle.gate_split.specs.declared.fault.SplitFault.{SplitFault}
-use Rattle.gate_split.specs.declared.fault.SplitFault.TheVariants.{Gates, NoIdle}
+use Rattle.gate_split.specs.declared.fault.SplitFault.TheVariants.{NoIdle}
 use Rattle.gate_split.specs.Split.{Avoids, idle_lines, between, flips_of_negatives, over_few_lines, over_idle_lines, in_halves, split_positive, split_gate}
-use Rattle.gate_split.specs.Split.{split_from, split_list, with_piece}
+use Rattle.gate_split.specs.Split.{WantsIdle, behind, joined, split_gates}
 use Rattle.gate_split.proofs.EffectLemmas.{below_of}
 use Rattle.gate_split.proofs.FallingLineLemmas.{falling_yes, no_member}
 use Rattle.gate_split.proofs.NegativeLemmas.{lines}
@@ -70,29 +69,28 @@ op_piece n gate (Swap first second) is on =
     (between_piece (flips_of_negatives gate.controls) (split_positive (suc n) controls second)
     (positive_piece n controls second (swap_on n gate first second controls is refl on))))
 
--- ---- the walk
+-- ---- many gates
 
-never_idle : (n limit place gate : ℕ) (done gates : List GateView) → AreGatesOn n gates → split_from (suc n) limit place done gates ≡ Err (NoIdle gate) → ⊥
-never_idle n limit place gate done [] on e = cc
-never_idle n limit place gate done (first ∷ gates) on e =
+all_have : (n : ℕ) (gates : List GateView) → AreGatesOn n gates → HasPiece (split_gates (suc n) gates)
+all_have n [] on = record { gates = []; is = refl }
+all_have n (first ∷ gates) on =
     let piece = op_piece n first first.op refl on.0 in
-    let next : List GateView → Result (List GateView) SplitFault = λ now. split_from (suc n) limit (place + 1) now gates in
-    let now : with_piece (Some piece.gates) limit place done next ≡ Err (NoIdle gate) = sym (ap (λ o. with_piece o limit place done next) piece.is) ∙ e in
-    elim (leb_tells (length (done ++ piece.gates)) limit) [
-      | inl t ↦ (let within : with_piece (Some piece.gates) limit place done next ≡ next (done ++ piece.gates) = rw t.0 refl in
-          never_idle n limit (place + 1) gate (done ++ piece.gates) gates on.1 (sym within ∙ now))
-      | inr t ↦ (let over : with_piece (Some piece.gates) limit place done next ≡ Err Gates = rw t.0 refl in let both = sym over ∙ now in cc)
-    ]
+    let rest = all_have n gates on.1 in
+    record {
+      gates = piece.gates ++ rest.gates;
+      is = ap (λ o. joined o (split_gates (suc n) gates)) piece.is ∙ ap (behind piece.gates) rest.is;
+    }
 
-wider_never_wants : (n limit gate : ℕ) (gates : List GateView) → AreGatesOn n gates → split_list (n + 1) limit gates ≡ Err (NoIdle gate) → ⊥
-wider_never_wants n limit gate gates on e =
+wider_never_wants : (n limit place : ℕ) (gates : List GateView) → AreGatesOn n gates → WantsIdle (n + 1) limit gates place → ⊥
+wider_never_wants n limit place gates on wants =
     let same : n + 1 ≡ suc n = omega arith in
-    never_idle n limit 0 gate [] gates on (subst (λ k. split_list k limit gates ≡ Err (NoIdle gate)) same e)
+    let some = all_have n (take (place + 1) gates) (AllByRecursion-take (IsGateOn n) (place + 1) gates on) in
+    let both = sym wants.none ∙ ap (λ k. split_gates k (take (place + 1) gates)) same ∙ some.is in cc
 
 -- a split on one line more has no such fault
 pub never_wants : {T : Type 0} (n limit gate lines : ℕ) (gates : List GateView) (result : Result T SplitFault) (fault : SplitFault) → AreGatesOn n gates
     → lines ≡ n → result ≡ Err fault → fault ≡ NoIdle gate
-    → ((at : ℕ) → IsErrOf result (NoIdle at) → split_list (lines + 1) limit gates ≡ Err (NoIdle at)) → ⊥
+    → ((at : ℕ) → IsErrOf result (NoIdle at) → WantsIdle (lines + 1) limit gates at) → ⊥
 never_wants {T} n limit gate lines gates result fault on same is named says =
     let wants : IsErrOf result (NoIdle gate) = is ∙ ap (λ (f : SplitFault). let r : Result T SplitFault = Err f in r) named in
-    wider_never_wants n limit gate gates on (subst (λ k. split_list (k + 1) limit gates ≡ Err (NoIdle gate)) same (says gate wants))
+    wider_never_wants n limit gate gates on (subst (λ k. WantsIdle (k + 1) limit gates gate) same (says gate wants))

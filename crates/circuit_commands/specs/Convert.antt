@@ -5,7 +5,7 @@ use Rattle.mct_circuit.specs.Gates.{GateView, AreNarrow, line_map}
 use Rattle.gate_split.specs.declared.fault.SplitFault.{SplitFault}
 use Rattle.gate_split.specs.declared.fault.SplitFault.TheVariants as splits
 use Rattle.circuit_plans.specs.declared.plan.TheConstants.{MOST_LINES, MOST_GATES}
-use Rattle.gate_split.specs.Split.{split_list}
+use Rattle.gate_split.specs.Split.{IsSplit, WantsIdle}
 use Rattle.real_format.specs.declared.file.Mark.TheVariants.{Free}
 use Rattle.real_format.specs.Converted as real
 use Rattle.qasm_format.specs.Converted as qasm
@@ -18,26 +18,22 @@ use Rattle.circuit_commands.specs.Circuits.{ReadCircuit, Means, MeansIn, IsCircu
 
 -- ---- the split list, of at most so many gates
 
--- the split list of a circuit's gates on so many lines
-abbrev pub split_on : (most lines : ℕ) → ReadCircuit → Result (List GateView) SplitFault
-split_on most lines circuit = split_list lines most circuit.gates
-
 -- on the circuit's own lines a gate wants an idle line
 pub record WantsLine (most : ℕ) (circuit : ReadCircuit) : Type 0 where
   pub gate : ℕ
-  pub none : split_on most (line_count circuit) circuit ≡ Err (splits.NoIdle gate)
+  pub none : WantsIdle (line_count circuit) most circuit.gates gate
 
--- the split list on one line more, where the circuit's own lines are too few and there is room for one
+-- what the split comes to on one line more, where the circuit's own lines are too few and there is room for one
 pub record HasWiderSplit (most : ℕ) (circuit : ReadCircuit)
     (answer : Result (List GateView) SplitFault) : Type 0 where
   pub wants : WantsLine most circuit
   pub room : line_count circuit < MOST_LINES
-  pub split : split_on most (line_count circuit + 1) circuit ≡ answer
+  pub split : IsSplit (line_count circuit + 1) most circuit.gates answer
 
--- the split list on the circuit's own lines, or exactly where a gate wants an idle line, on one more
+-- what the split comes to on the circuit's own lines, or exactly where a gate wants an idle line, on one more
 abbrev pub HasSplit : (most : ℕ) → ReadCircuit → (added : Bool)
     → Result (List GateView) SplitFault → Type 0
-HasSplit most circuit false answer = split_on most (line_count circuit) circuit ≡ answer
+HasSplit most circuit false answer = IsSplit (line_count circuit) most circuit.gates answer
 HasSplit most circuit true answer = HasWiderSplit most circuit answer
 
 -- a line is wanted where there are as many as there may be

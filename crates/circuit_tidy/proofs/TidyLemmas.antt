@@ -1,10 +1,11 @@
 -- The work on a list of flips: its steps keep the line map, and its end is tidy.
-use Rattle.std.proofs.Common.{◌≡◌, ℕ, ◌<◌, ◌≤◌, Bool, true, false, eqb, Option, Some, None, Result, Ok, Err, List, [], ◌∷◌, ◌++◌, length, map, take}
+use Rattle.std.proofs.Common.{◌≡◌, ℕ, ◌<◌, ◌≤◌, Bool, true, false, eqb, Option, Some, None, Ok, Err, List, [], ◌∷◌, ◌++◌, length, map, take}
 use Rattle.std.proofs.Common.{reverse}
 use Rattle.std.proofs.Common.{refl, sym, ap, ◌∙◌, subst, arith}
 use Rattle.std.specs.List.{AllByRecursion, list_any}
 use Rattle.std.proofs.lemmas.Bool.{and_parts, and_from, or_left, or_right, false≢true, eq-eqb}
 use Rattle.std.proofs.lemmas.List.{length-reverse, length-append, length-map, length-take-le, map-append}
+use Rattle.std.proofs.lemmas.Option.{same_Some}
 use Rattle.list_facts.specs.Lists.{below}
 use Rattle.list_facts.proofs.AllLemmas.{AllByRecursion-append, AllByRecursion-reverse}
 use Rattle.list_facts.proofs.OrderLemmas.{IsRising-filter}
@@ -16,8 +17,9 @@ use Rattle.gate_split.specs.declared.fault.SplitFault.{SplitFault}
 use Rattle.mct_circuit.specs.Gates.{CircuitView, GateView, AreGatesOn, AreNarrow, IsGateOn, IsNarrow, flip_of, line_map, positive}
 use Rattle.mct_circuit.specs.Sizes.{has_line}
 use Rattle.mct_circuit.proofs.ReversalLemmas.{length-line_map, line_map-append}
-use Rattle.gate_split.specs.Split.{split_list}
+use Rattle.gate_split.specs.Split.{IsSplit, IsSplitList}
 use Rattle.gate_split.proofs.PieceLemmas.{stay}
+use Rattle.gate_split.proofs.SplitListLemmas.{one_split}
 use Rattle.circuit_tidy.specs.declared.flip.Controls.{Controls}
 use Rattle.circuit_tidy.specs.declared.flip.Controls.TheVariants.{Zero, One, Two}
 use Rattle.circuit_tidy.specs.declared.flip.Flip.{Flip}
@@ -228,22 +230,19 @@ on_lines_from n flips gates e on = back flips (subst (AreGatesOn n) (sym e) on)
     back [] on = tt
     back (f ∷ fs) on = (on.0, back fs on.1)
 
-same_ok : {A E : Type 0} (r : Result A E) (x y : A) → r ≡ Ok x → r ≡ Ok y → x ≡ y
-same_ok r x y e f = let both : Ok x ≡ Ok y = sym e ∙ f in cc
-
-pub split_again : (n limit : ℕ) (flips : List Flip) (gates : List GateView) → length flips ≤ limit → split_list n limit (gates_of flips) ≡ Ok gates
+pub split_again : (n limit : ℕ) (flips : List Flip) (gates : List GateView) → length flips ≤ limit → IsSplitList n limit (gates_of flips) gates
     → gates ≡ gates_of flips
 split_again n limit flips gates few is =
-    same_ok (split_list n limit (gates_of flips)) gates (gates_of flips) is
-    (stay n limit (gates_of flips) (flips_are_narrow flips) (omega (arith, few, length-map flips gate_of)))
+    let stays = stay n limit (gates_of flips) (flips_are_narrow flips) (omega (arith, few, length-map flips gate_of)) in
+    same_Some _ _ (sym is.is ∙ stays.is)
 
 -- such gates are split, so their split is not refused
 pub never_refused : {A : Type 0} (n limit : ℕ) (flips : List Flip) (gates : List GateView) (fault : SplitFault) → gates ≡ gates_of flips → length flips ≤ limit
-    → split_list n limit gates ≡ Err fault → A
+    → IsSplit n limit gates (Err fault) → A
 never_refused n limit flips gates fault are few is =
-    let ok : split_list n limit gates ≡ Ok gates =
+    let ok : IsSplitList n limit gates gates =
     rw are (stay n limit (gates_of flips) (flips_are_narrow flips) (omega (arith, few, length-map flips gate_of))) in
-    let both = sym ok ∙ is in cc
+    let both = one_split n limit gates (Ok gates) (Err fault) ok is in absurd (cc)
 
 -- there is room for as many flips as there are gates
 pub few_done : (n limit : ℕ) (old : List GateView) (flips done : List Flip) → gates_of flips ≡ old → limit ≡ length old → IsDone n flips done
@@ -264,7 +263,7 @@ room_for limit i flips circuit few low is =
 
 pub tidied_from : (n limit : ℕ) (old : List GateView) (flips done : List Flip) (gates : List GateView) → gates_of flips ≡ old → limit ≡ length old
     → IsDone n flips done
-    → split_list n limit (gates_of done) ≡ Ok gates → IsTidied n old gates
+    → IsSplitList n limit (gates_of done) gates → IsTidied n old gates
 tidied_from n limit old flips done gates are size is split =
     let few = is.follows.few in
     let long : length flips ≡ length old = sym (length-map flips gate_of) ∙ ap length are in

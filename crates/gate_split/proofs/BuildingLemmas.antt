@@ -121,8 +121,8 @@ started_back (g ∷ gs) made whole e =
 
 -- ---- copies
 
-pub copied_more : (done now made : List GateView) (copy gate : GateView) (gates : List GateView) (i : ℕ) → i < length gates → gate ≡ get_or gates i gate
-    → copy ≡ gate → now ≡ made ++ copy ∷ [] → made ≡ done ++ take i gates → now ≡ done ++ take (i + 1) gates
-copied_more done now made copy gate gates i h is same n e =
-    n ∙ ap (λ l. l ++ copy ∷ []) e ∙ append_assoc done (take i gates) (copy ∷ []) ∙ ap (λ g. done ++ (take i gates ++ g ∷ [])) (same ∙ is)
+pub copied_more : (done now made : List GateView) (gate : GateView) (gates : List GateView) (i : ℕ) → i < length gates → gate ≡ get_or gates i gate
+    → now ≡ made ++ gate ∷ [] → made ≡ done ++ take i gates → now ≡ done ++ take (i + 1) gates
+copied_more done now made gate gates i h is n e =
+    n ∙ ap (λ l. l ++ gate ∷ []) e ∙ append_assoc done (take i gates) (gate ∷ []) ∙ ap (λ g. done ++ (take i gates ++ g ∷ [])) is
     ∙ ap (λ l. done ++ l) (sym (take_more gates i gate h))

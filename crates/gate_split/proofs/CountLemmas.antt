@@ -1,9 +1,9 @@
 -- How many gates a split list has, and so whether there is one.
-use Rattle.std.proofs.Common.{◌≡◌, ◌≢◌, ℕ, zero, suc, ◌+◌, ◌-◌, ◌*◌, ◌<◌, ◌≤◌, Bool, false, not, cond, leb, eqb, List, [], ◌∷◌, ◌++◌, length, get_or, drop}
+use Rattle.std.proofs.Common.{◌≡◌, ◌≢◌, ℕ, zero, suc, ◌+◌, ◌-◌, ◌*◌, ◌<◌, ◌≤◌, Bool, false, not, cond, leb, eqb, List, [], ◌∷◌, ◌++◌, length, get_or, take}
 use Rattle.std.proofs.Common.{Option, Some, None, Result, Ok, Err, refl, sym, ap, ◌∙◌, subst, inl, inr, arith}
 use Rattle.std.specs.List.{AllByRecursion}
 use Rattle.std.proofs.lemmas.Bool.Decides.{leb_tells, eqb_tells}
-use Rattle.std.proofs.lemmas.List.{length-append, length-map, nil_from_length}
+use Rattle.std.proofs.lemmas.List.{length-append, length-map, nil_from_length, take_all}
 use Rattle.list_facts.specs.Lists.{AreDifferent}
 use Rattle.mct_circuit.specs.declared.gate.Control.{Control}
 use Rattle.mct_circuit.specs.declared.gate.Op.TheVariants.{Flip, Swap}
@@ -12,15 +12,15 @@ use Rattle.mct_circuit.specs.Sizes.{has_line, negative_controls}
 use Rattle.gate_split.specs.declared.fault.SplitFault.{SplitFault}
 use Rattle.gate_split.specs.declared.fault.SplitFault.TheVariants.{NoIdle, Gates, Memory}
 use Rattle.gate_split.specs.inside.Counts.{CountsFlips, count_of, count_with, counted_on}
-use Rattle.gate_split.specs.Split.{HasSplitList, falling_lines, idle_lines, flips_of_negatives, over_few_lines, split_positive, split_gate}
-use Rattle.gate_split.specs.Split.{between, with_piece, split_from, split_list}
+use Rattle.gate_split.specs.Split.{HasSplitList, IsSplit, falling_lines, idle_lines, flips_of_negatives, over_few_lines, split_positive, split_gate}
+use Rattle.gate_split.specs.Split.{behind, between, split_gates}
 use Rattle.gate_split.proofs.CostLemmas.{costs}
 use Rattle.gate_split.proofs.EffectLemmas.{different_of, below_of}
 use Rattle.gate_split.proofs.FallingLineLemmas.{false_true, length-in_falling_order}
 use Rattle.gate_split.proofs.NegativeLemmas.{lines}
 use Rattle.gate_split.proofs.PieceLemmas.{few_stay, flip_on, swap_on, flip_piece, swap_piece}
 use Rattle.gate_split.proofs.RoomyFlipLemmas.{HasFirst, some_gates, length-flips_of_negatives}
-use Rattle.gate_split.proofs.WalkLemmas.{at_gate, walk_ends}
+use Rattle.gate_split.proofs.SplitListLemmas.{one_further}
 
 -- ---- idle lines
 
@@ -174,69 +174,68 @@ swap_counted n gate first second own negatives count o on long few c =
 
 -- ---- the walk
 
--- the gates that were passed have split lists, of so many gates
-pub record Counted (n limit place count : ℕ) (left gates : List GateView) : Type 0 where
+-- the gates that were passed have gates in their place, so many
+pub record Counted (n count : ℕ) (passed : List GateView) : Type 0 where
   pub done : List GateView
+  pub is : split_gates n passed ≡ Some done
   pub long : length done ≡ count
-  pub walk : split_from n limit place done left ≡ split_list n limit gates
 
-record Next (next : List GateView → Result (List GateView) SplitFault) (whole : Result (List GateView) SplitFault) (now : ℕ) : Type 0 where
-  gates : List GateView
-  long : length gates ≡ now
-  goes : next gates ≡ whole
-
-goes_on : (limit place count now : ℕ) (done : List GateView) (piece : Option (List GateView)) (next : List GateView → Result (List GateView) SplitFault)
-    (whole : Result (List GateView) SplitFault) → length done ≡ count → with_piece piece limit place done next ≡ whole
-    → ◌≡◌ {A = Result ℕ SplitFault} (Ok now) (counted_on count (count_of piece) place limit) → Next next whole now
-goes_on limit place count now done None next whole long w e = absurd (cc)
-goes_on limit place count now done (Some piece) next whole long w e =
+counted_behind : (n limit place count now : ℕ) (done passed : List GateView) (piece : Option (List GateView))
+    → split_gates n passed ≡ behind done piece → length done ≡ count
+    → ◌≡◌ {A = Result ℕ SplitFault} (Ok now) (counted_on count (count_of piece) place limit) → Counted n now passed
+counted_behind n limit place count now done passed None is long e = absurd (cc)
+counted_behind n limit place count now done passed (Some piece) is long e =
     let all : length (done ++ piece) ≡ count + length piece = length-append done piece ∙ ap (λ k. k + length piece) long in
     elim (leb_tells (count + length piece) limit) [
-      | inl t ↦ (let is : ◌≡◌ {A = Result ℕ SplitFault} (Ok now) (Ok (count + length piece)) = rw t.0 at e in
-          let same : count + length piece ≡ now = cc in
-          let taken : with_piece (Some piece) limit place done next ≡ next (done ++ piece) = rw (all, t.0) refl in
-          record { gates = done ++ piece; long = all ∙ same; goes = sym taken ∙ w })
+      | inl t ↦ (let took : ◌≡◌ {A = Result ℕ SplitFault} (Ok now) (Ok (count + length piece)) = rw t.0 at e in
+          let same : count + length piece ≡ now = cc in record { done = done ++ piece; is = is; long = all ∙ same })
       | inr t ↦ absurd (let no : ◌≡◌ {A = Result ℕ SplitFault} (Ok now) (Err Gates) = rw t.0 at e in cc)
     ]
 
-stops : (limit place count : ℕ) (fault : SplitFault) (done : List GateView) (piece : Option (List GateView))
-    (next : List GateView → Result (List GateView) SplitFault) (whole : Result (List GateView) SplitFault) → length done ≡ count
-    → with_piece piece limit place done next ≡ whole → ◌≡◌ {A = Result ℕ SplitFault} (Err fault) (counted_on count (count_of piece) place limit)
-    → whole ≡ Err fault
-stops limit place count fault done None next whole long w e = let same : NoIdle place ≡ fault = cc in sym w ∙ ap Err same
-stops limit place count fault done (Some piece) next whole long w e =
+stops_behind : (n limit place count : ℕ) (fault : SplitFault) (gates done : List GateView) (piece : Option (List GateView))
+    → split_gates n (take place gates) ≡ Some done → split_gates n (take (place + 1) gates) ≡ behind done piece → length done ≡ count → count ≤ limit
+    → ◌≡◌ {A = Result ℕ SplitFault} (Err fault) (counted_on count (count_of piece) place limit) → IsSplit n limit gates (Err fault)
+stops_behind n limit place count fault gates done None passed is long few e =
+    let same : NoIdle place ≡ fault = cc in
+    subst (λ f. IsSplit n limit gates (Err f)) same
+    (record { before = record { narrow = done; split = record { is = passed; within = omega arith } }; none = is })
+stops_behind n limit place count fault gates done (Some piece) passed is long few e =
     let all : length (done ++ piece) ≡ count + length piece = length-append done piece ∙ ap (λ k. k + length piece) long in
     elim (leb_tells (count + length piece) limit) [
       | inl t ↦ absurd (let no : ◌≡◌ {A = Result ℕ SplitFault} (Err fault) (Ok (count + length piece)) = rw t.0 at e in cc)
-      | inr t ↦ (let is : ◌≡◌ {A = Result ℕ SplitFault} (Err fault) (Err Gates) = rw t.0 at e in
+      | inr t ↦ (let full : ◌≡◌ {A = Result ℕ SplitFault} (Err fault) (Err Gates) = rw t.0 at e in
           let same : Gates ≡ fault = cc in
-          let over : with_piece (Some piece) limit place done next ≡ Err Gates = rw (all, t.0) refl in
-          sym w ∙ over ∙ ap Err same)
+          subst (λ f. IsSplit n limit gates (Err f)) same (record {
+            place = place;
+            before = record { narrow = done; split = record { is = passed; within = omega arith } };
+            over = done ++ piece;
+            is = is;
+            passes = omega (arith, t.1, all);
+          }))
     ]
 
-pub counting_begun : (n limit : ℕ) (gates : List GateView) → Counted n limit 0 0 gates gates
-counting_begun n limit gates = record { done = []; long = refl; walk = refl }
+pub counting_begun : (n : ℕ) (gates : List GateView) → Counted n 0 (take 0 gates)
+counting_begun n gates = record { done = []; is = refl; long = refl }
 
 pub counted_more : (n limit place count now : ℕ) (gates : List GateView) (i : ℕ) (gate : GateView) (more : Option ℕ) → i < length gates
     → gate ≡ get_or gates i gate → more ≡ count_of (split_gate n gate)
-    → ◌≡◌ {A = Result ℕ SplitFault} (Ok now) (counted_on count more place limit) → Counted n limit place count (drop i gates) gates
-    → Counted n limit (place + 1) now (drop (i + 1) gates) gates
+    → ◌≡◌ {A = Result ℕ SplitFault} (Ok now) (counted_on count more place limit) → Counted n count (take i gates) → Counted n now (take (i + 1) gates)
 counted_more n limit place count now gates i gate more h at m e c =
-    let next = goes_on limit place count now c.done (split_gate n gate) (λ (done : List GateView). split_from n limit (place + 1) done (drop (i + 1) gates))
-    (split_list n limit gates) c.long (at_gate n limit place c.done gates i gate (split_list n limit gates) h at c.walk) (rw m at e) in
-    record { done = next.gates; long = next.long; walk = next.goes }
+    counted_behind n limit place count now c.done (take (i + 1) gates) (split_gate n gate) (one_further n gates i gate c.done h at c.is) c.long (rw m at e)
 
 pub counting_stops : (n limit place count : ℕ) (fault : SplitFault) (gates : List GateView) (i : ℕ) (gate : GateView) (more : Option ℕ) → i < length gates
-    → gate ≡ get_or gates i gate → more ≡ count_of (split_gate n gate)
-    → ◌≡◌ {A = Result ℕ SplitFault} (Err fault) (counted_on count more place limit) → Counted n limit place count (drop i gates) gates
-    → split_list n limit gates ≡ Err fault
-counting_stops n limit place count fault gates i gate more h at m e c =
-    stops limit place count fault c.done (split_gate n gate) (λ (done : List GateView). split_from n limit (place + 1) done (drop (i + 1) gates))
-    (split_list n limit gates) c.long (at_gate n limit place c.done gates i gate (split_list n limit gates) h at c.walk) (rw m at e)
+    → gate ≡ get_or gates i gate → more ≡ count_of (split_gate n gate) → place ≡ i → count ≤ limit
+    → ◌≡◌ {A = Result ℕ SplitFault} (Err fault) (counted_on count more place limit) → Counted n count (take i gates)
+    → IsSplit n limit gates (Err fault)
+counting_stops n limit place count fault gates i gate more h at m same few e c =
+    stops_behind n limit place count fault gates c.done (split_gate n gate) (rw same c.is) (rw same (one_further n gates i gate c.done h at c.is)) c.long few
+    (rw m at e)
 
-pub counting_ends : (n limit place count : ℕ) (gates : List GateView) (i : ℕ) → length gates ≤ i → Counted n limit place count (drop i gates) gates
+pub counting_ends : (n limit count : ℕ) (gates : List GateView) (i : ℕ) → length gates ≤ i → count ≤ limit → Counted n count (take i gates)
     → HasSplitList n limit gates
-counting_ends n limit place count gates i h c = record { narrow = c.done; is = walk_ends n limit place c.done gates i h c.walk }
+counting_ends n limit count gates i h few c =
+    let long = c.long in
+    record { narrow = c.done; split = record { is = ap (split_gates n) (sym (take_all i gates h)) ∙ c.is; within = omega arith } }
 
 pub counted_fits : (limit place count now : ℕ) (more : Option ℕ) → ◌≡◌ {A = Result ℕ SplitFault} (Ok now) (counted_on count more place limit) → now ≤ limit
 counted_fits limit place count now None e = absurd (cc)

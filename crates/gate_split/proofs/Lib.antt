@@ -8,7 +8,7 @@ pub mod LadderLemmas
 pub mod MarkLemmas
 pub mod NegativeLemmas
 pub mod PieceLemmas
-mod RefusalLemmas
 pub mod RoomyFlipLemmas
+pub mod SplitListLemmas
 pub mod WalkLemmas
 pub mod WideLemmas

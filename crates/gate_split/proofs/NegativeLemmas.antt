@@ -1,8 +1,9 @@
 -- Negative controls and swaps: what stands around a flip under positive controls.
-use Rattle.std.proofs.Common.{◌≡◌, ◌≢◌, ℕ, ◌+◌, ◌<◌, Bool, true, false, not, cond, leb, Option, Some, None, Result, Ok, Err, List, [], ◌∷◌, ◌++◌, length, map}
+use Rattle.std.proofs.Common.{◌≡◌, ◌≢◌, ℕ, ◌<◌, Bool, true, false, not, cond, Option, Some, None, List, [], ◌∷◌, ◌++◌, length, map}
 use Rattle.std.proofs.Common.{refl, sym, ap, ◌∙◌, subst, arith}
 use Rattle.std.specs.List.{AllByRecursion, list_all}
 use Rattle.std.proofs.lemmas.List.{get_or-set_same, append_assoc, map-append}
+use Rattle.std.proofs.lemmas.Option.{same_Some}
 use Rattle.list_facts.proofs.AllLemmas.{AllByRecursion-append, AllByRecursion-left, AllByRecursion-right}
 use Rattle.list_facts.proofs.OrderLemmas.{AreDifferent-left, AreDifferent-parts}
 use Rattle.mct_circuit.specs.declared.gate.Control.{Control}
@@ -12,10 +13,9 @@ use Rattle.mct_circuit.specs.Gates.{GateView, is_met, after_gate, line_map, flip
 use Rattle.list_facts.specs.Bits.{bit_of}
 use Rattle.list_facts.specs.Lists.{AreDifferent}
 use Rattle.mct_circuit.proofs.ReversalLemmas.{line_map-append, length-line_map}
-use Rattle.gate_split.specs.declared.fault.SplitFault.{SplitFault}
-use Rattle.gate_split.specs.declared.fault.SplitFault.TheVariants.{Gates}
 use Rattle.gate_split.specs.Split.{Avoids}
-use Rattle.gate_split.specs.Split.{flips_of_negatives, split_positive, between, split_flip, split_op, split_gate, with_piece, split_from}
+use Rattle.gate_split.specs.Split.{flips_of_negatives, split_positive, between, split_flip, split_op, split_gate, split_gates}
+use Rattle.gate_split.proofs.SplitListLemmas.{parts_of}
 use Rattle.gate_split.proofs.FlipLemmas.{all_on, flip_when, flips_meet, flip-flip, length-flip, bit_of-flip, met_same, swap_by_flips, length-flip_of}
 use Rattle.gate_split.proofs.LadderLemmas.{Avoids-flip, heads_apart}
 use Rattle.gate_split.proofs.EffectLemmas.{Does, alone, gate_on, positive_does}
@@ -205,38 +205,23 @@ op_split_does n controls (Swap a b) gates g e =
 pub split_gate_does : (n : ℕ) (gate : GateView) (gates : List GateView) → IsGateOn n gate → split_gate n gate ≡ Some gates → Does n gates gate
 split_gate_does n gate gates g e = op_split_does n gate.controls gate.op gates g e
 
--- ---- the walk
+-- ---- many gates
 
-within : (b : Bool) (r : Result (List GateView) SplitFault) (gates : List GateView) → cond b r (Err Gates) ≡ Ok gates → r ≡ Ok gates
-within true r gates e = e
-within false r gates e = absurd (cc)
+pub record DoesAll (n : ℕ) (gates result : List GateView) : Type 0 where
+  pub narrow : AreNarrow result
+  pub placed : AreGatesOn n result
+  pub effect : (bits : List Bool) → length bits ≡ n → line_map result bits ≡ line_map gates bits
 
-piece_ok : (o : Option (List GateView)) (limit place : ℕ) (done : List GateView) (next : List GateView → Result (List GateView) SplitFault)
-    (gates : List GateView) → with_piece o limit place done next ≡ Ok gates
-    → (piece : List GateView) × (o ≡ Some piece) × (next (done ++ piece) ≡ Ok gates)
-piece_ok None limit place done next gates e = absurd (cc)
-piece_ok (Some piece) limit place done next gates e = (piece, refl, within (leb (length (done ++ piece)) limit) (next (done ++ piece)) gates e)
-
-pub record Walked (n : ℕ) (done gates result : List GateView) : Type 0 where
-  pub narrow : AreNarrow done → AreNarrow result
-  pub placed : AreGatesOn n done → AreGatesOn n result
-  pub effect : (bits : List Bool) → length bits ≡ n → AreGatesOn n done → line_map result bits ≡ line_map gates (line_map done bits)
-
-ok_is : (x y : List GateView) → ◌≡◌ {A = Result (List GateView) SplitFault} (Ok x) (Ok y) → x ≡ y
-ok_is x y e = cc
-
-pub walk : (n limit place : ℕ) (done gates result : List GateView) → AreGatesOn n gates → split_from n limit place done gates ≡ Ok result
-    → Walked n done gates result
-walk n limit place done [] result g e = subst (Walked n done []) (ok_is done result e) (record { narrow = λ p. p; placed = λ p. p; effect = λ bits l p. refl })
-walk n limit place done (x ∷ xs) result g e =
-    let s = piece_ok (split_gate n x) limit place done (λ now. split_from n limit (place + 1) now xs) result e in
-    let d = split_gate_does n x s.0 g.0 s.1 in
-    let rest = walk n limit (place + 1) (done ++ s.0) xs result g.1 s.2 in
-    record {
-      narrow = λ p. rest.narrow (AllByRecursion-append IsNarrow done s.0 p d.narrow);
-      placed = λ p. rest.placed (AllByRecursion-append (IsGateOn n) done s.0 p d.placed);
-      effect = λ bits l p.
-          let long : length (line_map done bits) ≡ n = length-line_map done bits (rw l p) ∙ l in
-          rest.effect bits l (AllByRecursion-append (IsGateOn n) done s.0 p d.placed)
-          ∙ ap (line_map xs) (line_map-append done s.0 bits ∙ d.effect (line_map done bits) long);
-    }
+pub split_gates_do : (n : ℕ) (gates result : List GateView) → AreGatesOn n gates → split_gates n gates ≡ Some result → DoesAll n gates result
+split_gates_do n [] result g e = subst (DoesAll n []) (same_Some _ _ e) (record { narrow = tt; placed = tt; effect = λ bits long. refl })
+split_gates_do n (x ∷ xs) result g e =
+    let parts = parts_of (split_gate n x) (split_gates n xs) result e in
+    let one = split_gate_does n x parts.first g.0 parts.first_is in
+    let rest = split_gates_do n xs parts.rest g.1 parts.rest_is in
+    subst (DoesAll n (x ∷ xs)) parts.all (record {
+      narrow = AllByRecursion-append IsNarrow parts.first parts.rest one.narrow rest.narrow;
+      placed = AllByRecursion-append (IsGateOn n) parts.first parts.rest one.placed rest.placed;
+      effect = λ bits long.
+          let behind : length (line_map parts.first bits) ≡ n = length-line_map parts.first bits (rw long one.placed) ∙ long in
+          line_map-append parts.first parts.rest bits ∙ rest.effect (line_map parts.first bits) behind ∙ ap (line_map xs) (one.effect bits long);
+    })

@@ -1,16 +1,15 @@
 -- The gates in place of one: a flip, a swap, or a gate that is narrow already.
-use Rattle.std.proofs.Common.{◌≡◌, ℕ, ◌+◌, ◌<◌, ◌≤◌, Bool, true, false, ◌&&◌, List, [], ◌∷◌, ◌++◌, length, map, Option, Some, None, Result, Ok, refl, sym, ap}
+use Rattle.std.proofs.Common.{◌≡◌, ℕ, ◌+◌, ◌<◌, ◌≤◌, Bool, true, false, ◌&&◌, List, [], ◌∷◌, ◌++◌, length, map, Option, Some, None, refl, sym, ap}
 use Rattle.std.proofs.Common.{◌∙◌, inl, inr, cond, get_or, drop, arith}
 use Rattle.std.specs.List.{AllByRecursion, list_all}
-use Rattle.std.proofs.lemmas.List.{append_assoc, append-nil, length-append, map-append, length-map, drop_more, drop_all}
+use Rattle.std.proofs.lemmas.List.{append_assoc, append-nil, map-append, length-map, drop_more, drop_all}
 use Rattle.std.proofs.lemmas.Bool.Decides.{leb_tells}
 use Rattle.mct_circuit.specs.declared.gate.Control.{Control}
 use Rattle.mct_circuit.specs.declared.gate.Op.{Op}
 use Rattle.mct_circuit.specs.declared.gate.Op.TheVariants.{Flip, Swap}
 use Rattle.mct_circuit.specs.Gates.{GateView, flip_of, positive, IsGateOn, IsNarrow, AreNarrow}
 use Rattle.list_facts.specs.Lists.{AreDifferent}
-use Rattle.gate_split.specs.declared.fault.SplitFault.{SplitFault}
-use Rattle.gate_split.specs.Split.{flips_of_negatives, split_positive, split_op, split_gate, between, behind, with_piece, split_from}
+use Rattle.gate_split.specs.Split.{flips_of_negatives, split_positive, split_op, split_gate, split_gates, between, behind, joined}
 use Rattle.gate_split.specs.Costs.{NarrowStay}
 use Rattle.gate_split.proofs.EffectLemmas.{gate_on}
 use Rattle.gate_split.proofs.NegativeLemmas.{lines}
@@ -130,25 +129,16 @@ narrow_stays n gate s =
     ∙ ap (λ l. between [] (split_positive n l s.target)) (lines_back s.controls) ∙ ap (between []) (few_stay n s.controls s.target s.few)
     ∙ ap (λ g. Some (g ∷ [])) (sym s.is_flip)
 
-pub narrow_behind : (n : ℕ) (gate copy : GateView) (done now : List GateView) → IsNarrow gate → copy ≡ gate → now ≡ done ++ copy ∷ []
+pub narrow_behind : (n : ℕ) (gate : GateView) (done now : List GateView) → IsNarrow gate → now ≡ done ++ gate ∷ []
     → behind done (split_gate n gate) ≡ Some now
-narrow_behind n gate copy done now s e f = ap (behind done) (narrow_stays n gate s) ∙ ap (λ g. Some (done ++ g ∷ [])) (sym e) ∙ ap Some (sym f)
+narrow_behind n gate done now s is = ap (behind done) (narrow_stays n gate s) ∙ ap Some (sym is)
 
-stays_one : (limit place : ℕ) (done : List GateView) (gate : GateView) (next : List GateView → Result (List GateView) SplitFault)
-    → length (done ++ gate ∷ []) ≤ limit → with_piece (Some (gate ∷ [])) limit place done next ≡ next (done ++ gate ∷ [])
-stays_one limit place done gate next h = elim (leb_tells (length (done ++ gate ∷ [])) limit) [ inl t ↦ rw t.0 refl | inr t ↦ absurd (omega (arith, t.1)) ]
-
-stays_from : (n limit place : ℕ) (done gates : List GateView) → AreNarrow gates → length done + length gates ≤ limit
-    → split_from n limit place done gates ≡ Ok (done ++ gates)
-stays_from n limit place done [] s h = ap Ok (sym (append-nil done))
-stays_from n limit place done (g ∷ gs) s h =
-    let next : List GateView → Result (List GateView) SplitFault = λ now. split_from n limit (place + 1) now gs in
-    let long = length-append done (g ∷ []) in
-    ap (λ o. with_piece o limit place done next) (narrow_stays n g s.0) ∙ stays_one limit place done g next (omega arith)
-    ∙ stays_from n limit (place + 1) (done ++ g ∷ []) gs s.1 (omega arith) ∙ ap Ok (append_assoc done (g ∷ []) gs)
+stays : (n : ℕ) (gates : List GateView) → AreNarrow gates → split_gates n gates ≡ Some gates
+stays n [] s = refl
+stays n (g ∷ gs) s = ap (λ o. joined o (split_gates n gs)) (narrow_stays n g s.0) ∙ ap (behind (g ∷ [])) (stays n gs s.1)
 
 pub stay : NarrowStay
-stay n limit gates s h = stays_from n limit 0 [] gates s (omega arith)
+stay n limit gates s few = record { is = stays n gates s; within = few }
 
 -- ---- the loop over the controls
 

@@ -1,6 +1,6 @@
 -- Flips that have at most two controls or an idle line are split.
 use Rattle.std.proofs.Common.{◌≡◌, ℕ, zero, suc, ◌+◌, ◌-◌, ◌*◌, ◌<◌, ◌≤◌, ◌⊎◌, Bool, true, false, not, cond, leb, List, [], ◌∷◌, ◌++◌, length, take, Some}
-use Rattle.std.proofs.Common.{Option, Ok, Err, Result, refl, sym, ap, ◌∙◌, subst, inl, inr, arith}
+use Rattle.std.proofs.Common.{Option, refl, sym, ap, ◌∙◌, subst, inl, inr, arith}
 use Rattle.std.specs.List.{AllByRecursion, sum_by}
 use Rattle.std.proofs.lemmas.Bool.{cases_lt}
 use Rattle.std.proofs.lemmas.Bool.Decides.{leb_tells}
@@ -11,12 +11,10 @@ use Rattle.mct_circuit.specs.declared.gate.Control.{Control}
 use Rattle.mct_circuit.specs.declared.gate.Op.TheVariants.{Flip}
 use Rattle.mct_circuit.specs.Gates.{GateView, IsGateOn, flip_of, lines_of, targets_of}
 use Rattle.mct_circuit.specs.Sizes.{has_line, negative_controls, op_weight, weight_of}
-use Rattle.list_facts.proofs.AllLemmas.{AllByRecursion-weaker}
-use Rattle.gate_split.specs.declared.fault.SplitFault.{SplitFault}
-use Rattle.gate_split.specs.declared.fault.SplitFault.TheVariants.{Gates, NoIdle}
+use Rattle.list_facts.proofs.AllLemmas.{AllByRecursion-take, AllByRecursion-weaker}
 use Rattle.gate_split.specs.Costs.{most_gates, IsRoomyFlip, RoomyFlipsAreSplit}
 use Rattle.gate_split.specs.Split.{Avoids, falling_lines, idle_lines, flips_of_negatives, over_few_lines, over_idle_lines, in_halves, split_positive, split_op}
-use Rattle.gate_split.specs.Split.{split_gate, between, with_piece, split_from}
+use Rattle.gate_split.specs.Split.{WantsIdle, split_gate, split_gates, between, behind, joined}
 use Rattle.gate_split.proofs.CostLemmas.{costs}
 use Rattle.gate_split.proofs.FallingLineLemmas.{false_true, falling_yes, falling_no, no_member}
 use Rattle.gate_split.proofs.NegativeLemmas.{lines}
@@ -129,32 +127,25 @@ gate_piece n gate flip =
       few = subst (λ m. length whole.gates ≤ m) most whole.few;
     }
 
--- ---- the walk
+-- ---- many gates
 
-within : (limit place : ℕ) (done piece : List GateView) (next : List GateView → Result (List GateView) SplitFault) → length (done ++ piece) ≤ limit
-    → with_piece (Some piece) limit place done next ≡ next (done ++ piece)
-within limit place done piece next h =
-    elim (leb_tells (length (done ++ piece)) limit) [ inl t ↦ rw t.0 refl | inr t ↦ absurd (omega (arith, t.1)) ]
-
-record Goes (n limit place : ℕ) (done gates : List GateView) : Type 0 where
+record HasFew (n : ℕ) (gates : List GateView) : Type 0 where
   narrow : List GateView
-  is : split_from n limit place done gates ≡ Ok narrow
-  few : length narrow ≤ length done + sum_by most_gates gates
+  is : split_gates n gates ≡ Some narrow
+  few : length narrow ≤ sum_by most_gates gates
 
-goes : (n limit place : ℕ) (done gates : List GateView) → AllByRecursion (IsRoomyFlip n) gates → length done + sum_by most_gates gates ≤ limit
-    → Goes n limit place done gates
-goes n limit place done [] roomy fits = record { narrow = done; is = refl; few = omega arith }
-goes n limit place done (gate ∷ gates) roomy fits =
+gates_few : (n : ℕ) (gates : List GateView) → AllByRecursion (IsRoomyFlip n) gates → HasFew n gates
+gates_few n [] roomy = record { narrow = []; is = refl; few = omega arith }
+gates_few n (gate ∷ gates) roomy =
     let piece = gate_piece n gate roomy.0 in
+    let rest = gates_few n gates roomy.1 in
     let few = piece.few in
-    let next : List GateView → Result (List GateView) SplitFault = λ now. split_from n limit (place + 1) now gates in
-    let long = length-append done piece.gates in
+    let more = rest.few in
+    let long = length-append piece.gates rest.narrow in
     let sum = sum_by-cons most_gates gate gates in
-    let rest = goes n limit (place + 1) (done ++ piece.gates) gates roomy.1 (omega arith) in
-    let behind = rest.few in
     record {
-      narrow = rest.narrow;
-      is = ap (λ o. with_piece o limit place done next) piece.is ∙ within limit place done piece.gates next (omega arith) ∙ rest.is;
+      narrow = piece.gates ++ rest.narrow;
+      is = ap (λ o. joined o (split_gates n gates)) piece.is ∙ ap (behind piece.gates) rest.is;
       few = omega arith;
     }
 
@@ -175,22 +166,13 @@ most_within gate =
     let some = count_by-le-length (λ (control : Control). not control.positive) gate.controls in
     elim (leb_tells (length gate.controls) 2) [ inl t ↦ rw t.0 (omega arith) | inr t ↦ rw t.0 (omega arith) ]
 
--- a walk over such flips never comes to one without an idle line
-never_idle : (n limit place at : ℕ) (done gates : List GateView) → AllByRecursion (IsRoomyFlip n) gates
-    → split_from n limit place done gates ≡ Err (NoIdle at) → ⊥
-never_idle n limit place at done [] roomy e = cc
-never_idle n limit place at done (gate ∷ gates) roomy e =
-    let piece = gate_piece n gate roomy.0 in
-    let next : List GateView → Result (List GateView) SplitFault = λ now. split_from n limit (place + 1) now gates in
-    let now : with_piece (Some piece.gates) limit place done next ≡ Err (NoIdle at) =
-    sym (ap (λ o. with_piece o limit place done next) piece.is) ∙ e in
-    elim (leb_tells (length (done ++ piece.gates)) limit) [
-      | inl t ↦ never_idle n limit (place + 1) at (done ++ piece.gates) gates roomy.1
-          (sym (within limit place done piece.gates next (omega (arith, t.1))) ∙ now)
-      | inr t ↦ (let over : with_piece (Some piece.gates) limit place done next ≡ Err Gates = rw t.0 refl in let both = sym over ∙ now in cc)
-    ]
+never_idle : (n limit place : ℕ) (gates : List GateView) → AllByRecursion (IsRoomyFlip n) gates → WantsIdle n limit gates place → ⊥
+never_idle n limit place gates roomy wants =
+    let some = gates_few n (take (place + 1) gates) (AllByRecursion-take (IsRoomyFlip n) (place + 1) gates roomy) in
+    let both = sym wants.none ∙ some.is in cc
 
-more_room : (n more : ℕ) (gate : GateView) → n ≤ more → IsRoomyFlip n gate → IsRoomyFlip more gate
+-- on more lines
+pub more_room : (n more : ℕ) (gate : GateView) → n ≤ more → IsRoomyFlip n gate → IsRoomyFlip more gate
 more_room n more gate le flip = record {
   on = record {
     different = flip.on.different;
@@ -206,10 +188,10 @@ more_room n more gate le flip = record {
 
 pub roomy_flips : RoomyFlipsAreSplit
 roomy_flips = record {
-  idle = λ n limit at gates roomy e. never_idle n limit 0 at [] gates roomy e;
+  idle = λ n limit place gates roomy wants. never_idle n limit place gates roomy wants;
   wider = λ n more gates le roomy. AllByRecursion-weaker (IsRoomyFlip n) (IsRoomyFlip more) (λ gate flip. more_room n more gate le flip) gates roomy;
-  split = λ n limit gates roomy fits. let all = goes n limit 0 [] gates roomy (omega arith) in
-      let few = all.few in record { narrow = all.narrow; is = all.is; few = omega arith };
+  split = λ n limit gates roomy fits. let all = gates_few n gates roomy in
+      let few = all.few in record { narrow = all.narrow; is = record { is = all.is; within = omega arith }; few = few };
   weight = weight_within;
   each = most_within;
 }

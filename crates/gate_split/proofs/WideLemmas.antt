@@ -1,19 +1,16 @@
 -- What the calls of the code need, and what their answers make.
-use Rattle.std.proofs.Common.{◌≡◌, ◌≢◌, ℕ, zero, suc, ◌+◌, ◌-◌, ◌<◌, ◌≤◌, leb, cond, List, [], ◌∷◌, ◌++◌, length, take, drop, reverse, Option, Some, None, refl}
-use Rattle.std.proofs.Common.{sym, ap, ◌∙◌, subst, inl, inr, arith, Ok, Err}
+use Rattle.std.proofs.Common.{◌≡◌, ◌≢◌, ℕ, zero, suc, ◌+◌, ◌-◌, ◌<◌, ◌≤◌, leb, cond, List, [], ◌∷◌, ◌++◌, length, take, drop, get_or, reverse, Some, None, refl}
+use Rattle.std.proofs.Common.{sym, ap, ◌∙◌, subst, inl, inr, arith}
 use Rattle.std.specs.List.{AllByRecursion}
 use Rattle.std.proofs.lemmas.List.{append_assoc, append-nil, length-append, length-take, length-take-le, length-drop, take-append-drop, take-take}
 use Rattle.std.proofs.lemmas.Bool.Decides.{leb_tells}
 use Rattle.list_facts.proofs.AllLemmas.{AllByRecursion-left, AllByRecursion-right, AllByRecursion-weaker}
 use Rattle.list_facts.proofs.OrderLemmas.{AreDifferent-left, AreDifferent-parts}
 use Rattle.mct_circuit.specs.Gates.{GateView, flip_of, HasDifferentLines, IsGateOn}
-use Rattle.gate_split.specs.declared.fault.GateRefusal.{GateRefusal}
-use Rattle.gate_split.specs.declared.fault.GateRefusal.TheVariants as refusal
-use Rattle.gate_split.specs.inside.Walks.{first_idle}
 use Rattle.gate_split.specs.inside.Idle.{Serves}
 use Rattle.gate_split.specs.Split.{Avoids}
 use Rattle.gate_split.specs.Split.{idle_lines, in_falling_order, ladder, over_idle_lines, with_enough_idle, first_half, first_flips, second_flips, in_halves}
-use Rattle.gate_split.specs.Split.{over_few_lines, split_positive, behind}
+use Rattle.gate_split.specs.Split.{over_few_lines, split_positive}
 use Rattle.gate_split.proofs.LadderLemmas.{fits_gates}
 use Rattle.gate_split.proofs.FallingLineLemmas.{length-in_falling_order}
 use Rattle.gate_split.proofs.EffectLemmas.{different_of, below_of, serves_fits, serves_take, idle_serves, Halves, first_serves, second_serves}
@@ -183,37 +180,26 @@ positive_none n controls target idle h e none =
     positive_few n controls target idle h e (λ q. absurd (omega arith)) ∙ few_none n controls target (length controls - 2)
     (idle_lines n (controls ++ target ∷ [])) (omega arith) (sym e ∙ none)
 
-pub positive_halves : (n : ℕ) (controls : List ℕ) (target : ℕ) (idle : List ℕ) (a : ℕ) (ls : List ℕ) → 2 < length controls
-    → idle ≡ take (length controls - 2) (idle_lines n (controls ++ target ∷ [])) → length idle ≢ length controls - 2 → idle ≡ a ∷ ls
-    → split_positive n controls target ≡ Some (in_halves n controls target a)
-positive_halves n controls target idle a ls h e short some =
-    positive_few n controls target idle h e short ∙ few_some n controls target (length controls - 2) (idle_lines n (controls ++ target ∷ [])) a ls
-    (sym e ∙ some)
+-- the first idle line, of which there is one where there are gates
+first_is : (n : ℕ) (controls : List ℕ) (target : ℕ) (idle : List ℕ) → 2 < length controls
+    → idle ≡ take (length controls - 2) (idle_lines n (controls ++ target ∷ [])) → split_positive n controls target ≢ None
+    → idle ≡ get_or idle 0 0 ∷ drop 1 idle
+first_is n controls target [] h e some = absurd (some (positive_none n controls target [] h e refl))
+first_is n controls target (line ∷ lines) h e some = refl
 
--- the first idle line of a gate is none of its lines
-pub first_idle_apart : (n : ℕ) (controls : List ℕ) (target : ℕ) (idle : List ℕ) (a : ℕ) (ls : List ℕ) → IsGateOn n (flip_of controls target)
-    → idle ≡ take (length controls - 2) (idle_lines n (controls ++ target ∷ [])) → idle ≡ a ∷ ls → (a < n) × Avoids a (controls ++ target ∷ [])
-first_idle_apart n controls target idle a ls g e some =
+pub positive_halves : (n : ℕ) (controls : List ℕ) (target : ℕ) (idle : List ℕ) → 2 < length controls
+    → idle ≡ take (length controls - 2) (idle_lines n (controls ++ target ∷ [])) → length idle ≢ length controls - 2
+    → split_positive n controls target ≢ None → split_positive n controls target ≡ Some (in_halves n controls target (get_or idle 0 0))
+positive_halves n controls target idle h e short some =
+    positive_few n controls target idle h e short ∙ few_some n controls target (length controls - 2) (idle_lines n (controls ++ target ∷ []))
+    (get_or idle 0 0) (drop 1 idle) (sym e ∙ first_is n controls target idle h e some)
+
+-- it is none of the gate's lines
+pub first_idle_apart : (n : ℕ) (controls : List ℕ) (target : ℕ) (idle : List ℕ) → IsGateOn n (flip_of controls target) → 2 < length controls
+    → idle ≡ take (length controls - 2) (idle_lines n (controls ++ target ∷ [])) → split_positive n controls target ≢ None
+    → (get_or idle 0 0 < n) × Avoids (get_or idle 0 0) (controls ++ target ∷ [])
+first_idle_apart n controls target idle g h e some =
     let cut = serves_take n controls target (length controls - 2) (idle_lines n (controls ++ target ∷ [])) (idle_serves n controls target g) in
-    let s : Serves n controls target (a ∷ ls) = subst (Serves n controls target) (sym e ∙ some) cut in
+    let s : Serves n controls target (get_or idle 0 0 ∷ drop 1 idle) =
+    subst (Serves n controls target) (sym e ∙ first_is n controls target idle h e some) cut in
     (s.below.0, s.apart.0)
-
--- an idle line was found, so it is the first
-pub line_found : (idle : List ℕ) (line : ℕ) → Ok line ≡ first_idle idle → idle ≡ line ∷ drop 1 idle
-line_found [] line e = absurd (cc)
-line_found (x ∷ xs) line e = let same : line ≡ x = cc in ap (λ k. k ∷ xs) (sym same)
-
--- no idle line was found, so there is none
-pub no_line_found : (idle : List ℕ) (refused : GateRefusal) → Err refused ≡ first_idle idle → idle ≡ []
-no_line_found [] refused e = refl
-no_line_found (x ∷ xs) refused e = absurd (cc)
-
-pub no_line_full : {A : Type 0} (idle : List ℕ) (refused : GateRefusal) → Err refused ≡ first_idle idle → refused ≡ refusal.Full → A
-no_line_full [] refused e is = absurd (cc)
-no_line_full (x ∷ xs) refused e is = absurd (cc)
-
--- ---- the walk
-
-pub nothing_behind : (o : Option (List GateView)) (piece : List GateView) → behind [] o ≡ Some piece → o ≡ Some piece
-nothing_behind None piece e = absurd (cc)
-nothing_behind (Some gates) piece e = e

@@ -1,11 +1,10 @@
 -- What a split costs, what it leaves as it is, and which flips it takes.
-use Rattle.std.specs.Prelude.{◌≡◌, ◌≢◌, ℕ, ◌+◌, ◌-◌, ◌*◌, ◌<◌, ◌≤◌, ◌⊎◌, ◌==◌, nat_le, if◌then◌else◌, Some, Ok, Err, List, [], ◌∷◌, ◌++◌, length, sum_by}
+use Rattle.std.specs.Prelude.{◌≡◌, ℕ, ◌+◌, ◌-◌, ◌*◌, ◌<◌, ◌≤◌, ◌⊎◌, ◌==◌, nat_le, if◌then◌else◌, Some, List, [], ◌∷◌, ◌++◌, length, sum_by}
 use Rattle.std.specs.List.{AllByRecursion}
-use Rattle.gate_split.specs.declared.fault.SplitFault.TheVariants.{NoIdle}
 use Rattle.mct_circuit.specs.declared.gate.Op.TheVariants.{Flip}
 use Rattle.mct_circuit.specs.Gates.{GateView, IsGateOn, AreNarrow, flip_of, lines_of}
 use Rattle.mct_circuit.specs.Sizes.{negative_controls, weight_of}
-use Rattle.gate_split.specs.Split.{Avoids, idle_lines, split_positive, split_list}
+use Rattle.gate_split.specs.Split.{Avoids, IsSplitList, WantsIdle, idle_lines, split_positive}
 
 -- ---- flips of positive controls
 
@@ -32,7 +31,7 @@ SplitCosts =
 abbrev pub NarrowStay : Type 0
 NarrowStay =
     (n limit : ℕ) (gates : List GateView) → AreNarrow gates → length gates ≤ limit
-    → split_list n limit gates ≡ Ok gates
+    → IsSplitList n limit gates gates
 
 -- ---- flips that a split takes
 
@@ -57,18 +56,18 @@ pub record IsRoomyFlip (n : ℕ) (gate : GateView) : Type 0 where
   pub room : (length gate.controls ≤ 2) ⊎ HasIdleLine n gate
 
 -- the gates have a split list on n lines within the limit, of at most so many gates
-pub record IsSplit (n limit : ℕ) (gates : List GateView) (most : ℕ) : Type 0 where
+pub record IsSplitWithin (n limit : ℕ) (gates : List GateView) (most : ℕ) : Type 0 where
   pub narrow : List GateView
-  pub is : split_list n limit gates ≡ Ok narrow
+  pub is : IsSplitList n limit gates narrow
   pub few : length narrow ≤ most
 
 -- Such flips never want an idle line, on these lines or more. They are split where their most gates are within the limit
 -- together; and the most gates for a flip of k controls are at least its weight, and at most 10k + 1.
 pub record RoomyFlipsAreSplit : Type 0 where
   pub split : (n limit : ℕ) (gates : List GateView) → AllByRecursion (IsRoomyFlip n) gates
-      → sum_by most_gates gates ≤ limit → IsSplit n limit gates (sum_by most_gates gates)
+      → sum_by most_gates gates ≤ limit → IsSplitWithin n limit gates (sum_by most_gates gates)
   pub idle : (n limit place : ℕ) (gates : List GateView) → AllByRecursion (IsRoomyFlip n) gates
-      → split_list n limit gates ≢ Err (NoIdle place)
+      → WantsIdle n limit gates place → ⊥
   pub wider : (n more : ℕ) (gates : List GateView) → n ≤ more
       → AllByRecursion (IsRoomyFlip n) gates → AllByRecursion (IsRoomyFlip more) gates
   pub weight : (n : ℕ) (gate : GateView) → IsRoomyFlip n gate → weight_of gate ≤ most_gates gate

@@ -1,5 +1,5 @@
 -- The split of a circuit into flips of at most two controls, all positive, gate by gate.
-use Rattle.std.specs.Prelude.{◌≡◌, ◌≢◌, ℕ, zero, suc, ◌+◌, ◌-◌, ◌/◌, Bool, not, nat_le, if◌then◌else◌, Option, Some, None, Result, Ok, Err, List, [], ◌∷◌, ◌++◌}
+use Rattle.std.specs.Prelude.{◌≡◌, ◌≢◌, ℕ, zero, suc, ◌+◌, ◌-◌, ◌/◌, ◌<◌, ◌≤◌, Bool, not, nat_le, if◌then◌else◌, Option, Some, None, Result, Ok, Err, List, [], ◌∷◌, ◌++◌}
 use Rattle.std.specs.Prelude.{length, map, reverse, take, drop}
 use Rattle.std.specs.List.{AllByRecursion}
 use Rattle.mct_circuit.specs.declared.gate.Control.{Control}
@@ -8,7 +8,7 @@ use Rattle.mct_circuit.specs.declared.gate.Op.TheVariants.{Flip, Swap}
 use Rattle.mct_circuit.specs.Gates.{GateView, flip_of, positive}
 use Rattle.mct_circuit.specs.Sizes.{has_line}
 use Rattle.gate_split.specs.declared.fault.SplitFault.{SplitFault}
-use Rattle.gate_split.specs.declared.fault.SplitFault.TheVariants.{NoIdle, Gates}
+use Rattle.gate_split.specs.declared.fault.SplitFault.TheVariants.{NoIdle, Gates, Memory}
 
 -- ---- lines in falling order
 
@@ -122,27 +122,44 @@ split_op n controls (Swap first second) =
 abbrev pub split_gate : ℕ → GateView → Option (List GateView)
 split_gate n gate = split_op n gate.controls gate.op
 
--- ---- the walk over the gates
+-- ---- the gates in place of many
 
-abbrev pub with_piece : Option (List GateView) → ℕ → ℕ → List GateView
-    → (List GateView → Result (List GateView) SplitFault) → Result (List GateView) SplitFault
-with_piece None limit place done next = Err (NoIdle place)
-with_piece (Some piece) limit place done next =
-    if nat_le (length (done ++ piece)) limit then next (done ++ piece) else Err Gates
+-- the gates of both, where there are both
+abbrev pub joined : Option (List GateView) → Option (List GateView) → Option (List GateView)
+joined None rest = None
+joined (Some first) rest = behind first rest
 
--- the gates from the given place on, behind those that are done
-abbrev pub split_from : ℕ → ℕ → ℕ → List GateView → List GateView
-    → Result (List GateView) SplitFault
-split_from n limit place done [] = Ok done
-split_from n limit place done (gate ∷ gates) =
-    with_piece (split_gate n gate) limit place done
-    (λ now. split_from n limit (place + 1) now gates)
+-- the gates in place of each of them, in order; none where one of them has none
+abbrev pub split_gates : ℕ → List GateView → Option (List GateView)
+split_gates n [] = Some []
+split_gates n (gate ∷ gates) = joined (split_gate n gate) (split_gates n gates)
 
--- the split list on n lines: the gates, or the first gate that has no idle line, or that the gates pass the limit, whichever the walk meets first
-abbrev pub split_list : ℕ → ℕ → List GateView → Result (List GateView) SplitFault
-split_list n limit gates = split_from n limit 0 [] gates
+-- these stand in place of the gates, and are within the limit
+pub record IsSplitList (n limit : ℕ) (gates narrow : List GateView) : Type 0 where
+  pub is : split_gates n gates ≡ Some narrow
+  pub within : length narrow ≤ limit
 
 -- there is a split list
 pub record HasSplitList (n limit : ℕ) (gates : List GateView) : Type 0 where
   pub narrow : List GateView
-  pub is : split_list n limit gates ≡ Ok narrow
+  pub split : IsSplitList n limit gates narrow
+
+-- the gates before this place have a split list, and with the one there they have none
+pub record WantsIdle (n limit : ℕ) (gates : List GateView) (place : ℕ) : Type 0 where
+  pub before : HasSplitList n limit (take place gates)
+  pub none : split_gates n (take (place + 1) gates) ≡ None
+
+-- the gates before some place have a split list, and with the one there theirs would pass the limit
+pub record PassesLimit (n limit : ℕ) (gates : List GateView) : Type 0 where
+  pub place : ℕ
+  pub before : HasSplitList n limit (take place gates)
+  pub over : List GateView
+  pub is : split_gates n (take (place + 1) gates) ≡ Some over
+  pub passes : limit < length over
+
+-- what the split of the gates comes to
+abbrev pub IsSplit : (n limit : ℕ) → List GateView → Result (List GateView) SplitFault → Type 0
+IsSplit n limit gates (Ok narrow) = IsSplitList n limit gates narrow
+IsSplit n limit gates (Err (NoIdle place)) = WantsIdle n limit gates place
+IsSplit n limit gates (Err Gates) = PassesLimit n limit gates
+IsSplit n limit gates (Err Memory) = ⊥

@@ -1,4 +1,3 @@
 -- What only private contracts and proofs cite.
 pub mod Counts
 pub mod Idle
-pub mod Walks

@@ -2,7 +2,7 @@
 ghost use Rattle.std.specs.Prelude.{◌≡◌, ◌+◌, ◌*◌, ◌<◌, ◌≤◌, length, IfErr, OnOk, IsErrOf, Err};
 ghost use Rattle.mct_circuit.specs.Gates.{IsGateOn};
 ghost use Rattle.mct_circuit.specs.Sizes.{negative_controls};
-ghost use Rattle.gate_split.specs.Split.{HasSplitList, split_gate, split_list};
+ghost use Rattle.gate_split.specs.Split.{HasSplitList, IsSplit, split_gate};
 ghost use Rattle.gate_split.specs.inside.Counts.{CountsFlips, count_of, counted_on};
 ghost use Rattle.gate_split.specs.inside.Counts.{counted_within};
 
@@ -13,7 +13,7 @@ use mct_circuit::{Circuit, Control, Gate, Op};
 pub fn decide(circuit: &Circuit, lines: u32, limit: u64) -> Result<(), SplitFault>
     requires { circuit.now.lines ≤ lines }
     ensures some { OnOk result (HasSplitList lines limit circuit.now.gates) }
-    ensures none { IfErr result (λ fault. split_list lines limit circuit.now.gates ≡ Err fault) }
+    ensures none { IfErr result (λ fault. IsSplit lines limit circuit.now.gates (Err fault)) }
     ensures exact { ¬ IsErrOf result SplitFault.Memory }
 {
     let mut count = 0;

@@ -7,10 +7,12 @@ mod counting;
 mod fault;
 mod idle;
 mod law;
+mod narrow;
 mod piece;
 mod walk;
 mod wide;
 
 pub use fault::SplitFault;
 pub use law::{narrow_stay, roomy_flips_are_split, split_costs};
-pub use walk::{is_narrow, split};
+pub use narrow::is_narrow;
+pub use walk::split;

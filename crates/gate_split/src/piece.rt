@@ -1,31 +1,33 @@
 // The gates in place of one: swaps and negative controls.
-ghost use Rattle.std.specs.Prelude.{◌≡◌, ◌∷◌, [], ◌++◌, map, Some, None, IfOk, OnOk, IsErrOf};
+ghost use Rattle.std.specs.Prelude.{◌≡◌, ◌≢◌, ◌∷◌, [], ◌++◌, map, Some, None, IfOk, OnOk};
 ghost use Rattle.list_facts.specs.Lists.{AreDifferent};
 ghost use Rattle.mct_circuit.specs.Gates.{IsGateOn, flip_of};
 ghost use Rattle.gate_split.specs.Split.{flips_of_negatives, split_positive, split_gate, between};
 ghost use Rattle.gate_split.specs.Split.{behind};
 
-use crate::fault::GateRefusal;
 use crate::idle::LineMarks;
-use crate::wide::{push_one_flip, push_positive};
+use crate::narrow::is_narrow;
+use crate::wide::{push_copy, push_one_flip, push_positive};
 use mct_circuit::{Control, Gate, Op};
 use revc_base::Memory;
 use std::alloc::Global;
 
-// Appends the gates in place of a gate.
+// Appends the gates in place of a gate, of which there are some. A narrow gate is copied at once.
 pub fn push_piece(
     alloc: Global,
     gates: &mut Vec<Gate>,
     gate: &Gate,
     marks: &mut LineMarks,
-) -> Result<(), GateRefusal>
-    requires { IsGateOn marks.old gate.now }
+) -> Result<(), Memory>
+    requires gate { IsGateOn marks.old gate.now }
+    requires some { split_gate marks.old gate.now ≢ None }
     ensures split { OnOk result (behind gates.old.items (split_gate marks.old gate.now)
         ≡ Some gates.new.items) }
     ensures same { marks.new ≡ marks.old }
-    ensures refused { IsErrOf result GateRefusal.NoIdle → split_gate marks.old gate.now ≡ None }
-    ensures cause { IsErrOf result GateRefusal.Full → ⊥ }
 {
+    if is_narrow(gate) {
+        return push_copy(gates, gate);
+    }
     let controls = gate.controls();
     let mut lines = lines_of(alloc, controls)?;
     match gate.op() {
@@ -46,23 +48,20 @@ fn push_swap(
     first: u32,
     second: u32,
     marks: &mut LineMarks,
-) -> Result<(), GateRefusal>
+) -> Result<(), Memory>
     requires gate { IsGateOn marks.old (flip_of (lines.old.items ++ first ∷ []) second) }
     requires apart { AreDifferent (second ∷ first ∷ []) }
+    requires some { split_positive marks.old (lines.old.items ++ first ∷ []) second ≢ None }
     ensures split { OnOk result (behind gates.old.items (between (flip_of (second ∷ []) first ∷ [])
         (between (flips_of_negatives controls.now)
         (split_positive marks.old (lines.old.items ++ first ∷ []) second)))
         ≡ Some gates.new.items) }
     ensures same { marks.new ≡ marks.old }
-    ensures refused { IsErrOf result GateRefusal.NoIdle
-        → split_positive marks.old (lines.old.items ++ first ∷ []) second ≡ None }
-    ensures cause { IsErrOf result GateRefusal.Full → ⊥ }
 {
     lines.push(first)?;
     push_one_flip(alloc, gates, &[second], first)?;
     push_flip(alloc, gates, controls, lines, second, marks)?;
-    push_one_flip(alloc, gates, &[second], first)?;
-    Ok(())
+    push_one_flip(alloc, gates, &[second], first)
 }
 
 // Appends the gates in place of a flip where all lines of `lines` are 1, between flips of the lines
@@ -74,20 +73,17 @@ fn push_flip(
     lines: &[u32],
     target: u32,
     marks: &mut LineMarks,
-) -> Result<(), GateRefusal>
-    requires { IsGateOn marks.old (flip_of lines.now target) }
+) -> Result<(), Memory>
+    requires gate { IsGateOn marks.old (flip_of lines.now target) }
+    requires some { split_positive marks.old lines.now target ≢ None }
     ensures split { OnOk result (behind gates.old.items
         (between (flips_of_negatives controls.now) (split_positive marks.old lines.now target))
         ≡ Some gates.new.items) }
     ensures same { marks.new ≡ marks.old }
-    ensures refused { IsErrOf result GateRefusal.NoIdle
-        → split_positive marks.old lines.now target ≡ None }
-    ensures cause { IsErrOf result GateRefusal.Full → ⊥ }
 {
     push_negatives(alloc, gates, controls)?;
     push_positive(alloc, gates, lines, target, marks)?;
-    push_negatives(alloc, gates, controls)?;
-    Ok(())
+    push_negatives(alloc, gates, controls)
 }
 
 // Appends a flip of each line of a negative control.

@@ -1,42 +1,37 @@
 // Flips under positive controls, split over idle lines (Barenco and others 1995, Lemmas 7.2 and
 // 7.3).
 ghost use Rattle.std.specs.Prelude.{◌≡◌, ℕ, ◌+◌, ◌-◌, ◌<◌, ◌≤◌, ◌∷◌, [], ◌++◌, length, reverse};
-ghost use Rattle.std.specs.Prelude.{take, Some, None, IfOk, OnOk, IsErrOf};
+ghost use Rattle.std.specs.Prelude.{◌≢◌, take, Some, None, IfOk, OnOk};
 ghost use Rattle.std.specs.List.{AllByRecursion};
 ghost use Rattle.list_facts.specs.Lists.{AreDifferent};
 ghost use Rattle.mct_circuit.specs.Gates.{HasDifferentLines, IsGateOn, flip_of};
 ghost use Rattle.gate_split.specs.inside.Idle.{Serves};
 ghost use Rattle.gate_split.specs.Split.{Avoids};
-ghost use Rattle.gate_split.specs.inside.Walks.{first_idle};
 ghost use Rattle.gate_split.specs.Split.{ladder, there_and_back, over_idle_lines, with_enough_idle};
-ghost use Rattle.gate_split.specs.Split.{first_flips, second_flips, in_halves, in_falling_order};
+ghost use Rattle.gate_split.specs.Split.{first_flips, second_flips, in_falling_order};
 ghost use Rattle.gate_split.specs.Split.{idle_lines, split_positive, behind};
 
-use crate::fault::GateRefusal;
 use crate::idle::LineMarks;
 use mct_circuit::Gate;
 use revc_base::Memory;
 use std::alloc::Global;
 
-// Appends the gates in place of a flip under positive controls.
+// Appends the gates in place of a flip under positive controls, of which there are some.
 pub fn push_positive(
     alloc: Global,
     gates: &mut Vec<Gate>,
     controls: &[u32],
     target: u32,
     marks: &mut LineMarks,
-) -> Result<(), GateRefusal>
-    requires { IsGateOn marks.old (flip_of controls.now target) }
+) -> Result<(), Memory>
+    requires gate { IsGateOn marks.old (flip_of controls.now target) }
+    requires some { split_positive marks.old controls.now target ≢ None }
     ensures split { OnOk result (behind gates.old.items
         (split_positive marks.old controls.now target) ≡ Some gates.new.items) }
     ensures same { marks.new ≡ marks.old }
-    ensures refused { IsErrOf result GateRefusal.NoIdle
-        → split_positive marks.old controls.now target ≡ None }
-    ensures cause { IsErrOf result GateRefusal.Full → ⊥ }
 {
     if controls.len() <= 2 {
-        push_one_flip(alloc, gates, controls, target)?;
-        return Ok(());
+        return push_one_flip(alloc, gates, controls, target);
     }
     let idle = marks.falling_lines(controls, &[target], false, controls.len() - 2)?;
     push_wide(alloc, gates, controls, target, &idle, marks)
@@ -58,7 +53,7 @@ pub fn push_one_flip(
 }
 
 // Appends the gates in place of a flip under three or more positive controls, of which these are
-// the first idle lines.
+// the first idle lines. Over too few of them it is the flips of both halves, twice.
 fn push_wide(
     alloc: Global,
     gates: &mut Vec<Gate>,
@@ -66,64 +61,27 @@ fn push_wide(
     target: u32,
     idle: &[u32],
     marks: &mut LineMarks,
-) -> Result<(), GateRefusal>
+) -> Result<(), Memory>
     requires gate { IsGateOn marks.old (flip_of controls.now target) }
+    requires some { split_positive marks.old controls.now target ≢ None }
     requires wide { 2 < length controls.now }
     requires found { idle.now ≡ take (length controls.now - 2)
         (idle_lines marks.old (controls.now ++ target ∷ [])) }
     ensures split { OnOk result (behind gates.old.items
         (split_positive marks.old controls.now target) ≡ Some gates.new.items) }
     ensures same { marks.new ≡ marks.old }
-    ensures refused { IsErrOf result GateRefusal.NoIdle
-        → split_positive marks.old controls.now target ≡ None }
-    ensures cause { IsErrOf result GateRefusal.Full → ⊥ }
 {
     if idle.len() == controls.len() - 2 {
-        push_over_idle(alloc, gates, controls, target, idle)?;
-        return Ok(());
+        return push_over_idle(alloc, gates, controls, target, idle);
     }
-    let line = first_idle(idle)?;
-    push_halves(alloc, gates, controls, target, line, marks)?;
-    Ok(())
-}
-
-// The first of the idle lines, if there is one.
-fn first_idle(idle: &[u32]) -> Result<u32, GateRefusal>
-    ensures { result ≡ first_idle idle.now }
-{
-    match idle {
-        [] => Err(GateRefusal::NoIdle),
-        [line, ..] => Ok(*line),
-    }
-}
-
-// Appends a flip of four or more controls over one idle line: the flip of the target by the second
-// half and the idle line, the flip of the idle line by the first half, and both again, each among
-// the gate's own lines.
-fn push_halves(
-    alloc: Global,
-    gates: &mut Vec<Gate>,
-    controls: &[u32],
-    target: u32,
-    idle: u32,
-    marks: &mut LineMarks,
-) -> Result<(), Memory>
-    requires gate { IsGateOn marks.old (flip_of controls.now target) }
-    requires four { 4 ≤ length controls.now }
-    requires below { idle < marks.old }
-    requires apart { Avoids idle (controls.now ++ target ∷ []) }
-    ensures made { OnOk result (gates.new.items ≡ gates.old.items
-        ++ in_halves marks.old controls.now target idle) }
-    ensures same { marks.new ≡ marks.old }
-{
     let mut once = Vec::new(alloc);
-    push_both_halves(alloc, &mut once, controls, target, idle, marks)?;
+    push_halves(alloc, &mut once, controls, target, idle[0], marks)?;
     append_twice(gates, &mut once)
 }
 
 // Appends the flip of the target by the second half and the idle line, and the flip of the idle
 // line by the first half.
-fn push_both_halves(
+fn push_halves(
     alloc: Global,
     gates: &mut Vec<Gate>,
     controls: &[u32],
@@ -246,8 +204,7 @@ fn push_there_and_back(gates: &mut Vec<Gate>, rungs: &[Gate]) -> Result<(), Memo
     let mut i = rungs.len();
     while i > 1 {
         i -= 1;
-        let copy = rungs[i - 1].copy()?;
-        gates.push(copy)?;
+        push_copy(gates, &rungs[i - 1])?;
     }
     Ok(())
 }
@@ -256,9 +213,17 @@ fn push_copies(gates: &mut Vec<Gate>, copied: &[Gate]) -> Result<(), Memory>
     ensures { OnOk result (gates.new.items ≡ gates.old.items ++ copied.now) }
 {
     for gate in copied {
-        let copy = gate.copy()?;
-        gates.push(copy)?;
+        push_copy(gates, gate)?;
     }
+    Ok(())
+}
+
+// Appends a copy of a gate.
+pub fn push_copy(gates: &mut Vec<Gate>, gate: &Gate) -> Result<(), Memory>
+    ensures { OnOk result (gates.new.items ≡ gates.old.items ++ gate.now ∷ []) }
+{
+    let copy = gate.copy()?;
+    gates.push(copy)?;
     Ok(())
 }
 
@@ -266,8 +231,7 @@ fn push_copies(gates: &mut Vec<Gate>, copied: &[Gate]) -> Result<(), Memory>
 fn with_line(alloc: Global, lines: &[u32], line: u32) -> Result<Vec<u32>, Memory>
     ensures { IfOk result (λ all. all.items ≡ lines.now ++ line ∷ []) }
 {
-    let mut all = Vec::with_capacity(alloc, lines.len())?;
-    all.extend_from_slice(lines)?;
+    let mut all = Vec::from_slice(alloc, lines)?;
     all.push(line)?;
     Ok(all)
 }

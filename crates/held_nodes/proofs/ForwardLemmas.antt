@@ -9,7 +9,8 @@ use Rattle.list_facts.specs.Bits.{zeros}
 use Rattle.list_facts.proofs.AllLemmas.{AllByRecursion-append, AllByRecursion-weaker}
 use Rattle.sum_graph.specs.Graphs.{SumGraphView, node_value}
 use Rattle.gate_split.specs.Costs.{IsRoomyFlip}
-use Rattle.mct_circuit.specs.Gates.{GateView, IsGateOn, AreGatesOn, lines_of}
+use Rattle.gate_split.proofs.RoomyFlipLemmas.{more_room}
+use Rattle.mct_circuit.specs.Gates.{GateView, IsGateOn, AreGatesOn}
 use Rattle.held_nodes.specs.Held.{ForwardView, IsForward, HoldsNodes, IsContent, first_work, held_line, held_count, is_taken}
 use Rattle.held_nodes.specs.Moves.{weight_in}
 use Rattle.held_nodes.proofs.ContentLemmas.{AddsValue, content_padded, content_put, content_given}
@@ -17,22 +18,8 @@ use Rattle.held_nodes.proofs.LineLemmas.{AreOnDifferent, none_set, not_free, cou
 
 -- ---- gates with room
 
-roomy_on_more : (n m : ℕ) → n ≤ m → (gate : GateView) → IsRoomyFlip n gate → IsRoomyFlip m gate
-roomy_on_more n m le gate is = record {
-  on = record {
-    different = is.on.different;
-    in_range = AllByRecursion-weaker (λ line. line < n) (λ line. line < m) (λ line low. omega (arith, low, le)) (lines_of gate) is.on.in_range;
-  };
-  target = is.target;
-  is_flip = is.is_flip;
-  room = elim is.room [
-    | inl few ↦ inl few
-    | inr idle ↦ inr (record { line = idle.line; below = omega (arith, idle.below, le); idle = idle.idle })
-  ];
-}
-
 pub roomy_gates : (n m : ℕ) (gates : List GateView) → n ≤ m → AllByRecursion (IsRoomyFlip n) gates → AllByRecursion (IsRoomyFlip m) gates
-roomy_gates n m gates le all = AllByRecursion-weaker (IsRoomyFlip n) (IsRoomyFlip m) (roomy_on_more n m le) gates all
+roomy_gates n m gates le all = AllByRecursion-weaker (IsRoomyFlip n) (IsRoomyFlip m) (λ gate is. more_room n m gate le is) gates all
 
 pub roomy_on : (n : ℕ) (gates : List GateView) → AllByRecursion (IsRoomyFlip n) gates → AreGatesOn n gates
 roomy_on n gates all = AllByRecursion-weaker (IsRoomyFlip n) (IsGateOn n) (λ gate is. is.on) gates all

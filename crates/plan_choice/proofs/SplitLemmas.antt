@@ -32,7 +32,8 @@ use Rattle.circuit_plans.specs.declared.plan.PlanFault.{PlanFault}
 use Rattle.circuit_plans.specs.declared.plan.PlanFault.TheVariants.{Lines, Gates, Memory}
 use Rattle.gate_split.specs.Costs.{IsRoomyFlip, NarrowStay, RoomyFlipsAreSplit, most_gates}
 use Rattle.circuit_plans.specs.Plans.{BudgetView, CleanCircuitsBorrow, LaidView, MapsCleanly, PlannedView, lines_in, with_borrowed}
-use Rattle.gate_split.specs.Split.{split_list}
+use Rattle.gate_split.specs.Split.{IsSplitList, PassesLimit}
+use Rattle.gate_split.proofs.SplitListLemmas.{one_split}
 use Rattle.held_nodes.specs.Moves.{roles_of_plan, weight_in}
 use Rattle.held_nodes.specs.Plans.{HasPortLines, HasPorts, IsInBudget, wanted_lines}
 use Rattle.mct_circuit.specs.Gates.{AreGatesOn, AreNarrow, CircuitView, GateView, flip_of, line_map, positive}
@@ -62,11 +63,11 @@ narrow_weight (gate ∷ gates) narrow =
 
 -- gates with room whose split passes the limit may become more gates than the limit
 pub many_gates : (n more limit : ℕ) (gates : List GateView) → RoomyFlipsAreSplit → n ≤ more → AllByRecursion (IsRoomyFlip n) gates
-    → split_list more limit gates ≡ Err split.Gates → limit < sum_by most_gates gates
+    → PassesLimit more limit gates → limit < sum_by most_gates gates
 many_gates n more limit gates law few roomy refused = elim (cases_lt limit (sum_by most_gates gates)) [
   | inl over ↦ over
   | inr within ↦ (let made = law.split more limit gates (law.wider n more gates few roomy) within in
-      let is = made.is in absurd (cc))
+      let both = one_split more limit gates (Ok made.narrow) (Err split.Gates) made.is refused in absurd (cc))
 ]
 
 -- the split of narrow gates within the budget is refused only for want of memory
@@ -87,11 +88,11 @@ memory_wanted tried IsFault memory alone =
 
 -- gates with room become no more than their most gates
 few_split : (n more limit : ℕ) (gates narrow : List GateView) → RoomyFlipsAreSplit → n ≤ more → AllByRecursion (IsRoomyFlip n) gates
-    → split_list more limit gates ≡ Ok narrow → length narrow ≤ limit → length narrow ≤ sum_by most_gates gates
-few_split n more limit gates narrow law few roomy is within = elim (cases_lt limit (sum_by most_gates gates)) [
-  | inl over ↦ omega (arith, over, within)
+    → IsSplitList more limit gates narrow → length narrow ≤ sum_by most_gates gates
+few_split n more limit gates narrow law few roomy is = elim (cases_lt limit (sum_by most_gates gates)) [
+  | inl over ↦ omega (arith, over, is.within)
   | inr light ↦ (let made = law.split more limit gates (law.wider n more gates few roomy) light in
-      let both : Ok made.narrow ≡ Ok narrow = sym made.is ∙ is in
+      let both : Ok made.narrow ≡ Ok narrow = one_split more limit gates (Ok made.narrow) (Ok narrow) made.is is in
       let same : made.narrow ≡ narrow = cc in
       omega (arith, ap (λ (gs : List GateView). length gs) same, made.few))
 ]
@@ -99,7 +100,7 @@ few_split n more limit gates narrow law few roomy is within = elim (cases_lt lim
 pub laid_eager : (s : SettledView) (b : BudgetView) (p : PlannedView) (laid : LaidView) → RoomyFlipsAreSplit
     → AllByRecursion (IsRoomyFlip p.circuit.lines) p.circuit.gates → IsWithinEager s p → IsLaidOf p b laid → IsEager s b laid
 laid_eager s b p laid law roomy within is =
-    let few = few_split p.circuit.lines (p.circuit.lines + b.borrow) b.gates p.circuit.gates laid.circuit.gates law (omega arith) roomy is.split is.gates in
+    let few = few_split p.circuit.lines (p.circuit.lines + b.borrow) b.gates p.circuit.gates laid.circuit.gates law (omega arith) roomy is.split in
     record {
       few_lines = λ m w. omega (arith, within.few_lines m w, is.size);
       few_gates = λ m w. omega (arith, within.few_gates m w, few);
@@ -111,7 +112,8 @@ pub as_is : (b : BudgetView) (p : PlannedView) (laid : LaidView) → NarrowStay 
 as_is b p laid law narrow within is =
     let few = length-le-weight p.circuit.gates in
     let stay = law (p.circuit.lines + b.borrow) b.gates p.circuit.gates narrow (omega (arith, few, within.gates)) in
-    let both : Ok p.circuit.gates ≡ Ok laid.circuit.gates = sym stay ∙ is.split in
+    let both : Ok p.circuit.gates ≡ Ok laid.circuit.gates =
+    one_split (p.circuit.lines + b.borrow) b.gates p.circuit.gates (Ok p.circuit.gates) (Ok laid.circuit.gates) stay is.split in
     record { laid_of = is; same = cc }
 
 pub laid_blocks : (s : SettledView) (block : ℕ) (b : BudgetView) (p : PlannedView) (laid : LaidView)
@@ -170,17 +172,17 @@ laid_as p borrowed narrow = record { circuit = narrow; inputs = p.inputs; output
 
 pub is_laid_of : (p : PlannedView) (b : BudgetView) (narrow : CircuitView) → CleanCircuitsBorrow → p.inputs + p.outputs + p.work ≡ p.circuit.lines
     → AreGatesOn p.circuit.lines p.circuit.gates → p.circuit.lines + b.borrow ≤ b.lines → narrow.lines ≡ p.circuit.lines + b.borrow
-    → split_list (p.circuit.lines + b.borrow) b.gates p.circuit.gates ≡ Ok narrow.gates → length narrow.gates ≤ b.gates
+    → IsSplitList (p.circuit.lines + b.borrow) b.gates p.circuit.gates narrow.gates
     → ((bits : List Bool) → length bits ≡ p.circuit.lines + b.borrow → line_map narrow.gates bits ≡ line_map p.circuit.gates bits)
     → IsLaidOf p b (laid_as p b.borrow narrow)
-is_laid_of p b narrow law lines on within size split few map = record {
+is_laid_of p b narrow law lines on within size split map = record {
   inputs = refl;
   outputs = refl;
   borrowed = refl;
   size = size;
   lines = omega arith;
   split = split;
-  gates = few;
+  gates = split.within;
   clean = λ value clean. clean_too p b.borrow narrow.gates value law lines on map clean;
 }
 

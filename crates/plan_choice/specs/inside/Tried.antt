@@ -7,7 +7,7 @@ use Rattle.circuit_plans.specs.declared.plan.PlanFault.{PlanFault}
 use Rattle.circuit_plans.specs.declared.plan.PlanFault.TheVariants.{Lines, Gates, Memory}
 use Rattle.gate_split.specs.Costs.{most_gates}
 use Rattle.circuit_plans.specs.Plans.{BudgetView, PlannedView, LaidView, MapsCleanly, roles_of}
-use Rattle.gate_split.specs.Split.{split_list}
+use Rattle.gate_split.specs.Split.{IsSplitList}
 use Rattle.held_nodes.specs.Moves.{roles_of_plan}
 use Rattle.mct_circuit.specs.Gates.{AreNarrow, GateView}
 use Rattle.plan_choice.specs.Choices.{IsLaidFor, NoLargerFits}
@@ -31,8 +31,8 @@ pub record IsLaidOf (p : PlannedView) (b : BudgetView) (laid : LaidView) : Type 
   pub borrowed : laid.borrowed ≡ b.borrow
   pub size : laid.circuit.lines ≡ p.circuit.lines + b.borrow
   pub lines : laid.circuit.lines ≤ b.lines
-  pub split : split_list (p.circuit.lines + b.borrow) b.gates p.circuit.gates
-      ≡ Ok laid.circuit.gates
+  pub split : IsSplitList (p.circuit.lines + b.borrow) b.gates p.circuit.gates
+      laid.circuit.gates
   pub gates : length laid.circuit.gates ≤ b.gates
   pub clean : (value : List Bool → List Bool)
       → MapsCleanly (roles_of_plan p) p.circuit.gates value

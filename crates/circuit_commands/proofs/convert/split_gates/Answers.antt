@@ -5,7 +5,7 @@ use Rattle.circuit_commands.proofs.convert.split_gates.Goals as goal
 pub returns-in-Ok-clause-ok : goal.returns-in-Ok-clause-ok
 returns-in-Ok-clause-ok c =
     own_split c.args.most c.args.source.now c.circuit-circuit.result.now c.in-Ok.narrow c.lines.result c.circuit-circuit.ensures.lines
-    c.circuit-circuit.ensures.gates c.lines.ensures.lines c.in-Ok.ensures.gates c.in-Ok.ensures.size c.in-Ok.ensures.within c.in-Ok.ensures.map
+    c.circuit-circuit.ensures.gates c.lines.ensures.lines c.in-Ok.ensures.gates c.in-Ok.ensures.size c.in-Ok.ensures.map
 
 pub returns-in-Err-Memory-clause-err : goal.returns-in-Err-Memory-clause-err
 returns-in-Err-Memory-clause-err c =

@@ -10,7 +10,7 @@ returns-in-Ok-clause-ok c =
     let own = c.circuit-circuit.ensures.lines in
     let counted = c.lines-lines.ensures.lines in
     wider_split c.args.most c.args.source.now c.circuit-circuit.result.now c.in-Ok.narrow c.lines-lines.result own c.circuit-circuit.ensures.gates counted
-    c.lines-lines.ensures.gates c.requires.wants (omega arith) c.in-Ok.ensures.gates c.in-Ok.ensures.size c.in-Ok.ensures.within c.in-Ok.ensures.map
+    c.lines-lines.ensures.gates c.requires.wants (omega arith) c.in-Ok.ensures.gates c.in-Ok.ensures.size c.in-Ok.ensures.map
 
 pub unreachable-requires : goal.unreachable-requires
 unreachable-requires c =

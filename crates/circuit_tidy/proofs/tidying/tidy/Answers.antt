@@ -1,6 +1,6 @@
-use Rattle.std.proofs.Common.{◌≡◌, ◌∙◌, Ok, Err, ap, length, subst, sym}
+use Rattle.std.proofs.Common.{◌∙◌, Err, ap, length, subst, sym}
 use Rattle.mct_circuit.specs.Gates.{AreGatesOn, CircuitView}
-use Rattle.gate_split.specs.Split.{split_list}
+use Rattle.gate_split.specs.Split.{IsSplitList}
 use Rattle.circuit_tidy.specs.Flips.{gates_of}
 use Rattle.circuit_tidy.specs.Tidied.{IsTidied}
 use Rattle.gate_split.specs.declared.fault.SplitFault.TheVariants.{Gates, NoIdle}
@@ -19,7 +19,7 @@ returns-in-Ok-clause-tidied c =
     (tidied_from c.lines-lines.result c.len-limit.result c.args.narrow.now.gates c.in_ok-flips.flips.items c.in_ok-flips-2.flips.items c.in-Ok.narrow.gates
     (c.in_ok-flips.ensures ∙ (c.gates.ensures.gates ∙ ap (λ (v : CircuitView). v.gates) seen))
     (c.len-limit.ensures.len ∙ ap (λ (v : CircuitView). length v.gates) seen) c.in_ok-flips-2.ensures
-    (subst (λ gs. split_list c.lines-lines.result c.len-limit.result gs ≡ Ok c.in-Ok.narrow.gates)
+    (subst (λ gs. IsSplitList c.lines-lines.result c.len-limit.result gs c.in-Ok.narrow.gates)
     (ap (λ (v : CircuitView). v.gates) c.in_ok-tidied.ensures ∙ ap gates_of c.deref.ensures.value) c.in-Ok.ensures.gates))
 
 pub unreachable-requires : goal.unreachable-requires

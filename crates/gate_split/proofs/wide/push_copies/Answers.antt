@@ -4,18 +4,15 @@ use Rattle.revc_base.proofs.ResultLemmas.{no_promise}
 use Rattle.gate_split.proofs.BuildingLemmas.{copied_more}
 use Rattle.gate_split.proofs.wide.push_copies.Goals as goal
 
-pub returns-in_err-copy : goal.returns-in_err-copy
-returns-in_err-copy c = no_promise c.from_residual.result _ _ c.from_residual.ensures.1
-
-pub returns-in_err-push : goal.returns-in_err-push
-returns-in_err-push c = no_promise c.from_residual-in_err-push.result _ _ c.from_residual-in_err-push.ensures.1
+pub returns-in_err-push_copy : goal.returns-in_err-push_copy
+returns-in_err-push_copy c = no_promise c.from_residual.result _ _ c.from_residual.ensures.1
 
 pub loop-gate-init : goal.loop-gate-init
 loop-gate-init c = sym (append-nil c.args.gates.now.items)
 
 pub loop-gate-preserved : goal.loop-gate-preserved
-loop-gate-preserved c = copied_more c.args.gates.now.items c.push.new.self.items c.loop-gate.gates.items c.in_ok-copy.copy c.gate-item.result
-    c.args.copied.now c.loop-gate.gate-index c.loop-gate-test.true c.gate-item.is c.in_ok-copy.ensures c.in_ok-push.ensures.items c.loop-gate.invariant
+loop-gate-preserved c = copied_more c.args.gates.now.items c.push_copy.new.gates.items c.loop-gate.gates.items c.gate-item.result
+    c.args.copied.now c.loop-gate.gate-index c.loop-gate-test.true c.gate-item.is c.in_ok-push_copy.ensures c.loop-gate.invariant
 
 pub returns : goal.returns
 returns c = c.loop-gate.invariant ∙ ap (λ l. c.args.gates.now.items ++ l) (take_all c.loop-gate.gate-index c.args.copied.now c.loop-gate-test.false)

@@ -1,24 +1,27 @@
 use Rattle.std.proofs.Common.{sym, ap, ◌∙◌, Some}
+use Rattle.std.proofs.lemmas.Result.{on_ok_weaker}
 use Rattle.revc_base.proofs.ResultLemmas.{no_promise}
 use Rattle.gate_split.specs.Split.{behind}
 use Rattle.gate_split.proofs.EffectLemmas.{different_of, below_of}
 use Rattle.gate_split.proofs.PieceLemmas.{few_stay}
-use Rattle.gate_split.proofs.RefusalLemmas.{memory_alone, memory_not_full}
 use Rattle.gate_split.proofs.wide.push_positive.Goals as goal
 
 pub push_one_flip-requires : goal.push_one_flip-requires
-push_one_flip-requires c = different_of c.args.marks.now c.args.controls.now c.args.target c.requires
+push_one_flip-requires c = different_of c.args.marks.now c.args.controls.now c.args.target c.requires.gate
 
 pub returns-then-controls-le2-clause-split : goal.returns-then-controls-le2-clause-split
 returns-then-controls-le2-clause-split c =
-    ap (behind c.args.gates.now.items) (few_stay c.args.marks.now c.args.controls.now c.args.target c.if-controls-le2.true)
-    ∙ ap Some (sym c.in_ok-push_one_flip.ensures)
+    on_ok_weaker c.push_one_flip.result (λ e. ap (behind c.args.gates.now.items)
+    (few_stay c.args.marks.now c.args.controls.now c.args.target c.if-controls-le2.true) ∙ ap Some (sym e)) c.push_one_flip.ensures
 
 pub falling_lines-requires : goal.falling_lines-requires
-falling_lines-requires c = below_of c.args.marks.now c.args.controls.now c.args.target c.requires
+falling_lines-requires c = below_of c.args.marks.now c.args.controls.now c.args.target c.requires.gate
 
 pub push_wide-requires-clause-gate : goal.push_wide-requires-clause-gate
-push_wide-requires-clause-gate c = rw c.falling_lines.ensures.same c.requires
+push_wide-requires-clause-gate c = rw c.falling_lines.ensures.same c.requires.gate
+
+pub push_wide-requires-clause-some : goal.push_wide-requires-clause-some
+push_wide-requires-clause-some c = rw c.falling_lines.ensures.same c.requires.some
 
 pub push_wide-requires-clause-found : goal.push_wide-requires-clause-found
 push_wide-requires-clause-found c = rw c.falling_lines.ensures.same (c.deref.ensures.value ∙ c.in_ok-idle.ensures.found)
@@ -26,29 +29,8 @@ push_wide-requires-clause-found c = rw c.falling_lines.ensures.same (c.deref.ens
 pub returns-clause-split : goal.returns-clause-split
 returns-clause-split c = rw c.falling_lines.ensures.same at c.push_wide.ensures.split
 
-pub returns-clause-refused : goal.returns-clause-refused
-returns-clause-refused c = rw c.falling_lines.ensures.same at c.push_wide.ensures.refused
-
 pub returns-clause-same : goal.returns-clause-same
 returns-clause-same c = c.push_wide.ensures.same ∙ c.falling_lines.ensures.same
 
-pub returns-clause-cause : goal.returns-clause-cause
-returns-clause-cause c = c.push_wide.ensures.cause
-
-pub returns-in_err-push_one_flip-clause-split : goal.returns-in_err-push_one_flip-clause-split
-returns-in_err-push_one_flip-clause-split c = no_promise c.from_residual.result _ _ c.from_residual.ensures.1
-
-pub returns-in_err-push_one_flip-clause-refused : goal.returns-in_err-push_one_flip-clause-refused
-returns-in_err-push_one_flip-clause-refused c = memory_alone c.from_residual.result c.from_residual.ensures.1
-
-pub returns-in_err-push_one_flip-clause-cause : goal.returns-in_err-push_one_flip-clause-cause
-returns-in_err-push_one_flip-clause-cause c = memory_not_full c.from_residual.result c.from_residual.ensures.1
-
 pub returns-in_err-idle-clause-split : goal.returns-in_err-idle-clause-split
-returns-in_err-idle-clause-split c = no_promise c.from_residual-in_err-idle.result _ _ c.from_residual-in_err-idle.ensures.1
-
-pub returns-in_err-idle-clause-refused : goal.returns-in_err-idle-clause-refused
-returns-in_err-idle-clause-refused c = memory_alone c.from_residual-in_err-idle.result c.from_residual-in_err-idle.ensures.1
-
-pub returns-in_err-idle-clause-cause : goal.returns-in_err-idle-clause-cause
-returns-in_err-idle-clause-cause c = memory_not_full c.from_residual-in_err-idle.result c.from_residual-in_err-idle.ensures.1
+returns-in_err-idle-clause-split c = no_promise c.from_residual.result _ _ c.from_residual.ensures.1

@@ -9,8 +9,5 @@ loop-i-init c = (started_back c.args.rungs.now _ _ c.in_ok-push_copies.ensures, 
 pub returns-in_err-push_copies : goal.returns-in_err-push_copies
 returns-in_err-push_copies c = no_promise c.from_residual.result _ _ c.from_residual.ensures.1
 
-pub returns-in_err-copy : goal.returns-in_err-copy
-returns-in_err-copy c = no_promise c.from_residual-in_err-copy.result _ _ c.from_residual-in_err-copy.ensures.1
-
-pub returns-in_err-push : goal.returns-in_err-push
-returns-in_err-push c = no_promise c.from_residual-in_err-push.result _ _ c.from_residual-in_err-push.ensures.1
+pub returns-in_err-push_copy : goal.returns-in_err-push_copy
+returns-in_err-push_copy c = no_promise c.from_residual-in_err-push_copy.result _ _ c.from_residual-in_err-push_copy.ensures.1

@@ -3,7 +3,7 @@ use Rattle.mct_circuit.specs.declared.gate.Control.{Control}
 use Rattle.std.specs.List.{list_all}
 use Rattle.std.proofs.lemmas.Bool.Decides.{leb_tells}
 use Rattle.gate_split.proofs.PieceLemmas.{narrow_is, narrow_flips, narrow_is_short, narrow_is_positive}
-use Rattle.gate_split.proofs.walk.is_narrow.Goals as goal
+use Rattle.gate_split.proofs.narrow.is_narrow.Goals as goal
 
 never : {A : Type 0} → false ≡ true → A
 never e = absurd (cc)
