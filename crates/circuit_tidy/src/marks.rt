@@ -109,7 +109,7 @@ impl Marks {
 
     // The flip goes: those that it stopped are freed.
     pub fn free(&mut self, flip: Flip) {
-        self.add_lines(flip, FREED_CONTROL, FREED_TARGET);
+        self.add_lines(flip, FREED_CONTROL, FREED_TARGET, true);
     }
 
     // The flips that are passed over begin behind so many.
@@ -132,26 +132,12 @@ impl Marks {
 
     // The flip is new.
     fn renew(&mut self, flip: Flip) {
-        self.add_lines(flip, NEW, NEW);
+        self.add_lines(flip, NEW, NEW, true);
     }
 
     // The flip is passed over: lines of the change note it.
     pub fn pass(&mut self, flip: Flip) {
-        self.note(flip.target, TARGET);
-        match flip.controls {
-            Controls::Zero => {}
-            Controls::One(one) => self.note(one, CONTROL),
-            Controls::Two(first, second) => {
-                self.note(first, CONTROL);
-                self.note(second, CONTROL);
-            }
-        }
-    }
-
-    fn note(&mut self, line: u32, bit: u8) {
-        if self.word_of(line) != 0 {
-            self.add(line, bit);
-        }
+        self.add_lines(flip, TARGET, CONTROL, false);
     }
 
     fn word_of(&self, line: u32) -> u8
@@ -160,22 +146,23 @@ impl Marks {
         self.words.get(line as usize).copied().unwrap_or(0)
     }
 
-    fn add_lines(&mut self, flip: Flip, of_target: u8, of_controls: u8) {
-        self.add(flip.target, of_target);
+    // Notes a flip on its lines, or only on those that are lines of the change already.
+    fn add_lines(&mut self, flip: Flip, of_target: u8, of_controls: u8, all: bool) {
+        self.add(flip.target, of_target, all);
         match flip.controls {
             Controls::Zero => {}
-            Controls::One(one) => self.add(one, of_controls),
+            Controls::One(one) => self.add(one, of_controls, all),
             Controls::Two(first, second) => {
-                self.add(first, of_controls);
-                self.add(second, of_controls);
+                self.add(first, of_controls, all);
+                self.add(second, of_controls, all);
             }
         }
     }
 
-    fn add(&mut self, line: u32, bit: u8) {
+    fn add(&mut self, line: u32, bit: u8, all: bool) {
         let old = self.word_of(line);
         let place = line as usize;
-        if has(old, bit) || self.words.len() <= place {
+        if (old == 0 && !all) || has(old, bit) || self.words.len() <= place {
             return;
         }
         let new = with_openness(old | bit);
