@@ -87,23 +87,27 @@ many_nodes v nodes numbers k low are =
     ∙ length-take-le k (values_on v.graph input) (omega (arith, low, length-values v.graph input))
 
 -- the next node is made of what has numbers
-pub node_placed : (v : ComparedView) → IsReady v → (nodes : List Triple) (bits numbers : List ℕ) (k : ℕ) (node : Node) → k < length v.graph.nodes
-    → slice_get v.graph.nodes k ≡ Some node → AreNumbersOf (comparison v) nodes bits (λ b. b)
-    → AreNumbersOf (comparison v) nodes numbers (λ b. first_values v.graph k (input_bits (comparison v) b))
-    → IsKnownNode (length bits) (length numbers) node
-node_placed v ready nodes bits numbers k node low at of_bits of_nodes =
+-- a node of the graph, behind whose earlier ones all have numbers
+pub record IsReached (v : ComparedView) (nodes : List Triple) (bits numbers : List ℕ) (k : ℕ) (node : Node) : Type 0 where
+  pub low : k < length v.graph.nodes
+  pub at : slice_get v.graph.nodes k ≡ Some node
+  pub bits_are : AreNumbersOf (comparison v) nodes bits (λ b. b)
+  pub nodes_are : AreNumbersOf (comparison v) nodes numbers (λ b. first_values v.graph k (input_bits (comparison v) b))
+
+pub node_placed : (v : ComparedView) → IsReady v → (nodes : List Triple) (bits numbers : List ℕ) (k : ℕ) (node : Node)
+    → IsReached v nodes bits numbers k node → IsKnownNode (length bits) (length numbers) node
+node_placed v ready nodes bits numbers k node is =
+    let low = is.low in
     node_more v.graph.inputs (length bits) k (length numbers) node
-    (omega (arith, many_bits (comparison v) nodes bits of_bits, ready.inputs))
-    (omega (arith, many_nodes v nodes numbers k (omega (arith, low)) of_nodes))
-    (known_at v.graph.inputs k v.graph.nodes node ready.settled.nodes at)
+    (omega (arith, many_bits (comparison v) nodes bits is.bits_are, ready.inputs))
+    (omega (arith, many_nodes v nodes numbers k (omega (arith, low)) is.nodes_are))
+    (known_at v.graph.inputs k v.graph.nodes node ready.settled.nodes is.at)
 
 pub node_held : (v : ComparedView) → IsReady v → (nodes : List Triple) (bits numbers : List ℕ) (k : ℕ) (node : Node)
-    → slice_get v.graph.nodes k ≡ Some node → AreNumbersOf (comparison v) nodes bits (λ b. b)
-    → AreNumbersOf (comparison v) nodes numbers (λ b. first_values v.graph k (input_bits (comparison v) b))
-    → AreSame (node_function_of nodes bits numbers node) (holder_function (comparison v) (Step k))
-node_held v ready nodes bits numbers k node at of_bits of_nodes =
-    node_is (comparison v) v.graph nodes bits numbers k node ready.inputs ready.settled at
-    (known_at v.graph.inputs k v.graph.nodes node ready.settled.nodes at) of_bits of_nodes
+    → IsReached v nodes bits numbers k node → AreSame (node_function_of nodes bits numbers node) (holder_function (comparison v) (Step k))
+node_held v ready nodes bits numbers k node is =
+    node_is (comparison v) v.graph nodes bits numbers k node ready.inputs ready.settled is.at
+    (known_at v.graph.inputs k v.graph.nodes node ready.settled.nodes is.at) is.bits_are is.nodes_are
 
 pub nodes_more : (v : ComparedView) (nodes : List Triple) (numbers : List ℕ) (n k : ℕ) → k < length v.graph.nodes
     → AreNumbersOf (comparison v) nodes numbers (λ b. first_values v.graph k (input_bits (comparison v) b))
@@ -225,13 +229,12 @@ bit_answered q variables i first old new r comparable are low before made =
     answered q held.holder (variable_at (get_or variables i 0)) first old new r comparable held.is (variable_held q variables i held are low) before made
 
 pub node_answered : (v : ComparedView) → IsReady v → (bits numbers : List ℕ) (k : ℕ) (node : Node) (first old new : DiagramView)
-    (r : Result ℕ DdFault) → k < length v.graph.nodes → slice_get v.graph.nodes k ≡ Some node → AreNumbersOf (comparison v) old.nodes bits (λ b. b)
-    → AreNumbersOf (comparison v) old.nodes numbers (λ b. first_values v.graph k (input_bits (comparison v) b)) → GrowsBy (comparison v) first old
+    (r : Result ℕ DdFault) → IsReached v old.nodes bits numbers k node → GrowsBy (comparison v) first old
     → Computes (node_function_of old.nodes bits numbers node) old new r
     → IsAnswered (comparison v) (node_function_of old.nodes bits numbers node) first new
-node_answered v ready bits numbers k node first old new r low at of_bits of_nodes before made =
-    answered (comparison v) (Step k) (node_function_of old.nodes bits numbers node) first old new r ready.comparable low
-    (node_held v ready old.nodes bits numbers k node at of_bits of_nodes) before made
+node_answered v ready bits numbers k node first old new r is before made =
+    answered (comparison v) (Step k) (node_function_of old.nodes bits numbers node) first old new r ready.comparable is.low
+    (node_held v ready old.nodes bits numbers k node is) before made
 
 pub gate_answered : (v : ComparedView) → IsReady v → (lines : List ℕ) (k target : ℕ) (gate : GateView) (first old new : DiagramView)
     (r : Result ℕ DdFault) → k < length v.circuit.gates → get_or v.circuit.gates k gate ≡ gate → gate.op ≡ Flip target

@@ -7,9 +7,20 @@ use Rattle.circuit_verify.specs.Comparisons.{variables_in}
 use Rattle.circuit_verify.specs.Verdicts.{IsVerifyFault}
 use Rattle.circuit_verify.specs.inside.Compared.{comparison}
 use Rattle.circuit_verify.specs.inside.Numbers.{AreNumbersOf, bits_in}
+use Rattle.circuit_verify.proofs.AskLemmas.{IsAnswered}
 use Rattle.circuit_verify.proofs.NumberLemmas.{numbers-grown}
 use Rattle.circuit_verify.proofs.StepLemmas.{all_bits, bit_answered, bits_more, variable_inside, variable_is}
 use Rattle.circuit_verify.proofs.places.number_bits.Goals as goal
+use Rattle.circuit_verify.proofs.places.number_bits.Goals.{After-input}
+
+low : (c : After-input) → c.loop-variable.variable-index < variables_in (comparison c.args.compared.now)
+low c = omega (arith, c.loop-variable-test.true, c.requires.variables.size)
+
+made : (c : After-input) → IsAnswered (comparison c.args.compared.now) (variable_at (get_or c.args.variables.now c.loop-variable.variable-index 0))
+    c.args.diagram.now c.input.new.self
+made c =
+    bit_answered (comparison c.args.compared.now) c.args.variables.now c.loop-variable.variable-index c.args.diagram.now c.loop-variable.diagram
+    c.input.new.self c.input.result c.variables.ensures.ready.comparable c.requires.variables (low c) c.loop-variable.invariant.0 c.input.ensures
 
 pub input-requires : goal.input-requires
 input-requires c =
@@ -22,58 +33,30 @@ input-requires c =
     )
 
 pub returns-in_err-number-clause-grows : goal.returns-in_err-number-clause-grows
-returns-in_err-number-clause-grows c =
-    let q = comparison c.args.compared.now in
-    let variables = c.args.variables.now in
-    let i = c.loop-variable.variable-index in
-    let low : i < variables_in q = omega (arith, c.loop-variable-test.true, c.requires.variables.size) in
-    let old = c.loop-variable.diagram in
-    let new = c.input.new.self in
-    let made = bit_answered q variables i c.args.diagram.now old new c.input.result c.variables.ensures.ready.comparable c.requires.variables low
-    c.loop-variable.invariant.0 c.input.ensures in
-    made.grows
+returns-in_err-number-clause-grows c = (made (goal.at.returns-in_err-number-clause-grows c).After-input).grows
 
 pub returns-in_err-number-clause-refused : goal.returns-in_err-number-clause-refused
 returns-in_err-number-clause-refused c =
-    let q = comparison c.args.compared.now in
-    let variables = c.args.variables.now in
-    let i = c.loop-variable.variable-index in
-    let low : i < variables_in q = omega (arith, c.loop-variable-test.true, c.requires.variables.size) in
-    let old = c.loop-variable.diagram in
-    let new = c.input.new.self in
-    let made = bit_answered q variables i c.args.diagram.now old new c.input.result c.variables.ensures.ready.comparable c.requires.variables low
-    c.loop-variable.invariant.0 c.input.ensures in
-    passes_on (IsVerifyFault q new.limit) c.from_residual.result c.from_residual.ensures.1
-    (made.faults c.in_err-number.field-0.0 c.in_err-number.ensures.refused)
+    passes_on (IsVerifyFault (comparison c.args.compared.now) c.input.new.self.limit) c.from_residual.result c.from_residual.ensures.1
+    ((made (goal.at.returns-in_err-number-clause-refused c).After-input).faults c.in_err-number.field-0.0 c.in_err-number.ensures.refused)
 
 pub returns-in_err-push-clause-grows : goal.returns-in_err-push-clause-grows
-returns-in_err-push-clause-grows c =
-    let q = comparison c.args.compared.now in
-    let variables = c.args.variables.now in
-    let i = c.loop-variable.variable-index in
-    let low : i < variables_in q = omega (arith, c.loop-variable-test.true, c.requires.variables.size) in
-    let old = c.loop-variable.diagram in
-    let new = c.input.new.self in
-    let made = bit_answered q variables i c.args.diagram.now old new c.input.result c.variables.ensures.ready.comparable c.requires.variables low
-    c.loop-variable.invariant.0 c.input.ensures in
-    made.grows
+returns-in_err-push-clause-grows c = (made (goal.at.returns-in_err-push-clause-grows c).After-input).grows
 
 pub loop-variable-preserved : goal.loop-variable-preserved
 loop-variable-preserved c =
+    let there = (goal.at.loop-variable-preserved c).After-input in
     let q = comparison c.args.compared.now in
     let variables = c.args.variables.now in
     let i = c.loop-variable.variable-index in
-    let low : i < variables_in q = omega (arith, c.loop-variable-test.true, c.requires.variables.size) in
     let old = c.loop-variable.diagram in
     let new = c.input.new.self in
-    let made = bit_answered q variables i c.args.diagram.now old new c.input.result c.variables.ensures.ready.comparable c.requires.variables low
-    c.loop-variable.invariant.0 c.input.ensures in
     let numbers = c.loop-variable.numbers.items in
     let stands = StandsFor-same new.nodes c.in_ok-number.number (variable_at (get_or variables i 0)) (λ a. bit_of (bits_in q a) i)
-    (variable_is q variables i c.requires.variables low) c.in_ok-number.ensures.answer in (
-      made.grows,
+    (variable_is q variables i c.requires.variables (low there)) c.in_ok-number.ensures.answer in (
+      (made there).grows,
       subst (λ (ns : List ℕ). AreNumbersOf q new.nodes ns (λ bits. take (i + 1) bits)) (sym c.in_ok-push.ensures.items)
-          (bits_more q new.nodes numbers c.in_ok-number.number i low
+          (bits_more q new.nodes numbers c.in_ok-number.number i (low there)
           (numbers-grown q old new c.input.ensures.kept numbers (λ bits. take i bits) c.loop-variable.invariant.1) stands),
     )
 
