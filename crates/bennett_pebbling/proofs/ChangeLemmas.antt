@@ -5,7 +5,7 @@ use Rattle.list_facts.specs.Bits.{bit_of}
 use Rattle.circuit_plans.specs.declared.plan.PlanFault.{PlanFault}
 use Rattle.held_nodes.specs.Held.{ForwardView, is_held}
 use Rattle.bennett_pebbling.specs.inside.Changes.{IsChanged, IsChangeFault, IsRisen, IsRiseFault, IsThrifty}
-use Rattle.bennett_pebbling.specs.inside.Costs.{block_room, block_toggles, counted, reach_of, toggles_at}
+use Rattle.bennett_pebbling.specs.inside.Costs.{Allows, IsCovered, IsMove, IsShort, block_room, block_toggles, counted, reach_of, toggles_at}
 use Rattle.bennett_pebbling.specs.inside.Marks.{AreHeld, differ}
 use Rattle.bennett_pebbling.proofs.CostLemmas.{room_at-larger, toggles_at-larger}
 use Rattle.bennett_pebbling.proofs.MoveLemmas.{move-weaker, no_move, short-weaker}
@@ -36,15 +36,23 @@ block_costs f block count level width allowed some within =
     let n = length f.graph.nodes in
     (omega (arith, room_at-larger count block n width level some within), toggles_at-larger count block level some within)
 
+within_blocks : (f : ForwardView) (block lo : ℕ) (wanted : List Bool) (Costs : ℕ → ℕ → Type 0)
+    → ((reach more toggles larger : ℕ) → reach ≤ more → toggles ≤ larger → Costs reach toggles → Costs more larger) → 1 ≤ block → length wanted ≤ block
+    → ((level width : ℕ) (allowed : ℕ → Bool) → IsCovered f.graph (length wanted) (length wanted) level width → Allows f lo wanted allowed
+    → Costs (reach_of f (length wanted) level width allowed) (toggles_at (length wanted) level))
+    → (level width : ℕ) (allowed : ℕ → Bool) → IsCovered f.graph block (length wanted) level width → Allows f lo wanted allowed
+    → Costs (reach_of f block level width allowed) (toggles_at block level)
+within_blocks f block lo wanted Costs weaker some within all level width allowed c a =
+    let n = length f.graph.nodes in
+    let costs = block_costs f block (length wanted) level width allowed some within in
+    weaker (counted allowed n + block_room (length wanted) n) (reach_of f block level width allowed) (block_toggles (length wanted))
+    (toggles_at block level) costs.0 costs.1 (all 0 width allowed (record { cuts = c.cuts; enough = omega arith }) a)
+
 thrifty_block : (f next : ForwardView) (block lo : ℕ) (wanted : List Bool) → 1 ≤ block → length wanted ≤ block
     → IsThrifty f (length wanted) lo wanted next → IsThrifty f block lo wanted next
 thrifty_block f next block lo wanted some within t = record {
-  move = λ level width allowed c a.
-      let n = length f.graph.nodes in
-      let costs = block_costs f block (length wanted) level width allowed some within in
-      move-weaker f next (counted allowed n + block_room (length wanted) n) (reach_of f block level width allowed)
-      (block_toggles (length wanted)) (toggles_at block level) costs.0 costs.1
-      (t.move 0 width allowed (record { cuts = c.cuts; enough = omega arith }) a);
+  move = within_blocks f block lo wanted (λ reach toggles. IsMove f reach toggles next)
+      (λ reach more toggles larger. move-weaker f next reach more toggles larger) some within t.move;
 }
 
 pub changed_block : (f next : ForwardView) (block lo : ℕ) (wanted : List Bool) → 1 ≤ block → length wanted ≤ block
@@ -60,12 +68,8 @@ pub short_block : (f : ForwardView) (block lo : ℕ) (wanted : List Bool) (e : P
     → IsChangeFault f (length wanted) lo wanted e → IsChangeFault f block lo wanted e
 short_block f block lo wanted e some within t = record {
   need = t.need;
-  short = λ level width allowed c a.
-      let n = length f.graph.nodes in
-      let costs = block_costs f block (length wanted) level width allowed some within in
-      short-weaker f (counted allowed n + block_room (length wanted) n) (reach_of f block level width allowed)
-      (block_toggles (length wanted)) (toggles_at block level) e costs.0 costs.1
-      (t.short 0 width allowed (record { cuts = c.cuts; enough = omega arith }) a);
+  short = within_blocks f block lo wanted (λ reach toggles. IsShort f reach toggles e)
+      (λ reach more toggles larger. short-weaker f reach more toggles larger e) some within t.short;
 }
 
 pub risen_block : (f next : ForwardView) (block lo : ℕ) (wanted : List Bool) → 1 ≤ block → length wanted ≤ block

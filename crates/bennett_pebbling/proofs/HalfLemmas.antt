@@ -196,17 +196,42 @@ module _ (f : ForwardView) (block lo : ℕ) (wanted left right needed : List Boo
   never_zero : (width : ℕ) → IsCovered f.graph block (length wanted) 0 width → ⊥
   never_zero width c = omega (arith, c.enough, h.over)
 
+  -- what the halves cost, the range may cost one level up
+  one_level_up : (Costs : ℕ → ℕ → Type 0)
+      → ((reach more toggles larger : ℕ) → reach ≤ more → toggles ≤ larger → Costs reach toggles → Costs more larger)
+      → (toggles : ℕ → ℕ) → ((level : ℕ) → toggles level ≤ 3 * toggles_at block level)
+      → ((level width : ℕ) (allowed : ℕ → Bool) → IsCovered f.graph block (length wanted) (suc level) width → Allows f lo wanted allowed
+      → Costs (half_reach level width allowed) (toggles level))
+      → (level width : ℕ) (allowed : ℕ → Bool) → IsCovered f.graph block (length wanted) level width → Allows f lo wanted allowed
+      → Costs (reach_of f block level width allowed) (toggles_at block level)
+  one_level_up Costs weaker toggles few halves zero width allowed c a = absurd (never_zero width c)
+  one_level_up Costs weaker toggles few halves (suc level) width allowed c a =
+      weaker (half_reach level width allowed) (reach_of f block (suc level) width allowed) (toggles level) (3 * toggles_at block level)
+      (reach_fits level width allowed c) (few level) (halves level width allowed c a)
+
+  short_one_level_up : (e : PlanFault) (toggles : ℕ → ℕ) → ((level : ℕ) → toggles level ≤ 3 * toggles_at block level)
+      → ((level width : ℕ) (allowed : ℕ → Bool) → IsCovered f.graph block (length wanted) (suc level) width → Allows f lo wanted allowed
+      → IsShort f (half_reach level width allowed) (toggles level) e)
+      → (level width : ℕ) (allowed : ℕ → Bool) → IsCovered f.graph block (length wanted) level width → Allows f lo wanted allowed
+      → IsShort f (reach_of f block level width allowed) (toggles_at block level) e
+  short_one_level_up e toggles few halves =
+      one_level_up (λ reach turns. IsShort f reach turns e) (λ reach more turns larger. short-weaker f reach more turns larger e) toggles few halves
+
+  move_one_level_up : (next : ForwardView) (toggles : ℕ → ℕ) → ((level : ℕ) → toggles level ≤ 3 * toggles_at block level)
+      → ((level width : ℕ) (allowed : ℕ → Bool) → IsCovered f.graph block (length wanted) (suc level) width → Allows f lo wanted allowed
+      → IsMove f (half_reach level width allowed) (toggles level) next)
+      → (level width : ℕ) (allowed : ℕ → Bool) → IsCovered f.graph block (length wanted) level width → Allows f lo wanted allowed
+      → IsMove f (reach_of f block level width allowed) (toggles_at block level) next
+  move_one_level_up next toggles few halves =
+      one_level_up (λ reach turns. IsMove f reach turns next) (λ reach more turns larger. move-weaker f next reach more turns larger) toggles few halves
+
   pub first_short : (e : PlanFault) → IsChangeFault f block lo needed e → IsChangeFault f block lo wanted e
   unfolding half_reach
-  first_short e fault = record { need = fault.need; short = short }
-    where
-      short : (level width : ℕ) (allowed : ℕ → Bool) → IsCovered f.graph block (length wanted) level width → Allows f lo wanted allowed
-          → IsShort f (reach_of f block level width allowed) (toggles_at block level) e
-      short zero width allowed c a = absurd (never_zero width c)
-      short (suc level) width allowed c a =
-          short-weaker f (half_reach level width allowed) (reach_of f block (suc level) width allowed) (toggles_at block level) (3 * toggles_at block level) e
-          (reach_fits level width allowed c) (omega arith)
-          (fault.short level width (wider f.graph (lo + half) allowed) (covered_needed level width c) (allows_first allowed a))
+  first_short e fault = record {
+    need = fault.need;
+    short = short_one_level_up e (toggles_at block) (λ level. omega arith)
+        (λ level width allowed c a. fault.short level width (wider f.graph (lo + half) allowed) (covered_needed level width c) (allows_first allowed a));
+  }
 
   pub first_rise_short : (e : PlanFault) → IsChangeFault f block lo needed e → IsRiseFault f block lo wanted e
   first_rise_short e fault = record { change = first_short e fault; plain = λ within. absurd (omega (arith, within, h.over)) }
@@ -279,19 +304,13 @@ module _ (f : ForwardView) (block lo : ℕ) (wanted left right needed : List Boo
 
     pub second_short : (e : PlanFault) → IsChangeFault first block (lo + half) right e → IsChangeFault f block lo wanted e
     unfolding half_reach
-    second_short e fault = record { need = need-then f first e one.graph one.budget fault.need; short = short }
-      where
-        short : (level width : ℕ) (allowed : ℕ → Bool) → IsCovered f.graph block (length wanted) level width → Allows f lo wanted allowed
-            → IsShort f (reach_of f block level width allowed) (toggles_at block level) e
-        short zero width allowed c a = absurd (never_zero width c)
-        short (suc level) width allowed c a =
-            let t = toggles_at block level in
-            short-weaker f (half_reach level width allowed) (reach_of f block (suc level) width allowed) (t + t) (3 * t) e
-            (reach_fits level width allowed c) (omega arith)
-            (short-then f first (half_reach level width allowed) t t e (move_first level width allowed c a)
-            (over_graph f.graph first block (lo + half) right (λ reach toggles. IsShort first reach toggles e) one.graph fault.short level width
-            (wider f.graph (lo + half) allowed)
-            (covered_right level width c) (allows_second allowed a)))
+    second_short e fault = record {
+      need = need-then f first e one.graph one.budget fault.need;
+      short = short_one_level_up e (λ level. toggles_at block level + toggles_at block level) (λ level. omega arith) (λ level width allowed c a.
+          short-then f first (half_reach level width allowed) (toggles_at block level) (toggles_at block level) e (move_first level width allowed c a)
+          (over_graph f.graph first block (lo + half) right (λ reach toggles. IsShort first reach toggles e) one.graph fault.short level width
+          (wider f.graph (lo + half) allowed) (covered_right level width c) (allows_second allowed a)));
+    }
 
     -- ---- the second half is done, by a change or by a rise
 
@@ -306,15 +325,9 @@ module _ (f : ForwardView) (block lo : ℕ) (wanted left right needed : List Boo
         (covered_right level width c) (allows_second allowed a))
 
     pub thrifty_second : (second : ForwardView) → IsThrifty first block (lo + half) right second → IsThrifty f block lo wanted second
-    thrifty_second second t = record { move = move }
-      where
-        move : (level width : ℕ) (allowed : ℕ → Bool) → IsCovered f.graph block (length wanted) level width → Allows f lo wanted allowed
-            → IsMove f (reach_of f block level width allowed) (toggles_at block level) second
-        move zero width allowed c a = absurd (never_zero width c)
-        move (suc level) width allowed c a =
-            let n = toggles_at block level in
-            move-weaker f second (half_reach level width allowed) (reach_of f block (suc level) width allowed) (n + n) (3 * n)
-            (reach_fits level width allowed c) (omega arith) (move_second second t level width allowed c a)
+    thrifty_second second t = record {
+      move = move_one_level_up second (λ level. toggles_at block level + toggles_at block level) (λ level. omega arith) (move_second second t);
+    }
 
     -- ---- a rise
 
@@ -407,19 +420,14 @@ module _ (f : ForwardView) (block lo : ℕ) (wanted left right needed : List Boo
 
       pub third_short : (e : PlanFault) → IsChangeFault second block lo left e → IsChangeFault f block lo wanted e
       unfolding half_reach
-      third_short e fault = record { need = need-then f first e one.graph one.budget (need-then first second e two.graph two.budget fault.need); short = short }
-        where
-          short : (level width : ℕ) (allowed : ℕ → Bool) → IsCovered f.graph block (length wanted) level width → Allows f lo wanted allowed
-              → IsShort f (reach_of f block level width allowed) (toggles_at block level) e
-          short zero width allowed c a = absurd (never_zero width c)
-          short (suc level) width allowed c a =
-              let t = toggles_at block level in
-              short-weaker f (half_reach level width allowed) (reach_of f block (suc level) width allowed) (t + t + t) (3 * t) e
-              (reach_fits level width allowed c) (omega arith)
-              (short-then f second (half_reach level width allowed) (t + t) t e (move_second second two.thrifty level width allowed c a)
-              (over_graph f.graph second block lo left (λ reach toggles. IsShort second reach toggles e) graph_second fault.short level width
-              (wider f.graph (lo + half) allowed)
-              (covered_left level width c) (allows_third allowed a)))
+      third_short e fault = record {
+        need = need-then f first e one.graph one.budget (need-then first second e two.graph two.budget fault.need);
+        short = short_one_level_up e (λ level. toggles_at block level + toggles_at block level + toggles_at block level) (λ level. omega arith)
+            (λ level width allowed c a. let t = toggles_at block level in
+            short-then f second (half_reach level width allowed) (t + t) t e (move_second second two.thrifty level width allowed c a)
+            (over_graph f.graph second block lo left (λ reach toggles. IsShort second reach toggles e) graph_second fault.short level width
+            (wider f.graph (lo + half) allowed) (covered_left level width c) (allows_third allowed a)));
+      }
 
       module _ (next : ForwardView) (three : IsChanged second block lo left next) where
         whole_inside : (k : ℕ) → k < length wanted → is_held next.lines (lo + k) ≡ bit_of wanted k
@@ -437,23 +445,22 @@ module _ (f : ForwardView) (block lo : ℕ) (wanted left right needed : List Boo
               ∙ first_other k (inr (omega (arith, above, h.split.right_count)))
         ]
 
-        move_third : (level width : ℕ) (allowed : ℕ → Bool) → IsCovered f.graph block (length wanted) level width → Allows f lo wanted allowed
-            → IsMove f (reach_of f block level width allowed) (toggles_at block level) next
+        move_third : (level width : ℕ) (allowed : ℕ → Bool) → IsCovered f.graph block (length wanted) (suc level) width → Allows f lo wanted allowed
+            → IsMove f (half_reach level width allowed) (toggles_at block level + toggles_at block level + toggles_at block level) next
         unfolding half_reach
-        move_third zero width allowed c a = absurd (never_zero width c)
-        move_third (suc level) width allowed c a =
+        move_third level width allowed c a =
             let t = toggles_at block level in
-            move-weaker f next (half_reach level width allowed) (reach_of f block (suc level) width allowed) (t + t + t) (3 * t)
-            (reach_fits level width allowed c) (omega arith)
-            (move-then f second next (half_reach level width allowed) (t + t) t (move_second second two.thrifty level width allowed c a)
+            move-then f second next (half_reach level width allowed) (t + t) t (move_second second two.thrifty level width allowed c a)
             (over_graph f.graph second block lo left (λ reach toggles. IsMove second reach toggles next) graph_second three.thrifty.move level width
-            (wider f.graph (lo + half) allowed)
-            (covered_left level width c) (allows_third allowed a)))
+            (wider f.graph (lo + half) allowed) (covered_left level width c) (allows_third allowed a))
 
         pub halves_changed : IsChanged f block lo wanted next
         halves_changed = record {
           graph = three.graph ∙ graph_second;
           budget = three.budget ∙ two.budget ∙ one.budget;
           exactly = record { inside = whole_inside; outside = whole_outside };
-          thrifty = record { move = move_third };
+          thrifty = record {
+            move = move_one_level_up next (λ level. toggles_at block level + toggles_at block level + toggles_at block level) (λ level. omega arith)
+                move_third;
+          };
         }

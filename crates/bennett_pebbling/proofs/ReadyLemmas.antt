@@ -1,6 +1,6 @@
 -- Nodes that are ready to turn, and turns within what is allowed.
 use Rattle.std.proofs.Common.{◌≡◌, ℕ, zero, suc, ◌+◌, ◌-◌, ◌<◌, Bool, true, false, not, ◌&&◌, ◌||◌, ◌⊎◌, inl, inr, List, [], ◌∷◌, length, Some, Option}
-use Rattle.std.proofs.Common.{◌∙◌, ap, subst, refl, arith}
+use Rattle.std.proofs.Common.{subst, refl, arith}
 use Rattle.std.specs.Prelude.{slice_get}
 use Rattle.std.specs.List.{AllByRecursion}
 use Rattle.std.proofs.lemmas.Bool.{cases_lt}
@@ -61,15 +61,6 @@ or_right_true false b e = e
 pub or_left_true : (a b : Bool) → a ≡ true → (a || b) ≡ true
 or_left_true true b e = refl
 or_left_true false b e = absurd (let clash : false ≡ true = e in cc)
-
--- what a test joined by `&&` answers in the code, by its branches
-pub and_taken : (m h r turn : Bool) → m ≡ true → r ≡ h → turn ≡ not r → turn ≡ (m && not h)
-and_taken true h r turn e same t = t ∙ ap not same
-and_taken false h r turn e same t = absurd (let clash : false ≡ true = e in cc)
-
-pub and_left_out : (m h turn : Bool) → m ≡ false → turn ≡ false → turn ≡ (m && not h)
-and_left_out true h turn e t = absurd (let clash : true ≡ false = e in cc)
-and_left_out false h turn e t = t
 
 pub raised_bit : (mark held : Bool) → turned (mark && not held) held ≡ (held || mark)
 raised_bit true true = refl

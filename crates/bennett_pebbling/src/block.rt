@@ -39,7 +39,7 @@ pub fn raise<'s>(forward: Forward<'s>, lo: u32, marks: &[bool]) -> Result<Forwar
     for (k, marked) in marks.iter().enumerate() {
         let node = lo + k as u32;
         let held = forward.held(node);
-        forward = toggle_if(forward, node, *marked && !held)?;
+        forward = toggle_if(forward, node, *marked & !held)?;
     }
     Ok(forward)
 }
@@ -57,7 +57,7 @@ pub fn lower<'s>(forward: Forward<'s>, lo: u32, wanted: &[bool]) -> Result<Forwa
     for k in (0..wanted.len()).rev() {
         let node = lo + k as u32;
         let held = forward.held(node);
-        forward = toggle_if(forward, node, held && !wanted[k])?;
+        forward = toggle_if(forward, node, held & !wanted[k])?;
     }
     Ok(forward)
 }

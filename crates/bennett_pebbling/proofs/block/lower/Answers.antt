@@ -1,48 +1,36 @@
-use Rattle.std.proofs.Common.{rules, ◌≡◌, ◌∙◌, sym, refl, ℕ, ◌+◌, ◌-◌, not, ◌&&◌, subst, arith}
+use Rattle.std.proofs.Common.{rules, ◌≡◌, ℕ, ◌+◌, ◌-◌, not, ◌&&◌, subst, ap, arith}
 use Rattle.list_facts.specs.Bits.{bit_of}
 use Rattle.held_nodes.specs.Held.{is_held}
 use Rattle.bennett_pebbling.proofs.LowerLemmas.{IsLowering, lowering_begun, lowering_can, lowering_done, lowering_failed, lowering_more}
-use Rattle.bennett_pebbling.proofs.ReadyLemmas.{and_taken, and_left_out}
 use Rattle.bennett_pebbling.proofs.block.lower.Goals as goal
-use Rattle.bennett_pebbling.proofs.block.lower.Goals.{then-held, else-held}
+use Rattle.bennett_pebbling.proofs.block.lower.Goals.{After-held-held}
 use Rattle.revc_base.proofs.ResultLemmas.{passes_on}
+
+turn : (c : After-held-held) → (c.held-held.result && not (bit_of c.args.wanted.now (c.loop-k.k - 1)))
+    ≡ (is_held c.loop-k.forward.lines (c.args.lo + (c.loop-k.k - 1)) && not (bit_of c.args.wanted.now (c.loop-k.k - 1)))
+turn c = ap (λ held. held && not (bit_of c.args.wanted.now (c.loop-k.k - 1))) c.held-held.ensures.held
+
+below : (c : After-held-held) → (c.loop-k.k - 1) + 1 ≡ c.loop-k.k
+below c = omega (arith, c.loop-k-test.true)
 
 pub toggle_if-requires-clause-can : goal.toggle_if-requires-clause-can
 toggle_if-requires-clause-can c =
-    let now = c.loop-k.forward in let h = c.loop-k.k in let k = h - 1 in
-    let next : k + 1 ≡ h = omega (arith, c.loop-k-test.true) in
-    let turn : c.if-held.toggle_if ≡ (is_held now.lines (c.args.lo + k) && not (bit_of c.args.wanted.now k)) =
-    elim c.if-held.branch [
-      | then-held w ↦ and_taken _ _ _ _ (sym c.held-held.ensures.held ∙ w.if-held.true) refl w.toggle_if-is
-      | else-held w ↦ and_left_out _ _ _ (sym c.held-held.ensures.held ∙ w.if-held.false) (w.toggle_if-is ∙ w.if-held.false)
-    ] in
-    lowering_can c.args.forward c.args.lo c.args.wanted.now h k next now c.loop-k.invariant c.loop-k.auto.k c.requires.can c.if-held.toggle_if turn
-    (search rules)
+    let there = (goal.at.toggle_if-requires-clause-can c).After-held-held in
+    lowering_can c.args.forward c.args.lo c.args.wanted.now c.loop-k.k (c.loop-k.k - 1) (below there) c.loop-k.forward c.loop-k.invariant
+    c.loop-k.auto.k c.requires.can _ (turn there) (search rules)
 
 pub returns-in_err-forward-clause-refused : goal.returns-in_err-forward-clause-refused
 returns-in_err-forward-clause-refused c =
-    let now = c.loop-k.forward in let h = c.loop-k.k in let k = h - 1 in
-    let next : k + 1 ≡ h = omega (arith, c.loop-k-test.true) in
-    let turn : c.if-held.toggle_if ≡ (is_held now.lines (c.args.lo + k) && not (bit_of c.args.wanted.now k)) =
-    elim c.if-held.branch [
-      | then-held w ↦ and_taken _ _ _ _ (sym c.held-held.ensures.held ∙ w.if-held.true) refl w.toggle_if-is
-      | else-held w ↦ and_left_out _ _ _ (sym c.held-held.ensures.held ∙ w.if-held.false) (w.toggle_if-is ∙ w.if-held.false)
-    ] in
+    let there = (goal.at.returns-in_err-forward-clause-refused c).After-held-held in
     passes_on _ c.from_residual.result c.from_residual.ensures.1
-    (lowering_failed c.args.forward c.args.lo c.args.wanted.now h k next now c.loop-k.invariant c.loop-k.auto.k c.requires.can
-    c.if-held.toggle_if turn c.in_err-forward.field-0.0 c.in_err-forward.ensures.refused)
+    (lowering_failed c.args.forward c.args.lo c.args.wanted.now c.loop-k.k (c.loop-k.k - 1) (below there) c.loop-k.forward c.loop-k.invariant
+    c.loop-k.auto.k c.requires.can _ (turn there) c.in_err-forward.field-0.0 c.in_err-forward.ensures.refused)
 
 pub loop-k-preserved : goal.loop-k-preserved
 loop-k-preserved c =
-    let now = c.loop-k.forward in let h = c.loop-k.k in let k = h - 1 in
-    let next : k + 1 ≡ h = omega (arith, c.loop-k-test.true) in
-    let turn : c.if-held.toggle_if ≡ (is_held now.lines (c.args.lo + k) && not (bit_of c.args.wanted.now k)) =
-    elim c.if-held.branch [
-      | then-held w ↦ and_taken _ _ _ _ (sym c.held-held.ensures.held ∙ w.if-held.true) refl w.toggle_if-is
-      | else-held w ↦ and_left_out _ _ _ (sym c.held-held.ensures.held ∙ w.if-held.false) (w.toggle_if-is ∙ w.if-held.false)
-    ] in
-    lowering_more c.args.forward c.args.lo c.args.wanted.now h k next now c.loop-k.invariant c.loop-k.auto.k c.requires.can
-    c.if-held.toggle_if turn c.in_ok-forward.forward c.in_ok-forward.ensures.keeps c.in_ok-forward.ensures.turned
+    let there = (goal.at.loop-k-preserved c).After-held-held in
+    lowering_more c.args.forward c.args.lo c.args.wanted.now c.loop-k.k (c.loop-k.k - 1) (below there) c.loop-k.forward c.loop-k.invariant
+    c.loop-k.auto.k c.requires.can _ (turn there) c.in_ok-forward.forward c.in_ok-forward.ensures.keeps c.in_ok-forward.ensures.turned
 
 pub loop-k-init : goal.loop-k-init
 loop-k-init c = lowering_begun c.args.forward c.args.lo c.args.wanted.now c.requires.keeps

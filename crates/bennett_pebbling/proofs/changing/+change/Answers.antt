@@ -1,11 +1,18 @@
-use Rattle.std.proofs.Common.{length, arith}
+use Rattle.std.proofs.Common.{ℕ, length, arith}
 use Rattle.std.proofs.lemmas.Result.{IfOk-weaker, IfErr-weaker}
 use Rattle.bennett_pebbling.specs.inside.Changes.{IsChanged, IsChangeFault}
 use Rattle.bennett_pebbling.proofs.ChangeLemmas.{changed_block, short_block}
-use Rattle.bennett_pebbling.proofs.HalfLemmas.{can_first, can_second, can_third, first_less, first_short, halves_changed, in_halves}
+use Rattle.bennett_pebbling.proofs.HalfLemmas.{IsInHalves, can_first, can_second, can_third, first_less, first_short, halves_changed, in_halves}
 use Rattle.bennett_pebbling.proofs.HalfLemmas.{second_less, second_short, third_less, third_short}
 use Rattle.bennett_pebbling.proofs.changing.+change.Goals as goal
 use Rattle.revc_base.proofs.ResultLemmas.{passes_on}
+use Rattle.bennett_pebbling.proofs.changing.+change.Goals.{After-deref}
+
+halved : (t : ℕ) (c : After-deref t) → IsInHalves c.args.forward c.args.block c.args.lo c.args.wanted.now c.halves.result.0.now c.halves.result.1.now
+    c.deref.result.now (length c.halves.result.0.now)
+halved t c =
+    in_halves c.args.forward c.args.block c.args.lo c.args.wanted.now c.halves.result.0.now c.halves.result.1.now c.deref.result.now
+    c.in_ok-needed.needed.items c.args.graph.now c.requires.can c.halves.ensures c.in_ok-needed.ensures c.deref.ensures.value c.if-wanted-block.false
 
 pub returns-then-wanted-block-clause-changed : goal.returns-then-wanted-block-clause-changed
 returns-then-wanted-block-clause-changed t c =
@@ -23,8 +30,7 @@ pub change-requires : goal.change-requires
 change-requires t c =
     let f = c.args.forward in let b = c.args.block in let lo = c.args.lo in let wanted = c.args.wanted.now in
     let left = c.halves.result.0.now in let right = c.halves.result.1.now in let needed = c.deref.result.now in let half = length left in
-    let h = in_halves f b lo wanted left right needed c.in_ok-needed.needed.items c.args.graph.now c.requires.can c.halves.ensures
-    c.in_ok-needed.ensures c.deref.ensures.value c.if-wanted-block.false in (
+    let h = halved t (goal.at.change-requires t c).After-deref in (
       omega (arith, c.decreases, first_less f b lo wanted left right needed half h c.requires.some),
       (can_first f b lo wanted left right needed half h c.args.graph.now c.requires.can, c.requires.some),
     )
@@ -33,8 +39,7 @@ pub returns-in_err-forward-clause-refused : goal.returns-in_err-forward-clause-r
 returns-in_err-forward-clause-refused t c =
     let f = c.args.forward in let b = c.args.block in let lo = c.args.lo in let wanted = c.args.wanted.now in
     let left = c.halves.result.0.now in let right = c.halves.result.1.now in let needed = c.deref.result.now in let half = length left in
-    let h = in_halves f b lo wanted left right needed c.in_ok-needed.needed.items c.args.graph.now c.requires.can c.halves.ensures
-    c.in_ok-needed.ensures c.deref.ensures.value c.if-wanted-block.false in
+    let h = halved t (goal.at.returns-in_err-forward-clause-refused t c).After-deref in
     passes_on _ c.from_residual-in_err-forward.result c.from_residual-in_err-forward.ensures.1
     (first_short f b lo wanted left right needed half h c.in_err-forward.field-0.0 c.in_err-forward.ensures.refused)
 
@@ -42,8 +47,7 @@ pub change-requires-2 : goal.change-requires-2
 change-requires-2 t c =
     let f = c.args.forward in let b = c.args.block in let lo = c.args.lo in let wanted = c.args.wanted.now in
     let left = c.halves.result.0.now in let right = c.halves.result.1.now in let needed = c.deref.result.now in let half = length left in
-    let h = in_halves f b lo wanted left right needed c.in_ok-needed.needed.items c.args.graph.now c.requires.can c.halves.ensures
-    c.in_ok-needed.ensures c.deref.ensures.value c.if-wanted-block.false in (
+    let h = halved t (goal.at.change-requires-2 t c).After-deref in (
       omega (arith, c.decreases, second_less f b lo wanted left right needed half h c.requires.some),
       (
         can_second f b lo wanted left right needed half h c.in_ok-forward.forward c.in_ok-forward.ensures.changed
@@ -56,8 +60,7 @@ pub returns-in_err-forward-2-clause-refused : goal.returns-in_err-forward-2-clau
 returns-in_err-forward-2-clause-refused t c =
     let f = c.args.forward in let b = c.args.block in let lo = c.args.lo in let wanted = c.args.wanted.now in
     let left = c.halves.result.0.now in let right = c.halves.result.1.now in let needed = c.deref.result.now in let half = length left in
-    let h = in_halves f b lo wanted left right needed c.in_ok-needed.needed.items c.args.graph.now c.requires.can c.halves.ensures
-    c.in_ok-needed.ensures c.deref.ensures.value c.if-wanted-block.false in
+    let h = halved t (goal.at.returns-in_err-forward-2-clause-refused t c).After-deref in
     passes_on _ c.from_residual-in_err-forward-2.result c.from_residual-in_err-forward-2.ensures.1
     (second_short f b lo wanted left right needed half h c.in_ok-forward.forward c.in_ok-forward.ensures.changed
     c.in_err-forward-2.field-0.0 c.in_err-forward-2.ensures.refused)
@@ -66,8 +69,7 @@ pub change-requires-3 : goal.change-requires-3
 change-requires-3 t c =
     let f = c.args.forward in let b = c.args.block in let lo = c.args.lo in let wanted = c.args.wanted.now in
     let left = c.halves.result.0.now in let right = c.halves.result.1.now in let needed = c.deref.result.now in let half = length left in
-    let h = in_halves f b lo wanted left right needed c.in_ok-needed.needed.items c.args.graph.now c.requires.can c.halves.ensures
-    c.in_ok-needed.ensures c.deref.ensures.value c.if-wanted-block.false in (
+    let h = halved t (goal.at.change-requires-3 t c).After-deref in (
       omega (arith, c.decreases, third_less f b lo wanted left right needed half h c.requires.some),
       (
         can_third f b lo wanted left right needed half h c.in_ok-forward.forward c.in_ok-forward.ensures.changed
@@ -80,8 +82,7 @@ pub returns-clause-changed : goal.returns-clause-changed
 returns-clause-changed t c =
     let f = c.args.forward in let b = c.args.block in let lo = c.args.lo in let wanted = c.args.wanted.now in
     let left = c.halves.result.0.now in let right = c.halves.result.1.now in let needed = c.deref.result.now in let half = length left in
-    let h = in_halves f b lo wanted left right needed c.in_ok-needed.needed.items c.args.graph.now c.requires.can c.halves.ensures
-    c.in_ok-needed.ensures c.deref.ensures.value c.if-wanted-block.false in
+    let h = halved t (goal.at.returns-clause-changed t c).After-deref in
     IfOk-weaker c.change-3.result (IsChanged c.in_ok-forward-2.forward b lo left) (IsChanged f b lo wanted)
     (halves_changed f b lo wanted left right needed half h c.in_ok-forward.forward c.in_ok-forward.ensures.changed
     c.in_ok-forward-2.forward c.in_ok-forward-2.ensures.changed) c.change-3.ensures.changed
@@ -90,8 +91,7 @@ pub returns-clause-refused : goal.returns-clause-refused
 returns-clause-refused t c =
     let f = c.args.forward in let b = c.args.block in let lo = c.args.lo in let wanted = c.args.wanted.now in
     let left = c.halves.result.0.now in let right = c.halves.result.1.now in let needed = c.deref.result.now in let half = length left in
-    let h = in_halves f b lo wanted left right needed c.in_ok-needed.needed.items c.args.graph.now c.requires.can c.halves.ensures
-    c.in_ok-needed.ensures c.deref.ensures.value c.if-wanted-block.false in
+    let h = halved t (goal.at.returns-clause-refused t c).After-deref in
     IfErr-weaker c.change-3.result (IsChangeFault c.in_ok-forward-2.forward b lo left) (IsChangeFault f b lo wanted)
     (third_short f b lo wanted left right needed half h c.in_ok-forward.forward c.in_ok-forward.ensures.changed
     c.in_ok-forward-2.forward c.in_ok-forward-2.ensures.changed) c.change-3.ensures.refused

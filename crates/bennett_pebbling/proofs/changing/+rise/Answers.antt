@@ -1,10 +1,17 @@
-use Rattle.std.proofs.Common.{◌+◌, length, arith}
+use Rattle.std.proofs.Common.{ℕ, ◌+◌, length, arith}
 use Rattle.std.proofs.lemmas.Result.{IfOk-weaker, IfErr-weaker}
 use Rattle.bennett_pebbling.specs.inside.Changes.{IsRisen, IsRiseFault}
 use Rattle.bennett_pebbling.proofs.ChangeLemmas.{risen_block, rise_short_block}
-use Rattle.bennett_pebbling.proofs.HalfLemmas.{can_first, can_second, first_rise_short, halves_rise_short, halves_risen, in_halves, second_less}
+use Rattle.bennett_pebbling.proofs.HalfLemmas.{IsInHalves, can_first, can_second, first_rise_short, halves_rise_short, halves_risen, in_halves, second_less}
 use Rattle.bennett_pebbling.proofs.changing.+rise.Goals as goal
 use Rattle.revc_base.proofs.ResultLemmas.{passes_on}
+use Rattle.bennett_pebbling.proofs.changing.+rise.Goals.{After-deref}
+
+halved : (t : ℕ) (c : After-deref t) → IsInHalves c.args.forward c.args.block c.args.lo c.args.wanted.now c.halves.result.0.now c.halves.result.1.now
+    c.deref.result.now (length c.halves.result.0.now)
+halved t c =
+    in_halves c.args.forward c.args.block c.args.lo c.args.wanted.now c.halves.result.0.now c.halves.result.1.now c.deref.result.now
+    c.in_ok-needed.needed.items c.args.graph.now c.requires.can c.halves.ensures c.in_ok-needed.ensures c.deref.ensures.value c.if-wanted-block.false
 
 pub returns-then-wanted-block-clause-risen : goal.returns-then-wanted-block-clause-risen
 returns-then-wanted-block-clause-risen t c =
@@ -22,16 +29,14 @@ pub change-requires-clause-can : goal.change-requires-clause-can
 change-requires-clause-can t c =
     let f = c.args.forward in let b = c.args.block in let lo = c.args.lo in let wanted = c.args.wanted.now in
     let left = c.halves.result.0.now in let right = c.halves.result.1.now in let needed = c.deref.result.now in let half = length left in
-    let h = in_halves f b lo wanted left right needed c.in_ok-needed.needed.items c.args.graph.now c.requires.can c.halves.ensures
-    c.in_ok-needed.ensures c.deref.ensures.value c.if-wanted-block.false in
+    let h = halved t (goal.at.change-requires-clause-can t c).After-deref in
     can_first f b lo wanted left right needed half h c.args.graph.now c.requires.can
 
 pub returns-in_err-forward-clause-refused : goal.returns-in_err-forward-clause-refused
 returns-in_err-forward-clause-refused t c =
     let f = c.args.forward in let b = c.args.block in let lo = c.args.lo in let wanted = c.args.wanted.now in
     let left = c.halves.result.0.now in let right = c.halves.result.1.now in let needed = c.deref.result.now in let half = length left in
-    let h = in_halves f b lo wanted left right needed c.in_ok-needed.needed.items c.args.graph.now c.requires.can c.halves.ensures
-    c.in_ok-needed.ensures c.deref.ensures.value c.if-wanted-block.false in
+    let h = halved t (goal.at.returns-in_err-forward-clause-refused t c).After-deref in
     passes_on _ c.from_residual-in_err-forward.result c.from_residual-in_err-forward.ensures.1
     (first_rise_short f b lo wanted left right needed half h c.in_err-forward.field-0.0 c.in_err-forward.ensures.refused)
 
@@ -39,8 +44,7 @@ pub rise-requires : goal.rise-requires
 rise-requires t c =
     let f = c.args.forward in let b = c.args.block in let lo = c.args.lo in let wanted = c.args.wanted.now in
     let left = c.halves.result.0.now in let right = c.halves.result.1.now in let needed = c.deref.result.now in let half = length left in
-    let h = in_halves f b lo wanted left right needed c.in_ok-needed.needed.items c.args.graph.now c.requires.can c.halves.ensures
-    c.in_ok-needed.ensures c.deref.ensures.value c.if-wanted-block.false in (
+    let h = halved t (goal.at.rise-requires t c).After-deref in (
       omega (arith, c.decreases, second_less f b lo wanted left right needed half h c.requires.some),
       (
         can_second f b lo wanted left right needed half h c.in_ok-forward.forward c.in_ok-forward.ensures.changed
@@ -53,8 +57,7 @@ pub returns-clause-risen : goal.returns-clause-risen
 returns-clause-risen t c =
     let f = c.args.forward in let b = c.args.block in let lo = c.args.lo in let wanted = c.args.wanted.now in
     let left = c.halves.result.0.now in let right = c.halves.result.1.now in let needed = c.deref.result.now in let half = length left in
-    let h = in_halves f b lo wanted left right needed c.in_ok-needed.needed.items c.args.graph.now c.requires.can c.halves.ensures
-    c.in_ok-needed.ensures c.deref.ensures.value c.if-wanted-block.false in
+    let h = halved t (goal.at.returns-clause-risen t c).After-deref in
     IfOk-weaker c.rise.result (IsRisen c.in_ok-forward.forward b (lo + half) right) (IsRisen f b lo wanted)
     (halves_risen f b lo wanted left right needed half h c.in_ok-forward.forward c.in_ok-forward.ensures.changed) c.rise.ensures.risen
 
@@ -62,7 +65,6 @@ pub returns-clause-refused : goal.returns-clause-refused
 returns-clause-refused t c =
     let f = c.args.forward in let b = c.args.block in let lo = c.args.lo in let wanted = c.args.wanted.now in
     let left = c.halves.result.0.now in let right = c.halves.result.1.now in let needed = c.deref.result.now in let half = length left in
-    let h = in_halves f b lo wanted left right needed c.in_ok-needed.needed.items c.args.graph.now c.requires.can c.halves.ensures
-    c.in_ok-needed.ensures c.deref.ensures.value c.if-wanted-block.false in
+    let h = halved t (goal.at.returns-clause-refused t c).After-deref in
     IfErr-weaker c.rise.result (IsRiseFault c.in_ok-forward.forward b (lo + half) right) (IsRiseFault f b lo wanted)
     (halves_rise_short f b lo wanted left right needed half h c.in_ok-forward.forward c.in_ok-forward.ensures.changed) c.rise.ensures.refused

@@ -5,11 +5,15 @@ use Rattle.bennett_pebbling.specs.inside.Marks.{AreNeeds}
 use Rattle.bennett_pebbling.proofs.BlockLemmas.{block_can, block_changed, block_graph, lower_short, raise_short}
 use Rattle.bennett_pebbling.proofs.changing.change_block.Goals as goal
 use Rattle.revc_base.proofs.ResultLemmas.{passes_on}
+use Rattle.bennett_pebbling.proofs.changing.change_block.Goals.{After-deref}
+
+needs_are : (c : After-deref) → AreNeeds c.args.forward.graph c.args.lo c.in_ok-marks.marks.items c.deref.result.now
+needs_are c = rw (← c.requires.can.graph, c.deref.ensures.value) c.with_needs-marks.ensures
 
 pub returns-clause-changed : goal.returns-clause-changed
 returns-clause-changed c =
     let f = c.args.forward in let lo = c.args.lo in let wanted = c.args.wanted.now in let start = c.in_ok-marks.marks.items in let marks = c.deref.result.now in
-    let needs : AreNeeds f.graph lo start marks = rw (← c.requires.can.graph, c.deref.ensures.value) c.with_needs-marks.ensures in
+    let needs = needs_are (goal.at.returns-clause-changed c).After-deref in
     IfOk-weaker c.lower.result (IsLowered c.in_ok-forward.forward lo wanted) (IsChanged f (length wanted) lo wanted)
     (λ next l. block_changed f lo wanted start marks c.in_ok-marks.ensures needs c.in_ok-forward.forward c.in_ok-forward.ensures.raised
     c.requires.can.ready c.in_ok-forward.ensures.keeps next l)
@@ -18,7 +22,7 @@ returns-clause-changed c =
 pub returns-clause-refused : goal.returns-clause-refused
 returns-clause-refused c =
     let f = c.args.forward in let lo = c.args.lo in let wanted = c.args.wanted.now in let start = c.in_ok-marks.marks.items in let marks = c.deref.result.now in
-    let needs : AreNeeds f.graph lo start marks = rw (← c.requires.can.graph, c.deref.ensures.value) c.with_needs-marks.ensures in
+    let needs = needs_are (goal.at.returns-clause-refused c).After-deref in
     IfErr-weaker c.lower.result (IsLowerFault c.in_ok-forward.forward lo wanted) (IsChangeFault f (length wanted) lo wanted)
     (λ e l. lower_short f lo wanted start marks c.in_ok-marks.ensures needs c.in_ok-forward.forward c.in_ok-forward.ensures.raised
     c.requires.can.ready c.in_ok-forward.ensures.keeps e l)
@@ -27,20 +31,20 @@ returns-clause-refused c =
 pub returns-in_err-forward-clause-refused : goal.returns-in_err-forward-clause-refused
 returns-in_err-forward-clause-refused c =
     let f = c.args.forward in let lo = c.args.lo in let wanted = c.args.wanted.now in let start = c.in_ok-marks.marks.items in let marks = c.deref.result.now in
-    let needs : AreNeeds f.graph lo start marks = rw (← c.requires.can.graph, c.deref.ensures.value) c.with_needs-marks.ensures in
+    let needs = needs_are (goal.at.returns-in_err-forward-clause-refused c).After-deref in
     passes_on _ c.from_residual-in_err-forward.result c.from_residual-in_err-forward.ensures.1
     (raise_short f lo wanted start marks c.in_ok-marks.ensures needs c.in_err-forward.field-0.0 c.in_err-forward.ensures.refused)
 
 pub lower-requires-clause-inside : goal.lower-requires-clause-inside
 lower-requires-clause-inside c =
     let f = c.args.forward in let lo = c.args.lo in let wanted = c.args.wanted.now in let start = c.in_ok-marks.marks.items in let marks = c.deref.result.now in
-    let needs : AreNeeds f.graph lo start marks = rw (← c.requires.can.graph, c.deref.ensures.value) c.with_needs-marks.ensures in
+    let needs = needs_are (goal.at.lower-requires-clause-inside c).After-deref in
     rw (block_graph f lo wanted start marks c.in_ok-marks.ensures needs c.in_ok-forward.forward c.in_ok-forward.ensures.raised
     c.requires.can.ready c.in_ok-forward.ensures.keeps) c.requires.can.inside
 
 pub lower-requires-clause-can : goal.lower-requires-clause-can
 lower-requires-clause-can c =
     let f = c.args.forward in let lo = c.args.lo in let wanted = c.args.wanted.now in let start = c.in_ok-marks.marks.items in let marks = c.deref.result.now in
-    let needs : AreNeeds f.graph lo start marks = rw (← c.requires.can.graph, c.deref.ensures.value) c.with_needs-marks.ensures in
+    let needs = needs_are (goal.at.lower-requires-clause-can c).After-deref in
     block_can f lo wanted start marks c.in_ok-marks.ensures needs c.in_ok-forward.forward c.in_ok-forward.ensures.raised
     c.requires.can.ready c.in_ok-forward.ensures.keeps

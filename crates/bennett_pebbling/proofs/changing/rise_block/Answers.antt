@@ -4,21 +4,22 @@ use Rattle.bennett_pebbling.specs.inside.Changes.{IsRaised, IsRaiseFault, IsRise
 use Rattle.bennett_pebbling.specs.inside.Marks.{AreNeeds}
 use Rattle.bennett_pebbling.proofs.RiseLemmas.{block_risen, rise_short}
 use Rattle.bennett_pebbling.proofs.changing.rise_block.Goals as goal
+use Rattle.bennett_pebbling.proofs.changing.rise_block.Goals.{After-deref}
+
+needs_are : (c : After-deref) → AreNeeds c.args.forward.graph c.args.lo c.args.wanted.now c.deref.result.now
+needs_are c =
+    let same : c.in_ok-from_slice.field-0.items ≡ c.args.wanted.now = search rules in
+    rw (← c.requires.can.graph, c.deref.ensures.value) (subst (λ (xs : List Bool). AreNeeds c.args.graph.now c.args.lo xs c.with_needs-marks.result.items) same
+    c.with_needs-marks.ensures)
 
 pub returns-clause-risen : goal.returns-clause-risen
 returns-clause-risen c =
     let f = c.args.forward in let lo = c.args.lo in let wanted = c.args.wanted.now in let marks = c.deref.result.now in
-    let same : c.in_ok-from_slice.field-0.items ≡ wanted = search rules in
-    let needs : AreNeeds f.graph lo wanted marks =
-    rw (← c.requires.can.graph, c.deref.ensures.value) (subst (λ (xs : List Bool). AreNeeds c.args.graph.now lo xs c.with_needs-marks.result.items) same
-    c.with_needs-marks.ensures) in
+    let needs = needs_are (goal.at.returns-clause-risen c).After-deref in
     IfOk-weaker c.raise.result (IsRaised f lo marks) (IsRisen f (length wanted) lo wanted) (block_risen f lo wanted marks needs) c.raise.ensures.raised
 
 pub returns-clause-refused : goal.returns-clause-refused
 returns-clause-refused c =
     let f = c.args.forward in let lo = c.args.lo in let wanted = c.args.wanted.now in let marks = c.deref.result.now in
-    let same : c.in_ok-from_slice.field-0.items ≡ wanted = search rules in
-    let needs : AreNeeds f.graph lo wanted marks =
-    rw (← c.requires.can.graph, c.deref.ensures.value) (subst (λ (xs : List Bool). AreNeeds c.args.graph.now lo xs c.with_needs-marks.result.items) same
-    c.with_needs-marks.ensures) in
+    let needs = needs_are (goal.at.returns-clause-refused c).After-deref in
     IfErr-weaker c.raise.result (IsRaiseFault f lo marks) (IsRiseFault f (length wanted) lo wanted) (rise_short f lo wanted marks needs) c.raise.ensures.refused
