@@ -209,27 +209,12 @@ module _ (f : ForwardView) (block lo : ℕ) (wanted left right needed : List Boo
       weaker (half_reach level width allowed) (reach_of f block (suc level) width allowed) (toggles level) (3 * toggles_at block level)
       (reach_fits level width allowed c) (few level) (halves level width allowed c a)
 
-  short_one_level_up : (e : PlanFault) (toggles : ℕ → ℕ) → ((level : ℕ) → toggles level ≤ 3 * toggles_at block level)
-      → ((level width : ℕ) (allowed : ℕ → Bool) → IsCovered f.graph block (length wanted) (suc level) width → Allows f lo wanted allowed
-      → IsShort f (half_reach level width allowed) (toggles level) e)
-      → (level width : ℕ) (allowed : ℕ → Bool) → IsCovered f.graph block (length wanted) level width → Allows f lo wanted allowed
-      → IsShort f (reach_of f block level width allowed) (toggles_at block level) e
-  short_one_level_up e toggles few halves =
-      one_level_up (λ reach turns. IsShort f reach turns e) (λ reach more turns larger. short-weaker f reach more turns larger e) toggles few halves
-
-  move_one_level_up : (next : ForwardView) (toggles : ℕ → ℕ) → ((level : ℕ) → toggles level ≤ 3 * toggles_at block level)
-      → ((level width : ℕ) (allowed : ℕ → Bool) → IsCovered f.graph block (length wanted) (suc level) width → Allows f lo wanted allowed
-      → IsMove f (half_reach level width allowed) (toggles level) next)
-      → (level width : ℕ) (allowed : ℕ → Bool) → IsCovered f.graph block (length wanted) level width → Allows f lo wanted allowed
-      → IsMove f (reach_of f block level width allowed) (toggles_at block level) next
-  move_one_level_up next toggles few halves =
-      one_level_up (λ reach turns. IsMove f reach turns next) (λ reach more turns larger. move-weaker f next reach more turns larger) toggles few halves
-
   pub first_short : (e : PlanFault) → IsChangeFault f block lo needed e → IsChangeFault f block lo wanted e
   unfolding half_reach
   first_short e fault = record {
     need = fault.need;
-    short = short_one_level_up e (toggles_at block) (λ level. omega arith)
+    short = one_level_up (λ reach turns. IsShort f reach turns e) (λ reach more turns larger. short-weaker f reach more turns larger e)
+        (toggles_at block) (λ level. omega arith)
         (λ level width allowed c a. fault.short level width (wider f.graph (lo + half) allowed) (covered_needed level width c) (allows_first allowed a));
   }
 
@@ -306,7 +291,8 @@ module _ (f : ForwardView) (block lo : ℕ) (wanted left right needed : List Boo
     unfolding half_reach
     second_short e fault = record {
       need = need-then f first e one.graph one.budget fault.need;
-      short = short_one_level_up e (λ level. toggles_at block level + toggles_at block level) (λ level. omega arith) (λ level width allowed c a.
+      short = one_level_up (λ reach turns. IsShort f reach turns e) (λ reach more turns larger. short-weaker f reach more turns larger e)
+          (λ level. toggles_at block level + toggles_at block level) (λ level. omega arith) (λ level width allowed c a.
           short-then f first (half_reach level width allowed) (toggles_at block level) (toggles_at block level) e (move_first level width allowed c a)
           (over_graph f.graph first block (lo + half) right (λ reach toggles. IsShort first reach toggles e) one.graph fault.short level width
           (wider f.graph (lo + half) allowed) (covered_right level width c) (allows_second allowed a)));
@@ -326,7 +312,8 @@ module _ (f : ForwardView) (block lo : ℕ) (wanted left right needed : List Boo
 
     pub thrifty_second : (second : ForwardView) → IsThrifty first block (lo + half) right second → IsThrifty f block lo wanted second
     thrifty_second second t = record {
-      move = move_one_level_up second (λ level. toggles_at block level + toggles_at block level) (λ level. omega arith) (move_second second t);
+      move = one_level_up (λ reach turns. IsMove f reach turns second) (λ reach more turns larger. move-weaker f second reach more turns larger)
+          (λ level. toggles_at block level + toggles_at block level) (λ level. omega arith) (move_second second t);
     }
 
     -- ---- a rise
@@ -422,7 +409,8 @@ module _ (f : ForwardView) (block lo : ℕ) (wanted left right needed : List Boo
       unfolding half_reach
       third_short e fault = record {
         need = need-then f first e one.graph one.budget (need-then first second e two.graph two.budget fault.need);
-        short = short_one_level_up e (λ level. toggles_at block level + toggles_at block level + toggles_at block level) (λ level. omega arith)
+        short = one_level_up (λ reach turns. IsShort f reach turns e) (λ reach more turns larger. short-weaker f reach more turns larger e)
+            (λ level. toggles_at block level + toggles_at block level + toggles_at block level) (λ level. omega arith)
             (λ level width allowed c a. let t = toggles_at block level in
             short-then f second (half_reach level width allowed) (t + t) t e (move_second second two.thrifty level width allowed c a)
             (over_graph f.graph second block lo left (λ reach toggles. IsShort second reach toggles e) graph_second fault.short level width
@@ -460,7 +448,8 @@ module _ (f : ForwardView) (block lo : ℕ) (wanted left right needed : List Boo
           budget = three.budget ∙ two.budget ∙ one.budget;
           exactly = record { inside = whole_inside; outside = whole_outside };
           thrifty = record {
-            move = move_one_level_up next (λ level. toggles_at block level + toggles_at block level + toggles_at block level) (λ level. omega arith)
+            move = one_level_up (λ reach turns. IsMove f reach turns next) (λ reach more turns larger. move-weaker f next reach more turns larger)
+                (λ level. toggles_at block level + toggles_at block level + toggles_at block level) (λ level. omega arith)
                 move_third;
           };
         }

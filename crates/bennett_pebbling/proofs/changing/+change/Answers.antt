@@ -78,23 +78,23 @@ change-requires-3 t c =
       ),
     )
 
-pub returns-clause-changed : goal.returns-clause-changed
-returns-clause-changed t c =
+pub returns : goal.returns
+returns t c =
     let f = c.args.forward in let b = c.args.block in let lo = c.args.lo in let wanted = c.args.wanted.now in
     let left = c.halves.result.0.now in let right = c.halves.result.1.now in let needed = c.deref.result.now in let half = length left in
-    let h = halved t (goal.at.returns-clause-changed t c).After-deref in
-    IfOk-weaker c.change-3.result (IsChanged c.in_ok-forward-2.forward b lo left) (IsChanged f b lo wanted)
-    (halves_changed f b lo wanted left right needed half h c.in_ok-forward.forward c.in_ok-forward.ensures.changed
-    c.in_ok-forward-2.forward c.in_ok-forward-2.ensures.changed) c.change-3.ensures.changed
-
-pub returns-clause-refused : goal.returns-clause-refused
-returns-clause-refused t c =
-    let f = c.args.forward in let b = c.args.block in let lo = c.args.lo in let wanted = c.args.wanted.now in
-    let left = c.halves.result.0.now in let right = c.halves.result.1.now in let needed = c.deref.result.now in let half = length left in
-    let h = halved t (goal.at.returns-clause-refused t c).After-deref in
-    IfErr-weaker c.change-3.result (IsChangeFault c.in_ok-forward-2.forward b lo left) (IsChangeFault f b lo wanted)
-    (third_short f b lo wanted left right needed half h c.in_ok-forward.forward c.in_ok-forward.ensures.changed
-    c.in_ok-forward-2.forward c.in_ok-forward-2.ensures.changed) c.change-3.ensures.refused
+    let h = halved t (goal.at.returns t c).After-deref in
+    let first = c.in_ok-forward.forward in
+    let second = c.in_ok-forward-2.forward in
+    record {
+      changed = IfOk-weaker c.change-3.result (IsChanged second b lo left) (IsChanged f b lo wanted)
+          (halves_changed f b lo wanted left right needed half h first c.in_ok-forward.ensures.changed second c.in_ok-forward-2.ensures.changed)
+          c.change-3.ensures.changed;
+      unchanged = λ held. absurd (c.is_held_so.ensures.differ c.if-is_held_so.false held);
+      keeps = c.change-3.ensures.keeps;
+      refused = IfErr-weaker c.change-3.result (IsChangeFault second b lo left) (IsChangeFault f b lo wanted)
+          (third_short f b lo wanted left right needed half h first c.in_ok-forward.ensures.changed second c.in_ok-forward-2.ensures.changed)
+          c.change-3.ensures.refused;
+    }
 
 pub returns-then-wanted-block-clause-unchanged : goal.returns-then-wanted-block-clause-unchanged
 returns-then-wanted-block-clause-unchanged t c = λ held. absurd (c.is_held_so.ensures.differ c.if-is_held_so.false held)
@@ -107,6 +107,3 @@ returns-in_err-forward-clause-unchanged t c = λ held. absurd (c.is_held_so.ensu
 
 pub returns-in_err-forward-2-clause-unchanged : goal.returns-in_err-forward-2-clause-unchanged
 returns-in_err-forward-2-clause-unchanged t c = λ held. absurd (c.is_held_so.ensures.differ c.if-is_held_so.false held)
-
-pub returns-clause-unchanged : goal.returns-clause-unchanged
-returns-clause-unchanged t c = λ held. absurd (c.is_held_so.ensures.differ c.if-is_held_so.false held)

@@ -53,18 +53,16 @@ rise-requires t c =
       ),
     )
 
-pub returns-clause-risen : goal.returns-clause-risen
-returns-clause-risen t c =
+pub returns : goal.returns
+returns t c =
     let f = c.args.forward in let b = c.args.block in let lo = c.args.lo in let wanted = c.args.wanted.now in
     let left = c.halves.result.0.now in let right = c.halves.result.1.now in let needed = c.deref.result.now in let half = length left in
-    let h = halved t (goal.at.returns-clause-risen t c).After-deref in
-    IfOk-weaker c.rise.result (IsRisen c.in_ok-forward.forward b (lo + half) right) (IsRisen f b lo wanted)
-    (halves_risen f b lo wanted left right needed half h c.in_ok-forward.forward c.in_ok-forward.ensures.changed) c.rise.ensures.risen
-
-pub returns-clause-refused : goal.returns-clause-refused
-returns-clause-refused t c =
-    let f = c.args.forward in let b = c.args.block in let lo = c.args.lo in let wanted = c.args.wanted.now in
-    let left = c.halves.result.0.now in let right = c.halves.result.1.now in let needed = c.deref.result.now in let half = length left in
-    let h = halved t (goal.at.returns-clause-refused t c).After-deref in
-    IfErr-weaker c.rise.result (IsRiseFault c.in_ok-forward.forward b (lo + half) right) (IsRiseFault f b lo wanted)
-    (halves_rise_short f b lo wanted left right needed half h c.in_ok-forward.forward c.in_ok-forward.ensures.changed) c.rise.ensures.refused
+    let h = halved t (goal.at.returns t c).After-deref in
+    let next = c.in_ok-forward.forward in
+    record {
+      risen = IfOk-weaker c.rise.result (IsRisen next b (lo + half) right) (IsRisen f b lo wanted)
+          (halves_risen f b lo wanted left right needed half h next c.in_ok-forward.ensures.changed) c.rise.ensures.risen;
+      keeps = c.rise.ensures.keeps;
+      refused = IfErr-weaker c.rise.result (IsRiseFault next b (lo + half) right) (IsRiseFault f b lo wanted)
+          (halves_rise_short f b lo wanted left right needed half h next c.in_ok-forward.ensures.changed) c.rise.ensures.refused;
+    }

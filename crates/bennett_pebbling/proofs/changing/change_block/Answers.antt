@@ -10,23 +10,20 @@ use Rattle.bennett_pebbling.proofs.changing.change_block.Goals.{After-deref}
 needs_are : (c : After-deref) → AreNeeds c.args.forward.graph c.args.lo c.in_ok-marks.marks.items c.deref.result.now
 needs_are c = rw (← c.requires.can.graph, c.deref.ensures.value) c.with_needs-marks.ensures
 
-pub returns-clause-changed : goal.returns-clause-changed
-returns-clause-changed c =
+pub returns : goal.returns
+returns c =
     let f = c.args.forward in let lo = c.args.lo in let wanted = c.args.wanted.now in let start = c.in_ok-marks.marks.items in let marks = c.deref.result.now in
-    let needs = needs_are (goal.at.returns-clause-changed c).After-deref in
-    IfOk-weaker c.lower.result (IsLowered c.in_ok-forward.forward lo wanted) (IsChanged f (length wanted) lo wanted)
-    (λ next l. block_changed f lo wanted start marks c.in_ok-marks.ensures needs c.in_ok-forward.forward c.in_ok-forward.ensures.raised
-    c.requires.can.ready c.in_ok-forward.ensures.keeps next l)
-    c.lower.ensures.lowered
-
-pub returns-clause-refused : goal.returns-clause-refused
-returns-clause-refused c =
-    let f = c.args.forward in let lo = c.args.lo in let wanted = c.args.wanted.now in let start = c.in_ok-marks.marks.items in let marks = c.deref.result.now in
-    let needs = needs_are (goal.at.returns-clause-refused c).After-deref in
-    IfErr-weaker c.lower.result (IsLowerFault c.in_ok-forward.forward lo wanted) (IsChangeFault f (length wanted) lo wanted)
-    (λ e l. lower_short f lo wanted start marks c.in_ok-marks.ensures needs c.in_ok-forward.forward c.in_ok-forward.ensures.raised
-    c.requires.can.ready c.in_ok-forward.ensures.keeps e l)
-    c.lower.ensures.refused
+    let needs = needs_are (goal.at.returns c).After-deref in
+    let next = c.in_ok-forward.forward in
+    record {
+      changed = IfOk-weaker c.lower.result (IsLowered next lo wanted) (IsChanged f (length wanted) lo wanted)
+          (λ last l. block_changed f lo wanted start marks c.in_ok-marks.ensures needs next c.in_ok-forward.ensures.raised c.requires.can.ready
+          c.in_ok-forward.ensures.keeps last l) c.lower.ensures.lowered;
+      keeps = c.lower.ensures.keeps;
+      refused = IfErr-weaker c.lower.result (IsLowerFault next lo wanted) (IsChangeFault f (length wanted) lo wanted)
+          (λ e l. lower_short f lo wanted start marks c.in_ok-marks.ensures needs next c.in_ok-forward.ensures.raised c.requires.can.ready
+          c.in_ok-forward.ensures.keeps e l) c.lower.ensures.refused;
+    }
 
 pub returns-in_err-forward-clause-refused : goal.returns-in_err-forward-clause-refused
 returns-in_err-forward-clause-refused c =

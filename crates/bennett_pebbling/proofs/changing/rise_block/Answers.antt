@@ -12,14 +12,13 @@ needs_are c =
     rw (← c.requires.can.graph, c.deref.ensures.value) (subst (λ (xs : List Bool). AreNeeds c.args.graph.now c.args.lo xs c.with_needs-marks.result.items) same
     c.with_needs-marks.ensures)
 
-pub returns-clause-risen : goal.returns-clause-risen
-returns-clause-risen c =
+pub returns : goal.returns
+returns c =
     let f = c.args.forward in let lo = c.args.lo in let wanted = c.args.wanted.now in let marks = c.deref.result.now in
-    let needs = needs_are (goal.at.returns-clause-risen c).After-deref in
-    IfOk-weaker c.raise.result (IsRaised f lo marks) (IsRisen f (length wanted) lo wanted) (block_risen f lo wanted marks needs) c.raise.ensures.raised
-
-pub returns-clause-refused : goal.returns-clause-refused
-returns-clause-refused c =
-    let f = c.args.forward in let lo = c.args.lo in let wanted = c.args.wanted.now in let marks = c.deref.result.now in
-    let needs = needs_are (goal.at.returns-clause-refused c).After-deref in
-    IfErr-weaker c.raise.result (IsRaiseFault f lo marks) (IsRiseFault f (length wanted) lo wanted) (rise_short f lo wanted marks needs) c.raise.ensures.refused
+    let needs = needs_are (goal.at.returns c).After-deref in
+    record {
+      risen = IfOk-weaker c.raise.result (IsRaised f lo marks) (IsRisen f (length wanted) lo wanted) (block_risen f lo wanted marks needs) c.raise.ensures.raised;
+      keeps = c.raise.ensures.keeps;
+      refused = IfErr-weaker c.raise.result (IsRaiseFault f lo marks) (IsRiseFault f (length wanted) lo wanted) (rise_short f lo wanted marks needs)
+          c.raise.ensures.refused;
+    }

@@ -1,4 +1,4 @@
-use Rattle.std.proofs.Common.{◌≡◌, sym, subst}
+use Rattle.std.proofs.Common.{rules, ◌≡◌, sym, subst}
 use Rattle.std.proofs.lemmas.Result.{IfOk-weaker, IfErr-weaker}
 use Rattle.circuit_plans.specs.Plans.{PlannedView}
 use Rattle.mct_circuit.specs.Gates.{AreNarrow}
@@ -33,34 +33,23 @@ returns-in_err-forward-2-clause-refused c =
     passes_on _ c.from_residual-in_err-forward-2.result c.from_residual-in_err-forward-2.ensures.1
     (rise_refused s b c.args.block start outputs c.requires is c.in_err-forward-2.field-0.0 c.in_err-forward-2.ensures.refused)
 
-pub returns-clause-narrow : goal.returns-clause-narrow
-returns-clause-narrow c =
+pub returns : goal.returns
+returns c =
     let s = c.args.graph.now in let b = c.args.budget.now in let start = c.in_ok-forward.forward in let outputs = c.deref.result.now in
-    let is = begin (goal.at.returns-clause-narrow c).After-deref in
+    let is = begin (goal.at.returns c).After-deref in
     let f = c.in_ok-forward-2.forward in
-    IfOk-weaker c.finish.result (λ (p : PlannedView). p ≡ planned_of f) (λ (p : PlannedView). AreNarrow p.circuit.gates)
-    (λ planned e. subst (λ (p : PlannedView). AreNarrow p.circuit.gates) (sym e)
-    (plan_narrow s b c.args.block start outputs c.requires is c.in_ok-forward-2.forward c.in_ok-forward-2.ensures.risen)) c.finish.ensures.ok
-
-pub returns-clause-few : goal.returns-clause-few
-returns-clause-few c =
-    let s = c.args.graph.now in let b = c.args.budget.now in let start = c.in_ok-forward.forward in let outputs = c.deref.result.now in
-    let is = begin (goal.at.returns-clause-few c).After-deref in
-    let f = c.in_ok-forward-2.forward in
-    of_finished c.finish.result f (IsWithinBlock s c.args.block) c.finish.ensures.ok c.finish.ensures.weighs
-    (plan_few s b c.args.block start outputs c.requires is f c.in_ok-forward-2.ensures.risen)
-
-pub returns-clause-products : goal.returns-clause-products
-returns-clause-products c =
-    let s = c.args.graph.now in let b = c.args.budget.now in let start = c.in_ok-forward.forward in let outputs = c.deref.result.now in
-    let is = begin (goal.at.returns-clause-products c).After-deref in
-    let f = c.in_ok-forward-2.forward in
-    of_finished c.finish.result f (HasFewProducts s c.args.block) c.finish.ensures.ok c.finish.ensures.weighs
-    (λ weighs. plan_products s b c.args.block start outputs c.requires is f c.in_ok-forward-2.ensures.risen)
-
-pub returns-clause-refused : goal.returns-clause-refused
-returns-clause-refused c =
-    let s = c.args.graph.now in let b = c.args.budget.now in let start = c.in_ok-forward.forward in let outputs = c.deref.result.now in
-    let is = begin (goal.at.returns-clause-refused c).After-deref in
-    IfErr-weaker c.finish.result (IsFinishFault c.in_ok-forward-2.forward) (IsPebblingFault s c.args.block b)
-    (finish_refused s b c.args.block start outputs c.requires is c.in_ok-forward-2.forward c.in_ok-forward-2.ensures.risen) c.finish.ensures.refused
+    let risen = c.in_ok-forward-2.ensures.risen in
+    record {
+      ports = search rules;
+      clean = search rules;
+      within = search rules;
+      narrow = IfOk-weaker c.finish.result (λ (p : PlannedView). p ≡ planned_of f) (λ (p : PlannedView). AreNarrow p.circuit.gates)
+          (λ planned e. subst (λ (p : PlannedView). AreNarrow p.circuit.gates) (sym e)
+          (plan_narrow s b c.args.block start outputs c.requires is f risen)) c.finish.ensures.ok;
+      few = of_finished c.finish.result f (IsWithinBlock s c.args.block) c.finish.ensures.ok c.finish.ensures.weighs
+          (plan_few s b c.args.block start outputs c.requires is f risen);
+      products = of_finished c.finish.result f (HasFewProducts s c.args.block) c.finish.ensures.ok c.finish.ensures.weighs
+          (λ weighs. plan_products s b c.args.block start outputs c.requires is f risen);
+      refused = IfErr-weaker c.finish.result (IsFinishFault f) (IsPebblingFault s c.args.block b)
+          (finish_refused s b c.args.block start outputs c.requires is f risen) c.finish.ensures.refused;
+    }
