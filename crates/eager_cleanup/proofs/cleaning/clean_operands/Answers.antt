@@ -14,25 +14,21 @@ clean_used-requires-clause-base c =
     c.in-Not.ensures in
     can.bases.0
 
-pub returns-in-Not-clause-swept : goal.returns-in-Not-clause-swept
-returns-in-Not-clause-swept c =
+pub returns-in-Not : goal.returns-in-Not
+returns-in-Not c =
     let s = c.args.graph.now in
     let b = c.args.forward.budget in
     let known = c.args.known.now in
-    let can = can_clean s b c.args.user (Not c.in-Not.a) c.args.forward c.requires.made c.in-Not.ensures in
-    IfOk-weaker c.clean_used.result (IsUsed s known c.args.user c.in-Not.a c.args.forward) (IsSwept s b (c.args.user + 1) [])
-    (λ next used. swept_used s b known c.args.user c.in-Not.a [] c.args.forward next c.requires.values can.swept can.inside can.bases.0 used)
-    c.clean_used.ensures.ok
-
-pub returns-in-Not-clause-refused : goal.returns-in-Not-clause-refused
-returns-in-Not-clause-refused c =
-    let s = c.args.graph.now in
-    let b = c.args.forward.budget in
-    let known = c.args.known.now in
-    let can = can_clean s b c.args.user (Not c.in-Not.a) c.args.forward c.requires.made c.in-Not.ensures in
-    IfErr-weaker c.clean_used.result (IsUseFault s known c.args.user c.in-Not.a c.args.forward) (IsEagerFault s b)
-    (λ fault is. used_fault s b known c.args.user c.in-Not.a (c.in-Not.a ∷ []) c.args.forward fault c.requires.values can.swept can.inside can.bases.0 is)
-    c.clean_used.ensures.refused
+    let a = c.in-Not.a in
+    let can = can_clean s b c.args.user (Not a) c.args.forward c.requires.made c.in-Not.ensures in
+    record {
+      swept = IfOk-weaker c.clean_used.result (IsUsed s known c.args.user a c.args.forward) (IsSwept s b (c.args.user + 1) [])
+          (λ next used. swept_used s b known c.args.user a [] c.args.forward next c.requires.values can.swept can.inside can.bases.0 used)
+          c.clean_used.ensures.ok;
+      refused = IfErr-weaker c.clean_used.result (IsUseFault s known c.args.user a c.args.forward) (IsEagerFault s b)
+          (λ fault is. used_fault s b known c.args.user a (a ∷ []) c.args.forward fault c.requires.values can.swept can.inside can.bases.0 is)
+          c.clean_used.ensures.refused;
+    }
 
 pub clean_both-requires-clause-can : goal.clean_both-requires-clause-can
 clean_both-requires-clause-can c =

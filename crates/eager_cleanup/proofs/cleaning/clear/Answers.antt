@@ -12,24 +12,19 @@ clear-requires c =
     (can_clear c.args.graph.now c.args.forward c.args.k c.args.poly.now c.in_ok-cubes.cubes.items c.requires.graph c.requires.value c.requires.held
     c.in_ok-cubes.ensures.sum)
 
-pub returns-clause-ok : goal.returns-clause-ok
-returns-clause-ok c =
+pub returns : goal.returns
+returns c =
+    let s = c.args.graph.now in
     let f = c.args.forward in
     let k = c.args.k in
     let p = c.args.poly.now in
     let cubes = c.in_ok-cubes.cubes.items in
-    let ok = rw c.deref.ensures.value at c.clear.ensures.ok in
-    both_ok c.clear.result (IsCleared f k cubes) IsForward (IsCleaned (Some p) f k)
-    (λ next clear forward. cleared c.args.graph.now f next k p cubes c.requires.graph c.requires.keeps forward c.requires.value c.in_ok-cubes.ensures.sum clear)
-    ok c.clear.ensures.keeps
-
-pub returns-clause-refused : goal.returns-clause-refused
-returns-clause-refused c =
-    let f = c.args.forward in
-    let k = c.args.k in
-    let p = c.args.poly.now in
-    let cubes = c.in_ok-cubes.cubes.items in
-    let refused = rw c.deref.ensures.value at c.clear.ensures.refused in
-    IfErr-weaker c.clear.result (IsClearFault f k cubes) (IsCleaningFault (Some p) f k)
-    (λ fault is. clear_fault c.args.graph.now f k p cubes fault c.requires.graph c.requires.keeps c.requires.held c.requires.value c.in_ok-cubes.ensures.sum is)
-    refused
+    let sum = c.in_ok-cubes.ensures.sum in
+    record {
+      ok = both_ok c.clear.result (IsCleared f k cubes) IsForward (IsCleaned (Some p) f k)
+          (λ next clear forward. cleared s f next k p cubes c.requires.graph c.requires.keeps forward c.requires.value sum clear)
+          (rw c.deref.ensures.value at c.clear.ensures.ok) c.clear.ensures.keeps;
+      refused = IfErr-weaker c.clear.result (IsClearFault f k cubes) (IsCleaningFault (Some p) f k)
+          (λ fault is. clear_fault s f k p cubes fault c.requires.graph c.requires.keeps c.requires.held c.requires.value sum is)
+          (rw c.deref.ensures.value at c.clear.ensures.refused);
+    }

@@ -24,12 +24,15 @@ pub append_cubes-requires-clause-apart : goal.append_cubes-requires-clause-apart
 append_cubes-requires-clause-apart c = rw c.first_work.ensures.first (clear_low _ _ _
     (subst (λ (f : ForwardView). CanClear f c.args.node c.args.cubes.now) (sym c.self.view_is) c.requires))
 
-pub returns-in_err-append_cubes-clause-refused : goal.returns-in_err-append_cubes-clause-refused
-returns-in_err-append_cubes-clause-refused c =
+pub returns-in_err-append_cubes : goal.returns-in_err-append_cubes
+returns-in_err-append_cubes c =
     let gives : Gives _ _ _ _ _ = record { kept = c.self.invariant; own = rw c.deref.ensures.value at c.held_line-line.ensures } in
     let fault = rw c.first_work.ensures.first at c.in_err-append_cubes.ensures.refused in
-    passes_on _ c.from_residual.result c.from_residual.ensures.1
-    (rw (← c.self.view_is) (clear_fault _ _ _ _ _ _ _ gives fault))
+    record {
+      ok = no_value c.from_residual.result _ _ c.from_residual.ensures.1;
+      keeps = no_value c.from_residual.result _ _ c.from_residual.ensures.1;
+      refused = passes_on _ c.from_residual.result c.from_residual.ensures.1 (rw (← c.self.view_is) (clear_fault _ _ _ _ _ _ _ gives fault));
+    }
 
 pub give-requires : goal.give-requires
 give-requires c =
@@ -57,9 +60,3 @@ returns-clause-ok c =
 
 pub returns-clause-keeps : goal.returns-clause-keeps
 returns-clause-keeps c = (invariant_of-result c).forward
-
-pub returns-in_err-append_cubes-clause-ok : goal.returns-in_err-append_cubes-clause-ok
-returns-in_err-append_cubes-clause-ok c = no_value c.from_residual.result _ _ c.from_residual.ensures.1
-
-pub returns-in_err-append_cubes-clause-keeps : goal.returns-in_err-append_cubes-clause-keeps
-returns-in_err-append_cubes-clause-keeps c = no_value c.from_residual.result _ _ c.from_residual.ensures.1

@@ -38,12 +38,15 @@ with_sum-requires-clause-apart c =
     let toggles = toggles_of _ _ _ _ _ _ _ _ _ c.self.view_is c.self.invariant c.requires c.node-sum.ensures c.index-own.ensures c.in-Some.ensures.line in
     rw (c.first_work-first.ensures.first, c.deref.ensures.value) (toggle_apart _ _ _ _ _ _ (toggles_on _ _ _ _ _ _ _ _ toggles).can)
 
-pub returns-in_err-gates-clause-refused : goal.returns-in_err-gates-clause-refused
-returns-in_err-gates-clause-refused c =
+pub returns-in_err-gates : goal.returns-in_err-gates
+returns-in_err-gates c =
     let toggles = toggles_of _ _ _ _ _ _ _ _ _ c.self.view_is c.self.invariant c.requires c.node-sum.ensures c.index-own.ensures c.in-Some.ensures.line in
-    let fault = c.in_err-gates.ensures.refused in
-    passes_on _ c.from_residual.result c.from_residual.ensures.1
-    (rw (← c.self.view_is) (toggle_fault _ _ _ _ _ _ _ _ toggles _ fault))
+    record {
+      ok = no_value c.from_residual.result _ _ c.from_residual.ensures.1;
+      keeps = no_value c.from_residual.result _ _ c.from_residual.ensures.1;
+      refused = passes_on _ c.from_residual.result c.from_residual.ensures.1
+          (rw (← c.self.view_is) (toggle_fault _ _ _ _ _ _ _ _ toggles _ c.in_err-gates.ensures.refused));
+    }
 
 pub line_after-requires : goal.line_after-requires
 line_after-requires c =
@@ -72,9 +75,3 @@ returns-clause-ok c =
 
 pub returns-clause-keeps : goal.returns-clause-keeps
 returns-clause-keeps c = (invariant_of-result c).forward
-
-pub returns-in_err-gates-clause-ok : goal.returns-in_err-gates-clause-ok
-returns-in_err-gates-clause-ok c = no_value c.from_residual.result _ _ c.from_residual.ensures.1
-
-pub returns-in_err-gates-clause-keeps : goal.returns-in_err-gates-clause-keeps
-returns-in_err-gates-clause-keeps c = no_value c.from_residual.result _ _ c.from_residual.ensures.1
