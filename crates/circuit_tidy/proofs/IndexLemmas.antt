@@ -280,47 +280,37 @@ places-other slots test places new fails are = record {
 
 -- ---- bounds together
 
+-- what is behind the last flip of a test is behind one of any test that this one passes
+passes_more : (slots : List (Option Flip)) (these those : Flip → Bool) (bound greatest : ℕ) → greatest ≡ bound
+    → ((flip : Flip) → these flip ≡ true → those flip ≡ true) → (bound ≡ 0) ⊎ IsThere slots these bound → (greatest ≡ 0) ⊎ IsThere slots those greatest
+passes_more slots these those bound greatest same more (inl none) = inl (same ∙ none)
+passes_more slots these those bound greatest same more (inr there) = inr (record {
+  place = there.place;
+  flip = there.flip;
+  at = same ∙ there.at;
+  is = there.is;
+  passes = more there.flip there.passes;
+})
+
 pub bound-same : (slots : List (Option Flip)) (these those : Flip → Bool) (bound : ℕ) → ((flip : Flip) → these flip ≡ those flip)
     → IsBehindLast slots these bound → IsBehindLast slots those bound
 bound-same slots these those bound same is = record {
   none = λ place flip le at. sym (same flip) ∙ is.none place flip le at;
-  last = elim is.last as (λ _. (bound ≡ 0) ⊎ IsThere slots those bound) [
-    | inl none ↦ inl none
-    | inr there ↦ inr (record { place = there.place; flip = there.flip; at = there.at; is = there.is; passes = sym (same there.flip) ∙ there.passes })
-  ];
+  last = passes_more slots these those bound bound refl (λ flip passes. sym (same flip) ∙ passes) is.last;
 }
 
 pub bound-either : (slots : List (Option Flip)) (these those : Flip → Bool) (one other : ℕ) → IsBehindLast slots these one → IsBehindLast slots those other
     → IsBehindLast slots (λ flip. these flip || those flip) (max one other)
-bound-either slots these those one other first second = record {
-  none = λ place flip le at. or_from (these flip) (those flip) (first.none place flip (omega (arith, le)) at) (second.none place flip (omega (arith, le)) at);
-  last = elim (cases_lt one other) as (λ _. (max one other ≡ 0) ⊎ IsThere slots (λ flip. these flip || those flip) (max one other)) [
-    | inl lt ↦ let greatest : max one other ≡ other = omega arith in elim second.last as (λ _. (max one other ≡ 0) ⊎ IsThere slots
-        (λ flip. these flip || those flip) (max one other)) [
-          | inl none ↦ inl (greatest ∙ none)
-          | inr there ↦ inr (record {
-            place = there.place;
-            flip = there.flip;
-            at = greatest
-                ∙ there.at;
-            is = there.is;
-            passes = or_right (these there.flip) (those there.flip) there.passes;
-          })
-        ]
-    | inr le ↦ let greatest : max one other ≡ one = omega arith in elim first.last as (λ _. (max one other ≡ 0) ⊎ IsThere slots
-        (λ flip. these flip || those flip) (max one other)) [
-          | inl none ↦ inl (greatest ∙ none)
-          | inr there ↦ inr (record {
-            place = there.place;
-            flip = there.flip;
-            at = greatest
-                ∙ there.at;
-            is = there.is;
-            passes = or_left (these there.flip) (those there.flip) there.passes;
-          })
-        ]
-  ];
-}
+bound-either slots these those one other first second =
+    let either : Flip → Bool = λ flip. these flip || those flip in
+    record {
+      none = λ place flip le at.
+          or_from (these flip) (those flip) (first.none place flip (omega (arith, le)) at) (second.none place flip (omega (arith, le)) at);
+      last = elim (cases_lt one other) as (λ _. (max one other ≡ 0) ⊎ IsThere slots either (max one other)) [
+        | inl lt ↦ passes_more slots those either other (max one other) (omega arith) (λ flip. or_right (these flip) (those flip)) second.last
+        | inr le ↦ passes_more slots these either one (max one other) (omega arith) (λ flip. or_left (these flip) (those flip)) first.last
+      ];
+    }
 
 -- ---- the places of a line
 
