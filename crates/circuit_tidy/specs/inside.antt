@@ -3,6 +3,7 @@ pub mod BitRows
 pub mod Index
 pub mod Marks
 pub mod Settling
+pub mod Spans
 pub mod Sweeping
 pub mod Walking
 pub mod Work

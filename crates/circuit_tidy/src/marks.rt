@@ -1,5 +1,6 @@
 // Where a pair can come of a change. No contract rests on it: it saves looks for flips.
-ghost use Rattle.std.specs.Prelude.{◌≡◌, ◌<◌, ◌↔◌, IsTrue, slice_index};
+ghost use Rattle.std.specs.Prelude.{◌≡◌, ◌<◌, ◌↔◌, IfOk, IsTrue, replicate, slice_index};
+ghost use Rattle.circuit_tidy.specs.declared.marks.TheConstants.{MOST_KINDS};
 ghost use Rattle.circuit_tidy.specs.Flips.{lines_in};
 ghost use Rattle.circuit_tidy.specs.inside.Marks.{has, is_any_marked, is_freed, is_marked};
 ghost use Rattle.circuit_tidy.specs.inside.Marks.{is_on_new, is_stopped, may_come, touches_open};
@@ -33,7 +34,9 @@ pub struct Marks {
 }
 
 impl Marks {
-    pub fn new(alloc: Global, lines: u32) -> Result<Marks, Memory> {
+    pub fn new(alloc: Global, lines: u32) -> Result<Marks, Memory>
+        ensures { IfOk result (λ marks. marks.words.items ≡ replicate lines 0) }
+    {
         let words = vec![in alloc; 0; lines as usize]?;
         Ok(Marks {
             words,
@@ -203,7 +206,9 @@ pub struct Kinds {
 }
 
 impl Kinds {
-    pub fn new(alloc: Global) -> Result<Kinds, Memory> {
+    pub fn new(alloc: Global) -> Result<Kinds, Memory>
+        ensures { IfOk result (λ kinds. kinds.counts.items ≡ replicate MOST_KINDS 0) }
+    {
         let counts = vec![in alloc; 0; MOST_KINDS]?;
         Ok(Kinds { counts })
     }
@@ -242,7 +247,9 @@ impl Kinds {
 }
 
 // The same of flips that are alike.
-fn kind_of(flip: Flip) -> usize {
+fn kind_of(flip: Flip) -> usize
+    ensures { result < MOST_KINDS }
+{
     let (sum, product) = match flip.controls {
         Controls::Zero => (0, 0),
         Controls::One(one) => (one, 1),

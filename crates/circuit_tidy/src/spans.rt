@@ -1,5 +1,6 @@
 // Where a walk need not look again. No contract rests on it: it saves looks at blocks.
-ghost use Rattle.std.specs.Prelude.{◌≡◌, ◌++◌, ◌∷◌, [], IfOk, OnOk};
+ghost use Rattle.std.specs.Prelude.{◌≡◌, ◌<◌, ◌++◌, ◌∷◌, [], None, option_to_list, IfOk, OnOk};
+ghost use Rattle.circuit_tidy.specs.inside.Spans.{closed, last_end, opened};
 
 use revc_base::Memory;
 use std::alloc::Global;
@@ -37,7 +38,9 @@ impl Spans {
     }
 
     // The end of the nearest one, or 0.
-    pub fn last_end(&mut self) -> usize {
+    pub fn last_end(&self) -> usize
+        ensures { result ≡ last_end self.now.spans.items }
+    {
         match self.spans.last() {
             Some(span) => span.end,
             None => 0,
@@ -45,7 +48,10 @@ impl Spans {
     }
 
     // Takes the nearest one, if it does not end before a place.
-    pub fn pop_from(&mut self, place: usize) -> Option<Span> {
+    pub fn pop_from(&mut self, place: usize) -> Option<Span>
+        ensures none { last_end self.old.spans.items < place → result ≡ None }
+        ensures cut { self.old.spans.items ≡ self.new.spans.items ++ option_to_list result }
+    {
         if self.last_end() < place {
             return None;
         }
@@ -95,7 +101,9 @@ impl Spans {
 }
 
 impl Span {
-    fn closed(self, place: usize) -> Span {
+    fn closed(self, place: usize) -> Span
+        ensures { result ≡ closed place self }
+    {
         let Span { start, end } = self;
         if place < start {
             Span {
@@ -107,7 +115,9 @@ impl Span {
         }
     }
 
-    fn opened(self, place: usize) -> Span {
+    fn opened(self, place: usize) -> Span
+        ensures { result ≡ opened place self }
+    {
         let Span { start, end } = self;
         if end < place {
             Span {

@@ -3,6 +3,7 @@ ghost use Rattle.std.specs.Prelude.{◌≡◌, ◌+◌, ◌<◌, ◌≤◌, ◌+
 ghost use Rattle.std.specs.Prelude.{slice_index, IfOk, OnOk, MatchOption, ⊤};
 ghost use Rattle.std.specs.List.{AllByRecursion};
 ghost use Rattle.circuit_tidy.specs.Flips.{are_free};
+ghost use Rattle.circuit_tidy.specs.inside.Marks.{may_come};
 ghost use Rattle.circuit_tidy.specs.inside.Walking.{IsLonger, IsLongerIn};
 ghost use Rattle.circuit_tidy.specs.inside.Sweeping.{IsBegun, IsLastLike, IsWithin, Leads};
 ghost use Rattle.circuit_tidy.specs.inside.Sweeping.{LeadsOn, MeetsNext, Replaces, Stays, Takes};
@@ -324,7 +325,10 @@ impl Sweep {
         }
     }
 
-    fn may_meet(&self, marks: &Marks, flip: Flip) -> bool {
+    // Whether the flip can come to the change, and may have one like it.
+    fn may_meet(&self, marks: &Marks, flip: Flip) -> bool
+        ensures { result ≡ true → may_come marks.now.words.items flip ≡ true }
+    {
         marks.let_through(flip) && self.kinds.may_have_another(flip)
     }
 
