@@ -116,7 +116,7 @@ in_halves f block lo wanted left right needed marks s can halves need is over = 
   over = over;
 }
 
-module _ (f : ForwardView) (block lo : ℕ) (wanted left right needed : List Bool) (half : ℕ) (h : IsInHalves f block lo wanted left right needed half) where
+module _ {f : ForwardView} {block lo : ℕ} {wanted left right needed : List Bool} {half : ℕ} (h : IsInHalves f block lo wanted left right needed half) where
   needed_count : length needed ≡ half
   needed_count = h.need.count ∙ h.split.left_count
 

@@ -28,29 +28,23 @@ returns-then-wanted-block-clause-refused t c =
 
 pub change-requires : goal.change-requires
 change-requires t c =
-    let f = c.args.forward in let b = c.args.block in let lo = c.args.lo in let wanted = c.args.wanted.now in
-    let left = c.halves.result.0.now in let right = c.halves.result.1.now in let needed = c.deref.result.now in let half = length left in
     let h = halved t (goal.at.change-requires t c).After-deref in (
-      omega (arith, c.decreases, first_less f b lo wanted left right needed half h c.requires.some),
-      (can_first f b lo wanted left right needed half h c.args.graph.now c.requires.can, c.requires.some),
+      omega (arith, c.decreases, first_less h c.requires.some),
+      (can_first h c.args.graph.now c.requires.can, c.requires.some),
     )
 
 pub returns-in_err-forward-clause-refused : goal.returns-in_err-forward-clause-refused
 returns-in_err-forward-clause-refused t c =
-    let f = c.args.forward in let b = c.args.block in let lo = c.args.lo in let wanted = c.args.wanted.now in
-    let left = c.halves.result.0.now in let right = c.halves.result.1.now in let needed = c.deref.result.now in let half = length left in
     let h = halved t (goal.at.returns-in_err-forward-clause-refused t c).After-deref in
     passes_on _ c.from_residual-in_err-forward.result c.from_residual-in_err-forward.ensures.1
-    (first_short f b lo wanted left right needed half h c.in_err-forward.field-0.0 c.in_err-forward.ensures.refused)
+    (first_short h c.in_err-forward.field-0.0 c.in_err-forward.ensures.refused)
 
 pub change-requires-2 : goal.change-requires-2
 change-requires-2 t c =
-    let f = c.args.forward in let b = c.args.block in let lo = c.args.lo in let wanted = c.args.wanted.now in
-    let left = c.halves.result.0.now in let right = c.halves.result.1.now in let needed = c.deref.result.now in let half = length left in
     let h = halved t (goal.at.change-requires-2 t c).After-deref in (
-      omega (arith, c.decreases, second_less f b lo wanted left right needed half h c.requires.some),
+      omega (arith, c.decreases, second_less h c.requires.some),
       (
-        can_second f b lo wanted left right needed half h c.in_ok-forward.forward c.in_ok-forward.ensures.changed
+        can_second h c.in_ok-forward.forward c.in_ok-forward.ensures.changed
             c.args.graph.now c.requires.can c.in_ok-forward.ensures.keeps,
         c.requires.some,
       ),
@@ -58,21 +52,17 @@ change-requires-2 t c =
 
 pub returns-in_err-forward-2-clause-refused : goal.returns-in_err-forward-2-clause-refused
 returns-in_err-forward-2-clause-refused t c =
-    let f = c.args.forward in let b = c.args.block in let lo = c.args.lo in let wanted = c.args.wanted.now in
-    let left = c.halves.result.0.now in let right = c.halves.result.1.now in let needed = c.deref.result.now in let half = length left in
     let h = halved t (goal.at.returns-in_err-forward-2-clause-refused t c).After-deref in
     passes_on _ c.from_residual-in_err-forward-2.result c.from_residual-in_err-forward-2.ensures.1
-    (second_short f b lo wanted left right needed half h c.in_ok-forward.forward c.in_ok-forward.ensures.changed
+    (second_short h c.in_ok-forward.forward c.in_ok-forward.ensures.changed
     c.in_err-forward-2.field-0.0 c.in_err-forward-2.ensures.refused)
 
 pub change-requires-3 : goal.change-requires-3
 change-requires-3 t c =
-    let f = c.args.forward in let b = c.args.block in let lo = c.args.lo in let wanted = c.args.wanted.now in
-    let left = c.halves.result.0.now in let right = c.halves.result.1.now in let needed = c.deref.result.now in let half = length left in
     let h = halved t (goal.at.change-requires-3 t c).After-deref in (
-      omega (arith, c.decreases, third_less f b lo wanted left right needed half h c.requires.some),
+      omega (arith, c.decreases, third_less h c.requires.some),
       (
-        can_third f b lo wanted left right needed half h c.in_ok-forward.forward c.in_ok-forward.ensures.changed
+        can_third h c.in_ok-forward.forward c.in_ok-forward.ensures.changed
             c.in_ok-forward-2.forward c.in_ok-forward-2.ensures.changed c.args.graph.now c.requires.can c.in_ok-forward-2.ensures.keeps,
         c.requires.some,
       ),
@@ -80,19 +70,18 @@ change-requires-3 t c =
 
 pub returns : goal.returns
 returns t c =
-    let f = c.args.forward in let b = c.args.block in let lo = c.args.lo in let wanted = c.args.wanted.now in
-    let left = c.halves.result.0.now in let right = c.halves.result.1.now in let needed = c.deref.result.now in let half = length left in
+    let f = c.args.forward in let b = c.args.block in let lo = c.args.lo in let wanted = c.args.wanted.now in let left = c.halves.result.0.now in
     let h = halved t (goal.at.returns t c).After-deref in
     let first = c.in_ok-forward.forward in
     let second = c.in_ok-forward-2.forward in
     record {
       changed = IfOk-weaker c.change-3.result (IsChanged second b lo left) (IsChanged f b lo wanted)
-          (halves_changed f b lo wanted left right needed half h first c.in_ok-forward.ensures.changed second c.in_ok-forward-2.ensures.changed)
+          (halves_changed h first c.in_ok-forward.ensures.changed second c.in_ok-forward-2.ensures.changed)
           c.change-3.ensures.changed;
       unchanged = λ held. absurd (c.is_held_so.ensures.differ c.if-is_held_so.false held);
       keeps = c.change-3.ensures.keeps;
       refused = IfErr-weaker c.change-3.result (IsChangeFault second b lo left) (IsChangeFault f b lo wanted)
-          (third_short f b lo wanted left right needed half h first c.in_ok-forward.ensures.changed second c.in_ok-forward-2.ensures.changed)
+          (third_short h first c.in_ok-forward.ensures.changed second c.in_ok-forward-2.ensures.changed)
           c.change-3.ensures.refused;
     }
 

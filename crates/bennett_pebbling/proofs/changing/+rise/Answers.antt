@@ -27,27 +27,21 @@ returns-then-wanted-block-clause-refused t c =
 
 pub change-requires-clause-can : goal.change-requires-clause-can
 change-requires-clause-can t c =
-    let f = c.args.forward in let b = c.args.block in let lo = c.args.lo in let wanted = c.args.wanted.now in
-    let left = c.halves.result.0.now in let right = c.halves.result.1.now in let needed = c.deref.result.now in let half = length left in
     let h = halved t (goal.at.change-requires-clause-can t c).After-deref in
-    can_first f b lo wanted left right needed half h c.args.graph.now c.requires.can
+    can_first h c.args.graph.now c.requires.can
 
 pub returns-in_err-forward-clause-refused : goal.returns-in_err-forward-clause-refused
 returns-in_err-forward-clause-refused t c =
-    let f = c.args.forward in let b = c.args.block in let lo = c.args.lo in let wanted = c.args.wanted.now in
-    let left = c.halves.result.0.now in let right = c.halves.result.1.now in let needed = c.deref.result.now in let half = length left in
     let h = halved t (goal.at.returns-in_err-forward-clause-refused t c).After-deref in
     passes_on _ c.from_residual-in_err-forward.result c.from_residual-in_err-forward.ensures.1
-    (first_rise_short f b lo wanted left right needed half h c.in_err-forward.field-0.0 c.in_err-forward.ensures.refused)
+    (first_rise_short h c.in_err-forward.field-0.0 c.in_err-forward.ensures.refused)
 
 pub rise-requires : goal.rise-requires
 rise-requires t c =
-    let f = c.args.forward in let b = c.args.block in let lo = c.args.lo in let wanted = c.args.wanted.now in
-    let left = c.halves.result.0.now in let right = c.halves.result.1.now in let needed = c.deref.result.now in let half = length left in
     let h = halved t (goal.at.rise-requires t c).After-deref in (
-      omega (arith, c.decreases, second_less f b lo wanted left right needed half h c.requires.some),
+      omega (arith, c.decreases, second_less h c.requires.some),
       (
-        can_second f b lo wanted left right needed half h c.in_ok-forward.forward c.in_ok-forward.ensures.changed
+        can_second h c.in_ok-forward.forward c.in_ok-forward.ensures.changed
             c.args.graph.now c.requires.can c.in_ok-forward.ensures.keeps,
         c.requires.some,
       ),
@@ -55,14 +49,13 @@ rise-requires t c =
 
 pub returns : goal.returns
 returns t c =
-    let f = c.args.forward in let b = c.args.block in let lo = c.args.lo in let wanted = c.args.wanted.now in
-    let left = c.halves.result.0.now in let right = c.halves.result.1.now in let needed = c.deref.result.now in let half = length left in
+    let f = c.args.forward in let b = c.args.block in let lo = c.args.lo in let wanted = c.args.wanted.now in let left = c.halves.result.0.now in let right = c.halves.result.1.now in let half = length left in
     let h = halved t (goal.at.returns t c).After-deref in
     let next = c.in_ok-forward.forward in
     record {
       risen = IfOk-weaker c.rise.result (IsRisen next b (lo + half) right) (IsRisen f b lo wanted)
-          (halves_risen f b lo wanted left right needed half h next c.in_ok-forward.ensures.changed) c.rise.ensures.risen;
+          (halves_risen h next c.in_ok-forward.ensures.changed) c.rise.ensures.risen;
       keeps = c.rise.ensures.keeps;
       refused = IfErr-weaker c.rise.result (IsRiseFault next b (lo + half) right) (IsRiseFault f b lo wanted)
-          (halves_rise_short f b lo wanted left right needed half h next c.in_ok-forward.ensures.changed) c.rise.ensures.refused;
+          (halves_rise_short h next c.in_ok-forward.ensures.changed) c.rise.ensures.refused;
     }
