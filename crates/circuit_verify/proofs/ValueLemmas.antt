@@ -14,7 +14,7 @@ use Rattle.dependency_graph.specs.declared.node.Sig.TheVariants.{Const, Is}
 use Rattle.dependency_graph.specs.Graphs.{IsKnownBase, IsKnownNode, IsKnownSig, base_bit, made_by, node_bit, sig_bit}
 use Rattle.decision_diagram.specs.declared.node.DdFault.{DdFault}
 use Rattle.decision_diagram.specs.Diagrams.{DiagramView, IsNumber, Triple, function_of}
-use Rattle.decision_diagram.specs.Functions.{AreSame, Assignment, Function, conjunction, exclusive_or}
+use Rattle.decision_diagram.specs.Functions.{AreSame, Assignment, Function, exclusive_or}
 use Rattle.decision_diagram.specs.Growth.{Computes, StandsFor}
 use Rattle.decision_diagram.proofs.GrowthLemmas.{computes_same}
 use Rattle.claim_check.specs.Measures.{node_function}
@@ -157,31 +157,15 @@ not_made bits nodes x node f always old new r is number known stands made =
     (subst (λ (n : ℕ). AreSame (λ a. xor (function_of old.nodes n a) (function_of old.nodes always a)) (node_function_of old.nodes bits nodes (Not x)))
     (sym number) (not_is old.nodes bits nodes x always (subst (IsKnownNode (length bits) (length nodes)) is known) stands)) made)
 
-two_made : (op : Bool → Bool → Bool) (bits nodes : List ℕ) (own node : Node) (left right f g : ℕ) (old new : DiagramView) (r : Result ℕ DdFault)
-    → node ≡ own → f ≡ left → g ≡ right
-    → AreSame (λ a. op (function_of old.nodes left a) (function_of old.nodes right a)) (node_function_of old.nodes bits nodes own)
+-- a node of two operands, whose bit is made of theirs
+pub two_made : (op : Bool → Bool → Bool) (bits nodes : List ℕ) (x y : Base) (own node : Node) (f g : ℕ) (old new : DiagramView) (r : Result ℕ DdFault)
+    → node ≡ own → f ≡ base_number bits nodes x → g ≡ base_number bits nodes y
+    → AreSame (λ a. op (function_of old.nodes (base_number bits nodes x) a) (function_of old.nodes (base_number bits nodes y) a))
+    (node_function_of old.nodes bits nodes own)
     → Computes (λ a. op (function_of old.nodes f a) (function_of old.nodes g a)) old new r → Computes (node_function_of old.nodes bits nodes node) old new r
-two_made op bits nodes own node left right f g old new r is first second same made =
+two_made op bits nodes x y own node f g old new r is first second same made =
     let sought : Function = node_function_of old.nodes bits nodes own in
     subst (λ (z : Node). Computes (node_function_of old.nodes bits nodes z) old new r) (sym is)
     (computes_same sought (λ a. op (function_of old.nodes f a) (function_of old.nodes g a)) old new r
     (subst (λ (n : ℕ). AreSame (λ a. op (function_of old.nodes n a) (function_of old.nodes g a)) sought) (sym first)
-    (subst (λ (n : ℕ). AreSame (λ a. op (function_of old.nodes left a) (function_of old.nodes n a)) sought) (sym second) same)) made)
-
-pub xor_made : (bits nodes : List ℕ) (x y : Base) (node : Node) (f g : ℕ) (old new : DiagramView) (r : Result ℕ DdFault) → node ≡ Xor x y
-    → f ≡ base_number bits nodes x → g ≡ base_number bits nodes y → IsKnownNode (length bits) (length nodes) node
-    → Computes (exclusive_or (function_of old.nodes f) (function_of old.nodes g)) old new r
-    → Computes (node_function_of old.nodes bits nodes node) old new r
-xor_made bits nodes x y node f g old new r is left right known made =
-    let own : IsKnownNode (length bits) (length nodes) (Xor x y) = subst (IsKnownNode (length bits) (length nodes)) is known in
-    two_made xor bits nodes (Xor x y) node (base_number bits nodes x) (base_number bits nodes y) f g old new r is left right
-    (xor_is old.nodes bits nodes x y own.0 own.1) made
-
-pub and_made : (bits nodes : List ℕ) (x y : Base) (node : Node) (f g : ℕ) (old new : DiagramView) (r : Result ℕ DdFault) → node ≡ And x y
-    → f ≡ base_number bits nodes x → g ≡ base_number bits nodes y → IsKnownNode (length bits) (length nodes) node
-    → Computes (conjunction (function_of old.nodes f) (function_of old.nodes g)) old new r
-    → Computes (node_function_of old.nodes bits nodes node) old new r
-and_made bits nodes x y node f g old new r is left right known made =
-    let own : IsKnownNode (length bits) (length nodes) (And x y) = subst (IsKnownNode (length bits) (length nodes)) is known in
-    two_made (λ a b. a && b) bits nodes (And x y) node (base_number bits nodes x) (base_number bits nodes y) f g old new r is left right
-    (and_is old.nodes bits nodes x y own.0 own.1) made
+    (subst (λ (n : ℕ). AreSame (λ a. op (function_of old.nodes (base_number bits nodes x) a) (function_of old.nodes n a)) sought) (sym second) same)) made)

@@ -1,4 +1,8 @@
-use Rattle.circuit_verify.proofs.ValueLemmas.{and_made, not_made, xor_made}
+use Rattle.std.proofs.Common.{◌&&◌, length, subst}
+use Rattle.std.specs.Bool.{xor}
+use Rattle.dependency_graph.specs.declared.node.Node.TheVariants.{And, Xor}
+use Rattle.dependency_graph.specs.Graphs.{IsKnownNode}
+use Rattle.circuit_verify.proofs.ValueLemmas.{and_is, not_made, two_made, xor_is}
 use Rattle.circuit_verify.proofs.nodes.node_number.Goals as goal
 
 pub returns-in-Not : goal.returns-in-Not
@@ -8,11 +12,16 @@ returns-in-Not c =
 
 pub returns-in-Xor : goal.returns-in-Xor
 returns-in-Xor c =
-    xor_made c.args.bits.now c.args.nodes.now c.in-Xor.a c.in-Xor.b c.args.node c.base_number-f.result c.base_number-g.result c.args.diagram.now
-    c.xor-in-Xor.new.self c.xor-in-Xor.result c.in-Xor.is c.base_number-f.ensures c.base_number-g.ensures c.requires.known c.xor-in-Xor.ensures
+    let x = c.in-Xor.a in let y = c.in-Xor.b in
+    let known = subst (IsKnownNode (length c.args.bits.now) (length c.args.nodes.now)) c.in-Xor.is c.requires.known in
+    two_made xor c.args.bits.now c.args.nodes.now x y (Xor x y) c.args.node c.base_number-f.result c.base_number-g.result c.args.diagram.now
+    c.xor-in-Xor.new.self c.xor-in-Xor.result c.in-Xor.is c.base_number-f.ensures c.base_number-g.ensures
+    (xor_is c.args.diagram.now.nodes c.args.bits.now c.args.nodes.now x y known.0 known.1) c.xor-in-Xor.ensures
 
 pub returns-in-And : goal.returns-in-And
 returns-in-And c =
-    and_made c.args.bits.now c.args.nodes.now c.in-And.a c.in-And.b c.args.node c.base_number-f-in-And.result c.base_number-g-in-And.result
-    c.args.diagram.now c.and.new.self c.and.result c.in-And.is c.base_number-f-in-And.ensures c.base_number-g-in-And.ensures c.requires.known
-    c.and.ensures
+    let x = c.in-And.a in let y = c.in-And.b in
+    let known = subst (IsKnownNode (length c.args.bits.now) (length c.args.nodes.now)) c.in-And.is c.requires.known in
+    two_made (λ a b. a && b) c.args.bits.now c.args.nodes.now x y (And x y) c.args.node c.base_number-f-in-And.result c.base_number-g-in-And.result
+    c.args.diagram.now c.and.new.self c.and.result c.in-And.is c.base_number-f-in-And.ensures c.base_number-g-in-And.ensures
+    (and_is c.args.diagram.now.nodes c.args.bits.now c.args.nodes.now x y known.0 known.1) c.and.ensures
