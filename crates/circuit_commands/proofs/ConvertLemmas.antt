@@ -1,6 +1,7 @@
 -- `convert`: the split list of a text's circuit, and the file of it.
 use Rattle.std.proofs.Common.{◌≡◌, ℕ, ◌+◌, ◌<◌, ◌≤◌, Bool, true, false, List, [], ◌∷◌, ◌++◌}
 use Rattle.std.proofs.Common.{append-nil, length, Result, Ok, Err, inl, refl, sym, ap, ◌∙◌, subst, arith}
+use Rattle.format_parts.specs.Fits.{FitAFile}
 use Rattle.std.specs.Result.{IfErr}
 use Rattle.std.proofs.lemmas.List.{length-append}
 use Rattle.mct_circuit.specs.Gates.{CircuitView, GateView, AreGatesOn, AreNarrow, line_map}
@@ -130,12 +131,17 @@ two_lines : (lines : ℕ) (added : Bool) → added_lines added < lines → added
 two_lines lines false own is = absurd cc
 two_lines lines true own is = omega arith
 
+-- what is written fits a file
+fits_written : (made : ConvertedView) → IsWritable made → FitAFile (line_count made.circuit) made.circuit.gates
+fits_written made w =
+    let own = w.own in
+    record { some = omega arith; few = w.few; few_gates = w.few_gates; placed = w.placed; narrow = w.narrow }
+
 means_written : (to : Format) (made : ConvertedView) → IsWritable made
     → MeansIn to (file_text to made.circuit made.added) (said_in to made.circuit)
 means_written Real made w =
-    let own = w.own in
     let circuit = made.circuit in
-    let m = real.converted_has_meaning circuit.constants circuit.garbage circuit.gates (omega arith) w.few w.garbage w.few_gates w.placed w.narrow in
+    let m = real.converted_has_meaning circuit.constants circuit.garbage circuit.gates w.garbage (fits_written made w) in
     let Parts : List Mark → List Bool → List GateView → ReadCircuit = λ marks useless gates. record { constants = marks; garbage = useless; gates = gates } in
     record {
       file = m.file;
@@ -147,7 +153,7 @@ means_written Real made w =
 means_written Qasm made w =
     let own = w.own in
     let lines = line_count made.circuit in
-    let m = qasm.converted_has_meaning lines made.added made.circuit.gates (omega arith) (two_lines lines made.added own) w.few w.few_gates w.placed w.narrow in
+    let m = qasm.converted_has_meaning lines made.added made.circuit.gates (two_lines lines made.added own) (fits_written made w) in
     record {
       file = m.file;
       meaning = m.meaning;

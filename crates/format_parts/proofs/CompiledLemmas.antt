@@ -5,6 +5,7 @@ use Rattle.circuit_plans.specs.declared.roles.Roles.{Roles}
 use Rattle.circuit_plans.specs.Plans.{LaidView, lines_in, roles_of}
 use Rattle.mct_circuit.specs.Gates.{CircuitView, GateView, AreGatesOn, AreNarrow}
 use Rattle.format_parts.specs.Compiled.{ForEachCompiled}
+use Rattle.format_parts.specs.Fits.{FitAFile}
 
 -- what holds for all roles and narrow gates holds for those of a laid plan
 pub laid_has : (P : Roles → List GateView → Type 0) → ForEachCompiled P → (laid : LaidView) (circuit : CircuitView)
@@ -13,5 +14,6 @@ pub laid_has : (P : Roles → List GateView → Type 0) → ForEachCompiled P �
     → P (roles_of laid) laid.circuit.gates
 laid_has P each laid circuit fits same on narrow some few few_gates =
     let placed : AreGatesOn laid.circuit.lines laid.circuit.gates = subst (λ (v : CircuitView). AreGatesOn v.lines v.gates) same on in
-    each (roles_of laid) laid.circuit.gates (subst (λ n. 1 ≤ n) (sym fits) some) (subst (λ n. n ≤ MOST_LINES) (sym fits) few) few_gates
-    (subst (λ n. AreGatesOn n laid.circuit.gates) (sym fits) placed) narrow
+    let fit : FitAFile laid.circuit.lines laid.circuit.gates =
+        record { some = some; few = few; few_gates = few_gates; placed = placed; narrow = narrow } in
+    each (roles_of laid) laid.circuit.gates (subst (λ n. FitAFile n laid.circuit.gates) (sym fits) fit)

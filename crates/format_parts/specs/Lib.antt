@@ -1,3 +1,4 @@
+pub mod Fits
 pub mod Compiled
 pub mod Flips
 pub mod Names

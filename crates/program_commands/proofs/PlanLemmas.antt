@@ -10,6 +10,7 @@ use Rattle.claim_check.specs.Settled.{SettledView, IsSettledOf, settled_outputs}
 use Rattle.claim_check.proofs.BudgetLemmas.{settled_graphs_are_within}
 use Rattle.circuit_plans.specs.declared.plan.TheConstants.{MOST_LINES, MOST_GATES}
 use Rattle.circuit_plans.specs.declared.choice.How.{How}
+use Rattle.format_parts.specs.Fits.{FitAFile}
 use Rattle.circuit_plans.specs.Plans.{BudgetView, LaidView, PutsOutputs, roles_of, lines_in}
 use Rattle.mct_circuit.specs.Gates.{AreGatesOn, AreNarrow}
 use Rattle.qasm_format.proofs.MeaningLemmas as qasm
@@ -126,12 +127,18 @@ means_itself format laid can sum_of on narrow =
     let some = can.some in
     let few = can.few in
     let same : laid.circuit.lines ≡ lines_in (roles_of laid) = sym sum_of in
-    of_format format (omega arith) (omega arith) can.few_gates (subst (λ n. AreGatesOn n laid.circuit.gates) same on)
+    of_format format (record {
+      some = omega arith;
+      few = omega arith;
+      few_gates = can.few_gates;
+      placed = subst (λ n. AreGatesOn n laid.circuit.gates) same on;
+      narrow = narrow;
+    })
   where
-    of_format : (format : Format) → 1 ≤ lines_in (roles_of laid) → lines_in (roles_of laid) ≤ MOST_LINES → length laid.circuit.gates ≤ MOST_GATES
-        → AreGatesOn (lines_in (roles_of laid)) laid.circuit.gates → MeansCompiledIn format (file_of format laid) (roles_of laid) laid.circuit.gates
-    of_format Real some few gates on = real.compiled_has_meaning (roles_of laid) laid.circuit.gates some few gates on narrow
-    of_format Qasm some few gates on = qasm.compiled_has_meaning (roles_of laid) laid.circuit.gates some few gates on narrow
+    of_format : (format : Format) → FitAFile (lines_in (roles_of laid)) laid.circuit.gates
+        → MeansCompiledIn format (file_of format laid) (roles_of laid) laid.circuit.gates
+    of_format Real fits = real.compiled_has_meaning (roles_of laid) laid.circuit.gates fits
+    of_format Qasm fits = qasm.compiled_has_meaning (roles_of laid) laid.circuit.gates fits
 
 pub compiled_file : (order : OrderView) (text : List ℕ) (laid : LaidView) (tape : TapeView) → IsPlannedFor order text tape laid
     → IsCompiled order text (file_of order.format laid)

@@ -1,8 +1,8 @@
 -- The file of a circuit that is no compiled one: its lines are those of `q`, and an added line is that of `dirty`.
-use Rattle.std.specs.Prelude.{◌≡◌, ℕ, ◌-◌, ◌≤◌, nat_lt, Bool, true, if◌then◌else◌, List, [], ◌∷◌, length, codes}
+use Rattle.std.specs.Prelude.{◌≡◌, ℕ, ◌-◌, ◌≤◌, nat_lt, Bool, true, if◌then◌else◌, List, [], ◌∷◌, codes}
 use Rattle.std.specs.Fmt.{decimal}
-use Rattle.circuit_plans.specs.declared.plan.TheConstants.{MOST_LINES, MOST_GATES}
-use Rattle.mct_circuit.specs.Gates.{GateView, AreGatesOn, AreNarrow}
+use Rattle.mct_circuit.specs.Gates.{GateView}
+use Rattle.format_parts.specs.Fits.{FitAFile}
 use Rattle.qasm_format.specs.declared.file.Register.{Register}
 use Rattle.qasm_format.specs.Statements.{Argument, one_of}
 use Rattle.qasm_format.specs.Qasm.{QasmView, MeansFile}
@@ -41,6 +41,5 @@ pub record MeansConverted (text : List ℕ) (count : ℕ) (added : Bool)
 
 abbrev pub ConvertedHasMeaning : Type 0
 ConvertedHasMeaning =
-    (count : ℕ) (added : Bool) (gates : List GateView) → 1 ≤ count → (added ≡ true → 2 ≤ count)
-    → count ≤ MOST_LINES → length gates ≤ MOST_GATES → AreGatesOn count gates → AreNarrow gates
-    → MeansConverted (converted_text count added gates) count added gates
+    (count : ℕ) (added : Bool) (gates : List GateView) → (added ≡ true → 2 ≤ count)
+    → FitAFile count gates → MeansConverted (converted_text count added gates) count added gates

@@ -221,18 +221,19 @@ meaning name count marks useless gates some few good marked uselessly few_gates 
     }
 
 pub compiled_has_meaning : CompiledHasMeaning
-compiled_has_meaning roles gates some few few_gates on narrow = record {
+compiled_has_meaning roles gates f = record {
   file = file_of (name_of_line roles) (lines_in roles) (constants_of roles) (replicate (lines_in roles) false) gates;
-  meaning = meaning (name_of_line roles) (lines_in roles) (constants_of roles) (replicate (lines_in roles) false) gates some few (good_by_role roles few)
-      (length-constants_of roles) (length-replicate (lines_in roles) false) few_gates on narrow;
+  meaning = meaning (name_of_line roles) (lines_in roles) (constants_of roles) (replicate (lines_in roles) false) gates f.some f.few (good_by_role roles f.few)
+      (length-constants_of roles) (length-replicate (lines_in roles) false) f.few_gates f.placed f.narrow;
   roles_are = record { names = refl; constants = refl; garbage = refl };
   gates_are = refl;
 }
 
 pub converted_has_meaning : ConvertedHasMeaning
-converted_has_meaning constants garbage gates some few fit few_gates on narrow = record {
+converted_has_meaning constants garbage gates fit f = record {
   file = file_of numbered_name (length constants) constants garbage gates;
-  meaning = meaning numbered_name (length constants) constants garbage gates some few (good_by_number (length constants) few) refl fit few_gates on narrow;
+  meaning = meaning numbered_name (length constants) constants garbage gates f.some f.few (good_by_number (length constants) f.few) refl fit f.few_gates
+      f.placed f.narrow;
   names_are = refl;
   constants_are = refl;
   garbage_are = refl;

@@ -1,9 +1,9 @@
 -- The file of a circuit that is no compiled one: its lines are named by their numbers, and have given marks.
-use Rattle.std.specs.Prelude.{◌≡◌, ℕ, ◌≤◌, Bool, List, ◌∷◌, length}
+use Rattle.std.specs.Prelude.{◌≡◌, ℕ, Bool, List, ◌∷◌, length}
 use Rattle.std.specs.Fmt.{decimal}
 use Rattle.real_format.specs.declared.file.Mark.{Mark}
-use Rattle.circuit_plans.specs.declared.plan.TheConstants.{MOST_LINES, MOST_GATES}
-use Rattle.mct_circuit.specs.Gates.{GateView, AreGatesOn, AreNarrow}
+use Rattle.mct_circuit.specs.Gates.{GateView}
+use Rattle.format_parts.specs.Fits.{FitAFile}
 use Rattle.real_format.specs.Real.{RealView, RealMeaning}
 use Rattle.real_format.specs.Written.{names_by, file_text}
 
@@ -33,6 +33,5 @@ pub record MeansConverted (text : List ℕ) (constants : List Mark) (garbage : L
 abbrev pub ConvertedHasMeaning : Type 0
 ConvertedHasMeaning =
     (constants : List Mark) (garbage : List Bool) (gates : List GateView)
-    → 1 ≤ length constants → length constants ≤ MOST_LINES → length garbage ≡ length constants
-    → length gates ≤ MOST_GATES → AreGatesOn (length constants) gates → AreNarrow gates
+    → length garbage ≡ length constants → FitAFile (length constants) gates
     → MeansConverted (converted_text constants garbage gates) constants garbage gates

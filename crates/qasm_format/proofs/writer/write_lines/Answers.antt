@@ -8,5 +8,10 @@ returns-clause-meaning g c =
     let circuit = c.args.circuit.now in
     let placed : AreGatesOn circuit.lines circuit.gates = subst (λ (v : CircuitView). AreGatesOn v.lines v.gates)
     c.circuit-circuit.ensures.circuit c.lines-lines.ensures.gates in
-    converted_has_meaning circuit.lines c.args.added circuit.gates c.requires.some c.requires.two c.requires.few c.requires.few_gates placed
-    c.circuit-circuit.ensures.narrow
+    converted_has_meaning circuit.lines c.args.added circuit.gates c.requires.two (record {
+      some = c.requires.some;
+      few = c.requires.few;
+      few_gates = c.requires.few_gates;
+      placed = placed;
+      narrow = c.circuit-circuit.ensures.narrow;
+    })

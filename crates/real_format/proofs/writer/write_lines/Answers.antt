@@ -8,6 +8,10 @@ returns-clause-meaning g c =
     let circuit = c.args.circuit.now in
     let placed : AreGatesOn circuit.lines circuit.gates = subst (λ (v : CircuitView). AreGatesOn v.lines v.gates)
     c.circuit-circuit.ensures.circuit c.lines.ensures.gates in
-    let on = subst (λ n. AreGatesOn n circuit.gates) (sym c.requires.constants) placed in
-    converted_has_meaning c.args.constants.now c.args.garbage.now circuit.gates (omega arith) (omega arith)
-    (c.requires.garbage ∙ sym c.requires.constants) c.requires.few_gates on c.circuit-circuit.ensures.narrow
+    converted_has_meaning c.args.constants.now c.args.garbage.now circuit.gates (c.requires.garbage ∙ sym c.requires.constants) (record {
+      some = omega arith;
+      few = omega arith;
+      few_gates = c.requires.few_gates;
+      placed = subst (λ n. AreGatesOn n circuit.gates) (sym c.requires.constants) placed;
+      narrow = c.circuit-circuit.ensures.narrow;
+    })
