@@ -1,6 +1,7 @@
 -- Exclusive or on bits, alone and with and.
 use Rattle.std.proofs.Common.{◌≡◌, ℕ, zero, suc, ◌+◌, Bool, true, false, not, ◌&&◌, cond, refl, sym, ap, ◌∙◌, arith}
 use Rattle.std.specs.Bool.{xor}
+use Rattle.list_facts.proofs.TableLemmas.{of_two_bits, of_three_bits}
 
 -- ---- alone
 
@@ -26,42 +27,22 @@ xor_same false = refl
 
 pub xor_swap : (a b : Bool) → xor a b ≡ xor b a
 unfolding mathlib.Core.Bool.xor
-xor_swap true true = refl
-xor_swap true false = refl
-xor_swap false true = refl
-xor_swap false false = refl
+xor_swap = of_two_bits (λ a b. xor a b) (λ a b. xor b a) refl
 
 pub xor_left : (v l r : Bool) → xor v (xor l r) ≡ xor (xor v l) r
 unfolding mathlib.Core.Bool.xor
-xor_left true true true = refl
-xor_left true true false = refl
-xor_left true false true = refl
-xor_left true false false = refl
-xor_left false true true = refl
-xor_left false true false = refl
-xor_left false false true = refl
-xor_left false false false = refl
+xor_left = of_three_bits (λ v l r. xor v (xor l r)) (λ v l r. xor (xor v l) r) refl
 
 pub xor_right : (v l r : Bool) → xor v (xor l r) ≡ xor l (xor v r)
 xor_right v l r = xor_left v l r ∙ rw (xor_swap v l) (sym (xor_left l v r))
 
 pub xor_both : (v l r : Bool) → xor l r ≡ xor (xor v l) (xor v r)
 unfolding mathlib.Core.Bool.xor
-xor_both true true true = refl
-xor_both true true false = refl
-xor_both true false true = refl
-xor_both true false false = refl
-xor_both false true true = refl
-xor_both false true false = refl
-xor_both false false true = refl
-xor_both false false false = refl
+xor_both = of_three_bits (λ v l r. xor l r) (λ v l r. xor (xor v l) (xor v r)) refl
 
 pub xor_twice : (a b : Bool) → a ≡ xor (xor b a) b
 unfolding mathlib.Core.Bool.xor
-xor_twice true true = refl
-xor_twice true false = refl
-xor_twice false true = refl
-xor_twice false false = refl
+xor_twice = of_two_bits (λ a b. a) (λ a b. xor (xor b a) b) refl
 
 -- ---- with and
 
@@ -71,14 +52,7 @@ and_nothing false = refl
 
 pub xor-and_left : (a b c : Bool) → xor (a && c) (b && c) ≡ (xor a b && c)
 unfolding mathlib.Core.Bool.xor
-xor-and_left true true true = refl
-xor-and_left true true false = refl
-xor-and_left true false true = refl
-xor-and_left true false false = refl
-xor-and_left false true true = refl
-xor-and_left false true false = refl
-xor-and_left false false true = refl
-xor-and_left false false false = refl
+xor-and_left = of_three_bits (λ a b c. xor (a && c) (b && c)) (λ a b c. xor a b && c) refl
 
 pub xor-and_right : (a b c : Bool) → xor (c && a) (c && b) ≡ (c && xor a b)
 xor-and_right a b true = refl
@@ -88,10 +62,7 @@ xor-and_right a b false = xor_same false
 
 pub not-beq : (a b : Bool) → not (mathlib.Core.Bool.beq a b) ≡ xor a b
 unfolding mathlib.Core.Bool.xor
-not-beq true true = refl
-not-beq true false = refl
-not-beq false true = refl
-not-beq false false = refl
+not-beq = of_two_bits (λ a b. not (mathlib.Core.Bool.beq a b)) (λ a b. xor a b) refl
 
 -- ---- parities
 

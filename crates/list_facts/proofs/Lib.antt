@@ -1,5 +1,6 @@
 pub mod AllLemmas
 pub mod AmongLemmas
+pub mod TableLemmas
 pub mod BitLemmas
 pub mod CountingLemmas
 pub mod CutLemmas
