@@ -7,6 +7,7 @@ use Rattle.std.proofs.lemmas.Bool.{eq-eqb, true≢false}
 use Rattle.std.proofs.lemmas.List.{length-append}
 use Rattle.list_facts.proofs.AllLemmas.{AllByRecursion-append}
 use Rattle.list_facts.proofs.BitLemmas.{xor_none, xor_nothing, xor_swap, xor-and_left, and_nothing}
+use Rattle.list_facts.proofs.TableLemmas.{of_three_bits}
 use Rattle.dependency_graph.specs.declared.node.Base.{Base}
 use Rattle.bit_sums.specs.declared.limits.TheConstants.{MOST_FACTOR_BITS}
 use Rattle.bit_sums.specs.Bits.{AreRising, apart}
@@ -166,25 +167,11 @@ join_factored p q a b c bits product hp hq f = record {
 
 crossed_value : (a b c : Bool) → xor ((xor a c) && (xor b c)) c ≡ xor (a && b) (c && xor a b)
 unfolding mathlib.Core.Bool.xor
-crossed_value true true true = refl
-crossed_value true true false = refl
-crossed_value true false true = refl
-crossed_value true false false = refl
-crossed_value false true true = refl
-crossed_value false true false = refl
-crossed_value false false true = refl
-crossed_value false false false = refl
+crossed_value = of_three_bits (λ a b c. xor (xor a c && xor b c) c) (λ a b c. xor (a && b) (c && xor a b)) refl
 
 more_bits : (a b c : Bool) → xor (xor a c) b ≡ xor (xor a b) c
 unfolding mathlib.Core.Bool.xor
-more_bits true true true = refl
-more_bits true true false = refl
-more_bits true false true = refl
-more_bits true false false = refl
-more_bits false true true = refl
-more_bits false true false = refl
-more_bits false false true = refl
-more_bits false false false = refl
+more_bits = of_three_bits (λ a b c. xor (xor a c) b) (λ a b c. xor (xor a b) c) refl
 
 pub crossed_made : (a b c left right made bits : List Base) (product : Option ProductView) → IsFactor c → left ≡ apart a c → right ≡ apart b c
     → IsProductOf left right made product → bits ≡ made ++ c → IsCrossed a b c bits product

@@ -9,6 +9,7 @@ use Rattle.std.proofs.lemmas.List.{length-append}
 use Rattle.std.proofs.lemmas.List.Sorted.{length_permutation}
 use Rattle.list_facts.proofs.AllLemmas.{AllByRecursion-append, AllByRecursion-left, AllByRecursion-right}
 use Rattle.list_facts.proofs.BitLemmas.{xor_left, xor_nothing, xor_right, xor_swap}
+use Rattle.list_facts.proofs.TableLemmas.{of_four_bits}
 use Rattle.dependency_graph.specs.declared.node.Base.{Base}
 use Rattle.bit_sums.specs.Bits.{apart}
 use Rattle.bit_sums.specs.Growing.{FactorView, IsFinished, IsPut, IsShort, IsSumOf, IsTimes}
@@ -52,22 +53,7 @@ one_more_put old mid new products p a s =
 
 exchange : (o n m t : Bool) → xor (xor o n) (xor m t) ≡ xor (xor o t) (xor n m)
 unfolding mathlib.Core.Bool.xor
-exchange true true true true = refl
-exchange true true true false = refl
-exchange true true false true = refl
-exchange true true false false = refl
-exchange true false true true = refl
-exchange true false true false = refl
-exchange true false false true = refl
-exchange true false false false = refl
-exchange false true true true = refl
-exchange false true true false = refl
-exchange false true false true = refl
-exchange false true false false = refl
-exchange false false true true = refl
-exchange false false true false = refl
-exchange false false false true = refl
-exchange false false false false = refl
+exchange = of_four_bits (λ o n m t. xor (xor o n) (xor m t)) (λ o n m t. xor (xor o t) (xor n m)) refl
 
 -- a sum with the constant `n` and the bits `m` besides
 more_value : (o b s n m : Bool) → xor (xor o n) (xor (xor b m) s) ≡ xor (xor o (xor b s)) (xor n m)
@@ -137,22 +123,7 @@ all-when test false bits a = tt
 -- (c + A) (d + B) = c d + d A + c B + A B
 times_value : (c d a b : Bool) → xor (c && d) (xor (xor (d && a) (c && b)) (a && b)) ≡ (xor c a && xor d b)
 unfolding mathlib.Core.Bool.xor
-times_value true true true true = refl
-times_value true true true false = refl
-times_value true true false true = refl
-times_value true true false false = refl
-times_value true false true true = refl
-times_value true false true false = refl
-times_value true false false true = refl
-times_value true false false false = refl
-times_value false true true true = refl
-times_value false true true false = refl
-times_value false true false true = refl
-times_value false true false false = refl
-times_value false false true true = refl
-times_value false false true false = refl
-times_value false false false true = refl
-times_value false false false false = refl
+times_value = of_four_bits (λ c d a b. xor (c && d) (xor (xor (d && a) (c && b)) (a && b))) (λ c d a b. xor c a && xor d b) refl
 
 few_scaled : (c d : Bool) (a b bits : List Base) → IsFactor a → IsFactor b → length (apart a b) + length bits ≤ length a + length b → length bits ≤ 4
     → length (apart (apart (when d a) (when c b)) bits) ≤ 8

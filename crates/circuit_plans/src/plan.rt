@@ -4,6 +4,7 @@ ghost use Rattle.circuit_plans.specs.declared.plan.TheConstants.{MOST_LINES, MOS
 ghost use Rattle.circuit_plans.specs.declared.plan.TheConstants.{MOST_BORROWED};
 ghost use Rattle.circuit_plans.specs.declared.plan.PlanFault.TheVariants.{Memory};
 ghost use Rattle.circuit_plans.specs.Plans.{roles_of};
+ghost use Rattle.circuit_plans.specs.Limits.{LimitsAre};
 ghost use Rattle.mct_circuit.specs.Gates.{AreNarrow};
 
 use crate::narrow::Narrow;
@@ -20,6 +21,11 @@ pub const MOST_GATES: u64 = 4_000_000;
 
 /// The most borrowed lines of a circuit.
 pub const MOST_BORROWED: u32 = 64;
+
+/// The law of limits: what number each is. The function does nothing: its contract is the law.
+pub fn limits_are()
+    ensures { LimitsAre }
+{}
 
 /// What a plan may use: so many lines and gates, and how many of the lines are borrowed, each
 /// within its most.

@@ -4,26 +4,15 @@ use Rattle.std.proofs.Common.{ap, ◌∙◌, arith}
 use Rattle.std.specs.Bool.{xor}
 use Rattle.std.proofs.lemmas.Nat.{xor_comm}
 use Rattle.std.proofs.lemmas.Nat.Bits.{bit_at_and, bit_at_xor, bit_at_ones, bit_at-lt}
+use Rattle.list_facts.proofs.BitLemmas.{bit_cases, is_one-sum}
+use Rattle.list_facts.proofs.TableLemmas.{of_two_bits, of_three_bits}
 use Rattle.circuit_sim.specs.Planes.{plane_bit}
 use Rattle.circuit_sim.specs.inside.Masks.{IsNarrowed, IsChosen}
 
 -- ---- one place
 
-bit_cases : (x : ℕ) → x < 2 → (x ≡ 0) ⊎ (x ≡ 1)
-bit_cases zero h = inl refl
-bit_cases (suc zero) h = inr refl
-bit_cases (suc (suc x)) h = absurd (omega arith)
-
 is_one-min : (x y : ℕ) → x < 2 → y < 2 → (min x y == 1) ≡ ((x == 1) && (y == 1))
 is_one-min x y h k =
-    elim (bit_cases x h) [
-      | inl e ↦ elim (bit_cases y k) [ inl f ↦ rw (e, f) refl | inr f ↦ rw (e, f) refl ]
-      | inr e ↦ elim (bit_cases y k) [ inl f ↦ rw (e, f) refl | inr f ↦ rw (e, f) refl ]
-    ]
-
-is_one-sum : (x y : ℕ) → x < 2 → y < 2 → ((x + y) % 2 == 1) ≡ xor (x == 1) (y == 1)
-unfolding mathlib.Core.Bool.xor
-is_one-sum x y h k =
     elim (bit_cases x h) [
       | inl e ↦ elim (bit_cases y k) [ inl f ↦ rw (e, f) refl | inr f ↦ rw (e, f) refl ]
       | inr e ↦ elim (bit_cases y k) [ inl f ↦ rw (e, f) refl | inr f ↦ rw (e, f) refl ]
@@ -46,10 +35,7 @@ plane_bit-ones place low = ap (λ (x : ℕ). x == 1) (bit_at_ones 64 place low)
 
 and_other : (m p : Bool) → (m && xor m p) ≡ (m && not p)
 unfolding mathlib.Core.Bool.xor
-and_other true true = refl
-and_other true false = refl
-and_other false true = refl
-and_other false false = refl
+and_other = of_two_bits (λ m p. m && xor m p) (λ m p. m && not p) refl
 
 pub narrowed_by_one : (mask plane : ℕ) → IsNarrowed mask plane true (bit_and mask plane)
 narrowed_by_one mask plane = record { each = λ place. plane_bit-and place mask plane }
@@ -64,14 +50,7 @@ narrowed_by_zero mask plane = record {
 
 changed_where : (m there elsewhere : Bool) → xor elsewhere (xor elsewhere there && m) ≡ cond m there elsewhere
 unfolding mathlib.Core.Bool.xor
-changed_where true true true = refl
-changed_where true true false = refl
-changed_where true false true = refl
-changed_where true false false = refl
-changed_where false true true = refl
-changed_where false true false = refl
-changed_where false false true = refl
-changed_where false false false = refl
+changed_where = of_three_bits (λ m there elsewhere. xor elsewhere (xor elsewhere there && m)) (λ m there elsewhere. cond m there elsewhere) refl
 
 pub chosen_first : (mask first second : ℕ) → IsChosen mask second first (bit_xor first (bit_and (bit_xor first second) mask))
 chosen_first mask first second = record {

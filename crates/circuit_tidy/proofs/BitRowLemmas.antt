@@ -14,6 +14,7 @@ use Rattle.std.proofs.lemmas.Nat.{one_shl}
 use Rattle.std.proofs.lemmas.Nat.Bits.{bit_at_xor, bit_at-lt, bit_at-pow_same, bit_at-pow_other}
 use Rattle.list_facts.specs.Lists.{IsRising, AreDifferent}
 use Rattle.list_facts.proofs.AllLemmas.{AllByRecursion-at}
+use Rattle.list_facts.proofs.BitLemmas.{is_one-sum}
 use Rattle.list_facts.proofs.OrderLemmas.{AreDifferent-rising}
 use Rattle.circuit_tidy.specs.declared.flip.Flip.{Flip}
 use Rattle.circuit_tidy.specs.Blocks.{addition_of, cx}
@@ -22,19 +23,6 @@ use Rattle.circuit_tidy.specs.inside.BitRows.{bit_at_place, HoldRows, AreOwnWord
 use Rattle.circuit_tidy.proofs.EliminationLemmas.{added-onto, added-other, with_additions-append, from_to}
 
 -- ---- bits
-
-bit_cases : (x : ℕ) → x < 2 → (x ≡ 0) ⊎ (x ≡ 1)
-bit_cases zero h = inl refl
-bit_cases (suc zero) h = inr refl
-bit_cases (suc (suc x)) h = absurd (omega arith)
-
-is_one-sum : (x y : ℕ) → x < 2 → y < 2 → ((x + y) % 2 == 1) ≡ xor (x == 1) (y == 1)
-unfolding mathlib.Core.Bool.xor
-is_one-sum x y h k =
-    elim (bit_cases x h) [
-      | inl e ↦ elim (bit_cases y k) [ inl f ↦ rw (e, f) refl | inr f ↦ rw (e, f) refl ]
-      | inr e ↦ elim (bit_cases y k) [ inl f ↦ rw (e, f) refl | inr f ↦ rw (e, f) refl ]
-    ]
 
 pub bit-xor : (place a b : ℕ) → bit_at_place place (bit_xor a b) ≡ xor (bit_at_place place a) (bit_at_place place b)
 bit-xor place a b = ap (λ (x : ℕ). x == 1) (bit_at_xor a b place) ∙ is_one-sum _ _ (bit_at-lt a place) (bit_at-lt b place)

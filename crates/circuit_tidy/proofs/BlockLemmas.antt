@@ -13,6 +13,7 @@ use Rattle.list_facts.specs.Lists.{IsRising, below}
 use Rattle.list_facts.proofs.AllLemmas.{AllByRecursion-append, AllByRecursion-left, AllByRecursion-right, AllByRecursion-take, AllByRecursion-drop}
 use Rattle.list_facts.proofs.AllLemmas.{AllByRecursion-weaker, AllByRecursion-push}
 use Rattle.list_facts.proofs.OrderLemmas.{IsRising-filter}
+use Rattle.list_facts.proofs.TableLemmas.{of_three_bits}
 use Rattle.mct_circuit.specs.Gates.{IsGateOn}
 use Rattle.mct_circuit.specs.Sizes.{has_line}
 use Rattle.circuit_tidy.specs.declared.flip.Controls.{Controls}
@@ -42,9 +43,7 @@ has_line-with_line x line (y ∷ ys) = elim (cases_Bool (eqb line y)) [
 ]
   where
     turn : (a b d : Bool) → (a || (b || d)) ≡ (b || (a || d))
-    turn true true d = refl
-    turn true false d = refl
-    turn false b d = refl
+    turn = of_three_bits (λ a b d. a || (b || d)) (λ a b d. d || ((a || b) || false)) refl
 
     by : (a d : Bool) → (a || d) ≡ (a || (a || d))
     by true d = refl

@@ -1,4 +1,3 @@
-ghost use Rattle.exclusive_sums.specs.Limits.{LimitsAre};
 ghost use Rattle.exclusive_sums.specs.Cubes.{MergingIsDetermined};
 
 /// The law of merging: what the cubes are merged to is determined by them, so that the contract of
@@ -6,9 +5,4 @@ ghost use Rattle.exclusive_sums.specs.Cubes.{MergingIsDetermined};
 /// the law.
 pub fn determinacy()
     ensures { MergingIsDetermined }
-{}
-
-/// The law of limits: what number each is. The function does nothing: its contract is the law.
-pub fn limits_are()
-    ensures { LimitsAre }
 {}

@@ -9,6 +9,6 @@ mod poly;
 mod products;
 
 pub use cube::{Cube, Literal};
-pub use law::{determinacy, limits_are};
+pub use law::determinacy;
 pub use merging::merge;
-pub use poly::{MOST_MONOMIALS, Poly};
+pub use poly::{MOST_MONOMIALS, Poly, limits_are};

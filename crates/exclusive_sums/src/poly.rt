@@ -4,7 +4,7 @@ ghost use Rattle.std.specs.Prelude.{IfSome, if◌then◌else◌, nat_le, Some, N
 ghost use Rattle.std.specs.Bool.{xor};
 ghost use Rattle.revs_tape.specs.Polynomials.{IsPolynomial, IsPolynomialOf, value_of_polynomial};
 ghost use Rattle.exclusive_sums.specs.Inputs.{AreOverInputsOf};
-ghost use Rattle.exclusive_sums.specs.Limits.{IsPolynomialUpTo};
+ghost use Rattle.exclusive_sums.specs.Limits.{LimitsAre, IsPolynomialUpTo};
 ghost use Rattle.exclusive_sums.specs.declared.poly.TheConstants.{MOST_MONOMIALS};
 ghost use Rattle.exclusive_sums.specs.inside.Products.{IsProduct};
 
@@ -17,6 +17,11 @@ use std::marker::Model;
 
 /// The most monomials of a polynomial.
 pub const MOST_MONOMIALS: usize = 64;
+
+/// The law of limits: what number each is. The function does nothing: its contract is the law.
+pub fn limits_are()
+    ensures { LimitsAre }
+{}
 
 /// A polynomial over the field of two elements (the algebraic normal form, or Zhegalkin polynomial,
 /// of a Boolean function): the exclusive or of at most 64 monomials, each the product of some

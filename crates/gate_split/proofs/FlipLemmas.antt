@@ -7,6 +7,7 @@ use Rattle.std.proofs.lemmas.List.Folds.{list_all-append}
 use Rattle.mct_circuit.specs.declared.gate.Control.{Control}
 use Rattle.mct_circuit.specs.declared.gate.Op.TheVariants.{Flip, Swap}
 use Rattle.list_facts.specs.Bits.{bit_of}
+use Rattle.list_facts.proofs.TableLemmas.{of_three_bits}
 use Rattle.mct_circuit.specs.Gates.{is_met, after_gate, flip_of, positive}
 use Rattle.mct_circuit.proofs.ReversalLemmas.{swap_is}
 use Rattle.gate_split.specs.Split.{Avoids}
@@ -155,21 +156,10 @@ before_and_behind bits a t C D la lt d ac tc ad td =
 -- ---- swaps
 
 exchange_first : (x a b : Bool) → flipped (flipped (x && flipped b a) b) (flipped b a) ≡ cond x b a
-exchange_first true true true = refl
-exchange_first true true false = refl
-exchange_first true false true = refl
-exchange_first true false false = refl
-exchange_first false true true = refl
-exchange_first false true false = refl
-exchange_first false false true = refl
-exchange_first false false false = refl
+exchange_first = of_three_bits (λ x a b. flipped (flipped (x && flipped b a) b) (flipped b a)) (λ x a b. cond x b a) refl
 
 exchange_second : (x a b : Bool) → flipped (x && flipped b a) b ≡ cond x a b
-exchange_second true true true = refl
-exchange_second true true false = refl
-exchange_second true false true = refl
-exchange_second true false false = refl
-exchange_second false a b = refl
+exchange_second = of_three_bits (λ x a b. flipped (x && flipped b a) b) (λ x a b. cond x a b) refl
 
 swapped : (x : Bool) (bits : List Bool) (a b : ℕ) → AreTwo bits a b → with_two bits a b (cond x (bit_of bits b) (bit_of bits a))
     (cond x (bit_of bits a) (bit_of bits b)) ≡ cond x (swap bits a b) bits

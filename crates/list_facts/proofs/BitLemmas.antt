@@ -1,5 +1,5 @@
 -- Exclusive or on bits, alone and with and.
-use Rattle.std.proofs.Common.{◌≡◌, ℕ, zero, suc, ◌+◌, Bool, true, false, not, ◌&&◌, cond, refl, sym, ap, ◌∙◌, arith}
+use Rattle.std.proofs.Common.{◌≡◌, ℕ, zero, suc, ◌+◌, ◌%◌, ◌<◌, ◌==◌, ◌⊎◌, inl, inr, Bool, true, false, not, ◌&&◌, cond, refl, sym, ap, ◌∙◌, arith}
 use Rattle.std.specs.Bool.{xor}
 use Rattle.list_facts.proofs.TableLemmas.{of_two_bits, of_three_bits}
 
@@ -63,6 +63,21 @@ xor-and_right a b false = xor_same false
 pub not-beq : (a b : Bool) → not (mathlib.Core.Bool.beq a b) ≡ xor a b
 unfolding mathlib.Core.Bool.xor
 not-beq = of_two_bits (λ a b. not (mathlib.Core.Bool.beq a b)) (λ a b. xor a b) refl
+
+-- ---- as numbers
+
+pub bit_cases : (x : ℕ) → x < 2 → (x ≡ 0) ⊎ (x ≡ 1)
+bit_cases zero h = inl refl
+bit_cases (suc zero) h = inr refl
+bit_cases (suc (suc x)) h = absurd (omega arith)
+
+pub is_one-sum : (x y : ℕ) → x < 2 → y < 2 → ((x + y) % 2 == 1) ≡ xor (x == 1) (y == 1)
+unfolding mathlib.Core.Bool.xor
+is_one-sum x y h k =
+    elim (bit_cases x h) [
+      | inl e ↦ elim (bit_cases y k) [ inl f ↦ rw (e, f) refl | inr f ↦ rw (e, f) refl ]
+      | inr e ↦ elim (bit_cases y k) [ inl f ↦ rw (e, f) refl | inr f ↦ rw (e, f) refl ]
+    ]
 
 -- ---- parities
 
