@@ -1,11 +1,8 @@
 use Rattle.circuit_plans.specs.declared.plan.TheConstants.{MOST_GATES}
 use Rattle.std.proofs.lemmas.Result.{IfOk-weaker}
 use Rattle.circuit_commands.proofs.ConvertLemmas.{memory_stops, some_split, split_marked}
-use Rattle.revc_base.proofs.ResultLemmas.{no_value, passes_on}
+use Rattle.revc_base.proofs.ResultLemmas.{passes_on}
 use Rattle.circuit_commands.proofs.convert.split_source.Goals as goal
-
-pub returns-in_err-narrow-clause-ok : goal.returns-in_err-narrow-clause-ok
-returns-in_err-narrow-clause-ok c = no_value c.from_residual.result _ _ c.from_residual.ensures.1
 
 pub returns-in_err-narrow-clause-err : goal.returns-in_err-narrow-clause-err
 returns-in_err-narrow-clause-err c = passes_on _ c.from_residual.result c.from_residual.ensures.1 c.in_err-narrow.ensures.err

@@ -2,11 +2,7 @@ use Rattle.std.specs.List.{flat_map}
 use Rattle.revc_words.specs.Words.{words_of}
 use Rattle.command_answers.specs.Lines.{bits_text}
 use Rattle.circuit_commands.proofs.RunLemmas.{run_of, run_stops}
-use Rattle.revc_base.proofs.ResultLemmas.{no_value}
 use Rattle.circuit_commands.proofs.run.run.Goals as goal
-
-pub returns-in_err-source-clause-ok : goal.returns-in_err-source-clause-ok
-returns-in_err-source-clause-ok c = no_value c.from_residual.result _ _ c.from_residual.ensures.1
 
 pub returns-clause-ok : goal.returns-clause-ok
 returns-clause-ok c =

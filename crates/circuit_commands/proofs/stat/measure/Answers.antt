@@ -1,9 +1,5 @@
 use Rattle.circuit_commands.proofs.CircuitLemmas.{measured_of, memory_stops}
-use Rattle.revc_base.proofs.ResultLemmas.{no_value}
 use Rattle.circuit_commands.proofs.stat.measure.Goals as goal
-
-pub returns-in_err-source-clause-ok : goal.returns-in_err-source-clause-ok
-returns-in_err-source-clause-ok c = no_value c.from_residual.result _ _ c.from_residual.ensures.1
 
 pub returns-clause-ok : goal.returns-clause-ok
 returns-clause-ok c =

@@ -1,7 +1,6 @@
 use Rattle.std.proofs.Common.{get_or, ◌∙◌, arith}
 use Rattle.std.proofs.lemmas.List.{length-set}
 use Rattle.claim_check.proofs.OrderTableLemmas.{place_written, places_are}
-use Rattle.revc_base.proofs.ResultLemmas.{no_value}
 use Rattle.claim_check.proofs.assignments.places.Goals as goal
 
 pub loop-place-preserved : goal.loop-place-preserved
@@ -19,6 +18,3 @@ returns c =
     let places = c.loop-place.places.items in
     places_are order places c.requires.order c.loop-place.invariant.0
     (λ k low. c.loop-place.invariant.1 k (omega (arith, low, c.loop-place-test.false)))
-
-pub returns-in_err-places : goal.returns-in_err-places
-returns-in_err-places c = no_value c.from_residual.result _ _ c.from_residual.ensures.1

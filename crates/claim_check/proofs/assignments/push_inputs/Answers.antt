@@ -2,12 +2,8 @@ use Rattle.std.proofs.Common.{rules, ◌≡◌, ◌+◌, Bool, cond, [], ◌∷�
 use Rattle.std.proofs.lemmas.Bool.{lt-ltb, le-ltb}
 use Rattle.revs_tape.specs.VariableOrders.{inputs_at}
 use Rattle.claim_check.proofs.OrderTableLemmas.{sum_next, inputs_more}
-use Rattle.revc_base.proofs.ResultLemmas.{no_promise}
 use Rattle.claim_check.proofs.assignments.push_inputs.Goals as goal
 use Rattle.claim_check.proofs.assignments.push_inputs.Goals.{then-place-width+in_ok-push, else-place-width}
-
-pub returns-in_err-push : goal.returns-in_err-push
-returns-in_err-push c = no_promise c.from_residual.result _ _ c.from_residual.ensures.1
 
 pub overflow_add-first : goal.overflow_add-first
 overflow_add-first c = let next = sum_next c.args.params.now c.loop-width.width-index c.loop-width-test.true in omega (arith, next)

@@ -3,7 +3,6 @@ use Rattle.std.specs.List.{flat_map}
 use Rattle.list_facts.specs.Lists.{below}
 use Rattle.revs_tape.specs.VariableOrders.{inputs_at}
 use Rattle.claim_check.proofs.OrderTableLemmas.{order_is, order_more}
-use Rattle.revc_base.proofs.ResultLemmas.{no_value}
 use Rattle.claim_check.proofs.assignments.variable_order.Goals as goal
 
 pub returns : goal.returns
@@ -12,9 +11,6 @@ returns c =
     let all : c.loop-place.place ≡ c.widest-place-end.result = omega (arith, c.loop-place-test.false, c.loop-place.auto.place-end) in
     c.loop-place.invariant ∙ ap (λ (n : ℕ). flat_map (λ place. inputs_at place 0 params) (below n)) all
     ∙ order_is params c.widest-place-end.result c.widest-place-end.ensures
-
-pub returns-in_err-push_inputs : goal.returns-in_err-push_inputs
-returns-in_err-push_inputs c = no_value c.from_residual.result _ _ c.from_residual.ensures.1
 
 pub loop-place-preserved : goal.loop-place-preserved
 loop-place-preserved c = order_more c.args.params.now c.loop-place.order.items c.push_inputs.new.order.items c.loop-place.place

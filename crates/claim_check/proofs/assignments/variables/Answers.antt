@@ -2,7 +2,6 @@ use Rattle.std.proofs.Common.{◌∙◌, ap, arith, length, Vec, ℕ, Global}
 use Rattle.std.proofs.lemmas.Result.{IfOk-weaker}
 use Rattle.revs_tape.proofs.VariableOrderLemmas.{is_order}
 use Rattle.claim_check.proofs.OrderTableLemmas.{order_of_list, variables_are}
-use Rattle.revc_base.proofs.ResultLemmas.{no_value}
 use Rattle.claim_check.proofs.assignments.variables.Goals as goal
 
 pub places-requires-clause-few : goal.places-requires-clause-few
@@ -21,6 +20,3 @@ returns c =
     IfOk-weaker c.places.result _ _
     (λ (v : Vec ℕ Global) are. variables_are params c.deref.result.now v.items (c.deref.ensures.value ∙ c.in_ok-order.ensures) (is_order params) are)
     c.places.ensures
-
-pub returns-in_err-order : goal.returns-in_err-order
-returns-in_err-order c = no_value c.from_residual.result _ _ c.from_residual.ensures.1

@@ -2,7 +2,6 @@ use Rattle.std.proofs.Common.{Bool, subst, sym}
 use Rattle.decision_diagram.specs.Diagrams.{function_of}
 use Rattle.decision_diagram.specs.Functions.{GivesOnly}
 use Rattle.claim_check.proofs.OutcomeLemmas.{claim_breaks, claim_holds, constant_gives, constant_other}
-use Rattle.revc_base.proofs.ResultLemmas.{no_value}
 use Rattle.claim_check.proofs.claims.least_breaking.Goals as goal
 
 pub returns-then-eq : goal.returns-then-eq
@@ -24,6 +23,3 @@ returns c =
     let f = c.number_at-function.result in
     claim_breaks c.args.tape.now c.args.claim c.args.diagram.now.nodes c.args.numbers.now c.args.variables.now f c.claimed-bit.result
     c.in_ok-input.input c.requires.number c.number_at-function.ensures c.claimed-bit.ensures c.requires.variables c.in_ok-input.ensures
-
-pub returns-in_err-input : goal.returns-in_err-input
-returns-in_err-input c = no_value c.from_residual.result _ _ c.from_residual.ensures.1

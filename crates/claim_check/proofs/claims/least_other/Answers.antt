@@ -2,7 +2,6 @@ use Rattle.std.proofs.Common.{◌≡◌, Bool, List, map, ap, ◌∙◌, arith}
 use Rattle.list_facts.specs.Bits.{bit_of}
 use Rattle.decision_diagram.specs.Diagrams.{function_of}
 use Rattle.claim_check.proofs.OutcomeLemmas.{least_found, whole_list}
-use Rattle.revc_base.proofs.ResultLemmas.{no_value}
 use Rattle.claim_check.proofs.claims.least_other.Goals as goal
 
 pub returns : goal.returns
@@ -15,9 +14,3 @@ returns c =
           c.least.ensures.found c.least.ensures.none c.requires.other;
       bits = c.new.ensures ∙ c.in_ok-input.ensures ∙ ap (λ (z : List Bool). map (bit_of z) c.args.variables.now) whole;
     }
-
-pub returns-in_err-assignment : goal.returns-in_err-assignment
-returns-in_err-assignment c = no_value c.from_residual.result _ _ c.from_residual.ensures.1
-
-pub returns-in_err-input : goal.returns-in_err-input
-returns-in_err-input c = no_value c.from_residual-in_err-input.result _ _ c.from_residual-in_err-input.ensures.1

@@ -3,15 +3,8 @@ use Rattle.decision_diagram.specs.Diagrams.{DiagramView}
 use Rattle.claim_check.specs.Claims.{HoldWithin, IsClaimFault}
 use Rattle.claim_check.specs.inside.Numbers.{AreSettled}
 use Rattle.claim_check.specs.inside.Slots.{slots_of}
-use Rattle.revc_base.proofs.ResultLemmas.{no_promise}
 use Rattle.claim_check.proofs.OutcomeLemmas.{none_settled}
 use Rattle.claim_check.proofs.claims.settle_by.Goals as goal
-
-pub returns-in_err-diagram-clause-hold : goal.returns-in_err-diagram-clause-hold
-returns-in_err-diagram-clause-hold c = no_promise c.from_residual.result _ _ c.from_residual.ensures.1
-
-pub returns-in_err-numbers-clause-hold : goal.returns-in_err-numbers-clause-hold
-returns-in_err-numbers-clause-hold c = no_promise c.from_residual-in_err-numbers.result _ _ c.from_residual-in_err-numbers.ensures.1
 
 pub settle_in_order-requires-clause-settled : goal.settle_in_order-requires-clause-settled
 settle_in_order-requires-clause-settled c =

@@ -4,7 +4,6 @@ use Rattle.claim_check.proofs.MemberLemmas.{more_claims}
 use Rattle.claim_check.specs.Claims.{IsClaimFault}
 use Rattle.claim_check.specs.declared.fault.ClaimFault.TheVariants as faults
 use Rattle.claim_check.proofs.OutcomeLemmas.{broken, claim_numbered, passed, settled_more, wanted_room}
-use Rattle.revc_base.proofs.ResultLemmas.{no_promise}
 use Rattle.claim_check.proofs.claims.settle_claim.Goals as goal
 use Rattle.claim_check.proofs.claims.settle_claim.Goals.{In_ok-least_breaking}
 
@@ -36,9 +35,6 @@ returns-in-Some-clause-refused c =
     c.args.number c.claim_at-claim.result c.claim_at-claim.ensures.claim c.requires.claim c.requires.settled.hold c.in-Some.input
     (outcome (goal.at.returns-in-Some-clause-refused c).In_ok-least_breaking (Some c.in-Some.input) c.in-Some.is)
     c.number_claim.new.diagram c.number_claim.new.numbers c.number_claim.ensures.members c.number_claim.ensures.limit c.in_default.ensures.made
-
-pub returns-in_err-least_breaking-clause-settled : goal.returns-in_err-least_breaking-clause-settled
-returns-in_err-least_breaking-clause-settled c = no_promise c.from_residual.result _ _ c.from_residual.ensures.1
 
 pub returns-in-Err-clause-refused : goal.returns-in-Err-clause-refused
 returns-in-Err-clause-refused c =

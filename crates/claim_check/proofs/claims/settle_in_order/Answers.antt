@@ -2,7 +2,6 @@ use Rattle.std.proofs.Common.{◌≡◌, ℕ, ◌+◌, ◌∙◌, ap, length, su
 use Rattle.claim_check.specs.inside.Labels.{claims_of}
 use Rattle.claim_check.specs.inside.Numbers.{AreSettled}
 use Rattle.claim_check.proofs.OutcomeLemmas.{all_settled}
-use Rattle.revc_base.proofs.ResultLemmas.{no_promise}
 use Rattle.claim_check.proofs.claims.settle_in_order.Goals as goal
 
 pub loop-number-init : goal.loop-number-init
@@ -25,6 +24,3 @@ returns-clause-hold c =
     omega (arith, c.loop-number-test.false, c.loop-number.auto.number-end, ap length c.claims.ensures.claims) in
     all_settled t c.args.schedule.now.labels.items c.args.diagram.now.limit c.loop-number.number c.loop-number.diagram c.loop-number.numbers all
     c.loop-number.invariant.0
-
-pub returns-in_err-settle_claim-clause-hold : goal.returns-in_err-settle_claim-clause-hold
-returns-in_err-settle_claim-clause-hold c = no_promise c.from_residual.result _ _ c.from_residual.ensures.1

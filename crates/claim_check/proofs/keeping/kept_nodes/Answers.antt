@@ -4,7 +4,6 @@ use Rattle.dependency_graph.specs.declared.node.Node.{Node}
 use Rattle.claim_check.specs.Kept.{kept_nodes, renumbered}
 use Rattle.claim_check.specs.inside.Marks.{number_in}
 use Rattle.claim_check.proofs.MarkLemmas.{kept_node, other_node}
-use Rattle.revc_base.proofs.ResultLemmas.{no_value}
 use Rattle.claim_check.proofs.keeping.kept_nodes.Goals as goal
 use Rattle.claim_check.proofs.keeping.kept_nodes.Goals.{then-marks-k+in_ok-push, else-marks-k}
 
@@ -27,6 +26,3 @@ loop-k-preserved c =
           ap (λ (z : List Node). z ++ later) same
           ∙ other_node kept numbers c.loop-k.nodes.items all nodes k inside w.if-marks-k.false c.loop-k.invariant
     ]
-
-pub returns-in_err-push : goal.returns-in_err-push
-returns-in_err-push c = no_value c.from_residual.result _ _ c.from_residual.ensures.1

@@ -7,7 +7,6 @@ use Rattle.claim_check.specs.inside.Slots.{slots_of}
 use Rattle.claim_check.specs.inside.Tables.{HoldsOnlyMembers, function_at}
 use Rattle.claim_check.proofs.MemberLemmas.{added}
 use Rattle.claim_check.proofs.NumberLemmas.{base_here, made_kept, made_next, made_one, next_label, operands_made, pass_limit, refused_at}
-use Rattle.revc_base.proofs.ResultLemmas.{no_promise}
 use Rattle.claim_check.proofs.numbers.number_claim.Goals as goal
 use Rattle.claim_check.proofs.numbers.number_claim.Goals.{After-number_of, After-ref_at-made}
 
@@ -72,9 +71,6 @@ chain-preserved c =
       next_label labels c.args.claim (c.chain.slot + 1) c.index-slot-in-chain.result.now next,
       c.number_of.ensures.kept.limit ∙ c.chain.invariant.3,
     )
-
-pub returns-in_err-numbers-clause-made : goal.returns-in_err-numbers-clause-made
-returns-in_err-numbers-clause-made c = no_promise c.from_residual.result _ _ c.from_residual.ensures.1
 
 pub number_of-requires-clause-tape : goal.number_of-requires-clause-tape
 number_of-requires-clause-tape c = c.inputs.ensures.tape

@@ -5,7 +5,7 @@ use Rattle.eager_cleanup.specs.inside.Sweeps.{IsSwept, IsUsed, IsUseFault}
 use Rattle.eager_cleanup.proofs.BoundLemmas.{used_fault}
 use Rattle.eager_cleanup.proofs.SweepLemmas.{can_turned, swept_used}
 use Rattle.eager_cleanup.proofs.cleaning.clean_both.Goals as goal
-use Rattle.revc_base.proofs.ResultLemmas.{no_value, passes_on}
+use Rattle.revc_base.proofs.ResultLemmas.{passes_on}
 
 pub returns-in_err-forward-clause-refused : goal.returns-in_err-forward-clause-refused
 returns-in_err-forward-clause-refused c =
@@ -37,9 +37,6 @@ returns-clause-refused c =
     IfErr-weaker c.clean_used-2.result (IsUseFault s c.args.known.now user c.later_first-first.result.1 c.in_ok-forward.forward)
     (IsEagerFault s c.args.forward.budget)
     (λ fault is. used_fault _ _ _ _ _ _ _ fault c.requires.values once can.inside can.bases.1.0 is) c.clean_used-2.ensures.refused
-
-pub returns-in_err-forward-clause-swept : goal.returns-in_err-forward-clause-swept
-returns-in_err-forward-clause-swept c = no_value c.from_residual.result _ _ c.from_residual.ensures.1
 
 pub clean_used-requires-clause-values : goal.clean_used-requires-clause-values
 clean_used-requires-clause-values c = c.requires.values

@@ -1,5 +1,4 @@
 use Rattle.eager_cleanup.proofs.KnownLemmas.{IsBefore, operands_earlier, values_more}
-use Rattle.revc_base.proofs.ResultLemmas.{no_promise}
 use Rattle.eager_cleanup.proofs.known.add_value.Goals as goal
 
 pub node_value-requires : goal.node_value-requires
@@ -23,9 +22,3 @@ drop_used-requires-clause-values c =
     } in
     let value = rw c.deref.ensures.value at c.in_ok-value.ensures in
     rw (c.deref_mut.ensures.value, c.in_ok-push.ensures.items) (values_more _ _ _ _ _ _ before value)
-
-pub returns-in_err-value : goal.returns-in_err-value
-returns-in_err-value c = no_promise c.from_residual.result _ _ c.from_residual.ensures.1
-
-pub returns-in_err-push : goal.returns-in_err-push
-returns-in_err-push c = no_promise c.from_residual-in_err-push.result _ _ c.from_residual-in_err-push.ensures.1

@@ -5,7 +5,6 @@ use Rattle.held_nodes.specs.Held.{ForwardView}
 use Rattle.held_nodes.specs.Moves.{IsFinishFault, planned_of}
 use Rattle.eager_cleanup.specs.Eager.{IsEagerFault, IsWithinEager}
 use Rattle.eager_cleanup.proofs.PlanLemmas.{outputs_ready, finished_within, finish_fault}
-use Rattle.revc_base.proofs.ResultLemmas.{no_value}
 use Rattle.eager_cleanup.proofs.planning.plan.Goals as goal
 
 pub finish-requires : goal.finish-requires
@@ -28,33 +27,3 @@ returns-clause-refused c =
     IfErr-weaker c.finish.result (IsFinishFault f) (IsEagerFault s c.args.budget.now)
     (λ fault is. subst (λ (b : BudgetView). IsEagerFault s b fault) budget
     (finish_fault s c.in_ok-forward.forward.budget f fault swept is)) c.finish.ensures.refused
-
-pub returns-in_err-forward-clause-ports : goal.returns-in_err-forward-clause-ports
-returns-in_err-forward-clause-ports c = no_value c.from_residual.result _ _ c.from_residual.ensures.1
-
-pub returns-in_err-forward-clause-clean : goal.returns-in_err-forward-clause-clean
-returns-in_err-forward-clause-clean c = no_value c.from_residual.result _ _ c.from_residual.ensures.1
-
-pub returns-in_err-forward-clause-within : goal.returns-in_err-forward-clause-within
-returns-in_err-forward-clause-within c = no_value c.from_residual.result _ _ c.from_residual.ensures.1
-
-pub returns-in_err-forward-clause-roomy : goal.returns-in_err-forward-clause-roomy
-returns-in_err-forward-clause-roomy c = no_value c.from_residual.result _ _ c.from_residual.ensures.1
-
-pub returns-in_err-forward-clause-few : goal.returns-in_err-forward-clause-few
-returns-in_err-forward-clause-few c = no_value c.from_residual.result _ _ c.from_residual.ensures.1
-
-pub returns-in_err-forward-2-clause-ports : goal.returns-in_err-forward-2-clause-ports
-returns-in_err-forward-2-clause-ports c = no_value c.from_residual-in_err-forward-2.result _ _ c.from_residual-in_err-forward-2.ensures.1
-
-pub returns-in_err-forward-2-clause-clean : goal.returns-in_err-forward-2-clause-clean
-returns-in_err-forward-2-clause-clean c = no_value c.from_residual-in_err-forward-2.result _ _ c.from_residual-in_err-forward-2.ensures.1
-
-pub returns-in_err-forward-2-clause-within : goal.returns-in_err-forward-2-clause-within
-returns-in_err-forward-2-clause-within c = no_value c.from_residual-in_err-forward-2.result _ _ c.from_residual-in_err-forward-2.ensures.1
-
-pub returns-in_err-forward-2-clause-roomy : goal.returns-in_err-forward-2-clause-roomy
-returns-in_err-forward-2-clause-roomy c = no_value c.from_residual-in_err-forward-2.result _ _ c.from_residual-in_err-forward-2.ensures.1
-
-pub returns-in_err-forward-2-clause-few : goal.returns-in_err-forward-2-clause-few
-returns-in_err-forward-2-clause-few c = no_value c.from_residual-in_err-forward-2.result _ _ c.from_residual-in_err-forward-2.ensures.1

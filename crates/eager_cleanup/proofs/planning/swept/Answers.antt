@@ -1,6 +1,6 @@
 use Rattle.std.proofs.Common.{rules, [], ◌+◌, ◌<◌, length, subst, sym}
 use Rattle.circuit_plans.specs.Plans.{BudgetView}
-use Rattle.revc_base.proofs.ResultLemmas.{no_value, passes_on}
+use Rattle.revc_base.proofs.ResultLemmas.{passes_on}
 use Rattle.eager_cleanup.specs.inside.Sweeps.{IsMade, IsSwept}
 use Rattle.eager_cleanup.proofs.BoundLemmas.{has_port_lines, next_fault, next_ready}
 use Rattle.eager_cleanup.proofs.SweepLemmas.{swept_toggled}
@@ -14,9 +14,6 @@ pub toggle-requires : goal.toggle-requires
 toggle-requires c =
     let inside : c.loop-node.node < length c.args.graph.now.nodes = search rules in
     next_ready c.args.graph.now c.args.forward.budget c.loop-node.node c.loop-node.forward c.loop-node.invariant.0 inside
-
-pub returns-in_err-toggled-clause-swept : goal.returns-in_err-toggled-clause-swept
-returns-in_err-toggled-clause-swept c = no_value c.from_residual-in_err-toggled.result _ _ c.from_residual-in_err-toggled.ensures.1
 
 pub returns-in_err-toggled-clause-refused : goal.returns-in_err-toggled-clause-refused
 returns-in_err-toggled-clause-refused c =
@@ -36,9 +33,6 @@ clean_operands-requires-clause-made c =
     c.in_ok-toggled.ensures.keeps c.in_ok-toggled.ensures.ok in
     subst (λ (b : BudgetView). IsMade s b c.loop-node.node next) (sym made.swept.budget) made
 
-pub returns-in_err-forward-clause-swept : goal.returns-in_err-forward-clause-swept
-returns-in_err-forward-clause-swept c = no_value c.from_residual-in_err-forward.result _ _ c.from_residual-in_err-forward.ensures.1
-
 pub returns-in_err-forward-clause-refused : goal.returns-in_err-forward-clause-refused
 returns-in_err-forward-clause-refused c =
     let s = c.args.graph.now in
@@ -47,9 +41,6 @@ returns-in_err-forward-clause-refused c =
     c.in_ok-toggled.ensures.keeps c.in_ok-toggled.ensures.ok in
     passes_on _ c.from_residual-in_err-forward.result c.from_residual-in_err-forward.ensures.1
     (rw made.swept.budget at c.in_err-forward.ensures.refused)
-
-pub returns-in_err-add_value-clause-swept : goal.returns-in_err-add_value-clause-swept
-returns-in_err-add_value-clause-swept c = no_value c.from_residual-in_err-add_value.result _ _ c.from_residual-in_err-add_value.ensures.1
 
 pub returns-in_err-add_value-clause-refused : goal.returns-in_err-add_value-clause-refused
 returns-in_err-add_value-clause-refused c = passes_on _ c.from_residual-in_err-add_value.result c.from_residual-in_err-add_value.ensures.1

@@ -1,11 +1,7 @@
 use Rattle.std.proofs.Common.{false}
-use Rattle.revc_base.proofs.ResultLemmas.{no_promise}
 use Rattle.exclusive_sums.specs.inside.Merging.{flipped}
 use Rattle.exclusive_sums.proofs.FillingLemmas.{filled_more}
 use Rattle.exclusive_sums.proofs.cube.put_flipped.Goals as goal
-
-pub returns-in_err-push : goal.returns-in_err-push
-returns-in_err-push c = no_promise c.from_residual.result _ _ c.from_residual.ensures.1
 
 pub loop-literal-preserved : goal.loop-literal-preserved
 loop-literal-preserved c =

@@ -1,6 +1,5 @@
 use Rattle.std.proofs.Common.{Some, refl, sym, ap, ◌∙◌}
 use Rattle.std.proofs.lemmas.Result.{on_ok_weaker}
-use Rattle.revc_base.proofs.ResultLemmas.{no_promise}
 use Rattle.gate_split.specs.Split.{flips_of_negatives, split_positive, between}
 use Rattle.gate_split.proofs.PieceLemmas.{surrounded_piece}
 use Rattle.gate_split.proofs.piece.push_flip.Goals as goal
@@ -20,9 +19,3 @@ returns-clause-same c = c.push_positive.ensures.same
 
 pub returns-in_err-push_positive-clause-same : goal.returns-in_err-push_positive-clause-same
 returns-in_err-push_positive-clause-same c = c.push_positive.ensures.same
-
-pub returns-in_err-push_negatives-clause-split : goal.returns-in_err-push_negatives-clause-split
-returns-in_err-push_negatives-clause-split c = no_promise c.from_residual.result _ _ c.from_residual.ensures.1
-
-pub returns-in_err-push_positive-clause-split : goal.returns-in_err-push_positive-clause-split
-returns-in_err-push_positive-clause-split c = no_promise c.from_residual-in_err-push_positive.result _ _ c.from_residual-in_err-push_positive.ensures.1

@@ -6,7 +6,6 @@ use Rattle.gate_split.proofs.NegativeLemmas.{lines}
 use Rattle.gate_split.proofs.PieceLemmas.{flip_on, swap_on, flip_piece, swap_piece, between_none, narrow_behind}
 use Rattle.std.proofs.lemmas.Result.{on_ok_weaker}
 use Rattle.std.specs.Result.{OnOk}
-use Rattle.revc_base.proofs.ResultLemmas.{no_promise}
 use Rattle.gate_split.proofs.piece.push_piece.Goals as goal
 
 pub returns-then-is_narrow-clause-split : goal.returns-then-is_narrow-clause-split
@@ -61,6 +60,3 @@ push_swap-requires-clause-some c =
     (c.in_ok-lines.lines.items ++ c.in-Swap.first ∷ []) (sym c.op.ensures.op ∙ c.in-Swap.is) c.controls-controls.ensures.controls controls in
     λ none. c.requires.some (piece ∙ between_none (flip_of (c.in-Swap.second ∷ []) c.in-Swap.first ∷ []) _
     (between_none (flips_of_negatives c.controls-controls.result.now) _ none))
-
-pub returns-in_err-lines-clause-split : goal.returns-in_err-lines-clause-split
-returns-in_err-lines-clause-split c = no_promise c.from_residual.result _ _ c.from_residual.ensures.1

@@ -1,7 +1,6 @@
 use Rattle.std.proofs.Common.{Some, [], ◌∷◌, ◌++◌, refl, sym, ap, ◌∙◌}
 use Rattle.std.proofs.lemmas.Result.{on_ok_weaker}
 use Rattle.mct_circuit.specs.Gates.{flip_of}
-use Rattle.revc_base.proofs.ResultLemmas.{no_promise}
 use Rattle.gate_split.specs.Split.{flips_of_negatives, split_positive, between}
 use Rattle.gate_split.proofs.PieceLemmas.{surrounded_piece}
 use Rattle.gate_split.proofs.piece.push_swap.Goals as goal
@@ -26,12 +25,3 @@ returns-clause-split c =
     let inner = rw (c.deref.ensures.value, c.in_ok-push.ensures.items) at c.in_ok-push_flip.ensures.split in
     on_ok_weaker c.push_one_flip-2.result (λ e. surrounded_piece c.args.gates.now.items outer c.push_one_flip.new.gates.items
     c.push_flip.new.gates.items (between outer flips) flips refl c.in_ok-push_one_flip.ensures inner ∙ ap Some (sym e)) c.push_one_flip-2.ensures
-
-pub returns-in_err-push-clause-split : goal.returns-in_err-push-clause-split
-returns-in_err-push-clause-split c = no_promise c.from_residual.result _ _ c.from_residual.ensures.1
-
-pub returns-in_err-push_one_flip-clause-split : goal.returns-in_err-push_one_flip-clause-split
-returns-in_err-push_one_flip-clause-split c = no_promise c.from_residual-in_err-push_one_flip.result _ _ c.from_residual-in_err-push_one_flip.ensures.1
-
-pub returns-in_err-push_flip-clause-split : goal.returns-in_err-push_flip-clause-split
-returns-in_err-push_flip-clause-split c = no_promise c.from_residual-in_err-push_flip.result _ _ c.from_residual-in_err-push_flip.ensures.1

@@ -1,6 +1,5 @@
 use Rattle.std.proofs.Common.{◌++◌, length, ap, ◌∙◌}
 use Rattle.std.proofs.lemmas.Result.{on_ok_weaker}
-use Rattle.revc_base.proofs.ResultLemmas.{no_promise}
 use Rattle.gate_split.specs.Split.{in_falling_order, with_enough_idle}
 use Rattle.gate_split.proofs.EffectLemmas.{serves_take}
 use Rattle.gate_split.proofs.WideLemmas.{at_most, same_cut}
@@ -30,6 +29,3 @@ returns-clause-made c =
 
 pub returns-clause-same : goal.returns-clause-same
 returns-clause-same c = c.falling_lines.ensures.same
-
-pub returns-in_err-idle-clause-made : goal.returns-in_err-idle-clause-made
-returns-in_err-idle-clause-made c = no_promise c.from_residual.result _ _ c.from_residual.ensures.1

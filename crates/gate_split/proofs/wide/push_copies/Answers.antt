@@ -1,11 +1,7 @@
 use Rattle.std.proofs.Common.{◌++◌, sym, ap, ◌∙◌}
 use Rattle.std.proofs.lemmas.List.{append-nil, take_all}
-use Rattle.revc_base.proofs.ResultLemmas.{no_promise}
 use Rattle.gate_split.proofs.BuildingLemmas.{copied_more}
 use Rattle.gate_split.proofs.wide.push_copies.Goals as goal
-
-pub returns-in_err-push_copy : goal.returns-in_err-push_copy
-returns-in_err-push_copy c = no_promise c.from_residual.result _ _ c.from_residual.ensures.1
 
 pub loop-gate-init : goal.loop-gate-init
 loop-gate-init c = sym (append-nil c.args.gates.now.items)

@@ -1,6 +1,5 @@
 use Rattle.std.proofs.Common.{take, drop, refl, ◌∙◌}
 use Rattle.std.proofs.lemmas.Result.{on_ok_weaker}
-use Rattle.revc_base.proofs.ResultLemmas.{no_promise}
 use Rattle.gate_split.specs.Split.{first_half}
 use Rattle.gate_split.proofs.WideLemmas.{halves_of, second_goes, first_goes, halves_put, front_below, back_below}
 use Rattle.gate_split.proofs.wide.push_halves.Goals as goal
@@ -52,12 +51,6 @@ returns-clause-made c =
 
 pub returns-clause-same : goal.returns-clause-same
 returns-clause-same c = c.push_among-2.ensures.same ∙ c.push_among.ensures.same
-
-pub returns-in_err-with_idle-clause-made : goal.returns-in_err-with_idle-clause-made
-returns-in_err-with_idle-clause-made c = no_promise c.from_residual.result _ _ c.from_residual.ensures.1
-
-pub returns-in_err-push_among-clause-made : goal.returns-in_err-push_among-clause-made
-returns-in_err-push_among-clause-made c = no_promise c.from_residual-in_err-push_among.result _ _ c.from_residual-in_err-push_among.ensures.1
 
 pub returns-in_err-push_among-clause-same : goal.returns-in_err-push_among-clause-same
 returns-in_err-push_among-clause-same c = c.push_among.ensures.same

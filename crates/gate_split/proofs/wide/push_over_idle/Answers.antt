@@ -1,6 +1,5 @@
 use Rattle.std.proofs.Common.{◌≡◌, ◌+◌, length, reverse, ap, ◌∙◌, arith}
 use Rattle.std.proofs.lemmas.List.{length-reverse}
-use Rattle.revc_base.proofs.ResultLemmas.{no_promise}
 use Rattle.gate_split.proofs.BuildingLemmas.{length-ladder}
 use Rattle.gate_split.proofs.wide.push_over_idle.Goals as goal
 
@@ -11,9 +10,3 @@ split_at-requires c =
     let long = ap length (c.deref.ensures.value ∙ c.in_ok-rungs.ensures)
     ∙ length-ladder c.args.target (reverse c.args.controls.now) (reverse c.args.idle.now) even in
     omega arith
-
-pub returns-in_err-rungs : goal.returns-in_err-rungs
-returns-in_err-rungs c = no_promise c.from_residual.result _ _ c.from_residual.ensures.1
-
-pub returns-in_err-push_there_and_back : goal.returns-in_err-push_there_and_back
-returns-in_err-push_there_and_back c = no_promise c.from_residual-in_err-push_there_and_back.result _ _ c.from_residual-in_err-push_there_and_back.ensures.1

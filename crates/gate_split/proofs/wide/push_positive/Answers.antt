@@ -1,6 +1,5 @@
 use Rattle.std.proofs.Common.{sym, ap, ◌∙◌, Some}
 use Rattle.std.proofs.lemmas.Result.{on_ok_weaker}
-use Rattle.revc_base.proofs.ResultLemmas.{no_promise}
 use Rattle.gate_split.specs.Split.{behind}
 use Rattle.gate_split.proofs.EffectLemmas.{different_of, below_of}
 use Rattle.gate_split.proofs.PieceLemmas.{few_stay}
@@ -31,6 +30,3 @@ returns-clause-split c = rw c.falling_lines.ensures.same at c.push_wide.ensures.
 
 pub returns-clause-same : goal.returns-clause-same
 returns-clause-same c = c.push_wide.ensures.same ∙ c.falling_lines.ensures.same
-
-pub returns-in_err-idle-clause-split : goal.returns-in_err-idle-clause-split
-returns-in_err-idle-clause-split c = no_promise c.from_residual.result _ _ c.from_residual.ensures.1

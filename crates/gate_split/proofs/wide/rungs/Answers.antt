@@ -1,5 +1,4 @@
 use Rattle.std.proofs.Common.{arith}
-use Rattle.revc_base.proofs.ResultLemmas.{no_value}
 use Rattle.gate_split.proofs.BuildingLemmas.{rungs_made, rungs_left}
 use Rattle.gate_split.proofs.wide.rungs.Goals as goal
 
@@ -14,12 +13,3 @@ loop-i-preserved c = (
   (rungs_left c.loop-i.top c.args.controls.now c.args.idle.now c.loop-i.i c.loop-i-test.true c.loop-i.invariant.2 c.requires.long c.loop-i.invariant.1).1,
   omega arith,
 )
-
-pub returns-in_err-rungs : goal.returns-in_err-rungs
-returns-in_err-rungs c = no_value c.from_residual.result _ _ c.from_residual.ensures.1
-
-pub returns-in_err-push_one_flip : goal.returns-in_err-push_one_flip
-returns-in_err-push_one_flip c = no_value c.from_residual-in_err-push_one_flip.result _ _ c.from_residual-in_err-push_one_flip.ensures.1
-
-pub returns-in_err-push_one_flip-2 : goal.returns-in_err-push_one_flip-2
-returns-in_err-push_one_flip-2 c = no_value c.from_residual-in_err-push_one_flip-2.result _ _ c.from_residual-in_err-push_one_flip-2.ensures.1

@@ -1,5 +1,4 @@
 use Rattle.held_nodes.proofs.CopyLemmas.{copies_more, output_apart, output_can}
-use Rattle.revc_base.proofs.ResultLemmas.{no_value}
 use Rattle.held_nodes.proofs.copying.copies_of.Goals as goal
 
 pub append_sum-requires-clause-placed : goal.append_sum-requires-clause-placed
@@ -11,9 +10,6 @@ append_sum-requires-clause-placed c =
 pub append_sum-requires-clause-apart : goal.append_sum-requires-clause-apart
 append_sum-requires-clause-apart c =
     output_apart c.args.inputs c.loop-k.k c.args.lines.now c.args.outputs.now c.index-outputs-k.result c.loop-k-test.true c.index-outputs-k.is c.requires.can
-
-pub returns-in_err-append_sum : goal.returns-in_err-append_sum
-returns-in_err-append_sum c = no_value c.from_residual.result _ _ c.from_residual.ensures.1
 
 pub loop-k-preserved : goal.loop-k-preserved
 loop-k-preserved c =

@@ -3,7 +3,7 @@ use Rattle.revs_terms.specs.declared.program.Param.{Param}
 use Rattle.revs_terms.specs.Trees.{tree_of}
 use Rattle.inliner.specs.inside.Machines.{state_of}
 use Rattle.inliner.specs.inside.Starts.{IsStart, stamped}
-use Rattle.revc_base.proofs.ResultLemmas.{no_value, passes_on}
+use Rattle.revc_base.proofs.ResultLemmas.{passes_on}
 use Rattle.inliner.proofs.EndLemmas.{program_stuck, program_leaves, some_made}
 use Rattle.inliner.proofs.FaultLemmas.{memory_says}
 use Rattle.inliner.proofs.program.run.Goals as goal
@@ -37,9 +37,3 @@ finished-requires-clause-some c =
     c.args.program.now.inputs c.args.program.now.formed.formed
     (subst (λ (ps : List Param). IsStart ps m) c.deref.ensures.value c.in_ok-machine.ensures) c.last_environment-env.ensures
     c.in_ok-outputs.ensures.runs
-
-pub returns-in_err-machine-clause-ok : goal.returns-in_err-machine-clause-ok
-returns-in_err-machine-clause-ok c = no_value c.from_residual.result _ _ c.from_residual.ensures.1
-
-pub returns-in_err-outputs-clause-ok : goal.returns-in_err-outputs-clause-ok
-returns-in_err-outputs-clause-ok c = no_value c.from_residual-in_err-outputs.result _ _ c.from_residual-in_err-outputs.ensures.1

@@ -1,5 +1,4 @@
 use Rattle.real_format.proofs.MarkWordLemmas.{mark_read, no_mark, all_read}
-use Rattle.revc_base.proofs.ResultLemmas.{no_value}
 use Rattle.real_format.proofs.header.marks_of.Goals as goal
 
 pub returns-in_default-of-clause-err : goal.returns-in_default-of-clause-err
@@ -16,9 +15,3 @@ pub returns-clause-ok : goal.returns-clause-ok
 returns-clause-ok g c =
     all_read g.M.Marking.marking c.args.count c.args.words.now c.in-Some.word.now c.loop-byte.marks.items c.loop-byte.byte-index c.in-Some.ensures
     c.if-word-count.false c.loop-byte-test.false c.loop-byte.invariant
-
-pub returns-in_err-marks-clause-ok : goal.returns-in_err-marks-clause-ok
-returns-in_err-marks-clause-ok g c = no_value c.from_residual.result _ _ c.from_residual.ensures.1
-
-pub returns-in_err-push-clause-ok : goal.returns-in_err-push-clause-ok
-returns-in_err-push-clause-ok g c = no_value c.from_residual-in_err-push.result _ _ c.from_residual-in_err-push.ensures.1

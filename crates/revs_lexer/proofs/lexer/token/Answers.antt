@@ -1,17 +1,7 @@
 use Rattle.std.proofs.Common.{ap, length, sym, ◌∙◌}
 use Rattle.revs_lexer.proofs.LongestLemmas.{identifier_at_front, longest_name, long_name_at_front, digits_at_front, numeral_at_front, longest_number}
 use Rattle.revs_lexer.proofs.LongestLemmas.{long_number_at_front, longest_sign, no_token, bad_byte_at_front}
-use Rattle.revc_base.proofs.ResultLemmas.{no_value}
 use Rattle.revs_lexer.proofs.lexer.token.Goals as goal
-
-pub returns-in_err-name-clause-in_range : goal.returns-in_err-name-clause-in_range
-returns-in_err-name-clause-in_range c = no_value c.from_residual.result _ _ c.from_residual.ensures.1
-
-pub returns-in_err-name-clause-longest : goal.returns-in_err-name-clause-longest
-returns-in_err-name-clause-longest c = no_value c.from_residual.result _ _ c.from_residual.ensures.1
-
-pub returns-in_err-name-clause-within : goal.returns-in_err-name-clause-within
-returns-in_err-name-clause-within c = no_value c.from_residual.result _ _ c.from_residual.ensures.1
 
 pub returns-then-len-gt-MOST-clause-refused : goal.returns-then-len-gt-MOST-clause-refused
 returns-then-len-gt-MOST-clause-refused c =

@@ -1,6 +1,6 @@
 use Rattle.std.proofs.Common.{◌≡◌, ◌∙◌, ◌+◌, ◌++◌, [], ◌∷◌, ap, length, reverse, Contains, subst, sym, arith}
 use Rattle.std.proofs.lemmas.List.{length-reverse}
-use Rattle.revc_base.proofs.ResultLemmas.{no_value, passes_on}
+use Rattle.revc_base.proofs.ResultLemmas.{passes_on}
 use Rattle.decision_diagram.specs.Diagrams.{DiagramView, IsCanonical, first_variable}
 use Rattle.decision_diagram.specs.Growth.{StandsFor}
 use Rattle.decision_diagram.specs.inside.Flipping.{node_function}
@@ -39,12 +39,6 @@ returns-in_err-insert-clause-grows c =
 
 pub invariant_of-self : goal.invariant_of-self
 invariant_of-self c = let g = returns-in_err-insert-clause-grows c in g.canonical
-
-pub returns-in_err-insert-clause-answer : goal.returns-in_err-insert-clause-answer
-returns-in_err-insert-clause-answer c = no_value c.from_residual.result _ _ c.from_residual.ensures.1
-
-pub returns-in_err-insert-clause-first : goal.returns-in_err-insert-clause-first
-returns-in_err-insert-clause-first c = no_value c.from_residual.result _ _ c.from_residual.ensures.1
 
 pub returns-in_err-insert-clause-refused : goal.returns-in_err-insert-clause-refused
 returns-in_err-insert-clause-refused c = passes_on _ c.from_residual.result c.from_residual.ensures.1

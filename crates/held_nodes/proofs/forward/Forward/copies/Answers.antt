@@ -1,5 +1,4 @@
 use Rattle.held_nodes.proofs.FinishLemmas.{done_of, done_can}
-use Rattle.revc_base.proofs.ResultLemmas.{no_value}
 use Rattle.held_nodes.proofs.forward.Forward.copies.Goals as goal
 
 pub copies_of-requires-clause-can : goal.copies_of-requires-clause-can
@@ -10,12 +9,3 @@ copies_of-requires-clause-can c =
 pub returns-clause-ok : goal.returns-clause-ok
 returns-clause-ok c =
     rw (← c.self.view_is) (rw (c.inputs.ensures.inputs, c.outputs-outputs.ensures.outputs, c.deref.ensures.value) at c.in_ok-copies.ensures)
-
-pub returns-in_err-copies-clause-ok : goal.returns-in_err-copies-clause-ok
-returns-in_err-copies-clause-ok c = no_value c.from_residual.result _ _ c.from_residual.ensures.1
-
-pub returns-in_err-copies-clause-light : goal.returns-in_err-copies-clause-light
-returns-in_err-copies-clause-light c = no_value c.from_residual.result _ _ c.from_residual.ensures.1
-
-pub returns-in_err-copies-clause-products : goal.returns-in_err-copies-clause-products
-returns-in_err-copies-clause-products c = no_value c.from_residual.result _ _ c.from_residual.ensures.1

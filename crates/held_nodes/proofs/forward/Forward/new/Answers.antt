@@ -1,7 +1,6 @@
 use Rattle.std.proofs.Common.{rules, ◌≡◌, ◌∙◌, None, length, replicate, ap}
 use Rattle.std.proofs.Common.{ℕ}
 use Rattle.held_nodes.proofs.EmptyLemmas.{empty_kept}
-use Rattle.revc_base.proofs.ResultLemmas.{no_value}
 use Rattle.held_nodes.proofs.forward.Forward.new.Goals as goal
 
 pub invariant_of-result : goal.invariant_of-result
@@ -15,15 +14,3 @@ invariant_of-result c =
 
 pub returns-clause-keeps : goal.returns-clause-keeps
 returns-clause-keeps c = (invariant_of-result c).forward
-
-pub returns-in_err-lines-clause-ok : goal.returns-in_err-lines-clause-ok
-returns-in_err-lines-clause-ok c = no_value c.from_residual.result _ _ c.from_residual.ensures.1
-
-pub returns-in_err-lines-clause-keeps : goal.returns-in_err-lines-clause-keeps
-returns-in_err-lines-clause-keeps c = no_value c.from_residual.result _ _ c.from_residual.ensures.1
-
-pub returns-in_err-heap-clause-ok : goal.returns-in_err-heap-clause-ok
-returns-in_err-heap-clause-ok c = no_value c.from_residual-in_err-heap.result _ _ c.from_residual-in_err-heap.ensures.1
-
-pub returns-in_err-heap-clause-keeps : goal.returns-in_err-heap-clause-keeps
-returns-in_err-heap-clause-keeps c = no_value c.from_residual-in_err-heap.result _ _ c.from_residual-in_err-heap.ensures.1

@@ -13,7 +13,6 @@ use Rattle.std.proofs.lemmas.Int.{to_z-of_z}
 use Rattle.std.proofs.lemmas.Result.{MatchResult-weaker, MatchResult-from_both, IfOk-weaker, IfErr-weaker}
 use Rattle.inliner.proofs.EnvironmentLemmas.{grown_within, grown_made}
 use Rattle.inliner.proofs.FaultLemmas.{said_first, memory_says}
-use Rattle.revc_base.proofs.ResultLemmas.{no_promise}
 use Rattle.inliner.proofs.ProgressLemmas.{on_ok_alone, begun, step, ends_goes, ends_calls, said, goes_in, says_in, stops, stops_first, does_by, goes_on_so}
 use Rattle.inliner.proofs.ChainLemmas.{entered, assigns_from, assigns_stuck, reg_made, reg_stuck, bits_begun, bits_more}
 use Rattle.inliner.proofs.ChainLemmas.{bits_stuck, bits_done, chain_begun, chain_more, chain_no_first, chain_stuck, chain_done}
@@ -404,9 +403,6 @@ apply-argument-requires t c =
     )
 
 -- ---- the exits
-
-pub run-returns-in_err-enter-clause-room : goal.run-returns-in_err-enter-clause-room
-run-returns-in_err-enter-clause-room t c = no_promise c.from_residual.result _ _ c.from_residual.ensures.1
 
 pub bits-returns-in_err-push : goal.bits-returns-in_err-push
 bits-returns-in_err-push t c = stops _ _ c.from_residual-in_err-push.result c.from_residual-in_err-push.ensures.1 (record { stuck = tt })

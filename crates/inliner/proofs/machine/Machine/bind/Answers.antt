@@ -1,7 +1,6 @@
 use Rattle.std.proofs.Common.{arith}
 use Rattle.std.proofs.lemmas.Result.{IfOk-weaker}
 use Rattle.inliner.proofs.EnvironmentLemmas.{bound_done, grown_within, grown_made}
-use Rattle.revc_base.proofs.ResultLemmas.{no_value}
 use Rattle.inliner.proofs.machine.Machine.bind.Goals as goal
 
 pub push-requires-clause-room : goal.push-requires-clause-room
@@ -17,6 +16,3 @@ pub returns-clause-ok : goal.returns-clause-ok
 returns-clause-ok c = IfOk-weaker c.push.result _ _
     (λ made b. bound_done c.args.self.now c.work.new.self c.push.new.self c.args.value c.args.env made c.place.result _ c.place.ensures
     c.bound_length.result c.bound_length.ensures c.in_ok-work.ensures.ok b c.requires.env c.requires.made) c.push.ensures.ok
-
-pub returns-in_err-work-clause-ok : goal.returns-in_err-work-clause-ok
-returns-in_err-work-clause-ok c = no_value c.from_residual.result _ _ c.from_residual.ensures.1

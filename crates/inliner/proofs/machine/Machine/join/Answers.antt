@@ -1,12 +1,6 @@
-use Rattle.revc_base.proofs.ResultLemmas.{no_value, passes_on}
+use Rattle.revc_base.proofs.ResultLemmas.{passes_on}
 use Rattle.inliner.proofs.FaultLemmas.{said_first, said_next}
 use Rattle.inliner.proofs.machine.Machine.join.Goals as goal
-
-pub returns-in_err-a-clause-ok : goal.returns-in_err-a-clause-ok
-returns-in_err-a-clause-ok c = no_value c.from_residual.result _ _ c.from_residual.ensures.1
-
-pub returns-in_err-b-clause-ok : goal.returns-in_err-b-clause-ok
-returns-in_err-b-clause-ok c = no_value c.from_residual-in_err-b.result _ _ c.from_residual-in_err-b.ensures.1
 
 pub returns-in_err-a-clause-err : goal.returns-in_err-a-clause-err
 returns-in_err-a-clause-err c = passes_on _ c.from_residual.result c.from_residual.ensures.1

@@ -3,7 +3,7 @@ use Rattle.array_shapes.specs.Values.{ValueView}
 use Rattle.inliner.specs.inside.Machines.{envs_of, spec_value, IsValueView}
 use Rattle.inliner.proofs.EnvironmentLemmas.{none_bound, nearest}
 use Rattle.inliner.proofs.LeapLemmas.{value_there}
-use Rattle.revc_base.proofs.ResultLemmas.{no_value, passes_on}
+use Rattle.revc_base.proofs.ResultLemmas.{passes_on}
 use Rattle.inliner.proofs.machine.Machine.named.Goals as goal
 
 pub returns-then-there-eq0-clause-ok : goal.returns-then-there-eq0-clause-ok
@@ -23,12 +23,6 @@ returns-clause-made c =
     let p = nearest c.args.self.now c.outward-there.result 0 c.index.result.now c.requires.machine
     (omega arith) c.outward-there.ensures.made refl c.index.ensures in
     record { made = subst (λ (v : ValueView). IsValueView (length c.args.self.now.bindings.items) v) (sym c.in_ok-copy.ensures) p.1 }
-
-pub returns-in_err-copy-clause-ok : goal.returns-in_err-copy-clause-ok
-returns-in_err-copy-clause-ok c = no_value c.from_residual.result _ _ c.from_residual.ensures.1
-
-pub returns-in_err-copy-clause-made : goal.returns-in_err-copy-clause-made
-returns-in_err-copy-clause-made c = no_value c.from_residual.result _ _ c.from_residual.ensures.1
 
 pub returns-in_err-copy-clause-err : goal.returns-in_err-copy-clause-err
 returns-in_err-copy-clause-err c = passes_on _ c.from_residual.result c.from_residual.ensures.1 refl

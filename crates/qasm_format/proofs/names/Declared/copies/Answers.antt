@@ -1,7 +1,6 @@
 use Rattle.std.proofs.Common.{◌<◌, List, Option, None, length, get_or, ap, sym, subst}
 use Rattle.qasm_format.specs.declared.names.Span.{Span}
 use Rattle.qasm_format.proofs.DeclaredLemmas.{copied_more, text_at}
-use Rattle.revc_base.proofs.ResultLemmas.{no_value}
 use Rattle.qasm_format.proofs.names.Declared.copies.Goals as goal
 
 pub push_register-requires : goal.push_register-requires
@@ -15,6 +14,3 @@ loop-place-preserved c =
     copied_more _ c.loop-place.copies.items c.push_register.new.copies.items c.self.inside.names spans i c.at.result.now _ c.at.ensures
     (subst (λ (ss : List (Option Span)). i < length ss) same c.loop-place-test.true)
     (ap (λ (ss : List (Option Span)). get_or ss i None) (sym same)) c.in_ok-push_register.ensures c.loop-place.invariant
-
-pub returns-in_err-push_register : goal.returns-in_err-push_register
-returns-in_err-push_register c = no_value c.from_residual.result _ _ c.from_residual.ensures.1

@@ -1,5 +1,5 @@
 use Rattle.std.proofs.Common.{◌≡◌, ℕ, List, ◌∷◌, Some, Ok, sym, ap, ◌∙◌}
-use Rattle.revc_base.proofs.ResultLemmas.{passes_on, no_value}
+use Rattle.revc_base.proofs.ResultLemmas.{passes_on}
 use Rattle.real_format.specs.declared.header.Head.{Head}
 use Rattle.real_format.specs.declared.refusal.LineRefusal.{LineRefusal}
 use Rattle.real_format.specs.Header.{HeaderView}
@@ -17,9 +17,6 @@ head_refuses said line words word head e cut is refuses =
 
 pub returns-in_default-clause-ok : goal.returns-in_default-clause-ok
 returns-in_default-clause-ok c = ap (header_line c.args.self.now) c.in_default.ensures.0
-
-pub returns-in_err-add-clause-ok : goal.returns-in_err-add-clause-ok
-returns-in_err-add-clause-ok c = no_value c.from_residual.result _ _ c.from_residual.ensures.1
 
 pub returns-in_err-add-clause-err : goal.returns-in_err-add-clause-err
 returns-in_err-add-clause-err c =

@@ -1,5 +1,0 @@
-use Rattle.revc_base.proofs.ResultLemmas.{no_promise}
-use Rattle.exclusive_sums.proofs.cube.put.Goals as goal
-
-pub returns-in_err-push : goal.returns-in_err-push
-returns-in_err-push c = no_promise c.from_residual.result _ _ c.from_residual.ensures.1
