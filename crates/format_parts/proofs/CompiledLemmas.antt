@@ -15,5 +15,5 @@ pub laid_has : (P : Roles → List GateView → Type 0) → ForEachCompiled P �
 laid_has P each laid circuit fits same on narrow some few few_gates =
     let placed : AreGatesOn laid.circuit.lines laid.circuit.gates = subst (λ (v : CircuitView). AreGatesOn v.lines v.gates) same on in
     let fit : FitAFile laid.circuit.lines laid.circuit.gates =
-        record { some = some; few = few; few_gates = few_gates; placed = placed; narrow = narrow } in
+    record { some = some; few = few; few_gates = few_gates; placed = placed; narrow = narrow } in
     each (roles_of laid) laid.circuit.gates (subst (λ n. FitAFile n laid.circuit.gates) (sym fits) fit)
