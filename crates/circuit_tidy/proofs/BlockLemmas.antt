@@ -43,7 +43,7 @@ has_line-with_line x line (y ∷ ys) = elim (cases_Bool (eqb line y)) [
 ]
   where
     turn : (a b d : Bool) → (a || (b || d)) ≡ (b || (a || d))
-    turn = of_three_bits (λ a b d. a || (b || d)) (λ a b d. d || ((a || b) || false)) refl
+    turn = of_three_bits (λ a b d. a || (b || d)) (λ a b d. b || (a || d)) refl
 
     by : (a d : Bool) → (a || d) ≡ (a || (a || d))
     by true d = refl
@@ -216,14 +216,7 @@ one_more_touched flips flip lines is are =
     }
   where
     turn : (a b d : Bool) → (a || (b || d)) ≡ (d || ((a || b) || false))
-    turn true true true = refl
-    turn true true false = refl
-    turn true false true = refl
-    turn true false false = refl
-    turn false true true = refl
-    turn false true false = refl
-    turn false false true = refl
-    turn false false false = refl
+    turn = of_three_bits (λ a b d. a || (b || d)) (λ a b d. d || ((a || b) || false)) refl
 
 pub length-with_lines_of : (flip : Flip) (lines : List ℕ) → IsRising lines
     → length (with_lines_of flip lines) ≡ length lines + cond (has_line (one_line flip.controls) lines) 0 1
