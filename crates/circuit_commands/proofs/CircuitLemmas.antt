@@ -5,12 +5,14 @@ use Rattle.std.specs.Result.{IfOk, IfErr}
 use Rattle.std.proofs.lemmas.List.{length-replicate}
 use Rattle.real_format.proofs.VerdictLemmas as real
 use Rattle.real_format.specs.Faults.{IsRealFault, IsTextFault as IsRealTextFault}
-use Rattle.real_format.specs.Real.{RealView, RealMeaning}
+use Rattle.real_format.specs.Real.{RealView}
+use Rattle.real_format.specs.Real as real_files
 use Rattle.real_format.specs.declared.file.RealFault.{RealFault}
 use Rattle.real_format.specs.declared.file.RealFault.TheVariants as reals
 use Rattle.qasm_format.proofs.OneReadingLemmas as qasm
 use Rattle.qasm_format.specs.Faults.{IsQasmFault, IsTextFault as IsQasmTextFault}
-use Rattle.qasm_format.specs.Qasm.{QasmView, MeansFile}
+use Rattle.qasm_format.specs.Qasm.{QasmView}
+use Rattle.qasm_format.specs.Qasm as qasm_files
 use Rattle.qasm_format.specs.Registers.{lines_of_all}
 use Rattle.qasm_format.specs.declared.file.QasmFault.{QasmFault}
 use Rattle.qasm_format.specs.declared.file.QasmFault.TheVariants as qasms
@@ -234,11 +236,11 @@ run_outcome = record {
 
 -- ---- what the readers answer
 
-pub means_real : (text : List ℕ) (file : RealView) (circuit : ReadCircuit) → length text ≤ MOST_CIRCUIT_BYTES → RealMeaning text file → circuit ≡ of_real file
+pub means_real : (text : List ℕ) (file : RealView) (circuit : ReadCircuit) → length text ≤ MOST_CIRCUIT_BYTES → real_files.MeansFile text file → circuit ≡ of_real file
     → Means Real text circuit
 means_real text file circuit short meaning same = record { short = short; meaning = record { file = file; meaning = meaning; same = same } }
 
-pub means_qasm : (text : List ℕ) (file : QasmView) (circuit : ReadCircuit) → length text ≤ MOST_CIRCUIT_BYTES → MeansFile text file → circuit ≡ of_qasm file
+pub means_qasm : (text : List ℕ) (file : QasmView) (circuit : ReadCircuit) → length text ≤ MOST_CIRCUIT_BYTES → qasm_files.MeansFile text file → circuit ≡ of_qasm file
     → Means Qasm text circuit
 means_qasm text file circuit short meaning same = record { short = short; meaning = record { file = file; meaning = meaning; same = same } }
 

@@ -5,11 +5,13 @@ use Rattle.real_format.specs.declared.file.Mark.{Mark}
 use Rattle.real_format.specs.declared.file.Mark.TheVariants.{Free}
 use Rattle.real_format.specs.declared.file.RealFault.TheVariants as reals
 use Rattle.real_format.specs.Faults as real
-use Rattle.real_format.specs.Real.{RealView, RealMeaning}
+use Rattle.real_format.specs.Real.{RealView}
+use Rattle.real_format.specs.Real as real_files
 use Rattle.qasm_format.specs.declared.file.QasmFault.TheVariants as qasms
 use Rattle.qasm_format.specs.Registers.{lines_of_all}
 use Rattle.qasm_format.specs.Faults as qasm
-use Rattle.qasm_format.specs.Qasm.{QasmView, MeansFile}
+use Rattle.qasm_format.specs.Qasm.{QasmView}
+use Rattle.qasm_format.specs.Qasm as qasm_files
 use Rattle.revc_words.specs.declared.order.Format.{Format}
 use Rattle.revc_words.specs.declared.order.Format.TheVariants.{Real, Qasm}
 use Rattle.command_answers.specs.declared.fault.CircuitRefusal.{CircuitRefusal}
@@ -55,12 +57,12 @@ of_qasm file = unmarked (lines_of_all file.registers) file.gates
 
 pub record MeansReal (text : List ℕ) (circuit : ReadCircuit) : Type 0 where
   pub file : RealView
-  pub meaning : RealMeaning text file
+  pub meaning : real_files.MeansFile text file
   pub same : circuit ≡ of_real file
 
 pub record MeansQasm (text : List ℕ) (circuit : ReadCircuit) : Type 0 where
   pub file : QasmView
-  pub meaning : MeansFile text file
+  pub meaning : qasm_files.MeansFile text file
   pub same : circuit ≡ of_qasm file
 
 -- the text means this circuit by the meaning of the format

@@ -13,7 +13,7 @@ use Rattle.real_format.specs.declared.file.Mark.{Mark}
 use Rattle.real_format.specs.declared.file.Mark.TheVariants.{Free, Zero, One}
 use Rattle.real_format.specs.declared.header.Head.TheVariants.{Version, Lines, Names, Inputs, Outputs, Constants, Garbage}
 use Rattle.real_format.specs.Header.{HeaderView, SaysMarks, constant_byte, garbage_byte, nothing_said}
-use Rattle.real_format.specs.Real.{RealView, RealMeaning, ReadsGate, NamesControl, Place, in_header, in_gates, at_end, LeadTo}
+use Rattle.real_format.specs.Real.{RealView, MeansFile, ReadsGate, NamesControl, Place, in_header, in_gates, at_end, LeadTo}
 use Rattle.format_parts.specs.Readings.{nothing_left, one_more}
 use Rattle.real_format.specs.Real.{says_more, begins_gates, adds_gate, ends_file}
 use Rattle.circuit_plans.specs.Plans.{lines_in}
@@ -208,7 +208,7 @@ header_leads name count marks useless more to some few good marked uselessly lat
 -- the law of every written file: narrow gates on lines with good names, and a mark of each kind for each line
 meaning : (name : ℕ → List ℕ) (count : ℕ) (marks : List Mark) (useless : List Bool) (gates : List GateView) → 1 ≤ count → count ≤ 16384
     → AreGood name count → length marks ≡ count → length useless ≡ count → length gates ≤ 4000000 → AreGatesOn count gates → AreNarrow gates
-    → RealMeaning (file_text name count marks useless gates) (file_of name count marks useless gates)
+    → MeansFile (file_text name count marks useless gates) (file_of name count marks useless gates)
 meaning name count marks useless gates some few good marked uselessly few_gates on narrow =
     let words = words_of_lines (file_lines name count marks useless gates) (AllByRecursion-append (AllByRecursion IsWord)
     (header_lines name count marks useless) _ (header_is_words name count marks useless some few good marked uselessly)

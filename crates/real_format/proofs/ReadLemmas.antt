@@ -3,7 +3,7 @@ use Rattle.std.proofs.Common.{◌≡◌, ℕ, List, Result, Ok, Err, IfOk, IfErr
 use Rattle.real_format.specs.declared.file.RealFault.{RealFault}
 use Rattle.real_format.specs.Words.{said_lines}
 use Rattle.real_format.specs.Header.{nothing_said}
-use Rattle.real_format.specs.Real.{RealView, RealMeaning, in_header, in_gates}
+use Rattle.real_format.specs.Real.{RealView, MeansFile, in_header, in_gates}
 use Rattle.real_format.specs.Faults.{IsRealFault}
 use Rattle.real_format.specs.inside.Lines.{LinesView}
 use Rattle.real_format.specs.inside.Reading.{verdict, IsFaultOf}
@@ -34,6 +34,6 @@ file_refused text lines next begun (Err fault) first header is =
 -- all was read
 pub file_read : (text : List ℕ) (lines next : LinesView) (begun : RealView) (r : Result RealView RealFault) → lines ≡ first_lines text
     → verdict_on (in_header nothing_said) lines ≡ verdict_on (in_gates begun) next → IfOk r (λ file. verdict_on (in_gates begun) next ≡ Ok file)
-    → IfOk r (RealMeaning text)
+    → IfOk r (MeansFile text)
 file_read text lines next begun (Ok file) first header is = means_so text file (first_verdict text lines first ∙ header ∙ is)
 file_read text lines next begun (Err e) first header is = tt

@@ -6,7 +6,7 @@ use Rattle.real_format.specs.declared.refusal.LineRefusal.{LineRefusal}
 use Rattle.real_format.specs.declared.refusal.LineRefusal.TheVariants.{Form, Limit, Memory}
 use Rattle.real_format.specs.Words.{said_lines}
 use Rattle.real_format.specs.Header.{nothing_said}
-use Rattle.real_format.specs.Real.{RealView, RealMeaning, MeaningsAreFiles, Place, in_header, in_gates, at_end, Leads, LeadTo}
+use Rattle.real_format.specs.Real.{RealView, MeansFile, MeaningsAreFiles, Place, in_header, in_gates, at_end, Leads, LeadTo}
 use Rattle.real_format.specs.Faults.{PassesLimit, IsBadLine, HasNoEnd, BreaksForm, BreaksLimit, IsTextFault, IsRealFault}
 use Rattle.format_parts.specs.Readings.{OneReading, SomeReading, nothing_left, one_more}
 use Rattle.real_format.specs.inside.Reading.{after_line, text_fault, verdict, verdict_after, verdict_at_last, IsFaultOf}
@@ -140,7 +140,7 @@ fault_so place k (l ∷ ls) fault fit e = by (after_line place l) refl e (λ nex
 pub sound_at_first : IsSound nothing_said
 sound_at_first = record { some = tt; few = tt; counted = tt; named = tt; different = tt; constants = tt; garbage = tt }
 
-pub means_so : (text : List ℕ) (file : RealView) → verdict (in_header nothing_said) 1 (said_lines text) ≡ Ok file → RealMeaning text file
+pub means_so : (text : List ℕ) (file : RealView) → verdict (in_header nothing_said) 1 (said_lines text) ≡ Ok file → MeansFile text file
 means_so text file e = record { read = lead_so (in_header nothing_said) 1 (said_lines text) file sound_at_first e }
 
 nowhere_from : (place : Place) (line : List (List ℕ)) (r : LineRefusal) → IsFit place → after_line place line ≡ Err r → (next : Place) → ¬ Leads line place next
@@ -199,7 +199,7 @@ faults_so text (faults.Limit number) e = elim (fault_so (in_header nothing_said)
 at_first : (text : List ℕ) → Result RealView RealFault
 at_first text = verdict (in_header nothing_said) 1 (said_lines text)
 
-pub meaning_verdict : (text : List ℕ) (file : RealView) → RealMeaning text file → verdict (in_header nothing_said) 1 (said_lines text) ≡ Ok file
+pub meaning_verdict : (text : List ℕ) (file : RealView) → MeansFile text file → verdict (in_header nothing_said) 1 (said_lines text) ≡ Ok file
 meaning_verdict text file m =
     ap (verdict (in_header nothing_said) 1) (sym (append-nil (said_lines text)))
     ∙ (passed (in_header nothing_said) (at_end file) (said_lines text) [] 1 sound_at_first m.read).0
@@ -249,7 +249,7 @@ fault_verdict text (faults.Line number) (inr n) = none_verdict text number n
 fault_verdict text (faults.Limit number) b = limit_verdict text number b
 fault_verdict text faults.Memory f = absurd f
 
-pub one_reading : OneReading RealMeaning IsTextFault
+pub one_reading : OneReading MeansFile IsTextFault
 one_reading text = record {
   one_meaning = λ file other m n. let same : Ok file ≡ Ok other = sym (meaning_verdict text file m) ∙ meaning_verdict text other n in cc;
   one_fault = λ fault other f g. let same : Err fault ≡ Err other = sym (fault_verdict text fault f) ∙ fault_verdict text other g in cc;
@@ -270,11 +270,11 @@ fault_is text faults.Memory e = elim (fault_so (in_header nothing_said) 1 (said_
   | inr h ↦ absurd (let is : faults.Memory ≡ faults.Line h.0 = h.1 in cc)
 ]
 
-pub some_reading : SomeReading RealMeaning IsTextFault
+pub some_reading : SomeReading MeansFile IsTextFault
 some_reading text = by (verdict (in_header nothing_said) 1 (said_lines text)) refl
   where
     by : (r : Result RealView RealFault) → verdict (in_header nothing_said) 1 (said_lines text) ≡ r
-        → ((file : RealView) × RealMeaning text file) ⊎ ((fault : RealFault) × IsTextFault text fault)
+        → ((file : RealView) × MeansFile text file) ⊎ ((fault : RealFault) × IsTextFault text fault)
     by (Ok file) e = inl (file, means_so text file e)
     by (Err fault) e = inr (fault, fault_is text fault e)
 

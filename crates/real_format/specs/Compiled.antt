@@ -9,7 +9,7 @@ use Rattle.circuit_plans.specs.declared.roles.Role.TheVariants.{Input, Output, W
 use Rattle.circuit_plans.specs.Plans.{lines_in, role_at, number_at}
 use Rattle.mct_circuit.specs.Gates.{GateView}
 use Rattle.format_parts.specs.Compiled.{ForEachCompiled}
-use Rattle.real_format.specs.Real.{RealView, RealMeaning}
+use Rattle.real_format.specs.Real.{RealView, MeansFile}
 use Rattle.real_format.specs.Written.{names_by, file_text}
 
 -- ---- names and marks
@@ -53,7 +53,7 @@ compiled_text roles gates =
 -- the text means a file of these gates, whose lines have these roles
 pub record MeansCompiled (text : List ℕ) (roles : Roles) (gates : List GateView) : Type 0 where
   pub file : RealView
-  pub meaning : RealMeaning text file
+  pub meaning : MeansFile text file
   pub roles_are : HasRoles file roles
   pub gates_are : file.gates ≡ gates
 

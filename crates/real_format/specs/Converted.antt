@@ -4,7 +4,7 @@ use Rattle.std.specs.Fmt.{decimal}
 use Rattle.real_format.specs.declared.file.Mark.{Mark}
 use Rattle.mct_circuit.specs.Gates.{GateView}
 use Rattle.format_parts.specs.Fits.{FitAFile}
-use Rattle.real_format.specs.Real.{RealView, RealMeaning}
+use Rattle.real_format.specs.Real.{RealView, MeansFile}
 use Rattle.real_format.specs.Written.{names_by, file_text}
 
 -- the name of a line: `l`, and its number
@@ -24,7 +24,7 @@ converted_text constants garbage gates =
 pub record MeansConverted (text : List ℕ) (constants : List Mark) (garbage : List Bool)
     (gates : List GateView) : Type 0 where
   pub file : RealView
-  pub meaning : RealMeaning text file
+  pub meaning : MeansFile text file
   pub names_are : file.names ≡ converted_names (length constants)
   pub constants_are : file.constants ≡ constants
   pub garbage_are : file.garbage ≡ garbage

@@ -91,7 +91,7 @@ abbrev pub LeadTo : List (List (List ℕ)) → Place → Place → Type 0
 LeadTo lines from to = readings.LeadTo Leads lines from to
 
 -- a text means this file
-pub record RealMeaning (text : List ℕ) (file : RealView) : Type 0 where
+pub record MeansFile (text : List ℕ) (file : RealView) : Type 0 where
   pub read : LeadTo (said_lines text) (in_header nothing_said) (at_end file)
 
 -- What each file has: different names for its lines, of which there are 1 to 16,384, a mark of each kind for each line,
@@ -107,7 +107,7 @@ pub record IsFile (file : RealView) : Type 0 where
   pub placed : AreGatesOn (length file.names) file.gates
 
 abbrev pub MeaningsAreFiles : Type 0
-MeaningsAreFiles = (text : List ℕ) (file : RealView) → RealMeaning text file → IsFile file
+MeaningsAreFiles = (text : List ℕ) (file : RealView) → MeansFile text file → IsFile file
 
 -- lines that lead from here to the end of a file
 pub record GoesOn (place : Place) : Type 0 where
@@ -124,5 +124,5 @@ FrontsGoOn =
 -- a text means at most one file
 abbrev pub OneMeaning : Type 0
 OneMeaning =
-    (text : List ℕ) (file other : RealView) → RealMeaning text file → RealMeaning text other
+    (text : List ℕ) (file other : RealView) → MeansFile text file → MeansFile text other
     → file ≡ other

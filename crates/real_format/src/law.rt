@@ -2,7 +2,7 @@ ghost use Rattle.format_parts.specs.Readings.{OneReading, SomeReading};
 ghost use Rattle.real_format.specs.Compiled.{CompiledHasMeaning};
 ghost use Rattle.real_format.specs.Converted.{ConvertedHasMeaning};
 ghost use Rattle.real_format.specs.Faults.{IsTextFault};
-ghost use Rattle.real_format.specs.Real.{FrontsGoOn, MeaningsAreFiles, OneMeaning, RealMeaning};
+ghost use Rattle.real_format.specs.Real.{FrontsGoOn, MeaningsAreFiles, OneMeaning, MeansFile};
 
 /// The law of compiled files: the text of a circuit of narrow gates means, by the format's own
 /// meaning, the file with those gates, whose lines have the given roles. The function does nothing:
@@ -27,13 +27,13 @@ pub fn one_meaning()
 /// The law of one reading: a text means at most one file, has at most one fault, and never both.
 /// The function does nothing: its contract is the law.
 pub fn one_reading()
-    ensures { OneReading RealMeaning IsTextFault }
+    ensures { OneReading MeansFile IsTextFault }
 {}
 
 /// The law of some reading: each text means a file or has a fault. The function does nothing: its
 /// contract is the law.
 pub fn some_reading()
-    ensures { SomeReading RealMeaning IsTextFault }
+    ensures { SomeReading MeansFile IsTextFault }
 {}
 
 /// The law of files: what a text means has different names for its lines, a mark of each kind for

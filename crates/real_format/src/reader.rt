@@ -5,7 +5,7 @@ ghost use Rattle.std.specs.List.{AllByRecursion};
 ghost use Rattle.circuit_plans.specs.declared.plan.TheConstants.{MOST_GATES};
 ghost use Rattle.mct_circuit.specs.Gates.{lines_of};
 ghost use Rattle.real_format.specs.Header.{nothing_said};
-ghost use Rattle.real_format.specs.Real.{RealMeaning, in_header, in_gates};
+ghost use Rattle.real_format.specs.Real.{MeansFile, in_header, in_gates};
 ghost use Rattle.real_format.specs.Faults.{IsRealFault};
 ghost use Rattle.real_format.specs.inside.Reading.{Refuses, IsFaultOf, is_nil};
 ghost use Rattle.real_format.specs.inside.Reading.{more_gates, gates_line};
@@ -30,7 +30,7 @@ use std::alloc::Global;
 /// and reversible circuits, ISMVL 2008).
 pub fn read(alloc: Global, bytes: &[u8]) -> Result<RealFile, RealFault>
     requires { length bytes.now + 1 < 2 ^ 32 }
-    ensures ok { IfOk result (λ file. RealMeaning bytes.now file) }
+    ensures ok { IfOk result (λ file. MeansFile bytes.now file) }
     ensures err { IfErr result (IsRealFault bytes.now) }
 {
     let mut lines = Lines::new(bytes);
