@@ -9,7 +9,7 @@ ghost use Rattle.revc_io.specs.Passing.{Writes};
 
 use program_gen::program_text;
 use revc_base::Memory;
-use revc_io::{Buffer, Failed, Sink};
+use revc_io::{Failed, Sink, write_whole};
 use std::alloc::Global;
 
 /// What `gen` gives, its causes and where it serves exclude one another: it has no cause.
@@ -30,7 +30,5 @@ pub fn write<K: Sink>(text: &[u8], out: &mut K) -> Result<(), Failed>
     ensures bytes { Writes result (K.held out.old) (K.held out.new) text.now }
     ensures cause { HasCause (K.faults out.old) (K.faults out.new) result }
 {
-    let mut buffer = Buffer::new();
-    buffer.put(out, text)?;
-    buffer.finish(out)
+    write_whole(text, out)
 }

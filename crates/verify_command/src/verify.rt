@@ -17,7 +17,7 @@ use crate::parting::part;
 use circuit_commands::{MOST_CIRCUIT_BYTES, read_circuit};
 use command_answers::{CircuitRefusal, Fault, Refusal, TextLimit};
 use program_commands::{settle_tape, tape_of_text};
-use revc_io::{Buffer, Failed, Sink};
+use revc_io::{Failed, Sink, write_whole};
 use revc_words::Order;
 use revs_parser::MOST_BYTES;
 use std::alloc::Global;
@@ -92,7 +92,5 @@ pub fn write<K: Sink>(out: &mut K) -> Result<(), Failed>
     ensures bytes { Writes result (K.held out.old) (K.held out.new) verified_text }
     ensures cause { HasCause (K.faults out.old) (K.faults out.new) result }
 {
-    let mut buffer = Buffer::new();
-    buffer.put(out, b"verified\n")?;
-    buffer.finish(out)
+    write_whole(b"verified\n", out)
 }
