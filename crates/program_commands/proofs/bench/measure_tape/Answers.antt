@@ -1,8 +1,13 @@
 use Rattle.program_commands.proofs.BenchLemmas.{benched, memory_stops}
 use Rattle.program_gen.specs.Adder.{adder_text}
 use Rattle.revc_words.specs.Words.{order_of}
-use Rattle.revc_base.proofs.ResultLemmas.{no_value, passes_on}
+use Rattle.revc_base.proofs.ResultLemmas.{passes_on}
 use Rattle.program_commands.proofs.bench.measure_tape.Goals as goal
+
+pub returns-in_err-laid-clause-err : goal.returns-in_err-laid-clause-err
+returns-in_err-laid-clause-err c =
+    passes_on _ c.from_residual.result c.from_residual.ensures.1
+    (c.in_err-laid.ensures.err.of_text (adder_text c.args.order.now.number) c.requires.left)
 
 pub returns-clause-ok : goal.returns-clause-ok
 returns-clause-ok c =
