@@ -5,7 +5,7 @@ use Rattle.program_commands.proofs.TextLemmas.{stops_compile}
 use Rattle.program_gen.specs.Adder.{adder_text}
 use Rattle.revc_words.specs.Words.{order_of}
 use Rattle.revs_parser.specs.declared.limits.TheConstants.{MOST_BYTES}
-use Rattle.revc_base.proofs.ResultLemmas.{no_value, passes_on}
+use Rattle.revc_base.proofs.ResultLemmas.{passes_on}
 use Rattle.program_commands.proofs.bench.measure.Goals as goal
 
 pub returns-in_err-tape-clause-err : goal.returns-in_err-tape-clause-err

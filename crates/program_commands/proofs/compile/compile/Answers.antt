@@ -2,7 +2,6 @@ use Rattle.revc_words.specs.Words.{order_of}
 use Rattle.program_commands.specs.Outcomes.{IsCompileFault}
 use Rattle.program_commands.proofs.PlanLemmas.{compiled, may_be_written}
 use Rattle.program_commands.proofs.TextLemmas.{fault_of_text, stops_compile}
-use Rattle.revc_base.proofs.ResultLemmas.{no_value, passes_on}
 use Rattle.program_commands.proofs.compile.compile.Goals as goal
 
 pub returns-clause-ok : goal.returns-clause-ok

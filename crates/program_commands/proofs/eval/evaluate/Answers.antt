@@ -1,7 +1,6 @@
 use Rattle.program_commands.specs.Eval.{IsValueOf}
 use Rattle.program_commands.specs.Outcomes.{IsEvalFault}
 use Rattle.program_commands.proofs.TextLemmas.{fault_of_text, stops_eval, value_of_text}
-use Rattle.revc_base.proofs.ResultLemmas.{no_value, passes_on}
 use Rattle.program_commands.proofs.eval.evaluate.Goals as goal
 
 pub returns-clause-ok : goal.returns-clause-ok

@@ -2,7 +2,6 @@ use Rattle.revs_terms.specs.Views.{view_of}
 use Rattle.program_commands.specs.Settling.{LeavesTape}
 use Rattle.program_commands.specs.Outcomes.{IsTextFault}
 use Rattle.program_commands.proofs.TextLemmas.{fault_of_program, value_of_program}
-use Rattle.revc_base.proofs.ResultLemmas.{no_value}
 use Rattle.program_commands.proofs.program.tape_of_text.Goals as goal
 
 pub returns-clause-left : goal.returns-clause-left

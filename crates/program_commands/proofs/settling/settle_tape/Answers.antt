@@ -1,5 +1,4 @@
 use Rattle.program_commands.proofs.SettlingLemmas.{memory_stops}
-use Rattle.revc_base.proofs.ResultLemmas.{no_value, passes_on}
 use Rattle.program_commands.proofs.settling.settle_tape.Goals as goal
 
 pub returns-in-Ok-clause-ok : goal.returns-in-Ok-clause-ok
