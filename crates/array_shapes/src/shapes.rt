@@ -1,10 +1,12 @@
 // Registers as lists of locations.
 ghost use Rattle.std.specs.Prelude.{◌≡◌, ◌+◌, ◌-◌, ◌<◌, ◌≤◌, ◌++◌, ◌↔◌, length, take, drop};
 ghost use Rattle.std.specs.Prelude.{slice_get, IfOk, IsErrOf};
+ghost use Rattle.array_shapes.specs.declared.shapes.ShapeFault.TheVariants as faults;
 ghost use Rattle.revs_terms.specs.declared.limits.TheConstants.{MOST_PLACES};
 
+use revc_base::WantOfMemory;
 use revs_terms::limits::MOST_PLACES;
-use std::alloc::{AllocError, Global};
+use std::alloc::Global;
 
 /// Why a call makes no register.
 #[derive(Clone, Copy, Debug, PartialEq, Eq)]
@@ -19,13 +21,10 @@ pub enum ShapeFault {
     Memory,
 }
 
-impl From<AllocError> for ShapeFault {
-    ghost use Rattle.std.specs.Prelude.{◌≡◌};
-    ghost use Rattle.array_shapes.specs.declared.shapes.ShapeFault.TheVariants.{Memory};
+impl<M: WantOfMemory> From<M> for ShapeFault {
+    ghost from_gives = { λ _ e. e ≡ faults.Memory };
 
-    ghost from_gives = { λ _ fault. fault ≡ Memory };
-
-    fn from(_: AllocError) -> ShapeFault {
+    fn from(_: M) -> ShapeFault {
         ShapeFault::Memory
     }
 }

@@ -2,7 +2,7 @@
 ghost use Rattle.std.specs.Prelude.{◌≡◌, ◌+◌, ◌≤◌};
 ghost use Rattle.circuit_plans.specs.declared.plan.TheConstants.{MOST_LINES, MOST_GATES};
 ghost use Rattle.circuit_plans.specs.declared.plan.TheConstants.{MOST_BORROWED};
-ghost use Rattle.circuit_plans.specs.declared.plan.PlanFault.TheVariants.{Memory};
+ghost use Rattle.circuit_plans.specs.declared.plan.PlanFault.TheVariants as faults;
 ghost use Rattle.circuit_plans.specs.Plans.{roles_of};
 ghost use Rattle.circuit_plans.specs.Limits.{LimitsAre};
 ghost use Rattle.mct_circuit.specs.Gates.{AreNarrow};
@@ -10,7 +10,7 @@ ghost use Rattle.mct_circuit.specs.Gates.{AreNarrow};
 use crate::narrow::Narrow;
 use crate::roles::Roles;
 use mct_circuit::Circuit;
-use std::alloc::{AllocError, AllocFailed};
+use revc_base::WantOfMemory;
 use std::marker::Model;
 
 /// The most lines of a circuit.
@@ -239,26 +239,10 @@ pub enum PlanFault {
     Memory,
 }
 
-impl From<revc_base::Memory> for PlanFault {
-    ghost from_gives = { λ _ e. e ≡ Memory };
+impl<M: WantOfMemory> From<M> for PlanFault {
+    ghost from_gives = { λ _ e. e ≡ faults.Memory };
 
-    fn from(_: revc_base::Memory) -> PlanFault {
-        PlanFault::Memory
-    }
-}
-
-impl From<AllocError> for PlanFault {
-    ghost from_gives = { λ _ e. e ≡ Memory };
-
-    fn from(_: AllocError) -> PlanFault {
-        PlanFault::Memory
-    }
-}
-
-impl<T: Drop> From<AllocFailed<T>> for PlanFault {
-    ghost from_gives = { λ _ e. e ≡ Memory };
-
-    fn from(_: AllocFailed<T>) -> PlanFault {
+    fn from(_: M) -> PlanFault {
         PlanFault::Memory
     }
 }

@@ -1,5 +1,6 @@
 // Why a circuit is not verified.
 ghost use Rattle.std.specs.Prelude.{◌≡◌};
+ghost use Rattle.circuit_verify.specs.declared.fault.VerifyFault.TheVariants as faults;
 
 use decision_diagram::DdFault;
 use revc_base::{Bits, Memory};
@@ -25,10 +26,7 @@ pub enum VerifyFault {
 }
 
 impl From<Memory> for VerifyFault {
-    ghost use Rattle.std.specs.Prelude.{◌≡◌};
-    ghost use Rattle.circuit_verify.specs.declared.fault.VerifyFault.TheVariants.{Memory};
-
-    ghost from_gives = { λ _ fault. fault ≡ Memory };
+    ghost from_gives = { λ _ e. e ≡ faults.Memory };
 
     fn from(_: Memory) -> VerifyFault {
         VerifyFault::Memory
@@ -36,7 +34,6 @@ impl From<Memory> for VerifyFault {
 }
 
 impl From<DdFault> for VerifyFault {
-    ghost use Rattle.std.specs.Prelude.{◌≡◌};
     ghost use Rattle.circuit_verify.specs.Verdicts.{verify_fault};
 
     ghost from_gives = { λ dd fault. fault ≡ verify_fault dd };
@@ -50,10 +47,7 @@ impl From<DdFault> for VerifyFault {
 }
 
 impl From<AllocError> for VerifyFault {
-    ghost use Rattle.std.specs.Prelude.{◌≡◌};
-    ghost use Rattle.circuit_verify.specs.declared.fault.VerifyFault.TheVariants.{Memory};
-
-    ghost from_gives = { λ _ fault. fault ≡ Memory };
+    ghost from_gives = { λ _ e. e ≡ faults.Memory };
 
     fn from(_: AllocError) -> VerifyFault {
         VerifyFault::Memory
@@ -61,10 +55,7 @@ impl From<AllocError> for VerifyFault {
 }
 
 impl<T: Drop> From<AllocFailed<T>> for VerifyFault {
-    ghost use Rattle.std.specs.Prelude.{◌≡◌};
-    ghost use Rattle.circuit_verify.specs.declared.fault.VerifyFault.TheVariants.{Memory};
-
-    ghost from_gives = { λ _ fault. fault ≡ Memory };
+    ghost from_gives = { λ _ e. e ≡ faults.Memory };
 
     fn from(_: AllocFailed<T>) -> VerifyFault {
         VerifyFault::Memory

@@ -1,7 +1,8 @@
 // Why claims are not settled.
 ghost use Rattle.std.specs.Prelude.{◌≡◌};
+ghost use Rattle.claim_check.specs.declared.fault.ClaimFault.TheVariants as faults;
 
-use revc_base::{Bits, Memory};
+use revc_base::{Bits, WantOfMemory};
 
 /// Why the claims of a tape are not settled. Claims are counted from 0.
 #[derive(Debug, Drop)]
@@ -16,13 +17,10 @@ pub enum ClaimFault {
     Memory,
 }
 
-impl From<Memory> for ClaimFault {
-    ghost use Rattle.std.specs.Prelude.{◌≡◌};
-    ghost use Rattle.claim_check.specs.declared.fault.ClaimFault.TheVariants.{Memory};
+impl<M: WantOfMemory> From<M> for ClaimFault {
+    ghost from_gives = { λ _ e. e ≡ faults.Memory };
 
-    ghost from_gives = { λ _ fault. fault ≡ Memory };
-
-    fn from(_: Memory) -> ClaimFault {
+    fn from(_: M) -> ClaimFault {
         ClaimFault::Memory
     }
 }

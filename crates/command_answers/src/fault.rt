@@ -1,7 +1,8 @@
 ghost use Rattle.std.specs.Prelude.{◌≡◌};
+ghost use Rattle.command_answers.specs.declared.fault.Fault.TheVariants as faults;
 ghost use Rattle.command_answers.specs.Faults.{kind_text, status_of};
 
-use revc_base::{Bits, Place};
+use revc_base::{Bits, Place, WantOfMemory};
 use revs_terms::Cause;
 use thiserror::Error;
 
@@ -140,13 +141,10 @@ impl FaultKind {
     }
 }
 
-impl From<revc_base::Memory> for Fault {
-    ghost use Rattle.std.specs.Prelude.{◌≡◌};
-    ghost use Rattle.command_answers.specs.declared.fault.Fault.TheVariants as faults;
-
+impl<M: WantOfMemory> From<M> for Fault {
     ghost from_gives = { λ _ e. e ≡ faults.Memory };
 
-    fn from(_: revc_base::Memory) -> Fault {
+    fn from(_: M) -> Fault {
         Fault::Memory
     }
 }

@@ -1,8 +1,9 @@
 // Numbers of functions, inner nodes and refusals.
 ghost use Rattle.std.specs.Prelude.{◌≡◌, ◌≤◌, ◌↔◌, IsTrue};
+ghost use Rattle.decision_diagram.specs.declared.node.DdFault.TheVariants as faults;
 ghost use Rattle.decision_diagram.specs.Diagrams.{side};
 
-use std::alloc::AllocFailed;
+use revc_base::WantOfMemory;
 use std::marker::Model;
 
 /// The number of a function in the diagram that gave it. Contracts see the number itself: 0 and 1
@@ -41,13 +42,10 @@ pub enum DdFault {
     Memory,
 }
 
-impl<T: Drop> From<AllocFailed<T>> for DdFault {
-    ghost use Rattle.std.specs.Prelude.{◌≡◌};
-    ghost use Rattle.decision_diagram.specs.declared.node.DdFault.TheVariants.{Memory};
+impl<M: WantOfMemory> From<M> for DdFault {
+    ghost from_gives = { λ _ e. e ≡ faults.Memory };
 
-    ghost from_gives = { λ _ fault. fault ≡ Memory };
-
-    fn from(_: AllocFailed<T>) -> DdFault {
+    fn from(_: M) -> DdFault {
         DdFault::Memory
     }
 }

@@ -1,6 +1,8 @@
 // Why a circuit was not split.
 ghost use Rattle.std.specs.Prelude.{◌≡◌};
-ghost use Rattle.gate_split.specs.declared.fault.SplitFault.TheVariants.{Memory};
+ghost use Rattle.gate_split.specs.declared.fault.SplitFault.TheVariants as faults;
+
+use revc_base::WantOfMemory;
 
 /// Why a circuit was not split: a wide gate uses every line, there are more gates than the limit
 /// allows, or memory was refused.
@@ -13,10 +15,10 @@ pub enum SplitFault {
     Memory,
 }
 
-impl From<revc_base::Memory> for SplitFault {
-    ghost from_gives = { λ _ e. e ≡ Memory };
+impl<M: WantOfMemory> From<M> for SplitFault {
+    ghost from_gives = { λ _ e. e ≡ faults.Memory };
 
-    fn from(_: revc_base::Memory) -> SplitFault {
+    fn from(_: M) -> SplitFault {
         SplitFault::Memory
     }
 }

@@ -3,14 +3,15 @@ ghost use Rattle.std.specs.Prelude.{◌≡◌, ◌+◌, ◌<◌, ◌≤◌, ◌�
 ghost use Rattle.std.specs.Prelude.{slice_get, Some, OnOk, OnErr, IfOk, IsErrOf, IsTrue, false};
 ghost use Rattle.std.specs.Prelude.{◌==◌};
 ghost use Rattle.std.specs.List.{AllByRecursion};
-ghost use Rattle.mct_circuit.specs.declared.circuit.GateFault.TheVariants.{Memory};
+ghost use Rattle.mct_circuit.specs.declared.circuit.GateFault.TheVariants as faults;
 ghost use Rattle.mct_circuit.specs.Sizes.{depth_of};
 ghost use Rattle.mct_circuit.specs.Gates.{AreGatesOn, AreNarrow, lines_of, flip_of, line_map};
 ghost use Rattle.list_facts.specs.Lists.{AreDifferent};
 
 use crate::Gate;
 use crate::depth::{greatest_on, set_all};
-use std::alloc::{AllocError, AllocFailed, Global};
+use revc_base::{Memory, WantOfMemory};
+use std::alloc::Global;
 use std::marker::Model;
 use std::mem;
 
@@ -21,26 +22,10 @@ pub enum GateFault {
     Memory,
 }
 
-impl From<revc_base::Memory> for GateFault {
-    ghost from_gives = { λ _ e. e ≡ Memory };
+impl<M: WantOfMemory> From<M> for GateFault {
+    ghost from_gives = { λ _ e. e ≡ faults.Memory };
 
-    fn from(_: revc_base::Memory) -> GateFault {
-        GateFault::Memory
-    }
-}
-
-impl From<AllocError> for GateFault {
-    ghost from_gives = { λ _ e. e ≡ Memory };
-
-    fn from(_: AllocError) -> GateFault {
-        GateFault::Memory
-    }
-}
-
-impl<T: Drop> From<AllocFailed<T>> for GateFault {
-    ghost from_gives = { λ _ e. e ≡ Memory };
-
-    fn from(_: AllocFailed<T>) -> GateFault {
+    fn from(_: M) -> GateFault {
         GateFault::Memory
     }
 }
@@ -170,7 +155,7 @@ impl Circuit {
     /// The depth: a gate's depth is one more than the greatest depth of an earlier gate that shares
     /// a line with it, and the circuit's is the greatest of them, or 0. It takes time and memory
     /// linear in the gates and lines.
-    pub fn depth(&self) -> Result<u64, revc_base::Memory>
+    pub fn depth(&self) -> Result<u64, Memory>
         ensures { IfOk result (λ depth. depth ≡ depth_of self.now.gates) }
     {
         // For each line the greatest depth of a gate on it so far.

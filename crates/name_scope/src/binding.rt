@@ -1,5 +1,6 @@
 // The scope rule over a whole program.
 ghost use Rattle.std.specs.Prelude.{◌≡◌, []};
+ghost use Rattle.name_scope.specs.declared.binding.ScopeFault.TheVariants as faults;
 ghost use Rattle.revs_terms.specs.Programs.{HasFewNames};
 ghost use Rattle.revs_terms.specs.Scopes.{scope_verdict, BindsToNearest, UnboundHasNone};
 ghost use Rattle.revs_terms.specs.Trees.{tree_of};
@@ -9,7 +10,7 @@ ghost use Rattle.name_scope.specs.inside.Verdicts.{Settles};
 use crate::Scoped;
 use crate::names::Names;
 use crate::terms::{bind_params, bind_term};
-use revc_base::{Memory, Place};
+use revc_base::{Place, WantOfMemory};
 use revs_terms::{Param, Program, Term};
 use std::alloc::Global;
 
@@ -24,13 +25,10 @@ pub enum ScopeFault {
     Memory,
 }
 
-impl From<Memory> for ScopeFault {
-    ghost use Rattle.std.specs.Prelude.{◌≡◌};
-    ghost use Rattle.name_scope.specs.declared.binding.ScopeFault.TheVariants.{Memory};
+impl<M: WantOfMemory> From<M> for ScopeFault {
+    ghost from_gives = { λ _ e. e ≡ faults.Memory };
 
-    ghost from_gives = { λ _ fault. fault ≡ Memory };
-
-    fn from(_: Memory) -> ScopeFault {
+    fn from(_: M) -> ScopeFault {
         ScopeFault::Memory
     }
 }

@@ -1,11 +1,11 @@
 // A file as it was read, and why a text means none.
 ghost use Rattle.std.specs.Prelude.{◌≡◌};
+ghost use Rattle.qasm_format.specs.declared.file.QasmFault.TheVariants as faults;
 ghost use Rattle.circuit_plans.specs.declared.plan.TheConstants.{MOST_GATES};
 ghost use Rattle.qasm_format.specs.Registers.{lines_of_all};
 
 use mct_circuit::Circuit;
-use revc_base::{Memory, Place, Text};
-use std::alloc::{AllocError, AllocFailed};
+use revc_base::{Place, Text, WantOfMemory};
 use std::marker::Model;
 
 /// A register: its name and its number of lines.
@@ -83,35 +83,10 @@ pub enum QasmFault {
     Memory,
 }
 
-impl From<Memory> for QasmFault {
-    ghost use Rattle.std.specs.Prelude.{◌≡◌};
-    ghost use Rattle.qasm_format.specs.declared.file.QasmFault.TheVariants.{Memory};
+impl<M: WantOfMemory> From<M> for QasmFault {
+    ghost from_gives = { λ _ e. e ≡ faults.Memory };
 
-    ghost from_gives = { λ _ e. e ≡ Memory };
-
-    fn from(_: Memory) -> QasmFault {
-        QasmFault::Memory
-    }
-}
-
-impl From<AllocError> for QasmFault {
-    ghost use Rattle.std.specs.Prelude.{◌≡◌};
-    ghost use Rattle.qasm_format.specs.declared.file.QasmFault.TheVariants.{Memory};
-
-    ghost from_gives = { λ _ e. e ≡ Memory };
-
-    fn from(_: AllocError) -> QasmFault {
-        QasmFault::Memory
-    }
-}
-
-impl<T: Drop> From<AllocFailed<T>> for QasmFault {
-    ghost use Rattle.std.specs.Prelude.{◌≡◌};
-    ghost use Rattle.qasm_format.specs.declared.file.QasmFault.TheVariants.{Memory};
-
-    ghost from_gives = { λ _ e. e ≡ Memory };
-
-    fn from(_: AllocFailed<T>) -> QasmFault {
+    fn from(_: M) -> QasmFault {
         QasmFault::Memory
     }
 }

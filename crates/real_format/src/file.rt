@@ -1,11 +1,10 @@
 // A file as it was read, and why a text means none.
 ghost use Rattle.std.specs.Prelude.{◌≡◌, length};
 ghost use Rattle.circuit_plans.specs.declared.plan.TheConstants.{MOST_GATES};
-ghost use Rattle.real_format.specs.declared.file.RealFault.TheVariants.{Memory};
+ghost use Rattle.real_format.specs.declared.file.RealFault.TheVariants as faults;
 
 use mct_circuit::Circuit;
-use revc_base::Text;
-use std::alloc::AllocError;
+use revc_base::{Text, WantOfMemory};
 use std::marker::Model;
 
 /// What a `.real` file says of the bit with which a line starts: nothing (`-`), 0 or 1.
@@ -26,18 +25,10 @@ pub enum RealFault {
     Memory,
 }
 
-impl From<AllocError> for RealFault {
-    ghost from_gives = { λ _ e. e ≡ Memory };
+impl<M: WantOfMemory> From<M> for RealFault {
+    ghost from_gives = { λ _ e. e ≡ faults.Memory };
 
-    fn from(_: AllocError) -> RealFault {
-        RealFault::Memory
-    }
-}
-
-impl From<revc_base::Memory> for RealFault {
-    ghost from_gives = { λ _ e. e ≡ Memory };
-
-    fn from(_: revc_base::Memory) -> RealFault {
+    fn from(_: M) -> RealFault {
         RealFault::Memory
     }
 }

@@ -1,10 +1,10 @@
 // Why a line is refused.
 ghost use Rattle.std.specs.Prelude.{◌≡◌};
-ghost use Rattle.real_format.specs.declared.refusal.LineRefusal.TheVariants.{Memory};
+ghost use Rattle.real_format.specs.declared.refusal.LineRefusal.TheVariants as faults;
 ghost use Rattle.real_format.specs.inside.Reading.{fault_at};
 
 use crate::file::RealFault;
-use std::alloc::{AllocError, AllocFailed};
+use revc_base::WantOfMemory;
 
 // The first word of the line that breaks a rule breaks one of form, or passes a limit; or memory
 // was refused.
@@ -28,26 +28,10 @@ impl LineRefusal {
     }
 }
 
-impl From<revc_base::Memory> for LineRefusal {
-    ghost from_gives = { λ _ e. e ≡ Memory };
+impl<M: WantOfMemory> From<M> for LineRefusal {
+    ghost from_gives = { λ _ e. e ≡ faults.Memory };
 
-    fn from(_: revc_base::Memory) -> LineRefusal {
-        LineRefusal::Memory
-    }
-}
-
-impl From<AllocError> for LineRefusal {
-    ghost from_gives = { λ _ e. e ≡ Memory };
-
-    fn from(_: AllocError) -> LineRefusal {
-        LineRefusal::Memory
-    }
-}
-
-impl<T: Drop> From<AllocFailed<T>> for LineRefusal {
-    ghost from_gives = { λ _ e. e ≡ Memory };
-
-    fn from(_: AllocFailed<T>) -> LineRefusal {
+    fn from(_: M) -> LineRefusal {
         LineRefusal::Memory
     }
 }

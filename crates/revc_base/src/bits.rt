@@ -2,9 +2,10 @@
 ghost use Rattle.std.specs.List.{AllByRecursion};
 ghost use Rattle.std.specs.Prelude.{◌≡◌, ◌↔◌, ◌==◌, ◌<◌, ◌^◌, length, map, IfOk, IfSome, IfNone};
 ghost use Rattle.std.specs.Prelude.{IsErrOf, IsTrue};
+ghost use Rattle.revc_base.specs.declared.bits.BitsFault.TheVariants as faults;
 ghost use Rattle.revc_base.specs.Bits.{IsDigit, IsWordOf, IsFirstOther};
 
-use crate::Memory;
+use crate::{Memory, WantOfMemory};
 use std::alloc::Global;
 use std::marker::Model;
 
@@ -31,13 +32,10 @@ pub enum BitsFault {
     Memory,
 }
 
-impl From<Memory> for BitsFault {
-    ghost use Rattle.std.specs.Prelude.{◌≡◌};
-    ghost use Rattle.revc_base.specs.declared.bits.BitsFault.TheVariants as faults;
-
+impl<M: WantOfMemory> From<M> for BitsFault {
     ghost from_gives = { λ _ e. e ≡ faults.Memory };
 
-    fn from(_: Memory) -> BitsFault {
+    fn from(_: M) -> BitsFault {
         BitsFault::Memory
     }
 }

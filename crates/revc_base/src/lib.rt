@@ -11,6 +11,6 @@ mod text;
 
 pub use bits::{Bits, BitsFault};
 pub use key::Key;
-pub use memory::Memory;
+pub use memory::{Memory, WantOfMemory};
 pub use place::Place;
 pub use text::Text;

@@ -15,3 +15,13 @@ impl<T: Drop> From<AllocFailed<T>> for Memory {
         Memory
     }
 }
+
+/// What says that memory is wanting, and no more. A fault that can be want of memory is made of
+/// each of these.
+pub trait WantOfMemory: Drop {}
+
+impl WantOfMemory for Memory {}
+
+impl WantOfMemory for AllocError {}
+
+impl<T: Drop> WantOfMemory for AllocFailed<T> {}

@@ -3,7 +3,8 @@ ghost use Rattle.revc_io.specs.Reading.{CountsFault, ReadsAll, StopsAt};
 ghost use Rattle.revc_io.specs.declared.reading.ReadFault.TheVariants as faults;
 
 use crate::{Failed, Source};
-use std::alloc::{AllocError, Global};
+use revc_base::WantOfMemory;
+use std::alloc::Global;
 
 /// Why a whole text was not read: the source failed, the text is longer than the limit, or memory
 /// was refused.
@@ -22,10 +23,10 @@ impl From<Failed> for ReadFault {
     }
 }
 
-impl From<AllocError> for ReadFault {
+impl<M: WantOfMemory> From<M> for ReadFault {
     ghost from_gives = { λ _ e. e ≡ faults.Memory };
 
-    fn from(_: AllocError) -> ReadFault {
+    fn from(_: M) -> ReadFault {
         ReadFault::Memory
     }
 }

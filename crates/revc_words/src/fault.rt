@@ -1,4 +1,8 @@
 // Why words are no order.
+
+ghost use Rattle.std.specs.Prelude.{◌≡◌};
+ghost use Rattle.revc_words.specs.declared.fault.WordsFault.TheVariants as faults;
+
 use clap::error::ErrorKind;
 use revc_base::Memory;
 
@@ -12,9 +16,6 @@ pub enum WordsFault {
 }
 
 impl From<Memory> for WordsFault {
-    ghost use Rattle.std.specs.Prelude.{◌≡◌};
-    ghost use Rattle.revc_words.specs.declared.fault.WordsFault.TheVariants as faults;
-
     ghost from_gives = { λ _ e. e ≡ faults.Memory };
 
     fn from(_: Memory) -> WordsFault {
@@ -23,10 +24,9 @@ impl From<Memory> for WordsFault {
 }
 
 impl From<clap::Error> for WordsFault {
-    ghost use Rattle.std.specs.Prelude.{◌≡◌, ◌≢◌};
+    ghost use Rattle.std.specs.Prelude.{◌≢◌};
     ghost use Rattle.clap.specs.Words.{kind_of};
     ghost use Rattle.clap.specs.declared.error.kind.ErrorKind.TheVariants as kinds;
-    ghost use Rattle.revc_words.specs.declared.fault.WordsFault.TheVariants as faults;
 
     ghost from_gives = { λ error e. e ≡ faults.Usage → kind_of error ≢ kinds.OutOfMemory };
 

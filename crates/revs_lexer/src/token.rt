@@ -1,6 +1,8 @@
+ghost use Rattle.std.specs.Prelude.{◌≡◌};
+ghost use Rattle.revs_lexer.specs.declared.token.LexFault.TheVariants as faults;
+
 use crate::{Sign, Word};
-use revc_base::{Memory, Place, Text};
-use std::alloc::AllocFailed;
+use revc_base::{Place, Text, WantOfMemory};
 
 /// What a token is.
 #[derive(Drop)]
@@ -35,24 +37,10 @@ pub enum LexFault {
     Memory,
 }
 
-impl From<Memory> for LexFault {
-    ghost use Rattle.std.specs.Prelude.{◌≡◌};
-    ghost use Rattle.revs_lexer.specs.declared.token.LexFault.TheVariants as faults;
-
+impl<M: WantOfMemory> From<M> for LexFault {
     ghost from_gives = { λ _ e. e ≡ faults.Memory };
 
-    fn from(_: Memory) -> LexFault {
-        LexFault::Memory
-    }
-}
-
-impl<T: Drop> From<AllocFailed<T>> for LexFault {
-    ghost use Rattle.std.specs.Prelude.{◌≡◌};
-    ghost use Rattle.revs_lexer.specs.declared.token.LexFault.TheVariants as faults;
-
-    ghost from_gives = { λ _ e. e ≡ faults.Memory };
-
-    fn from(_: AllocFailed<T>) -> LexFault {
+    fn from(_: M) -> LexFault {
         LexFault::Memory
     }
 }

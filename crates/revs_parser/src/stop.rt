@@ -1,10 +1,10 @@
 // Why the reading stops.
 
 ghost use Rattle.std.specs.Prelude.{◌≡◌, Ok, Err, MatchResult};
+ghost use Rattle.revs_parser.specs.declared.stop.Stop.TheVariants as faults;
 ghost use Rattle.revs_parser.specs.inside.Reading.{Puts, Lacks};
 
-use revc_base::Memory;
-use std::alloc::{AllocError, AllocFailed};
+use revc_base::WantOfMemory;
 
 // Why the reading stops, with the number of tokens that are left then; the refused token is the
 // first of them.
@@ -15,35 +15,10 @@ pub enum Stop {
     Memory,
 }
 
-impl From<Memory> for Stop {
-    ghost use Rattle.std.specs.Prelude.{◌≡◌};
-    ghost use Rattle.revs_parser.specs.declared.stop.Stop.TheVariants as stops;
+impl<M: WantOfMemory> From<M> for Stop {
+    ghost from_gives = { λ _ e. e ≡ faults.Memory };
 
-    ghost from_gives = { λ _ e. e ≡ stops.Memory };
-
-    fn from(_: Memory) -> Stop {
-        Stop::Memory
-    }
-}
-
-impl From<AllocError> for Stop {
-    ghost use Rattle.std.specs.Prelude.{◌≡◌};
-    ghost use Rattle.revs_parser.specs.declared.stop.Stop.TheVariants as stops;
-
-    ghost from_gives = { λ _ e. e ≡ stops.Memory };
-
-    fn from(_: AllocError) -> Stop {
-        Stop::Memory
-    }
-}
-
-impl<T: Drop> From<AllocFailed<T>> for Stop {
-    ghost use Rattle.std.specs.Prelude.{◌≡◌};
-    ghost use Rattle.revs_parser.specs.declared.stop.Stop.TheVariants as stops;
-
-    ghost from_gives = { λ _ e. e ≡ stops.Memory };
-
-    fn from(_: AllocFailed<T>) -> Stop {
+    fn from(_: M) -> Stop {
         Stop::Memory
     }
 }
