@@ -15,8 +15,6 @@ pub struct Factor {
 }
 
 impl Model for Factor {
-    ghost use Rattle.bit_sums.specs.Growing.{FactorView, IsShort};
-
     ghost Value = { FactorView };
 
     ghost view = { λ f. record { bits = f.bits.items; one = f.one } };

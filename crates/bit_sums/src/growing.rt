@@ -6,7 +6,7 @@ ghost use Rattle.std.specs.List.Sorted.{IsPermutation};
 ghost use Rattle.std.specs.Option.{option_to_list};
 ghost use Rattle.bit_sums.specs.Growing.{IsFinished, IsPut, IsShort, IsSumOf, IsTimes};
 ghost use Rattle.bit_sums.specs.Growing.{sum_of_factor};
-ghost use Rattle.bit_sums.specs.Sums.{ProductView};
+ghost use Rattle.bit_sums.specs.Sums.{ProductView, SumView};
 ghost use Rattle.bit_sums.specs.inside.Putting.{ArePut, IsJoinAt, IsPutOnce, WithBits};
 
 use crate::bits::{apart, rising};
@@ -31,8 +31,6 @@ pub struct GrowingSum {
 }
 
 impl Model for GrowingSum {
-    ghost use Rattle.bit_sums.specs.Sums.{SumView};
-
     ghost Value = { SumView };
 
     ghost view = { λ s. record { bits = s.bits.items; products = s.products.keys; one = s.one } };

@@ -5,6 +5,7 @@ ghost use Rattle.bit_sums.specs.Bits.{AreRising, HasOwn, apart};
 ghost use Rattle.bit_sums.specs.Products.{IsFactor, IsJoinOf, IsProduct, IsProductOf};
 ghost use Rattle.bit_sums.specs.inside.Steps.{AreApart, HasFactors, IsCrossed, IsFactored};
 ghost use Rattle.bit_sums.specs.inside.Steps.{IsWithin, JoinsFactors};
+ghost use Rattle.bit_sums.specs.Sums.{ProductView};
 
 use crate::MOST_FACTOR_BITS;
 use crate::bits::apart;
@@ -22,9 +23,6 @@ pub struct Product {
 }
 
 impl Model for Product {
-    ghost use Rattle.bit_sums.specs.Sums.{ProductView};
-    ghost use Rattle.bit_sums.specs.Products.{IsProduct};
-
     ghost Value = { ProductView };
 
     ghost view = { λ p. record { first = p.first; second = p.second } };

@@ -2,6 +2,7 @@
 ghost use Rattle.std.specs.Prelude.{◌≡◌, IfOk, false};
 ghost use Rattle.bit_sums.specs.Bits.{AreRising};
 ghost use Rattle.bit_sums.specs.Growing.{IsFactorOrLong};
+ghost use Rattle.bit_sums.specs.Sums.{SumView};
 
 use crate::{Factor, MOST_FACTOR_BITS, Product};
 use dependency_graph::Base;
@@ -17,8 +18,6 @@ pub struct Sum {
 }
 
 impl Model for Sum {
-    ghost use Rattle.bit_sums.specs.Sums.{SumView};
-
     ghost Value = { SumView };
 
     ghost view = { λ s. record { bits = s.bits; products = s.products; one = s.one } };

@@ -1,10 +1,10 @@
 // What products and sums are made of.
+ghost use Rattle.bit_sums.specs.Sums.{product_bases, bases_of};
+
 use crate::{Product, Sum};
 use dependency_graph::{MadeOfBases, set_all_uses};
 
 impl MadeOfBases for Product {
-    ghost use Rattle.bit_sums.specs.Sums.{product_bases};
-
     ghost bases = { product_bases };
 
     fn set_uses(&self, table: &mut [u32], place: u32) {
@@ -14,8 +14,6 @@ impl MadeOfBases for Product {
 }
 
 impl MadeOfBases for Sum {
-    ghost use Rattle.bit_sums.specs.Sums.{bases_of};
-
     ghost bases = { bases_of };
 
     fn set_uses(&self, table: &mut [u32], place: u32) {

@@ -1,7 +1,7 @@
 // From a text to the circuit that it means.
 ghost use Rattle.std.specs.Prelude.{◌≡◌, ◌≤◌, length, IfOk, IfErr};
 ghost use Rattle.circuit_commands.specs.declared.limits.TheConstants.{MOST_CIRCUIT_BYTES};
-ghost use Rattle.circuit_commands.specs.Circuits.{Means, line_count, of_qasm, of_real};
+ghost use Rattle.circuit_commands.specs.Circuits.{Means, line_count, of_qasm, of_real, ReadCircuit};
 ghost use Rattle.circuit_commands.specs.inside.Mappings.{qasm_fault, real_fault};
 ghost use Rattle.circuit_commands.specs.Outcomes.{IsCircuitFault};
 ghost use Rattle.command_answers.specs.declared.fault.Fault.TheVariants.{Memory};
@@ -26,9 +26,6 @@ pub struct MarkedCircuit {
 }
 
 impl Model for MarkedCircuit {
-    ghost use Rattle.std.specs.Prelude.{◌≡◌, length};
-    ghost use Rattle.circuit_commands.specs.Circuits.{ReadCircuit};
-
     ghost Value = { ReadCircuit };
 
     ghost view = { λ c. record {

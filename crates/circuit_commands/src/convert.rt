@@ -7,8 +7,8 @@ ghost use Rattle.command_answers.specs.Outcomes.{HasOneOutcome};
 ghost use Rattle.circuit_commands.specs.declared.limits.TheConstants.{MOST_CIRCUIT_BYTES};
 ghost use Rattle.circuit_commands.specs.Circuits.{line_count};
 ghost use Rattle.circuit_commands.specs.Convert.{WantsLine, converted, promise};
-ghost use Rattle.circuit_commands.specs.Convert.{file_text};
-ghost use Rattle.circuit_commands.specs.Outcomes.{IsConversion, IsConvertFault};
+ghost use Rattle.circuit_commands.specs.Convert.{file_text, added_lines};
+ghost use Rattle.circuit_commands.specs.Outcomes.{IsConversion, IsConvertFault, ConvertedView};
 ghost use Rattle.circuit_commands.specs.inside.Splitting.{HasLines, IsMarked, IsNarrowOf};
 ghost use Rattle.circuit_commands.specs.inside.Splitting.{IsOnLinesOf, IsSplitFault, IsSplitOf};
 ghost use Rattle.circuit_commands.specs.inside.Splitting.{IsWritable};
@@ -35,11 +35,6 @@ pub struct Converted {
 }
 
 impl Model for Converted {
-    ghost use Rattle.std.specs.Prelude.{◌≡◌, ◌<◌, ◌≤◌, length};
-    ghost use Rattle.circuit_plans.specs.declared.plan.TheConstants.{MOST_GATES, MOST_LINES};
-    ghost use Rattle.circuit_commands.specs.Convert.{added_lines};
-    ghost use Rattle.circuit_commands.specs.Outcomes.{ConvertedView};
-
     ghost Value = { ConvertedView };
 
     ghost view = { λ c. record {

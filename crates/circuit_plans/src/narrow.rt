@@ -1,6 +1,6 @@
 // Circuits of narrow gates.
 ghost use Rattle.std.specs.Prelude.{◌≡◌};
-ghost use Rattle.mct_circuit.specs.Gates.{AreNarrow};
+ghost use Rattle.mct_circuit.specs.Gates.{AreNarrow, CircuitView};
 
 use mct_circuit::Circuit;
 use std::marker::Model;
@@ -13,8 +13,6 @@ pub struct Narrow {
 }
 
 impl Model for Narrow {
-    ghost use Rattle.mct_circuit.specs.Gates.{CircuitView, AreNarrow};
-
     ghost Value = { CircuitView };
 
     ghost view = { λ n. n.circuit };

@@ -3,7 +3,7 @@ ghost use Rattle.std.specs.Prelude.{◌≡◌, ◌+◌, ◌≤◌};
 ghost use Rattle.circuit_plans.specs.declared.plan.TheConstants.{MOST_LINES, MOST_GATES};
 ghost use Rattle.circuit_plans.specs.declared.plan.TheConstants.{MOST_BORROWED};
 ghost use Rattle.circuit_plans.specs.declared.plan.PlanFault.TheVariants as faults;
-ghost use Rattle.circuit_plans.specs.Plans.{roles_of};
+ghost use Rattle.circuit_plans.specs.Plans.{roles_of, BudgetView, PlannedView, LaidView, lines_in};
 ghost use Rattle.circuit_plans.specs.Limits.{LimitsAre};
 ghost use Rattle.mct_circuit.specs.Gates.{AreNarrow};
 
@@ -37,11 +37,6 @@ pub struct Budget {
 }
 
 impl Model for Budget {
-    ghost use Rattle.std.specs.Prelude.{◌≤◌};
-    ghost use Rattle.circuit_plans.specs.declared.plan.TheConstants.{MOST_LINES, MOST_GATES};
-    ghost use Rattle.circuit_plans.specs.declared.plan.TheConstants.{MOST_BORROWED};
-    ghost use Rattle.circuit_plans.specs.Plans.{BudgetView};
-
     ghost Value = { BudgetView };
 
     ghost view = { λ b. record { lines = b.lines; gates = b.gates; borrow = b.borrow } };
@@ -101,9 +96,6 @@ pub struct Planned {
 }
 
 impl Model for Planned {
-    ghost use Rattle.std.specs.Prelude.{◌≡◌, ◌+◌};
-    ghost use Rattle.circuit_plans.specs.Plans.{PlannedView};
-
     ghost Value = { PlannedView };
 
     ghost view = { λ p. record {
@@ -175,9 +167,6 @@ pub struct Laid {
 }
 
 impl Model for Laid {
-    ghost use Rattle.std.specs.Prelude.{◌≡◌};
-    ghost use Rattle.circuit_plans.specs.Plans.{LaidView, lines_in};
-
     ghost Value = { LaidView };
 
     ghost view = { λ l. record {

@@ -1,7 +1,7 @@
 // A circuit beside the settled graph that it is to compute.
 ghost use Rattle.std.specs.Prelude.{◌≡◌, ◌+◌, sum};
 ghost use Rattle.circuit_verify.specs.Comparisons.{variables_in, work_lines};
-ghost use Rattle.circuit_verify.specs.inside.Compared.{IsReady, comparison};
+ghost use Rattle.circuit_verify.specs.inside.Compared.{IsReady, comparison, ComparedView};
 
 use claim_check::Settled;
 use mct_circuit::Circuit;
@@ -18,8 +18,6 @@ pub struct Compared<'s> {
 }
 
 impl<'s> Model for Compared<'s> {
-    ghost use Rattle.circuit_verify.specs.inside.Compared.{ComparedView, IsReady};
-
     ghost Value = { ComparedView };
 
     ghost view = { λ c. record {

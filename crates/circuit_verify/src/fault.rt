@@ -1,6 +1,7 @@
 // Why a circuit is not verified.
 ghost use Rattle.std.specs.Prelude.{◌≡◌};
 ghost use Rattle.circuit_verify.specs.declared.fault.VerifyFault.TheVariants as faults;
+ghost use Rattle.circuit_verify.specs.Verdicts.{verify_fault};
 
 use decision_diagram::DdFault;
 use revc_base::{Bits, Memory};
@@ -34,8 +35,6 @@ impl From<Memory> for VerifyFault {
 }
 
 impl From<DdFault> for VerifyFault {
-    ghost use Rattle.circuit_verify.specs.Verdicts.{verify_fault};
-
     ghost from_gives = { λ dd fault. fault ≡ verify_fault dd };
 
     fn from(fault: DdFault) -> VerifyFault {

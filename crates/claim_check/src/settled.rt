@@ -1,8 +1,8 @@
 // The settled graph.
 ghost use Rattle.std.specs.Prelude.{◌≡◌, ◌<◌, length, slice_get, Some, IfOk};
 ghost use Rattle.dependency_graph.specs.Folds.{graph_of};
-ghost use Rattle.dependency_graph.specs.Uses.{last_use_in};
-ghost use Rattle.claim_check.specs.Settled.{IsSettled, as_graph};
+ghost use Rattle.dependency_graph.specs.Uses.{last_use_in, last_uses_of};
+ghost use Rattle.claim_check.specs.Settled.{IsSettled, as_graph, SettledView};
 ghost use Rattle.claim_check.specs.inside.Parts.{IsSettledPart};
 
 use crate::keeping::kept_part;
@@ -22,10 +22,6 @@ pub struct Settled {
 }
 
 impl Model for Settled {
-    ghost use Rattle.std.specs.Prelude.{◌≡◌};
-    ghost use Rattle.dependency_graph.specs.Uses.{last_uses_of};
-    ghost use Rattle.claim_check.specs.Settled.{SettledView, IsSettled, as_graph};
-
     ghost Value = { SettledView };
 
     ghost view = { λ s. record {

@@ -1,11 +1,11 @@
 // Bits as digits, and numbers in lines. Nothing here takes memory.
-ghost use Rattle.std.specs.Prelude.{◌≡◌, ◌↔◌, ◌++◌, IsTrue, if◌then◌else◌};
+ghost use Rattle.std.specs.Prelude.{◌≡◌, ◌↔◌, ◌++◌, IsTrue, if◌then◌else◌, ⊤, [], ◌∷◌, map};
 ghost use Rattle.std.specs.Fmt.{decimal};
 ghost use Rattle.std.specs.List.{flat_map};
 ghost use Rattle.revc_io.specs.Faults.{HasCause};
 ghost use Rattle.revc_io.specs.Passing.{Writes};
 ghost use Rattle.command_answers.specs.BitWords.{IsInputWord};
-ghost use Rattle.command_answers.specs.Lines.{bits_text, number_line};
+ghost use Rattle.command_answers.specs.Lines.{bits_text, number_line, digits_of};
 
 use revc_base::Bits;
 use revc_io::{Buffer, Byte, Decimal, Each, Failed, Piece, Pieces, Sink, write_whole};
@@ -55,9 +55,6 @@ pub fn write_numbers<K: Sink>(lines: &[(&[u8], u64)], out: &mut K) -> Result<(),
 pub(crate) struct BitLine<'a>(pub &'a [bool]);
 
 impl Piece for BitLine<'_> {
-    ghost use Rattle.std.specs.Prelude.{⊤};
-    ghost use Rattle.command_answers.specs.Lines.{bits_text};
-
     ghost can_put = { λ _. ⊤ };
 
     ghost bytes = { λ line. bits_text line.0.now };
@@ -72,9 +69,6 @@ impl Piece for BitLine<'_> {
 struct Digits<'a>(&'a [bool]);
 
 impl Pieces for Digits<'_> {
-    ghost use Rattle.std.specs.Prelude.{⊤, [], ◌∷◌, map};
-    ghost use Rattle.command_answers.specs.Lines.{digits_of};
-
     type Item = Byte;
 
     ghost can_put_each = { λ _. ⊤ };
@@ -101,9 +95,6 @@ fn digit(bit: bool) -> u8
 struct BitLines<'a>(&'a [Bits]);
 
 impl<'a> Pieces for BitLines<'a> {
-    ghost use Rattle.std.specs.Prelude.{⊤, map};
-    ghost use Rattle.command_answers.specs.Lines.{bits_text};
-
     type Item = BitLine<'a>;
 
     ghost can_put_each = { λ _. ⊤ };
@@ -124,9 +115,6 @@ impl<'a> Pieces for BitLines<'a> {
 struct NumberLines<'a>(&'a [(&'a [u8], u64)]);
 
 impl<'a> Pieces for NumberLines<'a> {
-    ghost use Rattle.std.specs.Prelude.{⊤, map};
-    ghost use Rattle.command_answers.specs.Lines.{number_line};
-
     type Item = (&'a [u8], Decimal, Byte);
 
     ghost can_put_each = { λ _. ⊤ };

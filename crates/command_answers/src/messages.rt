@@ -1,8 +1,9 @@
 // The lines for standard error. They take no memory.
 ghost use Rattle.revc_io.specs.Faults.{HasCause};
 ghost use Rattle.revc_io.specs.Passing.{Writes};
-ghost use Rattle.std.specs.Prelude.{◌≡◌};
-ghost use Rattle.command_answers.specs.Faults.{Receives, line_of, two_numbers_line};
+ghost use Rattle.std.specs.Prelude.{◌≡◌, ⊤};
+ghost use Rattle.command_answers.specs.Faults.{Receives, line_of, two_numbers_line, refusal_line};
+ghost use Rattle.command_answers.specs.Faults.{circuit_line, place_text};
 
 use crate::digits::BitLine;
 use crate::fault::{CircuitRefusal, Fault, Refusal};
@@ -29,9 +30,6 @@ fn write_line<E: Sink>(err: &mut E, fault: &Fault) -> Result<(), Failed>
 struct Line<'a>(&'a Fault);
 
 impl Piece for Line<'_> {
-    ghost use Rattle.std.specs.Prelude.{⊤};
-    ghost use Rattle.command_answers.specs.Faults.{line_of};
-
     ghost can_put = { λ _. ⊤ };
 
     ghost bytes = { λ line. line_of line.0.now };
@@ -100,9 +98,6 @@ impl Piece for Line<'_> {
 
 // The line of a source that is refused.
 impl Piece for Refusal {
-    ghost use Rattle.std.specs.Prelude.{⊤};
-    ghost use Rattle.command_answers.specs.Faults.{refusal_line};
-
     ghost can_put = { λ _. ⊤ };
 
     ghost bytes = { refusal_line };
@@ -120,9 +115,6 @@ impl Piece for Refusal {
 
 // The line of a circuit text that is refused.
 impl Piece for CircuitRefusal {
-    ghost use Rattle.std.specs.Prelude.{⊤};
-    ghost use Rattle.command_answers.specs.Faults.{circuit_line};
-
     ghost can_put = { λ _. ⊤ };
 
     ghost bytes = { circuit_line };
@@ -152,9 +144,6 @@ impl Piece for CircuitRefusal {
 struct At(Place);
 
 impl Piece for At {
-    ghost use Rattle.std.specs.Prelude.{⊤};
-    ghost use Rattle.command_answers.specs.Faults.{place_text};
-
     ghost can_put = { λ _. ⊤ };
 
     ghost bytes = { λ at. place_text at.0 };

@@ -1,12 +1,12 @@
 // The table of inner nodes, and the functions that it makes.
 ghost use Rattle.std.specs.Prelude.{◌≡◌, ◌≤◌, ◌<◌, ◌+◌, ◌⊎◌, ℕ, [], true, false, not, length};
 ghost use Rattle.std.specs.Prelude.{IsTrue, IsFalse, IfOk, IfErr, OnOk, IfSome, IfNone};
-ghost use Rattle.std.specs.Prelude.{MatchOption, Contains, slice_get, Some, if◌then◌else◌};
+ghost use Rattle.std.specs.Prelude.{MatchOption, Contains, slice_get, Some, if◌then◌else◌, reverse};
 ghost use Rattle.decision_diagram.specs.Functions.{variable_at, exclusive_or, conjunction};
 ghost use Rattle.decision_diagram.specs.Functions.{flipped, AreSame, GivesOnly, Varies, IsLeast};
 ghost use Rattle.decision_diagram.specs.Functions.{assignment_of};
 ghost use Rattle.decision_diagram.specs.Diagrams.{IsNumber, function_of, first_variable, IsBehind};
-ghost use Rattle.decision_diagram.specs.Diagrams.{MayFollow, IsCanonical};
+ghost use Rattle.decision_diagram.specs.Diagrams.{MayFollow, IsCanonical, DiagramView};
 ghost use Rattle.decision_diagram.specs.Growth.{Computes, StandsFor, MayRefuse};
 ghost use Rattle.decision_diagram.specs.Growth.{EqualFunctionsHaveOneNumber, InnerNodesVary};
 ghost use Rattle.decision_diagram.specs.Growth.{FunctionsAskTheVariables, DiagramsHoldWhatComes};
@@ -40,9 +40,6 @@ pub struct Diagram {
 }
 
 impl Model for Diagram {
-    ghost use Rattle.std.specs.Prelude.{reverse};
-    ghost use Rattle.decision_diagram.specs.Diagrams.{DiagramView, IsCanonical};
-
     ghost Value = { DiagramView };
 
     ghost view = { λ d. record { vars = d.vars; limit = d.limit; nodes = reverse d.nodes.keys } };

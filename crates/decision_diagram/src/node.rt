@@ -1,7 +1,7 @@
 // Numbers of functions, inner nodes and refusals.
-ghost use Rattle.std.specs.Prelude.{◌≡◌, ◌≤◌, ◌↔◌, IsTrue};
+ghost use Rattle.std.specs.Prelude.{◌≡◌, ◌≤◌, ◌↔◌, IsTrue, ℕ};
 ghost use Rattle.decision_diagram.specs.declared.node.DdFault.TheVariants as faults;
-ghost use Rattle.decision_diagram.specs.Diagrams.{side};
+ghost use Rattle.decision_diagram.specs.Diagrams.{side, Triple};
 
 use revc_base::WantOfMemory;
 use std::marker::Model;
@@ -14,8 +14,6 @@ pub struct Dd {
 }
 
 impl Model for Dd {
-    ghost use Rattle.std.specs.Prelude.{ℕ};
-
     ghost Value = { ℕ };
 
     ghost view = { λ d. d.number };
@@ -60,8 +58,6 @@ pub struct Node {
 }
 
 impl Model for Node {
-    ghost use Rattle.decision_diagram.specs.Diagrams.{Triple};
-
     ghost Value = { Triple };
 
     ghost view = { λ n. record { variable = n.variable; low = n.low; high = n.high } };

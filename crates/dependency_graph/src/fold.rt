@@ -2,7 +2,7 @@
 ghost use Rattle.std.specs.Prelude.{◌≡◌, ◌<◌, length, map, IfOk, OnOk, OnErr};
 ghost use Rattle.revs_tape.specs.declared.limits.TheConstants.{MOST_WRITES};
 ghost use Rattle.dependency_graph.specs.Graphs.{sig_of};
-ghost use Rattle.dependency_graph.specs.Folds.{and_constant, and_of, folded, folded_by};
+ghost use Rattle.dependency_graph.specs.Folds.{and_constant, and_of, folded, folded_by, FoldView};
 ghost use Rattle.dependency_graph.specs.Folds.{nothing_folded, with_write, xor_constant, xor_of};
 
 use crate::{Base, Node, Sig};
@@ -107,8 +107,6 @@ pub struct Folding {
 }
 
 impl Model for Folding {
-    ghost use Rattle.dependency_graph.specs.Folds.{FoldView};
-
     ghost Value = { FoldView };
 
     ghost view = { λ f. record { nodes = f.nodes.items; sigs = f.sigs.items } };

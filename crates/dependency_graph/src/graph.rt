@@ -2,9 +2,9 @@
 ghost use Rattle.std.specs.Prelude.{◌≡◌, ◌<◌, ◌≤◌, length, slice_get, Some, IfOk};
 ghost use Rattle.revs_tape.specs.Measures.{inputs_of, writes_of};
 ghost use Rattle.revs_tape.specs.Tapes.{IsKnown};
-ghost use Rattle.dependency_graph.specs.Graphs.{IsGraph, IsGraphOf, sig_of};
+ghost use Rattle.dependency_graph.specs.Graphs.{IsGraph, IsGraphOf, sig_of, GraphView};
 ghost use Rattle.dependency_graph.specs.Folds.{graph_of};
-ghost use Rattle.dependency_graph.specs.Uses.{cut_in, last_use_in};
+ghost use Rattle.dependency_graph.specs.Uses.{cut_in, last_use_in, KeepsUses};
 ghost use Rattle.list_facts.specs.Lists.{IsRising};
 
 use crate::fold::{fold, sig_of, sigs_of};
@@ -26,9 +26,6 @@ pub struct Graph {
 }
 
 impl Model for Graph {
-    ghost use Rattle.dependency_graph.specs.Graphs.{GraphView};
-    ghost use Rattle.dependency_graph.specs.Uses.{KeepsUses};
-
     ghost Value = { GraphView };
 
     ghost view = { λ g. record {

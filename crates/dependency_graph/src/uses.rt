@@ -6,6 +6,7 @@ ghost use Rattle.revs_tape.specs.declared.limits.TheConstants.{MOST_WRITES};
 ghost use Rattle.dependency_graph.specs.declared.node.Base.{Base};
 ghost use Rattle.dependency_graph.specs.Uses.{last_uses_by, with_use, with_uses};
 ghost use Rattle.dependency_graph.specs.inside.Tables.{with_steps};
+ghost use Rattle.dependency_graph.specs.Graphs.{itself, operands, base_of};
 
 use crate::{Base, Node, Sig};
 use revc_base::Memory;
@@ -35,8 +36,6 @@ fn set_use(table: &mut [u32], base: Base, place: u32)
 }
 
 impl MadeOfBases for Base {
-    ghost use Rattle.dependency_graph.specs.Graphs.{itself};
-
     ghost bases = { itself };
 
     fn set_uses(&self, table: &mut [u32], place: u32) {
@@ -45,8 +44,6 @@ impl MadeOfBases for Base {
 }
 
 impl MadeOfBases for Node {
-    ghost use Rattle.dependency_graph.specs.Graphs.{operands};
-
     ghost bases = { operands };
 
     fn set_uses(&self, table: &mut [u32], place: u32) {
@@ -61,8 +58,6 @@ impl MadeOfBases for Node {
 }
 
 impl MadeOfBases for Sig {
-    ghost use Rattle.dependency_graph.specs.Graphs.{base_of};
-
     ghost bases = { base_of };
 
     fn set_uses(&self, table: &mut [u32], place: u32) {

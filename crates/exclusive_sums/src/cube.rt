@@ -1,9 +1,10 @@
 // Cubes, products of literals, and their distance.
-ghost use Rattle.std.specs.Prelude.{◌≡◌, ◌++◌, map, IfOk, OnOk};
+ghost use Rattle.std.specs.Prelude.{◌≡◌, ◌++◌, map, IfOk, OnOk, List};
 ghost use Rattle.std.specs.Option.{option_to_list};
 ghost use Rattle.list_facts.specs.Lists.{IsRising};
 ghost use Rattle.exclusive_sums.specs.Cubes.{IsCube, IsJoined, distance_of, positive};
 ghost use Rattle.exclusive_sums.specs.inside.Merging.{flipped as flipped_of, third_of};
+ghost use Rattle.exclusive_sums.specs.declared.cube.Literal.{Literal};
 
 use revc_base::Memory;
 use std::alloc::{AllocError, Global};
@@ -24,9 +25,6 @@ pub struct Cube {
 }
 
 impl Model for Cube {
-    ghost use Rattle.std.specs.Prelude.{List};
-    ghost use Rattle.exclusive_sums.specs.declared.cube.Literal.{Literal};
-
     ghost Value = { List Literal };
 
     ghost use Rattle.exclusive_sums.specs.Cubes.{IsCube};

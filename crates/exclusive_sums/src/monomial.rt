@@ -1,7 +1,8 @@
 // Monomials, products of inputs, and sums of monomials in the dictionary's order.
-ghost use Rattle.std.specs.Prelude.{◌≡◌, ◌+◌, ◌<◌, [], ◌∷◌, ◌++◌, length, Some, IfOk, OnOk};
+ghost use Rattle.std.specs.Prelude.{◌≡◌, ◌+◌, ◌<◌, [], ◌∷◌, ◌++◌, length, Some, IfOk, OnOk, List};
 ghost use Rattle.std.specs.Ordering.{nat_cmp};
 ghost use Rattle.std.specs.Cmp.Lexicographic.{slice_cmp};
+ghost use Rattle.std.specs.Prelude.{ℕ};
 ghost use Rattle.revs_tape.specs.inside.Sums.{exclusive_sum_of, union_of};
 ghost use Rattle.exclusive_sums.specs.inside.Products.{MovesFront, order_of_fronts as fronts};
 
@@ -18,8 +19,6 @@ pub struct Monomial {
 }
 
 impl Model for Monomial {
-    ghost use Rattle.std.specs.Prelude.{List, ℕ};
-
     ghost Value = { List ℕ };
 
     ghost view = { λ m. m.inputs };

@@ -1,6 +1,6 @@
 // Polynomials of at most 64 monomials.
 ghost use Rattle.std.specs.Prelude.{◌≡◌, ◌*◌, ◌≤◌, ◌==◌, ◌&&◌, not, [], ◌∷◌, ◌++◌, length, IfOk};
-ghost use Rattle.std.specs.Prelude.{IfSome, if◌then◌else◌, nat_le, Some, None};
+ghost use Rattle.std.specs.Prelude.{IfSome, if◌then◌else◌, nat_le, Some, None, List, ℕ};
 ghost use Rattle.std.specs.Bool.{xor};
 ghost use Rattle.revs_tape.specs.Polynomials.{IsPolynomial, IsPolynomialOf, value_of_polynomial};
 ghost use Rattle.exclusive_sums.specs.Inputs.{AreOverInputsOf};
@@ -33,10 +33,6 @@ pub struct Poly {
 }
 
 impl Model for Poly {
-    ghost use Rattle.std.specs.Prelude.{List, ℕ, ◌≤◌, length};
-    ghost use Rattle.revs_tape.specs.Polynomials.{IsPolynomial};
-    ghost use Rattle.exclusive_sums.specs.declared.poly.TheConstants.{MOST_MONOMIALS};
-
     ghost Value = { List (List ℕ) };
 
     ghost view = { λ p. p.monomials.items };

@@ -1,10 +1,12 @@
 // How the gates of a narrow circuit are written: each is a flip, in a line of its own.
-ghost use Rattle.std.specs.Prelude.{◌≡◌, ℕ, ◌<◌, ◌≤◌, ◌++◌};
+ghost use Rattle.std.specs.Prelude.{◌≡◌, ℕ, ◌<◌, ◌≤◌, ◌++◌, map};
 ghost use Rattle.mct_circuit.specs.Gates.{AreNarrow};
+ghost use Rattle.mct_circuit.specs.declared.gate.Control.{Control};
 ghost use Rattle.circuit_plans.specs.declared.plan.TheConstants.{MOST_LINES};
 ghost use Rattle.revc_io.specs.Faults.{HasCause};
 ghost use Rattle.revc_io.specs.Passing.{Writes};
-ghost use Rattle.format_parts.specs.Flips.{FlipTexts, gates_text};
+ghost use Rattle.format_parts.specs.Flips.{FlipTexts, gates_text, AreControlsOn, AreFlipsOn};
+ghost use Rattle.format_parts.specs.Flips.{gate_text};
 
 use mct_circuit::{Circuit, Control, Gate, Op};
 use revc_io::{Each, Failed, Piece, Pieces, Sink, write_whole};
@@ -76,10 +78,6 @@ struct Controls<'a, W> {
 }
 
 impl<'a, W: FlipWriter> Pieces for Controls<'a, W> {
-    ghost use Rattle.std.specs.Prelude.{map};
-    ghost use Rattle.mct_circuit.specs.declared.gate.Control.{Control};
-    ghost use Rattle.format_parts.specs.Flips.{AreControlsOn};
-
     type Item = W::Control;
 
     ghost can_put_each = { λ flip. AreControlsOn (W.count flip.writer) flip.controls.now };
@@ -104,9 +102,6 @@ struct Gates<'a, W> {
 }
 
 impl<'a, W: FlipWriter> Pieces for Gates<'a, W> {
-    ghost use Rattle.std.specs.Prelude.{map};
-    ghost use Rattle.format_parts.specs.Flips.{AreFlipsOn, gate_text};
-
     type Item = (W::Word, Each<Controls<'a, W>>, W::Target);
 
     ghost can_put_each = { λ circuit. AreFlipsOn (W.count circuit.writer) circuit.gates.now };

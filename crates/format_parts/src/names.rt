@@ -1,9 +1,9 @@
 // The names that a text lends, by which their places are found.
 ghost use Rattle.std.specs.Prelude.{◌≡◌, ◌<◌, ◌≤◌, [], ◌∷◌, ◌++◌, length, position, not};
-ghost use Rattle.std.specs.Prelude.{if◌then◌else◌, slice_get, Some, IfOk, OnErr};
+ghost use Rattle.std.specs.Prelude.{if◌then◌else◌, slice_get, Some, IfOk, OnErr, ℕ, List};
 ghost use Rattle.std.specs.List.{AllByRecursion};
 ghost use Rattle.std.specs.Str.{bytes_eq};
-ghost use Rattle.format_parts.specs.Names.{has_word, IsText};
+ghost use Rattle.format_parts.specs.Names.{has_word, IsText, names_in};
 
 use indexmap::IndexSet;
 use revc_base::{Memory, Text};
@@ -17,9 +17,6 @@ pub struct Names<'t> {
 }
 
 impl<'t> Model for Names<'t> {
-    ghost use Rattle.std.specs.Prelude.{ℕ, List};
-    ghost use Rattle.format_parts.specs.Names.{names_in};
-
     ghost Value = { List (List ℕ) };
 
     ghost view = { λ n. names_in n.set.keys };

@@ -14,6 +14,8 @@ ghost use Rattle.held_nodes.specs.Moves.{IsToggleFault, copies_of, finished_weig
 ghost use Rattle.held_nodes.specs.Moves.{planned_of, roles_of_plan, weight_in};
 ghost use Rattle.held_nodes.specs.Plans.{HasPorts, IsInBudget};
 ghost use Rattle.held_nodes.specs.inside.Kept.{HasNoLineFor, HasProducts, IsLineFor, IsLineAfter};
+ghost use Rattle.held_nodes.specs.inside.Kept.{IsKept};
+ghost use Rattle.held_nodes.specs.Held.{ForwardView};
 
 use crate::clearing::append_cubes;
 use crate::copying::{copies_fit, copies_of, first_work, plan_of};
@@ -44,9 +46,6 @@ pub struct Forward<'s> {
 }
 
 impl<'s> Model for Forward<'s> {
-    ghost use Rattle.held_nodes.specs.Held.{ForwardView};
-    ghost use Rattle.held_nodes.specs.inside.Kept.{IsKept};
-
     ghost Value = { ForwardView };
 
     ghost view = { λ f. record {

@@ -5,7 +5,7 @@ ghost use Rattle.bit_sums.specs.Sums.{bases_of};
 ghost use Rattle.mct_circuit.specs.Sizes.{weight_of};
 ghost use Rattle.sum_toggles.specs.Toggles.{AreApart, IsPlacedBase, base_line, sum_gates};
 ghost use Rattle.sum_toggles.specs.Toggles.{toggle_weight};
-ghost use Rattle.held_nodes.specs.inside.Kept.{HasProducts, IsWeightFault};
+ghost use Rattle.held_nodes.specs.inside.Kept.{HasProducts, IsWeightFault, WeighedView};
 
 use bit_sums::Sum;
 use circuit_plans::PlanFault;
@@ -24,10 +24,6 @@ pub struct WeighedGates {
 }
 
 impl Model for WeighedGates {
-    ghost use Rattle.std.specs.Prelude.{◌≡◌, ◌≤◌, sum_by};
-    ghost use Rattle.held_nodes.specs.inside.Kept.{WeighedView};
-    ghost use Rattle.mct_circuit.specs.Sizes.{weight_of};
-
     ghost Value = { WeighedView };
 
     ghost view = { λ w. record { gates = w.gates.items; most = w.most } };

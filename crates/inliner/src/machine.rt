@@ -7,6 +7,7 @@ ghost use Rattle.revs_terms.specs.Runs.{no_bits};
 ghost use Rattle.revs_terms.specs.Terms.{place_of};
 ghost use Rattle.revs_terms.specs.Trees.{tree_of};
 ghost use Rattle.inliner.specs.inside.Calls.{Says};
+ghost use Rattle.inliner.specs.inside.Machines.{IsMachine, Does, LeavesRoom, AddsWork, state_of};
 
 use crate::RunFault;
 use crate::leaps::Leap;
@@ -43,9 +44,6 @@ pub struct Machine<'t> {
 }
 
 impl<'t> Machine<'t> {
-    ghost use Rattle.inliner.specs.inside.Machines.{IsMachine, Does, LeavesRoom, AddsWork};
-    ghost use Rattle.inliner.specs.inside.Machines.{state_of};
-
     /// Where the machine takes its memory from.
     pub fn allocator(&self) -> Global {
         *self.store.allocator()

@@ -6,6 +6,7 @@ ghost use Rattle.std.specs.List.{AllByRecursion};
 ghost use Rattle.mct_circuit.specs.declared.circuit.GateFault.TheVariants as faults;
 ghost use Rattle.mct_circuit.specs.Sizes.{depth_of};
 ghost use Rattle.mct_circuit.specs.Gates.{AreGatesOn, AreNarrow, lines_of, flip_of, line_map};
+ghost use Rattle.mct_circuit.specs.Gates.{CircuitView};
 ghost use Rattle.list_facts.specs.Lists.{AreDifferent};
 
 use crate::Gate;
@@ -40,9 +41,6 @@ pub struct Circuit {
 }
 
 impl Model for Circuit {
-    ghost use Rattle.std.specs.Prelude.{◌≤◌, length};
-    ghost use Rattle.mct_circuit.specs.Gates.{CircuitView, AreGatesOn};
-
     ghost Value = { CircuitView };
 
     ghost view = { λ c. record { lines = c.lines; limit = c.limit; gates = c.gates.items } };

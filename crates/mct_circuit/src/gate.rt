@@ -3,7 +3,7 @@ ghost use Rattle.std.specs.Prelude.{◌≡◌, ◌<◌, ◌∷◌, [], ◌++◌,
 ghost use Rattle.std.specs.List.{AllByRecursion, list_all};
 ghost use Rattle.list_facts.specs.Lists.{AreDifferent};
 ghost use Rattle.mct_circuit.specs.Gates.{HasDifferentLines, flip_of, positive, lines_of, is_met};
-ghost use Rattle.mct_circuit.specs.Gates.{after_gate};
+ghost use Rattle.mct_circuit.specs.Gates.{after_gate, GateView};
 
 use revc_base::Memory;
 use std::alloc::{AllocError, Global};
@@ -34,8 +34,6 @@ pub struct Gate {
 }
 
 impl Model for Gate {
-    ghost use Rattle.mct_circuit.specs.Gates.{GateView, HasDifferentLines};
-
     ghost Value = { GateView };
 
     ghost view = { λ g. record { controls = g.controls.items; op = g.op } };

@@ -1,9 +1,9 @@
 // The names in scope.
 ghost use Rattle.std.specs.Prelude.{◌≡◌, ◌≤◌, ◌∷◌, ◌-◌, List, [], drop, length, position, bytes_eq};
-ghost use Rattle.std.specs.Prelude.{OnOk, OnErr, IfOk};
+ghost use Rattle.std.specs.Prelude.{OnOk, OnErr, IfOk, ℕ, map, reverse};
 ghost use Rattle.indexmap.specs.IndexMap.{get, IsUnchanged};
 ghost use Rattle.revs_terms.specs.Scopes.{nearer};
-ghost use Rattle.name_scope.specs.inside.Bindings.{held, IsNoted};
+ghost use Rattle.name_scope.specs.inside.Bindings.{held, IsNoted, depth_of, Hide};
 
 use indexmap::IndexMap;
 use revc_base::{Memory, Text};
@@ -30,10 +30,6 @@ pub struct Names {
 }
 
 impl Model for Names {
-    ghost use Rattle.std.specs.Prelude.{◌≡◌, ℕ, List, map, reverse, bytes_eq};
-    ghost use Rattle.indexmap.specs.IndexMap.{get};
-    ghost use Rattle.name_scope.specs.inside.Bindings.{depth_of, held, Hide};
-
     ghost Value = { List (List ℕ) };
 
     ghost view = { λ names. map (λ b. b.name) (reverse names.bound.items) };

@@ -3,6 +3,7 @@ ghost use Rattle.std.specs.Prelude.{◌≡◌};
 ghost use Rattle.qasm_format.specs.declared.file.QasmFault.TheVariants as faults;
 ghost use Rattle.circuit_plans.specs.declared.plan.TheConstants.{MOST_GATES};
 ghost use Rattle.qasm_format.specs.Registers.{lines_of_all};
+ghost use Rattle.qasm_format.specs.Qasm.{QasmView};
 
 use mct_circuit::Circuit;
 use revc_base::{Place, Text, WantOfMemory};
@@ -24,11 +25,6 @@ pub struct QasmFile {
 }
 
 impl Model for QasmFile {
-    ghost use Rattle.std.specs.Prelude.{◌≡◌};
-    ghost use Rattle.circuit_plans.specs.declared.plan.TheConstants.{MOST_GATES};
-    ghost use Rattle.qasm_format.specs.Qasm.{QasmView};
-    ghost use Rattle.qasm_format.specs.Registers.{lines_of_all};
-
     ghost Value = { QasmView };
 
     ghost view = { λ f. record { registers = f.registers.items; gates = f.circuit.gates } };

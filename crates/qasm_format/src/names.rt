@@ -5,7 +5,8 @@ ghost use Rattle.list_facts.specs.Lists.{IsAmong};
 ghost use Rattle.circuit_plans.specs.declared.plan.TheConstants.{MOST_LINES};
 ghost use Rattle.qasm_format.specs.Registers.{IsLaid, lines_of_all};
 ghost use Rattle.qasm_format.specs.Stages.{HasRoom, kind_registers};
-ghost use Rattle.qasm_format.specs.inside.Names.{registers_at};
+ghost use Rattle.qasm_format.specs.inside.Names.{registers_at, DeclaredView, AreDeclared};
+ghost use Rattle.qasm_format.specs.inside.Names.{registers_in};
 ghost use Rattle.format_parts.specs.Names.{has_word, IsText};
 
 use crate::file::Register;
@@ -32,8 +33,6 @@ pub struct Declared<'t> {
 }
 
 impl<'t> Model for Declared<'t> {
-    ghost use Rattle.qasm_format.specs.inside.Names.{DeclaredView, AreDeclared, registers_in};
-
     ghost Value = { DeclaredView };
 
     ghost view = { λ d. record {

@@ -1,11 +1,12 @@
 // The places of the lines of a written file.
-ghost use Rattle.std.specs.Prelude.{◌≡◌, ◌<◌, ◌≤◌, if◌then◌else◌};
+ghost use Rattle.std.specs.Prelude.{◌≡◌, ◌<◌, ◌≤◌, if◌then◌else◌, ⊤};
 ghost use Rattle.std.specs.Fmt.{decimal};
 ghost use Rattle.circuit_plans.specs.declared.plan.TheConstants.{MOST_LINES};
 ghost use Rattle.qasm_format.specs.Statements.{one_of};
 ghost use Rattle.qasm_format.specs.Compiled.{register_name};
 ghost use Rattle.qasm_format.specs.Converted.{kept_lines};
 ghost use Rattle.qasm_format.specs.inside.Naming.{count_of, place_by};
+ghost use Rattle.qasm_format.specs.inside.Parts.{place_text};
 
 use circuit_plans::{Role, Roles};
 use revc_io::{Buffer, Decimal, Failed, Piece, Sink};
@@ -27,9 +28,6 @@ pub(crate) struct Place {
 }
 
 impl Piece for Place {
-    ghost use Rattle.std.specs.Prelude.{⊤};
-    ghost use Rattle.qasm_format.specs.inside.Parts.{place_text};
-
     ghost can_put = { λ _. ⊤ };
 
     ghost bytes = { λ place. place_text place.name.now place.number };

@@ -1,5 +1,5 @@
 // The writer of files, piece by piece.
-ghost use Rattle.std.specs.Prelude.{◌≡◌, ◌≤◌, true, length};
+ghost use Rattle.std.specs.Prelude.{◌≡◌, ◌≤◌, true, length, ⊤};
 ghost use Rattle.mct_circuit.specs.Gates.{AreNarrow};
 ghost use Rattle.circuit_plans.specs.declared.plan.TheConstants.{MOST_LINES, MOST_GATES};
 ghost use Rattle.circuit_plans.specs.Plans.{roles_of};
@@ -9,7 +9,7 @@ ghost use Rattle.qasm_format.specs.Written.{file_text};
 ghost use Rattle.qasm_format.specs.Compiled.{register_name, compiled_text, MeansCompiled};
 ghost use Rattle.qasm_format.specs.Converted.{converted_text, MeansConverted};
 ghost use Rattle.qasm_format.specs.inside.Naming.{count_of, registers_by, place_by};
-ghost use Rattle.qasm_format.specs.inside.Parts.{register_text, word_text};
+ghost use Rattle.qasm_format.specs.inside.Parts.{register_text, word_text, header_text, flip_texts};
 
 use crate::naming::{Naming, Place, added_lines, kept_lines, register_name};
 use circuit_plans::{Laid, Narrow, Role};
@@ -75,10 +75,6 @@ fn write_file<K: Sink>(circuit: &Circuit, naming: Naming, out: &mut K) -> Result
 struct Header(Naming);
 
 impl Piece for Header {
-    ghost use Rattle.std.specs.Prelude.{◌≤◌};
-    ghost use Rattle.qasm_format.specs.inside.Naming.{count_of};
-    ghost use Rattle.qasm_format.specs.inside.Parts.{header_text};
-
     ghost can_put = { λ header. 1 ≤ count_of header.0 };
 
     ghost bytes = { λ header. header_text header.0 };
@@ -124,9 +120,6 @@ fn register_of(role: Role, size: u32) -> Register
 struct Register(Place);
 
 impl Piece for Register {
-    ghost use Rattle.std.specs.Prelude.{⊤};
-    ghost use Rattle.qasm_format.specs.inside.Parts.{register_text};
-
     ghost can_put = { λ _. ⊤ };
 
     ghost bytes = { λ register. register_text register.0.name.now register.0.number };
@@ -143,9 +136,6 @@ impl Piece for Register {
 
 // A gate is its word, then the places of its lines, the target's last.
 impl FlipWriter for Naming {
-    ghost use Rattle.qasm_format.specs.inside.Naming.{count_of, place_by};
-    ghost use Rattle.qasm_format.specs.inside.Parts.{flip_texts};
-
     type Word = Literal;
 
     type Control = (Place, Literal);

@@ -2,7 +2,7 @@
 ghost use Rattle.std.specs.Prelude.{◌≡◌, ◌+◌, ◌<◌, ◌≤◌, ◌^◌, [], length, take, drop};
 ghost use Rattle.text_places.specs.Gaps.{HasNoGap};
 ghost use Rattle.text_places.specs.Places.{place_after};
-ghost use Rattle.qasm_lexer.specs.Tokens.{whole, IsNext, Moves, Takes};
+ghost use Rattle.qasm_lexer.specs.Tokens.{whole, IsNext, Moves, Takes, Left};
 
 use revc_base::Place;
 use std::marker::Model;
@@ -23,9 +23,6 @@ pub struct Tokens<'t> {
 }
 
 impl<'t> Model for Tokens<'t> {
-    ghost use Rattle.std.specs.Prelude.{◌+◌, ◌≤◌, ◌^◌, length};
-    ghost use Rattle.qasm_lexer.specs.Tokens.{Left};
-
     ghost Value = { Left };
 
     ghost view = { λ t. record { at = t.at; bytes = t.rest.now } };

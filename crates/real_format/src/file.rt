@@ -2,6 +2,7 @@
 ghost use Rattle.std.specs.Prelude.{◌≡◌, length};
 ghost use Rattle.circuit_plans.specs.declared.plan.TheConstants.{MOST_GATES};
 ghost use Rattle.real_format.specs.declared.file.RealFault.TheVariants as faults;
+ghost use Rattle.real_format.specs.Real.{RealView};
 
 use mct_circuit::Circuit;
 use revc_base::{Text, WantOfMemory};
@@ -44,10 +45,6 @@ pub struct RealFile {
 }
 
 impl Model for RealFile {
-    ghost use Rattle.std.specs.Prelude.{◌≡◌, length};
-    ghost use Rattle.circuit_plans.specs.declared.plan.TheConstants.{MOST_GATES};
-    ghost use Rattle.real_format.specs.Real.{RealView};
-
     ghost Value = { RealView };
 
     ghost view = { λ f. record {

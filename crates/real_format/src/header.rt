@@ -7,12 +7,13 @@ ghost use Rattle.std.specs.Option.{option_map};
 ghost use Rattle.std.specs.List.{find};
 ghost use Rattle.std.specs.Str.{bytes_eq};
 ghost use Rattle.real_format.specs.Header.{HeaderView, IsName, nothing_said, spelling_of};
-ghost use Rattle.real_format.specs.inside.Reading.{Refuses, header_line, file_of, add};
+ghost use Rattle.real_format.specs.inside.Reading.{Refuses, header_line, file_of, add, garbage_of};
 ghost use Rattle.real_format.specs.inside.Reading.{add_version, add_lines, add_names, add_inputs};
 ghost use Rattle.real_format.specs.inside.Reading.{add_outputs, add_constants, add_garbage};
-ghost use Rattle.real_format.specs.inside.Reading.{is_version, count_of, names_from};
+ghost use Rattle.real_format.specs.inside.Reading.{is_version, count_of, names_from, constant_of};
 ghost use Rattle.real_format.specs.inside.Reading.{more_names, new_marks, marks_of, marks_from};
 ghost use Rattle.real_format.specs.inside.Says.{HeaderSays, BeginsAs};
+ghost use Rattle.real_format.specs.Real.{RealView};
 
 use crate::file::{Mark, RealFault};
 use crate::refusal::LineRefusal;
@@ -92,10 +93,6 @@ pub struct Header<'t> {
 }
 
 impl<'t> Model for Header<'t> {
-    ghost use Rattle.std.specs.Prelude.{Some};
-    ghost use Rattle.std.specs.Option.{option_map};
-    ghost use Rattle.real_format.specs.Header.{HeaderView};
-
     ghost Value = { HeaderView };
 
     ghost view = { λ h. record {
@@ -118,9 +115,6 @@ pub struct Begun<'t> {
 }
 
 impl<'t> Model for Begun<'t> {
-    ghost use Rattle.std.specs.Prelude.{[]};
-    ghost use Rattle.real_format.specs.Real.{RealView};
-
     ghost Value = { RealView };
 
     ghost view = { λ b. record {
@@ -377,8 +371,6 @@ trait Marking: Copy {
 }
 
 impl Marking for Mark {
-    ghost use Rattle.real_format.specs.inside.Reading.{constant_of};
-
     ghost marking = { constant_of };
 
     fn of(byte: u8) -> Option<Mark> {
@@ -392,8 +384,6 @@ impl Marking for Mark {
 }
 
 impl Marking for bool {
-    ghost use Rattle.real_format.specs.inside.Reading.{garbage_of};
-
     ghost marking = { garbage_of };
 
     fn of(byte: u8) -> Option<bool> {

@@ -7,7 +7,7 @@ ghost use Rattle.std.specs.Char.{is_ascii_digit};
 ghost use Rattle.std.specs.Str.Parse.{AllDigits, digits_value};
 ghost use Rattle.real_format.specs.Words.{is_blank, is_comment, said_lines, said_words};
 ghost use Rattle.real_format.specs.inside.Reading.{begins_name, single, is_nil, number_of};
-ghost use Rattle.real_format.specs.inside.Lines.{TakesLine};
+ghost use Rattle.real_format.specs.inside.Lines.{TakesLine, LinesView};
 
 use std::marker::Model;
 
@@ -37,9 +37,6 @@ pub struct Words<'t> {
 }
 
 impl<'t> Model for Words<'t> {
-    ghost use Rattle.std.specs.Prelude.{ℕ, List};
-    ghost use Rattle.real_format.specs.Words.{said_words};
-
     ghost Value = { List (List ℕ) };
 
     ghost view = { λ w. said_words w.rest.now };
@@ -102,10 +99,6 @@ pub struct Lines<'t> {
 }
 
 impl<'t> Model for Lines<'t> {
-    ghost use Rattle.std.specs.Prelude.{◌+◌, ◌<◌, ◌^◌, length};
-    ghost use Rattle.real_format.specs.Words.{said_lines};
-    ghost use Rattle.real_format.specs.inside.Lines.{LinesView};
-
     ghost Value = { LinesView };
 
     ghost view = { λ l. record { number = l.number; left = said_lines l.rest.now } };

@@ -1,5 +1,5 @@
 // The writer of files, piece by piece.
-ghost use Rattle.std.specs.Prelude.{◌≡◌, ◌<◌, ◌≤◌, ◌∷◌, length};
+ghost use Rattle.std.specs.Prelude.{◌≡◌, ◌<◌, ◌≤◌, ◌∷◌, length, map, []};
 ghost use Rattle.std.specs.Fmt.{decimal};
 ghost use Rattle.mct_circuit.specs.Gates.{AreNarrow};
 ghost use Rattle.circuit_plans.specs.declared.plan.TheConstants.{MOST_LINES, MOST_GATES};
@@ -10,6 +10,8 @@ ghost use Rattle.real_format.specs.Written.{file_text};
 ghost use Rattle.real_format.specs.Compiled.{compiled_text, MeansCompiled};
 ghost use Rattle.real_format.specs.Converted.{converted_text, MeansConverted};
 ghost use Rattle.real_format.specs.inside.Labels.{count_of, name_by, constants_by, garbage_by};
+ghost use Rattle.real_format.specs.inside.Labels.{HasMarks, all_names, mark_bytes};
+ghost use Rattle.real_format.specs.inside.Parts.{header_text, flip_texts};
 
 use crate::file::Mark;
 use crate::labels::{Labels, MarkKind};
@@ -83,9 +85,6 @@ fn write_file<K: Sink>(circuit: &Circuit, labels: Labels<'_>, out: &mut K) -> Re
 struct Header<'a>(Labels<'a>);
 
 impl Piece for Header<'_> {
-    ghost use Rattle.real_format.specs.inside.Labels.{HasMarks};
-    ghost use Rattle.real_format.specs.inside.Parts.{header_text};
-
     ghost can_put = { λ header. HasMarks header.0 };
 
     ghost bytes = { λ header. header_text header.0 };
@@ -118,10 +117,6 @@ impl Piece for Header<'_> {
 struct Names<'a>(Labels<'a>);
 
 impl Pieces for Names<'_> {
-    ghost use Rattle.std.specs.Prelude.{◌≤◌, ◌∷◌, map};
-    ghost use Rattle.circuit_plans.specs.declared.plan.TheConstants.{MOST_LINES};
-    ghost use Rattle.real_format.specs.inside.Labels.{count_of, all_names};
-
     type Item = Name;
 
     ghost can_put_each = { λ names. count_of names.0 ≤ MOST_LINES };
@@ -142,9 +137,6 @@ impl Pieces for Names<'_> {
 struct Marks<'a>(Labels<'a>, MarkKind);
 
 impl Pieces for Marks<'_> {
-    ghost use Rattle.std.specs.Prelude.{[], ◌∷◌, map};
-    ghost use Rattle.real_format.specs.inside.Labels.{HasMarks, mark_bytes};
-
     type Item = Byte;
 
     ghost can_put_each = { λ marks. HasMarks marks.0 };
@@ -177,9 +169,6 @@ fn spaced_name(labels: Labels<'_>, line: u32) -> Name
 
 // A gate is `t` and the number of its lines, then their names, the target's last.
 impl FlipWriter for Labels<'_> {
-    ghost use Rattle.real_format.specs.inside.Labels.{count_of, name_by};
-    ghost use Rattle.real_format.specs.inside.Parts.{flip_texts};
-
     type Word = (Byte, Decimal);
 
     type Control = Name;

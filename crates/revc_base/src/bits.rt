@@ -1,7 +1,7 @@
 // Bit words.
 ghost use Rattle.std.specs.List.{AllByRecursion};
 ghost use Rattle.std.specs.Prelude.{◌≡◌, ◌↔◌, ◌==◌, ◌<◌, ◌^◌, length, map, IfOk, IfSome, IfNone};
-ghost use Rattle.std.specs.Prelude.{IsErrOf, IsTrue};
+ghost use Rattle.std.specs.Prelude.{IsErrOf, IsTrue, Bool, List};
 ghost use Rattle.revc_base.specs.declared.bits.BitsFault.TheVariants as faults;
 ghost use Rattle.revc_base.specs.Bits.{IsDigit, IsWordOf, IsFirstOther};
 
@@ -16,8 +16,6 @@ pub struct Bits {
 }
 
 impl Model for Bits {
-    ghost use Rattle.std.specs.Prelude.{Bool, List};
-
     ghost Value = { List Bool };
 
     ghost view = { λ b. b.bits.items };

@@ -1,5 +1,7 @@
 // Lists that tables find their entries by.
-ghost use Rattle.std.specs.Prelude.{◌≡◌};
+ghost use Rattle.std.specs.Prelude.{◌≡◌, List};
+ghost use Rattle.std.specs.Cmp.Lexicographic.{pointwise, lists_per, lists_equiv};
+ghost use Rattle.std.specs.Hash.{slice, items_Alike};
 
 use std::alloc::Global;
 use std::hash::{Hash, Hasher};
@@ -12,8 +14,6 @@ pub struct Key<T> {
 }
 
 impl<T> Model for Key<T> {
-    ghost use Rattle.std.specs.Prelude.{List};
-
     ghost Value = { List T };
 
     ghost view = { λ k. k.items.items };
@@ -42,8 +42,6 @@ impl<T> Key<T> {
 
 // Two keys are equal exactly where their items are.
 impl<T: PartialEq> PartialEq for Key<T> {
-    ghost use Rattle.std.specs.Cmp.Lexicographic.{pointwise, lists_per};
-
     ghost eq = { pointwise T.eq };
 
     ghost laws = { lists_per T.laws };
@@ -54,15 +52,11 @@ impl<T: PartialEq> PartialEq for Key<T> {
 }
 
 impl<T: Eq> Eq for Key<T> {
-    ghost use Rattle.std.specs.Cmp.Lexicographic.{lists_equiv};
-
     ghost laws = { lists_equiv T.Eq.laws };
 }
 
 // A key feeds a hasher what its items feed it.
 impl<T: Hash> Hash for Key<T> {
-    ghost use Rattle.std.specs.Hash.{slice, items_Alike};
-
     ghost hash_input = { slice T.hash_input };
 
     ghost respects_eq = { (items_Alike (record { fed = T.respects_eq })).fed };

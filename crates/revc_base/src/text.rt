@@ -1,5 +1,5 @@
 // A short text, such as a name of a program or of a circuit's line.
-ghost use Rattle.std.specs.Prelude.{◌≡◌, ◌≤◌, length, IfOk};
+ghost use Rattle.std.specs.Prelude.{◌≡◌, ◌≤◌, length, IfOk, ℕ, List};
 ghost use Rattle.revc_base.specs.declared.limits.TheConstants.{MOST_NAME_BYTES};
 
 use crate::Memory;
@@ -15,9 +15,6 @@ pub struct Text {
 }
 
 impl Model for Text {
-    ghost use Rattle.std.specs.Prelude.{ℕ, List, length, ◌≤◌};
-    ghost use Rattle.revc_base.specs.declared.limits.TheConstants.{MOST_NAME_BYTES};
-
     ghost Value = { List ℕ };
 
     ghost view = { λ t. t.bytes };

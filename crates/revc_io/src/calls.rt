@@ -1,6 +1,6 @@
 ghost use Rattle.std.specs.Prelude.{◌≡◌, ◌↔◌, ◌≤◌, IsTrue};
 ghost use Rattle.revc_io.specs.Faults.{raised};
-ghost use Rattle.revc_io.specs.Memory.{FailsNext, counted};
+ghost use Rattle.revc_io.specs.Memory.{FailsNext, counted, CallsView};
 
 use std::marker::Model;
 
@@ -15,8 +15,6 @@ pub struct Calls {
 }
 
 impl Model for Calls {
-    ghost use Rattle.revc_io.specs.Memory.{CallsView};
-
     ghost Value = { CallsView };
 
     ghost view = { λ c. record {

@@ -1,9 +1,9 @@
 ghost use Rattle.std.specs.Prelude.{◌≡◌, ◌↔◌, ◌⊎◌, ◌<◌, ◌≤◌, ◌++◌, [], length, take, Some, IfOk};
-ghost use Rattle.std.specs.Prelude.{IsErr, MatchResult};
+ghost use Rattle.std.specs.Prelude.{IsErr, MatchResult, vec_len, vec_capacity};
 ghost use Rattle.std.specs.Io.{WritesAtMost};
 ghost use Rattle.std.specs.Io.KnownBytes.{Keeps, WriteAppends};
 ghost use Rattle.revc_io.specs.Faults.{HasCause};
-ghost use Rattle.revc_io.specs.Memory.{FailsNext, IsFull, counted, failed, taken_of};
+ghost use Rattle.revc_io.specs.Memory.{FailsNext, IsFull, counted, failed, taken_of, SinkView};
 
 use crate::calls::Calls;
 use crate::{Failed, Sink};
@@ -23,9 +23,6 @@ pub struct MemorySink {
 }
 
 impl Model for MemorySink {
-    ghost use Rattle.std.specs.Prelude.{◌≤◌, vec_len, vec_capacity};
-    ghost use Rattle.revc_io.specs.Memory.{SinkView};
-
     ghost Value = { SinkView };
 
     ghost view = { λ s. record {

@@ -3,7 +3,7 @@ ghost use Rattle.std.specs.Prelude.{MatchResult};
 ghost use Rattle.std.specs.Io.{ReadsAtMost};
 ghost use Rattle.std.specs.Io.KnownBytes.{ReadConsumes};
 ghost use Rattle.revc_io.specs.Faults.{HasCause};
-ghost use Rattle.revc_io.specs.Memory.{FailsNext, counted, failed, given_of};
+ghost use Rattle.revc_io.specs.Memory.{FailsNext, counted, failed, given_of, SourceView};
 
 use crate::calls::Calls;
 use crate::giving::give;
@@ -21,9 +21,6 @@ pub struct MemorySource {
 }
 
 impl Model for MemorySource {
-    ghost use Rattle.std.specs.Prelude.{◌≤◌, drop, length};
-    ghost use Rattle.revc_io.specs.Memory.{SourceView};
-
     ghost Value = { SourceView };
 
     ghost view = { λ s. record {

@@ -1,5 +1,7 @@
 // Pieces that are put through a buffer, and the whole texts that are made of them.
-ghost use Rattle.std.specs.Prelude.{◌≡◌, ◌<◌, ℕ, List, length, slice_get, Some};
+ghost use Rattle.std.specs.Prelude.{◌≡◌, ◌<◌, ℕ, List, length, slice_get, Some, ⊤, [], ◌∷◌, ◌++◌};
+ghost use Rattle.std.specs.Fmt.{decimal};
+ghost use Rattle.std.specs.List.{concat};
 ghost use Rattle.revc_io.specs.Faults.{HasCause};
 ghost use Rattle.revc_io.specs.Passing.{Gathers, Writes};
 
@@ -22,8 +24,6 @@ pub trait Piece: Copy {
 }
 
 impl Piece for &[u8] {
-    ghost use Rattle.std.specs.Prelude.{⊤};
-
     ghost can_put = { λ _. ⊤ };
 
     ghost bytes = { λ piece. piece.now };
@@ -34,8 +34,6 @@ impl Piece for &[u8] {
 }
 
 impl<const N: usize> Piece for &[u8; N] {
-    ghost use Rattle.std.specs.Prelude.{⊤};
-
     ghost can_put = { λ _. ⊤ };
 
     ghost bytes = { λ piece. piece.now };
@@ -51,8 +49,6 @@ impl<const N: usize> Piece for &[u8; N] {
 pub struct Literal(pub &'static [u8]);
 
 impl Piece for Literal {
-    ghost use Rattle.std.specs.Prelude.{⊤};
-
     ghost can_put = { λ _. ⊤ };
 
     ghost bytes = { λ literal. literal.0.now };
@@ -67,8 +63,6 @@ impl Piece for Literal {
 pub struct Byte(pub u8);
 
 impl Piece for Byte {
-    ghost use Rattle.std.specs.Prelude.{⊤, [], ◌∷◌};
-
     ghost can_put = { λ _. ⊤ };
 
     ghost bytes = { λ byte. byte.0 ∷ [] };
@@ -83,9 +77,6 @@ impl Piece for Byte {
 pub struct Decimal(pub u64);
 
 impl Piece for Decimal {
-    ghost use Rattle.std.specs.Prelude.{⊤};
-    ghost use Rattle.std.specs.Fmt.{decimal};
-
     ghost can_put = { λ _. ⊤ };
 
     ghost bytes = { λ number. decimal number.0 };
@@ -96,8 +87,6 @@ impl Piece for Decimal {
 }
 
 impl<A: Piece, B: Piece> Piece for (A, B) {
-    ghost use Rattle.std.specs.Prelude.{◌++◌};
-
     ghost can_put = { λ texts. A.can_put texts.0 × B.can_put texts.1 };
 
     ghost bytes = { λ texts. A.bytes texts.0 ++ B.bytes texts.1 };
@@ -110,8 +99,6 @@ impl<A: Piece, B: Piece> Piece for (A, B) {
 }
 
 impl<A: Piece, B: Piece, C: Piece> Piece for (A, B, C) {
-    ghost use Rattle.std.specs.Prelude.{◌++◌};
-
     ghost can_put = { λ texts. A.can_put texts.0 × B.can_put texts.1 × C.can_put texts.2 };
 
     ghost bytes = { λ texts. A.bytes texts.0 ++ (B.bytes texts.1 ++ C.bytes texts.2) };
@@ -162,8 +149,6 @@ pub trait Pieces: Copy {
 pub struct Each<P>(pub P);
 
 impl<P: Pieces> Piece for Each<P> {
-    ghost use Rattle.std.specs.List.{concat};
-
     ghost can_put = { λ each. P.can_put_each each.0 };
 
     ghost bytes = { λ each. concat (P.list each.0) };

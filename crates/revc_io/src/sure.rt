@@ -1,4 +1,4 @@
-ghost use Rattle.std.specs.Prelude.{◌≡◌, Some};
+ghost use Rattle.std.specs.Prelude.{◌≡◌, Some, ℕ, ◌≤◌, List, drop, length};
 
 use crate::giving::give;
 use crate::{Failed, Source};
@@ -13,8 +13,6 @@ pub struct SureSource {
 }
 
 impl Model for SureSource {
-    ghost use Rattle.std.specs.Prelude.{ℕ, ◌≤◌, List, drop, length};
-
     ghost Value = { List ℕ };
 
     ghost view = { λ s. drop s.at s.bytes.items };

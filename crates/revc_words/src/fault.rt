@@ -1,7 +1,9 @@
 // Why words are no order.
 
-ghost use Rattle.std.specs.Prelude.{◌≡◌};
+ghost use Rattle.std.specs.Prelude.{◌≡◌, ◌≢◌};
 ghost use Rattle.revc_words.specs.declared.fault.WordsFault.TheVariants as faults;
+ghost use Rattle.clap.specs.Words.{kind_of};
+ghost use Rattle.clap.specs.declared.error.kind.ErrorKind.TheVariants as kinds;
 
 use clap::error::ErrorKind;
 use revc_base::Memory;
@@ -24,10 +26,6 @@ impl From<Memory> for WordsFault {
 }
 
 impl From<clap::Error> for WordsFault {
-    ghost use Rattle.std.specs.Prelude.{◌≢◌};
-    ghost use Rattle.clap.specs.Words.{kind_of};
-    ghost use Rattle.clap.specs.declared.error.kind.ErrorKind.TheVariants as kinds;
-
     ghost from_gives = { λ error e. e ≡ faults.Usage → kind_of error ≢ kinds.OutOfMemory };
 
     fn from(error: clap::Error) -> WordsFault {

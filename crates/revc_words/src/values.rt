@@ -3,7 +3,8 @@ ghost use Rattle.std.specs.Prelude.{◌≡◌, ℕ, List, Option};
 ghost use Rattle.clap.specs.Words.{first_of, found_of, rows_of};
 ghost use Rattle.revc_words.specs.Words.{order_of, words_of};
 ghost use Rattle.revc_words.specs.inside.Parsing.{kind_of, number_of, order_with, text_at};
-ghost use Rattle.revc_words.specs.inside.Parsing.{texts_in, value_or, values_of};
+ghost use Rattle.revc_words.specs.inside.Parsing.{texts_in, value_or, values_of, plan_of};
+ghost use Rattle.revc_words.specs.inside.Parsing.{format_of, write_of};
 
 use crate::{
     Command, Format, MOST_DIGITS, MOST_NODES, Order, USUAL_GATES, USUAL_LINES, USUAL_NODES, Write,
@@ -127,8 +128,6 @@ fn chosen<C: Choice>(name: Option<&str>, usual: C) -> Option<C>
 }
 
 impl Choice for How {
-    ghost use Rattle.revc_words.specs.inside.Parsing.{plan_of};
-
     ghost choice = { plan_of };
 
     fn named(name: &str) -> Option<How> {
@@ -143,8 +142,6 @@ impl Choice for How {
 }
 
 impl Choice for Format {
-    ghost use Rattle.revc_words.specs.inside.Parsing.{format_of};
-
     ghost choice = { format_of };
 
     fn named(name: &str) -> Option<Format> {
@@ -157,8 +154,6 @@ impl Choice for Format {
 }
 
 impl Choice for Write {
-    ghost use Rattle.revc_words.specs.inside.Parsing.{write_of};
-
     ghost choice = { write_of };
 
     fn named(name: &str) -> Option<Write> {

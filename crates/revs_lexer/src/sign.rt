@@ -1,5 +1,6 @@
 // The signs of the language.
 ghost use Rattle.std.specs.Prelude.{◌≡◌};
+ghost use Rattle.revs_lexer.specs.Spelling.{sign_text};
 
 /// A sign of the language. Only programs of profile 2 hold `Plus` and `Minus`.
 #[derive(Clone, Copy, Debug, PartialEq, Eq)]
@@ -24,8 +25,6 @@ pub enum Sign {
 }
 
 impl Sign {
-    ghost use Rattle.revs_lexer.specs.Spelling.{sign_text};
-
     /// Each sign once, no sign before a longer one.
     pub const ALL: [Sign; 17] = [
         Sign::Xor,

@@ -1,5 +1,6 @@
 // The words of the language.
 ghost use Rattle.std.specs.Prelude.{◌≡◌};
+ghost use Rattle.revs_lexer.specs.Spelling.{word_text};
 
 /// A word of the language. Only programs of profile 2 hold the words from `For` on.
 #[derive(Clone, Copy, Debug, PartialEq, Eq)]
@@ -22,8 +23,6 @@ pub enum Word {
 }
 
 impl Word {
-    ghost use Rattle.revs_lexer.specs.Spelling.{word_text};
-
     /// Each word once.
     pub const ALL: [Word; 15] = [
         Word::Main,

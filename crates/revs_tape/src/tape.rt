@@ -2,7 +2,7 @@
 ghost use Rattle.std.specs.Prelude.{◌≡◌, ◌+◌, ◌<◌, ◌≤◌, ◌∷◌, [], ◌++◌, length, sum, slice_get};
 ghost use Rattle.std.specs.Prelude.{Some, IfOk, OnOk, OnErr};
 ghost use Rattle.std.specs.List.{AllByRecursion};
-ghost use Rattle.revs_tape.specs.Tapes.{AreWidths, IsKnown, IsKnownEntry, IsTape};
+ghost use Rattle.revs_tape.specs.Tapes.{AreWidths, IsKnown, IsKnownEntry, IsTape, TapeView};
 ghost use Rattle.revs_tape.specs.declared.limits.TheConstants.{MOST_CLAIMS, MOST_OUTPUTS};
 ghost use Rattle.revs_tape.specs.declared.limits.TheConstants.{MOST_WRITES};
 
@@ -55,9 +55,6 @@ pub struct Tape {
 }
 
 impl Model for Tape {
-    ghost use Rattle.std.specs.Prelude.{◌≡◌, sum};
-    ghost use Rattle.revs_tape.specs.Tapes.{TapeView, IsTape};
-
     ghost Value = { TapeView };
 
     ghost view = { λ t. record {
