@@ -149,6 +149,19 @@ fn fail_reads(
     Ok(())
 }
 
+// Over these devices the call writes all that it writes over sound ones.
+fn write_all(
+    rt: &impl Abort,
+    alloc: Global,
+    words: &str,
+    text: &[u8],
+    on: Devices,
+    whole: &[u8],
+) -> Result<(), Memory> {
+    assert!(rt; left_over(alloc, words, text, on)?.is(0, whole), "{words}");
+    Ok(())
+}
+
 // Each write and the flush fail in turn: the bytes of the writes before are there. One number
 // further, none fails.
 fn fail_writes(
@@ -177,11 +190,7 @@ fn fail_writes(
         failing_write: calls.saturating_add(1),
         ..on
     };
-    assert!(rt;
-        left_over(alloc, words, text, past)?.is(0, &whole),
-        "{words}"
-    );
-    Ok(())
+    write_all(rt, alloc, words, text, past, &whole)
 }
 
 #[test]
@@ -217,11 +226,7 @@ fn fill_rooms(rt: &impl Abort, alloc: Global, words: &str, text: &[u8]) -> Resul
         room: whole.len(),
         ..SOUND
     };
-    assert!(rt;
-        left_over(alloc, words, text, enough)?.is(0, &whole),
-        "{words}"
-    );
-    Ok(())
+    write_all(rt, alloc, words, text, enough, &whole)
 }
 
 #[test]

@@ -117,21 +117,8 @@ fn has_value(
     check(rt, alloc, calls.as_str(), text, 0, line.as_bytes())
 }
 
-// What the circuits do, and what `eval` gives, on an input.
+// What the circuits do, and what `eval` gives, on the inputs with this number.
 fn computes(
-    rt: &impl Abort,
-    alloc: Global,
-    text: &[u8],
-    word: &str,
-    bits: &str,
-) -> Result<(), Fail> {
-    leaves(rt, alloc, text, "eager", word, bits)?;
-    leaves(rt, alloc, text, "pebble", word, bits)?;
-    has_value(rt, alloc, text, word, bits)
-}
-
-// The same on the inputs with this number.
-fn computes_at(
     rt: &impl Abort,
     alloc: Global,
     text: &[u8],
@@ -140,7 +127,9 @@ fn computes_at(
 ) -> Result<(), Fail> {
     let word = digits(alloc, number, inputs)?;
     let bits = digits(alloc, value, outputs)?;
-    computes(rt, alloc, text, word.as_str(), bits.as_str())
+    leaves(rt, alloc, text, "eager", word.as_str(), bits.as_str())?;
+    leaves(rt, alloc, text, "pebble", word.as_str(), bits.as_str())?;
+    has_value(rt, alloc, text, word.as_str(), bits.as_str())
 }
 
 #[test]
@@ -148,7 +137,7 @@ fn circuits_of_the_gallery_compute_their_functions(rt: HostRuntime) -> Result<()
     for (text, inputs, outputs, values) in FUNCTIONS {
         for (number, value) in values.iter().enumerate() {
             let (input, output) = ((number, *inputs), (*value, *outputs));
-            computes_at(&rt, rt.alloc(), text, input, output)?;
+            computes(&rt, rt.alloc(), text, input, output)?;
         }
     }
     Ok(())
