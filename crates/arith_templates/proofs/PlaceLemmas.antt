@@ -4,6 +4,7 @@ use Rattle.std.proofs.Common.{[], ◌∷◌, ◌++◌, length, take, drop, refl,
 use Rattle.std.proofs.lemmas.List.{length-take-le, take-append-drop}
 use Rattle.std.proofs.Math.Nat.{pow-suc}
 use Rattle.std.specs.Bool.{xor}
+use Rattle.list_facts.proofs.TableLemmas.{number_of_two_bits, number_of_three_bits}
 use Rattle.arith_templates.specs.Numbers.{bit, number}
 use Rattle.arith_templates.specs.Places.{carry, sums, SumsAdd, borrow, differences, last_borrow, DifferencesSubtract, IncrementsAdd, ProductsMultiply}
 use Rattle.arith_templates.proofs.NumberLemmas.{number_below, number-append, twice, next_power}
@@ -13,14 +14,7 @@ use Rattle.arith_templates.proofs.NumberLemmas.{number_below, number-append, twi
 -- one place: its bit and the carry out of it
 one_sum : (x y c : Bool) → bit (xor (xor x y) c) + 2 * bit (carry x y c) ≡ bit x + bit y + bit c
 unfolding mathlib.Core.Bool.xor
-one_sum true true true = refl
-one_sum true true false = refl
-one_sum true false true = refl
-one_sum true false false = refl
-one_sum false true true = refl
-one_sum false true false = refl
-one_sum false false true = refl
-one_sum false false false = refl
+one_sum = number_of_three_bits (λ x y c. bit (xor (xor x y) c) + 2 * bit (carry x y c)) (λ x y c. bit x + bit y + bit c) refl
 
 pub sums_add : SumsAdd
 sums_add c [] [] same = (omega arith, refl)
@@ -36,14 +30,8 @@ sums_add c (x ∷ xs) (y ∷ ys) same =
 -- one place: its bit and the borrow out of it
 one_difference : (x y c : Bool) → bit (xor (xor x y) c) + bit y + bit c ≡ bit x + 2 * bit (borrow x y c)
 unfolding mathlib.Core.Bool.xor
-one_difference true true true = refl
-one_difference true true false = refl
-one_difference true false true = refl
-one_difference true false false = refl
-one_difference false true true = refl
-one_difference false true false = refl
-one_difference false false true = refl
-one_difference false false false = refl
+one_difference =
+    number_of_three_bits (λ x y c. bit (xor (xor x y) c) + bit y + bit c) (λ x y c. bit x + 2 * bit (borrow x y c)) refl
 
 size_of_differences : (c : Bool) (xs ys : List Bool) → length xs ≡ length ys → length (differences c xs ys) ≡ length xs
 size_of_differences c [] ys same = refl
@@ -92,10 +80,7 @@ differences_subtract c xs ys same = record {
 -- one place: its bit and the carry out of it
 one_increment : (x c : Bool) → bit (xor x c) + 2 * bit (x && c) ≡ bit x + bit c
 unfolding mathlib.Core.Bool.xor
-one_increment true true = refl
-one_increment true false = refl
-one_increment false true = refl
-one_increment false false = refl
+one_increment = number_of_two_bits (λ x c. bit (xor x c) + 2 * bit (x && c)) (λ x c. bit x + bit c) refl
 
 pub increments_add : IncrementsAdd
 increments_add c [] = (omega arith, refl)

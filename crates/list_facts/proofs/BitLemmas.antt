@@ -1,29 +1,25 @@
 -- Exclusive or on bits, alone and with and.
 use Rattle.std.proofs.Common.{◌≡◌, ℕ, zero, suc, ◌+◌, ◌%◌, ◌<◌, ◌==◌, ◌⊎◌, inl, inr, Bool, true, false, not, ◌&&◌, cond, refl, sym, ap, ◌∙◌, arith}
 use Rattle.std.specs.Bool.{xor}
-use Rattle.list_facts.proofs.TableLemmas.{of_two_bits, of_three_bits}
+use Rattle.list_facts.proofs.TableLemmas.{of_one_bit, of_two_bits, of_three_bits}
 
 -- ---- alone
 
 pub xor_one : (v : Bool) → xor true v ≡ not v
 unfolding mathlib.Core.Bool.xor
-xor_one true = refl
-xor_one false = refl
+xor_one = of_one_bit (λ v. xor true v) not refl
 
 pub xor_none : (v : Bool) → xor false v ≡ v
 unfolding mathlib.Core.Bool.xor
-xor_none true = refl
-xor_none false = refl
+xor_none = of_one_bit (λ v. xor false v) (λ v. v) refl
 
 pub xor_nothing : (v : Bool) → xor v false ≡ v
 unfolding mathlib.Core.Bool.xor
-xor_nothing true = refl
-xor_nothing false = refl
+xor_nothing = of_one_bit (λ v. xor v false) (λ v. v) refl
 
 pub xor_same : (v : Bool) → xor v v ≡ false
 unfolding mathlib.Core.Bool.xor
-xor_same true = refl
-xor_same false = refl
+xor_same = of_one_bit (λ v. xor v v) (λ v. false) refl
 
 pub xor_swap : (a b : Bool) → xor a b ≡ xor b a
 unfolding mathlib.Core.Bool.xor

@@ -1,6 +1,6 @@
 -- Functions of a few bits whose tables are the same are the same: the tables are computed.
-use Rattle.std.proofs.Common.{◌≡◌, Bool, true, false, ◌&&◌, refl, sym}
-use Rattle.std.proofs.lemmas.Bool.{false≢true}
+use Rattle.std.proofs.Common.{◌≡◌, ℕ, ◌==◌, Bool, true, false, ◌&&◌, refl, sym}
+use Rattle.std.proofs.lemmas.Bool.{false≢true, eqb-true}
 
 abbrev is_bit : Bool → Bool → Bool
 is_bit true b = b
@@ -43,3 +43,12 @@ of_three_bits f g e false b c = of_two_bits (f false) (g false) (both_rows _ _ e
 pub of_four_bits : (f g : Bool → Bool → Bool → Bool → Bool) → same_table_4 f g ≡ true → (a b c d : Bool) → f a b c d ≡ g a b c d
 of_four_bits f g e true b c d = of_three_bits (f true) (g true) (both_rows _ _ e).0 b c d
 of_four_bits f g e false b c d = of_three_bits (f false) (g false) (both_rows _ _ e).1 b c d
+
+-- ---- numbers
+
+pub number_of_two_bits : (f g : Bool → Bool → ℕ) → same_table_2 (λ a b. f a b == g a b) (λ a b. true) ≡ true → (a b : Bool) → f a b ≡ g a b
+number_of_two_bits f g e a b = eqb-true (f a b) (g a b) (of_two_bits (λ a b. f a b == g a b) (λ a b. true) e a b)
+
+pub number_of_three_bits : (f g : Bool → Bool → Bool → ℕ) → same_table_3 (λ a b c. f a b c == g a b c) (λ a b c. true) ≡ true
+    → (a b c : Bool) → f a b c ≡ g a b c
+number_of_three_bits f g e a b c = eqb-true (f a b c) (g a b c) (of_three_bits (λ a b c. f a b c == g a b c) (λ a b c. true) e a b c)
