@@ -149,33 +149,20 @@ module _ (n : ℕ) (P : List Bool → Type 0) (decide : (v : List Bool) → P v 
     })
   ]
 
-  with_false : (i : ℕ) (rest : List ℕ) (v : List Bool) → length v ≡ n → i < n → AllByRecursion (λ k. i ≢ k) rest → Least rest (set v i false)
-      → Least (i ∷ rest) v
-  with_false i rest v size inside apart found =
-      let bit : bit_of found.input i ≡ false = own_bit n i rest found.input v false size inside apart found.off in
+  -- the least behind a bit, where P holds of what has another bit and comes before
+  with_bit : (i : ℕ) (rest : List ℕ) (v : List Bool) (b : Bool) → length v ≡ n → i < n → AllByRecursion (λ k. i ≢ k) rest
+      → ((other : List Bool) → length other ≡ n → AgreeOff n (i ∷ rest) other v → bit_of other i ≡ false → b ≡ true → P other)
+      → Least rest (set v i b) → Least (i ∷ rest) v
+  with_bit i rest v b size inside apart lower found =
+      let bit : bit_of found.input i ≡ b = own_bit n i rest found.input v b size inside apart found.off in
       record {
         input = found.input;
         size = found.size;
-        off = off_more n i rest found.input v false found.off;
+        off = off_more n i rest found.input v b found.off;
         fails = found.fails;
-        least = λ other size2 off b. elim (before_cases i rest other found.input b) as (λ _. P other) [
-          | inl first ↦ absurd (true≢false (sym first.1 ∙ bit))
-          | inr behind ↦ found.least other size2 (off_fixed n i rest other v false size inside (behind.0 ∙ bit) off) behind.1
-        ];
-      }
-
-  with_true : (i : ℕ) (rest : List ℕ) (v : List Bool) → length v ≡ n → i < n → AllByRecursion (λ k. i ≢ k) rest → Everywhere rest (set v i false)
-      → Least rest (set v i true) → Least (i ∷ rest) v
-  with_true i rest v size inside apart all found =
-      let bit : bit_of found.input i ≡ true = own_bit n i rest found.input v true size inside apart found.off in
-      record {
-        input = found.input;
-        size = found.size;
-        off = off_more n i rest found.input v true found.off;
-        fails = found.fails;
-        least = λ other size2 off b. elim (before_cases i rest other found.input b) as (λ _. P other) [
-          | inl first ↦ all other size2 (off_fixed n i rest other v false size inside first.0 off)
-          | inr behind ↦ found.least other size2 (off_fixed n i rest other v true size inside (behind.0 ∙ bit) off) behind.1
+        least = λ other size2 off before. elim (before_cases i rest other found.input before) as (λ _. P other) [
+          | inl first ↦ lower other size2 off first.0 (sym bit ∙ first.1)
+          | inr behind ↦ found.least other size2 (off_fixed n i rest other v b size inside (behind.0 ∙ bit) off) behind.1
         ];
       }
 
@@ -192,10 +179,11 @@ module _ (n : ℕ) (P : List Bool → Type 0) (decide : (v : List Bool) → P v 
   everywhere_or_least (i ∷ rest) v size different inside =
       elim (everywhere_or_least rest (set v i false) (length-set v i false ∙ size) different.1 inside.1)
       as (λ _. Everywhere (i ∷ rest) v ⊎ Least (i ∷ rest) v) [
-        | inr found ↦ inr (with_false i rest v size inside.0 different.0 found)
+        | inr found ↦ inr (with_bit i rest v false size inside.0 different.0 (λ other size2 off none one. absurd (true≢false (sym one))) found)
         | inl nones ↦ elim (everywhere_or_least rest (set v i true) (length-set v i true ∙ size) different.1 inside.1)
             as (λ _. Everywhere (i ∷ rest) v ⊎ Least (i ∷ rest) v) [
-              | inr found ↦ inr (with_true i rest v size inside.0 different.0 nones found)
+              | inr found ↦ inr (with_bit i rest v true size inside.0 different.0
+                  (λ other size2 off none one. nones other size2 (off_fixed n i rest other v false size inside.0 none off)) found)
               | inl ones ↦ inl (both_ways i rest v size inside.0 nones ones)
             ]
       ]

@@ -236,28 +236,20 @@ counted_step t marks more b e live width later is cut new count =
       | inr not_above ↦ let same : k ≡ j = omega (arith, not_above, low, size) in
           subst (λ (z : ℕ). length (cut_at t z) ≤ max width later) (sym same) (omega (arith, here))
     ] in
-    elim (cases_lt width later) as (λ _. IsCounted t more later (max width later)) [
-      | inl wider ↦ record {
-        short = omega (arith, inside, size);
-        are = now
-            ∙ ap (marks_at t) (sym size);
-        count = count;
-        most = most;
-        at = j;
-        inside = inside;
-        reached = omega (arith, here, wider);
-      }
-      | inr no_wider ↦ record {
-        short = omega (arith, inside, size);
-        are = now
-            ∙ ap (marks_at t) (sym size);
-        count = count;
-        most = most;
-        at = is.at;
-        inside = is.inside;
-        reached = omega (arith, is.reached, no_wider);
-      }
-    ]
+    let widest : (at : ℕ) × (at ≤ length t.entries) × (length (cut_at t at) ≡ max width later) =
+    elim (cases_lt width later) as (λ _. (at : ℕ) × (at ≤ length t.entries) × (length (cut_at t at) ≡ max width later)) [
+      | inl wider ↦ (j, inside, omega (arith, here, wider))
+      | inr no_wider ↦ (is.at, is.inside, omega (arith, is.reached, no_wider))
+    ] in
+    record {
+      short = omega (arith, inside, size);
+      are = now ∙ ap (marks_at t) (sym size);
+      count = count;
+      most = most;
+      at = widest.0;
+      inside = widest.1;
+      reached = widest.2;
+    }
 
 pub cut_where : (es fs : List Entry) (j k : ℕ) (d : Entry) → fs ≡ es → k ≡ j → j < length es → drop j es ≡ slice_index_or fs k d ∷ drop (suc j) es
 cut_where es fs j k d same place inside = rw same (rw place (drop-cons es j d inside))
