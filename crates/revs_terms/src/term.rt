@@ -1,8 +1,7 @@
 // Terms, as the grammar gives them.
-ghost use Rattle.std.specs.Prelude.{◌≡◌, List};
+ghost use Rattle.std.specs.Prelude.{◌≡◌};
 ghost use Rattle.revs_terms.specs.Terms.{place_of, unit_place};
 ghost use Rattle.revs_terms.specs.Trees.{tree_of};
-ghost use Rattle.revs_terms.specs.declared.term.Step.{Step};
 
 use revc_base::{Place, Text};
 use std::marker::Model;
@@ -64,6 +63,9 @@ pub struct Num {
 }
 
 impl Model for Num {
+    ghost use Rattle.std.specs.Prelude.{List};
+    ghost use Rattle.revs_terms.specs.declared.term.Step.{Step};
+
     ghost Value = { List Step };
 
     ghost use Rattle.revs_terms.specs.Numbers.{steps_of};
