@@ -62,8 +62,10 @@ behind_first level [] = []
 behind_first level (p ∷ ps) = at_level level ps
 
 -- A form of this kind is read as the reader goes by, or the machine halts there.
-abbrev pub GivesAt : {T : Type 0} (k : Kind) (reader : Reader) → (T → KindVal k) → List Token → Result (T × Bor (List Token)) Stop → Type 0
-GivesAt k reader seen ts result = GivesForm (in_profile reader.profile k) reader.level seen ts result
+abbrev pub GivesAt : {T : Type 0} (k : Kind) (reader : Reader) → (T → KindVal k) → List Token
+    → Result (T × Bor (List Token)) Stop → Type 0
+GivesAt k reader seen ts result =
+    GivesForm (in_profile reader.profile k) reader.level seen ts result
 
 -- what is expected of the names behind a first one, and of the sign that ends them
 abbrev pub names_rest : Sign → Stack
@@ -172,14 +174,17 @@ IsChain infixes.And p level term ts rest = ReadsForm (in_profile p g.product) le
 
 abbrev pub IsOperand : Infix → Profile → ℕ → Tree → List Token → List Token → Type 0
 IsOperand infixes.Xor p level term ts rest = ReadsForm (in_profile p g.product) level term ts rest
-IsOperand infixes.And p level term ts rest = ReadsForm (in_profile p g.application) level term ts rest
+IsOperand infixes.And p level term ts rest =
+    ReadsForm (in_profile p g.application) level term ts rest
 
 -- A chain was read, which is one operand alone or the term of more.
-pub record ReadsChain (operator : Infix) (p : Profile) (level : ℕ) (term : Tree) (ts rest : List Token) : Type 0 where
+pub record ReadsChain (operator : Infix) (p : Profile) (level : ℕ) (term : Tree)
+    (ts rest : List Token) : Type 0 where
   pub reads : IsChain operator p level term ts rest
 
 -- An operand of a chain was read.
-pub record ReadsOperand (operator : Infix) (p : Profile) (level : ℕ) (term : Tree) (ts rest : List Token) : Type 0 where
+pub record ReadsOperand (operator : Infix) (p : Profile) (level : ℕ) (term : Tree)
+    (ts rest : List Token) : Type 0 where
   pub reads : IsOperand operator p level term ts rest
 
 -- the token that opens a level
@@ -238,11 +243,13 @@ in_opened openers.Block p level = in_block p level
 
 abbrev pub IsOpened : Opener → Profile → ℕ → Place → Tree → List Token → List Token → Type 0
 IsOpened openers.Register p level at term ts rest = ReadsRegister p level at term ts rest
-IsOpened openers.Bracket p level at term ts rest = Reads (closed_by p signs.CloseRound level) (term, tt) ts rest
+IsOpened openers.Bracket p level at term ts rest =
+    Reads (closed_by p signs.CloseRound level) (term, tt) ts rest
 IsOpened openers.Block p level at term ts rest = ReadsBlock p level at term ts rest
 
 -- What stands there was read; the token has this place.
-pub record ReadsOpened (opener : Opener) (p : Profile) (level : ℕ) (at : Place) (term : Tree) (ts rest : List Token) : Type 0 where
+pub record ReadsOpened (opener : Opener) (p : Profile) (level : ℕ) (at : Place) (term : Tree)
+    (ts rest : List Token) : Type 0 where
   pub reads : IsOpened opener p level at term ts rest
 
 -- An item of a block was read: it stands in front of the items behind it.

@@ -60,12 +60,14 @@ abbrev pub HaltsIn : Form → ℕ → List Token → Stop → Type 0
 HaltsIn f l ts stop = Halts (form f l ∷ []) ts stop
 
 -- What stands first is read as this relation says, or the machine that expects these symbols halts there.
-abbrev pub Gives : {T : Type 0} → (T → List Token → List Token → Type 0) → Stack → List Token → Result (T × Bor (List Token)) Stop → Type 0
+abbrev pub Gives : {T : Type 0} → (T → List Token → List Token → Type 0) → Stack → List Token
+    → Result (T × Bor (List Token)) Stop → Type 0
 Gives reads es ts result =
     MatchResult result (λ read. reads read.0 ts read.1.now) (λ stop. Halts es ts stop)
 
 -- So it is with a form, as which a value is seen.
-abbrev pub GivesForm : {T : Type 0} (f : Form) (l : ℕ) → (T → Val f) → List Token → Result (T × Bor (List Token)) Stop → Type 0
+abbrev pub GivesForm : {T : Type 0} (f : Form) (l : ℕ) → (T → Val f) → List Token
+    → Result (T × Bor (List Token)) Stop → Type 0
 GivesForm f l seen ts result = Gives (λ x. ReadsForm f l (seen x)) (form f l ∷ []) ts result
 
 -- What is made is as it says, or memory is wanting.
