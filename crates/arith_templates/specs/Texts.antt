@@ -2,7 +2,7 @@
 use Rattle.std.specs.Prelude.{ℕ, zero, suc, ◌+◌, ◌-◌, Bool, true, false, List, [], ◌∷◌, ◌++◌, length, codes, decimal}
 use Rattle.std.specs.List.{flat_map, range_with_len}
 use Rattle.program_gen.specs.Adder.{bit_line, next_line, parameters, carry_function, first_place, place, adder_text}
-use Rattle.program_gen.specs.Places.{line, outputs}
+use Rattle.program_gen.specs.Places.{line, outputs, ripple_text}
 use Rattle.arith_templates.specs.Numbers.{digits_of}
 use Rattle.arith_templates.specs.declared.kind.Kind.{Kind}
 use Rattle.arith_templates.specs.declared.kind.Kind.TheVariants.{Add, Sub, Less, Inc, Mul}
@@ -44,17 +44,20 @@ difference_place i = difference_line i ++ borrow_line i
 unfoldable pub last_borrow_line : ℕ → List ℕ
 last_borrow_line n = line (codes "c" ∷ decimal n ∷ [])
 
+-- the parameters, the borrow as a function, and what is put of place 0
+abbrev pub subtractor_opening : ℕ → List ℕ
+subtractor_opening n = parameters n ++ (borrow_function ++ (first_difference ++ first_borrow))
+
+abbrev pub comparator_opening : ℕ → List ℕ
+comparator_opening n = parameters n ++ (borrow_function ++ first_borrow)
+
 -- the program that subtracts a number from another
 abbrev pub subtractor_text : ℕ → List ℕ
-subtractor_text n = parameters n ++ (borrow_function ++ (first_difference ++ first_borrow))
-    ++ flat_map difference_place (range_with_len 1 (n - 1)) ++ outputs (codes "d") n
-    ++ line (codes "}" ∷ [])
+subtractor_text n = ripple_text subtractor_opening difference_place (outputs (codes "d")) n
 
 -- the program that says whether a number is less than another
 abbrev pub comparator_text : ℕ → List ℕ
-comparator_text n = parameters n ++ (borrow_function ++ first_borrow)
-    ++ flat_map borrow_line (range_with_len 1 (n - 1)) ++ last_borrow_line n
-    ++ line (codes "}" ∷ [])
+comparator_text n = ripple_text comparator_opening borrow_line last_borrow_line n
 
 -- ---- increments
 
@@ -77,11 +80,13 @@ increment_carry_line i = line (codes "let c" ∷ decimal (i + 1) ∷ codes " = a
 abbrev pub increment_place : ℕ → List ℕ
 increment_place i = increment_line i ++ increment_carry_line i
 
+-- the parameter, and place 0
+abbrev pub incrementer_opening : ℕ → List ℕ
+incrementer_opening n = parameter n ++ first_increment
+
 -- the program that adds 1
 abbrev pub incrementer_text : ℕ → List ℕ
-incrementer_text n = parameter n ++ first_increment
-    ++ flat_map increment_place (range_with_len 1 (n - 1)) ++ outputs (codes "s") n
-    ++ line (codes "}" ∷ [])
+incrementer_text n = ripple_text incrementer_opening increment_place (outputs (codes "s")) n
 
 -- ---- products
 
@@ -122,16 +127,24 @@ add_line n k = line (codes "let r" ∷ decimal (k + 2) ∷ codes " = append r" �
     ∷ codes ".[0.." ∷ decimal k ∷ codes "] (plus r" ∷ decimal (k + 1) ∷ codes ".["
     ∷ decimal (k + 1) ∷ codes ".." ∷ decimal (n + k) ∷ codes "] a);" ∷ [])
 
+-- what stands for a digit: for 0 at place k, for 1 at place 0, and for 1 at place k + 1
+abbrev pub by_digit : {A : Type 0} → (ℕ → A) → A → (ℕ → A) → ℕ → Bool → A
+by_digit none first further k false = none k
+by_digit none first further zero true = first
+by_digit none first further (suc k) true = further k
+
+-- what stands for the digits from place k on, one behind the other
+abbrev pub from_place : {A : Type 0} → (ℕ → Bool → List A) → ℕ → List Bool → List A
+from_place each k [] = []
+from_place each k (digit ∷ digits) = each k digit ++ from_place each (k + 1) digits
+
 -- the line of a digit
 abbrev pub digit_line : ℕ → ℕ → Bool → List ℕ
-digit_line n k false = shift_line k
-digit_line n zero true = first_add_line
-digit_line n (suc k) true = add_line n k
+digit_line n = by_digit shift_line first_add_line (add_line n)
 
 -- the lines of the digits from place k on
 abbrev pub digit_lines : ℕ → ℕ → List Bool → List ℕ
-digit_lines n k [] = []
-digit_lines n k (digit ∷ digits) = digit_line n k digit ++ digit_lines n (k + 1) digits
+digit_lines n = from_place (digit_line n)
 
 -- the product, behind so many digits
 unfoldable pub product_line : ℕ → List ℕ

@@ -1,14 +1,14 @@
 // The program that multiplies by a constant, line by line.
 ghost use Rattle.std.specs.Prelude.{◌≡◌, ◌-◌, ◌≤◌, ◌++◌, string_bytes, length, IfOk, OnOk};
 ghost use Rattle.std.specs.List.{flat_map, range_with_len};
-ghost use Rattle.program_gen.specs.Adder.{carry_function};
 ghost use Rattle.arith_templates.specs.Numbers.{digits_of};
-ghost use Rattle.arith_templates.specs.Texts.{parameter, plus_function};
+ghost use Rattle.arith_templates.specs.Texts.{plus_function};
 ghost use Rattle.arith_templates.specs.Texts.{zero_line, further_zero, digit_line};
 ghost use Rattle.arith_templates.specs.Texts.{digit_lines, add_line, multiplier_text};
 
+use crate::increment::put_parameter;
 use crate::limits::MOST_FACTOR;
-use program_gen::{MOST_BITS, put_outputs, put_places, put_sums};
+use program_gen::{MOST_BITS, put_carry, put_outputs, put_places, put_sums};
 use revc_base::Memory;
 use std::alloc::{AllocError, Global};
 
@@ -21,23 +21,14 @@ pub(crate) fn multiplier(alloc: Global, n: u32, by: u32) -> Result<Vec<u8>, Memo
     ensures { IfOk result (λ text. text.items ≡ multiplier_text n (digits_of by)) }
 {
     let mut text = String::new(alloc);
-    put_opening(&mut text, n)?;
+    put_parameter(&mut text, n)?;
+    put_carry(&mut text)?;
     put_plus(&mut text, n)?;
     put_zero(&mut text, n)?;
     let count = put_digits(&mut text, n, by)?;
     writeln!(&mut text, "r{count}")?;
     text.push_str("}\n")?;
     Ok(text.into_bytes())
-}
-
-// The parameter, and the carry as a function.
-#[tactic(auto, unfolding(crate::specs::Texts::parameter, program_gen::specs::Adder::carry_function))]
-fn put_opening(text: &mut String, n: u32) -> Result<(), AllocError>
-    ensures { OnOk result (string_bytes text.new
-        ≡ string_bytes text.old ++ parameter n ++ carry_function) }
-{
-    writeln!(text, "main (a : bool[{n}]) = {{")?;
-    text.push_str("let carry x y c = (x && y) <> (c && (x <> y));\n")
 }
 
 // The function that adds two numbers.

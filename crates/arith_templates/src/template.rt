@@ -3,12 +3,10 @@ ghost use Rattle.std.specs.Prelude.{◌≡◌, ◌≤◌, IfOk};
 ghost use Rattle.arith_templates.specs.Texts.{text_of};
 ghost use Rattle.arith_templates.specs.declared.kind.Kind.TheVariants.{Mul};
 
-use crate::Kind;
-use crate::difference::{comparator, subtractor};
-use crate::increment::incrementer;
 use crate::limits::MOST_FACTOR;
 use crate::product::multiplier;
-use program_gen::{MOST_BITS, program_text};
+use crate::{Kind, difference, increment};
+use program_gen::{MOST_BITS, program_text, put_outputs, rippled};
 use revc_base::Memory;
 use std::alloc::Global;
 
@@ -25,9 +23,27 @@ pub fn text(alloc: Global, kind: Kind, n: u32, by: u32) -> Result<Vec<u8>, Memor
 {
     match kind {
         Kind::Add => program_text(alloc, n),
-        Kind::Sub => subtractor(alloc, n),
-        Kind::Less => comparator(alloc, n),
-        Kind::Inc => incrementer(alloc, n),
+        Kind::Sub => rippled(
+            alloc,
+            n,
+            difference::put_subtractor_opening,
+            difference::put_difference_place,
+            |text, n| put_outputs(text, "d", n),
+        ),
+        Kind::Less => rippled(
+            alloc,
+            n,
+            difference::put_comparator_opening,
+            difference::put_borrow,
+            difference::put_last_borrow,
+        ),
+        Kind::Inc => rippled(
+            alloc,
+            n,
+            increment::put_incrementer_opening,
+            increment::put_increment,
+            |text, n| put_outputs(text, "s", n),
+        ),
         Kind::Mul => multiplier(alloc, n, by),
     }
 }

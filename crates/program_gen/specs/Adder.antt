@@ -1,7 +1,6 @@
 -- The program of a ripple-carry adder of two numbers a and b of n bits, whose places are counted from the least bit.
-use Rattle.std.specs.Prelude.{ℕ, ◌+◌, ◌-◌, List, [], ◌∷◌, ◌++◌, codes, decimal}
-use Rattle.std.specs.List.{flat_map, range_with_len}
-use Rattle.program_gen.specs.Places.{line, outputs}
+use Rattle.std.specs.Prelude.{ℕ, ◌+◌, List, [], ◌∷◌, ◌++◌, codes, decimal}
+use Rattle.program_gen.specs.Places.{line, outputs, ripple_text}
 
 -- ---- two numbers of any names
 
@@ -46,8 +45,10 @@ carry_line first second i = next_line (codes "carry") first second i
 abbrev pub place : List ℕ → List ℕ → ℕ → List ℕ
 place first second i = sum_line first second i ++ carry_line first second i
 
+-- the parameters, the carry as a function, and place 0
+abbrev pub adder_opening : ℕ → List ℕ
+adder_opening n = parameters n ++ (carry_function ++ first_place (codes "a") (codes "b"))
+
 -- the program that adds two numbers of n bits
 abbrev pub adder_text : ℕ → List ℕ
-adder_text n = parameters n ++ (carry_function ++ first_place (codes "a") (codes "b"))
-    ++ flat_map (place (codes "a") (codes "b")) (range_with_len 1 (n - 1))
-    ++ outputs (codes "s") n ++ line (codes "}" ∷ [])
+adder_text n = ripple_text adder_opening (place (codes "a") (codes "b")) (outputs (codes "s")) n

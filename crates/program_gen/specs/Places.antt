@@ -1,5 +1,5 @@
 -- Texts that go from place to place.
-use Rattle.std.specs.Prelude.{◌≡◌, ℕ, Result, List, [], ◌∷◌, ◌++◌, OnOk, codes, decimal}
+use Rattle.std.specs.Prelude.{◌≡◌, ℕ, ◌-◌, Result, List, [], ◌∷◌, ◌++◌, OnOk, codes, decimal}
 use Rattle.std.specs.List.{flat_map, range_with_len}
 
 -- these pieces, and a line feed
@@ -21,3 +21,8 @@ output name i = name ++ (decimal i ++ codes "; ")
 unfoldable pub outputs : List ℕ → ℕ → List ℕ
 outputs name n = line (codes "reg [" ∷ flat_map (output name) (range_with_len 0 n) ∷ codes "c"
     ∷ decimal n ∷ codes "]" ∷ [])
+
+-- a program that goes from place to place: what opens it, place 0 with it, the places above 0, and what it puts out
+abbrev pub ripple_text : (ℕ → List ℕ) → (ℕ → List ℕ) → (ℕ → List ℕ) → ℕ → List ℕ
+ripple_text opening place last n =
+    opening n ++ flat_map place (range_with_len 1 (n - 1)) ++ last n ++ line (codes "}" ∷ [])

@@ -1,11 +1,11 @@
 // The program of a ripple-carry adder, line by line.
 ghost use Rattle.std.specs.Prelude.{◌≡◌, ◌-◌, ◌≤◌, ◌++◌, string_bytes, IfOk, OnOk};
 ghost use Rattle.std.specs.List.{flat_map, range_with_len};
-ghost use Rattle.program_gen.specs.Adder.{adder_text, parameters, carry_function, first_place};
-ghost use Rattle.program_gen.specs.Adder.{place};
+ghost use Rattle.program_gen.specs.Adder.{adder_text, adder_opening, parameters};
+ghost use Rattle.program_gen.specs.Adder.{carry_function, first_place, place};
 ghost use Rattle.program_gen.specs.Limits.{LimitsAre};
 
-use crate::places::{put_outputs, put_places};
+use crate::places::{put_outputs, put_places, rippled};
 use revc_base::Memory;
 use std::alloc::{AllocError, Global};
 
@@ -26,21 +26,37 @@ pub fn program_text(alloc: Global, n: u32) -> Result<Vec<u8>, Memory>
     requires few { n ≤ MOST_BITS }
     ensures { IfOk result (λ text. text.items ≡ adder_text n) }
 {
-    let mut text = String::new(alloc);
-    put_opening(&mut text, n)?;
-    put_sums(&mut text, "a", "b", n)?;
-    put_outputs(&mut text, "s", n)?;
-    text.push_str("}\n")?;
-    Ok(text.into_bytes())
+    rippled(
+        alloc,
+        n,
+        put_opening,
+        |text, i| put_place(text, "a", "b", i),
+        |text, n| put_outputs(text, "s", n),
+    )
 }
 
-// The parameters, and the carry as a function.
-#[tactic(auto, unfolding(crate::specs::Adder::parameters, crate::specs::Adder::carry_function))]
+// The parameters, the carry as a function, and place 0.
 fn put_opening(text: &mut String, n: u32) -> Result<(), AllocError>
-    ensures { OnOk result (string_bytes text.new
-        ≡ string_bytes text.old ++ parameters n ++ carry_function) }
+    ensures { OnOk result (string_bytes text.new ≡ string_bytes text.old ++ adder_opening n) }
 {
-    writeln!(text, "main (a : bool[{n}]) (b : bool[{n}]) = {{")?;
+    put_parameters(text, n)?;
+    put_carry(text)?;
+    put_first_place(text, "a", "b")
+}
+
+/// Puts the parameters: two numbers of `n` bits. It answers `AllocError` where memory is refused.
+#[tactic(auto, unfolding(crate::specs::Adder::parameters))]
+pub fn put_parameters(text: &mut String, n: u32) -> Result<(), AllocError>
+    ensures { OnOk result (string_bytes text.new ≡ string_bytes text.old ++ parameters n) }
+{
+    writeln!(text, "main (a : bool[{n}]) (b : bool[{n}]) = {{")
+}
+
+/// Puts the carry as a function. It answers `AllocError` where memory is refused.
+#[tactic(auto, unfolding(crate::specs::Adder::carry_function))]
+pub fn put_carry(text: &mut String) -> Result<(), AllocError>
+    ensures { OnOk result (string_bytes text.new ≡ string_bytes text.old ++ carry_function) }
+{
     text.push_str("let carry x y c = (x && y) <> (c && (x <> y));\n")
 }
 

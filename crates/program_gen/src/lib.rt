@@ -4,5 +4,5 @@
 mod adder;
 mod places;
 
-pub use adder::{MOST_BITS, limits_are, program_text, put_sums};
-pub use places::{put_outputs, put_places};
+pub use adder::{MOST_BITS, limits_are, program_text, put_carry, put_parameters, put_sums};
+pub use places::{put_outputs, put_places, rippled};
