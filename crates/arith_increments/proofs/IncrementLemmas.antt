@@ -26,7 +26,7 @@ use Rattle.arith_runs.proofs.NameLemmas.{left_bit, left_drop}
 use Rattle.arith_runs.proofs.StageLemmas.{bit_run, IsKept}
 use Rattle.arith_runs.proofs.RippleReadingLemmas.{at_carry}
 use Rattle.arith_runs.proofs.RippleLemmas.{rippled, Works, ripple_run}
-use Rattle.arith_runs.proofs.ProgramLemmas.{text_computes, placed_sentence, one_input, one_number, is_param}
+use Rattle.arith_runs.proofs.ProgramLemmas.{text_computes, is_built, one_input, one_number, is_param}
 use Rattle.arith_increments.specs.Increments.{IncrementersAddOne}
 use Rattle.arith_increments.proofs.IncrementPieces.{incrementer, pieces}
 use Rattle.arith_increments.proofs.IncrementReadingLemmas.{reads, at_sum, whole_inner, params, whole_body, sentence}
@@ -121,14 +121,8 @@ module _ (m by : ℕ) (few : m ≤ 199) where
   sum_of input = increments true (take (suc m) input)
 
   built : IsBuilt (pieces m) params_here (whole_body m p)
-  built = record {
-    good = all_good m (omega arith);
-    fit = all_fit m;
-    short = is_short m few;
-    sentence = placed_sentence (pieces m) params_here (whole_body m p) (sentence m p);
-    inputs = is_param (suc m) name (omega arith) (omega arith);
-    different = refl;
-  }
+  built =
+      is_built (all_good m (omega arith)) (all_fit m) (is_short m few) (sentence m p) (is_param (suc m) name (omega arith) (omega arith)) refl
 
   length-sum : (input : List Bool) → IsInput params_here input → length (sum_of input) ≡ suc m + 1
   length-sum input is = (increments_add true (take (suc m) input)).1 ∙ ap (λ (k : ℕ). k + 1) (one_number (suc m) name input is).size

@@ -72,15 +72,9 @@ module _ (m : ℕ) (p : ℕ → Place) where
   abbrev pub whole_body : Tree
   whole_body = block_of (p 10) whole_inner
 
-  abbrev program : Vals at_start
-  program = (record { params = params; body = whole_body }, tt)
-
-  all_turns : Turns at_start (placed p (toks_of (pieces m))) [] (λ _. program)
-  all_turns =
-      let ss = chain_end 1 [] in
-      built_then (header (suc m)) (from_sum incrementer m text_end) p (header_turns (suc m) p)
-      (ripple_turns incrementer 2 reads m at_sum 3 ss [] (λ _. nothing_behind) text_end (open_turns ss)
-      (last_turns (suc m) (at_close incrementer 2 reads m at_sum)))
-
   pub sentence : IsSentenceOf few_levels (placed p (toks_of (pieces m))) params whole_body
-  sentence = is_sentence all_turns
+  sentence =
+      let ss = chain_end 1 [] in
+      is_sentence (built_then (header (suc m)) (from_sum incrementer m text_end) p (header_turns (suc m) p)
+      (ripple_turns incrementer 2 reads m at_sum 3 ss [] (λ _. nothing_behind) text_end (open_turns ss)
+      (last_turns (suc m) (at_close incrementer 2 reads m at_sum))))

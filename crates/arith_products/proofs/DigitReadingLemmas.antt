@@ -160,13 +160,10 @@ module _ (m : ℕ) (ds : List Bool) (p : ℕ → Place) where
   abbrev pub whole_body : Tree
   whole_body = block_of (p 10) inner_body
 
-  abbrev pub program : Vals at_start
-  program = (record { params = params; body = whole_body }, tt)
-
-  all_turns : Turns at_start (placed p (toks_of (pieces m ds))) [] (λ _. program)
-  all_turns =
+  pub sentence : IsSentenceOf few_levels (placed p (toks_of (pieces m ds))) params whole_body
+  sentence =
       let ss = chain_end 1 [] in
-      built_then (header (suc m)) (from_function m ds) p (header_turns (suc m) p)
+      is_sentence (built_then (header (suc m)) (from_function m ds) p (header_turns (suc m) p)
       (built_then carry_function (from_plus m ds) at_function (carry_reads.function_turns ss at_function)
       (plus_turn m at_plus ss [] (λ _. (in_front zero_item (in_digits (suc m) 0 ds at_digits last_body), nothing_behind)) (from_zero m ds)
       (built_then zero_open (from_zeros m ds) at_zero (zero_turns ss at_zero)
@@ -175,8 +172,4 @@ module _ (m : ℕ) (ds : List Bool) (p : ℕ → Place) where
       (built_then (digit_lines (suc m) 0 ds) (product_end (length ds)) at_digits (digits_turn (suc m) 0 ds ss at_digits)
       (subst (λ (ts : List Token). Turns (f body 2 ∷ ss) ts [] (λ _. last_of (length ds) ss at_end nothing_behind))
       (append-nil (placed at_end (toks_of (product_end (length ds)))))
-      (turns-then (product_turns (length ds) ss at_end) end_turns))))))))
-
-pub sentence : (m : ℕ) (ds : List Bool) (p : ℕ → Place)
-    → IsSentenceOf few_levels (placed p (toks_of (pieces m ds))) (params m ds p) (whole_body m ds p)
-sentence m ds p = is_sentence (all_turns m ds p)
+      (turns-then (product_turns (length ds) ss at_end) end_turns)))))))))

@@ -25,7 +25,7 @@ use Rattle.arith_templates.proofs.NumberLemmas.{number-append, digits_are_binary
 use Rattle.arith_templates.proofs.PlaceLemmas.{products_multiply}
 use Rattle.arith_runs.specs.Computes.{Computes}
 use Rattle.arith_runs.proofs.NameLemmas.{nearest}
-use Rattle.arith_runs.proofs.ProgramLemmas.{text_computes, placed_sentence, one_input, one_number, is_param}
+use Rattle.arith_runs.proofs.ProgramLemmas.{text_computes, is_built, one_input, one_number, is_param}
 use Rattle.arith_runs.proofs.TwoNumberReadingLemmas.{carry_body, taken}
 use Rattle.arith_runs.proofs.AdderLemmas.{carry_works}
 use Rattle.arith_products.specs.Products.{MultipliersMultiply}
@@ -146,14 +146,8 @@ module _ (m by : ℕ) (few : m ≤ 199) (some : 1 ≤ by) (low : by ≤ 9999) wh
   built : IsBuilt (pieces m ds) params_here (whole_body m ds places_here)
   built =
       let count = few_digits by some low in
-      record {
-        good = all_good m ds (omega arith) (omega arith);
-        fit = all_fit m ds;
-        short = is_short m ds few (omega arith);
-        sentence = placed_sentence (pieces m ds) params_here (whole_body m ds places_here) (sentence m ds places_here);
-        inputs = is_param (suc m) name (omega arith) (omega arith);
-        different = refl;
-      }
+      is_built (all_good m ds (omega arith) (omega arith)) (all_fit m ds) (is_short m ds few (omega arith)) (sentence m ds places_here)
+      (is_param (suc m) name (omega arith) (omega arith)) refl
 
   -- the number and the length of the product
   product_is : (input : List Bool) → IsInput params_here input

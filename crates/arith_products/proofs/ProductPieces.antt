@@ -1,8 +1,9 @@
 -- The text of a multiplier in pieces.
-use Rattle.std.specs.Prelude.{ℕ, zero, suc, ◌+◌, Bool, true, false, List, [], ◌∷◌, ◌++◌, length, codes}
+use Rattle.std.specs.Prelude.{ℕ, zero, suc, ◌+◌, Bool, List, [], ◌∷◌, ◌++◌, length, codes}
 use Rattle.revs_lexer.specs.declared.sign.Sign.TheVariants as signs
 use Rattle.revs_lexer.specs.declared.word.Word.TheVariants as words
 use Rattle.built_texts.specs.Pieces.{Piece}
+use Rattle.arith_templates.specs.Texts.{by_digit, from_place}
 use Rattle.arith_runs.proofs.Pieces.{blank, line_end, w, s, name, numbered, digits, text_end}
 use Rattle.arith_runs.proofs.RipplePieces.{from_sum}
 use Rattle.arith_runs.proofs.TwoNumberPieces.{TwoNumbers, ripple, carry_function, sums_of}
@@ -53,13 +54,10 @@ add_line n k = w words.Let ∷ blank ∷ numbered 114 (k + 2) ∷ blank ∷ s si
     ∷ s signs.Semi ∷ line_end ∷ []
 
 abbrev pub digit_line : ℕ → ℕ → Bool → List Piece
-digit_line n k false = shift_line k
-digit_line n zero true = first_add_line
-digit_line n (suc k) true = add_line n k
+digit_line n = by_digit shift_line first_add_line (add_line n)
 
 abbrev pub digit_lines : ℕ → ℕ → List Bool → List Piece
-digit_lines n k [] = []
-digit_lines n k (d ∷ ds) = digit_line n k d ++ digit_lines n (k + 1) ds
+digit_lines n = from_place (digit_line n)
 
 -- ---- the end, and the whole text
 

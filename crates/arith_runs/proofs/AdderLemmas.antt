@@ -55,8 +55,9 @@ sums_apart a b a_carry a_sum b_carry b_sum =
 pub adders_add : AddersAdd
 adders_add zero by low high = absurd (omega arith)
 adders_add (suc m) by low high =
-    two_computes adder (sums_apart 97 98 refl refl refl refl) (record { first_in = λ us vs. refl; second_in = λ us vs. refl }) carry_function carry_reads carry carry_works
-    (sums_read (codes "a") (codes "b") 2) (sums_work (codes "a") (codes "b") 2) (sums_are_fine (codes "a") (codes "b") refl refl) carry_is_fine m (omega arith)
+    two_computes adder (sums_apart 97 98 refl refl refl refl) (record { first_in = λ us vs. refl; second_in = λ us vs. refl })
+    carry_function carry_reads carry carry_works (sums_read (codes "a") (codes "b") 2) (sums_work (codes "a") (codes "b") 2)
+    (sums_are_fine (codes "a") (codes "b") refl refl) carry_is_fine m (omega arith)
     Add by (texts.adder_text (suc m)) (adder_text m) refl refl
     (λ input one two.
     let h = (sums_add false (take (suc m) input) (drop (suc m) input) (one ∙ sym two)).0 in

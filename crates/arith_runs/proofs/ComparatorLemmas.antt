@@ -23,7 +23,7 @@ use Rattle.arith_templates.specs.Texts as texts
 use Rattle.arith_templates.proofs.PlaceLemmas.{differences_subtract}
 use Rattle.arith_runs.specs.Computes.{ComparatorsCompare, Computes}
 use Rattle.arith_runs.proofs.NameLemmas.{left_get, left_bit, left_drop, nearest}
-use Rattle.arith_runs.proofs.ProgramLemmas.{text_computes, placed_sentence, number_inputs, two_numbers, are_params}
+use Rattle.arith_runs.proofs.ProgramLemmas.{text_computes, is_built, number_inputs, two_numbers, are_params}
 use Rattle.arith_runs.proofs.BorrowPieces.{borrow_function, subtractor, pieces}
 use Rattle.arith_runs.proofs.TwoNumberReadingLemmas.{carry_term, taken}
 use Rattle.arith_runs.proofs.TwoNumberLemmas.{Known, past_carry, next_run}
@@ -128,14 +128,9 @@ module _ (m : ℕ) (few : m ≤ 199) where
   borrow_of input = last_borrow false (take (suc m) input) (take (suc m) (drop (suc m) input))
 
   built : IsBuilt (pieces m) params_here (comparator_body m p)
-  built = record {
-    good = comparator_good m (omega arith);
-    fit = comparator_fits m;
-    short = comparator_is_short m few;
-    sentence = placed_sentence (pieces m) params_here (comparator_body m p) (comparator_sentence m p);
-    inputs = are_params (suc m) first_name second_name (omega arith) (omega arith);
-    different = refl;
-  }
+  built =
+      is_built (comparator_good m (omega arith)) (comparator_fits m) (comparator_is_short m few) (comparator_sentence m p)
+      (are_params (suc m) first_name second_name (omega arith) (omega arith)) refl
 
   runs : IsBodyRun params_here (comparator_body m p) (λ input. of_bit (borrow_of input))
   runs = record {

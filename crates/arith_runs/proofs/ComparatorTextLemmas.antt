@@ -10,7 +10,7 @@ use Rattle.revs_lexer.specs.declared.token.Token.{Token}
 use Rattle.revs_grammar.specs.Forms.{body, BodyTree, name_of}
 use Rattle.revs_grammar.specs.Productions.{in_front, block_of}
 use Rattle.revs_grammar.specs.Sentences as symbols
-use Rattle.revs_grammar.specs.Sentences.{Symbol, Vals, at_start, few_levels, IsSentenceOf}
+use Rattle.revs_grammar.specs.Sentences.{Symbol, few_levels, IsSentenceOf}
 use Rattle.revs_terms.specs.declared.program.Param.{Param}
 use Rattle.revs_terms.specs.Trees as t
 use Rattle.revs_terms.specs.Trees.{Tree}
@@ -149,19 +149,13 @@ module _ (m : ℕ) (p : ℕ → Place) where
   abbrev pub comparator_body : Tree
   comparator_body = block_of (p 18) inner_body
 
-  abbrev comparator_program : Vals at_start
-  comparator_program = (record { params = comparator_params; body = comparator_body }, tt)
-
-  comparator_turns : Turns at_start (placed p (toks_of (pieces m))) [] (λ _. comparator_program)
-  comparator_turns =
+  pub comparator_sentence : IsSentenceOf few_levels (placed p (toks_of (pieces m))) comparator_params comparator_body
+  comparator_sentence =
       let ss = chain_end 1 [] in
-      built_then (header (suc m)) (from_function m) p (header_turns (suc m) p)
+      is_sentence (built_then (header (suc m)) (from_function m) p (header_turns (suc m) p)
       (built_then borrow_function (from_first m) at_function (function_reads.function_turns ss at_function)
       (built_then first_borrow (from_borrows m) at_first (reads.first_turns ss at_first)
       (built_then (borrows 1 m) (closing (suc m)) at_borrows (borrows_turn 1 m 2 ss at_borrows)
       (subst (λ (ts : List Token). Turns (f body 2 ∷ ss) ts [] (λ _. (last_body (suc m) at_close, nothing_behind)))
       (append-nil (placed at_close (toks_of (closing (suc m)))))
-      (turns-then (closing_turns (suc m) ss at_close) end_turns)))))
-
-  pub comparator_sentence : IsSentenceOf few_levels (placed p (toks_of (pieces m))) comparator_params comparator_body
-  comparator_sentence = is_sentence comparator_turns
+      (turns-then (closing_turns (suc m) ss at_close) end_turns))))))

@@ -1,5 +1,5 @@
 -- What texts compute whose programs have one number, or two.
-use Rattle.std.proofs.Common.{◌≡◌, ℕ, ◌+◌, ◌*◌, ◌≤◌, Bool, true, ◌&&◌, List, [], ◌∷◌, length, map, take, drop, sum, Some, refl, ap, sym, ◌∙◌, subst, arith}
+use Rattle.std.proofs.Common.{◌≡◌, ℕ, ◌+◌, ◌*◌, ◌≤◌, Bool, true, ◌&&◌, List, [], ◌∷◌, length, map, take, drop, sum, Some, None, refl, ap, sym, ◌∙◌, subst, arith}
 use Rattle.std.specs.Prelude.{leb}
 use Rattle.std.proofs.lemmas.Bool.{le-leb, and_from}
 use Rattle.std.proofs.lemmas.List.{length-drop, length-take-le, take_all}
@@ -12,10 +12,12 @@ use Rattle.revs_terms.specs.declared.program.Param.{Param}
 use Rattle.revs_terms.specs.Programs.{widths_of, AreParams}
 use Rattle.revs_terms.specs.Running.{Stamped, State, Outcome, went}
 use Rattle.revs_terms.specs.Runs.{run_of_program, IsInput, HasOutput}
+use Rattle.revs_terms.specs.Scopes.{second_of}
 use Rattle.revs_terms.specs.Trees.{Tree}
+use Rattle.revs_parser.specs.declared.limits.TheConstants.{MOST_BYTES}
 use Rattle.revs_parser.specs.WellFormed.{IsWellFormed}
 use Rattle.built_texts.specs.Meanings.{Meaning}
-use Rattle.built_texts.specs.Pieces.{Piece, text_of, toks_of, tokens_at}
+use Rattle.built_texts.specs.Pieces.{Piece, text_of, toks_of, fits, AreGood}
 use Rattle.built_texts.specs.Programs.{IsBodyRun, IsBuilt, output_of}
 use Rattle.built_texts.specs.Ways.{placed}
 use Rattle.built_texts.proofs.PlaceLemmas.{token_place, tokens_placed}
@@ -38,10 +40,18 @@ one_output : (params : List Param) (body : Tree) (input a b : List Bool) → Has
 one_output params body input a b h g =
     h.bits ∙ ap (map (λ o. o.bit)) (same_outputs (run_of_program params body input) h.outputs g.outputs h.state g.state h.ends g.ends) ∙ sym g.bits
 
--- a text that is read at the places of its tokens
-pub placed_sentence : (ps : List Piece) (params : List Param) (body : Tree) → IsSentenceOf few_levels (placed (token_place start ps) (toks_of ps)) params body
-    → IsSentenceOf few_levels (tokens_at start ps) params body
-placed_sentence ps params body reads = subst (λ (ts : List Token). IsSentenceOf few_levels ts params body) (sym (tokens_placed start ps)) reads
+-- pieces that are read at the places of their tokens are those of a built text
+pub is_built : {ps : List Piece} {params : List Param} {body : Tree} → AreGood (toks_of ps) → fits ps ≡ true → length (text_of ps) ≤ MOST_BYTES
+    → IsSentenceOf few_levels (placed (token_place start ps) (toks_of ps)) params body → AreParams params → second_of [] params ≡ None
+    → IsBuilt ps params body
+is_built {ps} {params} {body} good fit short reads inputs different = record {
+  good = good;
+  fit = fit;
+  short = short;
+  sentence = subst (λ (ts : List Token). IsSentenceOf few_levels ts params body) (sym (tokens_placed start ps)) reads;
+  inputs = inputs;
+  different = different;
+}
 
 -- A text computes what its kind does that is built for a body of such a meaning.
 pub text_computes : (kind : Kind) (n by : ℕ) (text : List ℕ) (ps : List Piece) (params : List Param) (unbound : Tree) (means : List Bool → Meaning)

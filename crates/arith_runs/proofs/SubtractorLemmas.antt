@@ -9,18 +9,14 @@ use Rattle.std.proofs.lemmas.List.{take_at, get_or_at}
 use Rattle.list_facts.specs.Bits.{bit_of}
 use Rattle.list_facts.proofs.BitLemmas.{xor_nothing}
 use Rattle.revc_base.specs.declared.place.Place.{Place}
-use Rattle.revs_lexer.specs.declared.sign.Sign.TheVariants as signs
-use Rattle.revs_lexer.specs.declared.sign.Sign.TheVariants.{OpenRound, CloseRound, Semi, Equal, Xor, And}
-use Rattle.revs_lexer.specs.declared.word.Word.TheVariants as words
-use Rattle.revs_lexer.specs.declared.word.Word.TheVariants.{Let, True}
 use Rattle.revs_grammar.specs.Forms.{name_of}
 use Rattle.revs_grammar.specs.Productions.{in_front}
 use Rattle.revs_terms.specs.Trees as t
 use Rattle.revs_terms.specs.Trees.{Tree, trees}
-use Rattle.built_texts.specs.Pieces.{Piece, text_of, toks_of, AreGood}
+use Rattle.built_texts.specs.Pieces.{text_of, toks_of}
 use Rattle.built_texts.specs.Meanings.{IsRun, of_bit, operand, no_operands}
 use Rattle.built_texts.proofs.WayLemmas.{turns}
-use Rattle.built_texts.proofs.PlaceLemmas.{lettered, good_word, good_sign, good_numbered, goods}
+use Rattle.built_texts.proofs.PlaceLemmas.{lettered, goods}
 use Rattle.built_texts.proofs.RunLemmas.{run_name, run_constant, run_xor, run_and, run_within}
 use Rattle.arith_templates.specs.declared.kind.Kind.TheVariants.{Sub}
 use Rattle.arith_templates.specs.Numbers.{bit, number}
@@ -30,8 +26,6 @@ use Rattle.arith_templates.specs.Texts as texts
 use Rattle.arith_templates.proofs.PlaceLemmas.{differences_subtract}
 use Rattle.arith_runs.specs.Computes.{SubtractorsSubtract}
 use Rattle.arith_runs.proofs.NameLemmas.{one_digit, zero_digit}
-use Rattle.arith_runs.proofs.Pieces.{s, place_of}
-use Rattle.arith_runs.proofs.RippleTextLemmas.{good_place}
 use Rattle.arith_runs.proofs.RippleReadingLemmas.{bit_at, bound}
 use Rattle.arith_runs.proofs.StageLemmas.{bit_run}
 use Rattle.arith_runs.proofs.TwoNumberPieces.{first_sum, sum_line, carry_line}
@@ -59,33 +53,6 @@ place_text : (i : ℕ) → texts.difference_place i ≡ text_of (sum_line subtra
 unfolding texts.difference_line texts.borrow_line
 place_text i = refl
 
-good_borrow : (ps : List Piece) → AreGood (toks_of ps) → AreGood (toks_of (first_borrow ++ ps))
-good_borrow ps h = (
-  good_word words.Let,
-  (
-    good_numbered 99 1 refl (omega arith),
-    (
-      good_sign signs.Equal,
-      (
-        good_sign signs.OpenRound,
-        (
-          good_word words.True,
-          (
-            good_sign signs.Xor,
-            good_place (codes "a") 0 (toks_of (s CloseRound ∷ s And ∷ place_of (codes "b") 0 ++ s Semi ∷ ps)) refl (omega arith) (
-              good_sign signs.CloseRound,
-              (
-                good_sign signs.And,
-                good_place (codes "b") 0 (toks_of (s Semi ∷ ps)) refl (omega arith) (good_sign signs.Semi, h),
-              ),
-            ),
-          ),
-        ),
-      ),
-    ),
-  ),
-)
-
 pub is_fine : IsFineLine subtractor
 is_fine = record {
   letter_is = refl;
@@ -93,7 +60,7 @@ is_fine = record {
   second_is = refl;
   function_is = refl;
   fits_line = λ ps. refl;
-  good_line = good_borrow;
+  good_line = λ ps h. goods (toks_of first_borrow) (toks_of ps) (rw one_digit refl) h;
   short_line = omega arith;
 }
 

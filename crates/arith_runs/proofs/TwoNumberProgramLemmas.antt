@@ -16,7 +16,7 @@ use Rattle.arith_templates.specs.declared.kind.Kind.{Kind}
 use Rattle.arith_templates.specs.Meets.{inputs_of, outputs_of, Meets}
 use Rattle.arith_runs.specs.Computes.{Computes}
 use Rattle.arith_runs.proofs.NameLemmas.{past, nearest}
-use Rattle.arith_runs.proofs.ProgramLemmas.{text_computes, placed_sentence, number_inputs, two_numbers, are_params}
+use Rattle.arith_runs.proofs.ProgramLemmas.{text_computes, is_built, number_inputs, two_numbers, are_params}
 use Rattle.arith_runs.proofs.TwoNumberPieces.{TwoNumbers, pieces}
 use Rattle.arith_runs.proofs.TwoNumberTextLemmas.{IsFineLine, IsFineFunction, two_fits, two_good, two_is_short}
 use Rattle.arith_runs.proofs.TwoNumberReadingLemmas.{ReadsLine, ReadsFunction, taken, two_params, at_function, at_sum, two_inner, two_body, two_sentence}
@@ -81,14 +81,9 @@ module _ (T : TwoNumbers) (N : AreApart T) (P : HasParams T) (line : List Piece)
     sum_of input = two_rippled next false (take (suc m) input) (take (suc m) (drop (suc m) input))
 
     built : IsBuilt (pieces T line m) params_here (two_body T R line G m p)
-    built = record {
-      good = two_good T F line E m (omega arith);
-      fit = two_fits T F line E m;
-      short = two_is_short T F line E m few;
-      sentence = placed_sentence (pieces T line m) params_here (two_body T R line G m p) (two_sentence T R line G m p);
-      inputs = are_params (suc m) first_name second_name (omega arith) (omega arith);
-      different = refl;
-    }
+    built =
+        is_built (two_good T F line E m (omega arith)) (two_fits T F line E m) (two_is_short T F line E m few) (two_sentence T R line G m p)
+        (are_params (suc m) first_name second_name (omega arith) (omega arith)) refl
 
     length-sum : (input : List Bool) → IsInput params_here input → length (sum_of input) ≡ suc m + 1
     length-sum input is =

@@ -105,19 +105,13 @@ module _ (T : TwoNumbers) (R : ReadsLine T 2) (line : List Piece) (G : ReadsFunc
   abbrev pub two_body : Tree
   two_body = block_of (p 18) two_inner
 
-  abbrev two_program : Vals at_start
-  two_program = (record { params = two_params (suc m) p; body = two_body }, tt)
-
-  two_turns : Turns at_start (placed p (toks_of (pieces T line m))) [] (λ _. two_program)
-  two_turns =
+  pub two_sentence : IsSentenceOf few_levels (placed p (toks_of (pieces T line m))) (two_params (suc m) p) two_body
+  two_sentence =
       let ss = chain_end 1 [] in
-      built_then (header (suc m)) (from_function T line m) p (header_turns (suc m) p)
+      is_sentence (built_then (header (suc m)) (from_function T line m) p (header_turns (suc m) p)
       (built_then line (from_sum (ripple T) m text_end) at_function (G.function_turns ss at_function)
       (ripple_turns (ripple T) 2 (reads_lines T 2 R) m at_sum 3 ss [] (λ _. nothing_behind) text_end (open_turns ss)
-      (last_turns (suc m) (at_close (ripple T) 2 (reads_lines T 2 R) m at_sum))))
-
-  pub two_sentence : IsSentenceOf few_levels (placed p (toks_of (pieces T line m))) (two_params (suc m) p) two_body
-  two_sentence = is_sentence two_turns
+      (last_turns (suc m) (at_close (ripple T) 2 (reads_lines T 2 R) m at_sum)))))
 
 -- ---- sums
 

@@ -157,19 +157,7 @@ sums_are_fine first second one other = record {
   second_is = other;
   function_is = refl;
   fits_line = λ ps. refl;
-  good_line = λ ps h. (
-    good_word words.Let,
-    (
-      good_numbered 99 1 refl (omega arith),
-      (
-        good_sign signs.Equal,
-        good_place first 0 (toks_of (s And ∷ place_of second 0 ++ s Semi ∷ ps)) one (omega arith) (
-          good_sign signs.And,
-          good_place second 0 (toks_of (s Semi ∷ ps)) other (omega arith) (good_sign signs.Semi, h),
-        ),
-      ),
-    ),
-  );
+  good_line = λ ps h. goods (toks_of (sums_of first second).first_line) (toks_of ps) (rw (one_digit, one, other) refl) h;
   short_line = omega arith;
 }
 

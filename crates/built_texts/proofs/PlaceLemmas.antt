@@ -84,7 +84,7 @@ abbrev pub is_plain : Tok → Bool
 is_plain (toks.Name text) = is_identifier text && (has_none (word_of text) && leb (length text) 64)
 is_plain (toks.Word w) = true
 is_plain (toks.Sign s) = true
-is_plain (toks.Number n) = false
+is_plain (toks.Number n) = leb n 9999
 is_plain toks.End = false
 
 pub plain_good : (t : Tok) → is_plain t ≡ true → IsGood t
@@ -94,7 +94,7 @@ plain_good (toks.Name text) e =
     good_name text h.0 (none_of (word_of text) k.0) (leb-true (length text) 64 k.1)
 plain_good (toks.Word w) e = good_word w
 plain_good (toks.Sign s) e = good_sign s
-plain_good (toks.Number n) e = absurd (false≢true e)
+plain_good (toks.Number n) e = good_number n (leb-true n 9999 e)
 plain_good toks.End e = absurd (false≢true e)
 
 pub goods : (ts us : List Tok) → list_all is_plain ts ≡ true → AreGood us → AreGood (ts ++ us)
