@@ -49,30 +49,29 @@ one_more (scoped ys) front y = ap scoped (sym (append_assoc front (y ∷ []) ys)
 pub begun : {A : Type 0} (all : List A → Scoped (List A)) (whole : List A) → IsBoundTo all whole whole 0
 begun all whole = record { long = refl; is = whole_again (all whole) }
 
-pub goes_on : {A B : Type 0} (all : List A → Scoped (List A)) (inner : A → Scoped B) (put : A → B → A) → InOrder all inner put
-    → (whole now : List A) (i : ℕ) (x : A) (b : B) → IsBoundTo all whole now i → i < length whole → inner (get_or now i x) ≡ scoped b
-    → IsBoundTo all whole (set now i (put (get_or now i x) b)) (i + 1)
-goes_on all inner put laws whole now i x b h below e =
-    let y = put (get_or now i x) b in
-    let here : i < length now = omega (arith, below, h.long) in
-    let one : i + 1 ≡ suc i = omega arith in
-    record {
-      long = length-set now i y ∙ h.long;
-      is = rw (take_more_set now i y here) (rw (drop-set-lt (i + 1) now i y (omega arith))
-          (h.is ∙ rw (drop-cons now i x here) (rw (laws.more (get_or now i x) (drop (suc i) now))
-          (rw e (rw one (one_more (all (drop (suc i) now)) (take i now) y))))));
-    }
+module _ {A B : Type 0} {all : List A → Scoped (List A)} {inner : A → Scoped B} {put : A → B → A} (laws : InOrder all inner put)
+    {whole now : List A} {i : ℕ} where
+  pub goes_on : (x : A) {b : B} → IsBoundTo all whole now i → i < length whole → inner (get_or now i x) ≡ scoped b
+      → IsBoundTo all whole (set now i (put (get_or now i x) b)) (i + 1)
+  goes_on x {b} h below e =
+      let y = put (get_or now i x) b in
+      let here : i < length now = omega (arith, below, h.long) in
+      let one : i + 1 ≡ suc i = omega arith in
+      record {
+        long = length-set now i y ∙ h.long;
+        is = rw (take_more_set now i y here) (rw (drop-set-lt (i + 1) now i y (omega arith))
+            (h.is ∙ rw (drop-cons now i x here) (rw (laws.more (get_or now i x) (drop (suc i) now))
+            (rw e (rw one (one_more (all (drop (suc i) now)) (take i now) y))))));
+      }
 
-pub stops : {A B : Type 0} (all : List A → Scoped (List A)) (inner : A → Scoped B) (put : A → B → A) → InOrder all inner put
-    → (whole now : List A) (i : ℕ) (x : A) (f : ScopeFault) → IsBoundTo all whole now i → i < length whole → IsUnbound f (inner (get_or now i x))
-    → IsUnbound f (all whole)
-stops all inner put laws whole now i x f h below refused =
-    let here : i < length now = omega (arith, below, h.long) in
-    rw h.is (rw (drop-cons now i x here) (rw (laws.more (get_or now i x) (drop (suc i) now))
-    (first_is_unbound _ f _ (first_is_unbound _ f (inner (get_or now i x)) refused))))
+  pub stops : (x : A) (f : ScopeFault) → IsBoundTo all whole now i → i < length whole → IsUnbound f (inner (get_or now i x))
+      → IsUnbound f (all whole)
+  stops x f h below refused =
+      let here : i < length now = omega (arith, below, h.long) in
+      rw h.is (rw (drop-cons now i x here) (rw (laws.more (get_or now i x) (drop (suc i) now))
+      (first_is_unbound _ f _ (first_is_unbound _ f (inner (get_or now i x)) refused))))
 
-pub ended : {A B : Type 0} (all : List A → Scoped (List A)) (inner : A → Scoped B) (put : A → B → A) → InOrder all inner put
-    → (whole now : List A) (i : ℕ) → IsBoundTo all whole now i → length whole ≤ i → all whole ≡ scoped now
-ended all inner put laws whole now i h past =
-    let all_past : length now ≤ i = omega (arith, past, h.long) in
-    h.is ∙ rw (drop_all i now all_past) (rw laws.none (ap scoped (append-nil (take i now) ∙ take_all i now all_past)))
+  pub ended : IsBoundTo all whole now i → length whole ≤ i → all whole ≡ scoped now
+  ended h past =
+      let all_past : length now ≤ i = omega (arith, past, h.long) in
+      h.is ∙ rw (drop_all i now all_past) (rw laws.none (ap scoped (append-nil (take i now) ∙ take_all i now all_past)))

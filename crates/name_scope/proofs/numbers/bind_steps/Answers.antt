@@ -1,5 +1,5 @@
-use Rattle.revs_terms.specs.Scopes.{scoped_num, scoped_unit}
-use Rattle.name_scope.proofs.InOrderLemmas.{put_unit, steps_in_order, begun, goes_on, stops, ended}
+use Rattle.revs_terms.specs.Scopes.{scoped_num}
+use Rattle.name_scope.proofs.InOrderLemmas.{steps_in_order, begun, goes_on, stops, ended}
 use Rattle.name_scope.proofs.VerdictLemmas.{passed_on}
 use Rattle.name_scope.proofs.numbers.bind_steps.Goals as goal
 
@@ -9,14 +9,11 @@ loop-i-init c = begun (scoped_num c.args.names.now) c.args.steps.now
 pub returns-in_err-bind_unit : goal.returns-in_err-bind_unit
 returns-in_err-bind_unit c =
     passed_on c.from_residual.result _ _ _ c.from_residual.ensures.1
-    (stops (scoped_num c.args.names.now) (λ x. scoped_unit c.args.names.now x.unit) put_unit (steps_in_order c.args.names.now) c.args.steps.now c.loop-i.steps c.loop-i.i c.index-steps-i.result _ c.loop-i.invariant
-    c.loop-i-test.true (c.in_err-bind_unit.ensures {u = tt}))
+    (stops (steps_in_order c.args.names.now) c.index-steps-i.result _ c.loop-i.invariant c.loop-i-test.true (c.in_err-bind_unit.ensures {u = tt}))
 
 pub loop-i-preserved : goal.loop-i-preserved
 loop-i-preserved c =
-    goes_on (scoped_num c.args.names.now) (λ x. scoped_unit c.args.names.now x.unit) put_unit (steps_in_order c.args.names.now) c.args.steps.now c.loop-i.steps c.loop-i.i c.index-steps-i.result _ c.loop-i.invariant
-    c.loop-i-test.true (c.in_ok-bind_unit.ensures {u = tt})
+    goes_on (steps_in_order c.args.names.now) c.index-steps-i.result c.loop-i.invariant c.loop-i-test.true (c.in_ok-bind_unit.ensures {u = tt})
 
 pub returns : goal.returns
-returns c =
-    ended (scoped_num c.args.names.now) (λ x. scoped_unit c.args.names.now x.unit) put_unit (steps_in_order c.args.names.now) c.args.steps.now c.loop-i.steps c.loop-i.i c.loop-i.invariant c.loop-i-test.false
+returns c = ended (steps_in_order c.args.names.now) c.loop-i.invariant c.loop-i-test.false
