@@ -11,30 +11,15 @@ use Rattle.revs_terms.specs.Trees.{reg, parts, apply, append, rotate, clean, ass
 use Rattle.revs_terms.specs.Scopes.{scoped_items}
 use Rattle.revs_terms.proofs.ShapeLemmas.{tree_of-Reg, tree_of-Block, tree_of-Fun, tree_of-At, tree_of-Apply, tree_of-Append, tree_of-Rotate, tree_of-Clean}
 use Rattle.revs_terms.proofs.ShapeLemmas.{tree_of-Assert, tree_of-And, tree_of-Xor, tree_of-Assign}
-use Rattle.revs_terms.proofs.ShapeLemmas.{tree_of-Name, tree_of-Bool, item_tree_of-Let, item_tree_of-Do, item_tree_of-For}
-use Rattle.name_scope.proofs.VerdictLemmas.{part_binds, name_binds, same_binds, second_binds, both_bind}
-use Rattle.name_scope.proofs.VerdictLemmas.{block_binds, function_binds, loop_binds, let_binds, run_binds}
-use Rattle.name_scope.proofs.VerdictLemmas.{first_is_unbound, items_refused, items_bound, passed_on, refused_in}
+use Rattle.revs_terms.proofs.ShapeLemmas.{item_tree_of-For}
+use Rattle.name_scope.proofs.VerdictLemmas.{part_binds, both_bind}
+use Rattle.name_scope.proofs.VerdictLemmas.{block_binds, function_binds, loop_binds}
+use Rattle.name_scope.proofs.VerdictLemmas.{items_bound, passed_on, refused_in}
 use Rattle.name_scope.proofs.ScopeLemmas.{items_stand, names_stand, inside_stands, left_at_depth, depth_below}
-use Rattle.name_scope.proofs.ScopeLemmas.{front_fits, first_fits, second_fits, behind_fits, inside_fits, element_fits, within, itself}
-use Rattle.name_scope.proofs.ScopeLemmas.{first_falls, second_falls, first_list_falls, second_list_falls, inner_falls, list_falls, element_falls}
+use Rattle.name_scope.proofs.ScopeLemmas.{behind_fits, element_fits, within, itself}
+use Rattle.name_scope.proofs.ScopeLemmas.{second_falls, element_falls}
 use Rattle.name_scope.proofs.LoopLemmas.{term_fits, terms_go_on, terms_stop, item_fits, items_go_on, items_end, unreached}
-use Rattle.name_scope.specs.declared.binding.ScopeFault.TheVariants as fault
 use Rattle.name_scope.proofs.terms.+bind.Goals as goal
-
-pub bind_term-returns-in-Name : goal.bind_term-returns-in-Name
-bind_term-returns-in-Name t c =
-    rw (
-      c.in-Name.is,
-      terms.outs-Name c.in-Name.name,
-      tree_of-Name c.in-Name.name,
-      tree_of-Name c.bind_name.new.name,
-    )
-    (name_binds c.bind_name.result _ _ _ (rw c.in-Name.name-is at c.bind_name.ensures.binds))
-
-pub bind_term-returns-in-Bool : goal.bind_term-returns-in-Bool
-bind_term-returns-in-Bool t c =
-    rw (c.in-Bool.is, tree_of-Bool c.in-Bool.field-0 c.in-Bool.field-1) (refl, refl)
 
 pub bind_term-returns-in-Reg : goal.bind_term-returns-in-Reg
 bind_term-returns-in-Reg t c =
@@ -176,94 +161,13 @@ bind_term-returns-in-Assign t c =
 
 -- ---- two parts, one after the other
 
-pub bind_both-bind_term-requires : goal.bind_both-bind_term-requires
-bind_both-bind_term-requires t c = (first_falls _ _ _ c.decreases, first_fits _ _ _ _ c.requires)
-
-pub bind_both-bind_term-requires-2 : goal.bind_both-bind_term-requires-2
-bind_both-bind_term-requires-2 t c =
-    let a = c.in_ok-bind_term.ensures {u = tt} in
-    (second_falls _ _ _ c.decreases, second_fits _ _ _ _ _ a.1 c.requires)
-
-pub bind_both-returns-in_err-bind_term : goal.bind_both-returns-in_err-bind_term
-bind_both-returns-in_err-bind_term t c =
-    refused_in c.from_residual.result _ _ _ _ _ c.from_residual.ensures.1 (first_is_unbound _ _ _ (c.in_err-bind_term.ensures {u = tt}))
-
-pub bind_both-returns : goal.bind_both-returns
-bind_both-returns t c = let a = c.in_ok-bind_term.ensures {u = tt} in second_binds c.bind_term-2.result _ _ _ _ _ _ a.0 (rw a.1 at c.bind_term-2.ensures)
-
-pub bind_application-bind_term-requires : goal.bind_application-bind_term-requires
-bind_application-bind_term-requires t c = (first_falls _ _ _ c.decreases, first_fits _ _ _ _ c.requires)
-
-pub bind_application-bind_terms-requires : goal.bind_application-bind_terms-requires
-bind_application-bind_terms-requires t c =
-    let a = c.in_ok-bind_term.ensures {u = tt} in
-    (second_list_falls _ _ _ c.decreases, second_fits _ _ _ _ _ a.1 c.requires)
-
-pub bind_application-returns-in_err-bind_term : goal.bind_application-returns-in_err-bind_term
-bind_application-returns-in_err-bind_term t c =
-    refused_in c.from_residual.result _ _ _ _ _ c.from_residual.ensures.1 (first_is_unbound _ _ _ (c.in_err-bind_term.ensures {u = tt}))
-
-pub bind_application-returns : goal.bind_application-returns
-bind_application-returns t c = let a = c.in_ok-bind_term.ensures {u = tt} in second_binds c.bind_terms.result _ _ _ _ _ _ a.0 (rw a.1 at c.bind_terms.ensures)
-
-pub bind_with_parts-bind_term-requires : goal.bind_with_parts-bind_term-requires
-bind_with_parts-bind_term-requires t c = (inner_falls _ _ c.decreases, first_fits _ _ _ _ c.requires)
-
-pub bind_with_parts-bind_parts-requires : goal.bind_with_parts-bind_parts-requires
-bind_with_parts-bind_parts-requires t c =
-    let a = c.in_ok-bind_term.ensures {u = tt} in
-    rw a.1 (front_fits _ _ _ c.requires)
-
-pub bind_with_parts-returns-in_err-bind_term : goal.bind_with_parts-returns-in_err-bind_term
-bind_with_parts-returns-in_err-bind_term t c =
-    refused_in c.from_residual.result _ _ _ _ _ c.from_residual.ensures.1 (first_is_unbound _ _ _ (c.in_err-bind_term.ensures {u = tt}))
-
-pub bind_with_parts-returns : goal.bind_with_parts-returns
-bind_with_parts-returns t c =
-    let a = c.in_ok-bind_term.ensures {u = tt} in
-    same_binds c.bind_parts.result _ _ _ _ _ _ a.0 a.1 (rw a.1 at c.bind_parts.ensures)
-
-pub bind_rotation-bind_num-requires : goal.bind_rotation-bind_num-requires
-bind_rotation-bind_num-requires t c = front_fits _ _ _ c.requires
-
-pub bind_rotation-bind_term-requires : goal.bind_rotation-bind_term-requires
-bind_rotation-bind_term-requires t c = (inner_falls _ _ c.decreases, second_fits _ _ _ _ _ refl c.requires)
-
-pub bind_rotation-returns-in_err-bind_num : goal.bind_rotation-returns-in_err-bind_num
-bind_rotation-returns-in_err-bind_num t c =
-    refused_in c.from_residual.result _ _ _ _ _ c.from_residual.ensures.1 (first_is_unbound _ _ _ (c.in_err-bind_num.ensures {u = tt}))
-
-pub bind_rotation-returns : goal.bind_rotation-returns
-bind_rotation-returns t c = second_binds c.bind_term.result _ _ _ _ _ _ (c.in_ok-bind_num.ensures {u = tt}) c.bind_term.ensures
-
 -- ---- loops
-
-pub bind_loop-bind_ends-requires : goal.bind_loop-bind_ends-requires
-bind_loop-bind_ends-requires t c = front_fits _ _ _ c.requires
-
-pub bind_loop-bind_items-requires : goal.bind_loop-bind_items-requires
-bind_loop-bind_items-requires t c =
-    let b = c.in_ok-bind.ensures {u = tt} in
-    (list_falls _ _ c.decreases, inside_fits _ _ _ _ _ _ _ b c.requires)
 
 pub bind_loop-leave-requires : goal.bind_loop-leave-requires
 bind_loop-leave-requires t c =
     let b = c.in_ok-bind.ensures {u = tt} in
     let s = items_stand (item_trees (map item_tree_of c.args.items.now)) _ _ _ (c.in_ok-bind_items.ensures {u = tt}) in
     depth_below _ _ _ _ _ (inside_stands _ _ _ _ _ b s) refl c.depth-depth.ensures
-
-pub bind_loop-returns-in_err-bind_ends : goal.bind_loop-returns-in_err-bind_ends
-bind_loop-returns-in_err-bind_ends t c =
-    refused_in c.from_residual.result _ _ _ _ _ c.from_residual.ensures.1 (first_is_unbound _ _ _ (c.in_err-bind_ends.ensures {u = tt}))
-
-pub bind_loop-returns-in_err-bind : goal.bind_loop-returns-in_err-bind
-bind_loop-returns-in_err-bind t c = refused_in c.from_residual-in_err-bind.result fault.Memory _ _ _ _ c.from_residual-in_err-bind.ensures.1 tt
-
-pub bind_loop-returns-in_err-bind_items : goal.bind_loop-returns-in_err-bind_items
-bind_loop-returns-in_err-bind_items t c =
-    refused_in c.from_residual-in_err-bind_items.result _ _ _ _ _ c.from_residual-in_err-bind_items.ensures.1
-    (items_refused _ _ _ _ _ _ (item_trees (map item_tree_of c.args.items.now)) (c.in_ok-bind_ends.ensures {u = tt})
-    (c.in_ok-bind.ensures {u = tt}) (c.in_err-bind_items.ensures {u = tt}))
 
 pub bind_loop-returns : goal.bind_loop-returns
 bind_loop-returns t c =
@@ -276,9 +180,6 @@ bind_loop-returns t c =
 
 -- ---- blocks
 
-pub bind_block-bind_items-requires : goal.bind_block-bind_items-requires
-bind_block-bind_items-requires t c = (first_list_falls _ _ _ c.decreases, first_fits _ _ _ _ c.requires)
-
 pub bind_block-bind_term-requires : goal.bind_block-bind_term-requires
 bind_block-bind_term-requires t c =
     let s = items_stand (item_trees (map item_tree_of c.args.items.now)) _ _ _ (c.in_ok-bind_items.ensures {u = tt}) in
@@ -289,15 +190,6 @@ bind_block-leave-requires t c =
     let s = items_stand (item_trees (map item_tree_of c.args.items.now)) _ _ _ (c.in_ok-bind_items.ensures {u = tt}) in
     let b = c.in_ok-bind_term.ensures {u = tt} in
     depth_below _ _ _ _ _ s b.1 c.depth-depth.ensures
-
-pub bind_block-returns-in_err-bind_items : goal.bind_block-returns-in_err-bind_items
-bind_block-returns-in_err-bind_items t c =
-    refused_in c.from_residual.result _ _ _ _ _ c.from_residual.ensures.1 (first_is_unbound _ _ _ (c.in_err-bind_items.ensures {u = tt}))
-
-pub bind_block-returns-in_err-bind_term : goal.bind_block-returns-in_err-bind_term
-bind_block-returns-in_err-bind_term t c =
-    refused_in c.from_residual-in_err-bind_term.result _ _ _ _ _ c.from_residual-in_err-bind_term.ensures.1
-    (rw (c.in_ok-bind_items.ensures {u = tt}) (first_is_unbound _ _ _ (c.in_err-bind_term.ensures {u = tt})))
 
 pub bind_block-returns : goal.bind_block-returns
 bind_block-returns t c =
@@ -320,15 +212,6 @@ bind_function-leave-requires t c =
     let s = names_stand c.args.function.now.names.items c.args.names.now in
     let b = c.in_ok-bind_term.ensures {u = tt} in
     depth_below _ _ _ _ _ s (b.1 ∙ e) c.depth-depth.ensures
-
-pub bind_function-returns-in_err-bind_all : goal.bind_function-returns-in_err-bind_all
-bind_function-returns-in_err-bind_all t c = refused_in c.from_residual.result fault.Memory _ _ _ _ c.from_residual.ensures.1 tt
-
-pub bind_function-returns-in_err-bind_term : goal.bind_function-returns-in_err-bind_term
-bind_function-returns-in_err-bind_term t c =
-    let e = rw c.deref.ensures.value at (c.in_ok-bind_all.ensures {u = tt}) in
-    refused_in c.from_residual-in_err-bind_term.result _ _ _ _ _ c.from_residual-in_err-bind_term.ensures.1
-    (first_is_unbound _ _ _ (rw e at (c.in_err-bind_term.ensures {u = tt})))
 
 pub bind_function-returns : goal.bind_function-returns
 bind_function-returns t c =
@@ -394,39 +277,6 @@ bind_items-loop-i-preserved t c =
       items_go_on c.args.names.now c.loop-i.names _ c.args.items.now c.loop-i.items c.loop-i.i c.index-items-i.result _
           _ c.loop-i-test.true c.loop-i.invariant.0.0 refl c.loop-i.invariant.1 (rw u at e),
     )
-
-pub bind_item-returns-in_err-bind_term-in-Let : goal.bind_item-returns-in_err-bind_term-in-Let
-bind_item-returns-in_err-bind_term-in-Let t c =
-    rw (c.in-Let.is, item_tree_of-Let c.in-Let.name c.in-Let.value)
-    (passed_on c.from_residual.result _ _ _ c.from_residual.ensures.1
-    (first_is_unbound _ _ _ (rw c.in-Let.value-is at (c.in_err-bind_term-in-Let.ensures {u = tt}))))
-
-pub bind_item-returns-in_err-bind-in-Let : goal.bind_item-returns-in_err-bind-in-Let
-bind_item-returns-in_err-bind-in-Let t c =
-    passed_on c.from_residual-in_err-bind-in-Let.result fault.Memory _ _ c.from_residual-in_err-bind-in-Let.ensures.1 tt
-
-pub bind_item-returns-in_ok-bind-in-Let : goal.bind_item-returns-in_ok-bind-in-Let
-bind_item-returns-in_ok-bind-in-Let t c =
-    let b = rw c.in-Let.value-is at (c.in_ok-bind_term-in-Let.ensures {u = tt}) in
-    rw (
-      c.in-Let.is,
-      items.outs-Let c.in-Let.name c.in-Let.value,
-      item_tree_of-Let c.in-Let.name c.in-Let.value,
-      item_tree_of-Let c.in-Let.name c.bind_term.new.term,
-    )
-    (let_binds (tree_of c.in-Let.value) (tree_of c.bind_term.new.term) c.in-Let.name _ _ _ b.0 b.1
-    (rw c.in-Let.name-is at (c.in_ok-bind-in-Let.ensures {u = tt})))
-
-pub bind_item-returns-in-Do : goal.bind_item-returns-in-Do
-bind_item-returns-in-Do t c =
-    rw (
-      c.in-Do.is,
-      items.outs-Do c.in-Do.term,
-      item_tree_of-Do c.in-Do.term,
-      item_tree_of-Do c.bind_term-in-Do.new.term,
-    )
-    (run_binds c.bind_term-in-Do.result (tree_of c.in-Do.term) (tree_of c.bind_term-in-Do.new.term) c.args.names.now c.bind_term-in-Do.new.names
-    (rw c.in-Do.term-is at c.bind_term-in-Do.ensures))
 
 pub bind_item-returns-in-For : goal.bind_item-returns-in-For
 bind_item-returns-in-For t c =
