@@ -1,5 +1,5 @@
 -- What a tape keeps, through each of its changes.
-use Rattle.std.proofs.Common.{ℕ, ◌+◌, ◌<◌, ◌≤◌, List, [], ◌∷◌, ◌++◌, length, sum, length-append, arith, subst}
+use Rattle.std.proofs.Common.{ℕ, ◌+◌, ◌<◌, ◌≤◌, List, [], ◌∷◌, ◌++◌, length, sum, length-append, arith, subst, rules}
 use Rattle.std.specs.List.{AllByRecursion}
 use Rattle.list_facts.proofs.AllLemmas.{AllByRecursion-weaker, AllByRecursion-push}
 use Rattle.revs_tape.specs.declared.tape.Ref.{Ref}
@@ -49,12 +49,4 @@ tape_claim t c is known room = record {
 
 pub tape_outputs : (t : TapeView) (os : List Ref) → IsTape t → AllByRecursion (IsKnown (sum t.params) (length t.entries)) os → length os ≤ MOST_OUTPUTS
     → IsTape (record t { outputs = os })
-tape_outputs t os is known few = record {
-  widths = is.widths;
-  known = is.known;
-  few_entries = is.few_entries;
-  claims = is.claims;
-  few_claims = is.few_claims;
-  outputs = known;
-  few_outputs = few;
-}
+tape_outputs t os is known few = search rules
