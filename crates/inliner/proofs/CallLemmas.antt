@@ -274,11 +274,6 @@ drop_length (x ∷ xs) (suc k) = drop_length xs k ∙ omega arith
 
 -- ---- calls
 
-pub call_none : (left : ℕ) (at : Place) (names : List Name) (taken : ℕ) (body : Tree) (e : Environment) (v : runs.Value) (s : State (Unit {0}))
-    → length names ≤ taken
-    → apply_to no_bits (run_of no_bits left) at (runs.closure (drop taken names) body e) v s ≡ stuck causes.NotFunction at
-call_none left at names taken body e v s h = no_name left at (drop taken names) body e v s (drop_length names taken ∙ omega arith)
-
 bind_first : (left : ℕ) (at : Place) (ns : List Name) (body : Tree) (e : Environment) (v : runs.Value) (s : State (Unit {0})) (fault : RunFault)
     → 0 < length ns
     → Says fault (bind_step v e at s) → Says fault (apply_to no_bits (run_of no_bits left) at (runs.closure ns body e) v s)
@@ -400,13 +395,6 @@ bit_stuck old mid left env t v fault is g b =
     (rw b.fault_is (no_bit (envs_of mid) (seen v) (place_of t) (state_of mid) b.is))
 
 -- ---- the first step of a term, and a binding, that are stuck
-
-pub enter_stuck : (left : ℕ) (e : Environment) (t : Tree) (s : State (Unit {0})) (fault : RunFault) → 0 < left
-    → Says fault (worked no_bits 1 (place_of t) s) → Says fault (run_of no_bits left e t s)
-enter_stuck left e t s fault some says =
-    let k : left ≡ suc (left - 1) = omega arith in
-    subst (λ (n : ℕ). Says fault (run_of no_bits n e t s)) (sym k)
-    (said_first fault (worked no_bits 1 (place_of t) s) (λ _ s. term_of no_bits (run_of no_bits (left - 1)) e t s) says)
 
 pub item_stuck : (old mid : Machine) (left env : ℕ) (name : Name) (t : Tree) (v : Value) (fault : RunFault) → IsMachine old
     → env ≤ length old.bindings.items → Goes old mid (run_of no_bits left (env_in (envs_of old) env) t (state_of old)) v

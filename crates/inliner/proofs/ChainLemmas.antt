@@ -134,11 +134,6 @@ chain_is : (left : ℕ) (op : Operator) (e : Environment) (ts : List Tree) (s : 
 chain_is left operators.And e ts s = ap (λ (x : List Tree). chain no_bits (run_of no_bits left) (entry_of operators.And) (λ a b. tt) e x s) (list_of-trees ts)
 chain_is left operators.Xor e ts s = ap (λ (x : List Tree). chain no_bits (run_of no_bits left) (entry_of operators.Xor) (λ a b. tt) e x s) (list_of-trees ts)
 
-pub chain_none : (old : Machine) (left : ℕ) (op : Operator) (e : Environment) (ts : List Tree) → ts ≡ []
-    → term_of no_bits (run_of no_bits left) e (chain_tree op ts) (state_of old) ≡ went runs.unit (state_of old)
-chain_none old left op e ts none = chain_is left op e ts (state_of old) ∙ ap
-    (λ (x : List Tree). chain no_bits (run_of no_bits left) (entry_of op) (λ a b. tt) e x (state_of old)) none
-
 chain_first : (m : Machine) (left : ℕ) (op : Operator) (e : Environment) (ts : List Tree) (t : Tree) (rest : List Tree) → ts ≡ t ∷ rest
     → term_of no_bits (run_of no_bits left) e (chain_tree op ts) (state_of m)
     ≡ after (bit_of no_bits (run_of no_bits left) e t (state_of m)) (λ first s. rest_of_chain left op e (place_of t) first rest s)

@@ -93,22 +93,6 @@ loop_begun old mid now later left env a b is at first last m some h d f g =
 
 -- ---- a `for` that is stuck before its turns
 
-pub loop_no_work : (left : ℕ) (e : Environment) (a b : List Step) (is : List ItemTree) (at : Place) (s : State (Unit {0})) (fault : RunFault) → 0 < left
-    → Says fault (worked no_bits 1 at s) → Says fault (loop_run left e a b is at s)
-loop_no_work left e a b is at s fault some says =
-    let k : left ≡ suc (left - 1) = omega arith in
-    subst (λ (n : ℕ). Says fault (loop_run n e a b is at s)) (sym k)
-    (said_first fault (worked no_bits 1 at s) (λ _ s. after (number_of no_bits e a s) (λ first s.
-    after (number_of no_bits e b s) (λ last s. turns_of no_bits (run_of no_bits (left - 1)) e is at first (turns first last) s))) says)
-
-pub loop_no_first : (old mid : Machine) (left env : ℕ) (a b : List Step) (is : List ItemTree) (at : Place) (fault : RunFault) → IsMachine old → 0 < left
-    → env ≤ length old.bindings.items → Does old mid (worked no_bits 1 at (state_of old)) tt
-    → Says fault (number_of no_bits (env_in (envs_of mid) env) a (state_of mid))
-    → Says fault (loop_run left (env_in (envs_of old) env) a b is at (state_of old))
-loop_no_first old mid left env a b is at fault m some h d says =
-    said fault (loop_entered old mid left (env_in (envs_of old) env) a b is at m some d)
-    (said_first fault _ _ (says_in (λ x. number_of no_bits x a (state_of mid)) old mid env fault d.grows h says))
-
 pub loop_no_last : (old mid now : Machine) (left env : ℕ) (a b : List Step) (is : List ItemTree) (at : Place) (first : ℤ) (fault : RunFault)
     → IsMachine old → 0 < left → env ≤ length old.bindings.items → Does old mid (worked no_bits 1 at (state_of old)) tt
     → Does mid now (number_of no_bits (env_in (envs_of mid) env) a (state_of mid)) first

@@ -11,7 +11,7 @@ use Rattle.array_shapes.specs.declared.value.Value.{Value}
 use Rattle.inliner.specs.declared.fault.RunFault.{RunFault}
 use Rattle.inliner.specs.declared.machine.Machine.{Machine}
 use Rattle.inliner.specs.inside.Machines.{env_in, envs_of, state_of, IsMachine, AreWorkedFor, LeavesRoom, Grows, Does, Goes, BindsOne, Calls}
-use Rattle.inliner.proofs.FaultLemmas.{said_first, said_same}
+use Rattle.inliner.proofs.FaultLemmas.{said_same}
 use Rattle.inliner.specs.inside.Calls.{Says, Follows}
 use Rattle.inliner.proofs.EnvironmentLemmas.{grows_same, grows_trans, grown_env}
 
@@ -25,11 +25,6 @@ on_ok_alone R (Err e) f h = tt
 pub stops : {T : Type 0} {fault : RunFault} (P : T → Type 0) (Q : RunFault → Type 0) (r : Result T RunFault) → IsErrAnd r (λ e. e ≡ fault) → Q fault
     → MatchResult r P Q
 stops P Q r e q = MatchResult-from_both r P Q (no_value r P _ e) (passes_on Q r e q)
-
--- The first step failed, and so the whole.
-pub stops_first : {T A C : Type 0} {fault : RunFault} {o : Outcome (Unit {0}) A} (next : A → State (Unit {0}) → Outcome (Unit {0}) C)
-    (P : T → Type 0) (r : Result T RunFault) → IsErrAnd r (λ e. e ≡ fault) → Says fault o → MatchResult r P (λ f. Says f (after o next))
-stops_first next P r e s = stops P _ r e (said_first _ _ next s)
 
 -- ---- on the way
 

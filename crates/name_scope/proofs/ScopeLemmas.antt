@@ -95,17 +95,8 @@ depth_below s m n d most h e f = rw e (rw f (deeper s m most h))
 pub front_fits : (n a most : ℕ) → n + a < most → n < most
 front_fits n a most h = omega arith
 
-pub first_fits : (n a b most : ℕ) → n + (a + b) < most → n + a < most
-first_fits n a b most h = omega arith
-
-pub second_fits : (s m : List (List ℕ)) (a b most : ℕ) → m ≡ s → length s + (a + b) < most → length m + b < most
-second_fits s m a b most e h = rw e (omega (arith, h))
-
 pub behind_fits : (s m : List (List ℕ)) (a b most : ℕ) → Stands s m a → length s + (a + b) < most → length m + b < most
 behind_fits s m a b most stands h = omega (arith, few_deeper s m a stands, h)
-
-pub inside_fits : (s m : List (List ℕ)) (name : List ℕ) (a b i most : ℕ) → m ≡ name ∷ s → length s + (a + b + i + 1) < most → length m + i < most
-inside_fits s m name a b i most e h = rw e (omega (arith, h))
 
 pub element_fits : (s m : List (List ℕ)) (a b most : ℕ) → m ≡ s → a ≤ b → length s + b < most → length m + a < most
 element_fits s m a b most e few h = rw e (omega (arith, few, h))
@@ -118,23 +109,8 @@ itself n = omega arith
 
 -- ---- parts of a term, by the measure of the calls
 
-pub first_falls : (a b t : ℕ) → 3 * max a b + 2 ≡ t → 3 * a < t
-first_falls a b t e = omega arith
-
 pub second_falls : (a b t : ℕ) → 3 * max a b + 2 ≡ t → 3 * b < t
 second_falls a b t e = omega arith
-
-pub first_list_falls : (a b t : ℕ) → 3 * max a b + 2 ≡ t → 3 * a + 1 < t
-first_list_falls a b t e = omega arith
-
-pub second_list_falls : (a b t : ℕ) → 3 * max a b + 2 ≡ t → 3 * b + 1 < t
-second_list_falls a b t e = omega arith
-
-pub inner_falls : (a t : ℕ) → 3 * a + 1 ≡ t → 3 * a < t
-inner_falls a t e = omega arith
-
-pub list_falls : (a t : ℕ) → 3 * a + 2 ≡ t → 3 * a + 1 < t
-list_falls a t e = omega arith
 
 pub element_falls : {A : Type 0} (size : A → ℕ) (l : List A) (i t : ℕ) (d : A) → i < length l → 3 * most size l + 1 ≡ t → 3 * size (get_or l i d) < t
 element_falls size l i t d below e = omega (arith, at_most size l i d below)

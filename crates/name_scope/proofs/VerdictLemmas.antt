@@ -7,7 +7,7 @@ use Rattle.revs_terms.specs.declared.term.Name.{Name}
 use Rattle.revs_terms.specs.declared.term.Unit as u
 use Rattle.revs_terms.specs.declared.term.Step.{Step}
 use Rattle.revs_terms.specs.Numbers.{plus}
-use Rattle.revs_terms.specs.Trees.{Tree, Trees, ItemTree, ItemTrees, nil, cons, no_items, item, bind, run, trees, item_trees, used, block, function, loop}
+use Rattle.revs_terms.specs.Trees.{Tree, Trees, ItemTree, ItemTrees, nil, cons, no_items, item, bind, run, trees, item_trees, block, function, loop}
 use Rattle.revs_terms.specs.Scopes.{Scoped, unbound, scoped, and_then, scoped_tree, scoped_trees, scoped_items, scoped_num, scoped_unit}
 use Rattle.name_scope.specs.declared.binding.ScopeFault.{ScopeFault}
 use Rattle.name_scope.specs.declared.binding.ScopeFault.TheVariants as fault
@@ -22,35 +22,6 @@ part_binds f (Ok done) v a s n e = (rw e.0 refl, e.1)
 part_binds f (Err (fault.Unbound at)) v a s n e = rw e refl
 part_binds f (Err (fault.TwoParams at)) v a s n e = e
 part_binds f (Err fault.Memory) v a s n e = tt
-
--- a used name
-pub name_binds : (r : Result (Unit {0}) ScopeFault) (v : Scoped Name) (name : Name) (s : List (List ℕ)) → Binds r v name
-    → BindsIn r (and_then v (λ n. scoped (used n))) (used name) s s
-name_binds (Ok done) v name s e = (rw e refl, refl)
-name_binds (Err (fault.Unbound at)) v name s e = rw e refl
-name_binds (Err (fault.TwoParams at)) v name s e = e
-name_binds (Err fault.Memory) v name s e = tt
-
--- a second part that leaves the names in scope alone
-pub same_binds : {A B : Type 0} (r : Result (Unit {0}) ScopeFault) (v : Scoped A) (w : Scoped B) (a : A) (b : B) (s m : List (List ℕ)) → v ≡ scoped a
-    → m ≡ s → Binds r w b → BindsIn r (in_turn v w) (a, b) s m
-same_binds (Ok done) v w a b s m e f h = (rw e (rw h refl), f)
-same_binds (Err (fault.Unbound at)) v w a b s m e f h = rw e (rw h refl)
-same_binds (Err (fault.TwoParams at)) v w a b s m e f h = h
-same_binds (Err fault.Memory) v w a b s m e f h = tt
-
--- a second part, among the same names
-pub second_binds : {A B : Type 0} (r : Result (Unit {0}) ScopeFault) (v : Scoped A) (w : Scoped B) (a : A) (b : B) (s n : List (List ℕ)) → v ≡ scoped a
-    → BindsIn r w b s n → BindsIn r (in_turn v w) (a, b) s n
-second_binds (Ok done) v w a b s n e h = (rw e (rw h.0 refl), h.1)
-second_binds (Err (fault.Unbound at)) v w a b s n e h = rw e (rw h refl)
-second_binds (Err (fault.TwoParams at)) v w a b s n e h = h
-second_binds (Err fault.Memory) v w a b s n e h = tt
-
--- an item of a block, alone
-pub let_binds : (old value : Tree) (name : Name) (s m n : List (List ℕ)) → scoped_tree s old ≡ scoped value → m ≡ s → n ≡ name.text ∷ m
-    → scoped_items s (item (bind name old) no_items) ≡ scoped (item (bind name value) no_items, n)
-let_binds old value name s m n e f g = rw e (rw g (rw f refl))
 
 pub run_binds : (r : Result (Unit {0}) ScopeFault) (old term : Tree) (s n : List (List ℕ)) → BindsIn r (scoped_tree s old) term s n
     → Binds r (scoped_items s (item (run old) no_items)) (item (run term) no_items, n)
@@ -129,11 +100,6 @@ pub first_is_unbound : {A C : Type 0} (next : A → Scoped C) (f : ScopeFault) (
 first_is_unbound next (fault.Unbound at) v e = rw e refl
 first_is_unbound next (fault.TwoParams at) v e = e
 first_is_unbound next fault.Memory v e = tt
-
--- the items of a `for`, behind its numbers
-pub items_refused : {A : Type 0} (f : ScopeFault) (v : Scoped A) (a : A) (s m : List (List ℕ)) (name : List ℕ) (is : ItemTrees) → v ≡ scoped a → m ≡ name ∷ s
-    → IsUnbound f (scoped_items m is) → IsUnbound f (in_turn v (alone (scoped_items (name ∷ s) is)))
-items_refused f v a s m name is e b h = rw e (first_is_unbound _ f _ (first_is_unbound _ f (scoped_items (name ∷ s) is) (rw b at h)))
 
 pub items_bound : {A : Type 0} (v : Scoped A) (a : A) (s m n : List (List ℕ)) (name : List ℕ) (is js : ItemTrees) → v ≡ scoped a → m ≡ name ∷ s
     → scoped_items m is ≡ scoped (js, n) → in_turn v (alone (scoped_items (name ∷ s) is)) ≡ scoped (a, js)

@@ -11,16 +11,14 @@ use Rattle.revs_terms.specs.Runs.{no_bits}
 use Rattle.inliner.specs.inside.Machines.{envs_of, env_in, value_in, state_of, Goes, Binds, Calls}
 use Rattle.std.proofs.lemmas.Int.{to_z-of_z}
 use Rattle.std.proofs.lemmas.Result.{MatchResult-weaker, MatchResult-from_both, IfOk-weaker, IfErr-weaker}
-use Rattle.inliner.proofs.EnvironmentLemmas.{grown_within, grown_made}
-use Rattle.inliner.proofs.FaultLemmas.{said_first, memory_says}
-use Rattle.inliner.proofs.ProgressLemmas.{on_ok_alone, begun, step, ends_goes, ends_calls, said, goes_in, says_in, stops, stops_first, does_by, goes_on_so}
+use Rattle.inliner.proofs.ProgressLemmas.{on_ok_alone, begun, step, ends_goes, ends_calls, said, goes_in, says_in, stops, does_by, goes_on_so}
 use Rattle.inliner.proofs.ChainLemmas.{entered, assigns_from, assigns_stuck, reg_made, reg_stuck, bits_begun, bits_more}
-use Rattle.inliner.proofs.ChainLemmas.{bits_stuck, bits_done, chain_begun, chain_more, chain_no_first, chain_stuck, chain_done}
+use Rattle.inliner.proofs.ChainLemmas.{bits_stuck, bits_done, chain_begun, chain_more, chain_stuck, chain_done}
 use Rattle.inliner.proofs.CallLemmas.{mapped_at, mapped_end, items_more, items_stuck, items_done, at_begun, rotation_run, rotation_stuck}
 use Rattle.inliner.proofs.CallLemmas.{named_goes, append_second, append_stuck, apply_begun, apply_more, apply_done}
-use Rattle.inliner.proofs.CallLemmas.{block_last, bit_ends, bit_stuck, enter_stuck, item_stuck}
+use Rattle.inliner.proofs.CallLemmas.{block_last, bit_ends, bit_stuck, item_stuck}
 use Rattle.inliner.proofs.CallLemmas.{apply_stuck, argument_run, call_stuck, call_last, call_next, call_ends, call_said, item_bound, item_run, block_term}
-use Rattle.inliner.proofs.LoopLemmas.{item_loop, item_loop_stuck, loop_begun, loop_no_work, loop_no_first, loop_no_last, turns_begun, turns_more}
+use Rattle.inliner.proofs.LoopLemmas.{item_loop, item_loop_stuck, loop_begun, loop_no_last, turns_begun, turns_more}
 use Rattle.inliner.proofs.LoopLemmas.{turns_stuck, turns_done, turn_bound, binds_so}
 use Rattle.inliner.specs.inside.Calls.{Says, Follows, item_step, join_step}
 use Rattle.inliner.proofs.machine.Machine.+run.Goals as goal
@@ -291,42 +289,6 @@ term-returns-in-Name t c =
 
 -- ---- where a part fails
 
-pub block-returns-in_err-inner : goal.block-returns-in_err-inner
-block-returns-in_err-inner t c = stops_first _ _ c.from_residual.result c.from_residual.ensures.1 c.in_err-inner.ensures
-
-pub append-returns-in_err-front : goal.append-returns-in_err-front
-append-returns-in_err-front t c = stops_first _ _ c.from_residual.result c.from_residual.ensures.1 c.in_err-front.ensures.run
-
-pub apply-returns-in_err-value : goal.apply-returns-in_err-value
-apply-returns-in_err-value t c = stops_first _ _ c.from_residual.result c.from_residual.ensures.1 c.in_err-value.ensures.run
-
-pub argument-returns-in_err-argument : goal.argument-returns-in_err-argument
-argument-returns-in_err-argument t c = stops_first _ _ c.from_residual.result c.from_residual.ensures.1 c.in_err-argument.ensures.run
-
-pub assignment-returns-in_err-to : goal.assignment-returns-in_err-to
-assignment-returns-in_err-to t c = stops_first _ _ c.from_residual.result c.from_residual.ensures.1 c.in_err-to.ensures
-
-pub at-returns-in_err-value : goal.at-returns-in_err-value
-at-returns-in_err-value t c = stops_first _ _ c.from_residual.result c.from_residual.ensures.1 c.in_err-value.ensures.run
-
-pub bit-returns-in_err-value : goal.bit-returns-in_err-value
-bit-returns-in_err-value t c = stops_first _ _ c.from_residual.result c.from_residual.ensures.1 c.in_err-value.ensures.run
-
-pub claimed-returns-in_err-location : goal.claimed-returns-in_err-location
-claimed-returns-in_err-location t c = stops_first _ _ c.from_residual.result c.from_residual.ensures.1 c.in_err-location.ensures
-
-pub link-returns-in_err-next : goal.link-returns-in_err-next
-link-returns-in_err-next t c = stops_first _ _ c.from_residual.result c.from_residual.ensures.1 c.in_err-next.ensures
-
-pub rotation-returns-in_err-k : goal.rotation-returns-in_err-k
-rotation-returns-in_err-k t c = stops_first _ _ c.from_residual.result c.from_residual.ensures.1 c.in_err-k.ensures.err
-
-pub chain-returns-in_err-so_far : goal.chain-returns-in_err-so_far
-chain-returns-in_err-so_far t c = stops _ _ c.from_residual.result c.from_residual.ensures.1
-    (chain_no_first c.args.self.now c.args.frame.left c.args.op (env_in (envs_of c.args.self.now) c.args.frame.env) (map tree_of c.args.terms.now)
-    (tree_of c.in-Some.first.now) (map tree_of c.in-Some.rest.now) c.in_err-so_far.field-0.0 (ap (map tree_of) c.in-Some.ensures.cases.0)
-    c.in_err-so_far.ensures)
-
 -- ---- the last step
 
 pub claimed-returns : goal.claimed-returns
@@ -368,63 +330,7 @@ apply-returns t c = apply_done c.args.self.now c.loop-term.self c.args.frame.lef
 
 -- ---- the parts' calls
 
-pub rotation-run-requires : goal.rotation-run-requires
-rotation-run-requires t c = (omega arith, (c.in_ok-k.ensures.ok.kept, grown_within c.in_ok-k.ensures.ok.grows c.requires.env))
-
-pub append-run-requires-2 : goal.append-run-requires-2
-append-run-requires-2 t c = (omega arith, (c.in_ok-front.ensures.run.does.kept, grown_within c.in_ok-front.ensures.run.does.grows c.requires.env))
-
-pub assignment-bit-requires-2 : goal.assignment-bit-requires-2
-assignment-bit-requires-2 t c = (omega arith, (c.in_ok-to.ensures.kept, grown_within c.in_ok-to.ensures.grows c.requires.env))
-
-pub bits-bit-requires : goal.bits-bit-requires
-bits-bit-requires t c = (omega arith, (c.loop-term.invariant.kept, grown_within c.loop-term.invariant.grows c.requires.env))
-
-pub chain-link-requires : goal.chain-link-requires
-chain-link-requires t c = (omega arith, (c.loop-term.invariant.kept, grown_within c.loop-term.invariant.grows c.requires.env))
-
-pub run-term-requires : goal.run-term-requires
-run-term-requires t c = (omega arith, (c.in_ok-enter.ensures.ok.kept, grown_within c.in_ok-enter.ensures.ok.grows c.requires.env))
-
-pub items-item-requires : goal.items-item-requires
-items-item-requires t c = (omega arith, (c.loop-item.invariant.through.kept, c.loop-item.invariant.made))
-
-pub block-run-requires : goal.block-run-requires
-block-run-requires t c = (omega arith, (c.in_ok-inner.ensures.does.kept, c.in_ok-inner.ensures.made))
-
-pub call-run-requires : goal.call-run-requires
-call-run-requires t c = (omega arith, (c.in_ok-inner.ensures.ok.kept, c.in_ok-inner.ensures.ok.made))
-
-pub apply-argument-requires : goal.apply-argument-requires
-apply-argument-requires t c =
-    let through = c.loop-term.invariant.through in (
-      omega arith,
-      (through.kept, (grown_within through.grows c.requires.env, c.loop-term.invariant.made)),
-    )
-
 -- ---- the exits
-
-pub bits-returns-in_err-push : goal.bits-returns-in_err-push
-bits-returns-in_err-push t c = stops _ _ c.from_residual-in_err-push.result c.from_residual-in_err-push.ensures.1 (record { stuck = tt })
-
-pub run-returns-in_err-enter-clause-run : goal.run-returns-in_err-enter-clause-run
-run-returns-in_err-enter-clause-run t c = stops _ _ c.from_residual.result c.from_residual.ensures.1
-    (enter_stuck c.args.frame.left (env_in (envs_of c.args.self.now) c.args.frame.env) (tree_of c.args.term.now) (state_of c.args.self.now)
-    c.in_err-enter.field-0.0 (omega arith) c.in_err-enter.ensures.err)
-
-pub item-returns-in_err-bound-in-Let : goal.item-returns-in_err-bound-in-Let
-item-returns-in_err-bound-in-Let t c = stops _ _ c.from_residual.result c.from_residual.ensures.1
-    (subst (λ (i : ItemTree). Says c.in_err-bound-in-Let.field-0.0
-    (item_step (run_of no_bits c.args.frame.left) (env_in (envs_of c.args.self.now) c.args.frame.env) i (state_of c.args.self.now)))
-    (sym (ap item_tree_of c.in-Let.is ∙ item_tree_of-Let c.in-Let.name c.in-Let.value))
-    (said_first c.in_err-bound-in-Let.field-0.0 _ _ c.in_err-bound-in-Let.ensures.run))
-
-pub item-returns-in_err-run-in-Do : goal.item-returns-in_err-run-in-Do
-item-returns-in_err-run-in-Do t c = stops _ _ c.from_residual-in_err-run-in-Do.result c.from_residual-in_err-run-in-Do.ensures.1
-    (subst (λ (i : ItemTree). Says c.in_err-run-in-Do.field-0.0
-    (item_step (run_of no_bits c.args.frame.left) (env_in (envs_of c.args.self.now) c.args.frame.env) i (state_of c.args.self.now)))
-    (sym (ap item_tree_of c.in-Do.is ∙ item_tree_of-Do c.in-Do.term))
-    (said_first c.in_err-run-in-Do.field-0.0 _ _ c.in_err-run-in-Do.ensures.run))
 
 pub bit-returns : goal.bit-returns
 bit-returns t c = MatchResult-from_both c.bit_at.result _ _
@@ -432,22 +338,6 @@ bit-returns t c = MatchResult-from_both c.bit_at.result _ _
     c.in_ok-value.value c.requires.machine c.in_ok-value.ensures.run b) c.bit_at.ensures.ok)
     (IfErr-weaker c.bit_at.result _ _ (λ f b. bit_stuck c.args.self.now c.run.new.self c.args.frame.left c.args.frame.env (tree_of c.args.term.now)
     c.in_ok-value.value f c.requires.machine c.in_ok-value.ensures.run b) c.bit_at.ensures.err)
-
-pub argument-call-requires : goal.argument-call-requires
-argument-call-requires t c =
-    let g = c.in_ok-argument.ensures.run in (
-      omega arith,
-      (
-        g.does.kept,
-        (
-          omega (arith, c.in_ok-argument.ensures.room, c.requires.machine.room),
-          (grown_made c.args.self.now c.run.new.self c.args.callee g.does.grows c.requires.made, g.made),
-        ),
-      ),
-    )
-
-pub item-bind-requires-clause-room : goal.item-bind-requires-clause-room
-item-bind-requires-clause-room t c = omega (arith, c.in_ok-bound-in-Let.ensures.room, c.requires.machine.room)
 
 -- ---- loops
 
@@ -469,16 +359,6 @@ item-returns-in_err-repeat-in-For t c = stops _ _ c.from_residual-in_err-repeat-
     c.in-For.ends.value.last (map item_tree_of c.in-For.items.items) _ c.in-For.at (state_of c.args.self.now) c.in_err-repeat-in-For.field-0.0
     (ap (map item_tree_of) c.deref-in-For.ensures.value) (rw c.deref.ensures at c.in_err-repeat-in-For.ensures)))
 
-pub repeat-turns-requires : goal.repeat-turns-requires
-repeat-turns-requires t c = (
-  omega arith,
-  (
-    c.in_ok-high.ensures.ok.kept,
-    grown_within c.in_ok-high.ensures.ok.grows (grown_within c.in_ok-low.ensures.ok.grows
-        (grown_within c.in_ok-work.ensures.ok.grows c.requires.env)),
-  ),
-)
-
 pub repeat-returns : goal.repeat-returns
 repeat-returns t c =
     goes_on_so c.turns.new.self c.turns.result
@@ -486,17 +366,6 @@ repeat-returns t c =
     c.args.ends.now.last (map item_tree_of c.args.items.now) c.args.at c.in_ok-low.low c.in_ok-high.high c.requires.machine (omega arith) c.requires.env
     c.in_ok-work.ensures.ok c.in_ok-low.ensures.ok c.in_ok-high.ensures.ok)
     (simp (to_z-of_z, c.in_ok-low.ensures.fits, c.in_ok-high.ensures.fits) at c.turns.ensures)
-
-pub repeat-returns-in_err-work : goal.repeat-returns-in_err-work
-repeat-returns-in_err-work t c = stops _ _ c.from_residual.result c.from_residual.ensures.1
-    (loop_no_work c.args.frame.left (env_in (envs_of c.args.self.now) c.args.frame.env) c.args.ends.now.first c.args.ends.now.last
-    (map item_tree_of c.args.items.now) c.args.at (state_of c.args.self.now) c.in_err-work.field-0.0 (omega arith) c.in_err-work.ensures.err)
-
-pub repeat-returns-in_err-low : goal.repeat-returns-in_err-low
-repeat-returns-in_err-low t c = stops _ _ c.from_residual-in_err-low.result c.from_residual-in_err-low.ensures.1
-    (loop_no_first c.args.self.now c.work.new.self c.args.frame.left c.args.frame.env c.args.ends.now.first c.args.ends.now.last
-    (map item_tree_of c.args.items.now) c.args.at c.in_err-low.field-0.0 c.requires.machine (omega arith) c.requires.env c.in_ok-work.ensures.ok
-    c.in_err-low.ensures.err)
 
 pub repeat-returns-in_err-high : goal.repeat-returns-in_err-high
 repeat-returns-in_err-high t c = stops _ _ c.from_residual-in_err-high.result c.from_residual-in_err-high.ensures.1
@@ -507,9 +376,6 @@ repeat-returns-in_err-high t c = stops _ _ c.from_residual-in_err-high.result c.
 pub turns-loop-turn-init : goal.turns-loop-turn-init
 turns-loop-turn-init t c = turns_begun c.args.self.now c.args.frame.left (env_in (envs_of c.args.self.now) c.args.frame.env) (map item_tree_of c.args.items.now)
     c.args.at _ _ c.requires.machine
-
-pub turns-turn-requires : goal.turns-turn-requires
-turns-turn-requires t c = (omega arith, (c.loop-turn.invariant.kept, grown_within c.loop-turn.invariant.grows c.requires.env))
 
 pub turns-loop-turn-preserved : goal.turns-loop-turn-preserved
 turns-loop-turn-preserved t c = turns_more c.args.self.now c.loop-turn.self c.turn.new.self c.args.frame.left c.args.frame.env c.in_ok-turn.field-0
@@ -534,9 +400,6 @@ turns-returns t c = record {
   made = record { made = tt };
 }
 
-pub turn-items-requires : goal.turn-items-requires
-turn-items-requires t c = (omega arith, (c.in_ok-inner.ensures.ok.kept, c.in_ok-inner.ensures.ok.made))
-
 pub turn-returns : goal.turn-returns
 turn-returns t c =
     binds_so c.items.new.self c.items.result
@@ -544,10 +407,3 @@ turn-returns t c =
     (map item_tree_of c.args.items.now) c.args.at c.args.number c.requires.machine c.requires.env c.in_ok-work.ensures.ok c.in_ok-work.ensures.added
     (simp (to_z-of_z, c.ranges.number) at c.in_ok-inner.ensures.ok))
     c.items.ensures
-
-pub turn-returns-in_err-work : goal.turn-returns-in_err-work
-turn-returns-in_err-work t c = stops_first _ _ c.from_residual.result c.from_residual.ensures.1 c.in_err-work.ensures.err
-
-pub turn-returns-in_err-inner : goal.turn-returns-in_err-inner
-turn-returns-in_err-inner t c = stops _ _ c.from_residual-in_err-inner.result c.from_residual-in_err-inner.ensures.1
-    (memory_says c.in_err-inner.field-0.0 _ c.in_err-inner.ensures.err)
