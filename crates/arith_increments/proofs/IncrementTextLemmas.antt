@@ -8,7 +8,7 @@ use Rattle.arith_templates.specs.Texts as texts
 use Rattle.revs_lexer.specs.declared.sign.Sign.TheVariants as signs
 use Rattle.revs_lexer.specs.declared.word.Word.TheVariants as words
 use Rattle.built_texts.specs.Pieces.{Piece, text_of, toks_of, fits, AreGood}
-use Rattle.built_texts.proofs.PlaceLemmas.{text_of-append, good_word, good_sign, good_numbered, goods, built_length}
+use Rattle.built_texts.proofs.PlaceLemmas.{text_of-append, good_word, good_sign, good_numbered, good_line, built_length}
 use Rattle.arith_runs.proofs.NameLemmas.{one_digit, zero_digit}
 use Rattle.arith_runs.proofs.Pieces.{s, numbered, text_end}
 use Rattle.arith_runs.proofs.RipplePieces.{from_sum}
@@ -87,7 +87,7 @@ is_fine = record {
   letter_is = refl;
   fits_first = λ ps. refl;
   fits_place = λ i ps. refl;
-  good_first = λ ps h. goods (toks_of (first_sum ++ first_carry)) (toks_of ps) (rw (zero_digit, one_digit) refl) h;
+  good_first = λ ps h. good_line (first_sum ++ first_carry) ps (rw (zero_digit, one_digit) refl) h;
   good_lines = λ i ps le h. good_sum_line i (carry_line i ++ ps) (omega arith) (good_carry_line i ps le h);
   short_first = omega arith;
   short_lines = λ i. omega arith;

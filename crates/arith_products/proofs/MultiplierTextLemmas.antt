@@ -11,7 +11,7 @@ use Rattle.revs_lexer.specs.declared.word.Word.TheVariants as words
 use Rattle.revs_lexer.specs.declared.token.Tok.{Tok}
 use Rattle.revs_lexer.specs.declared.token.Tok.TheVariants as toks
 use Rattle.built_texts.specs.Pieces.{Piece, text_of, toks_of, fits, AreGood}
-use Rattle.built_texts.proofs.PlaceLemmas.{text_of-append, good_word, good_sign, good_number, good_numbered, plain_good, goods, built_length}
+use Rattle.built_texts.proofs.PlaceLemmas.{text_of-append, good_word, good_sign, good_number, good_numbered, plain_good, good_line, built_length}
 use Rattle.arith_runs.proofs.NameLemmas.{one_digit, zero_digit}
 use Rattle.arith_runs.proofs.Pieces.{s, name}
 use Rattle.arith_runs.proofs.RipplePieces.{from_sum}
@@ -20,7 +20,7 @@ use Rattle.arith_runs.proofs.TwoNumberPieces.{ripple, carry_function}
 use Rattle.arith_runs.proofs.TwoNumberTextLemmas.{lines_are_fine, sums_are_fine, function_text, first_text, place_text}
 use Rattle.arith_increments.proofs.IncrementPieces.{header}
 use Rattle.arith_increments.proofs.IncrementTextLemmas.{header_text, good_header}
-use Rattle.arith_products.proofs.ProductPieces.{plus, plus_open, plus_end, zero_open, zero_bits, zero_close, digit_line, digit_lines, slice_of, product_end}
+use Rattle.arith_products.proofs.ProductPieces.{plus, plus_open, plus_end, zero_open, zero_bits, zero_close, first_add_line, digit_line, digit_lines, slice_of, product_end}
 use Rattle.arith_products.proofs.ProductPieces.{from_digits, from_last_zero, from_zeros, from_zero, from_plus, from_function, pieces}
 
 -- ---- the function that adds
@@ -199,19 +199,7 @@ good_digit n k false ps few low h = (
     ),
   ),
 )
-good_digit n zero true ps few low h = (
-  good_word words.Let,
-  (
-    good_numbered 114 1 refl (omega arith),
-    (
-      good_sign signs.Equal,
-      (
-        plain_good (toks.Name (codes "plus")) refl,
-        (good_numbered 114 0 refl (omega arith), (plain_good (toks.Name (codes "a")) refl, (good_sign signs.Semi, h))),
-      ),
-    ),
-  ),
-)
+good_digit n zero true ps few low h = good_line first_add_line ps (rw (zero_digit, one_digit) refl) h
 good_digit n (suc k) true ps few low h = (
   good_word words.Let,
   (
@@ -243,38 +231,16 @@ good_digits n k (d ∷ ds) ps few low h =
     (good_digit n k d (digit_lines n (k + 1) ds ++ ps) few (omega arith) (good_digits n (k + 1) ds ps few (omega arith) h))
 
 good_zero : (m : ℕ) (ds : List Bool) → m ≤ 900 → length ds ≤ 900 → GoodPieces (from_zero m ds)
-good_zero m ds le low = (
-  good_word words.Let,
-  (
-    good_numbered 114 0 refl (omega arith),
-    (
-      good_sign signs.Equal,
-      (
-        good_word words.Reg,
-        (
-          good_sign signs.OpenSquare,
-          good_zeros m (from_last_zero m ds) (
-            good_word words.False,
-            (
-              good_sign signs.CloseSquare,
-              (
-                good_sign signs.Semi,
-                good_digits (suc m) 0 ds (product_end (length ds)) (omega arith) (omega arith)
-                    (good_numbered 114 (length ds) refl (omega arith), (good_sign signs.CloseCurly, tt)),
-              ),
-            ),
-          ),
-        ),
-      ),
-    ),
-  ),
-)
+good_zero m ds le low =
+    good_line zero_open (from_zeros m ds) (rw zero_digit refl) (good_zeros m (from_last_zero m ds)
+    (good_line zero_close (from_digits m ds) refl (good_digits (suc m) 0 ds (product_end (length ds)) (omega arith) (omega arith)
+    (good_numbered 114 (length ds) refl (omega arith), (good_sign signs.CloseCurly, tt)))))
 
 pub all_good : (m : ℕ) (ds : List Bool) → m ≤ 900 → length ds ≤ 900 → GoodPieces (pieces m ds)
 all_good m ds le low =
     good_header (suc m) (from_function m ds) (omega arith)
-    (goods (toks_of carry_function) (toks_of (from_plus m ds)) refl
-    (goods (toks_of plus_open) (toks_of (from_sum (ripple plus) m (plus_end ++ from_zero m ds))) refl
+    (good_line carry_function (from_plus m ds) refl
+    (good_line plus_open (from_sum (ripple plus) m (plus_end ++ from_zero m ds)) refl
     (ripple_good (ripple plus) plus_is_fine m (plus_end ++ from_zero m ds) (omega arith)
     (good_sign signs.CloseCurly, (good_sign signs.Semi, good_zero m ds le low)))))
 

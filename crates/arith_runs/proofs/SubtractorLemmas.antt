@@ -13,10 +13,10 @@ use Rattle.revs_grammar.specs.Forms.{name_of}
 use Rattle.revs_grammar.specs.Productions.{in_front}
 use Rattle.revs_terms.specs.Trees as t
 use Rattle.revs_terms.specs.Trees.{Tree, trees}
-use Rattle.built_texts.specs.Pieces.{text_of, toks_of}
+use Rattle.built_texts.specs.Pieces.{text_of}
 use Rattle.built_texts.specs.Meanings.{IsRun, of_bit, operand, no_operands}
 use Rattle.built_texts.proofs.WayLemmas.{turns}
-use Rattle.built_texts.proofs.PlaceLemmas.{lettered, goods}
+use Rattle.built_texts.proofs.PlaceLemmas.{lettered, good_line}
 use Rattle.built_texts.proofs.RunLemmas.{run_name, run_constant, run_xor, run_and, run_within}
 use Rattle.arith_templates.specs.declared.kind.Kind.TheVariants.{Sub}
 use Rattle.arith_templates.specs.Numbers.{bit, number}
@@ -30,7 +30,7 @@ use Rattle.arith_runs.proofs.RippleReadingLemmas.{bit_at, bound}
 use Rattle.arith_runs.proofs.StageLemmas.{bit_run}
 use Rattle.arith_runs.proofs.TwoNumberPieces.{first_sum, sum_line, carry_line}
 use Rattle.arith_runs.proofs.BorrowPieces.{borrow_function, first_borrow, subtractor}
-use Rattle.arith_runs.proofs.TwoNumberTextLemmas.{IsFineLine, IsFineFunction, two_text}
+use Rattle.arith_runs.proofs.TwoNumberTextLemmas.{IsFineLine, IsFineFunction, fine_function, two_text}
 use Rattle.arith_runs.proofs.TwoNumberReadingLemmas.{ReadsLine, ReadsFunction, function_item}
 use Rattle.arith_runs.proofs.TwoNumberLemmas.{AreApart, letters_apart, WorksFunction, WorksLine, two_rippled}
 use Rattle.arith_runs.proofs.TwoNumberProgramLemmas.{HasParams, two_computes}
@@ -60,16 +60,12 @@ is_fine = record {
   second_is = refl;
   function_is = refl;
   fits_line = λ ps. refl;
-  good_line = λ ps h. goods (toks_of first_borrow) (toks_of ps) (rw one_digit refl) h;
+  good_line = λ ps h. good_line first_borrow ps (rw one_digit refl) h;
   short_line = omega arith;
 }
 
 pub function_is_fine : IsFineFunction borrow_function
-function_is_fine = record {
-  fits_function = λ ps. refl;
-  good_function = λ ps h. goods (toks_of borrow_function) (toks_of ps) refl h;
-  short_function = omega arith;
-}
+function_is_fine = fine_function borrow_function (λ ps. refl) refl (omega arith)
 
 -- ---- reading
 

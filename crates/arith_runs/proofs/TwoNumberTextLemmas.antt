@@ -1,7 +1,7 @@
 -- The texts of two numbers that ripple: how they are spelled, that they fit, and that they are good.
 use Rattle.std.proofs.Common.{◌≡◌, ℕ, suc, ◌+◌, ◌-◌, ◌≤◌, true, List, [], ◌∷◌, ◌++◌, length, refl, ap, sym, ◌∙◌, arith}
 use Rattle.std.specs.Prelude.{codes}
-use Rattle.std.specs.List.{flat_map, range_with_len}
+use Rattle.std.specs.List.{flat_map, list_all, range_with_len}
 use Rattle.std.proofs.lemmas.List.{append_assoc, length-append}
 use Rattle.text_places.specs.Bytes.{is_letter}
 use Rattle.revs_lexer.specs.declared.sign.Sign.TheVariants as signs
@@ -9,7 +9,7 @@ use Rattle.revs_lexer.specs.declared.sign.Sign.TheVariants.{Xor, And, Semi, Equa
 use Rattle.revs_lexer.specs.declared.word.Word.TheVariants as words
 use Rattle.revs_lexer.specs.declared.token.Tok.TheVariants as toks
 use Rattle.built_texts.specs.Pieces.{Piece, text_of, toks_of, fits, AreGood}
-use Rattle.built_texts.proofs.PlaceLemmas.{text_of-append, good_word, good_sign, good_numbered, is_plain, plain_good, goods, built_length}
+use Rattle.built_texts.proofs.PlaceLemmas.{text_of-append, good_word, good_sign, good_numbered, is_plain, plain_good, good_line, built_length}
 use Rattle.program_gen.specs.Adder as sums
 use Rattle.program_gen.specs.Places as lines
 use Rattle.arith_runs.proofs.NameLemmas.{one_digit, zero_digit}
@@ -115,6 +115,12 @@ pub record IsFineFunction (line : List Piece) : Type 0 where
   pub good_function : (ps : List Piece) → AreGood (toks_of ps) → AreGood (toks_of (line ++ ps))
   pub short_function : length line ≤ 100
 
+-- a line of which it is computed that its tokens are good
+pub fine_function : (line : List Piece) → ((ps : List Piece) → fits (line ++ ps) ≡ fits ps) → list_all is_plain (toks_of line) ≡ true → length line ≤ 100
+    → IsFineFunction line
+fine_function line fitting plain short =
+    record { fits_function = fitting; good_function = λ ps h. good_line line ps plain h; short_function = short }
+
 module _ (T : TwoNumbers) (F : IsFineLine T) (line : List Piece) (G : IsFineFunction line) where
   pub two_text : (function first : List ℕ) (place : ℕ → List ℕ) → function ≡ text_of line → IsSpelled (ripple T) first place → (m : ℕ)
       → sums.parameters (suc m) ++ (function ++ first) ++ flat_map place (range_with_len 1 (suc m - 1)) ++ lines.outputs (T.letter ∷ []) (suc m)
@@ -157,16 +163,12 @@ sums_are_fine first second one other = record {
   second_is = other;
   function_is = refl;
   fits_line = λ ps. refl;
-  good_line = λ ps h. goods (toks_of (sums_of first second).first_line) (toks_of ps) (rw (one_digit, one, other) refl) h;
+  good_line = λ ps h. good_line (sums_of first second).first_line ps (rw (one_digit, one, other) refl) h;
   short_line = omega arith;
 }
 
 pub carry_is_fine : IsFineFunction carry_function
-carry_is_fine = record {
-  fits_function = λ ps. refl;
-  good_function = λ ps h. goods (toks_of carry_function) (toks_of ps) refl h;
-  short_function = omega arith;
-}
+carry_is_fine = fine_function carry_function (λ ps. refl) refl (omega arith)
 
 pub function_text : sums.carry_function ≡ text_of carry_function
 unfolding sums.carry_function

@@ -1,24 +1,23 @@
 // The lines of the programs that subtract and compare.
 ghost use Rattle.std.specs.Prelude.{◌≡◌, ◌≤◌, ◌++◌, string_bytes, OnOk};
-ghost use Rattle.arith_templates.specs.Texts.{subtractor_opening, difference_place};
-ghost use Rattle.arith_templates.specs.Texts.{comparator_opening, borrow_line};
-ghost use Rattle.arith_templates.specs.Texts.{last_borrow_line};
+ghost use Rattle.program_gen.specs.Adder.{parameters};
+ghost use Rattle.arith_templates.specs.Texts.{borrow_function, first_borrow, difference_place};
+ghost use Rattle.arith_templates.specs.Texts.{borrow_line, last_borrow_line};
 
 use program_gen::{MOST_BITS, put_parameters};
 use std::alloc::AllocError;
 
-// The parameters, the borrow as a function, and place 0.
-#[tactic(auto, unfolding(crate::specs::Texts::borrow_function, crate::specs::Texts::first_difference, crate::specs::Texts::first_borrow))]
-pub(crate) fn put_subtractor_opening(text: &mut String, n: u32) -> Result<(), AllocError>
-    ensures { OnOk result (string_bytes text.new
-        ≡ string_bytes text.old ++ subtractor_opening n) }
+// The parameters, the borrow as a function, and place 0: what is put first of it, and the borrow out
+// of it.
+#[tactic(auto, unfolding(crate::specs::Texts::borrow_function, crate::specs::Texts::first_borrow))]
+pub(crate) fn put_opening(text: &mut String, n: u32, first: &str) -> Result<(), AllocError>
+    ensures { OnOk result (string_bytes text.new ≡ string_bytes text.old
+        ++ (parameters n ++ (borrow_function ++ (first.now ++ first_borrow)))) }
 {
     put_parameters(text, n)?;
-    text.push_str(
-        "let lend x y c = ((true <> x) && y) <> (c && (true <> x <> y));\n\
-        let d0 = a.[0] <> b.[0];\n\
-        let c1 = (true <> a.[0]) && b.[0];\n",
-    )
+    text.push_str("let lend x y c = ((true <> x) && y) <> (c && (true <> x <> y));\n")?;
+    text.push_str(first)?;
+    text.push_str("let c1 = (true <> a.[0]) && b.[0];\n")
 }
 
 // The difference and the borrow out of a place above 0.
@@ -30,19 +29,6 @@ pub(crate) fn put_difference_place(text: &mut String, i: u32) -> Result<(), Allo
 {
     writeln!(text, "let d{i} = a.[{i}] <> b.[{i}] <> c{i};")?;
     put_borrow(text, i)
-}
-
-// The parameters, the borrow as a function, and the borrow out of place 0.
-#[tactic(auto, unfolding(crate::specs::Texts::borrow_function, crate::specs::Texts::first_borrow))]
-pub(crate) fn put_comparator_opening(text: &mut String, n: u32) -> Result<(), AllocError>
-    ensures { OnOk result (string_bytes text.new
-        ≡ string_bytes text.old ++ comparator_opening n) }
-{
-    put_parameters(text, n)?;
-    text.push_str(
-        "let lend x y c = ((true <> x) && y) <> (c && (true <> x <> y));\n\
-        let c1 = (true <> a.[0]) && b.[0];\n",
-    )
 }
 
 // The borrow out of a place above 0.

@@ -26,14 +26,14 @@ pub fn text(alloc: Global, kind: Kind, n: u32, by: u32) -> Result<Vec<u8>, Memor
         Kind::Sub => rippled(
             alloc,
             n,
-            difference::put_subtractor_opening,
+            |text, n| difference::put_opening(text, n, "let d0 = a.[0] <> b.[0];\n"),
             difference::put_difference_place,
             |text, n| put_outputs(text, "d", n),
         ),
         Kind::Less => rippled(
             alloc,
             n,
-            difference::put_comparator_opening,
+            |text, n| difference::put_opening(text, n, ""),
             difference::put_borrow,
             difference::put_last_borrow,
         ),

@@ -1,6 +1,6 @@
 -- Tokens of built texts by number, and tokens that are good.
 use Rattle.std.proofs.Common.{get_or, ◌≡◌, ℕ, zero, suc, ◌*◌, ◌≤◌, ◌<◌, Bool, true, false, ◌&&◌, leb, List, [], ◌∷◌, ◌++◌, length, Option, Some, None}
-use Rattle.std.proofs.Common.{refl, ap, sym, ◌∙◌, arith}
+use Rattle.std.proofs.Common.{refl, ap, sym, subst, ◌∙◌, arith}
 use Rattle.std.specs.Prelude.{decimal}
 use Rattle.std.specs.Char.{is_ascii_digit}
 use Rattle.std.specs.List.{list_all}
@@ -100,6 +100,9 @@ plain_good toks.End e = absurd (false≢true e)
 pub goods : (ts us : List Tok) → list_all is_plain ts ≡ true → AreGood us → AreGood (ts ++ us)
 goods [] us e h = h
 goods (t ∷ ts) us e h = let k = and_parts (is_plain t) (list_all is_plain ts) e in (plain_good t k.0, goods ts us k.1 h)
+
+pub good_line : (line ps : List Piece) → list_all is_plain (toks_of line) ≡ true → AreGood (toks_of ps) → AreGood (toks_of (line ++ ps))
+good_line line ps e h = subst AreGood (sym (toks_of-append line ps)) (goods (toks_of line) (toks_of ps) e h)
 
 -- a letter with a number behind it
 abbrev pub lettered : ℕ → ℕ → List ℕ
