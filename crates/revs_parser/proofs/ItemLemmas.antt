@@ -32,7 +32,7 @@ use Rattle.revs_parser.proofs.StepLemmas.{by_first}
 use Rattle.revs_parser.proofs.StepLemmas.{AtFirst, IsLeftOut, first_less, no_word}
 use Rattle.revs_parser.proofs.TokenLemmas.{a_sign, bare_word, a_word, opened, opens_too_many, opening_stops, stops_at}
 use Rattle.revs_parser.proofs.TokenLemmas.{by_pieces, by_token, halts_by_pieces, halts_by_token, left_out, skips}
-use Rattle.revs_parser.proofs.ReadingLemmas.{Chain, chain_halts, elements_of, elements_more}
+use Rattle.revs_parser.proofs.ReadingLemmas.{Chain, elements_of, elements_more}
 
 -- ---- the items of a block
 
@@ -191,12 +191,6 @@ module _ {p : Profile} (l : ℕ) where
       for_no_level deep stop e = halts_behind (opening_token (sign signs.OpenCurly) (l + 1) ∷ in_loop p (l + 1)) r
           (opens_too_many (sign signs.OpenCurly) (l + 1) (in_loop p (l + 1)) deep h refl refl stop e)
 
-      pub for_in_loop : {inner : ℕ} → inner ≡ l + 1 → {stop : Stop} → few_levels (l + 1) ≡ true → Halts (in_loop p inner) b stop
-          → Halts (in_for p (l + 1)) ts stop
-      for_in_loop e ok k =
-          halts_behind (opening_token (sign signs.OpenCurly) (l + 1) ∷ in_loop p (l + 1)) r
-          (halts_behind (in_loop p (l + 1)) (opened (sign signs.OpenCurly) (l + 1) ok h refl refl refl) (rw e at k))
-
       pub for_reads : (at : Place) {inner : ℕ} → inner ≡ l + 1 → {items : List ItemTree} {item : ItemTree} {rest : List Token} → few_levels (l + 1) ≡ true
           → ReadsLoop p inner items b rest → item ≡ run (loop name low high (item_trees items) at) → ReadsFor p l at item ts rest
       for_reads at e ok q w =
@@ -284,12 +278,3 @@ module _ {p : Profile} (l : ℕ) where
       → Reads (token (sign signs.Semi) ∷ []) tt b end → ReadsLoop p l (map item_tree_of new) ts end
   loop_done items this c r h e q =
       read_loop (map item_tree_of items) (item_tree_of this) (rw (e, map-append) refl) (and_then (closed_items c r h) q)
-
-  pub loop_halts : {read : List ItemTree} {ts behind : List Token} {stop : Stop} → InLoop p l read ts behind → HaltsIn (in_profile p g.loop_item) l behind stop
-      → Halts (in_loop p l) ts stop
-  loop_halts c k = halts_first (token (sign signs.Semi) ∷ []) (chain_halts c.chain k)
-
-  pub loop_unended : {read : List ItemTree} {this : ItemTree} {at : Place} {ts behind rest b : List Token} {stop : Stop} → InLoop p l read ts behind
-      → ReadsForm (in_profile p g.loop_item) l this behind rest → Heads (toks.Sign signs.CloseCurly) at rest b → Halts (token (sign signs.Semi) ∷ []) b stop
-      → Halts (in_loop p l) ts stop
-  loop_unended c r h k = halts_behind (token (sign signs.Semi) ∷ []) (closed_items c r h) k

@@ -1,8 +1,7 @@
 -- Readings put together, and where they halt.
-use Rattle.std.proofs.Common.{◌≡◌, ℕ, suc, ◌+◌, ◌-◌, ◌*◌, true, Result, Err, inl, inr, ◌<◌, ◌≤◌, List}
+use Rattle.std.proofs.Common.{◌≡◌, ℕ, true, Result, Err, inl, inr, ◌<◌, ◌≤◌, List}
 use Rattle.std.proofs.Common.{[], ◌∷◌, ◌++◌, refl, sym, ◌∙◌, ap, subst, length, length-append, append_assoc, arith}
 use Rattle.std.specs.Result.{MatchResult, IsErrAnd}
-use Rattle.std.proofs.lemmas.Bool.{leb-true}
 use Rattle.std.proofs.lemmas.Result.{err_from_is_err_and}
 use Rattle.revc_base.specs.declared.place.Place.{Place}
 use Rattle.revc_base.proofs.ResultLemmas.{one_fault}
@@ -13,7 +12,6 @@ use Rattle.revs_grammar.specs.Productions.{productions}
 use Rattle.revs_grammar.specs.Sentences.{Symbol, token, kept_token, opening_token, form, symbols, Leads, done, read, keep}
 use Rattle.revs_grammar.specs.Sentences.{open_level, by_line, Vals, front_of, behind_of, fill, value, few_levels}
 use Rattle.revs_grammar.specs.inside.Machine.{Stack, outcome}
-use Rattle.revs_terms.specs.declared.limits.TheConstants.{MOST_LEVELS}
 use Rattle.revs_grammar.proofs.LeadsLemmas.{leads-then, value-then}
 use Rattle.revs_parser.specs.declared.stop.Stop.{Stop}
 use Rattle.revs_parser.specs.declared.stop.Stop.TheVariants as stops
@@ -203,18 +201,6 @@ opening_passes {k} {at} m l c ok h goes =
 pub one_token : {k : Tok} {at : Place} {s : Symbol} {vs : Vals (s ∷ [])} {ts rest : List Token} → Heads k at ts rest → Passes (s ∷ []) [] (λ _. vs) ts rest
     → Reads (s ∷ []) vs ts rest
 one_token h a = record { passes = a; shorter = let l = ap length h.cut in omega (arith, l) }
-
--- ---- the measure of the calls
-
--- a call at the same level
-pub lower : (n a d t : ℕ) → n + (a + suc d) ≡ t → n + a < t
-lower n a d t e = omega arith
-
--- a call one level deeper, where that level is allowed
-pub deeper : (level inner a b d t : ℕ) → inner ≡ level + 1 → few_levels (level + 1) ≡ true → a + d ≡ 15 → (101 - level) * 16 + b ≡ t
-    → ((101 - inner) * 16 + a < t) × (inner ≤ MOST_LEVELS)
-deeper level inner a b d t e few small m =
-    let most : level + 1 ≤ 100 = leb-true (level + 1) 100 few in (omega arith, omega arith)
 
 -- ---- where reading stops
 

@@ -35,7 +35,7 @@ use Rattle.revs_parser.specs.declared.front.Opener.TheVariants as openers
 use Rattle.revs_parser.specs.inside.Reading.{Passes, Reads, Skips, ReadsForm, Halts, HaltsIn, Heads, NotFirst, base_first, name_first}
 use Rattle.revs_parser.specs.inside.Reading.{ReadsAnywhere, HaltsAnywhere, HaltsAtLevels}
 use Rattle.revs_parser.specs.inside.Forms.{ReadsNames, names_rest, in_part, ReadsPart, in_function, ReadsFunction, in_application, ReadsAtoms}
-use Rattle.revs_parser.specs.inside.Forms.{in_register, ReadsRegister, ReadsBlock, ReadsItem, in_binding, ReadsBinding}
+use Rattle.revs_parser.specs.inside.Forms.{in_register, ReadsRegister, ReadsBlock, ReadsItem, ReadsBinding}
 use Rattle.revs_parser.specs.inside.Forms.{ReadsFunctionNames, in_bound_names, closed_by, operated, ReadsOperator, NoOperator, in_append, ReadsAppend}
 use Rattle.revs_parser.specs.inside.Forms.{opening, NoOpener, infix_sign, infix_term, in_chain, in_operand, ReadsChain, ReadsOperand, in_block}
 use Rattle.revs_parser.specs.inside.Forms.{in_opened, ReadsOpened}
@@ -56,11 +56,6 @@ module _ {p : Profile} where
         let r' = rw e at r in
         rw r'.is (by_token (in_profile p g.expression) l _ (inl refl) h refl refl refl
         (and_then (opened (word words.Fun) (l + 1) ok h refl refl refl) r'.reads))
-
-    pub expression_no_level : few_levels (l + 1) ≡ false → (stop : Stop) → stop ≡ stops.Nesting (length ts) → HaltsIn (in_profile p g.expression) l ts stop
-    expression_no_level deep stop e =
-        halts_by_token (in_profile p g.expression) l _ (inl refl) h refl refl refl
-        (opens_too_many (word words.Fun) (l + 1) (in_function p (l + 1)) deep h refl refl stop e)
 
     pub expression_in_function : {stop : Stop} {inner : ℕ} → inner ≡ l + 1 → few_levels (l + 1) ≡ true → Halts (in_function p inner) mid stop
         → HaltsIn (in_profile p g.expression) l ts stop
@@ -353,11 +348,6 @@ module _ {p : Profile} where
   chain_no_first infixes.Xor l {ts = ts} h = halts_past (sum_line l ts) (halts_first (form (in_profile p g.sums) l ∷ []) h)
   chain_no_first infixes.And l {ts = ts} h = halts_past (product_line l ts) (halts_first (form (in_profile p g.products) l ∷ []) h)
 
-  pub chain_breaks : (x : Infix) (l : ℕ) {read : List Tree} {ts behind : List Token} {stop : Stop} → InChain p x l read ts behind
-      → Halts (in_operand x p l) behind stop → Halts (in_chain x p l) ts stop
-  chain_breaks infixes.Xor l c h = chain_halts c.so_far h
-  chain_breaks infixes.And l c h = chain_halts c.so_far h
-
   pub chain_shorter : (x : Infix) (l : ℕ) {s : Sign} {t : Tree} {at : Place} {ts mid rest : List Token} → ReadsOperand x p l t ts mid
       → Heads (toks.Sign s) at mid rest → length rest < length ts
   chain_shorter infixes.Xor l r h = smaller_behind r.reads h
@@ -473,13 +463,6 @@ module _ {p : Profile} where
       (and_then c.bracket (and_then (passes_reads c.chain.passes
       (and_maybe r (skips (left_out (in_profile p g.elements) l _ (inl refl) (m.no_elements p l rest k))))) q))
 
-  pub register_halts : (l : ℕ) {read : List Tree} {ts behind : List Token} {stop : Stop} → InRegister p l read ts behind
-      → HaltsIn (in_profile p g.expression) l behind stop
-      → Halts (in_register p l) ts stop
-  register_halts l c h =
-      halts_behind (form (in_profile p g.expression) l ∷ form (in_profile p g.elements) l ∷ token (sign signs.CloseSquare) ∷ []) c.bracket
-      (halts_first (token (sign signs.CloseSquare) ∷ []) (chain_halts c.chain h))
-
   pub register_unclosed : (l : ℕ) {read : List Tree} {t : Tree} {ts behind rest : List Token} {stop : Stop} → InRegister p l read ts behind
       → ReadsForm (in_profile p g.expression) l t behind rest → NotFirst (toks.Sign signs.Semi) rest → Halts (token (sign signs.CloseSquare) ∷ []) rest stop
       → Halts (in_register p l) ts stop
@@ -520,10 +503,6 @@ module _ {p : Profile} where
     reads = passes_reads b.repeats.passes r;
   }
 
-  pub block_halts : (l : ℕ) {read : List ItemTree} {ts mid : List Token} {stop : Stop} → InBlock p l read ts mid → HaltsIn (in_profile p g.body) l mid stop
-      → HaltsIn (in_profile p g.body) l ts stop
-  block_halts l b h = repeats_halts b.repeats h
-
 -- ---- the rest of a function behind its `fun`, and of a binding behind its `let`
 
 pub function_names_read : {first : Name} {before all : List Name} {ts mid rest : List Token} → Reads (kept_token any_name ∷ []) (first, tt) ts mid
@@ -540,16 +519,10 @@ module _ {p : Profile} where
         → ReadsFunction p l at t ts rest
     function_reads at {inner} q w = record { first = n.first; more = n.more; inner = inner; is = rw (w, n.all_names); reads = and_then n.reads q }
 
-    pub function_in_body : {stop : Stop} → HaltsIn (in_profile p g.expression) l a stop → Halts (in_function p l) ts stop
-    function_in_body h = halts_behind (form (in_profile p g.expression) l ∷ []) n.reads h
-
   module _ (l : ℕ) {bound : Name} {all : List Name} {ts a : List Token} (n : Reads in_bound_names (bound, (all, tt)) ts a) where
     pub binding_reads : {item : ItemTree} {inner : Tree} {rest : List Token} → Reads (closed_by p signs.Semi l) (inner, tt) a rest
         → item ≡ bind bound (bound_of all inner) → ReadsBinding p l item ts rest
     binding_reads {inner} q w = record { bound = bound; more = all; inner = inner; is = w; reads = and_then n q }
-
-    pub binding_in_value : {stop : Stop} → Halts (closed_by p signs.Semi l) a stop → Halts (in_binding p l) ts stop
-    binding_in_value h = halts_behind (closed_by p signs.Semi l) n h
 
 -- ---- applications
 
@@ -608,11 +581,6 @@ module _ {p : Profile} where
       → whole ≡ append t u at → ReadsAppend p l at whole ts rest
   append_reads l at {t} {u} r q w = record { first = t; second = u; is = w; reads = and_then r q }
 
-  pub append_halts_second : (l : ℕ) {t : Tree} {ts mid : List Token} {stop : Stop} → ReadsForm (in_profile p g.atom) l t ts mid
-      → HaltsIn (in_profile p g.atom) l mid stop
-      → Halts (in_append p l) ts stop
-  append_halts_second l r k = halts_behind (form (in_profile p g.atom) l ∷ []) r k
-
 pub plain : {ts : List Token} → NotFirst (toks.Word words.Append) ts → NoOperator ts → m.IsPlain ts
 plain k n = record { no_clean = n.no_clean; no_assert = n.no_assert; no_append = k; no_rotate = n.no_rotate }
 
@@ -623,9 +591,6 @@ module _ {p : Profile} where
 
   pub plain_halts : (l : ℕ) {ts : List Token} {stop : Stop} → m.IsPlain ts → Halts (in_application p l) ts stop → HaltsIn (in_profile p g.application) l ts stop
   plain_halts l {ts} k h = halts_there (form (in_profile p g.application) l ∷ []) (in_application p l) (m.as_application p l ts k) h
-
-  pub atoms_halt : (l : ℕ) {ts : List Token} {stop : Stop} → HaltsIn (in_profile p g.atom) l ts stop → Halts (in_application p l) ts stop
-  atoms_halt l h = halts_first (form (in_profile p g.atoms) l ∷ []) h
 
 -- ---- atoms
 
@@ -739,12 +704,3 @@ module _ {p : Profile} where
 module _ (p : Profile) where
   abbrev pub function_rest : ℕ → Stack
   function_rest l = form (in_profile p g.expression) l ∷ []
-
-  abbrev pub register_rest : ℕ → Stack
-  register_rest l = form (in_profile p g.expression) l ∷ form (in_profile p g.elements) l ∷ token (sign signs.CloseSquare) ∷ []
-
-  abbrev pub append_rest : ℕ → Stack
-  append_rest l = form (in_profile p g.atom) l ∷ []
-
-abbrev pub closed_rest : Sign → Stack
-closed_rest end = token (sign end) ∷ []

@@ -1,21 +1,14 @@
-use Rattle.std.proofs.Common.{refl, sym, ◌∙◌, arith}
+use Rattle.std.proofs.Common.{sym, ◌∙◌}
 use Rattle.revs_terms.specs.Trees.{tree_of}
 use Rattle.revs_terms.proofs.ShapeLemmas.{tree_of-Reg, tree_of-Block, tree_of-Apply}
 use Rattle.revs_terms.proofs.ShapeLemmas.{item_tree_of-Let, item_tree_of-Do, item_tree_of-For}
 use Rattle.std.proofs.lemmas.Result.{MatchResult-weaker}
-use Rattle.revs_lexer.specs.declared.sign.Sign.TheVariants as signs
-use Rattle.revs_parser.specs.inside.Forms.{closed_by}
-use Rattle.revs_parser.proofs.PassingLemmas.{only, smaller_behind, halts_first, halts_on, lacks, no_memory, wants_memory, lower, deeper}
+use Rattle.revs_parser.proofs.PassingLemmas.{only, smaller_behind, halts_on}
 use Rattle.revs_parser.proofs.ReadingLemmas as r
 use Rattle.revs_parser.proofs.ItemLemmas as i
 use Rattle.revs_parser.proofs.expression.Reader.+read.Goals as goal
 
 -- ---- expressions
-
-pub expression-returns-in_err-level : goal.expression-returns-in_err-level
-expression-returns-in_err-level t c =
-    halts_on _ _ _ c.from_residual.ensures.1
-    (r.expression_no_level c.args.self.level c.in-Some.ensures.found c.in_err-level.ensures.deep _ c.in_err-level.ensures.stops)
 
 pub expression-returns-in-Some : goal.expression-returns-in-Some
 expression-returns-in-Some t c = MatchResult-weaker c.function.result c.function.ensures
@@ -36,9 +29,6 @@ expression-returns-in_err-left-2 t c =
     (r.expression_in_assigned c.args.self.level c.in_default.ensures.none c.in_ok-left.ensures.reads c.in-Some-after.ensures.found
     (rw c.in_err-left-2.ensures at c.chained-2.ensures))
 
-pub expression-returns-in_err-term : goal.expression-returns-in_err-term
-expression-returns-in_err-term t c = halts_on _ _ _ c.from_residual-in_err-term.ensures.1 (wants_memory c.in_err-term.ensures)
-
 pub expression-returns : goal.expression-returns
 expression-returns t c =
     let both = c.in_ok-left-2.ensures in
@@ -47,19 +37,6 @@ expression-returns t c =
     right.reads (rw both.0 at c.in_ok-term.ensures)
 
 -- ---- functions
-
-pub function-returns-in_err-names : goal.function-returns-in_err-names
-function-returns-in_err-names t c =
-    halts_on _ _ _ c.from_residual.ensures.1
-    (halts_first (r.function_rest c.args.self.profile c.args.self.level) c.in_err-names.ensures)
-
-pub function-returns-in_err-body : goal.function-returns-in_err-body
-function-returns-in_err-body t c =
-    halts_on _ _ _ c.from_residual-in_err-body.ensures.1
-    (r.function_in_body c.args.self.level c.in_ok-names.ensures c.in_err-body.ensures)
-
-pub function-returns-in_err-term : goal.function-returns-in_err-term
-function-returns-in_err-term t c = halts_on _ _ _ c.from_residual-in_err-term.ensures.1 (wants_memory c.in_err-term.ensures)
 
 pub function-returns : goal.function-returns
 function-returns t c =
@@ -74,19 +51,11 @@ chained-returns-in_err-first t c =
 pub chained-returns-in_default : goal.chained-returns-in_default
 chained-returns-in_default t c = r.chain_alone c.args.operator c.args.self.level c.in_ok-first.ensures (rw c.sign.ensures at c.in_default.ensures.none)
 
-pub chained-returns-in_err-push : goal.chained-returns-in_err-push
-chained-returns-in_err-push t c = halts_on _ _ _ c.from_residual-in_err-push.ensures.1 no_memory
-
 pub chained-operands-init : goal.chained-operands-init
 chained-operands-init t c = record {
   read = r.chain_begun c.args.operator c.args.self.level c.in_ok-first.ensures (rw c.sign.ensures at c.in-Some.ensures.found)
       (only c.new-terms.result.items c.in_ok-first.first c.in_ok-push.ensures.items c.new-terms.ensures.items);
 }
-
-pub chained-returns-in_err-rest : goal.chained-returns-in_err-rest
-chained-returns-in_err-rest t c =
-    halts_on _ _ _ c.from_residual-in_err-rest.ensures.1
-    (r.chain_breaks c.args.operator c.args.self.level c.operands.invariant.read (lacks c.in_err-rest.ensures (λ e. rw e at c.operand-in-operands.ensures)))
 
 pub chained-returns-in_default-after : goal.chained-returns-in_default-after
 chained-returns-in_default-after t c =
@@ -130,37 +99,17 @@ application-returns-in_default-2 t c =
     (λ x. r.application_plain c.args.self.level (r.plain c.in_default.ensures.none none))
     (λ x. r.plain_halts c.args.self.level (r.plain c.in_default.ensures.none none))
 
-pub application-returns-in_err-operator : goal.application-returns-in_err-operator
-application-returns-in_err-operator t c =
-    halts_on _ _ _ c.from_residual.ensures.1 (c.in_err-operator.ensures.halts.at_level c.args.self.level)
-
 pub application-returns-in_err-operator-2 : goal.application-returns-in_err-operator-2
 application-returns-in_err-operator-2 t c =
     let found = rw c.in-Some-2.is at c.in_ok-operator.ensures.found in
     halts_on _ _ _ c.from_residual-in_err-operator-2.ensures.1
     (r.operand_halts c.args.self.level found (rw c.in_err-operator-2.ensures at c.atom.ensures))
 
-pub application-returns-in_err-term : goal.application-returns-in_err-term
-application-returns-in_err-term t c = halts_on _ _ _ c.from_residual-in_err-term.ensures.1 (wants_memory c.in_err-term.ensures)
-
 pub application-returns : goal.application-returns
 application-returns t c =
     let found = rw c.in-Some-2.is at c.in_ok-operator.ensures.found in
     let both = c.in_ok-operator-2.ensures in
     r.application_operator c.args.self.level found (rw both.1 at c.atom.ensures) (rw both.0 at c.in_ok-term.ensures)
-
-pub append-returns-in_err-first : goal.append-returns-in_err-first
-append-returns-in_err-first t c =
-    halts_on _ _ _ c.from_residual.ensures.1
-    (halts_first (r.append_rest c.args.self.profile c.args.self.level) c.in_err-first.ensures)
-
-pub append-returns-in_err-first-2 : goal.append-returns-in_err-first-2
-append-returns-in_err-first-2 t c =
-    halts_on _ _ _ c.from_residual-in_err-first-2.ensures.1
-    (r.append_halts_second c.args.self.level c.in_ok-first.ensures (rw c.in_err-first-2.ensures at c.atom-2.ensures))
-
-pub append-returns-in_err-term : goal.append-returns-in_err-term
-append-returns-in_err-term t c = halts_on _ _ _ c.from_residual-in_err-term.ensures.1 (wants_memory c.in_err-term.ensures)
 
 pub append-returns : goal.append-returns
 append-returns t c =
@@ -169,26 +118,14 @@ append-returns t c =
 
 -- ---- an atom and its arguments
 
-pub atoms-returns-in_err-head : goal.atoms-returns-in_err-head
-atoms-returns-in_err-head t c =
-    halts_on _ _ _ c.from_residual.ensures.1 (r.atoms_halt c.args.self.level c.in_err-head.ensures)
-
 pub atoms-returns-then-not-begins_base : goal.atoms-returns-then-not-begins_base
 atoms-returns-then-not-begins_base t c = r.atom_alone c.args.self.level c.in_ok-head.ensures (sym c.begins_base.ensures ∙ c.if-not-begins_base.true)
-
-pub atoms-returns-in_err-head-2 : goal.atoms-returns-in_err-head-2
-atoms-returns-in_err-head-2 t c = halts_on _ _ _ c.from_residual-in_err-head-2.ensures.1 no_memory
 
 pub atoms-arguments-init : goal.atoms-arguments-init
 atoms-arguments-init t c = record {
   read = r.arguments_begun c.args.self.level c.in_ok-head.head c.in_ok-head-2.head.value c.in_ok-head.ensures (sym c.begins_base.ensures
       ∙ c.if-not-begins_base.false) c.new-arguments.ensures.items c.in_ok-head-2.ensures.ok;
 }
-
-pub atoms-returns-in_err-rest : goal.atoms-returns-in_err-rest
-atoms-returns-in_err-rest t c =
-    halts_on _ _ _ c.from_residual-in_err-rest.ensures.1
-    (r.chain_halts c.arguments.invariant.read (lacks c.in_err-rest.ensures (λ e. rw e at c.atom-in-arguments.ensures)))
 
 pub atoms-returns-then-not-begins_base-2 : goal.atoms-returns-then-not-begins_base-2
 atoms-returns-then-not-begins_base-2 t c =
@@ -220,9 +157,6 @@ atom-returns-in_err-inner-2 t c =
     halts_on _ _ _ c.from_residual-in_err-inner-2.ensures.1
     (r.atom_in_parts c.args.self.level c.in_ok-inner.ensures (rw c.in_err-inner-2.ensures at c.all_parts.ensures))
 
-pub atom-returns-in_err-term : goal.atom-returns-in_err-term
-atom-returns-in_err-term t c = halts_on _ _ _ c.from_residual-in_err-term.ensures.1 (wants_memory c.in_err-term.ensures)
-
 pub atom-returns : goal.atom-returns
 atom-returns t c =
     let both = c.in_ok-inner-2.ensures in
@@ -234,11 +168,6 @@ pub base-returns-in_default : goal.base-returns-in_default
 base-returns-in_default t c = MatchResult-weaker c.single_base.result c.single_base.ensures
     (λ x read. read.at_level c.args.self.profile c.args.self.level)
     (λ x halt. halt.at_level c.args.self.profile c.args.self.level)
-
-pub base-returns-in_err-level : goal.base-returns-in_err-level
-base-returns-in_err-level t c =
-    halts_on _ _ _ c.from_residual.ensures.1
-    (r.base_no_level c.args.self.level c.in-Some.opener c.in-Some.ensures.found c.in_err-level.ensures.deep _ c.in_err-level.ensures.stops)
 
 pub base-returns : goal.base-returns
 base-returns t c = MatchResult-weaker c.opened.result c.opened.ensures
@@ -255,11 +184,6 @@ opened-returns-in-Bracket t c = rw c.in-Bracket.is (MatchResult-weaker c.closed.
 pub opened-returns-in-Block : goal.opened-returns-in-Block
 opened-returns-in-Block t c = rw c.in-Block.is (MatchResult-weaker c.block.result c.block.ensures (λ x r. record { reads = r }) (λ x h. h))
 
-pub closed-returns-in_err-term : goal.closed-returns-in_err-term
-closed-returns-in_err-term t c =
-    halts_on _ _ _ c.from_residual.ensures.1
-    (halts_first (r.closed_rest c.args.end) c.in_err-term.ensures)
-
 pub closed-returns : goal.closed-returns
 closed-returns t c =
     MatchResult-weaker c.both.result c.both.ensures
@@ -268,17 +192,8 @@ closed-returns t c =
 
 -- ---- registers
 
-pub register-returns-in_err-behind : goal.register-returns-in_err-behind
-register-returns-in_err-behind t c =
-    halts_on _ _ _ c.from_residual.ensures.1 (halts_first (r.register_rest c.args.self.profile c.args.self.level) c.in_err-behind.ensures.halts)
-
 pub register-elements-init : goal.register-elements-init
 register-elements-init t c = record { read = r.register_begun c.args.self.level c.in_ok-behind.ensures.ok c.new-elements.ensures.items }
-
-pub register-returns-in_err-rest : goal.register-returns-in_err-rest
-register-returns-in_err-rest t c =
-    halts_on _ _ _ c.from_residual-in_err-rest.ensures.1
-    (r.register_halts c.args.self.level c.elements.invariant.read (lacks c.in_err-rest.ensures (λ e. rw e at c.expression.ensures)))
 
 pub register-returns-in_err-rest-2 : goal.register-returns-in_err-rest-2
 register-returns-in_err-rest-2 t c =
@@ -308,16 +223,6 @@ register-elements-smaller t c =
 
 pub block-items-init : goal.block-items-init
 block-items-init t c = record { read = r.block_begun c.args.self.level c.args.tokens.now c.new-items.ensures.items }
-
-pub block-returns-in_err-next : goal.block-returns-in_err-next
-block-returns-in_err-next t c =
-    halts_on _ _ _ c.from_residual.ensures.1 (r.block_halts c.args.self.level c.items.invariant.read c.in_err-next.ensures)
-
-pub block-returns-in_err-push-in-Item : goal.block-returns-in_err-push-in-Item
-block-returns-in_err-push-in-Item t c = halts_on _ _ _ c.from_residual-in_err-push-in-Item.ensures.1 no_memory
-
-pub block-returns-in_err-new-in-Last : goal.block-returns-in_err-new-in-Last
-block-returns-in_err-new-in-Last t c = halts_on _ _ _ c.from_residual-in_err-new-in-Last.ensures.1 no_memory
 
 pub block-items-preserved : goal.block-items-preserved
 block-items-preserved t c =
@@ -369,22 +274,8 @@ item-returns t c = MatchResult-weaker c.repetition.result c.repetition.ensures
 
 -- ---- loops
 
-pub repetition-returns-in_err-name : goal.repetition-returns-in_err-name
-repetition-returns-in_err-name t c = halts_on _ _ _ c.from_residual.ensures.1 (i.for_no_range c.args.self.level c.in_err-name.ensures)
-
 pub repetition-returns-in_default : goal.repetition-returns-in_default
 repetition-returns-in_default t c = i.for_no_curly c.args.self.level c.in_ok-name.ensures c.in_default.ensures.none
-
-pub repetition-returns-in_err-level : goal.repetition-returns-in_err-level
-repetition-returns-in_err-level t c =
-    halts_on _ _ _ c.from_residual-in_err-level.ensures.1
-    (i.for_no_level c.args.self.level c.in_ok-name.ensures c.in-Some.ensures.found c.in_err-level.ensures.deep _ c.in_err-level.ensures.stops)
-
-pub repetition-returns-in_err-items : goal.repetition-returns-in_err-items
-repetition-returns-in_err-items t c =
-    halts_on _ _ _ c.from_residual-in_err-items.ensures.1
-    (i.for_in_loop c.args.self.level c.in_ok-name.ensures c.in-Some.ensures.found c.in_ok-level.ensures.inner c.in_ok-level.ensures.within
-    c.in_err-items.ensures)
 
 pub repetition-returns : goal.repetition-returns
 repetition-returns t c =
@@ -393,17 +284,6 @@ repetition-returns t c =
 
 pub loop_items-items-init : goal.loop_items-items-init
 loop_items-items-init t c = record { read = i.loop_begun c.args.self.level c.args.tokens.now c.new-items.ensures.items }
-
-pub loop_items-returns-in_err-rest : goal.loop_items-returns-in_err-rest
-loop_items-returns-in_err-rest t c =
-    halts_on _ _ _ c.from_residual.ensures.1
-    (i.loop_halts c.args.self.level c.items.invariant.read (lacks c.in_err-rest.ensures (λ e. rw e at c.loop_item.ensures)))
-
-pub loop_items-returns-in_err-rest-2 : goal.loop_items-returns-in_err-rest-2
-loop_items-returns-in_err-rest-2 t c =
-    let read = rw c.in_ok-rest.ensures.was_read at c.loop_item.ensures in
-    halts_on _ _ _ c.from_residual-in_err-rest-2.ensures.1
-    (i.loop_unended c.args.self.level c.items.invariant.read read c.in-Some.ensures.found c.in_err-rest-2.ensures.halts)
 
 pub loop_items-returns-in-Some : goal.loop_items-returns-in-Some
 loop_items-returns-in-Some t c =
@@ -439,117 +319,7 @@ loop_item-returns t c =
 
 -- ---- bindings
 
-pub binding-returns-in_err-name : goal.binding-returns-in_err-name
-binding-returns-in_err-name t c =
-    halts_on _ _ _ c.from_residual.ensures.1
-    (halts_first (closed_by c.args.self.profile signs.Semi c.args.self.level) c.in_err-name.ensures)
-
-pub binding-returns-in_err-body : goal.binding-returns-in_err-body
-binding-returns-in_err-body t c =
-    halts_on _ _ _ c.from_residual-in_err-body.ensures.1
-    (r.binding_in_value c.args.self.level c.in_ok-name.ensures c.in_err-body.ensures)
-
-pub binding-returns-in_err-value : goal.binding-returns-in_err-value
-binding-returns-in_err-value t c = halts_on _ _ _ c.from_residual-in_err-value.ensures.1 (wants_memory c.in_err-value.ensures)
-
 pub binding-returns : goal.binding-returns
 binding-returns t c =
     r.binding_reads c.args.self.level c.in_ok-name.ensures c.in_ok-body.ensures
     (rw (item_tree_of-Let, c.in_ok-value.ensures))
-
--- ---- calls at the same level
-
-pub expression-chained-requires : goal.expression-chained-requires
-expression-chained-requires t c = (lower _ 8 0 _ c.decreases, c.requires)
-
-pub expression-chained-requires-2 : goal.expression-chained-requires-2
-expression-chained-requires-2 t c = (lower _ 8 0 _ c.decreases, c.requires)
-
-pub function-expression-requires : goal.function-expression-requires
-function-expression-requires t c = (lower _ 9 2 _ c.decreases, c.requires)
-
-pub application-append-requires : goal.application-append-requires
-application-append-requires t c = (lower _ 3 0 _ c.decreases, c.requires)
-
-pub application-atoms-requires : goal.application-atoms-requires
-application-atoms-requires t c = (lower _ 3 0 _ c.decreases, c.requires)
-
-pub application-atom-requires : goal.application-atom-requires
-application-atom-requires t c = (lower _ 2 1 _ c.decreases, c.requires)
-
-pub append-atom-requires : goal.append-atom-requires
-append-atom-requires t c = (lower _ 2 0 _ c.decreases, c.requires)
-
-pub append-atom-requires-2 : goal.append-atom-requires-2
-append-atom-requires-2 t c = (lower _ 2 0 _ c.decreases, c.requires)
-
-pub atoms-atom-requires : goal.atoms-atom-requires
-atoms-atom-requires t c = (lower _ 2 0 _ c.decreases, c.requires)
-
-pub atom-base-requires : goal.atom-base-requires
-atom-base-requires t c = (lower _ 1 0 _ c.decreases, c.requires)
-
-pub closed-expression-requires : goal.closed-expression-requires
-closed-expression-requires t c = (lower _ 9 0 _ c.decreases, c.requires)
-
-pub register-expression-requires : goal.register-expression-requires
-register-expression-requires t c = (lower _ 9 2 _ c.decreases, c.requires)
-
-pub block-item_or_last-requires : goal.block-item_or_last-requires
-block-item_or_last-requires t c = (lower _ 13 0 _ c.decreases, c.requires)
-
-pub item_or_last-item-requires : goal.item_or_last-item-requires
-item_or_last-item-requires t c = (lower _ 12 0 _ c.decreases, c.requires)
-
-pub item_or_last-expression-requires : goal.item_or_last-expression-requires
-item_or_last-expression-requires t c = (lower _ 9 3 _ c.decreases, c.requires)
-
-pub item-binding-requires : goal.item-binding-requires
-item-binding-requires t c = (lower _ 11 0 _ c.decreases, c.requires)
-
-pub item-repetition-requires : goal.item-repetition-requires
-item-repetition-requires t c = (lower _ 1 10 _ c.decreases, c.requires)
-
-pub loop_items-loop_item-requires : goal.loop_items-loop_item-requires
-loop_items-loop_item-requires t c = (lower _ 13 0 _ c.decreases, c.requires)
-
-pub loop_item-item-requires : goal.loop_item-item-requires
-loop_item-item-requires t c = (lower _ 12 0 _ c.decreases, c.requires)
-
-pub loop_item-closed-requires : goal.loop_item-closed-requires
-loop_item-closed-requires t c = (lower _ 10 2 _ c.decreases, c.requires)
-
-pub binding-closed-requires : goal.binding-closed-requires
-binding-closed-requires t c = (lower _ 10 0 _ c.decreases, c.requires)
-
-pub chained-operand-requires : goal.chained-operand-requires
-chained-operand-requires t c = (omega (arith, c.decreases), c.requires)
-
-pub chained-operand-requires-in-operands : goal.chained-operand-requires-in-operands
-chained-operand-requires-in-operands t c = (omega (arith, c.decreases), c.requires)
-
-pub operand-chained-requires : goal.operand-chained-requires
-operand-chained-requires t c = (lower _ 6 0 _ (rw c.in-Xor.is at c.decreases), c.requires)
-
-pub operand-application-requires : goal.operand-application-requires
-operand-application-requires t c = (lower _ 4 0 _ (rw c.in-And.is at c.decreases), c.requires)
-
-pub opened-register-requires : goal.opened-register-requires
-opened-register-requires t c = (lower _ 12 2 _ c.decreases, c.requires)
-
-pub opened-closed-requires : goal.opened-closed-requires
-opened-closed-requires t c = (lower _ 10 4 _ c.decreases, c.requires)
-
-pub opened-block-requires : goal.opened-block-requires
-opened-block-requires t c = (lower _ 14 0 _ c.decreases, c.requires)
-
--- ---- calls one level deeper
-
-pub expression-function-requires : goal.expression-function-requires
-expression-function-requires t c = deeper _ _ 12 9 3 _ c.in_ok-level.ensures.inner c.in_ok-level.ensures.within refl c.decreases
-
-pub repetition-loop_items-requires : goal.repetition-loop_items-requires
-repetition-loop_items-requires t c = deeper _ _ 14 1 1 _ c.in_ok-level.ensures.inner c.in_ok-level.ensures.within refl c.decreases
-
-pub base-opened-requires : goal.base-opened-requires
-base-opened-requires t c = deeper _ _ 15 1 0 _ c.in_ok-level.ensures.inner c.in_ok-level.ensures.within refl c.decreases
