@@ -1,6 +1,6 @@
 -- Each list of tokens has one verdict.
 use Rattle.std.proofs.Common.{◌≡◌, ℕ, suc, ◌+◌, ◌==◌, Bool, true, false, cond, Option, Some, None, List, [], ◌∷◌}
-use Rattle.std.proofs.Common.{◌++◌, ◌⊎◌, inl, inr, refl, sym, ◌∙◌, ap, subst, length, length-append, arith}
+use Rattle.std.proofs.Common.{◌++◌, ◌⊎◌, inl, inr, refl, sym, ◌∙◌, ap, subst, length, length-append, arith, rules}
 use Rattle.std.proofs.lemmas.Bool.Decides.{nat_tests}
 use Rattle.revc_base.specs.declared.place.Place.{Place}
 use Rattle.revs_lexer.specs.declared.token.Tok.{Tok}
@@ -208,16 +208,7 @@ limits_of tokens params term h = go (all_pass [] params AreParams-none)
 
 -- What the outcome says of the token at which it stops makes it the fault's.
 pub syntax_is : {tokens : List Token} {left : ℕ} (s : StopsAt tokens left Refuses) → IsSyntax tokens (length s.front) s.named.at
-syntax_is s = record {
-  front = s.front;
-  named = s.named;
-  rest = s.rest;
-  cut = s.cut;
-  count = refl;
-  place = refl;
-  begins = s.why.0;
-  refused = s.why.1;
-}
+syntax_is s = search rules
 
 pub nesting_is : {tokens : List Token} {left : ℕ} (s : StopsAt tokens left Deepens) → IsNesting tokens s.named.at
 nesting_is s =
