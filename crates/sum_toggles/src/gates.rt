@@ -8,15 +8,25 @@ use dependency_graph::Base;
 use mct_circuit::Gate;
 use revc_base::Memory;
 
-/// The line of an input, or of a node that is held: an input has its own number, and a node that of
-/// its work line behind the lines before `first`. It takes no memory.
-pub fn base_line(first: u32, lines: &[Option<u32>], base: Base) -> u32
-    requires { IsPlacedBase first lines.now base }
-    ensures { result ≡ base_line first lines.now base }
-{
-    match base {
-        Base::Input(i) => i,
-        Base::Node(k) => first + lines[k as usize].unwrap_or(0),
+// The lines of bases: `lines` holds the work line of each node that is held, `first` is the first
+// work line.
+#[derive(Clone, Copy)]
+pub struct Lines<'s> {
+    pub first: u32,
+    pub lines: &'s [Option<u32>],
+}
+
+impl<'s> Lines<'s> {
+    // The line of an input, or of a node that is held: an input has its own number, and a node that
+    // of its work line behind the lines before `first`.
+    pub fn line_of(self, base: Base) -> u32
+        requires { IsPlacedBase self.first self.lines.now base }
+        ensures { result ≡ base_line self.entry.first self.entry.lines.now base }
+    {
+        match base {
+            Base::Input(i) => i,
+            Base::Node(k) => self.first + self.lines[k as usize].unwrap_or(0),
+        }
     }
 }
 

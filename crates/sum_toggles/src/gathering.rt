@@ -6,7 +6,7 @@ ghost use Rattle.sum_toggles.specs.Toggles.{IsPlacedBase, base_line, both_gather
 ghost use Rattle.sum_toggles.specs.Toggles.{gathers, has, own_base};
 ghost use Rattle.sum_toggles.specs.inside.Steps.{HaveOwnLines, IsGathered};
 
-use crate::gates::{base_line, push_copy};
+use crate::gates::{Lines, push_copy};
 use bit_sums::Product;
 use dependency_graph::Base;
 use mct_circuit::Gate;
@@ -37,62 +37,41 @@ fn has(bits: &[Base], base: Base) -> bool
 }
 
 // The gates that gather both factors.
-pub fn gathered(
-    alloc: Global,
-    first: u32,
-    lines: &[Option<u32>],
-    product: &Product,
-) -> Result<Vec<Gate>, Memory>
-    requires { HaveOwnLines first lines.now product.now }
+pub fn gathered(alloc: Global, on: Lines, product: &Product) -> Result<Vec<Gate>, Memory>
+    requires { HaveOwnLines on.first on.lines.now product.now }
     ensures { IfOk result (λ gates. gates.items
-        ≡ both_gathered (base_line first lines.now) product.now) }
+        ≡ both_gathered (base_line on.entry.first on.entry.lines.now) product.now) }
 {
     let (a, b) = (product.first(), product.second());
     let mut gates = Vec::new(alloc);
-    gather_all(&mut gates, first, lines, a, own_base(a, b))?;
-    gather_all(&mut gates, first, lines, b, own_base(b, a))?;
+    gather_all(&mut gates, on, a, own_base(a, b))?;
+    gather_all(&mut gates, on, b, own_base(b, a))?;
     Ok(gates)
 }
 
 // Adds every other bit to the line of the own one.
-fn gather_all(
-    gates: &mut Vec<Gate>,
-    first: u32,
-    lines: &[Option<u32>],
-    bits: &[Base],
-    own: Base,
-) -> Result<(), Memory>
-    requires { IsGathered first lines.now own bits.now }
+fn gather_all(gates: &mut Vec<Gate>, on: Lines, bits: &[Base], own: Base) -> Result<(), Memory>
+    requires { IsGathered on.first on.lines.now own bits.now }
     ensures { OnOk result (gates.new.items
-        ≡ gates.old.items ++ gathers (base_line first lines.now) own bits.now) }
+        ≡ gates.old.items ++ gathers (base_line on.entry.first on.entry.lines.now) own bits.now) }
 {
     for base in bits {
-        gather(gates, first, lines, *base, own)?;
+        gather(gates, on, *base, own)?;
     }
     Ok(())
 }
 
 // Adds a bit to the line of the own one, unless it is that one.
-fn gather(
-    gates: &mut Vec<Gate>,
-    first: u32,
-    lines: &[Option<u32>],
-    base: Base,
-    own: Base,
-) -> Result<(), Memory>
-    requires placed { IsPlacedBase first lines.now base }
-    requires own { IsPlacedBase first lines.now own }
+fn gather(gates: &mut Vec<Gate>, on: Lines, base: Base, own: Base) -> Result<(), Memory>
+    requires placed { IsPlacedBase on.first on.lines.now base }
+    requires own { IsPlacedBase on.first on.lines.now own }
     requires apart { base ≢ own
-        → base_line first lines.now base ≢ base_line first lines.now own }
+        → base_line on.first on.lines.now base ≢ base_line on.first on.lines.now own }
     ensures { OnOk result (gates.new.items
-        ≡ gates.old.items ++ gather (base_line first lines.now) own base) }
+        ≡ gates.old.items ++ gather (base_line on.entry.first on.entry.lines.now) own base) }
 {
     if base == own {
         return Ok(());
     }
-    push_copy(
-        gates,
-        base_line(first, lines, base),
-        base_line(first, lines, own),
-    )
+    push_copy(gates, on.line_of(base), on.line_of(own))
 }

@@ -7,6 +7,5 @@ mod gathering;
 mod toggling;
 mod weight;
 
-pub use gates::base_line;
 pub use toggling::append_sum;
 pub use weight::weight_within;

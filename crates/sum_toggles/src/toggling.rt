@@ -6,7 +6,7 @@ ghost use Rattle.sum_toggles.specs.Toggles.{product_gates, sum_gates};
 ghost use Rattle.bit_sums.specs.Sums.{bases_of, product_bases};
 ghost use Rattle.sum_toggles.specs.inside.Steps.{CanAdd, CanFlip};
 
-use crate::gates::{append_copies, base_line, push_copy, push_flip, push_one};
+use crate::gates::{Lines, append_copies, push_copy, push_flip, push_one};
 use crate::gathering::{gathered, own_base};
 use bit_sums::{Product, Sum};
 use dependency_graph::Base;
@@ -29,66 +29,56 @@ pub fn append_sum(
     ensures { OnOk result (gates.new.items
         ≡ gates.old.items ++ sum_gates (base_line first lines.now) target sum.now) }
 {
-    append_bits(gates, first, lines, target, sum.bits())?;
-    append_products(gates, first, lines, target, sum.products())?;
+    let on = Lines { first, lines };
+    append_bits(gates, on, target, sum.bits())?;
+    append_products(gates, on, target, sum.products())?;
     push_one(gates, target, sum.one())
 }
 
 // Appends a copy of each bit.
-fn append_bits(
-    gates: &mut Vec<Gate>,
-    first: u32,
-    lines: &[Option<u32>],
-    target: u32,
-    bits: &[Base],
-) -> Result<(), Memory>
-    requires { AllByRecursion (CanAdd first lines.now target) bits.now }
-    ensures { OnOk result (gates.new.items
-        ≡ gates.old.items ++ bit_gates (base_line first lines.now) target bits.now) }
+fn append_bits(gates: &mut Vec<Gate>, on: Lines, target: u32, bits: &[Base]) -> Result<(), Memory>
+    requires { AllByRecursion (CanAdd on.first on.lines.now target) bits.now }
+    ensures { OnOk result (gates.new.items ≡ gates.old.items
+        ++ bit_gates (base_line on.entry.first on.entry.lines.now) target bits.now) }
 {
     for base in bits {
-        push_copy(gates, base_line(first, lines, *base), target)?;
+        push_copy(gates, on.line_of(*base), target)?;
     }
     Ok(())
 }
 
 fn append_products(
     gates: &mut Vec<Gate>,
-    first: u32,
-    lines: &[Option<u32>],
+    on: Lines,
     target: u32,
     products: &[Product],
 ) -> Result<(), Memory>
-    requires { AllByRecursion (CanFlip first lines.now target) products.now }
+    requires { AllByRecursion (CanFlip on.first on.lines.now target) products.now }
     ensures { OnOk result (gates.new.items ≡ gates.old.items
-        ++ flat_map (product_gates (base_line first lines.now) target) products.now) }
+        ++ flat_map (product_gates (base_line on.entry.first on.entry.lines.now) target)
+        products.now) }
 {
     for product in products {
-        append_product(gates, first, lines, target, product)?;
+        append_product(gates, on, target, product)?;
     }
     Ok(())
 }
 
 fn append_product(
     gates: &mut Vec<Gate>,
-    first: u32,
-    lines: &[Option<u32>],
+    on: Lines,
     target: u32,
     product: &Product,
 ) -> Result<(), Memory>
-    requires { CanFlip first lines.now target product.now }
-    ensures { OnOk result (gates.new.items
-        ≡ gates.old.items ++ product_gates (base_line first lines.now) target product.now) }
+    requires { CanFlip on.first on.lines.now target product.now }
+    ensures { OnOk result (gates.new.items ≡ gates.old.items
+        ++ product_gates (base_line on.entry.first on.entry.lines.now) target product.now) }
 {
-    let mut both = gathered(*gates.allocator(), first, lines, product)?;
+    let mut both = gathered(*gates.allocator(), on, product)?;
     append_copies(gates, &both)?;
     let a = own_base(product.first(), product.second());
     let b = own_base(product.second(), product.first());
-    push_flip(
-        gates,
-        &[base_line(first, lines, a), base_line(first, lines, b)],
-        target,
-    )?;
+    push_flip(gates, &[on.line_of(a), on.line_of(b)], target)?;
     both.reverse();
     gates.append(&mut both)?;
     Ok(())

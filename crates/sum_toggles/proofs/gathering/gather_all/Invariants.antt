@@ -4,5 +4,5 @@ use Rattle.sum_toggles.proofs.gathering.gather_all.Given as goal
 
 abbrev pub invariant-loop-base : goal.invariant-loop-base
 invariant-loop-base l =
-    l.gates.items ++ gathers (base_line l.first l.lines) l.own (drop l.base-index l.bits)
-    ≡ l.initial.gates.items ++ gathers (base_line l.first l.lines) l.own l.bits
+    l.gates.items ++ gathers (base_line l.on.first l.on.lines.now) l.own (drop l.base-index l.bits)
+    ≡ l.initial.gates.items ++ gathers (base_line l.on.first l.on.lines.now) l.own l.bits

@@ -4,5 +4,5 @@ use Rattle.sum_toggles.proofs.toggling.append_bits.Given as goal
 
 abbrev pub invariant-loop-base : goal.invariant-loop-base
 invariant-loop-base l =
-    l.gates.items ++ bit_gates (base_line l.first l.lines) l.target (drop l.base-index l.bits)
-    ≡ l.initial.gates.items ++ bit_gates (base_line l.first l.lines) l.target l.bits
+    l.gates.items ++ bit_gates (base_line l.on.first l.on.lines.now) l.target (drop l.base-index l.bits)
+    ≡ l.initial.gates.items ++ bit_gates (base_line l.on.first l.on.lines.now) l.target l.bits

@@ -5,5 +5,5 @@ use Rattle.sum_toggles.proofs.toggling.append_products.Given as goal
 
 abbrev pub invariant-loop-product : goal.invariant-loop-product
 invariant-loop-product l =
-    l.gates.items ++ flat_map (product_gates (base_line l.first l.lines) l.target) (drop l.product-index l.products)
-    ≡ l.initial.gates.items ++ flat_map (product_gates (base_line l.first l.lines) l.target) l.products
+    l.gates.items ++ flat_map (product_gates (base_line l.on.first l.on.lines.now) l.target) (drop l.product-index l.products)
+    ≡ l.initial.gates.items ++ flat_map (product_gates (base_line l.on.first l.on.lines.now) l.target) l.products
