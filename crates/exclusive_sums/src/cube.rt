@@ -27,8 +27,6 @@ pub struct Cube {
 impl Model for Cube {
     ghost Value = { List Literal };
 
-    ghost use Rattle.exclusive_sums.specs.Cubes.{IsCube};
-
     ghost view = { λ c. c.literals.items };
 
     ghost invariant = { λ c. IsCube c.literals.items };
