@@ -1,5 +1,6 @@
 -- The marks of kept nodes, as they are set: place k of the list is that of node k.
 use Rattle.std.specs.Prelude.{ℕ, ◌+◌, Bool, true, cond, List, [], ◌∷◌, slice_index_or, slice_set}
+use Rattle.std.specs.List.{fold}
 use Rattle.list_facts.specs.Bits.{bit_of}
 use Rattle.dependency_graph.specs.declared.node.Base.{Base}
 use Rattle.dependency_graph.specs.declared.node.Base.TheVariants as bases
@@ -12,8 +13,7 @@ with_mark marks (bases.Input i) = marks
 with_mark marks (bases.Node k) = slice_set marks k true
 
 abbrev pub with_marks : List Bool → List Base → List Bool
-with_marks marks [] = marks
-with_marks marks (base ∷ rest) = with_marks (with_mark marks base) rest
+with_marks marks some = fold with_mark marks some
 
 -- with marks of what a node is made of, where the node is marked
 abbrev pub with_operands : List Bool → ℕ → Node → List Bool
