@@ -13,10 +13,11 @@ use Rattle.dependency_graph.specs.declared.node.Base.{Base}
 use Rattle.dependency_graph.specs.declared.node.Base.TheVariants as bases
 use Rattle.dependency_graph.specs.Graphs.{IsKnownBase, node_of}
 use Rattle.claim_check.specs.Settled.{SettledView}
+use Rattle.bit_sums.specs.Growing.{FactorView, IsSumOf, IsTimes}
 use Rattle.bit_sums.specs.Sums.{SumView, weight_of}
 use Rattle.sum_graph.specs.declared.slot.Slot.{Slot}
 use Rattle.sum_graph.specs.declared.slot.Slot.TheVariants as slots
-use Rattle.sum_graph.specs.inside.Walks.{AreSlots, IsSlot, IsStanding, IsStandingNode, IsTaken}
+use Rattle.sum_graph.specs.inside.Walks.{AreSlots, IsAnd, IsFactorOf, IsSlot, IsStanding, IsStandingNode, IsTaken, IsXor}
 use Rattle.sum_graph.specs.inside.Walks.{StandsFor, slot_products, slot_weight, times_in}
 use Rattle.sum_graph.proofs.SumNodeLemmas.{known_base}
 use Rattle.sum_graph.proofs.UseLemmas.{times_behind, times_first}
@@ -46,6 +47,18 @@ still_standing (bases.Node j) (bases.Node k) old new sum ne b taken = elim taken
       subst (λ some. IsStandingNode some k) (sym moved.gone)
       (record { within = omega (arith, length-set old j slots.Moved, b.within); stands = λ e. b.stands (sym (other_slot old j k slots.Moved other) ∙ e) })
 ]
+
+-- the sum of two operands that were taken, one after the other
+pub summed : (a b : Base) (old between new : List Slot) (left right : SumView) → IsTaken a old between left → IsTaken b between new right
+    → (sum : SumView) → IsSumOf left right sum → IsXor a b old new sum
+summed a b old between new left right first second sum is =
+    record { left = left; right = right; between = between; first = first; second = second; is = is }
+
+-- the product of two factors
+pub multiplied : (a b : Base) (old : List Slot) (left right : FactorView) → IsFactorOf old a left → IsFactorOf old b right
+    → (sum : SumView) → IsTimes left right sum → IsAnd a b old old sum
+multiplied a b old left right first second sum is =
+    record { left = left; right = right; first = first; second = second; same = refl; is = is }
 
 -- ---- what the slots keep
 
