@@ -1,10 +1,10 @@
 -- Plans of a graph within a budget.
 use Rattle.std.specs.Prelude.{◌≡◌, ℕ, ◌+◌, ◌≤◌, nat_lt, if◌then◌else◌, length}
-use Rattle.sum_graph.specs.Graphs.{SumGraphView}
-use Rattle.circuit_plans.specs.Plans.{BudgetView, PlannedView}
+use Rattle.sum_graph.specs.Graphs.{SumGraphView, sum_outputs}
+use Rattle.circuit_plans.specs.Plans.{BudgetView, MapsCleanly, PlannedView}
 use Rattle.mct_circuit.specs.Gates.{AreNarrow}
 use Rattle.held_nodes.specs.Held.{ForwardView, first_work}
-use Rattle.held_nodes.specs.Moves.{IsToggled, finished_gates, weight_in}
+use Rattle.held_nodes.specs.Moves.{IsToggled, finished_gates, roles_of_plan, weight_in}
 
 -- the plan has the inputs and outputs of the graph
 pub record HasPorts (s : SumGraphView) (p : PlannedView) : Type 0 where
@@ -16,6 +16,13 @@ pub record HasPorts (s : SumGraphView) (p : PlannedView) : Type 0 where
 pub record IsInBudget (b : BudgetView) (p : PlannedView) : Type 0 where
   pub lines : p.circuit.lines + b.borrow ≤ b.lines
   pub gates : weight_in p.circuit.gates ≤ b.gates
+
+-- A plan of narrow gates within a budget: it has the ports of the graph, and puts its outputs.
+pub record IsNarrowPlan (s : SumGraphView) (b : BudgetView) (p : PlannedView) : Type 0 where
+  pub ports : HasPorts s p
+  pub clean : MapsCleanly (roles_of_plan p) p.circuit.gates (sum_outputs s)
+  pub within : IsInBudget b p
+  pub narrow : AreNarrow p.circuit.gates
 
 -- the budget has a line for each of so many inputs and outputs, and for each borrowed bit
 abbrev pub HasPortLines : ℕ → BudgetView → Type 0

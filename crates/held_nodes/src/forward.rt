@@ -45,6 +45,9 @@ pub struct Forward<'s> {
     heap: Heap,
 }
 
+/// A forward part that was worked on, or the refusal of what was to be done.
+pub type Moved<'s> = Result<Forward<'s>, PlanFault>;
+
 impl<'s> Model for Forward<'s> {
     ghost Value = { ForwardView };
 
@@ -73,11 +76,7 @@ impl<'s> Forward<'s> {
     ///
     /// `Lines` exactly where the budget does not have a line for each input, output and borrowed
     /// bit; `need` is how many these are.
-    pub fn new(
-        alloc: Global,
-        graph: &'s SumGraph,
-        budget: &Budget,
-    ) -> Result<Forward<'s>, PlanFault>
+    pub fn new(alloc: Global, graph: &'s SumGraph, budget: &Budget) -> Moved<'s>
         ensures ok { IfOk result (λ forward. forward
             ≡ nothing_held graph.now budget.now (replicate (length graph.now.nodes) None)) }
         ensures keeps { IfOk result IsForward }
@@ -126,7 +125,7 @@ impl<'s> Forward<'s> {
     /// `Lines` exactly where the node is not held and as many nodes are as the budget has work
     /// lines; `need` is one more than the budget's lines. Otherwise `Gates` exactly where twice the
     /// weight of all gates, with the toggle's, passes the budget.
-    pub fn toggle(self, node: u32) -> Result<Forward<'s>, PlanFault>
+    pub fn toggle(self, node: u32) -> Moved<'s>
         requires { IsReadyNode self.graph self.lines node }
         ensures ok { IfOk result (IsToggled self.entry node) }
         ensures keeps { IfOk result IsForward }
@@ -164,7 +163,7 @@ impl<'s> Forward<'s> {
     /// # Errors
     ///
     /// `Gates` exactly where twice the weight of all gates, with these flips, passes the budget.
-    pub fn clear(self, node: u32, cubes: &[Cube]) -> Result<Forward<'s>, PlanFault>
+    pub fn clear(self, node: u32, cubes: &[Cube]) -> Moved<'s>
         requires { CanClear self node cubes.now }
         ensures ok { IfOk result (IsCleared self.entry node cubes.now) }
         ensures keeps { IfOk result IsForward }

@@ -9,5 +9,5 @@ mod forward;
 mod law;
 mod weighed;
 
-pub use forward::Forward;
+pub use forward::{Forward, Moved};
 pub use law::toggles_are_narrow;
