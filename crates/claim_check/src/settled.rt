@@ -93,7 +93,6 @@ impl Settled {
 
     /// The last use of the node at place `n`: the greatest node that has it as an operand, the
     /// number of nodes where it is an output. It takes no memory.
-    #[tactic(auto, using(dependency_graph::proofs::TableLemmas::use_at))]
     pub fn last_use(&self, n: u32) -> u32
         requires { n < length self.now.nodes }
         ensures { result ≡ last_use_in (as_graph self.now) n }

@@ -12,8 +12,8 @@ use Rattle.revs_tape.specs.Cuts.{is_in, is_needed}
 use Rattle.dependency_graph.specs.declared.node.Base.{Base}
 use Rattle.dependency_graph.specs.declared.node.Base.TheVariants as bases
 use Rattle.dependency_graph.specs.declared.node.Node.{Node}
-use Rattle.dependency_graph.specs.Graphs.{GraphView, itself, node_of, nodes_among, operands, steps_of, output_nodes}
-use Rattle.dependency_graph.specs.Uses.{last_use, last_uses_by, last_uses_of, with_use, with_uses}
+use Rattle.dependency_graph.specs.Graphs.{GraphView, itself, node_of, nodes_among, operands, steps_by, steps_of, output_nodes}
+use Rattle.dependency_graph.specs.Uses.{last_use, last_uses_by, with_use, with_uses}
 use Rattle.dependency_graph.specs.inside.Tables.{with_steps}
 use Rattle.dependency_graph.proofs.UseLemmas.{last_before, last_more, filter_push, later_needed, needed_later}
 
@@ -166,11 +166,18 @@ table_is parts ends nodes outputs =
     ∙ bases_used (last_before steps n) n (flat_map ends outputs) n
     ∙ ap (λ (z : ℕ). map (λ i. cond (is_in (nodes_among (flat_map ends outputs)) i) z (last_before steps z i)) (below n)) (sym size)
 
-pub use_at : (g : GraphView) (n d : ℕ) → n < length g.nodes → get_or (last_uses_of g) n d ≡ last_use (steps_of g) (output_nodes g) n
-use_at g n d low = at_below (last_use (steps_of g) (output_nodes g)) (length g.nodes) n d low
+-- a table of last uses has a place for each node, with its last use
+module _ {A B : Type 0} (parts : A → List Base) (ends : B → List Base) (nodes : List A) (outputs : List B) {table : List ℕ} {n : ℕ}
+    (is : table ≡ last_uses_by parts ends nodes outputs) (low : n < length nodes) where
+  pub use_inside : n < length table
+  use_inside =
+      let last = last_use (steps_by parts nodes) (nodes_among (flat_map ends outputs)) in
+      omega (arith, low, ap length is, length-map_below last (length nodes))
 
-pub use_inside : (g : GraphView) (table : List ℕ) (n : ℕ) → table ≡ last_uses_of g → n < length g.nodes → n < length table
-use_inside g table n is low = omega (arith, low, ap length is, length-map_below (last_use (steps_of g) (output_nodes g)) (length g.nodes))
+  pub use_told : {found : ℕ} (d : ℕ) → found ≡ get_or table n d → found ≡ last_use (steps_by parts nodes) (nodes_among (flat_map ends outputs)) n
+  use_told d read =
+      let last = last_use (steps_by parts nodes) (nodes_among (flat_map ends outputs)) in
+      read ∙ ap (λ (uses : List ℕ). get_or uses n d) is ∙ at_below last (length nodes) n d low
 
 -- ---- cuts
 

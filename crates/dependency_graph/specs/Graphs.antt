@@ -65,9 +65,13 @@ node_of (bases.Node k) = k ∷ []
 abbrev pub nodes_among : List Base → List ℕ
 nodes_among some = flat_map node_of some
 
--- the nodes of a graph as steps: each with the nodes that it is made of
+-- what is made of bases as steps: each with the nodes that it is made of
+abbrev pub steps_by : {A : Type 0} → (A → List Base) → List A → List (List ℕ)
+steps_by parts all = map (λ one. nodes_among (parts one)) all
+
+-- the nodes of a graph as steps
 abbrev pub steps_of : GraphView → List (List ℕ)
-steps_of g = map (λ (node : Node). nodes_among (operands node)) g.nodes
+steps_of g = steps_by operands g.nodes
 
 -- the nodes that are outputs
 abbrev pub output_nodes : GraphView → List ℕ

@@ -6,7 +6,7 @@ use Rattle.list_facts.specs.Lists.{IsAmong, below}
 use Rattle.revs_tape.specs.Cuts.{is_in, cut_at}
 use Rattle.dependency_graph.specs.declared.node.Base.{Base}
 use Rattle.dependency_graph.specs.declared.node.Base.TheVariants as bases
-use Rattle.dependency_graph.specs.Graphs.{GraphView, IsGraph, nodes_among, output_nodes, steps_of}
+use Rattle.dependency_graph.specs.Graphs.{GraphView, IsGraph, nodes_among, output_nodes, steps_by, steps_of}
 
 -- the last number of a list; the given one where there is none
 abbrev pub last_of : ℕ → List ℕ → ℕ
@@ -34,8 +34,8 @@ LastUsesTellCuts = (steps : List (List ℕ)) (outputs : List ℕ) (i j : ℕ)
 abbrev pub last_uses_by : {A B : Type 0} → (A → List Base) → (B → List Base) → List A → List B
     → List ℕ
 last_uses_by parts ends nodes outputs =
-    map (last_use (map (λ node. nodes_among (parts node)) nodes)
-    (nodes_among (flat_map ends outputs))) (below (length nodes))
+    map (last_use (steps_by parts nodes) (nodes_among (flat_map ends outputs)))
+    (below (length nodes))
 
 -- a table of last uses with that of this base, where the table has its place
 abbrev pub with_use : List ℕ → Base → ℕ → List ℕ

@@ -107,7 +107,6 @@ impl Graph {
 
     /// The last use of the node at place `n`: the greatest node that has it as an operand, the
     /// number of nodes where it is an output, itself where neither. It takes no memory.
-    #[tactic(auto, using(crate::proofs::TableLemmas::use_at))]
     pub fn last_use(&self, n: u32) -> u32
         requires { n < length self.now.nodes }
         ensures { result ≡ last_use_in self.now n }

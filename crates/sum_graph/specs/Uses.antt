@@ -1,15 +1,15 @@
 -- What the nodes of a graph of sums are made of, their last uses, and cuts.
-use Rattle.std.specs.Prelude.{◌≡◌, ℕ, List, map}
+use Rattle.std.specs.Prelude.{◌≡◌, ℕ, List}
 use Rattle.std.specs.List.{flat_map}
 use Rattle.revs_tape.specs.Cuts.{cut_at}
-use Rattle.dependency_graph.specs.Graphs.{nodes_among}
+use Rattle.dependency_graph.specs.Graphs.{nodes_among, steps_by}
 use Rattle.dependency_graph.specs.Uses.{last_use, last_uses_by}
-use Rattle.bit_sums.specs.Sums.{SumView, bases_of}
+use Rattle.bit_sums.specs.Sums.{bases_of}
 use Rattle.sum_graph.specs.Graphs.{SumGraphView, IsSumGraph}
 
 -- the nodes as steps: each with the nodes that it is made of
 abbrev pub sum_steps : SumGraphView → List (List ℕ)
-sum_steps g = map (λ (s : SumView). nodes_among (bases_of s)) g.nodes
+sum_steps g = steps_by bases_of g.nodes
 
 -- the nodes of which the outputs are made
 abbrev pub sum_output_nodes : SumGraphView → List ℕ

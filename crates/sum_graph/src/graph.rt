@@ -125,7 +125,6 @@ impl SumGraph {
 
     /// The last use of the node at place `n`: the greatest node that is made of it, the number of
     /// nodes where an output is, itself where neither. It takes no memory.
-    #[tactic(auto, using(crate::proofs::TableLemmas::use_at))]
     pub fn last_use(&self, n: u32) -> u32
         requires { n < length self.now.nodes }
         ensures { result ≡ sum_last_use self.now n }

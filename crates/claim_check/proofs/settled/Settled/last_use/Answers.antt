@@ -1,21 +1,11 @@
-use Rattle.std.proofs.Common.{rules, ℕ, List, ◌<◌, ◌∙◌, ap, length, get_or}
-use Rattle.dependency_graph.proofs.TableLemmas.{use_at, use_inside}
-use Rattle.claim_check.specs.Settled.{SettledView, as_graph}
+use Rattle.std.proofs.Common.{rules}
+use Rattle.dependency_graph.specs.Graphs.{base_of, operands}
+use Rattle.dependency_graph.proofs.TableLemmas.{use_inside, use_told}
 use Rattle.claim_check.proofs.settled.Settled.last_use.Goals as goal
 
 pub index-requires : goal.index-requires
-index-requires c =
-    let parts = c.self.inside in
-    let s : SettledView = record { inputs = parts.inputs; nodes = parts.nodes.items; outputs = parts.outputs.items } in
-    let low : c.args.n < length s.nodes = rw (← c.self.view_is) at c.requires in
-    let inside : c.args.n < length parts.last_uses.items = use_inside (as_graph s) parts.last_uses.items c.args.n c.self.invariant.1 low in
-    search rules
+index-requires c = let is = use_inside operands base_of _ c.self.inside.outputs.items c.self.invariant.1 (rw (← c.self.view_is) at c.requires) in search rules
 
 pub returns : goal.returns
 returns c =
-    let parts = c.self.inside in
-    let s : SettledView = record { inputs = parts.inputs; nodes = parts.nodes.items; outputs = parts.outputs.items } in
-    let low : c.args.n < length s.nodes = rw (← c.self.view_is) at c.requires in
-    rw (← c.self.view_is) (c.index.ensures
-    ∙ (ap (λ (table : List ℕ). get_or table c.args.n c.index.result.now) c.self.invariant.1
-    ∙ use_at (as_graph s) c.args.n c.index.result.now low))
+    rw (← c.self.view_is) (use_told operands base_of _ c.self.inside.outputs.items c.self.invariant.1 (rw (← c.self.view_is) at c.requires) _ c.index.ensures)

@@ -1,12 +1,11 @@
-use Rattle.std.proofs.Common.{rules, ◌<◌, length}
-use Rattle.dependency_graph.specs.Graphs.{GraphView}
-use Rattle.dependency_graph.proofs.TableLemmas.{use_inside}
+use Rattle.std.proofs.Common.{rules}
+use Rattle.dependency_graph.specs.Graphs.{base_of, operands}
+use Rattle.dependency_graph.proofs.TableLemmas.{use_inside, use_told}
 use Rattle.dependency_graph.proofs.graph.Graph.last_use.Goals as goal
 
 pub index-requires : goal.index-requires
-index-requires c =
-    let parts = c.self.inside in
-    let g : GraphView = record { inputs = parts.inputs; nodes = parts.nodes.items; sigs = parts.sigs.items; outputs = parts.outputs.items } in
-    let low : c.args.n < length g.nodes = rw (← c.self.view_is) at c.requires in
-    let inside : c.args.n < length parts.last_uses.items = use_inside g parts.last_uses.items c.args.n c.self.invariant.1 low in
-    search rules
+index-requires c = let is = use_inside operands base_of _ c.self.inside.outputs.items c.self.invariant.1 (rw (← c.self.view_is) at c.requires) in search rules
+
+pub returns : goal.returns
+returns c =
+    rw (← c.self.view_is) (use_told operands base_of _ c.self.inside.outputs.items c.self.invariant.1 (rw (← c.self.view_is) at c.requires) _ c.index.ensures)
