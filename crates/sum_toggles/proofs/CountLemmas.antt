@@ -2,7 +2,7 @@
 use Rattle.std.proofs.Common.{◌≡◌, ℕ, ◌+◌, Bool, true, false, cond, List, [], ◌∷◌, ◌++◌, length, reverse, sum_by, refl, ◌∙◌, inl, inr, arith}
 use Rattle.std.specs.List.{flat_map}
 use Rattle.std.proofs.lemmas.Bool.{cases_Bool}
-use Rattle.std.proofs.lemmas.List.{reverse-append}
+use Rattle.std.proofs.lemmas.List.Sorted.{IsPermutation-reverse, sum_by-IsPermutation}
 use Rattle.std.proofs.lemmas.List.Sums.{sum_by-append, sum_by-cons, sum_by_push}
 use Rattle.dependency_graph.specs.declared.node.Base.{Base}
 use Rattle.dependency_graph.specs.Folds.{is_same}
@@ -22,12 +22,7 @@ pub ccx-append : (front back : List GateView) → ccx_in (front ++ back) ≡ ccx
 ccx-append front back = sum_by-append ccx_of front back
 
 pub ccx-reverse : (gates : List GateView) → ccx_in (reverse gates) ≡ ccx_in gates
-ccx-reverse [] = refl
-ccx-reverse (gate ∷ gates) =
-    let rest = ccx-reverse gates in
-    let push = sum_by_push ccx_of (reverse gates) gate in
-    let cons = sum_by-cons ccx_of gate gates in
-    rw (reverse-append (gate ∷ []) gates) (omega (arith, rest, push, cons))
+ccx-reverse gates = sum_by-IsPermutation ccx_of gates (reverse gates) (IsPermutation-reverse gates)
 
 -- a copy is none
 copy_none : (line target : ℕ) (gates : List GateView) → ccx_in (flip_of (line ∷ []) target ∷ gates) ≡ ccx_in gates
