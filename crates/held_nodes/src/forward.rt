@@ -163,32 +163,20 @@ impl<'s> Forward<'s> {
     /// # Errors
     ///
     /// `Gates` exactly where twice the weight of all gates, with these flips, passes the budget.
-    pub fn clear(self, node: u32, cubes: &[Cube]) -> Moved<'s>
+    pub fn clear(mut self, node: u32, cubes: &[Cube]) -> Moved<'s>
         requires { CanClear self node cubes.now }
         ensures ok { IfOk result (IsCleared self.entry node cubes.now) }
         ensures keeps { IfOk result IsForward }
         ensures refused { IfErr result (IsClearFault self.entry node cubes.now) }
     {
-        let Forward {
-            graph,
-            budget,
-            mut gates,
-            mut lines,
-            mut heap,
-        } = self;
-        let line = held_line(&lines, node);
-        append_cubes(&mut gates, first_work(graph), line, cubes)?;
-        heap.give(line);
+        let line = held_line(&self.lines, node);
+        let first = first_work(self.graph);
+        append_cubes(&mut self.gates, first, line, cubes)?;
+        self.heap.give(line);
         // This call says what a heap keeps.
-        let _ = heap.peak();
-        lines[node as usize] = None;
-        Ok(Forward {
-            graph,
-            budget,
-            gates,
-            lines,
-            heap,
-        })
+        let _ = self.heap.peak();
+        self.lines[node as usize] = None;
+        Ok(self)
     }
 
     /// The plan of this forward part: its gates, a copy of each output to its line, and its gates

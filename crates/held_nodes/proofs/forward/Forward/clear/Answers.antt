@@ -18,16 +18,16 @@ index_mut-requires c = rw c.self.inside.lines.ok.0 (clear_place _ _ _ _ c.self.v
 pub append_cubes-requires-clause-target : goal.append_cubes-requires-clause-target
 append_cubes-requires-clause-target c =
     let gives : Gives _ _ _ _ _ = record { kept = c.self.invariant; own = rw c.deref.ensures.value at c.held_line-line.ensures } in
-    rw c.first_work.ensures.first (given_target _ _ _ _ _ gives)
+    rw c.first_work-first.ensures.first (given_target _ _ _ _ _ gives)
 
 pub append_cubes-requires-clause-apart : goal.append_cubes-requires-clause-apart
-append_cubes-requires-clause-apart c = rw c.first_work.ensures.first (clear_low _ _ _
+append_cubes-requires-clause-apart c = rw c.first_work-first.ensures.first (clear_low _ _ _
     (subst (λ (f : ForwardView). CanClear f c.args.node c.args.cubes.now) (sym c.self.view_is) c.requires))
 
 pub returns-in_err-append_cubes : goal.returns-in_err-append_cubes
 returns-in_err-append_cubes c =
     let gives : Gives _ _ _ _ _ = record { kept = c.self.invariant; own = rw c.deref.ensures.value at c.held_line-line.ensures } in
-    let fault = rw c.first_work.ensures.first at c.in_err-append_cubes.ensures.refused in
+    let fault = rw c.first_work-first.ensures.first at c.in_err-append_cubes.ensures.refused in
     record {
       ok = no_value c.from_residual.result _ _ c.from_residual.ensures.1;
       keeps = no_value c.from_residual.result _ _ c.from_residual.ensures.1;
@@ -39,11 +39,11 @@ give-requires c =
     let gives : Gives _ _ _ _ _ = record { kept = c.self.invariant; own = rw c.deref.ensures.value at c.held_line-line.ensures } in
     given_out _ _ _ _ _ gives
 
-pub invariant_of-result : goal.invariant_of-result
-invariant_of-result c =
+pub invariant_of-self : goal.invariant_of-self
+invariant_of-self c =
     let gives : Gives _ _ _ _ _ = record { kept = c.self.invariant; own = rw c.deref.ensures.value at c.held_line-line.ensures } in
     let can = (subst (λ (f : ForwardView). CanClear f c.args.node c.args.cubes.now) (sym c.self.view_is) c.requires) in
-    let ok = rw c.first_work.ensures.first at c.in_ok-append_cubes.ensures.ok in
+    let ok = rw c.first_work-first.ensures.first at c.in_ok-append_cubes.ensures.ok in
     let light = rw ok at c.in_ok-append_cubes.ensures.light in
     rw ok (given_kept _ _ _ _ _ gives _ _ c.give.ensures c.peak.ensures.lines light
     (clear_roomy _ _ _ _ _ _ gives can c.in_ok-append_cubes.ensures.cubes) (clear_adds _ _ _ _ _ _ gives can))
@@ -51,7 +51,7 @@ invariant_of-result c =
 pub returns-clause-ok : goal.returns-clause-ok
 returns-clause-ok c =
     let gives : Gives _ _ _ _ _ = record { kept = c.self.invariant; own = rw c.deref.ensures.value at c.held_line-line.ensures } in
-    let ok = rw c.first_work.ensures.first at c.in_ok-append_cubes.ensures.ok in
+    let ok = rw c.first_work-first.ensures.first at c.in_ok-append_cubes.ensures.ok in
     rw (ok, ← c.self.view_is) (record {
       line = c.held_line-line.result;
       is = gives.own;
@@ -59,4 +59,4 @@ returns-clause-ok c =
     })
 
 pub returns-clause-keeps : goal.returns-clause-keeps
-returns-clause-keeps c = (invariant_of-result c).forward
+returns-clause-keeps c = (invariant_of-self c).forward
