@@ -146,35 +146,33 @@ least_free lines heap line out least = record {
   least = λ lesser low. sym (out.out lesser) ∙ least.least lesser low;
 }
 
+-- the lines that are out, one by one
+out_by : (lines : List (Option ℕ)) (new : HeapView) (outs : List ℕ) → IsLineHeap new → new.out ≡ outs
+    → ((line : ℕ) → contains outs line ≡ is_taken lines line) → length outs ≡ held_count lines → AreOut lines new
+out_by lines new outs is same each count = record {
+  is_heap = is;
+  out = λ line. ap (λ (xs : List ℕ). contains xs line) same ∙ each line;
+  count = ap (λ (xs : List ℕ). length xs) same ∙ count;
+}
+
 pub out-taken : (lines : List (Option ℕ)) (old new : HeapView) (k line : ℕ) → AreOut lines old → IsLineHeap new → new ≡ with_taken old line
     → k < length lines → held_line lines k ≡ None → AreOut (set lines k (Some line)) new
 out-taken lines old new k line out is e low none =
-    let outs : new.out ≡ with_line old.out line = ap (λ (h : HeapView). h.out) e in
-    record {
-      is_heap = is;
-      out = λ other. ap (λ (xs : List ℕ). contains xs other) outs
-          ∙ contains-with_line old.out line other
-          ∙ ap (λ b. eqb line other || b) (out.out other)
-          ∙ sym (taken-put lines k line other low none);
-      count =
-          (let long : length new.out ≡ suc (length old.out) = ap (λ (xs : List ℕ). length xs) outs ∙ length-with_line old.out line in
-          omega (arith, long, out.count, count-put lines k line low none));
-    }
+    let long : length (with_line old.out line) ≡ suc (length old.out) = length-with_line old.out line in
+    out_by (set lines k (Some line)) new (with_line old.out line) is (ap (λ (h : HeapView). h.out) e)
+    (λ other. contains-with_line old.out line other
+    ∙ ap (λ b. eqb line other || b) (out.out other)
+    ∙ sym (taken-put lines k line other low none))
+    (omega (arith, long, out.count, count-put lines k line low none))
 
 pub out-given : (lines : List (Option ℕ)) (old new : HeapView) (k own : ℕ) → AreOut lines old → IsLineHeap new
     → new ≡ record old { out = without_line old.out own }
     → AreOnDifferent lines → held_line lines k ≡ Some own → AreOut (set lines k None) new
 out-given lines old new k own out is e different held =
-    let outs : new.out ≡ without_line old.out own = ap (λ (h : HeapView). h.out) e in
-    record {
-      is_heap = is;
-      out = λ other. ap (λ (xs : List ℕ). contains xs other) outs
-          ∙ contains-without_line old.out own other
-          ∙ ap (λ b. b && not (eqb own other)) (out.out other)
-          ∙ sym (taken-given lines k own other different held);
-      count =
-          (let here : contains old.out own ≡ true = out.out own ∙ held_taken lines k own held in
-          let long : length (without_line old.out own) + 1 ≡ length old.out = length-without_line old.out own out.is_heap.rising here in
-          let same : length new.out ≡ length (without_line old.out own) = ap (λ (xs : List ℕ). length xs) outs in
-          omega (arith, long, same, out.count, count-given lines k own held));
-    }
+    let here : contains old.out own ≡ true = out.out own ∙ held_taken lines k own held in
+    let long : length (without_line old.out own) + 1 ≡ length old.out = length-without_line old.out own out.is_heap.rising here in
+    out_by (set lines k None) new (without_line old.out own) is (ap (λ (h : HeapView). h.out) e)
+    (λ other. contains-without_line old.out own other
+    ∙ ap (λ b. b && not (eqb own other)) (out.out other)
+    ∙ sym (taken-given lines k own other different held))
+    (omega (arith, long, out.count, count-given lines k own held))
