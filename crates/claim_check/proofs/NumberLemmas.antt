@@ -201,8 +201,8 @@ base_here t labels are number slot low ref known at label =
 -- ---- the function of a write
 
 -- of a write that makes a bit of two others, where it is known of any functions of these
-pub answer_pair : (t : TapeView) (j : ℕ) (entry : Entry) (a b : Ref) (both : Function → Function → Function) (old new : DiagramView) (numbers : List ℕ) (f g : ℕ)
-    (r : Result ℕ DdFault) → slice_get t.entries j ≡ Some entry → operands entry ≡ a ∷ b ∷ []
+pub answer_pair : (t : TapeView) (j : ℕ) (entry : Entry) (a b : Ref) (both : Function → Function → Function)
+    (old new : DiagramView) (numbers : List ℕ) (f g : ℕ) (r : Result ℕ DdFault) → slice_get t.entries j ≡ Some entry → operands entry ≡ a ∷ b ∷ []
     → ((l m : Function) → AreSame l (function_at t a) → AreSame m (function_at t b) → AreSame (both l m) (function_at t (refs.Write j)))
     → f ≡ get_or numbers (slot_of (inputs_of t) a) 0 → g ≡ get_or numbers (slot_of (inputs_of t) b) 0
     → AllByRecursion (HasNumber t old.nodes numbers) (operands_of t (refs.Write j))

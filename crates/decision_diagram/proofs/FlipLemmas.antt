@@ -14,7 +14,8 @@ use Rattle.decision_diagram.specs.inside.Flipping.{Splits, first_asked, flipped_
 use Rattle.decision_diagram.proofs.ValueLemmas.{first_most}
 use Rattle.decision_diagram.proofs.DistinctLemmas.{some_at, inner_at}
 use Rattle.decision_diagram.proofs.RestrictionLemmas.{ComesFrom-same}
-use Rattle.decision_diagram.proofs.GrowthLemmas.{KeepsNodes-refl, function-kept, stands-kept, StandsFor-same, flipped-same, side_behind, side_comes, node_flips, constant_behind}
+use Rattle.decision_diagram.proofs.GrowthLemmas.{KeepsNodes-refl, function-kept, stands-kept, StandsFor-same}
+use Rattle.decision_diagram.proofs.GrowthLemmas.{flipped-same, side_behind, side_comes, node_flips, constant_behind}
 
 -- an inner node asks a variable of the diagram
 pub inner_asks : (vars : ℕ) (nodes : List Triple) → AreOrdered vars nodes → (n : ℕ) → 2 ≤ n → IsNumber nodes n

@@ -16,7 +16,8 @@ use Rattle.dependency_graph.specs.declared.node.Node.TheVariants.{Xor, And}
 use Rattle.dependency_graph.specs.declared.node.Sig.{Sig}
 use Rattle.dependency_graph.specs.declared.node.Sig.TheVariants.{Const, Is}
 use Rattle.dependency_graph.specs.Graphs.{and_count, ands_in, sig_of}
-use Rattle.dependency_graph.specs.Folds.{FoldView, is_same, and_constant, folded_pair, xor_constant, folded, with_folded, with_write, folded_by, nothing_folded, graph_of}
+use Rattle.dependency_graph.specs.Folds.{FoldView, is_same, and_constant, folded_pair, xor_constant}
+use Rattle.dependency_graph.specs.Folds.{folded, with_folded, with_write, folded_by, nothing_folded, graph_of}
 
 -- ---- one write
 

@@ -1,5 +1,6 @@
 -- What a fold keeps: operands are earlier and different, and each node is what a write became.
-use Rattle.std.proofs.Common.{◌≡◌, ◌≢◌, ℕ, zero, suc, ◌+◌, ◌<◌, ◌≤◌, Bool, true, false, ◌&&◌, inl, inr, List, [], ◌∷◌, ◌++◌, length, map, get_or, refl, sym, ap, subst}
+use Rattle.std.proofs.Common.{◌≡◌, ◌≢◌, ℕ, zero, suc, ◌+◌, ◌<◌, ◌≤◌, Bool, true, false, ◌&&◌}
+use Rattle.std.proofs.Common.{inl, inr, List, [], ◌∷◌, ◌++◌, length, map, get_or, refl, sym, ap, subst}
 use Rattle.std.proofs.Common.{◌∙◌, arith, length-append}
 use Rattle.std.specs.Bool.{xor}
 use Rattle.std.specs.List.{AllByRecursion}
@@ -22,7 +23,8 @@ use Rattle.dependency_graph.specs.declared.node.Node.TheVariants.{Xor, And}
 use Rattle.dependency_graph.specs.declared.node.Sig.{Sig}
 use Rattle.dependency_graph.specs.declared.node.Sig.TheVariants.{Const, Is}
 use Rattle.dependency_graph.specs.Graphs.{IsGraph, IsKnownBase, IsKnownSig, IsKnownNode, AreKnownNodes, sig_of}
-use Rattle.dependency_graph.specs.Folds.{FoldView, and_constant, is_same, folded_pair, xor_constant, folded, with_folded, with_write, folded_by, nothing_folded, graph_of}
+use Rattle.dependency_graph.specs.Folds.{FoldView, and_constant, is_same, folded_pair, xor_constant}
+use Rattle.dependency_graph.specs.Folds.{folded, with_folded, with_write, folded_by, nothing_folded, graph_of}
 
 -- ---- two bases
 

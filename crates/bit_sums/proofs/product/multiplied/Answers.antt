@@ -22,14 +22,15 @@ pub within-requires-then-len-b-clause-rest : goal.within-requires-then-len-b-cla
 within-requires-then-len-b-clause-rest c = rest_of _ _ _ c.in_ok-rest.ensures c.requires.a c.requires.b (omega (arith, c.requires.a.few))
 
 pub within-requires-then-len-b-clause-apart : goal.within-requires-then-len-b-clause-apart
-within-requires-then-len-b-clause-apart c = apart_first _ _ _ (c.in_ok-rest.ensures ∙ apart_swapped c.args.a.now c.args.b.now) c.requires.b c.requires.a (omega arith)
+within-requires-then-len-b-clause-apart c =
+    apart_first _ _ _ (c.in_ok-rest.ensures ∙ apart_swapped c.args.a.now c.args.b.now) c.requires.b c.requires.a (omega arith)
 
 pub returns-then-len-b : goal.returns-then-len-b
 returns-then-len-b c =
     let same : length c.in_ok-rest.rest.items + length c.args.b.now ≡ length c.args.a.now = omega arith in
-    IfOk-weaker c.within-then-len-b.result _ _
-    (λ part w. product_of_turned _ _ part.bits.items part.product
-    (first_within _ _ _ part.bits.items part.product (c.in_ok-rest.ensures ∙ apart_swapped c.args.a.now c.args.b.now) c.requires.b c.requires.a same w)) c.within-then-len-b.ensures
+    let rest = c.in_ok-rest.ensures ∙ apart_swapped c.args.a.now c.args.b.now in
+    IfOk-weaker c.within-then-len-b.result _ _ (λ part w. product_of_turned _ _ part.bits.items part.product
+    (first_within _ _ _ part.bits.items part.product rest c.requires.b c.requires.a same w)) c.within-then-len-b.ensures
 
 pub in_order-requires : goal.in_order-requires
 in_order-requires c =

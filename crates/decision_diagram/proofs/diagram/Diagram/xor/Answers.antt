@@ -5,5 +5,6 @@ use Rattle.decision_diagram.proofs.diagram.Diagram.xor.Goals as goal
 
 pub returns : goal.returns
 returns c =
-    let d = c.args.self.now in
-    computes_same _ _ _ _ c.flip.result (flip_is_xor (function_of d.nodes c.args.f) (function_of d.nodes c.args.g) _ c.truth-always.ensures.stands.same) c.flip.ensures
+    let nodes = c.args.self.now.nodes in
+    let is = flip_is_xor (function_of nodes c.args.f) (function_of nodes c.args.g) _ c.truth-always.ensures.stands.same in
+    computes_same _ _ _ _ c.flip.result is c.flip.ensures
