@@ -6,11 +6,10 @@ ghost use Rattle.bennett_pebbling.specs.inside.Changes.{IsRaised, IsRaiseFault, 
 ghost use Rattle.bennett_pebbling.specs.inside.Changes.{IsTurned, IsTurnFault};
 ghost use Rattle.bennett_pebbling.specs.inside.Marks.{AreClosed};
 
-use circuit_plans::PlanFault;
-use held_nodes::Forward;
+use held_nodes::{Forward, Moved};
 
 // Toggles a node, where it has to turn.
-fn toggle_if<'s>(forward: Forward<'s>, node: u32, turn: bool) -> Result<Forward<'s>, PlanFault>
+fn toggle_if<'s>(forward: Forward<'s>, node: u32, turn: bool) -> Moved<'s>
     requires keeps { IsForward forward }
     requires inside { node < length forward.graph.nodes }
     requires can { CanTurn forward node turn }
@@ -26,7 +25,7 @@ fn toggle_if<'s>(forward: Forward<'s>, node: u32, turn: bool) -> Result<Forward<
 }
 
 // Toggles each marked node that is not held, rising.
-pub fn raise<'s>(forward: Forward<'s>, lo: u32, marks: &[bool]) -> Result<Forward<'s>, PlanFault>
+pub fn raise<'s>(forward: Forward<'s>, lo: u32, marks: &[bool]) -> Moved<'s>
     requires keeps { IsForward forward }
     requires inside { lo + length marks.now ≤ length forward.graph.nodes }
     requires ready { IsReadyBelow forward lo (length marks.now) }
@@ -39,13 +38,13 @@ pub fn raise<'s>(forward: Forward<'s>, lo: u32, marks: &[bool]) -> Result<Forwar
     for (k, marked) in marks.iter().enumerate() {
         let node = lo + k as u32;
         let held = forward.held(node);
-        forward = toggle_if(forward, node, *marked & !held)?;
+        forward = toggle_if(forward, node, *marked && !held)?;
     }
     Ok(forward)
 }
 
 // Toggles each held node of the range that is not wanted, falling.
-pub fn lower<'s>(forward: Forward<'s>, lo: u32, wanted: &[bool]) -> Result<Forward<'s>, PlanFault>
+pub fn lower<'s>(forward: Forward<'s>, lo: u32, wanted: &[bool]) -> Moved<'s>
     requires keeps { IsForward forward }
     requires inside { lo + length wanted.now ≤ length forward.graph.nodes }
     requires can { CanLower forward lo wanted.now }
@@ -57,7 +56,7 @@ pub fn lower<'s>(forward: Forward<'s>, lo: u32, wanted: &[bool]) -> Result<Forwa
     for k in (0..wanted.len()).rev() {
         let node = lo + k as u32;
         let held = forward.held(node);
-        forward = toggle_if(forward, node, held & !wanted[k])?;
+        forward = toggle_if(forward, node, held && !wanted[k])?;
     }
     Ok(forward)
 }
