@@ -197,11 +197,9 @@ module _ (f : ForwardView) (lo : ℕ) (wanted start marks : List Bool) (d : AreD
 
         pub block_changed : IsChanged f (length wanted) lo wanted next
         block_changed = record {
-          graph = after.graph ∙ plain.graph;
-          budget = after.budget ∙ plain.budget;
           exactly = record {
             inside = lowered.exactly.inside;
             outside = λ k out. lowered.exactly.outside k out ∙ outside_mid k out;
           };
-          thrifty = record { move = move };
+          thrifty = record { graph = after.graph ∙ plain.graph; budget = after.budget ∙ plain.budget; move = move };
         }

@@ -19,13 +19,15 @@ differ_none false false e = refl
 -- nothing is to be changed
 pub unchanged : (f : ForwardView) (block lo : ℕ) (wanted : List Bool) → AreHeld f.lines lo wanted → IsChanged f block lo wanted f
 unchanged f block lo wanted held = record {
-  graph = refl;
-  budget = refl;
   exactly = record {
     inside = λ k low. differ_none (is_held f.lines (lo + k)) (bit_of wanted k) (held.each k low);
     outside = λ k out. refl;
   };
-  thrifty = record { move = λ level width allowed c a. no_move f (reach_of f block level width allowed) (toggles_at block level) };
+  thrifty = record {
+    graph = refl;
+    budget = refl;
+    move = λ level width allowed c a. no_move f (reach_of f block level width allowed) (toggles_at block level);
+  };
 }
 
 -- a range within one block costs no more than blocks may
@@ -51,41 +53,30 @@ within_blocks f block lo wanted Costs weaker some within all level width allowed
 thrifty_block : (f next : ForwardView) (block lo : ℕ) (wanted : List Bool) → 1 ≤ block → length wanted ≤ block
     → IsThrifty f (length wanted) lo wanted next → IsThrifty f block lo wanted next
 thrifty_block f next block lo wanted some within t = record {
+  graph = t.graph;
+  budget = t.budget;
   move = within_blocks f block lo wanted (λ reach toggles. IsMove f reach toggles next)
       (λ reach more toggles larger. move-weaker f next reach more toggles larger) some within t.move;
 }
 
-pub changed_block : (f next : ForwardView) (block lo : ℕ) (wanted : List Bool) → 1 ≤ block → length wanted ≤ block
-    → IsChanged f (length wanted) lo wanted next → IsChanged f block lo wanted next
-changed_block f next block lo wanted some within t = record {
-  graph = t.graph;
-  budget = t.budget;
-  exactly = t.exactly;
-  thrifty = thrifty_block f next block lo wanted some within t.thrifty;
-}
+module _ {f : ForwardView} {block lo : ℕ} {wanted : List Bool} (some : 1 ≤ block) (within : length wanted ≤ block) where
+  pub changed_block : (next : ForwardView) → IsChanged f (length wanted) lo wanted next → IsChanged f block lo wanted next
+  changed_block next t = record { exactly = t.exactly; thrifty = thrifty_block f next block lo wanted some within t.thrifty }
 
-pub short_block : (f : ForwardView) (block lo : ℕ) (wanted : List Bool) (e : PlanFault) → 1 ≤ block → length wanted ≤ block
-    → IsChangeFault f (length wanted) lo wanted e → IsChangeFault f block lo wanted e
-short_block f block lo wanted e some within t = record {
-  need = t.need;
-  short = within_blocks f block lo wanted (λ reach toggles. IsShort f reach toggles e)
-      (λ reach more toggles larger. short-weaker f reach more toggles larger e) some within t.short;
-}
+  pub short_block : (e : PlanFault) → IsChangeFault f (length wanted) lo wanted e → IsChangeFault f block lo wanted e
+  short_block e t = record {
+    need = t.need;
+    short = within_blocks f block lo wanted (λ reach toggles. IsShort f reach toggles e)
+        (λ reach more toggles larger. short-weaker f reach more toggles larger e) some within t.short;
+  }
 
-pub risen_block : (f next : ForwardView) (block lo : ℕ) (wanted : List Bool) → 1 ≤ block → length wanted ≤ block
-    → IsRisen f (length wanted) lo wanted next → IsRisen f block lo wanted next
-risen_block f next block lo wanted some within t = record {
-  graph = t.graph;
-  budget = t.budget;
-  inside = t.inside;
-  outside = t.outside;
-  thrifty = thrifty_block f next block lo wanted some within t.thrifty;
-  plain = λ low. t.plain (omega arith);
-}
+  pub risen_block : (next : ForwardView) → IsRisen f (length wanted) lo wanted next → IsRisen f block lo wanted next
+  risen_block next t = record {
+    inside = t.inside;
+    outside = t.outside;
+    thrifty = thrifty_block f next block lo wanted some within t.thrifty;
+    plain = λ low. t.plain (omega arith);
+  }
 
-pub rise_short_block : (f : ForwardView) (block lo : ℕ) (wanted : List Bool) (e : PlanFault) → 1 ≤ block → length wanted ≤ block
-    → IsRiseFault f (length wanted) lo wanted e → IsRiseFault f block lo wanted e
-rise_short_block f block lo wanted e some within t = record {
-  change = short_block f block lo wanted e some within t.change;
-  plain = λ low. t.plain (omega arith);
-}
+  pub rise_short_block : (e : PlanFault) → IsRiseFault f (length wanted) lo wanted e → IsRiseFault f block lo wanted e
+  rise_short_block e t = record { change = short_block e t.change; plain = λ low. t.plain (omega arith) }

@@ -104,10 +104,10 @@ halved wanted left right half is front back =
       behind = subst (λ (n : ℕ). right ≡ drop n wanted) long back;
     }
 
-pub in_halves : (f : ForwardView) (block lo : ℕ) (wanted left right needed marks : List Bool) (s : SumGraphView)
+pub in_halves : {f : ForwardView} {block lo : ℕ} {wanted left right needed marks : List Bool} {s : SumGraphView}
     → CanWork s f lo (length wanted) → AreHalves wanted left right → AreNeeded s lo left marks → needed ≡ marks → block < length wanted
     → IsInHalves f block lo wanted left right needed (length left)
-in_halves f block lo wanted left right needed marks s can halves need is over = record {
+in_halves {f} {block} {lo} {wanted} {left} {right} {needed} {marks} {s} can halves need is over = record {
   halves = halves.half;
   split = split_of wanted left right (length left) halves.half halves.front halves.behind;
   need = subst (AreNeeded f.graph lo left) (sym is) (subst (λ (x : SumGraphView). AreNeeded x lo left marks) can.graph need);
@@ -230,12 +230,12 @@ module _ {f : ForwardView} {block lo : ℕ} {wanted left right needed : List Boo
 
     inside_second : lo + half + length right ≤ length first.graph.nodes
     inside_second =
-        let e = ap (λ (s : SumGraphView). length s.nodes) one.graph in omega (arith, e, h.inside, h.split.right_count)
+        let e = ap (λ (s : SumGraphView). length s.nodes) one.thrifty.graph in omega (arith, e, h.inside, h.split.right_count)
 
     ready_second : IsReadyBelow first (lo + half) (length right)
     ready_second = record {
       ready = λ k j above low under rests.
-          let rests_f : RestsOn f.graph k j = subst (λ (s : SumGraphView). RestsOn s k j) one.graph rests in
+          let rests_f : RestsOn f.graph k j = subst (λ (s : SumGraphView). RestsOn s k j) one.thrifty.graph rests in
           let top : k < lo + length wanted = omega (arith, low, h.split.right_count) in
           elim (in_or_out lo half j) as (λ _. is_held first.lines j ≡ true) [
             | inl p ↦
@@ -255,7 +255,7 @@ module _ {f : ForwardView} {block lo : ℕ} {wanted left right needed : List Boo
 
     pub can_second : (s : SumGraphView) → CanWork s f lo (length wanted) → IsForward first → CanWork s first (lo + half) (length right)
     can_second s can keeps = record {
-      graph = can.graph ∙ sym one.graph;
+      graph = can.graph ∙ sym one.thrifty.graph;
       keeps = keeps;
       inside = inside_second;
       ready = ready_second;
@@ -290,11 +290,11 @@ module _ {f : ForwardView} {block lo : ℕ} {wanted left right needed : List Boo
     pub second_short : (e : PlanFault) → IsChangeFault first block (lo + half) right e → IsChangeFault f block lo wanted e
     unfolding half_reach
     second_short e fault = record {
-      need = need-then f first e one.graph one.budget fault.need;
+      need = need-then f first e one.thrifty.graph one.thrifty.budget fault.need;
       short = one_level_up (λ reach turns. IsShort f reach turns e) (λ reach more turns larger. short-weaker f reach more turns larger e)
           (λ level. toggles_at block level + toggles_at block level) (λ level. omega arith) (λ level width allowed c a.
           short-then f first (half_reach level width allowed) (toggles_at block level) (toggles_at block level) e (move_first level width allowed c a)
-          (over_graph f.graph first block (lo + half) right (λ reach toggles. IsShort first reach toggles e) one.graph fault.short level width
+          (over_graph f.graph first block (lo + half) right (λ reach toggles. IsShort first reach toggles e) one.thrifty.graph fault.short level width
           (wider f.graph (lo + half) allowed) (covered_right level width c) (allows_second allowed a)));
     }
 
@@ -306,12 +306,14 @@ module _ {f : ForwardView} {block lo : ℕ} {wanted left right needed : List Boo
     unfolding half_reach
     move_second second t level width allowed c a =
         move-then f first second (half_reach level width allowed) (toggles_at block level) (toggles_at block level) (move_first level width allowed c a)
-        (over_graph f.graph first block (lo + half) right (λ reach toggles. IsMove first reach toggles second) one.graph t.move level width
+        (over_graph f.graph first block (lo + half) right (λ reach toggles. IsMove first reach toggles second) one.thrifty.graph t.move level width
         (wider f.graph (lo + half) allowed)
         (covered_right level width c) (allows_second allowed a))
 
     pub thrifty_second : (second : ForwardView) → IsThrifty first block (lo + half) right second → IsThrifty f block lo wanted second
     thrifty_second second t = record {
+      graph = t.graph ∙ one.thrifty.graph;
+      budget = t.budget ∙ one.thrifty.budget;
       move = one_level_up (λ reach turns. IsMove f reach turns second) (λ reach more turns larger. move-weaker f second reach more turns larger)
           (λ level. toggles_at block level + toggles_at block level) (λ level. omega arith) (move_second second t);
     }
@@ -344,8 +346,6 @@ module _ {f : ForwardView} {block lo : ℕ} {wanted left right needed : List Boo
 
       pub halves_risen : IsRisen f block lo wanted second
       halves_risen = record {
-        graph = two.graph ∙ one.graph;
-        budget = two.budget ∙ one.budget;
         inside = risen_inside;
         outside = risen_outside;
         thrifty = thrifty_second second two.thrifty;
@@ -365,7 +365,7 @@ module _ {f : ForwardView} {block lo : ℕ} {wanted left right needed : List Boo
           ∙ ap (bit_of wanted) number
 
       graph_second : second.graph ≡ f.graph
-      graph_second = two.graph ∙ one.graph
+      graph_second = two.thrifty.graph ∙ one.thrifty.graph
 
       inside_third : lo + length left ≤ length second.graph.nodes
       inside_third =
@@ -408,7 +408,7 @@ module _ {f : ForwardView} {block lo : ℕ} {wanted left right needed : List Boo
       pub third_short : (e : PlanFault) → IsChangeFault second block lo left e → IsChangeFault f block lo wanted e
       unfolding half_reach
       third_short e fault = record {
-        need = need-then f first e one.graph one.budget (need-then first second e two.graph two.budget fault.need);
+        need = need-then f first e one.thrifty.graph one.thrifty.budget (need-then first second e two.thrifty.graph two.thrifty.budget fault.need);
         short = one_level_up (λ reach turns. IsShort f reach turns e) (λ reach more turns larger. short-weaker f reach more turns larger e)
             (λ level. toggles_at block level + toggles_at block level + toggles_at block level) (λ level. omega arith)
             (λ level width allowed c a. let t = toggles_at block level in
@@ -444,10 +444,10 @@ module _ {f : ForwardView} {block lo : ℕ} {wanted left right needed : List Boo
 
         pub halves_changed : IsChanged f block lo wanted next
         halves_changed = record {
-          graph = three.graph ∙ graph_second;
-          budget = three.budget ∙ two.budget ∙ one.budget;
           exactly = record { inside = whole_inside; outside = whole_outside };
           thrifty = record {
+            graph = three.thrifty.graph ∙ graph_second;
+            budget = three.thrifty.budget ∙ two.thrifty.budget ∙ one.thrifty.budget;
             move = one_level_up (λ reach turns. IsMove f reach turns next) (λ reach more turns larger. move-weaker f next reach more turns larger)
                 (λ level. toggles_at block level + toggles_at block level + toggles_at block level) (λ level. omega arith)
                 move_third;

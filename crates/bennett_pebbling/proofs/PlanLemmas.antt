@@ -1,5 +1,6 @@
 -- A plan by halves: what it costs, and why there is none.
-use Rattle.std.proofs.Common.{◌≡◌, ℕ, zero, suc, ◌+◌, ◌*◌, ◌^◌, ◌<◌, ◌≤◌, min, Bool, true, false, ◌||◌, List, length, replicate, Option, None, Result, Ok, Err, sum_by}
+use Rattle.std.proofs.Common.{◌≡◌, ℕ, zero, suc, ◌+◌, ◌*◌, ◌^◌, ◌<◌, ◌≤◌, min, Bool}
+use Rattle.std.proofs.Common.{true, false, ◌||◌, List, length, replicate, Option, None, Result, Ok, Err, sum_by}
 use Rattle.std.proofs.Common.{sym, ◌∙◌, ap, subst, refl, arith, zero-add}
 use Rattle.std.specs.Result.{IfOk}
 use Rattle.std.specs.Prelude.{nat_le}
@@ -243,7 +244,7 @@ module _ (s : SumGraphView) (b : BudgetView) (block : ℕ) (start : ForwardView)
 
     module _ (f : ForwardView) (risen : IsRisen start block 0 outputs f) where
       f_graph : f.graph ≡ s
-      f_graph = risen.graph ∙ start_graph
+      f_graph = risen.thrifty.graph ∙ start_graph
 
       outputs_is : length f.graph.outputs ≡ length s.outputs
       outputs_is = ap (λ (x : SumGraphView). length x.outputs) f_graph
@@ -252,7 +253,7 @@ module _ (s : SumGraphView) (b : BudgetView) (block : ℕ) (start : ForwardView)
       first_is = ap first_work f_graph
 
       f_gates : f.budget.gates ≡ b.gates
-      f_gates = ap (λ (x : BudgetView). x.gates) risen.budget ∙ gates_is
+      f_gates = ap (λ (x : BudgetView). x.gates) risen.thrifty.budget ∙ gates_is
 
       output_held : (k : ℕ) → k < length s.nodes → sum_last_use s k ≡ length s.nodes → is_held f.lines k ≡ true
       output_held k low is =

@@ -48,12 +48,12 @@ module _ (f : ForwardView) (lo : ℕ) (wanted marks : List Bool) (m : AreNeeds f
       let n = length f.graph.nodes in
       let all = raised.move (λ k. true) (everything f lo marks) in
       record {
-        graph = all.graph;
-        budget = all.budget;
         inside = λ k is.
             raised.inside k (bit_inside marks k (m.more k is)) ∙ or_right_true (is_held f.lines (lo + k)) (bit_of marks k) (m.more k is);
         outside = λ k out. raised.outside k (subst (λ (c : ℕ). IsOutside lo c k) (sym m.count) out);
         thrifty = record {
+          graph = all.graph;
+          budget = all.budget;
           move = λ level width allowed covered a.
               let r = has_reach f lo wanted marks m.count only allowed a in
               move-weaker f next (counted r.test n) (counted allowed n + room_at (length wanted) n width level) (counted (is_missing f lo marks) (length marks))

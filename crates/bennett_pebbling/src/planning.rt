@@ -1,13 +1,9 @@
 // The pebbling plan of a graph.
 ghost use Rattle.std.specs.Prelude.{IfOk, IfErr, ◌≤◌};
 ghost use Rattle.bennett_pebbling.specs.Pebbling.{HasFewProducts, IsPebblingFault, IsWithinBlock};
-ghost use Rattle.sum_graph.specs.Graphs.{sum_outputs};
-ghost use Rattle.circuit_plans.specs.Plans.{MapsCleanly};
-ghost use Rattle.held_nodes.specs.Moves.{roles_of_plan};
-ghost use Rattle.held_nodes.specs.Plans.{HasPorts, IsInBudget};
-ghost use Rattle.mct_circuit.specs.Gates.{AreNarrow};
+ghost use Rattle.held_nodes.specs.Plans.{IsNarrowPlan};
 
-use crate::changing::rise;
+use crate::changing::{Halving, rise};
 use crate::needs::outputs_of;
 use circuit_plans::{Budget, PlanFault, Planned};
 use held_nodes::Forward;
@@ -34,17 +30,18 @@ pub fn plan(
     budget: &Budget,
 ) -> Result<Planned, PlanFault>
     requires { 1 ≤ block }
-    ensures ports { IfOk result (HasPorts graph.now) }
-    ensures clean { IfOk result (λ planned. MapsCleanly (roles_of_plan planned)
-        planned.circuit.gates (sum_outputs graph.now)) }
-    ensures within { IfOk result (IsInBudget budget.now) }
-    ensures narrow { IfOk result (λ planned. AreNarrow planned.circuit.gates) }
+    ensures plan { IfOk result (IsNarrowPlan graph.now budget.now) }
     ensures few { IfOk result (IsWithinBlock graph.now block) }
     ensures products { IfOk result (HasFewProducts graph.now block) }
     ensures refused { IfErr result (IsPebblingFault graph.now block budget.now) }
 {
     let forward = Forward::new(alloc, graph, budget)?;
     let outputs = outputs_of(alloc, graph)?;
-    let forward = rise(alloc, graph, block, forward, 0, &outputs)?;
+    let by = Halving {
+        alloc,
+        graph,
+        block,
+    };
+    let forward = rise(by, forward, 0, &outputs)?;
     forward.finish()
 }

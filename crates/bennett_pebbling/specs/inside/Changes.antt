@@ -123,9 +123,11 @@ pub record IsLowerFault (f : ForwardView) (lo : ℕ) (wanted : List Bool) (e : P
 
 -- ---- halves
 
--- a move within the numbers of the block, on any levels that cover the range
+-- the graph and the budget stay, and the move is within the numbers of the block, on any levels that cover the range
 pub record IsThrifty (f : ForwardView) (block lo : ℕ) (wanted : List Bool)
     (next : ForwardView) : Type 0 where
+  pub graph : next.graph ≡ f.graph
+  pub budget : next.budget ≡ f.budget
   pub move : (level width : ℕ) (allowed : ℕ → Bool)
       → IsCovered f.graph block (length wanted) level width → Allows f lo wanted allowed
       → IsMove f (reach_of f block level width allowed) (toggles_at block level) next
@@ -133,8 +135,6 @@ pub record IsThrifty (f : ForwardView) (block lo : ℕ) (wanted : List Bool)
 -- in the range exactly the wanted nodes are held, within the numbers of the block
 pub record IsChanged (f : ForwardView) (block lo : ℕ) (wanted : List Bool)
     (next : ForwardView) : Type 0 where
-  pub graph : next.graph ≡ f.graph
-  pub budget : next.budget ≡ f.budget
   pub exactly : HoldsExactly f lo wanted next
   pub thrifty : IsThrifty f block lo wanted next
 
@@ -160,8 +160,6 @@ pub record IsPlainFault (f : ForwardView) (lo count : ℕ) (e : PlanFault) : Typ
 -- the wanted nodes are held, and outside the range nothing is changed; within one block each node is toggled at most once
 pub record IsRisen (f : ForwardView) (block lo : ℕ) (wanted : List Bool)
     (next : ForwardView) : Type 0 where
-  pub graph : next.graph ≡ f.graph
-  pub budget : next.budget ≡ f.budget
   pub inside : (k : ℕ) → bit_of wanted k ≡ true → is_held next.lines (lo + k) ≡ true
   pub outside : (k : ℕ) → IsOutside lo (length wanted) k
       → is_held next.lines k ≡ is_held f.lines k

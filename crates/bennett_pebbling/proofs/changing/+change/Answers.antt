@@ -8,29 +8,23 @@ use Rattle.bennett_pebbling.proofs.changing.+change.Goals as goal
 use Rattle.revc_base.proofs.ResultLemmas.{passes_on}
 use Rattle.bennett_pebbling.proofs.changing.+change.Goals.{After-deref}
 
-halved : (t : ℕ) (c : After-deref t) → IsInHalves c.args.forward c.args.block c.args.lo c.args.wanted.now c.halves.result.0.now c.halves.result.1.now
-    c.deref.result.now (length c.halves.result.0.now)
-halved t c =
-    in_halves c.args.forward c.args.block c.args.lo c.args.wanted.now c.halves.result.0.now c.halves.result.1.now c.deref.result.now
-    c.in_ok-needed.needed.items c.args.graph.now c.requires.can c.halves.ensures c.in_ok-needed.ensures c.deref.ensures.value c.if-wanted-block.false
+halved : (t : ℕ) (c : After-deref t) → IsInHalves c.args.forward c.args.by.block c.args.lo c.args.wanted.now c.halves.result.0.now
+    c.halves.result.1.now c.deref.result.now (length c.halves.result.0.now)
+halved t c = in_halves c.requires.can c.halves.ensures c.in_ok-needed.ensures c.deref.ensures.value c.if-wanted-by.false
 
-pub returns-then-wanted-block-clause-changed : goal.returns-then-wanted-block-clause-changed
-returns-then-wanted-block-clause-changed t c =
-    let f = c.args.forward in let lo = c.args.lo in let wanted = c.args.wanted.now in
-    IfOk-weaker c.change_block.result _ (IsChanged f c.args.block lo wanted)
-    (λ next. changed_block f next c.args.block lo wanted c.requires.some c.if-wanted-block.true) c.change_block.ensures.changed
+pub returns-then-wanted-by-clause-changed : goal.returns-then-wanted-by-clause-changed
+returns-then-wanted-by-clause-changed t c =
+    IfOk-weaker c.change_block.result _ _ (changed_block c.requires.some c.if-wanted-by.true) c.change_block.ensures.changed
 
-pub returns-then-wanted-block-clause-refused : goal.returns-then-wanted-block-clause-refused
-returns-then-wanted-block-clause-refused t c =
-    let f = c.args.forward in let lo = c.args.lo in let wanted = c.args.wanted.now in
-    IfErr-weaker c.change_block.result _ (IsChangeFault f c.args.block lo wanted)
-    (λ e. short_block f c.args.block lo wanted e c.requires.some c.if-wanted-block.true) c.change_block.ensures.refused
+pub returns-then-wanted-by-clause-refused : goal.returns-then-wanted-by-clause-refused
+returns-then-wanted-by-clause-refused t c =
+    IfErr-weaker c.change_block.result _ _ (short_block c.requires.some c.if-wanted-by.true) c.change_block.ensures.refused
 
 pub change-requires : goal.change-requires
 change-requires t c =
     let h = halved t (goal.at.change-requires t c).After-deref in (
       omega (arith, c.decreases, first_less h c.requires.some),
-      (can_first h c.args.graph.now c.requires.can, c.requires.some),
+      (can_first h c.args.by.graph.now c.requires.can, c.requires.some),
     )
 
 pub returns-in_err-forward-clause-refused : goal.returns-in_err-forward-clause-refused
@@ -45,7 +39,7 @@ change-requires-2 t c =
       omega (arith, c.decreases, second_less h c.requires.some),
       (
         can_second h c.in_ok-forward.forward c.in_ok-forward.ensures.changed
-            c.args.graph.now c.requires.can c.in_ok-forward.ensures.keeps,
+            c.args.by.graph.now c.requires.can c.in_ok-forward.ensures.keeps,
         c.requires.some,
       ),
     )
@@ -63,14 +57,14 @@ change-requires-3 t c =
       omega (arith, c.decreases, third_less h c.requires.some),
       (
         can_third h c.in_ok-forward.forward c.in_ok-forward.ensures.changed
-            c.in_ok-forward-2.forward c.in_ok-forward-2.ensures.changed c.args.graph.now c.requires.can c.in_ok-forward-2.ensures.keeps,
+            c.in_ok-forward-2.forward c.in_ok-forward-2.ensures.changed c.args.by.graph.now c.requires.can c.in_ok-forward-2.ensures.keeps,
         c.requires.some,
       ),
     )
 
 pub returns : goal.returns
 returns t c =
-    let f = c.args.forward in let b = c.args.block in let lo = c.args.lo in let wanted = c.args.wanted.now in let left = c.halves.result.0.now in
+    let f = c.args.forward in let b = c.args.by.block in let lo = c.args.lo in let wanted = c.args.wanted.now in let left = c.halves.result.0.now in
     let h = halved t (goal.at.returns t c).After-deref in
     let first = c.in_ok-forward.forward in
     let second = c.in_ok-forward-2.forward in
@@ -85,8 +79,8 @@ returns t c =
           c.change-3.ensures.refused;
     }
 
-pub returns-then-wanted-block-clause-unchanged : goal.returns-then-wanted-block-clause-unchanged
-returns-then-wanted-block-clause-unchanged t c = λ held. absurd (c.is_held_so.ensures.differ c.if-is_held_so.false held)
+pub returns-then-wanted-by-clause-unchanged : goal.returns-then-wanted-by-clause-unchanged
+returns-then-wanted-by-clause-unchanged t c = λ held. absurd (c.is_held_so.ensures.differ c.if-is_held_so.false held)
 
 pub returns-in_err-needed-clause-unchanged : goal.returns-in_err-needed-clause-unchanged
 returns-in_err-needed-clause-unchanged t c = λ held. absurd (c.is_held_so.ensures.differ c.if-is_held_so.false held)

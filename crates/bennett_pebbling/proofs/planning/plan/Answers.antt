@@ -1,10 +1,10 @@
-use Rattle.std.proofs.Common.{rules, ◌≡◌, sym, subst}
-use Rattle.std.proofs.lemmas.Result.{IfOk-weaker, IfErr-weaker}
-use Rattle.circuit_plans.specs.Plans.{PlannedView}
-use Rattle.mct_circuit.specs.Gates.{AreNarrow}
-use Rattle.held_nodes.specs.Moves.{IsFinishFault, planned_of}
+use Rattle.std.proofs.Common.{rules}
+use Rattle.std.proofs.lemmas.Result.{IfErr-weaker}
+use Rattle.held_nodes.specs.Moves.{IsFinishFault}
+use Rattle.held_nodes.proofs.NarrowLemmas.{narrow_plan}
 use Rattle.bennett_pebbling.specs.Pebbling.{HasFewProducts, IsPebblingFault, IsWithinBlock}
-use Rattle.bennett_pebbling.proofs.PlanLemmas.{IsBegun, begun, begun_can, finish_refused, of_finished, plan_few, plan_narrow, plan_products, plan_ready, rise_refused}
+use Rattle.bennett_pebbling.proofs.PlanLemmas.{IsBegun, begun, begun_can, finish_refused, of_finished}
+use Rattle.bennett_pebbling.proofs.PlanLemmas.{plan_few, plan_narrow, plan_products, plan_ready, rise_refused}
 use Rattle.bennett_pebbling.proofs.planning.plan.Goals as goal
 use Rattle.revc_base.proofs.ResultLemmas.{passes_on}
 use Rattle.bennett_pebbling.proofs.planning.plan.Goals.{After-deref}
@@ -40,12 +40,8 @@ returns c =
     let f = c.in_ok-forward-2.forward in
     let risen = c.in_ok-forward-2.ensures.risen in
     record {
-      ports = search rules;
-      clean = search rules;
-      within = search rules;
-      narrow = IfOk-weaker c.finish.result (λ (p : PlannedView). p ≡ planned_of f) (λ (p : PlannedView). AreNarrow p.circuit.gates)
-          (λ planned e. subst (λ (p : PlannedView). AreNarrow p.circuit.gates) (sym e)
-          (plan_narrow s b c.args.block start outputs c.requires is f risen)) c.finish.ensures.ok;
+      plan = narrow_plan s b f c.finish.result c.finish.ensures.ok (plan_narrow s b c.args.block start outputs c.requires is f risen)
+          (search rules) (search rules) (search rules);
       few = of_finished c.finish.result f (IsWithinBlock s c.args.block) c.finish.ensures.ok c.finish.ensures.weighs
           (plan_few s b c.args.block start outputs c.requires is f risen);
       products = of_finished c.finish.result f (HasFewProducts s c.args.block) c.finish.ensures.ok c.finish.ensures.weighs
