@@ -57,14 +57,8 @@ fn number_of_write(
 {
     match tape.entry(write) {
         Entry::Const(bit) => Ok(diagram.truth(bit)),
-        Entry::Xor(a, b) => {
-            let (f, g) = (number_at(tape, numbers, a), number_at(tape, numbers, b));
-            diagram.xor(f, g)
-        }
-        Entry::And(a, b) => {
-            let (f, g) = (number_at(tape, numbers, a), number_at(tape, numbers, b));
-            diagram.and(f, g)
-        }
+        Entry::Xor(a, b) => diagram.xor(number_at(tape, numbers, a), number_at(tape, numbers, b)),
+        Entry::And(a, b) => diagram.and(number_at(tape, numbers, a), number_at(tape, numbers, b)),
     }
 }
 

@@ -17,11 +17,11 @@ pub returns-in-Xor : goal.returns-in-Xor
 returns-in-Xor c =
     let at = c.entry.ensures ∙ ap Some c.in-Xor.is in
     answer_pair c.args.tape.now c.args.write _ _ _ exclusive_or _ _ c.args.numbers.now _ _ c.xor.result at refl
-    (λ l m. function-Xor c.args.tape.now c.requires.tape c.args.write _ _ l m at) c.number_at-f.ensures c.number_at-g.ensures c.requires.operands c.xor.ensures
+    (λ l m. function-Xor c.args.tape.now c.requires.tape c.args.write _ _ l m at) c.number_at.ensures c.number_at-in-Xor.ensures c.requires.operands c.xor.ensures
 
 pub returns-in-And : goal.returns-in-And
 returns-in-And c =
     let at = c.entry.ensures ∙ ap Some c.in-And.is in
     answer_pair c.args.tape.now c.args.write _ _ _ conjunction _ _ c.args.numbers.now _ _ c.and.result at refl
     (λ l m. function-And c.args.tape.now c.requires.tape c.args.write _ _ l m at)
-    c.number_at-f-in-And.ensures c.number_at-g-in-And.ensures c.requires.operands c.and.ensures
+    c.number_at-in-And.ensures c.number_at-in-And-2.ensures c.requires.operands c.and.ensures
