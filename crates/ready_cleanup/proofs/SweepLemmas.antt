@@ -1,5 +1,6 @@
 -- The nodes in order: what is held, and what was paid.
-use Rattle.std.proofs.Common.{◌≡◌, ◌≢◌, ℕ, zero, suc, ◌+◌, ◌*◌, ◌<◌, ◌≤◌, inl, inr, Bool, true, false, not, List, [], ◌∷◌, length, replicate, get_or, Option, None, Some}
+use Rattle.std.proofs.Common.{◌≡◌, ◌≢◌, ℕ, zero, suc, ◌+◌, ◌*◌, ◌<◌, ◌≤◌, inl, inr, Bool}
+use Rattle.std.proofs.Common.{true, false, not, List, [], ◌∷◌, length, replicate, get_or, Option, None, Some}
 use Rattle.std.proofs.Common.{sum_by, refl, sym, ◌∙◌, ap, subst, arith, zero-add}
 use Rattle.std.specs.Prelude.{slice_get}
 use Rattle.std.specs.List.{AllByRecursion, flat_map, list_all}

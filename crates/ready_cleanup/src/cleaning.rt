@@ -7,28 +7,27 @@ ghost use Rattle.held_nodes.specs.Held.{IsForward, is_ready};
 ghost use Rattle.ready_cleanup.specs.Ready.{IsReadyFault};
 ghost use Rattle.ready_cleanup.specs.inside.Sweeps.{IsCleaned, IsCleaningFault, IsSwept};
 
-use crate::uses::last_used;
+use crate::uses::{User, last_used};
 use bit_sums::{Product, Sum};
-use circuit_plans::PlanFault;
 use dependency_graph::Base;
-use held_nodes::Forward;
+use held_nodes::{Forward, Moved};
 use std::alloc::Global;
 use sum_graph::SumGraph;
 
-// Cleans the nodes that node `user`, which was made last, uses for the last time, the later one
-// first, where they can be cleaned.
+// Cleans the nodes that a node, which was made last, uses for the last time, the later one first,
+// where they can be cleaned.
 pub fn clean_used<'s>(
     alloc: Global,
     mut forward: Forward<'s>,
     graph: &SumGraph,
-    user: u32,
-) -> Result<Forward<'s>, PlanFault>
-    requires inside { user < length graph.now.nodes }
-    requires swept { IsSwept graph.now forward.budget (user + 1) forward }
-    ensures swept { IfOk result (IsSwept graph.now forward.entry.budget (user + 1)) }
+    node: u32,
+) -> Moved<'s>
+    requires inside { node < length graph.now.nodes }
+    requires swept { IsSwept graph.now forward.budget (node + 1) forward }
+    ensures swept { IfOk result (IsSwept graph.now forward.entry.budget (node + 1)) }
     ensures refused { IfErr result (IsReadyFault graph.now forward.entry.budget) }
 {
-    let used = last_used(alloc, graph, user)?;
+    let used = last_used(alloc, User { graph, node })?;
     for k in (0..used.len()).rev() {
         forward = clean(forward, graph, used[k])?;
     }
@@ -36,7 +35,7 @@ pub fn clean_used<'s>(
 }
 
 // Cleans a node where it is held and all that it is made of are inputs or held.
-fn clean<'s>(forward: Forward<'s>, graph: &SumGraph, node: u32) -> Result<Forward<'s>, PlanFault>
+fn clean<'s>(forward: Forward<'s>, graph: &SumGraph, node: u32) -> Moved<'s>
     requires graph { forward.graph ≡ graph.now }
     requires inside { node < length graph.now.nodes }
     requires keeps { IsForward forward }

@@ -1,16 +1,12 @@
 // The ready plan of a graph of sums.
 ghost use Rattle.std.specs.Prelude.{◌≡◌, ◌+◌, ◌<◌, length, IfOk, IfErr};
-ghost use Rattle.circuit_plans.specs.Plans.{MapsCleanly};
-ghost use Rattle.held_nodes.specs.Moves.{roles_of_plan};
-ghost use Rattle.held_nodes.specs.Plans.{HasPorts, IsInBudget};
-ghost use Rattle.mct_circuit.specs.Gates.{AreNarrow};
+ghost use Rattle.held_nodes.specs.Plans.{IsNarrowPlan};
 ghost use Rattle.ready_cleanup.specs.Ready.{IsReadyFault};
 ghost use Rattle.ready_cleanup.specs.inside.Sweeps.{IsSwept};
-ghost use Rattle.sum_graph.specs.Graphs.{sum_outputs};
 
 use crate::cleaning::clean_used;
 use circuit_plans::{Budget, PlanFault, Planned};
-use held_nodes::Forward;
+use held_nodes::{Forward, Moved};
 use std::alloc::Global;
 use sum_graph::SumGraph;
 
@@ -27,11 +23,7 @@ use sum_graph::SumGraph;
 /// weigh. `need` is the number of inputs, outputs and borrowed lines where that passes the budget,
 /// and one line more than the budget otherwise.
 pub fn plan(alloc: Global, graph: &SumGraph, budget: &Budget) -> Result<Planned, PlanFault>
-    ensures ports { IfOk result (HasPorts graph.now) }
-    ensures clean { IfOk result (λ planned. MapsCleanly (roles_of_plan planned)
-        planned.circuit.gates (sum_outputs graph.now)) }
-    ensures within { IfOk result (IsInBudget budget.now) }
-    ensures narrow { IfOk result (λ planned. AreNarrow planned.circuit.gates) }
+    ensures plan { IfOk result (IsNarrowPlan graph.now budget.now) }
     ensures refused { IfErr result (IsReadyFault graph.now budget.now) }
 {
     let forward = Forward::new(alloc, graph, budget)?;
@@ -40,11 +32,7 @@ pub fn plan(alloc: Global, graph: &SumGraph, budget: &Budget) -> Result<Planned,
 }
 
 // Takes the nodes in order.
-fn swept<'s>(
-    alloc: Global,
-    mut forward: Forward<'s>,
-    graph: &SumGraph,
-) -> Result<Forward<'s>, PlanFault>
+fn swept<'s>(alloc: Global, mut forward: Forward<'s>, graph: &SumGraph) -> Moved<'s>
     requires begun { IsSwept graph.now forward.budget 0 forward }
     ensures swept { IfOk result (IsSwept graph.now forward.entry.budget
         (length graph.now.nodes)) }
@@ -57,12 +45,7 @@ fn swept<'s>(
 }
 
 // Computes a node, and cleans the nodes that it uses for the last time.
-fn advanced<'s>(
-    alloc: Global,
-    forward: Forward<'s>,
-    graph: &SumGraph,
-    node: u32,
-) -> Result<Forward<'s>, PlanFault>
+fn advanced<'s>(alloc: Global, forward: Forward<'s>, graph: &SumGraph, node: u32) -> Moved<'s>
     requires inside { node < length graph.now.nodes }
     requires swept { IsSwept graph.now forward.budget node forward }
     ensures swept { IfOk result (IsSwept graph.now forward.entry.budget (node + 1)) }

@@ -5,7 +5,7 @@ use Rattle.revc_base.proofs.ResultLemmas.{passes_on}
 
 pub returns-in_err-forward-clause-refused : goal.returns-in_err-forward-clause-refused
 returns-in_err-forward-clause-refused c =
-    let s = c.args.graph.now in let user = c.args.user in let k = c.index.result.now in
+    let s = c.args.graph.now in let user = c.args.node in let k = c.index.result.now in
     let low : c.loop-k.k - 1 < length c.in_ok-used.used.items = search rules in
     let last = used_at s user c.in_ok-used.used.items (c.loop-k.k - 1) k low c.index.ensures c.in_ok-used.ensures in
     let earlier = last.earlier in
@@ -15,7 +15,7 @@ returns-in_err-forward-clause-refused c =
 
 pub loop-k-preserved : goal.loop-k-preserved
 loop-k-preserved c =
-    let s = c.args.graph.now in let user = c.args.user in let k = c.index.result.now in
+    let s = c.args.graph.now in let user = c.args.node in let k = c.index.result.now in
     let low : c.loop-k.k - 1 < length c.in_ok-used.used.items = search rules in
     let last = used_at s user c.in_ok-used.used.items (c.loop-k.k - 1) k low c.index.ensures c.in_ok-used.ensures in
     swept_cleaned s c.args.forward.budget (user + 1) c.loop-k.forward c.loop-k.invariant user k c.in_ok-forward.forward refl c.requires.inside last

@@ -1,9 +1,9 @@
-use Rattle.std.proofs.Common.{◌≡◌, length, ap, arith, refl, subst, sym}
-use Rattle.std.proofs.lemmas.Result.{IfErr-weaker, IfOk-weaker}
-use Rattle.circuit_plans.specs.Plans.{BudgetView, PlannedView}
-use Rattle.mct_circuit.specs.Gates.{AreNarrow}
+use Rattle.std.proofs.Common.{rules, length, ap, arith, refl, subst}
+use Rattle.std.proofs.lemmas.Result.{IfErr-weaker}
+use Rattle.circuit_plans.specs.Plans.{BudgetView}
 use Rattle.held_nodes.specs.Held.{ForwardView}
-use Rattle.held_nodes.specs.Moves.{IsFinishFault, planned_of}
+use Rattle.held_nodes.specs.Moves.{IsFinishFault}
+use Rattle.held_nodes.proofs.NarrowLemmas.{narrow_plan}
 use Rattle.ready_cleanup.specs.Ready.{IsReadyFault}
 use Rattle.ready_cleanup.proofs.SweepLemmas.{finish_refused, finished_narrow, outputs_ready}
 use Rattle.ready_cleanup.proofs.planning.plan.Goals as goal
@@ -11,12 +11,11 @@ use Rattle.ready_cleanup.proofs.planning.plan.Goals as goal
 pub finish-requires : goal.finish-requires
 finish-requires c = outputs_ready _ _ _ _ c.in_ok-forward-2.ensures.swept refl
 
-pub returns-clause-narrow : goal.returns-clause-narrow
-returns-clause-narrow c =
+pub returns-clause-plan : goal.returns-clause-plan
+returns-clause-plan c =
     let f = c.in_ok-forward-2.forward in
-    IfOk-weaker c.finish.result (λ (p : PlannedView). p ≡ planned_of f) (λ (p : PlannedView). AreNarrow p.circuit.gates)
-    (λ planned e. subst (λ (p : PlannedView). AreNarrow p.circuit.gates) (sym e) (finished_narrow _ _ _ f c.in_ok-forward-2.ensures.swept))
-    c.finish.ensures.ok
+    narrow_plan c.args.graph.now c.args.budget.now f c.finish.result c.finish.ensures.ok (finished_narrow _ _ _ f c.in_ok-forward-2.ensures.swept)
+    (search rules) (search rules) (search rules)
 
 pub returns-clause-refused : goal.returns-clause-refused
 returns-clause-refused c =
