@@ -12,52 +12,48 @@ ghost use Rattle.held_nodes.specs.Held.{IsForward, is_held};
 ghost use Rattle.claim_check.specs.Settled.{IsSettled};
 ghost use Rattle.sum_graph.specs.Plain.{plain_of};
 
-use circuit_plans::PlanFault;
 use claim_check::Settled;
 use dependency_graph::{Base, Node};
 use exclusive_sums::{Poly, merge};
-use held_nodes::Forward;
+use held_nodes::{Forward, Moved};
 use std::alloc::Global;
 
-// Cleans the nodes that node `user`, which was made last, uses for the last time, the later one
-// first.
-pub fn clean_operands<'s>(
-    alloc: Global,
-    forward: Forward<'s>,
-    graph: &Settled,
-    known: &[Option<Poly>],
-    user: u32,
-) -> Result<Forward<'s>, PlanFault>
-    requires values { AreFirstValues graph.now user known.now }
-    requires made { IsMade graph.now forward.budget user forward }
-    ensures swept { IfOk result (IsSwept graph.now forward.entry.budget (user + 1) []) }
-    ensures refused { IfErr result (IsEagerFault graph.now forward.entry.budget) }
+// What a cleaning goes by: the settled graph, the values that are known, and the node that was made
+// last, `user`.
+#[derive(Clone, Copy)]
+pub struct Cleaning<'s> {
+    pub alloc: Global,
+    pub graph: &'s Settled,
+    pub known: &'s [Option<Poly>],
+    pub user: u32,
+}
+
+// Cleans the nodes that node `user` uses for the last time, the later one first.
+pub fn clean_operands<'s>(by: Cleaning, forward: Forward<'s>) -> Moved<'s>
+    requires values { AreFirstValues by.graph.now by.user by.known.now }
+    requires made { IsMade by.graph.now forward.budget by.user forward }
+    ensures swept { IfOk result
+        (IsSwept by.entry.graph.now forward.entry.budget (by.entry.user + 1) []) }
+    ensures refused { IfErr result (IsEagerFault by.entry.graph.now forward.entry.budget) }
 {
-    match graph.node(user) {
-        Node::Not(a) => clean_used(alloc, forward, graph, known, a, user),
-        Node::Xor(a, b) => clean_both(alloc, forward, graph, known, a, b, user),
-        Node::And(a, b) => clean_both(alloc, forward, graph, known, a, b, user),
+    match by.graph.node(by.user) {
+        Node::Not(a) => clean_used(by, forward, a),
+        Node::Xor(a, b) => clean_both(by, forward, a, b),
+        Node::And(a, b) => clean_both(by, forward, a, b),
     }
 }
 
 // Cleans two operands of a node where it uses them for the last time, the later one first.
-fn clean_both<'s>(
-    alloc: Global,
-    forward: Forward<'s>,
-    graph: &Settled,
-    known: &[Option<Poly>],
-    a: Base,
-    b: Base,
-    user: u32,
-) -> Result<Forward<'s>, PlanFault>
-    requires values { AreFirstValues graph.now user known.now }
-    requires can { CanClean graph.now forward.budget user (a ∷ b ∷ []) forward }
-    ensures swept { IfOk result (IsSwept graph.now forward.entry.budget (user + 1) []) }
-    ensures refused { IfErr result (IsEagerFault graph.now forward.entry.budget) }
+fn clean_both<'s>(by: Cleaning, forward: Forward<'s>, a: Base, b: Base) -> Moved<'s>
+    requires values { AreFirstValues by.graph.now by.user by.known.now }
+    requires can { CanClean by.graph.now forward.budget by.user (a ∷ b ∷ []) forward }
+    ensures swept { IfOk result
+        (IsSwept by.entry.graph.now forward.entry.budget (by.entry.user + 1) []) }
+    ensures refused { IfErr result (IsEagerFault by.entry.graph.now forward.entry.budget) }
 {
     let (first, second) = later_first(a, b);
-    let forward = clean_used(alloc, forward, graph, known, first, user)?;
-    clean_used(alloc, forward, graph, known, second, user)
+    let forward = clean_used(by, forward, first)?;
+    clean_used(by, forward, second)
 }
 
 // Two bases, the later node first.
@@ -79,29 +75,24 @@ fn is_earlier(a: Base, b: Base) -> bool
 }
 
 // Cleans a base where it is a node that is held, and that node `user` uses for the last time.
-fn clean_used<'s>(
-    alloc: Global,
-    forward: Forward<'s>,
-    graph: &Settled,
-    known: &[Option<Poly>],
-    base: Base,
-    user: u32,
-) -> Result<Forward<'s>, PlanFault>
-    requires values { AreFirstValues graph.now user known.now }
-    requires settled { IsSettled graph.now }
-    requires graph { forward.graph ≡ plain_of graph.now }
-    requires inside { user < length graph.now.nodes }
-    requires base { IsKnownBase graph.now.inputs user base }
-    ensures ok { IfOk result (IsUsed graph.now known.now user base forward.entry) }
-    ensures refused { IfErr result (IsUseFault graph.now known.now user base forward.entry) }
+fn clean_used<'s>(by: Cleaning, forward: Forward<'s>, base: Base) -> Moved<'s>
+    requires values { AreFirstValues by.graph.now by.user by.known.now }
+    requires settled { IsSettled by.graph.now }
+    requires graph { forward.graph ≡ plain_of by.graph.now }
+    requires inside { by.user < length by.graph.now.nodes }
+    requires base { IsKnownBase by.graph.now.inputs by.user base }
+    ensures ok { IfOk result
+        (IsUsed by.entry.graph.now by.entry.known.now by.entry.user base forward.entry) }
+    ensures refused { IfErr result
+        (IsUseFault by.entry.graph.now by.entry.known.now by.entry.user base forward.entry) }
 {
     let Base::Node(k) = base else {
         return Ok(forward);
     };
-    if graph.last_use(k) != user || !forward.held(k) {
+    if by.graph.last_use(k) != by.user || !forward.held(k) {
         return Ok(forward);
     }
-    clean(alloc, forward, graph, k, &known[k as usize])
+    clean(by.alloc, forward, by.graph, k, &by.known[k as usize])
 }
 
 // Cleans a held node: by its operands where each is an input or held, else by its value where that
@@ -112,7 +103,7 @@ fn clean<'s>(
     graph: &Settled,
     k: u32,
     value: &Option<Poly>,
-) -> Result<Forward<'s>, PlanFault>
+) -> Moved<'s>
     requires inside { k < length graph.now.nodes }
     requires value { IsKnownValue graph.now k value.now }
     requires settled { IsSettled graph.now }
@@ -132,13 +123,7 @@ fn clean<'s>(
 }
 
 // Cleans a held node by the merged cubes of its polynomial.
-fn clear<'s>(
-    alloc: Global,
-    forward: Forward<'s>,
-    graph: &Settled,
-    k: u32,
-    poly: &Poly,
-) -> Result<Forward<'s>, PlanFault>
+fn clear<'s>(alloc: Global, forward: Forward<'s>, graph: &Settled, k: u32, poly: &Poly) -> Moved<'s>
     requires value { IsKnownPolynomial graph.now k poly.now }
     requires graph { forward.graph ≡ plain_of graph.now }
     requires keeps { IsForward forward }

@@ -10,12 +10,12 @@ ghost use Rattle.held_nodes.specs.Moves.{roles_of_plan};
 ghost use Rattle.sum_graph.specs.Plain.{plain_of};
 ghost use Rattle.held_nodes.specs.Plans.{HasPorts, IsInBudget};
 
-use crate::cleaning::clean_operands;
+use crate::cleaning::{Cleaning, clean_operands};
 use crate::known::{add_value, input_values};
 use circuit_plans::{Budget, PlanFault, Planned};
 use claim_check::Settled;
 use exclusive_sums::Poly;
-use held_nodes::Forward;
+use held_nodes::{Forward, Moved};
 use std::alloc::Global;
 use sum_graph::{SumGraph, plain_graphs_are_alike};
 
@@ -57,11 +57,7 @@ pub fn plan(
 
 // Takes the nodes in order: each is computed, and those that it uses for the last time are cleaned.
 // Its value is worked out behind its gates, and kept up to its last use.
-fn swept<'s>(
-    alloc: Global,
-    mut forward: Forward<'s>,
-    graph: &Settled,
-) -> Result<Forward<'s>, PlanFault>
+fn swept<'s>(alloc: Global, mut forward: Forward<'s>, graph: &Settled) -> Moved<'s>
     requires begun { IsSwept graph.now forward.budget 0 [] forward }
     ensures swept { IfOk result (IsSwept graph.now forward.entry.budget
         (length graph.now.nodes) []) }
@@ -71,7 +67,13 @@ fn swept<'s>(
     let mut known = Vec::new(alloc);
     for node in 0..graph.nodes() {
         let toggled = forward.toggle(node)?;
-        forward = clean_operands(alloc, toggled, graph, &known, node)?;
+        let by = Cleaning {
+            alloc,
+            graph,
+            known: &known,
+            user: node,
+        };
+        forward = clean_operands(by, toggled)?;
         add_value(&mut known, &inputs, graph, node)?;
     }
     Ok(forward)

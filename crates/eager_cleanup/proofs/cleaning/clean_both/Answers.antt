@@ -20,21 +20,21 @@ clean_used-requires-2-clause-graph c =
 
 pub returns-clause-swept : goal.returns-clause-swept
 returns-clause-swept c =
-    let s = c.args.graph.now in
+    let s = c.args.by.graph.now in
     let b = c.args.forward.budget in
-    let user = c.args.user in
+    let user = c.args.by.user in
     let can = can_turned _ _ _ _ _ _ _ _ _ c.later_first-first.ensures.first c.later_first-first.ensures.second c.requires.can in
     let once = swept_used _ _ _ _ _ _ _ _ c.requires.values can.swept can.inside can.bases.0 c.in_ok-forward.ensures.ok in
-    IfOk-weaker c.clean_used-2.result (IsUsed s c.args.known.now user c.later_first-first.result.1 c.in_ok-forward.forward) (IsSwept s b (user + 1) [])
+    IfOk-weaker c.clean_used-2.result (IsUsed s c.args.by.known.now user c.later_first-first.result.1 c.in_ok-forward.forward) (IsSwept s b (user + 1) [])
     (λ next used. swept_used _ _ _ _ _ _ _ _ c.requires.values once can.inside can.bases.1.0 used) c.clean_used-2.ensures.ok
 
 pub returns-clause-refused : goal.returns-clause-refused
 returns-clause-refused c =
-    let s = c.args.graph.now in
-    let user = c.args.user in
+    let s = c.args.by.graph.now in
+    let user = c.args.by.user in
     let can = can_turned _ _ _ _ _ _ _ _ _ c.later_first-first.ensures.first c.later_first-first.ensures.second c.requires.can in
     let once = swept_used _ _ _ _ _ _ _ _ c.requires.values can.swept can.inside can.bases.0 c.in_ok-forward.ensures.ok in
-    IfErr-weaker c.clean_used-2.result (IsUseFault s c.args.known.now user c.later_first-first.result.1 c.in_ok-forward.forward)
+    IfErr-weaker c.clean_used-2.result (IsUseFault s c.args.by.known.now user c.later_first-first.result.1 c.in_ok-forward.forward)
     (IsEagerFault s c.args.forward.budget)
     (λ fault is. used_fault _ _ _ _ _ _ _ fault c.requires.values once can.inside can.bases.1.0 is) c.clean_used-2.ensures.refused
 
