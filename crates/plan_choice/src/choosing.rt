@@ -47,22 +47,10 @@ fn chosen(alloc: Global, graph: &Settled, budget: &Budget, how: How) -> Tried
     ensures refused { IfErr result (IsChoiceFault how graph.now budget.now) }
 {
     match how {
-        How::Auto => {
-            let plain = SumGraph::plain(alloc, graph)?;
-            eager_or_pebbling(alloc, graph, &plain, budget)
-        }
-        How::Eager => {
-            let plain = SumGraph::plain(alloc, graph)?;
-            lay_eager(alloc, graph, &plain, budget)
-        }
-        How::Lean => {
-            let lean = SumGraph::lean(alloc, graph)?;
-            lay_lean(alloc, graph, &lean, budget)
-        }
-        How::Pebble => {
-            let plain = SumGraph::plain(alloc, graph)?;
-            lay_pebbling(alloc, graph, &plain, budget)
-        }
+        How::Auto => eager_or_pebbling(alloc, graph, &SumGraph::plain(alloc, graph)?, budget),
+        How::Eager => lay_eager(alloc, graph, &SumGraph::plain(alloc, graph)?, budget),
+        How::Lean => lay_lean(alloc, graph, &SumGraph::lean(alloc, graph)?, budget),
+        How::Pebble => lay_pebbling(alloc, graph, &SumGraph::plain(alloc, graph)?, budget),
     }
 }
 
