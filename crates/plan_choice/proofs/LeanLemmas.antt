@@ -21,7 +21,7 @@ use Rattle.dependency_graph.specs.Graphs.{ands_in}
 use Rattle.eager_cleanup.specs.Eager.{ports_of}
 use Rattle.held_nodes.specs.Held.{first_work}
 use Rattle.held_nodes.specs.Moves.{roles_of_plan}
-use Rattle.held_nodes.specs.Plans.{HasPortLines, HasPorts, IsInBudget, wanted_lines}
+use Rattle.held_nodes.specs.Plans.{HasPortLines, IsNarrowPlan, wanted_lines}
 use Rattle.mct_circuit.specs.Gates.{AreNarrow, GateView}
 use Rattle.mct_circuit.specs.Sizes.{counts_of}
 use Rattle.ready_cleanup.specs.Ready.{IsReadyFault}
@@ -42,25 +42,18 @@ lean_clean s l roles gates lean clean = record {
 }
 
 -- a narrow plan of the lean graph
-pub record IsLeanPlan (s : SettledView) (l : SumGraphView) (b : BudgetView) (p : PlannedView) : Type 0 where
-  pub lean : IsLeanOf s l
-  pub ports : HasPorts l p
-  pub clean : MapsCleanly (roles_of_plan p) p.circuit.gates (sum_outputs l)
-  pub within : IsInBudget b p
-  pub narrow : AreNarrow p.circuit.gates
-
-module _ (s : SettledView) (l : SumGraphView) (b : BudgetView) (p : PlannedView) (is : IsLeanPlan s l b p) where
+module _ {s : SettledView} {l : SumGraphView} {b : BudgetView} {p : PlannedView} (lean : IsLeanOf s l) (is : IsNarrowPlan l b p) where
   pub laid_lean : (laid : LaidView) → IsLaidAsIs p b laid → IsLaidNarrow s b laid
   laid_lean laid kept =
       let of = kept.laid_of in
       record {
         for_graph = record {
-          inputs = of.inputs ∙ is.ports.inputs ∙ is.lean.inputs;
-          outputs = of.outputs ∙ is.ports.outputs ∙ is.lean.outputs;
+          inputs = of.inputs ∙ is.ports.inputs ∙ lean.inputs;
+          outputs = of.outputs ∙ is.ports.outputs ∙ lean.outputs;
           borrowed = of.borrowed;
           lines = of.lines;
           gates = of.gates;
-          clean = of.clean (settled_outputs s) (lean_clean s l (roles_of_plan p) p.circuit.gates is.lean is.clean);
+          clean = of.clean (settled_outputs s) (lean_clean s l (roles_of_plan p) p.circuit.gates lean is.clean);
         };
         narrow = subst AreNarrow (sym kept.same) is.narrow;
       }
@@ -69,10 +62,10 @@ module _ (s : SettledView) (l : SumGraphView) (b : BudgetView) (p : PlannedView)
       → toffoli laid ≤ 2 * ands_in s.nodes
   laid_products block laid few kept covers =
       let same : toffoli laid ≡ (counts_of p.circuit.gates).ccx = ap (λ (gs : List GateView). (counts_of gs).ccx) kept.same in
-      omega (arith, same, few.plain covers, is.lean.products)
+      omega (arith, same, few.plain covers, lean.products)
 
-  pub lean_ports : HasPortLines (first_work l) b
-  lean_ports = omega (arith, is.ports.lines, is.within.lines)
+pub lean_ports : {l : SumGraphView} {b : BudgetView} {p : PlannedView} → IsNarrowPlan l b p → HasPortLines (first_work l) b
+lean_ports is = omega (arith, is.ports.lines, is.within.lines)
 
 -- ---- the search
 

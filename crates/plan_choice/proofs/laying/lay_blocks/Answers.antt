@@ -12,7 +12,7 @@ pub returns-clause-refused : goal.returns-clause-refused
 returns-clause-refused c =
     let s = c.args.graph.now in let b = c.args.budget.now in let p = c.in_ok-planned.planned in
     memory_wanted c.lay_narrow.result (IsPebblingFault s c.args.block b)
-    (port_lines s b p (rw c.requires.plain at c.in_ok-planned.ensures.ports) c.in_ok-planned.ensures.within.lines) c.lay_narrow.ensures.memory
+    (port_lines s b p (rw c.requires.plain at c.in_ok-planned.ensures.plan).ports c.in_ok-planned.ensures.plan.within.lines) c.lay_narrow.ensures.memory
 
 pub returns-clause-within : goal.returns-clause-within
 returns-clause-within c =
@@ -26,8 +26,8 @@ pub returns-clause-ok : goal.returns-clause-ok
 returns-clause-ok c =
     let s = c.args.graph.now in let b = c.args.budget.now in let p = c.in_ok-planned.planned in
     IfOk-weaker c.lay_narrow.result (IsLaidAsIs p b) (IsLaidFor s b)
-    (λ laid is. laid_for s b p laid (rw c.requires.plain at c.in_ok-planned.ensures.ports)
-    (plain_clean s (roles_of_plan p) p.circuit.gates (rw c.requires.plain at c.in_ok-planned.ensures.clean)) is.laid_of) c.lay_narrow.ensures.ok
+    (λ laid is. laid_for s b p laid (rw c.requires.plain at c.in_ok-planned.ensures.plan).ports
+    (plain_clean s (roles_of_plan p) p.circuit.gates (rw c.requires.plain at c.in_ok-planned.ensures.plan).clean) is.laid_of) c.lay_narrow.ensures.ok
 
 pub returns-in_err-planned-clause-refused : goal.returns-in_err-planned-clause-refused
 returns-in_err-planned-clause-refused c =
