@@ -1,5 +1,6 @@
 -- What only private contracts and proofs cite.
 pub mod Chains
+pub mod Fields
 pub mod Labels
 pub mod Marks
 pub mod Numbers

@@ -1,8 +1,8 @@
 // The settled graph.
 ghost use Rattle.std.specs.Prelude.{◌≡◌, ◌<◌, length, slice_get, Some, IfOk};
 ghost use Rattle.dependency_graph.specs.Folds.{graph_of};
-ghost use Rattle.dependency_graph.specs.Uses.{last_use_in, last_uses_of};
-ghost use Rattle.claim_check.specs.Settled.{IsSettled, as_graph, SettledView};
+ghost use Rattle.dependency_graph.specs.Uses.{last_use_in};
+ghost use Rattle.claim_check.specs.Settled.{IsSettled, as_graph};
 ghost use Rattle.claim_check.specs.inside.Parts.{IsSettledPart};
 
 use crate::keeping::kept_part;
@@ -22,23 +22,15 @@ pub struct Settled {
 }
 
 impl Model for Settled {
+    ghost use Rattle.claim_check.specs.Settled.{SettledView};
+
     ghost Value = { SettledView };
 
-    ghost view = { λ s. record {
-      inputs = s.inputs;
-      nodes = s.nodes.items;
-      outputs = s.outputs.items;
-    } };
+    ghost use Rattle.claim_check.specs.inside.Fields.{view_of, IsKept};
 
-    ghost invariant = { λ s. IsSettled (record {
-      inputs = s.inputs;
-      nodes = s.nodes.items;
-      outputs = s.outputs.items;
-    }) × (s.last_uses.items ≡ last_uses_of (as_graph (record {
-      inputs = s.inputs;
-      nodes = s.nodes.items;
-      outputs = s.outputs.items;
-    }))) };
+    ghost view = { view_of };
+
+    ghost invariant = { IsKept };
 }
 
 impl Settled {

@@ -1,12 +1,12 @@
 -- Last uses in a list of steps. A step is the list of its operands, as in the cuts of a tape.
-use Rattle.std.specs.Prelude.{◌≡◌, ◌↔◌, ℕ, ◌<◌, ◌≤◌, cond, List}
+use Rattle.std.specs.Prelude.{◌↔◌, ℕ, ◌<◌, ◌≤◌, cond, List}
 use Rattle.std.specs.Prelude.{[], ◌∷◌, length, map, filter, slice_index_or, slice_set}
 use Rattle.std.specs.List.{flat_map}
 use Rattle.list_facts.specs.Lists.{IsAmong, below}
 use Rattle.revs_tape.specs.Cuts.{is_in, cut_at}
 use Rattle.dependency_graph.specs.declared.node.Base.{Base}
 use Rattle.dependency_graph.specs.declared.node.Base.TheVariants as bases
-use Rattle.dependency_graph.specs.Graphs.{GraphView, IsGraph, nodes_among, output_nodes, steps_by, steps_of}
+use Rattle.dependency_graph.specs.Graphs.{GraphView, nodes_among, output_nodes, steps_by, steps_of}
 
 -- the last number of a list; the given one where there is none
 abbrev pub last_of : ℕ → List ℕ → ℕ
@@ -55,10 +55,6 @@ last_use_in g n = last_use (steps_of g) (output_nodes g) n
 -- the last use of each node, in order
 abbrev pub last_uses_of : GraphView → List ℕ
 last_uses_of g = map (last_use_in g) (below (length g.nodes))
-
--- What a graph keeps, with a table of its last uses.
-abbrev pub KeepsUses : GraphView → List ℕ → Type 0
-KeepsUses g table = IsGraph g × (table ≡ last_uses_of g)
 
 -- the cut at j: the nodes below j that are an output, or an operand of node j or of a later one
 abbrev pub cut_in : GraphView → ℕ → List ℕ

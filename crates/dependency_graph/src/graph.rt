@@ -2,9 +2,9 @@
 ghost use Rattle.std.specs.Prelude.{◌≡◌, ◌<◌, ◌≤◌, length, slice_get, Some, IfOk};
 ghost use Rattle.revs_tape.specs.Measures.{inputs_of, writes_of};
 ghost use Rattle.revs_tape.specs.Tapes.{IsKnown};
-ghost use Rattle.dependency_graph.specs.Graphs.{IsGraph, IsGraphOf, sig_of, GraphView};
+ghost use Rattle.dependency_graph.specs.Graphs.{IsGraph, IsGraphOf, sig_of};
 ghost use Rattle.dependency_graph.specs.Folds.{graph_of};
-ghost use Rattle.dependency_graph.specs.Uses.{cut_in, last_use_in, KeepsUses};
+ghost use Rattle.dependency_graph.specs.Uses.{cut_in, last_use_in};
 ghost use Rattle.list_facts.specs.Lists.{IsRising};
 
 use crate::fold::{fold, sig_of, sigs_of};
@@ -26,21 +26,15 @@ pub struct Graph {
 }
 
 impl Model for Graph {
+    ghost use Rattle.dependency_graph.specs.Graphs.{GraphView};
+
     ghost Value = { GraphView };
 
-    ghost view = { λ g. record {
-      inputs = g.inputs;
-      nodes = g.nodes.items;
-      sigs = g.sigs.items;
-      outputs = g.outputs.items;
-    } };
+    ghost use Rattle.dependency_graph.specs.inside.Fields.{view_of, IsKept};
 
-    ghost invariant = { λ g. KeepsUses (record {
-      inputs = g.inputs;
-      nodes = g.nodes.items;
-      sigs = g.sigs.items;
-      outputs = g.outputs.items;
-    }) g.last_uses.items };
+    ghost view = { view_of };
+
+    ghost invariant = { IsKept };
 }
 
 impl Graph {

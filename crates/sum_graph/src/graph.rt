@@ -1,8 +1,8 @@
 // Graphs of sums.
 ghost use Rattle.std.specs.Prelude.{◌≡◌, ◌<◌, length, slice_get, Some, IfOk};
-ghost use Rattle.sum_graph.specs.Graphs.{IsSumGraph, IsLeanOf, SumGraphView};
+ghost use Rattle.sum_graph.specs.Graphs.{IsSumGraph, IsLeanOf};
 ghost use Rattle.sum_graph.specs.Plain.{plain_of};
-ghost use Rattle.sum_graph.specs.Uses.{sum_last_use, KeepsSumUses};
+ghost use Rattle.sum_graph.specs.Uses.{sum_last_use};
 
 use crate::factors::factors_have_few_bits;
 use crate::plain::{plain_nodes, plain_outputs};
@@ -25,19 +25,15 @@ pub struct SumGraph {
 }
 
 impl Model for SumGraph {
+    ghost use Rattle.sum_graph.specs.Graphs.{SumGraphView};
+
     ghost Value = { SumGraphView };
 
-    ghost view = { λ g. record {
-      inputs = g.inputs;
-      nodes = g.nodes.items;
-      outputs = g.outputs.items;
-    } };
+    ghost use Rattle.sum_graph.specs.inside.Fields.{view_of, IsKept};
 
-    ghost invariant = { λ g. KeepsSumUses (record {
-      inputs = g.inputs;
-      nodes = g.nodes.items;
-      outputs = g.outputs.items;
-    }) g.last_uses.items };
+    ghost view = { view_of };
+
+    ghost invariant = { IsKept };
 }
 
 impl SumGraph {
