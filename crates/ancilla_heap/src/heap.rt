@@ -2,7 +2,8 @@
 // `free`.
 ghost use Rattle.std.specs.Prelude.{◌≡◌, [], length, max, IfOk, IfSome, IfNone, IsNone, ◌↔◌, true};
 ghost use Rattle.ancilla_heap.specs.Lines.{IsLineHeap, IsLeastFree, contains, with_taken};
-ghost use Rattle.ancilla_heap.specs.Lines.{without_line};
+ghost use Rattle.ancilla_heap.specs.Lines.{without_line, HeapView};
+ghost use Rattle.ancilla_heap.specs.inside.Heaps.{view_of, IsKept};
 
 use revc_base::Memory;
 use std::alloc::Global;
@@ -20,11 +21,7 @@ pub struct Heap {
 }
 
 impl Model for Heap {
-    ghost use Rattle.ancilla_heap.specs.Lines.{HeapView};
-
     ghost Value = { HeapView };
-
-    ghost use Rattle.ancilla_heap.specs.inside.Heaps.{view_of, IsKept};
 
     ghost view = { view_of };
 

@@ -2,8 +2,9 @@
 ghost use Rattle.std.specs.Prelude.{◌≡◌, ◌<◌, length, slice_get, Some, IfOk};
 ghost use Rattle.dependency_graph.specs.Folds.{graph_of};
 ghost use Rattle.dependency_graph.specs.Uses.{last_use_in};
-ghost use Rattle.claim_check.specs.Settled.{IsSettled, as_graph};
+ghost use Rattle.claim_check.specs.Settled.{IsSettled, as_graph, SettledView};
 ghost use Rattle.claim_check.specs.inside.Parts.{IsSettledPart};
+ghost use Rattle.claim_check.specs.inside.Fields.{view_of, IsKept};
 
 use crate::keeping::kept_part;
 use dependency_graph::{Graph, Node, Sig, last_uses};
@@ -22,11 +23,7 @@ pub struct Settled {
 }
 
 impl Model for Settled {
-    ghost use Rattle.claim_check.specs.Settled.{SettledView};
-
     ghost Value = { SettledView };
-
-    ghost use Rattle.claim_check.specs.inside.Fields.{view_of, IsKept};
 
     ghost view = { view_of };
 

@@ -2,10 +2,11 @@
 ghost use Rattle.std.specs.Prelude.{◌≡◌, ◌<◌, ◌≤◌, length, slice_get, Some, IfOk};
 ghost use Rattle.revs_tape.specs.Measures.{inputs_of, writes_of};
 ghost use Rattle.revs_tape.specs.Tapes.{IsKnown};
-ghost use Rattle.dependency_graph.specs.Graphs.{IsGraph, IsGraphOf, sig_of};
+ghost use Rattle.dependency_graph.specs.Graphs.{IsGraph, IsGraphOf, sig_of, GraphView};
 ghost use Rattle.dependency_graph.specs.Folds.{graph_of};
 ghost use Rattle.dependency_graph.specs.Uses.{cut_in, last_use_in};
 ghost use Rattle.list_facts.specs.Lists.{IsRising};
+ghost use Rattle.dependency_graph.specs.inside.Fields.{view_of, IsKept};
 
 use crate::fold::{fold, sig_of, sigs_of};
 use crate::uses::last_uses;
@@ -26,11 +27,7 @@ pub struct Graph {
 }
 
 impl Model for Graph {
-    ghost use Rattle.dependency_graph.specs.Graphs.{GraphView};
-
     ghost Value = { GraphView };
-
-    ghost use Rattle.dependency_graph.specs.inside.Fields.{view_of, IsKept};
 
     ghost view = { view_of };
 

@@ -1,8 +1,9 @@
 // Graphs of sums.
 ghost use Rattle.std.specs.Prelude.{◌≡◌, ◌<◌, length, slice_get, Some, IfOk};
-ghost use Rattle.sum_graph.specs.Graphs.{IsSumGraph, IsLeanOf};
+ghost use Rattle.sum_graph.specs.Graphs.{IsSumGraph, IsLeanOf, SumGraphView};
 ghost use Rattle.sum_graph.specs.Plain.{plain_of};
 ghost use Rattle.sum_graph.specs.Uses.{sum_last_use};
+ghost use Rattle.sum_graph.specs.inside.Fields.{view_of, IsKept};
 
 use crate::factors::factors_have_few_bits;
 use crate::plain::{plain_nodes, plain_outputs};
@@ -25,11 +26,7 @@ pub struct SumGraph {
 }
 
 impl Model for SumGraph {
-    ghost use Rattle.sum_graph.specs.Graphs.{SumGraphView};
-
     ghost Value = { SumGraphView };
-
-    ghost use Rattle.sum_graph.specs.inside.Fields.{view_of, IsKept};
 
     ghost view = { view_of };
 
