@@ -48,14 +48,7 @@ both_over test a b p (inl e) o = let is = subst (IsProductOver test) e o in (is.
 both_over test a b p (inr e) o = let is = subst (IsProductOver test) e o in (is.second, is.first)
 
 pub product_turned : (a b : List Base) → IsProduct (record { first = a; second = b }) → IsProduct (record { first = b; second = a })
-product_turned a b p = record {
-  first_rises = p.second_rises;
-  second_rises = p.first_rises;
-  first_few = p.second_few;
-  second_few = p.first_few;
-  own = p.other;
-  other = p.own;
-}
+product_turned a b p = record { first = p.second; second = p.first; own = p.other; other = p.own }
 
 -- ---- a set within another one
 
@@ -78,10 +71,8 @@ one_product lesser rest bits p e h = record {
 pub product_apart : (lesser rest : List Base) → IsFactor lesser → IsFactor rest → AreApart lesser rest → length lesser ≢ 0 → length rest ≢ 0
     → IsProduct (record { first = lesser; second = rest })
 product_apart lesser rest l r d some more = record {
-  first_rises = l.rises;
-  second_rises = r.rises;
-  first_few = l.few;
-  second_few = r.few;
+  first = l;
+  second = r;
   own = own_apart lesser rest some d;
   other = own_apart rest lesser more (apart_turned lesser rest d);
 }
@@ -127,10 +118,8 @@ neither_within a b bits p e h = rw e (record {
 pub own_factors : (a b rest : List Base) → rest ≡ apart a b → IsFactor a → IsFactor b → length rest + length a ≢ length b → length rest + length b ≢ length a
     → IsProduct (record { first = a; second = b })
 own_factors a b rest e f g not_first not_second = record {
-  first_rises = f.rises;
-  second_rises = g.rises;
-  first_few = f.few;
-  second_few = g.few;
+  first = f;
+  second = g;
   own = own_left a b f.rises g.rises (subst (λ (l : List Base). length l + length a ≢ length b) e not_first);
   other = own_left b a g.rises f.rises (subst (λ (l : List Base). length l + length b ≢ length a) (e ∙ apart_swapped a b) not_second);
 }

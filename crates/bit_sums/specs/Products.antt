@@ -7,19 +7,17 @@ use Rattle.bit_sums.specs.Bits.{AreRising, HasOwn, apart}
 use Rattle.bit_sums.specs.Sums.{ProductView, AreAll, IsProductOver, product_value, xor_by}
 use Rattle.bit_sums.specs.declared.limits.TheConstants.{MOST_FACTOR_BITS}
 
--- What a product keeps: its factors are sets of few bits, and each has a bit that the other lacks.
-pub record IsProduct (p : ProductView) : Type 0 where
-  pub first_rises : AreRising p.first
-  pub second_rises : AreRising p.second
-  pub first_few : length p.first ≤ MOST_FACTOR_BITS
-  pub second_few : length p.second ≤ MOST_FACTOR_BITS
-  pub own : HasOwn p.first p.second
-  pub other : HasOwn p.second p.first
-
 -- a factor of a product: a set of few bits
 pub record IsFactor (bits : List Base) : Type 0 where
   pub rises : AreRising bits
   pub few : length bits ≤ MOST_FACTOR_BITS
+
+-- What a product keeps: each of its factors has a bit that the other lacks.
+pub record IsProduct (p : ProductView) : Type 0 where
+  pub first : IsFactor p.first
+  pub second : IsFactor p.second
+  pub own : HasOwn p.first p.second
+  pub other : HasOwn p.second p.first
 
 -- ---- some bits, and at most one product
 

@@ -144,7 +144,7 @@ constant_weight false = omega arith
 products_light : (products : List ProductView) → AllByRecursion IsProduct products → sum_by product_weight products ≤ 21 * length products
 products_light [] few = omega arith
 products_light (p ∷ ps) few =
-    omega (arith, sum_by-cons product_weight p ps, products_light ps few.1, few.0.first_few, few.0.second_few)
+    omega (arith, sum_by-cons product_weight p ps, products_light ps few.1, few.0.first.few, few.0.second.few)
 
 toggle_light : (s : SumView) → HasFewBits s → toggle_weight s ≤ weight_of s + 1
 toggle_light s few = omega (arith, products_light s.products few, constant_weight s.one)

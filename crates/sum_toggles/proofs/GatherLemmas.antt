@@ -115,8 +115,8 @@ module _ (IsGood : Base → Type 0) (line : Base → ℕ) (n target : ℕ) (have
         let long : length once ≡ n = length-set bits (line a) v ∙ size in
         line_map-append (gathers line a p.first) (gathers line b p.second) bits
         ∙ ap (line_map (gathers line b p.second))
-        (factor_gathered a p.first bits size first_good (rising_different p.first is.first_rises) (first_own p is).here)
-        ∙ factor_gathered b p.second once long second_good (rising_different p.second is.second_rises) (second_own p is).here
+        (factor_gathered a p.first bits size first_good (rising_different p.first is.first.rises) (first_own p is).here)
+        ∙ factor_gathered b p.second once long second_good (rising_different p.second is.second.rises) (second_own p is).here
         ∙ ap (set once (line b)) (bits_agree (on_lines line once) (on_lines line bits) p.second second_good
         (λ c good k. get_or-set_other bits (line a) (line c) v false
         (apart_lines c a good good_a (λ same. (first_own p is).not_there (subst (λ d. IsAmong d p.second) same k)))))

@@ -186,8 +186,8 @@ weight_product line target p is =
     let front = sum_by-append weight_of (both_gathered line p) (flip ∷ []) in
     let both = sum_by-append weight_of (gathers line a p.first) (gathers line b p.second) in
     let back = weight-reverse (both_gathered line p) in
-    let first = weight_gathers line a p.first (rising_different p.first is.first_rises) (own_is p.first p.second is.own).here in
-    let second = weight_gathers line b p.second (rising_different p.second is.second_rises) (own_is p.second p.first is.other).here in
+    let first = weight_gathers line a p.first (rising_different p.first is.first.rises) (own_is p.first p.second is.own).here in
+    let second = weight_gathers line b p.second (rising_different p.second is.second.rises) (own_is p.second p.first is.other).here in
     omega (arith, whole, front, both, back, first, second)
 
 weight_products : (line : Base → ℕ) (target : ℕ) (ps : List ProductView) → AllByRecursion IsProduct ps

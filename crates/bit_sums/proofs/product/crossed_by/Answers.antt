@@ -7,13 +7,13 @@ pub multiplied-requires-clause-a : goal.multiplied-requires-clause-a
 multiplied-requires-clause-a c =
     rw c.deref.ensures.value
     (factor_of_sum c.args.p.now.first c.args.c.now _ (c.in_ok-left.ensures ∙ ap (λ l. apart l c.args.c.now) c.first.ensures.first)
-    c.first.ensures.product.first_rises c.requires.rises (omega arith))
+    c.first.ensures.product.first.rises c.requires.rises (omega arith))
 
 pub multiplied-requires-clause-b : goal.multiplied-requires-clause-b
 multiplied-requires-clause-b c =
     rw c.deref-2.ensures.value
     (factor_of_sum c.args.p.now.second c.args.c.now _ (c.in_ok-right.ensures ∙ ap (λ l. apart l c.args.c.now) c.second.ensures.second)
-    c.first.ensures.product.second_rises c.requires.rises (omega arith))
+    c.first.ensures.product.second.rises c.requires.rises (omega arith))
 
 pub returns : goal.returns
 returns c =

@@ -5,10 +5,8 @@ use Rattle.bit_sums.proofs.product.Product.of_bits.Goals as goal
 
 two_bits : (a b : Base) → a ≢ b → IsProduct (record { first = a ∷ []; second = b ∷ [] })
 two_bits a b ne = record {
-  first_rises = (tt, tt);
-  second_rises = (tt, tt);
-  first_few = omega arith;
-  second_few = omega arith;
+  first = record { rises = (tt, tt); few = omega arith };
+  second = record { rises = (tt, tt); few = omega arith };
   own = record { base = a; here = inl refl; not_there = λ there. elim there [ inl same ↦ ne same | inr none ↦ none ] };
   other = record { base = b; here = inl refl; not_there = λ there. elim there [ inl same ↦ ne (sym same) | inr none ↦ none ] };
 }
