@@ -1,17 +1,15 @@
 -- Gates on planes, a place at a time.
-use Rattle.std.proofs.Common.{◌≡◌, ℕ, ◌+◌, ◌-◌, ◌^◌, ◌<◌, ◌≤◌, Bool, true, false, not, ◌&&◌, cond, List, [], ◌∷◌, ◌++◌, length, map, get_or, set, take, drop}
-use Rattle.std.proofs.Common.{bit_xor, refl, sym, ap, ◌∙◌, subst, arith}
+use Rattle.std.proofs.Common.{◌≡◌, ℕ, ◌+◌, ◌-◌, ◌^◌, ◌<◌, ◌≤◌, Bool, true, false, not, ◌&&◌, cond, List, [], ◌∷◌, ◌++◌, length, get_or, set, take, drop}
+use Rattle.std.proofs.Common.{bit_xor, refl, sym, ap, ◌∙◌, arith}
 use Rattle.std.specs.Bool.{xor}
-use Rattle.std.specs.List.{AllByRecursion, list_all}
+use Rattle.std.specs.List.{list_all}
 use Rattle.std.proofs.lemmas.List.{get_or-map, length-map, map-set, take_more, take_all, drop_all, set-get_or}
 use Rattle.std.proofs.lemmas.List.Folds.{list_all-append}
 use Rattle.list_facts.specs.Bits.{bit_of}
-use Rattle.list_facts.proofs.AllLemmas.{AllByRecursion-right}
 use Rattle.list_facts.proofs.BitLemmas.{xor_swap}
 use Rattle.mct_circuit.specs.declared.gate.Control.{Control}
-use Rattle.mct_circuit.specs.declared.gate.Op.{Op}
 use Rattle.mct_circuit.specs.declared.gate.Op.TheVariants.{Flip, Swap}
-use Rattle.mct_circuit.specs.Gates.{GateView, is_met, after_op, line_map, lines_of, targets_of}
+use Rattle.mct_circuit.specs.Gates.{GateView, is_met, after_op, line_map}
 use Rattle.mct_circuit.proofs.FlipLemmas.{flip_sets}
 use Rattle.mct_circuit.proofs.ReversalLemmas.{swap_is}
 use Rattle.mct_circuit.proofs.GateListLemmas.{line_map_more}
@@ -59,19 +57,6 @@ pub mask_done : (planes : List ℕ) (controls : List Control) (i mask : ℕ) →
 mask_done planes controls i mask over masks = rw (take_all i controls over) at masks
 
 -- ---- one gate
-
-pub flip_below : (n : ℕ) (gate : GateView) (op : Op) (target : ℕ) → AllByRecursion (λ line. line < n) (lines_of gate) → op ≡ gate.op → op ≡ Flip target
-    → target < n
-flip_below n gate op target low same is =
-    (subst (λ o. AllByRecursion (λ line. line < n) (targets_of o)) (sym same ∙ is) (AllByRecursion-right (λ line. line < n)
-    (map (λ (control : Control). control.line) gate.controls) (targets_of gate.op) low)).0
-
-pub swap_below : (n : ℕ) (gate : GateView) (op : Op) (first second : ℕ) → AllByRecursion (λ line. line < n) (lines_of gate) → op ≡ gate.op
-    → op ≡ Swap first second → (first < n) × (second < n)
-swap_below n gate op first second low same is =
-    let both = subst (λ o. AllByRecursion (λ line. line < n) (targets_of o)) (sym same ∙ is) (AllByRecursion-right (λ line. line < n)
-    (map (λ (control : Control). control.line) gate.controls) (targets_of gate.op) low) in
-    (both.0, both.1.0)
 
 pub flip_mapped : (gate : GateView) (planes : List ℕ) (target mask : ℕ) → gate.op ≡ Flip target → target < length planes
     → IsMask planes gate.controls mask → AreMapped (gate ∷ []) planes (set planes target (bit_xor (get_or planes target 0) mask))

@@ -1,6 +1,6 @@
 -- The bits of planes under `&`, `^` and all ones, and the masks of a gate.
-use Rattle.std.proofs.Common.{◌≡◌, ℕ, zero, suc, ◌+◌, ◌-◌, ◌<◌, ◌^◌, ◌==◌, min, ◌%◌, bit_and, bit_xor, Bool, true, false, not, ◌&&◌, cond, ◌⊎◌, inl, inr, refl}
-use Rattle.std.proofs.Common.{ap, ◌∙◌, arith}
+use Rattle.std.proofs.Common.{◌≡◌, ℕ, ◌-◌, ◌<◌, ◌^◌, ◌==◌, min, bit_and, bit_xor, Bool, true, false, not, ◌&&◌, cond, inl, inr, refl}
+use Rattle.std.proofs.Common.{ap, ◌∙◌}
 use Rattle.std.specs.Bool.{xor}
 use Rattle.std.proofs.lemmas.Nat.{xor_comm}
 use Rattle.std.proofs.lemmas.Nat.Bits.{bit_at_and, bit_at_xor, bit_at_ones, bit_at-lt}

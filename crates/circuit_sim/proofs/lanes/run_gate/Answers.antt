@@ -1,6 +1,5 @@
 use Rattle.std.proofs.Common.{length-set, sym, ◌∙◌}
-use Rattle.mct_circuit.proofs.GateListLemmas.{controls_below}
-use Rattle.circuit_sim.proofs.GateLemmas.{flip_below, swap_below}
+use Rattle.mct_circuit.proofs.GateListLemmas.{controls_below, flip_below, swap_below}
 use Rattle.circuit_sim.proofs.LaneLemmas.{vector_at, flip_mapped_in_lanes, swap_mapped_in_lanes}
 use Rattle.circuit_sim.proofs.lanes.run_gate.Goals as goal
 

@@ -1,6 +1,6 @@
 use Rattle.std.proofs.Common.{length-set, sym, ◌∙◌}
-use Rattle.mct_circuit.proofs.GateListLemmas.{controls_below}
-use Rattle.circuit_sim.proofs.GateLemmas.{flip_below, swap_below, flip_mapped, swap_mapped}
+use Rattle.mct_circuit.proofs.GateListLemmas.{controls_below, flip_below, swap_below}
+use Rattle.circuit_sim.proofs.GateLemmas.{flip_mapped, swap_mapped}
 use Rattle.circuit_sim.proofs.planes.run_gate.Goals as goal
 
 pub mask-met-requires : goal.mask-met-requires

@@ -1,4 +1,3 @@
-use Rattle.revc_base.proofs.ResultLemmas.{no_value}
 use Rattle.mct_circuit.proofs.ReversalLemmas.{copied_more}
 use Rattle.mct_circuit.proofs.circuit.reversed_copies.Goals as goal
 
