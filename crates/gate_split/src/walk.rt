@@ -9,7 +9,7 @@ use crate::fault::SplitFault;
 use crate::idle::LineMarks;
 use crate::piece::push_piece;
 use circuit_plans::Narrow;
-use mct_circuit::{Circuit, Gate};
+use mct_circuit::{Circuit, Gate, GateFault};
 use revc_base::Memory;
 use std::alloc::Global;
 
@@ -37,10 +37,11 @@ pub fn split(alloc: Global, circuit: &Circuit, lines: u32, limit: u64) -> Result
     decide(circuit, lines, limit)?;
     let mut gates = split_gates(alloc, circuit.gates(), lines)?;
     let mut narrow = Circuit::new(alloc, lines, limit);
-    if narrow.append(&mut gates).is_err() {
-        return Err(SplitFault::Memory);
+    match narrow.append(&mut gates) {
+        Ok(()) => Ok(Narrow::new(narrow)),
+        Err(GateFault::Full) => unreachable!(),
+        Err(GateFault::Memory) => Err(SplitFault::Memory),
     }
-    Ok(Narrow::new(narrow))
 }
 
 // The gates in place of each of these, one list behind the other.

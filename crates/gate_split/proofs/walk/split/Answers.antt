@@ -1,10 +1,9 @@
-use Rattle.std.proofs.Common.{◌≡◌, ◌++◌, false, List, Result, Ok, Err, ap, sym, subst, ◌∙◌}
-use Rattle.std.specs.Result.{OnOk, is_err}
+use Rattle.std.proofs.Common.{◌≡◌, ◌++◌, List, ap, sym, subst, ◌∙◌}
 use Rattle.mct_circuit.specs.Gates.{AreGatesOn, AreNarrow, CircuitView, GateView, line_map}
 use Rattle.gate_split.proofs.NegativeLemmas.{DoesAll, split_gates_do}
 use Rattle.gate_split.proofs.WalkLemmas.{on_more}
 use Rattle.gate_split.proofs.walk.split.Goals as goal
-use Rattle.gate_split.proofs.walk.split.Goals.{After-new-narrow, Else-is_err}
+use Rattle.gate_split.proofs.walk.split.Goals.{After-new-narrow, In-Ok}
 
 -- what the gates that were made do
 does : (c : After-new-narrow) → DoesAll c.args.lines c.args.circuit.now.gates c.in_ok-gates.gates.items
@@ -12,14 +11,10 @@ does c = split_gates_do c.args.lines c.args.circuit.now.gates c.in_ok-gates.gate
     (on_more c.args.circuit.now.lines c.args.lines c.args.circuit.now.gates c.requires c.gates.ensures.placed)
     (rw c.gates.ensures.gates at c.in_ok-gates.ensures)
 
-was_ok : {T E P : Type 0} (r : Result T E) → is_err r ≡ false → OnOk r P → P
-was_ok (Ok x) e p = p
-was_ok (Err fault) e p = absurd (cc)
-
 -- the circuit's gates are those that were made
-gates_are : (c : Else-is_err) → c.append.new.self.gates ≡ c.in_ok-gates.gates.items
+gates_are : (c : In-Ok) → c.append.new.self.gates ≡ c.in_ok-gates.gates.items
 gates_are c =
-    ap (λ (v : CircuitView). v.gates) (was_ok c.append.result (sym c.is_err.ensures.value ∙ c.if-is_err.false) c.append.ensures.ok)
+    ap (λ (v : CircuitView). v.gates) (rw c.in-Ok.is at c.append.ensures.ok)
     ∙ ap (λ (v : CircuitView). v.gates ++ c.in_ok-gates.gates.items) c.new-narrow.ensures
 
 pub split_gates-requires-clause-placed : goal.split_gates-requires-clause-placed
@@ -33,10 +28,10 @@ append-requires c =
 
 pub new-requires : goal.new-requires
 new-requires c =
-    subst AreNarrow (sym (gates_are (goal.at.new-requires c).Else-is_err)) (does (goal.at.new-requires c).After-new-narrow).narrow
+    subst AreNarrow (sym (gates_are (goal.at.new-requires c).In-Ok)) (does (goal.at.new-requires c).After-new-narrow).narrow
 
-pub returns-clause-map : goal.returns-clause-map
-returns-clause-map c = λ bits long.
+pub returns-in-Ok-clause-map : goal.returns-in-Ok-clause-map
+returns-in-Ok-clause-map c = λ bits long.
     ap (λ (v : CircuitView). line_map v.gates bits) c.new.ensures
-    ∙ ap (λ (gs : List GateView). line_map gs bits) (gates_are (goal.at.returns-clause-map c).Else-is_err)
-    ∙ (does (goal.at.returns-clause-map c).After-new-narrow).effect bits long
+    ∙ ap (λ (gs : List GateView). line_map gs bits) (gates_are (goal.at.returns-in-Ok-clause-map c).In-Ok)
+    ∙ (does (goal.at.returns-in-Ok-clause-map c).After-new-narrow).effect bits long
