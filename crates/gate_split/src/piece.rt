@@ -7,18 +7,13 @@ ghost use Rattle.gate_split.specs.Split.{behind};
 
 use crate::idle::LineMarks;
 use crate::narrow::is_narrow;
-use crate::wide::{push_copy, push_one_flip, push_positive};
+use crate::wide::{Flip, push_copy, push_one_flip, push_positive};
 use mct_circuit::{Control, Gate, Op};
 use revc_base::Memory;
 use std::alloc::Global;
 
 // Appends the gates in place of a gate, of which there are some. A narrow gate is copied at once.
-pub fn push_piece(
-    alloc: Global,
-    gates: &mut Vec<Gate>,
-    gate: &Gate,
-    marks: &mut LineMarks,
-) -> Result<(), Memory>
+pub fn push_piece(gates: &mut Vec<Gate>, gate: &Gate, marks: &mut LineMarks) -> Result<(), Memory>
     requires gate { IsGateOn marks.old gate.now }
     requires some { split_gate marks.old gate.now ≢ None }
     ensures split { OnOk result (behind gates.old.items (split_gate marks.old gate.now)
@@ -29,19 +24,22 @@ pub fn push_piece(
         return push_copy(gates, gate);
     }
     let controls = gate.controls();
-    let mut lines = lines_of(alloc, controls)?;
+    let mut lines = lines_of(*gates.allocator(), controls)?;
     match gate.op() {
-        Op::Flip(target) => push_flip(alloc, gates, controls, &lines, target, marks),
-        Op::Swap(first, second) => {
-            push_swap(alloc, gates, controls, &mut lines, first, second, marks)
+        Op::Flip(target) => {
+            let flip = Flip {
+                controls: &lines,
+                target,
+            };
+            push_flip(gates, controls, flip, marks)
         }
+        Op::Swap(first, second) => push_swap(gates, controls, &mut lines, first, second, marks),
     }
 }
 
 // Appends the gates in place of a swap of two lines where all lines of `lines` are 1: a flip of the
 // second by the first, between flips of the first by the second.
 fn push_swap(
-    alloc: Global,
     gates: &mut Vec<Gate>,
     controls: &[Control],
     lines: &mut Vec<u32>,
@@ -59,42 +57,44 @@ fn push_swap(
     ensures same { marks.new ≡ marks.old }
 {
     lines.push(first)?;
-    push_one_flip(alloc, gates, &[second], first)?;
-    push_flip(alloc, gates, controls, lines, second, marks)?;
-    push_one_flip(alloc, gates, &[second], first)
+    let flip = Flip {
+        controls: lines,
+        target: second,
+    };
+    push_one_flip(gates, &[second], first)?;
+    push_flip(gates, controls, flip, marks)?;
+    push_one_flip(gates, &[second], first)
 }
 
-// Appends the gates in place of a flip where all lines of `lines` are 1, between flips of the lines
-// of negative controls.
+// Appends the gates in place of a flip, between flips of the lines of negative controls.
 fn push_flip(
-    alloc: Global,
     gates: &mut Vec<Gate>,
     controls: &[Control],
-    lines: &[u32],
-    target: u32,
+    flip: Flip,
     marks: &mut LineMarks,
 ) -> Result<(), Memory>
-    requires gate { IsGateOn marks.old (flip_of lines.now target) }
-    requires some { split_positive marks.old lines.now target ≢ None }
+    requires gate { IsGateOn marks.old (flip_of flip.controls.now flip.target) }
+    requires some { split_positive marks.old flip.controls.now flip.target ≢ None }
     ensures split { OnOk result (behind gates.old.items
-        (between (flips_of_negatives controls.now) (split_positive marks.old lines.now target))
+        (between (flips_of_negatives controls.now)
+        (split_positive marks.old flip.entry.controls.now flip.entry.target))
         ≡ Some gates.new.items) }
     ensures same { marks.new ≡ marks.old }
 {
-    push_negatives(alloc, gates, controls)?;
-    push_positive(alloc, gates, lines, target, marks)?;
-    push_negatives(alloc, gates, controls)
+    push_negatives(gates, controls)?;
+    push_positive(gates, flip, marks)?;
+    push_negatives(gates, controls)
 }
 
 // Appends a flip of each line of a negative control.
-fn push_negatives(alloc: Global, gates: &mut Vec<Gate>, controls: &[Control]) -> Result<(), Memory>
+fn push_negatives(gates: &mut Vec<Gate>, controls: &[Control]) -> Result<(), Memory>
     ensures { OnOk result (gates.new.items ≡ gates.old.items ++ flips_of_negatives controls.now) }
 {
     for control in controls {
         if control.positive {
             continue;
         }
-        push_one_flip(alloc, gates, &[], control.line)?;
+        push_one_flip(gates, &[], control.line)?;
     }
     Ok(())
 }

@@ -53,7 +53,7 @@ fn split_gates(alloc: Global, gates: &[Gate], lines: u32) -> Result<Vec<Gate>, M
     let mut marks = LineMarks::new(alloc, lines)?;
     let mut split = Vec::new(alloc);
     for gate in gates {
-        push_piece(alloc, &mut split, gate, &mut marks)?;
+        push_piece(&mut split, gate, &mut marks)?;
     }
     Ok(split)
 }

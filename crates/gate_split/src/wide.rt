@@ -16,115 +16,119 @@ use mct_circuit::Gate;
 use revc_base::Memory;
 use std::alloc::Global;
 
-// Appends the gates in place of a flip under positive controls, of which there are some.
-pub fn push_positive(
-    alloc: Global,
-    gates: &mut Vec<Gate>,
-    controls: &[u32],
-    target: u32,
-    marks: &mut LineMarks,
-) -> Result<(), Memory>
-    requires gate { IsGateOn marks.old (flip_of controls.now target) }
-    requires some { split_positive marks.old controls.now target ≢ None }
+// A flip of one line under positive controls.
+#[derive(Clone, Copy)]
+pub struct Flip<'a> {
+    pub controls: &'a [u32],
+    pub target: u32,
+}
+
+// Appends the gates in place of a flip, of which there are some.
+pub fn push_positive(gates: &mut Vec<Gate>, flip: Flip, marks: &mut LineMarks) -> Result<(), Memory>
+    requires gate { IsGateOn marks.old (flip_of flip.controls.now flip.target) }
+    requires some { split_positive marks.old flip.controls.now flip.target ≢ None }
     ensures split { OnOk result (behind gates.old.items
-        (split_positive marks.old controls.now target) ≡ Some gates.new.items) }
+        (split_positive marks.old flip.entry.controls.now flip.entry.target)
+        ≡ Some gates.new.items) }
     ensures same { marks.new ≡ marks.old }
 {
+    let Flip { controls, target } = flip;
     if controls.len() <= 2 {
-        return push_one_flip(alloc, gates, controls, target);
+        return push_one_flip(gates, controls, target);
     }
     let idle = marks.falling_lines(controls, &[target], false, controls.len() - 2)?;
-    push_wide(alloc, gates, controls, target, &idle, marks)
+    push_wide(gates, flip, &idle, marks)
 }
 
 // Appends one flip under positive controls.
-pub fn push_one_flip(
-    alloc: Global,
-    gates: &mut Vec<Gate>,
-    controls: &[u32],
-    target: u32,
-) -> Result<(), Memory>
+pub fn push_one_flip(gates: &mut Vec<Gate>, controls: &[u32], target: u32) -> Result<(), Memory>
     requires { AreDifferent (controls.now ++ target ∷ []) }
     ensures { OnOk result (gates.new.items ≡ gates.old.items ++ flip_of controls.now target ∷ []) }
 {
+    let alloc = *gates.allocator();
     let flip = Gate::flip(alloc, controls, target)?;
     gates.push(flip)?;
     Ok(())
 }
 
-// Appends the gates in place of a flip under three or more positive controls, of which these are
-// the first idle lines. Over too few of them it is the flips of both halves, twice.
+// Appends the gates in place of a flip under three or more controls, of which these are the first
+// idle lines. Over too few of them it is the flips of both halves, twice.
 fn push_wide(
-    alloc: Global,
     gates: &mut Vec<Gate>,
-    controls: &[u32],
-    target: u32,
+    flip: Flip,
     idle: &[u32],
     marks: &mut LineMarks,
 ) -> Result<(), Memory>
-    requires gate { IsGateOn marks.old (flip_of controls.now target) }
-    requires some { split_positive marks.old controls.now target ≢ None }
-    requires wide { 2 < length controls.now }
-    requires found { idle.now ≡ take (length controls.now - 2)
-        (idle_lines marks.old (controls.now ++ target ∷ [])) }
+    requires gate { IsGateOn marks.old (flip_of flip.controls.now flip.target) }
+    requires some { split_positive marks.old flip.controls.now flip.target ≢ None }
+    requires wide { 2 < length flip.controls.now }
+    requires found { idle.now ≡ take (length flip.controls.now - 2)
+        (idle_lines marks.old (flip.controls.now ++ flip.target ∷ [])) }
     ensures split { OnOk result (behind gates.old.items
-        (split_positive marks.old controls.now target) ≡ Some gates.new.items) }
+        (split_positive marks.old flip.entry.controls.now flip.entry.target)
+        ≡ Some gates.new.items) }
     ensures same { marks.new ≡ marks.old }
 {
-    if idle.len() == controls.len() - 2 {
-        return push_over_idle(alloc, gates, controls, target, idle);
+    if idle.len() == flip.controls.len() - 2 {
+        return push_over_idle(gates, flip, idle);
     }
-    let mut once = Vec::new(alloc);
-    push_halves(alloc, &mut once, controls, target, idle[0], marks)?;
+    let mut once = Vec::new(*gates.allocator());
+    push_halves(&mut once, flip, idle[0], marks)?;
     append_twice(gates, &mut once)
 }
 
 // Appends the flip of the target by the second half and the idle line, and the flip of the idle
 // line by the first half.
 fn push_halves(
-    alloc: Global,
     gates: &mut Vec<Gate>,
-    controls: &[u32],
-    target: u32,
+    flip: Flip,
     idle: u32,
     marks: &mut LineMarks,
 ) -> Result<(), Memory>
-    requires gate { IsGateOn marks.old (flip_of controls.now target) }
-    requires four { 4 ≤ length controls.now }
+    requires gate { IsGateOn marks.old (flip_of flip.controls.now flip.target) }
+    requires four { 4 ≤ length flip.controls.now }
     requires below { idle < marks.old }
-    requires apart { Avoids idle (controls.now ++ target ∷ []) }
+    requires apart { Avoids idle (flip.controls.now ++ flip.target ∷ []) }
     ensures made { OnOk result (gates.new.items ≡ gates.old.items
-        ++ (second_flips marks.old controls.now target idle
-        ++ first_flips marks.old controls.now target idle)) }
+        ++ (second_flips marks.old flip.entry.controls.now flip.entry.target idle
+        ++ first_flips marks.old flip.entry.controls.now flip.entry.target idle)) }
     ensures same { marks.new ≡ marks.old }
 {
+    let Flip { controls, target } = flip;
     let (first, second) = controls.split_at(controls.len() - controls.len() / 2);
-    let with_idle = with_line(alloc, second, idle)?;
-    push_among(alloc, gates, &with_idle, target, first, &[], marks)?;
-    push_among(alloc, gates, first, idle, second, &[target], marks)
+    let with_idle = with_line(*gates.allocator(), second, idle)?;
+    let upper = Flip {
+        controls: &with_idle,
+        target,
+    };
+    let lower = Flip {
+        controls: first,
+        target: idle,
+    };
+    push_among(gates, upper, first, &[], marks)?;
+    push_among(gates, lower, second, &[target], marks)
 }
 
 // Appends a flip over lines that are among those of `front` and `back`.
 fn push_among(
-    alloc: Global,
     gates: &mut Vec<Gate>,
-    controls: &[u32],
-    target: u32,
+    flip: Flip,
     front: &[u32],
     back: &[u32],
     marks: &mut LineMarks,
 ) -> Result<(), Memory>
     requires below { AllByRecursion (λ line. line < marks.old) (front.now ++ back.now) }
-    requires serves { Serves marks.old controls.now target
+    requires serves { Serves marks.old flip.controls.now flip.target
         (in_falling_order marks.old (front.now ++ back.now)) }
-    requires enough { length controls.now
+    requires enough { length flip.controls.now
         ≤ length (in_falling_order marks.old (front.now ++ back.now)) + 2 }
-    ensures made { OnOk result (gates.new.items ≡ gates.old.items ++ with_enough_idle controls.now
-        target (in_falling_order marks.old (front.now ++ back.now))) }
+    ensures made { OnOk result (gates.new.items ≡ gates.old.items
+        ++ with_enough_idle flip.entry.controls.now flip.entry.target
+        (in_falling_order marks.old (front.now ++ back.now))) }
     ensures same { marks.new ≡ marks.old }
 {
-    let idle = marks.falling_lines(front, back, true, controls.len())?;
-    push_enough(alloc, gates, controls, target, &idle)
+    let idle = marks.falling_lines(front, back, true, flip.controls.len())?;
+    push_enough(gates, flip, &idle)
 }
 
 // Appends the gates twice, and leaves `once` empty.
@@ -138,61 +142,51 @@ fn append_twice(gates: &mut Vec<Gate>, once: &mut Vec<Gate>) -> Result<(), Memor
 }
 
 // Appends a flip that has two idle lines less than controls, or more.
-fn push_enough(
-    alloc: Global,
-    gates: &mut Vec<Gate>,
-    controls: &[u32],
-    target: u32,
-    idle: &[u32],
-) -> Result<(), Memory>
-    requires serves { (n : ℕ) × Serves n controls.now target idle.now }
-    requires enough { length controls.now ≤ length idle.now + 2 }
+fn push_enough(gates: &mut Vec<Gate>, flip: Flip, idle: &[u32]) -> Result<(), Memory>
+    requires serves { (n : ℕ) × Serves n flip.controls.now flip.target idle.now }
+    requires enough { length flip.controls.now ≤ length idle.now + 2 }
     ensures { OnOk result (gates.new.items ≡ gates.old.items
-        ++ with_enough_idle controls.now target idle.now) }
+        ++ with_enough_idle flip.entry.controls.now flip.entry.target idle.now) }
 {
+    let Flip { controls, target } = flip;
     if controls.len() <= 2 {
-        return push_one_flip(alloc, gates, controls, target);
+        return push_one_flip(gates, controls, target);
     }
-    push_over_idle(alloc, gates, controls, target, &idle[..controls.len() - 2])
+    push_over_idle(gates, flip, &idle[..controls.len() - 2])
 }
 
 // Appends a flip that has two idle lines less than controls.
-fn push_over_idle(
-    alloc: Global,
-    gates: &mut Vec<Gate>,
-    controls: &[u32],
-    target: u32,
-    idle: &[u32],
-) -> Result<(), Memory>
-    requires long { length controls.now ≡ length idle.now + 2 }
+fn push_over_idle(gates: &mut Vec<Gate>, flip: Flip, idle: &[u32]) -> Result<(), Memory>
+    requires long { length flip.controls.now ≡ length idle.now + 2 }
     requires different { AllByRecursion HasDifferentLines
-        (ladder target (reverse controls.now) (reverse idle.now)) }
+        (ladder flip.target (reverse flip.controls.now) (reverse idle.now)) }
     ensures { OnOk result (gates.new.items ≡ gates.old.items
-        ++ over_idle_lines controls.now target idle.now) }
+        ++ over_idle_lines flip.entry.controls.now flip.entry.target idle.now) }
 {
-    let rungs = rungs(alloc, controls, target, idle)?;
+    let rungs = rungs(*gates.allocator(), flip, idle)?;
     let (_, lower) = rungs.split_at(1);
     push_there_and_back(gates, &rungs)?;
     push_there_and_back(gates, lower)
 }
 
 // The flips from the target down to the first idle line.
-fn rungs(alloc: Global, controls: &[u32], target: u32, idle: &[u32]) -> Result<Vec<Gate>, Memory>
-    requires long { length controls.now ≡ length idle.now + 2 }
+fn rungs(alloc: Global, flip: Flip, idle: &[u32]) -> Result<Vec<Gate>, Memory>
+    requires long { length flip.controls.now ≡ length idle.now + 2 }
     requires different { AllByRecursion HasDifferentLines
-        (ladder target (reverse controls.now) (reverse idle.now)) }
+        (ladder flip.target (reverse flip.controls.now) (reverse idle.now)) }
     ensures { IfOk result (λ rungs. rungs.items
-        ≡ ladder target (reverse controls.now) (reverse idle.now)) }
+        ≡ ladder flip.entry.target (reverse flip.entry.controls.now) (reverse idle.now)) }
 {
+    let Flip { controls, target } = flip;
     let mut rungs = Vec::with_capacity(alloc, idle.len())?;
     let mut top = target;
     let mut i = idle.len();
     while i > 0 {
         i -= 1;
-        push_one_flip(alloc, &mut rungs, &[controls[i + 2], idle[i]], top)?;
+        push_one_flip(&mut rungs, &[controls[i + 2], idle[i]], top)?;
         top = idle[i];
     }
-    push_one_flip(alloc, &mut rungs, &controls[..2], top)?;
+    push_one_flip(&mut rungs, &controls[..2], top)?;
     Ok(rungs)
 }
 

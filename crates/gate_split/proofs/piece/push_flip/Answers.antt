@@ -9,7 +9,7 @@ push_positive-requires-clause-gate c = c.requires.gate
 
 pub returns-clause-split : goal.returns-clause-split
 returns-clause-split c =
-    let inner = split_positive c.args.marks.now c.args.lines.now c.args.target in
+    let inner = split_positive c.args.marks.now c.args.flip.controls.now c.args.flip.target in
     on_ok_weaker c.push_negatives-2.result (λ e. surrounded_piece c.args.gates.now.items (flips_of_negatives c.args.controls.now)
     c.push_negatives.new.gates.items c.push_positive.new.gates.items (between (flips_of_negatives c.args.controls.now) inner) inner refl
     c.in_ok-push_negatives.ensures c.in_ok-push_positive.ensures.split ∙ ap Some (sym e)) c.push_negatives-2.ensures

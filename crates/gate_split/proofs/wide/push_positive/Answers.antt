@@ -6,15 +6,15 @@ use Rattle.gate_split.proofs.PieceLemmas.{few_stay}
 use Rattle.gate_split.proofs.wide.push_positive.Goals as goal
 
 pub push_one_flip-requires : goal.push_one_flip-requires
-push_one_flip-requires c = different_of c.args.marks.now c.args.controls.now c.args.target c.requires.gate
+push_one_flip-requires c = different_of c.args.marks.now c.args.flip.controls.now c.args.flip.target c.requires.gate
 
 pub returns-then-controls-le2-clause-split : goal.returns-then-controls-le2-clause-split
 returns-then-controls-le2-clause-split c =
     on_ok_weaker c.push_one_flip.result (λ e. ap (behind c.args.gates.now.items)
-    (few_stay c.args.marks.now c.args.controls.now c.args.target c.if-controls-le2.true) ∙ ap Some (sym e)) c.push_one_flip.ensures
+    (few_stay c.args.marks.now c.args.flip.controls.now c.args.flip.target c.if-controls-le2.true) ∙ ap Some (sym e)) c.push_one_flip.ensures
 
 pub falling_lines-requires : goal.falling_lines-requires
-falling_lines-requires c = below_of c.args.marks.now c.args.controls.now c.args.target c.requires.gate
+falling_lines-requires c = below_of c.args.marks.now c.args.flip.controls.now c.args.flip.target c.requires.gate
 
 pub push_wide-requires-clause-gate : goal.push_wide-requires-clause-gate
 push_wide-requires-clause-gate c = rw c.falling_lines.ensures.same c.requires.gate
