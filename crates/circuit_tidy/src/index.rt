@@ -8,7 +8,7 @@ ghost use Rattle.circuit_tidy.specs.Flips.{are_free, gate_of, lines_in};
 ghost use Rattle.list_facts.specs.Lists.{AreDifferent};
 ghost use Rattle.circuit_tidy.specs.inside.Index.{ArePushed, FindsLast, HasNoPartner, HoldLikes};
 ghost use Rattle.circuit_tidy.specs.inside.Index.{IsBehindLast, IsIndex, IsPartner, IsPut};
-ghost use Rattle.circuit_tidy.specs.inside.Index.{KeepsSlots, contents, flips_in};
+ghost use Rattle.circuit_tidy.specs.inside.Index.{KeepsSlots, contents, flips_in, has_target};
 ghost use Rattle.circuit_tidy.specs.inside.Index.{is_like_in, places_at, slot_at};
 ghost use Rattle.circuit_tidy.specs.inside.Settling.{with_flips};
 
@@ -88,15 +88,25 @@ impl Index {
         match flip.controls {
             Controls::Zero => as_control,
             Controls::One(one) => {
-                let as_target = self.by_target.behind_last(one, &self.slots);
+                let as_target = self.behind_target(lines, one);
                 as_control.max(as_target)
             }
             Controls::Two(first, second) => {
-                let as_first = self.by_target.behind_last(first, &self.slots);
-                let as_second = self.by_target.behind_last(second, &self.slots);
+                let as_first = self.behind_target(lines, first);
+                let as_second = self.behind_target(lines, second);
                 as_control.max(as_first.max(as_second))
             }
         }
+    }
+
+    // One more than the latest place of a flip of this line, or 0.
+    fn behind_target(&mut self, lines: u32, line: u32) -> usize
+        requires index { IsIndex lines self.old }
+        requires line { line < lines }
+        ensures kept { KeepsSlots lines self.old self.new }
+        ensures bound { IsBehindLast self.new.slots.items (has_target line) result }
+    {
+        self.by_target.behind_last(line, &self.slots)
     }
 
     // The shortest list that has the places of all flips like this one: those of its target, or of

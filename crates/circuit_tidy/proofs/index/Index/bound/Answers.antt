@@ -1,8 +1,9 @@
-use Rattle.std.proofs.Common.{◌<◌, ◌∙◌, length, max, sym, ap, refl, arith, subst, not}
+use Rattle.std.proofs.Common.{◌≡◌, ◌<◌, ◌∙◌, List, Option, max, sym, ap, refl, arith, subst, not}
 use Rattle.std.specs.List.{AllByRecursion}
+use Rattle.circuit_tidy.specs.declared.flip.Flip.{Flip}
 use Rattle.circuit_tidy.specs.Flips.{are_free, lines_in}
-use Rattle.circuit_tidy.specs.inside.Index.{IsBehindLast, has_control, has_target}
-use Rattle.circuit_tidy.proofs.IndexLemmas.{Looked, looked_at, indexes_controls, indexes_targets, bound_zero, bound_one, bound_two, lines_of_flip}
+use Rattle.circuit_tidy.specs.inside.Index.{AreIndexes, IsBehindLast, has_control}
+use Rattle.circuit_tidy.proofs.IndexLemmas.{Looked, looked_at, indexes_controls, bound_zero, bound_one, bound_two, lines_of_flip}
 use Rattle.circuit_tidy.proofs.index.Index.bound.Goals as goal
 use Rattle.circuit_tidy.proofs.index.Index.bound.Goals.{After-behind_last-as_control}
 
@@ -15,66 +16,65 @@ control_looked c =
     c.behind_last-as_control.new.self.lists.items c.args.flip.target c.behind_last-as_control.result c.deref.ensures.value
     c.requires.index.of_controls (omega arith) c.behind_last-as_control.ensures.found c.behind_last-as_control.ensures.others
 
+still_index : (c : After-behind_last-as_control) → AreIndexes c.args.lines c.args.self.now.slots.items c.args.self.now.by_target.lists.items
+    c.behind_last-as_control.new.self.lists.items
+still_index c = indexes_controls c.args.lines c.args.self.now.slots.items c.args.self.now.by_target.lists.items c.args.self.now.by_control.lists.items
+    c.behind_last-as_control.new.self.lists.items c.args.flip.target c.behind_last-as_control.result c.requires.index (control_looked c)
+
+-- the slots are still what they were
+behind_controls : (c : After-behind_last-as_control) (slots : List (Option Flip)) → slots ≡ c.args.self.now.slots.items
+    → IsBehindLast slots (has_control c.args.flip.target) c.behind_last-as_control.result
+behind_controls c slots same = rw same (control_looked c).is
+
 pub returns-in-Zero : goal.returns-in-Zero
 returns-in-Zero c =
-    let control = control_looked (goal.at.returns-in-Zero c).After-behind_last-as_control in
+    let control = (goal.at.returns-in-Zero c).After-behind_last-as_control in
     record {
-      kept = record {
-        index = indexes_controls c.args.lines c.args.self.now.slots.items c.args.self.now.by_target.lists.items c.args.self.now.by_control.lists.items
-            c.behind_last-as_control.new.self.lists.items c.args.flip.target c.behind_last-as_control.result c.requires.index control;
-        slots = refl;
-      };
-      bound = bound_zero c.args.self.now.slots.items c.args.flip c.behind_last-as_control.result (sym (ap lines_in c.in-Zero.is)) control.is;
+      kept = record { index = still_index control; slots = refl };
+      bound = bound_zero c.args.self.now.slots.items c.args.flip c.behind_last-as_control.result (sym (ap lines_in c.in-Zero.is)) (control_looked control).is;
     }
+
+pub behind_target-as_target-requires-clause-index : goal.behind_target-as_target-requires-clause-index
+behind_target-as_target-requires-clause-index c = still_index (goal.at.behind_target-as_target-requires-clause-index c).After-behind_last-as_control
+
+pub behind_target-as_target-requires-clause-line : goal.behind_target-as_target-requires-clause-line
+behind_target-as_target-requires-clause-line c =
+    (subst (λ l. AllByRecursion (λ x. x < c.args.lines) (lines_in l)) c.in-One.is (lines_of_flip c.args.lines c.args.flip c.requires.flip).low).0
 
 pub returns-in-One : goal.returns-in-One
 returns-in-One c =
-    let index = c.requires.index in
-    let control = control_looked (goal.at.returns-in-One c).After-behind_last-as_control in
-    let low = subst (λ l. AllByRecursion (λ x. x < c.args.lines) (lines_in l)) c.in-One.is (lines_of_flip c.args.lines c.args.flip c.requires.flip).low in
-    let one : c.in-One.one < length c.args.self.now.by_target.lists.items = let lt = low.0 in let long = index.target_lines in omega arith in
-    let first = looked_at c.args.self.now.slots.items c.deref-in-One.result.now has_target c.args.self.now.by_target.lists.items
-    c.behind_last-as_target.new.self.lists.items c.in-One.one c.behind_last-as_target.result c.deref-in-One.ensures.value index.of_targets one
-    c.behind_last-as_target.ensures.found c.behind_last-as_target.ensures.others in
+    let control = (goal.at.returns-in-One c).After-behind_last-as_control in
+    let slots = c.behind_target-as_target.new.self.slots.items in
+    let kept = c.behind_target-as_target.ensures.kept in
     record {
-      kept = record {
-        index = indexes_targets c.args.lines c.args.self.now.slots.items c.args.self.now.by_target.lists.items c.behind_last-as_control.new.self.lists.items
-            c.behind_last-as_target.new.self.lists.items c.in-One.one c.behind_last-as_target.result
-            (indexes_controls c.args.lines c.args.self.now.slots.items c.args.self.now.by_target.lists.items c.args.self.now.by_control.lists.items
-            c.behind_last-as_control.new.self.lists.items c.args.flip.target c.behind_last-as_control.result index control) first;
-        slots = refl;
-      };
-      bound = subst (IsBehindLast c.args.self.now.slots.items (λ other. not (are_free c.args.flip other))) (sym c.max.ensures)
-          (bound_one c.args.self.now.slots.items c.args.flip c.in-One.one c.behind_last-as_control.result c.behind_last-as_target.result
-          (sym (ap lines_in c.in-One.is)) control.is first.is);
+      kept = record { index = kept.index; slots = kept.slots };
+      bound = subst (IsBehindLast slots (λ other. not (are_free c.args.flip other))) (sym c.max.ensures)
+          (bound_one slots c.args.flip c.in-One.one c.behind_last-as_control.result c.behind_target-as_target.result
+          (sym (ap lines_in c.in-One.is)) (behind_controls control slots kept.slots) c.behind_target-as_target.ensures.bound);
     }
+
+pub behind_target-as_first-requires-clause-index : goal.behind_target-as_first-requires-clause-index
+behind_target-as_first-requires-clause-index c = still_index (goal.at.behind_target-as_first-requires-clause-index c).After-behind_last-as_control
+
+pub behind_target-as_first-requires-clause-line : goal.behind_target-as_first-requires-clause-line
+behind_target-as_first-requires-clause-line c =
+    (subst (λ l. AllByRecursion (λ x. x < c.args.lines) (lines_in l)) c.in-Two.is (lines_of_flip c.args.lines c.args.flip c.requires.flip).low).0
+
+pub behind_target-as_second-requires-clause-line : goal.behind_target-as_second-requires-clause-line
+behind_target-as_second-requires-clause-line c =
+    (subst (λ l. AllByRecursion (λ x. x < c.args.lines) (lines_in l)) c.in-Two.is (lines_of_flip c.args.lines c.args.flip c.requires.flip).low).1.0
 
 pub returns-in-Two : goal.returns-in-Two
 returns-in-Two c =
-    let index = c.requires.index in
-    let control = control_looked (goal.at.returns-in-Two c).After-behind_last-as_control in
-    let low = subst (λ l. AllByRecursion (λ x. x < c.args.lines) (lines_in l)) c.in-Two.is (lines_of_flip c.args.lines c.args.flip c.requires.flip).low in
-    let one : c.in-Two.first < length c.args.self.now.by_target.lists.items = let lt = low.0 in let long = index.target_lines in omega arith in
-    let first = looked_at c.args.self.now.slots.items c.deref-in-Two.result.now has_target c.args.self.now.by_target.lists.items
-    c.behind_last-as_first.new.self.lists.items c.in-Two.first c.behind_last-as_first.result c.deref-in-Two.ensures.value index.of_targets one
-    c.behind_last-as_first.ensures.found c.behind_last-as_first.ensures.others in
-    let two : c.in-Two.second < length c.behind_last-as_first.new.self.lists.items =
-    let lt = low.1.0 in let long = index.target_lines in let same = first.long in omega arith in
-    let second = looked_at c.args.self.now.slots.items c.deref-in-Two-2.result.now has_target c.behind_last-as_first.new.self.lists.items
-    c.behind_last-as_second.new.self.lists.items c.in-Two.second c.behind_last-as_second.result c.deref-in-Two-2.ensures.value first.indexed two
-    c.behind_last-as_second.ensures.found c.behind_last-as_second.ensures.others in
+    let control = (goal.at.returns-in-Two c).After-behind_last-as_control in
+    let slots = c.behind_target-as_second.new.self.slots.items in
+    let kept = c.behind_target-as_second.ensures.kept in
+    let same = kept.slots ∙ c.behind_target-as_first.ensures.kept.slots in
     record {
-      kept = record {
-        index = indexes_targets c.args.lines c.args.self.now.slots.items c.behind_last-as_first.new.self.lists.items
-            c.behind_last-as_control.new.self.lists.items c.behind_last-as_second.new.self.lists.items c.in-Two.second c.behind_last-as_second.result
-            (indexes_targets c.args.lines c.args.self.now.slots.items c.args.self.now.by_target.lists.items c.behind_last-as_control.new.self.lists.items
-            c.behind_last-as_first.new.self.lists.items c.in-Two.first c.behind_last-as_first.result
-            (indexes_controls c.args.lines c.args.self.now.slots.items c.args.self.now.by_target.lists.items c.args.self.now.by_control.lists.items
-            c.behind_last-as_control.new.self.lists.items c.args.flip.target c.behind_last-as_control.result index control) first) second;
-        slots = refl;
-      };
-      bound = subst (IsBehindLast c.args.self.now.slots.items (λ other. not (are_free c.args.flip other)))
+      kept = record { index = kept.index; slots = same };
+      bound = subst (IsBehindLast slots (λ other. not (are_free c.args.flip other)))
           (sym (c.max-in-Two-2.ensures ∙ ap (max c.behind_last-as_control.result) c.max-in-Two.ensures))
-          (bound_two c.args.self.now.slots.items c.args.flip c.in-Two.first c.in-Two.second c.behind_last-as_control.result c.behind_last-as_first.result
-          c.behind_last-as_second.result (sym (ap lines_in c.in-Two.is)) control.is first.is second.is);
+          (bound_two slots c.args.flip c.in-Two.first c.in-Two.second c.behind_last-as_control.result c.behind_target-as_first.result
+          c.behind_target-as_second.result (sym (ap lines_in c.in-Two.is)) (behind_controls control slots same)
+          (rw kept.slots c.behind_target-as_first.ensures.bound) c.behind_target-as_second.ensures.bound);
     }
