@@ -4,8 +4,9 @@ use Rattle.std.proofs.Common.{refl, subst, inl, inr}
 use mir.Val.{bool_byte}
 use Rattle.std.specs.List.{AllByRecursion, list_any, IsDistinct, count_by}
 use Rattle.std.specs.List.{sum_by}
-use Rattle.std.proofs.lemmas.List.{length-map, reverse-append}
-use Rattle.std.proofs.lemmas.List.Sums.{count_by_more_yes, count_by_more_no, sum_by-cons, sum_by_push}
+use Rattle.std.proofs.lemmas.List.{length-map}
+use Rattle.std.proofs.lemmas.List.Sums.{count_by_more_yes, count_by_more_no, sum_by-cons}
+use Rattle.std.proofs.lemmas.List.Sorted.{IsPermutation-reverse, sum_by-IsPermutation}
 use Rattle.std.proofs.lemmas.Bool.{cases_lt, le-leb, lt-leb, ne_eqb}
 use Rattle.std.proofs.lemmas.Bool.Decides.{eqb_tells}
 use Rattle.std.proofs.lemmas.Map.Steps.{length-le_from_distinct_below}
@@ -85,9 +86,4 @@ length-le-weight (gate ∷ gates) =
 
 -- a reversed list weighs the same
 pub weight-reverse : (gates : List GateView) → sum_by weight_of (reverse gates) ≡ sum_by weight_of gates
-weight-reverse [] = refl
-weight-reverse (gate ∷ gates) =
-    let rest = weight-reverse gates in
-    let push = sum_by_push weight_of (reverse gates) gate in
-    let cons = sum_by-cons weight_of gate gates in
-    rw (reverse-append (gate ∷ []) gates) (omega (arith, rest, push, cons))
+weight-reverse gates = sum_by-IsPermutation weight_of gates (reverse gates) (IsPermutation-reverse gates)
