@@ -41,14 +41,8 @@ fn node_number(diagram: &mut Diagram, bits: &[Dd], nodes: &[Dd], node: Node) -> 
             let always = diagram.truth(true);
             diagram.xor(base_number(bits, nodes, a), always)
         }
-        Node::Xor(a, b) => {
-            let (f, g) = (base_number(bits, nodes, a), base_number(bits, nodes, b));
-            diagram.xor(f, g)
-        }
-        Node::And(a, b) => {
-            let (f, g) = (base_number(bits, nodes, a), base_number(bits, nodes, b));
-            diagram.and(f, g)
-        }
+        Node::Xor(a, b) => diagram.xor(base_number(bits, nodes, a), base_number(bits, nodes, b)),
+        Node::And(a, b) => diagram.and(base_number(bits, nodes, a), base_number(bits, nodes, b)),
     }
 }
 

@@ -14,14 +14,14 @@ pub returns-in-Xor : goal.returns-in-Xor
 returns-in-Xor c =
     let x = c.in-Xor.a in let y = c.in-Xor.b in
     let known = subst (IsKnownNode (length c.args.bits.now) (length c.args.nodes.now)) c.in-Xor.is c.requires.known in
-    two_made xor c.args.bits.now c.args.nodes.now x y (Xor x y) c.args.node c.base_number-f.result c.base_number-g.result c.args.diagram.now
-    c.xor-in-Xor.new.self c.xor-in-Xor.result c.in-Xor.is c.base_number-f.ensures c.base_number-g.ensures
+    two_made xor c.args.bits.now c.args.nodes.now x y (Xor x y) c.args.node c.base_number-in-Xor.result c.base_number-in-Xor-2.result c.args.diagram.now
+    c.xor-in-Xor.new.self c.xor-in-Xor.result c.in-Xor.is c.base_number-in-Xor.ensures c.base_number-in-Xor-2.ensures
     (xor_is c.args.diagram.now.nodes c.args.bits.now c.args.nodes.now x y known.0 known.1) c.xor-in-Xor.ensures
 
 pub returns-in-And : goal.returns-in-And
 returns-in-And c =
     let x = c.in-And.a in let y = c.in-And.b in
     let known = subst (IsKnownNode (length c.args.bits.now) (length c.args.nodes.now)) c.in-And.is c.requires.known in
-    two_made (λ a b. a && b) c.args.bits.now c.args.nodes.now x y (And x y) c.args.node c.base_number-f-in-And.result c.base_number-g-in-And.result
-    c.args.diagram.now c.and.new.self c.and.result c.in-And.is c.base_number-f-in-And.ensures c.base_number-g-in-And.ensures
+    two_made (λ a b. a && b) c.args.bits.now c.args.nodes.now x y (And x y) c.args.node c.base_number-in-And.result c.base_number-in-And-2.result
+    c.args.diagram.now c.and.new.self c.and.result c.in-And.is c.base_number-in-And.ensures c.base_number-in-And-2.ensures
     (and_is c.args.diagram.now.nodes c.args.bits.now c.args.nodes.now x y known.0 known.1) c.and.ensures
