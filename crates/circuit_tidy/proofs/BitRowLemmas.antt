@@ -8,7 +8,7 @@ use Rattle.std.specs.Result.{OnOk}
 use Rattle.std.proofs.lemmas.Result.{on_ok_weaker}
 use Rattle.std.proofs.lemmas.Bool.{cases_Bool, cases_eq, eq-eqb, ne_eqb}
 use Rattle.std.proofs.lemmas.List.{append_assoc, append-nil, drop_more, drop_all, get_or-set_same, get_or-set_other, get_or_append_left, get_or_push}
-use Rattle.std.proofs.lemmas.List.{length-set, map-append, map_more, reverse-append, take_more, take_all}
+use Rattle.std.proofs.lemmas.List.{get_or_read, length-set, map-append, map_more, reverse-append, take_more, take_all}
 use Rattle.std.proofs.lemmas.List.Elements.{filter-append}
 use Rattle.std.proofs.lemmas.Nat.{one_shl}
 use Rattle.std.proofs.lemmas.Nat.Bits.{bit_at_xor, bit_at-lt, bit_at-pow_same, bit_at-pow_other}
@@ -32,6 +32,11 @@ bit-power place other = elim (cases_eq other place) [
   | inl e ↦ ap (λ p. bit_at_place p (2 ^ place)) e ∙ ap (λ (x : ℕ). x == 1) (bit_at-pow_same place) ∙ sym (eq-eqb place other (sym e))
   | inr ne ↦ ap (λ (x : ℕ). x == 1) (bit_at-pow_other place other ne) ∙ sym (ne_eqb place other (λ e. ne (sym e)))
 ]
+
+-- a bit of a word that was read
+pub read_bit : (words : List ℕ) (place column read : ℕ) (b : Bool) → b ≡ bit_at_place column read → place < length words → read ≡ get_or words place read
+    → b ≡ bit_at_place column (get_or words place 0)
+read_bit words place column read b e low is = e ∙ ap (bit_at_place column) (get_or_read words place read low is 0)
 
 -- ---- different lines
 
@@ -71,6 +76,7 @@ pub adds_row : (lines old : List ℕ) (from onto value : ℕ) (a : Addition) →
     → value ≡ bit_xor (get_or old onto 0) (get_or old from 0) → a.from ≡ get_or lines from 0 → a.onto ≡ get_or lines onto 0
     → AddsRow lines old (set old onto value) a
 adds_row lines old from onto value a up long lf lo is at_from at_onto = record {
+  long = length-set old onto value;
   holds = λ rows hold. record {
     long = length-set old onto value ∙ long;
     each = λ p q lp lq. elim (cases_eq p onto) as (λ _. bit_at_place q (get_or (set old onto value) p 0) ≡ with_addition rows a (get_or lines p 0)
@@ -103,6 +109,7 @@ one_more_added lines old mid new adds a these this =
 pub noted_nothing : (lines words : List ℕ) (notes : List Flip) (steps : Rows → List Addition) → ((rows : Rows) → HoldRows lines words rows → steps rows ≡ [])
     → IsNoted lines words words notes notes steps
 noted_nothing lines words notes steps none = record {
+  long = refl;
   holds = λ rows hold. subst (HoldRows lines words) (sym (ap (with_additions rows) (none rows hold))) hold;
   notes = λ rows hold. sym (append-nil notes) ∙ sym (ap (λ l. notes ++ map cx l) (none rows hold));
 }
@@ -111,6 +118,7 @@ pub noted_one : (lines old new : List ℕ) (before behind : List Flip) (a : Addi
     → ((rows : Rows) → HoldRows lines old rows → steps rows ≡ a ∷ []) → AddsRow lines old new a → behind ≡ before ++ cx a ∷ []
     → IsNoted lines old new before behind steps
 noted_one lines old new before behind a steps one adds is = record {
+  long = adds.long;
   holds = λ rows hold. subst (HoldRows lines new) (sym (ap (with_additions rows) (one rows hold))) (adds.holds rows hold);
   notes = λ rows hold. is ∙ sym (ap (λ l. before ++ map cx l) (one rows hold));
 }
@@ -188,6 +196,7 @@ pub second_more : (lines old mid new : List ℕ) (before between behind : List F
     → IsNoted lines mid new between behind (λ rows. second_step rows c (get_or lines place 0 ∷ []))
     → IsNoted lines old new before behind (λ rows. second_step rows c (take (place + 1) lines))
 second_more lines old mid new before between behind c place up lt these this = record {
+  long = this.long ∙ these.long;
   holds = λ rows hold.
       let now = with_additions rows (second_step rows c (take place lines)) in
       subst (HoldRows lines new) (sym (ap (with_additions rows) (whole rows)

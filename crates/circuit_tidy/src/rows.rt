@@ -8,12 +8,20 @@ ghost use Rattle.mct_circuit.specs.Sizes.{has_line};
 ghost use Rattle.circuit_tidy.specs.declared.blocks.TheConstants.{MOST_BLOCK_LINES};
 ghost use Rattle.circuit_tidy.specs.Blocks.{addition_of, cx};
 ghost use Rattle.circuit_tidy.specs.Elimination.{eliminated, first_step, second_step};
-ghost use Rattle.circuit_tidy.specs.inside.BitRows.{AddRows, AddsRow, AreOwnWords, IsCxOn, IsNoted};
+ghost use Rattle.circuit_tidy.specs.inside.BitRows.{AddRows, AddsRow, AreOwnWords, AreRowsOf, IsCxOn};
+ghost use Rattle.circuit_tidy.specs.inside.BitRows.{Notes};
 ghost use Rattle.circuit_tidy.specs.inside.BitRows.{between_places, bit_at_place};
 
 use crate::flip::{Controls, Flip};
 use revc_base::Memory;
 use std::alloc::Global;
+
+// The rows under way, and the additions that were noted.
+#[derive(Drop)]
+pub struct NotedRows {
+    words: Vec<u64>,
+    notes: Vec<Flip>,
+}
 
 // The CX gates in place of a block on the lines, which rise: of each column in order, first the row
 // of a later line onto that of the column's line where that lacks it, then this row onto each other
@@ -26,28 +34,14 @@ pub fn elimination(alloc: Global, lines: &[u32], block: &[Flip]) -> Result<Vec<F
         ≡ map cx (eliminated lines.now (map addition_of block.now))) }
 {
     let mut words = own_words(alloc, lines.len())?;
-    eliminate(alloc, &mut words, lines, block)
-}
-
-fn eliminate(
-    alloc: Global,
-    words: &mut [u64],
-    lines: &[u32],
-    block: &[Flip],
-) -> Result<Vec<Flip>, Memory>
-    requires few { length lines.now ≤ MOST_BLOCK_LINES }
-    requires rising { IsRising lines.now }
-    requires words { AreOwnWords (length lines.now) words.old }
-    requires block { AllByRecursion (IsCxOn lines.now) block.now }
-    ensures { IfOk result (λ flips. flips.items
-        ≡ map cx (eliminated lines.now (map addition_of block.now))) }
-{
-    add_block(words, lines, block);
-    let mut notes = Vec::new(alloc);
+    add_block(&mut words, lines, block);
+    let notes = Vec::new(alloc);
+    let mut rows = NotedRows { words, notes };
     for column in 0..lines.len() {
-        note_first(&mut notes, words, lines, column)?;
-        note_second(&mut notes, words, lines, column)?;
+        rows.note_first(lines, column)?;
+        rows.note_second(lines, column)?;
     }
+    let NotedRows { mut notes, .. } = rows;
     notes.reverse();
     Ok(notes)
 }
@@ -110,94 +104,71 @@ fn has_bit(word: u64, place: usize) -> bool
     (word >> place) & 1 == 1
 }
 
-// The row at one place onto that at another.
-fn note(
-    notes: &mut Vec<Flip>,
-    words: &mut [u64],
-    lines: &[u32],
-    from: usize,
-    onto: usize,
-) -> Result<(), Memory>
-    requires long { length words.old ≡ length lines.now }
-    requires rising { IsRising lines.now }
-    requires from { from < length lines.now }
-    requires onto { onto < length lines.now }
-    ensures words { AddsRow lines.now words.old words.new (between_places lines.now from onto) }
-    ensures notes { OnOk result (notes.new.items ≡ notes.old.items
-        ++ cx (between_places lines.now from onto) ∷ []) }
-{
-    words[onto] ^= words[from];
-    let controls = Controls::One(lines[from]);
-    let target = lines[onto];
-    notes.push(Flip { controls, target })?;
-    Ok(())
-}
-
-fn note_first(
-    notes: &mut Vec<Flip>,
-    words: &mut [u64],
-    lines: &[u32],
-    column: usize,
-) -> Result<(), Memory>
-    requires few { length lines.now ≤ MOST_BLOCK_LINES }
-    requires long { length words.old ≡ length lines.now }
-    requires rising { IsRising lines.now }
-    requires column { column < length lines.now }
-    ensures { OnOk result (IsNoted lines.now words.old words.new notes.old.items notes.new.items
-        (λ rows. first_step rows (slice_index lines.now column) (drop (column + 1) lines.now))) }
-{
-    if has_bit(words[column], column) {
-        return Ok(());
+impl NotedRows {
+    // The row at one place onto that at another.
+    fn note(&mut self, lines: &[u32], from: usize, onto: usize) -> Result<(), Memory>
+        requires rows { AreRowsOf lines.now self.old.words.items }
+        requires from { from < length lines.now }
+        requires onto { onto < length lines.now }
+        ensures words { AddsRow lines.now self.old.words.items self.new.words.items
+            (between_places lines.now from onto) }
+        ensures notes { OnOk result (self.new.notes.items ≡ self.old.notes.items
+            ++ cx (between_places lines.now from onto) ∷ []) }
+    {
+        self.words[onto] ^= self.words[from];
+        let controls = Controls::One(lines[from]);
+        let target = lines[onto];
+        self.notes.push(Flip { controls, target })?;
+        Ok(())
     }
-    for place in column + 1..lines.len() {
-        if has_bit(words[place], column) {
-            return note(notes, words, lines, place, column);
+
+    // The row of the first later line that has the column onto that of the column's line, where
+    // this lacks it.
+    fn note_first(&mut self, lines: &[u32], column: usize) -> Result<(), Memory>
+        requires rows { AreRowsOf lines.now self.old.words.items }
+        requires column { column < length lines.now }
+        ensures { OnOk result (Notes lines.now self.old self.new (λ rows. first_step rows
+            (slice_index lines.now column) (drop (column + 1) lines.now))) }
+    {
+        if has_bit(self.words[column], column) {
+            return Ok(());
         }
+        for place in column + 1..lines.len() {
+            if has_bit(self.words[place], column) {
+                return self.note(lines, place, column);
+            }
+        }
+        Ok(())
     }
-    Ok(())
-}
 
-fn note_second(
-    notes: &mut Vec<Flip>,
-    words: &mut [u64],
-    lines: &[u32],
-    column: usize,
-) -> Result<(), Memory>
-    requires few { length lines.now ≤ MOST_BLOCK_LINES }
-    requires long { length words.old ≡ length lines.now }
-    requires rising { IsRising lines.now }
-    requires column { column < length lines.now }
-    ensures { OnOk result (IsNoted lines.now words.old words.new notes.old.items notes.new.items
-        (λ rows. second_step rows (slice_index lines.now column) lines.now)) }
-{
-    for place in 0..lines.len() {
-        note_other(notes, words, lines, column, place)?;
+    // The row of the column's line onto each other one that has the column.
+    fn note_second(&mut self, lines: &[u32], column: usize) -> Result<(), Memory>
+        requires rows { AreRowsOf lines.now self.old.words.items }
+        requires column { column < length lines.now }
+        ensures { OnOk result (Notes lines.now self.old self.new
+            (λ rows. second_step rows (slice_index lines.now column) lines.now)) }
+    {
+        for place in 0..lines.len() {
+            self.note_other(lines, column, place)?;
+        }
+        Ok(())
     }
-    Ok(())
-}
 
-// The row at the column's place onto that at another, where that has the column.
-fn note_other(
-    notes: &mut Vec<Flip>,
-    words: &mut [u64],
-    lines: &[u32],
-    column: usize,
-    place: usize,
-) -> Result<(), Memory>
-    requires few { length lines.now ≤ MOST_BLOCK_LINES }
-    requires long { length words.old ≡ length lines.now }
-    requires rising { IsRising lines.now }
-    requires column { column < length lines.now }
-    requires place { place < length lines.now }
-    ensures { OnOk result (IsNoted lines.now words.old words.new notes.old.items notes.new.items
-        (λ rows. second_step rows (slice_index lines.now column)
-        (slice_index lines.now place ∷ []))) }
-{
-    if place == column {
-        return Ok(());
+    // The row at the column's place onto that at another, where that has the column.
+    fn note_other(&mut self, lines: &[u32], column: usize, place: usize) -> Result<(), Memory>
+        requires rows { AreRowsOf lines.now self.old.words.items }
+        requires column { column < length lines.now }
+        requires place { place < length lines.now }
+        ensures { OnOk result (Notes lines.now self.old self.new
+            (λ rows. second_step rows (slice_index lines.now column)
+            (slice_index lines.now place ∷ []))) }
+    {
+        if place == column {
+            return Ok(());
+        }
+        if !has_bit(self.words[place], column) {
+            return Ok(());
+        }
+        self.note(lines, column, place)
     }
-    if !has_bit(words[place], column) {
-        return Ok(());
-    }
-    note(notes, words, lines, column, place)
 }
