@@ -1,4 +1,5 @@
--- What is said of the settled graph of a tape is said of the tape.
+-- What is said of a program beside a circuit is said of one with the same steps and bits: of a tape where it is said of its settled
+-- graph, and of a circuit with another limit of gates.
 use Rattle.std.proofs.Common.{◌≡◌, ℕ, ◌<◌, ◌≤◌, ◌⊎◌, inl, inr, Bool, List, [], ◌∷◌, length, map, refl, sym, ap, ◌∙◌, subst, arith}
 use mathlib.Core.Path.{fun_ext}
 use Rattle.std.specs.List.{AllByRecursion}
@@ -11,28 +12,29 @@ use Rattle.revs_tape.specs.Measures.{outputs_of, writes_of}
 use Rattle.revs_tape.specs.Tapes.{outputs_on}
 use Rattle.claim_check.specs.Measures.{node_function, write_function}
 use Rattle.claim_check.specs.Settled.{settled_outputs}
-use Rattle.mct_circuit.specs.Gates.{CircuitView}
+use Rattle.mct_circuit.specs.Gates.{GateView}
 use Rattle.circuit_verify.specs.declared.fault.VerifyFault.{VerifyFault}
 use Rattle.circuit_verify.specs.declared.fault.VerifyFault.TheVariants as faults
 use Rattle.circuit_verify.specs.Comparisons.{Comparison, of_settled, of_tape, order_in}
 use Rattle.circuit_verify.specs.LineFunctions.{Holder, HasMore, IsHolder, IsMember, IsSameFunction, Line, LineFunction, Step, held_bit, value_on}
 use Rattle.circuit_verify.specs.Verdicts.{DiffersFirst, IsComparable, IsVerified, IsVerifyFault, SaidOfTapes}
 
--- Two programs with the same parameters and outputs, where each step of one is a step of the other.
+-- Two programs with the same parameters and outputs, where each step of one is a step of the other; and two circuits that differ by
+-- their limits alone.
 module _ (params : List ℕ) (steps others : ℕ) (step other : ℕ → List Bool → Bool) (outputs : ℕ) (value : List Bool → List Bool)
     (made : (k : ℕ) → k < steps → (j : ℕ) × (j < others) × ((input : List Bool) → step k input ≡ other j input))
-    (c : CircuitView) (borrow : ℕ) where
+    (lines limit another : ℕ) (gates : List GateView) (borrow : ℕ) where
   abbrev one : Comparison
   one = record {
     program = record { params = params; steps = steps; step = step; outputs = outputs; value = value };
-    circuit = c;
+    circuit = record { lines = lines; limit = limit; gates = gates };
     borrow = borrow;
   }
 
   abbrev two : Comparison
   two = record {
     program = record { params = params; steps = others; step = other; outputs = outputs; value = value };
-    circuit = c;
+    circuit = record { lines = lines; limit = another; gates = gates };
     borrow = borrow;
   }
 
@@ -44,7 +46,7 @@ module _ (params : List ℕ) (steps others : ℕ) (step other : ℕ → List Boo
 
   moved : Holder → Holder
   moved (Step k) = Step (pick k (cases_lt k steps))
-  moved (Line gates line) = Line gates line
+  moved (Line passed line) = Line passed line
 
   pick_is : (k : ℕ) (d : (k < steps) ⊎ (steps ≤ k)) → k < steps → (pick k d < others) × ((input : List Bool) → step k input ≡ other (pick k d) input)
   unfolding pick
@@ -56,7 +58,7 @@ module _ (params : List ℕ) (steps others : ℕ) (step other : ℕ → List Boo
   holder_moved (Step k) inside =
       let is = pick_is k (cases_lt k steps) inside in
       (is.0, λ bits. is.1 (Rattle.circuit_verify.specs.Comparisons.input_bits one bits))
-  holder_moved (Line gates line) inside = (inside, λ bits. refl)
+  holder_moved (Line passed line) inside = (inside, λ bits. refl)
 
   -- ---- line functions
 
@@ -87,8 +89,8 @@ module _ (params : List ℕ) (steps others : ℕ) (step other : ℕ → List Boo
     apart_moved fs members.1 apart.1,
   )
 
-  more_moved : (limit : ℕ) → HasMore one limit → HasMore two limit
-  more_moved limit more = record {
+  pub more_moved : (most : ℕ) → HasMore one most → HasMore two most
+  more_moved most more = record {
     members = map moved_function more.members;
     are = AllByRecursion-map (IsMember two) moved_function more.members
         (AllByRecursion-weaker (IsMember one) (λ f. IsMember two (moved_function f)) member_moved more.members more.are);
@@ -98,10 +100,10 @@ module _ (params : List ℕ) (steps others : ℕ) (step other : ℕ → List Boo
 
   -- ---- verdicts
 
-  comparable_moved : IsComparable one → IsComparable two
+  pub comparable_moved : IsComparable one → IsComparable two
   comparable_moved is = record { lines = is.lines; narrow = is.narrow }
 
-  differs_moved : (line : ℕ) (bits : List Bool) → DiffersFirst one line bits → DiffersFirst two line bits
+  pub differs_moved : (line : ℕ) (bits : List Bool) → DiffersFirst one line bits → DiffersFirst two line bits
   differs_moved line bits first = record {
     in_range = first.in_range;
     before = first.before;
@@ -113,12 +115,12 @@ module _ (params : List ℕ) (steps others : ℕ) (step other : ℕ → List Boo
   pub verified_moved : IsVerified one → IsVerified two
   verified_moved is = record { comparable = comparable_moved is.comparable; agrees = record { puts = is.agrees.puts } }
 
-  pub fault_moved : (limit : ℕ) (fault : VerifyFault) → IsVerifyFault one limit fault → IsVerifyFault two limit fault
-  fault_moved limit (faults.Lines need) is = is
-  fault_moved limit (faults.Gate gate) is = is
-  fault_moved limit (faults.Diagram nodes) is = (comparable_moved is.0, more_moved limit is.1, is.2)
-  fault_moved limit (faults.Differs line bits) is = (comparable_moved is.0, differs_moved line bits is.1)
-  fault_moved limit faults.Memory is = comparable_moved is
+  pub fault_moved : (most : ℕ) (fault : VerifyFault) → IsVerifyFault one most fault → IsVerifyFault two most fault
+  fault_moved most (faults.Lines need) is = is
+  fault_moved most (faults.Gate gate) is = is
+  fault_moved most (faults.Diagram nodes) is = (comparable_moved is.0, more_moved most is.1, is.2)
+  fault_moved most (faults.Differs line bits) is = (comparable_moved is.0, differs_moved line bits is.1)
+  fault_moved most faults.Memory is = comparable_moved is
 
 -- ---- a tape
 
@@ -136,8 +138,8 @@ said_of_tapes t s is c borrow limit =
     let there : own (length s.outputs) (settled_outputs s) ≡ own (outputs_of t) (outputs_on t) =
     ap (λ (o : ℕ). own o (settled_outputs s)) is.outputs ∙ ap (own (outputs_of t)) same_value in
     record {
-      verified = λ said. verified_moved t.params (length s.nodes) (writes_of t) (node_function s) (write_function t) (outputs_of t) (outputs_on t) made c borrow
-          (subst IsVerified there said);
-      refused = λ fault said. fault_moved t.params (length s.nodes) (writes_of t) (node_function s) (write_function t) (outputs_of t) (outputs_on t) made c
-          borrow limit fault (subst (λ (q : Comparison). IsVerifyFault q limit fault) there said);
+      verified = λ said. verified_moved t.params (length s.nodes) (writes_of t) (node_function s) (write_function t) (outputs_of t) (outputs_on t) made c.lines c.limit
+          c.limit c.gates borrow (subst IsVerified there said);
+      refused = λ fault said. fault_moved t.params (length s.nodes) (writes_of t) (node_function s) (write_function t) (outputs_of t) (outputs_on t) made
+          c.lines c.limit c.limit c.gates borrow limit fault (subst (λ (q : Comparison). IsVerifyFault q limit fault) there said);
     }
