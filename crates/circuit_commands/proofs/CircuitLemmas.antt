@@ -35,7 +35,7 @@ use Rattle.circuit_commands.specs.Run as run
 use Rattle.circuit_commands.specs.Run.{AreInputs, IsFirstUnfit, HasBadWord, free_lines}
 use Rattle.circuit_commands.specs.Stat as stat
 use Rattle.circuit_commands.specs.declared.stat.Sizes.{Sizes}
-use Rattle.command_answers.proofs.FirstLemmas.{all_at, first_same}
+use Rattle.list_facts.proofs.FirstLemmas.{all_at, first_same}
 
 -- ---- refusals are those of the readers
 

@@ -3,42 +3,16 @@ use Rattle.std.proofs.Common.{◌≡◌, ℕ, zero, suc, ◌<◌, ◌≤◌, ◌
 use Rattle.std.proofs.Common.{subst, arith}
 use Rattle.std.specs.List.{AllByRecursion}
 use Rattle.std.proofs.lemmas.Bool.{cases_Bool, cases_lt}
-use Rattle.std.proofs.lemmas.List.{get_or_append_left, get_or_at, length-drop, length-take-le}
+use Rattle.std.proofs.lemmas.List.{length-drop, length-take-le}
 use Rattle.list_facts.specs.Bits.{bit_of}
-use Rattle.list_facts.proofs.AllLemmas.{AllByRecursion-at, AllByRecursion-right}
 use Rattle.list_facts.proofs.CutLemmas.{cut_at}
+use Rattle.list_facts.proofs.FirstLemmas.{none_without, one_without}
 use Rattle.revs_tape.specs.VariableOrders.{IsBefore}
 use Rattle.claim_check.proofs.VariableLemmas.{AreBits, Ordered, assignment_at, same_bits}
-use Rattle.mct_circuit.specs.Gates.{AreNarrow, GateView, IsNarrow}
+use Rattle.mct_circuit.specs.Gates.{IsNarrow}
 use Rattle.circuit_verify.specs.Comparisons.{Comparison, Agrees, inputs_in}
-use Rattle.circuit_verify.specs.Verdicts.{ComparisonsEndInOneWay, DiffersFirst, IsFirstWide}
+use Rattle.circuit_verify.specs.Verdicts.{ComparisonsEndInOneWay, DiffersFirst}
 use Rattle.circuit_verify.proofs.OrderLemmas.{ordered_in}
-
--- ---- the first wide gate
-
-no_wide : (gates : List GateView) (at : ℕ) → AreNarrow gates → IsFirstWide gates at → ⊥
-no_wide gates at narrow first =
-    first.is_wide (AllByRecursion-right IsNarrow first.before (first.wide ∷ first.behind) (subst AreNarrow first.cut narrow)).0
-
-no_later : (gates : List GateView) (at other : ℕ) → IsFirstWide gates at → IsFirstWide gates other → at < other → ⊥
-no_later gates at other first second less =
-    let d : GateView = first.wide in
-    let inside : at < length second.before = omega (arith, less, second.count) in
-    let here : get_or gates at d ≡ first.wide =
-    ap (λ (gs : List GateView). get_or gs at d) first.cut ∙ get_or_at first.before first.wide first.behind d at first.count in
-    let there : get_or gates at d ≡ get_or second.before at d =
-    ap (λ (gs : List GateView). get_or gs at d) second.cut ∙ get_or_append_left second.before (second.wide ∷ second.behind) d at inside in
-    first.is_wide (subst IsNarrow (sym there ∙ here) (AllByRecursion-at IsNarrow second.before at d second.narrow inside))
-
-one_wide : (gates : List GateView) (at other : ℕ) → IsFirstWide gates at → IsFirstWide gates other → at ≡ other
-one_wide gates at other first second =
-    elim (cases_lt at other) as (λ _. at ≡ other) [
-      | inl less ↦ absurd (no_later gates at other first second less)
-      | inr most ↦ elim (cases_lt other at) as (λ _. at ≡ other) [
-        | inl less ↦ absurd (no_later gates other at second first less)
-        | inr more ↦ omega (arith, most, more)
-      ]
-    ]
 
 -- ---- bits in an order
 
@@ -143,8 +117,8 @@ one_list q line bits others first second =
 
 pub comparisons_end_in_one_way : ComparisonsEndInOneWay
 comparisons_end_in_one_way q = record {
-  no_gate = λ gate narrow first. no_wide q.circuit.gates gate narrow first;
-  one_gate = λ gate other first second. one_wide q.circuit.gates gate other first second;
+  no_gate = λ gate narrow first. none_without IsNarrow q.circuit.gates gate narrow first;
+  one_gate = λ gate other first second. one_without IsNarrow q.circuit.gates gate other first second;
   no_difference = none_differs q;
   one_difference = λ line other bits others first second.
       let same : line ≡ other = one_line q line other bits others first second in

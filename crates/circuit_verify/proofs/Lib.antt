@@ -1,5 +1,4 @@
 pub mod AskLemmas
-pub mod GateLemmas
 pub mod LawLemmas
 pub mod LineLemmas
 pub mod NumberLemmas

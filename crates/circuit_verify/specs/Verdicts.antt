@@ -1,6 +1,7 @@
 -- What is said of a circuit that is compared with a program.
-use Rattle.std.specs.Prelude.{◌≡◌, ℕ, ◌<◌, ◌≤◌, Bool, List, ◌∷◌, ◌++◌, length}
+use Rattle.std.specs.Prelude.{◌≡◌, ℕ, ◌<◌, ◌≤◌, Bool, List}
 use Rattle.list_facts.specs.Bits.{bit_of}
+use Rattle.list_facts.specs.Lists.{IsFirstWithout}
 use Rattle.revs_tape.specs.Tapes.{TapeView}
 use Rattle.revs_tape.specs.VariableOrders.{IsBefore}
 use Rattle.decision_diagram.specs.declared.node.DdFault.{DdFault}
@@ -25,14 +26,8 @@ pub record IsComparable (q : Comparison) : Type 0 where
   pub narrow : AreNarrow q.circuit.gates
 
 -- the gate at this place, counted from 0, is the first that is no such flip
-pub record IsFirstWide (gates : List GateView) (at : ℕ) : Type 0 where
-  pub before : List GateView
-  pub wide : GateView
-  pub behind : List GateView
-  pub cut : gates ≡ before ++ wide ∷ behind
-  pub count : length before ≡ at
-  pub narrow : AreNarrow before
-  pub is_wide : ¬ IsNarrow wide
+abbrev pub IsFirstWide : List GateView → ℕ → Type 0
+IsFirstWide gates at = IsFirstWithout IsNarrow gates at
 
 -- ---- where the circuit differs
 

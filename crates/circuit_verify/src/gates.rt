@@ -7,7 +7,7 @@ use gate_split::is_narrow;
 use mct_circuit::Gate;
 
 // The first gate that is no flip with at most two controls, all positive.
-#[tactic(auto, using(crate::proofs::GateLemmas::first_wide))]
+#[tactic(auto, using(list_facts::proofs::FirstLemmas::first_without))]
 pub fn first_wide(gates: &[Gate]) -> Option<u64>
     ensures { MatchOption result (AreNarrow gates.now) (IsFirstWide gates.now) }
 {

@@ -4,5 +4,6 @@ pub mod TableLemmas
 pub mod BitLemmas
 pub mod CountingLemmas
 pub mod CutLemmas
+pub mod FirstLemmas
 pub mod OrderLemmas
 pub mod SearchLemmas

@@ -1,5 +1,5 @@
 -- Elements of lists: which they are, how they are ordered, and which differ.
-use Rattle.std.specs.Prelude.{◌≡◌, ◌≢◌, ℕ, zero, suc, ◌+◌, ◌<◌, ◌⊎◌, List, [], ◌∷◌, ◌++◌, ⊤}
+use Rattle.std.specs.Prelude.{◌≡◌, ◌≢◌, ℕ, zero, suc, ◌+◌, ◌<◌, ◌⊎◌, List, [], ◌∷◌, ◌++◌, length, ⊤}
 use Rattle.std.specs.List.{AllByRecursion}
 
 -- ---- elements
@@ -18,6 +18,16 @@ AnyByRecursion P (x ∷ xs) = P x ⊎ AnyByRecursion P xs
 abbrev pub AllFrom : {A : Type 0} → (ℕ → A → Type 0) → ℕ → List A → Type 0
 AllFrom P k [] = ⊤
 AllFrom P k (x ∷ xs) = P k x × AllFrom P (k + 1) xs
+
+-- the element at this place, counted from 0, is the first of which the fact does not hold
+pub record IsFirstWithout {A : Type 0} (P : A → Type 0) (xs : List A) (at : ℕ) : Type 0 where
+  pub before : List A
+  pub named : A
+  pub behind : List A
+  pub cut : xs ≡ before ++ named ∷ behind
+  pub count : length before ≡ at
+  pub met : AllByRecursion P before
+  pub fails : ¬ P named
 
 -- ---- order
 

@@ -30,11 +30,8 @@ use Rattle.program_commands.specs.Settling.{ForTexts, LeavesTape}
 use Rattle.command_answers.specs.BitWords.{IsInputWord, bits_of}
 use Rattle.program_commands.specs.Eval.{promise, IsValueOf, IsBadWord, IsBroken, Stops}
 use Rattle.program_commands.specs.Outcomes.{IsEvalFault}
-use Rattle.command_answers.proofs.FirstLemmas.{all_at, first_same}
+use Rattle.list_facts.proofs.FirstLemmas.{all_at, first_same, none_without}
 use Rattle.program_commands.proofs.RefusalLemmas.{one_refusal, never_refused}
-
-pub no_digits : (word : List ℕ) (at : ℕ) → IsFirstOther word at → AllByRecursion IsDigit word → ⊥
-no_digits word at other h = other.no_digit (all_at IsDigit other.before other.other other.behind (subst (AllByRecursion IsDigit) other.cut h))
 
 -- a well-formed text has one tape
 same_tape : (text : List ℕ) (p q : ProgramView) (tape other : TapeView) → IsWellFormed text p → IsWellFormed text q → IsTapeOf p.params p.body tape
@@ -216,19 +213,19 @@ digit_or_not byte = by_test (eqb byte 48)
 digits_or_other : (word : List ℕ) → AllByRecursion IsDigit word ⊎ ((at : ℕ) × IsFirstOther word at)
 digits_or_other [] = inl tt
 digits_or_other (byte ∷ word) = elim (digit_or_not byte) [
-  | inr no_digit ↦ inr (0, record { before = []; other = byte; behind = word; cut = refl; count = refl; digits = tt; no_digit = no_digit })
+  | inr no_digit ↦ inr (0, record { before = []; named = byte; behind = word; cut = refl; count = refl; met = tt; fails = no_digit })
   | inl digit ↦ elim (digits_or_other word) [
     | inl digits ↦ inl (digit, digits)
     | inr at ↦ (let first = at.1 in inr (
       at.0 + 1,
       record {
         before = byte ∷ first.before;
-        other = first.other;
+        named = first.named;
         behind = first.behind;
         cut = ap (λ (bytes : List ℕ). byte ∷ bytes) first.cut;
         count = (let count = first.count in omega arith);
-        digits = (digit, first.digits);
-        no_digit = first.no_digit;
+        met = (digit, first.met);
+        fails = first.fails;
       },
     ))
   ]
@@ -236,7 +233,7 @@ digits_or_other (byte ∷ word) = elim (digit_or_not byte) [
 
 pub bits_refused : (inputs : ℕ) (word : List ℕ) (fault : BitsFault) → ((at : ℕ) → fault ≡ bits.BadDigit at → IsFirstOther word at)
     → ((at : ℕ) → IsFirstOther word at → fault ≡ bits.BadDigit at) → length word ≡ inputs → IsBitsFault inputs word (bits_fault fault)
-bits_refused inputs word (bits.BadDigit at) h named size = (refl, λ fits. no_digits word at (h at refl) fits.digits)
+bits_refused inputs word (bits.BadDigit at) h named size = (refl, λ fits. none_without IsDigit word at fits.digits (h at refl))
 bits_refused inputs word bits.Memory h named size = record { digits = digits; size = size }
   where
     digits : AllByRecursion IsDigit word

@@ -1,2 +1,1 @@
 pub mod ResultLemmas
-pub mod WordLemmas

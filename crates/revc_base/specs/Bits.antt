@@ -1,6 +1,7 @@
 -- Bit words: words of the digits 0 and 1.
-use Rattle.std.specs.Prelude.{◌≡◌, ℕ, ◌==◌, ◌⊎◌, Bool, List, ◌∷◌, ◌++◌, length, map}
+use Rattle.std.specs.Prelude.{◌≡◌, ℕ, ◌==◌, ◌⊎◌, Bool, List, map}
 use Rattle.std.specs.List.{AllByRecursion}
+use Rattle.list_facts.specs.Lists.{IsFirstWithout}
 
 -- a byte that is the digit 0 or 1
 abbrev pub IsDigit : ℕ → Type 0
@@ -12,11 +13,5 @@ pub record IsWordOf (word : List ℕ) (bits : List Bool) : Type 0 where
   pub read : bits ≡ map (λ byte. byte == 49) word
 
 -- The byte at this place, counted from 0, is the first that is neither 0 nor 1.
-pub record IsFirstOther (word : List ℕ) (at : ℕ) : Type 0 where
-  pub before : List ℕ
-  pub other : ℕ
-  pub behind : List ℕ
-  pub cut : word ≡ before ++ other ∷ behind
-  pub count : length before ≡ at
-  pub digits : AllByRecursion IsDigit before
-  pub no_digit : ¬ IsDigit other
+abbrev pub IsFirstOther : List ℕ → ℕ → Type 0
+IsFirstOther word at = IsFirstWithout IsDigit word at

@@ -78,7 +78,7 @@ fn is_digit(byte: u8) -> bool
 }
 
 // The place of the first byte that is neither 0 nor 1.
-#[tactic(auto, using(crate::proofs::WordLemmas::first_other))]
+#[tactic(auto, using(list_facts::proofs::FirstLemmas::first_without))]
 fn first_other(word: &[u8]) -> Option<u32>
     requires { length word.now < 2 ^ 32 }
     ensures found { IfSome result (λ at. IsFirstOther word.now at) }

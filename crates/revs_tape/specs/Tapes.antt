@@ -3,6 +3,7 @@ use Rattle.std.specs.Prelude.{◌≡◌, ℕ, ◌+◌, ◌<◌, ◌≤◌, Bool,
 use Rattle.std.specs.Bool.{xor}
 use Rattle.std.specs.List.{AllByRecursion}
 pub use Rattle.list_facts.specs.Bits.{bit_of}
+use Rattle.list_facts.specs.Lists.{IsFirstWithout}
 use Rattle.revs_tape.specs.declared.limits.TheConstants.{MOST_INPUTS, MOST_WRITES, MOST_CLAIMS, MOST_OUTPUTS}
 use Rattle.revs_tape.specs.declared.tape.Ref.{Ref}
 use Rattle.revs_tape.specs.declared.tape.Ref.TheVariants as refs
@@ -97,15 +98,8 @@ abbrev pub IsMet : List Bool → List Bool → Claim → Type 0
 IsMet input written claim = bit_at input written claim.of ≡ claimed claim.kind
 
 -- The claim with this number, counted from 0, is the first that is not met.
-pub record IsFirstFailing (input written : List Bool) (claims : List Claim) (number : ℕ)
-    : Type 0 where
-  pub before : List Claim
-  pub named : Claim
-  pub behind : List Claim
-  pub cut : claims ≡ before ++ named ∷ behind
-  pub count : length before ≡ number
-  pub met : AllByRecursion (IsMet input written) before
-  pub fails : ¬ IsMet input written named
+abbrev pub IsFirstFailing : List Bool → List Bool → List Claim → ℕ → Type 0
+IsFirstFailing input written claims number = IsFirstWithout (IsMet input written) claims number
 
 -- A claim of a tape holds on an input where it is met there.
 abbrev pub Holds : TapeView → List Bool → Claim → Type 0

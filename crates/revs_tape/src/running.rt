@@ -64,7 +64,7 @@ fn holds(input: &[bool], written: &[bool], claim: &Claim) -> bool
 }
 
 // The number of the first claim that fails.
-#[tactic(auto, using(crate::proofs::RunLemmas::first_failing))]
+#[tactic(auto, using(list_facts::proofs::FirstLemmas::first_without))]
 fn first_failing(claims: &[Claim], input: &[bool], written: &[bool]) -> Option<u32>
     requires { length claims.now ≤ MOST_CLAIMS }
     ensures found { IfSome result (λ number.

@@ -1,5 +1,5 @@
 -- What the comparison of a settled graph with a circuit says of the tape and of the two texts.
-use Rattle.std.proofs.Common.{◌≡◌, inr, ℕ, ◌+◌, ◌<◌, ◌≤◌, Bool, List, [], ◌∷◌, ◌++◌, Result}
+use Rattle.std.proofs.Common.{◌≡◌, inr, ℕ, ◌<◌, ◌≤◌, List, ◌∷◌, Result}
 use Rattle.std.proofs.Common.{Ok, Err, length, sum, refl, sym, ap, ◌∙◌, subst, arith, length-append}
 use Rattle.std.specs.Prelude.{OnOk}
 use Rattle.std.specs.Result.{IfErr}
@@ -19,15 +19,15 @@ use Rattle.command_answers.specs.declared.fault.Fault.TheVariants as faults
 use Rattle.command_answers.specs.declared.fault.Refusal.TheVariants as refusals
 use Rattle.circuit_plans.specs.Plans.{lines_in}
 use Rattle.mct_circuit.specs.Gates.{AreGatesOn, CircuitView}
-use Rattle.program_commands.specs.Clean.{ComputesOn, IsCleanCircuit}
+use Rattle.program_commands.specs.Clean.{IsCleanCircuit}
 use Rattle.program_commands.specs.Outcomes.{IsSettlingFault, IsTextFault}
 use Rattle.program_commands.specs.Settling.{ForTexts, IsSettledWithin, LeavesSettled, LeavesTape}
 use Rattle.revc_words.specs.Words.{OrderView}
 use Rattle.revs_tape.specs.Tapes.{TapeView, bit_on, outputs_on}
 use Rattle.revs_terms.proofs.TapeLemmas.{tape_gives_output}
-use Rattle.verify_command.specs.Parting.{HasNoPart, IsParted}
+use Rattle.verify_command.specs.Parting.{IsParted}
 use Rattle.verify_command.specs.Outcomes.{IsVerifyingFault}
-use Rattle.verify_command.specs.Verify.{AreVerified, Gives, HasParts, IsCause, StopsParts, comparison_of, verified_text}
+use Rattle.verify_command.specs.Verify.{AreVerified, Gives, comparison_of, verified_text}
 use Rattle.verify_command.specs.declared.limits.TheConstants.{MOST_SOURCE_BYTES}
 use Rattle.verify_command.specs.inside.Mappings.{IsNamedIn, comparing_fault}
 use Rattle.verify_command.specs.inside.Stages.{IsComparingFault, IsPartsFault}
@@ -44,7 +44,7 @@ comparing q limit verdicts.Memory is = tt
 
 named_gate : (circuit : CircuitView) (gate : ℕ) → IsFirstWide circuit.gates gate → gate < length circuit.gates
 named_gate circuit gate first =
-    let long = ap length first.cut ∙ length-append first.before (first.wide ∷ first.behind) in
+    let long = ap length first.cut ∙ length-append first.before (first.named ∷ first.behind) in
     let count = first.count in
     omega arith
 
