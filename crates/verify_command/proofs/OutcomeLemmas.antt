@@ -1,10 +1,10 @@
 -- A source is verified, or has one exact cause, and no cause where it is served.
-use Rattle.std.proofs.Common.{◌≡◌, ◌≢◌, ◌⊎◌, inl, inr, ℕ, ◌+◌, ◌<◌, ◌≤◌, Bool, List, [], ◌∷◌, length, refl, sym, ap, ◌∙◌, subst, arith}
+use Rattle.std.proofs.Common.{◌≡◌, ◌⊎◌, inl, inr, ℕ, ◌+◌, ◌<◌, ◌≤◌, Bool, List, [], ◌∷◌, length, refl, sym, ap, ◌∙◌, subst, arith}
 use Rattle.circuit_commands.specs.declared.limits.TheConstants.{MOST_CIRCUIT_BYTES}
 use Rattle.circuit_commands.specs.Circuits.{ReadCircuit, Means, IsCircuitRefusal}
 use Rattle.circuit_commands.proofs.CircuitLemmas.{means_or_refused, one_circuit, one_circuit_refusal}
 use Rattle.circuit_verify.specs.Comparisons.{Comparison, least_lines}
-use Rattle.circuit_verify.specs.Verdicts.{DiffersFirst, IsVerified}
+use Rattle.circuit_verify.specs.Verdicts.{IsVerified}
 use Rattle.circuit_verify.proofs.LawLemmas.{comparisons_end_in_one_way}
 use Rattle.command_answers.specs.Outcomes.{HasOneOutcome, IsFaultOfText}
 use Rattle.command_answers.specs.declared.fault.CircuitRefusal.{CircuitRefusal}
@@ -14,14 +14,14 @@ use Rattle.command_answers.specs.declared.fault.Fault.TheVariants as faults
 use Rattle.command_answers.specs.declared.fault.Refusal.{Refusal}
 use Rattle.command_answers.specs.declared.fault.Refusal.TheVariants as refusals
 use Rattle.program_commands.specs.Refusals.{IsRefusal}
-use Rattle.program_commands.specs.Settling.{LeavesSettled, LeavesTape, StopsSettling}
+use Rattle.program_commands.specs.Settling.{LeavesTape, StopsSettling}
 use Rattle.program_commands.proofs.RefusalLemmas.{never_refused, one_refusal}
 use Rattle.program_commands.proofs.SettlingLemmas.{one_left, one_stop, settled_or_stopped}
 use Rattle.revc_words.specs.Words.{OrderView}
 use Rattle.revs_parser.specs.declared.limits.TheConstants.{MOST_BYTES}
 use Rattle.revs_tape.specs.Tapes.{TapeView}
 use Rattle.verify_command.specs.declared.limits.TheConstants.{MOST_SOURCE_BYTES}
-use Rattle.verify_command.specs.Parting.{HasNoPart, IsParted}
+use Rattle.verify_command.specs.Parting.{HasNoPart}
 use Rattle.verify_command.specs.Verify.{AreVerified, Compares, DiffersAt, HasParts, HasWideGate}
 use Rattle.verify_command.specs.Verify.{IsCause, IsCircuitDiagram, IsNoCircuitDiagram, IsVerifiedWithin}
 use Rattle.verify_command.specs.Verify.{StopsComparing, StopsParts, comparison_of, promise}

@@ -10,7 +10,6 @@ use Rattle.command_answers.specs.declared.fault.CircuitRefusal.{CircuitRefusal}
 use Rattle.command_answers.specs.declared.fault.CircuitRefusal.TheVariants as circuits
 use Rattle.command_answers.specs.declared.fault.Fault.{Fault}
 use Rattle.command_answers.specs.declared.fault.Fault.TheVariants.{Refused, Claim, Diagram, CircuitDiagram, Circuit, FewLines, WideGate, Differs, NoPart}
-use Rattle.command_answers.specs.declared.fault.Refusal.{Refusal}
 use Rattle.command_answers.specs.declared.fault.Refusal.TheVariants as refusals
 use Rattle.command_answers.specs.declared.limit.TextLimit.{TextLimit}
 use Rattle.program_commands.specs.Clean.{IsCleanCircuit}

@@ -1,5 +1,5 @@
 -- The fault of the command for each fault of a comparison. Want of memory comes from want of memory alone.
-use Rattle.std.specs.Prelude.{ℕ, ◌+◌, ◌<◌, length}
+use Rattle.std.specs.Prelude.{◌+◌, ◌<◌, length}
 use Rattle.circuit_verify.specs.declared.fault.VerifyFault.{VerifyFault}
 use Rattle.circuit_verify.specs.declared.fault.VerifyFault.TheVariants as faults
 use Rattle.command_answers.specs.declared.fault.Fault.{Fault}
