@@ -2,17 +2,17 @@
 use Rattle.std.proofs.Common.{◌≡◌, ℕ, ◌+◌, ◌-◌, ◌^◌, ◌<◌, ◌≤◌, Bool, true, false, not, ◌&&◌, cond, List, [], ◌∷◌, ◌++◌, length, get_or, set, take, drop}
 use Rattle.std.proofs.Common.{bit_xor, refl, sym, ap, ◌∙◌, arith}
 use Rattle.std.specs.Bool.{xor}
-use Rattle.std.specs.List.{list_all}
+use Rattle.std.specs.List.{AllByRecursion, list_all}
 use Rattle.std.proofs.lemmas.List.{get_or-map, length-map, map-set, take_more, take_all, drop_all, set-get_or}
 use Rattle.std.proofs.lemmas.List.Folds.{list_all-append}
 use Rattle.list_facts.specs.Bits.{bit_of}
 use Rattle.list_facts.proofs.BitLemmas.{xor_swap}
 use Rattle.mct_circuit.specs.declared.gate.Control.{Control}
 use Rattle.mct_circuit.specs.declared.gate.Op.TheVariants.{Flip, Swap}
-use Rattle.mct_circuit.specs.Gates.{GateView, is_met, after_op, line_map}
+use Rattle.mct_circuit.specs.Gates.{AreGatesOn, GateView, is_met, after_op, line_map, lines_of}
 use Rattle.mct_circuit.proofs.FlipLemmas.{flip_sets}
 use Rattle.mct_circuit.proofs.ReversalLemmas.{swap_is}
-use Rattle.mct_circuit.proofs.GateListLemmas.{line_map_more}
+use Rattle.mct_circuit.proofs.GateListLemmas.{line_map_more, lines_below}
 use Rattle.circuit_sim.specs.Planes.{plane_bit, column, AreMapped}
 use Rattle.circuit_sim.specs.inside.Masks.{IsMask, IsNarrowed, IsChosen}
 use Rattle.circuit_sim.proofs.PlaneLemmas.{plane_bit-xor, plane_bit-ones}
@@ -101,6 +101,12 @@ swap_mapped gate planes first second mask there back is low high masks at_first 
 }
 
 -- ---- gates one after another
+
+-- the lines of the next gate are among as many planes as the circuit has lines
+pub item_below : {n lines : ℕ} {gates items : List GateView} {i : ℕ} {gate : GateView} → AreGatesOn lines gates → items ≡ gates → i < length items
+    → gate ≡ get_or items i gate → n ≡ lines → AllByRecursion (λ line. line < n) (lines_of gate)
+item_below {items = items} {i = i} {gate = gate} placed same inside is as_many =
+    rw as_many (lines_below _ items i gate (rw same placed) inside is)
 
 -- what the gates that are left make of the planes is what all of them make of the planes at the start
 pub record IsUnderway (gates : List GateView) (done : ℕ) (before now : List ℕ) : Type 0 where

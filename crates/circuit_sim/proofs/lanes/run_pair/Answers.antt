@@ -1,21 +1,15 @@
-use Rattle.std.proofs.Common.{ap, arith, length, ◌<◌, ◌∙◌}
-use Rattle.mct_circuit.proofs.GateListLemmas.{lines_below}
+use Rattle.std.proofs.Common.{◌∙◌}
+use Rattle.circuit_sim.proofs.GateLemmas.{item_below}
 use Rattle.circuit_sim.proofs.LaneLemmas.{lanes_begun, lanes_more, lanes_done}
 use Rattle.circuit_sim.proofs.lanes.run_pair.Goals as goal
 
 pub run_gate-requires-clause-lines : goal.run_gate-requires-clause-lines
 run_gate-requires-clause-lines c =
-    let inside : c.loop-gate.gate-index < length c.args.circuit.now.gates =
-    omega (arith, ap length c.gates-gate-items.ensures.gates) in
-    rw (c.loop-gate.auto.first ∙ c.requires.lines.0) (lines_below _ c.args.circuit.now.gates c.loop-gate.gate-index c.gate-item.result
-    c.gates-gate-items.ensures.placed inside (rw c.gates-gate-items.ensures.gates at c.gate-item.is))
+    item_below c.gates-gate-items.ensures.placed c.gates-gate-items.ensures.gates c.loop-gate-test.true c.gate-item.is (c.loop-gate.auto.first ∙ c.requires.lines.0)
 
 pub run_gate-requires-in-loop-gate-clause-lines : goal.run_gate-requires-in-loop-gate-clause-lines
 run_gate-requires-in-loop-gate-clause-lines c =
-    let inside : c.loop-gate.gate-index < length c.args.circuit.now.gates =
-    omega (arith, ap length c.gates-gate-items.ensures.gates) in
-    rw (c.loop-gate.auto.second ∙ c.requires.lines.1) (lines_below _ c.args.circuit.now.gates c.loop-gate.gate-index c.gate-item.result
-    c.gates-gate-items.ensures.placed inside (rw c.gates-gate-items.ensures.gates at c.gate-item.is))
+    item_below c.gates-gate-items.ensures.placed c.gates-gate-items.ensures.gates c.loop-gate-test.true c.gate-item.is (c.loop-gate.auto.second ∙ c.requires.lines.1)
 
 pub loop-gate-init : goal.loop-gate-init
 loop-gate-init c = record {

@@ -1,14 +1,10 @@
-use Rattle.std.proofs.Common.{ap, arith, length, ◌<◌, ◌∙◌}
-use Rattle.mct_circuit.proofs.GateListLemmas.{lines_below}
-use Rattle.circuit_sim.proofs.GateLemmas.{gates_begun, gates_more, gates_done}
+use Rattle.std.proofs.Common.{◌∙◌}
+use Rattle.circuit_sim.proofs.GateLemmas.{item_below, gates_begun, gates_more, gates_done}
 use Rattle.circuit_sim.proofs.planes.run_planes.Goals as goal
 
 pub run_gate-requires : goal.run_gate-requires
 run_gate-requires c =
-    let inside : c.loop-gate.gate-index < length c.args.circuit.now.gates =
-    omega (arith, ap length c.gates-gate-items.ensures.gates) in
-    rw (c.loop-gate.auto.planes ∙ c.requires) (lines_below _ c.args.circuit.now.gates c.loop-gate.gate-index c.gate-item.result
-    c.gates-gate-items.ensures.placed inside (rw c.gates-gate-items.ensures.gates at c.gate-item.is))
+    item_below c.gates-gate-items.ensures.placed c.gates-gate-items.ensures.gates c.loop-gate-test.true c.gate-item.is (c.loop-gate.auto.planes ∙ c.requires)
 
 pub loop-gate-init : goal.loop-gate-init
 loop-gate-init c = gates_begun c.gates-gate-items.result.now c.args.planes.now
