@@ -12,8 +12,8 @@ pub push_enough-requires-clause-serves : goal.push_enough-requires-clause-serves
 push_enough-requires-clause-serves c =
     let lines = in_falling_order c.args.marks.now (c.args.front.now ++ c.args.back.now) in (
       c.args.marks.now,
-      rw (c.deref.ensures.value, c.in_ok-idle.ensures.found) (serves_take c.args.marks.now c.args.flip.controls.now c.args.flip.target (length c.args.flip.controls.now) lines
-          c.requires.serves),
+      rw (c.deref.ensures.value, c.in_ok-idle.ensures.found) (serves_take c.args.marks.now c.args.flip.controls.now c.args.flip.target
+          (length c.args.flip.controls.now) lines c.requires.serves),
     )
 
 pub push_enough-requires-clause-enough : goal.push_enough-requires-clause-enough

@@ -27,20 +27,20 @@ pub push_among-requires-2-clause-below : goal.push_among-requires-2-clause-below
 push_among-requires-2-clause-below c =
     let s = halves_of c.args.marks.now c.args.flip.controls.now c.args.flip.target c.args.idle c.requires.gate c.requires.below c.requires.apart in
     let h = first_half c.args.flip.controls.now in
-    rw c.push_among.ensures.same (back_below c.args.marks.now (take h c.args.flip.controls.now) (drop h c.args.flip.controls.now) c.split_at.result.1.now c.args.flip.target
-    c.args.idle s c.split_at.ensures.back)
+    rw c.push_among.ensures.same (back_below c.args.marks.now (take h c.args.flip.controls.now) (drop h c.args.flip.controls.now) c.split_at.result.1.now
+    c.args.flip.target c.args.idle s c.split_at.ensures.back)
 
 pub push_among-requires-2-clause-serves : goal.push_among-requires-2-clause-serves
 push_among-requires-2-clause-serves c =
     let s = halves_of c.args.marks.now c.args.flip.controls.now c.args.flip.target c.args.idle c.requires.gate c.requires.below c.requires.apart in
-    (first_goes c.args.marks.now c.push_among.new.marks c.args.flip.controls.now c.split_at.result.0.now c.split_at.result.1.now c.args.flip.target c.args.idle s
-    c.split_at.ensures.front c.split_at.ensures.back c.push_among.ensures.same c.requires.four).0
+    (first_goes c.args.marks.now c.push_among.new.marks c.args.flip.controls.now c.split_at.result.0.now c.split_at.result.1.now c.args.flip.target c.args.idle
+    s c.split_at.ensures.front c.split_at.ensures.back c.push_among.ensures.same c.requires.four).0
 
 pub push_among-requires-2-clause-enough : goal.push_among-requires-2-clause-enough
 push_among-requires-2-clause-enough c =
     let s = halves_of c.args.marks.now c.args.flip.controls.now c.args.flip.target c.args.idle c.requires.gate c.requires.below c.requires.apart in
-    (first_goes c.args.marks.now c.push_among.new.marks c.args.flip.controls.now c.split_at.result.0.now c.split_at.result.1.now c.args.flip.target c.args.idle s
-    c.split_at.ensures.front c.split_at.ensures.back c.push_among.ensures.same c.requires.four).1
+    (first_goes c.args.marks.now c.push_among.new.marks c.args.flip.controls.now c.split_at.result.0.now c.split_at.result.1.now c.args.flip.target c.args.idle
+    s c.split_at.ensures.front c.split_at.ensures.back c.push_among.ensures.same c.requires.four).1
 
 pub returns-clause-made : goal.returns-clause-made
 returns-clause-made c =

@@ -20,12 +20,12 @@ returns-then-idle-flip-clause-split c =
     c.args.idle.now c.requires.wide c.requires.found c.if-idle-flip.true) ∙ ap Some (sym e)) c.push_over_idle.ensures
 
 pub push_halves-requires-clause-below : goal.push_halves-requires-clause-below
-push_halves-requires-clause-below c = (first_idle_apart c.args.marks.now c.args.flip.controls.now c.args.flip.target c.args.idle.now c.requires.gate c.requires.wide
-    c.requires.found c.requires.some).0
+push_halves-requires-clause-below c = (first_idle_apart c.args.marks.now c.args.flip.controls.now c.args.flip.target c.args.idle.now c.requires.gate
+    c.requires.wide c.requires.found c.requires.some).0
 
 pub push_halves-requires-clause-apart : goal.push_halves-requires-clause-apart
-push_halves-requires-clause-apart c = (first_idle_apart c.args.marks.now c.args.flip.controls.now c.args.flip.target c.args.idle.now c.requires.gate c.requires.wide
-    c.requires.found c.requires.some).1
+push_halves-requires-clause-apart c = (first_idle_apart c.args.marks.now c.args.flip.controls.now c.args.flip.target c.args.idle.now c.requires.gate
+    c.requires.wide c.requires.found c.requires.some).1
 
 pub returns-clause-split : goal.returns-clause-split
 returns-clause-split c =

@@ -9,6 +9,7 @@ decreases-loop-i l = l.i
 
 abbrev pub invariant-loop-i : goal.invariant-loop-i
 invariant-loop-i l =
-    (l.rungs.items ++ ladder l.top (reverse (take (l.i + 2) l.flip.controls.now)) (reverse (take l.i l.idle)) ≡ ladder l.flip.target (reverse l.flip.controls.now) (reverse l.idle))
+    (l.rungs.items ++ ladder l.top (reverse (take (l.i + 2) l.flip.controls.now)) (reverse (take l.i l.idle))
+    ≡ ladder l.flip.target (reverse l.flip.controls.now) (reverse l.idle))
     × AllByRecursion HasDifferentLines (ladder l.top (reverse (take (l.i + 2) l.flip.controls.now)) (reverse (take l.i l.idle)))
     × (l.i ≤ length l.idle)
