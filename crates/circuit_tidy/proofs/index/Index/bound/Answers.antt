@@ -1,5 +1,6 @@
 use Rattle.std.proofs.Common.{◌≡◌, ◌<◌, ◌∙◌, List, Option, max, sym, ap, refl, arith, subst, not}
 use Rattle.std.specs.List.{AllByRecursion}
+use Rattle.circuit_tidy.specs.declared.flip.Controls.{Controls}
 use Rattle.circuit_tidy.specs.declared.flip.Flip.{Flip}
 use Rattle.circuit_tidy.specs.Flips.{are_free, lines_in}
 use Rattle.circuit_tidy.specs.inside.Index.{AreIndexes, IsBehindLast, has_control}
@@ -26,6 +27,26 @@ behind_controls : (c : After-behind_last-as_control) (slots : List (Option Flip)
     → IsBehindLast slots (has_control c.args.flip.target) c.behind_last-as_control.result
 behind_controls c slots same = rw same (control_looked c).is
 
+-- the lines of the controls are below, as they were read
+lines_low : (c : After-behind_last-as_control) (controls : Controls) → c.args.flip.controls ≡ controls
+    → AllByRecursion (λ line. line < c.args.lines) (lines_in controls)
+lines_low c controls is = rw is at (lines_of_flip c.args.lines c.args.flip c.requires.flip).low
+
+pub behind_target-as_target-requires-clause-index : goal.behind_target-as_target-requires-clause-index
+behind_target-as_target-requires-clause-index c = still_index (goal.at.behind_target-as_target-requires-clause-index c).After-behind_last-as_control
+
+pub behind_target-as_first-requires-clause-index : goal.behind_target-as_first-requires-clause-index
+behind_target-as_first-requires-clause-index c = still_index (goal.at.behind_target-as_first-requires-clause-index c).After-behind_last-as_control
+
+pub behind_target-as_target-requires-clause-line : goal.behind_target-as_target-requires-clause-line
+behind_target-as_target-requires-clause-line c = (lines_low (goal.at.behind_target-as_target-requires-clause-line c).After-behind_last-as_control _ c.in-One.is).0
+
+pub behind_target-as_first-requires-clause-line : goal.behind_target-as_first-requires-clause-line
+behind_target-as_first-requires-clause-line c = (lines_low (goal.at.behind_target-as_first-requires-clause-line c).After-behind_last-as_control _ c.in-Two.is).0
+
+pub behind_target-as_second-requires-clause-line : goal.behind_target-as_second-requires-clause-line
+behind_target-as_second-requires-clause-line c = (lines_low (goal.at.behind_target-as_second-requires-clause-line c).After-behind_last-as_control _ c.in-Two.is).1.0
+
 pub returns-in-Zero : goal.returns-in-Zero
 returns-in-Zero c =
     let control = (goal.at.returns-in-Zero c).After-behind_last-as_control in
@@ -33,13 +54,6 @@ returns-in-Zero c =
       kept = record { index = still_index control; slots = refl };
       bound = bound_zero c.args.self.now.slots.items c.args.flip c.behind_last-as_control.result (sym (ap lines_in c.in-Zero.is)) (control_looked control).is;
     }
-
-pub behind_target-as_target-requires-clause-index : goal.behind_target-as_target-requires-clause-index
-behind_target-as_target-requires-clause-index c = still_index (goal.at.behind_target-as_target-requires-clause-index c).After-behind_last-as_control
-
-pub behind_target-as_target-requires-clause-line : goal.behind_target-as_target-requires-clause-line
-behind_target-as_target-requires-clause-line c =
-    (subst (λ l. AllByRecursion (λ x. x < c.args.lines) (lines_in l)) c.in-One.is (lines_of_flip c.args.lines c.args.flip c.requires.flip).low).0
 
 pub returns-in-One : goal.returns-in-One
 returns-in-One c =
@@ -52,17 +66,6 @@ returns-in-One c =
           (bound_one slots c.args.flip c.in-One.one c.behind_last-as_control.result c.behind_target-as_target.result
           (sym (ap lines_in c.in-One.is)) (behind_controls control slots kept.slots) c.behind_target-as_target.ensures.bound);
     }
-
-pub behind_target-as_first-requires-clause-index : goal.behind_target-as_first-requires-clause-index
-behind_target-as_first-requires-clause-index c = still_index (goal.at.behind_target-as_first-requires-clause-index c).After-behind_last-as_control
-
-pub behind_target-as_first-requires-clause-line : goal.behind_target-as_first-requires-clause-line
-behind_target-as_first-requires-clause-line c =
-    (subst (λ l. AllByRecursion (λ x. x < c.args.lines) (lines_in l)) c.in-Two.is (lines_of_flip c.args.lines c.args.flip c.requires.flip).low).0
-
-pub behind_target-as_second-requires-clause-line : goal.behind_target-as_second-requires-clause-line
-behind_target-as_second-requires-clause-line c =
-    (subst (λ l. AllByRecursion (λ x. x < c.args.lines) (lines_in l)) c.in-Two.is (lines_of_flip c.args.lines c.args.flip c.requires.flip).low).1.0
 
 pub returns-in-Two : goal.returns-in-Two
 returns-in-Two c =
