@@ -138,8 +138,8 @@ said_of_tapes t s is c borrow limit =
     let there : own (length s.outputs) (settled_outputs s) ≡ own (outputs_of t) (outputs_on t) =
     ap (λ (o : ℕ). own o (settled_outputs s)) is.outputs ∙ ap (own (outputs_of t)) same_value in
     record {
-      verified = λ said. verified_moved t.params (length s.nodes) (writes_of t) (node_function s) (write_function t) (outputs_of t) (outputs_on t) made c.lines c.limit
-          c.limit c.gates borrow (subst IsVerified there said);
+      verified = λ said. verified_moved t.params (length s.nodes) (writes_of t) (node_function s) (write_function t) (outputs_of t) (outputs_on t) made
+          c.lines c.limit c.limit c.gates borrow (subst IsVerified there said);
       refused = λ fault said. fault_moved t.params (length s.nodes) (writes_of t) (node_function s) (write_function t) (outputs_of t) (outputs_on t) made
           c.lines c.limit c.limit c.gates borrow limit fault (subst (λ (q : Comparison). IsVerifyFault q limit fault) there said);
     }
