@@ -1,6 +1,6 @@
 -- Gates on planes, a place at a time.
 use Rattle.std.proofs.Common.{◌≡◌, ℕ, ◌+◌, ◌-◌, ◌^◌, ◌<◌, ◌≤◌, Bool, true, false, not, ◌&&◌, cond, List, [], ◌∷◌, ◌++◌, length, get_or, set, take, drop}
-use Rattle.std.proofs.Common.{bit_xor, refl, sym, ap, ◌∙◌, arith}
+use Rattle.std.proofs.Common.{subst, bit_xor, refl, sym, ap, ◌∙◌, arith}
 use Rattle.std.specs.Bool.{xor}
 use Rattle.std.specs.List.{AllByRecursion, list_all}
 use Rattle.std.proofs.lemmas.List.{get_or-map, length-map, map-set, take_more, take_all, drop_all, set-get_or}
@@ -123,8 +123,10 @@ gates_more gates done gate before now next inside is underway step = record {
       ∙ line_map_more gates done gate (column place now) (line_map gates (column place before)) inside is (underway.each place below);
 }
 
-pub gates_done : (gates : List GateView) (done : ℕ) (before now : List ℕ) → length gates ≤ done → IsUnderway gates done before now
-    → AreMapped gates before now
-gates_done gates done before now over underway = record {
-  each = λ place below. ap (λ gs. line_map gs (column place now)) (sym (drop_all done gates over)) ∙ underway.each place below;
-}
+pub gates_done : (gates items : List GateView) (done : ℕ) (before now : List ℕ) → items ≡ gates → length items ≤ done
+    → IsUnderway items done before now → AreMapped gates before now
+gates_done gates items done before now same over underway = subst (λ gs. AreMapped gs before now) same (record {
+  each = λ place below. ap (λ gs. line_map gs (column place now)) (sym (drop_all done items over)) ∙ underway.each place below;
+})
+
+pub ruleset walking = (gates_begun, gates_more, gates_done)

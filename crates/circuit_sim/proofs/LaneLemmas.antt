@@ -194,12 +194,14 @@ lanes_more gates done gate before now next inside is underway step = record {
       gates_more gates done gate (lane number before) (lane number now) (lane number next) inside is (underway.each number below) (step.each number below);
 }
 
-pub lanes_done : (gates : List GateView) (done : ℕ) (before now : List (List ℕ)) → length gates ≤ done → IsUnderwayInLanes gates done before now
-    → AreMappedInLanes gates before now
-lanes_done gates done before now over underway = record {
+pub lanes_done : (gates items : List GateView) (done : ℕ) (before now : List (List ℕ)) → items ≡ gates → length items ≤ done
+    → IsUnderwayInLanes items done before now → AreMappedInLanes gates before now
+lanes_done gates items done before now same over underway = record {
   vectors = underway.vectors;
-  each = λ number below. gates_done gates done (lane number before) (lane number now) over (underway.each number below);
+  each = λ number below. gates_done gates items done (lane number before) (lane number now) same over (underway.each number below);
 }
+
+pub ruleset walking_in_lanes = (lanes_begun, lanes_more, lanes_done)
 
 -- ---- planes onto a lane, and off it
 

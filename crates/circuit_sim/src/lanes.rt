@@ -11,6 +11,7 @@ use std::simd::u64x8;
 /// Runs a circuit on 512 contents of its lines at once: there is a vector of eight planes for each
 /// line, and each of the eight lanes goes through the circuit as by `run_planes`. It takes no
 /// memory.
+#[tactic(auto, using(crate::proofs::LaneLemmas::walking_in_lanes))]
 pub fn run_lanes(circuit: &Circuit, planes: &mut [u64x8])
     requires lines { length planes.old ≡ circuit.now.lines }
     requires vectors { AreVectors planes.old }
@@ -22,6 +23,7 @@ pub fn run_lanes(circuit: &Circuit, planes: &mut [u64x8])
 }
 
 // Runs a circuit on two such groups of contents at once: each gate is read once for both.
+#[tactic(auto, using(crate::proofs::LaneLemmas::walking_in_lanes))]
 pub fn run_pair(circuit: &Circuit, first: &mut [u64x8], second: &mut [u64x8])
     requires lines { (length first.old ≡ circuit.now.lines)
         × (length second.old ≡ circuit.now.lines) }

@@ -10,6 +10,7 @@ use mct_circuit::{Circuit, Control, Gate, Op};
 /// Runs a circuit on 64 contents of its lines at once: there is a plane for each line, and the bits
 /// of all planes at one place are one content. Each content becomes its line map. It takes no
 /// memory.
+#[tactic(auto, using(crate::proofs::GateLemmas::walking))]
 pub fn run_planes(circuit: &Circuit, planes: &mut [u64])
     requires { length planes.old ≡ circuit.now.lines }
     ensures { AreMapped circuit.now.gates planes.old planes.new }
