@@ -2,14 +2,13 @@
 ghost use Rattle.std.specs.Prelude.{◌≡◌, ◌≢◌, ℕ, ◌+◌, ◌<◌, ◌≤◌, List, [], ◌∷◌, length};
 ghost use Rattle.std.specs.Prelude.{Option, Some, None, Ok, Err, OnOk, IfOk, IfErr, IsErrOf};
 ghost use Rattle.std.specs.Prelude.{IsSome};
-ghost use Rattle.std.specs.Prelude.{false, replicate, unwrap_or};
-ghost use Rattle.std.specs.Option.{option_map};
+ghost use Rattle.std.specs.Prelude.{true, false, replicate, unwrap_or};
+ghost use Rattle.std.specs.Option.{is_some, option_map};
 ghost use Rattle.std.specs.List.{find};
 ghost use Rattle.std.specs.Str.{bytes_eq};
 ghost use Rattle.real_format.specs.Header.{HeaderView, IsName, nothing_said, spelling_of};
 ghost use Rattle.real_format.specs.inside.Reading.{Refuses, header_line, file_of, add, garbage_of};
-ghost use Rattle.real_format.specs.inside.Reading.{add_version, add_lines, add_names, add_inputs};
-ghost use Rattle.real_format.specs.inside.Reading.{add_outputs, add_constants, add_garbage};
+ghost use Rattle.real_format.specs.inside.Reading.{add_version, add_lines, add_names, AddsMarks};
 ghost use Rattle.real_format.specs.inside.Reading.{is_version, count_of, names_from, constant_of};
 ghost use Rattle.real_format.specs.inside.Reading.{more_names, new_marks, marks_of, marks_from};
 ghost use Rattle.real_format.specs.inside.Says.{HeaderSays, BeginsAs};
@@ -192,16 +191,17 @@ impl<'t> Header<'t> {
         ensures ok { OnOk result (add head self.old words.old ≡ Ok self.new) }
         ensures err { IfErr result (Refuses (add head self.old words.old)) }
     {
+        let lines = self.lines;
         match head {
             Head::Version => self.add_version(words),
             Head::Lines => self.add_lines(words),
             Head::Names => self.add_names(alloc, words),
-            Head::Inputs => self.add_inputs(),
-            Head::Outputs => self.add_outputs(),
+            Head::Inputs => say_once(&mut self.inputs),
+            Head::Outputs => say_once(&mut self.outputs),
             Head::InputBus => Ok(()),
             Head::OutputBus => Ok(()),
-            Head::Constants => self.add_constants(alloc, words),
-            Head::Garbage => self.add_garbage(alloc, words),
+            Head::Constants => add_marks(alloc, &mut self.constants, lines, words),
+            Head::Garbage => add_marks(alloc, &mut self.garbage, lines, words),
         }
     }
 
@@ -248,48 +248,18 @@ impl<'t> Header<'t> {
         let names = self.names.get_or_insert(Names::new(alloc));
         add_names(names, lines, words)
     }
+}
 
-    fn add_inputs(&mut self) -> Result<(), LineRefusal>
-        ensures ok { OnOk result (add_inputs self.old ≡ Ok self.new) }
-        ensures err { IfErr result (Refuses (add_inputs self.old)) }
-        ensures exact { ¬ IsErrOf result LineRefusal.Memory }
-    {
-        if self.inputs {
-            return Err(LineRefusal::Form);
-        }
-        self.inputs = true;
-        Ok(())
+// What may be said once.
+fn say_once(said: &mut bool) -> Result<(), LineRefusal>
+    ensures ok { OnOk result ((said.old ≡ false) × (said.new ≡ true)) }
+    ensures err { IfErr result (λ refusal. (refusal ≡ LineRefusal.Form) × (said.old ≡ true)) }
+{
+    if *said {
+        return Err(LineRefusal::Form);
     }
-
-    fn add_outputs(&mut self) -> Result<(), LineRefusal>
-        ensures ok { OnOk result (add_outputs self.old ≡ Ok self.new) }
-        ensures err { IfErr result (Refuses (add_outputs self.old)) }
-        ensures exact { ¬ IsErrOf result LineRefusal.Memory }
-    {
-        if self.outputs {
-            return Err(LineRefusal::Form);
-        }
-        self.outputs = true;
-        Ok(())
-    }
-
-    fn add_constants(&mut self, alloc: Global, words: &mut Words<'t>) -> Result<(), LineRefusal>
-        ensures ok { OnOk result (add_constants self.old words.old ≡ Ok self.new) }
-        ensures err { IfErr result (Refuses (add_constants self.old words.old)) }
-    {
-        let said = self.constants.is_some();
-        self.constants = Some(new_marks(alloc, said, self.lines, words)?);
-        Ok(())
-    }
-
-    fn add_garbage(&mut self, alloc: Global, words: &mut Words<'t>) -> Result<(), LineRefusal>
-        ensures ok { OnOk result (add_garbage self.old words.old ≡ Ok self.new) }
-        ensures err { IfErr result (Refuses (add_garbage self.old words.old)) }
-    {
-        let said = self.garbage.is_some();
-        self.garbage = Some(new_marks(alloc, said, self.lines, words)?);
-        Ok(())
-    }
+    *said = true;
+    Ok(())
 }
 
 fn is_version(word: &[u8]) -> bool
@@ -396,22 +366,25 @@ impl Marking for bool {
 }
 
 // The marks of all lines, once, and behind the number of lines.
-fn new_marks<M: Marking>(
+fn add_marks<M: Marking>(
     alloc: Global,
-    said: bool,
+    marks: &mut Option<Vec<M>>,
     lines: Option<u32>,
     words: &mut Words,
-) -> Result<Vec<M>, LineRefusal>
-    ensures ok { IfOk result (λ marks. new_marks M.marking said lines words.old ≡ Ok marks.items) }
-    ensures err { IfErr result (Refuses (new_marks M.marking said lines words.old)) }
+) -> Result<(), LineRefusal>
+    ensures ok { OnOk result (AddsMarks (new_marks M.marking (is_some marks.old) lines words.old)
+        (option_map (λ v. v.items) marks.new)) }
+    ensures err { IfErr result
+        (Refuses (new_marks M.marking (is_some marks.old) lines words.old)) }
 {
-    if said {
+    if marks.is_some() {
         return Err(LineRefusal::Form);
     }
     let Some(count) = lines else {
         return Err(LineRefusal::Form);
     };
-    marks_of(alloc, count, words)
+    *marks = Some(marks_of(alloc, count, words)?);
+    Ok(())
 }
 
 // So many marks: the one word that is left.
@@ -447,35 +420,13 @@ fn all_marks(
     ensures garbage { IfOk result (λ marks. marks.1.items
         ≡ unwrap_or (option_map (λ v. v.items) garbage) (replicate count false)) }
 {
-    let constants = all_constants(alloc, constants, count)?;
-    let garbage = all_garbage(alloc, garbage, count)?;
+    let constants = match constants {
+        Some(marks) => marks,
+        None => vec![in alloc; Mark::Free; count]?,
+    };
+    let garbage = match garbage {
+        Some(marks) => marks,
+        None => vec![in alloc; false; count]?,
+    };
     Ok((constants, garbage))
-}
-
-fn all_constants(
-    alloc: Global,
-    constants: Option<Vec<Mark>>,
-    count: usize,
-) -> Result<Vec<Mark>, AllocError>
-    ensures { IfOk result (λ all. all.items
-        ≡ unwrap_or (option_map (λ v. v.items) constants) (replicate count Mark.Free)) }
-{
-    match constants {
-        Some(marks) => Ok(marks),
-        None => vec![in alloc; Mark::Free; count],
-    }
-}
-
-fn all_garbage(
-    alloc: Global,
-    garbage: Option<Vec<bool>>,
-    count: usize,
-) -> Result<Vec<bool>, AllocError>
-    ensures { IfOk result (λ all. all.items
-        ≡ unwrap_or (option_map (λ v. v.items) garbage) (replicate count false)) }
-{
-    match garbage {
-        Some(marks) => Ok(marks),
-        None => vec![in alloc; false; count],
-    }
 }

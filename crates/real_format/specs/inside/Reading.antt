@@ -146,32 +146,32 @@ abbrev pub new_marks : {M : Type 0} → (ℕ → Option M) → Bool → Option �
 new_marks f said lines words =
     if said then Err Form else or_form lines (λ n. marks_of f n words)
 
-abbrev pub add_constants : HeaderView → List (List ℕ) → Result HeaderView LineRefusal
-add_constants said words =
-    and_then (new_marks constant_of (is_some said.constants) said.lines words)
-    (λ marks. Ok (with_constants said marks))
+-- these are the new marks
+abbrev pub AddsMarks : {M : Type 0} → Result (List M) LineRefusal → Option (List M) → Type 0
+AddsMarks said None = ⊥
+AddsMarks said (Some marks) = said ≡ Ok marks
 
-abbrev pub add_garbage : HeaderView → List (List ℕ) → Result HeaderView LineRefusal
-add_garbage said words =
-    and_then (new_marks garbage_of (is_some said.garbage) said.lines words)
-    (λ marks. Ok (with_garbage said marks))
+abbrev pub add_marks : {M : Type 0} → (ℕ → Option M) → (old : Option (List M)) → Option ℕ
+    → (with_marks : List M → HeaderView) → List (List ℕ) → Result HeaderView LineRefusal
+add_marks f old lines with_marks words =
+    and_then (new_marks f (is_some old) lines words) (λ marks. Ok (with_marks marks))
 
-abbrev pub add_inputs : HeaderView → Result HeaderView LineRefusal
-add_inputs said = if said.inputs then Err Form else Ok (record said { inputs = true })
-
-abbrev pub add_outputs : HeaderView → Result HeaderView LineRefusal
-add_outputs said = if said.outputs then Err Form else Ok (record said { outputs = true })
+-- what may be said once, and the header with it
+abbrev pub say_once : (old : Bool) → HeaderView → Result HeaderView LineRefusal
+say_once old after = if old then Err Form else Ok after
 
 abbrev pub add : Head → HeaderView → List (List ℕ) → Result HeaderView LineRefusal
 add heads.Version said words = add_version said words
 add heads.Lines said words = add_lines said words
 add heads.Names said words = add_names said words
-add heads.Inputs said words = add_inputs said
-add heads.Outputs said words = add_outputs said
+add heads.Inputs said words = say_once said.inputs (record said { inputs = true })
+add heads.Outputs said words = say_once said.outputs (record said { outputs = true })
 add heads.InputBus said words = Ok said
 add heads.OutputBus said words = Ok said
-add heads.Constants said words = add_constants said words
-add heads.Garbage said words = add_garbage said words
+add heads.Constants said words =
+    add_marks constant_of said.constants said.lines (with_constants said) words
+add heads.Garbage said words =
+    add_marks garbage_of said.garbage said.lines (with_garbage said) words
 
 abbrev pub all_heads : List Head
 all_heads =
