@@ -3,7 +3,7 @@ use Rattle.std.proofs.Common.{◌≡◌, ℕ, eqb, Bool, true, false, ◌&&◌, 
 use Rattle.std.specs.List.{list_all, prefix_len}
 use Rattle.std.specs.Char.{is_ascii_alphabetic, is_ascii_digit}
 use Rattle.std.specs.Str.Parse.{AllDigits, IsNumeral}
-use Rattle.std.proofs.lemmas.Bool.{false≢true, ne_eqb}
+use Rattle.std.proofs.lemmas.Bool.{false≢true}
 use Rattle.text_places.specs.Bytes.{is_name_byte}
 use Rattle.text_places.proofs.DigitLemmas.{all_digits, AllDigits-from_all}
 use Rattle.text_places.proofs.RunLemmas.{run_is_all}
@@ -15,14 +15,6 @@ identifier_by_run [] letter = absurd (false≢true letter)
 identifier_by_run (b ∷ bs) letter =
     run_is_all is_name_byte (b ∷ bs) ∙ ap (λ (t : Bool). t && list_all is_name_byte bs) (letter_goes_on b letter)
     ∙ sym (ap (λ (t : Bool). t && list_all is_name_byte bs) letter)
-
-pub no_identifier : (word : List ℕ) → is_ascii_alphabetic (get_or word 0 0) ≡ false → false ≡ is_identifier word
-no_identifier [] other = refl
-no_identifier (b ∷ bs) other = sym (ap (λ (t : Bool). t && list_all is_name_byte bs) other)
-
-pub empty_is_none : (word : List ℕ) → eqb (length word) 0 ≡ true → (false ≡ is_identifier word) × (false ≡ is_number word)
-empty_is_none [] e = (refl, refl)
-empty_is_none (b ∷ bs) e = absurd (false≢true (sym (ne_eqb (length (b ∷ bs)) 0 (λ s. omega arith)) ∙ e))
 
 pub number_by_run : (word : List ℕ) → eqb (length word) 0 ≡ false → eqb (prefix_len is_ascii_digit word) (length word) ≡ is_number word
 number_by_run [] some = absurd (false≢true (sym some))
