@@ -11,7 +11,7 @@ ghost use Rattle.qasm_format.specs.Qasm.{MeansFile, Reads};
 ghost use Rattle.qasm_format.specs.Faults.{IsStop, IsQasmFault};
 ghost use Rattle.qasm_format.specs.inside.Spread.{AreAllDifferent, ArePushed, controls_at};
 ghost use Rattle.qasm_format.specs.inside.Says.{ReadsWord, StopsAtWord, TakesName, IsNameFault};
-ghost use Rattle.qasm_format.specs.inside.Says.{TakesNumber, IsNumberFault, ReadsWords};
+ghost use Rattle.qasm_format.specs.inside.Says.{TakesNumber, IsNumberFault, IsUnfit, ReadsWords};
 ghost use Rattle.qasm_format.specs.inside.Says.{StopsAtWords, ReadsSize, StopsAtSize};
 ghost use Rattle.qasm_format.specs.inside.Says.{ReadsArgument, StopsAtArgument, ReadsIndex};
 ghost use Rattle.qasm_format.specs.inside.Says.{StopsAtIndex, ReadsBarrier, StopsAtBarrier};
@@ -123,12 +123,8 @@ fn take_name<'t>(tokens: &mut Tokens<'t>) -> Result<Token<'t>, QasmFault>
     ensures exact { ¬ IsErrOf result QasmFault.Memory }
 {
     let token = tokens.next();
-    if !is_identifier(token.word) {
-        return Err(QasmFault::Token { at: token.at });
-    }
-    if token.word.len() > MOST_NAME_BYTES {
-        return Err(QasmFault::Limit { at: token.at });
-    }
+    let word = token.word;
+    admit(token.at, is_identifier(word), word.len(), MOST_NAME_BYTES)?;
     Ok(token)
 }
 
@@ -139,13 +135,23 @@ fn take_number(tokens: &mut Tokens) -> Result<(u32, Place), QasmFault>
     ensures exact { ¬ IsErrOf result QasmFault.Memory }
 {
     let token = tokens.next();
-    if !is_number(token.word) {
-        return Err(QasmFault::Token { at: token.at });
+    let word = token.word;
+    admit(token.at, is_number(word), word.len(), MOST_DIGITS)?;
+    Ok((number(word), token.at))
+}
+
+// A token of the wanted kind, of at most so many bytes.
+fn admit(at: Place, is_kind: bool, len: usize, most: usize) -> Result<(), QasmFault>
+    ensures ok { OnOk result ((is_kind ≡ true) × (len ≤ most)) }
+    ensures err { IfErr result (IsUnfit at is_kind len most) }
+{
+    if !is_kind {
+        return Err(QasmFault::Token { at });
     }
-    if token.word.len() > MOST_DIGITS {
-        return Err(QasmFault::Limit { at: token.at });
+    if len > most {
+        return Err(QasmFault::Limit { at });
     }
-    Ok((number(token.word), token.at))
+    Ok(())
 }
 
 fn read_head(tokens: &mut Tokens) -> Result<(), QasmFault>

@@ -46,6 +46,12 @@ pub record IsLongToken (is_kind : List ℕ → Bool) (most : ℕ) (old : Left) (
   pub spelled : is_kind word ≡ true
   pub long : most < length word
 
+-- why a token of so many bytes is refused: it is of another kind, or too long
+abbrev pub IsUnfit : (at : Place) → (is_kind : Bool) → (len most : ℕ) → QasmFault → Type 0
+IsUnfit at is_kind len most (Token place) = (place ≡ at) × (is_kind ≡ false)
+IsUnfit at is_kind len most (Limit place) = (place ≡ at) × (is_kind ≡ true) × (most < len)
+IsUnfit at is_kind len most Memory = ⊥
+
 -- why no token of this kind, of at most so many bytes, was taken
 abbrev pub IsTokenFault : (List ℕ → Bool) → ℕ → Left → QasmFault → Type 0
 IsTokenFault is_kind most old (Token at) = IsOtherToken is_kind old at
