@@ -14,7 +14,6 @@ mod writer;
 pub use file::{QasmFault, QasmFile, Register};
 pub use law::{
     compiled_meaning, converted_meaning, files_are_statements, meanings_are_files, one_reading,
-    some_reading,
 };
 pub use reader::read;
 pub use writer::{write, write_lines};

@@ -24,16 +24,11 @@ pub fn one_meaning()
     ensures { OneMeaning }
 {}
 
-/// The law of one reading: a text means at most one file, has at most one fault, and never both.
-/// The function does nothing: its contract is the law.
+/// The law of one reading: each text means one file or has one fault, and never both. The function
+/// does nothing: its contract is the law.
 pub fn one_reading()
-    ensures { OneReading MeansFile IsTextFault }
-{}
-
-/// The law of some reading: each text means a file or has a fault. The function does nothing: its
-/// contract is the law.
-pub fn some_reading()
-    ensures { SomeReading MeansFile IsTextFault }
+    ensures one { OneReading MeansFile IsTextFault }
+    ensures some { SomeReading MeansFile IsTextFault }
 {}
 
 /// The law of files: what a text means has different names for its lines, a mark of each kind for

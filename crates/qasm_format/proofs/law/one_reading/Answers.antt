@@ -1,5 +1,9 @@
 use Rattle.qasm_format.proofs.OneReadingLemmas.{one_reading}
+use Rattle.qasm_format.proofs.SomeReadingLemmas.{some_reading}
 use Rattle.qasm_format.proofs.law.one_reading.Goals as goal
 
-pub returns : goal.returns
-returns c = one_reading
+pub returns-clause-one : goal.returns-clause-one
+returns-clause-one c = one_reading
+
+pub returns-clause-some : goal.returns-clause-some
+returns-clause-some c = some_reading
