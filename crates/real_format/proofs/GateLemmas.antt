@@ -307,17 +307,21 @@ are_controls names wanted done (c ∷ cs) (w ∷ ws) rest are named different co
     (ap length whole ∙ count)
     ∙ ap (λ xs. Ok (xs, rest)) whole
 
--- a long name among the controls
-pub record HasLongControl (names : List (List ℕ)) (wanted : ℕ) (done : List Control) (words : List (List ℕ)) : Type 0 where
+-- a name among words, behind those that name these
+pub record StandsBehind {A : Type 0} (Names : List ℕ → A → Type 0) (words : List (List ℕ)) : Type 0 where
   pub good : List (List ℕ)
-  pub more : List Control
+  pub named : List A
   pub name : List ℕ
   pub rest : List (List ℕ)
   pub parts : words ≡ good ++ name ∷ rest
-  pub named : AllZip (NamesControl names) good more
-  pub few : length (done ++ more) < wanted
-  pub different : AreDifferent (lines_of_controls done) → AreDifferent (lines_of_controls (done ++ more))
-  pub long_name : IsLong name ⊎ ((unsigned_name : List ℕ) × (name ≡ 45 ∷ unsigned_name) × IsLong unsigned_name)
+  pub are_named : AllZip Names good named
+
+-- a long name among the controls
+pub record HasLongControl (names : List (List ℕ)) (wanted : ℕ) (done : List Control) (words : List (List ℕ)) : Type 0 where
+  pub at : StandsBehind (NamesControl names) words
+  pub few : length (done ++ at.named) < wanted
+  pub different : AreDifferent (lines_of_controls done) → AreDifferent (lines_of_controls (done ++ at.named))
+  pub long_name : IsLong at.name ⊎ ((unsigned_name : List ℕ) × (at.name ≡ 45 ∷ unsigned_name) × IsLong unsigned_name)
 
 pub controls_long : (names : List (List ℕ)) (wanted : ℕ) (done : List Control) (words : List (List ℕ)) → length done ≤ wanted
     → controls_from names wanted done words ≡ Err Limit → HasLongControl names wanted done words
@@ -337,12 +341,7 @@ controls_long names wanted done (w ∷ ws) few e = by (λ control. controls_long
         elim (and_limit (control_of names (λ line. has_line line (lines_of_controls done)) w) (λ control. controls_from names wanted
         (done ++ control ∷ []) ws) f) [
           | inl here ↦ record {
-            good = [];
-            more = [];
-            name = w;
-            rest = ws;
-            parts = refl;
-            named = tt;
+            at = record { good = []; named = []; name = w; rest = ws; parts = refl; are_named = tt };
             few = subst (λ cs. length cs < wanted) (sym (append-nil done)) room;
             different = λ d. subst (λ cs. AreDifferent (lines_of_controls cs)) (sym (append-nil done)) d;
             long_name = control_long names (λ line. has_line line (lines_of_controls done)) w here;
@@ -350,14 +349,16 @@ controls_long names wanted done (w ∷ ws) few e = by (λ control. controls_long
           | inr later ↦
               let c = control_is names (λ line. has_line line (lines_of_controls done)) w later.0 later.1 in
               let r = again later.0 (omega (arith, length-append done (later.0 ∷ []))) later.2 in
-              let whole : (done ++ later.0 ∷ []) ++ r.more ≡ done ++ (later.0 ∷ r.more) = append_assoc done (later.0 ∷ []) r.more in
+              let whole : (done ++ later.0 ∷ []) ++ r.at.named ≡ done ++ (later.0 ∷ r.at.named) = append_assoc done (later.0 ∷ []) r.at.named in
               record {
-                good = w ∷ r.good;
-                more = later.0 ∷ r.more;
-                name = r.name;
-                rest = r.rest;
-                parts = ap (λ xs. w ∷ xs) r.parts;
-                named = (c.named, r.named);
+                at = record {
+                  good = w ∷ r.at.good;
+                  named = later.0 ∷ r.at.named;
+                  name = r.at.name;
+                  rest = r.at.rest;
+                  parts = ap (λ xs. w ∷ xs) r.at.parts;
+                  are_named = (c.named, r.at.are_named);
+                };
                 few = subst (λ cs. length cs < wanted) whole r.few;
                 different = λ d. subst (λ cs. AreDifferent (lines_of_controls cs)) whole
                     (r.different (subst AreDifferent (sym (lines_of_controls-more done later.0)) (different_more
@@ -483,15 +484,10 @@ is_op names targets used (w ∷ v ∷ []) (Swap a b) are count named different =
 
 -- a long name among the lines that a gate changes
 pub record HasLongTarget (names : List (List ℕ)) (targets : ℕ) (used : List ℕ) (words : List (List ℕ)) : Type 0 where
-  pub good : List (List ℕ)
-  pub lines : List ℕ
-  pub name : List ℕ
-  pub rest : List (List ℕ)
-  pub parts : words ≡ good ++ name ∷ rest
-  pub few : length good < targets
-  pub named : AllZip (NamesLine names) good lines
-  pub different : AreDifferent used → AreDifferent (used ++ lines)
-  pub long_name : IsLong name
+  pub at : StandsBehind (NamesLine names) words
+  pub few : length at.good < targets
+  pub different : AreDifferent used → AreDifferent (used ++ at.named)
+  pub long_name : IsLong at.name
 
 alone_no_limit : {B : Type 0} (op : Op) (words : List (List ℕ)) → alone op words ≡ Err Limit → B
 alone_no_limit op words e = let p = then_limit (is_nil words) (Ok op) e in ok_no_limit op p.1
@@ -512,13 +508,8 @@ op_long_at names targets used words two first (v ∷ vs) at false more e =
             let l = at.line_of_it in
             let is_two : targets ≡ 2 = elim two [ inl o ↦ absurd (eqb-false targets 1 more o) | inr t ↦ t ] in
             record {
-              good = at.word ∷ [];
-              lines = first ∷ [];
-              name = v;
-              rest = vs;
-              parts = at.parts;
+              at = record { good = at.word ∷ []; named = first ∷ []; name = v; rest = vs; parts = at.parts; are_named = (l.named, tt) };
               few = omega arith;
-              named = (l.named, tt);
               different = λ d. different_more used first d l.free;
               long_name = line_long names (λ line. has_line line used || eqb line first) v long_here;
             }
@@ -537,13 +528,8 @@ op_long names targets used (w ∷ ws) two e =
       | inl here ↦ elim (and_limit (line_of names (λ line. has_line line used) w) (λ l. Ok (l, ws)) here) [
         | inr later ↦ ok_no_limit (later.0, ws) later.2
         | inl long_here ↦ record {
-          good = [];
-          lines = [];
-          name = w;
-          rest = ws;
-          parts = refl;
+          at = record { good = []; named = []; name = w; rest = ws; parts = refl; are_named = tt };
           few = elim two [ inl o ↦ omega arith | inr t ↦ omega arith ];
-          named = tt;
           different = λ d. subst AreDifferent (sym (append-nil used)) d;
           long_name = line_long names (λ line. has_line line used) w long_here;
         }

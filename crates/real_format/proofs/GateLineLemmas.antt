@@ -142,25 +142,26 @@ gate_long file words word s room shaped e =
     (λ op. Ok (let g : GateView = record { controls = read.0; op = op } in g))) e) [
       | inl here ↦
           let l = controls_long names s.controls [] words (omega arith) here in
-          let few : length l.good < s.controls = (let h = l.few in let k = AllZip-long (NamesControl names) l.good l.more l.named in omega arith) in
+          let few : length l.at.good < s.controls =
+          (let h = l.few in let k = AllZip-long (NamesControl names) l.at.good l.at.named l.at.are_named in omega arith) in
           record {
             word = word;
-            control_words = l.good;
+            control_words = l.at.good;
             target_words = [];
-            name = l.name;
-            rest = l.rest;
+            name = l.at.name;
+            rest = l.at.rest;
             wanted_controls = s.controls;
             wanted_targets = s.targets;
-            controls = l.more;
+            controls = l.at.named;
             targets = [];
             room = room;
-            words = ap (λ ws. word ∷ ws) (l.parts ∙ ap (λ front. front ++ l.name ∷ l.rest) (sym (append-nil l.good)));
+            words = ap (λ ws. word ∷ ws) (l.at.parts ∙ ap (λ front. front ++ l.at.name ∷ l.at.rest) (sym (append-nil l.at.good)));
             gate_word = is;
             few = omega arith;
             good = record {
-              controlled = l.named;
+              controlled = l.at.are_named;
               targeted = tt;
-              different = subst AreDifferent (sym (append-nil (lines_of_controls l.more))) (l.different tt);
+              different = subst AreDifferent (sym (append-nil (lines_of_controls l.at.named))) (l.different tt);
             };
             long = inl (refl, few, l.long_name);
           }
@@ -176,20 +177,21 @@ gate_long file words word s room shaped e =
                 record {
                   word = word;
                   control_words = c.more_words;
-                  target_words = l.good;
-                  name = l.name;
-                  rest = l.rest;
+                  target_words = l.at.good;
+                  name = l.at.name;
+                  rest = l.at.rest;
                   wanted_controls = s.controls;
                   wanted_targets = s.targets;
                   controls = later.0.0;
-                  targets = l.lines;
+                  targets = l.at.named;
                   room = room;
-                  words = ap (λ ws. word ∷ ws) (c.parts ∙ ap (λ back. c.more_words ++ back) l.parts ∙ sym (append_assoc c.more_words l.good (l.name ∷ l.rest)));
+                  words = ap (λ ws. word ∷ ws)
+                      (c.parts ∙ ap (λ back. c.more_words ++ back) l.at.parts ∙ sym (append_assoc c.more_words l.at.good (l.at.name ∷ l.at.rest)));
                   gate_word = is;
                   few = omega arith;
                   good = record {
                     controlled = subst (AllZip (NamesControl names) c.more_words) (sym c.is) c.named;
-                    targeted = l.named;
+                    targeted = l.at.are_named;
                     different = l.different (c.different tt);
                   };
                   long = inr (count, l.long_name);
