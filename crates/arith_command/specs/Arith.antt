@@ -4,7 +4,7 @@ use Rattle.arith_runs.specs.Computes.{Computes}
 use Rattle.arith_templates.specs.Meets.{inputs_of, outputs_of, Meets}
 use Rattle.arith_templates.specs.Texts.{text_of}
 use Rattle.arith_templates.specs.declared.kind.Kind.TheVariants.{Add}
-use Rattle.command_answers.specs.Outcomes.{Promise, IsNoBudget, IsNoFault}
+use Rattle.command_answers.specs.Outcomes.{Promise, budget_promise}
 use Rattle.command_answers.specs.declared.fault.Fault.{Fault}
 use Rattle.circuit_plans.specs.declared.choice.How.TheVariants.{Auto}
 use Rattle.circuit_plans.specs.declared.roles.Roles.{Roles}
@@ -109,12 +109,4 @@ abbrev pub Serves : OrderView → List ℕ → Type 0
 Serves order text = ServesAs order.write order
 
 abbrev pub promise : Promise
-promise = record {
-  reads = None;
-  statuses = 6 ∷ 7 ∷ [];
-  Gives = Gives;
-  IsCause = IsCause;
-  Serves = Serves;
-  IsExact = IsNoBudget;
-  MayPrecede = IsNoFault;
-}
+promise = budget_promise None (6 ∷ 7 ∷ []) Gives IsCause Serves

@@ -1,6 +1,6 @@
 -- `convert`: the file of the narrow gates in place of a circuit's gates, on its lines or on one more.
 use Rattle.std.specs.Prelude.{◌≡◌, ℕ, ◌+◌, ◌<◌, Bool, true, false, Result, Ok, Err, List, [], ◌∷◌, ◌++◌, length, Some}
-use Rattle.command_answers.specs.Outcomes.{Promise, IsAnyFault, IsNoFault}
+use Rattle.command_answers.specs.Outcomes.{Promise, exact_promise}
 use Rattle.mct_circuit.specs.Gates.{GateView, AreNarrow, line_map}
 use Rattle.gate_split.specs.declared.fault.SplitFault.{SplitFault}
 use Rattle.gate_split.specs.declared.fault.SplitFault.TheVariants as splits
@@ -122,15 +122,9 @@ IsCause most order text _ = ⊥
 
 -- where it has one, a command serves: these bytes are what it gives
 abbrev pub promise_within : (most : ℕ) → (OrderView → List ℕ → List ℕ → Type 0) → Promise
-promise_within most Gives = record {
-  reads = Some circuit_limit;
-  statuses = 6 ∷ 7 ∷ 8 ∷ [];
-  Gives = Gives;
-  IsCause = IsCause most;
-  Serves = λ order text. CanSplit most order.from text;
-  IsExact = IsAnyFault;
-  MayPrecede = IsNoFault;
-}
+promise_within most Gives =
+    exact_promise (Some circuit_limit) (6 ∷ 7 ∷ 8 ∷ []) Gives (IsCause most)
+    (λ order text. CanSplit most order.from text)
 
 -- ---- the command
 

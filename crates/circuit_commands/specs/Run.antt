@@ -1,6 +1,6 @@
 -- `run`: the bits that a circuit gives on the bits of each word.
 use Rattle.std.specs.Prelude.{◌≡◌, ℕ, ◌+◌, Bool, true, false, List, [], ◌∷◌, ◌++◌, length, cond, count_by, Some}
-use Rattle.command_answers.specs.Outcomes.{Promise, IsAnyFault, IsNoFault}
+use Rattle.command_answers.specs.Outcomes.{Promise, exact_promise}
 use Rattle.std.specs.List.{AllByRecursion, flat_map}
 use Rattle.mct_circuit.specs.Gates.{line_map}
 use Rattle.real_format.specs.declared.file.Mark.{Mark}
@@ -97,12 +97,4 @@ abbrev pub Serves : OrderView → List ℕ → Type 0
 Serves order text = CanRun order text
 
 abbrev pub promise : Promise
-promise = record {
-  reads = Some circuit_limit;
-  statuses = 8 ∷ 12 ∷ [];
-  Gives = Gives;
-  IsCause = IsCause;
-  Serves = Serves;
-  IsExact = IsAnyFault;
-  MayPrecede = IsNoFault;
-}
+promise = exact_promise (Some circuit_limit) (8 ∷ 12 ∷ []) Gives IsCause Serves

@@ -1,6 +1,6 @@
 -- `stat`: the counts and the depth of a circuit.
 use Rattle.std.specs.Prelude.{◌≡◌, ℕ, List, ◌++◌, length, codes, Some, [], ◌∷◌}
-use Rattle.command_answers.specs.Outcomes.{Promise, IsAnyFault, IsNoFault}
+use Rattle.command_answers.specs.Outcomes.{Promise, exact_promise}
 use Rattle.mct_circuit.specs.declared.size.Counts.{Counts}
 use Rattle.mct_circuit.specs.Sizes.{counts_of, depth_of}
 use Rattle.revc_words.specs.declared.order.Format.{Format}
@@ -53,12 +53,4 @@ abbrev pub Serves : OrderView → List ℕ → Type 0
 Serves order text = (circuit : ReadCircuit) × Means order.from text circuit
 
 abbrev pub promise : Promise
-promise = record {
-  reads = Some circuit_limit;
-  statuses = 8 ∷ [];
-  Gives = Gives;
-  IsCause = IsCause;
-  Serves = Serves;
-  IsExact = IsAnyFault;
-  MayPrecede = IsNoFault;
-}
+promise = exact_promise (Some circuit_limit) (8 ∷ []) Gives IsCause Serves

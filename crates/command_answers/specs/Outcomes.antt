@@ -35,6 +35,29 @@ IsNoBudget (Lines need limit) = ⊥
 IsNoBudget (Gates limit) = ⊥
 IsNoBudget fault = Unit {0}
 
+-- the promise of a command that reads such a text, whose causes have these statuses and are all exact
+abbrev pub exact_promise : (reads : Option TextLimit) → (statuses : List ℕ)
+    → (Gives : OrderView → List ℕ → List ℕ → Type 0)
+    → (IsCause : OrderView → List ℕ → Fault → Type 0)
+    → (Serves : OrderView → List ℕ → Type 0) → Promise
+exact_promise reads statuses Gives IsCause Serves = record {
+  reads = reads;
+  statuses = statuses;
+  Gives = Gives;
+  IsCause = IsCause;
+  Serves = Serves;
+  IsExact = IsAnyFault;
+  MayPrecede = IsNoFault;
+}
+
+-- the same where budgets of plans are not
+abbrev pub budget_promise : (reads : Option TextLimit) → (statuses : List ℕ)
+    → (Gives : OrderView → List ℕ → List ℕ → Type 0)
+    → (IsCause : OrderView → List ℕ → Fault → Type 0)
+    → (Serves : OrderView → List ℕ → Type 0) → Promise
+budget_promise reads statuses Gives IsCause Serves =
+    record (exact_promise reads statuses Gives IsCause Serves) { IsExact = IsNoBudget }
+
 -- a fault that rests on the text, and not on the words, a device or memory
 abbrev pub IsOfText : Fault → Type 0
 IsOfText Usage = ⊥

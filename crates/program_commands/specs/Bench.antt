@@ -1,6 +1,6 @@
 -- `bench`: the sizes of an adder's program, and of its compiled circuit.
 use Rattle.std.specs.Prelude.{◌≡◌, ℕ, ◌≤◌, List, ◌++◌, length, codes, None, [], ◌∷◌}
-use Rattle.command_answers.specs.Outcomes.{Promise, IsNoBudget, IsNoFault}
+use Rattle.command_answers.specs.Outcomes.{Promise, budget_promise}
 use Rattle.command_answers.specs.declared.fault.Fault.{Fault}
 use Rattle.command_answers.specs.Lines.{number_line}
 use Rattle.circuit_plans.specs.declared.roles.Roles.{Roles}
@@ -75,12 +75,4 @@ abbrev pub Serves : OrderView → List ℕ → Type 0
 Serves order text = HasFittingRow order (adder_text order.number)
 
 abbrev pub promise : Promise
-promise = record {
-  reads = None;
-  statuses = 6 ∷ 7 ∷ [];
-  Gives = Gives;
-  IsCause = IsCause;
-  Serves = Serves;
-  IsExact = IsNoBudget;
-  MayPrecede = IsNoFault;
-}
+promise = budget_promise None (6 ∷ 7 ∷ []) Gives IsCause Serves

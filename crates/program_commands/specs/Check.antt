@@ -1,6 +1,6 @@
 -- `check`: how many claims a program has, each of which holds on all inputs.
 use Rattle.std.specs.Prelude.{◌≡◌, ℕ, List, ◌++◌, length, codes, Some, [], ◌∷◌}
-use Rattle.command_answers.specs.Outcomes.{Promise, IsAnyFault, IsNoFault}
+use Rattle.command_answers.specs.Outcomes.{Promise, exact_promise}
 use Rattle.program_commands.specs.Refusals.{program_limit}
 use Rattle.std.specs.Fmt.{decimal}
 use Rattle.revs_tape.specs.Tapes.{TapeView}
@@ -31,12 +31,4 @@ abbrev pub Serves : OrderView → List ℕ → Type 0
 Serves order text = (tape : TapeView) × LeavesSettled text order.nodes tape
 
 abbrev pub promise : Promise
-promise = record {
-  reads = Some program_limit;
-  statuses = 3 ∷ 4 ∷ 5 ∷ [];
-  Gives = Gives;
-  IsCause = IsCause;
-  Serves = Serves;
-  IsExact = IsAnyFault;
-  MayPrecede = IsNoFault;
-}
+promise = exact_promise (Some program_limit) (3 ∷ 4 ∷ 5 ∷ []) Gives IsCause Serves

@@ -1,6 +1,6 @@
 -- `compile`: the file of a program's clean circuit.
 use Rattle.std.specs.Prelude.{◌≡◌, ℕ, ◌+◌, ◌*◌, ◌≤◌, List, length, max, Some, [], ◌∷◌}
-use Rattle.command_answers.specs.Outcomes.{Promise, IsNoBudget, IsNoFault}
+use Rattle.command_answers.specs.Outcomes.{Promise, budget_promise}
 use Rattle.program_commands.specs.Refusals.{program_limit}
 use Rattle.claim_check.specs.Budgets.{Measures}
 use Rattle.claim_check.specs.Measures.{AreMeasuresOf, IsNoLarger}
@@ -124,12 +124,4 @@ abbrev pub Serves : OrderView → List ℕ → Type 0
 Serves order text = KeepsBudget order text
 
 abbrev pub promise : Promise
-promise = record {
-  reads = Some program_limit;
-  statuses = 3 ∷ 4 ∷ 5 ∷ 6 ∷ 7 ∷ [];
-  Gives = Gives;
-  IsCause = IsCause;
-  Serves = Serves;
-  IsExact = IsNoBudget;
-  MayPrecede = IsNoFault;
-}
+promise = budget_promise (Some program_limit) (3 ∷ 4 ∷ 5 ∷ 6 ∷ 7 ∷ []) Gives IsCause Serves

@@ -1,6 +1,6 @@
 -- `eval`: the bits that a program gives on the bits of a word.
 use Rattle.std.specs.Prelude.{◌≡◌, ℕ, ◌+◌, Bool, List, sum, Some, [], ◌∷◌}
-use Rattle.command_answers.specs.Outcomes.{Promise, IsAnyFault, IsNoFault}
+use Rattle.command_answers.specs.Outcomes.{Promise, exact_promise}
 use Rattle.std.specs.List.{AllByRecursion}
 use Rattle.revs_tape.specs.Tapes.{TapeView, Holds, IsFirstBroken}
 use Rattle.revc_base.specs.declared.place.Place.{Place}
@@ -71,12 +71,4 @@ abbrev pub Serves : OrderView → List ℕ → Type 0
 Serves order text = (value : List Bool) × IsValueOf text (first_word order.bits) value
 
 abbrev pub promise : Promise
-promise = record {
-  reads = Some program_limit;
-  statuses = 3 ∷ 4 ∷ 12 ∷ [];
-  Gives = Gives;
-  IsCause = IsCause;
-  Serves = Serves;
-  IsExact = IsAnyFault;
-  MayPrecede = IsNoFault;
-}
+promise = exact_promise (Some program_limit) (3 ∷ 4 ∷ 12 ∷ []) Gives IsCause Serves

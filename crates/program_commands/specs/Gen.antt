@@ -1,6 +1,6 @@
 -- `gen`: the program of an adder.
 use Rattle.std.specs.Prelude.{◌≡◌, ℕ, List, None, []}
-use Rattle.command_answers.specs.Outcomes.{Promise, IsAnyFault, IsNoFault}
+use Rattle.command_answers.specs.Outcomes.{Promise, exact_promise}
 use Rattle.command_answers.specs.declared.fault.Fault.{Fault}
 use Rattle.program_gen.specs.Adder.{adder_text}
 use Rattle.revc_words.specs.Words.{OrderView}
@@ -18,12 +18,4 @@ abbrev pub Serves : OrderView → List ℕ → Type 0
 Serves order text = Unit {0}
 
 abbrev pub promise : Promise
-promise = record {
-  reads = None;
-  statuses = [];
-  Gives = Gives;
-  IsCause = IsCause;
-  Serves = Serves;
-  IsExact = IsAnyFault;
-  MayPrecede = IsNoFault;
-}
+promise = exact_promise None [] Gives IsCause Serves
