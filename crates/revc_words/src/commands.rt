@@ -79,61 +79,25 @@ impl Command {
         ensures takes { result.takes ≡ takes_of self }
     {
         match self {
-            Command::Compile => Spelling {
-                name: "compile",
-                options: &["plan", "lines", "gates", "borrow", "nodes", "format"],
-                takes: Positional::Nothing,
-            },
-            Command::Check => Spelling {
-                name: "check",
-                options: &["nodes"],
-                takes: Positional::Nothing,
-            },
-            Command::Eval => Spelling {
-                name: "eval",
-                options: &[],
-                takes: Positional::Word,
-            },
-            Command::Stat => Spelling {
-                name: "stat",
-                options: &["from"],
-                takes: Positional::Nothing,
-            },
-            Command::Run => Spelling {
-                name: "run",
-                options: &["from"],
-                takes: Positional::Words,
-            },
-            Command::Convert => Spelling {
-                name: "convert",
-                options: &["from", "to"],
-                takes: Positional::Nothing,
-            },
-            Command::Tidy => Spelling {
-                name: "tidy",
-                options: &["from", "to"],
-                takes: Positional::Nothing,
-            },
-            Command::Gen => Spelling {
-                name: "gen",
-                options: &[],
-                takes: Positional::Number,
-            },
-            Command::Bench => Spelling {
-                name: "bench",
-                options: &["plan", "lines", "gates", "borrow", "nodes"],
-                takes: Positional::Number,
-            },
-            Command::Verify => Spelling {
-                name: "verify",
-                options: &["from", "nodes", "borrow"],
-                takes: Positional::Nothing,
-            },
-            Command::Arith => Spelling {
-                name: "arith",
-                options: &["by", "write"],
-                takes: Positional::KindAndNumber,
-            },
+            Command::Compile => spelled(
+                "compile",
+                &["plan", "lines", "gates", "borrow", "nodes", "format"],
+                Positional::Nothing,
+            ),
+            Command::Check => spelled("check", &["nodes"], Positional::Nothing),
+            Command::Eval => spelled("eval", &[], Positional::Word),
+            Command::Stat => spelled("stat", &["from"], Positional::Nothing),
+            Command::Run => spelled("run", &["from"], Positional::Words),
+            Command::Convert => spelled("convert", &["from", "to"], Positional::Nothing),
+            Command::Tidy => spelled("tidy", &["from", "to"], Positional::Nothing),
+            Command::Gen => spelled("gen", &[], Positional::Number),
+            Command::Bench => spelled(
+                "bench",
+                &["plan", "lines", "gates", "borrow", "nodes"],
+                Positional::Number,
+            ),
+            Command::Verify => spelled("verify", &["from", "nodes", "borrow"], Positional::Nothing),
+            Command::Arith => spelled("arith", &["by", "write"], Positional::KindAndNumber),
         }
     }
 
@@ -145,6 +109,18 @@ impl Command {
             .iter()
             .copied()
             .find(|command| command.spelling().name == name)
+    }
+}
+
+fn spelled<'a>(name: &'a str, options: &'a [&'a str], takes: Positional) -> Spelling<'a>
+    ensures name { result.name.now ≡ name.now }
+    ensures options { result.options.now ≡ options.now }
+    ensures takes { result.takes ≡ takes }
+{
+    Spelling {
+        name,
+        options,
+        takes,
     }
 }
 
