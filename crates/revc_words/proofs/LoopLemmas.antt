@@ -1,6 +1,6 @@
 -- Loops over names and words: what is done, and what is left.
-use Rattle.std.proofs.Common.{◌≡◌, ℕ, zero, suc, ◌+◌, ◌<◌, Bool, true, List, [], ◌∷◌, ◌++◌, length, map, drop, refl, sym, ap, ◌∙◌, arith, append_assoc}
-use Rattle.std.proofs.Common.{append-nil, Bor}
+use Rattle.std.proofs.Common.{◌≡◌, ℕ, zero, suc, ◌+◌, ◌<◌, Bool, true, List, [], ◌∷◌, ◌++◌, length, map, drop, refl, sym, ap, ◌∙◌, arith}
+use Rattle.std.proofs.Common.{Bor}
 use Rattle.std.specs.Prelude.{slice_index_or}
 use Rattle.std.proofs.lemmas.List.{drop_all}
 use Rattle.clap.specs.Words.{App, Rule, with_rule}
@@ -29,10 +29,6 @@ none_left texts place over = ap (map (λ s. s.now)) (drop_all place texts (omega
 pub record IsBuilding (command : Command) (app : App) (names : List (Bor (List ℕ))) (place : ℕ) : Type 0 where
   pub same : with_options app (left names place) ≡ with_options (bare (name_of command)) (options_of command)
 
-pub building_begun : (command : Command) (app : App) (names : List (Bor (List ℕ))) → app ≡ bare (name_of command)
-    → map (λ s. s.now) names ≡ options_of command → IsBuilding command app names 0
-building_begun command app names is are = record { same = λ i. with_options (is i) (are i) }
-
 pub building_more : (command : Command) (app next : App) (names : List (Bor (List ℕ))) (place : ℕ) (any : Bor (List ℕ)) → place < length names
     → IsBuilding command app names place → next ≡ with_rule app (option_rule (slice_index_or names place any).now)
     → IsBuilding command next names (place + 1)
@@ -58,18 +54,3 @@ built_with_words command app more names place rule over inv takes is added =
 -- with the words that are left, these are all
 pub record IsCopying (words : List (Bor (List ℕ))) (copies : List (List ℕ)) (place : ℕ) : Type 0 where
   pub same : copies ++ left words place ≡ map (λ s. s.now) words
-
-pub copying_more : (words : List (Bor (List ℕ))) (copies next : List (List ℕ)) (place : ℕ) (word : Bor (List ℕ)) → place < length words
-    → IsCopying words copies place → word ≡ slice_index_or words place word → next ≡ copies ++ word.now ∷ [] → IsCopying words next (place + 1)
-copying_more words copies next place word lt inv is added = record {
-  same =
-      ap (λ (c : List (List ℕ)). c ++ left words (place + 1))
-      (added ∙ ap (λ (w : Bor (List ℕ)). copies ++ w.now ∷ []) is)
-      ∙ append_assoc copies ((slice_index_or words place word).now ∷ []) (left words (place + 1))
-      ∙ ap (λ (l : List (List ℕ)). copies ++ l) (sym (text_left words place word lt)) ∙ inv.same;
-}
-
-pub copied_all : (words : List (Bor (List ℕ))) (copies : List (List ℕ)) (place : ℕ) → length words ≡ place → IsCopying words copies place
-    → copies ≡ map (λ s. s.now) words
-copied_all words copies place over inv =
-    sym (append-nil copies) ∙ ap (λ (l : List (List ℕ)). copies ++ l) (sym (none_left words place over)) ∙ inv.same

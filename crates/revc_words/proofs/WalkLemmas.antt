@@ -292,6 +292,17 @@ has_value command options takes words name text claims now = by_test (has_row na
     (λ t. rw t refl)
     (λ f. rw f (claims.rests (with_option name text now) None false))
 
+-- the same behind the faults of what stands before it
+value_behind : (command : Text) (options : List Text) (takes : Bool) (words : List Text) (name text : Text) → Claims command options takes words
+    → (before : Kinds) (now : List Row)
+    → unless (or_else (or_else before (use_fault false (filled_option name) (text ∷ []) now)) [])
+    (ends (filled_shape command options takes) (at (with_option name text now) None idle false) words)
+    ≡ unless before (option_and_then (run options takes words None) (put_once name text now))
+value_behind command options takes words name text claims before now =
+    let used = use_fault false (filled_option name) (text ∷ []) now in
+    unless_both (or_else before used) [] _ ∙ unless_both before used _
+    ∙ ap (λ r. unless before r) (has_value command options takes words name text claims now)
+
 rests_long : (command : Text) (options : List Text) (takes : Bool) (word : Text) (words : List Text) (name : Text) (text : Option Text) (known : Bool)
     → Claims command options takes words → is_option word ≡ true → bytes_eq word (codes "--") ≡ false → long_of word ≡ Some (name, text)
     → is_one_of options name ≡ known
@@ -317,16 +328,10 @@ rests_long command options takes word words name None true claims o e l known ro
     ∙ ap (λ r. unless (fault_at options takes rows pending) r) (claims.waits (settled_at options takes rows pending) name known))
 rests_long command options takes word words name (Some text) true claims o e l known rows pending true =
     rw (e, l, o, by_long options takes name, known)
-    (unless_both (or_else (fault_at options takes rows pending) (use_fault false (filled_option name) (text ∷ []) (settled_at options takes rows pending))) [] _
-    ∙ unless_both (fault_at options takes rows pending) (use_fault false (filled_option name) (text ∷ []) (settled_at options takes rows pending)) _
-    ∙ ap (λ r. unless (fault_at options takes rows pending) r)
-    (has_value command options takes words name text claims (settled_at options takes rows pending)))
+    (value_behind command options takes words name text claims (fault_at options takes rows pending) (settled_at options takes rows pending))
 rests_long command options takes word words name (Some text) true claims o e l known rows pending false =
     rw (e, l, o, by_long options takes name, known)
-    (unless_both (or_else (fault_at options takes rows pending) (use_fault false (filled_option name) (text ∷ []) (settled_at options takes rows pending))) [] _
-    ∙ unless_both (fault_at options takes rows pending) (use_fault false (filled_option name) (text ∷ []) (settled_at options takes rows pending)) _
-    ∙ ap (λ r. unless (fault_at options takes rows pending) r)
-    (has_value command options takes words name text claims (settled_at options takes rows pending)))
+    (value_behind command options takes words name text claims (fault_at options takes rows pending) (settled_at options takes rows pending))
 
 -- a word such as `-x`
 first_char : (first : ℕ) (rest : Text) → IsUtf8 (45 ∷ first ∷ rest) → (x : ℕ) × (more : List ℕ) × (chars (first ∷ rest) ≡ x ∷ more)
