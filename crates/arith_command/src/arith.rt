@@ -12,11 +12,11 @@ ghost use Rattle.revc_words.specs.Words.{order_of};
 ghost use Rattle.revs_parser.specs.declared.limits.TheConstants.{MOST_BYTES};
 
 use arith_templates::{Kind, text};
-use circuit_plans::{How, Laid};
+use circuit_plans::Laid;
 use command_answers::Fault;
 use program_commands::{compile, generate};
 use revc_io::{Failed, Sink};
-use revc_words::{Command, Format, Order, USUAL_GATES, USUAL_LINES, USUAL_NODES, Write};
+use revc_words::{Command, Format, Order, Values, Write};
 use std::alloc::Global;
 
 /// What waits to be written.
@@ -43,13 +43,13 @@ pub fn one_outcome()
 /// makes it of this text where no option is given. A fault is a budget that `compile` passes, or
 /// want of memory.
 pub fn make(alloc: Global, order: &Order) -> Result<Made, Fault>
-    requires size { IsProgramSize order.now.kind order.now.number order.now.by }
+    requires size { IsProgramSize order.now.kind order.now.number order.now.values.by }
     ensures ok { IfOk result (λ made. Gives (order_of order.now) [] (made_text made)) }
     ensures writable { IfOk result CanBeWritten }
     ensures err { IfErr result (IsArithFault (order_of order.now)) }
 {
-    let text = text(alloc, order.kind, order.number, order.by)?;
-    match order.write {
+    let text = text(alloc, order.kind, order.number, order.values.by)?;
+    match order.values.write {
         Write::Program => Ok(Made::Program(text)),
         Write::Real => file(alloc, text.as_slice(), Format::Real),
         Write::Qasm => file(alloc, text.as_slice(), Format::Qasm),
@@ -74,17 +74,11 @@ fn compile_order(alloc: Global, format: Format) -> Order
 {
     Order {
         command: Command::Compile,
-        plan: How::Auto,
-        lines: USUAL_LINES,
-        gates: USUAL_GATES,
-        borrow: 0,
-        nodes: USUAL_NODES,
-        format,
-        from: Format::Real,
-        to: Format::Qasm,
+        values: Values {
+            format,
+            ..Values::USUAL
+        },
         kind: Kind::Add,
-        by: 0,
-        write: Write::Program,
         number: 0,
         bits: Vec::new(alloc),
     }

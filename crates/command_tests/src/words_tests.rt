@@ -211,15 +211,16 @@ fn are_same(bits: &[String], words: &[&str]) -> bool {
 }
 
 fn assert_asked(rt: &impl Abort, order: &Order, asked: &Asked) {
+    let values = order.values;
     let numbers = [
-        order.lines,
-        order.borrow,
-        order.nodes,
+        values.lines,
+        values.borrow,
+        values.nodes,
         order.number,
-        order.by,
+        values.by,
     ];
-    let formats = [order.format, order.from, order.to];
-    assert!(rt; order.command == asked.command && order.plan == asked.plan);
+    let formats = [values.format, values.from, values.to];
+    assert!(rt; order.command == asked.command && values.plan == asked.plan);
     assert!(rt;
         numbers
             == [
@@ -230,8 +231,8 @@ fn assert_asked(rt: &impl Abort, order: &Order, asked: &Asked) {
                 asked.by
             ]
     );
-    assert!(rt; order.kind == asked.kind && order.write == asked.write);
-    assert!(rt; order.gates == asked.gates && formats == [asked.format, asked.from, asked.to]);
+    assert!(rt; order.kind == asked.kind && values.write == asked.write);
+    assert!(rt; values.gates == asked.gates && formats == [asked.format, asked.from, asked.to]);
     assert!(rt; are_same(&order.bits, asked.bits));
 }
 

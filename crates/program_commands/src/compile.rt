@@ -30,7 +30,7 @@ pub fn compile(alloc: Global, text: &[u8], order: &Order) -> Result<Laid, Fault>
     requires short { length text.now ≤ MOST_BYTES }
     requires limits { IsWithinLimits (order_of order.now) }
     ensures ok { IfOk result (λ laid. IsCompiled (order_of order.now) text.now
-        (file_of order.now.format laid)) }
+        (file_of order.now.values.format laid)) }
     ensures writable { IfOk result IsWritable }
     ensures err { IfErr result (IsCompileFault (order_of order.now) text.now) }
 {

@@ -28,7 +28,7 @@ pub fn plan_tape(alloc: Global, tape: &Tape, order: &Order) -> Result<Laid, Faul
     ensures err { IfErr result (λ fault. ForTexts tape.now
         (λ text. IsCompileFault (order_of order.now) text fault)) }
 {
-    let settled = settle_tape(tape, order.nodes)?;
+    let settled = settle_tape(tape, order.values.nodes)?;
     lay(alloc, &settled, order)
 }
 
@@ -36,12 +36,12 @@ pub fn plan_tape(alloc: Global, tape: &Tape, order: &Order) -> Result<Laid, Faul
 fn lay(alloc: Global, settled: &Settled, order: &Order) -> Result<Laid, Fault>
     requires { IsWithinLimits (order_of order.now) }
     ensures ok { IfOk result
-        (IsPlanOf order.now.plan settled.now (budget_of (order_of order.now))) }
+        (IsPlanOf order.now.values.plan settled.now (budget_of (order_of order.now))) }
     ensures err { IfErr result
-        (IsPlanningFault order.now.plan settled.now (budget_of (order_of order.now))) }
+        (IsPlanningFault order.now.values.plan settled.now (budget_of (order_of order.now))) }
 {
-    let budget = Budget::new(order.lines, order.gates, order.borrow);
-    match choose(alloc, settled, &budget, order.plan) {
+    let budget = Budget::new(order.values.lines, order.values.gates, order.values.borrow);
+    match choose(alloc, settled, &budget, order.values.plan) {
         Ok(laid) => {
             // This call says that the gates are narrow, and on the circuit's lines.
             let _ = laid.circuit().lines();
@@ -57,9 +57,11 @@ fn plan_fault(fault: PlanFault, order: &Order) -> Fault
     match fault {
         PlanFault::Lines { need } => Fault::Lines {
             need,
-            limit: order.lines,
+            limit: order.values.lines,
         },
-        PlanFault::Gates => Fault::Gates { limit: order.gates },
+        PlanFault::Gates => Fault::Gates {
+            limit: order.values.gates,
+        },
         PlanFault::Memory => Fault::Memory,
     }
 }

@@ -144,19 +144,19 @@ pub fn prepare(alloc: Global, order: &Order, text: &[u8]) -> Result<Prepared, Fa
     match order.command {
         Command::Compile => {
             let laid = compile::compile(alloc, text, order)?;
-            Ok(Prepared::File(order.format, laid))
+            Ok(Prepared::File(order.values.format, laid))
         }
-        Command::Check => check::check(alloc, text, order.nodes).map(Prepared::Claims),
+        Command::Check => check::check(alloc, text, order.values.nodes).map(Prepared::Claims),
         Command::Eval => eval::evaluate(alloc, text, order.word()).map(Prepared::Digits),
-        Command::Stat => stat::measure(alloc, text, order.from).map(Prepared::Stat),
-        Command::Run => run::run(alloc, text, order.from, &order.bits).map(Prepared::Lines),
+        Command::Stat => stat::measure(alloc, text, order.values.from).map(Prepared::Stat),
+        Command::Run => run::run(alloc, text, order.values.from, &order.bits).map(Prepared::Lines),
         Command::Convert => {
-            let converted = convert::convert(alloc, text, order.from)?;
-            Ok(Prepared::Converted(order.to, converted))
+            let converted = convert::convert(alloc, text, order.values.from)?;
+            Ok(Prepared::Converted(order.values.to, converted))
         }
         Command::Tidy => {
-            let tidied = tidy::tidy(alloc, text, order.from)?;
-            Ok(Prepared::Converted(order.to, tidied))
+            let tidied = tidy::tidy(alloc, text, order.values.from)?;
+            Ok(Prepared::Converted(order.values.to, tidied))
         }
         Command::Gen => Ok(Prepared::Program(generate::program(alloc, order.number)?)),
         Command::Bench => bench::measure(alloc, order).map(Prepared::Bench),

@@ -17,7 +17,6 @@ use Rattle.arith_templates.specs.declared.kind.Kind.TheVariants.{Add, Sub, Less,
 use Rattle.arith_templates.specs.declared.limits.TheConstants.{MOST_FACTOR}
 use Rattle.clap.specs.Simple.{argument_words, built}
 use Rattle.clap.specs.Words.{Row, first_of}
-use Rattle.circuit_plans.specs.declared.choice.How.{How}
 use Rattle.program_gen.specs.declared.adder.TheConstants.{MOST_BITS}
 use Rattle.revc_words.specs.declared.fault.WordsFault.{WordsFault}
 use Rattle.revc_words.specs.declared.fault.WordsFault.TheVariants as faults
@@ -28,17 +27,15 @@ use Rattle.revc_words.specs.declared.commands.TheConstants.Command.{ALL}
 use Rattle.revc_words.specs.declared.commands.Positional.{Positional}
 use Rattle.revc_words.specs.declared.commands.Positional.TheVariants.{Nothing, Word, Words, Number, KindAndNumber}
 use Rattle.revc_words.specs.Commands.{name_of, options_of, takes_of}
-use Rattle.revc_words.specs.declared.order.Format.{Format}
 use Rattle.revc_words.specs.declared.order.Format.TheVariants.{Real, Qasm}
-use Rattle.revc_words.specs.declared.order.Write.{Write}
-use Rattle.revc_words.specs.declared.values.Values.{Values}
-use Rattle.revc_words.specs.Words.{order_of, OrderView, IsOrder, HasNoOrder, HasFactor, IsBy, IsNumberIn, OneOrder, Taken, TakesWords}
+use Rattle.revc_words.specs.declared.order.Values.{Values}
+use Rattle.revc_words.specs.Words.{order_of, order_with, OrderView, IsOrder, HasNoOrder, HasFactor, IsBy, IsNumberIn, OneOrder, Taken, TakesWords}
 use Rattle.revc_words.specs.Words.{TakesKind, TakesNumber, Setting, Reads, nothing_left, all_behind, kind_word, taken_of}
 use Rattle.revc_words.specs.Words.{joined, parted, positional, IsOneOf, first_word, is_option, value_of, IsGivenOnce}
 use Rattle.revc_words.specs.inside.Parsing.{Texts, app_for, bits_for, command_named, kind_for, kind_of, number_for, number_of, number_word, order_by, order_for}
-use Rattle.revc_words.specs.inside.Parsing.{order_of_texts, order_with, parsed, takes_any, takes_count, takes_factor, texts_by, texts_in, values_of}
+use Rattle.revc_words.specs.inside.Parsing.{order_of_texts, parsed, takes_any, takes_count, takes_factor, texts_by, texts_in, value_or, values_of}
 use Rattle.revc_words.specs.inside.Parsing.{with_factor}
-use Rattle.revc_words.proofs.ValueLemmas.{plan_rule, lines_rule, gates_rule, borrow_rule, nodes_rule, format_rule, by_rule, write_rule}
+use Rattle.revc_words.proofs.ValueLemmas.{Rule, plan_rule, lines_rule, gates_rule, borrow_rule, nodes_rule, format_rule, by_rule, write_rule}
 use Rattle.revc_words.proofs.ValueLemmas.{number_says, number_found, kind_named, kind_says, right, kept, text_is_no_option}
 use Rattle.revc_words.proofs.WalkLemmas.{by_test, is_one_of, filled_app, run, clap_says, AreTexts}
 use Rattle.revc_words.proofs.SaidLemmas.{Said, said, read, reached, parsed as ends, Fits, AreNew, AreOnce, AreValues, IsNever}
@@ -309,72 +306,47 @@ found_rows command words behind rows named texts e =
 
 -- ---- the values of the texts
 
-abbrev values_from : Option How → Option ℕ → Option ℕ → Option ℕ → Option ℕ → Option Format → Option Format → Option Format → Option ℕ → Option Write
-    → Option Values
-values_from plan lines gates borrow nodes format from to by write =
-    option_and_then (λ plan.
-    option_and_then (λ lines.
-    option_and_then (λ gates.
-    option_and_then (λ borrow.
-    option_and_then (λ nodes.
-    option_and_then (λ format.
-    option_and_then (λ from.
-    option_and_then (λ to.
-    option_and_then (λ by.
-    option_and_then (λ write. Some (let all : Values = record {
-      plan = plan;
-      lines = lines;
-      gates = gates;
-      borrow = borrow;
-      nodes = nodes;
-      format = format;
-      from = from;
-      to = to;
-      by = by;
-      write = write;
-    } in all)) write) by) to) from) format) nodes) borrow) gates) lines) plan
+-- a text gives this value
+abbrev Gives : {A : Type 0} → Rule A → Option (List ℕ) → A → Type 0
+Gives rule text value = value_or rule.usual rule.value text ≡ Some value
 
-record AreAll (plan : Option How) (lines gates borrow nodes : Option ℕ) (format from to : Option Format) (by : Option ℕ) (write : Option Write) (v : Values)
-    : Type 0 where
-  plan_is : plan ≡ Some v.plan
-  lines_is : lines ≡ Some v.lines
-  gates_is : gates ≡ Some v.gates
-  borrow_is : borrow ≡ Some v.borrow
-  nodes_is : nodes ≡ Some v.nodes
-  format_is : format ≡ Some v.format
-  from_is : from ≡ Some v.from
-  to_is : to ≡ Some v.to
-  by_is : by ≡ Some v.by
-  write_is : write ≡ Some v.write
+-- the texts give these values
+record GiveAll (texts : Texts) (v : Values) : Type 0 where
+  plan : Gives plan_rule texts.plan v.plan
+  lines : Gives lines_rule texts.lines v.lines
+  gates : Gives gates_rule texts.gates v.gates
+  borrow : Gives borrow_rule texts.borrow v.borrow
+  nodes : Gives nodes_rule texts.nodes v.nodes
+  format : Gives (format_rule Real) texts.format v.format
+  from : Gives (format_rule Real) texts.from v.from
+  to : Gives (format_rule Qasm) texts.to v.to
+  by : Gives by_rule texts.by v.by
+  write : Gives write_rule texts.write v.write
 
-no_values : (v : Values) → None ≡ Some v → ⊥
-no_values v e = absurd cc
-
-all_values : (plan : Option How) (lines gates borrow nodes : Option ℕ) (format from to : Option Format) (by : Option ℕ) (write : Option Write) (v : Values)
-    → values_from plan lines gates borrow nodes format from to by write ≡ Some v → AreAll plan lines gates borrow nodes format from to by write v
-all_values None lines gates borrow nodes format from to by write v e = absurd (no_values v e)
-all_values (Some plan) None gates borrow nodes format from to by write v e = absurd (no_values v e)
-all_values (Some plan) (Some lines) None borrow nodes format from to by write v e = absurd (no_values v e)
-all_values (Some plan) (Some lines) (Some gates) None nodes format from to by write v e = absurd (no_values v e)
-all_values (Some plan) (Some lines) (Some gates) (Some borrow) None format from to by write v e = absurd (no_values v e)
-all_values (Some plan) (Some lines) (Some gates) (Some borrow) (Some nodes) None from to by write v e = absurd (no_values v e)
-all_values (Some plan) (Some lines) (Some gates) (Some borrow) (Some nodes) (Some format) None to by write v e = absurd (no_values v e)
-all_values (Some plan) (Some lines) (Some gates) (Some borrow) (Some nodes) (Some format) (Some from) None by write v e = absurd (no_values v e)
-all_values (Some plan) (Some lines) (Some gates) (Some borrow) (Some nodes) (Some format) (Some from) (Some to) None write v e = absurd (no_values v e)
-all_values (Some plan) (Some lines) (Some gates) (Some borrow) (Some nodes) (Some format) (Some from) (Some to) (Some by) None v e = absurd (no_values v e)
-all_values (Some plan) (Some lines) (Some gates) (Some borrow) (Some nodes) (Some format) (Some from) (Some to) (Some by) (Some write) v e =
-    let same = same_Some _ _ e in
+values_say : (texts : Texts) (v : Values) → values_of texts ≡ Some v → GiveAll texts v
+values_say texts v e =
+    let plan = and_says _ _ v e in
+    let lines = and_says _ _ v plan.2 in
+    let gates = and_says _ _ v lines.2 in
+    let borrow = and_says _ _ v gates.2 in
+    let nodes = and_says _ _ v borrow.2 in
+    let format = and_says _ _ v nodes.2 in
+    let from = and_says _ _ v format.2 in
+    let to = and_says _ _ v from.2 in
+    let by = and_says _ _ v to.2 in
+    let write = and_says _ _ v by.2 in
+    let same = same_Some _ _ write.2 in
     record {
-      plan_is = ap (λ (all : Values). Some all.plan) same;
-      lines_is = ap (λ (all : Values). Some all.lines) same;
-      gates_is = ap (λ (all : Values). Some all.gates) same;
-      borrow_is = ap (λ (all : Values). Some all.borrow) same;
-      nodes_is = ap (λ (all : Values). Some all.nodes) same;
-      format_is = ap (λ (all : Values). Some all.format) same;
-      from_is = ap (λ (all : Values). Some all.from) same;
-      to_is = ap (λ (all : Values). Some all.to) same;
-      by_is = ap (λ (all : Values). Some all.by) same;
-      write_is = ap (λ (all : Values). Some all.write) same;
+      plan = plan.1 ∙ ap (λ (all : Values). Some all.plan) same;
+      lines = lines.1 ∙ ap (λ (all : Values). Some all.lines) same;
+      gates = gates.1 ∙ ap (λ (all : Values). Some all.gates) same;
+      borrow = borrow.1 ∙ ap (λ (all : Values). Some all.borrow) same;
+      nodes = nodes.1 ∙ ap (λ (all : Values). Some all.nodes) same;
+      format = format.1 ∙ ap (λ (all : Values). Some all.format) same;
+      from = from.1 ∙ ap (λ (all : Values). Some all.from) same;
+      to = to.1 ∙ ap (λ (all : Values). Some all.to) same;
+      by = by.1 ∙ ap (λ (all : Values). Some all.by) same;
+      write = write.1 ∙ ap (λ (all : Values). Some all.write) same;
     }
 
 -- ---- each option is given once
@@ -412,9 +384,9 @@ order_is : (words behind : List (List ℕ)) (command : Command) (what : Said) (o
 order_is words behind command what order named found once e =
     let valued = and_says (order_by command what.plain) (values_of (texts_of what.given)) order e in
     let values = valued.0 in
-    let all = all_values _ _ _ _ _ _ _ _ _ _ values valued.1 in
+    let all = values_say (texts_of what.given) values valued.1 in
     let takes = takes_of command in
-    let by = right by_rule (value_of (codes "by") what.given) values.by all.by_is in
+    let by = right by_rule (value_of (codes "by") what.given) values.by all.by in
     by_test (takes_count takes (length what.plain))
     (λ t.
     let kinded = and_says (λ kind. option_map (λ number. order_with command values kind number (bits_for takes what.plain)) (number_for takes what.plain))
@@ -430,16 +402,16 @@ order_is words behind command what order named found once e =
       read = reads (options_of command) behind what found;
       once = gives_once what.given once;
       takes = takes_so takes what.given what.plain values.by kind number by t kinded.1 numbered.1;
-      plan = right plan_rule (value_of (codes "plan") what.given) values.plan all.plan_is;
-      lines = right lines_rule (value_of (codes "lines") what.given) values.lines all.lines_is;
-      gates = right gates_rule (value_of (codes "gates") what.given) values.gates all.gates_is;
-      borrow = right borrow_rule (value_of (codes "borrow") what.given) values.borrow all.borrow_is;
-      nodes = right nodes_rule (value_of (codes "nodes") what.given) values.nodes all.nodes_is;
-      format = right (format_rule Real) (value_of (codes "format") what.given) values.format all.format_is;
-      from = right (format_rule Real) (value_of (codes "from") what.given) values.from all.from_is;
-      to = right (format_rule Qasm) (value_of (codes "to") what.given) values.to all.to_is;
+      plan = right plan_rule (value_of (codes "plan") what.given) values.plan all.plan;
+      lines = right lines_rule (value_of (codes "lines") what.given) values.lines all.lines;
+      gates = right gates_rule (value_of (codes "gates") what.given) values.gates all.gates;
+      borrow = right borrow_rule (value_of (codes "borrow") what.given) values.borrow all.borrow;
+      nodes = right nodes_rule (value_of (codes "nodes") what.given) values.nodes all.nodes;
+      format = right (format_rule Real) (value_of (codes "format") what.given) values.format all.format;
+      from = right (format_rule Real) (value_of (codes "from") what.given) values.from all.from;
+      to = right (format_rule Qasm) (value_of (codes "to") what.given) values.to all.to;
       by = by;
-      write = right write_rule (value_of (codes "write") what.given) values.write all.write_is;
+      write = right write_rule (value_of (codes "write") what.given) values.write all.write;
     } in
     subst (λ (o : OrderView). IsOrder words o) numbered.2 here)
     (λ f. absurd (none order (rw f at valued.2)))
@@ -465,17 +437,18 @@ said_so words order is =
       by = order.by;
       write = order.write;
     } in
-    let valued : values_of (texts_of is.given) ≡ Some values = λ i. values_from
-    (kept plan_rule (value_of (codes "plan") is.given) order.plan is.plan i)
-    (kept lines_rule (value_of (codes "lines") is.given) order.lines is.lines i)
-    (kept gates_rule (value_of (codes "gates") is.given) order.gates is.gates i)
-    (kept borrow_rule (value_of (codes "borrow") is.given) order.borrow is.borrow i)
-    (kept nodes_rule (value_of (codes "nodes") is.given) order.nodes is.nodes i)
-    (kept (format_rule Real) (value_of (codes "format") is.given) order.format is.format i)
-    (kept (format_rule Real) (value_of (codes "from") is.given) order.from is.from i)
-    (kept (format_rule Qasm) (value_of (codes "to") is.given) order.to is.to i)
-    (kept by_rule (value_of (codes "by") is.given) order.by is.by i)
-    (kept write_rule (value_of (codes "write") is.given) order.write is.write i) in
+    let valued : values_of (texts_of is.given) ≡ Some values = rw (
+      kept plan_rule (value_of (codes "plan") is.given) order.plan is.plan,
+      kept lines_rule (value_of (codes "lines") is.given) order.lines is.lines,
+      kept gates_rule (value_of (codes "gates") is.given) order.gates is.gates,
+      kept borrow_rule (value_of (codes "borrow") is.given) order.borrow is.borrow,
+      kept nodes_rule (value_of (codes "nodes") is.given) order.nodes is.nodes,
+      kept (format_rule Real) (value_of (codes "format") is.given) order.format is.format,
+      kept (format_rule Real) (value_of (codes "from") is.given) order.from is.from,
+      kept (format_rule Qasm) (value_of (codes "to") is.given) order.to is.to,
+      kept by_rule (value_of (codes "by") is.given) order.by is.by,
+      kept write_rule (value_of (codes "write") is.given) order.write is.write,
+    ) refl in
     ap (option_and_then (order_by order.command is.plain)) valued
     ∙ ap (λ t. cond t (option_and_then (λ kind. option_map (λ number. order_with order.command values kind number (bits_for takes is.plain))
     (number_for takes is.plain)) (kind_for takes order.by is.plain)) None)

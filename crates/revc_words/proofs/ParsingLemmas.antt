@@ -11,7 +11,7 @@ use Rattle.revc_words.specs.declared.fault.WordsFault.{WordsFault}
 use Rattle.revc_words.specs.declared.fault.WordsFault.TheVariants as faults
 use Rattle.revc_words.specs.declared.commands.Command.{Command}
 use Rattle.revc_words.specs.declared.commands.Command.TheVariants.{Compile}
-use Rattle.revc_words.specs.declared.values.Values.{Values}
+use Rattle.revc_words.specs.declared.order.Values.{Values}
 use Rattle.revc_words.specs.inside.Parsing.{app_for, order_by, order_for, parsed, texts_in, unless, values_of, words_in}
 
 -- ---- the command: each line `command = refl` is checked for each of the others

@@ -23,6 +23,7 @@ use Rattle.revc_words.specs.declared.order.Format.TheVariants.{Real, Qasm}
 use Rattle.revc_words.specs.declared.order.Write.{Write}
 use Rattle.revc_words.specs.declared.order.Write.TheVariants as writes
 use Rattle.revc_words.specs.declared.order.Order.{Order}
+use Rattle.revc_words.specs.declared.order.Values.{Values}
 
 -- the words as contracts see them: lists of bytes
 abbrev pub words_of : List (String Global) → List (List ℕ)
@@ -50,24 +51,29 @@ pub record OrderView : Type 0 where
   pub number : ℕ
   pub bits : List (List ℕ)
 
+-- the order of a command with these values of its options, this kind, this number and these bits
+abbrev pub order_with : Command → Values → Kind → ℕ → List (List ℕ) → OrderView
+order_with command values kind number bits = record {
+  command = command;
+  plan = values.plan;
+  lines = values.lines;
+  gates = values.gates;
+  borrow = values.borrow;
+  nodes = values.nodes;
+  format = values.format;
+  from = values.from;
+  to = values.to;
+  kind = kind;
+  by = values.by;
+  write = values.write;
+  number = number;
+  bits = bits;
+}
+
 -- an order as contracts see it
 abbrev pub order_of : Order → OrderView
-order_of order = record {
-  command = order.command;
-  plan = order.plan;
-  lines = order.lines;
-  gates = order.gates;
-  borrow = order.borrow;
-  nodes = order.nodes;
-  format = order.format;
-  from = order.from;
-  to = order.to;
-  kind = order.kind;
-  by = order.by;
-  write = order.write;
-  number = order.number;
-  bits = words_of order.bits.items;
-}
+order_of order =
+    order_with order.command order.values order.kind order.number (words_of order.bits.items)
 
 abbrev pub first_word : List (List ℕ) → List ℕ
 first_word [] = []

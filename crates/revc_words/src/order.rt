@@ -2,7 +2,7 @@
 ghost use Rattle.std.specs.Prelude.{◌≡◌};
 ghost use Rattle.revc_words.specs.Words.{first_word, order_of};
 
-use crate::Command;
+use crate::{Command, USUAL_GATES, USUAL_LINES, USUAL_NODES};
 use arith_templates::Kind;
 use circuit_plans::How;
 
@@ -26,11 +26,9 @@ pub enum Write {
     Qasm,
 }
 
-/// What the words ask for: a command, its options, and its words of bits. What a command has no
-/// option for has its usual value. Contracts see it by `order_of`.
-#[derive(Drop)]
-pub struct Order {
-    pub command: Command,
+/// The values of all options: what is not given has its usual value.
+#[derive(Clone, Copy)]
+pub struct Values {
     /// Which plans are tried.
     pub plan: How,
     /// The most lines of the circuit, 1 to 16,384.
@@ -47,12 +45,36 @@ pub struct Order {
     pub from: Format,
     /// The format in which a circuit that was read is written.
     pub to: Format,
+    /// The constant by which a program multiplies, 1 to 9,999; 0 for one that does not.
+    pub by: u32,
+    /// What is written of a program that computes with numbers.
+    pub write: Write,
+}
+
+impl Values {
+    /// The usual values.
+    pub const USUAL: Values = Values {
+        plan: How::Auto,
+        lines: USUAL_LINES,
+        gates: USUAL_GATES,
+        borrow: 0,
+        nodes: USUAL_NODES,
+        format: Format::Real,
+        from: Format::Real,
+        to: Format::Qasm,
+        by: 0,
+        write: Write::Program,
+    };
+}
+
+/// What the words ask for: a command, the values of its options, and what its positional words
+/// give. Contracts see it by `order_of`.
+#[derive(Drop)]
+pub struct Order {
+    pub command: Command,
+    pub values: Values,
     /// What a program computes of numbers; `Add` for a command that does not ask for it.
     pub kind: Kind,
-    /// The constant by which it multiplies, 1 to 9,999; 0 for every other kind.
-    pub by: u32,
-    /// What is written of it.
-    pub write: Write,
     /// How many bits its numbers have, 1 to 200; 0 for a command that makes no program.
     pub number: u32,
     pub bits: Vec<String>,

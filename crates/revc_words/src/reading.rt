@@ -8,8 +8,8 @@ ghost use Rattle.revc_words.specs.inside.Parsing.{bits_for, kind_for, number_for
 ghost use Rattle.revc_words.specs.inside.Parsing.{order_for, takes_factor, with_factor};
 
 use crate::parsing::matched;
-use crate::values::{Values, kind, number};
-use crate::{Command, Order, Positional, WordsFault};
+use crate::values::{kind, number, values_given};
+use crate::{Command, Order, Positional, Values, WordsFault};
 use arith_templates::Kind;
 use clap::ArgMatches;
 use program_gen::MOST_BITS;
@@ -54,7 +54,7 @@ fn order(alloc: Global, command: Command, matches: &ArgMatches) -> Result<Order,
     ensures usage { IsErrOf result WordsFault.Usage
         → order_for command (rows_of (found_of matches.now)) ≡ None }
 {
-    let Some(values) = Values::given(matches) else {
+    let Some(values) = values_given(matches) else {
         return Err(WordsFault::Usage);
     };
     match matches.get_strs("word") {
@@ -86,7 +86,13 @@ fn order_by(
         return Err(WordsFault::Usage);
     };
     let bits = bits_asked(alloc, takes, words)?;
-    Ok(values.order(command, kind, number, bits))
+    Ok(Order {
+        command,
+        values,
+        kind,
+        number,
+        bits,
+    })
 }
 
 // The kind of programs that a command takes its first positional word for, with a factor exactly

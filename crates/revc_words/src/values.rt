@@ -1,79 +1,34 @@
 // The values of options, and the texts that give them.
 ghost use Rattle.std.specs.Prelude.{◌≡◌, ℕ, List, Option};
 ghost use Rattle.clap.specs.Words.{first_of, found_of, rows_of};
-ghost use Rattle.revc_words.specs.Words.{order_of, words_of};
-ghost use Rattle.revc_words.specs.inside.Parsing.{kind_of, number_of, order_with, text_at};
+ghost use Rattle.revc_words.specs.inside.Parsing.{kind_of, number_of, text_at};
 ghost use Rattle.revc_words.specs.inside.Parsing.{texts_in, value_or, values_of, plan_of};
 ghost use Rattle.revc_words.specs.inside.Parsing.{format_of, write_of};
 
-use crate::{
-    Command, Format, MOST_DIGITS, MOST_NODES, Order, USUAL_GATES, USUAL_LINES, USUAL_NODES, Write,
-};
+use crate::{Format, MOST_DIGITS, MOST_NODES, Values, Write};
 use arith_templates::{Kind, MOST_FACTOR};
 use circuit_plans::{How, MOST_BORROWED, MOST_GATES, MOST_LINES};
 use clap::ArgMatches;
 
-/// The values of all options.
-#[derive(Clone, Copy)]
-pub struct Values {
-    pub plan: How,
-    pub lines: u32,
-    pub gates: u64,
-    pub borrow: u32,
-    pub nodes: u32,
-    pub format: Format,
-    pub from: Format,
-    pub to: Format,
-    pub by: u32,
-    pub write: Write,
-}
-
-impl Values {
-    /// The values of the texts that are given: what has no text has its usual value.
-    pub fn given(matches: &ArgMatches) -> Option<Values>
-        ensures { result ≡ values_of (texts_in (rows_of (found_of matches.now))) }
-    {
-        let gates = number_or(
-            text(matches, "gates"),
-            1,
-            MOST_GATES as u32,
-            USUAL_GATES as u32,
-        );
-        Some(Values {
-            plan: chosen(text(matches, "plan"), How::Auto)?,
-            lines: number_or(text(matches, "lines"), 1, MOST_LINES, USUAL_LINES)?,
-            gates: u64::from(gates?),
-            borrow: number_or(text(matches, "borrow"), 0, MOST_BORROWED, 0)?,
-            nodes: number_or(text(matches, "nodes"), 1, MOST_NODES, USUAL_NODES)?,
-            format: chosen(text(matches, "format"), Format::Real)?,
-            from: chosen(text(matches, "from"), Format::Real)?,
-            to: chosen(text(matches, "to"), Format::Qasm)?,
-            by: number_or(text(matches, "by"), 1, MOST_FACTOR, 0)?,
-            write: chosen(text(matches, "write"), Write::Program)?,
-        })
-    }
-
-    /// The order of a command with these values, this kind, this number and these bits.
-    pub fn order(self, command: Command, kind: Kind, number: u32, bits: Vec<String>) -> Order
-        ensures { order_of result ≡ order_with command self kind number (words_of bits.items) }
-    {
-        Order {
-            command,
-            plan: self.plan,
-            lines: self.lines,
-            gates: self.gates,
-            borrow: self.borrow,
-            nodes: self.nodes,
-            format: self.format,
-            from: self.from,
-            to: self.to,
-            kind,
-            by: self.by,
-            write: self.write,
-            number,
-            bits,
-        }
-    }
+/// The values of the texts that are given: what has no text has its usual value.
+pub fn values_given(matches: &ArgMatches) -> Option<Values>
+    ensures { result ≡ values_of (texts_in (rows_of (found_of matches.now))) }
+{
+    let usual = Values::USUAL;
+    let most_gates = MOST_GATES as u32;
+    let gates = number_or(text(matches, "gates"), 1, most_gates, usual.gates as u32);
+    Some(Values {
+        plan: chosen(text(matches, "plan"), usual.plan)?,
+        lines: number_or(text(matches, "lines"), 1, MOST_LINES, usual.lines)?,
+        gates: u64::from(gates?),
+        borrow: number_or(text(matches, "borrow"), 0, MOST_BORROWED, usual.borrow)?,
+        nodes: number_or(text(matches, "nodes"), 1, MOST_NODES, usual.nodes)?,
+        format: chosen(text(matches, "format"), usual.format)?,
+        from: chosen(text(matches, "from"), usual.from)?,
+        to: chosen(text(matches, "to"), usual.to)?,
+        by: number_or(text(matches, "by"), 1, MOST_FACTOR, usual.by)?,
+        write: chosen(text(matches, "write"), usual.write)?,
+    })
 }
 
 // The text that is given to an option.

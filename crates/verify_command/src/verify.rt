@@ -78,13 +78,14 @@ fn verify_texts(alloc: Global, program: &[u8], circuit: &[u8], order: &Order) ->
     ensures ok { OnOk result (AreVerified (order_of order.now) program.now circuit.now) }
     ensures err { IfErr result (IsPartsFault (order_of order.now) program.now circuit.now) }
 {
+    let values = order.values;
     let tape = tape_of_text(alloc, program)?;
-    let read = read_circuit(alloc, circuit, order.from)?;
-    let graph = settle_tape(&tape, order.nodes)?;
+    let read = read_circuit(alloc, circuit, values.from)?;
+    let graph = settle_tape(&tape, values.nodes)?;
     let circuit = read.circuit();
     // This call says that the gates stand on the lines.
     let _ = circuit.lines();
-    compare(alloc, &tape, &graph, circuit, order.borrow, order.nodes)
+    compare(alloc, &tape, &graph, circuit, values.borrow, values.nodes)
 }
 
 /// Writes that a circuit is verified. It takes no memory.

@@ -24,8 +24,8 @@ use Rattle.revc_words.specs.declared.order.Format.{Format}
 use Rattle.revc_words.specs.declared.order.Format.TheVariants.{Real, Qasm}
 use Rattle.revc_words.specs.declared.order.Write.{Write}
 use Rattle.revc_words.specs.declared.order.Write.TheVariants as writes
-use Rattle.revc_words.specs.declared.values.Values.{Values}
-use Rattle.revc_words.specs.Words.{OrderView, plan_word, format_word, write_word, kind_word, first_word}
+use Rattle.revc_words.specs.declared.order.Values.{Values}
+use Rattle.revc_words.specs.Words.{OrderView, order_with, plan_word, format_word, write_word, kind_word, first_word}
 
 -- ---- the command
 
@@ -240,26 +240,7 @@ bits_for takes plain = cond (takes_number takes) [] plain
 
 -- ---- the order
 
--- the order of a command with these values, this kind, this number and these bits
-abbrev pub order_with : Command → Values → Kind → ℕ → List (List ℕ) → OrderView
-order_with command values kind number bits = record {
-  command = command;
-  plan = values.plan;
-  lines = values.lines;
-  gates = values.gates;
-  borrow = values.borrow;
-  nodes = values.nodes;
-  format = values.format;
-  from = values.from;
-  to = values.to;
-  kind = kind;
-  by = values.by;
-  write = values.write;
-  number = number;
-  bits = bits;
-}
-
--- with these values and positional words
+-- the order of a command with these values and positional words
 abbrev pub order_by : Command → List (List ℕ) → Values → Option OrderView
 order_by command plain values =
     cond (takes_count (takes_of command) (length plain))
