@@ -31,7 +31,7 @@ use Rattle.revs_terms.specs.Runs.{IsTapeOf}
 use Rattle.revs_terms.proofs.TapeLemmas.{tape_ends}
 use Rattle.revs_tape.specs.Tapes.{TapeView}
 use Rattle.program_commands.specs.Outcomes.{IsCompileFault, IsEvalFault, IsSettlingFault, IsTextFault}
-use Rattle.program_commands.specs.Settling.{LeavesTape, ForTexts}
+use Rattle.program_commands.specs.Settling.{LeavesTape}
 use Rattle.program_commands.specs.inside.Plans.{ForTextsOf, IsRunFault, IsBoundAs}
 use Rattle.revs_terms.specs.Views.{ProgramView}
 
@@ -107,26 +107,6 @@ stuck_stops p bound (Err fault) params body h = record {
 pub scope_stops : (p : ProgramView) (fault : ScopeFault) → Answers (Err fault) p.params (scope_verdict p.params p.body)
     → ForTextsOf p (λ text. IsTextFault text (scope_fault fault))
 scope_stops p fault h = record { of_text = unbound p fault h }
-
-pub value_of_program : {T E : Type 0} (P : T → List ℕ → Type 0) (r : Result T E) (text : List ℕ) (p : ProgramView) → IsProgramText text p
-    → IfOk r (λ x. ForTextsOf p (P x)) → IfOk r (λ x. P x text)
-value_of_program P (Ok x) text p is h = h.of_text text is
-value_of_program P (Err e) text p is h = tt
-
-pub fault_of_program : {T E : Type 0} (P : E → List ℕ → Type 0) (r : Result T E) (text : List ℕ) (p : ProgramView) → IsProgramText text p
-    → IfErr r (λ e. ForTextsOf p (P e)) → IfErr r (λ e. P e text)
-fault_of_program P (Ok x) text p is h = tt
-fault_of_program P (Err e) text p is h = h.of_text text is
-
-pub value_of_text : {T E : Type 0} (P : T → List ℕ → Type 0) (r : Result T E) (text : List ℕ) (tape : TapeView) → LeavesTape text tape
-    → IfOk r (λ x. ForTexts tape (P x)) → IfOk r (λ x. P x text)
-value_of_text P (Ok x) text tape l h = h.of_text text l
-value_of_text P (Err e) text tape l h = tt
-
-pub fault_of_text : {T E : Type 0} (P : E → List ℕ → Type 0) (r : Result T E) (text : List ℕ) (tape : TapeView) → LeavesTape text tape
-    → IfErr r (λ e. ForTexts tape (P e)) → IfErr r (λ e. P e text)
-fault_of_text P (Ok x) text tape l h = tt
-fault_of_text P (Err e) text tape l h = h.of_text text l
 
 -- ---- the fault of a text is one of each command
 

@@ -1,7 +1,6 @@
+use Rattle.std.proofs.lemmas.Result.{IfErr-weaker}
 use Rattle.revc_words.specs.Words.{order_of}
-use Rattle.program_commands.specs.Outcomes.{IsCompileFault}
 use Rattle.program_commands.proofs.PlanLemmas.{compiled, may_be_written}
-use Rattle.program_commands.proofs.TextLemmas.{fault_of_text, stops_compile}
 use Rattle.program_commands.proofs.compile.compile.Goals as goal
 
 pub returns-clause-ok : goal.returns-clause-ok
@@ -14,5 +13,4 @@ returns-clause-writable c =
 
 pub returns-clause-err : goal.returns-clause-err
 returns-clause-err c =
-    fault_of_text (λ fault text. IsCompileFault (order_of c.args.order.now) text fault) c.plan_tape.result c.args.text.now c.in_ok-tape.tape
-    c.in_ok-tape.ensures.left c.plan_tape.ensures.err
+    IfErr-weaker c.plan_tape.result _ _ (λ fault all. all.of_text c.args.text.now c.in_ok-tape.ensures.left) c.plan_tape.ensures.err

@@ -1,5 +1,5 @@
 use Rattle.std.proofs.Common.{◌∙◌}
-use Rattle.program_commands.proofs.EvalLemmas.{broken_at, is_claim, memory_stops, value_at, word_stops}
+use Rattle.program_commands.proofs.EvalLemmas.{broken_at, is_claim, value_at}
 use Rattle.program_commands.proofs.eval.run_on.Goals as goal
 
 pub broken_claim-requires : goal.broken_claim-requires

@@ -1,4 +1,3 @@
-use Rattle.program_commands.proofs.SettlingLemmas.{memory_stops}
 use Rattle.program_commands.proofs.settling.settle_tape.Goals as goal
 
 pub returns-in-Ok-clause-ok : goal.returns-in-Ok-clause-ok
