@@ -236,12 +236,12 @@ run_outcome = record {
 
 -- ---- what the readers answer
 
-pub means_real : (text : List ℕ) (file : RealView) (circuit : ReadCircuit) → length text ≤ MOST_CIRCUIT_BYTES → real_files.MeansFile text file → circuit ≡ of_real file
-    → Means Real text circuit
+pub means_real : (text : List ℕ) (file : RealView) (circuit : ReadCircuit) → length text ≤ MOST_CIRCUIT_BYTES → real_files.MeansFile text file
+    → circuit ≡ of_real file → Means Real text circuit
 means_real text file circuit short meaning same = record { short = short; meaning = record { file = file; meaning = meaning; same = same } }
 
-pub means_qasm : (text : List ℕ) (file : QasmView) (circuit : ReadCircuit) → length text ≤ MOST_CIRCUIT_BYTES → qasm_files.MeansFile text file → circuit ≡ of_qasm file
-    → Means Qasm text circuit
+pub means_qasm : (text : List ℕ) (file : QasmView) (circuit : ReadCircuit) → length text ≤ MOST_CIRCUIT_BYTES → qasm_files.MeansFile text file
+    → circuit ≡ of_qasm file → Means Qasm text circuit
 means_qasm text file circuit short meaning same = record { short = short; meaning = record { file = file; meaning = meaning; same = same } }
 
 pub refused_real : (text : List ℕ) (fault : RealFault) → length text ≤ MOST_CIRCUIT_BYTES → IsRealFault text fault

@@ -33,21 +33,22 @@ pub record ReadCircuit : Type 0 where
   pub garbage : List Bool
   pub gates : List GateView
 
+-- the circuit of lines with these marks
+abbrev pub marked : (constants : List Mark) → (garbage : List Bool) → List GateView → ReadCircuit
+marked constants garbage gates =
+    record { constants = constants; garbage = garbage; gates = gates }
+
 -- the number of its lines
 abbrev pub line_count : ReadCircuit → ℕ
 line_count circuit = length circuit.constants
 
 -- the circuit of gates on so many lines without marks: each starts with any bit, and all last bits are of use
 abbrev pub unmarked : ℕ → List GateView → ReadCircuit
-unmarked lines gates = record {
-  constants = replicate lines Free;
-  garbage = replicate lines false;
-  gates = gates;
-}
+unmarked lines gates = marked (replicate lines Free) (replicate lines false) gates
 
 -- the circuit of a `.real` file
 abbrev pub of_real : RealView → ReadCircuit
-of_real file = record { constants = file.constants; garbage = file.garbage; gates = file.gates }
+of_real file = marked file.constants file.garbage file.gates
 
 -- the circuit of an OpenQASM file, which has no marks
 abbrev pub of_qasm : QasmView → ReadCircuit

@@ -1,7 +1,8 @@
 // From a text to the circuit that it means.
 ghost use Rattle.std.specs.Prelude.{◌≡◌, ◌≤◌, length, IfOk, IfErr};
 ghost use Rattle.circuit_commands.specs.declared.limits.TheConstants.{MOST_CIRCUIT_BYTES};
-ghost use Rattle.circuit_commands.specs.Circuits.{Means, line_count, of_qasm, of_real, ReadCircuit};
+ghost use Rattle.circuit_commands.specs.Circuits.{Means, ReadCircuit, line_count, marked};
+ghost use Rattle.circuit_commands.specs.Circuits.{of_qasm, of_real};
 ghost use Rattle.circuit_commands.specs.inside.Mappings.{qasm_fault, real_fault};
 ghost use Rattle.circuit_commands.specs.Outcomes.{IsCircuitFault};
 ghost use Rattle.command_answers.specs.declared.fault.Fault.TheVariants.{Memory};
@@ -28,11 +29,7 @@ pub struct MarkedCircuit {
 impl Model for MarkedCircuit {
     ghost Value = { ReadCircuit };
 
-    ghost view = { λ c. record {
-      constants = c.constants.items;
-      garbage = c.garbage.items;
-      gates = c.circuit.gates;
-    } };
+    ghost view = { λ c. marked c.constants.items c.garbage.items c.circuit.gates };
 
     ghost invariant = { λ c. (c.circuit.lines ≡ length c.constants.items)
         × (length c.garbage.items ≡ length c.constants.items) };
