@@ -1,8 +1,7 @@
 -- `convert`: the split list of a text's circuit, and the file of it.
 use Rattle.std.proofs.Common.{◌≡◌, ℕ, ◌+◌, ◌<◌, ◌≤◌, Bool, true, false, List, [], ◌∷◌, ◌++◌}
-use Rattle.std.proofs.Common.{append-nil, length, Result, Ok, Err, inl, refl, sym, ap, ◌∙◌, subst, arith}
+use Rattle.std.proofs.Common.{append-nil, length, Ok, Err, inl, refl, sym, ap, ◌∙◌, subst, arith}
 use Rattle.format_parts.specs.Fits.{FitAFile}
-use Rattle.std.specs.Result.{IfErr}
 use Rattle.std.proofs.lemmas.List.{length-append}
 use Rattle.mct_circuit.specs.Gates.{CircuitView, GateView, AreGatesOn, AreNarrow, line_map}
 use Rattle.mct_circuit.proofs.MoreLinesLemmas.{more_lines}
@@ -23,11 +22,12 @@ use Rattle.command_answers.specs.declared.fault.Fault.{Fault}
 use Rattle.command_answers.specs.declared.fault.Fault.TheVariants as faults
 use Rattle.command_answers.specs.declared.fault.CircuitRefusal.{CircuitRefusal}
 use Rattle.command_answers.specs.Outcomes.{HasOneOutcome, IsFaultOfText}
-use Rattle.circuit_commands.specs.Circuits.{ReadCircuit, Means, MeansIn, line_count, unmarked}
-use Rattle.circuit_commands.specs.Convert.{IsCause, CanSplit, HasSplit, promise, promise_within, WantsLine, LacksLine, PassesLines, PassesGates, DoesTheSame}
+use Rattle.circuit_commands.specs.Circuits.{ReadCircuit, Means, MeansIn, line_count, marked, unmarked}
+use Rattle.circuit_commands.specs.Convert.{IsCause, CanSplit, HasSplit, IsSplitInto, Narrowing, promise, promise_within}
+use Rattle.circuit_commands.specs.Convert.{WantsLine, LacksLine, PassesLines, PassesGates, DoesTheSame}
 use Rattle.circuit_commands.specs.Convert.{IsFileOf, added_lines, converted, file_text, said_in}
 use Rattle.circuit_commands.specs.Outcomes.{ConvertedView, IsConversion}
-use Rattle.circuit_commands.specs.inside.Splitting.{HasSomeSplit, IsMarked, IsNarrowOf, IsPlaced, IsSplitFault, IsSplitOf, IsWritable}
+use Rattle.circuit_commands.specs.inside.Splitting.{HasSomeSplit, IsMarked, IsNarrowOf, IsPlaced, IsWritable, SplitsText}
 use Rattle.circuit_commands.proofs.CircuitLemmas.{means_or_refused, one_circuit, one_circuit_refusal}
 
 -- ---- a split has one answer
@@ -119,7 +119,7 @@ split_outcome most Gives can = record {
 pub convert_outcome : HasOneOutcome promise
 convert_outcome =
     split_outcome MOST_GATES promise.Gives
-    (λ order text written given. record { circuit = given.circuit; means = given.means; added = given.added; gates = given.gates; split = given.split })
+    (λ order text written given. record { circuit = given.circuit; means = given.means; added = given.added; gates = given.gates; split = given.made })
 
 -- ---- what the file means
 
@@ -142,13 +142,12 @@ means_written : (to : Format) (made : ConvertedView) → IsWritable made
 means_written Real made w =
     let circuit = made.circuit in
     let m = real.converted_has_meaning circuit.constants circuit.garbage circuit.gates w.garbage (fits_written made w) in
-    let Parts : List Mark → List Bool → List GateView → ReadCircuit = λ marks useless gates. record { constants = marks; garbage = useless; gates = gates } in
     record {
       file = m.file;
       meaning = m.meaning;
-      same = sym (ap (λ (marks : List Mark). Parts marks m.file.garbage m.file.gates) m.constants_are
-          ∙ ap (λ (useless : List Bool). Parts circuit.constants useless m.file.gates) m.garbage_are
-          ∙ ap (λ (gates : List GateView). Parts circuit.constants circuit.garbage gates) m.gates_are);
+      same = sym (ap (λ (marks : List Mark). marked marks m.file.garbage m.file.gates) m.constants_are
+          ∙ ap (λ (useless : List Bool). marked circuit.constants useless m.file.gates) m.garbage_are
+          ∙ ap (λ (gates : List GateView). marked circuit.constants circuit.garbage gates) m.gates_are);
     }
 means_written Qasm made w =
     let own = w.own in
@@ -176,17 +175,17 @@ file_of to circuit gates made p = record {
   same = p.same;
 }
 
--- what is split of a text's circuit is written in each format
-pub conversion : (from : Format) (text : List ℕ) (circuit : ReadCircuit) (made : ConvertedView) → Means from text circuit → IsSplitOf circuit made
-    → IsConversion from text made
-conversion from text circuit made m s = record {
+-- what is made of a text's circuit is written in each format
+pub conversion : (Makes : Narrowing) (from : Format) (text : List ℕ) (circuit : ReadCircuit) (gates : List GateView) (made : ConvertedView)
+    → Means from text circuit → Makes circuit made.added gates → IsPlaced circuit gates made → IsConversion Makes from text made
+conversion Makes from text circuit gates made m by placed = record {
   in_each = λ to. record {
     circuit = circuit;
     means = m;
     added = made.added;
-    gates = s.gates;
-    split = s.split;
-    file = file_of to circuit s.gates made s.placed;
+    gates = gates;
+    made = by;
+    file = file_of to circuit gates made placed;
   };
 }
 
@@ -238,15 +237,6 @@ wider_split most source circuit narrow lines own gates counted placed wants room
           (λ bits long. same bits (long ∙ ap (λ n. n + 1) (sym all)) ∙ ap (λ (gs : List GateView). line_map gs bits) gates);
     }
 
--- memory was wanted for a split list
-pub memory_stops : {T : Type 0} (most : ℕ) (source : ReadCircuit) (r : Result T Fault) → HasSomeSplit most source → IfErr r (λ fault. fault ≡ faults.Memory)
-    → IfErr r (IsSplitFault most source)
-memory_stops most source (Ok made) some h = tt
-memory_stops most source (Err fault) some h = subst (IsSplitFault most source) (sym h) some
-
-pub some_split : (most : ℕ) (source : ReadCircuit) (narrow : CircuitView) → IsNarrowOf most source narrow → HasSomeSplit most source
-some_split most source narrow n = record { added = n.added; gates = narrow.gates; split = n.split }
-
 pub own_some : (most : ℕ) (source : ReadCircuit) (circuit : CircuitView) (lines : ℕ) → circuit.lines ≡ line_count source → circuit.gates ≡ source.gates
     → lines ≡ circuit.lines → HasSplitList lines most circuit.gates → HasSomeSplit most source
 own_some most source circuit lines own gates counted some =
@@ -271,17 +261,18 @@ same_added lines false true e = absurd (omega (arith, e))
 same_added lines true false e = absurd (omega (arith, e))
 same_added lines true true e = refl
 
--- the split list with its marks
-pub split_marked : (source : ReadCircuit) (narrow : CircuitView) (made : ConvertedView) → IsNarrowOf MOST_GATES source narrow → IsMarked source narrow made
-    → IsSplitOf source made
-split_marked source narrow made n m =
-    let as_made = same_added (line_count source) n.added made.added (sym n.lines ∙ m.lines) in
-    record {
-      gates = narrow.gates;
-      split = subst (λ (b : Bool). HasSplit MOST_GATES source b (Ok narrow.gates)) as_made n.split;
-      placed = record {
-        are = m.are;
-        writable = m.writable;
-        same = subst (λ (b : Bool). DoesTheSame source b narrow.gates) as_made n.same;
-      };
-    }
+-- the split list on the lines that are written
+pub split_as : (most : ℕ) (source : ReadCircuit) (narrow : CircuitView) (added : Bool) → IsNarrowOf most source narrow
+    → narrow.lines ≡ line_count source + added_lines added → HasSplit most source added (Ok narrow.gates) × DoesTheSame source added narrow.gates
+split_as most source narrow added n lines =
+    let same = same_added (line_count source) n.added added (sym n.lines ∙ lines) in (
+      subst (λ (b : Bool). HasSplit most source b (Ok narrow.gates)) same n.split,
+      subst (λ (b : Bool). DoesTheSame source b narrow.gates) same n.same,
+    )
+
+-- the split list of a text with the marks of its lines
+pub split_marked : (from : Format) (text : List ℕ) (source : ReadCircuit) (narrow : CircuitView) (made : ConvertedView)
+    → SplitsText MOST_GATES from text source narrow → IsMarked source narrow made → IsConversion IsSplitInto from text made
+split_marked from text source narrow made s m =
+    let split = split_as MOST_GATES source narrow made.added s.split m.lines in
+    conversion IsSplitInto from text source narrow.gates made s.means split.0 (record { are = m.are; writable = m.writable; same = split.1 })

@@ -14,7 +14,7 @@ use Rattle.revc_words.specs.declared.order.Format.TheVariants.{Real, Qasm}
 use Rattle.revc_words.specs.Words.{OrderView}
 use Rattle.command_answers.specs.declared.fault.Fault.{Fault}
 use Rattle.command_answers.specs.declared.fault.Fault.TheVariants.{Circuit, Lines, Gates}
-use Rattle.circuit_commands.specs.Circuits.{ReadCircuit, Means, MeansIn, IsCircuitRefusal, line_count, unmarked, circuit_limit}
+use Rattle.circuit_commands.specs.Circuits.{ReadCircuit, marked, Means, MeansIn, IsCircuitRefusal, line_count, unmarked, circuit_limit}
 
 -- ---- the split list, of at most so many gates
 
@@ -59,11 +59,8 @@ added_lines true = 1
 -- these gates on a circuit's lines with their marks; a line that is added comes last, and has none
 abbrev pub converted : ReadCircuit → (added : Bool) → List GateView → ReadCircuit
 converted circuit false gates = record circuit { gates = gates }
-converted circuit true gates = record {
-  constants = circuit.constants ++ Free ∷ [];
-  garbage = circuit.garbage ++ false ∷ [];
-  gates = gates;
-}
+converted circuit true gates =
+    marked (circuit.constants ++ Free ∷ []) (circuit.garbage ++ false ∷ []) gates
 
 -- the gates do to a circuit's lines what its own do, and leave a line that is added as it is
 abbrev pub DoesTheSame : ReadCircuit → (added : Bool) → List GateView → Type 0
@@ -126,20 +123,29 @@ promise_within most Gives =
     exact_promise (Some circuit_limit) (6 ∷ 7 ∷ 8 ∷ []) Gives (IsCause most)
     (λ order text. CanSplit most order.from text)
 
--- ---- the command
+-- which gates are made of a circuit, whose last line was added or not
+abbrev pub Narrowing : Type 1
+Narrowing = ReadCircuit → (added : Bool) → List GateView → Type 0
 
--- the text means a circuit, and this is the file of its split list
-pub record IsConverted (from to : Format) (text written : List ℕ) : Type 0 where
+-- the text means a circuit, and this is the file of gates that are made of it so
+pub record IsNarrowFile (Makes : Narrowing) (from to : Format) (text written : List ℕ)
+    : Type 0 where
   pub circuit : ReadCircuit
   pub means : Means from text circuit
   pub added : Bool
   pub gates : List GateView
-  pub split : HasSplit MOST_GATES circuit added (Ok gates)
+  pub made : Makes circuit added gates
   pub file : IsFileOf to circuit added gates written
+
+-- ---- the command
+
+-- these gates are the split list
+abbrev pub IsSplitInto : Narrowing
+IsSplitInto circuit added gates = HasSplit MOST_GATES circuit added (Ok gates)
 
 -- what is written
 abbrev pub Gives : OrderView → List ℕ → List ℕ → Type 0
-Gives order text written = IsConverted order.from order.to text written
+Gives order text written = IsNarrowFile IsSplitInto order.from order.to text written
 
 abbrev pub promise : Promise
 promise = promise_within MOST_GATES Gives

@@ -5,8 +5,7 @@ use Rattle.command_answers.specs.declared.fault.Fault.TheVariants.{Circuit, Line
 use Rattle.revc_words.specs.declared.order.Format.{Format}
 use Rattle.circuit_commands.specs.Circuits.{ReadCircuit, IsCircuitRefusal}
 use Rattle.circuit_commands.specs.Run.{AreInputs, HasBadWord, IsFirstUnfit}
-use Rattle.circuit_commands.specs.Convert.{IsConverted, PassesLines, PassesGates, file_text}
-use Rattle.circuit_commands.specs.Tidy.{IsTidiedFile}
+use Rattle.circuit_commands.specs.Convert.{IsNarrowFile, Narrowing, PassesLines, PassesGates, file_text}
 
 -- why a text means no circuit, or there was no memory left
 abbrev pub IsCircuitFault : Format → List ℕ → Fault → Type 0
@@ -33,13 +32,11 @@ pub record ConvertedView : Type 0 where
   pub circuit : ReadCircuit
   pub added : Bool
 
--- the file that waits is, in each format, that of the text's circuit
-pub record IsConversion (from : Format) (text : List ℕ) (made : ConvertedView) : Type 0 where
-  pub in_each : (to : Format) → IsConverted from to text (file_text to made.circuit made.added)
-
--- the same of the gates that are tidied from its split list
-pub record IsTidying (from : Format) (text : List ℕ) (made : ConvertedView) : Type 0 where
-  pub in_each : (to : Format) → IsTidiedFile from to text (file_text to made.circuit made.added)
+-- the file that waits is, in each format, that of gates that are made so of the text's circuit
+pub record IsConversion (Makes : Narrowing) (from : Format) (text : List ℕ)
+    (made : ConvertedView) : Type 0 where
+  pub in_each : (to : Format)
+      → IsNarrowFile Makes from to text (file_text to made.circuit made.added)
 
 -- why a circuit text has no split list of at most so many gates, or there was no memory left
 abbrev pub IsConvertFault : (most : ℕ) → Format → List ℕ → Fault → Type 0

@@ -5,12 +5,12 @@ ghost use Rattle.revc_io.specs.Faults.{HasCause};
 ghost use Rattle.revc_io.specs.Passing.{Writes};
 ghost use Rattle.command_answers.specs.Outcomes.{HasOneOutcome};
 ghost use Rattle.circuit_commands.specs.declared.limits.TheConstants.{MOST_CIRCUIT_BYTES};
-ghost use Rattle.circuit_commands.specs.Circuits.{line_count};
-ghost use Rattle.circuit_commands.specs.Convert.{WantsLine, converted, promise};
+ghost use Rattle.circuit_commands.specs.Circuits.{line_count, marked};
+ghost use Rattle.circuit_commands.specs.Convert.{IsSplitInto, WantsLine, converted, promise};
 ghost use Rattle.circuit_commands.specs.Convert.{file_text, added_lines};
 ghost use Rattle.circuit_commands.specs.Outcomes.{IsConversion, IsConvertFault, ConvertedView};
 ghost use Rattle.circuit_commands.specs.inside.Splitting.{HasLines, IsMarked, IsNarrowOf};
-ghost use Rattle.circuit_commands.specs.inside.Splitting.{IsOnLinesOf, IsSplitFault, IsSplitOf};
+ghost use Rattle.circuit_commands.specs.inside.Splitting.{IsOnLinesOf, IsSplitFault, SplitsText};
 ghost use Rattle.circuit_commands.specs.inside.Splitting.{IsWritable};
 
 use crate::circuit::{MarkedCircuit, read_circuit};
@@ -38,11 +38,7 @@ impl Model for Converted {
     ghost Value = { ConvertedView };
 
     ghost view = { λ c. record {
-      circuit = record {
-        constants = c.constants.items;
-        garbage = c.garbage.items;
-        gates = c.circuit.gates;
-      };
+      circuit = marked c.constants.items c.garbage.items c.circuit.gates;
       added = c.added;
     } };
 
@@ -64,25 +60,31 @@ pub fn one_outcome()
 /// the split, or want of memory.
 pub fn convert(alloc: Global, text: &[u8], from: Format) -> Result<Converted, Fault>
     requires { length text.now ≤ MOST_CIRCUIT_BYTES }
-    ensures ok { IfOk result (IsConversion from text.now) }
+    ensures ok { IfOk result (IsConversion IsSplitInto from text.now) }
     ensures err { IfErr result (IsConvertFault MOST_GATES from text.now) }
 {
-    let source = read_circuit(alloc, text, from)?;
-    split_source(alloc, source)
-}
-
-// On the lines of the circuit, or on one more.
-fn split_source(alloc: Global, source: MarkedCircuit) -> Result<Converted, Fault>
-    requires { HasLines source }
-    ensures ok { IfOk result (IsSplitOf source) }
-    ensures err { IfErr result (IsSplitFault MOST_GATES source) }
-{
-    let narrow = split_gates(alloc, &source, MOST_GATES)?;
+    let (source, narrow) = split_text(alloc, text, from, MOST_GATES)?;
     marked(source, narrow)
 }
 
+// The circuit of a text, and its split list of at most so many gates.
+pub(crate) fn split_text(
+    alloc: Global,
+    text: &[u8],
+    from: Format,
+    most: u64,
+) -> Result<(MarkedCircuit, Narrow), Fault>
+    requires { length text.now ≤ MOST_CIRCUIT_BYTES }
+    ensures ok { IfOk result (λ read. SplitsText most from text.now read.0 read.1) }
+    ensures err { IfErr result (IsConvertFault most from text.now) }
+{
+    let source = read_circuit(alloc, text, from)?;
+    let narrow = split_gates(alloc, &source, most)?;
+    Ok((source, narrow))
+}
+
 // At most so many narrow gates on the lines of a circuit, or on one more.
-pub(crate) fn split_gates(alloc: Global, source: &MarkedCircuit, most: u64) -> Result<Narrow, Fault>
+fn split_gates(alloc: Global, source: &MarkedCircuit, most: u64) -> Result<Narrow, Fault>
     requires { HasLines source.now }
     ensures ok { IfOk result (IsNarrowOf most source.now) }
     ensures err { IfErr result (IsSplitFault most source.now) }

@@ -2,11 +2,11 @@
 use Rattle.std.specs.Prelude.{◌≡◌, ◌+◌, ◌<◌, ◌≤◌, ℕ, Bool, Ok, List, length}
 use Rattle.mct_circuit.specs.Gates.{CircuitView, GateView, AreGatesOn, AreNarrow}
 use Rattle.circuit_plans.specs.declared.plan.TheConstants.{MOST_LINES, MOST_GATES}
+use Rattle.revc_words.specs.declared.order.Format.{Format}
 use Rattle.command_answers.specs.declared.fault.Fault.{Fault}
 use Rattle.command_answers.specs.declared.fault.Fault.TheVariants.{Lines, Gates, Memory}
-use Rattle.circuit_commands.specs.Circuits.{ReadCircuit, line_count}
+use Rattle.circuit_commands.specs.Circuits.{ReadCircuit, Means, line_count}
 use Rattle.circuit_commands.specs.Convert.{HasManyGates, HasSplit, LacksLine, DoesTheSame, added_lines, converted}
-use Rattle.circuit_commands.specs.Tidy.{IsTidiedFrom}
 use Rattle.circuit_commands.specs.Outcomes.{ConvertedView}
 
 -- a circuit has a line, and keeps the limit of lines
@@ -50,17 +50,12 @@ pub record IsPlaced (circuit : ReadCircuit) (gates : List GateView) (made : Conv
   pub writable : IsWritable made
   pub same : DoesTheSame circuit made.added gates
 
--- this is the circuit of the split list
-pub record IsSplitOf (circuit : ReadCircuit) (made : ConvertedView) : Type 0 where
-  pub gates : List GateView
-  pub split : HasSplit MOST_GATES circuit made.added (Ok gates)
-  pub placed : IsPlaced circuit gates made
-
--- this is the circuit of gates that are tidied from the split list
-pub record IsTidyOf (circuit : ReadCircuit) (made : ConvertedView) : Type 0 where
-  pub gates : List GateView
-  pub from_split : IsTidiedFrom circuit made.added gates
-  pub placed : IsPlaced circuit gates made
+-- the text means this circuit, and these are the gates of its split list of at most so many
+pub record SplitsText (most : ℕ) (from : Format) (text : List ℕ) (circuit : ReadCircuit)
+    (narrow : CircuitView) : Type 0 where
+  pub means : Means from text circuit
+  pub lines : HasLines circuit
+  pub split : IsNarrowOf most circuit narrow
 
 -- the circuit has a split list of at most so many gates, on its own lines or on one more
 pub record HasSomeSplit (most : ℕ) (circuit : ReadCircuit) : Type 0 where
