@@ -56,14 +56,9 @@ pub benched : {E : Type 0} (order : OrderView) (tape : TapeView) (laid : LaidVie
 benched order tape laid (Err e) plan h = tt
 benched order tape laid (Ok sizes) plan are = record {
   tape = tape;
-  settled = plan.settled;
-  only = plan.only;
   roles = roles_of laid;
   gates = laid.circuit.gates;
-  clean = plan.clean;
-  few_lines = plan.few_lines;
-  few_gates = plan.few_gates;
-  planned = plan.planned;
+  circuit = plan.circuit;
   sizes = sizes;
   are = are;
   lines = refl;

@@ -80,27 +80,29 @@ planned order text laid tape s l settled plan c =
     let lines = c.plan.lines in
     let sum_of = plan.sum_of in
     record {
-      settled = l;
-      only = λ q is. one_formed text q l.left.program is l.left.formed;
-      clean = record {
-        inputs = c.plan.inputs ∙ c.graph_of.inputs ∙ ap sum c.tape_of.widths;
-        borrows = c.plan.borrowed;
-        placed = subst (λ n. AreGatesOn n laid.circuit.gates) (sym plan.sum_of) plan.on;
-        narrow = plan.narrow;
-        computes = computes_on laid l.left.program (budget_of order) c;
-      };
-      few_lines = omega arith;
-      few_gates = c.plan.gates;
-      planned = record {
-        graph = s;
-        graph_of = settled.of_tape;
-        no_larger = settled.no_larger;
-        laid = laid;
-        roles_are = refl;
-        lines_are = plan.sum_of;
-        gates_are = refl;
-        chosen = plan.chosen;
-        few_toffoli_gates = few_toffoli_gates order laid tape s settled.of_tape settled.no_larger plan.chosen;
+      circuit = record {
+        settled = l;
+        only = λ q is. one_formed text q l.left.program is l.left.formed;
+        clean = record {
+          inputs = c.plan.inputs ∙ c.graph_of.inputs ∙ ap sum c.tape_of.widths;
+          borrows = c.plan.borrowed;
+          placed = subst (λ n. AreGatesOn n laid.circuit.gates) (sym plan.sum_of) plan.on;
+          narrow = plan.narrow;
+          computes = computes_on laid l.left.program (budget_of order) c;
+        };
+        few_lines = omega arith;
+        few_gates = c.plan.gates;
+        planned = record {
+          graph = s;
+          graph_of = settled.of_tape;
+          no_larger = settled.no_larger;
+          laid = laid;
+          roles_are = refl;
+          lines_are = plan.sum_of;
+          gates_are = refl;
+          chosen = plan.chosen;
+          few_toffoli_gates = few_toffoli_gates order laid tape s settled.of_tape settled.no_larger plan.chosen;
+        };
       };
       can = writable laid l.left.program (budget_of order) c;
       sum_of = plan.sum_of;
@@ -144,17 +146,17 @@ pub compiled_file : (order : OrderView) (text : List ℕ) (laid : LaidView) (tap
     → IsCompiled order text (file_of order.format laid)
 compiled_file order text laid tape p = record {
   tape = tape;
-  settled = p.settled;
-  only = p.only;
+  settled = p.circuit.settled;
+  only = p.circuit.only;
   clean = record {
     roles = roles_of laid;
     gates = laid.circuit.gates;
-    meaning = means_itself order.format laid p.can p.sum_of p.on p.clean.narrow;
-    circuit = p.clean;
+    meaning = means_itself order.format laid p.can p.sum_of p.on p.circuit.clean.narrow;
+    circuit = p.circuit.clean;
   };
-  few_lines = p.few_lines;
-  few_gates = p.few_gates;
-  planned = p.planned;
+  few_lines = p.circuit.few_lines;
+  few_gates = p.circuit.few_gates;
+  planned = p.circuit.planned;
   written = refl;
 }
 

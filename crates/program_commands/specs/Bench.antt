@@ -1,5 +1,5 @@
 -- `bench`: the sizes of an adder's program, and of its compiled circuit.
-use Rattle.std.specs.Prelude.{◌≡◌, ℕ, ◌≤◌, List, ◌++◌, length, codes, None, [], ◌∷◌}
+use Rattle.std.specs.Prelude.{◌≡◌, ℕ, List, ◌++◌, length, codes, None, [], ◌∷◌}
 use Rattle.command_answers.specs.Outcomes.{Promise, budget_promise}
 use Rattle.command_answers.specs.declared.fault.Fault.{Fault}
 use Rattle.command_answers.specs.Lines.{number_line}
@@ -8,15 +8,11 @@ use Rattle.circuit_plans.specs.Plans.{lines_in}
 use Rattle.mct_circuit.specs.Gates.{GateView}
 use Rattle.mct_circuit.specs.Sizes.{depth_of}
 use Rattle.program_commands.specs.declared.bench.BenchSizes.{BenchSizes}
-use Rattle.program_commands.specs.Clean.{IsCleanCircuit}
-use Rattle.program_commands.specs.Compile.{HasFittingRow, IsPlannedAs, PassesBudget}
-use Rattle.program_commands.specs.Settling.{LeavesSettled}
+use Rattle.program_commands.specs.Compile.{HasCircuit, HasFittingRow, PassesBudget}
 use Rattle.program_gen.specs.Adder.{adder_text}
 use Rattle.revs_tape.specs.Measures.{HasWidth, inputs_of, outputs_of, writes_of}
 use Rattle.revs_tape.specs.Tapes.{TapeView}
 use Rattle.revc_words.specs.Words.{OrderView}
-use Rattle.revs_parser.specs.WellFormed.{IsWellFormed}
-use Rattle.revs_terms.specs.Views.{ProgramView}
 
 -- these are the numbers of inputs, outputs and writes of a tape and its width, and the numbers of lines and gates of a
 -- circuit and its depth
@@ -43,20 +39,13 @@ bench_text sizes =
     ++ ((number_line (codes "writes ") sizes.writes ++ number_line (codes "width ") sizes.width)
     ++ circuit_lines sizes)
 
--- The text of the adder of so many bits is well formed, and that of one program, whose claims hold on all inputs, within
--- the nodes; the gates are a clean circuit for it, with the order's borrowed lines, within its budgets, and of a plan
--- that it allows; and these are the lines of the sizes of its tape and of the gates.
+-- the text of the adder of so many bits has a circuit that the order allows, and these are the lines of the sizes of its
+-- tape and of the gates
 pub record IsBenched (order : OrderView) (written : List ℕ) : Type 0 where
   pub tape : TapeView
-  pub settled : LeavesSettled (adder_text order.number) order.nodes tape
-  pub only : (p : ProgramView) → IsWellFormed (adder_text order.number) p
-      → p ≡ settled.left.program
   pub roles : Roles
   pub gates : List GateView
-  pub clean : IsCleanCircuit settled.left.program order.borrow roles gates
-  pub few_lines : lines_in roles ≤ order.lines
-  pub few_gates : length gates ≤ order.gates
-  pub planned : IsPlannedAs order tape roles gates
+  pub circuit : HasCircuit order (adder_text order.number) tape roles gates
   pub sizes : BenchSizes
   pub are : AreSizesOf tape roles gates sizes
   pub lines : written ≡ bench_text sizes

@@ -18,7 +18,7 @@ use Rattle.revs_parser.specs.WellFormed.{IsWellFormed}
 use Rattle.revs_terms.specs.Views.{ProgramView}
 use Rattle.command_answers.specs.declared.fault.Fault.{Fault}
 use Rattle.command_answers.specs.declared.fault.Fault.TheVariants.{Lines, Gates}
-use Rattle.program_commands.specs.Clean.{IsClean, file_text}
+use Rattle.program_commands.specs.Clean.{IsClean, IsCleanCircuit, file_text}
 use Rattle.program_commands.specs.Settling.{LeavesSettled, LeavesTape, StopsSettling}
 
 -- the budget that an order gives
@@ -47,6 +47,18 @@ pub record IsPlannedAs (order : OrderView) (tape : TapeView) (roles : Roles)
   pub gates_are : gates ≡ laid.circuit.gates
   pub chosen : IsChosen order.plan graph (budget_of order) laid
   pub few_toffoli_gates : HasFewToffoliGates order tape gates
+
+-- The text is well formed, and that of one program, which leaves this tape and whose claims hold on all inputs, within
+-- the nodes; the gates are a clean circuit for it, with the order's borrowed lines, within its budgets, and of a plan
+-- that it allows.
+pub record HasCircuit (order : OrderView) (text : List ℕ) (tape : TapeView) (roles : Roles)
+    (gates : List GateView) : Type 0 where
+  pub settled : LeavesSettled text order.nodes tape
+  pub only : (p : ProgramView) → IsWellFormed text p → p ≡ settled.left.program
+  pub clean : IsCleanCircuit settled.left.program order.borrow roles gates
+  pub few_lines : lines_in roles ≤ order.lines
+  pub few_gates : length gates ≤ order.gates
+  pub planned : IsPlannedAs order tape roles gates
 
 -- The text is well formed, and that of one program, whose claims hold on all inputs, within the nodes; the file is a
 -- clean one for it in the order's format, with its borrowed lines and within its budgets, and the text of its gates,

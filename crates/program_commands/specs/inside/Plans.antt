@@ -2,7 +2,7 @@
 use Rattle.std.specs.Prelude.{◌≡◌, ℕ, ◌+◌, ◌≤◌, List, length}
 use Rattle.claim_check.specs.Settled.{SettledView, IsSettledOf}
 use Rattle.circuit_plans.specs.declared.plan.TheConstants.{MOST_LINES, MOST_GATES}
-use Rattle.circuit_plans.specs.Plans.{BudgetView, LaidView, lines_in, roles_of}
+use Rattle.circuit_plans.specs.Plans.{BudgetView, LaidView, roles_of}
 use Rattle.held_nodes.specs.Plans.{wanted_lines}
 use Rattle.inliner.specs.Faults.{IsRefused}
 use Rattle.inliner.specs.declared.fault.RunFault.{RunFault}
@@ -11,17 +11,15 @@ use Rattle.circuit_plans.specs.declared.choice.How.{How}
 use Rattle.plan_choice.specs.Choices.{GatesAreFew, IsChosen, IsLaidFor, LinesAreFew}
 use Rattle.revs_tape.specs.Tapes.{TapeView}
 use Rattle.revc_words.specs.Words.{OrderView}
-use Rattle.revs_parser.specs.WellFormed.{IsProgramText, IsWellFormed}
+use Rattle.revs_parser.specs.WellFormed.{IsProgramText}
 use Rattle.revs_terms.specs.Runs.{IsTapeOf}
 use Rattle.revs_terms.specs.Scopes.{scope_verdict, bound_as}
 use Rattle.revs_terms.specs.Views.{ProgramView}
 use Rattle.command_answers.specs.declared.fault.Fault.{Fault}
 use Rattle.command_answers.specs.declared.fault.Fault.TheVariants.{Lines, Gates, BadBits, Memory}
 use Rattle.command_answers.specs.BitWords.{IsInputWord}
-use Rattle.program_commands.specs.Clean.{IsCleanCircuit}
-use Rattle.program_commands.specs.Compile.{IsPlannedAs}
+use Rattle.program_commands.specs.Compile.{HasCircuit}
 use Rattle.program_commands.specs.Outcomes.{IsWritable}
-use Rattle.program_commands.specs.Settling.{LeavesSettled}
 use Rattle.program_commands.specs.inside.Mappings.{run_fault}
 
 -- a plan of a program's settled graph, within a budget
@@ -45,17 +43,11 @@ pub record IsPlanOf (how : How) (graph : SettledView) (b : BudgetView) (laid : L
   pub on : AreGatesOn laid.circuit.lines laid.circuit.gates
   pub narrow : AreNarrow laid.circuit.gates
 
--- The text is well formed, and that of one program, which leaves this tape and whose claims hold on all inputs, within
--- the nodes; the plan is a clean circuit for it, with the order's borrowed lines and within its budgets, one that the
--- order asks for, and it may be written: its gates are on its lines, which are those of its roles.
+-- The plan is a circuit for the text that the order allows, and it may be written: its gates are on its lines, which are
+-- those of its roles.
 pub record IsPlannedFor (order : OrderView) (text : List ℕ) (tape : TapeView) (laid : LaidView)
     : Type 0 where
-  pub settled : LeavesSettled text order.nodes tape
-  pub only : (p : ProgramView) → IsWellFormed text p → p ≡ settled.left.program
-  pub clean : IsCleanCircuit settled.left.program order.borrow (roles_of laid) laid.circuit.gates
-  pub few_lines : lines_in (roles_of laid) ≤ order.lines
-  pub few_gates : length laid.circuit.gates ≤ order.gates
-  pub planned : IsPlannedAs order tape (roles_of laid) laid.circuit.gates
+  pub circuit : HasCircuit order text tape (roles_of laid) laid.circuit.gates
   pub can : IsWritable laid
   pub sum_of : laid.inputs + laid.outputs + laid.work + laid.borrowed ≡ laid.circuit.lines
   pub on : AreGatesOn laid.circuit.lines laid.circuit.gates
