@@ -6,7 +6,6 @@ use Rattle.revs_tape.specs.declared.tape.Ref.TheVariants as refs
 use Rattle.revs_tape.specs.declared.tape.Entry.{Entry}
 use Rattle.revs_tape.specs.declared.tape.Entry.TheVariants as entries
 use Rattle.revs_tape.specs.Cuts.{IsWidth}
-use Rattle.revs_tape.specs.Levels.{IsLevels}
 use Rattle.revs_tape.specs.Tapes.{TapeView, operands}
 
 -- ---- counts
@@ -50,9 +49,3 @@ steps_of t = map (λ (entry : Entry). writes_among (operands entry)) t.entries
 -- The width of a tape: the most writes that are needed at one place.
 abbrev pub HasWidth : TapeView → ℕ → Type 0
 HasWidth t width = IsWidth (steps_of t) (writes_among t.outputs) width
-
--- ---- levels
-
--- The number of levels of a tape, in blocks of one write.
-abbrev pub HasLevels : TapeView → ℕ → Type 0
-HasLevels t levels = IsLevels 1 (writes_of t) levels

@@ -88,9 +88,6 @@ over_new : (s : SettledView) (old new : List SumView) (sum whole : SumView) → 
 over_new s old new sum whole g known f input =
     f.values (base_bit (bit_of input) (sums_made (bit_of input) [] new)) ∙ same_value s.inputs old new input sum g known
 
-no_one : SumView → SumView
-no_one whole = record whole { one = false }
-
 -- the constant and the rest
 split_one : (bit : Base → Bool) (whole : SumView) → sum_value bit whole ≡ xor whole.one (sum_value bit (record whole { one = false }))
 split_one bit whole = ap (xor whole.one) (sym (xor_none _))
