@@ -41,7 +41,8 @@ plus_text m rest ps is =
     let places = adder.place (codes "p") (codes "q") in
     grouped texts.plus_opening first (flat_map places (range_with_len 1 (suc m - 1))) (outputs (codes "s") (suc m)) texts.plus_closing rest
     ∙ joined opening_text (ripple_text (ripple plus) first places
-    (record { first_is = first_text (codes "p") (codes "q"); place_is = place_text (codes "p") (codes "q") }) m (texts.plus_closing ++ rest) (plus_end ++ ps) (closing_text rest ∙ ap (λ (bs : List ℕ). text_of plus_end ++ bs) is))
+    (record { first_is = first_text (codes "p") (codes "q"); place_is = place_text (codes "p") (codes "q") }) m
+    (texts.plus_closing ++ rest) (plus_end ++ ps) (closing_text rest ∙ ap (λ (bs : List ℕ). text_of plus_end ++ bs) is))
     ∙ sym (text_of-append plus_open (from_sum (ripple plus) m (plus_end ++ ps)))
   where
     grouped : (a b c d e g : List ℕ) → (a ++ b ++ c ++ d ++ e) ++ g ≡ a ++ (b ++ (c ++ (d ++ (e ++ g))))

@@ -7,8 +7,7 @@ ghost use Rattle.arith_templates.specs.Texts.{borrow_line, last_borrow_line};
 use program_gen::{MOST_BITS, put_parameters};
 use std::alloc::AllocError;
 
-// The parameters, the borrow as a function, and place 0: what is put first of it, and the borrow out
-// of it.
+// The parameters, the borrow as a function, and place 0: these bytes, and the borrow out of it.
 #[tactic(auto, unfolding(crate::specs::Texts::borrow_function, crate::specs::Texts::first_borrow))]
 pub(crate) fn put_opening(text: &mut String, n: u32, first: &str) -> Result<(), AllocError>
     ensures { OnOk result (string_bytes text.new ≡ string_bytes text.old
