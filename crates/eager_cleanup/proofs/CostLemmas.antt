@@ -1,8 +1,9 @@
 -- What the gates of a toggle, of a clearing by cubes, and of the copies are split into, at most.
-use Rattle.std.proofs.Common.{◌≡◌, ℕ, ◌+◌, ◌-◌, ◌*◌, ◌<◌, ◌≤◌, true, false, inl, inr, List, [], ◌∷◌, ◌++◌, length, map, reverse, Option, refl, ap, arith}
+use Rattle.std.proofs.Common.{◌≡◌, ℕ, ◌+◌, ◌-◌, ◌*◌, ◌<◌, ◌≤◌, true, false, inl, inr, List, [], ◌∷◌, ◌++◌, length, map, reverse, Option, ap, arith}
 use Rattle.std.specs.List.{AllByRecursion, sum_by}
 use Rattle.std.proofs.lemmas.Bool.Decides.{leb_tells}
-use Rattle.std.proofs.lemmas.List.{length-map, reverse-append}
+use Rattle.std.proofs.lemmas.List.{length-map}
+use Rattle.std.proofs.lemmas.List.Sorted.{IsPermutation-reverse, sum_by-IsPermutation}
 use Rattle.std.proofs.lemmas.List.Sums.{sum_by-cons, sum_by-append}
 use Rattle.dependency_graph.specs.declared.node.Node.{Node}
 use Rattle.dependency_graph.specs.declared.node.Node.TheVariants.{Not, Xor, And}
@@ -148,15 +149,7 @@ weight-copies-le (x ∷ xs) =
     omega (arith, sum_by-append toggle_weight (plain_output x ∷ []) (map plain_output xs), weight-copy x, weight-copies-le xs)
 
 most-reverse : (gates : List GateView) → most_in (reverse gates) ≡ most_in gates
-most-reverse [] = refl
-most-reverse (gate ∷ gates) = omega (
-  arith,
-  ap most_in (reverse-append (gate ∷ []) gates),
-  sum_by-append most_gates (reverse gates) (gate ∷ []),
-  sum_by-cons most_gates gate gates,
-  sum_by-cons most_gates gate [],
-  most-reverse gates,
-)
+most-reverse gates = sum_by-IsPermutation most_gates gates (reverse gates) (IsPermutation-reverse gates)
 
 -- gates, copies, and the gates reversed
 pub most-finished : (gates copies : List GateView) → most_in (gates ++ copies ++ reverse gates) ≡ 2 * most_in gates + most_in copies

@@ -1,7 +1,6 @@
 use Rattle.std.proofs.Common.{subst}
 use Rattle.revc_io.specs.Passing.{Writes}
 use Rattle.revc_io.proofs.PieceLemmas.{joined_is}
-use Rattle.command_answers.specs.Lines.{number_line}
 use Rattle.command_answers.proofs.digits.write_numbers.Goals as goal
 
 pub returns-clause-bytes : goal.returns-clause-bytes
