@@ -11,6 +11,10 @@ STYLE = ("line, circle { stroke: #1b1b1b; stroke-width: 1.4 } .open, .target { f
          " text { font: 13px monospace; fill: #1b1b1b }")
 
 
+class Refused(Exception):
+    """Why a text has no picture."""
+
+
 class Gate(NamedTuple):
     """Its controls, each with whether it has to be 1, and the lines that it flips (one) or swaps (two)."""
 
@@ -31,29 +35,41 @@ class Circuit(NamedTuple):
 # ---- Reading
 
 
-def words_of(text: str) -> Iterator[List[str]]:
-    """The words of each line that has some; a word that begins with `#` and all behind it are a comment."""
-    for line in text.split("\n"):
+def words_of(text: str) -> Iterator[Tuple[int, List[str]]]:
+    """The number and the words of each line that has some; a word that begins with `#` and all behind it are a comment."""
+    for number, line in enumerate(text.split("\n"), 1):
         words = list(takewhile(lambda word: not word.startswith("#"), line.split()))
         if words:
-            yield words
+            yield number, words
 
 
 def gate_of(words: List[str], lines_by_name: Dict[str, int]) -> Gate:
+    kind, targets = words[0], 2 if words[0].startswith("f") else 1
+    if kind[0] not in "tf" or not kind[1:].isdigit() or int(kind[1:]) != len(words) - 1 or len(words) <= targets:
+        raise Refused("`%s` is no gate" % " ".join(words))
+    unknown = [word for word in words[1:] if word.lstrip("-") not in lines_by_name]
+    if unknown:
+        raise Refused("`%s` is no line of `.variables`" % unknown[0])
     lines = [(lines_by_name[word.lstrip("-")], not word.startswith("-")) for word in words[1:]]
-    targets = 2 if words[0].startswith("f") else 1
     return Gate(lines[:-targets], [line for line, _ in lines[-targets:]])
 
 
 def circuit_of(text: str) -> Circuit:
     names, marks, gates = {}, "", []
-    for words in words_of(text):
+    for number, words in words_of(text):
         if words[0] == ".variables":
             names = {name: line for line, name in enumerate(words[1:])}
         elif words[0] == ".constants":
-            marks = words[1]
+            marks = "".join(words[1:])
         elif not words[0].startswith("."):
-            gates.append(gate_of(words, names))
+            try:
+                gates.append(gate_of(words, names))
+            except Refused as reason:
+                raise Refused("line %d: %s" % (number, reason))
+    if not names:
+        raise Refused("there is no line `.variables`: is it a `.real` file?")
+    if marks and len(marks) != len(names):
+        raise Refused("`.constants` has %d marks for %d lines" % (len(marks), len(names)))
     return Circuit(list(names), marks or "-" * len(names), gates)
 
 
