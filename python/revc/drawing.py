@@ -1,6 +1,6 @@
 """A circuit of a `.real` file as a picture: SVG, with the lines, their names, and the gates in columns."""
 from itertools import takewhile
-from typing import Dict, Iterator, List, NamedTuple, Tuple
+from typing import Dict, Iterator, List, NamedTuple, Sequence, Tuple
 from xml.sax.saxutils import escape
 
 STEP, PITCH = 20, 24  # from column to column, and from line to line
@@ -87,36 +87,42 @@ def columns_of(gates: List[Gate], lines: int) -> List[int]:
 
 
 class Drawing:
-    """The parts of a picture, from the names at the left to the names at the right."""
+    """The parts of a picture: the names at the left, the gates in columns, the names at the right. After so many
+    `columns` the lines go on below; `names` are shown in place of the file's names, for the first lines."""
 
-    def __init__(self, circuit: Circuit):
+    def __init__(self, circuit: Circuit, names: Sequence[str] = (), columns: int = 0):
         self.circuit = circuit
+        self.names = list(names) + circuit.names[len(names):]
         self.columns = columns_of(circuit.gates, len(circuit.names))
-        self.left = MARGIN + LETTER * (max(map(len, circuit.names)) + 3)
-        self.right = self.x(max(self.columns, default=-1) + 1)
+        wide = max(self.columns, default=-1) + 1
+        self.fold = min(columns or wide, wide) or 1
+        self.rows = max(1, -(-wide // self.fold))
+        self.left = MARGIN + LETTER * (max(map(len, self.names)) + 3)
+        self.right = self.left + STEP * (self.fold + 1)
 
     def x(self, column: int) -> int:
-        return self.left + STEP * (column + 1)
+        return self.left + STEP * (column % self.fold + 1)
 
-    def y(self, line: int) -> int:
-        return MARGIN + PITCH // 2 + PITCH * line
+    def y(self, line: int, row: int = 0) -> int:
+        return MARGIN + PITCH // 2 + PITCH * (line + row * (len(self.names) + 1))
 
     def wires(self) -> Iterator[str]:
         """The lines, with their names, and with the bit of those that start with one."""
-        for line, (name, mark) in enumerate(zip(self.circuit.names, self.circuit.marks)):
-            y, label = self.y(line), name if mark == "-" else "%s %s" % (name, mark)
-            yield segment(self.left, y, self.right, y)
-            yield text(self.left - 6, y, label, "end")
-            yield text(self.right + 6, y, name, "start")
+        for row in range(self.rows):
+            for line, (name, mark) in enumerate(zip(self.names, self.circuit.marks)):
+                y, label = self.y(line, row), name if mark == "-" or row else "%s %s" % (name, mark)
+                yield segment(self.left, y, self.right, y)
+                yield text(self.left - 6, y, label, "end")
+                yield text(self.right + 6, y, name, "start")
 
     def gate(self, gate: Gate, column: int) -> Iterator[str]:
-        x, (first, last) = self.x(column), gate.span()
+        x, row, (first, last) = self.x(column), column // self.fold, gate.span()
         if first != last:
-            yield segment(x, self.y(first), x, self.y(last))
+            yield segment(x, self.y(first, row), x, self.y(last, row))
         for line, is_one in gate.controls:
-            yield circle(x, self.y(line), DOT, "dot" if is_one else "open")
+            yield circle(x, self.y(line, row), DOT, "dot" if is_one else "open")
         for line in gate.targets:
-            yield from target(x, self.y(line)) if len(gate.targets) == 1 else cross(x, self.y(line))
+            yield from (target if len(gate.targets) == 1 else cross)(x, self.y(line, row))
 
     def parts(self) -> Iterator[str]:
         yield from self.wires()
@@ -124,9 +130,8 @@ class Drawing:
             yield from self.gate(gate, column)
 
     def svg(self) -> str:
-        names = self.circuit.names
-        width = self.right + LETTER * (max(map(len, names)) + 1) + MARGIN
-        height = 2 * MARGIN + PITCH * len(names)
+        width = self.right + LETTER * (max(map(len, self.names)) + 1) + MARGIN
+        height = 2 * MARGIN + PITCH * (self.rows * (len(self.names) + 1) - 1)
         head = '<svg xmlns="http://www.w3.org/2000/svg" width="%d" height="%d" viewBox="0 0 %d %d">'
         front = [head % (width, height, width, height), "<style>%s</style>" % STYLE,
                  '<rect width="%d" height="%d" fill="#ffffff"/>' % (width, height)]

@@ -1,0 +1,159 @@
+"""Functions of Python as functions of the text, their parameters and results; and claims."""
+import functools
+import inspect
+from typing import Any, Callable, Dict, List, Sequence, Tuple, TypeVar
+
+from .errors import RevcError, WidthError
+from .names import author
+from .operations import Const, is_bits, said, scope
+from .trace import Node, current
+from .values import Bits, Width
+
+Shape = Any  # how the values of a result stand in tuples, lists and dicts; None for a single one
+Function = TypeVar("Function", bound=Callable[..., Any])
+
+
+def widths(func: Any) -> Dict[str, int]:
+    """The widths that a function's annotations say, as `Bits[8]` or `Annotated[Bits, 8]`."""
+    space = dict(func.__globals__)
+    if func.__closure__:
+        cells = [(name, cell) for name, cell in zip(func.__code__.co_freevars, func.__closure__)]
+        space.update((name, cell.cell_contents) for name, cell in cells if not is_empty(cell))
+    found = {}
+    for name, note in func.__annotations__.items():
+        if isinstance(note, str):
+            try:
+                note = eval(note, space)
+            except NameError as error:
+                raise RevcError("the width %s of `%s`: %s (with `from __future__ import annotations` it has to be known "
+                                "in the module)" % (note, name, error)) from None
+        if getattr(note, "__origin__", None) is Bits:
+            note = Width(note.__metadata__[0])
+        if note is Bits and name != "return":
+            raise RevcError("`%s: Bits` has no width: write %s: Bits[8]" % (name, name))
+        if isinstance(note, Width):
+            found[name] = note.width
+    return found
+
+
+def is_empty(cell: Any) -> bool:
+    try:
+        cell.cell_contents
+    except ValueError:
+        return True
+    return False
+
+
+def holds_bits(value: Any) -> bool:
+    if isinstance(value, dict):
+        value = list(value.values())
+    return is_bits(value) or isinstance(value, (list, tuple)) and any(holds_bits(each) for each in value)
+
+
+def flatten(value: Any, title: str) -> Tuple[List[Bits], Shape]:
+    """The values in tuples, lists and dicts, one after another, and how they stood."""
+    if is_bits(value):
+        return [value], None
+    if isinstance(value, (dict, tuple, list)):
+        parts = [flatten(each, title) for each in (value.values() if isinstance(value, dict) else value)]
+        keys = list(value) if isinstance(value, dict) else None
+        return [each for flat, _ in parts for each in flat], (type(value), keys, [(len(f), s) for f, s in parts])
+    if value is None:
+        raise RevcError("`%s` returns nothing: it wants a `return`" % title)
+    raise RevcError("`%s` returns %r, which is no Bits: give a number its width, Const(%r, n)" % (title, value, value))
+
+
+def unflatten(shape: Shape, flat: Sequence[Any]) -> Any:
+    if shape is None:
+        return flat[0]
+    kind, keys, parts = shape
+    out, at = [], 0
+    for count, inner in parts:
+        out.append(unflatten(inner, flat[at:at + count]))
+        at += count
+    return dict(zip(keys, out)) if keys is not None else kind(*out) if hasattr(kind, "_fields") else kind(out)
+
+
+def result_names(shape: Shape, flat: Sequence[Bits], title: str) -> List[str]:
+    """What the results are called: by the keys of a dict, by the author's names, or by the function's name."""
+    if shape is not None and shape[1] is not None:
+        names = []
+        for key, (count, _) in zip(shape[1], shape[2]):
+            names += [str(key)] if count == 1 else ["%s_%d" % (key, i) for i in range(count)]
+        return names
+    if len(flat) == 1:
+        return [title]
+    return [each.node.name or each.node.hint or "%s_%d" % (title, i) for i, each in enumerate(flat)]
+
+
+def function(func: Function) -> Function:
+    """Make a function of Python one of the text. It is traced at each call, and the same text twice is one function.
+
+    Arguments with Bits in them, also in lists, tuples and dicts, are its parameters; all others are known when it is
+    traced. It may use values of the oracle that is traced, but none of another function.
+    """
+    signature = inspect.signature(func)
+
+    @functools.wraps(func)
+    def called(*args: Any, **named: Any) -> Any:
+        bound = signature.bind(*args, **named)
+        bound.apply_defaults()
+        known = widths(func)
+        params: List[Tuple[str, int]] = []
+        actual: List[Bits] = []
+        shapes = {}
+        for name, value in bound.arguments.items():
+            if name in known and not is_bits(value):
+                value = Const(value, known[name])
+            if holds_bits(value):
+                flat, shape = flatten(value, func.__name__)
+                if name in known and flat[0].width != known[name]:
+                    raise WidthError("`%s` of `%s` has %d bits, and %s %d"
+                                     % (name, func.__name__, known[name], said(flat[0]), flat[0].width))
+                shapes[name] = (len(actual), len(flat), shape)
+                params += [(name if shape is None else "%s%d" % (name, i), each.width) for i, each in enumerate(flat)]
+                actual += flat
+
+        def body(nodes: List[Node]) -> Any:
+            for name, (at, count, shape) in shapes.items():
+                bound.arguments[name] = unflatten(shape, [Bits(each) for each in nodes[at:at + count]])
+            flat, shape = flatten(func(*bound.args, **bound.kwargs), func.__name__)
+            return [each.node for each in flat], shape
+        program = current()
+        quiet, program.quiet = program.quiet, False
+        try:
+            name, results, shape = program.function(func.__name__, params, body)
+        finally:
+            program.quiet = quiet
+        given = [each.node for each in actual] or [Const(0, 1).node]
+        whole = Bits(scope().add("call", name, given, sum(each.width for each in results)))
+        return unflatten(shape, cut_results(whole, name, results))
+    return called  # type: ignore[return-value]
+
+
+def cut_results(whole: Bits, title: str, results: Sequence[Node]) -> List[Bits]:
+    """The results of a call, which come as one register, under the author's names."""
+    if len(results) == 1:
+        return [whole]
+    whole.node.hint = whole.node.hint or title
+    names, _ = author(True)
+    parts, at = [], 0
+    for each in results:
+        parts.append(whole[at:at + each.width])
+        at += each.width
+    if isinstance(names, list) and len(names) == len(parts):
+        for part, own in zip(parts, names):
+            part.named(own)
+    return parts
+
+
+def clean(x: Bits) -> None:
+    """Claim that all bits of x are 0 on every input. `check` and `compile` prove it, and it costs no gate."""
+    scope().add("clean", None, [x.node], x.width, "")
+
+
+def require(x: Bits) -> None:
+    """Claim that the bit x is 1 on every input. `check` and `compile` prove it, and it costs no gate."""
+    if not is_bits(x) or x.width != 1:
+        raise WidthError("require(%s): one bit is claimed: a comparison, or .all()" % said(x))
+    scope().add("assert", None, [x.node], 1, "")

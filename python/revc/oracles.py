@@ -1,0 +1,75 @@
+"""Functions of Python as programs of Revs."""
+import functools
+import inspect
+from typing import Any, Callable, Dict, List
+
+from . import trace
+from .errors import RevcError, WidthError
+from .functions import flatten, function, holds_bits, result_names, unflatten, widths
+from .sources import Source
+from .trace import Node, Program
+from .values import Bits
+
+MOST = 1024  # bits of all parameters, and of all results
+
+
+class Oracle(Source):
+    """A function of Python, traced once into a text, when it is defined.
+
+    `oracle(a=1, b=2)` runs the text on numbers; on Bits, inside another oracle, it is a function of that one.
+    """
+
+    def __init__(self, func: Callable[..., Any]):
+        functools.update_wrapper(self, func)
+        self.func, title = func, func.__name__
+        program = Program(title)
+        trace.programs.append(program)
+        try:
+            params, known = parameters(func, program)
+            flat, self.shape = flatten(func(**{str(each.hint): Bits(each) for each in params}, **known), title)
+            if sum(each.width for each in flat) > MOST:
+                raise WidthError("`%s` returns %d bits: a circuit has at most 1,024 outputs"
+                                 % (title, sum(each.width for each in flat)))
+            lines = program.finish(params, [each.node for each in flat])
+        finally:
+            trace.programs.pop()
+        names = result_names(self.shape, flat, title)
+        super().__init__("\n".join(line for line, _ in lines) + "\n", title,
+                         [(str(each.hint), each.width) for each in params],
+                         list(zip(names, [each.width for each in flat])), [place for _, place in lines])
+
+    def __call__(self, *args: Any, **named: Any) -> Any:
+        if holds_bits(list(args) + list(named.values())):
+            return function(self.func)(*args, **named)
+        return super().__call__(*args, **named)
+
+    def shaped(self, numbers: List[int]) -> Any:
+        return unflatten(self.shape, numbers)
+
+
+def parameters(func: Callable[..., Any], program: Program) -> Any:
+    """The parameters with a width, as nodes, and the values of the others, which are known now."""
+    title, notes = func.__name__, widths(func)
+    nodes: List[Node] = []
+    known: Dict[str, Any] = {}
+    for name, each in inspect.signature(func).parameters.items():
+        if each.kind in (each.VAR_POSITIONAL, each.VAR_KEYWORD):
+            raise RevcError("`*%s` of `%s`: a circuit has a fixed number of inputs" % (name, title))
+        if name not in notes and each.default is not each.empty:
+            known[name] = each.default
+        elif name not in notes:
+            raise RevcError("`%s` of `%s` has no width: write %s: Bits[8]" % (name, title, name))
+        else:
+            nodes.append(program.scope.parameter(name, notes[name]))
+            program.scope.name_of(nodes[-1])
+    if not nodes:
+        raise RevcError("`%s` has no parameter: a circuit has at least one input, as a: Bits[8]" % title)
+    if sum(each.width for each in nodes) > MOST:
+        raise WidthError("the parameters of `%s` have %d bits: a circuit has at most 1,024 inputs"
+                         % (title, sum(each.width for each in nodes)))
+    return nodes, known
+
+
+def oracle(func: Callable[..., Any]) -> Oracle:
+    """Make a function of Python an oracle: each parameter has a width, as `a: Bits[8]`, or a default that is known."""
+    return Oracle(func)

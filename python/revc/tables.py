@@ -1,0 +1,172 @@
+"""Tables by polynomials: which variables come last, and which sums are multiplied by them, so that few ANDs are left.
+
+A table of m bits over k variables is a space V of polynomials, each written as a number whose bit e is the coefficient
+of the product of the variables in e. With f = A + x B for each f of V, one AND for each B of a basis of these B (1 aside:
+x itself costs none) gives V from the A and B, which are polynomials in fewer variables. What is left over a set of
+variables does not depend on the order in which the others went, so that the best order comes from the sets of variables,
+each once. This is never dearer than a tree of Mux, which is the same with no basis.
+"""
+import random
+from typing import Dict, List, Optional, Sequence, Tuple
+
+from .arithmetic import library
+from .errors import RevcError, WidthError
+from .operations import Cat, Const, of_bits, said
+from .trace import current, one_name
+from .values import Bits
+
+ORDERED = 8  # variables up to which the best order is looked for
+CHANGES = {3: 20, 4: 200, 5: 60}  # how many other linear variables are tried
+
+
+def polynomial(column: Sequence[int], k: int) -> int:
+    """The polynomial of a column of bits over k variables."""
+    value = list(column)
+    for i in range(k):
+        for e in range(1 << k):
+            if e >> i & 1:
+                value[e] ^= value[e ^ 1 << i]
+    return sum(bit << e for e, bit in enumerate(value))
+
+
+def masks(k: int) -> List[int]:
+    """For each variable the products in which it is."""
+    return [sum(1 << e for e in range(1 << k) if e >> i & 1) for i in range(k)]
+
+
+def parts(f: int, mask: int, i: int) -> Tuple[int, int]:
+    """A and B of f = A + x B, x being variable i and `mask` its products."""
+    return f & ~mask, (f & mask) >> (1 << i)
+
+
+class Span:
+    """A basis by Gauss's elimination; each vector with the sum of generators that it is."""
+
+    def __init__(self) -> None:
+        self.rows: Dict[int, Tuple[int, int]] = {}
+
+    def reduced(self, vector: int, how: int = 0) -> Tuple[int, int]:
+        while vector:
+            row = self.rows.get(vector.bit_length())
+            if row is None:
+                break
+            vector, how = vector ^ row[0], how ^ row[1]
+        return vector, how
+
+    def add(self, vector: int, how: int = 0) -> bool:
+        vector, how = self.reduced(vector, how)
+        if vector:
+            self.rows[vector.bit_length()] = (vector, how)
+        return bool(vector)
+
+
+def basis(vectors: Sequence[int], without: int) -> List[int]:
+    """A basis of the vectors, from which the terms `without` are dropped."""
+    span = Span()
+    for vector in vectors:
+        span.add(vector & ~without)
+    return [row for row, _ in span.rows.values()]
+
+
+def linear(k: int) -> int:
+    """The terms that cost no AND: 1 and each variable."""
+    return 1 | sum(1 << (1 << i) for i in range(k))
+
+
+def best_order(fs: Sequence[int], k: int) -> Tuple[int, List[int]]:
+    """The fewest ANDs over all orders of the variables, and the order, the last variable first."""
+    mask, free, whole = masks(k), linear(k), (1 << k) - 1
+    left: Dict[int, List[int]] = {whole: basis(fs, free)}
+    best: Dict[int, Tuple[int, List[int]]] = {whole: (0, [])}
+    for size in range(k, 0, -1):
+        for variables in [each for each in best if bin(each).count("1") == size]:
+            for i in range(k) if k <= ORDERED else [size - 1]:
+                if not variables >> i & 1:
+                    continue
+                ab = [parts(f, mask[i], i) for f in left[variables]]
+                cost = best[variables][0] + len(basis([b for _, b in ab], 1))
+                rest = variables ^ 1 << i
+                if rest not in best or cost < best[rest][0]:
+                    best[rest] = cost, best[variables][1] + [i]
+                if rest not in left:
+                    left[rest] = basis([each for two in ab for each in two], free)
+    return best[0]
+
+
+def invertible(k: int, chance: random.Random) -> List[int]:
+    """Rows of an invertible matrix of k by k bits."""
+    while True:
+        rows = [chance.randrange(1, 1 << k) for _ in range(k)]
+        span = Span()
+        if all(span.add(row) for row in rows):
+            return rows
+
+
+def columns(values: Sequence[int], m: int, k: int, matrix: Sequence[int]) -> List[int]:
+    """The polynomials of the m bits of a table, over the variables that are the sums in the rows of `matrix`."""
+    moved = [0] * (1 << k)
+    for e, value in enumerate(values):
+        moved[sum((bin(row & e).count("1") & 1) << i for i, row in enumerate(matrix))] = value
+    return [polynomial([value >> j & 1 for value in moved], k) for j in range(m)]
+
+
+@one_name
+def table(x: Bits, values: Sequence[int], width: Optional[int] = None) -> Bits:
+    """The entry of `values`, a list of 2^n numbers, that x says; of `width` bits, or as many as the greatest needs."""
+    k, values = x.width, list(values)
+    if len(values) != 1 << k:
+        raise WidthError("table(%s, ..): %d entries, and a number of %d bits chooses among %d"
+                         % (said(x), len(values), k, 1 << k))
+    if not all(isinstance(value, int) for value in values):
+        raise RevcError("table(%s, ..): entries are numbers that are known now; of others make a Switch" % said(x))
+    m = width or max(max(values).bit_length(), 1)
+    if min(values) < 0 or max(values) >> m:
+        raise WidthError("table: %d does not fit in %d bits" % (min(values) if min(values) < 0 else max(values), m))
+    key = ("table", k, m, tuple(values))
+    if key in current().library:
+        return library("", [x], lambda x: x, key)
+    matrix = [1 << i for i in range(k)]
+    best, chance = best_order(columns(values, m, k, matrix), k), random.Random(1)
+    for _ in range(CHANGES.get(k, 0)):
+        trial = invertible(k, chance)
+        found = best_order(columns(values, m, k, trial), k)
+        if found[0] < best[0]:
+            best, matrix = found, trial
+
+    def body(x: Bits) -> Bits:
+        variables = [added([x[j] for j in range(k) if row >> j & 1]) for row in matrix]
+        return Cat(*computed(variables, columns(values, m, k, matrix), best[1], k))
+    return library("table%d_%d" % (k, m), [x], body, key)
+
+
+def added(terms: List[Bits]) -> Bits:
+    return terms[0] if len(terms) == 1 else of_bits("xor", *terms)
+
+
+def computed(x: List[Bits], fs: List[int], order: List[int], k: int) -> List[Bits]:
+    """The polynomials fs of the variables x, from the last variable of the order up."""
+    mask, free = masks(k), linear(k)
+    levels, left = [], basis(fs, free)
+    for i in order:
+        ab = [parts(f, mask[i], i) for f in left]
+        levels.append((i, basis([b for _, b in ab], 1)))
+        left = basis([each for two in ab for each in two], free)
+    known, values = Span(), [Const(1, 1)]
+    known.add(1, 1)
+
+    def learn(f: int, value: Bits) -> None:
+        if known.add(f, 1 << len(values)):
+            values.append(value)
+
+    def express(f: int) -> Bits:
+        rest, how = known.reduced(f)
+        assert rest == 0
+        terms = [value for j, value in enumerate(values) if how >> j & 1]
+        return added(terms) if terms else Const(0, 1)
+
+    for i, factors in reversed(levels):
+        todo = [(b << (1 << i), express(b)) for b in factors]
+        learn(1 << (1 << i), x[i])
+        for f, value in todo:
+            learn(f, of_bits("and", x[i], value).named("p%d" % len(values)))
+    return [express(f) for f in fs]
