@@ -3,16 +3,14 @@ from itertools import takewhile
 from typing import Dict, Iterator, List, NamedTuple, Sequence, Tuple
 from xml.sax.saxutils import escape
 
+from .errors import RevcError
+
 STEP, PITCH = 20, 24  # from column to column, and from line to line
 DOT, RING = 4, 7  # how great a control and a target are
 LETTER = 8  # how wide a letter is
 MARGIN = 12
 STYLE = ("line, circle { stroke: #1b1b1b; stroke-width: 1.4 } .open, .target { fill: #ffffff }"
          " text { font: 13px monospace; fill: #1b1b1b }")
-
-
-class Refused(Exception):
-    """Why a text has no picture."""
 
 
 class Gate(NamedTuple):
@@ -46,10 +44,10 @@ def words_of(text: str) -> Iterator[Tuple[int, List[str]]]:
 def gate_of(words: List[str], lines_by_name: Dict[str, int]) -> Gate:
     kind, targets = words[0], 2 if words[0].startswith("f") else 1
     if kind[0] not in "tf" or not kind[1:].isdigit() or int(kind[1:]) != len(words) - 1 or len(words) <= targets:
-        raise Refused("`%s` is no gate" % " ".join(words))
+        raise RevcError("`%s` is no gate" % " ".join(words))
     unknown = [word for word in words[1:] if word.lstrip("-") not in lines_by_name]
     if unknown:
-        raise Refused("`%s` is no line of `.variables`" % unknown[0])
+        raise RevcError("`%s` is no line of `.variables`" % unknown[0])
     lines = [(lines_by_name[word.lstrip("-")], not word.startswith("-")) for word in words[1:]]
     return Gate(lines[:-targets], [line for line, _ in lines[-targets:]])
 
@@ -64,12 +62,12 @@ def circuit_of(text: str) -> Circuit:
         elif not words[0].startswith("."):
             try:
                 gates.append(gate_of(words, names))
-            except Refused as reason:
-                raise Refused("line %d: %s" % (number, reason))
+            except RevcError as reason:
+                raise RevcError("line %d: %s" % (number, reason)) from None
     if not names:
-        raise Refused("there is no line `.variables`: is it a `.real` file?")
+        raise RevcError("there is no line `.variables`: is it a `.real` file?")
     if marks and len(marks) != len(names):
-        raise Refused("`.constants` has %d marks for %d lines" % (len(marks), len(names)))
+        raise RevcError("`.constants` has %d marks for %d lines" % (len(marks), len(names)))
     return Circuit(list(names), marks or "-" * len(names), gates)
 
 

@@ -56,6 +56,8 @@ class Scope:
         if self.program.scope is not self:
             raise RevcError("`%s` is not being traced now" % self.title)
         node = Node(kind, data, tuple(self.use(each) for each in args), width, self)
+        if kind in ("clean", "assert") and width > 1:
+            node.args[0].forced = True  # a loop goes over its places
         name, node.place = (None, self.program.place) if self.program.quiet else author()
         node.hint = name if hint is None else hint
         self.claims |= kind in ("clean", "assert") or kind == "call" and data in self.program.claiming

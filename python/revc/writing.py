@@ -54,7 +54,7 @@ def has_own_line(node: "Node", last: "Node", text: str) -> bool:
         return own
     if node.kind in ("slice", "rotate") and not node.hint and not node.forced and len(text) < SHORT:
         return False
-    return bool(node.hint) or node.forced or node.uses > 1 or len(text) > INLINE and node is not last
+    return bool(node.hint) or node.forced or node.uses != 1 or len(text) > INLINE and node is not last
 
 
 def written(node: "Node", scope: "Scope") -> Tuple[str, int]:
