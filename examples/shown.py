@@ -1,6 +1,7 @@
 """The commands that documents show: how they are found, and what they answer when they are run.
 
-A command stands in an indented line behind a `$`, and its answer in the indented lines below it.
+A command stands in an indented line behind a `$`, and its answer in the indented lines below it; a blank line between
+such lines belongs to the answer.
 """
 import os
 import re
@@ -11,8 +12,8 @@ from tempfile import TemporaryDirectory
 from typing import Iterator, List, NamedTuple, Optional, Tuple
 
 HERE = Path(__file__).resolve().parent
-DOCUMENTS = ["README.md", "docs/GUIDE.md", "docs/COMMANDS.md"]
-CALL = re.compile(r"^    \$ (.*)\n((?:    (?!\$ ).*\n)*)", re.MULTILINE)
+DOCUMENTS = ["README.md", "docs/GUIDE.md", "docs/COMMANDS.md", "docs/PYTHON.md"]
+CALL = re.compile(r"^    \$ (.*)\n((?:    (?!\$ ).*\n|\n(?=    (?!\$ )))*)", re.MULTILINE)
 
 
 class Shown(NamedTuple):
@@ -31,6 +32,7 @@ def run_in(document: str, program: str) -> Iterator[Tuple[Shown, Optional[str]]]
         room = Path(folder)
         (room / "revc").symlink_to(os.path.abspath(program))
         (room / "examples").symlink_to(HERE)
+        (room / "python").symlink_to(HERE.parent / "python")
         for netlist in HERE.glob("*.blif"):  # for where yosys is not installed
             shutil.copy(str(netlist), folder)
         for shown in shown_in((HERE.parent / document).read_text(encoding="utf-8")):
@@ -41,4 +43,5 @@ def answer_of(shown: Shown, room: Path) -> Optional[str]:
     if shown.command.startswith("yosys ") and not shutil.which("yosys"):
         return None
     streams = {"stdout": subprocess.PIPE, "stderr": subprocess.STDOUT}
-    return subprocess.run(["bash", "-c", shown.command], cwd=str(room), **streams).stdout.decode("utf-8")
+    space = dict(os.environ, REVC=str(room / "revc"), PYTHONPATH="python", PYTHONDONTWRITEBYTECODE="1")
+    return subprocess.run(["bash", "-c", shown.command], cwd=str(room), env=space, **streams).stdout.decode("utf-8")

@@ -146,9 +146,8 @@ def lines_that_fit(source: "Source", plan: str, lines: int, gates: int, borrow: 
         if circuit is None:
             continue
         circuit = search.least(each, circuit)
-        found.append("%d under `%s`" % (circuit.lines, each))
+        found.append("%d under `%s`" % (circuit.lines, each) if found else "%d lines under `%s`" % (circuit.lines, each))
     if not found:
         return "try more lines, and costs() for all that can be had"
-    late = " at most, since the search was cut short" if search.is_late() else ""
-    return "it takes %s lines%s: give that many (lines, --lines); costs() says what each costs" % (
-        " or ".join(found), late)
+    late = " at most (the search was cut short)" if search.is_late() else ""
+    return "it takes %s%s: give as many (lines, --lines); costs() says what each costs" % (", ".join(found), late)
