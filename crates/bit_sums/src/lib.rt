@@ -9,6 +9,7 @@ mod product;
 mod sum;
 mod uses;
 
+pub use bits::apart;
 pub use factor::Factor;
 pub use growing::{GrowingSum, MOST_JOINED};
 pub use limits::{MOST_FACTOR_BITS, limits_are};

@@ -30,7 +30,7 @@ impl<'s> Lines<'s> {
     }
 }
 
-// Appends the flip of `target` where all lines of `controls` are 1.
+/// Appends the flip of `target` where all lines of `controls` are 1.
 pub fn push_flip(gates: &mut Vec<Gate>, controls: &[u32], target: u32) -> Result<(), Memory>
     requires { AreDifferent (controls.now ++ target ∷ []) }
     ensures { OnOk result (gates.new.items
@@ -41,7 +41,7 @@ pub fn push_flip(gates: &mut Vec<Gate>, controls: &[u32], target: u32) -> Result
     Ok(())
 }
 
-// Appends the flip of `target` where `line` is 1.
+/// Appends the flip of `target` where `line` is 1.
 pub fn push_copy(gates: &mut Vec<Gate>, line: u32, target: u32) -> Result<(), Memory>
     requires { line ≢ target }
     ensures { OnOk result (gates.new.items
@@ -50,7 +50,7 @@ pub fn push_copy(gates: &mut Vec<Gate>, line: u32, target: u32) -> Result<(), Me
     push_flip(gates, &[line], target)
 }
 
-// Appends the flip of `target`, if `one`.
+/// Appends the flip of `target`, if `one`.
 pub fn push_one(gates: &mut Vec<Gate>, target: u32, one: bool) -> Result<(), Memory>
     ensures { OnOk result (gates.new.items ≡ gates.old.items ++ one_gates target one) }
 {
@@ -61,7 +61,7 @@ pub fn push_one(gates: &mut Vec<Gate>, target: u32, one: bool) -> Result<(), Mem
     }
 }
 
-// Appends copies of some gates.
+/// Appends copies of some gates.
 pub fn append_copies(gates: &mut Vec<Gate>, more: &[Gate]) -> Result<(), Memory>
     ensures { OnOk result (gates.new.items ≡ gates.old.items ++ more.now) }
 {

@@ -7,5 +7,6 @@ mod gathering;
 mod toggling;
 mod weight;
 
+pub use gates::{append_copies, push_copy, push_flip, push_one};
 pub use toggling::append_sum;
 pub use weight::weight_within;
