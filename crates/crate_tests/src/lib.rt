@@ -14,6 +14,8 @@ mod circuit_verify_tests;
 #[cfg(test)]
 mod dependency_graph_tests;
 #[cfg(test)]
+mod line_states_tests;
+#[cfg(test)]
 mod program_gen_tests;
 #[cfg(test)]
 mod qasm_format_tests;

@@ -31,7 +31,7 @@ fn adder(rt: &impl Abort, alloc: Global) -> Result<Tape, Fail> {
     Ok(tape)
 }
 
-fn settled(rt: &impl Abort, alloc: Global) -> Result<Settled, Fail> {
+pub fn settled(rt: &impl Abort, alloc: Global) -> Result<Settled, Fail> {
     let tape = adder(rt, alloc)?;
     match settle(Graph::of(&tape)?, &tape, 1) {
         Ok(settled) => Ok(settled),

@@ -1,0 +1,4 @@
+pub mod Gathers
+pub mod States
+pub mod Steps
+pub mod inside
