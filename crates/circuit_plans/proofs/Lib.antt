@@ -1,1 +1,1 @@
-mod BorrowedLemmas
+pub mod BorrowedLemmas

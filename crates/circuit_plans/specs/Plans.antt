@@ -1,9 +1,16 @@
 -- Budgets and plans as contracts see them, the roles of a plan's lines, and clean circuits.
-use Rattle.std.specs.Prelude.{◌≡◌, ℕ, ◌+◌, ◌-◌, Bool, false, nat_lt, if◌then◌else◌, List, ◌++◌, length, replicate}
+use Rattle.std.specs.Prelude.{◌≡◌, ℕ, ◌+◌, ◌-◌, Bool, nat_lt, if◌then◌else◌, List, ◌++◌, length, ⊤}
+use Rattle.std.specs.Bool.{xor}
+use Rattle.std.specs.Simd.Lanes.{zip2}
+use Rattle.list_facts.specs.Bits.{zeros}
 use Rattle.mct_circuit.specs.Gates.{GateView, CircuitView, AreGatesOn, line_map}
+use Rattle.circuit_plans.specs.declared.choice.How.{How}
+use Rattle.circuit_plans.specs.declared.choice.How.TheVariants.{Auto, Eager, Lean, Pebble}
 use Rattle.circuit_plans.specs.declared.roles.Roles.{Roles}
 use Rattle.circuit_plans.specs.declared.roles.Role.{Role}
 use Rattle.circuit_plans.specs.declared.roles.Role.TheVariants.{Input, Output, Work, Borrowed}
+use Rattle.circuit_plans.specs.declared.roles.Start.{Start}
+use Rattle.circuit_plans.specs.declared.roles.Start.TheVariants.{Any, Zero}
 
 pub record BudgetView : Type 0 where
   pub lines : ℕ
@@ -60,14 +67,48 @@ roles_of laid =
 
 -- ---- clean circuits
 
+-- what the output lines may hold before the gates
+abbrev pub MayHold : Start → List Bool → Type 0
+MayHold Any held = ⊤
+MayHold Zero held = held ≡ zeros (length held)
+
+-- what they may hold under each plan
+abbrev pub start_of : How → Start
+start_of Auto = Any
+start_of Eager = Any
+start_of Lean = Any
+start_of Pebble = Any
+
+-- bits that are added to those that lines hold
+abbrev pub added : List Bool → List Bool → List Bool
+added held bits = zip2 xor held bits
+
+-- the gates take this input, these bits on the output lines, zeros on the work lines, and these bits on the borrowed
+-- lines to the input, those bits with the outputs added to them, zeros, and the same bits
+pub record AddsOutput (roles : Roles) (gates : List GateView)
+    (input held outputs borrowed : List Bool) : Type 0 where
+  pub mapped :
+      line_map gates (input ++ (held ++ (zeros roles.work ++ borrowed)))
+      ≡ input ++ (added held outputs ++ (zeros roles.work ++ borrowed))
+
+-- What a plan promises: the program has an output for each output line, and on every input, whatever the output lines
+-- hold that they may, and whatever the borrowed lines hold, the gates add its value to the output lines, and leave all
+-- other lines as they are.
+pub record AddsOutputs (start : Start) (roles : Roles) (gates : List GateView)
+    (value : List Bool → List Bool) : Type 0 where
+  pub size : (input : List Bool) → length input ≡ roles.inputs
+      → length (value input) ≡ roles.outputs
+  pub adds : (input held borrowed : List Bool) → length input ≡ roles.inputs
+      → length held ≡ roles.outputs → MayHold start held → length borrowed ≡ roles.borrowed
+      → AddsOutput roles gates input held (value input) borrowed
+
 -- the gates take this input, zeros on the output and work lines, and these bits on the borrowed lines to the input,
 -- these outputs, zeros on the work lines, and the same bits
 pub record PutsOutputs (roles : Roles) (gates : List GateView)
     (input outputs borrowed : List Bool) : Type 0 where
   pub mapped :
-      line_map gates
-      (input ++ (replicate roles.outputs false ++ (replicate roles.work false ++ borrowed)))
-      ≡ input ++ (outputs ++ (replicate roles.work false ++ borrowed))
+      line_map gates (input ++ (zeros roles.outputs ++ (zeros roles.work ++ borrowed)))
+      ≡ input ++ (outputs ++ (zeros roles.work ++ borrowed))
 
 -- on every input, whatever the borrowed lines hold, the gates put its value on the output lines, and leave all other
 -- lines as they are
@@ -77,16 +118,24 @@ pub record MapsCleanly (roles : Roles) (gates : List GateView)
       → length borrowed ≡ roles.borrowed
       → PutsOutputs roles gates input (value input) borrowed
 
+-- The law: gates that add their outputs put them on output lines that hold zeros.
+abbrev pub AddedOutputsArePut : Type 0
+AddedOutputsArePut =
+    (start : Start) (roles : Roles) (gates : List GateView) (value : List Bool → List Bool)
+    → AddsOutputs start roles gates value
+    → MapsCleanly roles gates value
+
 -- ---- borrowed lines
 
 -- these roles with so many borrowed lines
 abbrev pub with_borrowed : Roles → ℕ → Roles
 with_borrowed roles count = record roles { borrowed = count }
 
--- The law: gates that are clean without borrowed lines are clean beside any number of them, which they do not use.
+-- The law: gates that add their outputs without borrowed lines do so beside any number of them, which they do not use.
 abbrev pub CleanCircuitsBorrow : Type 0
 CleanCircuitsBorrow =
-    (roles : Roles) (gates : List GateView) (value : List Bool → List Bool) (count : ℕ)
+    (start : Start) (roles : Roles) (gates : List GateView) (value : List Bool → List Bool)
+    (count : ℕ)
     → AreGatesOn (lines_in (with_borrowed roles 0)) gates
-    → MapsCleanly (with_borrowed roles 0) gates value
-    → MapsCleanly (with_borrowed roles count) gates value
+    → AddsOutputs start (with_borrowed roles 0) gates value
+    → AddsOutputs start (with_borrowed roles count) gates value

@@ -9,9 +9,9 @@ mod plan;
 mod roles;
 
 pub use choice::How;
-pub use law::clean_circuits_borrow;
+pub use law::{added_outputs_are_put, clean_circuits_borrow};
 pub use narrow::Narrow;
 pub use plan::{
     Budget, Laid, MOST_BORROWED, MOST_GATES, MOST_LINES, PlanFault, Planned, limits_are,
 };
-pub use roles::{Role, Roles};
+pub use roles::{Role, Roles, Start};

@@ -14,6 +14,15 @@ pub struct Roles {
     pub borrowed: u32,
 }
 
+/// What the output lines may hold before the gates.
+#[derive(Clone, Copy, PartialEq, Eq)]
+pub enum Start {
+    /// Any bits.
+    Any,
+    /// Zeros.
+    Zero,
+}
+
 /// The role of a line.
 #[derive(Clone, Copy)]
 pub enum Role {
