@@ -3,14 +3,15 @@ use Rattle.std.proofs.Common.{◌≡◌, ℕ, ◌+◌, ◌<◌, ◌≤◌, Bool,
 use Rattle.std.proofs.Common.{ap, ap₂, ◌∙◌, subst, arith, append_assoc, length-append}
 use Rattle.std.specs.Bool.{xor}
 use Rattle.std.specs.List.{AllByRecursion}
-use Rattle.std.proofs.lemmas.List.{drop_more, get_or_at, set_at, length-replicate}
+use Rattle.std.proofs.lemmas.List.{drop_more, get_or_at, set_at}
 use Rattle.std.proofs.lemmas.List.Sums.{sum_by-append}
-use Rattle.list_facts.specs.Bits.{bit_of, zeros}
+use Rattle.list_facts.specs.Bits.{bit_of}
 use Rattle.list_facts.proofs.AllLemmas.{AllByRecursion-append, AllByRecursion-at}
-use Rattle.list_facts.proofs.BitLemmas.{xor_nothing}
+use Rattle.list_facts.proofs.BitLemmas.{xor_swap}
 use Rattle.bit_sums.specs.Sums.{SumView, bases_of}
 use Rattle.gate_split.specs.Costs.{IsRoomyFlip}
 use Rattle.circuit_plans.specs.declared.plan.TheConstants.{MOST_LINES}
+use Rattle.circuit_plans.specs.Plans.{added}
 use Rattle.mct_circuit.specs.Gates.{GateView, line_map}
 use Rattle.mct_circuit.specs.Sizes.{weight_of}
 use Rattle.mct_circuit.proofs.ReversalLemmas.{line_map-append}
@@ -123,50 +124,52 @@ output_bit input done rest content b target e =
     ap (λ (bits : List Bool). bit_of bits target) (around input done rest content b)
     ∙ get_or_at (input ++ done) b (rest ++ content) false target place
 
-copied_one : (s : SumGraphView) (lines : List (Option ℕ)) (work target : ℕ) (gates : List GateView) (input done rest content : List Bool) (x : SumView)
-    → length input ≡ s.inputs → length (done ++ false ∷ rest) ≡ length s.outputs → IsContent s lines work gates input content
+copied_one : (s : SumGraphView) (lines : List (Option ℕ)) (work target : ℕ) (gates : List GateView) (input done rest content : List Bool) (b : Bool) (x : SumView)
+    → length input ≡ s.inputs → length (done ++ b ∷ rest) ≡ length s.outputs → IsContent s lines work gates input content
     → target ≡ length input + length done → s.inputs ≤ target → target < first_work s → AreOnDifferent lines
     → ((j own : ℕ) → held_line lines j ≡ Some own → own < work)
     → IsKnownSum s.inputs (length s.nodes) x → IsReadySum lines x → HasProducts x
-    → line_map (sum_gates (base_line (first_work s) lines) target x) (all_lines input (done ++ false ∷ rest) content)
-    ≡ all_lines input (done ++ sum_on s.nodes input x ∷ rest) content
-copied_one s lines work target gates input done rest content x size many is e le fits different below known ready are =
-    let bits = all_lines input (done ++ false ∷ rest) content in
+    → line_map (sum_gates (base_line (first_work s) lines) target x) (all_lines input (done ++ b ∷ rest) content)
+    ≡ all_lines input (done ++ xor b (sum_on s.nodes input x) ∷ rest) content
+copied_one s lines work target gates input done rest content b x size many is e le fits different below known ready are =
+    let bits = all_lines input (done ++ b ∷ rest) content in
     let k = length s.nodes in
     let value = sum_on s.nodes input x in
-    good_adds s lines work k target gates input (done ++ false ∷ rest) content x
+    good_adds s lines work k target gates input (done ++ b ∷ rest) content x
     (output_lines s.inputs (first_work s) work k target lines le fits different below) (good_bases s.inputs k lines x known ready) are size many is
-    ∙ ap (λ b. set bits target (xor value b)) (output_bit input done rest content false target e)
-    ∙ ap (set bits target) (xor_nothing value)
-    ∙ set_output input done rest content false value target e
+    ∙ ap (λ was. set bits target (xor value was)) (output_bit input done rest content b target e)
+    ∙ ap (set bits target) (xor_swap value b)
+    ∙ set_output input done rest content b (xor b value) target e
 
-copied_from : (s : SumGraphView) (lines : List (Option ℕ)) (work target : ℕ) (gates : List GateView) (input done content : List Bool) (sums : List SumView)
-    → length input ≡ s.inputs → length done + length sums ≡ length s.outputs → IsContent s lines work gates input content
+copied_from : (s : SumGraphView) (lines : List (Option ℕ)) (work target : ℕ) (gates : List GateView) (input done content held : List Bool) (sums : List SumView)
+    → length input ≡ s.inputs → length held ≡ length sums → length done + length sums ≡ length s.outputs → IsContent s lines work gates input content
     → target ≡ length input + length done → AreOnDifferent lines → ((j own : ℕ) → held_line lines j ≡ Some own → own < work)
     → AllByRecursion (IsKnownSum s.inputs (length s.nodes)) sums → AllByRecursion (IsReadySum lines) sums → AllByRecursion HasProducts sums
-    → line_map (copies_from (first_work s) lines target sums) (all_lines input (done ++ zeros (length sums)) content)
-    ≡ all_lines input (done ++ map (sum_on s.nodes input) sums) content
-copied_from s lines work target gates input done content [] size many is e different below known ready are = refl
-copied_from s lines work target gates input done content (x ∷ xs) size many is e different below known ready are =
-    let rest = zeros (length xs) in
-    let value = sum_on s.nodes input x in
+    → line_map (copies_from (first_work s) lines target sums) (all_lines input (done ++ held) content)
+    ≡ all_lines input (done ++ added held (map (sum_on s.nodes input) sums)) content
+copied_from s lines work target gates input done content [] [] size same many is e different below known ready are = refl
+copied_from s lines work target gates input done content (b ∷ rest) [] size same many is e different below known ready are = absurd (omega (arith, same))
+copied_from s lines work target gates input done content [] (x ∷ xs) size same many is e different below known ready are = absurd (omega (arith, same))
+copied_from s lines work target gates input done content (b ∷ rest) (x ∷ xs) size same many is e different below known ready are =
+    let sum = xor b (sum_on s.nodes input x) in
     let others = copies_from (first_work s) lines (target + 1) xs in
-    let whole : length (done ++ false ∷ rest) ≡ length s.outputs =
-    (let all = length-append done (false ∷ rest) in let some = length-replicate (length xs) false in omega (arith, all, some, many)) in
-    let longer : length (done ++ value ∷ []) ≡ length done + 1 = length-append done (value ∷ []) in
-    line_map-append (sum_gates (base_line (first_work s) lines) target x) others (all_lines input (done ++ false ∷ rest) content)
-    ∙ ap (line_map others) (copied_one s lines work target gates input done rest content x size whole is e (omega (arith, e, size))
+    let whole : length (done ++ b ∷ rest) ≡ length s.outputs =
+    (let all = length-append done (b ∷ rest) in omega (arith, all, same, many)) in
+    let longer : length (done ++ sum ∷ []) ≡ length done + 1 = length-append done (sum ∷ []) in
+    line_map-append (sum_gates (base_line (first_work s) lines) target x) others (all_lines input (done ++ b ∷ rest) content)
+    ∙ ap (line_map others) (copied_one s lines work target gates input done rest content b x size whole is e (omega (arith, e, size))
     (omega (arith, e, size, many)) different below known.0 ready.0 are.0)
-    ∙ ap (λ (outputs : List Bool). line_map others (all_lines input outputs content)) (sym (append_assoc done (value ∷ []) rest))
-    ∙ copied_from s lines work (target + 1) gates input (done ++ value ∷ []) content xs size
+    ∙ ap (λ (outputs : List Bool). line_map others (all_lines input outputs content)) (sym (append_assoc done (sum ∷ []) rest))
+    ∙ copied_from s lines work (target + 1) gates input (done ++ sum ∷ []) content rest xs size (omega (arith, same))
     (omega (arith, longer, many)) is (omega (arith, longer, e)) different below known.1 ready.1 are.1
-    ∙ ap (λ (outputs : List Bool). all_lines input outputs content) (append_assoc done (value ∷ []) (map (sum_on s.nodes input) xs))
+    ∙ ap (λ (outputs : List Bool). all_lines input outputs content) (append_assoc done (sum ∷ []) (added rest (map (sum_on s.nodes input) xs)))
 
--- the copies put the outputs on the output lines that hold zeros
-pub copied : (s : SumGraphView) (lines : List (Option ℕ)) (work : ℕ) (gates : List GateView) (input content : List Bool)
-    → length input ≡ s.inputs → IsContent s lines work gates input content → AreReady s lines work → AllByRecursion HasProducts s.outputs
-    → line_map (copies_from (first_work s) lines s.inputs s.outputs) (all_lines input (zeros (length s.outputs)) content)
-    ≡ all_lines input (sum_outputs s input) content
-copied s lines work gates input content size is ready are =
-    copied_from s lines work s.inputs gates input [] content s.outputs size (omega arith) is (omega (arith, size)) ready.different ready.below ready.known
-    ready.ready are
+-- the copies add the outputs to what the output lines hold
+pub copied : (s : SumGraphView) (lines : List (Option ℕ)) (work : ℕ) (gates : List GateView) (input held content : List Bool)
+    → length input ≡ s.inputs → length held ≡ length s.outputs → IsContent s lines work gates input content → AreReady s lines work
+    → AllByRecursion HasProducts s.outputs
+    → line_map (copies_from (first_work s) lines s.inputs s.outputs) (all_lines input held content)
+    ≡ all_lines input (added held (sum_outputs s input)) content
+copied s lines work gates input held content size many is ready are =
+    copied_from s lines work s.inputs gates input [] content held s.outputs size many (omega arith) is (omega (arith, size)) ready.different ready.below
+    ready.known ready.ready are

@@ -5,6 +5,8 @@ use Rattle.std.specs.Result.{IfOk, IfErr}
 use Rattle.std.specs.List.{AllByRecursion}
 use Rattle.std.proofs.lemmas.List.{nil_from_length, length-map, length-replicate}
 use Rattle.std.proofs.lemmas.List.Sums.{sum_by-append}
+use Rattle.std.proofs.lemmas.Simd.{length-zip2}
+use Rattle.std.specs.Bool.{xor}
 use Rattle.list_facts.specs.Bits.{zeros}
 use Rattle.list_facts.proofs.AllLemmas.{AllByRecursion-append, AllByRecursion-reverse}
 use Rattle.ancilla_heap.specs.Lines.{HeapView}
@@ -13,7 +15,8 @@ use Rattle.gate_split.specs.Costs.{IsRoomyFlip}
 use Rattle.circuit_plans.specs.declared.plan.PlanFault.{PlanFault}
 use Rattle.circuit_plans.specs.declared.plan.PlanFault.TheVariants.{Memory}
 use Rattle.circuit_plans.specs.declared.plan.TheConstants.{MOST_LINES}
-use Rattle.circuit_plans.specs.Plans.{MapsCleanly, PlannedView}
+use Rattle.circuit_plans.specs.declared.roles.Start.TheVariants.{Any}
+use Rattle.circuit_plans.specs.Plans.{AddsOutputs, PlannedView, added}
 use Rattle.mct_circuit.specs.Gates.{AreGatesOn, line_map}
 use Rattle.mct_circuit.specs.Sizes.{weight_of}
 use Rattle.mct_circuit.proofs.ReversalLemmas.{conjugated}
@@ -85,6 +88,9 @@ module _ (f : ForwardView) (w : ℕ) (heap : HeapView) (d : IsDone f w heap) (ar
       (AllByRecursion-append (IsRoomyFlip (first_work f.graph + f.most)) f.gates (copies_of f) d.kept.forward.roomy done_copies_roomy)
       (AllByRecursion-reverse (IsRoomyFlip (first_work f.graph + f.most)) f.gates d.kept.forward.roomy)
 
+  outputs_many : (input : List Bool) → length (sum_outputs f.graph input) ≡ length f.graph.outputs
+  outputs_many input = length-map f.graph.outputs (sum_on f.graph.nodes input)
+
   copies_weight : weight_in (copies_of f) ≡ sum_by toggle_weight f.graph.outputs
   copies_weight = weight-copies (first_work f.graph) f.lines f.graph.inputs f.graph.outputs are
 
@@ -94,33 +100,34 @@ module _ (f : ForwardView) (w : ℕ) (heap : HeapView) (d : IsDone f w heap) (ar
       let some = length-le-weight (copies_of f) in
       omega (arith, le, few, some, copies_weight)
 
-  maps : (input : List Bool) → length input ≡ f.graph.inputs
-      → line_map (finished_gates f) (all_lines input (zeros (length f.graph.outputs)) (zeros f.most))
-      ≡ all_lines input (sum_outputs f.graph input) (zeros f.most)
-  maps input size =
+  maps : (input held : List Bool) → length input ≡ f.graph.inputs → length held ≡ length f.graph.outputs
+      → line_map (finished_gates f) (all_lines input held (zeros f.most))
+      ≡ all_lines input (added held (sum_outputs f.graph input)) (zeros f.most)
+  maps input held size many =
       let was = d.kept.forward.holds.on input size in
-      let none = zeros (length f.graph.outputs) in
-      let outputs = sum_outputs f.graph input in
-      let many : length outputs ≡ length f.graph.outputs = length-map f.graph.outputs (sum_on f.graph.nodes input) in
+      let outputs = added held (sum_outputs f.graph input) in
+      let same : length held ≡ length (sum_outputs f.graph input) = many ∙ sym (outputs_many input) in
+      let as_many : length outputs ≡ length f.graph.outputs = length-zip2 xor held (sum_outputs f.graph input) same ∙ many in
       let long : first_work f.graph + f.most ≡ length (all_lines input outputs (zeros f.most)) =
-      (let all = length-all_lines input outputs (zeros f.most) in let some = length-replicate f.most false in omega (arith, all, some, many, size)) in
-      conjugated f.gates (copies_of f) (all_lines input none (zeros f.most)) (all_lines input none was.content) (all_lines input outputs (zeros f.most))
+      (let all = length-all_lines input outputs (zeros f.most) in let some = length-replicate f.most false in omega (arith, all, some, as_many, size)) in
+      conjugated f.gates (copies_of f) (all_lines input held (zeros f.most)) (all_lines input held was.content) (all_lines input outputs (zeros f.most))
       (all_lines input outputs was.content)
       (subst (λ (n : ℕ). AreGatesOn n f.gates) long (done_gates f w heap d))
-      (was.is.mapped none (length-replicate (length f.graph.outputs) false))
-      (was.is.mapped outputs many)
-      (copied f.graph f.lines f.most f.gates input was.content size was.is (are_ready f w heap d) are)
+      (was.is.mapped held many)
+      (was.is.mapped outputs as_many)
+      (copied f.graph f.lines f.most f.gates input held was.content size many was.is (are_ready f w heap d) are)
 
-  pub done_clean : MapsCleanly (roles_of_plan (planned_of f)) (finished_gates f) (sum_outputs f.graph)
+  pub done_clean : AddsOutputs Any (roles_of_plan (planned_of f)) (finished_gates f) (sum_outputs f.graph)
   done_clean = record {
-    puts = λ input borrowed size none.
+    size = λ input size. outputs_many input;
+    adds = λ input held borrowed size many may none.
         (let nothing : borrowed ≡ [] = nil_from_length borrowed none in
         let same : zeros f.most ++ borrowed ≡ zeros f.most = ap (λ (bits : List Bool). zeros f.most ++ bits) nothing ∙ append-nil (zeros f.most) in
         record {
           mapped =
-              ap (λ (bits : List Bool). line_map (finished_gates f) (all_lines input (zeros (length f.graph.outputs)) bits)) same
-              ∙ maps input size
-              ∙ ap (λ (bits : List Bool). all_lines input (sum_outputs f.graph input) bits) (sym same);
+              ap (λ (bits : List Bool). line_map (finished_gates f) (all_lines input held bits)) same
+              ∙ maps input held size many
+              ∙ ap (λ (bits : List Bool). all_lines input (added held (sum_outputs f.graph input)) bits) (sym same);
         });
   }
 

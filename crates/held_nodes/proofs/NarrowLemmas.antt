@@ -4,7 +4,8 @@ use Rattle.std.specs.Prelude.{IfOk, Result}
 use Rattle.list_facts.proofs.AllLemmas.{AllByRecursion-append, AllByRecursion-reverse}
 use Rattle.bit_sums.specs.Sums.{SumView}
 use Rattle.circuit_plans.specs.declared.plan.PlanFault.{PlanFault}
-use Rattle.circuit_plans.specs.Plans.{BudgetView, MapsCleanly, PlannedView}
+use Rattle.circuit_plans.specs.declared.roles.Start.TheVariants.{Any}
+use Rattle.circuit_plans.specs.Plans.{AddsOutputs, BudgetView, PlannedView}
 use Rattle.mct_circuit.specs.Gates.{AreNarrow, IsNarrow}
 use Rattle.sum_graph.specs.Graphs.{SumGraphView, sum_outputs}
 use Rattle.sum_toggles.specs.Toggles.{base_line, sum_gates}
@@ -36,7 +37,7 @@ narrow_toggles = record { toggled = toggled; finished = finished }
 
 -- the plan of a finished forward part of narrow gates
 pub narrow_plan : (s : SumGraphView) (b : BudgetView) (f : ForwardView) (made : Result PlannedView PlanFault) → IfOk made (λ p. p ≡ planned_of f)
-    → AreNarrow (finished_gates f) → IfOk made (HasPorts s) → IfOk made (λ p. MapsCleanly (roles_of_plan p) p.circuit.gates (sum_outputs s))
+    → AreNarrow (finished_gates f) → IfOk made (HasPorts s) → IfOk made (λ p. AddsOutputs Any (roles_of_plan p) p.circuit.gates (sum_outputs s))
     → IfOk made (IsInBudget b) → IfOk made (IsNarrowPlan s b)
 narrow_plan s b f (Ok p) is narrow ports clean within = record {
   ports = ports;

@@ -1,7 +1,8 @@
 -- Plans of a graph within a budget.
 use Rattle.std.specs.Prelude.{◌≡◌, ℕ, ◌+◌, ◌≤◌, nat_lt, if◌then◌else◌, length}
 use Rattle.sum_graph.specs.Graphs.{SumGraphView, sum_outputs}
-use Rattle.circuit_plans.specs.Plans.{BudgetView, MapsCleanly, PlannedView}
+use Rattle.circuit_plans.specs.declared.roles.Start.TheVariants.{Any}
+use Rattle.circuit_plans.specs.Plans.{AddsOutputs, BudgetView, PlannedView}
 use Rattle.mct_circuit.specs.Gates.{AreNarrow}
 use Rattle.held_nodes.specs.Held.{ForwardView, first_work}
 use Rattle.held_nodes.specs.Moves.{IsToggled, finished_gates, roles_of_plan, weight_in}
@@ -17,10 +18,11 @@ pub record IsInBudget (b : BudgetView) (p : PlannedView) : Type 0 where
   pub lines : p.circuit.lines + b.borrow ≤ b.lines
   pub gates : weight_in p.circuit.gates ≤ b.gates
 
--- A plan of narrow gates within a budget: it has the ports of the graph, and puts its outputs.
+-- A plan of narrow gates within a budget: it has the ports of the graph, and adds its outputs to whatever the output lines
+-- hold.
 pub record IsNarrowPlan (s : SumGraphView) (b : BudgetView) (p : PlannedView) : Type 0 where
   pub ports : HasPorts s p
-  pub clean : MapsCleanly (roles_of_plan p) p.circuit.gates (sum_outputs s)
+  pub clean : AddsOutputs Any (roles_of_plan p) p.circuit.gates (sum_outputs s)
   pub within : IsInBudget b p
   pub narrow : AreNarrow p.circuit.gates
 

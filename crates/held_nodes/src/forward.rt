@@ -5,7 +5,8 @@ ghost use Rattle.std.specs.List.{AllByRecursion};
 ghost use Rattle.ancilla_heap.specs.Lines.{IsLineHeap, contains};
 ghost use Rattle.sum_graph.specs.Graphs.{IsSumGraph, sum_outputs};
 ghost use Rattle.gate_split.specs.Costs.{IsRoomyFlip};
-ghost use Rattle.circuit_plans.specs.Plans.{MapsCleanly};
+ghost use Rattle.circuit_plans.specs.Plans.{AddsOutputs};
+ghost use Rattle.circuit_plans.specs.declared.roles.Start.TheVariants.{Any};
 ghost use Rattle.dependency_graph.specs.Graphs.{IsKnownBase};
 ghost use Rattle.held_nodes.specs.Held.{IsForward, first_work, held_line, is_held, is_ready};
 ghost use Rattle.held_nodes.specs.Moves.{CanClear, IsCleared, IsClearFault, IsFinishFault};
@@ -180,9 +181,10 @@ impl<'s> Forward<'s> {
     }
 
     /// The plan of this forward part: its gates, a copy of each output to its line, and its gates
-    /// reversed. The circuit takes each input and zeros to that input, the outputs, and zeros. It
-    /// weighs twice as much as the gates and once as much as the copies; its lines, with the
-    /// borrowed ones, and its weight are within the budget.
+    /// reversed. Whatever the output lines hold, the circuit adds the outputs to it, and takes each
+    /// input to itself and zeros on the work lines to zeros. It weighs twice as much as the gates
+    /// and once as much as the copies; its lines, with the borrowed ones, and its weight are within
+    /// the budget.
     ///
     /// # Errors
     ///
@@ -191,7 +193,7 @@ impl<'s> Forward<'s> {
     pub fn finish(self) -> Result<Planned, PlanFault>
         requires { AllByRecursion (IsReadySum self.lines) self.graph.outputs }
         ensures ok { IfOk result (λ planned. planned ≡ planned_of self.entry) }
-        ensures clean { IfOk result (λ planned. MapsCleanly (roles_of_plan planned)
+        ensures clean { IfOk result (λ planned. AddsOutputs Any (roles_of_plan planned)
             planned.circuit.gates (sum_outputs self.entry.graph)) }
         ensures ports { IfOk result (HasPorts self.entry.graph) }
         ensures within { IfOk result (IsInBudget self.entry.budget) }
