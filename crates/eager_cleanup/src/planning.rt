@@ -5,7 +5,8 @@ ghost use Rattle.claim_check.specs.Settled.{settled_outputs};
 ghost use Rattle.eager_cleanup.specs.Eager.{IsEagerFault, IsWithinEager};
 ghost use Rattle.eager_cleanup.specs.inside.Sweeps.{IsSwept};
 ghost use Rattle.gate_split.specs.Costs.{IsRoomyFlip};
-ghost use Rattle.circuit_plans.specs.Plans.{MapsCleanly};
+ghost use Rattle.circuit_plans.specs.Plans.{AddsOutputs};
+ghost use Rattle.circuit_plans.specs.declared.roles.Start.TheVariants.{Any};
 ghost use Rattle.held_nodes.specs.Moves.{roles_of_plan};
 ghost use Rattle.sum_graph.specs.Plain.{plain_of};
 ghost use Rattle.held_nodes.specs.Plans.{HasPorts, IsInBudget};
@@ -23,8 +24,8 @@ use sum_graph::{SumGraph, plain_graphs_are_alike};
 /// the nodes in order. Each is computed onto the least free work line; then each node that was used
 /// for the last time is cleaned, the later one first: by its operands where they are inputs or
 /// still stand on work lines, else by the merged cubes of its polynomial where that has at most 64
-/// monomials, and else at the end. The circuit takes each input and zeros to that input, the
-/// outputs, and zeros.
+/// monomials, and else at the end. The circuit adds the outputs to whatever the output lines hold,
+/// and takes each input, and zeros on the work lines, to the same.
 ///
 /// # Errors
 ///
@@ -39,7 +40,7 @@ pub fn plan(
 ) -> Result<Planned, PlanFault>
     requires { plain.now ≡ plain_of graph.now }
     ensures ports { IfOk result (HasPorts (plain_of graph.now)) }
-    ensures clean { IfOk result (λ planned. MapsCleanly (roles_of_plan planned)
+    ensures clean { IfOk result (λ planned. AddsOutputs Any (roles_of_plan planned)
         planned.circuit.gates (settled_outputs graph.now)) }
     ensures within { IfOk result (IsInBudget budget.now) }
     ensures roomy { IfOk result (λ planned.
