@@ -1,5 +1,5 @@
 -- Plans of a lean graph, laid.
-use Rattle.std.proofs.Common.{◌≡◌, ℕ, ◌+◌, ◌*◌, ◌<◌, ◌≤◌, ◌⊎◌, Bool, false, true, List, [], ◌∷◌, ◌++◌, length, replicate, Ok, Err}
+use Rattle.std.proofs.Common.{◌≡◌, ℕ, ◌+◌, ◌*◌, ◌<◌, ◌≤◌, ◌⊎◌, Bool, false, true, List, [], ◌∷◌, length, Ok, Err}
 use Rattle.std.proofs.Common.{refl, ap, subst, sym, ◌∙◌, inl, inr, arith}
 use Rattle.std.specs.List.{AllByRecursion}
 use Rattle.std.specs.Prelude.{◌==◌, if◌then◌else◌, nat_lt, sum_by, IfErr, IfOk, Result}
@@ -12,8 +12,8 @@ use Rattle.bit_sums.specs.Sums.{ProductView, SumView, weight_of}
 use Rattle.circuit_plans.specs.declared.choice.How.TheVariants.{Lean}
 use Rattle.circuit_plans.specs.declared.plan.PlanFault.{PlanFault}
 use Rattle.circuit_plans.specs.declared.plan.PlanFault.TheVariants.{Lines, Gates, Memory}
-use Rattle.circuit_plans.specs.declared.roles.Roles.{Roles}
-use Rattle.circuit_plans.specs.Plans.{BudgetView, LaidView, MapsCleanly, PlannedView}
+use Rattle.circuit_plans.specs.declared.roles.Start.TheVariants.{Any}
+use Rattle.circuit_plans.specs.Plans.{BudgetView, LaidView, PlannedView}
 use Rattle.claim_check.specs.Budgets.{Measures}
 use Rattle.claim_check.specs.Measures.{IsWithin}
 use Rattle.claim_check.specs.Settled.{SettledView, settled_outputs}
@@ -30,16 +30,7 @@ use Rattle.sum_toggles.specs.Toggles.{product_weight, toggle_weight}
 use Rattle.plan_choice.specs.Choices.{GatesAreFew, IsChoiceFault, IsLaidFor, IsLean, LeanFits}
 use Rattle.plan_choice.specs.Lean.{CoveringFits, HasNoMoreGates, IsBetterOfTwo, IsLeanFault, IsNoWorse, toffoli}
 use Rattle.plan_choice.specs.inside.Tried.{IsLaidAsIs, IsLaidLean, IsLaidNarrow, best_of, better_of, is_better, is_refusal}
-
--- gates that put the outputs of the lean graph put those of the settled one
-lean_clean : (s : SettledView) (l : SumGraphView) (roles : Roles) (gates : List GateView) → IsLeanOf s l → MapsCleanly roles gates (sum_outputs l)
-    → MapsCleanly roles gates (settled_outputs s)
-lean_clean s l roles gates lean clean = record {
-  puts = λ input borrowed size long. record {
-    mapped = (clean.puts input borrowed size long).mapped
-        ∙ ap (λ (outputs : List Bool). input ++ (outputs ++ (replicate roles.work false ++ borrowed))) (lean.values input);
-  };
-}
+use Rattle.plan_choice.proofs.SplitLemmas.{same_outputs}
 
 -- a narrow plan of the lean graph
 module _ {s : SettledView} {l : SumGraphView} {b : BudgetView} {p : PlannedView} (lean : IsLeanOf s l) (is : IsNarrowPlan l b p) where
@@ -53,7 +44,8 @@ module _ {s : SettledView} {l : SumGraphView} {b : BudgetView} {p : PlannedView}
           borrowed = of.borrowed;
           lines = of.lines;
           gates = of.gates;
-          clean = of.clean (settled_outputs s) (lean_clean s l (roles_of_plan p) p.circuit.gates lean is.clean);
+          clean = of.clean Any (settled_outputs s)
+              (same_outputs Any (roles_of_plan p) p.circuit.gates (sum_outputs l) (settled_outputs s) lean.values is.clean);
         };
         narrow = subst AreNarrow (sym kept.same) is.narrow;
       }
@@ -330,8 +322,8 @@ module _ (s : SettledView) (l : SumGraphView) (b : BudgetView) where
   taken (Err Gates) (Err e) t = tt
   taken (Err Memory) pebbling t = tt
 
-  pub best_fits : (ready pebbling : Result LaidView PlanFault) → AreTried s l b ready pebbling → IfOk (best_of ready pebbling) (IsLaidFor s b)
-  best_fits ready pebbling t = IfOk-weaker (best_of ready pebbling) (IsTaken s l b) (IsLaidFor s b) (λ laid is. is.plan.for_graph) (taken ready pebbling t)
+  pub best_fits : (ready pebbling : Result LaidView PlanFault) → AreTried s l b ready pebbling → IfOk (best_of ready pebbling) (IsLaidFor Any s b)
+  best_fits ready pebbling t = IfOk-weaker (best_of ready pebbling) (IsTaken s l b) (IsLaidFor Any s b) (λ laid is. is.plan.for_graph) (taken ready pebbling t)
 
   pub best_lean : (ready pebbling : Result LaidView PlanFault) → AreTried s l b ready pebbling → IfOk (best_of ready pebbling) (IsLean s b)
   best_lean ready pebbling t =

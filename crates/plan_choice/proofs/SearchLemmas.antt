@@ -18,6 +18,7 @@ use Rattle.revs_tape.specs.Levels.{IsLevels}
 use Rattle.circuit_plans.specs.declared.choice.How.TheVariants.{Auto, Eager, Lean, Pebble}
 use Rattle.circuit_plans.specs.declared.choice.How.{How}
 use Rattle.held_nodes.specs.Plans.{wanted_lines}
+use Rattle.circuit_plans.specs.declared.roles.Start.TheVariants.{Any}
 use Rattle.plan_choice.specs.Choices.{EagerFits, Fit, FineFits, GatesAreFew, IsBelowFineLines, IsChoiceFault, IsLaidFor}
 use Rattle.plan_choice.specs.Choices.{IsPebbling, LinesAreFew, NoEagerFits, NoLargerFits, PlainFits, PebblingFits}
 use Rattle.plan_choice.specs.inside.Tried.{IsLaidInBlocks, IsSearchFault, is_refusal}
@@ -108,7 +109,7 @@ at_half s power b before h = record {
 pub record IsSearching (s : SettledView) (b : BudgetView) (block : ℕ) (tried : Result LaidView PlanFault) : Type 0 where
   pub power : ℕ
   pub is : block ≡ 2 ^ power
-  pub ok : IfOk tried (IsLaidFor s b)
+  pub ok : IfOk tried (IsLaidFor Any s b)
   pub pebbling : IfOk tried (IsPebbling s b)
   pub refused : IfErr tried (IsSearchFault s block b)
 
@@ -128,7 +129,7 @@ is_pebbling s b block power (Ok laid) is first within =
 is_pebbling s b block power (Err e) is first within = tt
 
 pub begun : (s : SettledView) (b : BudgetView) (block power : ℕ) (tried : Result LaidView PlanFault) → block ≡ 2 ^ power → length s.nodes ≤ block
-    → IfOk tried (IsLaidFor s b) → IfOk tried (IsLaidInBlocks s block b) → IfErr tried (IsPebblingFault s block b) → IsSearching s b block tried
+    → IfOk tried (IsLaidFor Any s b) → IfOk tried (IsLaidInBlocks s block b) → IfErr tried (IsPebblingFault s block b) → IsSearching s b block tried
 begun s b block power tried is covers ok within refused = record {
   power = power;
   is = is;
@@ -146,7 +147,7 @@ none_larger s block b (Err Gates) e h = h.0
 none_larger s block b (Err Memory) e h = absurd (cc)
 
 halved_power : (s : SettledView) (b : BudgetView) (block half power : ℕ) (next : Result LaidView PlanFault) → block ≡ 2 ^ power → 1 < block
-    → NoLargerFits s block b → half ≡ block / 2 → IfOk next (IsLaidFor s b) → IfOk next (IsLaidInBlocks s half b) → IfErr next (IsPebblingFault s half b)
+    → NoLargerFits s block b → half ≡ block / 2 → IfOk next (IsLaidFor Any s b) → IfOk next (IsLaidInBlocks s half b) → IfErr next (IsPebblingFault s half b)
     → IsSearching s b half next
 halved_power s b block half zero next is more before e ok within refused = absurd (omega arith)
 halved_power s b block half (suc power) next is more before e ok within refused =
@@ -163,7 +164,7 @@ halved_power s b block half (suc power) next is more before e ok within refused 
     }
 
 pub halved : (s : SettledView) (b : BudgetView) (block half : ℕ) (tried next : Result LaidView PlanFault) → IsSearching s b block tried → 1 < block
-    → is_refusal tried ≡ true → half ≡ block / 2 → IfOk next (IsLaidFor s b) → IfOk next (IsLaidInBlocks s half b)
+    → is_refusal tried ≡ true → half ≡ block / 2 → IfOk next (IsLaidFor Any s b) → IfOk next (IsLaidInBlocks s half b)
     → IfErr next (IsPebblingFault s half b) → IsSearching s b half next
 halved s b block half tried next h more e is ok within refused =
     halved_power s b block half h.power next h.is more (none_larger s block b tried e h.refused) is ok within refused

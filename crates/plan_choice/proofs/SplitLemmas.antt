@@ -31,7 +31,9 @@ use Rattle.gate_split.specs.declared.fault.SplitFault.TheVariants as split
 use Rattle.circuit_plans.specs.declared.plan.PlanFault.{PlanFault}
 use Rattle.circuit_plans.specs.declared.plan.PlanFault.TheVariants.{Lines, Gates, Memory}
 use Rattle.gate_split.specs.Costs.{IsRoomyFlip, NarrowStay, RoomyFlipsAreSplit, most_gates}
-use Rattle.circuit_plans.specs.Plans.{BudgetView, CleanCircuitsBorrow, LaidView, MapsCleanly, PlannedView, lines_in, with_borrowed}
+use Rattle.circuit_plans.specs.declared.roles.Start.{Start}
+use Rattle.circuit_plans.specs.declared.roles.Start.TheVariants.{Any}
+use Rattle.circuit_plans.specs.Plans.{AddsOutputs, BudgetView, CleanCircuitsBorrow, LaidView, PlannedView, added, lines_in, with_borrowed}
 use Rattle.gate_split.specs.Split.{IsSplitList, PassesLimit}
 use Rattle.gate_split.proofs.SplitListLemmas.{one_split}
 use Rattle.held_nodes.specs.Moves.{roles_of_plan, weight_in}
@@ -135,35 +137,36 @@ port_lines s b p ports within = omega (arith, ports.lines, within, length-map s.
 -- ---- the laid plan
 
 -- the lines of a plan and the borrowed ones
-all_lines : (input zeros work borrowed : List Bool)
-    → length (input ++ (zeros ++ (work ++ borrowed))) ≡ length input + length zeros + length work + length borrowed
-all_lines input zeros work borrowed =
-    let first = length-append input (zeros ++ (work ++ borrowed)) in
-    let second = length-append zeros (work ++ borrowed) in
+all_lines : (input held work borrowed : List Bool)
+    → length (input ++ (held ++ (work ++ borrowed))) ≡ length input + length held + length work + length borrowed
+all_lines input held work borrowed =
+    let first = length-append input (held ++ (work ++ borrowed)) in
+    let second = length-append held (work ++ borrowed) in
     let third = length-append work borrowed in
     omega arith
 
 -- gates that change all lines as clean gates do are clean
-clean_too : (p : PlannedView) (count : ℕ) (gates : List GateView) (value : List Bool → List Bool) → CleanCircuitsBorrow
+clean_too : (p : PlannedView) (count : ℕ) (gates : List GateView) (start : Start) (value : List Bool → List Bool) → CleanCircuitsBorrow
     → p.inputs + p.outputs + p.work ≡ p.circuit.lines → AreGatesOn p.circuit.lines p.circuit.gates
     → ((bits : List Bool) → length bits ≡ p.circuit.lines + count → line_map gates bits ≡ line_map p.circuit.gates bits)
-    → MapsCleanly (roles_of_plan p) p.circuit.gates value → MapsCleanly (with_borrowed (roles_of_plan p) count) gates value
-clean_too p count gates value law lines on map clean =
+    → AddsOutputs start (roles_of_plan p) p.circuit.gates value → AddsOutputs start (with_borrowed (roles_of_plan p) count) gates value
+clean_too p count gates start value law lines on map clean =
     let all : p.circuit.lines ≡ lines_in (with_borrowed (roles_of_plan p) 0) = omega (arith, lines) in
-    let beside = law (roles_of_plan p) p.circuit.gates value count (subst (λ n. AreGatesOn n p.circuit.gates) all on) clean in
+    let beside = law start (roles_of_plan p) p.circuit.gates value count (subst (λ n. AreGatesOn n p.circuit.gates) all on) clean in
     record {
-      puts = λ input borrowed size long. (let bits = input ++ (replicate p.outputs false ++ (replicate p.work false ++ borrowed)) in
+      size = clean.size;
+      adds = λ input held borrowed size wide may long. (let bits = input ++ (held ++ (replicate p.work false ++ borrowed)) in
           let many : length bits ≡ p.circuit.lines + count =
           omega (
             arith,
-            all_lines input (replicate p.outputs false) (replicate p.work false) borrowed,
-            length-replicate p.outputs false,
+            all_lines input held (replicate p.work false) borrowed,
             length-replicate p.work false,
             size,
+            wide,
             long,
             lines,
           ) in
-          record { mapped = map bits many ∙ (beside.puts input borrowed size long).mapped });
+          record { mapped = map bits many ∙ (beside.adds input held borrowed size wide may long).mapped });
     }
 
 -- a plan with its gates split, beside the borrowed lines
@@ -183,7 +186,7 @@ is_laid_of p b narrow law lines on within size split map = record {
   lines = omega arith;
   split = split;
   gates = split.within;
-  clean = λ value clean. clean_too p b.borrow narrow.gates value law lines on map clean;
+  clean = λ start value clean. clean_too p b.borrow narrow.gates start value law lines on map clean;
 }
 
 -- ---- a settled graph and its plain graph
@@ -262,23 +265,29 @@ block_fault s block b Gates h =
     settled_rows s block b.borrow (λ lines gates. b.gates < gates) (λ few. omega (arith, few, one.1)) h
 block_fault s block b Memory h = omega (arith, h, ports_same s)
 
--- gates that put the outputs of the plain graph put those of the settled one
-pub plain_clean : (s : SettledView) (roles : Roles) (gates : List GateView) → MapsCleanly roles gates (sum_outputs (plain_of s))
-    → MapsCleanly roles gates (settled_outputs s)
-plain_clean s roles gates clean = record {
-  puts = λ input borrowed size long. record {
-    mapped = (clean.puts input borrowed size long).mapped
-        ∙ ap (λ (outputs : List Bool). input ++ (outputs ++ (replicate roles.work false ++ borrowed))) ((plain_graphs_are_alike s).outputs input);
+-- gates that add some outputs add the same outputs
+pub same_outputs : (start : Start) (roles : Roles) (gates : List GateView) (value other : List Bool → List Bool)
+    → ((input : List Bool) → value input ≡ other input) → AddsOutputs start roles gates value → AddsOutputs start roles gates other
+same_outputs start roles gates value other same clean = record {
+  size = λ input size. sym (ap (λ (bits : List Bool). length bits) (same input)) ∙ clean.size input size;
+  adds = λ input held borrowed size wide may long. record {
+    mapped = (clean.adds input held borrowed size wide may long).mapped
+        ∙ ap (λ (outputs : List Bool). input ++ (added held outputs ++ (replicate roles.work false ++ borrowed))) (same input);
   };
 }
 
+-- gates that add the outputs of the plain graph add those of the settled one
+pub plain_clean : (s : SettledView) (roles : Roles) (gates : List GateView) → AddsOutputs Any roles gates (sum_outputs (plain_of s))
+    → AddsOutputs Any roles gates (settled_outputs s)
+plain_clean s roles gates = same_outputs Any roles gates (sum_outputs (plain_of s)) (settled_outputs s) (plain_graphs_are_alike s).outputs
+
 pub laid_for : (s : SettledView) (b : BudgetView) (p : PlannedView) (laid : LaidView) → HasPorts (plain_of s) p
-    → MapsCleanly (roles_of_plan p) p.circuit.gates (settled_outputs s) → IsLaidOf p b laid → IsLaidFor s b laid
+    → AddsOutputs Any (roles_of_plan p) p.circuit.gates (settled_outputs s) → IsLaidOf p b laid → IsLaidFor Any s b laid
 laid_for s b p laid ports clean is = record {
   inputs = is.inputs ∙ ports.inputs;
   outputs = is.outputs ∙ ports.outputs ∙ length-map s.outputs plain_output;
   borrowed = is.borrowed;
   lines = is.lines;
   gates = is.gates;
-  clean = is.clean (settled_outputs s) clean;
+  clean = is.clean Any (settled_outputs s) clean;
 }

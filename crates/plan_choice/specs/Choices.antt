@@ -9,7 +9,8 @@ use Rattle.claim_check.specs.Settled.{SettledView, settled_outputs}
 use Rattle.dependency_graph.specs.Graphs.{ands_in}
 use Rattle.circuit_plans.specs.declared.plan.PlanFault.{PlanFault}
 use Rattle.circuit_plans.specs.declared.plan.PlanFault.TheVariants.{Lines, Gates, Memory}
-use Rattle.circuit_plans.specs.Plans.{BudgetView, LaidView, MapsCleanly, roles_of}
+use Rattle.circuit_plans.specs.declared.roles.Start.{Start}
+use Rattle.circuit_plans.specs.Plans.{AddsOutputs, BudgetView, LaidView, roles_of}
 use Rattle.held_nodes.specs.Plans.{HasPortLines, wanted_lines}
 use Rattle.mct_circuit.specs.Gates.{AreNarrow}
 use Rattle.eager_cleanup.specs.Eager.{AreWithinEager, ports_of}
@@ -112,14 +113,15 @@ IsChoiceFault how s b Memory = HasPortLines (ports_of s) b
 -- ---- what is laid
 
 -- The plan is one of the settled graph: it has its inputs and outputs and the borrowed lines of the budget, is within
--- the budget, and maps cleanly to the graph's outputs.
-pub record IsLaidFor (s : SettledView) (b : BudgetView) (laid : LaidView) : Type 0 where
+-- the budget, and adds the graph's outputs to whatever the output lines may hold.
+pub record IsLaidFor (start : Start) (s : SettledView) (b : BudgetView) (laid : LaidView)
+    : Type 0 where
   pub inputs : laid.inputs ≡ s.inputs
   pub outputs : laid.outputs ≡ length s.outputs
   pub borrowed : laid.borrowed ≡ b.borrow
   pub lines : laid.circuit.lines ≤ b.lines
   pub gates : length laid.circuit.gates ≤ b.gates
-  pub clean : MapsCleanly (roles_of laid) laid.circuit.gates (settled_outputs s)
+  pub clean : AddsOutputs start (roles_of laid) laid.circuit.gates (settled_outputs s)
 
 -- ---- which plan is laid
 

@@ -4,6 +4,8 @@ ghost use Rattle.eager_cleanup.specs.Eager.{ports_of};
 ghost use Rattle.sum_graph.specs.Plain.{plain_of};
 ghost use Rattle.plan_choice.specs.Choices.{IsChoiceFault, IsChosen, IsLaidFor};
 ghost use Rattle.circuit_plans.specs.declared.choice.How.TheVariants.{Auto};
+ghost use Rattle.circuit_plans.specs.declared.roles.Start.TheVariants.{Any};
+ghost use Rattle.circuit_plans.specs.Plans.{start_of};
 
 use crate::laying::{Tried, is_refused, lay_eager};
 use crate::lean::lay_lean;
@@ -14,11 +16,12 @@ use std::alloc::Global;
 use sum_graph::SumGraph;
 
 /// The first plan that fits the budget, with its gates split on all its lines and the borrowed
-/// ones. The circuit takes each input, zeros, and anything on the borrowed lines to that input, the
-/// outputs, zeros, and the same on the borrowed lines. An eager plan is within the eager numbers, a
-/// pebbling within those of its block; it is that of the largest block that fits, and `Auto` takes
-/// one only where the eager numbers do not fit. `Lean` takes the better of two plans of the lean
-/// graph; where the lean row fits, it has at most two Toffoli gates for each AND of the graph.
+/// ones. The circuit adds the outputs to whatever the output lines hold, and takes each input,
+/// zeros on the work lines and anything on the borrowed lines to the same. An eager plan is within
+/// the eager numbers, a pebbling within those of its block; it is that of the largest block that
+/// fits, and `Auto` takes one only where the eager numbers do not fit. `Lean` takes the better of
+/// two plans of the lean graph; where the lean row fits, it has at most two Toffoli gates for each
+/// AND of the graph.
 ///
 /// # Errors
 ///
@@ -28,7 +31,7 @@ use sum_graph::SumGraph;
 /// `Lean` than a line for each node. `need` is the number of inputs, outputs and borrowed lines
 /// where that passes the budget, and one line more than the budget otherwise.
 pub fn choose(alloc: Global, graph: &Settled, budget: &Budget, how: How) -> Result<Laid, PlanFault>
-    ensures ok { IfOk result (IsLaidFor graph.now budget.now) }
+    ensures ok { IfOk result (IsLaidFor (start_of how) graph.now budget.now) }
     ensures chosen { IfOk result (IsChosen how graph.now budget.now) }
     ensures refused { IfErr result (IsChoiceFault how graph.now budget.now) }
 {
@@ -42,7 +45,7 @@ pub fn choose(alloc: Global, graph: &Settled, budget: &Budget, how: How) -> Resu
 // The first plan that fits the budget, where it has a line for each input, output and borrowed bit.
 fn chosen(alloc: Global, graph: &Settled, budget: &Budget, how: How) -> Tried
     requires { ports_of graph.now + budget.now.borrow ≤ budget.now.lines }
-    ensures ok { IfOk result (IsLaidFor graph.now budget.now) }
+    ensures ok { IfOk result (IsLaidFor (start_of how) graph.now budget.now) }
     ensures chosen { IfOk result (IsChosen how graph.now budget.now) }
     ensures refused { IfErr result (IsChoiceFault how graph.now budget.now) }
 {
@@ -57,7 +60,7 @@ fn chosen(alloc: Global, graph: &Settled, budget: &Budget, how: How) -> Tried
 // The eager plan where it fits, else the first pebbling that does, over the plain graph.
 fn eager_or_pebbling(alloc: Global, graph: &Settled, plain: &SumGraph, budget: &Budget) -> Tried
     requires { plain.now ≡ plain_of graph.now }
-    ensures ok { IfOk result (IsLaidFor graph.now budget.now) }
+    ensures ok { IfOk result (IsLaidFor Any graph.now budget.now) }
     ensures chosen { IfOk result (IsChosen Auto graph.now budget.now) }
     ensures refused { IfErr result (IsChoiceFault Auto graph.now budget.now) }
 {

@@ -4,6 +4,7 @@ ghost use Rattle.std.specs.List.{AllByRecursion};
 ghost use Rattle.circuit_plans.specs.declared.plan.PlanFault.TheVariants.{Memory};
 ghost use Rattle.held_nodes.specs.Plans.{IsInBudget};
 ghost use Rattle.mct_circuit.specs.Gates.{AreNarrow};
+ghost use Rattle.circuit_plans.specs.declared.roles.Start.TheVariants.{Any};
 ghost use Rattle.plan_choice.specs.Blocks.{IsPebblingFault};
 ghost use Rattle.sum_graph.specs.Plain.{plain_of};
 ghost use Rattle.eager_cleanup.specs.Eager.{IsEagerFault};
@@ -24,7 +25,7 @@ pub type Tried = Result<Laid, PlanFault>;
 // The eager plan, laid.
 pub fn lay_eager(alloc: Global, graph: &Settled, plain: &SumGraph, budget: &Budget) -> Tried
     requires { plain.now ≡ plain_of graph.now }
-    ensures ok { IfOk result (IsLaidFor graph.now budget.now) }
+    ensures ok { IfOk result (IsLaidFor Any graph.now budget.now) }
     ensures eager { IfOk result (IsEager graph.now budget.now) }
     ensures refused { IfErr result (IsEagerFault graph.now budget.now) }
 {
@@ -44,7 +45,7 @@ pub fn lay_blocks(
 ) -> Tried
     requires some { 1 ≤ block }
     requires plain { plain.now ≡ plain_of graph.now }
-    ensures ok { IfOk result (IsLaidFor graph.now budget.now) }
+    ensures ok { IfOk result (IsLaidFor Any graph.now budget.now) }
     ensures within { IfOk result (IsLaidInBlocks graph.now block budget.now) }
     ensures refused { IfErr result (IsPebblingFault graph.now block budget.now) }
 {

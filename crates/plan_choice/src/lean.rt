@@ -3,6 +3,7 @@ ghost use Rattle.std.specs.Prelude.{◌≡◌, ◌*◌, ◌≤◌, length, IfOk,
 ghost use Rattle.bennett_pebbling.specs.Pebbling.{IsPebblingFault};
 ghost use Rattle.dependency_graph.specs.Graphs.{ands_in};
 ghost use Rattle.circuit_plans.specs.declared.choice.How.TheVariants.{Lean};
+ghost use Rattle.circuit_plans.specs.declared.roles.Start.TheVariants.{Any};
 ghost use Rattle.plan_choice.specs.Choices.{IsChoiceFault, IsLaidFor, IsLean};
 ghost use Rattle.plan_choice.specs.Lean.{IsLeanFault, toffoli};
 ghost use Rattle.plan_choice.specs.inside.Tried.{IsLaidLean, IsLaidNarrow, best_of, better_of};
@@ -64,7 +65,7 @@ pub fn lay_lean_pebbling(alloc: Global, graph: &Settled, lean: &SumGraph, budget
 // The better plan of a lean graph: the ready one or the pebbling, whichever fits.
 pub fn lay_lean(alloc: Global, graph: &Settled, lean: &SumGraph, budget: &Budget) -> Tried
     requires lean { IsLeanOf graph.now lean.now }
-    ensures ok { IfOk result (IsLaidFor graph.now budget.now) }
+    ensures ok { IfOk result (IsLaidFor Any graph.now budget.now) }
     ensures lean { IfOk result (IsLean graph.now budget.now) }
     ensures refused { IfErr result (IsChoiceFault Lean graph.now budget.now) }
 {

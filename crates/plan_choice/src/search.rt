@@ -2,6 +2,7 @@
 ghost use Rattle.std.specs.Prelude.{◌≡◌, IfOk, IfErr};
 ghost use Rattle.circuit_plans.specs.declared.choice.How.TheVariants.{Pebble};
 ghost use Rattle.sum_graph.specs.Plain.{plain_of};
+ghost use Rattle.circuit_plans.specs.declared.roles.Start.TheVariants.{Any};
 ghost use Rattle.plan_choice.specs.Choices.{IsChoiceFault, IsLaidFor, IsPebbling};
 
 use crate::laying::{Tried, is_refused, lay_blocks};
@@ -14,7 +15,7 @@ use sum_graph::SumGraph;
 // nodes down by halves to 1.
 pub fn lay_pebbling(alloc: Global, graph: &Settled, plain: &SumGraph, budget: &Budget) -> Tried
     requires { plain.now ≡ plain_of graph.now }
-    ensures ok { IfOk result (IsLaidFor graph.now budget.now) }
+    ensures ok { IfOk result (IsLaidFor Any graph.now budget.now) }
     ensures pebbling { IfOk result (IsPebbling graph.now budget.now) }
     ensures refused { IfErr result (IsChoiceFault Pebble graph.now budget.now) }
 {

@@ -6,7 +6,9 @@ use Rattle.claim_check.specs.Settled.{SettledView}
 use Rattle.circuit_plans.specs.declared.plan.PlanFault.{PlanFault}
 use Rattle.circuit_plans.specs.declared.plan.PlanFault.TheVariants.{Lines, Gates, Memory}
 use Rattle.gate_split.specs.Costs.{most_gates}
-use Rattle.circuit_plans.specs.Plans.{BudgetView, PlannedView, LaidView, MapsCleanly, roles_of}
+use Rattle.circuit_plans.specs.declared.roles.Start.{Start}
+use Rattle.circuit_plans.specs.declared.roles.Start.TheVariants.{Any}
+use Rattle.circuit_plans.specs.Plans.{AddsOutputs, BudgetView, PlannedView, LaidView, roles_of}
 use Rattle.gate_split.specs.Split.{IsSplitList}
 use Rattle.held_nodes.specs.Moves.{roles_of_plan}
 use Rattle.mct_circuit.specs.Gates.{AreNarrow, GateView}
@@ -24,7 +26,7 @@ is_refusal (Err Memory) = false
 
 -- ---- the split of a plan
 
--- The plan with its gates split, and the borrowed lines of the budget, is within the budget, and clean where the plan is.
+-- The plan with its gates split, and the borrowed lines of the budget, is within the budget, and adds what the plan does.
 pub record IsLaidOf (p : PlannedView) (b : BudgetView) (laid : LaidView) : Type 0 where
   pub inputs : laid.inputs ≡ p.inputs
   pub outputs : laid.outputs ≡ p.outputs
@@ -34,9 +36,9 @@ pub record IsLaidOf (p : PlannedView) (b : BudgetView) (laid : LaidView) : Type 
   pub split : IsSplitList (p.circuit.lines + b.borrow) b.gates p.circuit.gates
       laid.circuit.gates
   pub gates : length laid.circuit.gates ≤ b.gates
-  pub clean : (value : List Bool → List Bool)
-      → MapsCleanly (roles_of_plan p) p.circuit.gates value
-      → MapsCleanly (roles_of laid) laid.circuit.gates value
+  pub clean : (start : Start) (value : List Bool → List Bool)
+      → AddsOutputs start (roles_of_plan p) p.circuit.gates value
+      → AddsOutputs start (roles_of laid) laid.circuit.gates value
 
 -- The plan was laid, and its gates are as they were.
 pub record IsLaidAsIs (p : PlannedView) (b : BudgetView) (laid : LaidView) : Type 0 where
@@ -67,7 +69,7 @@ IsSearchFault s block b Memory = IsPebblingFault s block b Memory
 
 -- what is laid of a lean graph is narrow
 pub record IsLaidNarrow (s : SettledView) (b : BudgetView) (laid : LaidView) : Type 0 where
-  pub for_graph : IsLaidFor s b laid
+  pub for_graph : IsLaidFor Any s b laid
   pub narrow : AreNarrow laid.circuit.gates
 
 -- Where one block of all nodes fits, it has at most two flips under two lines for each AND.

@@ -2,6 +2,7 @@ use Rattle.std.proofs.Common.{length}
 use Rattle.std.proofs.lemmas.Result.{IfOk-weaker}
 use Rattle.held_nodes.specs.Moves.{roles_of_plan}
 use Rattle.revc_base.proofs.ResultLemmas.{passes_on}
+use Rattle.circuit_plans.specs.declared.roles.Start.TheVariants.{Any}
 use Rattle.plan_choice.specs.Blocks.{IsPebblingFault}
 use Rattle.plan_choice.specs.Choices.{IsLaidFor}
 use Rattle.plan_choice.specs.inside.Tried.{IsLaidAsIs, IsLaidInBlocks}
@@ -25,7 +26,7 @@ returns-clause-within c =
 pub returns-clause-ok : goal.returns-clause-ok
 returns-clause-ok c =
     let s = c.args.graph.now in let b = c.args.budget.now in let p = c.in_ok-planned.planned in
-    IfOk-weaker c.lay_narrow.result (IsLaidAsIs p b) (IsLaidFor s b)
+    IfOk-weaker c.lay_narrow.result (IsLaidAsIs p b) (IsLaidFor Any s b)
     (λ laid is. laid_for s b p laid (rw c.requires.plain at c.in_ok-planned.ensures.plan).ports
     (plain_clean s (roles_of_plan p) p.circuit.gates (rw c.requires.plain at c.in_ok-planned.ensures.plan).clean) is.laid_of) c.lay_narrow.ensures.ok
 
