@@ -1,6 +1,7 @@
 // The pebbling plan of a graph.
 ghost use Rattle.std.specs.Prelude.{IfOk, IfErr, ◌≤◌};
 ghost use Rattle.bennett_pebbling.specs.Pebbling.{HasFewProducts, IsPebblingFault, IsWithinBlock};
+ghost use Rattle.circuit_plans.specs.declared.roles.Start.TheVariants.{Any};
 ghost use Rattle.held_nodes.specs.Plans.{IsNarrowPlan};
 
 use crate::changing::{Halving, rise};
@@ -30,7 +31,7 @@ pub fn plan(
     budget: &Budget,
 ) -> Result<Planned, PlanFault>
     requires { 1 ≤ block }
-    ensures plan { IfOk result (IsNarrowPlan graph.now budget.now) }
+    ensures plan { IfOk result (IsNarrowPlan Any graph.now budget.now) }
     ensures few { IfOk result (IsWithinBlock graph.now block) }
     ensures products { IfOk result (HasFewProducts graph.now block) }
     ensures refused { IfErr result (IsPebblingFault graph.now block budget.now) }

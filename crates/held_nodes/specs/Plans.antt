@@ -1,7 +1,7 @@
 -- Plans of a graph within a budget.
 use Rattle.std.specs.Prelude.{◌≡◌, ℕ, ◌+◌, ◌≤◌, nat_lt, if◌then◌else◌, length}
 use Rattle.sum_graph.specs.Graphs.{SumGraphView, sum_outputs}
-use Rattle.circuit_plans.specs.declared.roles.Start.TheVariants.{Any}
+use Rattle.circuit_plans.specs.declared.roles.Start.{Start}
 use Rattle.circuit_plans.specs.Plans.{AddsOutputs, BudgetView, PlannedView}
 use Rattle.mct_circuit.specs.Gates.{AreNarrow}
 use Rattle.held_nodes.specs.Held.{ForwardView, first_work}
@@ -19,10 +19,11 @@ pub record IsInBudget (b : BudgetView) (p : PlannedView) : Type 0 where
   pub gates : weight_in p.circuit.gates ≤ b.gates
 
 -- A plan of narrow gates within a budget: it has the ports of the graph, and adds its outputs to whatever the output lines
--- hold.
-pub record IsNarrowPlan (s : SumGraphView) (b : BudgetView) (p : PlannedView) : Type 0 where
+-- may hold.
+pub record IsNarrowPlan (start : Start) (s : SumGraphView) (b : BudgetView) (p : PlannedView)
+    : Type 0 where
   pub ports : HasPorts s p
-  pub clean : AddsOutputs Any (roles_of_plan p) p.circuit.gates (sum_outputs s)
+  pub clean : AddsOutputs start (roles_of_plan p) p.circuit.gates (sum_outputs s)
   pub within : IsInBudget b p
   pub narrow : AreNarrow p.circuit.gates
 

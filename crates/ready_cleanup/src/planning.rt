@@ -1,5 +1,6 @@
 // The ready plan of a graph of sums.
 ghost use Rattle.std.specs.Prelude.{◌≡◌, ◌+◌, ◌<◌, length, IfOk, IfErr};
+ghost use Rattle.circuit_plans.specs.declared.roles.Start.TheVariants.{Any};
 ghost use Rattle.held_nodes.specs.Plans.{IsNarrowPlan};
 ghost use Rattle.ready_cleanup.specs.Ready.{IsReadyFault};
 ghost use Rattle.ready_cleanup.specs.inside.Sweeps.{IsSwept};
@@ -23,7 +24,7 @@ use sum_graph::SumGraph;
 /// weigh. `need` is the number of inputs, outputs and borrowed lines where that passes the budget,
 /// and one line more than the budget otherwise.
 pub fn plan(alloc: Global, graph: &SumGraph, budget: &Budget) -> Result<Planned, PlanFault>
-    ensures plan { IfOk result (IsNarrowPlan graph.now budget.now) }
+    ensures plan { IfOk result (IsNarrowPlan Any graph.now budget.now) }
     ensures refused { IfErr result (IsReadyFault graph.now budget.now) }
 {
     let forward = Forward::new(alloc, graph, budget)?;
