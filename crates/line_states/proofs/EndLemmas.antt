@@ -4,7 +4,7 @@ use Rattle.std.proofs.Common.{append_assoc, append-nil, length-append}
 use Rattle.std.specs.Bool.{xor}
 use Rattle.std.specs.List.{AllByRecursion}
 use Rattle.std.proofs.lemmas.List.{drop_all, drop_more, length-drop, length-map, length-replicate, length-take-le, map-append, nil_from_length, replicate-append-replicate, take-append-drop, take_more}
-use Rattle.list_facts.specs.Bits.{bit_of, zeros}
+use Rattle.list_facts.specs.Bits.{zeros}
 use Rattle.list_facts.specs.Lists.{AllFrom, below}
 use Rattle.list_facts.proofs.AllLemmas.{AllFrom-push}
 use Rattle.list_facts.proofs.BitLemmas.{xor_nothing}
@@ -13,7 +13,9 @@ use Rattle.dependency_graph.specs.declared.node.Base.{Base}
 use Rattle.dependency_graph.specs.declared.node.Base.TheVariants as bases
 use Rattle.bit_sums.specs.Sums.{SumView, xor_by}
 use Rattle.circuit_plans.specs.declared.plan.TheConstants.{MOST_LINES}
-use Rattle.circuit_plans.specs.Plans.{BudgetView, MapsCleanly}
+use Rattle.circuit_plans.specs.declared.roles.Start.TheVariants.{Zero}
+use Rattle.circuit_plans.specs.Plans.{AddsOutput, AddsOutputs, BudgetView, MayHold, added}
+use Rattle.circuit_plans.proofs.BorrowedLemmas.{added_to_zeros}
 use Rattle.held_nodes.specs.Held.{first_work}
 use Rattle.held_nodes.specs.Moves.{roles_of_plan}
 use Rattle.held_nodes.specs.Plans.{HasPortLines, IsNarrowPlan}
@@ -175,24 +177,29 @@ module _ (s : StatesView) (are : AreStates s) (ended : AreEnded s) where
       ∙ ap₂ (λ (a b : List Bool). a ++ b) first (map-append (xor_by f) (take m rest) (drop m rest)
       ∙ ap₂ (λ (a b : List Bool). a ++ b) second third)
 
-  ended_clean : MapsCleanly (roles_of_plan (planned_of s)) s.gates (sum_outputs g)
-  ended_clean = record {
-    puts = λ input borrowed size none.
-        (let nothing : borrowed ≡ [] = nil_from_length borrowed none in
-        let same : zeros work ++ borrowed ≡ zeros work = ap (λ (bits : List Bool). zeros work ++ bits) nothing ∙ append-nil (zeros work) in
-        let whole : m + work ≡ length s.sets - n = omega (arith, are.wide) in
-        let start : zeros m ++ (zeros work ++ borrowed) ≡ zeros (length s.sets - n) =
-        ap (λ (bits : List Bool). zeros m ++ bits) same ∙ replicate-append-replicate m work false ∙ ap zeros whole in
-        record {
-          mapped =
-              ap (λ (bits : List Bool). line_map s.gates (input ++ bits)) start
-              ∙ are.holds.on input size
-              ∙ ended_bits input size
-              ∙ ap (λ (bits : List Bool). input ++ (sum_outputs g input ++ bits)) (sym same);
-        });
-  }
+  -- what is added to zeros is put there
+  ended_adds : (input held borrowed : List Bool) → length input ≡ n → length held ≡ m → MayHold Zero held → length borrowed ≡ 0
+      → AddsOutput (roles_of_plan (planned_of s)) s.gates input held (sum_outputs g input) borrowed
+  ended_adds input held borrowed size wide may none =
+      let zero : held ≡ zeros m = may ∙ ap zeros wide in
+      let puts = added_to_zeros m (sum_outputs g input) (length-map g.outputs (sum_on g.nodes input)) in
+      let nothing : borrowed ≡ [] = nil_from_length borrowed none in
+      let same : zeros work ++ borrowed ≡ zeros work = ap (λ (bits : List Bool). zeros work ++ bits) nothing ∙ append-nil (zeros work) in
+      let whole : m + work ≡ length s.sets - n = omega (arith, are.wide) in
+      let start : held ++ (zeros work ++ borrowed) ≡ zeros (length s.sets - n) =
+      ap₂ (λ (a b : List Bool). a ++ b) zero same ∙ replicate-append-replicate m work false ∙ ap zeros whole in
+      record {
+        mapped =
+            ap (λ (bits : List Bool). line_map s.gates (input ++ bits)) start
+            ∙ are.holds.on input size
+            ∙ ended_bits input size
+            ∙ ap₂ (λ (a b : List Bool). input ++ (a ++ b)) (sym (ap (λ (bits : List Bool). added bits (sum_outputs g input)) zero ∙ puts)) (sym same);
+      }
 
-  pub ended_plan : IsNarrowPlan g s.budget (planned_of s)
+  ended_clean : AddsOutputs Zero (roles_of_plan (planned_of s)) s.gates (sum_outputs g)
+  ended_clean = record { size = λ input size. length-map g.outputs (sum_on g.nodes input); adds = ended_adds }
+
+  pub ended_plan : IsNarrowPlan Zero g s.budget (planned_of s)
   ended_plan = record {
     ports = record { inputs = refl; outputs = refl; lines = omega (arith, are.wide) };
     clean = ended_clean;

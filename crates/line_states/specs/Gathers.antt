@@ -1,5 +1,5 @@
 -- Products on lines that hold sets of bits: on which lines the factors are gathered, and the gates.
-use Rattle.std.specs.Prelude.{◌≡◌, ℕ, ◌==◌, Bool, true, false, not, ◌&&◌, List, [], ◌∷◌, ◌++◌, length, map, nat_lt, reverse, slice_index_or}
+use Rattle.std.specs.Prelude.{ℕ, ◌==◌, Bool, true, false, not, ◌&&◌, List, [], ◌∷◌, ◌++◌, length, map, nat_lt, reverse, slice_index_or}
 use Rattle.std.specs.List.{flat_map, list_all}
 use Rattle.dependency_graph.specs.declared.node.Base.{Base}
 use Rattle.bit_sums.specs.Bits.{apart}

@@ -1,6 +1,5 @@
 // Sets of bits as rising lists.
 ghost use Rattle.std.specs.Prelude.{◌≡◌, ◌∷◌, [], IfOk, IsTrue, ◌↔◌};
-ghost use Rattle.bit_sums.specs.Sums.{SumView};
 ghost use Rattle.line_states.specs.Gathers.{is_one};
 ghost use Rattle.line_states.specs.States.{toggled_set};
 

@@ -1,8 +1,9 @@
 // Circuits in the making, seen by the sets of their lines.
-ghost use Rattle.std.specs.Prelude.{◌≡◌, ◌+◌, ◌<◌, ◌≤◌, ◌↔◌, [], ◌∷◌, ◌++◌, length};
+ghost use Rattle.std.specs.Prelude.{◌≡◌, ◌+◌, ◌<◌, ◌≤◌, ◌↔◌, [], ◌++◌, length};
 ghost use Rattle.std.specs.Prelude.{if◌then◌else◌, IfOk, OnOk, OnErr, IfSome, IsTrue, IsSome};
 ghost use Rattle.std.specs.Prelude.{replicate};
 ghost use Rattle.circuit_plans.specs.declared.plan.TheConstants.{MOST_LINES};
+ghost use Rattle.circuit_plans.specs.declared.roles.Start.TheVariants.{Zero};
 ghost use Rattle.held_nodes.specs.Held.{first_work};
 ghost use Rattle.held_nodes.specs.Plans.{HasPortLines, IsNarrowPlan};
 ghost use Rattle.mct_circuit.specs.Gates.{AreGatesOn};
@@ -185,7 +186,7 @@ impl<'s> LineStates<'s> {
         ensures plan { IfOk result (λ found. IfSome found (λ planned.
             planned ≡ planned_of self.entry)) }
         ensures narrow { IfOk result (λ found. IfSome found
-            (IsNarrowPlan self.entry.graph self.entry.budget)) }
+            (IsNarrowPlan Zero self.entry.graph self.entry.budget)) }
     {
         if !self.is_ended() {
             return Ok(None);

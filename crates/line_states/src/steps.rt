@@ -1,5 +1,6 @@
 // Plans as scripts: any list of steps gives a clean plan, or none.
 ghost use Rattle.std.specs.Prelude.{◌≡◌, ◌↔◌, IfOk, IfSome, IsSome, Some, None, if◌then◌else◌};
+ghost use Rattle.circuit_plans.specs.declared.roles.Start.TheVariants.{Zero};
 ghost use Rattle.held_nodes.specs.Plans.{IsNarrowPlan};
 ghost use Rattle.line_states.specs.Steps.{LeadToEnd, took};
 
@@ -35,7 +36,7 @@ pub fn follow(
     budget: &Budget,
     steps: &[Step],
 ) -> Result<Option<Planned>, Memory>
-    ensures plan { IfOk result (λ found. IfSome found (IsNarrowPlan graph.now budget.now)) }
+    ensures plan { IfOk result (λ found. IfSome found (IsNarrowPlan Zero graph.now budget.now)) }
     ensures exact { IfOk result (λ found. IsSome found
         ↔ LeadToEnd graph.now budget.now steps.now) }
 {

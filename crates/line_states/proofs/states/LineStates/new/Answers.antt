@@ -1,4 +1,3 @@
-use Rattle.std.proofs.Common.{sym, subst}
 use Rattle.line_states.proofs.EndLemmas.{begun_kept}
 use Rattle.line_states.proofs.states.LineStates.new.Goals as goal
 

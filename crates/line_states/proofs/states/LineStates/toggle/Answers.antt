@@ -1,9 +1,9 @@
-use Rattle.std.proofs.Common.{◌≡◌, ◌∙◌, List, [], length, ap, ap₂, sym, subst, arith}
+use Rattle.std.proofs.Common.{◌∙◌, List, [], length, ap, ap₂, subst, arith}
 use Rattle.std.proofs.lemmas.List.{get_or_read}
 use Rattle.list_facts.proofs.AllLemmas.{AllByRecursion-weaker}
 use Rattle.dependency_graph.specs.declared.node.Base.{Base}
 use Rattle.bit_sums.specs.Sums.{SumView}
-use Rattle.line_states.specs.Gathers.{set_at, toggle_gates}
+use Rattle.line_states.specs.Gathers.{toggle_gates}
 use Rattle.line_states.specs.States.{StatesView, sum_at, toggled_set}
 use Rattle.line_states.specs.inside.Places.{ArePlaced, CanFlip, MovesSets}
 use Rattle.line_states.proofs.GateLemmas.{can_flip}
